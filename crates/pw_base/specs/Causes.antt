@@ -1,0 +1,14 @@
+-- Causes: a count of faults that only its object's own failures raise.
+use Rattle.std.specs.Prelude.{ℕ, ◌+◌, ◌-◌, ◌^◌, ◌≤◌, min, Result, Ok, Err}
+use Rattle.pw_base.specs.declared.files.FileFail.{FileFail}
+use Rattle.pw_base.specs.declared.files.FileFail.TheVariants.{Failed, Memory}
+
+-- the count, a number of 64 bits, is greater, or stands at its end
+abbrev pub Rose : ℕ → ℕ → Type 0
+Rose before now = min (before + 1) (2 ^ 64 - 1) ≤ now
+
+-- a failure comes only where the count rose; want of memory is free
+abbrev pub HasCause : {T : Type 0} → ℕ → ℕ → Result T FileFail → Type 0
+HasCause before now (Ok x) = Unit {0}
+HasCause before now (Err Failed) = Rose before now
+HasCause before now (Err Memory) = Unit {0}

@@ -1,0 +1,11 @@
+pub mod Causes
+pub mod Files
+pub mod InMemory
+pub mod KindFunction
+pub mod KindPorts
+pub mod Limits
+pub mod Listed
+pub mod Output
+pub mod Refilled
+pub mod Samples
+pub mod formers

@@ -1,0 +1,31 @@
+-- Limits: the number of each quantity, and how much of it there may be.
+use Rattle.std.specs.Prelude.{ℕ}
+use Rattle.pw_base.specs.declared.limit.Which.{Which}
+use Rattle.pw_base.specs.declared.limit.Which.TheVariants as W
+
+abbrev pub which_number : Which → ℕ
+which_number W.ScriptBytes = 1
+which_number W.WavBytes = 2
+which_number W.AllWavBytes = 3
+which_number W.PodBytes = 4
+which_number W.Nodes = 5
+which_number W.Epochs = 6
+which_number W.Links = 7
+which_number W.Events = 8
+which_number W.SinkSamples = 9
+which_number W.BlockBytes = 10
+which_number W.TraceBytes = 11
+
+-- a script, a WAV file and all WAV files of a run, in bytes
+abbrev pub script_bytes_limit : ℕ
+script_bytes_limit = 1048576
+
+abbrev pub wav_bytes_limit : ℕ
+wav_bytes_limit = 268435456
+
+abbrev pub all_wav_bytes_limit : ℕ
+all_wav_bytes_limit = 536870912
+
+-- the samples of all sinks of a run
+abbrev pub sink_samples_limit : ℕ
+sink_samples_limit = 134217728

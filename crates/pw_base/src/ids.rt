@@ -1,0 +1,17 @@
+//! Numbers of nodes, links and ports.
+
+/// A node's number: its place among the script's nodes, from 0 to 62, or `DUMMY`.
+pub type NodeId = u32;
+
+/// A link's number: its place in the links of a shape.
+pub type LinkId = u32;
+
+/// The number of the built-in node that drives where no sink or meter does.
+pub const DUMMY: u32 = 63;
+
+/// A port of a node. A node numbers its ports from 0, inputs first.
+#[derive(Clone, Copy, Debug, PartialEq, Eq, Drop)]
+pub struct PortId {
+    pub node: u32,
+    pub port: u32,
+}

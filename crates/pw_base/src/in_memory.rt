@@ -1,0 +1,7 @@
+//! The outside in memory: files and outputs that fail where they are told to, or never.
+
+pub mod mem_files;
+pub mod mem_sink;
+pub mod names;
+pub mod sure_files;
+pub mod sure_sink;

@@ -1,0 +1,42 @@
+//! The types, definitions and traits that every crate of the engine stands on.
+//!
+//! `Items` and `Room` are lists that contracts see as lists. `Plan`, `Shape` and `Event` say what a script
+//! asks for, what one epoch is, and what happened. `Files`, `Sink`, `Ticker` and `Gate` are the outside;
+//! the objects of `in_memory` stand in for it in tests. The definitions of one sample and of the kinds of
+//! node, in `specs/`, are the words that kernels, node states and the cycle function share.
+#![tactic(auto)]
+
+mod event;
+mod files;
+mod gate;
+mod ids;
+mod in_memory;
+mod items;
+mod kind;
+mod limit;
+mod memory;
+mod output;
+mod parts;
+mod plan;
+mod room;
+mod shape;
+mod ticker;
+
+pub use event::Event;
+pub use files::{FileFail, Files, Loaded};
+pub use gate::{Gate, Open};
+pub use ids::{DUMMY, LinkId, NodeId, PortId};
+pub use in_memory::mem_files::MemFiles;
+pub use in_memory::mem_sink::MemSink;
+pub use in_memory::sure_files::SureFiles;
+pub use in_memory::sure_sink::SureSink;
+pub use items::{Items, Text};
+pub use kind::Kind;
+pub use limit::Which;
+pub use memory::Memory;
+pub use output::Sink;
+pub use parts::{Part, Parts};
+pub use plan::{Epoch, Fresh, LineOutcome, LinkLine, Plan, PlanNode, PortForm};
+pub use room::Room;
+pub use shape::{Shape, ShapeLink, ShapeNode};
+pub use ticker::{Never, Ticker};

@@ -1,0 +1,31 @@
+//! When a late check is due.
+ghost use Rattle.std.specs.Prelude.{◌≡◌, ℕ, ◌<◌, ◌≤◌, IsTrue, ◌↔◌};
+
+/// Tells, when asked, whether a late check is due. Its count of checks never falls.
+pub trait Ticker {
+    ghost ticks: { Self → ℕ };
+
+    /// Whether a check is due: exactly where the count grew in this call.
+    fn due(&mut self) -> bool
+        ensures later { ticks self.old ≤ ticks self.new }
+        ensures due { IsTrue result ↔ (ticks self.old < ticks self.new) };
+}
+
+/// A ticker that is never due.
+#[derive(Debug, Drop)]
+pub struct Never;
+
+impl Never {
+    /// Takes no memory.
+    pub fn new() -> Never {
+        Never
+    }
+}
+
+impl Ticker for Never {
+    ghost ticks = { λ _. 0 };
+
+    fn due(&mut self) -> bool {
+        false
+    }
+}
