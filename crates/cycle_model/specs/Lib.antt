@@ -1,0 +1,4 @@
+pub mod Cycle
+pub mod Epochs
+pub mod Renderable
+pub mod Rendering

@@ -1,0 +1,52 @@
+-- A plan that can be rendered: what the recursion of the cycle function needs, and what the reference program covers.
+use Rattle.std.specs.Prelude.{◌≡◌, ℕ, ◌+◌, ◌<◌, ◌≤◌, false, List, [], ◌∷◌, All, Contains, map, length, Option, Some, None, slice_get, find, ◌==◌, option_map}
+use Rattle.pw_base.specs.declared.ids.PortId.{PortId}
+use Rattle.pw_base.specs.declared.kind.Kind.{Kind}
+use Rattle.pw_base.specs.declared.kind.Kind.TheVariants.{Source, Sink}
+use Rattle.pw_base.specs.declared.shape.ShapeLink.{ShapeLink}
+use Rattle.pw_base.specs.declared.plan.Epoch.{Epoch}
+use Rattle.pw_base.specs.declared.plan.Plan.{Plan}
+use Rattle.pw_base.specs.KindPorts.{input_count, port_count}
+use Rattle.wav_files.specs.declared.wav.WavIn.{WavIn}
+use Rattle.cycle_model.specs.Epochs.{channels_of}
+use Rattle.cycle_model.specs.Cycle.{kind_at}
+
+-- the epochs follow one another, from this cycle on
+abbrev pub FollowFrom : ℕ → List Epoch → Type 0
+FollowFrom first [] = Unit {0}
+FollowFrom first (e ∷ es) = (e.shape.first ≡ first) × FollowFrom (first + e.shape.cycles) es
+
+-- a link joins an output and an input of active nodes, both with a form of the link's channels
+pub record IsFitting (plan : Plan) (epoch : Epoch) (link : ShapeLink) : Type 0 where
+  pub from_active : Contains (map (λ n. n.node) epoch.shape.nodes) link.from.node
+  pub to_active : Contains (map (λ n. n.node) epoch.shape.nodes) link.to.node
+  pub from_output : (input_count (kind_at plan link.from.node) ≤ link.from.port) × (link.from.port < port_count (kind_at plan link.from.node))
+  pub to_input : link.to.port < input_count (kind_at plan link.to.node)
+  pub from_form : channels_of epoch.forms link.from ≡ link.channels
+  pub to_form : channels_of epoch.forms link.to ≡ link.channels
+
+-- the links that are not delayed have no loop: some order of the nodes rises along each of them
+pub record HasOrder (links : List ShapeLink) : Type 0 where
+  pub rank : ℕ → ℕ
+  pub rises : All (λ l. l.delayed ≡ false → rank l.from.node < rank l.to.node) links
+
+-- an epoch's shape has the plan's quantum, its links fit, and they have an order
+pub record IsRenderableEpoch (plan : Plan) (epoch : Epoch) : Type 0 where
+  pub quantum : epoch.shape.quantum ≡ plan.quantum
+  pub links : All (IsFitting plan epoch) epoch.shape.links
+  pub order : HasOrder epoch.shape.links
+
+pub record IsRenderable (plan : Plan) (waves : List WavIn) : Type 0 where
+  pub numbered : FollowFrom 0 plan.epochs
+  pub epochs : All (IsRenderableEpoch plan) plan.epochs
+
+abbrev pub IsSourceOrSink : Kind → Type 0
+IsSourceOrSink Source = Unit {0}
+IsSourceOrSink Sink = Unit {0}
+IsSourceOrSink _ = ⊥
+
+-- so far the reference program covers sources and sinks, in one epoch without delayed links
+pub record IsCovered (plan : Plan) : Type 0 where
+  pub kinds : All (λ n. IsSourceOrSink n.kind) plan.nodes
+  pub one : length plan.epochs ≤ 1
+  pub prompt : All (λ e. All (λ l. l.delayed ≡ false) e.shape.links) plan.epochs

@@ -1,0 +1,3 @@
+//! The cycle function: the samples of every port in every cycle, as recursion over whole streams, and a
+//! plain program that computes it from a plan and its waves.
+#![tactic(auto)]

@@ -1,0 +1,3 @@
+pub mod WavFaults
+pub mod WavReading
+pub mod WavWriting

@@ -1,0 +1,43 @@
+-- WAV writing: the bytes of a wave. RIFF WAVE, PCM of 16 bits; numbers little-endian.
+use Rattle.std.specs.Prelude.{◌≡◌, ℕ, ◌+◌, ◌*◌, ◌%◌, ◌≤◌, ◌==◌, ◌&&◌, Bool, nat_le, List, ◌++◌, length, codes, flat_map, ℤ}
+use Rattle.std.specs.Int.{w16, cast_unsigned}
+use Rattle.byteorder.specs.Endian.{little_bytes}
+use Rattle.wav_files.specs.declared.wav.Wav.{Wav}
+
+-- a number of 16 and of 32 bits
+abbrev pub u16_bytes : ℕ → List ℕ
+u16_bytes n = little_bytes 2 n
+
+abbrev pub u32_bytes : ℕ → List ℕ
+u32_bytes n = little_bytes 4 n
+
+-- samples, as two's complement
+abbrev pub sample_bytes : List ℤ → List ℕ
+sample_bytes samples = flat_map (λ s. little_bytes 2 (cast_unsigned w16 s)) samples
+
+-- the chunk "fmt " of PCM: tag 1, channels, rate, bytes a second, bytes a frame, bits a sample
+abbrev pub format_chunk : ℕ → ℕ → List ℕ
+format_chunk rate channels =
+    codes "fmt " ++ u32_bytes 16 ++ u16_bytes 1 ++ u16_bytes channels ++ u32_bytes rate
+    ++ u32_bytes (2 * channels * rate) ++ u16_bytes (2 * channels) ++ u16_bytes 16
+
+-- the 44 bytes before so many bytes of samples
+abbrev pub wav_header : ℕ → ℕ → ℕ → List ℕ
+wav_header rate channels size =
+    codes "RIFF" ++ u32_bytes (36 + size) ++ codes "WAVE" ++ format_chunk rate channels ++ codes "data" ++ u32_bytes size
+
+abbrev pub wav_bytes : Wav → List ℕ
+wav_bytes wav = wav_header wav.rate wav.channels (2 * length wav.samples) ++ sample_bytes wav.samples
+
+-- a wave that can be written: its rate and channels in range, whole frames, and not too many samples
+pub record IsWave (wav : Wav) : Type 0 where
+  pub rate : (1 ≤ wav.rate) × (wav.rate ≤ 384000)
+  pub channels : (1 ≤ wav.channels) × (wav.channels ≤ 8)
+  pub whole : length wav.samples % wav.channels ≡ 0
+  pub small : length wav.samples ≤ 134217728
+
+-- the same as a test
+abbrev pub is_wave : Wav → Bool
+is_wave wav =
+    nat_le 1 wav.rate && nat_le wav.rate 384000 && nat_le 1 wav.channels && nat_le wav.channels 8
+    && (length wav.samples % wav.channels == 0) && nat_le (length wav.samples) 134217728
