@@ -2,9 +2,12 @@
 #![tactic(auto)]
 
 mod fault;
+mod header;
 mod outcome;
 mod wav;
+mod writing;
 
 pub use fault::WavFault;
 pub use outcome::{Kept, Outcome, Peak};
 pub use wav::{Wav, WavIn};
+pub use writing::write_wav;
