@@ -50,6 +50,13 @@ impl<T> Items<T> {
         self.inner.as_slice()
     }
 
+    /// The values as a vector, to be moved out one by one. Takes no memory.
+    pub fn into_vec(self) -> Vec<T>
+        ensures { result.items ≡ self }
+    {
+        self.inner
+    }
+
     /// Takes the last one away, if there is one. Takes no memory.
     pub fn pop(&mut self) -> Option<T>
         ensures list { self.old ≡ self.new ++ option_to_list result }
