@@ -1,2 +1,11 @@
 //! The script of a graph: its lines as commands, and the first line at fault.
 #![tactic(auto)]
+
+mod command;
+mod fault;
+mod lines;
+mod script;
+
+pub use command::Command;
+pub use fault::{ScriptFault, ScriptWhy};
+pub use script::{Line, Script};

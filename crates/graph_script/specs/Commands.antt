@@ -1,0 +1,91 @@
+-- The meaning of a line's words, by the nodes that the lines before it have made.
+use Rattle.std.specs.Prelude.{ℕ, ◌+◌, ◌&&◌, not, List, [], ◌∷◌, length, Option, Some, None, option_map, is_some, position, slice_index_or, nat_lt, bytes_eq, codes, if◌then◌else◌}
+use Rattle.pw_base.specs.declared.ids.PortId.{PortId}
+use Rattle.pw_base.specs.declared.kind.Kind.{Kind}
+use Rattle.pw_base.specs.declared.kind.Kind.TheVariants as K
+use Rattle.pw_base.specs.KindPorts.{input_names, output_names, input_count}
+use Rattle.graph_script.specs.declared.command.Command.{Command}
+use Rattle.graph_script.specs.declared.command.Command.TheVariants as C
+use Rattle.graph_script.specs.declared.lines.Said.{Said}
+use Rattle.graph_script.specs.declared.lines.Reading.{Reading}
+use Rattle.graph_script.specs.Arguments.{◌>>=◌, one_of, two_of, number_of, is_node_name, file_of, endpoint_parts}
+
+-- the number of the node of this name, and the kind of a node
+abbrev pub node_called : Reading → List ℕ → Option ℕ
+node_called reading name = position (bytes_eq name) reading.script.names
+
+abbrev pub kind_at : Reading → ℕ → Kind
+kind_at reading node = slice_index_or reading.kinds node K.Dummy
+
+-- a new node's number. Its name is well formed, not dummy, and no other's, and there are 63 nodes at most
+abbrev pub new_node : Reading → List ℕ → Option ℕ
+new_node reading name =
+    if is_node_name name && not (bytes_eq name (codes "dummy")) && not (is_some (node_called reading name)) && nat_lt (length reading.script.names) 63
+    then Some (length reading.script.names) else None
+
+-- the number of an output, and of an input, of this name
+abbrev pub output_called : Kind → List ℕ → Option ℕ
+output_called kind name = option_map (λ place. input_count kind + place) (position (bytes_eq name) (output_names kind))
+
+abbrev pub input_called : Kind → List ℕ → Option ℕ
+input_called kind name = position (bytes_eq name) (input_names kind)
+
+-- an endpoint, whose port is looked up by the function
+abbrev pub endpoint_of : (Kind → List ℕ → Option ℕ) → Reading → List ℕ → Option PortId
+endpoint_of port_called reading word = do
+  parts ← endpoint_parts word
+  node ← node_called reading parts.0
+  port ← port_called (kind_at reading node) parts.1
+  Some (record { node = node; port = port })
+
+-- a command that makes no node, and one that makes a node of this name and kind
+abbrev pub saying : Command → Option Said
+saying command = Some (record { command = command; made = None })
+
+abbrev pub making : Command → List ℕ → Kind → Option Said
+making command name kind = Some (record { command = command; made = Some (record { name = name; kind = kind }) })
+
+-- each command, by its arguments
+abbrev pub quantum_of : List (List ℕ) → Option Said
+quantum_of words = do
+  word ← one_of words
+  n ← number_of 1 8192 word
+  saying (C.Quantum n)
+
+abbrev pub source_of : Reading → List (List ℕ) → Option Said
+source_of reading words = do
+  args ← two_of words
+  node ← new_node reading args.0
+  file ← file_of args.1
+  making (C.Source node file) args.0 K.Source
+
+abbrev pub sink_of : Reading → List (List ℕ) → Option Said
+sink_of reading words = do
+  args ← two_of words
+  node ← new_node reading args.0
+  file ← file_of args.1
+  making (C.Sink node file) args.0 K.Sink
+
+abbrev pub link_of : Reading → List (List ℕ) → Option Said
+link_of reading words = do
+  args ← two_of words
+  from ← endpoint_of output_called reading args.0
+  to ← endpoint_of input_called reading args.1
+  saying (C.Link from to)
+
+abbrev pub cycles_of : List (List ℕ) → Option Said
+cycles_of words = do
+  word ← one_of words
+  n ← number_of 1 1000000 word
+  saying (C.Cycles n)
+
+-- the meaning of words, the first of which names the command
+unfoldable pub meaning_of_words : Reading → List (List ℕ) → Option Said
+meaning_of_words reading [] = None
+meaning_of_words reading (name ∷ words) =
+    if bytes_eq name (codes "quantum") then quantum_of words
+    else (if bytes_eq name (codes "source") then source_of reading words
+    else (if bytes_eq name (codes "sink") then sink_of reading words
+    else (if bytes_eq name (codes "link") then link_of reading words
+    else (if bytes_eq name (codes "cycles") then cycles_of words
+    else None))))
