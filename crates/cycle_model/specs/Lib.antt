@@ -1,4 +1,6 @@
 pub mod Cycle
 pub mod Epochs
+pub mod Mixing
 pub mod Renderable
 pub mod Rendering
+pub mod WavesFit

@@ -1,15 +1,16 @@
 -- A plan that can be rendered: what the recursion of the cycle function needs, and what the reference program covers.
-use Rattle.std.specs.Prelude.{◌≡◌, ℕ, ◌+◌, ◌<◌, ◌≤◌, false, List, [], ◌∷◌, All, Contains, map, length, Option, Some, None, slice_get, find, ◌==◌, option_map}
-use Rattle.pw_base.specs.declared.ids.PortId.{PortId}
+use Rattle.std.specs.Prelude.{◌≡◌, ℕ, ◌+◌, ◌<◌, ◌≤◌, ◌⊎◌, false, List, [], ◌∷◌, All, Contains, map, length}
 use Rattle.pw_base.specs.declared.kind.Kind.{Kind}
 use Rattle.pw_base.specs.declared.kind.Kind.TheVariants.{Source, Sink}
 use Rattle.pw_base.specs.declared.shape.ShapeLink.{ShapeLink}
+use Rattle.pw_base.specs.declared.shape.ShapeNode.{ShapeNode}
 use Rattle.pw_base.specs.declared.plan.Epoch.{Epoch}
 use Rattle.pw_base.specs.declared.plan.Plan.{Plan}
 use Rattle.pw_base.specs.KindPorts.{input_count, port_count}
 use Rattle.wav_files.specs.declared.wav.WavIn.{WavIn}
 use Rattle.cycle_model.specs.Epochs.{channels_of}
 use Rattle.cycle_model.specs.Cycle.{kind_at}
+use Rattle.cycle_model.specs.WavesFit.{WavesFit}
 
 -- the epochs follow one another, from this cycle on
 abbrev pub FollowFrom : ℕ → List Epoch → Type 0
@@ -30,15 +31,23 @@ pub record HasOrder (links : List ShapeLink) : Type 0 where
   pub rank : ℕ → ℕ
   pub rises : All (λ l. l.delayed ≡ false → rank l.from.node < rank l.to.node) links
 
--- an epoch's shape has the plan's quantum, its links fit, and they have an order
+-- a node of a shape is a node of the plan, or the built-in driver
+abbrev pub IsNodeOf : Plan → ShapeNode → Type 0
+IsNodeOf plan node = (node.node < length plan.nodes) ⊎ (node.node ≡ 63)
+
+-- an epoch's shape has the plan's quantum and nodes, its links fit, and they have an order
 pub record IsRenderableEpoch (plan : Plan) (epoch : Epoch) : Type 0 where
   pub quantum : epoch.shape.quantum ≡ plan.quantum
+  pub nodes : All (IsNodeOf plan) epoch.shape.nodes
   pub links : All (IsFitting plan epoch) epoch.shape.links
   pub order : HasOrder epoch.shape.links
 
+-- few enough nodes, epochs that follow one another from cycle 0 on and can each be rendered, and a wave for each source
 pub record IsRenderable (plan : Plan) (waves : List WavIn) : Type 0 where
+  pub few : length plan.nodes ≤ 63
   pub numbered : FollowFrom 0 plan.epochs
   pub epochs : All (IsRenderableEpoch plan) plan.epochs
+  pub sources : WavesFit plan waves
 
 abbrev pub IsSourceOrSink : Kind → Type 0
 IsSourceOrSink Source = Unit {0}
