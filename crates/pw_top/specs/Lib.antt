@@ -1,0 +1,10 @@
+pub mod Answer
+pub mod Delivery
+pub mod Ending
+pub mod FirstEpoch
+pub mod FirstLines
+pub mod FirstPlan
+pub mod Following
+pub mod Headline
+pub mod StatusLine
+pub mod Usage

@@ -1,2 +1,15 @@
 //! The top call: what a command line does, from its words to files, text and status.
 #![tactic(auto)]
+
+mod commands;
+mod delivering;
+mod first_lines;
+mod first_plan;
+mod loading;
+mod preparing;
+mod status;
+mod status_line;
+mod usage;
+mod work;
+
+pub use status::{PodWhy, Status};

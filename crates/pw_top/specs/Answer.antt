@@ -1,0 +1,50 @@
+-- The expected answer of a command: the steps outside that it makes where nothing fails.
+use Rattle.std.specs.Prelude.{◌≡◌, ◌⊎◌, ℕ, Bool, true, false, ◌<◌, List, [], ◌∷◌, ◌++◌, length, Option, Some, None, Result, Ok, Err, All, Contains, nat_le, if◌then◌else◌}
+use Rattle.pw_base.specs.declared.limit.Which.{Which}
+use Rattle.pw_base.specs.Files.{Names}
+use Rattle.pw_base.specs.Causes.{Rose}
+use Rattle.pw_top.specs.declared.status.Status.{Status}
+use Rattle.pw_top.specs.declared.status.Status.TheVariants as S
+use Rattle.pw_top.specs.declared.work.Store.{Store}
+use Rattle.pw_top.specs.declared.work.Work.{Work}
+
+-- what a part of a command does up to its end: the places of its loads, in order, and what it gives or how it refuses
+pub record Expected (T : Type 0) : Type 0 where
+  pub loads : List ℕ
+  pub outcome : Result T Status
+
+-- of a command: its loads; then, where it is not refused, its stores in order and its text
+abbrev pub Answer : Type 0
+Answer = Expected Work
+
+abbrev pub refused : {T : Type 0} → Status → Expected T
+refused status = record { loads = []; outcome = Err status }
+
+abbrev pub given : {T : Type 0} → T → Expected T
+given x = record { loads = []; outcome = Ok x }
+
+-- loads with an outcome, and what comes next
+unfoldable pub chain : {T U : Type 0} → List ℕ → Result T Status → (T → Expected U) → Expected U
+chain loads (Ok x) next = record { loads = loads ++ (next x).loads; outcome = (next x).outcome }
+chain loads (Err status) next = record { loads = loads; outcome = Err status }
+
+abbrev pub after : {T U : Type 0} → Expected T → (T → Expected U) → Expected U
+after first next = chain first.loads first.outcome next
+
+-- what a load gives where it does not fail
+abbrev pub whole_or_long : List ℕ → ℕ → ℕ → Which → Result (List ℕ) Status
+whole_or_long bytes limit place which = if nat_le (length bytes) limit then Ok bytes else Err (S.Limit place which)
+
+abbrev pub load_of_some : Option (List ℕ) → ℕ → ℕ → Which → Result (List ℕ) Status
+load_of_some None limit place which = Err (S.Absent place)
+load_of_some (Some bytes) limit place which = whole_or_long bytes limit place which
+
+unfoldable pub load_outcome : Names → ℕ → List ℕ → ℕ → Which → Result (List ℕ) Status
+load_outcome names place name limit which = load_of_some (names name) limit place which
+
+-- THE STEP of a command's definition: a load at a place, by a limit
+abbrev pub load_of : Names → ℕ → List ℕ → ℕ → Which → Expected (List ℕ)
+load_of names place name limit which = record { loads = place ∷ []; outcome = load_outcome names place name limit which }
+
+abbrev pub loading : {U : Type 0} → Names → ℕ → List ℕ → ℕ → Which → (List ℕ → Expected U) → Expected U
+loading names place name limit which next = after (load_of names place name limit which) next

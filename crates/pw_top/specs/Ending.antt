@@ -1,0 +1,66 @@
+-- How a part of a command ends: as expected, at a load of it that failed, or for want of memory; and with which cause.
+use Rattle.std.specs.Prelude.{◌≡◌, ◌⊎◌, ℕ, Bool, true, false, ◌<◌, List, Result, Ok, Err, All, Contains}
+use Rattle.pw_base.specs.Causes.{Rose}
+use Rattle.wav_files.specs.WavWriting.{IsWave}
+use Rattle.pw_top.specs.declared.status.Status.{Status}
+use Rattle.pw_top.specs.declared.status.Status.TheVariants as S
+use Rattle.pw_top.specs.declared.work.Content.{Content}
+use Rattle.pw_top.specs.declared.work.Content.TheVariants.{Bytes, Wave}
+use Rattle.pw_top.specs.declared.work.Store.{Store}
+use Rattle.pw_top.specs.declared.work.Work.{Work}
+use Rattle.pw_top.specs.Answer.{Expected}
+
+-- the result is the expected one, or a load of it failed, or memory was short
+abbrev pub IsEnd : {T : Type 0} → Expected T → Result T Status → Type 0
+IsEnd e (Ok x) = e.outcome ≡ Ok x
+IsEnd e (Err (S.ReadFault place)) = Contains e.loads place
+IsEnd e (Err S.Memory) = Unit {0}
+IsEnd e (Err status) = e.outcome ≡ Err status
+
+pub data Ends {T : Type 0} (e : Expected T) (r : Result T Status) : Type 0 where
+  ends : IsEnd e r → Ends e r
+
+-- a refusal, which is no fault
+abbrev pub is_plain : Status → Bool
+is_plain (S.ReadFault place) = false
+is_plain _ = true
+
+-- a fault of one of these loads
+pub record IsReadAt (loads : List ℕ) (status : Status) : Type 0 where
+  pub place : ℕ
+  pub fault : status ≡ S.ReadFault place
+  pub there : Contains loads place
+
+-- the same as Ends, in the form that a `match` on the result wants
+abbrev pub Came : {T : Type 0} → Expected T → Result T Status → Type 0
+Came e (Ok x) = e.outcome ≡ Ok x
+Came e (Err status) = ((e.outcome ≡ Err status) × (is_plain status ≡ true)) ⊎ IsReadAt e.loads status ⊎ (status ≡ S.Memory)
+
+-- of all that can end a command before its stores, only a fault of a load has a cause outside
+abbrev pub IsRefusal : ℕ → ℕ → Status → Type 0
+IsRefusal before now S.Ok = ⊥
+IsRefusal before now (S.ReadFault place) = Rose before now
+IsRefusal before now (S.WriteFault place) = ⊥
+IsRefusal before now _ = Unit {0}
+
+abbrev pub PrepareCause : {T : Type 0} → (T → Type 0) → ℕ → ℕ → Result T Status → Type 0
+PrepareCause P before now (Ok x) = P x
+PrepareCause P before now (Err status) = IsRefusal before now status
+
+-- the same of a command, whose words were right
+abbrev pub CommandCause : {T : Type 0} → (T → Type 0) → ℕ → ℕ → Result T Status → Type 0
+CommandCause P before now (Ok x) = P x
+CommandCause P before now (Err (S.Usage word)) = ⊥
+CommandCause P before now (Err status) = IsRefusal before now status
+
+-- what a store asks: its place is never that of the text, and its wave can be written
+abbrev pub CanBeWritten : Content → Type 0
+CanBeWritten (Bytes bytes) = Unit {0}
+CanBeWritten (Wave wav) = IsWave wav
+
+pub record IsStorable (store : Store) : Type 0 where
+  pub placed : 0 < store.place
+  pub content : CanBeWritten store.content
+
+abbrev pub IsDeliverable : Work → Type 0
+IsDeliverable work = All IsStorable work.stores

@@ -1,0 +1,33 @@
+//! A load, as the commands make it.
+ghost use Rattle.std.specs.Prelude.{◌≡◌, ℕ, ◌≤◌, length, IsSome};
+ghost use Rattle.pw_base.specs.Files.{names_in};
+ghost use Rattle.pw_top.specs.Answer.{load_of};
+ghost use Rattle.pw_top.specs.Ending.{Came, CommandCause};
+
+use crate::status::Status;
+use pw_base::{FileFail, Files, Items, Loaded, Text, Which};
+use std::alloc::Global;
+
+/// Loads the file of this name, of at most `limit` bytes, or says why the command ends here.
+pub fn load_step<F: Files>(
+    alloc: Global,
+    files: &mut F,
+    place: u32,
+    name: &Text,
+    limit: u64,
+    which: Which,
+) -> Result<Items<u8>, Status>
+    ensures held { F.held files.new ≡ F.held files.old }
+    ensures told { IsSome (F.held files.old) → Came (load_of (names_in (F.held files.old)) place name.now limit which) result }
+    ensures later { F.load_faults files.old ≤ F.load_faults files.new }
+    ensures cause { CommandCause (λ bytes. length bytes ≤ limit) (F.load_faults files.old) (F.load_faults files.new) result }
+    ensures stores { F.store_faults files.new ≡ F.store_faults files.old }
+{
+    match files.load(alloc, name, limit) {
+        Ok(Loaded::Whole(bytes)) => Ok(bytes),
+        Ok(Loaded::Absent) => Err(Status::Absent { place }),
+        Ok(Loaded::TooLong) => Err(Status::Limit { place, which }),
+        Err(FileFail::Failed) => Err(Status::ReadFault { place }),
+        Err(FileFail::Memory) => Err(Status::Memory),
+    }
+}
