@@ -4,10 +4,12 @@
 mod fault;
 mod header;
 mod outcome;
+mod reading;
 mod wav;
 mod writing;
 
 pub use fault::WavFault;
 pub use outcome::{Kept, Outcome, Peak};
+pub use reading::read_wav;
 pub use wav::{Wav, WavIn};
 pub use writing::write_wav;
