@@ -5,6 +5,8 @@ mod fault;
 mod header;
 mod outcome;
 mod reading;
+#[cfg(test)]
+mod tests;
 mod wav;
 mod writing;
 
