@@ -4,10 +4,14 @@
 mod fault;
 mod header;
 mod outcome;
+mod reading;
+#[cfg(test)]
+mod tests;
 mod wav;
 mod writing;
 
 pub use fault::WavFault;
 pub use outcome::{Kept, Outcome, Peak};
+pub use reading::read_wav;
 pub use wav::{Wav, WavIn};
 pub use writing::write_wav;
