@@ -1,3 +1,4 @@
 pub mod RowLemmas
 pub mod SingleEpochLemmas
 pub mod EndLemmas
+pub mod OutcomeLemmas
