@@ -28,7 +28,12 @@ fn place_of(waves: &[WavIn], node: u32) -> usize
 }
 
 /// The places of the waves that the links bring to a port, in the order of the links.
-pub fn places_into(alloc: Global, waves: &[WavIn], links: &[ShapeLink], port: PortId) -> Result<Items<usize>, Memory>
+pub fn places_into(
+    alloc: Global,
+    waves: &[WavIn],
+    links: &[ShapeLink],
+    port: PortId,
+) -> Result<Items<usize>, Memory>
     ensures { IfOk result (λ places. places ≡ places_into waves.now links.now port) }
 {
     let mut places = Items::new(alloc);

@@ -43,7 +43,12 @@ fn fill(to: &mut [i16], waves: &[WavIn], places: &[usize])
 }
 
 /// So many samples, each the clamped sum of those of the waves at the places.
-pub fn mixed(alloc: Global, waves: &[WavIn], places: &[usize], len: usize) -> Result<Items<i16>, Memory>
+pub fn mixed(
+    alloc: Global,
+    waves: &[WavIn],
+    places: &[usize],
+    len: usize,
+) -> Result<Items<i16>, Memory>
     requires { length places.now ≤ 2 ^ 32 }
     ensures { IfOk result (λ row. row ≡ mixed_row waves.now places.now len) }
 {

@@ -66,7 +66,13 @@ fn is_sink(kind: &Kind) -> bool
 }
 
 /// What a node keeps: a sink with a format its stream, any other node nothing.
-fn kept_of(alloc: Global, plan: &Plan, waves: &[WavIn], place: u32, node: &PlanNode) -> Result<Option<Kept>, Memory>
+fn kept_of(
+    alloc: Global,
+    plan: &Plan,
+    waves: &[WavIn],
+    place: u32,
+    node: &PlanNode,
+) -> Result<Option<Kept>, Memory>
     requires renderable { IsRenderable plan.now waves.now }
     requires covered { IsCovered plan.now }
     ensures { IfOk result (λ kept. kept ≡ kept_of plan.now waves.now (place, node.now)) }

@@ -1,4 +1,4 @@
-use Rattle.std.proofs.Common.{◌≡◌, ℕ, ◌+◌, drop, ◌==◌}
+use Rattle.std.proofs.Common.{◌≡◌, ◌+◌, drop}
 use Rattle.cycle_model.specs.Mixing.{place_of}
 use Rattle.cycle_model.proofs.feeds.place_of.Given as goal
 

@@ -1,5 +1,5 @@
-use Rattle.std.proofs.Common.{rules, arith, ◌≡◌, ℕ, ◌+◌, ◌*◌, ◌<◌, ◌≤◌, length, take, get_or, ℤ, pos, neg_ℤ, ◌+ℤ◌, ◌≤ℤ◌, w16, w64, to_z, of_z, SFits, ap₂, sym, ◌∙◌}
-use Rattle.std.proofs.lemmas.Int.{ints, to_z-of_z}
+use Rattle.std.proofs.Common.{rules, arith, ◌≡◌, ◌<◌, ◌≤◌, length, take, pos, ◌+ℤ◌, w16, w64, to_z, of_z, SFits, ap₂, sym, ◌∙◌}
+use Rattle.std.proofs.lemmas.Int.{ints}
 use Rattle.std.proofs.lemmas.List.Sums.{fold_more}
 use Rattle.cycle_model.specs.Mixing.{sample_at_place, sum_at}
 use Rattle.cycle_model.proofs.mixing.mixed_at.Goals as goal

@@ -1,4 +1,4 @@
-use Rattle.std.proofs.Common.{◌≡◌, ℕ, take, filter_map}
+use Rattle.std.proofs.Common.{◌≡◌, take, filter_map}
 use Rattle.std.specs.List.{enumerate_from}
 use Rattle.cycle_model.specs.Rendering.{kept_of}
 use Rattle.cycle_model.proofs.reference.all_kept.Given as goal
