@@ -2,3 +2,4 @@ pub mod RowLemmas
 pub mod SingleEpochLemmas
 pub mod EndLemmas
 pub mod OutcomeLemmas
+pub mod FirstPathLemmas
