@@ -1,5 +1,5 @@
 -- A sink's whole stream in a plan of sources and sinks: the mixed row of the one epoch's links, or nothing without an epoch.
-use Rattle.std.proofs.Common.{◌≡◌, ℕ, zero, suc, ◌+◌, ◌-◌, ◌*◌, ◌<◌, ◌≤◌, Bool, true, false, cond, ◌==◌, eqb, List, [], ◌∷◌, map, length, get_or, filter, find, fold, ℤ, pos, ◌+ℤ◌, All, Option, Some, None, slice_get, option_map, unwrap_or, sum_by, refl, ap, sym, ◌∙◌, subst, arith, ⊎_elim}
+use Rattle.std.proofs.Common.{◌≡◌, ℕ, ◌+◌, ◌-◌, ◌*◌, ◌<◌, ◌≤◌, true, false, cond, ◌==◌, List, [], ◌∷◌, map, length, get_or, filter, fold, pos, ◌+ℤ◌, All, Some, None, slice_get, option_map, unwrap_or, sum_by, refl, ap, sym, ◌∙◌, subst, arith, ⊎_elim}
 use Rattle.std.specs.List.{range_with_len}
 use Rattle.std.proofs.Math.Path.{fun_ext}
 use Rattle.std.proofs.lemmas.List.Elements.{All-head}
@@ -12,9 +12,9 @@ use Rattle.pw_base.specs.declared.plan.Plan.{Plan}
 use Rattle.pw_base.specs.Samples.{clamped}
 use Rattle.wav_files.specs.declared.wav.WavIn.{WavIn}
 use Rattle.cycle_model.specs.Epochs.{is_port, channels_of, all_cycles}
-use Rattle.cycle_model.specs.Cycle.{wave_of, stream_of, outputs}
+use Rattle.cycle_model.specs.Cycle.{stream_of, outputs}
 use Rattle.cycle_model.specs.Rendering.{end_stream}
-use Rattle.cycle_model.specs.Mixing.{place_of, sample_at_place, sum_at, places_into, mixed_row, takes_part, epoch_row}
+use Rattle.cycle_model.specs.Mixing.{place_of, sample_at_place, sum_at, mixed_row, takes_part, epoch_row}
 use Rattle.cycle_model.specs.Renderable.{FollowFrom, IsRenderableEpoch, IsRenderable, IsCovered}
 use Rattle.cycle_model.proofs.SingleEpochLemmas.{IsSingle, wave_at, mixed_at, stream_row, no_stream}
 
@@ -62,7 +62,7 @@ row_without e waves port t = rw t refl
 no_cycles : (e : Epoch) (waves : List WavIn) (port : PortId) → e.shape.cycles ≡ 0 → epoch_row e waves port ≡ []
 no_cycles e waves port z = ⊎_elim
     (λ t. let n : e.shape.cycles * (e.shape.quantum * channels_of e.forms port) ≡ 0 = ap (λ k. k * (e.shape.quantum * channels_of e.forms port)) z ∙ omega arith in
-        row_with e waves port t ∙ ap (λ k. map (mixed_at waves (filter (λ l. is_port l.to port) e.shape.links)) (range_with_len 0 k)) n)
+    row_with e waves port t ∙ ap (λ k. map (mixed_at waves (filter (λ l. is_port l.to port) e.shape.links)) (range_with_len 0 k)) n)
     (λ f. row_without e waves port f)
     (cases_Bool (takes_part e port.node))
 
@@ -72,9 +72,9 @@ some_cycles plan e s waves c port h =
     let lt : c < e.shape.cycles = omega arith in
     ⊎_elim
     (λ t. stream_row plan e s waves c port lt t
-        ∙ ap (λ n. map (mixed_at waves (filter (λ l. is_port l.to port) e.shape.links)) (range_with_len 0 (n * (plan.quantum * channels_of e.forms port)))) h
-        ∙ ap (λ q. map (mixed_at waves (filter (λ l. is_port l.to port) e.shape.links)) (range_with_len 0 (e.shape.cycles * (q * channels_of e.forms port)))) (sym s.quantum)
-        ∙ sym (row_with e waves port t))
+    ∙ ap (λ n. map (mixed_at waves (filter (λ l. is_port l.to port) e.shape.links)) (range_with_len 0 (n * (plan.quantum * channels_of e.forms port)))) h
+    ∙ ap (λ q. map (mixed_at waves (filter (λ l. is_port l.to port) e.shape.links)) (range_with_len 0 (e.shape.cycles * (q * channels_of e.forms port)))) (sym s.quantum)
+    ∙ sym (row_with e waves port t))
     (λ f. no_stream plan e s waves c port lt f ∙ sym (row_without e waves port f))
     (cases_Bool (takes_part e port.node))
 
@@ -89,10 +89,10 @@ end_single plan waves node e r c one =
     let s : IsSingle plan e = single plan waves e r c one in
     end_at plan waves node n (cycles_are plan e one)
     ∙ ⊎_elim
-      (λ (z : n ≡ 0). cond-true (n == 0) [] (stream_of plan (outputs plan waves) (n - 1) port) (eq-eqb n 0 z) ∙ sym (no_cycles e waves port z))
-      (λ (nz : n ≡ 0 → ⊥). let h : (n - 1) + 1 ≡ n = omega arith in
-          cond-false (n == 0) [] (stream_of plan (outputs plan waves) (n - 1) port) (ne_eqb n 0 nz) ∙ some_cycles plan e s waves (n - 1) port h)
-      (cases_eq n 0)
+    (λ (z : n ≡ 0). cond-true (n == 0) [] (stream_of plan (outputs plan waves) (n - 1) port) (eq-eqb n 0 z) ∙ sym (no_cycles e waves port z))
+    (λ (nz : n ≡ 0 → ⊥). let h : (n - 1) + 1 ≡ n = omega arith in
+    cond-false (n == 0) [] (stream_of plan (outputs plan waves) (n - 1) port) (ne_eqb n 0 nz) ∙ some_cycles plan e s waves (n - 1) port h)
+    (cases_eq n 0)
 
 pub end_none : (plan : Plan) (waves : List WavIn) (node : ℕ) → plan.epochs ≡ [] → end_stream plan waves node ≡ []
 end_none plan waves node none = end_at plan waves node 0 (ap (λ es. sum_by (λ e. e.shape.cycles) es) none)

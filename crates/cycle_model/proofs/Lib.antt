@@ -1,3 +1,5 @@
 pub mod RowLemmas
 pub mod SingleEpochLemmas
 pub mod EndLemmas
+pub mod OutcomeLemmas
+pub mod FirstPathLemmas

@@ -1,18 +1,18 @@
 -- Rows of samples as functions of the place: silence, sums, the end of a row, and rows one after another.
-use Rattle.std.proofs.Common.{Bool, true, false, ◌≡◌, ℕ, zero, suc, ◌+◌, ◌-◌, ◌*◌, ◌<◌, ◌≤◌, List, [], ◌∷◌, ◌++◌, map, length, take, drop, replicate, get_or, filter, fold, flat_map, zip, ℤ, pos, ◌+ℤ◌, All, refl, ap, sym, ◌∙◌, arith, add-one, ⊎_elim, length-append, length-drop, length-take, get_or-take, get_or-drop, append-nil}
+use Rattle.std.proofs.Common.{Bool, true, false, ◌≡◌, ℕ, zero, suc, ◌+◌, ◌-◌, ◌*◌, ◌<◌, ◌≤◌, List, [], ◌∷◌, ◌++◌, map, length, take, drop, replicate, get_or, filter, fold, flat_map, ℤ, pos, ◌+ℤ◌, All, refl, ap, sym, ◌∙◌, arith, ⊎_elim, length-append, length-drop, length-take, get_or-take, get_or-drop}
 use Rattle.std.specs.List.{range_with_len}
-use Rattle.std.proofs.lemmas.List.{length-replicate, get_or_append_left, get_or-append_right, get_or-replicate, get_or_past, same_lists}
+use Rattle.std.proofs.lemmas.List.{length-replicate, get_or_append_left, get_or-append_right, get_or-replicate, get_or_past}
 use Rattle.std.proofs.lemmas.List.Elements.{All-head, All-tail}
 use Rattle.std.proofs.lemmas.List.FromFn.{fill_by_all, length-map-range_with_len, get_or-map-range_with_len}
 use Rattle.std.proofs.lemmas.Bool.{cases_lt}
-use Rattle.pw_base.specs.Samples.{silence, summed, clamped}
+use Rattle.pw_base.specs.Samples.{silence, summed}
 
 -- a wave, then silence
 padded_at : (w : List ℤ) (n k : ℕ) → k < n → get_or (w ++ replicate n (pos 0)) k (pos 0) ≡ get_or w k (pos 0)
 padded_at w n k h = ⊎_elim
     (λ (a : k < length w). get_or_append_left w (replicate n (pos 0)) (pos 0) k a)
     (λ (b : length w ≤ k). let lt : k - length w < n = omega arith in
-        get_or-append_right w (replicate n (pos 0)) (length w) k (pos 0) refl b ∙ get_or-replicate n (k - length w) (pos 0) (pos 0) lt ∙ sym (get_or_past w k (pos 0) b))
+    get_or-append_right w (replicate n (pos 0)) (length w) k (pos 0) refl b ∙ get_or-replicate n (k - length w) (pos 0) (pos 0) lt ∙ sym (get_or_past w k (pos 0) b))
     (cases_lt k (length w))
 
 pub padded : (w : List ℤ) (n : ℕ) → take n (w ++ replicate n (pos 0)) ≡ map (λ j. get_or w j (pos 0)) (range_with_len 0 n)
@@ -75,7 +75,7 @@ rows_joined g q a (suc n) =
     let l : q + n * q ≡ suc n * q = omega arith in
     let first : map (λ r. g (a * q + r)) (range_with_len 0 q) ≡ map g (range_with_len (a * q) q) = shifted g (a * q) 0 q ∙ ap (λ k. map g (range_with_len k q)) e in
     let rest : flat_map (λ k. map (λ r. g (k * q + r)) (range_with_len 0 q)) (range_with_len (a + 1) n) ≡ map g (range_with_len (a * q + q) (n * q)) =
-        rows_joined g q (a + 1) n ∙ ap (λ k. map g (range_with_len k (n * q))) d in
+    rows_joined g q (a + 1) n ∙ ap (λ k. map g (range_with_len k (n * q))) d in
     ap (λ t. t ++ flat_map (λ k. map (λ r. g (k * q + r)) (range_with_len 0 q)) (range_with_len (a + 1) n)) first
     ∙ ap (λ t. map g (range_with_len (a * q) q) ++ t) rest
     ∙ joined g (a * q) q (n * q)

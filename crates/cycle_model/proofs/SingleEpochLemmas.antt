@@ -1,10 +1,10 @@
 -- The cycle function on a plan of sources and sinks with one epoch: each port's stream, as a function of the place.
-use Rattle.std.proofs.Common.{◌≡◌, ℕ, zero, suc, ◌+◌, ◌-◌, ◌*◌, ◌<◌, ◌≤◌, Bool, true, false, cond, ◌&&◌, ◌==◌, eqb, nat_le, nat_lt, List, [], ◌∷◌, ◌++◌, map, length, get_or, take, drop, filter, find, fold, flat_map, ℤ, pos, ◌+ℤ◌, All, Contains, Option, Some, None, slice_get, option_map, unwrap_or, refl, ap, ap₂, sym, ◌∙◌, arith, ◌⊎◌, inl, inr, ⊎_elim}
+use Rattle.std.proofs.Common.{◌≡◌, ℕ, zero, suc, ◌+◌, ◌-◌, ◌*◌, ◌<◌, ◌≤◌, true, false, cond, ◌&&◌, ◌==◌, nat_le, List, [], ◌∷◌, ◌++◌, map, length, get_or, take, drop, filter, find, fold, flat_map, ℤ, pos, ◌+ℤ◌, All, Contains, Some, None, slice_get, option_map, unwrap_or, refl, ap, ap₂, sym, ◌∙◌, arith, ◌⊎◌, inl, inr, ⊎_elim}
 use Rattle.std.specs.List.{range_with_len, list_any}
 use Rattle.std.proofs.lemmas.List.Elements.{All-head, All-tail, All-filter, filter_passes}
-use Rattle.std.proofs.lemmas.List.Folds.{find_at, fold-map, list_any_at}
+use Rattle.std.proofs.lemmas.List.Folds.{list_any_at}
 use Rattle.std.proofs.lemmas.List.FromFn.{length-range_with_len, length-map-range_with_len}
-use Rattle.std.proofs.lemmas.Bool.{and_from, and_parts, le-leb, lt-ltb, cond-true, cond-false, cond_both, eqb-true, eq-eqb}
+use Rattle.std.proofs.lemmas.Bool.{and_from, and_parts, le-leb, lt-ltb, cond-true, cond_both, eqb-true, eq-eqb}
 use Rattle.pw_base.specs.declared.ids.PortId.{PortId}
 use Rattle.pw_base.specs.declared.kind.Kind.{Kind}
 use Rattle.pw_base.specs.declared.kind.Kind.TheVariants.{Source, Square, Gain, Mix2, Delay, Map, Split, Sink, Meter, Dummy}
@@ -14,10 +14,10 @@ use Rattle.pw_base.specs.declared.plan.PortForm.{PortForm}
 use Rattle.pw_base.specs.declared.plan.Plan.{Plan}
 use Rattle.pw_base.specs.declared.plan.PlanNode.{PlanNode}
 use Rattle.pw_base.specs.Samples.{clamped, silence, summed}
-use Rattle.pw_base.specs.KindFunction.{Heard, kind_output}
+use Rattle.pw_base.specs.KindFunction.{kind_output}
 use Rattle.pw_base.specs.KindPorts.{input_count, port_count}
 use Rattle.wav_files.specs.declared.wav.WavIn.{WavIn}
-use Rattle.cycle_model.specs.Epochs.{is_port, is_within, is_fresh, epoch_at, listed, nodes_at, links_at, forms_at, is_active, links_into, channels_of, channels_at, active_cycles, stream_start, all_cycles}
+use Rattle.cycle_model.specs.Epochs.{is_port, is_within, is_fresh, epoch_at, listed, is_active, links_into, channels_of, channels_at, active_cycles, stream_start, all_cycles}
 use Rattle.cycle_model.specs.Cycle.{Outputs, kind_at, wave_of, brought, input_of, stream_of, heard, last_of, output_of, outputs_after, outputs}
 use Rattle.cycle_model.specs.Mixing.{takes_part}
 use Rattle.cycle_model.specs.Renderable.{IsFitting, IsSourceOrSink}
@@ -97,7 +97,7 @@ source_row plan e s waves out c port h t kind q is_q =
     let ch : channels_at plan c port ≡ channels_of e.forms port = channels_are plan e s c port h in
     let len : length (active_cycles plan 0 c port.node) ≡ c + 1 = ap length (cycles_all plan e s c port.node h t) ∙ length-range_with_len 0 (c + 1) in
     let size : plan.quantum * length (active_cycles plan 0 c port.node) * channels_at plan c port ≡ c * q + q =
-        ap₂ (λ a b. plan.quantum * a * b) len ch ∙ product plan.quantum c (channels_of e.forms port) q is_q in
+    ap₂ (λ a b. plan.quantum * a * b) len ch ∙ product plan.quantum c (channels_of e.forms port) q is_q in
     let n : plan.quantum * channels_at plan c port ≡ q = ap (λ a. plan.quantum * a) ch ∙ sym is_q in
     ap (λ k. last_of (plan.quantum * channels_at plan c port) (kind_output k h1 (port.port - input_count k))) kind
     ∙ given_row (wave_of waves port.node) q c (plan.quantum * length (active_cycles plan 0 c port.node)) (channels_at plan c port) (plan.quantum * channels_at plan c port) size n
@@ -161,13 +161,13 @@ brought_row : (plan : Plan) (e : Epoch) → IsSingle plan e → (waves : List Wa
     → brought plan (outputs plan waves) c l ≡ map (λ r. wave_at waves (c * q + r) l.from.node) (range_with_len 0 q)
 brought_row plan e s waves c port l h feed q is_q =
     let kind : kind_at plan l.from.node ≡ Source =
-        giver (kind_at plan l.from.node) l.from.port (known_kind plan.nodes l.from.node s.kinds) feed.fits.from_output.0 feed.fits.from_output.1 in
+    giver (kind_at plan l.from.node) l.from.port (known_kind plan.nodes l.from.node s.kinds) feed.fits.from_output.0 feed.fits.from_output.1 in
     let channels : channels_of e.forms port ≡ channels_of e.forms l.from =
-        sym (same_port e.forms l.to port feed.into) ∙ feed.fits.to_form ∙ sym feed.fits.from_form in
+    sym (same_port e.forms l.to port feed.into) ∙ feed.fits.to_form ∙ sym feed.fits.from_form in
     rw feed.prompt
     (rounds plan waves c l.from
     ∙ source_row plan e s waves (outputs_after plan waves (64 * all_cycles plan + 63)) c l.from h (takes e l.from.node feed.fits.from_active) kind q
-        (is_q ∙ ap (λ n. plan.quantum * n) channels))
+    (is_q ∙ ap (λ n. plan.quantum * n) channels))
 
 -- what a port gets in a cycle
 input_row : (plan : Plan) (e : Epoch) → IsSingle plan e → (waves : List WavIn) (c : ℕ) (port : PortId) → c < e.shape.cycles → (q : ℕ) → q ≡ plan.quantum * channels_of e.forms port
@@ -177,7 +177,7 @@ input_row plan e s waves c port h q is_q =
     let feeds = filter (λ l. is_port l.to port) e.shape.links in
     let size : plan.quantum * channels_at plan c port ≡ q = ap (λ n. plan.quantum * n) (channels_are plan e s c port h) ∙ sym is_q in
     let rows : All (λ l. brought plan out c l ≡ map (λ r. wave_at waves (c * q + r) l.from.node) (range_with_len 0 q)) feeds =
-        λ k d lt. brought_row plan e s waves c port (get_or feeds k d) h (feeds_all plan e s port k d lt) q is_q in
+    λ k d lt. brought_row plan e s waves c port (get_or feeds k d) h (feeds_all plan e s port k d lt) q is_q in
     ap₂ (λ n ls. map clamped (fold summed (silence n) (map (λ l. brought plan out c l) ls))) size (links_are plan e s c port h)
     ∙ ap (λ t. map clamped (fold summed t (map (λ l. brought plan out c l) feeds))) (silence_is 0 q)
     ∙ ap (λ t. map clamped t) (fold_summed (λ l. brought plan out c l) (λ l r. wave_at waves (c * q + r) l.from.node) (λ j. pos 0) (range_with_len 0 q) feeds rows)
@@ -186,7 +186,7 @@ input_row plan e s waves c port h q is_q =
 -- what a port has got up to a cycle
 pub stream_row : (plan : Plan) (e : Epoch) → IsSingle plan e → (waves : List WavIn) (c : ℕ) (port : PortId) → c < e.shape.cycles → takes_part e port.node ≡ true
     → stream_of plan (outputs plan waves) c port
-        ≡ map (mixed_at waves (filter (λ l. is_port l.to port) e.shape.links)) (range_with_len 0 ((c + 1) * (plan.quantum * channels_of e.forms port)))
+    ≡ map (mixed_at waves (filter (λ l. is_port l.to port) e.shape.links)) (range_with_len 0 ((c + 1) * (plan.quantum * channels_of e.forms port)))
 stream_row plan e s waves c port h t =
     let out = outputs plan waves in
     let q = plan.quantum * channels_of e.forms port in

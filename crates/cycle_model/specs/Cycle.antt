@@ -1,6 +1,6 @@
 -- The cycle function: what each port receives and gives in each cycle, by whole streams.
 -- Source: PipeWire's documentation, "Graph Scheduling": a node runs after those it depends on; the kinds are this project's.
-use Rattle.std.specs.Prelude.{ℕ, zero, suc, ◌+◌, ◌-◌, ◌*◌, ◌==◌, Bool, true, false, List, [], Option, Some, None, option_map, unwrap_or, map, fold, find, flat_map, length, drop, ℤ, slice_get, if◌then◌else◌}
+use Rattle.std.specs.Prelude.{ℕ, zero, suc, ◌+◌, ◌-◌, ◌*◌, ◌==◌, List, [], option_map, unwrap_or, map, fold, find, flat_map, length, drop, ℤ, slice_get, if◌then◌else◌}
 use Rattle.pw_base.specs.declared.ids.PortId.{PortId}
 use Rattle.pw_base.specs.declared.kind.Kind.{Kind}
 use Rattle.pw_base.specs.declared.kind.Kind.TheVariants.{Dummy}

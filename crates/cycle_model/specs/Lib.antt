@@ -1,5 +1,6 @@
 pub mod Cycle
 pub mod Epochs
+pub mod FirstPath
 pub mod Mixing
 pub mod Renderable
 pub mod Rendering

@@ -1,5 +1,5 @@
 -- Mixing by the sample: what waves have at one place, added and then clamped once. Samples past the end of a wave are silence.
-use Rattle.std.specs.Prelude.{ℕ, ◌*◌, List, [], map, fold, filter, find, ℤ, pos, ◌+ℤ◌, slice_get, slice_index_or, option_map, unwrap_or, ◌==◌, Bool, if◌then◌else◌}
+use Rattle.std.specs.Prelude.{ℕ, ◌*◌, List, [], map, fold, filter, ℤ, pos, ◌+ℤ◌, slice_get, slice_index_or, option_map, unwrap_or, ◌==◌, Bool, if◌then◌else◌}
 use Rattle.std.specs.List.{list_any, range_with_len, position_or_len}
 use Rattle.pw_base.specs.declared.ids.PortId.{PortId}
 use Rattle.pw_base.specs.declared.shape.ShapeLink.{ShapeLink}

@@ -1,7 +1,6 @@
 -- Rendered waves and peaks: what the sinks and meters of a plan have after its last cycle.
-use Rattle.std.specs.Prelude.{ℕ, ◌-◌, ◌<◌, ◌==◌, ◌&&◌, Bool, true, false, List, [], Option, Some, None, filter_map, nat_lt, ℤ, if◌then◌else◌}
+use Rattle.std.specs.Prelude.{ℕ, ◌-◌, ◌==◌, ◌&&◌, Bool, true, false, List, [], Option, Some, None, filter_map, nat_lt, ℤ, if◌then◌else◌}
 use Rattle.std.specs.List.{enumerate_from}
-use Rattle.pw_base.specs.declared.ids.PortId.{PortId}
 use Rattle.pw_base.specs.declared.kind.Kind.{Kind}
 use Rattle.pw_base.specs.declared.kind.Kind.TheVariants.{Sink, Meter}
 use Rattle.pw_base.specs.declared.plan.Plan.{Plan}

@@ -1,7 +1,6 @@
 -- The waves that a plan is rendered from: one for each of its sources and no other, each in the form of its source's port.
 use Rattle.std.specs.Prelude.{◌≡◌, ℕ, ◌==◌, List, All, count_by}
 use Rattle.pw_base.specs.declared.kind.Kind.TheVariants.{Source}
-use Rattle.pw_base.specs.declared.plan.Epoch.{Epoch}
 use Rattle.pw_base.specs.declared.plan.PortForm.{PortForm}
 use Rattle.pw_base.specs.declared.plan.Plan.{Plan}
 use Rattle.wav_files.specs.declared.wav.WavIn.{WavIn}
