@@ -1,4 +1,5 @@
 pub mod EndingLemmas
+pub mod FirstPlanLemmas
 pub mod HeadlineLemmas
 pub mod PieceLemmas
 pub mod StatusLineLemmas
