@@ -33,10 +33,10 @@ made names quantum cycles sink form waves = record {
 }
 
 -- the wave of node 0
-abbrev the_wave : Wav → WavIn
+abbrev pub the_wave : Wav → WavIn
 the_wave wav = record { node = 0; wav = wav }
 
-abbrev wave_form : Wav → Form
+abbrev pub wave_form : Wav → Form
 wave_form wav = record { rate = wav.rate; channels = wav.channels }
 
 all_two : {X : Type 0} (P : X → Type 0) (x y : X) → P x → P y → All P (x ∷ y ∷ [])
@@ -219,28 +219,29 @@ module _ (names : List (List ℕ)) (quantum cycles : ℕ) where
   kinds_of (Some sink) form [] = all_one (λ (n : PlanNode). IsSourceOrSink n.kind) (sink_node names 0 form) tt
   kinds_of (Some sink) form (w ∷ ws) = all_two (λ (n : PlanNode). IsSourceOrSink n.kind) (source_node names) (sink_node names 1 form) tt tt
 
-same_wave : (w : WavIn) → w.node ≡ 0 → the_wave w.wav ≡ w
+pub same_wave : (w : WavIn) → w.node ≡ 0 → the_wave w.wav ≡ w
 same_wave w e = ap (λ n. let x : WavIn = record { node = n; wav = w.wav } in x) (sym e)
 
-renders : (names : List (List ℕ)) (quantum cycles : ℕ) (sink link : Option Line) (waves : List WavIn) → AreFirstWaves waves
+pub made_renders : (names : List (List ℕ)) (quantum cycles : ℕ) (sink link : Option Line) (waves : List WavIn) → AreFirstWaves waves
     → IsRenderable (made names quantum cycles sink (form_of sink link waves) waves) waves
-renders names quantum cycles sink link [] h = renders_none names quantum cycles sink link
-renders names quantum cycles sink link (w ∷ []) h =
+made_renders names quantum cycles sink link [] h = renders_none names quantum cycles sink link
+made_renders names quantum cycles sink link (w ∷ []) h =
     subst (λ x. IsRenderable (made names quantum cycles sink (form_of sink link (x ∷ [])) (x ∷ [])) (x ∷ [])) (same_wave w h.0)
     (renders_one names quantum cycles sink link w.wav)
-renders names quantum cycles sink link (w ∷ x ∷ more) h = absurd h
+made_renders names quantum cycles sink link (w ∷ x ∷ more) h = absurd h
+
+pub made_covered : (names : List (List ℕ)) (quantum cycles : ℕ) (sink link : Option Line) (waves : List WavIn)
+    → IsCovered (made names quantum cycles sink (form_of sink link waves) waves)
+made_covered names quantum cycles sink link waves = record {
+  kinds = kinds_of names quantum cycles sink (form_of sink link waves) waves;
+  one = few_epochs quantum cycles (form_of sink link waves);
+  prompt = prompt_of names quantum cycles sink link waves;
+}
 
 pub plan_renders : (script : Script) (waves : List WavIn) → AreFirstWaves waves → IsRenderable (plan_of script waves) waves
 plan_renders script waves h =
-    renders script.names (quantum_of (quantum_line script.lines)) (cycles_of (cycles_line script.lines)) (sink_line script.lines) (link_line script.lines) waves h
+    made_renders script.names (quantum_of (quantum_line script.lines)) (cycles_of (cycles_line script.lines)) (sink_line script.lines) (link_line script.lines) waves h
 
 pub plan_covered : (script : Script) (waves : List WavIn) → IsCovered (plan_of script waves)
 plan_covered script waves =
-    let quantum = quantum_of (quantum_line script.lines) in
-    let cycles = cycles_of (cycles_line script.lines) in
-    let form = form_of (sink_line script.lines) (link_line script.lines) waves in
-    record {
-      kinds = kinds_of script.names quantum cycles (sink_line script.lines) form waves;
-      one = few_epochs quantum cycles form;
-      prompt = prompt_of script.names quantum cycles (sink_line script.lines) (link_line script.lines) waves;
-    }
+    made_covered script.names (quantum_of (quantum_line script.lines)) (cycles_of (cycles_line script.lines)) (sink_line script.lines) (link_line script.lines) waves

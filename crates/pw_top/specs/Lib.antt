@@ -4,6 +4,7 @@ pub mod Ending
 pub mod FirstEpoch
 pub mod FirstLines
 pub mod FirstPlan
+pub mod FirstStores
 pub mod Following
 pub mod Headline
 pub mod StatusLine
