@@ -3,7 +3,9 @@
 
 mod command;
 mod fault;
+mod lexing;
 mod lines;
+mod numbers;
 mod script;
 
 pub use command::Command;
