@@ -52,19 +52,23 @@ quantum_of words = do
   n ← number_of 1 8192 word
   saying (C.Quantum n)
 
-abbrev pub source_of : Reading → List (List ℕ) → Option Said
-source_of reading words = do
+-- a new node with a file: its number, its name and the file
+abbrev pub node_and_file : Reading → List (List ℕ) → Option (ℕ × List ℕ × List ℕ)
+node_and_file reading words = do
   args ← two_of words
   node ← new_node reading args.0
   file ← file_of args.1
-  making (C.Source node file) args.0 K.Source
+  Some (node, args.0, file)
+
+abbrev pub source_of : Reading → List (List ℕ) → Option Said
+source_of reading words = do
+  new ← node_and_file reading words
+  making (C.Source new.0 new.2) new.1 K.Source
 
 abbrev pub sink_of : Reading → List (List ℕ) → Option Said
 sink_of reading words = do
-  args ← two_of words
-  node ← new_node reading args.0
-  file ← file_of args.1
-  making (C.Sink node file) args.0 K.Sink
+  new ← node_and_file reading words
+  making (C.Sink new.0 new.2) new.1 K.Sink
 
 abbrev pub link_of : Reading → List (List ℕ) → Option Said
 link_of reading words = do

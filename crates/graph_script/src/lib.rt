@@ -1,10 +1,12 @@
 //! The script of a graph: its lines as commands, and the first line at fault.
 #![tactic(auto)]
 
+mod arguments;
 mod command;
 mod fault;
 mod lexing;
 mod lines;
+mod names;
 mod numbers;
 mod script;
 
