@@ -1,8 +1,9 @@
 -- Laws of `specs/Lexical.antt`: a piece or a word, cut off the front.
 use Rattle.std.proofs.Common.{◌≡◌, ℕ, suc, ◌+◌, ◌-◌, ◌<◌, ◌≤◌, Bool, true, false, List, [], ◌∷◌, length, take, drop, refl, sym, ap, ◌∙◌, arith, take_all}
-use Rattle.std.specs.Prelude.{filter, nat_lt}
+use Rattle.std.specs.Prelude.{filter, nat_lt, None}
 use Rattle.std.specs.List.{slice_split, position_or_len, prefix_len}
 use Rattle.std.proofs.lemmas.Bool.{lt-ltb}
+use Rattle.graph_script.specs.Arguments.{two_of}
 use Rattle.graph_script.specs.Lexical.{is_blank, words_of}
 
 one-more : (n : ℕ) → 1 + n ≡ suc n
@@ -69,3 +70,7 @@ cut_word line rest word after r w a some =
 
 pub cut_nothing : (line rest word : List ℕ) → rest ≡ drop (prefix_len is_blank line) line → word ≡ take (position_or_len is_blank rest) rest → length word ≡ 0 → words_of line ≡ []
 cut_nothing line rest word r w none = no_word line (ap (λ xs. length (take (position_or_len is_blank xs) xs)) (sym r) ∙ ap length (sym w) ∙ none)
+
+-- a list of pieces is never empty, so that three are no two
+pub more_than_two : (p : ℕ → Bool) (pieces last : List (List ℕ)) (a b rest : List ℕ) → pieces ≡ a ∷ last → last ≡ b ∷ slice_split p rest → two_of pieces ≡ None
+more_than_two p pieces last a b rest e f = rw e (rw f (rw (first_piece p rest) refl))

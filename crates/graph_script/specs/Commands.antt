@@ -6,8 +6,8 @@ use Rattle.pw_base.specs.declared.kind.Kind.TheVariants as K
 use Rattle.pw_base.specs.KindPorts.{input_names, output_names, input_count}
 use Rattle.graph_script.specs.declared.command.Command.{Command}
 use Rattle.graph_script.specs.declared.command.Command.TheVariants as C
-use Rattle.graph_script.specs.declared.lines.Said.{Said}
-use Rattle.graph_script.specs.declared.lines.Reading.{Reading}
+use Rattle.graph_script.specs.declared.reading.Said.{Said}
+use Rattle.graph_script.specs.declared.reading.Reading.{Reading}
 use Rattle.graph_script.specs.Arguments.{◌>>=◌, one_of, two_of, number_of, is_node_name, file_of, endpoint_parts}
 
 -- the number of the node of this name, and the kind of a node

@@ -7,8 +7,8 @@ use Rattle.graph_script.specs.declared.fault.ScriptFault.{ScriptFault}
 use Rattle.graph_script.specs.declared.fault.ScriptFault.TheVariants as F
 use Rattle.graph_script.specs.declared.script.Line.{Line}
 use Rattle.graph_script.specs.declared.script.Script.{Script}
-use Rattle.graph_script.specs.declared.lines.Said.{Said}
-use Rattle.graph_script.specs.declared.lines.Reading.{Reading}
+use Rattle.graph_script.specs.declared.reading.Said.{Said}
+use Rattle.graph_script.specs.declared.reading.Reading.{Reading}
 use Rattle.graph_script.specs.Lexical.{is_allowed, lines_of, words_of, say_nothing}
 use Rattle.graph_script.specs.Commands.{meaning_of_words}
 use Rattle.graph_script.specs.Stages.{comes_after}

@@ -5,9 +5,10 @@ mod arguments;
 mod command;
 mod fault;
 mod lexing;
-mod lines;
 mod names;
 mod numbers;
+mod ports;
+mod reading;
 mod script;
 
 pub use command::Command;

@@ -1,4 +1,4 @@
-//! What one line says, by the lines before it.
+//! What a line says, and what the lines so far have said.
 
 use crate::command::Command;
 use crate::script::Script;
