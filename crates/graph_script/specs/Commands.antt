@@ -83,13 +83,17 @@ cycles_of words = do
   n ← number_of 1 1000000 word
   saying (C.Cycles n)
 
--- the meaning of words, the first of which names the command
-unfoldable pub meaning_of_words : Reading → List (List ℕ) → Option Said
-meaning_of_words reading [] = None
-meaning_of_words reading (name ∷ words) =
+-- the meaning of a command's name with its arguments
+unfoldable pub meaning_of_command : Reading → List ℕ → List (List ℕ) → Option Said
+meaning_of_command reading name words =
     if bytes_eq name (codes "quantum") then quantum_of words
     else (if bytes_eq name (codes "source") then source_of reading words
     else (if bytes_eq name (codes "sink") then sink_of reading words
     else (if bytes_eq name (codes "link") then link_of reading words
     else (if bytes_eq name (codes "cycles") then cycles_of words
     else None))))
+
+-- the meaning of words, the first of which names the command
+abbrev pub meaning_of_words : Reading → List (List ℕ) → Option Said
+meaning_of_words reading [] = None
+meaning_of_words reading (name ∷ words) = meaning_of_command reading name words

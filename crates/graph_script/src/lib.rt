@@ -5,10 +5,12 @@ mod arguments;
 mod command;
 mod fault;
 mod lexing;
+mod lines;
 mod names;
 mod numbers;
 mod ports;
 mod reading;
+mod saying;
 mod script;
 
 pub use command::Command;
