@@ -8,6 +8,7 @@ mod lexing;
 mod lines;
 mod names;
 mod numbers;
+mod parsing;
 mod ports;
 mod reading;
 mod saying;
@@ -15,4 +16,5 @@ mod script;
 
 pub use command::Command;
 pub use fault::{ScriptFault, ScriptWhy};
+pub use parsing::parse;
 pub use script::{Line, Script};
