@@ -1,0 +1,4 @@
+pub mod ArgumentLemmas
+pub mod GrammarLemmas
+pub mod LexicalLemmas
+pub mod RangeLemmas

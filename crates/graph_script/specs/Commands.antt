@@ -6,8 +6,8 @@ use Rattle.pw_base.specs.declared.kind.Kind.TheVariants as K
 use Rattle.pw_base.specs.KindPorts.{input_names, output_names, input_count}
 use Rattle.graph_script.specs.declared.command.Command.{Command}
 use Rattle.graph_script.specs.declared.command.Command.TheVariants as C
-use Rattle.graph_script.specs.declared.lines.Said.{Said}
-use Rattle.graph_script.specs.declared.lines.Reading.{Reading}
+use Rattle.graph_script.specs.declared.reading.Said.{Said}
+use Rattle.graph_script.specs.declared.reading.Reading.{Reading}
 use Rattle.graph_script.specs.Arguments.{◌>>=◌, one_of, two_of, number_of, is_node_name, file_of, endpoint_parts}
 
 -- the number of the node of this name, and the kind of a node
@@ -52,19 +52,23 @@ quantum_of words = do
   n ← number_of 1 8192 word
   saying (C.Quantum n)
 
-abbrev pub source_of : Reading → List (List ℕ) → Option Said
-source_of reading words = do
+-- a new node with a file: its number, its name and the file
+abbrev pub node_and_file : Reading → List (List ℕ) → Option (ℕ × List ℕ × List ℕ)
+node_and_file reading words = do
   args ← two_of words
   node ← new_node reading args.0
   file ← file_of args.1
-  making (C.Source node file) args.0 K.Source
+  Some (node, args.0, file)
+
+abbrev pub source_of : Reading → List (List ℕ) → Option Said
+source_of reading words = do
+  new ← node_and_file reading words
+  making (C.Source new.0 new.2) new.1 K.Source
 
 abbrev pub sink_of : Reading → List (List ℕ) → Option Said
 sink_of reading words = do
-  args ← two_of words
-  node ← new_node reading args.0
-  file ← file_of args.1
-  making (C.Sink node file) args.0 K.Sink
+  new ← node_and_file reading words
+  making (C.Sink new.0 new.2) new.1 K.Sink
 
 abbrev pub link_of : Reading → List (List ℕ) → Option Said
 link_of reading words = do
@@ -79,13 +83,17 @@ cycles_of words = do
   n ← number_of 1 1000000 word
   saying (C.Cycles n)
 
--- the meaning of words, the first of which names the command
-unfoldable pub meaning_of_words : Reading → List (List ℕ) → Option Said
-meaning_of_words reading [] = None
-meaning_of_words reading (name ∷ words) =
+-- the meaning of a command's name with its arguments
+unfoldable pub meaning_of_command : Reading → List ℕ → List (List ℕ) → Option Said
+meaning_of_command reading name words =
     if bytes_eq name (codes "quantum") then quantum_of words
     else (if bytes_eq name (codes "source") then source_of reading words
     else (if bytes_eq name (codes "sink") then sink_of reading words
     else (if bytes_eq name (codes "link") then link_of reading words
     else (if bytes_eq name (codes "cycles") then cycles_of words
     else None))))
+
+-- the meaning of words, the first of which names the command
+abbrev pub meaning_of_words : Reading → List (List ℕ) → Option Said
+meaning_of_words reading [] = None
+meaning_of_words reading (name ∷ words) = meaning_of_command reading name words

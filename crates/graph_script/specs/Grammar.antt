@@ -7,8 +7,8 @@ use Rattle.graph_script.specs.declared.fault.ScriptFault.{ScriptFault}
 use Rattle.graph_script.specs.declared.fault.ScriptFault.TheVariants as F
 use Rattle.graph_script.specs.declared.script.Line.{Line}
 use Rattle.graph_script.specs.declared.script.Script.{Script}
-use Rattle.graph_script.specs.declared.lines.Said.{Said}
-use Rattle.graph_script.specs.declared.lines.Reading.{Reading}
+use Rattle.graph_script.specs.declared.reading.Said.{Said}
+use Rattle.graph_script.specs.declared.reading.Reading.{Reading}
 use Rattle.graph_script.specs.Lexical.{is_allowed, lines_of, words_of, say_nothing}
 use Rattle.graph_script.specs.Commands.{meaning_of_words}
 use Rattle.graph_script.specs.Stages.{comes_after}
@@ -36,16 +36,21 @@ reading_after number reading (Some said) = record {
   kinds = reading.kinds ++ option_to_list (option_map (λ m. m.kind) said.made);
 }
 
--- a line's fault carries its number; where there is none, the reading goes on
-abbrev pub at_line : ℕ → Result (Option Said) ScriptWhy → (Option Said → Result Script ScriptFault) → Result Script ScriptFault
-at_line number (Ok said) go_on = go_on said
-at_line number (Err why) go_on = Err (F.At number why)
+-- the same, with the line's fault at its number
+abbrev pub reading_with : ℕ → Reading → Result (Option Said) ScriptWhy → Result Reading ScriptFault
+reading_with number reading (Ok said) = Ok (reading_after number reading said)
+reading_with number reading (Err why) = Err (F.At number why)
+
+-- what comes after lines that were read; a fault stays
+abbrev pub and_then : Result Reading ScriptFault → (Reading → Result Script ScriptFault) → Result Script ScriptFault
+and_then (Ok reading) next = next reading
+and_then (Err fault) next = Err fault
 
 -- lines, numbered from this number on, after what those before them have said
 unfoldable pub script_from : ℕ → Reading → List (List ℕ) → Result Script ScriptFault
 script_from number reading [] = Ok reading.script
 script_from number reading (line ∷ lines) =
-    at_line number (meaning_of_line reading line) (λ said. script_from (number + 1) (reading_after number reading said) lines)
+    and_then (reading_with number reading (meaning_of_line reading line)) (λ next. script_from (number + 1) next lines)
 
 abbrev pub start : Reading
 start = record { script = record { lines = []; names = [] }; kinds = [] }
@@ -54,7 +59,7 @@ start = record { script = record { lines = []; names = [] }; kinds = [] }
 abbrev pub script_of : List ℕ → Result Script ScriptFault
 script_of bytes = script_from 1 start (lines_of bytes)
 
--- what `parse` answers is what the bytes are; want of memory is free
-abbrev pub IsParsed : Result Script ScriptFault → Result Script ScriptFault → Type 0
-IsParsed meaning (Err F.Memory) = Unit {0}
-IsParsed meaning result = meaning ≡ result
+-- a result is what is meant; want of memory is free
+abbrev pub IsRead : {T : Type 0} → Result T ScriptFault → Result T ScriptFault → Type 0
+IsRead meaning (Err F.Memory) = Unit {0}
+IsRead meaning result = meaning ≡ result

@@ -1,0 +1,76 @@
+-- Laws of `specs/Lexical.antt`: a piece or a word, cut off the front.
+use Rattle.std.proofs.Common.{◌≡◌, ℕ, suc, ◌+◌, ◌-◌, ◌<◌, ◌≤◌, Bool, true, false, List, [], ◌∷◌, length, take, drop, refl, sym, ap, ◌∙◌, arith, take_all}
+use Rattle.std.specs.Prelude.{filter, nat_lt, None}
+use Rattle.std.specs.List.{slice_split, position_or_len, prefix_len}
+use Rattle.std.proofs.lemmas.Bool.{lt-ltb}
+use Rattle.graph_script.specs.Arguments.{two_of}
+use Rattle.graph_script.specs.Lexical.{is_blank, words_of}
+
+one-more : (n : ℕ) → 1 + n ≡ suc n
+one-more n = omega arith
+
+-- the pieces after the first, which ends where this begins
+abbrev pub pieces_after : (ℕ → Bool) → List ℕ → List (List ℕ)
+pieces_after p [] = []
+pieces_after p (x ∷ xs) = slice_split p xs
+
+-- the first piece stands before the first byte that parts
+pub first_piece : (p : ℕ → Bool) (xs : List ℕ) → slice_split p xs ≡ take (position_or_len p xs) xs ∷ pieces_after p (drop (position_or_len p xs) xs)
+first_piece p [] = refl
+first_piece p (x ∷ xs) = at_front (p x) refl (first_piece p xs)
+  where
+    at_front : (b : Bool) → p x ≡ b → slice_split p xs ≡ take (position_or_len p xs) xs ∷ pieces_after p (drop (position_or_len p xs) xs)
+        → slice_split p (x ∷ xs) ≡ take (position_or_len p (x ∷ xs)) (x ∷ xs) ∷ pieces_after p (drop (position_or_len p (x ∷ xs)) (x ∷ xs))
+    at_front true e more = simp e refl
+    at_front false e more = simp e (simp one-more (simp more refl))
+
+-- blanks at the front are in no word
+pub words_past_gap : (xs : List ℕ) → words_of (drop (prefix_len is_blank xs) xs) ≡ words_of xs
+words_past_gap [] = refl
+words_past_gap (x ∷ xs) = at_front (is_blank x) refl (words_past_gap xs)
+  where
+    at_front : (b : Bool) → is_blank x ≡ b → words_of (drop (prefix_len is_blank xs) xs) ≡ words_of xs → words_of (drop (prefix_len is_blank (x ∷ xs)) (x ∷ xs)) ≡ words_of (x ∷ xs)
+    at_front true e more = simp e (simp one-more more)
+    at_front false e more = simp e refl
+
+-- the rest of a line begins with the blank that ended its first word, or is empty
+words_after : (xs : List ℕ) → filter (λ word. nat_lt 0 (length word)) (pieces_after is_blank (drop (position_or_len is_blank xs) xs)) ≡ words_of (drop (position_or_len is_blank xs) xs)
+words_after [] = refl
+words_after (x ∷ xs) = at_front (is_blank x) refl (words_after xs)
+  where
+    at_front : (b : Bool) → is_blank x ≡ b → filter (λ word. nat_lt 0 (length word)) (pieces_after is_blank (drop (position_or_len is_blank xs) xs)) ≡ words_of (drop (position_or_len is_blank xs) xs)
+        → filter (λ word. nat_lt 0 (length word)) (pieces_after is_blank (drop (position_or_len is_blank (x ∷ xs)) (x ∷ xs))) ≡ words_of (drop (position_or_len is_blank (x ∷ xs)) (x ∷ xs))
+    at_front true e more = simp e refl
+    at_front false e more = simp e (simp one-more more)
+
+-- the first word, where a line begins with one
+pub first_word : (xs : List ℕ) → 0 < length (take (position_or_len is_blank xs) xs) → words_of xs ≡ take (position_or_len is_blank xs) xs ∷ words_of (drop (position_or_len is_blank xs) xs)
+first_word xs some = let long : nat_lt 0 (length (take (position_or_len is_blank xs) xs)) ≡ true = lt-ltb 0 _ some in rw (first_piece is_blank xs) (rw long (rw (words_after xs) refl))
+
+-- after the gap there is no word: the line has none
+pub no_word : (xs : List ℕ) → length (take (position_or_len is_blank (drop (prefix_len is_blank xs) xs)) (drop (prefix_len is_blank xs) xs)) ≡ 0 → words_of xs ≡ []
+no_word [] none = refl
+no_word (x ∷ xs) none = at_front (is_blank x) refl none (no_word xs)
+  where
+    at_front : (b : Bool) → is_blank x ≡ b → length (take (position_or_len is_blank (drop (prefix_len is_blank (x ∷ xs)) (x ∷ xs))) (drop (prefix_len is_blank (x ∷ xs)) (x ∷ xs))) ≡ 0
+        → (length (take (position_or_len is_blank (drop (prefix_len is_blank xs) xs)) (drop (prefix_len is_blank xs) xs)) ≡ 0 → words_of xs ≡ []) → words_of (x ∷ xs) ≡ []
+    at_front true e none more = let n = simp e at none in let m = simp one-more at n in simp e (more m)
+    at_front false e none more = let n = simp e at none in let m = simp one-more at n in cc
+
+-- the same for a list that is cut in steps
+pub pieces_after_cut : (p : ℕ → Bool) (xs : List ℕ) → 1 ≤ length xs → pieces_after p xs ≡ slice_split p (take (length xs - 1) (drop 1 xs))
+pieces_after_cut p [] some = absurd (omega (arith, some))
+pieces_after_cut p (x ∷ xs) some = let n : length (x ∷ xs) - 1 ≡ length xs = omega arith in rw n (rw (take_all (length xs) xs (omega arith)) refl)
+
+pub cut_word : (line rest word after : List ℕ) → rest ≡ drop (prefix_len is_blank line) line → word ≡ take (position_or_len is_blank rest) rest → after ≡ drop (position_or_len is_blank rest) rest
+    → 0 < length word → words_of line ≡ word ∷ words_of after
+cut_word line rest word after r w a some =
+    let cut = first_word rest (omega (arith, some, ap length w)) in
+    sym (words_past_gap line) ∙ ap words_of (sym r) ∙ cut ∙ (λ i. sym w i ∷ words_of (sym a i))
+
+pub cut_nothing : (line rest word : List ℕ) → rest ≡ drop (prefix_len is_blank line) line → word ≡ take (position_or_len is_blank rest) rest → length word ≡ 0 → words_of line ≡ []
+cut_nothing line rest word r w none = no_word line (ap (λ xs. length (take (position_or_len is_blank xs) xs)) (sym r) ∙ ap length (sym w) ∙ none)
+
+-- a list of pieces is never empty, so that three are no two
+pub more_than_two : (p : ℕ → Bool) (pieces last : List (List ℕ)) (a b rest : List ℕ) → pieces ≡ a ∷ last → last ≡ b ∷ slice_split p rest → two_of pieces ≡ None
+more_than_two p pieces last a b rest e f = rw e (rw f (rw (first_piece p rest) refl))

@@ -1,0 +1,60 @@
+//! Names of nodes, and file words.
+ghost use Rattle.std.specs.Prelude.{◌≡◌, ◌<◌, ◌≤◌, length, IfSome, position, bytes_eq};
+ghost use Rattle.std.specs.List.{list_all};
+ghost use Rattle.graph_script.specs.Arguments.{is_letter, is_name_byte, is_node_name, is_file_word};
+
+use crate::numbers::is_digit;
+use pw_base::Text;
+
+fn is_letter(b: u8) -> bool
+    ensures { result ≡ is_letter b }
+{
+    matches!(b, b'a'..=b'z')
+}
+
+fn is_name_byte(b: u8) -> bool
+    ensures { result ≡ is_name_byte b }
+{
+    is_letter(b) || is_digit(b) || b == b'_'
+}
+
+fn all_name_bytes(word: &[u8]) -> bool
+    ensures { result ≡ list_all is_name_byte word.now }
+{
+    word.iter().all(|b| is_name_byte(*b))
+}
+
+/// Whether the word has the form of a node's name.
+pub(crate) fn is_node_name(word: &[u8]) -> bool
+    ensures { result ≡ is_node_name word.now }
+{
+    match word {
+        [] => false,
+        [first, rest @ ..] => is_letter(*first) && rest.len() <= 30 && all_name_bytes(rest),
+    }
+}
+
+/// Whether the word may name a file.
+pub(crate) fn is_file_word(word: &[u8]) -> bool
+    ensures { result ≡ is_file_word word.now }
+{
+    1 <= word.len() && word.len() <= 255
+}
+
+fn index_of(names: &[Text], name: &[u8]) -> Option<usize>
+    ensures value { result ≡ position (bytes_eq name.now) names.now }
+    ensures within { IfSome result (λ place. place < length names.now) }
+{
+    names.iter().position(|other| name == other.as_slice())
+}
+
+/// The place of a name among others.
+pub(crate) fn place_of(names: &[Text], name: &[u8]) -> Option<u32>
+    requires { length names.now ≤ 63 }
+    ensures { result ≡ position (bytes_eq name.now) names.now }
+{
+    match index_of(names, name) {
+        None => None,
+        Some(place) => Some(place as u32),
+    }
+}

@@ -1,0 +1,26 @@
+//! What a line says, and what the lines so far have said.
+
+use crate::command::Command;
+use crate::script::Script;
+use pw_base::{Items, Kind, Text};
+
+/// A node that a line makes.
+#[derive(Debug, Drop)]
+pub(crate) struct Made {
+    pub name: Text,
+    pub kind: Kind,
+}
+
+/// What a line says: a command, and the node that it makes, if it makes one.
+#[derive(Debug, Drop)]
+pub(crate) struct Said {
+    pub command: Command,
+    pub made: Option<Made>,
+}
+
+/// What the lines so far have said: their script, and the kinds of its nodes, by number.
+#[derive(Debug, Drop)]
+pub(crate) struct Reading {
+    pub script: Script,
+    pub kinds: Items<Kind>,
+}
