@@ -3,3 +3,4 @@ pub mod SingleEpochLemmas
 pub mod EndLemmas
 pub mod OutcomeLemmas
 pub mod FirstPathLemmas
+pub mod WorkedRows
