@@ -4,3 +4,4 @@ pub mod EndLemmas
 pub mod OutcomeLemmas
 pub mod FirstPathLemmas
 pub mod WorkedRows
+pub mod TestPlansLemmas
