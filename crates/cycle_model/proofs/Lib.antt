@@ -3,3 +3,5 @@ pub mod SingleEpochLemmas
 pub mod EndLemmas
 pub mod OutcomeLemmas
 pub mod FirstPathLemmas
+pub mod WorkedRows
+pub mod TestPlansLemmas

@@ -4,4 +4,5 @@ pub mod FirstPath
 pub mod Mixing
 pub mod Renderable
 pub mod Rendering
+pub mod TestPlans
 pub mod WavesFit

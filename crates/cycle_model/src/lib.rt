@@ -7,3 +7,6 @@ mod mixing;
 mod reference;
 
 pub use reference::render;
+
+#[cfg(test)]
+mod tests;
