@@ -1,0 +1,80 @@
+//! The lines of a history.
+ghost use Rattle.std.specs.Prelude.{◌≡◌, ℕ, ◌∷◌, ◌++◌, ◌<◌, ◌%◌, ◌/◌, ◌^◌, map, flat_map, All, codes, decimal, OnOk};
+ghost use Rattle.cycle_trace.specs.Printable.{IsNode, NamesNodes};
+ghost use Rattle.cycle_trace.specs.RunText.{event_line, members, node_name};
+ghost use Rattle.cycle_trace.specs.Words.{spaced};
+
+use crate::words::{append_number, append_word, end_line};
+use pw_base::{DUMMY, Event, Memory, PlanNode, Text};
+
+/// The name of a node.
+fn name_of(nodes: &[PlanNode], node: u32) -> &[u8]
+    requires { IsNode nodes.now node }
+    ensures { result.now ≡ node_name nodes.now node }
+{
+    if node == DUMMY {
+        b"dummy".as_slice()
+    } else {
+        nodes[node as usize].name.as_slice()
+    }
+}
+
+/// Appends the first word of a line and its cycle.
+fn append_mark(word: &[u8], cycle: u32, text: &mut Text) -> Result<(), Memory>
+    ensures { OnOk result (text.new ≡ text.old ++ (word.now ++ 32 ∷ decimal cycle)) }
+{
+    text.extend(word)?;
+    append_number(text, u64::from(cycle))
+}
+
+/// Appends the names of a set of nodes, ascending by number.
+fn append_members(nodes: &[PlanNode], late: u64, text: &mut Text) -> Result<(), Memory>
+    requires { (n : ℕ) → n < 64 → late / 2 ^ n % 2 ≡ 1 → IsNode nodes.now n }
+    ensures { OnOk result (text.new ≡ text.old ++ spaced (map (node_name nodes.now) (members late))) }
+{
+    for n in 0..64u32 {
+        if (late >> n) % 2 == 1 {
+            append_word(text, name_of(nodes, n))?;
+        }
+    }
+    Ok(())
+}
+
+/// Appends one line.
+fn append_event_line(nodes: &[PlanNode], event: Event, text: &mut Text) -> Result<(), Memory>
+    requires { NamesNodes nodes.now event }
+    ensures { OnOk result (text.new ≡ text.old ++ event_line nodes.now event) }
+{
+    match event {
+        Event::Begin { cycle } => append_mark(b"begin".as_slice(), cycle, text)?,
+        Event::Start { cycle, node } => {
+            append_mark(b"start".as_slice(), cycle, text)?;
+            append_word(text, name_of(nodes, node))?;
+        }
+        Event::Finish { cycle, node } => {
+            append_mark(b"finish".as_slice(), cycle, text)?;
+            append_word(text, name_of(nodes, node))?;
+        }
+        Event::Tick { cycle, late } => {
+            append_mark(b"tick".as_slice(), cycle, text)?;
+            append_members(nodes, late, text)?;
+        }
+        Event::End { cycle } => append_mark(b"end".as_slice(), cycle, text)?,
+    }
+    end_line(text)
+}
+
+/// Appends a line for each.
+pub(crate) fn append_event_lines(
+    nodes: &[PlanNode],
+    events: &[Event],
+    text: &mut Text,
+) -> Result<(), Memory>
+    requires { All (NamesNodes nodes.now) events.now }
+    ensures { OnOk result (text.new ≡ text.old ++ flat_map (event_line nodes.now) events.now) }
+{
+    for event in events {
+        append_event_line(nodes, *event, text)?;
+    }
+    Ok(())
+}

@@ -1,0 +1,35 @@
+//! The whole text of a run.
+ghost use Rattle.std.specs.Prelude.{◌≡◌, ℕ, IfOk, option_copied};
+ghost use Rattle.cycle_trace.specs.Printable.{IsPrintable};
+ghost use Rattle.cycle_trace.specs.RunText.{run_text_of};
+
+use crate::event_lines::append_event_lines;
+use crate::link_lines::append_link_lines;
+use crate::result_lines::append_result_lines;
+use pw_base::{Event, Items, Memory, Plan, Text};
+use std::alloc::Global;
+use wav_files::Outcome;
+
+/// The text of a run: a line for each `link` and `unlink`, in the order of the script; a line for each event
+/// of a history, where one is handed in; and a line for each sink and meter, ascending by number.
+///
+/// The ports of the plan's lines are there, and so are the nodes of the events, where 63 is the built-in driver.
+/// A sink with a rate that has kept no wave counts as one of 0 frames.
+pub fn run_text(
+    alloc: Global,
+    plan: &Plan,
+    history: Option<&Items<Event>>,
+    outcome: &Outcome,
+) -> Result<Text, Memory>
+    requires { IsPrintable plan.now (option_copied history) }
+    ensures { IfOk result (λ text. text ≡ run_text_of plan.now (option_copied history.entry) outcome.now) }
+{
+    let nodes = plan.nodes.as_slice();
+    let mut text = Items::new(alloc);
+    append_link_lines(nodes, plan.lines.as_slice(), &mut text)?;
+    if let Some(events) = history {
+        append_event_lines(nodes, events.as_slice(), &mut text)?;
+    }
+    append_result_lines(nodes, outcome, &mut text)?;
+    Ok(text)
+}
