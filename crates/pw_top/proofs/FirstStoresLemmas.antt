@@ -12,7 +12,6 @@ use Rattle.wav_files.specs.declared.outcome.Kept.{Kept}
 use Rattle.wav_files.specs.WavWriting.{IsWave}
 use Rattle.graph_script.specs.declared.script.Line.{Line}
 use Rattle.graph_script.specs.declared.script.Script.{Script}
-use Rattle.graph_script.specs.Ranges.{HasRanges}
 use Rattle.cycle_model.specs.Mixing.{epoch_row}
 use Rattle.cycle_model.specs.Rendering.{rendered_sinks, end_stream}
 use Rattle.cycle_model.proofs.EndLemmas.{end_single, end_none}
@@ -20,7 +19,7 @@ use Rattle.pw_top.specs.declared.work.Store.{Store}
 use Rattle.pw_top.specs.Ending.{IsStorable}
 use Rattle.pw_top.specs.FirstLines.{is_sink, sink_line, link_line, cycles_line, quantum_line, quantum_of, cycles_of}
 use Rattle.pw_top.specs.FirstPlan.{form_of, channels_in, shape_nodes, shape_links, port_forms, fresh_nodes}
-use Rattle.pw_top.specs.FirstEpoch.{plan_of, sink_samples, epochs_of, AreFirstWaves}
+use Rattle.pw_top.specs.FirstEpoch.{plan_of, sink_samples, epochs_of, AreFirstWaves, AreNumbered}
 use Rattle.pw_top.specs.FirstStores.{store_of, first_stores}
 use Rattle.pw_top.proofs.FirstPlanLemmas.{made, the_wave, wave_form, made_renders, made_covered}
 
@@ -97,8 +96,8 @@ all_storable names quantum cycles (Some sink) (Some link) (w ∷ []) first place
     storable names quantum sink link w first cycles (placed sink refl) small
 all_storable names quantum cycles (Some sink) link (w ∷ x ∷ more) first placed small = absurd first
 
-pub stores_deliverable : (script : Script) (waves : List WavIn) → HasRanges script → AreFirstWaves waves → sink_samples script waves ≤ 134217728
+pub stores_deliverable : (script : Script) (waves : List WavIn) → AreNumbered script → AreFirstWaves waves → sink_samples script waves ≤ 134217728
     → All IsStorable (first_stores script waves)
-stores_deliverable script waves ranges first small =
+stores_deliverable script waves numbered first small =
     all_storable script.names (quantum_of (quantum_line script.lines)) (cycles_of (cycles_line script.lines)) (sink_line script.lines) (link_line script.lines) waves first
-    (λ l e. found (λ x. 1 ≤ x.line) (λ x. is_sink x.command) script.lines l ranges.numbered e) small
+    (λ l e. found (λ x. 1 ≤ x.line) (λ x. is_sink x.command) script.lines l numbered e) small

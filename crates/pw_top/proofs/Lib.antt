@@ -1,7 +1,10 @@
+pub mod CommandLineLemmas
 pub mod EndingLemmas
 pub mod FirstPlanLemmas
 pub mod FirstStoresLemmas
+pub mod FirstTextLemmas
 pub mod HeadlineLemmas
 pub mod PieceLemmas
+pub mod RunLemmas
 pub mod StatusLineLemmas
 pub mod StoppingLemmas

@@ -1,5 +1,5 @@
 -- The plan of a script of the first path, put together: its epoch, its link line and its nodes.
-use Rattle.std.specs.Prelude.{◌≡◌, ℕ, zero, suc, ◌*◌, List, [], ◌∷◌, ◌++◌, length, Option, Some, None}
+use Rattle.std.specs.Prelude.{◌≡◌, ℕ, zero, suc, ◌*◌, List, [], ◌∷◌, ◌++◌, length, Option, Some, None, All, ◌≤◌}
 use Rattle.pw_base.specs.declared.plan.Epoch.{Epoch}
 use Rattle.pw_base.specs.declared.plan.LinkLine.{LinkLine}
 use Rattle.pw_base.specs.declared.plan.LineOutcome.TheVariants.{Linked}
@@ -43,6 +43,10 @@ plan_of script waves = record {
 abbrev pub sink_samples : Script → List WavIn → ℕ
 sink_samples script waves =
     cycles_of (cycles_line script.lines) * (quantum_of (quantum_line script.lines) * channels_in (script_form script waves))
+
+-- lines are numbered from 1, so that no place of a line is that of the text
+abbrev pub AreNumbered : Script → Type 0
+AreNumbered script = All (λ l. 1 ≤ l.line) script.lines
 
 -- at most one wave, that of node 0
 abbrev pub AreFirstWaves : List WavIn → Type 0

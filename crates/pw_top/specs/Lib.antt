@@ -1,4 +1,5 @@
 pub mod Answer
+pub mod CommandLine
 pub mod Delivery
 pub mod Ending
 pub mod FirstEpoch
@@ -7,5 +8,6 @@ pub mod FirstPlan
 pub mod FirstStores
 pub mod Following
 pub mod Headline
+pub mod Run
 pub mod StatusLine
 pub mod Usage

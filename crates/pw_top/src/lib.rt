@@ -5,11 +5,14 @@ mod commands;
 mod delivering;
 mod first_lines;
 mod first_plan;
+mod first_run;
 mod loading;
 mod preparing;
 mod status;
 mod status_line;
+mod top;
 mod usage;
 mod work;
 
 pub use status::{PodWhy, Status};
+pub use top::{Report, run_words};

@@ -1,0 +1,201 @@
+//! The files of the system. They tell nothing of what they hold; a call that fails raises its count.
+ghost use Rattle.std.specs.Prelude.{◌≡◌, ℕ, ◌+◌, ◌≤◌, ◌<◌, ◌^◌, length, OnOk, IfOk};
+ghost use Rattle.pw_base.specs.Files.{IsWithin};
+
+use pw_base::{FileFail, Files, Items, Loaded, Memory, Text};
+use std::alloc::Global;
+use std::fs;
+use std::fs::OpenFile;
+use std::io::{ErrorKind, Read, Write};
+use std::rt;
+use std::str;
+
+// How many bytes a read asks for at most.
+const CHUNK: usize = 65536;
+
+/// Real files, relative to the folder that the program runs in.
+#[derive(Drop)]
+pub struct DiskFiles<'a, R> {
+    rt: &'a R,
+    load_faults: u64,
+    store_faults: u64,
+}
+
+impl<'a, R> DiskFiles<'a, R> {
+    /// No call has failed yet.
+    pub fn new(rt: &'a R) -> DiskFiles<'a, R>
+        ensures { (result.load_faults ≡ 0) × (result.store_faults ≡ 0) }
+    {
+        DiskFiles {
+            rt,
+            load_faults: 0,
+            store_faults: 0,
+        }
+    }
+}
+
+// How many bytes the next read asks for: some, and never more than one past the limit.
+fn wanted(len: usize, limit: u64) -> usize
+    requires { len ≤ limit }
+    ensures some { 0 < result }
+    ensures within { len + result ≤ limit + 1 }
+    ensures chunk { result ≤ 65536 }
+{
+    let left = limit - len as u64;
+    if left < CHUNK as u64 - 1 {
+        left as usize + 1
+    } else {
+        CHUNK
+    }
+}
+
+// Appends what one read gives, and says how many bytes that were.
+fn read_more<F: Read>(
+    file: &mut F,
+    chunk: &mut [u8],
+    bytes: &mut Items<u8>,
+) -> Result<usize, FileFail>
+    ensures more { IfOk result (λ n. length bytes.new ≡ length bytes.old + n) }
+    ensures bound { IfOk result (λ n. n ≤ length chunk.old) }
+{
+    match file.read(chunk) {
+        Ok(n) => match bytes.extend(&chunk[..n]) {
+            Ok(()) => Ok(n),
+            Err(_memory) => Err(FileFail::Memory),
+        },
+        Err(_error) => Err(FileFail::Failed),
+    }
+}
+
+// Reads to the end of the file, or one byte past the limit.
+fn read_within<F: Read>(
+    file: &mut F,
+    chunk: &mut [u8],
+    bytes: Items<u8>,
+    limit: u64,
+) -> Result<Loaded, FileFail>
+    requires chunk { length chunk.old ≡ 65536 }
+    requires start { length bytes ≡ 0 }
+    ensures { IsWithin limit result }
+{
+    let mut bytes = bytes;
+    while bytes.len() as u64 <= limit {
+        let want = wanted(bytes.len(), limit);
+        let n = read_more(file, &mut chunk[..want], &mut bytes)?;
+        if n == 0 {
+            return Ok(Loaded::Whole(bytes));
+        }
+    }
+    Ok(Loaded::TooLong)
+}
+
+// Room for a file of this size, within the limit, so that it is read without growing.
+fn room_for(alloc: Global, size: u64, limit: u64) -> Result<Items<u8>, Memory>
+    ensures { IfOk result (λ bytes. length bytes ≡ 0) }
+{
+    let size = if size < limit { size } else { limit };
+    let mut bytes = Items::new(alloc);
+    match bytes.reserve(size as usize) {
+        Ok(()) => Ok(bytes),
+        Err(memory) => Err(memory),
+    }
+}
+
+// Reads a file that was opened.
+fn read_file<F: Read + OpenFile>(
+    alloc: Global,
+    file: &mut F,
+    limit: u64,
+) -> Result<Loaded, FileFail>
+    ensures { IsWithin limit result }
+{
+    let size = match file.metadata() {
+        Ok(about) => about.len(),
+        Err(_error) => 0,
+    };
+    let Ok(bytes) = room_for(alloc, size, limit) else {
+        return Err(FileFail::Memory);
+    };
+    let Ok(mut chunk) = Items::filled(alloc, CHUNK, 0) else {
+        return Err(FileFail::Memory);
+    };
+    read_within(file, chunk.as_mut_slice(), bytes, limit)
+}
+
+// Opens and reads the file of this name.
+fn load_file<R: rt::Files>(
+    rt: &R,
+    alloc: Global,
+    name: &[u8],
+    limit: u64,
+) -> Result<Loaded, FileFail>
+    ensures { IsWithin limit result }
+{
+    let Ok(path) = str::from_utf8(name) else {
+        return Err(FileFail::Failed);
+    };
+    match fs::open(rt, path) {
+        Ok(mut file) => read_file(alloc, &mut file, limit),
+        Err(error) => {
+            if error.kind() == ErrorKind::NotFound {
+                Ok(Loaded::Absent)
+            } else {
+                Err(FileFail::Failed)
+            }
+        }
+    }
+}
+
+/// Writes all bytes. A write that takes nothing is a failure.
+pub(crate) fn write_whole<W: Write>(to: &mut W, bytes: &[u8]) -> Result<(), FileFail> {
+    let mut done = 0;
+    while done < bytes.len() {
+        match to.write(&bytes[done..]) {
+            Ok(0) => return Err(FileFail::Failed),
+            Ok(n) => done += n,
+            Err(_error) => return Err(FileFail::Failed),
+        }
+    }
+    Ok(())
+}
+
+// Makes the file of this name anew and writes it.
+fn store_file<R: rt::Files>(rt: &R, name: &[u8], bytes: &[u8]) -> Result<(), FileFail> {
+    let Ok(path) = str::from_utf8(name) else {
+        return Err(FileFail::Failed);
+    };
+    match fs::create(rt, path) {
+        Ok(mut file) => write_whole(&mut file, bytes),
+        Err(_error) => Err(FileFail::Failed),
+    }
+}
+
+impl<'a, R: rt::Files> Files for DiskFiles<'a, R> {
+    ghost use Rattle.std.specs.Prelude.{None};
+
+    ghost held = { λ _. None };
+
+    ghost load_faults = { λ files. files.load_faults };
+
+    ghost store_faults = { λ files. files.store_faults };
+
+    fn load(&mut self, alloc: Global, name: &Text, limit: u64) -> Result<Loaded, FileFail> {
+        match load_file(self.rt, alloc, name.as_slice(), limit) {
+            Err(FileFail::Failed) => {
+                self.load_faults = self.load_faults.saturating_add(1);
+                Err(FileFail::Failed)
+            }
+            other => other,
+        }
+    }
+
+    fn store(&mut self, _alloc: Global, name: &Text, bytes: &[u8]) -> Result<(), FileFail> {
+        match store_file(self.rt, name.as_slice(), bytes) {
+            Err(FileFail::Failed) => {
+                self.store_faults = self.store_faults.saturating_add(1);
+                Err(FileFail::Failed)
+            }
+            other => other,
+        }
+    }
+}

@@ -1,0 +1,61 @@
+//! `pipegraph`: the top call over real files and standard output.
+#![tactic(auto)]
+
+mod disk_files;
+mod std_sink;
+
+use crate::disk_files::DiskFiles;
+use crate::std_sink::StdSink;
+use pw_base::{Items, Never, Open};
+use pw_top::run_words;
+use std::alloc::Global;
+use std::env;
+use std::io::ErrorKind;
+use std::process::ExitCode;
+use std::rt::Env;
+
+// Ends where the words are no text, and where there is no memory for them.
+const NO_TEXT: u8 = 1;
+
+const NO_MEMORY: u8 = 9;
+
+// The words of the command line, without the program's own name.
+fn words_of<R: Env + Alloc<A = Global>>(rt: &R) -> Result<Items<String>, u8> {
+    let mut words = Items::new(rt.alloc());
+    match env::args(rt) {
+        Ok(all) => {
+            for word in all.skip(1) {
+                if words.push(word).is_err() {
+                    return Err(NO_MEMORY);
+                }
+            }
+            Ok(words)
+        }
+        Err(error) => {
+            if error.kind() == ErrorKind::OutOfMemory {
+                Err(NO_MEMORY)
+            } else {
+                Err(NO_TEXT)
+            }
+        }
+    }
+}
+
+fn main(rt: HostRuntime) -> ExitCode {
+    let words = match words_of(&rt) {
+        Ok(words) => words,
+        Err(status) => return ExitCode::from(status),
+    };
+    let mut files = DiskFiles::new(&rt);
+    let mut out = StdSink::new(&rt);
+    let report = run_words(
+        &rt,
+        rt.alloc(),
+        words.as_slice(),
+        &mut files,
+        &mut out,
+        &Open::new(),
+        &mut Never::new(),
+    );
+    ExitCode::from(report.status.number())
+}

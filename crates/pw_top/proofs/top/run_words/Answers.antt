@@ -1,0 +1,16 @@
+use Rattle.std.proofs.Common.{subst, rules}
+use Rattle.pw_top.specs.Delivery.{Delivered}
+use Rattle.pw_top.proofs.HeadlineLemmas.{run_follows, complete}
+use Rattle.pw_top.proofs.top.run_words.Goals as goal
+
+pub returns-clause-told : goal.returns-clause-told
+returns-clause-told g c = λ h.
+    let made = c.prepare_words-made.result in
+    let p = c.prepare_words-made.ensures in
+    let d0 = c.deliver-delivered.ensures.delivered in
+    let d1 = subst (λ y. Delivered made (g.F.Files.store_faults c.prepare_words-made.new.files) (g.F.Files.store_faults c.deliver-delivered.new.files) (g.O.Sink.faults c.args.out.now) (g.O.Sink.faults c.deliver-delivered.new.out) y (g.F.Files.held c.deliver-delivered.new.files) (g.O.Sink.given c.args.out.now) (g.O.Sink.given c.deliver-delivered.new.out) c.deliver-delivered.result) p.held d0 in
+    let d2 = subst (λ x. Delivered made x (g.F.Files.store_faults c.deliver-delivered.new.files) (g.O.Sink.faults c.args.out.now) (g.O.Sink.faults c.deliver-delivered.new.out) (g.F.Files.held c.args.files.now) (g.F.Files.held c.deliver-delivered.new.files) (g.O.Sink.given c.args.out.now) (g.O.Sink.given c.deliver-delivered.new.out) c.deliver-delivered.result) p.stores d1 in
+    (run_follows _ made _ _ _ _ _ _ _ _ _ _ _ _ _ _ c.deliver-delivered.ensures.later_put p.cause (p.told h) d2 c.end_line-status.ensures.ends)
+
+pub returns-clause-complete : goal.returns-clause-complete
+returns-clause-complete g c = λ h nf ns np. complete _ _ _ _ _ _ _ _ _ _ _ _ (returns-clause-told g c h) (search (rules)) nf ns np

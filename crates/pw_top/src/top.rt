@@ -1,0 +1,114 @@
+//! The top call.
+ghost use Rattle.std.specs.Prelude.{◌≡◌, ℕ, ◌≤◌, ◌⊎◌, ◌++◌, IsSome, map, string_bytes};
+ghost use Rattle.pw_base.specs.Files.{names_in};
+ghost use Rattle.pw_base.specs.Causes.{Rose};
+ghost use Rattle.pw_top.specs.Ending.{Ends, PrepareCause, IsDeliverable};
+ghost use Rattle.pw_top.specs.Usage.{command_of};
+ghost use Rattle.pw_top.specs.CommandLine.{answer_of};
+ghost use Rattle.pw_top.specs.Following.{status_of};
+ghost use Rattle.pw_top.specs.Headline.{Follows, Caused, IsUsage};
+
+use crate::delivering::{deliver, end_line};
+use crate::preparing::Prepare;
+use crate::status::Status;
+use crate::usage::{Command, read_words};
+use crate::work::Work;
+use pw_base::{Event, Files, Gate, Items, Sink, Ticker};
+use std::alloc::Global;
+use std::sync::Wait;
+use std::thread::Threads;
+
+impl Prepare for Command {
+    ghost use Rattle.pw_top.specs.CommandLine.{command_answer};
+
+    ghost answer = { command_answer };
+
+    fn prepare<R: Threads + Wait + Sync, F: Files, G: Gate + Sync, K: Ticker>(
+        self,
+        rt: &R,
+        alloc: Global,
+        files: &mut F,
+        gate: &G,
+        ticker: &mut K,
+        history: &mut Items<Event>,
+    ) -> Result<Work, Status> {
+        match self {
+            Command::Run(command) => command.prepare(rt, alloc, files, gate, ticker, history),
+        }
+    }
+}
+
+// Reads the words and prepares their command.
+fn prepare_words<R: Threads + Wait + Sync, F: Files, G: Gate + Sync, K: Ticker>(
+    rt: &R,
+    alloc: Global,
+    words: &[String],
+    files: &mut F,
+    gate: &G,
+    ticker: &mut K,
+    history: &mut Items<Event>,
+) -> Result<Work, Status>
+    ensures held { F.held files.new ≡ F.held files.old }
+    ensures told { IsSome (F.held files.old) → Ends (answer_of (map string_bytes words.now) history.new (names_in (F.held files.old))) result }
+    ensures later { F.load_faults files.old ≤ F.load_faults files.new }
+    ensures cause { PrepareCause IsDeliverable (F.load_faults files.old) (F.load_faults files.new) result }
+    ensures stores { F.store_faults files.new ≡ F.store_faults files.old }
+    ensures usage { IsUsage (command_of (map string_bytes words.now)) (status_of result) }
+{
+    match read_words(alloc, words) {
+        Err(status) => Err(status),
+        Ok(command) => command.prepare(rt, alloc, files, gate, ticker, history),
+    }
+}
+
+/// How a call ended, and what happened in its run.
+#[derive(Drop)]
+pub struct Report {
+    pub status: Status,
+    /// The events of the run, where one was made; so far none are kept.
+    pub history: Items<Event>,
+}
+
+/// Does what the words of a command line ask for: loads, then stores, then the text, or the line of a status.
+///
+/// The words are those behind the program's own name. An accepted command leaves exactly the files and the text of
+/// its expected answer. Every other status says how far that answer was followed and why it stopped: a refusal is
+/// the answer's own; `ReadFault`, and `WriteFault` with its place, come only where the outside counted a fault in
+/// this call; `Memory` may come at any step. The line of a status is put last, and nothing is put after a failed put.
+pub fn run_words<
+    R: Threads + Wait + Sync,
+    F: Files,
+    O: Sink,
+    G: Gate + Sync,
+    K: Ticker,
+>(
+    rt: &R,
+    alloc: Global,
+    words: &[String],
+    files: &mut F,
+    out: &mut O,
+    gate: &G,
+    ticker: &mut K,
+) -> Report
+    // What the status says of the expected answer, of the files and of the text, where these are told.
+    ensures told { IsSome (F.held files.old) →
+        Follows (answer_of (map string_bytes words.now) result.history (names_in (F.held files.old)))
+        (F.store_faults files.old) (F.store_faults files.new) (O.faults out.old) (O.faults out.new)
+        (F.held files.old) (F.held files.new) (O.given out.old) (O.given out.new) result.status }
+
+    // Each fault has its cause outside, whether the files are told or not.
+    ensures cause { Caused (F.load_faults files.old) (F.load_faults files.new)
+        (F.store_faults files.old) (F.store_faults files.new) (O.faults out.old) (O.faults out.new) result.status }
+    ensures usage { IsUsage (command_of (map string_bytes words.now)) result.status }
+
+    // Where no count of faults rose, the status is the answer's, or memory was short.
+    ensures complete { IsSome (F.held files.old) → ¬ Rose (F.load_faults files.old) (F.load_faults files.new) →
+        ¬ Rose (F.store_faults files.old) (F.store_faults files.new) → ¬ Rose (O.faults out.old) (O.faults out.new) →
+        (result.status ≡ status_of (answer_of (map string_bytes words.now) result.history (names_in (F.held files.old))).outcome) ⊎ (result.status ≡ Status.Memory) }
+{
+    let mut history = Items::new(alloc);
+    let made = prepare_words(rt, alloc, words, files, gate, ticker, &mut history);
+    let delivered = deliver(alloc, files, out, &made);
+    let status = end_line(alloc, out, delivered);
+    Report { status, history }
+}
