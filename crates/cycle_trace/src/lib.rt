@@ -5,6 +5,8 @@ mod event_lines;
 mod link_lines;
 mod printing;
 mod result_lines;
+#[cfg(test)]
+mod tests;
 mod words;
 
 pub use printing::run_text;
