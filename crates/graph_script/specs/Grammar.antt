@@ -56,7 +56,7 @@ abbrev pub start : Reading
 start = record { script = record { lines = []; names = [] }; kinds = [] }
 
 -- THE GRAMMAR: the script that bytes are, or the first line at fault
-abbrev pub script_of : List ℕ → Result Script ScriptFault
+unfoldable pub script_of : List ℕ → Result Script ScriptFault
 script_of bytes = script_from 1 start (lines_of bytes)
 
 -- a result is what is meant; want of memory is free

@@ -13,6 +13,7 @@ use std::alloc::Global;
 /// first word begins with `#`, or that has no word, says nothing. So far a script has at most one `quantum N`,
 /// `source NAME FILE`, `sink NAME FILE`, `link A.out B.in` and `cycles N`, in this order, and any fault of a line
 /// is `ScriptWhy::Command`. Takes memory for what is read, and time in proportion to the bytes.
+#[tactic(auto, unfolding(crate::specs::Grammar::script_of))]
 pub fn parse(alloc: Global, bytes: &[u8]) -> Result<Script, ScriptFault>
     requires { length bytes.now ≤ 1048576 }
     ensures parsed { IsRead (script_of bytes.now) result }
