@@ -1,4 +1,5 @@
 pub mod ArgumentLemmas
+pub mod FitLemmas
 pub mod GrammarLemmas
 pub mod LexicalLemmas
-pub mod RangeLemmas
+pub mod SoundLemmas

@@ -1,42 +1,13 @@
 -- The meaning of a line's words, by the nodes that the lines before it have made.
-use Rattle.std.specs.Prelude.{ℕ, ◌+◌, ◌&&◌, not, List, [], ◌∷◌, length, Option, Some, None, option_map, is_some, position, slice_index_or, nat_lt, bytes_eq, codes, if◌then◌else◌}
-use Rattle.pw_base.specs.declared.ids.PortId.{PortId}
+use Rattle.std.specs.Prelude.{ℕ, List, [], ◌∷◌, Option, Some, None, bytes_eq, codes, if◌then◌else◌}
 use Rattle.pw_base.specs.declared.kind.Kind.{Kind}
 use Rattle.pw_base.specs.declared.kind.Kind.TheVariants as K
-use Rattle.pw_base.specs.KindPorts.{input_names, output_names, input_count}
 use Rattle.graph_script.specs.declared.command.Command.{Command}
 use Rattle.graph_script.specs.declared.command.Command.TheVariants as C
 use Rattle.graph_script.specs.declared.reading.Said.{Said}
 use Rattle.graph_script.specs.declared.reading.Reading.{Reading}
-use Rattle.graph_script.specs.Arguments.{◌>>=◌, one_of, two_of, number_of, is_node_name, file_of, endpoint_parts}
-
--- the number of the node of this name, and the kind of a node
-abbrev pub node_called : Reading → List ℕ → Option ℕ
-node_called reading name = position (bytes_eq name) reading.script.names
-
-abbrev pub kind_at : Reading → ℕ → Kind
-kind_at reading node = slice_index_or reading.kinds node K.Dummy
-
--- a new node's number. Its name is well formed, not dummy, and no other's, and there are 63 nodes at most
-abbrev pub new_node : Reading → List ℕ → Option ℕ
-new_node reading name =
-    if is_node_name name && not (bytes_eq name (codes "dummy")) && not (is_some (node_called reading name)) && nat_lt (length reading.script.names) 63
-    then Some (length reading.script.names) else None
-
--- the number of an output, and of an input, of this name
-abbrev pub output_called : Kind → List ℕ → Option ℕ
-output_called kind name = option_map (λ place. input_count kind + place) (position (bytes_eq name) (output_names kind))
-
-abbrev pub input_called : Kind → List ℕ → Option ℕ
-input_called kind name = position (bytes_eq name) (input_names kind)
-
--- an endpoint, whose port is looked up by the function
-abbrev pub endpoint_of : (Kind → List ℕ → Option ℕ) → Reading → List ℕ → Option PortId
-endpoint_of port_called reading word = do
-  parts ← endpoint_parts word
-  node ← node_called reading parts.0
-  port ← port_called (kind_at reading node) parts.1
-  Some (record { node = node; port = port })
+use Rattle.graph_script.specs.Arguments.{◌>>=◌, one_of, two_of, number_of, file_of}
+use Rattle.graph_script.specs.Nodes.{new_node, endpoint_of, output_called, input_called}
 
 -- a command that makes no node, and one that makes a node of this name and kind
 abbrev pub saying : Command → Option Said

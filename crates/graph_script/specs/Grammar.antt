@@ -5,18 +5,12 @@ use Rattle.graph_script.specs.declared.fault.ScriptWhy.{ScriptWhy}
 use Rattle.graph_script.specs.declared.fault.ScriptWhy.TheVariants as W
 use Rattle.graph_script.specs.declared.fault.ScriptFault.{ScriptFault}
 use Rattle.graph_script.specs.declared.fault.ScriptFault.TheVariants as F
-use Rattle.graph_script.specs.declared.script.Line.{Line}
 use Rattle.graph_script.specs.declared.script.Script.{Script}
 use Rattle.graph_script.specs.declared.reading.Said.{Said}
 use Rattle.graph_script.specs.declared.reading.Reading.{Reading}
 use Rattle.graph_script.specs.Lexical.{is_allowed, lines_of, words_of, say_nothing}
 use Rattle.graph_script.specs.Commands.{meaning_of_words}
-use Rattle.graph_script.specs.Stages.{comes_after}
-
--- so far each fault of a line is that of its command, also a line that is out of order
-abbrev pub in_order : List Line → Option Said → Result (Option Said) ScriptWhy
-in_order lines None = Err W.Command
-in_order lines (Some said) = if comes_after lines said.command then Ok (Some said) else Err W.Command
+use Rattle.graph_script.specs.Stages.{in_order}
 
 -- the meaning of a line by the lines before it: what it says, or nothing; or why it has none
 unfoldable pub meaning_of_line : Reading → List ℕ → Result (Option Said) ScriptWhy
@@ -56,7 +50,7 @@ abbrev pub start : Reading
 start = record { script = record { lines = []; names = [] }; kinds = [] }
 
 -- THE GRAMMAR: the script that bytes are, or the first line at fault
-abbrev pub script_of : List ℕ → Result Script ScriptFault
+unfoldable pub script_of : List ℕ → Result Script ScriptFault
 script_of bytes = script_from 1 start (lines_of bytes)
 
 -- a result is what is meant; want of memory is free

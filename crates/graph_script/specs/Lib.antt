@@ -2,6 +2,9 @@ pub mod Arguments
 pub mod Commands
 pub mod Faults
 pub mod Grammar
+pub mod Kinds
 pub mod Lexical
+pub mod Nodes
 pub mod Ranges
+pub mod Sound
 pub mod Stages

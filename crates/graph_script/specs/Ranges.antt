@@ -1,9 +1,8 @@
 -- Ranges: what holds of the numbers, the names and the nodes of every script that is read.
-use Rattle.std.specs.Prelude.{◌≡◌, ℕ, ◌<◌, ◌≤◌, length, All, IsTrue, ℤ, pos, neg_ℤ, ◌≤ℤ◌}
+use Rattle.std.specs.Prelude.{ℕ, ◌<◌, ◌≤◌, length, All, IsTrue, ℤ, pos, neg_ℤ, ◌≤ℤ◌}
 use Rattle.graph_script.specs.declared.command.Command.{Command}
 use Rattle.graph_script.specs.declared.command.Command.TheVariants as C
 use Rattle.graph_script.specs.declared.script.Script.{Script}
-use Rattle.graph_script.specs.declared.reading.Reading.{Reading}
 use Rattle.graph_script.specs.Arguments.{is_node_name}
 
 abbrev pub IsWithin : ℕ → ℕ → ℕ → Type 0
@@ -57,8 +56,3 @@ pub record HasRanges (script : Script) : Type 0 where
   pub nodes : All (λ l. HasNodes (length script.names) l.command) script.lines
   pub count : length script.names ≤ 63
   pub names : All (λ name. IsTrue (is_node_name name)) script.names
-
--- the same of the lines so far; each node has a kind
-pub record IsSound (reading : Reading) : Type 0 where
-  pub script : HasRanges reading.script
-  pub kinds : length reading.kinds ≡ length reading.script.names

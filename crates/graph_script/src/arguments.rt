@@ -2,8 +2,8 @@
 ghost use Rattle.std.specs.Prelude.{◌≡◌, ◌<◌, length, option_map, option_copied, IfSome};
 ghost use Rattle.graph_script.specs.Lexical.{words_of};
 ghost use Rattle.graph_script.specs.Arguments.{one_of, two_of, endpoint_parts};
-ghost use Rattle.graph_script.specs.Commands as commands;
-ghost use Rattle.graph_script.specs.Ranges.{IsSound};
+ghost use Rattle.graph_script.specs.Nodes as nodes;
+ghost use Rattle.graph_script.specs.Sound.{IsSound};
 
 use crate::lexing::{next_piece, next_word};
 use crate::names::{is_node_name, place_of};
@@ -43,7 +43,7 @@ pub(crate) fn two_words(text: &[u8]) -> Option<(&[u8], &[u8])>
 /// The number of a new node of this name, where it may have the name.
 pub(crate) fn new_node(reading: &Reading, name: &[u8]) -> Option<u32>
     requires { IsSound reading.now }
-    ensures { result ≡ commands.new_node reading.now name.now }
+    ensures { result ≡ nodes.new_node reading.now name.now }
 {
     let names = reading.script.names.as_slice();
     if is_node_name(name)
@@ -76,7 +76,7 @@ fn endpoint_parts(word: &[u8]) -> Option<(&[u8], &[u8])>
 
 fn node_called(reading: &Reading, name: &[u8]) -> Option<u32>
     requires { IsSound reading.now }
-    ensures value { result ≡ commands.node_called reading.now name.now }
+    ensures value { result ≡ nodes.node_called reading.now name.now }
     ensures there { IfSome result (λ node. node < length reading.now.kinds) }
 {
     place_of(reading.script.names.as_slice(), name)
@@ -84,7 +84,7 @@ fn node_called(reading: &Reading, name: &[u8]) -> Option<u32>
 
 fn kind_at(reading: &Reading, node: u32) -> &Kind
     requires { node < length reading.now.kinds }
-    ensures { result.now ≡ commands.kind_at reading.now node }
+    ensures { result.now ≡ nodes.kind_at reading.now node }
 {
     &reading.kinds.as_slice()[node as usize]
 }
@@ -92,7 +92,7 @@ fn kind_at(reading: &Reading, node: u32) -> &Kind
 /// The output that the word names.
 pub(crate) fn output_at(reading: &Reading, word: &[u8]) -> Option<PortId>
     requires { IsSound reading.now }
-    ensures { result ≡ commands.endpoint_of commands.output_called reading.now word.now }
+    ensures { result ≡ nodes.endpoint_of nodes.output_called reading.now word.now }
 {
     let (name, port) = endpoint_parts(word)?;
     let node = node_called(reading, name)?;
@@ -103,7 +103,7 @@ pub(crate) fn output_at(reading: &Reading, word: &[u8]) -> Option<PortId>
 /// The input that the word names.
 pub(crate) fn input_at(reading: &Reading, word: &[u8]) -> Option<PortId>
     requires { IsSound reading.now }
-    ensures { result ≡ commands.endpoint_of commands.input_called reading.now word.now }
+    ensures { result ≡ nodes.endpoint_of nodes.input_called reading.now word.now }
 {
     let (name, port) = endpoint_parts(word)?;
     let node = node_called(reading, name)?;

@@ -18,3 +18,6 @@ pub use command::Command;
 pub use fault::{ScriptFault, ScriptWhy};
 pub use parsing::parse;
 pub use script::{Line, Script};
+
+#[cfg(test)]
+mod tests;

@@ -2,7 +2,7 @@
 ghost use Rattle.std.specs.Prelude.{◌≡◌, IfOk, Ok, Some};
 ghost use Rattle.graph_script.specs.Stages.{stage_of, comes_after};
 ghost use Rattle.graph_script.specs.Grammar.{meaning_of_line, reading_after, reading_with, IsRead, start};
-ghost use Rattle.graph_script.specs.Ranges.{IsSound};
+ghost use Rattle.graph_script.specs.Sound.{IsSound};
 
 use crate::command::Command;
 use crate::fault::{ScriptFault, ScriptWhy};

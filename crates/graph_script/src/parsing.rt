@@ -1,7 +1,9 @@
 //! A whole script, line by line.
 ghost use Rattle.std.specs.Prelude.{◌≤◌, length, IfOk};
 ghost use Rattle.graph_script.specs.Grammar.{script_of, IsRead};
+ghost use Rattle.graph_script.specs.Kinds.{HasKinds};
 ghost use Rattle.graph_script.specs.Ranges.{HasRanges};
+ghost use Rattle.graph_script.specs.Stages.{IsInOrder};
 
 use crate::fault::ScriptFault;
 use crate::lexing::next_piece;
@@ -13,10 +15,13 @@ use std::alloc::Global;
 /// first word begins with `#`, or that has no word, says nothing. So far a script has at most one `quantum N`,
 /// `source NAME FILE`, `sink NAME FILE`, `link A.out B.in` and `cycles N`, in this order, and any fault of a line
 /// is `ScriptWhy::Command`. Takes memory for what is read, and time in proportion to the bytes.
+#[tactic(auto, unfolding(crate::specs::Grammar::script_of))]
 pub fn parse(alloc: Global, bytes: &[u8]) -> Result<Script, ScriptFault>
     requires { length bytes.now ≤ 1048576 }
     ensures parsed { IsRead (script_of bytes.now) result }
     ensures ranges { IfOk result HasRanges }
+    ensures kinds { IfOk result HasKinds }
+    ensures order { IfOk result IsInOrder }
 {
     let mut reading = start(alloc);
     let mut rest = bytes;

@@ -1,7 +1,7 @@
 //! Ports of a kind, by name.
 ghost use Rattle.std.specs.Prelude.{◌≡◌, ℕ, ◌<◌, ◌≤◌, true, false, bytes_eq};
 ghost use Rattle.pw_base.specs.KindPorts.{port_name, port_count};
-ghost use Rattle.graph_script.specs.Commands.{input_called, output_called};
+ghost use Rattle.graph_script.specs.Nodes.{input_called, output_called};
 
 use pw_base::Kind;
 

@@ -2,7 +2,7 @@
 ghost use Rattle.std.specs.Prelude.{◌≡◌, IfOk};
 ghost use Rattle.graph_script.specs.Lexical.{words_of};
 ghost use Rattle.graph_script.specs.Commands as commands;
-ghost use Rattle.graph_script.specs.Ranges.{IsSound};
+ghost use Rattle.graph_script.specs.Sound.{IsSound};
 
 use crate::arguments::{input_at, new_node, one_word, output_at, two_words};
 use crate::command::Command;

@@ -1,8 +1,9 @@
 use Rattle.std.proofs.Common.{◌+◌, [], sym, ◌∙◌, arith}
 use Rattle.graph_script.specs.Lexical.{lines_of}
 use Rattle.graph_script.specs.Grammar.{script_of}
+use Rattle.graph_script.specs.Sound.{IsSound}
 use Rattle.graph_script.proofs.GrammarLemmas.{goes_on, stops, ends, same_fault}
-use Rattle.graph_script.proofs.RangeLemmas.{reading_with-sound}
+use Rattle.graph_script.proofs.SoundLemmas.{reading_with-sound, sound-kinds}
 use Rattle.graph_script.proofs.parsing.parse.Goals as goal
 
 pub returns-in-Err-clause-parsed : goal.returns-in-Err-clause-parsed
@@ -17,9 +18,17 @@ returns-in-None-clause-parsed c =
     ∙ goes_on c.loop-fault.number c.loop-fault.reading c.in-Ok.next c.next_piece.result.0.now (lines_of c.loop-fault.rest.now) [] last c.in-Ok.ensures
     ∙ ends (c.loop-fault.number + 1) c.in-Ok.next
 
+sound_then : (c : goal.After-drop-reading) → IsSound c.in-Ok.next
+sound_then c = reading_with-sound c.loop-fault.number c.loop-fault.reading c.in-Ok.next c.next_piece.result.0.now c.loop-fault.invariant.numbered c.loop-fault.invariant.sound c.in-Ok.ensures
+
 pub returns-in-None-clause-ranges : goal.returns-in-None-clause-ranges
-returns-in-None-clause-ranges c =
-    (reading_with-sound c.loop-fault.number c.loop-fault.reading c.in-Ok.next c.next_piece.result.0.now c.loop-fault.invariant.numbered c.loop-fault.invariant.sound c.in-Ok.ensures).script
+returns-in-None-clause-ranges c = (sound_then c).script
+
+pub returns-in-None-clause-kinds : goal.returns-in-None-clause-kinds
+returns-in-None-clause-kinds c = sound-kinds c.in-Ok.next (sound_then c)
+
+pub returns-in-None-clause-order : goal.returns-in-None-clause-order
+returns-in-None-clause-order c = (sound_then c).order
 
 pub loop-fault-preserved : goal.loop-fault-preserved
 loop-fault-preserved c =
