@@ -1,5 +1,5 @@
 -- The definitions at work: small plans, each of whose last node is a sink, and what it keeps, by computation alone.
-use Rattle.std.proofs.Common.{◌≡◌, ℕ, Bool, true, false, List, [], ◌∷◌, ◌++◌, map, length, ℤ, pos, negsuc, refl}
+use Rattle.std.proofs.Common.{◌≡◌, ℕ, true, false, List, [], ◌∷◌, map, ℤ, pos, negsuc, refl}
 use Rattle.pw_base.specs.declared.ids.PortId.{PortId}
 use Rattle.pw_base.specs.declared.kind.Kind.{Kind}
 use Rattle.pw_base.specs.declared.kind.Kind.TheVariants.{Source, Gain, Mix2, Delay, Split, Sink}
@@ -10,7 +10,6 @@ use Rattle.pw_base.specs.declared.plan.Fresh.{Fresh}
 use Rattle.pw_base.specs.declared.plan.PlanNode.{PlanNode}
 use Rattle.pw_base.specs.declared.plan.Plan.{Plan}
 use Rattle.wav_files.specs.declared.wav.WavIn.{WavIn}
-use Rattle.wav_files.specs.declared.outcome.Kept.{Kept}
 use Rattle.cycle_model.specs.Cycle.{outputs_after}
 use Rattle.cycle_model.specs.Rendering.{rendered_sinks}
 
@@ -73,7 +72,7 @@ one_source_is_kept = refl
 abbrev three_sources : Plan
 three_sources = plan 1 (node Source ∷ node Source ∷ node Source ∷ sink ∷ [])
     (epoch 0 1 1 (0 ∷ 1 ∷ 2 ∷ 3 ∷ 63 ∷ []) (prompt (port 0 0) (port 3 0) ∷ prompt (port 1 0) (port 3 0) ∷ prompt (port 2 0) (port 3 0) ∷ [])
-        ((0, 0, 1) ∷ (1, 0, 1) ∷ (2, 0, 1) ∷ (3, 0, 1) ∷ []) (3 ∷ []) ∷ [])
+    ((0, 0, 1) ∷ (1, 0, 1) ∷ (2, 0, 1) ∷ (3, 0, 1) ∷ []) (3 ∷ []) ∷ [])
 
 pub three_sources_are_clamped_once : Keeps three_sources (wave 0 1 (pos 30000 ∷ []) ∷ wave 1 1 (pos 30000 ∷ []) ∷ wave 2 1 (negsuc 29999 ∷ []) ∷ []) 3 (pos 30000 ∷ [])
 unfolding outputs_after rendered_sinks
@@ -96,8 +95,8 @@ a_source_goes_on_where_it_stopped = refl
 abbrev split_and_mixed : Plan
 split_and_mixed = plan 4 (node Source ∷ node Split ∷ node (Mix2 (pos 256) (pos 256)) ∷ sink ∷ [])
     (epoch 0 1 4 (0 ∷ 1 ∷ 2 ∷ 3 ∷ [])
-        (record { from = port 0 0; to = port 1 0; channels = 2; buffers = 2; delayed = false } ∷ prompt (port 1 1) (port 2 0) ∷ prompt (port 1 2) (port 2 1) ∷ prompt (port 2 2) (port 3 0) ∷ [])
-        ((0, 0, 2) ∷ (1, 0, 2) ∷ (1, 1, 1) ∷ (1, 2, 1) ∷ (2, 0, 1) ∷ (2, 1, 1) ∷ (2, 2, 1) ∷ (3, 0, 1) ∷ []) (1 ∷ 2 ∷ 3 ∷ []) ∷ [])
+    (record { from = port 0 0; to = port 1 0; channels = 2; buffers = 2; delayed = false } ∷ prompt (port 1 1) (port 2 0) ∷ prompt (port 1 2) (port 2 1) ∷ prompt (port 2 2) (port 3 0) ∷ [])
+    ((0, 0, 2) ∷ (1, 0, 2) ∷ (1, 1, 1) ∷ (1, 2, 1) ∷ (2, 0, 1) ∷ (2, 1, 1) ∷ (2, 2, 1) ∷ (3, 0, 1) ∷ []) (1 ∷ 2 ∷ 3 ∷ []) ∷ [])
 
 pub left_and_right_are_mixed : Keeps split_and_mixed (wave 0 2 (pos 1 ∷ pos 10 ∷ pos 2 ∷ pos 20 ∷ pos 3 ∷ pos 30 ∷ pos 4 ∷ pos 40 ∷ []) ∷ []) 3
     (pos 11 ∷ pos 22 ∷ pos 33 ∷ pos 44 ∷ [])
@@ -140,7 +139,7 @@ two_late_links_are_two_cycles = refl
 abbrev feedback : Plan
 feedback = plan 1 (node Source ∷ node (Mix2 (pos 256) (pos 128)) ∷ node (Gain (pos 256)) ∷ sink ∷ [])
     (epoch 0 5 1 (0 ∷ 1 ∷ 2 ∷ 3 ∷ []) (prompt (port 0 0) (port 1 0) ∷ late (port 1 2) (port 2 0) ∷ late (port 2 1) (port 1 1) ∷ prompt (port 1 2) (port 3 0) ∷ [])
-        ((0, 0, 1) ∷ (1, 0, 1) ∷ (1, 1, 1) ∷ (1, 2, 1) ∷ (2, 0, 1) ∷ (2, 1, 1) ∷ (3, 0, 1) ∷ []) (1 ∷ 2 ∷ 3 ∷ []) ∷ [])
+    ((0, 0, 1) ∷ (1, 0, 1) ∷ (1, 1, 1) ∷ (1, 2, 1) ∷ (2, 0, 1) ∷ (2, 1, 1) ∷ (3, 0, 1) ∷ []) (1 ∷ 2 ∷ 3 ∷ []) ∷ [])
 
 pub feedback_decays : Keeps feedback (wave 0 1 (pos 8 ∷ []) ∷ []) 3 (pos 8 ∷ pos 0 ∷ pos 4 ∷ pos 0 ∷ pos 2 ∷ [])
 unfolding outputs_after rendered_sinks
