@@ -1,13 +1,10 @@
 -- A plan of the first path can be rendered, and the reference program covers it.
-use Rattle.std.proofs.Common.{◌≡◌, ℕ, zero, suc, ◌+◌, ◌<◌, ◌≤◌, ◌==◌, ◌⊎◌, inl, inr, false, List, [], ◌∷◌, map, length, All, Contains, count_by, option_map, unwrap_or, slice_get, get_or, refl, ap, sym, ◌∙◌, subst, arith}
+use Rattle.std.proofs.Common.{◌≡◌, ℕ, zero, suc, ◌<◌, ◌≤◌, ◌==◌, ◌⊎◌, inl, inr, false, List, [], ◌∷◌, map, length, All, Contains, count_by, option_map, unwrap_or, slice_get, get_or, refl, ap, sym, ◌∙◌, subst, arith}
 use Rattle.std.proofs.lemmas.List.{length-map, get_or-map}
 use Rattle.std.proofs.lemmas.List.Elements.{All-cons, All-nil}
 use Rattle.pw_base.specs.declared.kind.Kind.{Kind}
 use Rattle.pw_base.specs.declared.kind.Kind.TheVariants.{Source, Sink, Dummy}
-use Rattle.pw_base.specs.declared.shape.ShapeLink.{ShapeLink}
-use Rattle.pw_base.specs.declared.shape.ShapeNode.{ShapeNode}
 use Rattle.pw_base.specs.declared.plan.PlanNode.{PlanNode}
-use Rattle.pw_base.specs.declared.plan.PortForm.{PortForm}
 use Rattle.pw_base.specs.declared.plan.Epoch.{Epoch}
 use Rattle.pw_base.specs.declared.plan.Plan.{Plan}
 use Rattle.pw_base.specs.KindPorts.{input_count, port_count}
@@ -15,8 +12,8 @@ use Rattle.wav_files.specs.declared.wav.Wav.{Wav}
 use Rattle.wav_files.specs.declared.wav.WavIn.{WavIn}
 use Rattle.cycle_model.specs.Epochs.{channels_of}
 use Rattle.cycle_model.specs.Cycle.{kind_at}
-use Rattle.cycle_model.specs.FirstPath.{port_of, form_of, path_link, IsPathEpoch, IsFirstPath, path_waves}
-use Rattle.cycle_model.specs.WavesFit.{IsFormOf, IsWaveOfSource, WavesFit}
+use Rattle.cycle_model.specs.FirstPath.{port_of, form_of, path_link, IsFirstPath, path_waves}
+use Rattle.cycle_model.specs.WavesFit.{IsFormOf, IsWaveOfSource}
 use Rattle.cycle_model.specs.Renderable.{FollowFrom, IsFitting, HasOrder, IsNodeOf, IsRenderableEpoch, IsRenderable, IsSourceOrSink, IsCovered}
 
 abbrev places : List ℕ
@@ -87,10 +84,10 @@ module _ (plan : Plan) (wave : Wav) (source sink : PlanNode) (epoch : Epoch) (bu
     source = gives;
     forms = subst (λ es. All (λ e. All (IsFormOf the_wave) e.forms) es) (sym p.epochs)
         (All-cons (λ e. All (IsFormOf the_wave) e.forms) epoch []
-            (subst (λ fs. All (IsFormOf the_wave) fs) (sym p.here.forms)
-                (All-cons (IsFormOf the_wave) (form_of wave 0) (form_of wave 1 ∷ []) (λ _. (refl, refl))
-                    (All-cons (IsFormOf the_wave) (form_of wave 1) [] (λ _. (refl, refl)) (All-nil (IsFormOf the_wave)))))
-            (All-nil (λ e. All (IsFormOf the_wave) e.forms)));
+        (subst (λ fs. All (IsFormOf the_wave) fs) (sym p.here.forms)
+        (All-cons (IsFormOf the_wave) (form_of wave 0) (form_of wave 1 ∷ []) (λ _. (refl, refl))
+        (All-cons (IsFormOf the_wave) (form_of wave 1) [] (λ _. (refl, refl)) (All-nil (IsFormOf the_wave)))))
+        (All-nil (λ e. All (IsFormOf the_wave) e.forms)));
   }
 
   one_wave : (node : ℕ) → kind_at plan node ≡ Source → count_by (λ w. w.node == node) (path_waves wave) ≡ 1
@@ -116,10 +113,10 @@ module _ (plan : Plan) (wave : Wav) (source sink : PlanNode) (epoch : Epoch) (bu
   path_covered = record {
     kinds = subst (λ ns. All (λ n. IsSourceOrSink n.kind) ns) (sym p.nodes)
         (All-cons (λ n. IsSourceOrSink n.kind) source (sink ∷ []) (known Source source p.is_source tt)
-            (All-cons (λ n. IsSourceOrSink n.kind) sink [] (known Sink sink p.is_sink tt) (All-nil (λ n. IsSourceOrSink n.kind))));
+        (All-cons (λ n. IsSourceOrSink n.kind) sink [] (known Sink sink p.is_sink tt) (All-nil (λ n. IsSourceOrSink n.kind))));
     one = let n : length plan.epochs ≡ 1 = ap length p.epochs in omega arith;
     prompt = subst (λ es. All (λ e. All (λ l. l.delayed ≡ false) e.shape.links) es) (sym p.epochs)
         (All-cons (λ e. All (λ l. l.delayed ≡ false) e.shape.links) epoch []
-            (subst (λ ls. All (λ l. l.delayed ≡ false) ls) (sym p.here.links) (All-cons (λ l. l.delayed ≡ false) (path_link wave buffers) [] refl (All-nil (λ l. l.delayed ≡ false))))
-            (All-nil (λ e. All (λ l. l.delayed ≡ false) e.shape.links)));
+        (subst (λ ls. All (λ l. l.delayed ≡ false) ls) (sym p.here.links) (All-cons (λ l. l.delayed ≡ false) (path_link wave buffers) [] refl (All-nil (λ l. l.delayed ≡ false))))
+        (All-nil (λ e. All (λ l. l.delayed ≡ false) e.shape.links)));
   }

@@ -1,18 +1,15 @@
 -- The plans of the tests can be rendered, and the reference program covers them.
-use Rattle.std.proofs.Common.{◌≡◌, ℕ, zero, suc, ◌<◌, ◌≤◌, ◌==◌, ◌⊎◌, inl, inr, false, List, [], ◌∷◌, map, length, All, count_by, get_or, ℤ, refl, arith}
+use Rattle.std.proofs.Common.{◌≡◌, ℕ, zero, suc, ◌<◌, ◌==◌, inl, inr, false, List, [], ◌∷◌, All, count_by, ℤ, refl, arith}
 use Rattle.std.proofs.lemmas.List.Elements.{All-cons, All-nil}
 use Rattle.pw_base.specs.declared.kind.Kind.TheVariants.{Source, Sink, Dummy}
 use Rattle.pw_base.specs.declared.shape.ShapeLink.{ShapeLink}
-use Rattle.pw_base.specs.declared.shape.ShapeNode.{ShapeNode}
 use Rattle.pw_base.specs.declared.plan.Epoch.{Epoch}
-use Rattle.pw_base.specs.declared.plan.Plan.{Plan}
-use Rattle.pw_base.specs.declared.plan.PlanNode.{PlanNode}
 use Rattle.wav_files.specs.declared.wav.WavIn.{WavIn}
 use Rattle.cycle_model.specs.Cycle.{kind_at}
 use Rattle.cycle_model.specs.FirstPath.{IsFirstPath}
 use Rattle.cycle_model.specs.TestPlans.{test_node, test_active, test_link, test_form, test_epoch, one_source, three_sources}
 use Rattle.cycle_model.specs.WavesFit.{IsFormOf, IsWaveOfSource}
-use Rattle.cycle_model.specs.Renderable.{FollowFrom, IsFitting, IsNodeOf, IsRenderableEpoch, IsRenderable, IsSourceOrSink, IsCovered}
+use Rattle.cycle_model.specs.Renderable.{IsFitting, IsNodeOf, IsRenderableEpoch, IsRenderable, IsSourceOrSink, IsCovered}
 use Rattle.cycle_model.proofs.FirstPathLemmas.{path_renderable}
 
 abbrev the_epoch : Epoch

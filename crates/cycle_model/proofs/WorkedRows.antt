@@ -1,5 +1,5 @@
 -- The definitions at work: small plans, each of whose last node is a sink, and what it keeps, by computation alone.
-use Rattle.std.proofs.Common.{◌≡◌, ℕ, Bool, true, false, List, [], ◌∷◌, ◌++◌, map, length, ℤ, pos, negsuc, refl}
+use Rattle.std.proofs.Common.{◌≡◌, ℕ, true, false, List, [], ◌∷◌, map, ℤ, pos, negsuc, refl}
 use Rattle.pw_base.specs.declared.ids.PortId.{PortId}
 use Rattle.pw_base.specs.declared.kind.Kind.{Kind}
 use Rattle.pw_base.specs.declared.kind.Kind.TheVariants.{Source, Gain, Mix2, Delay, Split, Sink}
@@ -10,7 +10,6 @@ use Rattle.pw_base.specs.declared.plan.Fresh.{Fresh}
 use Rattle.pw_base.specs.declared.plan.PlanNode.{PlanNode}
 use Rattle.pw_base.specs.declared.plan.Plan.{Plan}
 use Rattle.wav_files.specs.declared.wav.WavIn.{WavIn}
-use Rattle.wav_files.specs.declared.outcome.Kept.{Kept}
 use Rattle.cycle_model.specs.Cycle.{outputs_after}
 use Rattle.cycle_model.specs.Rendering.{rendered_sinks}
 
@@ -66,21 +65,21 @@ abbrev one_source : Plan
 one_source = plan 2 (node Source ∷ sink ∷ []) (epoch 0 2 2 (0 ∷ 1 ∷ 63 ∷ []) (prompt (port 0 0) (port 1 0) ∷ []) ((0, 0, 1) ∷ (1, 0, 1) ∷ []) (1 ∷ []) ∷ [])
 
 pub one_source_is_kept : Keeps one_source (wave 0 1 (pos 7 ∷ pos 8 ∷ pos 9 ∷ []) ∷ []) 1 (pos 7 ∷ pos 8 ∷ pos 9 ∷ pos 0 ∷ [])
-unfolding outputs_after
+unfolding outputs_after rendered_sinks
 one_source_is_kept = refl
 
 -- three sources into one port are clamped once, after the sum
 abbrev three_sources : Plan
 three_sources = plan 1 (node Source ∷ node Source ∷ node Source ∷ sink ∷ [])
     (epoch 0 1 1 (0 ∷ 1 ∷ 2 ∷ 3 ∷ 63 ∷ []) (prompt (port 0 0) (port 3 0) ∷ prompt (port 1 0) (port 3 0) ∷ prompt (port 2 0) (port 3 0) ∷ [])
-        ((0, 0, 1) ∷ (1, 0, 1) ∷ (2, 0, 1) ∷ (3, 0, 1) ∷ []) (3 ∷ []) ∷ [])
+    ((0, 0, 1) ∷ (1, 0, 1) ∷ (2, 0, 1) ∷ (3, 0, 1) ∷ []) (3 ∷ []) ∷ [])
 
 pub three_sources_are_clamped_once : Keeps three_sources (wave 0 1 (pos 30000 ∷ []) ∷ wave 1 1 (pos 30000 ∷ []) ∷ wave 2 1 (negsuc 29999 ∷ []) ∷ []) 3 (pos 30000 ∷ [])
-unfolding outputs_after
+unfolding outputs_after rendered_sinks
 three_sources_are_clamped_once = refl
 
 pub two_sources_stop_at_the_end : Keeps three_sources (wave 0 1 (negsuc 32767 ∷ []) ∷ wave 1 1 (negsuc 32767 ∷ []) ∷ []) 3 (negsuc 32767 ∷ [])
-unfolding outputs_after
+unfolding outputs_after rendered_sinks
 two_sources_stop_at_the_end = refl
 
 -- a source that is off for an epoch goes on where it stopped
@@ -89,19 +88,19 @@ off_and_on = let links = prompt (port 0 0) (port 1 0) ∷ [] in let forms = (0, 
     (epoch 0 1 2 (0 ∷ 1 ∷ []) links forms (1 ∷ []) ∷ epoch 1 1 2 (1 ∷ []) [] ((1, 0, 1) ∷ []) [] ∷ epoch 2 1 2 (0 ∷ 1 ∷ []) links forms [] ∷ [])
 
 pub a_source_goes_on_where_it_stopped : Keeps off_and_on (wave 0 1 (pos 1 ∷ pos 2 ∷ pos 3 ∷ pos 4 ∷ pos 5 ∷ pos 6 ∷ []) ∷ []) 1 (pos 1 ∷ pos 2 ∷ pos 0 ∷ pos 0 ∷ pos 3 ∷ pos 4 ∷ [])
-unfolding outputs_after
+unfolding outputs_after rendered_sinks
 a_source_goes_on_where_it_stopped = refl
 
 -- a stereo source, split and mixed again
 abbrev split_and_mixed : Plan
 split_and_mixed = plan 4 (node Source ∷ node Split ∷ node (Mix2 (pos 256) (pos 256)) ∷ sink ∷ [])
     (epoch 0 1 4 (0 ∷ 1 ∷ 2 ∷ 3 ∷ [])
-        (record { from = port 0 0; to = port 1 0; channels = 2; buffers = 2; delayed = false } ∷ prompt (port 1 1) (port 2 0) ∷ prompt (port 1 2) (port 2 1) ∷ prompt (port 2 2) (port 3 0) ∷ [])
-        ((0, 0, 2) ∷ (1, 0, 2) ∷ (1, 1, 1) ∷ (1, 2, 1) ∷ (2, 0, 1) ∷ (2, 1, 1) ∷ (2, 2, 1) ∷ (3, 0, 1) ∷ []) (1 ∷ 2 ∷ 3 ∷ []) ∷ [])
+    (record { from = port 0 0; to = port 1 0; channels = 2; buffers = 2; delayed = false } ∷ prompt (port 1 1) (port 2 0) ∷ prompt (port 1 2) (port 2 1) ∷ prompt (port 2 2) (port 3 0) ∷ [])
+    ((0, 0, 2) ∷ (1, 0, 2) ∷ (1, 1, 1) ∷ (1, 2, 1) ∷ (2, 0, 1) ∷ (2, 1, 1) ∷ (2, 2, 1) ∷ (3, 0, 1) ∷ []) (1 ∷ 2 ∷ 3 ∷ []) ∷ [])
 
 pub left_and_right_are_mixed : Keeps split_and_mixed (wave 0 2 (pos 1 ∷ pos 10 ∷ pos 2 ∷ pos 20 ∷ pos 3 ∷ pos 30 ∷ pos 4 ∷ pos 40 ∷ []) ∷ []) 3
     (pos 11 ∷ pos 22 ∷ pos 33 ∷ pos 44 ∷ [])
-unfolding outputs_after
+unfolding outputs_after rendered_sinks
 left_and_right_are_mixed = refl
 
 -- a delay by one frame that gives up its formats between two epochs begins anew; one longer than the run is silent
@@ -114,17 +113,17 @@ through_delay first cycles quantum begins = epoch first cycles quantum (0 ∷ 1 
 
 pub a_delay_begins_anew : Keeps (delayed_by 1 2 (through_delay 0 1 2 (1 ∷ 2 ∷ []) ∷ through_delay 1 1 2 (1 ∷ []) ∷ []))
     (wave 0 1 (pos 1 ∷ pos 2 ∷ pos 3 ∷ pos 4 ∷ []) ∷ []) 2 (pos 0 ∷ pos 1 ∷ pos 0 ∷ pos 3 ∷ [])
-unfolding outputs_after
+unfolding outputs_after rendered_sinks
 a_delay_begins_anew = refl
 
 pub a_delay_goes_on : Keeps (delayed_by 1 2 (through_delay 0 1 2 (1 ∷ 2 ∷ []) ∷ through_delay 1 1 2 [] ∷ []))
     (wave 0 1 (pos 1 ∷ pos 2 ∷ pos 3 ∷ pos 4 ∷ []) ∷ []) 2 (pos 0 ∷ pos 1 ∷ pos 2 ∷ pos 3 ∷ [])
-unfolding outputs_after
+unfolding outputs_after rendered_sinks
 a_delay_goes_on = refl
 
 pub a_delay_longer_than_the_run : Keeps (delayed_by 10 4 (through_delay 0 2 4 (1 ∷ 2 ∷ []) ∷ []))
     (wave 0 1 (pos 1 ∷ pos 2 ∷ pos 3 ∷ pos 4 ∷ []) ∷ []) 2 (pos 0 ∷ pos 0 ∷ pos 0 ∷ pos 0 ∷ pos 0 ∷ pos 0 ∷ pos 0 ∷ pos 0 ∷ [])
-unfolding outputs_after
+unfolding outputs_after rendered_sinks
 a_delay_longer_than_the_run = refl
 
 -- two links that are a cycle late, one after the other
@@ -133,17 +132,17 @@ late_gain = plan 2 (node Source ∷ node (Gain (pos 256)) ∷ sink ∷ [])
     (epoch 0 4 2 (0 ∷ 1 ∷ 2 ∷ []) (late (port 0 0) (port 1 0) ∷ late (port 1 1) (port 2 0) ∷ []) ((0, 0, 1) ∷ (1, 0, 1) ∷ (1, 1, 1) ∷ (2, 0, 1) ∷ []) (1 ∷ 2 ∷ []) ∷ [])
 
 pub two_late_links_are_two_cycles : Keeps late_gain (wave 0 1 (pos 1 ∷ pos 2 ∷ pos 3 ∷ pos 4 ∷ []) ∷ []) 2 (pos 0 ∷ pos 0 ∷ pos 0 ∷ pos 0 ∷ pos 1 ∷ pos 2 ∷ pos 3 ∷ pos 4 ∷ [])
-unfolding outputs_after
+unfolding outputs_after rendered_sinks
 two_late_links_are_two_cycles = refl
 
 -- a loop through links that are a cycle late
 abbrev feedback : Plan
 feedback = plan 1 (node Source ∷ node (Mix2 (pos 256) (pos 128)) ∷ node (Gain (pos 256)) ∷ sink ∷ [])
     (epoch 0 5 1 (0 ∷ 1 ∷ 2 ∷ 3 ∷ []) (prompt (port 0 0) (port 1 0) ∷ late (port 1 2) (port 2 0) ∷ late (port 2 1) (port 1 1) ∷ prompt (port 1 2) (port 3 0) ∷ [])
-        ((0, 0, 1) ∷ (1, 0, 1) ∷ (1, 1, 1) ∷ (1, 2, 1) ∷ (2, 0, 1) ∷ (2, 1, 1) ∷ (3, 0, 1) ∷ []) (1 ∷ 2 ∷ 3 ∷ []) ∷ [])
+    ((0, 0, 1) ∷ (1, 0, 1) ∷ (1, 1, 1) ∷ (1, 2, 1) ∷ (2, 0, 1) ∷ (2, 1, 1) ∷ (3, 0, 1) ∷ []) (1 ∷ 2 ∷ 3 ∷ []) ∷ [])
 
 pub feedback_decays : Keeps feedback (wave 0 1 (pos 8 ∷ []) ∷ []) 3 (pos 8 ∷ pos 0 ∷ pos 4 ∷ pos 0 ∷ pos 2 ∷ [])
-unfolding outputs_after
+unfolding outputs_after rendered_sinks
 feedback_decays = refl
 
 -- what a late link holds at an epoch's end is dropped
@@ -154,14 +153,14 @@ abbrev late_source : List Epoch → Plan
 late_source epochs = plan 1 (node Source ∷ sink ∷ []) epochs
 
 pub a_late_link : Keeps (late_source (late_epoch 0 3 (1 ∷ []) ∷ [])) (wave 0 1 (pos 5 ∷ pos 6 ∷ pos 7 ∷ []) ∷ []) 1 (pos 0 ∷ pos 5 ∷ pos 6 ∷ [])
-unfolding outputs_after
+unfolding outputs_after rendered_sinks
 a_late_link = refl
 
 pub each_epoch_begins_with_silence : Keeps (late_source (late_epoch 0 1 (1 ∷ []) ∷ late_epoch 1 2 [] ∷ [])) (wave 0 1 (pos 5 ∷ pos 6 ∷ pos 7 ∷ []) ∷ []) 1 (pos 0 ∷ pos 0 ∷ pos 6 ∷ [])
-unfolding outputs_after
+unfolding outputs_after rendered_sinks
 each_epoch_begins_with_silence = refl
 
 pub so_does_one_after_a_pause : Keeps (late_source (late_epoch 0 1 (1 ∷ []) ∷ epoch 1 1 1 (1 ∷ []) [] ((1, 0, 1) ∷ []) [] ∷ late_epoch 2 2 [] ∷ []))
     (wave 0 1 (pos 5 ∷ pos 6 ∷ pos 7 ∷ []) ∷ []) 1 (pos 0 ∷ pos 0 ∷ pos 0 ∷ pos 6 ∷ [])
-unfolding outputs_after
+unfolding outputs_after rendered_sinks
 so_does_one_after_a_pause = refl

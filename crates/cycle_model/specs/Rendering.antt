@@ -40,8 +40,8 @@ peak_at plan waves (place, node) =
     else None
 
 -- ascending by node
-abbrev pub rendered_sinks : Plan → List WavIn → List Kept
+unfoldable pub rendered_sinks : Plan → List WavIn → List Kept
 rendered_sinks plan waves = filter_map (kept_of plan waves) (enumerate_from 0 plan.nodes)
 
-abbrev pub rendered_peaks : Plan → List WavIn → List Peak
+unfoldable pub rendered_peaks : Plan → List WavIn → List Peak
 rendered_peaks plan waves = filter_map (peak_at plan waves) (enumerate_from 0 plan.nodes)

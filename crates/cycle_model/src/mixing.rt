@@ -1,11 +1,14 @@
 //! Samples of several waves, added and clamped once.
-ghost use Rattle.std.specs.Prelude.{◌≡◌, ℕ, ◌≤◌, ◌^◌, length, IfOk};
+ghost use Rattle.std.specs.Prelude.{◌≡◌, ℕ, ◌≤◌, length, IfOk};
 ghost use Rattle.pw_base.specs.Samples.{clamped};
 ghost use Rattle.cycle_model.specs.Mixing.{sample_at_place, sum_at, mixed_row};
 
 use pw_base::{Items, Memory};
 use std::alloc::Global;
 use wav_files::WavIn;
+
+/// The most waves that are added: their sum fits an `i64`.
+pub const WAVES_MAX: usize = 0x1_0000_0000;
 
 /// Sample `j` of the wave at `place`: 0 past its end, and where there is no such wave.
 fn sample_at_place(waves: &[WavIn], j: usize, place: usize) -> i16
@@ -22,7 +25,7 @@ fn sample_at_place(waves: &[WavIn], j: usize, place: usize) -> i16
 
 /// The clamped sum of sample `j` of the waves at the places.
 fn mixed_at(waves: &[WavIn], places: &[usize], j: usize) -> i16
-    requires { length places.now ≤ 2 ^ 32 }
+    requires { length places.now ≤ WAVES_MAX }
     ensures { result ≡ clamped (sum_at waves.now places.now j) }
 {
     let mut sum: i64 = 0;
@@ -34,7 +37,7 @@ fn mixed_at(waves: &[WavIn], places: &[usize], j: usize) -> i16
 
 /// Writes the clamped sum of each sample of the waves at the places.
 fn fill(to: &mut [i16], waves: &[WavIn], places: &[usize])
-    requires { length places.now ≤ 2 ^ 32 }
+    requires { length places.now ≤ WAVES_MAX }
     ensures { to.new ≡ mixed_row waves.now places.now (length to.old) }
 {
     for i in 0..to.len() {
@@ -49,7 +52,7 @@ pub fn mixed(
     places: &[usize],
     len: usize,
 ) -> Result<Items<i16>, Memory>
-    requires { length places.now ≤ 2 ^ 32 }
+    requires { length places.now ≤ WAVES_MAX }
     ensures { IfOk result (λ row. row ≡ mixed_row waves.now places.now len) }
 {
     let mut row = Items::filled(alloc, len, 0)?;

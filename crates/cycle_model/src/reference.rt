@@ -1,22 +1,18 @@
 //! The reference program: a plan and its waves rendered in one thread, by index into whole streams.
-ghost use Rattle.std.specs.Prelude.{◌≡◌, ℕ, ◌*◌, ◌≤◌, ◌<◌, ◌^◌, [], ◌++◌, length, option_to_list, OnOk, IfOk, IfSome};
-ghost use Rattle.pw_base.specs.KindPorts.{input_count};
+ghost use Rattle.std.specs.Prelude.{◌≡◌, ℕ, ◌*◌, ◌^◌, ◌≤◌, [], ◌++◌, option_to_list, OnOk, IfOk, MatchOption};
 ghost use Rattle.cycle_model.specs.Mixing.{epoch_row};
 ghost use Rattle.cycle_model.specs.Renderable.{IsRenderable, IsCovered};
 ghost use Rattle.cycle_model.specs.Rendering.{end_stream, is_sink, kept_of, rendered_sinks, rendered_peaks};
 
 use crate::feeds::{channels_of, places_into, takes_part};
-use crate::mixing::mixed;
+use crate::mixing::{WAVES_MAX, mixed};
 use pw_base::{Epoch, Items, Kind, Memory, Plan, PlanNode, PortId};
 use std::alloc::Global;
 use wav_files::{Kept, Outcome, Wav, WavIn};
 
-/// The most links into one port: their sum of samples fits an `i64`.
-const LINKS_MAX: usize = 0x1_0000_0000;
-
 /// So many cycles of so many frames of so many channels, in samples; nothing where the number does not fit.
 fn samples_of(cycles: u32, quantum: u32, channels: u32) -> Option<usize>
-    ensures { IfSome result (λ n. n ≡ cycles * (quantum * channels)) }
+    ensures { MatchOption result (2 ^ 64 ≤ cycles * (quantum * channels)) (λ n. n ≡ cycles * (quantum * channels)) }
 {
     let row = u64::from(quantum) * u64::from(channels);
     match u64::from(cycles).checked_mul(row) {
@@ -37,7 +33,7 @@ fn row_of(alloc: Global, epoch: &Epoch, waves: &[WavIn], port: PortId) -> Result
         return Err(Memory);
     };
     let places = places_into(alloc, waves, epoch.shape.links.as_slice(), port)?;
-    if places.len() > LINKS_MAX {
+    if places.len() > WAVES_MAX {
         return Err(Memory);
     }
     mixed(alloc, waves, places.as_slice(), len)
@@ -119,8 +115,8 @@ fn all_kept(alloc: Global, plan: &Plan, waves: &[WavIn]) -> Result<Items<Kept>, 
 /// Renders a plan from its waves: what each sink keeps, and the peak of each meter, with no history of a run.
 ///
 /// So far it covers plans of sources and sinks with at most one epoch, and no link that is a cycle late.
-/// `Memory` where there is not enough, or where a stream is longer than memory can be.
-/// The time is that of all samples of the sinks times their links.
+/// `Memory` where there is not enough, or where a stream or the links into a port are more than memory can hold.
+/// It takes memory for what the sinks keep, and time for each sample of each link into a sink.
 pub fn render(alloc: Global, plan: &Plan, waves: &Items<WavIn>) -> Result<Outcome, Memory>
     requires renderable { IsRenderable plan.now waves.now }
     requires covered { IsCovered plan.now }

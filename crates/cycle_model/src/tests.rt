@@ -3,7 +3,9 @@ ghost use Rattle.std.specs.Prelude.{◌≡◌, ℕ, false, List, [], ◌∷◌, 
 ghost use Rattle.cycle_model.specs.TestPlans.{of_one_epoch, one_source, three_sources};
 
 use crate::render;
-use pw_base::{Epoch, Items, Kind, Memory, Plan, PlanNode, PortForm, PortId, Shape, ShapeLink, ShapeNode};
+use pw_base::{
+    Epoch, Items, Kind, Memory, Plan, PlanNode, PortForm, PortId, Shape, ShapeLink, ShapeNode,
+};
 use std::alloc::Global;
 use std::process::Abort;
 use std::test::Fail;
@@ -38,7 +40,10 @@ fn link(from: u32, to: u32) -> ShapeLink
     ensures { result ≡ record { from = record { node = from; port = 0 }; to = record { node = to; port = 0 }; channels = 1; buffers = 2; delayed = false } }
 {
     ShapeLink {
-        from: PortId { node: from, port: 0 },
+        from: PortId {
+            node: from,
+            port: 0,
+        },
         to: PortId { node: to, port: 0 },
         channels: 1,
         buffers: 2,
@@ -82,7 +87,13 @@ fn with<T: Drop>(list: Items<T>, item: T) -> Result<Items<T>, Memory>
 }
 
 /// A plan of one epoch of two cycles, with two frames each.
-fn plan(alloc: Global, nodes: Items<PlanNode>, active: Items<ShapeNode>, links: Items<ShapeLink>, forms: Items<PortForm>) -> Result<Plan, Memory>
+fn plan(
+    alloc: Global,
+    nodes: Items<PlanNode>,
+    active: Items<ShapeNode>,
+    links: Items<ShapeLink>,
+    forms: Items<PortForm>,
+) -> Result<Plan, Memory>
     ensures { IfOk result (λ p. p ≡ of_one_epoch nodes active links forms) }
 {
     let epoch = Epoch {
@@ -159,7 +170,10 @@ fn a_sink_keeps_the_wave_and_then_silence(rt: HostRuntime) -> Result<(), Fail> {
 fn three_sources_are_clamped_once(rt: HostRuntime) -> Result<(), Fail> {
     let alloc = rt.alloc();
     let plan = three_sources(alloc)?;
-    let waves = with(Items::new(alloc), wave(alloc, 0, [30000, -32768].as_slice())?)?;
+    let waves = with(
+        Items::new(alloc),
+        wave(alloc, 0, [30000, -32768].as_slice())?,
+    )?;
     let waves = with(waves, wave(alloc, 1, [30000, -32768].as_slice())?)?;
     let waves = with(waves, wave(alloc, 2, [-30000].as_slice())?)?;
     let outcome = render(alloc, &plan, &waves)?;

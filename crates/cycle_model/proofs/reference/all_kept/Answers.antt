@@ -3,7 +3,7 @@ use Rattle.std.specs.List.{enumerate_from}
 use Rattle.std.proofs.lemmas.List.{take_all}
 use Rattle.std.proofs.lemmas.List.FromFn.{length-enumerate_from}
 use Rattle.pw_base.specs.declared.plan.PlanNode.{PlanNode}
-use Rattle.cycle_model.specs.Rendering.{kept_of}
+use Rattle.cycle_model.specs.Rendering.{kept_of, rendered_sinks}
 use Rattle.cycle_model.proofs.OutcomeLemmas.{kept_more}
 use Rattle.cycle_model.proofs.reference.all_kept.Goals as goal
 
@@ -22,6 +22,7 @@ loop-i-preserved c =
     ∙ sym (kept_more h nodes i node lt read)
 
 pub returns : goal.returns
+unfolding rendered_sinks
 returns c =
     let nodes = c.args.plan.now.nodes in
     let same : c.as_slice-nodes.result.now ≡ nodes = c.as_slice-nodes.ensures in
