@@ -63,6 +63,7 @@ module _ (names : List (List ℕ)) (quantum : ℕ) (sink link : Line) (w : WavIn
   kept n = record { node = 1; wav = record { rate = w.wav.rate; channels = w.wav.channels; samples = end_stream (linked n) (w ∷ []) 1 } }
 
   one_kept : (n : ℕ) → rendered_sinks (linked n) (w ∷ []) ≡ kept n ∷ []
+  unfolding rendered_sinks
   one_kept n =
       let some : nat_lt 0 w.wav.rate ≡ true = search (rules, first.1.rate.0) in
       rw some refl
@@ -84,6 +85,7 @@ module _ (names : List (List ℕ)) (quantum : ℕ) (sink link : Line) (w : WavIn
 all_storable : (names : List (List ℕ)) (quantum cycles : ℕ) (sink link : Option Line) (waves : List WavIn) → AreFirstWaves waves
     → ((l : Line) → sink ≡ Some l → 1 ≤ l.line) → cycles * (quantum * channels_in (form_of sink link waves)) ≤ 134217728
     → All IsStorable (map (store_of sink) (rendered_sinks (made names quantum cycles sink (form_of sink link waves) waves) waves))
+unfolding rendered_sinks
 all_storable names quantum cycles None link [] first placed small = All-nil IsStorable
 all_storable names quantum cycles None link (w ∷ []) first placed small = All-nil IsStorable
 all_storable names quantum cycles None link (w ∷ x ∷ more) first placed small = absurd first
