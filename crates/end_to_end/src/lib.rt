@@ -1,0 +1,11 @@
+//! Tests of whole command lines over files and an output in memory. There is nothing else here.
+#![tactic(auto)]
+
+#[cfg(test)]
+mod faults;
+#[cfg(test)]
+mod refusals;
+#[cfg(test)]
+mod rendering;
+#[cfg(test)]
+mod support;
