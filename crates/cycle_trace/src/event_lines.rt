@@ -1,5 +1,5 @@
 //! The lines of a history.
-ghost use Rattle.std.specs.Prelude.{◌≡◌, ℕ, ◌∷◌, ◌++◌, ◌<◌, ◌%◌, ◌/◌, ◌^◌, map, flat_map, All, codes, decimal, OnOk};
+ghost use Rattle.std.specs.Prelude.{◌≡◌, ℕ, ◌<◌, ◌/◌, ◌%◌, ◌^◌, ◌∷◌, ◌++◌, map, flat_map, All, decimal, OnOk};
 ghost use Rattle.cycle_trace.specs.Printable.{IsNode, NamesNodes};
 ghost use Rattle.cycle_trace.specs.EventLines.{event_line, late_nodes};
 ghost use Rattle.cycle_trace.specs.NodeNames.{node_name};

@@ -1,5 +1,5 @@
 //! The lines that say what each `link` and `unlink` did.
-ghost use Rattle.std.specs.Prelude.{◌≡◌, ℕ, ◌∷◌, ◌++◌, flat_map, All, codes, OnOk};
+ghost use Rattle.std.specs.Prelude.{◌≡◌, ◌∷◌, ◌++◌, flat_map, All, OnOk};
 ghost use Rattle.cycle_trace.specs.Printable.{IsPort, JoinsPorts};
 ghost use Rattle.cycle_trace.specs.LinkLines.{link_details, link_line, link_word};
 ghost use Rattle.cycle_trace.specs.NodeNames.{endpoint};

@@ -1,5 +1,5 @@
 //! The lines that say what each sink and each meter has.
-ghost use Rattle.std.specs.Prelude.{◌≡◌, ℕ, [], ◌∷◌, ◌++◌, ◌/◌, ◌==◌, flat_map, find, length, codes, decimal, option_copied, OnOk};
+ghost use Rattle.std.specs.Prelude.{◌≡◌, ◌/◌, ◌==◌, [], ◌∷◌, ◌++◌, flat_map, find, length, codes, decimal, option_copied, OnOk};
 ghost use Rattle.std.specs.List.{enumerate_from};
 ghost use Rattle.cycle_trace.specs.ResultLines.{sink_frames, meter_peak, result_line};
 ghost use Rattle.cycle_trace.specs.Words.{line};
