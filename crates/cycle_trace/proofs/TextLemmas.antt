@@ -8,7 +8,7 @@ use Rattle.std.proofs.lemmas.List.Elements.{filter-append}
 use Rattle.std.proofs.lemmas.Fmt.{decimal_step, decimal_digit}
 use Rattle.pw_base.specs.declared.plan.PlanNode.{PlanNode}
 use Rattle.cycle_trace.specs.Words.{spaced, line}
-use Rattle.cycle_trace.specs.RunText.{members}
+use Rattle.cycle_trace.specs.EventLines.{late_nodes}
 
 -- a digit stands before those that were put
 pub digit_put : (digits rest : List ℕ) (start d : ℕ) → 0 < start → start ≤ length digits → drop (start - 1) (set digits (start - 1) d) ≡ d ∷ drop start digits
@@ -38,41 +38,41 @@ enumerate_from-push n (y ∷ ys) x =
     let number : n + 1 + length ys ≡ n + (length ys + 1) = omega arith in
     ap (λ r. (n, y) ∷ r) (enumerate_from-push (n + 1) ys x) ∙ ap (λ (k : ℕ). (n, y) ∷ (enumerate_from (n + 1) ys ++ (k, x) ∷ [])) (omega arith)
 
--- the members below a number
-abbrev pub members_below : ℕ → ℕ → List ℕ
-members_below late n = filter (λ k. late / 2 ^ k % 2 == 1) (range_with_len 0 n)
+-- the late nodes below a number
+abbrev pub late_below : ℕ → ℕ → List ℕ
+late_below late n = filter (λ k. late / 2 ^ k % 2 == 1) (range_with_len 0 n)
 
--- all members
-pub members_below-all : (late n : ℕ) → n ≡ 64 → members_below late n ≡ members late
-unfolding members
-members_below-all late n e = ap (members_below late) e
+-- all late nodes
+pub late_below-all : (late n : ℕ) → n ≡ 64 → late_below late n ≡ late_nodes late
+unfolding late_nodes
+late_below-all late n e = ap (late_below late) e
 
 -- one number more
-pub members_below-more : (late n : ℕ) → members_below late (n + 1) ≡ members_below late n ++ cond (late / 2 ^ n % 2 == 1) (n ∷ []) []
-members_below-more late n =
+pub late_below-more : (late n : ℕ) → late_below late (n + 1) ≡ late_below late n ++ cond (late / 2 ^ n % 2 == 1) (n ∷ []) []
+late_below-more late n =
     let more : range_with_len 0 (n + 1) ≡ range_with_len 0 n ++ n ∷ [] =
     sym (map-id (range_with_len 0 (n + 1))) ∙ map-range_with_len_more (λ (k : ℕ). k) 0 n n (omega arith) ∙ ap (λ (r : List ℕ). r ++ n ∷ []) (map-id (range_with_len 0 n)) in
     ap (filter (λ k. late / 2 ^ k % 2 == 1)) more ∙ filter-append (λ k. late / 2 ^ k % 2 == 1) (range_with_len 0 n) (n ∷ [])
 
 -- a late node more is named
-pub member_named : (name : ℕ → List ℕ) (old text more : List ℕ) (late n : ℕ) → text ≡ old ++ spaced (map name (members_below late n)) → late / 2 ^ n % 2 ≡ 1
-    → more ≡ text ++ (32 ∷ name n) → more ≡ old ++ spaced (map name (members_below late (n + 1)))
-member_named name old text more late n before bit named =
-    let step : members_below late (n + 1) ≡ members_below late n ++ n ∷ [] =
-    members_below-more late n ∙ ap (λ (b : Bool). members_below late n ++ cond b (n ∷ []) []) (eq-eqb (late / 2 ^ n % 2) 1 bit) in
-    let words : spaced (map name (members_below late (n + 1))) ≡ spaced (map name (members_below late n)) ++ (32 ∷ name n) =
-    ap (λ (ns : List ℕ). spaced (map name ns)) step ∙ ap spaced (map-append name (members_below late n) (n ∷ []))
-    ∙ flat_map-append (λ (word : List ℕ). 32 ∷ word) (map name (members_below late n)) (name n ∷ [])
-    ∙ ap (λ (r : List ℕ). spaced (map name (members_below late n)) ++ (32 ∷ r)) (append-nil (name n)) in
-    named ∙ ap (λ (r : List ℕ). r ++ (32 ∷ name n)) before ∙ append_assoc old (spaced (map name (members_below late n))) (32 ∷ name n)
+pub late_named : (name : ℕ → List ℕ) (old text more : List ℕ) (late n : ℕ) → text ≡ old ++ spaced (map name (late_below late n)) → late / 2 ^ n % 2 ≡ 1
+    → more ≡ text ++ (32 ∷ name n) → more ≡ old ++ spaced (map name (late_below late (n + 1)))
+late_named name old text more late n before bit named =
+    let step : late_below late (n + 1) ≡ late_below late n ++ n ∷ [] =
+    late_below-more late n ∙ ap (λ (b : Bool). late_below late n ++ cond b (n ∷ []) []) (eq-eqb (late / 2 ^ n % 2) 1 bit) in
+    let words : spaced (map name (late_below late (n + 1))) ≡ spaced (map name (late_below late n)) ++ (32 ∷ name n) =
+    ap (λ (ns : List ℕ). spaced (map name ns)) step ∙ ap spaced (map-append name (late_below late n) (n ∷ []))
+    ∙ flat_map-append (λ (word : List ℕ). 32 ∷ word) (map name (late_below late n)) (name n ∷ [])
+    ∙ ap (λ (r : List ℕ). spaced (map name (late_below late n)) ++ (32 ∷ r)) (append-nil (name n)) in
+    named ∙ ap (λ (r : List ℕ). r ++ (32 ∷ name n)) before ∙ append_assoc old (spaced (map name (late_below late n))) (32 ∷ name n)
     ∙ ap (λ (r : List ℕ). old ++ r) (sym words)
 
 -- a node that is not late is not named
-pub member_skipped : (name : ℕ → List ℕ) (old text : List ℕ) (late n : ℕ) → text ≡ old ++ spaced (map name (members_below late n)) → (late / 2 ^ n % 2 ≡ 1 → ⊥)
-    → text ≡ old ++ spaced (map name (members_below late (n + 1)))
-member_skipped name old text late n before bit =
-    let step : members_below late (n + 1) ≡ members_below late n =
-    members_below-more late n ∙ ap (λ (b : Bool). members_below late n ++ cond b (n ∷ []) []) (ne_eqb (late / 2 ^ n % 2) 1 bit) ∙ append-nil (members_below late n) in
+pub late_skipped : (name : ℕ → List ℕ) (old text : List ℕ) (late n : ℕ) → text ≡ old ++ spaced (map name (late_below late n)) → (late / 2 ^ n % 2 ≡ 1 → ⊥)
+    → text ≡ old ++ spaced (map name (late_below late (n + 1)))
+late_skipped name old text late n before bit =
+    let step : late_below late (n + 1) ≡ late_below late n =
+    late_below-more late n ∙ ap (λ (b : Bool). late_below late n ++ cond b (n ∷ []) []) (ne_eqb (late / 2 ^ n % 2) 1 bit) ∙ append-nil (late_below late n) in
     before ∙ ap (λ (ns : List ℕ). old ++ spaced (map name ns)) (sym step)
 
 -- the words of a line, each after the one before

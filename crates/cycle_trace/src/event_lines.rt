@@ -1,7 +1,8 @@
 //! The lines of a history.
-ghost use Rattle.std.specs.Prelude.{◌≡◌, ℕ, ◌∷◌, ◌++◌, ◌<◌, ◌%◌, ◌/◌, ◌^◌, map, flat_map, All, codes, decimal, OnOk};
+ghost use Rattle.std.specs.Prelude.{◌≡◌, ℕ, ◌<◌, ◌/◌, ◌%◌, ◌^◌, ◌∷◌, ◌++◌, map, flat_map, All, decimal, OnOk};
 ghost use Rattle.cycle_trace.specs.Printable.{IsNode, NamesNodes};
-ghost use Rattle.cycle_trace.specs.RunText.{event_line, members, node_name};
+ghost use Rattle.cycle_trace.specs.EventLines.{event_line, late_nodes};
+ghost use Rattle.cycle_trace.specs.NodeNames.{node_name};
 ghost use Rattle.cycle_trace.specs.Words.{spaced};
 
 use crate::words::{append_number, append_word, end_line};
@@ -28,9 +29,9 @@ fn append_mark(word: &[u8], cycle: u32, text: &mut Text) -> Result<(), Memory>
 }
 
 /// Appends the names of a set of nodes, ascending by number.
-fn append_members(nodes: &[PlanNode], late: u64, text: &mut Text) -> Result<(), Memory>
+fn append_late_nodes(nodes: &[PlanNode], late: u64, text: &mut Text) -> Result<(), Memory>
     requires { (n : ℕ) → n < 64 → late / 2 ^ n % 2 ≡ 1 → IsNode nodes.now n }
-    ensures { OnOk result (text.new ≡ text.old ++ spaced (map (node_name nodes.now) (members late))) }
+    ensures { OnOk result (text.new ≡ text.old ++ spaced (map (node_name nodes.now) (late_nodes late))) }
 {
     for n in 0..64u32 {
         if (late >> n) % 2 == 1 {
@@ -57,7 +58,7 @@ fn append_event_line(nodes: &[PlanNode], event: Event, text: &mut Text) -> Resul
         }
         Event::Tick { cycle, late } => {
             append_mark(b"tick".as_slice(), cycle, text)?;
-            append_members(nodes, late, text)?;
+            append_late_nodes(nodes, late, text)?;
         }
         Event::End { cycle } => append_mark(b"end".as_slice(), cycle, text)?,
     }

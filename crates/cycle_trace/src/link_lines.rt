@@ -1,7 +1,8 @@
 //! The lines that say what each `link` and `unlink` did.
-ghost use Rattle.std.specs.Prelude.{◌≡◌, ℕ, ◌∷◌, ◌++◌, flat_map, All, codes, OnOk};
+ghost use Rattle.std.specs.Prelude.{◌≡◌, ◌∷◌, ◌++◌, flat_map, All, OnOk};
 ghost use Rattle.cycle_trace.specs.Printable.{IsPort, JoinsPorts};
-ghost use Rattle.cycle_trace.specs.RunText.{endpoint, link_details, link_line, link_word};
+ghost use Rattle.cycle_trace.specs.LinkLines.{link_details, link_line, link_word};
+ghost use Rattle.cycle_trace.specs.NodeNames.{endpoint};
 ghost use Rattle.cycle_trace.specs.Words.{spaced};
 
 use crate::words::{append_number, append_word, end_line};

@@ -1,5 +1,5 @@
 //! The whole text of a run.
-ghost use Rattle.std.specs.Prelude.{◌≡◌, ℕ, IfOk, option_copied};
+ghost use Rattle.std.specs.Prelude.{◌≡◌, IfOk, option_copied};
 ghost use Rattle.cycle_trace.specs.Printable.{IsPrintable};
 ghost use Rattle.cycle_trace.specs.RunText.{run_text_of};
 

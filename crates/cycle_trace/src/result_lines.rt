@@ -1,7 +1,7 @@
 //! The lines that say what each sink and each meter has.
-ghost use Rattle.std.specs.Prelude.{◌≡◌, ℕ, [], ◌∷◌, ◌++◌, ◌/◌, ◌==◌, flat_map, find, length, codes, decimal, option_copied, OnOk};
+ghost use Rattle.std.specs.Prelude.{◌≡◌, ◌/◌, ◌==◌, [], ◌∷◌, ◌++◌, flat_map, find, length, codes, decimal, option_copied, OnOk};
 ghost use Rattle.std.specs.List.{enumerate_from};
-ghost use Rattle.cycle_trace.specs.RunText.{frames_of, peak_of, result_line};
+ghost use Rattle.cycle_trace.specs.ResultLines.{sink_frames, meter_peak, result_line};
 ghost use Rattle.cycle_trace.specs.Words.{line};
 
 use crate::words::{append_number, append_word, end_line};
@@ -36,7 +36,7 @@ fn frames_in(wav: &Wav) -> u64
 
 /// The frames that a sink has kept.
 fn frames_kept(outcome: &Outcome, place: usize) -> u64
-    ensures { result ≡ frames_of outcome.now place }
+    ensures { result ≡ sink_frames outcome.now place }
 {
     match kept_at(outcome.sinks.as_slice(), place) {
         Some(kept) => frames_in(&kept.wav),
@@ -46,7 +46,7 @@ fn frames_kept(outcome: &Outcome, place: usize) -> u64
 
 /// The value of a meter.
 fn peak_kept(outcome: &Outcome, place: usize) -> u64
-    ensures { result ≡ peak_of outcome.now place }
+    ensures { result ≡ meter_peak outcome.now place }
 {
     match peak_at(outcome.peaks.as_slice(), place) {
         Some(peak) => u64::from(peak.value),

@@ -1,5 +1,5 @@
 //! Words and numbers at the end of a text.
-ghost use Rattle.std.specs.Prelude.{◌≡◌, ℕ, ◌∷◌, ◌++◌, [], ◌∷◌, codes, decimal, drop, length, ◌≤◌, OnOk};
+ghost use Rattle.std.specs.Prelude.{◌≡◌, ◌≤◌, [], ◌∷◌, ◌++◌, decimal, drop, length, OnOk};
 
 use pw_base::{Memory, Text};
 

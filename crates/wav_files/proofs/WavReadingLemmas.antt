@@ -1,5 +1,5 @@
 -- What writing and reading a plain file have to do with each other.
-use Rattle.std.proofs.Common.{◌≡◌, ℕ, suc, ◌+◌, ◌-◌, ◌*◌, ◌/◌, ◌%◌, ◌<◌, ◌≤◌, ◌==◌, ◌&&◌, Bool, true, false, List, [], ◌∷◌, ◌++◌, length, take, drop, get_or, slice_index, refl, sym, ap, ap₂, ◌∙◌, arith, ℤ, pos, length-append, length-drop, take-append-drop, get_or-drop, length-take-le, take_at, append_assoc, append-nil, FitsSigned, Ok, Err, to_z-of_z, nat_le, if◌then◌else◌}
+use Rattle.std.proofs.Common.{◌≡◌, ℕ, suc, ◌+◌, ◌-◌, ◌*◌, ◌/◌, ◌%◌, ◌<◌, ◌≤◌, ◌&&◌, Bool, true, false, List, [], ◌∷◌, ◌++◌, length, take, drop, get_or, slice_index, refl, sym, ap, ap₂, ◌∙◌, arith, ℤ, pos, length-append, length-drop, take-append-drop, get_or-drop, length-take-le, take_at, append_assoc, append-nil, FitsSigned, Ok, Err, to_z-of_z, if◌then◌else◌}
 use mir.Facts.{Fits-of_z}
 use Rattle.std.proofs.lemmas.List.{take_more}
 use Rattle.std.proofs.lemmas.Grind.{flat_map-append}
@@ -11,7 +11,7 @@ use Rattle.byteorder.specs.Endian.{little_number, little_bytes, IsReadBy}
 use Rattle.byteorder.specs.Numbers.{little_number-reads_back}
 use Rattle.wav_files.specs.declared.wav.Wav.{Wav}
 use Rattle.wav_files.specs.declared.fault.WavFault.TheVariants as F
-use Rattle.wav_files.specs.WavWriting.{sample_bytes, wav_header, wav_bytes, IsWave, is_wave}
+use Rattle.wav_files.specs.WavWriting.{is_wave_form, sample_bytes, wav_header, wav_bytes, IsWave, is_wave}
 use Rattle.wav_files.specs.WavReading.{samples_in, named_wave, wav_of, IsPlain}
 
 -- every one of the bytes is below 256
@@ -132,30 +132,26 @@ plain-header bytes rate channels r c plain =
     front ∙ ap (wav_header (named_wave bytes).rate (named_wave bytes).channels) size
     ∙ ap₂ (λ (x y : ℕ). wav_header x y (length bytes - 44)) (sym r) (sym c)
 
--- the test of a wave's numbers
-abbrev pub form_test : ℕ → ℕ → ℕ → Bool
-form_test rate channels samples = nat_le 1 rate && nat_le rate 384000 && nat_le 1 channels && nat_le channels 8 && (samples % channels == 0) && nat_le samples 134217728
-
 -- how many samples stand in bytes of such a length
 samples_count : (bytes : List ℕ) → length bytes % 2 ≡ 0 → 44 ≤ length bytes → length (samples_in (drop 44 bytes)) ≡ (length bytes - 44) / 2
 samples_count bytes even long = omega (arith, length-samples_in (drop 44 bytes), length-drop 44 bytes)
 
 -- a plain file passes the test of its numbers
-pub plain-form : (bytes : List ℕ) (rate channels : ℕ) → rate ≡ (named_wave bytes).rate → channels ≡ (named_wave bytes).channels → IsPlain bytes → form_test rate channels ((length bytes - 44) / 2) ≡ true
+pub plain-form : (bytes : List ℕ) (rate channels : ℕ) → rate ≡ (named_wave bytes).rate → channels ≡ (named_wave bytes).channels → IsPlain bytes → is_wave_form rate channels ((length bytes - 44) / 2) ≡ true
 plain-form bytes rate channels r c plain =
     let size : (length bytes - 44) / 2 ≡ length (named_wave bytes).samples = omega (arith, plain-length bytes plain) in
-    ap (form_test rate channels) size
-    ∙ ap₂ (λ (x y : ℕ). form_test x y (length (named_wave bytes).samples)) r c
+    ap (is_wave_form rate channels) size
+    ∙ ap₂ (λ (x y : ℕ). is_wave_form x y (length (named_wave bytes).samples)) r c
     ∙ IsWave-is_wave (named_wave bytes) plain.wave
 
 -- bytes with a right header and right numbers are a plain file
-pub plain_from : (bytes : List ℕ) (rate channels : ℕ) → rate ≡ (named_wave bytes).rate → channels ≡ (named_wave bytes).channels → AreBytes bytes → 44 ≤ length bytes → length bytes % 2 ≡ 0 → form_test rate channels ((length bytes - 44) / 2) ≡ true → take 44 bytes ≡ wav_header rate channels (length bytes - 44) → IsPlain bytes
+pub plain_from : (bytes : List ℕ) (rate channels : ℕ) → rate ≡ (named_wave bytes).rate → channels ≡ (named_wave bytes).channels → AreBytes bytes → 44 ≤ length bytes → length bytes % 2 ≡ 0 → is_wave_form rate channels ((length bytes - 44) / 2) ≡ true → take 44 bytes ≡ wav_header rate channels (length bytes - 44) → IsPlain bytes
 plain_from bytes rate channels r c all long even form header =
     let count : length (named_wave bytes).samples ≡ (length bytes - 44) / 2 = samples_count bytes even long in
     let size : 2 * length (named_wave bytes).samples ≡ length bytes - 44 = omega (arith, count) in
     let tests : is_wave (named_wave bytes) ≡ true =
-    ap (form_test (named_wave bytes).rate (named_wave bytes).channels) count
-    ∙ ap₂ (λ (x y : ℕ). form_test x y ((length bytes - 44) / 2)) (sym r) (sym c) ∙ form in
+    ap (is_wave_form (named_wave bytes).rate (named_wave bytes).channels) count
+    ∙ ap₂ (λ (x y : ℕ). is_wave_form x y ((length bytes - 44) / 2)) (sym r) (sym c) ∙ form in
     let front : wav_header (named_wave bytes).rate (named_wave bytes).channels (2 * length (named_wave bytes).samples) ≡ take 44 bytes =
     ap (wav_header (named_wave bytes).rate (named_wave bytes).channels) size
     ∙ ap₂ (λ (x y : ℕ). wav_header x y (length bytes - 44)) (sym r) (sym c) ∙ sym header in

@@ -4,10 +4,11 @@ use Rattle.std.specs.Int.{w16, cast_unsigned}
 use Rattle.byteorder.specs.Endian.{little_bytes}
 use Rattle.wav_files.specs.declared.wav.Wav.{Wav}
 
--- a number of 16 and of 32 bits
+-- a number of 16 bits
 abbrev pub u16_bytes : ℕ → List ℕ
 u16_bytes n = little_bytes 2 n
 
+-- a number of 32 bits
 abbrev pub u32_bytes : ℕ → List ℕ
 u32_bytes n = little_bytes 4 n
 
@@ -26,6 +27,7 @@ abbrev pub wav_header : ℕ → ℕ → ℕ → List ℕ
 wav_header rate channels size =
     codes "RIFF" ++ u32_bytes (36 + size) ++ codes "WAVE" ++ format_chunk rate channels ++ codes "data" ++ u32_bytes size
 
+-- the whole file of a wave
 abbrev pub wav_bytes : Wav → List ℕ
 wav_bytes wav = wav_header wav.rate wav.channels (2 * length wav.samples) ++ sample_bytes wav.samples
 
@@ -36,8 +38,12 @@ pub record IsWave (wav : Wav) : Type 0 where
   pub whole : length wav.samples % wav.channels ≡ 0
   pub small : length wav.samples ≤ 134217728
 
--- the same as a test
+-- the same as a test of its rate, its channels and the count of its samples
+abbrev pub is_wave_form : ℕ → ℕ → ℕ → Bool
+is_wave_form rate channels count =
+    nat_le 1 rate && nat_le rate 384000 && nat_le 1 channels && nat_le channels 8
+    && (count % channels == 0) && nat_le count 134217728
+
+-- that test of a wave
 abbrev pub is_wave : Wav → Bool
-is_wave wav =
-    nat_le 1 wav.rate && nat_le wav.rate 384000 && nat_le 1 wav.channels && nat_le wav.channels 8
-    && (length wav.samples % wav.channels == 0) && nat_le (length wav.samples) 134217728
+is_wave wav = is_wave_form wav.rate wav.channels (length wav.samples)

@@ -1,5 +1,5 @@
 //! The 44 bytes before the samples of a plain file.
-ghost use Rattle.std.specs.Prelude.{◌≡◌, ℕ, ◌+◌, ◌*◌, ◌^◌, ◌<◌, ◌≤◌};
+ghost use Rattle.std.specs.Prelude.{◌≡◌, ◌+◌, ◌^◌, ◌<◌, ◌≤◌};
 ghost use Rattle.wav_files.specs.WavWriting.{wav_header};
 
 /// How many bytes stand before the samples of a plain file.

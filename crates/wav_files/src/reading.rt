@@ -1,7 +1,7 @@
 //! The wave of a file. RIFF WAVE, PCM of 16 bits.
-ghost use Rattle.std.specs.Prelude.{◌≡◌, ℕ, ◌+◌, ◌*◌, ◌%◌, ◌≤◌, ◌==◌, ◌&&◌, ◌↔◌, nat_le, length, IsTrue, IfOk};
+ghost use Rattle.std.specs.Prelude.{◌≡◌, ◌%◌, ◌≤◌, ◌↔◌, length, IsTrue, IfOk};
 ghost use Rattle.wav_files.specs.WavReading.{IsReading, IsPlain, named_wave, samples_in, wav_of};
-ghost use Rattle.wav_files.specs.WavWriting.{IsWave};
+ghost use Rattle.wav_files.specs.WavWriting.{IsWave, is_wave_form};
 
 use crate::fault::WavFault;
 use crate::header::{HEADER, header_of};
@@ -12,7 +12,7 @@ use std::alloc::Global;
 
 /// Whether there can be a wave of this rate and channels with so many samples.
 fn is_form(rate: u32, channels: u32, samples: usize) -> bool
-    ensures { result ≡ (nat_le 1 rate && nat_le rate 384000 && nat_le 1 channels && nat_le channels 8 && (samples % channels == 0) && nat_le samples 134217728) }
+    ensures { result ≡ is_wave_form rate channels samples }
 {
     1 <= rate
         && rate <= 384000

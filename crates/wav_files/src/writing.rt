@@ -1,5 +1,5 @@
 //! The bytes of a wave. RIFF WAVE, PCM of 16 bits.
-ghost use Rattle.std.specs.Prelude.{◌≡◌, ℕ, ◌+◌, ◌*◌, ◌++◌, length, OnOk, OnErr};
+ghost use Rattle.std.specs.Prelude.{◌≡◌, ◌+◌, ◌*◌, ◌++◌, length, OnOk, OnErr};
 ghost use Rattle.wav_files.specs.WavReading.{samples_in, wav_of};
 ghost use Rattle.wav_files.specs.WavWriting.{IsWave, sample_bytes, wav_bytes};
 

@@ -1,5 +1,5 @@
 use Rattle.std.proofs.Common.{◌≡◌, ◌++◌, take, flat_map}
-use Rattle.cycle_trace.specs.RunText.{event_line}
+use Rattle.cycle_trace.specs.EventLines.{event_line}
 use Rattle.cycle_trace.proofs.event_lines.append_event_lines.Given as goal
 
 abbrev pub invariant-loop-event : goal.invariant-loop-event

@@ -1,4 +1,4 @@
-use Rattle.cycle_trace.specs.RunText.{result_line}
+use Rattle.cycle_trace.specs.ResultLines.{result_line}
 use Rattle.cycle_trace.proofs.TextLemmas.{node_told}
 use Rattle.cycle_trace.proofs.result_lines.append_result_lines.Goals as goal
 

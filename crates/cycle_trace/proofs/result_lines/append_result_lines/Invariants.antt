@@ -1,6 +1,6 @@
 use Rattle.std.proofs.Common.{◌≡◌, ◌++◌, take, flat_map}
 use Rattle.std.specs.List.{enumerate_from}
-use Rattle.cycle_trace.specs.RunText.{result_line}
+use Rattle.cycle_trace.specs.ResultLines.{result_line}
 use Rattle.cycle_trace.proofs.result_lines.append_result_lines.Given as goal
 
 abbrev pub invariant-loop-place : goal.invariant-loop-place
