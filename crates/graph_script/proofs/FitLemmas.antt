@@ -11,7 +11,7 @@ use Rattle.graph_script.specs.declared.command.Command.TheVariants as C
 use Rattle.graph_script.specs.declared.reading.Made.{Made}
 use Rattle.graph_script.specs.declared.reading.Said.{Said}
 use Rattle.graph_script.specs.declared.reading.Reading.{Reading}
-use Rattle.graph_script.specs.Arguments.{◌>>=◌, number_of, is_numeral, digits_number, is_node_name, one_of, two_of, file_of, endpoint_parts}
+use Rattle.graph_script.specs.Arguments.{◌>>=◌, number_of, is_within, is_numeral, digits_number, is_node_name, one_of, two_of, file_of, endpoint_parts}
 use Rattle.graph_script.specs.Nodes.{node_called, new_node, endpoint_of, kind_at, output_called, input_called}
 use Rattle.graph_script.specs.Commands.{node_and_file, quantum_of, source_of, sink_of, link_of, cycles_of, meaning_of_command, meaning_of_words}
 use Rattle.graph_script.specs.Stages.{stage_of}
@@ -42,10 +42,10 @@ from_test false x y e = cc
 
 number-within : (low high n : ℕ) (word : List ℕ) → number_of low high word ≡ Some n → IsWithin low high n
 number-within low high n word e =
-    let t = from_test (is_numeral word && nat_le low (digits_number word) && nat_le (digits_number word) high) (digits_number word) n e in
-    let p = and_parts _ _ t.0 in
-    let q = and_parts _ _ p.0 in
-    (subst (λ m. low ≤ m) t.1 (leb-true _ _ q.1), subst (λ m. m ≤ high) t.1 (leb-true _ _ p.1))
+    let t = from_test (is_numeral word && is_within low high (digits_number word)) (digits_number word) n e in
+    let p = and_parts (is_numeral word) (is_within low high (digits_number word)) t.0 in
+    let q = and_parts (nat_le low (digits_number word)) (nat_le (digits_number word) high) p.1 in
+    (subst (λ m. low ≤ m) t.1 (leb-true _ _ q.0), subst (λ m. m ≤ high) t.1 (leb-true _ _ q.1))
 
 -- a new node has a well-formed name and the next number
 pub record IsNew (reading : Reading) (name : List ℕ) (node : ℕ) : Type 0 where

@@ -108,7 +108,7 @@ enumerate_from-push n m (k ∷ kinds) kind e = rw (enumerate_from-push (n + 1) m
 made-after : (lines : List Line) (line : Line) (kinds : List Kind) (made : Option Made) → made_of lines ≡ enumerate_from 0 kinds
     → made_by line.command ≡ option_map (λ m. (length kinds, m.kind)) made → made_of (lines ++ line ∷ []) ≡ enumerate_from 0 (kinds ++ option_to_list (option_map (λ m. m.kind) made))
 made-after lines line kinds None before here =
-    filter_map-append (λ l. made_by l.command) lines (line ∷ []) ∙ rw (here, append-nil, append-nil) before
+    filter_map-append (λ l. made_by l.command) lines (line ∷ []) ∙ rw (here, append-nil (made_of lines), append-nil kinds) before
 made-after lines line kinds (Some m) before here =
     filter_map-append (λ l. made_by l.command) lines (line ∷ []) ∙ rw (here, before, enumerate_from-push 0 (length kinds) kinds m.kind (omega arith)) refl
 

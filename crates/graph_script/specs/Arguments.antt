@@ -1,4 +1,4 @@
--- The arguments of a command: numbers, names, file words and endpoints, each one word. The forms are this project's.
+-- Arguments of commands: numbers, names, file words and endpoints, each one word. The forms are this project's.
 use Rattle.std.specs.Prelude.{ℕ, ◌+◌, ◌-◌, ◌*◌, ◌==◌, ◌&&◌, ◌||◌, Bool, false, not, List, [], ◌∷◌, length, fold, Option, Some, None, nat_le, if◌then◌else◌}
 use Rattle.std.specs.List.{list_all, slice_split}
 
@@ -20,12 +20,15 @@ two_of (a ∷ []) = None
 two_of (a ∷ b ∷ []) = Some (a, b)
 two_of (a ∷ b ∷ c ∷ more) = None
 
+abbrev pub is_within : ℕ → ℕ → ℕ → Bool
+is_within low high n = nat_le low n && nat_le n high
+
 -- 0 to 9, a to z
 abbrev pub is_digit : ℕ → Bool
-is_digit b = nat_le 0x30 b && nat_le b 0x39
+is_digit b = is_within 0x30 0x39 b
 
 abbrev pub is_letter : ℕ → Bool
-is_letter b = nat_le 0x61 b && nat_le b 0x7A
+is_letter b = is_within 0x61 0x7A b
 
 -- digits, at least one, the first not 0 unless it is alone
 abbrev pub is_numeral : List ℕ → Bool
@@ -39,7 +42,7 @@ digits_number digits = fold (λ n b. n * 10 + (b - 0x30)) 0 digits
 -- a number without sign, from low to high
 abbrev pub number_of : ℕ → ℕ → List ℕ → Option ℕ
 number_of low high word =
-    if is_numeral word && nat_le low (digits_number word) && nat_le (digits_number word) high then Some (digits_number word) else None
+    if is_numeral word && is_within low high (digits_number word) then Some (digits_number word) else None
 
 -- the name of a node: a letter, and up to 30 letters, digits and low lines
 abbrev pub is_name_byte : ℕ → Bool

@@ -1,5 +1,5 @@
 -- Nodes and ports that the lines so far have made, by name.
-use Rattle.std.specs.Prelude.{ℕ, ◌+◌, ◌&&◌, not, List, length, Option, Some, None, option_map, is_some, position, slice_index_or, nat_lt, bytes_eq, codes, if◌then◌else◌}
+use Rattle.std.specs.Prelude.{ℕ, ◌+◌, ◌&&◌, Bool, not, List, length, Option, Some, None, option_map, is_some, position, slice_index_or, nat_lt, bytes_eq, codes, if◌then◌else◌}
 use Rattle.pw_base.specs.declared.ids.PortId.{PortId}
 use Rattle.pw_base.specs.declared.kind.Kind.{Kind}
 use Rattle.pw_base.specs.declared.kind.Kind.TheVariants as K
@@ -14,15 +14,21 @@ node_called reading name = position (bytes_eq name) reading.script.names
 abbrev pub kind_at : Reading → ℕ → Kind
 kind_at reading node = slice_index_or reading.kinds node K.Dummy
 
--- a new node's number. Its name is well formed, not dummy, and no other's, and there are 63 nodes at most
+-- a name that a new node may have: well formed, not dummy, and no other's
+abbrev pub is_free : Reading → List ℕ → Bool
+is_free reading name =
+    is_node_name name && not (bytes_eq name (codes "dummy")) && not (is_some (node_called reading name))
+
+-- a new node's number, which is below 63
 abbrev pub new_node : Reading → List ℕ → Option ℕ
 new_node reading name =
-    if is_node_name name && not (bytes_eq name (codes "dummy")) && not (is_some (node_called reading name)) && nat_lt (length reading.script.names) 63
+    if is_free reading name && nat_lt (length reading.script.names) 63
     then Some (length reading.script.names) else None
 
 -- the number of an output, and of an input, of this name
 abbrev pub output_called : Kind → List ℕ → Option ℕ
-output_called kind name = option_map (λ place. input_count kind + place) (position (bytes_eq name) (output_names kind))
+output_called kind name =
+    option_map (λ place. input_count kind + place) (position (bytes_eq name) (output_names kind))
 
 abbrev pub input_called : Kind → List ℕ → Option ℕ
 input_called kind name = position (bytes_eq name) (input_names kind)

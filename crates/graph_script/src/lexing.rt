@@ -62,7 +62,9 @@ pub(crate) fn next_piece(text: &[u8], mark: u8) -> (&[u8], Option<&[u8]>)
 
 /// The first word of a line, if it has one, and what follows that.
 pub(crate) fn next_word(line: &[u8]) -> Option<(&[u8], &[u8])>
-    ensures { MatchOption result (words_of line.now ≡ []) (λ cut. words_of line.now ≡ cut.0.now ∷ words_of cut.1.now) }
+    ensures { MatchOption result
+        (words_of line.now ≡ [])
+        (λ cut. words_of line.now ≡ cut.0.now ∷ words_of cut.1.now) }
 {
     let (_gap, rest) = line.split_at(gap_len(line));
     let (word, after) = rest.split_at(word_len(rest));

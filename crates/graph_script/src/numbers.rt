@@ -29,7 +29,9 @@ fn is_numeral(word: &[u8]) -> bool
 // The number that the digits name, unless it is above a limit.
 fn digits_within(digits: &[u8], high: u32) -> Option<u32>
     requires { high ≤ 1000000 }
-    ensures { MatchOption result (high < digits_number digits.now) (λ n. (n ≡ digits_number digits.now) × (n ≤ high)) }
+    ensures { MatchOption result
+        (high < digits_number digits.now)
+        (λ n. (n ≡ digits_number digits.now) × (n ≤ high)) }
 {
     let mut n = 0;
     for b in digits {

@@ -11,7 +11,8 @@ fn port_from(kind: &Kind, name: &[u8], first: u32, end: u32) -> u32
     requires there { end ≤ port_count kind.now }
     ensures low { first ≤ result }
     ensures high { result ≤ end }
-    ensures before { (k : ℕ) → first ≤ k → k < result → bytes_eq name.now (port_name kind.now k) ≡ false }
+    ensures before { (k : ℕ) → first ≤ k → k < result
+        → bytes_eq name.now (port_name kind.now k) ≡ false }
     ensures here { result < end → bytes_eq name.now (port_name kind.now result) ≡ true }
 {
     for port in first..end {

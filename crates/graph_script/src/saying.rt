@@ -109,7 +109,8 @@ fn cycles(args: &[u8]) -> Option<Said>
 #[tactic(auto, unfolding(crate::specs::Commands::meaning_of_command))]
 fn named(alloc: Global, reading: &Reading, name: &[u8], args: &[u8]) -> Result<Option<Said>, Memory>
     requires { IsSound reading.now }
-    ensures { IfOk result (λ said. said ≡ commands.meaning_of_command reading.now name.now (words_of args.now)) }
+    ensures { IfOk result (λ said.
+        said ≡ commands.meaning_of_command reading.now name.now (words_of args.now)) }
 {
     if name == b"quantum".as_slice() {
         Ok(quantum(args))
@@ -129,7 +130,8 @@ fn named(alloc: Global, reading: &Reading, name: &[u8], args: &[u8]) -> Result<O
 /// What the words of a line say, by the lines before it.
 pub(crate) fn said_by(alloc: Global, reading: &Reading, line: &[u8]) -> Result<Option<Said>, Memory>
     requires { IsSound reading.now }
-    ensures { IfOk result (λ said. said ≡ commands.meaning_of_words reading.now (words_of line.now)) }
+    ensures { IfOk result (λ said.
+        said ≡ commands.meaning_of_words reading.now (words_of line.now)) }
 {
     match next_word(line) {
         None => Ok(None),
