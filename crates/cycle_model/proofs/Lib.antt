@@ -1,7 +1,10 @@
-pub mod RowLemmas
-pub mod SingleEpochLemmas
+pub mod DepthLemmas
 pub mod EndLemmas
-pub mod OutcomeLemmas
+pub mod EpochLemmas
 pub mod FirstPathLemmas
-pub mod WorkedRows
+pub mod OutcomeLemmas
+pub mod RowLemmas
+pub mod SettledLemmas
+pub mod SingleEpochLemmas
 pub mod TestPlansLemmas
+pub mod WorkedRows

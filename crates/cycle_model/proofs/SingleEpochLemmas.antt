@@ -48,7 +48,7 @@ within plan e s c h =
 pub epoch_is : (plan : Plan) (e : Epoch) → IsSingle plan e → (c : ℕ) → c < e.shape.cycles → epoch_at plan c ≡ Some e
 epoch_is plan e s c h = ap (λ es. find (λ e. is_within e c) es) s.one ∙ cond-true (is_within e c) (Some e) None (within plan e s c h)
 
-any_map : {X : Type 0} (f : X → ℕ) (node : ℕ) (xs : List X) → list_any (λ n. n == node) (map f xs) ≡ list_any (λ x. f x == node) xs
+pub any_map : {X : Type 0} (f : X → ℕ) (node : ℕ) (xs : List X) → list_any (λ n. n == node) (map f xs) ≡ list_any (λ x. f x == node) xs
 any_map f node [] = refl
 any_map f node (x ∷ xs) = rw (any_map f node xs)
 
@@ -103,7 +103,7 @@ source_row plan e s waves out c port h t kind q is_q =
     ∙ given_row (wave_of waves port.node) q c (plan.quantum * length (active_cycles plan 0 c port.node)) (channels_at plan c port) (plan.quantum * channels_at plan c port) size n
 
 -- the last round works the outputs out from those before it
-last_round : (plan : Plan) (waves : List WavIn) (r : ℕ) (c : ℕ) (port : PortId) → outputs_after plan waves (suc r) c port ≡ output_of plan waves (outputs_after plan waves r) c port
+pub last_round : (plan : Plan) (waves : List WavIn) (r : ℕ) (c : ℕ) (port : PortId) → outputs_after plan waves (suc r) c port ≡ output_of plan waves (outputs_after plan waves r) c port
 unfolding outputs_after
 last_round plan waves r c port = refl
 
@@ -151,7 +151,7 @@ same_port forms a b h =
     let parts = and_parts (a.node == b.node) (a.port == b.port) h in
     ap₂ (λ n p. channels_of forms (record { node = n; port = p })) (eqb-true a.node b.node parts.0) (eqb-true a.port b.port parts.1)
 
-takes : (e : Epoch) (node : ℕ) → Contains (map (λ n. n.node) e.shape.nodes) node → takes_part e node ≡ true
+pub takes : (e : Epoch) (node : ℕ) → Contains (map (λ n. n.node) e.shape.nodes) node → takes_part e node ≡ true
 takes e node h =
     sym (any_map (λ n. n.node) node e.shape.nodes)
     ∙ list_any_at (λ n. n == node) (map (λ n. n.node) e.shape.nodes) h.0 node h.1 (eq-eqb _ node h.2)

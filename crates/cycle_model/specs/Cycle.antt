@@ -16,9 +16,11 @@ use Rattle.cycle_model.specs.Epochs.{links_into, channels_at, first_at, active_c
 abbrev pub Outputs : Type 0
 Outputs = ℕ → PortId → List ℤ
 
+-- the kind of the node at a place of the plan; elsewhere, that of the built-in driver, which has no port
 abbrev pub kind_at : Plan → ℕ → Kind
 kind_at plan node = unwrap_or (option_map (λ n. n.kind) (slice_get plan.nodes node)) Dummy
 
+-- the samples of a node's wave, none without one
 abbrev pub wave_of : List WavIn → ℕ → List ℤ
 wave_of waves node = unwrap_or (option_map (λ w. w.wav.samples) (find (λ w. w.node == node) waves)) []
 
@@ -38,6 +40,7 @@ abbrev pub stream_of : Plan → Outputs → ℕ → PortId → List ℤ
 stream_of plan out cycle port =
     flat_map (λ k. input_of plan out k port) (active_cycles plan (stream_start plan cycle port.node) cycle port.node)
 
+-- all that the node of an output port has heard up to a cycle: its file, its active frames, its inputs' streams
 abbrev pub heard : Plan → List WavIn → Outputs → ℕ → PortId → Heard
 heard plan waves out cycle port = record {
   wave = wave_of waves port.node;
@@ -47,6 +50,7 @@ heard plan waves out cycle port = record {
   b = stream_of plan out cycle (record port { port = 1 });
 }
 
+-- the last n samples
 abbrev pub last_of : ℕ → List ℤ → List ℤ
 last_of n row = drop (length row - n) row
 

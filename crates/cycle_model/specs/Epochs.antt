@@ -7,9 +7,11 @@ use Rattle.pw_base.specs.declared.plan.Epoch.{Epoch}
 use Rattle.pw_base.specs.declared.plan.PortForm.{PortForm}
 use Rattle.pw_base.specs.declared.plan.Plan.{Plan}
 
+-- the same port of the same node
 abbrev pub is_port : PortId → PortId → Bool
 is_port a b = (a.node == b.node) && (a.port == b.port)
 
+-- a cycle lies in an epoch; the first epoch in which it lies
 abbrev pub is_within : Epoch → ℕ → Bool
 is_within epoch cycle = nat_le epoch.shape.first cycle && nat_lt cycle (epoch.shape.first + epoch.shape.cycles)
 
@@ -34,6 +36,7 @@ forms_at plan cycle = listed (λ e. e.forms) (epoch_at plan cycle)
 abbrev pub first_at : Plan → ℕ → ℕ
 first_at plan cycle = unwrap_or (option_map (λ e. e.shape.first) (epoch_at plan cycle)) 0
 
+-- a node is active in a cycle; the live links into a port
 abbrev pub is_active : Plan → ℕ → ℕ → Bool
 is_active plan cycle node = list_any (λ n. n == node) (nodes_at plan cycle)
 

@@ -28,6 +28,7 @@ places_into waves links port = map (λ l. place_of waves l.from.node) (filter (�
 abbrev pub mixed_row : List WavIn → List ℕ → ℕ → List ℤ
 mixed_row waves places n = map (λ j. clamped (sum_at waves places j)) (range_with_len 0 n)
 
+-- a node is one of the epoch's active nodes
 abbrev pub takes_part : Epoch → ℕ → Bool
 takes_part epoch node = list_any (λ n. n.node == node) epoch.shape.nodes
 

@@ -17,7 +17,7 @@ abbrev pub FollowFrom : ℕ → List Epoch → Type 0
 FollowFrom first [] = Unit {0}
 FollowFrom first (e ∷ es) = (e.shape.first ≡ first) × FollowFrom (first + e.shape.cycles) es
 
--- a link joins an output and an input of active nodes, both with a form of the link's channels
+-- a link joins an output and an input of active nodes, both of the link's channels
 pub record IsFitting (plan : Plan) (epoch : Epoch) (link : ShapeLink) : Type 0 where
   pub from_active : Contains (map (λ n. n.node) epoch.shape.nodes) link.from.node
   pub to_active : Contains (map (λ n. n.node) epoch.shape.nodes) link.to.node
@@ -49,6 +49,7 @@ pub record IsRenderable (plan : Plan) (waves : List WavIn) : Type 0 where
   pub epochs : All (IsRenderableEpoch plan) plan.epochs
   pub sources : WavesFit plan waves
 
+-- the kinds that the reference program covers so far
 abbrev pub IsSourceOrSink : Kind → Type 0
 IsSourceOrSink Source = Unit {0}
 IsSourceOrSink Sink = Unit {0}

@@ -12,6 +12,7 @@ use Rattle.wav_files.specs.declared.outcome.Peak.{Peak}
 use Rattle.cycle_model.specs.Epochs.{all_cycles}
 use Rattle.cycle_model.specs.Cycle.{outputs, stream_of}
 
+-- the kinds that keep something
 abbrev pub is_sink : Kind → Bool
 is_sink Sink = true
 is_sink _ = false

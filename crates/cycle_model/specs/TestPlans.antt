@@ -10,6 +10,7 @@ use Rattle.pw_base.specs.declared.plan.PortForm.{PortForm}
 use Rattle.pw_base.specs.declared.plan.PlanNode.{PlanNode}
 use Rattle.pw_base.specs.declared.plan.Plan.{Plan}
 
+-- a node, an active node, a port, a link and a form, each mono at 48000
 abbrev pub test_node : Kind → ℕ → ℕ → PlanNode
 test_node kind rate channels = record { name = []; kind = kind; k = 0; rate = rate; channels = channels }
 
@@ -25,6 +26,7 @@ test_link from to = record { from = test_port from; to = test_port to; channels 
 abbrev pub test_form : ℕ → PortForm
 test_form node = record { port = test_port node; rate = 48000; channels = 1 }
 
+-- two cycles of two frames, and the plan that has these alone
 abbrev pub test_epoch : List ShapeNode → List ShapeLink → List PortForm → Epoch
 test_epoch nodes links forms = record {
   shape = record { quantum = 2; first = 0; cycles = 2; driver = 63; nodes = nodes; links = links };
@@ -35,10 +37,12 @@ test_epoch nodes links forms = record {
 abbrev pub of_one_epoch : List PlanNode → List ShapeNode → List ShapeLink → List PortForm → Plan
 of_one_epoch nodes active links forms = record { quantum = 2; nodes = nodes; epochs = test_epoch active links forms ∷ []; lines = [] }
 
+-- node 0 plays into node 1
 abbrev pub one_source : Plan
 one_source = of_one_epoch (test_node Source 0 0 ∷ test_node Sink 48000 1 ∷ []) (test_active 0 ∷ test_active 1 ∷ test_active 63 ∷ [])
     (test_link 0 1 ∷ []) (test_form 0 ∷ test_form 1 ∷ [])
 
+-- nodes 0, 1 and 2 play into node 3
 abbrev pub three_sources : Plan
 three_sources = of_one_epoch (test_node Source 0 0 ∷ test_node Source 0 0 ∷ test_node Source 0 0 ∷ test_node Sink 48000 1 ∷ [])
     (test_active 0 ∷ test_active 1 ∷ test_active 2 ∷ test_active 3 ∷ test_active 63 ∷ [])
