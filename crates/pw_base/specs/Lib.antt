@@ -1,4 +1,5 @@
 pub mod Causes
+pub mod EventWords
 pub mod Files
 pub mod InMemory
 pub mod KindFunction
@@ -8,4 +9,5 @@ pub mod Listed
 pub mod Output
 pub mod Refilled
 pub mod Samples
+pub mod Words
 pub mod formers

@@ -20,7 +20,9 @@ mod parts;
 mod plan;
 mod room;
 mod shape;
+mod status;
 mod ticker;
+mod words;
 
 pub use event::Event;
 pub use files::{FileFail, Files, Loaded};
@@ -39,4 +41,9 @@ pub use parts::{Part, Parts};
 pub use plan::{Epoch, Fresh, LineOutcome, LinkLine, Plan, PlanNode, PortForm};
 pub use room::Room;
 pub use shape::{Shape, ShapeLink, ShapeNode};
+pub use status::{AreaStatus, Status};
 pub use ticker::{Never, Ticker};
+pub use words::{
+    NO_BLOCK, cycle_of, event_of, event_word, io_id_of, io_status_of, io_word, status_of,
+    status_word,
+};
