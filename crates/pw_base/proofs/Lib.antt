@@ -1,1 +1,3 @@
 pub mod InMemoryLemmas
+pub mod OrderLemmas
+pub mod ShapeLemmas

@@ -1,13 +1,16 @@
 pub mod Causes
+pub mod Dependencies
 pub mod EventWords
 pub mod Files
 pub mod InMemory
 pub mod KindFunction
 pub mod KindPorts
 pub mod Limits
+pub mod LinkOrder
 pub mod Listed
 pub mod Output
 pub mod Refilled
 pub mod Samples
+pub mod SoundShape
 pub mod Words
 pub mod formers

@@ -6,6 +6,7 @@
 //! node, in `specs/`, are the words that kernels, node states and the cycle function share.
 #![tactic(auto)]
 
+mod dependencies;
 mod event;
 mod files;
 mod gate;
@@ -14,12 +15,14 @@ mod in_memory;
 mod items;
 mod kind;
 mod limit;
+mod link_order;
 mod memory;
 mod output;
 mod parts;
 mod plan;
 mod room;
 mod shape;
+mod soundness;
 mod status;
 mod ticker;
 mod words;
