@@ -1,5 +1,5 @@
 -- Laws of `specs/Dependencies.antt` and `specs/SoundShape.antt` over plain lists.
-use Rattle.std.proofs.Common.{◌≡◌, ℕ, ◌+◌, ◌<◌, suc, ◌==◌, Bool, true, false, cond, ◌||◌, List, [], ◌∷◌, ◌++◌, map, length, get_or, drop, take, refl, sym, ap, ◌∙◌, subst, arith, add-one, drop-cons}
+use Rattle.std.proofs.Common.{◌≡◌, ℕ, ◌+◌, ◌<◌, ◌≤◌, suc, ◌==◌, Bool, true, false, cond, ◌||◌, List, [], ◌∷◌, ◌++◌, map, length, get_or, drop, take, refl, sym, ap, ◌∙◌, subst, arith, add-one, drop-cons}
 use mathlib.Core.Logic.{dite}
 use native.Mathlib.Decide.{ℕ_discrete}
 use Rattle.std.specs.Prelude.{filter, Contains, All, AllPairs}
@@ -7,8 +7,12 @@ use Rattle.std.specs.Bool.{Decides}
 use Rattle.std.specs.List.{list_any, count_by}
 use Rattle.std.proofs.lemmas.List.Recursion.{is_count_by}
 use Rattle.std.proofs.lemmas.Bool.Decides.{Decides-by_or, Decides-eqb, Decides-at}
-use Rattle.std.proofs.lemmas.List.Elements.{Decides-contains}
+use Rattle.std.proofs.lemmas.List.Elements.{Decides-contains, All-map, All-contains}
 use Rattle.std.proofs.lemmas.List.{get_or_default, get_or-take, length-take}
+use Rattle.pw_base.specs.declared.shape.Shape.{Shape}
+use Rattle.pw_base.specs.Dependencies.{nodes_of}
+use Rattle.pw_base.specs.LinkOrder.{IsWithinNodes}
+use Rattle.pw_base.specs.SoundShape.{HasSoundNodes, IsSoundLink}
 
 any_mapped : {X : Type 0} (p : ℕ → Bool) (f : X → ℕ) (xs : List X) → list_any (λ x. p (f x)) xs ≡ list_any p (map f xs)
 any_mapped p f [] = refl
@@ -47,3 +51,11 @@ module _ {X : Type 0} (p : ℕ → Bool) (f : X → ℕ) (xs : List X) (i : ℕ)
 
   pub front_fails : p (f (get_or xs i d)) ≡ false → filter p (map f (drop i xs)) ++ end ≡ filter p (map f (drop (i + 1) xs)) ++ end
   front_fails e = rw (add-one, drop-cons xs i d) (rw e refl)
+
+-- the links of sound nodes are between numbers below 64
+pub links_within : (shape : Shape) → HasSoundNodes shape → All (IsSoundLink shape) shape.links → All IsWithinNodes shape.links
+links_within shape nodes links k d lt =
+    let small : All (λ n. n ≤ 63) (nodes_of shape) = All-map (λ n. n ≤ 63) (λ n. n.node) shape.nodes nodes.numbers in
+    let from = All-contains (λ n. n ≤ 63) (nodes_of shape) _ small (links k d lt).from_active in
+    let to = All-contains (λ n. n ≤ 63) (nodes_of shape) _ small (links k d lt).to_active in
+    (omega arith, omega arith)

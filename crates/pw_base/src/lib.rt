@@ -44,6 +44,7 @@ pub use parts::{Part, Parts};
 pub use plan::{Epoch, Fresh, LineOutcome, LinkLine, Plan, PlanNode, PortForm};
 pub use room::Room;
 pub use shape::{Shape, ShapeLink, ShapeNode};
+pub use soundness::is_sound_shape;
 pub use status::{AreaStatus, Status};
 pub use ticker::{Never, Ticker};
 pub use words::{

@@ -1,10 +1,11 @@
 //! Whether the numbers of a shape are in range and agree.
 ghost use Rattle.std.specs.Prelude.{◌≡◌, ℕ, ◌<◌, ◌≤◌, IsTrue, ◌↔◌, All, AllPairs, map, length, slice_index};
 ghost use Rattle.std.specs.List.Sorted.{IsStrictlyIncreasing};
-ghost use Rattle.pw_base.specs.SoundShape.{IsBetween, HasSoundCycles, HasSoundNodes, IsSoundLink, AreApart, HasSoundLinks, IsSoundShape};
+ghost use Rattle.pw_base.specs.SoundShape.{IsBetween, HasSoundCycles, HasSoundNodes, IsCounted, IsSoundLink, AreApart, HasSoundLinks, IsSoundShape};
 ghost use Rattle.pw_base.specs.Dependencies.{nodes_of};
 
-use crate::dependencies::has_node;
+use crate::dependencies::{has_node, is_counted};
+use crate::link_order::has_order;
 use crate::shape::{Shape, ShapeLink, ShapeNode};
 
 // Whether a number is within both ends.
@@ -89,4 +90,47 @@ fn all_apart(links: &[ShapeLink]) -> bool
         }
     }
     true
+}
+
+// Whether each link is sound.
+fn all_sound(shape: &Shape) -> bool
+    ensures { IsTrue result ↔ All (IsSoundLink shape.now) shape.now.links }
+{
+    shape
+        .links
+        .as_slice()
+        .iter()
+        .all(|link| is_sound_link(shape, link))
+}
+
+#[tactic(auto, using(crate::proofs::ShapeLemmas::links_within))]
+// Whether there are at most 256 links, each sound, no two with the same two ports, and no loop.
+fn has_sound_links(shape: &Shape) -> bool
+    requires { HasSoundNodes shape.now }
+    ensures { IsTrue result ↔ HasSoundLinks shape.now }
+{
+    if !all_sound(shape) {
+        return false;
+    }
+    let links = shape.links.as_slice();
+    links.len() <= 256 && all_apart(links) && has_order(links)
+}
+
+// Whether each node has its required count and targets.
+fn all_counted(shape: &Shape) -> bool
+    ensures { IsTrue result ↔ All (IsCounted shape.now) shape.now.nodes }
+{
+    shape.nodes.as_slice().iter().all(|n| is_counted(shape, n))
+}
+
+/// Whether a shape is sound: its numbers are in range, its nodes ascend and hold the driver, required counts and
+/// targets are those of its links that are not delayed, and these have no loop. Takes no memory; cost: for each pair
+/// of nodes and each pair of links one look, and for each pair of nodes one look at each link.
+pub fn is_sound_shape(shape: &Shape) -> bool
+    ensures { IsTrue result ↔ IsSoundShape shape.now }
+{
+    has_sound_cycles(shape)
+        && has_sound_nodes(shape)
+        && all_counted(shape)
+        && has_sound_links(shape)
 }
