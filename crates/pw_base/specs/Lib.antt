@@ -9,6 +9,7 @@ pub mod Limits
 pub mod LinkOrder
 pub mod Listed
 pub mod Output
+pub mod Pools
 pub mod Refilled
 pub mod Samples
 pub mod SoundShape
