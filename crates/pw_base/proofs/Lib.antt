@@ -1,3 +1,4 @@
+pub mod HistoryLemmas
 pub mod InMemoryLemmas
 pub mod OrderLemmas
 pub mod PoolLemmas

@@ -2,6 +2,7 @@ pub mod Causes
 pub mod Dependencies
 pub mod EventWords
 pub mod Files
+pub mod History
 pub mod InMemory
 pub mod KindFunction
 pub mod KindPorts

@@ -6,6 +6,7 @@
 //! node, in `specs/`, are the words that kernels, node states and the cycle function share.
 #![tactic(auto)]
 
+mod cycle_history;
 mod dependencies;
 mod event;
 mod files;
