@@ -49,23 +49,34 @@ pub record RunsOnce (events : List Event) (cycle node : ℕ) : Type 0 where
   pub finish : count_by (is_finish cycle node) events ≡ 1
   pub order : start_place events cycle node < finish_place events cycle node
 
+-- where m precedes n, the Finish of m stands before the Start of n
+pub record KeepsOrder (shape : Shape) (events : List Event) (cycle : ℕ) : Type 0 where
+  pub waits : (m n : ℕ) → Precedes shape m n → finish_place events cycle m < start_place events cycle n
+
 -- the events between Begin and End: each node runs once, after all that precede it; at most one Tick; nothing else
 pub record IsLegalInside (shape : Shape) (events : List Event) (cycle : ℕ) : Type 0 where
   pub only : All (IsOfCycle shape events cycle) events
   pub nodes : All (λ n. RunsOnce events cycle n.node) shape.nodes
-  pub waits : (m n : ℕ) → Precedes shape m n → finish_place events cycle m < start_place events cycle n
+  pub order : KeepsOrder shape events cycle
   pub ticks : count_by is_tick events ≤ 1
 
 -- LEGAL CYCLE: Begin, what is legal inside, End
 abbrev pub IsLegalCycle : Shape → ℕ → List Event → Type 0
 IsLegalCycle shape cycle part = (events : List Event) × (part ≡ Begin cycle ∷ (events ++ End cycle ∷ [])) × IsLegalInside shape events cycle
 
--- the cycles of epochs in order, each with its shape
-abbrev pub cycles_of : List Shape → List (Shape × ℕ)
-cycles_of shapes = flat_map (λ s. map (λ k. (s, k)) (range_with_len s.first s.cycles)) shapes
+-- the cycles of an epoch, and of epochs in order, each with its shape
+abbrev pub epoch_cycles : Shape → ℕ → List (Shape × ℕ)
+epoch_cycles shape count = map (λ k. (shape, k)) (range_with_len shape.first count)
 
--- LEGAL HISTORY: the parts of all cycles one after the other, each legal
-pub record IsLegalHistory (shapes : List Shape) (events : List Event) : Type 0 where
+abbrev pub cycles_of : List Shape → List (Shape × ℕ)
+cycles_of shapes = flat_map (λ s. epoch_cycles s s.cycles) shapes
+
+-- the parts of cycles one after the other, each legal
+pub record AreJoined (cycles : List (Shape × ℕ)) (events : List Event) : Type 0 where
   pub parts : List (List Event)
   pub joined : events ≡ flat_map (λ part. part) parts
-  pub legal : AllZip (λ c part. IsLegalCycle c.0 c.1 part) (cycles_of shapes) parts
+  pub legal : AllZip (λ c part. IsLegalCycle c.0 c.1 part) cycles parts
+
+-- LEGAL HISTORY: the parts of all cycles of all epochs, in order
+abbrev pub IsLegalHistory : List Shape → List Event → Type 0
+IsLegalHistory shapes events = AreJoined (cycles_of shapes) events

@@ -9,6 +9,7 @@ pub mod KindPorts
 pub mod Limits
 pub mod LinkOrder
 pub mod Listed
+pub mod Ordered
 pub mod Output
 pub mod Pools
 pub mod Refilled

@@ -1,13 +1,13 @@
 //! Whether the events of one cycle are legal.
 ghost use Rattle.std.specs.Prelude.{◌≡◌, ℕ, ◌<◌, ◌≤◌, ◌-◌, IsTrue, ◌↔◌, All, count_by, length, take, IsBitSet};
 ghost use Rattle.std.specs.List.{position};
-ghost use Rattle.pw_base.specs.Dependencies.{Precedes};
+ghost use Rattle.pw_base.specs.Ordered.{IsOrdered, StartsLast, IsRun};
 ghost use Rattle.pw_base.specs.History.{is_start, is_finish, is_tick, start_place, finish_place, tick_place};
-ghost use Rattle.pw_base.specs.History.{IsFollower, IsLate, IsOfCycle, RunsOnce, IsLegalInside, IsLegalCycle};
+ghost use Rattle.pw_base.specs.History.{IsFollower, IsLate, IsOfCycle, RunsOnce, KeepsOrder, IsLegalInside, IsLegalCycle};
 
 use crate::dependencies::{has_node, is_waiting};
 use crate::event::Event;
-use crate::shape::Shape;
+use crate::shape::{Shape, ShapeNode};
 
 // Whether an event is the Start of a node in a cycle.
 fn is_start(event: &Event, in_cycle: u32, of_node: u32) -> bool
@@ -147,11 +147,88 @@ fn count_ticks(events: &[Event]) -> usize
     events.iter().filter(|e| is_tick(e)).count()
 }
 
-// Whether a node has one Start and one Finish, the Start first.
-fn runs_once(events: &[Event], cycle: u32, node: u32) -> bool
-    ensures { IsTrue result ↔ RunsOnce events.now cycle node }
+// Whether there is at most one Tick.
+fn has_few_ticks(events: &[Event]) -> bool
+    ensures { IsTrue result ↔ (count_by is_tick events.now ≤ 1) }
 {
-    count_starts(events, cycle, node) == 1
-        && count_finishes(events, cycle, node) == 1
-        && start_place(events, cycle, node) < finish_place(events, cycle, node)
+    count_ticks(events) <= 1
+}
+
+#[tactic(auto, unfolding(crate::specs::Ordered::IsRun))]
+// Whether a node has one Start and one Finish, the Start first.
+fn runs_once(events: &[Event], cycle: u32, n: &ShapeNode) -> bool
+    ensures { IsTrue result ↔ IsRun events.now cycle n.now }
+{
+    count_starts(events, cycle, n.node) == 1
+        && count_finishes(events, cycle, n.node) == 1
+        && start_place(events, cycle, n.node) < finish_place(events, cycle, n.node)
+}
+
+#[tactic(auto, unfolding(crate::specs::Ordered::IsOrdered))]
+// Whether `n` starts after `m` has finished, where it waits for the work of `m`.
+fn comes_after(shape: &Shape, events: &[Event], cycle: u32, n: &ShapeNode, m: &ShapeNode) -> bool
+    ensures { IsTrue result ↔ IsOrdered shape.now events.now cycle n.now m.now }
+{
+    m.node == shape.driver
+        || !is_waiting(shape, n.node, m.node)
+        || finish_place(events, cycle, m.node) < start_place(events, cycle, n.node)
+}
+
+#[tactic(auto, unfolding(crate::specs::Ordered::StartsLast))]
+// Whether a node starts after all that it waits for.
+fn starts_last(shape: &Shape, events: &[Event], cycle: u32, n: &ShapeNode) -> bool
+    ensures { IsTrue result ↔ StartsLast shape.now events.now cycle n.now }
+{
+    shape
+        .nodes
+        .as_slice()
+        .iter()
+        .all(|m| comes_after(shape, events, cycle, n, m))
+}
+
+// Whether each node starts after all that it waits for.
+fn all_start_last(shape: &Shape, events: &[Event], cycle: u32) -> bool
+    ensures { IsTrue result ↔ All (StartsLast shape.now events.now cycle) shape.now.nodes }
+{
+    shape
+        .nodes
+        .as_slice()
+        .iter()
+        .all(|n| starts_last(shape, events, cycle, n))
+}
+
+// Whether each node starts after all that precede it.
+fn keeps_order(shape: &Shape, events: &[Event], cycle: u32) -> bool
+    ensures { IsTrue result ↔ KeepsOrder shape.now events.now cycle }
+{
+    all_start_last(shape, events, cycle)
+}
+
+// Whether each event may stand between Begin and End.
+fn all_of_cycle(shape: &Shape, events: &[Event], cycle: u32) -> bool
+    ensures { IsTrue result ↔ All (IsOfCycle shape.now events.now cycle) events.now }
+{
+    events.iter().all(|e| is_of_cycle(shape, events, cycle, e))
+}
+
+// Whether each node runs once.
+fn all_run_once(shape: &Shape, events: &[Event], cycle: u32) -> bool
+    ensures { IsTrue result ↔ All (IsRun events.now cycle) shape.now.nodes }
+{
+    shape
+        .nodes
+        .as_slice()
+        .iter()
+        .all(|n| runs_once(events, cycle, n))
+}
+
+#[tactic(auto, unfolding(crate::specs::Ordered::IsRun))]
+/// Whether events are legal between Begin and End.
+pub(crate) fn is_legal_inside(shape: &Shape, events: &[Event], cycle: u32) -> bool
+    ensures { IsTrue result ↔ IsLegalInside shape.now events.now cycle }
+{
+    if !all_of_cycle(shape, events, cycle) || !all_run_once(shape, events, cycle) {
+        return false;
+    }
+    keeps_order(shape, events, cycle) && has_few_ticks(events)
 }
