@@ -29,6 +29,8 @@ mod shape;
 mod soundness;
 mod status;
 mod ticker;
+#[cfg(test)]
+mod tests;
 mod words;
 
 pub use event::Event;
