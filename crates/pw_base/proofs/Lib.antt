@@ -2,4 +2,5 @@ pub mod HistoryLemmas
 pub mod InMemoryLemmas
 pub mod OrderLemmas
 pub mod PoolLemmas
+pub mod PrecedenceLemmas
 pub mod ShapeLemmas

@@ -5,6 +5,7 @@ use Rattle.std.specs.List.Sorted.{IsStrictlyIncreasing}
 use Rattle.pw_base.specs.declared.shape.Shape.{Shape}
 use Rattle.pw_base.specs.declared.shape.ShapeNode.{ShapeNode}
 use Rattle.pw_base.specs.declared.shape.ShapeLink.{ShapeLink}
+use Rattle.pw_base.specs.Limits.{events_limit}
 use Rattle.pw_base.specs.LinkOrder.{HasOrder}
 use Rattle.pw_base.specs.Dependencies.{nodes_of, required_of, targets_of}
 
@@ -45,7 +46,7 @@ pub record HasSoundLinks (shape : Shape) : Type 0 where
 pub record HasSoundCycles (shape : Shape) : Type 0 where
   pub quantum : IsBetween 1 8192 shape.quantum
   pub some : 1 ≤ shape.cycles
-  pub events : shape.cycles * (2 * length shape.nodes + 3) ≤ 4194304
+  pub events : shape.cycles * (2 * length shape.nodes + 3) ≤ events_limit
   pub numbers : shape.first + shape.cycles ≤ 2 ^ 32
 
 -- SOUND SHAPE

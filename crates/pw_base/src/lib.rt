@@ -9,6 +9,7 @@
 mod cycle_history;
 mod dependencies;
 mod event;
+mod every;
 mod files;
 mod gate;
 mod history;
@@ -18,6 +19,7 @@ mod items;
 mod kind;
 mod limit;
 mod link_order;
+mod meet;
 mod memory;
 mod output;
 mod parts;
@@ -28,12 +30,13 @@ mod room;
 mod shape;
 mod soundness;
 mod status;
-mod ticker;
 #[cfg(test)]
 mod tests;
+mod ticker;
 mod words;
 
 pub use event::Event;
+pub use every::Every;
 pub use files::{FileFail, Files, Loaded};
 pub use gate::{Gate, Open};
 pub use history::is_legal_history;
@@ -45,6 +48,7 @@ pub use in_memory::sure_sink::SureSink;
 pub use items::{Items, Text};
 pub use kind::Kind;
 pub use limit::Which;
+pub use meet::Meet;
 pub use memory::Memory;
 pub use output::Sink;
 pub use parts::{Part, Parts};

@@ -14,6 +14,7 @@ pub fn status_word(status: u32, cycle: u32) -> u64
     ensures word { result ≡ status_word_of status cycle }
     ensures status { status_in result ≡ status }
     ensures cycle { cycle_in result ≡ cycle }
+    ensures packed { IsStatusWord result }
 {
     u64::from(status) + 4 * u64::from(cycle)
 }
