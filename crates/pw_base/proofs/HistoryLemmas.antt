@@ -1,5 +1,5 @@
 -- Laws of `specs/History.antt`.
-use Rattle.std.proofs.Common.{◌-◌, length-drop, [], ◌∷◌, ◌++◌, ◌+◌, take, drop, ap, ◌∙◌, append_assoc, ◌≡◌, ℕ, ◌<◌, ◌≤◌, Bool, true, false, not, cond, List, length, refl, sym, arith, ltb, Option, Some, None}
+use Rattle.std.proofs.Common.{◌-◌, length-drop, [], ◌∷◌, ◌++◌, ◌+◌, take, drop, ap, ◌∙◌, append_assoc, ◌≡◌, ℕ, ◌<◌, Bool, true, false, not, cond, List, length, refl, sym, arith, ltb, Some, None}
 use Rattle.std.specs.Prelude.{unwrap_or, All, Contains, IsTrue, ◌↔◌, map, get_or}
 use Rattle.std.specs.List.{position, position_or_len, flat_map, AllZip}
 use Rattle.std.proofs.lemmas.Bool.Decides.{Decides-ltb}

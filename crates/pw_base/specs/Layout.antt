@@ -5,7 +5,7 @@ use Rattle.std.specs.List.{flat_map}
 use Rattle.pw_base.specs.declared.pools.PoolShape.{PoolShape}
 use Rattle.pw_base.specs.declared.shape.Shape.{Shape}
 use Rattle.pw_base.specs.declared.shape.ShapeLink.{ShapeLink}
-use Rattle.pw_base.specs.Pools.{is_port, pools_of, links_from}
+use Rattle.pw_base.specs.Pools.{pools_of, links_from}
 use Rattle.pw_base.specs.Words.{status_word_of, io_word_of, no_block}
 
 -- nodes, io areas of one link and of links, and events of all cycles

@@ -1,6 +1,6 @@
 -- Forms in a plan: the rate and channels of each port of an active node, and the two forms of a link.
 -- Source: PipeWire's documentation, "SPA POD" (a port's Format); the sharing of rates and channels is this project's.
-use Rattle.std.specs.Prelude.{◌≡◌, ℕ, ◌<◌, ◌≤◌, List, Option, Some, option_map, unwrap_or, All, AllPairs, Contains, IsTrue, slice_get}
+use Rattle.std.specs.Prelude.{◌≡◌, ℕ, ◌<◌, ◌≤◌, option_map, unwrap_or, All, AllPairs, Contains, IsTrue, slice_get}
 use Rattle.pw_base.specs.declared.ids.PortId.{PortId}
 use Rattle.pw_base.specs.declared.kind.Kind.{Kind}
 use Rattle.pw_base.specs.declared.kind.Kind.TheVariants.{Dummy}

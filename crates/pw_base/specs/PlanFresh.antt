@@ -1,6 +1,6 @@
 -- Nodes that begin anew: which epochs name a node as fresh, and what that says of its forms.
 -- Source: this project's: a node whose last link went gives up its formats, and its stream starts anew.
-use Rattle.std.specs.Prelude.{◌≡◌, ℕ, ◌<◌, ◌≤◌, ◌⊎◌, length, Option, Some, All, AllPairs, Contains, slice_get}
+use Rattle.std.specs.Prelude.{◌≡◌, ℕ, ◌<◌, ◌≤◌, ◌⊎◌, length, Some, All, AllPairs, Contains, slice_get}
 use Rattle.pw_base.specs.declared.ids.PortId.{PortId}
 use Rattle.pw_base.specs.declared.kind.Kind.TheVariants.{Sink}
 use Rattle.pw_base.specs.declared.plan.Epoch.{Epoch}

@@ -40,7 +40,14 @@ impl Meet {
     }
 
     // One of the two enters: it says so, looks for the other, and says where it found it.
-    fn look(&self, mark: u64, own: &AtomicU64, other: &AtomicU64, found: &AtomicU64, found_by_other: &AtomicU64) {
+    fn look(
+        &self,
+        mark: u64,
+        own: &AtomicU64,
+        other: &AtomicU64,
+        found: &AtomicU64,
+        found_by_other: &AtomicU64,
+    ) {
         if own.load(Ordering::SeqCst) == mark {
             return;
         }
@@ -69,9 +76,21 @@ impl Gate for Meet {
     fn enter(&self, node: u32, cycle: u32) {
         let mark = u64::from(cycle) + 1;
         if node == self.a {
-            self.look(mark, &self.entered_a, &self.entered_b, &self.found_a, &self.found_b);
+            self.look(
+                mark,
+                &self.entered_a,
+                &self.entered_b,
+                &self.found_a,
+                &self.found_b,
+            );
         } else if node == self.b {
-            self.look(mark, &self.entered_b, &self.entered_a, &self.found_b, &self.found_a);
+            self.look(
+                mark,
+                &self.entered_b,
+                &self.entered_a,
+                &self.found_b,
+                &self.found_a,
+            );
         }
     }
 }

@@ -1,6 +1,7 @@
 //! Worked shapes and histories, words, lists, and the objects in memory.
 
 use crate::event::Event;
+use crate::every::Every;
 use crate::files::{FileFail, Files, Loaded};
 use crate::gate::{Gate, Open};
 use crate::history::is_legal_history;
@@ -12,6 +13,7 @@ use crate::in_memory::sure_sink::SureSink;
 use crate::items::Items;
 use crate::kind::Kind;
 use crate::limit::Which;
+use crate::meet::Meet;
 use crate::memory::Memory;
 use crate::output::Sink;
 use crate::plan::Epoch;
@@ -506,7 +508,12 @@ fn outputs_in_memory_fail_where_told(rt: HostRuntime) -> Result<(), Fail> {
     let mut sure = SureSink::new(alloc)?;
     assert!(rt; sure.put(alloc, b"f") == Ok(()) && sure.bytes().as_slice() == b"f".as_slice());
     assert!(rt; !Never::new().due());
+    let mut every = Every::new(2);
+    assert!(rt; !every.due() && every.due() && !every.due() && every.due());
     Open::new().enter(0, 0);
+    let meet = Meet::new(0, 1);
+    meet.enter(2, 0);
+    assert!(rt; !meet.met());
     let kind = Kind::Mix2 { ga: 1, gb: 1 };
     assert!(rt; kind.inputs() == 2 && kind.outputs() == 1 && kind.port_name(1) == b"b".as_slice());
     assert!(rt; Kind::Split.port_name(2) == b"right".as_slice() && Kind::Dummy.inputs() == 0);

@@ -1,4 +1,4 @@
-use Rattle.std.proofs.Common.{rules, refl}
+use Rattle.std.proofs.Common.{refl}
 use Rattle.pw_base.specs.Ordered.{IsRun}
 use Rattle.pw_base.proofs.cycle_history.is_legal_inside.Goals as goal
 

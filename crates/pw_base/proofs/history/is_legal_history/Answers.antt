@@ -1,4 +1,4 @@
-use Rattle.std.proofs.Common.{◌+◌, ◌≤◌, arith, subst, sym, ap, ◌∙◌, take, drop, length, length-drop, map}
+use Rattle.std.proofs.Common.{◌+◌, ◌≤◌, arith, subst, sym, take, drop, length, length-drop, map}
 use Rattle.pw_base.specs.History.{AreJoined, epoch_cycles, IsLegalHistory}
 use Rattle.pw_base.proofs.HistoryLemmas.{history_more, rest_whole, shapes_more}
 use Rattle.pw_base.proofs.history.is_legal_history.Goals as goal

@@ -1,4 +1,4 @@
-use Rattle.std.proofs.Common.{rules, refl, length-set}
+use Rattle.std.proofs.Common.{refl, length-set}
 use Rattle.pw_base.proofs.OrderLemmas.{starts, places, ends, none_left}
 use Rattle.pw_base.proofs.link_order.has_order.Goals as goal
 

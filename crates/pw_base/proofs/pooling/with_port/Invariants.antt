@@ -1,4 +1,4 @@
-use Rattle.std.proofs.Common.{◌≡◌, [], ◌∷◌, ◌++◌, take}
+use Rattle.std.proofs.Common.{◌≡◌, ◌∷◌, ◌++◌, take}
 use Rattle.std.specs.Prelude.{filter}
 use Rattle.pw_base.specs.Pools.{is_before}
 use Rattle.pw_base.proofs.pooling.with_port.Given as goal
