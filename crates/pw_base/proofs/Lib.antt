@@ -1,1 +1,6 @@
+pub mod HistoryLemmas
 pub mod InMemoryLemmas
+pub mod OrderLemmas
+pub mod PoolLemmas
+pub mod PrecedenceLemmas
+pub mod ShapeLemmas

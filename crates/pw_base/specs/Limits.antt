@@ -29,3 +29,11 @@ all_wav_bytes_limit = 536870912
 -- the samples of all sinks of a run
 abbrev pub sink_samples_limit : ℕ
 sink_samples_limit = 134217728
+
+-- the events of a run: 2 of each active node and 3 more a cycle
+abbrev pub events_limit : ℕ
+events_limit = 4194304
+
+-- the bytes of all blocks of all epochs
+abbrev pub block_bytes_limit : ℕ
+block_bytes_limit = 268435456

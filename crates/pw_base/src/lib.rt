@@ -6,25 +6,40 @@
 //! node, in `specs/`, are the words that kernels, node states and the cycle function share.
 #![tactic(auto)]
 
+mod cycle_history;
+mod dependencies;
 mod event;
+mod every;
 mod files;
 mod gate;
+mod history;
 mod ids;
 mod in_memory;
 mod items;
 mod kind;
 mod limit;
+mod link_order;
+mod meet;
 mod memory;
 mod output;
 mod parts;
 mod plan;
+mod pooling;
+mod pools;
 mod room;
 mod shape;
+mod soundness;
+mod status;
+#[cfg(test)]
+mod tests;
 mod ticker;
+mod words;
 
 pub use event::Event;
+pub use every::Every;
 pub use files::{FileFail, Files, Loaded};
 pub use gate::{Gate, Open};
+pub use history::is_legal_history;
 pub use ids::{DUMMY, LinkId, NodeId, PortId};
 pub use in_memory::mem_files::MemFiles;
 pub use in_memory::mem_sink::MemSink;
@@ -33,10 +48,19 @@ pub use in_memory::sure_sink::SureSink;
 pub use items::{Items, Text};
 pub use kind::Kind;
 pub use limit::Which;
+pub use meet::Meet;
 pub use memory::Memory;
 pub use output::Sink;
 pub use parts::{Part, Parts};
 pub use plan::{Epoch, Fresh, LineOutcome, LinkLine, Plan, PlanNode, PortForm};
+pub use pooling::{is_pooled_shape, pools_of};
+pub use pools::PoolShape;
 pub use room::Room;
 pub use shape::{Shape, ShapeLink, ShapeNode};
+pub use soundness::is_sound_shape;
+pub use status::{AreaStatus, Status};
 pub use ticker::{Never, Ticker};
+pub use words::{
+    NO_BLOCK, cycle_of, event_of, event_word, io_id_of, io_status_of, io_word, status_of,
+    status_word,
+};

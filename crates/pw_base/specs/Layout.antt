@@ -1,0 +1,65 @@
+-- The words of a board: where each stands in the table of a shape, and what it holds at the start.
+-- Source: spa/node/io.h, spa_io_buffers (one area a link; two for a delayed one, as spa_io_async_buffers); the rest is this project's.
+use Rattle.std.specs.Prelude.{ℕ, ◌+◌, ◌-◌, ◌*◌, ◌%◌, ◌==◌, List, [], ◌∷◌, ◌++◌, length, take, replicate, sum_by, count_by, if◌then◌else◌}
+use Rattle.std.specs.List.{flat_map}
+use Rattle.pw_base.specs.declared.pools.PoolShape.{PoolShape}
+use Rattle.pw_base.specs.declared.shape.Shape.{Shape}
+use Rattle.pw_base.specs.declared.shape.ShapeLink.{ShapeLink}
+use Rattle.pw_base.specs.Pools.{pools_of, links_from}
+use Rattle.pw_base.specs.Words.{status_word_of, io_word_of, no_block}
+
+-- nodes, io areas of one link and of links, and events of all cycles
+abbrev pub node_count : Shape → ℕ
+node_count shape = length shape.nodes
+
+abbrev pub areas_of : ShapeLink → ℕ
+areas_of link = if link.delayed then 2 else 1
+
+abbrev pub area_count : List ShapeLink → ℕ
+area_count links = sum_by areas_of links
+
+abbrev pub event_count : Shape → ℕ
+event_count shape = shape.cycles * (2 * node_count shape + 3)
+
+-- the words of a pool: for each block a readers word and its sample words
+abbrev pub pool_words : PoolShape → ℕ
+pool_words pool = pool.blocks * (1 + pool.words)
+
+-- WHERE EACH STANDS: nodes, links and pools by place, areas 0 and 1, cycles counted from the epoch's first
+abbrev pub ticket_place : ℕ
+ticket_place = 0
+
+abbrev pub pending_place : Shape → ℕ → ℕ
+pending_place shape node = 1 + node
+
+abbrev pub status_place : Shape → ℕ → ℕ
+status_place shape node = 1 + node_count shape + node
+
+abbrev pub io_place : Shape → ℕ → ℕ → ℕ
+io_place shape link area = 1 + 2 * node_count shape + area_count (take link shape.links) + area
+
+abbrev pub late_place : Shape → ℕ → ℕ
+late_place shape cycle = 1 + 2 * node_count shape + area_count shape.links + cycle
+
+abbrev pub event_place : Shape → ℕ → ℕ
+event_place shape ticket = late_place shape shape.cycles + ticket
+
+abbrev pub readers_place : Shape → ℕ → ℕ → ℕ → ℕ
+readers_place shape pool words block = event_place shape (event_count shape) + sum_by pool_words (take pool (pools_of shape)) + block * (1 + words)
+
+abbrev pub sample_place : Shape → ℕ → ℕ → ℕ → ℕ → ℕ
+sample_place shape pool words block word = readers_place shape pool words block + 1 + word
+
+-- AT THE START: area 0 first; the area of a delayed link that is read in the first cycle names block 0
+abbrev pub io_start : ℕ → ShapeLink → List ℕ
+io_start first link =
+    if link.delayed then (if first % 2 == 0 then io_word_of 2 0 ∷ io_word_of 1 no_block ∷ [] else io_word_of 1 no_block ∷ io_word_of 2 0 ∷ [])
+    else io_word_of 1 no_block ∷ []
+
+-- block 0 begins out, read by the pool's delayed links
+abbrev pub pool_start : Shape → PoolShape → List ℕ
+pool_start shape pool = count_by (λ l. l.delayed) (links_from shape pool.port) ∷ replicate (pool_words pool - 1) 0
+
+abbrev pub start_words : Shape → List ℕ
+start_words shape = 0 ∷ (replicate (node_count shape) 0 ++ (replicate (node_count shape) (status_word_of 0 shape.first)
+    ++ (flat_map (io_start shape.first) shape.links ++ (replicate (shape.cycles + event_count shape) 0 ++ flat_map (pool_start shape) (pools_of shape)))))
