@@ -1,70 +1,91 @@
 //! What is refused, and by which cause.
 
-use crate::support::{SCRIPT, run, sure_files, text};
-use pw_base::{FileFail, Files, Items, Loaded, SureFiles, SureSink, Text};
+use crate::support::{SCRIPT, blanks, expect, expect_of, expect_sink, files_of, text};
+use graph_script::ScriptWhy;
+use pw_base::{FileFail, Files, Items, Loaded, MemSink, Text, Which};
+use pw_top::Status;
 use std::alloc::Global;
 use std::test::Fail;
+use wav_files::WavFault;
 
 #[test]
 fn words_of_the_first_path(rt: HostRuntime) -> Result<(), Fail> {
     let table = [
-        ("", "usage 0\n"),
-        ("play", "usage 0\n"),
-        ("run", "usage 1\n"),
-        ("run -s", "usage 1\n"),
-        ("run s x", "usage 2\n"),
-        ("run s --loops 2", "usage 2\n"),
+        ("", 0, "usage 0\n"),
+        ("play", 0, "usage 0\n"),
+        ("run", 1, "usage 1\n"),
+        ("run -s", 1, "usage 1\n"),
+        ("run s x", 2, "usage 2\n"),
+        ("run s --loops 2", 2, "usage 2\n"),
     ];
-    for (line, wanted) in table {
-        let mut files = SureFiles::new(rt.alloc())?;
-        let mut out = SureSink::new(rt.alloc())?;
-        let status = run(&rt, line, &mut files, &mut out)?;
-        assert_eq!(rt; status.number(), 1, "{line}");
-        assert_eq!(rt; out.bytes().as_slice(), wanted.as_bytes(), "{line}");
+    for (line, word, wanted) in table {
+        let mut files = files_of(rt.alloc(), SCRIPT)?;
+        let mut out = MemSink::new(rt.alloc())?;
+        expect(
+            &rt,
+            line,
+            &mut files,
+            &mut out,
+            Status::Usage { word },
+            wanted,
+        )?;
     }
     Ok(())
 }
 
 #[test]
-fn files_and_scripts_are_refused_by_cause(rt: HostRuntime) -> Result<(), Fail> {
-    let table = [
-        ("run other", SCRIPT, "absent 0\n"),
-        ("run s.graph", "\nsource s other.wav\n", "absent 2\n"),
-        ("run s.graph", "# a script\nplay\n", "script 2 2\n"),
-        ("run s.graph", "source s s.graph\n", "wav 1 3\n"),
-        (
-            "run s.graph",
-            "quantum 8192\nsource s s.wav\nsink o o.wav\nlink s.out o.in\ncycles 16385\n",
-            "limit 5 9\n",
-        ),
-    ];
-    for (line, script, wanted) in table {
-        let mut files = sure_files(rt.alloc(), script)?;
-        let mut out = SureSink::new(rt.alloc())?;
-        run(&rt, line, &mut files, &mut out)?;
-        assert_eq!(rt; out.bytes().as_slice(), wanted.as_bytes(), "{script}");
-        assert!(rt; files.file(&text(rt.alloc(), "o.wav")?).is_none());
-    }
-    Ok(())
-}
-
-#[test]
-fn a_script_above_its_limit(rt: HostRuntime) -> Result<(), Fail> {
-    let mut files = SureFiles::new(rt.alloc())?;
-    let mut out = SureSink::new(rt.alloc())?;
-    let blanks = Items::filled(rt.alloc(), 1_048_577, b' ')?;
-    files.add_file(rt.alloc(), &text(rt.alloc(), "s.graph")?, blanks.as_slice())?;
-    files.add_file(
-        rt.alloc(),
-        &text(rt.alloc(), "t.graph")?,
-        &blanks.as_slice()[1..],
+fn scripts_and_files_are_refused_by_cause(rt: HostRuntime) -> Result<(), Fail> {
+    expect_of(
+        &rt,
+        "\nsource s other.wav\n",
+        Status::Absent { place: 2 },
+        "absent 2\n",
     )?;
-    let status = run(&rt, "run s.graph", &mut files, &mut out)?;
-    assert_eq!(rt; status.number(), 8);
-    assert_eq!(rt; out.bytes().as_slice(), b"limit 0 1\n".as_slice());
-    let status = run(&rt, "run t.graph", &mut files, &mut out)?;
-    assert_eq!(rt; status.number(), 0);
-    Ok(())
+    let line = Status::Script {
+        line: 2,
+        why: ScriptWhy::Command,
+    };
+    expect_of(&rt, "# a script\nplay\n", line, "script 2 2\n")?;
+    let wav = Status::Wav {
+        place: 1,
+        why: WavFault::BadFmt,
+    };
+    expect_of(&rt, "source s s.graph\n", wav, "wav 1 3\n")?;
+    let limit = Status::Limit {
+        place: 5,
+        which: Which::SinkSamples,
+    };
+    let script = "quantum 8192\nsource s s.wav\nsink o o.wav\nlink s.out o.in\ncycles 16385\n";
+    expect_of(&rt, script, limit, "limit 5 9\n")
+}
+
+#[test]
+fn a_script_that_is_missing_or_too_long(rt: HostRuntime) -> Result<(), Fail> {
+    let mut files = files_of(rt.alloc(), SCRIPT)?;
+    let mut out = MemSink::new(rt.alloc())?;
+    expect(
+        &rt,
+        "run other",
+        &mut files,
+        &mut out,
+        Status::Absent { place: 0 },
+        "absent 0\n",
+    )?;
+    let long = blanks(rt.alloc(), 1_048_577)?;
+    files.add_file(rt.alloc(), &text(rt.alloc(), "long")?, long.as_slice())?;
+    let limit = Status::Limit {
+        place: 0,
+        which: Which::ScriptBytes,
+    };
+    expect(
+        &rt,
+        "run long",
+        &mut files,
+        &mut out,
+        limit,
+        "absent 0\nlimit 0 1\n",
+    )?;
+    expect_sink(&rt, &files, None)
 }
 
 // Files that hold the script, and say of every other that it is too long.
@@ -97,9 +118,17 @@ impl Files for LongWaves {
 
 #[test]
 fn a_wave_above_its_limit(rt: HostRuntime) -> Result<(), Fail> {
-    let mut out = SureSink::new(rt.alloc())?;
-    let status = run(&rt, "run s.graph", &mut LongWaves, &mut out)?;
-    assert_eq!(rt; status.number(), 8);
-    assert_eq!(rt; out.bytes().as_slice(), b"limit 2 2\n".as_slice());
-    Ok(())
+    let mut out = MemSink::new(rt.alloc())?;
+    let limit = Status::Limit {
+        place: 2,
+        which: Which::WavBytes,
+    };
+    expect(
+        &rt,
+        "run s.graph",
+        &mut LongWaves,
+        &mut out,
+        limit,
+        "limit 2 2\n",
+    )
 }

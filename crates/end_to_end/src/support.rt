@@ -1,8 +1,9 @@
 //! What the tests share: a script, its files, and a call of the program on a line of words.
 
-use pw_base::{Files, Items, MemFiles, Memory, Never, Open, Sink, SureFiles, Text};
+use pw_base::{Files, Items, MemFiles, MemSink, Memory, Never, Open, Text};
 use pw_top::{Status, run_words};
 use std::alloc::Global;
+use std::process::Abort;
 use std::sync::Wait;
 use std::test::Fail;
 use std::thread::Threads;
@@ -29,33 +30,39 @@ pub fn text(alloc: Global, text: &str) -> Result<Text, Memory> {
     Items::from_slice(alloc, text.as_bytes())
 }
 
-/// Files that never fail, with a script and its source.
-pub fn sure_files(alloc: Global, script: &str) -> Result<SureFiles, Memory> {
-    let mut files = SureFiles::new(alloc)?;
+/// Files that hold this script and the source.
+pub fn files_of(alloc: Global, script: &str) -> Result<MemFiles, Memory> {
+    let mut files = MemFiles::new(alloc)?;
     files.add_file(alloc, &text(alloc, "s.graph")?, script.as_bytes())?;
     files.add_file(alloc, &text(alloc, "s.wav")?, SOURCE.as_slice())?;
     Ok(files)
 }
 
-/// Files that can be told to fail, with the script and its source.
-pub fn mem_files(alloc: Global) -> Result<MemFiles, Memory> {
-    let mut files = MemFiles::new(alloc)?;
-    files.add_file(alloc, &text(alloc, "s.graph")?, SCRIPT.as_bytes())?;
-    files.add_file(alloc, &text(alloc, "s.wav")?, SOURCE.as_slice())?;
-    Ok(files)
+/// So many blanks. Nothing is ensured of them, since a list that long is not to be computed in a proof.
+pub fn blanks(alloc: Global, len: usize) -> Result<Items<u8>, Memory> {
+    Items::filled(alloc, len, b' ')
 }
 
-/// Runs the words of a line, which blanks part.
-pub fn run<R: Threads + Wait + Sync + AllocGlobal, F: Files, O: Sink>(
+// The words of a line, which blanks part.
+fn words_of(alloc: Global, line: &str) -> Result<Items<String>, Memory> {
+    let mut words = Items::new(alloc);
+    for word in line.split_whitespace() {
+        let word = String::from_str(alloc, word)?;
+        words.push(word)?;
+    }
+    Ok(words)
+}
+
+/// Runs the words of a line, and compares the status and the text.
+pub fn expect<R: Threads + Wait + Sync + AllocGlobal + Abort, F: Files>(
     rt: &R,
     line: &str,
     files: &mut F,
-    out: &mut O,
-) -> Result<Status, Fail> {
-    let mut words = Items::new(rt.alloc());
-    for word in line.split_whitespace() {
-        words.push(String::from_str(rt.alloc(), word)?)?;
-    }
+    out: &mut MemSink,
+    status: Status,
+    wanted: &str,
+) -> Result<(), Fail> {
+    let words = words_of(rt.alloc(), line)?;
     let report = run_words(
         rt,
         rt.alloc(),
@@ -65,5 +72,34 @@ pub fn run<R: Threads + Wait + Sync + AllocGlobal, F: Files, O: Sink>(
         &Open::new(),
         &mut Never::new(),
     );
-    Ok(report.status)
+    assert!(rt; report.status == status, "{line}");
+    assert!(rt; out.bytes().as_slice() == wanted.as_bytes(), "{line}");
+    Ok(())
+}
+
+/// The same of a script that no call of the outside fails.
+pub fn expect_of<R: Threads + Wait + Sync + AllocGlobal + Abort>(
+    rt: &R,
+    script: &str,
+    status: Status,
+    wanted: &str,
+) -> Result<(), Fail> {
+    let mut files = files_of(rt.alloc(), script)?;
+    let mut out = MemSink::new(rt.alloc())?;
+    expect(rt, "run s.graph", &mut files, &mut out, status, wanted)
+}
+
+/// Compares what stands under the sink's name.
+pub fn expect_sink<R: AllocGlobal + Abort>(
+    rt: &R,
+    files: &MemFiles,
+    wanted: Option<&[u8]>,
+) -> Result<(), Fail> {
+    let name = text(rt.alloc(), "o.wav")?;
+    match (files.file(&name), wanted) {
+        (Some(bytes), Some(wanted)) => assert!(rt; bytes.as_slice() == wanted),
+        (None, None) => {}
+        _ => assert!(rt; false, "stored or not"),
+    }
+    Ok(())
 }

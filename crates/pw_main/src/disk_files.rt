@@ -4,11 +4,9 @@ ghost use Rattle.pw_base.specs.Files.{IsWithin};
 
 use pw_base::{FileFail, Files, Items, Loaded, Memory, Text};
 use std::alloc::Global;
-use std::fs;
 use std::fs::OpenFile;
 use std::io::{ErrorKind, Read, Write};
-use std::rt;
-use std::str;
+use std::{fs, rt, str};
 
 // How many bytes a read asks for at most.
 const CHUNK: usize = 65536;
@@ -197,5 +195,55 @@ impl<'a, R: rt::Files> Files for DiskFiles<'a, R> {
             }
             other => other,
         }
+    }
+}
+
+#[cfg(test)]
+mod tests {
+    use super::*;
+    use std::env;
+    use std::test::Fail;
+
+    // What a load says, in one letter.
+    fn letter(loaded: Result<Loaded, FileFail>) -> char {
+        match loaded {
+            Ok(Loaded::Whole(_)) => 'w',
+            Ok(Loaded::Absent) => 'a',
+            Ok(Loaded::TooLong) => 'l',
+            Err(FileFail::Failed) => 'f',
+            Err(FileFail::Memory) => 'm',
+        }
+    }
+
+    #[test]
+    fn disk_files_read_and_write(rt: HostRuntime) -> Result<(), Fail> {
+        let alloc = rt.alloc();
+        let folder = env::temp_dir(&rt)?;
+        let path = format!(in alloc;
+            "{}/pipegraph_disk_files_test",
+            folder.as_path().to_str().unwrap_or(".")
+        )?;
+        let name = Items::from_slice(alloc, path.as_bytes())?;
+        let other = Items::from_slice(alloc, b"no/such/folder".as_slice())?;
+        let root = Items::from_slice(alloc, b"/".as_slice())?;
+        let mut files = DiskFiles::new(&rt);
+        files.store(alloc, &name, b"seven and eight".as_slice())?;
+        files.store(alloc, &name, b"nine".as_slice())?;
+        let Loaded::Whole(bytes) = files.load(alloc, &name, 4)? else {
+            panic!(rt; "not whole")
+        };
+        assert!(rt; bytes.as_slice() == b"nine".as_slice());
+        assert_eq!(rt; letter(files.load(alloc, &name, 3)), 'l');
+        assert_eq!(rt; letter(files.load(alloc, &other, 3)), 'a');
+        assert_eq!(rt; files.load_faults, 0);
+        assert_eq!(rt; letter(files.load(alloc, &root, 3)), 'f');
+        assert_eq!(rt; files.load_faults, 1);
+        assert_eq!(rt;
+            files.store(alloc, &other, b"".as_slice()),
+            Err(FileFail::Failed)
+        );
+        assert_eq!(rt; files.store_faults, 1);
+        fs::remove_file(&rt, path.as_str())?;
+        Ok(())
     }
 }

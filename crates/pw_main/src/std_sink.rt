@@ -39,3 +39,16 @@ impl<'a, R: Print> Sink for StdSink<'a, R> {
         }
     }
 }
+
+#[cfg(test)]
+mod tests {
+    use super::*;
+
+    #[test]
+    fn standard_output_takes_bytes(rt: HostRuntime) {
+        let mut out = StdSink::new(&rt);
+        assert_eq!(rt; out.put(rt.alloc(), b"".as_slice()), Ok(()));
+        assert_eq!(rt; out.put(rt.alloc(), b"taken\n".as_slice()), Ok(()));
+        assert_eq!(rt; out.faults, 0);
+    }
+}

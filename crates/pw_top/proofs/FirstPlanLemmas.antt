@@ -151,7 +151,7 @@ module _ (names : List (List ℕ)) (quantum cycles : ℕ) where
         All-cons (IsNodeOf linked) (record { node = 0; required = 1; targets = 1 ∷ 63 ∷ [] })
         (record { node = 1; required = 2; targets = 63 ∷ [] } ∷ record { node = 63; required = 3; targets = 0 ∷ 1 ∷ 63 ∷ [] } ∷ []) (inl (omega arith))
         (all_two (IsNodeOf linked) (record { node = 1; required = 2; targets = 63 ∷ [] }) (record { node = 63; required = 3; targets = 0 ∷ 1 ∷ 63 ∷ [] })
-            (inl (omega arith)) (inr refl))
+        (inl (omega arith)) (inr refl))
 
     abbrev linked_epoch : ℕ → Epoch
     linked_epoch n = record {
@@ -177,7 +177,7 @@ module _ (names : List (List ℕ)) (quantum cycles : ℕ) where
     linked_forms zero = All-nil (λ (e : Epoch). All (IsFormOf (the_wave wav)) e.forms)
     linked_forms (suc n) = all_one (λ (e : Epoch). All (IsFormOf (the_wave wav)) e.forms) (linked_epoch n)
         (all_two (IsFormOf (the_wave wav)) (record { port = record { node = 0; port = 0 }; rate = wav.rate; channels = wav.channels })
-            (record { port = record { node = 1; port = 0 }; rate = wav.rate; channels = wav.channels }) (λ _. (refl, refl)) (λ _. (refl, refl)))
+        (record { port = record { node = 1; port = 0 }; rate = wav.rate; channels = wav.channels }) (λ _. (refl, refl)) (λ _. (refl, refl)))
 
     linked_prompt : (n : ℕ) → All (λ (e : Epoch). All (λ l. l.delayed ≡ false) e.shape.links) (epochs_of quantum n (Some (wave_form wav)))
     linked_prompt zero = All-nil (λ (e : Epoch). All (λ l. l.delayed ≡ false) e.shape.links)

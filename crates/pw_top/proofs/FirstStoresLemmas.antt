@@ -39,10 +39,10 @@ found P test (y ∷ ys) x all e =
 
 abbrev linked_row : (wav : Wav) (quantum n : ℕ) → List WavIn → List ℤ
 linked_row wav quantum n waves = epoch_row (record {
-    shape = record { quantum = quantum; first = 0; cycles = n; driver = 63; nodes = shape_nodes (Some (wave_form wav)); links = shape_links (Some (wave_form wav)) };
-    forms = port_forms (Some (wave_form wav));
-    fresh = fresh_nodes (Some (wave_form wav));
-  }) waves (record { node = 1; port = 0 })
+  shape = record { quantum = quantum; first = 0; cycles = n; driver = 63; nodes = shape_nodes (Some (wave_form wav)); links = shape_links (Some (wave_form wav)) };
+  forms = port_forms (Some (wave_form wav));
+  fresh = fresh_nodes (Some (wave_form wav));
+}) waves (record { node = 1; port = 0 })
 
 length-linked_row : (wav : Wav) (quantum n : ℕ) (waves : List WavIn) → length (linked_row wav quantum n waves) ≡ n * (quantum * wav.channels)
 length-linked_row wav quantum n waves = length-map-range_with_len _ 0 (n * (quantum * wav.channels))
@@ -56,7 +56,7 @@ module _ (names : List (List ℕ)) (quantum : ℕ) (sink link : Line) (w : WavIn
   length-stream zero = ap length (end_none (linked zero) (w ∷ []) 1 refl) ∙ sym (zero-mul (quantum * w.wav.channels))
   length-stream (suc n) =
       ap length (end_single (linked (suc n)) (w ∷ []) 1 _ (made_renders names quantum (suc n) (Some sink) (Some link) (w ∷ []) first)
-          (made_covered names quantum (suc n) (Some sink) (Some link) (w ∷ [])) refl)
+      (made_covered names quantum (suc n) (Some sink) (Some link) (w ∷ [])) refl)
       ∙ length-linked_row w.wav quantum (suc n) (w ∷ [])
 
   abbrev kept : ℕ → Kept

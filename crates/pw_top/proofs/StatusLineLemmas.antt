@@ -19,4 +19,3 @@ length-decimal_one n h = ap length (decimal_digit n h)
 
 pub length-decimal_u32 : (n : ℕ) → n < 2 ^ 32 → length (decimal n) ≤ 10
 length-decimal_u32 n h = length-decimal-le 10 n (omega arith) (omega arith) (omega arith)
-

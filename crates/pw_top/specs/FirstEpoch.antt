@@ -34,7 +34,7 @@ abbrev pub plan_of : Script → List WavIn → Plan
 plan_of script waves = record {
   quantum = quantum_of (quantum_line script.lines);
   nodes = source_nodes script.names waves
-    ++ sink_nodes script.names (length (source_nodes script.names waves)) (script_form script waves) (sink_line script.lines);
+      ++ sink_nodes script.names (length (source_nodes script.names waves)) (script_form script waves) (sink_line script.lines);
   epochs = epochs_of (quantum_of (quantum_line script.lines)) (cycles_of (cycles_line script.lines)) (script_form script waves);
   lines = lines_of (script_form script waves);
 }

@@ -7,8 +7,8 @@ ghost use Rattle.pw_top.specs.FirstLines.{sink_line, link_line};
 use crate::first_lines::{cycles_of, link_line, quantum_of, sink_line};
 use graph_script::{Line, Script};
 use pw_base::{
-    DUMMY, Epoch, Fresh, Items, Kind, LineOutcome, LinkLine, Memory, Plan, PlanNode, PortForm, PortId,
-    Shape, ShapeLink, ShapeNode, Text,
+    DUMMY, Epoch, Fresh, Items, Kind, LineOutcome, LinkLine, Memory, Plan, PlanNode, PortForm,
+    PortId, Shape, ShapeLink, ShapeNode, Text,
 };
 use std::alloc::Global;
 use wav_files::WavIn;
@@ -98,11 +98,7 @@ fn sink_node(
 }
 
 // The nodes of the sources.
-fn source_nodes(
-    alloc: Global,
-    names: &[Text],
-    waves: &[WavIn],
-) -> Result<Items<PlanNode>, Memory>
+fn source_nodes(alloc: Global, names: &[Text], waves: &[WavIn]) -> Result<Items<PlanNode>, Memory>
     ensures { IfOk result (λ nodes. nodes ≡ source_nodes names.now waves.now) }
 {
     let mut nodes = Items::new(alloc);
@@ -137,12 +133,7 @@ fn nodes_of(
     }
 }
 
-fn shape_node(
-    alloc: Global,
-    node: u32,
-    required: u32,
-    targets: &[u32],
-) -> Result<ShapeNode, Memory>
+fn shape_node(alloc: Global, node: u32, required: u32, targets: &[u32]) -> Result<ShapeNode, Memory>
     ensures { IfOk result (λ made. made ≡ record { node = node; required = required; targets = targets.now }) }
 {
     let targets = Items::from_slice(alloc, targets)?;

@@ -96,3 +96,53 @@ pub fn run_first(alloc: Global, script: &Script, waves: &Items<WavIn>) -> Result
         Err(_memory) => Err(Status::Memory),
     }
 }
+
+#[cfg(test)]
+mod tests {
+    use super::*;
+    use graph_script::Command;
+    use pw_base::PortId;
+    use std::test::Fail;
+    use wav_files::Wav;
+
+    // A mono source linked to a sink, for so many cycles of 8192 frames.
+    fn script_of(alloc: Global, cycles: u32) -> Result<Script, Memory> {
+        let port = PortId { node: 0, port: 0 };
+        let mut script = Script {
+            lines: Items::new(alloc),
+            names: Items::new(alloc),
+        };
+        let commands = [
+            Command::Quantum { n: 8192 },
+            Command::Sink {
+                node: 1,
+                file: Items::new(alloc),
+            },
+            Command::Link {
+                from: port,
+                to: port,
+            },
+            Command::Cycles { n: cycles },
+        ];
+        for command in commands {
+            script.lines.push(Line { line: 1, command })?;
+        }
+        Ok(script)
+    }
+
+    #[test]
+    fn samples_at_the_limit(rt: HostRuntime) -> Result<(), Fail> {
+        let wave = WavIn {
+            node: 0,
+            wav: Wav {
+                rate: 48000,
+                channels: 1,
+                samples: Items::new(rt.alloc()),
+            },
+        };
+        let waves = [wave];
+        assert!(rt; !has_too_many(&script_of(rt.alloc(), 16384)?, waves.as_slice()));
+        assert!(rt; has_too_many(&script_of(rt.alloc(), 16385)?, waves.as_slice()));
+        Ok(())
+    }
+}

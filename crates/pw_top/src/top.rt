@@ -75,13 +75,7 @@ pub struct Report {
 /// its expected answer. Every other status says how far that answer was followed and why it stopped: a refusal is
 /// the answer's own; `ReadFault`, and `WriteFault` with its place, come only where the outside counted a fault in
 /// this call; `Memory` may come at any step. The line of a status is put last, and nothing is put after a failed put.
-pub fn run_words<
-    R: Threads + Wait + Sync,
-    F: Files,
-    O: Sink,
-    G: Gate + Sync,
-    K: Ticker,
->(
+pub fn run_words<R: Threads + Wait + Sync, F: Files, O: Sink, G: Gate + Sync, K: Ticker>(
     rt: &R,
     alloc: Global,
     words: &[String],

@@ -45,7 +45,14 @@ impl Prepare for RunScript {
         ticker: &mut K,
         history: &mut Items<Event>,
     ) -> Result<Work, Status> {
-        match load_step(alloc, files, 0, &self.script, SCRIPT_BYTES, Which::ScriptBytes) {
+        match load_step(
+            alloc,
+            files,
+            0,
+            &self.script,
+            SCRIPT_BYTES,
+            Which::ScriptBytes,
+        ) {
             Err(status) => Err(status),
             Ok(bytes) => ScriptBytes { bytes }.prepare(rt, alloc, files, gate, ticker, history),
         }
@@ -111,7 +118,12 @@ impl Prepare for Parsed {
                 Err(_memory) => Err(Status::Memory),
                 Ok(file) => {
                     let place = line.line;
-                    Sourced { script, place, file }.prepare(rt, alloc, files, gate, ticker, history)
+                    Sourced {
+                        script,
+                        place,
+                        file,
+                    }
+                    .prepare(rt, alloc, files, gate, ticker, history)
                 }
             },
         }
@@ -141,7 +153,11 @@ impl Prepare for Sourced {
         _ticker: &mut K,
         _history: &mut Items<Event>,
     ) -> Result<Work, Status> {
-        let Sourced { script, place, file } = self;
+        let Sourced {
+            script,
+            place,
+            file,
+        } = self;
         match load_step(alloc, files, place, &file, WAV_BYTES, Which::WavBytes) {
             Err(status) => Err(status),
             Ok(bytes) => run_bytes(alloc, &script, place, &bytes),
@@ -164,12 +180,7 @@ fn run_wave(alloc: Global, script: &Script, wav: Wav) -> Result<Work, Status>
 }
 
 // What the script gives from its source's file.
-fn run_bytes(
-    alloc: Global,
-    script: &Script,
-    place: u32,
-    bytes: &Items<u8>,
-) -> Result<Work, Status>
+fn run_bytes(alloc: Global, script: &Script, place: u32, bytes: &Items<u8>) -> Result<Work, Status>
     requires { AreNumbered script.now }
     ensures done { Ends (run_wave script.now place (wav_of bytes.now)) result }
     ensures cause { CommandCause IsDeliverable 0 0 result }

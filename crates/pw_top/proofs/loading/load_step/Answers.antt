@@ -18,4 +18,3 @@ pub returns-in-Ok-TooLong-clause-told : goal.returns-in-Ok-TooLong-clause-told
 returns-in-Ok-TooLong-clause-told g c = λ h.
     let t = subst (λ l. IsLoaded (names_in (g.F.Files.held c.args.files.now) c.args.name.now) c.args.limit (Ok l)) c.in-Ok-TooLong.field-0-is (c.in-Ok-TooLong.ensures.told h) in
     inl (load_long _ _ _ t.0 _ _ t.1 t.2, refl)
-

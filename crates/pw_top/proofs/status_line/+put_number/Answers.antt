@@ -17,7 +17,7 @@ push-requires-else-n-lt10 t c =
     let small : c.args.n < 2 ^ 64 = omega arith in
     let more : length (decimal c.args.n) ≡ length (decimal (c.args.n / 10)) + 1 = length-decimal_more c.args.n c.if-n-lt10.false small in
     let here : length c.put_number.new.line ≡ length c.args.line.now + length (decimal (c.args.n / 10)) =
-        ap length c.put_number.ensures ∙ length-append c.args.line.now (decimal (c.args.n / 10)) in
+    ap length c.put_number.ensures ∙ length-append c.args.line.now (decimal (c.args.n / 10)) in
     omega arith
 
 pub returns-then-n-lt10 : goal.returns-then-n-lt10

@@ -17,5 +17,5 @@ returns-clause-len c =
     let one : length c.push.new.self ≡ length c.args.line.now + 1 = ap length c.push.ensures ∙ length-append c.args.line.now (32 ∷ []) in
     let ten : length (decimal c.args.n) ≤ 10 = length-decimal_u32 c.args.n (omega arith) in
     let all : length c.put_number.new.line ≡ length c.push.new.self + length (decimal c.args.n) =
-        ap length c.put_number.ensures ∙ length-append c.push.new.self (decimal c.args.n) in
+    ap length c.put_number.ensures ∙ length-append c.push.new.self (decimal c.args.n) in
     omega arith
