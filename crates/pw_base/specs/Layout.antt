@@ -1,6 +1,6 @@
 -- The words of a board: where each stands in the table of a shape, and what it holds at the start.
 -- Source: spa/node/io.h, spa_io_buffers (one area a link; two for a delayed one, as spa_io_async_buffers); the rest is this project's.
-use Rattle.std.specs.Prelude.{ℕ, ◌+◌, ◌-◌, ◌*◌, ◌%◌, ◌==◌, List, [], ◌∷◌, ◌++◌, length, take, replicate, sum_by, count_by, if◌then◌else◌}
+use Rattle.std.specs.Prelude.{ℕ, ◌+◌, ◌-◌, ◌*◌, ◌%◌, ◌==◌, List, [], ◌∷◌, ◌++◌, length, take, replicate, sum_by, count_by, unwrap_or, option_map, slice_get, if◌then◌else◌}
 use Rattle.std.specs.List.{flat_map}
 use Rattle.pw_base.specs.declared.pools.PoolShape.{PoolShape}
 use Rattle.pw_base.specs.declared.shape.Shape.{Shape}
@@ -44,11 +44,15 @@ late_place shape cycle = 1 + 2 * node_count shape + area_count shape.links + cyc
 abbrev pub event_place : Shape → ℕ → ℕ
 event_place shape ticket = late_place shape shape.cycles + ticket
 
-abbrev pub readers_place : Shape → ℕ → ℕ → ℕ → ℕ
-readers_place shape pool words block = event_place shape (event_count shape) + sum_by pool_words (take pool (pools_of shape)) + block * (1 + words)
+-- the sample words of a block of a pool
+abbrev pub block_words : Shape → ℕ → ℕ
+block_words shape pool = unwrap_or (option_map (λ p. p.words) (slice_get (pools_of shape) pool)) 0
 
-abbrev pub sample_place : Shape → ℕ → ℕ → ℕ → ℕ → ℕ
-sample_place shape pool words block word = readers_place shape pool words block + 1 + word
+abbrev pub readers_place : Shape → ℕ → ℕ → ℕ
+readers_place shape pool block = event_place shape (event_count shape) + sum_by pool_words (take pool (pools_of shape)) + block * (1 + block_words shape pool)
+
+abbrev pub sample_place : Shape → ℕ → ℕ → ℕ → ℕ
+sample_place shape pool block word = readers_place shape pool block + 1 + word
 
 -- AT THE START: area 0 first; the area of a delayed link that is read in the first cycle names block 0
 abbrev pub io_start : ℕ → ShapeLink → List ℕ

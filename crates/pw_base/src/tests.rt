@@ -215,21 +215,36 @@ fn epoch(alloc: Global, shape: Shape) -> Epoch {
     }
 }
 
-// Events of cycle 0, and of a cycle of the dummy alone.
-const B: Event = Event::Begin { cycle: 0 };
-
-const E: Event = Event::End { cycle: 0 };
-
-fn s(node: u32) -> Event {
-    Event::Start { cycle: 0, node }
+// The event of cycle 0 that a letter names: [ and ] are Begin and End, A is the Start of node 0 and a its Finish,
+// - is a Tick without a late node, and a digit a Tick with that one.
+fn event_named(letter: u8) -> Event {
+    match letter {
+        b'[' => Event::Begin { cycle: 0 },
+        b']' => Event::End { cycle: 0 },
+        b'A'..=b'Z' => Event::Start {
+            cycle: 0,
+            node: u32::from(letter - b'A'),
+        },
+        b'a'..=b'z' => Event::Finish {
+            cycle: 0,
+            node: u32::from(letter - b'a'),
+        },
+        b'0'..=b'9' => Event::Tick {
+            cycle: 0,
+            late: 1 << (letter - b'0'),
+        },
+        b'-' => Event::Tick { cycle: 0, late: 0 },
+        _ => Event::End { cycle: 1 },
+    }
 }
 
-fn f(node: u32) -> Event {
-    Event::Finish { cycle: 0, node }
-}
-
-fn t(late: u64) -> Event {
-    Event::Tick { cycle: 0, late }
+// The events that letters name.
+fn events_named(alloc: Global, letters: &[u8]) -> Result<Items<Event>, Memory> {
+    let mut events = Items::new(alloc);
+    for letter in letters {
+        events.push(event_named(*letter))?;
+    }
+    Ok(events)
 }
 
 // The four events of a cycle of one node.
@@ -247,88 +262,18 @@ fn histories_are_legal_or_not(rt: HostRuntime) -> Result<(), Fail> {
     let alloc = rt.alloc();
     let mut epochs = Items::new(alloc);
     epochs.push(epoch(alloc, two_links(alloc)?))?;
-    let one = epochs.as_slice();
-    let legal: [&[Event]; 5] = [
-        &[B, s(0), f(0), s(1), f(1), s(2), f(2), s(3), f(3), E],
-        &[B, s(0), f(0), s(1), f(1), t(4), s(2), f(2), s(3), f(3), E],
-        &[B, t(7), s(0), f(0), s(1), f(1), s(2), f(2), s(3), f(3), E],
-        &[B, s(0), f(0), s(1), t(2), f(1), s(2), f(2), s(3), f(3), E],
-        &[B, s(0), f(0), s(1), f(1), s(2), f(2), t(0), s(3), f(3), E],
-    ];
-    for (i, events) in legal.iter().enumerate() {
-        assert!(rt; is_legal_history(one, events), "legal {i}");
-    }
-    let illegal: [&[Event]; 19] = [
-        &[],
-        &[s(0), f(0), s(1), f(1), s(2), f(2), s(3), f(3), E],
-        &[B, s(0), f(0), s(1), f(1), s(2), f(2), s(3), f(3)],
-        &[B, s(0), f(0), s(1), f(1), s(2), f(2), s(3), f(3), E, E],
-        &[B, B, s(0), f(0), s(1), f(1), s(2), f(2), s(3), f(3), E],
-        &[B, s(0), f(0), s(1), s(2), f(1), f(2), s(3), f(3), E],
-        &[B, s(0), f(0), s(1), f(1), s(2), s(3), f(2), f(3), E],
-        &[B, s(0), s(0), f(0), s(1), f(1), s(2), f(2), s(3), f(3), E],
-        &[B, s(0), f(0), f(0), s(1), f(1), s(2), f(2), s(3), f(3), E],
-        &[B, f(0), s(0), s(1), f(1), s(2), f(2), s(3), f(3), E],
-        &[B, s(0), f(0), s(1), f(1), s(3), f(3), E],
-        &[
-            B,
-            s(0),
-            f(0),
-            s(1),
-            f(1),
-            s(2),
-            f(2),
-            s(5),
-            f(5),
-            s(3),
-            f(3),
-            E,
-        ],
-        &[B, s(0), f(0), s(1), f(1), s(2), f(2), s(3), t(0), f(3), E],
-        &[
-            B,
-            t(0),
-            t(0),
-            s(0),
-            f(0),
-            s(1),
-            f(1),
-            s(2),
-            f(2),
-            s(3),
-            f(3),
-            E,
-        ],
-        &[B, s(0), f(0), t(1), s(1), f(1), s(2), f(2), s(3), f(3), E],
-        &[B, t(8), s(0), f(0), s(1), f(1), s(2), f(2), s(3), f(3), E],
-        &[B, t(16), s(0), f(0), s(1), f(1), s(2), f(2), s(3), f(3), E],
-        &[
-            B,
-            s(0),
-            f(0),
-            s(1),
-            f(1),
-            s(2),
-            f(2),
-            s(3),
-            f(3),
-            Event::End { cycle: 1 },
-        ],
-        &[
-            B,
-            Event::Start { cycle: 1, node: 0 },
-            f(0),
-            s(1),
-            f(1),
-            s(2),
-            f(2),
-            s(3),
-            f(3),
-            E,
-        ],
-    ];
-    for (i, events) in illegal.iter().enumerate() {
-        assert!(rt; !is_legal_history(one, events), "illegal {i}");
+    let table =
+        b"+[AaBbCcDd] +[AaBb2CcDd] +[1AaBbCcDd] +[AaB1bCcDd] +[AaBbCc-Dd] - -AaBbCcDd] -[AaBbCcDd -[AaBbCcDd]] \
+        -[[AaBbCcDd] -[AaBCbcDd] -[AaBbCDcd] -[AAaBbCcDd] -[AaaBbCcDd] -[aABbCcDd] -[AaBbDd] -[AaBbCcFfDd] \
+        -[AaBbCcD-d] -[--AaBbCcDd] -[Aa0BbCcDd] -[3AaBbCcDd] -[4AaBbCcDd] -[AaBbCcDd!";
+    for row in table.as_slice().split(|letter| *letter == b' ') {
+        if let Some((sign, letters)) = row.split_first() {
+            let events = events_named(alloc, letters)?;
+            assert!(rt;
+                is_legal_history(epochs.as_slice(), events.as_slice()) == (*sign == b'+'),
+                "{letters:?}"
+            );
+        }
     }
     Ok(())
 }
