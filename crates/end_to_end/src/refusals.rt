@@ -48,9 +48,9 @@ fn scripts_and_files_are_refused_by_cause(rt: HostRuntime) -> Result<(), Fail> {
     expect_of(&rt, "# a script\nplay\n", line, "script 2 2\n")?;
     let wav = Status::Wav {
         place: 1,
-        why: WavFault::BadFmt,
+        why: WavFault::NotRiff,
     };
-    expect_of(&rt, "source s s.graph\n", wav, "wav 1 3\n")?;
+    expect_of(&rt, "source s s.graph\n", wav, "wav 1 1\n")?;
     let limit = Status::Limit {
         place: 5,
         which: Which::SinkSamples,

@@ -1,1 +1,2 @@
+pub mod ChunksLemmas
 pub mod WavReadingLemmas

@@ -1,22 +1,20 @@
--- What writing and reading a plain file have to do with each other.
-use Rattle.std.proofs.Common.{◌≡◌, ℕ, suc, ◌+◌, ◌-◌, ◌*◌, ◌/◌, ◌%◌, ◌<◌, ◌≤◌, ◌&&◌, Bool, true, false, List, [], ◌∷◌, ◌++◌, length, take, drop, get_or, slice_index, refl, sym, ap, ap₂, ◌∙◌, arith, ℤ, pos, length-append, length-drop, take-append-drop, get_or-drop, length-take-le, take_at, append_assoc, append-nil, FitsSigned, Ok, Err, to_z-of_z, if◌then◌else◌}
+-- What writing and reading have to do with each other, and one step of reading along a list of chunks.
+use Rattle.std.proofs.Common.{◌≡◌, ℕ, suc, ◌+◌, ◌*◌, ◌/◌, ◌%◌, ◌<◌, ◌≤◌, ◌&&◌, ◌==◌, not, nat_lt, nat_le, bytes_eq, codes, Option, Some, None, Bool, true, false, List, [], ◌∷◌, ◌++◌, length, take, drop, get_or, refl, sym, ap, ap₂, ◌∙◌, arith, ℤ, pos, length-append, length-drop, length-take-le, take_at, take_all, append_assoc, lit<, append-nil, FitsSigned, Ok, Err, to_z-of_z}
 use mir.Facts.{Fits-of_z}
 use Rattle.std.proofs.lemmas.List.{take_more}
 use Rattle.std.proofs.lemmas.Grind.{flat_map-append}
 use Rattle.std.proofs.lemmas.Bool.Decides.{nat_tests}
 use Rattle.std.specs.Int.{w16, cast_signed, cast_unsigned}
-use Rattle.std.proofs.lemmas.Int.{of_z-to_z}
-use Rattle.std.proofs.lemmas.Slice.Eq.{bytes_eq-Decides}
+use Rattle.std.proofs.Math.Arith.{mod-mul}
 use Rattle.byteorder.specs.Endian.{little_number, little_bytes, IsReadBy}
 use Rattle.byteorder.specs.Numbers.{little_number-reads_back}
 use Rattle.wav_files.specs.declared.wav.Wav.{Wav}
-use Rattle.wav_files.specs.declared.fault.WavFault.TheVariants as F
-use Rattle.wav_files.specs.WavWriting.{is_wave_form, sample_bytes, wav_header, wav_bytes, IsWave, is_wave}
-use Rattle.wav_files.specs.WavReading.{samples_in, named_wave, wav_of, IsPlain}
-
--- every one of the bytes is below 256
-abbrev pub AreBytes : List ℕ → Type 0
-AreBytes bytes = (k : ℕ) → slice_index bytes k < 256
+use Rattle.wav_files.specs.declared.form.Form.{Form}
+use Rattle.wav_files.specs.Chunks.{Chunk, chunk_at, is_whole, is_riff, is_data, after, chunks_of}
+use Rattle.wav_files.specs.FormatChunk.{tag, bits, block_align, is_extensible, is_pcm16, is_form, named_form, form_of}
+use Rattle.wav_files.specs.WavWriting.{sample_bytes, wav_header, wav_bytes, IsWave}
+use Rattle.wav_files.specs.WavReading.{samples_in, data_of, form_after, known_form, missing, go_on, parts_from, parts_of, wave_of, wav_of}
+use Rattle.wav_files.proofs.ChunksLemmas.{if-true, if-false, chunks_of-head, chunks_of-end}
 
 -- there is a sample for each two bytes
 pub length-samples_in : (xs : List ℕ) → length xs ≡ 2 * length (samples_in xs) + length xs % 2
@@ -28,26 +26,6 @@ length-samples_in (low ∷ high ∷ rest) = let e = length-samples_in rest in om
 pub length-sample_bytes : (zs : List ℤ) → length (sample_bytes zs) ≡ 2 * length zs
 length-sample_bytes [] = refl
 length-sample_bytes (z ∷ zs) = let e = length-sample_bytes zs in omega (arith, e)
-
--- two bytes are the bytes of their number
-pair_bytes : (low high : ℕ) → low < 256 → high < 256 → little_bytes 2 (little_number 2 (low ∷ high ∷ [])) ≡ low ∷ high ∷ []
-pair_bytes low high a b =
-    let first : (low + 256 * (high + 256 * 0)) % 256 ≡ low = omega arith in
-    let second : (low + 256 * (high + 256 * 0)) / 256 % 256 ≡ high = omega arith in
-    ap₂ (λ (x y : ℕ). x ∷ y ∷ []) first second
-
--- the samples of bytes have these bytes
-pub sample_bytes-samples_in : (xs : List ℕ) → AreBytes xs → length xs % 2 ≡ 0 → sample_bytes (samples_in xs) ≡ xs
-sample_bytes-samples_in [] bytes even = refl
-sample_bytes-samples_in (low ∷ []) bytes even = absurd (omega arith)
-sample_bytes-samples_in (low ∷ high ∷ rest) bytes even =
-    let a : low < 256 = bytes 0 in
-    let b : high < 256 = bytes 1 in
-    let back : cast_unsigned w16 (cast_signed w16 (little_number 2 (low ∷ high ∷ []))) ≡ little_number 2 (low ∷ high ∷ []) = of_z-to_z w16 _ (omega arith) in
-    let others : sample_bytes (samples_in rest) ≡ rest = sample_bytes-samples_in rest (λ k. bytes (suc (suc k))) (omega arith) in
-    ap (λ (n : ℕ). little_bytes 2 n ++ sample_bytes (samples_in rest)) back
-    ∙ ap (λ (pair : List ℕ). pair ++ sample_bytes (samples_in rest)) (pair_bytes low high a b)
-    ∙ ap (λ (more : List ℕ). low ∷ high ∷ more) others
 
 -- the bytes of samples are these samples
 pub samples_in-sample_bytes : (zs : List ℤ) → ((k : ℕ) → k < length zs → FitsSigned w16 (get_or zs k (pos 0))) → samples_in (sample_bytes zs) ≡ zs
@@ -79,97 +57,131 @@ same_waves a b rate channels samples =
     ∙ ap (λ (c : ℕ). let w : Wav = record { rate = b.rate; channels = c; samples = a.samples } in w) channels
     ∙ ap (λ (s : List ℤ). let w : Wav = record { rate = b.rate; channels = b.channels; samples = s } in w) samples
 
--- the test of `IsWave`
-pub is_wave-IsWave : (wav : Wav) → is_wave wav ≡ true → IsWave wav
-is_wave-IsWave wav h = record {
-  rate = grind (arith, nat_tests);
-  channels = grind (arith, nat_tests);
-  whole = grind (arith, nat_tests);
-  small = grind (arith, nat_tests);
-}
-
-pub IsWave-is_wave : (wav : Wav) → IsWave wav → is_wave wav ≡ true
-IsWave-is_wave wav h = grind (arith, nat_tests)
-
--- a choice between two tests that both hold, and where not both hold
-both_hold : {X : Type 0} (a b : Bool) (x y : X) → a ≡ true → b ≡ true → (if a && b then x else y) ≡ x
-both_hold true true x y p q = refl
-both_hold true false x y p q = absurd (cc)
-both_hold false b x y p q = absurd (cc)
-
-not_both : {X : Type 0} (a b : Bool) (x y : X) → (a ≡ true → b ≡ true → ⊥) → (if a && b then x else y) ≡ y
-not_both true true x y h = absurd (h refl refl)
-not_both true false x y h = refl
-not_both false b x y h = refl
-
--- the wave of a plain file
-pub wav_of-plain : (bytes : List ℕ) → IsPlain bytes → wav_of bytes ≡ Ok (named_wave bytes)
-unfolding wav_of
-wav_of-plain bytes plain =
-    both_hold _ _ _ _ (IsWave-is_wave (named_wave bytes) plain.wave) ((bytes_eq-Decides (wav_bytes (named_wave bytes)) bytes).1 plain.written)
-
--- any other bytes
-pub wav_of-not-plain : (bytes : List ℕ) → (IsPlain bytes → ⊥) → wav_of bytes ≡ Err F.BadFmt
-unfolding wav_of
-wav_of-not-plain bytes h =
-    not_both _ _ _ _ (λ w b. h (record { wave = is_wave-IsWave (named_wave bytes) w; written = (bytes_eq-Decides (wav_bytes (named_wave bytes)) bytes).0 b }))
-
 -- the length of a written wave
 pub length-wav_bytes : (wav : Wav) → length (wav_bytes wav) ≡ 44 + 2 * length wav.samples
 length-wav_bytes wav =
     length-append (wav_header wav.rate wav.channels (2 * length wav.samples)) (sample_bytes wav.samples)
     ∙ ap (λ (n : ℕ). 44 + n) (length-sample_bytes wav.samples)
 
--- the length of a plain file
-pub plain-length : (bytes : List ℕ) → IsPlain bytes → length bytes ≡ 44 + 2 * length (named_wave bytes).samples
-plain-length bytes plain = sym (ap length plain.written) ∙ length-wav_bytes (named_wave bytes)
+-- one step along a list of chunks
+pub parts_from-end : (known : Option Form) (bytes : List ℕ) → length bytes < 8 → parts_from known (chunks_of bytes) ≡ Err (missing known)
+unfolding parts_from
+parts_from-end known bytes short = ap (parts_from known) (chunks_of-end bytes short)
 
--- the header of a plain file
-pub plain-header : (bytes : List ℕ) (rate channels : ℕ) → rate ≡ (named_wave bytes).rate → channels ≡ (named_wave bytes).channels → IsPlain bytes → take 44 bytes ≡ wav_header rate channels (length bytes - 44)
-plain-header bytes rate channels r c plain =
-    let size : 2 * length (named_wave bytes).samples ≡ length bytes - 44 = omega (arith, plain-length bytes plain) in
-    let front : take 44 bytes ≡ wav_header (named_wave bytes).rate (named_wave bytes).channels (2 * length (named_wave bytes).samples) = ap (take 44) (sym plain.written) in
-    front ∙ ap (wav_header (named_wave bytes).rate (named_wave bytes).channels) size
-    ∙ ap₂ (λ (x y : ℕ). wav_header x y (length bytes - 44)) (sym r) (sym c)
+pub parts_from-data : (known : Option Form) (bytes : List ℕ) → 8 ≤ length bytes → is_data (chunk_at bytes) ≡ true → parts_from known (chunks_of bytes) ≡ data_of known (chunk_at bytes)
+unfolding parts_from
+parts_from-data known bytes long samples = ap (parts_from known) (chunks_of-head bytes long) ∙ if-true (is_data (chunk_at bytes)) _ _ samples
 
--- how many samples stand in bytes of such a length
-samples_count : (bytes : List ℕ) → length bytes % 2 ≡ 0 → 44 ≤ length bytes → length (samples_in (drop 44 bytes)) ≡ (length bytes - 44) / 2
-samples_count bytes even long = omega (arith, length-samples_in (drop 44 bytes), length-drop 44 bytes)
+pub parts_from-other : (known : Option Form) (bytes : List ℕ) → 8 ≤ length bytes → is_data (chunk_at bytes) ≡ false
+    → parts_from known (chunks_of bytes) ≡ go_on (form_after known (chunk_at bytes)) (λ next. parts_from next (chunks_of (after (chunk_at bytes))))
+unfolding parts_from
+parts_from-other known bytes long other =
+    ap (parts_from known) (chunks_of-head bytes long)
+    ∙ if-false (is_data (chunk_at bytes)) _ _ other
+    ∙ ap (λ chunks. go_on (form_after known (chunk_at bytes)) (λ next. parts_from next chunks)) (if-false (is_data (chunk_at bytes)) [] (chunks_of (after (chunk_at bytes))) other)
 
--- a plain file passes the test of its numbers
-pub plain-form : (bytes : List ℕ) (rate channels : ℕ) → rate ≡ (named_wave bytes).rate → channels ≡ (named_wave bytes).channels → IsPlain bytes → is_wave_form rate channels ((length bytes - 44) / 2) ≡ true
-plain-form bytes rate channels r c plain =
-    let size : (length bytes - 44) / 2 ≡ length (named_wave bytes).samples = omega (arith, plain-length bytes plain) in
-    ap (is_wave_form rate channels) size
-    ∙ ap₂ (λ (x y : ℕ). is_wave_form x y (length (named_wave bytes).samples)) r c
-    ∙ IsWave-is_wave (named_wave bytes) plain.wave
+-- twice a number, over twice a count of channels
+double-mod : (n channels : ℕ) → 1 ≤ channels → (2 * n) % (2 * channels) ≡ 2 * (n % channels)
+double-mod n channels low =
+    let halves : (2 * n) % (channels * 2) ≡ ((2 * n) / 2 % channels) * 2 + (2 * n) % 2 = mod-mul (2 * n) {m = channels} {c = 2} low (lit< tt) in
+    let half : (2 * n) / 2 ≡ n = omega arith in
+    let even : (2 * n) % 2 ≡ 0 = omega arith in
+    let turned : 2 * channels ≡ channels * 2 = omega arith in
+    ap (λ (d : ℕ). (2 * n) % d) turned ∙ halves ∙ ap₂ (λ (x y : ℕ). (x % channels) * 2 + y) half even ∙ (omega arith)
 
--- bytes with a right header and right numbers are a plain file
-pub plain_from : (bytes : List ℕ) (rate channels : ℕ) → rate ≡ (named_wave bytes).rate → channels ≡ (named_wave bytes).channels → AreBytes bytes → 44 ≤ length bytes → length bytes % 2 ≡ 0 → is_wave_form rate channels ((length bytes - 44) / 2) ≡ true → take 44 bytes ≡ wav_header rate channels (length bytes - 44) → IsPlain bytes
-plain_from bytes rate channels r c all long even form header =
-    let count : length (named_wave bytes).samples ≡ (length bytes - 44) / 2 = samples_count bytes even long in
-    let size : 2 * length (named_wave bytes).samples ≡ length bytes - 44 = omega (arith, count) in
-    let tests : is_wave (named_wave bytes) ≡ true =
-    ap (is_wave_form (named_wave bytes).rate (named_wave bytes).channels) count
-    ∙ ap₂ (λ (x y : ℕ). is_wave_form x y ((length bytes - 44) / 2)) (sym r) (sym c) ∙ form in
-    let front : wav_header (named_wave bytes).rate (named_wave bytes).channels (2 * length (named_wave bytes).samples) ≡ take 44 bytes =
-    ap (wav_header (named_wave bytes).rate (named_wave bytes).channels) size
-    ∙ ap₂ (λ (x y : ℕ). wav_header x y (length bytes - 44)) (sym r) (sym c) ∙ sym header in
-    let rest : sample_bytes (samples_in (drop 44 bytes)) ≡ drop 44 bytes =
-    sample_bytes-samples_in (drop 44 bytes) (λ k. rw (get_or-drop 44 bytes k 0) (all (44 + k))) (omega (arith, length-drop 44 bytes)) in
-    record {
-      wave = is_wave-IsWave (named_wave bytes) tests;
-      written = ap₂ (λ (x y : List ℕ). x ++ y) front rest ∙ take-append-drop 44 bytes;
-    }
+-- bytes of whole frames are samples of whole frames
+pub whole_samples : (bytes : List ℕ) (channels : ℕ) → 1 ≤ channels → length bytes % (2 * channels) ≡ 0 → length bytes % 2 ≡ 0 → length (samples_in bytes) % channels ≡ 0
+whole_samples bytes channels low whole even =
+    let count : length bytes ≡ 2 * length (samples_in bytes) = omega (arith, length-samples_in bytes) in
+    let doubled : (2 * length (samples_in bytes)) % (2 * channels) ≡ 0 = ap (λ (n : ℕ). n % (2 * channels)) (sym count) ∙ whole in
+    let half = double-mod (length (samples_in bytes)) channels low in
+    let twice : 2 * (length (samples_in bytes) % channels) ≡ 0 = sym half ∙ doubled in
+    omega arith
+
+-- whole frames of two bytes a channel are an even number of bytes
+pub whole-even : (n channels : ℕ) → 1 ≤ channels → n % (2 * channels) ≡ 0 → n % 2 ≡ 0
+whole-even n channels low whole =
+    let halves : n % (channels * 2) ≡ (n / 2 % channels) * 2 + n % 2 = mod-mul n {m = channels} {c = 2} low (lit< tt) in
+    let turned : channels * 2 ≡ 2 * channels = omega arith in
+    let none : n % (channels * 2) ≡ 0 = ap (λ (d : ℕ). n % d) turned ∙ whole in
+    omega arith
+
+-- a format chunk as it is written
+form_of-plain : (chunk : Chunk) (form : Form) → chunk.size ≡ 16 → 16 ≤ length chunk.body → tag chunk ≡ 1 → bits chunk ≡ 16 → block_align chunk ≡ 2 * form.channels
+    → named_form chunk ≡ form → is_form form ≡ true → form_of chunk ≡ Ok form
+unfolding form_of
+form_of-plain chunk form size room plain sixteen frame named ranges =
+    let t1 : nat_lt chunk.size 16 ≡ false = grind (arith, nat_tests) in
+    let t2 : not (is_whole chunk) ≡ false = grind (arith, nat_tests) in
+    let t3 : (is_extensible chunk && nat_lt chunk.size 40) ≡ false = grind (arith, nat_tests) in
+    let t4 : not (is_pcm16 chunk) ≡ false = grind (arith, nat_tests) in
+    let t5 : not (is_form (named_form chunk)) ≡ false = ap (λ f. not (is_form f)) named ∙ ap not ranges in
+    let channels : (named_form chunk).channels ≡ form.channels = ap (λ (f : Form). f.channels) named in
+    let t6 : not (block_align chunk == 2 * (named_form chunk).channels) ≡ false = grind (arith, nat_tests) in
+    if-false (nat_lt chunk.size 16) _ _ t1 ∙ if-false (not (is_whole chunk)) _ _ t2 ∙ if-false (is_extensible chunk && nat_lt chunk.size 40) _ _ t3
+    ∙ if-false (not (is_pcm16 chunk)) _ _ t4 ∙ if-false (not (is_form (named_form chunk))) _ _ t5
+    ∙ if-false (not (block_align chunk == 2 * (named_form chunk).channels)) _ _ t6 ∙ ap Ok named
+
+-- a chunk of samples as it is written
+data_of-plain : (form : Form) (chunk : Chunk) → chunk.size ≡ length chunk.body → chunk.size < 4294967295 → chunk.size % (2 * form.channels) ≡ 0 → data_of (Some form) chunk ≡ Ok (form, chunk.body)
+unfolding data_of
+data_of-plain form chunk size small whole =
+    let t1 : (chunk.size == 4294967295) ≡ false = grind (arith, nat_tests) in
+    let t2 : not (is_whole chunk) ≡ false = grind (arith, nat_tests) in
+    let t3 : not (chunk.size % (2 * form.channels) == 0) ≡ false = grind (arith, nat_tests) in
+    if-false (chunk.size == 4294967295) _ _ t1 ∙ if-false (not (is_whole chunk)) _ _ t2
+    ∙ if-false (not (chunk.size % (2 * form.channels) == 0)) _ _ t3
+    ∙ ap (λ (d : List ℕ). Ok (form, d)) (take_all chunk.size chunk.body (omega arith))
+
+-- three tests
+all_three : (a b c : Bool) → a ≡ true → b ≡ true → c ≡ true → (a && b && c) ≡ true
+all_three a b c p q r = rw (p, q, r) refl
+
+-- the test of a file's front
+riff_from : (bytes : List ℕ) → 12 ≤ length bytes → bytes_eq (take 4 bytes) (codes "RIFF") ≡ true → bytes_eq (take 4 (drop 8 bytes)) (codes "WAVE") ≡ true → is_riff bytes ≡ true
+riff_from bytes long riff wave = let front : nat_le 12 (length bytes) ≡ true = grind (arith, nat_tests) in all_three _ _ _ front riff wave
+
+-- a wave is of a form
+is_form-wave : (wav : Wav) → IsWave wav → is_form (record { rate = wav.rate; channels = wav.channels }) ≡ true
+is_form-wave wav is = grind (arith, nat_tests)
+
+-- the chunks of a written wave, from the format chunk on
+parts_from-written : (wav : Wav) → IsWave wav → (form : Form) → form ≡ record { rate = wav.rate; channels = wav.channels }
+    → parts_from None (chunks_of (drop 12 (wav_bytes wav))) ≡ Ok (form, sample_bytes wav.samples)
+unfolding form_after
+parts_from-written wav is form same =
+    let size = length-wav_bytes wav in
+    let first : List ℕ = drop 12 (wav_bytes wav) in
+    let second : List ℕ = drop 36 (wav_bytes wav) in
+    let long1 : 8 ≤ length first = omega (arith, length-drop 12 (wav_bytes wav), size) in
+    let long2 : 8 ≤ length second = omega (arith, length-drop 36 (wav_bytes wav), size) in
+    let room : 16 ≤ length (chunk_at first).body = omega (arith, length-drop 20 (wav_bytes wav), size) in
+    let rate : little_number 4 (drop 24 (wav_bytes wav)) ≡ wav.rate = little_number-reads_back 4 wav.rate (drop 28 (wav_bytes wav)) (omega (arith, is.rate.1)) in
+    let channels : little_number 2 (drop 22 (wav_bytes wav)) ≡ wav.channels = little_number-reads_back 2 wav.channels (drop 24 (wav_bytes wav)) (omega (arith, is.channels.1)) in
+    let align : little_number 2 (drop 32 (wav_bytes wav)) ≡ 2 * wav.channels = little_number-reads_back 2 (2 * wav.channels) (drop 34 (wav_bytes wav)) (omega (arith, is.channels.1)) in
+    let named : named_form (chunk_at first) ≡ form = ap₂ (λ (r c : ℕ). let f : Form = record { rate = r; channels = c } in f) rate channels ∙ sym same in
+    let frame : block_align (chunk_at first) ≡ 2 * form.channels = align ∙ ap (λ (f : Form). 2 * f.channels) (sym same) in
+    let ranges : is_form form ≡ true = ap is_form same ∙ is_form-wave wav is in
+    let read : form_of (chunk_at first) ≡ Ok form = form_of-plain (chunk_at first) form refl room refl refl frame named ranges in
+    let known : form_after None (chunk_at first) ≡ Ok (Some form) = ap known_form read in
+    let bytes : (chunk_at second).size ≡ 2 * length wav.samples = little_number-reads_back 4 (2 * length wav.samples) (sample_bytes wav.samples) (omega (arith, is.small)) in
+    let filled : (chunk_at second).size ≡ length (chunk_at second).body = bytes ∙ sym (length-sample_bytes wav.samples) in
+    let whole : (chunk_at second).size % (2 * form.channels) ≡ 0 =
+    ap₂ (λ (n : ℕ) (f : Form). n % (2 * f.channels)) bytes same ∙ double-mod (length wav.samples) wav.channels is.channels.0 ∙ ap (λ (n : ℕ). 2 * n) is.whole in
+    parts_from-other None first long1 refl
+    ∙ ap (λ r. go_on r (λ next. parts_from next (chunks_of second))) known
+    ∙ parts_from-data (Some form) second long2 refl
+    ∙ data_of-plain form (chunk_at second) filled (omega (arith, bytes, is.small)) whole
 
 -- reading a written wave gives it back
 pub wav_of-wav_bytes : (wav : Wav) → IsWave wav → samples_in (sample_bytes wav.samples) ≡ wav.samples → wav_of (wav_bytes wav) ≡ Ok wav
+unfolding wav_of parts_of
 wav_of-wav_bytes wav is samples =
-    let rate : little_number 4 (drop 24 (wav_bytes wav)) ≡ wav.rate = little_number-reads_back 4 wav.rate (drop 28 (wav_bytes wav)) (omega (arith, is.rate.1)) in
-    let channels : little_number 2 (drop 22 (wav_bytes wav)) ≡ wav.channels = little_number-reads_back 2 wav.channels (drop 24 (wav_bytes wav)) (omega (arith, is.channels.1)) in
-    let same : named_wave (wav_bytes wav) ≡ wav = same_waves (named_wave (wav_bytes wav)) wav rate channels samples in
-    let plain : IsPlain (wav_bytes wav) = record { wave = rw same is; written = ap wav_bytes same } in
-    wav_of-plain (wav_bytes wav) plain ∙ ap (λ (w : Wav). Ok w) same
+    let size = length-wav_bytes wav in
+    let form : Form = record { rate = wav.rate; channels = wav.channels } in
+    let riff : is_riff (wav_bytes wav) ≡ true = riff_from (wav_bytes wav) (omega (arith, size)) refl refl in
+    ap wave_of (if-true (is_riff (wav_bytes wav)) _ _ riff ∙ parts_from-written wav is form refl)
+    ∙ ap (λ (s : List ℤ). let w : Wav = record { rate = wav.rate; channels = wav.channels; samples = s } in Ok w) samples
 
 -- one sample more is written
 pub sample_written : (zs : List ℤ) (to rest post : List ℕ) (i : ℕ) → 2 * i ≤ length to → i < length zs → take (2 * i) to ≡ sample_bytes (take i zs)

@@ -1,3 +1,5 @@
+pub mod Chunks
+pub mod FormatChunk
 pub mod WavFaults
 pub mod WavReading
 pub mod WavWriting

@@ -1,5 +1,5 @@
 -- WAV writing: the bytes of a wave. RIFF WAVE, PCM of 16 bits; numbers little-endian.
-use Rattle.std.specs.Prelude.{◌≡◌, ℕ, ◌+◌, ◌*◌, ◌%◌, ◌≤◌, ◌==◌, ◌&&◌, Bool, nat_le, List, ◌++◌, length, codes, flat_map, ℤ}
+use Rattle.std.specs.Prelude.{◌≡◌, ℕ, ◌+◌, ◌*◌, ◌%◌, ◌≤◌, List, ◌++◌, length, codes, flat_map, ℤ}
 use Rattle.std.specs.Int.{w16, cast_unsigned}
 use Rattle.byteorder.specs.Endian.{little_bytes}
 use Rattle.wav_files.specs.declared.wav.Wav.{Wav}
@@ -37,13 +37,3 @@ pub record IsWave (wav : Wav) : Type 0 where
   pub channels : (1 ≤ wav.channels) × (wav.channels ≤ 8)
   pub whole : length wav.samples % wav.channels ≡ 0
   pub small : length wav.samples ≤ 134217728
-
--- the same as a test of its rate, its channels and the count of its samples
-abbrev pub is_wave_form : ℕ → ℕ → ℕ → Bool
-is_wave_form rate channels count =
-    nat_le 1 rate && nat_le rate 384000 && nat_le 1 channels && nat_le channels 8
-    && (count % channels == 0) && nat_le count 134217728
-
--- that test of a wave
-abbrev pub is_wave : Wav → Bool
-is_wave wav = is_wave_form wav.rate wav.channels (length wav.samples)

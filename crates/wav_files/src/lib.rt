@@ -1,7 +1,10 @@
 //! WAV files of 16-bit PCM, as waves of samples, and what a run answers.
 #![tactic(auto)]
 
+mod chunks;
 mod fault;
+mod form;
+mod format_chunk;
 mod header;
 mod outcome;
 mod reading;

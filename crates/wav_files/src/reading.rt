@@ -1,53 +1,122 @@
 //! The wave of a file. RIFF WAVE, PCM of 16 bits.
-ghost use Rattle.std.specs.Prelude.{◌≡◌, ◌%◌, ◌≤◌, ◌↔◌, length, IsTrue, IfOk};
-ghost use Rattle.wav_files.specs.WavReading.{IsReading, IsPlain, named_wave, samples_in, wav_of};
-ghost use Rattle.wav_files.specs.WavWriting.{IsWave, is_wave_form};
+ghost use Rattle.std.specs.Prelude.{◌≡◌, ◌+◌, ◌*◌, ◌%◌, ◌≤◌, length, IfOk, IfSome, MatchResult};
+ghost use Rattle.wav_files.specs.Chunks.{chunk_at, chunks_of};
+ghost use Rattle.wav_files.specs.FormatChunk.{IsForm};
+ghost use Rattle.wav_files.specs.WavReading.{IsReading, data_of, form_after, parts_from, parts_of, passed, samples_in, wav_of};
+ghost use Rattle.wav_files.specs.WavWriting.{IsWave};
 
+use crate::chunks::{FRONT, HEAD, after, body_of, is_data, is_format, is_riff, is_whole, size_of};
 use crate::fault::WavFault;
-use crate::header::{HEADER, header_of};
+use crate::form::Form;
+use crate::format_chunk::form_of;
 use crate::wav::Wav;
 use byteorder::{ByteOrder, LittleEndian};
 use pw_base::{Items, Memory};
 use std::alloc::Global;
 
-/// Whether there can be a wave of this rate and channels with so many samples.
-fn is_form(rate: u32, channels: u32, samples: usize) -> bool
-    ensures { result ≡ is_wave_form rate channels samples }
+/// A size that says that the samples are all that is there.
+const ENDLESS: u32 = 0xffff_ffff;
+
+/// What a chunk of samples gives.
+#[tactic(auto, unfolding(crate::specs::WavReading::data_of))]
+fn data_of(known: Option<Form>, chunk: &[u8]) -> Result<(Form, &[u8]), WavFault>
+    requires head { 8 ≤ length chunk.now }
+    requires known { IfSome known IsForm }
+    ensures parts { MatchResult result
+        (λ parts. data_of known (chunk_at chunk.now) ≡ Ok (parts.0, parts.1.now))
+        (λ fault. data_of known (chunk_at chunk.now) ≡ Err fault) }
+    ensures form { IfOk result (λ parts. IsForm parts.0) }
+    ensures whole { IfOk result (λ parts. length parts.1.now % (2 * parts.0.channels) ≡ 0) }
+    ensures small { IfOk result (λ parts. length parts.1.now + 8 ≤ length chunk.now) }
 {
-    1 <= rate
-        && rate <= 384000
-        && 1 <= channels
-        && channels <= 8
-        && samples % channels as usize == 0
-        && samples <= 134217728
+    let Some(form) = known else {
+        return Err(WavFault::NoFmt);
+    };
+    let frame = 2 * form.channels;
+    let size = size_of(chunk);
+    let body = body_of(chunk);
+    if size == ENDLESS {
+        return Ok((form, &body[..body.len() - body.len() % frame as usize]));
+    }
+    if !is_whole(chunk) {
+        return Err(WavFault::Truncated);
+    }
+    if size % frame != 0 {
+        return Err(WavFault::Uneven);
+    }
+    Ok((form, &body[..size as usize]))
 }
 
-/// The rate and the channels that stand in their places.
-fn form_of(bytes: &[u8]) -> (u32, u32)
-    requires { 44 ≤ length bytes.now }
-    ensures rate { result.0 ≡ (named_wave bytes.now).rate }
-    ensures channels { result.1 ≡ (named_wave bytes.now).channels }
+/// What is known of the form after a chunk that is passed over.
+fn passed(known: Option<Form>, chunk: &[u8]) -> Result<Option<Form>, WavFault>
+    requires { 8 ≤ length chunk.now }
+    ensures { result ≡ passed known (chunk_at chunk.now) }
 {
-    (
-        LittleEndian::read_u32(&bytes[24..]),
-        u32::from(LittleEndian::read_u16(&bytes[22..])),
-    )
+    if is_whole(chunk) {
+        Ok(known)
+    } else {
+        Err(WavFault::Truncated)
+    }
 }
 
-/// Whether the bytes are the writing of a wave.
-fn is_plain(bytes: &[u8]) -> bool
-    ensures { IsTrue result ↔ IsPlain bytes.now }
+/// What is known of the form after a chunk of no samples.
+#[tactic(auto, unfolding(crate::specs::WavReading::form_after))]
+fn form_after(known: Option<Form>, chunk: &[u8]) -> Result<Option<Form>, WavFault>
+    requires head { 8 ≤ length chunk.now }
+    requires known { IfSome known IsForm }
+    ensures next { result ≡ form_after known (chunk_at chunk.now) }
+    ensures form { IfOk result (λ next. IfSome next IsForm) }
 {
-    if bytes.len() < HEADER || bytes.len() % 2 != 0 {
-        return false;
+    match known {
+        None if is_format(chunk) => match form_of(chunk) {
+            Ok(form) => Ok(Some(form)),
+            Err(fault) => Err(fault),
+        },
+        _ => passed(known, chunk),
     }
-    let (rate, channels) = form_of(bytes);
-    let size = bytes.len() - HEADER;
-    if !is_form(rate, channels, size / 2) {
-        return false;
+}
+
+/// What a row of chunks gives, up to the first one of samples.
+fn parts_in(chunks: &[u8]) -> Result<(Form, &[u8]), WavFault>
+    ensures parts { MatchResult result
+        (λ parts. parts_from None (chunks_of chunks.now) ≡ Ok (parts.0, parts.1.now))
+        (λ fault. parts_from None (chunks_of chunks.now) ≡ Err fault) }
+    ensures form { IfOk result (λ parts. IsForm parts.0) }
+    ensures whole { IfOk result (λ parts. length parts.1.now % (2 * parts.0.channels) ≡ 0) }
+    ensures small { IfOk result (λ parts. length parts.1.now ≤ length chunks.now) }
+{
+    let mut known = None;
+    let mut left = chunks;
+    'chunks: while left.len() >= HEAD {
+        if is_data(left) {
+            return data_of(known, left);
+        }
+        match form_after(known, left) {
+            Ok(next) => known = next,
+            Err(fault) => return Err(fault),
+        }
+        left = after(left);
     }
-    let header = header_of(rate, channels, size as u32);
-    &bytes[..HEADER] == header.as_slice()
+    match known {
+        None => Err(WavFault::NoFmt),
+        Some(_form) => Err(WavFault::NoData),
+    }
+}
+
+/// What a file gives.
+#[tactic(auto, unfolding(crate::specs::WavReading::parts_of))]
+fn parts_of(bytes: &[u8]) -> Result<(Form, &[u8]), WavFault>
+    ensures parts { MatchResult result
+        (λ parts. parts_of bytes.now ≡ Ok (parts.0, parts.1.now))
+        (λ fault. parts_of bytes.now ≡ Err fault) }
+    ensures form { IfOk result (λ parts. IsForm parts.0) }
+    ensures whole { IfOk result (λ parts. length parts.1.now % (2 * parts.0.channels) ≡ 0) }
+    ensures small { IfOk result (λ parts. length parts.1.now ≤ length bytes.now) }
+{
+    if !is_riff(bytes) {
+        return Err(WavFault::NotRiff);
+    }
+    parts_in(&bytes[FRONT..])
 }
 
 /// The samples in bytes of an even number.
@@ -60,23 +129,32 @@ fn samples_of(alloc: Global, bytes: &[u8]) -> Result<Items<i16>, Memory>
     Ok(samples)
 }
 
-/// The wave of which the bytes are the writing: a header of 44 bytes, then the samples. Any other bytes are `BadFmt`.
+/// The wave of a file: the format of its first chunk "fmt ", and the samples of its first chunk "data". Other chunks are passed
+/// over, and what follows the samples is not looked at; the size of the file in its head is not compared.
 ///
-/// Takes memory for the samples alone, once they are known to be a wave's; without it the answer is `Memory`.
+/// A fault is the first from the left. `NotRiff`: the file does not begin as a RIFF WAVE file. `NoFmt`, `NoData`: it ends, or its
+/// samples begin, before a format; it ends before samples. `Truncated`: a chunk's size goes past the end. `Uneven`: the samples
+/// are not whole frames. A size of 2 ^ 32 - 1 of the samples means the whole frames of all that is there.
+///
+/// A format is checked in this order: less than 16 bytes are `BadFmt`; `Truncated`; less than 40 bytes of an extensible one are
+/// `BadFmt`; `NotPcm16`, where it is not PCM of 16 bits; `ChannelsOrRate`, where there are not 1 to 8 channels and 1 to 384000
+/// frames a second; `BadFmt`, where a frame is not of two bytes a channel.
+///
+/// Takes memory for the samples alone, once the file is known to have no fault; without it the answer is `Memory`.
+#[tactic(auto, unfolding(crate::specs::WavReading::wav_of))]
 pub fn read_wav(alloc: Global, bytes: &[u8]) -> Result<Wav, WavFault>
     ensures cases { IsReading (wav_of bytes.now) result }
-    ensures wave { IfOk result IsWave }
+    ensures wave { length bytes.now ≤ 268435456 → IfOk result IsWave }
 {
-    if !is_plain(bytes) {
-        return Err(WavFault::BadFmt);
-    }
-    let (rate, channels) = form_of(bytes);
-    match samples_of(alloc, &bytes[HEADER..]) {
-        Ok(samples) => Ok(Wav {
-            rate,
-            channels,
-            samples,
-        }),
-        Err(_none) => Err(WavFault::Memory),
+    match parts_of(bytes) {
+        Err(fault) => Err(fault),
+        Ok((form, data)) => match samples_of(alloc, data) {
+            Ok(samples) => Ok(Wav {
+                rate: form.rate,
+                channels: form.channels,
+                samples,
+            }),
+            Err(_none) => Err(WavFault::Memory),
+        },
     }
 }

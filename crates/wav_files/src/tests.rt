@@ -1,15 +1,43 @@
-use crate::{Wav, WavFault, read_wav, write_wav};
+use crate::{Wav, read_wav, write_wav};
 use pw_base::Items;
 use std::process::Abort;
 use std::test::Fail;
 
 /// The mono file of the samples 7, 8, 9 and 0, of 48000 frames a second.
-const FILE: [u8; 52] = [
+const PLAIN: [u8; 52] = [
     0x52, 0x49, 0x46, 0x46, 0x2c, 0, 0, 0, 0x57, 0x41, 0x56, 0x45, //
     0x66, 0x6d, 0x74, 0x20, 0x10, 0, 0, 0, 0x01, 0, 0x01, 0, //
     0x80, 0xbb, 0, 0, 0, 0x77, 0x01, 0, 0x02, 0, 0x10, 0, //
     0x64, 0x61, 0x74, 0x61, 0x08, 0, 0, 0, 0x07, 0, 0x08, 0, 0x09, 0, 0, 0,
 ];
+
+/// A mono file of the samples 1 and 2 as a tool writes it that does not know how long it will be: with a chunk of an odd size,
+/// greatest sizes, and a byte at the end that is no sample.
+const STREAMED: [u8; 61] = [
+    0x52, 0x49, 0x46, 0x46, 0xff, 0xff, 0xff, 0xff, 0x57, 0x41, 0x56, 0x45, //
+    0x66, 0x6d, 0x74, 0x20, 0x10, 0, 0, 0, 0x01, 0, 0x01, 0, //
+    0x80, 0xbb, 0, 0, 0, 0x77, 0x01, 0, 0x02, 0, 0x10, 0, //
+    0x4c, 0x49, 0x53, 0x54, 0x03, 0, 0, 0, 0x61, 0x62, 0x63, 0, //
+    0x64, 0x61, 0x74, 0x61, 0xff, 0xff, 0xff, 0xff, 0x01, 0, 0x02, 0, 0x03,
+];
+
+/// The same with an extensible format chunk.
+const EXTENSIBLE: [u8; 85] = [
+    0x52, 0x49, 0x46, 0x46, 0xff, 0xff, 0xff, 0xff, 0x57, 0x41, 0x56, 0x45, //
+    0x66, 0x6d, 0x74, 0x20, 0x28, 0, 0, 0, 0xfe, 0xff, 0x01, 0, //
+    0x80, 0xbb, 0, 0, 0, 0x77, 0x01, 0, 0x02, 0, 0x10, 0, 0x16, 0, 0x10, 0, 0x04, 0, 0, 0, //
+    0x01, 0, 0, 0, 0, 0, 0x10, 0, 0x80, 0, 0, 0xaa, 0, 0x38, 0x9b, 0x71, //
+    0x4c, 0x49, 0x53, 0x54, 0x03, 0, 0, 0, 0x61, 0x62, 0x63, 0, //
+    0x64, 0x61, 0x74, 0x61, 0xff, 0xff, 0xff, 0xff, 0x01, 0, 0x02, 0, 0x03,
+];
+
+/// What reading answers: 0 and the number of samples, or the number of the fault.
+fn answer(rt: HostRuntime, bytes: &[u8]) -> (u8, usize) {
+    match read_wav(rt.alloc(), bytes) {
+        Ok(wav) => (0, wav.samples.len()),
+        Err(fault) => (fault.number(), 0),
+    }
+}
 
 #[test]
 fn four_samples_make_a_file(rt: HostRuntime) -> Result<(), Fail> {
@@ -22,8 +50,8 @@ fn four_samples_make_a_file(rt: HostRuntime) -> Result<(), Fail> {
     };
     let mut bytes = Items::new(alloc);
     write_wav(alloc, &wav, &mut bytes)?;
-    assert!(rt; bytes.as_slice() == FILE.as_slice());
-    let read = read_wav(alloc, FILE.as_slice())?;
+    assert!(rt; bytes.as_slice() == PLAIN.as_slice());
+    let read = read_wav(alloc, PLAIN.as_slice())?;
     assert_eq!(rt; read.rate, 48000);
     assert_eq!(rt; read.channels, 1);
     assert!(rt; read.samples.as_slice() == [7i16, 8, 9, 0].as_slice());
@@ -31,21 +59,69 @@ fn four_samples_make_a_file(rt: HostRuntime) -> Result<(), Fail> {
 }
 
 #[test]
-fn other_files_are_bad(rt: HostRuntime) {
-    let mut eight_bits = FILE;
-    eight_bits[34] = 8;
-    let mut no_channel = FILE;
-    no_channel[22] = 0;
-    for bytes in [
-        &[],
-        &FILE[..51],
-        eight_bits.as_slice(),
-        no_channel.as_slice(),
-    ] {
-        let Err(fault) = read_wav(rt.alloc(), bytes) else {
-            panic!(rt; "a file that is not plain was read");
-        };
-        assert_eq!(rt; fault.number(), WavFault::BadFmt.number());
-        assert_eq!(rt; fault.number(), 3);
+fn files_of_other_tools_are_read(rt: HostRuntime) -> Result<(), Fail> {
+    for bytes in [STREAMED.as_slice(), EXTENSIBLE.as_slice()] {
+        let read = read_wav(rt.alloc(), bytes)?;
+        assert_eq!(rt; read.rate, 48000);
+        assert_eq!(rt; read.channels, 1);
+        assert!(rt; read.samples.as_slice() == [1i16, 2].as_slice());
     }
+    Ok(())
+}
+
+/// What reading answers to so many bytes of the front of `STREAMED`.
+fn wanted(length: usize) -> (u8, usize) {
+    match length {
+        0..=11 => (1, 0),
+        12..=19 => (2, 0),
+        20..=35 => (6, 0),
+        36..=43 => (5, 0),
+        44..=46 => (6, 0),
+        47..=55 => (5, 0),
+        56..=57 => (0, 0),
+        58..=59 => (0, 1),
+        _ => (0, 2),
+    }
+}
+
+#[test]
+fn each_front_of_a_file_has_its_answer(rt: HostRuntime) {
+    for length in 0..STREAMED.len() {
+        let (fault, samples) = wanted(length);
+        let (found, count) = answer(rt, &STREAMED[..length]);
+        assert_eq!(rt; found, fault, "of {length} bytes");
+        assert_eq!(rt; count, samples, "of {length} bytes");
+    }
+}
+
+#[test]
+fn one_byte_makes_a_fault(rt: HostRuntime) {
+    let table = [
+        (0, b'r', 1, 0), // not a RIFF file
+        (12, b'x', 2, 0), // the samples come before a format
+        (16, 15, 3, 0), // too short a format
+        (16, 33, 6, 0), // a format past the end
+        (20, 3, 4, 0), // samples of another kind
+        (34, 8, 4, 0), // 8 bits
+        (22, 0, 8, 0), // no channel
+        (22, 9, 8, 0), // nine channels
+        (22, 2, 3, 0), // two channels in a frame of one
+        (36, b'x', 5, 0), // no samples
+        (40, 12, 6, 0), // more samples than there are
+        (40, 3, 7, 0), // a sample and a half
+        (40, 4, 0, 2), // two samples, and rubbish after them
+        (4, 0, 0, 4), // the size of the file is not compared
+        (28, 1, 0, 4), // nor are the bytes a second
+    ];
+    for (place, byte, fault, samples) in table {
+        let mut bytes = PLAIN;
+        if let Some(changed) = bytes.get_mut(place) {
+            *changed = byte;
+        }
+        let (found, count) = answer(rt, bytes.as_slice());
+        assert_eq!(rt; found, fault, "at {place}");
+        assert_eq!(rt; count, samples, "at {place}");
+    }
+    let (found, _count) = answer(rt, &PLAIN[..48]);
+    assert_eq!(rt; found, 6);
 }

@@ -2,6 +2,7 @@
 #![tactic(auto, using(crate::proofs::EndingLemmas::following))]
 
 ghost use Rattle.std.specs.Prelude.{◌≡◌, ℕ, ◌≤◌, ◌∷◌, [], length, IfOk};
+ghost use Rattle.pw_base.specs.Limits.{wav_bytes_limit};
 ghost use Rattle.wav_files.specs.WavWriting.{IsWave};
 ghost use Rattle.pw_top.specs.FirstEpoch.{AreNumbered};
 ghost use Rattle.wav_files.specs.WavReading.{wav_of};
@@ -181,7 +182,8 @@ fn run_wave(alloc: Global, script: &Script, wav: Wav) -> Result<Work, Status>
 
 // What the script gives from its source's file.
 fn run_bytes(alloc: Global, script: &Script, place: u32, bytes: &Items<u8>) -> Result<Work, Status>
-    requires { AreNumbered script.now }
+    requires numbered { AreNumbered script.now }
+    requires small { length bytes.now ≤ wav_bytes_limit }
     ensures done { Ends (run_wave script.now place (wav_of bytes.now)) result }
     ensures cause { CommandCause IsDeliverable 0 0 result }
 {
