@@ -44,3 +44,13 @@ piece_over f xs ys zero j m d h k e = let same : m ≡ j = omega arith in rw sam
 piece_over f xs [] (suc n) j m d h k e = absurd (omega arith)
 piece_over f xs (y ∷ ys) (suc n) j zero d h k e = absurd (omega arith)
 piece_over f xs (y ∷ ys) (suc n) j (suc m) d h k e = ap (λ t. y ∷ t) (piece_over f xs ys n j m d h (omega arith) (omega arith))
+
+-- two places that are written one after the other
+pub pair_over : {B : Type 0} (x y : B) (ts : List B) (n m : ℕ) → n + 2 ≤ length ts → m ≡ suc n
+    → set (set ts n x) m y ≡ take n ts ++ x ∷ y ∷ [] ++ drop (suc m) ts
+pair_over x y [] n m h e = absurd (omega arith)
+pair_over x y (t ∷ ts) n zero h e = absurd (omega arith)
+pair_over x y (t ∷ []) zero (suc m) h e = absurd (omega arith)
+pair_over x y (t ∷ u ∷ ts) zero (suc zero) h e = refl
+pair_over x y (t ∷ u ∷ ts) zero (suc (suc m)) h e = absurd (omega arith)
+pair_over x y (t ∷ ts) (suc n) (suc m) h e = ap (λ r. t ∷ r) (pair_over x y ts n m (omega arith) (omega arith))

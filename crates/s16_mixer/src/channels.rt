@@ -18,6 +18,19 @@ fn pick_frame(channels: usize, list: &[u32], i: usize, s: &[i16], to: &mut [i16]
     }
 }
 
+/// Writes channels `first` and `second` of each frame of `s`.
+fn pick_pairs(channels: usize, first: u32, second: u32, s: &[i16], to: &mut [i16])
+    requires first { first < channels }
+    requires second { second < channels }
+    requires lengths { length to.old ≡ length s.now / channels * 2 }
+    ensures { to.new ≡ picked channels (first ∷ second ∷ []) s.now }
+{
+    for i in 0..s.len() / channels {
+        to[2 * i] = s[i * channels + first as usize];
+        to[2 * i + 1] = s[i * channels + second as usize];
+    }
+}
+
 /// Writes, of each whole frame of `s`, the channels that the list names, in the list's order. Frames are
 /// interleaved: `s` has `channels` samples a frame and `to` as many as the list is long. Takes no
 /// memory; one pass.
@@ -29,6 +42,9 @@ pub fn map_channels(channels: usize, list: &[u32], s: &[i16], to: &mut [i16])
 {
     if list.is_empty() {
         return;
+    }
+    if list.len() == 2 {
+        return pick_pairs(channels, list[0], list[1], s, to);
     }
     for i in 0..s.len() / channels {
         pick_frame(channels, list, i, s, to);
