@@ -1,0 +1,97 @@
+//! Runs the sample kernels again and again, and prints a checksum of what each leaves:
+//! `KERNEL SAMPLES REPEATS GAIN..`, where `all` names each kernel. It tells no time: a script does.
+#![tactic(auto)]
+
+mod factors;
+mod rounds;
+mod rows;
+
+use crate::factors::factors_of;
+use crate::rounds::{
+    clamp_rounds, gain_rounds, map_rounds, mix_rounds, pair_rounds, peak_rounds, split_rounds,
+};
+use pw_base::{Items, Memory};
+use std::alloc::Global;
+use std::env;
+use std::process::ExitCode;
+use std::rt::Env;
+
+/// The kernels' names, in the order of `all`.
+const KERNELS: [&str; 7] = [
+    "gain",
+    "mix2",
+    "mix_into",
+    "clamp_out",
+    "map_channels",
+    "split",
+    "peak",
+];
+
+/// The words of the command line, without the program's own name; no words where they are no text.
+fn words_of<R: Env + Alloc<A = Global>>(rt: &R) -> Result<Items<String>, Memory> {
+    let mut words = Items::new(rt.alloc());
+    if let Ok(all) = env::args(rt) {
+        for word in all.skip(1) {
+            words.push(word)?;
+        }
+    }
+    Ok(words)
+}
+
+/// The number that a word spells, else 0.
+fn number(word: &str) -> u32 {
+    word.parse::<u32>().unwrap_or(0)
+}
+
+/// The checksum of one kernel's rounds; 0 for an unknown name.
+fn checksum_of(
+    alloc: Global,
+    kernel: &str,
+    n: usize,
+    repeats: u32,
+    gains: &[String],
+) -> Result<u32, Memory> {
+    let factors = factors_of(alloc, gains)?;
+    match kernel {
+        "gain" => gain_rounds(alloc, n, repeats, factors.as_slice()),
+        "mix2" => pair_rounds(alloc, n, repeats, factors.as_slice()),
+        "mix_into" => mix_rounds(alloc, n, repeats),
+        "clamp_out" => clamp_rounds(alloc, n, repeats),
+        "map_channels" => map_rounds(alloc, n, repeats),
+        "split" => split_rounds(alloc, n, repeats),
+        "peak" => peak_rounds(alloc, n, repeats),
+        _ => Ok(0),
+    }
+}
+
+/// Runs the kernel that the words name, or all, and prints a line for each. Whether all went well.
+fn run<R: Print + Alloc<A = Global>>(rt: &R, words: &[String]) -> bool {
+    let [name, n, repeats, gains @ ..] = words else {
+        return false;
+    };
+    let (n, repeats) = (number(n.as_str()) as usize, number(repeats.as_str()));
+    for kernel in KERNELS {
+        if name.as_str() == "all" || name.as_str() == kernel {
+            let Ok(sum) = checksum_of(rt.alloc(), kernel, n, repeats, gains) else {
+                return false;
+            };
+            if println!(rt; "{kernel} {sum}").is_err() {
+                return false;
+            }
+        }
+    }
+    true
+}
+
+fn main(rt: HostRuntime) -> ExitCode {
+    match words_of(&rt) {
+        Ok(words) => {
+            if run(&rt, words.as_slice()) {
+                ExitCode::from(0)
+            } else {
+                ExitCode::from(1)
+            }
+        }
+        Err(_) => ExitCode::from(1),
+    }
+}

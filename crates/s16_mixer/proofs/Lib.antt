@@ -1,0 +1,3 @@
+pub mod ShiftLemmas
+pub mod RowLemmas
+pub mod FrameLemmas
