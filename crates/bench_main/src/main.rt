@@ -1,23 +1,26 @@
-//! Runs the sample kernels again and again, and prints a checksum of what each leaves:
-//! `KERNEL SAMPLES REPEATS GAIN..`, where `all` names each kernel. It tells no time: a script does.
+//! Runs a piece of work again and again, and prints a checksum of what it leaves: `WORK SAMPLES REPEATS
+//! GAIN..`, where the work is a sample kernel, a fill, or a WAV file written or read, and `all` names
+//! each. It tells no time: a script does.
 #![tactic(auto)]
 
 mod factors;
 mod rounds;
 mod rows;
+mod waves;
 
 use crate::factors::factors_of;
 use crate::rounds::{
     clamp_rounds, gain_rounds, map_rounds, mix_rounds, pair_rounds, peak_rounds, split_rounds,
 };
+use crate::waves::{fill_rounds, read_rounds, write_rounds};
 use pw_base::{Items, Memory};
 use std::alloc::Global;
 use std::env;
 use std::process::ExitCode;
 use std::rt::Env;
 
-/// The kernels' names, in the order of `all`.
-const KERNELS: [&str; 7] = [
+/// The names of the works, in the order of `all`.
+const WORKS: [&str; 10] = [
     "gain",
     "mix2",
     "mix_into",
@@ -25,6 +28,9 @@ const KERNELS: [&str; 7] = [
     "map_channels",
     "split",
     "peak",
+    "fill",
+    "write_wav",
+    "read_wav",
 ];
 
 /// The words of the command line, without the program's own name; no words where they are no text.
@@ -43,16 +49,16 @@ fn number(word: &str) -> u32 {
     word.parse::<u32>().unwrap_or(0)
 }
 
-/// The checksum of one kernel's rounds; 0 for an unknown name.
+/// The checksum of one work's rounds; 0 for an unknown name.
 fn checksum_of(
     alloc: Global,
-    kernel: &str,
+    work: &str,
     n: usize,
     repeats: u32,
     gains: &[String],
 ) -> Result<u32, Memory> {
     let factors = factors_of(alloc, gains)?;
-    match kernel {
+    match work {
         "gain" => gain_rounds(alloc, n, repeats, factors.as_slice()),
         "mix2" => pair_rounds(alloc, n, repeats, factors.as_slice()),
         "mix_into" => mix_rounds(alloc, n, repeats),
@@ -60,22 +66,25 @@ fn checksum_of(
         "map_channels" => map_rounds(alloc, n, repeats),
         "split" => split_rounds(alloc, n, repeats),
         "peak" => peak_rounds(alloc, n, repeats),
+        "fill" => fill_rounds(alloc, n, repeats),
+        "write_wav" => write_rounds(alloc, n, repeats),
+        "read_wav" => read_rounds(alloc, n, repeats),
         _ => Ok(0),
     }
 }
 
-/// Runs the kernel that the words name, or all, and prints a line for each. Whether all went well.
+/// Runs the work that the words name, or all, and prints a line for each. Whether all went well.
 fn run<R: Print + Alloc<A = Global>>(rt: &R, words: &[String]) -> bool {
     let [name, n, repeats, gains @ ..] = words else {
         return false;
     };
     let (n, repeats) = (number(n.as_str()) as usize, number(repeats.as_str()));
-    for kernel in KERNELS {
-        if name.as_str() == "all" || name.as_str() == kernel {
-            let Ok(sum) = checksum_of(rt.alloc(), kernel, n, repeats, gains) else {
+    for work in WORKS {
+        if name.as_str() == "all" || name.as_str() == work {
+            let Ok(sum) = checksum_of(rt.alloc(), work, n, repeats, gains) else {
                 return false;
             };
-            if println!(rt; "{kernel} {sum}").is_err() {
+            if println!(rt; "{work} {sum}").is_err() {
                 return false;
             }
         }
