@@ -1,1 +1,4 @@
 pub mod PodFaults
+pub mod PodType
+pub mod PodValue
+pub mod Writable

@@ -1,6 +1,9 @@
 //! Why bytes are no POD, and why a value is not written.
 ghost use Rattle.std.specs.Prelude.{◌≡◌};
 ghost use Rattle.pod_codec.specs.PodFaults.{pod_fault_number, write_fault_number};
+ghost use Rattle.pod_codec.specs.declared.fault.WriteFault.TheVariants as w;
+
+use pw_base::Memory;
 
 /// The first fault of bytes that spell no POD within the limits, or want of memory. Offsets count
 /// from the first byte handed in; they are below 2^32 since a POD has at most 1,048,584 bytes.
@@ -60,5 +63,13 @@ impl WriteFault {
             WriteFault::Unwritable => 1,
             WriteFault::Memory => 2,
         }
+    }
+}
+
+impl From<Memory> for WriteFault {
+    ghost from_gives = { λ _ fault. fault ≡ w.Memory };
+
+    fn from(_memory: Memory) -> WriteFault {
+        WriteFault::Memory
     }
 }
