@@ -2,3 +2,4 @@ pub mod PodFaults
 pub mod PodType
 pub mod PodValue
 pub mod Writable
+pub mod DumpText
