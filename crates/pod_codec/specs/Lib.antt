@@ -3,3 +3,5 @@ pub mod PodType
 pub mod PodValue
 pub mod Writable
 pub mod DumpText
+pub mod Spelling
+pub mod FirstFault

@@ -1,5 +1,5 @@
 -- Type numbers of PODs, and which types arrays and choices may hold. SPA POD, "Types"; spa/utils/type.h.
-use Rattle.std.specs.Prelude.{ℕ, ◌==◌, ◌&&◌, ◌||◌, Bool, nat_le, if◌then◌else◌}
+use Rattle.std.specs.Prelude.{◌≡◌, ◌⊎◌, ℕ, ◌==◌, ◌&&◌, ◌||◌, Bool, nat_le, if◌then◌else◌}
 use Rattle.pod_codec.specs.declared.pod.ChoiceKind.{ChoiceKind}
 use Rattle.pod_codec.specs.declared.pod.ChoiceKind.TheVariants as k
 
@@ -18,6 +18,10 @@ has_eight_bytes n = ((n == 5) || (n == 7)) || ((n == 10) || ((n == 11) || (n == 
 -- the bytes of an allowed child type; 0 of a type that no array or choice may hold
 abbrev pub child_size : ℕ → ℕ
 child_size n = if has_four_bytes n then 4 else (if has_eight_bytes n then 8 else 0)
+
+-- a known type without a size of its own
+abbrev pub IsOther : ℕ → Type 0
+IsOther n = (n ≡ 1) ⊎ ((n ≡ 8) ⊎ ((n ≡ 9) ⊎ ((n ≡ 12) ⊎ ((n ≡ 13) ⊎ ((n ≡ 14) ⊎ ((n ≡ 15) ⊎ (n ≡ 19)))))))
 
 -- the number of a choice's kind
 abbrev pub choice_number : ChoiceKind → ℕ

@@ -11,6 +11,9 @@ use crate::pod_type::size_of_child;
 use crate::scalars::{put_element, put_pair};
 use pw_base::{Items, Memory};
 
+/// How many levels of values a POD may have.
+pub const MAX_DEPTH: u32 = 16;
+
 /// The longest outermost body, in bytes.
 pub const MAX_BODY: usize = 1048576;
 

@@ -1,6 +1,7 @@
 //! Why bytes are no POD, and why a value is not written.
 ghost use Rattle.std.specs.Prelude.{◌≡◌};
 ghost use Rattle.pod_codec.specs.PodFaults.{pod_fault_number, write_fault_number};
+ghost use Rattle.pod_codec.specs.declared.fault.PodFault.TheVariants as p;
 ghost use Rattle.pod_codec.specs.declared.fault.WriteFault.TheVariants as w;
 
 use pw_base::Memory;
@@ -25,6 +26,14 @@ pub enum PodFault {
     Nul { offset: u32 },
     /// No memory was left.
     Memory,
+}
+
+impl From<Memory> for PodFault {
+    ghost from_gives = { λ _ fault. fault ≡ p.Memory };
+
+    fn from(_memory: Memory) -> PodFault {
+        PodFault::Memory
+    }
 }
 
 impl PodFault {

@@ -1,13 +1,15 @@
 //! The numbers of types, and the sizes of those that arrays and choices may hold.
-ghost use Rattle.std.specs.Prelude.{◌≡◌};
-ghost use Rattle.pod_codec.specs.PodType.{child_size, choice_number};
+ghost use Rattle.std.specs.Prelude.{◌≡◌, ◌<◌, IsTrue};
+ghost use Rattle.pod_codec.specs.PodType.{child_size, choice_number, is_known_type, IsOther};
 ghost use Rattle.pod_codec.specs.PodValue.{form_of};
 
 use crate::pod::{ChoiceKind, Pod};
 
 /// How many bytes a child of this type has; 0 where no array or choice may hold it.
 pub fn size_of_child(child: u32) -> u32
-    ensures { result ≡ child_size child }
+    ensures size { result ≡ child_size child }
+    ensures known { 0 < result → IsTrue (is_known_type child) }
+    ensures others { result ≡ 0 → IsTrue (is_known_type child) → IsOther child }
 {
     match child {
         2 | 3 | 4 | 6 => 4,

@@ -4,16 +4,13 @@ ghost use Rattle.std.specs.List.{flat_map, AllByRecursion};
 ghost use Rattle.pod_codec.specs.PodValue.{form_of, keyed_of, struct_form, object_form, choice_form, are_children, framed, keyed_bytes, canonical};
 ghost use Rattle.pod_codec.specs.Writable.{Fits, IsWritable, FitsBody, Tells};
 
-use crate::containers::{end_frame, put_children};
+use crate::containers::{MAX_DEPTH, end_frame, put_children};
 use crate::fault::WriteFault;
 use crate::pod::{Pod, Prop};
 use crate::pod_type::{number_of_kind, type_number};
 use crate::scalars::{put_pair, put_text, put_u32, put_u64};
 use pw_base::Items;
 use std::alloc::Global;
-
-/// How many levels of values a POD may have.
-const MAX_DEPTH: u32 = 16;
 
 /// Appends the canonical spelling of a value with `left` levels left.
 #[cycle(write)]
