@@ -11,6 +11,8 @@ mod pod;
 mod pod_type;
 mod reading;
 mod scalars;
+#[cfg(test)]
+mod tests;
 mod text;
 mod writing;
 
