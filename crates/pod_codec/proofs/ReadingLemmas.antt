@@ -6,9 +6,11 @@ use Rattle.pod_codec.specs.declared.pod.Pod.{Pod}
 use Rattle.pod_codec.specs.declared.pod.Pod.TheViews.{out-Pod}
 use Rattle.pod_codec.specs.declared.fault.PodFault.{PodFault}
 use Rattle.pod_codec.specs.declared.fault.PodFault.TheVariants.{Memory, Short, Large}
-use Rattle.pod_codec.specs.PodValue.{pad8}
-use Rattle.pod_codec.specs.Spelling.{u32_at, AreAfter, IsBodyAt, SpellsAt}
-use Rattle.pod_codec.specs.FirstFault.{first_failed, header_checks, IsBodyFault, FaultsAt, outer_checks, IsFirstFault}
+use Rattle.pod_codec.specs.Framing.{pad8}
+use Rattle.pod_codec.specs.Places.{u32_at, AreAfter}
+use Rattle.pod_codec.specs.Spelling.{IsBodyAt, SpellsAt}
+use Rattle.pod_codec.specs.Checks.{first_failed, header_checks, outer_checks}
+use Rattle.pod_codec.specs.FirstFault.{IsBodyFault, FaultsAt, IsFirstFault}
 
 pub after_more : {X : Type 0} (R : ℕ → X → ℕ → Type 0) (p : ℕ) (xs : List X) (m n : ℕ) (x : X) → AreAfter R p xs m → R m x n → AreAfter R p (xs ++ x ∷ []) n
 after_more R p [] m n x h r = (n, subst (λ (k : ℕ). R k x n) (sym h) r, refl)

@@ -3,7 +3,8 @@ use Rattle.std.proofs.Common.{◌≡◌, ℕ, ◌+◌, ◌-◌, ◌≤◌, Bool,
 use Rattle.std.specs.List.{flat_map, list_all, AllByRecursion}
 use Rattle.std.proofs.lemmas.List.Concat.{flat_map-cons}
 use Rattle.std.proofs.lemmas.List.{take_at, drop_at}
-use Rattle.pod_codec.specs.PodValue.{Form, Keyed, struct_form, object_form, framed, keyed_bytes, deepest, deepest_keyed, u32_bytes, pad8}
+use Rattle.pod_codec.specs.Framing.{Form, Keyed, framed, keyed_bytes, deepest, deepest_keyed, u32_bytes, pad8}
+use Rattle.pod_codec.specs.PodValue.{struct_form, object_form}
 use Rattle.pod_codec.specs.Writable.{Fits, FitsBody, Tells, IsOpen}
 use Rattle.pod_codec.specs.declared.fault.WriteFault.{WriteFault}
 use Rattle.pod_codec.specs.declared.fault.WriteFault.TheVariants.{Unwritable, Memory}

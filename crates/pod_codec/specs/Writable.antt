@@ -3,7 +3,8 @@ use Rattle.std.specs.Prelude.{◌≡◌, ℕ, suc, ◌≤◌, List, ◌++◌, le
 use Rattle.pod_codec.specs.declared.pod.Pod.{Pod}
 use Rattle.pod_codec.specs.declared.fault.WriteFault.{WriteFault}
 use Rattle.pod_codec.specs.declared.fault.WriteFault.TheVariants.{Unwritable, Memory}
-use Rattle.pod_codec.specs.PodValue.{Form, form_of, u32_bytes}
+use Rattle.pod_codec.specs.Framing.{Form, u32_bytes}
+use Rattle.pod_codec.specs.PodValue.{form_of}
 
 -- a form with so many levels left: all inside is allowed, and the body is not too long
 pub record Fits (left : ℕ) (f : Form) : Type 0 where

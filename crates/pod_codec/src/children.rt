@@ -2,8 +2,8 @@
 ghost use Rattle.std.specs.Prelude.{◌≡◌, ◌+◌, ◌-◌, ◌%◌, ◌≤◌, ◌<◌, length, IfOk};
 ghost use Rattle.pod_codec.specs.declared.pod.Pod.TheViews.{out-Pod};
 ghost use Rattle.pod_codec.specs.PodType.{child_size};
-ghost use Rattle.pod_codec.specs.Spelling.{AreAfter, IsScalarAt, IsElementAt, HasChildren};
-ghost use Rattle.pod_codec.specs.FirstFault.{children_checks, first_failed, Answers};
+ghost use Rattle.pod_codec.specs.Places.{AreAfter, IsScalarAt, IsElementAt, HasChildren};
+ghost use Rattle.pod_codec.specs.Checks.{children_checks, first_failed, Answers};
 
 use crate::cursor::{long_at, number_at};
 use crate::fault::PodFault;

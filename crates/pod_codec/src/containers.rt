@@ -2,7 +2,8 @@
 ghost use Rattle.std.specs.Prelude.{◌≡◌, ℕ, List, ◌+◌, ◌-◌, ◌≤◌, ◌<◌, ◌^◌, ◌==◌, ◌++◌, length, take, drop, replicate, map, IsTrue, OnOk};
 ghost use Rattle.std.specs.List.{flat_map, list_all};
 ghost use Rattle.pod_codec.specs.PodType.{child_size};
-ghost use Rattle.pod_codec.specs.PodValue.{Form, form_of, framed, pad8, u32_bytes, child_bytes, are_children};
+ghost use Rattle.pod_codec.specs.Framing.{Form, framed, pad8, u32_bytes, child_bytes, are_children};
+ghost use Rattle.pod_codec.specs.PodValue.{form_of};
 ghost use Rattle.pod_codec.specs.Writable.{Tells, IsOpen};
 
 use crate::fault::WriteFault;
@@ -18,7 +19,7 @@ pub const MAX_DEPTH: u32 = 16;
 pub const MAX_BODY: usize = 1048576;
 
 /// Writes a number over four bytes of a slice.
-#[tactic(auto, unfolding(crate::specs::PodValue::u32_bytes))]
+#[tactic(auto, unfolding(crate::specs::Framing::u32_bytes))]
 fn set_u32(to: &mut [u8], at: usize, n: u32)
     requires { at + 4 ≤ length to.old }
     ensures { to.new ≡ take at to.old ++ u32_bytes n ++ drop (at + 4) to.old }

@@ -1,9 +1,9 @@
 //! Numbers at places of bytes.
 ghost use Rattle.std.specs.Prelude.{◌≡◌, ◌+◌, ◌≤◌, length};
-ghost use Rattle.pod_codec.specs.Spelling.{u32_at, u64_at};
+ghost use Rattle.pod_codec.specs.Places.{u32_at, u64_at};
 
 /// The number in four bytes, the lowest first.
-#[tactic(auto, unfolding(crate::specs::Spelling::u32_at))]
+#[tactic(auto, unfolding(crate::specs::Places::u32_at))]
 pub fn number_at(bytes: &[u8], at: usize) -> u32
     requires { at + 4 ≤ length bytes.now }
     ensures { result ≡ u32_at bytes.now at }
@@ -12,7 +12,7 @@ pub fn number_at(bytes: &[u8], at: usize) -> u32
 }
 
 /// The number in eight bytes, the lowest first.
-#[tactic(auto, unfolding(crate::specs::Spelling::u64_at))]
+#[tactic(auto, unfolding(crate::specs::Places::u64_at))]
 pub fn long_at(bytes: &[u8], at: usize) -> u64
     requires { at + 8 ≤ length bytes.now }
     ensures { result ≡ u64_at bytes.now at }

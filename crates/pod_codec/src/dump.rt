@@ -1,7 +1,8 @@
 //! The text of a value.
 ghost use Rattle.std.specs.Prelude.{◌≡◌, [], ◌∷◌, ◌*◌, ◌++◌, map, replicate, length, codes, OnOk, IfOk};
 ghost use Rattle.std.specs.List.{flat_map};
-ghost use Rattle.pod_codec.specs.DumpText.{Lines, text_at, numbered, two_numbered, kind_word, lines_of, prop_lines_of, control_lines_of, dump_text_of};
+ghost use Rattle.pod_codec.specs.DumpWords.{Lines, text_at, numbered, two_numbered, kind_word};
+ghost use Rattle.pod_codec.specs.DumpText.{lines_of, prop_lines_of, control_lines_of, dump_text_of};
 
 use crate::pod::{ChoiceKind, Control, Pod, Prop};
 use crate::text::{put_hex, put_number, put_numbers, put_quoted, put_quoted_hex, put_signed};

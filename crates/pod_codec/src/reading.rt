@@ -2,9 +2,11 @@
 ghost use Rattle.std.specs.Prelude.{◌≡◌, ◌+◌, ◌-◌, ◌≤◌, ◌<◌, ◌⊎◌, [], length, slice_index, slice_range, IfOk, IfSome, IsNone};
 ghost use Rattle.pod_codec.specs.declared.pod.Pod.TheViews.{out-Pod, out-Prop};
 ghost use Rattle.pod_codec.specs.PodType.{child_size, choice_number, IsOther};
-ghost use Rattle.pod_codec.specs.PodValue.{pad8};
-ghost use Rattle.pod_codec.specs.Spelling.{u32_at, AreAfter, IsScalarAt, IsPropAt, IsBodyAt, HasChildren, SpellsAt, FrontSpells};
-ghost use Rattle.pod_codec.specs.FirstFault.{header_checks, body_checks, text_checks, array_checks, choice_checks, first_failed, Answers, IsFieldFault, IsPropFault, IsBodyFault, FaultsAt, IsFirstFault, Fails};
+ghost use Rattle.pod_codec.specs.Framing.{pad8};
+ghost use Rattle.pod_codec.specs.Places.{u32_at, AreAfter, IsScalarAt, HasChildren};
+ghost use Rattle.pod_codec.specs.Spelling.{IsPropAt, IsBodyAt, SpellsAt, FrontSpells};
+ghost use Rattle.pod_codec.specs.Checks.{header_checks, body_checks, text_checks, array_checks, choice_checks, first_failed, Answers};
+ghost use Rattle.pod_codec.specs.FirstFault.{IsFieldFault, IsPropFault, IsBodyFault, FaultsAt, IsFirstFault, Fails};
 
 use crate::children::{children_at, scalar_at};
 use crate::containers::{MAX_BODY, MAX_DEPTH};

@@ -2,7 +2,8 @@
 ghost use Rattle.std.specs.Prelude.{◌≡◌, [], ◌∷◌, ◌++◌, ◌+◌, ◌<◌, length, OnOk};
 ghost use Rattle.std.specs.Int.{w32, w64, to_le_bytes};
 ghost use Rattle.pod_codec.specs.PodType.{child_size};
-ghost use Rattle.pod_codec.specs.PodValue.{form_of, u32_bytes, u64_bytes};
+ghost use Rattle.pod_codec.specs.Framing.{u32_bytes, u64_bytes};
+ghost use Rattle.pod_codec.specs.PodValue.{form_of};
 ghost use Rattle.pod_codec.specs.Writable.{Tells};
 
 use crate::fault::WriteFault;
@@ -11,7 +12,7 @@ use crate::pod_type::type_number;
 use pw_base::{Items, Memory, Text};
 
 /// Appends four bytes, the lowest first.
-#[tactic(auto, unfolding(crate::specs::PodValue::u32_bytes))]
+#[tactic(auto, unfolding(crate::specs::Framing::u32_bytes))]
 pub fn put_u32(n: u32, to: &mut Items<u8>) -> Result<(), Memory>
     ensures ok { OnOk result (to.new ≡ to.old ++ u32_bytes n) }
     ensures length { OnOk result (length to.new ≡ length to.old + 4) }
@@ -20,7 +21,7 @@ pub fn put_u32(n: u32, to: &mut Items<u8>) -> Result<(), Memory>
 }
 
 /// Appends eight bytes, the lowest first.
-#[tactic(auto, unfolding(crate::specs::PodValue::u64_bytes))]
+#[tactic(auto, unfolding(crate::specs::Framing::u64_bytes))]
 pub fn put_u64(n: u64, to: &mut Items<u8>) -> Result<(), Memory>
     ensures { OnOk result (to.new ≡ to.old ++ u64_bytes n) }
 {

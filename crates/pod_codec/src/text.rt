@@ -2,7 +2,7 @@
 ghost use Rattle.std.specs.Prelude.{◌≡◌, ◌≤◌, ◌++◌, codes, decimal, drop, length, OnOk};
 ghost use Rattle.std.specs.List.{flat_map};
 ghost use Rattle.std.specs.Fmt.{signed_decimal};
-ghost use Rattle.pod_codec.specs.DumpText.{hex_digits, hex, escaped, numbered, two_numbered, quoted};
+ghost use Rattle.pod_codec.specs.DumpWords.{hex_digits, hex, escaped, numbered, two_numbered, quoted};
 
 use pw_base::{Memory, Text};
 
@@ -40,7 +40,7 @@ pub fn put_number(word: &[u8], n: u64, text: &mut Text) -> Result<(), Memory>
 }
 
 /// Appends a word, a number, a mark and another number.
-#[tactic(auto, unfolding(crate::specs::DumpText::two_numbered))]
+#[tactic(auto, unfolding(crate::specs::DumpWords::two_numbered))]
 pub fn put_numbers(word: &[u8], n: u64, mark: &[u8], m: u64, text: &mut Text) -> Result<(), Memory>
     ensures { OnOk result (text.new ≡ text.old ++ two_numbered word.now n mark.now m) }
 {
@@ -68,7 +68,7 @@ pub fn put_signed(word: &[u8], n: i64, text: &mut Text) -> Result<(), Memory>
 }
 
 /// Two lower-case digits.
-#[tactic(auto, unfolding(crate::specs::DumpText::hex_digits))]
+#[tactic(auto, unfolding(crate::specs::DumpWords::hex_digits))]
 fn digits_of(byte: u8) -> [u8; 2]
     ensures { result ≡ hex_digits byte }
 {
@@ -102,7 +102,7 @@ pub fn put_quoted_hex(word: &[u8], bytes: &[u8], text: &mut Text) -> Result<(), 
 }
 
 /// Appends a byte of a string.
-#[tactic(auto, unfolding(crate::specs::DumpText::escaped))]
+#[tactic(auto, unfolding(crate::specs::DumpWords::escaped))]
 fn put_byte(byte: u8, text: &mut Text) -> Result<(), Memory>
     ensures { OnOk result (text.new ≡ text.old ++ escaped byte) }
 {

@@ -1,7 +1,8 @@
 //! The bytes of a value: SPA POD, "Types".
 ghost use Rattle.std.specs.Prelude.{◌≡◌, ◌+◌, ◌≤◌, ◌++◌, length, map, OnOk, OnErr, IsTrue};
 ghost use Rattle.std.specs.List.{flat_map, AllByRecursion};
-ghost use Rattle.pod_codec.specs.PodValue.{form_of, keyed_of, struct_form, object_form, choice_form, are_children, framed, keyed_bytes, canonical};
+ghost use Rattle.pod_codec.specs.Framing.{are_children, framed, keyed_bytes};
+ghost use Rattle.pod_codec.specs.PodValue.{form_of, keyed_of, struct_form, object_form, choice_form, canonical};
 ghost use Rattle.pod_codec.specs.Writable.{Fits, IsWritable, FitsBody, Tells};
 
 use crate::containers::{MAX_DEPTH, end_frame, put_children};

@@ -1,7 +1,7 @@
 -- One element more, and whole ones are left.
 use Rattle.std.proofs.Common.{◌≡◌, ℕ, ◌+◌, ◌-◌, ◌%◌, sym, subst, arith}
 use Rattle.pod_codec.specs.PodType.{child_size}
-use Rattle.pod_codec.specs.Spelling.{AreAfter, IsElementAt}
+use Rattle.pod_codec.specs.Places.{AreAfter, IsElementAt}
 use Rattle.pod_codec.proofs.ReadingLemmas.{after_more, four_or_eight, whole_less}
 use Rattle.pod_codec.proofs.children.elements_at.Goals as goal
 

@@ -1,7 +1,7 @@
 -- The elements so far, and whole ones are left.
 use Rattle.std.proofs.Common.{◌≡◌, ◌≤◌, ◌-◌, ◌%◌}
 use Rattle.pod_codec.specs.PodType.{child_size}
-use Rattle.pod_codec.specs.Spelling.{AreAfter, IsElementAt}
+use Rattle.pod_codec.specs.Places.{AreAfter, IsElementAt}
 use Rattle.pod_codec.proofs.children.elements_at.Given as goal
 
 abbrev pub invariant-loop-next : goal.invariant-loop-next

@@ -1,7 +1,8 @@
 -- The text so far and the lines of what is left are all.
 use Rattle.std.proofs.Common.{◌≡◌, ◌++◌, drop, map}
 use Rattle.std.specs.List.{flat_map}
-use Rattle.pod_codec.specs.DumpText.{text_at, lines_of, prop_lines_of, control_lines_of}
+use Rattle.pod_codec.specs.DumpWords.{text_at}
+use Rattle.pod_codec.specs.DumpText.{lines_of, prop_lines_of, control_lines_of}
 use Rattle.pod_codec.proofs.dump.+dump.Given as goal
 
 abbrev pub invariant-put_pods-loop-pod : goal.invariant-put_pods-loop-pod

@@ -3,7 +3,8 @@ use Rattle.std.proofs.Common.{◌≡◌, ℕ, suc, ◌+◌, ◌-◌, ◌*◌, �
 use Rattle.pod_codec.specs.declared.pod.Pod.{Pod}
 use Rattle.pod_codec.specs.declared.pod.Pod.TheViews.{out-Prop}
 use Rattle.pod_codec.specs.declared.fault.PodFault.TheVariants.{Memory}
-use Rattle.pod_codec.specs.Spelling.{AreAfter, IsPropAt, SpellsAt}
+use Rattle.pod_codec.specs.Places.{AreAfter}
+use Rattle.pod_codec.specs.Spelling.{IsPropAt, SpellsAt}
 use Rattle.pod_codec.specs.FirstFault.{FaultsAt}
 use Rattle.pod_codec.proofs.ReadingLemmas.{after_more, spelled, faulty}
 use Rattle.pod_codec.proofs.reading.+read.Goals as goal

@@ -1,6 +1,7 @@
 -- What is read so far is spelled, one after the other.
 use Rattle.std.proofs.Common.{◌≤◌, ◌-◌, ◌+◌, ◌*◌}
-use Rattle.pod_codec.specs.Spelling.{AreAfter, IsPropAt, SpellsAt}
+use Rattle.pod_codec.specs.Places.{AreAfter}
+use Rattle.pod_codec.specs.Spelling.{IsPropAt, SpellsAt}
 use Rattle.pod_codec.proofs.reading.+read.Given as goal
 
 abbrev pub invariant-fields_at-loop-next : goal.invariant-fields_at-loop-next

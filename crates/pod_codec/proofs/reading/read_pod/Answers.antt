@@ -1,6 +1,6 @@
 -- No POD reaches past 1,048,584 bytes, so the end may stand there.
 use Rattle.std.proofs.Common.{◌≡◌, ◌≤◌, length, min, arith}
-use Rattle.pod_codec.specs.Spelling.{u32_at}
+use Rattle.pod_codec.specs.Places.{u32_at}
 use Rattle.pod_codec.proofs.ReadingLemmas.{further, outer_fault}
 use Rattle.pod_codec.proofs.reading.read_pod.Goals as goal
 

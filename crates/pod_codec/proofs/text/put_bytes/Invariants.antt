@@ -1,6 +1,6 @@
 use Rattle.std.proofs.Common.{◌≡◌, ◌++◌, drop}
 use Rattle.std.specs.List.{flat_map}
-use Rattle.pod_codec.specs.DumpText.{escaped}
+use Rattle.pod_codec.specs.DumpWords.{escaped}
 use Rattle.pod_codec.proofs.text.put_bytes.Given as goal
 
 abbrev pub invariant-loop-byte : goal.invariant-loop-byte

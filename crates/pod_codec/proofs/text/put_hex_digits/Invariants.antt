@@ -1,6 +1,6 @@
 use Rattle.std.proofs.Common.{◌≡◌, ◌++◌, drop}
 use Rattle.std.specs.List.{flat_map}
-use Rattle.pod_codec.specs.DumpText.{hex_digits}
+use Rattle.pod_codec.specs.DumpWords.{hex_digits}
 use Rattle.pod_codec.proofs.text.put_hex_digits.Given as goal
 
 abbrev pub invariant-loop-byte : goal.invariant-loop-byte

@@ -1,7 +1,8 @@
 -- What is written so far and the bytes of what is left are all; what is passed fits.
 use Rattle.std.proofs.Common.{◌≡◌, ◌++◌, drop, map}
 use Rattle.std.specs.List.{flat_map, AllByRecursion}
-use Rattle.pod_codec.specs.PodValue.{form_of, keyed_of, framed, keyed_bytes}
+use Rattle.pod_codec.specs.Framing.{framed, keyed_bytes}
+use Rattle.pod_codec.specs.PodValue.{form_of, keyed_of}
 use Rattle.pod_codec.specs.Writable.{Fits}
 use Rattle.pod_codec.proofs.writing.+write.Given as goal
 
