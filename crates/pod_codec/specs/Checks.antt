@@ -1,14 +1,11 @@
 -- The checks of a POD in their order, each with its fault. SPA POD, "Types"; spa/pod/pod.h; the order of the
 -- checks is this project's.
-use Rattle.std.specs.Prelude.{◌≡◌, ℕ, zero, suc, ◌+◌, ◌-◌, ◌%◌, ◌≤◌, ◌<◌, ◌==◌, ◌&&◌, not, nat_lt, nat_le, Bool, true, ◌⊎◌, List, [], ◌∷◌, length, slice_index, Option, Some, None, Result, Ok, Err, if◌then◌else◌}
+use Rattle.std.specs.Prelude.{◌≡◌, ℕ, ◌+◌, ◌-◌, ◌%◌, ◌==◌, ◌&&◌, not, nat_lt, nat_le, Bool, true, List, [], ◌∷◌, length, slice_index, Option, Some, None, Result, Ok, Err, if◌then◌else◌}
 use Rattle.pod_codec.specs.declared.fault.PodFault.{PodFault}
-use Rattle.pod_codec.specs.declared.fault.PodFault.TheVariants.{Short, TypeUnknown, Size, Uneven, Deep, Large, Nul, Memory}
+use Rattle.pod_codec.specs.declared.fault.PodFault.TheVariants.{Short, TypeUnknown, Size, Uneven, Large, Nul, Memory}
 use Rattle.pod_codec.specs.PodType.{is_known_type, child_size}
 use Rattle.pod_codec.specs.Framing.{pad8}
-use Rattle.pod_codec.specs.Places.{u32_at, AreAfter}
-use Rattle.pod_codec.specs.Spelling.{IsPropAt, SpellsAt}
-use Rattle.pod_codec.specs.declared.pod.Pod.{Pod}
-use Rattle.pod_codec.specs.declared.pod.Prop.{Prop}
+use Rattle.pod_codec.specs.Places.{u32_at}
 
 -- a check: whether it fails, and its fault
 abbrev pub Check : Type 0

@@ -1,17 +1,15 @@
 -- The text of a value: one value a line, two spaces of indent a level, what it holds one level deeper.
 -- The lines are this project's own.
-use Rattle.std.specs.Prelude.{ℕ, ◌+◌, ◌*◌, ◌/◌, ◌%◌, ◌==◌, ◌&&◌, not, nat_le, Bool, List, [], ◌∷◌, ◌++◌, length, replicate, slice_index, codes, decimal, if◌then◌else◌}
+use Rattle.std.specs.Prelude.{ℕ, List, ◌++◌, length, codes, if◌then◌else◌}
 use Rattle.std.specs.List.{flat_map}
 use Rattle.std.specs.Fmt.{signed_decimal}
 use Rattle.std.specs.Int.{w32, w64, to_be_bytes}
 use Rattle.pod_codec.specs.declared.pod.Pod.{Pod}
 use Rattle.pod_codec.specs.declared.pod.Prop.{Prop}
 use Rattle.pod_codec.specs.declared.pod.Control.{Control}
-use Rattle.pod_codec.specs.declared.pod.ChoiceKind.{ChoiceKind}
-use Rattle.pod_codec.specs.declared.pod.ChoiceKind.TheVariants as k
 use Rattle.pod_codec.specs.declared.pod.Pod.TheOpen.{Pod-F, Prop-F, Control-F}
 use Rattle.pod_codec.specs.declared.pod.Pod.TheFolds.{fold-Pod, fold-Prop, fold-Control}
-use Rattle.pod_codec.specs.DumpWords.{Lines, text_at, hex_digits, hex, is_plain, escaped, kind_word, numbered, two_numbered, quoted, alone, over}
+use Rattle.pod_codec.specs.DumpWords.{Lines, text_at, hex, escaped, kind_word, numbered, two_numbered, quoted, alone, over}
 
 -- a value, with the lines of what it holds in their places
 abbrev pub pod_lines : Pod-F Lines Lines Lines → Lines

@@ -1,15 +1,8 @@
 -- The words and the lines of a dump, two spaces of indent a level. The lines are this project's own.
-use Rattle.std.specs.Prelude.{ℕ, ◌+◌, ◌*◌, ◌/◌, ◌%◌, ◌==◌, ◌&&◌, not, nat_le, Bool, List, [], ◌∷◌, ◌++◌, length, replicate, slice_index, codes, decimal, if◌then◌else◌}
+use Rattle.std.specs.Prelude.{ℕ, ◌+◌, ◌*◌, ◌/◌, ◌%◌, ◌==◌, ◌&&◌, not, nat_le, Bool, List, [], ◌∷◌, ◌++◌, replicate, slice_index, codes, decimal, if◌then◌else◌}
 use Rattle.std.specs.List.{flat_map}
-use Rattle.std.specs.Fmt.{signed_decimal}
-use Rattle.std.specs.Int.{w32, w64, to_be_bytes}
-use Rattle.pod_codec.specs.declared.pod.Pod.{Pod}
-use Rattle.pod_codec.specs.declared.pod.Prop.{Prop}
-use Rattle.pod_codec.specs.declared.pod.Control.{Control}
 use Rattle.pod_codec.specs.declared.pod.ChoiceKind.{ChoiceKind}
 use Rattle.pod_codec.specs.declared.pod.ChoiceKind.TheVariants as k
-use Rattle.pod_codec.specs.declared.pod.Pod.TheOpen.{Pod-F, Prop-F, Control-F}
-use Rattle.pod_codec.specs.declared.pod.Pod.TheFolds.{fold-Pod, fold-Prop, fold-Control}
 
 -- the words of a line, and the lines under it at a level
 pub record Lines : Type 0 where

@@ -1,15 +1,13 @@
 -- The first fault of bytes that spell no POD: the checks of a POD in their order, then those of what it holds.
 -- SPA POD, "Types"; spa/pod/pod.h; the order of the checks is this project's.
-use Rattle.std.specs.Prelude.{◌≡◌, ℕ, zero, suc, ◌+◌, ◌-◌, ◌%◌, ◌≤◌, ◌<◌, ◌==◌, ◌&&◌, not, nat_lt, nat_le, Bool, true, ◌⊎◌, List, [], ◌∷◌, length, slice_index, Option, Some, None, Result, Ok, Err, if◌then◌else◌}
+use Rattle.std.specs.Prelude.{◌≡◌, ℕ, zero, suc, ◌+◌, ◌≤◌, ◌<◌, ◌⊎◌, List, length, Some, None, Result, Ok, Err}
 use Rattle.pod_codec.specs.declared.fault.PodFault.{PodFault}
-use Rattle.pod_codec.specs.declared.fault.PodFault.TheVariants.{Short, TypeUnknown, Size, Uneven, Deep, Large, Nul, Memory}
-use Rattle.pod_codec.specs.PodType.{is_known_type, child_size}
-use Rattle.pod_codec.specs.Framing.{pad8}
+use Rattle.pod_codec.specs.declared.fault.PodFault.TheVariants.{Short, Deep, Memory}
 use Rattle.pod_codec.specs.Places.{u32_at, AreAfter}
 use Rattle.pod_codec.specs.Spelling.{IsPropAt, SpellsAt}
 use Rattle.pod_codec.specs.declared.pod.Pod.{Pod}
 use Rattle.pod_codec.specs.declared.pod.Prop.{Prop}
-use Rattle.pod_codec.specs.Checks.{Check, first_failed, Answers, header_checks, children_checks, array_checks, choice_checks, text_checks, body_checks, outer_checks}
+use Rattle.pod_codec.specs.Checks.{first_failed, header_checks, body_checks, outer_checks}
 
 -- a field of the struct, or a value of the object, from b to e is at fault, and those before it are spelled
 abbrev pub IsFieldFault : (ℕ → Pod → ℕ → Type 0) → (ℕ → PodFault → Type 0) → ℕ → ℕ → PodFault → Type 0

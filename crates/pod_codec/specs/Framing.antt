@@ -1,13 +1,9 @@
 -- The parts of a written POD: size, type, body and zeros up to a multiple of 8, and elements without padding.
 -- SPA POD, "Types"; spa/pod/pod.h. Numbers are little-endian.
-use Rattle.std.specs.Prelude.{ℕ, suc, ◌+◌, ◌*◌, ◌-◌, ◌/◌, ◌==◌, ◌&&◌, ◌||◌, max, nat_lt, Bool, true, List, [], ◌∷◌, ◌++◌, length, replicate, if◌then◌else◌}
+use Rattle.std.specs.Prelude.{ℕ, ◌+◌, ◌*◌, ◌-◌, ◌/◌, ◌==◌, ◌&&◌, ◌||◌, max, nat_lt, Bool, true, List, [], ◌∷◌, ◌++◌, length, replicate}
 use Rattle.std.specs.List.{flat_map, list_all}
-use Rattle.std.specs.Int.{w32, w64, to_le_bytes, cast_unsigned}
-use Rattle.pod_codec.specs.declared.pod.Pod.{Pod}
-use Rattle.pod_codec.specs.declared.pod.Prop.{Prop}
-use Rattle.pod_codec.specs.declared.pod.Pod.TheOpen.{Pod-F, Prop-F, Control-F}
-use Rattle.pod_codec.specs.declared.pod.Pod.TheFolds.{fold-Pod, fold-Prop}
-use Rattle.pod_codec.specs.PodType.{is_known_type, child_size, choice_number}
+use Rattle.std.specs.Int.{w32, w64, to_le_bytes}
+use Rattle.pod_codec.specs.PodType.{child_size}
 
 -- the number of a type, the bytes of the body, the levels of values, and whether all inside is allowed
 pub record Form : Type 0 where

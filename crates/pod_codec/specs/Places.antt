@@ -1,14 +1,13 @@
 -- What stands at a place of bytes: numbers, values of a stated size, and the elements of arrays and choices.
 -- SPA POD, "Types"; spa/pod/pod.h. Places count from the first byte.
-use Rattle.std.specs.Prelude.{◌≡◌, ℕ, zero, suc, ◌+◌, ◌-◌, ◌≤◌, ◌<◌, ◌==◌, not, ◌⊎◌, List, [], ◌∷◌, length, slice_index, slice_range, IsTrue}
+use Rattle.std.specs.Prelude.{◌≡◌, ℕ, ◌+◌, ◌≤◌, ◌<◌, ◌==◌, not, ◌⊎◌, List, [], ◌∷◌, slice_index}
 use Rattle.std.specs.Int.{w32, w64, from_le_bytes, cast_signed}
 use Rattle.pod_codec.specs.declared.pod.Pod.{Pod}
 use Rattle.pod_codec.specs.declared.pod.Prop.{Prop}
 use Rattle.pod_codec.specs.declared.pod.Control.{Control}
 use Rattle.pod_codec.specs.declared.pod.Pod.TheOpen.{Pod-F}
-use Rattle.pod_codec.specs.declared.pod.Pod.TheViews.{out-Pod, out-Prop, out-Control}
-use Rattle.pod_codec.specs.PodType.{is_known_type, child_size, choice_number}
-use Rattle.pod_codec.specs.Framing.{pad8}
+use Rattle.pod_codec.specs.declared.pod.Pod.TheViews.{out-Pod}
+use Rattle.pod_codec.specs.PodType.{child_size}
 
 -- the number in four bytes, and in eight, the lowest first
 unfoldable pub u32_at : List ℕ → ℕ → ℕ

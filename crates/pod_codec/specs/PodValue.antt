@@ -1,14 +1,14 @@
 -- The written form of a value: its type, the body that it is written with, how deep it is, and whether it can
 -- be written at all. SPA POD, "Types"; spa/pod/pod.h. Numbers are little-endian.
-use Rattle.std.specs.Prelude.{ℕ, suc, ◌+◌, ◌*◌, ◌-◌, ◌/◌, ◌==◌, ◌&&◌, ◌||◌, max, nat_lt, Bool, true, List, [], ◌∷◌, ◌++◌, length, replicate, if◌then◌else◌}
+use Rattle.std.specs.Prelude.{ℕ, suc, ◌&&◌, List, [], ◌∷◌, ◌++◌, if◌then◌else◌}
 use Rattle.std.specs.List.{flat_map, list_all}
-use Rattle.std.specs.Int.{w32, w64, to_le_bytes, cast_unsigned}
+use Rattle.std.specs.Int.{w32, w64, cast_unsigned}
 use Rattle.pod_codec.specs.declared.pod.Pod.{Pod}
 use Rattle.pod_codec.specs.declared.pod.Prop.{Prop}
 use Rattle.pod_codec.specs.declared.pod.Pod.TheOpen.{Pod-F, Prop-F, Control-F}
 use Rattle.pod_codec.specs.declared.pod.Pod.TheFolds.{fold-Pod, fold-Prop}
-use Rattle.pod_codec.specs.PodType.{is_known_type, child_size, choice_number}
-use Rattle.pod_codec.specs.Framing.{Form, Keyed, u32_bytes, u64_bytes, pad8, framed, keyed_bytes, deepest, deepest_keyed, child_bytes, are_children, leaf}
+use Rattle.pod_codec.specs.PodType.{is_known_type, choice_number}
+use Rattle.pod_codec.specs.Framing.{Form, Keyed, u32_bytes, u64_bytes, framed, keyed_bytes, deepest, deepest_keyed, child_bytes, are_children, leaf}
 
 abbrev pub array_form : ℕ → List Form → Form
 array_form child values = record { number = 13; body = child_bytes child values; depth = 1; sound = are_children child values }

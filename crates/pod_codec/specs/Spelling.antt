@@ -1,7 +1,6 @@
 -- Spelling of PODs: which bytes spell which value, with free padding and any nonzero Bool. SPA POD, "Types";
 -- spa/pod/pod.h. Places count from the first byte; a body goes from b to e.
-use Rattle.std.specs.Prelude.{◌≡◌, ℕ, zero, suc, ◌+◌, ◌-◌, ◌≤◌, ◌<◌, ◌==◌, not, ◌⊎◌, List, [], ◌∷◌, length, slice_index, slice_range, IsTrue}
-use Rattle.std.specs.Int.{w32, w64, from_le_bytes, cast_signed}
+use Rattle.std.specs.Prelude.{◌≡◌, ℕ, zero, suc, ◌+◌, ◌-◌, ◌≤◌, ◌<◌, ◌⊎◌, List, [], length, slice_index, slice_range, IsTrue}
 use Rattle.pod_codec.specs.declared.pod.Pod.{Pod}
 use Rattle.pod_codec.specs.declared.pod.Prop.{Prop}
 use Rattle.pod_codec.specs.declared.pod.Control.{Control}
@@ -9,7 +8,7 @@ use Rattle.pod_codec.specs.declared.pod.Pod.TheOpen.{Pod-F}
 use Rattle.pod_codec.specs.declared.pod.Pod.TheViews.{out-Pod, out-Prop, out-Control}
 use Rattle.pod_codec.specs.PodType.{is_known_type, child_size, choice_number}
 use Rattle.pod_codec.specs.Framing.{pad8}
-use Rattle.pod_codec.specs.Places.{u32_at, u64_at, AreAfter, IsScalarAt, IsElementAt, HasNone, HasSome, HasChildren}
+use Rattle.pod_codec.specs.Places.{u32_at, AreAfter, IsScalarAt, HasChildren}
 
 -- a property, and a control, at q: two numbers and a POD, by what is held
 abbrev pub IsPropAt : (ℕ → Pod → ℕ → Type 0) → List ℕ → ℕ → Prop → ℕ → Type 0
