@@ -1,0 +1,3 @@
+pub mod WritingLemmas
+pub mod DecimalLemmas
+pub mod ReadingLemmas

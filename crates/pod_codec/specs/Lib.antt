@@ -1,0 +1,11 @@
+pub mod PodFaults
+pub mod PodType
+pub mod Framing
+pub mod PodValue
+pub mod Writable
+pub mod DumpWords
+pub mod DumpText
+pub mod Places
+pub mod Spelling
+pub mod Checks
+pub mod FirstFault

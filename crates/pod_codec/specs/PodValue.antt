@@ -1,0 +1,79 @@
+-- The written form of a value: its type, the body that it is written with, how deep it is, and whether it can
+-- be written at all. SPA POD, "Types"; spa/pod/pod.h. Numbers are little-endian.
+use Rattle.std.specs.Prelude.{ℕ, suc, ◌&&◌, List, [], ◌∷◌, ◌++◌, if◌then◌else◌}
+use Rattle.std.specs.List.{flat_map, list_all}
+use Rattle.std.specs.Int.{w32, w64, cast_unsigned}
+use Rattle.pod_codec.specs.declared.pod.Pod.{Pod}
+use Rattle.pod_codec.specs.declared.pod.Prop.{Prop}
+use Rattle.pod_codec.specs.declared.pod.Pod.TheOpen.{Pod-F, Prop-F, Control-F}
+use Rattle.pod_codec.specs.declared.pod.Pod.TheFolds.{fold-Pod, fold-Prop}
+use Rattle.pod_codec.specs.PodType.{is_known_type, choice_number}
+use Rattle.pod_codec.specs.Framing.{Form, Keyed, u32_bytes, u64_bytes, framed, keyed_bytes, deepest, deepest_keyed, child_bytes, are_children, leaf}
+
+abbrev pub array_form : ℕ → List Form → Form
+array_form child values = record { number = 13; body = child_bytes child values; depth = 1; sound = are_children child values }
+
+abbrev pub struct_form : List Form → Form
+struct_form fields = record { number = 14; body = flat_map framed fields; depth = suc (deepest fields); sound = list_all (λ f. f.sound) fields }
+
+abbrev pub object_form : ℕ → ℕ → List Keyed → Form
+object_form object id props = record {
+  number = 15;
+  body = (u32_bytes object ++ u32_bytes id) ++ flat_map keyed_bytes props;
+  depth = suc (deepest_keyed props);
+  sound = list_all (λ k. k.value.sound) props;
+}
+
+abbrev pub choice_form : ℕ → ℕ → ℕ → List Form → Form
+choice_form kind flags child values = record {
+  number = 19;
+  body = (u32_bytes kind ++ u32_bytes flags) ++ child_bytes child values;
+  depth = 1;
+  sound = are_children child values;
+}
+
+abbrev pub sequence_form : ℕ → List Keyed → Form
+sequence_form unit controls = record {
+  number = 16;
+  body = (u32_bytes unit ++ u32_bytes 0) ++ flat_map keyed_bytes controls;
+  depth = suc (deepest_keyed controls);
+  sound = is_known_type 16 && list_all (λ k. k.value.sound) controls;
+}
+
+-- a value, with the forms of what it holds in their places
+abbrev pub pod_form : Pod-F Form Keyed Keyed → Form
+pod_form Pod-F.None = leaf 1 []
+pod_form (Pod-F.Bool b) = leaf 2 (u32_bytes (if b then 1 else 0))
+pod_form (Pod-F.Id n) = leaf 3 (u32_bytes n)
+pod_form (Pod-F.Int n) = leaf 4 (u32_bytes (cast_unsigned w32 n))
+pod_form (Pod-F.Long n) = leaf 5 (u64_bytes (cast_unsigned w64 n))
+pod_form (Pod-F.FloatBits n) = leaf 6 (u32_bytes n)
+pod_form (Pod-F.DoubleBits n) = leaf 7 (u64_bytes n)
+pod_form (Pod-F.Text text) = leaf 8 (text ++ 0 ∷ [])
+pod_form (Pod-F.Bytes bytes) = leaf 9 bytes
+pod_form (Pod-F.Rectangle width height) = leaf 10 (u32_bytes width ++ u32_bytes height)
+pod_form (Pod-F.Fraction num denom) = leaf 11 (u32_bytes num ++ u32_bytes denom)
+pod_form (Pod-F.Bitmap bytes) = leaf 12 bytes
+pod_form (Pod-F.Fd n) = leaf 18 (u64_bytes (cast_unsigned w64 n))
+pod_form (Pod-F.Array child values) = array_form child values
+pod_form (Pod-F.Struct fields) = struct_form fields
+pod_form (Pod-F.Object object id props) = object_form object id props
+pod_form (Pod-F.Choice kind flags child values) = choice_form (choice_number kind) flags child values
+pod_form (Pod-F.Sequence unit controls) = sequence_form unit controls
+
+abbrev pub prop_form : Prop-F Form Keyed Keyed → Keyed
+prop_form p = record { first = p.key; second = p.flags; value = p.value }
+
+abbrev pub control_form : Control-F Form Keyed Keyed → Keyed
+control_form c = record { first = c.offset; second = c.kind; value = c.value }
+
+-- WRITTEN FORM of a value, and of a property
+abbrev pub form_of : Pod → Form
+form_of = fold-Pod Form Keyed Keyed pod_form control_form prop_form
+
+abbrev pub keyed_of : Prop → Keyed
+keyed_of = fold-Prop Form Keyed Keyed pod_form control_form prop_form
+
+-- CANONICAL SPELLING: the one spelling that is written
+abbrev pub canonical : Pod → List ℕ
+canonical pod = framed (form_of pod)

@@ -1,0 +1,23 @@
+//! SPA PODs: values as bytes that say their own length and type.
+#![tactic(auto)]
+
+mod children;
+mod containers;
+mod copying;
+mod cursor;
+mod dump;
+mod fault;
+mod pod;
+mod pod_type;
+mod reading;
+mod scalars;
+#[cfg(test)]
+mod tests;
+mod text;
+mod writing;
+
+pub use dump::dump_text;
+pub use fault::{PodFault, WriteFault};
+pub use pod::{ChoiceKind, Control, Pod, Prop};
+pub use reading::read_pod;
+pub use writing::write_pod;

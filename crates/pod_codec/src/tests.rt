@@ -1,0 +1,146 @@
+use crate::{ChoiceKind, Control, Pod, PodFault, Prop, WriteFault, dump_text, read_pod, write_pod};
+use pw_base::Items;
+use std::process::Abort;
+use std::test::Fail;
+
+/// The Int 5.
+const INT: [u8; 16] = [4, 0, 0, 0, 4, 0, 0, 0, 5, 0, 0, 0, 0, 0, 0, 0];
+
+/// The Int 5, with other padding.
+const PADDED: [u8; 16] = [4, 0, 0, 0, 4, 0, 0, 0, 5, 0, 0, 0, 255, 255, 255, 255];
+
+/// A format with the rate 48000.
+const RATE: [u8; 40] = [
+    0x20, 0, 0, 0, 0x0f, 0, 0, 0, 3, 0, 4, 0, 3, 0, 0, 0, 3, 0, 1, 0, 0, 0, 0, 0, //
+    4, 0, 0, 0, 4, 0, 0, 0, 0x80, 0xbb, 0, 0, 0, 0, 0, 0,
+];
+
+/// A struct of an Int and a String.
+const STRUCT: [u8; 40] = [
+    0x20, 0, 0, 0, 0x0e, 0, 0, 0, 4, 0, 0, 0, 4, 0, 0, 0, 1, 0, 0, 0, 0, 0, 0, 0, //
+    2, 0, 0, 0, 8, 0, 0, 0, 0x61, 0, 0, 0, 0, 0, 0, 0,
+];
+
+/// A choice of kind Range with the Longs 1 and -1.
+const RANGE: [u8; 40] = [
+    0x20, 0, 0, 0, 0x13, 0, 0, 0, 1, 0, 0, 0, 0, 0, 0, 0, 8, 0, 0, 0, 5, 0, 0, 0, //
+    1, 0, 0, 0, 0, 0, 0, 0, 255, 255, 255, 255, 255, 255, 255, 255,
+];
+
+#[test]
+fn bytes_are_read_dumped_and_written_back(rt: HostRuntime) -> Result<(), Fail> {
+    let alloc = rt.alloc();
+    for (bytes, canonical, text) in [
+        (INT.as_slice(), INT.as_slice(), b"int 5\n".as_slice()),
+        (PADDED.as_slice(), INT.as_slice(), b"int 5\n".as_slice()),
+        (
+            RATE.as_slice(),
+            RATE.as_slice(),
+            b"object 262147 3 1\n  prop 65539 0\n    int 48000\n".as_slice(),
+        ),
+        (
+            STRUCT.as_slice(),
+            STRUCT.as_slice(),
+            b"struct 2\n  int 1\n  string \"a\"\n".as_slice(),
+        ),
+        (
+            RANGE.as_slice(),
+            RANGE.as_slice(),
+            b"choice range 0 5 2\n  long 1\n  long -1\n".as_slice(),
+        ),
+    ] {
+        let (pod, length) = read_pod(alloc, bytes)?;
+        assert_eq!(rt; length, bytes.len());
+        assert!(rt; dump_text(alloc, &pod)?.as_slice() == text);
+        let mut written = Items::new(alloc);
+        write_pod(alloc, &pod.copy(alloc)?, &mut written)?;
+        assert!(rt; written.as_slice() == canonical);
+    }
+    Ok(())
+}
+
+#[test]
+fn the_first_fault_is_told(rt: HostRuntime) -> Result<(), Fail> {
+    let alloc = rt.alloc();
+    let mut nested = Items::new(alloc);
+    for level in 0..17u32 {
+        nested.extend((128 - 8 * level).to_le_bytes().as_slice())?;
+        nested.extend(14u32.to_le_bytes().as_slice())?;
+    }
+    let large = [1, 0, 0x10, 0, 8, 0, 0, 0];
+    let mut uneven = [0; 24];
+    uneven[0] = 15;
+    uneven[4] = 13;
+    uneven[8] = 4;
+    uneven[12] = 4;
+    let mut choice = [0; 24];
+    choice[0] = 16;
+    choice[4] = 19;
+    choice[8] = 3;
+    choice[20] = 4;
+    let sequence = [0, 0, 0, 0, 16, 0, 0, 0];
+    for (bytes, fault) in [
+        (&INT[..15], PodFault::Short { offset: 0 }),
+        (&RATE[..39], PodFault::Short { offset: 0 }),
+        (large.as_slice(), PodFault::Large { size: 1048577 }),
+        (uneven.as_slice(), PodFault::Uneven { offset: 0 }),
+        (choice.as_slice(), PodFault::Size { offset: 16 }),
+        (nested.as_slice(), PodFault::Deep { offset: 128 }),
+        (
+            sequence.as_slice(),
+            PodFault::TypeUnknown {
+                offset: 4,
+                number: 16,
+            },
+        ),
+    ] {
+        let Err(found) = read_pod(alloc, bytes) else {
+            panic!(rt; "bytes at fault were read");
+        };
+        assert_eq!(rt; found.number(), fault.number());
+        assert!(rt; found == fault);
+    }
+    Ok(())
+}
+
+#[test]
+fn a_sequence_has_a_text_and_no_bytes(rt: HostRuntime) -> Result<(), Fail> {
+    let alloc = rt.alloc();
+    let mut props = Items::new(alloc);
+    props.push(Prop {
+        key: 7,
+        flags: 1,
+        value: Pod::Bool(true),
+    })?;
+    let mut controls = Items::new(alloc);
+    controls.push(Control {
+        offset: 2,
+        kind: 1,
+        value: Pod::Object {
+            object: 5,
+            id: 6,
+            props,
+        },
+    })?;
+    let sequence = Pod::Sequence { unit: 0, controls };
+    let text = dump_text(alloc, &sequence)?;
+    assert!(rt;
+        text.as_slice()
+            == b"sequence 0 1\n  control 2 1\n    object 5 6 1\n      prop 7 1\n        bool true\n".as_slice()
+    );
+    let mut bytes = Items::new(alloc);
+    let Err(fault) = write_pod(alloc, &sequence, &mut bytes) else {
+        panic!(rt; "a sequence was written");
+    };
+    assert_eq!(rt; fault.number(), WriteFault::Unwritable.number());
+    assert_eq!(rt; bytes.len(), 0);
+    let none = Pod::Choice {
+        kind: ChoiceKind::None,
+        flags: 0,
+        child: 1,
+        values: Items::new(alloc),
+    };
+    write_pod(alloc, &none, &mut bytes)?;
+    assert_eq!(rt; bytes.len(), 24);
+    Ok(())
+}
