@@ -144,3 +144,64 @@ fn a_sequence_has_a_text_and_no_bytes(rt: HostRuntime) -> Result<(), Fail> {
     assert_eq!(rt; bytes.len(), 24);
     Ok(())
 }
+
+#[test]
+fn each_proper_prefix_is_short(rt: HostRuntime) -> Result<(), Fail> {
+    let alloc = rt.alloc();
+    for end in 0..RATE.len() {
+        let Err(found) = read_pod(alloc, &RATE[..end]) else {
+            panic!(rt; "a prefix was read");
+        };
+        assert!(rt; found == PodFault::Short { offset: 0 });
+    }
+    Ok(())
+}
+
+#[test]
+fn values_of_one_size_have_their_lines(rt: HostRuntime) -> Result<(), Fail> {
+    let alloc = rt.alloc();
+    for (pod, text) in [
+        (Pod::None, b"none\n".as_slice()),
+        (Pod::Bool(false), b"bool false\n".as_slice()),
+        (Pod::Id(3), b"id 3\n".as_slice()),
+        (Pod::Int(-4), b"int -4\n".as_slice()),
+        (Pod::Long(-5), b"long -5\n".as_slice()),
+        (Pod::FloatBits(0x3f800000), b"float 3f800000\n".as_slice()),
+        (
+            Pod::DoubleBits(0x3ff0000000000000),
+            b"double 3ff0000000000000\n".as_slice(),
+        ),
+        (
+            Pod::Rectangle {
+                width: 640,
+                height: 480,
+            },
+            b"rectangle 640x480\n".as_slice(),
+        ),
+        (
+            Pod::Fraction { num: 30, denom: 1 },
+            b"fraction 30/1\n".as_slice(),
+        ),
+        (Pod::Fd(-1), b"fd -1\n".as_slice()),
+    ] {
+        assert!(rt; dump_text(alloc, &pod)?.as_slice() == text);
+    }
+    Ok(())
+}
+
+#[test]
+fn bytes_have_their_lines(rt: HostRuntime) -> Result<(), Fail> {
+    let alloc = rt.alloc();
+    let string = Pod::Text(Items::from_slice(alloc, b"a\"\0\n".as_slice())?);
+    let text = dump_text(alloc, &string)?;
+    assert!(rt; text.as_slice() == b"string \"a\\x22\\x00\\x0a\"\n".as_slice());
+    let bytes = Pod::Bytes(Items::from_slice(alloc, [0u8, 255].as_slice())?);
+    assert!(rt; dump_text(alloc, &bytes)?.as_slice() == b"bytes \"00ff\"\n".as_slice());
+    let bitmap = Pod::Bitmap(Items::from_slice(alloc, [0xa5u8].as_slice())?);
+    assert!(rt; dump_text(alloc, &bitmap)?.as_slice() == b"bitmap \"a5\"\n".as_slice());
+    let mut values = Items::new(alloc);
+    values.push(Pod::Int(7))?;
+    let array = Pod::Array { child: 4, values };
+    assert!(rt; dump_text(alloc, &array)?.as_slice() == b"array 4 1\n  int 7\n".as_slice());
+    Ok(())
+}
