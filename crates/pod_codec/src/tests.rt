@@ -188,20 +188,3 @@ fn values_of_one_size_have_their_lines(rt: HostRuntime) -> Result<(), Fail> {
     }
     Ok(())
 }
-
-#[test]
-fn bytes_have_their_lines(rt: HostRuntime) -> Result<(), Fail> {
-    let alloc = rt.alloc();
-    let string = Pod::Text(Items::from_slice(alloc, b"a\"\0\n".as_slice())?);
-    let text = dump_text(alloc, &string)?;
-    assert!(rt; text.as_slice() == b"string \"a\\x22\\x00\\x0a\"\n".as_slice());
-    let bytes = Pod::Bytes(Items::from_slice(alloc, [0u8, 255].as_slice())?);
-    assert!(rt; dump_text(alloc, &bytes)?.as_slice() == b"bytes \"00ff\"\n".as_slice());
-    let bitmap = Pod::Bitmap(Items::from_slice(alloc, [0xa5u8].as_slice())?);
-    assert!(rt; dump_text(alloc, &bitmap)?.as_slice() == b"bitmap \"a5\"\n".as_slice());
-    let mut values = Items::new(alloc);
-    values.push(Pod::Int(7))?;
-    let array = Pod::Array { child: 4, values };
-    assert!(rt; dump_text(alloc, &array)?.as_slice() == b"array 4 1\n  int 7\n".as_slice());
-    Ok(())
-}
