@@ -1,3 +1,4 @@
+pub mod DecimalLemmas
 pub mod HistoryLemmas
 pub mod InMemoryLemmas
 pub mod OrderLemmas

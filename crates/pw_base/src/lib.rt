@@ -7,6 +7,7 @@
 #![tactic(auto)]
 
 mod cycle_history;
+mod decimal;
 mod dependencies;
 mod event;
 mod every;
@@ -35,6 +36,7 @@ mod tests;
 mod ticker;
 mod words;
 
+pub use decimal::append_decimal;
 pub use event::Event;
 pub use every::Every;
 pub use files::{FileFail, Files, Loaded};
