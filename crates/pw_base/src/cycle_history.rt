@@ -3,7 +3,7 @@ ghost use Rattle.std.specs.Prelude.{◌≡◌, ℕ, ◌<◌, ◌≤◌, ◌-◌,
 ghost use Rattle.std.specs.List.{position};
 ghost use Rattle.pw_base.specs.Ordered.{IsOrdered, StartsLast, IsRun};
 ghost use Rattle.pw_base.specs.History.{is_start, is_finish, is_tick, start_place, finish_place, tick_place};
-ghost use Rattle.pw_base.specs.History.{IsFollower, IsLate, IsOfCycle, RunsOnce, KeepsOrder, IsLegalInside, IsLegalCycle};
+ghost use Rattle.pw_base.specs.History.{IsLate, IsOfCycle, RunsOnce, KeepsOrder, IsLegalInside, IsLegalCycle};
 
 use crate::dependencies::{has_node, is_waiting};
 use crate::event::Event;

@@ -1,7 +1,8 @@
 //! The types, definitions and traits that every crate of the engine stands on.
 //!
 //! `Items` and `Room` are lists that contracts see as lists. `Plan`, `Shape` and `Event` say what a script
-//! asks for, what one epoch is, and what happened. `Files`, `Sink`, `Ticker` and `Gate` are the outside;
+//! asks for, what one epoch is, and what happened; `is_sound_shape`, `is_pooled_shape` and `is_legal_history`
+//! check them against their definitions. `Files`, `Sink`, `Ticker` and `Gate` are the outside;
 //! the objects of `in_memory` stand in for it in tests. The definitions of one sample and of the kinds of
 //! node, in `specs/`, are the words that kernels, node states and the cycle function share.
 #![tactic(auto)]
