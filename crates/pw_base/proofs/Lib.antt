@@ -1,4 +1,5 @@
 pub mod DecimalLemmas
+pub mod FrontLemmas
 pub mod HistoryLemmas
 pub mod InMemoryLemmas
 pub mod OrderLemmas

@@ -4,6 +4,7 @@ pub mod EventWords
 pub mod Every
 pub mod Files
 pub mod History
+pub mod HistoryFronts
 pub mod InMemory
 pub mod KindFunction
 pub mod KindPorts
