@@ -3,6 +3,7 @@ pub mod FrontLemmas
 pub mod HistoryLemmas
 pub mod InMemoryLemmas
 pub mod OrderLemmas
+pub mod PlanLemmas
 pub mod PoolLemmas
 pub mod PrecedenceLemmas
 pub mod ShapeLemmas

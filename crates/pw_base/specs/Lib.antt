@@ -15,6 +15,7 @@ pub mod LinkOrder
 pub mod Listed
 pub mod Ordered
 pub mod Output
+pub mod PlanChecks
 pub mod PlanForms
 pub mod PlanFresh
 pub mod Pools
