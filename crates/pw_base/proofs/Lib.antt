@@ -1,9 +1,10 @@
 pub mod DecimalLemmas
+pub mod FormChecksLemmas
+pub mod FreshChecksLemmas
 pub mod FrontLemmas
 pub mod HistoryLemmas
 pub mod InMemoryLemmas
 pub mod OrderLemmas
-pub mod PlanLemmas
 pub mod PoolLemmas
 pub mod PrecedenceLemmas
 pub mod ShapeLemmas

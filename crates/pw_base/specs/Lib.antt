@@ -3,6 +3,8 @@ pub mod Dependencies
 pub mod EventWords
 pub mod Every
 pub mod Files
+pub mod FormChecks
+pub mod FreshChecks
 pub mod History
 pub mod HistoryFronts
 pub mod InMemory
@@ -15,7 +17,6 @@ pub mod LinkOrder
 pub mod Listed
 pub mod Ordered
 pub mod Output
-pub mod PlanChecks
 pub mod PlanForms
 pub mod PlanFresh
 pub mod Pools

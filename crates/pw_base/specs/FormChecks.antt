@@ -1,6 +1,6 @@
--- Soundness of a plan node by node and epoch by epoch, as a checker goes through it; `PlanForms` and `PlanFresh` say the same of the whole.
+-- Forms node by node, as a checker goes through an epoch; `PlanForms` says the same of the whole.
 -- Source: this project's.
-use Rattle.std.specs.Prelude.{◌≡◌, ℕ, ◌<◌, ◌≤◌, All, Contains}
+use Rattle.std.specs.Prelude.{◌≡◌, ℕ, ◌<◌}
 use Rattle.pw_base.specs.declared.ids.PortId.{PortId}
 use Rattle.pw_base.specs.declared.shape.ShapeNode.{ShapeNode}
 use Rattle.pw_base.specs.declared.plan.Epoch.{Epoch}

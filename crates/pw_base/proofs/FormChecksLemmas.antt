@@ -1,4 +1,4 @@
--- Laws of `specs/PlanChecks.antt`.
+-- Laws of `specs/FormChecks.antt`.
 use Rattle.std.proofs.Common.{◌≡◌, ℕ, ◌<◌, List, length, get_or, map, refl, sym, subst}
 use Rattle.std.specs.Prelude.{All, Contains, ◌↔◌}
 use Rattle.std.proofs.lemmas.List.{get_or-map, length-map}
@@ -9,7 +9,7 @@ use Rattle.pw_base.specs.declared.plan.Plan.{Plan}
 use Rattle.pw_base.specs.KindPorts.{port_count}
 use Rattle.pw_base.specs.Dependencies.{nodes_of}
 use Rattle.pw_base.specs.PlanForms.{kind_at}
-use Rattle.pw_base.specs.PlanChecks.{HasSomeForm, HasAllForms, IsWhole}
+use Rattle.pw_base.specs.FormChecks.{HasSomeForm, HasAllForms, IsWhole}
 
 pub contains_mapped : {X : Type 0} (f : X → ℕ) (xs : List X) (k : ℕ) (d : X) → k < length xs → Contains (map f xs) (f (get_or xs k d))
 contains_mapped f xs k d lt = (k, rw length-map lt, get_or-map f xs k d _ lt)
