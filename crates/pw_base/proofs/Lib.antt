@@ -5,6 +5,7 @@ pub mod FrontLemmas
 pub mod HistoryLemmas
 pub mod InMemoryLemmas
 pub mod OrderLemmas
+pub mod PlanSumsLemmas
 pub mod PoolLemmas
 pub mod PrecedenceLemmas
 pub mod ShapeLemmas

@@ -1,11 +1,16 @@
--- Forms node by node, as a checker goes through an epoch; `PlanForms` says the same of the whole.
+-- Nodes and forms one by one, as a checker goes through an epoch; `PlanForms` and `SoundPlan` say the same of the whole.
 -- Source: this project's.
-use Rattle.std.specs.Prelude.{◌≡◌, ℕ, ◌<◌}
+use Rattle.std.specs.Prelude.{◌≡◌, ℕ, ◌<◌, ◌⊎◌, length, Contains, Some, slice_get}
 use Rattle.pw_base.specs.declared.ids.PortId.{PortId}
 use Rattle.pw_base.specs.declared.shape.ShapeNode.{ShapeNode}
 use Rattle.pw_base.specs.declared.plan.Epoch.{Epoch}
 use Rattle.pw_base.specs.declared.plan.Plan.{Plan}
+use Rattle.pw_base.specs.declared.plan.PlanNode.{PlanNode}
+use Rattle.pw_base.specs.declared.plan.PortForm.{PortForm}
+use Rattle.pw_base.specs.declared.kind.Kind.TheVariants.{Sink}
+use Rattle.pw_base.specs.Dependencies.{nodes_of}
 use Rattle.pw_base.specs.KindPorts.{port_count}
+use Rattle.pw_base.specs.KindRanges.{IsSinkOrMeter}
 use Rattle.pw_base.specs.PlanForms.{kind_at, HasForm}
 
 -- an epoch has some form of the port
@@ -23,3 +28,19 @@ pub record HasAllForms (plan : Plan) (epoch : Epoch) (node : ℕ) : Type 0 where
 -- a node is the driver, or has forms for all its ports
 pub record IsWhole (plan : Plan) (epoch : Epoch) (n : ShapeNode) : Type 0 where
   pub follower : ¬ (n.node ≡ epoch.shape.driver) → HasAllForms plan epoch n.node
+
+-- a node is a place of the plan's, or 63
+pub record IsPlace (plan : Plan) (n : ShapeNode) : Type 0 where
+  pub place : ¬ (n.node ≡ 63) → n.node < length plan.nodes
+
+-- 63 drives where it is there
+pub record HasSoundDummy (epoch : Epoch) : Type 0 where
+  pub drives : Contains (nodes_of epoch.shape) 63 → epoch.shape.driver ≡ 63
+
+-- 63 drives, or a sink or meter
+pub record HasSoundDriver (plan : Plan) (epoch : Epoch) : Type 0 where
+  pub either : (epoch.shape.driver ≡ 63) ⊎ IsSinkOrMeter (kind_at plan epoch.shape.driver)
+
+-- a form, if of a sink, is the rate and channels that its node ends with
+pub record IsEnded (plan : Plan) (form : PortForm) : Type 0 where
+  pub ends : (node : PlanNode) → slice_get plan.nodes form.port.node ≡ Some node → node.kind ≡ Sink → (form.rate ≡ node.rate) × (form.channels ≡ node.channels)

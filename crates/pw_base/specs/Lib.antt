@@ -19,6 +19,7 @@ pub mod Ordered
 pub mod Output
 pub mod PlanForms
 pub mod PlanFresh
+pub mod PlanSums
 pub mod Pools
 pub mod Refilled
 pub mod Samples

@@ -1,6 +1,6 @@
 -- A sound plan: its epochs follow one another, its shapes, nodes, links and forms agree, and the sums of the limits are kept.
 -- Source: this project's. What it says of the waves of sources stands with the cycle function.
-use Rattle.std.specs.Prelude.{◌≡◌, ℕ, ◌+◌, ◌*◌, ◌<◌, ◌≤◌, ◌⊎◌, List, [], ◌∷◌, length, filter, All, Contains, sum_by, slice_get, Some, Bool, true, false}
+use Rattle.std.specs.Prelude.{◌≡◌, ℕ, ◌+◌, ◌<◌, ◌≤◌, ◌⊎◌, List, [], ◌∷◌, length, All, Contains, slice_get, Some}
 use Rattle.pw_base.specs.declared.kind.Kind.{Kind}
 use Rattle.pw_base.specs.declared.kind.Kind.TheVariants.{Sink}
 use Rattle.pw_base.specs.declared.ids.PortId.{PortId}
@@ -9,10 +9,11 @@ use Rattle.pw_base.specs.declared.plan.PlanNode.{PlanNode}
 use Rattle.pw_base.specs.declared.plan.Plan.{Plan}
 use Rattle.pw_base.specs.Limits.{events_limit, sink_samples_limit, block_bytes_limit}
 use Rattle.pw_base.specs.Dependencies.{nodes_of}
-use Rattle.pw_base.specs.Pools.{IsPooledShape, asked}
+use Rattle.pw_base.specs.Pools.{IsPooledShape}
 use Rattle.pw_base.specs.KindRanges.{IsInRange, IsRate, IsChannels, IsSinkOrMeter}
 use Rattle.pw_base.specs.PlanForms.{kind_at, HasForm, HasSoundForms}
 use Rattle.pw_base.specs.PlanFresh.{HasSoundFresh}
+use Rattle.pw_base.specs.PlanSums.{events_of, sink_samples_of, block_bytes_of}
 
 -- the epochs follow one another, from this cycle on
 abbrev pub FollowFrom : ℕ → List Epoch → Type 0
@@ -41,20 +42,6 @@ pub record IsSoundEpoch (plan : Plan) (epoch : Epoch) : Type 0 where
   pub places : HasSoundPlaces plan epoch
   pub forms : HasSoundForms plan epoch
   pub ends : EndsWith plan epoch
-
-abbrev pub is_sink : Kind → Bool
-is_sink Sink = true
-is_sink _ = false
-
--- the sums: events, samples of sinks, and bytes of blocks, where a delayed link counts at least 2 buffers
-abbrev pub events_of : Plan → ℕ
-events_of plan = sum_by (λ e. e.shape.cycles * (2 * length e.shape.nodes + 3)) plan.epochs
-
-abbrev pub sink_samples_of : Plan → ℕ
-sink_samples_of plan = sum_by (λ e. sum_by (λ f. e.shape.cycles * (plan.quantum * f.channels)) (filter (λ f. is_sink (kind_at plan f.port.node)) e.forms)) plan.epochs
-
-abbrev pub block_bytes_of : Plan → ℕ
-block_bytes_of plan = sum_by (λ e. sum_by (λ l. asked l * (plan.quantum * (l.channels * 2))) e.shape.links) plan.epochs
 
 -- SOUND PLAN
 pub record IsSoundPlan (plan : Plan) : Type 0 where

@@ -1,7 +1,7 @@
 //! Whether the numbers of a kind are in range, and what its ports may have.
 ghost use Rattle.std.specs.Prelude.{◌≡◌, ◌<◌, ◌≤◌, IsTrue, ◌↔◌, All, length};
 ghost use Rattle.pw_base.specs.KindRanges.{IsRate, IsChannels, IsGain, IsInRange, MayHaveRate, MayHaveChannels, SharesChannels, IsSinkOrMeter};
-ghost use Rattle.pw_base.specs.SoundPlan.{is_sink};
+ghost use Rattle.pw_base.specs.PlanSums.{is_sink};
 
 use crate::kind::Kind;
 use crate::soundness::is_between;

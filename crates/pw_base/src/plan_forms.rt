@@ -2,7 +2,7 @@
 ghost use Rattle.std.specs.Prelude.{◌≡◌, ℕ, ◌<◌, ◌≤◌, IsTrue, ◌↔◌, All, AllPairs, MatchOption};
 ghost use Rattle.pw_base.specs.KindPorts.{input_count, port_count};
 ghost use Rattle.pw_base.specs.KindRanges.{SharesChannels, IsSinkOrMeter};
-ghost use Rattle.pw_base.specs.SoundPlan.{is_sink};
+ghost use Rattle.pw_base.specs.PlanSums.{is_sink};
 ghost use Rattle.pw_base.specs.Pools.{is_before};
 ghost use Rattle.pw_base.specs.FormChecks.{HasSomeForm, HasBothForms, HasAllForms, IsWhole};
 ghost use Rattle.pw_base.specs.PlanForms.{kind_at, HasForm, IsSoundForm, AreShared, IsFormed, HasSoundForms};

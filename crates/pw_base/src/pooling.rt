@@ -69,8 +69,8 @@ fn link_ids_from(alloc: Global, links: &[ShapeLink], port: PortId) -> Result<Ite
     Ok(ids)
 }
 
-// The blocks that a link asks for.
-fn asked(link: &ShapeLink) -> u32
+/// The blocks that a link asks for.
+pub(crate) fn asked(link: &ShapeLink) -> u32
     ensures { result ≡ asked link.now }
 {
     if link.delayed {
