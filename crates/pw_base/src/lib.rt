@@ -33,6 +33,8 @@ mod plan_fresh;
 mod plan_kept;
 mod plan_soundness;
 mod plan_sums;
+#[cfg(test)]
+mod plan_tests;
 mod pooling;
 mod pools;
 mod room;

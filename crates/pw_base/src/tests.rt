@@ -31,7 +31,7 @@ use std::alloc::Global;
 use std::test::Fail;
 
 // A link of one channel and two buffers.
-fn link(from: (u32, u32), to: (u32, u32)) -> ShapeLink {
+pub(crate) fn link(from: (u32, u32), to: (u32, u32)) -> ShapeLink {
     ShapeLink {
         from: PortId {
             node: from.0,
@@ -48,7 +48,7 @@ fn link(from: (u32, u32), to: (u32, u32)) -> ShapeLink {
 }
 
 // An epoch's shape without nodes and links.
-fn bare(alloc: Global, driver: u32) -> Shape {
+pub(crate) fn bare(alloc: Global, driver: u32) -> Shape {
     Shape {
         quantum: 4,
         first: 0,
@@ -60,7 +60,7 @@ fn bare(alloc: Global, driver: u32) -> Shape {
 }
 
 // Adds a node.
-fn add(
+pub(crate) fn add(
     alloc: Global,
     shape: &mut Shape,
     node: u32,
@@ -108,6 +108,14 @@ fn a_loop(alloc: Global) -> Result<Shape, Memory> {
     add(alloc, &mut shape, DUMMY, 3, &[0, 1, DUMMY])?;
     shape.links.push(link((0, 1), (1, 0)))?;
     shape.links.push(link((1, 1), (0, 0)))?;
+    Ok(shape)
+}
+
+// A shape whose nodes do not ascend.
+fn falling(alloc: Global) -> Result<Shape, Memory> {
+    let mut shape = bare(alloc, 1);
+    add(alloc, &mut shape, 1, 2, &[0, 1])?;
+    add(alloc, &mut shape, 0, 1, &[1])?;
     Ok(shape)
 }
 
@@ -177,7 +185,9 @@ fn unsound(alloc: Global, reason: u32) -> Result<Shape, Memory> {
         14 => more_link(alloc, ShapeLink { buffers: 0, ..far }),
         15 => more_link(alloc, ShapeLink { buffers: 9, ..far }),
         16 => more_link(alloc, link((2, 2), (3, 0))),
-        _ => a_loop(alloc),
+        17 => a_loop(alloc),
+        18 => falling(alloc),
+        _ => more_link(alloc, link((9, 0), (1, 3))),
     }
 }
 
@@ -198,7 +208,7 @@ fn two_links_make_one_dependency(rt: HostRuntime) -> Result<(), Fail> {
             }
         )?)
     );
-    for reason in 0..18 {
+    for reason in 0..20 {
         assert!(rt;
             !is_sound_shape(&unsound(alloc, reason)?),
             "reason {reason}"
@@ -217,7 +227,7 @@ fn epoch(alloc: Global, shape: Shape) -> Epoch {
 }
 
 // The event of cycle 0 that a letter names: [ and ] are Begin and End, A is the Start of node 0 and a its Finish,
-// - is a Tick without a late node, and a digit a Tick with that one.
+// - is a Tick without a late node, and a digit a Tick with that one; ? and ! are of cycle 1.
 fn event_named(letter: u8) -> Event {
     match letter {
         b'[' => Event::Begin { cycle: 0 },
@@ -235,6 +245,7 @@ fn event_named(letter: u8) -> Event {
             late: 1 << (letter - b'0'),
         },
         b'-' => Event::Tick { cycle: 0, late: 0 },
+        b'?' => Event::Start { cycle: 1, node: 0 },
         _ => Event::End { cycle: 1 },
     }
 }
@@ -266,7 +277,7 @@ fn histories_are_legal_or_not(rt: HostRuntime) -> Result<(), Fail> {
     let table =
         b"+[AaBbCcDd] +[AaBb2CcDd] +[1AaBbCcDd] +[AaB1bCcDd] +[AaBbCc-Dd] - -AaBbCcDd] -[AaBbCcDd -[AaBbCcDd]] \
         -[[AaBbCcDd] -[AaBCbcDd] -[AaBbCDcd] -[AAaBbCcDd] -[AaaBbCcDd] -[aABbCcDd] -[AaBbDd] -[AaBbCcFfDd] \
-        -[AaBbCcD-d] -[--AaBbCcDd] -[Aa0BbCcDd] -[3AaBbCcDd] -[4AaBbCcDd] -[AaBbCcDd!";
+        -[AaBbCcD-d] -[--AaBbCcDd] -[Aa0BbCcDd] -[3AaBbCcDd] -[4AaBbCcDd] -[AaBbCcDd! -[?aBbCcDd]";
     for row in table.as_slice().split(|letter| *letter == b' ') {
         if let Some((sign, letters)) = row.split_first() {
             let events = events_named(alloc, letters)?;
