@@ -1,7 +1,7 @@
 -- Laws of `specs/FormChecks.antt`: what holds of nodes and forms one by one is what the whole epoch says.
 use Rattle.std.proofs.Common.{◌≡◌, ℕ, ◌<◌, List, length, get_or, map}
 use Rattle.std.specs.Prelude.{All, Contains, ◌↔◌}
-use Rattle.std.proofs.lemmas.List.{get_or-map, get_or_default, length-map}
+use Rattle.std.proofs.lemmas.List.{get_or_default}
 use Rattle.std.proofs.lemmas.List.Elements.{All-map, All-contains}
 use Rattle.pw_base.specs.declared.ids.PortId.{PortId}
 use Rattle.pw_base.specs.declared.plan.Epoch.{Epoch}
@@ -11,10 +11,8 @@ use Rattle.pw_base.specs.KindPorts.{port_count}
 use Rattle.pw_base.specs.Dependencies.{nodes_of}
 use Rattle.pw_base.specs.PlanForms.{kind_at, HasForm}
 use Rattle.pw_base.specs.SoundPlan.{EndsWith}
+use Rattle.pw_base.proofs.ShapeLemmas.{contains_mapped}
 use Rattle.pw_base.specs.FormChecks.{HasSomeForm, HasAllForms, IsWhole, IsPlace, IsEnded}
-
-pub contains_mapped : {X : Type 0} (f : X → ℕ) (xs : List X) (k : ℕ) (d : X) → k < length xs → Contains (map f xs) (f (get_or xs k d))
-contains_mapped f xs k d lt = (k, rw length-map lt, get_or-map f xs k d _ lt)
 
 -- every follower has forms for all its ports, node by node and port by port
 pub whole_by_ports : (plan : Plan) (epoch : Epoch) → All (IsWhole plan epoch) epoch.shape.nodes

@@ -12,6 +12,7 @@ use Rattle.pw_base.specs.declared.plan.Epoch.{Epoch}
 use Rattle.pw_base.specs.History.{IsLegalCycle, AreJoined, epoch_cycles, cycles_of, IsLegalHistory}
 use Rattle.pw_base.specs.declared.shape.Shape.{Shape}
 use Rattle.pw_base.specs.Dependencies.{nodes_of, waits, Precedes}
+use Rattle.pw_base.proofs.ShapeLemmas.{contains_mapped}
 use Rattle.std.proofs.lemmas.List.Sums.{prefix_len-le-length}
 
 or_end : (b : Bool) (k n : ℕ) → (b ≡ false → k ≡ n) → unwrap_or (cond b (Some k) None) n ≡ k
@@ -24,9 +25,6 @@ place_or_end p xs = or_end (ltb (position_or_len p xs) (length xs)) (position_or
     (λ e. let le = prefix_len-le-length (λ x. not (p x)) xs in
     let ge : ¬ (position_or_len p xs < length xs) = λ h. let t : ltb (position_or_len p xs) (length xs) ≡ true = (Decides-ltb _ _).1 h in cc in omega arith)
 
-has_number : {X : Type 0} (f : X → ℕ) (xs : List X) (k : ℕ) (d : X) → k < length xs → Contains (map f xs) (f (get_or xs k d))
-has_number f xs k d lt = (k, rw length-map lt, get_or-map f xs k d _ lt)
-
 -- of all pairs of nodes, by their places and by their numbers
 pub order_by_numbers : (shape : Shape) (C : ℕ → ℕ → Type 0)
     → All (λ n. All (λ m. IsTrue (waits shape n.node m.node) → ¬ (m.node ≡ shape.driver) → C m.node n.node) shape.nodes) shape.nodes ↔ ((m n : ℕ) → Precedes shape m n → C m n)
@@ -38,7 +36,7 @@ order_by_numbers shape C = (
       let every = All-map (λ i. IsTrue (waits shape n i) → ¬ (i ≡ shape.driver) → C i n) (λ i. i.node) shape.nodes at in
       All-contains (λ i. IsTrue (waits shape n i) → ¬ (i ≡ shape.driver) → C i n) (nodes_of shape) m every p.depends.from_active p.depends.waits p.follower,
   λ h k d lt j e lt' w ne. h _ _ (record {
-    depends = record { from_active = has_number (λ n. n.node) shape.nodes j e lt'; to_active = has_number (λ n. n.node) shape.nodes k d lt; waits = w };
+    depends = record { from_active = contains_mapped (λ n. n.node) shape.nodes j e lt'; to_active = contains_mapped (λ n. n.node) shape.nodes k d lt; waits = w };
     follower = ne;
   }),
 )

@@ -4,6 +4,7 @@ pub mod FreshChecksLemmas
 pub mod FrontLemmas
 pub mod HistoryLemmas
 pub mod InMemoryLemmas
+pub mod LayoutLemmas
 pub mod OrderLemmas
 pub mod PlanSumsLemmas
 pub mod PoolLemmas

@@ -1,8 +1,9 @@
--- Laws of `specs/Dependencies.antt`: targets and dependencies are inverse, and in a sound shape an order rises from each node to those that it precedes.
+-- Laws of `specs/Dependencies.antt`: required counts are those of the dependencies, targets and dependencies are inverse, and in a sound shape
+-- an order rises from each node to those that it precedes, so that no walk along links that are not delayed comes back.
 use Rattle.std.proofs.Common.{◌≡◌, ℕ, zero, suc, ◌<◌, ◌≤◌, ◌==◌, ◌&&◌, ◌||◌, ◌↔◌, ◌⊎◌, inl, inr, Bool, true, false, cond, not, List, [], ◌∷◌, length, get_or, refl, sym, ◌∙◌, ap, subst, arith}
 use mathlib.Core.Logic.{dite}
 use native.Mathlib.Decide.{ℕ_discrete}
-use Rattle.std.specs.Prelude.{◌≢◌, filter, Contains, sum_by}
+use Rattle.std.specs.Prelude.{◌≢◌, filter, All, Contains, sum_by}
 use Rattle.std.proofs.lemmas.Bool.{false_from_ne_true}
 use Rattle.std.proofs.lemmas.Bool.Decides.{Decides-eqb}
 use Rattle.std.proofs.lemmas.List.Folds.{Any-from_list_any}
@@ -10,7 +11,7 @@ use Rattle.std.proofs.lemmas.List.Sums.{get_or-le-sum_by}
 use Rattle.std.proofs.lemmas.List.Elements.{All-contains, All-contains_itself, All-filter, filter_passes, Contains-append_left, Contains-append_right, Contains-append_cases}
 use Rattle.pw_base.specs.declared.shape.Shape.{Shape}
 use Rattle.pw_base.specs.LinkOrder.{HasOrder}
-use Rattle.pw_base.specs.SoundShape.{HasSoundNodes}
+use Rattle.pw_base.specs.SoundShape.{HasSoundNodes, IsSoundShape}
 use Rattle.pw_base.specs.Dependencies.{nodes_of, joins, are_linked, waits, DependsOn, dependencies_of, targets_of, Precedes}
 
 -- what a filter holds
@@ -28,7 +29,7 @@ behind : {X : Type 0} (b : Bool) (y x : X) (ys : List X) → Contains ys x → C
 behind true y x ys c = Contains-append_right (y ∷ []) ys x c
 behind false y x ys c = c
 
-holds_at : {X : Type 0} (p : X → Bool) (xs : List X) (x : X) (k : ℕ) → p x ≡ true → k < length xs → get_or xs k x ≡ x → Contains (filter p xs) x
+pub holds_at : {X : Type 0} (p : X → Bool) (xs : List X) (x : X) (k : ℕ) → p x ≡ true → k < length xs → get_or xs k x ≡ x → Contains (filter p xs) x
 holds_at p [] x k t lt e = absurd (omega arith)
 holds_at p (y ∷ ys) x zero t lt e = in_front (p y) y x (filter p ys) (ap p e ∙ t) e
 holds_at p (y ∷ ys) x (suc k) t lt e = behind (p y) y x (filter p ys) (holds_at p ys x k t (omega arith) e)
@@ -51,6 +52,11 @@ or_parts false b e = inr e
 not_true : (a : Bool) → not a ≡ true → a ≡ false
 not_true true e = cc
 not_true false e = refl
+
+-- a walk along links that are not delayed, of one link and so many more
+abbrev pub Walks : Shape → ℕ → ℕ → ℕ → Type 0
+Walks shape zero m n = are_linked shape m n ≡ true
+Walks shape (suc more) m n = (j : ℕ) × (are_linked shape m j ≡ true) × Walks shape more j n
 
 -- the rank of an order of the links, with the driver above all
 module _ (shape : Shape) (h : HasOrder shape.links) where
@@ -96,6 +102,25 @@ module _ (shape : Shape) (h : HasOrder shape.links) where
   -- so no node precedes itself
   pub precedes_irreflexive : (n : ℕ) → ¬ Precedes shape n n
   precedes_irreflexive n p = let t = precedence_rises n n p in absurd (omega arith)
+
+  -- a walk goes up, and so never comes back
+  walk_rises : (more m n : ℕ) → Walks shape more m n → h.rank m < h.rank n
+  walk_rises zero m n w = along m n w
+  walk_rises (suc more) m n w =
+      let first : h.rank m < h.rank w.0 = along m w.0 w.1 in
+      let rest : h.rank w.0 < h.rank n = walk_rises more w.0 n w.2 in
+      omega arith
+
+  pub no_walk_returns : (more n : ℕ) → ¬ Walks shape more n n
+  no_walk_returns more n w = let t = walk_rises more n n w in absurd (omega arith)
+
+-- in a sound shape each node comes after what precedes it, in some order
+pub sound_order : (shape : Shape) → IsSoundShape shape → (rank : ℕ → ℕ) × ((m n : ℕ) → Precedes shape m n → rank m < rank n)
+sound_order shape h = (precedence_rank shape h.links.order, precedence_rises shape h.links.order)
+
+-- in a sound shape a node's required count is the number of its dependencies
+pub required_is : (shape : Shape) → IsSoundShape shape → All (λ n. n.required ≡ length (dependencies_of shape n.node)) shape.nodes
+required_is shape h k d lt = (h.counts k d lt).0
 
 both : (a b : Bool) → a ≡ false → b ≡ true → (not a && b) ≡ true
 both true b e f = cc

@@ -8,7 +8,7 @@ use Rattle.std.specs.List.{list_any, count_by}
 use Rattle.std.proofs.lemmas.List.Recursion.{is_count_by}
 use Rattle.std.proofs.lemmas.Bool.Decides.{Decides-by_or, Decides-eqb, Decides-at}
 use Rattle.std.proofs.lemmas.List.Elements.{Decides-contains, All-map, All-contains}
-use Rattle.std.proofs.lemmas.List.{get_or_default, get_or-take, length-take}
+use Rattle.std.proofs.lemmas.List.{get_or_default, get_or-take, length-take, get_or-map, length-map}
 use Rattle.pw_base.specs.declared.shape.Shape.{Shape}
 use Rattle.pw_base.specs.Dependencies.{nodes_of}
 use Rattle.pw_base.specs.LinkOrder.{IsWithinNodes}
@@ -22,6 +22,10 @@ any_mapped p f (x ∷ xs) = ap (λ b. p (f x) || b) (any_mapped p f xs)
 pub Decides-contains_mapped : {X : Type 0} (f : X → ℕ) (xs : List X) (n : ℕ) → Decides (list_any (λ x. f x == n) xs) (Contains (map f xs) n)
 Decides-contains_mapped f xs n = Decides-at _ _ (any_mapped (λ y. y == n) f xs)
     (Decides-contains (map f xs) n _ (Decides-by_or (λ y. y == n) (λ y. y ≡ n) (list_any (λ y. y == n)) (λ y. Decides-eqb y n) refl (λ _ _. refl) (map f xs)))
+
+-- the number of each element is one of the numbers
+pub contains_mapped : {X : Type 0} (f : X → ℕ) (xs : List X) (k : ℕ) (d : X) → k < length xs → Contains (map f xs) (f (get_or xs k d))
+contains_mapped f xs k d lt = (k, rw length-map lt, get_or-map f xs k d _ lt)
 
 one_more : (b : Bool) (y : ℕ) (r : List ℕ) → length (cond b (y ∷ r) r) ≡ cond b (1 + length r) (length r)
 one_more true y r = omega arith

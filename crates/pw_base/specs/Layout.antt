@@ -54,6 +54,10 @@ readers_place shape pool block = event_place shape (event_count shape) + sum_by 
 abbrev pub sample_place : Shape → ℕ → ℕ → ℕ → ℕ
 sample_place shape pool block word = readers_place shape pool block + 1 + word
 
+-- how many there are
+abbrev pub word_count : Shape → ℕ
+word_count shape = event_place shape (event_count shape) + sum_by pool_words (pools_of shape)
+
 -- AT THE START: area 0 first; the area of a delayed link that is read in the first cycle names block 0
 abbrev pub io_start : ℕ → ShapeLink → List ℕ
 io_start first link =
