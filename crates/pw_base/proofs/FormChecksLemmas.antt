@@ -1,5 +1,5 @@
 -- Laws of `specs/FormChecks.antt`: what holds of nodes and forms one by one is what the whole epoch says.
-use Rattle.std.proofs.Common.{◌≡◌, ℕ, ◌<◌, List, length, get_or, map}
+use Rattle.std.proofs.Common.{◌≡◌, ℕ, ◌<◌, length, get_or}
 use Rattle.std.specs.Prelude.{All, Contains, ◌↔◌}
 use Rattle.std.proofs.lemmas.List.{get_or_default}
 use Rattle.std.proofs.lemmas.List.Elements.{All-map, All-contains}
@@ -9,7 +9,7 @@ use Rattle.pw_base.specs.declared.plan.Plan.{Plan}
 use Rattle.pw_base.specs.declared.plan.PortForm.{PortForm}
 use Rattle.pw_base.specs.KindPorts.{port_count}
 use Rattle.pw_base.specs.Dependencies.{nodes_of}
-use Rattle.pw_base.specs.PlanForms.{kind_at, HasForm}
+use Rattle.pw_base.specs.PlanForms.{kind_at}
 use Rattle.pw_base.specs.SoundPlan.{EndsWith}
 use Rattle.pw_base.proofs.ShapeLemmas.{contains_mapped}
 use Rattle.pw_base.specs.FormChecks.{HasSomeForm, HasAllForms, IsWhole, IsPlace, IsEnded}

@@ -1,10 +1,10 @@
 -- Laws of `specs/FreshChecks.antt`: fresh nodes and kept forms by epochs at their places.
-use Rattle.std.proofs.Common.{◌≡◌, ℕ, ◌<◌, ◌≤◌, List, length, get_or, Some, refl, sym, ◌∙◌, ap, subst, arith, inl, inr, ◌+◌}
+use Rattle.std.proofs.Common.{◌≡◌, ℕ, ◌<◌, ◌≤◌, length, get_or, refl, sym, subst, arith, inl, inr, ◌+◌}
 use Rattle.std.proofs.lemmas.Bool.{cases_lt}
 use Rattle.std.proofs.lemmas.Option.{slice_get_within}
 use mathlib.Core.Logic.{dite}
 use native.Mathlib.Decide.{ℕ_discrete}
-use Rattle.std.specs.Prelude.{All, Contains, ◌↔◌, slice_get}
+use Rattle.std.specs.Prelude.{All, ◌↔◌}
 use Rattle.std.proofs.lemmas.List.{get_or_default}
 use Rattle.std.proofs.lemmas.List.Elements.{All-contains}
 use Rattle.pw_base.specs.declared.ids.PortId.{PortId}
@@ -12,8 +12,8 @@ use Rattle.pw_base.specs.declared.plan.Epoch.{Epoch}
 use Rattle.pw_base.specs.declared.plan.Plan.{Plan}
 use Rattle.pw_base.specs.declared.plan.PortForm.{PortForm}
 use Rattle.pw_base.specs.PlanForms.{HasForm}
-use Rattle.pw_base.specs.PlanFresh.{IsEpoch, Names, StaysFrom, HasSoundFresh}
-use Rattle.pw_base.specs.FreshChecks.{HasEntry, HasSomeEntry, IsNamed, IsSameForm, AgreesIn, KeepsForm, IsKeptFrom, KeepsSink, IsLastNamed, IsToldIn, IsKeptForm, KeepsEpoch, NamesWell}
+use Rattle.pw_base.specs.PlanFresh.{IsEpoch, Names, HasSoundFresh}
+use Rattle.pw_base.specs.FreshChecks.{HasEntry, HasSomeEntry, IsNamed, IsSameForm, AgreesIn, KeepsForm, IsKeptFrom, IsLastNamed, IsKeptForm, KeepsEpoch, NamesWell}
 
 -- an epoch's place has one epoch
 pub epoch_is : (plan : Plan) (k : ℕ) (e f : Epoch) → IsEpoch plan k e → IsEpoch plan k f → e ≡ f

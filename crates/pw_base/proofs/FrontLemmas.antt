@@ -1,7 +1,7 @@
 -- Laws of `specs/HistoryFronts.antt`: a row of events is cut after its first End, and fronts follow one another.
 use Rattle.std.proofs.Common.{◌≡◌, ℕ, ◌+◌, ◌<◌, ◌≤◌, Bool, true, false, cond, not, List, [], ◌∷◌, ◌++◌, map, length, get_or, take, drop, refl, sym, ap, subst, ◌∙◌, arith, ltb, Some, None, append_assoc, append-nil, length-append}
 use Rattle.std.specs.Prelude.{◌==◌, IsTrue, All, ◌↔◌, MatchOption}
-use Rattle.std.specs.List.{position, position_or_len, flat_map, range_with_len, AllZip}
+use Rattle.std.specs.List.{position, position_or_len, flat_map, AllZip}
 use Rattle.std.proofs.lemmas.List.{nil_from_length, take_at, drop_at, take-append-drop, take_more, map-append}
 use Rattle.std.proofs.lemmas.List.Elements.{All-head, All-tail}
 use Rattle.std.proofs.lemmas.List.FromFn.{map-range_with_len_more, take-map-range_with_len}
@@ -13,7 +13,7 @@ use Rattle.pw_base.specs.declared.event.Event.{Event}
 use Rattle.pw_base.specs.declared.event.Event.TheVariants.{Begin, Start, Finish, Tick, End}
 use Rattle.pw_base.specs.declared.plan.Epoch.{Epoch}
 use Rattle.pw_base.specs.declared.shape.Shape.{Shape}
-use Rattle.pw_base.specs.History.{IsOfCycle, IsLegalInside, IsLegalCycle, AreJoined, epoch_cycles, cycles_of, IsLegalHistory}
+use Rattle.pw_base.specs.History.{IsOfCycle, IsLegalCycle, AreJoined, epoch_cycles, cycles_of, IsLegalHistory}
 use Rattle.pw_base.specs.HistoryFronts.{is_end, LeavesOver, IsNoFront}
 
 -- no End stands inside a legal cycle

@@ -1,15 +1,9 @@
 -- Laws of `specs/History.antt`.
-use Rattle.std.proofs.Common.{◌-◌, length-drop, [], ◌∷◌, ◌++◌, ◌+◌, take, drop, ap, ◌∙◌, append_assoc, ◌≡◌, ℕ, ◌<◌, Bool, true, false, not, cond, List, length, refl, sym, arith, ltb, Some, None}
-use Rattle.std.specs.Prelude.{unwrap_or, All, Contains, IsTrue, ◌↔◌, map, get_or}
-use Rattle.std.specs.List.{position, position_or_len, flat_map, AllZip}
+use Rattle.std.proofs.Common.{◌≡◌, ℕ, ◌<◌, Bool, true, false, not, cond, List, length, refl, sym, arith, ltb, Some, None}
+use Rattle.std.specs.Prelude.{unwrap_or, All, IsTrue, ◌↔◌}
+use Rattle.std.specs.List.{position, position_or_len}
 use Rattle.std.proofs.lemmas.Bool.Decides.{Decides-ltb}
 use Rattle.std.proofs.lemmas.List.Elements.{All-map, All-contains}
-use Rattle.std.proofs.lemmas.List.{take_more, map-append, get_or-map, length-map, append-nil}
-use Rattle.std.proofs.lemmas.List.FromFn.{map-range_with_len_more}
-use Rattle.std.proofs.Math.Seq.{take-add, take-length}
-use Rattle.pw_base.specs.declared.event.Event.{Event}
-use Rattle.pw_base.specs.declared.plan.Epoch.{Epoch}
-use Rattle.pw_base.specs.History.{IsLegalCycle, AreJoined, epoch_cycles, cycles_of, IsLegalHistory}
 use Rattle.pw_base.specs.declared.shape.Shape.{Shape}
 use Rattle.pw_base.specs.Dependencies.{nodes_of, waits, Precedes}
 use Rattle.pw_base.proofs.ShapeLemmas.{contains_mapped}

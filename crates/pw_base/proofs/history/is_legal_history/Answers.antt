@@ -1,4 +1,4 @@
-use Rattle.std.proofs.Common.{◌≡◌, ◌↔◌, IsTrue, [], ap, sym, ◌∙◌, subst, map, take, length, arith}
+use Rattle.std.proofs.Common.{◌↔◌, IsTrue, sym, subst, map}
 use Rattle.std.proofs.lemmas.List.{take_all}
 use Rattle.pw_base.specs.History.{IsLegalHistory, cycles_of}
 use Rattle.pw_base.specs.HistoryFronts.{LeavesOver}

@@ -1,4 +1,4 @@
-use Rattle.std.proofs.Common.{◌-◌, arith, refl}
+use Rattle.std.proofs.Common.{◌-◌, arith}
 use Rattle.pw_base.proofs.FreshChecksLemmas.{last_before}
 use Rattle.pw_base.proofs.plan_kept.+is_last_named.Goals as goal
 
