@@ -159,6 +159,22 @@ fn with_forms(
     plan_of(alloc, nodes_of(alloc, Kind::Source, rate, channels)?, epoch)
 }
 
+// The chain's plan with a form more, of this port.
+fn with_form_of(alloc: Global, node: u32, port: u32) -> Result<Plan, Memory> {
+    let mut forms = chain_forms(alloc)?;
+    forms.push(PortForm {
+        port: PortId { node, port },
+        rate: 8,
+        channels: 1,
+    })?;
+    let epoch = Epoch {
+        shape: chain(alloc)?,
+        forms,
+        fresh: chain_fresh(alloc)?,
+    };
+    plan_of(alloc, chain_nodes(alloc)?, epoch)
+}
+
 // The chain's plan with these entries.
 fn with_fresh(alloc: Global, rows: &[(u32, u32)]) -> Result<Plan, Memory> {
     let epoch = Epoch {
@@ -287,30 +303,8 @@ fn by_forms(alloc: Global, reason: u32) -> Result<Plan, Memory> {
             8,
             1,
         ),
-        1 => with_forms(
-            alloc,
-            &[
-                (0, 0, 8, 1),
-                (1, 0, 8, 1),
-                (1, 1, 8, 1),
-                (2, 0, 8, 1),
-                (3, 0, 8, 1),
-            ],
-            8,
-            1,
-        ),
-        2 => with_forms(
-            alloc,
-            &[
-                (0, 0, 8, 1),
-                (1, 0, 8, 1),
-                (1, 1, 8, 1),
-                (2, 0, 8, 1),
-                (2, 1, 8, 1),
-            ],
-            8,
-            1,
-        ),
+        1 => with_form_of(alloc, 3, 0),
+        2 => with_form_of(alloc, 2, 1),
         3 => with_forms(
             alloc,
             &[(0, 0, 8, 1), (1, 0, 8, 1), (1, 1, 9, 1), (2, 0, 9, 1)],
