@@ -6,5 +6,6 @@ pub mod OutcomeLemmas
 pub mod RowLemmas
 pub mod SettledLemmas
 pub mod SingleEpochLemmas
+pub mod SoundPlanLemmas
 pub mod TestPlansLemmas
 pub mod WorkedRows

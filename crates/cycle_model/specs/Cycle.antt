@@ -1,24 +1,19 @@
 -- The cycle function: what each port receives and gives in each cycle, by whole streams.
 -- Source: PipeWire's documentation, "Graph Scheduling": a node runs after those it depends on; the kinds are this project's.
-use Rattle.std.specs.Prelude.{ℕ, zero, suc, ◌+◌, ◌-◌, ◌*◌, ◌==◌, List, [], option_map, unwrap_or, map, fold, find, flat_map, length, drop, ℤ, slice_get, if◌then◌else◌}
+use Rattle.std.specs.Prelude.{ℕ, zero, suc, ◌+◌, ◌-◌, ◌*◌, ◌==◌, List, [], option_map, unwrap_or, map, fold, find, flat_map, length, drop, ℤ, if◌then◌else◌}
 use Rattle.pw_base.specs.declared.ids.PortId.{PortId}
-use Rattle.pw_base.specs.declared.kind.Kind.{Kind}
-use Rattle.pw_base.specs.declared.kind.Kind.TheVariants.{Dummy}
 use Rattle.pw_base.specs.declared.shape.ShapeLink.{ShapeLink}
 use Rattle.pw_base.specs.declared.plan.Plan.{Plan}
 use Rattle.pw_base.specs.Samples.{clamped, silence, summed}
 use Rattle.pw_base.specs.KindFunction.{Heard, kind_output}
 use Rattle.pw_base.specs.KindPorts.{input_count}
+pub use Rattle.pw_base.specs.PlanForms.{kind_at}
 use Rattle.wav_files.specs.declared.wav.WavIn.{WavIn}
 use Rattle.cycle_model.specs.Epochs.{links_into, channels_at, first_at, active_cycles, stream_start, all_cycles}
 
 -- the samples that each output port gives in each cycle
 abbrev pub Outputs : Type 0
 Outputs = ℕ → PortId → List ℤ
-
--- the kind of the node at a place of the plan; elsewhere, that of the built-in driver, which has no port
-abbrev pub kind_at : Plan → ℕ → Kind
-kind_at plan node = unwrap_or (option_map (λ n. n.kind) (slice_get plan.nodes node)) Dummy
 
 -- the samples of a node's wave, none without one
 abbrev pub wave_of : List WavIn → ℕ → List ℤ

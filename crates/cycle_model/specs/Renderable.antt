@@ -1,5 +1,5 @@
 -- A plan that can be rendered: what the recursion of the cycle function needs, and what the reference program covers.
-use Rattle.std.specs.Prelude.{◌≡◌, ℕ, ◌+◌, ◌<◌, ◌≤◌, ◌⊎◌, false, List, [], ◌∷◌, All, Contains, map, length}
+use Rattle.std.specs.Prelude.{◌≡◌, ◌<◌, ◌≤◌, ◌⊎◌, false, List, All, Contains, map, length}
 use Rattle.pw_base.specs.declared.kind.Kind.{Kind}
 use Rattle.pw_base.specs.declared.kind.Kind.TheVariants.{Source, Sink}
 use Rattle.pw_base.specs.declared.shape.ShapeLink.{ShapeLink}
@@ -7,15 +7,12 @@ use Rattle.pw_base.specs.declared.shape.ShapeNode.{ShapeNode}
 use Rattle.pw_base.specs.declared.plan.Epoch.{Epoch}
 use Rattle.pw_base.specs.declared.plan.Plan.{Plan}
 use Rattle.pw_base.specs.KindPorts.{input_count, port_count}
+pub use Rattle.pw_base.specs.LinkOrder.{HasOrder}
+pub use Rattle.pw_base.specs.SoundPlan.{FollowFrom}
+use Rattle.pw_base.specs.PlanForms.{kind_at}
 use Rattle.wav_files.specs.declared.wav.WavIn.{WavIn}
 use Rattle.cycle_model.specs.Epochs.{channels_of}
-use Rattle.cycle_model.specs.Cycle.{kind_at}
 use Rattle.cycle_model.specs.WavesFit.{WavesFit}
-
--- the epochs follow one another, from this cycle on
-abbrev pub FollowFrom : ℕ → List Epoch → Type 0
-FollowFrom first [] = Unit {0}
-FollowFrom first (e ∷ es) = (e.shape.first ≡ first) × FollowFrom (first + e.shape.cycles) es
 
 -- a link joins an output and an input of active nodes, both of the link's channels
 pub record IsFitting (plan : Plan) (epoch : Epoch) (link : ShapeLink) : Type 0 where
@@ -25,11 +22,6 @@ pub record IsFitting (plan : Plan) (epoch : Epoch) (link : ShapeLink) : Type 0 w
   pub to_input : link.to.port < input_count (kind_at plan link.to.node)
   pub from_form : channels_of epoch.forms link.from ≡ link.channels
   pub to_form : channels_of epoch.forms link.to ≡ link.channels
-
--- the links that are not delayed have no loop: some order of the nodes rises along each of them
-pub record HasOrder (links : List ShapeLink) : Type 0 where
-  pub rank : ℕ → ℕ
-  pub rises : All (λ l. l.delayed ≡ false → rank l.from.node < rank l.to.node) links
 
 -- a node of a shape is a node of the plan, or the built-in driver
 abbrev pub IsNodeOf : Plan → ShapeNode → Type 0

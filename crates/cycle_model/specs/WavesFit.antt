@@ -3,8 +3,8 @@ use Rattle.std.specs.Prelude.{◌≡◌, ℕ, ◌==◌, List, All, count_by}
 use Rattle.pw_base.specs.declared.kind.Kind.TheVariants.{Source}
 use Rattle.pw_base.specs.declared.plan.PortForm.{PortForm}
 use Rattle.pw_base.specs.declared.plan.Plan.{Plan}
+use Rattle.pw_base.specs.PlanForms.{kind_at}
 use Rattle.wav_files.specs.declared.wav.WavIn.{WavIn}
-use Rattle.cycle_model.specs.Cycle.{kind_at}
 
 -- a form of the wave's node has the wave's rate and channels
 abbrev pub IsFormOf : WavIn → PortForm → Type 0
