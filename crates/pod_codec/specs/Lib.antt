@@ -10,3 +10,4 @@ pub mod Spelling
 pub mod Checks
 pub mod FirstFault
 pub mod SoundChoices
+pub mod ReadAnswer
