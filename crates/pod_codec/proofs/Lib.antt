@@ -6,3 +6,8 @@ pub mod DecoderLemmas
 pub mod LeafLemmas
 pub mod BodyLemmas
 pub mod SpellingLemmas
+pub mod ChoiceLemmas
+pub mod FormLemmas
+pub mod PlaceLemmas
+pub mod ElementLemmas
+pub mod CanonicalLemmas

@@ -17,6 +17,8 @@ use Rattle.pod_codec.proofs.Decoder.{mapped, run, prop_of, prop_step, body_of, d
 use Rattle.pod_codec.proofs.DecoderLemmas.{run_fault}
 use Rattle.pod_codec.proofs.BodyLemmas.{IsFixed, pod_fixed, prop_fixed, body_found, checks_found}
 use Rattle.pod_codec.proofs.ReadingLemmas.{outer_good}
+use Rattle.pod_codec.specs.SoundChoices.{HasSoundChoices}
+use Rattle.pod_codec.proofs.ChoiceLemmas.{sound_front}
 
 -- a header that is there, and whose body is
 header_good : (bytes : List ℕ) (p e : ℕ) → p + 8 + pad8 (u32_at bytes p) ≤ e → first_failed (header_checks bytes p e) ≡ None
@@ -102,3 +104,8 @@ pub only_refused : (r : Result (Pod × ℕ) PodFault) (bytes : List ℕ) → IfO
 only_refused (Ok x) bytes found fault f h = apart (decoded_front bytes) x f (front_decoded bytes x.0 x.1 found) (first_decoded bytes f h)
 only_refused (Err g) bytes found (inl memory) f h = inl memory
 only_refused (Err g) bytes found (inr k) f h = inr (same_fault (decoded_front bytes) g f (first_decoded bytes g k) (first_decoded bytes f h))
+
+-- a value that is read has sound choices
+pub only_sound : (r : Result (Pod × ℕ) PodFault) (bytes : List ℕ) → IfOk r (λ x. FrontSpells bytes x.0 x.1) → IfOk r (λ x. HasSoundChoices x.0)
+only_sound (Ok x) bytes found = sound_front bytes x.0 x.1 found
+only_sound (Err f) bytes found = tt

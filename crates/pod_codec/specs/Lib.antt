@@ -11,3 +11,4 @@ pub mod Checks
 pub mod FirstFault
 pub mod SoundChoices
 pub mod ReadAnswer
+pub mod Numbers

@@ -1,5 +1,5 @@
 //! The value that bytes spell, or their first fault.
-ghost use Rattle.std.specs.Prelude.{◌≡◌, ℕ, ◌+◌, ◌-◌, ◌≤◌, ◌<◌, ◌⊎◌, [], length, slice_index, slice_range, IfOk, IfSome, IsNone};
+ghost use Rattle.std.specs.Prelude.{◌≡◌, ℕ, List, ◌+◌, ◌++◌, ◌-◌, ◌≤◌, ◌<◌, ◌⊎◌, [], length, slice_index, slice_range, IfOk, IfSome, IsNone};
 ghost use Rattle.pod_codec.specs.declared.pod.Pod.TheViews.{out-Pod, out-Prop};
 ghost use Rattle.pod_codec.specs.declared.pod.Pod.{Pod};
 ghost use Rattle.pod_codec.specs.declared.fault.PodFault.{PodFault};
@@ -10,6 +10,10 @@ ghost use Rattle.pod_codec.specs.Spelling.{IsPropAt, IsBodyAt, SpellsAt, FrontSp
 ghost use Rattle.pod_codec.specs.Checks.{header_checks, body_checks, text_checks, array_checks, choice_checks, first_failed, Answers};
 ghost use Rattle.pod_codec.specs.FirstFault.{IsFieldFault, IsPropFault, IsBodyFault, FaultsAt, IsFirstFault, Fails};
 ghost use Rattle.pod_codec.specs.ReadAnswer.{IsReadAs, IsRefusedAs};
+ghost use Rattle.pod_codec.specs.PodValue.{canonical};
+ghost use Rattle.pod_codec.specs.Writable.{IsWritable};
+ghost use Rattle.pod_codec.specs.Numbers.{NumbersFit};
+ghost use Rattle.pod_codec.specs.SoundChoices.{HasSoundChoices};
 
 use crate::children::{children_at, scalar_at};
 use crate::containers::{MAX_BODY, MAX_DEPTH};
@@ -340,6 +344,10 @@ pub fn read_pod(alloc: Global, bytes: &[u8]) -> Result<(Pod, usize), PodFault>
     // And no other answer is right.
     ensures only_found { (pod : Pod) (size : ℕ) → FrontSpells bytes.now pod size → IsReadAs result pod size }
     ensures only_fault { (first : PodFault) → IsFirstFault bytes.now first → IsRefusedAs result first }
+
+    // What was written is read back, whatever stands behind; and each choice can be read by its child type.
+    ensures back { (pod : Pod) (rest : List ℕ) → IsWritable pod → NumbersFit 16 pod → bytes.now ≡ canonical pod ++ rest → IsReadAs result pod (length (canonical pod)) }
+    ensures sound { IfOk result (λ x. HasSoundChoices x.0) }
 {
     front_of(alloc, bytes)
 }
