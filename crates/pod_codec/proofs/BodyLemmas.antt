@@ -1,7 +1,6 @@
 -- A spelled body passes its checks, and is the decoder's.
-use Rattle.std.proofs.Common.{◌≡◌, ℕ, suc, ◌+◌, ◌-◌, ◌≤◌, ◌<◌, ◌==◌, nat_lt, cond, ◌⊎◌, inl, inr, List, [], ◌∷◌, Some, None, Result, Ok, Err, refl, sym, ap, subst, ◌∙◌, arith}
-use Rattle.std.proofs.lemmas.Bool.{false≢true, le-ltb, eq-eqb, ne_eqb, and_right, cond-true, cond-false}
-use Rattle.std.specs.Prelude.{slice_index}
+use Rattle.std.proofs.Common.{◌≡◌, ℕ, ◌+◌, ◌≤◌, ◌<◌, nat_lt, inl, inr, List, None, Result, Ok, Err, refl, ap, subst, ◌∙◌, arith}
+use Rattle.std.proofs.lemmas.Bool.{false≢true, le-ltb, eq-eqb, ne_eqb, and_right, cond-false}
 use Rattle.pod_codec.specs.declared.pod.Pod.{Pod}
 use Rattle.pod_codec.specs.declared.pod.Prop.{Prop}
 use Rattle.pod_codec.specs.declared.pod.Control.{Control}
@@ -12,12 +11,12 @@ use Rattle.pod_codec.specs.declared.pod.Pod.TheViews.{out-Prop, roll-Prop, roll-
 use Rattle.pod_codec.specs.declared.fault.PodFault.{PodFault}
 use Rattle.pod_codec.specs.declared.fault.PodFault.TheVariants.{Short}
 use Rattle.pod_codec.specs.PodType.{child_size, choice_number}
-use Rattle.pod_codec.specs.Places.{u32_at, AreAfter, HasChildren}
+use Rattle.pod_codec.specs.Places.{u32_at}
 use Rattle.pod_codec.specs.Spelling.{IsPropAt, IsBodyAt}
 use Rattle.pod_codec.specs.Checks.{first_failed, body_checks, array_checks, choice_checks, children_checks}
-use Rattle.pod_codec.proofs.Decoder.{mapped, run, scalar, leaf_of, child_of, values_of, kind_of, prop_of, prop_step, body_of}
+use Rattle.pod_codec.proofs.Decoder.{mapped, prop_of, prop_step, body_of}
 use Rattle.pod_codec.proofs.DecoderLemmas.{reaches, run_found}
-use Rattle.pod_codec.proofs.LeafLemmas.{scalar_found, children_found, kind_found}
+use Rattle.pod_codec.proofs.LeafLemmas.{children_found, kind_found}
 
 -- what a step must do with what is held: answer it, which has a header at least and ends within e
 abbrev pub IsFixed : (ℕ → Pod → ℕ → Type 0) → (ℕ → Result (Pod × ℕ) PodFault) → ℕ → Type 0

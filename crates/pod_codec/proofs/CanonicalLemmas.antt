@@ -1,7 +1,7 @@
 -- The canonical spelling of a value that can be written spells it, whatever stands behind.
-use Rattle.std.proofs.Common.{◌≡◌, ℕ, zero, suc, ◌+◌, ◌-◌, ◌≤◌, ◌<◌, ◌^◌, ◌==◌, replicate, ◌⊎◌, inl, inr, List, [], ◌∷◌, ◌++◌, length, map, IsTrue, Result, refl, sym, ap, subst, ◌∙◌, arith, length-append}
-use Rattle.std.specs.List.{flat_map, list_all, AllByRecursion}
-use Rattle.std.specs.Prelude.{slice_index, slice_range}
+use Rattle.std.proofs.Common.{◌≡◌, ℕ, zero, suc, ◌+◌, ◌-◌, ◌≤◌, ◌<◌, ◌^◌, replicate, inr, List, [], ◌∷◌, ◌++◌, length, map, refl, sym, ap, subst, ◌∙◌, arith, length-append}
+use Rattle.std.specs.List.{flat_map, AllByRecursion}
+use Rattle.std.specs.Prelude.{slice_index}
 use Rattle.std.proofs.lemmas.List.{length-replicate}
 use Rattle.std.proofs.lemmas.List.Concat.{flat_map-cons}
 use Rattle.std.proofs.lemmas.Bool.{false≢true}
@@ -12,7 +12,7 @@ use Rattle.pod_codec.specs.declared.pod.ChoiceKind.{ChoiceKind}
 use Rattle.pod_codec.specs.declared.pod.ChoiceKind.TheVariants as k
 use Rattle.pod_codec.specs.declared.pod.Pod.TheOpen.{Pod-F}
 use Rattle.pod_codec.specs.declared.pod.Pod.TheViews.{out-Pod, out-Prop}
-use Rattle.pod_codec.specs.PodType.{child_size, choice_number}
+use Rattle.pod_codec.specs.PodType.{choice_number}
 use Rattle.pod_codec.specs.Framing.{Form, Keyed, framed, keyed_bytes, pad8, u32_bytes, child_bytes}
 use Rattle.pod_codec.specs.PodValue.{form_of, keyed_of, canonical}
 use Rattle.pod_codec.specs.Writable.{Fits, IsWritable}
@@ -20,9 +20,9 @@ use Rattle.pod_codec.specs.Numbers.{PropFits, ValueFits, NumbersFit}
 use Rattle.pod_codec.specs.Places.{u32_at, AreAfter}
 use Rattle.pod_codec.specs.Spelling.{IsPropAt, IsBodyAt, SpellsAt, FrontSpells}
 use Rattle.pod_codec.proofs.FormLemmas.{form_at, form_out, keyed_out}
-use Rattle.pod_codec.proofs.PlaceLemmas.{StandsAt, stands_left, stands_right, first_stands, u32_stands, range_stands}
+use Rattle.pod_codec.proofs.PlaceLemmas.{StandsAt, stands_left, stands_right, first_stands, range_stands}
 use Rattle.pod_codec.proofs.ElementLemmas.{scalar_spells, pair_stands, pair_length, children_spell}
-use Rattle.pod_codec.proofs.WritingLemmas.{parts_fit, parts_fit_keyed, u32_length}
+use Rattle.pod_codec.proofs.WritingLemmas.{parts_fit, parts_fit_keyed}
 
 pub framed_length : (f : Form) → length (framed f) ≡ 8 + pad8 (length f.body)
 framed_length f =

@@ -1,6 +1,6 @@
 -- What is written of elements spells them.
-use Rattle.std.proofs.Common.{◌≡◌, ℕ, ℤ, zero, suc, ◌+◌, ◌-◌, ◌≤◌, ◌<◌, ◌^◌, ◌==◌, nat_lt, Bool, true, false, cond, ◌&&◌, ◌||◌, ◌⊎◌, inl, inr, List, [], ◌∷◌, ◌++◌, length, map, IsTrue, refl, sym, ap, subst, ◌∙◌, arith, length-append}
-use Rattle.std.specs.List.{flat_map, list_all, AllByRecursion}
+use Rattle.std.proofs.Common.{◌≡◌, ℕ, ℤ, ◌+◌, ◌≤◌, ◌<◌, ◌^◌, ◌==◌, nat_lt, Bool, true, false, cond, ◌||◌, inl, inr, List, [], ◌∷◌, ◌++◌, length, map, IsTrue, refl, sym, ap, subst, ◌∙◌, arith, length-append}
+use Rattle.std.specs.List.{flat_map, list_all}
 use Rattle.std.specs.Int.{w32, w64, cast_signed, cast_unsigned}
 use Rattle.std.specs.Prelude.{FitsSigned}
 use Rattle.std.proofs.lemmas.List.Concat.{flat_map-cons}
@@ -16,7 +16,7 @@ use Rattle.pod_codec.specs.PodType.{child_size, has_four_bytes, has_eight_bytes}
 use Rattle.pod_codec.specs.Framing.{Form, u32_bytes, u64_bytes, child_bytes, are_children}
 use Rattle.pod_codec.specs.PodValue.{form_of}
 use Rattle.pod_codec.specs.Numbers.{ScalarFits, ElementsFit}
-use Rattle.pod_codec.specs.Places.{u32_at, u64_at, AreAfter, IsScalarAt, IsElementAt, HasChildren, HasNone, HasSome}
+use Rattle.pod_codec.specs.Places.{u32_at, u64_at, AreAfter, IsScalarAt, IsElementAt, HasChildren}
 use Rattle.pod_codec.proofs.FormLemmas.{form_at, form_out}
 use Rattle.pod_codec.proofs.PlaceLemmas.{StandsAt, stands_left, stands_right, u32_stands, u64_stands}
 use Rattle.pod_codec.proofs.WritingLemmas.{u32_length}

@@ -3,9 +3,9 @@ use Rattle.std.proofs.Common.{◌≡◌}
 use Rattle.pod_codec.specs.declared.pod.Pod.{Pod}
 use Rattle.pod_codec.specs.declared.pod.Prop.{Prop}
 use Rattle.pod_codec.specs.declared.pod.Control.{Control}
-use Rattle.pod_codec.specs.declared.pod.Pod.TheOpen.{Pod-F, Prop-F}
+use Rattle.pod_codec.specs.declared.pod.Pod.TheOpen.{Pod-F}
 use Rattle.pod_codec.specs.declared.pod.Pod.TheViews.{out-Pod, out-Prop}
-use Rattle.pod_codec.specs.declared.pod.Pod.TheFolds.{map-Pod, map-Prop, fold-Control, fold_out-Pod, fold_out-Prop}
+use Rattle.pod_codec.specs.declared.pod.Pod.TheFolds.{map-Pod, fold-Control, fold_out-Pod, fold_out-Prop}
 use Rattle.pod_codec.specs.Framing.{Form, Keyed}
 use Rattle.pod_codec.specs.PodValue.{pod_form, control_form, prop_form, form_of, keyed_of}
 

@@ -1,6 +1,6 @@
 -- The spelled value of a type with a size of its own, and the children of an array or choice, are the decoder's.
-use Rattle.std.proofs.Common.{◌≡◌, ℕ, ◌+◌, ◌-◌, ◌%◌, ◌≤◌, ◌<◌, ◌==◌, ◌&&◌, not, nat_lt, nat_le, Bool, true, false, cond, ◌⊎◌, inl, inr, List, [], ◌∷◌, Option, Some, None, Result, Ok, Err, refl, sym, ap, subst, ◌∙◌, arith}
-use Rattle.std.proofs.lemmas.Bool.{eq-eqb, ne_eqb, le-leb, le-ltb, and_from, and_left, cond-true, cond-false}
+use Rattle.std.proofs.Common.{◌≡◌, ℕ, ◌+◌, ◌-◌, ◌%◌, ◌≤◌, ◌<◌, ◌==◌, nat_le, true, false, inl, inr, List, [], ◌∷◌, None, Ok, refl, sym, ap, subst, ◌∙◌, arith}
+use Rattle.std.proofs.lemmas.Bool.{eq-eqb, ne_eqb, le-leb, and_from, and_left}
 use Rattle.pod_codec.specs.declared.pod.Pod.{Pod}
 use Rattle.pod_codec.specs.declared.pod.Prop.{Prop}
 use Rattle.pod_codec.specs.declared.pod.Control.{Control}
@@ -8,10 +8,8 @@ use Rattle.pod_codec.specs.declared.pod.ChoiceKind.{ChoiceKind}
 use Rattle.pod_codec.specs.declared.pod.ChoiceKind.TheVariants as k
 use Rattle.pod_codec.specs.declared.pod.Pod.TheOpen.{Pod-F}
 use Rattle.pod_codec.specs.declared.pod.Pod.TheViews.{out-Pod, roll-Pod, roll-out-Pod}
-use Rattle.pod_codec.specs.declared.fault.PodFault.{PodFault}
-use Rattle.pod_codec.specs.declared.fault.PodFault.TheVariants.{TypeUnknown, Size, Uneven}
 use Rattle.pod_codec.specs.PodType.{child_size, choice_number}
-use Rattle.pod_codec.specs.Places.{u32_at, AreAfter, IsScalarAt, IsElementAt, HasChildren, HasNone, HasSome}
+use Rattle.pod_codec.specs.Places.{u32_at, AreAfter, IsScalarAt, IsElementAt, HasChildren}
 use Rattle.pod_codec.specs.Checks.{first_failed, children_checks}
 use Rattle.pod_codec.proofs.Decoder.{scalar, is_bare, child_of, values_of, element_step, list_of, run, kind_of}
 use Rattle.pod_codec.proofs.DecoderLemmas.{reaches, run_found}

@@ -11,3 +11,6 @@ pub mod FormLemmas
 pub mod PlaceLemmas
 pub mod ElementLemmas
 pub mod CanonicalLemmas
+pub mod AnswerLemmas
+pub mod LeafAnswerLemmas
+pub mod WholeAnswerLemmas

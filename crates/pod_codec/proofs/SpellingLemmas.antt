@@ -1,19 +1,19 @@
 -- A front spells one value, or has one first fault, and never both.
-use Rattle.std.proofs.Common.{◌≡◌, ℕ, zero, suc, ◌+◌, ◌-◌, ◌≤◌, ◌<◌, nat_lt, ◌⊎◌, inl, inr, Bool, List, length, Some, None, Option, Result, Ok, Err, refl, sym, ap, ◌∙◌, arith}
+use Rattle.std.proofs.Common.{◌≡◌, ℕ, zero, suc, ◌+◌, ◌≤◌, ◌<◌, nat_lt, ◌⊎◌, inl, inr, List, length, None, Result, Ok, Err, refl, sym, ap, ◌∙◌, arith}
 use Rattle.std.proofs.lemmas.Bool.{lt-ltb, le-ltb, cond-true, cond-false}
 use Rattle.std.specs.Prelude.{IfOk}
 use Rattle.pod_codec.specs.declared.pod.Pod.{Pod}
 use Rattle.pod_codec.specs.declared.pod.Pod.TheOpen.{Pod-F}
 use Rattle.pod_codec.specs.declared.pod.Pod.TheViews.{out-Pod, roll-out-Pod}
 use Rattle.pod_codec.specs.declared.fault.PodFault.{PodFault}
-use Rattle.pod_codec.specs.declared.fault.PodFault.TheVariants.{Short, Memory}
+use Rattle.pod_codec.specs.declared.fault.PodFault.TheVariants.{Short}
 use Rattle.pod_codec.specs.Framing.{pad8}
-use Rattle.pod_codec.specs.Places.{u32_at, AreAfter}
+use Rattle.pod_codec.specs.Places.{u32_at}
 use Rattle.pod_codec.specs.Spelling.{IsPropAt, SpellsAt, FrontSpells}
-use Rattle.pod_codec.specs.Checks.{Check, first_failed, header_checks, body_checks, outer_checks}
-use Rattle.pod_codec.specs.FirstFault.{IsFieldFault, IsPropFault, IsHeldFault, FaultsAt, Fails, IsFirstFault}
+use Rattle.pod_codec.specs.Checks.{first_failed, header_checks}
+use Rattle.pod_codec.specs.FirstFault.{IsHeldFault, FaultsAt, Fails, IsFirstFault}
 use Rattle.pod_codec.specs.ReadAnswer.{IsReadAs, IsRefusedAs}
-use Rattle.pod_codec.proofs.Decoder.{mapped, run, prop_of, prop_step, body_of, decoded, decoded_front}
+use Rattle.pod_codec.proofs.Decoder.{mapped, prop_of, prop_step, body_of, decoded, decoded_front}
 use Rattle.pod_codec.proofs.DecoderLemmas.{run_fault}
 use Rattle.pod_codec.proofs.BodyLemmas.{IsFixed, pod_fixed, prop_fixed, body_found, checks_found}
 use Rattle.pod_codec.proofs.ReadingLemmas.{outer_good}

@@ -9,7 +9,7 @@ ghost use Rattle.pod_codec.specs.Places.{u32_at, AreAfter, IsScalarAt, HasChildr
 ghost use Rattle.pod_codec.specs.Spelling.{IsPropAt, IsBodyAt, SpellsAt, FrontSpells};
 ghost use Rattle.pod_codec.specs.Checks.{header_checks, body_checks, text_checks, array_checks, choice_checks, first_failed, Answers};
 ghost use Rattle.pod_codec.specs.FirstFault.{IsFieldFault, IsPropFault, IsBodyFault, FaultsAt, IsFirstFault, Fails};
-ghost use Rattle.pod_codec.specs.ReadAnswer.{IsReadAs, IsRefusedAs};
+ghost use Rattle.pod_codec.specs.ReadAnswer.{HasAnswer, IsReadAs, IsRefusedAs};
 ghost use Rattle.pod_codec.specs.PodValue.{canonical};
 ghost use Rattle.pod_codec.specs.Writable.{IsWritable};
 ghost use Rattle.pod_codec.specs.Numbers.{NumbersFit};
@@ -341,7 +341,8 @@ pub fn read_pod(alloc: Global, bytes: &[u8]) -> Result<(Pod, usize), PodFault>
     ensures found { IfOk result (λ x. FrontSpells bytes.now x.0 x.1) }
     ensures fault { Fails result (IsFirstFault bytes.now) }
 
-    // And no other answer is right.
+    // Each input has one of both, and no other answer is right.
+    ensures one { HasAnswer bytes.now }
     ensures only_found { (pod : Pod) (size : ℕ) → FrontSpells bytes.now pod size → IsReadAs result pod size }
     ensures only_fault { (first : PodFault) → IsFirstFault bytes.now first → IsRefusedAs result first }
 

@@ -1,9 +1,13 @@
--- An answer that is right is the only one; the canonical spelling spells, and what is spelled has sound choices.
+-- There is an answer, and one that is right is the only one; the canonical spelling spells, and what is spelled has sound choices.
 use Rattle.std.proofs.Common.{length}
 use Rattle.pod_codec.specs.PodValue.{canonical}
 use Rattle.pod_codec.proofs.SpellingLemmas.{only_read, only_refused, only_sound}
 use Rattle.pod_codec.proofs.CanonicalLemmas.{canonical_front}
+use Rattle.pod_codec.proofs.WholeAnswerLemmas.{has_answer}
 use Rattle.pod_codec.proofs.reading.read_pod.Goals as goal
+
+pub returns-clause-one : goal.returns-clause-one
+returns-clause-one c = has_answer c.args.bytes.now
 
 pub returns-clause-only_found : goal.returns-clause-only_found
 returns-clause-only_found c = λ pod size h. only_read c.front_of.result c.args.bytes.now c.front_of.ensures.found c.front_of.ensures.fault pod size h
