@@ -1,5 +1,4 @@
 pub mod WritingLemmas
-pub mod DecimalLemmas
 pub mod ReadingLemmas
 pub mod Decoder
 pub mod DecoderLemmas
