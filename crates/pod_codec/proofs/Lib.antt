@@ -8,8 +8,12 @@ pub mod SpellingLemmas
 pub mod ChoiceLemmas
 pub mod FormLemmas
 pub mod PlaceLemmas
+pub mod ScalarSpelledLemmas
 pub mod ElementLemmas
+pub mod HeldSpelledLemmas
 pub mod CanonicalLemmas
 pub mod AnswerLemmas
 pub mod LeafAnswerLemmas
+pub mod TypeCases
+pub mod BodyAnswerLemmas
 pub mod WholeAnswerLemmas
