@@ -1,3 +1,6 @@
 pub mod WritingLemmas
 pub mod DecimalLemmas
 pub mod ReadingLemmas
+pub mod ValueLemmas
+pub mod TotalityLemmas
+pub mod PodReadings

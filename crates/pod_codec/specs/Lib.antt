@@ -9,3 +9,4 @@ pub mod Places
 pub mod Spelling
 pub mod Checks
 pub mod FirstFault
+pub mod PodReading
