@@ -4,3 +4,8 @@ pub mod ReadingLemmas
 pub mod ValueLemmas
 pub mod TotalityLemmas
 pub mod PodReadings
+pub mod Decoder
+pub mod DecoderLemmas
+pub mod LeafLemmas
+pub mod BodyLemmas
+pub mod SpellingLemmas

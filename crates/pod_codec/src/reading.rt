@@ -1,12 +1,15 @@
 //! The value that bytes spell, or their first fault.
-ghost use Rattle.std.specs.Prelude.{◌≡◌, ◌+◌, ◌-◌, ◌≤◌, ◌<◌, ◌⊎◌, [], length, slice_index, slice_range, IfOk, IfSome, IsNone};
+ghost use Rattle.std.specs.Prelude.{◌≡◌, ℕ, ◌+◌, ◌-◌, ◌≤◌, ◌<◌, ◌⊎◌, [], length, slice_index, slice_range, IfOk, IfSome, IsNone};
 ghost use Rattle.pod_codec.specs.declared.pod.Pod.TheViews.{out-Pod, out-Prop};
+ghost use Rattle.pod_codec.specs.declared.pod.Pod.{Pod};
+ghost use Rattle.pod_codec.specs.declared.fault.PodFault.{PodFault};
 ghost use Rattle.pod_codec.specs.PodType.{child_size, choice_number, IsOther};
 ghost use Rattle.pod_codec.specs.Framing.{pad8};
 ghost use Rattle.pod_codec.specs.Places.{u32_at, AreAfter, IsScalarAt, HasChildren};
 ghost use Rattle.pod_codec.specs.Spelling.{IsPropAt, IsBodyAt, SpellsAt, FrontSpells};
 ghost use Rattle.pod_codec.specs.Checks.{header_checks, body_checks, text_checks, array_checks, choice_checks, first_failed, Answers};
 ghost use Rattle.pod_codec.specs.FirstFault.{IsFieldFault, IsPropFault, IsBodyFault, FaultsAt, IsFirstFault, Fails};
+ghost use Rattle.pod_codec.specs.ReadAnswer.{IsReadAs, IsRefusedAs};
 
 use crate::children::{children_at, scalar_at};
 use crate::containers::{MAX_BODY, MAX_DEPTH};
@@ -302,16 +305,8 @@ fn scalar_or_fault(bytes: &[u8], at: usize, size: usize, kind: u32) -> Result<Po
     Ok(scalar_at(bytes, at + 8, kind))
 }
 
-/// The value that the front of the bytes spells, and how long that front is with its padding.
-///
-/// Numbers are little-endian, padding may be anything, and any nonzero Bool is true. The outermost body has
-/// at most 1,048,576 bytes, and values stand at most 16 deep. A fault is the first one: a POD is checked for
-/// its depth, its header, its size (the outermost alone), its body, its type and then its contents, and what
-/// it holds is read in order. A Sequence is refused as a type that is not known. What stands behind the
-/// front is not looked at. Takes memory for the value alone, and time linear in the front.
-///
-/// Public source: PipeWire's documentation, "SPA POD"; `spa/pod/pod.h`.
-pub fn read_pod(alloc: Global, bytes: &[u8]) -> Result<(Pod, usize), PodFault>
+/// The value of the front and its length, or the first fault.
+fn front_of(alloc: Global, bytes: &[u8]) -> Result<(Pod, usize), PodFault>
     ensures found { IfOk result (λ x. FrontSpells bytes.now x.0 x.1) }
     ensures fault { Fails result (IsFirstFault bytes.now) }
 {
@@ -327,4 +322,24 @@ pub fn read_pod(alloc: Global, bytes: &[u8]) -> Result<(Pod, usize), PodFault>
         Ok((pod, length)) => Ok((pod, length)),
         Err(fault) => Err(fault),
     }
+}
+
+/// The value that the front of the bytes spells, and how long that front is with its padding.
+///
+/// Numbers are little-endian, padding may be anything, and any nonzero Bool is true. The outermost body has
+/// at most 1,048,576 bytes, and values stand at most 16 deep. A fault is the first one: a POD is checked for
+/// its depth, its header, its size (the outermost alone), its body, its type and then its contents, and what
+/// it holds is read in order. A Sequence is refused as a type that is not known. What stands behind the
+/// front is not looked at. Takes memory for the value alone, and time linear in the front.
+///
+/// Public source: PipeWire's documentation, "SPA POD"; `spa/pod/pod.h`.
+pub fn read_pod(alloc: Global, bytes: &[u8]) -> Result<(Pod, usize), PodFault>
+    ensures found { IfOk result (λ x. FrontSpells bytes.now x.0 x.1) }
+    ensures fault { Fails result (IsFirstFault bytes.now) }
+
+    // And no other answer is right.
+    ensures only_found { (pod : Pod) (size : ℕ) → FrontSpells bytes.now pod size → IsReadAs result pod size }
+    ensures only_fault { (first : PodFault) → IsFirstFault bytes.now first → IsRefusedAs result first }
+{
+    front_of(alloc, bytes)
 }

@@ -6,15 +6,12 @@ use Rattle.pod_codec.specs.declared.fault.PodFault.TheVariants as F
 use Rattle.pod_codec.specs.Spelling.{FrontSpells}
 use Rattle.pod_codec.specs.FirstFault.{IsFirstFault}
 use Rattle.pod_codec.specs.PodReading.{IsReading}
-use Rattle.pod_codec.proofs.PodReadings.{reading_of}
+use Rattle.pod_codec.proofs.PodReadings.{only_reading}
 use Rattle.pw_top.specs.declared.status.Status.{Status}
 use Rattle.pw_top.specs.declared.status.Status.TheVariants as S
 use Rattle.pw_top.specs.declared.status.PodWhy.TheVariants as P
 use Rattle.pw_top.specs.Ending.{is_plain, IsReadAt}
 use Rattle.pw_top.specs.PodFile.{pod_refusal, whole_pod, read_pod_file, pod_in}
-
-only_reading : (bytes : List ℕ) (reading : Result (Pod × ℕ) PodFault) → IsReading bytes reading → reading ≡ reading_of bytes
-only_reading bytes reading h = ?
 
 pub pod_read : (place : ℕ) (bytes : List ℕ) (pod : Pod) (size : ℕ) → FrontSpells bytes pod size → pod_in place bytes ≡ whole_pod place (length bytes) pod size
 unfolding pod_in
