@@ -9,7 +9,7 @@ use std::test::Fail;
 use wav_files::WavFault;
 
 #[test]
-fn words_of_the_first_path(rt: HostRuntime) -> Result<(), Fail> {
+fn words_outside_the_grammar(rt: HostRuntime) -> Result<(), Fail> {
     let table = [
         ("", 0, "usage 0\n"),
         ("play", 0, "usage 0\n"),
@@ -17,6 +17,9 @@ fn words_of_the_first_path(rt: HostRuntime) -> Result<(), Fail> {
         ("run -s", 1, "usage 1\n"),
         ("run s x", 2, "usage 2\n"),
         ("run s --loops 2", 2, "usage 2\n"),
+        ("dump", 1, "usage 1\n"),
+        ("dump -f", 1, "usage 1\n"),
+        ("dump f g", 2, "usage 2\n"),
     ];
     for (line, word, wanted) in table {
         let mut files = files_of(rt.alloc(), SCRIPT)?;

@@ -1,5 +1,8 @@
 pub mod WritingLemmas
 pub mod ReadingLemmas
+pub mod ValueLemmas
+pub mod TotalityLemmas
+pub mod PodReadings
 pub mod Decoder
 pub mod DecoderLemmas
 pub mod LeafLemmas

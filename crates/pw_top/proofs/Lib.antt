@@ -5,6 +5,7 @@ pub mod FirstStoresLemmas
 pub mod FirstTextLemmas
 pub mod HeadlineLemmas
 pub mod PieceLemmas
+pub mod PodFileLemmas
 pub mod RunLemmas
 pub mod StatusLineLemmas
 pub mod StoppingLemmas

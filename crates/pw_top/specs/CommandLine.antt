@@ -8,9 +8,11 @@ use Rattle.pw_top.specs.declared.usage.Command.TheVariants as C
 use Rattle.pw_top.specs.Answer.{Answer, refused}
 use Rattle.pw_top.specs.Usage.{Words, command_of}
 use Rattle.pw_top.specs.Run.{run_answer}
+use Rattle.pw_top.specs.Dump.{dump_answer}
 
 abbrev pub command_answer : Command → List Event → Names → Answer
 command_answer (C.Run c) history names = run_answer names c.script
+command_answer (C.Dump c) history names = dump_answer names c.file
 
 abbrev pub read_answer : Result Command Status → List Event → Names → Answer
 read_answer (Ok command) history names = command_answer command history names

@@ -1,6 +1,7 @@
 pub mod Answer
 pub mod CommandLine
 pub mod Delivery
+pub mod Dump
 pub mod Ending
 pub mod FirstEpoch
 pub mod FirstLines
@@ -8,6 +9,7 @@ pub mod FirstPlan
 pub mod FirstStores
 pub mod Following
 pub mod Headline
+pub mod PodFile
 pub mod Run
 pub mod StatusLine
 pub mod Usage

@@ -1,3 +1,4 @@
 //! The commands.
 
+pub mod dump;
 pub mod run;

@@ -7,6 +7,7 @@ mod first_lines;
 mod first_plan;
 mod first_run;
 mod loading;
+mod pod_file;
 mod preparing;
 mod status;
 mod status_line;

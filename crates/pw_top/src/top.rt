@@ -34,6 +34,7 @@ impl Prepare for Command {
     ) -> Result<Work, Status> {
         match self {
             Command::Run(command) => command.prepare(rt, alloc, files, gate, ticker, history),
+            Command::Dump(command) => command.prepare(rt, alloc, files, gate, ticker, history),
         }
     }
 }

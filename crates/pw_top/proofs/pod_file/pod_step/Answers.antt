@@ -1,0 +1,19 @@
+-- What was read is the file's value, or the refusal of its bytes.
+use Rattle.std.proofs.Common.{◌≡◌, ◌==◌, ◌≤◌, true, false, cond, length, refl, sym, ap, ◌∙◌, inl, inr, Result, Ok, Err, arith}
+use Rattle.pod_codec.specs.declared.pod.Pod.{Pod}
+use Rattle.pod_codec.specs.declared.fault.PodFault.TheVariants.{Memory}
+use Rattle.pod_codec.proofs.PodReadings.{front_fits}
+use Rattle.pw_top.proofs.PodFileLemmas.{pod_read, refused, read_whole, read_rest}
+use Rattle.pw_top.proofs.pod_file.pod_step.Goals as goal
+
+pub overflow_cast-result : goal.overflow_cast-result
+overflow_cast-result c = grind (arith, (front_fits c.args.bytes.now c.in-Ok.pod c.in-Ok.length c.in-Ok.ensures.found).1)
+
+pub returns-in-Err-clause-told : goal.returns-in-Err-clause-told
+returns-in-Err-clause-told c = refused c.args.place c.args.bytes.now c.in-Err.fault c.refusal_of.result c.refusal_of.ensures c.in-Err.ensures.fault
+
+pub returns-then-length-bytes-clause-told : goal.returns-then-length-bytes-clause-told
+returns-then-length-bytes-clause-told c = read_whole c.args.place c.args.bytes.now c.in-Ok.pod c.in-Ok.length c.in-Ok.ensures.found c.if-length-bytes.true
+
+pub returns-else-length-bytes-clause-told : goal.returns-else-length-bytes-clause-told
+returns-else-length-bytes-clause-told c = inl (read_rest c.args.place c.args.bytes.now c.in-Ok.pod c.in-Ok.length c.in-Ok.ensures.found c.if-length-bytes.false, refl)

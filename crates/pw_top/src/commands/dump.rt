@@ -1,0 +1,72 @@
+//! `dump FILE`: the file is loaded and read, and its value is put as text.
+#![tactic(auto, using(crate::proofs::EndingLemmas::following))]
+
+ghost use Rattle.std.specs.Prelude.{◌≡◌, [], length};
+ghost use Rattle.pw_top.specs.Answer.{given};
+ghost use Rattle.pw_top.specs.Dump.{dump_work, dump_loaded};
+ghost use Rattle.pw_top.specs.Ending.{Ends, CommandCause, IsDeliverable};
+
+use crate::loading::load_step;
+use crate::pod_file::pod_step;
+use crate::preparing::Prepare;
+use crate::status::Status;
+use crate::work::Work;
+use pod_codec::{Pod, dump_text};
+use pw_base::{Event, Files, Gate, Items, Text, Ticker, Which};
+use std::alloc::Global;
+use std::sync::Wait;
+use std::thread::Threads;
+
+const POD_BYTES: u64 = 1_048_584;
+
+/// Dumps the POD of this file.
+#[derive(Drop)]
+pub struct DumpFile {
+    pub file: Text,
+}
+
+impl Prepare for DumpFile {
+    ghost use Rattle.pw_top.specs.Dump.{dump_answer};
+
+    ghost answer = { λ c history names. dump_answer names c.file };
+
+    fn prepare<R: Threads + Wait + Sync, F: Files, G: Gate + Sync, K: Ticker>(
+        self,
+        _rt: &R,
+        alloc: Global,
+        files: &mut F,
+        _gate: &G,
+        _ticker: &mut K,
+        _history: &mut Items<Event>,
+    ) -> Result<Work, Status> {
+        match load_step(alloc, files, 1, &self.file, POD_BYTES, Which::PodBytes) {
+            Err(status) => Err(status),
+            Ok(bytes) => dump_bytes(alloc, &bytes),
+        }
+    }
+}
+
+// The text of a value, and nothing to store.
+fn dump_of(alloc: Global, pod: &Pod) -> Result<Work, Status>
+    ensures done { Ends (given (dump_work pod.now)) result }
+    ensures cause { CommandCause IsDeliverable 0 0 result }
+{
+    match dump_text(alloc, pod) {
+        Err(_memory) => Err(Status::Memory),
+        Ok(text) => Ok(Work {
+            stores: Items::new(alloc),
+            text,
+        }),
+    }
+}
+
+// What a file gives that was loaded.
+fn dump_bytes(alloc: Global, bytes: &Items<u8>) -> Result<Work, Status>
+    ensures done { Ends (dump_loaded bytes.now) result }
+    ensures cause { CommandCause IsDeliverable 0 0 result }
+{
+    match pod_step(alloc, 1, bytes.as_slice()) {
+        Err(status) => Err(status),
+        Ok(pod) => dump_of(alloc, &pod),
+    }
+}

@@ -1,0 +1,47 @@
+//! A file that holds one POD.
+ghost use Rattle.std.specs.Prelude.{◌≡◌, [], length};
+ghost use Rattle.pw_top.specs.PodFile.{pod_refusal, pod_in};
+ghost use Rattle.pw_top.specs.Ending.{Came, CommandCause};
+
+use crate::status::{PodWhy, Status};
+use pod_codec::{Pod, PodFault, read_pod};
+use std::alloc::Global;
+
+// The refusal of bytes that are no POD.
+fn refusal_of(place: u32, fault: PodFault) -> Status
+    ensures { result ≡ pod_refusal place fault }
+{
+    let why = match fault {
+        PodFault::Short { offset } => PodWhy::Short { offset },
+        PodFault::TypeUnknown { offset, number } => PodWhy::TypeUnknown { offset, number },
+        PodFault::Size { offset } => PodWhy::Size { offset },
+        PodFault::Uneven { offset } => PodWhy::Uneven { offset },
+        PodFault::Deep { offset } => PodWhy::Deep { offset },
+        PodFault::Large { size } => PodWhy::Large { size },
+        PodFault::Nul { offset } => PodWhy::Nul { offset },
+        PodFault::Memory => return Status::Memory,
+    };
+    Status::Pod { place, why }
+}
+
+/// The value of a file that is one POD, or why it is refused at this place.
+pub fn pod_step(alloc: Global, place: u32, bytes: &[u8]) -> Result<Pod, Status>
+    ensures told { Came (record { loads = []; outcome = pod_in place bytes.now }) result }
+    ensures cause { CommandCause (λ pod. Unit {0}) 0 0 result }
+{
+    match read_pod(alloc, bytes) {
+        Err(fault) => Err(refusal_of(place, fault)),
+        Ok((pod, length)) => {
+            if length == bytes.len() {
+                Ok(pod)
+            } else {
+                Err(Status::Pod {
+                    place,
+                    why: PodWhy::Rest {
+                        offset: length as u32,
+                    },
+                })
+            }
+        }
+    }
+}
