@@ -1,8 +1,5 @@
 pub mod WritingLemmas
 pub mod ReadingLemmas
-pub mod ValueLemmas
-pub mod TotalityLemmas
-pub mod PodReadings
 pub mod Decoder
 pub mod DecoderLemmas
 pub mod LeafLemmas
@@ -20,3 +17,4 @@ pub mod LeafAnswerLemmas
 pub mod TypeCases
 pub mod BodyAnswerLemmas
 pub mod WholeAnswerLemmas
+pub mod PodReadings

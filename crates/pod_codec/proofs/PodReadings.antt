@@ -7,22 +7,20 @@ use Rattle.pod_codec.specs.FirstFault.{IsFirstFault}
 use Rattle.pod_codec.specs.PodReading.{IsReading}
 use Rattle.pod_codec.proofs.Decoder.{decoded_front}
 use Rattle.pod_codec.proofs.SpellingLemmas.{front_decoded, first_decoded}
-use Rattle.pod_codec.proofs.TotalityLemmas.{one_of_both}
+use Rattle.pod_codec.specs.ReadAnswer.{HasAnswer}
+use Rattle.pod_codec.proofs.WholeAnswerLemmas.{has_answer}
 
-abbrev Both : List ℕ → Type 0
-Both bytes = ((pod : Pod) × (size : ℕ) × FrontSpells bytes pod size) ⊎ ((fault : PodFault) × IsFirstFault bytes fault)
-
-of_both : (bytes : List ℕ) → Both bytes → (reading : Result (Pod × ℕ) PodFault) × IsReading bytes reading
+of_both : (bytes : List ℕ) → HasAnswer bytes → (reading : Result (Pod × ℕ) PodFault) × IsReading bytes reading
 of_both bytes (inl x) = (Ok (x.0, x.1), x.2)
 of_both bytes (inr bad) = (Err bad.0, bad.1)
 
 -- the reading of these bytes
 pub reading_of : List ℕ → Result (Pod × ℕ) PodFault
-reading_of bytes = (of_both bytes (one_of_both bytes)).0
+reading_of bytes = (of_both bytes (has_answer bytes)).0
 
 pub is_reading : (bytes : List ℕ) → IsReading bytes (reading_of bytes)
 unfolding reading_of
-is_reading bytes = (of_both bytes (one_of_both bytes)).1
+is_reading bytes = (of_both bytes (has_answer bytes)).1
 
 -- a spelling stands within the bytes, and is not long
 pub front_fits : (bytes : List ℕ) (pod : Pod) (size : ℕ) → FrontSpells bytes pod size → (size ≤ length bytes) × (size ≤ 1048584)
