@@ -1,3 +1,15 @@
 pub mod WritingLemmas
-pub mod DecimalLemmas
 pub mod ReadingLemmas
+pub mod Decoder
+pub mod DecoderLemmas
+pub mod LeafLemmas
+pub mod BodyLemmas
+pub mod SpellingLemmas
+pub mod ChoiceLemmas
+pub mod FormLemmas
+pub mod PlaceLemmas
+pub mod ElementLemmas
+pub mod CanonicalLemmas
+pub mod AnswerLemmas
+pub mod LeafAnswerLemmas
+pub mod WholeAnswerLemmas

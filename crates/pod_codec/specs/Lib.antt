@@ -9,3 +9,6 @@ pub mod Places
 pub mod Spelling
 pub mod Checks
 pub mod FirstFault
+pub mod SoundChoices
+pub mod ReadAnswer
+pub mod Numbers
