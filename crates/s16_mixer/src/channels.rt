@@ -5,10 +5,10 @@ ghost use Rattle.pw_base.specs.Samples.{picked};
 use crate::plain;
 
 /// Stereo frames in a lane.
-const FRAMES: usize = 8;
+const FRAMES: usize = 64;
 
 /// Samples in a lane.
-const LANE: usize = 16;
+const LANE: usize = 128;
 
 /// Writes channel 0 of each stereo frame of `s` to `left` and channel 1 to `right`. Takes no memory;
 /// one pass.
@@ -21,7 +21,11 @@ pub fn split(s: &[i16], left: &mut [i16], right: &mut [i16])
     let (lanes, rest) = s.as_chunks::<LANE>();
     for k in 0..lanes.len() {
         let (start, end) = (k * FRAMES, (k + 1) * FRAMES);
-        plain::split(lanes[k].as_slice(), &mut left[start..end], &mut right[start..end]);
+        plain::split(
+            lanes[k].as_slice(),
+            &mut left[start..end],
+            &mut right[start..end],
+        );
     }
     let done = lanes.len() * FRAMES;
     plain::split(rest, &mut left[done..], &mut right[done..]);
@@ -37,7 +41,12 @@ fn map_pairs(list: &[u32], s: &[i16], to: &mut [i16])
 {
     let (lanes, rest) = s.as_chunks::<LANE>();
     for k in 0..lanes.len() {
-        plain::map_channels(2, list, lanes[k].as_slice(), &mut to[k * LANE..(k + 1) * LANE]);
+        plain::map_channels(
+            2,
+            list,
+            lanes[k].as_slice(),
+            &mut to[k * LANE..(k + 1) * LANE],
+        );
     }
     plain::map_channels(2, list, rest, &mut to[lanes.len() * LANE..]);
 }

@@ -4,7 +4,7 @@ ghost use Rattle.pw_base.specs.Samples.{clamped};
 
 use crate::plain;
 
-const LANE: usize = 16;
+const LANE: usize = 128;
 
 /// Writes each sum, limited to -32768 and 32767, to its place in `to`. Takes no memory; one pass.
 pub fn clamp_out(sum: &[i32], to: &mut [i16])

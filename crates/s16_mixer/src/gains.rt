@@ -5,7 +5,7 @@ ghost use Rattle.s16_mixer.specs.Ranges.{IsGain};
 
 use crate::plain;
 
-const LANE: usize = 16;
+const LANE: usize = 128;
 
 /// Writes each sample by the gain `g` / 256, rounded towards minus infinity and clamped, to its place in
 /// `to`. Takes no memory; one pass.

@@ -4,9 +4,10 @@ ghost use Rattle.pw_base.specs.Samples.{peak_of};
 
 use crate::plain;
 
-const LANE: usize = 16;
+const LANE: usize = 128;
 
 /// Raises each top to the absolute value of the sample in its place.
+#[inline(always)]
 fn raise(tops: &mut [u16], s: &[i16])
     requires lengths { length tops.old ≡ length s.now }
     requires limit { All (λ top. top ≤ 32768) tops.old }

@@ -5,7 +5,7 @@ ghost use Rattle.s16_mixer.specs.Ranges.{HasRoom};
 
 use crate::plain;
 
-const LANE: usize = 16;
+const LANE: usize = 128;
 
 /// Adds each sample to the sum in its place, with no clamp. Sums of up to 255 samples have room for one
 /// more. Takes no memory; one pass.

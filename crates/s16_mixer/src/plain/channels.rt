@@ -53,6 +53,7 @@ pub fn map_channels(channels: usize, list: &[u32], s: &[i16], to: &mut [i16])
 
 /// Writes channel 0 of each stereo frame of `s` to `left` and channel 1 to `right`. Takes no memory;
 /// one pass.
+#[inline(always)]
 pub fn split(s: &[i16], left: &mut [i16], right: &mut [i16])
     requires length_left { length s.now ≡ 2 * length left.old }
     requires length_right { length s.now ≡ 2 * length right.old }

@@ -10,6 +10,7 @@ fn limit(sum: i32) -> i16
 }
 
 /// Writes each sum, limited to -32768 and 32767, to its place in `to`. Takes no memory; one pass.
+#[inline(always)]
 pub fn clamp_out(sum: &[i32], to: &mut [i16])
     requires { length sum.now ≡ length to.old }
     ensures { to.new ≡ map clamped sum.now }

@@ -12,6 +12,7 @@ pub fn higher(top: u16, x: i16) -> u16
 }
 
 /// The greatest absolute value of the samples, 0 of none. Takes no memory; one pass.
+#[inline(always)]
 pub fn peak(s: &[i16]) -> u32
     ensures value { result ≡ peak_of s.now }
     ensures limit { result ≤ 32768 }

@@ -13,6 +13,7 @@ fn plus(sum: i32, x: i16) -> i32
 
 /// Adds each sample to the sum in its place, with no clamp. Sums of up to 255 samples have room for one
 /// more. Takes no memory; one pass.
+#[inline(always)]
 pub fn mix_into(sum: &mut [i32], s: &[i16])
     requires lengths { length sum.old ≡ length s.now }
     requires room { All HasRoom sum.old }

@@ -3,4 +3,4 @@ use Rattle.pw_base.specs.Samples.{picked}
 use Rattle.s16_mixer.proofs.channels.map_pairs.Given as goal
 
 abbrev pub invariant-loop-k : goal.invariant-loop-k
-invariant-loop-k l = l.to ≡ picked 2 l.list (take (l.k * 16) l.s) ++ drop (l.k * 16) l.fn.to
+invariant-loop-k l = l.to ≡ picked 2 l.list (take (l.k * 128) l.s) ++ drop (l.k * 128) l.fn.to

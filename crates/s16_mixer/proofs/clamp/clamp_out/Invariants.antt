@@ -3,4 +3,4 @@ use Rattle.pw_base.specs.Samples.{clamped}
 use Rattle.s16_mixer.proofs.clamp.clamp_out.Given as goal
 
 abbrev pub invariant-loop-k : goal.invariant-loop-k
-invariant-loop-k l = l.to ≡ map clamped (take (l.k * 16) l.sum) ++ drop (l.k * 16) l.fn.to
+invariant-loop-k l = l.to ≡ map clamped (take (l.k * 128) l.sum) ++ drop (l.k * 128) l.fn.to

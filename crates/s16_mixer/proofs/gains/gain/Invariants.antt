@@ -3,4 +3,4 @@ use Rattle.pw_base.specs.Samples.{scaled}
 use Rattle.s16_mixer.proofs.gains.gain.Given as goal
 
 abbrev pub invariant-loop-k : goal.invariant-loop-k
-invariant-loop-k l = l.to ≡ map (scaled l.g) (take (l.k * 16) l.s) ++ drop (l.k * 16) l.fn.to
+invariant-loop-k l = l.to ≡ map (scaled l.g) (take (l.k * 128) l.s) ++ drop (l.k * 128) l.fn.to

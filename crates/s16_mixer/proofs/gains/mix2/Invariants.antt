@@ -4,4 +4,4 @@ use Rattle.pw_base.specs.Samples.{mixed}
 use Rattle.s16_mixer.proofs.gains.mix2.Given as goal
 
 abbrev pub invariant-loop-k : goal.invariant-loop-k
-invariant-loop-k l = l.to ≡ map (λ p. mixed l.ga l.gb p.0 p.1) (take (l.k * 16) (zip l.a l.b)) ++ drop (l.k * 16) l.fn.to
+invariant-loop-k l = l.to ≡ map (λ p. mixed l.ga l.gb p.0 p.1) (take (l.k * 128) (zip l.a l.b)) ++ drop (l.k * 128) l.fn.to

@@ -5,39 +5,40 @@ use Rattle.std.proofs.lemmas.Slice.Zip.{length-zip}
 use Rattle.std.proofs.lemmas.Grind.{common_steps}
 use Rattle.pw_base.specs.Samples.{summed}
 use Rattle.s16_mixer.specs.Ranges.{HasRoom}
-use Rattle.s16_mixer.proofs.LaneLemmas.{lane_at, lane_read, lane_turn, rest_turn, zip_lane, zip_drop, lane_untouched}
+use Rattle.s16_mixer.proofs.LaneLemmas.{lane_fits, lane_read, lane_turn, rest_turn, zip_lane, zip_drop, lane_untouched}
 use Rattle.s16_mixer.proofs.summing.mix_into.Goals as goal
 
 pub mix_into-requires-clause-lengths : goal.mix_into-requires-clause-lengths
 mix_into-requires-clause-lengths c =
-    let lane = lane_at 16 (length c.args.s.now / 16) c.args.s.now c.loop-k.k [] (omega (arith, c.loop-k-test.true, c.as_chunks.ensures.front_len)) in
-    grind (arith, common_steps, lane)
+    let lane = lane_read 128 c.args.s.now c.as_chunks.result.0.now c.loop-k.k c.as_slice.result.now c.as_chunks.ensures.front c.as_chunks.ensures.front_len c.loop-k-test.true c.as_slice.ensures in
+    sym (lane_fits c.args.s.now c.as_slice.result.now c.loop-k.sum (c.loop-k.k * 128) ((c.loop-k.k + 1) * 128 - c.loop-k.k * 128) 128 lane
+    (omega (arith, c.loop-k-test.true, c.as_chunks.ensures.front_len)) (omega (arith, c.loop-k.auto.sum, c.requires.lengths)) (omega arith))
 
 pub mix_into-requires-clause-room : goal.mix_into-requires-clause-room
 mix_into-requires-clause-room c =
-    let n = c.loop-k.k * 16 in
+    let n = c.loop-k.k * 128 in
     let pairs = length-zip c.args.sum.now c.args.s.now in
-    let same = lane_untouched (λ (p : ℤ × ℤ). p.0 +ℤ p.1) (zip c.args.sum.now c.args.s.now) c.args.sum.now c.loop-k.sum n ((c.loop-k.k + 1) * 16 - n) c.loop-k.invariant
+    let same = lane_untouched (λ (p : ℤ × ℤ). p.0 +ℤ p.1) (zip c.args.sum.now c.args.s.now) c.args.sum.now c.loop-k.sum n ((c.loop-k.k + 1) * 128 - n) c.loop-k.invariant
     (omega (arith, pairs, c.loop-k-test.true, c.as_chunks.ensures.front_len, c.requires.lengths)) in
-    subst (λ (xs : List ℤ). All HasRoom xs) (sym same) (All-take HasRoom ((c.loop-k.k + 1) * 16 - n) (drop n c.args.sum.now) (All-drop HasRoom n c.args.sum.now c.requires.room))
+    subst (λ (xs : List ℤ). All HasRoom xs) (sym same) (All-take HasRoom ((c.loop-k.k + 1) * 128 - n) (drop n c.args.sum.now) (All-drop HasRoom n c.args.sum.now c.requires.room))
 
 pub loop-k-preserved : goal.loop-k-preserved
 loop-k-preserved c =
     let add : ℤ × ℤ → ℤ = λ p. p.0 +ℤ p.1 in
     let k = c.loop-k.k in
-    let n = k * 16 in
+    let n = k * 128 in
     let pairs = length-zip c.args.sum.now c.args.s.now in
     let below : n ≤ length (zip c.args.sum.now c.args.s.now) = omega (arith, pairs, c.loop-k-test.true, c.as_chunks.ensures.front_len, c.requires.lengths) in
-    let w : (k + 1) * 16 - k * 16 ≡ 16 = omega arith in
-    let lane = lane_read 16 c.args.s.now c.as_chunks.result.0.now k c.as_slice.result.now c.as_chunks.ensures.front c.as_chunks.ensures.front_len c.loop-k-test.true c.as_slice.ensures in
-    let front = ap (λ m. take m (drop n c.loop-k.sum)) w ∙ lane_untouched add (zip c.args.sum.now c.args.s.now) c.args.sum.now c.loop-k.sum n 16 c.loop-k.invariant below in
-    let value = c.mix_into.ensures ∙ ap₂ summed front lane ∙ ap (map add) (zip_lane n 16 c.args.sum.now c.args.s.now) in
-    lane_turn add (zip c.args.sum.now c.args.s.now) c.args.sum.now c.loop-k.sum c.mix_into.new.sum n ((k + 1) * 16 - n) ((k + 1) * 16) 16 c.loop-k.invariant value below w (omega arith)
+    let w : (k + 1) * 128 - k * 128 ≡ 128 = omega arith in
+    let lane = lane_read 128 c.args.s.now c.as_chunks.result.0.now k c.as_slice.result.now c.as_chunks.ensures.front c.as_chunks.ensures.front_len c.loop-k-test.true c.as_slice.ensures in
+    let front = ap (λ m. take m (drop n c.loop-k.sum)) w ∙ lane_untouched add (zip c.args.sum.now c.args.s.now) c.args.sum.now c.loop-k.sum n 128 c.loop-k.invariant below in
+    let value = c.mix_into.ensures ∙ ap₂ summed front lane ∙ ap (map add) (zip_lane n 128 c.args.sum.now c.args.s.now) in
+    lane_turn add (zip c.args.sum.now c.args.s.now) c.args.sum.now c.loop-k.sum c.mix_into.new.sum n ((k + 1) * 128 - n) ((k + 1) * 128) 128 c.loop-k.invariant value below w (omega arith)
 
 pub mix_into-requires-2-clause-room : goal.mix_into-requires-2-clause-room
 mix_into-requires-2-clause-room c =
-    let n = length c.as_chunks.result.0.now * 16 in
-    let last : c.loop-k.k * 16 ≡ n = omega (arith, c.loop-k.auto.k-end, c.loop-k-test.false) in
+    let n = length c.as_chunks.result.0.now * 128 in
+    let last : c.loop-k.k * 128 ≡ n = omega (arith, c.loop-k.auto.k-end, c.loop-k-test.false) in
     let pair = zip c.args.sum.now c.args.s.now in
     let pairs = length-zip c.args.sum.now c.args.s.now in
     let below : n ≤ length pair = omega (arith, pairs, c.as_chunks.ensures.front_len, c.requires.lengths) in
@@ -48,14 +49,14 @@ mix_into-requires-2-clause-room c =
 pub returns : goal.returns
 returns c =
     let add : ℤ × ℤ → ℤ = λ p. p.0 +ℤ p.1 in
-    let n = length c.as_chunks.result.0.now * 16 in
+    let n = length c.as_chunks.result.0.now * 128 in
     let pair = zip c.args.sum.now c.args.s.now in
     let pairs = length-zip c.args.sum.now c.args.s.now in
     let below : n ≤ length pair = omega (arith, pairs, c.as_chunks.ensures.front_len, c.requires.lengths) in
-    let last : c.loop-k.k * 16 ≡ n = omega (arith, c.loop-k.auto.k-end, c.loop-k-test.false) in
+    let last : c.loop-k.k * 128 ≡ n = omega (arith, c.loop-k.auto.k-end, c.loop-k-test.false) in
     let done = c.loop-k.invariant ∙ ap (λ m. map add (take m pair) ++ drop m c.args.sum.now) last in
     let w = length c.loop-k.sum - n in
-    let rest : c.as_chunks.result.1.now ≡ drop n c.args.s.now = c.as_chunks.ensures.back ∙ ap (λ k. drop (k * 16) c.args.s.now) (sym c.as_chunks.ensures.front_len) in
+    let rest : c.as_chunks.result.1.now ≡ drop n c.args.s.now = c.as_chunks.ensures.back ∙ ap (λ k. drop (k * 128) c.args.s.now) (sym c.as_chunks.ensures.front_len) in
     let whole : take w (drop n c.args.sum.now) ≡ drop n c.args.sum.now = ap (λ k. take (k - n) (drop n c.args.sum.now)) c.loop-k.auto.sum ∙ take_rest c.args.sum.now n in
     let front = lane_untouched add pair c.args.sum.now c.loop-k.sum n w done below ∙ whole in
     let value = c.mix_into-2.ensures ∙ ap₂ summed front rest ∙ ap (map add) (zip_drop n c.args.sum.now c.args.s.now) in

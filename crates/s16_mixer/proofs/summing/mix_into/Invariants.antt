@@ -3,4 +3,4 @@ use Rattle.std.specs.List.{zip}
 use Rattle.s16_mixer.proofs.summing.mix_into.Given as goal
 
 abbrev pub invariant-loop-k : goal.invariant-loop-k
-invariant-loop-k l = l.sum ≡ map (λ p. p.0 +ℤ p.1) (take (l.k * 16) (zip l.fn.sum l.s)) ++ drop (l.k * 16) l.fn.sum
+invariant-loop-k l = l.sum ≡ map (λ p. p.0 +ℤ p.1) (take (l.k * 128) (zip l.fn.sum l.s)) ++ drop (l.k * 128) l.fn.sum
