@@ -4,10 +4,14 @@
 #![tactic(auto)]
 
 mod factors;
+mod kernels;
 mod pods;
 mod rounds;
 mod rows;
 mod waves;
+
+ghost use Rattle.std.specs.Prelude.{All};
+ghost use Rattle.s16_mixer.specs.Ranges.{IsGain};
 
 use crate::factors::factors_of;
 use crate::pods::{array_rounds, flat_rounds, nested_rounds, scan_rounds};
@@ -32,6 +36,17 @@ const KERNELS: [&str; 7] = [
     "peak",
 ];
 
+/// The same as plain loops.
+const PLAIN: [&str; 7] = [
+    "plain_gain",
+    "plain_mix2",
+    "plain_mix_into",
+    "plain_clamp_out",
+    "plain_map_channels",
+    "plain_split",
+    "plain_peak",
+];
+
 /// Those on files.
 const FILES: [&str; 3] = ["fill", "write_wav", "read_wav"];
 
@@ -54,6 +69,29 @@ fn number(word: &str) -> u32 {
     word.parse::<u32>().unwrap_or(0)
 }
 
+/// The checksum of a kernel's rounds, over lanes or by its plain twin; 0 for an unknown name.
+fn kernel_sum(
+    alloc: Global,
+    twin: bool,
+    kernel: &str,
+    n: usize,
+    repeats: u32,
+    factors: &[i32],
+) -> Result<u32, Memory>
+    requires { All IsGain factors.now }
+{
+    match kernel {
+        "gain" => gain_rounds(alloc, twin, n, repeats, factors),
+        "mix2" => pair_rounds(alloc, twin, n, repeats, factors),
+        "mix_into" => mix_rounds(alloc, twin, n, repeats),
+        "clamp_out" => clamp_rounds(alloc, twin, n, repeats),
+        "map_channels" => map_rounds(alloc, twin, n, repeats),
+        "split" => split_rounds(alloc, twin, n, repeats),
+        "peak" => peak_rounds(alloc, twin, n, repeats),
+        _ => Ok(0),
+    }
+}
+
 /// The checksum of one work's rounds; 0 for an unknown name.
 fn checksum_of(
     alloc: Global,
@@ -64,13 +102,6 @@ fn checksum_of(
 ) -> Result<u32, Memory> {
     let factors = factors_of(alloc, gains)?;
     match work {
-        "gain" => gain_rounds(alloc, n, repeats, factors.as_slice()),
-        "mix2" => pair_rounds(alloc, n, repeats, factors.as_slice()),
-        "mix_into" => mix_rounds(alloc, n, repeats),
-        "clamp_out" => clamp_rounds(alloc, n, repeats),
-        "map_channels" => map_rounds(alloc, n, repeats),
-        "split" => split_rounds(alloc, n, repeats),
-        "peak" => peak_rounds(alloc, n, repeats),
         "fill" => fill_rounds(alloc, n, repeats),
         "write_wav" => write_rounds(alloc, n, repeats),
         "read_wav" => read_rounds(alloc, n, repeats),
@@ -78,7 +109,10 @@ fn checksum_of(
         "read_nested" => nested_rounds(alloc, n, repeats),
         "read_flat" => flat_rounds(alloc, n, repeats),
         "read_array" => array_rounds(alloc, n, repeats),
-        _ => Ok(0),
+        _ => match work.strip_prefix("plain_") {
+            Some(kernel) => kernel_sum(alloc, true, kernel, n, repeats, factors.as_slice()),
+            None => kernel_sum(alloc, false, work, n, repeats, factors.as_slice()),
+        },
     }
 }
 
@@ -104,6 +138,7 @@ fn run_some<R: Print + Alloc<A = Global>>(rt: &R, works: &[&str], words: &[Strin
 /// Runs the work that the words name, or all. Whether all went well.
 fn run<R: Print + Alloc<A = Global>>(rt: &R, words: &[String]) -> bool {
     run_some(rt, KERNELS.as_slice(), words)
+        && run_some(rt, PLAIN.as_slice(), words)
         && run_some(rt, FILES.as_slice(), words)
         && run_some(rt, PODS.as_slice(), words)
 }

@@ -1,3 +1,5 @@
 pub mod ShiftLemmas
 pub mod RowLemmas
 pub mod FrameLemmas
+pub mod LaneLemmas
+pub mod PeakLemmas

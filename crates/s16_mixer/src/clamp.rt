@@ -1,20 +1,19 @@
-//! Sums limited to a sample's range.
+//! Sums limited to a sample's range, a lane at a time.
 ghost use Rattle.std.specs.Prelude.{◌≡◌, length, map};
 ghost use Rattle.pw_base.specs.Samples.{clamped};
 
-/// The sum, limited to a sample's range.
-fn limit(sum: i32) -> i16
-    ensures { result ≡ clamped sum }
-{
-    sum.clamp(-32768, 32767) as i16
-}
+use crate::plain;
+
+const LANE: usize = 128;
 
 /// Writes each sum, limited to -32768 and 32767, to its place in `to`. Takes no memory; one pass.
 pub fn clamp_out(sum: &[i32], to: &mut [i16])
     requires { length sum.now ≡ length to.old }
     ensures { to.new ≡ map clamped sum.now }
 {
-    for i in 0..sum.len() {
-        to[i] = limit(sum[i]);
+    let (lanes, rest) = sum.as_chunks::<LANE>();
+    for k in 0..lanes.len() {
+        plain::clamp_out(lanes[k].as_slice(), &mut to[k * LANE..(k + 1) * LANE]);
     }
+    plain::clamp_out(rest, &mut to[lanes.len() * LANE..]);
 }

@@ -1,41 +1,11 @@
-//! Samples by gains: factors in 1/256, rounded towards minus infinity and then clamped.
-ghost use Rattle.std.specs.Prelude.{◌≡◌, ◌≤◌, length, map, zip, ◌*ℤ◌, unsigned_abs};
-ghost use Rattle.std.specs.Int.{int_shr};
-ghost use Rattle.pw_base.specs.Samples.{clamped, scaled, mixed};
+//! Samples by gains, a lane at a time.
+ghost use Rattle.std.specs.Prelude.{◌≡◌, length, map, zip};
+ghost use Rattle.pw_base.specs.Samples.{scaled, mixed};
 ghost use Rattle.s16_mixer.specs.Ranges.{IsGain};
 
-/// A sample by a gain, before the rounding.
-fn product(g: i32, x: i16) -> i32
-    requires { IsGain g }
-    ensures value { result ≡ x *ℤ g }
-    ensures limit { unsigned_abs result ≤ 1073709056 }
-{
-    i32::from(x) * g
-}
+use crate::plain;
 
-/// What products add up to, in samples: rounded towards minus infinity, then clamped.
-fn rounded(wide: i32) -> i16
-    ensures { result ≡ clamped (int_shr wide 8) }
-{
-    (wide >> 8).clamp(-32768, 32767) as i16
-}
-
-/// One sample by a gain.
-fn scale(g: i32, x: i16) -> i16
-    requires { IsGain g }
-    ensures { result ≡ scaled g x }
-{
-    rounded(product(g, x))
-}
-
-/// A pair of samples, each by its gain, added and then rounded once.
-fn mix(ga: i32, gb: i32, a: i16, b: i16) -> i16
-    requires a { IsGain ga }
-    requires b { IsGain gb }
-    ensures { result ≡ mixed ga gb a b }
-{
-    rounded(product(ga, a) + product(gb, b))
-}
+const LANE: usize = 128;
 
 /// Writes each sample by the gain `g` / 256, rounded towards minus infinity and clamped, to its place in
 /// `to`. Takes no memory; one pass.
@@ -44,9 +14,11 @@ pub fn gain(g: i32, s: &[i16], to: &mut [i16])
     requires gain { IsGain g }
     ensures { to.new ≡ map (scaled g) s.now }
 {
-    for i in 0..s.len() {
-        to[i] = scale(g, s[i]);
+    let (lanes, rest) = s.as_chunks::<LANE>();
+    for k in 0..lanes.len() {
+        plain::gain(g, lanes[k].as_slice(), &mut to[k * LANE..(k + 1) * LANE]);
     }
+    plain::gain(g, rest, &mut to[lanes.len() * LANE..]);
 }
 
 /// Writes each pair of samples, `a` by `ga` / 256 and `b` by `gb` / 256, added, rounded towards minus
@@ -58,7 +30,11 @@ pub fn mix2(ga: i32, gb: i32, a: &[i16], b: &[i16], to: &mut [i16])
     requires gain_b { IsGain gb }
     ensures { to.new ≡ map (λ p. mixed ga gb p.0 p.1) (zip a.now b.now) }
 {
-    for i in 0..to.len() {
-        to[i] = mix(ga, gb, a[i], b[i]);
+    let (lanes, rest) = a.as_chunks::<LANE>();
+    let (others, other_rest) = b.as_chunks::<LANE>();
+    for k in 0..lanes.len() {
+        let (x, y) = (lanes[k].as_slice(), others[k].as_slice());
+        plain::mix2(ga, gb, x, y, &mut to[k * LANE..(k + 1) * LANE]);
     }
+    plain::mix2(ga, gb, rest, other_rest, &mut to[lanes.len() * LANE..]);
 }

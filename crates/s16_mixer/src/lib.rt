@@ -8,6 +8,7 @@ mod channels;
 mod clamp;
 mod gains;
 mod peaks;
+pub mod plain;
 mod summing;
 #[cfg(test)]
 mod tests;

@@ -1,14 +1,22 @@
-//! The greatest absolute value of samples.
-ghost use Rattle.std.specs.Prelude.{◌≡◌, ◌≤◌, max, unsigned_abs};
+//! The greatest absolute value of samples, a lane at a time.
+ghost use Rattle.std.specs.Prelude.{◌≡◌, ◌≤◌, max, length, map, zip, All, unsigned_abs};
 ghost use Rattle.pw_base.specs.Samples.{peak_of};
 
-/// The greater of a peak and the absolute value of one more sample.
-fn higher(top: u16, x: i16) -> u16
-    requires { top ≤ 32768 }
-    ensures value { result ≡ max top (unsigned_abs x) }
-    ensures limit { result ≤ 32768 }
+use crate::plain;
+
+const LANE: usize = 128;
+
+/// Raises each top to the absolute value of the sample in its place.
+#[inline(always)]
+fn raise(tops: &mut [u16], s: &[i16])
+    requires lengths { length tops.old ≡ length s.now }
+    requires limit { All (λ top. top ≤ 32768) tops.old }
+    ensures value { tops.new ≡ map (λ p. max p.0 (unsigned_abs p.1)) (zip tops.old s.now) }
+    ensures limit { All (λ top. top ≤ 32768) tops.new }
 {
-    top.max(x.unsigned_abs())
+    for j in 0..s.len() {
+        tops[j] = plain::higher(tops[j], s[j]);
+    }
 }
 
 /// The greatest absolute value of the samples, 0 of none. Takes no memory; one pass.
@@ -16,9 +24,14 @@ pub fn peak(s: &[i16]) -> u32
     ensures value { result ≡ peak_of s.now }
     ensures limit { result ≤ 32768 }
 {
-    let mut top = 0;
-    for x in s {
-        top = higher(top, *x);
+    let (lanes, rest) = s.as_chunks::<LANE>();
+    let mut tops = [0u16; LANE];
+    for k in 0..lanes.len() {
+        raise(tops.as_mut_slice(), lanes[k].as_slice());
     }
-    u32::from(top)
+    let mut top = plain::peak(rest);
+    for j in 0..LANE {
+        top = top.max(u32::from(tops[j]));
+    }
+    top
 }

@@ -1,15 +1,11 @@
-//! Samples added to sums.
-ghost use Rattle.std.specs.Prelude.{◌≡◌, length, All, ◌+ℤ◌};
+//! Samples added to sums, a lane at a time.
+ghost use Rattle.std.specs.Prelude.{◌≡◌, length, All};
 ghost use Rattle.pw_base.specs.Samples.{summed};
 ghost use Rattle.s16_mixer.specs.Ranges.{HasRoom};
 
-/// The sum with one sample more.
-fn plus(sum: i32, x: i16) -> i32
-    requires { HasRoom sum }
-    ensures { result ≡ sum +ℤ x }
-{
-    sum + i32::from(x)
-}
+use crate::plain;
+
+const LANE: usize = 128;
 
 /// Adds each sample to the sum in its place, with no clamp. Sums of up to 255 samples have room for one
 /// more. Takes no memory; one pass.
@@ -18,7 +14,9 @@ pub fn mix_into(sum: &mut [i32], s: &[i16])
     requires room { All HasRoom sum.old }
     ensures { sum.new ≡ summed sum.old s.now }
 {
-    for i in 0..s.len() {
-        sum[i] = plus(sum[i], s[i]);
+    let (lanes, rest) = s.as_chunks::<LANE>();
+    for k in 0..lanes.len() {
+        plain::mix_into(&mut sum[k * LANE..(k + 1) * LANE], lanes[k].as_slice());
     }
+    plain::mix_into(&mut sum[lanes.len() * LANE..], rest);
 }

@@ -1,4 +1,10 @@
-use crate::{clamp_out, gain, map_channels, mix_into, mix2, peak, split};
+ghost use Rattle.std.specs.Prelude.{◌≡◌, ◌<◌, length, IfOk};
+
+use crate::{clamp_out, gain, map_channels, mix_into, mix2, peak, plain, split};
+use pw_base::{Items, Memory};
+use std::alloc::Global;
+use std::process::Abort;
+use std::test::Fail;
 
 #[test]
 fn three_sources_are_added_and_clamped_once(rt: HostRuntime) {
@@ -66,4 +72,80 @@ fn channels_are_picked_and_peaks_found(rt: HostRuntime) {
     assert_eq!(rt; peak([5i16, -9].as_slice()), 9);
     assert_eq!(rt; peak([-32768i16, 32767].as_slice()), 32768);
     assert_eq!(rt; peak(&[]), 0);
+}
+
+// A row of so many samples, each unlike its neighbours.
+fn row_of(alloc: Global, n: usize) -> Result<Items<i16>, Memory>
+    ensures { IfOk result (λ row. length row ≡ n) }
+{
+    let mut row = Items::filled(alloc, n, 0)?;
+    let mut x: i16 = 7;
+    for place in row.as_mut_slice() {
+        x = x.wrapping_mul(25173).wrapping_add(13849);
+        *place = x;
+    }
+    Ok(row)
+}
+
+// Every kernel on rows of so many frames, over lanes and by its plain twin.
+fn twins_agree<R: AllocGlobal + Abort>(rt: &R, frames: usize) -> Result<(), Fail>
+    requires { frames < 1000 }
+{
+    let a = row_of(rt.alloc(), 2 * frames)?;
+    let mut one = row_of(rt.alloc(), 2 * frames)?;
+    let mut two = row_of(rt.alloc(), 2 * frames)?;
+    gain(200, a.as_slice(), one.as_mut_slice());
+    plain::gain(200, a.as_slice(), two.as_mut_slice());
+    assert!(rt; one.as_slice() == two.as_slice());
+    let list = [1u32, 0];
+    map_channels(2, list.as_slice(), a.as_slice(), one.as_mut_slice());
+    plain::map_channels(2, list.as_slice(), a.as_slice(), two.as_mut_slice());
+    assert!(rt; one.as_slice() == two.as_slice());
+    assert_eq!(rt; peak(a.as_slice()), plain::peak(a.as_slice()));
+    Ok(())
+}
+
+// The same of the kernels that add and limit.
+fn sums_agree<R: AllocGlobal + Abort>(rt: &R, frames: usize) -> Result<(), Fail>
+    requires { frames < 1000 }
+{
+    let a = row_of(rt.alloc(), 2 * frames)?;
+    let mut one = Items::filled(rt.alloc(), 2 * frames, 30000)?;
+    let mut two = Items::filled(rt.alloc(), 2 * frames, 30000)?;
+    mix_into(one.as_mut_slice(), a.as_slice());
+    plain::mix_into(two.as_mut_slice(), a.as_slice());
+    assert!(rt; one.as_slice() == two.as_slice());
+    let mut left = row_of(rt.alloc(), 2 * frames)?;
+    let mut right = row_of(rt.alloc(), 2 * frames)?;
+    clamp_out(one.as_slice(), left.as_mut_slice());
+    plain::clamp_out(one.as_slice(), right.as_mut_slice());
+    assert!(rt; left.as_slice() == right.as_slice());
+    mix2(200, -250, a.as_slice(), a.as_slice(), left.as_mut_slice());
+    plain::mix2(200, -250, a.as_slice(), a.as_slice(), right.as_mut_slice());
+    assert!(rt; left.as_slice() == right.as_slice());
+    Ok(())
+}
+
+// The halves of stereo frames, by lanes and by the plain loop.
+fn halves_agree<R: AllocGlobal + Abort>(rt: &R, frames: usize) -> Result<(), Fail>
+    requires { frames < 1000 }
+{
+    let a = row_of(rt.alloc(), 2 * frames)?;
+    let (mut left, mut right) = (row_of(rt.alloc(), frames)?, row_of(rt.alloc(), frames)?);
+    split(a.as_slice(), left.as_mut_slice(), right.as_mut_slice());
+    let (mut x, mut y) = (row_of(rt.alloc(), frames)?, row_of(rt.alloc(), frames)?);
+    plain::split(a.as_slice(), x.as_mut_slice(), y.as_mut_slice());
+    assert!(rt; left.as_slice() == x.as_slice());
+    assert!(rt; right.as_slice() == y.as_slice());
+    Ok(())
+}
+
+#[test]
+fn lanes_leave_what_plain_loops_leave(rt: HostRuntime) -> Result<(), Fail> {
+    for frames in [0, 1, 64, 65, 129] {
+        twins_agree(&rt, frames)?;
+        sums_agree(&rt, frames)?;
+        halves_agree(&rt, frames)?;
+    }
+    Ok(())
 }

@@ -1,28 +1,69 @@
-use Rattle.std.proofs.Common.{rules, arith, ◌≡◌, ◌∙◌, ap, suc, ◌+◌, ◌*◌, pos, get_or, w16, to_z, of_z, SFits}
-use Rattle.std.proofs.lemmas.Int.{to_z-of_z}
-use Rattle.pw_base.specs.Samples.{sample_at}
-use Rattle.s16_mixer.proofs.RowLemmas.{range_over}
-use Rattle.s16_mixer.proofs.FrameLemmas.{picked_one}
+use Rattle.std.proofs.Common.{◌≡◌, ℕ, suc, zero, ◌+◌, ◌*◌, ◌-◌, ◌/◌, ◌<◌, ◌≤◌, ◌∙◌, ◌++◌, List, length, take, drop, [], ◌∷◌, All, arith, sym, ap, ap₂}
+use Rattle.pw_base.specs.Samples.{picked}
+use Rattle.std.proofs.lemmas.Grind.{common_steps}
+use Rattle.s16_mixer.proofs.LaneLemmas.{lane_read, piece_length}
+use Rattle.s16_mixer.proofs.FrameLemmas.{frames_turn, frames_rest}
 use Rattle.s16_mixer.proofs.channels.split.Goals as goal
 
-pub loop-i-preserved : goal.loop-i-preserved
-loop-i-preserved c =
+-- a channel of stereo frames
+within : (c : ℕ) → c < 2 → All (λ n. n < 2) (c ∷ [])
+within c h i d lt = grind (arith, common_steps, h, lt)
+
+pub split-requires-clause-length_left : goal.split-requires-clause-length_left
+split-requires-clause-length_left c =
+    let k = c.loop-k.k in
+    let lane = lane_read 128 c.args.s.now c.as_chunks.result.0.now k c.as_slice.result.now c.as_chunks.ensures.front c.as_chunks.ensures.front_len c.loop-k-test.true c.as_slice.ensures in
+    let whole : k * 128 + 128 ≤ length c.args.s.now = omega (arith, c.as_chunks.ensures.front_len, c.loop-k-test.true) in
+    let half : k * 64 + 64 ≤ length c.loop-k.left = omega (arith, whole, c.loop-k.auto.left, c.requires.length_left) in
+    let w : (k + 1) * 64 - k * 64 ≡ 64 = omega arith in
+    ap length lane ∙ piece_length c.args.s.now (k * 128) 128 whole ∙ ap (λ n. 2 * n) (sym (piece_length c.loop-k.left (k * 64) 64 half))
+    ∙ ap (λ n. 2 * length (take n (drop (k * 64) c.loop-k.left))) (sym w)
+
+pub split-requires-clause-length_right : goal.split-requires-clause-length_right
+split-requires-clause-length_right c =
+    let k = c.loop-k.k in
+    let lane = lane_read 128 c.args.s.now c.as_chunks.result.0.now k c.as_slice.result.now c.as_chunks.ensures.front c.as_chunks.ensures.front_len c.loop-k-test.true c.as_slice.ensures in
+    let whole : k * 128 + 128 ≤ length c.args.s.now = omega (arith, c.as_chunks.ensures.front_len, c.loop-k-test.true) in
+    let half : k * 64 + 64 ≤ length c.loop-k.right = omega (arith, whole, c.loop-k.auto.right, c.requires.length_right) in
+    let w : (k + 1) * 64 - k * 64 ≡ 64 = omega arith in
+    ap length lane ∙ piece_length c.args.s.now (k * 128) 128 whole ∙ ap (λ n. 2 * n) (sym (piece_length c.loop-k.right (k * 64) 64 half))
+    ∙ ap (λ n. 2 * length (take n (drop (k * 64) c.loop-k.right))) (sym w)
+
+pub loop-k-preserved : goal.loop-k-preserved
+loop-k-preserved c =
+    let k = c.loop-k.k in
     let s = c.args.s.now in
-    let i = c.loop-i.i in
-    let even : 2 * i ≡ i * 2 + 0 = omega arith in
-    let odd : 2 * i + 1 ≡ i * 2 + 1 = omega arith in
-    let next : i + 1 ≡ suc i = omega arith in
-    let from : i ≡ 0 + i = omega arith in
-    let left_fits : SFits w16 (get_or s (2 * i) (pos 0)) = search rules in
-    let right_fits : SFits w16 (get_or s (2 * i + 1) (pos 0)) = search rules in
-    let left : to_z w16 (of_z w16 (get_or s (2 * i) (pos 0))) ≡ sample_at 2 s i 0 = to_z-of_z w16 _ left_fits ∙ ap (λ k. get_or s k (pos 0)) even in
-    let right : to_z w16 (of_z w16 (get_or s (2 * i + 1) (pos 0))) ≡ sample_at 2 s i 1 = to_z-of_z w16 _ right_fits ∙ ap (λ k. get_or s k (pos 0)) odd in (
-      rw (c.loop-i.invariant.0, left, next) (range_over (λ k. sample_at 2 s k 0) 0 c.args.left.now i i (omega arith) from),
-      rw (c.loop-i.invariant.1, right, next) (range_over (λ k. sample_at 2 s k 1) 0 c.args.right.now i i (omega arith) from),
+    let lane = lane_read 128 s c.as_chunks.result.0.now k c.as_slice.result.now c.as_chunks.ensures.front c.as_chunks.ensures.front_len c.loop-k-test.true c.as_slice.ensures in
+    let inside : k * 128 ≤ length s = omega (arith, c.as_chunks.ensures.front_len, c.loop-k-test.true) in
+    let w : (k + 1) * 64 - k * 64 ≡ 64 = omega arith in
+    let samples : k * 128 + 128 ≡ (k + 1) * 128 = omega arith in
+    let frames : k * 64 + 64 ≡ (k + 1) * 64 = omega arith in
+    let left = frames_turn 2 (0 ∷ []) s c.args.left.now c.loop-k.left c.split.new.left (k * 128) (k * 64) (k * 64) ((k + 1) * 64 - k * 64) 128 64 (omega arith) (within 0 (omega arith)) (omega arith) inside (omega arith)
+    c.loop-k.invariant.0 (c.split.ensures.left ∙ ap (picked 2 (0 ∷ [])) lane) w in
+    let right = frames_turn 2 (1 ∷ []) s c.args.right.now c.loop-k.right c.split.new.right (k * 128) (k * 64) (k * 64) ((k + 1) * 64 - k * 64) 128 64 (omega arith) (within 1 (omega arith)) (omega arith) inside (omega arith)
+    c.loop-k.invariant.1 (c.split.ensures.right ∙ ap (picked 2 (1 ∷ [])) lane) w in (
+      left ∙ ap₂ (λ n m. picked 2 (0 ∷ []) (take n s) ++ drop m c.args.left.now) samples frames,
+      right ∙ ap₂ (λ n m. picked 2 (1 ∷ []) (take n s) ++ drop m c.args.right.now) samples frames,
     )
 
 pub returns-clause-left : goal.returns-clause-left
-returns-clause-left c = picked_one c.args.s.now c.args.left.now c.loop-i.left 0 c.loop-i.i (omega arith) (omega arith) c.loop-i.invariant.0
+returns-clause-left c =
+    let lanes = length c.as_chunks.result.0.now in
+    let s = c.args.s.now in
+    let rest : c.as_chunks.result.1.now ≡ drop (lanes * 128) s = c.as_chunks.ensures.back ∙ ap (λ k. drop (k * 128) s) (sym c.as_chunks.ensures.front_len) in
+    let last : c.loop-k.k ≡ lanes = omega (arith, c.loop-k.auto.k-end, c.loop-k-test.false) in
+    let done = c.loop-k.invariant.0 ∙ ap (λ k. picked 2 (0 ∷ []) (take (k * 128) s) ++ drop (k * 64) c.args.left.now) last in
+    let value = c.split-2.ensures.left ∙ ap (picked 2 (0 ∷ [])) rest in
+    frames_rest 2 (0 ∷ []) s c.args.left.now c.loop-k.left c.split-2.new.left (lanes * 128) (lanes * 64) (lanes * 64) (length c.loop-k.left - lanes * 64) (omega arith) (within 0 (omega arith))
+    (omega arith) (omega (arith, c.as_chunks.ensures.front_len)) (omega arith) done value (omega (arith, c.as_chunks.ensures.front_len, c.loop-k.auto.left, c.requires.length_left)) c.loop-k.auto.left
 
 pub returns-clause-right : goal.returns-clause-right
-returns-clause-right c = picked_one c.args.s.now c.args.right.now c.loop-i.right 1 c.loop-i.i (omega arith) (omega arith) c.loop-i.invariant.1
+returns-clause-right c =
+    let lanes = length c.as_chunks.result.0.now in
+    let s = c.args.s.now in
+    let rest : c.as_chunks.result.1.now ≡ drop (lanes * 128) s = c.as_chunks.ensures.back ∙ ap (λ k. drop (k * 128) s) (sym c.as_chunks.ensures.front_len) in
+    let last : c.loop-k.k ≡ lanes = omega (arith, c.loop-k.auto.k-end, c.loop-k-test.false) in
+    let done = c.loop-k.invariant.1 ∙ ap (λ k. picked 2 (1 ∷ []) (take (k * 128) s) ++ drop (k * 64) c.args.right.now) last in
+    let value = c.split-2.ensures.right ∙ ap (picked 2 (1 ∷ [])) rest in
+    frames_rest 2 (1 ∷ []) s c.args.right.now c.loop-k.right c.split-2.new.right (lanes * 128) (lanes * 64) (lanes * 64) (length c.loop-k.right - lanes * 64) (omega arith) (within 1 (omega arith))
+    (omega arith) (omega (arith, c.as_chunks.ensures.front_len)) (omega arith) done value (omega (arith, c.as_chunks.ensures.front_len, c.loop-k.auto.right, c.requires.length_right)) c.loop-k.auto.right

@@ -1,9 +1,8 @@
-use Rattle.std.proofs.Common.{◌≡◌, map, drop, ◌++◌}
-use Rattle.std.specs.List.{range_with_len}
-use Rattle.pw_base.specs.Samples.{sample_at}
+use Rattle.std.proofs.Common.{◌≡◌, ◌++◌, ◌∷◌, [], take, drop, ◌*◌}
+use Rattle.pw_base.specs.Samples.{picked}
 use Rattle.s16_mixer.proofs.channels.split.Given as goal
 
-abbrev pub invariant-loop-i : goal.invariant-loop-i
-invariant-loop-i l =
-    (l.left ≡ map (λ i. sample_at 2 l.s i 0) (range_with_len 0 l.i) ++ drop l.i l.fn.left)
-    × (l.right ≡ map (λ i. sample_at 2 l.s i 1) (range_with_len 0 l.i) ++ drop l.i l.fn.right)
+abbrev pub invariant-loop-k : goal.invariant-loop-k
+invariant-loop-k l =
+    (l.left ≡ picked 2 (0 ∷ []) (take (l.k * 128) l.s) ++ drop (l.k * 64) l.fn.left)
+    × (l.right ≡ picked 2 (1 ∷ []) (take (l.k * 128) l.s) ++ drop (l.k * 64) l.fn.right)

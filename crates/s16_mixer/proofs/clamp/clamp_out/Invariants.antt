@@ -1,6 +1,6 @@
-use Rattle.std.proofs.Common.{◌≡◌, take, drop, map, ◌++◌}
+use Rattle.std.proofs.Common.{◌≡◌, take, drop, map, ◌++◌, ◌*◌}
 use Rattle.pw_base.specs.Samples.{clamped}
 use Rattle.s16_mixer.proofs.clamp.clamp_out.Given as goal
 
-abbrev pub invariant-loop-i : goal.invariant-loop-i
-invariant-loop-i l = l.to ≡ map clamped (take l.i l.sum) ++ drop l.i l.fn.to
+abbrev pub invariant-loop-k : goal.invariant-loop-k
+invariant-loop-k l = l.to ≡ map clamped (take (l.k * 128) l.sum) ++ drop (l.k * 128) l.fn.to

@@ -1,7 +1,7 @@
-use Rattle.std.proofs.Common.{◌≡◌, take, drop, map, ◌++◌}
+use Rattle.std.proofs.Common.{◌≡◌, take, drop, map, ◌++◌, ◌*◌}
 use Rattle.std.specs.List.{zip}
 use Rattle.pw_base.specs.Samples.{mixed}
 use Rattle.s16_mixer.proofs.gains.mix2.Given as goal
 
-abbrev pub invariant-loop-i : goal.invariant-loop-i
-invariant-loop-i l = l.to ≡ map (λ p. mixed l.ga l.gb p.0 p.1) (zip (take l.i l.a) (take l.i l.b)) ++ drop l.i l.fn.to
+abbrev pub invariant-loop-k : goal.invariant-loop-k
+invariant-loop-k l = l.to ≡ map (λ p. mixed l.ga l.gb p.0 p.1) (take (l.k * 128) (zip l.a l.b)) ++ drop (l.k * 128) l.fn.to

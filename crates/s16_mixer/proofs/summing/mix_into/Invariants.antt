@@ -1,6 +1,6 @@
-use Rattle.std.proofs.Common.{◌≡◌, take, drop, ◌++◌}
-use Rattle.pw_base.specs.Samples.{summed}
+use Rattle.std.proofs.Common.{◌≡◌, take, drop, map, ◌++◌, ◌*◌, ◌+ℤ◌}
+use Rattle.std.specs.List.{zip}
 use Rattle.s16_mixer.proofs.summing.mix_into.Given as goal
 
-abbrev pub invariant-loop-i : goal.invariant-loop-i
-invariant-loop-i l = l.sum ≡ summed (take l.i l.fn.sum) (take l.i l.s) ++ drop l.i l.fn.sum
+abbrev pub invariant-loop-k : goal.invariant-loop-k
+invariant-loop-k l = l.sum ≡ map (λ p. p.0 +ℤ p.1) (take (l.k * 128) (zip l.fn.sum l.s)) ++ drop (l.k * 128) l.fn.sum

@@ -3,7 +3,7 @@ use Rattle.std.proofs.lemmas.Int.{to_z-of_z}
 use Rattle.pw_base.specs.Samples.{sample_at}
 use Rattle.s16_mixer.proofs.RowLemmas.{pair_over}
 use Rattle.s16_mixer.proofs.FrameLemmas.{frame_over}
-use Rattle.s16_mixer.proofs.channels.pick_pairs.Goals as goal
+use Rattle.s16_mixer.proofs.plain.channels.pick_pairs.Goals as goal
 
 pub loop-i-preserved : goal.loop-i-preserved
 loop-i-preserved c =

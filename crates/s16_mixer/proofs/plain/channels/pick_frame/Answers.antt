@@ -2,7 +2,7 @@ use Rattle.std.proofs.Common.{rules, arith, ◌≡◌, suc, ◌+◌, ◌*◌, �
 use Rattle.std.proofs.lemmas.Int.{to_z-of_z}
 use Rattle.pw_base.specs.Samples.{sample_at}
 use Rattle.s16_mixer.proofs.RowLemmas.{piece_over}
-use Rattle.s16_mixer.proofs.channels.pick_frame.Goals as goal
+use Rattle.s16_mixer.proofs.plain.channels.pick_frame.Goals as goal
 
 pub loop-j-preserved : goal.loop-j-preserved
 loop-j-preserved c =

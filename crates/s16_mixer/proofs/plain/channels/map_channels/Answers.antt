@@ -1,7 +1,7 @@
 use Rattle.std.proofs.Common.{◌∙◌, refl, slice_index}
 use Rattle.pw_base.specs.Samples.{sample_at}
 use Rattle.s16_mixer.proofs.FrameLemmas.{frame_over}
-use Rattle.s16_mixer.proofs.channels.map_channels.Goals as goal
+use Rattle.s16_mixer.proofs.plain.channels.map_channels.Goals as goal
 
 pub loop-i-preserved : goal.loop-i-preserved
 loop-i-preserved c =

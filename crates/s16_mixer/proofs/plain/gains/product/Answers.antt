@@ -1,7 +1,7 @@
 use Rattle.std.proofs.Common.{arith, ◌≡◌, ◌≤◌, ◌*ℤ◌, w32, to_z, of_z, SFits, mul-le-mul}
 use Rattle.std.specs.Int.RustNames.{unsigned_abs}
 use Rattle.std.proofs.lemmas.Int.{ints, to_z-of_z, fits_signed_mul, unsigned_abs-mul}
-use Rattle.s16_mixer.proofs.gains.product.Goals as goal
+use Rattle.s16_mixer.proofs.plain.gains.product.Goals as goal
 
 pub returns : goal.returns
 returns c =

@@ -2,7 +2,7 @@ use Rattle.std.proofs.Common.{arith, ◌≡◌, w16, w32, to_z, of_z, SFits}
 use Rattle.std.specs.Int.{int_shr}
 use Rattle.std.proofs.lemmas.Int.{ints, to_z-of_z}
 use Rattle.s16_mixer.proofs.ShiftLemmas.{SFits-shr_z}
-use Rattle.s16_mixer.proofs.gains.rounded.Goals as goal
+use Rattle.s16_mixer.proofs.plain.gains.rounded.Goals as goal
 
 pub returns : goal.returns
 returns c =

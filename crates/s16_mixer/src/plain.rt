@@ -1,0 +1,14 @@
+//! The kernels as plain loops, one sample or frame a turn. The kernels over lanes use them for each lane and for
+//! the samples that fill none, and are measured beside them.
+
+mod channels;
+mod clamp;
+mod gains;
+mod peaks;
+mod summing;
+
+pub use channels::{map_channels, split};
+pub use clamp::clamp_out;
+pub use gains::{gain, mix2};
+pub use peaks::{higher, peak};
+pub use summing::mix_into;
