@@ -26,10 +26,6 @@ wav_bytes_limit = 268435456
 abbrev pub all_wav_bytes_limit : ℕ
 all_wav_bytes_limit = 536870912
 
--- a POD that is read from a file or stored in one, in bytes
-abbrev pub pod_bytes_limit : ℕ
-pod_bytes_limit = 1048584
-
 -- the samples of all sinks of a run
 abbrev pub sink_samples_limit : ℕ
 sink_samples_limit = 134217728

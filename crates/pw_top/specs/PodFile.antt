@@ -8,6 +8,10 @@ use Rattle.pw_top.specs.declared.status.Status.{Status}
 use Rattle.pw_top.specs.declared.status.Status.TheVariants as S
 use Rattle.pw_top.specs.declared.status.PodWhy.TheVariants as P
 
+-- the bytes of a file with one POD, at most
+abbrev pub pod_bytes_limit : ℕ
+pod_bytes_limit = 1048584
+
 -- the refusal of bytes that are no POD
 abbrev pub pod_refusal : ℕ → PodFault → Status
 pod_refusal place (F.Short offset) = S.Pod place (P.Short offset)
