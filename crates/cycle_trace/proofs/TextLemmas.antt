@@ -1,11 +1,10 @@
 -- One node and one late node more in a text.
-use Rattle.std.proofs.Common.{◌≡◌, ℕ, ◌+◌, ◌-◌, ◌/◌, ◌%◌, ◌^◌, ◌<◌, ◌≤◌, ◌==◌, Bool, cond, List, [], ◌∷◌, ◌++◌, length, take, drop, set, get_or, map, filter, flat_map, length-take-le, decimal, sym, ap, ◌∙◌, arith, append_assoc, append-nil, map-id, eq-eqb, ne_eqb}
+use Rattle.std.proofs.Common.{◌≡◌, ℕ, ◌+◌, ◌/◌, ◌%◌, ◌^◌, ◌<◌, ◌==◌, Bool, cond, List, [], ◌∷◌, ◌++◌, length, take, get_or, map, filter, flat_map, length-take-le, sym, ap, ◌∙◌, arith, append_assoc, append-nil, map-id, eq-eqb, ne_eqb}
 use Rattle.std.specs.List.{range_with_len, enumerate_from}
-use Rattle.std.proofs.lemmas.List.{drop-set, take_more, map-append}
+use Rattle.std.proofs.lemmas.List.{take_more, map-append}
 use Rattle.std.proofs.lemmas.Grind.{flat_map-append}
 use Rattle.std.proofs.lemmas.List.FromFn.{map-range_with_len_more}
 use Rattle.std.proofs.lemmas.List.Elements.{filter-append}
-use Rattle.std.proofs.lemmas.Fmt.{decimal_step, decimal_digit}
 use Rattle.pw_base.specs.declared.plan.PlanNode.{PlanNode}
 use Rattle.cycle_trace.specs.Words.{spaced, line}
 use Rattle.cycle_trace.specs.EventLines.{late_nodes}

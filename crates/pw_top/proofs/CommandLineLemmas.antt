@@ -1,5 +1,5 @@
 -- Laws of `specs/CommandLine.antt`: from the words to the answer of their command.
-use Rattle.std.proofs.Common.{◌≡◌, refl, List, ℕ}
+use Rattle.std.proofs.Common.{◌≡◌, refl, List}
 use Rattle.std.specs.Prelude.{Result, Ok, Err}
 use Rattle.pw_top.specs.declared.status.Status.{Status}
 use Rattle.pw_top.specs.declared.status.Status.TheVariants as S

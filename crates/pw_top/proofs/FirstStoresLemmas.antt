@@ -1,10 +1,9 @@
 -- Laws of `specs/FirstStores.antt`: what is stored has a place, and is a wave that can be written.
-use Rattle.std.proofs.Common.{◌≡◌, ℕ, ℤ, zero, suc, ◌+◌, ◌*◌, ◌%◌, ◌<◌, ◌≤◌, ◌&&◌, Bool, true, false, cond, List, [], ◌∷◌, ◌++◌, length, map, All, refl, sym, ap, subst, ◌∙◌, arith, rules}
+use Rattle.std.proofs.Common.{◌≡◌, ℕ, ℤ, zero, suc, ◌*◌, ◌%◌, ◌≤◌, Bool, true, false, cond, List, [], ◌∷◌, length, map, All, refl, sym, ap, subst, ◌∙◌, arith, rules}
 use Rattle.std.specs.Prelude.{Option, Some, None, find, nat_lt}
 use Rattle.std.proofs.Math.Nat.{mul-mod_left, zero-mul, mul_assoc}
 use Rattle.std.proofs.lemmas.List.Elements.{All-cons, All-nil}
 use Rattle.std.proofs.lemmas.List.FromFn.{length-map-range_with_len}
-use Rattle.pw_base.specs.declared.plan.Epoch.{Epoch}
 use Rattle.pw_base.specs.declared.plan.Plan.{Plan}
 use Rattle.wav_files.specs.declared.wav.Wav.{Wav}
 use Rattle.wav_files.specs.declared.wav.WavIn.{WavIn}
@@ -15,13 +14,12 @@ use Rattle.graph_script.specs.declared.script.Script.{Script}
 use Rattle.cycle_model.specs.Mixing.{epoch_row}
 use Rattle.cycle_model.specs.Rendering.{rendered_sinks, end_stream}
 use Rattle.cycle_model.proofs.EndLemmas.{end_single, end_none}
-use Rattle.pw_top.specs.declared.work.Store.{Store}
 use Rattle.pw_top.specs.Ending.{IsStorable}
 use Rattle.pw_top.specs.FirstLines.{is_sink, sink_line, link_line, cycles_line, quantum_line, quantum_of, cycles_of}
 use Rattle.pw_top.specs.FirstPlan.{form_of, channels_in, shape_nodes, shape_links, port_forms, fresh_nodes}
-use Rattle.pw_top.specs.FirstEpoch.{plan_of, sink_samples, epochs_of, AreFirstWaves, AreNumbered}
+use Rattle.pw_top.specs.FirstEpoch.{sink_samples, AreFirstWaves, AreNumbered}
 use Rattle.pw_top.specs.FirstStores.{store_of, first_stores}
-use Rattle.pw_top.proofs.FirstPlanLemmas.{made, the_wave, wave_form, made_renders, made_covered}
+use Rattle.pw_top.proofs.FirstPlanLemmas.{made, wave_form, made_renders, made_covered}
 
 -- what holds of each line holds of the one that is found: by whether the first one is
 found_here : {X : Type 0} (P : X → Type 0) (test : X → Bool) (y : X) (ys : List X) (x : X) (b : Bool) → test y ≡ b

@@ -1,11 +1,10 @@
 -- Laws of `specs/PodFile.antt`: what a read POD says of the file that held it.
-use Rattle.std.proofs.Common.{◌≡◌, ℕ, ◌==◌, List, length, true, false, cond, [], eq-eqb, ne_eqb, refl, sym, subst, ap, ◌∙◌, inl, inr, ◌⊎◌, Result, Ok, Err}
+use Rattle.std.proofs.Common.{◌≡◌, ℕ, List, length, true, cond, [], eq-eqb, ne_eqb, refl, sym, ap, ◌∙◌, inl, inr, ◌⊎◌, Ok, Err}
 use Rattle.pod_codec.specs.declared.pod.Pod.{Pod}
 use Rattle.pod_codec.specs.declared.fault.PodFault.{PodFault}
 use Rattle.pod_codec.specs.declared.fault.PodFault.TheVariants as F
 use Rattle.pod_codec.specs.Spelling.{FrontSpells}
 use Rattle.pod_codec.specs.FirstFault.{IsFirstFault}
-use Rattle.pod_codec.specs.PodReading.{IsReading}
 use Rattle.pod_codec.proofs.PodReadings.{only_reading}
 use Rattle.pw_top.specs.declared.status.Status.{Status}
 use Rattle.pw_top.specs.declared.status.Status.TheVariants as S

@@ -1,5 +1,5 @@
 -- Laws of `specs/Run.antt`: a script with a source goes on with the source's load.
-use Rattle.std.proofs.Common.{◌≡◌, ℕ, List, subst, sym, ◌∙◌, ap}
+use Rattle.std.proofs.Common.{◌≡◌, ℕ, List, subst}
 use Rattle.std.specs.Prelude.{Option, Some, Result}
 use Rattle.pw_base.specs.Files.{Names}
 use Rattle.graph_script.specs.declared.script.Line.{Line}

@@ -1,9 +1,7 @@
 -- Laws of `specs/StatusLine.antt`: a number's digits, and a line by its first number.
-use Rattle.std.proofs.Common.{◌≡◌, ℕ, ◌+◌, ◌-◌, ◌*◌, ◌/◌, ◌%◌, ◌^◌, ◌<◌, ◌≤◌, List, [], ◌∷◌, ◌++◌, length, get_or, take, drop, refl, sym, ap, ◌∙◌, subst, append_assoc, length-append, arith}
+use Rattle.std.proofs.Common.{◌≡◌, ℕ, ◌+◌, ◌/◌, ◌%◌, ◌^◌, ◌<◌, ◌≤◌, List, [], ◌∷◌, ◌++◌, length, sym, ap, ◌∙◌, append_assoc, length-append, arith}
 use Rattle.std.specs.Fmt.{decimal}
 use Rattle.std.proofs.lemmas.Fmt.{decimal_digit, decimal_step, length-decimal-le}
-use Rattle.std.proofs.lemmas.List.{take_rest}
-use Rattle.pw_top.specs.StatusLine.{numbers_line}
 
 pub decimal_one : (line : List ℕ) (n : ℕ) → n < 10 → line ++ (48 + n) ∷ [] ≡ line ++ decimal n
 decimal_one line n h = ap (λ d. line ++ d) (sym (decimal_digit n h))

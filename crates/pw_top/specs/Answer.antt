@@ -1,11 +1,9 @@
 -- The expected answer of a command: the steps outside that it makes where nothing fails.
-use Rattle.std.specs.Prelude.{◌≡◌, ◌⊎◌, ℕ, Bool, true, false, ◌<◌, List, [], ◌∷◌, ◌++◌, length, Option, Some, None, Result, Ok, Err, All, Contains, nat_le, if◌then◌else◌}
+use Rattle.std.specs.Prelude.{ℕ, List, [], ◌∷◌, ◌++◌, length, Option, Some, None, Result, Ok, Err, nat_le, if◌then◌else◌}
 use Rattle.pw_base.specs.declared.limit.Which.{Which}
 use Rattle.pw_base.specs.Files.{Names}
-use Rattle.pw_base.specs.Causes.{Rose}
 use Rattle.pw_top.specs.declared.status.Status.{Status}
 use Rattle.pw_top.specs.declared.status.Status.TheVariants as S
-use Rattle.pw_top.specs.declared.work.Store.{Store}
 use Rattle.pw_top.specs.declared.work.Work.{Work}
 
 -- what a part of a command does up to its end: the places of its loads, in order, and what it gives or how it refuses

@@ -1,5 +1,5 @@
 -- Delivery: the stores of an accepted command, then its text, then the line of a status that has one.
-use Rattle.std.specs.Prelude.{◌≡◌, ◌⊎◌, ℕ, ◌<◌, List, take, Result, Ok, Err, All, MatchBool}
+use Rattle.std.specs.Prelude.{◌≡◌, ◌⊎◌, ℕ, ◌<◌, List, take, Result, Ok, Err, MatchBool}
 use Rattle.pw_base.specs.Files.{Held}
 use Rattle.pw_base.specs.Output.{Given, Gave, GavePart}
 use Rattle.pw_base.specs.Causes.{Rose}

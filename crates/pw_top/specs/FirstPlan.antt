@@ -1,5 +1,5 @@
 -- The plan of a script of the first path: a source linked to a sink, in cycles that the built-in node drives.
-use Rattle.std.specs.Prelude.{ℕ, zero, suc, ◌+◌, ◌*◌, true, false, List, [], ◌∷◌, ◌++◌, length, Option, Some, None, slice_index_or}
+use Rattle.std.specs.Prelude.{ℕ, false, List, [], ◌∷◌, Option, Some, None, slice_index_or}
 use Rattle.pw_base.specs.declared.ids.PortId.{PortId}
 use Rattle.pw_base.specs.declared.kind.Kind.TheVariants as K
 use Rattle.pw_base.specs.declared.shape.ShapeNode.{ShapeNode}
@@ -7,15 +7,9 @@ use Rattle.pw_base.specs.declared.shape.ShapeLink.{ShapeLink}
 use Rattle.pw_base.specs.declared.plan.PlanNode.{PlanNode}
 use Rattle.pw_base.specs.declared.plan.PortForm.{PortForm}
 use Rattle.pw_base.specs.declared.plan.Fresh.{Fresh}
-use Rattle.pw_base.specs.declared.plan.Epoch.{Epoch}
-use Rattle.pw_base.specs.declared.plan.LinkLine.{LinkLine}
-use Rattle.pw_base.specs.declared.plan.LineOutcome.TheVariants.{Linked}
-use Rattle.pw_base.specs.declared.plan.Plan.{Plan}
 use Rattle.wav_files.specs.declared.wav.WavIn.{WavIn}
 use Rattle.graph_script.specs.declared.script.Line.{Line}
-use Rattle.graph_script.specs.declared.script.Script.{Script}
 use Rattle.pw_top.specs.declared.first_plan.Form.{Form}
-use Rattle.pw_top.specs.FirstLines.{quantum_line, sink_line, link_line, cycles_line, quantum_of, cycles_of}
 
 -- the form of the link, if there is one: the source's rate and channels
 abbrev pub form_of : Option Line → Option Line → List WavIn → Option Form

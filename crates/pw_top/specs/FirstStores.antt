@@ -1,5 +1,5 @@
 -- What a script of the first path stores: each kept wave at the sink's line, under its file's name.
-use Rattle.std.specs.Prelude.{ℕ, List, map, Option}
+use Rattle.std.specs.Prelude.{List, map, Option}
 use Rattle.wav_files.specs.declared.wav.WavIn.{WavIn}
 use Rattle.wav_files.specs.declared.outcome.Kept.{Kept}
 use Rattle.graph_script.specs.declared.script.Line.{Line}

@@ -1,5 +1,5 @@
 -- How far an answer was followed, and what the outside holds then.
-use Rattle.std.specs.Prelude.{◌≡◌, ◌≢◌, ◌⊎◌, ℕ, ◌<◌, Bool, List, [], ◌∷◌, ◌++◌, take, fold, slice_get, Option, Some, option_map, Result, Ok, Err, Contains}
+use Rattle.std.specs.Prelude.{◌≡◌, ◌≢◌, ◌⊎◌, ℕ, List, [], take, fold, slice_get, Some, option_map, Result, Ok, Err, Contains}
 use Rattle.pw_base.specs.Files.{Names, Held, stored}
 use Rattle.pw_base.specs.Output.{Given, Gave, GavePart}
 use Rattle.pw_base.specs.Causes.{Rose}

@@ -1,5 +1,5 @@
 -- The expected answer of `run SCRIPT`: the script, its source's wave, and what its sink and its text are then.
-use Rattle.std.specs.Prelude.{ℕ, List, [], ◌∷◌, map, Option, Some, None, Result, Ok, Err, nat_lt, if◌then◌else◌}
+use Rattle.std.specs.Prelude.{ℕ, List, [], ◌∷◌, Option, Some, None, Result, Ok, Err, nat_lt, if◌then◌else◌}
 use Rattle.pw_base.specs.Files.{Names}
 use Rattle.pw_base.specs.Limits.{script_bytes_limit, wav_bytes_limit, sink_samples_limit}
 use Rattle.pw_base.specs.declared.limit.Which.TheVariants as W

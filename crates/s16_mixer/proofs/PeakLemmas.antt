@@ -1,5 +1,5 @@
 -- Peaks: of rows one behind the other, and of tops in several places.
-use Rattle.std.proofs.Common.{◌≡◌, ℕ, ℤ, max, ◌∙◌, List, [], ◌∷◌, ◌++◌, length, take, drop, map, fold, zip, refl, sym, ap, ap₂, arith, take-append-drop}
+use Rattle.std.proofs.Common.{◌≡◌, ℕ, ℤ, max, ◌∙◌, List, [], ◌∷◌, ◌++◌, length, map, fold, zip, refl, sym, ap, ap₂, arith}
 use Rattle.std.specs.Prelude.{unsigned_abs}
 use Rattle.pw_base.specs.Samples.{peak_of}
 

@@ -1,4 +1,4 @@
-use Rattle.std.proofs.Common.{ℕ, ◌<◌, IsTrue, false, ◌≡◌, ◌≤◌, List, All, subst, sym, ap, arith}
+use Rattle.std.proofs.Common.{ℕ, ◌<◌, IsTrue, false, ◌≤◌, List, All, subst, sym, ap, arith}
 use Rattle.pw_top.specs.declared.work.Store.{Store}
 use Rattle.pw_top.specs.Ending.{IsStorable}
 use Rattle.pw_top.specs.FirstEpoch.{sink_samples}

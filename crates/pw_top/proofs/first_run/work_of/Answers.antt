@@ -1,10 +1,7 @@
 use Rattle.std.proofs.Common.{subst, sym}
-use Rattle.std.specs.Prelude.{None}
 use Rattle.pw_base.specs.declared.plan.Plan.{Plan}
-use Rattle.cycle_model.specs.Renderable.{IsRenderable, IsCovered}
-use Rattle.cycle_trace.specs.Printable.{IsPrintable}
-use Rattle.pw_top.proofs.FirstPlanLemmas.{plan_renders, plan_covered}
-use Rattle.pw_top.proofs.FirstTextLemmas.{plan_prints}
+use Rattle.cycle_model.specs.Renderable.{IsRenderable}
+use Rattle.pw_top.proofs.FirstPlanLemmas.{plan_renders}
 use Rattle.pw_top.proofs.first_run.work_of.Goals as goal
 
 pub render-requires-clause-renderable : goal.render-requires-clause-renderable

@@ -1,7 +1,7 @@
-use Rattle.std.proofs.Common.{arith, subst, inl, inr, refl}
+use Rattle.std.proofs.Common.{arith, subst, inl, refl}
 use Rattle.std.specs.Prelude.{Ok}
 use Rattle.pw_base.specs.Files.{names_in, IsLoaded}
-use Rattle.pw_top.proofs.EndingLemmas.{load_whole, load_absent, load_long, read_here}
+use Rattle.pw_top.proofs.EndingLemmas.{load_whole, load_absent, load_long}
 use Rattle.pw_top.proofs.loading.load_step.Goals as goal
 
 pub returns-in-Ok-Whole-clause-told : goal.returns-in-Ok-Whole-clause-told

@@ -1,9 +1,7 @@
 -- What was read is the file's value, or the refusal of its bytes.
-use Rattle.std.proofs.Common.{◌≡◌, ◌==◌, ◌≤◌, true, false, cond, length, refl, sym, ap, ◌∙◌, inl, inr, Result, Ok, Err, arith}
-use Rattle.pod_codec.specs.declared.pod.Pod.{Pod}
-use Rattle.pod_codec.specs.declared.fault.PodFault.TheVariants.{Memory}
+use Rattle.std.proofs.Common.{refl, inl, arith}
 use Rattle.pod_codec.proofs.PodReadings.{front_fits}
-use Rattle.pw_top.proofs.PodFileLemmas.{pod_read, refused, read_whole, read_rest}
+use Rattle.pw_top.proofs.PodFileLemmas.{refused, read_whole, read_rest}
 use Rattle.pw_top.proofs.pod_file.pod_step.Goals as goal
 
 pub overflow_cast-result : goal.overflow_cast-result

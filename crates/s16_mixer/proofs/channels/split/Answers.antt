@@ -1,4 +1,4 @@
-use Rattle.std.proofs.Common.{◌≡◌, ℕ, suc, zero, ◌+◌, ◌*◌, ◌-◌, ◌/◌, ◌<◌, ◌≤◌, ◌∙◌, ◌++◌, List, length, take, drop, [], ◌∷◌, All, arith, sym, ap, ap₂}
+use Rattle.std.proofs.Common.{◌≡◌, ℕ, ◌+◌, ◌*◌, ◌-◌, ◌<◌, ◌≤◌, ◌∙◌, ◌++◌, length, take, drop, [], ◌∷◌, All, arith, sym, ap, ap₂}
 use Rattle.pw_base.specs.Samples.{picked}
 use Rattle.std.proofs.lemmas.Grind.{common_steps}
 use Rattle.s16_mixer.proofs.LaneLemmas.{lane_read, piece_length}

@@ -1,10 +1,8 @@
-use Rattle.std.proofs.Common.{◌≡◌, ℕ, ℤ, ◌+◌, ◌*◌, ◌/◌, ◌<◌, ◌≤◌, ◌∙◌, max, fold, length, take, drop, map, zip, [], arith, sym, ap, ap₂, take-add, take-append-drop, take_all}
+use Rattle.std.proofs.Common.{◌≡◌, ℕ, ℤ, ◌+◌, ◌*◌, ◌/◌, ◌∙◌, max, fold, length, take, drop, map, zip, arith, sym, ap, ap₂, take-add, take-append-drop, take_all}
 use Rattle.std.specs.Prelude.{unsigned_abs}
-use Rattle.std.proofs.lemmas.Slice.Zip.{length-zip}
-use Rattle.std.proofs.lemmas.Grind.{common_steps}
 use Rattle.pw_base.specs.Samples.{peak_of}
 use Rattle.s16_mixer.proofs.LaneLemmas.{lane_read, piece_length}
-use Rattle.s16_mixer.proofs.PeakLemmas.{raised, peak_append, fold_max}
+use Rattle.s16_mixer.proofs.PeakLemmas.{raised, peak_append}
 use Rattle.s16_mixer.proofs.peaks.peak.Goals as goal
 
 pub raise-requires-clause-lengths : goal.raise-requires-clause-lengths

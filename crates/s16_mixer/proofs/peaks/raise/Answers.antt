@@ -1,4 +1,4 @@
-use Rattle.std.proofs.Common.{rules, w16, SFits, ◌≡◌, ℕ, ℤ, pos, ◌<◌, ◌≤◌, max, length, get_or, arith, ap₂, sym, add-one, refl, ap, ◌∙◌}
+use Rattle.std.proofs.Common.{rules, w16, SFits, ◌≡◌, ℕ, ℤ, pos, ◌<◌, max, length, get_or, arith, ap₂, add-one, refl, ◌∙◌}
 use Rattle.std.specs.Prelude.{unsigned_abs}
 use Rattle.std.proofs.lemmas.Int.{to_z-of_z}
 use Rattle.std.proofs.lemmas.Grind.{common_steps}

@@ -1,8 +1,7 @@
-use Rattle.std.proofs.Common.{◌≡◌, ℤ, ◌+ℤ◌, ◌+◌, ◌*◌, ◌-◌, ◌/◌, ◌<◌, ◌≤◌, ◌∙◌, ◌++◌, List, length, map, take, drop, zip, [], All, arith, subst, sym, ap, ap₂}
+use Rattle.std.proofs.Common.{◌≡◌, ℤ, ◌+ℤ◌, ◌+◌, ◌*◌, ◌-◌, ◌≤◌, ◌∙◌, ◌++◌, List, length, map, take, drop, zip, All, arith, subst, sym, ap, ap₂}
 use Rattle.std.proofs.lemmas.List.{take_rest}
 use Rattle.std.proofs.lemmas.List.Elements.{All-take, All-drop}
 use Rattle.std.proofs.lemmas.Slice.Zip.{length-zip}
-use Rattle.std.proofs.lemmas.Grind.{common_steps}
 use Rattle.pw_base.specs.Samples.{summed}
 use Rattle.s16_mixer.specs.Ranges.{HasRoom}
 use Rattle.s16_mixer.proofs.LaneLemmas.{lane_fits, lane_read, lane_turn, rest_turn, zip_lane, zip_drop, lane_untouched}

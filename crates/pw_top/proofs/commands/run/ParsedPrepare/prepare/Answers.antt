@@ -1,4 +1,4 @@
-use Rattle.std.proofs.Common.{◌≡◌, sym, ap, ◌∙◌}
+use Rattle.std.proofs.Common.{ap, ◌∙◌}
 use Rattle.pw_top.specs.FirstLines.{source_line}
 use Rattle.pw_top.proofs.RunLemmas.{sourced}
 use Rattle.pw_top.proofs.commands.run.ParsedPrepare.prepare.Goals as goal
