@@ -1,0 +1,9 @@
+pub mod CongruenceLemmas
+pub mod NumberLemmas
+pub mod ProgressionLemmas
+pub mod CommonRowLemmas
+pub mod ValueLemmas
+pub mod TypeLemmas
+pub mod NumberChoiceLemmas
+pub mod OverlapLemmas
+pub mod RowLemmas

@@ -1,0 +1,21 @@
+//! Formats with choices: what they admit, and what two of them have in common.
+//!
+//! A choice is the set of its members. `meet` computes the common members of two choices, `filter` the common
+//! format of two offers, and `fixate` takes each pick. `format_of` and `pod_of` go between formats and the
+//! objects that spell them.
+#![tactic(auto)]
+
+mod choice;
+mod comparing;
+mod copying;
+mod format;
+mod intersection;
+mod members;
+mod numbers;
+mod picking;
+mod progression;
+mod values;
+
+pub use choice::{Choice, Wide};
+pub use format::{Field, Format};
+pub use intersection::meet;
