@@ -7,3 +7,6 @@ pub mod TypeLemmas
 pub mod NumberChoiceLemmas
 pub mod OverlapLemmas
 pub mod RowLemmas
+pub mod FieldLemmas
+pub mod MergeLemmas
+pub mod FixationLemmas

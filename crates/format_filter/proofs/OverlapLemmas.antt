@@ -34,7 +34,7 @@ min_fits Int x y f g = grind (arith, ints)
 min_fits Long x y f g = grind (arith, ints)
 
 -- a number is no Choice
-number_plain : (wide : Wide) (n : ℤ) → IsOfType 19 (number_of wide n) → ⊥
+pub number_plain : (wide : Wide) (n : ℤ) → IsOfType 19 (number_of wide n) → ⊥
 number_plain Int n e = let four = int_type n in omega (arith, e, four)
 number_plain Long n e = let five = long_type n in omega (arith, e, five)
 

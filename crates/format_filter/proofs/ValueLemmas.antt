@@ -94,7 +94,7 @@ only_front those [] v e l = e
 only_front those (x ∷ xs) v e l = absurd (omega (arith, ap length e, length-append xs (v ∷ [])))
 
 -- a type that a Choice may hold is not Choice
-no_choice : (child : ℕ) → 0 < child_size child → child ≡ 19 → ⊥
+pub no_choice : (child : ℕ) → 0 < child_size child → child ≡ 19 → ⊥
 no_choice child l e = let none : child_size child ≡ 0 = ap child_size e in omega arith
 
 module _ (a b other : Choice) (values those : List Pod) (listed : AreListed a b other values) (h : AreThoseOf values (IsMember other) those) (types : AreOfOneType values) where

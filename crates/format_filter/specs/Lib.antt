@@ -4,3 +4,6 @@ pub mod Intersection
 pub mod Progression
 pub mod Picking
 pub mod Making
+pub mod CommonFormat
+pub mod Fixation
+pub mod Merging

@@ -6,16 +6,21 @@
 #![tactic(auto)]
 
 mod choice;
+mod common;
 mod comparing;
 mod copying;
+mod fixation;
 mod format;
 mod intersection;
 mod members;
+mod merging;
 mod numbers;
 mod picking;
 mod progression;
 mod values;
 
 pub use choice::{Choice, Wide};
+pub use common::{Filtered, filter};
+pub use fixation::fixate;
 pub use format::{Field, Format};
 pub use intersection::meet;
