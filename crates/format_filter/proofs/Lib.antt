@@ -10,3 +10,6 @@ pub mod RowLemmas
 pub mod FieldLemmas
 pub mod MergeLemmas
 pub mod FixationLemmas
+pub mod ReadingLemmas
+pub mod PropLemmas
+pub mod LawLemmas

@@ -15,7 +15,7 @@ use Rattle.format_filter.specs.Intersection.{IsCommon, IsOverlap, HasForm, IsPic
 use Rattle.format_filter.proofs.TypeLemmas.{int_type, long_type}
 use Rattle.format_filter.proofs.ValueLemmas.{one_picked}
 
-number_injective : (wide : Wide) (n m : ℤ) → number_of wide n ≡ number_of wide m → n ≡ m
+pub number_injective : (wide : Wide) (n m : ℤ) → number_of wide n ≡ number_of wide m → n ≡ m
 number_injective Int n m e = cc
 number_injective Long n m e = cc
 

@@ -7,3 +7,8 @@ pub mod Making
 pub mod CommonFormat
 pub mod Fixation
 pub mod Merging
+pub mod FormatFaults
+pub mod ChoiceReading
+pub mod FormatReading
+pub mod PropReading
+pub mod FormatWriting

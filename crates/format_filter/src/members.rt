@@ -2,7 +2,7 @@
 ghost use Rattle.std.specs.Prelude.{◌≡◌, ◌↔◌, ℤ, pos, ◌<ℤ◌, IsTrue, IfSome, IsNone};
 ghost use Rattle.std.specs.List.{Contains};
 ghost use Rattle.format_filter.specs.Members.{number_of, IsReached, IsMember};
-ghost use Rattle.format_filter.specs.Soundness.{HasSoundParts};
+ghost use Rattle.format_filter.specs.Soundness.{FitsWide, HasSoundParts};
 
 use crate::choice::{Choice, Wide};
 use crate::comparing::is_equal;
@@ -23,6 +23,7 @@ pub fn is_among(values: &[Pod], value: &Pod) -> bool
 /// The number of a value of this type.
 pub fn number_in(wide: Wide, value: &Pod) -> Option<i64>
     ensures some { IfSome result (λ n. value.now ≡ number_of wide n) }
+    ensures fits { IfSome result (FitsWide wide) }
     ensures none { IsNone result → (n : ℤ) → value.now ≡ number_of wide n → ⊥ }
 {
     match wide {
