@@ -1,14 +1,16 @@
 //! Runs a piece of work again and again, and prints a checksum of what it leaves: `WORK SAMPLES REPEATS
-//! GAIN..`, where the work is a sample kernel, a fill, or a WAV file written or read, and `all` names
-//! each. It tells no time: a script does.
+//! GAIN..`, where the work is a sample kernel, a fill, a WAV file written or read, or bytes scanned or read as a
+//! POD, and `all` names each. It tells no time: a script does.
 #![tactic(auto)]
 
 mod factors;
+mod pods;
 mod rounds;
 mod rows;
 mod waves;
 
 use crate::factors::factors_of;
+use crate::pods::{array_rounds, flat_rounds, nested_rounds, scan_rounds};
 use crate::rounds::{
     clamp_rounds, gain_rounds, map_rounds, mix_rounds, pair_rounds, peak_rounds, split_rounds,
 };
@@ -19,8 +21,8 @@ use std::env;
 use std::process::ExitCode;
 use std::rt::Env;
 
-/// The names of the works, in the order of `all`.
-const WORKS: [&str; 10] = [
+/// The names of the works on samples, in the order of `all`.
+const KERNELS: [&str; 7] = [
     "gain",
     "mix2",
     "mix_into",
@@ -28,10 +30,13 @@ const WORKS: [&str; 10] = [
     "map_channels",
     "split",
     "peak",
-    "fill",
-    "write_wav",
-    "read_wav",
 ];
+
+/// Those on files.
+const FILES: [&str; 3] = ["fill", "write_wav", "read_wav"];
+
+/// Those on PODs.
+const PODS: [&str; 4] = ["scan", "read_nested", "read_flat", "read_array"];
 
 /// The words of the command line, without the program's own name; no words where they are no text.
 fn words_of<R: Env + Alloc<A = Global>>(rt: &R) -> Result<Items<String>, Memory> {
@@ -69,18 +74,22 @@ fn checksum_of(
         "fill" => fill_rounds(alloc, n, repeats),
         "write_wav" => write_rounds(alloc, n, repeats),
         "read_wav" => read_rounds(alloc, n, repeats),
+        "scan" => scan_rounds(alloc, n, repeats),
+        "read_nested" => nested_rounds(alloc, n, repeats),
+        "read_flat" => flat_rounds(alloc, n, repeats),
+        "read_array" => array_rounds(alloc, n, repeats),
         _ => Ok(0),
     }
 }
 
-/// Runs the work that the words name, or all, and prints a line for each. Whether all went well.
-fn run<R: Print + Alloc<A = Global>>(rt: &R, words: &[String]) -> bool {
+/// Runs those of the works that the words name, or all, and prints a line for each. Whether all went well.
+fn run_some<R: Print + Alloc<A = Global>>(rt: &R, works: &[&str], words: &[String]) -> bool {
     let [name, n, repeats, gains @ ..] = words else {
         return false;
     };
     let (n, repeats) = (number(n.as_str()) as usize, number(repeats.as_str()));
-    for work in WORKS {
-        if name.as_str() == "all" || name.as_str() == work {
+    for work in works {
+        if name.as_str() == "all" || name.as_str() == *work {
             let Ok(sum) = checksum_of(rt.alloc(), work, n, repeats, gains) else {
                 return false;
             };
@@ -90,6 +99,13 @@ fn run<R: Print + Alloc<A = Global>>(rt: &R, words: &[String]) -> bool {
         }
     }
     true
+}
+
+/// Runs the work that the words name, or all. Whether all went well.
+fn run<R: Print + Alloc<A = Global>>(rt: &R, words: &[String]) -> bool {
+    run_some(rt, KERNELS.as_slice(), words)
+        && run_some(rt, FILES.as_slice(), words)
+        && run_some(rt, PODS.as_slice(), words)
 }
 
 fn main(rt: HostRuntime) -> ExitCode {

@@ -1,8 +1,12 @@
 -- What fits inside a value, and what the whole then is.
-use Rattle.std.proofs.Common.{◌≡◌, ℕ, ◌+◌, ◌-◌, ◌≤◌, Bool, true, false, ◌&&◌, List, [], ◌∷◌, ◌++◌, length, take, drop, replicate, IsTrue, refl, sym, ap, ◌∙◌, append_assoc, length-append, arith, rules, Result, Ok, Err}
+use Rattle.std.proofs.Common.{◌≡◌, ℕ, zero, suc, subst, ◌+◌, ◌-◌, ◌<◌, ◌≤◌, Bool, true, false, ◌&&◌, List, [], ◌∷◌, ◌++◌, length, take, drop, replicate, IsTrue, refl, sym, ap, ◌∙◌, append_assoc, length-append, arith, rules, Result, Ok, Err}
+use Rattle.std.specs.Prelude.{OnOk}
 use Rattle.std.specs.List.{flat_map, list_all, AllByRecursion}
 use Rattle.std.proofs.lemmas.List.Concat.{flat_map-cons}
 use Rattle.std.proofs.lemmas.List.{take_at, drop_at}
+use Rattle.pod_codec.specs.declared.pod.Pod.{Pod}
+use Rattle.pod_codec.specs.declared.pod.Pod.TheViews.{out-Pod}
+use Rattle.pod_codec.specs.Numbers.{ValueFits, NumbersFit}
 use Rattle.pod_codec.specs.Framing.{Form, Keyed, framed, keyed_bytes, deepest, deepest_keyed, u32_bytes, pad8}
 use Rattle.pod_codec.specs.PodValue.{struct_form, object_form}
 use Rattle.pod_codec.specs.Writable.{Fits, FitsBody, Tells, IsOpen}
@@ -92,3 +96,13 @@ closed front f at bytes size op e =
     ∙ ap (λ (x : List ℕ). ((front ++ u32_bytes size) ++ x) ++ replicate (pad8 size - size) 0) d
     ∙ ap (λ (k : ℕ). ((front ++ u32_bytes k) ++ (un ++ f.body)) ++ replicate (pad8 k - k) 0) n
     ∙ gathered front (u32_bytes (length f.body)) un f.body (replicate (pad8 (length f.body) - length f.body) 0)
+
+-- a value whose own numbers fit, with those of what it holds
+numbers_fit : (left : ℕ) (pod : Pod) → 0 < left → ValueFits (NumbersFit (left - 1)) (out-Pod pod) → NumbersFit left pod
+unfolding NumbersFit
+numbers_fit zero pod h v = tt
+numbers_fit (suc below) pod h v = subst (λ (n : ℕ). ValueFits (NumbersFit n) (out-Pod pod)) (omega arith) v
+
+pub numbers_told : (r : Result (Unit {0}) WriteFault) (left : ℕ) (pod : Pod) → 0 < left → ValueFits (NumbersFit (left - 1)) (out-Pod pod) → OnOk r (NumbersFit left pod)
+numbers_told (Ok done) left pod h v = numbers_fit left pod h v
+numbers_told (Err fault) left pod h v = tt

@@ -10,3 +10,5 @@ pub mod Spelling
 pub mod Checks
 pub mod FirstFault
 pub mod SoundChoices
+pub mod ReadAnswer
+pub mod Numbers

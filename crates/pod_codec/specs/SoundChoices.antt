@@ -1,6 +1,6 @@
 -- Sound choices: what an object must be so that each of its choices can be read by its child type.
 -- SPA POD, "Types"; spa/pod/pod.h.
-use Rattle.std.specs.Prelude.{◌≡◌, ℕ, ◌<◌, List, length}
+use Rattle.std.specs.Prelude.{◌≡◌, ℕ, ◌<◌, length}
 use Rattle.std.specs.List.{All}
 use Rattle.pod_codec.specs.declared.pod.Pod.{Pod}
 use Rattle.pod_codec.specs.declared.pod.Prop.{Prop}

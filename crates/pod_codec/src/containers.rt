@@ -4,6 +4,7 @@ ghost use Rattle.std.specs.List.{flat_map, list_all};
 ghost use Rattle.pod_codec.specs.PodType.{child_size};
 ghost use Rattle.pod_codec.specs.Framing.{Form, framed, pad8, u32_bytes, child_bytes, are_children};
 ghost use Rattle.pod_codec.specs.PodValue.{form_of};
+ghost use Rattle.pod_codec.specs.Numbers.{ElementsFit};
 ghost use Rattle.pod_codec.specs.Writable.{Tells, IsOpen};
 
 use crate::fault::WriteFault;
@@ -64,6 +65,7 @@ fn put_elements(values: &[Pod], child: u32, to: &mut Items<u8>) -> Result<(), Wr
     requires allowed { 0 < child_size child }
     ensures ok { OnOk result (to.new ≡ to.old ++ flat_map (λ v. v.body) (map form_of values.now)) }
     ensures told { Tells result (IsTrue (list_all (λ f. f.number == child) (map form_of values.now))) }
+    ensures numbers { OnOk result (ElementsFit values.now) }
 {
     for pod in values {
         put_element(pod, child, to)?;
@@ -75,6 +77,7 @@ fn put_elements(values: &[Pod], child: u32, to: &mut Items<u8>) -> Result<(), Wr
 pub fn put_children(values: &[Pod], child: u32, to: &mut Items<u8>) -> Result<(), WriteFault>
     ensures ok { OnOk result (to.new ≡ to.old ++ child_bytes child (map form_of values.now)) }
     ensures told { Tells result (IsTrue (are_children child (map form_of values.now))) }
+    ensures numbers { OnOk result (ElementsFit values.now) }
 {
     let size = size_of_child(child);
     if size == 0 && (child != 1 || !values.is_empty()) {

@@ -1,12 +1,19 @@
 //! The value that bytes spell, or their first fault.
-ghost use Rattle.std.specs.Prelude.{◌≡◌, ◌+◌, ◌-◌, ◌≤◌, ◌<◌, ◌⊎◌, [], length, slice_index, slice_range, IfOk, IfSome, IsNone};
+ghost use Rattle.std.specs.Prelude.{◌≡◌, ℕ, List, ◌+◌, ◌++◌, ◌-◌, ◌≤◌, ◌<◌, ◌⊎◌, [], length, slice_index, slice_range, IfOk, IfSome, IsNone};
 ghost use Rattle.pod_codec.specs.declared.pod.Pod.TheViews.{out-Pod, out-Prop};
+ghost use Rattle.pod_codec.specs.declared.pod.Pod.{Pod};
+ghost use Rattle.pod_codec.specs.declared.fault.PodFault.{PodFault};
 ghost use Rattle.pod_codec.specs.PodType.{child_size, choice_number, IsOther};
 ghost use Rattle.pod_codec.specs.Framing.{pad8};
 ghost use Rattle.pod_codec.specs.Places.{u32_at, AreAfter, IsScalarAt, HasChildren};
 ghost use Rattle.pod_codec.specs.Spelling.{IsPropAt, IsBodyAt, SpellsAt, FrontSpells};
 ghost use Rattle.pod_codec.specs.Checks.{header_checks, body_checks, text_checks, array_checks, choice_checks, first_failed, Answers};
 ghost use Rattle.pod_codec.specs.FirstFault.{IsFieldFault, IsPropFault, IsBodyFault, FaultsAt, IsFirstFault, Fails};
+ghost use Rattle.pod_codec.specs.ReadAnswer.{HasAnswer, IsReadAs, IsRefusedAs};
+ghost use Rattle.pod_codec.specs.PodValue.{canonical};
+ghost use Rattle.pod_codec.specs.Writable.{IsWritable};
+ghost use Rattle.pod_codec.specs.Numbers.{NumbersFit};
+ghost use Rattle.pod_codec.specs.SoundChoices.{HasSoundChoices};
 
 use crate::children::{children_at, scalar_at};
 use crate::containers::{MAX_BODY, MAX_DEPTH};
@@ -302,16 +309,8 @@ fn scalar_or_fault(bytes: &[u8], at: usize, size: usize, kind: u32) -> Result<Po
     Ok(scalar_at(bytes, at + 8, kind))
 }
 
-/// The value that the front of the bytes spells, and how long that front is with its padding.
-///
-/// Numbers are little-endian, padding may be anything, and any nonzero Bool is true. The outermost body has
-/// at most 1,048,576 bytes, and values stand at most 16 deep. A fault is the first one: a POD is checked for
-/// its depth, its header, its size (the outermost alone), its body, its type and then its contents, and what
-/// it holds is read in order. A Sequence is refused as a type that is not known. What stands behind the
-/// front is not looked at. Takes memory for the value alone, and time linear in the front.
-///
-/// Public source: PipeWire's documentation, "SPA POD"; `spa/pod/pod.h`.
-pub fn read_pod(alloc: Global, bytes: &[u8]) -> Result<(Pod, usize), PodFault>
+/// The value of the front and its length, or the first fault.
+fn front_of(alloc: Global, bytes: &[u8]) -> Result<(Pod, usize), PodFault>
     ensures found { IfOk result (λ x. FrontSpells bytes.now x.0 x.1) }
     ensures fault { Fails result (IsFirstFault bytes.now) }
 {
@@ -327,4 +326,29 @@ pub fn read_pod(alloc: Global, bytes: &[u8]) -> Result<(Pod, usize), PodFault>
         Ok((pod, length)) => Ok((pod, length)),
         Err(fault) => Err(fault),
     }
+}
+
+/// The value that the front of the bytes spells, and how long that front is with its padding.
+///
+/// Numbers are little-endian, padding may be anything, and any nonzero Bool is true. The outermost body has
+/// at most 1,048,576 bytes, and values stand at most 16 deep. A fault is the first one: a POD is checked for
+/// its depth, its header, its size (the outermost alone), its body, its type and then its contents, and what
+/// it holds is read in order. A Sequence is refused as a type that is not known. What stands behind the
+/// front is not looked at. Takes memory for the value alone, and time linear in the front.
+///
+/// Public source: PipeWire's documentation, "SPA POD"; `spa/pod/pod.h`.
+pub fn read_pod(alloc: Global, bytes: &[u8]) -> Result<(Pod, usize), PodFault>
+    ensures found { IfOk result (λ x. FrontSpells bytes.now x.0 x.1) }
+    ensures fault { Fails result (IsFirstFault bytes.now) }
+
+    // Each input has one of both, and no other answer is right.
+    ensures one { HasAnswer bytes.now }
+    ensures only_found { (pod : Pod) (size : ℕ) → FrontSpells bytes.now pod size → IsReadAs result pod size }
+    ensures only_fault { (first : PodFault) → IsFirstFault bytes.now first → IsRefusedAs result first }
+
+    // What was written is read back, whatever stands behind; and each choice can be read by its child type.
+    ensures back { (pod : Pod) (rest : List ℕ) → IsWritable pod → NumbersFit 16 pod → bytes.now ≡ canonical pod ++ rest → IsReadAs result pod (length (canonical pod)) }
+    ensures sound { IfOk result (λ x. HasSoundChoices x.0) }
+{
+    front_of(alloc, bytes)
 }

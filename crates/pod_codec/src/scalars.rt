@@ -4,6 +4,8 @@ ghost use Rattle.std.specs.Int.{w32, w64, to_le_bytes};
 ghost use Rattle.pod_codec.specs.PodType.{child_size};
 ghost use Rattle.pod_codec.specs.Framing.{u32_bytes, u64_bytes};
 ghost use Rattle.pod_codec.specs.PodValue.{form_of};
+ghost use Rattle.pod_codec.specs.declared.pod.Pod.TheViews.{out-Pod};
+ghost use Rattle.pod_codec.specs.Numbers.{ScalarFits};
 ghost use Rattle.pod_codec.specs.Writable.{Tells};
 
 use crate::fault::WriteFault;
@@ -50,6 +52,7 @@ pub fn put_element(pod: &Pod, child: u32, to: &mut Items<u8>) -> Result<(), Writ
     requires allowed { 0 < child_size child }
     ensures ok { OnOk result (to.new ≡ to.old ++ (form_of pod.now).body) }
     ensures told { Tells result ((form_of pod.now).number ≡ child) }
+    ensures numbers { OnOk result (ScalarFits (out-Pod pod.now)) }
 {
     if type_number(pod) != child {
         return Err(WriteFault::Unwritable);

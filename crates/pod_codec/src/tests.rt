@@ -79,6 +79,8 @@ fn the_first_fault_is_told(rt: HostRuntime) -> Result<(), Fail> {
     choice[8] = 3;
     choice[20] = 4;
     let sequence = [0, 0, 0, 0, 16, 0, 0, 0];
+    let empty_text = [0, 0, 0, 0, 8, 0, 0, 0];
+    let open_text = [2, 0, 0, 0, 8, 0, 0, 0, 0, 97, 0, 0, 0, 0, 0, 0];
     for (bytes, fault) in [
         (&INT[..15], PodFault::Short { offset: 0 }),
         (&RATE[..39], PodFault::Short { offset: 0 }),
@@ -86,6 +88,8 @@ fn the_first_fault_is_told(rt: HostRuntime) -> Result<(), Fail> {
         (uneven.as_slice(), PodFault::Uneven { offset: 0 }),
         (choice.as_slice(), PodFault::Size { offset: 16 }),
         (nested.as_slice(), PodFault::Deep { offset: 128 }),
+        (empty_text.as_slice(), PodFault::Nul { offset: 0 }),
+        (open_text.as_slice(), PodFault::Nul { offset: 0 }),
         (
             sequence.as_slice(),
             PodFault::TypeUnknown {
@@ -154,6 +158,68 @@ fn each_proper_prefix_is_short(rt: HostRuntime) -> Result<(), Fail> {
         };
         assert!(rt; found == PodFault::Short { offset: 0 });
     }
+    Ok(())
+}
+
+/// Two bytes, as Bytes, with a String and a Bitmap behind them in a Struct.
+const ROWS: [u8; 56] = [
+    0x30, 0, 0, 0, 0x0e, 0, 0, 0, 2, 0, 0, 0, 9, 0, 0, 0, 0, 0xff, 0, 0, 0, 0, 0, 0, //
+    4, 0, 0, 0, 8, 0, 0, 0, 0x22, 0, 0x5c, 0, 0, 0, 0, 0, //
+    1, 0, 0, 0, 0x0c, 0, 0, 0, 0xa5, 0, 0, 0, 0, 0, 0, 0,
+];
+
+/// An Array of the Ints 7 and -1.
+const ARRAY: [u8; 24] = [
+    0x10, 0, 0, 0, 0x0d, 0, 0, 0, 4, 0, 0, 0, 4, 0, 0, 0, 7, 0, 0, 0, 255, 255, 255, 255,
+];
+
+#[test]
+fn rows_of_bytes_have_their_lines(rt: HostRuntime) -> Result<(), Fail> {
+    let alloc = rt.alloc();
+    for (bytes, text) in [
+        (
+            ROWS.as_slice(),
+            b"struct 3\n  bytes \"00ff\"\n  string \"\\x22\\x00\\x5c\"\n  bitmap \"a5\"\n".as_slice(),
+        ),
+        (
+            ARRAY.as_slice(),
+            b"array 4 2\n  int 7\n  int -1\n".as_slice(),
+        ),
+    ] {
+        let (pod, length) = read_pod(alloc, bytes)?;
+        assert_eq!(rt; length, bytes.len());
+        assert!(rt; dump_text(alloc, &pod)?.as_slice() == text);
+        let mut written = Items::new(alloc);
+        write_pod(alloc, &pod, &mut written)?;
+        assert!(rt; written.as_slice() == bytes);
+    }
+    Ok(())
+}
+
+#[test]
+fn what_stands_behind_is_not_read(rt: HostRuntime) -> Result<(), Fail> {
+    let alloc = rt.alloc();
+    let mut bytes = Items::from_slice(alloc, INT.as_slice())?;
+    bytes.push(1)?;
+    let (_pod, length) = read_pod(alloc, bytes.as_slice())?;
+    assert_eq!(rt; length, 16);
+    Ok(())
+}
+
+#[test]
+fn a_choice_of_kind_none_may_have_more_values(rt: HostRuntime) -> Result<(), Fail> {
+    let alloc = rt.alloc();
+    let mut bytes = Items::new(alloc);
+    for number in [160u32, 19, 0, 0, 4, 3] {
+        bytes.extend(number.to_le_bytes().as_slice())?;
+    }
+    bytes.extend_filled(144, 1)?;
+    let (pod, length) = read_pod(alloc, bytes.as_slice())?;
+    assert_eq!(rt; length, 168);
+    let Pod::Choice { values, .. } = pod else {
+        panic!(rt; "no choice was read");
+    };
+    assert_eq!(rt; values.len(), 36);
     Ok(())
 }
 

@@ -1,42 +1,19 @@
 //! Words and numbers at the end of a text.
-ghost use Rattle.std.specs.Prelude.{◌≡◌, ◌≤◌, ◌++◌, codes, decimal, drop, length, OnOk};
+ghost use Rattle.std.specs.Prelude.{◌≡◌, ◌++◌, codes, OnOk};
 ghost use Rattle.std.specs.List.{flat_map};
 ghost use Rattle.std.specs.Fmt.{signed_decimal};
 ghost use Rattle.pod_codec.specs.DumpWords.{hex_digits, hex, escaped, numbered, two_numbered, quoted};
 
-use pw_base::{Memory, Text};
-
-/// The most digits that a number can have.
-const DIGITS: usize = 20;
+use pw_base::{Memory, Text, append_decimal};
 
 const HEX: [u8; 16] = *b"0123456789abcdef";
-
-/// Writes a number into the last bytes of a row, in plain decimal; the answer is where it begins.
-fn put_digits(n: u64, digits: &mut [u8]) -> usize
-    requires { length digits.old ≡ DIGITS }
-    ensures within { result ≤ DIGITS }
-    ensures digits { drop result digits.new ≡ decimal n }
-{
-    let mut start = digits.len();
-    let mut rest = n;
-    while rest >= 10 {
-        start -= 1;
-        digits[start] = b'0' + (rest % 10) as u8;
-        rest /= 10;
-    }
-    start -= 1;
-    digits[start] = b'0' + rest as u8;
-    start
-}
 
 /// Appends a word and a number.
 pub fn put_number(word: &[u8], n: u64, text: &mut Text) -> Result<(), Memory>
     ensures { OnOk result (text.new ≡ text.old ++ numbered word.now n) }
 {
-    let mut digits = [0; DIGITS];
-    let start = put_digits(n, &mut digits);
     text.extend(word)?;
-    text.extend(&digits[start..])
+    append_decimal(text, n)
 }
 
 /// Appends a word, a number, a mark and another number.

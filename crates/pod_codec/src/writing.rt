@@ -3,6 +3,8 @@ ghost use Rattle.std.specs.Prelude.{◌≡◌, ◌+◌, ◌≤◌, ◌++◌, len
 ghost use Rattle.std.specs.List.{flat_map, AllByRecursion};
 ghost use Rattle.pod_codec.specs.Framing.{are_children, framed, keyed_bytes};
 ghost use Rattle.pod_codec.specs.PodValue.{form_of, keyed_of, struct_form, object_form, choice_form, canonical};
+ghost use Rattle.pod_codec.specs.declared.pod.Pod.TheViews.{out-Pod};
+ghost use Rattle.pod_codec.specs.Numbers.{ElementsFit, PropFits, ValueFits, NumbersFit};
 ghost use Rattle.pod_codec.specs.Writable.{Fits, IsWritable, FitsBody, Tells};
 
 use crate::containers::{MAX_DEPTH, end_frame, put_children};
@@ -18,6 +20,7 @@ use std::alloc::Global;
 fn put_pod(pod: &Pod, left: u32, to: &mut Items<u8>) -> Result<(), WriteFault>
     ensures ok { OnOk result (to.new ≡ to.old ++ framed (form_of pod.now)) }
     ensures told { Tells result (Fits left (form_of pod.now)) }
+    ensures numbers { OnOk result (NumbersFit left pod.now) }
 {
     if left == 0 {
         return Err(WriteFault::Unwritable);
@@ -33,6 +36,7 @@ fn put_pod(pod: &Pod, left: u32, to: &mut Items<u8>) -> Result<(), WriteFault>
 fn put_body(pod: &Pod, left: u32, to: &mut Items<u8>) -> Result<(), WriteFault>
     ensures ok { OnOk result (to.new ≡ to.old ++ (form_of pod.now).body) }
     ensures told { FitsBody result left (form_of pod.now) }
+    ensures numbers { OnOk result (ValueFits (NumbersFit left) (out-Pod pod.now)) }
 {
     match pod {
         Pod::None => Ok(()),
@@ -71,6 +75,7 @@ fn put_choice(
 ) -> Result<(), WriteFault>
     ensures ok { OnOk result (to.new ≡ to.old ++ (choice_form kind flags child (map form_of values.now)).body) }
     ensures told { Tells result (IsTrue (are_children child (map form_of values.now))) }
+    ensures numbers { OnOk result (ElementsFit values.now) }
 {
     put_pair(kind, flags, to)?;
     put_children(values, child, to)
@@ -81,6 +86,7 @@ fn put_choice(
 fn put_struct(fields: &[Pod], left: u32, to: &mut Items<u8>) -> Result<(), WriteFault>
     ensures ok { OnOk result (to.new ≡ to.old ++ flat_map framed (map form_of fields.now)) }
     ensures told { FitsBody result left (struct_form (map form_of fields.now)) }
+    ensures numbers { OnOk result (AllByRecursion (NumbersFit left) fields.now) }
 {
     put_pods(fields, left, to)
 }
@@ -96,6 +102,7 @@ fn put_object(
 ) -> Result<(), WriteFault>
     ensures ok { OnOk result (to.new ≡ to.old ++ (object_form object id (map keyed_of props.now)).body) }
     ensures told { FitsBody result left (object_form object id (map keyed_of props.now)) }
+    ensures numbers { OnOk result (AllByRecursion (PropFits (NumbersFit left)) props.now) }
 {
     put_pair(object, id, to)?;
     put_props(props, left, to)
@@ -106,6 +113,7 @@ fn put_object(
 fn put_pods(pods: &[Pod], left: u32, to: &mut Items<u8>) -> Result<(), WriteFault>
     ensures ok { OnOk result (to.new ≡ to.old ++ flat_map framed (map form_of pods.now)) }
     ensures told { Tells result (AllByRecursion (Fits left) (map form_of pods.now)) }
+    ensures numbers { OnOk result (AllByRecursion (NumbersFit left) pods.now) }
 {
     for pod in pods {
         put_pod(pod, left, to)?;
@@ -118,6 +126,7 @@ fn put_pods(pods: &[Pod], left: u32, to: &mut Items<u8>) -> Result<(), WriteFaul
 fn put_prop(prop: &Prop, left: u32, to: &mut Items<u8>) -> Result<(), WriteFault>
     ensures ok { OnOk result (to.new ≡ to.old ++ keyed_bytes (keyed_of prop.now)) }
     ensures told { Tells result (Fits left (keyed_of prop.now).value) }
+    ensures numbers { OnOk result (PropFits (NumbersFit left) prop.now) }
 {
     put_pair(prop.key, prop.flags, to)?;
     put_pod(&prop.value, left, to)
@@ -128,6 +137,7 @@ fn put_prop(prop: &Prop, left: u32, to: &mut Items<u8>) -> Result<(), WriteFault
 fn put_props(props: &[Prop], left: u32, to: &mut Items<u8>) -> Result<(), WriteFault>
     ensures ok { OnOk result (to.new ≡ to.old ++ flat_map keyed_bytes (map keyed_of props.now)) }
     ensures told { Tells result (AllByRecursion (λ k. Fits left k.value) (map keyed_of props.now)) }
+    ensures numbers { OnOk result (AllByRecursion (PropFits (NumbersFit left)) props.now) }
 {
     for prop in props {
         put_prop(prop, left, to)?;
@@ -144,6 +154,7 @@ fn put_props(props: &[Prop], left: u32, to: &mut Items<u8>) -> Result<(), WriteF
 pub fn write_pod(alloc: Global, pod: &Pod, to: &mut Items<u8>) -> Result<(), WriteFault>
     ensures ok { OnOk result (to.new ≡ to.old ++ canonical pod.now) }
     ensures told { Tells result (IsWritable pod.now) }
+    ensures numbers { OnOk result (NumbersFit 16 pod.now) }
     ensures err { OnErr result (to.new ≡ to.old) }
 {
     let mut bytes = Items::new(alloc);

@@ -1,3 +1,7 @@
+pub mod DecimalLemmas
+pub mod FormChecksLemmas
+pub mod FreshChecksLemmas
+pub mod FrontLemmas
 pub mod HistoryLemmas
 pub mod InMemoryLemmas
 pub mod OrderLemmas

@@ -29,12 +29,9 @@ finish_place events cycle node = position_or_len (is_finish cycle node) events
 abbrev pub tick_place : List Event → ℕ
 tick_place events = position_or_len is_tick events
 
-abbrev pub IsFollower : Shape → ℕ → Type 0
-IsFollower shape n = Contains (nodes_of shape) n × ¬ (n ≡ shape.driver)
-
 -- a late node is a follower, and finishes after the Tick
 abbrev pub IsLate : Shape → List Event → ℕ → ℕ → Type 0
-IsLate shape events cycle n = IsFollower shape n × (tick_place events < finish_place events cycle n)
+IsLate shape events cycle n = Contains (nodes_of shape) n × ¬ (n ≡ shape.driver) × (tick_place events < finish_place events cycle n)
 
 -- an event between Begin and End: a Start or Finish of an active node, or a Tick before the driver's Start that names late nodes
 abbrev pub IsOfCycle : Shape → List Event → ℕ → Event → Type 0

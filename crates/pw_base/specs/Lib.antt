@@ -3,7 +3,10 @@ pub mod Dependencies
 pub mod EventWords
 pub mod Every
 pub mod Files
+pub mod FormChecks
+pub mod FreshChecks
 pub mod History
+pub mod HistoryFronts
 pub mod InMemory
 pub mod KindFunction
 pub mod KindPorts

@@ -3,28 +3,28 @@ ghost use Rattle.std.specs.Prelude.{◌≡◌, ℕ, ◌<◌, ◌≤◌, ◌-◌,
 ghost use Rattle.std.specs.List.{position};
 ghost use Rattle.pw_base.specs.Ordered.{IsOrdered, StartsLast, IsRun};
 ghost use Rattle.pw_base.specs.History.{is_start, is_finish, is_tick, start_place, finish_place, tick_place};
-ghost use Rattle.pw_base.specs.History.{IsFollower, IsLate, IsOfCycle, RunsOnce, KeepsOrder, IsLegalInside, IsLegalCycle};
+ghost use Rattle.pw_base.specs.History.{IsLate, IsOfCycle, RunsOnce, KeepsOrder, IsLegalInside, IsLegalCycle};
 
 use crate::dependencies::{has_node, is_waiting};
 use crate::event::Event;
 use crate::shape::{Shape, ShapeNode};
 
 // Whether an event is the Start of a node in a cycle.
-fn is_start(event: &Event, in_cycle: u32, of_node: u32) -> bool
+fn is_start(event: &Event, in_cycle: u64, of_node: u32) -> bool
     ensures { result ≡ is_start in_cycle of_node event.now }
 {
     match event {
-        Event::Start { cycle, node } => *cycle == in_cycle && *node == of_node,
+        Event::Start { cycle, node } => u64::from(*cycle) == in_cycle && *node == of_node,
         _ => false,
     }
 }
 
 // Whether an event is the Finish of a node in a cycle.
-fn is_finish(event: &Event, in_cycle: u32, of_node: u32) -> bool
+fn is_finish(event: &Event, in_cycle: u64, of_node: u32) -> bool
     ensures { result ≡ is_finish in_cycle of_node event.now }
 {
     match event {
-        Event::Finish { cycle, node } => *cycle == in_cycle && *node == of_node,
+        Event::Finish { cycle, node } => u64::from(*cycle) == in_cycle && *node == of_node,
         _ => false,
     }
 }
@@ -37,7 +37,7 @@ fn is_tick(event: &Event) -> bool
 }
 
 // Where a node's Start stands, if it does.
-fn find_start(events: &[Event], cycle: u32, node: u32) -> Option<usize>
+fn find_start(events: &[Event], cycle: u64, node: u32) -> Option<usize>
     ensures { result ≡ position (is_start cycle node) events.now }
 {
     events.iter().position(|e| is_start(e, cycle, node))
@@ -45,14 +45,14 @@ fn find_start(events: &[Event], cycle: u32, node: u32) -> Option<usize>
 
 // Where a node's Start stands; past the end where it does not.
 #[tactic(auto, using(crate::proofs::HistoryLemmas::place_or_end))]
-fn start_place(events: &[Event], cycle: u32, node: u32) -> usize
+fn start_place(events: &[Event], cycle: u64, node: u32) -> usize
     ensures { result ≡ start_place events.now cycle node }
 {
     find_start(events, cycle, node).unwrap_or(events.len())
 }
 
 // Where a node's Finish stands, if it does.
-fn find_finish(events: &[Event], cycle: u32, node: u32) -> Option<usize>
+fn find_finish(events: &[Event], cycle: u64, node: u32) -> Option<usize>
     ensures { result ≡ position (is_finish cycle node) events.now }
 {
     events.iter().position(|e| is_finish(e, cycle, node))
@@ -60,7 +60,7 @@ fn find_finish(events: &[Event], cycle: u32, node: u32) -> Option<usize>
 
 // Where a node's Finish stands; past the end where it does not.
 #[tactic(auto, using(crate::proofs::HistoryLemmas::place_or_end))]
-fn finish_place(events: &[Event], cycle: u32, node: u32) -> usize
+fn finish_place(events: &[Event], cycle: u64, node: u32) -> usize
     ensures { result ≡ finish_place events.now cycle node }
 {
     find_finish(events, cycle, node).unwrap_or(events.len())
@@ -82,7 +82,7 @@ fn tick_place(events: &[Event]) -> usize
 }
 
 // Whether a late node is a follower and finishes after the Tick.
-fn is_late(shape: &Shape, events: &[Event], cycle: u32, node: u32) -> bool
+fn is_late(shape: &Shape, events: &[Event], cycle: u64, node: u32) -> bool
     ensures { IsTrue result ↔ IsLate shape.now events.now cycle node }
 {
     has_node(shape, node)
@@ -99,7 +99,7 @@ fn has_bit(set: u64, bit: u32) -> bool
 }
 
 // Whether each node of the set is late.
-fn all_late(shape: &Shape, events: &[Event], cycle: u32, late: u64) -> bool
+fn all_late(shape: &Shape, events: &[Event], cycle: u64, late: u64) -> bool
     ensures { IsTrue result ↔ ((n : ℕ) → n < 64 → IsBitSet late n → IsLate shape.now events.now cycle n) }
 {
     for n in 0..64 {
@@ -111,14 +111,15 @@ fn all_late(shape: &Shape, events: &[Event], cycle: u32, late: u64) -> bool
 }
 
 // Whether an event may stand between Begin and End.
-fn is_of_cycle(shape: &Shape, events: &[Event], in_cycle: u32, event: &Event) -> bool
+fn is_of_cycle(shape: &Shape, events: &[Event], in_cycle: u64, event: &Event) -> bool
     ensures { IsTrue result ↔ IsOfCycle shape.now events.now in_cycle event.now }
 {
     match event {
-        Event::Start { cycle, node } | Event::Finish { cycle, node } => *cycle == in_cycle
+        Event::Start { cycle, node } | Event::Finish { cycle, node } => u64::from(*cycle)
+            == in_cycle
             && has_node(shape, *node),
         Event::Tick { cycle, late } => {
-            *cycle == in_cycle
+            u64::from(*cycle) == in_cycle
                 && tick_place(events) < start_place(events, in_cycle, shape.driver)
                 && all_late(shape, events, in_cycle, *late)
         }
@@ -127,14 +128,14 @@ fn is_of_cycle(shape: &Shape, events: &[Event], in_cycle: u32, event: &Event) ->
 }
 
 // How many Starts a node has.
-fn count_starts(events: &[Event], cycle: u32, node: u32) -> usize
+fn count_starts(events: &[Event], cycle: u64, node: u32) -> usize
     ensures { result ≡ count_by (is_start cycle node) events.now }
 {
     events.iter().filter(|e| is_start(e, cycle, node)).count()
 }
 
 // How many Finishes a node has.
-fn count_finishes(events: &[Event], cycle: u32, node: u32) -> usize
+fn count_finishes(events: &[Event], cycle: u64, node: u32) -> usize
     ensures { result ≡ count_by (is_finish cycle node) events.now }
 {
     events.iter().filter(|e| is_finish(e, cycle, node)).count()
@@ -156,7 +157,7 @@ fn has_few_ticks(events: &[Event]) -> bool
 
 #[tactic(auto, unfolding(crate::specs::Ordered::IsRun))]
 // Whether a node has one Start and one Finish, the Start first.
-fn runs_once(events: &[Event], cycle: u32, n: &ShapeNode) -> bool
+fn runs_once(events: &[Event], cycle: u64, n: &ShapeNode) -> bool
     ensures { IsTrue result ↔ IsRun events.now cycle n.now }
 {
     count_starts(events, cycle, n.node) == 1
@@ -166,7 +167,7 @@ fn runs_once(events: &[Event], cycle: u32, n: &ShapeNode) -> bool
 
 #[tactic(auto, unfolding(crate::specs::Ordered::IsOrdered))]
 // Whether `n` starts after `m` has finished, where it waits for the work of `m`.
-fn comes_after(shape: &Shape, events: &[Event], cycle: u32, n: &ShapeNode, m: &ShapeNode) -> bool
+fn comes_after(shape: &Shape, events: &[Event], cycle: u64, n: &ShapeNode, m: &ShapeNode) -> bool
     ensures { IsTrue result ↔ IsOrdered shape.now events.now cycle n.now m.now }
 {
     m.node == shape.driver
@@ -176,7 +177,7 @@ fn comes_after(shape: &Shape, events: &[Event], cycle: u32, n: &ShapeNode, m: &S
 
 #[tactic(auto, unfolding(crate::specs::Ordered::StartsLast))]
 // Whether a node starts after all that it waits for.
-fn starts_last(shape: &Shape, events: &[Event], cycle: u32, n: &ShapeNode) -> bool
+fn starts_last(shape: &Shape, events: &[Event], cycle: u64, n: &ShapeNode) -> bool
     ensures { IsTrue result ↔ StartsLast shape.now events.now cycle n.now }
 {
     shape
@@ -187,7 +188,7 @@ fn starts_last(shape: &Shape, events: &[Event], cycle: u32, n: &ShapeNode) -> bo
 }
 
 // Whether each node starts after all that it waits for.
-fn all_start_last(shape: &Shape, events: &[Event], cycle: u32) -> bool
+fn all_start_last(shape: &Shape, events: &[Event], cycle: u64) -> bool
     ensures { IsTrue result ↔ All (StartsLast shape.now events.now cycle) shape.now.nodes }
 {
     shape
@@ -198,21 +199,21 @@ fn all_start_last(shape: &Shape, events: &[Event], cycle: u32) -> bool
 }
 
 // Whether each node starts after all that precede it.
-fn keeps_order(shape: &Shape, events: &[Event], cycle: u32) -> bool
+fn keeps_order(shape: &Shape, events: &[Event], cycle: u64) -> bool
     ensures { IsTrue result ↔ KeepsOrder shape.now events.now cycle }
 {
     all_start_last(shape, events, cycle)
 }
 
 // Whether each event may stand between Begin and End.
-fn all_of_cycle(shape: &Shape, events: &[Event], cycle: u32) -> bool
+fn all_of_cycle(shape: &Shape, events: &[Event], cycle: u64) -> bool
     ensures { IsTrue result ↔ All (IsOfCycle shape.now events.now cycle) events.now }
 {
     events.iter().all(|e| is_of_cycle(shape, events, cycle, e))
 }
 
 // Whether each node runs once.
-fn all_run_once(shape: &Shape, events: &[Event], cycle: u32) -> bool
+fn all_run_once(shape: &Shape, events: &[Event], cycle: u64) -> bool
     ensures { IsTrue result ↔ All (IsRun events.now cycle) shape.now.nodes }
 {
     shape
@@ -224,7 +225,7 @@ fn all_run_once(shape: &Shape, events: &[Event], cycle: u32) -> bool
 
 #[tactic(auto, unfolding(crate::specs::Ordered::IsRun))]
 /// Whether events are legal between Begin and End.
-pub(crate) fn is_legal_inside(shape: &Shape, events: &[Event], cycle: u32) -> bool
+pub(crate) fn is_legal_inside(shape: &Shape, events: &[Event], cycle: u64) -> bool
     ensures { IsTrue result ↔ IsLegalInside shape.now events.now cycle }
 {
     if !all_of_cycle(shape, events, cycle) || !all_run_once(shape, events, cycle) {

@@ -1,22 +1,26 @@
 //! The types, definitions and traits that every crate of the engine stands on.
 //!
 //! `Items` and `Room` are lists that contracts see as lists. `Plan`, `Shape` and `Event` say what a script
-//! asks for, what one epoch is, and what happened. `Files`, `Sink`, `Ticker` and `Gate` are the outside;
+//! asks for, what one epoch is, and what happened; `is_sound_shape`, `is_pooled_shape` and `is_legal_history`
+//! check them against their definitions. `Files`, `Sink`, `Ticker` and `Gate` are the outside;
 //! the objects of `in_memory` stand in for it in tests. The definitions of one sample and of the kinds of
 //! node, in `specs/`, are the words that kernels, node states and the cycle function share.
 #![tactic(auto)]
 
 mod cycle_history;
+mod decimal;
 mod dependencies;
 mod event;
 mod every;
 mod files;
+mod fresh_entries;
 mod gate;
 mod history;
 mod ids;
 mod in_memory;
 mod items;
 mod kind;
+mod kind_ranges;
 mod limit;
 mod link_order;
 mod meet;
@@ -24,6 +28,9 @@ mod memory;
 mod output;
 mod parts;
 mod plan;
+mod plan_forms;
+mod plan_fresh;
+mod plan_kept;
 mod pooling;
 mod pools;
 mod room;
@@ -35,6 +42,7 @@ mod tests;
 mod ticker;
 mod words;
 
+pub use decimal::append_decimal;
 pub use event::Event;
 pub use every::Every;
 pub use files::{FileFail, Files, Loaded};

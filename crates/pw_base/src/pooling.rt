@@ -18,8 +18,8 @@ fn is_port(p: PortId, q: PortId) -> bool
     p.node == q.node && p.port == q.port
 }
 
-// Whether a port stands before another: by node, then by port.
-fn is_before(p: PortId, q: PortId) -> bool
+/// Whether a port stands before another: by node, then by port.
+pub(crate) fn is_before(p: PortId, q: PortId) -> bool
     ensures { result ≡ is_before p q }
 {
     p.node < q.node || p.node == q.node && p.port < q.port

@@ -8,8 +8,8 @@ use crate::dependencies::{has_node, is_counted};
 use crate::link_order::has_order;
 use crate::shape::{Shape, ShapeLink, ShapeNode};
 
-// Whether a number is within both ends.
-fn is_between(low: u32, high: u32, n: u32) -> bool
+/// Whether a number is within both ends.
+pub(crate) fn is_between(low: u32, high: u32, n: u32) -> bool
     ensures { IsTrue result ↔ IsBetween low high n }
 {
     low <= n && n <= high

@@ -1,5 +1,6 @@
 //! Worked shapes and histories, words, lists, and the objects in memory.
 
+use crate::decimal::append_decimal;
 use crate::event::Event;
 use crate::every::Every;
 use crate::files::{FileFail, Files, Loaded};
@@ -388,6 +389,16 @@ fn lists_grow_and_shrink(rt: HostRuntime) -> Result<(), Fail> {
     room.push_spare(3);
     assert!(rt; room.as_slice() == [1, 2, 3].as_slice() && room.spare() >= 2);
     assert!(rt; room.into_items().len() == 3 && numbers.len() == 2);
+    Ok(())
+}
+
+#[test]
+fn numbers_end_a_text(rt: HostRuntime) -> Result<(), Fail> {
+    let mut text = Items::from_slice(rt.alloc(), b"n ")?;
+    append_decimal(&mut text, 0)?;
+    append_decimal(&mut text, 4096)?;
+    append_decimal(&mut text, u64::MAX)?;
+    assert!(rt; text.as_slice() == b"n 0409618446744073709551615".as_slice());
     Ok(())
 }
 

@@ -1,17 +1,23 @@
--- No POD reaches past 1,048,584 bytes, so the end may stand there.
-use Rattle.std.proofs.Common.{◌≡◌, ◌≤◌, length, min, arith}
-use Rattle.pod_codec.specs.Places.{u32_at}
-use Rattle.pod_codec.proofs.ReadingLemmas.{further, outer_fault}
+-- There is an answer, and one that is right is the only one; the canonical spelling spells, and what is spelled has sound choices.
+use Rattle.std.proofs.Common.{length}
+use Rattle.pod_codec.specs.PodValue.{canonical}
+use Rattle.pod_codec.proofs.SpellingLemmas.{only_read, only_refused, only_sound}
+use Rattle.pod_codec.proofs.CanonicalLemmas.{canonical_front}
+use Rattle.pod_codec.proofs.WholeAnswerLemmas.{has_answer}
 use Rattle.pod_codec.proofs.reading.read_pod.Goals as goal
 
-pub returns-in-Ok-clause-found : goal.returns-in-Ok-clause-found
-returns-in-Ok-clause-found c =
-    let small : u32_at c.args.bytes.now 0 ≤ 1048576 = omega (arith, c.number_at-size.ensures) in
-    let near : c.min-end.result ≤ length c.args.bytes.now = omega (arith, c.min-end.ensures) in
-    record { front = further 15 0 c.min-end.result (length c.args.bytes.now) c.in-Ok.length c.args.bytes.now c.in-Ok.pod near c.in-Ok.ensures.found; limit = small }
+pub returns-clause-one : goal.returns-clause-one
+returns-clause-one c = has_answer c.args.bytes.now
 
-pub returns-in-Err-clause-fault : goal.returns-in-Err-clause-fault
-returns-in-Err-clause-fault c =
-    let small : u32_at c.args.bytes.now 0 ≤ 1048576 = omega (arith, c.number_at-size.ensures) in
-    let end : c.min-end.result ≡ min (length c.args.bytes.now) 1048584 = omega (arith, c.min-end.ensures) in
-    outer_fault c.min-end.result c.args.bytes.now c.in-Err.fault end (omega arith) small c.in-Err.ensures.fault
+pub returns-clause-only_found : goal.returns-clause-only_found
+returns-clause-only_found c = λ pod size h. only_read c.front_of.result c.args.bytes.now c.front_of.ensures.found c.front_of.ensures.fault pod size h
+
+pub returns-clause-only_fault : goal.returns-clause-only_fault
+returns-clause-only_fault c = λ first h. only_refused c.front_of.result c.args.bytes.now c.front_of.ensures.found c.front_of.ensures.fault first h
+
+pub returns-clause-back : goal.returns-clause-back
+returns-clause-back c = λ pod rest fits numbers is.
+    only_read c.front_of.result c.args.bytes.now c.front_of.ensures.found c.front_of.ensures.fault pod (length (canonical pod)) (canonical_front c.args.bytes.now rest pod fits numbers is)
+
+pub returns-clause-sound : goal.returns-clause-sound
+returns-clause-sound c = only_sound c.front_of.result c.args.bytes.now c.front_of.ensures.found

@@ -2,7 +2,7 @@
 use Rattle.std.proofs.Common.{◌+◌, ◌-◌, length, map, arith, rules}
 use Rattle.pod_codec.specs.PodValue.{form_of, keyed_of}
 use Rattle.pod_codec.specs.Writable.{IsOpen}
-use Rattle.pod_codec.proofs.WritingLemmas.{struct_told, object_told, whole_told, open_size}
+use Rattle.pod_codec.proofs.WritingLemmas.{struct_told, object_told, whole_told, open_size, numbers_told}
 use Rattle.pod_codec.proofs.writing.+write.Goals as goal
 
 pub put_struct-returns-clause-told : goal.put_struct-returns-clause-told
@@ -21,3 +21,6 @@ put_pod-returns-clause-told t c =
     let told = c.in_ok-put_body.ensures.told in
     whole_told c.end_frame.result c.args.left (length c.put_body.new.to - (c.len-at.result + 8)) f
     (omega (arith, open_size c.args.to.now f c.len-at.result c.put_body.new.to is_open)) told.0 (omega (arith, told.1)) c.end_frame.ensures.told
+
+pub put_pod-returns-clause-numbers : goal.put_pod-returns-clause-numbers
+put_pod-returns-clause-numbers t c = numbers_told c.end_frame.result c.args.left c.args.pod.now (omega arith) c.in_ok-put_body.ensures.numbers

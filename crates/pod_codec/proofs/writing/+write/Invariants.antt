@@ -4,6 +4,7 @@ use Rattle.std.specs.List.{flat_map, AllByRecursion}
 use Rattle.pod_codec.specs.Framing.{framed, keyed_bytes}
 use Rattle.pod_codec.specs.PodValue.{form_of, keyed_of}
 use Rattle.pod_codec.specs.Writable.{Fits}
+use Rattle.pod_codec.specs.Numbers.{PropFits, NumbersFit}
 use Rattle.pod_codec.proofs.writing.+write.Given as goal
 
 abbrev pub invariant-put_pods-loop-pod : goal.invariant-put_pods-loop-pod
@@ -14,6 +15,7 @@ invariant-put_pods-loop-pod l =
       bytes : l.to ++ flat_map framed left ≡ l.fn.to ++ flat_map framed all;
       fits : AllByRecursion (Fits l.left) left → AllByRecursion (Fits l.left) all;
       only : AllByRecursion (Fits l.left) all → AllByRecursion (Fits l.left) left;
+      numbers : AllByRecursion (NumbersFit l.left) (drop l.pod-index l.pods) → AllByRecursion (NumbersFit l.left) l.fn.pods;
     }
 
 abbrev pub invariant-put_props-loop-prop : goal.invariant-put_props-loop-prop
@@ -24,4 +26,5 @@ invariant-put_props-loop-prop l =
       bytes : l.to ++ flat_map keyed_bytes left ≡ l.fn.to ++ flat_map keyed_bytes all;
       fits : AllByRecursion (λ k. Fits l.left k.value) left → AllByRecursion (λ k. Fits l.left k.value) all;
       only : AllByRecursion (λ k. Fits l.left k.value) all → AllByRecursion (λ k. Fits l.left k.value) left;
+      numbers : AllByRecursion (PropFits (NumbersFit l.left)) (drop l.prop-index l.props) → AllByRecursion (PropFits (NumbersFit l.left)) l.fn.props;
     }

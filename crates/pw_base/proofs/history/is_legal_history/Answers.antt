@@ -1,16 +1,22 @@
-use Rattle.std.proofs.Common.{◌+◌, ◌≤◌, arith, subst, sym, take, drop, length, length-drop, map}
-use Rattle.pw_base.specs.History.{AreJoined, epoch_cycles, IsLegalHistory}
-use Rattle.pw_base.proofs.HistoryLemmas.{history_more, rest_whole, shapes_more}
+use Rattle.std.proofs.Common.{◌≡◌, ◌↔◌, IsTrue, [], ap, sym, ◌∙◌, subst, map, take, length, arith}
+use Rattle.std.proofs.lemmas.List.{take_all}
+use Rattle.pw_base.specs.History.{IsLegalHistory, cycles_of}
+use Rattle.pw_base.specs.HistoryFronts.{LeavesOver}
+use Rattle.pw_base.proofs.FrontLemmas.{history_more, history_stops, history_decides}
 use Rattle.pw_base.proofs.history.is_legal_history.Goals as goal
+
+pub returns-in-None : goal.returns-in-None
+returns-in-None c = (
+  λ f. cc,
+  λ h. absurd (history_stops c.args.epochs.now c.loop-epoch.epoch-index c.epoch-item.result c.args.events.now c.loop-epoch.rest.now c.loop-epoch-test.true c.epoch-item.is c.loop-epoch.invariant c.in-None.ensures h),
+)
 
 pub loop-epoch-preserved : goal.loop-epoch-preserved
 loop-epoch-preserved c =
-    let n = c.loop-epoch.n in let m = c.in-Some.more in let es = c.args.events.now in let i = c.loop-epoch.epoch-index in let all = c.args.epochs.now in
-    let shape = c.epoch-item.result.shape in
-    let h = subst (λ r. (m ≤ length r) × AreJoined (epoch_cycles shape shape.cycles) (take m r)) (rest_whole n es) c.in-Some.ensures in
-    let small : m ≤ length (drop n es) = h.0 in
-    let more = history_more (map (λ e. e.shape) (take i all)) shape n m es c.loop-epoch.invariant.joined h.1 in
-    record {
-      within = omega (arith, length-drop n es);
-      joined = subst (λ ss. IsLegalHistory ss (take (n + m) es)) (sym (shapes_more all i c.epoch-item.result c.loop-epoch-test.true c.epoch-item.is)) more;
-    }
+    history_more c.args.epochs.now c.loop-epoch.epoch-index c.epoch-item.result c.args.events.now c.loop-epoch.rest.now c.loop-epoch-test.true c.epoch-item.is c.loop-epoch.invariant c.in-Some.more.now c.in-Some.ensures
+
+pub returns : goal.returns
+returns c =
+    let all = c.args.epochs.now in let es = c.args.events.now in
+    let h = subst (λ xs. LeavesOver (cycles_of (map (λ e. e.shape) xs)) es c.loop-epoch.rest.now) (take_all c.loop-epoch.epoch-index all c.loop-epoch-test.false) c.loop-epoch.invariant in
+    subst (λ b. IsTrue b ↔ IsLegalHistory (map (λ e. e.shape) all) es) (sym c.is_empty.ensures) (history_decides (map (λ e. e.shape) all) es c.loop-epoch.rest.now h)

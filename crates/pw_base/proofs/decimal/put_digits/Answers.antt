@@ -1,8 +1,8 @@
 use Rattle.std.proofs.Common.{◌≡◌, ◌∙◌, ℕ, ◌+◌, ◌/◌, ◌%◌, ◌<◌, ◌^◌, ap, arith, length, decimal, ◌∷◌, [], ◌++◌, append-nil, length-append, length-set}
 use Rattle.std.proofs.lemmas.List.{drop_all}
 use Rattle.std.proofs.lemmas.Fmt.{length-decimal-le, decimal_nonempty, decimal_step}
-use Rattle.pod_codec.proofs.DecimalLemmas.{digit_more, digit_last}
-use Rattle.pod_codec.proofs.text.put_digits.Goals as goal
+use Rattle.pw_base.proofs.DecimalLemmas.{digit_more, digit_last}
+use Rattle.pw_base.proofs.decimal.put_digits.Goals as goal
 
 pub loop-rest-init : goal.loop-rest-init
 loop-rest-init c = record {
