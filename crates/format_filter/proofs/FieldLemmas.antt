@@ -14,7 +14,7 @@ use Rattle.format_filter.specs.CommonFormat.{AreSoundFields, field_of}
 use Rattle.format_filter.specs.Merging.{IsKeyAt, IsBehind}
 
 -- some field
-any_field : Field
+pub any_field : Field
 any_field = record { key = 0; flags = 0; choice = Only pod.None }
 
 pub field_none : (key : ℕ) (xs : List Field) → All (λ f. f.key ≢ key) xs → field_of xs key ≡ None

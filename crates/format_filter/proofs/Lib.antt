@@ -13,3 +13,4 @@ pub mod FixationLemmas
 pub mod ReadingLemmas
 pub mod PropLemmas
 pub mod LawLemmas
+pub mod UniqueLemmas

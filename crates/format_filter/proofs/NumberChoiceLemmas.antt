@@ -35,7 +35,7 @@ pair_types : (wide : Wide) (l h : ℤ) → AreOfOneType (number_of wide l ∷ nu
 pair_types Int l h = (4, omega arith, All-cons (IsOfType 4) (number_of Int l) (number_of Int h ∷ []) (int_type l) (All-cons (IsOfType 4) (number_of Int h) [] (int_type h) (All-nil (IsOfType 4))))
 pair_types Long l h = (5, omega arith, All-cons (IsOfType 5) (number_of Long l) (number_of Long h ∷ []) (long_type l) (All-cons (IsOfType 5) (number_of Long h) [] (long_type h) (All-nil (IsOfType 5))))
 
-above : (min max step : ℤ) (k : ℕ) → pos 0 <ℤ step → max ≡ min +ℤ (pos k *ℤ step) → min ≤ℤ max
+pub above : (min max step : ℤ) (k : ℕ) → pos 0 <ℤ step → max ≡ min +ℤ (pos k *ℤ step) → min ≤ℤ max
 above min max (pos s) k z e = omega (arith, ints)
 above min max (negsuc s) k z e = absurd (omega (arith, ints))
 

@@ -68,3 +68,9 @@ FaultsObject other fault = fault ≡ f.NotObject
 
 abbrev pub IsFirstFault : Pod → FormatFault → Type 0
 IsFirstFault pod fault = FaultsObject (out-Pod pod) fault
+
+-- READ AS this format: it is the one that the object is read as, and no fault stands
+pub record IsReadAs (pod : Pod) (format : Format) : Type 0 where
+  pub reads : IsFormatOf pod format
+  pub only : (other : Format) → IsFormatOf pod other → other ≡ format
+  pub faultless : (fault : FormatFault) → IsFirstFault pod fault → ⊥

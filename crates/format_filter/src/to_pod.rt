@@ -3,10 +3,11 @@ ghost use Rattle.std.specs.Prelude.{◌≡◌, [], ◌∷◌, ◌++◌, length, 
 ghost use Rattle.std.specs.List.{AllZip};
 ghost use Rattle.pod_codec.specs.declared.pod.Pod.TheViews.{out-Pod};
 ghost use Rattle.pod_codec.specs.declared.pod.ChoiceKind.TheVariants as k;
-ghost use Rattle.pod_codec.specs.SoundChoices.{IsOfType};
+ghost use Rattle.pod_codec.specs.SoundChoices.{IsOfType, HasSoundChoices};
 ghost use Rattle.format_filter.specs.Members.{number_of};
 ghost use Rattle.format_filter.specs.Soundness.{FitsWide, IsSound};
 ghost use Rattle.format_filter.specs.CommonFormat.{IsSoundFormat, AreSoundFields};
+ghost use Rattle.format_filter.specs.FormatReading.{IsReadAs};
 ghost use Rattle.format_filter.specs.FormatWriting.{type_of_wide, IsChoice, Writes, WritesField, IsWritten};
 
 use crate::choice::{Choice, Wide};
@@ -155,6 +156,18 @@ fn props_of(alloc: Global, fields: &[Field]) -> Result<Items<Prop>, Memory>
     Ok(props)
 }
 
+/// The object of these properties.
+fn object_of(format: &Format, props: Items<Prop>) -> Pod
+    requires { AllZip WritesField format.now.fields props }
+    ensures { IsWritten format.now result }
+{
+    Pod::Object {
+        object: format.object,
+        id: format.id,
+        props,
+    }
+}
+
 /// The object that spells a format: its properties ascend by key, an Only is its value, and the values of another
 /// choice begin with its pick; an Enum has its pick and then all its alternatives. `format_of` of it is the
 /// same format.
@@ -163,11 +176,9 @@ fn props_of(alloc: Global, fields: &[Field]) -> Result<Items<Prop>, Memory>
 pub fn pod_of(alloc: Global, format: &Format) -> Result<Pod, Memory>
     requires { IsSoundFormat format.now }
     ensures written { IfOk result (IsWritten format.now) }
+    ensures law { IfOk result (λ pod. IsReadAs pod format.now) }
+    ensures sound { IfOk result HasSoundChoices }
 {
     let props = props_of(alloc, format.fields.as_slice())?;
-    Ok(Pod::Object {
-        object: format.object,
-        id: format.id,
-        props,
-    })
+    Ok(object_of(format, props))
 }
