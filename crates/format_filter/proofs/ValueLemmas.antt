@@ -9,9 +9,9 @@ use Rattle.pod_codec.specs.PodType.{child_size}
 use Rattle.pod_codec.specs.SoundChoices.{IsOfType}
 use Rattle.format_filter.specs.declared.choice.Choice.{Choice}
 use Rattle.format_filter.specs.declared.choice.Choice.TheVariants.{Only, Enum}
-use Rattle.format_filter.specs.Members.{IsMember, pick_of}
+use Rattle.format_filter.specs.Members.{first_of, IsMember, pick_of}
 use Rattle.format_filter.specs.Soundness.{AreOfOneType}
-use Rattle.format_filter.specs.Intersection.{IsBefore, AreThoseOf, IsCommon, HasForm, IsPicked, IsCommonIn, first_of}
+use Rattle.format_filter.specs.Intersection.{IsBefore, AreThoseOf, IsCommon, HasForm, IsPicked, IsCommonIn}
 use Rattle.format_filter.specs.Making.{AreListed}
 
 before_more : (xs ys : List Pod) (p q : Pod) → IsBefore xs p q → IsBefore (xs ++ ys) p q

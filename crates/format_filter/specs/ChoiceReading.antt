@@ -12,8 +12,7 @@ use Rattle.format_filter.specs.declared.choice.Choice.TheVariants.{Only, Enum, R
 use Rattle.format_filter.specs.declared.choice.Wide.{Wide}
 use Rattle.format_filter.specs.declared.fault.FormatFault.{FormatFault}
 use Rattle.format_filter.specs.declared.fault.FormatFault.TheVariants as f
-use Rattle.format_filter.specs.Members.{number_of, IsMember, pick_of}
-use Rattle.format_filter.specs.Intersection.{first_of}
+use Rattle.format_filter.specs.Members.{number_of, IsMember, pick_of, first_of}
 
 -- the default is the pick where it is a member; else the min of a Range or Step, or the first alternative, is
 abbrev pub Prefers : Pod → Choice → Type 0

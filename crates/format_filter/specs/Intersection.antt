@@ -7,7 +7,7 @@ use Rattle.pod_codec.specs.declared.pod.Pod.{Pod}
 use Rattle.format_filter.specs.declared.choice.Choice.{Choice}
 use Rattle.format_filter.specs.declared.choice.Choice.TheVariants.{Only, Enum, Range, Step}
 use Rattle.format_filter.specs.declared.choice.Wide.{Wide}
-use Rattle.format_filter.specs.Members.{number_of, IsMember, pick_of}
+use Rattle.format_filter.specs.Members.{number_of, IsMember, pick_of, first_of}
 use Rattle.format_filter.specs.Soundness.{IsSound}
 
 -- p stands in a list before q does: some front of it has p and not q
@@ -51,14 +51,6 @@ HasForm a (Enum pick alts) c = IsOfThose alts (IsMember a) c
 HasForm (Range wide p min max) (Range w q low high) c = IsOverlap (int_max min low) (int_min max high) wide c
 HasForm a b c = IsProgression c
 
--- the first alternative of an Enum, else the least member
-abbrev pub first_of : Choice → Pod
-first_of (Only value) = value
-first_of (Enum pick []) = pick
-first_of (Enum pick (first ∷ rest)) = first
-first_of (Range wide pick min max) = number_of wide min
-first_of (Step wide pick min max step) = number_of wide min
-
 abbrev pub IsCommon : Choice → Choice → Pod → Type 0
 IsCommon a b x = IsMember a x × IsMember b x
 
@@ -84,8 +76,3 @@ IsIntersection a b c = IsCommonIn (HasForm a b) a b c
 abbrev pub Meets : Choice → Choice → Option Choice → Type 0
 Meets a b None = (x : Pod) → IsCommon a b x → ⊥
 Meets a b (Some c) = IsIntersection a b c
-
--- both are Ranges
-abbrev pub AreRanges : Choice → Choice → Type 0
-AreRanges (Range wide p min max) (Range w q low high) = Unit {0}
-AreRanges a b = ⊥

@@ -1,6 +1,6 @@
 -- The members of a choice, the values that it admits, and its pick. SPA POD, "Choice"; spa/pod/pod.h.
 -- Values of different types are different, and floats are compared by their bits.
-use Rattle.std.specs.Prelude.{◌≡◌, ℕ, ℤ, pos, ◌+ℤ◌, ◌*ℤ◌, ◌≤ℤ◌}
+use Rattle.std.specs.Prelude.{◌≡◌, ℕ, ℤ, pos, ◌+ℤ◌, ◌*ℤ◌, ◌≤ℤ◌, [], ◌∷◌}
 use Rattle.std.specs.List.{Contains}
 use Rattle.pod_codec.specs.declared.pod.Pod.{Pod}
 use Rattle.pod_codec.specs.declared.pod.Pod.TheVariants as pod
@@ -32,3 +32,16 @@ pick_of (Only value) = value
 pick_of (Enum pick alts) = pick
 pick_of (Range wide pick min max) = number_of wide pick
 pick_of (Step wide pick min max step) = number_of wide pick
+
+-- the first alternative of an Enum, else the least member
+abbrev pub first_of : Choice → Pod
+first_of (Only value) = value
+first_of (Enum pick []) = pick
+first_of (Enum pick (first ∷ rest)) = first
+first_of (Range wide pick min max) = number_of wide min
+first_of (Step wide pick min max step) = number_of wide min
+
+-- both are Ranges
+abbrev pub AreRanges : Choice → Choice → Type 0
+AreRanges (Range wide p min max) (Range w q low high) = Unit {0}
+AreRanges a b = ⊥

@@ -1,7 +1,8 @@
 //! The intersection of two choices, by their kinds.
 ghost use Rattle.std.specs.Prelude.{◌≡◌, IfOk, IsOk};
 ghost use Rattle.format_filter.specs.Soundness.{IsSound};
-ghost use Rattle.format_filter.specs.Intersection.{Meets, AreRanges};
+ghost use Rattle.format_filter.specs.Intersection.{Meets};
+ghost use Rattle.format_filter.specs.Members.{AreRanges};
 ghost use Rattle.format_filter.specs.Making.{range_of, step_of, IsRange, IsStep, IsRowOf};
 
 use crate::choice::{Choice, Wide};
