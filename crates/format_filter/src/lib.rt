@@ -20,6 +20,8 @@ mod merging;
 mod numbers;
 mod picking;
 mod progression;
+#[cfg(test)]
+mod tests;
 mod to_pod;
 mod values;
 
