@@ -1,0 +1,16 @@
+pub mod CongruenceLemmas
+pub mod NumberLemmas
+pub mod ProgressionLemmas
+pub mod CommonRowLemmas
+pub mod ValueLemmas
+pub mod TypeLemmas
+pub mod NumberChoiceLemmas
+pub mod OverlapLemmas
+pub mod RowLemmas
+pub mod FieldLemmas
+pub mod MergeLemmas
+pub mod FixationLemmas
+pub mod ReadingLemmas
+pub mod PropLemmas
+pub mod LawLemmas
+pub mod UniqueLemmas

@@ -1,0 +1,10 @@
+-- The object is read as the format alone.
+use Rattle.format_filter.proofs.LawLemmas.{format_sound}
+use Rattle.format_filter.proofs.UniqueLemmas.{written_law}
+use Rattle.format_filter.proofs.to_pod.pod_of.Goals as goal
+
+pub returns-clause-law : goal.returns-clause-law
+returns-clause-law c = written_law c.args.format.now c.object_of.result c.requires c.object_of.ensures
+
+pub returns-clause-sound : goal.returns-clause-sound
+returns-clause-sound c = format_sound c.args.format.now c.object_of.result c.requires c.object_of.ensures

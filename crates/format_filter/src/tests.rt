@@ -1,0 +1,434 @@
+ghost use Rattle.std.specs.Prelude.{◌≡◌, length, IfOk};
+ghost use Rattle.std.specs.List.{All};
+ghost use Rattle.pod_codec.specs.SoundChoices.{IsOfType};
+ghost use Rattle.format_filter.specs.Soundness.{IsSound};
+ghost use Rattle.format_filter.specs.FormatWriting.{type_of_wide};
+ghost use Rattle.format_filter.specs.CommonFormat.{IsSoundFormat};
+
+use crate::from_value::choice_of;
+use crate::{Choice, Filtered, Format, FormatFault, Wide, filter, fixate, format_of, meet, pod_of};
+use pod_codec::{ChoiceKind, Pod, read_pod, write_pod};
+use pw_base::{Items, Memory};
+use std::alloc::Global;
+use std::test::Fail;
+
+/// A choice by its kind, its type and its values.
+type Given = (ChoiceKind, Wide, &'static [i64]);
+
+/// A number as a value; one that is no Int is 0.
+fn value(wide: Wide, n: i64) -> Pod
+    ensures { IsOfType (type_of_wide wide) result }
+{
+    match wide {
+        Wide::Int => Pod::Int(i32::try_from(n).unwrap_or(0)),
+        Wide::Long => Pod::Long(n),
+    }
+}
+
+/// Numbers as values.
+fn values(alloc: Global, wide: Wide, numbers: &[i64]) -> Result<Items<Pod>, Memory>
+    ensures { IfOk result (All (IsOfType (type_of_wide wide))) }
+{
+    let mut all = Items::new(alloc);
+    for n in numbers {
+        all.push(value(wide, *n))?;
+    }
+    Ok(all)
+}
+
+/// The choice that is read from these values.
+fn given(alloc: Global, given: Given) -> Result<Choice, FormatFault>
+    ensures { IfOk result IsSound }
+{
+    let (kind, wide, numbers) = given;
+    let child = match wide {
+        Wide::Int => 4,
+        Wide::Long => 5,
+    };
+    let pod = Pod::Choice {
+        kind,
+        flags: 0,
+        child,
+        values: values(alloc, wide, numbers)?,
+    };
+    choice_of(alloc, 7, &pod)
+}
+
+/// The number of a value.
+fn number_in(value: &Pod) -> i64 {
+    match value {
+        Pod::Int(n) => i64::from(*n),
+        Pod::Long(n) => *n,
+        _ => -1,
+    }
+}
+
+/// The first number, the last one and how many they are.
+fn ends(alts: &[Pod]) -> [i64; 3] {
+    match (alts.first(), alts.last()) {
+        (Some(first), Some(last)) => [number_in(first), number_in(last), alts.len() as i64],
+        _ => [0; 3],
+    }
+}
+
+/// The kind of a choice, its pick, and its first number, its last one and its step, or how many they are.
+fn told(choice: &Choice) -> [i64; 5] {
+    match choice {
+        Choice::Only(value) => [1, number_in(value), 0, 0, 0],
+        Choice::Range { pick, min, max, .. } => [2, *pick, *min, *max, 0],
+        Choice::Step {
+            pick,
+            min,
+            max,
+            step,
+            ..
+        } => [3, *pick, *min, *max, *step],
+        Choice::Enum { pick, alts } => {
+            let [first, last, count] = ends(alts.as_slice());
+            [4, number_in(pick), first, last, count]
+        }
+    }
+}
+
+/// The same of a choice that may be there.
+fn told_found(found: Option<Choice>) -> [i64; 5] {
+    match found {
+        Some(choice) => told(&choice),
+        None => [0; 5],
+    }
+}
+
+/// The intersection of a choice with another one, told.
+fn met_with(alloc: Global, a: &Choice, b: Given) -> Result<[i64; 5], Fail>
+    requires { IsSound a.now }
+{
+    let b = given(alloc, b)?;
+    let found = meet(alloc, a, &b)?;
+    Ok(told_found(found))
+}
+
+/// A copy of a choice.
+fn copied(alloc: Global, a: Given) -> Result<Choice, Fail>
+    ensures { IfOk result IsSound }
+{
+    let choice = given(alloc, a)?;
+    Ok(choice.copy(alloc)?)
+}
+
+/// The intersection of two choices, told.
+fn met(alloc: Global, a: Given, b: Given) -> Result<[i64; 5], Fail> {
+    let a = copied(alloc, a)?;
+    met_with(alloc, &a, b)
+}
+
+const INT: Wide = Wide::Int;
+
+const LONG: Wide = Wide::Long;
+
+const ONLY: ChoiceKind = ChoiceKind::None;
+
+const RANGE: ChoiceKind = ChoiceKind::Range;
+
+const STEP: ChoiceKind = ChoiceKind::Step;
+
+const ENUM: ChoiceKind = ChoiceKind::Enum;
+
+const LEAST: i64 = i64::MIN;
+
+const MOST: i64 = i64::MAX;
+
+#[test]
+fn steps_meet_in_their_residues(rt: HostRuntime) -> Result<(), Fail> {
+    let alloc = rt.alloc();
+    let by_four: Given = (STEP, INT, &[0, 0, 100, 4]);
+    for (a, b, want) in [
+        (
+            by_four,
+            (STEP, INT, [8, 2, 100, 6].as_slice()),
+            [3, 8, 8, 92, 12],
+        ),
+        (by_four, (STEP, INT, [1, 1, 99, 2].as_slice()), [0; 5]),
+        (
+            (STEP, INT, [-7, -7, 20, 3].as_slice()),
+            (STEP, INT, [-10, -10, 20, 5].as_slice()),
+            [4, 5, 5, 20, 2],
+        ),
+        (
+            (STEP, INT, [-9, -9, 0, 2].as_slice()),
+            (STEP, INT, [-8, -8, 1, 3].as_slice()),
+            [1, -5, 0, 0, 0],
+        ),
+        (
+            (STEP, INT, [3, 3, 9, 3].as_slice()),
+            (STEP, INT, [7, 1, 9, 2].as_slice()),
+            [4, 3, 3, 9, 2],
+        ),
+        (
+            (STEP, LONG, [LEAST, LEAST, MOST, MOST].as_slice()),
+            (STEP, LONG, [LEAST, LEAST, MOST, 1].as_slice()),
+            [3, LEAST, LEAST, MOST - 1, MOST],
+        ),
+        (
+            (STEP, LONG, [LEAST, LEAST, MOST, MOST].as_slice()),
+            (STEP, LONG, [0, LEAST, MOST, MOST - 1].as_slice()),
+            [1, LEAST, 0, 0, 0],
+        ),
+        (
+            (STEP, LONG, [1, 1, MOST, 2].as_slice()),
+            (STEP, LONG, [0, 0, MOST, 5].as_slice()),
+            [3, 5, 5, MOST - 2, 10],
+        ),
+        (
+            (STEP, INT, [0, 0, 9, 3].as_slice()),
+            (STEP, LONG, [0, 0, 9, 3].as_slice()),
+            [0; 5],
+        ),
+    ] {
+        assert_eq!(rt; met(alloc, a, b)?, want);
+    }
+    Ok(())
+}
+
+#[test]
+fn ranges_meet_steps_and_ranges(rt: HostRuntime) -> Result<(), Fail> {
+    let alloc = rt.alloc();
+    for (a, b, want) in [
+        (
+            (RANGE, INT, [5, 0, 9].as_slice()),
+            (RANGE, INT, [7, 4, 20].as_slice()),
+            [2, 5, 4, 9, 0],
+        ),
+        (
+            (RANGE, INT, [2, 0, 9].as_slice()),
+            (RANGE, INT, [7, 4, 20].as_slice()),
+            [2, 7, 4, 9, 0],
+        ),
+        (
+            (RANGE, INT, [2, 0, 9].as_slice()),
+            (RANGE, INT, [17, 4, 20].as_slice()),
+            [2, 4, 4, 9, 0],
+        ),
+        (
+            (RANGE, INT, [2, 0, 9].as_slice()),
+            (RANGE, INT, [9, 9, 20].as_slice()),
+            [1, 9, 0, 0, 0],
+        ),
+        (
+            (RANGE, INT, [2, 0, 9].as_slice()),
+            (RANGE, INT, [10, 10, 20].as_slice()),
+            [0; 5],
+        ),
+        (
+            (RANGE, LONG, [0, LEAST, MOST].as_slice()),
+            (RANGE, LONG, [MOST, MOST, MOST].as_slice()),
+            [1, MOST, 0, 0, 0],
+        ),
+        (
+            (RANGE, INT, [0, 0, 9].as_slice()),
+            (RANGE, LONG, [0, 0, 9].as_slice()),
+            [0; 5],
+        ),
+        (
+            (RANGE, INT, [5, -5, 25].as_slice()),
+            (STEP, INT, [-10, -10, 100, 10].as_slice()),
+            [3, 0, 0, 20, 10],
+        ),
+        (
+            (STEP, INT, [-10, -10, 100, 10].as_slice()),
+            (RANGE, INT, [20, 11, 30].as_slice()),
+            [4, 20, 20, 30, 2],
+        ),
+        (
+            (RANGE, INT, [11, 11, 19].as_slice()),
+            (STEP, INT, [-10, -10, 100, 10].as_slice()),
+            [0; 5],
+        ),
+        (
+            (RANGE, INT, [7, 0, 9].as_slice()),
+            (STEP, INT, [4, 4, 20, 1].as_slice()),
+            [3, 7, 4, 9, 1],
+        ),
+        (
+            (RANGE, LONG, [0, LEAST, MOST].as_slice()),
+            (STEP, LONG, [LEAST, LEAST, MOST, MOST].as_slice()),
+            [3, LEAST, LEAST, MOST - 1, MOST],
+        ),
+    ] {
+        assert_eq!(rt; met(alloc, a, b)?, want);
+    }
+    Ok(())
+}
+
+#[test]
+fn values_meet_in_their_order(rt: HostRuntime) -> Result<(), Fail> {
+    let alloc = rt.alloc();
+    let rates: Given = (ENUM, INT, &[44100, 44100, 48000]);
+    for (a, b, want) in [
+        (
+            (RANGE, INT, [48000, 44100, 96000].as_slice()),
+            rates,
+            [4, 48000, 44100, 48000, 2],
+        ),
+        (
+            (ENUM, INT, [5].as_slice()),
+            (RANGE, INT, [1, 1, 9].as_slice()),
+            [1, 5, 0, 0, 0],
+        ),
+        (
+            (ENUM, INT, [9, 3, 5, 3, 9, 5].as_slice()),
+            (RANGE, INT, [4, 3, 9].as_slice()),
+            [4, 9, 3, 9, 3],
+        ),
+        (
+            (ENUM, INT, [8, 3, 5].as_slice()),
+            (ENUM, INT, [7, 5, 3].as_slice()),
+            [4, 3, 3, 5, 2],
+        ),
+        (
+            (ENUM, INT, [1, 1, 5, 3].as_slice()),
+            (STEP, INT, [3, 1, 9, 2].as_slice()),
+            [4, 1, 1, 3, 3],
+        ),
+        (
+            (STEP, INT, [3, 1, 9, 2].as_slice()),
+            (ENUM, INT, [4, 4, 7, 1].as_slice()),
+            [4, 7, 7, 1, 2],
+        ),
+        (
+            (ONLY, INT, [6].as_slice()),
+            (RANGE, INT, [1, 1, 9].as_slice()),
+            [1, 6, 0, 0, 0],
+        ),
+        (
+            (ONLY, INT, [6].as_slice()),
+            (STEP, INT, [1, 1, 9, 2].as_slice()),
+            [0; 5],
+        ),
+        (
+            (RANGE, LONG, [1, 1, 9].as_slice()),
+            (ONLY, INT, [6].as_slice()),
+            [0; 5],
+        ),
+        (
+            (ONLY, LONG, [6].as_slice()),
+            (ONLY, LONG, [6].as_slice()),
+            [1, 6, 0, 0, 0],
+        ),
+    ] {
+        assert_eq!(rt; met(alloc, a, b)?, want);
+    }
+    Ok(())
+}
+
+/// A rate from 44100 to 96000, with the default 48000.
+const FROM_44100: [u8; 64] = [
+    0x38, 0, 0, 0, 0x0f, 0, 0, 0, 3, 0, 4, 0, 3, 0, 0, 0, 3, 0, 1, 0, 0, 0, 0, 0, //
+    0x1c, 0, 0, 0, 0x13, 0, 0, 0, 1, 0, 0, 0, 0, 0, 0, 0, 4, 0, 0, 0, 4, 0, 0, 0, //
+    0x80, 0xbb, 0, 0, 0x44, 0xac, 0, 0, 0, 0x77, 1, 0, 0, 0, 0, 0,
+];
+
+/// The rates 44100 and 48000, with the default 44100.
+const TWO_RATES: [u8; 64] = [
+    0x38, 0, 0, 0, 0x0f, 0, 0, 0, 3, 0, 4, 0, 3, 0, 0, 0, 3, 0, 1, 0, 0, 0, 0, 0, //
+    0x1c, 0, 0, 0, 0x13, 0, 0, 0, 3, 0, 0, 0, 0, 0, 0, 0, 4, 0, 0, 0, 4, 0, 0, 0, //
+    0x44, 0xac, 0, 0, 0x44, 0xac, 0, 0, 0x80, 0xbb, 0, 0, 0, 0, 0, 0,
+];
+
+/// What both have in common, with the default 48000.
+const COMMON: [u8; 64] = [
+    0x38, 0, 0, 0, 0x0f, 0, 0, 0, 3, 0, 4, 0, 3, 0, 0, 0, 3, 0, 1, 0, 0, 0, 0, 0, //
+    0x1c, 0, 0, 0, 0x13, 0, 0, 0, 3, 0, 0, 0, 0, 0, 0, 0, 4, 0, 0, 0, 4, 0, 0, 0, //
+    0x80, 0xbb, 0, 0, 0x44, 0xac, 0, 0, 0x80, 0xbb, 0, 0, 0, 0, 0, 0,
+];
+
+/// The format with the rate 48000.
+const FIXED: [u8; 40] = [
+    0x20, 0, 0, 0, 0x0f, 0, 0, 0, 3, 0, 4, 0, 4, 0, 0, 0, 3, 0, 1, 0, 0, 0, 0, 0, //
+    4, 0, 0, 0, 4, 0, 0, 0, 0x80, 0xbb, 0, 0, 0, 0, 0, 0,
+];
+
+/// Props with the rate 48000.
+const PROPS: [u8; 40] = [
+    0x20, 0, 0, 0, 0x0f, 0, 0, 0, 2, 0, 4, 0, 3, 0, 0, 0, 3, 0, 1, 0, 0, 0, 0, 0, //
+    4, 0, 0, 0, 4, 0, 0, 0, 0x80, 0xbb, 0, 0, 0, 0, 0, 0,
+];
+
+/// A position, key 65541, that is mandatory.
+const MANDATORY: [u8; 40] = [
+    0x20, 0, 0, 0, 0x0f, 0, 0, 0, 3, 0, 4, 0, 3, 0, 0, 0, 5, 0, 1, 0, 8, 0, 0, 0, //
+    4, 0, 0, 0, 4, 0, 0, 0, 1, 0, 0, 0, 0, 0, 0, 0,
+];
+
+/// The format that bytes spell.
+fn read(alloc: Global, bytes: &[u8]) -> Result<Format, Fail>
+    ensures { IfOk result IsSoundFormat }
+{
+    let (pod, _length) = read_pod(alloc, bytes)?;
+    Ok(format_of(alloc, &pod)?)
+}
+
+/// The bytes that spell a format.
+fn written(alloc: Global, format: &Format) -> Result<Items<u8>, Fail>
+    requires { IsSoundFormat format.now }
+{
+    let mut bytes = Items::new(alloc);
+    write_pod(alloc, &pod_of(alloc, format)?, &mut bytes)?;
+    Ok(bytes)
+}
+
+/// The common format of two spelled ones, spelled, and its fixation.
+fn filtered(alloc: Global, a: &[u8], b: &[u8]) -> Result<(Items<u8>, Items<u8>), Fail> {
+    match filter(alloc, &read(alloc, a)?.copy(alloc)?, &read(alloc, b)?)? {
+        Filtered::Common(format) => Ok((
+            written(alloc, &format)?,
+            written(alloc, &fixate(alloc, &format)?)?,
+        )),
+        Filtered::Clash { key } => Ok((
+            Items::filled(alloc, 1, (key % 256) as u8)?,
+            Items::new(alloc),
+        )),
+        Filtered::Types => Ok((Items::new(alloc), Items::new(alloc))),
+    }
+}
+
+#[test]
+fn the_filter_spells_the_common_format(rt: HostRuntime) -> Result<(), Fail> {
+    let (common, fixed) = filtered(rt.alloc(), &FROM_44100, &TWO_RATES)?;
+    assert!(rt; common.as_slice() == COMMON.as_slice());
+    assert!(rt; fixed.as_slice() == FIXED.as_slice());
+    Ok(())
+}
+
+#[test]
+fn formats_clash_at_a_key_or_by_their_type(rt: HostRuntime) -> Result<(), Fail> {
+    let alloc = rt.alloc();
+    for (a, b, want) in [
+        (MANDATORY, FIXED, [5].as_slice()),
+        (FIXED, MANDATORY, [5].as_slice()),
+        (FIXED, PROPS, [].as_slice()),
+        (FIXED, FIXED, FIXED.as_slice()),
+    ] {
+        let (common, _fixed) = filtered(alloc, &a, &b)?;
+        assert!(rt; common.as_slice() == want);
+    }
+    Ok(())
+}
+
+#[test]
+fn values_at_fault(rt: HostRuntime) -> Result<(), Fail> {
+    let alloc = rt.alloc();
+    for (kind, numbers, number) in [
+        (ChoiceKind::Flags, [1, 2].as_slice(), 3),
+        (RANGE, [1, 2].as_slice(), 4),
+        (RANGE, [1, 3, 2].as_slice(), 4),
+        (STEP, [1, 1, 9].as_slice(), 5),
+        (STEP, [1, 1, 9, 0].as_slice(), 5),
+        (ChoiceKind::Flags, [].as_slice(), 6),
+    ] {
+        match given(alloc, (kind, INT, numbers)) {
+            Ok(_choice) => panic!(rt; "no fault"),
+            Err(fault) => assert_eq!(rt; fault.number(), number),
+        }
+    }
+    Ok(())
+}
