@@ -77,6 +77,8 @@ pub record IsSound (p : Lay) : Type 0 where
   pub seats_in : (n : ℕ) → n < nodes p → n ≢ p.driver → p.seat_of n < p.seats
   pub places : (n : ℕ) → p.place n < nodes p → n ≤ 63
   pub numbers : (n : ℕ) → n < nodes p → p.number n ≤ 63
+  pub at : (n : ℕ) → n < nodes p → p.place (p.number n) ≡ n
+  pub known : (n : ℕ) → p.place n < nodes p → p.number (p.place n) ≡ n
   pub targets_in : (m i : ℕ) → m < nodes p → i < length (p.targets m) → slice_index (p.targets m) i < nodes p
   pub required_is : (n : ℕ) → n < nodes p → p.required n ≡ total (λ m. times n (p.targets m)) (nodes p)
   pub required_some : (n : ℕ) → n < nodes p → 0 < p.required n

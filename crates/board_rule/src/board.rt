@@ -33,6 +33,14 @@ impl Board {
         &self.plot.shape
     }
 
+    /// How many targets a node of the shape has.
+    pub fn target_count(&self, node: u32) -> usize
+        requires { (lay self.now.plot).place node < nodes (lay self.now.plot) }
+        ensures { let p = lay self.now.plot in result ≡ length (p.targets (p.place node)) }
+    {
+        self.targets_at(self.place(node))
+    }
+
     /// A word, for tests and pictures. It needs no seat and tells nothing.
     pub fn peek(&self, word: usize) -> u64
         requires { word < word_count self.now.plot.shape }
@@ -74,7 +82,7 @@ impl Board {
     }
 
     /// How many targets the node at a place has.
-    pub(crate) fn target_count(&self, at: usize) -> usize
+    pub(crate) fn targets_at(&self, at: usize) -> usize
         requires { at < nodes (lay self.now.plot) }
         ensures { result ≡ length ((lay self.now.plot).targets at) }
     {

@@ -56,7 +56,7 @@ impl BoardSeat for DriverSeat {
         let done = taken(self.lead.drive);
         let target = board.target(at, done);
         let found = activation::lower::<Brand>(board, &mut self.token, at, target);
-        self.lead.drive = kick(board.target_count(at), done + 1, found == 1);
+        self.lead.drive = kick(board.targets_at(at), done + 1, found == 1);
         self.woke = wake(self.woke, board.number(target), found);
         found
     }
@@ -67,7 +67,7 @@ impl BoardSeat for DriverSeat {
         let target = board.target(at, done - 1);
         let cycle = board.cycle(self.lead.cycle);
         activation::trigger::<Brand>(board, &mut self.token, at, target, cycle);
-        self.lead.drive = kick(board.target_count(at), done, false);
+        self.lead.drive = kick(board.targets_at(at), done, false);
     }
 
     fn exchange_awake(&mut self, board: &Board, node: u32) -> u64 {

@@ -66,7 +66,7 @@ impl BoardSeat for LoopSeat {
         let done = told(before.phase);
         let target = board.target(at, done);
         let found = activation::lower::<Brand>(board, &mut self.token, at, target);
-        self.nodes[at] = settle(before, board.target_count(at), done + 1, found == 1);
+        self.nodes[at] = settle(before, board.targets_at(at), done + 1, found == 1);
         self.woke = wake(self.woke, board.number(target), found);
         found
     }
@@ -78,7 +78,7 @@ impl BoardSeat for LoopSeat {
         let target = board.target(at, done - 1);
         let cycle = board.cycle(before.next);
         activation::trigger::<Brand>(board, &mut self.token, at, target, cycle);
-        self.nodes[at] = settle(before, board.target_count(at), done, false);
+        self.nodes[at] = settle(before, board.targets_at(at), done, false);
     }
 
     fn exchange_awake(&mut self, board: &Board, node: u32) -> u64 {

@@ -1,0 +1,4 @@
+pub mod ViewLemmas
+pub mod TellLemmas
+pub mod CallLemmas
+pub mod CheckLemmas
