@@ -12,6 +12,8 @@ mod ending;
 mod late_check;
 mod running;
 mod telling;
+#[cfg(test)]
+mod tests;
 
 pub use answer::Claim;
 pub use beginning::begin;
