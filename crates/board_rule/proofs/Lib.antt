@@ -16,3 +16,4 @@ pub mod StartLemmas
 pub mod SoundLemmas
 pub mod RowLemmas
 pub mod LayoutLemmas
+pub mod TellingLemmas

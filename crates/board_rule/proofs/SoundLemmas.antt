@@ -18,7 +18,7 @@ use Rattle.board_rule.specs.Layout.{lay, place_in, target_rows, required_row, Ha
 use Rattle.board_rule.proofs.SumLemmas.{total_same, total_at, times_here}
 
 -- strictly increasing numbers: a later one is greater
-rises : (xs : List ℕ) → IsStrictlyIncreasing xs → (k i : ℕ) → k < i → i < length xs → get_or xs k 0 < get_or xs i 0
+pub rises : (xs : List ℕ) → IsStrictlyIncreasing xs → (k i : ℕ) → k < i → i < length xs → get_or xs k 0 < get_or xs i 0
 rises xs up k zero h l = absurd (omega arith)
 rises xs up k (suc i) h l = let one : i + 1 ≡ suc i = omega arith in let s : get_or xs i 0 < get_or xs (suc i) 0 = subst (λ j. get_or xs i 0 < get_or xs j 0) one (up i (omega arith)) in
     dite (ℕ_discrete k i) (λ q. subst (λ j. get_or xs j 0 < get_or xs (suc i) 0) (sym q) s) (λ q. let b = rises xs up k i (omega arith) (omega arith) in omega arith)
