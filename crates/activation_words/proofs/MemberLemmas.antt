@@ -1,20 +1,18 @@
 -- From a new seat on, each call that ends leaves its seat between two calls.
-use Rattle.std.proofs.Common.{◌≡◌, ◌≢◌, ℕ, zero, suc, ◌+◌, ◌<◌, ◌≤◌, Bool, true, false, cond, List, [], ◌∷◌, length, get_or, set, replicate, refl, sym, ap, ◌∙◌, subst, arith, length-set, get_or-set_other}
+use Rattle.std.proofs.Common.{◌≡◌, ◌≢◌, ℕ, zero, suc, ◌+◌, ◌<◌, ◌≤◌, false, List, [], ◌∷◌, length, set, replicate, refl, sym, ap, ◌∙◌, subst, arith, length-set, get_or-set_other}
 use mathlib.Core.Option.{some}
 use lib.ListN.{get_elem?}
 use Rattle.std.proofs.lemmas.List.{get_or-replicate, length-replicate}
 use Rattle.atomic_table.proofs.Lists.{set_else}
-use Rattle.board_rule.specs.declared.view.Phase.{Phase}
 use Rattle.board_rule.specs.declared.view.Phase.TheVariants.{Idle, Awake, Running}
-use Rattle.board_rule.specs.declared.view.Drive.TheVariants as drives
 use Rattle.board_rule.specs.declared.view.NodeView.{NodeView}
 use Rattle.board_rule.specs.declared.view.Trail.{Trail}
 use Rattle.board_rule.specs.declared.view.View.{View}
 use Rattle.board_rule.specs.Layout.{Lay, IsSound, nodes, first, last}
-use Rattle.board_rule.specs.View.{Samples, idle, node_of, view_node, view_trail, loop_view, driver_view}
-use Rattle.board_rule.specs.Steps.{Has, IsCycle, HasNode, Claims, woken, tried, IsReadyToFinish, phased}
-use Rattle.activation_words.specs.Calls.{IsAwake, started, HasStarted, HasRested, HasFinished, HasBegun, HasEnded, worked}
-use Rattle.activation_words.specs.Members.{IsResting, IsBetween, IsWaiting}
+use Rattle.board_rule.specs.View.{Samples, idle, node_of, view_node, loop_view, driver_view}
+use Rattle.board_rule.specs.Steps.{HasNode, Claims, woken, tried, IsReadyToFinish}
+use Rattle.activation_words.specs.Calls.{IsAwake, HasStarted, HasRested}
+use Rattle.activation_words.specs.Members.{IsResting, IsBetween}
 use Rattle.activation_words.proofs.ViewLemmas.{again, has_again}
 
 there_replicate : {A : Type 0} (k i : ℕ) (a : A) → i < k → get_elem? (replicate k a) i ≡ some a

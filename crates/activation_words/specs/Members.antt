@@ -13,9 +13,9 @@ pub record IsResting (p : Lay) (v : View) (m : ℕ) : Type 0 where
   pub member : IsMember false p v m
   pub idle : (node_of v m).phase ≡ Idle
 
--- it has all followers, and each waits
-abbrev pub AllRest : Lay → View → Type 0
-AllRest p v = (m : ℕ) → m < nodes p → m ≢ p.driver → IsResting p v m
+-- each follower of the loop k waits
+abbrev pub AllRest : Lay → ℕ → View → Type 0
+AllRest p k v = (m : ℕ) → m < nodes p → m ≢ p.driver → p.seat_of m ≡ k → IsResting p v m
 
 -- the driver's seat is between two cycles, or has ended them all
 pub record IsBetween (p : Lay) (v : View) : Type 0 where

@@ -1,5 +1,5 @@
 //! The words of a board in the first cycle of four nodes in a row, and many cycles by one thread and by two.
-ghost use Rattle.std.specs.Prelude.{◌≡◌, ◌≢◌, ℕ, ◌==◌, ◌≤◌, false, true, length, slice_get, Some, IsTrue, IsFalse, IfSome, IfOk};
+ghost use Rattle.std.specs.Prelude.{◌≡◌, ◌≢◌, ℕ, ◌==◌, ◌≤◌, false, true, length, slice_get, Some, [], ◌∷◌, slice_index, IsTrue, IsFalse, IfSome, IfOk};
 ghost use Rattle.std.specs.List.{position};
 ghost use Rattle.board_rule.specs.declared.view.Drive.TheVariants.{Awake};
 ghost use Rattle.board_rule.specs.Layout.{lay, place_in, IsUndelayed};
@@ -87,26 +87,39 @@ fn place_of(shape: &Shape, node: u32) -> usize
     find_place(shape, node).unwrap_or(shape.nodes.len())
 }
 
-// The one seat of a board for one loop.
-fn only(loops: Items<LoopSeat>) -> Option<LoopSeat>
-    requires { length loops ≡ 1 }
-    ensures { IfSome result (λ seat. slice_get loops 0 ≡ Some seat) }
+// The two seats of a board for two loops, in their order.
+fn both(loops: Items<LoopSeat>) -> Option<(LoopSeat, LoopSeat)>
+    requires { length loops ≡ 2 }
+    ensures { IfSome result (λ t. (slice_get loops 0 ≡ Some t.0) × (slice_get loops 1 ≡ Some t.1)) }
 {
     let mut loops = loops;
-    loops.pop()
+    let two = loops.pop()?;
+    let one = loops.pop()?;
+    Some((one, two))
 }
 
-// A board for a shape, with one loop's seat for all followers. None where the shape is not pooled, or has a delayed link.
-fn opened(alloc: Global, shape: &Shape) -> Result<Option<(Board, DriverSeat, LoopSeat)>, Memory>
-    ensures { IfOk result (λ o. IfSome o (λ t. (t.1.table ≡ t.0.table.shared.table_id) × (t.2.table ≡ t.0.table.shared.table_id) × (let p = lay t.0.plot in IsBetween p t.1.knows × AllRest p t.2.knows))) }
+// Nodes 0 and 2 belong to the first loop, node 1 to the second.
+fn seats_of_row(alloc: Global) -> Result<Items<u32>, Memory>
+    ensures { IfOk result (λ seats. seats ≡ 0 ∷ 1 ∷ 0 ∷ 0 ∷ []) }
 {
-    if !is_pooled_shape(shape) || !is_undelayed(shape) {
+    Items::from_slice(alloc, &[0, 1, 0, 0])
+}
+
+// A board for a shape of four nodes, with a seat for each of two loops. None for another shape, one that is not pooled,
+// or one with a delayed link.
+fn opened(
+    alloc: Global,
+    shape: &Shape,
+) -> Result<Option<(Board, DriverSeat, LoopSeat, LoopSeat)>, Memory>
+    ensures { IfOk result (λ o. IfSome o (λ t. (t.1.table ≡ t.0.table.shared.table_id) × (t.2.table ≡ t.0.table.shared.table_id) × (t.3.table ≡ t.0.table.shared.table_id) × (t.0.plot.seat_of ≡ 0 ∷ 1 ∷ 0 ∷ 0 ∷ []) × (let p = lay t.0.plot in IsBetween p t.1.knows × AllRest p 0 t.2.knows × AllRest p 1 t.3.knows))) }
+{
+    if !is_pooled_shape(shape) || !is_undelayed(shape) || shape.nodes.len() != 4 {
         return Ok(None);
     }
-    let seat_of = Items::filled(alloc, shape.nodes.len(), 0)?;
-    let (board, driver, loops) = Board::new::<Nothing>(alloc, shape, &seat_of, 1)?;
-    match only(loops) {
-        Some(seat) => Ok(Some((board, driver, seat))),
+    let seat_of = seats_of_row(alloc)?;
+    let (board, driver, loops) = Board::new::<Nothing>(alloc, shape, &seat_of, 2)?;
+    match both(loops) {
+        Some((one, two)) => Ok(Some((board, driver, one, two))),
         None => Ok(None),
     }
 }
@@ -144,19 +157,27 @@ fn turn(board: &Board, seat: &mut LoopSeat, node: u32) -> Option<Claim>
     }
 }
 
-// The same by a seat that has all followers. None also where the node is no follower.
-fn try_follower(board: &Board, seat: &mut LoopSeat, node: u32) -> Option<Claim>
+// The seat of each place, as the board has it.
+fn seat_at(at: usize) -> u32
+    ensures { result ≡ slice_index (0 ∷ 1 ∷ 0 ∷ 0 ∷ []) at }
+{
+    if at == 1 { 1 } else { 0 }
+}
+
+// The same by the seat of a loop, at a board for the row. None also where the node is not the loop's.
+fn try_follower(board: &Board, seat: &mut LoopSeat, of_loop: u32, node: u32) -> Option<Claim>
     requires table { seat.old.table ≡ board.now.table.shared.table_id }
-    requires rests { AllRest (lay board.now.plot) seat.old.knows }
+    requires row { board.now.plot.seat_of ≡ 0 ∷ 1 ∷ 0 ∷ 0 ∷ [] }
+    requires rests { AllRest (lay board.now.plot) of_loop seat.old.knows }
     ensures table { seat.new.table ≡ seat.old.table }
-    ensures rests { AllRest (lay board.now.plot) seat.new.knows }
+    ensures rests { AllRest (lay board.now.plot) of_loop seat.new.knows }
 {
     let shape = board.shape();
     let at = place_of(shape, node);
     if at == shape.nodes.len() || at == place_of(shape, shape.driver) {
         return None;
     }
-    if at > shape.nodes.len() {
+    if at > shape.nodes.len() || seat_at(at) != of_loop {
         return None;
     }
     turn(board, seat, node)
@@ -237,15 +258,16 @@ fn begin_and_check(board: &Board, seat: &mut DriverSeat) -> Option<u64>
 }
 
 // One try of each follower. False where none has cycles left.
-fn try_all(board: &Board, seat: &mut LoopSeat) -> bool
+fn try_all(board: &Board, seat: &mut LoopSeat, of_loop: u32) -> bool
     requires table { seat.old.table ≡ board.now.table.shared.table_id }
-    requires rests { AllRest (lay board.now.plot) seat.old.knows }
+    requires row { board.now.plot.seat_of ≡ 0 ∷ 1 ∷ 0 ∷ 0 ∷ [] }
+    requires rests { AllRest (lay board.now.plot) of_loop seat.old.knows }
     ensures table { seat.new.table ≡ seat.old.table }
-    ensures rests { AllRest (lay board.now.plot) seat.new.knows }
+    ensures rests { AllRest (lay board.now.plot) of_loop seat.new.knows }
 {
     let mut has_left = false;
     for node in 0..3 {
-        if try_follower(board, seat, node).is_some() {
+        if try_follower(board, seat, of_loop, node).is_some() {
             has_left = true;
         }
     }
@@ -253,12 +275,13 @@ fn try_all(board: &Board, seat: &mut LoopSeat) -> bool
 }
 
 // All turns of the loop.
-fn run_loop<R: Wait>(rt: &R, board: &Board, mut seat: LoopSeat)
+fn run_loop<R: Wait>(rt: &R, board: &Board, mut seat: LoopSeat, of_loop: u32)
     requires table { seat.table ≡ board.now.table.shared.table_id }
-    requires rests { AllRest (lay board.now.plot) seat.knows }
+    requires row { board.now.plot.seat_of ≡ 0 ∷ 1 ∷ 0 ∷ 0 ∷ [] }
+    requires rests { AllRest (lay board.now.plot) of_loop seat.knows }
 {
     for _ in rt.forever() {
-        if !try_all(board, &mut seat) {
+        if !try_all(board, &mut seat, of_loop) {
             break;
         }
     }
@@ -295,32 +318,62 @@ fn drive<R: Wait>(rt: &R, board: &Board, mut seat: DriverSeat)
     }
 }
 
-// The driver's thread beside a loop's.
-fn run_both<R: Threads + Wait + Sync>(rt: &R, board: &Board, driver: DriverSeat, seat: LoopSeat)
+// Two loops, each in a thread.
+fn run_loops<R: Threads + Wait + Sync>(rt: &R, board: &Board, one: LoopSeat, two: LoopSeat)
+    requires one { one.table ≡ board.now.table.shared.table_id }
+    requires two { two.table ≡ board.now.table.shared.table_id }
+    requires row { board.now.plot.seat_of ≡ 0 ∷ 1 ∷ 0 ∷ 0 ∷ [] }
+    requires first { AllRest (lay board.now.plot) 0 one.knows }
+    requires second { AllRest (lay board.now.plot) 1 two.knows }
+{
+    join(
+        rt,
+        move || run_loop(rt, board, one, 0),
+        move || run_loop(rt, board, two, 1),
+    );
+}
+
+// The driver's thread beside those of two loops.
+fn run_three<R: Threads + Wait + Sync>(
+    rt: &R,
+    board: &Board,
+    driver: DriverSeat,
+    one: LoopSeat,
+    two: LoopSeat,
+)
     requires driver { driver.table ≡ board.now.table.shared.table_id }
-    requires seat { seat.table ≡ board.now.table.shared.table_id }
+    requires one { one.table ≡ board.now.table.shared.table_id }
+    requires two { two.table ≡ board.now.table.shared.table_id }
+    requires row { board.now.plot.seat_of ≡ 0 ∷ 1 ∷ 0 ∷ 0 ∷ [] }
     requires between { IsBetween (lay board.now.plot) driver.knows }
-    requires rests { AllRest (lay board.now.plot) seat.knows }
+    requires first { AllRest (lay board.now.plot) 0 one.knows }
+    requires second { AllRest (lay board.now.plot) 1 two.knows }
 {
     join(
         rt,
         move || drive(rt, board, driver),
-        move || run_loop(rt, board, seat),
+        move ||
+            requires one { one.table ≡ board.now.table.shared.table_id }
+            requires two { two.table ≡ board.now.table.shared.table_id }
+            requires row { board.now.plot.seat_of ≡ 0 ∷ 1 ∷ 0 ∷ 0 ∷ [] }
+            requires first { AllRest (lay board.now.plot) 0 one.knows }
+            requires second { AllRest (lay board.now.plot) 1 two.knows }
+        { run_loops(rt, board, one, two) },
     );
 }
 
 #[test]
 fn words_of_one_begin(rt: HostRuntime) -> Result<(), Fail> {
     let shape = row(rt.alloc(), 1)?;
-    let Some((board, mut driver, mut seat)) = opened(rt.alloc(), &shape)? else {
+    let Some((board, mut driver, mut one, mut two)) = opened(rt.alloc(), &shape)? else {
         panic!(rt; "the row is not pooled")
     };
     if !begin_next(&board, &mut driver) {
         panic!(rt; "no cycle is left");
     }
     assert!(rt; is_at(&board, (0, 1, 1, 3), (1, 0, 0, 0)));
-    assert!(rt; try_follower(&board, &mut seat, 1) == Some(Claim::NotYet { found: 0 }));
-    assert!(rt; try_follower(&board, &mut seat, 0) == Some(Claim::Awake { cycle: 0 }));
+    assert!(rt; try_follower(&board, &mut two, 1, 1) == Some(Claim::NotYet { found: 0 }));
+    assert!(rt; try_follower(&board, &mut one, 0, 0) == Some(Claim::Awake { cycle: 0 }));
     assert!(rt; is_at(&board, (0, 0, 1, 2), (3, 1, 0, 0)));
     Ok(())
 }
@@ -328,7 +381,7 @@ fn words_of_one_begin(rt: HostRuntime) -> Result<(), Fail> {
 #[test]
 fn a_check_names_the_unfinished(rt: HostRuntime) -> Result<(), Fail> {
     let shape = row(rt.alloc(), 1)?;
-    let Some((board, mut driver, _seat)) = opened(rt.alloc(), &shape)? else {
+    let Some((board, mut driver, _one, _two)) = opened(rt.alloc(), &shape)? else {
         panic!(rt; "the row is not pooled")
     };
     assert!(rt; begin_and_check(&board, &mut driver) == Some(7));
@@ -336,12 +389,12 @@ fn a_check_names_the_unfinished(rt: HostRuntime) -> Result<(), Fail> {
 }
 
 #[test]
-fn a_thousand_cycles_on_two_threads(rt: HostRuntime) -> Result<(), Fail> {
+fn a_thousand_cycles_on_three_threads(rt: HostRuntime) -> Result<(), Fail> {
     let shape = row(rt.alloc(), 1000)?;
-    let Some((board, driver, seat)) = opened(rt.alloc(), &shape)? else {
+    let Some((board, driver, one, two)) = opened(rt.alloc(), &shape)? else {
         panic!(rt; "the row is not pooled")
     };
-    run_both(&rt, &board, driver, seat);
+    run_three(&rt, &board, driver, one, two);
     assert!(rt; is_at(&board, (0, 0, 0, 0), (3999, 3999, 3999, 3999)));
     Ok(())
 }

@@ -1,4 +1,4 @@
-use Rattle.std.proofs.Common.{◌≡◌, ◌∙◌}
+use Rattle.std.proofs.Common.{◌∙◌}
 use Rattle.std.specs.Prelude.{unwrap_or}
 use Rattle.board_rule.proofs.RowLemmas.{place_or_end}
 use Rattle.activation_words.proofs.tests.place_of.Goals as goal

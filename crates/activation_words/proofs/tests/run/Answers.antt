@@ -1,8 +1,6 @@
-use Rattle.std.proofs.Common.{arith, rules, ◌≡◌, ◌≢◌, ◌∙◌, ℕ, ◌+◌, ◌<◌, ◌≤◌, Bool, true, false, length, List, [], replicate, get_or, refl, sym, ap, subst}
-use mathlib.Core.Logic.{dite}
-use native.Mathlib.Decide.{ℕ_discrete}
+use Rattle.std.proofs.Common.{ℕ, sym, subst}
 use Rattle.board_rule.specs.declared.view.View.{View}
-use Rattle.board_rule.specs.Layout.{Lay, lay, nodes, first, last}
+use Rattle.board_rule.specs.Layout.{lay}
 use Rattle.activation_words.specs.Members.{IsResting}
 use Rattle.board_rule.specs.declared.view.Phase.TheVariants.{Running}
 use Rattle.board_rule.specs.View.{node_of}

@@ -1,12 +1,10 @@
-use Rattle.std.proofs.Common.{arith, rules, ◌≡◌, ◌≢◌, ◌∙◌, ℕ, ◌+◌, ◌<◌, ◌≤◌, Bool, true, false, length, List, [], replicate, get_or, refl, sym, ap, subst}
-use mathlib.Core.Logic.{dite}
-use native.Mathlib.Decide.{ℕ_discrete}
+use Rattle.std.proofs.Common.{arith, rules, ◌≢◌, ℕ, ◌<◌, false, sym, subst}
 use Rattle.board_rule.specs.declared.view.View.{View}
-use Rattle.board_rule.specs.Layout.{Lay, lay, nodes, first, last}
+use Rattle.board_rule.specs.Layout.{lay, last}
 use Rattle.activation_words.specs.Members.{IsResting}
 use Rattle.board_rule.specs.declared.view.Phase.TheVariants.{Awake}
 use Rattle.board_rule.specs.View.{node_of}
-use Rattle.board_rule.specs.Steps.{HasNode, woken}
+use Rattle.board_rule.specs.Steps.{HasNode}
 use Rattle.activation_words.proofs.MemberLemmas.{may_claim, woken_has, else_rests}
 use Rattle.activation_words.proofs.tests.turn.Goals as goal
 
