@@ -1,0 +1,5 @@
+pub mod ViewLemmas
+pub mod TellLemmas
+pub mod CallLemmas
+pub mod CheckLemmas
+pub mod MemberLemmas

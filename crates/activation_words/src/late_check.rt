@@ -1,0 +1,102 @@
+//! The late check: which followers have not finished the cycle when the driver's seat looks.
+ghost use Rattle.std.specs.Prelude.{◌≡◌, ◌≢◌, true, false, ℕ, ◌+◌, ◌<◌, ◌≤◌, cond, eqb, slice_index};
+ghost use Rattle.pw_base.specs.Layout.{event_count};
+ghost use Rattle.pw_base.specs.Words.{status_word_of};
+ghost use Rattle.pw_base.specs.Dependencies.{nodes_of};
+ghost use Rattle.board_rule.specs.declared.view.Drive.TheVariants.{Waiting, Checking};
+ghost use Rattle.board_rule.specs.Bits.{with_bit};
+ghost use Rattle.board_rule.specs.Layout.{lay, nodes};
+ghost use Rattle.board_rule.specs.Steps.{HasNode};
+ghost use Rattle.board_rule.specs.EventSteps.{Looks, looked};
+ghost use Rattle.activation_words.specs.Calls.{HasChecked};
+ghost use Rattle.activation_words.specs.Checks.{tick_drawn, LooksAt, IsLooking};
+
+use board_rule::{Board, BoardSeat, DriverSeat};
+use pw_base::{Status, status_word};
+
+// The late set with one node more where its word was not FINISHED of the cycle.
+fn late_with(late: u64, node: u32, found: u64, cycle: u32) -> u64
+    requires { node ≤ 63 }
+    ensures { result ≡ cond (eqb found (status_word_of 3 cycle)) late (with_bit late node) }
+{
+    if found == status_word(Status::Finished.number(), cycle) {
+        late
+    } else {
+        late | 1 << node
+    }
+}
+
+// The ticket of a Tick is drawn.
+fn draw_tick(board: &Board, seat: &mut DriverSeat)
+    requires table { seat.old.table ≡ board.now.table.shared.table_id }
+    requires node { let p = lay board.now.plot in HasNode true p seat.old.knows p.driver }
+    requires waits { seat.old.knows.lead.drive ≡ Waiting }
+    requires unchecked { seat.old.knows.lead.checked ≡ false }
+    ensures table { seat.new.table ≡ seat.old.table }
+    ensures knows { let p = lay board.now.plot in ((ticket : ℕ) × (ticket < event_count p.shape) × (seat.new.knows ≡ tick_drawn seat.old.knows ticket)) }
+{
+    let driver = board.shape().driver;
+    seat.draw_ticket(board, driver);
+}
+
+// The number of the node at a place.
+fn node_at(board: &Board, at: usize) -> u32
+    requires { at < nodes (lay board.now.plot) }
+    ensures { result ≡ (lay board.now.plot).number at }
+{
+    board.shape().nodes.as_slice()[at].node
+}
+
+// The status word of the follower at a place is loaded.
+fn look_at(board: &Board, seat: &mut DriverSeat, at: usize, late: u64, cycle: u32) -> u64
+    requires table { seat.old.table ≡ board.now.table.shared.table_id }
+    requires inside { at < nodes (lay board.now.plot) }
+    requires phase { at ≢ (lay board.now.plot).driver → Looks (lay board.now.plot) seat.old.knows at }
+    requires cycle { cycle ≡ seat.old.knows.lead.cycle }
+    ensures table { seat.new.table ≡ seat.old.table }
+    ensures knows { let p = lay board.now.plot in LooksAt p seat.old.knows at late cycle seat.new.knows result }
+{
+    let node = node_at(board, at);
+    if node == board.shape().driver {
+        return late;
+    }
+    let found = seat.load_status(board, node);
+    late_with(late, node, found, cycle)
+}
+
+// The status word of each follower is loaded, in their order.
+fn look_at_all(board: &Board, seat: &mut DriverSeat) -> u64
+    requires table { seat.old.table ≡ board.now.table.shared.table_id }
+    requires node { let p = lay board.now.plot in HasNode true p seat.old.knows p.driver }
+    requires phase { IsLooking (lay board.now.plot) seat.old.knows 0 0 seat.old.knows }
+    requires checking { seat.old.knows.lead.drive ≡ Checking }
+    ensures table { seat.new.table ≡ seat.old.table }
+    ensures knows { let p = lay board.now.plot in IsLooking p seat.old.knows (nodes p) result seat.new.knows }
+{
+    let driver = board.shape().driver;
+    let cycle = board.shape().first + seat.ended(board, driver);
+    let mut late = 0;
+    for at in 0..board.shape().nodes.len() {
+        late = look_at(board, seat, at, late, cycle);
+    }
+    late
+}
+
+/// Looks which followers have not finished this cycle, and stores them as a Tick. A bit of the answer is set exactly where
+/// this call's load of that follower's status word found another word than FINISHED of this cycle; bit n is node n.
+/// Condition: the seat waits for its own node, and has made no check in this cycle. It starts no cycle and wakes nobody.
+pub fn check_late(board: &Board, seat: &mut DriverSeat) -> u64
+    requires table { seat.old.table ≡ board.now.table.shared.table_id }
+    requires node { let p = lay board.now.plot in HasNode true p seat.old.knows p.driver }
+    requires waits { seat.old.knows.lead.drive ≡ Waiting }
+    requires unchecked { seat.old.knows.lead.checked ≡ false }
+    ensures table { seat.new.table ≡ seat.old.table }
+    ensures knows { HasChecked (lay board.now.plot) seat.old.knows result seat.new.knows }
+{
+    draw_tick(board, seat);
+    let late = look_at_all(board, seat);
+    seat.store_late(board, late);
+    let driver = board.shape().driver;
+    seat.store_event(board, driver);
+    late
+}

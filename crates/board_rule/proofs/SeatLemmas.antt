@@ -1,0 +1,102 @@
+-- One step changes one view. What the other seats know stays.
+use Rattle.std.proofs.Common.{◌≡◌, ◌≢◌, ℕ, zero, suc, ◌<◌, ◌≤◌, cond, List, [], ◌∷◌, length, set, refl, sym, ap, ◌∙◌, subst, ⊎_elim, arith, eq-eqb, ne_eqb}
+use mathlib.Core.Logic.{dite}
+use mathlib.Core.Option.{some, some-ne-none}
+use native.Mathlib.Decide.{ℕ_discrete}
+use lib.ListN.{get_elem?}
+use Rattle.atomic_table.proofs.Lists.{at_set, set_else}
+use Rattle.board_rule.specs.declared.view.View.{View}
+use Rattle.board_rule.specs.declared.view.Trail.{Trail}
+use Rattle.board_rule.specs.declared.view.NodeView.{NodeView}
+use Rattle.board_rule.specs.declared.view.LeadView.{LeadView}
+use Rattle.board_rule.specs.Layout.{Lay, nodes, first}
+use Rattle.board_rule.specs.View.{Whole, put, idle, with_node, view_node, with_lead, view_lead, view_trail}
+use Rattle.board_rule.specs.BoardRule.{Knows, Seated}
+
+pub put_here : {A : Type 0} (f : ℕ → A) (m : ℕ) (x : A) → put f m x m ≡ x
+put_here f m x = ap (λ b. cond b x (f m)) (eq-eqb m m refl)
+
+pub put_else : {A : Type 0} (f : ℕ → A) (m i : ℕ) (x : A) → i ≢ m → put f m x i ≡ f i
+put_else f m i x o = ap (λ b. cond b x (f i)) (ne_eqb i m o)
+
+-- a place that holds something can be written
+pub set_there : {A : Type 0} (l : List A) (i : ℕ) (a b : A) → get_elem? l i ≡ some b → get_elem? (set l i a) i ≡ some a
+set_there [] i a b e = absurd (some-ne-none b (sym e))
+set_there (x ∷ xs) zero a b e = refl
+set_there (x ∷ xs) (suc i) a b e = set_there xs i a b e
+
+module _ (p : Lay) where
+  -- the general form: the seat id has the view w from now on
+  seat_step : (g h : Whole) (words after : List ℕ) (views : List View) (id : ℕ) (v w : View) → get_elem? views id ≡ some v → length after ≡ length words → Knows p h id w
+      → ((j : ℕ) (u : View) → j ≢ id → Knows p g j u → Knows p h j u) → ((n : ℕ) → n < nodes p → n ≢ p.driver → h.split ≤ p.seat_of n → h.nodes n ≡ idle (first p))
+      → Seated p g words views → Seated p h after (set views id w)
+  seat_step g h words after views id v w at same mine others unsplit s = record {
+    sound = s.sound;
+    room = s.room ∙ sym same;
+    wide = let k = s.wide in omega arith;
+    knows = λ j u e. ⊎_elim (λ (t : (j ≡ id) × (w ≡ u)). subst (λ (x : ℕ × View). Knows p h x.0 x.1) (λ i. (sym t.0 i, t.1 i)) mine)
+        (λ (t : (j ≢ id) × (get_elem? views j ≡ some u)). others j u t.0 (s.knows j u t.1)) (at_set views id j w u e);
+    unsplit = unsplit;
+  }
+
+  -- a step of the follower m, whose phase becomes x
+  pub node_step : (g : Whole) (words after : List ℕ) (views : List View) (id m : ℕ) (v : View) (x : NodeView) (t : Trail) → get_elem? views id ≡ some v → length after ≡ length words → v.number < p.seats → m < nodes p → m ≢ p.driver → p.seat_of m ≡ v.number
+      → Seated p g words views → Seated p (with_node g m x) after (set views id (view_node v m x t))
+  node_step g words after views id m v x t at same loops inside follows owns s = let k = s.knows id v at in
+      seat_step g (with_node g m x) words after views id v (view_node v m x t) at same
+      record {
+        low = k.low;
+        here = k.here;
+        leads = k.leads;
+        expects = k.expects;
+        is_split = k.is_split;
+        owns = λ n h o e. dite (ℕ_discrete n m)
+            (λ q. subst (λ i. get_elem? (set v.nodes m x) i ≡ some (put g.nodes m x i)) (sym q) (set_there v.nodes m x (g.nodes m) (k.owns m inside follows owns) ∙ ap some (sym (put_here g.nodes m x))))
+            (λ q. set_else v.nodes m n x q ∙ k.owns n h o e ∙ ap some (sym (put_else g.nodes m n x q)));
+      }
+      (λ j u other r. record {
+        low = r.low;
+        here = r.here;
+        leads = r.leads;
+        expects = r.expects;
+        is_split = r.is_split;
+        owns = λ n h o e. r.owns n h o e ∙ ap some (sym (put_else g.nodes m n x (λ q. other (sym r.here ∙ ap g.seat_at (sym e ∙ ap p.seat_of q ∙ owns) ∙ k.here))));
+      })
+      (λ n h o e. put_else g.nodes m n x (λ q. let a = k.is_split loops in let b = ap p.seat_of q in omega arith) ∙ s.unsplit n h o e) s
+
+  -- a step of the driver's seat
+  pub lead_step : (g : Whole) (words after : List ℕ) (views : List View) (id : ℕ) (v : View) (x : LeadView) (t : Trail) → get_elem? views id ≡ some v → length after ≡ length words → v.number ≡ p.seats
+      → Seated p g words views → Seated p (with_lead g x) after (set views id (view_lead v x t))
+  lead_step g words after views id v x t at same leads s = let k = s.knows id v at in
+      seat_step g (with_lead g x) words after views id v (view_lead v x t) at same
+      record {
+        low = k.low;
+        here = k.here;
+        leads = λ e. (refl, (k.leads e).1);
+        expects = k.expects;
+        is_split = k.is_split;
+        owns = k.owns;
+      }
+      (λ j u other r. record {
+        low = r.low;
+        here = r.here;
+        leads = λ e. absurd (other (sym r.here ∙ ap g.seat_at (e ∙ sym leads) ∙ k.here));
+        expects = r.expects;
+        is_split = r.is_split;
+        owns = r.owns;
+      })
+      s.unsplit s
+
+  -- nothing of the whole changes: the seat remembers something
+  pub stay_step : (g : Whole) (words after : List ℕ) (views : List View) (id : ℕ) (v : View) (t : Trail) → get_elem? views id ≡ some v → length after ≡ length words → Seated p g words views → Seated p g after (set views id (view_trail v t))
+  stay_step g words after views id v t at same s = let k = s.knows id v at in
+      seat_step g g words after views id v (view_trail v t) at same
+      record {
+        low = k.low;
+        here = k.here;
+        leads = k.leads;
+        expects = k.expects;
+        is_split = k.is_split;
+        owns = k.owns;
+      }
+      (λ j u _ r. r) s.unsplit s

@@ -1,0 +1,163 @@
+-- Laws of `specs/EventRule.antt`: how many tickets are drawn.
+use Rattle.std.proofs.Common.{◌≡◌, ◌≢◌, ℕ, zero, suc, ◌+◌, ◌*◌, ◌<◌, ◌≤◌, Bool, true, false, true≢false, cond, eqb, List, length, set, get_or, refl, sym, ap, ◌∙◌, subst, arith, eq-eqb, ne_eqb, suc-mul, get_or-set_other, get_or-set_same}
+use mathlib.Core.Logic.{dite}
+use native.Mathlib.Decide.{ℕ_discrete}
+use Rattle.board_rule.specs.declared.view.NodeView.{NodeView}
+use Rattle.board_rule.specs.declared.view.LeadView.{LeadView}
+use Rattle.board_rule.specs.declared.view.Drive.{Drive}
+use Rattle.board_rule.specs.declared.view.Drive.TheVariants as drives
+use Rattle.board_rule.specs.declared.view.Phase.{Phase}
+use Rattle.board_rule.specs.declared.view.Phase.TheVariants.{Idle, Awake, StartDrawn, Running, Done, FinishDrawn, Telling}
+use Rattle.pw_base.specs.Layout.{event_count}
+use Rattle.board_rule.specs.Layout.{Lay, IsSound, nodes, first, last}
+use Rattle.board_rule.specs.Sums.{total}
+use Rattle.board_rule.specs.Phases.{is_between, is_resetting, phase_drawn, drive_drawn, PhaseOk}
+use Rattle.board_rule.specs.View.{Whole, with_node, with_lead}
+use Rattle.board_rule.specs.ActivationRule.{Activations}
+use Rattle.board_rule.specs.EventRule.{Events, node_drawn, lead_drawn, drawn, drawn_before}
+use Rattle.board_rule.proofs.SumLemmas.{total_change}
+use Rattle.board_rule.proofs.SeatLemmas.{put_here, put_else}
+
+-- a word of another part is not the ticket word
+pub first_stays : (ws : List ℕ) (i x : ℕ) → 0 < i → get_or (set ws i x) 0 0 ≡ get_or ws 0 0
+first_stays ws i x h = get_or-set_other ws i 0 x 0 (λ z. omega arith)
+
+total_most : (f g : ℕ → ℕ) (k : ℕ) → ((n : ℕ) → n < k → f n ≤ g n) → total f k ≤ total g k
+total_most f g zero h = omega arith
+total_most f g (suc k) h = let a = total_most f g k (λ n l. h n (omega arith)) in let b = h k (omega arith) in omega arith
+
+total_sum : (f g : ℕ → ℕ) (k : ℕ) → total (λ n. f n + g n) k ≡ total f k + total g k
+total_sum f g zero = refl
+total_sum f g (suc k) = let a = total_sum f g k in omega arith
+
+total_all : (b k : ℕ) → total (λ n. b) k ≡ k * b
+total_all b zero = omega arith
+total_all b (suc k) = let a = total_all b k in let e : suc k * b ≡ k * b + b = suc-mul k b in omega arith
+
+-- the same number at all places but one
+total_but : (b m k : ℕ) → m < k → total (λ n. cond (eqb n m) 0 b) k + b ≡ k * b
+total_but b m k h = let a = total_change (λ n. b) (λ n. cond (eqb n m) 0 b) m k h (λ i o. ap (λ c. cond c 0 b) (ne_eqb i m o)) in
+    let c : cond (eqb m m) 0 b ≡ 0 = ap (λ c. cond c 0 b) (eq-eqb m m refl) in let d = total_all b k in omega arith
+
+drive_most : (d : Drive) → drive_drawn d ≤ 4
+drive_most drives.Between = omega arith
+drive_most drives.BeginDrawn = omega arith
+drive_most (drives.Reset i) = omega arith
+drive_most (drives.Half i) = omega arith
+drive_most (drives.Kick i o) = omega arith
+drive_most drives.Waiting = omega arith
+drive_most drives.Checking = omega arith
+drive_most drives.LateStored = omega arith
+drive_most drives.Awake = omega arith
+drive_most drives.StartDrawn = omega arith
+drive_most drives.Running = omega arith
+drive_most drives.Done = omega arith
+drive_most drives.FinishDrawn = omega arith
+drive_most drives.FinishStored = omega arith
+drive_most drives.EndDrawn = omega arith
+
+one_most : (b : Bool) → cond b 1 0 ≤ 1
+one_most true = omega arith
+one_most false = omega arith
+
+phase_most : (n c next l : ℕ) (f : Phase) → PhaseOk n c next f → (f ≡ Idle → next ≤ l) → ((f ≡ Idle → ⊥) → c < l) → 2 * next + phase_drawn f ≤ 2 * l
+phase_most n c next l Idle ok i o = let a = i refl in omega arith
+phase_most n c next l Awake ok i o = let a = o (λ e. (cc)) in omega arith
+phase_most n c next l StartDrawn ok i o = let a = o (λ e. (cc)) in omega arith
+phase_most n c next l Running ok i o = let a = o (λ e. (cc)) in omega arith
+phase_most n c next l Done ok i o = let a = o (λ e. (cc)) in omega arith
+phase_most n c next l FinishDrawn ok i o = let a = o (λ e. (cc)) in omega arith
+phase_most n c next l (Telling j d) ok i o = let a = o (λ e. (cc)) in let b = ok.0 in omega arith
+
+between_resets : (d : Drive) → is_between d ≡ true → is_resetting d ≡ true
+between_resets drives.Between t = refl
+between_resets drives.BeginDrawn t = refl
+between_resets (drives.Reset i) t = refl
+between_resets (drives.Half i) t = refl
+between_resets (drives.Kick i o) t = absurd (true≢false (sym t))
+between_resets drives.Waiting t = absurd (true≢false (sym t))
+between_resets drives.Checking t = absurd (true≢false (sym t))
+between_resets drives.LateStored t = absurd (true≢false (sym t))
+between_resets drives.Awake t = absurd (true≢false (sym t))
+between_resets drives.StartDrawn t = absurd (true≢false (sym t))
+between_resets drives.Running t = absurd (true≢false (sym t))
+between_resets drives.Done t = absurd (true≢false (sym t))
+between_resets drives.FinishDrawn t = absurd (true≢false (sym t))
+between_resets drives.FinishStored t = absurd (true≢false (sym t))
+between_resets drives.EndDrawn t = absurd (true≢false (sym t))
+
+product : (n c : ℕ) → c * (2 * n + 3) ≡ n * (2 * c) + 3 * c
+product n c = grind arith
+
+module _ (p : Lay) where
+  drawn_here : (g : Whole) (m : ℕ) (y : NodeView) → m ≢ p.driver → drawn p (with_node g m y) m ≡ node_drawn y
+  drawn_here g m y o = ap (λ (z : NodeView). cond (eqb m p.driver) 0 (node_drawn z)) (put_here g.nodes m y) ∙ ap (λ b. cond b 0 (node_drawn y)) (ne_eqb m p.driver o)
+
+  drawn_at : (g : Whole) (m : ℕ) (x : NodeView) → m ≢ p.driver → g.nodes m ≡ x → drawn p g m ≡ node_drawn x
+  drawn_at g m x o e = ap (λ b. cond b 0 (node_drawn (g.nodes m))) (ne_eqb m p.driver o) ∙ ap node_drawn e
+
+  change : (g : Whole) (m : ℕ) (x y : NodeView) → m < nodes p → m ≢ p.driver → g.nodes m ≡ x → total (drawn p (with_node g m y)) (nodes p) + node_drawn x ≡ total (drawn p g) (nodes p) + node_drawn y
+  change g m x y inside follows same = let a = total_change (drawn p g) (drawn p (with_node g m y)) m (nodes p) inside (λ i o. ap (λ (z : NodeView). cond (eqb i p.driver) 0 (node_drawn z)) (put_else g.nodes m i y o)) in
+      let b = drawn_here g m y follows in let c = drawn_at g m x follows same in omega arith
+
+  -- a step of a follower that draws no ticket, and one that draws one
+  pub events_node : (g : Whole) (ws after : List ℕ) (m : ℕ) (x y : NodeView) → m < nodes p → m ≢ p.driver → g.nodes m ≡ x → node_drawn x ≤ node_drawn y → get_or after 0 0 ≡ get_or ws 0 0 → Events p g ws → Events p (with_node g m y) after
+  events_node g ws after m x y inside follows same quiet word e = let a = e.count in let b = change g m x y inside follows same in record { count = omega arith }
+
+  pub draws_node : (g : Whole) (ws : List ℕ) (m : ℕ) (x y : NodeView) → m < nodes p → m ≢ p.driver → g.nodes m ≡ x → node_drawn y ≡ node_drawn x + 1 → 0 < length ws → Events p g ws → Events p (with_node g m y) (set ws 0 (suc (get_or ws 0 0)))
+  draws_node g ws m x y inside follows same one wide e = let a = e.count in let b = change g m x y inside follows same in let w = get_or-set_same ws 0 (suc (get_or ws 0 0)) 0 wide in record { count = omega arith }
+
+  -- the same of the driver's seat
+  pub events_lead : (g : Whole) (ws after : List ℕ) (x : LeadView) → lead_drawn g.lead ≤ lead_drawn x → get_or after 0 0 ≡ get_or ws 0 0 → Events p g ws → Events p (with_lead g x) after
+  events_lead g ws after x quiet word e = let a = e.count in record { count = omega arith }
+
+  pub draws_lead : (g : Whole) (ws : List ℕ) (x : LeadView) → lead_drawn g.lead + 1 ≤ lead_drawn x → 0 < length ws → Events p g ws → Events p (with_lead g x) (set ws 0 (suc (get_or ws 0 0)))
+  draws_lead g ws x one wide e = let a = e.count in let w = get_or-set_same ws 0 (suc (get_or ws 0 0)) 0 wide in record { count = omega arith }
+
+  -- there is a word for each ticket
+  pub few_tickets : (g : Whole) (ws vs : List ℕ) → IsSound p → Activations p g vs → Events p g ws → get_or ws 0 0 ≤ event_count p.shape
+  few_tickets g ws vs sound a e =
+      let count = e.count in let early = a.early in let later = a.later in
+      let n : ℕ = nodes p in let c : ℕ = p.shape.cycles in
+      let extra : ℕ → ℕ = λ k. cond (eqb k p.driver) 0 (2 * c) in
+      let most = total_most (drawn p g) (λ k. drawn_before p k + extra k) n each in
+      let sum = total_sum (drawn_before p) extra n in
+      let but = total_but (2 * c) p.driver n sound.driver_in in
+      let lead = lead_most g.lead.drive refl in
+      let prod = product n c in
+      omega arith
+    where
+      in_cycle : (d : Drive) → g.lead.drive ≡ d → (is_between d ≡ true → ⊥) → g.lead.cycle < last p
+      in_cycle d e o = a.within (not_true (is_between g.lead.drive) (λ t. o (sym (ap is_between e) ∙ t)))
+        where
+          not_true : (b : Bool) → (b ≡ true → ⊥) → b ≡ false
+          not_true true h = absurd (h refl)
+          not_true false h = refl
+
+      lead_most : (d : Drive) → g.lead.drive ≡ d → lead_drawn g.lead ≤ 5 * last p
+      lead_most d e = by (is_between g.lead.drive) refl
+        where
+          by : (b : Bool) → is_between g.lead.drive ≡ b → 5 * g.lead.cycle + cond b 0 (drive_drawn g.lead.drive + cond g.lead.checked 1 0) ≤ 5 * last p
+          by true q = let z = a.early in omega arith
+          by false q = let z = a.within q in let h = drive_most g.lead.drive in let k = one_most g.lead.checked in omega arith
+
+      each : (k : ℕ) → k < nodes p → drawn p g k ≤ drawn_before p k + cond (eqb k p.driver) 0 (2 * p.shape.cycles)
+      each k h = dite (ℕ_discrete k p.driver)
+          (λ q. let z : drawn p g k ≡ 0 = ap (λ b. cond b 0 (node_drawn (g.nodes k))) (eq-eqb k p.driver q) in omega arith)
+          (λ q. let z : drawn p g k ≡ node_drawn (g.nodes k) = ap (λ b. cond b 0 (node_drawn (g.nodes k))) (ne_eqb k p.driver q) in
+          let y : drawn_before p k ≡ 2 * first p = ap (λ b. cond b 0 (2 * first p)) (ne_eqb k p.driver q) in
+          let x : cond (eqb k p.driver) 0 (2 * p.shape.cycles) ≡ 2 * p.shape.cycles = ap (λ b. cond b 0 (2 * p.shape.cycles)) (ne_eqb k p.driver q) in
+          let m = follower k h q in omega arith)
+        where
+          follower : (k : ℕ) → k < nodes p → k ≢ p.driver → node_drawn (g.nodes k) ≤ 2 * last p
+          follower k h q = phase_most (length (p.targets k)) g.lead.cycle (g.nodes k).next (last p) (g.nodes k).phase (a.followers k h q) (λ e. idle_most e) (λ busy. busy_most busy)
+            where
+              busy_most : ((g.nodes k).phase ≡ Idle → ⊥) → g.lead.cycle < last p
+              busy_most busy = in_cycle g.lead.drive refl (λ t. busy (a.resting (between_resets g.lead.drive t) k h q).1)
+
+              idle_most : (g.nodes k).phase ≡ Idle → (g.nodes k).next ≤ last p
+              idle_most e = by (is_between g.lead.drive) refl
+                where
+                  by : (b : Bool) → is_between g.lead.drive ≡ b → (g.nodes k).next ≤ last p
+                  by true t = let z = (a.resting (between_resets g.lead.drive t) k h q).0 in let y = a.early in omega arith
+                  by false t = let z = a.within t in let ok : PhaseOk (length (p.targets k)) g.lead.cycle (g.nodes k).next Idle = subst (λ (f : Phase). PhaseOk (length (p.targets k)) g.lead.cycle (g.nodes k).next f) e (a.followers k h q) in let w = ok.1 in omega arith

@@ -1,0 +1,170 @@
+-- The steps of a follower at its work: it ends, it draws a ticket, it stores an event.
+use Rattle.std.proofs.Common.{◌≡◌, ◌≢◌, ℕ, suc, ◌+◌, ◌*◌, ◌%◌, ◌^◌, ◌<◌, true, false, cond, eqb, List, [], ◌∷◌, length, set, get_or, refl, sym, ap, ◌∙◌, subst, arith, eq-eqb, length-set, get_or-set_other}
+use mathlib.Core.Logic.{dite}
+use mathlib.Core.Option.{some}
+use native.Mathlib.Decide.{ℕ_discrete}
+use lib.ListN.{get_elem?}
+use Rattle.atomic_table.specs.Table.{State, Me, keeps, stepped, Allows}
+use Rattle.board_rule.specs.declared.view.Phase.{Phase}
+use Rattle.board_rule.specs.declared.view.Phase.TheVariants.{Idle, Awake, StartDrawn, Running, Done, FinishDrawn, Telling}
+use Rattle.board_rule.specs.declared.view.NodeView.{NodeView}
+use Rattle.board_rule.specs.declared.view.Trail.{Trail}
+use Rattle.board_rule.specs.declared.view.View.{View}
+use Rattle.pw_base.specs.Layout.{pending_place, status_place, event_count}
+use Rattle.pw_base.specs.Words.{status_word_of}
+use Rattle.board_rule.specs.Layout.{Lay, nodes}
+use Rattle.board_rule.specs.Phases.{phase_rest, phase_owing, phase_stage, PhaseOk, phase_drawn}
+use Rattle.board_rule.specs.View.{Whole, node_of, with_node, view_node}
+use Rattle.board_rule.specs.ActivationRule.{Activations, posts}
+use Rattle.board_rule.specs.EventRule.{node_drawn}
+use Rattle.board_rule.specs.BoardRule.{Holds}
+use Rattle.board_rule.specs.Steps.{Has}
+use Rattle.board_rule.specs.Plays.{Turns, Learns}
+use Rattle.board_rule.proofs.RunLemmas.{Sums, keeps as stays, finishes}
+use Rattle.board_rule.proofs.TicketLemmas.{few_tickets, draws_node}
+use Rattle.board_rule.proofs.SeatLemmas.{node_step}
+use Rattle.board_rule.proofs.FollowerLemmas.{rest_at, owing_at, stage_at, rest_put, owing_put, stage_put, elsewhere, words_run, not_resetting, active_node, same_node, holds_node}
+
+-- two phases of a node at its work that mean the same for the activation words
+pub record Alike (f h : Phase) : Type 0 where
+  pub rest : (ts : List ℕ) → phase_rest ts true h ≡ phase_rest ts true f
+  pub owing : (ts : List ℕ) → phase_owing ts h ≡ phase_owing ts f
+  pub stage : phase_stage true h ≡ phase_stage true f
+  pub now : (n c next : ℕ) → PhaseOk n c next f → next ≡ c
+  pub ok : (n c next : ℕ) → 0 < n → next ≡ c → PhaseOk n c next h
+  pub busy : f ≡ Idle → ⊥
+
+pub draws_start : Alike Awake StartDrawn
+draws_start = record { rest = λ _. refl; owing = λ _. refl; stage = refl; now = λ _ _ _ h. h; ok = λ _ _ _ _ h. h; busy = λ e. (cc) }
+
+pub draws_finish : Alike Done FinishDrawn
+draws_finish = record { rest = λ _. refl; owing = λ _. refl; stage = refl; now = λ _ _ _ h. h; ok = λ _ _ _ _ h. h; busy = λ e. (cc) }
+
+pub stores_start : Alike StartDrawn Running
+stores_start = record { rest = λ _. refl; owing = λ _. refl; stage = refl; now = λ _ _ _ h. h; ok = λ _ _ _ _ h. h; busy = λ e. (cc) }
+
+pub stores_finish : Alike FinishDrawn (Telling 0 false)
+stores_finish = record { rest = λ _. refl; owing = λ _. refl; stage = refl; now = λ _ _ _ h. h; ok = λ _ _ _ some h. (h, some); busy = λ e. (cc) }
+
+-- a word of another part is no activation word
+abbrev pub IsOther : Lay → ℕ → Type 0
+IsOther p i = (n : ℕ) → n < nodes p → (pending_place p.shape n ≢ i) × (status_place p.shape n ≢ i)
+
+pub ticket_is_other : (p : Lay) → IsOther p 0
+ticket_is_other p n h = ((λ z. omega arith), (λ z. omega arith))
+
+pub later_is_other : (p : Lay) (i : ℕ) → nodes p + nodes p < i → IsOther p i
+later_is_other p i l n h = ((λ z. omega arith), (λ z. omega arith))
+
+module _ (p : Lay) {S : Type 0} where
+  -- the activation rule after a step of the follower m to a phase that means the same
+  pub active_alike : (s : State S View) (r : Holds p s) (id m : ℕ) (v : View) (f h : Phase) (y : NodeView) (i x : ℕ) → get_elem? s.views id ≡ some v → Has p v m → Alike f h → (node_of v m).phase ≡ f → y.next ≡ (node_of v m).next → y.phase ≡ h → IsOther p i
+      → Activations p (with_node r.whole m y) (set s.words i x)
+  active_alike s r id m v f h y i x at has like was next is other =
+      let g = r.whole in let a = r.activations in let sound = r.seated.sound in
+      let same = same_node p s r id m v at has in
+      let ts : List ℕ = p.targets m in
+      let c : ℕ = g.lead.cycle in
+      let was' : (g.nodes m).phase ≡ f = ap (λ (z : NodeView). z.phase) same ∙ was in
+      let ok : PhaseOk (length ts) c (g.nodes m).next f = subst (λ (k : Phase). PhaseOk (length ts) c (g.nodes m).next k) was' (a.followers m has.inside has.follows) in
+      let cycle : (g.nodes m).next ≡ c = like.now (length ts) c (g.nodes m).next ok in
+      let next' : y.next ≡ c = next ∙ sym (ap (λ (z : NodeView). z.next) same) ∙ cycle in
+      let now = eq-eqb (g.nodes m).next c cycle in let now' = eq-eqb y.next c next' in
+      let runs_on = not_resetting p g s.words m a has.inside has.follows (λ e. like.busy (sym was' ∙ e)) in
+      let runs = words_run p g g.lead.drive s.words runs_on a.laid in
+      let whole : Whole = with_node g m y in
+      let ws : List ℕ = set s.words i x in
+      let away = elsewhere p g m y in
+      let rest : (posts p whole).rest m ≡ (posts p g).rest m = rest_put p g m y has.follows ∙ (λ j. phase_rest ts (now' j) (is j)) ∙ like.rest ts ∙ sym (rest_at p g m has.follows ∙ (λ j. phase_rest ts (now j) (was' j))) in
+      let owing : (posts p whole).owing m ≡ (posts p g).owing m = owing_put p g m y has.follows ∙ ap (phase_owing ts) is ∙ like.owing ts ∙ sym (owing_at p g m has.follows ∙ ap (phase_owing ts) was') in
+      let stage : (posts p whole).stage m ≡ (posts p g).stage m = stage_put p g m y has.follows ∙ (λ j. phase_stage (now' j) (is j)) ∙ like.stage ∙ sym (stage_at p g m has.follows ∙ (λ j. phase_stage (now j) (was' j))) in
+      let after : Sums p.shape c (posts p whole) ws = stays p.shape c (posts p g) (posts p whole) s.words ws
+      (λ k l. dite (ℕ_discrete k m) (λ q. ap (posts p whole).rest q ∙ rest ∙ ap (posts p g).rest (sym q)) (λ q. away.rest k q))
+      (λ k l. dite (ℕ_discrete k m) (λ q. ap (posts p whole).owing q ∙ owing ∙ ap (posts p g).owing (sym q)) (λ q. away.owing k q))
+      (λ k l. dite (ℕ_discrete k m) (λ q. ap (posts p whole).stage q ∙ stage ∙ ap (posts p g).stage (sym q)) (λ q. away.stage k q))
+      (λ n l. get_or-set_other s.words i (pending_place p.shape n) x 0 (other n l).0) (λ n l. get_or-set_other s.words i (status_place p.shape n) x 0 (other n l).1) runs in
+      active_node p g s.words ws m y has.follows runs_on (subst (λ (k : Phase). PhaseOk (length ts) c y.next k) (sym is) (like.ok (length ts) c y.next (sound.tells m has.inside) next')) after a
+
+  -- a node draws a ticket, and there is a word for it
+  pub draw_allowed : (slots id m : ℕ) (me : Me S View) (f h : Phase) (y : ℕ → NodeView) (t : Trail) (after : ℕ → View) (says : ℕ → Type 0) → Has p me.0 m → Alike f h → (node_of me.0 m).phase ≡ f
+      → ((found : ℕ) → ((y found).next ≡ (node_of me.0 m).next) × ((y found).phase ≡ h)) → phase_drawn h ≡ phase_drawn f + 1
+      → ((found : ℕ) → after found ≡ view_node me.0 m (y found) t) → ((found : ℕ) → found < event_count p.shape → says found)
+      → Allows (Holds p) slots id me 0 (λ w. (w + 1) % 2 ^ 64) (Learns after says me)
+  draw_allowed slots id m me f h y t after says has like was is one is_after is_said s r _ at fits =
+      let g = r.whole in let sound = r.seated.sound in let wide = r.seated.wide in
+      let found : ℕ = get_or s.words 0 0 in
+      let new : NodeView = y found in
+      let next = (is found).0 in let phase = (is found).1 in
+      let ws : List ℕ = set s.words 0 (suc found) in
+      let active : Activations p (with_node g m new) ws = active_alike s r id m me.0 f h new 0 (suc found) at has like was next phase (ticket_is_other p) in
+      let more : node_drawn new ≡ node_drawn (node_of me.0 m) + 1 = let a : phase_drawn new.phase ≡ phase_drawn h = ap phase_drawn phase in let b : phase_drawn (node_of me.0 m).phase ≡ phase_drawn f = ap phase_drawn was in omega arith in
+      let events = draws_node p g s.words m (node_of me.0 m) new has.inside has.follows (same_node p s r id m me.0 at has) more (omega arith) r.events in
+      let few = few_tickets p (with_node g m new) ws ws sound active events in
+      let word' = drawn s.words found (omega arith) in
+      let limit = sound.events in
+      let word : (found + 1) % 2 ^ 64 ≡ suc found = omega arith in (
+        view_node me.0 m new t,
+        keeps,
+        tt,
+        subst (λ k. Holds p (stepped s 0 k id me.1 (view_node me.0 m new t) keeps)) (sym word) record {
+          whole = with_node g m new;
+          seated = node_step p g s.words ws s.views id m me.0 new t at (length-set s.words 0 (suc found)) has.loops has.inside has.follows has.owned r.seated;
+          activations = active;
+          events = events;
+        },
+        (sym (is_after found), refl, is_said found (omega arith)),
+      )
+    where
+      drawn : (ws : List ℕ) (k : ℕ) → 0 < length ws → get_or (set ws 0 (suc k)) 0 0 ≡ suc k
+      drawn [] k h = absurd (omega arith)
+      drawn (x ∷ xs) k h = refl
+
+  -- a node stores an event
+  pub store_allowed : (slots id m i x : ℕ) (me : Me S View) (f h : Phase) (y : NodeView) (t : Trail) (after : ℕ → View) → Has p me.0 m → Alike f h → (node_of me.0 m).phase ≡ f → y.next ≡ (node_of me.0 m).next → y.phase ≡ h
+      → phase_drawn h ≡ phase_drawn f → nodes p + nodes p < i → ((found : ℕ) → after found ≡ view_node me.0 m y t)
+      → Allows (Holds p) slots id me i (λ _. x) (λ _. Turns after me x)
+  store_allowed slots id m i x me f h y t after has like was next is none later is_after s r _ at fits =
+      let more : node_drawn (node_of me.0 m) ≡ node_drawn y = let a : phase_drawn y.phase ≡ phase_drawn h = ap phase_drawn is in let b : phase_drawn (node_of me.0 m).phase ≡ phase_drawn f = ap phase_drawn was in omega arith in (
+        view_node me.0 m y t,
+        keeps,
+        tt,
+        holds_node p s r id m i x me.0 me.1 y t at has (omega arith) (omega arith) (active_alike s r id m me.0 f h y i x at has like was next is (later_is_other p i later)),
+        (sym (is_after x), refl),
+      )
+
+  -- a node that works stores FINISHED
+  pub finish_allowed : (slots id m : ℕ) (me : Me S View) (t : Trail) (after : ℕ → View) → Has p me.0 m → (node_of me.0 m).phase ≡ Running → ((found : ℕ) → after found ≡ view_node me.0 m (record (node_of me.0 m) { phase = Done }) t)
+      → Allows (Holds p) slots id me (status_place p.shape m) (λ _. status_word_of 3 (node_of me.0 m).next) (λ _. Turns after me (status_word_of 3 (node_of me.0 m).next))
+  finish_allowed slots id m me t after h phase is_after s r _ at fits =
+      let g = r.whole in let a = r.activations in let wide = r.seated.wide in
+      let x : NodeView = node_of me.0 m in
+      let same = same_node p s r id m me.0 at h in
+      let ts : List ℕ = p.targets m in
+      let c : ℕ = g.lead.cycle in
+      let phase' : (g.nodes m).phase ≡ Running = ap (λ (y : NodeView). y.phase) same ∙ phase in
+      let ok : PhaseOk (length ts) c (g.nodes m).next Running = subst (λ (f : Phase). PhaseOk (length ts) c (g.nodes m).next f) phase' (a.followers m h.inside h.follows) in
+      let cycle : x.next ≡ c = sym (ap (λ (y : NodeView). y.next) same) ∙ ok in
+      let runs_on = not_resetting p g s.words m a h.inside h.follows (λ e. idle_not (sym e ∙ phase')) in
+      let runs = words_run p g g.lead.drive s.words runs_on a.laid in
+      let new : NodeView = record x { phase = Done } in
+      let now = eq-eqb (g.nodes m).next c ok in
+      let whole : Whole = with_node g m new in
+      let rest : (posts p g).rest m ≡ ts = rest_at p g m h.follows ∙ (λ j. phase_rest ts (now j) (phase' j)) in
+      let owing : (posts p g).owing m ≡ [] = owing_at p g m h.follows ∙ ap (phase_owing ts) phase' in
+      let stage : (posts p g).stage m ≡ 1 = stage_at p g m h.follows ∙ ap (phase_stage (eqb (g.nodes m).next c)) phase' in
+      let rest' : (posts p whole).rest m ≡ ts = rest_put p g m new h.follows ∙ ap (λ b. cond b ts []) (eq-eqb x.next c cycle) in
+      let owing' : (posts p whole).owing m ≡ [] = owing_put p g m new h.follows in
+      let stage' : (posts p whole).stage m ≡ 2 = stage_put p g m new h.follows in
+      let finished = finishes p.shape c m (posts p g) (posts p whole) s.words h.inside wide (elsewhere p g m new) (rest' ∙ sym rest) (owing' ∙ sym owing) stage stage' runs in
+      let more : node_drawn x ≡ node_drawn new = ap (λ f. 2 * x.next + phase_drawn f) phase in (
+        view_node me.0 m new t,
+        keeps,
+        tt,
+        subst (λ k. Holds p (stepped s (status_place p.shape m) (status_word_of 3 k) id me.1 (view_node me.0 m new t) keeps)) (sym cycle)
+            (holds_node p s r id m (status_place p.shape m) (status_word_of 3 c) me.0 me.1 new t at h (omega arith) (omega arith)
+            (active_node p g s.words (set s.words (status_place p.shape m) (status_word_of 3 c)) m new h.follows runs_on cycle finished a)),
+        (sym (is_after (status_word_of 3 x.next)), refl),
+      )
+    where
+      idle_not : (let a : Phase = Idle in a) ≡ Running → ⊥
+      idle_not e = (cc)

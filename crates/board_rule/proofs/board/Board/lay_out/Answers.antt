@@ -1,0 +1,30 @@
+use Rattle.std.proofs.Common.{arith, ap, ◌∙◌, ◌≡◌, ◌<◌, ◌+◌, ℕ, List, [], length, sym, subst}
+use Rattle.board_rule.specs.Layout.{lay, nodes, word_count}
+use Rattle.board_rule.specs.View.{first_view}
+use Rattle.board_rule.specs.BoardRule.{Holds}
+use Rattle.atomic_table.specs.Table.{opening}
+use Rattle.board_rule.proofs.SoundLemmas.{sound_layout}
+use Rattle.board_rule.proofs.LayoutLemmas.{count_is, long_enough, pending_start, status_start}
+use Rattle.board_rule.proofs.StartLemmas.{opens}
+use Rattle.pw_base.specs.Layout.{start_words}
+use Rattle.board_rule.proofs.board.Board.lay_out.Goals as goal
+
+pub of_words-requires : goal.of_words-requires
+of_words-requires c = let plot = c.args.plot in let p = lay plot in let shape = plot.shape in let u = c.requires.undelayed in
+    let long = long_enough shape u in let wide : nodes p + nodes p < word_count shape = omega arith in
+    subst (λ (w : List ℕ). Holds p (opening w [] (first_view p))) (sym (c.as_slice.ensures ∙ c.in_ok-words.ensures))
+    (opens p (start_words shape) [] (sound_layout plot c.requires.pooled.sound c.requires.seats) (count_is shape) (subst (λ k. nodes p + nodes p < k) (count_is shape) wide) (λ i. 0) (pending_start shape u) (status_start shape u))
+
+pub invariant_of-result-2-clause-sound : goal.invariant_of-result-2-clause-sound
+invariant_of-result-2-clause-sound c = sound_layout c.args.plot c.requires.pooled.sound c.requires.seats
+
+pub invariant_of-result-2-clause-room : goal.invariant_of-result-2-clause-room
+invariant_of-result-2-clause-room c = long_enough c.args.plot.shape c.requires.undelayed
+
+pub invariant_of-result-2-clause-fits : goal.invariant_of-result-2-clause-fits
+invariant_of-result-2-clause-fits c = let a = c.words.inside.inner.small in let b = c.words.inside.inner.ok in let len = b.0 in let cap = b.1 in
+    let v : length c.words.inside.inner.items ≡ length c.in_ok-words.words = ap (λ (l : List ℕ). length l) c.words.view_is in
+    let w : length c.in_ok-words.words ≡ length (start_words c.args.plot.shape) = ap (λ (l : List ℕ). length l) c.in_ok-words.ensures in let z = count_is c.args.plot.shape in omega arith
+
+pub invariant_of-result-2-clause-words : goal.invariant_of-result-2-clause-words
+invariant_of-result-2-clause-words c = c.in_ok-table.ensures.0 ∙ ap (λ (l : List ℕ). length l) (c.as_slice.ensures ∙ c.in_ok-words.ensures) ∙ sym (count_is c.args.plot.shape)

@@ -1,0 +1,7 @@
+use Rattle.std.proofs.Common.{false, ◌≡◌}
+use Rattle.board_rule.specs.Layout.{lay}
+use Rattle.board_rule.specs.Steps.{claimed}
+use Rattle.board_rule.proofs.loop_seat.LoopSeatBoardSeat.exchange_awake.Given as goal
+
+abbrev pub ghosts-claim : goal.ghosts-claim
+ghosts-claim a = record { leads = false; after = claimed false (lay a.board.now.plot) a.token.now.me.0 a.at; says = λ n. n ≡ n }

@@ -1,0 +1,93 @@
+-- The activation rule: between any two steps, the pending and status words of all nodes agree with the phases of all seats.
+-- Source: PipeWire's documentation, "Graph Scheduling"; spa/graph/graph.h, spa_graph_state; the statuses' numbers are this project's.
+use Rattle.std.specs.Prelude.{◌≡◌, ◌≢◌, ℕ, suc, ◌-◌, ◌<◌, ◌≤◌, true, false, cond, eqb, List, length, slice_index}
+use Rattle.board_rule.specs.declared.view.Phase.TheVariants.{Idle}
+use Rattle.board_rule.specs.declared.view.Drive.{Drive}
+use Rattle.board_rule.specs.declared.view.Drive.TheVariants.{Between, BeginDrawn, Reset, Half, Kick}
+use Rattle.board_rule.specs.declared.view.NodeView.{NodeView}
+use Rattle.pw_base.specs.Words.{status_word_of}
+use Rattle.pw_base.specs.Layout.{pending_place, status_place}
+use Rattle.board_rule.specs.Layout.{Lay, nodes, first, last}
+use Rattle.board_rule.specs.Left.{dependencies, left_of}
+use Rattle.board_rule.specs.Sums.{total, times}
+use Rattle.board_rule.specs.Phases.{phase_rest, phase_owing, phase_stage, PhaseOk, IsTold, drive_rest, drive_owing, drive_stage, is_resetting, is_between}
+use Rattle.board_rule.specs.View.{Whole}
+
+-- all that the rule reads of the phases: of each place m the targets that m has yet to take down in the driver's cycle, the one
+-- that it owes (at most one, the one that it took down last), and how far it is
+pub record Posts : Type 0 where
+  pub rest : ℕ → List ℕ
+  pub owing : ℕ → List ℕ
+  pub stage : ℕ → ℕ
+
+-- a node outside the reset. Its status word is that of `kind` in the cycle c; `left` dependencies have yet to take it down, and `debts` phases owe it
+pub record NodeOk (c pending status stage left debts : ℕ) : Type 0 where
+  pub kind : ℕ
+  pub status_is : status ≡ status_word_of kind c
+  pub kinds : kind < 4
+  pub counts : pending ≡ left
+  -- pending above 0: NOT_TRIGGERED, and nobody owes it. Else NOT_TRIGGERED and one phase owes it, or nobody does
+  pub waits : 0 < pending → (kind ≡ 0) × (debts ≡ 0)
+  pub owed : pending ≡ 0 → kind ≡ 0 → debts ≡ 1
+  pub paid : 0 < kind → debts ≡ 0
+  -- not awake before AWAKE is stored, awake with it, and past its work with FINISHED
+  pub asleep : kind < 2 → stage ≡ 0
+  pub awake : kind ≡ 2 → stage ≡ 1
+  pub done : kind ≡ 3 → stage ≡ 2
+
+module _ (p : Lay) where
+  abbrev pub posts : Whole → Posts
+  posts g = record {
+    rest = λ m. cond (eqb m p.driver) (drive_rest (p.targets m) g.lead.drive) (phase_rest (p.targets m) (eqb (g.nodes m).next g.lead.cycle) (g.nodes m).phase);
+    owing = λ m. cond (eqb m p.driver) (drive_owing (p.targets m) g.lead.drive) (phase_owing (p.targets m) (g.nodes m).phase);
+    stage = λ m. cond (eqb m p.driver) (drive_stage g.lead.drive) (phase_stage (eqb (g.nodes m).next g.lead.cycle) (g.nodes m).phase);
+  }
+
+  -- the dependencies of n that have yet to take it down, and the phases that owe it
+  abbrev pub left : Posts → ℕ → ℕ
+  left s n = left_of (λ m. times n (s.rest m)) (dependencies p n)
+
+  abbrev pub debts : Posts → ℕ → ℕ
+  debts s n = total (λ m. times n (s.owing m)) (nodes p)
+
+  pub record Runs (c : ℕ) (s : Posts) (words : List ℕ) : Type 0 where
+    pub node : (n : ℕ) → n < nodes p → NodeOk c (slice_index words (pending_place p.shape n)) (slice_index words (status_place p.shape n)) (s.stage n) (left s n) (debts s n)
+
+  -- the status word before the reset for the cycle c: FINISHED of the cycle before, at first NOT_TRIGGERED
+  abbrev pub old_status : ℕ → ℕ
+  old_status c = cond (eqb c (first p)) (status_word_of 0 c) (status_word_of 3 (c - 1))
+
+  -- the first i pending words and the first k status words are reset for the cycle c
+  pub record Resets (c i k : ℕ) (words : List ℕ) : Type 0 where
+    pub pending_new : (n : ℕ) → n < nodes p → n < i → slice_index words (pending_place p.shape n) ≡ p.required n
+    pub pending_old : (n : ℕ) → n < nodes p → i ≤ n → slice_index words (pending_place p.shape n) ≡ 0
+    pub status_new : (n : ℕ) → n < nodes p → n < k → slice_index words (status_place p.shape n) ≡ status_word_of 0 c
+    pub status_old : (n : ℕ) → n < nodes p → k ≤ n → slice_index words (status_place p.shape n) ≡ old_status c
+
+  -- the activation words in the cycle c, by the driver's phase
+  abbrev pub Words : ℕ → Posts → Drive → List ℕ → Type 0
+  Words c s Between words = Resets c 0 0 words
+  Words c s BeginDrawn words = Resets c 0 0 words
+  Words c s (Reset i) words = Resets c i i words
+  Words c s (Half i) words = Resets c (suc i) i words
+  Words c s _ words = Runs c s words
+
+  -- the driver's phase names nodes and targets that there are
+  abbrev pub DriveOk : Drive → Type 0
+  DriveOk (Reset i) = i < nodes p
+  DriveOk (Half i) = i < nodes p
+  DriveOk (Kick i owes) = IsTold (length (p.targets p.driver)) i owes
+  DriveOk _ = Unit {0}
+
+  abbrev pub IsIdle : ℕ → NodeView → Type 0
+  IsIdle c x = (x.next ≡ c) × (x.phase ≡ Idle)
+
+  -- ACTIVATION RULE
+  pub record Activations (g : Whole) (words : List ℕ) : Type 0 where
+    pub later : first p ≤ g.lead.cycle
+    pub early : g.lead.cycle ≤ last p
+    pub within : is_between g.lead.drive ≡ false → g.lead.cycle < last p
+    pub drive : DriveOk g.lead.drive
+    pub followers : (n : ℕ) → n < nodes p → n ≢ p.driver → PhaseOk (length (p.targets n)) g.lead.cycle (g.nodes n).next (g.nodes n).phase
+    pub resting : is_resetting g.lead.drive ≡ true → (n : ℕ) → n < nodes p → n ≢ p.driver → IsIdle g.lead.cycle (g.nodes n)
+    pub laid : Words g.lead.cycle (posts g) g.lead.drive words

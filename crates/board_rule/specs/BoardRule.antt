@@ -1,0 +1,36 @@
+-- The rule of a board: one whole that every seat's view agrees with, whose words obey the activation rule and the event rule.
+-- Source: this project's own.
+use Rattle.std.specs.Prelude.{◌≡◌, ◌≢◌, ℕ, ◌+◌, ◌<◌, ◌≤◌, List, length}
+use mathlib.Core.Option.{some}
+use lib.ListN.{get_elem?}
+use Rattle.atomic_table.specs.Table.{State}
+use Rattle.board_rule.specs.declared.view.View.{View}
+use Rattle.board_rule.specs.Layout.{Lay, IsSound, nodes, first, word_count}
+use Rattle.board_rule.specs.View.{Whole, idle}
+use Rattle.board_rule.specs.ActivationRule.{Activations}
+use Rattle.board_rule.specs.EventRule.{Events}
+
+module _ (p : Lay) where
+  -- what the view at the place j among all views says of the whole: no two views have the same number
+  pub record Knows (g : Whole) (j : ℕ) (v : View) : Type 0 where
+    pub low : v.number ≤ p.seats
+    pub here : g.seat_at v.number ≡ j
+    pub leads : v.number ≡ p.seats → (v.lead ≡ g.lead) × (v.split ≡ g.split)
+    pub expects : v.expect ≡ g.expect
+    pub is_split : v.number < p.seats → v.number < g.split
+    pub owns : (n : ℕ) → n < nodes p → n ≢ p.driver → p.seat_of n ≡ v.number → get_elem? v.nodes n ≡ some (g.nodes n)
+
+  -- the seats and their views; a follower whose seat is not yet split off is idle in the first cycle
+  pub record Seated (g : Whole) (words : List ℕ) (views : List View) : Type 0 where
+    pub sound : IsSound p
+    pub room : word_count p.shape ≡ length words
+    pub wide : nodes p + nodes p < length words
+    pub knows : (j : ℕ) (v : View) → get_elem? views j ≡ some v → Knows g j v
+    pub unsplit : (n : ℕ) → n < nodes p → n ≢ p.driver → g.split ≤ p.seat_of n → g.nodes n ≡ idle (first p)
+
+  -- THE RULE
+  pub record Holds {S : Type 0} (s : State S View) : Type 0 where
+    pub whole : Whole
+    pub seated : Seated whole s.words s.views
+    pub activations : Activations p whole s.words
+    pub events : Events p whole s.words

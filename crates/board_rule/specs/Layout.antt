@@ -1,0 +1,86 @@
+-- The shape of a board as the rule reads it: nodes by their places in the shape.
+-- Source: PipeWire's documentation, "Graph Scheduling" (required, target list); the words are this project's.
+use Rattle.std.specs.Prelude.{◌≡◌, ◌≢◌, ℕ, ◌+◌, ◌^◌, ◌<◌, ◌≤◌, ◌==◌, List, [], map, drop, length, false, All, slice_index, slice_index_or}
+use Rattle.std.specs.List.{position_or_len}
+use Rattle.pw_base.specs.declared.shape.Shape.{Shape}
+use Rattle.pw_base.specs.Dependencies.{nodes_of}
+use Rattle.pw_base.specs.Limits.{events_limit}
+use Rattle.pw_base.specs.Layout.{node_count, event_count, start_words}
+use Rattle.board_rule.specs.declared.plot.Plot.{Plot}
+use Rattle.board_rule.specs.Sums.{total, times}
+
+-- the place of a node; the number of nodes, where it is none
+abbrev pub place_in : Shape → ℕ → ℕ
+place_in shape n = position_or_len (λ k. k == n) (nodes_of shape)
+
+-- the targets of each node, by places
+abbrev pub target_rows : Shape → List (List ℕ)
+target_rows shape = map (λ n. map (place_in shape) n.targets) shape.nodes
+
+-- the required count of each node
+abbrev pub required_row : Shape → List ℕ
+required_row shape = map (λ n. n.required) shape.nodes
+
+-- how many words a board has
+unfoldable pub word_count : Shape → ℕ
+word_count shape = length (start_words shape)
+
+-- no link is delayed
+abbrev pub IsUndelayed : Shape → Type 0
+IsUndelayed shape = All (λ l. l.delayed ≡ false) shape.links
+
+-- what a rule reads: the driver's place; of each place its seat, its node's number, its required count and its targets
+pub record Lay : Type 0 where
+  pub shape : Shape
+  pub seats : ℕ
+  pub driver : ℕ
+  pub seat_of : ℕ → ℕ
+  pub number : ℕ → ℕ
+  pub place : ℕ → ℕ
+  pub required : ℕ → ℕ
+  pub targets : ℕ → List ℕ
+
+-- each follower has one of the seats of loops, and there is one
+pub record HasSeats (plot : Plot) : Type 0 where
+  pub some_seats : 1 ≤ plot.seats
+  pub all : length plot.seat_of ≡ node_count plot.shape
+  pub each : (n : ℕ) → n < node_count plot.shape → n ≢ place_in plot.shape plot.shape.driver → slice_index plot.seat_of n < plot.seats
+
+abbrev pub lay : Plot → Lay
+lay plot = record {
+  shape = plot.shape;
+  seats = plot.seats;
+  driver = place_in plot.shape plot.shape.driver;
+  seat_of = λ n. slice_index plot.seat_of n;
+  number = λ n. slice_index (nodes_of plot.shape) n;
+  place = place_in plot.shape;
+  required = λ n. slice_index (required_row plot.shape) n;
+  targets = λ n. slice_index_or (target_rows plot.shape) n [];
+}
+
+-- how many nodes there are, and the cycles of the epoch: from `first` to the one before `last`
+abbrev pub nodes : Lay → ℕ
+nodes p = node_count p.shape
+
+abbrev pub first : Lay → ℕ
+first p = p.shape.first
+
+abbrev pub last : Lay → ℕ
+last p = p.shape.first + p.shape.cycles
+
+-- what follows from a sound shape, and from a seat for each follower
+pub record IsSound (p : Lay) : Type 0 where
+  pub some_cycles : 1 ≤ p.shape.cycles
+  pub early : last p ≤ 2 ^ 32
+  pub events : event_count p.shape ≤ events_limit
+  pub driver_in : p.driver < nodes p
+  pub seats_in : (n : ℕ) → n < nodes p → n ≢ p.driver → p.seat_of n < p.seats
+  pub places : (n : ℕ) → p.place n < nodes p → n ≤ 63
+  pub numbers : (n : ℕ) → n < nodes p → p.number n ≤ 63
+  pub at : (n : ℕ) → n < nodes p → p.place (p.number n) ≡ n
+  pub known : (n : ℕ) → p.place n < nodes p → p.number (p.place n) ≡ n
+  pub targets_in : (m i : ℕ) → m < nodes p → i < length (p.targets m) → slice_index (p.targets m) i < nodes p
+  pub required_is : (n : ℕ) → n < nodes p → p.required n ≡ total (λ m. times n (p.targets m)) (nodes p)
+  pub required_some : (n : ℕ) → n < nodes p → 0 < p.required n
+  pub tells_driver : (m i : ℕ) → m < nodes p → i < length (p.targets m) → 0 < times p.driver (drop i (p.targets m))
+  pub tells : (m : ℕ) → m < nodes p → 0 < length (p.targets m)

@@ -1,0 +1,14 @@
+pub mod Sums
+pub mod Layout
+pub mod Rows
+pub mod Left
+pub mod Phases
+pub mod View
+pub mod Bits
+pub mod ActivationRule
+pub mod EventRule
+pub mod BoardRule
+pub mod Steps
+pub mod EventSteps
+pub mod Plays
+pub mod Known

@@ -1,0 +1,94 @@
+-- What the phases of a node mean for the activation words: the targets it has yet to take down, the one that it owes, and how far it is.
+-- Source: PipeWire's documentation, "Graph Scheduling"; the phases are this project's.
+use Rattle.std.specs.Prelude.{◌≡◌, ℕ, ◌+◌, ◌-◌, ◌<◌, ◌≤◌, Bool, true, false, cond, List, [], take, drop}
+use Rattle.board_rule.specs.declared.view.Phase.{Phase}
+use Rattle.board_rule.specs.declared.view.Phase.TheVariants.{Idle, Awake, StartDrawn, Running, Done, FinishDrawn, Telling}
+use Rattle.board_rule.specs.declared.view.Drive.{Drive}
+use Rattle.board_rule.specs.declared.view.Drive.TheVariants as drives
+
+-- of the targets ts, of which the first i are taken down, the one that is owed its trigger
+abbrev pub owed_of : List ℕ → ℕ → Bool → List ℕ
+owed_of ts i true = take 1 (drop (i - 1) ts)
+owed_of ts i false = []
+
+-- a follower with the targets ts; `now` says that its next cycle is the driver's
+abbrev pub phase_rest : List ℕ → Bool → Phase → List ℕ
+phase_rest ts now (Telling i owes) = drop i ts
+phase_rest ts now _ = cond now ts []
+
+abbrev pub phase_owing : List ℕ → Phase → List ℕ
+phase_owing ts (Telling i owes) = owed_of ts i owes
+phase_owing ts _ = []
+
+-- 0: not yet woken in the driver's cycle. 1: awake. 2: FINISHED is stored
+abbrev pub phase_stage : Bool → Phase → ℕ
+phase_stage now Idle = cond now 0 2
+phase_stage now Awake = 1
+phase_stage now StartDrawn = 1
+phase_stage now Running = 1
+phase_stage now Done = 2
+phase_stage now FinishDrawn = 2
+phase_stage now (Telling i owes) = 2
+
+-- the first i of n targets are taken down; one of them is owed, or one is left
+abbrev pub IsTold : ℕ → ℕ → Bool → Type 0
+IsTold n i true = (0 < i) × (i ≤ n)
+IsTold n i false = i < n
+
+-- a follower with n targets is in the driver's cycle c, or idle in the one after it
+abbrev pub PhaseOk : ℕ → ℕ → ℕ → Phase → Type 0
+PhaseOk n c next Idle = (c ≤ next) × (next ≤ c + 1)
+PhaseOk n c next (Telling i owes) = (next ≡ c) × IsTold n i owes
+PhaseOk n c next _ = next ≡ c
+
+-- the driver, with the targets ts
+abbrev pub drive_rest : List ℕ → Drive → List ℕ
+drive_rest ts (drives.Kick i owes) = drop i ts
+drive_rest ts _ = []
+
+abbrev pub drive_owing : List ℕ → Drive → List ℕ
+drive_owing ts (drives.Kick i owes) = owed_of ts i owes
+drive_owing ts _ = []
+
+abbrev pub drive_stage : Drive → ℕ
+drive_stage drives.Awake = 1
+drive_stage drives.StartDrawn = 1
+drive_stage drives.Running = 1
+drive_stage drives.Done = 2
+drive_stage drives.FinishDrawn = 2
+drive_stage drives.FinishStored = 2
+drive_stage drives.EndDrawn = 2
+drive_stage _ = 0
+
+-- the driver's seat has not yet reset all nodes
+abbrev pub is_resetting : Drive → Bool
+is_resetting drives.Between = true
+is_resetting drives.BeginDrawn = true
+is_resetting (drives.Reset i) = true
+is_resetting (drives.Half i) = true
+is_resetting _ = false
+
+abbrev pub is_between : Drive → Bool
+is_between drives.Between = true
+is_between _ = false
+
+-- how many tickets a follower has drawn in its cycle
+abbrev pub phase_drawn : Phase → ℕ
+phase_drawn Idle = 0
+phase_drawn Awake = 0
+phase_drawn StartDrawn = 1
+phase_drawn Running = 1
+phase_drawn Done = 1
+phase_drawn FinishDrawn = 2
+phase_drawn (Telling i owes) = 2
+
+-- how many the driver's seat has drawn in its cycle, but for that of a Tick
+abbrev pub drive_drawn : Drive → ℕ
+drive_drawn drives.Between = 0
+drive_drawn drives.StartDrawn = 2
+drive_drawn drives.Running = 2
+drive_drawn drives.Done = 2
+drive_drawn drives.FinishDrawn = 3
+drive_drawn drives.FinishStored = 3
+drive_drawn drives.EndDrawn = 4
+drive_drawn _ = 1

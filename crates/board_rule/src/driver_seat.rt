@@ -1,0 +1,160 @@
+//! The driver's seat. Contracts see the table that it belongs to and what it knows.
+ghost use Rattle.std.specs.Prelude.{◌≡◌, ◌<◌, length};
+ghost use Rattle.board_rule.specs.Layout.{lay};
+ghost use Rattle.board_rule.specs.Steps.{StoresPending, pending_stored, StoresStatus, status_stored};
+ghost use Rattle.board_rule.specs.EventSteps.{Looks, looked, StoresLate, late_stored};
+
+use crate::board::Board;
+use crate::phases::{
+    kick, lead_draw, lead_event, lead_store, lead_ticket, reset_so_far, resets, taken, wake,
+};
+use crate::rule::BoardToken;
+use crate::seat::BoardSeat;
+use crate::steps::statuses::triggered;
+use crate::steps::{activation, event};
+use crate::view::{Drive, LeadView, ReadView};
+use std::marker::{Brand, Model};
+
+/// The right of the driver's thread to step on a board: it begins, checks and ends each cycle and runs the driver's node.
+#[derive(Drop)]
+pub struct DriverSeat {
+    pub(crate) token: BoardToken,
+    pub(crate) lead: LeadView,
+    pub(crate) reads: Vec<ReadView>,
+    pub(crate) woke: u64,
+}
+
+impl Model for DriverSeat {
+    ghost use Rattle.board_rule.specs.Known.{Known, IsDriverSeat};
+
+    ghost Value = { Known };
+
+    ghost view = { λ s. record { table = s.token.table_id; knows = s.token.me.0 } };
+
+    ghost invariant = { λ s. IsDriverSeat s.token.me.0 s.lead s.reads.items s.woke };
+}
+
+impl BoardSeat for DriverSeat {
+    ghost use Rattle.std.specs.Prelude.{true};
+
+    ghost leads = { true };
+
+    ghost table = { λ s. s.table };
+
+    ghost knows = { λ s. s.knows };
+
+    fn ended(&self, board: &Board, _node: u32) -> u32 {
+        board.past(self.lead.cycle)
+    }
+
+    fn woke(&self) -> u64 {
+        self.woke
+    }
+
+    fn lower_pending(&mut self, board: &Board, node: u32) -> u64 {
+        let at = board.place(node);
+        let done = taken(self.lead.drive);
+        let target = board.target(at, done);
+        let found = activation::lower::<Brand>(board, &mut self.token, at, target);
+        self.lead.drive = kick(board.targets_at(at), done + 1, found == 1);
+        self.woke = wake(self.woke, board.number(target), found);
+        found
+    }
+
+    fn store_triggered(&mut self, board: &Board, node: u32) {
+        let at = board.place(node);
+        let done = taken(self.lead.drive);
+        let target = board.target(at, done - 1);
+        let cycle = board.cycle(self.lead.cycle);
+        activation::trigger::<Brand>(board, &mut self.token, at, target, cycle);
+        self.lead.drive = kick(board.targets_at(at), done, false);
+    }
+
+    fn exchange_awake(&mut self, board: &Board, node: u32) -> u64 {
+        let at = board.place(node);
+        let cycle = board.cycle(self.lead.cycle);
+        let found = activation::claim::<Brand>(board, &mut self.token, at, cycle);
+        if found == triggered(cycle) {
+            self.lead.drive = Drive::Awake;
+        }
+        found
+    }
+
+    fn store_finished(&mut self, board: &Board, node: u32) {
+        let at = board.place(node);
+        let cycle = board.cycle(self.lead.cycle);
+        activation::finish::<Brand>(board, &mut self.token, at, cycle);
+        self.lead.drive = Drive::Done;
+        self.woke = 0;
+    }
+
+    fn draw_ticket(&mut self, board: &Board, node: u32) -> u64 {
+        let at = board.place(node);
+        let begins = matches!(self.lead.drive, Drive::Between);
+        let ticket = event::draw::<Brand>(board, &mut self.token, at);
+        self.lead = lead_draw(self.lead, ticket);
+        if begins {
+            self.woke = 0;
+        }
+        ticket
+    }
+
+    fn store_event(&mut self, board: &Board, node: u32) {
+        let at = board.place(node);
+        let cycle = board.cycle(self.lead.cycle);
+        let new = lead_event(self.lead.drive, cycle, board.number(at));
+        let ticket = lead_ticket(self.lead);
+        event::store::<Brand>(board, &mut self.token, at, ticket, &new);
+        self.lead = lead_store(self.lead);
+    }
+}
+
+impl DriverSeat {
+    /// Stores the required count of the node that is reset next in its pending word. No memory, no wait, no failure.
+    pub fn store_pending(&mut self, board: &Board)
+        requires table { self.old.table ≡ board.now.table.shared.table_id }
+        requires phase { StoresPending (lay board.now.plot) self.old.knows }
+        ensures table { self.new.table ≡ self.old.table }
+        ensures knows { self.new.knows ≡ pending_stored self.old.knows }
+    {
+        let at = resets(self.lead.drive);
+        activation::reset_pending::<Brand>(board, &mut self.token, at);
+        self.lead.drive = Drive::Half { done: at };
+    }
+
+    /// Stores NOT_TRIGGERED of its cycle in the status word of the node whose pending word is reset.
+    pub fn store_not_triggered(&mut self, board: &Board)
+        requires table { self.old.table ≡ board.now.table.shared.table_id }
+        requires phase { StoresStatus (lay board.now.plot) self.old.knows }
+        ensures table { self.new.table ≡ self.old.table }
+        ensures knows { self.new.knows ≡ status_stored (lay board.now.plot) self.old.knows }
+    {
+        let at = resets(self.lead.drive);
+        let cycle = board.cycle(self.lead.cycle);
+        activation::reset_status::<Brand>(board, &mut self.token, at, cycle);
+        self.lead.drive = reset_so_far(board.nodes(), at + 1);
+    }
+
+    /// Loads the status word of a follower in a check, which has not yet loaded it.
+    pub fn load_status(&mut self, board: &Board, node: u32) -> u64
+        requires table { self.old.table ≡ board.now.table.shared.table_id }
+        requires phase { let p = lay board.now.plot in Looks p self.old.knows (p.place node) }
+        ensures table { self.new.table ≡ self.old.table }
+        ensures knows { let p = lay board.now.plot in self.new.knows ≡ looked p self.old.knows (p.place node) result }
+    {
+        let at = board.place(node);
+        event::look::<Brand>(board, &mut self.token, at)
+    }
+
+    /// Stores the late set of a check: the followers whose status word was not FINISHED of its cycle. Bit n is node n.
+    pub fn store_late(&mut self, board: &Board, late: u64)
+        requires table { self.old.table ≡ board.now.table.shared.table_id }
+        requires phase { StoresLate (lay board.now.plot) self.old.knows late }
+        ensures table { self.new.table ≡ self.old.table }
+        ensures knows { self.new.knows ≡ late_stored self.old.knows }
+    {
+        let past = board.past(self.lead.cycle) as usize;
+        event::store_late::<Brand>(board, &mut self.token, past, late);
+        self.lead.drive = Drive::LateStored;
+    }
+}

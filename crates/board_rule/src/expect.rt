@@ -1,0 +1,9 @@
+//! The table of samples that all seats of a board agree on.
+
+/// Names the samples that are expected, by cycle of the epoch, pool and place in the quantum. It has no call: contracts
+/// alone see it. Whoever makes a board names it at the call.
+pub trait Expect {
+    ghost use Rattle.board_rule.specs.View.{Samples};
+
+    ghost expect: { Samples };
+}

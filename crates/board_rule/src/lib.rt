@@ -1,0 +1,30 @@
+//! The rule over the words and the views of one board.
+#![tactic(auto)]
+
+mod board;
+mod copying;
+mod driver_seat;
+mod expect;
+mod layout;
+mod left;
+mod loop_seat;
+mod opening;
+mod phases;
+mod plot;
+mod rows;
+mod rule;
+mod seat;
+mod steps;
+mod view;
+
+pub use board::Board;
+pub use driver_seat::DriverSeat;
+pub use expect::Expect;
+pub use left::{left_at_start, left_of, tell};
+pub use loop_seat::LoopSeat;
+pub use plot::Plot;
+pub use rule::BoardRule;
+pub use seat::BoardSeat;
+pub use view::{
+    BlockView, Drive, Found, LeadView, NodeView, Phase, ReadView, Trail, View, WriteView,
+};

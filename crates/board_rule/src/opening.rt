@@ -1,0 +1,216 @@
+//! How a board begins: its words at the start, and its seats split off the first one.
+ghost use Rattle.std.specs.Prelude.{◌≡◌, ℕ, ◌<◌, length, slice_get, replicate, Some, IfOk};
+ghost use Rattle.pw_base.specs.Pools.{IsPooledShape};
+ghost use Rattle.board_rule.specs.Known.{Known};
+ghost use Rattle.board_rule.specs.Layout.{lay, HasSeats, IsUndelayed};
+ghost use Rattle.board_rule.specs.View.{Samples, first_view, driver_view, loop_view, split_off, free_blocks, idle, unread, unwritten};
+
+use crate::board::Board;
+use crate::copying::copy_shape;
+use crate::driver_seat::DriverSeat;
+use crate::expect::Expect;
+use crate::layout::start_words;
+use crate::loop_seat::LoopSeat;
+use crate::plot::Plot;
+use crate::rows::rows_of;
+use crate::rule::{BoardTable, BoardToken};
+use crate::view::{BlockView, Drive, LeadView, NodeView, Phase, ReadView, View, WriteView};
+use atomic_table::{Split, Table};
+use pw_base::{Items, Memory, NO_BLOCK, Shape, pools_of};
+use std::alloc::{AllocError, Global};
+use std::marker::{Brand, PhantomData};
+
+/// The views of a seat and of the one that is split off it.
+trait Cut {
+    ghost use Rattle.board_rule.specs.declared.view.View.{View};
+
+    ghost left: { View };
+
+    ghost right: { View };
+}
+
+impl Cut for Brand {
+    ghost use Rattle.board_rule.specs.Plays.{no_view};
+
+    ghost left = { no_view };
+
+    ghost right = { no_view };
+}
+
+struct Parts<C> {
+    cut: PhantomData<C>,
+}
+
+impl<C: Cut> Split<View> for Parts<C> {
+    ghost left = { λ _. C.left };
+
+    ghost right = { λ _. C.right };
+}
+
+// Splits a seat off the driver's.
+fn split<C: Cut>(board: &Board, token: &mut BoardToken) -> BoardToken
+    requires table { token.old.table_id ≡ board.now.table.shared.table_id }
+    requires leads { token.old.me.0.number ≡ (lay board.now.plot).seats }
+    requires room { token.old.me.0.split < (lay board.now.plot).seats }
+    requires views { ((e : Samples) × (0 < token.old.me.0.split → e ≡ token.old.me.0.expect) × (C.left ≡ split_off e token.old.me.0) × (C.right ≡ loop_view (lay board.now.plot) e token.old.me.0.split)) }
+    ensures left { (token.new.table_id ≡ token.old.table_id) × (token.new.id ≡ token.old.id) × (token.new.me.0 ≡ C.left) }
+    ensures right { (result.table_id ≡ token.old.table_id) × (result.me.0 ≡ C.right) }
+{
+    board.table.shared.split_seat::<Parts<C>>(token)
+}
+
+// The blocks of all pools of a shape, free.
+fn free_blocks(alloc: Global, shape: &Shape) -> Result<Items<BlockView>, Memory>
+    requires { IsPooledShape shape.now }
+    ensures { IfOk result (λ blocks. blocks ≡ free_blocks shape.now) }
+{
+    let pools = pools_of(alloc, shape)?;
+    let mut blocks = Items::new(alloc);
+    for pool in pools.as_slice() {
+        blocks.extend_filled(pool.blocks as usize, BlockView::Free)?;
+    }
+    Ok(blocks)
+}
+
+// The reader's ends of links, of which nothing is read before the cycle.
+fn unread(alloc: Global, links: usize, cycle: u64) -> Result<Vec<ReadView>, AllocError>
+    ensures { IfOk result (λ reads. reads.items ≡ replicate links (unread cycle)) }
+{
+    let end = ReadView {
+        loaded: cycle,
+        lowered: cycle,
+        stored: cycle,
+        id: NO_BLOCK,
+    };
+    Vec::from_elem(alloc, end, links)
+}
+
+// The writer's ends of links, of which nothing is written before the cycle.
+fn unwritten(alloc: Global, links: usize, cycle: u64) -> Result<Vec<WriteView>, AllocError>
+    ensures { IfOk result (λ writes. writes.items ≡ replicate links (unwritten cycle)) }
+{
+    let end = WriteView {
+        loaded: cycle,
+        stored: cycle,
+        id: NO_BLOCK,
+        last: NO_BLOCK,
+    };
+    Vec::from_elem(alloc, end, links)
+}
+
+// Followers that wait in the cycle.
+fn idle(alloc: Global, nodes: usize, cycle: u64) -> Result<Vec<NodeView>, AllocError>
+    ensures { IfOk result (λ views. views.items ≡ replicate nodes (idle cycle)) }
+{
+    let node = NodeView {
+        next: cycle,
+        phase: Phase::Idle,
+        start: 0,
+        finish: 0,
+    };
+    Vec::from_elem(alloc, node, nodes)
+}
+
+impl DriverSeat {
+    // Splits the next loop's seat off the driver's.
+    fn split_off<E: Expect>(
+        &mut self,
+        alloc: Global,
+        board: &Board,
+        free: &Items<BlockView>,
+    ) -> Result<LoopSeat, Memory>
+        requires table { self.old.table ≡ board.now.table.shared.table_id }
+        requires leads { self.old.knows.number ≡ (lay board.now.plot).seats }
+        requires room { self.old.knows.split < (lay board.now.plot).seats }
+        requires free { free.now ≡ free_blocks board.now.plot.shape }
+        requires expect { 0 < self.old.knows.split → E.expect ≡ self.old.knows.expect }
+        ensures { IfOk result (λ s. (self.new.table ≡ self.old.table) × (self.new.knows ≡ split_off E.expect self.old.knows) × (s.table ≡ self.old.table) × (s.knows ≡ loop_view (lay board.now.plot) E.expect self.old.knows.split)) }
+    {
+        let shape = board.shape();
+        let first = u64::from(shape.first);
+        let nodes = idle(alloc, shape.nodes.len(), first)?;
+        let writes = unwritten(alloc, shape.links.len(), first)?;
+        let reads = unread(alloc, shape.links.len(), first)?;
+        let blocks = free.copy(alloc)?.into_vec();
+        let token = split::<Brand>(board, &mut self.token);
+        Ok(LoopSeat {
+            token,
+            nodes,
+            writes,
+            reads,
+            blocks,
+            woke: 0,
+        })
+    }
+}
+
+impl Board {
+    // The board of a plot, with the driver's seat before any split.
+    fn lay_out(alloc: Global, plot: Plot) -> Result<(Board, DriverSeat), Memory>
+        requires pooled { IsPooledShape plot.shape }
+        requires undelayed { IsUndelayed plot.shape }
+        requires seats { HasSeats plot }
+        ensures { IfOk result (λ t. (t.0.plot ≡ plot) × (t.1.table ≡ t.0.table.shared.table_id) × (t.1.knows ≡ first_view (lay plot))) }
+    {
+        let rows = rows_of(alloc, &plot.shape)?;
+        let words = start_words(alloc, &plot.shape)?;
+        let first = u64::from(plot.shape.first);
+        let reads = unread(alloc, plot.shape.links.len(), first)?;
+        let (table, token): (BoardTable, BoardToken) = Table::of_words(
+            alloc,
+            words.as_slice(),
+            &plot,
+        )?;
+        let lead = LeadView {
+            cycle: first,
+            drive: Drive::Between,
+            checked: false,
+            ticket: 0,
+            start: 0,
+            finish: 0,
+        };
+        Ok((
+            Board { table, plot, rows },
+            DriverSeat {
+                token,
+                lead,
+                reads,
+                woke: 0,
+            },
+        ))
+    }
+
+    /// A board for a shape without delayed links, the driver's seat and the loops' seats in the order of their numbers.
+    /// `seat_of` gives the loop's seat of each node by place in the shape, below `seats`; the driver's entry is not
+    /// looked at. All seats agree on the samples of `E`, which the caller names at the call.
+    ///
+    /// Memory: the words of the shape once, and for each seat a view of each node, link and block.
+    pub fn new<E: Expect>(
+        alloc: Global,
+        shape: &Shape,
+        seat_of: &Items<u32>,
+        seats: u32,
+    ) -> Result<(Board, DriverSeat, Items<LoopSeat>), Memory>
+        requires pooled { IsPooledShape shape.now }
+        requires undelayed { IsUndelayed shape.now }
+        requires seats { HasSeats record { shape = shape.now; seat_of = seat_of.now; seats = seats } }
+
+        ensures plot { IfOk result (λ t. t.0.plot ≡ record { shape = shape.now; seat_of = seat_of.now; seats = seats }) }
+        ensures driver { IfOk result (λ t. t.1 ≡ record { table = t.0.table.shared.table_id; knows = driver_view (lay t.0.plot) E.expect seats }) }
+        ensures count { IfOk result (λ t. length t.2 ≡ seats) }
+        ensures loops { IfOk result (λ t. (k : ℕ) → k < seats → slice_get t.2 k ≡ Some record { table = t.0.table.shared.table_id; knows = loop_view (lay t.0.plot) E.expect k }) }
+    {
+        let plot = Plot {
+            shape: copy_shape(alloc, shape)?,
+            seat_of: seat_of.copy(alloc)?,
+            seats,
+        };
+        let free = free_blocks(alloc, shape)?;
+        let (board, mut driver) = Board::lay_out(alloc, plot)?;
+        let mut loops = Items::new(alloc);
+        for k in 0..seats {
+            loops.push(driver.split_off::<E>(alloc, &board, &free)?)?;
+        }
+        Ok((board, driver, loops))
+    }
+}

@@ -1,0 +1,135 @@
+//! What a seat knows of its board. The views themselves stand in contracts alone: no value of `View` is made.
+use std::collections::LinkedList;
+
+/// Where a follower stands in its cycle.
+#[derive(Clone, Copy, Drop)]
+pub enum Phase {
+    /// It waits to be triggered.
+    Idle,
+    Awake,
+    /// The ticket of its Start is drawn.
+    StartDrawn,
+    /// Its Start is stored: it works.
+    Running,
+    /// FINISHED is stored.
+    Done,
+    /// The ticket of its Finish is drawn.
+    FinishDrawn,
+    /// Its Finish is stored, and the first so many targets are taken down. The last of these may be owed its trigger.
+    Telling { told: usize, owes: bool },
+}
+
+/// A follower, in its cycle `next`. `start` and `finish` are the tickets that it drew last.
+#[derive(Clone, Copy, Drop)]
+pub struct NodeView {
+    pub next: u64,
+    pub phase: Phase,
+    pub start: u64,
+    pub finish: u64,
+}
+
+/// Where the driver's seat stands in its cycle.
+#[derive(Clone, Copy, Drop)]
+pub enum Drive {
+    /// The cycle is not yet begun.
+    Between,
+    BeginDrawn,
+    /// The first so many nodes are reset.
+    Reset { done: usize },
+    /// And the pending word of the next one.
+    Half { done: usize },
+    /// All are reset, and the first so many targets are taken down. The last of these may be owed its trigger.
+    Kick { told: usize, owes: bool },
+    /// All targets are taken down, and the driver's node waits to be triggered.
+    Waiting,
+    /// The ticket of a Tick is drawn, and statuses are loaded.
+    Checking,
+    /// The late set is stored.
+    LateStored,
+    Awake,
+    StartDrawn,
+    Running,
+    Done,
+    FinishDrawn,
+    FinishStored,
+    EndDrawn,
+}
+
+/// The driver's seat, in its cycle. `checked` says that a check was begun in it. `ticket` is the one that it drew last
+/// for a Begin, a Tick or an End, `start` and `finish` those for its own node.
+#[derive(Clone, Copy, Drop)]
+pub struct LeadView {
+    pub cycle: u64,
+    pub drive: Drive,
+    pub checked: bool,
+    pub ticket: u64,
+    pub start: u64,
+    pub finish: u64,
+}
+
+/// The writer's end of a link: one more than the cycle of its last load and of its last store, and the numbers of the
+/// blocks that it stored last and before that.
+#[derive(Clone, Copy, Drop)]
+pub struct WriteView {
+    pub loaded: u64,
+    pub stored: u64,
+    pub id: u32,
+    pub last: u32,
+}
+
+/// The reader's end of a link: one more than the cycle of its last load, of its last decrement and of its last store,
+/// and the number of the block that it loaded last.
+#[derive(Clone, Copy, Drop)]
+pub struct ReadView {
+    pub loaded: u64,
+    pub lowered: u64,
+    pub stored: u64,
+    pub id: u32,
+}
+
+/// A block, as the seat of its writer knows it.
+#[derive(Clone, Copy, Drop)]
+pub enum BlockView {
+    Free,
+    /// So many of its words are filled.
+    Filling { words: u32 },
+    /// It was announced in the cycle before this one.
+    Out { stamp: u64 },
+}
+
+/// The word of a node that a step found.
+#[derive(Clone, Copy, Drop)]
+pub struct Found {
+    pub node: u32,
+    pub word: u64,
+}
+
+/// What a seat's steps found, newest first.
+pub struct Trail {
+    /// The status words of claims that were too early.
+    pub tries: LinkedList<Found>,
+    /// The pending words of the targets that the last begin or finish has taken down.
+    pub told: LinkedList<Found>,
+    /// The status words that the last check has loaded.
+    pub looks: LinkedList<Found>,
+}
+
+/// What one seat knows. A loop's seat has a number below the number of loops' seats, and the driver's seat has that
+/// number itself; which fields count is told by it.
+pub struct View {
+    pub number: usize,
+    /// The driver's: how many loops' seats are split off.
+    pub split: usize,
+    /// The driver's.
+    pub lead: LeadView,
+    /// A loop's: by place in the shape. Those of the seat alone count.
+    pub nodes: LinkedList<NodeView>,
+    /// By number of the link. Those that the seat writes or reads count.
+    pub writes: LinkedList<WriteView>,
+    pub reads: LinkedList<ReadView>,
+    /// By pool and number. Those that the seat fills count.
+    pub blocks: LinkedList<BlockView>,
+    pub trail: Trail,
+    /// The samples that are expected, by cycle of the epoch and pool. All seats of a board have the same.
+    pub expect: LinkedList<LinkedList<LinkedList<i16>>>,
+}
