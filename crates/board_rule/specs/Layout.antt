@@ -1,29 +1,14 @@
 -- The shape of a board as the rule reads it: nodes by their places in the shape.
 -- Source: PipeWire's documentation, "Graph Scheduling" (required, target list); the words are this project's.
-use Rattle.std.specs.Prelude.{◌≡◌, ◌≢◌, ℕ, ◌+◌, ◌^◌, ◌<◌, ◌≤◌, ◌==◌, List, [], map, drop, length, false, All, slice_index, slice_index_or}
-use Rattle.std.specs.List.{position_or_len}
+use Rattle.std.specs.Prelude.{◌≡◌, ◌≢◌, ℕ, ◌+◌, ◌^◌, ◌<◌, ◌≤◌, List, [], drop, length, false, All, slice_index, slice_index_or}
 use Rattle.pw_base.specs.declared.shape.Shape.{Shape}
 use Rattle.pw_base.specs.Dependencies.{nodes_of}
 use Rattle.pw_base.specs.Limits.{events_limit}
-use Rattle.pw_base.specs.Layout.{node_count, event_count, start_words}
+use Rattle.pw_base.specs.Layout.{node_count, event_count}
 use Rattle.board_rule.specs.declared.plot.Plot.{Plot}
 use Rattle.board_rule.specs.Sums.{total, times}
-
--- the place of a node; the number of nodes, where it is none
-abbrev pub place_in : Shape → ℕ → ℕ
-place_in shape n = position_or_len (λ k. k == n) (nodes_of shape)
-
--- the targets of each node, by places
-abbrev pub target_rows : Shape → List (List ℕ)
-target_rows shape = map (λ n. map (place_in shape) n.targets) shape.nodes
-
--- the required count of each node
-abbrev pub required_row : Shape → List ℕ
-required_row shape = map (λ n. n.required) shape.nodes
-
--- how many words a board has
-unfoldable pub word_count : Shape → ℕ
-word_count shape = length (start_words shape)
+pub use Rattle.board_rule.specs.Places.{place_in, target_rows, required_row}
+unfoldable pub use Rattle.board_rule.specs.Places.{word_count}
 
 -- no link is delayed
 abbrev pub IsUndelayed : Shape → Type 0

@@ -5,6 +5,7 @@ use Rattle.board_rule.specs.declared.view.Phase.{Phase}
 use Rattle.board_rule.specs.declared.view.Phase.TheVariants.{Idle, Awake, StartDrawn, Running, Done, FinishDrawn, Telling}
 use Rattle.board_rule.specs.declared.view.Drive.{Drive}
 use Rattle.board_rule.specs.declared.view.Drive.TheVariants as drives
+pub use Rattle.board_rule.specs.Drawn.{phase_drawn, drive_drawn}
 
 -- of the targets ts, of which the first i are taken down, the one that is owed its trigger
 abbrev pub owed_of : List ℕ → ℕ → Bool → List ℕ
@@ -71,24 +72,3 @@ is_resetting _ = false
 abbrev pub is_between : Drive → Bool
 is_between drives.Between = true
 is_between _ = false
-
--- how many tickets a follower has drawn in its cycle
-abbrev pub phase_drawn : Phase → ℕ
-phase_drawn Idle = 0
-phase_drawn Awake = 0
-phase_drawn StartDrawn = 1
-phase_drawn Running = 1
-phase_drawn Done = 1
-phase_drawn FinishDrawn = 2
-phase_drawn (Telling i owes) = 2
-
--- how many the driver's seat has drawn in its cycle, but for that of a Tick
-abbrev pub drive_drawn : Drive → ℕ
-drive_drawn drives.Between = 0
-drive_drawn drives.StartDrawn = 2
-drive_drawn drives.Running = 2
-drive_drawn drives.Done = 2
-drive_drawn drives.FinishDrawn = 3
-drive_drawn drives.FinishStored = 3
-drive_drawn drives.EndDrawn = 4
-drive_drawn _ = 1

@@ -1,0 +1,45 @@
+-- Claiming a node, and ending its work: what each asks of the view of its seat, and the view after it. Nodes are places.
+-- Source: PipeWire's documentation, "Graph Scheduling"; the kinds are this project's.
+use Rattle.std.specs.Prelude.{◌≡◌, ℕ, Bool, true, false, cond, eqb, [], ◌∷◌}
+use Rattle.board_rule.specs.declared.view.Phase.TheVariants.{Idle, Awake, Running, Done}
+use Rattle.board_rule.specs.declared.view.Drive.TheVariants as drives
+use Rattle.board_rule.specs.declared.view.Trail.{Trail}
+use Rattle.board_rule.specs.declared.view.View.{View}
+use Rattle.pw_base.specs.Words.{status_word_of}
+use Rattle.board_rule.specs.Layout.{Lay}
+use Rattle.board_rule.specs.View.{node_of, view_trail}
+use Rattle.board_rule.specs.SeatNodes.{cycle_of, HasNode, phased, driven}
+
+-- CLAIMING: the node waits to be triggered. It is awake where the word was TRIGGERED of its cycle; else the seat remembers the word
+abbrev pub IsAsleep : Bool → View → ℕ → Type 0
+IsAsleep true v m = v.lead.drive ≡ drives.Waiting
+IsAsleep false v m = (node_of v m).phase ≡ Idle
+
+abbrev pub Claims : Bool → Lay → View → ℕ → Type 0
+Claims leads p v m = HasNode leads p v m × IsAsleep leads v m
+
+abbrev pub woken : Bool → View → ℕ → View
+woken true v m = driven v drives.Awake v.trail
+woken false v m = phased v m Awake v.trail
+
+abbrev pub tried : Lay → View → ℕ → ℕ → View
+tried p v m found = view_trail v (record v.trail { tries = record { node = p.number m; word = found } ∷ v.trail.tries })
+
+abbrev pub claimed : Bool → Lay → View → ℕ → ℕ → View
+claimed leads p v m found = cond (eqb found (status_word_of 1 (cycle_of leads v m))) (woken leads v m) (tried p v m found)
+
+-- ENDING A NODE: it works, and all its buffers are given on; no step on buffers is there yet, so none is held
+abbrev pub IsRunning : Bool → View → ℕ → Type 0
+IsRunning true v m = v.lead.drive ≡ drives.Running
+IsRunning false v m = (node_of v m).phase ≡ Running
+
+abbrev pub IsReadyToFinish : Bool → Lay → View → ℕ → Type 0
+IsReadyToFinish leads p v m = HasNode leads p v m × IsRunning leads v m
+
+-- the seat forgets what its last begin or finish found
+abbrev pub untold : Trail → Trail
+untold t = record t { told = [] }
+
+abbrev pub finished : Bool → View → ℕ → View
+finished true v m = driven v drives.Done (untold v.trail)
+finished false v m = phased v m Done (untold v.trail)
