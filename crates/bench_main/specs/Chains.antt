@@ -1,0 +1,8 @@
+-- The nodes that a loop runs in a chain. This project's own.
+use Rattle.std.specs.Prelude.{◌≢◌, ℕ, ◌<◌}
+use Rattle.board_rule.specs.Layout.{Lay, nodes}
+
+-- the nodes with the numbers below a count are followers of the board
+pub record AreFollowers (p : Lay) (count : ℕ) : Type 0 where
+  pub inside : (n : ℕ) → n < count → p.place n < nodes p
+  pub other : (n : ℕ) → n < count → p.place n ≢ p.driver
