@@ -10,5 +10,6 @@ mod summing;
 pub use channels::{map_channels, split};
 pub use clamp::clamp_out;
 pub use gains::{gain, mix2};
-pub use peaks::{higher, peak};
+pub(crate) use peaks::higher;
+pub use peaks::peak;
 pub use summing::mix_into;

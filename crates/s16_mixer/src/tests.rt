@@ -87,42 +87,52 @@ fn row_of(alloc: Global, n: usize) -> Result<Items<i16>, Memory>
     Ok(row)
 }
 
-// Every kernel on rows of so many frames, over lanes and by its plain twin.
-fn twins_agree<R: AllocGlobal + Abort>(rt: &R, frames: usize) -> Result<(), Fail>
-    requires { frames < 1000 }
+// The kernels of one row on so many samples, over lanes and by their plain twins.
+fn gains_and_peaks_agree<R: AllocGlobal + Abort>(rt: &R, n: usize) -> Result<(), Fail>
+    requires { n < 1000 }
 {
-    let a = row_of(rt.alloc(), 2 * frames)?;
-    let mut one = row_of(rt.alloc(), 2 * frames)?;
-    let mut two = row_of(rt.alloc(), 2 * frames)?;
+    let a = row_of(rt.alloc(), n)?;
+    let mut one = row_of(rt.alloc(), n)?;
+    let mut two = row_of(rt.alloc(), n)?;
     gain(200, a.as_slice(), one.as_mut_slice());
     plain::gain(200, a.as_slice(), two.as_mut_slice());
     assert!(rt; one.as_slice() == two.as_slice());
-    let list = [1u32, 0];
-    map_channels(2, list.as_slice(), a.as_slice(), one.as_mut_slice());
-    plain::map_channels(2, list.as_slice(), a.as_slice(), two.as_mut_slice());
+    mix2(200, -250, a.as_slice(), a.as_slice(), one.as_mut_slice());
+    plain::mix2(200, -250, a.as_slice(), a.as_slice(), two.as_mut_slice());
     assert!(rt; one.as_slice() == two.as_slice());
     assert_eq!(rt; peak(a.as_slice()), plain::peak(a.as_slice()));
     Ok(())
 }
 
 // The same of the kernels that add and limit.
-fn sums_agree<R: AllocGlobal + Abort>(rt: &R, frames: usize) -> Result<(), Fail>
-    requires { frames < 1000 }
+fn sums_agree<R: AllocGlobal + Abort>(rt: &R, n: usize) -> Result<(), Fail>
+    requires { n < 1000 }
 {
-    let a = row_of(rt.alloc(), 2 * frames)?;
-    let mut one = Items::filled(rt.alloc(), 2 * frames, 30000)?;
-    let mut two = Items::filled(rt.alloc(), 2 * frames, 30000)?;
+    let a = row_of(rt.alloc(), n)?;
+    let mut one = Items::filled(rt.alloc(), n, 30000)?;
+    let mut two = Items::filled(rt.alloc(), n, 30000)?;
     mix_into(one.as_mut_slice(), a.as_slice());
     plain::mix_into(two.as_mut_slice(), a.as_slice());
     assert!(rt; one.as_slice() == two.as_slice());
-    let mut left = row_of(rt.alloc(), 2 * frames)?;
-    let mut right = row_of(rt.alloc(), 2 * frames)?;
+    let mut left = row_of(rt.alloc(), n)?;
+    let mut right = row_of(rt.alloc(), n)?;
     clamp_out(one.as_slice(), left.as_mut_slice());
     plain::clamp_out(one.as_slice(), right.as_mut_slice());
     assert!(rt; left.as_slice() == right.as_slice());
-    mix2(200, -250, a.as_slice(), a.as_slice(), left.as_mut_slice());
-    plain::mix2(200, -250, a.as_slice(), a.as_slice(), right.as_mut_slice());
-    assert!(rt; left.as_slice() == right.as_slice());
+    Ok(())
+}
+
+// The channels of stereo frames swapped, over lanes and by the plain loop.
+fn swaps_agree<R: AllocGlobal + Abort>(rt: &R, frames: usize) -> Result<(), Fail>
+    requires { frames < 1000 }
+{
+    let a = row_of(rt.alloc(), 2 * frames)?;
+    let mut one = row_of(rt.alloc(), 2 * frames)?;
+    let mut two = row_of(rt.alloc(), 2 * frames)?;
+    let list = [1u32, 0];
+    map_channels(2, list.as_slice(), a.as_slice(), one.as_mut_slice());
+    plain::map_channels(2, list.as_slice(), a.as_slice(), two.as_mut_slice());
+    assert!(rt; one.as_slice() == two.as_slice());
     Ok(())
 }
 
@@ -142,9 +152,13 @@ fn halves_agree<R: AllocGlobal + Abort>(rt: &R, frames: usize) -> Result<(), Fai
 
 #[test]
 fn lanes_leave_what_plain_loops_leave(rt: HostRuntime) -> Result<(), Fail> {
-    for frames in [0, 1, 64, 65, 129] {
-        twins_agree(&rt, frames)?;
-        sums_agree(&rt, frames)?;
+    // Nothing, one sample, one lane, and one lane and one.
+    for n in [0, 1, 128, 129] {
+        gains_and_peaks_agree(&rt, n)?;
+        sums_agree(&rt, n)?;
+    }
+    for frames in [0, 1, 64, 65] {
+        swaps_agree(&rt, frames)?;
         halves_agree(&rt, frames)?;
     }
     Ok(())
