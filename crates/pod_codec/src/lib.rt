@@ -11,8 +11,6 @@ mod pod;
 mod pod_type;
 mod reading;
 mod scalars;
-#[cfg(test)]
-mod tests;
 mod text;
 mod writing;
 

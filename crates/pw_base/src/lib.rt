@@ -33,16 +33,12 @@ mod plan_fresh;
 mod plan_kept;
 mod plan_soundness;
 mod plan_sums;
-#[cfg(test)]
-mod plan_tests;
 mod pooling;
 mod pools;
 mod room;
 mod shape;
 mod soundness;
 mod status;
-#[cfg(test)]
-mod tests;
 mod ticker;
 mod words;
 

@@ -1,31 +1,11 @@
 //! Worked shapes and histories, words, lists, and the objects in memory.
 
-use crate::decimal::append_decimal;
-use crate::event::Event;
-use crate::every::Every;
-use crate::files::{FileFail, Files, Loaded};
-use crate::gate::{Gate, Open};
-use crate::history::is_legal_history;
-use crate::ids::{DUMMY, PortId};
-use crate::in_memory::mem_files::MemFiles;
-use crate::in_memory::mem_sink::MemSink;
-use crate::in_memory::sure_files::SureFiles;
-use crate::in_memory::sure_sink::SureSink;
-use crate::items::Items;
-use crate::kind::Kind;
-use crate::limit::Which;
-use crate::meet::Meet;
-use crate::memory::Memory;
-use crate::output::Sink;
-use crate::plan::Epoch;
-use crate::pooling::{is_pooled_shape, pools_of};
-use crate::shape::{Shape, ShapeLink, ShapeNode};
-use crate::soundness::is_sound_shape;
-use crate::status::{AreaStatus, Status};
-use crate::ticker::{Never, Ticker};
-use crate::words::{
-    NO_BLOCK, cycle_of, event_of, event_word, io_id_of, io_status_of, io_word, status_of,
-    status_word,
+use pw_base::{
+    AreaStatus, DUMMY, Epoch, Event, Every, FileFail, Files, Gate, Items, Kind, Loaded, Meet,
+    MemFiles, MemSink, Memory, NO_BLOCK, Never, Open, PortId, Shape, ShapeLink, ShapeNode, Sink,
+    Status, SureFiles, SureSink, Ticker, Which, append_decimal, cycle_of, event_of, event_word,
+    io_id_of, io_status_of, io_word, is_legal_history, is_pooled_shape, is_sound_shape, pools_of,
+    status_of, status_word,
 };
 use std::alloc::Global;
 use std::test::Fail;

@@ -1,4 +1,8 @@
-use crate::{ChoiceKind, Control, Pod, PodFault, Prop, WriteFault, dump_text, read_pod, write_pod};
+//! What is read, written and dumped of values of each type, and each fault at its place.
+
+use pod_codec::{
+    ChoiceKind, Control, Pod, PodFault, Prop, WriteFault, dump_text, read_pod, write_pod,
+};
 use pw_base::Items;
 use std::process::Abort;
 use std::test::Fail;

@@ -1,13 +1,10 @@
 //! A sound plan, and plans that are each unsound by one reason.
 
-use crate::ids::{DUMMY, PortId};
-use crate::items::Items;
-use crate::kind::Kind;
-use crate::memory::Memory;
-use crate::plan::{Epoch, Fresh, Plan, PlanNode, PortForm};
-use crate::plan_soundness::is_sound_plan;
-use crate::shape::{Shape, ShapeLink};
-use crate::tests::{add, bare, link};
+use crate::worked::{add, bare, link};
+use pw_base::{
+    DUMMY, Epoch, Fresh, Items, Kind, Memory, Plan, PlanNode, PortForm, PortId, Shape, ShapeLink,
+    is_sound_plan,
+};
 use std::alloc::Global;
 use std::test::Fail;
 

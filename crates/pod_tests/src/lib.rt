@@ -1,0 +1,6 @@
+//! Tests of pod_codec over its public calls. They stand apart, since a crate that has tests is proved twice. There is nothing
+//! else here.
+#![tactic(auto)]
+
+#[cfg(test)]
+mod codec;
