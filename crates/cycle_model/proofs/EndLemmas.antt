@@ -14,8 +14,8 @@ use Rattle.wav_files.specs.declared.wav.WavIn.{WavIn}
 use Rattle.cycle_model.specs.Epochs.{is_port, channels_of, all_cycles}
 use Rattle.cycle_model.specs.Cycle.{stream_of, outputs}
 use Rattle.cycle_model.specs.Rendering.{end_stream}
-use Rattle.cycle_model.specs.Mixing.{place_of, sample_at_place, sum_at, mixed_row, takes_part, epoch_row}
-use Rattle.cycle_model.specs.Renderable.{FollowFrom, IsRenderableEpoch, IsRenderable, IsCovered}
+use Rattle.cycle_model.specs.Mixing.{place_of, sample_at_place, sum_at, mixed_row, takes_part, epoch_row, IsPlainMix}
+use Rattle.cycle_model.specs.Renderable.{FollowFrom, IsRenderableEpoch, IsRenderable}
 use Rattle.cycle_model.proofs.SingleEpochLemmas.{IsSingle, wave_at, mixed_at, stream_row, no_stream}
 
 -- a sample by the wave's node and by the wave's place
@@ -33,7 +33,7 @@ row_is waves links n =
     let same : mixed_at waves links ≡ (λ j. clamped (sum_at waves (map (λ l. place_of waves l.from.node) links) j)) = fun_ext (λ j. mixed_is waves links j) in
     ap (λ f. map f (range_with_len 0 n)) same
 
-single : (plan : Plan) (waves : List WavIn) (e : Epoch) → IsRenderable plan waves → IsCovered plan → plan.epochs ≡ e ∷ [] → IsSingle plan e
+single : (plan : Plan) (waves : List WavIn) (e : Epoch) → IsRenderable plan waves → IsPlainMix plan → plan.epochs ≡ e ∷ [] → IsSingle plan e
 single plan waves e r c one =
     let numbered : FollowFrom 0 (e ∷ []) = subst (λ es. FollowFrom 0 es) one r.numbered in
     let all : All (IsRenderableEpoch plan) (e ∷ []) = subst (λ es. All (IsRenderableEpoch plan) es) one r.epochs in
@@ -81,7 +81,7 @@ some_cycles plan e s waves c port h =
 end_at : (plan : Plan) (waves : List WavIn) (node n : ℕ) → all_cycles plan ≡ n → end_stream plan waves node ≡ cond (n == 0) [] (stream_of plan (outputs plan waves) (n - 1) (record { node = node; port = 0 }))
 end_at plan waves node n h = ap (λ m. cond (m == 0) [] (stream_of plan (outputs plan waves) (m - 1) (record { node = node; port = 0 }))) h
 
-pub end_single : (plan : Plan) (waves : List WavIn) (node : ℕ) (e : Epoch) → IsRenderable plan waves → IsCovered plan → plan.epochs ≡ e ∷ []
+pub end_single : (plan : Plan) (waves : List WavIn) (node : ℕ) (e : Epoch) → IsRenderable plan waves → IsPlainMix plan → plan.epochs ≡ e ∷ []
     → end_stream plan waves node ≡ epoch_row e waves (record { node = node; port = 0 })
 end_single plan waves node e r c one =
     let n = e.shape.cycles in

@@ -1,11 +1,13 @@
+pub mod CycleLemmas
 pub mod DepthLemmas
 pub mod EndLemmas
 pub mod EpochLemmas
-pub mod FirstPathLemmas
+pub mod KindLemmas
+pub mod NodeOrderLemmas
 pub mod OutcomeLemmas
+pub mod ProgressLemmas
 pub mod RowLemmas
 pub mod SettledLemmas
 pub mod SingleEpochLemmas
 pub mod SoundPlanLemmas
-pub mod TestPlansLemmas
 pub mod WorkedRows

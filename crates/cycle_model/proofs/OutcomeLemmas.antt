@@ -1,16 +1,28 @@
--- What is kept of all nodes: one node more, and no peak without a meter.
-use Rattle.std.proofs.Common.{◌≡◌, ℕ, ◌+◌, ◌<◌, false, List, [], ◌∷◌, ◌++◌, length, take, get_or, filter_map, All, Option, Some, None, option_to_list, refl, ap, sym, ◌∙◌, arith}
+-- What is kept of all nodes, and the peaks: one node more, and by what the nodes have received.
+use Rattle.std.proofs.Common.{◌≡◌, ℕ, zero, suc, ◌+◌, ◌-◌, ◌<◌, ◌==◌, ◌&&◌, true, false, nat_lt, cond, List, [], ◌∷◌, ◌++◌, length, take, get_or, filter_map, Option, Some, None, option_to_list, refl, ap, sym, ◌∙◌, arith, ⊎_elim}
 use Rattle.std.specs.List.{enumerate_from, cons_option}
 use Rattle.std.proofs.lemmas.List.{take_more}
-use Rattle.std.proofs.lemmas.List.Elements.{filter_map-append, All-head, All-tail}
+use Rattle.std.proofs.lemmas.List.Elements.{filter_map-append}
 use Rattle.std.proofs.lemmas.List.FromFn.{length-enumerate_from, get_or-enumerate_from}
+use Rattle.std.proofs.lemmas.Bool.{cases_Bool, false≢true, cond-false, ne_eqb}
+use Rattle.pw_base.specs.declared.ids.PortId.{PortId}
 use Rattle.pw_base.specs.declared.kind.Kind.{Kind}
-use Rattle.pw_base.specs.declared.kind.Kind.TheVariants.{Meter}
+use Rattle.pw_base.specs.declared.kind.Kind.TheVariants.{Sink, Meter}
 use Rattle.pw_base.specs.declared.plan.Plan.{Plan}
 use Rattle.pw_base.specs.declared.plan.PlanNode.{PlanNode}
+use Rattle.pw_base.specs.Samples.{peak_of}
+use Rattle.pw_base.specs.KindPorts.{input_count}
+use Rattle.pw_base.specs.PlanForms.{kind_at}
 use Rattle.wav_files.specs.declared.wav.WavIn.{WavIn}
-use Rattle.cycle_model.specs.Rendering.{is_meter, peak_at}
-use Rattle.cycle_model.specs.Renderable.{IsSourceOrSink}
+use Rattle.wav_files.specs.declared.outcome.Kept.{Kept}
+use Rattle.wav_files.specs.declared.outcome.Peak.{Peak}
+use Rattle.cycle_model.specs.declared.received.Received.{Received}
+use Rattle.cycle_model.specs.Epochs.{all_cycles}
+use Rattle.cycle_model.specs.Cycle.{Outputs, stream_of, outputs}
+use Rattle.cycle_model.specs.Rendering.{is_sink, is_meter, end_stream, kept_of, peak_at}
+use Rattle.cycle_model.specs.Known.{kept_by, peak_by}
+use Rattle.cycle_model.specs.Progress.{streamed, received_until, nothing, AreReceived}
+use Rattle.cycle_model.proofs.CycleLemmas.{kind_there}
 
 one_kept : {Y : Type 0} (o : Option Y) → cons_option o [] ≡ option_to_list o
 one_kept None = refl
@@ -27,15 +39,43 @@ kept_more {X} h xs i x lt read =
     ∙ filter_map-append h (take i all) ((i, x) ∷ [])
     ∙ ap (λ t. filter_map h (take i all) ++ t) (one_kept (h (i, x)))
 
-not_meter : (k : Kind) → IsSourceOrSink k → is_meter k ≡ false
-not_meter Meter h = absurd h
-not_meter _ h = refl
+-- the stream up to the last cycle is the one after all cycles
+end_of : (plan : Plan) (out : Outputs) (port : PortId) (n : ℕ) → cond (n == 0) [] (stream_of plan out (n - 1) port) ≡ streamed plan out n port
+end_of plan out port zero = refl
+end_of plan out port (suc n) =
+    let less : suc n - 1 ≡ n = omega arith in
+    cond-false (suc n == 0) [] (stream_of plan out (suc n - 1) port) (ne_eqb (suc n) 0 (λ e. omega (arith, e))) ∙ ap (λ c. stream_of plan out c port) less
 
-no_peak : (plan : Plan) (waves : List WavIn) (n : ℕ) (node : PlanNode) → IsSourceOrSink node.kind → peak_at plan waves (n, node) ≡ None
-no_peak plan waves n node h = rw (not_meter node.kind h) refl
+-- sinks and meters have an input
+sink_hears : (k : Kind) → is_sink k ≡ true → nat_lt 0 (input_count k) ≡ true
+sink_hears Sink h = refl
+sink_hears _ h = absurd (false≢true h)
 
-pub no_peaks : (plan : Plan) (waves : List WavIn) (n : ℕ) (nodes : List PlanNode) → All (λ n. IsSourceOrSink n.kind) nodes → filter_map (peak_at plan waves) (enumerate_from n nodes) ≡ []
-no_peaks plan waves n [] h = refl
-no_peaks plan waves n (x ∷ xs) h =
-    ap (λ o. cons_option o (filter_map (peak_at plan waves) (enumerate_from (n + 1) xs))) (no_peak plan waves n x (All-head (λ n. IsSourceOrSink n.kind) x xs h))
-    ∙ no_peaks plan waves (n + 1) xs (All-tail (λ n. IsSourceOrSink n.kind) x xs h)
+meter_hears : (k : Kind) → is_meter k ≡ true → nat_lt 0 (input_count k) ≡ true
+meter_hears Meter h = refl
+meter_hears _ h = absurd (false≢true h)
+
+module _ (plan : Plan) (waves : List WavIn) (received : List Received) (h : AreReceived (length plan.nodes) (received_until plan (outputs plan waves) (all_cycles plan)) received)
+    (i : ℕ) (node : PlanNode) (lt : i < length plan.nodes) (read : node ≡ get_or plan.nodes i node) where
+  kind : kind_at plan i ≡ node.kind
+  kind = kind_there plan.nodes i node lt ∙ ap (λ n. n.kind) (sym read)
+
+  row : nat_lt 0 (input_count node.kind) ≡ true → (get_or received i nothing).a ≡ end_stream plan waves i
+  row hears =
+      let some : nat_lt 0 (input_count (kind_at plan i)) ≡ true = ap (λ k. nat_lt 0 (input_count k)) kind ∙ hears in
+      let port : PortId = record { node = i; port = 0 } in
+      ap (λ r. r.a) (h.each i lt)
+      ∙ ap (λ b. cond b (streamed plan (outputs plan waves) (all_cycles plan) port) []) some
+      ∙ sym (end_of plan (outputs plan waves) port (all_cycles plan))
+
+  pub kept_is : kept_by i node (get_or received i nothing) ≡ kept_of plan waves (i, node)
+  kept_is = ⊎_elim
+      (λ (t : is_sink node.kind ≡ true). ap (λ s. cond (is_sink node.kind && nat_lt 0 node.rate) (Some (let k : Kept = record { node = i; wav = record { rate = node.rate; channels = node.channels; samples = s } } in k)) None) (row (sink_hears node.kind t)))
+      (λ (f : is_sink node.kind ≡ false). rw f refl)
+      (cases_Bool (is_sink node.kind))
+
+  pub peak_is : peak_by i node (get_or received i nothing) ≡ peak_at plan waves (i, node)
+  peak_is = ⊎_elim
+      (λ (t : is_meter node.kind ≡ true). ap (λ s. cond (is_meter node.kind && nat_lt 0 node.rate) (Some (let p : Peak = record { node = i; value = peak_of s } in p)) None) (row (meter_hears node.kind t)))
+      (λ (f : is_meter node.kind ≡ false). rw f refl)
+      (cases_Bool (is_meter node.kind))

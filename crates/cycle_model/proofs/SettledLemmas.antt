@@ -20,7 +20,7 @@ use Rattle.cycle_model.proofs.DepthLemmas.{depth, depth_less, depth_small, node_
 use Rattle.cycle_model.proofs.EpochLemmas.{found, last_high, before, of_epoch}
 
 -- lists that agree where it matters
-map_agree : {A B : Type 0} (f g : A → B) (xs : List A) → All (λ x. f x ≡ g x) xs → map f xs ≡ map g xs
+pub map_agree : {A B : Type 0} (f g : A → B) (xs : List A) → All (λ x. f x ≡ g x) xs → map f xs ≡ map g xs
 map_agree f g [] h = refl
 map_agree f g (x ∷ xs) h = ap₂ (λ y ys. y ∷ ys) (All-head (λ x. f x ≡ g x) x xs h) (map_agree f g xs (All-tail (λ x. f x ≡ g x) x xs h))
 
@@ -57,7 +57,7 @@ abbrev AgreeBelow : Plan → ℕ → Outputs → Outputs → ℕ → Type 0
 AgreeBelow plan size out1 out2 m = (c : ℕ) (port : PortId) (e : Epoch) (rank : ℕ → ℕ) → epoch_at plan c ≡ Some e → All (Rises rank) e.shape.links
     → takes_part e port.node ≡ true → size * c + depth size e rank port.node < m → out1 c port ≡ out2 c port
 
-known_epoch : (plan : Plan) (waves : List WavIn) → IsRenderable plan waves → (c : ℕ) (e : Epoch) → epoch_at plan c ≡ Some e → IsRenderableEpoch plan e × (is_within e c ≡ true)
+pub known_epoch : (plan : Plan) (waves : List WavIn) → IsRenderable plan waves → (c : ℕ) (e : Epoch) → epoch_at plan c ≡ Some e → IsRenderableEpoch plan e × (is_within e c ≡ true)
 known_epoch plan waves r c e h = found (IsRenderableEpoch plan) (λ e. is_within e c) plan.epochs e r.epochs h
 
 -- a link brings the same from both tables, if it is late

@@ -80,6 +80,7 @@ module _ (plan : Plan) (e : Epoch) (h : IsSoundEpoch plan e) where
 pub sound_is_renderable : (plan : Plan) (waves : List WavIn) → IsSoundPlan plan → WavesFit plan waves → IsRenderable plan waves
 sound_is_renderable plan waves h fit = record {
   few = h.few;
+  ranges = λ k d lt. (h.nodes k d lt).kind;
   numbered = h.follow;
   epochs = λ k d lt. epoch_is_renderable plan (get_or plan.epochs k d) (h.epochs k d lt);
   sources = fit;

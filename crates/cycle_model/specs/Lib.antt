@@ -1,8 +1,10 @@
 pub mod Cycle
 pub mod Epochs
-pub mod FirstPath
+pub mod KindSamples
+pub mod Known
 pub mod Mixing
+pub mod NodeOrder
+pub mod Progress
 pub mod Renderable
 pub mod Rendering
-pub mod TestPlans
 pub mod WavesFit

@@ -1,9 +1,13 @@
--- Mixing by the sample: what waves have at one place, added and then clamped once. Samples past the end of a wave are silence.
-use Rattle.std.specs.Prelude.{ℕ, ◌*◌, List, [], map, fold, filter, ℤ, pos, ◌+ℤ◌, slice_get, slice_index_or, option_map, unwrap_or, ◌==◌, Bool, if◌then◌else◌}
+-- Mixing by the sample, where sources play into sinks: what waves have at one place, added and then clamped once.
+-- Samples past the end of a wave are silence. Source: RIFF WAVE PCM of 16 bits; clamping is this project's.
+use Rattle.std.specs.Prelude.{◌≡◌, ℕ, ◌*◌, ◌≤◌, false, List, [], All, length, map, fold, filter, ℤ, pos, ◌+ℤ◌, slice_get, slice_index_or, option_map, unwrap_or, ◌==◌, Bool, if◌then◌else◌}
 use Rattle.std.specs.List.{list_any, range_with_len, position_or_len}
 use Rattle.pw_base.specs.declared.ids.PortId.{PortId}
+use Rattle.pw_base.specs.declared.kind.Kind.{Kind}
+use Rattle.pw_base.specs.declared.kind.Kind.TheVariants.{Source, Sink}
 use Rattle.pw_base.specs.declared.shape.ShapeLink.{ShapeLink}
 use Rattle.pw_base.specs.declared.plan.Epoch.{Epoch}
+use Rattle.pw_base.specs.declared.plan.Plan.{Plan}
 use Rattle.pw_base.specs.Samples.{clamped}
 use Rattle.wav_files.specs.declared.wav.WavIn.{WavIn}
 use Rattle.cycle_model.specs.Epochs.{is_port, channels_of}
@@ -38,3 +42,14 @@ epoch_row epoch waves port =
     if takes_part epoch port.node
     then mixed_row waves (places_into waves epoch.shape.links port) (epoch.shape.cycles * (epoch.shape.quantum * channels_of epoch.forms port))
     else []
+
+abbrev pub IsSourceOrSink : Kind → Type 0
+IsSourceOrSink Source = Unit {0}
+IsSourceOrSink Sink = Unit {0}
+IsSourceOrSink _ = ⊥
+
+-- PLAIN MIX: sources and sinks alone, in at most one epoch, and no delayed link. There a sink gets the epoch's mixed row
+pub record IsPlainMix (plan : Plan) : Type 0 where
+  pub kinds : All (λ n. IsSourceOrSink n.kind) plan.nodes
+  pub one : length plan.epochs ≤ 1
+  pub prompt : All (λ e. All (λ l. l.delayed ≡ false) e.shape.links) plan.epochs

@@ -1,12 +1,11 @@
--- A plan that can be rendered: what the recursion of the cycle function needs, and what the reference program covers.
-use Rattle.std.specs.Prelude.{◌≡◌, ◌<◌, ◌≤◌, ◌⊎◌, false, List, All, Contains, map, length}
-use Rattle.pw_base.specs.declared.kind.Kind.{Kind}
-use Rattle.pw_base.specs.declared.kind.Kind.TheVariants.{Source, Sink}
+-- A plan that can be rendered: what the recursion of the cycle function needs.
+use Rattle.std.specs.Prelude.{◌≡◌, ◌<◌, ◌≤◌, ◌⊎◌, List, All, Contains, map, length}
 use Rattle.pw_base.specs.declared.shape.ShapeLink.{ShapeLink}
 use Rattle.pw_base.specs.declared.shape.ShapeNode.{ShapeNode}
 use Rattle.pw_base.specs.declared.plan.Epoch.{Epoch}
 use Rattle.pw_base.specs.declared.plan.Plan.{Plan}
 use Rattle.pw_base.specs.KindPorts.{input_count, port_count}
+use Rattle.pw_base.specs.KindRanges.{IsInRange}
 pub use Rattle.pw_base.specs.LinkOrder.{HasOrder}
 pub use Rattle.pw_base.specs.SoundPlan.{FollowFrom}
 use Rattle.pw_base.specs.PlanForms.{kind_at}
@@ -34,21 +33,10 @@ pub record IsRenderableEpoch (plan : Plan) (epoch : Epoch) : Type 0 where
   pub links : All (IsFitting plan epoch) epoch.shape.links
   pub order : HasOrder epoch.shape.links
 
--- few enough nodes, epochs that follow one another from cycle 0 on and can each be rendered, and a wave for each source
+-- few enough nodes with numbers in range, epochs that follow one another from cycle 0 on and can each be rendered, and a wave for each source
 pub record IsRenderable (plan : Plan) (waves : List WavIn) : Type 0 where
   pub few : length plan.nodes ≤ 63
+  pub ranges : All (λ n. IsInRange n.kind) plan.nodes
   pub numbered : FollowFrom 0 plan.epochs
   pub epochs : All (IsRenderableEpoch plan) plan.epochs
   pub sources : WavesFit plan waves
-
--- the kinds that the reference program covers so far
-abbrev pub IsSourceOrSink : Kind → Type 0
-IsSourceOrSink Source = Unit {0}
-IsSourceOrSink Sink = Unit {0}
-IsSourceOrSink _ = ⊥
-
--- so far the reference program covers sources and sinks, in one epoch without delayed links
-pub record IsCovered (plan : Plan) : Type 0 where
-  pub kinds : All (λ n. IsSourceOrSink n.kind) plan.nodes
-  pub one : length plan.epochs ≤ 1
-  pub prompt : All (λ e. All (λ l. l.delayed ≡ false) e.shape.links) plan.epochs

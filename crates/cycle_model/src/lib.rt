@@ -2,11 +2,18 @@
 //! plain program that computes it from a plan and its waves.
 #![tactic(auto)]
 
-mod feeds;
-mod mixing;
+mod cycles;
+mod epochs;
+mod inputs;
+mod kinds;
+mod order;
+mod received;
 mod reference;
+mod waves;
+mod working;
 
 pub use reference::render;
+pub use waves::waves_fit;
 
 #[cfg(test)]
 mod tests;

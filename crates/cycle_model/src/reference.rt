@@ -1,55 +1,18 @@
 //! The reference program: a plan and its waves rendered in one thread, by index into whole streams.
-ghost use Rattle.std.specs.Prelude.{◌≡◌, ℕ, ◌*◌, ◌^◌, ◌≤◌, [], ◌++◌, option_to_list, OnOk, IfOk, MatchOption};
-ghost use Rattle.cycle_model.specs.Mixing.{epoch_row};
-ghost use Rattle.cycle_model.specs.Renderable.{IsRenderable, IsCovered};
-ghost use Rattle.cycle_model.specs.Rendering.{end_stream, is_sink, kept_of, rendered_sinks, rendered_peaks};
+ghost use Rattle.std.specs.Prelude.{◌≡◌, [], ◌++◌, length, option_to_list, OnOk, IfOk};
+ghost use Rattle.pw_base.specs.Samples.{peak_of};
+ghost use Rattle.cycle_model.specs.Known.{kept_by, peak_by};
+ghost use Rattle.cycle_model.specs.Progress.{received_until, AreReceived};
+ghost use Rattle.cycle_model.specs.Cycle.{outputs};
+ghost use Rattle.cycle_model.specs.Epochs.{all_cycles};
+ghost use Rattle.cycle_model.specs.Renderable.{IsRenderable};
+ghost use Rattle.cycle_model.specs.Rendering.{is_sink, is_meter, rendered_sinks, rendered_peaks};
 
-use crate::feeds::{channels_of, places_into, takes_part};
-use crate::mixing::{WAVES_MAX, mixed};
-use pw_base::{Epoch, Items, Kind, Memory, Plan, PlanNode, PortId};
+use crate::cycles::all_received;
+use crate::received::Received;
+use pw_base::{Items, Kind, Memory, Plan, PlanNode};
 use std::alloc::Global;
-use wav_files::{Kept, Outcome, Wav, WavIn};
-
-/// So many cycles of so many frames of so many channels, in samples; nothing where the number does not fit.
-fn samples_of(cycles: u32, quantum: u32, channels: u32) -> Option<usize>
-    ensures { MatchOption result (2 ^ 64 ≤ cycles * (quantum * channels)) (λ n. n ≡ cycles * (quantum * channels)) }
-{
-    let row = u64::from(quantum) * u64::from(channels);
-    match u64::from(cycles).checked_mul(row) {
-        Some(len) => Some(len as usize),
-        None => None,
-    }
-}
-
-/// What a port gets in all cycles of an epoch.
-fn row_of(alloc: Global, epoch: &Epoch, waves: &[WavIn], port: PortId) -> Result<Items<i16>, Memory>
-    ensures { IfOk result (λ row. row ≡ epoch_row epoch.now waves.now port) }
-{
-    if !takes_part(epoch, port.node) {
-        return Ok(Items::new(alloc));
-    }
-    let channels = channels_of(epoch.forms.as_slice(), port);
-    let Some(len) = samples_of(epoch.shape.cycles, epoch.shape.quantum, channels) else {
-        return Err(Memory);
-    };
-    let places = places_into(alloc, waves, epoch.shape.links.as_slice(), port)?;
-    if places.len() > WAVES_MAX {
-        return Err(Memory);
-    }
-    mixed(alloc, waves, places.as_slice(), len)
-}
-
-/// The stream of a node's first input over all cycles.
-fn stream_of(alloc: Global, plan: &Plan, waves: &[WavIn], node: u32) -> Result<Items<i16>, Memory>
-    requires renderable { IsRenderable plan.now waves.now }
-    requires covered { IsCovered plan.now }
-    ensures { IfOk result (λ row. row ≡ end_stream plan.now waves.now node) }
-{
-    match plan.epochs.as_slice().get(0) {
-        Some(epoch) => row_of(alloc, epoch, waves, PortId { node, port: 0 }),
-        None => Ok(Items::new(alloc)),
-    }
-}
+use wav_files::{Kept, Outcome, Peak, Wav, WavIn};
 
 /// Whether it is a sink.
 fn is_sink(kind: &Kind) -> bool
@@ -61,73 +24,130 @@ fn is_sink(kind: &Kind) -> bool
     }
 }
 
-/// What a node keeps: a sink with a format its stream, any other node nothing.
-fn kept_of(
+/// Whether it is a meter.
+fn is_meter(kind: &Kind) -> bool
+    ensures { result ≡ is_meter kind.now }
+{
+    match kind {
+        Kind::Meter => true,
+        _ => false,
+    }
+}
+
+/// The greatest absolute value, 0 of none.
+fn peak_of(row: &[i16]) -> u32
+    ensures { result ≡ peak_of row.now }
+{
+    let mut top: u32 = 0;
+    for sample in row {
+        top = top.max(u32::from(sample.unsigned_abs()));
+    }
+    top
+}
+
+/// What a node keeps: a sink with a format the stream that it received, any other node nothing.
+fn kept_by(
     alloc: Global,
-    plan: &Plan,
-    waves: &[WavIn],
     place: u32,
     node: &PlanNode,
+    received: &Received,
 ) -> Result<Option<Kept>, Memory>
-    requires renderable { IsRenderable plan.now waves.now }
-    requires covered { IsCovered plan.now }
-    ensures { IfOk result (λ kept. kept ≡ kept_of plan.now waves.now (place, node.now)) }
+    ensures { IfOk result (λ kept. kept ≡ kept_by place node.now received.now) }
 {
     if !is_sink(&node.kind) || node.rate == 0 {
         return Ok(None);
     }
-    let samples = stream_of(alloc, plan, waves, place)?;
     Ok(Some(Kept {
         node: place,
         wav: Wav {
             rate: node.rate,
             channels: node.channels,
-            samples,
+            samples: received.a.copy(alloc)?,
         },
     }))
 }
 
-/// Appends what is kept, if anything is.
-fn append(sinks: &mut Items<Kept>, kept: Option<Kept>) -> Result<(), Memory>
-    ensures { OnOk result (sinks.new ≡ sinks.old ++ option_to_list kept) }
+/// The peak of a node: that of the stream that a meter with a format received; any other node has none.
+fn peak_by(place: u32, node: &PlanNode, received: &Received) -> Option<Peak>
+    ensures { result ≡ peak_by place node.now received.now }
 {
-    match kept {
-        Some(kept) => sinks.push(kept),
+    if !is_meter(&node.kind) || node.rate == 0 {
+        return None;
+    }
+    Some(Peak {
+        node: place,
+        value: peak_of(received.a.as_slice()),
+    })
+}
+
+/// Appends what there is, if there is anything.
+fn append<T: Drop>(list: &mut Items<T>, item: Option<T>) -> Result<(), Memory>
+    ensures { OnOk result (list.new ≡ list.old ++ option_to_list item) }
+{
+    match item {
+        Some(item) => list.push(item),
         None => Ok(()),
     }
 }
 
 /// What the sinks with a format keep, ascending by node.
-fn all_kept(alloc: Global, plan: &Plan, waves: &[WavIn]) -> Result<Items<Kept>, Memory>
+fn all_kept(
+    alloc: Global,
+    plan: &Plan,
+    waves: &[WavIn],
+    received: &[Received],
+) -> Result<Items<Kept>, Memory>
     requires renderable { IsRenderable plan.now waves.now }
-    requires covered { IsCovered plan.now }
+    requires received { AreReceived (length plan.now.nodes) (received_until plan.now (outputs plan.now waves.now) (all_cycles plan.now)) received.now }
     ensures { IfOk result (λ sinks. sinks ≡ rendered_sinks plan.now waves.now) }
 {
     let nodes = plan.nodes.as_slice();
     let mut sinks = Items::new(alloc);
     for i in 0..nodes.len() {
-        let kept = kept_of(alloc, plan, waves, i as u32, &nodes[i])?;
+        let kept = kept_by(alloc, i as u32, &nodes[i], &received[i])?;
         append(&mut sinks, kept)?;
     }
     Ok(sinks)
 }
 
+/// The peaks of the meters with a format, ascending by node.
+fn all_peaks(
+    alloc: Global,
+    plan: &Plan,
+    waves: &[WavIn],
+    received: &[Received],
+) -> Result<Items<Peak>, Memory>
+    requires renderable { IsRenderable plan.now waves.now }
+    requires received { AreReceived (length plan.now.nodes) (received_until plan.now (outputs plan.now waves.now) (all_cycles plan.now)) received.now }
+    ensures { IfOk result (λ peaks. peaks ≡ rendered_peaks plan.now waves.now) }
+{
+    let nodes = plan.nodes.as_slice();
+    let mut peaks = Items::new(alloc);
+    for i in 0..nodes.len() {
+        append(&mut peaks, peak_by(i as u32, &nodes[i], &received[i]))?;
+    }
+    Ok(peaks)
+}
+
 /// Renders a plan from its waves: what each sink keeps, and the peak of each meter, with no history of a run.
 ///
-/// So far it covers plans of sources and sinks with at most one epoch, and no link that is a cycle late.
-/// `Memory` where there is not enough, or where a stream or the links into a port are more than memory can hold.
-/// It takes memory for what the sinks keep, and time for each sample of each link into a sink.
+/// It goes cycle by cycle, and in a cycle from node to node in an order of the links that are not delayed; what each
+/// input received is kept whole, and each sample of an output is worked out by index into it. `Memory` where there
+/// is not enough, or where a number of samples or a sum of them is more than memory can hold. It takes memory for all
+/// that the inputs receive, and time for each sample of each output and of each link.
 pub fn render(alloc: Global, plan: &Plan, waves: &Items<WavIn>) -> Result<Outcome, Memory>
     requires renderable { IsRenderable plan.now waves.now }
-    requires covered { IsCovered plan.now }
     ensures sinks { IfOk result (λ outcome. outcome.sinks ≡ rendered_sinks plan.now waves.now) }
     ensures peaks { IfOk result (λ outcome. outcome.peaks ≡ rendered_peaks plan.now waves.now) }
     ensures history { IfOk result (λ outcome. outcome.history ≡ []) }
 {
-    let sinks = all_kept(alloc, plan, waves.as_slice())?;
+    let waves = waves.as_slice();
+    let received = all_received(alloc, plan, waves)?;
+    let sinks = all_kept(alloc, plan, waves, received.as_slice())?;
+    let peaks = all_peaks(alloc, plan, waves, received.as_slice())?;
     Ok(Outcome {
         history: Items::new(alloc),
         sinks,
-        peaks: Items::new(alloc),
+        peaks,
     })
 }

@@ -1,182 +1,403 @@
-//! Worked rows: plans of one source and of three, and what their sink keeps.
-ghost use Rattle.std.specs.Prelude.{◌≡◌, ℕ, false, List, [], ◌∷◌, ◌++◌, IfOk};
-ghost use Rattle.cycle_model.specs.TestPlans.{of_one_epoch, one_source, three_sources};
-
-use crate::render;
+//! Small sound plans: what their sinks keep, and what their meters hear.
+use crate::{render, waves_fit};
 use pw_base::{
-    Epoch, Items, Kind, Memory, Plan, PlanNode, PortForm, PortId, Shape, ShapeLink, ShapeNode,
+    Epoch, Fresh, Items, Kind, Memory, Plan, PlanNode, PortForm, PortId, Shape, ShapeLink,
+    ShapeNode, is_sound_plan,
 };
 use std::alloc::Global;
-use std::process::Abort;
 use std::test::Fail;
 use wav_files::{Outcome, Wav, WavIn};
 
-/// A node without a name.
-fn node(alloc: Global, kind: Kind, rate: u32, channels: u32) -> PlanNode
-    ensures { result ≡ record { name = []; kind = kind; k = 0; rate = rate; channels = channels } }
-{
+/// A node without a name; one that ends with channels has the rate 48000.
+fn node(alloc: Global, kind: Kind, channels: u32) -> PlanNode {
     PlanNode {
         name: Items::new(alloc),
         kind,
         k: 0,
-        rate,
+        rate: if channels > 0 { 48000 } else { 0 },
         channels,
     }
 }
 
-/// An active node without targets.
-fn active(alloc: Global, node: u32) -> ShapeNode
-    ensures { result ≡ record { node = node; required = 1; targets = [] } }
-{
-    ShapeNode {
-        node,
-        required: 1,
-        targets: Items::new(alloc),
-    }
-}
-
-/// A link of one channel.
-fn link(from: u32, to: u32) -> ShapeLink
-    ensures { result ≡ record { from = record { node = from; port = 0 }; to = record { node = to; port = 0 }; channels = 1; buffers = 2; delayed = false } }
-{
+/// A link from a port of a node to one of another.
+fn link(from: (u32, u32), to: (u32, u32), channels: u32) -> ShapeLink {
     ShapeLink {
         from: PortId {
-            node: from,
-            port: 0,
+            node: from.0,
+            port: from.1,
         },
-        to: PortId { node: to, port: 0 },
-        channels: 1,
+        to: PortId {
+            node: to.0,
+            port: to.1,
+        },
+        channels,
         buffers: 2,
         delayed: false,
     }
 }
 
-/// The form of a node's only port.
-fn form(node: u32) -> PortForm
-    ensures { result ≡ record { port = record { node = node; port = 0 }; rate = 48000; channels = 1 } }
-{
-    PortForm {
-        port: PortId { node, port: 0 },
-        rate: 48000,
-        channels: 1,
+/// A link that is a cycle late.
+fn late(from: (u32, u32), to: (u32, u32)) -> ShapeLink {
+    ShapeLink {
+        delayed: true,
+        ..link(from, to, 1)
     }
 }
 
+/// The form of a port at 48000 frames a second.
+fn form(node: u32, port: u32, channels: u32) -> PortForm {
+    PortForm {
+        port: PortId { node, port },
+        rate: 48000,
+        channels,
+    }
+}
+
+/// A node that begins anew.
+fn fresh(node: u32, channels: u32) -> Fresh {
+    Fresh { node, channels }
+}
+
+/// Whether a node waits for another.
+fn waits(links: &[ShapeLink], driver: u32, node: u32, other: u32) -> bool {
+    node == driver
+        || other == driver
+        || links.iter().any(|link| !link.delayed && link.from.node == other && link.to.node == node)
+}
+
+/// An active node with its required count and its targets.
+fn active(
+    alloc: Global,
+    nodes: &[u32],
+    links: &[ShapeLink],
+    driver: u32,
+    node: u32,
+) -> Result<ShapeNode, Memory> {
+    let mut required: u32 = 0;
+    let mut targets = Items::new(alloc);
+    for other in nodes {
+        if waits(links, driver, node, *other) {
+            required = required.saturating_add(1);
+        }
+        if *other != driver && waits(links, driver, *other, node) {
+            targets.push(*other)?;
+        }
+    }
+    targets.push(driver)?;
+    Ok(ShapeNode {
+        node,
+        required,
+        targets,
+    })
+}
+
+/// What an epoch says: its cycles, active nodes, driver, links, forms and fresh nodes.
+#[derive(Drop)]
+struct Part<'a> {
+    first: u32,
+    cycles: u32,
+    nodes: &'a [u32],
+    driver: u32,
+    links: &'a [ShapeLink],
+    forms: &'a [PortForm],
+    fresh: &'a [Fresh],
+}
+
+/// The epoch of a part.
+fn epoch(alloc: Global, quantum: u32, part: Part<'_>) -> Result<Epoch, Memory> {
+    let mut nodes = Items::new(alloc);
+    for node in part.nodes {
+        nodes.push(active(alloc, part.nodes, part.links, part.driver, *node)?)?;
+    }
+    Ok(Epoch {
+        shape: Shape {
+            quantum,
+            first: part.first,
+            cycles: part.cycles,
+            driver: part.driver,
+            nodes,
+            links: Items::from_slice(alloc, part.links)?,
+        },
+        forms: Items::from_slice(alloc, part.forms)?,
+        fresh: Items::from_slice(alloc, part.fresh)?,
+    })
+}
+
 /// The wave of a source.
-fn wave(alloc: Global, node: u32, samples: &[i16]) -> Result<WavIn, Memory>
-    ensures { IfOk result (λ w. w ≡ record { node = node; wav = record { rate = 48000; channels = 1; samples = samples.now } }) }
-{
+fn wave(alloc: Global, node: u32, channels: u32, samples: &[i16]) -> Result<WavIn, Memory> {
     let samples = Items::from_slice(alloc, samples)?;
     Ok(WavIn {
         node,
         wav: Wav {
             rate: 48000,
-            channels: 1,
+            channels,
             samples,
         },
     })
 }
 
-/// The list with one more value.
-fn with<T: Drop>(list: Items<T>, item: T) -> Result<Items<T>, Memory>
-    ensures { IfOk result (λ longer. longer ≡ list ++ item ∷ []) }
-{
-    let mut list = list;
-    list.push(item)?;
-    Ok(list)
-}
-
-/// A plan of one epoch of two cycles, with two frames each.
-fn plan(
+/// The plan rendered, if it is sound and the waves fit.
+fn rendered(
     alloc: Global,
+    quantum: u32,
     nodes: Items<PlanNode>,
-    active: Items<ShapeNode>,
-    links: Items<ShapeLink>,
-    forms: Items<PortForm>,
-) -> Result<Plan, Memory>
-    ensures { IfOk result (λ p. p ≡ of_one_epoch nodes active links forms) }
-{
-    let epoch = Epoch {
-        shape: Shape {
-            quantum: 2,
-            first: 0,
-            cycles: 2,
-            driver: 63,
-            nodes: active,
-            links,
-        },
-        forms,
-        fresh: Items::new(alloc),
-    };
-    let epochs = with(Items::new(alloc), epoch)?;
-    Ok(Plan {
-        quantum: 2,
+    epochs: Items<Epoch>,
+    waves: &Items<WavIn>,
+) -> Result<Option<Outcome>, Memory> {
+    let plan = Plan {
+        quantum,
         nodes,
         epochs,
         lines: Items::new(alloc),
-    })
+    };
+    if !is_sound_plan(&plan) {
+        return Ok(None);
+    }
+    if !waves_fit(&plan, waves) {
+        return Ok(None);
+    }
+    Ok(Some(render(alloc, &plan, waves)?))
 }
 
-/// One source into one sink.
-fn one_source(alloc: Global) -> Result<Plan, Memory>
-    ensures { IfOk result (λ p. p ≡ one_source) }
-{
-    let nodes = with(Items::new(alloc), node(alloc, Kind::Source, 0, 0))?;
-    let nodes = with(nodes, node(alloc, Kind::Sink, 48000, 1))?;
-    let actives = with(Items::new(alloc), active(alloc, 0))?;
-    let actives = with(actives, active(alloc, 1))?;
-    let actives = with(actives, active(alloc, 63))?;
-    let links = Items::from_slice(alloc, [link(0, 1)].as_slice())?;
-    let forms = Items::from_slice(alloc, [form(0), form(1)].as_slice())?;
-    plan(alloc, nodes, actives, links, forms)
+/// Whether a sink keeps these samples.
+fn keeps(outcome: &Outcome, node: u32, samples: &[i16]) -> bool {
+    outcome.sinks.as_slice().iter().any(|kept| kept.node == node
+        && kept.wav.samples.as_slice() == samples)
 }
 
-/// Three sources into one sink.
-fn three_sources(alloc: Global) -> Result<Plan, Memory>
-    ensures { IfOk result (λ p. p ≡ three_sources) }
-{
-    let nodes = with(Items::new(alloc), node(alloc, Kind::Source, 0, 0))?;
-    let nodes = with(nodes, node(alloc, Kind::Source, 0, 0))?;
-    let nodes = with(nodes, node(alloc, Kind::Source, 0, 0))?;
-    let nodes = with(nodes, node(alloc, Kind::Sink, 48000, 1))?;
-    let actives = with(Items::new(alloc), active(alloc, 0))?;
-    let actives = with(actives, active(alloc, 1))?;
-    let actives = with(actives, active(alloc, 2))?;
-    let actives = with(actives, active(alloc, 3))?;
-    let actives = with(actives, active(alloc, 63))?;
-    let links = Items::from_slice(alloc, [link(0, 3), link(1, 3), link(2, 3)].as_slice())?;
-    let forms = Items::from_slice(alloc, [form(0), form(1), form(2), form(3)].as_slice())?;
-    plan(alloc, nodes, actives, links, forms)
-}
-
-/// What the only sink keeps.
-fn only_kept<'a>(rt: &impl Abort, outcome: &'a Outcome) -> &'a [i16] {
-    let sinks = outcome.sinks.as_slice();
-    assert_eq!(rt; sinks.len(), 1);
-    sinks[0].wav.samples.as_slice()
+/// A source, a square, a gain, a mixer, a delay, a map, a split, four sinks and a meter.
+fn all_kinds(alloc: Global) -> Result<Items<PlanNode>, Memory> {
+    let mut nodes = Items::new(alloc);
+    nodes.push(node(alloc, Kind::Source, 0))?;
+    let square = Kind::Square {
+        rate: 48000,
+        channels: 1,
+        period: 4,
+        amp: 100,
+    };
+    nodes.push(node(alloc, square, 0))?;
+    nodes.push(node(alloc, Kind::Gain { g: 128 }, 0))?;
+    nodes.push(node(alloc, Kind::Mix2 { ga: 256, gb: 256 }, 0))?;
+    nodes.push(node(alloc, Kind::Delay { frames: 10 }, 0))?;
+    let list = Items::from_slice(alloc, [1u32, 0].as_slice())?;
+    nodes.push(node(alloc, Kind::Map { channels: 2, list }, 0))?;
+    nodes.push(node(alloc, Kind::Split, 0))?;
+    nodes.push(node(alloc, Kind::Sink, 1))?;
+    nodes.push(node(alloc, Kind::Sink, 2))?;
+    nodes.push(node(alloc, Kind::Sink, 1))?;
+    nodes.push(node(alloc, Kind::Meter, 1))?;
+    nodes.push(node(alloc, Kind::Sink, 1))?;
+    Ok(nodes)
 }
 
 #[test]
-fn a_sink_keeps_the_wave_and_then_silence(rt: HostRuntime) -> Result<(), Fail> {
+fn each_kind_gives_its_samples(rt: HostRuntime) -> Result<(), Fail> {
     let alloc = rt.alloc();
-    let plan = one_source(alloc)?;
-    let waves = with(Items::new(alloc), wave(alloc, 0, [7, 8, 9].as_slice())?)?;
-    let outcome = render(alloc, &plan, &waves)?;
-    assert_eq!(rt; only_kept(&rt, &outcome), [7, 8, 9, 0].as_slice());
+    let part = Part {
+        first: 0,
+        cycles: 2,
+        nodes: &[0, 1, 2, 3, 4, 5, 6, 7, 8, 9, 10, 11],
+        driver: 7,
+        links: &[
+            link((1, 0), (7, 0), 1),
+            link((0, 0), (5, 0), 2),
+            link((5, 1), (8, 0), 2),
+            link((1, 0), (4, 0), 1),
+            link((4, 1), (9, 0), 1),
+            link((0, 0), (6, 0), 2),
+            link((6, 1), (10, 0), 1),
+            link((1, 0), (2, 0), 1),
+            link((2, 1), (3, 0), 1),
+            link((1, 0), (3, 1), 1),
+            link((3, 2), (11, 0), 1),
+        ],
+        forms: &[
+            form(0, 0, 2),
+            form(1, 0, 1),
+            form(2, 0, 1),
+            form(2, 1, 1),
+            form(3, 0, 1),
+            form(3, 1, 1),
+            form(3, 2, 1),
+            form(4, 0, 1),
+            form(4, 1, 1),
+            form(5, 0, 2),
+            form(5, 1, 2),
+            form(6, 0, 2),
+            form(6, 1, 1),
+            form(6, 2, 1),
+            form(7, 0, 1),
+            form(8, 0, 2),
+            form(9, 0, 1),
+            form(10, 0, 1),
+            form(11, 0, 1),
+        ],
+        fresh: &[
+            fresh(2, 1),
+            fresh(3, 1),
+            fresh(4, 1),
+            fresh(5, 2),
+            fresh(6, 2),
+            fresh(7, 1),
+            fresh(8, 2),
+            fresh(9, 1),
+            fresh(10, 1),
+            fresh(11, 1),
+        ],
+    };
+    let mut epochs = Items::new(alloc);
+    epochs.push(epoch(alloc, 4, part)?)?;
+    let mut waves = Items::new(alloc);
+    waves.push(wave(alloc, 0, 2, &[1, 10, 2, 20, -32768, 30])?)?;
+    let Some(outcome) = rendered(alloc, 4, all_kinds(alloc)?, epochs, &waves)? else {
+        panic!(rt; "the plan is sound");
+    };
+    assert!(rt; keeps(&outcome, 7, &[100, 100, -100, -100, 100, 100, -100, -100]));
+    assert!(rt;
+        keeps(
+            &outcome,
+            8,
+            &[10, 1, 20, 2, 30, -32768, 0, 0, 0, 0, 0, 0, 0, 0, 0, 0]
+        )
+    );
+    assert!(rt; keeps(&outcome, 9, &[0, 0, 0, 0, 0, 0, 0, 0]));
+    assert!(rt; keeps(&outcome, 11, &[150, 150, -150, -150, 150, 150, -150, -150]));
+    let [peak] = outcome.peaks.as_slice() else {
+        panic!(rt; "one meter has a format");
+    };
+    assert!(rt; peak.node == 10 && peak.value == 32768);
+    Ok(())
+}
+
+/// A source and a sink that drives, with a delay between them.
+fn through_a_delay(alloc: Global, frames: u32) -> Result<Items<PlanNode>, Memory> {
+    let mut nodes = Items::new(alloc);
+    nodes.push(node(alloc, Kind::Source, 0))?;
+    nodes.push(node(alloc, Kind::Delay { frames }, 0))?;
+    nodes.push(node(alloc, Kind::Sink, 1))?;
+    Ok(nodes)
+}
+
+#[test]
+fn a_released_delay_begins_anew(rt: HostRuntime) -> Result<(), Fail> {
+    let alloc = rt.alloc();
+    let links = [link((0, 0), (1, 0), 1), link((1, 1), (2, 0), 1)];
+    let forms = [form(0, 0, 1), form(1, 0, 1), form(1, 1, 1), form(2, 0, 1)];
+    let once = Part {
+        first: 0,
+        cycles: 1,
+        nodes: &[0, 1, 2],
+        driver: 2,
+        links: links.as_slice(),
+        forms: forms.as_slice(),
+        fresh: &[fresh(1, 1), fresh(2, 1)],
+    };
+    let again = Part {
+        first: 1,
+        cycles: 1,
+        nodes: &[0, 1, 2],
+        driver: 2,
+        links: links.as_slice(),
+        forms: forms.as_slice(),
+        fresh: &[fresh(1, 1)],
+    };
+    let mut epochs = Items::new(alloc);
+    epochs.push(epoch(alloc, 2, once)?)?;
+    epochs.push(epoch(alloc, 2, again)?)?;
+    let mut waves = Items::new(alloc);
+    waves.push(wave(alloc, 0, 1, &[1, 2, 3, 4])?)?;
+    let Some(outcome) = rendered(alloc, 2, through_a_delay(alloc, 1)?, epochs, &waves)? else {
+        panic!(rt; "the plan is sound");
+    };
+    assert!(rt; keeps(&outcome, 2, &[0, 1, 0, 3]));
     Ok(())
 }
 
 #[test]
-fn three_sources_are_clamped_once(rt: HostRuntime) -> Result<(), Fail> {
+fn a_source_that_was_off_goes_on(rt: HostRuntime) -> Result<(), Fail> {
     let alloc = rt.alloc();
-    let plan = three_sources(alloc)?;
-    let waves = with(
-        Items::new(alloc),
-        wave(alloc, 0, [30000, -32768].as_slice())?,
-    )?;
-    let waves = with(waves, wave(alloc, 1, [30000, -32768].as_slice())?)?;
-    let waves = with(waves, wave(alloc, 2, [-30000].as_slice())?)?;
-    let outcome = render(alloc, &plan, &waves)?;
-    assert_eq!(rt; only_kept(&rt, &outcome), [30000, -32768, 0, 0].as_slice());
+    let mut nodes = Items::new(alloc);
+    nodes.push(node(alloc, Kind::Source, 0))?;
+    nodes.push(node(alloc, Kind::Sink, 1))?;
+    let links = [link((0, 0), (1, 0), 1)];
+    let forms = [form(0, 0, 1), form(1, 0, 1)];
+    let once = Part {
+        first: 0,
+        cycles: 1,
+        nodes: &[0, 1],
+        driver: 1,
+        links: links.as_slice(),
+        forms: forms.as_slice(),
+        fresh: &[fresh(1, 1)],
+    };
+    let off = Part {
+        first: 1,
+        cycles: 1,
+        nodes: &[1],
+        driver: 1,
+        links: &[],
+        forms: &[form(1, 0, 1)],
+        fresh: &[],
+    };
+    let again = Part {
+        first: 2,
+        cycles: 1,
+        nodes: &[0, 1],
+        driver: 1,
+        links: links.as_slice(),
+        forms: forms.as_slice(),
+        fresh: &[],
+    };
+    let mut epochs = Items::new(alloc);
+    epochs.push(epoch(alloc, 2, once)?)?;
+    epochs.push(epoch(alloc, 2, off)?)?;
+    epochs.push(epoch(alloc, 2, again)?)?;
+    let mut waves = Items::new(alloc);
+    waves.push(wave(alloc, 0, 1, &[1, 2, 3, 4, 5, 6])?)?;
+    let Some(outcome) = rendered(alloc, 2, nodes, epochs, &waves)? else {
+        panic!(rt; "the plan is sound");
+    };
+    assert!(rt; keeps(&outcome, 1, &[1, 2, 0, 0, 3, 4]));
+    Ok(())
+}
+
+#[test]
+fn feedback_through_a_late_link(rt: HostRuntime) -> Result<(), Fail> {
+    let alloc = rt.alloc();
+    let mut nodes = Items::new(alloc);
+    nodes.push(node(alloc, Kind::Source, 0))?;
+    nodes.push(node(alloc, Kind::Mix2 { ga: 256, gb: 128 }, 0))?;
+    nodes.push(node(alloc, Kind::Gain { g: 256 }, 0))?;
+    nodes.push(node(alloc, Kind::Sink, 1))?;
+    let part = Part {
+        first: 0,
+        cycles: 5,
+        nodes: &[0, 1, 2, 3],
+        driver: 3,
+        links: &[
+            link((0, 0), (1, 0), 1),
+            late((1, 2), (2, 0)),
+            late((2, 1), (1, 1)),
+            link((1, 2), (3, 0), 1),
+        ],
+        forms: &[
+            form(0, 0, 1),
+            form(1, 0, 1),
+            form(1, 1, 1),
+            form(1, 2, 1),
+            form(2, 0, 1),
+            form(2, 1, 1),
+            form(3, 0, 1),
+        ],
+        fresh: &[fresh(1, 1), fresh(2, 1), fresh(3, 1)],
+    };
+    let mut epochs = Items::new(alloc);
+    epochs.push(epoch(alloc, 1, part)?)?;
+    let mut waves = Items::new(alloc);
+    waves.push(wave(alloc, 0, 1, &[8])?)?;
+    let Some(outcome) = rendered(alloc, 1, nodes, epochs, &waves)? else {
+        panic!(rt; "the plan is sound");
+    };
+    assert!(rt; keeps(&outcome, 3, &[8, 0, 4, 0, 2]));
     Ok(())
 }

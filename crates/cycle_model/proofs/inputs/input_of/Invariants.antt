@@ -1,0 +1,11 @@
+use Rattle.std.proofs.Common.{◌≡◌, ◌*◌, map, filter, fold, drop}
+use Rattle.pw_base.specs.Samples.{silence, summed}
+use Rattle.cycle_model.specs.Epochs.{is_port, channels_of}
+use Rattle.cycle_model.specs.Known.{brought_by}
+use Rattle.cycle_model.proofs.inputs.input_of.Given as goal
+
+-- the sums, with what the links that are left bring, are all that the links bring
+abbrev pub invariant-loop-link : goal.invariant-loop-link
+invariant-loop-link l =
+    fold summed l.sums (map (brought_by l.quantum l.first l.before l.now) (filter (λ k. is_port k.to l.port) (drop l.link-index l.epoch.shape.links)))
+    ≡ fold summed (silence (l.quantum * channels_of l.epoch.forms l.port)) (map (brought_by l.quantum l.first l.before l.now) (filter (λ k. is_port k.to l.port) l.epoch.shape.links))

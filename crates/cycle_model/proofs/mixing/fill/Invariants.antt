@@ -1,7 +1,0 @@
-use Rattle.std.proofs.Common.{◌≡◌, ℕ, ◌<◌, get_or, pos}
-use Rattle.pw_base.specs.Samples.{clamped}
-use Rattle.cycle_model.specs.Mixing.{sum_at}
-use Rattle.cycle_model.proofs.mixing.fill.Given as goal
-
-abbrev pub invariant-loop-i : goal.invariant-loop-i
-invariant-loop-i l = (k : ℕ) → k < l.i → get_or l.to k (pos 0) ≡ clamped (sum_at l.waves l.places k)

@@ -1,0 +1,6 @@
+use Rattle.std.proofs.Common.{◌≡◌, take}
+use Rattle.pw_base.specs.Samples.{peak_of}
+use Rattle.cycle_model.proofs.reference.peak_of.Given as goal
+
+abbrev pub invariant-loop-sample : goal.invariant-loop-sample
+invariant-loop-sample l = l.top ≡ peak_of (take l.sample-index l.row)

@@ -1,0 +1,37 @@
+//! What an epoch says of nodes and ports.
+ghost use Rattle.std.specs.Prelude.{◌≡◌};
+ghost use Rattle.cycle_model.specs.Epochs.{is_port, channels_of};
+ghost use Rattle.cycle_model.specs.Mixing.{takes_part};
+
+use pw_base::{Epoch, PortForm, PortId};
+
+/// Whether both are one port.
+pub(crate) fn is_port(a: PortId, b: PortId) -> bool
+    ensures { result ≡ is_port a b }
+{
+    a.node == b.node && a.port == b.port
+}
+
+/// Whether a node is one of the epoch's active nodes.
+pub fn takes_part(epoch: &Epoch, node: u32) -> bool
+    ensures { result ≡ takes_part epoch.now node }
+{
+    for active in epoch.shape.nodes.as_slice() {
+        if active.node == node {
+            return true;
+        }
+    }
+    false
+}
+
+/// The channels of a port, or 0 without a form.
+pub fn channels_of(forms: &[PortForm], port: PortId) -> u32
+    ensures { result ≡ channels_of forms.now port }
+{
+    for form in forms {
+        if is_port(form.port, port) {
+            return form.channels;
+        }
+    }
+    0
+}

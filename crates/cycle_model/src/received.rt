@@ -1,0 +1,18 @@
+//! What the reference program knows of ports and nodes.
+use pw_base::{Items, PortId};
+
+/// What an output port gave in one cycle.
+#[derive(Debug, Drop)]
+pub(crate) struct Given {
+    pub port: PortId,
+    pub samples: Items<i16>,
+}
+
+/// For how many frames a node was active, and what its inputs received: `a` is the stream of its first
+/// input, `b` that of its second. Without such an input the list is empty.
+#[derive(Debug, Drop)]
+pub(crate) struct Received {
+    pub frames: u64,
+    pub a: Items<i16>,
+    pub b: Items<i16>,
+}
