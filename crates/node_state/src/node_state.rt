@@ -1,0 +1,54 @@
+//! What a node keeps between quanta.
+ghost use Rattle.std.specs.Prelude.{ℕ, ◌*◌, ◌≤◌, length};
+ghost use Rattle.pw_base.specs.SoundShape.{IsBetween};
+ghost use Rattle.node_state.specs.States.{stream_of, room_in, wanted_room};
+
+use crate::kind_state::KindState;
+
+/// The state of a node: what its kind keeps, and how many frames it was active for. It borrows nothing.
+#[derive(Drop)]
+pub struct NodeState {
+    pub(crate) state: KindState,
+    /// Frames in a quantum.
+    pub(crate) quantum: u32,
+    /// The channels at the first input, 0 where it has none.
+    pub(crate) channels: u32,
+    /// The most channels that it was prepared for.
+    pub(crate) most: u32,
+    /// Frames so far.
+    pub(crate) frames: u64,
+    /// Frames that it was prepared for.
+    pub(crate) prepared: u64,
+    ghost quantum_range: { IsBetween 1 8192 quantum },
+    ghost channels_range: { channels ≤ most },
+    ghost most_range: { most ≤ 8 },
+    ghost frames_range: { frames ≤ prepared },
+    ghost stream: { length (stream_of state) ≤ frames * channels },
+    ghost room: { wanted_room state most prepared ≤ room_in state },
+}
+
+impl NodeState {
+    ghost use Rattle.std.specs.Prelude.{◌≡◌};
+    ghost use Rattle.pw_base.specs.KindFunction.{Heard};
+    ghost use Rattle.node_state.specs.StandsFor.{StandsFor, node_kind, kept_stream};
+    ghost use Rattle.node_state.specs.Streams.{stream_heard, peak_heard};
+
+    /// A sink's stream so far: all that came to its input. Of every other kind nothing. Takes no memory.
+    pub fn kept(&self) -> &[i16]
+        ensures value { result.now ≡ kept_stream self.now }
+        ensures stream { (h : Heard) → StandsFor self.now h → result.now ≡ stream_heard (node_kind self.now) h }
+    {
+        self.state.stream()
+    }
+
+    /// The greatest absolute value that came to a meter's input so far, 0 to 32768. Of every other kind 0. Takes no
+    /// memory.
+    pub fn greatest(&self) -> u32
+        ensures { (h : Heard) → StandsFor self.now h → result ≡ peak_heard (node_kind self.now) h }
+    {
+        match &self.state {
+            KindState::Meter(s) => s.peak,
+            _ => 0,
+        }
+    }
+}
