@@ -1,1 +1,4 @@
+pub mod ReadingLemmas
+pub mod SplitLemmas
 pub mod TextLemmas
+pub mod TraceLemmas

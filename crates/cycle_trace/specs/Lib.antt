@@ -1,7 +1,9 @@
 pub mod EventLines
+pub mod EventWords
 pub mod LinkLines
 pub mod NodeNames
 pub mod Printable
 pub mod ResultLines
 pub mod RunText
+pub mod TraceReading
 pub mod Words

@@ -15,9 +15,9 @@ name_at nodes place = slice_index_or (map (λ n. n.name) nodes) place []
 abbrev pub kind_at : List PlanNode → ℕ → Kind
 kind_at nodes place = slice_index_or (map (λ n. n.kind) nodes) place Dummy
 
--- the name of a node of an event: the built-in driver is called dummy
-abbrev pub node_name : List PlanNode → ℕ → List ℕ
-node_name nodes node = if node == DUMMY then codes "dummy" else name_at nodes node
+-- the name of a node of an event, by the names of the nodes: the built-in driver is called dummy
+abbrev pub node_name : List (List ℕ) → ℕ → List ℕ
+node_name names node = if node == DUMMY then codes "dummy" else slice_index_or names node []
 
 -- a port: its node's name, a dot and its own name
 abbrev pub endpoint : List PlanNode → PortId → List ℕ

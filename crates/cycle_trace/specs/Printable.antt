@@ -20,12 +20,12 @@ pub record JoinsPorts (nodes : List PlanNode) (l : LinkLine) : Type 0 where
   pub from : IsPort nodes l.from
   pub to : IsPort nodes l.to
 
--- the number of a node that is there, or of the built-in driver
-abbrev pub IsNode : List PlanNode → ℕ → Type 0
+-- the number of a node that is there, or of the built-in driver; nodes may stand for their names
+abbrev pub IsNode : {X : Type 0} → List X → ℕ → Type 0
 IsNode nodes node = node ≢ DUMMY → node < length nodes
 
 -- the nodes of an event, late ones too, are there
-abbrev pub NamesNodes : List PlanNode → Event → Type 0
+abbrev pub NamesNodes : {X : Type 0} → List X → Event → Type 0
 NamesNodes nodes (Begin cycle) = ⊤
 NamesNodes nodes (Start cycle node) = IsNode nodes node
 NamesNodes nodes (Finish cycle node) = IsNode nodes node

@@ -6,17 +6,17 @@ ghost use Rattle.cycle_trace.specs.NodeNames.{node_name};
 ghost use Rattle.cycle_trace.specs.Words.{spaced};
 
 use crate::words::{append_number, append_word, end_line};
-use pw_base::{DUMMY, Event, Memory, PlanNode, Text};
+use pw_base::{DUMMY, Event, Memory, Text};
 
 /// The name of a node.
-fn name_of(nodes: &[PlanNode], node: u32) -> &[u8]
-    requires { IsNode nodes.now node }
-    ensures { result.now ≡ node_name nodes.now node }
+fn name_of(names: &[Text], node: u32) -> &[u8]
+    requires { IsNode names.now node }
+    ensures { result.now ≡ node_name names.now node }
 {
     if node == DUMMY {
         b"dummy".as_slice()
     } else {
-        nodes[node as usize].name.as_slice()
+        names[node as usize].as_slice()
     }
 }
 
@@ -29,36 +29,36 @@ fn append_mark(word: &[u8], cycle: u32, text: &mut Text) -> Result<(), Memory>
 }
 
 /// Appends the names of a set of nodes, ascending by number.
-fn append_late_nodes(nodes: &[PlanNode], late: u64, text: &mut Text) -> Result<(), Memory>
-    requires { (n : ℕ) → n < 64 → late / 2 ^ n % 2 ≡ 1 → IsNode nodes.now n }
-    ensures { OnOk result (text.new ≡ text.old ++ spaced (map (node_name nodes.now) (late_nodes late))) }
+fn append_late_nodes(names: &[Text], late: u64, text: &mut Text) -> Result<(), Memory>
+    requires { (n : ℕ) → n < 64 → late / 2 ^ n % 2 ≡ 1 → IsNode names.now n }
+    ensures { OnOk result (text.new ≡ text.old ++ spaced (map (node_name names.now) (late_nodes late))) }
 {
     for n in 0..64u32 {
         if (late >> n) % 2 == 1 {
-            append_word(text, name_of(nodes, n))?;
+            append_word(text, name_of(names, n))?;
         }
     }
     Ok(())
 }
 
 /// Appends one line.
-fn append_event_line(nodes: &[PlanNode], event: Event, text: &mut Text) -> Result<(), Memory>
-    requires { NamesNodes nodes.now event }
-    ensures { OnOk result (text.new ≡ text.old ++ event_line nodes.now event) }
+pub(crate) fn append_event_line(names: &[Text], event: Event, text: &mut Text) -> Result<(), Memory>
+    requires { NamesNodes names.now event }
+    ensures { OnOk result (text.new ≡ text.old ++ event_line names.now event) }
 {
     match event {
         Event::Begin { cycle } => append_mark(b"begin".as_slice(), cycle, text)?,
         Event::Start { cycle, node } => {
             append_mark(b"start".as_slice(), cycle, text)?;
-            append_word(text, name_of(nodes, node))?;
+            append_word(text, name_of(names, node))?;
         }
         Event::Finish { cycle, node } => {
             append_mark(b"finish".as_slice(), cycle, text)?;
-            append_word(text, name_of(nodes, node))?;
+            append_word(text, name_of(names, node))?;
         }
         Event::Tick { cycle, late } => {
             append_mark(b"tick".as_slice(), cycle, text)?;
-            append_late_nodes(nodes, late, text)?;
+            append_late_nodes(names, late, text)?;
         }
         Event::End { cycle } => append_mark(b"end".as_slice(), cycle, text)?,
     }
@@ -67,15 +67,15 @@ fn append_event_line(nodes: &[PlanNode], event: Event, text: &mut Text) -> Resul
 
 /// Appends a line for each.
 pub(crate) fn append_event_lines(
-    nodes: &[PlanNode],
+    names: &[Text],
     events: &[Event],
     text: &mut Text,
 ) -> Result<(), Memory>
-    requires { All (NamesNodes nodes.now) events.now }
-    ensures { OnOk result (text.new ≡ text.old ++ flat_map (event_line nodes.now) events.now) }
+    requires { All (NamesNodes names.now) events.now }
+    ensures { OnOk result (text.new ≡ text.old ++ flat_map (event_line names.now) events.now) }
 {
     for event in events {
-        append_event_line(nodes, *event, text)?;
+        append_event_line(names, *event, text)?;
     }
     Ok(())
 }

@@ -1,14 +1,25 @@
 //! The whole text of a run.
-ghost use Rattle.std.specs.Prelude.{◌≡◌, IfOk, option_copied};
+ghost use Rattle.std.specs.Prelude.{◌≡◌, map, IfOk, option_copied};
 ghost use Rattle.cycle_trace.specs.Printable.{IsPrintable};
 ghost use Rattle.cycle_trace.specs.RunText.{run_text_of};
 
 use crate::event_lines::append_event_lines;
 use crate::link_lines::append_link_lines;
 use crate::result_lines::append_result_lines;
-use pw_base::{Event, Items, Memory, Plan, Text};
+use pw_base::{Event, Items, Memory, Plan, PlanNode, Text};
 use std::alloc::Global;
 use wav_files::Outcome;
+
+/// The names of the nodes.
+fn names_of(alloc: Global, nodes: &[PlanNode]) -> Result<Items<Text>, Memory>
+    ensures { IfOk result (λ names. names ≡ map (λ n. n.name) nodes.now) }
+{
+    let mut names = Items::new(alloc);
+    for node in nodes {
+        names.push(node.name.copy(alloc)?)?;
+    }
+    Ok(names)
+}
 
 /// The text of a run: a line for each `link` and `unlink`, in the order of the script; a line for each event
 /// of a history, where one is handed in; and a line for each sink and meter, ascending by number.
@@ -28,7 +39,8 @@ pub fn run_text(
     let mut text = Items::new(alloc);
     append_link_lines(nodes, plan.lines.as_slice(), &mut text)?;
     if let Some(events) = history {
-        append_event_lines(nodes, events.as_slice(), &mut text)?;
+        let names = names_of(alloc, nodes)?;
+        append_event_lines(names.as_slice(), events.as_slice(), &mut text)?;
     }
     append_result_lines(nodes, outcome, &mut text)?;
     Ok(text)

@@ -1,7 +1,8 @@
-ghost use Rattle.std.specs.Prelude.{◌≡◌, [], ◌∷◌, map, IfOk};
+ghost use Rattle.std.specs.Prelude.{◌≡◌, [], ◌∷◌, map, codes, IfOk};
+ghost use Rattle.cycle_trace.specs.TraceReading.{AreNames};
 
-use crate::run_text;
-use pw_base::{Event, Items, Kind, LineOutcome, LinkLine, Memory, Plan, PlanNode, PortId};
+use crate::{TraceFault, read_events, run_text};
+use pw_base::{Event, Items, Kind, LineOutcome, LinkLine, Memory, Plan, PlanNode, PortId, Text};
 use std::alloc::Global;
 use std::process::Abort;
 use std::test::Fail;
@@ -104,5 +105,95 @@ fn events_are_told_in_order(rt: HostRuntime) -> Result<(), Fail> {
         text.as_slice()
             == b"begin 0\nstart 0 s\ntick 0 p o\nfinish 0 dummy\nend 4294967295\nunused p\nunused o\n".as_slice()
     );
+    Ok(())
+}
+
+/// The names `s`, `o` and `p` of nodes 0, 1 and 2.
+fn three_names(alloc: Global) -> Result<Items<Text>, Memory>
+    ensures { IfOk result (λ names. names ≡ codes "s" ∷ codes "o" ∷ codes "p" ∷ []) }
+{
+    let mut names = Items::new(alloc);
+    names.push(Items::from_slice(alloc, b"s".as_slice())?)?;
+    names.push(Items::from_slice(alloc, b"o".as_slice())?)?;
+    names.push(Items::from_slice(alloc, b"p".as_slice())?)?;
+    Ok(names)
+}
+
+/// The line at fault, if one is.
+fn line_at_fault(alloc: Global, names: &Items<Text>, bytes: &[u8]) -> Option<u64>
+    requires { AreNames names.now }
+{
+    match read_events(alloc, names, bytes) {
+        Err(TraceFault::Line(number)) => Some(number),
+        Ok(_events) => None,
+        Err(TraceFault::Memory) => None,
+    }
+}
+
+#[test]
+fn event_lines_are_read(rt: HostRuntime) -> Result<(), Fail> {
+    let alloc = rt.alloc();
+    let names = three_names(alloc)?;
+    let text =
+        b"begin 0\nstart 0 s\nfinish 0 s\nstart 0 o\nfinish 0 o\nstart 0 p\nfinish 0 p\nend 0\n".as_slice();
+    let Ok(events) = read_events(alloc, &names, text) else {
+        panic!(rt; "each line is that of an event");
+    };
+    let wanted = [
+        Event::Begin { cycle: 0 },
+        Event::Start { cycle: 0, node: 0 },
+        Event::Finish { cycle: 0, node: 0 },
+        Event::Start { cycle: 0, node: 1 },
+        Event::Finish { cycle: 0, node: 1 },
+        Event::Start { cycle: 0, node: 2 },
+        Event::Finish { cycle: 0, node: 2 },
+        Event::End { cycle: 0 },
+    ];
+    assert!(rt; events.as_slice() == wanted.as_slice());
+    let text = b"tick 0\ntick 7 s p dummy\nstart 4294967295 dummy".as_slice();
+    let Ok(events) = read_events(alloc, &names, text) else {
+        panic!(rt; "the last line may lack its line feed");
+    };
+    let wanted = [
+        Event::Tick { cycle: 0, late: 0 },
+        Event::Tick {
+            cycle: 7,
+            late: 0x8000_0000_0000_0005,
+        },
+        Event::Start {
+            cycle: 4294967295,
+            node: 63,
+        },
+    ];
+    assert!(rt; events.as_slice() == wanted.as_slice());
+    Ok(())
+}
+
+#[test]
+fn a_line_that_is_no_event(rt: HostRuntime) -> Result<(), Fail> {
+    let alloc = rt.alloc();
+    let names = three_names(alloc)?;
+    let firsts = [
+        b"\n".as_slice(),
+        b"begin 0 \n".as_slice(),
+        b"begin  0\n".as_slice(),
+        b"begin 00\n".as_slice(),
+        b"begin +1\n".as_slice(),
+        b"begin 4294967296\n".as_slice(),
+        b"begin 0\r\n".as_slice(),
+        b"Begin 0\n".as_slice(),
+        b"begin\n".as_slice(),
+        b"start 0\n".as_slice(),
+        b"start 0 x\n".as_slice(),
+        b"start 0 s o\n".as_slice(),
+        b"tick 0 o s\n".as_slice(),
+        b"tick 0 s s\n".as_slice(),
+    ];
+    for text in firsts.as_slice() {
+        assert!(rt; line_at_fault(alloc, &names, text) == Some(1));
+    }
+    assert!(rt; line_at_fault(alloc, &names, b"begin 0\n\nend 0\n".as_slice()) == Some(2));
+    assert!(rt; line_at_fault(alloc, &names, b"begin 0\nend 0\n\n".as_slice()) == Some(3));
+    assert!(rt; line_at_fault(alloc, &names, b"".as_slice()) == None);
     Ok(())
 }

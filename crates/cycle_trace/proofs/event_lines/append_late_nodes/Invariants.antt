@@ -5,4 +5,4 @@ use Rattle.cycle_trace.specs.Words.{spaced}
 use Rattle.cycle_trace.proofs.event_lines.append_late_nodes.Given as goal
 
 abbrev pub invariant-loop-n : goal.invariant-loop-n
-invariant-loop-n l = l.text ≡ l.fn.text ++ spaced (map (node_name l.nodes) (late_below l.late l.n))
+invariant-loop-n l = l.text ≡ l.fn.text ++ spaced (map (node_name l.names) (late_below l.late l.n))
