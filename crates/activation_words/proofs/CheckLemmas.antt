@@ -1,5 +1,5 @@
 -- What the driver's seat knows from load to load of a check.
-use Rattle.std.proofs.Common.{◌≡◌, ◌≢◌, ℕ, zero, suc, ◌<◌, ◌≤◌, Bool, true, false, cond, eqb, List, ◌∷◌, map, refl, sym, ap, ◌∙◌, subst, arith, eq-eqb, ne_eqb}
+use Rattle.std.proofs.Common.{◌≡◌, ◌+◌, ◌≢◌, ℕ, zero, suc, ◌<◌, ◌≤◌, Bool, true, false, cond, eqb, List, ◌∷◌, map, refl, sym, ap, ◌∙◌, subst, arith, eq-eqb, ne_eqb}
 use Rattle.std.specs.Prelude.{Contains}
 use mathlib.Core.Logic.{dite}
 use native.Mathlib.Decide.{ℕ_discrete}
@@ -86,11 +86,11 @@ module _ (p : Lay) (sound : IsSound p) where
 
     pub checked : (late : ℕ) (w u : View) → v.lead.drive ≡ drives.Waiting → IsLooking p (tick_drawn v t) (nodes p) late w → u ≡ event_stored true (late_stored w) p.driver → HasChecked p v late u
     checked late w u waits r is =
-        let whole : u ≡ view_lead v (record v.lead { checked = true; drive = drives.Waiting; ticket = t }) (record v.trail { looks = w.trail.looks }) = is ∙ ap (λ (z : View). event_stored true (late_stored z) p.driver) r.is in
+        let whole : u ≡ view_lead v (record v.lead { checked = true; checks = v.lead.checks + 1; drive = drives.Waiting; ticket = t }) (record v.trail { looks = w.trail.looks }) = is ∙ ap (λ (z : View). event_stored true (late_stored z) p.driver) r.is in
         let looks : u.trail.looks ≡ w.trail.looks = ap (λ (z : View). z.trail.looks) whole in record {
           ticket = t;
           drawn = low;
           looks = ap (λ l. map (λ (f : Found). f.node) l) looks ∙ r.looks;
           late_is = r.late_is ∙ sym (ap (late_of v.lead.cycle) looks);
-          is = whole ∙ (λ j. view_lead v (record v.lead { checked = true; drive = sym waits j; ticket = t }) (record v.trail { looks = sym looks j }));
+          is = whole ∙ (λ j. view_lead v (record v.lead { checked = true; checks = v.lead.checks + 1; drive = sym waits j; ticket = t }) (record v.trail { looks = sym looks j }));
         }

@@ -76,4 +76,4 @@ pub record HasChecked (p : Lay) (v : View) (late : ℕ) (w : View) : Type 0 wher
   pub drawn : ticket < event_count p.shape
   pub looks : map (λ f. f.node) w.trail.looks ≡ followers p (nodes p)
   pub late_is : late ≡ late_of v.lead.cycle w.trail.looks
-  pub is : w ≡ view_lead v (record v.lead { checked = true; ticket = ticket }) (record v.trail { looks = w.trail.looks })
+  pub is : w ≡ view_lead v (record v.lead { checked = true; checks = v.lead.checks + 1; ticket = ticket }) (record v.trail { looks = w.trail.looks })

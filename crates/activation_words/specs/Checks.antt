@@ -1,6 +1,6 @@
 -- A late check, load by load. Nodes are places.
 -- Source: this project's own.
-use Rattle.std.specs.Prelude.{◌≡◌, ◌≢◌, ℕ, true, cond, eqb, [], map}
+use Rattle.std.specs.Prelude.{◌≡◌, ◌≢◌, ℕ, ◌+◌, true, cond, eqb, [], map}
 use Rattle.board_rule.specs.declared.view.Drive.TheVariants.{Checking}
 use Rattle.board_rule.specs.declared.view.View.{View}
 use Rattle.pw_base.specs.Words.{status_word_of}
@@ -11,7 +11,7 @@ use Rattle.board_rule.specs.EventSteps.{looked, late_of}
 use Rattle.activation_words.specs.Calls.{followers}
 
 abbrev pub tick_drawn : View → ℕ → View
-tick_drawn v ticket = view_lead v (record v.lead { drive = Checking; checked = true; ticket = ticket }) (record v.trail { looks = [] })
+tick_drawn v ticket = view_lead v (record v.lead { drive = Checking; checked = true; checks = v.lead.checks + 1; ticket = ticket }) (record v.trail { looks = [] })
 
 -- the node at a place is looked at, or is the driver
 abbrev pub LooksAt : Lay → View → ℕ → ℕ → ℕ → View → ℕ → Type 0

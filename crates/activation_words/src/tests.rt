@@ -1,6 +1,7 @@
 //! The words of a board in the first cycle of four nodes in a row, and many cycles by one thread and by two.
-ghost use Rattle.std.specs.Prelude.{◌≡◌, ◌≢◌, ℕ, ◌==◌, ◌≤◌, false, true, length, slice_get, Some, [], ◌∷◌, slice_index, IsTrue, IsFalse, IfSome, IfOk};
+ghost use Rattle.std.specs.Prelude.{◌≡◌, ◌≢◌, ℕ, ◌==◌, ◌≤◌, false, true, length, slice_get, Some, [], ◌∷◌, slice_index, IsTrue, IsFalse, IfSome, IfOk, MatchOption};
 ghost use Rattle.std.specs.List.{position};
+ghost use Rattle.pw_base.specs.History.{IsLegalHistory};
 ghost use Rattle.board_rule.specs.declared.view.Drive.TheVariants.{Awake};
 ghost use Rattle.board_rule.specs.Layout.{lay, place_in, IsUndelayed};
 ghost use Rattle.board_rule.specs.Steps.{HasNode};
@@ -8,8 +9,11 @@ ghost use Rattle.activation_words.specs.Calls.{IsAwake};
 ghost use Rattle.activation_words.specs.Members.{IsResting, AllRest, IsBetween, IsWaiting, IsDriving};
 
 use crate::{Claim, begin, check_late, claim, claim_driver, end, finish, start};
-use board_rule::{Board, BoardSeat, DriverSeat, Expect, LoopSeat};
-use pw_base::{Items, Memory, PortId, Shape, ShapeLink, ShapeNode, is_pooled_shape};
+use board_rule::{Board, BoardSeat, Closed, DriverSeat, Expect, LoopSeat};
+use pw_base::{
+    Epoch, Event, Items, Memory, PortId, Shape, ShapeLink, ShapeNode, is_legal_history,
+    is_pooled_shape,
+};
 use std::alloc::Global;
 use std::sync::Wait;
 use std::test::Fail;
@@ -188,7 +192,8 @@ fn begin_next(board: &Board, seat: &mut DriverSeat) -> bool
     requires table { seat.old.table ≡ board.now.table.shared.table_id }
     requires between { IsBetween (lay board.now.plot) seat.old.knows }
     ensures table { seat.new.table ≡ seat.old.table }
-    ensures begun { IsTrue result → IsWaiting (lay board.now.plot) seat.new.knows }
+    ensures begun { IsTrue result → IsWaiting (lay board.now.plot) seat.new.knows × (seat.new.knows.lead.checked ≡ false) }
+    ensures none { IsFalse result → IsBetween (lay board.now.plot) seat.new.knows }
 {
     let driver = board.shape().driver;
     if seat.ended(board, driver) == board.shape().cycles {
@@ -292,7 +297,7 @@ fn drive_once(board: &Board, seat: &mut DriverSeat, waits: bool) -> Option<bool>
     requires table { seat.old.table ≡ board.now.table.shared.table_id }
     requires phase { IsDriving (lay board.now.plot) seat.old.knows waits }
     ensures table { seat.new.table ≡ seat.old.table }
-    ensures phase { IfSome result (λ still. IsDriving (lay board.now.plot) seat.new.knows still) }
+    ensures phase { MatchOption result (IsBetween (lay board.now.plot) seat.new.knows) (λ still. IsDriving (lay board.now.plot) seat.new.knows still) }
 {
     if waits {
         return Some(!try_driver(board, seat));
@@ -305,17 +310,20 @@ fn drive_once(board: &Board, seat: &mut DriverSeat, waits: bool) -> Option<bool>
 }
 
 // All cycles of the driver's thread.
-fn drive<R: Wait>(rt: &R, board: &Board, mut seat: DriverSeat)
+fn drive<R: Wait>(rt: &R, board: &Board, mut seat: DriverSeat) -> DriverSeat
     requires table { seat.table ≡ board.now.table.shared.table_id }
     requires between { IsBetween (lay board.now.plot) seat.knows }
+    ensures table { result.table ≡ seat.table }
+    ensures between { IsBetween (lay board.now.plot) result.knows }
 {
     let mut waits = false;
     for _ in rt.forever() {
         match drive_once(board, &mut seat, waits) {
             Some(still) => waits = still,
-            None => break,
+            None => return seat,
         }
     }
+    seat
 }
 
 // Two loops, each in a thread.
@@ -340,7 +348,7 @@ fn run_three<R: Threads + Wait + Sync>(
     driver: DriverSeat,
     one: LoopSeat,
     two: LoopSeat,
-)
+) -> DriverSeat
     requires driver { driver.table ≡ board.now.table.shared.table_id }
     requires one { one.table ≡ board.now.table.shared.table_id }
     requires two { two.table ≡ board.now.table.shared.table_id }
@@ -348,8 +356,10 @@ fn run_three<R: Threads + Wait + Sync>(
     requires between { IsBetween (lay board.now.plot) driver.knows }
     requires first { AllRest (lay board.now.plot) 0 one.knows }
     requires second { AllRest (lay board.now.plot) 1 two.knows }
+    ensures table { result.table ≡ board.now.table.shared.table_id }
+    ensures between { IsBetween (lay board.now.plot) result.knows }
 {
-    join(
+    let (driver, ()) = join(
         rt,
         move || drive(rt, board, driver),
         move ||
@@ -360,6 +370,63 @@ fn run_three<R: Threads + Wait + Sync>(
             requires second { AllRest (lay board.now.plot) 1 two.knows }
         { run_loops(rt, board, one, two) },
     );
+    driver
+}
+
+// The check of a cycle.
+fn check_once(board: &Board, seat: &mut DriverSeat) -> u64
+    requires table { seat.old.table ≡ board.now.table.shared.table_id }
+    requires waits { IsWaiting (lay board.now.plot) seat.old.knows }
+    requires unchecked { seat.old.knows.lead.checked ≡ false }
+    ensures table { seat.new.table ≡ seat.old.table }
+    ensures waits { IsWaiting (lay board.now.plot) seat.new.knows }
+{
+    check_late(board, seat)
+}
+
+// One cycle by one thread, the lowest node that can run first, with a check after node 1. What the check found, where the
+// cycle ended.
+fn one_cycle(
+    board: &Board,
+    driver: &mut DriverSeat,
+    one: &mut LoopSeat,
+    two: &mut LoopSeat,
+) -> Option<u64>
+    requires driver { driver.old.table ≡ board.now.table.shared.table_id }
+    requires one { one.old.table ≡ board.now.table.shared.table_id }
+    requires two { two.old.table ≡ board.now.table.shared.table_id }
+    requires row { board.now.plot.seat_of ≡ 0 ∷ 1 ∷ 0 ∷ 0 ∷ [] }
+    requires between { IsBetween (lay board.now.plot) driver.old.knows }
+    requires first { AllRest (lay board.now.plot) 0 one.old.knows }
+    requires second { AllRest (lay board.now.plot) 1 two.old.knows }
+    ensures table { driver.new.table ≡ driver.old.table }
+    ensures between { IfSome result (λ late. IsBetween (lay board.now.plot) driver.new.knows) }
+{
+    if !begin_next(board, driver) {
+        return None;
+    }
+    try_follower(board, one, 0, 0);
+    try_follower(board, two, 1, 1);
+    let late = check_once(board, driver);
+    try_follower(board, one, 0, 2);
+    if try_driver(board, driver) {
+        Some(late)
+    } else {
+        None
+    }
+}
+
+// What is left of a board whose driver's seat has ended all cycles.
+fn closed(board: Board, seat: DriverSeat) -> Option<Closed>
+    requires table { seat.table ≡ board.table.shared.table_id }
+    requires between { IsBetween (lay board.plot) seat.knows }
+    ensures { IfSome result (λ c. IsLegalHistory (board.plot.shape ∷ []) c.events) }
+{
+    let driver = board.shape().driver;
+    if seat.ended(&board, driver) != board.shape().cycles {
+        return None;
+    }
+    Some(board.close(seat))
 }
 
 #[test]
@@ -394,7 +461,48 @@ fn a_thousand_cycles_on_three_threads(rt: HostRuntime) -> Result<(), Fail> {
     let Some((board, driver, one, two)) = opened(rt.alloc(), &shape)? else {
         panic!(rt; "the row is not pooled")
     };
-    run_three(&rt, &board, driver, one, two);
+    let driver = run_three(&rt, &board, driver, one, two);
     assert!(rt; is_at(&board, (0, 0, 0, 0), (3999, 3999, 3999, 3999)));
+    let Some(closed) = closed(board, driver) else {
+        panic!(rt; "a cycle is left")
+    };
+    assert_eq!(rt; closed.events().len(), 10_000);
+    let epoch = Epoch {
+        shape,
+        forms: Items::new(rt.alloc()),
+        fresh: Items::new(rt.alloc()),
+    };
+    assert!(rt; is_legal_history(&[epoch], closed.events().as_slice()));
+    Ok(())
+}
+
+#[test]
+fn one_cycle_with_a_late_check(rt: HostRuntime) -> Result<(), Fail> {
+    let shape = row(rt.alloc(), 1)?;
+    let Some((board, mut driver, mut one, mut two)) = opened(rt.alloc(), &shape)? else {
+        panic!(rt; "the row is not pooled")
+    };
+    let Some(late) = one_cycle(&board, &mut driver, &mut one, &mut two) else {
+        panic!(rt; "the cycle did not end")
+    };
+    assert_eq!(rt; late, 4);
+    let Some(closed) = closed(board, driver) else {
+        panic!(rt; "a cycle is left")
+    };
+    let cycle = 0;
+    let events = [
+        Event::Begin { cycle },
+        Event::Start { cycle, node: 0 },
+        Event::Finish { cycle, node: 0 },
+        Event::Start { cycle, node: 1 },
+        Event::Finish { cycle, node: 1 },
+        Event::Tick { cycle, late: 4 },
+        Event::Start { cycle, node: 2 },
+        Event::Finish { cycle, node: 2 },
+        Event::Start { cycle, node: 3 },
+        Event::Finish { cycle, node: 3 },
+        Event::End { cycle },
+    ];
+    assert_eq!(rt; closed.events().as_slice(), events.as_slice());
     Ok(())
 }

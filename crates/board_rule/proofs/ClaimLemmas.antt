@@ -25,6 +25,7 @@ use Rattle.board_rule.specs.Steps.{Has}
 use Rattle.board_rule.specs.Plays.{Turns}
 use Rattle.board_rule.proofs.RunLemmas.{wakes}
 use Rattle.board_rule.proofs.SeatLemmas.{stay_step}
+use Rattle.board_rule.proofs.MarkLemmas.{quiet_phase}
 use Rattle.board_rule.proofs.FollowerLemmas.{rest_at, owing_at, rest_put, owing_put, stage_put, elsewhere, words_run, active_node, same_node, holds_node}
 
 module _ (p : Lay) where
@@ -59,19 +60,19 @@ module _ (p : Lay) where
   triggered_is g drives.EndDrawn n x ws w h e = running_is g drives.EndDrawn n x ws (λ z. true≢false (sym z)) w h e
 
   -- a step that finds a word and leaves it: the seat remembers something
-  pub remembers : {S : Type 0} (s : State S View) (r : Holds p s) (id i : ℕ) (me : Me S View) (t : Trail) → get_elem? s.views id ≡ some me.0 → Holds p (stepped s i (get_or s.words i 0) id me.1 (view_trail me.0 t) keeps)
-  remembers s r id i me t at = subst (λ (ws : List ℕ). Holds p record { words = ws; homes = s.homes; views = set s.views id (view_trail me.0 t) }) (sym (set-get_or s.words i 0)) record {
+  pub remembers : {S : Type 0} (s : State S View) (r : Holds p s) (id i : ℕ) (me : Me S View) (t : Trail) → get_elem? s.views id ≡ some me.0 → t.looks ≡ me.0.trail.looks → Holds p (stepped s i (get_or s.words i 0) id me.1 (view_trail me.0 t) keeps)
+  remembers s r id i me t at seen = subst (λ (ws : List ℕ). Holds p record { words = ws; homes = s.homes; views = set s.views id (view_trail me.0 t) }) (sym (set-get_or s.words i 0)) record {
     whole = r.whole;
-    seated = stay_step p r.whole s.words s.words s.views id me.0 t at refl r.seated;
+    seated = stay_step p r.whole s.words s.words s.views id me.0 t at refl seen r.seated;
     activations = r.activations;
     events = r.events;
   }
 
   module _ {S : Type 0} where
     pub claim_allowed : (slots id m : ℕ) (me : Me S View) (after : ℕ → View) (t : Trail) (seen : ℕ → Trail) → Has p me.0 m → (node_of me.0 m).phase ≡ Idle
-        → (after (status_word_of 1 (node_of me.0 m).next) ≡ view_node me.0 m (record (node_of me.0 m) { phase = Awake }) t) → ((found : ℕ) → found ≢ status_word_of 1 (node_of me.0 m).next → after found ≡ view_trail me.0 (seen found))
+        → (after (status_word_of 1 (node_of me.0 m).next) ≡ view_node me.0 m (record (node_of me.0 m) { phase = Awake }) t) → ((found : ℕ) → found ≢ status_word_of 1 (node_of me.0 m).next → after found ≡ view_trail me.0 (seen found)) → ((found : ℕ) → (seen found).looks ≡ me.0.trail.looks)
         → Allows (Holds p) slots id me (status_place p.shape m) (λ w. either (eqb w (status_word_of 1 (node_of me.0 m).next)) (status_word_of 2 (node_of me.0 m).next) w) (Turns after me)
-    claim_allowed slots id m me after t seen h phase hit miss s r _ at fits =
+    claim_allowed slots id m me after t seen h phase hit miss looks s r _ at fits =
         let g = r.whole in let a = r.activations in let wide = r.seated.wide in
         let x : NodeView = node_of me.0 m in
         let c : ℕ = g.lead.cycle in
@@ -98,7 +99,7 @@ module _ (p : Lay) where
           keeps,
           tt,
           subst (λ b. Holds p (stepped s (status_place p.shape m) (either b (status_word_of 2 x.next) found) id me.1 (view_node me.0 m new t) keeps)) (sym (eq-eqb found (status_word_of 1 x.next) e))
-              (subst (λ k. Holds p (stepped s (status_place p.shape m) (status_word_of 2 k) id me.1 (view_node me.0 m new t) keeps)) (sym cycle) (holds_node p s r id m (status_place p.shape m) (status_word_of 2 c) me.0 me.1 new t at h (omega arith) (omega arith)
+              (subst (λ k. Holds p (stepped s (status_place p.shape m) (status_word_of 2 k) id me.1 (view_node me.0 m new t) keeps)) (sym cycle) (holds_node p s r id m (status_place p.shape m) (status_word_of 2 c) me.0 me.1 new t at h (omega arith) (omega arith) (omega arith) (quiet_phase c x Idle Awake phase refl refl refl)
               (active_node p g s.words (set s.words (status_place p.shape m) (status_word_of 2 c)) m new h.follows is.0 cycle woken a))),
           (sym (ap after e ∙ hit), refl),
         ))
@@ -106,6 +107,6 @@ module _ (p : Lay) where
           view_trail me.0 (seen found),
           keeps,
           tt,
-          subst (λ b. Holds p (stepped s (status_place p.shape m) (either b (status_word_of 2 x.next) found) id me.1 (view_trail me.0 (seen found)) keeps)) (sym (ne_eqb found (status_word_of 1 x.next) e)) (remembers s r id (status_place p.shape m) me (seen found) at),
+          subst (λ b. Holds p (stepped s (status_place p.shape m) (either b (status_word_of 2 x.next) found) id me.1 (view_trail me.0 (seen found)) keeps)) (sym (ne_eqb found (status_word_of 1 x.next) e)) (remembers s r id (status_place p.shape m) me (seen found) at (looks found)),
           (sym (miss found e), refl),
         ))

@@ -1,5 +1,5 @@
 -- The driver's seat outside the reset: it claims and ends the driver's node, draws tickets and stores events, and ends the cycle.
-use Rattle.std.proofs.Common.{◌≡◌, ◌≢◌, ℕ, suc, ◌+◌, ◌-◌, ◌*◌, ◌%◌, ◌^◌, ◌<◌, ◌≤◌, true, false, true≢false, cond, eqb, List, [], ◌∷◌, take, drop, length, set, get_or, refl, sym, ap, ◌∙◌, subst, arith, eq-eqb, ne_eqb, length-set, get_or-set_other}
+use Rattle.std.proofs.Common.{◌≡◌, ◌≢◌, ℕ, ◌+◌, ◌-◌, ◌*◌, ◌<◌, true, false, true≢false, cond, eqb, List, [], ◌∷◌, take, drop, length, set, get_or, refl, sym, ap, ◌∙◌, subst, arith, eq-eqb, ne_eqb, get_or-set_other}
 use mathlib.Core.Logic.{dite}
 use native.Mathlib.Decide.{ℕ_discrete, dec_le}
 use prog.Atomic.{either}
@@ -12,7 +12,7 @@ use Rattle.board_rule.specs.declared.view.Drive.TheVariants as drives
 use Rattle.board_rule.specs.declared.view.LeadView.{LeadView}
 use Rattle.board_rule.specs.declared.view.Trail.{Trail}
 use Rattle.board_rule.specs.declared.view.View.{View}
-use Rattle.pw_base.specs.Layout.{pending_place, status_place, event_count}
+use Rattle.pw_base.specs.Layout.{pending_place, status_place}
 use Rattle.pw_base.specs.Words.{status_word_of}
 use Rattle.board_rule.specs.Layout.{Lay, IsSound, nodes, first, last}
 use Rattle.board_rule.specs.Sums.{times}
@@ -21,11 +21,10 @@ use Rattle.board_rule.specs.View.{Whole, with_lead, view_lead, view_trail}
 use Rattle.board_rule.specs.ActivationRule.{Activations, DriveOk, Words, Resets, IsIdle, posts, old_status}
 use Rattle.board_rule.specs.EventRule.{lead_drawn}
 use Rattle.board_rule.specs.BoardRule.{Holds}
-use Rattle.board_rule.specs.Plays.{Turns, Learns}
+use Rattle.board_rule.specs.Plays.{Turns}
 use Rattle.board_rule.proofs.SumLemmas.{total_zero, total_at}
 use Rattle.board_rule.proofs.RunLemmas.{Sums, keeps as stays, wakes, finishes}
-use Rattle.board_rule.proofs.SeatLemmas.{lead_step}
-use Rattle.board_rule.proofs.TicketLemmas.{few_tickets, draws_lead}
+use Rattle.board_rule.proofs.MarkLemmas.{quiet_drive}
 use Rattle.board_rule.proofs.FollowerLemmas.{rest_at, owing_at, stage_at, words_run}
 use Rattle.board_rule.proofs.WorkLemmas.{IsOther}
 use Rattle.board_rule.proofs.ClaimLemmas.{remembers}
@@ -165,63 +164,10 @@ module _ (p : Lay) where
       }
 
   module _ {S : Type 0} where
-    -- a ticket is drawn, and there is a word for it
-    pub draw_lead_allowed : (slots id : ℕ) (me : Me S View) (y : ℕ → LeadView) (t : Trail) (after : ℕ → View) (says : ℕ → Type 0) → me.0.number ≡ p.seats
-        → ((g : Whole) (ws : List ℕ) → me.0.lead ≡ g.lead → Activations p g ws → (k : ℕ) → Activations p (with_lead g (y k)) (set ws 0 (suc k))) → ((k : ℕ) → lead_drawn me.0.lead + 1 ≤ lead_drawn (y k))
-        → ((found : ℕ) → after found ≡ view_lead me.0 (y found) t) → ((found : ℕ) → found < event_count p.shape → says found)
-        → Allows (Holds p) slots id me 0 (λ w. (w + 1) % 2 ^ 64) (Learns after says me)
-    draw_lead_allowed slots id me y t after says number goes more is_after is_said s r _ at fits =
-        let g = r.whole in let sound = r.seated.sound in let wide = r.seated.wide in
-        let is = lead_is p s r id me.0 at number in
-        let found : ℕ = get_or s.words 0 0 in
-        let ws : List ℕ = set s.words 0 (suc found) in
-        let active = goes g s.words is r.activations found in
-        let least : lead_drawn g.lead + 1 ≤ lead_drawn (y found) = subst (λ (l : LeadView). lead_drawn l + 1 ≤ lead_drawn (y found)) is (more found) in
-        let events = draws_lead p g s.words (y found) least (omega arith) r.events in
-        let few = few_tickets p (with_lead g (y found)) ws ws sound active events in
-        let word' = drawn s.words found (omega arith) in
-        let limit = sound.events in
-        let word : (found + 1) % 2 ^ 64 ≡ suc found = omega arith in (
-          view_lead me.0 (y found) t,
-          keeps,
-          tt,
-          subst (λ k. Holds p (stepped s 0 k id me.1 (view_lead me.0 (y found) t) keeps)) (sym word) record {
-            whole = with_lead g (y found);
-            seated = lead_step p g s.words ws s.views id me.0 (y found) t at (length-set s.words 0 (suc found)) number r.seated;
-            activations = active;
-            events = events;
-          },
-          (sym (is_after found), refl, is_said found (omega arith)),
-        )
-      where
-        drawn : (ws : List ℕ) (k : ℕ) → 0 < length ws → get_or (set ws 0 (suc k)) 0 0 ≡ suc k
-        drawn [] k h = absurd (omega arith)
-        drawn (w ∷ ws) k h = refl
-
-    -- a word of events is stored
-    pub store_lead_allowed : (slots id i x : ℕ) (me : Me S View) (y : LeadView) (t : Trail) (after : ℕ → View) → me.0.number ≡ p.seats → nodes p + nodes p < i
-        → ((g : Whole) (ws : List ℕ) → IsSound p → me.0.lead ≡ g.lead → Activations p g ws → Activations p (with_lead g y) (set ws i x)) → lead_drawn me.0.lead ≤ lead_drawn y
-        → ((found : ℕ) → after found ≡ view_lead me.0 y t)
-        → Allows (Holds p) slots id me i (λ _. x) (λ _. Turns after me x)
-    store_lead_allowed slots id i x me y t after number later goes more is_after s r _ at fits =
-        let g = r.whole in let sound = r.seated.sound in
-        let is = lead_is p s r id me.0 at number in
-        let least : lead_drawn g.lead ≤ lead_drawn y = subst (λ (l : LeadView). lead_drawn l ≤ lead_drawn y) is more in (
-          view_lead me.0 y t,
-          keeps,
-          tt,
-          holds_lead p s r id i x me.0 me.1 y t at number (omega arith) least (goes g s.words sound is r.activations),
-          (sym (is_after x), refl),
-        )
-
-    -- a status word is loaded
-    pub look_allowed : (slots id i : ℕ) (me : Me S View) (t : ℕ → Trail) (after : ℕ → View) → ((found : ℕ) → after found ≡ view_trail me.0 (t found)) → Allows (Holds p) slots id me i (λ n. n) (Turns after me)
-    look_allowed slots id i me t after is_after s r _ at fits = let found : ℕ = get_or s.words i 0 in (view_trail me.0 (t found), keeps, tt, remembers p s r id i me (t found) at, (sym (is_after found), refl))
-
     -- the driver's node ends its work
-    pub finish_lead_allowed : (slots id : ℕ) (me : Me S View) (t : Trail) (after : ℕ → View) → me.0.number ≡ p.seats → me.0.lead.drive ≡ drives.Running → ((found : ℕ) → after found ≡ view_lead me.0 (record me.0.lead { drive = drives.Done }) t)
+    pub finish_lead_allowed : (slots id : ℕ) (me : Me S View) (t : Trail) (after : ℕ → View) → me.0.number ≡ p.seats → t.looks ≡ me.0.trail.looks → me.0.lead.drive ≡ drives.Running → ((found : ℕ) → after found ≡ view_lead me.0 (record me.0.lead { drive = drives.Done }) t)
         → Allows (Holds p) slots id me (status_place p.shape p.driver) (λ _. status_word_of 3 me.0.lead.cycle) (λ _. Turns after me (status_word_of 3 me.0.lead.cycle))
-    finish_lead_allowed slots id me t after number phase is_after s r _ at fits =
+    finish_lead_allowed slots id me t after number looks phase is_after s r _ at fits =
         let g = r.whole in let a = r.activations in let sound = r.seated.sound in let wide = r.seated.wide in let hm = sound.driver_in in
         let is = lead_is p s r id me.0 at number in
         let drive : g.lead.drive ≡ drives.Running = ap (λ (l : LeadView). l.drive) (sym is) ∙ phase in
@@ -240,15 +186,15 @@ module _ (p : Lay) where
           keeps,
           tt,
           subst (λ (l : LeadView). Holds p (stepped s (status_place p.shape p.driver) (status_word_of 3 l.cycle) id me.1 (view_lead me.0 (record l { drive = drives.Done }) t) keeps)) (sym is)
-              (holds_lead p s r id (status_place p.shape p.driver) (status_word_of 3 c) me.0 me.1 (lead_to g drives.Done g.lead) t at number (omega arith) (omega arith)
+              (holds_lead p s r id (status_place p.shape p.driver) (status_word_of 3 c) me.0 me.1 (lead_to g drives.Done g.lead) t at number looks (omega arith) (omega arith) (omega arith) (quiet_drive g.lead drives.Running drives.Done drive record { started = refl; finished = refl; holds = λ _. refl; tells = λ _ _. refl; sees = λ _. refl; begun = refl; ending = refl; checking = refl })
               (active_lead p g s.words ws drives.Done g.lead tt (λ z. true≢false (sym z)) (a.within (runs_within g.lead.drive runs_on)) done a)),
           (sym (is_after (status_word_of 3 me.0.lead.cycle)), refl),
         )
 
-    pub claim_lead_allowed : (slots id : ℕ) (me : Me S View) (after : ℕ → View) (t : Trail) (seen : ℕ → Trail) → me.0.number ≡ p.seats → me.0.lead.drive ≡ drives.Waiting
+    pub claim_lead_allowed : (slots id : ℕ) (me : Me S View) (after : ℕ → View) (t : Trail) (seen : ℕ → Trail) → me.0.number ≡ p.seats → t.looks ≡ me.0.trail.looks → ((found : ℕ) → (seen found).looks ≡ me.0.trail.looks) → me.0.lead.drive ≡ drives.Waiting
         → (after (status_word_of 1 me.0.lead.cycle) ≡ view_lead me.0 (record me.0.lead { drive = drives.Awake }) t) → ((found : ℕ) → found ≢ status_word_of 1 me.0.lead.cycle → after found ≡ view_trail me.0 (seen found))
         → Allows (Holds p) slots id me (status_place p.shape p.driver) (λ w. either (eqb w (status_word_of 1 me.0.lead.cycle)) (status_word_of 2 me.0.lead.cycle) w) (Turns after me)
-    claim_lead_allowed slots id me after t seen number phase hit miss s r _ at fits =
+    claim_lead_allowed slots id me after t seen number looks looks_on phase hit miss s r _ at fits =
         let g = r.whole in let a = r.activations in let sound = r.seated.sound in let wide = r.seated.wide in let hm = sound.driver_in in
         let is = lead_is p s r id me.0 at number in
         let drive : g.lead.drive ≡ drives.Waiting = ap (λ (l : LeadView). l.drive) (sym is) ∙ phase in
@@ -270,13 +216,13 @@ module _ (p : Lay) where
           tt,
           subst (λ b. Holds p (stepped s (status_place p.shape p.driver) (either b (status_word_of 2 me.0.lead.cycle) found) id me.1 (view_lead me.0 (record me.0.lead { drive = drives.Awake }) t) keeps)) (sym (eq-eqb found (status_word_of 1 me.0.lead.cycle) e))
               (subst (λ (l : LeadView). Holds p (stepped s (status_place p.shape p.driver) (status_word_of 2 l.cycle) id me.1 (view_lead me.0 (record l { drive = drives.Awake }) t) keeps)) (sym is)
-              (holds_lead p s r id (status_place p.shape p.driver) (status_word_of 2 c) me.0 me.1 (lead_to g drives.Awake g.lead) t at number (omega arith) (omega arith) (active_lead p g s.words ws drives.Awake g.lead tt (λ z. true≢false (sym z)) (a.within (runs_within g.lead.drive runs_on)) woken a))),
+              (holds_lead p s r id (status_place p.shape p.driver) (status_word_of 2 c) me.0 me.1 (lead_to g drives.Awake g.lead) t at number looks (omega arith) (omega arith) (omega arith) (quiet_drive g.lead drives.Waiting drives.Awake drive record { started = refl; finished = refl; holds = λ _. refl; tells = λ _ _. refl; sees = λ _. refl; begun = refl; ending = refl; checking = refl }) (active_lead p g s.words ws drives.Awake g.lead tt (λ z. true≢false (sym z)) (a.within (runs_within g.lead.drive runs_on)) woken a))),
           (sym (ap after e ∙ hit), refl),
         ))
         (λ e. (
           view_trail me.0 (seen found),
           keeps,
           tt,
-          subst (λ b. Holds p (stepped s (status_place p.shape p.driver) (either b (status_word_of 2 me.0.lead.cycle) found) id me.1 (view_trail me.0 (seen found)) keeps)) (sym (ne_eqb found (status_word_of 1 me.0.lead.cycle) e)) (remembers p s r id (status_place p.shape p.driver) me (seen found) at),
+          subst (λ b. Holds p (stepped s (status_place p.shape p.driver) (either b (status_word_of 2 me.0.lead.cycle) found) id me.1 (view_trail me.0 (seen found)) keeps)) (sym (ne_eqb found (status_word_of 1 me.0.lead.cycle) e)) (remembers p s r id (status_place p.shape p.driver) me (seen found) at (looks_on found)),
           (sym (miss found e), refl),
         ))

@@ -1,15 +1,29 @@
 -- The tickets and events of the driver's seat, phase by phase.
-use Rattle.std.proofs.Common.{◌≡◌, ℕ, suc, ◌+◌, ◌*◌, ◌<◌, ◌≤◌, Bool, true, false, cond, List, set, refl, sym, ap, ◌∙◌, subst, arith}
+use Rattle.std.proofs.Common.{◌≡◌, ℕ, suc, ◌+◌, ◌-◌, ◌*◌, ◌<◌, ◌≤◌, Bool, true, false, true≢false, cond, eqb, List, [], ◌∷◌, ◌++◌, map, length, set, get_or, refl, sym, ap, ◌∙◌, subst, arith}
 use Rattle.board_rule.specs.declared.view.Drive.{Drive}
 use Rattle.board_rule.specs.declared.view.Drive.TheVariants as drives
 use Rattle.board_rule.specs.declared.view.LeadView.{LeadView}
-use Rattle.board_rule.specs.Layout.{Lay, IsSound, last}
-use Rattle.board_rule.specs.Phases.{drive_drawn, is_between}
+use Rattle.board_rule.specs.Layout.{Lay, IsSound, first, last}
+use Rattle.board_rule.specs.Phases.{drive_drawn, drive_stage, is_between, is_resetting}
 use Rattle.board_rule.specs.View.{Whole, with_lead}
+use Rattle.std.specs.Prelude.{slice_get, Contains}
+use Rattle.pw_base.specs.declared.event.Event.{Event}
+use Rattle.pw_base.specs.declared.event.Event.TheVariants.{Begin, Start, Finish, Tick, End}
+use Rattle.pw_base.specs.EventWords.{event_word_of}
+use Rattle.pw_base.specs.Layout.{event_count, event_place, late_place}
+use Rattle.board_rule.specs.declared.view.Found.{Found}
+use Rattle.board_rule.specs.declared.view.Trail.{Trail}
+use Rattle.board_rule.specs.Marks.{phase_started, phase_finished, drive_started, drive_finished, drive_tells}
 use Rattle.board_rule.specs.ActivationRule.{Activations}
-use Rattle.board_rule.specs.EventRule.{lead_drawn}
-use Rattle.board_rule.specs.EventSteps.{CanDrawLead, lead_draws, CanStoreLead, lead_stores}
+use Rattle.board_rule.specs.EventRule.{Events, so_far, marks, lead_drawn}
+use Rattle.board_rule.specs.EventSteps.{CanDrawLead, lead_draws, draw_trail, CanStoreLead, lead_stores, held_lead, lead_tells, late_of}
 use Rattle.board_rule.proofs.WorkLemmas.{IsOther, ticket_is_other}
+use Rattle.board_rule.proofs.DrawLemmas.{first_in, only_in, none_in}
+use Rattle.board_rule.proofs.LateLemmas.{told_late}
+use Rattle.board_rule.proofs.MarkLemmas.{lead_here}
+use Rattle.board_rule.proofs.DriverLemmas.{stage_driver}
+use Rattle.board_rule.proofs.FrameLemmas.{events_begin, events_end, events_tick, events_lead_start, events_lead_finish}
+use Rattle.board_rule.proofs.CheckLemmas.{events_lead_stored, events_late, events_ended}
 use Rattle.board_rule.proofs.CycleLemmas.{AlikeDrives, active_alike, active_begin, active_reset, active_end}
 
 tick_drawn : AlikeDrives drives.Waiting drives.Checking
@@ -135,3 +149,133 @@ module _ (p : Lay) (g : Whole) (ws : List ℕ) (l : LeadView) (is : l ≡ g.lead
 
 pub late_more : (l : LeadView) → l.drive ≡ drives.Checking → lead_drawn l ≤ lead_drawn (record l { drive = drives.LateStored })
 late_more l e = let s = same l drives.Checking e in omega arith
+
+-- the events so far, after a ticket of the driver's seat, and after an event that it stores
+module _ (p : Lay) (g : Whole) (ws : List ℕ) (l : LeadView) (fs : List Found) (is : l ≡ g.lead) (looks : fs ≡ g.looks) (sound : IsSound p) (a : Activations p g ws) (e : Events p g ws) where
+  at_lead : (d : Drive) → l.drive ≡ d → g.lead.drive ≡ d
+  at_lead d q = ap (λ (z : LeadView). z.drive) (sym is) ∙ q
+
+  module _ (wide : 0 < length ws) (room : suc (get_or ws 0 0) ≤ event_count p.shape) where
+    abbrev t : ℕ
+    t = get_or ws 0 0
+
+    abbrev Drawn : Drive → List Found → Type 0
+    Drawn d looks = (inside : List Event) × Events p (record (with_lead g (lead_draws l t d)) { inside = inside; looks = looks }) (set ws 0 (suc t))
+
+    pub draws_logs : (tr : Trail) (d : Drive) → tr.looks ≡ fs → l.drive ≡ d → CanDrawLead l.checked d → Drawn d (draw_trail tr d).looks
+    draws_logs tr drives.Between same q can = (
+      g.inside,
+      subst (λ (z : LeadView × List Found). Events p (record (with_lead g (lead_draws z.0 t drives.Between)) { inside = g.inside; looks = z.1 }) (set ws 0 (suc t))) (λ i. (sym is i, sym (same ∙ looks) i))
+          (events_begin p g ws sound a e wide room (at_lead drives.Between q) (draws_more g.lead drives.Between t (at_lead drives.Between q) tt)),
+    )
+    draws_logs tr drives.BeginDrawn same q can = absurd can
+    draws_logs tr (drives.Reset j) same q can = absurd can
+    draws_logs tr (drives.Half j) same q can = absurd can
+    draws_logs tr (drives.Kick j o) same q can = absurd can
+    draws_logs tr drives.Waiting same q can = let c : g.lead.checked ≡ false = ap (λ (z : LeadView). z.checked) (sym is) ∙ can in (
+      g.inside ++ Tick g.lead.cycle g.late ∷ [],
+      subst (λ (z : LeadView). Events p (record (with_lead g (lead_draws z t drives.Waiting)) { inside = g.inside ++ Tick g.lead.cycle g.late ∷ []; looks = [] }) (set ws 0 (suc t))) (sym is)
+          (events_tick p g ws sound a e wide room (at_lead drives.Waiting q) c (draws_more g.lead drives.Waiting t (at_lead drives.Waiting q) c)),
+    )
+    draws_logs tr drives.Checking same q can = absurd can
+    draws_logs tr drives.LateStored same q can = absurd can
+    draws_logs tr drives.Awake same q can = let w = at_lead drives.Awake q in let inside : List Event = g.inside ++ Start g.lead.cycle (p.number p.driver) ∷ [] in (
+      inside,
+      subst (λ (z : LeadView × List Found). Events p (record (with_lead g (lead_draws z.0 t drives.Awake)) { inside = inside; looks = z.1 }) (set ws 0 (suc t))) (λ i. (sym is i, sym (same ∙ looks) i))
+          (events_lead_start p g ws sound a e wide room w (λ z. true≢false (sym z ∙ ap is_resetting w)) (stage_driver p g ∙ ap drive_stage w) (draws_more g.lead drives.Awake t w tt)),
+    )
+    draws_logs tr drives.StartDrawn same q can = absurd can
+    draws_logs tr drives.Running same q can = absurd can
+    draws_logs tr drives.Done same q can = let w = at_lead drives.Done q in let inside : List Event = g.inside ++ Finish g.lead.cycle (p.number p.driver) ∷ [] in (
+      inside,
+      subst (λ (z : LeadView × List Found). Events p (record (with_lead g (lead_draws z.0 t drives.Done)) { inside = inside; looks = z.1 }) (set ws 0 (suc t))) (λ i. (sym is i, sym (same ∙ looks) i))
+          (events_lead_finish p g ws sound a e wide room w (draws_more g.lead drives.Done t w tt)),
+    )
+    draws_logs tr drives.FinishDrawn same q can = absurd can
+    draws_logs tr drives.FinishStored same q can = (
+      g.inside,
+      subst (λ (z : LeadView × List Found). Events p (record (with_lead g (lead_draws z.0 t drives.FinishStored)) { inside = g.inside; looks = z.1 }) (set ws 0 (suc t))) (λ i. (sym is i, sym (same ∙ looks) i))
+          (events_end p g ws sound a e wide room (at_lead drives.FinishStored q) (draws_more g.lead drives.FinishStored t (at_lead drives.FinishStored q) tt)),
+    )
+    draws_logs tr drives.EndDrawn same q can = absurd can
+
+  abbrev Stored : Drive → ℕ → Event → Type 0
+  Stored d k x = (past inside : List Event) × (late : ℕ) × Events p (record (with_lead g (lead_stores l d)) { past = past; inside = inside; late = late; looks = g.looks }) (set ws (event_place p.shape k) (event_word_of x))
+
+  only_own : (i j : ℕ) → Contains (i ∷ []) j → j ≡ i
+  only_own i j h = sym (only_in i j h)
+
+  none_own : (i j : ℕ) → Contains {X = ℕ} [] j → j ≡ i
+  none_own i j h = absurd (none_in j h)
+
+  only_told : (i j : ℕ) (x y : Event) → Contains {X = ℕ × Event} ((i, x) ∷ []) (j, y) → j ≡ i
+  only_told i j x y h = sym (ap (λ (z : ℕ × Event). z.0) (only_in (i, x) (j, y) h))
+
+  none_told : (i j : ℕ) (y : Event) → Contains {X = ℕ × Event} [] (j, y) → j ≡ i
+  none_told i j y h = absurd (none_in (j, y) h)
+
+  module _ (long : event_place p.shape (event_count p.shape) ≤ length ws) where
+    pub stores_logs : (d : Drive) → l.drive ≡ d → CanStoreLead d → held_lead l d < event_count p.shape → l.cycle < last p → Stored d (held_lead l d) (lead_tells l (p.number p.driver) d)
+    stores_logs drives.Between q can near within = absurd can
+    stores_logs drives.BeginDrawn q can near within = let w = at_lead drives.BeginDrawn q in (
+      g.past,
+      g.inside,
+      g.late,
+      subst (λ (z : LeadView). z.ticket < event_count p.shape → Events p (record (with_lead g (lead_stores z drives.BeginDrawn)) { looks = g.looks }) (set ws (event_place p.shape z.ticket) (event_word_of (Begin z.cycle)))) (sym is)
+          (λ near. events_lead_stored p g ws sound a e drives.BeginDrawn (drives.Reset 0) g.lead.ticket (Begin g.lead.cycle) w (omega arith)
+          (e.tickets.told_kept g.lead.ticket (Begin g.lead.cycle) (subst (λ ks. Contains ks (g.lead.ticket, Begin g.lead.cycle)) (sym (ap (drive_tells g.lead g.late) w)) (first_in (g.lead.ticket, Begin g.lead.cycle)))).1
+          refl refl refl refl refl refl refl refl (none_own g.lead.ticket) (λ j y h. only_told g.lead.ticket j (Begin g.lead.cycle) y h) refl (stores_more g.lead drives.BeginDrawn w tt)) near,
+    )
+    stores_logs (drives.Reset j) q can near within = absurd can
+    stores_logs (drives.Half j) q can near within = absurd can
+    stores_logs (drives.Kick j o) q can near within = absurd can
+    stores_logs drives.Waiting q can near within = absurd can
+    stores_logs drives.Checking q can near within = absurd can
+    stores_logs drives.LateStored q can near within = let w = at_lead drives.LateStored q in (
+      g.past,
+      g.inside,
+      g.late,
+      subst (λ (z : LeadView). z.ticket < event_count p.shape → Events p (record (with_lead g (lead_stores z drives.LateStored)) { looks = g.looks }) (set ws (event_place p.shape z.ticket) (event_word_of (Tick z.cycle 0)))) (sym is)
+          (λ near. events_lead_stored p g ws sound a e drives.LateStored drives.Waiting g.lead.ticket (Tick g.lead.cycle g.late) w (omega arith)
+          (e.tickets.told_kept g.lead.ticket (Tick g.lead.cycle g.late) (subst (λ ks. Contains ks (g.lead.ticket, Tick g.lead.cycle g.late)) (sym (ap (drive_tells g.lead g.late) w)) (first_in (g.lead.ticket, Tick g.lead.cycle g.late)))).1
+          refl refl refl refl refl refl refl refl (none_own g.lead.ticket) (λ j y h. only_told g.lead.ticket j (Tick g.lead.cycle g.late) y h) refl (stores_more g.lead drives.LateStored w tt)) near,
+    )
+    stores_logs drives.Awake q can near within = absurd can
+    stores_logs drives.StartDrawn q can near within = let w = at_lead drives.StartDrawn q in (
+      g.past,
+      g.inside,
+      g.late,
+      subst (λ (z : LeadView). z.start < event_count p.shape → Events p (record (with_lead g (lead_stores z drives.StartDrawn)) { looks = g.looks }) (set ws (event_place p.shape z.start) (event_word_of (Start z.cycle (p.number p.driver))))) (sym is)
+          (λ near. events_lead_stored p g ws sound a e drives.StartDrawn drives.Running g.lead.start (Start g.lead.cycle (p.number p.driver)) w (omega arith)
+          (ap (slice_get (g.past ++ so_far (marks p g) g.lead.cycle g.inside)) (sym (lead_here p g g.lead.start (λ z. z.start))) ∙ (e.tickets.starts_kept p.driver sound.driver_in (lead_here p g (drive_started g.lead.drive) (λ z. cond (eqb z.next g.lead.cycle) (phase_started z.phase) 1) ∙ ap drive_started w)).1)
+          refl refl refl refl refl refl refl refl (only_own g.lead.start) (λ j y h. none_told g.lead.start j y h) refl (stores_more g.lead drives.StartDrawn w tt)) near,
+    )
+    stores_logs drives.Running q can near within = absurd can
+    stores_logs drives.Done q can near within = absurd can
+    stores_logs drives.FinishDrawn q can near within = let w = at_lead drives.FinishDrawn q in (
+      g.past,
+      g.inside,
+      g.late,
+      subst (λ (z : LeadView). z.finish < event_count p.shape → Events p (record (with_lead g (lead_stores z drives.FinishDrawn)) { looks = g.looks }) (set ws (event_place p.shape z.finish) (event_word_of (Finish z.cycle (p.number p.driver))))) (sym is)
+          (λ near. events_lead_stored p g ws sound a e drives.FinishDrawn drives.FinishStored g.lead.finish (Finish g.lead.cycle (p.number p.driver)) w (omega arith)
+          (ap (slice_get (g.past ++ so_far (marks p g) g.lead.cycle g.inside)) (sym (lead_here p g g.lead.finish (λ z. z.finish))) ∙ (e.tickets.finishes_kept p.driver sound.driver_in (lead_here p g (drive_finished g.lead.drive) (λ z. cond (eqb z.next g.lead.cycle) (phase_finished z.phase) 1) ∙ ap drive_finished w)).1)
+          refl refl refl refl refl refl refl refl (only_own g.lead.finish) (λ j y h. none_told g.lead.finish j y h) refl (stores_more g.lead drives.FinishDrawn w tt)) near,
+    )
+    stores_logs drives.FinishStored q can near within = absurd can
+    stores_logs drives.EndDrawn q can near within = let w = at_lead drives.EndDrawn q in (
+      g.past ++ so_far (marks p g) g.lead.cycle g.inside,
+      [],
+      0,
+      subst (λ (z : LeadView). z.ticket < event_count p.shape → z.cycle < last p → Events p (record (with_lead g (lead_stores z drives.EndDrawn)) { past = g.past ++ so_far (marks p g) g.lead.cycle g.inside; inside = []; late = 0; looks = g.looks }) (set ws (event_place p.shape z.ticket) (event_word_of (End z.cycle)))) (sym is)
+          (λ near within. events_ended p g ws sound a e g.lead.ticket w refl within (omega arith) (stores_more g.lead drives.EndDrawn w tt)) near within,
+    )
+
+    pub late_logs : (x : ℕ) → l.drive ≡ drives.Checking → l.cycle < last p → x ≡ late_of l.cycle fs
+        → (past inside : List Event) × (late : ℕ) × Events p (record (with_lead g (record l { drive = drives.LateStored })) { past = past; inside = inside; late = late; looks = g.looks }) (set ws (late_place p.shape (l.cycle - first p)) x)
+    late_logs x q within bits = let w = at_lead drives.Checking q in let low = a.later in (
+      g.past,
+      map (told_late x) g.inside,
+      x,
+      subst (λ (z : LeadView). z.cycle < last p → x ≡ late_of z.cycle fs → Events p (record (with_lead g (record z { drive = drives.LateStored })) { inside = map (told_late x) g.inside; late = x; looks = g.looks }) (set ws (late_place p.shape (z.cycle - first p)) x)) (sym is)
+          (λ within bits. events_late p g ws sound a e x w within (omega arith) (bits ∙ ap (late_of g.lead.cycle) looks) (let m = late_more g.lead w in m)) within bits,
+    )

@@ -22,7 +22,8 @@ use Rattle.board_rule.specs.Plays.{Turns}
 use Rattle.board_rule.proofs.RunLemmas.{Sums, Elsewhere, positive, lowers, triggers}
 use Rattle.board_rule.proofs.PhaseLemmas.{owed_is}
 use Rattle.board_rule.proofs.SeatLemmas.{lead_step}
-use Rattle.board_rule.proofs.TicketLemmas.{events_lead, first_stays}
+use Rattle.board_rule.proofs.MarkLemmas.{QuietDrives, QuietLead, quiet_drive}
+use Rattle.board_rule.proofs.TicketLemmas.{events_lead}
 use Rattle.board_rule.proofs.FollowerLemmas.{rest_at, owing_at, stage_at, words_run, run_words}
 
 -- the driver's seat in another phase of the same cycle
@@ -124,25 +125,33 @@ module _ (p : Lay) where
       by true = refl
       by false = refl
 
+  kicked_quiet_by : (j i : ℕ) (o b : Bool) → QuietDrives (drives.Kick j o) (cond b drives.Waiting (drives.Kick i false))
+  kicked_quiet_by j i o true = record { started = refl; finished = refl; holds = λ _. refl; tells = λ _ _. refl; sees = λ _. refl; begun = refl; ending = refl; checking = refl }
+  kicked_quiet_by j i o false = record { started = refl; finished = refl; holds = λ _. refl; tells = λ _ _. refl; sees = λ _. refl; begun = refl; ending = refl; checking = refl }
+
+  kicked_quiet : (j n i : ℕ) (o owes : Bool) → QuietDrives (drives.Kick j o) (kicked n i owes)
+  kicked_quiet j n i o true = record { started = refl; finished = refl; holds = λ _. refl; tells = λ _ _. refl; sees = λ _. refl; begun = refl; ending = refl; checking = refl }
+  kicked_quiet j n i o false = kicked_quiet_by j i o (eqb i n)
+
   module _ {S : Type 0} where
     -- what the driver's view tells of the whole
     pub lead_is : (s : State S View) (r : Holds p s) (id : ℕ) (v : View) → get_elem? s.views id ≡ some v → v.number ≡ p.seats → v.lead ≡ r.whole.lead
     lead_is s r id v at number = ((r.seated.knows id v at).leads number).0
 
     -- a step of the driver's seat, on the word i: what each part of the rule has to show
-    pub holds_lead : (s : State S View) (r : Holds p s) (id i n : ℕ) (v : View) (carry : List (ℕ × S)) (x : LeadView) (t : Trail) → get_elem? s.views id ≡ some v → v.number ≡ p.seats → 0 < i → lead_drawn r.whole.lead ≤ lead_drawn x
+    pub holds_lead : (s : State S View) (r : Holds p s) (id i n : ℕ) (v : View) (carry : List (ℕ × S)) (x : LeadView) (t : Trail) → get_elem? s.views id ≡ some v → v.number ≡ p.seats → t.looks ≡ v.trail.looks → 0 < i → i ≤ nodes p + nodes p → lead_drawn r.whole.lead ≤ lead_drawn x → QuietLead r.whole.lead x
         → Activations p (with_lead r.whole x) (set s.words i n) → Holds p (stepped s i n id carry (view_lead v x t) keeps)
-    holds_lead s r id i n v carry x t at number part quiet active = record {
+    holds_lead s r id i n v carry x t at number looks low high more quiet active = record {
       whole = with_lead r.whole x;
-      seated = lead_step p r.whole s.words (set s.words i n) s.views id v x t at (length-set s.words i n) number r.seated;
+      seated = lead_step p r.whole s.words (set s.words i n) s.views id v x t r.whole.looks at (length-set s.words i n) number (looks ∙ ((r.seated.knows id v at).leads number).2) r.seated;
       activations = active;
-      events = events_lead p r.whole s.words (set s.words i n) x quiet (first_stays s.words i n part) r.events;
+      events = events_lead p r.whole s.words i n x more quiet low high r.events;
     }
 
-    pub kick_allowed : (slots id i n : ℕ) (me : Me S View) (t : ℕ → Trail) (after : ℕ → View) → me.0.number ≡ p.seats → me.0.lead.drive ≡ drives.Kick i false → i < length (p.targets p.driver) → get_or (p.targets p.driver) i 0 ≡ n
+    pub kick_allowed : (slots id i n : ℕ) (me : Me S View) (t : ℕ → Trail) (after : ℕ → View) → me.0.number ≡ p.seats → ((found : ℕ) → (t found).looks ≡ me.0.trail.looks) → me.0.lead.drive ≡ drives.Kick i false → i < length (p.targets p.driver) → get_or (p.targets p.driver) i 0 ≡ n
         → ((found : ℕ) → after found ≡ view_lead me.0 (record me.0.lead { drive = kicked (length (p.targets p.driver)) (i + 1) (eqb found 1) }) (t found))
         → Allows (Holds p) slots id me (pending_place p.shape n) (λ w. (w + (2 ^ 64 - 1)) % 2 ^ 64) (Turns after me)
-    kick_allowed slots id i n me t after number phase near target is_after s r _ at fits =
+    kick_allowed slots id i n me t after number looks phase near target is_after s r _ at fits =
         let g = r.whole in let a = r.activations in let sound = r.seated.sound in let wide = r.seated.wide in let m = p.driver in let hm = sound.driver_in in
         let is = lead_is s r id me.0 at number in
         let drive : g.lead.drive ≡ drives.Kick i false = ap (λ (l : LeadView). l.drive) (sym is) ∙ phase in
@@ -173,15 +182,15 @@ module _ (p : Lay) where
           keeps,
           tt,
           subst (λ (k : ℕ × LeadView × ℕ). Holds p (stepped s (pending_place p.shape n) k.0 id me.1 (view_lead me.0 (record k.1 { drive = kicked (length ts) k.2 (eqb found 1) }) (t found)) keeps)) (λ j. (sym word j, sym is j, sym one j))
-              (holds_lead s r id (pending_place p.shape n) (found - 1) me.0 me.1 (lead_to g new g.lead) (t found) at number (omega arith) (omega arith)
+              (holds_lead s r id (pending_place p.shape n) (found - 1) me.0 me.1 (lead_to g new g.lead) (t found) at number (looks found) (omega arith) (omega arith) (omega arith) (quiet_drive g.lead (drives.Kick i false) new drive (kicked_quiet i (length ts) (suc i) false (eqb found 1)))
               (active_lead g s.words (set s.words (pending_place p.shape n) (found - 1)) new g.lead (kicked_ok (suc i) (eqb found 1) (omega arith) (omega arith)) (kicked_runs (length ts) (suc i) (eqb found 1)) (a.within (runs_within g.lead.drive runs_on)) lowered a)),
           (sym (is_after found), refl),
         )
 
-    pub kick_trigger_allowed : (slots id i n : ℕ) (me : Me S View) (t : Trail) (after : ℕ → View) → me.0.number ≡ p.seats → me.0.lead.drive ≡ drives.Kick (suc i) true → get_or (p.targets p.driver) i 0 ≡ n
+    pub kick_trigger_allowed : (slots id i n : ℕ) (me : Me S View) (t : Trail) (after : ℕ → View) → me.0.number ≡ p.seats → t.looks ≡ me.0.trail.looks → me.0.lead.drive ≡ drives.Kick (suc i) true → get_or (p.targets p.driver) i 0 ≡ n
         → ((found : ℕ) → after found ≡ view_lead me.0 (record me.0.lead { drive = kicked (length (p.targets p.driver)) (suc i) false }) t)
         → Allows (Holds p) slots id me (status_place p.shape n) (λ _. status_word_of 1 me.0.lead.cycle) (λ _. Turns after me (status_word_of 1 me.0.lead.cycle))
-    kick_trigger_allowed slots id i n me t after number phase target is_after s r _ at fits =
+    kick_trigger_allowed slots id i n me t after number looks phase target is_after s r _ at fits =
         let g = r.whole in let a = r.activations in let sound = r.seated.sound in let wide = r.seated.wide in let m = p.driver in let hm = sound.driver_in in
         let is = lead_is s r id me.0 at number in
         let drive : g.lead.drive ≡ drives.Kick (suc i) true = ap (λ (l : LeadView). l.drive) (sym is) ∙ phase in
@@ -206,7 +215,7 @@ module _ (p : Lay) where
           keeps,
           tt,
           subst (λ (l : LeadView). Holds p (stepped s (status_place p.shape n) (status_word_of 1 l.cycle) id me.1 (view_lead me.0 (record l { drive = new }) t) keeps)) (sym is)
-              (holds_lead s r id (status_place p.shape n) (status_word_of 1 c) me.0 me.1 (lead_to g new g.lead) t at number (omega arith) (omega arith)
+              (holds_lead s r id (status_place p.shape n) (status_word_of 1 c) me.0 me.1 (lead_to g new g.lead) t at number looks (omega arith) (omega arith) (omega arith) (quiet_drive g.lead (drives.Kick (suc i) true) new drive (kicked_quiet (suc i) (length ts) (suc i) true false))
               (active_lead g s.words (set s.words (status_place p.shape n) (status_word_of 1 c)) new g.lead (kicked_ok (suc i) false (omega arith) (omega arith)) (kicked_runs (length ts) (suc i) false) (a.within (runs_within g.lead.drive runs_on)) triggered a)),
           (sym (is_after (status_word_of 1 me.0.lead.cycle)), refl),
         )

@@ -25,8 +25,9 @@ use Rattle.board_rule.specs.Steps.{Has, settled}
 use Rattle.board_rule.specs.Plays.{Turns}
 use Rattle.board_rule.proofs.RunLemmas.{Sums, Elsewhere, positive, lowers, triggers}
 use Rattle.board_rule.proofs.LeftLemmas.{to_sums, from_sums}
-use Rattle.board_rule.proofs.PhaseLemmas.{settled_rest, settled_owing, settled_stage, settled_ok, settled_drawn, owed_is}
-use Rattle.board_rule.proofs.TicketLemmas.{events_node, first_stays}
+use Rattle.board_rule.proofs.PhaseLemmas.{settled_rest, settled_owing, settled_stage, settled_ok, settled_drawn, settled_quiet, owed_is}
+use Rattle.board_rule.proofs.MarkLemmas.{QuietNode}
+use Rattle.board_rule.proofs.TicketLemmas.{events_node}
 use Rattle.board_rule.proofs.SeatLemmas.{put_here, put_else, node_step}
 
 module _ (p : Lay) where
@@ -116,13 +117,13 @@ module _ (p : Lay) where
     same_node s r id m v at h = some-injective _ _ (sym ((r.seated.knows id v at).owns m h.inside h.follows h.owned) ∙ h.knows)
 
     -- a step of the follower m to the phase y, on the word i: what each part of the rule has to show
-    pub holds_node : (s : State S View) (r : Holds p s) (id m i n : ℕ) (v : View) (carry : List (ℕ × S)) (y : NodeView) (t : Trail) → get_elem? s.views id ≡ some v → Has p v m → 0 < i
-        → node_drawn (node_of v m) ≤ node_drawn y → Activations p (with_node r.whole m y) (set s.words i n) → Holds p (stepped s i n id carry (view_node v m y t) keeps)
-    holds_node s r id m i n v carry y t at h part quiet active = record {
+    pub holds_node : (s : State S View) (r : Holds p s) (id m i n : ℕ) (v : View) (carry : List (ℕ × S)) (y : NodeView) (t : Trail) → get_elem? s.views id ≡ some v → Has p v m → 0 < i → i ≤ nodes p + nodes p
+        → node_drawn (node_of v m) ≤ node_drawn y → QuietNode r.whole.lead.cycle (node_of v m) y → Activations p (with_node r.whole m y) (set s.words i n) → Holds p (stepped s i n id carry (view_node v m y t) keeps)
+    holds_node s r id m i n v carry y t at h low high more quiet active = record {
       whole = with_node r.whole m y;
       seated = node_step p r.whole s.words (set s.words i n) s.views id m v y t at (length-set s.words i n) h.loops h.inside h.follows h.owned r.seated;
       activations = active;
-      events = events_node p r.whole s.words (set s.words i n) m (node_of v m) y h.inside h.follows (same_node s r id m v at h) quiet (first_stays s.words i n part) r.events;
+      events = events_node p r.whole s.words i n m (node_of v m) y h.inside h.follows (same_node s r id m v at h) more quiet low high r.events;
     }
 
     pub lower_allowed : (slots id m i n : ℕ) (me : Me S View) (t : ℕ → Trail) (after : ℕ → View) → Has p me.0 m → (node_of me.0 m).phase ≡ Telling i false → i < length (p.targets m) → get_or (p.targets m) i 0 ≡ n
@@ -162,7 +163,7 @@ module _ (p : Lay) where
           keeps,
           tt,
           subst (λ (k : ℕ × ℕ). Holds p (stepped s (pending_place p.shape n) k.0 id me.1 (view_node me.0 m (settled (length ts) x k.1 (eqb found 1)) (t found)) keeps)) (λ j. (sym word j, sym one j))
-              (holds_node s r id m (pending_place p.shape n) (found - 1) me.0 me.1 new (t found) at h (omega arith) (omega arith)
+              (holds_node s r id m (pending_place p.shape n) (found - 1) me.0 me.1 new (t found) at h (omega arith) (omega arith) (omega arith) (settled_quiet c x (suc i) i false now phase (length ts) (eqb found 1))
               (active_node g s.words (set s.words (pending_place p.shape n) (found - 1)) m new h.follows runs_on (settled_ok ts c x (suc i) now (length ts) (eqb found 1) (omega arith) (omega arith)) lowered a)),
           (sym (is_after found), refl),
         )
@@ -201,7 +202,7 @@ module _ (p : Lay) where
           keeps,
           tt,
           subst (λ k. Holds p (stepped s (status_place p.shape n) (status_word_of 1 k) id me.1 (view_node me.0 m new t) keeps)) (sym now)
-              (holds_node s r id m (status_place p.shape n) (status_word_of 1 c) me.0 me.1 new t at h (omega arith) (omega arith)
+              (holds_node s r id m (status_place p.shape n) (status_word_of 1 c) me.0 me.1 new t at h (omega arith) (omega arith) (omega arith) (settled_quiet c x (suc i) (suc i) true now phase (length ts) false)
               (active_node g s.words (set s.words (status_place p.shape n) (status_word_of 1 c)) m new h.follows runs_on (settled_ok ts c x (suc i) now (length ts) false (omega arith) (omega arith)) triggered a)),
           (sym (is_after (status_word_of 1 x.next)), refl),
         )

@@ -1,5 +1,5 @@
 -- The words that a board begins with: how many there are at least, and what those of the activation records hold.
-use Rattle.std.proofs.Common.{◌≡◌, ℕ, suc, ◌+◌, ◌-◌, ◌<◌, ◌≤◌, Bool, true, false, true≢false, cond, List, [], ◌∷◌, ◌++◌, length, get_or, replicate, refl, ap, ◌∙◌, arith, length-append}
+use Rattle.std.proofs.Common.{◌≡◌, ℕ, suc, ◌+◌, ◌-◌, ◌*◌, ◌<◌, ◌≤◌, Bool, true, false, true≢false, cond, List, [], ◌∷◌, ◌++◌, length, get_or, replicate, refl, ap, ◌∙◌, arith, length-append}
 use Rattle.std.specs.Prelude.{All, count_by}
 use Rattle.std.specs.List.{flat_map}
 use Rattle.std.proofs.lemmas.List.{get_or-replicate, get_or-append-add, length-replicate}
@@ -12,7 +12,7 @@ use Rattle.pw_base.specs.declared.ids.PortId.{PortId}
 use Rattle.pw_base.specs.declared.pools.PoolShape.{PoolShape}
 use Rattle.pw_base.specs.Words.{status_word_of}
 use Rattle.pw_base.specs.Pools.{is_port, links_from, pools_of}
-use Rattle.pw_base.specs.Layout.{node_count, areas_of, area_count, event_count, event_place, pending_place, status_place, io_start, pool_words, pool_start, start_words}
+use Rattle.pw_base.specs.Layout.{node_count, areas_of, area_count, event_count, event_place, late_place, pending_place, status_place, io_start, pool_words, pool_start, start_words}
 use Rattle.board_rule.specs.Layout.{IsUndelayed, word_count}
 
 repeated : (k a : ℕ) → length (replicate k a) ≡ k
@@ -68,3 +68,17 @@ module _ (shape : Shape) (h : IsUndelayed shape) where
   status_start i l = let e = repeated n 0 in let f = repeated n (status_word_of 0 shape.first) in let one : 1 + n + i ≡ suc (length (replicate n 0) + i) = omega arith in
       ap (λ k. get_or (start_words shape) k 0) one ∙ get_or-append-add (replicate n 0) statuses i 0 ∙ get_or-append (replicate n (status_word_of 0 shape.first)) (flat_map (io_start shape.first) shape.links ++ rest) 0 i (omega arith)
       ∙ get_or-replicate n i (status_word_of 0 shape.first) 0 l
+
+  -- late sets and events begin with 0
+  pub zero_start : (i : ℕ) → i < shape.cycles + event_count shape → get_or (start_words shape) (1 + 2 * n + area_count shape.links + i) 0 ≡ 0
+  zero_start i l = let areas : List ℕ = flat_map (io_start shape.first) shape.links in let zeros : List ℕ = replicate (shape.cycles + event_count shape) 0 in let pools : List ℕ = flat_map (pool_start shape) (pools_of shape) in
+      let a = repeated n 0 in let b = repeated n (status_word_of 0 shape.first) in let c = areas_start shape.first shape.links h in let d = repeated (shape.cycles + event_count shape) 0 in
+      let e : 1 + 2 * n + area_count shape.links + i ≡ suc (length (replicate n 0) + (length (replicate n (status_word_of 0 shape.first)) + (length areas + i))) = omega arith in
+      ap (λ k. get_or (start_words shape) k 0) e ∙ get_or-append-add (replicate n 0) statuses (length (replicate n (status_word_of 0 shape.first)) + (length areas + i)) 0
+      ∙ get_or-append-add (replicate n (status_word_of 0 shape.first)) (areas ++ rest) (length areas + i) 0 ∙ get_or-append-add areas rest i 0 ∙ get_or-append zeros pools 0 i (omega arith) ∙ get_or-replicate (shape.cycles + event_count shape) i 0 0 l
+
+  pub late_start : (k : ℕ) → k < shape.cycles → get_or (start_words shape) (late_place shape k) 0 ≡ 0
+  late_start k l = zero_start k (omega arith)
+
+  pub event_start : (t : ℕ) → t < event_count shape → get_or (start_words shape) (event_place shape t) 0 ≡ 0
+  event_start t l = let e : event_place shape t ≡ 1 + 2 * n + area_count shape.links + (shape.cycles + t) = omega arith in ap (λ k. get_or (start_words shape) k 0) e ∙ zero_start (shape.cycles + t) (omega arith)

@@ -6,7 +6,9 @@ use Rattle.board_rule.specs.declared.view.Phase.TheVariants.{Idle, Awake, StartD
 use Rattle.board_rule.specs.declared.view.NodeView.{NodeView}
 use Rattle.board_rule.specs.Phases.{owed_of, phase_rest, phase_owing, phase_stage, PhaseOk, phase_drawn}
 use Rattle.board_rule.specs.EventRule.{node_drawn}
+use Rattle.board_rule.specs.Marks.{phase_started, phase_finished, phase_holds}
 use Rattle.board_rule.specs.Steps.{settled, told_of, CanTell, Indebted}
+use Rattle.board_rule.proofs.MarkLemmas.{QuietNode}
 
 abbrev over : NodeView → NodeView
 over x = record x { next = x.next + 1; phase = Idle }
@@ -57,6 +59,34 @@ module _ (ts : List ℕ) (c : ℕ) (x : NodeView) (i : ℕ) (now : x.next ≡ c)
   pub settled_ok : (n : ℕ) (owes : Bool) → 0 < i → i ≤ n → PhaseOk n c (settled n x i owes).next (settled n x i owes).phase
   settled_ok n true low high = (now, (low, high))
   settled_ok n false low high = ok_by n (eqb i n) (λ t. let o : i ≢ n = λ e. true≢false (sym (eq-eqb i n e) ∙ t) in omega arith)
+
+module _ (c : ℕ) (x : NodeView) (i j : ℕ) (o : Bool) (now : x.next ≡ c) (was : x.phase ≡ Telling j o) where
+  told_one : (b : Bool) → cond {A = ℕ} b 1 1 ≡ 1
+  told_one true = refl
+  told_one false = refl
+
+  was_started : cond (eqb x.next c) (phase_started x.phase) 1 ≡ 1
+  was_started = ap (λ f. cond (eqb x.next c) (phase_started f) 1) was ∙ told_one (eqb x.next c)
+
+  was_finished : cond (eqb x.next c) (phase_finished x.phase) 1 ≡ 1
+  was_finished = ap (λ f. cond (eqb x.next c) (phase_finished f) 1) was ∙ told_one (eqb x.next c)
+
+  quiet_goes_on : (owes : Bool) → QuietNode c x (record x { phase = Telling i owes })
+  quiet_goes_on owes = record { started = told_one (eqb x.next c) ∙ sym was_started; finished = told_one (eqb x.next c) ∙ sym was_finished; start = refl; finish = refl; holds = sym (ap (phase_holds x) was) }
+
+  quiet_by : (b : Bool) → QuietNode c x (cond b (over x) (goes_on x i))
+  quiet_by true = record {
+    started = ap (λ b. cond {A = ℕ} b 0 1) (not_next x.next c now) ∙ sym was_started;
+    finished = ap (λ b. cond {A = ℕ} b 0 1) (not_next x.next c now) ∙ sym was_finished;
+    start = refl;
+    finish = refl;
+    holds = sym (ap (phase_holds x) was);
+  }
+  quiet_by false = quiet_goes_on false
+
+  pub settled_quiet : (n : ℕ) (owes : Bool) → QuietNode c x (settled n x i owes)
+  settled_quiet n true = quiet_goes_on true
+  settled_quiet n false = quiet_by (eqb i n)
 
 -- the target that is told last
 pub owed_is : (ts : List ℕ) (i n : ℕ) → i < length ts → get_or ts i 0 ≡ n → owed_of ts (suc i) true ≡ n ∷ []

@@ -1,5 +1,5 @@
 -- The reset of a cycle, under loops that keep trying: the driver's seat stores the pending word and the status word of each node.
-use Rattle.std.proofs.Common.{◌≡◌, ◌≢◌, ℕ, suc, ◌+◌, ◌*◌, ◌<◌, false, true≢false, cond, eqb, List, [], length, set, get_or, refl, sym, ap, ◌∙◌, subst, arith, eq-eqb, ne_eqb, get_or-set_other, get_or-set_same}
+use Rattle.std.proofs.Common.{◌≡◌, ◌≢◌, ℕ, suc, ◌+◌, ◌*◌, ◌<◌, Bool, true, false, true≢false, cond, eqb, List, [], length, set, get_or, refl, sym, ap, ◌∙◌, subst, arith, eq-eqb, ne_eqb, get_or-set_other, get_or-set_same}
 use mathlib.Core.Logic.{dite}
 use native.Mathlib.Decide.{ℕ_discrete}
 use Rattle.atomic_table.specs.Table.{Me, keeps, stepped, Allows}
@@ -22,8 +22,13 @@ use Rattle.board_rule.specs.Plays.{Turns}
 use Rattle.board_rule.proofs.SumLemmas.{total_same, total_zero}
 use Rattle.board_rule.proofs.RunLemmas.{Sums, sum_left, sum_debts}
 use Rattle.board_rule.proofs.LeftLemmas.{from_sums}
+use Rattle.board_rule.proofs.MarkLemmas.{QuietDrives, quiet_drive}
 use Rattle.board_rule.proofs.FollowerLemmas.{rest_at, owing_at, stage_at}
 use Rattle.board_rule.proofs.DriverLemmas.{lead_to, lead_is, holds_lead, rest_driver, owing_driver, stage_driver}
+
+reset_quiet : (i k : ℕ) (b : Bool) → QuietDrives (drives.Half i) (cond b (drives.Kick 0 false) (drives.Reset k))
+reset_quiet i k true = record { started = refl; finished = refl; holds = λ _. refl; tells = λ _ _. refl; sees = λ _. refl; begun = refl; ending = refl; checking = refl }
+reset_quiet i k false = record { started = refl; finished = refl; holds = λ _. refl; tells = λ _ _. refl; sees = λ _. refl; begun = refl; ending = refl; checking = refl }
 
 module _ (p : Lay) where
   -- one more pending word is reset
@@ -76,9 +81,9 @@ module _ (p : Lay) where
       }
 
   module _ {S : Type 0} where
-    pub store_pending_allowed : (slots id i : ℕ) (me : Me S View) (t : Trail) (after : ℕ → View) → me.0.number ≡ p.seats → me.0.lead.drive ≡ drives.Reset i → ((found : ℕ) → after found ≡ view_lead me.0 (record me.0.lead { drive = drives.Half i }) t)
+    pub store_pending_allowed : (slots id i : ℕ) (me : Me S View) (t : Trail) (after : ℕ → View) → me.0.number ≡ p.seats → t.looks ≡ me.0.trail.looks → me.0.lead.drive ≡ drives.Reset i → ((found : ℕ) → after found ≡ view_lead me.0 (record me.0.lead { drive = drives.Half i }) t)
         → Allows (Holds p) slots id me (pending_place p.shape i) (λ _. p.required i) (λ _. Turns after me (p.required i))
-    store_pending_allowed slots id i me t after number phase is_after s r _ at fits =
+    store_pending_allowed slots id i me t after number looks phase is_after s r _ at fits =
         let g = r.whole in let a = r.activations in let wide = r.seated.wide in
         let is = lead_is p s r id me.0 at number in
         let drive : g.lead.drive ≡ drives.Reset i = ap (λ (l : LeadView). l.drive) (sym is) ∙ phase in
@@ -89,7 +94,7 @@ module _ (p : Lay) where
           view_lead me.0 (record me.0.lead { drive = drives.Half i }) t,
           keeps,
           tt,
-          subst (λ (l : LeadView). Holds p (stepped s (pending_place p.shape i) (p.required i) id me.1 (view_lead me.0 (record l { drive = drives.Half i }) t) keeps)) (sym is) (holds_lead p s r id (pending_place p.shape i) (p.required i) me.0 me.1 (lead_to g (drives.Half i) g.lead) t at number (omega arith) (omega arith) record {
+          subst (λ (l : LeadView). Holds p (stepped s (pending_place p.shape i) (p.required i) id me.1 (view_lead me.0 (record l { drive = drives.Half i }) t) keeps)) (sym is) (holds_lead p s r id (pending_place p.shape i) (p.required i) me.0 me.1 (lead_to g (drives.Half i) g.lead) t at number looks (omega arith) (omega arith) (omega arith) (quiet_drive g.lead (drives.Reset i) (drives.Half i) drive record { started = refl; finished = refl; holds = λ _. refl; tells = λ _ _. refl; sees = λ _. refl; begun = refl; ending = refl; checking = refl }) record {
             later = a.later;
             early = a.early;
             within = λ _. a.within (ap is_between drive);
@@ -101,9 +106,9 @@ module _ (p : Lay) where
           (sym (is_after (p.required i)), refl),
         )
 
-    pub store_not_triggered_allowed : (slots id i : ℕ) (me : Me S View) (t : Trail) (after : ℕ → View) → me.0.number ≡ p.seats → me.0.lead.drive ≡ drives.Half i → ((found : ℕ) → after found ≡ view_lead me.0 (record me.0.lead { drive = reset_to (nodes p) (suc i) }) t)
+    pub store_not_triggered_allowed : (slots id i : ℕ) (me : Me S View) (t : Trail) (after : ℕ → View) → me.0.number ≡ p.seats → t.looks ≡ me.0.trail.looks → me.0.lead.drive ≡ drives.Half i → ((found : ℕ) → after found ≡ view_lead me.0 (record me.0.lead { drive = reset_to (nodes p) (suc i) }) t)
         → Allows (Holds p) slots id me (status_place p.shape i) (λ _. status_word_of 0 me.0.lead.cycle) (λ _. Turns after me (status_word_of 0 me.0.lead.cycle))
-    store_not_triggered_allowed slots id i me t after number phase is_after s r _ at fits =
+    store_not_triggered_allowed slots id i me t after number looks phase is_after s r _ at fits =
         let g = r.whole in let a = r.activations in let sound = r.seated.sound in let wide = r.seated.wide in
         let is = lead_is p s r id me.0 at number in
         let drive : g.lead.drive ≡ drives.Half i = ap (λ (l : LeadView). l.drive) (sym is) ∙ phase in
@@ -146,6 +151,6 @@ module _ (p : Lay) where
           keeps,
           tt,
           subst (λ (l : LeadView). Holds p (stepped s (status_place p.shape i) (status_word_of 0 l.cycle) id me.1 (view_lead me.0 (record l { drive = reset_to (nodes p) (suc i) }) t) keeps)) (sym is)
-              (holds_lead p s r id (status_place p.shape i) (status_word_of 0 c) me.0 me.1 (lead_to g (reset_to (nodes p) (suc i)) g.lead) t at number (omega arith) (omega arith) act.0),
+              (holds_lead p s r id (status_place p.shape i) (status_word_of 0 c) me.0 me.1 (lead_to g (reset_to (nodes p) (suc i)) g.lead) t at number looks (omega arith) (omega arith) (omega arith) (quiet_drive g.lead (drives.Half i) (reset_to (nodes p) (suc i)) drive (reset_quiet i (suc i) (eqb (suc i) (nodes p)))) act.0),
           (sym (is_after (status_word_of 0 me.0.lead.cycle)), refl),
         )

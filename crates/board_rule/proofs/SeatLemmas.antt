@@ -9,6 +9,8 @@ use Rattle.board_rule.specs.declared.view.View.{View}
 use Rattle.board_rule.specs.declared.view.Trail.{Trail}
 use Rattle.board_rule.specs.declared.view.NodeView.{NodeView}
 use Rattle.board_rule.specs.declared.view.LeadView.{LeadView}
+use Rattle.board_rule.specs.declared.view.Found.{Found}
+use Rattle.pw_base.specs.declared.event.Event.{Event}
 use Rattle.board_rule.specs.Layout.{Lay, nodes, first}
 use Rattle.board_rule.specs.View.{Whole, put, idle, with_node, view_node, with_lead, view_lead, view_trail}
 use Rattle.board_rule.specs.BoardRule.{Knows, Seated}
@@ -34,6 +36,7 @@ module _ (p : Lay) where
     sound = s.sound;
     room = s.room ∙ sym same;
     wide = let k = s.wide in omega arith;
+    long = let k = s.long in omega arith;
     knows = λ j u e. ⊎_elim (λ (t : (j ≡ id) × (w ≡ u)). subst (λ (x : ℕ × View). Knows p h x.0 x.1) (λ i. (sym t.0 i, t.1 i)) mine)
         (λ (t : (j ≢ id) × (get_elem? views j ≡ some u)). others j u t.0 (s.knows j u t.1)) (at_set views id j w u e);
     unsplit = unsplit;
@@ -45,9 +48,9 @@ module _ (p : Lay) where
   node_step g words after views id m v x t at same loops inside follows owns s = let k = s.knows id v at in
       seat_step g (with_node g m x) words after views id v (view_node v m x t) at same
       record {
-        low = k.low;
+        kept = k.kept;
         here = k.here;
-        leads = k.leads;
+        leads = λ e. absurd (omega arith);
         expects = k.expects;
         is_split = k.is_split;
         owns = λ n h o e. dite (ℕ_discrete n m)
@@ -55,32 +58,32 @@ module _ (p : Lay) where
             (λ q. set_else v.nodes m n x q ∙ k.owns n h o e ∙ ap some (sym (put_else g.nodes m n x q)));
       }
       (λ j u other r. record {
-        low = r.low;
+        kept = r.kept;
         here = r.here;
         leads = r.leads;
         expects = r.expects;
         is_split = r.is_split;
-        owns = λ n h o e. r.owns n h o e ∙ ap some (sym (put_else g.nodes m n x (λ q. other (sym r.here ∙ ap g.seat_at (sym e ∙ ap p.seat_of q ∙ owns) ∙ k.here))));
+        owns = λ n h o e. r.owns n h o e ∙ ap some (sym (put_else g.nodes m n x (λ q. other (sym (r.here (let z = sym e ∙ ap p.seat_of q ∙ owns in omega arith)) ∙ ap g.seat_at (sym e ∙ ap p.seat_of q ∙ owns) ∙ k.here (omega arith)))));
       })
       (λ n h o e. put_else g.nodes m n x (λ q. let a = k.is_split loops in let b = ap p.seat_of q in omega arith) ∙ s.unsplit n h o e) s
 
-  -- a step of the driver's seat
-  pub lead_step : (g : Whole) (words after : List ℕ) (views : List View) (id : ℕ) (v : View) (x : LeadView) (t : Trail) → get_elem? views id ≡ some v → length after ≡ length words → v.number ≡ p.seats
-      → Seated p g words views → Seated p (with_lead g x) after (set views id (view_lead v x t))
-  lead_step g words after views id v x t at same leads s = let k = s.knows id v at in
-      seat_step g (with_lead g x) words after views id v (view_lead v x t) at same
+  -- a step of the driver's seat, after which it has loaded the statuses `looks` in its last check
+  pub lead_step : (g : Whole) (words after : List ℕ) (views : List View) (id : ℕ) (v : View) (x : LeadView) (t : Trail) (looks : List Found) → get_elem? views id ≡ some v → length after ≡ length words → v.number ≡ p.seats → t.looks ≡ looks
+      → Seated p g words views → Seated p (record (with_lead g x) { looks = looks }) after (set views id (view_lead v x t))
+  lead_step g words after views id v x t looks at same leads seen s = let k = s.knows id v at in
+      seat_step g (record (with_lead g x) { looks = looks }) words after views id v (view_lead v x t) at same
       record {
-        low = k.low;
+        kept = k.kept;
         here = k.here;
-        leads = λ e. (refl, (k.leads e).1);
+        leads = λ e. (refl, (k.leads e).1, seen);
         expects = k.expects;
         is_split = k.is_split;
         owns = k.owns;
       }
       (λ j u other r. record {
-        low = r.low;
+        kept = r.kept;
         here = r.here;
-        leads = λ e. absurd (other (sym r.here ∙ ap g.seat_at (e ∙ sym leads) ∙ k.here));
+        leads = λ e. absurd (other (sym (r.here (omega arith)) ∙ ap g.seat_at (e ∙ sym leads) ∙ k.here (omega arith)));
         expects = r.expects;
         is_split = r.is_split;
         owns = r.owns;
@@ -88,15 +91,48 @@ module _ (p : Lay) where
       s.unsplit s
 
   -- nothing of the whole changes: the seat remembers something
-  pub stay_step : (g : Whole) (words after : List ℕ) (views : List View) (id : ℕ) (v : View) (t : Trail) → get_elem? views id ≡ some v → length after ≡ length words → Seated p g words views → Seated p g after (set views id (view_trail v t))
-  stay_step g words after views id v t at same s = let k = s.knows id v at in
+  pub stay_step : (g : Whole) (words after : List ℕ) (views : List View) (id : ℕ) (v : View) (t : Trail) → get_elem? views id ≡ some v → length after ≡ length words → t.looks ≡ v.trail.looks → Seated p g words views → Seated p g after (set views id (view_trail v t))
+  stay_step g words after views id v t at same seen s = let k = s.knows id v at in
       seat_step g g words after views id v (view_trail v t) at same
       record {
-        low = k.low;
+        kept = k.kept;
         here = k.here;
-        leads = k.leads;
+        leads = λ e. let z = k.leads e in (z.0, z.1, seen ∙ z.2);
         expects = k.expects;
         is_split = k.is_split;
         owns = k.owns;
       }
       (λ j u _ r. r) s.unsplit s
+
+  -- a check has loaded a status more
+  pub look_step : (g : Whole) (words : List ℕ) (views : List View) (id : ℕ) (v : View) (t : Trail) → get_elem? views id ≡ some v → v.number ≡ p.seats → Seated p g words views → Seated p (record g { looks = t.looks }) words (set views id (view_trail v t))
+  look_step g words views id v t at leads s = let k = s.knows id v at in
+      seat_step g (record g { looks = t.looks }) words words views id v (view_trail v t) at refl
+      record {
+        kept = k.kept;
+        here = k.here;
+        leads = λ e. let z = k.leads e in (z.0, z.1, refl);
+        expects = k.expects;
+        is_split = k.is_split;
+        owns = k.owns;
+      }
+      (λ j u other r. record {
+        kept = r.kept;
+        here = r.here;
+        leads = λ e. absurd (other (sym (r.here (omega arith)) ∙ ap g.seat_at (e ∙ sym leads) ∙ k.here (omega arith)));
+        expects = r.expects;
+        is_split = r.is_split;
+        owns = r.owns;
+      })
+      s.unsplit s
+
+  -- no seat's view has the events
+  pub seated_logs : (g : Whole) (words : List ℕ) (views : List View) (past inside : List Event) (late : ℕ) → Seated p g words views → Seated p (record g { past = past; inside = inside; late = late }) words views
+  seated_logs g words views past inside late s = record {
+    sound = s.sound;
+    room = s.room;
+    wide = s.wide;
+    long = s.long;
+    knows = λ j v at. let k = s.knows j v at in record { kept = k.kept; here = k.here; leads = k.leads; expects = k.expects; is_split = k.is_split; owns = k.owns };
+    unsplit = s.unsplit;
+  }

@@ -217,4 +217,8 @@ sound_layout plot s h = record {
   required_some = required_some plot.shape s;
   tells_driver = tells_driver plot.shape s;
   tells = tells plot.shape s;
+  names = λ n h. refl;
+  named = λ n c. (contained plot.shape s n c).0;
+  names_driver = at_place plot.shape s plot.shape.driver (driver_in plot.shape s);
+  follows = λ m n hm hn e. let a = told plot.shape s n m hn hm in let b : cond {A = ℕ} (waits plot.shape (get_or (nodes_of plot.shape) n 0) (get_or (nodes_of plot.shape) m 0)) 1 0 ≡ 1 = ap (λ b. cond {A = ℕ} b 1 0) e.depends.waits in omega arith;
 }

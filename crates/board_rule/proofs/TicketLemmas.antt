@@ -1,5 +1,5 @@
 -- Laws of `specs/EventRule.antt`: how many tickets are drawn.
-use Rattle.std.proofs.Common.{◌≡◌, ◌≢◌, ℕ, zero, suc, ◌+◌, ◌*◌, ◌<◌, ◌≤◌, Bool, true, false, true≢false, cond, eqb, List, length, set, get_or, refl, sym, ap, ◌∙◌, subst, arith, eq-eqb, ne_eqb, suc-mul, get_or-set_other, get_or-set_same}
+use Rattle.std.proofs.Common.{◌≡◌, ◌≢◌, ℕ, zero, suc, ◌+◌, ◌*◌, ◌<◌, ◌≤◌, Bool, true, false, true≢false, cond, eqb, List, length, set, get_or, refl, sym, ap, ◌∙◌, subst, arith, eq-eqb, ne_eqb, suc-mul, get_or-set_other}
 use mathlib.Core.Logic.{dite}
 use native.Mathlib.Decide.{ℕ_discrete}
 use Rattle.board_rule.specs.declared.view.NodeView.{NodeView}
@@ -14,13 +14,13 @@ use Rattle.board_rule.specs.Sums.{total}
 use Rattle.board_rule.specs.Phases.{is_between, is_resetting, phase_drawn, drive_drawn, PhaseOk}
 use Rattle.board_rule.specs.View.{Whole, with_node, with_lead}
 use Rattle.board_rule.specs.ActivationRule.{Activations}
-use Rattle.board_rule.specs.EventRule.{Events, node_drawn, lead_drawn, drawn, drawn_before}
+use Rattle.std.specs.Prelude.{count_by}
+use Rattle.pw_base.specs.History.{is_tick}
+use Rattle.board_rule.specs.EventRule.{Events, node_drawn, lead_drawn, drawn, drawn_before, Marks, Records, marks, records}
+use Rattle.board_rule.proofs.DrawLemmas.{Logs}
+use Rattle.board_rule.proofs.MarkLemmas.{words_quiet, QuietNode, QuietLead, marks_node, marks_lead}
 use Rattle.board_rule.proofs.SumLemmas.{total_change}
 use Rattle.board_rule.proofs.SeatLemmas.{put_here, put_else}
-
--- a word of another part is not the ticket word
-pub first_stays : (ws : List ℕ) (i x : ℕ) → 0 < i → get_or (set ws i x) 0 0 ≡ get_or ws 0 0
-first_stays ws i x h = get_or-set_other ws i 0 x 0 (λ z. omega arith)
 
 total_most : (f g : ℕ → ℕ) (k : ℕ) → ((n : ℕ) → n < k → f n ≤ g n) → total f k ≤ total g k
 total_most f g zero h = omega arith
@@ -69,7 +69,7 @@ phase_most n c next l Done ok i o = let a = o (λ e. (cc)) in omega arith
 phase_most n c next l FinishDrawn ok i o = let a = o (λ e. (cc)) in omega arith
 phase_most n c next l (Telling j d) ok i o = let a = o (λ e. (cc)) in let b = ok.0 in omega arith
 
-between_resets : (d : Drive) → is_between d ≡ true → is_resetting d ≡ true
+pub between_resets : (d : Drive) → is_between d ≡ true → is_resetting d ≡ true
 between_resets drives.Between t = refl
 between_resets drives.BeginDrawn t = refl
 between_resets (drives.Reset i) t = refl
@@ -100,24 +100,51 @@ module _ (p : Lay) where
   change g m x y inside follows same = let a = total_change (drawn p g) (drawn p (with_node g m y)) m (nodes p) inside (λ i o. ap (λ (z : NodeView). cond (eqb i p.driver) 0 (node_drawn z)) (put_else g.nodes m i y o)) in
       let b = drawn_here g m y follows in let c = drawn_at g m x follows same in omega arith
 
-  -- a step of a follower that draws no ticket, and one that draws one
-  pub events_node : (g : Whole) (ws after : List ℕ) (m : ℕ) (x y : NodeView) → m < nodes p → m ≢ p.driver → g.nodes m ≡ x → node_drawn x ≤ node_drawn y → get_or after 0 0 ≡ get_or ws 0 0 → Events p g ws → Events p (with_node g m y) after
-  events_node g ws after m x y inside follows same quiet word e = let a = e.count in let b = change g m x y inside follows same in record { count = omega arith }
+  -- all parts of the rule but the counts
+  pub logs_of : (g : Whole) (ws : List ℕ) → Events p g ws → Logs p g.lead.cycle g.late g.past g.inside (marks p g) (records p ws)
+  logs_of g ws e = record { tickets = e.tickets; earlier = e.earlier; inside = e.inside }
 
-  pub draws_node : (g : Whole) (ws : List ℕ) (m : ℕ) (x y : NodeView) → m < nodes p → m ≢ p.driver → g.nodes m ≡ x → node_drawn y ≡ node_drawn x + 1 → 0 < length ws → Events p g ws → Events p (with_node g m y) (set ws 0 (suc (get_or ws 0 0)))
-  draws_node g ws m x y inside follows same one wide e = let a = e.count in let b = change g m x y inside follows same in let w = get_or-set_same ws 0 (suc (get_or ws 0 0)) 0 wide in record { count = omega arith }
+  -- no more tickets are drawn than the phases say
+  abbrev pub Counted : Whole → ℕ → Type 0
+  Counted g w = w + (total (drawn_before p) (nodes p) + 5 * first p) ≤ total (drawn p g) (nodes p) + lead_drawn g.lead
 
-  -- the same of the driver's seat
-  pub events_lead : (g : Whole) (ws after : List ℕ) (x : LeadView) → lead_drawn g.lead ≤ lead_drawn x → get_or after 0 0 ≡ get_or ws 0 0 → Events p g ws → Events p (with_lead g x) after
-  events_lead g ws after x quiet word e = let a = e.count in record { count = omega arith }
+  pub count_node : (g : Whole) (w k m : ℕ) (x y : NodeView) → m < nodes p → m ≢ p.driver → g.nodes m ≡ x → node_drawn x + k ≤ node_drawn y → Counted g w → Counted (with_node g m y) (w + k)
+  count_node g w k m x y inside follows same more a = let b = change g m x y inside follows same in omega arith
 
-  pub draws_lead : (g : Whole) (ws : List ℕ) (x : LeadView) → lead_drawn g.lead + 1 ≤ lead_drawn x → 0 < length ws → Events p g ws → Events p (with_lead g x) (set ws 0 (suc (get_or ws 0 0)))
-  draws_lead g ws x one wide e = let a = e.count in let w = get_or-set_same ws 0 (suc (get_or ws 0 0)) 0 wide in record { count = omega arith }
+  pub count_lead : (g : Whole) (w k : ℕ) (x : LeadView) → lead_drawn g.lead + k ≤ lead_drawn x → Counted g w → Counted (with_lead g x) (w + k)
+  count_lead g w k x more a = omega arith
+
+  -- a step on an activation word: of a follower, and of the driver's seat
+  pub events_node : (g : Whole) (ws : List ℕ) (i v m : ℕ) (x y : NodeView) → m < nodes p → m ≢ p.driver → g.nodes m ≡ x → node_drawn x ≤ node_drawn y → QuietNode g.lead.cycle x y → 0 < i → i ≤ nodes p + nodes p → Events p g ws → Events p (with_node g m y) (set ws i v)
+  events_node g ws i v m x y inside follows same more quiet low high e =
+      let word = words_quiet p ws v i low high in let mark = marks_node p g m x y same quiet in
+      let logs = subst (λ (k : Marks × Records). Logs p g.lead.cycle g.late g.past g.inside k.0 k.1) (λ j. (sym mark j, sym word j)) (logs_of g ws e) in record {
+        count = let a = count_node g (get_or ws 0 0) 0 m x y inside follows same (omega arith) e.count in let b = get_or-set_other ws i 0 v 0 (λ z. omega arith) in omega arith;
+        checks = e.checks;
+        checking = e.checking;
+        fresh = e.fresh;
+        tickets = logs.tickets;
+        earlier = logs.earlier;
+        inside = logs.inside;
+      }
+
+  pub events_lead : (g : Whole) (ws : List ℕ) (i v : ℕ) (x : LeadView) → lead_drawn g.lead ≤ lead_drawn x → QuietLead g.lead x → 0 < i → i ≤ nodes p + nodes p → Events p g ws → Events p (with_lead g x) (set ws i v)
+  events_lead g ws i v x more quiet low high e =
+      let word = words_quiet p ws v i low high in let mark = marks_lead p g x quiet in
+      let logs = subst (λ (k : ℕ × Marks × Records). Logs p k.0 g.late g.past g.inside k.1 k.2) (λ j. (sym quiet.cycle j, sym mark j, sym word j)) (logs_of g ws e) in record {
+        count = let a = count_lead g (get_or ws 0 0) 0 x (omega arith) e.count in let b = get_or-set_other ws i 0 v 0 (λ z. omega arith) in omega arith;
+        checks = (λ j. count_by is_tick g.past + cond (quiet.checked j) 1 0) ∙ e.checks ∙ sym quiet.checks;
+        checking = λ z. quiet.checked ∙ e.checking (sym quiet.checking ∙ z);
+        fresh = λ z. e.fresh (sym quiet.begun ∙ z);
+        tickets = logs.tickets;
+        earlier = logs.earlier;
+        inside = logs.inside;
+      }
 
   -- there is a word for each ticket
-  pub few_tickets : (g : Whole) (ws vs : List ℕ) → IsSound p → Activations p g vs → Events p g ws → get_or ws 0 0 ≤ event_count p.shape
-  few_tickets g ws vs sound a e =
-      let count = e.count in let early = a.early in let later = a.later in
+  pub few_tickets : (g : Whole) (w : ℕ) (vs : List ℕ) → IsSound p → Activations p g vs → Counted g w → w ≤ event_count p.shape
+  few_tickets g w vs sound a count =
+      let early = a.early in let later = a.later in
       let n : ℕ = nodes p in let c : ℕ = p.shape.cycles in
       let extra : ℕ → ℕ = λ k. cond (eqb k p.driver) 0 (2 * c) in
       let most = total_most (drawn p g) (λ k. drawn_before p k + extra k) n each in

@@ -1,5 +1,5 @@
 -- The steps of a follower at its work: it ends, it draws a ticket, it stores an event.
-use Rattle.std.proofs.Common.{◌≡◌, ◌≢◌, ℕ, suc, ◌+◌, ◌*◌, ◌%◌, ◌^◌, ◌<◌, true, false, cond, eqb, List, [], ◌∷◌, length, set, get_or, refl, sym, ap, ◌∙◌, subst, arith, eq-eqb, length-set, get_or-set_other}
+use Rattle.std.proofs.Common.{◌≡◌, ◌≢◌, ℕ, ◌+◌, ◌*◌, ◌<◌, true, false, cond, eqb, List, [], length, set, refl, sym, ap, ◌∙◌, subst, arith, eq-eqb, get_or-set_other}
 use mathlib.Core.Logic.{dite}
 use mathlib.Core.Option.{some}
 use native.Mathlib.Decide.{ℕ_discrete}
@@ -10,7 +10,7 @@ use Rattle.board_rule.specs.declared.view.Phase.TheVariants.{Idle, Awake, StartD
 use Rattle.board_rule.specs.declared.view.NodeView.{NodeView}
 use Rattle.board_rule.specs.declared.view.Trail.{Trail}
 use Rattle.board_rule.specs.declared.view.View.{View}
-use Rattle.pw_base.specs.Layout.{pending_place, status_place, event_count}
+use Rattle.pw_base.specs.Layout.{pending_place, status_place}
 use Rattle.pw_base.specs.Words.{status_word_of}
 use Rattle.board_rule.specs.Layout.{Lay, nodes}
 use Rattle.board_rule.specs.Phases.{phase_rest, phase_owing, phase_stage, PhaseOk, phase_drawn}
@@ -19,10 +19,9 @@ use Rattle.board_rule.specs.ActivationRule.{Activations, posts}
 use Rattle.board_rule.specs.EventRule.{node_drawn}
 use Rattle.board_rule.specs.BoardRule.{Holds}
 use Rattle.board_rule.specs.Steps.{Has}
-use Rattle.board_rule.specs.Plays.{Turns, Learns}
+use Rattle.board_rule.specs.Plays.{Turns}
 use Rattle.board_rule.proofs.RunLemmas.{Sums, keeps as stays, finishes}
-use Rattle.board_rule.proofs.TicketLemmas.{few_tickets, draws_node}
-use Rattle.board_rule.proofs.SeatLemmas.{node_step}
+use Rattle.board_rule.proofs.MarkLemmas.{quiet_phase}
 use Rattle.board_rule.proofs.FollowerLemmas.{rest_at, owing_at, stage_at, rest_put, owing_put, stage_put, elsewhere, words_run, not_resetting, active_node, same_node, holds_node}
 
 -- two phases of a node at its work that mean the same for the activation words
@@ -85,53 +84,6 @@ module _ (p : Lay) {S : Type 0} where
       (λ n l. get_or-set_other s.words i (pending_place p.shape n) x 0 (other n l).0) (λ n l. get_or-set_other s.words i (status_place p.shape n) x 0 (other n l).1) runs in
       active_node p g s.words ws m y has.follows runs_on (subst (λ (k : Phase). PhaseOk (length ts) c y.next k) (sym is) (like.ok (length ts) c y.next (sound.tells m has.inside) next')) after a
 
-  -- a node draws a ticket, and there is a word for it
-  pub draw_allowed : (slots id m : ℕ) (me : Me S View) (f h : Phase) (y : ℕ → NodeView) (t : Trail) (after : ℕ → View) (says : ℕ → Type 0) → Has p me.0 m → Alike f h → (node_of me.0 m).phase ≡ f
-      → ((found : ℕ) → ((y found).next ≡ (node_of me.0 m).next) × ((y found).phase ≡ h)) → phase_drawn h ≡ phase_drawn f + 1
-      → ((found : ℕ) → after found ≡ view_node me.0 m (y found) t) → ((found : ℕ) → found < event_count p.shape → says found)
-      → Allows (Holds p) slots id me 0 (λ w. (w + 1) % 2 ^ 64) (Learns after says me)
-  draw_allowed slots id m me f h y t after says has like was is one is_after is_said s r _ at fits =
-      let g = r.whole in let sound = r.seated.sound in let wide = r.seated.wide in
-      let found : ℕ = get_or s.words 0 0 in
-      let new : NodeView = y found in
-      let next = (is found).0 in let phase = (is found).1 in
-      let ws : List ℕ = set s.words 0 (suc found) in
-      let active : Activations p (with_node g m new) ws = active_alike s r id m me.0 f h new 0 (suc found) at has like was next phase (ticket_is_other p) in
-      let more : node_drawn new ≡ node_drawn (node_of me.0 m) + 1 = let a : phase_drawn new.phase ≡ phase_drawn h = ap phase_drawn phase in let b : phase_drawn (node_of me.0 m).phase ≡ phase_drawn f = ap phase_drawn was in omega arith in
-      let events = draws_node p g s.words m (node_of me.0 m) new has.inside has.follows (same_node p s r id m me.0 at has) more (omega arith) r.events in
-      let few = few_tickets p (with_node g m new) ws ws sound active events in
-      let word' = drawn s.words found (omega arith) in
-      let limit = sound.events in
-      let word : (found + 1) % 2 ^ 64 ≡ suc found = omega arith in (
-        view_node me.0 m new t,
-        keeps,
-        tt,
-        subst (λ k. Holds p (stepped s 0 k id me.1 (view_node me.0 m new t) keeps)) (sym word) record {
-          whole = with_node g m new;
-          seated = node_step p g s.words ws s.views id m me.0 new t at (length-set s.words 0 (suc found)) has.loops has.inside has.follows has.owned r.seated;
-          activations = active;
-          events = events;
-        },
-        (sym (is_after found), refl, is_said found (omega arith)),
-      )
-    where
-      drawn : (ws : List ℕ) (k : ℕ) → 0 < length ws → get_or (set ws 0 (suc k)) 0 0 ≡ suc k
-      drawn [] k h = absurd (omega arith)
-      drawn (x ∷ xs) k h = refl
-
-  -- a node stores an event
-  pub store_allowed : (slots id m i x : ℕ) (me : Me S View) (f h : Phase) (y : NodeView) (t : Trail) (after : ℕ → View) → Has p me.0 m → Alike f h → (node_of me.0 m).phase ≡ f → y.next ≡ (node_of me.0 m).next → y.phase ≡ h
-      → phase_drawn h ≡ phase_drawn f → nodes p + nodes p < i → ((found : ℕ) → after found ≡ view_node me.0 m y t)
-      → Allows (Holds p) slots id me i (λ _. x) (λ _. Turns after me x)
-  store_allowed slots id m i x me f h y t after has like was next is none later is_after s r _ at fits =
-      let more : node_drawn (node_of me.0 m) ≡ node_drawn y = let a : phase_drawn y.phase ≡ phase_drawn h = ap phase_drawn is in let b : phase_drawn (node_of me.0 m).phase ≡ phase_drawn f = ap phase_drawn was in omega arith in (
-        view_node me.0 m y t,
-        keeps,
-        tt,
-        holds_node p s r id m i x me.0 me.1 y t at has (omega arith) (omega arith) (active_alike s r id m me.0 f h y i x at has like was next is (later_is_other p i later)),
-        (sym (is_after x), refl),
-      )
-
   -- a node that works stores FINISHED
   pub finish_allowed : (slots id m : ℕ) (me : Me S View) (t : Trail) (after : ℕ → View) → Has p me.0 m → (node_of me.0 m).phase ≡ Running → ((found : ℕ) → after found ≡ view_node me.0 m (record (node_of me.0 m) { phase = Done }) t)
       → Allows (Holds p) slots id me (status_place p.shape m) (λ _. status_word_of 3 (node_of me.0 m).next) (λ _. Turns after me (status_word_of 3 (node_of me.0 m).next))
@@ -161,7 +113,7 @@ module _ (p : Lay) {S : Type 0} where
         keeps,
         tt,
         subst (λ k. Holds p (stepped s (status_place p.shape m) (status_word_of 3 k) id me.1 (view_node me.0 m new t) keeps)) (sym cycle)
-            (holds_node p s r id m (status_place p.shape m) (status_word_of 3 c) me.0 me.1 new t at h (omega arith) (omega arith)
+            (holds_node p s r id m (status_place p.shape m) (status_word_of 3 c) me.0 me.1 new t at h (omega arith) (omega arith) (omega arith) (quiet_phase c x Running Done phase refl refl refl)
             (active_node p g s.words (set s.words (status_place p.shape m) (status_word_of 3 c)) m new h.follows runs_on cycle finished a)),
         (sym (is_after (status_word_of 3 x.next)), refl),
       )

@@ -6,16 +6,18 @@ use lib.ListN.{get_elem?}
 use Rattle.atomic_table.specs.Table.{State}
 use Rattle.board_rule.specs.declared.view.View.{View}
 use Rattle.board_rule.specs.Layout.{Lay, IsSound, nodes, first, word_count}
+use Rattle.pw_base.specs.Layout.{event_place, event_count}
 use Rattle.board_rule.specs.View.{Whole, idle}
 use Rattle.board_rule.specs.ActivationRule.{Activations}
 use Rattle.board_rule.specs.EventRule.{Events}
 
 module _ (p : Lay) where
-  -- what the view at the place j among all views says of the whole: no two views have the same number
+  -- what the view at the place j among all views says of the whole: no two views of seats have the same number. A view with a greater number is
+  -- kept of a board that is closed, and then no seat is split off any more
   pub record Knows (g : Whole) (j : ℕ) (v : View) : Type 0 where
-    pub low : v.number ≤ p.seats
-    pub here : g.seat_at v.number ≡ j
-    pub leads : v.number ≡ p.seats → (v.lead ≡ g.lead) × (v.split ≡ g.split)
+    pub kept : p.seats < v.number → p.seats < g.split
+    pub here : v.number ≤ p.seats → g.seat_at v.number ≡ j
+    pub leads : v.number ≡ p.seats → (v.lead ≡ g.lead) × (v.split ≡ g.split) × (v.trail.looks ≡ g.looks)
     pub expects : v.expect ≡ g.expect
     pub is_split : v.number < p.seats → v.number < g.split
     pub owns : (n : ℕ) → n < nodes p → n ≢ p.driver → p.seat_of n ≡ v.number → get_elem? v.nodes n ≡ some (g.nodes n)
@@ -25,6 +27,7 @@ module _ (p : Lay) where
     pub sound : IsSound p
     pub room : word_count p.shape ≡ length words
     pub wide : nodes p + nodes p < length words
+    pub long : event_place p.shape (event_count p.shape) ≤ length words
     pub knows : (j : ℕ) (v : View) → get_elem? views j ≡ some v → Knows g j v
     pub unsplit : (n : ℕ) → n < nodes p → n ≢ p.driver → g.split ≤ p.seat_of n → g.nodes n ≡ idle (first p)
 

@@ -8,28 +8,16 @@ use Rattle.board_rule.specs.declared.view.Drive.TheVariants as drives
 use Rattle.board_rule.specs.declared.view.NodeView.{NodeView}
 use Rattle.board_rule.specs.declared.view.LeadView.{LeadView}
 use Rattle.board_rule.specs.declared.view.View.{View}
+use Rattle.pw_base.specs.declared.event.Event.{Event}
+use Rattle.pw_base.specs.declared.event.Event.TheVariants.{Begin, Start, Finish, Tick, End}
 use Rattle.pw_base.specs.Layout.{event_count}
 use Rattle.board_rule.specs.Layout.{Lay}
 use Rattle.board_rule.specs.View.{node_of, view_node, view_lead}
 use Rattle.board_rule.specs.Steps.{HasNode}
-pub use Rattle.board_rule.specs.TicketSteps.{CanDraw, CanDrawLead, Draws, node_draws, lead_draws, draw_trail, draws}
+pub use Rattle.board_rule.specs.TicketSteps.{CanStore, CanStoreLead, CanDraw, CanDrawLead, Draws, node_draws, lead_draws, draw_trail, draws}
 pub use Rattle.board_rule.specs.CheckSteps.{looked_at, Looks, looked, late_of, StoresLate, late_stored}
 
--- STORING AN EVENT: its ticket is drawn, and for a Tick the late set is stored
-abbrev pub CanStore : Phase → Type 0
-CanStore StartDrawn = Unit {0}
-CanStore FinishDrawn = Unit {0}
-CanStore _ = ⊥
-
-abbrev pub CanStoreLead : Drive → Type 0
-CanStoreLead drives.BeginDrawn = Unit {0}
-CanStoreLead drives.LateStored = Unit {0}
-CanStoreLead drives.StartDrawn = Unit {0}
-CanStoreLead drives.FinishDrawn = Unit {0}
-CanStoreLead drives.EndDrawn = Unit {0}
-CanStoreLead _ = ⊥
-
--- the ticket that is held
+-- STORING AN EVENT: the ticket that is held, and what `CanStore` and `CanStoreLead` ask
 abbrev pub held : NodeView → Phase → ℕ
 held x StartDrawn = x.start
 held x _ = x.finish
@@ -46,6 +34,22 @@ ticket_of false v m = held (node_of v m) (node_of v m).phase
 abbrev pub StoresEvent : Bool → Lay → View → ℕ → Type 0
 StoresEvent true p v m = HasNode true p v m × CanStoreLead v.lead.drive × (ticket_of true v m < event_count p.shape)
 StoresEvent false p v m = HasNode false p v m × CanStore (node_of v m).phase × (ticket_of false v m < event_count p.shape)
+
+-- its event, where the node has the number n; the late set of a Tick stands in a word of its own
+abbrev pub node_tells : NodeView → ℕ → Phase → Event
+node_tells x n StartDrawn = Start x.next n
+node_tells x n _ = Finish x.next n
+
+abbrev pub lead_tells : LeadView → ℕ → Drive → Event
+lead_tells x n drives.BeginDrawn = Begin x.cycle
+lead_tells x n drives.LateStored = Tick x.cycle 0
+lead_tells x n drives.StartDrawn = Start x.cycle n
+lead_tells x n drives.FinishDrawn = Finish x.cycle n
+lead_tells x n _ = End x.cycle
+
+abbrev pub told_event : Bool → Lay → View → ℕ → Event
+told_event true p v m = lead_tells v.lead (p.number m) v.lead.drive
+told_event false p v m = node_tells (node_of v m) (p.number m) (node_of v m).phase
 
 abbrev pub stored_phase : Phase → Phase
 stored_phase StartDrawn = Running

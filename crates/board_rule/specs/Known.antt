@@ -1,27 +1,29 @@
 -- A seat, as contracts see it: the table that it belongs to, and what it knows. What it keeps to step by is part of that.
 -- Source: this project's own.
-use Rattle.std.specs.Prelude.{◌≡◌, ℕ, List}
+use Rattle.std.specs.Prelude.{◌≡◌, ℕ, List, map}
 use Rattle.atomic_table.specs.Seated.{TableId}
-use Rattle.board_rule.specs.declared.view.NodeView.{NodeView}
-use Rattle.board_rule.specs.declared.view.LeadView.{LeadView}
+use Rattle.board_rule.specs.declared.progress.NodeProgress.{NodeProgress}
+use Rattle.board_rule.specs.declared.lead.LeadProgress.{LeadProgress}
 use Rattle.board_rule.specs.declared.view.WriteView.{WriteView}
 use Rattle.board_rule.specs.declared.view.ReadView.{ReadView}
 use Rattle.board_rule.specs.declared.view.BlockView.{BlockView}
 use Rattle.board_rule.specs.declared.view.View.{View}
 use Rattle.board_rule.specs.Bits.{woke_of}
+use Rattle.board_rule.specs.Progress.{progress_of}
+use Rattle.board_rule.specs.LeadProgress.{lead_progress_of}
 
 pub record Known : Type 0 where
   pub table : TableId
   pub knows : View
 
-pub record IsLoopSeat (v : View) (nodes : List NodeView) (writes : List WriteView) (reads : List ReadView) (blocks : List BlockView) (woke : ℕ) : Type 0 where
-  pub nodes_are : v.nodes ≡ nodes
+pub record IsLoopSeat (v : View) (nodes : List NodeProgress) (writes : List WriteView) (reads : List ReadView) (blocks : List BlockView) (woke : ℕ) : Type 0 where
+  pub nodes_are : map progress_of v.nodes ≡ nodes
   pub writes_are : v.writes ≡ writes
   pub reads_are : v.reads ≡ reads
   pub blocks_are : v.blocks ≡ blocks
   pub woke_is : woke_of v.trail.told ≡ woke
 
-pub record IsDriverSeat (v : View) (lead : LeadView) (reads : List ReadView) (woke : ℕ) : Type 0 where
-  pub lead_is : v.lead ≡ lead
+pub record IsDriverSeat (v : View) (lead : LeadProgress) (reads : List ReadView) (woke : ℕ) : Type 0 where
+  pub lead_is : lead_progress_of v.lead ≡ lead
   pub reads_are : v.reads ≡ reads
   pub woke_is : woke_of v.trail.told ≡ woke

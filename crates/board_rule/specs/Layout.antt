@@ -1,8 +1,8 @@
 -- The shape of a board as the rule reads it: nodes by their places in the shape.
 -- Source: PipeWire's documentation, "Graph Scheduling" (required, target list); the words are this project's.
-use Rattle.std.specs.Prelude.{◌≡◌, ◌≢◌, ℕ, ◌+◌, ◌^◌, ◌<◌, ◌≤◌, List, [], drop, length, false, All, slice_index, slice_index_or}
+use Rattle.std.specs.Prelude.{◌≡◌, ◌≢◌, ℕ, ◌+◌, ◌^◌, ◌<◌, ◌≤◌, List, [], drop, length, false, All, Contains, slice_index, slice_index_or}
 use Rattle.pw_base.specs.declared.shape.Shape.{Shape}
-use Rattle.pw_base.specs.Dependencies.{nodes_of}
+use Rattle.pw_base.specs.Dependencies.{nodes_of, Precedes}
 use Rattle.pw_base.specs.Limits.{events_limit}
 use Rattle.pw_base.specs.Layout.{node_count, event_count}
 use Rattle.board_rule.specs.declared.plot.Plot.{Plot}
@@ -69,3 +69,7 @@ pub record IsSound (p : Lay) : Type 0 where
   pub required_some : (n : ℕ) → n < nodes p → 0 < p.required n
   pub tells_driver : (m i : ℕ) → m < nodes p → i < length (p.targets m) → 0 < times p.driver (drop i (p.targets m))
   pub tells : (m : ℕ) → m < nodes p → 0 < length (p.targets m)
+  pub names : (n : ℕ) → n < nodes p → slice_index (nodes_of p.shape) n ≡ p.number n
+  pub named : (n : ℕ) → Contains (nodes_of p.shape) n → p.place n < nodes p
+  pub names_driver : p.number p.driver ≡ p.shape.driver
+  pub follows : (m n : ℕ) → m < nodes p → n < nodes p → Precedes p.shape (p.number m) (p.number n) → 0 < times n (p.targets m)

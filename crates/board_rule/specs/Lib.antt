@@ -10,6 +10,8 @@ pub mod View
 pub mod Bits
 pub mod NodeRow
 pub mod ActivationRule
+pub mod Marks
+pub mod Logged
 pub mod EventRule
 pub mod BoardRule
 pub mod SeatNodes
@@ -20,4 +22,11 @@ pub mod TicketSteps
 pub mod CheckSteps
 pub mod EventSteps
 pub mod Plays
+pub mod Progress
+pub mod LeadProgress
 pub mod Known
+pub mod Closing
+pub mod SampleWords
+pub mod Areas
+pub mod BufferRule
+pub mod Spans

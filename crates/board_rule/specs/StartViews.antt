@@ -26,7 +26,7 @@ abbrev pub idle : ℕ → NodeView
 idle c = record { next = c; phase = Idle; start = 0; finish = 0 }
 
 abbrev pub resting : ℕ → LeadView
-resting c = record { cycle = c; drive = Between; checked = false; ticket = 0; start = 0; finish = 0 }
+resting c = record { cycle = c; drive = Between; checked = false; checks = 0; ticket = 0; start = 0; finish = 0 }
 
 abbrev pub unwritten : ℕ → WriteView
 unwritten c = record { loaded = c; stored = c; id = no_block; last = no_block }

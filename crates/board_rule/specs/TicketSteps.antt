@@ -1,6 +1,6 @@
--- Drawing a ticket: what it asks of the view of its seat, and the view after it. Nodes are places.
+-- Drawing a ticket: what it asks of the view of its seat, and the view after it; and what storing its event asks of the phase. Nodes are places.
 -- Source: this project's own.
-use Rattle.std.specs.Prelude.{◌≡◌, ℕ, Bool, true, false, []}
+use Rattle.std.specs.Prelude.{◌≡◌, ℕ, ◌+◌, Bool, true, false, []}
 use Rattle.board_rule.specs.declared.view.Phase.{Phase}
 use Rattle.board_rule.specs.declared.view.Phase.TheVariants.{Awake, StartDrawn, Done, FinishDrawn}
 use Rattle.board_rule.specs.declared.view.Drive.{Drive}
@@ -38,7 +38,7 @@ node_draws x ticket _ = x
 
 abbrev pub lead_draws : LeadView → ℕ → Drive → LeadView
 lead_draws x ticket drives.Between = record x { drive = drives.BeginDrawn; ticket = ticket }
-lead_draws x ticket drives.Waiting = record x { drive = drives.Checking; checked = true; ticket = ticket }
+lead_draws x ticket drives.Waiting = record x { drive = drives.Checking; checked = true; checks = x.checks + 1; ticket = ticket }
 lead_draws x ticket drives.Awake = record x { drive = drives.StartDrawn; start = ticket }
 lead_draws x ticket drives.Done = record x { drive = drives.FinishDrawn; finish = ticket }
 lead_draws x ticket drives.FinishStored = record x { drive = drives.EndDrawn; ticket = ticket }
@@ -53,3 +53,17 @@ draw_trail t _ = t
 abbrev pub draws : Bool → View → ℕ → ℕ → View
 draws true v m ticket = view_lead v (lead_draws v.lead ticket v.lead.drive) (draw_trail v.trail v.lead.drive)
 draws false v m ticket = view_node v m (node_draws (node_of v m) ticket (node_of v m).phase) v.trail
+
+-- STORING AN EVENT: its ticket is drawn, and for a Tick the late set is stored
+abbrev pub CanStore : Phase → Type 0
+CanStore StartDrawn = Unit {0}
+CanStore FinishDrawn = Unit {0}
+CanStore _ = ⊥
+
+abbrev pub CanStoreLead : Drive → Type 0
+CanStoreLead drives.BeginDrawn = Unit {0}
+CanStoreLead drives.LateStored = Unit {0}
+CanStoreLead drives.StartDrawn = Unit {0}
+CanStoreLead drives.FinishDrawn = Unit {0}
+CanStoreLead drives.EndDrawn = Unit {0}
+CanStoreLead _ = ⊥

@@ -1,19 +1,26 @@
 -- Views: what each seat knows, what all know together, and the views after a step.
 -- Source: this project's own; the phases are those of src/view.rt.
-use Rattle.std.specs.Prelude.{ℕ, suc, cond, eqb, slice_set as set, slice_index_or}
+use Rattle.std.specs.Prelude.{ℕ, List, suc, cond, eqb, slice_set as set, slice_index_or}
 use Rattle.board_rule.specs.declared.view.NodeView.{NodeView}
 use Rattle.board_rule.specs.declared.view.LeadView.{LeadView}
 use Rattle.board_rule.specs.declared.view.Trail.{Trail}
+use Rattle.board_rule.specs.declared.view.Found.{Found}
+use Rattle.pw_base.specs.declared.event.Event.{Event}
 use Rattle.board_rule.specs.declared.view.View.{View}
 pub use Rattle.board_rule.specs.StartViews.{Samples, idle, resting, unwritten, unread, no_trail, free_blocks, first_view, driver_view, loop_view}
 
--- what all seats know together; seat_at gives for a number the place of its view among the table's views
+-- what all seats know together; seat_at gives for a number the place of its view among the table's views. The events of earlier cycles, those between
+-- Begin and End of the driver's cycle so far, the late set that is stored in it, and what its last check has loaded
 pub record Whole : Type 0 where
   pub lead : LeadView
   pub split : ℕ
   pub nodes : ℕ → NodeView
   pub seat_at : ℕ → ℕ
   pub expect : Samples
+  pub past : List Event
+  pub inside : List Event
+  pub late : ℕ
+  pub looks : List Found
 
 -- f, with x at m
 abbrev pub put : {A : Type 0} → (ℕ → A) → ℕ → A → ℕ → A

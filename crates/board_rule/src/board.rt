@@ -1,5 +1,5 @@
 //! A board: the words of one epoch that all threads share.
-ghost use Rattle.std.specs.Prelude.{◌≡◌, ◌+◌, ◌<◌, ◌≤◌, ◌^◌, length, slice_index};
+ghost use Rattle.std.specs.Prelude.{◌≡◌, ◌+◌, ◌<◌, ◌≤◌, ◌^◌, [], length, slice_index};
 ghost use Rattle.pw_base.specs.Layout.{pending_place, status_place, late_place, event_place, event_count, area_count};
 ghost use Rattle.board_rule.specs.Layout.{lay, IsSound, nodes, first, last, word_count};
 ghost use Rattle.board_rule.specs.Rows.{HasRows};
@@ -7,7 +7,7 @@ ghost use Rattle.board_rule.specs.Rows.{HasRows};
 use crate::plot::Plot;
 use crate::rows::Rows;
 use crate::rule::BoardTable;
-use pw_base::Shape;
+use pw_base::{Event, Room, Shape};
 
 /// The words of one epoch, in one table of atomic words with no lock round it. Threads share it by reference, and each
 /// steps on it with a seat of its own.
@@ -16,6 +16,8 @@ pub struct Board {
     pub(crate) table: BoardTable,
     pub(crate) plot: Plot,
     pub(crate) rows: Rows,
+    /// For the events, when the board is closed.
+    pub(crate) spare: Room<Event>,
     ghost sound: { IsSound (lay plot) },
     ghost about: { table.shared.key ≡ plot },
     ghost words: { table.shared.table_id.words ≡ word_count plot.shape },
@@ -23,6 +25,8 @@ pub struct Board {
     ghost fits: { word_count plot.shape < 2 ^ 64 },
     ghost slots: { table.shared.table_id.slots ≡ 0 },
     ghost tied: { HasRows plot.shape rows },
+    ghost unused: { spare.list ≡ [] },
+    ghost enough: { event_count plot.shape ≤ spare.spare },
 }
 
 impl Board {
@@ -152,6 +156,19 @@ impl Board {
         ensures later { nodes (lay self.now.plot) + nodes (lay self.now.plot) < result }
     {
         1 + 2 * self.nodes() + self.areas() + past
+    }
+
+    /// Where the late sets and the events begin.
+    pub(crate) fn first_late(&self) -> usize
+        ensures { result ≡ late_place self.now.plot.shape 0 }
+    {
+        1 + 2 * self.nodes() + self.areas()
+    }
+
+    pub(crate) fn first_event(&self) -> usize
+        ensures { result ≡ event_place self.now.plot.shape 0 }
+    {
+        self.first_late() + self.plot.shape.cycles as usize
     }
 
     /// Where the event of a ticket stands.

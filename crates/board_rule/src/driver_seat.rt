@@ -5,21 +5,23 @@ ghost use Rattle.board_rule.specs.Steps.{StoresPending, pending_stored, StoresSt
 ghost use Rattle.board_rule.specs.EventSteps.{Looks, looked, StoresLate, late_stored};
 
 use crate::board::Board;
-use crate::phases::{
-    kick, lead_draw, lead_event, lead_store, lead_ticket, reset_so_far, resets, taken, wake,
+use crate::lead::{
+    Due, LeadProgress, lead_draw, lead_event, lead_store, lead_ticket, reset_so_far, told_so_far,
+    woke_at_draw,
 };
+use crate::progress::wake;
 use crate::rule::BoardToken;
 use crate::seat::BoardSeat;
 use crate::steps::statuses::triggered;
 use crate::steps::{activation, event};
-use crate::view::{Drive, LeadView, ReadView};
+use crate::view::ReadView;
 use std::marker::{Brand, Model};
 
 /// The right of the driver's thread to step on a board: it begins, checks and ends each cycle and runs the driver's node.
 #[derive(Drop)]
 pub struct DriverSeat {
     pub(crate) token: BoardToken,
-    pub(crate) lead: LeadView,
+    pub(crate) lead: LeadProgress,
     pub(crate) reads: Vec<ReadView>,
     pub(crate) woke: u64,
 }
@@ -53,21 +55,21 @@ impl BoardSeat for DriverSeat {
 
     fn lower_pending(&mut self, board: &Board, node: u32) -> u64 {
         let at = board.place(node);
-        let done = taken(self.lead.drive);
+        let done = self.lead.done;
         let target = board.target(at, done);
         let found = activation::lower::<Brand>(board, &mut self.token, at, target);
-        self.lead.drive = kick(board.targets_at(at), done + 1, found == 1);
-        self.woke = wake(self.woke, board.number(target), found);
+        self.lead.done = told_so_far(board.targets_at(at), done + 1, found == 1);
+        self.woke = wake(board, self.woke, target, found);
         found
     }
 
     fn store_triggered(&mut self, board: &Board, node: u32) {
         let at = board.place(node);
-        let done = taken(self.lead.drive);
+        let done = self.lead.done;
         let target = board.target(at, done - 1);
         let cycle = board.cycle(self.lead.cycle);
         activation::trigger::<Brand>(board, &mut self.token, at, target, cycle);
-        self.lead.drive = kick(board.targets_at(at), done, false);
+        self.lead.done = told_so_far(board.targets_at(at), done, false);
     }
 
     fn exchange_awake(&mut self, board: &Board, node: u32) -> u64 {
@@ -75,7 +77,7 @@ impl BoardSeat for DriverSeat {
         let cycle = board.cycle(self.lead.cycle);
         let found = activation::claim::<Brand>(board, &mut self.token, at, cycle);
         if found == triggered(cycle) {
-            self.lead.drive = Drive::Awake;
+            self.lead.due = Due::Start;
         }
         found
     }
@@ -84,28 +86,24 @@ impl BoardSeat for DriverSeat {
         let at = board.place(node);
         let cycle = board.cycle(self.lead.cycle);
         activation::finish::<Brand>(board, &mut self.token, at, cycle);
-        self.lead.drive = Drive::Done;
         self.woke = 0;
     }
 
     fn draw_ticket(&mut self, board: &Board, node: u32) -> u64 {
         let at = board.place(node);
-        let begins = matches!(self.lead.drive, Drive::Between);
         let ticket = event::draw::<Brand>(board, &mut self.token, at);
-        self.lead = lead_draw(self.lead, ticket);
-        if begins {
-            self.woke = 0;
-        }
+        self.woke = woke_at_draw(self.lead.due, self.woke);
+        lead_draw(&mut self.lead, ticket);
         ticket
     }
 
     fn store_event(&mut self, board: &Board, node: u32) {
         let at = board.place(node);
         let cycle = board.cycle(self.lead.cycle);
-        let new = lead_event(self.lead.drive, cycle, board.number(at));
+        let new = lead_event(self.lead.due, cycle, node);
         let ticket = lead_ticket(self.lead);
         event::store::<Brand>(board, &mut self.token, at, ticket, &new);
-        self.lead = lead_store(self.lead);
+        lead_store(&mut self.lead);
     }
 }
 
@@ -117,9 +115,8 @@ impl DriverSeat {
         ensures table { self.new.table ≡ self.old.table }
         ensures knows { self.new.knows ≡ pending_stored self.old.knows }
     {
-        let at = resets(self.lead.drive);
+        let at = self.lead.done;
         activation::reset_pending::<Brand>(board, &mut self.token, at);
-        self.lead.drive = Drive::Half { done: at };
     }
 
     /// Stores NOT_TRIGGERED of its cycle in the status word of the node whose pending word is reset.
@@ -129,10 +126,10 @@ impl DriverSeat {
         ensures table { self.new.table ≡ self.old.table }
         ensures knows { self.new.knows ≡ status_stored (lay board.now.plot) self.old.knows }
     {
-        let at = resets(self.lead.drive);
+        let at = self.lead.done;
         let cycle = board.cycle(self.lead.cycle);
         activation::reset_status::<Brand>(board, &mut self.token, at, cycle);
-        self.lead.drive = reset_so_far(board.nodes(), at + 1);
+        self.lead.done = reset_so_far(board.nodes(), at + 1);
     }
 
     /// Loads the status word of a follower in a check, which has not yet loaded it.
@@ -155,6 +152,5 @@ impl DriverSeat {
     {
         let past = board.past(self.lead.cycle) as usize;
         event::store_late::<Brand>(board, &mut self.token, past, late);
-        self.lead.drive = Drive::LateStored;
     }
 }

@@ -2,15 +2,18 @@
 #![tactic(auto)]
 
 mod board;
+mod closed;
+mod closing;
 mod copying;
 mod driver_seat;
 mod expect;
 mod layout;
+mod lead;
 mod left;
 mod loop_seat;
 mod opening;
-mod phases;
 mod plot;
+mod progress;
 mod rows;
 mod rule;
 mod seat;
@@ -18,6 +21,7 @@ mod steps;
 mod view;
 
 pub use board::Board;
+pub use closed::Closed;
 pub use driver_seat::DriverSeat;
 pub use expect::Expect;
 pub use left::{left_at_start, left_of, tell};

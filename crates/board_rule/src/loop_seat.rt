@@ -1,21 +1,22 @@
 //! The seat of a loop. Contracts see the table that it belongs to and what it knows.
 ghost use Rattle.std.specs.Prelude.{◌≡◌, ◌<◌, length};
 ghost use Rattle.board_rule.specs.View.{node_of};
+ghost use Rattle.board_rule.specs.Progress.{progress_of};
 
 use crate::board::Board;
-use crate::phases::{draw, node_event, settle, store, ticket_held, told, wake};
+use crate::progress::{NodeProgress, draw, finish, node_event, settle, ticket_held, wake};
 use crate::rule::BoardToken;
 use crate::seat::BoardSeat;
 use crate::steps::statuses::triggered;
 use crate::steps::{activation, event};
-use crate::view::{BlockView, NodeView, Phase, ReadView, WriteView};
+use crate::view::{BlockView, ReadView, WriteView};
 use std::marker::{Brand, Model};
 
 /// The right of one loop to step on a board, for the followers that are its own.
 #[derive(Drop)]
 pub struct LoopSeat {
     pub(crate) token: BoardToken,
-    pub(crate) nodes: Vec<NodeView>,
+    pub(crate) nodes: Vec<NodeProgress>,
     pub(crate) writes: Vec<WriteView>,
     pub(crate) reads: Vec<ReadView>,
     pub(crate) blocks: Vec<BlockView>,
@@ -33,10 +34,10 @@ impl Model for LoopSeat {
 }
 
 impl LoopSeat {
-    // The follower at a place.
-    fn node_at(&self, at: usize) -> NodeView
+    // What is kept of the follower at a place.
+    fn node_at(&self, at: usize) -> NodeProgress
         requires { at < length self.now.knows.nodes }
-        ensures { result ≡ node_of self.now.knows at }
+        ensures { result ≡ progress_of (node_of self.now.knows at) }
     {
         self.nodes[at]
     }
@@ -62,68 +63,52 @@ impl BoardSeat for LoopSeat {
 
     fn lower_pending(&mut self, board: &Board, node: u32) -> u64 {
         let at = board.place(node);
-        let before = self.node_at(at);
-        let done = told(before.phase);
-        let target = board.target(at, done);
+        let told = self.node_at(at).told;
+        let target = board.target(at, told);
         let found = activation::lower::<Brand>(board, &mut self.token, at, target);
-        self.nodes[at] = settle(before, board.targets_at(at), done + 1, found == 1);
-        self.woke = wake(self.woke, board.number(target), found);
+        let kept = &mut self.nodes[at];
+        settle(kept, board.targets_at(at), told + 1, found == 1);
+        self.woke = wake(board, self.woke, target, found);
         found
     }
 
     fn store_triggered(&mut self, board: &Board, node: u32) {
         let at = board.place(node);
         let before = self.node_at(at);
-        let done = told(before.phase);
-        let target = board.target(at, done - 1);
+        let target = board.target(at, before.told - 1);
         let cycle = board.cycle(before.next);
         activation::trigger::<Brand>(board, &mut self.token, at, target, cycle);
-        self.nodes[at] = settle(before, board.targets_at(at), done, false);
+        let kept = &mut self.nodes[at];
+        settle(kept, board.targets_at(at), before.told, false);
     }
 
     fn exchange_awake(&mut self, board: &Board, node: u32) -> u64 {
         let at = board.place(node);
-        let before = self.node_at(at);
-        let cycle = board.cycle(before.next);
-        let found = activation::claim::<Brand>(board, &mut self.token, at, cycle);
-        if found == triggered(cycle) {
-            self.nodes[at] = NodeView {
-                phase: Phase::Awake,
-                ..before
-            };
-        }
-        found
+        let cycle = board.cycle(self.node_at(at).next);
+        activation::claim::<Brand>(board, &mut self.token, at, cycle)
     }
 
     fn store_finished(&mut self, board: &Board, node: u32) {
         let at = board.place(node);
-        let before = self.node_at(at);
-        let cycle = board.cycle(before.next);
+        let cycle = board.cycle(self.node_at(at).next);
         activation::finish::<Brand>(board, &mut self.token, at, cycle);
-        self.nodes[at] = NodeView {
-            phase: Phase::Done,
-            ..before
-        };
+        let kept = &mut self.nodes[at];
+        finish(kept);
         self.woke = 0;
     }
 
     fn draw_ticket(&mut self, board: &Board, node: u32) -> u64 {
         let at = board.place(node);
-        let before = self.node_at(at);
         let ticket = event::draw::<Brand>(board, &mut self.token, at);
-        self.nodes[at] = draw(before, ticket);
+        let kept = &mut self.nodes[at];
+        draw(kept, ticket);
         ticket
     }
 
     fn store_event(&mut self, board: &Board, node: u32) {
         let at = board.place(node);
         let before = self.node_at(at);
-        let cycle = board.cycle(before.next);
-        let new = node_event(before.phase, cycle, board.number(at));
+        let new = node_event(before.ends, board.cycle(before.next), node);
         event::store::<Brand>(board, &mut self.token, at, ticket_held(before), &new);
-        self.nodes[at] = NodeView {
-            phase: store(before.phase),
-            ..before
-        };
     }
 }

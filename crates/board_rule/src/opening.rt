@@ -1,8 +1,10 @@
 //! How a board begins: its words at the start, and its seats split off the first one.
 ghost use Rattle.std.specs.Prelude.{◌≡◌, ℕ, ◌<◌, length, slice_get, replicate, Some, IfOk};
+ghost use Rattle.pw_base.specs.Layout.{event_count};
 ghost use Rattle.pw_base.specs.Pools.{IsPooledShape};
 ghost use Rattle.board_rule.specs.Known.{Known};
 ghost use Rattle.board_rule.specs.Layout.{lay, HasSeats, IsUndelayed};
+ghost use Rattle.board_rule.specs.Progress.{progress_of};
 ghost use Rattle.board_rule.specs.View.{Samples, first_view, driver_view, loop_view, split_off, free_blocks, idle, unread, unwritten};
 
 use crate::board::Board;
@@ -10,18 +12,20 @@ use crate::copying::copy_shape;
 use crate::driver_seat::DriverSeat;
 use crate::expect::Expect;
 use crate::layout::start_words;
+use crate::lead::{Due, LeadProgress};
 use crate::loop_seat::LoopSeat;
 use crate::plot::Plot;
+use crate::progress::NodeProgress;
 use crate::rows::rows_of;
 use crate::rule::{BoardTable, BoardToken};
-use crate::view::{BlockView, Drive, LeadView, NodeView, Phase, ReadView, View, WriteView};
+use crate::view::{BlockView, ReadView, View, WriteView};
 use atomic_table::{Split, Table};
 use pw_base::{Items, Memory, NO_BLOCK, Shape, pools_of};
 use std::alloc::{AllocError, Global};
 use std::marker::{Brand, PhantomData};
 
 /// The views of a seat and of the one that is split off it.
-trait Cut {
+pub(crate) trait Cut {
     ghost use Rattle.board_rule.specs.declared.view.View.{View};
 
     ghost left: { View };
@@ -37,7 +41,8 @@ impl Cut for Brand {
     ghost right = { no_view };
 }
 
-struct Parts<C> {
+/// A split into the views of `C`.
+pub(crate) struct Parts<C> {
     cut: PhantomData<C>,
 }
 
@@ -99,12 +104,13 @@ fn unwritten(alloc: Global, links: usize, cycle: u64) -> Result<Vec<WriteView>, 
 }
 
 // Followers that wait in the cycle.
-fn idle(alloc: Global, nodes: usize, cycle: u64) -> Result<Vec<NodeView>, AllocError>
-    ensures { IfOk result (λ views. views.items ≡ replicate nodes (idle cycle)) }
+fn idle(alloc: Global, nodes: usize, cycle: u64) -> Result<Vec<NodeProgress>, AllocError>
+    ensures { IfOk result (λ kept. kept.items ≡ replicate nodes (progress_of (idle cycle))) }
 {
-    let node = NodeView {
+    let node = NodeProgress {
         next: cycle,
-        phase: Phase::Idle,
+        told: 0,
+        ends: false,
         start: 0,
         finish: 0,
     };
@@ -144,6 +150,14 @@ impl DriverSeat {
     }
 }
 
+// How many events the epoch of a shape has at most.
+fn event_count(shape: &Shape) -> usize
+    requires { IsPooledShape shape.now }
+    ensures { result ≡ event_count shape.now }
+{
+    shape.cycles as usize * (2 * shape.nodes.len() + 3)
+}
+
 impl Board {
     // The board of a plot, with the driver's seat before any split.
     fn lay_out(alloc: Global, plot: Plot) -> Result<(Board, DriverSeat), Memory>
@@ -153,6 +167,7 @@ impl Board {
         ensures { IfOk result (λ t. (t.0.plot ≡ plot) × (t.1.table ≡ t.0.table.shared.table_id) × (t.1.knows ≡ first_view (lay plot))) }
     {
         let rows = rows_of(alloc, &plot.shape)?;
+        let spare = Items::new(alloc).into_room(event_count(&plot.shape))?;
         let words = start_words(alloc, &plot.shape)?;
         let first = u64::from(plot.shape.first);
         let reads = unread(alloc, plot.shape.links.len(), first)?;
@@ -161,16 +176,21 @@ impl Board {
             words.as_slice(),
             &plot,
         )?;
-        let lead = LeadView {
+        let lead = LeadProgress {
             cycle: first,
-            drive: Drive::Between,
-            checked: false,
+            done: 0,
+            due: Due::Begin,
             ticket: 0,
             start: 0,
             finish: 0,
         };
         Ok((
-            Board { table, plot, rows },
+            Board {
+                table,
+                plot,
+                rows,
+                spare,
+            },
             DriverSeat {
                 token,
                 lead,

@@ -15,7 +15,7 @@ pub struct Rows {
     pub(crate) driver: usize,
     /// How many io areas the links have.
     pub(crate) areas: usize,
-    pub(crate) places: Vec<usize>,
+    pub(crate) places: [usize; 64],
     pub(crate) required: Vec<u64>,
     pub(crate) targets: Vec<Vec<usize>>,
 }
@@ -36,14 +36,14 @@ fn place_in(shape: &Shape, node: u32) -> usize
 }
 
 // The places of the numbers below 64.
-fn places_of(alloc: Global, shape: &Shape) -> Result<Vec<usize>, AllocError>
-    ensures { IfOk result (λ v. (length v.items ≡ 64) × ((n : ℕ) → n < 64 → slice_index v.items n ≡ place_in shape.now n)) }
+fn places_of(shape: &Shape) -> [usize; 64]
+    ensures { (n : ℕ) → n < 64 → slice_index result n ≡ place_in shape.now n }
 {
-    let mut places = Vec::from_elem(alloc, 0usize, 64)?;
+    let mut places = [0usize; 64];
     for n in 0..64 {
         places[n as usize] = place_in(shape, n);
     }
-    Ok(places)
+    places
 }
 
 // The places of nodes.
@@ -97,7 +97,7 @@ pub(crate) fn rows_of(alloc: Global, shape: &Shape) -> Result<Rows, AllocError>
     Ok(Rows {
         driver: place_in(shape, shape.driver),
         areas: areas_of(shape.links.as_slice()),
-        places: places_of(alloc, shape)?,
+        places: places_of(shape),
         required: required_of(alloc, shape)?,
         targets: targets_of(alloc, shape)?,
     })

@@ -55,13 +55,15 @@ pub enum Drive {
     EndDrawn,
 }
 
-/// The driver's seat, in its cycle. `checked` says that a check was begun in it. `ticket` is the one that it drew last
-/// for a Begin, a Tick or an End, `start` and `finish` those for its own node.
+/// The driver's seat, in its cycle. `checked` says that a check was begun in it, `checks` in how many cycles of the epoch
+/// one was. `ticket` is the one that it drew last for a Begin, a Tick or an End, `start` and `finish` those for its own
+/// node.
 #[derive(Clone, Copy, Drop)]
 pub struct LeadView {
     pub cycle: u64,
     pub drive: Drive,
     pub checked: bool,
+    pub checks: u64,
     pub ticket: u64,
     pub start: u64,
     pub finish: u64,

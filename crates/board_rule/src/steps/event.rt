@@ -3,7 +3,7 @@ ghost use Rattle.std.specs.Prelude.{◌≡◌, ℕ, ◌+◌, ◌<◌, ◌≤◌}
 ghost use Rattle.pw_base.specs.Layout.{event_count};
 ghost use Rattle.pw_base.specs.EventWords.{event_node, event_word_of};
 ghost use Rattle.board_rule.specs.Layout.{lay, nodes, first};
-ghost use Rattle.board_rule.specs.EventSteps.{Draws, draws, ticket_of, StoresEvent, event_stored, Looks, looked, StoresLate, late_stored};
+ghost use Rattle.board_rule.specs.EventSteps.{Draws, draws, ticket_of, told_event, StoresEvent, event_stored, Looks, looked, StoresLate, late_stored};
 
 use crate::board::Board;
 use crate::rule::BoardToken;
@@ -36,6 +36,7 @@ pub(crate) fn store<C: Change>(
     requires phase { StoresEvent C.leads (lay board.now.plot) token.old.me.0 at }
     requires ticket { ticket ≡ ticket_of C.leads token.old.me.0 at }
     requires drawn { ticket < event_count board.now.plot.shape }
+    requires event { event.now ≡ told_event C.leads (lay board.now.plot) token.old.me.0 at }
     requires node { event_node event.now ≤ 63 }
     requires after { (found : ℕ) → C.after found ≡ event_stored C.leads token.old.me.0 at }
     ensures same { (token.new.table_id ≡ token.old.table_id) × (token.new.id ≡ token.old.id) × (token.new.me.1 ≡ token.old.me.1) }
@@ -49,6 +50,7 @@ pub(crate) fn store<C: Change>(
 /// Loads the status word of a follower in a check.
 pub(crate) fn look<C: Change>(board: &Board, token: &mut BoardToken, at: usize) -> u64
     requires table { token.old.table_id ≡ board.now.table.shared.table_id }
+    requires phase { Looks (lay board.now.plot) token.old.me.0 at }
     requires inside { at < nodes (lay board.now.plot) }
     requires after { (found : ℕ) → C.after found ≡ looked (lay board.now.plot) token.old.me.0 at found }
     ensures same { (token.new.table_id ≡ token.old.table_id) × (token.new.id ≡ token.old.id) × (token.new.me.1 ≡ token.old.me.1) }

@@ -3,4 +3,4 @@ use Rattle.board_rule.specs.Layout.{place_in}
 use Rattle.board_rule.proofs.rows.places_of.Given as goal
 
 abbrev pub invariant-loop-n : goal.invariant-loop-n
-invariant-loop-n l = (length l.places.items ≡ 64) × ((i : ℕ) → i < l.n → slice_index l.places.items i ≡ place_in l.shape i)
+invariant-loop-n l = (length l.places ≡ 64) × ((i : ℕ) → i < l.n → slice_index l.places i ≡ place_in l.shape i)

@@ -11,6 +11,6 @@ pub store-requires : goal.store-requires
 store-requires g c = let b = c.args.board.now in let p = lay b.plot in let t = c.args.token.now in let slots : ℕ = b.table.shared.table_id.slots in let after = g.C.Change.after in (
   c.requires.table,
   c.late_word-word.ensures.there,
-  subst (λ (k : Plot × ℕ). Allows (Holds (lay k.0)) slots t.id t.me k.1 (λ _. c.args.late) (λ _. Turns after t.me c.args.late)) (λ i. (sym b.about i, c.late_word-word.result))
-      (stores_late p slots t.id t.me after c.args.late c.late_word-word.result c.requires.phase c.late_word-word.ensures.later c.requires.after),
+  subst (λ (k : Plot × ℕ). Allows (Holds (lay k.0)) slots t.id t.me k.1 (λ _. c.args.late) (λ _. Turns after t.me c.args.late)) (λ i. (sym b.about i, sym c.late_word-word.ensures.is i))
+      (stores_late p slots t.id t.me after c.args.late c.args.past c.requires.phase c.requires.cycle c.requires.after),
 )

@@ -1,0 +1,24 @@
+//! What is left of a board when its last step is made.
+ghost use Rattle.std.specs.Prelude.{◌≡◌};
+
+use crate::plot::Plot;
+use crate::rule::BoardToken;
+use pw_base::{Event, Items};
+
+/// A closed board: what it was made for, the samples that its seats agreed on, and the events of its whole epoch in the
+/// order of their tickets. Only `Board::close` makes one.
+#[derive(Drop)]
+pub struct Closed {
+    pub(crate) plot: Plot,
+    pub(crate) events: Items<Event>,
+    pub(crate) kept: BoardToken,
+}
+
+impl Closed {
+    /// The events of the epoch, in the order of their tickets. Takes no memory.
+    pub fn events(&self) -> &Items<Event>
+        ensures { result.now ≡ self.now.events }
+    {
+        &self.events
+    }
+}

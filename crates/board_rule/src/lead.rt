@@ -1,0 +1,106 @@
+//! What the driver's seat keeps to step by. Its phase stands in contracts alone.
+ghost use Rattle.std.specs.Prelude.{◌≡◌, ◌<◌, ◌≤◌, ◌^◌, cond};
+ghost use Rattle.pw_base.specs.EventWords.{event_node};
+ghost use Rattle.board_rule.specs.LeadProgress.{told_so_far, reset_so_far, due_ticket, due_event, lead_drawn, lead_stored, is_begin};
+
+use pw_base::Event;
+
+/// The event whose ticket the driver's seat draws next, or holds.
+#[derive(Clone, Copy, Drop)]
+pub enum Due {
+    Begin,
+    Tick,
+    Start,
+    Finish,
+    End,
+}
+
+/// The driver's seat in its cycle: how many nodes it has reset, or targets taken down; the event that is due; and the
+/// tickets that it drew last, `start` and `finish` for its own node.
+#[derive(Clone, Copy, Drop)]
+pub struct LeadProgress {
+    pub(crate) cycle: u64,
+    pub(crate) done: usize,
+    pub(crate) due: Due,
+    pub(crate) ticket: u64,
+    pub(crate) start: u64,
+    pub(crate) finish: u64,
+}
+
+/// So many targets are taken down, and the last of these may be owed its trigger.
+pub(crate) fn told_so_far(targets: usize, told: usize, owes: bool) -> usize
+    ensures { result ≡ told_so_far targets told owes }
+{
+    if !owes && told == targets { 0 } else { told }
+}
+
+/// The first so many nodes are reset.
+pub(crate) fn reset_so_far(nodes: usize, done: usize) -> usize
+    ensures { result ≡ reset_so_far nodes done }
+{
+    if done == nodes { 0 } else { done }
+}
+
+/// The driver's seat has drawn the ticket of the event that is due.
+pub(crate) fn lead_draw(lead: &mut LeadProgress, ticket: u64)
+    ensures { lead.new ≡ lead_drawn lead.old lead.old.due ticket }
+{
+    match lead.due {
+        Due::Start => lead.start = ticket,
+        Due::Finish => lead.finish = ticket,
+        _ => lead.ticket = ticket,
+    }
+}
+
+/// The ticket that the driver's seat holds.
+pub(crate) fn lead_ticket(lead: LeadProgress) -> u64
+    ensures { result ≡ due_ticket lead lead.due }
+{
+    match lead.due {
+        Due::Start => lead.start,
+        Due::Finish => lead.finish,
+        _ => lead.ticket,
+    }
+}
+
+/// The driver's seat has stored the event that was due.
+pub(crate) fn lead_store(lead: &mut LeadProgress)
+    requires { lead.old.cycle < 2 ^ 63 }
+    ensures { lead.new ≡ lead_stored lead.old lead.old.due }
+{
+    match lead.due {
+        Due::Begin => lead.due = Due::Tick,
+        Due::Tick => {}
+        Due::Start => lead.due = Due::Finish,
+        Due::Finish => lead.due = Due::End,
+        Due::End => {
+            lead.cycle += 1;
+            lead.due = Due::Begin;
+        }
+    }
+}
+
+/// The event that is due. The late set of a Tick stands in a word of its own.
+pub(crate) fn lead_event(due: Due, cycle: u32, node: u32) -> Event
+    requires { node ≤ 63 }
+    ensures is { result ≡ due_event due cycle node }
+    ensures node { event_node result ≤ 63 }
+{
+    match due {
+        Due::Begin => Event::Begin { cycle },
+        Due::Tick => Event::Tick { cycle, late: 0 },
+        Due::Start => Event::Start { cycle, node },
+        Due::Finish => Event::Finish { cycle, node },
+        Due::End => Event::End { cycle },
+    }
+}
+
+/// The nodes that are woken: none at the Begin of a cycle.
+pub(crate) fn woke_at_draw(due: Due, woke: u64) -> u64
+    ensures { result ≡ cond (is_begin due) 0 woke }
+{
+    match due {
+        Due::Begin => 0,
+        _ => woke,
+    }
+}

@@ -1,0 +1,86 @@
+//! What the seat of a loop keeps of a follower to step by. The phases themselves stand in contracts alone.
+ghost use Rattle.std.specs.Prelude.{◌≡◌, ◌<◌, ◌≤◌, ◌^◌, true, cond, eqb};
+ghost use Rattle.pw_base.specs.declared.event.Event.TheVariants.{Start, Finish};
+ghost use Rattle.pw_base.specs.EventWords.{event_node};
+ghost use Rattle.board_rule.specs.Bits.{with_bit};
+ghost use Rattle.board_rule.specs.Layout.{lay, nodes};
+ghost use Rattle.board_rule.specs.Progress.{progress_settled};
+
+use crate::board::Board;
+use pw_base::Event;
+
+/// A follower in its cycle `next`: how many targets it has taken down, whether FINISHED is stored, and the tickets that it
+/// drew last.
+#[derive(Clone, Copy, Drop)]
+pub struct NodeProgress {
+    pub(crate) next: u64,
+    pub(crate) told: usize,
+    pub(crate) ends: bool,
+    pub(crate) start: u64,
+    pub(crate) finish: u64,
+}
+
+/// The node has taken down the first so many of its targets.
+pub(crate) fn settle(node: &mut NodeProgress, targets: usize, told: usize, owes: bool)
+    requires { node.old.next < 2 ^ 63 }
+    ensures { node.new ≡ progress_settled targets node.old told owes }
+{
+    if !owes && told == targets {
+        node.next += 1;
+        node.told = 0;
+        node.ends = false;
+    } else {
+        node.told = told;
+        node.ends = true;
+    }
+}
+
+/// The node has drawn the ticket of its Start, or of its Finish.
+pub(crate) fn draw(node: &mut NodeProgress, ticket: u64)
+    ensures { node.new ≡ cond node.old.ends (record node.old { finish = ticket }) (record node.old { start = ticket }) }
+{
+    if node.ends {
+        node.finish = ticket;
+    } else {
+        node.start = ticket;
+    }
+}
+
+/// FINISHED is stored.
+pub(crate) fn finish(node: &mut NodeProgress)
+    ensures { node.new ≡ record node.old { ends = true } }
+{
+    node.ends = true;
+}
+
+/// The ticket that the node holds.
+pub(crate) fn ticket_held(node: NodeProgress) -> u64
+    ensures { result ≡ cond node.ends node.finish node.start }
+{
+    if node.ends { node.finish } else { node.start }
+}
+
+/// The event of the ticket that a follower holds.
+pub(crate) fn node_event(ends: bool, cycle: u32, node: u32) -> Event
+    requires { node ≤ 63 }
+    ensures is { result ≡ cond ends (Finish cycle node) (Start cycle node) }
+    ensures node { event_node result ≤ 63 }
+{
+    if ends {
+        Event::Finish { cycle, node }
+    } else {
+        Event::Start { cycle, node }
+    }
+}
+
+/// The nodes that are woken, with a target more where its pending word was found at 1.
+pub(crate) fn wake(board: &Board, woke: u64, target: usize, found: u64) -> u64
+    requires { target < nodes (lay board.now.plot) }
+    ensures { result ≡ cond (eqb found 1) (with_bit woke ((lay board.now.plot).number target)) woke }
+{
+    if found == 1 {
+        woke | 1 << board.number(target)
+    } else {
+        woke
+    }
+}
