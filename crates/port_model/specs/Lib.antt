@@ -1,0 +1,6 @@
+pub mod PortState
+pub mod Offers
+pub mod Forms
+pub mod Narrowing
+pub mod SoundPorts
+pub mod Sharing

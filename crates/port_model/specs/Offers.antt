@@ -1,0 +1,68 @@
+-- What a port offers: its kind's offer, narrowed by files, by the values that its node shares, or its format alone.
+-- PipeWire's documentation, "Objects Design", Port; spa/param/format.h, spa/param/audio/raw.h; the kinds' table is this project's.
+use Rattle.std.specs.Prelude.{◌≡◌, ℕ, zero, suc, ◌==◌, ◌||◌, Bool, pos, [], ◌∷◌, length, map, None}
+use Rattle.std.specs.List.{range_with_len}
+use Rattle.pod_codec.specs.declared.pod.Pod.{Pod}
+use Rattle.pod_codec.specs.declared.pod.Pod.TheVariants as pod
+use Rattle.pw_base.specs.declared.kind.Kind.{Kind}
+use Rattle.pw_base.specs.declared.kind.Kind.TheVariants.{Source, Square, Gain, Mix2, Delay, Map, Split}
+use Rattle.pw_base.specs.KindPorts.{port_count}
+use Rattle.pw_base.specs.KindRanges.{IsRate, IsChannels}
+use Rattle.format_filter.specs.declared.choice.Choice.{Choice}
+use Rattle.format_filter.specs.declared.choice.Choice.TheVariants.{Only, Range}
+use Rattle.format_filter.specs.declared.choice.Wide.TheVariants as wide
+use Rattle.format_filter.specs.declared.format.Field.{Field}
+use Rattle.format_filter.specs.declared.format.Format.{Format}
+use Rattle.port_model.specs.declared.port_state.PortState.{PortState}
+use Rattle.port_model.specs.declared.port_state.Node.{Node}
+
+-- a number as an Int
+abbrev pub int_of : ℕ → Pod
+int_of n = pod.Int (pos n)
+
+-- the numbers of a source's file are a rate and a number of channels; those of other kinds are 0
+abbrev pub HasFileNumbers : Kind → ℕ → ℕ → Type 0
+HasFileNumbers Source rate channels = IsRate rate × IsChannels channels
+HasFileNumbers kind rate channels = (rate ≡ 0) × (channels ≡ 0)
+
+-- the rate of a kind: of a source its file's
+abbrev pub rate_choice : Kind → ℕ → Choice
+rate_choice Source rate = Only (int_of rate)
+rate_choice (Square own channels period amp) rate = Only (int_of own)
+rate_choice kind rate = Range wide.Int (pos 48000) (pos 1) (pos 384000)
+
+-- the channels of a port of a kind: of a source its file's
+abbrev pub channels_choice : Kind → ℕ → ℕ → Choice
+channels_choice Source port channels = Only (int_of channels)
+channels_choice (Square rate own period amp) port channels = Only (int_of own)
+channels_choice (Map own list) zero channels = Only (int_of own)
+channels_choice (Map own list) (suc port) channels = Only (int_of (length list))
+channels_choice Split zero channels = Only (int_of 2)
+channels_choice Split (suc port) channels = Only (int_of 1)
+channels_choice kind port channels = Range wide.Int (pos 2) (pos 1) (pos 8)
+
+abbrev pub plain_field : ℕ → Choice → Field
+plain_field key choice = record { key = key; flags = 0; choice = choice }
+
+-- KIND'S OFFER: media type 1 and media subtype 1 (audio, raw), audio format 0x103 (S16_LE), rate and channels; of
+-- object type Format (0x40003) and id EnumFormat (3)
+abbrev pub kind_offer : Kind → ℕ → ℕ → ℕ → Format
+kind_offer kind rate channels port = record {
+  object = 262147;
+  id = 3;
+  fields = plain_field 1 (Only (pod.Id 1)) ∷ plain_field 2 (Only (pod.Id 1)) ∷ plain_field 65537 (Only (pod.Id 259))
+      ∷ plain_field 65539 (rate_choice kind rate) ∷ plain_field 65540 (channels_choice kind port channels) ∷ [];
+}
+
+abbrev pub new_port : Kind → ℕ → ℕ → ℕ → PortState
+new_port kind rate channels port = record { own = kind_offer kind rate channels port; format = None; buffers = None }
+
+abbrev pub new_node : Kind → ℕ → ℕ → Node
+new_node kind rate channels = record { kind = kind; ports = map (new_port kind rate channels) (range_with_len 0 (port_count kind)) }
+
+-- which keys all ports of a node share: the rate, and of some kinds the channels
+abbrev pub is_shared_key : Kind → ℕ → Bool
+is_shared_key (Gain g) key = (key == 65539) || (key == 65540)
+is_shared_key (Mix2 ga gb) key = (key == 65539) || (key == 65540)
+is_shared_key (Delay frames) key = (key == 65539) || (key == 65540)
+is_shared_key kind key = key == 65539
