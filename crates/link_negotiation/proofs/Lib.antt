@@ -1,0 +1,4 @@
+pub mod WalkLemmas
+pub mod GivingLemmas
+pub mod UnlinkLemmas
+pub mod KeptLemmas

@@ -1,0 +1,6 @@
+pub mod Links
+pub mod Negotiation
+pub mod LinkOutcome
+pub mod Unlinking
+pub mod Searching
+pub mod Testing
