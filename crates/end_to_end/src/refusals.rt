@@ -20,6 +20,10 @@ fn words_outside_the_grammar(rt: HostRuntime) -> Result<(), Fail> {
         ("dump", 1, "usage 1\n"),
         ("dump -f", 1, "usage 1\n"),
         ("dump f g", 2, "usage 2\n"),
+        ("filter", 1, "usage 1\n"),
+        ("filter a b", 3, "usage 3\n"),
+        ("filter a -b c", 2, "usage 2\n"),
+        ("filter a b c d", 4, "usage 4\n"),
     ];
     for (line, word, wanted) in table {
         let mut files = files_of(rt.alloc(), SCRIPT)?;

@@ -1,4 +1,4 @@
--- Laws of `specs/FirstEpoch.antt`: the plan of a script of the first path can be rendered, and is covered.
+-- Laws of `specs/FirstEpoch.antt`: the plan of a script of the first path can be rendered, and is a plain mix.
 use Rattle.std.proofs.Common.{◌≡◌, ℕ, zero, suc, ◌<◌, ◌≤◌, ◌==◌, false, List, [], ◌∷◌, ◌++◌, length, map, All, Contains, count_by, refl, sym, ap, subst, inl, inr, arith}
 use Rattle.std.specs.Prelude.{Option, Some, None}
 use Rattle.std.proofs.lemmas.List.Elements.{All-cons, All-nil}
@@ -12,10 +12,12 @@ use Rattle.wav_files.specs.declared.wav.Wav.{Wav}
 use Rattle.wav_files.specs.declared.wav.WavIn.{WavIn}
 use Rattle.graph_script.specs.declared.script.Line.{Line}
 use Rattle.graph_script.specs.declared.script.Script.{Script}
+use Rattle.cycle_model.specs.Mixing.{IsPlainMix, IsSourceOrSink}
 use Rattle.cycle_model.specs.Epochs.{channels_of}
 use Rattle.cycle_model.specs.Cycle.{kind_at}
 use Rattle.cycle_model.specs.WavesFit.{WavesFit, IsWaveOfSource, IsFormOf}
-use Rattle.cycle_model.specs.Renderable.{FollowFrom, IsRenderable, IsCovered, IsRenderableEpoch, IsFitting, HasOrder, IsNodeOf, IsSourceOrSink}
+use Rattle.pw_base.specs.KindRanges.{IsInRange}
+use Rattle.cycle_model.specs.Renderable.{FollowFrom, IsRenderable, IsRenderableEpoch, IsFitting, HasOrder, IsNodeOf}
 use Rattle.pw_top.specs.declared.first_plan.Form.{Form}
 use Rattle.pw_top.specs.FirstLines.{quantum_line, sink_line, link_line, cycles_line, quantum_of, cycles_of}
 use Rattle.pw_top.specs.FirstPlan.{form_of, source_nodes, sink_nodes, source_node, sink_node, shape_nodes, shape_links, port_forms, fresh_nodes}
@@ -99,12 +101,19 @@ module _ (names : List (List ℕ)) (quantum cycles : ℕ) where
   both_fit sink form wav (suc zero) h = absurd (let e : Sink ≡ Source = h in cc)
   both_fit sink form wav (suc (suc n)) h = absurd (let e : Dummy ≡ Source = h in cc)
 
+  -- sources and sinks have no numbers
+  ranges_of : (sink : Option Line) (form : Option Form) (waves : List WavIn) → All (λ (n : PlanNode). IsInRange n.kind) (made names quantum cycles sink form waves).nodes
+  ranges_of None form [] = All-nil (λ (n : PlanNode). IsInRange n.kind)
+  ranges_of None form (w ∷ ws) = all_one (λ (n : PlanNode). IsInRange n.kind) (source_node names) tt
+  ranges_of (Some sink) form [] = all_one (λ (n : PlanNode). IsInRange n.kind) (sink_node names 0 form) tt
+  ranges_of (Some sink) form (w ∷ ws) = all_two (λ (n : PlanNode). IsInRange n.kind) (source_node names) (sink_node names 1 form) tt tt
+
   -- a plan without a link
   lone : (sink : Option Line) (waves : List WavIn) → length (made names quantum cycles sink None waves).nodes ≤ 63
       → WavesFit (made names quantum cycles sink None waves) waves → IsRenderable (made names quantum cycles sink None waves) waves
   lone sink waves few fit =
       let es = lone_epochs (made names quantum cycles sink None waves) cycles refl in
-      record { few = few; numbered = es.0; epochs = es.1; sources = fit }
+      record { few = few; ranges = ranges_of sink None waves; numbered = es.0; epochs = es.1; sources = fit }
 
   lone_renders : (sink : Option Line) (wav : Wav) → IsRenderable (made names quantum cycles sink None (the_wave wav ∷ [])) (the_wave wav ∷ [])
   lone_renders None wav = lone None (the_wave wav ∷ []) (omega arith) (record {
@@ -185,6 +194,7 @@ module _ (names : List (List ℕ)) (quantum cycles : ℕ) where
     linked_renders : IsRenderable linked (the_wave wav ∷ [])
     linked_renders = record {
       few = omega arith;
+      ranges = ranges_of (Some sink) (Some (wave_form wav)) (the_wave wav ∷ []);
       numbered = (linked_epochs cycles).0;
       epochs = (linked_epochs cycles).1;
       sources = record {
@@ -228,9 +238,9 @@ made_renders names quantum cycles sink link (w ∷ []) h =
     (renders_one names quantum cycles sink link w.wav)
 made_renders names quantum cycles sink link (w ∷ x ∷ more) h = absurd h
 
-pub made_covered : (names : List (List ℕ)) (quantum cycles : ℕ) (sink link : Option Line) (waves : List WavIn)
-    → IsCovered (made names quantum cycles sink (form_of sink link waves) waves)
-made_covered names quantum cycles sink link waves = record {
+pub made_mixes : (names : List (List ℕ)) (quantum cycles : ℕ) (sink link : Option Line) (waves : List WavIn)
+    → IsPlainMix (made names quantum cycles sink (form_of sink link waves) waves)
+made_mixes names quantum cycles sink link waves = record {
   kinds = kinds_of names quantum cycles sink (form_of sink link waves) waves;
   one = few_epochs quantum cycles (form_of sink link waves);
   prompt = prompt_of names quantum cycles sink link waves;
@@ -239,7 +249,3 @@ made_covered names quantum cycles sink link waves = record {
 pub plan_renders : (script : Script) (waves : List WavIn) → AreFirstWaves waves → IsRenderable (plan_of script waves) waves
 plan_renders script waves h =
     made_renders script.names (quantum_of (quantum_line script.lines)) (cycles_of (cycles_line script.lines)) (sink_line script.lines) (link_line script.lines) waves h
-
-pub plan_covered : (script : Script) (waves : List WavIn) → IsCovered (plan_of script waves)
-plan_covered script waves =
-    made_covered script.names (quantum_of (quantum_line script.lines)) (cycles_of (cycles_line script.lines)) (sink_line script.lines) (link_line script.lines) waves

@@ -19,7 +19,7 @@ use Rattle.pw_top.specs.FirstLines.{is_sink, sink_line, link_line, cycles_line, 
 use Rattle.pw_top.specs.FirstPlan.{form_of, channels_in, shape_nodes, shape_links, port_forms, fresh_nodes}
 use Rattle.pw_top.specs.FirstEpoch.{sink_samples, AreFirstWaves, AreNumbered}
 use Rattle.pw_top.specs.FirstStores.{store_of, first_stores}
-use Rattle.pw_top.proofs.FirstPlanLemmas.{made, wave_form, made_renders, made_covered}
+use Rattle.pw_top.proofs.FirstPlanLemmas.{made, wave_form, made_renders, made_mixes}
 
 -- what holds of each line holds of the one that is found: by whether the first one is
 found_here : {X : Type 0} (P : X → Type 0) (test : X → Bool) (y : X) (ys : List X) (x : X) (b : Bool) → test y ≡ b
@@ -54,7 +54,7 @@ module _ (names : List (List ℕ)) (quantum : ℕ) (sink link : Line) (w : WavIn
   length-stream zero = ap length (end_none (linked zero) (w ∷ []) 1 refl) ∙ sym (zero-mul (quantum * w.wav.channels))
   length-stream (suc n) =
       ap length (end_single (linked (suc n)) (w ∷ []) 1 _ (made_renders names quantum (suc n) (Some sink) (Some link) (w ∷ []) first)
-      (made_covered names quantum (suc n) (Some sink) (Some link) (w ∷ [])) refl)
+      (made_mixes names quantum (suc n) (Some sink) (Some link) (w ∷ [])) refl)
       ∙ length-linked_row w.wav quantum (suc n) (w ∷ [])
 
   abbrev kept : ℕ → Kept

@@ -1,3 +1,4 @@
+pub mod AllowedLemmas
 pub mod CommandLineLemmas
 pub mod EndingLemmas
 pub mod FirstPlanLemmas

@@ -1,5 +1,5 @@
 -- The expected answer of a command line: that of its command, or the refusal of its words.
-use Rattle.std.specs.Prelude.{List, Result, Ok, Err}
+use Rattle.std.specs.Prelude.{◌≡◌, List, Result, Ok, Err}
 use Rattle.pw_base.specs.declared.event.Event.{Event}
 use Rattle.pw_base.specs.Files.{Names}
 use Rattle.pw_top.specs.declared.status.Status.{Status}
@@ -9,15 +9,18 @@ use Rattle.pw_top.specs.Answer.{Answer, refused}
 use Rattle.pw_top.specs.Usage.{Words, command_of}
 use Rattle.pw_top.specs.Run.{run_answer}
 use Rattle.pw_top.specs.Dump.{dump_answer}
+use Rattle.pw_top.specs.Filter.{IsFilterAnswer}
 
-abbrev pub command_answer : Command → List Event → Names → Answer
-command_answer (C.Run c) history names = run_answer names c.script
-command_answer (C.Dump c) history names = dump_answer names c.file
+-- what is an answer to a command: of `run` and `dump` there is one
+abbrev pub IsAnswerTo : Command → List Event → Names → Answer → Type 0
+IsAnswerTo (C.Run c) history names a = a ≡ run_answer names c.script
+IsAnswerTo (C.Dump c) history names a = a ≡ dump_answer names c.file
+IsAnswerTo (C.Filter c) history names a = IsFilterAnswer names c.a c.b c.out a
 
-abbrev pub read_answer : Result Command Status → List Event → Names → Answer
-read_answer (Ok command) history names = command_answer command history names
-read_answer (Err status) history names = refused status
+abbrev pub IsReadAnswer : Result Command Status → List Event → Names → Answer → Type 0
+IsReadAnswer (Ok command) history names a = IsAnswerTo command history names a
+IsReadAnswer (Err status) history names a = a ≡ refused status
 
--- THE EXPECTED ANSWER of a command line, by what happened in its run and by what the files hold
-unfoldable pub answer_of : Words → List Event → Names → Answer
-answer_of words history names = read_answer (command_of words) history names
+-- AN EXPECTED ANSWER of a command line, by what happened in its run and by what the files hold
+unfoldable pub IsAnswer : Words → List Event → Names → Answer → Type 0
+IsAnswer words history names = IsReadAnswer (command_of words) history names

@@ -1,13 +1,16 @@
+pub mod Allowed
 pub mod Answer
 pub mod CommandLine
 pub mod Delivery
 pub mod Dump
 pub mod Ending
+pub mod Filter
 pub mod FirstEpoch
 pub mod FirstLines
 pub mod FirstPlan
 pub mod FirstStores
 pub mod Following
+pub mod FormatFile
 pub mod Headline
 pub mod PodFile
 pub mod Run

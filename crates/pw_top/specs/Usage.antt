@@ -1,9 +1,11 @@
--- The grammar of command lines: so far `run SCRIPT` and `dump FILE`. Of words outside it, the first at fault; where more are wanted, their number.
+-- The grammar of command lines: so far `run SCRIPT`, `dump FILE` and `filter A B OUT`. Of words outside it, the first at
+-- fault; where more are wanted, their number.
 use Rattle.std.specs.Prelude.{◌≡◌, ℕ, ◌==◌, ◌&&◌, Bool, false, not, nat_le, if◌then◌else◌, List, [], ◌∷◌, length, codes, bytes_eq, Result, Ok, Err}
 use Rattle.pw_top.specs.declared.status.Status.{Status}
 use Rattle.pw_top.specs.declared.status.Status.TheVariants as S
 use Rattle.pw_top.specs.declared.usage.Command.{Command}
 use Rattle.pw_top.specs.declared.usage.Command.TheVariants as C
+use Rattle.pw_top.specs.declared.commands.filter_files.FilterFiles.{FilterFiles}
 
 -- the words of a command line, as bytes
 abbrev pub Words : Type 0
@@ -14,15 +16,22 @@ abbrev pub is_file_word : List ℕ → Bool
 is_file_word [] = false
 is_file_word (c ∷ cs) = not (c == 45) && nat_le (length (c ∷ cs)) 255
 
--- nothing stands behind the one file
-abbrev pub nothing_behind : List ℕ → Words → Result (List ℕ) Status
-nothing_behind file [] = Ok file
-nothing_behind file (more ∷ rest) = Err (S.Usage 2)
+-- the word at an index names a file, and what comes next
+abbrev pub then_file : {T : Type 0} → ℕ → Words → (List ℕ → Words → Result T Status) → Result T Status
+then_file index [] next = Err (S.Usage index)
+then_file index (file ∷ rest) next = if is_file_word file then next file rest else Err (S.Usage index)
 
--- the words behind a command that has one file
+-- nothing stands from an index on
+abbrev pub then_nothing : {T : Type 0} → ℕ → Words → T → Result T Status
+then_nothing index [] x = Ok x
+then_nothing index (more ∷ rest) x = Err (S.Usage index)
+
+-- the words behind a command that has one file, and behind one that has three
 unfoldable pub one_file : Words → Result (List ℕ) Status
-one_file [] = Err (S.Usage 1)
-one_file (file ∷ rest) = if is_file_word file then nothing_behind file rest else Err (S.Usage 1)
+one_file words = then_file 1 words (λ file rest. then_nothing 2 rest file)
+
+unfoldable pub three_files : Words → Result FilterFiles Status
+three_files words = then_file 1 words (λ a bs. then_file 2 bs (λ b outs. then_file 3 outs (λ out rest. then_nothing 4 rest (record { a = a; b = b; out = out }))))
 
 abbrev pub run_of : Result (List ℕ) Status → Result Command Status
 run_of (Ok script) = Ok (C.Run (record { script = script }))
@@ -32,12 +41,17 @@ abbrev pub dump_of : Result (List ℕ) Status → Result Command Status
 dump_of (Ok file) = Ok (C.Dump (record { file = file }))
 dump_of (Err status) = Err status
 
+abbrev pub filter_of : Result FilterFiles Status → Result Command Status
+filter_of (Ok files) = Ok (C.Filter files)
+filter_of (Err status) = Err status
+
 -- THE MEANING of the words
 unfoldable pub command_of : Words → Result Command Status
 command_of [] = Err (S.Usage 0)
 command_of (name ∷ rest) =
     if bytes_eq name (codes "run") then run_of (one_file rest)
-    else (if bytes_eq name (codes "dump") then dump_of (one_file rest) else Err (S.Usage 0))
+    else (if bytes_eq name (codes "dump") then dump_of (one_file rest)
+    else (if bytes_eq name (codes "filter") then filter_of (three_files rest) else Err (S.Usage 0)))
 
 -- the words were read as they should, or memory was short
 abbrev pub IsRead : {T : Type 0} → Result T Status → Result T Status → Type 0

@@ -1,4 +1,5 @@
 //! The commands.
 
 pub mod dump;
+pub mod filter_files;
 pub mod run;

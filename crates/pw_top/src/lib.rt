@@ -6,6 +6,7 @@ mod delivering;
 mod first_lines;
 mod first_plan;
 mod first_run;
+mod format_file;
 mod loading;
 mod pod_file;
 mod preparing;

@@ -1,11 +1,15 @@
 //! A file that holds one POD.
-ghost use Rattle.std.specs.Prelude.{◌≡◌, [], length};
+ghost use Rattle.std.specs.Prelude.{◌≡◌, [], length, IfOk};
+ghost use Rattle.pod_codec.specs.SoundChoices.{HasSoundChoices};
 ghost use Rattle.pw_top.specs.PodFile.{pod_refusal, pod_in};
 ghost use Rattle.pw_top.specs.Ending.{Came, CommandCause};
 
 use crate::status::{PodWhy, Status};
 use pod_codec::{Pod, PodFault, read_pod};
 use std::alloc::Global;
+
+/// The bytes of a file with one POD, at most.
+pub const POD_BYTES: u64 = 1_048_584;
 
 // The refusal of bytes that are no POD.
 fn refusal_of(place: u32, fault: PodFault) -> Status
@@ -28,6 +32,7 @@ fn refusal_of(place: u32, fault: PodFault) -> Status
 pub fn pod_step(alloc: Global, place: u32, bytes: &[u8]) -> Result<Pod, Status>
     ensures told { Came (record { loads = []; outcome = pod_in place bytes.now }) result }
     ensures cause { CommandCause (λ pod. Unit {0}) 0 0 result }
+    ensures sound { IfOk result HasSoundChoices }
 {
     match read_pod(alloc, bytes) {
         Err(fault) => Err(refusal_of(place, fault)),

@@ -2,9 +2,11 @@
 ghost use Rattle.std.specs.Prelude.{◌≡◌, ℕ, ◌≤◌, ◌⊎◌, ◌++◌, IsSome, map, string_bytes};
 ghost use Rattle.pw_base.specs.Files.{names_in};
 ghost use Rattle.pw_base.specs.Causes.{Rose};
-ghost use Rattle.pw_top.specs.Ending.{Ends, PrepareCause, IsDeliverable};
+ghost use Rattle.pw_top.specs.Ending.{CommandCause, PrepareCause, IsDeliverable};
+ghost use Rattle.pw_top.specs.Allowed.{EndsAs};
 ghost use Rattle.pw_top.specs.Usage.{command_of};
-ghost use Rattle.pw_top.specs.CommandLine.{answer_of};
+ghost use Rattle.pw_top.specs.Answer.{Answer};
+ghost use Rattle.pw_top.specs.CommandLine.{IsAnswerTo, IsAnswer};
 ghost use Rattle.pw_top.specs.Following.{status_of};
 ghost use Rattle.pw_top.specs.Headline.{Follows, Caused, IsUsage};
 
@@ -18,11 +20,8 @@ use std::alloc::Global;
 use std::sync::Wait;
 use std::thread::Threads;
 
-impl Prepare for Command {
-    ghost use Rattle.pw_top.specs.CommandLine.{command_answer};
-
-    ghost answer = { command_answer };
-
+impl Command {
+    // Makes the loads of the command in order; what happened in a run is left in `history`.
     fn prepare<R: Threads + Wait + Sync, F: Files, G: Gate + Sync, K: Ticker>(
         self,
         rt: &R,
@@ -31,10 +30,17 @@ impl Prepare for Command {
         gate: &G,
         ticker: &mut K,
         history: &mut Items<Event>,
-    ) -> Result<Work, Status> {
+    ) -> Result<Work, Status>
+        ensures held { F.held files.new ≡ F.held files.old }
+        ensures told { IsSome (F.held files.old) → EndsAs (IsAnswerTo self history.new (names_in (F.held files.old))) result }
+        ensures later { F.load_faults files.old ≤ F.load_faults files.new }
+        ensures cause { CommandCause IsDeliverable (F.load_faults files.old) (F.load_faults files.new) result }
+        ensures stores { F.store_faults files.new ≡ F.store_faults files.old }
+    {
         match self {
             Command::Run(command) => command.prepare(rt, alloc, files, gate, ticker, history),
             Command::Dump(command) => command.prepare(rt, alloc, files, gate, ticker, history),
+            Command::Filter(command) => command.prepare(alloc, files),
         }
     }
 }
@@ -50,7 +56,7 @@ fn prepare_words<R: Threads + Wait + Sync, F: Files, G: Gate + Sync, K: Ticker>(
     history: &mut Items<Event>,
 ) -> Result<Work, Status>
     ensures held { F.held files.new ≡ F.held files.old }
-    ensures told { IsSome (F.held files.old) → Ends (answer_of (map string_bytes words.now) history.new (names_in (F.held files.old))) result }
+    ensures told { IsSome (F.held files.old) → EndsAs (IsAnswer (map string_bytes words.now) history.new (names_in (F.held files.old))) result }
     ensures later { F.load_faults files.old ≤ F.load_faults files.new }
     ensures cause { PrepareCause IsDeliverable (F.load_faults files.old) (F.load_faults files.new) result }
     ensures stores { F.store_faults files.new ≡ F.store_faults files.old }
@@ -87,7 +93,7 @@ pub fn run_words<R: Threads + Wait + Sync, F: Files, O: Sink, G: Gate + Sync, K:
 ) -> Report
     // What the status says of the expected answer, of the files and of the text, where these are told.
     ensures told { IsSome (F.held files.old) →
-        Follows (answer_of (map string_bytes words.now) result.history (names_in (F.held files.old)))
+        (a : Answer) × IsAnswer (map string_bytes words.now) result.history (names_in (F.held files.old)) a × Follows a
         (F.store_faults files.old) (F.store_faults files.new) (O.faults out.old) (O.faults out.new)
         (F.held files.old) (F.held files.new) (O.given out.old) (O.given out.new) result.status }
 
@@ -96,10 +102,11 @@ pub fn run_words<R: Threads + Wait + Sync, F: Files, O: Sink, G: Gate + Sync, K:
         (F.store_faults files.old) (F.store_faults files.new) (O.faults out.old) (O.faults out.new) result.status }
     ensures usage { IsUsage (command_of (map string_bytes words.now)) result.status }
 
-    // Where no count of faults rose, the status is the answer's, or memory was short.
+    // Where no count of faults rose, the status is an expected answer's, or memory was short.
     ensures complete { IsSome (F.held files.old) → ¬ Rose (F.load_faults files.old) (F.load_faults files.new) →
         ¬ Rose (F.store_faults files.old) (F.store_faults files.new) → ¬ Rose (O.faults out.old) (O.faults out.new) →
-        (result.status ≡ status_of (answer_of (map string_bytes words.now) result.history (names_in (F.held files.old))).outcome) ⊎ (result.status ≡ Status.Memory) }
+        (a : Answer) × IsAnswer (map string_bytes words.now) result.history (names_in (F.held files.old)) a ×
+        ((result.status ≡ status_of a.outcome) ⊎ (result.status ≡ Status.Memory)) }
 {
     let mut history = Items::new(alloc);
     let made = prepare_words(rt, alloc, words, files, gate, ticker, &mut history);

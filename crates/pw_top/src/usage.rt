@@ -1,8 +1,9 @@
 //! The words of a command line.
-ghost use Rattle.std.specs.Prelude.{◌≡◌, ℕ, ◌<◌, map, string_bytes, length, IfOk};
-ghost use Rattle.pw_top.specs.Usage.{is_file_word, one_file, run_of, dump_of, command_of, IsRead};
+ghost use Rattle.std.specs.Prelude.{◌≡◌, ℕ, ◌<◌, map, string_bytes, length, IfOk, Ok};
+ghost use Rattle.pw_top.specs.Usage.{is_file_word, then_file, then_nothing, one_file, three_files, run_of, dump_of, filter_of, command_of, IsRead};
 
 use crate::commands::dump::DumpFile;
+use crate::commands::filter_files::FilterFiles;
 use crate::commands::run::RunScript;
 use crate::status::Status;
 use pw_base::{Items, Text};
@@ -13,6 +14,7 @@ use std::alloc::Global;
 pub enum Command {
     Run(RunScript),
     Dump(DumpFile),
+    Filter(FilterFiles),
 }
 
 fn is_file_word(word: &String) -> bool
@@ -22,6 +24,16 @@ fn is_file_word(word: &String) -> bool
     match bytes {
         [] => false,
         [first, ..] => *first != b'-' && bytes.len() <= 255,
+    }
+}
+
+// A word as a name of a file.
+fn name_of(alloc: Global, word: &String) -> Result<Text, Status>
+    ensures { IsRead (Ok (string_bytes word.now)) result }
+{
+    match Items::from_slice(alloc, word.as_bytes()) {
+        Ok(name) => Ok(name),
+        Err(_memory) => Err(Status::Memory),
     }
 }
 
@@ -39,9 +51,67 @@ fn one_file(alloc: Global, rest: &[String]) -> Result<Text, Status>
             if !more.is_empty() {
                 return Err(Status::Usage { word: 2 });
             }
-            match Items::from_slice(alloc, file.as_bytes()) {
-                Ok(file) => Ok(file),
-                Err(_memory) => Err(Status::Memory),
+            name_of(alloc, file)
+        }
+    }
+}
+
+// Three words as the names of files.
+fn names_of(alloc: Global, a: &String, b: &String, out: &String) -> Result<FilterFiles, Status>
+    ensures { IsRead (Ok (record { a = string_bytes a.now; b = string_bytes b.now; out = string_bytes out.now })) result }
+{
+    match (name_of(alloc, a), name_of(alloc, b), name_of(alloc, out)) {
+        (Ok(a), Ok(b), Ok(out)) => Ok(FilterFiles { a, b, out }),
+        _ => Err(Status::Memory),
+    }
+}
+
+// The third file, and nothing behind it.
+fn third_file(alloc: Global, a: &String, b: &String, rest: &[String]) -> Result<FilterFiles, Status>
+    ensures { IsRead (then_file 3 (map string_bytes rest.now) (λ out rest. then_nothing 4 rest (record { a = string_bytes a.now; b = string_bytes b.now; out = out }))) result }
+{
+    match rest {
+        [] => Err(Status::Usage { word: 3 }),
+        [out, more @ ..] => {
+            if !is_file_word(out) {
+                return Err(Status::Usage { word: 3 });
+            }
+            if !more.is_empty() {
+                return Err(Status::Usage { word: 4 });
+            }
+            names_of(alloc, a, b, out)
+        }
+    }
+}
+
+// The second file and what stands behind it.
+fn second_file(alloc: Global, a: &String, rest: &[String]) -> Result<FilterFiles, Status>
+    ensures { IsRead (then_file 2 (map string_bytes rest.now) (λ b outs. then_file 3 outs (λ out rest. then_nothing 4 rest (record { a = string_bytes a.now; b = b; out = out })))) result }
+{
+    match rest {
+        [] => Err(Status::Usage { word: 2 }),
+        [b, outs @ ..] => {
+            if is_file_word(b) {
+                third_file(alloc, a, b, outs)
+            } else {
+                Err(Status::Usage { word: 2 })
+            }
+        }
+    }
+}
+
+// The three files behind a command.
+#[tactic(auto, unfolding(crate::specs::Usage::three_files))]
+fn three_files(alloc: Global, rest: &[String]) -> Result<FilterFiles, Status>
+    ensures { IsRead (three_files (map string_bytes rest.now)) result }
+{
+    match rest {
+        [] => Err(Status::Usage { word: 1 }),
+        [a, bs @ ..] => {
+            if is_file_word(a) {
+                second_file(alloc, a, bs)
+            } else {
+                Err(Status::Usage { word: 1 })
             }
         }
     }
@@ -67,6 +137,16 @@ fn read_dump(alloc: Global, rest: &[String]) -> Result<Command, Status>
     }
 }
 
+// `filter A B OUT`, behind its first word.
+fn read_filter(alloc: Global, rest: &[String]) -> Result<Command, Status>
+    ensures { IsRead (filter_of (three_files (map string_bytes rest.now))) result }
+{
+    match three_files(alloc, rest) {
+        Ok(files) => Ok(Command::Filter(files)),
+        Err(status) => Err(status),
+    }
+}
+
 /// What the words ask for, or the first word at fault.
 #[tactic(auto, unfolding(crate::specs::Usage::command_of))]
 pub fn read_words(alloc: Global, words: &[String]) -> Result<Command, Status>
@@ -79,6 +159,8 @@ pub fn read_words(alloc: Global, words: &[String]) -> Result<Command, Status>
                 read_run(alloc, rest)
             } else if name.as_bytes() == b"dump".as_slice() {
                 read_dump(alloc, rest)
+            } else if name.as_bytes() == b"filter".as_slice() {
+                read_filter(alloc, rest)
             } else {
                 Err(Status::Usage { word: 0 })
             }

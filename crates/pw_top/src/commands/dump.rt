@@ -7,7 +7,7 @@ ghost use Rattle.pw_top.specs.Dump.{dump_work, dump_loaded};
 ghost use Rattle.pw_top.specs.Ending.{Ends, CommandCause, IsDeliverable};
 
 use crate::loading::load_step;
-use crate::pod_file::pod_step;
+use crate::pod_file::{POD_BYTES, pod_step};
 use crate::preparing::Prepare;
 use crate::status::Status;
 use crate::work::Work;
@@ -16,8 +16,6 @@ use pw_base::{Event, Files, Gate, Items, Text, Ticker, Which};
 use std::alloc::Global;
 use std::sync::Wait;
 use std::thread::Threads;
-
-const POD_BYTES: u64 = 1_048_584;
 
 /// Dumps the POD of this file.
 #[derive(Drop)]

@@ -10,7 +10,10 @@ returns-clause-told g c = λ h.
     let d0 = c.deliver-delivered.ensures.delivered in
     let d1 = subst (λ y. Delivered made (g.F.Files.store_faults c.prepare_words-made.new.files) (g.F.Files.store_faults c.deliver-delivered.new.files) (g.O.Sink.faults c.args.out.now) (g.O.Sink.faults c.deliver-delivered.new.out) y (g.F.Files.held c.deliver-delivered.new.files) (g.O.Sink.given c.args.out.now) (g.O.Sink.given c.deliver-delivered.new.out) c.deliver-delivered.result) p.held d0 in
     let d2 = subst (λ x. Delivered made x (g.F.Files.store_faults c.deliver-delivered.new.files) (g.O.Sink.faults c.args.out.now) (g.O.Sink.faults c.deliver-delivered.new.out) (g.F.Files.held c.args.files.now) (g.F.Files.held c.deliver-delivered.new.files) (g.O.Sink.given c.args.out.now) (g.O.Sink.given c.deliver-delivered.new.out) c.deliver-delivered.result) p.stores d1 in
-    (run_follows _ made _ _ _ _ _ _ _ _ _ _ _ _ _ _ c.deliver-delivered.ensures.later_put p.cause (p.told h) d2 c.end_line-status.ensures.ends)
+    let e = p.told h in
+    (e.answer, e.allowed, run_follows e.answer made _ _ _ _ _ _ _ _ _ _ _ _ _ _ c.deliver-delivered.ensures.later_put p.cause e.ends d2 c.end_line-status.ensures.ends)
 
 pub returns-clause-complete : goal.returns-clause-complete
-returns-clause-complete g c = λ h nf ns np. complete _ _ _ _ _ _ _ _ _ _ _ _ (returns-clause-told g c h) (search (rules)) nf ns np
+returns-clause-complete g c = λ h nf ns np.
+    let t = returns-clause-told g c h in
+    (t.0, t.1, complete t.0 _ _ _ _ _ _ _ _ _ _ _ t.2 (search (rules)) nf ns np)
