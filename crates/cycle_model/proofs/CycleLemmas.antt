@@ -1,6 +1,5 @@
 -- One cycle, node by node: inputs, outputs, and what is told, against the cycle function.
 use Rattle.std.proofs.Common.{◌≡◌, ◌≢◌, ℕ, zero, suc, ◌+◌, ◌-◌, ◌*◌, ◌<◌, ◌≤◌, Bool, true, false, ◌==◌, nat_le, nat_lt, cond, List, [], ◌∷◌, ◌++◌, map, length, take, get_or, set, filter, fold, All, Some, None, option_map, unwrap_or, slice_get, ℤ, refl, ap, ap₂, sym, ◌∙◌, subst, arith, ⊎_elim, length-set, length-append}
-use Rattle.std.specs.Prelude.{OnOk, Result, Ok, Err}
 use Rattle.std.specs.List.{range_with_len, list_any}
 use Rattle.std.proofs.lemmas.List.{get_or_append_left, get_or-append_right, get_or-set_same, get_or-set_other, take_more, take_all}
 use Rattle.std.proofs.lemmas.List.Elements.{All-head, All-tail, All-cons, All-nil, All-append, All-filter, filter_passes}
@@ -392,11 +391,6 @@ nothing_more received more n h e = record {
       get_or-append_right received (nothing ∷ []) (length received) k nothing refl high ∙ ap (λ j. get_or (nothing ∷ []) j nothing) last)
       (cases_lt k (length received));
 }
-
--- two facts on a call that went well
-pub on_ok : {T E P Q R : Type 0} (r : Result T E) → OnOk r P → OnOk r Q → (P → Q → R) → OnOk r R
-on_ok (Ok x) p q f = f p q
-on_ok (Err e) p q f = tt
 
 -- the order is worked to its end
 pub all_worked : (plan : Plan) (waves : List WavIn) (c : ℕ) (e : Epoch) (earlier : List Given) (order : List ℕ) (i : ℕ) (received : List Received) (now : List Given) → IsCycle plan waves c e earlier → IsWhole e order

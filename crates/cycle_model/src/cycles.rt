@@ -7,7 +7,7 @@ ghost use Rattle.cycle_model.specs.NodeOrder.{IsOrder};
 ghost use Rattle.cycle_model.specs.Renderable.{IsRenderable};
 
 use crate::order::order_of;
-use crate::received::{Given, Received};
+use crate::received::{Given, Received, Setting};
 use crate::working::{release, work};
 use pw_base::{Epoch, Items, Memory, Plan};
 use std::alloc::Global;
@@ -44,44 +44,6 @@ fn all_cycles(epochs: &[Epoch]) -> Option<u64>
     Some(sum)
 }
 
-/// Works one node of a cycle's order, if it is one of the plan's: it receives its inputs and gives its outputs.
-fn work_next(
-    alloc: Global,
-    plan: &Plan,
-    waves: &[WavIn],
-    cycle: u64,
-    epoch: &Epoch,
-    before: &[Given],
-    order: &[u32],
-    i: usize,
-    received: &mut [Received],
-    now: &mut Items<Given>,
-) -> Result<(), Memory>
-    requires cycle { IsCycle plan.now waves.now cycle epoch.now before.now }
-    requires order { IsOrder epoch.now order.now }
-    requires there { i < length order.now }
-    requires way { IsUnderWay plan.now waves.now cycle (take i order.now) received.old now.old }
-    ensures { OnOk result (IsUnderWay plan.now waves.now cycle (take (i + 1) order.now) received.new now.new) }
-{
-    let node = order[i];
-    let Some(known) = plan.nodes.as_slice().get(node as usize) else {
-        return Ok(());
-    };
-    let first = cycle == u64::from(epoch.shape.first);
-    work(
-        alloc,
-        plan.quantum,
-        first,
-        before,
-        epoch,
-        &known.kind,
-        waves,
-        node,
-        received,
-        now,
-    )
-}
-
 /// One cycle: each active node receives its inputs and gives its outputs, after those whose output it gets. The answer
 /// is what the ports gave.
 fn work_cycle(
@@ -100,11 +62,18 @@ fn work_cycle(
 {
     let order = order_of(alloc, epoch)?;
     let order = order.as_slice();
+    let at = Setting {
+        quantum: plan.quantum,
+        first: cycle == u64::from(epoch.shape.first),
+        epoch,
+        before,
+    };
     let mut now = Items::new(alloc);
     for i in 0..order.len() {
-        work_next(
-            alloc, plan, waves, cycle, epoch, before, order, i, received, &mut now,
-        )?;
+        let node = order[i];
+        if let Some(known) = plan.nodes.as_slice().get(node as usize) {
+            work(alloc, &at, &known.kind, waves, node, received, &mut now)?;
+        }
     }
     Ok(now)
 }

@@ -4,8 +4,8 @@ ghost use Rattle.pw_base.specs.Samples.{clamped, silence, summed};
 ghost use Rattle.cycle_model.specs.Known.{given_at, brought_by, input_by};
 
 use crate::epochs::{channels_of, is_port};
-use crate::received::Given;
-use pw_base::{Epoch, Items, Memory, PortId, ShapeLink};
+use crate::received::{Given, Setting};
+use pw_base::{Items, Memory, PortId, ShapeLink};
 use std::alloc::Global;
 
 /// What a port gave, nothing if it is not told.
@@ -53,23 +53,21 @@ fn added(alloc: Global, sums: &[i64], row: &[i16]) -> Result<Items<i64>, Memory>
 /// The sums with what a link brings.
 fn with_link(
     alloc: Global,
-    quantum: u32,
-    first: bool,
-    before: &[Given],
+    at: &Setting<'_>,
     now: &[Given],
     link: &ShapeLink,
     sums: &[i64],
 ) -> Result<Items<i64>, Memory>
-    ensures { IfOk result (λ more. more ≡ summed sums.now (brought_by quantum first before.now now.now link.now)) }
+    ensures { IfOk result (λ more. more ≡ summed sums.now (brought_by at.now.quantum at.now.first at.now.before.now now.now link.now)) }
 {
     if !link.delayed {
         return added(alloc, sums, given_at(now, link.from));
     }
-    if first {
-        let zeros = Items::filled(alloc, samples_in(quantum, link.channels), 0)?;
+    if at.first {
+        let zeros = Items::filled(alloc, samples_in(at.quantum, link.channels), 0)?;
         return added(alloc, sums, zeros.as_slice());
     }
-    added(alloc, sums, given_at(before, link.from))
+    added(alloc, sums, given_at(at.before, link.from))
 }
 
 /// Writes each sum, limited to a sample's range.
@@ -82,24 +80,21 @@ fn clamp(sums: &[i64], to: &mut [i16])
     }
 }
 
-/// The input of a port in a cycle, the first of its epoch or a later one, by what ports gave in the cycle before
-/// and in this one.
+/// The input of a port in a cycle, by what ports gave in the cycle before and in this one.
 pub(crate) fn input_of(
     alloc: Global,
-    quantum: u32,
-    first: bool,
-    before: &[Given],
+    at: &Setting<'_>,
     now: &[Given],
-    epoch: &Epoch,
     port: PortId,
 ) -> Result<Items<i16>, Memory>
-    ensures { IfOk result (λ row. row ≡ input_by quantum first before.now now.now epoch.now port) }
+    ensures { IfOk result (λ row. row ≡ input_by at.now.quantum at.now.first at.now.before.now now.now at.now.epoch.now port) }
 {
+    let epoch = at.epoch;
     let channels = channels_of(epoch.forms.as_slice(), port);
-    let mut sums = Items::filled(alloc, samples_in(quantum, channels), 0)?;
+    let mut sums = Items::filled(alloc, samples_in(at.quantum, channels), 0)?;
     for link in epoch.shape.links.as_slice() {
         if is_port(link.to, port) {
-            sums = with_link(alloc, quantum, first, before, now, link, sums.as_slice())?;
+            sums = with_link(alloc, at, now, link, sums.as_slice())?;
         }
     }
     let mut row = Items::filled(alloc, sums.len(), 0)?;

@@ -1,5 +1,5 @@
 //! What the reference program knows of ports and nodes.
-use pw_base::{Items, PortId};
+use pw_base::{Epoch, Items, PortId};
 
 /// What an output port gave in one cycle.
 #[derive(Debug, Drop)]
@@ -15,4 +15,14 @@ pub(crate) struct Received {
     pub frames: u64,
     pub a: Items<i16>,
     pub b: Items<i16>,
+}
+
+/// The cycle that is worked: its quantum in frames, whether it is its epoch's first, its epoch, and what ports gave in
+/// the cycle before.
+#[derive(Clone, Copy, Drop)]
+pub(crate) struct Setting<'a> {
+    pub quantum: u32,
+    pub first: bool,
+    pub epoch: &'a Epoch,
+    pub before: &'a [Given],
 }

@@ -10,7 +10,7 @@ ghost use Rattle.cycle_model.specs.Progress.{nothing};
 use crate::epochs::channels_of;
 use crate::inputs::{input_of, samples_in};
 use crate::kinds::last_given;
-use crate::received::{Given, Received};
+use crate::received::{Given, Received, Setting};
 use pw_base::{Epoch, Items, Kind, Memory, PortId};
 use std::alloc::Global;
 use wav_files::WavIn;
@@ -60,47 +60,28 @@ pub(crate) fn release(alloc: Global, epochs: &[Epoch], cycle: u64, received: &mu
     }
 }
 
-/// Receives the inputs of one cycle, the first of its epoch or a later one.
+/// Receives the inputs of one cycle.
 fn receive(
     alloc: Global,
-    quantum: u32,
-    first: bool,
-    before: &[Given],
+    at: &Setting<'_>,
     now: &[Given],
-    epoch: &Epoch,
     kind: &Kind,
     node: u32,
     received: &mut Received,
 ) -> Result<(), Memory>
-    ensures { OnOk result (received.new ≡ received_more quantum first before.now now.now epoch.now kind.now node received.old) }
+    ensures { OnOk result (received.new ≡ received_more at.now.quantum at.now.first at.now.before.now now.now at.now.epoch.now kind.now node received.old) }
 {
-    let Some(frames) = received.frames.checked_add(u64::from(quantum)) else {
+    let Some(frames) = received.frames.checked_add(u64::from(at.quantum)) else {
         return Err(Memory);
     };
     received.frames = frames;
     let inputs = kind.inputs();
     if 0 < inputs {
-        let row = input_of(
-            alloc,
-            quantum,
-            first,
-            before,
-            now,
-            epoch,
-            PortId { node, port: 0 },
-        )?;
+        let row = input_of(alloc, at, now, PortId { node, port: 0 })?;
         received.a.extend(row.as_slice())?;
     }
     if 1 < inputs {
-        let row = input_of(
-            alloc,
-            quantum,
-            first,
-            before,
-            now,
-            epoch,
-            PortId { node, port: 1 },
-        )?;
+        let row = input_of(alloc, at, now, PortId { node, port: 1 })?;
         received.b.extend(row.as_slice())?;
     }
     Ok(())
@@ -109,8 +90,7 @@ fn receive(
 /// Tells what a node gives at its outputs.
 fn give(
     alloc: Global,
-    quantum: u32,
-    epoch: &Epoch,
+    at: &Setting<'_>,
     kind: &Kind,
     wave: &[i16],
     node: u32,
@@ -118,7 +98,7 @@ fn give(
     now: &mut Items<Given>,
 ) -> Result<(), Memory>
     requires { IsInRange kind.now }
-    ensures { OnOk result (now.new ≡ now.old ++ all_given_by quantum epoch.now kind.now wave.now node received.now) }
+    ensures { OnOk result (now.new ≡ now.old ++ all_given_by at.now.quantum at.now.epoch.now kind.now wave.now node received.now) }
 {
     let inputs = kind.inputs();
     for output in 0..kind.outputs() {
@@ -126,8 +106,8 @@ fn give(
             node,
             port: inputs + output,
         };
-        let channels = channels_of(epoch.forms.as_slice(), port);
-        let n = samples_in(quantum, channels);
+        let channels = channels_of(at.epoch.forms.as_slice(), port);
+        let n = samples_in(at.quantum, channels);
         let samples = last_given(alloc, kind, wave, received, channels, output, n)?;
         now.push(Given { port, samples })?;
     }
@@ -137,10 +117,7 @@ fn give(
 /// One cycle of a node.
 pub(crate) fn work(
     alloc: Global,
-    quantum: u32,
-    first: bool,
-    before: &[Given],
-    epoch: &Epoch,
+    at: &Setting<'_>,
     kind: &Kind,
     waves: &[WavIn],
     node: u32,
@@ -150,30 +127,11 @@ pub(crate) fn work(
     requires range { IsInRange kind.now }
     requires there { node < length received.old }
     ensures received { OnOk result (received.new ≡ slice_set received.old node
-        (received_more quantum first before.now now.old epoch.now kind.now node (slice_index_or received.old node nothing))) }
-    ensures now { OnOk result (now.new ≡ now.old ++ all_given_by quantum epoch.now kind.now (wave_of waves.now node) node
-        (received_more quantum first before.now now.old epoch.now kind.now node (slice_index_or received.old node nothing))) }
+        (received_more at.now.quantum at.now.first at.now.before.now now.old at.now.epoch.now kind.now node (slice_index_or received.old node nothing))) }
+    ensures now { OnOk result (now.new ≡ now.old ++ all_given_by at.now.quantum at.now.epoch.now kind.now (wave_of waves.now node) node
+        (received_more at.now.quantum at.now.first at.now.before.now now.old at.now.epoch.now kind.now node (slice_index_or received.old node nothing))) }
 {
     let here = &mut received[node as usize];
-    receive(
-        alloc,
-        quantum,
-        first,
-        before,
-        now.as_slice(),
-        epoch,
-        kind,
-        node,
-        here,
-    )?;
-    give(
-        alloc,
-        quantum,
-        epoch,
-        kind,
-        wave_of(waves, node),
-        node,
-        here,
-        now,
-    )
+    receive(alloc, at, now.as_slice(), kind, node, here)?;
+    give(alloc, at, kind, wave_of(waves, node), node, here, now)
 }
