@@ -14,3 +14,4 @@ pub mod ReadingLemmas
 pub mod PropLemmas
 pub mod LawLemmas
 pub mod UniqueLemmas
+pub mod AnswerLemmas

@@ -193,7 +193,7 @@ values_faultless k.Flags (v ∷ rest) c key fault a b = b
 values_faultless k.None (v ∷ rest) c key fault a b = a
 values_faultless k.Enum (v ∷ rest) c key fault a b = a
 
-reads_faultless : (o : Pod-F Pod Control Prop) (v : Pod) (c : Choice) (key : ℕ) (fault : FormatFault) → Faults o key fault → Reads o v c → ⊥
+pub reads_faultless : (o : Pod-F Pod Control Prop) (v : Pod) (c : Choice) (key : ℕ) (fault : FormatFault) → Faults o key fault → Reads o v c → ⊥
 reads_faultless (Pod-F.Choice kind flags child values) v c key fault a b = values_faultless kind values c key fault a b
 reads_faultless other v c key fault a b = a
 

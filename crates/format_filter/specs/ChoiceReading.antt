@@ -24,14 +24,15 @@ IsNumber wide v = (n : ℤ) × (v ≡ number_of wide n)
 
 -- default, min and max
 abbrev pub ReadsRange : Pod → Pod → Pod → Choice → Type 0
-ReadsRange wish low high (Range wide pick min max) = IsNumber wide wish × (low ≡ number_of wide min) × (high ≡ number_of wide max)
-    × (min ≤ℤ max) × Prefers wish (Range wide pick min max)
+ReadsRange wish low high (Range wide pick min max) = IsNumber wide wish × (low ≡ number_of wide min)
+    × (high ≡ number_of wide max) × (min ≤ℤ max) × Prefers wish (Range wide pick min max)
 ReadsRange wish low high other = ⊥
 
 -- default, min, max and step
 abbrev pub ReadsStep : Pod → Pod → Pod → Pod → Choice → Type 0
-ReadsStep wish low high by (Step wide pick min max step) = IsNumber wide wish × (low ≡ number_of wide min) × (high ≡ number_of wide max)
-    × (by ≡ number_of wide step) × (min ≤ℤ max) × (pos 0 <ℤ step) × Prefers wish (Step wide pick min max step)
+ReadsStep wish low high by (Step wide pick min max step) = IsNumber wide wish × (low ≡ number_of wide min)
+    × (high ≡ number_of wide max) × (by ≡ number_of wide step) × (min ≤ℤ max)
+    × (pos 0 <ℤ step) × Prefers wish (Step wide pick min max step)
 ReadsStep wish low high by other = ⊥
 
 -- default and alternatives
@@ -56,8 +57,10 @@ ReadsValues kind values c = ⊥
 abbrev pub FaultsValues : ChoiceKind → List Pod → ℕ → FormatFault → Type 0
 FaultsValues kind [] key fault = fault ≡ f.EmptyChoice key
 FaultsValues k.Flags (v ∷ rest) key fault = fault ≡ f.FlagsChoice key
-FaultsValues k.Range (v ∷ rest) key fault = (fault ≡ f.BadRange key) × ((c : Choice) → ReadsValues k.Range (v ∷ rest) c → ⊥)
-FaultsValues k.Step (v ∷ rest) key fault = (fault ≡ f.BadStep key) × ((c : Choice) → ReadsValues k.Step (v ∷ rest) c → ⊥)
+FaultsValues k.Range (v ∷ rest) key fault = (fault ≡ f.BadRange key)
+    × ((c : Choice) → ReadsValues k.Range (v ∷ rest) c → ⊥)
+FaultsValues k.Step (v ∷ rest) key fault = (fault ≡ f.BadStep key)
+    × ((c : Choice) → ReadsValues k.Step (v ∷ rest) c → ⊥)
 FaultsValues kind (v ∷ rest) key fault = ⊥
 
 -- READING of a value: a value that is no Choice is the only one

@@ -45,7 +45,8 @@ pub record HasCommonFormat (a b : Format) : Type 0 where
 
 -- what the common format has at a key: what one has alone, or the intersection and the flags that both have
 abbrev pub IsCommonField : Option Field → Option Field → Option Field → Type 0
-IsCommonField (Some f) (Some g) (Some h) = (h.key ≡ f.key) × (h.flags ≡ bit_and f.flags g.flags) × IsIntersection f.choice g.choice h.choice
+IsCommonField (Some f) (Some g) (Some h) = (h.key ≡ f.key) × (h.flags ≡ bit_and f.flags g.flags)
+    × IsIntersection f.choice g.choice h.choice
 IsCommonField (Some f) (Some g) None = ⊥
 IsCommonField (Some f) None h = h ≡ Some f
 IsCommonField None g h = h ≡ g
@@ -60,5 +61,6 @@ pub record IsCommonFormat (a b c : Format) : Type 0 where
 -- other object types, else the least clashing key, else the common format
 abbrev pub Filters : Format → Format → Filtered → Type 0
 Filters a b Types = a.object ≢ b.object
-Filters a b (Clash key) = (a.object ≡ b.object) × Clashes a.fields b.fields key × ((k : ℕ) → k < key → Clashes a.fields b.fields k → ⊥)
+Filters a b (Clash key) = (a.object ≡ b.object) × Clashes a.fields b.fields key
+    × ((k : ℕ) → k < key → Clashes a.fields b.fields k → ⊥)
 Filters a b (Common c) = HasCommonFormat a b × IsCommonFormat a b c

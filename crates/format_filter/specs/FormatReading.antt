@@ -23,7 +23,8 @@ abbrev pub ReadsChoice : Prop → Choice → Type 0
 ReadsChoice prop c = Reads (out-Pod (out-Prop prop).value) (out-Prop prop).value c
 
 abbrev pub ReadsField : Prop → Field → Type 0
-ReadsField prop field = (field.key ≡ key_of prop) × (field.flags ≡ (out-Prop prop).flags) × ReadsChoice prop field.choice
+ReadsField prop field = (field.key ≡ key_of prop) × (field.flags ≡ (out-Prop prop).flags)
+    × ReadsChoice prop field.choice
 
 -- properties without a fault: no key twice, and each value is read
 pub record AreReadable (props : List Prop) : Type 0 where
@@ -47,7 +48,8 @@ FaultsProp before prop fault = (IsTwice before prop × (fault ≡ f.KeyTwice (ke
 
 -- FORMAT of an object
 abbrev pub ReadsObject : Pod-F Pod Control Prop → Format → Type 0
-ReadsObject (Pod-F.Object object id props) format = (format.object ≡ object) × (format.id ≡ id) × AreFieldsOf props format.fields
+ReadsObject (Pod-F.Object object id props) format = (format.object ≡ object) × (format.id ≡ id)
+    × AreFieldsOf props format.fields
 ReadsObject other format = ⊥
 
 abbrev pub IsFormatOf : Pod → Format → Type 0

@@ -12,7 +12,8 @@ use Rattle.format_filter.specs.Soundness.{IsSound}
 
 -- p stands in a list before q does: some front of it has p and not q
 abbrev pub IsBefore : List Pod → Pod → Pod → Type 0
-IsBefore xs p q = (front : List Pod) × (back : List Pod) × (xs ≡ front ++ back) × Contains front p × (Contains front q → ⊥)
+IsBefore xs p q = (front : List Pod) × (back : List Pod) × (xs ≡ front ++ back) × Contains front p
+    × (Contains front q → ⊥)
 
 -- just those of a list for which P holds, in the order in which they first stand in it, so none twice
 pub record AreThoseOf (xs : List Pod) (P : Pod → Type 0) (those : List Pod) : Type 0 where
@@ -38,7 +39,8 @@ IsOverlap low high wide other = ⊥
 -- one number is an Only, two are an Enum, ascending, and more are a Step from the least to the greatest
 abbrev pub IsProgression : Choice → Type 0
 IsProgression (Only value) = Unit {0}
-IsProgression (Enum pick alts) = (wide : Wide) × (n : ℤ) × (m : ℤ) × (n <ℤ m) × (alts ≡ number_of wide n ∷ number_of wide m ∷ [])
+IsProgression (Enum pick alts) = (wide : Wide) × (n : ℤ) × (m : ℤ) × (n <ℤ m)
+    × (alts ≡ number_of wide n ∷ number_of wide m ∷ [])
 IsProgression (Range wide pick min max) = ⊥
 IsProgression (Step wide pick min max step) = (k : ℕ) × (2 ≤ k) × (max ≡ min +ℤ (pos k *ℤ step))
 

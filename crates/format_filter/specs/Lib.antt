@@ -10,5 +10,6 @@ pub mod Merging
 pub mod FormatFaults
 pub mod ChoiceReading
 pub mod FormatReading
+pub mod FormatAnswer
 pub mod PropReading
 pub mod FormatWriting

@@ -26,7 +26,8 @@ abbrev pub HasSoundParts : Choice → Type 0
 HasSoundParts (Only value) = IsOfType 19 value → ⊥
 HasSoundParts (Enum pick alts) = AreOfOneType alts
 HasSoundParts (Range wide pick min max) = FitsWide wide pick × FitsWide wide min × FitsWide wide max
-HasSoundParts (Step wide pick min max step) = FitsWide wide pick × FitsWide wide min × FitsWide wide max × FitsWide wide step × (pos 0 <ℤ step)
+HasSoundParts (Step wide pick min max step) = FitsWide wide pick × FitsWide wide min × FitsWide wide max
+    × FitsWide wide step × (pos 0 <ℤ step)
 
 -- SOUND CHOICE
 pub record IsSound (choice : Choice) : Type 0 where

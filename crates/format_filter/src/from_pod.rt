@@ -5,8 +5,11 @@ ghost use Rattle.std.specs.BTreeMap.{values, Updates, IsOrdered};
 ghost use Rattle.std.specs.Ordering.{nat_cmp};
 ghost use Rattle.pod_codec.specs.declared.pod.Pod.TheViews.{out-Pod, out-Prop};
 ghost use Rattle.pod_codec.specs.SoundChoices.{IsSoundChoice, HasSoundChoices};
+ghost use Rattle.format_filter.specs.declared.fault.FormatFault.{FormatFault};
 ghost use Rattle.format_filter.specs.declared.fault.FormatFault.TheVariants as f;
+ghost use Rattle.format_filter.specs.declared.format.Format.{Format};
 ghost use Rattle.format_filter.specs.FormatReading.{AreFieldsOf, FaultsProps, IsFormatOf, IsFirstFault};
+ghost use Rattle.format_filter.specs.FormatAnswer.{IsGiven, IsRefusedAs};
 ghost use Rattle.format_filter.specs.PropReading.{AreRead};
 
 use crate::choice::Choice;
@@ -70,15 +73,7 @@ fn fields_of(alloc: Global, props: &[Prop]) -> Result<Items<Field>, FormatFault>
 }
 
 /// The format of an object, or its first fault.
-///
-/// A value that is no Choice is the only one; a Choice becomes one of its kind, whose further values are
-/// ignored, and whose pick, where it is no member, is replaced by the min or the first alternative. The
-/// properties are looked at in their order; the first at fault decides, and for one property `KeyTwice` comes
-/// first, then `EmptyChoice`. After a fault nothing is made. Takes memory for the format and a map of its fields,
-/// and time linear in the values and in the fields times the logarithm of their number.
-///
-/// Public source: PipeWire's documentation, "SPA POD", Object and Choice; `spa/pod/pod.h`.
-pub fn format_of(alloc: Global, pod: &Pod) -> Result<Format, FormatFault>
+fn object_format(alloc: Global, pod: &Pod) -> Result<Format, FormatFault>
     requires { HasSoundChoices pod.now }
     ensures found { IfOk result (IsFormatOf pod.now) }
     ensures fault { IfErr result (λ fault. (fault ≡ f.Memory) ⊎ IsFirstFault pod.now fault) }
@@ -94,4 +89,25 @@ pub fn format_of(alloc: Global, pod: &Pod) -> Result<Format, FormatFault>
         },
         _ => Err(FormatFault::NotObject),
     }
+}
+
+/// The format of an object, or its first fault.
+///
+/// A value that is no Choice is the only one; a Choice becomes one of its kind, whose further values are
+/// ignored, and whose pick, where it is no member, is replaced by the min or the first alternative. The
+/// properties are looked at in their order; the first at fault decides, and for one property `KeyTwice` comes
+/// first, then `EmptyChoice`. After a fault nothing is made. Takes memory for the format and a map of its fields,
+/// and time linear in the values and in the fields times the logarithm of their number.
+///
+/// Public source: PipeWire's documentation, "SPA POD", Object and Choice; `spa/pod/pod.h`.
+pub fn format_of(alloc: Global, pod: &Pod) -> Result<Format, FormatFault>
+    requires { HasSoundChoices pod.now }
+    ensures found { IfOk result (IsFormatOf pod.now) }
+    ensures fault { IfErr result (λ fault. (fault ≡ f.Memory) ⊎ IsFirstFault pod.now fault) }
+
+    // No other answer is right.
+    ensures only { (format : Format) → IsFormatOf pod.now format → IsGiven result format }
+    ensures only_fault { (first : FormatFault) → IsFirstFault pod.now first → IsRefusedAs result first }
+{
+    object_format(alloc, pod)
 }

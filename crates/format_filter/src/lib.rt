@@ -15,6 +15,7 @@ mod format;
 mod from_pod;
 mod from_value;
 mod intersection;
+mod leaves;
 mod members;
 mod merging;
 mod numbers;

@@ -163,26 +163,6 @@ fn steps_meet_in_their_residues(rt: HostRuntime) -> Result<(), Fail> {
             (STEP, INT, [7, 1, 9, 2].as_slice()),
             [4, 3, 3, 9, 2],
         ),
-        (
-            (STEP, LONG, [LEAST, LEAST, MOST, MOST].as_slice()),
-            (STEP, LONG, [LEAST, LEAST, MOST, 1].as_slice()),
-            [3, LEAST, LEAST, MOST - 1, MOST],
-        ),
-        (
-            (STEP, LONG, [LEAST, LEAST, MOST, MOST].as_slice()),
-            (STEP, LONG, [0, LEAST, MOST, MOST - 1].as_slice()),
-            [1, LEAST, 0, 0, 0],
-        ),
-        (
-            (STEP, LONG, [1, 1, MOST, 2].as_slice()),
-            (STEP, LONG, [0, 0, MOST, 5].as_slice()),
-            [3, 5, 5, MOST - 2, 10],
-        ),
-        (
-            (STEP, INT, [0, 0, 9, 3].as_slice()),
-            (STEP, LONG, [0, 0, 9, 3].as_slice()),
-            [0; 5],
-        ),
     ] {
         assert_eq!(rt; met(alloc, a, b)?, want);
     }
@@ -190,7 +170,7 @@ fn steps_meet_in_their_residues(rt: HostRuntime) -> Result<(), Fail> {
 }
 
 #[test]
-fn ranges_meet_steps_and_ranges(rt: HostRuntime) -> Result<(), Fail> {
+fn ranges_meet_in_their_overlap(rt: HostRuntime) -> Result<(), Fail> {
     let alloc = rt.alloc();
     for (a, b, want) in [
         (
@@ -218,16 +198,16 @@ fn ranges_meet_steps_and_ranges(rt: HostRuntime) -> Result<(), Fail> {
             (RANGE, INT, [10, 10, 20].as_slice()),
             [0; 5],
         ),
-        (
-            (RANGE, LONG, [0, LEAST, MOST].as_slice()),
-            (RANGE, LONG, [MOST, MOST, MOST].as_slice()),
-            [1, MOST, 0, 0, 0],
-        ),
-        (
-            (RANGE, INT, [0, 0, 9].as_slice()),
-            (RANGE, LONG, [0, 0, 9].as_slice()),
-            [0; 5],
-        ),
+    ] {
+        assert_eq!(rt; met(alloc, a, b)?, want);
+    }
+    Ok(())
+}
+
+#[test]
+fn ranges_meet_steps(rt: HostRuntime) -> Result<(), Fail> {
+    let alloc = rt.alloc();
+    for (a, b, want) in [
         (
             (RANGE, INT, [5, -5, 25].as_slice()),
             (STEP, INT, [-10, -10, 100, 10].as_slice()),
@@ -247,11 +227,6 @@ fn ranges_meet_steps_and_ranges(rt: HostRuntime) -> Result<(), Fail> {
             (RANGE, INT, [7, 0, 9].as_slice()),
             (STEP, INT, [4, 4, 20, 1].as_slice()),
             [3, 7, 4, 9, 1],
-        ),
-        (
-            (RANGE, LONG, [0, LEAST, MOST].as_slice()),
-            (STEP, LONG, [LEAST, LEAST, MOST, MOST].as_slice()),
-            [3, LEAST, LEAST, MOST - 1, MOST],
         ),
     ] {
         assert_eq!(rt; met(alloc, a, b)?, want);
@@ -294,6 +269,16 @@ fn values_meet_in_their_order(rt: HostRuntime) -> Result<(), Fail> {
             (ENUM, INT, [4, 4, 7, 1].as_slice()),
             [4, 7, 7, 1, 2],
         ),
+    ] {
+        assert_eq!(rt; met(alloc, a, b)?, want);
+    }
+    Ok(())
+}
+
+#[test]
+fn one_value_meets_itself_at_most(rt: HostRuntime) -> Result<(), Fail> {
+    let alloc = rt.alloc();
+    for (a, b, want) in [
         (
             (ONLY, INT, [6].as_slice()),
             (RANGE, INT, [1, 1, 9].as_slice()),
@@ -305,14 +290,69 @@ fn values_meet_in_their_order(rt: HostRuntime) -> Result<(), Fail> {
             [0; 5],
         ),
         (
+            (ONLY, LONG, [6].as_slice()),
+            (ONLY, LONG, [6].as_slice()),
+            [1, 6, 0, 0, 0],
+        ),
+    ] {
+        assert_eq!(rt; met(alloc, a, b)?, want);
+    }
+    Ok(())
+}
+
+#[test]
+fn numbers_of_other_types_do_not_meet(rt: HostRuntime) -> Result<(), Fail> {
+    let alloc = rt.alloc();
+    for (a, b, want) in [
+        (
+            (STEP, INT, [0, 0, 9, 3].as_slice()),
+            (STEP, LONG, [0, 0, 9, 3].as_slice()),
+            [0; 5],
+        ),
+        (
+            (RANGE, INT, [0, 0, 9].as_slice()),
+            (RANGE, LONG, [0, 0, 9].as_slice()),
+            [0; 5],
+        ),
+        (
             (RANGE, LONG, [1, 1, 9].as_slice()),
             (ONLY, INT, [6].as_slice()),
             [0; 5],
         ),
+    ] {
+        assert_eq!(rt; met(alloc, a, b)?, want);
+    }
+    Ok(())
+}
+
+#[test]
+fn numbers_meet_at_the_ends_of_their_type(rt: HostRuntime) -> Result<(), Fail> {
+    let alloc = rt.alloc();
+    for (a, b, want) in [
         (
-            (ONLY, LONG, [6].as_slice()),
-            (ONLY, LONG, [6].as_slice()),
-            [1, 6, 0, 0, 0],
+            (STEP, LONG, [LEAST, LEAST, MOST, MOST].as_slice()),
+            (STEP, LONG, [LEAST, LEAST, MOST, 1].as_slice()),
+            [3, LEAST, LEAST, MOST - 1, MOST],
+        ),
+        (
+            (STEP, LONG, [LEAST, LEAST, MOST, MOST].as_slice()),
+            (STEP, LONG, [0, LEAST, MOST, MOST - 1].as_slice()),
+            [1, LEAST, 0, 0, 0],
+        ),
+        (
+            (STEP, LONG, [1, 1, MOST, 2].as_slice()),
+            (STEP, LONG, [0, 0, MOST, 5].as_slice()),
+            [3, 5, 5, MOST - 2, 10],
+        ),
+        (
+            (RANGE, LONG, [0, LEAST, MOST].as_slice()),
+            (RANGE, LONG, [MOST, MOST, MOST].as_slice()),
+            [1, MOST, 0, 0, 0],
+        ),
+        (
+            (RANGE, LONG, [0, LEAST, MOST].as_slice()),
+            (STEP, LONG, [LEAST, LEAST, MOST, MOST].as_slice()),
+            [3, LEAST, LEAST, MOST - 1, MOST],
         ),
     ] {
         assert_eq!(rt; met(alloc, a, b)?, want);
