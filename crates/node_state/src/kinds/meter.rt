@@ -17,6 +17,7 @@ impl MeterState {
     }
 
     /// Raises the peak to that of the input.
+    #[inline(never)]
     pub(crate) fn process(&mut self, a: &[i16])
         ensures { self.new.peak ≡ max self.old.peak (peak_of a.now) }
     {

@@ -50,6 +50,7 @@ impl SourceState {
 
     /// The next samples of the file, then zeros, where the output has a form. Those of one quantum are given in any
     /// case.
+    #[inline(never)]
     pub(crate) fn process(&mut self, quantum: u32, left: &mut [i16])
         requires { IsNoneOr (quantum * self.old.channels) left.old }
         ensures left { left.new
