@@ -13,7 +13,6 @@ pub(crate) struct GainState {
 
 impl GainState {
     /// Each sample by the gain, where the output has a form.
-    #[inline(never)]
     pub(crate) fn process(&self, a: &[i16], left: &mut [i16])
         requires { IsNoneOr (length a.now) left.old }
         ensures { left.new ≡ take (length left.old) (map (scaled self.now.g) a.now) }

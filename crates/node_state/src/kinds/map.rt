@@ -30,7 +30,6 @@ impl MapState {
     }
 
     /// The channels that the list names, where the output has a form.
-    #[inline(never)]
     pub(crate) fn process(&self, a: &[i16], left: &mut [i16])
         requires whole { length a.now % self.now.channels ≡ 0 }
         requires output { IsNoneOr (length a.now / self.now.channels * length self.now.list) left.old }

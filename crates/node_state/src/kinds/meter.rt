@@ -17,7 +17,6 @@ impl MeterState {
     }
 
     /// Raises the peak to that of the input.
-    #[inline(never)]
     pub(crate) fn process(&mut self, a: &[i16])
         ensures { self.new.peak ≡ max self.old.peak (peak_of a.now) }
     {

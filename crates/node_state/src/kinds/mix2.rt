@@ -15,7 +15,6 @@ pub(crate) struct Mix2State {
 
 impl Mix2State {
     /// Each pair of samples by its gains, where the output has a form.
-    #[inline(never)]
     pub(crate) fn process(&self, a: &[i16], b: &[i16], left: &mut [i16])
         requires inputs { length b.now ≡ length a.now }
         requires output { IsNoneOr (length a.now) left.old }

@@ -21,7 +21,6 @@ fn pick(channel: u32, a: &[i16], to: &mut [i16])
 
 impl SplitState {
     /// Channel 0 to `left` and channel 1 to `right`, each where that output has a form.
-    #[inline(never)]
     pub(crate) fn process(&self, a: &[i16], left: &mut [i16], right: &mut [i16])
         requires whole { length a.now % 2 ≡ 0 }
         requires left { IsNoneOr (length a.now / 2) left.old }

@@ -91,7 +91,6 @@ impl SquareState {
     }
 
     /// The next frames of the wave, where the output has a form. Those of one quantum pass in any case.
-    #[inline(never)]
     pub(crate) fn process(&mut self, quantum: u32, left: &mut [i16])
         requires quantum { quantum ≤ 8192 }
         requires output { IsNoneOr (quantum * self.old.wave.channels) left.old }
