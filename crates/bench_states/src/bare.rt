@@ -1,8 +1,9 @@
-//! The kernel of each kind, as often as a node of it calls it; copies and a plain loop where there is none.
+//! The kernel of each kind, as often as a node of it calls it; copies, a ring and a plain loop where there is none.
 ghost use Rattle.std.specs.Prelude.{◌≡◌, ◌*◌, ◌<◌, ◌≤◌, length, All};
 ghost use Rattle.s16_mixer.specs.Ranges.{IsGain};
 
-use crate::rows::{QUANTA, checksum, row_of, stir};
+use crate::ring::delay_run;
+use crate::rows::{LINE, QUANTA, checksum, row_of, stir};
 use pw_base::Memory;
 use std::alloc::Global;
 
@@ -105,18 +106,6 @@ fn copy_quantum(from: &[i16], to: &mut [i16])
     to.copy_from_slice(from);
 }
 
-/// Copies of what the line holds, and of the input into the line.
-fn delay_run(a: &mut [i16], left: &mut [i16], line: &mut [i16])
-    requires left { length a.old ≡ length left.old }
-    requires line { length a.old ≡ length line.old }
-{
-    for _ in 0..QUANTA {
-        copy_quantum(line, left);
-        copy_quantum(a, line);
-        stir(a);
-    }
-}
-
 /// Copies of one part of the file after the other.
 fn source_run(file: &[i16], left: &mut [i16])
     requires { 256 * length left.old ≤ length file.now }
@@ -173,7 +162,7 @@ fn run(
         "square" => square_run(&mut left[..q]),
         "gain" => gain_run(g, &mut a[..q], &mut left[..q]),
         "mix2" => mix2_run(g, &mut a[..q], b, &mut left[..q]),
-        "delay" => delay_run(&mut a[..q], &mut left[..q], b),
+        "delay" => delay_run(&mut a[..q], &mut left[..q], &mut long[..LINE.min(256 * q)]),
         "map" => map_run([one, 0].as_slice(), a, left, q),
         "split" => split_run(a, &mut left[..q], right),
         "sink" => sink_run(&mut a[..q], long),

@@ -5,6 +5,7 @@
 
 mod bare;
 mod nodes;
+mod ring;
 mod rows;
 
 use crate::bare::bare_sum;

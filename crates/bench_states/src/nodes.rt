@@ -6,7 +6,7 @@ ghost use Rattle.node_state.specs.Slices.{AllowsChannels, HaveFrames};
 ghost use Rattle.node_state.specs.Streams.{HasItsWave, channels_of};
 ghost use Rattle.node_state.specs.StandsFor.{IsQuantum};
 
-use crate::rows::{QUANTA, checksum, row_of, stir};
+use crate::rows::{LINE, QUANTA, checksum, row_of, stir};
 use node_state::NodeState;
 use pw_base::{Items, Kind, Memory};
 use std::alloc::Global;
@@ -153,7 +153,9 @@ fn mono_rounds(
         ),
         "delay" => rounds(
             alloc,
-            &Kind::Delay { frames: 480 },
+            &Kind::Delay {
+                frames: LINE as u32,
+            },
             None,
             1,
             work,

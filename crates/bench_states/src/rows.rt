@@ -7,6 +7,9 @@ use std::alloc::Global;
 /// How many quanta a run has.
 pub const QUANTA: usize = 256;
 
+/// The frames of a delay.
+pub const LINE: usize = 480;
+
 /// Writes samples that differ from one another.
 fn fill(s: &mut [i16]) {
     let mut x: u32 = 1;

@@ -30,7 +30,7 @@ impl NodeState {
         ensures frames { frames_so_far self.new ≡ frames_so_far self.old + node_quantum self.old }
         ensures same { IsSameNode self.old self.new }
     {
-        self.state.process(self.quantum, a, b, left, right);
         self.frames += u64::from(self.quantum);
+        self.state.process(self.quantum, a, b, left, right);
     }
 }

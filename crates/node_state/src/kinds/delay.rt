@@ -1,5 +1,5 @@
 //! A delay keeps its line, the samples that it has heard and not yet given, in a ring.
-ghost use Rattle.std.specs.Prelude.{◌≡◌, ◌*◌, ◌≤◌, ◌++◌, length, take, drop, IfOk};
+ghost use Rattle.std.specs.Prelude.{◌≡◌, ◌+◌, ◌*◌, ◌<◌, ◌≤◌, ◌++◌, length, take, drop, IfOk};
 ghost use Rattle.pw_base.specs.Samples.{silence};
 ghost use Rattle.node_state.specs.Slices.{IsNoneOr};
 ghost use Rattle.node_state.specs.Line.{turned};
@@ -37,27 +37,20 @@ fn read_ring(ring: &[i16], oldest: usize, a: &[i16], to: &mut [i16])
     requires lengths { length to.old ≡ length a.now }
     ensures { to.new ≡ take (length to.old) (turned oldest ring.now ++ a.now) }
 {
-    let rest = &ring[oldest..];
-    if to.len() <= rest.len() {
-        return to.copy_from_slice(&rest[..to.len()]);
-    }
-    let first = copy_front(rest, to);
+    let first = copy_front(&ring[oldest..], to);
     let second = copy_front(&ring[..oldest], &mut to[first..]);
     copy_front(a, &mut to[first + second..]);
 }
 
-// Puts the input behind the newest sample of a ring, over the oldest. Answers the place of the oldest then.
+// Puts an input that reaches over the end of a ring behind its newest sample, over the oldest. Answers the place of
+// the oldest then.
 fn write_ring(ring: &mut [i16], oldest: usize, a: &[i16]) -> usize
     requires within { oldest ≤ length ring.old }
+    requires over { length ring.old < oldest + length a.now }
     ensures within { result ≤ length ring.old }
     ensures line { turned result ring.new ≡ drop (length a.now) (turned oldest ring.old ++ a.now) }
 {
     let size = ring.len();
-    let end = size - oldest;
-    if a.len() <= end {
-        ring[oldest..oldest + a.len()].copy_from_slice(a);
-        return oldest + a.len();
-    }
     if a.len() >= size {
         ring.copy_from_slice(&a[a.len() - size..]);
         return 0;
@@ -66,14 +59,55 @@ fn write_ring(ring: &mut [i16], oldest: usize, a: &[i16]) -> usize
     copy_front(&a[first..], &mut ring[..oldest])
 }
 
-// The same in the first `size` samples of a row; the rest of it stays.
-fn write_line(row: &mut [i16], size: usize, oldest: usize, a: &[i16]) -> usize
+// One quantum that reaches over the end of a ring: the oldest samples to the output where it has a form, then the input
+// into the ring. Answers the place of the oldest then.
+#[inline(never)]
+fn pass_round(ring: &mut [i16], oldest: usize, a: &[i16], to: &mut [i16]) -> usize
+    requires within { oldest ≤ length ring.old }
+    requires over { length ring.old < oldest + length a.now }
+    requires output { IsNoneOr (length a.now) to.old }
+    ensures within { result ≤ length ring.old }
+    ensures output { to.new ≡ take (length to.old) (turned oldest ring.old ++ a.now) }
+    ensures line { turned result ring.new ≡ drop (length a.now) (turned oldest ring.old ++ a.now) }
+{
+    if !to.is_empty() {
+        read_ring(ring, oldest, a, to);
+    }
+    write_ring(ring, oldest, a)
+}
+
+// One quantum that ends before the end of a ring or at it: the input comes in the place of the oldest samples.
+fn pass(ring: &mut [i16], oldest: usize, a: &[i16], to: &mut [i16]) -> usize
+    requires within { oldest + length a.now ≤ length ring.old }
+    requires output { IsNoneOr (length a.now) to.old }
+    ensures within { result ≤ length ring.old }
+    ensures output { to.new ≡ take (length to.old) (turned oldest ring.old ++ a.now) }
+    ensures line { turned result ring.new ≡ drop (length a.now) (turned oldest ring.old ++ a.now) }
+{
+    let end = oldest + a.len();
+    let place = &mut ring[oldest..end];
+    if !to.is_empty() {
+        to.copy_from_slice(place);
+    }
+    place.copy_from_slice(a);
+    end
+}
+
+// One quantum of the ring that the first `size` samples of a row are; the rest of the row stays.
+fn pass_line(row: &mut [i16], size: usize, oldest: usize, a: &[i16], to: &mut [i16]) -> usize
     requires size { size ≤ length row.old }
     requires within { oldest ≤ size }
+    requires output { IsNoneOr (length a.now) to.old }
     ensures within { result ≤ size }
+    ensures output { to.new ≡ take (length to.old) (turned oldest (take size row.old) ++ a.now) }
     ensures line { turned result (take size row.new) ≡ drop (length a.now) (turned oldest (take size row.old) ++ a.now) }
 {
-    write_ring(&mut row[..size], oldest, a)
+    let ring = &mut row[..size];
+    if a.len() <= size - oldest {
+        pass(ring, oldest, a, to)
+    } else {
+        pass_round(ring, oldest, a, to)
+    }
 }
 
 // Makes zeros of the first `size` samples of a row.
@@ -103,15 +137,13 @@ impl DelayState {
     }
 
     /// The oldest samples, as many as the input has, to the output where it has a form; then the input behind the rest.
+    #[inline(never)]
     pub(crate) fn process(&mut self, a: &[i16], left: &mut [i16])
         requires { IsNoneOr (length a.now) left.old }
         ensures left { left.new ≡ take (length left.old) (self.old.samples ++ a.now) }
         ensures line { self.new ≡ record self.old { samples = drop (length a.now) (self.old.samples ++ a.now) } }
     {
-        if !left.is_empty() {
-            read_ring(&self.ring.as_slice()[..self.size], self.oldest, a, left);
-        }
-        self.oldest = write_line(self.ring.as_mut_slice(), self.size, self.oldest, a);
+        self.oldest = pass_line(self.ring.as_mut_slice(), self.size, self.oldest, a, left);
     }
 
     /// A line of zeros again, of so many channels.

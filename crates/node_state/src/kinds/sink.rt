@@ -47,6 +47,7 @@ impl SinkState {
     }
 
     /// Appends the input, for which there is room. Takes no memory.
+    #[inline(never)]
     pub(crate) fn process(&mut self, a: &[i16])
         requires { length a.now ≤ self.old.spare }
         ensures list { self.new.list ≡ self.old.list ++ a.now }

@@ -1,5 +1,5 @@
 //! A source keeps its own copy of the samples that it will give, and its place in them.
-ghost use Rattle.std.specs.Prelude.{◌≡◌, ◌+◌, ◌*◌, ◌≤◌, ◌++◌, length, min, take, drop, IfOk};
+ghost use Rattle.std.specs.Prelude.{◌≡◌, ◌+◌, ◌*◌, ◌<◌, ◌≤◌, ◌++◌, length, min, take, drop, IfOk};
 ghost use Rattle.pw_base.specs.Samples.{silence};
 ghost use Rattle.node_state.specs.Slices.{IsNoneOr};
 
@@ -17,15 +17,25 @@ pub(crate) struct SourceState {
     ghost within: { given ≤ length samples },
 }
 
+// The whole list, then zeros.
+#[inline(never)]
+fn pad_end(samples: &[i16], to: &mut [i16])
+    requires { length samples.now < length to.old }
+    ensures { to.new ≡ take (length to.old) (samples.now ++ silence (length to.old)) }
+{
+    let n = copy_front(samples, to);
+    to[n..].fill(0);
+}
+
 // The first samples of the list, then zeros.
 fn pad(samples: &[i16], to: &mut [i16])
     ensures { to.new ≡ take (length to.old) (samples.now ++ silence (length to.old)) }
 {
     if to.len() <= samples.len() {
-        return to.copy_from_slice(&samples[..to.len()]);
+        to.copy_from_slice(&samples[..to.len()]);
+    } else {
+        pad_end(samples, to);
     }
-    let n = copy_front(samples, to);
-    to[n..].fill(0);
 }
 
 impl SourceState {
@@ -50,6 +60,7 @@ impl SourceState {
 
     /// The next samples of the file, then zeros, where the output has a form. Those of one quantum are given in any
     /// case.
+    #[inline(never)]
     pub(crate) fn process(&mut self, quantum: u32, left: &mut [i16])
         requires { IsNoneOr (quantum * self.old.channels) left.old }
         ensures left { left.new
@@ -57,8 +68,8 @@ impl SourceState {
         ensures given { self.new.given ≡ min (self.old.given + quantum * self.old.channels) (length self.old.samples) }
         ensures same { (self.new.channels ≡ self.old.channels) × (self.new.samples ≡ self.old.samples) }
     {
-        let rest = self.samples.len() - self.given;
-        pad(&self.samples.as_slice()[self.given..], left);
-        self.given += rest.min(quantum as usize * self.channels as usize);
+        let samples = &self.samples.as_slice()[self.given..];
+        self.given += samples.len().min(quantum as usize * self.channels as usize);
+        pad(samples, left);
     }
 }

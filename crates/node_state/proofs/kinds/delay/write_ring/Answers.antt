@@ -11,7 +11,7 @@ pub returns-then-a-size-clause-line : goal.returns-then-a-size-clause-line
 returns-then-a-size-clause-line c =
     let start = length c.args.a.now - length c.args.ring.now in
     let row : take (length c.args.a.now - start) (drop start c.args.a.now) ≡ drop start c.args.a.now = take_rest c.args.a.now start in
-    ring_replaced c.args.ring.now c.copy_from_slice-then-a-size.new.self c.args.a.now c.args.oldest c.requires.within c.if-a-size.true (c.copy_from_slice-then-a-size.ensures.after ∙ row)
+    ring_replaced c.args.ring.now c.copy_from_slice.new.self c.args.a.now c.args.oldest c.requires.within c.if-a-size.true (c.copy_from_slice.ensures.after ∙ row)
 
 pub returns-clause-line : goal.returns-clause-line
 returns-clause-line c =
@@ -23,7 +23,7 @@ returns-clause-line c =
     let new = c.copy_front-first.new.to in
     let place : length (take oldest ring) ≡ oldest = grind (arith, common_steps, c.requires.within) in
     let space : length (take size (drop oldest ring)) ≡ size = grind (arith, common_steps) in
-    let short : first < length a = omega (arith, c.copy_front-first.ensures.count, c.if-a-end.false, space) in
+    let short : first < length a = omega (arith, c.copy_front-first.ensures.count, c.requires.over, space) in
     let count : first ≡ size = omega (arith, c.copy_front-first.ensures.count, space, short) in
     let row : new ≡ take first a = c.copy_front-first.ensures.row ∙ filled_long a (take size (drop oldest ring)) (omega (arith, space, count, short)) ∙ ap (λ n. take n a) (space ∙ sym count) in
     let none : drop size (drop oldest ring) ≡ [] = drop-drop size oldest ring ∙ drop_of_length-le ring (omega arith) in

@@ -1,7 +1,7 @@
 use Rattle.std.proofs.Common.{◌≡◌, ◌∙◌, ◌-◌, pos, length, take, drop, replicate, ap, arith}
 use Rattle.std.proofs.lemmas.Grind.{common_steps}
 use Rattle.node_state.proofs.RowLemmas.{filled_padded}
-use Rattle.node_state.proofs.kinds.source.pad.Goals as goal
+use Rattle.node_state.proofs.kinds.source.pad_end.Goals as goal
 
 pub returns : goal.returns
 returns c =
