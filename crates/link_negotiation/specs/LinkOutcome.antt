@@ -33,7 +33,8 @@ abbrev pub IsSettled : LinkState → List Node → PortId → PortId → Linked 
 IsSettled s nodes from to (NoFormat key) = Negotiates nodes from to (negotiated.NoFormat key)
 IsSettled s nodes from to NoBuffers = HasFormat nodes from to × SharesBuffers nodes from to None
 IsSettled s nodes from to Many = HasFormat nodes from to × HasCount nodes from to × (256 ≤ length s.made)
-IsSettled s nodes from to (Made format buffers) = Negotiates nodes from to (negotiated.Format format) × SharesBuffers nodes from to (Some buffers) × (length s.made < 256)
+IsSettled s nodes from to (Made format buffers) =
+    Negotiates nodes from to (negotiated.Format format) × SharesBuffers nodes from to (Some buffers) × (length s.made < 256)
 IsSettled s nodes from to other = ⊥
 
 -- of a new link with a format: by the number of buffers, and by how many links there are
@@ -60,7 +61,8 @@ formatted nodes from to format = with_port (with_port nodes from (given format))
 
 -- WHAT STANDS BEHIND a link line
 abbrev pub LeavesLink : LinkState → List Node → PortId → PortId → Linked → LinkState → List Node → Type 0
-LeavesLink s nodes from to (Made format buffers) t after = (t ≡ record s { made = s.made ++ link_of from to ∷ [] }) × (after ≡ formatted nodes from to format)
+LeavesLink s nodes from to (Made format buffers) t after =
+    (t ≡ record s { made = s.made ++ link_of from to ∷ [] }) × (after ≡ formatted nodes from to format)
 LeavesLink s nodes from to other t after = (t ≡ s) × (after ≡ nodes)
 
 -- a link that is made has 1 to 8 buffers
