@@ -1,4 +1,5 @@
--- The search for a walk: the links by the node that they leave, and the nodes that are reached. This project's own.
+-- The search for a walk: the links by the node that they leave, and the nodes that are reached.
+-- Source: this project's own.
 use Rattle.std.specs.Prelude.{◌≡◌, ◌⊎◌, ℕ, ◌+◌, ◌-◌, ◌<◌, ◌≤◌, ◌==◌, ◌&&◌, Bool, true, false, not}
 use Rattle.std.specs.Prelude.{List, length, slice_index, slice_index_or, count_by}
 use Rattle.std.specs.List.{All, Contains}

@@ -6,7 +6,8 @@ ghost use Rattle.port_model.specs.SoundPorts.{AreSoundNodes};
 ghost use Rattle.link_negotiation.specs.Links.{IsSynchronousLoop};
 ghost use Rattle.link_negotiation.specs.declared.common_formats.Negotiated.TheVariants as negotiated;
 ghost use Rattle.link_negotiation.specs.Negotiation.{Negotiates, SharesBuffers};
-ghost use Rattle.link_negotiation.specs.LinkOutcome.{IsCounted, IsSettled, IsLinkOutcome, given, formatted, MayBeGiven, LeavesLink, HasFewBuffers};
+ghost use Rattle.link_negotiation.specs.LinkOutcome.{IsCounted, IsSettled, IsLinkOutcome, LeavesLink, HasFewBuffers};
+ghost use Rattle.link_negotiation.specs.LinkOutcome.{given, formatted, MayBeGiven};
 
 use crate::common_formats::{Negotiated, common_count, negotiate};
 use crate::link::Link;

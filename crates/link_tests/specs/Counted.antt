@@ -1,4 +1,5 @@
--- How many inputs and ports the nodes of a graph have. This project's own.
+-- How many inputs and ports the nodes of a graph have.
+-- Source: this project's own.
 use Rattle.std.specs.Prelude.{◌≡◌, ℕ, List, length, slice_index}
 use Rattle.port_model.specs.declared.port_state.Node.{Node}
 use Rattle.port_model.specs.PortState.{port_count_of, input_count_of}
