@@ -231,6 +231,42 @@ fn stereo_is_split_and_mixed(rt: HostRuntime) -> Result<(), Fail> {
     Ok(())
 }
 
+#[test]
+fn a_map_changes_channels(rt: HostRuntime) -> Result<(), Fail> {
+    let mut graph = empty(rt.alloc(), [].as_slice())?
+        .source(44100, 2)?
+        .map()?
+        .delay()?
+        .meter()?;
+    let lines = [
+        Line::Link((2, 1), (1, 0)),
+        Line::Link((0, 0), (1, 0)),
+        Line::Unlink((2, 1), (1, 0), 0),
+        Line::Link((0, 0), (1, 0)),
+        Line::Form((1, 1)),
+        Line::Link((1, 1), (2, 0)),
+        Line::Form((2, 1)),
+        Line::Link((2, 1), (3, 0)),
+        Line::Form((3, 0)),
+    ];
+    let did = [
+        Did::Made(48000, 2, 2),
+        Did::NoFormat(65539),
+        Did::Gone(6),
+        Did::Made(44100, 2, 2),
+        Did::Form(44100, 3),
+        Did::Made(44100, 3, 2),
+        Did::Form(44100, 3),
+        Did::Made(44100, 3, 2),
+        Did::Form(44100, 3),
+    ];
+    assert_eq!(rt;
+        run(&mut graph, lines.as_slice())?.as_slice(),
+        did.as_slice()
+    );
+    Ok(())
+}
+
 /// Whether a gain is linked to each of the gains 16 to 31.
 fn links_to_all(graph: &mut Graph, node: u32) -> Result<bool, Memory> {
     let mut all = true;

@@ -99,20 +99,40 @@ impl Graph {
         self.with(&Kind::Source, rate, channels)
     }
 
+    /// A gain of 1.
     pub fn gain(self) -> Result<Graph, Memory> {
         self.with(&Kind::Gain { g: 256 }, 0, 0)
     }
 
+    /// A mixer of its first input and half of its second.
     pub fn mix2(self) -> Result<Graph, Memory> {
         self.with(&Kind::Mix2 { ga: 256, gb: 128 }, 0, 0)
     }
 
+    /// A delay of 10 frames.
+    pub fn delay(self) -> Result<Graph, Memory> {
+        self.with(&Kind::Delay { frames: 10 }, 0, 0)
+    }
+
+    /// A map of two channels to three.
+    pub fn map(self) -> Result<Graph, Memory> {
+        let list = Items::from_slice(self.alloc, [1u32, 0, 1].as_slice())?;
+        self.with(&Kind::Map { channels: 2, list }, 0, 0)
+    }
+
+    /// A split of two channels.
     pub fn split(self) -> Result<Graph, Memory> {
         self.with(&Kind::Split, 0, 0)
     }
 
+    /// A sink.
     pub fn sink(self) -> Result<Graph, Memory> {
         self.with(&Kind::Sink, 0, 0)
+    }
+
+    /// A meter.
+    pub fn meter(self) -> Result<Graph, Memory> {
+        self.with(&Kind::Meter, 0, 0)
     }
 
     /// Many gains more.
