@@ -1,4 +1,6 @@
 pub mod WalkLemmas
+pub mod ReachedLemmas
+pub mod SearchLemmas
+pub mod OutgoingLemmas
 pub mod GivingLemmas
 pub mod UnlinkLemmas
-pub mod KeptLemmas

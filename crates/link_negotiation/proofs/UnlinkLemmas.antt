@@ -8,6 +8,7 @@ use Rattle.std.specs.Option.{option_map_or}
 use Rattle.std.proofs.lemmas.Option.{slice_get_past}
 use Rattle.std.proofs.lemmas.Bool.{eqb-true}
 use Rattle.std.proofs.lemmas.List.Folds.{Any-from_list_any}
+use Rattle.std.proofs.lemmas.List.Sums.{length-filter, count_by-le-length}
 use Rattle.pw_base.specs.KindPorts.{port_count, input_count}
 use Rattle.pw_base.specs.declared.ids.PortId.{PortId}
 use Rattle.port_model.specs.declared.port_state.Node.{Node}
@@ -69,6 +70,9 @@ pub filter_whole : (p : Link → Bool) (xs : List Link) → All (λ x. p x ≡ t
 filter_whole p [] h = refl
 filter_whole p (x ∷ xs) h =
     ap (λ (b : Bool). cond b (x ∷ filter p xs) (filter p xs)) (All-head (λ (y : Link). p y ≡ true) x xs h) ∙ ap (λ (zs : List Link). x ∷ zs) (filter_whole p xs (All-tail (λ (y : Link). p y ≡ true) x xs h))
+
+pub fewer_links : (p : Link → Bool) (xs : List Link) → length (filter p xs) ≤ length xs
+fewer_links p xs = omega (arith, length-filter p xs, count_by-le-length p xs)
 
 not_false : (b : Bool) → b ≡ false → not b ≡ true
 not_false true e = absurd (cc (e))

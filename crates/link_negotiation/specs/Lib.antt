@@ -3,4 +3,3 @@ pub mod Negotiation
 pub mod LinkOutcome
 pub mod Unlinking
 pub mod Searching
-pub mod Testing

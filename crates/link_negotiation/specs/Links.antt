@@ -1,5 +1,5 @@
 -- The links that are there, in the order in which they were made, and the nodes that are asynchronous.
--- PipeWire's documentation, "Objects Design", Link, and "Graph Scheduling"; asynchronous nodes are marked by a script.
+-- Source: PipeWire's documentation, "Objects Design", Link, and "Graph Scheduling"; a script marks asynchronous nodes.
 use Rattle.std.specs.Prelude.{◌≡◌, ℕ, ◌==◌, ◌&&◌, ◌||◌, Bool, true, false, not, List, [], ◌∷◌, slice_index_or}
 use Rattle.std.specs.List.{Contains, filter, list_any}
 use Rattle.pw_base.specs.declared.ids.PortId.{PortId}
@@ -47,4 +47,5 @@ IsReachable links a b = (walk : List Link) × IsWalk links a walk b
 
 -- LOOP: both ports are of one node; or the link would be synchronous, and a walk along synchronous links leads back
 abbrev pub IsSynchronousLoop : LinkState → PortId → PortId → Type 0
-IsSynchronousLoop s from to = (is_synchronous s (link_of from to) ≡ true) × IsReachable (synchronous_links s) to.node from.node
+IsSynchronousLoop s from to =
+    (is_synchronous s (link_of from to) ≡ true) × IsReachable (synchronous_links s) to.node from.node

@@ -1,5 +1,6 @@
--- What an output and an input port settle on: the fixation of the common format of what they offer, and a number of buffers.
--- PipeWire's documentation, "Objects Design", Link; spa/pod/filter.h, spa/pod/iter.h; spa/param/buffers.h.
+-- What an output and an input port settle on: the fixation of the common format of what they offer, and a number of
+-- buffers.
+-- Source: PipeWire's documentation, "Objects Design", Link; spa/pod/filter.h, spa/pod/iter.h; spa/param/buffers.h.
 use Rattle.std.specs.Prelude.{◌≡◌, ℕ, List, Option, Some, None}
 use Rattle.pw_base.specs.declared.ids.PortId.{PortId}
 use Rattle.format_filter.specs.declared.choice.Choice.{Choice}
@@ -49,4 +50,5 @@ abbrev pub MeetsIn : Choice → Choice → Option ℕ → Type 0
 MeetsIn own other count = (c : Option Choice) × Meets own other c × IsCount c count
 
 abbrev pub SharesBuffers : List Node → PortId → PortId → Option ℕ → Type 0
-SharesBuffers nodes from to count = AtPort nodes from (λ node s. AtPort nodes to (λ other t. MeetsIn (buffers_of s) (buffers_of t) count))
+SharesBuffers nodes from to count =
+    AtPort nodes from (λ node s. AtPort nodes to (λ other t. MeetsIn (buffers_of s) (buffers_of t) count))

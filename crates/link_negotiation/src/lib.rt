@@ -10,9 +10,9 @@ mod common_formats;
 mod link;
 mod links;
 mod negotiation;
+mod outgoing;
 mod reachability;
-#[cfg(test)]
-mod tests;
+mod reached;
 mod unlinking;
 
 pub use link::Link;

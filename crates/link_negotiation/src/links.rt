@@ -1,6 +1,7 @@
 //! The links that are there.
 ghost use Rattle.std.specs.Prelude.{◌≡◌, ◌<◌, [], false, length, replicate, slice_set, IfOk, true};
-ghost use Rattle.link_negotiation.specs.Links.{is_port, joins, are_linked, has_link};
+ghost use Rattle.link_negotiation.specs.Links.{is_port, joins, are_linked, has_link, is_synchronous};
+ghost use Rattle.link_negotiation.specs.Searching.{is_reached};
 
 use crate::link::Link;
 use pw_base::{Memory, PortId};
@@ -9,6 +10,8 @@ use std::marker::Model;
 
 /// How many node numbers there are.
 pub const NODES: usize = 64;
+/// How many links there may be.
+pub const LINKS: usize = 256;
 
 /// The links of a graph in the order in which they were made, and which nodes are asynchronous.
 #[derive(Drop)]
@@ -58,6 +61,16 @@ pub fn has_link(made: &[Link], node: u32) -> bool
         .any(|link| link.from.node == node || link.to.node == node)
 }
 
+/// Whether a node is among some.
+pub fn is_in(nodes: &[bool], node: u32) -> bool
+    ensures { result ≡ is_reached nodes.now node }
+{
+    match nodes.get(node as usize) {
+        Some(here) => *here,
+        None => false,
+    }
+}
+
 impl Links {
     /// No link, and no mark. They keep the allocator, and `link` uses it.
     pub fn new(alloc: Global) -> Result<Links, Memory>
@@ -77,5 +90,12 @@ impl Links {
         ensures { self.new ≡ record self.old { marks = slice_set self.old.marks node true } }
     {
         self.marks[node as usize] = true;
+    }
+
+    /// Whether a link is synchronous: none of its nodes is marked.
+    pub(crate) fn is_synchronous(&self, link: &Link) -> bool
+        ensures { result ≡ is_synchronous self.now link.now }
+    {
+        !is_in(&self.marks, link.from.node) && !is_in(&self.marks, link.to.node)
     }
 }

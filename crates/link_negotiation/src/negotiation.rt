@@ -1,24 +1,22 @@
 //! How a link is negotiated and made.
-ghost use Rattle.std.specs.Prelude.{◌≡◌, ◌⊎◌, ◌↔◌, ◌<◌, ◌++◌, ◌∷◌, [], IsTrue, IfOk, IfSome, OnOk, OnErr};
+ghost use Rattle.std.specs.Prelude.{◌≡◌, ◌⊎◌, ◌↔◌, ◌<◌, ◌++◌, ◌∷◌, [], length, IsTrue, IfOk, IfSome, OnOk, OnErr};
 ghost use Rattle.pw_base.specs.SoundShape.{IsBetween};
 ghost use Rattle.port_model.specs.PortState.{IsPort, IsInput, IsOutput, AtPort, with_port};
 ghost use Rattle.port_model.specs.SoundPorts.{AreSoundNodes};
 ghost use Rattle.link_negotiation.specs.Links.{IsSynchronousLoop};
 ghost use Rattle.link_negotiation.specs.declared.common_formats.Negotiated.TheVariants as negotiated;
 ghost use Rattle.link_negotiation.specs.Negotiation.{Negotiates, SharesBuffers};
-ghost use Rattle.link_negotiation.specs.LinkOutcome.{IsCounted, IsSettled, IsLinkOutcome, given, formatted, MayBeGiven, LeavesLink, HasFewBuffers};
+ghost use Rattle.link_negotiation.specs.LinkOutcome.{IsCounted, IsSettled, IsLinkOutcome, LeavesLink, HasFewBuffers};
+ghost use Rattle.link_negotiation.specs.LinkOutcome.{given, formatted, MayBeGiven};
 
 use crate::common_formats::{Negotiated, common_count, negotiate};
 use crate::link::Link;
-use crate::links::{Links, are_linked};
-use crate::reachability::{is_reachable, is_synchronous};
+use crate::links::{LINKS, Links, are_linked};
+use crate::reachability::is_reachable;
 use format_filter::Format;
 use port_model::Ports;
 use pw_base::{Memory, PortId};
 use std::alloc::Global;
-
-/// How many links there may be.
-const LINKS: usize = 256;
 
 /// What became of a link.
 #[derive(Drop)]
@@ -70,13 +68,13 @@ impl Links {
         if from.node == to.node {
             return true;
         }
-        is_synchronous(&self.marks, &Link { from, to })
-            && is_reachable(self.made.as_slice(), &self.marks, to.node, from.node)
+        self.is_synchronous(&Link { from, to }) && is_reachable(self, to.node, from.node)
     }
 
     /// Makes a link, and gives its format to each of its ports that has none. The copies and the room for the link
     /// are taken before the first change.
     fn make(&mut self, ports: &mut Ports, link: Link, format: &Format) -> Result<(), Memory>
+        requires few { length self.old.made < 256 }
         requires from { IsPort ports.old link.from }
         requires to { IsPort ports.old link.to }
         requires other { link.from.node ≡ link.to.node → ⊥ }
@@ -161,8 +159,8 @@ impl Links {
     /// common one, fixed, and each of the two ports that has none takes it; the number of buffers is the pick of what
     /// both counts have in common, the output's first.
     ///
-    /// After `Memory` and any answer but `Made` all is as before. Takes time proportional to the nodes times the
-    /// links, and that of the common format.
+    /// After `Memory` and any answer but `Made` all is as before. Takes time linear in the nodes and the links, and
+    /// that of the common format.
     ///
     /// Public source: PipeWire's documentation, "Objects Design", Link; `spa/pod/filter.h`, `spa/pod/iter.h`.
     pub fn link(&mut self, ports: &mut Ports, from: PortId, to: PortId) -> Result<Linked, Memory>

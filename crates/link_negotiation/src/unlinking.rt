@@ -1,7 +1,7 @@
 //! How a link is taken away.
 ghost use Rattle.std.specs.Prelude.{◌≡◌, ◌<◌, length};
 ghost use Rattle.port_model.specs.PortState.{IsInput, IsOutput};
-ghost use Rattle.link_negotiation.specs.Unlinking.{has_bit, without, releasing, giving_up, HasUnlinked};
+ghost use Rattle.link_negotiation.specs.Unlinking.{without, releasing, giving_up, HasUnlinked};
 
 use crate::link::Link;
 use crate::links::{Links, are_linked, has_link, joins};
@@ -31,14 +31,6 @@ fn remove(made: &mut Vec<Link>, from: PortId, to: PortId)
     }
 }
 
-/// Whether a set of node numbers has one.
-fn has_bit(set: u64, node: u32) -> bool
-    requires { node < 64 }
-    ensures { result ≡ has_bit set node }
-{
-    set & 1 << node != 0
-}
-
 /// A node without a link gives its formats up, unless it is to keep them; the set of those that did.
 fn release(made: &[Link], ports: &mut Ports, node: u32, keep: u64, gave_up: u64) -> u64
     requires node { node < length ports.old }
@@ -46,7 +38,7 @@ fn release(made: &[Link], ports: &mut Ports, node: u32, keep: u64, gave_up: u64)
     ensures ports { ports.new ≡ releasing made.now keep node ports.old }
     ensures set { result ≡ giving_up made.now keep node gave_up }
 {
-    if has_link(made, node) || has_bit(keep, node) {
+    if has_link(made, node) || keep >> node & 1 == 1 {
         return gave_up;
     }
     ports.give_up(node);

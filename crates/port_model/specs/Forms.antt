@@ -1,5 +1,5 @@
 -- What a port has or would take: the values that its node shares, its offer, its form and its count of buffers.
--- PipeWire's documentation, "Objects Design", Port; spa/param/format.h, spa/param/buffers.h; the sharing is this project's.
+-- Source: PipeWire's documentation, "Objects Design", Port; spa/param/format.h, buffers.h; sharing is this project's.
 use Rattle.std.specs.Prelude.{◌≡◌, ℕ, ◌<◌, pos, List, [], ◌∷◌, map, Option, Some, None, unwrap_or, option_and_then, if◌then◌else◌}
 use Rattle.std.specs.Option.{option_map_or, option_or}
 use Rattle.pod_codec.specs.declared.pod.Pod.{Pod}
@@ -32,7 +32,8 @@ first_format (s ∷ ss) = option_or s.format (first_format ss)
 
 -- SHARED VALUE of a node at a key, where one of its ports has its format
 abbrev pub shared_value : Node → ℕ → Option Pod
-shared_value node key = if is_shared_key node.kind key then option_and_then (λ f. value_at f.fields key) (first_format node.ports) else None
+shared_value node key =
+    if is_shared_key node.kind key then option_and_then (λ f. value_at f.fields key) (first_format node.ports) else None
 
 -- a field with the shared value alone
 abbrev pub shared_field : Node → Field → Field
@@ -53,7 +54,8 @@ pub record IsAtOdds (node : Node) (s : PortState) (key : ℕ) : Type 0 where
 
 -- it is not: if it has no format, its own offer admits the shared value
 abbrev pub IsAtEase : Node → PortState → ℕ → Type 0
-IsAtEase node s key = s.format ≡ None → (f : Field) (v : Pod) → field_of s.own.fields key ≡ Some f → shared_value node key ≡ Some v → IsMember f.choice v
+IsAtEase node s key = s.format ≡ None
+    → (f : Field) (v : Pod) → field_of s.own.fields key ≡ Some f → shared_value node key ≡ Some v → IsMember f.choice v
 
 -- what a port offers: nothing where it is at odds with its node, the key is the least such one; else its offer
 abbrev pub Offers : Node → PortState → Offered → Type 0

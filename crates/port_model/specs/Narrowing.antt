@@ -1,4 +1,5 @@
--- How a file narrows what a port offers. SPA POD, "Object"; spa/pod/filter.h, spa_pod_filter.
+-- How a file narrows what a port offers.
+-- Source: SPA POD, "Object"; spa/pod/filter.h, spa_pod_filter.
 use Rattle.std.specs.Prelude.{◌≡◌, ◌≢◌, List, None}
 use Rattle.std.specs.List.{All}
 use Rattle.pw_base.specs.declared.ids.PortId.{PortId}
@@ -19,5 +20,7 @@ IsUnformatted node = All (λ s. s.format ≡ None) node.ports
 -- changes; else the own offer becomes the common format of both
 abbrev pub Narrows : List Node → PortId → Format → Narrowed → List Node → Type 0
 Narrows nodes port file NotFormat later = (file.object ≢ 262147) × (later ≡ nodes)
-Narrows nodes port file (Clash key) later = AtPort nodes port (λ node s. Filters s.own file (filtered.Clash key)) × (later ≡ nodes)
-Narrows nodes port file Done later = AtPort nodes port (λ node s. (own : Format) × Filters s.own file (Common own) × (later ≡ with_port nodes port (offering own)))
+Narrows nodes port file (Clash key) later =
+    AtPort nodes port (λ node s. Filters s.own file (filtered.Clash key)) × (later ≡ nodes)
+Narrows nodes port file Done later = AtPort nodes port
+    (λ node s. (own : Format) × Filters s.own file (Common own) × (later ≡ with_port nodes port (offering own)))

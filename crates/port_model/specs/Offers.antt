@@ -1,5 +1,5 @@
 -- What a port offers: its kind's offer, narrowed by files, by the values that its node shares, or its format alone.
--- PipeWire's documentation, "Objects Design", Port; spa/param/format.h, spa/param/audio/raw.h; the kinds' table is this project's.
+-- Source: PipeWire's documentation, "Objects Design", Port; spa/param/format.h, audio/raw.h; kinds are this project's.
 use Rattle.std.specs.Prelude.{◌≡◌, ℕ, zero, suc, ◌==◌, ◌||◌, Bool, pos, [], ◌∷◌, length, map, None}
 use Rattle.std.specs.List.{range_with_len}
 use Rattle.pod_codec.specs.declared.pod.Pod.{Pod}
@@ -58,7 +58,8 @@ abbrev pub new_port : Kind → ℕ → ℕ → ℕ → PortState
 new_port kind rate channels port = record { own = kind_offer kind rate channels port; format = None; buffers = None }
 
 abbrev pub new_node : Kind → ℕ → ℕ → Node
-new_node kind rate channels = record { kind = kind; ports = map (new_port kind rate channels) (range_with_len 0 (port_count kind)) }
+new_node kind rate channels =
+    record { kind = kind; ports = map (new_port kind rate channels) (range_with_len 0 (port_count kind)) }
 
 -- which keys all ports of a node share: the rate, and of some kinds the channels
 abbrev pub is_shared_key : Kind → ℕ → Bool

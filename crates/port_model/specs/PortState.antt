@@ -1,6 +1,7 @@
 -- Ports as a script has made them so far: each node's kind, and of each port its own offer, its format and its
--- number of buffers. PipeWire's documentation, "Objects Design", Port; what of it is kept is this project's.
-use Rattle.std.specs.Prelude.{◌≡◌, ℕ, zero, suc, ◌<◌, ◌≤◌, List, [], ◌∷◌, length, map, Option, Some, None, IfSome, slice_get, option_map}
+-- number of buffers. Source: PipeWire's documentation, "Objects Design", Port; what of it is kept is this project's.
+use Rattle.std.specs.Prelude.{◌≡◌, ℕ, zero, suc, ◌<◌, ◌≤◌, List, [], ◌∷◌, length, map, slice_get}
+use Rattle.std.specs.Prelude.{Option, Some, None, IfSome, option_map}
 use Rattle.std.specs.Option.{option_map_or}
 use Rattle.pw_base.specs.declared.ids.PortId.{PortId}
 use Rattle.pw_base.specs.declared.kind.Kind.{Kind}
@@ -32,7 +33,8 @@ IsOutput nodes port = (input_count_of nodes port.node ≤ port.port) × IsPort n
 
 -- a place for the port among those of its node
 abbrev pub HasPlace : List Node → PortId → Type 0
-HasPlace nodes port = (port.node < length nodes) × ((node : Node) → slice_get nodes port.node ≡ Some node → port.port < length node.ports)
+HasPlace nodes port = (port.node < length nodes)
+    × ((node : Node) → slice_get nodes port.node ≡ Some node → port.port < length node.ports)
 
 -- what holds of a port that is there, and of its node
 abbrev pub AtPort : List Node → PortId → (Node → PortState → Type 0) → Type 0

@@ -1,4 +1,5 @@
--- Fields beside the values that a node shares. This project's own.
+-- Fields beside the values that a node shares.
+-- Source: this project's own.
 use Rattle.std.specs.Prelude.{◌≡◌, ℕ, ◌<◌, List, Option, Some, None, map}
 use Rattle.std.specs.List.{All}
 use Rattle.pod_codec.specs.declared.pod.Pod.{Pod}
@@ -38,7 +39,8 @@ Shares node f (Some g) = IsInside node f × (g ≡ shared_field node f)
 -- fields with the shared values alone, or the least key at which such a value is not admitted
 abbrev pub SharesAll : Node → List Field → Shared → Type 0
 SharesAll node fields (Fields shared) = All (IsInside node) fields × (shared ≡ map (shared_field node) fields)
-SharesAll node fields (Outside key) = (f : Field) × (field_of fields key ≡ Some f) × IsOutside node f × ((k : ℕ) (g : Field) → k < key → field_of fields k ≡ Some g → IsInside node g)
+SharesAll node fields (Outside key) = (f : Field) × (field_of fields key ≡ Some f) × IsOutside node f
+    × ((k : ℕ) (g : Field) → k < key → field_of fields k ≡ Some g → IsInside node g)
 
 -- what is offered is a Format (0x40003), and sound
 abbrev pub IsSoundOffer : Offered → Type 0

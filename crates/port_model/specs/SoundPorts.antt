@@ -1,4 +1,5 @@
--- Sound ports: what holds of the ports that a script has made, whatever it said. This project's own.
+-- Sound ports: what holds of the ports that a script has made, whatever it said.
+-- Source: this project's own.
 use Rattle.std.specs.Prelude.{◌≡◌, ℕ, ◌≤◌, List, Some, None, true, length, slice_get, IfSome}
 use Rattle.std.specs.List.{All}
 use Rattle.pod_codec.specs.declared.pod.Pod.{Pod}
@@ -55,13 +56,15 @@ pub record IsSoundPort (kind : Kind) (port : ℕ) (s : PortState) : Type 0 where
 
 -- ports of a node agree at the keys that they share
 abbrev pub Agree : Kind → PortState → PortState → Type 0
-Agree kind s t = (f g : Format) (key : ℕ) → s.format ≡ Some f → t.format ≡ Some g → is_shared_key kind key ≡ true → value_at f.fields key ≡ value_at g.fields key
+Agree kind s t = (f g : Format) (key : ℕ) → s.format ≡ Some f → t.format ≡ Some g → is_shared_key kind key ≡ true
+    → value_at f.fields key ≡ value_at g.fields key
 
 pub record IsSoundNode (node : Node) : Type 0 where
   pub kind : IsInRange node.kind
   pub count : length node.ports ≡ port_count node.kind
   pub ports : (i : ℕ) (s : PortState) → slice_get node.ports i ≡ Some s → IsSoundPort node.kind i s
-  pub agree : (i j : ℕ) (s t : PortState) → slice_get node.ports i ≡ Some s → slice_get node.ports j ≡ Some t → Agree node.kind s t
+  pub agree : (i j : ℕ) (s t : PortState) → slice_get node.ports i ≡ Some s → slice_get node.ports j ≡ Some t
+      → Agree node.kind s t
 
 -- SOUND PORTS: at most 63 nodes, each sound
 pub record AreSoundNodes (nodes : List Node) : Type 0 where

@@ -1,11 +1,10 @@
--- To each node that is reached leads a walk.
-use Rattle.std.proofs.Common.{not}
-use Rattle.std.specs.Prelude.{count_by}
-use Rattle.link_negotiation.proofs.WalkLemmas.{IsSearched}
+-- The nodes that are taken are expanded, and a walk leads to each that is reached.
+use Rattle.std.proofs.Common.{◌-◌}
+use Rattle.link_negotiation.proofs.SearchLemmas.{IsSearched}
 use Rattle.link_negotiation.proofs.reachability.is_reachable.Given as goal
 
-abbrev pub invariant-loop-node : goal.invariant-loop-node
-invariant-loop-node l = IsSearched (record { made = l.made; marks = l.marks }) l.from l.reached
+abbrev pub invariant-nodes : goal.invariant-nodes
+invariant-nodes l = IsSearched l.links l.from l.taken l.reached
 
-abbrev pub decreases-loop-node : goal.decreases-loop-node
-decreases-loop-node l = count_by (λ here. not here) l.reached
+abbrev pub decreases-nodes : goal.decreases-nodes
+decreases-nodes l = 64 - l.taken

@@ -1,11 +1,11 @@
 -- The nodes of a link that is there have numbers below 64, and a release keeps how many nodes there are.
-use Rattle.std.proofs.Common.{◌≡◌, ℕ, ◌<◌, List, length, sym, ap, ◌∙◌, subst, true, not}
+use Rattle.std.proofs.Common.{◌≡◌, ℕ, ◌<◌, ◌≤◌, List, length, sym, ap, ◌∙◌, subst, arith, true, not}
 use Rattle.std.specs.List.{All}
 use Rattle.std.proofs.lemmas.List.Elements.{All-filter}
 use Rattle.port_model.specs.declared.port_state.Node.{Node}
 use Rattle.link_negotiation.specs.declared.link.Link.{Link}
 use Rattle.link_negotiation.specs.Links.{are_linked, joins}
-use Rattle.link_negotiation.proofs.UnlinkLemmas.{linked_below, node_there, input_there, length-releasing}
+use Rattle.link_negotiation.proofs.UnlinkLemmas.{fewer_links, linked_below, node_there, input_there, length-releasing}
 use Rattle.link_negotiation.proofs.links.Links.unlink.Goals as goal
 
 pub release-first-requires-clause-below : goal.release-first-requires-clause-below
@@ -28,4 +28,5 @@ invariant_of-self c = record {
   links = subst (λ (ls : List Link). All (λ (l : Link). (l.from.node < 64) × (l.to.node < 64)) ls) (sym c.remove.ensures)
       (All-filter (λ (l : Link). not (joins c.args.from c.args.to l)) (λ (l : Link). (l.from.node < 64) × (l.to.node < 64)) c.self.inside.made.items c.self.invariant.links);
   marks = c.self.invariant.marks;
+  few = subst (λ (ls : List Link). length ls ≤ 256) (sym c.remove.ensures) (omega (arith, fewer_links (λ (l : Link). not (joins c.args.from c.args.to l)) c.self.inside.made.items, c.self.invariant.few));
 }

@@ -1,0 +1,146 @@
+//! The nodes of a graph.
+ghost use Rattle.std.specs.Prelude.{◌≡◌, ◌<◌, [], ◌∷◌, IfOk};
+ghost use Rattle.pw_base.specs.KindPorts.{port_count};
+ghost use Rattle.pw_base.specs.KindRanges.{IsInRange, IsRate, IsChannels};
+ghost use Rattle.format_filter.specs.CommonFormat.{IsSoundFormat};
+ghost use Rattle.port_model.specs.Offers.{HasFileNumbers};
+
+use crate::graph::Graph;
+use format_filter::{Format, FormatFault, format_of};
+use link_negotiation::Links;
+use pod_codec::read_pod;
+use port_model::Ports;
+use pw_base::{Items, Kind, Memory, PortId};
+use std::alloc::Global;
+
+/// The format that some bytes spell.
+pub fn read(alloc: Global, bytes: &[u8]) -> Result<Format, FormatFault>
+    ensures { IfOk result IsSoundFormat }
+{
+    match read_pod(alloc, bytes) {
+        Ok((pod, _size)) => format_of(alloc, &pod),
+        Err(_fault) => Err(FormatFault::NotObject),
+    }
+}
+
+/// No node. These of the nodes to come are asynchronous.
+pub fn empty(alloc: Global, marked: &[u32]) -> Result<Graph, Memory> {
+    let mut links = Links::new(alloc)?;
+    for node in marked {
+        if *node < 63 {
+            links.mark(*node);
+        }
+    }
+    Ok(Graph {
+        alloc,
+        ports: Ports::new(alloc)?,
+        links,
+        inputs: Items::new(alloc),
+        counts: Items::new(alloc),
+    })
+}
+
+/// One node, of which a file narrows the offer of a port.
+pub fn narrowed(alloc: Global, kind: &Kind, port: u32, file: &Format) -> Result<Graph, Memory>
+    requires kind { IsInRange kind.now }
+    requires numbers { HasFileNumbers kind.now 0 0 }
+    requires port { port < port_count kind.now }
+    requires file { IsSoundFormat file.now }
+{
+    let mut ports = Ports::new(alloc)?;
+    ports.add(kind, 0, 0)?;
+    let _narrowed = ports.offer(PortId { node: 0, port }, file)?;
+    let mut inputs = Items::new(alloc);
+    inputs.push(kind.inputs())?;
+    let mut counts = Items::new(alloc);
+    counts.push(kind.inputs() + kind.outputs())?;
+    Ok(Graph {
+        alloc,
+        ports,
+        links: Links::new(alloc)?,
+        inputs,
+        counts,
+    })
+}
+
+impl Graph {
+    /// One node more, the first 63 alone.
+    fn with(self, kind: &Kind, rate: u32, channels: u32) -> Result<Graph, Memory>
+        requires kind { IsInRange kind.now }
+        requires file { HasFileNumbers kind.now rate channels }
+    {
+        let Graph {
+            alloc,
+            mut ports,
+            links,
+            mut inputs,
+            mut counts,
+        } = self;
+        if inputs.len() >= 63 {
+            return Err(Memory);
+        }
+        ports.add(kind, rate, channels)?;
+        inputs.push(kind.inputs())?;
+        counts.push(kind.inputs() + kind.outputs())?;
+        Ok(Graph {
+            alloc,
+            ports,
+            links,
+            inputs,
+            counts,
+        })
+    }
+
+    /// A source of a file with this rate and these channels.
+    pub fn source(self, rate: u32, channels: u32) -> Result<Graph, Memory>
+        requires rate { IsRate rate }
+        requires channels { IsChannels channels }
+    {
+        self.with(&Kind::Source, rate, channels)
+    }
+
+    /// A gain of 1.
+    pub fn gain(self) -> Result<Graph, Memory> {
+        self.with(&Kind::Gain { g: 256 }, 0, 0)
+    }
+
+    /// A mixer of its first input and half of its second.
+    pub fn mix2(self) -> Result<Graph, Memory> {
+        self.with(&Kind::Mix2 { ga: 256, gb: 128 }, 0, 0)
+    }
+
+    /// A delay of 10 frames.
+    pub fn delay(self) -> Result<Graph, Memory> {
+        self.with(&Kind::Delay { frames: 10 }, 0, 0)
+    }
+
+    /// A map of two channels to three.
+    pub fn map(self) -> Result<Graph, Memory> {
+        let list = Items::from_slice(self.alloc, [1u32, 0, 1].as_slice())?;
+        self.with(&Kind::Map { channels: 2, list }, 0, 0)
+    }
+
+    /// A split of two channels.
+    pub fn split(self) -> Result<Graph, Memory> {
+        self.with(&Kind::Split, 0, 0)
+    }
+
+    /// A sink.
+    pub fn sink(self) -> Result<Graph, Memory> {
+        self.with(&Kind::Sink, 0, 0)
+    }
+
+    /// A meter.
+    pub fn meter(self) -> Result<Graph, Memory> {
+        self.with(&Kind::Meter, 0, 0)
+    }
+
+    /// Many gains more.
+    pub fn gains(self, number: u32) -> Result<Graph, Memory> {
+        let mut graph = self;
+        for _ in 0..number {
+            graph = graph.gain()?;
+        }
+        Ok(graph)
+    }
+}
