@@ -31,3 +31,6 @@ pub mod RowLemmas
 pub mod LayoutLemmas
 pub mod TellingLemmas
 pub mod ClosingLemmas
+pub mod PortLemmas
+pub mod PlaceLemmas
+pub mod WiringLemmas
