@@ -34,3 +34,4 @@ pub mod ClosingLemmas
 pub mod PortLemmas
 pub mod PlaceLemmas
 pub mod WiringLemmas
+pub mod PlainLemmas
