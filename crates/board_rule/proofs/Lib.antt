@@ -35,3 +35,4 @@ pub mod PortLemmas
 pub mod PlaceLemmas
 pub mod WiringLemmas
 pub mod PlainLemmas
+pub mod PaceLemmas
