@@ -36,3 +36,4 @@ pub mod PlaceLemmas
 pub mod WiringLemmas
 pub mod PlainLemmas
 pub mod PaceLemmas
+pub mod StayLemmas
