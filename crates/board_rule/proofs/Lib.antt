@@ -37,3 +37,4 @@ pub mod WiringLemmas
 pub mod PlainLemmas
 pub mod PaceLemmas
 pub mod StayLemmas
+pub mod BufferStartLemmas

@@ -28,7 +28,7 @@ module _ (shape : Shape) where
     one_area : (l : ℕ) (d : ShapeLink) → l < length shape.links → areas_of (get_or shape.links l d) ≡ 1
     one_area l d lt = ap (λ b. cond {A = ℕ} b 2 1) (h l d lt)
 
-    areas_before : (l : ℕ) (d : ShapeLink) → l ≤ length shape.links → area_count (take l shape.links) ≡ l
+    pub areas_before : (l : ℕ) (d : ShapeLink) → l ≤ length shape.links → area_count (take l shape.links) ≡ l
     areas_before zero d le = refl
     areas_before (suc l) d le = let a = areas_before l d (omega arith) in let m = sum_by_more areas_of shape.links l d (omega arith) in let o = one_area l d (omega arith) in
         let e : l + 1 ≡ suc l = omega arith in let f : area_count (take (l + 1) shape.links) ≡ area_count (take (suc l) shape.links) = ap (λ k. area_count (take k shape.links)) e in omega arith
