@@ -17,7 +17,7 @@ use Rattle.board_rule.specs.declared.view.BlockView.TheVariants.{Free}
 use Rattle.board_rule.specs.Layout.{Lay, IsUndelayed, nodes, first}
 use Rattle.board_rule.specs.StartViews.{Samples, unwritten, unread}
 use Rattle.board_rule.specs.Areas.{Span}
-use Rattle.board_rule.specs.BufferRule.{Ends, Buffers}
+use Rattle.board_rule.specs.BufferRule.{Ends, filled, Buffers}
 use Rattle.board_rule.proofs.LayoutLemmas.{undelayed_start}
 use Rattle.board_rule.proofs.PlaceLemmas.{areas_before}
 use Rattle.board_rule.proofs.WiringLemmas.{LinkAt, PoolAt, Wired}
@@ -110,16 +110,16 @@ module _ (p : Lay) where
     one = λ q a b x to ha hb z. absurd (true≢false (sym z));
   }
 
-  -- while nothing is done yet, any table may be named
-  pub buffers_named : (s : ℕ → Span) (e f : Samples) (ws : List ℕ) → Wired p → Buffers p s start_ends e ws → Buffers p s start_ends f ws
-  buffers_named s e f ws w b = let o = to_plain p w s start_ends e ws b in from_plain p w s start_ends f ws record {
+  -- while all blocks are free, any table may be named
+  pub buffers_named : (s : ℕ → Span) (ends : Ends) (e f : Samples) (ws : List ℕ) → Wired p → ((q b : ℕ) (x : PoolShape) → PoolAt p q x → b < x.blocks → ends.blocks q b ≡ Free) → Buffers p s ends e ws → Buffers p s ends f ws
+  buffers_named s ends e f ws w free b = let o = to_plain p w s ends e ws b in from_plain p w s ends f ws record {
     links = o.links;
     blocks = λ q n x at h. let k = o.blocks q n x at h in record {
       low = k.low;
       high = k.high;
       full = k.full;
       readers = k.readers;
-      samples = λ i l. absurd (omega arith);
+      samples = λ i l. absurd (let z : filled x.words (ends.blocks q n) ≡ 0 = ap (filled x.words) (free q n x at h) in omega arith);
     };
     out = o.out;
     one = o.one;
