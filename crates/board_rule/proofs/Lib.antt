@@ -38,3 +38,5 @@ pub mod PlainLemmas
 pub mod PaceLemmas
 pub mod StayLemmas
 pub mod BufferStartLemmas
+pub mod AwaitedLemmas
+pub mod EndLemmas
