@@ -37,6 +37,9 @@ pub mod WiringLemmas
 pub mod PlainLemmas
 pub mod PaceLemmas
 pub mod StayLemmas
+pub mod FinishLemmas
+pub mod SpanLemmas
+pub mod HolderLemmas
 pub mod BufferStartLemmas
 pub mod AwaitedLemmas
 pub mod EndLemmas

@@ -6,6 +6,9 @@ pub mod Left
 pub mod Drawn
 pub mod Phases
 pub mod StartViews
+pub mod SampleWords
+pub mod Areas
+pub mod BufferRule
 pub mod View
 pub mod Bits
 pub mod NodeRow
@@ -13,8 +16,10 @@ pub mod ActivationRule
 pub mod Marks
 pub mod Logged
 pub mod EventRule
+pub mod Spans
 pub mod BoardRule
 pub mod SeatNodes
+pub mod EndViews
 pub mod TellingSteps
 pub mod WorkSteps
 pub mod Steps
@@ -26,7 +31,3 @@ pub mod Progress
 pub mod LeadProgress
 pub mod Known
 pub mod Closing
-pub mod SampleWords
-pub mod Areas
-pub mod BufferRule
-pub mod Spans

@@ -13,7 +13,7 @@ pub of_words-requires : goal.of_words-requires
 of_words-requires c = let plot = c.args.plot in let p = lay plot in let shape = plot.shape in let u = c.requires.undelayed in
     let long = long_enough shape u in let wide : nodes p + nodes p < word_count shape = omega arith in
     subst (λ (w : List ℕ). Holds p (opening w [] (first_view p))) (sym (c.as_slice.ensures ∙ c.in_ok-words.ensures))
-    (opens p (start_words shape) [] (sound_layout plot c.requires.pooled.sound c.requires.seats) (count_is shape) (subst (λ k. nodes p + nodes p < k) (count_is shape) wide) (subst (λ k. event_place shape (event_count shape) ≤ k) (count_is shape) long) refl (late_start shape u) (event_start shape u) (pending_start shape u) (status_start shape u))
+    (opens p (start_words shape) [] (sound_layout plot c.requires.pooled.sound c.requires.seats) c.requires.pooled u refl (count_is shape) (subst (λ k. nodes p + nodes p < k) (count_is shape) wide) (subst (λ k. event_place shape (event_count shape) ≤ k) (count_is shape) long) refl (late_start shape u) (event_start shape u) (pending_start shape u) (status_start shape u))
 
 pub invariant_of-result-2-clause-sound : goal.invariant_of-result-2-clause-sound
 invariant_of-result-2-clause-sound c = sound_layout c.args.plot c.requires.pooled.sound c.requires.seats
