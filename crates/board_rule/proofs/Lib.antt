@@ -40,3 +40,4 @@ pub mod StayLemmas
 pub mod BufferStartLemmas
 pub mod AwaitedLemmas
 pub mod EndLemmas
+pub mod AreaLemmas
