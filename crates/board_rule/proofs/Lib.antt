@@ -41,3 +41,4 @@ pub mod BufferStartLemmas
 pub mod AwaitedLemmas
 pub mod EndLemmas
 pub mod AreaLemmas
+pub mod BlockLemmas
