@@ -42,3 +42,4 @@ pub mod AwaitedLemmas
 pub mod EndLemmas
 pub mod AreaLemmas
 pub mod BlockLemmas
+pub mod FillingLemmas
