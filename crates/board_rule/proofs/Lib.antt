@@ -43,3 +43,4 @@ pub mod EndLemmas
 pub mod AreaLemmas
 pub mod BlockLemmas
 pub mod FillingLemmas
+pub mod ReaderLemmas
