@@ -43,3 +43,7 @@ pub mod HolderLemmas
 pub mod BufferStartLemmas
 pub mod AwaitedLemmas
 pub mod EndLemmas
+pub mod AreaLemmas
+pub mod BlockLemmas
+pub mod FillingLemmas
+pub mod ReaderLemmas

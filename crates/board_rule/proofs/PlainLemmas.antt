@@ -99,7 +99,7 @@ module _ (p : Lay) where
     all_plain : IsUndelayed p.shape
     all_plain = λ l d lt. w.undelayed l (get_or p.shape.links l d) (slice_get-get_or p.shape.links l d lt)
 
-    one_lag : (x : PoolShape) → lag p x ≡ 1
+    pub one_lag : (x : PoolShape) → lag p x ≡ 1
     one_lag x = ap (λ b. cond {A = ℕ} b 2 1) (list_any_none (λ k. k.delayed) (links_from p.shape x.port) (All-filter (λ k. is_port k.from x.port) (λ k. k.delayed ≡ false) p.shape.links all_plain))
 
     same_awaited : (reads : ℕ → ReadView) (x : PoolShape) (n : ℕ) → waiting p reads x n ≡ awaited reads x.links n
