@@ -28,6 +28,7 @@ pub mod StepLemmas
 pub mod StartLemmas
 pub mod SoundLemmas
 pub mod RowLemmas
+pub mod WordLemmas
 pub mod LayoutLemmas
 pub mod TellingLemmas
 pub mod ClosingLemmas
@@ -40,6 +41,7 @@ pub mod StayLemmas
 pub mod FinishLemmas
 pub mod SpanLemmas
 pub mod HolderLemmas
+pub mod KeepLemmas
 pub mod BufferStartLemmas
 pub mod AwaitedLemmas
 pub mod EndLemmas
@@ -47,3 +49,5 @@ pub mod AreaLemmas
 pub mod BlockLemmas
 pub mod FillingLemmas
 pub mod ReaderLemmas
+pub mod WriterStepLemmas
+pub mod ReaderStepLemmas

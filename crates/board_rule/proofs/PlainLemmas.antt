@@ -89,7 +89,7 @@ module _ (p : Lay) where
     pub one : (q a b : ℕ) (x : PoolShape) → PoolAt p q x → a < x.blocks → b < x.blocks → is_busy (ends.blocks q a) ≡ true → is_busy (ends.blocks q b) ≡ true → a ≡ b
 
   module _ (w : Wired p) where
-    no_late : (l : ℕ) → late_at p l ≡ 0
+    pub no_late : (l : ℕ) → late_at p l ≡ 0
     no_late l = by (slice_get p.shape.links l) refl
       where
         by : (o : _) → slice_get p.shape.links l ≡ o → unwrap_or (option_map late_by o) 0 ≡ 0

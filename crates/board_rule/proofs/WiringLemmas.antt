@@ -46,7 +46,7 @@ module _ (p : Lay) where
   made w q x at = let l = w.linked q x at in let k = w.there q l.0 x at l.1 in subst (λ (z : PortId). (p.place z.node < nodes p) × (p.place z.node ≢ p.driver)) k.2 (w.from_in l.0 k.0 k.1, w.from_follows l.0 k.0 k.1)
 
 -- a pool and its port
-pool_source : (shape : Shape) (q : ℕ) (x : PoolShape) → slice_get (pools_of shape) q ≡ Some x → (port : PortId) × (slice_get (sources_of shape) q ≡ Some port) × (x ≡ pool_of shape port)
+pub pool_source : (shape : Shape) (q : ℕ) (x : PoolShape) → slice_get (pools_of shape) q ≡ Some x → (port : PortId) × (slice_get (sources_of shape) q ≡ Some port) × (x ≡ pool_of shape port)
 pool_source shape q x at = by (slice_get (sources_of shape) q) refl (sym (slice_get-map (pool_of shape) (sources_of shape) q) ∙ at)
   where
     by : (o : _) → slice_get (sources_of shape) q ≡ o → option_map (pool_of shape) o ≡ Some x → (port : PortId) × (slice_get (sources_of shape) q ≡ Some port) × (x ≡ pool_of shape port)

@@ -2,6 +2,7 @@
 -- Source: this project's own.
 use Rattle.std.specs.Prelude.{ℕ, false, List, [], slice_set as set, slice_index_or}
 use Rattle.std.specs.List.{position_or_len}
+use Rattle.pw_base.specs.declared.shape.Shape.{Shape}
 use Rattle.pw_base.specs.declared.shape.ShapeLink.{ShapeLink}
 use Rattle.pw_base.specs.declared.pools.PoolShape.{PoolShape}
 use Rattle.pw_base.specs.Pools.{is_port, pools_of}
@@ -21,6 +22,16 @@ no_link = record { from = record { node = 0; port = 0 }; to = record { node = 0;
 abbrev pub no_pool : PoolShape
 no_pool = record { port = record { node = 0; port = 0 }; channels = 0; blocks = 0; words = 0; links = [] }
 
+-- a link and a pool of a shape by their numbers, and the number of the pool that a link reads
+abbrev pub link_in : Shape → ℕ → ShapeLink
+link_in shape l = slice_index_or shape.links l no_link
+
+abbrev pub pool_in : Shape → ℕ → PoolShape
+pool_in shape q = slice_index_or (pools_of shape) q no_pool
+
+abbrev pub pool_number : Shape → ℕ → ℕ
+pool_number shape l = position_or_len (λ x. is_port x.port (link_in shape l).from) (pools_of shape)
+
 -- the writer's end of a link, and the reader's, as a view has them
 abbrev pub write_of : View → ℕ → WriteView
 write_of v l = slice_index_or v.writes l (unwritten 0)
@@ -37,10 +48,10 @@ view_read v l y = record v { reads = set v.reads l y }
 module _ (p : Lay) where
   -- a link and a pool by their numbers
   abbrev pub link_at : ℕ → ShapeLink
-  link_at l = slice_index_or p.shape.links l no_link
+  link_at l = link_in p.shape l
 
   abbrev pub pool_at : ℕ → PoolShape
-  pool_at q = slice_index_or (pools_of p.shape) q no_pool
+  pool_at q = pool_in p.shape q
 
   -- the places of a link's nodes, the place of the node that fills a pool, and the number of the pool that a link reads
   abbrev pub writer_of : ℕ → ℕ
@@ -53,7 +64,7 @@ module _ (p : Lay) where
   filler_of q = p.place (pool_at q).port.node
 
   abbrev pub pool_of : ℕ → ℕ
-  pool_of l = position_or_len (λ x. is_port x.port (link_at l).from) (pools_of p.shape)
+  pool_of l = pool_number p.shape l
 
   -- a block by its pool and its number
   abbrev pub block_of : View → ℕ → ℕ → BlockView

@@ -1,7 +1,6 @@
 pub mod Sums
 pub mod Places
 pub mod Layout
-pub mod Rows
 pub mod Left
 pub mod Drawn
 pub mod Phases
@@ -20,9 +19,13 @@ pub mod Spans
 pub mod BoardRule
 pub mod SeatNodes
 pub mod EndViews
+pub mod Rows
 pub mod TellingSteps
 pub mod WorkSteps
 pub mod Steps
+pub mod WriterSteps
+pub mod ReaderSteps
+pub mod BufferReads
 pub mod TicketSteps
 pub mod CheckSteps
 pub mod EventSteps

@@ -168,9 +168,9 @@ impl Board {
         requires seats { HasSeats plot }
         ensures { IfOk result (λ t. (t.0.plot ≡ plot) × (t.1.table ≡ t.0.table.shared.table_id) × (t.1.knows ≡ first_view (lay plot))) }
     {
-        let rows = rows_of(alloc, &plot.shape)?;
         let spare = Items::new(alloc).into_room(event_count(&plot.shape))?;
         let words = start_words(alloc, &plot.shape)?;
+        let rows = rows_of(alloc, &plot.shape, words.len())?;
         let first = u64::from(plot.shape.first);
         let reads = unread(alloc, plot.shape.links.len(), first)?;
         let (table, token): (BoardTable, BoardToken) = Table::of_words(

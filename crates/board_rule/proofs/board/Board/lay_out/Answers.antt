@@ -6,6 +6,8 @@ use Rattle.atomic_table.specs.Table.{opening}
 use Rattle.board_rule.proofs.SoundLemmas.{sound_layout}
 use Rattle.board_rule.proofs.LayoutLemmas.{count_is, long_enough, pending_start, status_start, late_start, event_start}
 use Rattle.board_rule.proofs.StartLemmas.{opens}
+use Rattle.board_rule.proofs.HolderLemmas.{placed}
+use Rattle.pw_base.proofs.LayoutLemmas.{length-start_words}
 use Rattle.pw_base.specs.Layout.{start_words, event_place, event_count}
 use Rattle.board_rule.proofs.board.Board.lay_out.Goals as goal
 
@@ -28,3 +30,9 @@ invariant_of-result-2-clause-fits c = let a = c.words.inside.inner.small in let 
 
 pub invariant_of-result-2-clause-words : goal.invariant_of-result-2-clause-words
 invariant_of-result-2-clause-words c = c.in_ok-table.ensures.0 ∙ ap (λ (l : List ℕ). length l) (c.as_slice.ensures ∙ c.in_ok-words.ensures) ∙ sym (count_is c.args.plot.shape)
+
+pub invariant_of-result-2-clause-placed : goal.invariant_of-result-2-clause-placed
+invariant_of-result-2-clause-placed c = placed c.args.plot c.requires.pooled c.requires.undelayed c.requires.seats
+
+pub rows_of-requires-clause-room : goal.rows_of-requires-clause-room
+rows_of-requires-clause-room c = let a : c.len.result ≡ length (start_words c.args.plot.shape) = c.len.ensures ∙ ap (λ (l : List ℕ). length l) c.in_ok-words.ensures in let b = length-start_words c.args.plot.shape c.requires.pooled in omega arith
