@@ -51,3 +51,4 @@ pub mod FillingLemmas
 pub mod ReaderLemmas
 pub mod WriterStepLemmas
 pub mod ReaderStepLemmas
+pub mod PoolWordLemmas
