@@ -52,3 +52,4 @@ pub mod ReaderLemmas
 pub mod WriterStepLemmas
 pub mod ReaderStepLemmas
 pub mod PoolWordLemmas
+pub mod SafetyLemmas
