@@ -52,3 +52,5 @@ pub mod ReaderLemmas
 pub mod OldestLemmas
 pub mod WriterStepLemmas
 pub mod ReaderStepLemmas
+pub mod PoolWordLemmas
+pub mod SafetyLemmas
