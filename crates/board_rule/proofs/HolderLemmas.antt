@@ -1,5 +1,5 @@
 -- What a seat knows of the ends of links and of blocks, and the step that changes one of them.
-use Rattle.std.proofs.Common.{◌≡◌, ◌≢◌, ℕ, zero, suc, ◌+◌, ◌<◌, ◌≤◌, Bool, true, false, true≢false, not, cond, eqb, List, [], ◌∷◌, length, set, get_or, refl, sym, ap, ◌∙◌, subst, arith, eq-eqb, ne_eqb}
+use Rattle.std.proofs.Common.{◌≡◌, ◌≢◌, ℕ, zero, suc, ◌+◌, ◌<◌, ◌≤◌, Bool, true, false, true≢false, not, cond, List, [], ◌∷◌, length, set, get_or, refl, sym, ap, ◌∙◌, subst, arith, eq-eqb, ne_eqb}
 use Rattle.std.specs.Prelude.{slice_get, Some, Contains, sum_by, take}
 use Rattle.std.specs.List.{position_or_len}
 use Rattle.std.proofs.lemmas.List.Sums.{sum_by-cons}
@@ -14,7 +14,6 @@ use Rattle.pw_base.specs.declared.shape.ShapeLink.{ShapeLink}
 use Rattle.pw_base.specs.declared.pools.PoolShape.{PoolShape}
 use Rattle.pw_base.specs.declared.ids.PortId.{PortId}
 use Rattle.pw_base.specs.Pools.{is_port, pools_of}
-use Rattle.board_rule.specs.declared.view.Phase.TheVariants.{Running}
 use Rattle.board_rule.specs.declared.view.Drive.TheVariants as drives
 use Rattle.board_rule.specs.declared.view.NodeView.{NodeView}
 use Rattle.board_rule.specs.declared.view.LeadView.{LeadView}
@@ -28,10 +27,9 @@ use Rattle.pw_base.specs.Pools.{IsPooledShape, channels_of, sources_of, words_of
 use Rattle.pw_base.specs.Pools as pools
 use Rattle.board_rule.proofs.PoolWordLemmas.{pools_have_words}
 use Rattle.pw_base.proofs.PoolLemmas.{channels_le}
-use Rattle.pw_base.specs.Layout.{late_place, event_place}
 use Rattle.pw_base.proofs.LayoutLemmas.{length-start_words}
 use Rattle.board_rule.specs.declared.plot.Plot.{Plot}
-use Rattle.board_rule.specs.Layout.{Lay, lay, nodes, first, HasSeats, IsUndelayed}
+use Rattle.board_rule.specs.Layout.{Lay, lay, first, HasSeats, IsUndelayed}
 use Rattle.board_rule.specs.Rows.{HasPlaces}
 use Rattle.board_rule.proofs.SoundLemmas.{sound_layout}
 use Rattle.board_rule.proofs.LayoutLemmas.{count_is, long_enough}
@@ -40,7 +38,7 @@ use Rattle.board_rule.specs.SampleWords.{IsTable}
 use Rattle.board_rule.specs.BufferRule.{Ends}
 use Rattle.board_rule.specs.Spans.{spans, phase_over, phase_begun, drive_over, drive_begun, holder, block_at, KnowsEnds, AreStill}
 use Rattle.board_rule.specs.BoardRule.{Knows, Seated, Holds}
-use Rattle.board_rule.specs.EndViews.{no_link, no_pool, link_at, pool_at, pool_of, writer_of, reader_of, write_of, read_of, view_write, view_read, view_block}
+use Rattle.board_rule.specs.EndViews.{no_link, no_pool, link_at, pool_at, pool_of, view_write, view_read, view_block}
 use Rattle.board_rule.specs.SeatNodes.{cycle_of, HasNode}
 use Rattle.board_rule.specs.WorkSteps.{IsRunning, IsGivenOn}
 use Rattle.board_rule.proofs.SeatLemmas.{put_here, put_else, set_there, seat_step}

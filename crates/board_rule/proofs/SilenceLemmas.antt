@@ -1,5 +1,5 @@
 -- Silence is a table of samples.
-use Rattle.std.proofs.Common.{◌≡◌, ℕ, suc, ◌+◌, ◌-◌, ◌*◌, ◌<◌, ◌≤◌, List, [], ℤ, pos, neg_ℤ, ◌≤ℤ◌, All, length, map, replicate, get_or, slice_get, Some, sym, ap, ◌∙◌, subst, arith}
+use Rattle.std.proofs.Common.{◌≡◌, ℕ, suc, ◌+◌, ◌-◌, ◌*◌, ◌<◌, List, [], ℤ, pos, neg_ℤ, ◌≤ℤ◌, All, length, map, replicate, get_or, sym, ap, ◌∙◌, subst, arith}
 use mathlib.Core.Logic.{dite}
 use native.Mathlib.Decide.{dec_le}
 use Rattle.std.proofs.lemmas.Option.{slice_get_within, get_or_from_slice_get}
@@ -8,7 +8,7 @@ use Rattle.std.proofs.lemmas.List.Elements.{All-replicate}
 use Rattle.pw_base.specs.declared.pools.PoolShape.{PoolShape}
 use Rattle.pw_base.specs.Pools.{pools_of}
 use Rattle.board_rule.specs.Layout.{Lay, first}
-use Rattle.board_rule.specs.SampleWords.{IsTable, samples_in, silence}
+use Rattle.board_rule.specs.SampleWords.{IsTable, silence}
 
 abbrev is_sample : ℤ → Type 0
 is_sample s = (neg_ℤ (pos 32768) ≤ℤ s) × (s ≤ℤ pos 32767)
