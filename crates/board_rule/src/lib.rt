@@ -12,6 +12,7 @@ mod lead;
 mod left;
 mod loop_seat;
 mod opening;
+mod places;
 mod plot;
 mod progress;
 mod rows;
@@ -19,6 +20,7 @@ mod rule;
 mod seat;
 mod steps;
 mod view;
+mod writing;
 
 pub use board::Board;
 pub use closed::Closed;

@@ -1,0 +1,178 @@
+//! The steps on buffers of a loop's seat whose node writes. Each is one sequentially consistent operation on one word; it
+//! takes no memory, does not wait and does not fail. Links, pools and blocks are given by number.
+ghost use Rattle.std.specs.Prelude.{◌≡◌, ℕ, ◌<◌, length};
+ghost use Rattle.pw_base.specs.Words.{io_word_of, io_id_in};
+ghost use Rattle.board_rule.specs.Layout.{lay};
+ghost use Rattle.board_rule.specs.declared.view.BlockView.TheVariants.{Out};
+ghost use Rattle.board_rule.specs.EndViews.{write_of, pool_at, block_of};
+ghost use Rattle.board_rule.specs.BufferReads.{HasPool, IsFilled, is_filled, IsFirstFilled, older, IsOldestOut};
+ghost use Rattle.board_rule.specs.WriterSteps.{LoadsAsWriter, loaded_as_writer, IsGivenBack, LoadsReaders, readers_loaded, StoresSample, sample_stored, StoresReaders, readers_stored, StoresHave, have_stored};
+
+use crate::board::Board;
+use crate::loop_seat::LoopSeat;
+use crate::steps::writing;
+use crate::view::{BlockView, WriteView};
+use std::marker::Brand;
+
+impl LoopSeat {
+    // The writer's end of a link.
+    fn write_at(&self, link: u32) -> WriteView
+        requires { link < length self.now.knows.writes }
+        ensures { result ≡ write_of self.now.knows link }
+    {
+        self.writes[link as usize]
+    }
+}
+
+impl LoopSeat {
+    /// Loads the area of a link whose writer works, once in its cycle. The word asks for data; its number is the one that
+    /// the reader gave back, and `NO_BLOCK` exactly in the first cycle of the epoch.
+    #[inline]
+    pub fn load_io_as_writer(&mut self, board: &Board, link: u32) -> u64
+        requires table { self.old.table ≡ board.now.table.shared.table_id }
+        requires phase { LoadsAsWriter (lay board.now.plot) self.old.knows link }
+        ensures table { self.new.table ≡ self.old.table }
+        ensures knows { self.new.knows ≡ loaded_as_writer (lay board.now.plot) self.old.knows link }
+        ensures word { result ≡ io_word_of 1 (io_id_in result) }
+        ensures given { IsGivenBack (lay board.now.plot) self.old.knows link (io_id_in result) }
+    {
+        let end = self.write_at(link);
+        let cycle = self.node_at(board.writer(link)).next;
+        let found = writing::load_area::<Brand>(board, &mut self.token, link);
+        self.writes[link as usize] = WriteView {
+            loaded: cycle + 1,
+            stored: end.stored,
+            id: end.id,
+            last: end.last,
+        };
+        found
+    }
+
+    /// Stores HAVE_DATA with the number of the block that was announced in this cycle, which ends the writer's turn.
+    #[inline]
+    pub fn store_have_data(&mut self, board: &Board, link: u32, id: u32)
+        requires table { self.old.table ≡ board.now.table.shared.table_id }
+        requires phase { StoresHave (lay board.now.plot) self.old.knows link id }
+        ensures table { self.new.table ≡ self.old.table }
+        ensures knows { self.new.knows ≡ have_stored (lay board.now.plot) self.old.knows link id }
+    {
+        let end = self.write_at(link);
+        let cycle = self.node_at(board.writer(link)).next;
+        writing::store_have::<Brand>(board, &mut self.token, link, id);
+        self.writes[link as usize] = WriteView {
+            loaded: end.loaded,
+            stored: cycle + 1,
+            id,
+            last: end.id,
+        };
+    }
+
+    /// Loads the readers word of the block that was announced a cycle ago. It is 0, and the block is free then.
+    #[inline]
+    pub fn load_readers(&mut self, board: &Board, pool: u32, id: u32) -> u64
+        requires table { self.old.table ≡ board.now.table.shared.table_id }
+        requires phase { LoadsReaders (lay board.now.plot) self.old.knows pool id }
+        ensures table { self.new.table ≡ self.old.table }
+        ensures knows { self.new.knows ≡ readers_loaded (lay board.now.plot) self.old.knows pool id result }
+        ensures word { result ≡ 0 }
+    {
+        let at = board.block(pool as usize, id);
+        let found = writing::load_readers::<Brand>(board, &mut self.token, pool as usize, id);
+        self.blocks[at] = BlockView::Free;
+        found
+    }
+
+    /// Stores the next sample word of a block, four samples of this cycle.
+    #[inline]
+    pub fn store_sample(&mut self, board: &Board, pool: u32, id: u32, place: u32, word: u64)
+        requires table { self.old.table ≡ board.now.table.shared.table_id }
+        requires phase { StoresSample (lay board.now.plot) self.old.knows pool id place word }
+        ensures table { self.new.table ≡ self.old.table }
+        ensures knows { self.new.knows ≡ sample_stored (lay board.now.plot) self.old.knows pool id place }
+    {
+        let at = board.block(pool as usize, id);
+        writing::store_sample::<Brand>(board, &mut self.token, pool as usize, id, place, word);
+        self.blocks[at] = BlockView::Filling { words: place + 1 };
+    }
+
+    /// Stores the number of the pool's links in the readers word of a block that is filled whole: it is announced.
+    #[inline]
+    pub fn store_readers(&mut self, board: &Board, pool: u32, id: u32)
+        requires table { self.old.table ≡ board.now.table.shared.table_id }
+        requires phase { StoresReaders (lay board.now.plot) self.old.knows pool id }
+        ensures table { self.new.table ≡ self.old.table }
+        ensures knows { self.new.knows ≡ readers_stored (lay board.now.plot) self.old.knows pool id }
+    {
+        let at = board.block(pool as usize, id);
+        let cycle = self.node_at(board.filler(pool as usize)).next;
+        writing::store_readers::<Brand>(board, &mut self.token, pool as usize, id);
+        self.blocks[at] = BlockView::Out { stamp: cycle + 1 };
+    }
+}
+
+impl LoopSeat {
+    // A block of a pool.
+    fn view_of(&self, board: &Board, pool: u32, id: u32) -> BlockView
+        requires pool { HasPool (lay board.now.plot) self.now.knows pool }
+        requires block { id < (pool_at (lay board.now.plot) pool).blocks }
+        ensures { result ≡ block_of (lay board.now.plot) self.now.knows pool id }
+    {
+        self.blocks[board.block(pool as usize, id)]
+    }
+
+    /// The number of the block that was filled whole in this cycle, announced or not. Condition: there is one.
+    pub fn filled(&self, board: &Board, pool: u32) -> u32
+        requires pool { HasPool (lay board.now.plot) self.now.knows pool }
+        requires some { let p = lay board.now.plot in ((b : ℕ) × (b < (pool_at p pool).blocks) × IsFilled p self.now.knows pool b) }
+        ensures { IsFirstFilled (lay board.now.plot) self.now.knows pool result }
+    {
+        let words = board.block_words(pool);
+        let stamp = self.node_at(board.filler(pool as usize)).next + 1;
+        for id in 0..board.block_count(pool) {
+            if is_filled(self.view_of(board, pool, id), words, stamp) {
+                return id;
+            }
+        }
+        0
+    }
+
+    /// The number of the block that has been out longest. Condition: one is out.
+    pub fn oldest_out(&self, board: &Board, pool: u32) -> u32
+        requires pool { HasPool (lay board.now.plot) self.now.knows pool }
+        requires some { let p = lay board.now.plot in ((b n : ℕ) × (b < (pool_at p pool).blocks) × (block_of p self.now.knows pool b ≡ Out n)) }
+        ensures { ((n : ℕ) × IsOldestOut (lay board.now.plot) self.now.knows pool result n) }
+    {
+        let mut oldest = None;
+        for id in 0..board.block_count(pool) {
+            oldest = older(oldest, id, self.view_of(board, pool, id));
+        }
+        match oldest {
+            Some((id, _)) => id,
+            None => 0,
+        }
+    }
+}
+
+// Whether a block is filled with so many words, or was announced in the cycle before the stamp.
+fn is_filled(block: BlockView, words: u32, stamp: u64) -> bool
+    ensures { result ≡ is_filled words stamp block }
+{
+    match block {
+        BlockView::Free => false,
+        BlockView::Filling { words: filled } => filled == words,
+        BlockView::Out { stamp: announced } => announced == stamp,
+    }
+}
+
+// The block that is out longest of those before it and of this one.
+fn older(before: Option<(u32, u64)>, id: u32, block: BlockView) -> Option<(u32, u64)>
+    ensures { result ≡ older before id block }
+{
+    let BlockView::Out { stamp } = block else {
+        return before;
+    };
+    match before {
+        Some((_, least)) if least <= stamp => before,
+        _ => Some((id, stamp)),
+    }
+}
