@@ -23,6 +23,7 @@ use Rattle.board_rule.specs.Marks.{phase_started, phase_finished, phase_holds}
 use Rattle.board_rule.specs.View.{Whole, node_of, with_node, with_lead, view_node, view_lead, view_trail}
 use Rattle.board_rule.specs.ActivationRule.{Activations, posts}
 use Rattle.board_rule.specs.EventRule.{Events, so_far, marks, lead_drawn, node_drawn}
+use Rattle.board_rule.specs.Spans.{phase_over, phase_begun}
 use Rattle.board_rule.specs.BoardRule.{Holds}
 use Rattle.board_rule.specs.Steps.{Has}
 use Rattle.board_rule.specs.Plays.{Turns, Learns}
@@ -31,6 +32,7 @@ use Rattle.board_rule.proofs.TicketLemmas.{count_node, count_lead, few_tickets}
 use Rattle.board_rule.proofs.FollowerLemmas.{stage_at, not_resetting, same_node}
 use Rattle.board_rule.proofs.WorkLemmas.{Alike, draws_start, draws_finish, active_alike, ticket_is_other, later_is_other}
 use Rattle.board_rule.proofs.DriverLemmas.{lead_is}
+use Rattle.board_rule.proofs.SpanLemmas.{IsLeadPaced, IsLogWord, phase_paced, buffers_node, buffers_lead, wired_in, early_word, log_word}
 use Rattle.board_rule.proofs.EventLemmas.{events_start, events_finish, events_stored}
 use Rattle.board_rule.proofs.CheckLemmas.{events_looked}
 
@@ -75,6 +77,7 @@ module _ (p : Lay) where
             seated = seated_logs p (with_node g m new) ws _ g.past inside g.late (node_step p g s.words ws s.views id m me.0 new me.0.trail at (length-set s.words 0 (suc found)) has.loops has.inside has.follows has.owned r.seated);
             activations = act_logs (with_node g m new) ws g.past inside g.late g.looks active;
             events = events_start p g s.words m x sound a e (omega arith) has.inside has.follows same now phase runs_on stage (omega arith);
+            buffers = buffers_node p g s.words ws m x new (wired_in p g s.words s.views r.seated) same (phase_paced x Awake new phase refl refl (omega arith)) (early_word p s.words 0 (suc found) (omega arith)) r.buffers;
           },
           (sym (is_after found), refl, is_said found (omega arith)),
         )
@@ -112,6 +115,7 @@ module _ (p : Lay) where
             seated = seated_logs p (with_node g m new) ws _ g.past inside g.late (node_step p g s.words ws s.views id m me.0 new me.0.trail at (length-set s.words 0 (suc found)) has.loops has.inside has.follows has.owned r.seated);
             activations = act_logs (with_node g m new) ws g.past inside g.late g.looks active;
             events = events_finish p g s.words m x sound a e (omega arith) has.inside has.follows same now phase runs_on (omega arith);
+            buffers = buffers_node p g s.words ws m x new (wired_in p g s.words s.views r.seated) same (phase_paced x Done new phase refl refl (omega arith)) (early_word p s.words 0 (suc found) (omega arith)) r.buffers;
           },
           (sym (is_after found), refl, is_said found (omega arith)),
         )
@@ -120,12 +124,12 @@ module _ (p : Lay) where
         done_not z = (cc)
 
     -- a follower stores the event e of the ticket k that it holds
-    pub store_allowed : (slots id m k : ℕ) (me : Me S View) (f h : Phase) (e : ℕ → Event) (after : ℕ → View) → Has p me.0 m → Alike f h → (node_of me.0 m).phase ≡ f → phase_started h ≡ phase_started f → phase_finished h ≡ phase_finished f → phase_drawn h ≡ phase_drawn f
+    pub store_allowed : (slots id m k : ℕ) (me : Me S View) (f h : Phase) (e : ℕ → Event) (after : ℕ → View) → Has p me.0 m → Alike f h → (node_of me.0 m).phase ≡ f → phase_started h ≡ phase_started f → phase_finished h ≡ phase_finished f → phase_drawn h ≡ phase_drawn f → phase_over h ≡ phase_over f → phase_begun f ≤ phase_begun h
         → phase_holds (record (node_of me.0 m) { phase = h }) h ≡ [] → phase_holds (node_of me.0 m) f ≡ k ∷ [] → k < event_count p.shape
         → ((s : State S View) (r : Holds p s) → get_elem? s.views id ≡ some me.0 → (r.whole.nodes m ≡ node_of me.0 m) → (r.whole.nodes m).phase ≡ f → slice_get (r.whole.past ++ so_far (marks p r.whole) r.whole.lead.cycle r.whole.inside) k ≡ Some (e r.whole.lead.cycle))
         → ((found : ℕ) → after found ≡ view_node me.0 m (record (node_of me.0 m) { phase = h }) me.0.trail)
         → Allows (Holds p) slots id me (event_place p.shape k) (λ _. event_word_of (e (node_of me.0 m).next)) (λ _. Turns after me (event_word_of (e (node_of me.0 m).next)))
-    store_allowed slots id m k me f h e after has like phase started finished drawn none one near logged is_after s r _ at fits =
+    store_allowed slots id m k me f h e after has like phase started finished drawn over begun none one near logged is_after s r _ at fits =
         let g = r.whole in let a = r.activations in let sound = r.seated.sound in let long = r.seated.long in
         let x : NodeView = node_of me.0 m in
         let new : NodeView = record x { phase = h } in
@@ -145,18 +149,19 @@ module _ (p : Lay) where
             seated = node_step p g s.words (set s.words i (event_word_of (e g.lead.cycle))) s.views id m me.0 new me.0.trail at (length-set s.words i (event_word_of (e g.lead.cycle))) has.loops has.inside has.follows has.owned r.seated;
             activations = active_alike p s r id m me.0 f h new i (event_word_of (e g.lead.cycle)) at has like phase refl refl (later_is_other p i (omega arith));
             events = events_stored p g s.words m k x f h (e g.lead.cycle) sound a r.events (omega arith) has.inside has.follows same now phase runs_on busy started finished none one (logged s r at same phase') (omega arith);
+            buffers = buffers_node p g s.words (set s.words i (event_word_of (e g.lead.cycle))) m x new (wired_in p g s.words s.views r.seated) same (phase_paced x f new phase refl over begun) (log_word p s.words i (event_word_of (e g.lead.cycle)) (omega arith, omega arith)) r.buffers;
           },
           (sym (is_after (event_word_of (e x.next))), refl),
         )
 
     -- the driver's seat draws a ticket
     pub draw_lead_allowed : (slots id : ℕ) (me : Me S View) (y : ℕ → LeadView) (t : Trail) (after : ℕ → View) (says : ℕ → Type 0) → me.0.number ≡ p.seats
-        → ((g : Whole) (ws : List ℕ) → me.0.lead ≡ g.lead → Activations p g ws → (k : ℕ) → Activations p (with_lead g (y k)) (set ws 0 (suc k))) → ((k : ℕ) → lead_drawn me.0.lead + 1 ≤ lead_drawn (y k))
+        → ((g : Whole) (ws : List ℕ) → me.0.lead ≡ g.lead → Activations p g ws → (k : ℕ) → Activations p (with_lead g (y k)) (set ws 0 (suc k))) → ((k : ℕ) → lead_drawn me.0.lead + 1 ≤ lead_drawn (y k)) → ((k : ℕ) → IsLeadPaced me.0.lead (y k))
         → ((g : Whole) (ws : List ℕ) → me.0.lead ≡ g.lead → me.0.trail.looks ≡ g.looks → IsSound p → Activations p g ws → Events p g ws → 0 < length ws → suc (get_or ws 0 0) ≤ event_count p.shape
         → (inside : List Event) × Events p (record (with_lead g (y (get_or ws 0 0))) { inside = inside; looks = t.looks }) (set ws 0 (suc (get_or ws 0 0))))
         → ((found : ℕ) → after found ≡ view_lead me.0 (y found) t) → ((found : ℕ) → found < event_count p.shape → says found)
         → Allows (Holds p) slots id me 0 (λ w. (w + 1) % 2 ^ 64) (Learns after says me)
-    draw_lead_allowed slots id me y t after says number goes more logs is_after is_said s r _ at fits =
+    draw_lead_allowed slots id me y t after says number goes more paced logs is_after is_said s r _ at fits =
         let g = r.whole in let sound = r.seated.sound in let wide = r.seated.wide in
         let is = lead_is p s r id me.0 at number in
         let looks = ((r.seated.knows id me.0 at).leads number).2 in
@@ -177,18 +182,19 @@ module _ (p : Lay) where
             seated = seated_logs p (record (with_lead g (y found)) { looks = t.looks }) ws _ g.past l.0 g.late (lead_step p g s.words ws s.views id me.0 (y found) t t.looks at (length-set s.words 0 (suc found)) number refl r.seated);
             activations = act_logs (with_lead g (y found)) ws g.past l.0 g.late t.looks active;
             events = l.1;
+            buffers = buffers_lead p g s.words ws (y found) (wired_in p g s.words s.views r.seated) (subst (λ (x : LeadView). IsLeadPaced x (y found)) is (paced found)) (early_word p s.words 0 (suc found) (omega arith)) r.buffers;
           },
           (sym (is_after found), refl, is_said found (omega arith)),
         )
 
     -- the driver's seat stores an event or a late set in the word i
-    pub store_lead_allowed : (slots id i x : ℕ) (me : Me S View) (y : LeadView) (t : Trail) (after : ℕ → View) → me.0.number ≡ p.seats → t.looks ≡ me.0.trail.looks
+    pub store_lead_allowed : (slots id i x : ℕ) (me : Me S View) (y : LeadView) (t : Trail) (after : ℕ → View) → me.0.number ≡ p.seats → t.looks ≡ me.0.trail.looks → IsLogWord p i → IsLeadPaced me.0.lead y
         → ((g : Whole) (ws : List ℕ) → IsSound p → me.0.lead ≡ g.lead → Activations p g ws → Activations p (with_lead g y) (set ws i x))
         → ((g : Whole) (ws : List ℕ) → me.0.lead ≡ g.lead → me.0.trail.looks ≡ g.looks → IsSound p → Activations p g ws → Events p g ws → event_place p.shape (event_count p.shape) ≤ length ws
         → (past inside : List Event) × (late : ℕ) × Events p (record (with_lead g y) { past = past; inside = inside; late = late; looks = g.looks }) (set ws i x))
         → ((found : ℕ) → after found ≡ view_lead me.0 y t)
         → Allows (Holds p) slots id me i (λ _. x) (λ _. Turns after me x)
-    store_lead_allowed slots id i x me y t after number seen goes logs is_after s r _ at fits =
+    store_lead_allowed slots id i x me y t after number seen log paced goes logs is_after s r _ at fits =
         let g = r.whole in let sound = r.seated.sound in
         let is = lead_is p s r id me.0 at number in
         let looks = ((r.seated.knows id me.0 at).leads number).2 in
@@ -202,6 +208,7 @@ module _ (p : Lay) where
             seated = seated_logs p (with_lead g y) ws _ l.0 l.1 l.2 (lead_step p g s.words ws s.views id me.0 y t g.looks at (length-set s.words i x) number (seen ∙ looks) r.seated);
             activations = act_logs (with_lead g y) ws l.0 l.1 l.2 g.looks (goes g s.words sound is r.activations);
             events = l.3;
+            buffers = buffers_lead p g s.words ws y (wired_in p g s.words s.views r.seated) (subst (λ (z : LeadView). IsLeadPaced z y) is paced) (log_word p s.words i x log) r.buffers;
           },
           (sym (is_after x), refl),
         )
@@ -225,6 +232,7 @@ module _ (p : Lay) where
             whole = record g { looks = t.looks };
             seated = look_step p g s.words s.views id me.0 t at number r.seated;
             activations = act_logs g s.words g.past g.inside g.late t.looks r.activations;
+            buffers = r.buffers;
             events = subst (λ (fs : List Found). Events p (record g { looks = record { node = p.number n; word = found } ∷ fs }) s.words) (sym looks) (events_looked p g s.words sound r.activations r.events n found drive runs_on inside follows refl);
           },
           (sym (is_after found), refl),

@@ -26,6 +26,7 @@ use Rattle.board_rule.specs.Plays.{Turns}
 use Rattle.board_rule.proofs.RunLemmas.{wakes}
 use Rattle.board_rule.proofs.SeatLemmas.{stay_step}
 use Rattle.board_rule.proofs.MarkLemmas.{quiet_phase}
+use Rattle.board_rule.proofs.SpanLemmas.{phase_paced}
 use Rattle.board_rule.proofs.FollowerLemmas.{rest_at, owing_at, rest_put, owing_put, stage_put, elsewhere, words_run, active_node, same_node, holds_node}
 
 module _ (p : Lay) where
@@ -66,6 +67,7 @@ module _ (p : Lay) where
     seated = stay_step p r.whole s.words s.words s.views id me.0 t at refl seen r.seated;
     activations = r.activations;
     events = r.events;
+    buffers = r.buffers;
   }
 
   module _ {S : Type 0} where
@@ -99,7 +101,7 @@ module _ (p : Lay) where
           keeps,
           tt,
           subst (λ b. Holds p (stepped s (status_place p.shape m) (either b (status_word_of 2 x.next) found) id me.1 (view_node me.0 m new t) keeps)) (sym (eq-eqb found (status_word_of 1 x.next) e))
-              (subst (λ k. Holds p (stepped s (status_place p.shape m) (status_word_of 2 k) id me.1 (view_node me.0 m new t) keeps)) (sym cycle) (holds_node p s r id m (status_place p.shape m) (status_word_of 2 c) me.0 me.1 new t at h (omega arith) (omega arith) (omega arith) (quiet_phase c x Idle Awake phase refl refl refl)
+              (subst (λ k. Holds p (stepped s (status_place p.shape m) (status_word_of 2 k) id me.1 (view_node me.0 m new t) keeps)) (sym cycle) (holds_node p s r id m (status_place p.shape m) (status_word_of 2 c) me.0 me.1 new t at h (omega arith) (omega arith) (omega arith) (quiet_phase c x Idle Awake phase refl refl refl) (phase_paced x Idle new phase refl refl (omega arith))
               (active_node p g s.words (set s.words (status_place p.shape m) (status_word_of 2 c)) m new h.follows is.0 cycle woken a))),
           (sym (ap after e ∙ hit), refl),
         ))

@@ -20,15 +20,21 @@ use Rattle.board_rule.specs.Phases.{owed_of, phase_rest, phase_owing, phase_stag
 use Rattle.board_rule.specs.View.{Whole, with_lead, view_lead, view_trail}
 use Rattle.board_rule.specs.ActivationRule.{Activations, DriveOk, Words, Resets, IsIdle, posts, old_status}
 use Rattle.board_rule.specs.EventRule.{lead_drawn}
+use Rattle.board_rule.specs.Spans.{spans, drive_over, drive_begun}
+use Rattle.board_rule.specs.WorkSteps.{IsGivenOn}
 use Rattle.board_rule.specs.BoardRule.{Holds}
 use Rattle.board_rule.specs.Plays.{Turns}
+use Rattle.board_rule.proofs.SpanLemmas.{drive_paced, lead_begun, wired_in, over_at, over_lead, begun_lead, begun_lead_put, early_word}
+use Rattle.board_rule.proofs.HolderLemmas.{is_ready, holder_leads}
+use Rattle.board_rule.proofs.PaceLemmas.{paces}
+use Rattle.board_rule.proofs.FinishLemmas.{buffers_finish}
 use Rattle.board_rule.proofs.SumLemmas.{total_zero, total_at}
 use Rattle.board_rule.proofs.RunLemmas.{Sums, keeps as stays, wakes, finishes}
 use Rattle.board_rule.proofs.MarkLemmas.{quiet_drive}
 use Rattle.board_rule.proofs.FollowerLemmas.{rest_at, owing_at, stage_at, words_run}
 use Rattle.board_rule.proofs.WorkLemmas.{IsOther}
 use Rattle.board_rule.proofs.ClaimLemmas.{remembers}
-use Rattle.board_rule.proofs.DriverLemmas.{lead_to, lead_is, holds_lead, active_lead, runs_within, rest_driver, owing_driver, stage_driver, beside}
+use Rattle.board_rule.proofs.DriverLemmas.{lead_to, lead_is, holds_lead, holds_lead_by, active_lead, runs_within, rest_driver, owing_driver, stage_driver, beside}
 
 -- two phases of the driver's seat outside the reset that mean the same for the activation words
 pub record AlikeDrives (d e : Drive) : Type 0 where
@@ -165,9 +171,9 @@ module _ (p : Lay) where
 
   module _ {S : Type 0} where
     -- the driver's node ends its work
-    pub finish_lead_allowed : (slots id : ℕ) (me : Me S View) (t : Trail) (after : ℕ → View) → me.0.number ≡ p.seats → t.looks ≡ me.0.trail.looks → me.0.lead.drive ≡ drives.Running → ((found : ℕ) → after found ≡ view_lead me.0 (record me.0.lead { drive = drives.Done }) t)
+    pub finish_lead_allowed : (slots id : ℕ) (me : Me S View) (t : Trail) (after : ℕ → View) → me.0.number ≡ p.seats → t.looks ≡ me.0.trail.looks → me.0.lead.drive ≡ drives.Running → IsGivenOn p me.0 p.driver me.0.lead.cycle → ((found : ℕ) → after found ≡ view_lead me.0 (record me.0.lead { drive = drives.Done }) t)
         → Allows (Holds p) slots id me (status_place p.shape p.driver) (λ _. status_word_of 3 me.0.lead.cycle) (λ _. Turns after me (status_word_of 3 me.0.lead.cycle))
-    finish_lead_allowed slots id me t after number looks phase is_after s r _ at fits =
+    finish_lead_allowed slots id me t after number looks phase given is_after s r _ at fits =
         let g = r.whole in let a = r.activations in let sound = r.seated.sound in let wide = r.seated.wide in let hm = sound.driver_in in
         let is = lead_is p s r id me.0 at number in
         let drive : g.lead.drive ≡ drives.Running = ap (λ (l : LeadView). l.drive) (sym is) ∙ phase in
@@ -181,13 +187,20 @@ module _ (p : Lay) where
         let owing : (posts p g).owing p.driver ≡ [] = owing_driver p g ∙ ap (drive_owing ts) drive in
         let stage : (posts p g).stage p.driver ≡ 1 = stage_driver p g ∙ ap drive_stage drive in
         let done = finishes p.shape c p.driver (posts p g) (posts p whole) s.words hm wide (beside p g drives.Done g.lead) (rest_driver p whole ∙ sym rest) (owing_driver p whole ∙ sym owing) stage (stage_driver p whole) runs in
+        let w = wired_in p g s.words s.views r.seated in
+        let now_begun : lead_begun g.lead ≡ c + 1 = ap (λ d. c + drive_begun d) drive in
+        let begun : (spans p g p.driver).begun ≡ c + 1 = begun_lead p g p.driver refl ∙ now_begun in
+        let over : (spans p g p.driver).over ≡ c + 0 = over_lead p g p.driver refl ∙ ap (λ d. c + drive_over d) drive in
+        let later : (spans p whole p.driver).over ≡ c + 1 = over_lead p whole p.driver refl in
+        let ready = is_ready p g s.words s.views id me.0 p.driver c r.seated at (holder_leads p p.driver refl ∙ sym number) begun (subst (λ (l : LeadView). IsGivenOn p me.0 p.driver l.cycle) is given) in
         let same : lead_drawn g.lead ≡ 5 * c + (2 + cond g.lead.checked 1 0) = ap (λ d. 5 * c + cond (is_between d) 0 (drive_drawn d + cond g.lead.checked 1 0)) drive in (
           view_lead me.0 (record me.0.lead { drive = drives.Done }) t,
           keeps,
           tt,
           subst (λ (l : LeadView). Holds p (stepped s (status_place p.shape p.driver) (status_word_of 3 l.cycle) id me.1 (view_lead me.0 (record l { drive = drives.Done }) t) keeps)) (sym is)
-              (holds_lead p s r id (status_place p.shape p.driver) (status_word_of 3 c) me.0 me.1 (lead_to g drives.Done g.lead) t at number looks (omega arith) (omega arith) (omega arith) (quiet_drive g.lead drives.Running drives.Done drive record { started = refl; finished = refl; holds = λ _. refl; tells = λ _ _. refl; sees = λ _. refl; begun = refl; ending = refl; checking = refl })
-              (active_lead p g s.words ws drives.Done g.lead tt (λ z. true≢false (sym z)) (a.within (runs_within g.lead.drive runs_on)) done a)),
+              (holds_lead_by p s r id (status_place p.shape p.driver) (status_word_of 3 c) me.0 me.1 (lead_to g drives.Done g.lead) t at number looks (omega arith) (omega arith) (omega arith) (quiet_drive g.lead drives.Running drives.Done drive record { started = refl; finished = refl; holds = λ _. refl; tells = λ _ _. refl; sees = λ _. refl; begun = refl; ending = refl; checking = refl })
+              (active_lead p g s.words ws drives.Done g.lead tt (λ z. true≢false (sym z)) (a.within (runs_within g.lead.drive runs_on)) done a)
+              (buffers_finish p (spans p g) (spans p whole) g.ends g.expect s.words ws p.driver w hm (paces p g s.words w a) ready (omega arith) (omega arith) (λ n l o. over_at p whole n o ∙ sym (over_at p g n o)) (λ n l. begun_lead_put p g n (lead_to g drives.Done g.lead) (omega arith)) (early_word p s.words (status_place p.shape p.driver) (status_word_of 3 c) (omega arith)) r.buffers)),
           (sym (is_after (status_word_of 3 me.0.lead.cycle)), refl),
         )
 
@@ -216,7 +229,7 @@ module _ (p : Lay) where
           tt,
           subst (λ b. Holds p (stepped s (status_place p.shape p.driver) (either b (status_word_of 2 me.0.lead.cycle) found) id me.1 (view_lead me.0 (record me.0.lead { drive = drives.Awake }) t) keeps)) (sym (eq-eqb found (status_word_of 1 me.0.lead.cycle) e))
               (subst (λ (l : LeadView). Holds p (stepped s (status_place p.shape p.driver) (status_word_of 2 l.cycle) id me.1 (view_lead me.0 (record l { drive = drives.Awake }) t) keeps)) (sym is)
-              (holds_lead p s r id (status_place p.shape p.driver) (status_word_of 2 c) me.0 me.1 (lead_to g drives.Awake g.lead) t at number looks (omega arith) (omega arith) (omega arith) (quiet_drive g.lead drives.Waiting drives.Awake drive record { started = refl; finished = refl; holds = λ _. refl; tells = λ _ _. refl; sees = λ _. refl; begun = refl; ending = refl; checking = refl }) (active_lead p g s.words ws drives.Awake g.lead tt (λ z. true≢false (sym z)) (a.within (runs_within g.lead.drive runs_on)) woken a))),
+              (holds_lead p s r id (status_place p.shape p.driver) (status_word_of 2 c) me.0 me.1 (lead_to g drives.Awake g.lead) t at number looks (omega arith) (omega arith) (omega arith) (quiet_drive g.lead drives.Waiting drives.Awake drive record { started = refl; finished = refl; holds = λ _. refl; tells = λ _ _. refl; sees = λ _. refl; begun = refl; ending = refl; checking = refl }) (drive_paced g.lead drives.Waiting (lead_to g drives.Awake g.lead) drive refl refl (omega arith)) (active_lead p g s.words ws drives.Awake g.lead tt (λ z. true≢false (sym z)) (a.within (runs_within g.lead.drive runs_on)) woken a))),
           (sym (ap after e ∙ hit), refl),
         ))
         (λ e. (

@@ -16,9 +16,12 @@ use Rattle.board_rule.specs.Phases.{owed_of, phase_rest, phase_owing, phase_stag
 use Rattle.board_rule.specs.View.{Whole, with_lead, view_lead}
 use Rattle.board_rule.specs.ActivationRule.{Activations, DriveOk, posts}
 use Rattle.board_rule.specs.EventRule.{lead_drawn}
+use Rattle.board_rule.specs.BufferRule.{Buffers}
+use Rattle.board_rule.specs.Spans.{spans}
 use Rattle.board_rule.specs.BoardRule.{Holds}
 use Rattle.board_rule.specs.Steps.{kicked, taken_of, CanKick, KickIndebted}
 use Rattle.board_rule.specs.Plays.{Turns}
+use Rattle.board_rule.proofs.SpanLemmas.{IsLeadPaced, drive_paced, kicked_paced, buffers_lead, wired_in, early_word}
 use Rattle.board_rule.proofs.RunLemmas.{Sums, Elsewhere, positive, lowers, triggers}
 use Rattle.board_rule.proofs.PhaseLemmas.{owed_is}
 use Rattle.board_rule.proofs.SeatLemmas.{lead_step}
@@ -139,14 +142,21 @@ module _ (p : Lay) where
     lead_is s r id v at number = ((r.seated.knows id v at).leads number).0
 
     -- a step of the driver's seat, on the word i: what each part of the rule has to show
-    pub holds_lead : (s : State S View) (r : Holds p s) (id i n : ℕ) (v : View) (carry : List (ℕ × S)) (x : LeadView) (t : Trail) → get_elem? s.views id ≡ some v → v.number ≡ p.seats → t.looks ≡ v.trail.looks → 0 < i → i ≤ nodes p + nodes p → lead_drawn r.whole.lead ≤ lead_drawn x → QuietLead r.whole.lead x
-        → Activations p (with_lead r.whole x) (set s.words i n) → Holds p (stepped s i n id carry (view_lead v x t) keeps)
-    holds_lead s r id i n v carry x t at number looks low high more quiet active = record {
+    pub holds_lead_by : (s : State S View) (r : Holds p s) (id i n : ℕ) (v : View) (carry : List (ℕ × S)) (x : LeadView) (t : Trail) → get_elem? s.views id ≡ some v → v.number ≡ p.seats → t.looks ≡ v.trail.looks → 0 < i → i ≤ nodes p + nodes p → lead_drawn r.whole.lead ≤ lead_drawn x → QuietLead r.whole.lead x
+        → Activations p (with_lead r.whole x) (set s.words i n) → Buffers p (spans p (with_lead r.whole x)) r.whole.ends r.whole.expect (set s.words i n) → Holds p (stepped s i n id carry (view_lead v x t) keeps)
+    holds_lead_by s r id i n v carry x t at number looks low high more quiet active buffers = record {
       whole = with_lead r.whole x;
       seated = lead_step p r.whole s.words (set s.words i n) s.views id v x t r.whole.looks at (length-set s.words i n) number (looks ∙ ((r.seated.knows id v at).leads number).2) r.seated;
       activations = active;
       events = events_lead p r.whole s.words i n x more quiet low high r.events;
+      buffers = buffers;
     }
+
+    -- and where it ends no cycle
+    pub holds_lead : (s : State S View) (r : Holds p s) (id i n : ℕ) (v : View) (carry : List (ℕ × S)) (x : LeadView) (t : Trail) → get_elem? s.views id ≡ some v → v.number ≡ p.seats → t.looks ≡ v.trail.looks → 0 < i → i ≤ nodes p + nodes p → lead_drawn r.whole.lead ≤ lead_drawn x → QuietLead r.whole.lead x
+        → IsLeadPaced r.whole.lead x → Activations p (with_lead r.whole x) (set s.words i n) → Holds p (stepped s i n id carry (view_lead v x t) keeps)
+    holds_lead s r id i n v carry x t at number looks low high more quiet paced active = holds_lead_by s r id i n v carry x t at number looks low high more quiet active
+        (buffers_lead p r.whole s.words (set s.words i n) x (wired_in p r.whole s.words s.views r.seated) paced (early_word p s.words i n high) r.buffers)
 
     pub kick_allowed : (slots id i n : ℕ) (me : Me S View) (t : ℕ → Trail) (after : ℕ → View) → me.0.number ≡ p.seats → ((found : ℕ) → (t found).looks ≡ me.0.trail.looks) → me.0.lead.drive ≡ drives.Kick i false → i < length (p.targets p.driver) → get_or (p.targets p.driver) i 0 ≡ n
         → ((found : ℕ) → after found ≡ view_lead me.0 (record me.0.lead { drive = kicked (length (p.targets p.driver)) (i + 1) (eqb found 1) }) (t found))
@@ -183,6 +193,7 @@ module _ (p : Lay) where
           tt,
           subst (λ (k : ℕ × LeadView × ℕ). Holds p (stepped s (pending_place p.shape n) k.0 id me.1 (view_lead me.0 (record k.1 { drive = kicked (length ts) k.2 (eqb found 1) }) (t found)) keeps)) (λ j. (sym word j, sym is j, sym one j))
               (holds_lead s r id (pending_place p.shape n) (found - 1) me.0 me.1 (lead_to g new g.lead) (t found) at number (looks found) (omega arith) (omega arith) (omega arith) (quiet_drive g.lead (drives.Kick i false) new drive (kicked_quiet i (length ts) (suc i) false (eqb found 1)))
+              (let z = kicked_paced (length ts) (suc i) (eqb found 1) in drive_paced g.lead (drives.Kick i false) (lead_to g new g.lead) drive refl z.0 (omega arith))
               (active_lead g s.words (set s.words (pending_place p.shape n) (found - 1)) new g.lead (kicked_ok (suc i) (eqb found 1) (omega arith) (omega arith)) (kicked_runs (length ts) (suc i) (eqb found 1)) (a.within (runs_within g.lead.drive runs_on)) lowered a)),
           (sym (is_after found), refl),
         )
@@ -216,6 +227,7 @@ module _ (p : Lay) where
           tt,
           subst (λ (l : LeadView). Holds p (stepped s (status_place p.shape n) (status_word_of 1 l.cycle) id me.1 (view_lead me.0 (record l { drive = new }) t) keeps)) (sym is)
               (holds_lead s r id (status_place p.shape n) (status_word_of 1 c) me.0 me.1 (lead_to g new g.lead) t at number looks (omega arith) (omega arith) (omega arith) (quiet_drive g.lead (drives.Kick (suc i) true) new drive (kicked_quiet (suc i) (length ts) (suc i) true false))
+              (let z = kicked_paced (length ts) (suc i) false in drive_paced g.lead (drives.Kick (suc i) true) (lead_to g new g.lead) drive refl z.0 (omega arith))
               (active_lead g s.words (set s.words (status_place p.shape n) (status_word_of 1 c)) new g.lead (kicked_ok (suc i) false (omega arith) (omega arith)) (kicked_runs (length ts) (suc i) false) (a.within (runs_within g.lead.drive runs_on)) triggered a)),
           (sym (is_after (status_word_of 1 me.0.lead.cycle)), refl),
         )

@@ -20,6 +20,8 @@ use Rattle.board_rule.specs.Phases.{owed_of, phase_rest, phase_owing, phase_stag
 use Rattle.board_rule.specs.View.{Whole, put, node_of, with_node, view_node}
 use Rattle.board_rule.specs.ActivationRule.{Activations, Words, posts}
 use Rattle.board_rule.specs.EventRule.{node_drawn}
+use Rattle.board_rule.specs.BufferRule.{Buffers}
+use Rattle.board_rule.specs.Spans.{spans}
 use Rattle.board_rule.specs.BoardRule.{Holds}
 use Rattle.board_rule.specs.Steps.{Has, settled}
 use Rattle.board_rule.specs.Plays.{Turns}
@@ -29,6 +31,7 @@ use Rattle.board_rule.proofs.PhaseLemmas.{settled_rest, settled_owing, settled_s
 use Rattle.board_rule.proofs.MarkLemmas.{QuietNode}
 use Rattle.board_rule.proofs.TicketLemmas.{events_node}
 use Rattle.board_rule.proofs.SeatLemmas.{put_here, put_else, node_step}
+use Rattle.board_rule.proofs.SpanLemmas.{IsPaced, settled_paced, buffers_node, wired_in, early_word}
 
 module _ (p : Lay) where
   -- what the posts are at a follower
@@ -117,14 +120,22 @@ module _ (p : Lay) where
     same_node s r id m v at h = some-injective _ _ (sym ((r.seated.knows id v at).owns m h.inside h.follows h.owned) ∙ h.knows)
 
     -- a step of the follower m to the phase y, on the word i: what each part of the rule has to show
-    pub holds_node : (s : State S View) (r : Holds p s) (id m i n : ℕ) (v : View) (carry : List (ℕ × S)) (y : NodeView) (t : Trail) → get_elem? s.views id ≡ some v → Has p v m → 0 < i → i ≤ nodes p + nodes p
-        → node_drawn (node_of v m) ≤ node_drawn y → QuietNode r.whole.lead.cycle (node_of v m) y → Activations p (with_node r.whole m y) (set s.words i n) → Holds p (stepped s i n id carry (view_node v m y t) keeps)
-    holds_node s r id m i n v carry y t at h low high more quiet active = record {
+    pub holds_node_by : (s : State S View) (r : Holds p s) (id m i n : ℕ) (v : View) (carry : List (ℕ × S)) (y : NodeView) (t : Trail) → get_elem? s.views id ≡ some v → Has p v m → 0 < i → i ≤ nodes p + nodes p
+        → node_drawn (node_of v m) ≤ node_drawn y → QuietNode r.whole.lead.cycle (node_of v m) y → Activations p (with_node r.whole m y) (set s.words i n) → Buffers p (spans p (with_node r.whole m y)) r.whole.ends r.whole.expect (set s.words i n)
+        → Holds p (stepped s i n id carry (view_node v m y t) keeps)
+    holds_node_by s r id m i n v carry y t at h low high more quiet active buffers = record {
       whole = with_node r.whole m y;
       seated = node_step p r.whole s.words (set s.words i n) s.views id m v y t at (length-set s.words i n) h.loops h.inside h.follows h.owned r.seated;
       activations = active;
       events = events_node p r.whole s.words i n m (node_of v m) y h.inside h.follows (same_node s r id m v at h) more quiet low high r.events;
+      buffers = buffers;
     }
+
+    -- and where it ends no cycle
+    pub holds_node : (s : State S View) (r : Holds p s) (id m i n : ℕ) (v : View) (carry : List (ℕ × S)) (y : NodeView) (t : Trail) → get_elem? s.views id ≡ some v → Has p v m → 0 < i → i ≤ nodes p + nodes p
+        → node_drawn (node_of v m) ≤ node_drawn y → QuietNode r.whole.lead.cycle (node_of v m) y → IsPaced (node_of v m) y → Activations p (with_node r.whole m y) (set s.words i n) → Holds p (stepped s i n id carry (view_node v m y t) keeps)
+    holds_node s r id m i n v carry y t at h low high more quiet paced active = holds_node_by s r id m i n v carry y t at h low high more quiet active
+        (buffers_node p r.whole s.words (set s.words i n) m (node_of v m) y (wired_in p r.whole s.words s.views r.seated) (same_node s r id m v at h) paced (early_word p s.words i n high) r.buffers)
 
     pub lower_allowed : (slots id m i n : ℕ) (me : Me S View) (t : ℕ → Trail) (after : ℕ → View) → Has p me.0 m → (node_of me.0 m).phase ≡ Telling i false → i < length (p.targets m) → get_or (p.targets m) i 0 ≡ n
         → ((found : ℕ) → after found ≡ view_node me.0 m (settled (length (p.targets m)) (node_of me.0 m) (i + 1) (eqb found 1)) (t found))
@@ -163,7 +174,7 @@ module _ (p : Lay) where
           keeps,
           tt,
           subst (λ (k : ℕ × ℕ). Holds p (stepped s (pending_place p.shape n) k.0 id me.1 (view_node me.0 m (settled (length ts) x k.1 (eqb found 1)) (t found)) keeps)) (λ j. (sym word j, sym one j))
-              (holds_node s r id m (pending_place p.shape n) (found - 1) me.0 me.1 new (t found) at h (omega arith) (omega arith) (omega arith) (settled_quiet c x (suc i) i false now phase (length ts) (eqb found 1))
+              (holds_node s r id m (pending_place p.shape n) (found - 1) me.0 me.1 new (t found) at h (omega arith) (omega arith) (omega arith) (settled_quiet c x (suc i) i false now phase (length ts) (eqb found 1)) (settled_paced (length ts) (suc i) i false (eqb found 1) x phase)
               (active_node g s.words (set s.words (pending_place p.shape n) (found - 1)) m new h.follows runs_on (settled_ok ts c x (suc i) now (length ts) (eqb found 1) (omega arith) (omega arith)) lowered a)),
           (sym (is_after found), refl),
         )
@@ -202,7 +213,7 @@ module _ (p : Lay) where
           keeps,
           tt,
           subst (λ k. Holds p (stepped s (status_place p.shape n) (status_word_of 1 k) id me.1 (view_node me.0 m new t) keeps)) (sym now)
-              (holds_node s r id m (status_place p.shape n) (status_word_of 1 c) me.0 me.1 new t at h (omega arith) (omega arith) (omega arith) (settled_quiet c x (suc i) (suc i) true now phase (length ts) false)
+              (holds_node s r id m (status_place p.shape n) (status_word_of 1 c) me.0 me.1 new t at h (omega arith) (omega arith) (omega arith) (settled_quiet c x (suc i) (suc i) true now phase (length ts) false) (settled_paced (length ts) (suc i) (suc i) true false x phase)
               (active_node g s.words (set s.words (status_place p.shape n) (status_word_of 1 c)) m new h.follows runs_on (settled_ok ts c x (suc i) now (length ts) false (omega arith) (omega arith)) triggered a)),
           (sym (is_after (status_word_of 1 x.next)), refl),
         )

@@ -19,6 +19,7 @@ use Rattle.board_rule.specs.EventRule.{lead_drawn}
 use Rattle.board_rule.specs.BoardRule.{Holds}
 use Rattle.board_rule.specs.Steps.{reset_to}
 use Rattle.board_rule.specs.Plays.{Turns}
+use Rattle.board_rule.proofs.SpanLemmas.{drive_paced, reset_paced}
 use Rattle.board_rule.proofs.SumLemmas.{total_same, total_zero}
 use Rattle.board_rule.proofs.RunLemmas.{Sums, sum_left, sum_debts}
 use Rattle.board_rule.proofs.LeftLemmas.{from_sums}
@@ -94,7 +95,7 @@ module _ (p : Lay) where
           view_lead me.0 (record me.0.lead { drive = drives.Half i }) t,
           keeps,
           tt,
-          subst (λ (l : LeadView). Holds p (stepped s (pending_place p.shape i) (p.required i) id me.1 (view_lead me.0 (record l { drive = drives.Half i }) t) keeps)) (sym is) (holds_lead p s r id (pending_place p.shape i) (p.required i) me.0 me.1 (lead_to g (drives.Half i) g.lead) t at number looks (omega arith) (omega arith) (omega arith) (quiet_drive g.lead (drives.Reset i) (drives.Half i) drive record { started = refl; finished = refl; holds = λ _. refl; tells = λ _ _. refl; sees = λ _. refl; begun = refl; ending = refl; checking = refl }) record {
+          subst (λ (l : LeadView). Holds p (stepped s (pending_place p.shape i) (p.required i) id me.1 (view_lead me.0 (record l { drive = drives.Half i }) t) keeps)) (sym is) (holds_lead p s r id (pending_place p.shape i) (p.required i) me.0 me.1 (lead_to g (drives.Half i) g.lead) t at number looks (omega arith) (omega arith) (omega arith) (quiet_drive g.lead (drives.Reset i) (drives.Half i) drive record { started = refl; finished = refl; holds = λ _. refl; tells = λ _ _. refl; sees = λ _. refl; begun = refl; ending = refl; checking = refl }) (drive_paced g.lead (drives.Reset i) (lead_to g (drives.Half i) g.lead) drive refl refl (omega arith)) record {
             later = a.later;
             early = a.early;
             within = λ _. a.within (ap is_between drive);
@@ -151,6 +152,7 @@ module _ (p : Lay) where
           keeps,
           tt,
           subst (λ (l : LeadView). Holds p (stepped s (status_place p.shape i) (status_word_of 0 l.cycle) id me.1 (view_lead me.0 (record l { drive = reset_to (nodes p) (suc i) }) t) keeps)) (sym is)
-              (holds_lead p s r id (status_place p.shape i) (status_word_of 0 c) me.0 me.1 (lead_to g (reset_to (nodes p) (suc i)) g.lead) t at number looks (omega arith) (omega arith) (omega arith) (quiet_drive g.lead (drives.Half i) (reset_to (nodes p) (suc i)) drive (reset_quiet i (suc i) (eqb (suc i) (nodes p)))) act.0),
+              (holds_lead p s r id (status_place p.shape i) (status_word_of 0 c) me.0 me.1 (lead_to g (reset_to (nodes p) (suc i)) g.lead) t at number looks (omega arith) (omega arith) (omega arith) (quiet_drive g.lead (drives.Half i) (reset_to (nodes p) (suc i)) drive (reset_quiet i (suc i) (eqb (suc i) (nodes p))))
+              (let z = reset_paced (nodes p) (suc i) in drive_paced g.lead (drives.Half i) (lead_to g (reset_to (nodes p) (suc i)) g.lead) drive refl z.0 (omega arith)) act.0),
           (sym (is_after (status_word_of 0 me.0.lead.cycle)), refl),
         )

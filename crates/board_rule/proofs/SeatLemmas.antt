@@ -14,6 +14,8 @@ use Rattle.pw_base.specs.declared.event.Event.{Event}
 use Rattle.board_rule.specs.Layout.{Lay, nodes, first}
 use Rattle.board_rule.specs.View.{Whole, put, idle, with_node, view_node, with_lead, view_lead, view_trail}
 use Rattle.board_rule.specs.BoardRule.{Knows, Seated}
+use Rattle.board_rule.specs.SampleWords.{IsTable}
+use Rattle.board_rule.specs.Spans.{AreStill}
 
 pub put_here : {A : Type 0} (f : ℕ → A) (m : ℕ) (x : A) → put f m x m ≡ x
 put_here f m x = ap (λ b. cond b x (f m)) (eq-eqb m m refl)
@@ -29,17 +31,22 @@ set_there (x ∷ xs) (suc i) a b e = set_there xs i a b e
 
 module _ (p : Lay) where
   -- the general form: the seat id has the view w from now on
-  seat_step : (g h : Whole) (words after : List ℕ) (views : List View) (id : ℕ) (v w : View) → get_elem? views id ≡ some v → length after ≡ length words → Knows p h id w
+  pub seat_step : (g h : Whole) (words after : List ℕ) (views : List View) (id : ℕ) (v w : View) → get_elem? views id ≡ some v → length after ≡ length words → Knows p h id w
       → ((j : ℕ) (u : View) → j ≢ id → Knows p g j u → Knows p h j u) → ((n : ℕ) → n < nodes p → n ≢ p.driver → h.split ≤ p.seat_of n → h.nodes n ≡ idle (first p))
+      → AreStill p h.ends h.split → ((l : ℕ) → first p < (h.ends.writes l).stored → IsTable p h.expect)
       → Seated p g words views → Seated p h after (set views id w)
-  seat_step g h words after views id v w at same mine others unsplit s = record {
+  seat_step g h words after views id v w at same mine others unsplit still table s = record {
     sound = s.sound;
+    pooled = s.pooled;
+    undelayed = s.undelayed;
     room = s.room ∙ sym same;
     wide = let k = s.wide in omega arith;
     long = let k = s.long in omega arith;
     knows = λ j u e. ⊎_elim (λ (t : (j ≡ id) × (w ≡ u)). subst (λ (x : ℕ × View). Knows p h x.0 x.1) (λ i. (sym t.0 i, t.1 i)) mine)
         (λ (t : (j ≢ id) × (get_elem? views j ≡ some u)). others j u t.0 (s.knows j u t.1)) (at_set views id j w u e);
     unsplit = unsplit;
+    still = still;
+    table = table;
   }
 
   -- a step of the follower m, whose phase becomes x
@@ -52,20 +59,24 @@ module _ (p : Lay) where
         here = k.here;
         leads = λ e. absurd (omega arith);
         expects = k.expects;
+        table = k.table;
         is_split = k.is_split;
         owns = λ n h o e. dite (ℕ_discrete n m)
             (λ q. subst (λ i. get_elem? (set v.nodes m x) i ≡ some (put g.nodes m x i)) (sym q) (set_there v.nodes m x (g.nodes m) (k.owns m inside follows owns) ∙ ap some (sym (put_here g.nodes m x))))
             (λ q. set_else v.nodes m n x q ∙ k.owns n h o e ∙ ap some (sym (put_else g.nodes m n x q)));
+        ends = k.ends;
       }
       (λ j u other r. record {
         kept = r.kept;
         here = r.here;
         leads = r.leads;
         expects = r.expects;
+        table = r.table;
         is_split = r.is_split;
         owns = λ n h o e. r.owns n h o e ∙ ap some (sym (put_else g.nodes m n x (λ q. other (sym (r.here (let z = sym e ∙ ap p.seat_of q ∙ owns in omega arith)) ∙ ap g.seat_at (sym e ∙ ap p.seat_of q ∙ owns) ∙ k.here (omega arith)))));
+        ends = r.ends;
       })
-      (λ n h o e. put_else g.nodes m n x (λ q. let a = k.is_split loops in let b = ap p.seat_of q in omega arith) ∙ s.unsplit n h o e) s
+      (λ n h o e. put_else g.nodes m n x (λ q. let a = k.is_split loops in let b = ap p.seat_of q in omega arith) ∙ s.unsplit n h o e) s.still s.table s
 
   -- a step of the driver's seat, after which it has loaded the statuses `looks` in its last check
   pub lead_step : (g : Whole) (words after : List ℕ) (views : List View) (id : ℕ) (v : View) (x : LeadView) (t : Trail) (looks : List Found) → get_elem? views id ≡ some v → length after ≡ length words → v.number ≡ p.seats → t.looks ≡ looks
@@ -77,18 +88,22 @@ module _ (p : Lay) where
         here = k.here;
         leads = λ e. (refl, (k.leads e).1, seen);
         expects = k.expects;
+        table = k.table;
         is_split = k.is_split;
         owns = k.owns;
+        ends = k.ends;
       }
       (λ j u other r. record {
         kept = r.kept;
         here = r.here;
         leads = λ e. absurd (other (sym (r.here (omega arith)) ∙ ap g.seat_at (e ∙ sym leads) ∙ k.here (omega arith)));
         expects = r.expects;
+        table = r.table;
         is_split = r.is_split;
         owns = r.owns;
+        ends = r.ends;
       })
-      s.unsplit s
+      s.unsplit s.still s.table s
 
   -- nothing of the whole changes: the seat remembers something
   pub stay_step : (g : Whole) (words after : List ℕ) (views : List View) (id : ℕ) (v : View) (t : Trail) → get_elem? views id ≡ some v → length after ≡ length words → t.looks ≡ v.trail.looks → Seated p g words views → Seated p g after (set views id (view_trail v t))
@@ -99,10 +114,12 @@ module _ (p : Lay) where
         here = k.here;
         leads = λ e. let z = k.leads e in (z.0, z.1, seen ∙ z.2);
         expects = k.expects;
+        table = k.table;
         is_split = k.is_split;
         owns = k.owns;
+        ends = k.ends;
       }
-      (λ j u _ r. r) s.unsplit s
+      (λ j u _ r. r) s.unsplit s.still s.table s
 
   -- a check has loaded a status more
   pub look_step : (g : Whole) (words : List ℕ) (views : List View) (id : ℕ) (v : View) (t : Trail) → get_elem? views id ≡ some v → v.number ≡ p.seats → Seated p g words views → Seated p (record g { looks = t.looks }) words (set views id (view_trail v t))
@@ -113,26 +130,34 @@ module _ (p : Lay) where
         here = k.here;
         leads = λ e. let z = k.leads e in (z.0, z.1, refl);
         expects = k.expects;
+        table = k.table;
         is_split = k.is_split;
         owns = k.owns;
+        ends = k.ends;
       }
       (λ j u other r. record {
         kept = r.kept;
         here = r.here;
         leads = λ e. absurd (other (sym (r.here (omega arith)) ∙ ap g.seat_at (e ∙ sym leads) ∙ k.here (omega arith)));
         expects = r.expects;
+        table = r.table;
         is_split = r.is_split;
         owns = r.owns;
+        ends = r.ends;
       })
-      s.unsplit s
+      s.unsplit s.still s.table s
 
   -- no seat's view has the events
   pub seated_logs : (g : Whole) (words : List ℕ) (views : List View) (past inside : List Event) (late : ℕ) → Seated p g words views → Seated p (record g { past = past; inside = inside; late = late }) words views
   seated_logs g words views past inside late s = record {
     sound = s.sound;
+    pooled = s.pooled;
+    undelayed = s.undelayed;
     room = s.room;
     wide = s.wide;
     long = s.long;
-    knows = λ j v at. let k = s.knows j v at in record { kept = k.kept; here = k.here; leads = k.leads; expects = k.expects; is_split = k.is_split; owns = k.owns };
+    knows = λ j v at. let k = s.knows j v at in record { kept = k.kept; here = k.here; leads = k.leads; expects = k.expects; table = k.table; is_split = k.is_split; owns = k.owns; ends = k.ends };
     unsplit = s.unsplit;
+    still = s.still;
+    table = s.table;
   }

@@ -7,21 +7,35 @@ use lib.ListN.{get_elem?}
 use Rattle.atomic_table.specs.Table.{opening, Splits}
 use Rattle.atomic_table.proofs.Lists.{at_set}
 use Rattle.board_rule.specs.declared.view.View.{View}
-use Rattle.std.specs.Prelude.{slice_get, Some}
-use Rattle.std.proofs.lemmas.Option.{slice_get_within}
+use Rattle.std.specs.Prelude.{slice_get, Some, sum_by, take}
+use Rattle.std.specs.List.{flat_map}
+use Rattle.std.proofs.lemmas.Option.{slice_get_within, get_or_from_slice_get}
+use Rattle.std.proofs.lemmas.List.Concat.{flat_map-cons}
+use Rattle.std.proofs.lemmas.List.Sums.{sum_by-cons}
 use Rattle.pw_base.specs.declared.event.Event.{Event}
 use Rattle.pw_base.specs.declared.event.Event.TheVariants.{Tick}
 use Rattle.pw_base.specs.History.{AreJoined, epoch_cycles}
 use Rattle.board_rule.proofs.LateLemmas.{late_bits}
 use Rattle.board_rule.proofs.DrawLemmas.{none_in}
-use Rattle.pw_base.specs.Layout.{pending_place, status_place, late_place, event_place, event_count}
+use Rattle.pw_base.specs.Layout.{pending_place, status_place, late_place, event_place, event_count, start_words}
+use Rattle.pw_base.specs.Pools.{IsPooledShape, pools_of}
+use Rattle.pw_base.specs.declared.pools.PoolShape.{PoolShape}
+use Rattle.board_rule.specs.declared.view.BlockView.{BlockView}
+use Rattle.board_rule.specs.declared.view.BlockView.TheVariants.{Free}
 use Rattle.pw_base.specs.Words.{status_word_of}
-use Rattle.board_rule.specs.Layout.{Lay, IsSound, nodes, first, word_count}
-use Rattle.board_rule.specs.View.{Whole, Samples, idle, resting, first_view, loop_view, split_off}
+use Rattle.board_rule.specs.Layout.{Lay, IsSound, IsUndelayed, nodes, first, word_count}
+use Rattle.board_rule.specs.View.{Whole, Samples, idle, resting, unread, unwritten, first_view, loop_view, split_off}
+use Rattle.board_rule.specs.SampleWords.{IsTable}
+use Rattle.board_rule.specs.Areas.{Span}
+use Rattle.board_rule.specs.BufferRule.{Ends, filled, Buffers}
+use Rattle.board_rule.specs.Spans.{spans, holder, KnowsEnds, AreStill}
 use Rattle.board_rule.specs.EventRule.{drawn_before}
 use Rattle.board_rule.specs.Closing.{last_view, kept_view}
 use Rattle.board_rule.specs.BoardRule.{Knows, Holds}
 use Rattle.board_rule.proofs.SumLemmas.{total_same}
+use Rattle.board_rule.proofs.WiringLemmas.{Wired, wired, made}
+use Rattle.board_rule.proofs.BufferStartLemmas.{start_ends, buffers_start, buffers_named, idle_start, pools_start}
+use Rattle.board_rule.proofs.SpanLemmas.{wired_in}
 
 at_end : {A : Type 0} (l : List A) (a b : A) (j : ℕ) → get_elem? (l ++ a ∷ []) j ≡ some b → (get_elem? l j ≡ some b) ⊎ ((j ≡ length l) × (a ≡ b))
 at_end [] a b zero e = inr (refl, some-injective a b e)
@@ -34,27 +48,92 @@ all_same zero i a h = absurd (omega arith)
 all_same (suc n) zero a h = refl
 all_same (suc n) (suc i) a h = all_same n i a (omega arith)
 
+front_at : {A : Type 0} (xs ys : List A) (i : ℕ) (a : A) → get_elem? xs i ≡ some a → get_elem? (xs ++ ys) i ≡ some a
+front_at [] ys i a e = absurd (some-ne-none a (sym e))
+front_at (x ∷ xs) ys zero a e = e
+front_at (x ∷ xs) ys (suc i) a e = front_at xs ys i a e
+
+behind : {A : Type 0} (k : ℕ) (a : A) (ys : List A) (i : ℕ) → get_elem? (replicate k a ++ ys) (k + i) ≡ get_elem? ys i
+behind zero a ys i = let e : 0 + i ≡ i = omega arith in ap (get_elem? ys) e
+behind (suc k) a ys i = let e : suc k + i ≡ suc (k + i) = omega arith in ap (get_elem? (a ∷ (replicate k a ++ ys))) e ∙ behind k a ys i
+
+-- the block b of the pool q among the free blocks of all pools
+free_there : (pools : List PoolShape) (q b : ℕ) (x : PoolShape) → slice_get pools q ≡ Some x → b < x.blocks → get_elem? (flat_map (λ y. replicate y.blocks Free) pools) (sum_by (λ y. y.blocks) (take q pools) + b) ≡ some (let z : BlockView = Free in z)
+free_there [] q b x at low = absurd (let z = slice_get_within [] q x at in omega arith)
+free_there (y ∷ ys) zero b x at low = let is : y ≡ x = get_or_from_slice_get (y ∷ ys) 0 x y at in let count : y.blocks ≡ x.blocks = ap (λ (z : PoolShape). z.blocks) is in
+    let e : sum_by (λ (z : PoolShape). z.blocks) [] + b ≡ b = omega arith in
+    (λ i. get_elem? (flat_map-cons (λ (z : PoolShape). replicate z.blocks Free) y ys i) (e i)) ∙ front_at (replicate y.blocks Free) (flat_map (λ (z : PoolShape). replicate z.blocks Free) ys) b Free (all_same y.blocks b Free (omega arith))
+free_there (y ∷ ys) (suc q) b x at low = let rest : ℕ = sum_by (λ (z : PoolShape). z.blocks) (take q ys) + b in
+    let e : sum_by (λ (z : PoolShape). z.blocks) (y ∷ take q ys) + b ≡ y.blocks + rest = let s = sum_by-cons (λ (z : PoolShape). z.blocks) y (take q ys) in omega arith in
+    (λ i. get_elem? (flat_map-cons (λ (z : PoolShape). replicate z.blocks Free) y ys i) (e i)) ∙ behind y.blocks Free (flat_map (λ (z : PoolShape). replicate z.blocks Free) ys) rest ∙ free_there ys q b x at low
+
 abbrev move : (ℕ → ℕ) → ℕ → ℕ → ℕ → ℕ
 move f m x i = cond (eqb i m) x (f i)
 
 module _ (p : Lay) where
   abbrev start : Whole
-  start = record { lead = resting (first p); split = 0; nodes = λ _. idle (first p); seat_at = λ _. 0; expect = []; past = []; inside = []; late = 0; looks = [] }
+  start = record { lead = resting (first p); split = 0; nodes = λ _. idle (first p); seat_at = λ _. 0; expect = []; ends = start_ends p; past = []; inside = []; late = 0; looks = [] }
+
+module _ (p : Lay) where
+  -- the number of a follower's seat
+  holder_at : IsSound p → (n : ℕ) → n < nodes p → n ≢ p.driver → holder p n < p.seats
+  holder_at sound n inside follows = let a = sound.seats_in n inside follows in let b : holder p n ≡ p.seat_of n = ap (λ k. cond k p.seats (p.seat_of n)) (ne_eqb n p.driver follows) in omega arith
+
+  holder_low : IsSound p → (n : ℕ) → n < nodes p → holder p n ≤ p.seats
+  holder_low sound n inside = dite (ℕ_discrete n p.driver)
+      (λ e. let b : holder p n ≡ p.seats = ap (λ k. cond k p.seats (p.seat_of n)) (eq-eqb n p.driver e) in omega arith)
+      (λ o. let a = holder_at sound n inside o in omega arith)
+
+  -- what the views know of links and blocks: the driver's before any split, one that is split off, and the one that is kept of a board
+  first_knows : IsSound p → IsPooledShape p.shape → IsUndelayed p.shape → KnowsEnds p (start_ends p) p.seats [] (replicate (length p.shape.links) (unread (first p))) []
+  first_knows sound pooled undelayed = let w = wired p sound pooled undelayed in record {
+    of_write = λ l k at h. absurd (let z = holder_at sound (p.place k.from.node) (w.from_in l k at) (w.from_follows l k at) in omega arith);
+    of_read = λ l k at h. all_same (length p.shape.links) l (unread (first p)) (slice_get_within p.shape.links l k at);
+    of_block = λ q b x at low h. absurd (let m = made p w q x at in let z = holder_at sound (p.place x.port.node) m.0 m.1 in omega arith);
+  }
+
+  kept_knows : IsSound p → Wired p → (ends : Ends) → KnowsEnds p ends (suc p.seats) [] [] []
+  kept_knows sound w ends = record {
+    of_write = λ l k at h. absurd (let z = holder_low sound (p.place k.from.node) (w.from_in l k at) in omega arith);
+    of_read = λ l k at h. absurd (let z = holder_low sound (p.place k.to.node) (w.to_in l k at) in omega arith);
+    of_block = λ q b x at low h. absurd (let m = made p w q x at in let z = holder_low sound (p.place x.port.node) m.0 in omega arith);
+  }
+
+  loop_knows : (e : Samples) (j : ℕ) (ends : Ends) → IsPooledShape p.shape → AreStill p ends j → j < p.seats → KnowsEnds p ends j (loop_view p e j).writes (loop_view p e j).reads (loop_view p e j).blocks
+  loop_knows e j ends pooled s room = record {
+    of_write = λ l k at h. all_same (length p.shape.links) l (unwritten (first p)) (slice_get_within p.shape.links l k at) ∙ ap some (sym (s.writes l k at (omega arith) (omega arith)));
+    of_read = λ l k at h. all_same (length p.shape.links) l (unread (first p)) (slice_get_within p.shape.links l k at) ∙ ap some (sym (s.reads l k at (omega arith) (omega arith)));
+    of_block = λ q b x at low h. free_there (pools_of p.shape) q b x at low ∙ ap some (sym (s.blocks q b x at low (omega arith) (omega arith)));
+  }
+
+  still_later : (ends : Ends) (j : ℕ) → AreStill p ends j → AreStill p ends (suc j)
+  still_later ends j s = record {
+    writes = λ l k at a b. s.writes l k at (omega arith) b;
+    reads = λ l k at a b. s.reads l k at (omega arith) b;
+    blocks = λ q b x at low a c. s.blocks q b x at low (omega arith) c;
+  }
+
+  unsplit_free : IsSound p → Wired p → (ends : Ends) → AreStill p ends 0 → (q b : ℕ) (x : PoolShape) → slice_get (pools_of p.shape) q ≡ Some x → b < x.blocks → ends.blocks q b ≡ (let z : BlockView = Free in z)
+  unsplit_free sound w ends s q b x at low = let m = made p w q x at in s.blocks q b x at low (omega arith) (holder_at sound (p.place x.port.node) m.0 m.1)
 
 module _ (p : Lay) {S : Type 0} where
-  pub opens : (words : List ℕ) (slots : List S) → IsSound p → word_count p.shape ≡ length words → nodes p + nodes p < length words → event_place p.shape (event_count p.shape) ≤ length words → get_or words 0 0 ≡ 0
+  pub opens : (words : List ℕ) (slots : List S) → IsSound p → IsPooledShape p.shape → IsUndelayed p.shape → words ≡ start_words p.shape → word_count p.shape ≡ length words → nodes p + nodes p < length words → event_place p.shape (event_count p.shape) ≤ length words → get_or words 0 0 ≡ 0
       → ((k : ℕ) → k < p.shape.cycles → get_or words (late_place p.shape k) 0 ≡ 0) → ((t : ℕ) → t < event_count p.shape → get_or words (event_place p.shape t) 0 ≡ 0)
       → ((n : ℕ) → n < nodes p → get_or words (pending_place p.shape n) 0 ≡ 0) → ((n : ℕ) → n < nodes p → get_or words (status_place p.shape n) 0 ≡ status_word_of 0 (first p))
       → Holds p (opening words slots (first_view p))
-  opens words slots sound room wide long ticket lates unused pending status = record {
+  opens words slots sound pooled undelayed is room wide long ticket lates unused pending status = record {
     whole = start p;
     seated = record {
       sound = sound;
+      pooled = pooled;
+      undelayed = undelayed;
       room = room;
       wide = wide;
       long = long;
       knows = only;
       unsplit = λ _ _ _ _. refl;
+      still = record { writes = λ _ _ _ _ _. refl; reads = λ _ _ _ _ _. refl; blocks = λ _ _ _ _ _ _ _. refl };
+      table = λ l h. absurd (omega arith);
     };
     activations = record {
       later = omega arith;
@@ -103,8 +182,13 @@ module _ (p : Lay) {S : Type 0} where
         seen = λ i d h. absurd (omega arith);
       };
     };
+    buffers = subst (Buffers p (spans p (start p)) (start_ends p) []) (sym is) (buffers_start p (spans p (start p)) [] (start_words p.shape) (wired p sound pooled undelayed) (λ n h. (first_by (eqb n p.driver), first_by (eqb n p.driver))) (idle_start p.shape undelayed) (pools_start p.shape undelayed));
   }
     where
+      first_by : (b : Bool) → cond b (first p + 0) (first p + 0) ≡ first p
+      first_by true = omega arith
+      first_by false = omega arith
+
       nothing : (t : ℕ) (e : Event) → slice_get [] t ≡ Some e → ⊥
       nothing t e h = let l = slice_get_within [] t e h in absurd (omega arith)
 
@@ -123,18 +207,22 @@ module _ (p : Lay) {S : Type 0} where
         expects = refl;
         is_split = λ h. absurd (omega arith);
         owns = λ n h o e'. absurd (let z = sound.seats_in n h o in omega arith);
+        table = λ h. absurd (omega arith);
+        ends = first_knows p sound pooled undelayed;
       }
       only (suc j) v e = absurd (some-ne-none v (sym e))
 
-  pub splits : (id : ℕ) (v : View) (e : Samples) → v.number ≡ p.seats → v.split < p.seats → (0 < v.split → e ≡ v.expect) → Splits {S = S} (Holds p) id v (split_off e v) (loop_view p e v.split)
-  splits id v e leads room keeps s r at =
-      let g = r.whole in let k = r.seated.knows id v at in let is = k.leads leads in let count = is.1 in
-      let h : Whole = record { lead = g.lead; split = suc g.split; nodes = g.nodes; seat_at = move g.seat_at g.split (length s.views); expect = e; past = g.past; inside = g.inside; late = g.late; looks = g.looks } in
+  pub splits : (id : ℕ) (v : View) (e : Samples) → v.number ≡ p.seats → v.split < p.seats → (0 < v.split → e ≡ v.expect) → IsTable p e → Splits {S = S} (Holds p) id v (split_off e v) (loop_view p e v.split)
+  splits id v e leads room keeps table s r at =
+      let w = wired_in p r.whole s.words s.views r.seated in let g = r.whole in let k = r.seated.knows id v at in let is = k.leads leads in let count = is.1 in
+      let h : Whole = record { lead = g.lead; split = suc g.split; nodes = g.nodes; seat_at = move g.seat_at g.split (length s.views); expect = e; ends = g.ends; past = g.past; inside = g.inside; late = g.late; looks = g.looks } in
       let here : h.seat_at g.split ≡ length s.views = ap (λ b. cond b (length s.views) (g.seat_at g.split)) (eq-eqb g.split g.split refl) in
       let else : (i : ℕ) → i ≢ g.split → h.seat_at i ≡ g.seat_at i = λ i o. ap (λ b. cond b (length s.views) (g.seat_at i)) (ne_eqb i g.split o) in record {
         whole = h;
         seated = record {
           sound = r.seated.sound;
+          pooled = r.seated.pooled;
+          undelayed = r.seated.undelayed;
           room = r.seated.room;
           wide = r.seated.wide;
           long = r.seated.long;
@@ -147,6 +235,8 @@ module _ (p : Lay) {S : Type 0} where
                 expects = refl;
                 is_split = λ z. absurd (omega arith);
                 owns = k.owns;
+                table = λ _. table;
+                ends = k.ends;
               })
               (λ (t : (j ≢ id) × (get_elem? s.views j ≡ some u)). let q = r.seated.knows j u t.1 in
               let small : u.number < g.split = q.is_split (dite (ℕ_discrete u.number p.seats) (λ z. absurd (t.0 (sym (q.here (omega arith)) ∙ ap g.seat_at (z ∙ sym leads) ∙ k.here (omega arith)))) (λ z. dite (dec_le (suc p.seats) u.number) (λ y. absurd (let l = q.kept y in omega arith)) (λ y. omega arith))) in record {
@@ -156,6 +246,8 @@ module _ (p : Lay) {S : Type 0} where
                 expects = q.expects ∙ sym (keeps (omega arith) ∙ k.expects);
                 is_split = λ _. omega arith;
                 owns = q.owns;
+                table = λ _. table;
+                ends = q.ends;
               })
               (at_set s.views id j (split_off e v) u old))
               (λ (t : (j ≡ length (set s.views id (split_off e v))) × (loop_view p e v.split ≡ u)). subst (λ (x : ℕ × View). Knows p h x.0 x.1) (λ i. (sym (t.0 ∙ length-set s.views id (split_off e v)) i, t.1 i)) record {
@@ -165,9 +257,13 @@ module _ (p : Lay) {S : Type 0} where
                 expects = refl;
                 is_split = λ _. omega arith;
                 owns = λ n l o q₀. all_same (nodes p) n (idle (first p)) l ∙ ap some (sym (r.seated.unsplit n l o (omega arith)));
+                table = λ _. table;
+                ends = loop_knows p e v.split g.ends r.seated.pooled (subst (AreStill p g.ends) (sym count) r.seated.still) room;
               })
               (at_end (set s.views id (split_off e v)) (loop_view p e v.split) u j q₀);
           unsplit = λ n l o q₀. r.seated.unsplit n l o (omega arith);
+          still = still_later p g.ends g.split r.seated.still;
+          table = λ _ _. table;
         };
         activations = record {
           later = r.activations.later;
@@ -187,6 +283,9 @@ module _ (p : Lay) {S : Type 0} where
           earlier = v.earlier;
           inside = v.inside;
         };
+        buffers = dite (ℕ_discrete v.split 0)
+            (λ z. buffers_named p (spans p g) g.ends g.expect e s.words w (unsplit_free p r.seated.sound w g.ends (subst (AreStill p g.ends) (sym count ∙ z) r.seated.still)) r.buffers)
+            (λ o. subst (λ x. Buffers p (spans p g) g.ends x s.words) (sym (keeps (omega arith) ∙ k.expects)) r.buffers);
       }
 
   -- the view that is kept of a board is split off
@@ -197,6 +296,8 @@ module _ (p : Lay) {S : Type 0} where
         whole = h;
         seated = record {
           sound = r.seated.sound;
+          pooled = r.seated.pooled;
+          undelayed = r.seated.undelayed;
           room = r.seated.room;
           wide = r.seated.wide;
           long = r.seated.long;
@@ -209,6 +310,8 @@ module _ (p : Lay) {S : Type 0} where
                 expects = k.expects;
                 is_split = λ z. absurd (omega arith);
                 owns = k.owns;
+                table = k.table;
+                ends = k.ends;
               })
               (λ (t : (j ≢ id) × (get_elem? s.views j ≡ some u)). let q = r.seated.knows j u t.1 in record {
                 kept = λ z. omega arith;
@@ -217,6 +320,8 @@ module _ (p : Lay) {S : Type 0} where
                 expects = q.expects;
                 is_split = λ z. omega arith;
                 owns = q.owns;
+                table = q.table;
+                ends = q.ends;
               })
               (at_set s.views id j (last_view p v) u old))
               (λ (t : (j ≡ length (set s.views id (last_view p v))) × (kept_view p v ≡ u)). subst (λ (x : ℕ × View). Knows p h x.0 x.1) (λ i. (sym t.0 i, t.1 i)) record {
@@ -226,9 +331,13 @@ module _ (p : Lay) {S : Type 0} where
                 expects = k.expects;
                 is_split = λ z. absurd (omega arith);
                 owns = λ n l o q₀. absurd (let z = r.seated.sound.seats_in n l o in omega arith);
+                table = λ z. absurd (omega arith);
+                ends = kept_knows p r.seated.sound (wired_in p r.whole s.words s.views r.seated) g.ends;
               })
               (at_end (set s.views id (last_view p v)) (kept_view p v) u j q₀);
           unsplit = λ n l o q₀. absurd (let z = r.seated.sound.seats_in n l o in omega arith);
+          still = record { writes = λ l k at a b. absurd (omega arith); reads = λ l k at a b. absurd (omega arith); blocks = λ q n x at low a b. absurd (omega arith) };
+          table = r.seated.table;
         };
         activations = record {
           later = r.activations.later;
@@ -248,4 +357,5 @@ module _ (p : Lay) {S : Type 0} where
           earlier = v.earlier;
           inside = v.inside;
         };
+        buffers = r.buffers;
       }

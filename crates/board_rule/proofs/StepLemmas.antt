@@ -13,7 +13,7 @@ use Rattle.pw_base.specs.Words.{status_word_of}
 use Rattle.board_rule.specs.Layout.{Lay, first}
 use Rattle.board_rule.specs.View.{node_of, view_node, view_lead}
 use Rattle.board_rule.specs.BoardRule.{Holds}
-use Rattle.board_rule.specs.Steps.{Has, taken, taken_of, told_of, settled, kicked, told_trail, target_of, Lowers, lowered, Triggers, triggered, Claims, claimed, woken, tried, cycle_of, IsReadyToFinish, finished, untold, StoresPending, pending_stored, StoresStatus, status_stored, reset_of}
+use Rattle.board_rule.specs.Steps.{Has, taken, taken_of, told_of, settled, kicked, told_trail, target_of, Lowers, lowered, Triggers, triggered, Claims, claimed, woken, tried, cycle_of, IsGivenOn, IsReadyToFinish, finished, untold, StoresPending, pending_stored, StoresStatus, status_stored, reset_of}
 use Rattle.board_rule.specs.EventSteps.{Draws, draws, CanDraw, node_draws, lead_draws, draw_trail, StoresEvent, event_stored, CanStore, stored_phase, lead_stores, held, held_lead, ticket_of, node_tells, lead_tells, told_event, Looks, looked, StoresLate, late_stored}
 use Rattle.board_rule.specs.Plays.{Turns, Learns}
 use Rattle.board_rule.proofs.PhaseLemmas.{can_tell, in_debt}
@@ -25,6 +25,7 @@ use Rattle.board_rule.proofs.ClaimLemmas.{claim_allowed}
 use Rattle.board_rule.proofs.DriverLemmas.{kick_allowed, kick_trigger_allowed, can_kick, kick_in_debt}
 use Rattle.board_rule.proofs.ResetLemmas.{store_pending_allowed, store_not_triggered_allowed}
 use Rattle.board_rule.proofs.CycleLemmas.{finish_lead_allowed, claim_lead_allowed}
+use Rattle.board_rule.proofs.SpanLemmas.{IsLogWord, draws_paced, stores_paced, drive_paced}
 use Rattle.board_rule.proofs.DriveLemmas.{draws_more, draws_goes, draws_logs, stores_goes, stores_logs, late_goes, late_logs}
 
 module _ (p : Lay) {S : Type 0} (slots id : ℕ) (me : Me S View) (after : ℕ → View) where
@@ -60,8 +61,8 @@ module _ (p : Lay) {S : Type 0} (slots id : ℕ) (me : Me S View) (after : ℕ �
   pub finishes : (b : Bool) (m : ℕ) → IsReadyToFinish b p me.0 m → ((found : ℕ) → after found ≡ finished b me.0 m)
       → Allows (Holds p) slots id me (status_place p.shape m) (λ _. status_word_of 3 (cycle_of b me.0 m)) (λ _. Turns after me (status_word_of 3 (cycle_of b me.0 m)))
   finishes true m h tells = subst (λ k. Allows (Holds p) slots id me (status_place p.shape k) (λ _. status_word_of 3 me.0.lead.cycle) (λ _. Turns after me (status_word_of 3 me.0.lead.cycle))) (sym h.0.0.0)
-      (finish_lead_allowed p slots id me (untold me.0.trail) after h.0.0.1 refl h.1 tells)
-  finishes false m h tells = finish_allowed p slots id m me (untold me.0.trail) after h.0.0 h.1 tells
+      (finish_lead_allowed p slots id me (untold me.0.trail) after h.0.0.1 refl h.1 (subst (λ k. IsGivenOn p me.0 k me.0.lead.cycle) h.0.0.0 h.2) tells)
+  finishes false m h tells = finish_allowed p slots id m me (untold me.0.trail) after h.0.0 h.1 h.2 tells
 
   pub stores_pending : (n : ℕ) → StoresPending p me.0 → n ≡ reset_of me.0.lead.drive → ((found : ℕ) → after found ≡ pending_stored me.0)
       → Allows (Holds p) slots id me (pending_place p.shape n) (λ _. p.required n) (λ _. Turns after me (p.required n))
@@ -86,7 +87,7 @@ module _ (p : Lay) {S : Type 0} (slots id : ℕ) (me : Me S View) (after : ℕ �
   pub draws_ticket : (b : Bool) (m : ℕ) (says : ℕ → Type 0) → Draws b p me.0 m → ((found : ℕ) → after found ≡ draws b me.0 m found) → ((found : ℕ) → found < event_count p.shape → says found)
       → Allows (Holds p) slots id me 0 (λ w. (w + 1) % 2 ^ 64) (Learns after says me)
   draws_ticket true m says h tells said = draw_lead_allowed p slots id me (λ found. lead_draws me.0.lead found me.0.lead.drive) (draw_trail me.0.trail me.0.lead.drive) after says h.0.0.1
-      (λ g ws is a k. draws_goes p g ws me.0.lead is a me.0.lead.drive k refl h.1 h.0.1.1) (λ k. draws_more me.0.lead me.0.lead.drive k refl h.1)
+      (λ g ws is a k. draws_goes p g ws me.0.lead is a me.0.lead.drive k refl h.1 h.0.1.1) (λ k. draws_more me.0.lead me.0.lead.drive k refl h.1) (λ k. draws_paced me.0.lead me.0.lead.drive k refl h.1)
       (λ g ws is looks sound a e wide room. draws_logs p g ws me.0.lead me.0.trail.looks is looks sound a e wide room me.0.trail me.0.lead.drive refl refl h.1) tells said
   draws_ticket false m says h tells said = draws_by m (node_of me.0 m).phase says h.0.0 refl h.1 tells said
 
@@ -94,18 +95,18 @@ module _ (p : Lay) {S : Type 0} (slots id : ℕ) (me : Me S View) (after : ℕ �
       → Allows (Holds p) slots id me (event_place p.shape (held (node_of me.0 m) f)) (λ _. event_word_of (node_tells (node_of me.0 m) (p.number m) f)) (λ _. Turns after me (event_word_of (node_tells (node_of me.0 m) (p.number m) f)))
   stores_by m Idle has e can near tells = absurd can
   stores_by m Awake has e can near tells = absurd can
-  stores_by m StartDrawn has e can near tells = store_allowed p slots id m (node_of me.0 m).start me StartDrawn Running (λ c. Start c (p.number m)) after has stores_start e refl refl refl refl refl near
+  stores_by m StartDrawn has e can near tells = store_allowed p slots id m (node_of me.0 m).start me StartDrawn Running (λ c. Start c (p.number m)) after has stores_start e refl refl refl refl (omega arith) refl refl near
       (λ s r at same phase. start_logged p r.whole m (node_of me.0 m) s.words has.follows has.inside same phase r.activations r.events) tells
   stores_by m Running has e can near tells = absurd can
   stores_by m Done has e can near tells = absurd can
-  stores_by m FinishDrawn has e can near tells = store_allowed p slots id m (node_of me.0 m).finish me FinishDrawn (Telling 0 false) (λ c. Finish c (p.number m)) after has stores_finish e refl refl refl refl refl near
+  stores_by m FinishDrawn has e can near tells = store_allowed p slots id m (node_of me.0 m).finish me FinishDrawn (Telling 0 false) (λ c. Finish c (p.number m)) after has stores_finish e refl refl refl refl (omega arith) refl refl near
       (λ s r at same phase. finish_logged p r.whole m (node_of me.0 m) s.words has.follows has.inside same phase r.activations r.events) tells
   stores_by m (Telling j o) has e can near tells = absurd can
 
   pub stores_event : (b : Bool) (m : ℕ) → StoresEvent b p me.0 m → ((found : ℕ) → after found ≡ event_stored b me.0 m)
       → Allows (Holds p) slots id me (event_place p.shape (ticket_of b me.0 m)) (λ _. event_word_of (told_event b p me.0 m)) (λ _. Turns after me (event_word_of (told_event b p me.0 m)))
   stores_event true m h tells = subst (λ n. Allows (Holds p) slots id me (event_place p.shape (held_lead me.0.lead me.0.lead.drive)) (λ _. event_word_of (lead_tells me.0.lead (p.number n) me.0.lead.drive)) (λ _. Turns after me (event_word_of (lead_tells me.0.lead (p.number n) me.0.lead.drive)))) (sym h.0.0.0)
-      (store_lead_allowed p slots id (event_place p.shape (held_lead me.0.lead me.0.lead.drive)) (event_word_of (lead_tells me.0.lead (p.number p.driver) me.0.lead.drive)) me (lead_stores me.0.lead me.0.lead.drive) me.0.trail after h.0.0.1 refl
+      (store_lead_allowed p slots id (event_place p.shape (held_lead me.0.lead me.0.lead.drive)) (event_word_of (lead_tells me.0.lead (p.number p.driver) me.0.lead.drive)) me (lead_stores me.0.lead me.0.lead.drive) me.0.trail after h.0.0.1 refl (let near = h.2 in let z : IsLogWord p (event_place p.shape (held_lead me.0.lead me.0.lead.drive)) = (omega arith, omega arith) in z) (stores_paced me.0.lead me.0.lead.drive refl h.1)
       (λ g ws sound is a. stores_goes p g ws me.0.lead is a me.0.lead.drive (event_place p.shape (held_lead me.0.lead me.0.lead.drive)) (event_word_of (lead_tells me.0.lead (p.number p.driver) me.0.lead.drive)) sound refl h.1 (later_is_other p (event_place p.shape (held_lead me.0.lead me.0.lead.drive)) (omega arith)))
       (λ g ws is looks sound a e long. stores_logs p g ws me.0.lead me.0.trail.looks is looks sound a e long me.0.lead.drive refl h.1 h.2 h.0.1.1) tells)
   stores_event false m h tells = stores_by m (node_of me.0 m).phase h.0.0 refl h.1 h.2 tells
@@ -116,6 +117,6 @@ module _ (p : Lay) {S : Type 0} (slots id : ℕ) (me : Me S View) (after : ℕ �
   pub stores_late : (late past : ℕ) → StoresLate p me.0 late → first p + past ≡ me.0.lead.cycle → ((found : ℕ) → after found ≡ late_stored me.0)
       → Allows (Holds p) slots id me (late_place p.shape past) (λ _. late) (λ _. Turns after me late)
   stores_late late past h is tells = let k : me.0.lead.cycle - first p ≡ past = omega arith in subst (λ n. Allows (Holds p) slots id me (late_place p.shape n) (λ _. late) (λ _. Turns after me late)) k
-      (store_lead_allowed p slots id (late_place p.shape (me.0.lead.cycle - first p)) late me (record me.0.lead { drive = drives.LateStored }) me.0.trail after h.0.0.1 refl
+      (store_lead_allowed p slots id (late_place p.shape (me.0.lead.cycle - first p)) late me (record me.0.lead { drive = drives.LateStored }) me.0.trail after h.0.0.1 refl (let near = h.0.1.1 in let z : IsLogWord p (late_place p.shape (me.0.lead.cycle - first p)) = (omega arith, omega arith) in z) (drive_paced me.0.lead drives.Checking (record me.0.lead { drive = drives.LateStored }) h.1 refl refl (omega arith))
       (λ g ws sound is a. late_goes p g ws me.0.lead is a (late_place p.shape (me.0.lead.cycle - first p)) late h.1 (later_is_other p (late_place p.shape (me.0.lead.cycle - first p)) (omega arith)))
       (λ g ws is looks sound a e long. late_logs p g ws me.0.lead me.0.trail.looks is looks sound a e long late h.1 h.0.1.1 h.2) tells)

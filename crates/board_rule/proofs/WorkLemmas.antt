@@ -18,11 +18,16 @@ use Rattle.board_rule.specs.View.{Whole, node_of, with_node, view_node}
 use Rattle.board_rule.specs.ActivationRule.{Activations, posts}
 use Rattle.board_rule.specs.EventRule.{node_drawn}
 use Rattle.board_rule.specs.BoardRule.{Holds}
-use Rattle.board_rule.specs.Steps.{Has}
+use Rattle.board_rule.specs.Spans.{spans, phase_over, phase_begun}
+use Rattle.board_rule.specs.Steps.{Has, IsGivenOn}
 use Rattle.board_rule.specs.Plays.{Turns}
 use Rattle.board_rule.proofs.RunLemmas.{Sums, keeps as stays, finishes}
 use Rattle.board_rule.proofs.MarkLemmas.{quiet_phase}
-use Rattle.board_rule.proofs.FollowerLemmas.{rest_at, owing_at, stage_at, rest_put, owing_put, stage_put, elsewhere, words_run, not_resetting, active_node, same_node, holds_node}
+use Rattle.board_rule.proofs.FollowerLemmas.{rest_at, owing_at, stage_at, rest_put, owing_put, stage_put, elsewhere, words_run, not_resetting, active_node, same_node, holds_node_by}
+use Rattle.board_rule.proofs.SpanLemmas.{node_over, node_begun, wired_in, over_at, begun_at, over_else, over_put, begun_put, early_word}
+use Rattle.board_rule.proofs.HolderLemmas.{is_ready, holder_follows}
+use Rattle.board_rule.proofs.PaceLemmas.{paces}
+use Rattle.board_rule.proofs.FinishLemmas.{buffers_finish}
 
 -- two phases of a node at its work that mean the same for the activation words
 pub record Alike (f h : Phase) : Type 0 where
@@ -85,9 +90,9 @@ module _ (p : Lay) {S : Type 0} where
       active_node p g s.words ws m y has.follows runs_on (subst (λ (k : Phase). PhaseOk (length ts) c y.next k) (sym is) (like.ok (length ts) c y.next (sound.tells m has.inside) next')) after a
 
   -- a node that works stores FINISHED
-  pub finish_allowed : (slots id m : ℕ) (me : Me S View) (t : Trail) (after : ℕ → View) → Has p me.0 m → (node_of me.0 m).phase ≡ Running → ((found : ℕ) → after found ≡ view_node me.0 m (record (node_of me.0 m) { phase = Done }) t)
+  pub finish_allowed : (slots id m : ℕ) (me : Me S View) (t : Trail) (after : ℕ → View) → Has p me.0 m → (node_of me.0 m).phase ≡ Running → IsGivenOn p me.0 m (node_of me.0 m).next → ((found : ℕ) → after found ≡ view_node me.0 m (record (node_of me.0 m) { phase = Done }) t)
       → Allows (Holds p) slots id me (status_place p.shape m) (λ _. status_word_of 3 (node_of me.0 m).next) (λ _. Turns after me (status_word_of 3 (node_of me.0 m).next))
-  finish_allowed slots id m me t after h phase is_after s r _ at fits =
+  finish_allowed slots id m me t after h phase given is_after s r _ at fits =
       let g = r.whole in let a = r.activations in let wide = r.seated.wide in
       let x : NodeView = node_of me.0 m in
       let same = same_node p s r id m me.0 at h in
@@ -108,13 +113,21 @@ module _ (p : Lay) {S : Type 0} where
       let owing' : (posts p whole).owing m ≡ [] = owing_put p g m new h.follows in
       let stage' : (posts p whole).stage m ≡ 2 = stage_put p g m new h.follows in
       let finished = finishes p.shape c m (posts p g) (posts p whole) s.words h.inside wide (elsewhere p g m new) (rest' ∙ sym rest) (owing' ∙ sym owing) stage stage' runs in
+      let ws : List ℕ = set s.words (status_place p.shape m) (status_word_of 3 c) in
+      let w = wired_in p g s.words s.views r.seated in
+      let now_begun : node_begun x ≡ x.next + 1 = ap (λ f. x.next + phase_begun f) phase in
+      let begun : (spans p g m).begun ≡ x.next + 1 = begun_at p g m h.follows ∙ ap node_begun same ∙ now_begun in
+      let over : (spans p g m).over ≡ x.next + 0 = over_at p g m h.follows ∙ ap node_over same ∙ ap (λ f. x.next + phase_over f) phase in
+      let later : (spans p whole m).over ≡ x.next + 1 = over_put p g m new h.follows in
+      let ready = is_ready p g s.words s.views id me.0 m x.next r.seated at (holder_follows p m h.follows ∙ h.owned) begun given in
       let more : node_drawn x ≡ node_drawn new = ap (λ f. 2 * x.next + phase_drawn f) phase in (
         view_node me.0 m new t,
         keeps,
         tt,
         subst (λ k. Holds p (stepped s (status_place p.shape m) (status_word_of 3 k) id me.1 (view_node me.0 m new t) keeps)) (sym cycle)
-            (holds_node p s r id m (status_place p.shape m) (status_word_of 3 c) me.0 me.1 new t at h (omega arith) (omega arith) (omega arith) (quiet_phase c x Running Done phase refl refl refl)
-            (active_node p g s.words (set s.words (status_place p.shape m) (status_word_of 3 c)) m new h.follows runs_on cycle finished a)),
+            (holds_node_by p s r id m (status_place p.shape m) (status_word_of 3 c) me.0 me.1 new t at h (omega arith) (omega arith) (omega arith) (quiet_phase c x Running Done phase refl refl refl)
+            (active_node p g s.words ws m new h.follows runs_on cycle finished a)
+            (buffers_finish p (spans p g) (spans p whole) g.ends g.expect s.words ws m w h.inside (paces p g s.words w a) ready (omega arith) (omega arith) (λ n l o. over_else p g m n new o) (λ n l. begun_put p g m n x new same (omega arith)) (early_word p s.words (status_place p.shape m) (status_word_of 3 c) (omega arith)) r.buffers)),
         (sym (is_after (status_word_of 3 x.next)), refl),
       )
     where

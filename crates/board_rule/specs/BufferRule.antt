@@ -1,4 +1,4 @@
--- The buffer rule, as definitions: areas, blocks and readers words against what the seats know of the ends of links and of blocks. No step is proved to keep it yet.
+-- The buffer rule: areas, blocks and readers words against what the seats know of the ends of links and of blocks.
 -- Source: PipeWire's documentation, "SPA Buffers"; one pool that all links of a port read is this project's own.
 use Rattle.std.specs.Prelude.{◌≡◌, ℕ, ◌+◌, ◌<◌, ◌≤◌, Bool, true, false, List, Some, Contains, cond, ltb, sum_by, slice_get, slice_index, option_map, unwrap_or}
 use Rattle.std.specs.List.{list_any}

@@ -1,10 +1,42 @@
 -- What the steps of a board read of its shape, in rows by place.
 -- Source: this project's own.
-use Rattle.std.specs.Prelude.{◌≡◌, ℕ, ◌<◌, map, slice_index}
+use Rattle.std.specs.Prelude.{◌≡◌, ℕ, ◌+◌, ◌<◌, List, map, take, sum_by, length, slice_index, slice_index_or}
+use Rattle.std.specs.List.{position_or_len}
 use Rattle.pw_base.specs.declared.shape.Shape.{Shape}
-use Rattle.pw_base.specs.Layout.{area_count}
+use Rattle.pw_base.specs.declared.shape.ShapeLink.{ShapeLink}
+use Rattle.pw_base.specs.declared.pools.PoolShape.{PoolShape}
+use Rattle.pw_base.specs.Layout.{area_count, io_place, event_place, event_count, pool_words, readers_place}
+use Rattle.pw_base.specs.Pools.{is_port, pools_of}
 use Rattle.board_rule.specs.declared.rows.Rows.{Rows}
-use Rattle.board_rule.specs.Layout.{place_in, required_row, target_rows}
+use Rattle.board_rule.specs.declared.rows.LinkRow.{LinkRow}
+use Rattle.board_rule.specs.declared.rows.PoolRow.{PoolRow}
+use Rattle.board_rule.specs.Layout.{place_in, required_row, target_rows, word_count}
+use Rattle.board_rule.specs.EndViews.{link_in, pool_in, pool_number}
+
+-- a link whose area stands at a place: its nodes by place, and the number of its pool
+pub record IsLinkRow (shape : Shape) (link : ShapeLink) (area : ℕ) (row : LinkRow) : Type 0 where
+  pub writer : row.writer ≡ place_in shape link.from.node
+  pub reader : row.reader ≡ place_in shape link.to.node
+  pub pool : row.pool ≡ position_or_len (λ x. is_port x.port link.from) (pools_of shape)
+  pub area_is : row.area ≡ area
+
+pub record HasLinkRows (shape : Shape) (rows : List LinkRow) : Type 0 where
+  pub count : length rows ≡ length shape.links
+  pub each : (l : ℕ) (d : LinkRow) → l < length shape.links → IsLinkRow shape (link_in shape l) (io_place shape l 0) (slice_index_or rows l d)
+
+-- a pool whose first block has a place in a view, and whose words stand from `base` on: its node by place, its blocks, words and readers
+pub record IsPoolRow (shape : Shape) (pool : PoolShape) (first base : ℕ) (row : PoolRow) : Type 0 where
+  pub filler : row.filler ≡ place_in shape pool.port.node
+  pub blocks : row.blocks ≡ pool.blocks
+  pub words : row.words ≡ pool.words
+  pub readers : row.readers ≡ length pool.links
+  pub first_is : row.first ≡ first
+  pub base_is : row.base ≡ base
+
+pub record HasPoolRows (shape : Shape) (rows : List PoolRow) : Type 0 where
+  pub count : length rows ≡ length (pools_of shape)
+  pub each : (q : ℕ) (d : PoolRow) → q < length (pools_of shape)
+      → IsPoolRow shape (pool_in shape q) (sum_by (λ x. x.blocks) (take q (pools_of shape))) (event_place shape (event_count shape) + sum_by pool_words (take q (pools_of shape))) (slice_index_or rows q d)
 
 -- the rows are those of the shape; `places` has an entry for each number below 64
 pub record HasRows (shape : Shape) (rows : Rows) : Type 0 where
@@ -13,3 +45,11 @@ pub record HasRows (shape : Shape) (rows : Rows) : Type 0 where
   pub places : (n : ℕ) → n < 64 → slice_index rows.places n ≡ place_in shape n
   pub required : rows.required.items ≡ required_row shape
   pub targets : map (λ v. v.items) rows.targets.items ≡ target_rows shape
+  pub links : HasLinkRows shape rows.links.items
+  pub pools : HasPoolRows shape rows.pools.items
+
+-- each link has a pool, and the words of areas and blocks are words of the board
+pub record HasPlaces (shape : Shape) : Type 0 where
+  pub pools : (l : ℕ) → l < length shape.links → pool_number shape l < length (pools_of shape)
+  pub areas : (l : ℕ) → l < length shape.links → io_place shape l 0 < word_count shape
+  pub blocks : (q b : ℕ) → q < length (pools_of shape) → b < (pool_in shape q).blocks → readers_place shape q b + (pool_in shape q).words < word_count shape

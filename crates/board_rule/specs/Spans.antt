@@ -1,6 +1,6 @@
--- What the buffer rule reads of the phases of nodes, and what each seat's view says of the ends of its links and of its blocks.
+-- What the buffer rule reads of the phases of nodes, and what each seat knows of the ends of its links and of its blocks.
 -- Source: this project's own; the phases are those of src/view.rt.
-use Rattle.std.specs.Prelude.{◌≡◌, ℕ, ◌+◌, ◌<◌, Some, cond, eqb, sum_by, take, slice_get}
+use Rattle.std.specs.Prelude.{◌≡◌, ℕ, ◌+◌, ◌<◌, ◌≤◌, List, Some, cond, eqb, sum_by, take, slice_get}
 use mathlib.Core.Option.{some}
 use lib.ListN.{get_elem?}
 use Rattle.pw_base.specs.declared.shape.ShapeLink.{ShapeLink}
@@ -10,9 +10,12 @@ use Rattle.board_rule.specs.declared.view.Phase.{Phase}
 use Rattle.board_rule.specs.declared.view.Phase.TheVariants.{Running, Done, FinishDrawn, Telling}
 use Rattle.board_rule.specs.declared.view.Drive.{Drive}
 use Rattle.board_rule.specs.declared.view.Drive.TheVariants as drives
-use Rattle.board_rule.specs.declared.view.View.{View}
-use Rattle.board_rule.specs.Layout.{Lay}
-use Rattle.board_rule.specs.View.{Whole}
+use Rattle.board_rule.specs.declared.view.WriteView.{WriteView}
+use Rattle.board_rule.specs.declared.view.ReadView.{ReadView}
+use Rattle.board_rule.specs.declared.view.BlockView.{BlockView}
+use Rattle.board_rule.specs.declared.view.BlockView.TheVariants.{Free}
+use Rattle.board_rule.specs.Layout.{Lay, first}
+use Rattle.board_rule.specs.View.{Whole, unwritten, unread}
 use Rattle.board_rule.specs.Areas.{Span}
 use Rattle.board_rule.specs.BufferRule.{Ends}
 
@@ -53,8 +56,14 @@ module _ (p : Lay) where
   abbrev pub block_at : ℕ → ℕ → ℕ
   block_at q b = sum_by (λ x. x.blocks) (take q (pools_of p.shape)) + b
 
-  -- a seat knows the ends of its own nodes and the blocks that they fill
-  pub record KnowsEnds (ends : Ends) (v : View) : Type 0 where
-    pub writes : (l : ℕ) (k : ShapeLink) → slice_get p.shape.links l ≡ Some k → holder (p.place k.from.node) ≡ v.number → get_elem? v.writes l ≡ some (ends.writes l)
-    pub reads : (l : ℕ) (k : ShapeLink) → slice_get p.shape.links l ≡ Some k → holder (p.place k.to.node) ≡ v.number → get_elem? v.reads l ≡ some (ends.reads l)
-    pub blocks : (q b : ℕ) (x : PoolShape) → slice_get (pools_of p.shape) q ≡ Some x → b < x.blocks → holder (p.place x.port.node) ≡ v.number → get_elem? v.blocks (block_at q b) ≡ some (ends.blocks q b)
+  -- a seat, by its number, knows the ends of its own nodes and the blocks that they fill
+  pub record KnowsEnds (ends : Ends) (number : ℕ) (writes : List WriteView) (reads : List ReadView) (blocks : List BlockView) : Type 0 where
+    pub of_write : (l : ℕ) (k : ShapeLink) → slice_get p.shape.links l ≡ Some k → holder (p.place k.from.node) ≡ number → get_elem? writes l ≡ some (ends.writes l)
+    pub of_read : (l : ℕ) (k : ShapeLink) → slice_get p.shape.links l ≡ Some k → holder (p.place k.to.node) ≡ number → get_elem? reads l ≡ some (ends.reads l)
+    pub of_block : (q b : ℕ) (x : PoolShape) → slice_get (pools_of p.shape) q ≡ Some x → b < x.blocks → holder (p.place x.port.node) ≡ number → get_elem? blocks (block_at q b) ≡ some (ends.blocks q b)
+
+  -- the ends and the blocks of a loop's seat that is not yet split off are as at the start
+  pub record AreStill (ends : Ends) (split : ℕ) : Type 0 where
+    pub writes : (l : ℕ) (k : ShapeLink) → slice_get p.shape.links l ≡ Some k → split ≤ holder (p.place k.from.node) → holder (p.place k.from.node) < p.seats → ends.writes l ≡ unwritten (first p)
+    pub reads : (l : ℕ) (k : ShapeLink) → slice_get p.shape.links l ≡ Some k → split ≤ holder (p.place k.to.node) → holder (p.place k.to.node) < p.seats → ends.reads l ≡ unread (first p)
+    pub blocks : (q b : ℕ) (x : PoolShape) → slice_get (pools_of p.shape) q ≡ Some x → b < x.blocks → split ≤ holder (p.place x.port.node) → holder (p.place x.port.node) < p.seats → ends.blocks q b ≡ Free

@@ -1,6 +1,6 @@
 -- Claiming a node, and ending its work: what each asks of the view of its seat, and the view after it. Nodes are places.
 -- Source: PipeWire's documentation, "Graph Scheduling"; the kinds are this project's.
-use Rattle.std.specs.Prelude.{◌≡◌, ℕ, Bool, true, false, cond, eqb, [], ◌∷◌}
+use Rattle.std.specs.Prelude.{◌≡◌, ℕ, ◌+◌, ◌<◌, Bool, true, false, cond, eqb, [], ◌∷◌, length}
 use Rattle.board_rule.specs.declared.view.Phase.TheVariants.{Idle, Awake, Running, Done}
 use Rattle.board_rule.specs.declared.view.Drive.TheVariants as drives
 use Rattle.board_rule.specs.declared.view.Trail.{Trail}
@@ -8,6 +8,7 @@ use Rattle.board_rule.specs.declared.view.View.{View}
 use Rattle.pw_base.specs.Words.{status_word_of}
 use Rattle.board_rule.specs.Layout.{Lay}
 use Rattle.board_rule.specs.View.{node_of, view_trail}
+use Rattle.board_rule.specs.EndViews.{write_of, read_of, writer_of, reader_of}
 use Rattle.board_rule.specs.SeatNodes.{cycle_of, HasNode, phased, driven}
 
 -- CLAIMING: the node waits to be triggered. It is awake where the word was TRIGGERED of its cycle; else the seat remembers the word
@@ -28,13 +29,16 @@ tried p v m found = view_trail v (record v.trail { tries = record { node = p.num
 abbrev pub claimed : Bool → Lay → View → ℕ → ℕ → View
 claimed leads p v m found = cond (eqb found (status_word_of 1 (cycle_of leads v m))) (woken leads v m) (tried p v m found)
 
--- ENDING A NODE: it works, and all its buffers are given on; no step on buffers is there yet, so none is held
+-- ENDING A NODE: it works, and all its buffers are given on: in its cycle each link from it is published, and each link into it given back
 abbrev pub IsRunning : Bool → View → ℕ → Type 0
 IsRunning true v m = v.lead.drive ≡ drives.Running
 IsRunning false v m = (node_of v m).phase ≡ Running
 
+abbrev pub IsGivenOn : Lay → View → ℕ → ℕ → Type 0
+IsGivenOn p v m c = ((l : ℕ) → l < length p.shape.links → writer_of p l ≡ m → (write_of v l).stored ≡ c + 1) × ((l : ℕ) → l < length p.shape.links → reader_of p l ≡ m → (read_of v l).stored ≡ c + 1)
+
 abbrev pub IsReadyToFinish : Bool → Lay → View → ℕ → Type 0
-IsReadyToFinish leads p v m = HasNode leads p v m × IsRunning leads v m
+IsReadyToFinish leads p v m = HasNode leads p v m × IsRunning leads v m × IsGivenOn p v m (cycle_of leads v m)
 
 -- the seat forgets what its last begin or finish found
 abbrev pub untold : Trail → Trail

@@ -2,7 +2,7 @@
 ghost use Rattle.std.specs.Prelude.{◌≡◌, ◌+◌, ◌<◌, ◌≤◌, ◌^◌, [], length, slice_index};
 ghost use Rattle.pw_base.specs.Layout.{pending_place, status_place, late_place, event_place, event_count, area_count};
 ghost use Rattle.board_rule.specs.Layout.{lay, IsSound, nodes, first, last, word_count};
-ghost use Rattle.board_rule.specs.Rows.{HasRows};
+ghost use Rattle.board_rule.specs.Rows.{HasRows, HasPlaces};
 
 use crate::plot::Plot;
 use crate::rows::Rows;
@@ -19,6 +19,7 @@ pub struct Board {
     /// For the events, when the board is closed.
     pub(crate) spare: Room<Event>,
     ghost sound: { IsSound (lay plot) },
+    ghost placed: { HasPlaces plot.shape },
     ghost about: { table.shared.key ≡ plot },
     ghost words: { table.shared.table_id.words ≡ word_count plot.shape },
     ghost room: { event_place plot.shape (event_count plot.shape) ≤ word_count plot.shape },

@@ -12,6 +12,7 @@ mod lead;
 mod left;
 mod loop_seat;
 mod opening;
+mod places;
 mod plot;
 mod progress;
 mod rows;

@@ -5,6 +5,7 @@ ghost use Rattle.pw_base.specs.Pools.{IsPooledShape};
 ghost use Rattle.board_rule.specs.Known.{Known};
 ghost use Rattle.board_rule.specs.Layout.{lay, HasSeats, IsUndelayed};
 ghost use Rattle.board_rule.specs.Progress.{progress_of};
+ghost use Rattle.board_rule.specs.SampleWords.{IsTable};
 ghost use Rattle.board_rule.specs.View.{Samples, first_view, driver_view, loop_view, split_off, free_blocks, idle, unread, unwritten};
 
 use crate::board::Board;
@@ -57,7 +58,7 @@ fn split<C: Cut>(board: &Board, token: &mut BoardToken) -> BoardToken
     requires table { token.old.table_id ≡ board.now.table.shared.table_id }
     requires leads { token.old.me.0.number ≡ (lay board.now.plot).seats }
     requires room { token.old.me.0.split < (lay board.now.plot).seats }
-    requires views { ((e : Samples) × (0 < token.old.me.0.split → e ≡ token.old.me.0.expect) × (C.left ≡ split_off e token.old.me.0) × (C.right ≡ loop_view (lay board.now.plot) e token.old.me.0.split)) }
+    requires views { ((e : Samples) × (0 < token.old.me.0.split → e ≡ token.old.me.0.expect) × IsTable (lay board.now.plot) e × (C.left ≡ split_off e token.old.me.0) × (C.right ≡ loop_view (lay board.now.plot) e token.old.me.0.split)) }
     ensures left { (token.new.table_id ≡ token.old.table_id) × (token.new.id ≡ token.old.id) × (token.new.me.0 ≡ C.left) }
     ensures right { (result.table_id ≡ token.old.table_id) × (result.me.0 ≡ C.right) }
 {
@@ -130,6 +131,7 @@ impl DriverSeat {
         requires room { self.old.knows.split < (lay board.now.plot).seats }
         requires free { free.now ≡ free_blocks board.now.plot.shape }
         requires expect { 0 < self.old.knows.split → E.expect ≡ self.old.knows.expect }
+        requires samples { IsTable (lay board.now.plot) E.expect }
         ensures { IfOk result (λ s. (self.new.table ≡ self.old.table) × (self.new.knows ≡ split_off E.expect self.old.knows) × (s.table ≡ self.old.table) × (s.knows ≡ loop_view (lay board.now.plot) E.expect self.old.knows.split)) }
     {
         let shape = board.shape();
@@ -166,9 +168,9 @@ impl Board {
         requires seats { HasSeats plot }
         ensures { IfOk result (λ t. (t.0.plot ≡ plot) × (t.1.table ≡ t.0.table.shared.table_id) × (t.1.knows ≡ first_view (lay plot))) }
     {
-        let rows = rows_of(alloc, &plot.shape)?;
         let spare = Items::new(alloc).into_room(event_count(&plot.shape))?;
         let words = start_words(alloc, &plot.shape)?;
+        let rows = rows_of(alloc, &plot.shape, words.len())?;
         let first = u64::from(plot.shape.first);
         let reads = unread(alloc, plot.shape.links.len(), first)?;
         let (table, token): (BoardTable, BoardToken) = Table::of_words(
@@ -202,7 +204,8 @@ impl Board {
 
     /// A board for a shape without delayed links, the driver's seat and the loops' seats in the order of their numbers.
     /// `seat_of` gives the loop's seat of each node by place in the shape, below `seats`; the driver's entry is not
-    /// looked at. All seats agree on the samples of `E`, which the caller names at the call.
+    /// looked at. All seats agree on the samples of `E`, which the caller names at the call: for each cycle and pool one
+    /// quantum of 16-bit samples.
     ///
     /// Memory: the words of the shape once, and for each seat a view of each node, link and block.
     pub fn new<E: Expect>(
@@ -214,6 +217,7 @@ impl Board {
         requires pooled { IsPooledShape shape.now }
         requires undelayed { IsUndelayed shape.now }
         requires seats { HasSeats record { shape = shape.now; seat_of = seat_of.now; seats = seats } }
+        requires samples { IsTable (lay record { shape = shape.now; seat_of = seat_of.now; seats = seats }) E.expect }
 
         ensures plot { IfOk result (λ t. t.0.plot ≡ record { shape = shape.now; seat_of = seat_of.now; seats = seats }) }
         ensures driver { IfOk result (λ t. t.1 ≡ record { table = t.0.table.shared.table_id; knows = driver_view (lay t.0.plot) E.expect seats }) }

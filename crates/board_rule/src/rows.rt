@@ -1,15 +1,37 @@
 //! What the steps read of a shape, in rows by place.
-ghost use Rattle.std.specs.Prelude.{◌≡◌, ℕ, ◌<◌, ◌==◌, map, length, slice_index, IfOk};
-ghost use Rattle.std.specs.List.{position};
+ghost use Rattle.std.specs.Prelude.{◌≡◌, ℕ, ◌+◌, ◌<◌, ◌≤◌, ◌==◌, map, length, slice_index, IfOk};
+ghost use Rattle.std.specs.List.{position, position_or_len};
 ghost use Rattle.board_rule.specs.Layout.{place_in, required_row, target_rows};
-ghost use Rattle.pw_base.specs.Layout.{area_count};
-ghost use Rattle.board_rule.specs.Rows.{HasRows};
+ghost use Rattle.pw_base.specs.Layout.{area_count, areas_of, event_place, event_count, word_count};
+ghost use Rattle.pw_base.specs.Pools.{IsPooledShape, is_port, pools_of};
+ghost use Rattle.board_rule.specs.Rows.{IsLinkRow, HasLinkRows, IsPoolRow, HasPoolRows, HasRows};
 
-use pw_base::{Shape, ShapeLink};
+use pw_base::{Memory, PoolShape, PortId, Shape, ShapeLink, pools_of};
 use std::alloc::{AllocError, Global};
 
+/// A link: the places of its writer and of its reader, the number of the pool that it reads, and where its area stands.
+#[derive(Clone, Copy, Drop)]
+pub struct LinkRow {
+    pub(crate) writer: usize,
+    pub(crate) reader: usize,
+    pub(crate) pool: usize,
+    pub(crate) area: usize,
+}
+
+/// A pool: the place of the node that fills it, how many blocks it has, how many words each has, and how many links read
+/// it; where a view has its first block, and where its words stand.
+#[derive(Clone, Copy, Drop)]
+pub struct PoolRow {
+    pub(crate) filler: usize,
+    pub(crate) blocks: usize,
+    pub(crate) words: usize,
+    pub(crate) readers: u64,
+    pub(crate) first: usize,
+    pub(crate) base: usize,
+}
+
 /// The driver's place; the place of each number below 64, or the number of nodes where the shape has no such node;
-/// and of each place the required count and the places of the targets.
+/// of each place the required count and the places of the targets; each link, and each pool.
 #[derive(Drop)]
 pub struct Rows {
     pub(crate) driver: usize,
@@ -18,6 +40,8 @@ pub struct Rows {
     pub(crate) places: [usize; 64],
     pub(crate) required: Vec<u64>,
     pub(crate) targets: Vec<Vec<usize>>,
+    pub(crate) links: Vec<LinkRow>,
+    pub(crate) pools: Vec<PoolRow>,
 }
 
 // The place of a node, if the shape has it.
@@ -79,6 +103,14 @@ fn targets_of(alloc: Global, shape: &Shape) -> Result<Vec<Vec<usize>>, AllocErro
     Ok(rows)
 }
 
+// How many late sets and events the epoch of a shape has at most.
+fn events_of(shape: &Shape) -> usize
+    requires { IsPooledShape shape.now }
+    ensures { result ≡ shape.now.cycles + event_count shape.now }
+{
+    shape.cycles as usize * (2 * shape.nodes.len() + 4)
+}
+
 // The io areas of links: one each, and two of a delayed link.
 fn areas_of(links: &[ShapeLink]) -> usize
     ensures { result ≡ area_count links.now }
@@ -90,15 +122,117 @@ fn areas_of(links: &[ShapeLink]) -> usize
     areas
 }
 
-/// The rows of a shape. Cost: a look at each node for each target and for each number below 64.
-pub(crate) fn rows_of(alloc: Global, shape: &Shape) -> Result<Rows, AllocError>
+// The pool that a port fills, if it fills one.
+fn find_pool(pools: &[PoolShape], port: PortId) -> Option<usize>
+    ensures { result ≡ position (λ x. is_port x.port port) pools.now }
+{
+    pools
+        .iter()
+        .position(|p| p.port.node == port.node && p.port.port == port.port)
+}
+
+// The pool that a port fills, or the number of pools.
+fn pool_of(pools: &[PoolShape], port: PortId) -> usize
+    ensures { result ≡ position_or_len (λ x. is_port x.port port) pools.now }
+{
+    find_pool(pools, port).unwrap_or(pools.len())
+}
+
+// The row of a link whose area stands at a place.
+fn link_row(shape: &Shape, pools: &[PoolShape], link: ShapeLink, area: usize) -> LinkRow
+    requires { pools.now ≡ pools_of shape.now }
+    ensures { IsLinkRow shape.now link area result }
+{
+    LinkRow {
+        writer: place_in(shape, link.from.node),
+        reader: place_in(shape, link.to.node),
+        pool: pool_of(pools, link.from),
+        area,
+    }
+}
+
+// How many io areas a link has.
+fn areas_at(link: ShapeLink) -> usize
+    ensures is { result ≡ areas_of link }
+    ensures most { result ≤ 2 }
+{
+    if link.delayed { 2 } else { 1 }
+}
+
+// The rows of all links.
+fn links_of(
+    alloc: Global,
+    shape: &Shape,
+    pools: &[PoolShape],
+) -> Result<Vec<LinkRow>, AllocError>
+    requires pooled { IsPooledShape shape.now }
+    requires pools { pools.now ≡ pools_of shape.now }
+    ensures { IfOk result (λ rows. HasLinkRows shape.now rows.items) }
+{
+    let mut rows = Vec::new(alloc);
+    let mut area = 1 + 2 * shape.nodes.len();
+    for link in shape.links.as_slice() {
+        rows.push(link_row(shape, pools, *link, area))?;
+        area += areas_at(*link);
+    }
+    Ok(rows)
+}
+
+// The row of a pool whose first block and whose words stand at places.
+fn pool_row(shape: &Shape, pool: &PoolShape, first: usize, base: usize) -> PoolRow
+    ensures { IsPoolRow shape.now pool.now first base result }
+{
+    PoolRow {
+        filler: place_in(shape, pool.port.node),
+        blocks: pool.blocks as usize,
+        words: pool.words as usize,
+        readers: pool.links.len() as u64,
+        first,
+        base,
+    }
+}
+
+// The rows of all pools, whose words stand from `base` on. All words of the shape are fewer than `words`.
+fn pools_rows(
+    alloc: Global,
+    shape: &Shape,
+    pools: &[PoolShape],
+    base: usize,
+    words: usize,
+) -> Result<Vec<PoolRow>, AllocError>
+    requires pools { pools.now ≡ pools_of shape.now }
+    requires base { base ≡ event_place shape.now (event_count shape.now) }
+    requires room { word_count shape.now ≤ words }
+    ensures { IfOk result (λ rows. HasPoolRows shape.now rows.items) }
+{
+    let mut rows = Vec::new(alloc);
+    let mut first = 0;
+    let mut base = base;
+    for pool in pools {
+        rows.push(pool_row(shape, pool, first, base))?;
+        first += pool.blocks as usize;
+        base += pool.blocks as usize * (1 + pool.words as usize);
+    }
+    Ok(rows)
+}
+
+/// The rows of a shape whose board has so many words. Cost: a look at each node for each target, each link and each
+/// number below 64, and at each pool for each link.
+pub(crate) fn rows_of(alloc: Global, shape: &Shape, words: usize) -> Result<Rows, Memory>
+    requires pooled { IsPooledShape shape.now }
+    requires room { word_count shape.now ≤ words }
     ensures { IfOk result (λ rows. HasRows shape.now rows) }
 {
+    let pools = pools_of(alloc, shape)?;
+    let areas = areas_of(shape.links.as_slice());
+    let base = 1 + 2 * shape.nodes.len() + areas + events_of(shape);
     Ok(Rows {
         driver: place_in(shape, shape.driver),
-        areas: areas_of(shape.links.as_slice()),
+        areas,
         places: places_of(shape),
         required: required_of(alloc, shape)?,
         targets: targets_of(alloc, shape)?,
+        links: links_of(alloc, shape, pools.as_slice())?,
+        pools: pools_rows(alloc, shape, pools.as_slice(), base, words)?,
     })
 }

@@ -1,0 +1,32 @@
+-- What a seat is asked of the blocks of a pool: the one that is filled in this cycle, and the one that has been out longest.
+-- Source: this project's own.
+use Rattle.std.specs.Prelude.{◌≡◌, ℕ, ◌+◌, ◌<◌, ◌≤◌, ◌⊎◌, false, length}
+use Rattle.pw_base.specs.Pools.{pools_of}
+use Rattle.board_rule.specs.declared.view.BlockView.TheVariants.{Filling, Out}
+use Rattle.board_rule.specs.declared.view.View.{View}
+use Rattle.board_rule.specs.Layout.{Lay}
+use Rattle.board_rule.specs.Spans.{block_at}
+use Rattle.board_rule.specs.EndViews.{pool_at, filler_of, block_of}
+use Rattle.board_rule.specs.SeatNodes.{HasNode}
+use Rattle.board_rule.specs.WriterSteps.{fill_cycle}
+
+module _ (p : Lay) where
+  -- the pool is filled by a node of the seat
+  abbrev pub HasPool : View → ℕ → Type 0
+  HasPool v q = (q < length (pools_of p.shape)) × HasNode false p v (filler_of p q) × (block_at p q (pool_at p q).blocks ≤ length v.blocks)
+
+  -- the block b was filled whole in this cycle, whether it is announced or not
+  abbrev pub IsFilled : View → ℕ → ℕ → Type 0
+  IsFilled v q b = (block_of p v q b ≡ Filling (pool_at p q).words) ⊎ (block_of p v q b ≡ Out (fill_cycle p v q + 1))
+
+  -- it is the first such block
+  pub record IsFirstFilled (v : View) (q b : ℕ) : Type 0 where
+    pub inside : b < (pool_at p q).blocks
+    pub is : IsFilled v q b
+    pub before : (a : ℕ) → a < b → IsFilled v q a → ⊥
+
+  -- of the blocks that are out it has the least stamp
+  pub record IsOldestOut (v : View) (q b n : ℕ) : Type 0 where
+    pub inside : b < (pool_at p q).blocks
+    pub is : block_of p v q b ≡ Out n
+    pub oldest : (a m : ℕ) → a < (pool_at p q).blocks → block_of p v q a ≡ Out m → n ≤ m

@@ -1,0 +1,74 @@
+-- The links and pools of a board by number, and what a seat's view has of their ends and blocks.
+-- Source: this project's own.
+use Rattle.std.specs.Prelude.{ℕ, false, List, [], slice_set as set, slice_index_or}
+use Rattle.std.specs.List.{position_or_len}
+use Rattle.pw_base.specs.declared.shape.Shape.{Shape}
+use Rattle.pw_base.specs.declared.shape.ShapeLink.{ShapeLink}
+use Rattle.pw_base.specs.declared.pools.PoolShape.{PoolShape}
+use Rattle.pw_base.specs.Pools.{is_port, pools_of}
+use Rattle.board_rule.specs.declared.view.WriteView.{WriteView}
+use Rattle.board_rule.specs.declared.view.ReadView.{ReadView}
+use Rattle.board_rule.specs.declared.view.BlockView.{BlockView}
+use Rattle.board_rule.specs.declared.view.BlockView.TheVariants.{Free}
+use Rattle.board_rule.specs.declared.view.View.{View}
+use Rattle.board_rule.specs.Layout.{Lay}
+use Rattle.board_rule.specs.View.{unwritten, unread}
+use Rattle.board_rule.specs.Spans.{block_at}
+
+-- what is read of a number that no link or pool has
+abbrev pub no_link : ShapeLink
+no_link = record { from = record { node = 0; port = 0 }; to = record { node = 0; port = 0 }; channels = 0; buffers = 0; delayed = false }
+
+abbrev pub no_pool : PoolShape
+no_pool = record { port = record { node = 0; port = 0 }; channels = 0; blocks = 0; words = 0; links = [] }
+
+-- a link and a pool of a shape by their numbers, and the number of the pool that a link reads
+abbrev pub link_in : Shape → ℕ → ShapeLink
+link_in shape l = slice_index_or shape.links l no_link
+
+abbrev pub pool_in : Shape → ℕ → PoolShape
+pool_in shape q = slice_index_or (pools_of shape) q no_pool
+
+abbrev pub pool_number : Shape → ℕ → ℕ
+pool_number shape l = position_or_len (λ x. is_port x.port (link_in shape l).from) (pools_of shape)
+
+-- the writer's end of a link, and the reader's, as a view has them
+abbrev pub write_of : View → ℕ → WriteView
+write_of v l = slice_index_or v.writes l (unwritten 0)
+
+abbrev pub read_of : View → ℕ → ReadView
+read_of v l = slice_index_or v.reads l (unread 0)
+
+abbrev pub view_write : View → ℕ → WriteView → View
+view_write v l y = record v { writes = set v.writes l y }
+
+abbrev pub view_read : View → ℕ → ReadView → View
+view_read v l y = record v { reads = set v.reads l y }
+
+module _ (p : Lay) where
+  -- a link and a pool by their numbers
+  abbrev pub link_at : ℕ → ShapeLink
+  link_at l = link_in p.shape l
+
+  abbrev pub pool_at : ℕ → PoolShape
+  pool_at q = pool_in p.shape q
+
+  -- the places of a link's nodes, the place of the node that fills a pool, and the number of the pool that a link reads
+  abbrev pub writer_of : ℕ → ℕ
+  writer_of l = p.place (link_at l).from.node
+
+  abbrev pub reader_of : ℕ → ℕ
+  reader_of l = p.place (link_at l).to.node
+
+  abbrev pub filler_of : ℕ → ℕ
+  filler_of q = p.place (pool_at q).port.node
+
+  abbrev pub pool_of : ℕ → ℕ
+  pool_of l = pool_number p.shape l
+
+  -- a block by its pool and its number
+  abbrev pub block_of : View → ℕ → ℕ → BlockView
+  block_of v q b = slice_index_or v.blocks (block_at p q b) Free
+
+  abbrev pub view_block : View → ℕ → ℕ → BlockView → View
+  view_block v q b y = record v { blocks = set v.blocks (block_at p q b) y }

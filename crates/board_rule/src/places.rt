@@ -1,0 +1,107 @@
+//! Where the words of links and pools stand, and what their rows say. Links and pools are given by number, nodes by place.
+ghost use Rattle.std.specs.Prelude.{◌≡◌, ◌<◌, length};
+ghost use Rattle.pw_base.specs.Layout.{io_place, readers_place, sample_place};
+ghost use Rattle.pw_base.specs.Pools.{pools_of};
+ghost use Rattle.board_rule.specs.Layout.{lay, nodes};
+ghost use Rattle.board_rule.specs.Spans.{block_at};
+ghost use Rattle.board_rule.specs.EndViews.{pool_at, writer_of, reader_of, filler_of, pool_of};
+
+use crate::board::Board;
+
+impl Board {
+    /// The places of a link's writer and of its reader.
+    pub(crate) fn writer(&self, link: u32) -> usize
+        requires { link < length self.now.plot.shape.links }
+        ensures { result ≡ writer_of (lay self.now.plot) link }
+    {
+        self.rows.links[link as usize].writer
+    }
+
+    pub(crate) fn reader(&self, link: u32) -> usize
+        requires { link < length self.now.plot.shape.links }
+        ensures { result ≡ reader_of (lay self.now.plot) link }
+    {
+        self.rows.links[link as usize].reader
+    }
+
+    /// The number of the pool that a link reads.
+    pub(crate) fn pool_of(&self, link: u32) -> usize
+        requires { link < length self.now.plot.shape.links }
+        ensures is { result ≡ pool_of (lay self.now.plot) link }
+        ensures there { result < length (pools_of self.now.plot.shape) }
+    {
+        self.rows.links[link as usize].pool
+    }
+
+    /// Where the area of a link stands.
+    pub(crate) fn area_word(&self, link: u32) -> usize
+        requires { link < length self.now.plot.shape.links }
+        ensures is { result ≡ io_place self.now.plot.shape link 0 }
+        ensures there { result < self.now.table.shared.table_id.words }
+    {
+        self.rows.links[link as usize].area
+    }
+}
+
+impl Board {
+    /// The place of the node that fills a pool.
+    pub(crate) fn filler(&self, pool: usize) -> usize
+        requires { pool < length (pools_of self.now.plot.shape) }
+        ensures { result ≡ filler_of (lay self.now.plot) pool }
+    {
+        self.rows.pools[pool].filler
+    }
+
+    /// How many blocks a pool has, how many words each has, and how many links read it.
+    pub(crate) fn blocks(&self, pool: usize) -> usize
+        requires { pool < length (pools_of self.now.plot.shape) }
+        ensures { result ≡ (pool_at (lay self.now.plot) pool).blocks }
+    {
+        self.rows.pools[pool].blocks
+    }
+
+    pub(crate) fn words(&self, pool: usize) -> usize
+        requires { pool < length (pools_of self.now.plot.shape) }
+        ensures { result ≡ (pool_at (lay self.now.plot) pool).words }
+    {
+        self.rows.pools[pool].words
+    }
+
+    pub(crate) fn readers(&self, pool: usize) -> u64
+        requires { pool < length (pools_of self.now.plot.shape) }
+        ensures { result ≡ length (pool_at (lay self.now.plot) pool).links }
+    {
+        self.rows.pools[pool].readers
+    }
+
+    /// Where a view has a block.
+    pub(crate) fn block(&self, pool: usize, id: u32) -> usize
+        requires inside { pool < length (pools_of self.now.plot.shape) }
+        requires block { id < (pool_at (lay self.now.plot) pool).blocks }
+        ensures { result ≡ block_at (lay self.now.plot) pool id }
+    {
+        self.rows.pools[pool].first + id as usize
+    }
+
+    /// Where the readers word of a block stands.
+    pub(crate) fn readers_word(&self, pool: usize, id: u32) -> usize
+        requires inside { pool < length (pools_of self.now.plot.shape) }
+        requires block { id < (pool_at (lay self.now.plot) pool).blocks }
+        ensures is { result ≡ readers_place self.now.plot.shape pool id }
+        ensures there { result < self.now.table.shared.table_id.words }
+    {
+        let row = self.rows.pools[pool];
+        row.base + id as usize * (1 + row.words)
+    }
+
+    /// Where a sample word of a block stands.
+    pub(crate) fn sample_word(&self, pool: usize, id: u32, place: u32) -> usize
+        requires inside { pool < length (pools_of self.now.plot.shape) }
+        requires block { id < (pool_at (lay self.now.plot) pool).blocks }
+        requires place { place < (pool_at (lay self.now.plot) pool).words }
+        ensures is { result ≡ sample_place self.now.plot.shape pool id place }
+        ensures there { result < self.now.table.shared.table_id.words }
+    {
+        self.readers_word(pool, id) + 1 + place as usize
+    }
+}
