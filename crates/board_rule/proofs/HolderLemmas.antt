@@ -22,7 +22,9 @@ use Rattle.board_rule.specs.declared.view.WriteView.{WriteView}
 use Rattle.board_rule.specs.declared.view.ReadView.{ReadView}
 use Rattle.board_rule.specs.declared.view.BlockView.{BlockView}
 use Rattle.board_rule.specs.declared.view.View.{View}
-use Rattle.pw_base.specs.Pools.{IsPooledShape}
+use Rattle.std.proofs.lemmas.Nat.{mul-le}
+use Rattle.pw_base.specs.Pools.{IsPooledShape, channels_of, words_of}
+use Rattle.pw_base.proofs.PoolLemmas.{channels_le}
 use Rattle.pw_base.specs.Layout.{late_place, event_place}
 use Rattle.pw_base.proofs.LayoutLemmas.{length-start_words}
 use Rattle.board_rule.specs.declared.plot.Plot.{Plot}
@@ -285,4 +287,6 @@ placed plot pooled undelayed seats = let p = lay plot in let w = wired p (sound_
   pools = λ l h. slice_get_within (pools_of plot.shape) (pool_of p l) (pool_at p (pool_of p l)) (pool_here p w l (link_at p l) (link_there p l h)).0;
   areas = λ l h. let a = (w.io_in l (link_at p l) (link_there p l h)).1 in let e = long_enough plot.shape undelayed in omega arith;
   blocks = λ q b h low. let r = (w.readers_in q b (pool_at p q) (pool_there p q h) low).1 in omega arith;
+  few = λ q h. let s = pool_source plot.shape q (pool_at p q) (pool_there p q h) in let words : (pool_at p q).words ≡ words_of plot.shape s.0 = ap (λ (z : PoolShape). z.words) s.2 in
+      let most = mul-le plot.shape.quantum (channels_of plot.shape s.0) 8192 8 pooled.sound.cycles.quantum.1 (channels_le plot.shape s.0 pooled) in omega arith;
 }

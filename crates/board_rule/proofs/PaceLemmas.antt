@@ -131,6 +131,6 @@ module _ (p : Lay) where
         told g ws m n a hm hn (w.from_follows l k at) dep d.0 (subst (λ j. 0 < j) (sym (ap (posts p g).stage q ∙ stage_driver p g)) d.1))
         (λ q. let e = begun_at g n q in
         told g ws m n a hm hn (w.from_follows l k at) dep
-            (λ r. let i = a.resting r n hn q in let f : (g.nodes n).next + phase_begun (g.nodes n).phase ≡ g.lead.cycle + 0 = (λ j. i.0 j + phase_begun (i.1 j)) in omega arith)
-            (subst (λ j. 0 < j) (sym (stage_at p g n q)) (begun_woken (length (p.targets n)) g.lead.cycle (g.nodes n).next (g.nodes n).phase (a.followers n hn q) (omega arith)))) in omega arith);
+        (λ r. let i = a.resting r n hn q in let f : (g.nodes n).next + phase_begun (g.nodes n).phase ≡ g.lead.cycle + 0 = (λ j. i.0 j + phase_begun (i.1 j)) in omega arith)
+        (subst (λ j. 0 < j) (sym (stage_at p g n q)) (begun_woken (length (p.targets n)) g.lead.cycle (g.nodes n).next (g.nodes n).phase (a.followers n hn q) (omega arith)))) in omega arith);
   }

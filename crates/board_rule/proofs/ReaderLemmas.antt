@@ -29,7 +29,7 @@ module _ (p : Lay) (s : ℕ → Span) (ends : Ends) (e : Samples) (ws : List ℕ
   plain = to_plain p w s ends e ws b
 
   module _ (l : ℕ) (k : ShapeLink) (at : LinkAt p l k) (q : ℕ) (x : PoolShape) (is : PoolAt p q x) (c : Contains x.links l)
-           (run : (s (p.place k.to.node)).begun ≡ (s (p.place k.to.node)).over + 1) (loaded : (ends.reads l).loaded ≡ (s (p.place k.to.node)).over + 1) (here : (ends.reads l).lowered ≡ (s (p.place k.to.node)).over) where
+      (run : (s (p.place k.to.node)).begun ≡ (s (p.place k.to.node)).over + 1) (loaded : (ends.reads l).loaded ≡ (s (p.place k.to.node)).over + 1) (here : (ends.reads l).lowered ≡ (s (p.place k.to.node)).over) where
     abbrev to : Span
     to = s (p.place k.to.node)
 

@@ -39,7 +39,7 @@ module _ (p : Lay) where
     pub io_apart : (l m : ℕ) (k j : ShapeLink) → LinkAt l k → LinkAt m j → l ≢ m → io_place p.shape l 0 ≢ io_place p.shape m 0
     pub readers_in : (q b : ℕ) (x : PoolShape) → PoolAt q x → b < x.blocks → (event_place p.shape (event_count p.shape) ≤ readers_place p.shape q b) × (readers_place p.shape q b + x.words < word_count p.shape)
     pub apart : (q r b d : ℕ) (x y : PoolShape) → PoolAt q x → PoolAt r y → b < x.blocks → d < y.blocks → ((q ≡ r) × (b ≡ d) → ⊥)
-      → (readers_place p.shape q b + x.words < readers_place p.shape r d) ⊎ (readers_place p.shape r d + y.words < readers_place p.shape q b)
+        → (readers_place p.shape q b + x.words < readers_place p.shape r d) ⊎ (readers_place p.shape r d + y.words < readers_place p.shape q b)
 
   -- so the node of a pool's port is there, and is no driver
   pub made : Wired → (q : ℕ) (x : PoolShape) → PoolAt q x → (p.place x.port.node < nodes p) × (p.place x.port.node ≢ p.driver)

@@ -18,7 +18,7 @@ fewer [] = omega arith
 fewer (x ∷ xs) = let r = fewer xs in let s = sum_by-cons (λ (y : PoolShape). y.blocks) x xs in let t = sum_by-cons pool_words x xs in let m : pool_words x ≡ x.blocks + x.blocks * x.words = omega arith in omega arith
 
 module _ (shape : Shape) (q b : ℕ) (row : PoolRow) (inside : q < length (pools_of shape)) (block : b < (pool_in shape q).blocks) (places : HasPlaces shape) (fits : word_count shape < 2 ^ 64)
-         (is : IsPoolRow shape (pool_in shape q) (sum_by (λ x. x.blocks) (take q (pools_of shape))) (event_place shape (event_count shape) + sum_by pool_words (take q (pools_of shape))) row) where
+    (is : IsPoolRow shape (pool_in shape q) (sum_by (λ x. x.blocks) (take q (pools_of shape))) (event_place shape (event_count shape) + sum_by pool_words (take q (pools_of shape))) row) where
   words_is : block_words shape q ≡ (pool_in shape q).words
   words_is = ap (λ o. unwrap_or (option_map (λ (x : PoolShape). x.words) o) 0) (slice_get-get_or (pools_of shape) q no_pool inside)
 

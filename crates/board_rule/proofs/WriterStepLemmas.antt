@@ -138,7 +138,7 @@ module _ (p : Lay) {S : Type 0} (slots id : ℕ) (me : Me S View) (after : ℕ �
       let is : (a : ℕ) → a < x.blocks → g.ends.blocks q a ≡ block_of p me.0 q a = λ a l. sym (got me.0.blocks (block_at p q a) (g.ends.blocks q a) Free (k.ends.of_block q a x there l now.2)) in
       let paced = paces p g s.words w r.activations in let sp = spans p g in let place : ℕ = sample_place p.shape q n i in
       let can : CanFill p sp g.ends g.expect s.words w paced r.buffers q n x there h.0.1 i = ⊎_elim (λ z. inl (is n h.0.1 ∙ z))
-          (λ z. inr (is n h.0.1 ∙ z.0, z.1, λ a l busy. subst (λ (y : ℕ × BlockView). (stamp y.0 y.1 < y.0 + 1) × (y.0 + 1 < stamp y.0 y.1 + lag p x)) (λ j. (sym c j, sym (is a l) j)) (z.2 a l (ap is_busy (sym (is a l)) ∙ busy)))) h.4 in
+      (λ z. inr (is n h.0.1 ∙ z.0, z.1, λ a l busy. subst (λ (y : ℕ × BlockView). (stamp y.0 y.1 < y.0 + 1) × (y.0 + 1 < stamp y.0 y.1 + lag p x)) (λ j. (sym c j, sym (is a l) j)) (z.2 a l (ap is_busy (sym (is a l)) ∙ busy)))) h.4 in
       let new = fills p sp g.ends g.expect s.words w paced r.buffers q n x there h.0.1 i (room_in p g s.words s.views r.seated) run h.2 can in
       let low = paced.first m (let z = (w.readers_in q n x there h.0.1).0 in h.0.3.2) in
       let text : packed (samples_of p g.expect ((sp m).over + 1) q) i ≡ word = ap (λ z. packed (samples_of p g.expect (z + 1) q) i) c ∙ ap (λ z. packed z i) (samples_now g.expect (fill_cycle p me.0 q) q (omega arith)) ∙ ap (λ (z : Samples). packed (samples_in p z (fill_cycle p me.0 q) q) i) (sym k.expects) ∙ sym h.3 in

@@ -1,6 +1,6 @@
 -- What the steps of a board read of its shape, in rows by place.
 -- Source: this project's own.
-use Rattle.std.specs.Prelude.{◌≡◌, ℕ, ◌+◌, ◌<◌, List, map, take, sum_by, length, slice_index, slice_index_or}
+use Rattle.std.specs.Prelude.{◌≡◌, ℕ, ◌+◌, ◌^◌, ◌<◌, List, map, take, sum_by, length, slice_index, slice_index_or}
 use Rattle.std.specs.List.{position_or_len}
 use Rattle.pw_base.specs.declared.shape.Shape.{Shape}
 use Rattle.pw_base.specs.declared.shape.ShapeLink.{ShapeLink}
@@ -48,8 +48,9 @@ pub record HasRows (shape : Shape) (rows : Rows) : Type 0 where
   pub links : HasLinkRows shape rows.links.items
   pub pools : HasPoolRows shape rows.pools.items
 
--- each link has a pool, and the words of areas and blocks are words of the board
+-- each link has a pool, the words of areas and blocks are words of the board, and a block has few of them
 pub record HasPlaces (shape : Shape) : Type 0 where
   pub pools : (l : ℕ) → l < length shape.links → pool_number shape l < length (pools_of shape)
   pub areas : (l : ℕ) → l < length shape.links → io_place shape l 0 < word_count shape
   pub blocks : (q b : ℕ) → q < length (pools_of shape) → b < (pool_in shape q).blocks → readers_place shape q b + (pool_in shape q).words < word_count shape
+  pub few : (q : ℕ) → q < length (pools_of shape) → (pool_in shape q).words < 2 ^ 32

@@ -1,6 +1,7 @@
 //! The driver's seat. Contracts see the table that it belongs to and what it knows.
 ghost use Rattle.std.specs.Prelude.{◌≡◌, ◌<◌, length};
 ghost use Rattle.board_rule.specs.Layout.{lay};
+ghost use Rattle.board_rule.specs.EndViews.{read_of};
 ghost use Rattle.board_rule.specs.Steps.{StoresPending, pending_stored, StoresStatus, status_stored};
 ghost use Rattle.board_rule.specs.EventSteps.{Looks, looked, StoresLate, late_stored};
 
@@ -13,8 +14,9 @@ use crate::progress::wake;
 use crate::rule::BoardToken;
 use crate::seat::BoardSeat;
 use crate::steps::statuses::triggered;
-use crate::steps::{activation, event};
+use crate::steps::{activation, event, reading};
 use crate::view::ReadView;
+use pw_base::io_id_of;
 use std::marker::{Brand, Model};
 
 /// The right of the driver's thread to step on a board: it begins, checks and ends each cycle and runs the driver's node.
@@ -34,6 +36,16 @@ impl Model for DriverSeat {
     ghost view = { λ s. record { table = s.token.table_id; knows = s.token.me.0 } };
 
     ghost invariant = { λ s. IsDriverSeat s.token.me.0 s.lead s.reads.items s.woke };
+}
+
+impl DriverSeat {
+    // The reader's end of a link.
+    fn read_at(&self, link: u32) -> ReadView
+        requires { link < length self.now.knows.reads }
+        ensures { result ≡ read_of self.now.knows link }
+    {
+        self.reads[link as usize]
+    }
 }
 
 impl BoardSeat for DriverSeat {
@@ -104,6 +116,56 @@ impl BoardSeat for DriverSeat {
         let ticket = lead_ticket(self.lead);
         event::store::<Brand>(board, &mut self.token, at, ticket, &new);
         lead_store(&mut self.lead);
+    }
+
+    fn loaded(&self, _board: &Board, link: u32) -> u32 {
+        self.read_at(link).id
+    }
+
+    #[inline]
+    fn load_io_as_reader(&mut self, board: &Board, link: u32) -> u64 {
+        let end = self.read_at(link);
+        let cycle = self.lead.cycle;
+        let found = reading::load_area::<Brand>(board, &mut self.token, link);
+        self.reads[link as usize] = ReadView {
+            loaded: cycle + 1,
+            lowered: end.lowered,
+            stored: end.stored,
+            id: io_id_of(found),
+        };
+        found
+    }
+
+    #[inline]
+    fn load_sample(&mut self, board: &Board, link: u32, id: u32, place: u32) -> u64 {
+        reading::load_sample::<Brand>(board, &mut self.token, link, id, place)
+    }
+
+    #[inline]
+    fn lower_readers(&mut self, board: &Board, link: u32, id: u32) -> u64 {
+        let end = self.read_at(link);
+        let cycle = self.lead.cycle;
+        let found = reading::lower_readers::<Brand>(board, &mut self.token, link, id);
+        self.reads[link as usize] = ReadView {
+            loaded: end.loaded,
+            lowered: cycle + 1,
+            stored: end.stored,
+            id: end.id,
+        };
+        found
+    }
+
+    #[inline]
+    fn store_need_data(&mut self, board: &Board, link: u32, id: u32) {
+        let end = self.read_at(link);
+        let cycle = self.lead.cycle;
+        reading::store_need::<Brand>(board, &mut self.token, link, id);
+        self.reads[link as usize] = ReadView {
+            loaded: end.loaded,
+            lowered: end.lowered,
+            stored: cycle + 1,
+            id: end.id,
+        };
     }
 }
 

@@ -20,6 +20,7 @@ mod rule;
 mod seat;
 mod steps;
 mod view;
+mod writing;
 
 pub use board::Board;
 pub use closed::Closed;

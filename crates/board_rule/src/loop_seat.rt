@@ -1,6 +1,7 @@
 //! The seat of a loop. Contracts see the table that it belongs to and what it knows.
 ghost use Rattle.std.specs.Prelude.{◌≡◌, ◌<◌, length};
 ghost use Rattle.board_rule.specs.View.{node_of};
+ghost use Rattle.board_rule.specs.EndViews.{read_of};
 ghost use Rattle.board_rule.specs.Progress.{progress_of};
 
 use crate::board::Board;
@@ -8,8 +9,9 @@ use crate::progress::{NodeProgress, draw, finish, node_event, settle, ticket_hel
 use crate::rule::BoardToken;
 use crate::seat::BoardSeat;
 use crate::steps::statuses::triggered;
-use crate::steps::{activation, event};
+use crate::steps::{activation, event, reading};
 use crate::view::{BlockView, ReadView, WriteView};
+use pw_base::io_id_of;
 use std::marker::{Brand, Model};
 
 /// The right of one loop to step on a board, for the followers that are its own.
@@ -35,11 +37,19 @@ impl Model for LoopSeat {
 
 impl LoopSeat {
     // What is kept of the follower at a place.
-    fn node_at(&self, at: usize) -> NodeProgress
+    pub(crate) fn node_at(&self, at: usize) -> NodeProgress
         requires { at < length self.now.knows.nodes }
         ensures { result ≡ progress_of (node_of self.now.knows at) }
     {
         self.nodes[at]
+    }
+
+    // The reader's end of a link.
+    fn read_at(&self, link: u32) -> ReadView
+        requires { link < length self.now.knows.reads }
+        ensures { result ≡ read_of self.now.knows link }
+    {
+        self.reads[link as usize]
     }
 }
 
@@ -110,5 +120,55 @@ impl BoardSeat for LoopSeat {
         let before = self.node_at(at);
         let new = node_event(before.ends, board.cycle(before.next), node);
         event::store::<Brand>(board, &mut self.token, at, ticket_held(before), &new);
+    }
+
+    fn loaded(&self, _board: &Board, link: u32) -> u32 {
+        self.read_at(link).id
+    }
+
+    #[inline]
+    fn load_io_as_reader(&mut self, board: &Board, link: u32) -> u64 {
+        let end = self.read_at(link);
+        let cycle = self.node_at(board.reader(link)).next;
+        let found = reading::load_area::<Brand>(board, &mut self.token, link);
+        self.reads[link as usize] = ReadView {
+            loaded: cycle + 1,
+            lowered: end.lowered,
+            stored: end.stored,
+            id: io_id_of(found),
+        };
+        found
+    }
+
+    #[inline]
+    fn load_sample(&mut self, board: &Board, link: u32, id: u32, place: u32) -> u64 {
+        reading::load_sample::<Brand>(board, &mut self.token, link, id, place)
+    }
+
+    #[inline]
+    fn lower_readers(&mut self, board: &Board, link: u32, id: u32) -> u64 {
+        let end = self.read_at(link);
+        let cycle = self.node_at(board.reader(link)).next;
+        let found = reading::lower_readers::<Brand>(board, &mut self.token, link, id);
+        self.reads[link as usize] = ReadView {
+            loaded: end.loaded,
+            lowered: cycle + 1,
+            stored: end.stored,
+            id: end.id,
+        };
+        found
+    }
+
+    #[inline]
+    fn store_need_data(&mut self, board: &Board, link: u32, id: u32) {
+        let end = self.read_at(link);
+        let cycle = self.node_at(board.reader(link)).next;
+        reading::store_need::<Brand>(board, &mut self.token, link, id);
+        self.reads[link as usize] = ReadView {
+            loaded: end.loaded,
+            lowered: end.lowered,
+            stored: cycle + 1,
+            id: end.id,
+        };
     }
 }

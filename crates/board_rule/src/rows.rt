@@ -160,11 +160,7 @@ fn areas_at(link: ShapeLink) -> usize
 }
 
 // The rows of all links.
-fn links_of(
-    alloc: Global,
-    shape: &Shape,
-    pools: &[PoolShape],
-) -> Result<Vec<LinkRow>, AllocError>
+fn links_of(alloc: Global, shape: &Shape, pools: &[PoolShape]) -> Result<Vec<LinkRow>, AllocError>
     requires pooled { IsPooledShape shape.now }
     requires pools { pools.now ≡ pools_of shape.now }
     ensures { IfOk result (λ rows. HasLinkRows shape.now rows.items) }

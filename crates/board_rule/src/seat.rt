@@ -7,6 +7,9 @@ ghost use Rattle.board_rule.specs.Layout.{lay, first};
 ghost use Rattle.board_rule.specs.Bits.{woke_of};
 ghost use Rattle.board_rule.specs.Steps.{IsMember, cycle_of, Lowers, lowered, Triggers, triggered, Claims, claimed, IsReadyToFinish, finished};
 ghost use Rattle.board_rule.specs.EventSteps.{Draws, draws, StoresEvent, event_stored};
+ghost use Rattle.board_rule.specs.SampleWords.{IsTable, packed};
+ghost use Rattle.board_rule.specs.EndViews.{read_of, pool_at, pool_of};
+ghost use Rattle.board_rule.specs.ReaderSteps.{LoadsAsReader, loaded_as_reader, IsPublished, IsReading, ReadsBlock, readers_lowered, samples_read, StoresNeed, need_stored};
 
 use crate::board::Board;
 
@@ -72,4 +75,44 @@ pub trait BoardSeat {
         requires phase { let p = lay board.now.plot in StoresEvent leads p (knows self.old) (p.place node) }
         ensures table { table self.new ≡ table self.old }
         ensures knows { let p = lay board.now.plot in knows self.new ≡ event_stored leads (knows self.old) (p.place node) };
+
+    /// The number of the block that the reader's load of this cycle found in the area of a link. Takes no memory.
+    fn loaded(&self, board: &Board, link: u32) -> u32
+        requires turn { IsReading leads (lay board.now.plot) (knows self.now) link (read_of (knows self.now) link).id }
+        ensures { result ≡ (read_of (knows self.now) link).id };
+
+    /// Loads the area of a link whose reader works, once in its cycle. The word has data; its number is one of the blocks
+    /// of the link's pool.
+    fn load_io_as_reader(&mut self, board: &Board, link: u32) -> u64
+        requires table { table self.old ≡ board.now.table.shared.table_id }
+        requires phase { LoadsAsReader leads (lay board.now.plot) (knows self.old) link }
+        ensures table { table self.new ≡ table self.old }
+        ensures knows { knows self.new ≡ loaded_as_reader leads (lay board.now.plot) (knows self.old) link result }
+        ensures word { IsPublished leads (lay board.now.plot) link result };
+
+    /// Loads a sample word of the block that the reader has in its turn and has not taken down: four of the samples that
+    /// are expected. The seat's table of samples has one quantum of 16-bit samples for each cycle and pool.
+    fn load_sample(&mut self, board: &Board, link: u32, id: u32, place: u32) -> u64
+        requires table { table self.old ≡ board.now.table.shared.table_id }
+        requires phase { ReadsBlock leads (lay board.now.plot) (knows self.old) link id }
+        requires place { let p = lay board.now.plot in place < (pool_at p (pool_of p link)).words }
+        ensures table { table self.new ≡ table self.old }
+        ensures knows { knows self.new ≡ knows self.old }
+        ensures word { result ≡ packed (samples_read leads (lay board.now.plot) (knows self.old) link) place }
+        ensures samples { IsTable (lay board.now.plot) (knows self.old).expect };
+
+    /// Takes the readers word of that block down by one, and answers what it found.
+    fn lower_readers(&mut self, board: &Board, link: u32, id: u32) -> u64
+        requires table { table self.old ≡ board.now.table.shared.table_id }
+        requires phase { ReadsBlock leads (lay board.now.plot) (knows self.old) link id }
+        ensures table { table self.new ≡ table self.old }
+        ensures knows { knows self.new ≡ readers_lowered leads (lay board.now.plot) (knows self.old) link }
+        ensures word { 0 < result };
+
+    /// Stores NEED_DATA with the number of that block once it is taken down, which ends the reader's turn.
+    fn store_need_data(&mut self, board: &Board, link: u32, id: u32)
+        requires table { table self.old ≡ board.now.table.shared.table_id }
+        requires phase { StoresNeed leads (lay board.now.plot) (knows self.old) link id }
+        ensures table { table self.new ≡ table self.old }
+        ensures knows { knows self.new ≡ need_stored leads (lay board.now.plot) (knows self.old) link };
 }

@@ -3,4 +3,6 @@
 pub(crate) mod activation;
 pub(crate) mod change;
 pub(crate) mod event;
+pub(crate) mod reading;
 pub(crate) mod statuses;
+pub(crate) mod writing;

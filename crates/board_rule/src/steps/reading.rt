@@ -1,0 +1,93 @@
+//! The atomic steps of a reader on areas and blocks. Links, pools and blocks are given by number; `C` is what the step gives
+//! its seat to know.
+ghost use Rattle.std.specs.Prelude.{◌≡◌, ℕ, ◌<◌, length};
+ghost use Rattle.pw_base.specs.Pools.{pools_of};
+ghost use Rattle.pw_base.specs.Words.{io_word_of};
+ghost use Rattle.board_rule.specs.Layout.{lay};
+ghost use Rattle.board_rule.specs.SampleWords.{IsTable, packed};
+ghost use Rattle.board_rule.specs.EndViews.{pool_at, pool_of};
+ghost use Rattle.board_rule.specs.ReaderSteps.{LoadsAsReader, loaded_as_reader, IsPublished, ReadsBlock, readers_lowered, samples_read, StoresNeed, need_stored};
+
+use crate::board::Board;
+use crate::rule::BoardToken;
+use crate::steps::change::{Becomes, Change, Learned};
+use pw_base::{AreaStatus, io_word};
+
+/// Loads the area of a link as its reader.
+#[inline]
+pub(crate) fn load_area<C: Change>(board: &Board, token: &mut BoardToken, link: u32) -> u64
+    requires table { token.old.table_id ≡ board.now.table.shared.table_id }
+    requires phase { LoadsAsReader C.leads (lay board.now.plot) token.old.me.0 link }
+    requires inside { link < length board.now.plot.shape.links }
+    requires after { (found : ℕ) → C.after found ≡ loaded_as_reader C.leads (lay board.now.plot) token.old.me.0 link found }
+    requires says { (found : ℕ) → IsPublished C.leads (lay board.now.plot) link found → C.says found }
+    ensures same { (token.new.table_id ≡ token.old.table_id) × (token.new.id ≡ token.old.id) × (token.new.me.1 ≡ token.old.me.1) }
+    ensures after { token.new.me.0 ≡ C.after result }
+    ensures says { C.says result }
+{
+    let word = board.area_word(link);
+    board.table.shared.load::<Learned<C>>(token, word)
+}
+
+/// Loads a sample word of the block that the link's reader has.
+#[inline]
+pub(crate) fn load_sample<C: Change>(
+    board: &Board,
+    token: &mut BoardToken,
+    link: u32,
+    id: u32,
+    place: u32,
+) -> u64
+    requires table { token.old.table_id ≡ board.now.table.shared.table_id }
+    requires phase { ReadsBlock C.leads (lay board.now.plot) token.old.me.0 link id }
+    requires inside { link < length board.now.plot.shape.links }
+    requires block { id < (pool_at (lay board.now.plot) (pool_of (lay board.now.plot) link)).blocks }
+    requires place { place < (pool_at (lay board.now.plot) (pool_of (lay board.now.plot) link)).words }
+    requires after { (found : ℕ) → C.after found ≡ token.old.me.0 }
+    requires says { (found : ℕ) → found ≡ packed (samples_read C.leads (lay board.now.plot) token.old.me.0 link) place → IsTable (lay board.now.plot) token.old.me.0.expect → C.says found }
+    ensures same { (token.new.table_id ≡ token.old.table_id) × (token.new.id ≡ token.old.id) × (token.new.me.1 ≡ token.old.me.1) }
+    ensures after { token.new.me.0 ≡ C.after result }
+    ensures says { C.says result }
+{
+    let pool = board.pool_of(link);
+    let word = board.sample_word(pool, id, place);
+    board.table.shared.load::<Learned<C>>(token, word)
+}
+
+/// Takes the readers word of that block down.
+#[inline]
+pub(crate) fn lower_readers<C: Change>(
+    board: &Board,
+    token: &mut BoardToken,
+    link: u32,
+    id: u32,
+) -> u64
+    requires table { token.old.table_id ≡ board.now.table.shared.table_id }
+    requires phase { ReadsBlock C.leads (lay board.now.plot) token.old.me.0 link id }
+    requires inside { link < length board.now.plot.shape.links }
+    requires block { id < (pool_at (lay board.now.plot) (pool_of (lay board.now.plot) link)).blocks }
+    requires after { (found : ℕ) → C.after found ≡ readers_lowered C.leads (lay board.now.plot) token.old.me.0 link }
+    requires says { (found : ℕ) → 0 < found → C.says found }
+    ensures same { (token.new.table_id ≡ token.old.table_id) × (token.new.id ≡ token.old.id) × (token.new.me.1 ≡ token.old.me.1) }
+    ensures after { token.new.me.0 ≡ C.after result }
+    ensures says { C.says result }
+{
+    let pool = board.pool_of(link);
+    let word = board.readers_word(pool, id);
+    board.table.shared.fetch_sub::<Learned<C>>(token, word, 1)
+}
+
+/// Stores NEED_DATA with the number of a block in the area of a link.
+#[inline]
+pub(crate) fn store_need<C: Change>(board: &Board, token: &mut BoardToken, link: u32, id: u32)
+    requires table { token.old.table_id ≡ board.now.table.shared.table_id }
+    requires phase { StoresNeed C.leads (lay board.now.plot) token.old.me.0 link id }
+    requires inside { link < length board.now.plot.shape.links }
+    requires after { (found : ℕ) → C.after found ≡ need_stored C.leads (lay board.now.plot) token.old.me.0 link }
+    ensures same { (token.new.table_id ≡ token.old.table_id) × (token.new.id ≡ token.old.id) × (token.new.me.1 ≡ token.old.me.1) }
+    ensures after { token.new.me.0 ≡ C.after (io_word_of 1 id) }
+{
+    let word = board.area_word(link);
+    let new = io_word(AreaStatus::NeedData.number(), id);
+    board.table.shared.store::<Becomes<C>>(token, word, new);
+}

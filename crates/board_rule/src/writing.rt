@@ -1,0 +1,109 @@
+//! The steps on buffers of a loop's seat whose node writes. Each is one sequentially consistent operation on one word; it
+//! takes no memory, does not wait and does not fail. Links, pools and blocks are given by number.
+ghost use Rattle.std.specs.Prelude.{◌≡◌, ◌<◌, length};
+ghost use Rattle.pw_base.specs.Words.{io_word_of, io_id_in};
+ghost use Rattle.board_rule.specs.Layout.{lay};
+ghost use Rattle.board_rule.specs.EndViews.{write_of};
+ghost use Rattle.board_rule.specs.WriterSteps.{LoadsAsWriter, loaded_as_writer, IsGivenBack, LoadsReaders, readers_loaded, StoresSample, sample_stored, StoresReaders, readers_stored, StoresHave, have_stored};
+
+use crate::board::Board;
+use crate::loop_seat::LoopSeat;
+use crate::steps::writing;
+use crate::view::{BlockView, WriteView};
+use std::marker::Brand;
+
+impl LoopSeat {
+    // The writer's end of a link.
+    fn write_at(&self, link: u32) -> WriteView
+        requires { link < length self.now.knows.writes }
+        ensures { result ≡ write_of self.now.knows link }
+    {
+        self.writes[link as usize]
+    }
+}
+
+impl LoopSeat {
+    /// Loads the area of a link whose writer works, once in its cycle. The word asks for data; its number is the one that
+    /// the reader gave back, and `NO_BLOCK` exactly in the first cycle of the epoch.
+    #[inline]
+    pub fn load_io_as_writer(&mut self, board: &Board, link: u32) -> u64
+        requires table { self.old.table ≡ board.now.table.shared.table_id }
+        requires phase { LoadsAsWriter (lay board.now.plot) self.old.knows link }
+        ensures table { self.new.table ≡ self.old.table }
+        ensures knows { self.new.knows ≡ loaded_as_writer (lay board.now.plot) self.old.knows link }
+        ensures word { result ≡ io_word_of 1 (io_id_in result) }
+        ensures given { IsGivenBack (lay board.now.plot) self.old.knows link (io_id_in result) }
+    {
+        let end = self.write_at(link);
+        let cycle = self.node_at(board.writer(link)).next;
+        let found = writing::load_area::<Brand>(board, &mut self.token, link);
+        self.writes[link as usize] = WriteView {
+            loaded: cycle + 1,
+            stored: end.stored,
+            id: end.id,
+            last: end.last,
+        };
+        found
+    }
+
+    /// Stores HAVE_DATA with the number of the block that was announced in this cycle, which ends the writer's turn.
+    #[inline]
+    pub fn store_have_data(&mut self, board: &Board, link: u32, id: u32)
+        requires table { self.old.table ≡ board.now.table.shared.table_id }
+        requires phase { StoresHave (lay board.now.plot) self.old.knows link id }
+        ensures table { self.new.table ≡ self.old.table }
+        ensures knows { self.new.knows ≡ have_stored (lay board.now.plot) self.old.knows link id }
+    {
+        let end = self.write_at(link);
+        let cycle = self.node_at(board.writer(link)).next;
+        writing::store_have::<Brand>(board, &mut self.token, link, id);
+        self.writes[link as usize] = WriteView {
+            loaded: end.loaded,
+            stored: cycle + 1,
+            id,
+            last: end.id,
+        };
+    }
+
+    /// Loads the readers word of the block that was announced a cycle ago. It is 0, and the block is free then.
+    #[inline]
+    pub fn load_readers(&mut self, board: &Board, pool: u32, id: u32) -> u64
+        requires table { self.old.table ≡ board.now.table.shared.table_id }
+        requires phase { LoadsReaders (lay board.now.plot) self.old.knows pool id }
+        ensures table { self.new.table ≡ self.old.table }
+        ensures knows { self.new.knows ≡ readers_loaded (lay board.now.plot) self.old.knows pool id result }
+        ensures word { result ≡ 0 }
+    {
+        let at = board.block(pool as usize, id);
+        let found = writing::load_readers::<Brand>(board, &mut self.token, pool as usize, id);
+        self.blocks[at] = BlockView::Free;
+        found
+    }
+
+    /// Stores the next sample word of a block, four samples of this cycle.
+    #[inline]
+    pub fn store_sample(&mut self, board: &Board, pool: u32, id: u32, place: u32, word: u64)
+        requires table { self.old.table ≡ board.now.table.shared.table_id }
+        requires phase { StoresSample (lay board.now.plot) self.old.knows pool id place word }
+        ensures table { self.new.table ≡ self.old.table }
+        ensures knows { self.new.knows ≡ sample_stored (lay board.now.plot) self.old.knows pool id place }
+    {
+        let at = board.block(pool as usize, id);
+        writing::store_sample::<Brand>(board, &mut self.token, pool as usize, id, place, word);
+        self.blocks[at] = BlockView::Filling { words: place + 1 };
+    }
+
+    /// Stores the number of the pool's links in the readers word of a block that is filled whole: it is announced.
+    #[inline]
+    pub fn store_readers(&mut self, board: &Board, pool: u32, id: u32)
+        requires table { self.old.table ≡ board.now.table.shared.table_id }
+        requires phase { StoresReaders (lay board.now.plot) self.old.knows pool id }
+        ensures table { self.new.table ≡ self.old.table }
+        ensures knows { self.new.knows ≡ readers_stored (lay board.now.plot) self.old.knows pool id }
+    {
+        let at = board.block(pool as usize, id);
+        let cycle = self.node_at(board.filler(pool as usize)).next;
+        writing::store_readers::<Brand>(board, &mut self.token, pool as usize, id);
+        self.blocks[at] = BlockView::Out { stamp: cycle + 1 };
+    }
+}
