@@ -23,7 +23,10 @@ use Rattle.board_rule.specs.declared.view.ReadView.{ReadView}
 use Rattle.board_rule.specs.declared.view.BlockView.{BlockView}
 use Rattle.board_rule.specs.declared.view.View.{View}
 use Rattle.std.proofs.lemmas.Nat.{mul-le}
-use Rattle.pw_base.specs.Pools.{IsPooledShape, channels_of, words_of}
+use Rattle.std.proofs.lemmas.List.{length-map}
+use Rattle.pw_base.specs.Pools.{IsPooledShape, channels_of, sources_of, words_of}
+use Rattle.pw_base.specs.Pools as pools
+use Rattle.board_rule.proofs.PoolWordLemmas.{pools_have_words}
 use Rattle.pw_base.proofs.PoolLemmas.{channels_le}
 use Rattle.pw_base.specs.Layout.{late_place, event_place}
 use Rattle.pw_base.proofs.LayoutLemmas.{length-start_words}
@@ -44,7 +47,7 @@ use Rattle.board_rule.proofs.SeatLemmas.{put_here, put_else, set_there, seat_ste
 use Rattle.board_rule.proofs.SpanLemmas.{over_at, begun_at, over_lead, begun_lead}
 use Rattle.board_rule.proofs.FollowerLemmas.{same_node}
 use Rattle.board_rule.proofs.DriverLemmas.{lead_is}
-use Rattle.board_rule.proofs.PortLemmas.{same_port, port_same, has_id}
+use Rattle.board_rule.proofs.PortLemmas.{same_port, port_same, has_id, few_ports}
 use Rattle.board_rule.proofs.WiringLemmas.{LinkAt, PoolAt, Wired, wired, pool_source}
 use Rattle.board_rule.proofs.FinishLemmas.{Ready}
 
@@ -287,6 +290,8 @@ placed plot pooled undelayed seats = let p = lay plot in let w = wired p (sound_
   pools = λ l h. slice_get_within (pools_of plot.shape) (pool_of p l) (pool_at p (pool_of p l)) (pool_here p w l (link_at p l) (link_there p l h)).0;
   areas = λ l h. let a = (w.io_in l (link_at p l) (link_there p l h)).1 in let e = long_enough plot.shape undelayed in omega arith;
   blocks = λ q b h low. let r = (w.readers_in q b (pool_at p q) (pool_there p q h) low).1 in omega arith;
+  some = λ q h. pools_have_words p (sound_layout plot pooled.sound seats) pooled undelayed q (pool_at p q) (pool_there p q h);
+  count = let a = few_ports [] plot.shape.links in let b = length-map (sources_of plot.shape) (pools.pool_of plot.shape) in let few = pooled.sound.links.few in omega arith;
   few = λ q h. let s = pool_source plot.shape q (pool_at p q) (pool_there p q h) in let words : (pool_at p q).words ≡ words_of plot.shape s.0 = ap (λ (z : PoolShape). z.words) s.2 in
       let most = mul-le plot.shape.quantum (channels_of plot.shape s.0) 8192 8 pooled.sound.cycles.quantum.1 (channels_le plot.shape s.0 pooled) in omega arith;
 }
