@@ -1,5 +1,5 @@
 -- The nodes that a loop runs on a board without links. This project's own.
-use Rattle.std.specs.Prelude.{◌≡◌, ◌≢◌, ℕ, ◌<◌, []}
+use Rattle.std.specs.Prelude.{◌≡◌, ◌≢◌, ℕ, ◌<◌, length}
 use Rattle.board_rule.specs.Layout.{Lay, nodes}
 
 -- the nodes with the numbers below a count are followers of the board
@@ -9,4 +9,4 @@ pub record AreFollowers (p : Lay) (count : ℕ) : Type 0 where
 
 -- so no node has a block to pass on
 abbrev pub HasNoLinks : Lay → Type 0
-HasNoLinks p = p.shape.links ≡ []
+HasNoLinks p = length p.shape.links ≡ 0

@@ -1,5 +1,5 @@
 //! Nodes on a board that all wait for its driver alone, through the seat of one loop. They have no links, so no blocks.
-ghost use Rattle.std.specs.Prelude.{◌≡◌, ◌≢◌, ℕ, ◌==◌, ◌<◌, [], true, false, length, replicate, slice_get, Some, IsTrue, IfSome, IfOk};
+ghost use Rattle.std.specs.Prelude.{◌≡◌, ◌≢◌, ℕ, ◌==◌, ◌<◌, true, false, length, replicate, slice_get, Some, IsTrue, IfSome, IfOk};
 ghost use Rattle.std.specs.List.{position};
 ghost use Rattle.board_rule.specs.declared.view.Drive.TheVariants.{Awake};
 ghost use Rattle.board_rule.specs.Layout.{lay, nodes, place_in};
@@ -9,18 +9,10 @@ ghost use Rattle.activation_words.specs.Members.{IsResting, AllRest, IsBetween, 
 ghost use Rattle.bench_main.specs.Followers.{AreFollowers, HasNoLinks};
 
 use activation_words::{Claim, begin, claim, claim_driver, end, finish, start};
-use board_rule::{Board, BoardSeat, DriverSeat, Expect, LoopSeat};
+use board_rule::{Board, BoardSeat, DriverSeat, LoopSeat};
 use pw_base::{Items, Memory, Shape, ShapeNode, is_pooled_shape};
 use std::alloc::Global;
-
-// No samples are expected, as none are moved.
-struct Nothing;
-
-impl Expect for Nothing {
-    ghost use Rattle.std.specs.Prelude.{[]};
-
-    ghost expect = { [] };
-}
+use std::marker::Brand;
 
 // A follower: it waits for the driver alone, and the driver for it.
 fn follower_of(alloc: Global, node: u32, driver: u32) -> Result<ShapeNode, Memory> {
@@ -51,7 +43,7 @@ fn driver_of(alloc: Global, count: u32) -> Result<ShapeNode, Memory>
 // So many followers, with a driver behind them.
 fn shape_of(alloc: Global, count: u32, cycles: u32) -> Result<Shape, Memory>
     requires { count < 64 }
-    ensures { IfOk result (λ shape. shape.links ≡ []) }
+    ensures { IfOk result (λ shape. length shape.links ≡ 0) }
 {
     let mut nodes = Items::new(alloc);
     for node in 0..count {
@@ -94,7 +86,7 @@ fn only(loops: Items<LoopSeat>) -> Option<LoopSeat>
 
 // A board for a shape without links, with one seat for all followers. None for a shape that is not pooled.
 fn opened(alloc: Global, shape: &Shape) -> Result<Option<(Board, DriverSeat, LoopSeat)>, Memory>
-    requires { shape.now.links ≡ [] }
+    requires { length shape.now.links ≡ 0 }
     ensures links { IfOk result (λ o. IfSome o (λ t. HasNoLinks (lay t.0.plot))) }
     ensures { IfOk result (λ o. IfSome o (λ t. (t.1.table ≡ t.0.table.shared.table_id) × (t.2.table ≡ t.0.table.shared.table_id) × (t.0.plot.seat_of ≡ replicate (length shape.now.nodes) 0) × (let p = lay t.0.plot in IsBetween p t.1.knows × AllRest p 0 t.2.knows))) }
 {
@@ -102,7 +94,7 @@ fn opened(alloc: Global, shape: &Shape) -> Result<Option<(Board, DriverSeat, Loo
         return Ok(None);
     }
     let seat_of = Items::filled(alloc, shape.nodes.len(), 0)?;
-    let (board, driver, loops) = Board::new::<Nothing>(alloc, shape, &seat_of, 1)?;
+    let (board, driver, loops) = Board::new::<Brand>(alloc, shape, &seat_of, 1)?;
     match only(loops) {
         Some(seat) => Ok(Some((board, driver, seat))),
         None => Ok(None),
