@@ -88,7 +88,7 @@ fn only(loops: Items<LoopSeat>) -> Option<LoopSeat>
 fn opened(alloc: Global, shape: &Shape) -> Result<Option<(Board, DriverSeat, LoopSeat)>, Memory>
     requires { length shape.now.links ≡ 0 }
     ensures links { IfOk result (λ o. IfSome o (λ t. HasNoLinks (lay t.0.plot))) }
-    ensures { IfOk result (λ o. IfSome o (λ t. (t.1.table ≡ t.0.table.shared.table_id) × (t.2.table ≡ t.0.table.shared.table_id) × (t.0.plot.seat_of ≡ replicate (length shape.now.nodes) 0) × (let p = lay t.0.plot in IsBetween p t.1.knows × AllRest p 0 t.2.knows))) }
+    ensures rests { IfOk result (λ o. IfSome o (λ t. (t.1.table ≡ t.0.table.shared.table_id) × (t.2.table ≡ t.0.table.shared.table_id) × (t.0.plot.seat_of ≡ replicate (length shape.now.nodes) 0) × (let p = lay t.0.plot in IsBetween p t.1.knows × AllRest p 0 t.2.knows))) }
 {
     if !is_pooled_shape(shape) {
         return Ok(None);

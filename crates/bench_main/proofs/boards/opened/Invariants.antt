@@ -1,5 +1,5 @@
 use Rattle.board_rule.specs.SampleWords.{silence}
 use Rattle.bench_main.proofs.boards.opened.Given as goal
 
-abbrev pub ghosts-new-board : goal.ghosts-new-board
-ghosts-new-board a = record { expect = silence a.shape.now }
+abbrev pub ghosts-new : goal.ghosts-new
+ghosts-new a = record { expect = silence a.shape.now }
