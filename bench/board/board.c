@@ -1,5 +1,6 @@
-/* The steps of a chain of nodes on a board, in C: the same sequentially consistent loads, stores, exchanges and additions,
-   through one thread. Prints how often a node of the chain was awake. */
+/* The steps of the nodes of a board, in C: the same sequentially consistent loads, stores, exchanges and additions,
+   through one thread. Each node waits for the driver alone. Prints how often a node was
+   awake. */
 #include <stdatomic.h>
 #include <stdint.h>
 #include <stdio.h>
@@ -64,9 +65,8 @@ int main(int argc, char **argv) {
     uint64_t cycles = (uint64_t)atoll(argv[3]);
     driver = count;
     for (uint32_t node = 0; node < count; node++) {
-        if (node + 1 < count) targets[node][target_count[node]++] = node + 1;
         targets[node][target_count[node]++] = driver;
-        required[node] = node == 0 ? 1 : 2;
+        required[node] = 1;
     }
     for (uint32_t node = 0; node <= count; node++) targets[driver][target_count[driver]++] = node;
     required[driver] = count + 1;

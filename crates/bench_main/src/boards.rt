@@ -1,46 +1,32 @@
-//! A chain of nodes on a board, through the seat of one loop.
+//! Nodes on a board that all wait for its driver alone, through the seat of one loop. They have no links, so no blocks.
 ghost use Rattle.std.specs.Prelude.{◌≡◌, ◌≢◌, ℕ, ◌==◌, ◌<◌, true, false, length, replicate, slice_get, Some, IsTrue, IfSome, IfOk};
 ghost use Rattle.std.specs.List.{position};
 ghost use Rattle.board_rule.specs.declared.view.Drive.TheVariants.{Awake};
-ghost use Rattle.board_rule.specs.Layout.{lay, nodes, place_in, IsUndelayed};
+ghost use Rattle.board_rule.specs.Layout.{lay, nodes, place_in};
 ghost use Rattle.board_rule.specs.Steps.{HasNode};
 ghost use Rattle.activation_words.specs.Calls.{IsAwake};
 ghost use Rattle.activation_words.specs.Members.{IsResting, AllRest, IsBetween, IsWaiting};
-ghost use Rattle.bench_main.specs.Chains.{AreFollowers};
+ghost use Rattle.bench_main.specs.Followers.{AreFollowers, HasNoLinks};
 
 use activation_words::{Claim, begin, claim, claim_driver, end, finish, start};
-use board_rule::{Board, BoardSeat, DriverSeat, Expect, LoopSeat};
-use pw_base::{Items, Memory, PortId, Shape, ShapeLink, ShapeNode, is_pooled_shape};
+use board_rule::{Board, BoardSeat, DriverSeat, LoopSeat};
+use pw_base::{Items, Memory, Shape, ShapeNode, is_pooled_shape};
 use std::alloc::Global;
+use std::marker::Brand;
 
-// No samples are expected, as none are moved.
-struct Nothing;
-
-impl Expect for Nothing {
-    ghost use Rattle.std.specs.Prelude.{[]};
-
-    ghost expect = { [] };
-}
-
-// A node of the chain: the next one and the driver wait for it.
-fn link_of_chain(alloc: Global, node: u32, count: u32) -> Result<ShapeNode, Memory>
-    requires { node < 64 }
-{
+// A follower: it waits for the driver alone, and the driver for it.
+fn follower_of(alloc: Global, node: u32, driver: u32) -> Result<ShapeNode, Memory> {
     let mut targets = Items::new(alloc);
-    if node + 1 < count {
-        targets.push(node + 1)?;
-    }
-    targets.push(count)?;
-    let required = if node == 0 { 1 } else { 2 };
+    targets.push(driver)?;
     Ok(ShapeNode {
         node,
-        required,
+        required: 1,
         targets,
     })
 }
 
 // The driver, which kicks all and waits for all.
-fn driver_of_chain(alloc: Global, count: u32) -> Result<ShapeNode, Memory>
+fn driver_of(alloc: Global, count: u32) -> Result<ShapeNode, Memory>
     requires { count < 64 }
 {
     let mut targets = Items::new(alloc);
@@ -54,50 +40,24 @@ fn driver_of_chain(alloc: Global, count: u32) -> Result<ShapeNode, Memory>
     })
 }
 
-// From each node to the next.
-fn links_of_chain(alloc: Global, count: u32) -> Result<Items<ShapeLink>, Memory>
+// So many followers, with a driver behind them.
+fn shape_of(alloc: Global, count: u32, cycles: u32) -> Result<Shape, Memory>
     requires { count < 64 }
-{
-    let mut links = Items::new(alloc);
-    for node in 0..count {
-        let out = if node == 0 { 0 } else { 1 };
-        links.push(ShapeLink {
-            from: PortId { node, port: out },
-            to: PortId {
-                node: node + 1,
-                port: 0,
-            },
-            channels: 1,
-            buffers: 2,
-            delayed: false,
-        })?;
-    }
-    Ok(links)
-}
-
-// A chain of so many nodes, with a driver behind them.
-fn chain_of(alloc: Global, count: u32, cycles: u32) -> Result<Shape, Memory>
-    requires { count < 64 }
+    ensures { IfOk result (λ shape. length shape.links ≡ 0) }
 {
     let mut nodes = Items::new(alloc);
     for node in 0..count {
-        nodes.push(link_of_chain(alloc, node, count)?)?;
+        nodes.push(follower_of(alloc, node, count)?)?;
     }
-    nodes.push(driver_of_chain(alloc, count)?)?;
+    nodes.push(driver_of(alloc, count)?)?;
     Ok(Shape {
         quantum: 64,
         first: 0,
         cycles,
         driver: count,
         nodes,
-        links: links_of_chain(alloc, count)?,
+        links: Items::new(alloc),
     })
-}
-
-fn is_undelayed(shape: &Shape) -> bool
-    ensures { IsTrue result → IsUndelayed shape.now }
-{
-    shape.links.as_slice().iter().all(|l| !l.delayed)
 }
 
 // The place of a node, if the shape has it.
@@ -124,15 +84,17 @@ fn only(loops: Items<LoopSeat>) -> Option<LoopSeat>
     Some(seat)
 }
 
-// A board for a shape, with one seat for all followers. None for a shape that is not pooled or has a delayed link.
+// A board for a shape without links, with one seat for all followers. None for a shape that is not pooled.
 fn opened(alloc: Global, shape: &Shape) -> Result<Option<(Board, DriverSeat, LoopSeat)>, Memory>
-    ensures { IfOk result (λ o. IfSome o (λ t. (t.1.table ≡ t.0.table.shared.table_id) × (t.2.table ≡ t.0.table.shared.table_id) × (t.0.plot.seat_of ≡ replicate (length shape.now.nodes) 0) × (let p = lay t.0.plot in IsBetween p t.1.knows × AllRest p 0 t.2.knows))) }
+    requires { length shape.now.links ≡ 0 }
+    ensures links { IfOk result (λ o. IfSome o (λ t. HasNoLinks (lay t.0.plot))) }
+    ensures rests { IfOk result (λ o. IfSome o (λ t. (t.1.table ≡ t.0.table.shared.table_id) × (t.2.table ≡ t.0.table.shared.table_id) × (t.0.plot.seat_of ≡ replicate (length shape.now.nodes) 0) × (let p = lay t.0.plot in IsBetween p t.1.knows × AllRest p 0 t.2.knows))) }
 {
-    if !is_pooled_shape(shape) || !is_undelayed(shape) {
+    if !is_pooled_shape(shape) {
         return Ok(None);
     }
     let seat_of = Items::filled(alloc, shape.nodes.len(), 0)?;
-    let (board, driver, loops) = Board::new::<Nothing>(alloc, shape, &seat_of, 1)?;
+    let (board, driver, loops) = Board::new::<Brand>(alloc, shape, &seat_of, 1)?;
     match only(loops) {
         Some(seat) => Ok(Some((board, driver, seat))),
         None => Ok(None),
@@ -141,6 +103,7 @@ fn opened(alloc: Global, shape: &Shape) -> Result<Option<(Board, DriverSeat, Loo
 
 // A follower that is awake does its work: none.
 fn run(board: &Board, seat: &mut LoopSeat, node: u32)
+    requires links { HasNoLinks (lay board.now.plot) }
     requires table { seat.old.table ≡ board.now.table.shared.table_id }
     requires node { let p = lay board.now.plot in HasNode false p seat.old.knows (p.place node) }
     requires awake { let p = lay board.now.plot in IsAwake false seat.old.knows (p.place node) }
@@ -154,6 +117,7 @@ fn run(board: &Board, seat: &mut LoopSeat, node: u32)
 
 // One try of a follower, and its work where it is awake. Whether it was.
 fn turn(board: &Board, seat: &mut LoopSeat, node: u32) -> bool
+    requires links { HasNoLinks (lay board.now.plot) }
     requires table { seat.old.table ≡ board.now.table.shared.table_id }
     requires rests { let p = lay board.now.plot in IsResting p seat.old.knows (p.place node) }
     ensures table { seat.new.table ≡ seat.old.table }
@@ -189,6 +153,7 @@ fn begin_next(board: &Board, seat: &mut DriverSeat) -> bool
 
 // The driver's node is awake: it works, and the cycle ends.
 fn run_driver(board: &Board, seat: &mut DriverSeat)
+    requires links { HasNoLinks (lay board.now.plot) }
     requires table { seat.old.table ≡ board.now.table.shared.table_id }
     requires node { let p = lay board.now.plot in HasNode true p seat.old.knows p.driver }
     requires awake { seat.old.knows.lead.drive ≡ Awake }
@@ -203,6 +168,7 @@ fn run_driver(board: &Board, seat: &mut DriverSeat)
 
 // One try of the driver's node, and the end of the cycle where it is awake.
 fn try_driver(board: &Board, seat: &mut DriverSeat) -> bool
+    requires links { HasNoLinks (lay board.now.plot) }
     requires table { seat.old.table ≡ board.now.table.shared.table_id }
     requires waits { IsWaiting (lay board.now.plot) seat.old.knows }
     ensures table { seat.new.table ≡ seat.old.table }
@@ -217,8 +183,9 @@ fn try_driver(board: &Board, seat: &mut DriverSeat) -> bool
     }
 }
 
-// One try of each follower, in the order of the chain. How many were awake.
+// One try of each follower. How many were awake.
 fn turn_all(board: &Board, seat: &mut LoopSeat, count: u32) -> u32
+    requires links { HasNoLinks (lay board.now.plot) }
     requires table { seat.old.table ≡ board.now.table.shared.table_id }
     requires seats { (n : ℕ) → (lay board.now.plot).seat_of n ≡ 0 }
     requires followers { AreFollowers (lay board.now.plot) count }
@@ -250,8 +217,9 @@ fn are_followers(board: &Board, count: u32) -> bool
     true
 }
 
-// A whole cycle: how many nodes of the chain were awake. None where there was no whole one.
+// A whole cycle: how many followers were awake. None where there was no whole one.
 fn one_cycle(board: &Board, driver: &mut DriverSeat, seat: &mut LoopSeat, count: u32) -> Option<u32>
+    requires links { HasNoLinks (lay board.now.plot) }
     requires driver { driver.old.table ≡ board.now.table.shared.table_id }
     requires table { seat.old.table ≡ board.now.table.shared.table_id }
     requires seats { (n : ℕ) → (lay board.now.plot).seat_of n ≡ 0 }
@@ -274,7 +242,7 @@ fn one_cycle(board: &Board, driver: &mut DriverSeat, seat: &mut LoopSeat, count:
     }
 }
 
-// All cycles of the board: how often a node of the chain was awake.
+// All cycles of the board: how often a follower was awake.
 fn all_cycles(
     board: &Board,
     driver: &mut DriverSeat,
@@ -282,6 +250,7 @@ fn all_cycles(
     count: u32,
     cycles: u32,
 ) -> u32
+    requires links { HasNoLinks (lay board.now.plot) }
     requires driver { driver.old.table ≡ board.now.table.shared.table_id }
     requires table { seat.old.table ≡ board.now.table.shared.table_id }
     requires seats { (n : ℕ) → (lay board.now.plot).seat_of n ≡ 0 }
@@ -299,11 +268,11 @@ fn all_cycles(
     all
 }
 
-/// Runs a chain of at most 40 nodes for so many cycles, and answers how often a node was awake; 0 where the board is
-/// refused, as for more cycles than there may be events.
-pub fn chain_rounds(alloc: Global, n: usize, cycles: u32) -> Result<u32, Memory> {
+/// Runs at most 40 followers for so many cycles, and answers how often one was awake; 0 where the board is refused, as
+/// for more cycles than there may be events.
+pub fn board_rounds(alloc: Global, n: usize, cycles: u32) -> Result<u32, Memory> {
     let count = n.min(40) as u32;
-    let shape = chain_of(alloc, count, cycles)?;
+    let shape = shape_of(alloc, count, cycles)?;
     match opened(alloc, &shape)? {
         Some((board, mut driver, mut seat)) => {
             if are_followers(&board, count) {

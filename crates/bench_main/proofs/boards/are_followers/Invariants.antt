@@ -1,5 +1,5 @@
 use Rattle.board_rule.specs.Layout.{lay}
-use Rattle.bench_main.specs.Chains.{AreFollowers}
+use Rattle.bench_main.specs.Followers.{AreFollowers}
 use Rattle.bench_main.proofs.boards.are_followers.Given as goal
 
 abbrev pub invariant-loop-node : goal.invariant-loop-node
