@@ -49,5 +49,8 @@ pub mod AreaLemmas
 pub mod BlockLemmas
 pub mod FillingLemmas
 pub mod ReaderLemmas
+pub mod OldestLemmas
 pub mod WriterStepLemmas
 pub mod ReaderStepLemmas
+pub mod PoolWordLemmas
+pub mod SafetyLemmas

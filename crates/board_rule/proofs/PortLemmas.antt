@@ -1,5 +1,5 @@
 -- The pools of a shape by their ports: each link is of one pool, and each pool has a link.
-use Rattle.std.proofs.Common.{◌≡◌, ◌≢◌, ℕ, zero, suc, ◌+◌, ◌-◌, ◌<◌, ◌≤◌, ◌==◌, ◌&&◌, ◌||◌, nat_lt, Bool, true, false, true≢false, cond, List, [], ◌∷◌, ◌++◌, map, length, get_or, ◌⊎◌, inl, inr, ⊎_elim, refl, sym, ap, ◌∙◌, subst, arith, eq-eqb, eqb-true, lt-ltb, ltb-true}
+use Rattle.std.proofs.Common.{◌≡◌, ◌≢◌, ℕ, zero, suc, ◌+◌, ◌-◌, ◌<◌, ◌≤◌, ◌==◌, ◌&&◌, ◌||◌, nat_lt, Bool, true, false, true≢false, cond, List, [], ◌∷◌, ◌++◌, map, length, get_or, ◌⊎◌, inl, inr, ⊎_elim, refl, sym, ap, ◌∙◌, subst, arith, eq-eqb, eqb-true, lt-ltb, ltb-true, length-append}
 use Rattle.std.specs.Prelude.{fold, filter, All, Contains}
 use Rattle.std.specs.List.{enumerate_from}
 use mathlib.Core.Logic.{dite}
@@ -131,6 +131,23 @@ all_ports P ports [] h each = h
 all_ports P ports (l ∷ ls) h each = all_ports P (with_port ports l.from) ls
     (All-append P (filter (λ q. is_before q l.from) ports) (l.from ∷ filter (λ q. is_before l.from q) ports) (All-filter (λ q. is_before q l.from) P ports h)
     (All-cons P l.from (filter (λ q. is_before l.from q) ports) (All-head (λ m. P m.from) l ls each) (All-filter (λ q. is_before l.from q) P ports h))) (All-tail (λ m. P m.from) l ls each)
+
+-- the elements that pass one of two tests that exclude each other
+parts_fit : {A : Type 0} (f g : A → Bool) → ((x : A) → f x ≡ true → g x ≡ true → ⊥) → (xs : List A) → length (filter f xs) + length (filter g xs) ≤ length xs
+parts_fit f g o [] = omega arith
+parts_fit f g o (x ∷ xs) = by (f x) (g x) (o x) (parts_fit f g o xs)
+  where
+    by : (b c : Bool) → (b ≡ true → c ≡ true → ⊥) → length (filter f xs) + length (filter g xs) ≤ length xs → length (cond b (x ∷ filter f xs) (filter f xs)) + length (cond c (x ∷ filter g xs) (filter g xs)) ≤ length (x ∷ xs)
+    by true true h l = absurd (h refl refl)
+    by true false h l = omega arith
+    by false true h l = omega arith
+    by false false h l = omega arith
+
+-- there are no more ports than links
+pub few_ports : (ports : List PortId) (links : List ShapeLink) → length (ports_with ports links) ≤ length ports + length links
+few_ports ports [] = omega arith
+few_ports ports (l ∷ ls) = let a = few_ports (with_port ports l.from) ls in let b = length-append (filter (λ q. is_before q l.from) ports) (l.from ∷ filter (λ q. is_before l.from q) ports) in
+    let c = parts_fit (λ q. is_before q l.from) (λ q. is_before l.from q) (λ q f g. one_way q l.from (before_is q l.from f) (before_is l.from q g)) ports in omega arith
 
 -- the places at which a test passes, counted from n
 module _ {X : Type 0} (test : X → Bool) where

@@ -1,14 +1,26 @@
 -- What a seat is asked of the blocks of a pool: the one that is filled in this cycle, and the one that has been out longest.
 -- Source: this project's own.
-use Rattle.std.specs.Prelude.{◌≡◌, ℕ, ◌+◌, ◌<◌, ◌≤◌, ◌⊎◌, false, length}
+use Rattle.std.specs.Prelude.{◌≡◌, ℕ, ◌+◌, ◌<◌, ◌≤◌, ◌⊎◌, Bool, false, cond, eqb, leb, Option, Some, option_map, unwrap_or, length}
 use Rattle.pw_base.specs.Pools.{pools_of}
-use Rattle.board_rule.specs.declared.view.BlockView.TheVariants.{Filling, Out}
+use Rattle.board_rule.specs.declared.view.BlockView.{BlockView}
+use Rattle.board_rule.specs.declared.view.BlockView.TheVariants.{Free, Filling, Out}
 use Rattle.board_rule.specs.declared.view.View.{View}
 use Rattle.board_rule.specs.Layout.{Lay}
 use Rattle.board_rule.specs.Spans.{block_at}
 use Rattle.board_rule.specs.EndViews.{pool_at, filler_of, block_of}
 use Rattle.board_rule.specs.SeatNodes.{HasNode}
 use Rattle.board_rule.specs.WriterSteps.{fill_cycle}
+
+-- a block is filled with so many words, or was announced in the cycle before the stamp
+abbrev pub is_filled : ℕ → ℕ → BlockView → Bool
+is_filled words stamp Free = false
+is_filled words stamp (Filling i) = eqb i words
+is_filled words stamp (Out n) = eqb n stamp
+
+-- the block that is out longest, with its stamp, where `before` is that of the blocks before the number b
+abbrev pub older : Option (ℕ × ℕ) → ℕ → BlockView → Option (ℕ × ℕ)
+older before b (Out n) = unwrap_or (option_map (λ o. cond (leb o.1 n) before (Some (b, n))) before) (Some (b, n))
+older before b _ = before
 
 module _ (p : Lay) where
   -- the pool is filled by a node of the seat
@@ -25,8 +37,9 @@ module _ (p : Lay) where
     pub is : IsFilled v q b
     pub before : (a : ℕ) → a < b → IsFilled v q a → ⊥
 
-  -- of the blocks that are out it has the least stamp
+  -- of the blocks that are out it has the least stamp, and is the first such one
   pub record IsOldestOut (v : View) (q b n : ℕ) : Type 0 where
     pub inside : b < (pool_at p q).blocks
     pub is : block_of p v q b ≡ Out n
     pub oldest : (a m : ℕ) → a < (pool_at p q).blocks → block_of p v q a ≡ Out m → n ≤ m
+    pub before : (a : ℕ) → a < b → block_of p v q a ≡ Out n → ⊥

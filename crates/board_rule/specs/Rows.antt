@@ -13,12 +13,18 @@ use Rattle.board_rule.specs.declared.rows.PoolRow.{PoolRow}
 use Rattle.board_rule.specs.Layout.{place_in, required_row, target_rows, word_count}
 use Rattle.board_rule.specs.EndViews.{link_in, pool_in, pool_number}
 
--- a link whose area stands at a place: its nodes by place, and the number of its pool
+-- where the words of a pool begin
+abbrev pub base_of : Shape → ℕ → ℕ
+base_of shape q = event_place shape (event_count shape) + sum_by pool_words (take q (pools_of shape))
+
+-- a link whose area stands at a place: its nodes by place, its pool, where the words of that pool begin, and how many each block has
 pub record IsLinkRow (shape : Shape) (link : ShapeLink) (area : ℕ) (row : LinkRow) : Type 0 where
   pub writer : row.writer ≡ place_in shape link.from.node
   pub reader : row.reader ≡ place_in shape link.to.node
   pub pool : row.pool ≡ position_or_len (λ x. is_port x.port link.from) (pools_of shape)
   pub area_is : row.area ≡ area
+  pub base : row.base ≡ base_of shape row.pool
+  pub stride : row.stride ≡ 1 + (pool_in shape row.pool).words
 
 pub record HasLinkRows (shape : Shape) (rows : List LinkRow) : Type 0 where
   pub count : length rows ≡ length shape.links
@@ -27,6 +33,7 @@ pub record HasLinkRows (shape : Shape) (rows : List LinkRow) : Type 0 where
 -- a pool whose first block has a place in a view, and whose words stand from `base` on: its node by place, its blocks, words and readers
 pub record IsPoolRow (shape : Shape) (pool : PoolShape) (first base : ℕ) (row : PoolRow) : Type 0 where
   pub filler : row.filler ≡ place_in shape pool.port.node
+  pub node : row.node ≡ pool.port.node
   pub blocks : row.blocks ≡ pool.blocks
   pub words : row.words ≡ pool.words
   pub readers : row.readers ≡ length pool.links
@@ -36,7 +43,7 @@ pub record IsPoolRow (shape : Shape) (pool : PoolShape) (first base : ℕ) (row 
 pub record HasPoolRows (shape : Shape) (rows : List PoolRow) : Type 0 where
   pub count : length rows ≡ length (pools_of shape)
   pub each : (q : ℕ) (d : PoolRow) → q < length (pools_of shape)
-      → IsPoolRow shape (pool_in shape q) (sum_by (λ x. x.blocks) (take q (pools_of shape))) (event_place shape (event_count shape) + sum_by pool_words (take q (pools_of shape))) (slice_index_or rows q d)
+      → IsPoolRow shape (pool_in shape q) (sum_by (λ x. x.blocks) (take q (pools_of shape))) (base_of shape q) (slice_index_or rows q d)
 
 -- the rows are those of the shape; `places` has an entry for each number below 64
 pub record HasRows (shape : Shape) (rows : Rows) : Type 0 where
@@ -48,9 +55,11 @@ pub record HasRows (shape : Shape) (rows : Rows) : Type 0 where
   pub links : HasLinkRows shape rows.links.items
   pub pools : HasPoolRows shape rows.pools.items
 
--- each link has a pool, the words of areas and blocks are words of the board, and a block has few of them
+-- each link has a pool, the words of areas and blocks are words of the board, a block has some of them and not many, and there are not many pools
 pub record HasPlaces (shape : Shape) : Type 0 where
   pub pools : (l : ℕ) → l < length shape.links → pool_number shape l < length (pools_of shape)
   pub areas : (l : ℕ) → l < length shape.links → io_place shape l 0 < word_count shape
   pub blocks : (q b : ℕ) → q < length (pools_of shape) → b < (pool_in shape q).blocks → readers_place shape q b + (pool_in shape q).words < word_count shape
+  pub some : (q : ℕ) → q < length (pools_of shape) → 0 < (pool_in shape q).words
   pub few : (q : ℕ) → q < length (pools_of shape) → (pool_in shape q).words < 2 ^ 32
+  pub count : length (pools_of shape) < 2 ^ 32

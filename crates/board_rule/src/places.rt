@@ -9,6 +9,46 @@ ghost use Rattle.board_rule.specs.EndViews.{pool_at, writer_of, reader_of, fille
 use crate::board::Board;
 
 impl Board {
+    /// The number of the pool that a link reads. Takes no memory.
+    #[inline]
+    pub fn link_pool(&self, link: u32) -> u32
+        requires { link < length self.now.plot.shape.links }
+        ensures is { result ≡ pool_of (lay self.now.plot) link }
+        ensures inside { result < length (pools_of self.now.plot.shape) }
+    {
+        self.pool_of(link) as u32
+    }
+
+    /// How many sample words each block of a pool has. Takes no memory.
+    #[inline]
+    pub fn block_words(&self, pool: u32) -> u32
+        requires { pool < length (pools_of self.now.plot.shape) }
+        ensures is { result ≡ (pool_at (lay self.now.plot) pool).words }
+        ensures some { 0 < result }
+    {
+        self.words(pool as usize) as u32
+    }
+
+    /// How many blocks a pool has. Takes no memory.
+    #[inline]
+    pub fn block_count(&self, pool: u32) -> u32
+        requires { pool < length (pools_of self.now.plot.shape) }
+        ensures { result ≡ (pool_at (lay self.now.plot) pool).blocks }
+    {
+        self.rows.pools[pool as usize].blocks
+    }
+
+    /// The node that fills a pool. Takes no memory.
+    #[inline]
+    pub fn pool_node(&self, pool: u32) -> u32
+        requires { pool < length (pools_of self.now.plot.shape) }
+        ensures { result ≡ (pool_at (lay self.now.plot) pool).port.node }
+    {
+        self.rows.pools[pool as usize].node
+    }
+}
+
+impl Board {
     /// The places of a link's writer and of its reader.
     pub(crate) fn writer(&self, link: u32) -> usize
         requires { link < length self.now.plot.shape.links }
@@ -52,14 +92,7 @@ impl Board {
         self.rows.pools[pool].filler
     }
 
-    /// How many blocks a pool has, how many words each has, and how many links read it.
-    pub(crate) fn blocks(&self, pool: usize) -> usize
-        requires { pool < length (pools_of self.now.plot.shape) }
-        ensures { result ≡ (pool_at (lay self.now.plot) pool).blocks }
-    {
-        self.rows.pools[pool].blocks
-    }
-
+    /// How many words each block of a pool has, and how many links read it.
     pub(crate) fn words(&self, pool: usize) -> usize
         requires { pool < length (pools_of self.now.plot.shape) }
         ensures { result ≡ (pool_at (lay self.now.plot) pool).words }
@@ -103,5 +136,26 @@ impl Board {
         ensures there { result < self.now.table.shared.table_id.words }
     {
         self.readers_word(pool, id) + 1 + place as usize
+    }
+
+    /// The same words of a block of the pool that a link reads.
+    pub(crate) fn link_readers_word(&self, link: u32, id: u32) -> usize
+        requires inside { link < length self.now.plot.shape.links }
+        requires block { let p = lay self.now.plot in id < (pool_at p (pool_of p link)).blocks }
+        ensures is { result ≡ readers_place self.now.plot.shape (pool_of (lay self.now.plot) link) id }
+        ensures there { result < self.now.table.shared.table_id.words }
+    {
+        let row = self.rows.links[link as usize];
+        row.base + id as usize * row.stride
+    }
+
+    pub(crate) fn link_sample_word(&self, link: u32, id: u32, place: u32) -> usize
+        requires inside { link < length self.now.plot.shape.links }
+        requires block { let p = lay self.now.plot in id < (pool_at p (pool_of p link)).blocks }
+        requires place { let p = lay self.now.plot in place < (pool_at p (pool_of p link)).words }
+        ensures is { result ≡ sample_place self.now.plot.shape (pool_of (lay self.now.plot) link) id place }
+        ensures there { result < self.now.table.shared.table_id.words }
+    {
+        self.link_readers_word(link, id) + 1 + place as usize
     }
 }

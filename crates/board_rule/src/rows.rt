@@ -1,29 +1,34 @@
 //! What the steps read of a shape, in rows by place.
-ghost use Rattle.std.specs.Prelude.{◌≡◌, ℕ, ◌+◌, ◌<◌, ◌≤◌, ◌==◌, map, length, slice_index, IfOk};
+ghost use Rattle.std.specs.Prelude.{◌≡◌, ℕ, ◌+◌, ◌^◌, ◌<◌, ◌≤◌, ◌==◌, map, length, slice_index, IfOk};
 ghost use Rattle.std.specs.List.{position, position_or_len};
 ghost use Rattle.board_rule.specs.Layout.{place_in, required_row, target_rows};
 ghost use Rattle.pw_base.specs.Layout.{area_count, areas_of, event_place, event_count, word_count};
 ghost use Rattle.pw_base.specs.Pools.{IsPooledShape, is_port, pools_of};
-ghost use Rattle.board_rule.specs.Rows.{IsLinkRow, HasLinkRows, IsPoolRow, HasPoolRows, HasRows};
+ghost use Rattle.board_rule.specs.EndViews.{pool_in};
+ghost use Rattle.board_rule.specs.Rows.{IsLinkRow, HasLinkRows, IsPoolRow, HasPoolRows, HasRows, HasPlaces, base_of};
 
 use pw_base::{Memory, PoolShape, PortId, Shape, ShapeLink, pools_of};
 use std::alloc::{AllocError, Global};
 
-/// A link: the places of its writer and of its reader, the number of the pool that it reads, and where its area stands.
+/// A link: the places of its writer and of its reader, the number of the pool that it reads, and where its area stands;
+/// where the words of its pool begin, and how many each block has with its readers word.
 #[derive(Clone, Copy, Drop)]
 pub struct LinkRow {
     pub(crate) writer: usize,
     pub(crate) reader: usize,
     pub(crate) pool: usize,
     pub(crate) area: usize,
+    pub(crate) base: usize,
+    pub(crate) stride: usize,
 }
 
-/// A pool: the place of the node that fills it, how many blocks it has, how many words each has, and how many links read
+/// A pool: the node that fills it, by place and by number; how many blocks it has, how many words each has, and how many links read
 /// it; where a view has its first block, and where its words stand.
 #[derive(Clone, Copy, Drop)]
 pub struct PoolRow {
     pub(crate) filler: usize,
-    pub(crate) blocks: usize,
+    pub(crate) node: u32,
+    pub(crate) blocks: u32,
     pub(crate) words: usize,
     pub(crate) readers: u64,
     pub(crate) first: usize,
@@ -138,16 +143,41 @@ fn pool_of(pools: &[PoolShape], port: PortId) -> usize
     find_pool(pools, port).unwrap_or(pools.len())
 }
 
+// The row of a pool, by its number.
+fn row_at(shape: &Shape, rows: &[PoolRow], pool: usize) -> PoolRow
+    requires rows { HasPoolRows shape.now rows.now }
+    requires small { (q : ℕ) → q < length (pools_of shape.now) → (pool_in shape.now q).words < 2 ^ 32 }
+    requires inside { pool < length (pools_of shape.now) }
+    ensures base { result.base ≡ base_of shape.now pool }
+    ensures words { result.words ≡ (pool_in shape.now pool).words }
+    ensures small { result.words < 2 ^ 32 }
+{
+    rows[pool]
+}
+
 // The row of a link whose area stands at a place.
-fn link_row(shape: &Shape, pools: &[PoolShape], link: ShapeLink, area: usize) -> LinkRow
-    requires { pools.now ≡ pools_of shape.now }
+fn link_row(
+    shape: &Shape,
+    pools: &[PoolShape],
+    rows: &[PoolRow],
+    link: ShapeLink,
+    area: usize,
+) -> LinkRow
+    requires pools { pools.now ≡ pools_of shape.now }
+    requires rows { HasPoolRows shape.now rows.now }
+    requires small { (q : ℕ) → q < length (pools_of shape.now) → (pool_in shape.now q).words < 2 ^ 32 }
+    requires has { position_or_len (λ x. is_port x.port link.from) (pools_of shape.now) < length (pools_of shape.now) }
     ensures { IsLinkRow shape.now link area result }
 {
+    let pool = pool_of(pools, link.from);
+    let row = row_at(shape, rows, pool);
     LinkRow {
         writer: place_in(shape, link.from.node),
         reader: place_in(shape, link.to.node),
-        pool: pool_of(pools, link.from),
+        pool,
         area,
+        base: row.base,
+        stride: 1 + row.words,
     }
 }
 
@@ -160,15 +190,22 @@ fn areas_at(link: ShapeLink) -> usize
 }
 
 // The rows of all links.
-fn links_of(alloc: Global, shape: &Shape, pools: &[PoolShape]) -> Result<Vec<LinkRow>, AllocError>
+fn links_of(
+    alloc: Global,
+    shape: &Shape,
+    pools: &[PoolShape],
+    pool_rows: &[PoolRow],
+) -> Result<Vec<LinkRow>, AllocError>
     requires pooled { IsPooledShape shape.now }
     requires pools { pools.now ≡ pools_of shape.now }
+    requires rows { HasPoolRows shape.now pool_rows.now }
+    requires placed { HasPlaces shape.now }
     ensures { IfOk result (λ rows. HasLinkRows shape.now rows.items) }
 {
     let mut rows = Vec::new(alloc);
     let mut area = 1 + 2 * shape.nodes.len();
     for link in shape.links.as_slice() {
-        rows.push(link_row(shape, pools, *link, area))?;
+        rows.push(link_row(shape, pools, pool_rows, *link, area))?;
         area += areas_at(*link);
     }
     Ok(rows)
@@ -180,7 +217,8 @@ fn pool_row(shape: &Shape, pool: &PoolShape, first: usize, base: usize) -> PoolR
 {
     PoolRow {
         filler: place_in(shape, pool.port.node),
-        blocks: pool.blocks as usize,
+        node: pool.port.node,
+        blocks: pool.blocks,
         words: pool.words as usize,
         readers: pool.links.len() as u64,
         first,
@@ -216,19 +254,22 @@ fn pools_rows(
 /// number below 64, and at each pool for each link.
 pub(crate) fn rows_of(alloc: Global, shape: &Shape, words: usize) -> Result<Rows, Memory>
     requires pooled { IsPooledShape shape.now }
+    requires placed { HasPlaces shape.now }
     requires room { word_count shape.now ≤ words }
     ensures { IfOk result (λ rows. HasRows shape.now rows) }
 {
     let pools = pools_of(alloc, shape)?;
     let areas = areas_of(shape.links.as_slice());
     let base = 1 + 2 * shape.nodes.len() + areas + events_of(shape);
+    let pool_rows = pools_rows(alloc, shape, pools.as_slice(), base, words)?;
+    let links = links_of(alloc, shape, pools.as_slice(), pool_rows.as_slice())?;
     Ok(Rows {
         driver: place_in(shape, shape.driver),
         areas,
         places: places_of(shape),
         required: required_of(alloc, shape)?,
         targets: targets_of(alloc, shape)?,
-        links: links_of(alloc, shape, pools.as_slice())?,
-        pools: pools_rows(alloc, shape, pools.as_slice(), base, words)?,
+        links,
+        pools: pool_rows,
     })
 }

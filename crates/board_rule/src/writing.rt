@@ -1,9 +1,11 @@
 //! The steps on buffers of a loop's seat whose node writes. Each is one sequentially consistent operation on one word; it
 //! takes no memory, does not wait and does not fail. Links, pools and blocks are given by number.
-ghost use Rattle.std.specs.Prelude.{◌≡◌, ◌<◌, length};
+ghost use Rattle.std.specs.Prelude.{◌≡◌, ℕ, ◌<◌, length};
 ghost use Rattle.pw_base.specs.Words.{io_word_of, io_id_in};
 ghost use Rattle.board_rule.specs.Layout.{lay};
-ghost use Rattle.board_rule.specs.EndViews.{write_of};
+ghost use Rattle.board_rule.specs.declared.view.BlockView.TheVariants.{Out};
+ghost use Rattle.board_rule.specs.EndViews.{write_of, pool_at, block_of};
+ghost use Rattle.board_rule.specs.BufferReads.{HasPool, IsFilled, is_filled, IsFirstFilled, older, IsOldestOut};
 ghost use Rattle.board_rule.specs.WriterSteps.{LoadsAsWriter, loaded_as_writer, IsGivenBack, LoadsReaders, readers_loaded, StoresSample, sample_stored, StoresReaders, readers_stored, StoresHave, have_stored};
 
 use crate::board::Board;
@@ -105,5 +107,72 @@ impl LoopSeat {
         let cycle = self.node_at(board.filler(pool as usize)).next;
         writing::store_readers::<Brand>(board, &mut self.token, pool as usize, id);
         self.blocks[at] = BlockView::Out { stamp: cycle + 1 };
+    }
+}
+
+impl LoopSeat {
+    // A block of a pool.
+    fn view_of(&self, board: &Board, pool: u32, id: u32) -> BlockView
+        requires pool { HasPool (lay board.now.plot) self.now.knows pool }
+        requires block { id < (pool_at (lay board.now.plot) pool).blocks }
+        ensures { result ≡ block_of (lay board.now.plot) self.now.knows pool id }
+    {
+        self.blocks[board.block(pool as usize, id)]
+    }
+
+    /// The number of the block that was filled whole in this cycle, announced or not. Condition: there is one.
+    pub fn filled(&self, board: &Board, pool: u32) -> u32
+        requires pool { HasPool (lay board.now.plot) self.now.knows pool }
+        requires some { let p = lay board.now.plot in ((b : ℕ) × (b < (pool_at p pool).blocks) × IsFilled p self.now.knows pool b) }
+        ensures { IsFirstFilled (lay board.now.plot) self.now.knows pool result }
+    {
+        let words = board.block_words(pool);
+        let stamp = self.node_at(board.filler(pool as usize)).next + 1;
+        for id in 0..board.block_count(pool) {
+            if is_filled(self.view_of(board, pool, id), words, stamp) {
+                return id;
+            }
+        }
+        0
+    }
+
+    /// The number of the block that has been out longest. Condition: one is out.
+    pub fn oldest_out(&self, board: &Board, pool: u32) -> u32
+        requires pool { HasPool (lay board.now.plot) self.now.knows pool }
+        requires some { let p = lay board.now.plot in ((b n : ℕ) × (b < (pool_at p pool).blocks) × (block_of p self.now.knows pool b ≡ Out n)) }
+        ensures { ((n : ℕ) × IsOldestOut (lay board.now.plot) self.now.knows pool result n) }
+    {
+        let mut oldest = None;
+        for id in 0..board.block_count(pool) {
+            oldest = older(oldest, id, self.view_of(board, pool, id));
+        }
+        match oldest {
+            Some((id, _)) => id,
+            None => 0,
+        }
+    }
+}
+
+// Whether a block is filled with so many words, or was announced in the cycle before the stamp.
+fn is_filled(block: BlockView, words: u32, stamp: u64) -> bool
+    ensures { result ≡ is_filled words stamp block }
+{
+    match block {
+        BlockView::Free => false,
+        BlockView::Filling { words: filled } => filled == words,
+        BlockView::Out { stamp: announced } => announced == stamp,
+    }
+}
+
+// The block that is out longest of those before it and of this one.
+fn older(before: Option<(u32, u64)>, id: u32, block: BlockView) -> Option<(u32, u64)>
+    ensures { result ≡ older before id block }
+{
+    let BlockView::Out { stamp } = block else {
+        return before;
+    };
+    match before {
+        Some((_, least)) if least <= stamp => before,
+        _ => Some((id, stamp)),
     }
 }

@@ -49,8 +49,7 @@ pub(crate) fn load_sample<C: Change>(
     ensures after { token.new.me.0 ≡ C.after result }
     ensures says { C.says result }
 {
-    let pool = board.pool_of(link);
-    let word = board.sample_word(pool, id, place);
+    let word = board.link_sample_word(link, id, place);
     board.table.shared.load::<Learned<C>>(token, word)
 }
 
@@ -72,8 +71,7 @@ pub(crate) fn lower_readers<C: Change>(
     ensures after { token.new.me.0 ≡ C.after result }
     ensures says { C.says result }
 {
-    let pool = board.pool_of(link);
-    let word = board.readers_word(pool, id);
+    let word = board.link_readers_word(link, id);
     board.table.shared.fetch_sub::<Learned<C>>(token, word, 1)
 }
 

@@ -1,6 +1,7 @@
 use Rattle.std.proofs.Common.{arith, ◌≡◌, ◌∙◌, ℕ, ◌+◌, ◌*◌, ◌<◌, ◌≤◌, ◌++◌, ◌∷◌, [], List, length, sym, ap, subst, length-append}
 use Rattle.std.specs.Prelude.{slice_index_or, sum_by}
-use Rattle.std.proofs.lemmas.List.{get_or_default}
+use Rattle.std.specs.List.{position_or_len}
+use Rattle.pw_base.specs.Pools.{is_port, pools_of}
 use Rattle.pw_base.specs.declared.shape.ShapeLink.{ShapeLink}
 use Rattle.pw_base.specs.Layout.{areas_of, io_place}
 use Rattle.board_rule.specs.declared.rows.LinkRow.{LinkRow}
@@ -27,3 +28,9 @@ loop-link-preserved c = let i = c.loop-link.invariant in let n : ℕ = c.loop-li
       λ j d h. subst (λ (l : List LinkRow). IsLinkRow shape (link_in shape j) (io_place shape j 0) (slice_index_or l j d)) (sym items)
           (row_grown (λ z r. IsLinkRow shape (link_in shape z) (io_place shape z 0) r) c.loop-link.rows.items row n long i.3 new j d h),
     )
+
+pub link_row-requires-clause-has : goal.link_row-requires-clause-has
+link_row-requires-clause-has c = let n : ℕ = c.loop-link.link-index in let shape = c.args.shape.now in let now = c.as_slice-link-items.ensures in
+    let count : length c.as_slice-link-items.result.now ≡ length shape.links = ap (λ (l : List ShapeLink). length l) now in let inside : n < length shape.links = (let t = c.loop-link-test.true in omega arith) in
+    let same : slice_index_or c.as_slice-link-items.result.now n no_link ≡ link_in shape n = ap (λ (l : List ShapeLink). slice_index_or l n no_link) now in
+    subst (λ (k : ShapeLink). position_or_len (λ x. is_port x.port k.from) (pools_of shape) < length (pools_of shape)) (sym same) (c.requires.placed.pools n inside)

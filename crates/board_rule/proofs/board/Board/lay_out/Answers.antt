@@ -36,3 +36,6 @@ invariant_of-result-2-clause-placed c = placed c.args.plot c.requires.pooled c.r
 
 pub rows_of-requires-clause-room : goal.rows_of-requires-clause-room
 rows_of-requires-clause-room c = let a : c.len.result ≡ length (start_words c.args.plot.shape) = c.len.ensures ∙ ap (λ (l : List ℕ). length l) c.in_ok-words.ensures in let b = length-start_words c.args.plot.shape c.requires.pooled in omega arith
+
+pub rows_of-requires-clause-placed : goal.rows_of-requires-clause-placed
+rows_of-requires-clause-placed c = placed c.args.plot c.requires.pooled c.requires.undelayed c.requires.seats
