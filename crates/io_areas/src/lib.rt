@@ -10,5 +10,5 @@ mod reading;
 mod sample_words;
 mod writing;
 
-pub use reading::{give_back, take};
-pub use writing::load_for_write;
+pub use reading::{give_back, read, take};
+pub use writing::{announce, fill, load_for_write, publish, reclaim};

@@ -33,6 +33,7 @@ fn joined(first: u64, second: u64, third: u64, fourth: u64) -> u64
 }
 
 /// The word of four samples from a place on.
+#[inline]
 pub(crate) fn pack(samples: &[i16], place: usize) -> u64
     requires { 4 * place + 3 < length samples.now }
     ensures { result ≡ packed samples.now place }
@@ -47,6 +48,7 @@ pub(crate) fn pack(samples: &[i16], place: usize) -> u64
 }
 
 /// The same where fewer are left: the rest is 0.
+#[inline]
 pub(crate) fn pack_rest(samples: &[i16], place: usize) -> u64
     requires { 4 * place < length samples.now }
     ensures { result ≡ packed samples.now place }
@@ -69,6 +71,7 @@ fn sample(bits: u64) -> i16
 }
 
 /// The four samples of a word.
+#[inline]
 pub(crate) fn unpack(word: u64) -> [i16; 4]
     ensures { result ≡ unpacked word }
 {
@@ -90,6 +93,7 @@ fn put(to: &mut [i16], at: usize, sample: i16)
 }
 
 /// Writes the four samples of a word from its place on.
+#[inline]
 pub(crate) fn spread(word: u64, place: usize, to: &mut [i16])
     requires { 4 * place + 3 < length to.old }
     ensures { to.new ≡ spread to.old (4 * place) word }
@@ -103,6 +107,7 @@ pub(crate) fn spread(word: u64, place: usize, to: &mut [i16])
 }
 
 /// The same where fewer places are left.
+#[inline]
 pub(crate) fn spread_rest(word: u64, place: usize, to: &mut [i16])
     requires { 4 * place < length to.old }
     ensures { to.new ≡ spread to.old (4 * place) word }
