@@ -79,9 +79,10 @@ module _ (p : Lay) where
     pub woken_awake : HasNode false p v m → IsAwake false (woken false v m) m
     woken_awake h = ap (λ (x : NodeView). x.phase) (again p v m (record (node_of v m) { phase = Awake }) v.trail h.0.there)
 
-    pub started_ready : (w : View) → HasNode false p v m → HasStarted false p v m w → IsReadyToFinish false p w m
-    started_ready w h s = let y : NodeView = record (node_of v m) { phase = Running; start = s.0 } in
-        subst (λ (u : View). IsReadyToFinish false p u m) (sym s.2) (has_again p v m y v.trail h refl, ap (λ (x : NodeView). x.phase) (again p v m y v.trail h.0.there))
+    -- where there are no links
+    pub started_ready : (w : View) → length p.shape.links ≡ 0 → HasNode false p v m → HasStarted false p v m w → IsReadyToFinish false p w m
+    started_ready w bare h s = let y : NodeView = record (node_of v m) { phase = Running; start = s.0 } in
+        subst (λ (u : View). IsReadyToFinish false p u m) (sym s.2) (has_again p v m y v.trail h refl, ap (λ (x : NodeView). x.phase) (again p v m y v.trail h.0.there), ((λ l lt _. absurd (omega arith)), (λ l lt _. absurd (omega arith))))
 
     pub rested_rests : (w : View) → HasNode false p v m → HasRested p v m w → IsResting p w m
     rested_rests w h r = let x : NodeView = node_of v m in let y : NodeView = record x { next = x.next + 1; phase = Idle; finish = r.ticket } in let t : Trail = record v.trail { told = w.trail.told } in

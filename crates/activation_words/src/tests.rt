@@ -9,24 +9,16 @@ ghost use Rattle.activation_words.specs.Calls.{IsAwake};
 ghost use Rattle.activation_words.specs.Members.{IsResting, AllRest, IsBetween, IsWaiting, IsDriving};
 
 use crate::{Claim, begin, check_late, claim, claim_driver, end, finish, start};
-use board_rule::{Board, BoardSeat, Closed, DriverSeat, Expect, LoopSeat};
+use board_rule::{Board, BoardSeat, Closed, DriverSeat, LoopSeat};
 use pw_base::{
     Epoch, Event, Items, Memory, PortId, Shape, ShapeLink, ShapeNode, is_legal_history,
     is_pooled_shape,
 };
 use std::alloc::Global;
+use std::marker::Brand;
 use std::sync::Wait;
 use std::test::Fail;
 use std::thread::{Threads, join};
-
-// No samples are expected: these tests move none.
-struct Nothing;
-
-impl Expect for Nothing {
-    ghost use Rattle.std.specs.Prelude.{[]};
-
-    ghost expect = { [] };
-}
 
 fn node(alloc: Global, node: u32, required: u32, targets: &[u32]) -> Result<ShapeNode, Memory> {
     Ok(ShapeNode {
@@ -68,6 +60,25 @@ fn row(alloc: Global, cycles: u32) -> Result<Shape, Memory> {
         driver: 3,
         nodes,
         links,
+    })
+}
+
+// Four nodes of which each follower waits for the driver alone. The last drives.
+fn apart(alloc: Global, cycles: u32) -> Result<Shape, Memory>
+    ensures { IfOk result (λ shape. length shape.links ≡ 0) }
+{
+    let mut nodes = Items::new(alloc);
+    nodes.push(node(alloc, 0, 1, &[3])?)?;
+    nodes.push(node(alloc, 1, 1, &[3])?)?;
+    nodes.push(node(alloc, 2, 1, &[3])?)?;
+    nodes.push(node(alloc, 3, 4, &[0, 1, 2, 3])?)?;
+    Ok(Shape {
+        quantum: 4,
+        first: 0,
+        cycles,
+        driver: 3,
+        nodes,
+        links: Items::new(alloc),
     })
 }
 
@@ -115,13 +126,13 @@ fn opened(
     alloc: Global,
     shape: &Shape,
 ) -> Result<Option<(Board, DriverSeat, LoopSeat, LoopSeat)>, Memory>
-    ensures { IfOk result (λ o. IfSome o (λ t. (t.1.table ≡ t.0.table.shared.table_id) × (t.2.table ≡ t.0.table.shared.table_id) × (t.3.table ≡ t.0.table.shared.table_id) × (t.0.plot.seat_of ≡ 0 ∷ 1 ∷ 0 ∷ 0 ∷ []) × (let p = lay t.0.plot in IsBetween p t.1.knows × AllRest p 0 t.2.knows × AllRest p 1 t.3.knows))) }
+    ensures { IfOk result (λ o. IfSome o (λ t. (t.0.plot.shape ≡ shape.now) × (t.1.table ≡ t.0.table.shared.table_id) × (t.2.table ≡ t.0.table.shared.table_id) × (t.3.table ≡ t.0.table.shared.table_id) × (t.0.plot.seat_of ≡ 0 ∷ 1 ∷ 0 ∷ 0 ∷ []) × (let p = lay t.0.plot in IsBetween p t.1.knows × AllRest p 0 t.2.knows × AllRest p 1 t.3.knows))) }
 {
     if !is_pooled_shape(shape) || !is_undelayed(shape) || shape.nodes.len() != 4 {
         return Ok(None);
     }
     let seat_of = seats_of_row(alloc)?;
-    let (board, driver, loops) = Board::new::<Nothing>(alloc, shape, &seat_of, 2)?;
+    let (board, driver, loops) = Board::new::<Brand>(alloc, shape, &seat_of, 2)?;
     match both(loops) {
         Some((one, two)) => Ok(Some((board, driver, one, two))),
         None => Ok(None),
@@ -130,6 +141,7 @@ fn opened(
 
 // A follower that is awake does its work: none.
 fn run(board: &Board, seat: &mut LoopSeat, node: u32)
+    requires bare { length board.now.plot.shape.links ≡ 0 }
     requires table { seat.old.table ≡ board.now.table.shared.table_id }
     requires node { let p = lay board.now.plot in HasNode false p seat.old.knows (p.place node) }
     requires awake { let p = lay board.now.plot in IsAwake false seat.old.knows (p.place node) }
@@ -143,6 +155,7 @@ fn run(board: &Board, seat: &mut LoopSeat, node: u32)
 
 // One try of a follower, and its work where it is awake. None where it has no cycles left.
 fn turn(board: &Board, seat: &mut LoopSeat, node: u32) -> Option<Claim>
+    requires bare { length board.now.plot.shape.links ≡ 0 }
     requires table { seat.old.table ≡ board.now.table.shared.table_id }
     requires rests { let p = lay board.now.plot in IsResting p seat.old.knows (p.place node) }
     ensures table { seat.new.table ≡ seat.old.table }
@@ -170,6 +183,7 @@ fn seat_at(at: usize) -> u32
 
 // The same by the seat of a loop, at a board for the row. None also where the node is not the loop's.
 fn try_follower(board: &Board, seat: &mut LoopSeat, of_loop: u32, node: u32) -> Option<Claim>
+    requires bare { length board.now.plot.shape.links ≡ 0 }
     requires table { seat.old.table ≡ board.now.table.shared.table_id }
     requires row { board.now.plot.seat_of ≡ 0 ∷ 1 ∷ 0 ∷ 0 ∷ [] }
     requires rests { AllRest (lay board.now.plot) of_loop seat.old.knows }
@@ -185,6 +199,34 @@ fn try_follower(board: &Board, seat: &mut LoopSeat, of_loop: u32, node: u32) -> 
         return None;
     }
     turn(board, seat, node)
+}
+
+// One try of a follower, without its work. None where it has no cycles left.
+fn look(board: &Board, seat: &mut LoopSeat, node: u32) -> Option<Claim>
+    requires table { seat.old.table ≡ board.now.table.shared.table_id }
+    requires rests { let p = lay board.now.plot in IsResting p seat.old.knows (p.place node) }
+{
+    if seat.ended(board, node) == board.shape().cycles {
+        return None;
+    }
+    Some(claim(board, seat, node))
+}
+
+// The same by the seat of a loop. None also where the node is not the loop's.
+fn claim_follower(board: &Board, seat: &mut LoopSeat, of_loop: u32, node: u32) -> Option<Claim>
+    requires table { seat.old.table ≡ board.now.table.shared.table_id }
+    requires row { board.now.plot.seat_of ≡ 0 ∷ 1 ∷ 0 ∷ 0 ∷ [] }
+    requires rests { AllRest (lay board.now.plot) of_loop seat.old.knows }
+{
+    let shape = board.shape();
+    let at = place_of(shape, node);
+    if at == shape.nodes.len() || at == place_of(shape, shape.driver) {
+        return None;
+    }
+    if at > shape.nodes.len() || seat_at(at) != of_loop {
+        return None;
+    }
+    look(board, seat, node)
 }
 
 // Begins the next cycle, if there is one.
@@ -205,6 +247,7 @@ fn begin_next(board: &Board, seat: &mut DriverSeat) -> bool
 
 // The driver's node is awake: it works, and the cycle ends.
 fn run_driver(board: &Board, seat: &mut DriverSeat)
+    requires bare { length board.now.plot.shape.links ≡ 0 }
     requires table { seat.old.table ≡ board.now.table.shared.table_id }
     requires node { let p = lay board.now.plot in HasNode true p seat.old.knows p.driver }
     requires awake { seat.old.knows.lead.drive ≡ Awake }
@@ -219,6 +262,7 @@ fn run_driver(board: &Board, seat: &mut DriverSeat)
 
 // One try of the driver's node, and the end of the cycle where it is awake.
 fn try_driver(board: &Board, seat: &mut DriverSeat) -> bool
+    requires bare { length board.now.plot.shape.links ≡ 0 }
     requires table { seat.old.table ≡ board.now.table.shared.table_id }
     requires waits { IsWaiting (lay board.now.plot) seat.old.knows }
     ensures table { seat.new.table ≡ seat.old.table }
@@ -264,6 +308,7 @@ fn begin_and_check(board: &Board, seat: &mut DriverSeat) -> Option<u64>
 
 // One try of each follower. False where none has cycles left.
 fn try_all(board: &Board, seat: &mut LoopSeat, of_loop: u32) -> bool
+    requires bare { length board.now.plot.shape.links ≡ 0 }
     requires table { seat.old.table ≡ board.now.table.shared.table_id }
     requires row { board.now.plot.seat_of ≡ 0 ∷ 1 ∷ 0 ∷ 0 ∷ [] }
     requires rests { AllRest (lay board.now.plot) of_loop seat.old.knows }
@@ -281,6 +326,7 @@ fn try_all(board: &Board, seat: &mut LoopSeat, of_loop: u32) -> bool
 
 // All turns of the loop.
 fn run_loop<R: Wait>(rt: &R, board: &Board, mut seat: LoopSeat, of_loop: u32)
+    requires bare { length board.now.plot.shape.links ≡ 0 }
     requires table { seat.table ≡ board.now.table.shared.table_id }
     requires row { board.now.plot.seat_of ≡ 0 ∷ 1 ∷ 0 ∷ 0 ∷ [] }
     requires rests { AllRest (lay board.now.plot) of_loop seat.knows }
@@ -294,6 +340,7 @@ fn run_loop<R: Wait>(rt: &R, board: &Board, mut seat: LoopSeat, of_loop: u32)
 
 // One deed of the driver's thread: a try of its node where it waits, else the beginning of a cycle, if there is one.
 fn drive_once(board: &Board, seat: &mut DriverSeat, waits: bool) -> Option<bool>
+    requires bare { length board.now.plot.shape.links ≡ 0 }
     requires table { seat.old.table ≡ board.now.table.shared.table_id }
     requires phase { IsDriving (lay board.now.plot) seat.old.knows waits }
     ensures table { seat.new.table ≡ seat.old.table }
@@ -311,6 +358,7 @@ fn drive_once(board: &Board, seat: &mut DriverSeat, waits: bool) -> Option<bool>
 
 // All cycles of the driver's thread.
 fn drive<R: Wait>(rt: &R, board: &Board, mut seat: DriverSeat) -> DriverSeat
+    requires bare { length board.now.plot.shape.links ≡ 0 }
     requires table { seat.table ≡ board.now.table.shared.table_id }
     requires between { IsBetween (lay board.now.plot) seat.knows }
     ensures table { result.table ≡ seat.table }
@@ -328,6 +376,7 @@ fn drive<R: Wait>(rt: &R, board: &Board, mut seat: DriverSeat) -> DriverSeat
 
 // Two loops, each in a thread.
 fn run_loops<R: Threads + Wait + Sync>(rt: &R, board: &Board, one: LoopSeat, two: LoopSeat)
+    requires bare { length board.now.plot.shape.links ≡ 0 }
     requires one { one.table ≡ board.now.table.shared.table_id }
     requires two { two.table ≡ board.now.table.shared.table_id }
     requires row { board.now.plot.seat_of ≡ 0 ∷ 1 ∷ 0 ∷ 0 ∷ [] }
@@ -349,6 +398,7 @@ fn run_three<R: Threads + Wait + Sync>(
     one: LoopSeat,
     two: LoopSeat,
 ) -> DriverSeat
+    requires bare { length board.now.plot.shape.links ≡ 0 }
     requires driver { driver.table ≡ board.now.table.shared.table_id }
     requires one { one.table ≡ board.now.table.shared.table_id }
     requires two { two.table ≡ board.now.table.shared.table_id }
@@ -363,6 +413,7 @@ fn run_three<R: Threads + Wait + Sync>(
         rt,
         move || drive(rt, board, driver),
         move ||
+            requires bare { length board.now.plot.shape.links ≡ 0 }
             requires one { one.table ≡ board.now.table.shared.table_id }
             requires two { two.table ≡ board.now.table.shared.table_id }
             requires row { board.now.plot.seat_of ≡ 0 ∷ 1 ∷ 0 ∷ 0 ∷ [] }
@@ -392,6 +443,7 @@ fn one_cycle(
     one: &mut LoopSeat,
     two: &mut LoopSeat,
 ) -> Option<u64>
+    requires bare { length board.now.plot.shape.links ≡ 0 }
     requires driver { driver.old.table ≡ board.now.table.shared.table_id }
     requires one { one.old.table ≡ board.now.table.shared.table_id }
     requires two { two.old.table ≡ board.now.table.shared.table_id }
@@ -439,9 +491,24 @@ fn words_of_one_begin(rt: HostRuntime) -> Result<(), Fail> {
         panic!(rt; "no cycle is left");
     }
     assert!(rt; is_at(&board, (0, 1, 1, 3), (1, 0, 0, 0)));
-    assert!(rt; try_follower(&board, &mut two, 1, 1) == Some(Claim::NotYet { found: 0 }));
+    assert!(rt; claim_follower(&board, &mut two, 1, 1) == Some(Claim::NotYet { found: 0 }));
+    assert!(rt; claim_follower(&board, &mut one, 0, 0) == Some(Claim::Awake { cycle: 0 }));
+    assert!(rt; is_at(&board, (0, 1, 1, 3), (2, 0, 0, 0)));
+    Ok(())
+}
+
+#[test]
+fn words_of_one_finish(rt: HostRuntime) -> Result<(), Fail> {
+    let shape = apart(rt.alloc(), 1)?;
+    let Some((board, mut driver, mut one, _two)) = opened(rt.alloc(), &shape)? else {
+        panic!(rt; "the shape is not pooled")
+    };
+    if !begin_next(&board, &mut driver) {
+        panic!(rt; "no cycle is left");
+    }
+    assert!(rt; is_at(&board, (0, 0, 0, 3), (1, 1, 1, 0)));
     assert!(rt; try_follower(&board, &mut one, 0, 0) == Some(Claim::Awake { cycle: 0 }));
-    assert!(rt; is_at(&board, (0, 0, 1, 2), (3, 1, 0, 0)));
+    assert!(rt; is_at(&board, (0, 0, 0, 2), (3, 1, 1, 0)));
     Ok(())
 }
 
@@ -457,9 +524,9 @@ fn a_check_names_the_unfinished(rt: HostRuntime) -> Result<(), Fail> {
 
 #[test]
 fn a_thousand_cycles_on_three_threads(rt: HostRuntime) -> Result<(), Fail> {
-    let shape = row(rt.alloc(), 1000)?;
+    let shape = apart(rt.alloc(), 1000)?;
     let Some((board, driver, one, two)) = opened(rt.alloc(), &shape)? else {
-        panic!(rt; "the row is not pooled")
+        panic!(rt; "the shape is not pooled")
     };
     let driver = run_three(&rt, &board, driver, one, two);
     assert!(rt; is_at(&board, (0, 0, 0, 0), (3999, 3999, 3999, 3999)));
@@ -478,9 +545,9 @@ fn a_thousand_cycles_on_three_threads(rt: HostRuntime) -> Result<(), Fail> {
 
 #[test]
 fn one_cycle_with_a_late_check(rt: HostRuntime) -> Result<(), Fail> {
-    let shape = row(rt.alloc(), 1)?;
+    let shape = apart(rt.alloc(), 1)?;
     let Some((board, mut driver, mut one, mut two)) = opened(rt.alloc(), &shape)? else {
-        panic!(rt; "the row is not pooled")
+        panic!(rt; "the shape is not pooled")
     };
     let Some(late) = one_cycle(&board, &mut driver, &mut one, &mut two) else {
         panic!(rt; "the cycle did not end")

@@ -1,19 +1,19 @@
 -- Each kind of step on an io area keeps the buffer rule, and finds what the rule says.
-use Rattle.std.proofs.Common.{◌≡◌, ℕ, suc, ◌+◌, ◌-◌, ◌*◌, ◌/◌, ◌^◌, ◌<◌, ◌≤◌, List, length, set, get_or, refl, sym, ap, ◌∙◌, subst, arith, get_or-set_other, get_or-set_same}
+use Rattle.std.proofs.Common.{◌≡◌, ℕ, ◌+◌, ◌*◌, ◌/◌, ◌<◌, ◌≤◌, List, length, set, get_or, refl, ap, ◌∙◌, subst, arith, get_or-set_other, get_or-set_same}
 use Rattle.std.specs.Prelude.{Contains}
 use Rattle.pw_base.specs.declared.shape.ShapeLink.{ShapeLink}
 use Rattle.pw_base.specs.declared.pools.PoolShape.{PoolShape}
 use Rattle.pw_base.specs.Words.{io_word_of, io_id_in}
-use Rattle.pw_base.specs.Layout.{event_count, io_place, late_place, event_place, word_count}
+use Rattle.pw_base.specs.Layout.{io_place, word_count}
 use Rattle.board_rule.specs.declared.view.WriteView.{WriteView}
 use Rattle.board_rule.specs.declared.view.ReadView.{ReadView}
 use Rattle.board_rule.specs.declared.view.BlockView.TheVariants.{Out}
-use Rattle.board_rule.specs.Layout.{Lay, nodes, first}
+use Rattle.board_rule.specs.Layout.{Lay, first}
 use Rattle.board_rule.specs.StartViews.{Samples}
 use Rattle.board_rule.specs.Areas.{Span}
 use Rattle.board_rule.specs.BufferRule.{Ends, Buffers}
 use Rattle.board_rule.proofs.WiringLemmas.{LinkAt, PoolAt, Wired}
-use Rattle.board_rule.proofs.PlainLemmas.{PlainLink, Plain, to_plain, from_plain}
+use Rattle.board_rule.proofs.PlainLemmas.{Plain, to_plain, from_plain}
 use Rattle.board_rule.proofs.PaceLemmas.{Paced}
 use Rattle.board_rule.proofs.EndLemmas.{with_write, with_read, LinkIs, plain_write, plain_turn}
 

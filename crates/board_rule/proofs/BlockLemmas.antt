@@ -1,20 +1,18 @@
 -- The buffer rule where one block changes.
-use Rattle.std.proofs.Common.{◌≡◌, ◌≢◌, ℕ, suc, ◌+◌, ◌-◌, ◌*◌, ◌<◌, ◌≤◌, ◌⊎◌, inl, inr, ⊎_elim, true, List, get_or, refl, sym, ap, ◌∙◌, subst, arith}
-use Rattle.std.specs.Prelude.{Contains, Some, slice_get}
+use Rattle.std.proofs.Common.{◌≡◌, ◌≢◌, ℕ, ◌+◌, ◌<◌, ◌≤◌, ⊎_elim, true, List, get_or, sym, ap, ◌∙◌, subst, arith}
+use Rattle.std.specs.Prelude.{Contains}
 use mathlib.Core.Logic.{dite}
 use native.Mathlib.Decide.{ℕ_discrete}
-use Rattle.pw_base.specs.declared.shape.ShapeLink.{ShapeLink}
 use Rattle.pw_base.specs.declared.pools.PoolShape.{PoolShape}
-use Rattle.pw_base.specs.Layout.{event_count, io_place, late_place, event_place, readers_place, sample_place}
+use Rattle.pw_base.specs.Layout.{io_place, readers_place, sample_place}
 use Rattle.board_rule.specs.declared.view.BlockView.{BlockView}
-use Rattle.board_rule.specs.declared.view.BlockView.TheVariants.{Out}
-use Rattle.board_rule.specs.Layout.{Lay, nodes, first}
+use Rattle.board_rule.specs.Layout.{Lay, first}
 use Rattle.board_rule.specs.StartViews.{Samples}
 use Rattle.board_rule.specs.View.{put}
 use Rattle.board_rule.specs.Areas.{Span}
 use Rattle.board_rule.specs.BufferRule.{Ends, is_busy}
 use Rattle.board_rule.proofs.SeatLemmas.{put_here, put_else}
-use Rattle.board_rule.proofs.WiringLemmas.{LinkAt, PoolAt, Wired}
+use Rattle.board_rule.proofs.WiringLemmas.{PoolAt, Wired}
 use Rattle.board_rule.proofs.PlainLemmas.{PlainLink, PlainBlock, Plain}
 
 -- what is known after a step on the block b of the pool q

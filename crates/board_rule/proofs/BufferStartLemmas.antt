@@ -1,6 +1,6 @@
 -- A board's first words have the buffer rule, whatever its table of samples.
-use Rattle.std.proofs.Common.{◌≡◌, ◌≢◌, ℕ, zero, suc, ◌+◌, ◌-◌, ◌*◌, ◌<◌, ◌≤◌, Bool, true, false, true≢false, cond, List, [], ◌∷◌, ◌++◌, length, take, get_or, replicate, refl, sym, ap, ◌∙◌, subst, arith, length-append}
-use Rattle.std.specs.Prelude.{All, Contains, Some, slice_get}
+use Rattle.std.proofs.Common.{◌≡◌, ℕ, zero, suc, ◌+◌, ◌-◌, ◌<◌, ◌≤◌, true, false, true≢false, cond, List, [], ◌∷◌, ◌++◌, length, get_or, replicate, refl, sym, ap, ◌∙◌, subst, arith}
+use Rattle.std.specs.Prelude.{All, Some, slice_get}
 use Rattle.std.proofs.lemmas.Option.{slice_get_within}
 use Rattle.std.specs.List.{flat_map}
 use Rattle.std.proofs.lemmas.List.{get_or-replicate, get_or-append-add, length-replicate}
@@ -12,7 +12,7 @@ use Rattle.pw_base.specs.declared.shape.ShapeLink.{ShapeLink}
 use Rattle.pw_base.specs.declared.pools.PoolShape.{PoolShape}
 use Rattle.pw_base.specs.Pools.{pools_of}
 use Rattle.pw_base.specs.Words.{status_word_of, io_word_of, no_block}
-use Rattle.pw_base.specs.Layout.{node_count, areas_of, area_count, event_count, io_start, pool_words, pool_start, start_words, io_place, event_place, readers_place, sample_place}
+use Rattle.pw_base.specs.Layout.{node_count, areas_of, area_count, event_count, io_start, pool_words, pool_start, start_words, io_place, event_place, readers_place}
 use Rattle.board_rule.specs.declared.view.BlockView.TheVariants.{Free}
 use Rattle.board_rule.specs.Layout.{Lay, IsUndelayed, nodes, first}
 use Rattle.board_rule.specs.StartViews.{Samples, unwritten, unread}
@@ -21,7 +21,7 @@ use Rattle.board_rule.specs.BufferRule.{Ends, filled, Buffers}
 use Rattle.board_rule.proofs.LayoutLemmas.{undelayed_start}
 use Rattle.board_rule.proofs.PlaceLemmas.{areas_before}
 use Rattle.board_rule.proofs.WiringLemmas.{LinkAt, PoolAt, Wired}
-use Rattle.board_rule.proofs.PlainLemmas.{PlainLink, PlainBlock, Plain, to_plain, from_plain}
+use Rattle.board_rule.proofs.PlainLemmas.{to_plain, from_plain}
 
 -- the area of an undelayed link asks for data, and names no block
 abbrev pub idle_area : ℕ

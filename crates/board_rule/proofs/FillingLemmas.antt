@@ -1,5 +1,5 @@
 -- Each kind of step of a writer on the words of a pool keeps the buffer rule, and finds what the rule says.
-use Rattle.std.proofs.Common.{◌≡◌, ◌≢◌, ℕ, suc, ◌+◌, ◌-◌, ◌*◌, ◌<◌, ◌≤◌, ◌⊎◌, ⊎_elim, true, true≢false, List, length, set, get_or, refl, sym, ap, ◌∙◌, subst, arith, get_or-set_other, get_or-set_same}
+use Rattle.std.proofs.Common.{◌≡◌, ℕ, ◌+◌, ◌<◌, ◌≤◌, ◌⊎◌, ⊎_elim, true, true≢false, List, length, set, get_or, refl, sym, ap, ◌∙◌, arith, get_or-set_other, get_or-set_same}
 use Rattle.std.specs.Prelude.{Contains}
 use mathlib.Core.Logic.{dite}
 use native.Mathlib.Decide.{ℕ_discrete}
@@ -9,13 +9,13 @@ use Rattle.pw_base.specs.declared.pools.PoolShape.{PoolShape}
 use Rattle.pw_base.specs.Layout.{readers_place, sample_place, word_count}
 use Rattle.board_rule.specs.declared.view.BlockView.{BlockView}
 use Rattle.board_rule.specs.declared.view.BlockView.TheVariants.{Free, Filling, Out}
-use Rattle.board_rule.specs.Layout.{Lay, nodes, first}
+use Rattle.board_rule.specs.Layout.{Lay}
 use Rattle.board_rule.specs.StartViews.{Samples}
 use Rattle.board_rule.specs.SampleWords.{packed, samples_of}
 use Rattle.board_rule.specs.Areas.{Span}
 use Rattle.board_rule.specs.BufferRule.{Ends, is_busy, stamp, filled, lag, Buffers}
 use Rattle.board_rule.proofs.WiringLemmas.{LinkAt, PoolAt, Wired}
-use Rattle.board_rule.proofs.PlainLemmas.{PlainLink, PlainBlock, Plain, awaited_of, to_plain, from_plain, one_lag}
+use Rattle.board_rule.proofs.PlainLemmas.{PlainBlock, Plain, awaited_of, to_plain, from_plain, one_lag}
 use Rattle.board_rule.proofs.PaceLemmas.{Paced}
 use Rattle.board_rule.proofs.AwaitedLemmas.{none_awaited, all_awaited}
 use Rattle.board_rule.proofs.BlockLemmas.{with_block, plain_block}

@@ -1,5 +1,5 @@
 -- What a seat knows of the ends of links and of blocks, and the step that changes one of them.
-use Rattle.std.proofs.Common.{◌≡◌, ◌≢◌, ℕ, zero, suc, ◌+◌, ◌<◌, ◌≤◌, Bool, true, false, true≢false, not, cond, eqb, List, [], ◌∷◌, length, set, get_or, refl, sym, ap, ◌∙◌, subst, arith, eq-eqb, ne_eqb}
+use Rattle.std.proofs.Common.{◌≡◌, ◌≢◌, ℕ, zero, suc, ◌+◌, ◌<◌, ◌≤◌, Bool, true, false, true≢false, not, cond, List, [], ◌∷◌, length, set, get_or, refl, sym, ap, ◌∙◌, subst, arith, eq-eqb, ne_eqb}
 use Rattle.std.specs.Prelude.{slice_get, Some, Contains, sum_by, take}
 use Rattle.std.specs.List.{position_or_len}
 use Rattle.std.proofs.lemmas.List.Sums.{sum_by-cons}
@@ -14,7 +14,6 @@ use Rattle.pw_base.specs.declared.shape.ShapeLink.{ShapeLink}
 use Rattle.pw_base.specs.declared.pools.PoolShape.{PoolShape}
 use Rattle.pw_base.specs.declared.ids.PortId.{PortId}
 use Rattle.pw_base.specs.Pools.{is_port, pools_of}
-use Rattle.board_rule.specs.declared.view.Phase.TheVariants.{Running}
 use Rattle.board_rule.specs.declared.view.Drive.TheVariants as drives
 use Rattle.board_rule.specs.declared.view.NodeView.{NodeView}
 use Rattle.board_rule.specs.declared.view.LeadView.{LeadView}
@@ -24,16 +23,13 @@ use Rattle.board_rule.specs.declared.view.BlockView.{BlockView}
 use Rattle.board_rule.specs.declared.view.View.{View}
 use Rattle.std.proofs.lemmas.Nat.{mul-le}
 use Rattle.std.proofs.lemmas.List.{length-map}
-use Rattle.pw_base.specs.Pools.{IsPooledShape, channels_of, links_from, sources_of, words_of}
+use Rattle.pw_base.specs.Pools.{IsPooledShape, channels_of, sources_of, words_of}
 use Rattle.pw_base.specs.Pools as pools
-use Rattle.pw_base.proofs.PrecedenceLemmas.{holds_at}
-use Rattle.pw_base.specs.declared.shape.Shape.{Shape}
-use Rattle.std.specs.Prelude.{fold, max}
+use Rattle.board_rule.proofs.PoolWordLemmas.{pools_have_words}
 use Rattle.pw_base.proofs.PoolLemmas.{channels_le}
-use Rattle.pw_base.specs.Layout.{late_place, event_place}
 use Rattle.pw_base.proofs.LayoutLemmas.{length-start_words}
 use Rattle.board_rule.specs.declared.plot.Plot.{Plot}
-use Rattle.board_rule.specs.Layout.{Lay, lay, nodes, first, HasSeats, IsUndelayed}
+use Rattle.board_rule.specs.Layout.{Lay, lay, first, HasSeats, IsUndelayed}
 use Rattle.board_rule.specs.Rows.{HasPlaces}
 use Rattle.board_rule.proofs.SoundLemmas.{sound_layout}
 use Rattle.board_rule.proofs.LayoutLemmas.{count_is, long_enough}
@@ -42,7 +38,7 @@ use Rattle.board_rule.specs.SampleWords.{IsTable}
 use Rattle.board_rule.specs.BufferRule.{Ends}
 use Rattle.board_rule.specs.Spans.{spans, phase_over, phase_begun, drive_over, drive_begun, holder, block_at, KnowsEnds, AreStill}
 use Rattle.board_rule.specs.BoardRule.{Knows, Seated, Holds}
-use Rattle.board_rule.specs.EndViews.{no_link, no_pool, link_at, pool_at, pool_of, writer_of, reader_of, write_of, read_of, view_write, view_read, view_block}
+use Rattle.board_rule.specs.EndViews.{no_link, no_pool, link_at, pool_at, pool_of, view_write, view_read, view_block}
 use Rattle.board_rule.specs.SeatNodes.{cycle_of, HasNode}
 use Rattle.board_rule.specs.WorkSteps.{IsRunning, IsGivenOn}
 use Rattle.board_rule.proofs.SeatLemmas.{put_here, put_else, set_there, seat_step}
@@ -286,35 +282,13 @@ module _ (p : Lay) where
         let n : (spans p g m).begun ≡ x.next + 1 = begun_at p g m has.follows ∙ ap (λ (y : NodeView). y.next + phase_begun y.phase) same ∙ ap (λ f. x.next + phase_begun f) run in
         (omega arith, omega arith, holder_follows m has.follows ∙ has.owned, omega arith, λ z. has.loops)
 
--- the greatest of some numbers
-most_from : {A : Type 0} (f : A → ℕ) (a : ℕ) (xs : List A) → a ≤ fold (λ top x. max top (f x)) a xs
-most_from f a [] = omega arith
-most_from f a (x ∷ xs) = let more : max a (f x) ≤ fold (λ top y. max top (f y)) (max a (f x)) xs = most_from f (max a (f x)) xs in omega arith
-
-most_of : {A : Type 0} (f : A → ℕ) (a : ℕ) (xs : List A) (k : ℕ) (d : A) → k < length xs → f (get_or xs k d) ≤ fold (λ top x. max top (f x)) a xs
-most_of f a [] k d lt = absurd (omega arith)
-most_of f a (x ∷ xs) zero d lt = let more : max a (f x) ≤ fold (λ top y. max top (f y)) (max a (f x)) xs = most_from f (max a (f x)) xs in omega arith
-most_of f a (x ∷ xs) (suc k) d lt = most_of f (max a (f x)) xs k d (omega arith)
-
--- a port with a link has channels
-some_channels : (shape : Shape) → IsPooledShape shape → (l : ℕ) (k : ShapeLink) (port : PortId) → slice_get shape.links l ≡ Some k → k.from ≡ port → 1 ≤ channels_of shape port
-some_channels shape pooled l k port at from = let lt = slice_get_within shape.links l k at in let here = get_or_from_slice_get shape.links l k k at in
-    let there : Contains (links_from shape port) k = holds_at (λ (m : ShapeLink). is_port m.from port) shape.links k l (port_same k.from port from) lt here in
-    let most : (get_or (links_from shape port) there.0 k).channels ≤ channels_of shape port = most_of (λ (m : ShapeLink). m.channels) 0 (links_from shape port) there.0 k there.1 in
-    let same : (get_or (links_from shape port) there.0 k).channels ≡ k.channels = ap (λ (m : ShapeLink). m.channels) there.2 in
-    let low = (pooled.sound.links.each l k lt).channels.0 in let is : (get_or shape.links l k).channels ≡ k.channels = ap (λ (m : ShapeLink). m.channels) here in omega arith
-
 -- where a board has the words of areas and blocks
 pub placed : (plot : Plot) → IsPooledShape plot.shape → IsUndelayed plot.shape → HasSeats plot → HasPlaces plot.shape
 placed plot pooled undelayed seats = let p = lay plot in let w = wired p (sound_layout plot pooled.sound seats) pooled undelayed in let long = length-start_words plot.shape pooled in let count = count_is plot.shape in record {
   pools = λ l h. slice_get_within (pools_of plot.shape) (pool_of p l) (pool_at p (pool_of p l)) (pool_here p w l (link_at p l) (link_there p l h)).0;
   areas = λ l h. let a = (w.io_in l (link_at p l) (link_there p l h)).1 in let e = long_enough plot.shape undelayed in omega arith;
   blocks = λ q b h low. let r = (w.readers_in q b (pool_at p q) (pool_there p q h) low).1 in omega arith;
-  some = λ q h. let a = w.linked q (pool_at p q) (pool_there p q h) in let k = w.there q a.0 (pool_at p q) (pool_there p q h) a.1 in
-      let s = pool_source plot.shape q (pool_at p q) (pool_there p q h) in let words : (pool_at p q).words ≡ words_of plot.shape s.0 = ap (λ (z : PoolShape). z.words) s.2 in
-      let from : k.0.from ≡ s.0 = k.2 ∙ ap (λ (z : PoolShape). z.port) s.2 in
-      let one = some_channels plot.shape pooled a.0 k.0 s.0 k.1 from in
-      let most = mul-le 1 1 plot.shape.quantum (channels_of plot.shape s.0) pooled.sound.cycles.quantum.0 one in omega arith;
+  some = λ q h. pools_have_words p (sound_layout plot pooled.sound seats) pooled undelayed q (pool_at p q) (pool_there p q h);
   count = let a = few_ports [] plot.shape.links in let b = length-map (sources_of plot.shape) (pools.pool_of plot.shape) in let few = pooled.sound.links.few in omega arith;
   few = λ q h. let s = pool_source plot.shape q (pool_at p q) (pool_there p q h) in let words : (pool_at p q).words ≡ words_of plot.shape s.0 = ap (λ (z : PoolShape). z.words) s.2 in
       let most = mul-le plot.shape.quantum (channels_of plot.shape s.0) 8192 8 pooled.sound.cycles.quantum.1 (channels_le plot.shape s.0 pooled) in omega arith;

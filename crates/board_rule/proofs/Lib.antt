@@ -54,3 +54,4 @@ pub mod WriterStepLemmas
 pub mod ReaderStepLemmas
 pub mod PoolWordLemmas
 pub mod SafetyLemmas
+pub mod SilenceLemmas

@@ -1,5 +1,5 @@
 -- Laws of `specs/BufferReads.antt`.
-use Rattle.std.proofs.Common.{◌≡◌, ◌≢◌, ℕ, suc, ◌+◌, ◌<◌, ◌≤◌, ◌⊎◌, inl, inr, Bool, true, false, true≢false, cond, eqb, leb, Some, None, Option, refl, sym, ap, ◌∙◌, subst, arith, eqb-true, leb-true, leb-false}
+use Rattle.std.proofs.Common.{◌≡◌, ℕ, ◌+◌, ◌<◌, ◌≤◌, ◌⊎◌, inl, inr, Bool, true, false, true≢false, cond, leb, Some, None, Option, refl, sym, ap, ◌∙◌, arith, eqb-true, leb-true, leb-false}
 use mathlib.Core.Logic.{dite}
 use native.Mathlib.Decide.{ℕ_discrete}
 use Rattle.board_rule.specs.declared.view.BlockView.{BlockView}
@@ -8,8 +8,7 @@ use Rattle.board_rule.specs.declared.view.View.{View}
 use Rattle.board_rule.specs.Layout.{Lay}
 use Rattle.board_rule.specs.BufferRule.{is_busy, stamp}
 use Rattle.board_rule.specs.EndViews.{pool_at, block_of}
-use Rattle.board_rule.specs.WriterSteps.{fill_cycle}
-use Rattle.board_rule.specs.BufferReads.{IsFilled, is_filled, older, IsOldestOut}
+use Rattle.board_rule.specs.BufferReads.{is_filled, older, IsOldestOut}
 
 -- a block that is filled, and one that is not
 pub filled_yes : (words stamp : ℕ) (x : BlockView) → is_filled words stamp x ≡ true → (x ≡ (let z : BlockView = Filling words in z)) ⊎ (x ≡ (let z : BlockView = Out stamp in z))

@@ -1,5 +1,5 @@
 -- What the activation rule tells the buffer rule: a node begins a cycle only after the writers of its links have ended it, and all nodes are within one cycle.
-use Rattle.std.proofs.Common.{◌≡◌, ◌≢◌, ℕ, suc, ◌+◌, ◌<◌, ◌≤◌, true, true≢false, cond, eqb, List, [], length, refl, sym, ap, ◌∙◌, subst, arith, eq-eqb, ne_eqb}
+use Rattle.std.proofs.Common.{◌≡◌, ◌≢◌, ℕ, ◌+◌, ◌<◌, ◌≤◌, true, true≢false, cond, eqb, List, [], length, sym, ap, ◌∙◌, subst, arith, eq-eqb, ne_eqb}
 use mathlib.Core.Logic.{dite}
 use native.Mathlib.Decide.{ℕ_discrete, dec_le}
 use Rattle.pw_base.specs.declared.shape.ShapeLink.{ShapeLink}
@@ -7,7 +7,7 @@ use Rattle.board_rule.specs.declared.view.Phase.{Phase}
 use Rattle.board_rule.specs.declared.view.Phase.TheVariants.{Idle, Awake, StartDrawn, Running, Done, FinishDrawn, Telling}
 use Rattle.board_rule.specs.declared.view.Drive.{Drive}
 use Rattle.board_rule.specs.declared.view.Drive.TheVariants as drives
-use Rattle.board_rule.specs.Layout.{Lay, IsSound, nodes, first}
+use Rattle.board_rule.specs.Layout.{Lay, nodes, first}
 use Rattle.board_rule.specs.Sums.{times}
 use Rattle.board_rule.specs.Phases.{phase_rest, phase_stage, PhaseOk, drive_stage, is_resetting}
 use Rattle.board_rule.specs.View.{Whole}

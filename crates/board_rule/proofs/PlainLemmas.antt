@@ -1,7 +1,6 @@
 -- The buffer rule where no link is delayed: a link has one area, and at most one block of a pool is busy.
-use Rattle.std.proofs.Common.{◌≡◌, ◌≢◌, ℕ, zero, suc, ◌+◌, ◌-◌, ◌*◌, ◌%◌, ◌<◌, ◌≤◌, Bool, true, false, cond, ltb, eqb, List, [], length, get_or, refl, sym, ap, ◌∙◌, subst, arith}
-use Rattle.std.specs.Prelude.{All, Contains, Some, None, sum_by, slice_get, unwrap_or, option_map}
-use Rattle.std.specs.List.{list_any}
+use Rattle.std.proofs.Common.{◌≡◌, ℕ, ◌+◌, ◌%◌, ◌<◌, ◌≤◌, true, false, cond, ltb, List, get_or, refl, sym, ap, ◌∙◌, subst, arith}
+use Rattle.std.specs.Prelude.{Contains, Some, None, sum_by, slice_get, unwrap_or, option_map}
 use Rattle.std.proofs.lemmas.Option.{slice_get-get_or}
 use Rattle.std.proofs.lemmas.List.Folds.{list_any_none}
 use Rattle.std.proofs.lemmas.List.Elements.{All-filter}
@@ -18,7 +17,7 @@ use Rattle.board_rule.specs.Layout.{Lay, IsUndelayed, first}
 use Rattle.board_rule.specs.StartViews.{Samples}
 use Rattle.board_rule.specs.SampleWords.{packed, samples_of}
 use Rattle.board_rule.specs.Areas.{late_by, area_of, stored_id, Span, LinkOk}
-use Rattle.board_rule.specs.BufferRule.{Ends, is_busy, stamp, filled, late_at, lag, waiting, readers_of, BlockOk, PoolOk, Buffers}
+use Rattle.board_rule.specs.BufferRule.{Ends, is_busy, stamp, filled, late_at, lag, waiting, readers_of, Buffers}
 use Rattle.board_rule.proofs.WiringLemmas.{LinkAt, PoolAt, Wired}
 
 -- a link with one area, whose word is `word`

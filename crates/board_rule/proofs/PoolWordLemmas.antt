@@ -1,17 +1,16 @@
 -- Each block of a pool has a sample word.
-use Rattle.std.proofs.Common.{◌≡◌, ℕ, zero, suc, ◌+◌, ◌*◌, ◌/◌, ◌<◌, ◌≤◌, true, max, List, [], ◌∷◌, length, get_or, refl, sym, ap, ◌∙◌, subst, arith}
-use Rattle.std.specs.Prelude.{fold, All, Contains, Some, slice_get}
+use Rattle.std.proofs.Common.{◌≡◌, ℕ, zero, suc, ◌+◌, ◌*◌, ◌/◌, ◌<◌, ◌≤◌, true, max, List, [], ◌∷◌, length, get_or, sym, ap, ◌∙◌, subst, arith}
+use Rattle.std.specs.Prelude.{fold, Contains}
 use Rattle.std.proofs.Math.Nat.{le-mul_of_pos_right}
 use Rattle.std.proofs.lemmas.Option.{get_or_from_slice_get, slice_get_within}
 use Rattle.pw_base.specs.declared.ids.PortId.{PortId}
-use Rattle.pw_base.specs.declared.shape.Shape.{Shape}
 use Rattle.pw_base.specs.declared.shape.ShapeLink.{ShapeLink}
 use Rattle.pw_base.specs.declared.pools.PoolShape.{PoolShape}
-use Rattle.pw_base.specs.Pools.{is_port, links_from, channels_of, pool_of, pools_of, IsPooledShape}
+use Rattle.pw_base.specs.Pools.{is_port, links_from, channels_of, IsPooledShape}
 use Rattle.pw_base.proofs.PrecedenceLemmas.{holds_at}
 use Rattle.board_rule.specs.Layout.{Lay, IsSound, IsUndelayed}
 use Rattle.board_rule.proofs.PortLemmas.{port_same}
-use Rattle.board_rule.proofs.WiringLemmas.{PoolAt, Wired, wired, pool_source}
+use Rattle.board_rule.proofs.WiringLemmas.{PoolAt, wired, pool_source}
 
 most_from : (a : ℕ) (xs : List ShapeLink) → a ≤ fold (λ top l. max top l.channels) a xs
 most_from a [] = omega arith

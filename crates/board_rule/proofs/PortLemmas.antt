@@ -4,8 +4,7 @@ use Rattle.std.specs.Prelude.{fold, filter, All, Contains}
 use Rattle.std.specs.List.{enumerate_from}
 use mathlib.Core.Logic.{dite}
 use native.Mathlib.Decide.{ℕ_discrete, dec_le}
-use Rattle.std.proofs.lemmas.List.{get_or_default}
-use Rattle.std.proofs.lemmas.List.Elements.{All-head, All-tail, All-cons, All-filter, All-append, All-contains, All-contains_itself, Contains-append_left, Contains-append_right, filter_passes}
+use Rattle.std.proofs.lemmas.List.Elements.{All-head, All-tail, All-cons, All-filter, All-append, All-contains, Contains-append_left, Contains-append_right, filter_passes}
 use Rattle.pw_base.specs.declared.ids.PortId.{PortId}
 use Rattle.pw_base.specs.declared.shape.ShapeLink.{ShapeLink}
 use Rattle.pw_base.specs.Pools.{is_port, is_before, with_port, link_ids_from}

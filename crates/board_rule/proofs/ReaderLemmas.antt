@@ -1,16 +1,15 @@
 -- Each kind of step of a reader on the words of a pool keeps the buffer rule, and finds what the rule says.
-use Rattle.std.proofs.Common.{◌≡◌, ◌≢◌, ℕ, suc, ◌+◌, ◌-◌, ◌*◌, ◌<◌, ◌≤◌, ◌⊎◌, ⊎_elim, true, List, length, set, get_or, refl, sym, ap, ◌∙◌, subst, arith, get_or-set_other, get_or-set_same}
+use Rattle.std.proofs.Common.{◌≡◌, ℕ, ◌+◌, ◌<◌, ◌≤◌, ◌⊎◌, ⊎_elim, List, length, set, get_or, sym, ap, ◌∙◌, subst, arith, get_or-set_other, get_or-set_same}
 use Rattle.std.specs.Prelude.{Contains}
 use mathlib.Core.Logic.{dite}
 use native.Mathlib.Decide.{ℕ_discrete}
 use Rattle.pw_base.specs.declared.shape.ShapeLink.{ShapeLink}
 use Rattle.pw_base.specs.declared.pools.PoolShape.{PoolShape}
-use Rattle.pw_base.specs.Layout.{event_count, io_place, late_place, event_place, readers_place, sample_place, word_count}
-use Rattle.board_rule.specs.declared.view.WriteView.{WriteView}
+use Rattle.pw_base.specs.Layout.{io_place, readers_place, sample_place, word_count}
 use Rattle.board_rule.specs.declared.view.ReadView.{ReadView}
 use Rattle.board_rule.specs.declared.view.BlockView.{BlockView}
 use Rattle.board_rule.specs.declared.view.BlockView.TheVariants.{Out}
-use Rattle.board_rule.specs.Layout.{Lay, nodes, first}
+use Rattle.board_rule.specs.Layout.{Lay, first}
 use Rattle.board_rule.specs.StartViews.{Samples}
 use Rattle.board_rule.specs.View.{put}
 use Rattle.board_rule.specs.SampleWords.{packed, samples_of}
@@ -18,7 +17,7 @@ use Rattle.board_rule.specs.Areas.{Span}
 use Rattle.board_rule.specs.BufferRule.{Ends, is_busy, stamp, filled, Buffers}
 use Rattle.board_rule.proofs.SeatLemmas.{put_here, put_else}
 use Rattle.board_rule.proofs.WiringLemmas.{LinkAt, PoolAt, Wired}
-use Rattle.board_rule.proofs.PlainLemmas.{PlainLink, PlainBlock, Plain, awaited, awaited_of, to_plain, from_plain}
+use Rattle.board_rule.proofs.PlainLemmas.{PlainBlock, Plain, awaited, awaited_of, to_plain, from_plain}
 use Rattle.board_rule.proofs.PaceLemmas.{Paced}
 use Rattle.board_rule.proofs.AwaitedLemmas.{waits, waits_one, waits_none, awaited_of_same, awaited_change, awaited_has}
 use Rattle.board_rule.proofs.EndLemmas.{with_read, LinkIs, plain_read}

@@ -1,25 +1,21 @@
 -- What each step of a reader on buffers allows. `b` is true for the driver's seat.
-use Rattle.std.proofs.Common.{◌≡◌, ℕ, ◌+◌, ◌-◌, ◌%◌, ◌^◌, ◌<◌, ◌≤◌, inl, inr, Bool, List, length, set, get_or, refl, sym, ap, ◌∙◌, subst, arith, length-set}
-use Rattle.std.specs.Prelude.{Contains}
-use mathlib.Core.Option.{some}
-use lib.ListN.{get_elem?}
-use Rattle.atomic_table.specs.Table.{State, Me, keeps, stepped, Allows}
+use Rattle.std.proofs.Common.{◌≡◌, ℕ, ◌+◌, ◌-◌, ◌%◌, ◌^◌, ◌<◌, ◌≤◌, inl, inr, Bool, set, get_or, refl, sym, ap, ◌∙◌, subst, arith, length-set}
+use Rattle.atomic_table.specs.Table.{Me, keeps, stepped, Allows}
 use Rattle.pw_base.specs.declared.shape.ShapeLink.{ShapeLink}
 use Rattle.pw_base.specs.declared.pools.PoolShape.{PoolShape}
 use Rattle.pw_base.specs.Layout.{io_place, event_place, event_count, readers_place, sample_place}
 use Rattle.pw_base.specs.Words.{io_word_of, io_id_in}
 use Rattle.board_rule.specs.declared.view.ReadView.{ReadView}
 use Rattle.board_rule.specs.declared.view.View.{View}
-use Rattle.board_rule.specs.Layout.{Lay, first}
-use Rattle.board_rule.specs.View.{Whole, Samples, unread}
+use Rattle.board_rule.specs.Layout.{Lay}
+use Rattle.board_rule.specs.View.{unread}
 use Rattle.board_rule.specs.SampleWords.{IsTable, packed, samples_of}
 use Rattle.board_rule.specs.BufferRule.{Buffers, late_at}
 use Rattle.board_rule.specs.Spans.{spans}
 use Rattle.board_rule.specs.BoardRule.{Holds}
 use Rattle.board_rule.specs.EndViews.{link_at, pool_at, pool_of, reader_of, read_of}
-use Rattle.board_rule.specs.ReaderSteps.{read_cycle, LoadsAsReader, loaded_as_reader, IsPublished, IsReading, ReadsBlock, readers_lowered, samples_read, StoresNeed, need_stored}
+use Rattle.board_rule.specs.ReaderSteps.{read_cycle, LoadsAsReader, loaded_as_reader, IsPublished, ReadsBlock, readers_lowered, samples_read, StoresNeed, need_stored}
 use Rattle.board_rule.specs.Plays.{Turns, Learns}
-use Rattle.board_rule.proofs.WiringLemmas.{LinkAt, Wired}
 use Rattle.board_rule.proofs.PlainLemmas.{no_late}
 use Rattle.board_rule.proofs.PaceLemmas.{paces}
 use Rattle.board_rule.proofs.SpanLemmas.{wired_in}

@@ -1,5 +1,5 @@
 -- Buffer safety, from the rule between any two steps: no block has two writers, or a writer and a reader.
-use Rattle.std.proofs.Common.{◌≡◌, ℕ, ◌+◌, ◌<◌, true, refl, sym, ap, ◌∙◌}
+use Rattle.std.proofs.Common.{◌≡◌, ℕ, ◌+◌, ◌<◌, true, sym, ◌∙◌}
 use Rattle.std.specs.Prelude.{Contains, slice_index}
 use Rattle.atomic_table.specs.Table.{State}
 use Rattle.pw_base.specs.declared.shape.ShapeLink.{ShapeLink}
@@ -7,10 +7,8 @@ use Rattle.pw_base.specs.declared.pools.PoolShape.{PoolShape}
 use Rattle.pw_base.specs.Layout.{readers_place}
 use Rattle.board_rule.specs.declared.view.BlockView.{BlockView}
 use Rattle.board_rule.specs.declared.view.BlockView.TheVariants.{Free, Filling, Out}
-use Rattle.board_rule.specs.declared.view.ReadView.{ReadView}
 use Rattle.board_rule.specs.declared.view.View.{View}
 use Rattle.board_rule.specs.Layout.{Lay}
-use Rattle.board_rule.specs.Areas.{Span}
 use Rattle.board_rule.specs.Spans.{spans}
 use Rattle.board_rule.specs.BufferRule.{Ends, is_busy}
 use Rattle.board_rule.specs.BoardRule.{Holds}

@@ -1,5 +1,5 @@
 -- The buffer rule after a step of another part: what the phases say of the cycles that each node has begun and ended, and the words that are not its own.
-use Rattle.std.proofs.Common.{◌≡◌, ◌≢◌, ℕ, suc, ◌+◌, ◌*◌, ◌<◌, ◌≤◌, ⊎_elim, Bool, true, false, cond, eqb, List, set, get_or, refl, sym, ap, ◌∙◌, arith, eq-eqb, ne_eqb, get_or-set_other}
+use Rattle.std.proofs.Common.{◌≡◌, ◌≢◌, ℕ, ◌+◌, ◌<◌, ◌≤◌, ⊎_elim, Bool, true, false, cond, eqb, List, set, refl, sym, ap, ◌∙◌, arith, eq-eqb, ne_eqb, get_or-set_other}
 use mathlib.Core.Logic.{dite}
 use native.Mathlib.Decide.{ℕ_discrete}
 use Rattle.pw_base.specs.Layout.{late_place, event_place, event_count}
@@ -12,7 +12,6 @@ use Rattle.board_rule.specs.declared.view.LeadView.{LeadView}
 use Rattle.board_rule.specs.declared.view.View.{View}
 use Rattle.board_rule.specs.Layout.{Lay, nodes}
 use Rattle.board_rule.specs.View.{Whole, put, with_node, with_lead}
-use Rattle.board_rule.specs.SeatNodes.{driven}
 use Rattle.board_rule.specs.TellingSteps.{settled, kicked}
 use Rattle.board_rule.specs.Steps.{reset_to}
 use Rattle.board_rule.specs.BufferRule.{Buffers}

@@ -1,21 +1,15 @@
 -- Steps that touch no end of a link, no block and no word of the buffer rule keep it, also where a node begins to run.
-use Rattle.std.proofs.Common.{◌≡◌, ◌≢◌, ℕ, suc, ◌+◌, ◌-◌, ◌*◌, ◌<◌, ◌≤◌, ◌⊎◌, inl, inr, true, List, get_or, refl, sym, ap, ◌∙◌, subst, arith}
-use Rattle.std.specs.Prelude.{Contains}
-use mathlib.Core.Logic.{dite}
-use native.Mathlib.Decide.{ℕ_discrete}
-use Rattle.pw_base.specs.declared.ids.PortId.{PortId}
+use Rattle.std.proofs.Common.{◌≡◌, ℕ, ◌*◌, ◌<◌, ◌≤◌, ◌⊎◌, inl, inr, List, get_or, sym, ap, ◌∙◌, arith}
 use Rattle.pw_base.specs.declared.shape.ShapeLink.{ShapeLink}
 use Rattle.pw_base.specs.declared.pools.PoolShape.{PoolShape}
 use Rattle.pw_base.specs.Layout.{event_count, io_place, late_place, event_place, readers_place, sample_place}
-use Rattle.board_rule.specs.declared.view.BlockView.{BlockView}
-use Rattle.board_rule.specs.declared.view.BlockView.TheVariants.{Free, Filling, Out}
-use Rattle.board_rule.specs.Layout.{Lay, nodes, first}
+use Rattle.board_rule.specs.Layout.{Lay, nodes}
 use Rattle.board_rule.specs.StartViews.{Samples}
 use Rattle.board_rule.specs.SampleWords.{packed, samples_of}
 use Rattle.board_rule.specs.Areas.{Span}
-use Rattle.board_rule.specs.BufferRule.{Ends, is_busy, stamp, filled, Buffers}
+use Rattle.board_rule.specs.BufferRule.{Ends, stamp, Buffers}
 use Rattle.board_rule.proofs.WiringLemmas.{LinkAt, PoolAt, Wired, made}
-use Rattle.board_rule.proofs.PlainLemmas.{PlainLink, PlainBlock, Plain, to_plain, from_plain}
+use Rattle.board_rule.proofs.PlainLemmas.{Plain, to_plain, from_plain}
 
 module _ (p : Lay) where
   -- the words of the buffer rule: io areas, and the words of pools

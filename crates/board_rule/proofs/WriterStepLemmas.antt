@@ -1,15 +1,11 @@
 -- What each step of a writer on buffers allows.
-use Rattle.std.proofs.Common.{◌≡◌, ℕ, ◌+◌, ◌-◌, ◌*◌, ◌/◌, ◌^◌, ◌<◌, ◌≤◌, ◌⊎◌, inl, inr, ⊎_elim, true, false, cond, eqb, ltb, List, [], length, set, get_or, refl, sym, ap, ◌∙◌, subst, arith, eq-eqb, length-set}
-use Rattle.std.specs.Prelude.{Contains}
-use mathlib.Core.Option.{some}
-use lib.ListN.{get_elem?}
+use Rattle.std.proofs.Common.{◌≡◌, ℕ, ◌+◌, ◌-◌, ◌*◌, ◌/◌, ◌<◌, ◌≤◌, inl, inr, ⊎_elim, true, false, cond, ltb, List, [], length, set, get_or, refl, sym, ap, ◌∙◌, subst, arith, length-set}
 use lib.Seq.{set-get_or}
-use Rattle.atomic_table.specs.Table.{State, Me, keeps, stepped, Allows}
+use Rattle.atomic_table.specs.Table.{Me, keeps, Allows}
 use Rattle.pw_base.specs.declared.shape.ShapeLink.{ShapeLink}
 use Rattle.pw_base.specs.declared.pools.PoolShape.{PoolShape}
 use Rattle.pw_base.specs.Layout.{io_place, readers_place, sample_place, word_count}
-use Rattle.pw_base.specs.Pools.{pools_of}
-use Rattle.pw_base.specs.Words.{io_word_of, io_id_in, no_block}
+use Rattle.pw_base.specs.Words.{io_word_of, io_id_in}
 use Rattle.pw_base.proofs.LayoutLemmas.{length-start_words}
 use Rattle.board_rule.specs.declared.view.WriteView.{WriteView}
 use Rattle.board_rule.specs.declared.view.BlockView.{BlockView}
@@ -19,18 +15,15 @@ use Rattle.board_rule.specs.Layout.{Lay, first}
 use Rattle.board_rule.specs.View.{Whole, Samples, unwritten}
 use Rattle.board_rule.specs.SampleWords.{packed, samples_in, samples_of}
 use Rattle.board_rule.specs.Areas.{stored_id}
-use Rattle.board_rule.specs.BufferRule.{Buffers, late_at, lag, is_busy, stamp}
+use Rattle.board_rule.specs.BufferRule.{Buffers, lag, is_busy, stamp}
 use Rattle.board_rule.specs.Spans.{spans, holder, block_at}
 use Rattle.board_rule.specs.BoardRule.{Seated, Holds}
 use Rattle.board_rule.specs.EndViews.{link_at, pool_at, pool_of, writer_of, filler_of, write_of, block_of}
-use Rattle.board_rule.specs.SeatNodes.{cycle_of}
-use Rattle.board_rule.specs.WriterSteps.{write_cycle, fill_cycle, LoadsAsWriter, loaded_as_writer, IsGivenBack, HasBlock, LoadsReaders, readers_loaded, StoresSample, sample_stored, StoresReaders, readers_stored, StoresHave, have_stored}
+use Rattle.board_rule.specs.WriterSteps.{write_cycle, fill_cycle, LoadsAsWriter, loaded_as_writer, IsGivenBack, LoadsReaders, readers_loaded, StoresSample, sample_stored, StoresReaders, readers_stored, StoresHave, have_stored}
 use Rattle.board_rule.specs.Plays.{Turns, Learns}
 use Rattle.board_rule.proofs.LayoutLemmas.{count_is}
-use Rattle.board_rule.proofs.WiringLemmas.{LinkAt, PoolAt, Wired}
 use Rattle.board_rule.proofs.PlainLemmas.{no_late, one_lag}
 use Rattle.board_rule.proofs.PaceLemmas.{paces}
-use Rattle.board_rule.proofs.StayLemmas.{IsBufferWord}
 use Rattle.board_rule.proofs.SpanLemmas.{wired_in}
 use Rattle.board_rule.proofs.HolderLemmas.{got, link_there, pool_there, pool_here, now_running, new_write, new_block, write_step, block_step}
 use Rattle.board_rule.proofs.KeepLemmas.{holds_ends}

@@ -1,6 +1,6 @@
 -- The links and pools of a board by number, and what a seat's view has of their ends and blocks.
 -- Source: this project's own.
-use Rattle.std.specs.Prelude.{ℕ, false, List, [], slice_set as set, slice_index_or}
+use Rattle.std.specs.Prelude.{ℕ, false, [], slice_set as set, slice_index_or}
 use Rattle.std.specs.List.{position_or_len}
 use Rattle.pw_base.specs.declared.shape.Shape.{Shape}
 use Rattle.pw_base.specs.declared.shape.ShapeLink.{ShapeLink}

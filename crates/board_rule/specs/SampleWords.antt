@@ -1,7 +1,8 @@
 -- How samples stand in the words of a block: four in a word, the first in the lowest bits, as two's complement.
 -- Source: SPA_AUDIO_FORMAT_S16_LE; four samples a word are this project's own.
-use Rattle.std.specs.Prelude.{◌≡◌, ℕ, ℤ, pos, neg_ℤ, ◌≤ℤ◌, ◌+◌, ◌-◌, ◌*◌, ◌<◌, List, [], Some, All, length, cond, ltb, slice_get, slice_index_or}
+use Rattle.std.specs.Prelude.{◌≡◌, ℕ, ℤ, pos, neg_ℤ, ◌≤ℤ◌, ◌+◌, ◌-◌, ◌*◌, ◌<◌, List, [], Some, All, length, cond, ltb, map, replicate, slice_get, slice_index_or}
 use Rattle.std.specs.Int.{w16, cast_unsigned}
+use Rattle.pw_base.specs.declared.shape.Shape.{Shape}
 use Rattle.pw_base.specs.declared.pools.PoolShape.{PoolShape}
 use Rattle.pw_base.specs.Pools.{pools_of}
 use Rattle.board_rule.specs.Layout.{Lay, first}
@@ -14,6 +15,10 @@ bits_at xs j = cast_unsigned w16 (slice_index_or xs j (pos 0))
 -- the word i of a list of samples
 abbrev pub packed : List ℤ → ℕ → ℕ
 packed xs i = bits_at xs (4 * i) + 65536 * (bits_at xs (4 * i + 1) + 65536 * (bits_at xs (4 * i + 2) + 65536 * bits_at xs (4 * i + 3)))
+
+-- SILENCE: for each cycle and pool one quantum of zeros
+abbrev pub silence : Shape → Samples
+silence shape = replicate shape.cycles (map (λ x. replicate (shape.quantum * x.channels) (pos 0)) (pools_of shape))
 
 module _ (p : Lay) where
   -- what the pool q gives in a cycle

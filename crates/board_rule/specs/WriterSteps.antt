@@ -2,7 +2,7 @@
 -- Source: PipeWire's documentation, "SPA Buffers"; spa/node/io.h, spa_io_buffers; the words of pools are this project's own.
 use Rattle.std.specs.Prelude.{◌≡◌, ℕ, ◌+◌, ◌-◌, ◌<◌, ◌⊎◌, true, false, cond, eqb, length, Contains}
 use Rattle.pw_base.specs.Pools.{pools_of}
-use Rattle.pw_base.specs.Words.{io_word_of, no_block}
+use Rattle.pw_base.specs.Words.{no_block}
 use Rattle.board_rule.specs.declared.view.BlockView.TheVariants.{Free, Filling, Out}
 use Rattle.board_rule.specs.declared.view.View.{View}
 use Rattle.board_rule.specs.Layout.{Lay, first}

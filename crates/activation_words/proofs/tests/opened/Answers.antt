@@ -5,6 +5,8 @@ use Rattle.board_rule.specs.declared.plot.Plot.{Plot}
 use Rattle.board_rule.specs.Layout.{lay}
 use Rattle.board_rule.specs.Known.{Known}
 use Rattle.board_rule.specs.View.{Samples, loop_view}
+use Rattle.board_rule.specs.SampleWords.{silence}
+use Rattle.board_rule.proofs.SilenceLemmas.{silence_is_table}
 use Rattle.activation_words.specs.Members.{IsResting, IsBetween}
 use Rattle.activation_words.proofs.MemberLemmas.{new_rests, new_between}
 use Rattle.activation_words.proofs.tests.opened.Goals as goal
@@ -24,11 +26,12 @@ new-requires-clause-seats c = let e = c.in_ok-seat_of.ensures in let four : leng
 }
 
 pub returns-in-Some : goal.returns-in-Some
-returns-in-Some c = let b = c.in_ok-board.board in let p = lay b.plot in let e : Samples = [] in let d = c.in_ok-board.ensures.driver in let plot = c.in_ok-board.ensures.plot in
+returns-in-Some c = let b = c.in_ok-board.board in let p = lay b.plot in let e : Samples = silence c.args.shape.now in let d = c.in_ok-board.ensures.driver in let plot = c.in_ok-board.ensures.plot in
     let seat : ℕ → Known = λ k. record { table = b.table.shared.table_id; knows = loop_view p e k } in
     let s₁ : c.in-Some.one ≡ seat 0 = ap (λ o. unwrap_or o (seat 0)) (sym c.in-Some.ensures.0 ∙ c.in_ok-board.ensures.loops 0 (omega arith)) in
     let s₂ : c.in-Some.two ≡ seat 1 = ap (λ o. unwrap_or o (seat 1)) (sym c.in-Some.ensures.1 ∙ c.in_ok-board.ensures.loops 1 (omega arith)) in
     let count : p.seats ≡ 2 = ap (λ (q : Plot). q.seats) plot in (
+      ap (λ (q : Plot). q.shape) plot,
       ap (λ (k : Known). k.table) d,
       ap (λ (k : Known). k.table) s₁,
       ap (λ (k : Known). k.table) s₂,
@@ -39,3 +42,6 @@ returns-in-Some c = let b = c.in_ok-board.board in let p = lay b.plot in let e :
         (λ m h o own. subst (λ (v : View). IsResting p v m) (sym (ap (λ (k : Known). k.knows) s₂)) (new_rests p e 1 m h o own (omega arith))),
       ),
     )
+
+pub new-requires-clause-samples : goal.new-requires-clause-samples
+new-requires-clause-samples c = silence_is_table (lay record { shape = c.args.shape.now; seat_of = c.in_ok-seat_of.seat_of; seats = 2 })

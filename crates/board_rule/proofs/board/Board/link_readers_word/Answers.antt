@@ -1,4 +1,4 @@
-use Rattle.std.proofs.Common.{◌≡◌, ℕ, ◌+◌, ◌*◌, ◌^◌, ◌<◌, sym, subst, ◌∙◌, arith}
+use Rattle.std.proofs.Common.{ℕ, sym, subst, arith}
 use Rattle.pw_base.specs.Layout.{io_place}
 use Rattle.board_rule.specs.declared.rows.LinkRow.{LinkRow}
 use Rattle.board_rule.specs.EndViews.{link_in, pool_number}

@@ -1,4 +1,4 @@
-use Rattle.std.proofs.Common.{◌≡◌, ◌<◌, ◌∙◌, ap, sym, subst, length}
+use Rattle.std.proofs.Common.{◌<◌, sym, subst, length}
 use Rattle.pw_base.specs.Layout.{io_place}
 use Rattle.pw_base.specs.Pools.{pools_of}
 use Rattle.board_rule.specs.declared.rows.LinkRow.{LinkRow}

@@ -1,4 +1,4 @@
-use Rattle.std.proofs.Common.{true, ◌≡◌, ◌<◌}
+use Rattle.std.proofs.Common.{true}
 use Rattle.board_rule.specs.Layout.{lay}
 use Rattle.board_rule.specs.ReaderSteps.{loaded_as_reader, IsPublished}
 use Rattle.board_rule.proofs.driver_seat.DriverSeatBoardSeat.load_io_as_reader.Given as goal

@@ -1,4 +1,4 @@
-use Rattle.std.proofs.Common.{true, ◌≡◌, ◌<◌}
+use Rattle.std.proofs.Common.{true, ◌≡◌}
 use Rattle.board_rule.specs.SampleWords.{IsTable, packed}
 use Rattle.board_rule.specs.Layout.{lay}
 use Rattle.board_rule.specs.ReaderSteps.{samples_read}

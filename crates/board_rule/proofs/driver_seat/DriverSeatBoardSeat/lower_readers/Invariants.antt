@@ -1,4 +1,4 @@
-use Rattle.std.proofs.Common.{true, ◌≡◌, ◌<◌}
+use Rattle.std.proofs.Common.{true, ◌<◌}
 use Rattle.board_rule.specs.Layout.{lay}
 use Rattle.board_rule.specs.ReaderSteps.{readers_lowered}
 use Rattle.board_rule.proofs.driver_seat.DriverSeatBoardSeat.lower_readers.Given as goal

@@ -1,4 +1,4 @@
-use Rattle.std.proofs.Common.{true, ◌≡◌, ◌<◌}
+use Rattle.std.proofs.Common.{true, ◌≡◌}
 use Rattle.board_rule.specs.Layout.{lay}
 use Rattle.board_rule.specs.ReaderSteps.{need_stored}
 use Rattle.board_rule.proofs.driver_seat.DriverSeatBoardSeat.store_need_data.Given as goal

@@ -1,4 +1,4 @@
-use Rattle.std.proofs.Common.{◌≡◌, ◌<◌, ℕ}
+use Rattle.std.proofs.Common.{◌<◌, ℕ}
 use Rattle.board_rule.specs.Layout.{lay}
 use Rattle.board_rule.specs.BufferReads.{IsFilled}
 use Rattle.board_rule.proofs.loop_seat.LoopSeat.filled.Given as goal

@@ -1,8 +1,7 @@
-use Rattle.std.proofs.Common.{arith, ◌≡◌, ◌+◌, ℕ, Some, ◌∙◌, ap, sym, subst}
+use Rattle.std.proofs.Common.{arith, ◌≡◌, ◌+◌, Some, sym, subst}
 use Rattle.board_rule.specs.Layout.{lay}
 use Rattle.board_rule.specs.declared.view.View.{View}
 use Rattle.board_rule.specs.EndViews.{pool_at}
-use Rattle.board_rule.specs.BufferReads.{older}
 use Rattle.board_rule.proofs.OldestLemmas.{IsOldest, older_next, oldest_is}
 use Rattle.board_rule.proofs.loop_seat.LoopSeat.oldest_out.Goals as goal
 

@@ -1,4 +1,3 @@
-use Rattle.std.proofs.Common.{◌≡◌, ◌<◌, ◌≤◌, ℕ}
 use Rattle.board_rule.specs.Layout.{lay}
 use Rattle.board_rule.proofs.OldestLemmas.{IsOldest}
 use Rattle.board_rule.proofs.loop_seat.LoopSeat.oldest_out.Given as goal

@@ -1,4 +1,4 @@
-use Rattle.std.proofs.Common.{arith, ◌<◌, ◌^◌, ◌+◌}
+use Rattle.std.proofs.Common.{arith}
 use Rattle.board_rule.proofs.loop_seat.LoopSeat.store_sample.Goals as goal
 
 pub overflow_add-place : goal.overflow_add-place

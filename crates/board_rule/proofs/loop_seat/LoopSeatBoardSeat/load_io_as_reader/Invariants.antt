@@ -1,4 +1,4 @@
-use Rattle.std.proofs.Common.{false, ◌≡◌, ◌<◌}
+use Rattle.std.proofs.Common.{false}
 use Rattle.board_rule.specs.Layout.{lay}
 use Rattle.board_rule.specs.ReaderSteps.{loaded_as_reader, IsPublished}
 use Rattle.board_rule.proofs.loop_seat.LoopSeatBoardSeat.load_io_as_reader.Given as goal

@@ -1,4 +1,4 @@
-use Rattle.std.proofs.Common.{false, ◌≡◌, ◌<◌}
+use Rattle.std.proofs.Common.{false, ◌<◌}
 use Rattle.board_rule.specs.Layout.{lay}
 use Rattle.board_rule.specs.ReaderSteps.{readers_lowered}
 use Rattle.board_rule.proofs.loop_seat.LoopSeatBoardSeat.lower_readers.Given as goal

@@ -1,4 +1,4 @@
-use Rattle.std.proofs.Common.{false, ◌≡◌, ◌<◌}
+use Rattle.std.proofs.Common.{false, ◌≡◌}
 use Rattle.board_rule.specs.Layout.{lay}
 use Rattle.board_rule.specs.ReaderSteps.{need_stored}
 use Rattle.board_rule.proofs.loop_seat.LoopSeatBoardSeat.store_need_data.Given as goal

@@ -1,4 +1,4 @@
-use Rattle.std.proofs.Common.{ℕ, ◌≡◌, sym, ap, ◌∙◌, subst}
+use Rattle.std.proofs.Common.{ℕ, sym, ap, ◌∙◌, subst}
 use Rattle.pw_base.specs.Words.{io_word_of}
 use Rattle.atomic_table.specs.Table.{Allows}
 use Rattle.board_rule.specs.declared.plot.Plot.{Plot}

@@ -1,4 +1,4 @@
-use Rattle.std.proofs.Common.{ℕ, ◌≡◌, sym, ap, ◌∙◌, subst}
+use Rattle.std.proofs.Common.{ℕ, sym, subst}
 use Rattle.atomic_table.specs.Table.{Allows}
 use Rattle.board_rule.specs.declared.plot.Plot.{Plot}
 use Rattle.board_rule.specs.Layout.{lay}
