@@ -32,34 +32,35 @@ fn joined(first: u64, second: u64, third: u64, fourth: u64) -> u64
     first + 65536 * (second + 65536 * (third + 65536 * fourth))
 }
 
-/// The word of four samples from a place on.
-#[inline]
-pub(crate) fn pack(samples: &[i16], place: usize) -> u64
-    requires { 4 * place + 3 < length samples.now }
-    ensures { result ≡ packed samples.now place }
+// The word of the samples from `at` on, where fewer than four may be left: the rest is 0.
+fn pack_rest(samples: &[i16], at: usize) -> u64
+    requires { at < 2 ^ 35 }
+    ensures { result ≡ bits_at samples.now at + 65536 * (bits_at samples.now (at + 1) + 65536 * (bits_at samples.now (at + 2) + 65536 * bits_at samples.now (at + 3))) }
 {
-    let at = 4 * place;
     joined(
-        bits(samples[at]),
-        bits(samples[at + 1]),
-        bits(samples[at + 2]),
-        bits(samples[at + 3]),
+        bits_or_zero(samples, at),
+        bits_or_zero(samples, at + 1),
+        bits_or_zero(samples, at + 2),
+        bits_or_zero(samples, at + 3),
     )
 }
 
-/// The same where fewer are left: the rest is 0.
+/// A word of a list: its four samples, or those that are left.
 #[inline]
-pub(crate) fn pack_rest(samples: &[i16], place: usize) -> u64
-    requires { 4 * place < length samples.now }
+pub(crate) fn pack(samples: &[i16], place: u32) -> u64
     ensures { result ≡ packed samples.now place }
 {
-    let at = 4 * place;
-    joined(
-        bits_or_zero(samples, at),
-        bits_or_zero(samples, at.saturating_add(1)),
-        bits_or_zero(samples, at.saturating_add(2)),
-        bits_or_zero(samples, at.saturating_add(3)),
-    )
+    let at = 4 * place as usize;
+    if at + 3 < samples.len() {
+        joined(
+            bits(samples[at]),
+            bits(samples[at + 1]),
+            bits(samples[at + 2]),
+            bits(samples[at + 3]),
+        )
+    } else {
+        pack_rest(samples, at)
+    }
 }
 
 // The sample of a number below 2 ^ 16.

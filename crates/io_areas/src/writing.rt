@@ -3,10 +3,9 @@ ghost use Rattle.std.specs.Prelude.{◌≡◌, ℕ, ◌<◌, IfSome, length};
 ghost use Rattle.board_rule.specs.Layout.{lay};
 ghost use Rattle.board_rule.specs.EndViews.{link_at, pool_at, pool_of};
 ghost use Rattle.board_rule.specs.WriterSteps.{LoadsAsWriter, loaded_as_writer};
-ghost use Rattle.io_areas.specs.Quanta.{quantum_of};
 ghost use Rattle.io_areas.specs.Writing.{number_given, Reclaims, HasReclaimed, Fills, filling, Announces, HasAnnounced, Publishes, HasPublished};
 
-use crate::sample_words::{pack, pack_rest};
+use crate::sample_words::pack;
 use board_rule::{Board, BoardSeat, LoopSeat};
 use pw_base::io_id_of;
 
@@ -59,24 +58,18 @@ pub fn reclaim(board: &Board, seat: &mut LoopSeat, pool: u32) -> Option<u32>
     Some(id)
 }
 
-/// Fills a free block with one quantum of samples, frames interleaved: one store a word of four samples, in their order.
+/// Fills a free block with the samples that the pool gives in this cycle, one quantum, frames interleaved: one store a word
+/// of four samples, in their order.
 #[inline]
 pub fn fill(board: &Board, seat: &mut LoopSeat, pool: u32, id: u32, samples: &[i16])
     requires table { seat.old.table ≡ board.now.table.shared.table_id }
     requires phase { Fills (lay board.now.plot) seat.old.knows pool id samples.now }
-    requires long { let p = lay board.now.plot in length samples.now ≡ quantum_of p pool }
     ensures table { seat.new.table ≡ seat.old.table }
     ensures knows { let p = lay board.now.plot in seat.new.knows ≡ filling p seat.old.knows pool id (pool_at p pool).words }
 {
-    let words = board.block_words(pool);
-    let whole = (samples.len() / 4) as u32;
-    for place in 0..whole {
-        let word = pack(samples, place as usize);
+    for place in 0..board.block_words(pool) {
+        let word = pack(samples, place);
         seat.store_sample(board, pool, id, place, word);
-    }
-    if whole < words {
-        let word = pack_rest(samples, whole as usize);
-        seat.store_sample(board, pool, id, whole, word);
     }
 }
 
