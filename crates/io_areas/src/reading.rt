@@ -7,7 +7,7 @@ ghost use Rattle.board_rule.specs.ReaderSteps.{LoadsAsReader};
 ghost use Rattle.io_areas.specs.Quanta.{quantum_of};
 ghost use Rattle.io_areas.specs.Reading.{taken, IsHolding, heard, GivesBack, given_back};
 
-use crate::sample_words::{spread, spread_rest};
+use crate::sample_words::spread;
 use board_rule::{Board, BoardSeat};
 use pw_base::io_id_of;
 
@@ -48,15 +48,9 @@ pub fn read<S: BoardSeat>(board: &Board, seat: &mut S, link: u32, to: &mut [i16]
     ensures samples { to.new ≡ heard S.leads (lay board.now.plot) (S.knows seat.old) link }
 {
     let id = seat.loaded(board, link);
-    let words = words_of(board, link);
-    let whole = (to.len() / 4) as u32;
-    for place in 0..whole {
+    for place in 0..words_of(board, link) {
         let word = seat.load_sample(board, link, id, place);
-        spread(word, place as usize, to);
-    }
-    if whole < words {
-        let word = seat.load_sample(board, link, id, whole);
-        spread_rest(word, whole as usize, to);
+        spread(word, place, to);
     }
 }
 

@@ -93,30 +93,31 @@ fn put(to: &mut [i16], at: usize, sample: i16)
     }
 }
 
-/// Writes the four samples of a word from its place on.
-#[inline]
-pub(crate) fn spread(word: u64, place: usize, to: &mut [i16])
-    requires { 4 * place + 3 < length to.old }
-    ensures { to.new ≡ spread to.old (4 * place) word }
+// Writes the four samples of a word from `at` on, as far as there are places.
+fn put_rest(to: &mut [i16], at: usize, word: u64)
+    requires { at < 2 ^ 35 }
+    ensures { to.new ≡ spread to.old at word }
 {
-    let at = 4 * place;
-    let [first, second, third, fourth] = unpack(word);
-    to[at] = first;
-    to[at + 1] = second;
-    to[at + 2] = third;
-    to[at + 3] = fourth;
-}
-
-/// The same where fewer places are left.
-#[inline]
-pub(crate) fn spread_rest(word: u64, place: usize, to: &mut [i16])
-    requires { 4 * place < length to.old }
-    ensures { to.new ≡ spread to.old (4 * place) word }
-{
-    let at = 4 * place;
     let [first, second, third, fourth] = unpack(word);
     put(to, at, first);
-    put(to, at.saturating_add(1), second);
-    put(to, at.saturating_add(2), third);
-    put(to, at.saturating_add(3), fourth);
+    put(to, at + 1, second);
+    put(to, at + 2, third);
+    put(to, at + 3, fourth);
+}
+
+/// Writes the four samples of a word of a list to their places, as far as these are there.
+#[inline]
+pub(crate) fn spread(word: u64, place: u32, to: &mut [i16])
+    ensures { to.new ≡ spread to.old (4 * place) word }
+{
+    let at = 4 * place as usize;
+    if at + 3 < to.len() {
+        let [first, second, third, fourth] = unpack(word);
+        to[at] = first;
+        to[at + 1] = second;
+        to[at + 2] = third;
+        to[at + 3] = fourth;
+    } else {
+        put_rest(to, at, word);
+    }
 }

@@ -1,9 +1,8 @@
-use Rattle.std.proofs.Common.{◌≡◌, ◌+◌, ◌*◌, ◌/◌, ℕ, length, sym, ap, ◌∙◌, subst, arith}
+use Rattle.std.proofs.Common.{◌≡◌, ◌+◌, ◌*◌, length, sym, ap, ◌∙◌, subst, arith}
 use Rattle.board_rule.specs.declared.view.View.{View}
 use Rattle.board_rule.specs.Layout.{lay}
 use Rattle.board_rule.specs.SampleWords.{packed, IsTable}
 use Rattle.board_rule.specs.ReaderSteps.{samples_read}
-use Rattle.io_areas.specs.Unpacking.{spread}
 use Rattle.io_areas.proofs.SampleLemmas.{IsReadTo, length-spread, spread_more}
 use Rattle.io_areas.proofs.HeardLemmas.{all_short, heard_whole}
 use Rattle.io_areas.proofs.reading.read.Goals as goal
@@ -20,15 +19,7 @@ loop-place-preserved g c = let b = g.S.BoardSeat.leads in let p = lay c.args.boa
       fits = λ _. table;
     }
 
-pub returns-then-whole-words-clause-samples : goal.returns-then-whole-words-clause-samples
-returns-then-whole-words-clause-samples g c = let b = g.S.BoardSeat.leads in let p = lay c.args.board.now.plot in let v : View = g.S.BoardSeat.knows c.args.seat.now in let l = c.args.link in let i = c.loop-place.invariant in let e = c.load_sample-word-then-whole-words.ensures in let k = length c.args.to.now / 4 in
-    let n = c.load_sample-word-then-whole-words.result in let word : n ≡ packed (samples_read b p v l) k = e.word ∙ ap (λ (x : View). packed (samples_read b p x l) k) i.knows in
-    let table : IsTable p v.expect = subst (λ (x : View). IsTable p x.expect) i.knows e.samples in let short = all_short b p v l table in
-    let long = length-spread (samples_read b p v l) short c.loop-place.to (4 * k) n in let is = i.long in let w = c.words_of-words.ensures in let at : c.loop-place.place ≡ k = omega arith in
-    let all = spread_more (samples_read b p v l) short c.loop-place.to k n word (subst (λ (m : ℕ). IsReadTo (samples_read b p v l) (4 * m) c.loop-place.to) at i.so_far) in
-    c.spread_rest.ensures ∙ heard_whole b p v l table c.requires.phase w.inside (spread c.loop-place.to (4 * k) n) (long ∙ is ∙ c.requires.long) (λ j lt near. all j (omega arith) near)
-
-pub returns-else-whole-words-clause-samples : goal.returns-else-whole-words-clause-samples
-returns-else-whole-words-clause-samples g c = let b = g.S.BoardSeat.leads in let p = lay c.args.board.now.plot in let v : View = g.S.BoardSeat.knows c.args.seat.now in let l = c.args.link in let i = c.loop-place.invariant in
-    let is = i.long in let w = c.words_of-words.ensures in let t = c.if-whole-words.false in let all = i.so_far in let q = c.requires.long in let some = w.some in let end = c.loop-place-test.false in
+pub returns-clause-samples : goal.returns-clause-samples
+returns-clause-samples g c = let b = g.S.BoardSeat.leads in let p = lay c.args.board.now.plot in let v : View = g.S.BoardSeat.knows c.args.seat.now in let l = c.args.link in let i = c.loop-place.invariant in
+    let is = i.long in let w = c.words_of-place-end.ensures in let all = i.so_far in let q = c.requires.long in let some = w.some in let end = c.loop-place-test.false in
     heard_whole b p v l (i.fits (omega arith)) c.requires.phase w.inside c.loop-place.to (is ∙ q) (λ j lt near. all j (omega arith) near)
