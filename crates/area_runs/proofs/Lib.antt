@@ -1,0 +1,5 @@
+pub mod FanLemmas
+pub mod TurnLemmas
+pub mod HearLemmas
+pub mod RunLemmas
+pub mod OpenLemmas

@@ -1,0 +1,4 @@
+pub mod Fan
+pub mod Turns
+pub mod Hearing
+pub mod Rests

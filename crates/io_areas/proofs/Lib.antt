@@ -1,0 +1,5 @@
+pub mod PoolLemmas
+pub mod FillLemmas
+pub mod EndLemmas
+pub mod SampleLemmas
+pub mod HeardLemmas

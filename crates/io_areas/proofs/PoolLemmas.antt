@@ -1,0 +1,38 @@
+-- What the calls use of a pool: its words by its quantum, and that the block a seat is asked for is one alone.
+use Rattle.std.proofs.Common.{◌≡◌, ℕ, ◌+◌, ◌-◌, ◌*◌, ◌/◌, ◌<◌, ◌≤◌, ⊎_elim, length, get_or, sym, ap, ◌∙◌, subst, arith}
+use Rattle.std.proofs.Math.Nat.{le_antisymm}
+use Rattle.std.proofs.lemmas.Bool.{cases_lt}
+use Rattle.std.proofs.lemmas.List.{get_or-map, length-map}
+use Rattle.pw_base.specs.declared.ids.PortId.{PortId}
+use Rattle.pw_base.specs.declared.pools.PoolShape.{PoolShape}
+use Rattle.pw_base.specs.Pools.{sources_of, pool_of, pools_of}
+use Rattle.board_rule.specs.declared.view.View.{View}
+use Rattle.board_rule.specs.Layout.{Lay}
+use Rattle.board_rule.specs.BufferRule.{lag}
+use Rattle.board_rule.specs.EndViews.{no_pool, pool_at}
+use Rattle.board_rule.specs.WriterSteps.{HasBlock, fill_cycle}
+use Rattle.board_rule.specs.BufferReads.{IsFirstFilled, IsOldestOut}
+use Rattle.io_areas.specs.Quanta.{quantum_of}
+use Rattle.io_areas.specs.Writing.{IsAtPool, IsDue}
+
+module _ (p : Lay) where
+  -- a word has four samples
+  pub words_of_quantum : (q : ℕ) → q < length (pools_of p.shape) → (pool_at p q).words ≡ (quantum_of p q + 3) / 4
+  words_of_quantum q h = let port : PortId = get_or (sources_of p.shape) q no_pool.port in let inside : q < length (sources_of p.shape) = subst (λ n. q < n) (length-map (sources_of p.shape) (pool_of p.shape)) h in
+      let is : pool_at p q ≡ pool_of p.shape port = get_or-map (pool_of p.shape) (sources_of p.shape) q no_pool.port no_pool inside in
+      ap (λ (x : PoolShape). x.words) is ∙ ap (λ (x : PoolShape). (p.shape.quantum * x.channels + 3) / 4) (sym is)
+
+  module _ (v : View) (q : ℕ) where
+    -- the seat has each block of its pool
+    pub has_block : (b : ℕ) → IsAtPool p v q → b < (pool_at p q).blocks → HasBlock p v q b
+    has_block b h inside = let room = h.0.2 in (h.0.0, inside, omega arith, h.0.1, h.1)
+
+    pub one_first : (a b : ℕ) → IsFirstFilled p v q a → IsFirstFilled p v q b → a ≡ b
+    one_first a b f g = le_antisymm (least a b f g) (least b a g f)
+      where
+        least : (a b : ℕ) → IsFirstFilled p v q a → IsFirstFilled p v q b → a ≤ b
+        least a b f g = ⊎_elim (λ l. absurd (f.before b l g.is)) (λ le. le) (cases_lt b a)
+
+    -- what has been out longest is due where something due has
+    pub oldest_due : (a n b : ℕ) → IsOldestOut p v q a n → IsDue p v q b → IsDue p v q a
+    oldest_due a n b f g = let e : n ≡ fill_cycle p v q + 1 - lag p (pool_at p q) = le_antisymm (f.oldest b _ g.inside g.is) (g.oldest a n f.inside f.is) in subst (λ k. IsOldestOut p v q a k) e f

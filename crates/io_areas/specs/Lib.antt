@@ -1,0 +1,4 @@
+pub mod Unpacking
+pub mod Quanta
+pub mod Writing
+pub mod Reading

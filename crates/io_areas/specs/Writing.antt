@@ -1,0 +1,66 @@
+-- The calls of a node that writes: what each asks of the view of its seat, its answer, and the view after it. Links, pools and blocks are given by number.
+-- Source: PipeWire's documentation, "SPA Buffers"; spa/node/io.h, spa_io_buffers; the words of pools are this project's own.
+use Rattle.std.specs.Prelude.{◌≡◌, ℕ, ℤ, zero, suc, ◌+◌, ◌-◌, ◌<◌, true, false, cond, eqb, List, Option, Some, None}
+use Rattle.board_rule.specs.declared.view.BlockView.TheVariants.{Free, Filling, Out}
+use Rattle.board_rule.specs.declared.view.View.{View}
+use Rattle.board_rule.specs.Layout.{Lay, first}
+use Rattle.board_rule.specs.SampleWords.{samples_in}
+use Rattle.board_rule.specs.Areas.{stored_id}
+use Rattle.board_rule.specs.BufferRule.{late_at, lag, is_busy, stamp}
+use Rattle.board_rule.specs.EndViews.{write_of, pool_at, filler_of, pool_of, block_of, view_block}
+use Rattle.board_rule.specs.WorkSteps.{IsRunning}
+use Rattle.board_rule.specs.WriterSteps.{write_cycle, fill_cycle, IsWriter, IsWriting, HasBlock, readers_stored, have_stored}
+use Rattle.board_rule.specs.BufferReads.{HasPool, IsFirstFilled, IsOldestOut}
+
+module _ (p : Lay) where
+  -- LOADING FOR WRITING answers the number that the reader gave back: none exactly in the first cycle
+  abbrev pub number_given : View → ℕ → Option ℕ
+  number_given v l = cond (eqb (write_cycle p v l) (first p)) None (Some (stored_id (write_of v l) (late_at p l)))
+
+  -- the node that fills the pool is one of the seat, and works
+  abbrev pub IsAtPool : View → ℕ → Type 0
+  IsAtPool v q = HasPool p v q × IsRunning false v (filler_of p q)
+
+  -- the block that is due in this cycle: of those that are out it was announced first, one cycle ago, or two where a link of the pool is delayed
+  abbrev pub IsDue : View → ℕ → ℕ → Type 0
+  IsDue v q b = IsOldestOut p v q b (fill_cycle p v q + 1 - lag p (pool_at p q))
+
+  -- RECLAIMING: all links of the pool are loaded in this cycle. In each cycle but the first a block is due, and it becomes free
+  abbrev pub Reclaims : View → ℕ → Type 0
+  Reclaims v q = IsAtPool v q × IsWriting p v q × (first p < fill_cycle p v q → (b : ℕ) × IsDue v q b)
+
+  abbrev pub HasReclaimed : View → ℕ → Option ℕ → View → Type 0
+  HasReclaimed v q None w = (fill_cycle p v q ≡ first p) × (w ≡ v)
+  HasReclaimed v q (Some b) w = (first p < fill_cycle p v q) × IsDue v q b × (w ≡ view_block p v q b Free)
+
+  -- FILLING: the block is free, no block of the pool is due or filled in this cycle, and the samples are those that the pool gives in it
+  abbrev pub IsUnfilled : View → ℕ → ℕ → Type 0
+  IsUnfilled v q c = (a : ℕ) → a < (pool_at p q).blocks → is_busy (block_of p v q a) ≡ true → (stamp c (block_of p v q a) < c + 1) × (c + 1 < stamp c (block_of p v q a) + lag p (pool_at p q))
+
+  abbrev pub Fills : View → ℕ → ℕ → List ℤ → Type 0
+  Fills v q b samples = HasBlock p v q b × IsWriting p v q × (block_of p v q b ≡ Free) × IsUnfilled v q (fill_cycle p v q) × (samples ≡ samples_in p v.expect (fill_cycle p v q) q)
+
+  -- the first k words of the block have their samples
+  abbrev pub filling : View → ℕ → ℕ → ℕ → View
+  filling v q b zero = v
+  filling v q b (suc k) = view_block p v q b (Filling (suc k))
+
+  -- ANNOUNCING: the block that was filled in this cycle is out, with all readers of the pool to come
+  abbrev pub IsFull : View → ℕ → ℕ → Type 0
+  IsFull v q b = IsFirstFilled p v q b × (block_of p v q b ≡ Filling (pool_at p q).words)
+
+  abbrev pub Announces : View → ℕ → Type 0
+  Announces v q = IsAtPool v q × ((b : ℕ) × IsFull v q b)
+
+  abbrev pub HasAnnounced : View → ℕ → View → Type 0
+  HasAnnounced v q w = (b : ℕ) × IsFull v q b × (w ≡ readers_stored p v q b)
+
+  -- PUBLISHING: the block of the link's pool that was announced in this cycle has its number stored in the link's area
+  abbrev pub IsNew : View → ℕ → ℕ → Type 0
+  IsNew v l b = IsFirstFilled p v (pool_of p l) b × (block_of p v (pool_of p l) b ≡ Out (write_cycle p v l + 1))
+
+  abbrev pub Publishes : View → ℕ → Type 0
+  Publishes v l = IsWriter p v l × HasPool p v (pool_of p l) × ((write_of v l).loaded ≡ write_cycle p v l + 1) × ((write_of v l).stored ≡ write_cycle p v l) × ((b : ℕ) × IsNew v l b)
+
+  abbrev pub HasPublished : View → ℕ → View → Type 0
+  HasPublished v l w = (b : ℕ) × IsNew v l b × (w ≡ have_stored p v l b)

@@ -1,0 +1,68 @@
+//! The calls of a node that reads.
+ghost use Rattle.std.specs.Prelude.{◌≡◌, ℕ, ◌+◌, ◌/◌, ◌<◌, length};
+ghost use Rattle.pw_base.specs.Pools.{pools_of};
+ghost use Rattle.board_rule.specs.Layout.{lay};
+ghost use Rattle.board_rule.specs.EndViews.{pool_at, pool_of};
+ghost use Rattle.board_rule.specs.ReaderSteps.{LoadsAsReader};
+ghost use Rattle.io_areas.specs.Quanta.{quantum_of};
+ghost use Rattle.io_areas.specs.Reading.{taken, IsHolding, heard, GivesBack, given_back};
+
+use crate::sample_words::spread;
+use board_rule::{Board, BoardSeat};
+use pw_base::io_id_of;
+
+/// The link's reader takes its turn in this cycle, which it has not yet done: one load of the io area. Answers the number of
+/// the block that is published there for this cycle.
+#[inline]
+pub fn take<S: BoardSeat>(board: &Board, seat: &mut S, link: u32) -> u32
+    requires table { S.table seat.old ≡ board.now.table.shared.table_id }
+    requires phase { LoadsAsReader S.leads (lay board.now.plot) (S.knows seat.old) link }
+    ensures table { S.table seat.new ≡ S.table seat.old }
+    ensures knows { S.knows seat.new ≡ taken S.leads (lay board.now.plot) (S.knows seat.old) link result }
+    ensures inside { let p = lay board.now.plot in result < (pool_at p (pool_of p link)).blocks }
+{
+    io_id_of(seat.load_io_as_reader(board, link))
+}
+
+// How many words a block of the link's pool has: four samples a word.
+fn words_of(board: &Board, link: u32) -> u32
+    requires { link < length board.now.plot.shape.links }
+    ensures is { let p = lay board.now.plot in result ≡ (pool_at p (pool_of p link)).words }
+    ensures quantum { let p = lay board.now.plot in result ≡ (quantum_of p (pool_of p link) + 3) / 4 }
+    ensures some { 0 < result }
+    ensures inside { let p = lay board.now.plot in pool_of p link < length (pools_of p.shape) }
+{
+    let pool = board.link_pool(link);
+    board.block_words(pool)
+}
+
+/// Reads the block that is taken: `to`, which is one quantum of the link's pool long, becomes its samples, frames interleaved.
+/// One load a word of four samples, in their order.
+#[inline]
+pub fn read<S: BoardSeat>(board: &Board, seat: &mut S, link: u32, to: &mut [i16])
+    requires table { S.table seat.old ≡ board.now.table.shared.table_id }
+    requires phase { IsHolding S.leads (lay board.now.plot) (S.knows seat.old) link }
+    requires long { let p = lay board.now.plot in length to.old ≡ quantum_of p (pool_of p link) }
+    ensures table { S.table seat.new ≡ S.table seat.old }
+    ensures knows { S.knows seat.new ≡ S.knows seat.old }
+    ensures samples { to.new ≡ heard S.leads (lay board.now.plot) (S.knows seat.old) link }
+{
+    let id = seat.loaded(board, link);
+    for place in 0..words_of(board, link) {
+        let word = seat.load_sample(board, link, id, place);
+        spread(word, place, to);
+    }
+}
+
+/// Gives the block back: the readers word is taken down by one, and then NEED_DATA is stored with the block's number.
+#[inline]
+pub fn give_back<S: BoardSeat>(board: &Board, seat: &mut S, link: u32)
+    requires table { S.table seat.old ≡ board.now.table.shared.table_id }
+    requires phase { GivesBack S.leads (lay board.now.plot) (S.knows seat.old) link }
+    ensures table { S.table seat.new ≡ S.table seat.old }
+    ensures knows { S.knows seat.new ≡ given_back S.leads (lay board.now.plot) (S.knows seat.old) link }
+{
+    let id = seat.loaded(board, link);
+    seat.lower_readers(board, link, id);
+    seat.store_need_data(board, link, id);
+}
