@@ -1,6 +1,6 @@
 -- The seats of the writer, of a reader and of the driver, which reads too, between two cycles.
 -- Source: this project's own.
-use Rattle.std.specs.Prelude.{◌≡◌, ℕ, ℤ, pos, neg_ℤ, ◌≤ℤ◌, ◌+◌, ◌<◌, ◌≤◌, List, [], ◌∷◌, length, replicate}
+use Rattle.std.specs.Prelude.{◌≡◌, ℕ, ℤ, pos, neg_ℤ, ◌≤ℤ◌, ◌+◌, ◌<◌, ◌≤◌, Bool, true, false, List, [], ◌∷◌, length, replicate}
 use Rattle.board_rule.specs.declared.view.View.{View}
 use Rattle.board_rule.specs.Layout.{Lay, last}
 use Rattle.board_rule.specs.View.{Samples, node_of}
@@ -38,3 +38,8 @@ DriverRests p v = IsBetween p v × IsEven v 2 v.lead.cycle
 
 abbrev pub DriverWaits : Lay → View → Type 0
 DriverWaits p v = IsWaiting p v × IsEven v 2 v.lead.cycle
+
+-- the driver waits for its node, or is between two cycles
+abbrev pub IsDriving : Lay → View → Bool → Type 0
+IsDriving p v true = DriverWaits p v
+IsDriving p v false = DriverRests p v

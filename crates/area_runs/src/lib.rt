@@ -5,6 +5,8 @@ mod hearing;
 mod opening;
 mod reader_run;
 mod shape;
+#[cfg(test)]
+mod tests;
 mod writer_run;
 mod writing;
 
