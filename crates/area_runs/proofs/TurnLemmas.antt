@@ -164,7 +164,7 @@ module _ (p : Lay) (fan : IsFan p) (c : ℕ) where
         same m n e = let z : m ≡ n = cc in omega arith
 
     pub reclaims : AreLoaded v.writes 3 c → Stock p v c a b free → Reclaims p v 0
-    reclaims loaded s = (at_pool v work, is_writing v work loaded, λ h. (b, due (let f = fill_at v work in let z = fan.first_is in (λ e. absurd (omega arith))) s))
+    reclaims loaded s = (at_pool v work, (λ l d. (is_writing v work loaded l d).0), λ h. (b, due (let f = fill_at v work in let z = fan.first_is in (λ e. absurd (omega arith))) s))
 
     -- the block that is due is the other one, but in the first cycle
     one_due : (k : ℕ) → Stock p v c a b free → IsDue p v 0 k → k ≡ b

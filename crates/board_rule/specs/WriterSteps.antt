@@ -36,7 +36,10 @@ module _ (p : Lay) where
   abbrev pub IsGivenBack : View → ℕ → ℕ → Type 0
   IsGivenBack v l id = (id ≡ stored_id (write_of v l) (late_at p l)) × (write_cycle v l ≡ first p → id ≡ no_block) × (first p < write_cycle v l → id < (pool_at p (pool_of p l)).blocks)
 
-  -- the writer's turn on all links of a pool
+  -- all links of a pool are loaded in this cycle, and it is the writer's turn on all of them
+  abbrev pub IsLoaded : View → ℕ → Type 0
+  IsLoaded v q = (l : ℕ) → Contains (pool_at p q).links l → (write_of v l).loaded ≡ fill_cycle v q + 1
+
   abbrev pub IsWriting : View → ℕ → Type 0
   IsWriting v q = (l : ℕ) → Contains (pool_at p q).links l → ((write_of v l).loaded ≡ fill_cycle v q + 1) × ((write_of v l).stored ≡ fill_cycle v q)
 
@@ -46,7 +49,7 @@ module _ (p : Lay) where
 
   -- LOADING THE READERS of the block that was announced so many cycles before; found 0, it is free
   abbrev pub LoadsReaders : View → ℕ → ℕ → Type 0
-  LoadsReaders v q b = HasBlock v q b × IsWriting v q × (block_of p v q b ≡ Out (fill_cycle v q + 1 - lag p (pool_at p q)))
+  LoadsReaders v q b = HasBlock v q b × IsLoaded v q × (block_of p v q b ≡ Out (fill_cycle v q + 1 - lag p (pool_at p q)))
 
   abbrev pub readers_loaded : View → ℕ → ℕ → ℕ → View
   readers_loaded v q b found = cond (eqb found 0) (view_block p v q b Free) v

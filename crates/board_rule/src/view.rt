@@ -94,7 +94,7 @@ pub struct ReadView {
 pub enum BlockView {
     Free,
     /// So many of its words are filled.
-    Filling { words: u32 },
+    Filling { words: u64 },
     /// It was announced in the cycle before this one.
     Out { stamp: u64 },
 }

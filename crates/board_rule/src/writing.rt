@@ -92,7 +92,9 @@ impl LoopSeat {
     {
         let at = board.block(pool as usize, id);
         writing::store_sample::<Brand>(board, &mut self.token, pool as usize, id, place, word);
-        self.blocks[at] = BlockView::Filling { words: place + 1 };
+        self.blocks[at] = BlockView::Filling {
+            words: u64::from(place) + 1,
+        };
     }
 
     /// Stores the number of the pool's links in the readers word of a block that is filled whole: it is announced.
@@ -159,7 +161,7 @@ fn is_filled(block: BlockView, words: u32, stamp: u64) -> bool
 {
     match block {
         BlockView::Free => false,
-        BlockView::Filling { words: filled } => filled == words,
+        BlockView::Filling { words: filled } => filled == u64::from(words),
         BlockView::Out { stamp: announced } => announced == stamp,
     }
 }

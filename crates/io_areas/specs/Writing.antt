@@ -9,7 +9,7 @@ use Rattle.board_rule.specs.Areas.{stored_id}
 use Rattle.board_rule.specs.BufferRule.{late_at, lag, is_busy, stamp}
 use Rattle.board_rule.specs.EndViews.{write_of, pool_at, filler_of, pool_of, block_of, view_block}
 use Rattle.board_rule.specs.WorkSteps.{IsRunning}
-use Rattle.board_rule.specs.WriterSteps.{write_cycle, fill_cycle, IsWriter, IsWriting, HasBlock, readers_stored, have_stored}
+use Rattle.board_rule.specs.WriterSteps.{write_cycle, fill_cycle, IsWriter, IsLoaded, IsWriting, HasBlock, readers_stored, have_stored}
 use Rattle.board_rule.specs.BufferReads.{HasPool, IsFirstFilled, IsOldestOut}
 
 module _ (p : Lay) where
@@ -27,7 +27,7 @@ module _ (p : Lay) where
 
   -- RECLAIMING: all links of the pool are loaded in this cycle. In each cycle but the first a block is due, and it becomes free
   abbrev pub Reclaims : View → ℕ → Type 0
-  Reclaims v q = IsAtPool v q × IsWriting p v q × (first p < fill_cycle p v q → (b : ℕ) × IsDue v q b)
+  Reclaims v q = IsAtPool v q × IsLoaded p v q × (first p < fill_cycle p v q → (b : ℕ) × IsDue v q b)
 
   abbrev pub HasReclaimed : View → ℕ → Option ℕ → View → Type 0
   HasReclaimed v q None w = (fill_cycle p v q ≡ first p) × (w ≡ v)
