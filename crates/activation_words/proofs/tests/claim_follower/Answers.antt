@@ -1,10 +1,6 @@
 use Rattle.std.proofs.Common.{rules, ◌≡◌, ◌≢◌, ◌∙◌, ℕ, ◌<◌, List, [], ◌∷◌, get_or, sym, ap, subst}
-use mathlib.Core.Logic.{dite}
-use native.Mathlib.Decide.{ℕ_discrete}
-use Rattle.board_rule.specs.declared.view.View.{View}
 use Rattle.pw_base.specs.declared.shape.Shape.{Shape}
 use Rattle.board_rule.specs.Layout.{lay, nodes, place_in}
-use Rattle.activation_words.specs.Members.{IsResting}
 use Rattle.activation_words.proofs.tests.claim_follower.Goals as goal
 
 pub look-requires-clause-rests : goal.look-requires-clause-rests
