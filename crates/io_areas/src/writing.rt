@@ -4,7 +4,7 @@ ghost use Rattle.board_rule.specs.Layout.{lay};
 ghost use Rattle.board_rule.specs.EndViews.{link_at, pool_at, pool_of};
 ghost use Rattle.board_rule.specs.WriterSteps.{LoadsAsWriter, loaded_as_writer};
 ghost use Rattle.io_areas.specs.Quanta.{quantum_of};
-ghost use Rattle.io_areas.specs.Writing.{number_given, Reclaims, HasReclaimed, Fills, filling, Announces, HasAnnounced, Publishes, HasPublished};
+ghost use Rattle.io_areas.specs.Writing.{number_given, Reclaims, HasReclaimed, Fills, filled_whole, Announces, HasAnnounced, Publishes, HasPublished};
 
 use crate::sample_words::{pack, pack_rest};
 use board_rule::{Board, BoardSeat, LoopSeat};
@@ -66,7 +66,7 @@ pub fn fill(board: &Board, seat: &mut LoopSeat, pool: u32, id: u32, samples: &[i
     requires phase { Fills (lay board.now.plot) seat.old.knows pool id samples.now }
     requires long { let p = lay board.now.plot in length samples.now ≡ quantum_of p pool }
     ensures table { seat.new.table ≡ seat.old.table }
-    ensures knows { let p = lay board.now.plot in seat.new.knows ≡ filling p seat.old.knows pool id (pool_at p pool).words }
+    ensures knows { seat.new.knows ≡ filled_whole (lay board.now.plot) seat.old.knows pool id }
 {
     let words = board.block_words(pool);
     let whole = (samples.len() / 4) as u32;
