@@ -2,8 +2,8 @@ use Rattle.std.proofs.Common.{ℕ, sym, ap, ◌∙◌, subst, arith}
 use Rattle.board_rule.specs.declared.view.View.{View}
 use Rattle.board_rule.specs.Layout.{lay}
 use Rattle.board_rule.specs.WriterSteps.{StoresSample, sample_stored}
-use Rattle.io_areas.specs.Writing.{filling}
-use Rattle.io_areas.proofs.FillLemmas.{can_store, stored_more}
+use Rattle.board_rule.specs.EndViews.{pool_at}
+use Rattle.io_areas.proofs.FillLemmas.{filling, filling_some, can_store, stored_more}
 use Rattle.io_areas.proofs.writing.fill.Goals as goal
 
 pub store_sample-requires-clause-phase : goal.store_sample-requires-clause-phase
@@ -16,5 +16,5 @@ loop-place-preserved c = let p = lay c.args.board.now.plot in let v : View = c.a
     (e.table ∙ c.loop-place.invariant.0, e.knows ∙ ap (λ (x : View). sample_stored p x q id k) c.loop-place.invariant.1 ∙ stored_more p v q id c.args.samples.now c.requires.phase k)
 
 pub returns-clause-knows : goal.returns-clause-knows
-returns-clause-knows c = let p = lay c.args.board.now.plot in let v : View = c.args.seat.now.knows in let w = c.block_words-place-end.ensures.is in
-    c.loop-place.invariant.1 ∙ ap (filling p v c.args.pool c.args.id) (omega arith)
+returns-clause-knows c = let p = lay c.args.board.now.plot in let v : View = c.args.seat.now.knows in let w = c.block_words-place-end.ensures.is in let some = c.block_words-place-end.ensures.some in
+    c.loop-place.invariant.1 ∙ ap (filling p v c.args.pool c.args.id) (omega arith) ∙ filling_some p v c.args.pool c.args.id (pool_at p c.args.pool).words (omega arith)
