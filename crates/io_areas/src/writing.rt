@@ -70,13 +70,14 @@ pub fn fill(board: &Board, seat: &mut LoopSeat, pool: u32, id: u32, samples: &[i
 {
     let words = board.block_words(pool);
     let whole = (samples.len() / 4) as u32;
+    let first = board.first_sample(pool, id);
     for place in 0..whole {
         let word = pack(samples, place as usize);
-        seat.store_sample(board, pool, id, place, word);
+        seat.store_sample_at(board, pool, id, place, first, word);
     }
     if whole < words {
         let word = pack_rest(samples, whole as usize);
-        seat.store_sample(board, pool, id, whole, word);
+        seat.store_sample_at(board, pool, id, whole, first, word);
     }
 }
 
