@@ -67,9 +67,10 @@ pub fn fill(board: &Board, seat: &mut LoopSeat, pool: u32, id: u32, samples: &[i
     ensures table { seat.new.table ≡ seat.old.table }
     ensures knows { seat.new.knows ≡ filled_whole (lay board.now.plot) seat.old.knows pool id }
 {
+    let first = board.first_sample(pool, id);
     for place in 0..board.block_words(pool) {
         let word = pack(samples, place);
-        seat.store_sample(board, pool, id, place, word);
+        seat.store_sample_at(board, pool, id, place, first, word);
     }
 }
 
