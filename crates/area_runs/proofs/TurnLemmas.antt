@@ -1,5 +1,5 @@
 -- From step to step of a writer's turn.
-use Rattle.std.proofs.Common.{◌≡◌, ◌≢◌, ℕ, ℤ, zero, suc, ◌+◌, ◌<◌, ◌≤◌, ⊎_elim, ◌⊎◌, inl, inr, true, false, true≢false, ◌-◌, cond, ltb, List, [], ◌∷◌, length, get_or, set, refl, sym, ap, ◌∙◌, subst, arith, eq-eqb, ne_eqb, length-set, get_or-set_same, get_or-set_other}
+use Rattle.std.proofs.Common.{◌≡◌, ◌≢◌, ℕ, ℤ, ◌+◌, ◌<◌, ◌≤◌, ⊎_elim, ◌⊎◌, inl, inr, true, false, true≢false, ◌-◌, cond, ltb, List, [], ◌∷◌, length, get_or, set, refl, sym, ap, ◌∙◌, subst, arith, eq-eqb, ne_eqb, length-set, get_or-set_same, get_or-set_other}
 use mathlib.Core.Logic.{dite}
 use native.Mathlib.Decide.{ℕ_discrete}
 use Rattle.std.specs.Prelude.{Contains, sum_by, take, Some, None}
@@ -19,7 +19,7 @@ use Rattle.board_rule.specs.EndViews.{pool_at, block_of, view_block}
 use Rattle.board_rule.specs.SeatNodes.{HasNode, cycle_of}
 use Rattle.board_rule.specs.WorkSteps.{IsRunning}
 use Rattle.board_rule.specs.WriterSteps.{LoadsAsWriter, loaded_as_writer, IsWriting, write_cycle, fill_cycle}
-use Rattle.io_areas.specs.Writing.{IsAtPool, IsDue, Reclaims, HasReclaimed, Fills, filling, Announces, IsFull, HasAnnounced, Publishes, HasPublished}
+use Rattle.io_areas.specs.Writing.{IsAtPool, IsDue, Reclaims, HasReclaimed, Fills, Announces, IsFull, HasAnnounced, Publishes, HasPublished}
 use Rattle.io_areas.proofs.PoolLemmas.{has_block, one_first}
 use Rattle.area_runs.specs.Fan.{IsFan}
 use Rattle.area_runs.proofs.FanLemmas.{of_three}
@@ -196,13 +196,6 @@ module _ (p : Lay) (fan : IsFan p) (c : ℕ) where
       where
         none_busy : (k : ℕ) → k < 2 → is_busy (block_of p v 0 k) ≡ true → ⊥
         none_busy k l busy = true≢false (sym busy ∙ ap is_busy (⊎_elim (λ q. ap (λ j. block_of p v 0 j) q ∙ s.next) (λ q. ap (λ j. block_of p v 0 j) q ∙ s.other) (either a b k s.low s.high s.apart l)))
-
-    some_words : (k : ℕ) → 0 < k → filling p v 0 a k ≡ view_block p v 0 a (Filling k)
-    some_words zero h = absurd (omega arith)
-    some_words (suc k) h = refl
-
-    pub filled_whole : filling p v 0 a (pool_at p 0).words ≡ view_block p v 0 a (Filling (pool_at p 0).words)
-    filled_whole = some_words (pool_at p 0).words fan.some
 
   -- the block a is filled or out of this cycle, and the other free: a is the one
   pub first_filled : (v : View) (a b : ℕ) → a < 2 → b < 2 → a ≢ b → block_of p v 0 b ≡ Free → IsFilled p v 0 a → IsFirstFilled p v 0 a

@@ -29,6 +29,18 @@ fn is_at(board: &Board, area: u64, readers: u64, samples: u64) -> bool
     word(board, 9) == area && word(board, 36) == readers && word(board, 37) == samples
 }
 
+// The pending and the status words of the four nodes.
+fn nodes_are(board: &Board, pending: [u64; 4], status: [u64; 4]) -> bool
+    requires shape { board.now.plot.shape ≡ fan 4 1 2 }
+{
+    for node in 0..4usize {
+        if word(board, 1 + node) != pending[node] || word(board, 5 + node) != status[node] {
+            return false;
+        }
+    }
+    true
+}
+
 // Begins a cycle, and node 0 does its work in it. None where it could not.
 fn begin_and_write(
     board: &Board,
@@ -76,6 +88,29 @@ fn finds(board: &Board, seat: &mut LoopSeat, link: u32, samples: &[i16]) -> Opti
     } else {
         Some(None)
     }
+}
+
+#[test]
+fn nodes_with_links_take_each_other_down(rt: HostRuntime) -> Result<(), Fail> {
+    let Some((board, mut seats)) = opened(rt.alloc(), 4, 1, 2, &SAMPLES)? else {
+        panic!(rt; "the shape is not sound")
+    };
+    let mut free = Pool::new(rt.alloc(), 2)?;
+    let mut to = [0i16; 4];
+    if !begin_next(&board, &mut seats.driver) {
+        panic!(rt; "no cycle began");
+    }
+    assert!(rt; nodes_are(&board, [0, 1, 1, 3], [1, 0, 0, 0]));
+    assert!(rt; finds(&board, &mut seats.one, 0, &SAMPLES) == Some(None));
+    assert!(rt; run_writer(&board, &mut seats.writer, &mut free, &SAMPLES).is_some());
+    assert!(rt; nodes_are(&board, [0, 0, 0, 2], [3, 1, 1, 0]));
+    assert!(rt; finds(&board, &mut seats.one, 0, &SAMPLES) == Some(Some(true)));
+    assert!(rt; nodes_are(&board, [0, 0, 0, 1], [3, 3, 1, 0]));
+    assert!(rt; finds(&board, &mut seats.two, 1, &SAMPLES) == Some(Some(true)));
+    assert!(rt; nodes_are(&board, [0, 0, 0, 0], [3, 3, 3, 1]));
+    assert!(rt; run_driver(&board, &mut seats.driver, &mut to));
+    assert!(rt; nodes_are(&board, [0, 0, 0, 0], [3, 3, 3, 3]));
+    Ok(())
 }
 
 #[test]

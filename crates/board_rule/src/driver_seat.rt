@@ -138,7 +138,21 @@ impl BoardSeat for DriverSeat {
 
     #[inline]
     fn load_sample(&mut self, board: &Board, link: u32, id: u32, place: u32) -> u64 {
-        reading::load_sample::<Brand>(board, &mut self.token, link, id, place)
+        let word = board.link_sample_word(link, id, place);
+        reading::load_sample::<Brand>(board, &mut self.token, link, id, place, word)
+    }
+
+    #[inline]
+    fn load_sample_at(
+        &mut self,
+        board: &Board,
+        link: u32,
+        id: u32,
+        place: u32,
+        first: usize,
+    ) -> u64 {
+        let word = board.link_sample_word_at(link, id, place, first);
+        reading::load_sample::<Brand>(board, &mut self.token, link, id, place, word)
     }
 
     #[inline]

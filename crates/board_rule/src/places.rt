@@ -49,6 +49,18 @@ impl Board {
 }
 
 impl Board {
+    /// Where the first sample word of a block of a pool stands: the others follow. Takes no memory.
+    #[inline]
+    pub fn first_sample(&self, pool: u32, id: u32) -> usize
+        requires inside { pool < length (pools_of self.now.plot.shape) }
+        requires block { id < (pool_at (lay self.now.plot) pool).blocks }
+        ensures { result ≡ sample_place self.now.plot.shape pool id 0 }
+    {
+        self.readers_word(pool as usize, id) + 1
+    }
+}
+
+impl Board {
     /// The places of a link's writer and of its reader.
     pub(crate) fn writer(&self, link: u32) -> usize
         requires { link < length self.now.plot.shape.links }
@@ -136,6 +148,29 @@ impl Board {
         ensures there { result < self.now.table.shared.table_id.words }
     {
         self.readers_word(pool, id) + 1 + place as usize
+    }
+
+    /// The same, where the first sample word of the block stands at a place that is known.
+    pub(crate) fn sample_word_at(&self, pool: usize, id: u32, place: u32, first: usize) -> usize
+        requires inside { pool < length (pools_of self.now.plot.shape) }
+        requires block { id < (pool_at (lay self.now.plot) pool).blocks }
+        requires place { place < (pool_at (lay self.now.plot) pool).words }
+        requires first { first ≡ sample_place self.now.plot.shape pool id 0 }
+        ensures is { result ≡ sample_place self.now.plot.shape pool id place }
+        ensures there { result < self.now.table.shared.table_id.words }
+    {
+        first + place as usize
+    }
+
+    pub(crate) fn link_sample_word_at(&self, link: u32, id: u32, place: u32, first: usize) -> usize
+        requires inside { link < length self.now.plot.shape.links }
+        requires block { let p = lay self.now.plot in id < (pool_at p (pool_of p link)).blocks }
+        requires place { let p = lay self.now.plot in place < (pool_at p (pool_of p link)).words }
+        requires first { first ≡ sample_place self.now.plot.shape (pool_of (lay self.now.plot) link) id 0 }
+        ensures is { result ≡ sample_place self.now.plot.shape (pool_of (lay self.now.plot) link) id place }
+        ensures there { result < self.now.table.shared.table_id.words }
+    {
+        first + place as usize
     }
 
     /// The same words of a block of the pool that a link reads.

@@ -1,7 +1,7 @@
 //! What both kinds of seat do.
 ghost use Rattle.std.specs.Prelude.{◌≡◌, ℕ, Bool, ◌+◌, ◌<◌};
 ghost use Rattle.atomic_table.specs.Seated.{TableId};
-ghost use Rattle.pw_base.specs.Layout.{event_count};
+ghost use Rattle.pw_base.specs.Layout.{event_count, sample_place};
 ghost use Rattle.board_rule.specs.declared.view.View.{View};
 ghost use Rattle.board_rule.specs.Layout.{lay, first};
 ghost use Rattle.board_rule.specs.Bits.{woke_of};
@@ -96,6 +96,17 @@ pub trait BoardSeat {
         requires table { table self.old ≡ board.now.table.shared.table_id }
         requires phase { ReadsBlock leads (lay board.now.plot) (knows self.old) link id }
         requires place { let p = lay board.now.plot in place < (pool_at p (pool_of p link)).words }
+        ensures table { table self.new ≡ table self.old }
+        ensures knows { knows self.new ≡ knows self.old }
+        ensures word { result ≡ packed (samples_read leads (lay board.now.plot) (knows self.old) link) place }
+        ensures samples { IsTable (lay board.now.plot) (knows self.old).expect };
+
+    /// The same, where it is known at which place the first sample word of the block stands (`Board::first_sample`).
+    fn load_sample_at(&mut self, board: &Board, link: u32, id: u32, place: u32, first: usize) -> u64
+        requires table { table self.old ≡ board.now.table.shared.table_id }
+        requires phase { ReadsBlock leads (lay board.now.plot) (knows self.old) link id }
+        requires place { let p = lay board.now.plot in place < (pool_at p (pool_of p link)).words }
+        requires first { first ≡ sample_place board.now.plot.shape (pool_of (lay board.now.plot) link) id 0 }
         ensures table { table self.new ≡ table self.old }
         ensures knows { knows self.new ≡ knows self.old }
         ensures word { result ≡ packed (samples_read leads (lay board.now.plot) (knows self.old) link) place }

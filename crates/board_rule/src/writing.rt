@@ -2,6 +2,7 @@
 //! takes no memory, does not wait and does not fail. Links, pools and blocks are given by number.
 ghost use Rattle.std.specs.Prelude.{◌≡◌, ℕ, ◌<◌, length};
 ghost use Rattle.pw_base.specs.Words.{io_word_of, io_id_in};
+ghost use Rattle.pw_base.specs.Layout.{sample_place};
 ghost use Rattle.board_rule.specs.Layout.{lay};
 ghost use Rattle.board_rule.specs.declared.view.BlockView.TheVariants.{Out};
 ghost use Rattle.board_rule.specs.EndViews.{write_of, pool_at, block_of};
@@ -91,7 +92,33 @@ impl LoopSeat {
         ensures knows { self.new.knows ≡ sample_stored (lay board.now.plot) self.old.knows pool id place }
     {
         let at = board.block(pool as usize, id);
-        writing::store_sample::<Brand>(board, &mut self.token, pool as usize, id, place, word);
+        let to = board.sample_word(pool as usize, id, place);
+        writing::store_sample::<Brand>(board, &mut self.token, pool as usize, id, place, to, word);
+        self.blocks[at] = BlockView::Filling {
+            words: u64::from(place) + 1,
+        };
+    }
+
+    /// The same, where it is known at which place the first sample word of the block stands (`Board::first_sample`).
+    #[inline]
+    pub fn store_sample_at(
+        &mut self,
+        board: &Board,
+        pool: u32,
+        id: u32,
+        place: u32,
+        first: usize,
+        word: u64,
+    )
+        requires table { self.old.table ≡ board.now.table.shared.table_id }
+        requires phase { StoresSample (lay board.now.plot) self.old.knows pool id place word }
+        requires first { first ≡ sample_place board.now.plot.shape pool id 0 }
+        ensures table { self.new.table ≡ self.old.table }
+        ensures knows { self.new.knows ≡ sample_stored (lay board.now.plot) self.old.knows pool id place }
+    {
+        let at = board.block(pool as usize, id);
+        let to = board.sample_word_at(pool as usize, id, place, first);
+        writing::store_sample::<Brand>(board, &mut self.token, pool as usize, id, place, to, word);
         self.blocks[at] = BlockView::Filling {
             words: u64::from(place) + 1,
         };

@@ -9,7 +9,16 @@ use Rattle.board_rule.specs.Spans.{block_at}
 use Rattle.board_rule.specs.EndViews.{pool_at, filler_of, view_block}
 use Rattle.board_rule.specs.SeatNodes.{HasNode}
 use Rattle.board_rule.specs.WriterSteps.{StoresSample, sample_stored}
-use Rattle.io_areas.specs.Writing.{Fills, filling}
+use Rattle.io_areas.specs.Writing.{Fills}
+
+-- the first k words of the block have their samples
+abbrev pub filling : Lay → View → ℕ → ℕ → ℕ → View
+filling p v q b zero = v
+filling p v q b (suc k) = view_block p v q b (Filling (suc k))
+
+pub filling_some : (p : Lay) (v : View) (q b k : ℕ) → 0 < k → filling p v q b k ≡ view_block p v q b (Filling k)
+filling_some p v q b zero h = absurd (omega arith)
+filling_some p v q b (suc k) h = refl
 
 module _ (p : Lay) (v : View) (q b : ℕ) (xs : List ℤ) (h : Fills p v q b xs) where
   place : ℕ

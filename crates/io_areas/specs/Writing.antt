@@ -1,6 +1,6 @@
 -- The calls of a node that writes: what each asks of the view of its seat, its answer, and the view after it. Links, pools and blocks are given by number.
 -- Source: PipeWire's documentation, "SPA Buffers"; spa/node/io.h, spa_io_buffers; the words of pools are this project's own.
-use Rattle.std.specs.Prelude.{◌≡◌, ℕ, ℤ, zero, suc, ◌+◌, ◌-◌, ◌<◌, true, false, cond, eqb, List, Option, Some, None}
+use Rattle.std.specs.Prelude.{◌≡◌, ℕ, ℤ, ◌+◌, ◌-◌, ◌<◌, true, false, cond, eqb, List, Option, Some, None}
 use Rattle.board_rule.specs.declared.view.BlockView.TheVariants.{Free, Filling, Out}
 use Rattle.board_rule.specs.declared.view.View.{View}
 use Rattle.board_rule.specs.Layout.{Lay, first}
@@ -40,10 +40,9 @@ module _ (p : Lay) where
   abbrev pub Fills : View → ℕ → ℕ → List ℤ → Type 0
   Fills v q b samples = HasBlock p v q b × IsWriting p v q × (block_of p v q b ≡ Free) × IsUnfilled v q (fill_cycle p v q) × (samples ≡ samples_in p v.expect (fill_cycle p v q) q)
 
-  -- the first k words of the block have their samples
-  abbrev pub filling : View → ℕ → ℕ → ℕ → View
-  filling v q b zero = v
-  filling v q b (suc k) = view_block p v q b (Filling (suc k))
+  -- all words of the block have their samples
+  abbrev pub filled_whole : View → ℕ → ℕ → View
+  filled_whole v q b = view_block p v q b (Filling (pool_at p q).words)
 
   -- ANNOUNCING: the block that was filled in this cycle is out, with all readers of the pool to come
   abbrev pub IsFull : View → ℕ → ℕ → Type 0

@@ -1,6 +1,7 @@
 //! The calls of a node that reads.
 ghost use Rattle.std.specs.Prelude.{◌≡◌, ℕ, ◌+◌, ◌/◌, ◌<◌, length};
 ghost use Rattle.pw_base.specs.Pools.{pools_of};
+ghost use Rattle.pw_base.specs.Layout.{sample_place};
 ghost use Rattle.board_rule.specs.Layout.{lay};
 ghost use Rattle.board_rule.specs.EndViews.{pool_at, pool_of};
 ghost use Rattle.board_rule.specs.ReaderSteps.{LoadsAsReader};
@@ -36,6 +37,16 @@ fn words_of(board: &Board, link: u32) -> u32
     board.block_words(pool)
 }
 
+// Where the first sample word of a block of the link's pool stands.
+fn first_of(board: &Board, link: u32, id: u32) -> usize
+    requires inside { link < length board.now.plot.shape.links }
+    requires block { let p = lay board.now.plot in id < (pool_at p (pool_of p link)).blocks }
+    ensures { let p = lay board.now.plot in result ≡ sample_place p.shape (pool_of p link) id 0 }
+{
+    let pool = board.link_pool(link);
+    board.first_sample(pool, id)
+}
+
 /// Reads the block that is taken: `to`, which is one quantum of the link's pool long, becomes its samples, frames interleaved.
 /// One load a word of four samples, in their order.
 #[inline]
@@ -48,8 +59,9 @@ pub fn read<S: BoardSeat>(board: &Board, seat: &mut S, link: u32, to: &mut [i16]
     ensures samples { to.new ≡ heard S.leads (lay board.now.plot) (S.knows seat.old) link }
 {
     let id = seat.loaded(board, link);
+    let first = first_of(board, link, id);
     for place in 0..words_of(board, link) {
-        let word = seat.load_sample(board, link, id, place);
+        let word = seat.load_sample_at(board, link, id, place, first);
         spread(word, place, to);
     }
 }

@@ -3,7 +3,7 @@ ghost use Rattle.std.specs.Prelude.{◌≡◌, ℕ, ◌<◌, IfSome, length};
 ghost use Rattle.board_rule.specs.Layout.{lay};
 ghost use Rattle.board_rule.specs.EndViews.{link_at, pool_at, pool_of};
 ghost use Rattle.board_rule.specs.WriterSteps.{LoadsAsWriter, loaded_as_writer};
-ghost use Rattle.io_areas.specs.Writing.{number_given, Reclaims, HasReclaimed, Fills, filling, Announces, HasAnnounced, Publishes, HasPublished};
+ghost use Rattle.io_areas.specs.Writing.{number_given, Reclaims, HasReclaimed, Fills, filled_whole, Announces, HasAnnounced, Publishes, HasPublished};
 
 use crate::sample_words::pack;
 use board_rule::{Board, BoardSeat, LoopSeat};
@@ -65,11 +65,12 @@ pub fn fill(board: &Board, seat: &mut LoopSeat, pool: u32, id: u32, samples: &[i
     requires table { seat.old.table ≡ board.now.table.shared.table_id }
     requires phase { Fills (lay board.now.plot) seat.old.knows pool id samples.now }
     ensures table { seat.new.table ≡ seat.old.table }
-    ensures knows { let p = lay board.now.plot in seat.new.knows ≡ filling p seat.old.knows pool id (pool_at p pool).words }
+    ensures knows { seat.new.knows ≡ filled_whole (lay board.now.plot) seat.old.knows pool id }
 {
+    let first = board.first_sample(pool, id);
     for place in 0..board.block_words(pool) {
         let word = pack(samples, place);
-        seat.store_sample(board, pool, id, place, word);
+        seat.store_sample_at(board, pool, id, place, first, word);
     }
 }
 

@@ -3,6 +3,7 @@
 ghost use Rattle.std.specs.Prelude.{◌≡◌, ℕ, ◌<◌, length};
 ghost use Rattle.pw_base.specs.Pools.{pools_of};
 ghost use Rattle.pw_base.specs.Words.{io_word_of};
+ghost use Rattle.pw_base.specs.Layout.{sample_place};
 ghost use Rattle.board_rule.specs.Layout.{lay};
 ghost use Rattle.board_rule.specs.SampleWords.{IsTable, packed};
 ghost use Rattle.board_rule.specs.EndViews.{pool_at, pool_of};
@@ -37,19 +38,21 @@ pub(crate) fn load_sample<C: Change>(
     link: u32,
     id: u32,
     place: u32,
+    word: usize,
 ) -> u64
     requires table { token.old.table_id ≡ board.now.table.shared.table_id }
     requires phase { ReadsBlock C.leads (lay board.now.plot) token.old.me.0 link id }
     requires inside { link < length board.now.plot.shape.links }
     requires block { id < (pool_at (lay board.now.plot) (pool_of (lay board.now.plot) link)).blocks }
     requires place { place < (pool_at (lay board.now.plot) (pool_of (lay board.now.plot) link)).words }
+    requires word { word ≡ sample_place board.now.plot.shape (pool_of (lay board.now.plot) link) id place }
+    requires there { word < board.now.table.shared.table_id.words }
     requires after { (found : ℕ) → C.after found ≡ token.old.me.0 }
     requires says { (found : ℕ) → found ≡ packed (samples_read C.leads (lay board.now.plot) token.old.me.0 link) place → IsTable (lay board.now.plot) token.old.me.0.expect → C.says found }
     ensures same { (token.new.table_id ≡ token.old.table_id) × (token.new.id ≡ token.old.id) × (token.new.me.1 ≡ token.old.me.1) }
     ensures after { token.new.me.0 ≡ C.after result }
     ensures says { C.says result }
 {
-    let word = board.link_sample_word(link, id, place);
     board.table.shared.load::<Learned<C>>(token, word)
 }
 

@@ -3,6 +3,7 @@
 ghost use Rattle.std.specs.Prelude.{◌≡◌, ℕ, ◌<◌, length};
 ghost use Rattle.pw_base.specs.Pools.{pools_of};
 ghost use Rattle.pw_base.specs.Words.{io_word_of, io_id_in};
+ghost use Rattle.pw_base.specs.Layout.{sample_place};
 ghost use Rattle.board_rule.specs.Layout.{lay};
 ghost use Rattle.board_rule.specs.EndViews.{pool_at};
 ghost use Rattle.board_rule.specs.WriterSteps.{LoadsAsWriter, loaded_as_writer, IsGivenBack, LoadsReaders, readers_loaded, StoresSample, sample_stored, StoresReaders, readers_stored, StoresHave, have_stored};
@@ -73,6 +74,7 @@ pub(crate) fn store_sample<C: Change>(
     pool: usize,
     id: u32,
     place: u32,
+    word: usize,
     new: u64,
 )
     requires table { token.old.table_id ≡ board.now.table.shared.table_id }
@@ -80,11 +82,12 @@ pub(crate) fn store_sample<C: Change>(
     requires inside { pool < length (pools_of board.now.plot.shape) }
     requires block { id < (pool_at (lay board.now.plot) pool).blocks }
     requires place { place < (pool_at (lay board.now.plot) pool).words }
+    requires word { word ≡ sample_place board.now.plot.shape pool id place }
+    requires there { word < board.now.table.shared.table_id.words }
     requires after { (found : ℕ) → C.after found ≡ sample_stored (lay board.now.plot) token.old.me.0 pool id place }
     ensures same { (token.new.table_id ≡ token.old.table_id) × (token.new.id ≡ token.old.id) × (token.new.me.1 ≡ token.old.me.1) }
     ensures after { token.new.me.0 ≡ C.after new }
 {
-    let word = board.sample_word(pool, id, place);
     board.table.shared.store::<Becomes<C>>(token, word, new);
 }
 

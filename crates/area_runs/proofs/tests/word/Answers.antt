@@ -1,4 +1,4 @@
-use Rattle.std.proofs.Common.{◌≡◌, ◌<◌, ℕ, refl, sym, subst}
+use Rattle.std.proofs.Common.{◌≡◌, ◌<◌, refl, sym, subst}
 use Rattle.pw_base.specs.declared.shape.Shape.{Shape}
 use Rattle.board_rule.specs.Places.{word_count}
 use Rattle.area_runs.specs.Fan.{fan}

@@ -1,6 +1,6 @@
 use Rattle.std.proofs.Common.{◌≡◌}
 use Rattle.board_rule.specs.Layout.{lay}
-use Rattle.io_areas.specs.Writing.{filling}
+use Rattle.io_areas.proofs.FillLemmas.{filling}
 use Rattle.io_areas.proofs.writing.fill.Given as goal
 
 abbrev pub invariant-loop-place : goal.invariant-loop-place
