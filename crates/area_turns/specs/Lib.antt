@@ -1,0 +1,5 @@
+pub mod Plain
+pub mod Ends
+pub mod Hearing
+pub mod Stock
+pub mod Writing
