@@ -1,1 +1,7 @@
 pub mod HearingLemmas
+pub mod FrameLemmas
+pub mod EndsLemmas
+pub mod BlockLemmas
+pub mod LinkLemmas
+pub mod StockLemmas
+pub mod TurnLemmas

@@ -3,3 +3,5 @@ pub mod Ends
 pub mod Hearing
 pub mod Stock
 pub mod Writing
+pub mod Turns
+pub mod Answers

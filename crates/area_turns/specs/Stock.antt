@@ -1,6 +1,6 @@
 -- The blocks of a pool between two turns of its node, and the list of the free ones. c is the cycle that the node is in.
 -- Source: PipeWire's documentation, "SPA Buffers"; one pool an output port is this project's own.
-use Rattle.std.specs.Prelude.{◌≡◌, ◌≢◌, ℕ, ◌+◌, ◌<◌, Contains, length}
+use Rattle.std.specs.Prelude.{◌≡◌, ◌≢◌, ℕ, ◌+◌, ◌<◌, AllPairs, Contains, length}
 use Rattle.board_rule.specs.declared.view.BlockView.TheVariants.{Free, Out}
 use Rattle.board_rule.specs.declared.view.View.{View}
 use Rattle.board_rule.specs.Layout.{Lay, first}
@@ -20,6 +20,7 @@ pub record Stock (p : Lay) (v : View) (q c : ℕ) (pool : Queue) : Type 0 where
   pub size : pool.blocks ≡ (pool_at p q).blocks
   pub some : 0 < (pool_at p q).blocks
   pub listed : (b : ℕ) → Contains pool.free b → (b < (pool_at p q).blocks) × (block_of p v q b ≡ Free)
+  pub once : AllPairs (λ a b. a ≢ b) pool.free
   pub full : c ≡ first p → length pool.free ≡ pool.blocks
   pub fresh : c ≡ first p → (b : ℕ) → b < (pool_at p q).blocks → block_of p v q b ≡ Free
   pub short : first p < c → length pool.free + 1 ≡ pool.blocks

@@ -3,5 +3,7 @@
 #![tactic(auto)]
 
 mod hearing;
+mod writing;
 
 pub use hearing::hear;
+pub use writing::{Written, write};
