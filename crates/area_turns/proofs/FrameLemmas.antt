@@ -1,11 +1,9 @@
 -- Other ends of links and other blocks leave what else is asked of a view.
-use Rattle.std.proofs.Common.{◌≡◌, ℕ, ◌+◌, ◌≤◌, false, List, length, subst, sym, arith}
-use Rattle.board_rule.specs.declared.view.WriteView.{WriteView}
-use Rattle.board_rule.specs.declared.view.BlockView.{BlockView}
+use Rattle.std.proofs.Common.{◌≡◌, ℕ, false, length, subst, sym, arith}
 use Rattle.board_rule.specs.declared.view.View.{View}
 use Rattle.board_rule.specs.Layout.{Lay}
 use Rattle.board_rule.specs.BufferReads.{HasPool}
-use Rattle.board_rule.specs.EndViews.{pool_at, filler_of}
+use Rattle.board_rule.specs.EndViews.{filler_of}
 use Rattle.board_rule.specs.SeatNodes.{HasNode}
 use Rattle.board_rule.specs.WorkSteps.{IsRunning}
 use Rattle.io_areas.specs.Writing.{IsAtPool}

@@ -1,5 +1,6 @@
 -- From step to step of a reader's turn.
-use Rattle.std.proofs.Common.{◌≡◌, ℕ, ℤ, ◌+◌, ◌-◌, ◌<◌, ◌≤◌, Bool, true, false, cond, ltb, List, length, get_or, refl, sym, ap, ◌∙◌, subst, arith, set-set, length-set, get_or-set_same}
+use Rattle.std.proofs.Common.{◌≡◌, ℕ, ℤ, ◌+◌, ◌-◌, ◌<◌, ◌≤◌, Bool, true, false, cond, ltb, List, length, get_or, refl, sym, ap, ◌∙◌, subst, arith, set-set}
+use Rattle.std.proofs.Common.{length-set, get_or-set_same}
 use Rattle.std.specs.Prelude.{Option, unwrap_or, option_map}
 use Rattle.std.proofs.lemmas.Option.{slice_get-get_or}
 use Rattle.pw_base.specs.declared.shape.ShapeLink.{ShapeLink}
@@ -23,7 +24,11 @@ module _ (p : Lay) (v : View) (l : ℕ) (y : ReadView) where
   -- another end of a link leaves the node
   pub has_again : (b : Bool) (m : ℕ) → HasNode b p v m → HasNode b p (view_read v l y) m
   has_again true m h = h
-  has_again false m h = let o = h.0 in (record { inside = o.inside; follows = o.follows; loops = o.loops; owned = o.owned; there = o.there; knows = o.knows }, h.1, h.2)
+  has_again false m h = let o = h.0 in (
+    record { inside = o.inside; follows = o.follows; loops = o.loops; owned = o.owned; there = o.there; knows = o.knows },
+    h.1,
+    h.2,
+  )
 
   pub runs_again : (b : Bool) (m : ℕ) → IsRunning b v m → IsRunning b (view_read v l y) m
   runs_again true m r = r
@@ -43,7 +48,8 @@ on_time p plain l h = let k : ShapeLink = get_or p.shape.links l no_link in
     ∙ ap (λ t. cond {A = ℕ} t 1 0) (plain.undelayed l no_link h)
 
 -- the stamp of a block is one more than its cycle
-of_now : (p : Lay) (e : Samples) (q c n : ℕ) (zeros : List ℤ) → n ≡ c + 1 → first p ≤ c → cond (ltb (first p) n) (samples_in p e (n - 1) q) zeros ≡ samples_in p e c q
+of_now : (p : Lay) (e : Samples) (q c n : ℕ) (zeros : List ℤ) → n ≡ c + 1 → first p ≤ c
+    → cond (ltb (first p) n) (samples_in p e (n - 1) q) zeros ≡ samples_in p e c q
 of_now p e q c n zeros is low = ap (λ t. cond t (samples_in p e (n - 1) q) zeros) later ∙ ap (λ k. samples_in p e k q) (let z : n - 1 ≡ c = omega arith in z)
   where
     later : ltb (first p) n ≡ true
@@ -95,7 +101,8 @@ module _ (b : Bool) (p : Lay) (v : View) (l : ℕ) (h : MayHear b p v l) where
     )
 
   pub heard_even : (w : View) → HasHeard b p v l w → IsReadUpTo w l (read_cycle b p v l + 1)
-  heard_even w r = let z : ReadView = record { loaded = read_cycle b p v l + 1; lowered = read_cycle b p v l + 1; stored = read_cycle b p v l + 1; id = r.0 } in let e = end_again p v l z h.even.there in let there = h.even.there in let long = length-set v.reads l z in
+  heard_even w r = let z : ReadView = record { loaded = read_cycle b p v l + 1; lowered = read_cycle b p v l + 1; stored = read_cycle b p v l + 1; id = r.0 }
+      in let e = end_again p v l z h.even.there in let there = h.even.there in let long = length-set v.reads l z in
       subst (λ (u : View). IsReadUpTo u l (read_cycle b p v l + 1)) (sym r.1) record {
         there = omega arith;
         loaded = ap (λ (x : ReadView). x.loaded) e;

@@ -1,6 +1,6 @@
 -- The blocks of a pool and the list of the free ones, from step to step of a turn.
-use Rattle.std.proofs.Common.{◌≡◌, ◌≢◌, ℕ, suc, ◌+◌, ◌-◌, ◌<◌, ◌≤◌, ⊎_elim, List, [], ◌∷◌, ◌++◌, Option, Some, None, All, AllPairs, Contains, length, get_or, option_to_list, refl, sym, ap, ◌∙◌, subst, arith, append-nil, length-append}
-use Rattle.std.proofs.lemmas.List.{get_or_default}
+use Rattle.std.proofs.Common.{◌≡◌, ◌≢◌, ℕ, suc, ◌+◌, ◌-◌, ◌<◌, ◌≤◌, List, [], ◌∷◌, ◌++◌, Option, Some, None, All, AllPairs, Contains, length, get_or}
+use Rattle.std.proofs.Common.{option_to_list, sym, ap, ◌∙◌, subst, arith, append-nil, length-append}
 use Rattle.std.proofs.lemmas.List.Elements.{All-head, All-push, Contains-get_or}
 use Rattle.std.proofs.lemmas.List.Quantifiers.{all_pairs_push}
 use mathlib.Core.Logic.{dite}
@@ -56,15 +56,18 @@ module _ (p : Lay) (q : ℕ) where
   module _ (v : View) (pool : Queue) (s : Stock p v q (fill_cycle p v q) pool) where
     -- of the blocks that are out there is one, and it is due
     pub due : IsPlain p → first p < fill_cycle p v q → (b : ℕ) × IsDue p v q b
-    due plain later = let o = s.out later in let b : ℕ = o.0 in let is = o.1.1 in let one = lag_is p plain q in let when : fill_cycle p v q ≡ fill_cycle p v q + 1 - lag p (pool_at p q) = omega arith in
-        (b, subst (IsOldestOut p v q b) when record {
-          inside = o.1.0;
-          is = is;
-          oldest = λ a m l e. dite (ℕ_discrete a b)
-              (λ z. let n = out_same (fill_cycle p v q) m (sym is ∙ ap (block_of p v q) (sym z) ∙ e) in omega arith)
-              (λ z. absurd (free_out (block_of p v q a) m (o.1.2 a l z) e));
-          before = λ a l e. let low = o.1.0 in free_out (block_of p v q a) (fill_cycle p v q) (o.1.2 a (omega arith) (λ z. omega arith)) e;
-        })
+    due plain later = let o = s.out later in let b : ℕ = o.0 in let is = o.1.1 in let one = lag_is p plain q in
+        let when : fill_cycle p v q ≡ fill_cycle p v q + 1 - lag p (pool_at p q) = omega arith in (
+          b,
+          subst (IsOldestOut p v q b) when record {
+            inside = o.1.0;
+            is = is;
+            oldest = λ a m l e. dite (ℕ_discrete a b)
+                (λ z. let n = out_same (fill_cycle p v q) m (sym is ∙ ap (block_of p v q) (sym z) ∙ e) in omega arith)
+                (λ z. absurd (free_out (block_of p v q a) m (o.1.2 a l z) e));
+            before = λ a l e. let low = o.1.0 in free_out (block_of p v q a) (fill_cycle p v q) (o.1.2 a (omega arith) (λ z. omega arith)) e;
+          },
+        )
 
     -- what is due is that one
     alone : (b n : ℕ) → first p < fill_cycle p v q → IsOldestOut p v q b n → IsOutAlone p v q (fill_cycle p v q) b
@@ -84,15 +87,19 @@ module _ (p : Lay) (q : ℕ) where
 
     -- and listed
     pub all_listed : (r : Option ℕ) (w : View) → HasReclaimed p v q r w → AreAll p q (pool.free ++ option_to_list r)
-    all_listed None w h = subst (AreAll p q) (sym (append-nil pool.free)) record { long = s.full h.0 ∙ s.size; once = s.once; low = λ k d l. (s.listed (get_or pool.free k d) (Contains-get_or pool.free k d l)).0 }
+    all_listed None w h = subst (AreAll p q) (sym (append-nil pool.free)) record
+        { long = s.full h.0 ∙ s.size; once = s.once; low = λ k d l. (s.listed (get_or pool.free k d) (Contains-get_or pool.free k d l)).0 }
     all_listed (Some b) w h = let o = alone b _ h.0 h.1 in record {
       long = (let a = length-append pool.free (b ∷ []) in let n = s.short h.0 in let z = s.size in omega arith);
-      once = all_pairs_push (λ i j. i ≢ j) pool.free b s.once (λ k d l e. free_out (block_of p v q b) _ (ap (block_of p v q) (sym e) ∙ (s.listed (get_or pool.free k d) (Contains-get_or pool.free k d l)).1) o.1);
+      once = all_pairs_push (λ i j. i ≢ j) pool.free b s.once
+          (λ k d l e. free_out (block_of p v q b) _ (ap (block_of p v q) (sym e) ∙ (s.listed (get_or pool.free k d) (Contains-get_or pool.free k d l)).1)
+          o.1);
       low = All-push (λ k. k < (pool_at p q).blocks) pool.free b (λ k d l. (s.listed (get_or pool.free k d) (Contains-get_or pool.free k d l)).0) o.0;
     }
 
   -- the stock of the next cycle
-  pub restocked : (w : View) (c used : ℕ) (left : Queue) → first p ≤ c → IsOutAlone p w q (c + 1) used → AreOthers p q used left.free → left.blocks ≡ (pool_at p q).blocks → Stock p w q (c + 1) left
+  pub restocked : (w : View) (c used : ℕ) (left : Queue) → first p ≤ c → IsOutAlone p w q (c + 1) used → AreOthers p q used left.free
+      → left.blocks ≡ (pool_at p q).blocks → Stock p w q (c + 1) left
   restocked w c used left late out a size = record {
     size = size;
     some = (let h = a.inside in omega arith);

@@ -1,16 +1,12 @@
--- From step to step of the turn of a node on a pool.
-use Rattle.std.proofs.Common.{◌≡◌, ◌≢◌, ℕ, ◌+◌, ◌<◌, ◌≤◌, inr, false, List, ◌∷◌, ◌++◌, Option, Some, None, All, Contains, length, get_or, option_to_list, refl, sym, ap, ◌∙◌, subst, arith, length-set}
+-- From step to step of the turn of a node on a pool: its views are v, w when the links are loaded, x when a block is taken from
+-- the free ones, y when it is announced, and z when it is published.
+use Rattle.std.proofs.Common.{◌≡◌, ℕ, ◌+◌, inr, false, List, ◌∷◌, ◌++◌, Option, Some, None, All, Contains, get_or, option_to_list, sym, ap, ◌∙◌, subst, arith}
 use Rattle.std.proofs.lemmas.List.Elements.{Contains-get_or}
-use mathlib.Core.Logic.{dite}
-use native.Mathlib.Decide.{ℕ_discrete}
-use Rattle.pw_base.specs.Pools.{pools_of}
 use Rattle.board_rule.specs.declared.view.WriteView.{WriteView}
-use Rattle.board_rule.specs.declared.view.BlockView.{BlockView}
-use Rattle.board_rule.specs.declared.view.BlockView.TheVariants.{Free, Out}
+use Rattle.board_rule.specs.declared.view.BlockView.TheVariants.{Out}
 use Rattle.board_rule.specs.declared.view.View.{View}
-use Rattle.board_rule.specs.Layout.{Lay, first}
-use Rattle.board_rule.specs.Spans.{block_at}
-use Rattle.board_rule.specs.EndViews.{pool_at, block_of, view_block, write_of, writer_of, filler_of, pool_of}
+use Rattle.board_rule.specs.Layout.{Lay}
+use Rattle.board_rule.specs.EndViews.{pool_at, block_of, view_block, write_of}
 use Rattle.board_rule.specs.BufferReads.{HasPool, IsFirstFilled}
 use Rattle.board_rule.specs.SeatNodes.{cycle_of, HasNode}
 use Rattle.board_rule.specs.WorkSteps.{IsRunning}
@@ -23,177 +19,186 @@ use Rattle.area_turns.specs.Stock.{IsOutAlone, Stock}
 use Rattle.area_turns.specs.Writing.{MayWrite, HasWritten}
 use Rattle.area_turns.specs.Turns.{AreMade, IsLoadedNow, IsPublishedNow, AreFree}
 use Rattle.area_turns.specs.Answers.{ComesBack}
-use Rattle.area_turns.proofs.FrameLemmas.{IsKept, pool_again, at_again}
+use Rattle.area_turns.proofs.FrameLemmas.{IsKept, at_again}
 use Rattle.area_turns.proofs.EndsLemmas.{kept, same_cycle, writer_again}
-use Rattle.area_turns.proofs.BlockLemmas.{here, else, elsewhere, first_filled}
-use Rattle.area_turns.proofs.LinkLemmas.{some_link, once, of_pool}
+use Rattle.area_turns.proofs.BlockLemmas.{here, else, first_filled}
+use Rattle.area_turns.proofs.RefillLemmas.{IsRefilled, refilled, refill_kept, refill_more, reclaim_refills}
+use Rattle.area_turns.proofs.LinkLemmas.{of_pool}
 use Rattle.area_turns.proofs.StockLemmas.{AreAll, AreOthers, taken, due, comes_back, all_free, all_listed, restocked}
 
--- from v to w only blocks of the pool q are others
-record IsRefilled (p : Lay) (q : ℕ) (v w : View) : Type 0 where
-  pub same : w ≡ record v { blocks = w.blocks }
-  pub room : length w.blocks ≡ length v.blocks
-  pub others : (r a : ℕ) → r < length (pools_of p.shape) → a < (pool_at p r).blocks → r ≢ q → block_of p w r a ≡ block_of p v r a
+abbrev links_of : Lay → ℕ → List ℕ
+links_of p q = (pool_at p q).links
 
-module _ (p : Lay) (q : ℕ) where
-  refilled : (v w : View) (b : ℕ) (y : BlockView) → HasPool p v q → b < (pool_at p q).blocks → w ≡ view_block p v q b y → IsRefilled p q v w
-  refilled v w b y h low e = subst (IsRefilled p q v) (sym e) record { same = refl; room = length-set v.blocks (block_at p q b) y; others = elsewhere p v q b y h low }
+module _ (p : Lay) (v : View) (q : ℕ) (plain : IsPlain p) (may : MayWrite p v q) where
+  cycle_at : (l : ℕ) → Contains (links_of p q) l → write_cycle p v l ≡ fill_cycle p v q
+  cycle_at l d = ap (cycle_of false v) (of_pool p plain q may.has.0 l d).1
 
-  refill_kept : (v w : View) → IsRefilled p q v w → IsKept v w
-  refill_kept v w f = record { same = f.same ∙ ap (λ (x : View). record v { writes = x.writes; blocks = w.blocks }) (sym f.same); ends = ap (λ (x : View). length x.writes) f.same; room = f.room }
+  writes : (l : ℕ) → Contains (links_of p q) l → IsWriter p v l
+  writes l d = let o = of_pool p plain q may.has.0 l d in let n = sym o.1 in
+      (o.0, (may.even l d).there, subst (λ k. HasNode false p v k) n may.has.1, subst (λ k. IsRunning false v k) n may.runs)
 
-  refill_more : (v w x : View) → IsRefilled p q v w → IsRefilled p q w x → IsRefilled p q v x
-  refill_more v w x f g = record {
-    same = g.same ∙ ap (λ (y : View). record y { blocks = x.blocks }) f.same;
-    room = g.room ∙ f.room;
-    others = λ r a h l o. g.others r a h l o ∙ f.others r a h l o;
-  }
+  pub may_load_all : All (LoadsAsWriter p v) (links_of p q)
+  may_load_all k e h = let l : ℕ = get_or (links_of p q) k e in let d = Contains-get_or (links_of p q) k e h in
+      (writes l d, (may.even l d).loaded ∙ sym (cycle_at l d))
 
-  none_refilled : (v w : View) → w ≡ v → IsRefilled p q v w
-  none_refilled v w e = subst (IsRefilled p q v) (sym e) record { same = refl; room = refl; others = λ r a h l o. refl }
+-- LOADED: the turn began at v, and each link is loaded
+pub record HasLoaded (p : Lay) (v : View) (q : ℕ) (pool : Queue) (w : View) : Type 0 where
+  pub plain : IsPlain p
+  pub may : MayWrite p v q
+  pub stock : Stock p v q (fill_cycle p v q) pool
+  pub ends : AreMade (IsLoadedNow p v) v (links_of p q) w
 
-  -- a block that came back
-  reclaim_refills : (v : View) (r : Option ℕ) (w : View) → HasPool p v q → HasReclaimed p v q r w → IsRefilled p q v w
-  reclaim_refills v None w at h = none_refilled v w h.1
-  reclaim_refills v (Some b) w at h = refilled v w b Free at h.1.inside h.2
+pub begun : (p : Lay) (v : View) (q : ℕ) (pool : Queue) (xs : List ℕ) (w : View) → IsPlain p → MayWrite p v q → xs ≡ links_of p q
+    → Stock p v q (fill_cycle p v q) pool
+    → AreMade (IsLoadedNow p v) v xs w → HasLoaded p v q pool w
+begun p v q pool xs w plain may e s ends = record { plain = plain; may = may; stock = s; ends = subst (λ ls. AreMade (IsLoadedNow p v) v ls w) e ends }
 
-module _ (p : Lay) (plain : IsPlain p) (v : View) (q : ℕ) (m : MayWrite p v q) where
-  abbrev links : List ℕ
-  links = (pool_at p q).links
+module _ {p : Lay} {v : View} {q : ℕ} {pool : Queue} {w : View} (t : HasLoaded p v q pool w) where
+  kept_loaded : IsKept v w
+  kept_loaded = kept (IsLoadedNow p v) v (links_of p q) w t.ends
 
-  abbrev c : ℕ
-  c = fill_cycle p v q
+  at_loaded : IsAtPool p w q
+  at_loaded = at_again p v w kept_loaded q (t.may.has, t.may.runs)
 
-  at : IsAtPool p v q
-  at = (m.has, m.runs)
+  cycle_loaded : fill_cycle p w q ≡ fill_cycle p v q
+  cycle_loaded = ap (λ (u : View). fill_cycle p u q) kept_loaded.same
 
-  cycle_at : (l : ℕ) → Contains links l → write_cycle p v l ≡ c
-  cycle_at l d = ap (cycle_of false v) (of_pool p plain q m.has.0 l d).1
+  loaded : (l : ℕ) → Contains (links_of p q) l → (write_of w l).loaded ≡ fill_cycle p v q + 1
+  loaded l d = ap (λ (e : WriteView). e.loaded) (t.ends.made l d) ∙ ap (λ n. n + 1) (cycle_at p v q t.plain t.may l d)
 
-  writes : (l : ℕ) → Contains links l → IsWriter p v l
-  writes l d = let o = of_pool p plain q m.has.0 l d in (o.0, (m.even l d).there, subst (λ n. HasNode false p v n) (sym o.1) m.has.1, subst (λ n. IsRunning false v n) (sym o.1) m.runs)
+  stored : (l : ℕ) → Contains (links_of p q) l → (write_of w l).stored ≡ fill_cycle p v q
+  stored l d = ap (λ (e : WriteView). e.stored) (t.ends.made l d) ∙ (t.may.even l d).stored
 
-  -- the loads
-  pub may_load_all : All (LoadsAsWriter p v) links
-  may_load_all k e h = let l : ℕ = get_or links k e in let d = Contains-get_or links k e h in (writes l d, (m.even l d).loaded ∙ sym (cycle_at l d))
+  turn_loaded : IsWriting p w q
+  turn_loaded l d = (loaded l d ∙ ap (λ n. n + 1) (sym cycle_loaded), stored l d ∙ sym cycle_loaded)
 
-  module _ (w : View) (a : AreMade (IsLoadedNow p v) v links w) where
-    kept₁ : IsKept v w
-    kept₁ = kept (IsLoadedNow p v) v links w a
+  pub stock_again : Stock p w q (fill_cycle p w q) pool
+  stock_again = let s = t.stock in subst (λ (k : View × ℕ). Stock p k.0 q k.1 pool) (λ i. (sym t.ends.same i, sym cycle_loaded i))
+      record { size = s.size; some = s.some; listed = s.listed; once = s.once; full = s.full; fresh = s.fresh; short = s.short; out = s.out }
 
-    at₁ : IsAtPool p w q
-    at₁ = at_again p v w kept₁ q at
+  pub may_reclaim : Reclaims p w q
+  may_reclaim = (at_loaded, (λ l d. (turn_loaded l d).0), due p q w pool stock_again t.plain)
 
-    cycle₁ : fill_cycle p w q ≡ c
-    cycle₁ = ap (λ (x : View). fill_cycle p x q) kept₁.same
+-- OBTAINED: what came back, and the block that is taken from the free ones
+pub record HasObtained (p : Lay) (v : View) (q : ℕ) (pool : Queue) (w : View) (r : Option ℕ) (x : View) (used : ℕ) (left : Queue) : Type 0 where
+  pub before : HasLoaded p v q pool w
+  pub back : HasReclaimed p w q r x
+  pub queue : pool.free ++ option_to_list r ≡ used ∷ left.free
+  pub size : left.blocks ≡ pool.blocks
 
-    loaded : (l : ℕ) → Contains links l → (write_of w l).loaded ≡ c + 1
-    loaded l d = ap (λ (y : WriteView). y.loaded) (a.made l d) ∙ ap (λ k. k + 1) (cycle_at l d)
+pub obtained : {p : Lay} {v : View} {q : ℕ} {pool : Queue} {w : View} → HasLoaded p v q pool w → (told : Option ℕ × ℕ) (x : View) (left : Queue)
+    → HasReclaimed p w q told.0 x
+    → pool.free ++ option_to_list told.0 ≡ told.1 ∷ left.free → left.blocks ≡ pool.blocks → HasObtained p v q pool w told.0 x told.1 left
+obtained t told x left back queue size = record { before = t; back = back; queue = queue; size = size }
 
-    stored : (l : ℕ) → Contains links l → (write_of w l).stored ≡ c
-    stored l d = ap (λ (y : WriteView). y.stored) (a.made l d) ∙ (m.even l d).stored
+module _ {p : Lay} {v : View} {q : ℕ} {pool : Queue} {w : View} {r : Option ℕ} {x : View} {used : ℕ} {left : Queue}
+    (t : HasObtained p v q pool w r x used left) where
+  refill_back : IsRefilled p q w x
+  refill_back = reclaim_refills p q w r x (at_loaded t.before).0 t.back
 
-    turn₁ : IsWriting p w q
-    turn₁ l d = (loaded l d ∙ ap (λ k. k + 1) (sym cycle₁), stored l d ∙ sym cycle₁)
+  pub told_back : ComesBack p v q r
+  told_back = by r (comes_back p q w pool (stock_again t.before) r x t.back)
+    where
+      by : (o : Option ℕ) → ComesBack p w q o → ComesBack p v q o
+      by None e = sym (cycle_loaded t.before) ∙ e
+      by (Some b) e = let is = subst (λ (u : View). ComesBack p u q (Some b)) t.before.ends.same e in is
 
-    module _ (pool : Queue) (s : Stock p v q c pool) where
-      pub stock_again : Stock p w q (fill_cycle p w q) pool
-      stock_again = let z = s.some in subst (λ (x : View × ℕ). Stock p x.0 q x.1 pool) (λ i. (sym a.same i, sym cycle₁ i))
-          record { size = s.size; some = s.some; listed = s.listed; once = s.once; full = s.full; fresh = s.fresh; short = s.short; out = s.out }
+  pub all_back : AreFree p x q
+  all_back = all_free p q w pool (stock_again t.before) r x (at_loaded t.before) t.back
 
-      pub may_reclaim : Reclaims p w q
-      may_reclaim = (at₁, (λ l d. (turn₁ l d).0), due p q w pool stock_again plain)
+  pub may_fill : IsAtPool p x q × IsWriting p x q
+  may_fill = (
+    at_again p w x (refill_kept p q w x refill_back) q (at_loaded t.before),
+    subst (λ (u : View). IsWriting p u q) (sym refill_back.same) (turn_loaded t.before),
+  )
 
-      module _ (r : Option ℕ) (x : View) (h : HasReclaimed p w q r x) where
-        refill : IsRefilled p q w x
-        refill = reclaim_refills p q w r x at₁.0 h
+  cycle_obtained : fill_cycle p x q ≡ fill_cycle p v q
+  cycle_obtained = ap (λ (u : View). fill_cycle p u q) refill_back.same ∙ cycle_loaded t.before
 
-        pub told_back : ComesBack p v q r
-        told_back = by r (comes_back p q w pool stock_again r x h)
-          where
-            by : (o : Option ℕ) → ComesBack p w q o → ComesBack p v q o
-            by None e = sym cycle₁ ∙ e
-            by (Some b) e = let is = subst (λ (y : View). ComesBack p y q (Some b)) a.same e in is
+  pub others : AreOthers p q used left.free
+  others = taken p q used left.free (subst (AreAll p q) t.queue (all_listed p q w pool (stock_again t.before) r x t.back))
 
-        pub all_back : AreFree p x q
-        all_back = all_free p q w pool stock_again r x at₁ h
+-- EMITTED: that block is out since this cycle
+pub record HasEmitted (p : Lay) (v : View) (q : ℕ) (pool : Queue) (w : View) (r : Option ℕ) (x : View) (used : ℕ) (left : Queue) (y : View) : Type 0 where
+  pub before : HasObtained p v q pool w r x used left
+  pub knows : y ≡ view_block p x q used (Out (fill_cycle p x q + 1))
 
-        pub at₂ : IsAtPool p x q
-        at₂ = at_again p w x (refill_kept p q w x refill) q at₁
+pub emitted : {p : Lay} {v : View} {q : ℕ} {pool : Queue} {w : View} {r : Option ℕ} {x : View} {used : ℕ} {left : Queue}
+    → HasObtained p v q pool w r x used left
+    → (y : View) → y ≡ view_block p x q used (Out (fill_cycle p x q + 1)) → HasEmitted p v q pool w r x used left y
+emitted t y e = record { before = t; knows = e }
 
-        pub turn₂ : IsWriting p x q
-        turn₂ = subst (λ (y : View). IsWriting p y q) (sym refill.same) turn₁
+module _ {p : Lay} {v : View} {q : ℕ} {pool : Queue} {w : View} {r : Option ℕ} {x : View} {used : ℕ} {left : Queue} {y : View}
+    (t : HasEmitted p v q pool w r x used left y) where
+  abbrev first_step : HasLoaded p v q pool w
+  first_step = t.before.before
 
-        cycle₂ : fill_cycle p x q ≡ c
-        cycle₂ = ap (λ (y : View). fill_cycle p y q) refill.same ∙ cycle₁
+  emitted_is : y ≡ view_block p x q used (Out (fill_cycle p v q + 1))
+  emitted_is = t.knows ∙ ap (λ n. view_block p x q used (Out (n + 1))) (cycle_obtained t.before)
 
-        module _ (used : ℕ) (left : Queue) (queue : pool.free ++ option_to_list r ≡ used ∷ left.free) where
-          pub others : AreOthers p q used left.free
-          others = taken p q used left.free (subst (AreAll p q) queue (all_listed p q w pool stock_again r x h))
+  refill_emitted : IsRefilled p q w y
+  refill_emitted = refill_more p q w x y (refill_back t.before)
+      (refilled p q x y used (Out (fill_cycle p v q + 1)) (may_fill t.before).0.0 (others t.before).inside emitted_is)
 
-          module _ (y : View) (e : y ≡ view_block p x q used (Out (fill_cycle p x q + 1))) where
-            e₃ : y ≡ view_block p x q used (Out (c + 1))
-            e₃ = e ∙ ap (λ n. view_block p x q used (Out (n + 1))) cycle₂
+  kept_emitted : IsKept w y
+  kept_emitted = refill_kept p q w y refill_emitted
 
-            refill₃ : IsRefilled p q w y
-            refill₃ = refill_more p q w x y refill (refilled p q x y used (Out (c + 1)) at₂.0 others.inside e₃)
+  ends_emitted : (l : ℕ) → write_of y l ≡ write_of w l
+  ends_emitted l = ap (λ (u : View). write_of u l) refill_emitted.same
 
-            kept₃ : IsKept w y
-            kept₃ = refill_kept p q w y refill₃
+  cycle_emitted : fill_cycle p y q ≡ fill_cycle p v q
+  cycle_emitted = ap (λ (u : View). fill_cycle p u q) refill_emitted.same ∙ cycle_loaded first_step
 
-            at₃ : IsAtPool p y q
-            at₃ = at_again p w y kept₃ q at₁
+  out_emitted : IsOutAlone p y q (fill_cycle p v q + 1) used
+  out_emitted = let low = (others t.before).inside in let now = Out (fill_cycle p v q + 1) in
+      subst (λ (u : View). IsOutAlone p u q (fill_cycle p v q + 1) used) (sym emitted_is)
+      (low, here p x q used now (may_fill t.before).0.0 low, λ b l o. else p x q used now b o ∙ all_back t.before b l)
 
-            ends₃ : (l : ℕ) → write_of y l ≡ write_of w l
-            ends₃ l = ap (λ (z : View). write_of z l) refill₃.same
+  turn_emitted : (l : ℕ) → Contains (links_of p q) l → write_cycle p y l ≡ fill_cycle p v q
+  turn_emitted l d = same_cycle p w y kept_emitted l ∙ same_cycle p v w (kept_loaded first_step) l ∙ cycle_at p v q first_step.plain first_step.may l d
 
-            cycle₃ : fill_cycle p y q ≡ c
-            cycle₃ = ap (λ (z : View). fill_cycle p z q) refill₃.same ∙ cycle₁
+  pub may_publish_all : All (Publishes p y) (links_of p q)
+  may_publish_all k e h = let l : ℕ = get_or (links_of p q) k e in let d = Contains-get_or (links_of p q) k e h in let s = first_step in
+      let here = sym (of_pool p s.plain q s.may.has.0 l d).2 in let out = out_emitted in (
+        writer_again p w y kept_emitted l (writer_again p v w (kept_loaded s) l (writes p v q s.plain s.may l d)),
+        subst (λ n. HasPool p y n) here (at_again p w y kept_emitted q (at_loaded s)).0,
+        ap (λ (u : WriteView). u.loaded) (ends_emitted l) ∙ loaded s l d ∙ ap (λ n. n + 1) (sym (turn_emitted l d)),
+        ap (λ (u : WriteView). u.stored) (ends_emitted l) ∙ stored s l d ∙ sym (turn_emitted l d),
+        (
+          used,
+          subst (λ n. IsFirstFilled p y n used × (block_of p y n used ≡ Out (write_cycle p y l + 1))) here (
+            first_filled p y q used out.0 (inr (out.1 ∙ ap (λ n. Out (n + 1)) (sym cycle_emitted))) out.2,
+            out.1 ∙ ap (λ n. Out (n + 1)) (sym (turn_emitted l d)),
+          ),
+        ),
+      )
 
-            out₃ : IsOutAlone p y q (c + 1) used
-            out₃ = subst (λ (z : View). IsOutAlone p z q (c + 1) used) (sym e₃)
-                (others.inside, here p x q used (Out (c + 1)) at₂.0 others.inside, λ b l o. else p x q used (Out (c + 1)) b o ∙ all_back b l)
+  -- the turn is over
+  module _ (z : View) (ends : AreMade (IsPublishedNow p y) y (links_of p q) z) where
+    kept_published : IsKept y z
+    kept_published = kept (IsPublishedNow p y) y (links_of p q) z ends
 
-            write₃ : (l : ℕ) → Contains links l → write_cycle p y l ≡ c
-            write₃ l d = same_cycle p w y kept₃ l ∙ same_cycle p v w kept₁ l ∙ cycle_at l d
+    pub out_alone : IsOutAlone p z q (fill_cycle p v q + 1) used
+    out_alone = subst (λ (u : View). IsOutAlone p u q (fill_cycle p v q + 1) used) (sym ends.same) out_emitted
 
-            -- the publications
-            pub may_publish_all : All (Publishes p y) links
-            may_publish_all k d h = let l : ℕ = get_or links k d in let t = Contains-get_or links k d h in let is = sym (of_pool p plain q m.has.0 l t).2 in (
-              writer_again p w y kept₃ l (writer_again p v w kept₁ l (writes l t)),
-              subst (λ (n : ℕ). HasPool p y n) is at₃.0,
-              ap (λ (z : WriteView). z.loaded) (ends₃ l) ∙ loaded l t ∙ ap (λ n. n + 1) (sym (write₃ l t)),
-              ap (λ (z : WriteView). z.stored) (ends₃ l) ∙ stored l t ∙ sym (write₃ l t),
-              (
-                used,
-                subst (λ (n : ℕ). IsFirstFilled p y n used × (block_of p y n used ≡ Out (write_cycle p y l + 1))) is
-                    (first_filled p y q used others.inside (inr (out₃.1 ∙ ap (λ n. Out (n + 1)) (sym cycle₃))) out₃.2, out₃.1 ∙ ap (λ n. Out (n + 1)) (sym (write₃ l t))),
-              ),
-            )
+    pub new_stock : Stock p z q (fill_cycle p v q + 1) left
+    new_stock = restocked p q z (fill_cycle p v q) used left first_step.may.has.1.1.0 out_alone (others t.before) (t.before.size ∙ first_step.stock.size)
 
-            module _ (z : View) (g : AreMade (IsPublishedNow p y) y links z) where
-              kept₄ : IsKept y z
-              kept₄ = kept (IsPublishedNow p y) y links z g
+    published : (l : ℕ) → Contains (links_of p q) l → IsWrittenUpTo z l (fill_cycle p v q + 1)
+    published l d = let is = (ends.made l d).2 in record {
+      there = (let o = (first_step.may.even l d).there in let a = first_step.ends.long in let b = kept_emitted.ends in let e = ends.long in omega arith);
+      loaded = ap (λ (u : WriteView). u.loaded) is ∙ ap (λ (u : WriteView). u.loaded) (ends_emitted l) ∙ loaded first_step l d;
+      stored = ap (λ (u : WriteView). u.stored) is ∙ ap (λ n. n + 1) (turn_emitted l d);
+    }
 
-              pub out_alone : IsOutAlone p z q (c + 1) used
-              out_alone = subst (λ (u : View). IsOutAlone p u q (c + 1) used) (sym g.same) out₃
-
-              pub new_stock : left.blocks ≡ pool.blocks → Stock p z q (c + 1) left
-              new_stock size = restocked p q z c used left m.has.1.1.0 out_alone others (size ∙ s.size)
-
-              published : (l : ℕ) → Contains links l → IsWrittenUpTo z l (c + 1)
-              published l d = let t = (g.made l d).2 in record {
-                there = (let o = (m.even l d).there in let e₁ = kept₁.ends in let e₂ = kept₃.ends in let e₃ = g.long in omega arith);
-                loaded = ap (λ (u : WriteView). u.loaded) t ∙ ap (λ (u : WriteView). u.loaded) (ends₃ l) ∙ loaded l d;
-                stored = ap (λ (u : WriteView). u.stored) t ∙ ap (λ n. n + 1) (write₃ l d);
-              }
-
-              pub has_written : HasWritten p v q z
-              has_written = record {
-                same = kept₄.same ∙ ap (λ (u : View). record u { writes = z.writes; blocks = z.blocks }) kept₃.same ∙ ap (λ (u : View). record u { writes = z.writes; blocks = z.blocks }) kept₁.same;
-                ends = kept₄.ends ∙ kept₃.ends ∙ kept₁.ends;
-                room = kept₄.room ∙ kept₃.room ∙ kept₁.room;
-                even = published;
-                other_links = λ l o. g.left l o ∙ ends₃ l ∙ a.left l o;
-                other_pools = λ n b h low o. ap (λ (u : View). block_of p u n b) g.same ∙ refill₃.others n b h low o ∙ ap (λ (u : View). block_of p u n b) a.same;
-              }
+    pub has_written : HasWritten p v q z
+    has_written = let a = kept_loaded first_step in let b = kept_emitted in let e = kept_published in record {
+      same = e.same ∙ ap (λ (u : View). record u { writes = z.writes; blocks = z.blocks })
+          (b.same ∙ ap (λ (u : View). record u { writes = y.writes; blocks = y.blocks }) a.same);
+      ends = e.ends ∙ b.ends ∙ a.ends;
+      room = e.room ∙ b.room ∙ a.room;
+      even = published;
+      other_links = λ l o. ends.left l o ∙ ends_emitted l ∙ first_step.ends.left l o;
+      other_pools = λ n b h low o. ap (λ (u : View). block_of p u n b) ends.same ∙ refill_emitted.others n b h low o
+          ∙ ap (λ (u : View). block_of p u n b) first_step.ends.same;
+    }

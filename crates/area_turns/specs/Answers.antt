@@ -1,6 +1,7 @@
 -- What a turn on a pool answers.
 -- Source: PipeWire's documentation, "SPA Buffers"; one pool an output port is this project's own.
-use Rattle.std.specs.Prelude.{◌≡◌, ℕ, ◌+◌, ◌-◌, ◌<◌, List, ◌∷◌, ◌++◌, Option, Some, None, length, option_to_list, slice_index}
+use Rattle.std.specs.Prelude.{◌≡◌, ℕ, ◌+◌, ◌-◌, ◌<◌, List, ◌∷◌, ◌++◌, Option, Some, None, length, slice_index}
+use Rattle.std.specs.Prelude.{option_to_list}
 use Rattle.board_rule.specs.declared.view.View.{View}
 use Rattle.board_rule.specs.Layout.{Lay, first}
 use Rattle.board_rule.specs.EndViews.{pool_at}
@@ -17,9 +18,10 @@ abbrev pub ComesBack : Lay → View → ℕ → Option ℕ → Type 0
 ComesBack p v q None = fill_cycle p v q ≡ first p
 ComesBack p v q (Some b) = (first p < fill_cycle p v q) × IsOutAlone p v q (fill_cycle p v q) b
 
--- from the view v and the free blocks `free` to the view w and the free blocks `left`: the block that comes back is used after all
--- that are free, and the one that is out in the end was free longest
-pub record TellsTurn (p : Lay) (v : View) (q : ℕ) (free : List ℕ) (w : View) (left : List ℕ) (told : Written) : Type 0 where
+-- from the view v and the free blocks `free` to the view w and the free blocks `left`: the one that is out in the end
+-- was free longest, and the one that came back is used after all others
+pub record TellsTurn (p : Lay) (v : View) (q : ℕ) (free : List ℕ) (w : View) (left : List ℕ) (told : Written)
+    : Type 0 where
   pub given : told.given ≡ number_given p v (last_of (pool_at p q).links)
   pub reclaimed : ComesBack p v q told.reclaimed
   pub used : IsOutAlone p w q (fill_cycle p v q + 1) told.used

@@ -1,4 +1,4 @@
--- The blocks of a pool between two turns of its node, and the list of the free ones. c is the cycle that the node is in.
+-- The blocks of a pool between two turns of its node, and the list of the free ones. c is the cycle of the node.
 -- Source: PipeWire's documentation, "SPA Buffers"; one pool an output port is this project's own.
 use Rattle.std.specs.Prelude.{◌≡◌, ◌≢◌, ℕ, ◌+◌, ◌<◌, AllPairs, Contains, length}
 use Rattle.board_rule.specs.declared.view.BlockView.TheVariants.{Free, Out}
@@ -15,7 +15,8 @@ AreFreeBut p v q b = (a : ℕ) → a < (pool_at p q).blocks → a ≢ b → bloc
 abbrev pub IsOutAlone : Lay → View → ℕ → ℕ → ℕ → Type 0
 IsOutAlone p v q c b = (b < (pool_at p q).blocks) × (block_of p v q b ≡ Out c) × AreFreeBut p v q b
 
--- in the first cycle all blocks are free, and later all but one, which is out since the cycle before. The list has those that are free
+-- in the first cycle all blocks are free, and later all but one, which is out since the cycle before. The list has
+-- those that are free, each once
 pub record Stock (p : Lay) (v : View) (q c : ℕ) (pool : Queue) : Type 0 where
   pub size : pool.blocks ≡ (pool_at p q).blocks
   pub some : 0 < (pool_at p q).blocks

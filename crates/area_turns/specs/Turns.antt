@@ -23,7 +23,8 @@ module _ (p : Lay) (v : View) where
 
   -- the block that was announced in this cycle is published on a link
   abbrev pub IsPublishedNow : ℕ → WriteView → WriteView → Type 0
-  IsPublishedNow l y z = (b : ℕ) × IsNew p v l b × (z ≡ record y { stored = write_cycle p v l + 1; id = b; last = y.id })
+  IsPublishedNow l y z = (b : ℕ) × IsNew p v l b
+      × (z ≡ record y { stored = write_cycle p v l + 1; id = b; last = y.id })
 
   -- all blocks of a pool are free
   abbrev pub AreFree : ℕ → Type 0

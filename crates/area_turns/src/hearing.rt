@@ -19,8 +19,8 @@ pub fn hear<S: BoardSeat>(board: &Board, seat: &mut S, link: u32, to: &mut [i16]
     requires long { let p = lay board.now.plot in length to.old ≡ quantum_of p (pool_of p link) }
     ensures table { S.table seat.new ≡ S.table seat.old }
     ensures knows { HasHeard S.leads (lay board.now.plot) (S.knows seat.old) link (S.knows seat.new) }
-    ensures samples { let p = lay board.now.plot in
-        to.new ≡ samples_in p (S.knows seat.old).expect (read_cycle S.leads p (S.knows seat.old) link) (pool_of p link) }
+    ensures samples { let p = lay board.now.plot in let c = read_cycle S.leads p (S.knows seat.old) link in
+        to.new ≡ samples_in p (S.knows seat.old).expect c (pool_of p link) }
 {
     take(board, seat, link);
     read(board, seat, link, to);

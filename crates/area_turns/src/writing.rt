@@ -1,5 +1,5 @@
 //! The turn of a node on a pool that it fills: one block for all links of the pool.
-ghost use Rattle.std.specs.Prelude.{◌≡◌, ◌≢◌, ℕ, ◌+◌, ◌<◌, All, AllPairs, ◌∷◌, ◌++◌, length, option_to_list};
+ghost use Rattle.std.specs.Prelude.{◌≡◌, ◌≢◌, ◌+◌, ◌<◌, All, AllPairs, ◌∷◌, ◌++◌, length, option_to_list};
 ghost use Rattle.board_rule.specs.declared.view.BlockView.TheVariants.{Out};
 ghost use Rattle.board_rule.specs.Layout.{lay};
 ghost use Rattle.board_rule.specs.EndViews.{pool_at, view_block};
@@ -19,9 +19,9 @@ use io_areas::{announce, fill, load_for_write, publish, reclaim};
 /// What a turn found and used.
 #[derive(Clone, Copy, Debug, PartialEq, Eq, Drop)]
 pub struct Written {
-    /// The number that the reader of the last link gave back. None exactly in the first cycle of the epoch.
+    /// The number that the reader of the last link gave back. None exactly in the first cycle.
     pub given: Option<u32>,
-    /// The block that came back, which is free again. None exactly in the first cycle of the epoch.
+    /// The block that came back and is free again. None exactly in the first cycle of the epoch.
     pub reclaimed: Option<u32>,
     /// The block that was filled, announced and published.
     pub used: u32,
@@ -34,7 +34,8 @@ fn load_all(board: &Board, seat: &mut LoopSeat, links: &[u32]) -> Option<u32>
     requires once { AllPairs (λ k l. k ≢ l) links.now }
     requires phase { All (LoadsAsWriter (lay board.now.plot) seat.old.knows) links.now }
     ensures table { seat.new.table ≡ seat.old.table }
-    ensures ends { AreMade (IsLoadedNow (lay board.now.plot) seat.old.knows) seat.old.knows links.now seat.new.knows }
+    ensures ends { let p = lay board.now.plot in
+        AreMade (IsLoadedNow p seat.old.knows) seat.old.knows links.now seat.new.knows }
     ensures given { result ≡ number_given (lay board.now.plot) seat.old.knows (last_of links.now) }
 {
     let mut given = None;
@@ -44,13 +45,16 @@ fn load_all(board: &Board, seat: &mut LoopSeat, links: &[u32]) -> Option<u32>
     given
 }
 
-// The block that is due comes back to the list of free ones. Answers it, and the one that is free longest then, taken from the list.
+// The block that is due comes back to the list of free ones. Answers it, and the one that was free longest, which
+// leaves the list.
 fn obtain(board: &Board, seat: &mut LoopSeat, pool: u32, free: &mut Pool) -> (Option<u32>, u32)
     requires table { seat.old.table ≡ board.now.table.shared.table_id }
     requires phase { Reclaims (lay board.now.plot) seat.old.knows pool }
-    requires stock { let p = lay board.now.plot in Stock p seat.old.knows pool (fill_cycle p seat.old.knows pool) free.old }
+    requires stock { let p = lay board.now.plot in
+        Stock p seat.old.knows pool (fill_cycle p seat.old.knows pool) free.old }
     ensures table { seat.new.table ≡ seat.old.table }
-    ensures reclaimed { HasReclaimed (lay board.now.plot) seat.old.knows pool result.0 seat.new.knows }
+    ensures reclaimed { let p = lay board.now.plot in
+        HasReclaimed p seat.old.knows pool result.0 seat.new.knows }
     ensures queue { free.old.free ++ option_to_list result.0 ≡ result.1 ∷ free.new.free }
     ensures blocks { free.new.blocks ≡ free.old.blocks }
 {
@@ -64,12 +68,15 @@ fn obtain(board: &Board, seat: &mut LoopSeat, pool: u32, free: &mut Pool) -> (Op
 // A block of a pool whose blocks are all free is filled and announced.
 fn emit(board: &Board, seat: &mut LoopSeat, pool: u32, id: u32, samples: &[i16])
     requires table { seat.old.table ≡ board.now.table.shared.table_id }
-    requires phase { let p = lay board.now.plot in IsAtPool p seat.old.knows pool × IsWriting p seat.old.knows pool }
+    requires phase { let p = lay board.now.plot in
+        IsAtPool p seat.old.knows pool × IsWriting p seat.old.knows pool }
     requires free { AreFree (lay board.now.plot) seat.old.knows pool }
     requires inside { id < (pool_at (lay board.now.plot) pool).blocks }
-    requires samples { let p = lay board.now.plot in samples.now ≡ samples_in p seat.old.knows.expect (fill_cycle p seat.old.knows pool) pool }
+    requires samples { let p = lay board.now.plot in
+        samples.now ≡ samples_in p seat.old.knows.expect (fill_cycle p seat.old.knows pool) pool }
     ensures table { seat.new.table ≡ seat.old.table }
-    ensures knows { let p = lay board.now.plot in seat.new.knows ≡ view_block p seat.old.knows pool id (Out (fill_cycle p seat.old.knows pool + 1)) }
+    ensures knows { let p = lay board.now.plot in let n = fill_cycle p seat.old.knows pool + 1 in
+        seat.new.knows ≡ view_block p seat.old.knows pool id (Out n) }
 {
     fill(board, seat, pool, id, samples);
     announce(board, seat, pool);
@@ -81,27 +88,40 @@ fn publish_all(board: &Board, seat: &mut LoopSeat, links: &[u32])
     requires once { AllPairs (λ k l. k ≢ l) links.now }
     requires phase { All (Publishes (lay board.now.plot) seat.old.knows) links.now }
     ensures table { seat.new.table ≡ seat.old.table }
-    ensures ends { AreMade (IsPublishedNow (lay board.now.plot) seat.old.knows) seat.old.knows links.now seat.new.knows }
+    ensures ends { let p = lay board.now.plot in
+        AreMade (IsPublishedNow p seat.old.knows) seat.old.knows links.now seat.new.knows }
 {
     for link in links {
         publish(board, seat, *link);
     }
 }
 
-/// The node of a pool, which works, takes its turn on it: `links`, all links of the pool in the order of the shape, are loaded,
-/// the block that is due comes back to the list of free ones, and the one that was free longest is filled with `samples`, one
-/// quantum, frames interleaved, announced, and published on all links.
-pub fn write(board: &Board, seat: &mut LoopSeat, pool: u32, links: &[u32], free: &mut Pool, samples: &[i16]) -> Written
+/// The node of a pool, which works, takes its turn on it: `links`, all links of the pool in the order of the shape,
+/// are loaded; the block that is due comes back to the list of free ones; and the one that was free longest is filled
+/// with `samples`, one quantum, frames interleaved, announced, and published on all links. The links are gone over
+/// twice, and the samples once. Takes no memory.
+pub fn write(
+    board: &Board,
+    seat: &mut LoopSeat,
+    pool: u32,
+    links: &[u32],
+    free: &mut Pool,
+    samples: &[i16],
+) -> Written
     requires plain { IsPlain (lay board.now.plot) }
     requires table { seat.old.table ≡ board.now.table.shared.table_id }
     requires phase { MayWrite (lay board.now.plot) seat.old.knows pool }
     requires links { links.now ≡ (pool_at (lay board.now.plot) pool).links }
-    requires stock { let p = lay board.now.plot in Stock p seat.old.knows pool (fill_cycle p seat.old.knows pool) free.old }
-    requires samples { let p = lay board.now.plot in samples.now ≡ samples_in p seat.old.knows.expect (fill_cycle p seat.old.knows pool) pool }
+    requires stock { let p = lay board.now.plot in
+        Stock p seat.old.knows pool (fill_cycle p seat.old.knows pool) free.old }
+    requires samples { let p = lay board.now.plot in
+        samples.now ≡ samples_in p seat.old.knows.expect (fill_cycle p seat.old.knows pool) pool }
     ensures table { seat.new.table ≡ seat.old.table }
     ensures knows { HasWritten (lay board.now.plot) seat.old.knows pool seat.new.knows }
-    ensures stock { let p = lay board.now.plot in Stock p seat.new.knows pool (fill_cycle p seat.old.knows pool + 1) free.new }
-    ensures answer { TellsTurn (lay board.now.plot) seat.old.knows pool free.old.free seat.new.knows free.new.free result }
+    ensures stock { let p = lay board.now.plot in
+        Stock p seat.new.knows pool (fill_cycle p seat.old.knows pool + 1) free.new }
+    ensures answer { let p = lay board.now.plot in
+        TellsTurn p seat.old.knows pool free.old.free seat.new.knows free.new.free result }
 {
     let given = load_all(board, seat, links);
     let (reclaimed, used) = obtain(board, seat, pool, free);

@@ -7,8 +7,10 @@ use Rattle.area_turns.proofs.hearing.hear.Goals as goal
 
 pub returns-clause-knows : goal.returns-clause-knows
 returns-clause-knows g c = let b = g.S.BoardSeat.leads in let p = lay c.args.board.now.plot in let l = c.args.link in
-    has_heard b p (g.S.BoardSeat.knows c.args.seat.now) l c.requires.phase c.take.result c.take.ensures.inside _ (c.give_back.ensures.knows ∙ ap (λ (v : View). given_back b p v l) (c.read.ensures.knows ∙ c.take.ensures.knows))
+    has_heard b p (g.S.BoardSeat.knows c.args.seat.now) l c.requires.phase c.take.result c.take.ensures.inside _
+    (c.give_back.ensures.knows ∙ ap (λ (v : View). given_back b p v l) (c.read.ensures.knows ∙ c.take.ensures.knows))
 
 pub returns-clause-samples : goal.returns-clause-samples
 returns-clause-samples g c = let b = g.S.BoardSeat.leads in let p = lay c.args.board.now.plot in let l = c.args.link in
-    c.read.ensures.samples ∙ ap (λ (v : View). heard b p v l) c.take.ensures.knows ∙ heard_now b p _ l c.requires.phase c.take.result c.take.ensures.inside c.requires.plain
+    c.read.ensures.samples ∙ ap (λ (v : View). heard b p v l) c.take.ensures.knows
+    ∙ heard_now b p _ l c.requires.phase c.take.result c.take.ensures.inside c.requires.plain

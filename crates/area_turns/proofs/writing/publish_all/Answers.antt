@@ -12,9 +12,11 @@ publish-requires-clause-phase c = let p = lay c.args.board.now.plot in let v : V
 
 pub loop-link-preserved : goal.loop-link-preserved
 loop-link-preserved c = let p = lay c.args.board.now.plot in let v : View = c.args.seat.now.knows in let w : View = c.loop-link.seat.knows in
-    let xs = c.args.links.now in let k = c.loop-link.link-index in let l : ℕ = get_or xs k 0 in let h = c.loop-link-test.true in let i = c.loop-link.invariant in let e = c.publish.ensures in
+    let xs = c.args.links.now in let k = c.loop-link.link-index in let l : ℕ = get_or xs k 0 in let h = c.loop-link-test.true in
+    let i = c.loop-link.invariant in let e = c.publish.ensures in
     let d = e.published in record {
       table = e.table ∙ i.table;
       ends = subst (λ (x : View). AreMade (IsPublishedNow p v) v (take (k + 1) xs) x) (sym d.2)
-          (next_made (IsPublishedNow p v) v xs k w _ c.requires.once h (c.requires.phase k 0 h).0.1 i.ends (published_is p v (take k xs) w l (not_before xs k 0 c.requires.once h) i.ends d.0 d.1));
+          (next_made (IsPublishedNow p v) v xs k w _ c.requires.once h (c.requires.phase k 0 h).0.1 i.ends
+          (published_is p v (take k xs) w l (not_before xs k 0 c.requires.once h) i.ends d.0 d.1));
     }
