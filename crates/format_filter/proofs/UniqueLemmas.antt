@@ -18,7 +18,6 @@ use Rattle.format_filter.specs.declared.choice.Wide.{Wide}
 use Rattle.format_filter.specs.declared.fault.FormatFault.{FormatFault}
 use Rattle.format_filter.specs.declared.format.Field.{Field}
 use Rattle.format_filter.specs.declared.format.Format.{Format}
-use Rattle.format_filter.specs.Members.{number_of}
 use Rattle.format_filter.specs.CommonFormat.{IsSoundFormat, field_of}
 use Rattle.format_filter.specs.ChoiceReading.{Prefers, ReadsRange, ReadsStep, ReadsEnum, ReadsValues, FaultsValues, Reads, Faults}
 use Rattle.format_filter.specs.FormatReading.{key_of, ReadsField, AreFieldsOf, FaultsProps, ReadsObject, FaultsObject, IsReadAs}
