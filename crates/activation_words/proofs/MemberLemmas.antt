@@ -11,14 +11,10 @@ use Rattle.board_rule.specs.declared.view.View.{View}
 use Rattle.board_rule.specs.Layout.{Lay, IsSound, nodes, first, last}
 use Rattle.board_rule.specs.View.{Samples, idle, node_of, view_node, loop_view, driver_view}
 use Rattle.board_rule.specs.Steps.{HasNode, Claims, woken, tried, IsReadyToFinish}
+use Rattle.board_rule.proofs.StartLemmas.{all_same}
 use Rattle.activation_words.specs.Calls.{IsAwake, HasStarted, HasRested}
 use Rattle.activation_words.specs.Members.{IsResting, IsBetween}
 use Rattle.activation_words.proofs.ViewLemmas.{again, has_again}
-
-there_replicate : {A : Type 0} (k i : ℕ) (a : A) → i < k → get_elem? (replicate k a) i ≡ some a
-there_replicate zero i a h = absurd (omega arith)
-there_replicate (suc k) zero a h = refl
-there_replicate (suc k) (suc i) a h = there_replicate k i a (omega arith)
 
 module _ (p : Lay) where
   pub new_rests : (e : Samples) (k m : ℕ) → m < nodes p → m ≢ p.driver → p.seat_of m ≡ k → k < p.seats → IsResting p (loop_view p e k) m
@@ -31,7 +27,7 @@ module _ (p : Lay) where
             loops = low;
             owned = owned;
             there = subst (λ j. m < j) (sym (length-replicate (nodes p) (idle (first p)))) inside;
-            knows = there_replicate (nodes p) m (idle (first p)) inside ∙ ap some (sym at);
+            knows = all_same (nodes p) m (idle (first p)) inside ∙ ap some (sym at);
           },
           subst (λ (x : NodeView). (first p ≤ x.next) × (x.next ≤ last p)) (sym at) (omega arith, omega arith),
           inside,

@@ -1,7 +1,10 @@
-//! Tests of pw_base over its public calls: worked shapes, histories, words and lists, and plans that are unsound by one
-//! reason each. They stand apart, since a crate that has tests is proved twice. There is nothing else here.
+//! Tests of pw_base over its public calls: worked shapes, histories, words and lists, pieces and names, and plans
+//! that are unsound by one reason each. They stand apart, since a crate that has tests is proved twice. There is
+//! nothing else here.
 #![tactic(auto)]
 
+#[cfg(test)]
+mod cutting;
 #[cfg(test)]
 mod plans;
 #[cfg(test)]

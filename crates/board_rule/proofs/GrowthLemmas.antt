@@ -3,7 +3,7 @@ use Rattle.std.proofs.Common.{◌≡◌, ℕ, zero, suc, ◌+◌, ◌<◌, ◌�
 use mathlib.Core.Logic.{dite}
 use native.Mathlib.Decide.{ℕ_discrete}
 use Rattle.std.specs.Prelude.{count_by, slice_get}
-use Rattle.std.specs.List.{position_or_len, AllZip}
+use Rattle.std.specs.List.{position_or_len}
 use Rattle.std.proofs.lemmas.List.Folds.{position_or_len_push}
 use Rattle.std.proofs.lemmas.List.Sums.{sum_by-append, sum_by-cons}
 
@@ -66,9 +66,3 @@ module _ {X : Type 0} where
   get_cases [] y (suc i) x e = cc
   get_cases (z ∷ xs) y zero x e = inl e
   get_cases (z ∷ xs) y (suc i) x e = ⊎_elim inl (λ (t : (i ≡ length xs) × (y ≡ x)). inr (ap suc t.0, t.1)) (get_cases xs y i x e)
-
-pub all_zip_more : {A B : Type 0} (R : A → B → Type 0) (xs : List A) (ys : List B) (x : A) (y : B) → AllZip R xs ys → R x y → AllZip R (xs ++ x ∷ []) (ys ++ y ∷ [])
-all_zip_more R [] [] x y h r = (r, tt)
-all_zip_more R [] (b ∷ ys) x y h r = absurd h
-all_zip_more R (a ∷ xs) [] x y h r = absurd h
-all_zip_more R (a ∷ xs) (b ∷ ys) x y h r = (h.0, all_zip_more R xs ys x y h.1 r)

@@ -26,7 +26,7 @@ use Rattle.std.proofs.lemmas.List.{length-map}
 use Rattle.pw_base.specs.Pools.{IsPooledShape, channels_of, sources_of, words_of}
 use Rattle.pw_base.specs.Pools as pools
 use Rattle.board_rule.proofs.PoolWordLemmas.{pools_have_words}
-use Rattle.pw_base.proofs.PoolLemmas.{channels_le}
+use Rattle.pw_base.proofs.PoolLemmas.{channels_le, same_port, port_same}
 use Rattle.pw_base.proofs.LayoutLemmas.{length-start_words}
 use Rattle.board_rule.specs.declared.plot.Plot.{Plot}
 use Rattle.board_rule.specs.Layout.{Lay, lay, first, HasSeats, IsUndelayed}
@@ -45,7 +45,7 @@ use Rattle.board_rule.proofs.SeatLemmas.{put_here, put_else, set_there, seat_ste
 use Rattle.board_rule.proofs.SpanLemmas.{over_at, begun_at, over_lead, begun_lead}
 use Rattle.board_rule.proofs.FollowerLemmas.{same_node}
 use Rattle.board_rule.proofs.DriverLemmas.{lead_is}
-use Rattle.board_rule.proofs.PortLemmas.{same_port, port_same, has_id, few_ports}
+use Rattle.board_rule.proofs.PortLemmas.{has_id, few_ports}
 use Rattle.board_rule.proofs.WiringLemmas.{LinkAt, PoolAt, Wired, wired, pool_source}
 use Rattle.board_rule.proofs.FinishLemmas.{Ready}
 

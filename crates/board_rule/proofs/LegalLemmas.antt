@@ -5,6 +5,7 @@ use Rattle.std.specs.List.{flat_map, AllZip}
 use Rattle.std.proofs.lemmas.List.{get_or-map}
 use Rattle.std.proofs.lemmas.List.Elements.{All-append, All-contains, Contains-append_cases}
 use Rattle.std.proofs.lemmas.List.Sums.{sum_by-cons}
+use Rattle.std.proofs.lemmas.Slice.Zip.{all_zipped_more}
 use Rattle.std.proofs.lemmas.List.FromFn.{map-range_with_len_more}
 use Rattle.std.proofs.lemmas.Grind.{flat_map-append}
 use Rattle.pw_base.specs.declared.event.Event.{Event}
@@ -16,7 +17,6 @@ use Rattle.pw_base.specs.EventWords.{event_cycle, event_node}
 use Rattle.pw_base.specs.History.{is_tick, tick_place, start_place, finish_place, IsOfCycle, RunsOnce, IsLegalInside, IsLegalCycle, AreJoined, epoch_cycles}
 use Rattle.board_rule.specs.Layout.{Lay, IsSound, nodes, first, last}
 use Rattle.board_rule.specs.Logged.{Records, Tally, IsSoFar, Earlier, Inside}
-use Rattle.board_rule.proofs.GrowthLemmas.{all_zip_more}
 
 some_pass : {X : Type 0} (f : X → Bool) (xs : List X) (i : ℕ) (d : X) → i < length xs → f (get_or xs i d) ≡ true → 0 < count_by f xs
 some_pass f [] i d h t = absurd (omega arith)
@@ -94,7 +94,7 @@ module _ (p : Lay) (sound : IsSound p) (c late : ℕ) (k : Tally) (xs : List Eve
         parts = l.parts ++ part ∷ [];
         joined = ap (λ ys. ys ++ part) l.joined ∙ ap (λ ys. flat_map (λ q. q) l.parts ++ ys) (sym (append-nil part)) ∙ sym (flat_map-append (λ q. q) l.parts (part ∷ []));
         legal = subst (λ cs. AllZip (λ (z : Shape × ℕ) q. IsLegalCycle z.0 z.1 q) cs (l.parts ++ part ∷ [])) (sym (map-range_with_len_more {X = Shape × ℕ} (λ z. (p.shape, z)) p.shape.first (c - first p) c now))
-            (all_zip_more (λ (z : Shape × ℕ) q. IsLegalCycle z.0 z.1 q) (epoch_cycles p.shape (c - first p)) l.parts (p.shape, c) part l.legal (xs, refl, legal_inside));
+            (all_zipped_more (λ (z : Shape × ℕ) q. IsLegalCycle z.0 z.1 q) (epoch_cycles p.shape (c - first p)) l.parts (p.shape, c) part l.legal (xs, refl, legal_inside));
       };
       before = All-append (λ x. (first p ≤ event_cycle x) × (event_cycle x < c + 1) × (event_node x ≤ 63)) past part (λ i d h. let b = e.before i d h in let b₀ = b.0 in let b₁ = b.1 in let b₂ = b.2 in (omega arith, omega arith, omega arith))
           (all_of (λ x. (first p ≤ event_cycle x) × (event_cycle x < c + 1) × (event_node x ≤ 63)) (omega arith, omega arith, omega arith)

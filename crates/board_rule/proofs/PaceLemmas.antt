@@ -15,6 +15,7 @@ use Rattle.board_rule.specs.ActivationRule.{Activations, posts}
 use Rattle.board_rule.specs.Areas.{Span}
 use Rattle.board_rule.specs.Spans.{phase_over, phase_begun, drive_over, drive_begun, spans}
 use Rattle.board_rule.proofs.RunLemmas.{begun_told}
+use Rattle.board_rule.proofs.SpanLemmas.{over_at, begun_at, over_lead, begun_lead}
 use Rattle.board_rule.proofs.FollowerLemmas.{rest_at, stage_at, words_run}
 use Rattle.board_rule.proofs.DriverLemmas.{stage_driver}
 use Rattle.board_rule.proofs.WiringLemmas.{LinkAt, Wired}
@@ -94,28 +95,15 @@ module _ (p : Lay) where
     pub near : (m n : ℕ) → m < nodes p → n < nodes p → (s m).begun ≤ (s n).over + 1
     pub ordered : (l : ℕ) (k : ShapeLink) → LinkAt p l k → (s (p.place k.to.node)).begun ≤ (s (p.place k.from.node)).over
 
-  -- the span of a follower, and of the driver
-  pub over_at : (g : Whole) (n : ℕ) → n ≢ p.driver → (spans p g n).over ≡ (g.nodes n).next + phase_over (g.nodes n).phase
-  over_at g n o = ap (λ b. cond b (g.lead.cycle + drive_over g.lead.drive) ((g.nodes n).next + phase_over (g.nodes n).phase)) (ne_eqb n p.driver o)
-
-  pub begun_at : (g : Whole) (n : ℕ) → n ≢ p.driver → (spans p g n).begun ≡ (g.nodes n).next + phase_begun (g.nodes n).phase
-  begun_at g n o = ap (λ b. cond b (g.lead.cycle + drive_begun g.lead.drive) ((g.nodes n).next + phase_begun (g.nodes n).phase)) (ne_eqb n p.driver o)
-
-  pub over_driver : (g : Whole) (n : ℕ) → n ≡ p.driver → (spans p g n).over ≡ g.lead.cycle + drive_over g.lead.drive
-  over_driver g n e = ap (λ b. cond b (g.lead.cycle + drive_over g.lead.drive) ((g.nodes n).next + phase_over (g.nodes n).phase)) (eq-eqb n p.driver e)
-
-  pub begun_driver : (g : Whole) (n : ℕ) → n ≡ p.driver → (spans p g n).begun ≡ g.lead.cycle + drive_begun g.lead.drive
-  begun_driver g n e = ap (λ b. cond b (g.lead.cycle + drive_begun g.lead.drive) ((g.nodes n).next + phase_begun (g.nodes n).phase)) (eq-eqb n p.driver e)
-
   -- all nodes are in the driver's cycle
   pub in_cycle : (g : Whole) (ws : List ℕ) → Activations p g ws → (n : ℕ) → n < nodes p → (g.lead.cycle ≤ (spans p g n).over) × ((spans p g n).over ≤ (spans p g n).begun) × ((spans p g n).begun ≤ g.lead.cycle + 1)
   in_cycle g ws a n h = dite (ℕ_discrete n p.driver)
-      (λ q. let x = over_driver g n q in let y = begun_driver g n q in let z = drive_span g.lead.drive in let z₀ = z.0 in let z₁ = z.1 in (omega arith, omega arith, omega arith))
-      (λ q. let x = over_at g n q in let y = begun_at g n q in let z = phase_span (length (p.targets n)) g.lead.cycle (g.nodes n).next (g.nodes n).phase (a.followers n h q) in let z₀ = z.0 in let z₁ = z.1 in let z₂ = z.2 in (omega arith, omega arith, omega arith))
+      (λ q. let x = over_lead p g n q in let y = begun_lead p g n q in let z = drive_span g.lead.drive in let z₀ = z.0 in let z₁ = z.1 in (omega arith, omega arith, omega arith))
+      (λ q. let x = over_at p g n q in let y = begun_at p g n q in let z = phase_span (length (p.targets n)) g.lead.cycle (g.nodes n).next (g.nodes n).phase (a.followers n h q) in let z₀ = z.0 in let z₁ = z.1 in let z₂ = z.2 in (omega arith, omega arith, omega arith))
 
   -- where the cycle runs and n has woken, each node that it waits for is over
   told : (g : Whole) (ws : List ℕ) (m n : ℕ) → Activations p g ws → m < nodes p → n < nodes p → m ≢ p.driver → 0 < times n (p.targets m) → (is_resetting g.lead.drive ≡ true → ⊥) → 0 < (posts p g).stage n → (spans p g m).over ≡ g.lead.cycle + 1
-  told g ws m n a hm hn follows dep runs_on woken = over_at g m follows ∙ told_over (p.targets m) (length (p.targets m)) g.lead.cycle (g.nodes m).next n (g.nodes m).phase (a.followers m hm follows) dep
+  told g ws m n a hm hn follows dep runs_on woken = over_at p g m follows ∙ told_over (p.targets m) (length (p.targets m)) g.lead.cycle (g.nodes m).next n (g.nodes m).phase (a.followers m hm follows) dep
       (sym (ap (times n) (rest_at p g m follows)) ∙ begun_told p.shape g.lead.cycle n m (posts p g) ws hn hm woken (words_run p g g.lead.drive ws runs_on a.laid))
 
   pub paces : (g : Whole) (ws : List ℕ) → Wired p → Activations p g ws → Paced (spans p g)
@@ -127,9 +115,9 @@ module _ (p : Lay) where
         dite (dec_le (spans p g n).begun g.lead.cycle)
         (λ z. omega arith)
         (λ z. let over = dite (ℕ_discrete n p.driver)
-        (λ q. let e = begun_driver g n q in let d = drive_awake g.lead.drive (omega arith) in
+        (λ q. let e = begun_lead p g n q in let d = drive_awake g.lead.drive (omega arith) in
         told g ws m n a hm hn (w.from_follows l k at) dep d.0 (subst (λ j. 0 < j) (sym (ap (posts p g).stage q ∙ stage_driver p g)) d.1))
-        (λ q. let e = begun_at g n q in
+        (λ q. let e = begun_at p g n q in
         told g ws m n a hm hn (w.from_follows l k at) dep
         (λ r. let i = a.resting r n hn q in let f : (g.nodes n).next + phase_begun (g.nodes n).phase ≡ g.lead.cycle + 0 = (λ j. i.0 j + phase_begun (i.1 j)) in omega arith)
         (subst (λ j. 0 < j) (sym (stage_at p g n q)) (begun_woken (length (p.targets n)) g.lead.cycle (g.nodes n).next (g.nodes n).phase (a.followers n hn q) (omega arith)))) in omega arith);

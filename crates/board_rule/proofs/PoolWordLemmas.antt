@@ -7,9 +7,9 @@ use Rattle.pw_base.specs.declared.ids.PortId.{PortId}
 use Rattle.pw_base.specs.declared.shape.ShapeLink.{ShapeLink}
 use Rattle.pw_base.specs.declared.pools.PoolShape.{PoolShape}
 use Rattle.pw_base.specs.Pools.{is_port, links_from, channels_of, IsPooledShape}
+use Rattle.pw_base.proofs.PoolLemmas.{port_same}
 use Rattle.pw_base.proofs.PrecedenceLemmas.{holds_at}
 use Rattle.board_rule.specs.Layout.{Lay, IsSound, IsUndelayed}
-use Rattle.board_rule.proofs.PortLemmas.{port_same}
 use Rattle.board_rule.proofs.WiringLemmas.{PoolAt, wired, pool_source}
 
 most_from : (a : ℕ) (xs : List ShapeLink) → a ≤ fold (λ top l. max top l.channels) a xs

@@ -1,5 +1,5 @@
 -- The pools of a shape by their ports: each link is of one pool, and each pool has a link.
-use Rattle.std.proofs.Common.{◌≡◌, ◌≢◌, ℕ, zero, suc, ◌+◌, ◌-◌, ◌<◌, ◌≤◌, ◌==◌, ◌&&◌, ◌||◌, nat_lt, Bool, true, false, true≢false, cond, List, [], ◌∷◌, ◌++◌, map, length, get_or, ◌⊎◌, inl, inr, ⊎_elim, refl, sym, ap, ◌∙◌, subst, arith, eq-eqb, eqb-true, lt-ltb, ltb-true, length-append}
+use Rattle.std.proofs.Common.{◌≡◌, ◌≢◌, ℕ, zero, suc, ◌+◌, ◌-◌, ◌<◌, ◌≤◌, ◌==◌, ◌&&◌, nat_lt, Bool, true, false, true≢false, cond, List, [], ◌∷◌, ◌++◌, map, length, get_or, ◌⊎◌, inl, inr, ⊎_elim, refl, sym, ap, ◌∙◌, subst, arith, eq-eqb, eqb-true, lt-ltb, ltb-true, length-append}
 use Rattle.std.specs.Prelude.{fold, filter, All, Contains}
 use Rattle.std.specs.List.{enumerate_from}
 use mathlib.Core.Logic.{dite}
@@ -8,6 +8,8 @@ use Rattle.std.proofs.lemmas.List.Elements.{All-head, All-tail, All-cons, All-fi
 use Rattle.pw_base.specs.declared.ids.PortId.{PortId}
 use Rattle.pw_base.specs.declared.shape.ShapeLink.{ShapeLink}
 use Rattle.pw_base.specs.Pools.{is_port, is_before, with_port, link_ids_from}
+use Rattle.std.proofs.lemmas.Bool.{and_parts, and_from, or_cases, or_left, or_right}
+use Rattle.pw_base.proofs.PoolLemmas.{port_is, same_port, port_same}
 use Rattle.pw_base.proofs.PrecedenceLemmas.{holds_at}
 
 -- no two elements of a list are the same
@@ -39,45 +41,15 @@ module _ {X : Type 0} where
   differ_at (x ∷ xs) d (suc i) zero h a b e = absurd (h.0 i d (omega arith) (sym e))
   differ_at (x ∷ xs) d (suc i) (suc j) h a b e = ap suc (differ_at xs d i j h.1 (omega arith) (omega arith) e)
 
-and_both : (a b : Bool) → (a && b) ≡ true → (a ≡ true) × (b ≡ true)
-and_both true b e = (refl, e)
-and_both false b e = absurd (true≢false (sym e))
-
-or_one : (a b : Bool) → (a || b) ≡ true → (a ≡ true) ⊎ (b ≡ true)
-or_one true b e = inl refl
-or_one false b e = inr e
-
-left_or : (a b : Bool) → a ≡ true → (a || b) ≡ true
-left_or true b e = refl
-left_or false b e = absurd (true≢false (sym e))
-
-right_or : (a b : Bool) → b ≡ true → (a || b) ≡ true
-right_or true b e = refl
-right_or false b e = e
-
-both_and : (a b : Bool) → a ≡ true → b ≡ true → (a && b) ≡ true
-both_and true b e f = f
-both_and false b e f = absurd (true≢false (sym e))
-
--- ports: by node, then by port
-pub port_is : (p q : PortId) → p.node ≡ q.node → p.port ≡ q.port → p ≡ q
-port_is p q e f = λ i. record { node = e i; port = f i }
-
-pub same_port : (p q : PortId) → is_port p q ≡ true → p ≡ q
-same_port p q e = let h = and_both (p.node == q.node) (p.port == q.port) e in port_is p q (eqb-true p.node q.node h.0) (eqb-true p.port q.port h.1)
-
-pub port_same : (p q : PortId) → p ≡ q → is_port p q ≡ true
-port_same p q e = both_and (p.node == q.node) (p.port == q.port) (eq-eqb p.node q.node (ap (λ x. x.node) e)) (eq-eqb p.port q.port (ap (λ x. x.port) e))
-
 -- before, in numbers
 abbrev Before : PortId → PortId → Type 0
 Before p q = (p.node < q.node) ⊎ ((p.node ≡ q.node) × (p.port < q.port))
 
 before_is : (p q : PortId) → is_before p q ≡ true → Before p q
-before_is p q e = ⊎_elim (λ h. inl (ltb-true p.node q.node h)) (λ h. let b = and_both (p.node == q.node) (nat_lt p.port q.port) h in inr (eqb-true p.node q.node b.0, ltb-true p.port q.port b.1)) (or_one (nat_lt p.node q.node) ((p.node == q.node) && nat_lt p.port q.port) e)
+before_is p q e = ⊎_elim (λ h. inl (ltb-true p.node q.node h)) (λ h. let b = and_parts (p.node == q.node) (nat_lt p.port q.port) h in inr (eqb-true p.node q.node b.0, ltb-true p.port q.port b.1)) (or_cases (nat_lt p.node q.node) ((p.node == q.node) && nat_lt p.port q.port) e)
 
 is_lower : (p q : PortId) → Before p q → is_before p q ≡ true
-is_lower p q h = ⊎_elim (λ l. left_or (nat_lt p.node q.node) _ (lt-ltb p.node q.node l)) (λ b. right_or (nat_lt p.node q.node) _ (both_and (p.node == q.node) (nat_lt p.port q.port) (eq-eqb p.node q.node b.0) (lt-ltb p.port q.port b.1))) h
+is_lower p q h = ⊎_elim (λ l. or_left (nat_lt p.node q.node) _ (lt-ltb p.node q.node l)) (λ b. or_right (nat_lt p.node q.node) _ (and_from (p.node == q.node) (nat_lt p.port q.port) (eq-eqb p.node q.node b.0) (lt-ltb p.port q.port b.1))) h
 
 one_way : (p q : PortId) → Before p q → Before q p → ⊥
 one_way p q h g = ⊎_elim (λ a. ⊎_elim (λ b. absurd (omega arith)) (λ b. absurd (let e = b.0 in omega arith)) g) (λ a. ⊎_elim (λ b. absurd (let e = a.0 in omega arith)) (λ b. absurd (let e = a.1 in let f = b.1 in omega arith)) g) h

@@ -4,6 +4,7 @@ use Rattle.std.specs.Prelude.{filter, All, Contains}
 use Rattle.std.specs.List.Sorted.{IsStrictlyIncreasing}
 use mathlib.Core.Logic.{dite}
 use native.Mathlib.Decide.{ℕ_discrete}
+use Rattle.std.proofs.lemmas.Bool.{or_left, or_right}
 use Rattle.std.proofs.lemmas.List.{get_or-map, get_or_default, map-append, length-map}
 use Rattle.std.proofs.lemmas.List.Sums.{position_or_len_is, passes_at_first}
 use Rattle.std.proofs.lemmas.List.Elements.{All-append, All-filter, All-map}
@@ -94,15 +95,6 @@ drop_tests : (b w : Bool) → b ≡ true → (not b && w) ≡ false
 drop_tests true w e = refl
 drop_tests false w e = absurd (true≢false (sym e))
 
-or_left : (b c : Bool) → b ≡ true → (b || c) ≡ true
-or_left true c e = refl
-or_left false c e = absurd (true≢false (sym e))
-
-or_right : (b c d : Bool) → c ≡ true → (b || (c || d)) ≡ true
-or_right true c d e = refl
-or_right false true d e = refl
-or_right false false d e = absurd (true≢false (sym e))
-
 abbrev no_node : ShapeNode
 no_node = record { node = 0; required = 0; targets = [] }
 
@@ -161,7 +153,7 @@ module _ (shape : Shape) (s : IsSoundShape shape) where
       (λ q. let same : d ≡ j = ap place (sym q) ∙ place_at j hj in
       let t : cond {A = ℕ} (eqb d j) 1 0 ≡ 1 = ap (λ b. cond {A = ℕ} b 1 0) (eq-eqb d j same) in
       let n : cond {A = ℕ} (not (x == shape.driver) && waits shape x y) 1 0 ≡ 0 = ap (λ b. cond {A = ℕ} b 1 0) (drop_tests (x == shape.driver) (waits shape x y) (eq-eqb x shape.driver q)) in
-      let w : cond {A = ℕ} (waits shape x y) 1 0 ≡ 1 = ap (λ b. cond {A = ℕ} b 1 0) (or_right (y == shape.driver) (x == shape.driver) (are_linked shape y x) (eq-eqb x shape.driver q)) in omega arith)
+      let w : cond {A = ℕ} (waits shape x y) 1 0 ≡ 1 = ap (λ b. cond {A = ℕ} b 1 0) (or_right (y == shape.driver) _ (or_left (x == shape.driver) (are_linked shape y x) (eq-eqb x shape.driver q))) in omega arith)
       (λ q. let other : d ≢ j = λ e. q (sym (ap (λ k. get_or ns k 0) e) ∙ at_place shape.driver driver_in) in
       let t : cond {A = ℕ} (eqb d j) 1 0 ≡ 0 = ap (λ b. cond {A = ℕ} b 1 0) (ne_eqb d j other) in
       let n : cond {A = ℕ} (not (x == shape.driver) && waits shape x y) 1 0 ≡ cond {A = ℕ} (waits shape x y) 1 0 = ap (λ b. cond {A = ℕ} b 1 0) (both_tests (x == shape.driver) (waits shape x y) (ne_eqb x shape.driver q)) in omega arith)

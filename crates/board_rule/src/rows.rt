@@ -7,7 +7,7 @@ ghost use Rattle.pw_base.specs.Pools.{IsPooledShape, is_port, pools_of};
 ghost use Rattle.board_rule.specs.EndViews.{pool_in};
 ghost use Rattle.board_rule.specs.Rows.{IsLinkRow, HasLinkRows, IsPoolRow, HasPoolRows, HasRows, HasPlaces, base_of};
 
-use pw_base::{Memory, PoolShape, PortId, Shape, ShapeLink, pools_of};
+use pw_base::{Memory, PoolShape, PortId, Shape, ShapeLink, is_port, pools_of};
 use std::alloc::{AllocError, Global};
 
 /// A link: the places of its writer and of its reader, the number of the pool that it reads, and where its area stands;
@@ -131,9 +131,7 @@ fn areas_of(links: &[ShapeLink]) -> usize
 fn find_pool(pools: &[PoolShape], port: PortId) -> Option<usize>
     ensures { result ≡ position (λ x. is_port x.port port) pools.now }
 {
-    pools
-        .iter()
-        .position(|p| p.port.node == port.node && p.port.port == port.port)
+    pools.iter().position(|p| is_port(p.port, port))
 }
 
 // The pool that a port fills, or the number of pools.

@@ -20,7 +20,8 @@ use Rattle.pw_base.specs.SoundPlan.{FollowFrom}
 use Rattle.wav_files.specs.declared.wav.WavIn.{WavIn}
 use Rattle.cycle_model.specs.declared.received.Received.{Received}
 use Rattle.cycle_model.specs.declared.received.Given.{Given}
-use Rattle.cycle_model.specs.Epochs.{is_port, is_within, epoch_at, listed, first_at, is_active, links_into, channels_of, channels_at, active_cycles}
+use Rattle.pw_base.specs.Pools.{is_port}
+use Rattle.cycle_model.specs.Epochs.{is_within, epoch_at, listed, first_at, is_active, links_into, channels_of, channels_at, active_cycles}
 use Rattle.cycle_model.specs.Cycle.{wave_of, last_of, brought, input_of, stream_of, heard, outputs}
 use Rattle.cycle_model.specs.Mixing.{takes_part}
 use Rattle.cycle_model.specs.Renderable.{IsFitting, IsRenderableEpoch, IsRenderable}

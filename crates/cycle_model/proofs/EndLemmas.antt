@@ -11,7 +11,8 @@ use Rattle.pw_base.specs.declared.plan.Epoch.{Epoch}
 use Rattle.pw_base.specs.declared.plan.Plan.{Plan}
 use Rattle.pw_base.specs.Samples.{clamped}
 use Rattle.wav_files.specs.declared.wav.WavIn.{WavIn}
-use Rattle.cycle_model.specs.Epochs.{is_port, channels_of, all_cycles}
+use Rattle.pw_base.specs.Pools.{is_port}
+use Rattle.cycle_model.specs.Epochs.{channels_of, all_cycles}
 use Rattle.cycle_model.specs.Cycle.{stream_of, outputs}
 use Rattle.cycle_model.specs.Rendering.{end_stream}
 use Rattle.cycle_model.specs.Mixing.{place_of, sample_at_place, sum_at, mixed_row, takes_part, epoch_row, IsPlainMix}

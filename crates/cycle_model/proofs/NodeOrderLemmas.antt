@@ -6,6 +6,7 @@ use Rattle.std.proofs.lemmas.Bool.{cases_Bool, cases_eq, cases_lt, false≢true,
 use Rattle.pw_base.specs.declared.shape.ShapeLink.{ShapeLink}
 use Rattle.pw_base.specs.declared.plan.Epoch.{Epoch}
 use Rattle.pw_base.specs.LinkOrder.{is_blocked, IsFree}
+use Rattle.pw_base.proofs.OrderLemmas.{blocks}
 use Rattle.cycle_model.specs.Mixing.{takes_part}
 use Rattle.cycle_model.specs.NodeOrder.{is_among, MayFollow, IsOrder, IsWhole}
 
@@ -57,10 +58,6 @@ marked_start e left long marks small = record {
   where
     past : (xs : List Bool) (i : ℕ) → length xs ≤ i → get_or xs i false ≡ false
     past xs i h = get_or_past xs i false h
-
--- the parts of the test in `is_blocked`
-blocks : (a b c : Bool) → a ≡ false → b ≡ true → c ≡ true → (not a && (b && c)) ≡ true
-blocks a b c p q r = rw (p, q, r) refl
 
 module _ (e : Epoch) (order : List ℕ) (left : List Bool) (n : ℕ) (m : IsMarked e order left) (free : IsFree e.shape.links left n)
     (active : All (λ l. takes_part e l.from.node ≡ true) e.shape.links) where

@@ -12,6 +12,7 @@ use Rattle.pw_base.specs.declared.plan.Plan.{Plan}
 use Rattle.pw_base.specs.declared.plan.PlanNode.{PlanNode}
 use Rattle.pw_base.specs.Samples.{peak_of}
 use Rattle.pw_base.specs.KindPorts.{input_count}
+use Rattle.pw_base.specs.PlanSums.{is_sink}
 use Rattle.pw_base.specs.PlanForms.{kind_at}
 use Rattle.wav_files.specs.declared.wav.WavIn.{WavIn}
 use Rattle.wav_files.specs.declared.outcome.Kept.{Kept}
@@ -19,7 +20,7 @@ use Rattle.wav_files.specs.declared.outcome.Peak.{Peak}
 use Rattle.cycle_model.specs.declared.received.Received.{Received}
 use Rattle.cycle_model.specs.Epochs.{all_cycles}
 use Rattle.cycle_model.specs.Cycle.{Outputs, stream_of, outputs}
-use Rattle.cycle_model.specs.Rendering.{is_sink, is_meter, end_stream, kept_of, peak_at}
+use Rattle.cycle_model.specs.Rendering.{is_meter, end_stream, kept_of, peak_at}
 use Rattle.cycle_model.specs.Known.{kept_by, peak_by}
 use Rattle.cycle_model.specs.Progress.{streamed, received_until, nothing, AreReceived}
 use Rattle.cycle_model.proofs.CycleLemmas.{kind_there}

@@ -11,7 +11,8 @@ use Rattle.pw_base.specs.Samples.{clamped, silence, summed}
 use Rattle.pw_base.specs.KindFunction.{kind_output}
 use Rattle.pw_base.specs.KindPorts.{input_count}
 use Rattle.wav_files.specs.declared.wav.WavIn.{WavIn}
-use Rattle.cycle_model.specs.Epochs.{is_port, is_within, epoch_at, listed, first_at, is_active, links_into, channels_at, active_cycles, stream_start, all_cycles}
+use Rattle.pw_base.specs.Pools.{is_port}
+use Rattle.cycle_model.specs.Epochs.{is_within, epoch_at, listed, first_at, is_active, links_into, channels_at, active_cycles, stream_start, all_cycles}
 use Rattle.cycle_model.specs.Cycle.{Outputs, kind_at, wave_of, last_of, brought, input_of, stream_of, output_of, outputs_after, outputs}
 use Rattle.cycle_model.specs.Mixing.{takes_part}
 use Rattle.cycle_model.specs.Renderable.{IsFitting, IsRenderableEpoch, IsRenderable}

@@ -17,7 +17,8 @@ use Rattle.pw_base.specs.Samples.{clamped, silence, summed}
 use Rattle.pw_base.specs.KindFunction.{kind_output}
 use Rattle.pw_base.specs.KindPorts.{input_count, port_count}
 use Rattle.wav_files.specs.declared.wav.WavIn.{WavIn}
-use Rattle.cycle_model.specs.Epochs.{is_port, is_within, is_fresh, epoch_at, listed, is_active, links_into, channels_of, channels_at, active_cycles, stream_start, all_cycles}
+use Rattle.pw_base.specs.Pools.{is_port}
+use Rattle.cycle_model.specs.Epochs.{is_within, is_fresh, epoch_at, listed, is_active, links_into, channels_of, channels_at, active_cycles, stream_start, all_cycles}
 use Rattle.cycle_model.specs.Cycle.{Outputs, kind_at, wave_of, brought, input_of, stream_of, heard, last_of, output_of, outputs_after, outputs}
 use Rattle.cycle_model.specs.Mixing.{takes_part, IsSourceOrSink}
 use Rattle.cycle_model.specs.Renderable.{IsFitting}

@@ -1,5 +1,5 @@
 -- A sound plan whose waves fit can be rendered.
-use Rattle.std.proofs.Common.{◌≡◌, ℕ, zero, suc, ◌<◌, ◌==◌, ◌&&◌, Bool, true, false, nat_lt, List, [], ◌∷◌, length, get_or, refl, ap, subst, ◌∙◌, arith, inl, inr}
+use Rattle.std.proofs.Common.{◌≡◌, ℕ, zero, suc, ◌<◌, ◌==◌, true, false, nat_lt, List, [], ◌∷◌, length, get_or, refl, ap, subst, arith, inl, inr}
 use mathlib.Core.Logic.{dite}
 use native.Mathlib.Decide.{ℕ_discrete}
 use Rattle.std.specs.Prelude.{AllPairs, Contains, IsTrue}
@@ -10,13 +10,14 @@ use Rattle.pw_base.specs.declared.plan.Epoch.{Epoch}
 use Rattle.pw_base.specs.declared.plan.Plan.{Plan}
 use Rattle.pw_base.specs.declared.plan.PortForm.{PortForm}
 use Rattle.pw_base.specs.declared.shape.ShapeLink.{ShapeLink}
-use Rattle.pw_base.specs.Pools.{is_before}
+use Rattle.pw_base.specs.Pools.{is_port, is_before}
 use Rattle.pw_base.specs.PlanForms.{IsFormed}
 use Rattle.pw_base.specs.SoundShape.{IsSoundLink}
 use Rattle.pw_base.specs.SoundPlan.{IsSoundEpoch, IsSoundPlan}
+use Rattle.pw_base.proofs.PoolLemmas.{same_port, port_same}
 use Rattle.pw_base.proofs.ShapeLemmas.{contains_mapped}
 use Rattle.wav_files.specs.declared.wav.WavIn.{WavIn}
-use Rattle.cycle_model.specs.Epochs.{is_port, channels_of}
+use Rattle.cycle_model.specs.Epochs.{channels_of}
 use Rattle.cycle_model.specs.WavesFit.{WavesFit}
 use Rattle.cycle_model.specs.Renderable.{IsFitting, IsRenderableEpoch, IsRenderable}
 
@@ -28,29 +29,15 @@ not_before_itself p t =
     let f : is_before p p ≡ false = rw (n, e, m) refl in
     cc
 
-and_both : (a b : Bool) → (a && b) ≡ true → (a ≡ true) × (b ≡ true)
-and_both true b e = (refl, e)
-and_both false b e = cc
-
-the_port : (p q : PortId) → is_port p q ≡ true → p ≡ q
-the_port p q t =
-    let both = and_both (p.node == q.node) (p.port == q.port) t in
-    let n : p.node ≡ q.node = (Decides-eqb p.node q.node).0 both.0 in
-    let m : p.port ≡ q.port = (Decides-eqb p.port q.port).0 both.1 in
-    ap (λ (k : ℕ). let r : PortId = record { node = k; port = p.port } in r) n ∙ ap (λ (k : ℕ). let r : PortId = record { node = q.node; port = k } in r) m
-
-is_port-same : (p q : PortId) → p ≡ q → is_port p q ≡ true
-is_port-same p q e = subst (λ r. is_port p r ≡ true) e (rw ((Decides-eqb p.node p.node).1 refl, (Decides-eqb p.port p.port).1 refl) refl)
-
 -- where ports ascend, the form of a port is the first one of that port
 found_at : (forms : List PortForm) (a : PortForm) (k : ℕ) → AllPairs (λ f g. IsTrue (is_before f.port g.port)) forms → k < length forms → get_or forms k a ≡ a → channels_of forms a.port ≡ a.channels
 found_at [] a k ascend lt e = absurd (omega arith)
 found_at (f ∷ fs) a zero ascend lt e =
-    let t : is_port f.port a.port ≡ true = is_port-same f.port a.port (ap (λ g. g.port) e) in
+    let t : is_port f.port a.port ≡ true = port_same f.port a.port (ap (λ g. g.port) e) in
     rw t (ap (λ g. g.channels) e)
 found_at (f ∷ fs) a (suc k) ascend lt e =
     let here : IsTrue (is_before f.port a.port) = subst (λ g. IsTrue (is_before f.port g.port)) e (ascend 0 (suc k) a (omega arith) lt) in
-    let other : is_port f.port a.port ≡ false = false_from_ne_true (is_port f.port a.port) (λ t. not_before_itself a.port (subst (λ p. IsTrue (is_before p a.port)) (the_port f.port a.port t) here)) in
+    let other : is_port f.port a.port ≡ false = false_from_ne_true (is_port f.port a.port) (λ t. not_before_itself a.port (subst (λ p. IsTrue (is_before p a.port)) (same_port f.port a.port t) here)) in
     rw other (found_at fs a k (λ i j d ij jl. ascend (suc i) (suc j) d (omega arith) (omega arith)) (omega arith) e)
 
 channels_are : (forms : List PortForm) (port : PortId) (rate channels : ℕ) → AllPairs (λ f g. IsTrue (is_before f.port g.port)) forms → Contains forms (record { port = port; rate = rate; channels = channels })

@@ -6,10 +6,7 @@ use Rattle.pw_base.specs.declared.shape.ShapeLink.{ShapeLink}
 use Rattle.pw_base.specs.declared.plan.Epoch.{Epoch}
 use Rattle.pw_base.specs.declared.plan.PortForm.{PortForm}
 use Rattle.pw_base.specs.declared.plan.Plan.{Plan}
-
--- the same port of the same node
-abbrev pub is_port : PortId → PortId → Bool
-is_port a b = (a.node == b.node) && (a.port == b.port)
+use Rattle.pw_base.specs.Pools.{is_port}
 
 -- a cycle lies in an epoch; the first epoch in which it lies
 abbrev pub is_within : Epoch → ℕ → Bool

@@ -10,13 +10,15 @@ use Rattle.pw_base.specs.declared.plan.PlanNode.{PlanNode}
 use Rattle.pw_base.specs.Samples.{clamped, silence, summed, peak_of}
 use Rattle.pw_base.specs.KindFunction.{kind_output}
 use Rattle.pw_base.specs.KindPorts.{input_count, output_count}
+use Rattle.pw_base.specs.PlanSums.{is_sink}
+use Rattle.pw_base.specs.Pools.{is_port}
 use Rattle.wav_files.specs.declared.outcome.Kept.{Kept}
 use Rattle.wav_files.specs.declared.outcome.Peak.{Peak}
 use Rattle.cycle_model.specs.declared.received.Received.{Received}
 use Rattle.cycle_model.specs.declared.received.Given.{Given}
-use Rattle.cycle_model.specs.Epochs.{is_port, is_fresh, channels_of}
+use Rattle.cycle_model.specs.Epochs.{is_fresh, channels_of}
 use Rattle.cycle_model.specs.Cycle.{last_of}
-use Rattle.cycle_model.specs.Rendering.{is_sink, is_meter}
+use Rattle.cycle_model.specs.Rendering.{is_meter}
 use Rattle.cycle_model.specs.KindSamples.{heard_of}
 
 -- what a port gave, nothing if it is not told

@@ -10,7 +10,8 @@ use Rattle.pw_base.specs.declared.plan.Epoch.{Epoch}
 use Rattle.pw_base.specs.declared.plan.Plan.{Plan}
 use Rattle.pw_base.specs.Samples.{clamped}
 use Rattle.wav_files.specs.declared.wav.WavIn.{WavIn}
-use Rattle.cycle_model.specs.Epochs.{is_port, channels_of}
+use Rattle.pw_base.specs.Pools.{is_port}
+use Rattle.cycle_model.specs.Epochs.{channels_of}
 
 -- the place of a node's wave among the waves, or their number where it has none
 abbrev pub place_of : List WavIn → ℕ → ℕ

@@ -2,21 +2,18 @@
 use Rattle.std.specs.Prelude.{ℕ, ◌-◌, ◌==◌, ◌&&◌, Bool, true, false, List, [], Option, Some, None, filter_map, nat_lt, ℤ, if◌then◌else◌}
 use Rattle.std.specs.List.{enumerate_from}
 use Rattle.pw_base.specs.declared.kind.Kind.{Kind}
-use Rattle.pw_base.specs.declared.kind.Kind.TheVariants.{Sink, Meter}
+use Rattle.pw_base.specs.declared.kind.Kind.TheVariants.{Meter}
 use Rattle.pw_base.specs.declared.plan.Plan.{Plan}
 use Rattle.pw_base.specs.declared.plan.PlanNode.{PlanNode}
 use Rattle.pw_base.specs.Samples.{peak_of}
+use Rattle.pw_base.specs.PlanSums.{is_sink}
 use Rattle.wav_files.specs.declared.wav.WavIn.{WavIn}
 use Rattle.wav_files.specs.declared.outcome.Kept.{Kept}
 use Rattle.wav_files.specs.declared.outcome.Peak.{Peak}
 use Rattle.cycle_model.specs.Epochs.{all_cycles}
 use Rattle.cycle_model.specs.Cycle.{outputs, stream_of}
 
--- the kinds that keep something
-abbrev pub is_sink : Kind → Bool
-is_sink Sink = true
-is_sink _ = false
-
+-- the kind that keeps a peak
 abbrev pub is_meter : Kind → Bool
 is_meter Meter = true
 is_meter _ = false

@@ -1,16 +1,9 @@
 //! What an epoch says of nodes and ports.
 ghost use Rattle.std.specs.Prelude.{◌≡◌};
-ghost use Rattle.cycle_model.specs.Epochs.{is_port, channels_of};
+ghost use Rattle.cycle_model.specs.Epochs.{channels_of};
 ghost use Rattle.cycle_model.specs.Mixing.{takes_part};
 
-use pw_base::{Epoch, PortForm, PortId};
-
-/// Whether both are one port.
-pub(crate) fn is_port(a: PortId, b: PortId) -> bool
-    ensures { result ≡ is_port a b }
-{
-    a.node == b.node && a.port == b.port
-}
+use pw_base::{Epoch, PortForm, PortId, is_port};
 
 /// Whether a node is one of the epoch's active nodes.
 pub fn takes_part(epoch: &Epoch, node: u32) -> bool

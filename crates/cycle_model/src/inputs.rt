@@ -3,9 +3,9 @@ ghost use Rattle.std.specs.Prelude.{◌≡◌, ℕ, ◌*◌, ◌<◌, ◌^◌, L
 ghost use Rattle.pw_base.specs.Samples.{clamped, silence, summed};
 ghost use Rattle.cycle_model.specs.Known.{given_at, brought_by, input_by};
 
-use crate::epochs::{channels_of, is_port};
+use crate::epochs::channels_of;
 use crate::received::{Given, Setting};
-use pw_base::{Items, Memory, PortId, ShapeLink};
+use pw_base::{Items, Memory, PortId, ShapeLink, is_port};
 use std::alloc::Global;
 
 /// What a port gave, nothing if it is not told.

@@ -1,45 +1,12 @@
 //! An order in which the nodes of an epoch can be worked out, one after the other.
-ghost use Rattle.std.specs.Prelude.{◌≡◌, ℕ, ◌<◌, true, false, All, MatchOption, length, slice_index_or, IfOk};
-ghost use Rattle.pw_base.specs.LinkOrder.{HasOrder, IsWithinNodes, is_blocked, IsStuck, IsFree};
+ghost use Rattle.std.specs.Prelude.{◌≡◌, ℕ, ◌<◌, true, false, All, length, slice_index_or, IfOk};
+ghost use Rattle.pw_base.specs.LinkOrder.{HasOrder, IsWithinNodes};
 ghost use Rattle.cycle_model.specs.Mixing.{takes_part};
 ghost use Rattle.cycle_model.specs.NodeOrder.{IsOrder, IsWhole};
 
 use crate::epochs::takes_part;
-use pw_base::{Epoch, Items, Memory, ShapeLink};
+use pw_base::{Epoch, Items, Memory, NODES, find_free};
 use std::alloc::Global;
-
-/// How many node numbers there are.
-const NODES: usize = 64;
-
-/// Whether a node is left.
-fn is_left(left: &[bool], node: u32) -> bool
-    ensures { result ≡ slice_index_or left.now node false }
-{
-    match left.get(node as usize) {
-        Some(here) => *here,
-        None => false,
-    }
-}
-
-/// Whether a link that is not delayed comes to the node from one that is left.
-fn is_blocked(links: &[ShapeLink], left: &[bool], node: u32) -> bool
-    ensures { result ≡ is_blocked links.now left.now node }
-{
-    links.iter().any(|link| !link.delayed && link.to.node == node && is_left(left, link.from.node))
-}
-
-/// A node that is left and not blocked, if there is one.
-fn find_free(links: &[ShapeLink], left: &[bool]) -> Option<usize>
-    requires { length left.now ≡ 64 }
-    ensures { MatchOption result (IsStuck links.now left.now) (λ n. IsFree links.now left.now n) }
-{
-    for n in 0..NODES {
-        if is_left(left, n as u32) && !is_blocked(links, left, n as u32) {
-            return Some(n);
-        }
-    }
-    None
-}
 
 /// Marks each active node.
 fn mark_active(epoch: &Epoch, left: &mut [bool])

@@ -6,23 +6,13 @@ ghost use Rattle.cycle_model.specs.Progress.{received_until, AreReceived};
 ghost use Rattle.cycle_model.specs.Cycle.{outputs};
 ghost use Rattle.cycle_model.specs.Epochs.{all_cycles};
 ghost use Rattle.cycle_model.specs.Renderable.{IsRenderable};
-ghost use Rattle.cycle_model.specs.Rendering.{is_sink, is_meter, rendered_sinks, rendered_peaks};
+ghost use Rattle.cycle_model.specs.Rendering.{is_meter, rendered_sinks, rendered_peaks};
 
 use crate::cycles::all_received;
 use crate::received::Received;
-use pw_base::{Items, Kind, Memory, Plan, PlanNode};
+use pw_base::{Items, Kind, Memory, Plan, PlanNode, is_sink};
 use std::alloc::Global;
 use wav_files::{Kept, Outcome, Peak, Wav, WavIn};
-
-/// Whether it is a sink.
-fn is_sink(kind: &Kind) -> bool
-    ensures { result ≡ is_sink kind.now }
-{
-    match kind {
-        Kind::Sink => true,
-        _ => false,
-    }
-}
 
 /// Whether it is a meter.
 fn is_meter(kind: &Kind) -> bool

@@ -1,11 +1,12 @@
 -- Lines that are read one after the other.
-use Rattle.std.proofs.Common.{◌≡◌, ℕ, suc, ◌+◌, ◌-◌, ◌<◌, List, [], ◌∷◌, ◌++◌, ◌==◌, length, take, get_or, refl, ap, sym, ◌∙◌, subst, arith, append_assoc, append-nil, length-append}
+use Rattle.std.proofs.Common.{◌≡◌, ℕ, ◌+◌, ◌-◌, ◌<◌, List, [], ◌∷◌, ◌++◌, ◌==◌, length, take, get_or, refl, ap, sym, ◌∙◌, subst, arith, append_assoc, append-nil, length-append}
 use Rattle.std.specs.List.{AllZip, slice_split}
 use Rattle.std.proofs.lemmas.List.{take-append-le, take_all, get_or-append_right}
+use Rattle.std.proofs.lemmas.Slice.Zip.{all_zipped_more, AllZip-long}
 use Rattle.std.proofs.lemmas.Bool.{cond-true, cond-false, eq-eqb, ne_eqb}
 use Rattle.pw_base.specs.declared.event.Event.{Event}
 use Rattle.cycle_trace.specs.TraceReading.{is_line_feed, without_empty_last, trace_lines, IsLineOf, IsNoLine, IsFirstFault}
-use Rattle.cycle_trace.proofs.SplitLemmas.{first_piece}
+use Rattle.pw_base.proofs.PieceLemmas.{first_piece}
 
 -- the lines in front of a rest, and the events that they are the lines of
 pub record AreRead (names : List (List ℕ)) (bytes rest : List ℕ) (events : List Event) : Type 0 where
@@ -15,19 +16,6 @@ pub record AreRead (names : List (List ℕ)) (bytes rest : List ℕ) (events : L
 
 pub none_read : (names : List (List ℕ)) (bytes : List ℕ) → AreRead names bytes bytes []
 none_read names bytes = record { front = []; lines = refl; told = tt }
-
--- pairs one after the other
-zip_push : {A B : Type 0} (R : A → B → Type 0) (xs : List A) (ys : List B) (x : A) (y : B) → AllZip R xs ys → R x y → AllZip R (xs ++ x ∷ []) (ys ++ y ∷ [])
-zip_push R [] [] x y h r = (r, tt)
-zip_push R [] (q ∷ qs) x y h r = absurd h
-zip_push R (p ∷ ps) [] x y h r = absurd h
-zip_push R (p ∷ ps) (q ∷ qs) x y h r = (h.0, zip_push R ps qs x y h.1 r)
-
-zip_length : {A B : Type 0} (R : A → B → Type 0) (xs : List A) (ys : List B) → AllZip R xs ys → length xs ≡ length ys
-zip_length R [] [] h = refl
-zip_length R [] (q ∷ qs) h = absurd h
-zip_length R (p ∷ ps) [] h = absurd h
-zip_length R (p ∷ ps) (q ∷ qs) h = ap suc (zip_length R ps qs h.1)
 
 -- a line that more text follows
 pub line_then : (rest line more : List ℕ) → slice_split is_line_feed rest ≡ line ∷ slice_split is_line_feed more → trace_lines rest ≡ line ∷ trace_lines more
@@ -53,7 +41,7 @@ pub read_more : (names : List (List ℕ)) (bytes rest line more : List ℕ) (eve
 read_more names bytes rest line more events later event r cut h e = subst (AreRead names bytes more) (sym e) (record {
   front = r.front ++ line ∷ [];
   lines = r.lines ∙ ap (λ t. r.front ++ t) cut ∙ sym (append_assoc r.front (line ∷ []) (trace_lines more));
-  told = zip_push (IsLineOf names) r.front events line event r.told h;
+  told = all_zipped_more (IsLineOf names) r.front events line event r.told h;
 })
 
 -- all lines are read
@@ -67,7 +55,7 @@ pub first_fault : (names : List (List ℕ)) (bytes rest line : List ℕ) (others
     → IsNoLine names line → number ≡ length events + 1 → IsFirstFault names (trace_lines bytes) number
 first_fault names bytes rest line others events number r cut none is =
     let whole : trace_lines bytes ≡ r.front ++ line ∷ others = r.lines ∙ ap (λ t. r.front ++ t) cut in
-    let long : length r.front ≡ length events = zip_length (IsLineOf names) r.front events r.told in
+    let long : length r.front ≡ length events = sym (AllZip-long (IsLineOf names) r.front events r.told) in
     let at : number - 1 ≡ length r.front = omega (arith, long) in
     let front : take (number - 1) (trace_lines bytes) ≡ r.front =
     ap (take (number - 1)) whole ∙ take-append-le (number - 1) r.front (line ∷ others) (omega (arith, at)) ∙ take_all (number - 1) r.front (omega (arith, at)) in

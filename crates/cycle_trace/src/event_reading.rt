@@ -9,8 +9,8 @@ ghost use Rattle.cycle_trace.specs.Printable.{IsNode, NamesNodes};
 ghost use Rattle.cycle_trace.specs.declared.event_reading.TraceFault.TheVariants as f;
 
 use crate::event_lines::append_event_line;
-use crate::event_words::{event_said, next_piece, number_said};
-use pw_base::{DUMMY, Event, Items, Memory, Text};
+use crate::event_words::{event_said, number_said};
+use pw_base::{DUMMY, Event, Items, Memory, Text, next_piece};
 use std::alloc::Global;
 
 /// Why the events of a trace cannot be read.

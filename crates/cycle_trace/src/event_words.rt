@@ -1,32 +1,11 @@
 //! The event that the words of a line name.
-ghost use Rattle.std.specs.Prelude.{◌≡◌, ℕ, ◌<◌, ◌≤◌, ◌^◌, ◌==◌, ◌++◌, [], ◌∷◌, length, decimal, position, bytes_eq, IfSome, Some};
+ghost use Rattle.std.specs.Prelude.{◌≡◌, ℕ, ◌<◌, ◌≤◌, ◌^◌, [], length, decimal, IfSome, Some};
 ghost use Rattle.std.specs.Option.{option_map_or};
-ghost use Rattle.std.specs.List.{position_or_len, slice_split};
+ghost use Rattle.std.specs.List.{slice_split};
 ghost use Rattle.cycle_trace.specs.TraceReading.{is_space, NumbersFit};
 ghost use Rattle.cycle_trace.specs.EventWords.{node_said, one_node_said, late_said, alone, event_said};
 
-use pw_base::{DUMMY, Event, Text};
-
-// How many bytes stand before the first that is the mark.
-fn piece_len(text: &[u8], mark: u8) -> usize
-    ensures value { result ≡ position_or_len (λ b. b == mark) text.now }
-    ensures within { result ≤ length text.now }
-{
-    text.iter().take_while(|b| **b != mark).count()
-}
-
-/// The first piece of a text, and what follows the mark that ends it, if one does.
-pub(crate) fn next_piece(text: &[u8], mark: u8) -> (&[u8], Option<&[u8]>)
-    ensures pieces { slice_split (λ b. b == mark) text.now
-        ≡ result.0.now ∷ option_map_or (λ rest. slice_split (λ b. b == mark) rest.now) result.1 [] }
-    ensures shorter { IfSome result.1 (λ rest. length rest.now < length text.now) }
-{
-    let (piece, rest) = text.split_at(piece_len(text, mark));
-    match rest {
-        [] => (piece, None),
-        [_, after @ ..] => (piece, Some(after)),
-    }
-}
+use pw_base::{DUMMY, Event, Text, next_piece, place_of_name};
 
 /// The number that a word is in plain decimal. What it says of other words is not told.
 pub(crate) fn number_said(word: &[u8]) -> Option<u32>
@@ -38,13 +17,6 @@ pub(crate) fn number_said(word: &[u8]) -> Option<u32>
     }
 }
 
-fn place_of(names: &[Text], name: &[u8]) -> Option<usize>
-    ensures value { result ≡ position (bytes_eq name.now) names.now }
-    ensures within { IfSome result (λ place. place < length names.now) }
-{
-    names.iter().position(|other| name == other.as_slice())
-}
-
 /// The node that a word names.
 fn node_said(names: &[Text], word: &[u8]) -> Option<u32>
     requires { length names.now ≤ 63 }
@@ -54,7 +26,7 @@ fn node_said(names: &[Text], word: &[u8]) -> Option<u32>
     if word == b"dummy".as_slice() {
         return Some(DUMMY);
     }
-    match place_of(names, word) {
+    match place_of_name(names, word) {
         None => None,
         Some(place) => Some(place as u32),
     }

@@ -20,7 +20,7 @@ wide_same Int Long n n' e = absurd (cc)
 wide_same Long Int n n' e = absurd (cc)
 
 -- a number of a value that is known as another of its type
-same_number : (w w' : Wide) (n n' : ℤ) (v : Pod) → w ≡ w' → v ≡ number_of w n → v ≡ number_of w' n' → n ≡ n'
+pub same_number : (w w' : Wide) (n n' : ℤ) (v : Pod) → w ≡ w' → v ≡ number_of w n → v ≡ number_of w' n' → n ≡ n'
 same_number w w' n n' v e a b = number_injective w n n' (sym a ∙ b ∙ ap (λ (x : Wide). number_of x n') (sym e))
 
 module _ (wish low high : Pod) where

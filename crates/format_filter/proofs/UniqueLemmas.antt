@@ -18,13 +18,12 @@ use Rattle.format_filter.specs.declared.choice.Wide.{Wide}
 use Rattle.format_filter.specs.declared.fault.FormatFault.{FormatFault}
 use Rattle.format_filter.specs.declared.format.Field.{Field}
 use Rattle.format_filter.specs.declared.format.Format.{Format}
-use Rattle.format_filter.specs.Members.{number_of}
 use Rattle.format_filter.specs.CommonFormat.{IsSoundFormat, field_of}
 use Rattle.format_filter.specs.ChoiceReading.{Prefers, ReadsRange, ReadsStep, ReadsEnum, ReadsValues, FaultsValues, Reads, Faults}
 use Rattle.format_filter.specs.FormatReading.{key_of, ReadsField, AreFieldsOf, FaultsProps, ReadsObject, FaultsObject, IsReadAs}
 use Rattle.format_filter.specs.FormatWriting.{IsWritten}
 use Rattle.format_filter.proofs.OverlapLemmas.{number_injective}
-use Rattle.format_filter.proofs.ReadingLemmas.{wide_same}
+use Rattle.format_filter.proofs.ReadingLemmas.{same_number, wide_same}
 use Rattle.format_filter.proofs.FieldLemmas.{field_none}
 use Rattle.format_filter.proofs.LawLemmas.{first_found, written_format}
 
@@ -55,15 +54,11 @@ range_picks wish w p q l h a b = number_injective w p q (elim a [
   | inr v ↦ elim b [ inl u ↦ absurd (v.0 u.0) | inr u ↦ v.1 ∙ sym u.1 ]
 ])
 
--- numbers of one value, of types that are known to be one
-one_number : (w w' : Wide) (n n' : ℤ) (v : Pod) → w ≡ w' → v ≡ number_of w n → v ≡ number_of w' n' → n ≡ n'
-one_number w w' n n' v e a b = number_injective w n n' (sym a ∙ b ∙ ap (λ (x : Wide). number_of x n') (sym e))
-
 range_one : (wish low high : Pod) (c d : Choice) → ReadsRange wish low high c → ReadsRange wish low high d → c ≡ d
 range_one wish low high (Range w p l h) (Range w' q l' h') a b =
     let wides : w' ≡ w = wide_same w' w b.0.0 a.0.0 (sym b.0.1 ∙ a.0.1) in
-    let lows : l' ≡ l = one_number w' w l' l low wides b.1 a.1 in
-    let highs : h' ≡ h = one_number w' w h' h high wides b.2 a.2 in
+    let lows : l' ≡ l = same_number w' w l' l low wides b.1 a.1 in
+    let highs : h' ≡ h = same_number w' w h' h high wides b.2 a.2 in
     let other = subst (λ (x : Wide). Prefers wish (Range x q l h)) wides (subst (λ (x : ℤ). Prefers wish (Range w' q x h)) lows (subst (λ (x : ℤ). Prefers wish (Range w' q l' x)) highs b.4)) in
     let picks = range_picks wish w p q l h a.4 other in
     cc
@@ -83,9 +78,9 @@ step_picks wish w p q l h s a b = number_injective w p q (elim a [
 step_one : (wish low high by : Pod) (c d : Choice) → ReadsStep wish low high by c → ReadsStep wish low high by d → c ≡ d
 step_one wish low high by (Step w p l h s) (Step w' q l' h' s') a b =
     let wides : w' ≡ w = wide_same w' w b.0.0 a.0.0 (sym b.0.1 ∙ a.0.1) in
-    let lows : l' ≡ l = one_number w' w l' l low wides b.1 a.1 in
-    let highs : h' ≡ h = one_number w' w h' h high wides b.2 a.2 in
-    let bys : s' ≡ s = one_number w' w s' s by wides b.3 a.3 in
+    let lows : l' ≡ l = same_number w' w l' l low wides b.1 a.1 in
+    let highs : h' ≡ h = same_number w' w h' h high wides b.2 a.2 in
+    let bys : s' ≡ s = same_number w' w s' s by wides b.3 a.3 in
     let other = subst (λ (x : Wide). Prefers wish (Step x q l h s)) wides (subst (λ (x : ℤ). Prefers wish (Step w' q x h s)) lows
     (subst (λ (x : ℤ). Prefers wish (Step w' q l' x s)) highs (subst (λ (x : ℤ). Prefers wish (Step w' q l' h' x)) bys b.6))) in
     let picks = step_picks wish w p q l h s a.6 other in

@@ -1,9 +1,9 @@
-//! Equal values in memory of their own.
+//! Equal choices, fields and formats in memory of their own.
 ghost use Rattle.std.specs.Prelude.{◌≡◌, IfOk};
 
 use crate::choice::Choice;
 use crate::format::{Field, Format};
-use pod_codec::Pod;
+use pod_codec::copy_pods;
 use pw_base::{Items, Memory};
 use std::alloc::Global;
 
@@ -16,7 +16,7 @@ impl Choice {
             Choice::Only(value) => Ok(Choice::Only(value.copy(alloc)?)),
             Choice::Enum { pick, alts } => Ok(Choice::Enum {
                 pick: pick.copy(alloc)?,
-                alts: copy_values(alloc, alts.as_slice())?,
+                alts: copy_pods(alloc, alts.as_slice())?,
             }),
             Choice::Range {
                 wide,
@@ -44,17 +44,6 @@ impl Choice {
             }),
         }
     }
-}
-
-/// Equal values.
-pub fn copy_values(alloc: Global, values: &[Pod]) -> Result<Items<Pod>, Memory>
-    ensures { IfOk result (λ all. all ≡ values.now) }
-{
-    let mut all = Items::new(alloc);
-    for value in values {
-        all.push(value.copy(alloc)?)?;
-    }
-    Ok(all)
 }
 
 impl Field {

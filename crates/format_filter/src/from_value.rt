@@ -12,10 +12,9 @@ ghost use Rattle.format_filter.specs.Soundness.{AreOfOneType, IsSound};
 ghost use Rattle.format_filter.specs.ChoiceReading.{IsNumber, ReadsRange, ReadsStep, ReadsEnum, ReadsValues, FaultsValues, Reads, Faults};
 
 use crate::choice::{Choice, Wide};
-use crate::copying::copy_values;
 use crate::fault::FormatFault;
 use crate::members::{is_among, is_reached, number_in};
-use pod_codec::{ChoiceKind, Pod};
+use pod_codec::{ChoiceKind, Pod, copy_pods};
 use pw_base::{Items, Memory};
 use std::alloc::Global;
 
@@ -114,7 +113,7 @@ fn read_enum(alloc: Global, wish: &Pod, alts: &[Pod]) -> Result<Choice, Memory>
     };
     Ok(Choice::Enum {
         pick,
-        alts: copy_values(alloc, alts)?,
+        alts: copy_pods(alloc, alts)?,
     })
 }
 

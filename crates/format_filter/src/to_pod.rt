@@ -3,7 +3,7 @@ ghost use Rattle.std.specs.Prelude.{◌≡◌, [], ◌∷◌, ◌++◌, length, 
 ghost use Rattle.std.specs.List.{AllZip};
 ghost use Rattle.pod_codec.specs.declared.pod.Pod.TheViews.{out-Pod};
 ghost use Rattle.pod_codec.specs.declared.pod.ChoiceKind.TheVariants as k;
-ghost use Rattle.pod_codec.specs.SoundChoices.{IsOfType, HasSoundChoices};
+ghost use Rattle.pod_codec.specs.SoundChoices.{HasSoundChoices};
 ghost use Rattle.format_filter.specs.Members.{number_of};
 ghost use Rattle.format_filter.specs.Soundness.{FitsWide, IsSound};
 ghost use Rattle.format_filter.specs.CommonFormat.{IsSoundFormat, AreSoundFields};
@@ -13,35 +13,9 @@ ghost use Rattle.format_filter.specs.FormatWriting.{type_of_wide, IsChoice, Writ
 use crate::choice::{Choice, Wide};
 use crate::format::{Field, Format};
 use crate::picking::number;
-use pod_codec::{ChoiceKind, Pod, Prop};
+use pod_codec::{ChoiceKind, Pod, Prop, type_number};
 use pw_base::{Items, Memory};
 use std::alloc::Global;
-
-/// The number of a value's type.
-fn type_number(value: &Pod) -> u32
-    ensures { IsOfType result value.now }
-{
-    match value {
-        Pod::None => 1,
-        Pod::Bool(_) => 2,
-        Pod::Id(_) => 3,
-        Pod::Int(_) => 4,
-        Pod::Long(_) => 5,
-        Pod::FloatBits(_) => 6,
-        Pod::DoubleBits(_) => 7,
-        Pod::Text(_) => 8,
-        Pod::Bytes(_) => 9,
-        Pod::Rectangle { .. } => 10,
-        Pod::Fraction { .. } => 11,
-        Pod::Bitmap(_) => 12,
-        Pod::Array { .. } => 13,
-        Pod::Struct(_) => 14,
-        Pod::Object { .. } => 15,
-        Pod::Sequence { .. } => 16,
-        Pod::Fd(_) => 18,
-        Pod::Choice { .. } => 19,
-    }
-}
 
 /// The number of a type of numbers.
 fn wide_number(wide: Wide) -> u32

@@ -6,6 +6,7 @@ use Rattle.std.proofs.lemmas.List.Quantifiers.{position-Some}
 use Rattle.pw_base.specs.declared.ids.PortId.{PortId}
 use Rattle.pw_base.specs.declared.kind.Kind.{Kind}
 use Rattle.pw_base.specs.declared.kind.Kind.TheVariants as K
+use Rattle.pw_base.specs.SoundShape.{IsBetween}
 use Rattle.pw_base.specs.KindPorts.{input_names, output_names, input_count, port_count}
 use Rattle.graph_script.specs.declared.command.Command.TheVariants as C
 use Rattle.graph_script.specs.declared.reading.Made.{Made}
@@ -15,7 +16,7 @@ use Rattle.graph_script.specs.Arguments.{◌>>=◌, number_of, is_within, is_num
 use Rattle.graph_script.specs.Nodes.{node_called, new_node, endpoint_of, kind_at, output_called, input_called}
 use Rattle.graph_script.specs.Commands.{node_and_file, quantum_of, source_of, sink_of, link_of, cycles_of, meaning_of_command, meaning_of_words}
 use Rattle.graph_script.specs.Stages.{stage_of}
-use Rattle.graph_script.specs.Ranges.{IsWithin, IsInRange, HasNodes}
+use Rattle.graph_script.specs.Ranges.{IsInRange, HasNodes}
 use Rattle.graph_script.specs.Kinds.{made_by, HasPorts}
 
 -- how many nodes a line adds
@@ -40,7 +41,7 @@ from_test : {A : Type 0} (b : Bool) (x y : A) → cond b (Some x) None ≡ Some 
 from_test true x y e = (refl, cc)
 from_test false x y e = cc
 
-number-within : (low high n : ℕ) (word : List ℕ) → number_of low high word ≡ Some n → IsWithin low high n
+number-within : (low high n : ℕ) (word : List ℕ) → number_of low high word ≡ Some n → IsBetween low high n
 number-within low high n word e =
     let t = from_test (is_numeral word && is_within low high (digits_number word)) (digits_number word) n e in
     let p = and_parts (is_numeral word) (is_within low high (digits_number word)) t.0 in

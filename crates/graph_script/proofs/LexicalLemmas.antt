@@ -1,28 +1,11 @@
 -- Laws of `specs/Lexical.antt`: a piece or a word, cut off the front.
-use Rattle.std.proofs.Common.{◌≡◌, ℕ, suc, ◌+◌, ◌-◌, ◌<◌, ◌≤◌, Bool, true, false, List, [], ◌∷◌, length, take, drop, refl, sym, ap, ◌∙◌, arith, take_all}
+use Rattle.std.proofs.Common.{◌≡◌, ℕ, ◌<◌, Bool, true, false, List, [], ◌∷◌, length, take, drop, refl, sym, ap, ◌∙◌, arith}
 use Rattle.std.specs.Prelude.{filter, nat_lt, None}
 use Rattle.std.specs.List.{slice_split, position_or_len, prefix_len}
 use Rattle.std.proofs.lemmas.Bool.{lt-ltb}
+use Rattle.pw_base.proofs.PieceLemmas.{one-more, pieces_after, first_piece}
 use Rattle.graph_script.specs.Arguments.{two_of}
 use Rattle.graph_script.specs.Lexical.{is_blank, words_of}
-
-one-more : (n : ℕ) → 1 + n ≡ suc n
-one-more n = omega arith
-
--- the pieces after the first, which ends where this begins
-abbrev pub pieces_after : (ℕ → Bool) → List ℕ → List (List ℕ)
-pieces_after p [] = []
-pieces_after p (x ∷ xs) = slice_split p xs
-
--- the first piece stands before the first byte that parts
-pub first_piece : (p : ℕ → Bool) (xs : List ℕ) → slice_split p xs ≡ take (position_or_len p xs) xs ∷ pieces_after p (drop (position_or_len p xs) xs)
-first_piece p [] = refl
-first_piece p (x ∷ xs) = at_front (p x) refl (first_piece p xs)
-  where
-    at_front : (b : Bool) → p x ≡ b → slice_split p xs ≡ take (position_or_len p xs) xs ∷ pieces_after p (drop (position_or_len p xs) xs)
-        → slice_split p (x ∷ xs) ≡ take (position_or_len p (x ∷ xs)) (x ∷ xs) ∷ pieces_after p (drop (position_or_len p (x ∷ xs)) (x ∷ xs))
-    at_front true e more = simp e refl
-    at_front false e more = simp e (simp one-more (simp more refl))
 
 -- blanks at the front are in no word
 pub words_past_gap : (xs : List ℕ) → words_of (drop (prefix_len is_blank xs) xs) ≡ words_of xs
@@ -56,11 +39,6 @@ no_word (x ∷ xs) none = at_front (is_blank x) refl none (no_word xs)
         → (length (take (position_or_len is_blank (drop (prefix_len is_blank xs) xs)) (drop (prefix_len is_blank xs) xs)) ≡ 0 → words_of xs ≡ []) → words_of (x ∷ xs) ≡ []
     at_front true e none more = let n = simp e at none in let m = simp one-more at n in simp e (more m)
     at_front false e none more = let n = simp e at none in let m = simp one-more at n in cc
-
--- the same for a list that is cut in steps
-pub pieces_after_cut : (p : ℕ → Bool) (xs : List ℕ) → 1 ≤ length xs → pieces_after p xs ≡ slice_split p (take (length xs - 1) (drop 1 xs))
-pieces_after_cut p [] some = absurd (omega (arith, some))
-pieces_after_cut p (x ∷ xs) some = let n : length (x ∷ xs) - 1 ≡ length xs = omega arith in rw n (rw (take_all (length xs) xs (omega arith)) refl)
 
 pub cut_word : (line rest word after : List ℕ) → rest ≡ drop (prefix_len is_blank line) line → word ≡ take (position_or_len is_blank rest) rest → after ≡ drop (position_or_len is_blank rest) rest
     → 0 < length word → words_of line ≡ word ∷ words_of after

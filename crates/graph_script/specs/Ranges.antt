@@ -1,30 +1,25 @@
 -- Ranges: what holds of the numbers, the names and the nodes of every script that is read.
-use Rattle.std.specs.Prelude.{ℕ, ◌<◌, ◌≤◌, length, All, IsTrue, ℤ, pos, neg_ℤ, ◌≤ℤ◌}
+use Rattle.std.specs.Prelude.{ℕ, ◌<◌, ◌≤◌, length, All, IsTrue, pos, ◌≤ℤ◌}
+use Rattle.pw_base.specs.SoundShape.{IsBetween}
+use Rattle.pw_base.specs.KindRanges.{IsGain}
 use Rattle.graph_script.specs.declared.command.Command.{Command}
 use Rattle.graph_script.specs.declared.command.Command.TheVariants as C
 use Rattle.graph_script.specs.declared.script.Script.{Script}
 use Rattle.graph_script.specs.Arguments.{is_node_name}
 
-abbrev pub IsWithin : ℕ → ℕ → ℕ → Type 0
-IsWithin low high n = (low ≤ n) × (n ≤ high)
-
--- a gain is a factor in 1/256
-abbrev pub IsGain : ℤ → Type 0
-IsGain g = (neg_ℤ (pos 32767) ≤ℤ g) × (g ≤ℤ pos 32767)
-
 -- the numbers of a command
 abbrev pub IsInRange : Command → Type 0
-IsInRange (C.Quantum n) = IsWithin 1 8192 n
+IsInRange (C.Quantum n) = IsBetween 1 8192 n
 IsInRange (C.Square node rate channels period amp) =
-    IsWithin 1 384000 rate × IsWithin 1 8 channels × IsWithin 1 1000000 period × (pos 0 ≤ℤ amp) × (amp ≤ℤ pos 32767)
+    IsBetween 1 384000 rate × IsBetween 1 8 channels × IsBetween 1 1000000 period × (pos 0 ≤ℤ amp) × (amp ≤ℤ pos 32767)
 IsInRange (C.Gain node g) = IsGain g
 IsInRange (C.Mix2 node ga gb) = IsGain ga × IsGain gb
 IsInRange (C.Delay node frames) = frames ≤ 65536
-IsInRange (C.Map node channels list) = IsWithin 1 8 channels × IsWithin 1 8 (length list) × All (λ n. n < channels) list
+IsInRange (C.Map node channels list) = IsBetween 1 8 channels × IsBetween 1 8 (length list) × All (λ n. n < channels) list
 IsInRange (C.Driver node priority) = priority ≤ 1000000
 IsInRange (C.Loop node k) = k ≤ 15
-IsInRange (C.Buffers port n) = IsWithin 1 8 n
-IsInRange (C.Cycles n) = IsWithin 1 1000000 n
+IsInRange (C.Buffers port n) = IsBetween 1 8 n
+IsInRange (C.Cycles n) = IsBetween 1 1000000 n
 IsInRange _ = Unit {0}
 
 -- the nodes of a command are among so many

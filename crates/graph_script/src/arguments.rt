@@ -5,11 +5,11 @@ ghost use Rattle.graph_script.specs.Arguments.{one_of, two_of, endpoint_parts};
 ghost use Rattle.graph_script.specs.Nodes as nodes;
 ghost use Rattle.graph_script.specs.Sound.{IsSound};
 
-use crate::lexing::{next_piece, next_word};
+use crate::lexing::next_word;
 use crate::names::{is_node_name, place_of};
 use crate::ports::{input_called, output_called};
 use crate::reading::Reading;
-use pw_base::{Kind, PortId};
+use pw_base::{Kind, PortId, next_piece};
 
 /// How many nodes a script may have.
 const MOST_NODES: usize = 63;

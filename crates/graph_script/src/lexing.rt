@@ -1,7 +1,6 @@
-//! Lines and words, each cut off the front of a text.
-ghost use Rattle.std.specs.Prelude.{◌≡◌, ◌==◌, ◌<◌, ◌≤◌, [], ◌∷◌, length, IfSome, MatchOption};
-ghost use Rattle.std.specs.Option.{option_map_or};
-ghost use Rattle.std.specs.List.{list_all, position_or_len, prefix_len, slice_split};
+//! Words, each cut off the front of a line.
+ghost use Rattle.std.specs.Prelude.{◌≡◌, ◌≤◌, [], ◌∷◌, length, MatchOption};
+ghost use Rattle.std.specs.List.{list_all, position_or_len, prefix_len};
 ghost use Rattle.graph_script.specs.Lexical.{is_allowed, is_blank, words_of, say_nothing};
 
 fn is_allowed(b: u8) -> bool
@@ -23,14 +22,6 @@ pub(crate) fn is_plain(line: &[u8]) -> bool
     line.iter().all(|b| is_allowed(*b))
 }
 
-// How many bytes stand before the first that is the mark.
-fn piece_len(text: &[u8], mark: u8) -> usize
-    ensures value { result ≡ position_or_len (λ b. b == mark) text.now }
-    ensures within { result ≤ length text.now }
-{
-    text.iter().take_while(|b| **b != mark).count()
-}
-
 // How many bytes stand before the first blank.
 fn word_len(text: &[u8]) -> usize
     ensures value { result ≡ position_or_len is_blank text.now }
@@ -45,19 +36,6 @@ fn gap_len(text: &[u8]) -> usize
     ensures within { result ≤ length text.now }
 {
     text.iter().take_while(|b| is_blank(**b)).count()
-}
-
-/// The first piece of a text, and what follows the mark that ends it, if one does.
-pub(crate) fn next_piece(text: &[u8], mark: u8) -> (&[u8], Option<&[u8]>)
-    ensures pieces { slice_split (λ b. b == mark) text.now
-        ≡ result.0.now ∷ option_map_or (λ rest. slice_split (λ b. b == mark) rest.now) result.1 [] }
-    ensures shorter { IfSome result.1 (λ rest. length rest.now < length text.now) }
-{
-    let (piece, rest) = text.split_at(piece_len(text, mark));
-    match rest {
-        [] => (piece, None),
-        [_, after @ ..] => (piece, Some(after)),
-    }
 }
 
 /// The first word of a line, if it has one, and what follows that.

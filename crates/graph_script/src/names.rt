@@ -1,10 +1,10 @@
 //! Names of nodes, and file words.
-ghost use Rattle.std.specs.Prelude.{◌≡◌, ◌<◌, ◌≤◌, length, IfSome, position, bytes_eq};
+ghost use Rattle.std.specs.Prelude.{◌≡◌, ◌≤◌, length, position, bytes_eq};
 ghost use Rattle.std.specs.List.{list_all};
 ghost use Rattle.graph_script.specs.Arguments.{is_letter, is_name_byte, is_node_name, is_file_word};
 
 use crate::numbers::is_digit;
-use pw_base::Text;
+use pw_base::{Text, place_of_name};
 
 fn is_letter(b: u8) -> bool
     ensures { result ≡ is_letter b }
@@ -41,19 +41,12 @@ pub(crate) fn is_file_word(word: &[u8]) -> bool
     1 <= word.len() && word.len() <= 255
 }
 
-fn index_of(names: &[Text], name: &[u8]) -> Option<usize>
-    ensures value { result ≡ position (bytes_eq name.now) names.now }
-    ensures within { IfSome result (λ place. place < length names.now) }
-{
-    names.iter().position(|other| name == other.as_slice())
-}
-
 /// The place of a name among others.
 pub(crate) fn place_of(names: &[Text], name: &[u8]) -> Option<u32>
     requires { length names.now ≤ 63 }
     ensures { result ≡ position (bytes_eq name.now) names.now }
 {
-    match index_of(names, name) {
+    match place_of_name(names, name) {
         None => None,
         Some(place) => Some(place as u32),
     }

@@ -6,9 +6,9 @@ ghost use Rattle.graph_script.specs.Ranges.{HasRanges};
 ghost use Rattle.graph_script.specs.Stages.{IsInOrder};
 
 use crate::fault::ScriptFault;
-use crate::lexing::next_piece;
 use crate::lines::{read_line, start};
 use crate::script::Script;
+use pw_base::next_piece;
 use std::alloc::Global;
 
 /// The script that the bytes are, or the first line at fault. Lines end at a line feed or at the end; a line whose

@@ -1,7 +1,7 @@
 -- A search along synchronous links: one node expanded, and all of them.
-use Rattle.std.proofs.Common.{◌≡◌, ◌⊎◌, inl, inr, ℕ, ◌+◌, ◌-◌, ◌<◌, ◌≤◌, ◌&&◌, ◌==◌, [], length, get_or, replicate, Bool, true, false, refl, sym, ap, ◌∙◌, subst, arith}
+use Rattle.std.proofs.Common.{◌≡◌, ◌⊎◌, inl, inr, ℕ, ◌+◌, ◌-◌, ◌<◌, ◌≤◌, ◌==◌, [], length, get_or, replicate, true, false, refl, sym, ap, ◌∙◌, subst, arith}
 use Rattle.std.proofs.Math.ListN.{set}
-use Rattle.std.proofs.lemmas.Bool.{cases_eq, eqb-true}
+use Rattle.std.proofs.lemmas.Bool.{and_from, and_parts, cases_eq, eqb-true}
 use Rattle.std.proofs.lemmas.List.Elements.{All-contains}
 use Rattle.std.proofs.lemmas.List.{get_or-set_same, get_or_default, length-replicate}
 use Rattle.link_negotiation.specs.declared.link.Link.{Link}
@@ -15,19 +15,11 @@ use Rattle.link_negotiation.proofs.ReachedLemmas.{old_or_new, longer_same, none_
 false_true : false ≡ true → ⊥
 false_true e = cc
 
-both : (a b : Bool) → (a && b) ≡ true → (a ≡ true) × (b ≡ true)
-both true true e = (refl, refl)
-both true false e = absurd (cc (e))
-both false b e = absurd (cc (e))
-
-together : (a b : Bool) → a ≡ true → b ≡ true → (a && b) ≡ true
-together a b p q = ap (λ x. x && b) p ∙ q
-
 -- a link of which the test says that it leaves a node leads from it
 pub led_by : (s : LinkState) (n k : ℕ) (d : Link) → k < length s.made → leaves s n (get_or s.made k d) ≡ true → IsLed s n (get_or s.made k d).to.node
 led_by s n k d l e =
     let link = get_or s.made k d in
-    let w = both (is_synchronous s link) (link.from.node == n) e in
+    let w = and_parts (is_synchronous s link) (link.from.node == n) e in
     record { link = link; there = kept (is_synchronous s) s.made k link l (get_or_default s.made k link d l) w.0; from = eqb-true link.from.node n w.1; to = refl }
 
 -- what holds while the links of a node are looked at, the last one first
@@ -95,7 +87,7 @@ expanding_ends s n at before now zero h = record {
       let w = origin (is_synchronous s) s.made led.link led.there in
       let k = w.0.0 in
       let e : get_or s.made k led.link ≡ led.link = w.0.2 in
-      let t : leaves s n (get_or s.made k led.link) ≡ true = ap (leaves s n) e ∙ together (is_synchronous s led.link) (led.link.from.node == n) w.1 (same led.link.from.node n led.from) in
+      let t : leaves s n (get_or s.made k led.link) ≡ true = ap (leaves s n) e ∙ and_from (is_synchronous s led.link) (led.link.from.node == n) w.1 (same led.link.from.node n led.from) in
       ap (is_reached now.here) (sym (ap (λ (l : Link). l.to.node) e ∙ led.to)) ∙ h.done k led.link (omega (arith, zero)) w.0.1 t;
 } where
   same : (a b : ℕ) → a ≡ b → (a == b) ≡ true

@@ -1,27 +1,24 @@
 -- Links that are taken away, and where their nodes are.
-use Rattle.std.proofs.Common.{◌≡◌, ℕ, zero, suc, ◌+◌, ◌<◌, ◌≤◌, get_or, take, drop, cond, not, List, [], ◌∷◌, length, map, Bool, true, false, ◌&&◌, ◌==◌, Option, Some, None, refl, sym, ap, ◌∙◌, subst, arith}
+use Rattle.std.proofs.Common.{◌≡◌, ℕ, zero, suc, ◌+◌, ◌<◌, ◌≤◌, get_or, take, drop, cond, not, List, [], ◌∷◌, length, map, Bool, true, false, Option, Some, None, refl, sym, ap, ◌∙◌, subst, arith}
 use Rattle.std.specs.List.{All, filter, remove}
 use Rattle.std.proofs.lemmas.List.Elements.{All-head, All-tail, All-more}
 use Rattle.std.proofs.lemmas.List.{take_all, length-append, length-take, length-drop}
 use Rattle.std.specs.Prelude.{slice_get, if◌then◌else◌}
 use Rattle.std.specs.Option.{option_map_or}
 use Rattle.std.proofs.lemmas.Option.{slice_get_past}
-use Rattle.std.proofs.lemmas.Bool.{eqb-true}
+use Rattle.std.proofs.lemmas.Bool.{and_parts}
 use Rattle.std.proofs.lemmas.List.Folds.{Any-from_list_any}
 use Rattle.std.proofs.lemmas.List.Sums.{length-filter, count_by-le-length}
 use Rattle.pw_base.specs.KindPorts.{port_count, input_count}
 use Rattle.pw_base.specs.declared.ids.PortId.{PortId}
+use Rattle.pw_base.specs.Pools.{is_port}
+use Rattle.pw_base.proofs.PoolLemmas.{same_port}
 use Rattle.port_model.specs.declared.port_state.Node.{Node}
 use Rattle.port_model.specs.PortState.{IsPort, IsInput, with_released, released}
 use Rattle.port_model.proofs.ChangedLemmas.{length-changed}
 use Rattle.link_negotiation.specs.declared.link.Link.{Link}
-use Rattle.link_negotiation.specs.Links.{joins, is_port, are_linked}
+use Rattle.link_negotiation.specs.Links.{joins, are_linked}
 use Rattle.link_negotiation.specs.Unlinking.{is_released, releasing, without}
-
-both : (a b : Bool) → (a && b) ≡ true → (a ≡ true) × (b ≡ true)
-both true true e = (refl, refl)
-both true false e = absurd (cc (e))
-both false b e = absurd (cc (e))
 
 -- a port that is there is of a node that is there
 pub node_there : (nodes : List Node) (port : PortId) → IsPort nodes port → port.node < length nodes
@@ -31,11 +28,9 @@ node_there nodes port there = grind (arith, slice_get_past nodes port.node, ap (
 pub linked_below : (made : List Link) (from to : PortId) → All (λ l. (l.from.node < 64) × (l.to.node < 64)) made → are_linked made from to ≡ true → (from.node < 64) × (to.node < 64)
 linked_below made from to h e =
     let w = Any-from_list_any (joins from to) made e in
-    let two = both (is_port w.1.from from) (is_port w.1.to to) w.4 in
-    let first = both (w.1.from.node == from.node) (w.1.from.port == from.port) two.0 in
-    let second = both (w.1.to.node == to.node) (w.1.to.port == to.port) two.1 in
-    let one = eqb-true w.1.from.node from.node first.0 in
-    let other = eqb-true w.1.to.node to.node second.0 in
+    let two = and_parts (is_port w.1.from from) (is_port w.1.to to) w.4 in
+    let one : w.1.from.node ≡ from.node = ap (λ p. p.node) (same_port w.1.from from two.0) in
+    let other : w.1.to.node ≡ to.node = ap (λ p. p.node) (same_port w.1.to to two.1) in
     let bound = subst (λ (l : Link). (l.from.node < 64) × (l.to.node < 64)) w.3 (h w.0 w.1 w.2) in
     (omega (arith, bound.0, one), omega (arith, bound.1, other))
 

@@ -3,6 +3,7 @@
 use Rattle.std.specs.Prelude.{◌≡◌, ℕ, ◌==◌, ◌&&◌, ◌||◌, Bool, true, false, not, List, [], ◌∷◌, slice_index_or}
 use Rattle.std.specs.List.{Contains, filter, list_any}
 use Rattle.pw_base.specs.declared.ids.PortId.{PortId}
+use Rattle.pw_base.specs.Pools.{is_port}
 use Rattle.link_negotiation.specs.declared.link.Link.{Link}
 
 pub record LinkState : Type 0 where
@@ -12,10 +13,7 @@ pub record LinkState : Type 0 where
 abbrev pub link_of : PortId → PortId → Link
 link_of from to = record { from = from; to = to }
 
--- the same port; whether a link joins these two ports, and whether one is there that does
-abbrev pub is_port : PortId → PortId → Bool
-is_port p q = (p.node == q.node) && (p.port == q.port)
-
+-- whether a link joins these two ports, and whether one is there that does
 abbrev pub joins : PortId → PortId → Link → Bool
 joins from to link = is_port link.from from && is_port link.to to
 

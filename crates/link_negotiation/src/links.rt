@@ -1,15 +1,13 @@
 //! The links that are there.
 ghost use Rattle.std.specs.Prelude.{◌≡◌, ◌<◌, [], false, length, replicate, slice_set, IfOk, true};
-ghost use Rattle.link_negotiation.specs.Links.{is_port, joins, are_linked, has_link, is_synchronous};
+ghost use Rattle.link_negotiation.specs.Links.{joins, are_linked, has_link, is_synchronous};
 ghost use Rattle.link_negotiation.specs.Searching.{is_reached};
 
 use crate::link::Link;
-use pw_base::{Memory, PortId};
+use pw_base::{Memory, NODES, PortId, is_port};
 use std::alloc::Global;
 use std::marker::Model;
 
-/// How many node numbers there are.
-pub const NODES: usize = 64;
 /// How many links there may be.
 pub const LINKS: usize = 256;
 
@@ -30,13 +28,6 @@ impl Model for Links {
     ghost view = { λ s. record { made = s.made.items; marks = s.marks } };
 
     ghost invariant = { λ s. IsBounded (record { made = s.made.items; marks = s.marks }) };
-}
-
-/// Whether two ports are the same.
-fn is_port(p: PortId, q: PortId) -> bool
-    ensures { result ≡ is_port p q }
-{
-    p.node == q.node && p.port == q.port
 }
 
 /// Whether a link joins two ports.

@@ -3,7 +3,8 @@ ghost use Rattle.std.specs.Prelude.{◌+◌, ◌<◌, length};
 ghost use Rattle.link_negotiation.specs.Links.{LinkState};
 ghost use Rattle.link_negotiation.specs.Searching.{IsOutgoing};
 
-use crate::links::{LINKS, Links, NODES};
+use crate::links::{LINKS, Links};
+use pw_base::NODES;
 
 /// The synchronous links that leave each node, from the last one back. A link is told by how many links stand up to
 /// it; 0 is none.

@@ -2,7 +2,7 @@
 ghost use Rattle.std.specs.Prelude.{◌≡◌, ◌<◌, false, true, replicate, slice_set};
 ghost use Rattle.link_negotiation.specs.Searching.{IsQueue, IsLonger};
 
-use crate::links::NODES;
+use pw_base::NODES;
 
 /// The nodes that a search has reached, in the order in which it reached them.
 #[derive(Drop)]

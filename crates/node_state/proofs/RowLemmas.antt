@@ -87,10 +87,6 @@ replicate_front (suc n) (suc m) z h = ap (λ t. z ∷ t) (replicate_front n m z 
 filled_length : {X : Type 0} (xs ys : List X) → length (filled_from xs ys) ≡ length ys
 filled_length xs ys = grind (arith, common_steps)
 
--- a row filled from a list that is long enough
-pub filled_whole : {X : Type 0} (xs ys : List X) → length ys ≤ length xs → filled_from xs ys ≡ take (length ys) xs
-filled_whole = filled_long
-
 -- a list, then the same value again and again
 pub filled_padded : {X : Type 0} (xs ys to new : List X) (k : ℕ) (z : X) → k ≡ min (length xs) (length ys) → to ≡ filled_from xs ys → new ≡ replicate (length to - k) z
     → take k to ++ (new ++ drop (length to - k) (drop k to)) ≡ take (length ys) (xs ++ replicate (length ys) z)
@@ -99,9 +95,9 @@ filled_padded xs ys to new k z e t v =
     let rest : length (drop k to) ≡ length to - k = length-drop k to in
     let long : length (drop k to) ≤ length (replicate (length ys) z) = grind (arith, common_steps, same) in
     let filled : new ≡ filled_from (replicate (length ys) z) (drop k to) =
-    v ∙ ap (λ n. replicate n z) (sym rest) ∙ sym (filled_whole (replicate (length ys) z) (drop k to) long ∙ replicate_front (length (drop k to)) (length ys) z (grind (arith, common_steps, same))) in
+    v ∙ ap (λ n. replicate n z) (sym rest) ∙ sym (filled_long (replicate (length ys) z) (drop k to) long ∙ replicate_front (length (drop k to)) (length ys) z (grind (arith, common_steps, same))) in
     filled_more xs (replicate (length ys) z) ys to new k (length to - k) e t filled (omega arith)
-    ∙ filled_whole (xs ++ replicate (length ys) z) ys (grind (arith, common_steps))
+    ∙ filled_long (xs ++ replicate (length ys) z) ys (grind (arith, common_steps))
 
 -- a ring that is written over whole
 pub ring_replaced : {X : Type 0} (ring new a : List X) (oldest : ℕ) → oldest ≤ length ring → length ring ≤ length a → new ≡ drop (length a - length ring) a

@@ -60,8 +60,9 @@ impl Pod {
     }
 }
 
+/// Equal values, in this order. Takes memory and time proportional to all that they hold.
 #[cycle(copy)]
-fn copy_pods(alloc: Global, pods: &[Pod]) -> Result<Items<Pod>, Memory>
+pub fn copy_pods(alloc: Global, pods: &[Pod]) -> Result<Items<Pod>, Memory>
     ensures { IfOk result (λ all. all ≡ pods.now) }
 {
     let mut all = Items::new(alloc);

@@ -6,6 +6,7 @@ pub mod HistoryLemmas
 pub mod InMemoryLemmas
 pub mod LayoutLemmas
 pub mod OrderLemmas
+pub mod PieceLemmas
 pub mod PlanSumsLemmas
 pub mod PoolLemmas
 pub mod PrecedenceLemmas

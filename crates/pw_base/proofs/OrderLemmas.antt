@@ -23,7 +23,7 @@ pub record IsPlaced (links : List ShapeLink) (left : List Bool) : Type 0 where
   pub rises : All (λ l. l.delayed ≡ false → has left l.to.node ≡ false → (has left l.from.node ≡ false) × (rank l.from.node < rank l.to.node)) links
 
 -- the parts of the test in `is_blocked`
-blocks : (a b c : Bool) → a ≡ false → b ≡ true → c ≡ true → (not a && (b && c)) ≡ true
+pub blocks : (a b c : Bool) → a ≡ false → b ≡ true → c ≡ true → (not a && (b && c)) ≡ true
 blocks a b c p q r = rw (p, q, r) refl
 
 parts : (a b c : Bool) → (not a && (b && c)) ≡ true → (a ≡ false) × (b ≡ true) × (c ≡ true)

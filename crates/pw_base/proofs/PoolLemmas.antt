@@ -1,11 +1,24 @@
 -- Laws of `specs/Pools.antt`.
-use Rattle.std.proofs.Common.{◌≡◌, ℕ, zero, suc, ◌+◌, ◌<◌, ◌≤◌, max, Bool, true, false, cond, List, [], ◌∷◌, ◌++◌, map, length, get_or, take, refl, ◌∙◌, ap, subst, arith, append-nil}
+use Rattle.std.proofs.Common.{◌≡◌, ℕ, zero, suc, ◌+◌, ◌<◌, ◌≤◌, ◌==◌, max, Bool, true, false, cond, refl, ◌∙◌, ap, subst, arith, append-nil, eq-eqb, eqb-true}
+use Rattle.std.proofs.Common.{List, [], ◌∷◌, ◌++◌, map, length, get_or, take}
 use Rattle.std.specs.Prelude.{fold, filter, All}
 use Rattle.std.specs.List.{enumerate_from}
+use Rattle.std.proofs.lemmas.Bool.{and_parts, and_from}
 use Rattle.std.proofs.lemmas.List.Elements.{All-head, All-tail, All-filter}
 use Rattle.pw_base.specs.declared.ids.PortId.{PortId}
 use Rattle.pw_base.specs.declared.shape.Shape.{Shape}
 use Rattle.pw_base.specs.Pools.{IsPooledShape, channels_of, is_port}
+
+-- ports that are the same are one
+pub port_is : (p q : PortId) → p.node ≡ q.node → p.port ≡ q.port → p ≡ q
+port_is p q e f = λ i. record { node = e i; port = f i }
+
+pub same_port : (p q : PortId) → is_port p q ≡ true → p ≡ q
+same_port p q e = let h = and_parts (p.node == q.node) (p.port == q.port) e in port_is p q (eqb-true p.node q.node h.0) (eqb-true p.port q.port h.1)
+
+pub port_same : (p q : PortId) → p ≡ q → is_port p q ≡ true
+port_same p q e =
+    and_from (p.node == q.node) (p.port == q.port) (eq-eqb p.node q.node (ap (λ x. x.node) e)) (eq-eqb p.port q.port (ap (λ x. x.port) e))
 
 -- the most is at most what each is
 fold_max_le : {X : Type 0} (f : X → ℕ) (m a : ℕ) (xs : List X) → a ≤ m → All (λ x. f x ≤ m) xs → fold (λ top x. max top (f x)) a xs ≤ m

@@ -1,10 +1,10 @@
 -- Laws of `specs/Dependencies.antt`: required counts are those of the dependencies, targets and dependencies are inverse, and in a sound shape
 -- an order rises from each node to those that it precedes, so that no walk along links that are not delayed comes back.
-use Rattle.std.proofs.Common.{◌≡◌, ℕ, zero, suc, ◌<◌, ◌≤◌, ◌==◌, ◌&&◌, ◌||◌, ◌↔◌, ◌⊎◌, inl, inr, Bool, true, false, cond, not, List, [], ◌∷◌, length, get_or, refl, sym, ◌∙◌, ap, subst, arith}
+use Rattle.std.proofs.Common.{◌≡◌, ℕ, zero, suc, ◌<◌, ◌≤◌, ◌==◌, ◌&&◌, ◌||◌, ◌↔◌, inl, inr, Bool, true, false, cond, not, List, [], ◌∷◌, length, get_or, refl, sym, ◌∙◌, ap, subst, arith}
 use mathlib.Core.Logic.{dite}
 use native.Mathlib.Decide.{ℕ_discrete}
 use Rattle.std.specs.Prelude.{◌≢◌, filter, All, Contains, sum_by}
-use Rattle.std.proofs.lemmas.Bool.{false_from_ne_true}
+use Rattle.std.proofs.lemmas.Bool.{false_from_ne_true, and_parts, or_cases}
 use Rattle.std.proofs.lemmas.Bool.Decides.{Decides-eqb}
 use Rattle.std.proofs.lemmas.List.Folds.{Any-from_list_any}
 use Rattle.std.proofs.lemmas.List.Sums.{get_or-le-sum_by}
@@ -40,14 +40,6 @@ dependencies_are shape m n here = (
   λ c. let h = held (waits shape n) (nodes_of shape) m c in record { from_active = h.0; to_active = here; waits = h.1 },
   λ d. holds_at (waits shape n) (nodes_of shape) m d.from_active.0 d.waits d.from_active.1 d.from_active.2,
 )
-
-and_parts : (a b : Bool) → (a && b) ≡ true → (a ≡ true) × (b ≡ true)
-and_parts true b e = (refl, e)
-and_parts false b e = cc
-
-or_parts : (a b : Bool) → (a || b) ≡ true → (a ≡ true) ⊎ (b ≡ true)
-or_parts true b e = inl refl
-or_parts false b e = inr e
 
 not_true : (a : Bool) → not a ≡ true → a ≡ false
 not_true true e = cc
@@ -94,9 +86,9 @@ module _ (shape : Shape) (h : HasOrder shape.links) where
       (λ e. let top : precedence_rank n ≡ suc (sum_by h.rank (nodes_of shape)) = ap precedence_rank e ∙ at_driver in
       let le : h.rank m ≤ sum_by h.rank (nodes_of shape) = below_all m p.depends.from_active in omega arith)
       (λ ne. let same : precedence_rank n ≡ h.rank n = at_follower n ne in
-      let rise : h.rank m < h.rank n = elim (or_parts _ _ p.depends.waits) [
+      let rise : h.rank m < h.rank n = elim (or_cases _ _ p.depends.waits) [
         | inl t ↦ absurd (p.follower ((Decides-eqb _ _).0 t))
-        | inr t ↦ elim (or_parts _ _ t) [ inl u ↦ absurd (ne ((Decides-eqb _ _).0 u)) | inr u ↦ along m n u ]
+        | inr t ↦ elim (or_cases _ _ t) [ inl u ↦ absurd (ne ((Decides-eqb _ _).0 u)) | inr u ↦ along m n u ]
       ] in omega arith)
 
   -- so no node precedes itself

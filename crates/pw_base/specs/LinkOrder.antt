@@ -13,9 +13,12 @@ pub record HasOrder (links : List ShapeLink) : Type 0 where
 abbrev pub is_blocked : List ShapeLink → List Bool → ℕ → Bool
 is_blocked links left node = list_any (λ l. not l.delayed && ((l.to.node == node) && slice_index_or left l.from.node false)) links
 
--- each node that is left is blocked
+-- each node below a number that is left is blocked, and each node that is left
+abbrev pub AreBlocked : List ShapeLink → List Bool → ℕ → Type 0
+AreBlocked links left m = (n : ℕ) → n < m → slice_index_or left n false ≡ true → is_blocked links left n ≡ true
+
 abbrev pub IsStuck : List ShapeLink → List Bool → Type 0
-IsStuck links left = (n : ℕ) → n < 64 → slice_index_or left n false ≡ true → is_blocked links left n ≡ true
+IsStuck links left = AreBlocked links left 64
 
 -- the node is left and not blocked
 abbrev pub IsFree : List ShapeLink → List Bool → ℕ → Type 0

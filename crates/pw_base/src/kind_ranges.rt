@@ -110,8 +110,8 @@ pub(crate) fn is_sink_or_meter(kind: &Kind) -> bool
     matches!(kind, Kind::Sink | Kind::Meter)
 }
 
-/// Whether it is a sink.
-pub(crate) fn is_sink(kind: &Kind) -> bool
+/// Whether it is a sink. Takes no memory.
+pub fn is_sink(kind: &Kind) -> bool
     ensures { result ≡ is_sink kind.now }
 {
     matches!(kind, Kind::Sink)

@@ -3,20 +3,13 @@ ghost use Rattle.std.specs.Prelude.{◌≡◌, ℕ, ◌≤◌, max, [], filter, 
 ghost use Rattle.pw_base.specs.Pools.{is_port, is_before, with_port, sources_of, links_from, link_ids_from, asked, blocks_of, channels_of, words_of};
 ghost use Rattle.pw_base.specs.Pools.{pool_of, pools_of, AreAlike, IsPooledShape};
 
-use crate::ids::PortId;
+use crate::ids::{PortId, is_port};
 use crate::items::Items;
 use crate::memory::Memory;
 use crate::pools::PoolShape;
 use crate::shape::{Shape, ShapeLink};
 use crate::soundness::is_sound_shape;
 use std::alloc::Global;
-
-// Whether two ports are the same.
-fn is_port(p: PortId, q: PortId) -> bool
-    ensures { result ≡ is_port p q }
-{
-    p.node == q.node && p.port == q.port
-}
 
 /// Whether a port stands before another: by node, then by port.
 pub(crate) fn is_before(p: PortId, q: PortId) -> bool

@@ -1,6 +1,7 @@
 use Rattle.std.proofs.Common.{◌≡◌, ◌*◌, map, filter, fold, drop}
 use Rattle.pw_base.specs.Samples.{silence, summed}
-use Rattle.cycle_model.specs.Epochs.{is_port, channels_of}
+use Rattle.pw_base.specs.Pools.{is_port}
+use Rattle.cycle_model.specs.Epochs.{channels_of}
 use Rattle.cycle_model.specs.Known.{brought_by}
 use Rattle.cycle_model.proofs.inputs.input_of.Given as goal
 

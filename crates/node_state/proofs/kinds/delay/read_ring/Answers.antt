@@ -2,7 +2,7 @@ use Rattle.std.proofs.Common.{◌≡◌, ◌∙◌, ◌+◌, ◌-◌, ◌++◌, 
 use Rattle.std.proofs.lemmas.Grind.{common_steps}
 use Rattle.std.proofs.lemmas.List.{take_rest}
 use borrow.Rule.Slice.PartMut.{put_mid}
-use Rattle.node_state.proofs.RowLemmas.{filled_from, filled_more, filled_whole}
+use Rattle.node_state.proofs.RowLemmas.{filled_from, filled_long, filled_more}
 use Rattle.node_state.proofs.kinds.delay.read_ring.Goals as goal
 
 pub returns : goal.returns
@@ -25,4 +25,4 @@ returns c =
     omega (arith, one, after, both) in
     let row3 : c.copy_front.new.to ≡ filled_from a (drop (first + second) to2) = c.copy_front.ensures.row ∙ ap (filled_from a) (take_rest to2 (first + second)) in
     let three = filled_more (x ++ y) a ys to2 c.copy_front.new.to (first + second) (length to2 - (first + second)) count two row3 (omega arith) in
-    three ∙ filled_whole ((x ++ y) ++ a) ys (grind (arith, common_steps, c.requires.lengths)) ∙ ap (λ t. take (length ys) ((t ++ y) ++ a)) (take_rest c.args.ring.now c.args.oldest)
+    three ∙ filled_long ((x ++ y) ++ a) ys (grind (arith, common_steps, c.requires.lengths)) ∙ ap (λ t. take (length ys) ((t ++ y) ++ a)) (take_rest c.args.ring.now c.args.oldest)

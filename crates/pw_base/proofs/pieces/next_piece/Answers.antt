@@ -1,8 +1,8 @@
 use Rattle.std.proofs.Common.{arith}
 use Rattle.std.specs.Prelude.{◌==◌}
 use Rattle.std.proofs.lemmas.Grind.{common_steps}
-use Rattle.graph_script.proofs.LexicalLemmas.{first_piece, pieces_after_cut}
-use Rattle.graph_script.proofs.lexing.next_piece.Goals as goal
+use Rattle.pw_base.proofs.PieceLemmas.{first_piece, pieces_after_cut}
+use Rattle.pw_base.proofs.pieces.next_piece.Goals as goal
 
 pub returns-in-empty-clause-pieces : goal.returns-in-empty-clause-pieces
 returns-in-empty-clause-pieces c =
