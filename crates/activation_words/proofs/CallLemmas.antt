@@ -12,7 +12,8 @@ use Rattle.board_rule.specs.View.{node_of, view_node, view_lead}
 use Rattle.board_rule.specs.Steps.{HasNode, finished, settled, untold, driven, StoresPending, reset_to}
 use Rattle.board_rule.specs.EventSteps.{Draws, draws, CanDraw, CanDrawLead, StoresEvent, event_stored, CanStore, held, stored_phase, node_draws, lead_draws, draw_trail}
 use Rattle.activation_words.specs.Told.{IsTelling, HasTold}
-use Rattle.activation_words.specs.Calls.{IsAwake, started, worked, HasRested, HasFinished, begin_stored, reset_one, all_reset, HasBegun}
+use Rattle.activation_words.specs.Calls.{IsAwake, started, worked, HasRested, HasFinished}
+use Rattle.activation_words.specs.CycleCalls.{begin_stored, reset_one, all_reset, HasBegun}
 use Rattle.activation_words.proofs.ViewLemmas.{again, twice, has_again}
 use Rattle.activation_words.proofs.TellLemmas.{all_kicked, all_settled}
 

@@ -13,7 +13,7 @@ use Rattle.board_rule.specs.View.{view_trail, view_lead}
 use Rattle.board_rule.specs.Bits.{with_bit}
 use Rattle.board_rule.specs.Steps.{HasNode}
 use Rattle.board_rule.specs.EventSteps.{Draws, draws, CanDrawLead, lead_draws, draw_trail, Looks, late_of, StoresLate, late_stored, StoresEvent, event_stored}
-use Rattle.activation_words.specs.Calls.{followers, HasChecked}
+use Rattle.activation_words.specs.CycleCalls.{followers, HasChecked}
 use Rattle.activation_words.specs.Checks.{tick_drawn, LooksAt, IsLooking}
 
 front : {A : Type 0} (xs : List A) (x y : A) → Contains xs y → Contains (x ∷ xs) y

@@ -1,4 +1,4 @@
--- What each call of a cycle asks of the view of its seat, and the view after it. Nodes are places; `leads` is true for the driver's seat.
+-- What the calls on one node ask of the view of their seat, and the view after it. Nodes are places; `leads` is true for the driver's seat.
 -- Source: PipeWire's documentation, "Graph Scheduling"; the calls are this project's.
 use Rattle.std.specs.Prelude.{◌≡◌, ◌≢◌, ℕ, zero, suc, ◌+◌, ◌<◌, Bool, true, false, cond, eqb, List, [], ◌∷◌, map, reverse}
 use Rattle.board_rule.specs.declared.view.Phase.TheVariants.{Idle, Awake, Running, Telling}
@@ -44,36 +44,3 @@ pub record HasRested (p : Lay) (v : View) (m : ℕ) (w : View) : Type 0 where
 abbrev pub HasFinished : Bool → Lay → View → ℕ → View → Type 0
 HasFinished true p v m w = (ticket : ℕ) × (ticket < event_count p.shape) × (w ≡ worked true v m ticket)
 HasFinished false p v m w = HasRested p v m w
-
--- BEGIN: the event is stored, all nodes are reset, all targets are taken down
-abbrev pub begin_stored : View → ℕ → View
-begin_stored v ticket = view_lead v (record v.lead { drive = drives.Reset 0; ticket = ticket }) (untold v.trail)
-
-abbrev pub reset_one : Lay → View → View
-reset_one p v = driven v (reset_to (nodes p) (reset_of v.lead.drive + 1)) v.trail
-
-abbrev pub all_reset : View → View
-all_reset v = driven v (drives.Kick 0 false) v.trail
-
-pub record HasBegun (p : Lay) (v w : View) : Type 0 where
-  pub ticket : ℕ
-  pub drawn : ticket < event_count p.shape
-  pub told : map (λ f. f.node) w.trail.told ≡ reverse (map p.number (p.targets p.driver))
-  pub is : w ≡ view_lead v (record v.lead { drive = drives.Waiting; ticket = ticket }) (record v.trail { told = w.trail.told })
-
--- END: the seat is between this cycle and the next
-abbrev pub HasEnded : Lay → View → View → Type 0
-HasEnded p v w = (ticket : ℕ) × (ticket < event_count p.shape)
-    × (w ≡ view_lead v (record v.lead { cycle = v.lead.cycle + 1; drive = drives.Between; checked = false; ticket = ticket }) v.trail)
-
--- A CHECK: the status word of each follower is loaded once, ascending, and the seat remembers each, newest first
-abbrev pub followers : Lay → ℕ → List ℕ
-followers p zero = []
-followers p (suc k) = cond (eqb k p.driver) (followers p k) (p.number k ∷ followers p k)
-
-pub record HasChecked (p : Lay) (v : View) (late : ℕ) (w : View) : Type 0 where
-  pub ticket : ℕ
-  pub drawn : ticket < event_count p.shape
-  pub looks : map (λ f. f.node) w.trail.looks ≡ followers p (nodes p)
-  pub late_is : late ≡ late_of v.lead.cycle w.trail.looks
-  pub is : w ≡ view_lead v (record v.lead { checked = true; checks = v.lead.checks + 1; ticket = ticket }) (record v.trail { looks = w.trail.looks })

@@ -8,7 +8,7 @@ use Rattle.board_rule.specs.Layout.{Lay}
 use Rattle.board_rule.specs.View.{view_lead, view_trail}
 use Rattle.board_rule.specs.Bits.{with_bit}
 use Rattle.board_rule.specs.EventSteps.{looked, late_of}
-use Rattle.activation_words.specs.Calls.{followers}
+use Rattle.activation_words.specs.CycleCalls.{followers}
 
 abbrev pub tick_drawn : View → ℕ → View
 tick_drawn v ticket = view_lead v (record v.lead { drive = Checking; checked = true; checks = v.lead.checks + 1; ticket = ticket }) (record v.trail { looks = [] })

@@ -6,7 +6,7 @@ ghost use Rattle.board_rule.specs.View.{view_lead};
 ghost use Rattle.board_rule.specs.Layout.{lay, nodes};
 ghost use Rattle.board_rule.specs.Steps.{HasNode, StoresPending};
 ghost use Rattle.activation_words.specs.Told.{IsTelling, HasTold};
-ghost use Rattle.activation_words.specs.Calls.{HasBegun, begin_stored, reset_one, all_reset};
+ghost use Rattle.activation_words.specs.CycleCalls.{HasBegun, begin_stored, reset_one, all_reset};
 
 use crate::telling::tell_all;
 use board_rule::{Board, BoardSeat, DriverSeat};

@@ -3,7 +3,7 @@ ghost use Rattle.std.specs.Prelude.{◌≡◌, true};
 ghost use Rattle.board_rule.specs.declared.view.Drive.TheVariants.{FinishStored};
 ghost use Rattle.board_rule.specs.Layout.{lay};
 ghost use Rattle.board_rule.specs.Steps.{HasNode};
-ghost use Rattle.activation_words.specs.Calls.{HasEnded};
+ghost use Rattle.activation_words.specs.CycleCalls.{HasEnded};
 
 use board_rule::{Board, BoardSeat, DriverSeat};
 

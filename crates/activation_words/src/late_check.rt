@@ -8,7 +8,7 @@ ghost use Rattle.board_rule.specs.Bits.{with_bit};
 ghost use Rattle.board_rule.specs.Layout.{lay, nodes};
 ghost use Rattle.board_rule.specs.Steps.{HasNode};
 ghost use Rattle.board_rule.specs.EventSteps.{Looks, looked};
-ghost use Rattle.activation_words.specs.Calls.{HasChecked};
+ghost use Rattle.activation_words.specs.CycleCalls.{HasChecked};
 ghost use Rattle.activation_words.specs.Checks.{tick_drawn, LooksAt, IsLooking};
 
 use board_rule::{Board, BoardSeat, DriverSeat};

@@ -13,12 +13,13 @@ use Rattle.board_rule.specs.Layout.{Lay}
 use Rattle.board_rule.specs.View.{unwritten}
 use Rattle.board_rule.specs.BufferReads.{HasPool, IsOldestOut, IsFilled, IsFirstFilled}
 use Rattle.board_rule.specs.SampleWords.{samples_in}
-use Rattle.board_rule.specs.BufferRule.{is_busy, lag}
+use Rattle.board_rule.specs.BlockReadings.{is_busy, lag}
 use Rattle.board_rule.specs.Spans.{block_at}
 use Rattle.board_rule.specs.EndViews.{pool_at, block_of, view_block}
 use Rattle.board_rule.specs.SeatNodes.{HasNode, cycle_of}
 use Rattle.board_rule.specs.WorkSteps.{IsRunning}
-use Rattle.board_rule.specs.WriterSteps.{LoadsAsWriter, loaded_as_writer, IsWriting, write_cycle, fill_cycle}
+use Rattle.board_rule.specs.WriterSteps.{LoadsAsWriter, loaded_as_writer, write_cycle}
+use Rattle.board_rule.specs.BlockSteps.{IsWriting, fill_cycle}
 use Rattle.io_areas.specs.Writing.{IsAtPool, IsDue, Reclaims, HasReclaimed, Fills, Announces, IsFull, HasAnnounced, Publishes, HasPublished}
 use Rattle.io_areas.proofs.PoolLemmas.{has_block, one_first}
 use Rattle.area_runs.specs.Fan.{IsFan}

@@ -8,7 +8,7 @@ use Rattle.pw_base.specs.Pools.{pools_of}
 use Rattle.board_rule.specs.Layout.{Lay, nodes, first}
 use Rattle.board_rule.specs.declared.view.BlockView.TheVariants.{Free}
 use Rattle.board_rule.specs.StartViews.{free_blocks}
-use Rattle.board_rule.specs.BufferRule.{late_at, lag}
+use Rattle.board_rule.specs.BlockReadings.{late_at, lag}
 use Rattle.board_rule.specs.EndViews.{pool_at, writer_of, reader_of, filler_of, pool_of}
 
 abbrev pub fan_link : ℕ → ℕ → ShapeLink

@@ -12,7 +12,7 @@ use Rattle.board_rule.specs.Layout.{Lay}
 use Rattle.board_rule.specs.Spans.{block_at}
 use Rattle.board_rule.specs.EndViews.{pool_at, block_of, view_block}
 use Rattle.board_rule.specs.BufferReads.{HasPool, IsFilled, IsFirstFilled}
-use Rattle.board_rule.specs.WriterSteps.{fill_cycle}
+use Rattle.board_rule.specs.BlockSteps.{fill_cycle}
 use Rattle.board_rule.proofs.HolderLemmas.{take_less, pool_there}
 use Rattle.io_areas.specs.Writing.{IsAtPool, IsFull, Announces, HasAnnounced}
 use Rattle.io_areas.proofs.PoolLemmas.{one_first}

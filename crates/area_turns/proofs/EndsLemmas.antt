@@ -9,7 +9,7 @@ use Rattle.board_rule.specs.declared.view.View.{View}
 use Rattle.board_rule.specs.Layout.{Lay, first}
 use Rattle.board_rule.specs.View.{unwritten}
 use Rattle.board_rule.specs.Areas.{stored_id}
-use Rattle.board_rule.specs.BufferRule.{late_at}
+use Rattle.board_rule.specs.BlockReadings.{late_at}
 use Rattle.board_rule.specs.EndViews.{write_of, view_write, pool_of, writer_of, block_of}
 use Rattle.board_rule.specs.BufferReads.{IsFirstFilled}
 use Rattle.board_rule.specs.WriterSteps.{LoadsAsWriter, IsWriter, write_cycle}

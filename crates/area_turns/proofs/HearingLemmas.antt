@@ -9,7 +9,7 @@ use Rattle.board_rule.specs.declared.view.View.{View}
 use Rattle.board_rule.specs.Layout.{Lay, first}
 use Rattle.board_rule.specs.View.{Samples, unread}
 use Rattle.board_rule.specs.Areas.{late_by}
-use Rattle.board_rule.specs.BufferRule.{late_at}
+use Rattle.board_rule.specs.BlockReadings.{late_at}
 use Rattle.board_rule.specs.SampleWords.{samples_in}
 use Rattle.board_rule.specs.EndViews.{no_link, read_of, view_read, pool_at, pool_of, reader_of}
 use Rattle.board_rule.specs.SeatNodes.{HasNode}

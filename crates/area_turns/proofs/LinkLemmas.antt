@@ -5,7 +5,7 @@ use Rattle.pw_base.specs.declared.ids.PortId.{PortId}
 use Rattle.pw_base.specs.declared.shape.ShapeLink.{ShapeLink}
 use Rattle.pw_base.specs.Pools.{pools_of}
 use Rattle.board_rule.specs.Layout.{Lay}
-use Rattle.board_rule.specs.BufferRule.{lag}
+use Rattle.board_rule.specs.BlockReadings.{lag}
 use Rattle.board_rule.specs.EndViews.{pool_at, pool_of, writer_of, filler_of}
 use Rattle.board_rule.proofs.PortLemmas.{differ_at}
 use Rattle.board_rule.proofs.WiringLemmas.{PoolAt, Wired, wired}

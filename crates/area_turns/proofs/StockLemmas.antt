@@ -9,10 +9,10 @@ use Rattle.board_rule.specs.declared.view.BlockView.{BlockView}
 use Rattle.board_rule.specs.declared.view.BlockView.TheVariants.{Free, Out}
 use Rattle.board_rule.specs.declared.view.View.{View}
 use Rattle.board_rule.specs.Layout.{Lay, first}
-use Rattle.board_rule.specs.BufferRule.{lag, stamp}
+use Rattle.board_rule.specs.BlockReadings.{lag, stamp}
 use Rattle.board_rule.specs.EndViews.{pool_at, block_of, view_block}
 use Rattle.board_rule.specs.BufferReads.{IsOldestOut}
-use Rattle.board_rule.specs.WriterSteps.{fill_cycle}
+use Rattle.board_rule.specs.BlockSteps.{fill_cycle}
 use Rattle.buffer_pool.specs.Queue.{Queue}
 use Rattle.io_areas.specs.Writing.{IsAtPool, IsDue, HasReclaimed}
 use Rattle.area_turns.specs.Plain.{IsPlain}

@@ -10,7 +10,8 @@ use Rattle.board_rule.specs.EndViews.{pool_at, block_of, view_block, write_of}
 use Rattle.board_rule.specs.BufferReads.{HasPool, IsFirstFilled}
 use Rattle.board_rule.specs.SeatNodes.{cycle_of, HasNode}
 use Rattle.board_rule.specs.WorkSteps.{IsRunning}
-use Rattle.board_rule.specs.WriterSteps.{LoadsAsWriter, IsWriter, IsWriting, write_cycle, fill_cycle}
+use Rattle.board_rule.specs.WriterSteps.{LoadsAsWriter, IsWriter, write_cycle}
+use Rattle.board_rule.specs.BlockSteps.{IsWriting, fill_cycle}
 use Rattle.buffer_pool.specs.Queue.{Queue}
 use Rattle.io_areas.specs.Writing.{IsAtPool, Reclaims, HasReclaimed, Publishes}
 use Rattle.area_turns.specs.Plain.{IsPlain}

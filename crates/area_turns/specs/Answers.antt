@@ -5,7 +5,7 @@ use Rattle.std.specs.Prelude.{option_to_list}
 use Rattle.board_rule.specs.declared.view.View.{View}
 use Rattle.board_rule.specs.Layout.{Lay, first}
 use Rattle.board_rule.specs.EndViews.{pool_at}
-use Rattle.board_rule.specs.WriterSteps.{fill_cycle}
+use Rattle.board_rule.specs.BlockSteps.{fill_cycle}
 use Rattle.io_areas.specs.Writing.{number_given}
 use Rattle.area_turns.specs.declared.writing.Written.{Written}
 use Rattle.area_turns.specs.Stock.{IsOutAlone}

@@ -6,7 +6,7 @@ use Rattle.board_rule.specs.declared.view.View.{View}
 use Rattle.board_rule.specs.Layout.{Lay}
 use Rattle.board_rule.specs.EndViews.{pool_at, filler_of, write_of, block_of}
 use Rattle.board_rule.specs.WorkSteps.{IsRunning}
-use Rattle.board_rule.specs.WriterSteps.{fill_cycle}
+use Rattle.board_rule.specs.BlockSteps.{fill_cycle}
 use Rattle.board_rule.specs.BufferReads.{HasPool}
 use Rattle.area_turns.specs.Ends.{IsWrittenUpTo}
 

@@ -10,7 +10,7 @@ use Rattle.board_rule.specs.Layout.{Lay, first}
 use Rattle.board_rule.specs.StartViews.{Samples}
 use Rattle.board_rule.specs.View.{put}
 use Rattle.board_rule.specs.Areas.{Span}
-use Rattle.board_rule.specs.BufferRule.{Ends, is_busy}
+use Rattle.board_rule.specs.BlockReadings.{Ends, is_busy}
 use Rattle.board_rule.proofs.SeatLemmas.{put_here, put_else}
 use Rattle.board_rule.proofs.WiringLemmas.{PoolAt, Wired}
 use Rattle.board_rule.proofs.PlainLemmas.{PlainLink, PlainBlock, Plain}

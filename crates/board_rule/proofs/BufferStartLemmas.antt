@@ -17,7 +17,8 @@ use Rattle.board_rule.specs.declared.view.BlockView.TheVariants.{Free}
 use Rattle.board_rule.specs.Layout.{Lay, IsUndelayed, nodes, first}
 use Rattle.board_rule.specs.StartViews.{Samples, unwritten, unread}
 use Rattle.board_rule.specs.Areas.{Span}
-use Rattle.board_rule.specs.BufferRule.{Ends, filled, Buffers}
+use Rattle.board_rule.specs.BufferRule.{Buffers}
+use Rattle.board_rule.specs.BlockReadings.{Ends, filled}
 use Rattle.board_rule.proofs.LayoutLemmas.{undelayed_start}
 use Rattle.board_rule.proofs.PlaceLemmas.{areas_before}
 use Rattle.board_rule.proofs.WiringLemmas.{LinkAt, PoolAt, Wired}

@@ -9,7 +9,8 @@ use Rattle.pw_base.specs.declared.event.Event.TheVariants.{Begin, Start, Finish,
 use Rattle.pw_base.specs.Dependencies.{nodes_of, Precedes}
 use Rattle.pw_base.specs.Layout.{event_count}
 use Rattle.board_rule.specs.Layout.{Lay, IsSound, nodes}
-use Rattle.board_rule.specs.Logged.{Records, Marks, so_far, IsHeld, Tickets, Earlier, Inside}
+use Rattle.board_rule.specs.Logged.{IsHeld, Tickets, Earlier, Inside}
+use Rattle.board_rule.specs.Records.{Records, Marks, so_far}
 use Rattle.board_rule.proofs.LogLemmas.{tickets_drawn, inside_more}
 
 -- the node at m, and no other, draws its Start or its Finish as the ticket t; or stores the event of the ticket t

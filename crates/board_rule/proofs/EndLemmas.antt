@@ -13,7 +13,7 @@ use Rattle.board_rule.specs.Layout.{Lay, first}
 use Rattle.board_rule.specs.StartViews.{Samples}
 use Rattle.board_rule.specs.View.{put}
 use Rattle.board_rule.specs.Areas.{Span}
-use Rattle.board_rule.specs.BufferRule.{Ends}
+use Rattle.board_rule.specs.BlockReadings.{Ends}
 use Rattle.board_rule.proofs.SeatLemmas.{put_here, put_else}
 use Rattle.board_rule.proofs.WiringLemmas.{LinkAt, PoolAt, Wired}
 use Rattle.board_rule.proofs.PlainLemmas.{PlainLink, Plain, awaited_of}

@@ -13,7 +13,8 @@ use Rattle.board_rule.specs.Layout.{Lay}
 use Rattle.board_rule.specs.StartViews.{Samples}
 use Rattle.board_rule.specs.SampleWords.{packed, samples_of}
 use Rattle.board_rule.specs.Areas.{Span}
-use Rattle.board_rule.specs.BufferRule.{Ends, is_busy, stamp, filled, lag, Buffers}
+use Rattle.board_rule.specs.BufferRule.{Buffers}
+use Rattle.board_rule.specs.BlockReadings.{Ends, is_busy, stamp, filled, lag}
 use Rattle.board_rule.proofs.WiringLemmas.{LinkAt, PoolAt, Wired}
 use Rattle.board_rule.proofs.PlainLemmas.{PlainBlock, Plain, awaited_of, to_plain, from_plain, one_lag}
 use Rattle.board_rule.proofs.PaceLemmas.{Paced}

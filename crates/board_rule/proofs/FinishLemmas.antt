@@ -11,7 +11,8 @@ use Rattle.board_rule.specs.Layout.{Lay, nodes}
 use Rattle.board_rule.specs.StartViews.{Samples}
 use Rattle.board_rule.specs.SampleWords.{packed, samples_of}
 use Rattle.board_rule.specs.Areas.{Span}
-use Rattle.board_rule.specs.BufferRule.{Ends, is_busy, stamp, Buffers}
+use Rattle.board_rule.specs.BufferRule.{Buffers}
+use Rattle.board_rule.specs.BlockReadings.{Ends, is_busy, stamp}
 use Rattle.board_rule.proofs.WiringLemmas.{LinkAt, PoolAt, Wired, made}
 use Rattle.board_rule.proofs.PlainLemmas.{PlainBlock, Plain, to_plain, from_plain}
 use Rattle.board_rule.proofs.StayLemmas.{SameBuffers, io_same, readers_same, samples_same}

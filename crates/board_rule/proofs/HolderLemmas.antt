@@ -35,7 +35,7 @@ use Rattle.board_rule.proofs.SoundLemmas.{sound_layout}
 use Rattle.board_rule.proofs.LayoutLemmas.{count_is, long_enough}
 use Rattle.board_rule.specs.View.{Whole, put, node_of, unwritten, unread}
 use Rattle.board_rule.specs.SampleWords.{IsTable}
-use Rattle.board_rule.specs.BufferRule.{Ends}
+use Rattle.board_rule.specs.BlockReadings.{Ends}
 use Rattle.board_rule.specs.Spans.{spans, phase_over, phase_begun, drive_over, drive_begun, holder, block_at, KnowsEnds, AreStill}
 use Rattle.board_rule.specs.BoardRule.{Knows, Seated, Holds}
 use Rattle.board_rule.specs.EndViews.{no_link, no_pool, link_at, pool_at, pool_of, view_write, view_read, view_block}

@@ -13,7 +13,8 @@ use Rattle.board_rule.specs.Layout.{Lay, IsSound, nodes, first}
 use Rattle.board_rule.specs.View.{Whole}
 use Rattle.board_rule.specs.ActivationRule.{Posts, NodeOk, Activations, Runs, Resets, Words, posts, left, debts}
 use Rattle.board_rule.specs.EventRule.{Events, IsHeld, marks}
-use Rattle.board_rule.specs.BufferRule.{Ends, Buffers}
+use Rattle.board_rule.specs.BufferRule.{Buffers}
+use Rattle.board_rule.specs.BlockReadings.{Ends}
 use Rattle.board_rule.specs.Spans.{spans}
 use Rattle.board_rule.specs.BoardRule.{Seated, Holds}
 use Rattle.board_rule.proofs.TicketLemmas.{few_tickets}

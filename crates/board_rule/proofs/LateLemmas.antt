@@ -18,7 +18,8 @@ use Rattle.board_rule.specs.Layout.{Lay, nodes, first}
 use Rattle.board_rule.specs.View.{put}
 use Rattle.board_rule.specs.Bits.{with_bit}
 use Rattle.board_rule.specs.EventSteps.{late_of}
-use Rattle.board_rule.specs.Logged.{Records, Tally, Marks, IsSoFar, IsHeld, Tickets, Earlier, Inside}
+use Rattle.board_rule.specs.Logged.{IsSoFar, IsHeld, Tickets, Earlier, Inside}
+use Rattle.board_rule.specs.Records.{Records, Tally, Marks}
 use Rattle.board_rule.proofs.SeatLemmas.{put_here, put_else}
 use Rattle.board_rule.proofs.GrowthLemmas.{count_mapped, first_mapped}
 

@@ -16,7 +16,8 @@ use Rattle.pw_base.specs.Dependencies.{Precedes}
 use Rattle.pw_base.specs.EventWords.{event_cycle, event_node}
 use Rattle.pw_base.specs.History.{is_tick, tick_place, start_place, finish_place, IsOfCycle, RunsOnce, IsLegalInside, IsLegalCycle, AreJoined, epoch_cycles}
 use Rattle.board_rule.specs.Layout.{Lay, IsSound, nodes, first, last}
-use Rattle.board_rule.specs.Logged.{Records, Tally, IsSoFar, Earlier, Inside}
+use Rattle.board_rule.specs.Logged.{IsSoFar, Earlier, Inside}
+use Rattle.board_rule.specs.Records.{Records, Tally}
 
 some_pass : {X : Type 0} (f : X → Bool) (xs : List X) (i : ℕ) (d : X) → i < length xs → f (get_or xs i d) ≡ true → 0 < count_by f xs
 some_pass f [] i d h t = absurd (omega arith)

@@ -14,7 +14,8 @@ use Rattle.pw_base.specs.Layout.{event_count}
 use Rattle.pw_base.specs.Words.{status_word_of}
 use Rattle.board_rule.specs.Layout.{Lay, nodes}
 use Rattle.board_rule.specs.View.{put}
-use Rattle.board_rule.specs.Logged.{Records, Tally, Marks, IsSoFar, IsHeld, Tickets, Inside}
+use Rattle.board_rule.specs.Logged.{IsSoFar, IsHeld, Tickets, Inside}
+use Rattle.board_rule.specs.Records.{Records, Tally, Marks}
 use Rattle.board_rule.proofs.SeatLemmas.{put_here, put_else}
 use Rattle.board_rule.proofs.GrowthLemmas.{count_more, first_within, first_at_end, first_stays, first_here, first_rises, get_front, get_end, get_cases}
 

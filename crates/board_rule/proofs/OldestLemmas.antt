@@ -6,7 +6,7 @@ use Rattle.board_rule.specs.declared.view.BlockView.{BlockView}
 use Rattle.board_rule.specs.declared.view.BlockView.TheVariants.{Free, Filling, Out}
 use Rattle.board_rule.specs.declared.view.View.{View}
 use Rattle.board_rule.specs.Layout.{Lay}
-use Rattle.board_rule.specs.BufferRule.{is_busy, stamp}
+use Rattle.board_rule.specs.BlockReadings.{is_busy, stamp}
 use Rattle.board_rule.specs.EndViews.{pool_at, block_of}
 use Rattle.board_rule.specs.BufferReads.{is_filled, older, IsOldestOut}
 

@@ -17,7 +17,8 @@ use Rattle.board_rule.specs.Layout.{Lay, IsUndelayed, first}
 use Rattle.board_rule.specs.StartViews.{Samples}
 use Rattle.board_rule.specs.SampleWords.{packed, samples_of}
 use Rattle.board_rule.specs.Areas.{late_by, area_of, stored_id, Span, LinkOk}
-use Rattle.board_rule.specs.BufferRule.{Ends, is_busy, stamp, filled, late_at, lag, waiting, readers_of, Buffers}
+use Rattle.board_rule.specs.BufferRule.{Buffers}
+use Rattle.board_rule.specs.BlockReadings.{Ends, is_busy, stamp, filled, late_at, lag, waiting, readers_of}
 use Rattle.board_rule.proofs.WiringLemmas.{LinkAt, PoolAt, Wired}
 
 -- a link with one area, whose word is `word`

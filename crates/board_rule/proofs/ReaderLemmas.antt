@@ -14,7 +14,8 @@ use Rattle.board_rule.specs.StartViews.{Samples}
 use Rattle.board_rule.specs.View.{put}
 use Rattle.board_rule.specs.SampleWords.{packed, samples_of}
 use Rattle.board_rule.specs.Areas.{Span}
-use Rattle.board_rule.specs.BufferRule.{Ends, is_busy, stamp, filled, Buffers}
+use Rattle.board_rule.specs.BufferRule.{Buffers}
+use Rattle.board_rule.specs.BlockReadings.{Ends, is_busy, stamp, filled}
 use Rattle.board_rule.proofs.SeatLemmas.{put_here, put_else}
 use Rattle.board_rule.proofs.WiringLemmas.{LinkAt, PoolAt, Wired}
 use Rattle.board_rule.proofs.PlainLemmas.{PlainBlock, Plain, awaited, awaited_of, to_plain, from_plain}

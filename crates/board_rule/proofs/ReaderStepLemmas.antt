@@ -10,7 +10,8 @@ use Rattle.board_rule.specs.declared.view.View.{View}
 use Rattle.board_rule.specs.Layout.{Lay}
 use Rattle.board_rule.specs.View.{unread}
 use Rattle.board_rule.specs.SampleWords.{IsTable, packed, samples_of}
-use Rattle.board_rule.specs.BufferRule.{Buffers, late_at}
+use Rattle.board_rule.specs.BufferRule.{Buffers}
+use Rattle.board_rule.specs.BlockReadings.{late_at}
 use Rattle.board_rule.specs.Spans.{spans}
 use Rattle.board_rule.specs.BoardRule.{Holds}
 use Rattle.board_rule.specs.EndViews.{link_at, pool_at, pool_of, reader_of, read_of}

@@ -10,7 +10,7 @@ use Rattle.board_rule.specs.declared.view.BlockView.TheVariants.{Free, Filling, 
 use Rattle.board_rule.specs.declared.view.View.{View}
 use Rattle.board_rule.specs.Layout.{Lay}
 use Rattle.board_rule.specs.Spans.{spans}
-use Rattle.board_rule.specs.BufferRule.{Ends, is_busy}
+use Rattle.board_rule.specs.BlockReadings.{Ends, is_busy}
 use Rattle.board_rule.specs.BoardRule.{Holds}
 use Rattle.board_rule.proofs.WiringLemmas.{LinkAt, PoolAt, Wired, wired}
 use Rattle.board_rule.proofs.PlainLemmas.{to_plain}

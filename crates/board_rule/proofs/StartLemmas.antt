@@ -26,7 +26,8 @@ use Rattle.pw_base.specs.Words.{status_word_of}
 use Rattle.board_rule.specs.Layout.{Lay, IsSound, IsUndelayed, nodes, first, word_count}
 use Rattle.board_rule.specs.View.{Whole, Samples, idle, resting, unread, unwritten, first_view, loop_view, split_off}
 use Rattle.board_rule.specs.SampleWords.{IsTable}
-use Rattle.board_rule.specs.BufferRule.{Ends, Buffers}
+use Rattle.board_rule.specs.BufferRule.{Buffers}
+use Rattle.board_rule.specs.BlockReadings.{Ends}
 use Rattle.board_rule.specs.Spans.{spans, holder, KnowsEnds, AreStill}
 use Rattle.board_rule.specs.EventRule.{drawn_before}
 use Rattle.board_rule.specs.Closing.{last_view, kept_view}

@@ -11,7 +11,8 @@ use Rattle.pw_base.specs.Words.{status_word_of}
 use Rattle.board_rule.specs.Layout.{Lay, IsSound, nodes, first, last}
 use Rattle.board_rule.specs.View.{put}
 use Rattle.board_rule.specs.EventSteps.{late_of}
-use Rattle.board_rule.specs.Logged.{Records, Marks, so_far, IsHeld, Tickets, Earlier, Inside}
+use Rattle.board_rule.specs.Logged.{IsHeld, Tickets, Earlier, Inside}
+use Rattle.board_rule.specs.Records.{Records, Marks, so_far}
 use Rattle.board_rule.proofs.LogLemmas.{tickets_drawn, tickets_stored, inside_more}
 use Rattle.board_rule.proofs.LateLemmas.{told_late, tickets_late, earlier_late, inside_late, late_bits}
 use Rattle.board_rule.proofs.LegalLemmas.{earlier_ends}

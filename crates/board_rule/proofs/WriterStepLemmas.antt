@@ -15,11 +15,13 @@ use Rattle.board_rule.specs.Layout.{Lay, first}
 use Rattle.board_rule.specs.View.{Whole, Samples, unwritten}
 use Rattle.board_rule.specs.SampleWords.{packed, samples_in, samples_of}
 use Rattle.board_rule.specs.Areas.{stored_id}
-use Rattle.board_rule.specs.BufferRule.{Buffers, lag, is_busy, stamp}
+use Rattle.board_rule.specs.BufferRule.{Buffers}
+use Rattle.board_rule.specs.BlockReadings.{lag, is_busy, stamp}
 use Rattle.board_rule.specs.Spans.{spans, holder, block_at}
 use Rattle.board_rule.specs.BoardRule.{Seated, Holds}
 use Rattle.board_rule.specs.EndViews.{link_at, pool_at, pool_of, writer_of, filler_of, write_of, block_of}
-use Rattle.board_rule.specs.WriterSteps.{write_cycle, fill_cycle, LoadsAsWriter, loaded_as_writer, IsGivenBack, LoadsReaders, readers_loaded, StoresSample, sample_stored, StoresReaders, readers_stored, StoresHave, have_stored}
+use Rattle.board_rule.specs.WriterSteps.{write_cycle, LoadsAsWriter, loaded_as_writer, IsGivenBack, StoresHave, have_stored}
+use Rattle.board_rule.specs.BlockSteps.{fill_cycle, LoadsReaders, readers_loaded, StoresSample, sample_stored, StoresReaders, readers_stored}
 use Rattle.board_rule.specs.Plays.{Turns, Learns}
 use Rattle.board_rule.proofs.LayoutLemmas.{count_is}
 use Rattle.board_rule.proofs.PlainLemmas.{no_late, one_lag}

@@ -9,7 +9,7 @@ use Rattle.board_rule.specs.Layout.{Lay}
 use Rattle.board_rule.specs.Spans.{block_at}
 use Rattle.board_rule.specs.EndViews.{pool_at, filler_of, block_of}
 use Rattle.board_rule.specs.SeatNodes.{HasNode}
-use Rattle.board_rule.specs.WriterSteps.{fill_cycle}
+use Rattle.board_rule.specs.BlockSteps.{fill_cycle}
 
 -- a block is filled with so many words, or was announced in the cycle before the stamp
 abbrev pub is_filled : ℕ → ℕ → BlockView → Bool

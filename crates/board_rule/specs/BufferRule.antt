@@ -14,59 +14,22 @@ use Rattle.board_rule.specs.Layout.{Lay, first}
 use Rattle.board_rule.specs.StartViews.{Samples}
 use Rattle.board_rule.specs.SampleWords.{packed, samples_of}
 use Rattle.board_rule.specs.Areas.{late_by, stored_id, Span, LinkOk}
-
--- what all seats know of the links, by number, and of the blocks, by pool and number
-pub record Ends : Type 0 where
-  pub writes : ℕ → WriteView
-  pub reads : ℕ → ReadView
-  pub blocks : ℕ → ℕ → BlockView
-
-abbrev pub is_busy : BlockView → Bool
-is_busy Free = false
-is_busy _ = true
-
--- one more than the cycle whose samples a block has, where its writer has ended `over` cycles
-abbrev pub stamp : ℕ → BlockView → ℕ
-stamp over Free = 0
-stamp over (Filling i) = over + 1
-stamp over (Out n) = n
-
--- how many of its words have their samples
-abbrev pub filled : ℕ → BlockView → ℕ
-filled words Free = 0
-filled words (Filling i) = i
-filled words (Out n) = words
+use Rattle.board_rule.specs.BlockReadings.{Ends, is_busy, stamp, filled, late_at, lag, waiting, readers_of}
 
 module _ (p : Lay) where
-  -- a link by its number
-  abbrev pub late_at : ℕ → ℕ
-  late_at l = unwrap_or (option_map late_by (slice_get p.shape.links l)) 0
-
-  -- for how many cycles a block of the pool is busy: until its writer has ended so many after the one before its stamp
-  abbrev pub lag : PoolShape → ℕ
-  lag x = cond (list_any (λ k. k.delayed) (links_from p.shape x.port)) 2 1
-
-  -- how many readers of the pool have not yet taken down the block of the stamp n
-  abbrev pub waiting : (ℕ → ReadView) → PoolShape → ℕ → ℕ
-  waiting reads x n = sum_by (λ l. cond (ltb (reads l).lowered (n + late_at l)) 1 0) x.links
-
-  abbrev pub readers_of : (ℕ → ReadView) → PoolShape → BlockView → ℕ
-  readers_of reads x (Out n) = waiting reads x n
-  readers_of reads x _ = 0
-
   -- A BLOCK b of the pool x, whose number is q. `low` and `high`: from its filling until its writer finds all readers gone
   pub record BlockOk (q b : ℕ) (x : PoolShape) (writer : Span) (reads : ℕ → ReadView) (e : Samples) (block : BlockView) (words : List ℕ) : Type 0 where
-    pub low : is_busy block ≡ true → writer.over < stamp writer.over block + lag x
+    pub low : is_busy block ≡ true → writer.over < stamp writer.over block + lag p x
     pub high : is_busy block ≡ true → stamp writer.over block ≤ writer.begun
     pub full : filled x.words block ≤ x.words
-    pub readers : slice_index words (readers_place p.shape q b) ≡ readers_of reads x block
+    pub readers : slice_index words (readers_place p.shape q b) ≡ readers_of p reads x block
     pub samples : (i : ℕ) → i < filled x.words block → slice_index words (sample_place p.shape q b i) ≡ packed (samples_of p e (stamp writer.over block) q) i
 
   -- A POOL x, whose number is q. `out`: a block that a reader has yet to take down is out. `apart` and `near`: busy blocks have stamps that differ, by less than the lag
   pub record PoolOk (q : ℕ) (x : PoolShape) (over : ℕ) (ends : Ends) : Type 0 where
-    pub out : (l a n : ℕ) → Contains x.links l → a ≤ late_at l → first p + a < (ends.writes l).stored + late_at l → (ends.reads l).lowered + a < (ends.writes l).stored + late_at l → n + a ≡ (ends.writes l).stored → ends.blocks q (stored_id (ends.writes l) a) ≡ Out n
+    pub out : (l a n : ℕ) → Contains x.links l → a ≤ late_at p l → first p + a < (ends.writes l).stored + late_at p l → (ends.reads l).lowered + a < (ends.writes l).stored + late_at p l → n + a ≡ (ends.writes l).stored → ends.blocks q (stored_id (ends.writes l) a) ≡ Out n
     pub apart : (a b : ℕ) → a < x.blocks → b < x.blocks → is_busy (ends.blocks q a) ≡ true → is_busy (ends.blocks q b) ≡ true → stamp over (ends.blocks q a) ≡ stamp over (ends.blocks q b) → a ≡ b
-    pub near : (a b : ℕ) → a < x.blocks → b < x.blocks → is_busy (ends.blocks q a) ≡ true → is_busy (ends.blocks q b) ≡ true → stamp over (ends.blocks q a) < stamp over (ends.blocks q b) + lag x
+    pub near : (a b : ℕ) → a < x.blocks → b < x.blocks → is_busy (ends.blocks q a) ≡ true → is_busy (ends.blocks q b) ≡ true → stamp over (ends.blocks q a) < stamp over (ends.blocks q b) + lag p x
 
   -- BUFFER RULE: each link of each pool, each block and each pool, where `spans` has what each place has done
   pub record Buffers (spans : ℕ → Span) (ends : Ends) (e : Samples) (words : List ℕ) : Type 0 where

@@ -10,7 +10,8 @@ use Rattle.board_rule.specs.Phases.{is_between, phase_drawn, drive_drawn}
 use Rattle.board_rule.specs.Sums.{total}
 use Rattle.board_rule.specs.View.{Whole}
 use Rattle.board_rule.specs.Marks.{phase_started, phase_finished, phase_holds, drive_started, drive_finished, drive_holds, drive_tells, drive_sees, is_begun, is_ending, is_checking}
-pub use Rattle.board_rule.specs.Logged.{Records, Tally, Marks, so_far, IsSoFar, IsHeld, Tickets, Earlier, Inside}
+pub use Rattle.board_rule.specs.Logged.{IsSoFar, IsHeld, Tickets, Earlier, Inside}
+pub use Rattle.board_rule.specs.Records.{Records, Tally, Marks, so_far}
 
 -- two tickets for each cycle of a follower, and at most five for each of the driver's seat, counted from the cycle 0
 abbrev pub node_drawn : NodeView → ℕ

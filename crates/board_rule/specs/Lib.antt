@@ -7,12 +7,14 @@ pub mod Phases
 pub mod StartViews
 pub mod SampleWords
 pub mod Areas
+pub mod BlockReadings
 pub mod BufferRule
 pub mod View
 pub mod Bits
 pub mod NodeRow
 pub mod ActivationRule
 pub mod Marks
+pub mod Records
 pub mod Logged
 pub mod EventRule
 pub mod Spans
@@ -23,6 +25,7 @@ pub mod Rows
 pub mod TellingSteps
 pub mod WorkSteps
 pub mod Steps
+pub mod BlockSteps
 pub mod WriterSteps
 pub mod ReaderSteps
 pub mod BufferReads

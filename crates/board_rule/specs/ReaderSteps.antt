@@ -5,7 +5,7 @@ use Rattle.pw_base.specs.Words.{io_word_of, io_id_in}
 use Rattle.board_rule.specs.declared.view.View.{View}
 use Rattle.board_rule.specs.Layout.{Lay}
 use Rattle.board_rule.specs.SampleWords.{samples_of}
-use Rattle.board_rule.specs.BufferRule.{late_at}
+use Rattle.board_rule.specs.BlockReadings.{late_at}
 use Rattle.board_rule.specs.EndViews.{read_of, view_read, pool_at, reader_of, pool_of}
 use Rattle.board_rule.specs.SeatNodes.{cycle_of, HasNode}
 use Rattle.board_rule.specs.WorkSteps.{IsRunning}

@@ -17,7 +17,7 @@ use Rattle.board_rule.specs.declared.view.BlockView.TheVariants.{Free}
 use Rattle.board_rule.specs.Layout.{Lay, first}
 use Rattle.board_rule.specs.View.{Whole, unwritten, unread}
 use Rattle.board_rule.specs.Areas.{Span}
-use Rattle.board_rule.specs.BufferRule.{Ends}
+use Rattle.board_rule.specs.BlockReadings.{Ends}
 
 -- 1 from the store of FINISHED on, and 1 from the store of Start on
 abbrev pub phase_over : Phase → ℕ

@@ -1,4 +1,4 @@
--- The steps on buffers of the node that writes: what each asks of the view of its seat, and the view after it. Links, pools and blocks are given by number.
+-- The steps of the node that writes on the areas of its links: what each asks of the view of its seat, and the view after it. Links are given by number.
 -- Source: PipeWire's documentation, "SPA Buffers"; spa/node/io.h, spa_io_buffers; the words of pools are this project's own.
 use Rattle.std.specs.Prelude.{◌≡◌, ℕ, ◌+◌, ◌-◌, ◌<◌, ◌⊎◌, true, false, cond, eqb, length, Contains}
 use Rattle.pw_base.specs.Pools.{pools_of}
@@ -8,19 +8,17 @@ use Rattle.board_rule.specs.declared.view.View.{View}
 use Rattle.board_rule.specs.Layout.{Lay, first}
 use Rattle.board_rule.specs.SampleWords.{packed, samples_in}
 use Rattle.board_rule.specs.Areas.{stored_id}
-use Rattle.board_rule.specs.BufferRule.{late_at, lag, is_busy, stamp}
+use Rattle.board_rule.specs.BlockReadings.{late_at, lag, is_busy, stamp}
 use Rattle.board_rule.specs.Spans.{block_at}
 use Rattle.board_rule.specs.EndViews.{write_of, view_write, pool_at, writer_of, filler_of, pool_of, block_of, view_block}
 use Rattle.board_rule.specs.SeatNodes.{cycle_of, HasNode}
 use Rattle.board_rule.specs.WorkSteps.{IsRunning}
+use Rattle.board_rule.specs.BlockSteps.{fill_cycle, IsLoaded, IsWriting, HasBlock, LoadsReaders, readers_loaded, CanFill, StoresSample, sample_stored, StoresReaders, readers_stored}
 
 module _ (p : Lay) where
-  -- the cycles that a link's writer and the node that fills a pool are in
+  -- the cycle that a link's writer is in
   abbrev pub write_cycle : View → ℕ → ℕ
   write_cycle v l = cycle_of false v (writer_of p l)
-
-  abbrev pub fill_cycle : View → ℕ → ℕ
-  fill_cycle v q = cycle_of false v (filler_of p q)
 
   -- the link's writer is a node of the seat, and works
   abbrev pub IsWriter : View → ℕ → Type 0
@@ -35,42 +33,6 @@ module _ (p : Lay) where
 
   abbrev pub IsGivenBack : View → ℕ → ℕ → Type 0
   IsGivenBack v l id = (id ≡ stored_id (write_of v l) (late_at p l)) × (write_cycle v l ≡ first p → id ≡ no_block) × (first p < write_cycle v l → id < (pool_at p (pool_of p l)).blocks)
-
-  -- all links of a pool are loaded in this cycle, and it is the writer's turn on all of them
-  abbrev pub IsLoaded : View → ℕ → Type 0
-  IsLoaded v q = (l : ℕ) → Contains (pool_at p q).links l → (write_of v l).loaded ≡ fill_cycle v q + 1
-
-  abbrev pub IsWriting : View → ℕ → Type 0
-  IsWriting v q = (l : ℕ) → Contains (pool_at p q).links l → ((write_of v l).loaded ≡ fill_cycle v q + 1) × ((write_of v l).stored ≡ fill_cycle v q)
-
-  -- the node that fills the pool is one of the seat, and works
-  abbrev pub HasBlock : View → ℕ → ℕ → Type 0
-  HasBlock v q b = (q < length (pools_of p.shape)) × (b < (pool_at p q).blocks) × (block_at p q b < length v.blocks) × HasNode false p v (filler_of p q) × IsRunning false v (filler_of p q)
-
-  -- LOADING THE READERS of the block that was announced so many cycles before; found 0, it is free
-  abbrev pub LoadsReaders : View → ℕ → ℕ → Type 0
-  LoadsReaders v q b = HasBlock v q b × IsLoaded v q × (block_of p v q b ≡ Out (fill_cycle v q + 1 - lag p (pool_at p q)))
-
-  abbrev pub readers_loaded : View → ℕ → ℕ → ℕ → View
-  readers_loaded v q b found = cond (eqb found 0) (view_block p v q b Free) v
-
-  -- STORING A SAMPLE WORD of this cycle: the block is filled up to the word, or it is free and none of its pool is due or of this cycle
-  abbrev pub CanFill : View → ℕ → ℕ → ℕ → ℕ → Type 0
-  CanFill v q b i c = (block_of p v q b ≡ Filling i)
-      ⊎ ((block_of p v q b ≡ Free) × (i ≡ 0) × ((a : ℕ) → a < (pool_at p q).blocks → is_busy (block_of p v q a) ≡ true → (stamp c (block_of p v q a) < c + 1) × (c + 1 < stamp c (block_of p v q a) + lag p (pool_at p q))))
-
-  abbrev pub StoresSample : View → ℕ → ℕ → ℕ → ℕ → Type 0
-  StoresSample v q b i word = HasBlock v q b × IsWriting v q × (i < (pool_at p q).words) × (word ≡ packed (samples_in p v.expect (fill_cycle v q) q) i) × CanFill v q b i (fill_cycle v q)
-
-  abbrev pub sample_stored : View → ℕ → ℕ → ℕ → View
-  sample_stored v q b i = view_block p v q b (Filling (i + 1))
-
-  -- STORING THE READERS of a block that is filled whole: it is out, announced in this cycle
-  abbrev pub StoresReaders : View → ℕ → ℕ → Type 0
-  StoresReaders v q b = HasBlock v q b × (block_of p v q b ≡ Filling (pool_at p q).words)
-
-  abbrev pub readers_stored : View → ℕ → ℕ → View
-  readers_stored v q b = view_block p v q b (Out (fill_cycle v q + 1))
 
   -- STORING HAVE_DATA: the writer's turn, with the number of the block that was announced in this cycle
   abbrev pub StoresHave : View → ℕ → ℕ → Type 0

@@ -7,7 +7,8 @@ ghost use Rattle.board_rule.specs.Layout.{lay};
 ghost use Rattle.board_rule.specs.declared.view.BlockView.TheVariants.{Out};
 ghost use Rattle.board_rule.specs.EndViews.{write_of, pool_at, block_of};
 ghost use Rattle.board_rule.specs.BufferReads.{HasPool, IsFilled, is_filled, IsFirstFilled, older, IsOldestOut};
-ghost use Rattle.board_rule.specs.WriterSteps.{LoadsAsWriter, loaded_as_writer, IsGivenBack, LoadsReaders, readers_loaded, StoresSample, sample_stored, StoresReaders, readers_stored, StoresHave, have_stored};
+ghost use Rattle.board_rule.specs.WriterSteps.{LoadsAsWriter, loaded_as_writer, IsGivenBack, StoresHave, have_stored};
+ghost use Rattle.board_rule.specs.BlockSteps.{LoadsReaders, readers_loaded, StoresSample, sample_stored, StoresReaders, readers_stored};
 
 use crate::board::Board;
 use crate::loop_seat::LoopSeat;

@@ -27,7 +27,8 @@ use Rattle.cycle_model.specs.Mixing.{takes_part}
 use Rattle.cycle_model.specs.Renderable.{IsFitting, IsRenderableEpoch, IsRenderable}
 use Rattle.cycle_model.specs.NodeOrder.{is_among, MayFollow, IsOrder, IsWhole}
 use Rattle.cycle_model.specs.Known.{given_at, brought_by, input_by, received_more, given_by, all_given_by, is_released, released}
-use Rattle.cycle_model.specs.Progress.{received_until, received_before, nothing, AreReceived, IsOutputOf, TellsCycle, TellsBefore, IsUnderWay, IsCycle}
+use Rattle.cycle_model.specs.Progress.{received_until, received_before, nothing, AreReceived, IsOutputOf, TellsCycle, TellsBefore}
+use Rattle.cycle_model.specs.UnderWay.{IsUnderWay, IsCycle}
 use Rattle.cycle_model.proofs.SingleEpochLemmas.{any_map, takes}
 use Rattle.cycle_model.proofs.EpochLemmas.{before}
 use Rattle.cycle_model.proofs.SettledLemmas.{map_agree, known_epoch, outputs_solve}

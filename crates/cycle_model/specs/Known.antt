@@ -1,4 +1,4 @@
--- What the reference program knows: what ports gave in a cycle, and what nodes have received; and what follows from that.
+-- What the reference program knows: what ports gave in a cycle, and what nodes have received; and what follows.
 -- Source: PipeWire's documentation, "Graph Scheduling": a node runs after those it depends on.
 use Rattle.std.specs.Prelude.{ℕ, ◌+◌, ◌*◌, ◌==◌, ◌&&◌, nat_lt, Bool, List, [], ◌++◌, Option, Some, None, map, filter, find, fold, option_map, unwrap_or, ℤ, if◌then◌else◌}
 use Rattle.std.specs.List.{list_any, range_with_len}
@@ -25,7 +25,7 @@ use Rattle.cycle_model.specs.KindSamples.{heard_of}
 abbrev pub given_at : List Given → PortId → List ℤ
 given_at given port = unwrap_or (option_map (λ g. g.samples) (find (λ g. is_port g.port port) given)) []
 
--- what a link brings, in an epoch's first cycle or in a later one, by what ports gave in the cycle before and in this one
+-- what a link brings, in an epoch's first cycle or in a later one, by what ports gave before and now
 abbrev pub brought_by : ℕ → Bool → List Given → List Given → ShapeLink → List ℤ
 brought_by quantum first before now link =
     if link.delayed then (if first then silence (quantum * link.channels) else given_at before link.from)

@@ -5,6 +5,7 @@ pub mod Known
 pub mod Mixing
 pub mod NodeOrder
 pub mod Progress
+pub mod UnderWay
 pub mod Renderable
 pub mod Rendering
 pub mod WavesFit

@@ -2,7 +2,8 @@
 ghost use Rattle.std.specs.Prelude.{◌≡◌, ℕ, ◌+◌, ◌<◌, suc, Some, length, take, sum_by, option_copied, IfOk, IfSome, OnOk};
 ghost use Rattle.cycle_model.specs.Cycle.{outputs};
 ghost use Rattle.cycle_model.specs.Epochs.{is_within, epoch_at, all_cycles};
-ghost use Rattle.cycle_model.specs.Progress.{received_until, received_before, nothing, AreReceived, TellsCycle, TellsBefore, IsUnderWay, IsCycle};
+ghost use Rattle.cycle_model.specs.Progress.{received_until, received_before, nothing, AreReceived, TellsCycle, TellsBefore};
+ghost use Rattle.cycle_model.specs.UnderWay.{IsUnderWay, IsCycle};
 ghost use Rattle.cycle_model.specs.NodeOrder.{IsOrder};
 ghost use Rattle.cycle_model.specs.Renderable.{IsRenderable};
 

@@ -12,8 +12,7 @@ use Rattle.format_filter.specs.Soundness.{IsSound}
 
 -- p stands in a list before q does: some front of it has p and not q
 abbrev pub IsBefore : List Pod → Pod → Pod → Type 0
-IsBefore xs p q = (front : List Pod) × (back : List Pod) × (xs ≡ front ++ back) × Contains front p
-    × (Contains front q → ⊥)
+IsBefore xs p q = (front back : List Pod) × (xs ≡ front ++ back) × Contains front p × (Contains front q → ⊥)
 
 -- just those of a list for which P holds, in the order in which they first stand in it, so none twice
 pub record AreThoseOf (xs : List Pod) (P : Pod → Type 0) (those : List Pod) : Type 0 where

@@ -8,7 +8,7 @@ use Rattle.board_rule.specs.SampleWords.{packed}
 use Rattle.board_rule.specs.Spans.{block_at}
 use Rattle.board_rule.specs.EndViews.{pool_at, filler_of, view_block}
 use Rattle.board_rule.specs.SeatNodes.{HasNode}
-use Rattle.board_rule.specs.WriterSteps.{StoresSample, sample_stored}
+use Rattle.board_rule.specs.BlockSteps.{StoresSample, sample_stored}
 use Rattle.io_areas.specs.Writing.{Fills}
 
 -- the first k words of the block have their samples

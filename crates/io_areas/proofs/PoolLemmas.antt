@@ -8,9 +8,9 @@ use Rattle.pw_base.specs.declared.pools.PoolShape.{PoolShape}
 use Rattle.pw_base.specs.Pools.{sources_of, pool_of, pools_of}
 use Rattle.board_rule.specs.declared.view.View.{View}
 use Rattle.board_rule.specs.Layout.{Lay}
-use Rattle.board_rule.specs.BufferRule.{lag}
+use Rattle.board_rule.specs.BlockReadings.{lag}
 use Rattle.board_rule.specs.EndViews.{no_pool, pool_at}
-use Rattle.board_rule.specs.WriterSteps.{HasBlock, fill_cycle}
+use Rattle.board_rule.specs.BlockSteps.{HasBlock, fill_cycle}
 use Rattle.board_rule.specs.BufferReads.{IsFirstFilled, IsOldestOut}
 use Rattle.io_areas.specs.Quanta.{quantum_of}
 use Rattle.io_areas.specs.Writing.{IsAtPool, IsDue}

@@ -4,7 +4,7 @@ use Rattle.std.specs.Prelude.{◌≡◌, ℕ, ℤ, pos, ◌+◌, ◌-◌, Bool, 
 use Rattle.board_rule.specs.declared.view.View.{View}
 use Rattle.board_rule.specs.Layout.{Lay, first}
 use Rattle.board_rule.specs.SampleWords.{samples_in}
-use Rattle.board_rule.specs.BufferRule.{late_at}
+use Rattle.board_rule.specs.BlockReadings.{late_at}
 use Rattle.board_rule.specs.EndViews.{read_of, view_read, pool_of}
 use Rattle.board_rule.specs.ReaderSteps.{read_cycle, ReadsBlock}
 use Rattle.io_areas.specs.Quanta.{quantum_of}

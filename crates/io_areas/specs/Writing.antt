@@ -6,10 +6,11 @@ use Rattle.board_rule.specs.declared.view.View.{View}
 use Rattle.board_rule.specs.Layout.{Lay, first}
 use Rattle.board_rule.specs.SampleWords.{samples_in}
 use Rattle.board_rule.specs.Areas.{stored_id}
-use Rattle.board_rule.specs.BufferRule.{late_at, lag, is_busy, stamp}
+use Rattle.board_rule.specs.BlockReadings.{late_at, lag, is_busy, stamp}
 use Rattle.board_rule.specs.EndViews.{write_of, pool_at, filler_of, pool_of, block_of, view_block}
 use Rattle.board_rule.specs.WorkSteps.{IsRunning}
-use Rattle.board_rule.specs.WriterSteps.{write_cycle, fill_cycle, IsWriter, IsLoaded, IsWriting, HasBlock, readers_stored, have_stored}
+use Rattle.board_rule.specs.WriterSteps.{write_cycle, IsWriter, have_stored}
+use Rattle.board_rule.specs.BlockSteps.{fill_cycle, IsLoaded, IsWriting, HasBlock, readers_stored}
 use Rattle.board_rule.specs.BufferReads.{HasPool, IsFirstFilled, IsOldestOut}
 
 module _ (p : Lay) where

@@ -1,5 +1,4 @@
--- Legal histories: the events of epochs, cycle by cycle, in the order of their tickets.
--- Source: PipeWire's documentation, "Graph Scheduling": each node runs once a cycle, after what it depends on; the events are this project's.
+-- Legal histories: events, cycle by cycle, in the order of their tickets. PipeWire's documentation, "Graph Scheduling".
 use Rattle.std.specs.Prelude.{◌≡◌, ℕ, ◌<◌, ◌≤◌, ◌==◌, ◌&&◌, Bool, true, false, List, [], ◌∷◌, ◌++◌, map, count_by, All, Contains, IsBitSet}
 use Rattle.std.specs.List.{position_or_len, flat_map, range_with_len, AllZip}
 use Rattle.pw_base.specs.declared.event.Event.{Event}
@@ -33,7 +32,7 @@ tick_place events = position_or_len is_tick events
 abbrev pub IsLate : Shape → List Event → ℕ → ℕ → Type 0
 IsLate shape events cycle n = Contains (nodes_of shape) n × ¬ (n ≡ shape.driver) × (tick_place events < finish_place events cycle n)
 
--- an event between Begin and End: a Start or Finish of an active node, or a Tick before the driver's Start that names late nodes
+-- an event between Begin and End: a Start or Finish of an active node, or a Tick of late nodes before the driver's Start
 abbrev pub IsOfCycle : Shape → List Event → ℕ → Event → Type 0
 IsOfCycle shape events cycle (Start c n) = (c ≡ cycle) × Contains (nodes_of shape) n
 IsOfCycle shape events cycle (Finish c n) = (c ≡ cycle) × Contains (nodes_of shape) n

@@ -6,7 +6,8 @@ ghost use Rattle.pw_base.specs.Words.{io_word_of, io_id_in};
 ghost use Rattle.pw_base.specs.Layout.{sample_place};
 ghost use Rattle.board_rule.specs.Layout.{lay};
 ghost use Rattle.board_rule.specs.EndViews.{pool_at};
-ghost use Rattle.board_rule.specs.WriterSteps.{LoadsAsWriter, loaded_as_writer, IsGivenBack, LoadsReaders, readers_loaded, StoresSample, sample_stored, StoresReaders, readers_stored, StoresHave, have_stored};
+ghost use Rattle.board_rule.specs.WriterSteps.{LoadsAsWriter, loaded_as_writer, IsGivenBack, StoresHave, have_stored};
+ghost use Rattle.board_rule.specs.BlockSteps.{LoadsReaders, readers_loaded, StoresSample, sample_stored, StoresReaders, readers_stored};
 
 use crate::board::Board;
 use crate::rule::BoardToken;

@@ -3,7 +3,7 @@ use Rattle.std.specs.Prelude.{Bool, cond, Some, None}
 use Rattle.board_rule.specs.declared.view.View.{View}
 use Rattle.board_rule.specs.Layout.{lay, first}
 use Rattle.board_rule.specs.Areas.{stored_id}
-use Rattle.board_rule.specs.BufferRule.{late_at}
+use Rattle.board_rule.specs.BlockReadings.{late_at}
 use Rattle.board_rule.specs.EndViews.{write_of}
 use Rattle.board_rule.specs.SeatNodes.{cycle_of}
 use Rattle.board_rule.specs.WriterSteps.{write_cycle}

@@ -1,7 +1,7 @@
 use Rattle.std.proofs.Common.{◌≡◌, ◌+◌, ℕ, refl, ap, ◌∙◌, arith, rules}
 use Rattle.board_rule.specs.declared.view.View.{View}
 use Rattle.board_rule.specs.Layout.{lay, first}
-use Rattle.board_rule.specs.WriterSteps.{fill_cycle, readers_loaded}
+use Rattle.board_rule.specs.BlockSteps.{fill_cycle, readers_loaded}
 use Rattle.io_areas.proofs.PoolLemmas.{has_block, oldest_due}
 use Rattle.io_areas.proofs.writing.reclaim.Goals as goal
 

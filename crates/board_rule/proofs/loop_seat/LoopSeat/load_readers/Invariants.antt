@@ -1,6 +1,6 @@
 use Rattle.std.proofs.Common.{false, ◌≡◌}
 use Rattle.board_rule.specs.Layout.{lay}
-use Rattle.board_rule.specs.WriterSteps.{readers_loaded}
+use Rattle.board_rule.specs.BlockSteps.{readers_loaded}
 use Rattle.board_rule.proofs.loop_seat.LoopSeat.load_readers.Given as goal
 
 abbrev pub ghosts-load_readers : goal.ghosts-load_readers

@@ -1,6 +1,6 @@
 use Rattle.std.proofs.Common.{false, ◌≡◌}
 use Rattle.board_rule.specs.Layout.{lay}
-use Rattle.board_rule.specs.WriterSteps.{sample_stored}
+use Rattle.board_rule.specs.BlockSteps.{sample_stored}
 use Rattle.board_rule.proofs.loop_seat.LoopSeat.store_sample.Given as goal
 
 abbrev pub ghosts-store_sample : goal.ghosts-store_sample

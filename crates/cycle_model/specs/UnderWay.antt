@@ -1,0 +1,32 @@
+-- How far a cycle has come, and what is known of it before.
+-- Source: PipeWire's documentation, "Graph Scheduling": a node runs after those it depends on.
+use Rattle.std.specs.Prelude.{◌≡◌, ℕ, zero, suc, ◌-◌, ◌*◌, ◌<◌, ◌≤◌, nat_lt, true, false, List, [], All, Some, filter, flat_map, length, slice_index_or, ℤ, if◌then◌else◌}
+use Rattle.std.specs.List.{range_with_len}
+use Rattle.pw_base.specs.declared.ids.PortId.{PortId}
+use Rattle.pw_base.specs.declared.plan.Epoch.{Epoch}
+use Rattle.pw_base.specs.declared.plan.Plan.{Plan}
+use Rattle.pw_base.specs.KindPorts.{input_count, port_count}
+use Rattle.pw_base.specs.PlanForms.{kind_at}
+use Rattle.cycle_model.specs.declared.received.Received.{Received}
+use Rattle.cycle_model.specs.declared.received.Given.{Given}
+use Rattle.cycle_model.specs.Epochs.{is_active, epoch_at, stream_start}
+use Rattle.cycle_model.specs.Cycle.{Outputs, input_of, stream_of, outputs}
+use Rattle.cycle_model.specs.NodeOrder.{is_among}
+use Rattle.cycle_model.specs.Renderable.{IsRenderable}
+use Rattle.wav_files.specs.declared.wav.WavIn.{WavIn}
+use Rattle.cycle_model.specs.Known.{given_at}
+use Rattle.cycle_model.specs.Progress.{streamed, begun, received_with, received_until, received_before, nothing, AreReceived, IsOutputOf, TellsCycle, TellsBefore}
+
+-- how far a cycle has come: these nodes are done
+pub record IsUnderWay (plan : Plan) (waves : List WavIn) (c : ℕ) (done : List ℕ) (received : List Received) (now : List Given) : Type 0 where
+  pub counted : length received ≡ length plan.nodes
+  pub heard : (n : ℕ) → n < length plan.nodes → is_among done n ≡ true → slice_index_or received n nothing ≡ received_until plan (outputs plan waves) (suc c) n
+  pub waiting : (n : ℕ) → n < length plan.nodes → is_among done n ≡ false → slice_index_or received n nothing ≡ received_before plan (outputs plan waves) c n
+  pub only : All (λ g. is_among done g.port.node ≡ true) now
+  pub told : (port : PortId) → is_among done port.node ≡ true → IsOutputOf plan port → given_at now port ≡ outputs plan waves c port
+
+-- what is known of a cycle
+pub record IsCycle (plan : Plan) (waves : List WavIn) (c : ℕ) (e : Epoch) (earlier : List Given) : Type 0 where
+  pub renderable : IsRenderable plan waves
+  pub here : epoch_at plan c ≡ Some e
+  pub told : TellsBefore plan (outputs plan waves) c earlier
