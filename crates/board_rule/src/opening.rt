@@ -152,6 +152,41 @@ impl DriverSeat {
     }
 }
 
+impl DriverSeat {
+    // Splits all loops' seats off the driver's, by their numbers.
+    fn split_all<E: Expect>(
+        &mut self,
+        alloc: Global,
+        board: &Board,
+        free: &Items<BlockView>,
+    ) -> Result<Items<LoopSeat>, Memory>
+        requires table { self.old.table ≡ board.now.table.shared.table_id }
+        requires knows { self.old.knows ≡ first_view (lay board.now.plot) }
+        requires free { free.now ≡ free_blocks board.now.plot.shape }
+        requires samples { IsTable (lay board.now.plot) E.expect }
+        ensures driver { IfOk result (λ _. self.new ≡ record { table = board.now.table.shared.table_id; knows = driver_view (lay board.now.plot) E.expect board.now.plot.seats }) }
+        ensures count { IfOk result (λ loops. length loops ≡ board.now.plot.seats) }
+        ensures loops { IfOk result (λ loops. (k : ℕ) → k < board.now.plot.seats → slice_get loops k ≡ Some record { table = board.now.table.shared.table_id; knows = loop_view (lay board.now.plot) E.expect k }) }
+    {
+        let mut loops = Items::new(alloc);
+        for k in 0..board.plot.seats {
+            loops.push(self.split_off::<E>(alloc, board, free)?)?;
+        }
+        Ok(loops)
+    }
+}
+
+// A shape and its seats, in memory of their own.
+fn plot_of(alloc: Global, shape: &Shape, seat_of: &Items<u32>, seats: u32) -> Result<Plot, Memory>
+    ensures { IfOk result (λ plot. plot ≡ record { shape = shape.now; seat_of = seat_of.now; seats = seats }) }
+{
+    Ok(Plot {
+        shape: copy_shape(alloc, shape)?,
+        seat_of: seat_of.copy(alloc)?,
+        seats,
+    })
+}
+
 // How many events the epoch of a shape has at most.
 fn event_count(shape: &Shape) -> usize
     requires { IsPooledShape shape.now }
@@ -224,17 +259,10 @@ impl Board {
         ensures count { IfOk result (λ t. length t.2 ≡ seats) }
         ensures loops { IfOk result (λ t. (k : ℕ) → k < seats → slice_get t.2 k ≡ Some record { table = t.0.table.shared.table_id; knows = loop_view (lay t.0.plot) E.expect k }) }
     {
-        let plot = Plot {
-            shape: copy_shape(alloc, shape)?,
-            seat_of: seat_of.copy(alloc)?,
-            seats,
-        };
+        let plot = plot_of(alloc, shape, seat_of, seats)?;
         let free = free_blocks(alloc, shape)?;
         let (board, mut driver) = Board::lay_out(alloc, plot)?;
-        let mut loops = Items::new(alloc);
-        for k in 0..seats {
-            loops.push(driver.split_off::<E>(alloc, &board, &free)?)?;
-        }
+        let loops = driver.split_all::<E>(alloc, &board, &free)?;
         Ok((board, driver, loops))
     }
 }

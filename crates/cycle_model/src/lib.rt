@@ -14,6 +14,3 @@ mod working;
 
 pub use reference::render;
 pub use waves::waves_fit;
-
-#[cfg(test)]
-mod tests;

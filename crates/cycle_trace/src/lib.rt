@@ -8,8 +8,6 @@ mod event_words;
 mod link_lines;
 mod printing;
 mod result_lines;
-#[cfg(test)]
-mod tests;
 mod words;
 
 pub use event_reading::{TraceFault, read_events};

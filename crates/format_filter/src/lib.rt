@@ -21,8 +21,6 @@ mod merging;
 mod numbers;
 mod picking;
 mod progression;
-#[cfg(test)]
-mod tests;
 mod to_pod;
 mod values;
 

@@ -18,6 +18,3 @@ pub use command::Command;
 pub use fault::{ScriptFault, ScriptWhy};
 pub use parsing::parse;
 pub use script::{Line, Script};
-
-#[cfg(test)]
-mod tests;

@@ -11,4 +11,6 @@ mod linking;
 #[cfg(test)]
 mod nodes;
 #[cfg(test)]
+mod offers;
+#[cfg(test)]
 mod release;

@@ -12,7 +12,5 @@ mod node_state;
 mod preparing;
 mod processing;
 mod rows;
-#[cfg(test)]
-mod tests;
 
 pub use node_state::NodeState;

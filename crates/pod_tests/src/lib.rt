@@ -1,6 +1,8 @@
-//! Tests of pod_codec over its public calls. They stand apart, since a crate that has tests is proved twice. There is nothing
-//! else here.
+//! Tests of pod_codec and format_filter over their public calls. They stand apart, since a crate that has tests is
+//! proved twice. There is nothing else here.
 #![tactic(auto)]
 
 #[cfg(test)]
 mod codec;
+#[cfg(test)]
+mod formats;

@@ -15,8 +15,6 @@ mod port_state;
 mod ports;
 mod release;
 mod sharing;
-#[cfg(test)]
-mod tests;
 mod values;
 
 pub use narrowing::Narrowed;

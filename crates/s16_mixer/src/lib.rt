@@ -10,8 +10,6 @@ mod gains;
 mod peaks;
 pub mod plain;
 mod summing;
-#[cfg(test)]
-mod tests;
 
 pub use channels::{map_channels, split};
 pub use clamp::clamp_out;

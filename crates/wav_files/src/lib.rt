@@ -8,8 +8,6 @@ mod format_chunk;
 mod header;
 mod outcome;
 mod reading;
-#[cfg(test)]
-mod tests;
 mod wav;
 mod writing;
 

@@ -1,28 +1,20 @@
+//! What ports of new nodes offer.
 ghost use Rattle.std.specs.Prelude.{◌≡◌, ◌<◌, [], ◌∷◌, IfOk};
 ghost use Rattle.format_filter.specs.CommonFormat.{IsSoundFormat};
 ghost use Rattle.pw_base.specs.KindPorts.{port_count};
 ghost use Rattle.pw_base.specs.KindRanges.{IsInRange};
 ghost use Rattle.port_model.specs.Offers.{HasFileNumbers, new_node};
 
-use crate::{Narrowed, Offered, Ports};
-use format_filter::{Choice, Format, FormatFault, Wide, format_of};
-use pod_codec::{Pod, read_pod};
+use crate::nodes::read;
+use format_filter::{Choice, Format, Wide};
+use pod_codec::Pod;
+use port_model::{Narrowed, Offered, Ports};
 use pw_base::{Items, Kind, Memory, PortId};
 use std::alloc::Global;
 use std::test::Fail;
 
 /// The least and the greatest number of a rate and of channels.
 type Form = (Option<(i64, i64)>, Option<(i64, i64)>);
-
-/// The format that some bytes spell.
-fn read(alloc: Global, bytes: &[u8]) -> Result<Format, FormatFault>
-    ensures { IfOk result IsSoundFormat }
-{
-    match read_pod(alloc, bytes) {
-        Ok((pod, _size)) => format_of(alloc, &pod),
-        Err(_fault) => Err(FormatFault::NotObject),
-    }
-}
 
 /// An object of type Format with the rate 48000 alone.
 const RATE_48000: [u8; 40] = [

@@ -1,5 +1,5 @@
 //! Small sound plans: what their sinks keep, and what their meters hear.
-use crate::{render, waves_fit};
+use cycle_model::{render, waves_fit};
 use pw_base::{
     Epoch, Fresh, Items, Kind, Memory, Plan, PlanNode, PortForm, PortId, Shape, ShapeLink,
     ShapeNode, is_sound_plan,

@@ -1,7 +1,8 @@
+//! Rows of samples through each kernel, and each kernel beside its plain twin.
 ghost use Rattle.std.specs.Prelude.{◌≡◌, ◌<◌, length, IfOk};
 
-use crate::{clamp_out, gain, map_channels, mix_into, mix2, peak, plain, split};
 use pw_base::{Items, Memory};
+use s16_mixer::{clamp_out, gain, map_channels, mix_into, mix2, peak, plain, split};
 use std::alloc::Global;
 use std::process::Abort;
 use std::test::Fail;

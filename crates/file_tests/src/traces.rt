@@ -1,7 +1,8 @@
+//! The text of runs, and event lines read back.
 ghost use Rattle.std.specs.Prelude.{◌≡◌, [], ◌∷◌, map, codes, IfOk};
 ghost use Rattle.cycle_trace.specs.TraceReading.{AreNames};
 
-use crate::{TraceFault, read_events, run_text};
+use cycle_trace::{TraceFault, read_events, run_text};
 use pw_base::{Event, Items, Kind, LineOutcome, LinkLine, Memory, Plan, PlanNode, PortId, Text};
 use std::alloc::Global;
 use std::process::Abort;

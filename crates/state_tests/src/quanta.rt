@@ -1,4 +1,5 @@
-use crate::NodeState;
+//! Single quanta of node states, with their samples written out.
+use node_state::NodeState;
 use pw_base::{Items, Kind};
 use std::test::Fail;
 use wav_files::Wav;

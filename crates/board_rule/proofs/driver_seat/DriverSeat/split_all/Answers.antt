@@ -7,7 +7,7 @@ use Rattle.board_rule.specs.declared.view.View.{View}
 use Rattle.board_rule.specs.Layout.{Lay, lay}
 use Rattle.board_rule.specs.Known.{Known}
 use Rattle.board_rule.specs.View.{Samples, first_view, driver_view, loop_view, split_off}
-use Rattle.board_rule.proofs.board.Board.new.Goals as goal
+use Rattle.board_rule.proofs.driver_seat.DriverSeat.split_all.Goals as goal
 
 front : {A : Type 0} (xs ys : List A) (i : ℕ) → i < length xs → slice_get (xs ++ ys) i ≡ slice_get xs i
 front [] ys i h = absurd (omega arith)
@@ -27,7 +27,7 @@ named : (p : Lay) (x : Samples) (k : ℕ) → split_off x (driver_view p x k) �
 named p x k = ap (λ b. let w : View = record (first_view p) { split = suc k; expect = cond b [] x } in w) (sym (ne_eqb (suc k) 0 (λ e. omega arith)))
 
 pub loop-k-preserved : goal.loop-k-preserved
-loop-k-preserved g c = let x : Samples = g.E.Expect.expect in let i = c.loop-k.invariant in let b = c.in_ok-board.board in let p = lay b.plot in let e = c.in_ok-split_off.ensures in let w = c.in_ok-push.ensures.ok in
+loop-k-preserved g c = let x : Samples = g.E.Expect.expect in let i = c.loop-k.invariant in let b = c.args.board.now in let p = lay b.plot in let e = c.in_ok-split_off.ensures in let w = c.in_ok-push.ensures.ok in
     let t : TableId = b.table.shared.table_id in
     let table = ap (λ (z : Known). z.table) i.0 in let knows = ap (λ (z : Known). z.knows) i.0 in
     let one : c.loop-k.k + 1 ≡ suc c.loop-k.k = omega arith in

@@ -6,7 +6,7 @@ use Rattle.std.proofs.lemmas.List.Elements.{All-nil, All-same, All-from_recursio
 use Rattle.pw_base.specs.declared.plan.PlanNode.{PlanNode}
 use Rattle.pw_base.specs.declared.event.Event.TheVariants.{Begin, Start, Finish, Tick, End}
 use Rattle.cycle_trace.specs.Printable.{JoinsPorts, NamesNodes}
-use Rattle.cycle_trace.proofs.tests.events_are_told_in_order.Goals as goal
+use Rattle.file_tests.proofs.traces.events_are_told_in_order.Goals as goal
 
 -- no bit of 6 stands at 3 or above
 bit_of_six : (n : ℕ) → 6 / 2 ^ n % 2 ≡ 1 → n < 3

@@ -1,4 +1,5 @@
-use super::*;
+//! Scripts, and the first line at fault.
+use graph_script::{Command, Script, ScriptFault, parse};
 use std::alloc::Global;
 use std::process::Abort;
 

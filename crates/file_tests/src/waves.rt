@@ -1,7 +1,8 @@
-use crate::{Wav, read_wav, write_wav};
+//! WAV files byte by byte, and the fault of each that is none.
 use pw_base::Items;
 use std::process::Abort;
 use std::test::Fail;
+use wav_files::{Wav, read_wav, write_wav};
 
 /// The mono file of the samples 7, 8, 9 and 0, of 48000 frames a second.
 const PLAIN: [u8; 52] = [
@@ -11,8 +12,8 @@ const PLAIN: [u8; 52] = [
     0x64, 0x61, 0x74, 0x61, 0x08, 0, 0, 0, 0x07, 0, 0x08, 0, 0x09, 0, 0, 0,
 ];
 
-/// A mono file of the samples 1 and 2 as a tool writes it that does not know how long it will be: with a chunk of an odd size,
-/// greatest sizes, and a byte at the end that is no sample.
+/// A mono file of the samples 1 and 2 as a tool writes it that does not know how long it will be: with a chunk of an odd
+/// size, greatest sizes, and a byte at the end that is no sample.
 const STREAMED: [u8; 61] = [
     0x52, 0x49, 0x46, 0x46, 0xff, 0xff, 0xff, 0xff, 0x57, 0x41, 0x56, 0x45, //
     0x66, 0x6d, 0x74, 0x20, 0x10, 0, 0, 0, 0x01, 0, 0x01, 0, //

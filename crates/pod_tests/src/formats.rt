@@ -1,13 +1,15 @@
+//! What pairs of choices at the edges have in common, and what is filtered and refused of formats.
 ghost use Rattle.std.specs.Prelude.{◌≡◌, length, IfOk};
 ghost use Rattle.std.specs.List.{All};
-ghost use Rattle.pod_codec.specs.SoundChoices.{IsOfType};
+ghost use Rattle.pod_codec.specs.SoundChoices.{IsOfType, HasSoundChoices};
 ghost use Rattle.format_filter.specs.Soundness.{IsSound};
 ghost use Rattle.format_filter.specs.FormatWriting.{type_of_wide};
 ghost use Rattle.format_filter.specs.CommonFormat.{IsSoundFormat};
 
-use crate::from_value::choice_of;
-use crate::{Choice, Filtered, Format, FormatFault, Wide, filter, fixate, format_of, meet, pod_of};
-use pod_codec::{ChoiceKind, Pod, read_pod, write_pod};
+use format_filter::{
+    Choice, Filtered, Format, FormatFault, Wide, filter, fixate, format_of, meet, pod_of,
+};
+use pod_codec::{ChoiceKind, Pod, Prop, read_pod, write_pod};
 use pw_base::{Items, Memory};
 use std::alloc::Global;
 use std::test::Fail;
@@ -36,22 +38,43 @@ fn values(alloc: Global, wide: Wide, numbers: &[i64]) -> Result<Items<Pod>, Memo
     Ok(all)
 }
 
-/// The choice that is read from these values.
-fn given(alloc: Global, given: Given) -> Result<Choice, FormatFault>
-    ensures { IfOk result IsSound }
+/// A format whose property 7 is a choice of these values.
+fn one_property(alloc: Global, given: Given) -> Result<Pod, Memory>
+    ensures { IfOk result HasSoundChoices }
 {
     let (kind, wide, numbers) = given;
     let child = match wide {
         Wide::Int => 4,
         Wide::Long => 5,
     };
-    let pod = Pod::Choice {
+    let value = Pod::Choice {
         kind,
         flags: 0,
         child,
         values: values(alloc, wide, numbers)?,
     };
-    choice_of(alloc, 7, &pod)
+    let mut props = Items::new(alloc);
+    props.push(Prop {
+        key: 7,
+        flags: 0,
+        value,
+    })?;
+    Ok(Pod::Object {
+        object: 262147,
+        id: 3,
+        props,
+    })
+}
+
+/// The choice that is read from these values.
+fn given(alloc: Global, given: Given) -> Result<Choice, FormatFault>
+    ensures { IfOk result IsSound }
+{
+    let format = format_of(alloc, &one_property(alloc, given)?)?;
+    match format.fields.as_slice() {
+        [field] => Ok(field.choice.copy(alloc)?),
+        _ => Err(FormatFault::NotObject),
+    }
 }
 
 /// The number of a value.

@@ -1,0 +1,10 @@
+//! Tests of what files hold, over public calls: WAV files, scripts, and the text of runs. They stand apart, since a
+//! crate that has tests is proved twice. There is nothing else here.
+#![tactic(auto)]
+
+#[cfg(test)]
+mod scripts;
+#[cfg(test)]
+mod traces;
+#[cfg(test)]
+mod waves;
