@@ -1,19 +1,20 @@
--- What the calls on one node ask of the view of their seat, and the view after it. Nodes are places; `leads` is true for the driver's seat.
+-- What the calls on one node ask of the view of their seat, and the view after it. Nodes are places; `leads` is true
+-- for the driver's seat.
 -- Source: PipeWire's documentation, "Graph Scheduling"; the calls are this project's.
-use Rattle.std.specs.Prelude.{◌≡◌, ◌≢◌, ℕ, zero, suc, ◌+◌, ◌<◌, Bool, true, false, cond, eqb, List, [], ◌∷◌, map, reverse}
+use Rattle.std.specs.Prelude.{◌≡◌, ◌≢◌, ℕ, ◌+◌, ◌<◌, Bool, true, false, map, reverse}
 use Rattle.board_rule.specs.declared.view.Phase.TheVariants.{Idle, Awake, Running, Telling}
 use Rattle.board_rule.specs.declared.view.Drive.TheVariants as drives
 use Rattle.board_rule.specs.declared.view.View.{View}
 use Rattle.pw_base.specs.Words.{status_word_of}
 use Rattle.pw_base.specs.Layout.{event_count}
-use Rattle.board_rule.specs.Layout.{Lay, nodes}
+use Rattle.board_rule.specs.Layout.{Lay}
 use Rattle.board_rule.specs.View.{node_of, view_node, view_lead}
-use Rattle.board_rule.specs.Steps.{cycle_of, woken, tried, untold, driven, reset_of, reset_to}
-use Rattle.board_rule.specs.EventSteps.{late_of}
+use Rattle.board_rule.specs.Steps.{cycle_of, woken, tried, untold}
 use Rattle.activation_words.specs.declared.answer.Claim.{Claim}
 use Rattle.activation_words.specs.declared.answer.Claim.TheVariants as claims
 
--- CLAIM: awake where the exchange found TRIGGERED of the node's cycle; else the word that it found, which the seat remembers
+-- CLAIM: awake where the exchange found TRIGGERED of the node's cycle; else the word that it found, which the seat
+-- remembers
 abbrev pub IsClaim : Bool → Lay → View → ℕ → Claim → View → Type 0
 IsClaim leads p v m (claims.Awake cycle) w = (cycle ≡ cycle_of leads v m) × (w ≡ woken leads v m)
 IsClaim leads p v m (claims.NotYet found) w = (found ≢ status_word_of 1 (cycle_of leads v m)) × (w ≡ tried p v m found)
@@ -30,16 +31,19 @@ started false v m ticket = view_node v m (record (node_of v m) { phase = Running
 abbrev pub HasStarted : Bool → Lay → View → ℕ → View → Type 0
 HasStarted leads p v m w = (ticket : ℕ) × (ticket < event_count p.shape) × (w ≡ started leads v m ticket)
 
--- FINISH: the driver's node has its Finish stored; a follower has also told all its targets, and waits for its next cycle
+-- FINISH: the driver's node has its Finish stored; a follower has also told all its targets, and waits for its next
+-- cycle
 abbrev pub worked : Bool → View → ℕ → ℕ → View
 worked true v m ticket = view_lead v (record v.lead { drive = drives.FinishStored; finish = ticket }) (untold v.trail)
-worked false v m ticket = view_node v m (record (node_of v m) { phase = Telling 0 false; finish = ticket }) (untold v.trail)
+worked false v m ticket = view_node v m (record (node_of v m) { phase = Telling 0 false; finish = ticket })
+    (untold v.trail)
 
 pub record HasRested (p : Lay) (v : View) (m : ℕ) (w : View) : Type 0 where
   pub ticket : ℕ
   pub drawn : ticket < event_count p.shape
   pub told : map (λ f. f.node) w.trail.told ≡ reverse (map p.number (p.targets m))
-  pub is : w ≡ view_node v m (record (node_of v m) { next = (node_of v m).next + 1; phase = Idle; finish = ticket }) (record v.trail { told = w.trail.told })
+  pub is : w ≡ view_node v m (record (node_of v m) { next = (node_of v m).next + 1; phase = Idle; finish = ticket })
+      (record v.trail { told = w.trail.told })
 
 abbrev pub HasFinished : Bool → Lay → View → ℕ → View → Type 0
 HasFinished true p v m w = (ticket : ℕ) × (ticket < event_count p.shape) × (w ≡ worked true v m ticket)

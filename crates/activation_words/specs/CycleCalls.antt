@@ -1,18 +1,13 @@
 -- What the calls of the driver's seat on a whole cycle ask of its view, and the view after them. Nodes are places.
 -- Source: PipeWire's documentation, "Graph Scheduling"; the calls are this project's.
-use Rattle.std.specs.Prelude.{◌≡◌, ◌≢◌, ℕ, zero, suc, ◌+◌, ◌<◌, Bool, true, false, cond, eqb, List, [], ◌∷◌, map, reverse}
-use Rattle.board_rule.specs.declared.view.Phase.TheVariants.{Idle, Awake, Running, Telling}
+use Rattle.std.specs.Prelude.{◌≡◌, ℕ, zero, suc, ◌+◌, ◌<◌, true, false, cond, eqb, List, [], ◌∷◌, map, reverse}
 use Rattle.board_rule.specs.declared.view.Drive.TheVariants as drives
 use Rattle.board_rule.specs.declared.view.View.{View}
-use Rattle.pw_base.specs.Words.{status_word_of}
 use Rattle.pw_base.specs.Layout.{event_count}
 use Rattle.board_rule.specs.Layout.{Lay, nodes}
-use Rattle.board_rule.specs.View.{node_of, view_node, view_lead}
-use Rattle.board_rule.specs.Steps.{cycle_of, woken, tried, untold, driven, reset_of, reset_to}
+use Rattle.board_rule.specs.View.{view_lead}
+use Rattle.board_rule.specs.Steps.{untold, driven, reset_of, reset_to}
 use Rattle.board_rule.specs.EventSteps.{late_of}
-use Rattle.activation_words.specs.declared.answer.Claim.{Claim}
-use Rattle.activation_words.specs.declared.answer.Claim.TheVariants as claims
-use Rattle.activation_words.specs.Calls.{IsClaim, IsAwake, started, HasStarted, worked, HasRested, HasFinished}
 
 -- BEGIN: the event is stored, all nodes are reset, all targets are taken down
 abbrev pub begin_stored : View → ℕ → View
@@ -28,12 +23,18 @@ pub record HasBegun (p : Lay) (v w : View) : Type 0 where
   pub ticket : ℕ
   pub drawn : ticket < event_count p.shape
   pub told : map (λ f. f.node) w.trail.told ≡ reverse (map p.number (p.targets p.driver))
-  pub is : w ≡ view_lead v (record v.lead { drive = drives.Waiting; ticket = ticket }) (record v.trail { told = w.trail.told })
+  pub is : w ≡ view_lead v (record v.lead { drive = drives.Waiting; ticket = ticket })
+      (record v.trail { told = w.trail.told })
 
 -- END: the seat is between this cycle and the next
 abbrev pub HasEnded : Lay → View → View → Type 0
 HasEnded p v w = (ticket : ℕ) × (ticket < event_count p.shape)
-    × (w ≡ view_lead v (record v.lead { cycle = v.lead.cycle + 1; drive = drives.Between; checked = false; ticket = ticket }) v.trail)
+    × (w ≡ view_lead v (record v.lead {
+      cycle = v.lead.cycle + 1;
+      drive = drives.Between;
+      checked = false;
+      ticket = ticket;
+    }) v.trail)
 
 -- A CHECK: the status word of each follower is loaded once, ascending, and the seat remembers each, newest first
 abbrev pub followers : Lay → ℕ → List ℕ
@@ -45,4 +46,5 @@ pub record HasChecked (p : Lay) (v : View) (late : ℕ) (w : View) : Type 0 wher
   pub drawn : ticket < event_count p.shape
   pub looks : map (λ f. f.node) w.trail.looks ≡ followers p (nodes p)
   pub late_is : late ≡ late_of v.lead.cycle w.trail.looks
-  pub is : w ≡ view_lead v (record v.lead { checked = true; checks = v.lead.checks + 1; ticket = ticket }) (record v.trail { looks = w.trail.looks })
+  pub is : w ≡ view_lead v (record v.lead { checked = true; checks = v.lead.checks + 1; ticket = ticket })
+      (record v.trail { looks = w.trail.looks })

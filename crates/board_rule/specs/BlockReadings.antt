@@ -1,19 +1,16 @@
 -- What the buffer rule reads of blocks, of the links of a pool and of their ends.
 -- Source: PipeWire's documentation, "SPA Buffers"; one pool that all links of a port read is this project's own.
-use Rattle.std.specs.Prelude.{◌≡◌, ℕ, ◌+◌, ◌<◌, ◌≤◌, Bool, true, false, List, Some, Contains, cond, ltb, sum_by, slice_get, slice_index, option_map, unwrap_or}
+use Rattle.std.specs.Prelude.{ℕ, ◌+◌, Bool, true, false, cond, ltb, sum_by, slice_get}
+use Rattle.std.specs.Prelude.{option_map, unwrap_or}
 use Rattle.std.specs.List.{list_any}
-use Rattle.pw_base.specs.declared.shape.ShapeLink.{ShapeLink}
 use Rattle.pw_base.specs.declared.pools.PoolShape.{PoolShape}
-use Rattle.pw_base.specs.Layout.{io_place, readers_place, sample_place}
-use Rattle.pw_base.specs.Pools.{pools_of, links_from}
+use Rattle.pw_base.specs.Pools.{links_from}
 use Rattle.board_rule.specs.declared.view.WriteView.{WriteView}
 use Rattle.board_rule.specs.declared.view.ReadView.{ReadView}
 use Rattle.board_rule.specs.declared.view.BlockView.{BlockView}
 use Rattle.board_rule.specs.declared.view.BlockView.TheVariants.{Free, Filling, Out}
-use Rattle.board_rule.specs.Layout.{Lay, first}
-use Rattle.board_rule.specs.StartViews.{Samples}
-use Rattle.board_rule.specs.SampleWords.{packed, samples_of}
-use Rattle.board_rule.specs.Areas.{late_by, stored_id, Span, LinkOk}
+use Rattle.board_rule.specs.Layout.{Lay}
+use Rattle.board_rule.specs.Areas.{late_by}
 
 -- what all seats know of the links, by number, and of the blocks, by pool and number
 pub record Ends : Type 0 where

@@ -1,16 +1,15 @@
--- The steps of the node that fills a pool on its blocks: what each asks of the view of its seat, and the view after it. Pools and blocks are given by number.
+-- The steps of the node that fills a pool on its blocks: what each asks of the view of its seat, and the view after
+-- it. Pools and blocks are given by number.
 -- Source: PipeWire's documentation, "SPA Buffers"; the words of pools are this project's own.
 use Rattle.std.specs.Prelude.{◌≡◌, ℕ, ◌+◌, ◌-◌, ◌<◌, ◌⊎◌, true, false, cond, eqb, length, Contains}
 use Rattle.pw_base.specs.Pools.{pools_of}
-use Rattle.pw_base.specs.Words.{no_block}
 use Rattle.board_rule.specs.declared.view.BlockView.TheVariants.{Free, Filling, Out}
 use Rattle.board_rule.specs.declared.view.View.{View}
-use Rattle.board_rule.specs.Layout.{Lay, first}
+use Rattle.board_rule.specs.Layout.{Lay}
 use Rattle.board_rule.specs.SampleWords.{packed, samples_in}
-use Rattle.board_rule.specs.Areas.{stored_id}
-use Rattle.board_rule.specs.BlockReadings.{late_at, lag, is_busy, stamp}
+use Rattle.board_rule.specs.BlockReadings.{lag, is_busy, stamp}
 use Rattle.board_rule.specs.Spans.{block_at}
-use Rattle.board_rule.specs.EndViews.{write_of, view_write, pool_at, writer_of, filler_of, pool_of, block_of, view_block}
+use Rattle.board_rule.specs.EndViews.{write_of, pool_at, filler_of, block_of, view_block}
 use Rattle.board_rule.specs.SeatNodes.{cycle_of, HasNode}
 use Rattle.board_rule.specs.WorkSteps.{IsRunning}
 
@@ -24,26 +23,33 @@ module _ (p : Lay) where
   IsLoaded v q = (l : ℕ) → Contains (pool_at p q).links l → (write_of v l).loaded ≡ fill_cycle v q + 1
 
   abbrev pub IsWriting : View → ℕ → Type 0
-  IsWriting v q = (l : ℕ) → Contains (pool_at p q).links l → ((write_of v l).loaded ≡ fill_cycle v q + 1) × ((write_of v l).stored ≡ fill_cycle v q)
+  IsWriting v q = (l : ℕ) → Contains (pool_at p q).links l → ((write_of v l).loaded ≡ fill_cycle v q + 1)
+      × ((write_of v l).stored ≡ fill_cycle v q)
 
   -- the node that fills the pool is one of the seat, and works
   abbrev pub HasBlock : View → ℕ → ℕ → Type 0
-  HasBlock v q b = (q < length (pools_of p.shape)) × (b < (pool_at p q).blocks) × (block_at p q b < length v.blocks) × HasNode false p v (filler_of p q) × IsRunning false v (filler_of p q)
+  HasBlock v q b = (q < length (pools_of p.shape)) × (b < (pool_at p q).blocks) × (block_at p q b < length v.blocks)
+      × HasNode false p v (filler_of p q) × IsRunning false v (filler_of p q)
 
   -- LOADING THE READERS of the block that was announced so many cycles before; found 0, it is free
   abbrev pub LoadsReaders : View → ℕ → ℕ → Type 0
-  LoadsReaders v q b = HasBlock v q b × IsLoaded v q × (block_of p v q b ≡ Out (fill_cycle v q + 1 - lag p (pool_at p q)))
+  LoadsReaders v q b = HasBlock v q b × IsLoaded v q
+      × (block_of p v q b ≡ Out (fill_cycle v q + 1 - lag p (pool_at p q)))
 
   abbrev pub readers_loaded : View → ℕ → ℕ → ℕ → View
   readers_loaded v q b found = cond (eqb found 0) (view_block p v q b Free) v
 
-  -- STORING A SAMPLE WORD of this cycle: the block is filled up to the word, or it is free and none of its pool is due or of this cycle
+  -- STORING A SAMPLE WORD of this cycle: the block is filled up to the word, or it is free and none of its pool is due
+  -- or of this cycle
   abbrev pub CanFill : View → ℕ → ℕ → ℕ → ℕ → Type 0
   CanFill v q b i c = (block_of p v q b ≡ Filling i)
-      ⊎ ((block_of p v q b ≡ Free) × (i ≡ 0) × ((a : ℕ) → a < (pool_at p q).blocks → is_busy (block_of p v q a) ≡ true → (stamp c (block_of p v q a) < c + 1) × (c + 1 < stamp c (block_of p v q a) + lag p (pool_at p q))))
+      ⊎ ((block_of p v q b ≡ Free) × (i ≡ 0) ×
+      ((a : ℕ) → a < (pool_at p q).blocks → is_busy (block_of p v q a) ≡ true → (stamp c (block_of p v q a) < c + 1)
+      × (c + 1 < stamp c (block_of p v q a) + lag p (pool_at p q))))
 
   abbrev pub StoresSample : View → ℕ → ℕ → ℕ → ℕ → Type 0
-  StoresSample v q b i word = HasBlock v q b × IsWriting v q × (i < (pool_at p q).words) × (word ≡ packed (samples_in p v.expect (fill_cycle v q) q) i) × CanFill v q b i (fill_cycle v q)
+  StoresSample v q b i word = HasBlock v q b × IsWriting v q × (i < (pool_at p q).words)
+      × (word ≡ packed (samples_in p v.expect (fill_cycle v q) q) i) × CanFill v q b i (fill_cycle v q)
 
   abbrev pub sample_stored : View → ℕ → ℕ → ℕ → View
   sample_stored v q b i = view_block p v q b (Filling (i + 1))

@@ -1,30 +1,27 @@
 -- What the event rule reads of a board: its words, and of the phases the tickets and events that they have drawn.
 -- Source: this project's own; the phases are those of src/view.rt.
-use Rattle.std.specs.Prelude.{◌≡◌, ℕ, ◌-◌, ◌<◌, ◌≤◌, ◌⊎◌, Bool, true, cond, List, [], ◌∷◌, ◌++◌, length, slice_get, Some, count_by, All, Contains, IsBitSet}
+use Rattle.std.specs.Prelude.{ℕ, Bool, cond, List, [], ◌∷◌, ◌++◌}
 use Rattle.pw_base.specs.declared.event.Event.{Event}
-use Rattle.pw_base.specs.declared.event.Event.TheVariants.{Begin, Start, Finish, Tick, End}
-use Rattle.pw_base.specs.Dependencies.{nodes_of, Precedes}
-use Rattle.pw_base.specs.EventWords.{event_cycle, event_node, event_word_of}
-use Rattle.pw_base.specs.History.{is_start, is_finish, is_tick, start_place, finish_place, tick_place, IsLate, epoch_cycles, AreJoined}
-use Rattle.pw_base.specs.Layout.{event_count}
-use Rattle.pw_base.specs.Words.{status_word_of}
+use Rattle.pw_base.specs.declared.event.Event.TheVariants.{Begin, End}
 use Rattle.board_rule.specs.declared.view.Found.{Found}
-use Rattle.board_rule.specs.Layout.{Lay, nodes, first, last}
 
--- what the rule reads of the words: the ticket word, the event word of each ticket, the late set of each cycle of the epoch
+-- what the rule reads of the words: the ticket word, the event word of each ticket, the late set of each cycle of the
+-- epoch
 pub record Records : Type 0 where
   pub ticket : ℕ
   pub event : ℕ → ℕ
   pub late : ℕ → ℕ
 
--- and of the phases. Of the driver's cycle: how many Starts and Finishes each place has drawn, whether a Tick is drawn, and what the check under way has loaded
+-- and of the phases. Of the driver's cycle: how many Starts and Finishes each place has drawn, whether a Tick is
+-- drawn, and what the check under way has loaded
 pub record Tally : Type 0 where
   pub started : ℕ → ℕ
   pub finished : ℕ → ℕ
   pub checked : Bool
   pub sees : List Found
 
--- the tickets that each place drew last and holds, those of a Begin, a Tick or an End that are held, and whether Begin and End are drawn
+-- the tickets that each place drew last and holds, those of a Begin, a Tick or an End that are held, and whether Begin
+-- and End are drawn
 pub record Marks : Type 0 where
   pub tally : Tally
   pub start : ℕ → ℕ

@@ -1,19 +1,15 @@
 -- How far the cycle function has come: what each node has received before and after a cycle, and what ports gave in it.
 -- Source: PipeWire's documentation, "Graph Scheduling": a node runs after those it depends on.
-use Rattle.std.specs.Prelude.{◌≡◌, ℕ, zero, suc, ◌-◌, ◌*◌, ◌<◌, ◌≤◌, nat_lt, true, false, List, [], All, Some, filter, flat_map, length, slice_index_or, ℤ, if◌then◌else◌}
+use Rattle.std.specs.Prelude.{◌≡◌, ℕ, zero, suc, ◌-◌, ◌*◌, ◌<◌, ◌≤◌, nat_lt, true, List, [], filter, flat_map, length, slice_index_or, ℤ, if◌then◌else◌}
 use Rattle.std.specs.List.{range_with_len}
 use Rattle.pw_base.specs.declared.ids.PortId.{PortId}
-use Rattle.pw_base.specs.declared.plan.Epoch.{Epoch}
 use Rattle.pw_base.specs.declared.plan.Plan.{Plan}
 use Rattle.pw_base.specs.KindPorts.{input_count, port_count}
 use Rattle.pw_base.specs.PlanForms.{kind_at}
 use Rattle.cycle_model.specs.declared.received.Received.{Received}
 use Rattle.cycle_model.specs.declared.received.Given.{Given}
-use Rattle.cycle_model.specs.Epochs.{is_active, epoch_at, stream_start}
-use Rattle.cycle_model.specs.Cycle.{Outputs, input_of, stream_of, outputs}
-use Rattle.cycle_model.specs.NodeOrder.{is_among}
-use Rattle.cycle_model.specs.Renderable.{IsRenderable}
-use Rattle.wav_files.specs.declared.wav.WavIn.{WavIn}
+use Rattle.cycle_model.specs.Epochs.{is_active, stream_start}
+use Rattle.cycle_model.specs.Cycle.{Outputs, input_of, stream_of}
 use Rattle.cycle_model.specs.Known.{given_at}
 
 -- a port's stream after so many cycles

@@ -1,21 +1,18 @@
 -- How far a cycle has come, and what is known of it before.
 -- Source: PipeWire's documentation, "Graph Scheduling": a node runs after those it depends on.
-use Rattle.std.specs.Prelude.{◌≡◌, ℕ, zero, suc, ◌-◌, ◌*◌, ◌<◌, ◌≤◌, nat_lt, true, false, List, [], All, Some, filter, flat_map, length, slice_index_or, ℤ, if◌then◌else◌}
-use Rattle.std.specs.List.{range_with_len}
+use Rattle.std.specs.Prelude.{◌≡◌, ℕ, suc, ◌<◌, true, false, List, All, Some, length, slice_index_or}
 use Rattle.pw_base.specs.declared.ids.PortId.{PortId}
 use Rattle.pw_base.specs.declared.plan.Epoch.{Epoch}
 use Rattle.pw_base.specs.declared.plan.Plan.{Plan}
-use Rattle.pw_base.specs.KindPorts.{input_count, port_count}
-use Rattle.pw_base.specs.PlanForms.{kind_at}
 use Rattle.cycle_model.specs.declared.received.Received.{Received}
 use Rattle.cycle_model.specs.declared.received.Given.{Given}
-use Rattle.cycle_model.specs.Epochs.{is_active, epoch_at, stream_start}
-use Rattle.cycle_model.specs.Cycle.{Outputs, input_of, stream_of, outputs}
+use Rattle.cycle_model.specs.Epochs.{epoch_at}
+use Rattle.cycle_model.specs.Cycle.{outputs}
 use Rattle.cycle_model.specs.NodeOrder.{is_among}
 use Rattle.cycle_model.specs.Renderable.{IsRenderable}
 use Rattle.wav_files.specs.declared.wav.WavIn.{WavIn}
 use Rattle.cycle_model.specs.Known.{given_at}
-use Rattle.cycle_model.specs.Progress.{streamed, begun, received_with, received_until, received_before, nothing, AreReceived, IsOutputOf, TellsCycle, TellsBefore}
+use Rattle.cycle_model.specs.Progress.{received_until, received_before, nothing, IsOutputOf, TellsBefore}
 
 -- how far a cycle has come: these nodes are done
 pub record IsUnderWay (plan : Plan) (waves : List WavIn) (c : ℕ) (done : List ℕ) (received : List Received) (now : List Given) : Type 0 where
