@@ -1,18 +1,23 @@
-//! A source whose one block three nodes read, on a board: what the tests and the benchmark of io_areas run.
+//! Boards that run.
 #![tactic(auto)]
 
 mod hearing;
+mod lead;
+mod making;
+mod node_ends;
+mod openable;
 mod opening;
-mod reader_run;
-mod shape;
+mod shapes;
 #[cfg(test)]
 mod tests;
-mod writer_run;
+mod tried;
+mod turning;
+mod worker;
 mod writing;
 
-pub use hearing::hear;
-pub use opening::{Seats, opened};
-pub use reader_run::{begin_next, run_driver, run_reader};
-pub use shape::fan;
-pub use writer_run::run_writer;
-pub use writing::{Written, write};
+pub use lead::Lead;
+pub use node_ends::NodeEnds;
+pub use opening::{Run, opened};
+pub use shapes::{fan, row};
+pub use tried::Tried;
+pub use worker::Worker;
