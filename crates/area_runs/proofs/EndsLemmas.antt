@@ -1,5 +1,6 @@
 -- The links and the pools of a node, by its place.
-use Rattle.std.proofs.Common.{◌≡◌, ◌≢◌, ℕ, ◌+◌, ◌-◌, ◌<◌, ◌≤◌, ◌==◌, Bool, true, List, length, map, get_or, sym, ap, ◌∙◌, subst, arith, eq-eqb, eqb-true}
+use Rattle.std.proofs.Common.{◌≡◌, ◌≢◌, ℕ, ◌+◌, ◌-◌, ◌<◌, ◌≤◌, ◌==◌, Bool, true, List, length, map, get_or, sym, ap, ◌∙◌, subst, arith}
+use Rattle.std.proofs.Common.{eq-eqb, eqb-true}
 use Rattle.std.specs.Prelude.{AllPairs, Contains, filter}
 use Rattle.std.specs.List.{enumerate_from}
 use Rattle.std.proofs.lemmas.List.Elements.{All-contains}
@@ -42,11 +43,14 @@ module _ (p : Lay) (plain : IsPlain p) where
   all_wired = wired p plain.sound plain.pooled plain.undelayed
 
   -- the pool of a link is filled by the link's writer
-  pub of_pool : (l : ℕ) → l < length p.shape.links → (pool_of p l < length (pools_of p.shape)) × Contains (pool_at p (pool_of p l)).links l × (filler_of p (pool_of p l) ≡ writer_of p l)
-  of_pool l low = let h = pool_here p all_wired l (link_at p l) (link_there p l low) in (slice_get_within (pools_of p.shape) (pool_of p l) (pool_at p (pool_of p l)) h.0, h.1, h.2)
+  pub of_pool : (l : ℕ) → l < length p.shape.links → (pool_of p l < length (pools_of p.shape)) × Contains (pool_at p (pool_of p l)).links l
+      × (filler_of p (pool_of p l) ≡ writer_of p l)
+  of_pool l low = let h = pool_here p all_wired l (link_at p l) (link_there p l low) in
+      (slice_get_within (pools_of p.shape) (pool_of p l) (pool_at p (pool_of p l)) h.0, h.1, h.2)
 
   pub pool_writer : (q l : ℕ) → q < length (pools_of p.shape) → Contains (pool_at p q).links l → writer_of p l ≡ filler_of p q
-  pool_writer q l low c = let h = all_wired.there q l (pool_at p q) (pool_there p q low) c in ap (λ (k : ShapeLink). p.place k.from.node) (link_is p l h.0 h.1) ∙ ap (λ (port : PortId). p.place port.node) h.2
+  pool_writer q l low c = let h = all_wired.there q l (pool_at p q) (pool_there p q low) c in ap (λ (k : ShapeLink). p.place k.from.node) (link_is p l h.0 h.1)
+      ∙ ap (λ (port : PortId). p.place port.node) h.2
 
   pub pool_link : (q l : ℕ) → q < length (pools_of p.shape) → Contains (pool_at p q).links l → l < length p.shape.links
   pool_link q l low c = let h = all_wired.there q l (pool_at p q) (pool_there p q low) c in slice_get_within p.shape.links l h.0 h.1
@@ -60,7 +64,8 @@ module _ (p : Lay) (plain : IsPlain p) where
     read_by l c = let h = is_of (λ (k : ShapeLink). k.to.node) n p.shape.links l no_link c in (h.0, ap p.place h.1)
 
     pub reads_it : (l : ℕ) → l < length p.shape.links → reader_of p l ≡ p.place n → Contains (reads_of p.shape n) l
-    reads_it l low e = has_it (λ (k : ShapeLink). k.to.node) n p.shape.links l no_link low (same_node (link_at p l).to.node (all_wired.to_in l (link_at p l) (link_there p l low)) e)
+    reads_it l low e = has_it (λ (k : ShapeLink). k.to.node) n p.shape.links l no_link low
+        (same_node (link_at p l).to.node (all_wired.to_in l (link_at p l) (link_there p l low)) e)
 
     pub reads_once : AllPairs (λ k l. k ≢ l) (reads_of p.shape n)
     reads_once = pairs_differ (reads_of p.shape n) (differ_places (λ (k : ShapeLink). k.to.node == n) 0 p.shape.links)
@@ -69,7 +74,8 @@ module _ (p : Lay) (plain : IsPlain p) where
     filled_by q c = let h = is_of (λ (x : PoolShape). x.port.node) n (pools_of p.shape) q no_pool c in (h.0, ap p.place h.1)
 
     pub fills_it : (q : ℕ) → q < length (pools_of p.shape) → filler_of p q ≡ p.place n → Contains (fills_of p.shape n) q
-    fills_it q low e = has_it (λ (x : PoolShape). x.port.node) n (pools_of p.shape) q no_pool low (same_node (pool_at p q).port.node (made p all_wired q (pool_at p q) (pool_there p q low)).0 e)
+    fills_it q low e = has_it (λ (x : PoolShape). x.port.node) n (pools_of p.shape) q no_pool low
+        (same_node (pool_at p q).port.node (made p all_wired q (pool_at p q) (pool_there p q low)).0 e)
 
     pub fills_once : AllPairs (λ q r. q ≢ r) (fills_of p.shape n)
     fills_once = pairs_differ (fills_of p.shape n) (differ_places (λ (x : PoolShape). x.port.node == n) 0 (pools_of p.shape))

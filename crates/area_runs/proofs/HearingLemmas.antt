@@ -1,5 +1,6 @@
 -- From link to link of a node that reads.
-use Rattle.std.proofs.Common.{◌≡◌, ◌≢◌, ℕ, ◌+◌, ◌<◌, Bool, true, false, List, length, get_or, take, refl, sym, ap, ◌∙◌, subst, arith, ⊎_elim, length-set, get_or-set_other}
+use Rattle.std.proofs.Common.{◌≡◌, ◌≢◌, ℕ, ◌+◌, ◌<◌, Bool, true, false, List, length, get_or, take, refl, sym, ap, ◌∙◌, subst, arith, ⊎_elim}
+use Rattle.std.proofs.Common.{length-set, get_or-set_other}
 use Rattle.std.specs.Prelude.{Contains}
 use mathlib.Core.Logic.{dite}
 use native.Mathlib.Decide.{ℕ_discrete}
@@ -21,7 +22,11 @@ module _ (p : Lay) (v : View) (rs : List ReadView) where
   -- other ends of links leave the nodes
   pub reads_have : (b : Bool) (m : ℕ) → HasNode b p v m → HasNode b p (record v { reads = rs }) m
   reads_have true m h = h
-  reads_have false m h = let o = h.0 in (record { inside = o.inside; follows = o.follows; loops = o.loops; owned = o.owned; there = o.there; knows = o.knows }, h.1, h.2)
+  reads_have false m h = let o = h.0 in (
+    record { inside = o.inside; follows = o.follows; loops = o.loops; owned = o.owned; there = o.there; knows = o.knows },
+    h.1,
+    h.2,
+  )
 
   pub reads_run : (b : Bool) (m : ℕ) → IsRunning b v m → IsRunning b (record v { reads = rs }) m
   reads_run true m r = r
@@ -83,10 +88,14 @@ module _ (b : Bool) (p : Lay) (v : View) (links : List ℕ) (may : MayHearAll b 
 
       pub one_more : AreHeard b p v (take (k + 1) links) u
       one_more = record {
-        same = heard.1 ∙ ap (λ (rs : List ReadView). record w { reads = rs }) (sym (ap (λ (x : View). x.reads) heard.1)) ∙ ap (λ (x : View). record x { reads = u.reads }) so_far.same;
+        same = heard.1 ∙ ap (λ (rs : List ReadView). record w { reads = rs }) (sym (ap (λ (x : View). x.reads) heard.1))
+            ∙ ap (λ (x : View). record x { reads = u.reads }) so_far.same;
         ends = longer ∙ so_far.ends;
         heard = λ l c. dite (ℕ_discrete l link)
-            (λ e. subst (λ i. IsReadUpTo u i (read_cycle b p v i + 1)) (sym e) (subst (λ n. IsReadUpTo u link (n + 1)) (same_cycle link) (heard_even b p w link may_hear u heard)))
-            (λ e. read_moves w u l (read_cycle b p v l + 1) longer (other l e) (so_far.heard l (⊎_elim (λ old. old) (λ new. absurd (e (sym new))) (take_cases links k l low c))));
-        others = λ l o. other l (λ e. o (subst (Contains (take (k + 1) links)) (sym e) (last_taken links k low))) ∙ so_far.others l (λ c. o (still_taken links k l low c));
+            (λ e. subst (λ i. IsReadUpTo u i (read_cycle b p v i + 1)) (sym e)
+            (subst (λ n. IsReadUpTo u link (n + 1)) (same_cycle link) (heard_even b p w link may_hear u heard)))
+            (λ e. read_moves w u l (read_cycle b p v l + 1) longer (other l e)
+            (so_far.heard l (⊎_elim (λ old. old) (λ new. absurd (e (sym new))) (take_cases links k l low c))));
+        others = λ l o. other l (λ e. o (subst (Contains (take (k + 1) links)) (sym e) (last_taken links k low)))
+            ∙ so_far.others l (λ c. o (still_taken links k l low c));
       }

@@ -27,20 +27,26 @@ abbrev pub IsLeadEven : Lay → View → ℕ → Type 0
 IsLeadEven p v c = (k : ℕ) → k < length p.shape.links → reader_of p k ≡ p.driver → IsReadUpTo v k c
 
 pub lead_moves : (p : Lay) (v w : View) (c d : ℕ) → w.reads ≡ v.reads → d ≡ c → IsLeadEven p v c → IsLeadEven p w d
-lead_moves p v w c d rs e h k low is = subst (IsReadUpTo w k) (sym e) (read_moves v w k c (ap (λ (x : List ReadView). length x) rs) (ap (λ (x : List ReadView). slice_index_or x k (unread 0)) rs) (h k low is))
+lead_moves p v w c d rs e h k low is = subst (IsReadUpTo w k) (sym e)
+    (read_moves v w k c (ap (λ (x : List ReadView). length x) rs) (ap (λ (x : List ReadView). slice_index_or x k (unread 0)) rs) (h k low is))
 
 module _ (p : Lay) (v w : View) where
   pub begun_waits : HasNode true p v p.driver → HasBegun p v w → IsWaiting p w
   begun_waits h b = record { node = subst (λ (x : View). HasNode true p x p.driver) (sym b.is) h; waits = ap (λ (x : View). x.lead.drive) b.is }
 
   pub checked_waits : (late : ℕ) → IsWaiting p v → HasChecked p v late w → IsWaiting p w
-  checked_waits late h b = record { node = subst (λ (x : View). HasNode true p x p.driver) (sym b.is) h.node; waits = ap (λ (x : View). x.lead.drive) b.is ∙ h.waits }
+  checked_waits late h b = record {
+    node = subst (λ (x : View). HasNode true p x p.driver) (sym b.is) h.node;
+    waits = ap (λ (x : View). x.lead.drive) b.is
+        ∙ h.waits;
+  }
 
 -- between two cycles, with cycles left
 pub may_begin : (p : Lay) (v : View) → IsBetween p v → v.lead.cycle ≢ last p → HasNode true p v p.driver
 may_begin p v b o = let m = b.member in let low = m.1.0 in let high = m.1.1 in (m.0, (low, omega arith), m.2)
 
-module _ (plot : Plot) (plain : IsPlain (lay plot)) (v : View) (has : HasNode true (lay plot) v (lay plot).driver) (runs : v.lead.drive ≡ Running) (even : IsLeadEven (lay plot) v v.lead.cycle) where
+module _ (plot : Plot) (plain : IsPlain (lay plot)) (v : View) (has : HasNode true (lay plot) v (lay plot).driver) (runs : v.lead.drive ≡ Running)
+    (even : IsLeadEven (lay plot) v v.lead.cycle) where
   abbrev p : Lay
   p = lay plot
 
@@ -62,7 +68,8 @@ module _ (plot : Plot) (plain : IsPlain (lay plot)) (v : View) (has : HasNode tr
   )
 
   pub lead_gives : (samples : List ℤ) → IsSteady p v.expect samples → All (Gives true p v samples) links
-  lead_gives samples steady k d low = let l : ℕ = slice_index_or links k d in let h = read_by p plain p.shape.driver inside l (k, low, get_or_default links k l d low) in let q = of_pool p plain l h.0 in
+  lead_gives samples steady k d low = let l : ℕ = slice_index_or links k d in
+      let h = read_by p plain p.shape.driver inside l (k, low, get_or_default links k l d low) in let q = of_pool p plain l h.0 in
       (steady.quanta (pool_of p l) q.0, steady.gives v.lead.cycle (pool_of p l) has.1.0 has.1.1 q.0)
 
   module _ (w : View) (heard : AreHeard true p v links w) where
@@ -86,18 +93,23 @@ module _ (plot : Plot) (plain : IsPlain (lay plot)) (v : View) (has : HasNode tr
     )
 
     module _ (x y : View) (over : HasFinished true p w p.driver x) (ended : HasEnded p x y) where
-      later : y.lead.cycle ≡ v.lead.cycle + 1
-      later = ap (λ (z : View). z.lead.cycle) ended.2 ∙ ap (λ (z : View). z.lead.cycle + 1) over.2 ∙ ap (λ c. c + 1) same_cycle
+      pub ended_later : y.lead.cycle ≡ v.lead.cycle + 1
+      ended_later = ap (λ (z : View). z.lead.cycle) ended.2 ∙ ap (λ (z : View). z.lead.cycle + 1) over.2 ∙ ap (λ c. c + 1) same_cycle
 
       pub ended_even : IsLeadEven p y y.lead.cycle
-      ended_even = lead_moves p w y (v.lead.cycle + 1) y.lead.cycle (ap (λ (z : View). z.reads) ended.2 ∙ ap (λ (z : View). z.reads) over.2) later heard_even
+      ended_even = lead_moves p w y (v.lead.cycle + 1) y.lead.cycle
+          (ap (λ (z : View). z.reads) ended.2 ∙ ap (λ (z : View). z.reads) over.2) ended_later heard_even
 
       pub ended_expect : y.expect ≡ v.expect
       ended_expect = ap (λ (z : View). z.expect) ended.2 ∙ ap (λ (z : View). z.expect) over.2 ∙ ap (λ (z : View). z.expect) heard.same
 
       pub ended_between : IsBetween p y
-      ended_between = let low = has.1.0 in let high = has.1.1 in let e = later in record {
-        member = ((refl, ap (λ (z : View). z.number) ended.2 ∙ ap (λ (z : View). z.number) over.2 ∙ ap (λ (z : View). z.number) heard.same ∙ has.0.1), (omega arith, omega arith), inside);
+      ended_between = let low = has.1.0 in let high = has.1.1 in let e = ended_later in record {
+        member = (
+          (refl, ap (λ (z : View). z.number) ended.2 ∙ ap (λ (z : View). z.number) over.2 ∙ ap (λ (z : View). z.number) heard.same ∙ has.0.1),
+          (omega arith, omega arith),
+          inside,
+        );
         between = ap (λ (z : View). z.lead.drive) ended.2;
         unchecked = ap (λ (z : View). z.lead.checked) ended.2;
       }

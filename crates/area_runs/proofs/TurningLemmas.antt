@@ -38,11 +38,15 @@ use Rattle.area_runs.proofs.HearingLemmas.{read_moves}
 use Rattle.area_runs.proofs.WritingLemmas.{write_moves, stock_moves}
 
 -- a view with the same ends and blocks
-pub even_moves : (p : Lay) (v w : View) (free : List Queue) (m c d : ℕ) → w.reads ≡ v.reads → w.writes ≡ v.writes → w.blocks ≡ v.blocks → d ≡ c → AreEven p v free m c → AreEven p w free m d
+pub even_moves : (p : Lay) (v w : View) (free : List Queue) (m c d : ℕ) → w.reads ≡ v.reads → w.writes ≡ v.writes → w.blocks ≡ v.blocks → d ≡ c
+    → AreEven p v free m c → AreEven p w free m d
 even_moves p v w free m c d rs ws bs e h = subst (AreEven p w free m) (sym e) record {
-  reads = λ l low is. read_moves v w l c (ap (λ (x : List ReadView). length x) rs) (ap (λ (x : List ReadView). slice_index_or x l (unread 0)) rs) (h.reads l low is);
-  writes = λ l low is. write_moves v w l c (ap (λ (x : List WriteView). length x) ws) (ap (λ (x : List WriteView). slice_index_or x l (unwritten 0)) ws) (h.writes l low is);
-  stocks = λ q low is. stock_moves p v w q c (queue_of free q) (λ b lt. ap (λ (x : List BlockView). slice_index_or x (block_at p q b) Free) bs) (h.stocks q low is);
+  reads = λ l low is. read_moves v w l c (ap (λ (x : List ReadView). length x) rs) (ap (λ (x : List ReadView). slice_index_or x l (unread 0)) rs)
+      (h.reads l low is);
+  writes = λ l low is. write_moves v w l c (ap (λ (x : List WriteView). length x) ws) (ap (λ (x : List WriteView). slice_index_or x l (unwritten 0)) ws)
+      (h.writes l low is);
+  stocks = λ q low is. stock_moves p v w q c (queue_of free q) (λ b lt. ap (λ (x : List BlockView). slice_index_or x (block_at p q b) Free) bs)
+      (h.stocks q low is);
 }
 
 module _ (p : Lay) (v x : View) (same : x ≡ record v { reads = x.reads; writes = x.writes; blocks = x.blocks }) where
@@ -51,7 +55,8 @@ module _ (p : Lay) (v x : View) (same : x ≡ record v { reads = x.reads; writes
   node_left m = ap (λ (y : View). node_of y m) same
 
   has_left : (m : ℕ) → HasNode false p v m → HasNode false p x m
-  has_left m h = let o = h.0 in subst (λ (y : View). HasNode false p y m) (sym same) (record { inside = o.inside; follows = o.follows; loops = o.loops; owned = o.owned; there = o.there; knows = o.knows }, h.1, h.2)
+  has_left m h = let o = h.0 in subst (λ (y : View). HasNode false p y m) (sym same)
+      (record { inside = o.inside; follows = o.follows; loops = o.loops; owned = o.owned; there = o.there; knows = o.knows }, h.1, h.2)
 
   rests_left : (m : ℕ) → IsResting p v m → IsResting p x m
   rests_left m r = let o = r.member.0 in subst (λ (y : View). IsResting p y m) (sym same) record {
@@ -76,17 +81,19 @@ module _ (p : Lay) (plain : IsPlain p) (n : ℕ) where
 
     pub may_hear_all : MayHearAll false p v (reads_of p.shape n)
     may_hear_all = (
-      (λ k d low. let l : ℕ = slice_index_or (reads_of p.shape n) k d in let h = read_by p plain n inside l (k, low, get_or_default (reads_of p.shape n) k l d low) in record {
-        inside = h.0;
-        has = subst (HasNode false p v) (sym h.1) has;
-        runs = subst (IsRunning false v) (sym h.1) runs;
-        even = subst (IsReadUpTo v l) (sym (reader_cycle l h.1)) (even.reads l h.0 h.1);
-      }),
+      (λ k d low. let l : ℕ = slice_index_or (reads_of p.shape n) k d in
+          let h = read_by p plain n inside l (k, low, get_or_default (reads_of p.shape n) k l d low) in record {
+            inside = h.0;
+            has = subst (HasNode false p v) (sym h.1) has;
+            runs = subst (IsRunning false v) (sym h.1) runs;
+            even = subst (IsReadUpTo v l) (sym (reader_cycle l h.1)) (even.reads l h.0 h.1);
+          }),
       reads_once p plain n inside,
     )
 
     pub all_give : (samples : List ℤ) → IsSteady p v.expect samples → All (Gives false p v samples) (reads_of p.shape n)
-    all_give samples steady k d low = let l : ℕ = slice_index_or (reads_of p.shape n) k d in let h = read_by p plain n inside l (k, low, get_or_default (reads_of p.shape n) k l d low) in let q = of_pool p plain l h.0 in
+    all_give samples steady k d low = let l : ℕ = slice_index_or (reads_of p.shape n) k d in
+        let h = read_by p plain n inside l (k, low, get_or_default (reads_of p.shape n) k l d low) in let q = of_pool p plain l h.0 in
         let c = has.1 in let e = reader_cycle l h.1 in (
           steady.quanta (pool_of p l) q.0,
           steady.gives (read_cycle false p v l) (pool_of p l) (omega arith) (omega arith) q.0,
@@ -109,29 +116,40 @@ module _ (p : Lay) (plain : IsPlain p) (n : ℕ) where
       bs : w.blocks ≡ v.blocks
       bs = ap (λ (y : View). y.blocks) heard.same
 
-      pub may_fill_all : ((q : ℕ) → q < length (pools_of p.shape) → block_at p q (pool_at p q).blocks ≤ length v.blocks) → MayFillAll p w old (fills_of p.shape n)
+      pub may_fill_all : ((q : ℕ) → q < length (pools_of p.shape) → block_at p q (pool_at p q).blocks ≤ length v.blocks)
+          → MayFillAll p w old (fills_of p.shape n)
       may_fill_all room = (
-        (λ k d low. let q : ℕ = slice_index_or (fills_of p.shape n) k d in let h = filled_by p plain n inside q (k, low, get_or_default (fills_of p.shape n) k q d low) in let now = filler_cycle q h.1 in (
-          record {
-            has = (h.0, subst (HasNode false p w) (sym h.1) w_has, subst (λ (y : List BlockView). block_at p q (pool_at p q).blocks ≤ length y) (sym bs) (room q h.0));
-            runs = subst (IsRunning false w) (sym h.1) (ap (λ (y : View). (node_of y m).phase) heard.same ∙ runs);
-            even = λ l c. subst (IsWrittenUpTo w l) (sym now) (write_moves v w l cycle (ap (λ (y : List WriteView). length y) ws) (ap (λ (y : List WriteView). slice_index_or y l (unwritten 0)) ws)
-                (even.writes l (pool_link p plain q l h.0 c) (pool_writer p plain q l h.0 c ∙ h.1)));
-          },
-          subst (λ c. Stock p w q c (queue_of old q)) (sym now) (stock_moves p v w q cycle (queue_of old q) (λ b lt. ap (λ (y : List BlockView). slice_index_or y (block_at p q b) Free) bs) (even.stocks q h.0 h.1)),
-        )),
+        (λ k d low. let q : ℕ = slice_index_or (fills_of p.shape n) k d in
+            let h = filled_by p plain n inside q (k, low, get_or_default (fills_of p.shape n) k q d low) in let now = filler_cycle q h.1 in (
+              record {
+                has = (
+                  h.0,
+                  subst (HasNode false p w) (sym h.1) w_has,
+                  subst (λ (y : List BlockView). block_at p q (pool_at p q).blocks ≤ length y) (sym bs) (room q h.0),
+                );
+                runs = subst (IsRunning false w) (sym h.1) (ap (λ (y : View). (node_of y m).phase) heard.same ∙ runs);
+                even = λ l c. subst (IsWrittenUpTo w l) (sym now) (write_moves v w l cycle (ap (λ (y : List WriteView). length y) ws)
+                    (ap (λ (y : List WriteView). slice_index_or y l (unwritten 0)) ws)
+                    (even.writes l (pool_link p plain q l h.0 c) (pool_writer p plain q l h.0 c ∙ h.1)));
+              },
+              subst (λ c. Stock p w q c (queue_of old q)) (sym now)
+                  (stock_moves p v w q cycle (queue_of old q) (λ b lt. ap (λ (y : List BlockView). slice_index_or y (block_at p q b) Free) bs)
+                  (even.stocks q h.0 h.1)),
+            )),
         fills_once p plain n inside,
       )
 
       pub all_put : (samples : List ℤ) → IsSteady p v.expect samples → All (Puts p w samples) (fills_of p.shape n)
-      all_put samples steady k d low = let q : ℕ = slice_index_or (fills_of p.shape n) k d in let h = filled_by p plain n inside q (k, low, get_or_default (fills_of p.shape n) k q d low) in
+      all_put samples steady k d low = let q : ℕ = slice_index_or (fills_of p.shape n) k d in
+          let h = filled_by p plain n inside q (k, low, get_or_default (fills_of p.shape n) k q d low) in
           let c = has.1 in let now = filler_cycle q h.1 in
           steady.gives (fill_cycle p w q) q (omega arith) (omega arith) h.0 ∙ ap (λ (y : View). samples_in p y.expect (fill_cycle p w q) q) (sym heard.same)
 
       -- it has filled all
       module _ (x : View) (new : List Queue) (written : AreWritten p w old (fills_of p.shape n) x new) where
         same : x ≡ record v { reads = x.reads; writes = x.writes; blocks = x.blocks }
-        same = written.same ∙ ap (λ (y : View). record y { writes = x.writes; blocks = x.blocks }) w_same ∙ ap (λ (rs : List ReadView). record v { reads = rs; writes = x.writes; blocks = x.blocks }) (sym rs)
+        same = written.same ∙ ap (λ (y : View). record y { writes = x.writes; blocks = x.blocks }) w_same
+            ∙ ap (λ (rs : List ReadView). record v { reads = rs; writes = x.writes; blocks = x.blocks }) (sym rs)
           where
             rs : x.reads ≡ w.reads
             rs = ap (λ (y : View). y.reads) written.same
@@ -144,18 +162,24 @@ module _ (p : Lay) (plain : IsPlain p) (n : ℕ) where
 
         own_even : AreEven p x new m (cycle + 1)
         own_even = record {
-          reads = λ l low e. read_moves w x l (cycle + 1) (ap (λ (y : List ReadView). length y) rs) (read_same l) (subst (λ c. IsReadUpTo w l (c + 1)) (reader_cycle l e) (heard.heard l (reads_it p plain n inside l low e)));
-          writes = λ l low e. let q = of_pool p plain l low in let f = q.2 ∙ e in subst (λ c. IsWrittenUpTo x l (c + 1)) (filler_cycle (pool_of p l) f) (written.even (pool_of p l) l (fills_it p plain n inside (pool_of p l) q.0 f) q.1);
+          reads = λ l low e. read_moves w x l (cycle + 1) (ap (λ (y : List ReadView). length y) rs) (read_same l)
+              (subst (λ c. IsReadUpTo w l (c + 1)) (reader_cycle l e) (heard.heard l (reads_it p plain n inside l low e)));
+          writes = λ l low e. let q = of_pool p plain l low in let f = q.2 ∙ e in
+              subst (λ c. IsWrittenUpTo x l (c + 1)) (filler_cycle (pool_of p l) f)
+              (written.even (pool_of p l) l (fills_it p plain n inside (pool_of p l) q.0 f) q.1);
           stocks = λ q low e. subst (λ c. Stock p x q (c + 1) (queue_of new q)) (filler_cycle q e) (written.stocks q (fills_it p plain n inside q low e));
         }
 
         other_even : (k c : ℕ) → k ≢ m → AreEven p v old k c → AreEven p x new k c
         other_even k c o h = record {
-          reads = λ l low e. read_moves v x l c (ap (λ (y : List ReadView). length y) rs ∙ heard.ends) (read_same l ∙ heard.others l (λ i. o (sym e ∙ (read_by p plain n inside l i).1))) (h.reads l low e);
+          reads = λ l low e. read_moves v x l c (ap (λ (y : List ReadView). length y) rs ∙ heard.ends)
+              (read_same l ∙ heard.others l (λ i. o (sym e ∙ (read_by p plain n inside l i).1))) (h.reads l low e);
           writes = λ l low e. write_moves v x l c (written.ends ∙ ap (λ (y : List WriteView). length y) ws)
-              (written.other_links l (λ q i of_q. let f = filled_by p plain n inside q i in o (sym e ∙ pool_writer p plain q l f.0 of_q ∙ f.1)) ∙ ap (λ (y : List WriteView). slice_index_or y l (unwritten 0)) ws) (h.writes l low e);
+              (written.other_links l (λ q i of_q. let f = filled_by p plain n inside q i in o (sym e ∙ pool_writer p plain q l f.0 of_q ∙ f.1))
+              ∙ ap (λ (y : List WriteView). slice_index_or y l (unwritten 0)) ws) (h.writes l low e);
           stocks = λ q low e. let left = written.other_pools q low (λ i. o (sym e ∙ (filled_by p plain n inside q i).1)) in
-              subst (Stock p x q c) (sym left.0) (stock_moves p v x q c (queue_of old q) (λ b lt. left.1 b lt ∙ ap (λ (y : List BlockView). slice_index_or y (block_at p q b) Free) bs) (h.stocks q low e));
+              subst (Stock p x q c) (sym left.0) (stock_moves p v x q c (queue_of old q)
+              (λ b lt. left.1 b lt ∙ ap (λ (y : List BlockView). slice_index_or y (block_at p q b) Free) bs) (h.stocks q low e));
         }
 
         x_has : HasNode false p x m
@@ -178,7 +202,13 @@ module _ (p : Lay) (plain : IsPlain p) (n : ℕ) where
         turned y r = record {
           rests = (rested_rests p x m y x_has r, moved m (cycle + 1) next own_even);
           later = next;
-          others = λ k o h. ((subst (λ (u : View). IsResting p u k) (sym r.is) (else_rests p x m k slept told o (rests_left p v x same k h.0)), moved k (node_of v k).next (ap (λ (u : NodeView). u.next) (other k o)) (other_even k (node_of v k).next o h.1)), other k o);
+          others = λ k o h. (
+            (
+              subst (λ (u : View). IsResting p u k) (sym r.is) (else_rests p x m k slept told o (rests_left p v x same k h.0)),
+              moved k (node_of v k).next (ap (λ (u : NodeView). u.next) (other k o)) (other_even k (node_of v k).next o h.1),
+            ),
+            other k o,
+          );
           expect = ap (λ (u : View). u.expect) r.is ∙ ap (λ (u : View). u.expect) same;
           room = ap (λ (u : View). length u.blocks) r.is ∙ written.room ∙ ap (λ (u : List BlockView). length u) bs;
           lists = written.lists;
@@ -194,7 +224,8 @@ module _ (p : Lay) (plain : IsPlain p) (n : ℕ) where
             next = ap (λ (u : View). (node_of u m).next) r.is ∙ ap (λ (u : NodeView). u.next) (again p x m slept told x_has.0.there) ∙ ap (λ c. c + 1) x_next
 
             moved : (k c : ℕ) → (node_of y k).next ≡ c → AreEven p x new k c → AreEven p y new k (node_of y k).next
-            moved k c e h = even_moves p x y new k c (node_of y k).next (ap (λ (u : View). u.reads) r.is) (ap (λ (u : View). u.writes) r.is) (ap (λ (u : View). u.blocks) r.is) e h
+            moved k c e h = even_moves p x y new k c (node_of y k).next (ap (λ (u : View). u.reads) r.is) (ap (λ (u : View). u.writes) r.is)
+                (ap (λ (u : View). u.blocks) r.is) e h
 
             other : (k : ℕ) → k ≢ m → node_of y k ≡ node_of v k
             other k o = ap (λ (u : View). node_of u k) r.is ∙ get_or-set_other x.nodes m k slept (idle 0) o ∙ node_left p v x same k
@@ -223,12 +254,17 @@ module _ (p : Lay) (v : View) (m t : ℕ) (has : HasNode false p v m) where
   begun_even free even = even_moves p v at_work free m (node_of v m).next (node_of at_work m).next refl refl refl same_next even
 
 -- what is so of a turn after a step of its node is so before it
-pub turned_whole : (p : Lay) (v : View) (m : ℕ) (y : NodeView) (t : Trail) → m < length v.nodes → y.next ≡ (node_of v m).next → (old : List Queue) (w : View) (new : List Queue) → HasTurned p (view_node v m y t) old m w new → HasTurned p v old m w new
+pub turned_whole : (p : Lay) (v : View) (m : ℕ) (y : NodeView) (t : Trail) → m < length v.nodes → y.next ≡ (node_of v m).next
+    → (old : List Queue) (w : View) (new : List Queue) → HasTurned p (view_node v m y t) old m w new → HasTurned p v old m w new
 turned_whole p v m y t there next old w new h = record {
   rests = h.rests;
   later = h.later ∙ ap (λ (x : NodeView). x.next + 1) (again p v m y t there) ∙ ap (λ c. c + 1) next;
   others = λ n o r. let same : node_of (view_node v m y t) n ≡ node_of v n = get_or-set_other v.nodes m n y (idle 0) o in
-      let k = h.others n o (else_rests p v m n y t o r.0, even_moves p v (view_node v m y t) old n (node_of v n).next (node_of (view_node v m y t) n).next refl refl refl (ap (λ (x : NodeView). x.next) same) r.1) in (k.0, k.1 ∙ same);
+      let k = h.others n o (
+        else_rests p v m n y t o r.0,
+        even_moves p v (view_node v m y t) old n (node_of v n).next
+            (node_of (view_node v m y t) n).next refl refl refl (ap (λ (x : NodeView). x.next) same) r.1,
+      ) in (k.0, k.1 ∙ same);
   expect = h.expect;
   room = h.room;
   lists = h.lists;
@@ -236,7 +272,8 @@ turned_whole p v m y t there next old w new h = record {
 
 module _ (p : Lay) (shapes : List PoolShape) (samples : List ℤ) (v : View) (free : List Queue) (w : View) (new : List Queue) where
   -- a turn leaves the loop what it works with
-  pub equipped_moves : w.expect ≡ v.expect → length w.blocks ≡ length v.blocks → length new ≡ length free → IsEquipped p v shapes free samples → IsEquipped p w shapes new samples
+  pub equipped_moves : w.expect ≡ v.expect → length w.blocks ≡ length v.blocks → length new ≡ length free → IsEquipped p v shapes free samples
+      → IsEquipped p w shapes new samples
   equipped_moves expect room lists e = record {
     plain = e.plain;
     shapes_are = e.shapes_are;

@@ -7,7 +7,8 @@ use Rattle.board_rule.specs.declared.closed.Closed.{Closed}
 use Rattle.board_rule.specs.Closing.{expected}
 use Rattle.area_runs.specs.declared.lead.Lead.{Lead}
 
--- its events are a legal history of its one epoch, with a Tick for each look; all seats agreed on the samples that the lead knows
+-- its events are a legal history of its one epoch, with a Tick for each look; all seats agreed on the samples that the
+-- driver's loop knows
 pub record IsClosed (board : Board) (lead : Lead) (closed : Closed) : Type 0 where
   pub plot : closed.plot ≡ board.plot
   pub expect : expected closed ≡ lead.seat.knows.expect

@@ -16,7 +16,8 @@ MayHearAll leads p v links = All (MayHear leads p v) links × AllPairs (λ k l. 
 
 -- the pool of each link gives these samples, one quantum, in this cycle
 abbrev pub Gives : Bool → Lay → View → List ℤ → ℕ → Type 0
-Gives leads p v samples l = (length samples ≡ quantum_of p (pool_of p l)) × (samples ≡ samples_in p v.expect (read_cycle leads p v l) (pool_of p l))
+Gives leads p v samples l = (length samples ≡ quantum_of p (pool_of p l))
+    × (samples ≡ samples_in p v.expect (read_cycle leads p v l) (pool_of p l))
 
 -- from the view v to the view w, each of the links is taken, read and given back; no other is touched
 pub record AreHeard (leads : Bool) (p : Lay) (v : View) (links : List ℕ) (w : View) : Type 0 where

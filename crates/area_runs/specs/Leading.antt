@@ -17,7 +17,8 @@ pub record IsOutfitted (p : Lay) (t : TableId) (l : Lead) : Type 0 where
   pub table : l.seat.table ≡ t
   pub plain : IsPlain p
   pub reads_are : l.reads ≡ reads_of p.shape p.shape.driver
-  pub even : (k : ℕ) → k < length p.shape.links → reader_of p k ≡ p.driver → IsReadUpTo l.seat.knows k l.seat.knows.lead.cycle
+  pub even : (k : ℕ) → k < length p.shape.links → reader_of p k ≡ p.driver
+      → IsReadUpTo l.seat.knows k l.seat.knows.lead.cycle
   pub steady : IsSteady p l.seat.knows.expect l.samples
   pub long : length l.room.items ≡ length l.samples
 
@@ -25,6 +26,8 @@ pub record IsOutfitted (p : Lay) (t : TableId) (l : Lead) : Type 0 where
 abbrev pub MayLead : Lay → TableId → Lead → Type 0
 MayLead p t l = IsOutfitted p t l × HasNode true p l.seat.knows p.driver × (l.seat.knows.lead.drive ≡ Awake)
 
--- the cycle is ended
-abbrev pub HasConcluded : Lead → Lead → Type 0
-HasConcluded old new = new.seat.knows.lead.cycle ≡ old.seat.knows.lead.cycle + 1
+-- the cycle is ended, and where the node reads a link the room has the samples
+pub record HasConcluded (old new : Lead) : Type 0 where
+  pub later : new.seat.knows.lead.cycle ≡ old.seat.knows.lead.cycle + 1
+  pub read : 0 < length old.reads → new.room.items ≡ old.samples
+  pub same : new.samples ≡ old.samples

@@ -6,5 +6,6 @@ pub mod Turning
 pub mod Leading
 pub mod Ready
 pub mod Closing
+pub mod Making
 pub mod Opening
 pub mod Shapes

@@ -1,4 +1,4 @@
--- The turn of a follower, from its waking to its rest: its links, its pools, and what it leaves alone. Nodes are places.
+-- The turn of a follower, from its waking to its rest: its links, its pools, what it leaves alone. Nodes are places.
 -- Source: PipeWire's documentation, "Graph Scheduling" and "SPA Buffers"; the calls are this project's own.
 use Rattle.std.specs.Prelude.{◌≡◌, ◌≢◌, ℕ, ℤ, ◌+◌, ◌<◌, ◌≤◌, false, List, length}
 use Rattle.pw_base.specs.declared.pools.PoolShape.{PoolShape}
@@ -20,15 +20,17 @@ use Rattle.area_runs.specs.Ends.{ends_of}
 use Rattle.area_runs.specs.Steady.{IsSteady}
 use Rattle.area_runs.specs.Writing.{queue_of}
 
--- what a loop has beside its nodes: the pools of the shape, room for their blocks, the free ones of each, and the samples
-pub record IsEquipped (p : Lay) (v : View) (shapes : List PoolShape) (free : List Queue) (samples : List ℤ) : Type 0 where
+-- what a loop has beside its nodes: the pools of the shape, room for their blocks, the free ones of each, the samples
+pub record IsEquipped (p : Lay) (v : View) (shapes : List PoolShape) (free : List Queue)
+    (samples : List ℤ) : Type 0 where
   pub plain : IsPlain p
   pub shapes_are : shapes ≡ pools_of p.shape
   pub lists : length free ≡ length shapes
   pub blocks : (q : ℕ) → q < length (pools_of p.shape) → block_at p q (pool_at p q).blocks ≤ length v.blocks
   pub steady : IsSteady p v.expect samples
 
--- the node m has done the cycles before c, and nothing of c, on all links that it reads or writes and on all pools that it fills
+-- the node m has done the cycles before c, and nothing of c, on all links that it reads or writes and on all pools that
+-- it fills
 pub record AreEven (p : Lay) (v : View) (free : List Queue) (m c : ℕ) : Type 0 where
   pub reads : (l : ℕ) → l < length p.shape.links → reader_of p l ≡ m → IsReadUpTo v l c
   pub writes : (l : ℕ) → l < length p.shape.links → writer_of p l ≡ m → IsWrittenUpTo v l c

@@ -1,5 +1,5 @@
 //! The turn of a node on all links that it reads.
-ghost use Rattle.std.specs.Prelude.{◌≡◌, true, All, length, IsTrue};
+ghost use Rattle.std.specs.Prelude.{◌≡◌, ◌<◌, ◌↔◌, All, length, IsTrue};
 ghost use Rattle.board_rule.specs.Layout.{lay};
 ghost use Rattle.area_turns.specs.Plain.{IsPlain};
 ghost use Rattle.area_turns.specs.Hearing.{MayHear, HasHeard};
@@ -7,6 +7,18 @@ ghost use Rattle.area_runs.specs.Hearing.{MayHearAll, Gives, AreHeard};
 
 use area_turns::hear;
 use board_rule::{Board, BoardSeat};
+
+// Whether two quanta are the same. It looks at all samples, so that many are compared at once.
+fn are_same(a: &[i16], b: &[i16]) -> bool
+    requires { length a.now ≡ length b.now }
+    ensures { IsTrue result ↔ (a.now ≡ b.now) }
+{
+    let mut same = true;
+    for k in 0..a.len() {
+        same = same & (a[k] == b[k]);
+    }
+    same
+}
 
 // One link is heard: whether it gave the samples.
 fn hears<S: BoardSeat>(
@@ -22,11 +34,13 @@ fn hears<S: BoardSeat>(
     requires gives { Gives S.leads (lay board.now.plot) (S.knows seat.old) samples.now link }
     requires long { length room.old ≡ length samples.now }
     ensures table { S.table seat.new ≡ S.table seat.old }
-    ensures knows { HasHeard S.leads (lay board.now.plot) (S.knows seat.old) link (S.knows seat.new) }
+    ensures knows { let p = lay board.now.plot in
+        HasHeard S.leads p (S.knows seat.old) link (S.knows seat.new) }
+    ensures room { room.new ≡ samples.now }
     ensures samples { IsTrue result }
 {
     hear(board, seat, link, room);
-    *room == *samples
+    are_same(room, samples)
 }
 
 /// The node that works hears each of its links, in `room` for one quantum: whether all gave the samples.
@@ -40,10 +54,13 @@ pub(crate) fn hear_all<S: BoardSeat>(
     requires plain { IsPlain (lay board.now.plot) }
     requires table { S.table seat.old ≡ board.now.table.shared.table_id }
     requires phase { MayHearAll S.leads (lay board.now.plot) (S.knows seat.old) links.now }
-    requires gives { All (Gives S.leads (lay board.now.plot) (S.knows seat.old) samples.now) links.now }
+    requires gives { let p = lay board.now.plot in
+        All (Gives S.leads p (S.knows seat.old) samples.now) links.now }
     requires long { length room.old ≡ length samples.now }
     ensures table { S.table seat.new ≡ S.table seat.old }
-    ensures knows { AreHeard S.leads (lay board.now.plot) (S.knows seat.old) links.now (S.knows seat.new) }
+    ensures knows { let p = lay board.now.plot in
+        AreHeard S.leads p (S.knows seat.old) links.now (S.knows seat.new) }
+    ensures room { 0 < length links.now → room.new ≡ samples.now }
     ensures samples { IsTrue result }
 {
     let mut heard = true;

@@ -2,7 +2,7 @@
 ghost use Rattle.std.specs.Prelude.{◌≡◌, ◌≢◌, true, false, IfSome, IsNone, ◌↔◌};
 ghost use Rattle.board_rule.specs.Layout.{lay, last};
 ghost use Rattle.activation_words.specs.Calls.{HasChecked};
-ghost use Rattle.area_runs.specs.Ready.{IsLeadReady, BeginsNext, HasLed, still_waits};
+ghost use Rattle.area_runs.specs.Ready.{IsLeadReadyOn, BeginsNext, HasLed, still_waits};
 ghost use Rattle.area_runs.specs.Leading.{MayLead, HasConcluded};
 ghost use Rattle.area_runs.specs.Closing.{IsClosed};
 
@@ -32,8 +32,8 @@ impl Lead {
 
     /// Begins the next cycle. False where none is left. Condition: the seat is between two cycles.
     pub fn begin_next(&mut self, board: &Board) -> bool
-        requires ready { IsLeadReady (lay board.now.plot) board.now.table.shared.table_id self.old false }
-        ensures ready { IsLeadReady (lay board.now.plot) board.now.table.shared.table_id self.new result }
+        requires ready { IsLeadReadyOn board.now self.old false }
+        ensures ready { IsLeadReadyOn board.now self.new result }
         ensures begun { BeginsNext (lay board.now.plot) self.old result self.new }
         ensures unchecked { self.new.seat.knows.lead.checked ≡ false }
     {
@@ -45,23 +45,25 @@ impl Lead {
         true
     }
 
-    /// One look at who has not finished the cycle: bit n for node n. Condition: the cycle is begun, and there was no look in
-    /// it yet.
+    /// One look at who has not finished the cycle: bit n for node n. Condition: the cycle is begun, and there was no
+    /// look in it yet.
     pub fn check(&mut self, board: &Board) -> u64
-        requires ready { IsLeadReady (lay board.now.plot) board.now.table.shared.table_id self.old true }
+        requires ready { IsLeadReadyOn board.now self.old true }
         requires unchecked { self.old.seat.knows.lead.checked ≡ false }
-        ensures ready { IsLeadReady (lay board.now.plot) board.now.table.shared.table_id self.new true }
-        ensures late { HasChecked (lay board.now.plot) self.old.seat.knows result self.new.seat.knows }
+        ensures ready { IsLeadReadyOn board.now self.new true }
+        ensures late { let p = lay board.now.plot in
+            HasChecked p self.old.seat.knows result self.new.seat.knows }
     {
         check_late(board, &mut self.seat)
     }
 
     // The driver's node is awake: it hears its links, and the cycle ends.
     fn conclude(&mut self, board: &Board) -> bool
-        requires awake { MayLead (lay board.now.plot) board.now.table.shared.table_id self.old }
-        ensures ready { IsLeadReady (lay board.now.plot) board.now.table.shared.table_id self.new false }
+        requires awake { let id = board.now.table.shared.table_id in
+            MayLead (lay board.now.plot) id self.old }
+        ensures ready { IsLeadReadyOn board.now self.new false }
         ensures heard { result ≡ true }
-        ensures later { HasConcluded self.old self.new }
+        ensures concluded { HasConcluded self.old self.new }
     {
         let driver = board.shape().driver;
         start(board, &mut self.seat, driver);
@@ -79,8 +81,8 @@ impl Lead {
 
     /// One try of the driver's node, and where it is awake its turn and the end of the cycle. It answers no `Ended`.
     pub fn try_node(&mut self, board: &Board) -> Tried
-        requires ready { IsLeadReady (lay board.now.plot) board.now.table.shared.table_id self.old true }
-        ensures ready { IsLeadReady (lay board.now.plot) board.now.table.shared.table_id self.new (still_waits result) }
+        requires ready { IsLeadReadyOn board.now self.old true }
+        ensures ready { IsLeadReadyOn board.now self.new (still_waits result) }
         ensures led { HasLed (lay board.now.plot) self.old result self.new }
     {
         match claim_driver(board, &mut self.seat) {
@@ -91,10 +93,10 @@ impl Lead {
         }
     }
 
-    /// Ends the board, whose words become the list of its events. None where a cycle is left. Condition: the seat is between
-    /// two cycles.
+    /// Ends the board, whose words become the list of its events. None where a cycle is left. Condition: the seat is
+    /// between two cycles.
     pub fn close(self, board: Board) -> Option<Closed>
-        requires ready { IsLeadReady (lay board.plot) board.table.shared.table_id self false }
+        requires ready { IsLeadReadyOn board self false }
         ensures closed { IfSome result (IsClosed board self) }
         ensures none { IsNone result ↔ (self.seat.knows.lead.cycle ≢ last (lay board.plot)) }
     {

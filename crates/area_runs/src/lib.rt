@@ -1,4 +1,9 @@
-//! Boards that run.
+//! Boards that run: for any shape without delayed links whose pools all have one quantum of samples, a board, the
+//! driver's loop and a loop for each seat.
+//!
+//! `opened` makes them. The driver's thread calls `begin_next` of its `Lead`, then `try_node` until it ran, and so on,
+//! and last `close`. Each other thread calls `try_node` of its `Worker` for each of its nodes, again and again, until
+//! all have ended. Every pool gives the same samples in every cycle, and whoever reads a link compares.
 #![tactic(auto)]
 
 mod hearing;

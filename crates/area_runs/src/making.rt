@@ -3,7 +3,8 @@ ghost use Rattle.std.specs.Prelude.{◌≡◌, ◌≢◌, ◌↔◌, ℕ, ◌≤
 ghost use Rattle.pw_base.specs.Dependencies.{nodes_of};
 ghost use Rattle.pw_base.specs.Pools.{pools_of, IsPooledShape};
 ghost use Rattle.board_rule.specs.Layout.{lay, HasSeats};
-ghost use Rattle.area_runs.specs.Opening.{fresh_queue, HasNodesOf, IsMade, AreMade};
+ghost use Rattle.area_runs.specs.Making.{fresh_queue, HasNodesOf, IsMade, AreMade};
+ghost use Rattle.area_runs.specs.Opening.{plot_of};
 
 use crate::node_ends::{NodeEnds, ends_of};
 use crate::openable::place_of;
@@ -52,7 +53,8 @@ fn nodes_of(
     requires few { (length shape.now.links ≤ 256) × (length pools.now ≤ 256) }
     requires pools { pools.now ≡ pools_of shape.now }
     requires seats { length seat_of.now ≡ length shape.now.nodes }
-    ensures { IfOk result (λ nodes. (seats : ℕ) → HasNodesOf (record { shape = shape.now; seat_of = seat_of.now; seats = seats }) k nodes) }
+    ensures { IfOk result (λ nodes. (seats : ℕ) →
+        HasNodesOf (plot_of shape.now seat_of.now seats) k nodes) }
 {
     let driver = place_of(shape, shape.driver);
     let mut nodes = Items::new(alloc);
@@ -76,7 +78,8 @@ fn worker_of(
     requires pooled { IsPooledShape shape.now }
     requires seats { length seat_of.now ≡ length shape.now.nodes }
     requires blocks { All (λ x. (1 ≤ x.blocks) × (x.blocks ≤ 8)) (pools_of shape.now) }
-    ensures { IfOk result (λ w. (seats : ℕ) → IsMade (record { shape = shape.now; seat_of = seat_of.now; seats = seats }) samples.now k seat w) }
+    ensures { IfOk result (λ w. (seats : ℕ) →
+        IsMade (plot_of shape.now seat_of.now seats) samples.now k seat w) }
 {
     let shapes = pools_of(alloc, shape)?;
     let nodes = nodes_of(alloc, shape, shapes.as_slice(), seat_of, k)?;
@@ -103,7 +106,8 @@ pub(crate) fn workers_of(
     requires seats { length seat_of.now ≡ length shape.now.nodes }
     requires blocks { All (λ x. (1 ≤ x.blocks) × (x.blocks ≤ 8)) (pools_of shape.now) }
     requires few { length loops < 4294967296 }
-    ensures { IfOk result (λ workers. (seats : ℕ) → AreMade (record { shape = shape.now; seat_of = seat_of.now; seats = seats }) samples.now loops workers) }
+    ensures { IfOk result (λ workers. (seats : ℕ) →
+        AreMade (plot_of shape.now seat_of.now seats) samples.now loops workers) }
 {
     let mut workers = Items::new(alloc);
     let mut k = 0;

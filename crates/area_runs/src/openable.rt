@@ -3,7 +3,7 @@ ghost use Rattle.std.specs.Prelude.{◌≡◌, ◌==◌, ◌≤◌, ◌<◌, IsT
 ghost use Rattle.std.specs.List.{position};
 ghost use Rattle.pw_base.specs.Pools.{pools_of};
 ghost use Rattle.board_rule.specs.Layout.{IsUndelayed, HasSeats, place_in};
-ghost use Rattle.area_runs.specs.Opening.{IsFit};
+ghost use Rattle.area_runs.specs.Opening.{plot_of, IsFit};
 
 use pw_base::{PoolShape, Shape};
 
@@ -30,7 +30,7 @@ pub(crate) fn place_of(shape: &Shape, node: u32) -> usize
 
 /// Whether each follower has one of so many seats. The driver's entry is not looked at.
 pub(crate) fn has_seats(shape: &Shape, seat_of: &[u32], seats: u32) -> bool
-    ensures { IsTrue result ↔ HasSeats record { shape = shape.now; seat_of = seat_of.now; seats = seats } }
+    ensures { IsTrue result ↔ HasSeats (plot_of shape.now seat_of.now seats) }
 {
     if seats == 0 || seat_of.len() != shape.nodes.len() {
         return false;

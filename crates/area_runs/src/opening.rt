@@ -2,7 +2,8 @@
 ghost use Rattle.std.specs.Prelude.{◌≡◌, ◌≤◌, ◌↔◌, All, IfOk, IfSome, IsNone, IsTrue, length};
 ghost use Rattle.pw_base.specs.Pools.{pools_of};
 ghost use Rattle.area_runs.specs.Steady.{IsShort, steady};
-ghost use Rattle.area_runs.specs.Opening.{IsOpenable, IsLeadMade, IsOpened};
+ghost use Rattle.area_runs.specs.Making.{IsLeadMade};
+ghost use Rattle.area_runs.specs.Opening.{plot_of, IsOpenable, IsOpened};
 
 use crate::lead::Lead;
 use crate::making::workers_of;
@@ -52,9 +53,9 @@ fn open<E: Expect>(
     seats: u32,
     samples: &[i16],
 ) -> Result<Run, Memory>
-    requires openable { IsOpenable (record { shape = shape.now; seat_of = seat_of.now; seats = seats }) samples.now }
+    requires openable { IsOpenable (plot_of shape.now seat_of.now seats) samples.now }
     requires table { E.expect ≡ steady shape.now samples.now }
-    ensures { IfOk result (IsOpened (record { shape = shape.now; seat_of = seat_of.now; seats = seats })) }
+    ensures { IfOk result (IsOpened (plot_of shape.now seat_of.now seats) samples.now) }
 {
     look_over(samples);
     let (board, driver, loops) = Board::new::<E>(alloc, shape, seat_of, seats)?;
@@ -75,7 +76,8 @@ fn is_openable(
     seats: u32,
     samples: &[i16],
 ) -> Result<bool, Memory>
-    ensures { IfOk result (λ yes. IsTrue yes ↔ IsOpenable (record { shape = shape.now; seat_of = seat_of.now; seats = seats }) samples.now) }
+    ensures { let plot = plot_of shape.now seat_of.now seats in
+        IfOk result (λ yes. IsTrue yes ↔ IsOpenable plot samples.now) }
 {
     if !is_pooled_shape(shape) {
         return Ok(false);
@@ -89,12 +91,12 @@ fn is_openable(
     )
 }
 
-/// A board whose pools all give the samples, one quantum with the frames interleaved, in each cycle. `seat_of` has the seat
-/// of each node by place in the shape, below `seats`; the driver's entry is not looked at. None where the shape is not
-/// sound and pooled or has a delayed link, where a follower has none of the seats, and where a pool has not 1 to 8 blocks or
-/// a quantum as long as the samples.
+/// A board whose pools all give the samples, one quantum with the frames interleaved, in each cycle. `seat_of` has the
+/// seat of each node by place in the shape, below `seats`; the driver's entry is not looked at. None where the shape is
+/// not sound and pooled or has a delayed link, where a follower has none of the seats, and where a pool has not 1 to 8
+/// blocks or a quantum as long as the samples.
 ///
-/// Memory: that of `Board::new`, and for each seat the pools of the shape, the numbers of their blocks, the samples twice.
+/// Memory: that of `Board::new`, and for each seat the pools of the shape, the numbers of their blocks, two quanta.
 pub fn opened(
     alloc: Global,
     shape: &Shape,
@@ -102,8 +104,10 @@ pub fn opened(
     seats: u32,
     samples: &[i16],
 ) -> Result<Option<Run>, Memory>
-    ensures opened { IfOk result (λ o. IfSome o (IsOpened (record { shape = shape.now; seat_of = seat_of.now; seats = seats }))) }
-    ensures none { IfOk result (λ o. IsNone o → ¬ IsOpenable (record { shape = shape.now; seat_of = seat_of.now; seats = seats }) samples.now) }
+    ensures opened { let plot = plot_of shape.now seat_of.now seats in
+        IfOk result (λ o. IfSome o (IsOpened plot samples.now)) }
+    ensures none { let plot = plot_of shape.now seat_of.now seats in
+        IfOk result (λ o. IsNone o → ¬ IsOpenable plot samples.now) }
 {
     if !is_openable(alloc, shape, seat_of.as_slice(), seats, samples)? {
         return Ok(None);

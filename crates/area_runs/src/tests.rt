@@ -1,7 +1,6 @@
 //! The words of a cycle and the events of an epoch by one thread, and a thousand cycles by three and by four.
-ghost use Rattle.std.specs.Prelude.{◌≡◌, ◌<◌, ◌≤◌, true, false, IfOk, IfSome, MatchOption, Some, length, slice_get};
-ghost use Rattle.board_rule.specs.Layout.{lay};
-ghost use Rattle.area_runs.specs.Ready.{IsReady, IsLeadReady};
+ghost use Rattle.std.specs.Prelude.{◌≡◌, ◌<◌, ◌≤◌, true, false, IfOk, IfSome, IsNone, Some, length, slice_get};
+ghost use Rattle.area_runs.specs.Ready.{IsReadyOn, IsLeadReadyOn};
 ghost use Rattle.area_runs.specs.Shapes.{fan, row};
 
 use crate::{Lead, Run, Tried, Worker, fan, opened, row};
@@ -17,7 +16,9 @@ const SAMPLES: [i16; 4] = [1, -1, 2, -2];
 // Three loops, in their order.
 fn three(workers: Items<Worker>) -> Option<(Worker, Worker, Worker)>
     requires { length workers ≡ 3 }
-    ensures { IfSome result (λ t. (slice_get workers 0 ≡ Some t.0) × (slice_get workers 1 ≡ Some t.1) × (slice_get workers 2 ≡ Some t.2)) }
+    ensures first { IfSome result (λ t. slice_get workers 0 ≡ Some t.0) }
+    ensures second { IfSome result (λ t. slice_get workers 1 ≡ Some t.1) }
+    ensures third { IfSome result (λ t. slice_get workers 2 ≡ Some t.2) }
 {
     let mut workers = workers;
     let third = workers.pop()?;
@@ -29,7 +30,8 @@ fn three(workers: Items<Worker>) -> Option<(Worker, Worker, Worker)>
 // Two loops, in their order.
 fn both(workers: Items<Worker>) -> Option<(Worker, Worker)>
     requires { length workers ≡ 2 }
-    ensures { IfSome result (λ t. (slice_get workers 0 ≡ Some t.0) × (slice_get workers 1 ≡ Some t.1)) }
+    ensures first { IfSome result (λ t. slice_get workers 0 ≡ Some t.0) }
+    ensures second { IfSome result (λ t. slice_get workers 1 ≡ Some t.1) }
 {
     let mut workers = workers;
     let second = workers.pop()?;
@@ -43,10 +45,10 @@ fn open_fan(
     cycles: u32,
 ) -> Result<Option<(Board, Lead, (Worker, Worker, Worker))>, Memory>
     ensures shape { IfOk result (λ o. IfSome o (λ t. t.0.plot.shape ≡ fan 4 1 cycles)) }
-    ensures lead { IfOk result (λ o. IfSome o (λ t. IsLeadReady (lay t.0.plot) t.0.table.shared.table_id t.1 false)) }
-    ensures first { IfOk result (λ o. IfSome o (λ t. IsReady (lay t.0.plot) t.0.table.shared.table_id t.2.0)) }
-    ensures second { IfOk result (λ o. IfSome o (λ t. IsReady (lay t.0.plot) t.0.table.shared.table_id t.2.1)) }
-    ensures third { IfOk result (λ o. IfSome o (λ t. IsReady (lay t.0.plot) t.0.table.shared.table_id t.2.2)) }
+    ensures lead { IfOk result (λ o. IfSome o (λ t. IsLeadReadyOn t.0 t.1 false)) }
+    ensures first { IfOk result (λ o. IfSome o (λ t. IsReadyOn t.0 t.2.0)) }
+    ensures second { IfOk result (λ o. IfSome o (λ t. IsReadyOn t.0 t.2.1)) }
+    ensures third { IfOk result (λ o. IfSome o (λ t. IsReadyOn t.0 t.2.2)) }
 {
     let shape = fan(alloc, 4, 1, cycles)?;
     let seat_of = Items::from_slice(alloc, &[0, 1, 2, 0])?;
@@ -67,9 +69,9 @@ fn open_fan(
 // A row, whose nodes 0 and 2 have one loop, and node 1 another.
 fn open_row(alloc: Global, cycles: u32) -> Result<Option<(Board, Lead, (Worker, Worker))>, Memory>
     ensures shape { IfOk result (λ o. IfSome o (λ t. t.0.plot.shape ≡ row cycles)) }
-    ensures lead { IfOk result (λ o. IfSome o (λ t. IsLeadReady (lay t.0.plot) t.0.table.shared.table_id t.1 false)) }
-    ensures first { IfOk result (λ o. IfSome o (λ t. IsReady (lay t.0.plot) t.0.table.shared.table_id t.2.0)) }
-    ensures second { IfOk result (λ o. IfSome o (λ t. IsReady (lay t.0.plot) t.0.table.shared.table_id t.2.1)) }
+    ensures lead { IfOk result (λ o. IfSome o (λ t. IsLeadReadyOn t.0 t.1 false)) }
+    ensures first { IfOk result (λ o. IfSome o (λ t. IsReadyOn t.0 t.2.0)) }
+    ensures second { IfOk result (λ o. IfSome o (λ t. IsReadyOn t.0 t.2.1)) }
 {
     let shape = row(alloc, cycles)?;
     let seat_of = Items::from_slice(alloc, &[0, 1, 0, 0])?;
@@ -119,8 +121,8 @@ fn nodes_are(board: &Board, pending: [u64; 4], status: [u64; 4]) -> bool {
 
 // One try of the node at a place of the loop's list. Ended where there is none.
 fn try_at(board: &Board, worker: &mut Worker, at: usize) -> Tried
-    requires ready { IsReady (lay board.now.plot) board.now.table.shared.table_id worker.old }
-    ensures ready { IsReady (lay board.now.plot) board.now.table.shared.table_id worker.new }
+    requires ready { IsReadyOn board.now worker.old }
+    ensures ready { IsReadyOn board.now worker.new }
 {
     if at < worker.nodes().len() {
         worker.try_node(board, at)
@@ -152,10 +154,10 @@ fn nodes_with_links_take_each_other_down(rt: HostRuntime) -> Result<(), Fail> {
 
 // Begins a cycle, and the source does its work in it.
 fn begin_and_write(board: &Board, lead: &mut Lead, source: &mut Worker) -> Option<Tried>
-    requires lead { IsLeadReady (lay board.now.plot) board.now.table.shared.table_id lead.old false }
-    requires ready { IsReady (lay board.now.plot) board.now.table.shared.table_id source.old }
-    ensures lead { MatchOption result (IsLeadReady (lay board.now.plot) board.now.table.shared.table_id lead.new false) (λ t. IsLeadReady (lay board.now.plot) board.now.table.shared.table_id lead.new true) }
-    ensures ready { IsReady (lay board.now.plot) board.now.table.shared.table_id source.new }
+    requires lead { IsLeadReadyOn board.now lead.old false }
+    requires ready { IsReadyOn board.now source.old }
+    ensures begun { IfSome result (λ t. IsLeadReadyOn board.now lead.new true) }
+    ensures ready { IsReadyOn board.now source.new }
 {
     if lead.begin_next(board) {
         Some(try_at(board, source, 0))
@@ -207,13 +209,13 @@ fn a_row_wakes_node_by_node(rt: HostRuntime) -> Result<(), Fail> {
     Ok(())
 }
 
-// One cycle of a row by one thread, the lowest node that can run first, with a look after node 1. What it found, where the
-// cycle ended.
+// One cycle of a row by one thread, the lowest node that can run first, with a look after node 1. What it found, where
+// the cycle ended.
 fn one_cycle(board: &Board, lead: &mut Lead, ends: &mut Worker, split: &mut Worker) -> Option<u64>
-    requires lead { IsLeadReady (lay board.now.plot) board.now.table.shared.table_id lead.old false }
-    requires ends { IsReady (lay board.now.plot) board.now.table.shared.table_id ends.old }
-    requires split { IsReady (lay board.now.plot) board.now.table.shared.table_id split.old }
-    ensures lead { IfSome result (λ late. IsLeadReady (lay board.now.plot) board.now.table.shared.table_id lead.new false) }
+    requires lead { IsLeadReadyOn board.now lead.old false }
+    requires ends { IsReadyOn board.now ends.old }
+    requires split { IsReadyOn board.now split.old }
+    ensures lead { IfSome result (λ late. IsLeadReadyOn board.now lead.new false) }
 {
     if !lead.begin_next(board) {
         return None;
@@ -274,8 +276,8 @@ fn counted(counts: (u64, u64), at: usize, tried: Tried) -> (u64, u64) {
 
 // One try of each node of a loop. False where none has cycles left.
 fn try_all(board: &Board, worker: &mut Worker, counts: &mut (u64, u64)) -> bool
-    requires ready { IsReady (lay board.now.plot) board.now.table.shared.table_id worker.old }
-    ensures ready { IsReady (lay board.now.plot) board.now.table.shared.table_id worker.new }
+    requires ready { IsReadyOn board.now worker.old }
+    ensures ready { IsReadyOn board.now worker.new }
 {
     let mut has_left = false;
     for at in 0..worker.nodes().len() {
@@ -290,7 +292,7 @@ fn try_all(board: &Board, worker: &mut Worker, counts: &mut (u64, u64)) -> bool
 
 // All turns of a loop.
 fn run_loop<R: Wait>(rt: &R, board: &Board, mut worker: Worker) -> (u64, u64)
-    requires ready { IsReady (lay board.now.plot) board.now.table.shared.table_id worker }
+    requires ready { IsReadyOn board.now worker }
 {
     let mut counts = (0, 0);
     for _ in rt.forever() {
@@ -301,11 +303,12 @@ fn run_loop<R: Wait>(rt: &R, board: &Board, mut worker: Worker) -> (u64, u64)
     counts
 }
 
-// One deed of the driver's loop: a try of its node where it waits, else the beginning of a cycle, if there is one. Whether
-// it waits then, and whether it ran and heard the samples.
+// One deed of the driver's loop: a try of its node where it waits, else the beginning of a cycle, if there is one.
+// Whether it waits then, and whether it ran and heard the samples.
 fn drive_once(board: &Board, lead: &mut Lead, waits: bool) -> Option<(bool, bool)>
-    requires ready { IsLeadReady (lay board.now.plot) board.now.table.shared.table_id lead.old waits }
-    ensures ready { MatchOption result (IsLeadReady (lay board.now.plot) board.now.table.shared.table_id lead.new false) (λ t. IsLeadReady (lay board.now.plot) board.now.table.shared.table_id lead.new t.0) }
+    requires ready { IsLeadReadyOn board.now lead.old waits }
+    ensures some { IfSome result (λ t. IsLeadReadyOn board.now lead.new t.0) }
+    ensures none { IsNone result → IsLeadReadyOn board.now lead.new false }
 {
     if waits {
         match lead.try_node(board) {
@@ -321,8 +324,8 @@ fn drive_once(board: &Board, lead: &mut Lead, waits: bool) -> Option<(bool, bool
 
 // All cycles of the driver's loop: in how many its node heard the samples.
 fn drive<R: Wait>(rt: &R, board: &Board, mut lead: Lead) -> (Lead, u64)
-    requires ready { IsLeadReady (lay board.now.plot) board.now.table.shared.table_id lead false }
-    ensures ready { IsLeadReady (lay board.now.plot) board.now.table.shared.table_id result.0 false }
+    requires ready { IsLeadReadyOn board.now lead false }
+    ensures ready { IsLeadReadyOn board.now result.0 false }
 {
     let mut waits = false;
     let mut found = 0u64;
@@ -347,8 +350,8 @@ fn run_both<R: Threads + Wait + Sync>(
     one: Worker,
     two: Worker,
 ) -> ((u64, u64), (u64, u64))
-    requires one { IsReady (lay board.now.plot) board.now.table.shared.table_id one }
-    requires two { IsReady (lay board.now.plot) board.now.table.shared.table_id two }
+    requires one { IsReadyOn board.now one }
+    requires two { IsReadyOn board.now two }
 {
     join(
         rt,
@@ -365,17 +368,17 @@ fn run_row<R: Threads + Wait + Sync>(
     one: Worker,
     two: Worker,
 ) -> ((Lead, u64), ((u64, u64), (u64, u64)))
-    requires lead { IsLeadReady (lay board.now.plot) board.now.table.shared.table_id lead false }
-    requires one { IsReady (lay board.now.plot) board.now.table.shared.table_id one }
-    requires two { IsReady (lay board.now.plot) board.now.table.shared.table_id two }
-    ensures lead { IsLeadReady (lay board.now.plot) board.now.table.shared.table_id result.0.0 false }
+    requires lead { IsLeadReadyOn board.now lead false }
+    requires one { IsReadyOn board.now one }
+    requires two { IsReadyOn board.now two }
+    ensures lead { IsLeadReadyOn board.now result.0.0 false }
 {
     join(
         rt,
         move || drive(rt, board, lead),
         move ||
-            requires one { IsReady (lay board.now.plot) board.now.table.shared.table_id one }
-            requires two { IsReady (lay board.now.plot) board.now.table.shared.table_id two }
+            requires one { IsReadyOn board.now one }
+            requires two { IsReadyOn board.now two }
         { run_both(rt, board, one, two) },
     )
 }
@@ -387,21 +390,21 @@ fn run_fan<R: Threads + Wait + Sync>(
     lead: Lead,
     loops: (Worker, Worker, Worker),
 ) -> ((u64, (u64, u64)), ((u64, u64), (u64, u64)))
-    requires lead { IsLeadReady (lay board.now.plot) board.now.table.shared.table_id lead false }
-    requires first { IsReady (lay board.now.plot) board.now.table.shared.table_id loops.0 }
-    requires second { IsReady (lay board.now.plot) board.now.table.shared.table_id loops.1 }
-    requires third { IsReady (lay board.now.plot) board.now.table.shared.table_id loops.2 }
+    requires lead { IsLeadReadyOn board.now lead false }
+    requires first { IsReadyOn board.now loops.0 }
+    requires second { IsReadyOn board.now loops.1 }
+    requires third { IsReadyOn board.now loops.2 }
 {
     let (source, one, two) = loops;
     join(
         rt,
         move ||
-            requires lead { IsLeadReady (lay board.now.plot) board.now.table.shared.table_id lead false }
-            requires source { IsReady (lay board.now.plot) board.now.table.shared.table_id source }
+            requires lead { IsLeadReadyOn board.now lead false }
+            requires source { IsReadyOn board.now source }
         { drive_beside(rt, board, lead, source) },
         move ||
-            requires one { IsReady (lay board.now.plot) board.now.table.shared.table_id one }
-            requires two { IsReady (lay board.now.plot) board.now.table.shared.table_id two }
+            requires one { IsReadyOn board.now one }
+            requires two { IsReadyOn board.now two }
         { run_both(rt, board, one, two) },
     )
 }
@@ -413,8 +416,8 @@ fn drive_beside<R: Threads + Wait + Sync>(
     lead: Lead,
     worker: Worker,
 ) -> (u64, (u64, u64))
-    requires lead { IsLeadReady (lay board.now.plot) board.now.table.shared.table_id lead false }
-    requires ready { IsReady (lay board.now.plot) board.now.table.shared.table_id worker }
+    requires lead { IsLeadReadyOn board.now lead false }
+    requires ready { IsReadyOn board.now worker }
 {
     let ((_lead, found), counts) = join(
         rt,

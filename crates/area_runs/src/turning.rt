@@ -11,8 +11,8 @@ use board_rule::{Board, LoopSeat};
 use buffer_pool::Pool;
 use pw_base::PoolShape;
 
-/// The node starts, hears each link that it reads, gives the samples in each pool that it fills, and finishes: whether each
-/// link gave the samples. `shapes` and `free` have all pools of the board, and `room` is one quantum. Takes no memory.
+/// The node starts, hears each link that it reads, gives the samples in each pool that it fills, and finishes: whether
+/// each link gave the samples. `shapes` and `free` have all pools of the board, and `room` is one quantum.
 pub(crate) fn take_turn(
     board: &Board,
     seat: &mut LoopSeat,
@@ -23,7 +23,8 @@ pub(crate) fn take_turn(
     room: &mut [i16],
 ) -> bool
     requires table { seat.old.table ≡ board.now.table.shared.table_id }
-    requires equipped { IsEquipped (lay board.now.plot) seat.old.knows shapes.now free.old samples.now }
+    requires equipped { let p = lay board.now.plot in
+        IsEquipped p seat.old.knows shapes.now free.old samples.now }
     requires awake { MayTurn (lay board.now.plot) seat.old.knows free.old ends.now }
     requires long { length room.old ≡ length samples.now }
     ensures table { seat.new.table ≡ seat.old.table }

@@ -10,8 +10,8 @@ use board_rule::{Board, LoopSeat};
 use buffer_pool::Pool;
 use pw_base::PoolShape;
 
-/// The node that works gives the samples in each of its pools. `shapes` and `free` have all pools of the board's shape, and
-/// the free blocks of each.
+/// The node that works gives the samples in each of its pools. `shapes` and `free` have all pools of the board's shape,
+/// and the free blocks of each.
 pub(crate) fn write_all(
     board: &Board,
     seat: &mut LoopSeat,
@@ -27,7 +27,8 @@ pub(crate) fn write_all(
     requires phase { MayFillAll (lay board.now.plot) seat.old.knows free.old pools.now }
     requires gives { All (Puts (lay board.now.plot) seat.old.knows samples.now) pools.now }
     ensures table { seat.new.table ≡ seat.old.table }
-    ensures knows { AreWritten (lay board.now.plot) seat.old.knows free.old pools.now seat.new.knows free.new }
+    ensures knows { let p = lay board.now.plot in
+        AreWritten p seat.old.knows free.old pools.now seat.new.knows free.new }
 {
     for pool in pools {
         let links = shapes[*pool as usize].links.as_slice();

@@ -1,7 +1,6 @@
 //! The cycles, by one thread.
 ghost use Rattle.std.specs.Prelude.{◌≡◌, false, length, slice_get, IfSome, IsTrue, Some};
-ghost use Rattle.board_rule.specs.Layout.{lay};
-ghost use Rattle.area_runs.specs.Ready.{IsReady, IsLeadReady};
+ghost use Rattle.area_runs.specs.Ready.{IsReadyOn, IsLeadReadyOn};
 
 use area_runs::{Lead, Run, Tried, Worker, fan, opened};
 use board_rule::Board;
@@ -19,7 +18,9 @@ struct Loops {
 // Three loops, in their order.
 fn three(workers: Items<Worker>) -> Option<Loops>
     requires { length workers ≡ 3 }
-    ensures { IfSome result (λ t. (slice_get workers 0 ≡ Some t.source) × (slice_get workers 1 ≡ Some t.one) × (slice_get workers 2 ≡ Some t.two)) }
+    ensures source { IfSome result (λ t. slice_get workers 0 ≡ Some t.source) }
+    ensures one { IfSome result (λ t. slice_get workers 1 ≡ Some t.one) }
+    ensures two { IfSome result (λ t. slice_get workers 2 ≡ Some t.two) }
 {
     let mut workers = workers;
     let two = workers.pop()?;
@@ -30,8 +31,8 @@ fn three(workers: Items<Worker>) -> Option<Loops>
 
 // One try of the first node of a loop, if it has one.
 fn try_first(board: &Board, worker: &mut Worker)
-    requires ready { IsReady (lay board.now.plot) board.now.table.shared.table_id worker.old }
-    ensures ready { IsReady (lay board.now.plot) board.now.table.shared.table_id worker.new }
+    requires ready { IsReadyOn board.now worker.old }
+    ensures ready { IsReadyOn board.now worker.new }
 {
     if worker.nodes().len() > 0 {
         worker.try_node(board, 0);
@@ -40,12 +41,12 @@ fn try_first(board: &Board, worker: &mut Worker)
 
 // One try of each loop.
 fn try_loops(board: &Board, loops: &mut Loops)
-    requires source { IsReady (lay board.now.plot) board.now.table.shared.table_id loops.old.source }
-    requires one { IsReady (lay board.now.plot) board.now.table.shared.table_id loops.old.one }
-    requires two { IsReady (lay board.now.plot) board.now.table.shared.table_id loops.old.two }
-    ensures source { IsReady (lay board.now.plot) board.now.table.shared.table_id loops.new.source }
-    ensures one { IsReady (lay board.now.plot) board.now.table.shared.table_id loops.new.one }
-    ensures two { IsReady (lay board.now.plot) board.now.table.shared.table_id loops.new.two }
+    requires source { IsReadyOn board.now loops.old.source }
+    requires one { IsReadyOn board.now loops.old.one }
+    requires two { IsReadyOn board.now loops.old.two }
+    ensures source { IsReadyOn board.now loops.new.source }
+    ensures one { IsReadyOn board.now loops.new.one }
+    ensures two { IsReadyOn board.now loops.new.two }
 {
     try_first(board, &mut loops.source);
     try_first(board, &mut loops.one);
@@ -54,14 +55,14 @@ fn try_loops(board: &Board, loops: &mut Loops)
 
 // One cycle. False where none is left.
 fn run_cycle(board: &Board, lead: &mut Lead, loops: &mut Loops) -> bool
-    requires lead { IsLeadReady (lay board.now.plot) board.now.table.shared.table_id lead.old false }
-    requires source { IsReady (lay board.now.plot) board.now.table.shared.table_id loops.old.source }
-    requires one { IsReady (lay board.now.plot) board.now.table.shared.table_id loops.old.one }
-    requires two { IsReady (lay board.now.plot) board.now.table.shared.table_id loops.old.two }
-    ensures lead { IsTrue result → IsLeadReady (lay board.now.plot) board.now.table.shared.table_id lead.new false }
-    ensures source { IsReady (lay board.now.plot) board.now.table.shared.table_id loops.new.source }
-    ensures one { IsReady (lay board.now.plot) board.now.table.shared.table_id loops.new.one }
-    ensures two { IsReady (lay board.now.plot) board.now.table.shared.table_id loops.new.two }
+    requires lead { IsLeadReadyOn board.now lead.old false }
+    requires source { IsReadyOn board.now loops.old.source }
+    requires one { IsReadyOn board.now loops.old.one }
+    requires two { IsReadyOn board.now loops.old.two }
+    ensures lead { IsTrue result → IsLeadReadyOn board.now lead.new false }
+    ensures source { IsReadyOn board.now loops.new.source }
+    ensures one { IsReadyOn board.now loops.new.one }
+    ensures two { IsReadyOn board.now loops.new.two }
 {
     if !lead.begin_next(board) {
         return false;
@@ -83,10 +84,10 @@ fn last_bits(samples: &[i16]) -> u64 {
 
 // All cycles: how many there were, and a checksum of what the driver's node read.
 fn run_all(board: &Board, mut lead: Lead, mut loops: Loops) -> (u64, u64)
-    requires lead { IsLeadReady (lay board.now.plot) board.now.table.shared.table_id lead false }
-    requires source { IsReady (lay board.now.plot) board.now.table.shared.table_id loops.source }
-    requires one { IsReady (lay board.now.plot) board.now.table.shared.table_id loops.one }
-    requires two { IsReady (lay board.now.plot) board.now.table.shared.table_id loops.two }
+    requires lead { IsLeadReadyOn board.now lead false }
+    requires source { IsReadyOn board.now loops.source }
+    requires one { IsReadyOn board.now loops.one }
+    requires two { IsReadyOn board.now loops.two }
 {
     let mut ran = 0u64;
     let mut sum = 0u64;

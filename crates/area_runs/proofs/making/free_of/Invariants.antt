@@ -1,5 +1,5 @@
 use Rattle.std.proofs.Common.{◌≡◌, map, take}
-use Rattle.area_runs.specs.Opening.{fresh_queue}
+use Rattle.area_runs.specs.Making.{fresh_queue}
 use Rattle.area_runs.proofs.making.free_of.Given as goal
 
 abbrev pub invariant-loop-pool : goal.invariant-loop-pool

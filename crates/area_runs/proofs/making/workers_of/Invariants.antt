@@ -1,5 +1,5 @@
 use Rattle.std.proofs.Common.{◌≡◌, ℕ, length}
-use Rattle.area_runs.specs.Opening.{AreMade}
+use Rattle.area_runs.specs.Making.{AreMade}
 use Rattle.area_runs.proofs.making.workers_of.Given as goal
 
 abbrev pub invariant-loop-seat : goal.invariant-loop-seat

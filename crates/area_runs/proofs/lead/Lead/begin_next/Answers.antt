@@ -7,8 +7,10 @@ use Rattle.area_runs.proofs.LeadLemmas.{lead_moves, may_begin, begun_waits}
 use Rattle.area_runs.proofs.lead.Lead.begin_next.Goals as goal
 
 pub returns-clause-ready : goal.returns-clause-ready
-returns-clause-ready c = let p = lay c.args.board.now.plot in let r = c.requires.ready in let o = r.0 in let e = c.begin.ensures.knows in let v : View = c.args.self.now.seat.knows in let w : View = c.begin.new.seat.knows in
-    let some_left : c.ended.result ≢ c.args.board.now.plot.shape.cycles = search rules in let now : first p + c.ended.result ≡ v.lead.cycle = c.ended.ensures in (
+returns-clause-ready c = let p = lay c.args.board.now.plot in let r = c.requires.ready in let o = r.0 in let e = c.begin.ensures.knows in
+    let v : View = c.args.self.now.seat.knows in let w : View = c.begin.new.seat.knows in
+    let some_left : c.ended.result ≢ c.args.board.now.plot.shape.cycles = search rules in
+    let now : first p + c.ended.result ≡ v.lead.cycle = c.ended.ensures in (
       record {
         table = c.begin.ensures.table ∙ o.table;
         plain = o.plain;
