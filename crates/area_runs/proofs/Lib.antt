@@ -1,5 +1,9 @@
-pub mod FanLemmas
-pub mod TurnLemmas
-pub mod HearLemmas
-pub mod RunLemmas
-pub mod OpenLemmas
+pub mod ListLemmas
+pub mod HearingLemmas
+pub mod WritingLemmas
+pub mod EndsLemmas
+pub mod TurningLemmas
+pub mod LeadLemmas
+pub mod WorkerLemmas
+pub mod MakingLemmas
+pub mod OpeningLemmas

@@ -1,27 +1,27 @@
--- The turn of a node that reads one link. `leads` is true for the driver's seat.
--- Source: this project's own.
-use Rattle.std.specs.Prelude.{◌≡◌, ℕ, ◌+◌, ◌<◌, Bool, length}
+-- The turn of a node on the links that it reads. `leads` is true for the driver's seat.
+-- Source: PipeWire's documentation, "SPA Buffers"; the calls are this project's own.
+use Rattle.std.specs.Prelude.{◌≡◌, ◌≢◌, ℕ, ℤ, ◌+◌, Bool, List, All, AllPairs, Contains, length}
 use Rattle.board_rule.specs.declared.view.View.{View}
 use Rattle.board_rule.specs.Layout.{Lay}
-use Rattle.board_rule.specs.EndViews.{read_of, view_read, reader_of}
-use Rattle.board_rule.specs.SeatNodes.{HasNode}
-use Rattle.board_rule.specs.WorkSteps.{IsRunning}
+use Rattle.board_rule.specs.SampleWords.{samples_in}
+use Rattle.board_rule.specs.EndViews.{read_of, pool_of}
 use Rattle.board_rule.specs.ReaderSteps.{read_cycle}
+use Rattle.io_areas.specs.Quanta.{quantum_of}
+use Rattle.area_turns.specs.Ends.{IsReadUpTo}
+use Rattle.area_turns.specs.Hearing.{MayHear}
 
--- the reader's end of a link, where its node has ended so many cycles, counted from 0
-pub record IsEven (v : View) (l c : ℕ) : Type 0 where
-  pub there : l < length v.reads
-  pub loaded : (read_of v l).loaded ≡ c
-  pub lowered : (read_of v l).lowered ≡ c
-  pub stored : (read_of v l).stored ≡ c
+-- none of the links is touched in this cycle, and none stands there twice
+abbrev pub MayHearAll : Bool → Lay → View → List ℕ → Type 0
+MayHearAll leads p v links = All (MayHear leads p v) links × AllPairs (λ k l. k ≢ l) links
 
--- the link's reader works, and has not touched it in this cycle
-pub record MayHear (leads : Bool) (p : Lay) (v : View) (l : ℕ) : Type 0 where
-  pub inside : l < length p.shape.links
-  pub has : HasNode leads p v (reader_of p l)
-  pub runs : IsRunning leads v (reader_of p l)
-  pub even : IsEven v l (read_cycle leads p v l)
+-- the pool of each link gives these samples, one quantum, in this cycle
+abbrev pub Gives : Bool → Lay → View → List ℤ → ℕ → Type 0
+Gives leads p v samples l = (length samples ≡ quantum_of p (pool_of p l))
+    × (samples ≡ samples_in p v.expect (read_cycle leads p v l) (pool_of p l))
 
--- it has taken a block, read it and given it back
-abbrev pub HasHeard : Bool → Lay → View → ℕ → View → Type 0
-HasHeard leads p v l w = let c : ℕ = read_cycle leads p v l in (id : ℕ) × (w ≡ view_read v l (record { loaded = c + 1; lowered = c + 1; stored = c + 1; id = id }))
+-- from the view v to the view w, each of the links is taken, read and given back; no other is touched
+pub record AreHeard (leads : Bool) (p : Lay) (v : View) (links : List ℕ) (w : View) : Type 0 where
+  pub same : w ≡ record v { reads = w.reads }
+  pub ends : length w.reads ≡ length v.reads
+  pub heard : (l : ℕ) → Contains links l → IsReadUpTo w l (read_cycle leads p v l + 1)
+  pub others : (l : ℕ) → (Contains links l → ⊥) → read_of w l ≡ read_of v l

@@ -1,4 +1,11 @@
-pub mod Fan
-pub mod Turns
 pub mod Hearing
-pub mod Rests
+pub mod Writing
+pub mod Ends
+pub mod Steady
+pub mod Turning
+pub mod Leading
+pub mod Ready
+pub mod Closing
+pub mod Making
+pub mod Opening
+pub mod Shapes

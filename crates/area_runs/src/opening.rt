@@ -1,43 +1,26 @@
-//! A board for the shape, with its seats: one for the writer, one for each of two readers, and the driver's, which reads too.
-ghost use Rattle.std.specs.Prelude.{◌≡◌, ◌*◌, ◌<◌, [], ◌∷◌, length, slice_get, Some, All, IfOk, IfSome};
-ghost use Rattle.pw_base.specs.Pools.{IsPooledShape};
-ghost use Rattle.board_rule.specs.Layout.{lay};
-ghost use Rattle.io_areas.specs.Quanta.{quantum_of};
-ghost use Rattle.area_runs.specs.Fan.{fan, IsFan};
-ghost use Rattle.area_runs.specs.Rests.{IsShort, steady, IsSteady, WriterRests, ReaderRests, DriverRests};
+//! A board with its loops.
+ghost use Rattle.std.specs.Prelude.{◌≡◌, ◌≤◌, ◌↔◌, All, IfOk, IfSome, IsNone, IsTrue, length};
+ghost use Rattle.pw_base.specs.Pools.{pools_of};
+ghost use Rattle.area_runs.specs.Steady.{IsShort, steady};
+ghost use Rattle.area_runs.specs.Making.{IsLeadMade};
+ghost use Rattle.area_runs.specs.Opening.{plot_of, IsOpenable, IsOpened};
 
-use crate::shape::fan;
-use board_rule::{Board, DriverSeat, Expect, LoopSeat};
-use pw_base::{Items, Memory, Shape, is_pooled_shape};
+use crate::lead::Lead;
+use crate::making::workers_of;
+use crate::node_ends::reads_of;
+use crate::openable::{are_fit, has_seats, is_undelayed};
+use crate::worker::Worker;
+use board_rule::{Board, DriverSeat, Expect};
+use pw_base::{Items, Memory, Shape, is_pooled_shape, pools_of};
 use std::alloc::Global;
 use std::marker::Brand;
 
-/// The seats of the writer, of the readers of the links 0 and 1, and of the driver, which reads link 2.
+/// A run: a board, the driver's loop, and a loop for each seat, in the order of their numbers.
 #[derive(Drop)]
-pub struct Seats {
-    pub writer: LoopSeat,
-    pub one: LoopSeat,
-    pub two: LoopSeat,
-    pub driver: DriverSeat,
-}
-
-// Three seats, in their order.
-fn three(loops: Items<LoopSeat>) -> Option<(LoopSeat, LoopSeat, LoopSeat)>
-    requires { length loops ≡ 3 }
-    ensures { IfSome result (λ t. (slice_get loops 0 ≡ Some t.0) × (slice_get loops 1 ≡ Some t.1) × (slice_get loops 2 ≡ Some t.2)) }
-{
-    let mut loops = loops;
-    let third = loops.pop()?;
-    let second = loops.pop()?;
-    let first = loops.pop()?;
-    Some((first, second, third))
-}
-
-// The seat of each node.
-fn seats_of(alloc: Global) -> Result<Items<u32>, Memory>
-    ensures { IfOk result (λ seats. seats ≡ 0 ∷ 1 ∷ 2 ∷ 0 ∷ []) }
-{
-    Items::from_slice(alloc, &[0, 1, 2, 0])
+pub struct Run {
+    pub board: Board,
+    pub lead: Lead,
+    pub workers: Items<Worker>,
 }
 
 // Looks at each sample, so that contracts know its range.
@@ -49,63 +32,85 @@ fn look_over(samples: &[i16])
     }
 }
 
-// A board whose table is that of `E`: the same samples in each cycle.
+// The driver's loop of a seat.
+fn lead_of(alloc: Global, shape: &Shape, seat: DriverSeat, samples: &[i16]) -> Result<Lead, Memory>
+    requires { length shape.now.links ≤ 256 }
+    ensures { IfOk result (IsLeadMade shape.now samples.now seat) }
+{
+    Ok(Lead {
+        seat,
+        reads: reads_of(alloc, shape, shape.driver)?,
+        samples: Items::from_slice(alloc, samples)?,
+        room: Items::filled(alloc, samples.len(), 0)?.into_vec(),
+    })
+}
+
+// The board whose table is that of `E`: the same samples in each cycle and pool.
 fn open<E: Expect>(
     alloc: Global,
     shape: &Shape,
-    quantum: u32,
-    channels: u32,
+    seat_of: &Items<u32>,
+    seats: u32,
     samples: &[i16],
-) -> Result<Option<(Board, Seats)>, Memory>
-    requires fan { shape.now ≡ fan quantum channels shape.now.cycles }
-    requires pooled { IsPooledShape shape.now }
-    requires some { 0 < quantum * channels }
-    requires long { length samples.now ≡ quantum * channels }
-    requires table { E.expect ≡ steady shape.now.cycles samples.now }
-    ensures fan { IfOk result (λ o. IfSome o (λ t. IsFan (lay t.0.plot) × (t.0.plot.shape ≡ shape.now))) }
-    ensures tables { IfOk result (λ o. IfSome o (λ t. (t.1.writer.table ≡ t.0.table.shared.table_id) × (t.1.one.table ≡ t.0.table.shared.table_id) × (t.1.two.table ≡ t.0.table.shared.table_id) × (t.1.driver.table ≡ t.0.table.shared.table_id))) }
-    ensures writer { IfOk result (λ o. IfSome o (λ t. WriterRests (lay t.0.plot) t.1.writer.knows (0 ∷ 1 ∷ []) × IsSteady (lay t.0.plot) t.1.writer.knows.expect samples.now)) }
-    ensures readers { IfOk result (λ o. IfSome o (λ t. ReaderRests (lay t.0.plot) t.1.one.knows 0 × ReaderRests (lay t.0.plot) t.1.two.knows 1)) }
-    ensures driver { IfOk result (λ o. IfSome o (λ t. DriverRests (lay t.0.plot) t.1.driver.knows)) }
+) -> Result<Run, Memory>
+    requires openable { IsOpenable (plot_of shape.now seat_of.now seats) samples.now }
+    requires table { E.expect ≡ steady shape.now samples.now }
+    ensures { IfOk result (IsOpened (plot_of shape.now seat_of.now seats) samples.now) }
 {
     look_over(samples);
-    let seat_of = seats_of(alloc)?;
-    let (board, driver, loops) = Board::new::<E>(alloc, shape, &seat_of, 3)?;
-    match three(loops) {
-        Some((writer, one, two)) => Ok(Some((
-            board,
-            Seats {
-                writer,
-                one,
-                two,
-                driver,
-            },
-        ))),
-        None => Ok(None),
-    }
+    let (board, driver, loops) = Board::new::<E>(alloc, shape, seat_of, seats)?;
+    let lead = lead_of(alloc, shape, driver, samples)?;
+    let workers = workers_of(alloc, shape, seat_of.as_slice(), loops, samples)?;
+    Ok(Run {
+        board,
+        lead,
+        workers,
+    })
 }
 
-/// A board for so many cycles, in each of which node 0 gives the samples, one quantum with the frames interleaved. None
-/// for another number of samples, and where the shape is not sound.
+// Whether a board can be opened.
+fn is_openable(
+    alloc: Global,
+    shape: &Shape,
+    seat_of: &[u32],
+    seats: u32,
+    samples: &[i16],
+) -> Result<bool, Memory>
+    ensures { let plot = plot_of shape.now seat_of.now seats in
+        IfOk result (λ yes. IsTrue yes ↔ IsOpenable plot samples.now) }
+{
+    if !is_pooled_shape(shape) {
+        return Ok(false);
+    }
+    let pools = pools_of(alloc, shape)?;
+    let count = samples.len() as u64;
+    Ok(
+        is_undelayed(shape)
+            && has_seats(shape, seat_of, seats)
+            && are_fit(shape.quantum, count, pools.as_slice()),
+    )
+}
+
+/// A board whose pools all give the samples, one quantum with the frames interleaved, in each cycle. `seat_of` has the
+/// seat of each node by place in the shape, below `seats`; the driver's entry is not looked at. None where the shape is
+/// not sound and pooled or has a delayed link, where a follower has none of the seats, and where a pool has not 1 to 8
+/// blocks or a quantum as long as the samples.
+///
+/// Memory: that of `Board::new`, and for each seat the pools of the shape, the numbers of their blocks, two quanta.
 pub fn opened(
     alloc: Global,
-    quantum: u32,
-    channels: u32,
-    cycles: u32,
+    shape: &Shape,
+    seat_of: &Items<u32>,
+    seats: u32,
     samples: &[i16],
-) -> Result<Option<(Board, Seats)>, Memory>
-    ensures fan { IfOk result (λ o. IfSome o (λ t. IsFan (lay t.0.plot) × (t.0.plot.shape ≡ fan quantum channels cycles) × (length samples.now ≡ quantum_of (lay t.0.plot) 0))) }
-    ensures tables { IfOk result (λ o. IfSome o (λ t. (t.1.writer.table ≡ t.0.table.shared.table_id) × (t.1.one.table ≡ t.0.table.shared.table_id) × (t.1.two.table ≡ t.0.table.shared.table_id) × (t.1.driver.table ≡ t.0.table.shared.table_id))) }
-    ensures writer { IfOk result (λ o. IfSome o (λ t. WriterRests (lay t.0.plot) t.1.writer.knows (0 ∷ 1 ∷ []) × IsSteady (lay t.0.plot) t.1.writer.knows.expect samples.now)) }
-    ensures readers { IfOk result (λ o. IfSome o (λ t. ReaderRests (lay t.0.plot) t.1.one.knows 0 × ReaderRests (lay t.0.plot) t.1.two.knows 1)) }
-    ensures driver { IfOk result (λ o. IfSome o (λ t. DriverRests (lay t.0.plot) t.1.driver.knows)) }
+) -> Result<Option<Run>, Memory>
+    ensures opened { let plot = plot_of shape.now seat_of.now seats in
+        IfOk result (λ o. IfSome o (IsOpened plot samples.now)) }
+    ensures none { let plot = plot_of shape.now seat_of.now seats in
+        IfOk result (λ o. IsNone o → ¬ IsOpenable plot samples.now) }
 {
-    let shape = fan(alloc, quantum, channels, cycles)?;
-    if !is_pooled_shape(&shape) || samples.is_empty() {
+    if !is_openable(alloc, shape, seat_of.as_slice(), seats, samples)? {
         return Ok(None);
     }
-    if samples.len() as u64 != u64::from(quantum) * u64::from(channels) {
-        return Ok(None);
-    }
-    open::<Brand>(alloc, &shape, quantum, channels, samples)
+    Ok(Some(open::<Brand>(alloc, shape, seat_of, seats, samples)?))
 }

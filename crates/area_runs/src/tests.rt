@@ -1,20 +1,95 @@
-//! The words of two cycles by one thread, and a thousand cycles by four.
-ghost use Rattle.std.specs.Prelude.{◌≡◌, ◌<◌, [], ◌∷◌, length, IfSome};
-ghost use Rattle.board_rule.specs.Layout.{lay};
-ghost use Rattle.io_areas.specs.Quanta.{quantum_of};
-ghost use Rattle.area_runs.specs.Fan.{fan, IsFan};
-ghost use Rattle.area_runs.specs.Rests.{IsSteady, WriterRests, ReaderRests, DriverRests, DriverWaits, IsDriving};
+//! The words of a cycle and the events of an epoch by one thread, and a thousand cycles by three and by four.
+ghost use Rattle.std.specs.Prelude.{◌≡◌, ◌<◌, ◌≤◌, true, false, IfOk, IfSome, IsNone, Some, length, slice_get};
+ghost use Rattle.area_runs.specs.Ready.{IsReadyOn, IsLeadReadyOn};
+ghost use Rattle.area_runs.specs.Shapes.{fan, row};
 
-use crate::{Seats, Written, begin_next, opened, run_driver, run_reader, run_writer};
-use board_rule::{Board, DriverSeat, LoopSeat};
-use buffer_pool::Pool;
+use crate::{Lead, Run, Tried, Worker, fan, opened, row};
+use board_rule::Board;
+use pw_base::{Epoch, Event, Items, Memory, is_legal_history};
+use std::alloc::Global;
 use std::sync::Wait;
 use std::test::Fail;
 use std::thread::{Threads, join};
 
 const SAMPLES: [i16; 4] = [1, -1, 2, -2];
 
-// A word of a board for two cycles of four mono frames.
+// Three loops, in their order.
+fn three(workers: Items<Worker>) -> Option<(Worker, Worker, Worker)>
+    requires { length workers ≡ 3 }
+    ensures first { IfSome result (λ t. slice_get workers 0 ≡ Some t.0) }
+    ensures second { IfSome result (λ t. slice_get workers 1 ≡ Some t.1) }
+    ensures third { IfSome result (λ t. slice_get workers 2 ≡ Some t.2) }
+{
+    let mut workers = workers;
+    let third = workers.pop()?;
+    let second = workers.pop()?;
+    let first = workers.pop()?;
+    Some((first, second, third))
+}
+
+// Two loops, in their order.
+fn both(workers: Items<Worker>) -> Option<(Worker, Worker)>
+    requires { length workers ≡ 2 }
+    ensures first { IfSome result (λ t. slice_get workers 0 ≡ Some t.0) }
+    ensures second { IfSome result (λ t. slice_get workers 1 ≡ Some t.1) }
+{
+    let mut workers = workers;
+    let second = workers.pop()?;
+    let first = workers.pop()?;
+    Some((first, second))
+}
+
+// A fan, whose three followers have a loop each, in their order.
+fn open_fan(
+    alloc: Global,
+    cycles: u32,
+) -> Result<Option<(Board, Lead, (Worker, Worker, Worker))>, Memory>
+    ensures shape { IfOk result (λ o. IfSome o (λ t. t.0.plot.shape ≡ fan 4 1 cycles)) }
+    ensures lead { IfOk result (λ o. IfSome o (λ t. IsLeadReadyOn t.0 t.1 false)) }
+    ensures first { IfOk result (λ o. IfSome o (λ t. IsReadyOn t.0 t.2.0)) }
+    ensures second { IfOk result (λ o. IfSome o (λ t. IsReadyOn t.0 t.2.1)) }
+    ensures third { IfOk result (λ o. IfSome o (λ t. IsReadyOn t.0 t.2.2)) }
+{
+    let shape = fan(alloc, 4, 1, cycles)?;
+    let seat_of = Items::from_slice(alloc, &[0, 1, 2, 0])?;
+    let Some(run) = opened(alloc, &shape, &seat_of, 3, &SAMPLES)? else {
+        return Ok(None);
+    };
+    let Run {
+        board,
+        lead,
+        workers,
+    } = run;
+    match three(workers) {
+        Some(loops) => Ok(Some((board, lead, loops))),
+        None => Ok(None),
+    }
+}
+
+// A row, whose nodes 0 and 2 have one loop, and node 1 another.
+fn open_row(alloc: Global, cycles: u32) -> Result<Option<(Board, Lead, (Worker, Worker))>, Memory>
+    ensures shape { IfOk result (λ o. IfSome o (λ t. t.0.plot.shape ≡ row cycles)) }
+    ensures lead { IfOk result (λ o. IfSome o (λ t. IsLeadReadyOn t.0 t.1 false)) }
+    ensures first { IfOk result (λ o. IfSome o (λ t. IsReadyOn t.0 t.2.0)) }
+    ensures second { IfOk result (λ o. IfSome o (λ t. IsReadyOn t.0 t.2.1)) }
+{
+    let shape = row(alloc, cycles)?;
+    let seat_of = Items::from_slice(alloc, &[0, 1, 0, 0])?;
+    let Some(run) = opened(alloc, &shape, &seat_of, 2, &SAMPLES)? else {
+        return Ok(None);
+    };
+    let Run {
+        board,
+        lead,
+        workers,
+    } = run;
+    match both(workers) {
+        Some(loops) => Ok(Some((board, lead, loops))),
+        None => Ok(None),
+    }
+}
+
+// A word of a board for a fan of two cycles.
 fn word(board: &Board, at: usize) -> u64
     requires shape { board.now.plot.shape ≡ fan 4 1 2 }
     requires inside { at < 40 }
@@ -29,351 +104,358 @@ fn is_at(board: &Board, area: u64, readers: u64, samples: u64) -> bool
     word(board, 9) == area && word(board, 36) == readers && word(board, 37) == samples
 }
 
-// The pending and the status words of the four nodes.
-fn nodes_are(board: &Board, pending: [u64; 4], status: [u64; 4]) -> bool
-    requires shape { board.now.plot.shape ≡ fan 4 1 2 }
+// Four words from a place on. The board has four nodes.
+fn has_words(board: &Board, first: usize, words: [u64; 4]) -> bool
+    requires { (length board.now.plot.shape.nodes ≡ 4) × (first ≤ 5) }
 {
-    for node in 0..4usize {
-        if word(board, 1 + node) != pending[node] || word(board, 5 + node) != status[node] {
-            return false;
-        }
-    }
-    true
+    board.peek(first) == words[0]
+        && board.peek(first + 1) == words[1]
+        && board.peek(first + 2) == words[2]
+        && board.peek(first + 3) == words[3]
 }
 
-// Begins a cycle, and node 0 does its work in it. None where it could not.
-fn begin_and_write(
-    board: &Board,
-    driver: &mut DriverSeat,
-    writer: &mut LoopSeat,
-    free: &mut Pool,
-    samples: &[i16],
-) -> Option<Written>
-    requires fan { IsFan (lay board.now.plot) }
-    requires driver { driver.old.table ≡ board.now.table.shared.table_id }
-    requires writer { writer.old.table ≡ board.now.table.shared.table_id }
-    requires between { DriverRests (lay board.now.plot) driver.old.knows }
-    requires rests { WriterRests (lay board.now.plot) writer.old.knows free.old.free }
-    requires blocks { free.old.blocks ≡ 2 }
-    requires steady { IsSteady (lay board.now.plot) writer.old.knows.expect samples.now }
-    requires long { length samples.now ≡ quantum_of (lay board.now.plot) 0 }
-    ensures driver { driver.new.table ≡ driver.old.table }
-    ensures writer { writer.new.table ≡ writer.old.table }
-    ensures waits { IfSome result (λ w. DriverWaits (lay board.now.plot) driver.new.knows) }
-    ensures rests { WriterRests (lay board.now.plot) writer.new.knows free.new.free }
-    ensures blocks { free.new.blocks ≡ 2 }
-    ensures steady { IsSteady (lay board.now.plot) writer.new.knows.expect samples.now }
-{
-    if !begin_next(board, driver) {
-        return None;
-    }
-    match run_writer(board, writer, free, samples) {
-        Some(written) => written,
-        None => None,
-    }
+// The pending and the status words of four nodes.
+fn nodes_are(board: &Board, pending: [u64; 4], status: [u64; 4]) -> bool {
+    board.shape().nodes.len() == 4 && has_words(board, 1, pending) && has_words(board, 5, status)
 }
 
-// One try of a reader, with room of its own: what it found are the samples. None where it has no cycles left.
-fn finds(board: &Board, seat: &mut LoopSeat, link: u32, samples: &[i16]) -> Option<Option<bool>>
-    requires table { seat.old.table ≡ board.now.table.shared.table_id }
-    requires fan { IsFan (lay board.now.plot) }
-    requires rests { ReaderRests (lay board.now.plot) seat.old.knows link }
-    requires four { (length samples.now ≡ 4) × (length samples.now ≡ quantum_of (lay board.now.plot) 0) }
-    ensures table { seat.new.table ≡ seat.old.table }
-    ensures rests { ReaderRests (lay board.now.plot) seat.new.knows link }
+// One try of the node at a place of the loop's list. Ended where there is none.
+fn try_at(board: &Board, worker: &mut Worker, at: usize) -> Tried
+    requires ready { IsReadyOn board.now worker.old }
+    ensures ready { IsReadyOn board.now worker.new }
 {
-    let mut to = [0i16; 4];
-    if run_reader(board, seat, link, &mut to)? {
-        Some(Some(to.as_slice() == samples))
+    if at < worker.nodes().len() {
+        worker.try_node(board, at)
     } else {
-        Some(None)
+        Tried::Ended
     }
 }
 
 #[test]
 fn nodes_with_links_take_each_other_down(rt: HostRuntime) -> Result<(), Fail> {
-    let Some((board, mut seats)) = opened(rt.alloc(), 4, 1, 2, &SAMPLES)? else {
-        panic!(rt; "the shape is not sound")
+    let Some((board, mut lead, (mut source, mut one, mut two))) = open_fan(rt.alloc(), 2)? else {
+        panic!(rt; "the fan is not sound")
     };
-    let mut free = Pool::new(rt.alloc(), 2)?;
-    let mut to = [0i16; 4];
-    if !begin_next(&board, &mut seats.driver) {
+    if !lead.begin_next(&board) {
         panic!(rt; "no cycle began");
     }
     assert!(rt; nodes_are(&board, [0, 1, 1, 3], [1, 0, 0, 0]));
-    assert!(rt; finds(&board, &mut seats.one, 0, &SAMPLES) == Some(None));
-    assert!(rt; run_writer(&board, &mut seats.writer, &mut free, &SAMPLES).is_some());
+    assert!(rt; try_at(&board, &mut one, 0) == Tried::NotYet { found: 0 });
+    assert!(rt; try_at(&board, &mut source, 0) == Tried::Ran { heard: true });
     assert!(rt; nodes_are(&board, [0, 0, 0, 2], [3, 1, 1, 0]));
-    assert!(rt; finds(&board, &mut seats.one, 0, &SAMPLES) == Some(Some(true)));
+    assert!(rt; try_at(&board, &mut one, 0) == Tried::Ran { heard: true });
     assert!(rt; nodes_are(&board, [0, 0, 0, 1], [3, 3, 1, 0]));
-    assert!(rt; finds(&board, &mut seats.two, 1, &SAMPLES) == Some(Some(true)));
+    assert!(rt; try_at(&board, &mut two, 0) == Tried::Ran { heard: true });
     assert!(rt; nodes_are(&board, [0, 0, 0, 0], [3, 3, 3, 1]));
-    assert!(rt; run_driver(&board, &mut seats.driver, &mut to));
+    assert!(rt; lead.try_node(&board) == Tried::Ran { heard: true });
     assert!(rt; nodes_are(&board, [0, 0, 0, 0], [3, 3, 3, 3]));
     Ok(())
 }
 
+// Begins a cycle, and the source does its work in it.
+fn begin_and_write(board: &Board, lead: &mut Lead, source: &mut Worker) -> Option<Tried>
+    requires lead { IsLeadReadyOn board.now lead.old false }
+    requires ready { IsReadyOn board.now source.old }
+    ensures begun { IfSome result (λ t. IsLeadReadyOn board.now lead.new true) }
+    ensures ready { IsReadyOn board.now source.new }
+{
+    if lead.begin_next(board) {
+        Some(try_at(board, source, 0))
+    } else {
+        None
+    }
+}
+
 #[test]
 fn three_readers_count_down(rt: HostRuntime) -> Result<(), Fail> {
-    let Some((board, mut seats)) = opened(rt.alloc(), 4, 1, 2, &SAMPLES)? else {
-        panic!(rt; "the shape is not sound")
+    let Some((board, mut lead, (mut source, mut one, mut two))) = open_fan(rt.alloc(), 2)? else {
+        panic!(rt; "the fan is not sound")
     };
-    let mut free = Pool::new(rt.alloc(), 2)?;
-    let mut to = [0i16; 4];
     assert!(rt; is_at(&board, 18446744069414584321, 0, 0));
-    let first = begin_and_write(
-        &board,
-        &mut seats.driver,
-        &mut seats.writer,
-        &mut free,
-        &SAMPLES,
-    );
-    let Some(first) = first else {
-        panic!(rt; "the writer did not run")
+    let Some(first) = begin_and_write(&board, &mut lead, &mut source) else {
+        panic!(rt; "no cycle began")
     };
-    assert_eq!(rt;
-        first,
-        Written {
-            given: None,
-            reclaimed: None,
-            used: 0
-        }
-    );
+    assert!(rt; first == Tried::Ran { heard: true });
     assert!(rt; is_at(&board, 2, 3, 18446181136640966657));
-    assert!(rt; finds(&board, &mut seats.one, 0, &SAMPLES) == Some(Some(true)));
+    assert!(rt; try_at(&board, &mut one, 0) == Tried::Ran { heard: true });
     assert!(rt; is_at(&board, 1, 2, 18446181136640966657));
-    assert!(rt; finds(&board, &mut seats.two, 1, &SAMPLES) == Some(Some(true)));
+    assert!(rt; try_at(&board, &mut two, 0) == Tried::Ran { heard: true });
     assert!(rt; is_at(&board, 1, 1, 18446181136640966657));
-    if !run_driver(&board, &mut seats.driver, &mut to) {
-        panic!(rt; "the driver did not run");
-    }
-    assert_eq!(rt; to, SAMPLES);
+    let Tried::Ran { heard: true } = lead.try_node(&board) else {
+        panic!(rt; "the driver did not hear the samples")
+    };
+    assert_eq!(rt; lead.last_read(), SAMPLES.as_slice());
     assert!(rt; is_at(&board, 1, 0, 18446181136640966657));
-    let second = begin_and_write(
-        &board,
-        &mut seats.driver,
-        &mut seats.writer,
-        &mut free,
-        &SAMPLES,
-    );
-    assert!(rt;
-        second
-            == Some(Written {
-                given: Some(0),
-                reclaimed: Some(0),
-                used: 1
-            })
-    );
+    let Some(second) = begin_and_write(&board, &mut lead, &mut source) else {
+        panic!(rt; "no cycle began")
+    };
+    assert!(rt; second == Tried::Ran { heard: true });
     assert!(rt; is_at(&board, 4294967298, 0, 18446181136640966657));
     Ok(())
 }
 
-// All cycles of the writer.
-fn write_all<R: Wait>(rt: &R, board: &Board, mut seat: LoopSeat, mut free: Pool, samples: &[i16])
-    requires fan { IsFan (lay board.now.plot) }
-    requires table { seat.table ≡ board.now.table.shared.table_id }
-    requires rests { WriterRests (lay board.now.plot) seat.knows free.free }
-    requires blocks { free.blocks ≡ 2 }
-    requires steady { IsSteady (lay board.now.plot) seat.knows.expect samples.now }
-    requires long { length samples.now ≡ quantum_of (lay board.now.plot) 0 }
+#[test]
+fn a_row_wakes_node_by_node(rt: HostRuntime) -> Result<(), Fail> {
+    let Some((board, mut lead, (mut ends, mut split))) = open_row(rt.alloc(), 1)? else {
+        panic!(rt; "the row is not sound")
+    };
+    if !lead.begin_next(&board) {
+        panic!(rt; "no cycle began");
+    }
+    assert!(rt; nodes_are(&board, [0, 1, 1, 3], [1, 0, 0, 0]));
+    assert!(rt; try_at(&board, &mut split, 0) == Tried::NotYet { found: 0 });
+    assert!(rt; try_at(&board, &mut ends, 0) == Tried::Ran { heard: true });
+    assert!(rt; nodes_are(&board, [0, 0, 1, 2], [3, 1, 0, 0]));
+    Ok(())
+}
+
+// One cycle of a row by one thread, the lowest node that can run first, with a look after node 1. What it found, where
+// the cycle ended.
+fn one_cycle(board: &Board, lead: &mut Lead, ends: &mut Worker, split: &mut Worker) -> Option<u64>
+    requires lead { IsLeadReadyOn board.now lead.old false }
+    requires ends { IsReadyOn board.now ends.old }
+    requires split { IsReadyOn board.now split.old }
+    ensures lead { IfSome result (λ late. IsLeadReadyOn board.now lead.new false) }
 {
+    if !lead.begin_next(board) {
+        return None;
+    }
+    try_at(board, ends, 0);
+    try_at(board, split, 0);
+    let late = lead.check(board);
+    try_at(board, ends, 1);
+    match lead.try_node(board) {
+        Tried::Ran { .. } => Some(late),
+        _ => None,
+    }
+}
+
+#[test]
+fn one_cycle_with_a_late_check(rt: HostRuntime) -> Result<(), Fail> {
+    let Some((board, mut lead, (mut ends, mut split))) = open_row(rt.alloc(), 1)? else {
+        panic!(rt; "the row is not sound")
+    };
+    let Some(late) = one_cycle(&board, &mut lead, &mut ends, &mut split) else {
+        panic!(rt; "the cycle did not end")
+    };
+    assert_eq!(rt; late, 4);
+    let Some(closed) = lead.close(board) else {
+        panic!(rt; "a cycle is left")
+    };
+    let cycle = 0;
+    let events = [
+        Event::Begin { cycle },
+        Event::Start { cycle, node: 0 },
+        Event::Finish { cycle, node: 0 },
+        Event::Start { cycle, node: 1 },
+        Event::Finish { cycle, node: 1 },
+        Event::Tick { cycle, late: 4 },
+        Event::Start { cycle, node: 2 },
+        Event::Finish { cycle, node: 2 },
+        Event::Start { cycle, node: 3 },
+        Event::Finish { cycle, node: 3 },
+        Event::End { cycle },
+    ];
+    assert_eq!(rt; closed.events().as_slice(), events.as_slice());
+    Ok(())
+}
+
+// How often the first node of a loop, and how often another, ran and heard the samples.
+fn counted(counts: (u64, u64), at: usize, tried: Tried) -> (u64, u64) {
+    match tried {
+        Tried::Ran { heard: true } => {
+            if at == 0 {
+                (counts.0.saturating_add(1), counts.1)
+            } else {
+                (counts.0, counts.1.saturating_add(1))
+            }
+        }
+        _ => counts,
+    }
+}
+
+// One try of each node of a loop. False where none has cycles left.
+fn try_all(board: &Board, worker: &mut Worker, counts: &mut (u64, u64)) -> bool
+    requires ready { IsReadyOn board.now worker.old }
+    ensures ready { IsReadyOn board.now worker.new }
+{
+    let mut has_left = false;
+    for at in 0..worker.nodes().len() {
+        let tried = try_at(board, worker, at);
+        *counts = counted(*counts, at, tried);
+        if tried != Tried::Ended {
+            has_left = true;
+        }
+    }
+    has_left
+}
+
+// All turns of a loop.
+fn run_loop<R: Wait>(rt: &R, board: &Board, mut worker: Worker) -> (u64, u64)
+    requires ready { IsReadyOn board.now worker }
+{
+    let mut counts = (0, 0);
     for _ in rt.forever() {
-        if run_writer(board, &mut seat, &mut free, samples).is_none() {
+        if !try_all(board, &mut worker, &mut counts) {
             break;
         }
     }
+    counts
 }
 
-// All cycles of a reader: in how many it found the samples.
-fn read_all<R: Wait>(rt: &R, board: &Board, mut seat: LoopSeat, link: u32, samples: &[i16]) -> u64
-    requires fan { IsFan (lay board.now.plot) }
-    requires table { seat.table ≡ board.now.table.shared.table_id }
-    requires rests { ReaderRests (lay board.now.plot) seat.knows link }
-    requires four { (length samples.now ≡ 4) × (length samples.now ≡ quantum_of (lay board.now.plot) 0) }
-{
-    let mut found = 0u64;
-    for _ in rt.forever() {
-        match finds(board, &mut seat, link, samples) {
-            Some(Some(true)) => found = found.saturating_add(1),
-            Some(_) => {}
-            None => break,
-        }
-    }
-    found
-}
-
-// One deed of the driver's thread: a try of its node where it waits, whether it found the samples; else the beginning of a
-// cycle, if there is one.
-fn drive_once(
-    board: &Board,
-    seat: &mut DriverSeat,
-    waits: bool,
-    samples: &[i16],
-) -> Option<(bool, bool)>
-    requires fan { IsFan (lay board.now.plot) }
-    requires table { seat.old.table ≡ board.now.table.shared.table_id }
-    requires phase { IsDriving (lay board.now.plot) seat.old.knows waits }
-    requires four { (length samples.now ≡ 4) × (length samples.now ≡ quantum_of (lay board.now.plot) 0) }
-    ensures table { seat.new.table ≡ seat.old.table }
-    ensures phase { IfSome result (λ still. IsDriving (lay board.now.plot) seat.new.knows still.0) }
+// One deed of the driver's loop: a try of its node where it waits, else the beginning of a cycle, if there is one.
+// Whether it waits then, and whether it ran and heard the samples.
+fn drive_once(board: &Board, lead: &mut Lead, waits: bool) -> Option<(bool, bool)>
+    requires ready { IsLeadReadyOn board.now lead.old waits }
+    ensures some { IfSome result (λ t. IsLeadReadyOn board.now lead.new t.0) }
+    ensures none { IsNone result → IsLeadReadyOn board.now lead.new false }
 {
     if waits {
-        let mut to = [0i16; 4];
-        let ran = run_driver(board, seat, &mut to);
-        return Some((!ran, ran && to.as_slice() == samples));
-    }
-    if begin_next(board, seat) {
+        match lead.try_node(board) {
+            Tried::Ran { heard } => Some((false, heard)),
+            _ => Some((true, false)),
+        }
+    } else if lead.begin_next(board) {
         Some((true, false))
     } else {
         None
     }
 }
 
-// All cycles of the driver's thread: in how many it found the samples.
-fn drive<R: Wait>(rt: &R, board: &Board, mut seat: DriverSeat, samples: &[i16]) -> u64
-    requires fan { IsFan (lay board.now.plot) }
-    requires table { seat.table ≡ board.now.table.shared.table_id }
-    requires rests { DriverRests (lay board.now.plot) seat.knows }
-    requires four { (length samples.now ≡ 4) × (length samples.now ≡ quantum_of (lay board.now.plot) 0) }
+// All cycles of the driver's loop: in how many its node heard the samples.
+fn drive<R: Wait>(rt: &R, board: &Board, mut lead: Lead) -> (Lead, u64)
+    requires ready { IsLeadReadyOn board.now lead false }
+    ensures ready { IsLeadReadyOn board.now result.0 false }
 {
     let mut waits = false;
     let mut found = 0u64;
     for _ in rt.forever() {
-        match drive_once(board, &mut seat, waits, samples) {
-            Some((still, right)) => {
+        match drive_once(board, &mut lead, waits) {
+            Some((still, heard)) => {
                 waits = still;
-                found = found.saturating_add(u64::from(right));
+                if heard {
+                    found = found.saturating_add(1);
+                }
             }
-            None => break,
+            None => return (lead, found),
         }
     }
-    found
+    (lead, found)
 }
 
-// Two readers, each in a thread.
-fn read_both<R: Threads + Wait + Sync>(
+// Two loops, each in a thread.
+fn run_both<R: Threads + Wait + Sync>(
     rt: &R,
     board: &Board,
-    one: LoopSeat,
-    two: LoopSeat,
-    samples: &[i16],
-) -> (u64, u64)
-    requires fan { IsFan (lay board.now.plot) }
-    requires one { one.table ≡ board.now.table.shared.table_id }
-    requires two { two.table ≡ board.now.table.shared.table_id }
-    requires first { ReaderRests (lay board.now.plot) one.knows 0 }
-    requires second { ReaderRests (lay board.now.plot) two.knows 1 }
-    requires four { (length samples.now ≡ 4) × (length samples.now ≡ quantum_of (lay board.now.plot) 0) }
+    one: Worker,
+    two: Worker,
+) -> ((u64, u64), (u64, u64))
+    requires one { IsReadyOn board.now one }
+    requires two { IsReadyOn board.now two }
 {
     join(
         rt,
-        move ||
-            requires fan { IsFan (lay board.now.plot) }
-            requires one { one.table ≡ board.now.table.shared.table_id }
-            requires first { ReaderRests (lay board.now.plot) one.knows 0 }
-            requires four { (length samples.now ≡ 4) × (length samples.now ≡ quantum_of (lay board.now.plot) 0) }
-        { read_all(rt, board, one, 0, samples) },
-        move ||
-            requires fan { IsFan (lay board.now.plot) }
-            requires two { two.table ≡ board.now.table.shared.table_id }
-            requires second { ReaderRests (lay board.now.plot) two.knows 1 }
-            requires four { (length samples.now ≡ 4) × (length samples.now ≡ quantum_of (lay board.now.plot) 0) }
-        { read_all(rt, board, two, 1, samples) },
+        move || run_loop(rt, board, one),
+        move || run_loop(rt, board, two),
     )
 }
 
-// The driver, which reads, and the writer, each in a thread.
-fn drive_and_write<R: Threads + Wait + Sync>(
+// The driver's loop beside two others.
+fn run_row<R: Threads + Wait + Sync>(
     rt: &R,
     board: &Board,
-    driver: DriverSeat,
-    writer: LoopSeat,
-    free: Pool,
-    samples: &[i16],
-) -> u64
-    requires fan { IsFan (lay board.now.plot) }
-    requires driver { driver.table ≡ board.now.table.shared.table_id }
-    requires writer { writer.table ≡ board.now.table.shared.table_id }
-    requires between { DriverRests (lay board.now.plot) driver.knows }
-    requires rests { WriterRests (lay board.now.plot) writer.knows free.free }
-    requires blocks { free.blocks ≡ 2 }
-    requires steady { IsSteady (lay board.now.plot) writer.knows.expect samples.now }
-    requires four { (length samples.now ≡ 4) × (length samples.now ≡ quantum_of (lay board.now.plot) 0) }
+    lead: Lead,
+    one: Worker,
+    two: Worker,
+) -> ((Lead, u64), ((u64, u64), (u64, u64)))
+    requires lead { IsLeadReadyOn board.now lead false }
+    requires one { IsReadyOn board.now one }
+    requires two { IsReadyOn board.now two }
+    ensures lead { IsLeadReadyOn board.now result.0.0 false }
 {
-    let (found, ()) = join(
+    join(
         rt,
+        move || drive(rt, board, lead),
         move ||
-            requires fan { IsFan (lay board.now.plot) }
-            requires driver { driver.table ≡ board.now.table.shared.table_id }
-            requires between { DriverRests (lay board.now.plot) driver.knows }
-            requires four { (length samples.now ≡ 4) × (length samples.now ≡ quantum_of (lay board.now.plot) 0) }
-        { drive(rt, board, driver, samples) },
-        move ||
-            requires fan { IsFan (lay board.now.plot) }
-            requires writer { writer.table ≡ board.now.table.shared.table_id }
-            requires rests { WriterRests (lay board.now.plot) writer.knows free.free }
-            requires blocks { free.blocks ≡ 2 }
-            requires steady { IsSteady (lay board.now.plot) writer.knows.expect samples.now }
-            requires four { (length samples.now ≡ 4) × (length samples.now ≡ quantum_of (lay board.now.plot) 0) }
-        { write_all(rt, board, writer, free, samples) },
-    );
-    found
+            requires one { IsReadyOn board.now one }
+            requires two { IsReadyOn board.now two }
+        { run_both(rt, board, one, two) },
+    )
 }
 
-// All four, each in a thread: in how many cycles each reader found the samples.
-fn run_all<R: Threads + Wait + Sync>(
+// The driver's loop beside three others: how often each heard the samples.
+fn run_fan<R: Threads + Wait + Sync>(
     rt: &R,
     board: &Board,
-    seats: Seats,
-    free: Pool,
-    samples: &[i16],
+    lead: Lead,
+    loops: (Worker, Worker, Worker),
+) -> ((u64, (u64, u64)), ((u64, u64), (u64, u64)))
+    requires lead { IsLeadReadyOn board.now lead false }
+    requires first { IsReadyOn board.now loops.0 }
+    requires second { IsReadyOn board.now loops.1 }
+    requires third { IsReadyOn board.now loops.2 }
+{
+    let (source, one, two) = loops;
+    join(
+        rt,
+        move ||
+            requires lead { IsLeadReadyOn board.now lead false }
+            requires source { IsReadyOn board.now source }
+        { drive_beside(rt, board, lead, source) },
+        move ||
+            requires one { IsReadyOn board.now one }
+            requires two { IsReadyOn board.now two }
+        { run_both(rt, board, one, two) },
+    )
+}
+
+// The driver's loop beside one other.
+fn drive_beside<R: Threads + Wait + Sync>(
+    rt: &R,
+    board: &Board,
+    lead: Lead,
+    worker: Worker,
 ) -> (u64, (u64, u64))
-    requires fan { IsFan (lay board.now.plot) }
-    requires writer { seats.writer.table ≡ board.now.table.shared.table_id }
-    requires one { seats.one.table ≡ board.now.table.shared.table_id }
-    requires two { seats.two.table ≡ board.now.table.shared.table_id }
-    requires driver { seats.driver.table ≡ board.now.table.shared.table_id }
-    requires rests { WriterRests (lay board.now.plot) seats.writer.knows free.free × (free.blocks ≡ 2) × IsSteady (lay board.now.plot) seats.writer.knows.expect samples.now }
-    requires readers { ReaderRests (lay board.now.plot) seats.one.knows 0 × ReaderRests (lay board.now.plot) seats.two.knows 1 }
-    requires between { DriverRests (lay board.now.plot) seats.driver.knows }
-    requires four { (length samples.now ≡ 4) × (length samples.now ≡ quantum_of (lay board.now.plot) 0) }
+    requires lead { IsLeadReadyOn board.now lead false }
+    requires ready { IsReadyOn board.now worker }
 {
-    let Seats {
-        writer,
-        one,
-        two,
-        driver,
-    } = seats;
-    join(
+    let ((_lead, found), counts) = join(
         rt,
-        move ||
-            requires fan { IsFan (lay board.now.plot) }
-            requires driver { driver.table ≡ board.now.table.shared.table_id }
-            requires writer { writer.table ≡ board.now.table.shared.table_id }
-            requires between { DriverRests (lay board.now.plot) driver.knows }
-            requires rests { WriterRests (lay board.now.plot) writer.knows free.free }
-            requires blocks { free.blocks ≡ 2 }
-            requires steady { IsSteady (lay board.now.plot) writer.knows.expect samples.now }
-            requires four { (length samples.now ≡ 4) × (length samples.now ≡ quantum_of (lay board.now.plot) 0) }
-        { drive_and_write(rt, board, driver, writer, free, samples) },
-        move ||
-            requires fan { IsFan (lay board.now.plot) }
-            requires one { one.table ≡ board.now.table.shared.table_id }
-            requires two { two.table ≡ board.now.table.shared.table_id }
-            requires first { ReaderRests (lay board.now.plot) one.knows 0 }
-            requires second { ReaderRests (lay board.now.plot) two.knows 1 }
-            requires four { (length samples.now ≡ 4) × (length samples.now ≡ quantum_of (lay board.now.plot) 0) }
-        { read_both(rt, board, one, two, samples) },
-    )
+        move || drive(rt, board, lead),
+        move || run_loop(rt, board, worker),
+    );
+    (found, counts)
 }
 
 #[test]
 fn three_threads_read_one_block(rt: HostRuntime) -> Result<(), Fail> {
-    let Some((board, seats)) = opened(rt.alloc(), 4, 1, 1000, &SAMPLES)? else {
-        panic!(rt; "the shape is not sound")
+    let Some((board, lead, loops)) = open_fan(rt.alloc(), 1000)? else {
+        panic!(rt; "the fan is not sound")
     };
-    let free = Pool::new(rt.alloc(), 2)?;
-    let found = run_all(&rt, &board, seats, free, &SAMPLES);
-    assert_eq!(rt; found, (1000, (1000, 1000)));
+    let (driver_and_source, readers) = run_fan(&rt, &board, lead, loops);
+    assert_eq!(rt; driver_and_source, (1000, (1000, 0)));
+    assert_eq!(rt; readers, ((1000, 0), (1000, 0)));
+    Ok(())
+}
+
+#[test]
+fn a_row_runs_a_thousand_cycles(rt: HostRuntime) -> Result<(), Fail> {
+    let Some((board, lead, (ends, split))) = open_row(rt.alloc(), 1000)? else {
+        panic!(rt; "the row is not sound")
+    };
+    let ((lead, found), counts) = run_row(&rt, &board, lead, ends, split);
+    assert_eq!(rt; found, 1000);
+    assert_eq!(rt; counts, ((1000, 1000), (1000, 0)));
+    assert!(rt; nodes_are(&board, [0, 0, 0, 0], [3999, 3999, 3999, 3999]));
+    let Some(closed) = lead.close(board) else {
+        panic!(rt; "a cycle is left")
+    };
+    assert_eq!(rt; closed.events().len(), 10_000);
+    let epoch = Epoch {
+        shape: row(rt.alloc(), 1000)?,
+        forms: Items::new(rt.alloc()),
+        fresh: Items::new(rt.alloc()),
+    };
+    assert!(rt; is_legal_history(&[epoch], closed.events().as_slice()));
     Ok(())
 }

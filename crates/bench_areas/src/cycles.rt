@@ -1,86 +1,77 @@
 //! The cycles, by one thread.
-ghost use Rattle.std.specs.Prelude.{◌≡◌, length, IsTrue, IfOk};
-ghost use Rattle.board_rule.specs.Layout.{lay};
-ghost use Rattle.io_areas.specs.Quanta.{quantum_of};
-ghost use Rattle.area_runs.specs.Fan.{IsFan};
-ghost use Rattle.area_runs.specs.Rests.{IsSteady, WriterRests, ReaderRests, DriverRests};
+ghost use Rattle.std.specs.Prelude.{◌≡◌, false, length, slice_get, IfSome, IsTrue, Some};
+ghost use Rattle.area_runs.specs.Ready.{IsReadyOn, IsLeadReadyOn};
 
-use area_runs::{Seats, begin_next, opened, run_driver, run_reader, run_writer};
+use area_runs::{Lead, Run, Tried, Worker, fan, opened};
 use board_rule::Board;
-use buffer_pool::Pool;
 use pw_base::{Items, Memory};
 use std::alloc::Global;
 
-// The readers of the links 0 and 1.
-fn read_both(board: &Board, seats: &mut Seats, to: &mut [i16])
-    requires fan { IsFan (lay board.now.plot) }
-    requires one { seats.old.one.table ≡ board.now.table.shared.table_id }
-    requires two { seats.old.two.table ≡ board.now.table.shared.table_id }
-    requires readers { ReaderRests (lay board.now.plot) seats.old.one.knows 0 × ReaderRests (lay board.now.plot) seats.old.two.knows 1 }
-    requires long { length to.old ≡ quantum_of (lay board.now.plot) 0 }
-    ensures same { (seats.new.writer ≡ seats.old.writer) × (seats.new.driver ≡ seats.old.driver) }
-    ensures one { seats.new.one.table ≡ seats.old.one.table }
-    ensures two { seats.new.two.table ≡ seats.old.two.table }
-    ensures readers { ReaderRests (lay board.now.plot) seats.new.one.knows 0 × ReaderRests (lay board.now.plot) seats.new.two.knows 1 }
+// The loops of the fan: of the source and of two readers.
+#[derive(Drop)]
+struct Loops {
+    source: Worker,
+    one: Worker,
+    two: Worker,
+}
+
+// Three loops, in their order.
+fn three(workers: Items<Worker>) -> Option<Loops>
+    requires { length workers ≡ 3 }
+    ensures source { IfSome result (λ t. slice_get workers 0 ≡ Some t.source) }
+    ensures one { IfSome result (λ t. slice_get workers 1 ≡ Some t.one) }
+    ensures two { IfSome result (λ t. slice_get workers 2 ≡ Some t.two) }
 {
-    run_reader(board, &mut seats.one, 0, to);
-    run_reader(board, &mut seats.two, 1, to);
+    let mut workers = workers;
+    let two = workers.pop()?;
+    let one = workers.pop()?;
+    let source = workers.pop()?;
+    Some(Loops { source, one, two })
+}
+
+// One try of the first node of a loop, if it has one.
+fn try_first(board: &Board, worker: &mut Worker)
+    requires ready { IsReadyOn board.now worker.old }
+    ensures ready { IsReadyOn board.now worker.new }
+{
+    if worker.nodes().len() > 0 {
+        worker.try_node(board, 0);
+    }
+}
+
+// One try of each loop.
+fn try_loops(board: &Board, loops: &mut Loops)
+    requires source { IsReadyOn board.now loops.old.source }
+    requires one { IsReadyOn board.now loops.old.one }
+    requires two { IsReadyOn board.now loops.old.two }
+    ensures source { IsReadyOn board.now loops.new.source }
+    ensures one { IsReadyOn board.now loops.new.one }
+    ensures two { IsReadyOn board.now loops.new.two }
+{
+    try_first(board, &mut loops.source);
+    try_first(board, &mut loops.one);
+    try_first(board, &mut loops.two);
 }
 
 // One cycle. False where none is left.
-fn run_cycle(
-    board: &Board,
-    seats: &mut Seats,
-    free: &mut Pool,
-    samples: &[i16],
-    to: &mut [i16],
-) -> bool
-    requires fan { IsFan (lay board.now.plot) }
-    requires tables { (seats.old.writer.table ≡ board.now.table.shared.table_id) × (seats.old.one.table ≡ board.now.table.shared.table_id) × (seats.old.two.table ≡ board.now.table.shared.table_id) × (seats.old.driver.table ≡ board.now.table.shared.table_id) }
-    requires writer { WriterRests (lay board.now.plot) seats.old.writer.knows free.old.free × (free.old.blocks ≡ 2) × IsSteady (lay board.now.plot) seats.old.writer.knows.expect samples.now }
-    requires readers { ReaderRests (lay board.now.plot) seats.old.one.knows 0 × ReaderRests (lay board.now.plot) seats.old.two.knows 1 }
-    requires driver { DriverRests (lay board.now.plot) seats.old.driver.knows }
-    requires samples { length samples.now ≡ quantum_of (lay board.now.plot) 0 }
-    requires long { length to.old ≡ quantum_of (lay board.now.plot) 0 }
-    ensures tables { (seats.new.writer.table ≡ board.now.table.shared.table_id) × (seats.new.one.table ≡ board.now.table.shared.table_id) × (seats.new.two.table ≡ board.now.table.shared.table_id) × (seats.new.driver.table ≡ board.now.table.shared.table_id) }
-    ensures writer { WriterRests (lay board.now.plot) seats.new.writer.knows free.new.free × (free.new.blocks ≡ 2) × IsSteady (lay board.now.plot) seats.new.writer.knows.expect samples.now }
-    ensures readers { ReaderRests (lay board.now.plot) seats.new.one.knows 0 × ReaderRests (lay board.now.plot) seats.new.two.knows 1 }
-    ensures driver { IsTrue result → DriverRests (lay board.now.plot) seats.new.driver.knows }
+fn run_cycle(board: &Board, lead: &mut Lead, loops: &mut Loops) -> bool
+    requires lead { IsLeadReadyOn board.now lead.old false }
+    requires source { IsReadyOn board.now loops.old.source }
+    requires one { IsReadyOn board.now loops.old.one }
+    requires two { IsReadyOn board.now loops.old.two }
+    ensures lead { IsTrue result → IsLeadReadyOn board.now lead.new false }
+    ensures source { IsReadyOn board.now loops.new.source }
+    ensures one { IsReadyOn board.now loops.new.one }
+    ensures two { IsReadyOn board.now loops.new.two }
 {
-    if !begin_next(board, &mut seats.driver) {
+    if !lead.begin_next(board) {
         return false;
     }
-    run_writer(board, &mut seats.writer, free, samples);
-    read_both(board, seats, to);
-    run_driver(board, &mut seats.driver, to)
-}
-
-// All cycles: how many there were, and a checksum of what the driver's node read.
-fn run_all(
-    board: &Board,
-    seats: &mut Seats,
-    free: &mut Pool,
-    samples: &[i16],
-    to: &mut [i16],
-) -> (u64, u64)
-    requires fan { IsFan (lay board.now.plot) }
-    requires tables { (seats.old.writer.table ≡ board.now.table.shared.table_id) × (seats.old.one.table ≡ board.now.table.shared.table_id) × (seats.old.two.table ≡ board.now.table.shared.table_id) × (seats.old.driver.table ≡ board.now.table.shared.table_id) }
-    requires writer { WriterRests (lay board.now.plot) seats.old.writer.knows free.old.free × (free.old.blocks ≡ 2) × IsSteady (lay board.now.plot) seats.old.writer.knows.expect samples.now }
-    requires readers { ReaderRests (lay board.now.plot) seats.old.one.knows 0 × ReaderRests (lay board.now.plot) seats.old.two.knows 1 }
-    requires driver { DriverRests (lay board.now.plot) seats.old.driver.knows }
-    requires samples { length samples.now ≡ quantum_of (lay board.now.plot) 0 }
-    requires long { length to.old ≡ quantum_of (lay board.now.plot) 0 }
-{
-    let mut ran = 0u64;
-    let mut sum = 0u64;
-    for _cycle in 0..board.shape().cycles {
-        if !run_cycle(board, seats, free, samples, to) {
-            break;
-        }
-        ran = ran.saturating_add(1);
-        sum = sum.wrapping_mul(31).wrapping_add(last_bits(to));
+    try_loops(board, loops);
+    match lead.try_node(board) {
+        Tried::Ran { .. } => true,
+        _ => false,
     }
-    (ran, sum)
 }
 
 // The last sample as a number.
@@ -91,11 +82,25 @@ fn last_bits(samples: &[i16]) -> u64 {
     }
 }
 
-// A quantum of samples.
-fn samples_of(alloc: Global, count: usize) -> Result<Items<i16>, Memory>
-    ensures { IfOk result (λ samples. length samples ≡ count) }
+// All cycles: how many there were, and a checksum of what the driver's node read.
+fn run_all(board: &Board, mut lead: Lead, mut loops: Loops) -> (u64, u64)
+    requires lead { IsLeadReadyOn board.now lead false }
+    requires source { IsReadyOn board.now loops.source }
+    requires one { IsReadyOn board.now loops.one }
+    requires two { IsReadyOn board.now loops.two }
 {
-    Items::filled(alloc, count, -12345)
+    let mut ran = 0u64;
+    let mut sum = 0u64;
+    for _cycle in 0..board.shape().cycles {
+        if !run_cycle(board, &mut lead, &mut loops) {
+            break;
+        }
+        ran = ran.saturating_add(1);
+        sum = sum
+            .wrapping_mul(31)
+            .wrapping_add(last_bits(lead.last_read()));
+    }
+    (ran, sum)
 }
 
 /// Runs so many cycles, each with one quantum of samples. None where the shape is not sound.
@@ -109,15 +114,19 @@ pub fn run_cycles(
     if count > 65536 {
         return Ok(None);
     }
-    let kept = samples_of(alloc, count as usize)?;
-    let samples = kept.as_slice();
-    let mut room = Items::filled(alloc, count as usize, 0)?;
-    let to = room.as_mut_slice();
-    let mut free = Pool::new(alloc, 2)?;
-    match opened(alloc, quantum, channels, cycles, samples)? {
-        Some((board, mut seats)) => {
-            Ok(Some(run_all(&board, &mut seats, &mut free, samples, to)))
-        }
+    let samples = Items::filled(alloc, count as usize, -12345)?;
+    let shape = fan(alloc, quantum, channels, cycles)?;
+    let seat_of = Items::from_slice(alloc, &[0, 1, 2, 0])?;
+    let Some(run) = opened(alloc, &shape, &seat_of, 3, samples.as_slice())? else {
+        return Ok(None);
+    };
+    let Run {
+        board,
+        lead,
+        workers,
+    } = run;
+    match three(workers) {
+        Some(loops) => Ok(Some(run_all(&board, lead, loops))),
         None => Ok(None),
     }
 }

@@ -1,5 +1,5 @@
 use Rattle.std.proofs.Common.{ℕ, ℤ, ◌<◌, length, get_or}
-use Rattle.area_runs.specs.Rests.{IsShort}
+use Rattle.area_runs.specs.Steady.{IsShort}
 use Rattle.area_runs.proofs.opening.look_over.Given as goal
 
 abbrev pub invariant-loop-k : goal.invariant-loop-k

@@ -1,52 +1,50 @@
-use Rattle.std.proofs.Common.{◌≡◌, ◌∙◌, ℕ, List, [], ◌∷◌, get_or, sym, ap, subst, arith}
-use Rattle.std.specs.Prelude.{unwrap_or}
-use Rattle.board_rule.specs.declared.view.View.{View}
+use Rattle.std.proofs.Common.{◌≡◌, ◌∙◌, ◌<◌, ℕ, false, List, sym, ap, subst, arith}
+use Rattle.std.proofs.lemmas.Option.{slice_get_within, get_or_from_slice_get}
+use Rattle.atomic_table.specs.Seated.{TableId}
 use Rattle.board_rule.specs.declared.plot.Plot.{Plot}
-use Rattle.pw_base.specs.declared.shape.Shape.{Shape}
-use Rattle.board_rule.specs.Layout.{lay}
 use Rattle.board_rule.specs.Known.{Known}
-use Rattle.board_rule.specs.View.{Samples, loop_view}
+use Rattle.board_rule.specs.Layout.{lay, IsSound}
+use Rattle.board_rule.specs.View.{Samples, loop_view, driver_view}
 use Rattle.board_rule.specs.SampleWords.{IsTable}
-use Rattle.area_runs.specs.Fan.{IsFan}
-use Rattle.area_runs.specs.Rests.{steady, IsSteady, WriterRests, ReaderRests, DriverRests}
-use Rattle.area_runs.proofs.FanLemmas.{is_fan, fan_quantum}
-use Rattle.area_runs.proofs.OpenLemmas.{is_table, is_steady, writer_begins, reader_begins, driver_begins}
+use Rattle.area_runs.specs.declared.worker.Worker.{Worker}
+use Rattle.area_runs.specs.Steady.{steady}
+use Rattle.area_runs.specs.Ready.{IsReady, IsLeadReady}
+use Rattle.area_runs.specs.Making.{IsMade, IsLeadMade, AreMade}
+use Rattle.area_runs.proofs.OpeningLemmas.{is_table, worker_begins, workers_first, lead_begins, lead_first}
 use Rattle.area_runs.proofs.opening.open.Goals as goal
 
 pub new-requires-clause-samples : goal.new-requires-clause-samples
-new-requires-clause-samples g c = let plot : Plot = record { shape = c.args.shape.now; seat_of = c.in_ok-seat_of.seat_of; seats = 3 } in
-    subst (λ (e : Samples). IsTable (lay plot) e) (sym c.requires.table)
-    (is_table (lay plot) (is_fan plot c.args.quantum c.args.channels c.args.shape.now.cycles c.requires.fan c.requires.some) c.args.samples.now c.look_over.ensures (c.requires.long ∙ sym (fan_quantum plot c.args.quantum c.args.channels c.args.shape.now.cycles c.requires.fan)))
+new-requires-clause-samples g c = let plot : Plot = record { shape = c.args.shape.now; seat_of = c.args.seat_of.now; seats = c.args.seats } in
+    subst (IsTable (lay plot)) (sym c.requires.table) (is_table (lay plot) c.args.samples.now c.requires.openable.fit c.look_over.ensures)
 
-pub returns-in-Some-clause-fan : goal.returns-in-Some-clause-fan
-returns-in-Some-clause-fan g c = let b = c.in_ok-board.board in let shape : b.plot.shape ≡ c.args.shape.now = ap (λ (q : Plot). q.shape) c.in_ok-board.ensures.plot in
-    (is_fan b.plot c.args.quantum c.args.channels c.args.shape.now.cycles (shape ∙ c.requires.fan) c.requires.some, shape)
-
-pub returns-in-Some-clause-writer : goal.returns-in-Some-clause-writer
-returns-in-Some-clause-writer g c = let b = c.in_ok-board.board in let p = lay b.plot in let e : Samples = g.E.Expect.expect in let plot = c.in_ok-board.ensures.plot in
-    let shape : b.plot.shape ≡ c.args.shape.now = ap (λ (q : Plot). q.shape) plot in
-    let fan : IsFan p = is_fan b.plot c.args.quantum c.args.channels c.args.shape.now.cycles (shape ∙ c.requires.fan) c.requires.some in
-    let seat : Known = record { table = b.table.shared.table_id; knows = loop_view p e 0 } in
-    let s : c.in-Some.writer ≡ seat = ap (λ o. unwrap_or o seat) (sym c.in-Some.ensures.0 ∙ c.in_ok-board.ensures.loops 0 (omega arith)) in
-    let count : p.seats ≡ 3 = ap (λ (q : Plot). q.seats) plot in let of_seat : b.plot.seat_of ≡ 0 ∷ 1 ∷ 2 ∷ 0 ∷ [] = ap (λ (q : Plot). q.seat_of) plot ∙ c.in_ok-seat_of.ensures in
-    let knows = sym (ap (λ (k : Known). k.knows) s) in let table : e ≡ steady p.shape.cycles c.args.samples.now = c.requires.table ∙ ap (λ (h : Shape). steady h.cycles c.args.samples.now) (sym shape) in (
-      subst (λ (v : View). WriterRests p v (0 ∷ 1 ∷ [])) knows (writer_begins p fan e 0 (ap (λ (l : List ℕ). get_or l 0 0) of_seat) (omega arith)),
-      subst (λ (v : View). IsSteady p v.expect c.args.samples.now) knows (subst (λ (t : Samples). IsSteady p t c.args.samples.now) (sym table)
-          (is_steady p fan c.args.samples.now c.look_over.ensures (c.requires.long ∙ sym (fan_quantum b.plot c.args.quantum c.args.channels c.args.shape.now.cycles (shape ∙ c.requires.fan))))),
-    )
-
-pub returns-in-Some-clause-readers : goal.returns-in-Some-clause-readers
-returns-in-Some-clause-readers g c = let b = c.in_ok-board.board in let p = lay b.plot in let e : Samples = g.E.Expect.expect in let plot = c.in_ok-board.ensures.plot in
-    let fan : IsFan p = is_fan b.plot c.args.quantum c.args.channels c.args.shape.now.cycles (ap (λ (q : Plot). q.shape) plot ∙ c.requires.fan) c.requires.some in
-    let seat : ℕ → Known = λ k. record { table = b.table.shared.table_id; knows = loop_view p e k } in
-    let s : c.in-Some.one ≡ seat 1 = ap (λ o. unwrap_or o (seat 1)) (sym c.in-Some.ensures.1 ∙ c.in_ok-board.ensures.loops 1 (omega arith)) in
-    let t : c.in-Some.two ≡ seat 2 = ap (λ o. unwrap_or o (seat 2)) (sym c.in-Some.ensures.2 ∙ c.in_ok-board.ensures.loops 2 (omega arith)) in
-    let count : p.seats ≡ 3 = ap (λ (q : Plot). q.seats) plot in let of_seat : b.plot.seat_of ≡ 0 ∷ 1 ∷ 2 ∷ 0 ∷ [] = ap (λ (q : Plot). q.seat_of) plot ∙ c.in_ok-seat_of.ensures in let d = fan.driver_is in (
-      subst (λ (v : View). ReaderRests p v 0) (sym (ap (λ (k : Known). k.knows) s)) (reader_begins p fan e 1 0 (omega arith) (λ z. omega arith) (ap (λ (l : List ℕ). get_or l 1 0) of_seat) (omega arith)),
-      subst (λ (v : View). ReaderRests p v 1) (sym (ap (λ (k : Known). k.knows) t)) (reader_begins p fan e 2 1 (omega arith) (λ z. omega arith) (ap (λ (l : List ℕ). get_or l 2 0) of_seat) (omega arith)),
-    )
-
-pub returns-in-Some-clause-driver : goal.returns-in-Some-clause-driver
-returns-in-Some-clause-driver g c = let b = c.in_ok-board.board in let p = lay b.plot in let plot = c.in_ok-board.ensures.plot in
-    let fan : IsFan p = is_fan b.plot c.args.quantum c.args.channels c.args.shape.now.cycles (ap (λ (q : Plot). q.shape) plot ∙ c.requires.fan) c.requires.some in
-    subst (λ (v : View). DriverRests p v) (sym (ap (λ (k : Known). k.knows) c.in_ok-board.ensures.driver)) (driver_begins p fan g.E.Expect.expect 3 b.sound)
+pub returns : goal.returns
+returns g c = let plot : Plot = record { shape = c.args.shape.now; seat_of = c.args.seat_of.now; seats = c.args.seats } in let xs = c.args.samples.now in
+    let ok = c.requires.openable in
+    let b = c.in_ok-board.board in let t : TableId = b.table.shared.table_id in let e = c.in_ok-board.ensures in let some = ok.seats.some_seats in
+    let sound : IsSound (lay plot) = subst (λ (q : Plot). IsSound (lay q)) e.plot b.sound in
+    let driver : c.in_ok-board.driver ≡ record { table = t; knows = driver_view (lay plot) (steady plot.shape xs) plot.seats } = e.driver
+    ∙ ap (λ (x : Plot × Samples). record { table = t; knows = driver_view (lay x.0) x.1 plot.seats }) (λ i. (e.plot i, c.requires.table i)) in
+    let made : AreMade plot xs c.in_ok-board.loops c.in_ok-workers.workers =
+    subst (λ (s : List ℕ). AreMade (record { shape = c.args.shape.now; seat_of = s; seats = c.args.seats }) xs c.in_ok-board.loops c.in_ok-workers.workers)
+    c.as_slice.ensures (c.in_ok-workers.ensures c.args.seats) in
+    let lead = subst (λ s. IsLeadMade plot.shape xs s c.in_ok-lead.lead) driver c.in_ok-lead.ensures in
+    let begins = lead_first plot sound xs ok t plot.seats some c.in_ok-lead.lead lead in record {
+      plot_is = e.plot;
+      lead = subst (λ (q : Plot). IsLeadReady (lay q) t c.in_ok-lead.lead false) (sym e.plot)
+          (lead_begins plot sound xs ok t plot.seats some c.in_ok-lead.lead lead);
+      first_is = begins.0;
+      no_looks = begins.1;
+      expect_is = begins.2;
+      count = made.count ∙ e.count;
+      workers = λ k w at. let within = slice_get_within c.in_ok-workers.workers k w at in let count = made.count in let many = e.count in
+          let low : k < plot.seats = omega arith in
+          let seat : Known = record { table = t; knows = loop_view (lay plot) (steady plot.shape xs) k } in
+          let loop = get_or_from_slice_get c.in_ok-board.loops k _ seat (e.loops k low)
+          ∙ ap (λ (x : Plot × Samples). record { table = t; knows = loop_view (lay x.0) x.1 k }) (λ i. (e.plot i, c.requires.table i)) in
+          let is = subst (λ (x : Known × Worker). IsMade plot xs k x.0 x.1) (λ i. (loop i, get_or_from_slice_get c.in_ok-workers.workers k w w at i))
+          (made.each k seat w (omega arith)) in (
+            subst (λ (q : Plot). IsReady (lay q) t w) (sym e.plot) (worker_begins plot sound xs ok t k low w is),
+            is.nodes_are,
+            workers_first plot sound xs ok t k w is,
+          );
+    }

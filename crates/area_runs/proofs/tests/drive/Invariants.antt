@@ -1,7 +1,5 @@
-use Rattle.std.proofs.Common.{◌≡◌}
-use Rattle.board_rule.specs.Layout.{lay}
-use Rattle.area_runs.specs.Rests.{IsDriving}
+use Rattle.area_runs.specs.Ready.{IsLeadReadyOn}
 use Rattle.area_runs.proofs.tests.drive.Given as goal
 
 abbrev pub invariant-loop : goal.invariant-loop
-invariant-loop g l = (goal.iterator-loop g).can_next l.iterator' × (goal.iterator-loop g).is_finite l.iterator' × (l.seat.table ≡ l.fn.seat.table) × IsDriving (lay l.board.plot) l.seat.knows l.waits
+invariant-loop g l = (goal.iterator-loop g).can_next l.iterator' × (goal.iterator-loop g).is_finite l.iterator' × IsLeadReadyOn l.board l.lead l.waits

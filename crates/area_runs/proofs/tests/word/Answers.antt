@@ -1,7 +1,7 @@
 use Rattle.std.proofs.Common.{◌≡◌, ◌<◌, refl, sym, subst}
 use Rattle.pw_base.specs.declared.shape.Shape.{Shape}
 use Rattle.board_rule.specs.Places.{word_count}
-use Rattle.area_runs.specs.Fan.{fan}
+use Rattle.area_runs.specs.Shapes.{fan}
 use Rattle.area_runs.proofs.tests.word.Goals as goal
 
 forty : word_count (fan 4 1 2) ≡ 40

@@ -1,0 +1,116 @@
+-- From step to step of the driver's loop.
+use Rattle.std.proofs.Common.{◌≡◌, ◌≢◌, ℕ, ℤ, ◌+◌, ◌<◌, true, List, length, refl, sym, ap, ◌∙◌, subst, arith}
+use Rattle.std.specs.Prelude.{All, slice_index_or}
+use Rattle.std.proofs.lemmas.List.{get_or_default}
+use Rattle.board_rule.specs.declared.plot.Plot.{Plot}
+use Rattle.board_rule.specs.declared.view.Drive.TheVariants.{Running}
+use Rattle.board_rule.specs.declared.view.ReadView.{ReadView}
+use Rattle.board_rule.specs.declared.view.View.{View}
+use Rattle.board_rule.specs.Layout.{Lay, lay, nodes, last}
+use Rattle.board_rule.specs.View.{unread}
+use Rattle.board_rule.specs.EndViews.{reader_of, pool_of, link_at}
+use Rattle.board_rule.specs.Steps.{HasNode, IsReadyToFinish}
+use Rattle.board_rule.proofs.WiringLemmas.{wired}
+use Rattle.board_rule.proofs.HolderLemmas.{link_there}
+use Rattle.activation_words.specs.Calls.{HasFinished}
+use Rattle.activation_words.specs.CycleCalls.{HasBegun, HasChecked, HasEnded}
+use Rattle.activation_words.specs.Members.{IsBetween, IsWaiting}
+use Rattle.area_turns.specs.Plain.{IsPlain}
+use Rattle.area_turns.specs.Ends.{IsReadUpTo}
+use Rattle.area_runs.specs.Ends.{reads_of}
+use Rattle.area_runs.specs.Steady.{IsSteady}
+use Rattle.area_runs.specs.Hearing.{MayHearAll, Gives, AreHeard}
+use Rattle.area_runs.proofs.EndsLemmas.{of_pool, read_by, reads_it, reads_once}
+use Rattle.area_runs.proofs.HearingLemmas.{read_moves}
+
+-- the links that the driver's node reads are even in its cycle
+abbrev pub IsLeadEven : Lay → View → ℕ → Type 0
+IsLeadEven p v c = (k : ℕ) → k < length p.shape.links → reader_of p k ≡ p.driver → IsReadUpTo v k c
+
+pub lead_moves : (p : Lay) (v w : View) (c d : ℕ) → w.reads ≡ v.reads → d ≡ c → IsLeadEven p v c → IsLeadEven p w d
+lead_moves p v w c d rs e h k low is = subst (IsReadUpTo w k) (sym e)
+    (read_moves v w k c (ap (λ (x : List ReadView). length x) rs) (ap (λ (x : List ReadView). slice_index_or x k (unread 0)) rs) (h k low is))
+
+module _ (p : Lay) (v w : View) where
+  pub begun_waits : HasNode true p v p.driver → HasBegun p v w → IsWaiting p w
+  begun_waits h b = record { node = subst (λ (x : View). HasNode true p x p.driver) (sym b.is) h; waits = ap (λ (x : View). x.lead.drive) b.is }
+
+  pub checked_waits : (late : ℕ) → IsWaiting p v → HasChecked p v late w → IsWaiting p w
+  checked_waits late h b = record {
+    node = subst (λ (x : View). HasNode true p x p.driver) (sym b.is) h.node;
+    waits = ap (λ (x : View). x.lead.drive) b.is
+        ∙ h.waits;
+  }
+
+-- between two cycles, with cycles left
+pub may_begin : (p : Lay) (v : View) → IsBetween p v → v.lead.cycle ≢ last p → HasNode true p v p.driver
+may_begin p v b o = let m = b.member in let low = m.1.0 in let high = m.1.1 in (m.0, (low, omega arith), m.2)
+
+module _ (plot : Plot) (plain : IsPlain (lay plot)) (v : View) (has : HasNode true (lay plot) v (lay plot).driver) (runs : v.lead.drive ≡ Running)
+    (even : IsLeadEven (lay plot) v v.lead.cycle) where
+  abbrev p : Lay
+  p = lay plot
+
+  abbrev links : List ℕ
+  links = reads_of p.shape p.shape.driver
+
+  inside : p.driver < nodes p
+  inside = has.2
+
+  pub lead_may_hear : MayHearAll true p v links
+  lead_may_hear = (
+    (λ k d low. let l : ℕ = slice_index_or links k d in let h = read_by p plain p.shape.driver inside l (k, low, get_or_default links k l d low) in record {
+      inside = h.0;
+      has = subst (HasNode true p v) (sym h.1) has;
+      runs = runs;
+      even = even l h.0 h.1;
+    }),
+    reads_once p plain p.shape.driver inside,
+  )
+
+  pub lead_gives : (samples : List ℤ) → IsSteady p v.expect samples → All (Gives true p v samples) links
+  lead_gives samples steady k d low = let l : ℕ = slice_index_or links k d in
+      let h = read_by p plain p.shape.driver inside l (k, low, get_or_default links k l d low) in let q = of_pool p plain l h.0 in
+      (steady.quanta (pool_of p l) q.0, steady.gives v.lead.cycle (pool_of p l) has.1.0 has.1.1 q.0)
+
+  module _ (w : View) (heard : AreHeard true p v links w) where
+    heard_even : IsLeadEven p w (v.lead.cycle + 1)
+    heard_even k low e = heard.heard k (reads_it p plain p.shape.driver inside k low e)
+
+    same_cycle : w.lead.cycle ≡ v.lead.cycle
+    same_cycle = ap (λ (x : View). x.lead.cycle) heard.same
+
+    heard_has : HasNode true p w p.driver
+    heard_has = subst (λ (x : View). HasNode true p x p.driver) (sym heard.same) has
+
+    pub lead_ready : IsReadyToFinish true p w p.driver
+    lead_ready = (
+      heard_has,
+      ap (λ (x : View). x.lead.drive) heard.same ∙ runs,
+      (
+        (λ l low e. absurd ((wired p plain.sound plain.pooled plain.undelayed).from_follows l (link_at p l) (link_there p l low) e)),
+        (λ l low e. (heard_even l low e).stored ∙ ap (λ c. c + 1) (sym same_cycle)),
+      ),
+    )
+
+    module _ (x y : View) (over : HasFinished true p w p.driver x) (ended : HasEnded p x y) where
+      pub ended_later : y.lead.cycle ≡ v.lead.cycle + 1
+      ended_later = ap (λ (z : View). z.lead.cycle) ended.2 ∙ ap (λ (z : View). z.lead.cycle + 1) over.2 ∙ ap (λ c. c + 1) same_cycle
+
+      pub ended_even : IsLeadEven p y y.lead.cycle
+      ended_even = lead_moves p w y (v.lead.cycle + 1) y.lead.cycle
+          (ap (λ (z : View). z.reads) ended.2 ∙ ap (λ (z : View). z.reads) over.2) ended_later heard_even
+
+      pub ended_expect : y.expect ≡ v.expect
+      ended_expect = ap (λ (z : View). z.expect) ended.2 ∙ ap (λ (z : View). z.expect) over.2 ∙ ap (λ (z : View). z.expect) heard.same
+
+      pub ended_between : IsBetween p y
+      ended_between = let low = has.1.0 in let high = has.1.1 in let e = ended_later in record {
+        member = (
+          (refl, ap (λ (z : View). z.number) ended.2 ∙ ap (λ (z : View). z.number) over.2 ∙ ap (λ (z : View). z.number) heard.same ∙ has.0.1),
+          (omega arith, omega arith),
+          inside,
+        );
+        between = ap (λ (z : View). z.lead.drive) ended.2;
+        unchecked = ap (λ (z : View). z.lead.checked) ended.2;
+      }

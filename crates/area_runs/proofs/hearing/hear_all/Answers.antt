@@ -1,0 +1,23 @@
+use Rattle.std.proofs.Common.{◌∙◌, sym, true≢false}
+use Rattle.area_runs.proofs.HearingLemmas.{may_hear, still_gives, one_more}
+use Rattle.area_runs.proofs.hearing.hear_all.Goals as goal
+use Rattle.area_runs.proofs.hearing.hear_all.Goals.{then-hears, else-hears}
+
+pub hears-requires-clause-phase : goal.hears-requires-clause-phase
+hears-requires-clause-phase g c = may_hear _ _ _ c.args.links.now c.requires.phase c.loop-link.link-index _ c.loop-link-test.true c.loop-link.invariant.heard
+
+pub hears-requires-clause-gives : goal.hears-requires-clause-gives
+hears-requires-clause-gives g c =
+    still_gives _ _ _ c.args.links.now c.requires.phase c.loop-link.link-index _ c.loop-link-test.true c.loop-link.invariant.heard c.args.samples.now
+    (c.requires.gives c.loop-link.link-index 0 c.loop-link-test.true)
+
+pub loop-link-preserved : goal.loop-link-preserved
+loop-link-preserved g c = let i = c.loop-link.invariant in let e = c.hears.ensures in record {
+  table = e.table ∙ i.table;
+  heard = one_more _ _ _ c.args.links.now c.requires.phase c.loop-link.link-index _ c.loop-link-test.true i.heard _ e.knows;
+  room = λ some. e.room;
+  all = elim c.if-hears.branch [
+    | then-hears w ↦ w.heard-is ∙ i.all
+    | else-hears w ↦ absurd (true≢false (sym e.samples ∙ w.if-hears.false))
+  ];
+}

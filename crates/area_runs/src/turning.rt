@@ -1,0 +1,40 @@
+//! The turn of a follower that is awake.
+ghost use Rattle.std.specs.Prelude.{◌≡◌, length, IsTrue};
+ghost use Rattle.board_rule.specs.Layout.{lay};
+ghost use Rattle.area_runs.specs.Turning.{IsEquipped, MayTurn, HasTurned};
+
+use crate::hearing::hear_all;
+use crate::node_ends::NodeEnds;
+use crate::writing::write_all;
+use activation_words::{finish, start};
+use board_rule::{Board, LoopSeat};
+use buffer_pool::Pool;
+use pw_base::PoolShape;
+
+/// The node starts, hears each link that it reads, gives the samples in each pool that it fills, and finishes: whether
+/// each link gave the samples. `shapes` and `free` have all pools of the board, and `room` is one quantum.
+pub(crate) fn take_turn(
+    board: &Board,
+    seat: &mut LoopSeat,
+    ends: &NodeEnds,
+    shapes: &[PoolShape],
+    free: &mut [Pool],
+    samples: &[i16],
+    room: &mut [i16],
+) -> bool
+    requires table { seat.old.table ≡ board.now.table.shared.table_id }
+    requires equipped { let p = lay board.now.plot in
+        IsEquipped p seat.old.knows shapes.now free.old samples.now }
+    requires awake { MayTurn (lay board.now.plot) seat.old.knows free.old ends.now }
+    requires long { length room.old ≡ length samples.now }
+    ensures table { seat.new.table ≡ seat.old.table }
+    ensures turned { let p = lay board.now.plot in
+        HasTurned p seat.old.knows free.old (p.place ends.now.node) seat.new.knows free.new }
+    ensures heard { IsTrue result }
+{
+    start(board, seat, ends.node);
+    let heard = hear_all(board, seat, ends.reads.as_slice(), samples, room);
+    write_all(board, seat, ends.pools.as_slice(), shapes, free, samples);
+    finish(board, seat, ends.node);
+    heard
+}
