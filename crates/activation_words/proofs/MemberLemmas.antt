@@ -1,5 +1,6 @@
 -- From a new seat on, each call that ends leaves its seat between two calls.
-use Rattle.std.proofs.Common.{◌≡◌, ◌≢◌, ℕ, zero, suc, ◌+◌, ◌<◌, ◌≤◌, false, List, [], ◌∷◌, length, set, replicate, refl, sym, ap, ◌∙◌, subst, arith, length-set, get_or-set_other}
+use Rattle.std.proofs.Common.{◌≡◌, ◌≢◌, ℕ, zero, suc, ◌+◌, ◌<◌, ◌≤◌, false, List, [], ◌∷◌, length, set, replicate, refl, sym}
+use Rattle.std.proofs.Common.{ap, ◌∙◌, subst, arith, length-set, get_or-set_other}
 use mathlib.Core.Option.{some}
 use lib.ListN.{get_elem?}
 use Rattle.std.proofs.lemmas.List.{get_or-replicate, length-replicate}
@@ -41,7 +42,11 @@ module _ (p : Lay) where
   -- a try that was too early changes nothing else
   pub tried_rests : (v : View) (m n found : ℕ) → IsResting p v n → IsResting p (tried p v m found) n
   tried_rests v m n found r = let h = r.member.0 in record {
-    member = (record { inside = h.inside; follows = h.follows; loops = h.loops; owned = h.owned; there = h.there; knows = h.knows }, r.member.1, r.member.2);
+    member = (
+      record { inside = h.inside; follows = h.follows; loops = h.loops; owned = h.owned; there = h.there; knows = h.knows },
+      r.member.1,
+      r.member.2,
+    );
     idle = r.idle;
   }
 
@@ -78,10 +83,16 @@ module _ (p : Lay) where
     -- where there are no links
     pub started_ready : (w : View) → length p.shape.links ≡ 0 → HasNode false p v m → HasStarted false p v m w → IsReadyToFinish false p w m
     started_ready w bare h s = let y : NodeView = record (node_of v m) { phase = Running; start = s.0 } in
-        subst (λ (u : View). IsReadyToFinish false p u m) (sym s.2) (has_again p v m y v.trail h refl, ap (λ (x : NodeView). x.phase) (again p v m y v.trail h.0.there), ((λ l lt _. absurd (omega arith)), (λ l lt _. absurd (omega arith))))
+        subst (λ (u : View). IsReadyToFinish false p u m) (sym s.2) (
+          has_again p v m y v.trail h refl,
+          ap (λ (x : NodeView). x.phase) (again p v m y v.trail h.0.there),
+          ((λ l lt _. absurd (omega arith)), (λ l lt _. absurd (omega arith))),
+        )
 
     pub rested_rests : (w : View) → HasNode false p v m → HasRested p v m w → IsResting p w m
-    rested_rests w h r = let x : NodeView = node_of v m in let y : NodeView = record x { next = x.next + 1; phase = Idle; finish = r.ticket } in let t : Trail = record v.trail { told = w.trail.told } in
+    rested_rests w h r = let x : NodeView = node_of v m in
+        let y : NodeView = record x { next = x.next + 1; phase = Idle; finish = r.ticket } in
+        let t : Trail = record v.trail { told = w.trail.told } in
         let o = h.0 in let at = again p v m y t o.there in
         subst (λ (u : View). IsResting p u m) (sym r.is) record {
           member = (
@@ -93,7 +104,8 @@ module _ (p : Lay) where
               there = subst (λ k. m < k) (sym (length-set v.nodes m y)) o.there;
               knows = there_set v.nodes m y o.there ∙ ap some (sym at);
             },
-            subst (λ (z : NodeView). (first p ≤ z.next) × (z.next ≤ last p)) (sym at) (let a = h.1.0 in let b = h.1.1 in (omega arith, omega arith)),
+            subst (λ (z : NodeView). (first p ≤ z.next) × (z.next ≤ last p)) (sym at)
+                (let a = h.1.0 in let b = h.1.1 in (omega arith, omega arith)),
             h.2,
           );
           idle = ap (λ (z : NodeView). z.phase) at;

@@ -1,5 +1,6 @@
 -- The view of a loop's seat after a step of its follower m.
-use Rattle.std.proofs.Common.{◌≡◌, ◌≢◌, ℕ, ◌<◌, Bool, true, false, List, length, refl, sym, ap, ◌∙◌, subst, length-set, get_or-set_same, set-set}
+use Rattle.std.proofs.Common.{◌≡◌, ◌≢◌, ℕ, ◌<◌, Bool, true, false, List, length, refl, sym, ap, ◌∙◌, subst, length-set, get_or-set_same}
+use Rattle.std.proofs.Common.{set-set}
 use mathlib.Core.Option.{some}
 use lib.Seq.{set-get_or}
 use Rattle.board_rule.specs.declared.view.NodeView.{NodeView}

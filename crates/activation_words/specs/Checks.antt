@@ -11,12 +11,14 @@ use Rattle.board_rule.specs.EventSteps.{looked, late_of}
 use Rattle.activation_words.specs.CycleCalls.{followers}
 
 abbrev pub tick_drawn : View → ℕ → View
-tick_drawn v ticket = view_lead v (record v.lead { drive = Checking; checked = true; checks = v.lead.checks + 1; ticket = ticket }) (record v.trail { looks = [] })
+tick_drawn v ticket = view_lead v (record v.lead
+    { drive = Checking; checked = true; checks = v.lead.checks + 1; ticket = ticket }) (record v.trail { looks = [] })
 
 -- the node at a place is looked at, or is the driver
 abbrev pub LooksAt : Lay → View → ℕ → ℕ → ℕ → View → ℕ → Type 0
 LooksAt p v at late cycle w now = (at ≡ p.driver → (w ≡ v) × (now ≡ late))
-    × (at ≢ p.driver → (found : ℕ) × (w ≡ looked p v at found) × (now ≡ cond (eqb found (status_word_of 3 cycle)) late (with_bit late (p.number at))))
+    × (at ≢ p.driver → (found : ℕ) × (w ≡ looked p v at found)
+    × (now ≡ cond (eqb found (status_word_of 3 cycle)) late (with_bit late (p.number at))))
 
 -- from the view v to the view w, the followers among the first k places are looked at
 pub record IsLooking (p : Lay) (v : View) (k late : ℕ) (w : View) : Type 0 where

@@ -1,4 +1,5 @@
--- A seat between two calls: a follower that waits for its next cycle, and the driver's seat between cycles or waiting for its node.
+-- A seat between two calls: a follower that waits for its next cycle, and the driver's seat between cycles or waiting
+-- for its node.
 -- Source: this project's own.
 use Rattle.std.specs.Prelude.{◌≡◌, ◌≢◌, ℕ, ◌<◌, Bool, true, false}
 use Rattle.board_rule.specs.declared.view.Phase.TheVariants.{Idle}

@@ -17,7 +17,9 @@ fn announce(board: &Board, seat: &mut DriverSeat)
     requires node { let p = lay board.now.plot in HasNode true p seat.old.knows p.driver }
     requires between { seat.old.knows.lead.drive ≡ Between }
     ensures table { seat.new.table ≡ seat.old.table }
-    ensures knows { let p = lay board.now.plot in ((ticket : ℕ) × (ticket < event_count p.shape) × (seat.new.knows ≡ begin_stored seat.old.knows ticket)) }
+    ensures knows { let p = lay board.now.plot in
+        ((ticket : ℕ) × (ticket < event_count p.shape)
+        × (seat.new.knows ≡ begin_stored seat.old.knows ticket)) }
 {
     let driver = board.shape().driver;
     seat.draw_ticket(board, driver);

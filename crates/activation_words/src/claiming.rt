@@ -13,7 +13,8 @@ fn try_once<S: BoardSeat>(board: &Board, seat: &mut S, node: u32) -> Claim
     requires table { S.table seat.old ≡ board.now.table.shared.table_id }
     requires phase { let p = lay board.now.plot in Claims S.leads p (S.knows seat.old) (p.place node) }
     ensures table { S.table seat.new ≡ S.table seat.old }
-    ensures claim { let p = lay board.now.plot in IsClaim S.leads p (S.knows seat.old) (p.place node) result (S.knows seat.new) }
+    ensures claim { let p = lay board.now.plot in
+        IsClaim S.leads p (S.knows seat.old) (p.place node) result (S.knows seat.new) }
 {
     let cycle = board.shape().first + seat.ended(board, node);
     let found = seat.exchange_awake(board, node);
@@ -30,7 +31,8 @@ pub fn claim(board: &Board, seat: &mut LoopSeat, node: u32) -> Claim
     requires table { seat.old.table ≡ board.now.table.shared.table_id }
     requires phase { let p = lay board.now.plot in Claims false p seat.old.knows (p.place node) }
     ensures table { seat.new.table ≡ seat.old.table }
-    ensures claim { let p = lay board.now.plot in IsClaim false p seat.old.knows (p.place node) result seat.new.knows }
+    ensures claim { let p = lay board.now.plot in
+        IsClaim false p seat.old.knows (p.place node) result seat.new.knows }
 {
     try_once(board, seat, node)
 }
@@ -40,7 +42,8 @@ pub fn claim_driver(board: &Board, seat: &mut DriverSeat) -> Claim
     requires table { seat.old.table ≡ board.now.table.shared.table_id }
     requires phase { let p = lay board.now.plot in Claims true p seat.old.knows p.driver }
     ensures table { seat.new.table ≡ seat.old.table }
-    ensures claim { let p = lay board.now.plot in IsClaim true p seat.old.knows p.driver result seat.new.knows }
+    ensures claim { let p = lay board.now.plot in
+        IsClaim true p seat.old.knows p.driver result seat.new.knows }
 {
     let driver = board.shape().driver;
     try_once(board, seat, driver)

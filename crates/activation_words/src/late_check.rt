@@ -33,7 +33,8 @@ fn draw_tick(board: &Board, seat: &mut DriverSeat)
     requires waits { seat.old.knows.lead.drive ≡ Waiting }
     requires unchecked { seat.old.knows.lead.checked ≡ false }
     ensures table { seat.new.table ≡ seat.old.table }
-    ensures knows { let p = lay board.now.plot in ((ticket : ℕ) × (ticket < event_count p.shape) × (seat.new.knows ≡ tick_drawn seat.old.knows ticket)) }
+    ensures knows { let p = lay board.now.plot in
+        ((ticket : ℕ) × (ticket < event_count p.shape) × (seat.new.knows ≡ tick_drawn seat.old.knows ticket)) }
 {
     let driver = board.shape().driver;
     seat.draw_ticket(board, driver);
@@ -54,7 +55,8 @@ fn look_at(board: &Board, seat: &mut DriverSeat, at: usize, late: u64, cycle: u3
     requires phase { at ≢ (lay board.now.plot).driver → Looks (lay board.now.plot) seat.old.knows at }
     requires cycle { cycle ≡ seat.old.knows.lead.cycle }
     ensures table { seat.new.table ≡ seat.old.table }
-    ensures knows { let p = lay board.now.plot in LooksAt p seat.old.knows at late cycle seat.new.knows result }
+    ensures knows { let p = lay board.now.plot in
+        LooksAt p seat.old.knows at late cycle seat.new.knows result }
 {
     let node = node_at(board, at);
     if node == board.shape().driver {

@@ -14,7 +14,8 @@ pub fn start<S: BoardSeat>(board: &Board, seat: &mut S, node: u32)
     requires node { let p = lay board.now.plot in HasNode S.leads p (S.knows seat.old) (p.place node) }
     requires awake { let p = lay board.now.plot in IsAwake S.leads (S.knows seat.old) (p.place node) }
     ensures table { S.table seat.new ≡ S.table seat.old }
-    ensures knows { let p = lay board.now.plot in HasStarted S.leads p (S.knows seat.old) (p.place node) (S.knows seat.new) }
+    ensures knows { let p = lay board.now.plot in
+        HasStarted S.leads p (S.knows seat.old) (p.place node) (S.knows seat.new) }
 {
     seat.draw_ticket(board, node);
     seat.store_event(board, node);
@@ -23,9 +24,12 @@ pub fn start<S: BoardSeat>(board: &Board, seat: &mut S, node: u32)
 // The node ends its work: FINISHED, the ticket of its Finish, the event.
 fn end_work<S: BoardSeat>(board: &Board, seat: &mut S, node: u32)
     requires table { S.table seat.old ≡ board.now.table.shared.table_id }
-    requires ready { let p = lay board.now.plot in IsReadyToFinish S.leads p (S.knows seat.old) (p.place node) }
+    requires ready { let p = lay board.now.plot in
+        IsReadyToFinish S.leads p (S.knows seat.old) (p.place node) }
     ensures table { S.table seat.new ≡ S.table seat.old }
-    ensures knows { let p = lay board.now.plot in ((ticket : ℕ) × (ticket < event_count p.shape) × (S.knows seat.new ≡ worked S.leads (S.knows seat.old) (p.place node) ticket)) }
+    ensures knows { let p = lay board.now.plot in
+        ((ticket : ℕ) × (ticket < event_count p.shape)
+        × (S.knows seat.new ≡ worked S.leads (S.knows seat.old) (p.place node) ticket)) }
 {
     seat.store_finished(board, node);
     seat.draw_ticket(board, node);
@@ -37,9 +41,11 @@ fn end_work<S: BoardSeat>(board: &Board, seat: &mut S, node: u32)
 /// `begin` did so for the driver.
 pub fn finish<S: BoardSeat>(board: &Board, seat: &mut S, node: u32)
     requires table { S.table seat.old ≡ board.now.table.shared.table_id }
-    requires ready { let p = lay board.now.plot in IsReadyToFinish S.leads p (S.knows seat.old) (p.place node) }
+    requires ready { let p = lay board.now.plot in
+        IsReadyToFinish S.leads p (S.knows seat.old) (p.place node) }
     ensures table { S.table seat.new ≡ S.table seat.old }
-    ensures knows { let p = lay board.now.plot in HasFinished S.leads p (S.knows seat.old) (p.place node) (S.knows seat.new) }
+    ensures knows { let p = lay board.now.plot in
+        HasFinished S.leads p (S.knows seat.old) (p.place node) (S.knows seat.new) }
 {
     end_work(board, seat, node);
     if node != board.shape().driver {

@@ -11,7 +11,9 @@ fn tell_next<S: BoardSeat>(board: &Board, seat: &mut S, node: u32)
     requires table { S.table seat.old ≡ board.now.table.shared.table_id }
     requires phase { let p = lay board.now.plot in Lowers S.leads p (S.knows seat.old) (p.place node) }
     ensures table { S.table seat.new ≡ S.table seat.old }
-    ensures knows { let p = lay board.now.plot in let m = p.place node in let v = S.knows seat.old in ((found : ℕ) × (S.knows seat.new ≡ settles S.leads p v m (taken S.leads v m + 1) false (told_trail v.trail (target_of S.leads p v m) found))) }
+    ensures knows { let p = lay board.now.plot in let m = p.place node in let v = S.knows seat.old in
+        ((found : ℕ) × (S.knows seat.new ≡ settles S.leads p v m (taken S.leads v m + 1) false
+        (told_trail v.trail (target_of S.leads p v m) found))) }
 {
     let found = seat.lower_pending(board, node);
     if found == 1 {
@@ -23,9 +25,11 @@ fn tell_next<S: BoardSeat>(board: &Board, seat: &mut S, node: u32)
 pub(crate) fn tell_all<S: BoardSeat>(board: &Board, seat: &mut S, node: u32)
     requires table { S.table seat.old ≡ board.now.table.shared.table_id }
     requires node { let p = lay board.now.plot in HasNode S.leads p (S.knows seat.old) (p.place node) }
-    requires phase { let p = lay board.now.plot in IsTelling S.leads p (S.knows seat.old) (p.place node) 0 (S.knows seat.old) }
+    requires phase { let p = lay board.now.plot in
+        IsTelling S.leads p (S.knows seat.old) (p.place node) 0 (S.knows seat.old) }
     ensures table { S.table seat.new ≡ S.table seat.old }
-    ensures knows { let p = lay board.now.plot in HasTold S.leads p (S.knows seat.old) (p.place node) (S.knows seat.new) }
+    ensures knows { let p = lay board.now.plot in
+        HasTold S.leads p (S.knows seat.old) (p.place node) (S.knows seat.new) }
 {
     for told in 0..board.target_count(node) {
         tell_next(board, seat, node);

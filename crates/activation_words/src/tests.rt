@@ -1,5 +1,6 @@
 //! The words of a board in the first cycle of four nodes in a row, and many cycles by one thread and by two.
-ghost use Rattle.std.specs.Prelude.{◌≡◌, ◌≢◌, ℕ, ◌==◌, ◌≤◌, false, true, length, slice_get, Some, [], ◌∷◌, slice_index, IsTrue, IsFalse, IfSome, IfOk, MatchOption};
+ghost use Rattle.std.specs.Prelude.{◌≡◌, ◌≢◌, ℕ, ◌==◌, ◌≤◌, false, true, length, slice_get, Some, [], ◌∷◌, slice_index, IsTrue};
+ghost use Rattle.std.specs.Prelude.{IsFalse, IfSome, IfOk, MatchOption};
 ghost use Rattle.std.specs.List.{position};
 ghost use Rattle.pw_base.specs.History.{IsLegalHistory};
 ghost use Rattle.board_rule.specs.declared.view.Drive.TheVariants.{Awake};
@@ -126,7 +127,10 @@ fn opened(
     alloc: Global,
     shape: &Shape,
 ) -> Result<Option<(Board, DriverSeat, LoopSeat, LoopSeat)>, Memory>
-    ensures { IfOk result (λ o. IfSome o (λ t. (t.0.plot.shape ≡ shape.now) × (t.1.table ≡ t.0.table.shared.table_id) × (t.2.table ≡ t.0.table.shared.table_id) × (t.3.table ≡ t.0.table.shared.table_id) × (t.0.plot.seat_of ≡ 0 ∷ 1 ∷ 0 ∷ 0 ∷ []) × (let p = lay t.0.plot in IsBetween p t.1.knows × AllRest p 0 t.2.knows × AllRest p 1 t.3.knows))) }
+    ensures { IfOk result (λ o. IfSome o (λ t. (t.0.plot.shape ≡ shape.now)
+        × (t.1.table ≡ t.0.table.shared.table_id) × (t.2.table ≡ t.0.table.shared.table_id)
+        × (t.3.table ≡ t.0.table.shared.table_id) × (t.0.plot.seat_of ≡ 0 ∷ 1 ∷ 0 ∷ 0 ∷ [])
+        × (let p = lay t.0.plot in IsBetween p t.1.knows × AllRest p 0 t.2.knows × AllRest p 1 t.3.knows))) }
 {
     if !is_pooled_shape(shape) || !is_undelayed(shape) || shape.nodes.len() != 4 {
         return Ok(None);
@@ -147,7 +151,8 @@ fn run(board: &Board, seat: &mut LoopSeat, node: u32)
     requires awake { let p = lay board.now.plot in IsAwake false seat.old.knows (p.place node) }
     ensures table { seat.new.table ≡ seat.old.table }
     ensures rests { let p = lay board.now.plot in IsResting p seat.new.knows (p.place node) }
-    ensures others { let p = lay board.now.plot in (n : ℕ) → n ≢ p.place node → IsResting p seat.old.knows n → IsResting p seat.new.knows n }
+    ensures others { let p = lay board.now.plot in (n : ℕ) → n ≢ p.place node → IsResting p seat.old.knows n
+        → IsResting p seat.new.knows n }
 {
     start(board, seat, node);
     finish(board, seat, node);
@@ -160,7 +165,8 @@ fn turn(board: &Board, seat: &mut LoopSeat, node: u32) -> Option<Claim>
     requires rests { let p = lay board.now.plot in IsResting p seat.old.knows (p.place node) }
     ensures table { seat.new.table ≡ seat.old.table }
     ensures rests { let p = lay board.now.plot in IsResting p seat.new.knows (p.place node) }
-    ensures others { let p = lay board.now.plot in (n : ℕ) → n ≢ p.place node → IsResting p seat.old.knows n → IsResting p seat.new.knows n }
+    ensures others { let p = lay board.now.plot in (n : ℕ) → n ≢ p.place node → IsResting p seat.old.knows n
+        → IsResting p seat.new.knows n }
 {
     if seat.ended(board, node) == board.shape().cycles {
         return None;
@@ -234,7 +240,8 @@ fn begin_next(board: &Board, seat: &mut DriverSeat) -> bool
     requires table { seat.old.table ≡ board.now.table.shared.table_id }
     requires between { IsBetween (lay board.now.plot) seat.old.knows }
     ensures table { seat.new.table ≡ seat.old.table }
-    ensures begun { IsTrue result → IsWaiting (lay board.now.plot) seat.new.knows × (seat.new.knows.lead.checked ≡ false) }
+    ensures begun { IsTrue result → IsWaiting (lay board.now.plot) seat.new.knows
+        × (seat.new.knows.lead.checked ≡ false) }
     ensures none { IsFalse result → IsBetween (lay board.now.plot) seat.new.knows }
 {
     let driver = board.shape().driver;
@@ -344,7 +351,8 @@ fn drive_once(board: &Board, seat: &mut DriverSeat, waits: bool) -> Option<bool>
     requires table { seat.old.table ≡ board.now.table.shared.table_id }
     requires phase { IsDriving (lay board.now.plot) seat.old.knows waits }
     ensures table { seat.new.table ≡ seat.old.table }
-    ensures phase { MatchOption result (IsBetween (lay board.now.plot) seat.new.knows) (λ still. IsDriving (lay board.now.plot) seat.new.knows still) }
+    ensures phase { MatchOption result (IsBetween (lay board.now.plot) seat.new.knows)
+        (λ still. IsDriving (lay board.now.plot) seat.new.knows still) }
 {
     if waits {
         return Some(!try_driver(board, seat));

@@ -1,5 +1,6 @@
 -- The links and the pools of a node, by its place.
-use Rattle.std.proofs.Common.{◌≡◌, ◌≢◌, ℕ, ◌+◌, ◌-◌, ◌<◌, ◌≤◌, ◌==◌, Bool, true, List, length, map, get_or, sym, ap, ◌∙◌, subst, arith}
+use Rattle.std.proofs.Common.{◌≡◌, ◌≢◌, ℕ, ◌+◌, ◌-◌, ◌<◌, ◌≤◌, ◌==◌, Bool, true, List, length, map, get_or, sym, ap}
+use Rattle.std.proofs.Common.{◌∙◌, subst, arith}
 use Rattle.std.proofs.Common.{eq-eqb, eqb-true}
 use Rattle.std.specs.Prelude.{AllPairs, Contains, filter}
 use Rattle.std.specs.List.{enumerate_from}
@@ -36,7 +37,8 @@ module _ {X : Type 0} (node : X → ℕ) (n : ℕ) (xs : List X) where
       (omega arith, eqb-true (node (get_or xs l d)) n (ap (λ i. test (get_or xs i d)) (sym e) ∙ h.2 d))
 
   pub has_it : (l : ℕ) (d : X) → l < length xs → node (get_or xs l d) ≡ n → Contains places l
-  has_it l d low e = let z : 0 + l ≡ l = omega arith in subst (Contains places) z (has_place test 0 xs l d low (eq-eqb (node (get_or xs l d)) n e))
+  has_it l d low e = let z : 0 + l ≡ l = omega arith in
+      subst (Contains places) z (has_place test 0 xs l d low (eq-eqb (node (get_or xs l d)) n e))
 
 module _ (p : Lay) (plain : IsPlain p) where
   all_wired : Wired p
@@ -49,7 +51,8 @@ module _ (p : Lay) (plain : IsPlain p) where
       (slice_get_within (pools_of p.shape) (pool_of p l) (pool_at p (pool_of p l)) h.0, h.1, h.2)
 
   pub pool_writer : (q l : ℕ) → q < length (pools_of p.shape) → Contains (pool_at p q).links l → writer_of p l ≡ filler_of p q
-  pool_writer q l low c = let h = all_wired.there q l (pool_at p q) (pool_there p q low) c in ap (λ (k : ShapeLink). p.place k.from.node) (link_is p l h.0 h.1)
+  pool_writer q l low c = let h = all_wired.there q l (pool_at p q) (pool_there p q low) c in
+      ap (λ (k : ShapeLink). p.place k.from.node) (link_is p l h.0 h.1)
       ∙ ap (λ (port : PortId). p.place port.node) h.2
 
   pub pool_link : (q l : ℕ) → q < length (pools_of p.shape) → Contains (pool_at p q).links l → l < length p.shape.links

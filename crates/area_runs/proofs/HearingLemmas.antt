@@ -1,5 +1,6 @@
 -- From link to link of a node that reads.
-use Rattle.std.proofs.Common.{◌≡◌, ◌≢◌, ℕ, ◌+◌, ◌<◌, Bool, true, false, List, length, get_or, take, refl, sym, ap, ◌∙◌, subst, arith, ⊎_elim}
+use Rattle.std.proofs.Common.{◌≡◌, ◌≢◌, ℕ, ◌+◌, ◌<◌, Bool, true, false, List, length, get_or, take, refl, sym, ap, ◌∙◌, subst}
+use Rattle.std.proofs.Common.{arith, ⊎_elim}
 use Rattle.std.proofs.Common.{length-set, get_or-set_other}
 use Rattle.std.specs.Prelude.{Contains}
 use mathlib.Core.Logic.{dite}

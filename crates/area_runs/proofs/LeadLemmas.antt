@@ -29,11 +29,15 @@ IsLeadEven p v c = (k : ℕ) → k < length p.shape.links → reader_of p k ≡ 
 
 pub lead_moves : (p : Lay) (v w : View) (c d : ℕ) → w.reads ≡ v.reads → d ≡ c → IsLeadEven p v c → IsLeadEven p w d
 lead_moves p v w c d rs e h k low is = subst (IsReadUpTo w k) (sym e)
-    (read_moves v w k c (ap (λ (x : List ReadView). length x) rs) (ap (λ (x : List ReadView). slice_index_or x k (unread 0)) rs) (h k low is))
+    (read_moves v w k c (ap (λ (x : List ReadView). length x) rs) (ap (λ (x : List ReadView). slice_index_or x k (unread 0)) rs)
+    (h k low is))
 
 module _ (p : Lay) (v w : View) where
   pub begun_waits : HasNode true p v p.driver → HasBegun p v w → IsWaiting p w
-  begun_waits h b = record { node = subst (λ (x : View). HasNode true p x p.driver) (sym b.is) h; waits = ap (λ (x : View). x.lead.drive) b.is }
+  begun_waits h b = record {
+    node = subst (λ (x : View). HasNode true p x p.driver) (sym b.is) h;
+    waits = ap (λ (x : View). x.lead.drive) b.is;
+  }
 
   pub checked_waits : (late : ℕ) → IsWaiting p v → HasChecked p v late w → IsWaiting p w
   checked_waits late h b = record {
@@ -46,7 +50,8 @@ module _ (p : Lay) (v w : View) where
 pub may_begin : (p : Lay) (v : View) → IsBetween p v → v.lead.cycle ≢ last p → HasNode true p v p.driver
 may_begin p v b o = let m = b.member in let low = m.1.0 in let high = m.1.1 in (m.0, (low, omega arith), m.2)
 
-module _ (plot : Plot) (plain : IsPlain (lay plot)) (v : View) (has : HasNode true (lay plot) v (lay plot).driver) (runs : v.lead.drive ≡ Running)
+module _ (plot : Plot) (plain : IsPlain (lay plot)) (v : View) (has : HasNode true (lay plot) v (lay plot).driver)
+    (runs : v.lead.drive ≡ Running)
     (even : IsLeadEven (lay plot) v v.lead.cycle) where
   abbrev p : Lay
   p = lay plot
@@ -59,12 +64,13 @@ module _ (plot : Plot) (plain : IsPlain (lay plot)) (v : View) (has : HasNode tr
 
   pub lead_may_hear : MayHearAll true p v links
   lead_may_hear = (
-    (λ k d low. let l : ℕ = slice_index_or links k d in let h = read_by p plain p.shape.driver inside l (k, low, get_or_default links k l d low) in record {
-      inside = h.0;
-      has = subst (HasNode true p v) (sym h.1) has;
-      runs = runs;
-      even = even l h.0 h.1;
-    }),
+    (λ k d low. let l : ℕ = slice_index_or links k d in
+        let h = read_by p plain p.shape.driver inside l (k, low, get_or_default links k l d low) in record {
+          inside = h.0;
+          has = subst (HasNode true p v) (sym h.1) has;
+          runs = runs;
+          even = even l h.0 h.1;
+        }),
     reads_once p plain p.shape.driver inside,
   )
 
@@ -107,7 +113,11 @@ module _ (plot : Plot) (plain : IsPlain (lay plot)) (v : View) (has : HasNode tr
       pub ended_between : IsBetween p y
       ended_between = let low = has.1.0 in let high = has.1.1 in let e = ended_later in record {
         member = (
-          (refl, ap (λ (z : View). z.number) ended.2 ∙ ap (λ (z : View). z.number) over.2 ∙ ap (λ (z : View). z.number) heard.same ∙ has.0.1),
+          (
+            refl,
+            ap (λ (z : View). z.number) ended.2 ∙ ap (λ (z : View). z.number) over.2 ∙ ap (λ (z : View). z.number) heard.same
+                ∙ has.0.1,
+          ),
           (omega arith, omega arith),
           inside,
         );

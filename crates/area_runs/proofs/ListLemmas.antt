@@ -1,5 +1,6 @@
 -- The first elements of a list, one after the other.
-use Rattle.std.proofs.Common.{◌≡◌, ◌≢◌, ℕ, ◌+◌, ◌<◌, List, [], ◌∷◌, ◌++◌, length, get_or, take, ◌⊎◌, sym, ◌∙◌, subst, arith}
+use Rattle.std.proofs.Common.{◌≡◌, ◌≢◌, ℕ, ◌+◌, ◌<◌, List, [], ◌∷◌, ◌++◌, length, get_or, take, ◌⊎◌, sym, ◌∙◌}
+use Rattle.std.proofs.Common.{subst, arith}
 use Rattle.std.specs.Prelude.{AllPairs, Contains}
 use Rattle.std.proofs.lemmas.List.{take_more, get_or_default, length-take, length-take-le, get_or-take}
 use Rattle.std.proofs.lemmas.List.Elements.{Contains-push, Contains-push_cases, Contains-append_left}
@@ -10,7 +11,8 @@ module _ (xs : List ℕ) (k : ℕ) where
 
   -- one of the first elements is an element
   pub taken : (x : ℕ) → Contains (take k xs) x → Contains xs x
-  taken x c = let at = c.0 in let in_range = c.1 in let long = length-take k xs in (at, omega arith, sym (get_or-take k xs at x (omega arith)) ∙ c.2)
+  taken x c = let at = c.0 in let in_range = c.1 in let long = length-take k xs in
+      (at, omega arith, sym (get_or-take k xs at x (omega arith)) ∙ c.2)
 
   pub take_cases : (x : ℕ) → k < length xs → Contains (take (k + 1) xs) x → Contains (take k xs) x ⊎ (get_or xs k 0 ≡ x)
   take_cases x h c = Contains-push_cases (take k xs) (get_or xs k 0) x (subst (λ ys. Contains ys x) (taken_more xs k h) c)
@@ -23,5 +25,6 @@ module _ (xs : List ℕ) (k : ℕ) where
 
   -- where no element stands twice, an early one is another than the next
   pub early_differs : AllPairs (λ x y. x ≢ y) xs → k < length xs → Contains (take k xs) (get_or xs k 0) → ⊥
-  early_differs differ h c = let at = c.0 in let in_range = c.1 in let long = length-take-le k xs (omega arith) in let low : at < k = omega arith in
+  early_differs differ h c = let at = c.0 in let in_range = c.1 in let long = length-take-le k xs (omega arith) in
+      let low : at < k = omega arith in
       differ at k 0 low h (sym (get_or-take k xs at 0 low) ∙ get_or_default (take k xs) at 0 (get_or xs k 0) in_range ∙ c.2)

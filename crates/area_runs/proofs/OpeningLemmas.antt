@@ -1,5 +1,6 @@
 -- A board begins with all loops at rest, and with a table of the samples.
-use Rattle.std.proofs.Common.{◌≡◌, ◌≢◌, ℕ, ℤ, zero, suc, ◌+◌, ◌-◌, ◌*◌, ◌<◌, ◌≤◌, ⊎_elim, false, cond, List, [], ◌∷◌, ◌++◌}
+use Rattle.std.proofs.Common.{◌≡◌, ◌≢◌, ℕ, ℤ, zero, suc, ◌+◌, ◌-◌, ◌*◌, ◌<◌, ◌≤◌, ⊎_elim, false, cond, List, []}
+use Rattle.std.proofs.Common.{◌∷◌, ◌++◌}
 use Rattle.std.proofs.Common.{length, map, get_or, take, refl, sym, ap, ◌∙◌, subst, arith}
 use Rattle.std.specs.Prelude.{All, AllPairs, Contains, replicate, sum_by}
 use Rattle.std.specs.List.{flat_map}
@@ -57,7 +58,8 @@ module _ (p : Lay) (xs : List ℤ) (fit : All (IsFit p.shape.quantum (length xs)
 
   pub is_steady : IsSteady p row xs
   is_steady = record {
-    gives = λ c q low high in_range. sym (ap (λ (l : List (List ℤ)). get_or l q []) (in_cycle (c - first p) (omega arith)) ∙ of_pool q in_range);
+    gives = λ c q low high in_range. sym (ap (λ (l : List (List ℤ)). get_or l q []) (in_cycle (c - first p) (omega arith))
+        ∙ of_pool q in_range);
     quanta = λ q in_range. let h = fit q no_pool in_range in sym h.2;
   }
 
@@ -75,7 +77,8 @@ module _ (p : Lay) (xs : List ℤ) (fit : All (IsFit p.shape.quantum (length xs)
       long = λ c q x low at. let i : first p + c - first p ≡ c = omega arith in let lt = slice_get_within (pools_of p.shape) q x at in
           ap (λ k. length (get_or (get_or row k []) q [])) i ∙ ap (λ (l : List (List ℤ)). length (get_or l q [])) (in_cycle c low)
           ∙ ap (λ (l : List ℤ). length l) (of_pool q lt)
-          ∙ sym (fit q no_pool lt).2 ∙ ap (λ (y : PoolShape). p.shape.quantum * y.channels) (get_or_from_slice_get (pools_of p.shape) q x no_pool at);
+          ∙ sym (fit q no_pool lt).2 ∙ ap (λ (y : PoolShape). p.shape.quantum * y.channels)
+          (get_or_from_slice_get (pools_of p.shape) q x no_pool at);
       fits = λ c q. ⊎_elim (λ lt. subst (λ (l : List (List ℤ)). All IsShort (get_or l q [])) (sym (in_cycle (c - first p) lt)) (of_each q))
           (λ o. let len = length-replicate p.shape.cycles each in
           subst (λ (l : List (List ℤ)). All IsShort (get_or l q [])) (sym (get_or_past row (c - first p) [] (omega arith)))
@@ -90,7 +93,8 @@ length-numbers_below (suc n) = let h = length-numbers_below n in let l = length_
 
 all_below : (n b : ℕ) → Contains (numbers_below n) b → b < n
 all_below zero b c = let low = c.1 in absurd (omega arith)
-all_below (suc n) b c = ⊎_elim (λ early. let h = all_below n b early in omega arith) (λ last. omega arith) (Contains-push_cases (numbers_below n) n b c)
+all_below (suc n) b c = ⊎_elim (λ early. let h = all_below n b early in omega arith) (λ last. omega arith)
+    (Contains-push_cases (numbers_below n) n b c)
 
 all_differ : (n : ℕ) → AllPairs (λ a b. a ≢ b) (numbers_below n)
 all_differ zero = λ i j d less low e. absurd (omega arith)
@@ -98,7 +102,8 @@ all_differ (suc n) = all_pairs_push (λ a b. a ≢ b) (numbers_below n) n (all_d
     (λ k d low e. let h = all_below n (get_or (numbers_below n) k d) (Contains-get_or (numbers_below n) k d low) in omega arith)
 
 -- all blocks are free
-free_after : (n : ℕ) (rest : List BlockView) → ((j : ℕ) → get_or rest j Free ≡ Free) → (j : ℕ) → get_or (replicate n Free ++ rest) j Free ≡ Free
+free_after : (n : ℕ) (rest : List BlockView) → ((j : ℕ) → get_or rest j Free ≡ Free) → (j : ℕ)
+    → get_or (replicate n Free ++ rest) j Free ≡ Free
 free_after zero rest h j = h j
 free_after (suc n) rest h zero = refl
 free_after (suc n) rest h (suc j) = free_after n rest h j
@@ -139,7 +144,8 @@ module _ (p : Lay) (e : Samples) (k : ℕ) where
 
     pub begins_even : (m : ℕ) → m < nodes p → AreEven p v (map fresh_queue (pools_of p.shape)) m (node_of v m).next
     begins_even m inside = subst (AreEven p v (map fresh_queue (pools_of p.shape)) m) (sym (next_is m inside)) record {
-      reads = λ l low _. let at : read_of v l ≡ unread (first p) = get_or-replicate (length p.shape.links) l (unread (first p)) (unread 0) low in
+      reads = λ l low _. let at : read_of v l ≡ unread (first p) =
+          get_or-replicate (length p.shape.links) l (unread (first p)) (unread 0) low in
           let long = length-replicate (length p.shape.links) (unread (first p)) in
           record {
             there = omega arith;
@@ -147,10 +153,12 @@ module _ (p : Lay) (e : Samples) (k : ℕ) where
             lowered = ap (λ (r : ReadView). r.lowered) at;
             stored = ap (λ (r : ReadView). r.stored) at;
           };
-      writes = λ l low _. let at : write_of v l ≡ unwritten (first p) = get_or-replicate (length p.shape.links) l (unwritten (first p)) (unwritten 0) low in
+      writes = λ l low _. let at : write_of v l ≡ unwritten (first p) =
+          get_or-replicate (length p.shape.links) l (unwritten (first p)) (unwritten 0) low in
           let long = length-replicate (length p.shape.links) (unwritten (first p)) in
           record { there = omega arith; loaded = ap (λ (w : WriteView). w.loaded) at; stored = ap (λ (w : WriteView). w.stored) at };
-      stocks = λ q low _. subst (Stock p v q (first p)) (sym (get_or-map fresh_queue (pools_of p.shape) q no_pool (record { free = []; blocks = 0 }) low))
+      stocks = λ q low _. subst (Stock p v q (first p))
+          (sym (get_or-map fresh_queue (pools_of p.shape) q no_pool (record { free = []; blocks = 0 }) low))
           (stock q low);
     }
 
@@ -164,7 +172,8 @@ module _ (plot : Plot) (sound : IsSound (lay plot)) (samples : List ℤ) (ok : I
   plain : IsPlain p
   plain = record { sound = sound; pooled = ok.pooled; undelayed = ok.undelayed }
 
-  pub worker_begins : (k : ℕ) → k < plot.seats → (w : Worker) → IsMade plot samples k (record { table = table; knows = loop_view p expect k }) w
+  pub worker_begins : (k : ℕ) → k < plot.seats → (w : Worker)
+      → IsMade plot samples k (record { table = table; knows = loop_view p expect k }) w
       → IsReady p table w
   worker_begins k low w made = let seat = made.seat_is in let knows = ap (λ (s : Known). s.knows) seat in record {
     table = ap (λ (s : Known). s.table) seat;
@@ -185,7 +194,8 @@ module _ (plot : Plot) (sound : IsSound (lay plot)) (samples : List ℤ) (ok : I
     long = made.long ∙ sym (ap (λ (l : List ℤ). length l) made.samples_are);
   }
 
-  pub lead_begins : (k : ℕ) → 0 < k → (l : Lead) → IsLeadMade plot.shape samples (record { table = table; knows = driver_view p expect k }) l
+  pub lead_begins : (k : ℕ) → 0 < k → (l : Lead) → IsLeadMade plot.shape samples
+      (record { table = table; knows = driver_view p expect k }) l
       → IsLeadReady p table l false
   lead_begins k some l made = let seat = made.seat_is in let knows = ap (λ (s : Known). s.knows) seat in (
     record {
@@ -201,7 +211,8 @@ module _ (plot : Plot) (sound : IsSound (lay plot)) (samples : List ℤ) (ok : I
             lowered = ap (λ (r : ReadView). r.lowered) at;
             stored = ap (λ (r : ReadView). r.stored) at;
           };
-      steady = subst (λ (x : Samples × List ℤ). IsSteady p x.0 x.1) (λ i. (sym (ap (λ (x : View). x.expect) knows ∙ named) i, sym made.samples_are i))
+      steady = subst (λ (x : Samples × List ℤ). IsSteady p x.0 x.1)
+          (λ i. (sym (ap (λ (x : View). x.expect) knows ∙ named) i, sym made.samples_are i))
           (is_steady p samples ok.fit);
       long = made.long ∙ sym (ap (λ (l : List ℤ). length l) made.samples_are);
     },

@@ -1,5 +1,6 @@
 -- From step to step of a follower's turn.
-use Rattle.std.proofs.Common.{◌≡◌, ◌≢◌, ℕ, ℤ, ◌+◌, ◌<◌, ◌≤◌, false, List, length, refl, sym, ap, ◌∙◌, subst, arith, get_or-set_other}
+use Rattle.std.proofs.Common.{◌≡◌, ◌≢◌, ℕ, ℤ, ◌+◌, ◌<◌, ◌≤◌, false, List, length, refl, sym, ap, ◌∙◌, subst, arith}
+use Rattle.std.proofs.Common.{get_or-set_other}
 use Rattle.std.proofs.lemmas.List.{get_or_default}
 use Rattle.std.specs.Prelude.{All, slice_index_or}
 use Rattle.pw_base.specs.declared.pools.PoolShape.{PoolShape}
@@ -38,14 +39,18 @@ use Rattle.area_runs.proofs.HearingLemmas.{read_moves}
 use Rattle.area_runs.proofs.WritingLemmas.{write_moves, stock_moves}
 
 -- a view with the same ends and blocks
-pub even_moves : (p : Lay) (v w : View) (free : List Queue) (m c d : ℕ) → w.reads ≡ v.reads → w.writes ≡ v.writes → w.blocks ≡ v.blocks → d ≡ c
+pub even_moves : (p : Lay) (v w : View) (free : List Queue) (m c d : ℕ) → w.reads ≡ v.reads → w.writes ≡ v.writes → w.blocks ≡ v.blocks
+    → d ≡ c
     → AreEven p v free m c → AreEven p w free m d
 even_moves p v w free m c d rs ws bs e h = subst (AreEven p w free m) (sym e) record {
-  reads = λ l low is. read_moves v w l c (ap (λ (x : List ReadView). length x) rs) (ap (λ (x : List ReadView). slice_index_or x l (unread 0)) rs)
+  reads = λ l low is. read_moves v w l c (ap (λ (x : List ReadView). length x) rs)
+      (ap (λ (x : List ReadView). slice_index_or x l (unread 0)) rs)
       (h.reads l low is);
-  writes = λ l low is. write_moves v w l c (ap (λ (x : List WriteView). length x) ws) (ap (λ (x : List WriteView). slice_index_or x l (unwritten 0)) ws)
+  writes = λ l low is. write_moves v w l c (ap (λ (x : List WriteView). length x) ws)
+      (ap (λ (x : List WriteView). slice_index_or x l (unwritten 0)) ws)
       (h.writes l low is);
-  stocks = λ q low is. stock_moves p v w q c (queue_of free q) (λ b lt. ap (λ (x : List BlockView). slice_index_or x (block_at p q b) Free) bs)
+  stocks = λ q low is. stock_moves p v w q c (queue_of free q)
+      (λ b lt. ap (λ (x : List BlockView). slice_index_or x (block_at p q b) Free) bs)
       (h.stocks q low is);
 }
 
@@ -60,7 +65,11 @@ module _ (p : Lay) (v x : View) (same : x ≡ record v { reads = x.reads; writes
 
   rests_left : (m : ℕ) → IsResting p v m → IsResting p x m
   rests_left m r = let o = r.member.0 in subst (λ (y : View). IsResting p y m) (sym same) record {
-    member = (record { inside = o.inside; follows = o.follows; loops = o.loops; owned = o.owned; there = o.there; knows = o.knows }, r.member.1, r.member.2);
+    member = (
+      record { inside = o.inside; follows = o.follows; loops = o.loops; owned = o.owned; there = o.there; knows = o.knows },
+      r.member.1,
+      r.member.2,
+    );
     idle = r.idle;
   }
 
@@ -69,7 +78,8 @@ module _ (p : Lay) (plain : IsPlain p) (n : ℕ) where
   m = p.place n
 
   -- the node m works in the view v, and is even
-  module _ (v : View) (old : List Queue) (has : HasNode false p v m) (runs : IsRunning false v m) (even : AreEven p v old m (node_of v m).next) where
+  module _ (v : View) (old : List Queue) (has : HasNode false p v m) (runs : IsRunning false v m)
+      (even : AreEven p v old m (node_of v m).next) where
     abbrev cycle : ℕ
     cycle = (node_of v m).next
 
@@ -133,7 +143,8 @@ module _ (p : Lay) (plain : IsPlain p) (n : ℕ) where
                     (even.writes l (pool_link p plain q l h.0 c) (pool_writer p plain q l h.0 c ∙ h.1)));
               },
               subst (λ c. Stock p w q c (queue_of old q)) (sym now)
-                  (stock_moves p v w q cycle (queue_of old q) (λ b lt. ap (λ (y : List BlockView). slice_index_or y (block_at p q b) Free) bs)
+                  (stock_moves p v w q cycle (queue_of old q)
+                  (λ b lt. ap (λ (y : List BlockView). slice_index_or y (block_at p q b) Free) bs)
                   (even.stocks q h.0 h.1)),
             )),
         fills_once p plain n inside,
@@ -143,7 +154,8 @@ module _ (p : Lay) (plain : IsPlain p) (n : ℕ) where
       all_put samples steady k d low = let q : ℕ = slice_index_or (fills_of p.shape n) k d in
           let h = filled_by p plain n inside q (k, low, get_or_default (fills_of p.shape n) k q d low) in
           let c = has.1 in let now = filler_cycle q h.1 in
-          steady.gives (fill_cycle p w q) q (omega arith) (omega arith) h.0 ∙ ap (λ (y : View). samples_in p y.expect (fill_cycle p w q) q) (sym heard.same)
+          steady.gives (fill_cycle p w q) q (omega arith) (omega arith) h.0
+          ∙ ap (λ (y : View). samples_in p y.expect (fill_cycle p w q) q) (sym heard.same)
 
       -- it has filled all
       module _ (x : View) (new : List Queue) (written : AreWritten p w old (fills_of p.shape n) x new) where
@@ -167,7 +179,8 @@ module _ (p : Lay) (plain : IsPlain p) (n : ℕ) where
           writes = λ l low e. let q = of_pool p plain l low in let f = q.2 ∙ e in
               subst (λ c. IsWrittenUpTo x l (c + 1)) (filler_cycle (pool_of p l) f)
               (written.even (pool_of p l) l (fills_it p plain n inside (pool_of p l) q.0 f) q.1);
-          stocks = λ q low e. subst (λ c. Stock p x q (c + 1) (queue_of new q)) (filler_cycle q e) (written.stocks q (fills_it p plain n inside q low e));
+          stocks = λ q low e. subst (λ c. Stock p x q (c + 1) (queue_of new q)) (filler_cycle q e)
+              (written.stocks q (fills_it p plain n inside q low e));
         }
 
         other_even : (k c : ℕ) → k ≢ m → AreEven p v old k c → AreEven p x new k c
@@ -175,7 +188,8 @@ module _ (p : Lay) (plain : IsPlain p) (n : ℕ) where
           reads = λ l low e. read_moves v x l c (ap (λ (y : List ReadView). length y) rs ∙ heard.ends)
               (read_same l ∙ heard.others l (λ i. o (sym e ∙ (read_by p plain n inside l i).1))) (h.reads l low e);
           writes = λ l low e. write_moves v x l c (written.ends ∙ ap (λ (y : List WriteView). length y) ws)
-              (written.other_links l (λ q i of_q. let f = filled_by p plain n inside q i in o (sym e ∙ pool_writer p plain q l f.0 of_q ∙ f.1))
+              (written.other_links l (λ q i of_q. let f = filled_by p plain n inside q i in
+              o (sym e ∙ pool_writer p plain q l f.0 of_q ∙ f.1))
               ∙ ap (λ (y : List WriteView). slice_index_or y l (unwritten 0)) ws) (h.writes l low e);
           stocks = λ q low e. let left = written.other_pools q low (λ i. o (sym e ∙ (filled_by p plain n inside q i).1)) in
               subst (Stock p x q c) (sym left.0) (stock_moves p v x q c (queue_of old q)
@@ -221,7 +235,8 @@ module _ (p : Lay) (plain : IsPlain p) (n : ℕ) where
             told = record x.trail { told = y.trail.told }
 
             next : (node_of y m).next ≡ cycle + 1
-            next = ap (λ (u : View). (node_of u m).next) r.is ∙ ap (λ (u : NodeView). u.next) (again p x m slept told x_has.0.there) ∙ ap (λ c. c + 1) x_next
+            next = ap (λ (u : View). (node_of u m).next) r.is ∙ ap (λ (u : NodeView). u.next) (again p x m slept told x_has.0.there)
+                ∙ ap (λ c. c + 1) x_next
 
             moved : (k c : ℕ) → (node_of y k).next ≡ c → AreEven p x new k c → AreEven p y new k (node_of y k).next
             moved k c e h = even_moves p x y new k c (node_of y k).next (ap (λ (u : View). u.reads) r.is) (ap (λ (u : View). u.writes) r.is)
@@ -272,7 +287,8 @@ turned_whole p v m y t there next old w new h = record {
 
 module _ (p : Lay) (shapes : List PoolShape) (samples : List ℤ) (v : View) (free : List Queue) (w : View) (new : List Queue) where
   -- a turn leaves the loop what it works with
-  pub equipped_moves : w.expect ≡ v.expect → length w.blocks ≡ length v.blocks → length new ≡ length free → IsEquipped p v shapes free samples
+  pub equipped_moves : w.expect ≡ v.expect → length w.blocks ≡ length v.blocks → length new ≡ length free
+      → IsEquipped p v shapes free samples
       → IsEquipped p w shapes new samples
   equipped_moves expect room lists e = record {
     plain = e.plain;

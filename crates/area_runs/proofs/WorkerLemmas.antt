@@ -58,7 +58,8 @@ module _ (p : Lay) (t : TableId) (old : Worker) (ready : IsReady p t old) (at : 
         (subst (λ (y : View). HasTurned p y free m x new) e h)
 
   -- the loop after its turn, or after a try that was too early
-  module _ (new : Worker) (table : new.seat.table ≡ t) (nodes : new.nodes ≡ old.nodes) (shapes : new.shapes ≡ old.shapes) (samples : new.samples ≡ old.samples)
+  module _ (new : Worker) (table : new.seat.table ≡ t) (nodes : new.nodes ≡ old.nodes) (shapes : new.shapes ≡ old.shapes)
+      (samples : new.samples ≡ old.samples)
       (long : length new.room.items ≡ length old.room.items) where
     abbrev w : View
     w = new.seat.knows
@@ -81,13 +82,17 @@ module _ (p : Lay) (t : TableId) (old : Worker) (ready : IsReady p t old) (at : 
     tried_ready found lists e = record {
       table = table;
       equipped = subst (λ (x : List PoolShape × List ℤ). IsEquipped p w x.0 new.free.items x.1) (λ i. (sym shapes i, sym samples i))
-          (equipped_moves p old.shapes old.samples v free w new.free.items (ap (λ (x : View). x.expect) e) (ap (λ (x : View). length x.blocks) e)
+          (equipped_moves p old.shapes old.samples v free w new.free.items (ap (λ (x : View). x.expect) e)
+          (ap (λ (x : View). length x.blocks) e)
           (ap (λ (l : List Queue). length l) lists) ready.equipped);
       rests = subst (All (λ e. (e ≡ ends_of p.shape e.node) × IsAtRest p w new.free.items (p.place e.node))) (sym nodes)
           (λ k d lt. let n : ℕ = p.place (get_or old.nodes k d).node in let r = ready.rests k d lt in (
             r.0,
-            subst (λ (x : View × List Queue). IsAtRest p x.0 x.1 n) (λ i. (sym e i, sym lists i))
-                (tried_rests p v m n found r.1.0, even_moves p v (tried p v m found) free n (node_of v n).next (node_of v n).next refl refl refl refl r.1.1),
+            subst (λ (x : View × List Queue). IsAtRest p x.0 x.1 n) (λ i. (sym e i, sym lists i)) (
+              tried_rests p v m n found r.1.0,
+              even_moves p v (tried p v m found) free n (node_of v n).next
+                  (node_of v n).next refl refl refl refl r.1.1,
+            ),
           ));
       long = long ∙ ready.long ∙ sym (ap (λ (l : List ℤ). length l) samples);
     }

@@ -1,5 +1,6 @@
 -- From pool to pool of a node that writes.
-use Rattle.std.proofs.Common.{◌≡◌, ◌≢◌, ℕ, ℤ, ◌+◌, ◌<◌, ◌≤◌, false, List, [], length, get_or, set, take, refl, sym, ap, ◌∙◌, subst, arith}
+use Rattle.std.proofs.Common.{◌≡◌, ◌≢◌, ℕ, ℤ, ◌+◌, ◌<◌, ◌≤◌, false, List, [], length, get_or, set, take, refl, sym, ap, ◌∙◌}
+use Rattle.std.proofs.Common.{subst, arith}
 use Rattle.std.proofs.Common.{⊎_elim, length-set, get_or-set_same, get_or-set_other}
 use Rattle.std.specs.Prelude.{Contains}
 use Rattle.std.proofs.lemmas.Option.{slice_get-get_or}
@@ -24,14 +25,16 @@ use Rattle.area_turns.specs.Writing.{MayWrite, HasWritten}
 use Rattle.area_runs.specs.Writing.{queue_of, MayFillAll, Puts, IsLeft, AreWritten}
 use Rattle.area_runs.proofs.ListLemmas.{taken, take_cases, early_differs, last_taken, still_taken}
 
-pub write_moves : (v w : View) (l c : ℕ) → length w.writes ≡ length v.writes → write_of w l ≡ write_of v l → IsWrittenUpTo v l c → IsWrittenUpTo w l c
+pub write_moves : (v w : View) (l c : ℕ) → length w.writes ≡ length v.writes → write_of w l ≡ write_of v l → IsWrittenUpTo v l c
+    → IsWrittenUpTo w l c
 write_moves v w l c long same e = record {
   there = subst (λ n. l < n) (sym long) e.there;
   loaded = ap (λ (r : WriteView). r.loaded) same ∙ e.loaded;
   stored = ap (λ (r : WriteView). r.stored) same ∙ e.stored;
 }
 
-pub stock_moves : (p : Lay) (v w : View) (q c : ℕ) (pool : Queue) → ((b : ℕ) → b < (pool_at p q).blocks → block_of p w q b ≡ block_of p v q b)
+pub stock_moves : (p : Lay) (v w : View) (q c : ℕ) (pool : Queue)
+    → ((b : ℕ) → b < (pool_at p q).blocks → block_of p w q b ≡ block_of p v q b)
     → Stock p v q c pool → Stock p w q c pool
 stock_moves p v w q c pool same s = record {
   size = s.size;
@@ -55,7 +58,8 @@ module _ (p : Lay) (v : View) (ws : List WriteView) (bs : List BlockView) where
 
 module _ (p : Lay) (plain : IsPlain p) where
   -- a link is of one pool
-  pub one_pool : (q r l : ℕ) → q < length (pools_of p.shape) → r < length (pools_of p.shape) → Contains (pool_at p q).links l → Contains (pool_at p r).links l
+  pub one_pool : (q r l : ℕ) → q < length (pools_of p.shape) → r < length (pools_of p.shape) → Contains (pool_at p q).links l
+      → Contains (pool_at p r).links l
       → q ≡ r
   one_pool q r l a b c d = (wired p plain.sound plain.pooled plain.undelayed).one_pool q r l (pool_at p q) (pool_at p r)
       (slice_get-get_or (pools_of p.shape) q no_pool a) (slice_get-get_or (pools_of p.shape) r no_pool b) c d
@@ -137,17 +141,24 @@ module _ (p : Lay) (plain : IsPlain p) where
               (λ done. let h = early q done in write_moves w u l (fill_cycle p v q + 1) written.ends
               (written.other_links l (λ d. h.1 (one_pool q pool l h.0 pool_in of_q d))) (so_far.even q l done of_q))
               (λ (e : pool ≡ q). subst (λ i. IsWrittenUpTo u l (fill_cycle p v i + 1)) e
-              (subst (λ n. IsWrittenUpTo u l (n + 1)) (same_cycle pool) (written.even l (subst (λ i. Contains (pool_at p i).links l) (sym e) of_q))))
+              (subst (λ n. IsWrittenUpTo u l (n + 1)) (same_cycle pool)
+              (written.even l (subst (λ i. Contains (pool_at p i).links l) (sym e) of_q))))
               (take_cases pools k q low c);
           stocks = λ q c. ⊎_elim
               (λ done. let h = early q done in subst (Stock p u q (fill_cycle p v q + 1)) (sym (other q h.1))
-              (stock_moves p w u q (fill_cycle p v q + 1) (queue_of new q) (λ b lt. written.other_pools q b h.0 lt h.1) (so_far.stocks q done)))
+              (stock_moves p w u q (fill_cycle p v q + 1) (queue_of new q) (λ b lt. written.other_pools q b h.0 lt h.1)
+              (so_far.stocks q done)))
               (λ (e : pool ≡ q). subst (λ i. Stock p u i (fill_cycle p v i + 1) (queue_of newer i)) e
               (subst (λ (y : ℕ × Queue). Stock p u pool (y.0 + 1) y.1)
-              (λ i. (same_cycle pool i, sym (get_or-set_same new pool x (record { free = []; blocks = 0 }) (subst (λ n. pool < n) (sym long) pool_in)) i))
+              (λ i. (
+                same_cycle pool i,
+                sym (get_or-set_same new pool x (record { free = []; blocks = 0 })
+                    (subst (λ n. pool < n) (sym long) pool_in)) i,
+              ))
               stock))
               (take_cases pools k q low c);
-          other_links = λ l o. written.other_links l (o pool (last_taken pools k low)) ∙ so_far.other_links l (λ q done. o q (still_taken pools k q low done));
+          other_links = λ l o. written.other_links l (o pool (last_taken pools k low))
+              ∙ so_far.other_links l (λ q done. o q (still_taken pools k q low done));
           other_pools = λ r lt o. let n : r ≢ pool = λ e. o (subst (Contains (take (k + 1) pools)) (sym e) (last_taken pools k low)) in
               let h = so_far.other_pools r lt (λ done. o (still_taken pools k r low done)) in
               (other r n ∙ h.0, (λ b less. written.other_pools r b lt less n ∙ h.1 b less));

@@ -1,5 +1,6 @@
 -- The blocks of a pool: where a view has them, and the one that is filled and announced.
-use Rattle.std.proofs.Common.{◌≡◌, ◌≢◌, ℕ, ◌+◌, ◌<◌, ◌⊎◌, inl, ⊎_elim, List, length, refl, sym, ap, ◌∙◌, arith, length-set, get_or-set_same, get_or-set_other}
+use Rattle.std.proofs.Common.{◌≡◌, ◌≢◌, ℕ, ◌+◌, ◌<◌, ◌⊎◌, inl, ⊎_elim, List, length, refl, sym, ap, ◌∙◌, arith, length-set}
+use Rattle.std.proofs.Common.{get_or-set_same, get_or-set_other}
 use Rattle.std.proofs.Common.{set-set}
 use mathlib.Core.Logic.{dite}
 use native.Mathlib.Decide.{dec_le}
@@ -23,10 +24,12 @@ use Rattle.area_turns.proofs.FrameLemmas.{IsKept, at_again}
 module _ (p : Lay) where
   -- a lower pool has its blocks at lower places
   lower_pool : (q r b a : ℕ) → q < length (pools_of p.shape) → b < (pool_at p q).blocks → q < r → block_at p q b < block_at p r a
-  lower_pool q r b a inside low h = let s = take_less (λ (x : PoolShape). x.blocks) (pools_of p.shape) q r (pool_at p q) h (pool_there p q inside) in
+  lower_pool q r b a inside low h = let s = take_less (λ (x : PoolShape). x.blocks) (pools_of p.shape) q r (pool_at p q) h
+      (pool_there p q inside) in
       omega arith
 
-  places_apart : (q r b a : ℕ) → q < length (pools_of p.shape) → r < length (pools_of p.shape) → b < (pool_at p q).blocks → a < (pool_at p r).blocks → r ≢ q
+  places_apart : (q r b a : ℕ) → q < length (pools_of p.shape) → r < length (pools_of p.shape) → b < (pool_at p q).blocks
+      → a < (pool_at p r).blocks → r ≢ q
       → block_at p r a ≢ block_at p q b
   places_apart q r b a hq hr hb ha o e = dite (dec_le q r)
       (λ le. let z = lower_pool q r b a hq hb (omega arith) in omega arith)
@@ -45,11 +48,16 @@ module _ (p : Lay) where
     -- the blocks of other pools stay
     pub elsewhere : HasPool p v q → b < (pool_at p q).blocks → (r a : ℕ) → r < length (pools_of p.shape) → a < (pool_at p r).blocks → r ≢ q
         → block_of p (view_block p v q b y) r a ≡ block_of p v r a
-    elsewhere h low r a there under o = get_or-set_other v.blocks (block_at p q b) (block_at p r a) y Free (places_apart q r b a h.0 there low under o)
+    elsewhere h low r a there under o = get_or-set_other v.blocks (block_at p q b) (block_at p r a) y Free
+        (places_apart q r b a h.0 there low under o)
 
   -- a block that is filled or out of this cycle, all others free, is the one
   pub first_filled : (v : View) (q b : ℕ) → b < (pool_at p q).blocks → IsFilled p v q b → AreFreeBut p v q b → IsFirstFilled p v q b
-  first_filled v q b low is free = record { inside = low; is = is; before = λ a h f. not_free (block_of p v q a) (free a (omega arith) (λ e. omega arith)) f }
+  first_filled v q b low is free = record {
+    inside = low;
+    is = is;
+    before = λ a h f. not_free (block_of p v q a) (free a (omega arith) (λ e. omega arith)) f;
+  }
     where
       not_free : (x : BlockView) → x ≡ Free → (x ≡ Filling (pool_at p q).words) ⊎ (x ≡ Out (fill_cycle p v q + 1)) → ⊥
       not_free x e f = ⊎_elim (λ g. let z : Free ≡ Filling (pool_at p q).words = sym e ∙ g in absurd (cc))

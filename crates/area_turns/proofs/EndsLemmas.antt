@@ -1,5 +1,6 @@
 -- The writer's ends of links of a list, one after another.
-use Rattle.std.proofs.Common.{◌≡◌, ◌≢◌, ℕ, ◌+◌, ◌<◌, ⊎_elim, cond, eqb, Some, None, List, [], ◌∷◌, ◌++◌, length, get_or, take, AllPairs, Contains, refl, sym}
+use Rattle.std.proofs.Common.{◌≡◌, ◌≢◌, ℕ, ◌+◌, ◌<◌, ⊎_elim, cond, eqb, Some, None, List, [], ◌∷◌, ◌++◌, length, get_or, take}
+use Rattle.std.proofs.Common.{AllPairs, Contains, refl, sym}
 use Rattle.std.proofs.Common.{ap, ◌∙◌, subst, arith, length-set, length-take, get_or-take, get_or-set_same, get_or-set_other}
 use Rattle.std.proofs.lemmas.List.{take_more, get_or_default}
 use Rattle.std.proofs.lemmas.List.Elements.{Contains-push, Contains-append_left, Contains-push_cases}
@@ -19,7 +20,8 @@ use Rattle.area_turns.proofs.FrameLemmas.{IsKept, has_again, runs_again, pool_ag
 
 -- an element does not stand before itself
 pub not_before : (xs : List ℕ) (k d : ℕ) → AllPairs (λ a b. a ≢ b) xs → k < length xs → Contains (take k xs) (get_or xs k d) → ⊥
-not_before xs k d once h c = let l : ℕ = get_or xs k d in let i = c.0 in let long = length-take k xs in let low = c.1 in let before : i < k = omega arith in
+not_before xs k d once h c = let l : ℕ = get_or xs k d in let i = c.0 in let long = length-take k xs in let low = c.1 in
+    let before : i < k = omega arith in
     once i k l before h (sym (get_or-take k xs i l before) ∙ c.2 ∙ get_or_default xs k d l h)
 
 module _ (Made : ℕ → WriteView → WriteView → Type 0) (v : View) where
@@ -34,7 +36,8 @@ module _ (Made : ℕ → WriteView → WriteView → Type 0) (v : View) where
   none_made = record { same = refl; long = refl; made = λ l c. let z = c.1 in absurd (omega arith); left = λ l o. refl }
 
   -- one more of them
-  pub more_made : (xs : List ℕ) (l : ℕ) (w : View) (y : WriteView) → (Contains xs l → ⊥) → l < length v.writes → AreMade Made v xs w → Made l (write_of v l) y
+  pub more_made : (xs : List ℕ) (l : ℕ) (w : View) (y : WriteView) → (Contains xs l → ⊥) → l < length v.writes → AreMade Made v xs w
+      → Made l (write_of v l) y
       → AreMade Made v (xs ++ l ∷ []) (view_write w l y)
   more_made xs l w y fresh inside a is = let long = a.long in let set_long = length-set w.writes l y in record {
     same = ap (λ (x : View). view_write x l y) a.same;
@@ -43,7 +46,8 @@ module _ (Made : ℕ → WriteView → WriteView → Type 0) (v : View) where
         (λ d. let o : m ≢ l = (λ e. fresh (subst (Contains xs) e d)) in subst (Made m (write_of v m)) (sym (else m o)) (a.made m d))
         (λ e. subst (λ j. Made j (write_of v j) (write_of (view_write w l y) j)) e (subst (Made l (write_of v l)) (sym here) is))
         (Contains-push_cases xs l m c);
-    left = λ m o. else m (λ e. o (subst (Contains (xs ++ l ∷ [])) (sym e) (Contains-push xs l))) ∙ a.left m (λ d. o (Contains-append_left xs (l ∷ []) m d));
+    left = λ m o. else m (λ e. o (subst (Contains (xs ++ l ∷ [])) (sym e) (Contains-push xs l)))
+        ∙ a.left m (λ d. o (Contains-append_left xs (l ∷ []) m d));
   }
     where
       here : write_of (view_write w l y) l ≡ y
@@ -53,10 +57,12 @@ module _ (Made : ℕ → WriteView → WriteView → Type 0) (v : View) where
       else m o = get_or-set_other w.writes l m y (unwritten 0) o
 
   -- the same for the list as a loop goes over it
-  pub next_made : (xs : List ℕ) (k : ℕ) (w : View) (y : WriteView) → AllPairs (λ a b. a ≢ b) xs → k < length xs → get_or xs k 0 < length v.writes
+  pub next_made : (xs : List ℕ) (k : ℕ) (w : View) (y : WriteView) → AllPairs (λ a b. a ≢ b) xs → k < length xs
+      → get_or xs k 0 < length v.writes
       → AreMade Made v (take k xs) w → Made (get_or xs k 0) (write_of v (get_or xs k 0)) y
       → AreMade Made v (take (k + 1) xs) (view_write w (get_or xs k 0) y)
-  next_made xs k w y once h inside a is = subst (λ (ls : List ℕ). AreMade Made v ls (view_write w (get_or xs k 0) y)) (sym (take_more xs k 0 h))
+  next_made xs k w y once h inside a is = subst (λ (ls : List ℕ). AreMade Made v ls (view_write w (get_or xs k 0) y))
+      (sym (take_more xs k 0 h))
       (more_made (take k xs) (get_or xs k 0) w y (not_before xs k 0 once h) inside a is)
 
 module _ (p : Lay) (v w : View) (ks : IsKept v w) where
@@ -74,7 +80,11 @@ module _ (p : Lay) (v : View) (xs : List ℕ) (w : View) (l : ℕ) (fresh : Cont
     loaded_kept = kept (IsLoadedNow p v) v xs w a
 
     pub may_load : LoadsAsWriter p v l → LoadsAsWriter p w l
-    may_load h = (writer_again p v w loaded_kept l h.0, ap (λ (y : WriteView). y.loaded) (a.left l fresh) ∙ h.1 ∙ sym (same_cycle p v w loaded_kept l))
+    may_load h = (
+      writer_again p v w loaded_kept l h.0,
+      ap (λ (y : WriteView). y.loaded) (a.left l fresh) ∙ h.1
+          ∙ sym (same_cycle p v w loaded_kept l),
+    )
 
     pub loaded_is : IsLoadedNow p v l (write_of v l) (record (write_of w l) { loaded = write_cycle p w l + 1 })
     loaded_is = ap (λ (k : WriteView × ℕ). record k.0 { loaded = k.1 + 1 }) (λ i. (a.left l fresh i, same_cycle p v w loaded_kept l i))
@@ -91,7 +101,8 @@ module _ (p : Lay) (v : View) (xs : List ℕ) (w : View) (l : ℕ) (fresh : Cont
     same_first q b f = subst (λ (x : View). IsFirstFilled p x q b) (sym a.same) record { inside = f.inside; is = f.is; before = f.before }
 
     first_same : (q b : ℕ) → IsFirstFilled p w q b → IsFirstFilled p v q b
-    first_same q b f = let g : IsFirstFilled p (record v { writes = w.writes }) q b = subst (λ (x : View). IsFirstFilled p x q b) a.same f in
+    first_same q b f = let g : IsFirstFilled p (record v { writes = w.writes }) q b =
+        subst (λ (x : View). IsFirstFilled p x q b) a.same f in
         record { inside = g.inside; is = g.is; before = g.before }
 
     same_block : (q b : ℕ) → block_of p w q b ≡ block_of p v q b
@@ -114,5 +125,6 @@ module _ (p : Lay) (v : View) (xs : List ℕ) (w : View) (l : ℕ) (fresh : Cont
     published_is b n = (
       b,
       (first_same (pool_of p l) b n.0, sym (same_block (pool_of p l) b) ∙ n.1 ∙ same_out),
-      ap (λ (k : WriteView × ℕ). record k.0 { stored = k.1 + 1; id = b; last = k.0.id }) (λ i. (a.left l fresh i, same_cycle p v w published_kept l i)),
+      ap (λ (k : WriteView × ℕ). record k.0 { stored = k.1 + 1; id = b; last = k.0.id })
+          (λ i. (a.left l fresh i, same_cycle p v w published_kept l i)),
     )

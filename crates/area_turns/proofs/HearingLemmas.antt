@@ -1,5 +1,6 @@
 -- From step to step of a reader's turn.
-use Rattle.std.proofs.Common.{◌≡◌, ℕ, ℤ, ◌+◌, ◌-◌, ◌<◌, ◌≤◌, Bool, true, false, cond, ltb, List, length, get_or, refl, sym, ap, ◌∙◌, subst, arith, set-set}
+use Rattle.std.proofs.Common.{◌≡◌, ℕ, ℤ, ◌+◌, ◌-◌, ◌<◌, ◌≤◌, Bool, true, false, cond, ltb, List, length, get_or, refl, sym, ap}
+use Rattle.std.proofs.Common.{◌∙◌, subst, arith, set-set}
 use Rattle.std.proofs.Common.{length-set, get_or-set_same}
 use Rattle.std.specs.Prelude.{Option, unwrap_or, option_map}
 use Rattle.std.proofs.lemmas.Option.{slice_get-get_or}
@@ -50,7 +51,8 @@ on_time p plain l h = let k : ShapeLink = get_or p.shape.links l no_link in
 -- the stamp of a block is one more than its cycle
 of_now : (p : Lay) (e : Samples) (q c n : ℕ) (zeros : List ℤ) → n ≡ c + 1 → first p ≤ c
     → cond (ltb (first p) n) (samples_in p e (n - 1) q) zeros ≡ samples_in p e c q
-of_now p e q c n zeros is low = ap (λ t. cond t (samples_in p e (n - 1) q) zeros) later ∙ ap (λ k. samples_in p e k q) (let z : n - 1 ≡ c = omega arith in z)
+of_now p e q c n zeros is low = ap (λ t. cond t (samples_in p e (n - 1) q) zeros) later
+    ∙ ap (λ k. samples_in p e k q) (let z : n - 1 ≡ c = omega arith in z)
   where
     later : ltb (first p) n ≡ true
     later = grind arith
@@ -96,12 +98,18 @@ module _ (b : Bool) (p : Lay) (v : View) (l : ℕ) (h : MayHear b p v l) where
     has_heard w e = (
       id,
       e
-          ∙ ap (λ (k : ReadView × ℕ). view_read (taken b p v l id) l (record k.0 { lowered = k.1 + 1; stored = k.1 + 1 })) (λ i. (is i, same i))
+          ∙ ap (λ (k : ReadView × ℕ). view_read (taken b p v l id) l (record k.0 { lowered = k.1 + 1; stored = k.1 + 1 }))
+          (λ i. (is i, same i))
           ∙ ap (λ (xs : List ReadView). record v { reads = xs }) (set-set v.reads l y _),
     )
 
   pub heard_even : (w : View) → HasHeard b p v l w → IsReadUpTo w l (read_cycle b p v l + 1)
-  heard_even w r = let z : ReadView = record { loaded = read_cycle b p v l + 1; lowered = read_cycle b p v l + 1; stored = read_cycle b p v l + 1; id = r.0 }
+  heard_even w r = let z : ReadView = record {
+    loaded = read_cycle b p v l + 1;
+    lowered = read_cycle b p v l + 1;
+    stored = read_cycle b p v l + 1;
+    id = r.0;
+  }
       in let e = end_again p v l z h.even.there in let there = h.even.there in let long = length-set v.reads l z in
       subst (λ (u : View). IsReadUpTo u l (read_cycle b p v l + 1)) (sym r.1) record {
         there = omega arith;

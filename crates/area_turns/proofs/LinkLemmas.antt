@@ -29,10 +29,12 @@ module _ (p : Lay) (plain : IsPlain p) (q : ℕ) where
     some_link = let l = wires.linked q (pool_at p q) there in let h = l.1.1 in omega arith
 
     pub once : AllPairs (λ k l. k ≢ l) (pool_at p q).links
-    once i j d h lt e = let z : i ≡ j = differ_at (pool_at p q).links d i j (wires.once q (pool_at p q) there) (omega arith) lt e in omega arith
+    once i j d h lt e = let z : i ≡ j = differ_at (pool_at p q).links d i j (wires.once q (pool_at p q) there) (omega arith) lt e in
+        omega arith
 
     -- each is a link of the shape from the pool's node, and reads the pool
-    pub of_pool : (l : ℕ) → Contains (pool_at p q).links l → (l < length p.shape.links) × (writer_of p l ≡ filler_of p q) × (pool_of p l ≡ q)
+    pub of_pool : (l : ℕ) → Contains (pool_at p q).links l → (l < length p.shape.links) × (writer_of p l ≡ filler_of p q)
+        × (pool_of p l ≡ q)
     of_pool l c = let k = wires.there q l (pool_at p q) there c in let here = pool_here p wires l k.0 k.1 in (
       slice_get_within p.shape.links l k.0 k.1,
       ap (λ (j : ShapeLink). p.place j.from.node) (link_is p l k.0 k.1) ∙ ap (λ (z : PortId). p.place z.node) k.2,

@@ -19,7 +19,8 @@ pub record IsRefilled (p : Lay) (q : ℕ) (v w : View) : Type 0 where
   pub others : (r a : ℕ) → r < length (pools_of p.shape) → a < (pool_at p r).blocks → r ≢ q → block_of p w r a ≡ block_of p v r a
 
 module _ (p : Lay) (q : ℕ) where
-  pub refilled : (v w : View) (b : ℕ) (y : BlockView) → HasPool p v q → b < (pool_at p q).blocks → w ≡ view_block p v q b y → IsRefilled p q v w
+  pub refilled : (v w : View) (b : ℕ) (y : BlockView) → HasPool p v q → b < (pool_at p q).blocks → w ≡ view_block p v q b y
+      → IsRefilled p q v w
   refilled v w b y h low e = subst (IsRefilled p q v) (sym e) record
       { same = refl; room = length-set v.blocks (block_at p q b) y; others = elsewhere p v q b y h low }
 

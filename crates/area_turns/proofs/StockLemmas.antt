@@ -1,5 +1,6 @@
 -- The blocks of a pool and the list of the free ones, from step to step of a turn.
-use Rattle.std.proofs.Common.{◌≡◌, ◌≢◌, ℕ, suc, ◌+◌, ◌-◌, ◌<◌, ◌≤◌, List, [], ◌∷◌, ◌++◌, Option, Some, None, All, AllPairs, Contains, length, get_or}
+use Rattle.std.proofs.Common.{◌≡◌, ◌≢◌, ℕ, suc, ◌+◌, ◌-◌, ◌<◌, ◌≤◌, List, [], ◌∷◌, ◌++◌, Option, Some, None, All}
+use Rattle.std.proofs.Common.{AllPairs, Contains, length, get_or}
 use Rattle.std.proofs.Common.{option_to_list, sym, ap, ◌∙◌, subst, arith, append-nil, length-append}
 use Rattle.std.proofs.lemmas.List.Elements.{All-head, All-push, Contains-get_or}
 use Rattle.std.proofs.lemmas.List.Quantifiers.{all_pairs_push}
@@ -65,7 +66,8 @@ module _ (p : Lay) (q : ℕ) where
             oldest = λ a m l e. dite (ℕ_discrete a b)
                 (λ z. let n = out_same (fill_cycle p v q) m (sym is ∙ ap (block_of p v q) (sym z) ∙ e) in omega arith)
                 (λ z. absurd (free_out (block_of p v q a) m (o.1.2 a l z) e));
-            before = λ a l e. let low = o.1.0 in free_out (block_of p v q a) (fill_cycle p v q) (o.1.2 a (omega arith) (λ z. omega arith)) e;
+            before = λ a l e. let low = o.1.0 in free_out (block_of p v q a) (fill_cycle p v q)
+                (o.1.2 a (omega arith) (λ z. omega arith)) e;
           },
         )
 
@@ -92,9 +94,11 @@ module _ (p : Lay) (q : ℕ) where
     all_listed (Some b) w h = let o = alone b _ h.0 h.1 in record {
       long = (let a = length-append pool.free (b ∷ []) in let n = s.short h.0 in let z = s.size in omega arith);
       once = all_pairs_push (λ i j. i ≢ j) pool.free b s.once
-          (λ k d l e. free_out (block_of p v q b) _ (ap (block_of p v q) (sym e) ∙ (s.listed (get_or pool.free k d) (Contains-get_or pool.free k d l)).1)
+          (λ k d l e. free_out (block_of p v q b) _ (ap (block_of p v q) (sym e)
+          ∙ (s.listed (get_or pool.free k d) (Contains-get_or pool.free k d l)).1)
           o.1);
-      low = All-push (λ k. k < (pool_at p q).blocks) pool.free b (λ k d l. (s.listed (get_or pool.free k d) (Contains-get_or pool.free k d l)).0) o.0;
+      low = All-push (λ k. k < (pool_at p q).blocks) pool.free b
+          (λ k d l. (s.listed (get_or pool.free k d) (Contains-get_or pool.free k d l)).0) o.0;
     }
 
   -- the stock of the next cycle

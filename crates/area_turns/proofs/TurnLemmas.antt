@@ -1,6 +1,7 @@
 -- From step to step of the turn of a node on a pool: its views are v, w when the links are loaded, x when a block is taken from
 -- the free ones, y when it is announced, and z when it is published.
-use Rattle.std.proofs.Common.{◌≡◌, ℕ, ◌+◌, inr, false, List, ◌∷◌, ◌++◌, Option, Some, None, All, Contains, get_or, option_to_list, sym, ap, ◌∙◌, subst, arith}
+use Rattle.std.proofs.Common.{◌≡◌, ℕ, ◌+◌, inr, false, List, ◌∷◌, ◌++◌, Option, Some, None, All, Contains, get_or, option_to_list, sym}
+use Rattle.std.proofs.Common.{ap, ◌∙◌, subst, arith}
 use Rattle.std.proofs.lemmas.List.Elements.{Contains-get_or}
 use Rattle.board_rule.specs.declared.view.WriteView.{WriteView}
 use Rattle.board_rule.specs.declared.view.BlockView.TheVariants.{Out}
@@ -52,7 +53,8 @@ pub record HasLoaded (p : Lay) (v : View) (q : ℕ) (pool : Queue) (w : View) : 
 pub begun : (p : Lay) (v : View) (q : ℕ) (pool : Queue) (xs : List ℕ) (w : View) → IsPlain p → MayWrite p v q → xs ≡ links_of p q
     → Stock p v q (fill_cycle p v q) pool
     → AreMade (IsLoadedNow p v) v xs w → HasLoaded p v q pool w
-begun p v q pool xs w plain may e s ends = record { plain = plain; may = may; stock = s; ends = subst (λ ls. AreMade (IsLoadedNow p v) v ls w) e ends }
+begun p v q pool xs w plain may e s ends = record
+    { plain = plain; may = may; stock = s; ends = subst (λ ls. AreMade (IsLoadedNow p v) v ls w) e ends }
 
 module _ {p : Lay} {v : View} {q : ℕ} {pool : Queue} {w : View} (t : HasLoaded p v q pool w) where
   kept_loaded : IsKept v w
@@ -75,19 +77,30 @@ module _ {p : Lay} {v : View} {q : ℕ} {pool : Queue} {w : View} (t : HasLoaded
 
   pub stock_again : Stock p w q (fill_cycle p w q) pool
   stock_again = let s = t.stock in subst (λ (k : View × ℕ). Stock p k.0 q k.1 pool) (λ i. (sym t.ends.same i, sym cycle_loaded i))
-      record { size = s.size; some = s.some; listed = s.listed; once = s.once; full = s.full; fresh = s.fresh; short = s.short; out = s.out }
+      record {
+        size = s.size;
+        some = s.some;
+        listed = s.listed;
+        once = s.once;
+        full = s.full;
+        fresh = s.fresh;
+        short = s.short;
+        out = s.out;
+      }
 
   pub may_reclaim : Reclaims p w q
   may_reclaim = (at_loaded, (λ l d. (turn_loaded l d).0), due p q w pool stock_again t.plain)
 
 -- OBTAINED: what came back, and the block that is taken from the free ones
-pub record HasObtained (p : Lay) (v : View) (q : ℕ) (pool : Queue) (w : View) (r : Option ℕ) (x : View) (used : ℕ) (left : Queue) : Type 0 where
+pub record HasObtained (p : Lay) (v : View) (q : ℕ) (pool : Queue) (w : View) (r : Option ℕ) (x : View) (used : ℕ)
+    (left : Queue) : Type 0 where
   pub before : HasLoaded p v q pool w
   pub back : HasReclaimed p w q r x
   pub queue : pool.free ++ option_to_list r ≡ used ∷ left.free
   pub size : left.blocks ≡ pool.blocks
 
-pub obtained : {p : Lay} {v : View} {q : ℕ} {pool : Queue} {w : View} → HasLoaded p v q pool w → (told : Option ℕ × ℕ) (x : View) (left : Queue)
+pub obtained : {p : Lay} {v : View} {q : ℕ} {pool : Queue} {w : View} → HasLoaded p v q pool w
+    → (told : Option ℕ × ℕ) (x : View) (left : Queue)
     → HasReclaimed p w q told.0 x
     → pool.free ++ option_to_list told.0 ≡ told.1 ∷ left.free → left.blocks ≡ pool.blocks → HasObtained p v q pool w told.0 x told.1 left
 obtained t told x left back queue size = record { before = t; back = back; queue = queue; size = size }
@@ -120,7 +133,8 @@ module _ {p : Lay} {v : View} {q : ℕ} {pool : Queue} {w : View} {r : Option �
   others = taken p q used left.free (subst (AreAll p q) t.queue (all_listed p q w pool (stock_again t.before) r x t.back))
 
 -- EMITTED: that block is out since this cycle
-pub record HasEmitted (p : Lay) (v : View) (q : ℕ) (pool : Queue) (w : View) (r : Option ℕ) (x : View) (used : ℕ) (left : Queue) (y : View) : Type 0 where
+pub record HasEmitted (p : Lay) (v : View) (q : ℕ) (pool : Queue) (w : View) (r : Option ℕ) (x : View) (used : ℕ) (left : Queue)
+    (y : View) : Type 0 where
   pub before : HasObtained p v q pool w r x used left
   pub knows : y ≡ view_block p x q used (Out (fill_cycle p x q + 1))
 
@@ -156,7 +170,8 @@ module _ {p : Lay} {v : View} {q : ℕ} {pool : Queue} {w : View} {r : Option �
       (low, here p x q used now (may_fill t.before).0.0 low, λ b l o. else p x q used now b o ∙ all_back t.before b l)
 
   turn_emitted : (l : ℕ) → Contains (links_of p q) l → write_cycle p y l ≡ fill_cycle p v q
-  turn_emitted l d = same_cycle p w y kept_emitted l ∙ same_cycle p v w (kept_loaded first_step) l ∙ cycle_at p v q first_step.plain first_step.may l d
+  turn_emitted l d = same_cycle p w y kept_emitted l ∙ same_cycle p v w (kept_loaded first_step) l
+      ∙ cycle_at p v q first_step.plain first_step.may l d
 
   pub may_publish_all : All (Publishes p y) (links_of p q)
   may_publish_all k e h = let l : ℕ = get_or (links_of p q) k e in let d = Contains-get_or (links_of p q) k e h in let s = first_step in
@@ -183,11 +198,13 @@ module _ {p : Lay} {v : View} {q : ℕ} {pool : Queue} {w : View} {r : Option �
     out_alone = subst (λ (u : View). IsOutAlone p u q (fill_cycle p v q + 1) used) (sym ends.same) out_emitted
 
     pub new_stock : Stock p z q (fill_cycle p v q + 1) left
-    new_stock = restocked p q z (fill_cycle p v q) used left first_step.may.has.1.1.0 out_alone (others t.before) (t.before.size ∙ first_step.stock.size)
+    new_stock = restocked p q z (fill_cycle p v q) used left first_step.may.has.1.1.0 out_alone (others t.before)
+        (t.before.size ∙ first_step.stock.size)
 
     published : (l : ℕ) → Contains (links_of p q) l → IsWrittenUpTo z l (fill_cycle p v q + 1)
     published l d = let is = (ends.made l d).2 in record {
-      there = (let o = (first_step.may.even l d).there in let a = first_step.ends.long in let b = kept_emitted.ends in let e = ends.long in omega arith);
+      there = (let o = (first_step.may.even l d).there in let a = first_step.ends.long in let b = kept_emitted.ends in let e = ends.long in
+          omega arith);
       loaded = ap (λ (u : WriteView). u.loaded) is ∙ ap (λ (u : WriteView). u.loaded) (ends_emitted l) ∙ loaded first_step l d;
       stored = ap (λ (u : WriteView). u.stored) is ∙ ap (λ n. n + 1) (turn_emitted l d);
     }

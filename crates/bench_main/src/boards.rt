@@ -88,7 +88,10 @@ fn only(loops: Items<LoopSeat>) -> Option<LoopSeat>
 fn opened(alloc: Global, shape: &Shape) -> Result<Option<(Board, DriverSeat, LoopSeat)>, Memory>
     requires { length shape.now.links ≡ 0 }
     ensures links { IfOk result (λ o. IfSome o (λ t. HasNoLinks (lay t.0.plot))) }
-    ensures rests { IfOk result (λ o. IfSome o (λ t. (t.1.table ≡ t.0.table.shared.table_id) × (t.2.table ≡ t.0.table.shared.table_id) × (t.0.plot.seat_of ≡ replicate (length shape.now.nodes) 0) × (let p = lay t.0.plot in IsBetween p t.1.knows × AllRest p 0 t.2.knows))) }
+    ensures rests { IfOk result (λ o. IfSome o
+        (λ t. (t.1.table ≡ t.0.table.shared.table_id) × (t.2.table ≡ t.0.table.shared.table_id)
+        × (t.0.plot.seat_of ≡ replicate (length shape.now.nodes) 0)
+        × (let p = lay t.0.plot in IsBetween p t.1.knows × AllRest p 0 t.2.knows))) }
 {
     if !is_pooled_shape(shape) {
         return Ok(None);
@@ -109,7 +112,8 @@ fn run(board: &Board, seat: &mut LoopSeat, node: u32)
     requires awake { let p = lay board.now.plot in IsAwake false seat.old.knows (p.place node) }
     ensures table { seat.new.table ≡ seat.old.table }
     ensures rests { let p = lay board.now.plot in IsResting p seat.new.knows (p.place node) }
-    ensures others { let p = lay board.now.plot in (n : ℕ) → n ≢ p.place node → IsResting p seat.old.knows n → IsResting p seat.new.knows n }
+    ensures others { let p = lay board.now.plot in (n : ℕ) → n ≢ p.place node → IsResting p seat.old.knows n
+        → IsResting p seat.new.knows n }
 {
     start(board, seat, node);
     finish(board, seat, node);
@@ -122,7 +126,8 @@ fn turn(board: &Board, seat: &mut LoopSeat, node: u32) -> bool
     requires rests { let p = lay board.now.plot in IsResting p seat.old.knows (p.place node) }
     ensures table { seat.new.table ≡ seat.old.table }
     ensures rests { let p = lay board.now.plot in IsResting p seat.new.knows (p.place node) }
-    ensures others { let p = lay board.now.plot in (n : ℕ) → n ≢ p.place node → IsResting p seat.old.knows n → IsResting p seat.new.knows n }
+    ensures others { let p = lay board.now.plot in (n : ℕ) → n ≢ p.place node → IsResting p seat.old.knows n
+        → IsResting p seat.new.knows n }
 {
     if seat.ended(board, node) == board.shape().cycles {
         return false;

@@ -47,7 +47,8 @@ fn rounds(
     requires wave { HasItsWave kind.now (option_copied wav) }
     requires allowed { AllowsChannels kind.now channels }
     requires quantum { IsBetween 1 8192 work.now.quantum }
-    requires slices { HaveFrames work.now.quantum kind.now (channels_of (option_copied wav)) channels a.old b.now left.old right.old }
+    requires slices { HaveFrames work.now.quantum kind.now
+        (channels_of (option_copied wav)) channels a.old b.now left.old right.old }
 {
     let frames = QUANTA as u64 * u64::from(work.quantum);
     let mut sum: u32 = 0;

@@ -1,5 +1,7 @@
 -- What a step of the driver's seat has to show, and its kicks: it takes a target down, or triggers one.
-use Rattle.std.proofs.Common.{◌≡◌, ◌≢◌, ℕ, suc, ◌+◌, ◌-◌, ◌*◌, ◌%◌, ◌^◌, ◌<◌, ◌≤◌, Bool, true, false, true≢false, cond, eqb, List, [], ◌∷◌, drop, length, set, get_or, refl, sym, ap, ◌∙◌, subst, arith, eq-eqb, ne_eqb, eqb-true, length-set}
+use Rattle.std.proofs.Common.{◌≡◌, ◌≢◌, ℕ, suc, ◌+◌, ◌-◌, ◌*◌, ◌%◌, ◌^◌, ◌<◌, ◌≤◌, Bool, true, false, true≢false}
+use Rattle.std.proofs.Common.{cond, eqb, List, [], ◌∷◌, drop, length, set, get_or, refl, sym, ap, ◌∙◌, subst, arith, eq-eqb, ne_eqb}
+use Rattle.std.proofs.Common.{eqb-true, length-set}
 use mathlib.Core.Option.{some}
 use lib.ListN.{get_elem?}
 use Rattle.std.proofs.lemmas.List.{drop_more, drop_all}
@@ -12,7 +14,8 @@ use Rattle.board_rule.specs.declared.view.View.{View}
 use Rattle.pw_base.specs.Layout.{pending_place, status_place}
 use Rattle.pw_base.specs.Words.{status_word_of}
 use Rattle.board_rule.specs.Layout.{Lay, nodes, last}
-use Rattle.board_rule.specs.Phases.{owed_of, phase_rest, phase_owing, phase_stage, drive_rest, drive_owing, drive_stage, drive_drawn, is_resetting, is_between}
+use Rattle.board_rule.specs.Phases.{owed_of, phase_rest, phase_owing, phase_stage, drive_rest, drive_owing, drive_stage, drive_drawn}
+use Rattle.board_rule.specs.Phases.{is_resetting, is_between}
 use Rattle.board_rule.specs.View.{Whole, with_lead, view_lead}
 use Rattle.board_rule.specs.ActivationRule.{Activations, DriveOk, posts}
 use Rattle.board_rule.specs.EventRule.{lead_drawn}
@@ -53,13 +56,16 @@ runs_within drives.EndDrawn h = refl
 
 module _ (p : Lay) where
   pub rest_driver : (g : Whole) → (posts p g).rest p.driver ≡ drive_rest (p.targets p.driver) g.lead.drive
-  rest_driver g = ap (λ b. cond b (drive_rest (p.targets p.driver) g.lead.drive) (phase_rest (p.targets p.driver) (eqb (g.nodes p.driver).next g.lead.cycle) (g.nodes p.driver).phase)) (eq-eqb p.driver p.driver refl)
+  rest_driver g = ap (λ b. cond b (drive_rest (p.targets p.driver) g.lead.drive)
+      (phase_rest (p.targets p.driver) (eqb (g.nodes p.driver).next g.lead.cycle) (g.nodes p.driver).phase)) (eq-eqb p.driver p.driver refl)
 
   pub owing_driver : (g : Whole) → (posts p g).owing p.driver ≡ drive_owing (p.targets p.driver) g.lead.drive
-  owing_driver g = ap (λ b. cond b (drive_owing (p.targets p.driver) g.lead.drive) (phase_owing (p.targets p.driver) (g.nodes p.driver).phase)) (eq-eqb p.driver p.driver refl)
+  owing_driver g = ap (λ b. cond b (drive_owing (p.targets p.driver) g.lead.drive)
+      (phase_owing (p.targets p.driver) (g.nodes p.driver).phase)) (eq-eqb p.driver p.driver refl)
 
   pub stage_driver : (g : Whole) → (posts p g).stage p.driver ≡ drive_stage g.lead.drive
-  stage_driver g = ap (λ b. cond b (drive_stage g.lead.drive) (phase_stage (eqb (g.nodes p.driver).next g.lead.cycle) (g.nodes p.driver).phase)) (eq-eqb p.driver p.driver refl)
+  stage_driver g = ap (λ b. cond b (drive_stage g.lead.drive)
+      (phase_stage (eqb (g.nodes p.driver).next g.lead.cycle) (g.nodes p.driver).phase)) (eq-eqb p.driver p.driver refl)
 
   pub beside : (g : Whole) (d : Drive) (y : LeadView) → Elsewhere p.driver (posts p g) (posts p (with_lead g (lead_to g d y)))
   beside g d y = let h = with_lead g (lead_to g d y) in record {
@@ -69,7 +75,9 @@ module _ (p : Lay) where
   }
 
   -- the activation rule after a step of the driver's seat outside the reset
-  pub active_lead : (g : Whole) (ws after : List ℕ) (d : Drive) (y : LeadView) → DriveOk p d → (is_resetting d ≡ true → ⊥) → g.lead.cycle < last p → Sums p.shape g.lead.cycle (posts p (with_lead g (lead_to g d y))) after → Activations p g ws → Activations p (with_lead g (lead_to g d y)) after
+  pub active_lead : (g : Whole) (ws after : List ℕ) (d : Drive) (y : LeadView) → DriveOk p d → (is_resetting d ≡ true → ⊥)
+      → g.lead.cycle < last p → Sums p.shape g.lead.cycle (posts p (with_lead g (lead_to g d y))) after → Activations p g ws
+      → Activations p (with_lead g (lead_to g d y)) after
   active_lead g ws after d y ok runs_on within r a = record {
     later = a.later;
     early = a.early;
@@ -80,7 +88,8 @@ module _ (p : Lay) where
     laid = run_words p (with_lead g (lead_to g d y)) d after runs_on r;
   }
 
-  kicked_by : (ts : List ℕ) (i : ℕ) (b : Bool) → (b ≡ true → drop i ts ≡ []) → drive_rest ts (cond b drives.Waiting (drives.Kick i false)) ≡ drop i ts
+  kicked_by : (ts : List ℕ) (i : ℕ) (b : Bool) → (b ≡ true → drop i ts ≡ [])
+      → drive_rest ts (cond b drives.Waiting (drives.Kick i false)) ≡ drop i ts
   kicked_by ts i true h = sym (h refl)
   kicked_by ts i false h = refl
 
@@ -92,7 +101,8 @@ module _ (p : Lay) where
   kicked_stage_by i true = refl
   kicked_stage_by i false = refl
 
-  kicked_ok_by : (i : ℕ) (b : Bool) → (b ≡ false → i < length (p.targets p.driver)) → DriveOk p (cond b drives.Waiting (drives.Kick i false))
+  kicked_ok_by : (i : ℕ) (b : Bool) → (b ≡ false → i < length (p.targets p.driver))
+      → DriveOk p (cond b drives.Waiting (drives.Kick i false))
   kicked_ok_by i true h = tt
   kicked_ok_by i false h = h refl
 
@@ -114,55 +124,100 @@ module _ (p : Lay) where
 
   kicked_ok : (i : ℕ) (owes : Bool) → 0 < i → i ≤ length (p.targets p.driver) → DriveOk p (kicked (length (p.targets p.driver)) i owes)
   kicked_ok i true low high = (low, high)
-  kicked_ok i false low high = kicked_ok_by i (eqb i (length (p.targets p.driver))) (λ t. let o : i ≢ length (p.targets p.driver) = λ e. true≢false (sym (eq-eqb i (length (p.targets p.driver)) e) ∙ t) in omega arith)
+  kicked_ok i false low high = kicked_ok_by i (eqb i (length (p.targets p.driver)))
+      (λ t. let o : i ≢ length (p.targets p.driver) = λ e. true≢false (sym (eq-eqb i (length (p.targets p.driver)) e) ∙ t) in omega arith)
 
   kicked_runs : (n i : ℕ) (owes : Bool) → is_resetting (kicked n i owes) ≡ true → ⊥
   kicked_runs n i true e = true≢false (sym e)
   kicked_runs n i false e = kicked_runs_by i (eqb i n) e
 
-  kicked_drawn : (n i c : ℕ) (k owes : Bool) → 5 * c + cond (is_between (kicked n i owes)) 0 (drive_drawn (kicked n i owes) + cond k 1 0) ≡ 5 * c + (1 + cond k 1 0)
+  kicked_drawn : (n i c : ℕ) (k owes : Bool) → 5 * c + cond (is_between (kicked n i owes)) 0 (drive_drawn (kicked n i owes) + cond k 1 0)
+      ≡ 5 * c + (1 + cond k 1 0)
   kicked_drawn n i c k true = refl
   kicked_drawn n i c k false = by (eqb i n)
     where
-      by : (b : Bool) → 5 * c + cond (is_between (cond b drives.Waiting (drives.Kick i false))) 0 (drive_drawn (cond b drives.Waiting (drives.Kick i false)) + cond k 1 0) ≡ 5 * c + (1 + cond k 1 0)
+      by : (b : Bool) → 5 * c + cond (is_between (cond b drives.Waiting (drives.Kick i false))) 0
+          (drive_drawn (cond b drives.Waiting (drives.Kick i false)) + cond k 1 0) ≡ 5 * c + (1 + cond k 1 0)
       by true = refl
       by false = refl
 
   kicked_quiet_by : (j i : ℕ) (o b : Bool) → QuietDrives (drives.Kick j o) (cond b drives.Waiting (drives.Kick i false))
-  kicked_quiet_by j i o true = record { started = refl; finished = refl; holds = λ _. refl; tells = λ _ _. refl; sees = λ _. refl; begun = refl; ending = refl; checking = refl }
-  kicked_quiet_by j i o false = record { started = refl; finished = refl; holds = λ _. refl; tells = λ _ _. refl; sees = λ _. refl; begun = refl; ending = refl; checking = refl }
+  kicked_quiet_by j i o true = record {
+    started = refl;
+    finished = refl;
+    holds = λ _. refl;
+    tells = λ _ _. refl;
+    sees = λ _. refl;
+    begun = refl;
+    ending = refl;
+    checking = refl;
+  }
+  kicked_quiet_by j i o false = record {
+    started = refl;
+    finished = refl;
+    holds = λ _. refl;
+    tells = λ _ _. refl;
+    sees = λ _. refl;
+    begun = refl;
+    ending = refl;
+    checking = refl;
+  }
 
   kicked_quiet : (j n i : ℕ) (o owes : Bool) → QuietDrives (drives.Kick j o) (kicked n i owes)
-  kicked_quiet j n i o true = record { started = refl; finished = refl; holds = λ _. refl; tells = λ _ _. refl; sees = λ _. refl; begun = refl; ending = refl; checking = refl }
+  kicked_quiet j n i o true = record {
+    started = refl;
+    finished = refl;
+    holds = λ _. refl;
+    tells = λ _ _. refl;
+    sees = λ _. refl;
+    begun = refl;
+    ending = refl;
+    checking = refl;
+  }
   kicked_quiet j n i o false = kicked_quiet_by j i o (eqb i n)
 
   module _ {S : Type 0} where
     -- what the driver's view tells of the whole
-    pub lead_is : (s : State S View) (r : Holds p s) (id : ℕ) (v : View) → get_elem? s.views id ≡ some v → v.number ≡ p.seats → v.lead ≡ r.whole.lead
+    pub lead_is : (s : State S View) (r : Holds p s) (id : ℕ) (v : View) → get_elem? s.views id ≡ some v → v.number ≡ p.seats
+        → v.lead ≡ r.whole.lead
     lead_is s r id v at number = ((r.seated.knows id v at).leads number).0
 
     -- a step of the driver's seat, on the word i: what each part of the rule has to show
-    pub holds_lead_by : (s : State S View) (r : Holds p s) (id i n : ℕ) (v : View) (carry : List (ℕ × S)) (x : LeadView) (t : Trail) → get_elem? s.views id ≡ some v → v.number ≡ p.seats → t.looks ≡ v.trail.looks → 0 < i → i ≤ nodes p + nodes p → lead_drawn r.whole.lead ≤ lead_drawn x → QuietLead r.whole.lead x
-        → Activations p (with_lead r.whole x) (set s.words i n) → Buffers p (spans p (with_lead r.whole x)) r.whole.ends r.whole.expect (set s.words i n) → Holds p (stepped s i n id carry (view_lead v x t) keeps)
+    pub holds_lead_by : (s : State S View) (r : Holds p s) (id i n : ℕ) (v : View) (carry : List (ℕ × S)) (x : LeadView) (t : Trail)
+        → get_elem? s.views id ≡ some v → v.number ≡ p.seats → t.looks ≡ v.trail.looks → 0 < i → i ≤ nodes p + nodes p
+        → lead_drawn r.whole.lead ≤ lead_drawn x → QuietLead r.whole.lead x
+        → Activations p (with_lead r.whole x) (set s.words i n)
+        → Buffers p (spans p (with_lead r.whole x)) r.whole.ends r.whole.expect (set s.words i n)
+        → Holds p (stepped s i n id carry (view_lead v x t) keeps)
     holds_lead_by s r id i n v carry x t at number looks low high more quiet active buffers = record {
       whole = with_lead r.whole x;
-      seated = lead_step p r.whole s.words (set s.words i n) s.views id v x t r.whole.looks at (length-set s.words i n) number (looks ∙ ((r.seated.knows id v at).leads number).2) r.seated;
+      seated = lead_step p r.whole s.words (set s.words i n) s.views id v x t r.whole.looks at (length-set s.words i n) number
+          (looks ∙ ((r.seated.knows id v at).leads number).2) r.seated;
       activations = active;
       events = events_lead p r.whole s.words i n x more quiet low high r.events;
       buffers = buffers;
     }
 
     -- and where it ends no cycle
-    pub holds_lead : (s : State S View) (r : Holds p s) (id i n : ℕ) (v : View) (carry : List (ℕ × S)) (x : LeadView) (t : Trail) → get_elem? s.views id ≡ some v → v.number ≡ p.seats → t.looks ≡ v.trail.looks → 0 < i → i ≤ nodes p + nodes p → lead_drawn r.whole.lead ≤ lead_drawn x → QuietLead r.whole.lead x
-        → IsLeadPaced r.whole.lead x → Activations p (with_lead r.whole x) (set s.words i n) → Holds p (stepped s i n id carry (view_lead v x t) keeps)
-    holds_lead s r id i n v carry x t at number looks low high more quiet paced active = holds_lead_by s r id i n v carry x t at number looks low high more quiet active
-        (buffers_lead p r.whole s.words (set s.words i n) x (wired_in p r.whole s.words s.views r.seated) paced (early_word p s.words i n high) r.buffers)
+    pub holds_lead : (s : State S View) (r : Holds p s) (id i n : ℕ) (v : View) (carry : List (ℕ × S)) (x : LeadView) (t : Trail)
+        → get_elem? s.views id ≡ some v → v.number ≡ p.seats → t.looks ≡ v.trail.looks → 0 < i → i ≤ nodes p + nodes p
+        → lead_drawn r.whole.lead ≤ lead_drawn x → QuietLead r.whole.lead x
+        → IsLeadPaced r.whole.lead x → Activations p (with_lead r.whole x) (set s.words i n)
+        → Holds p (stepped s i n id carry (view_lead v x t) keeps)
+    holds_lead s r id i n v carry x t at number looks low high more quiet paced active =
+        holds_lead_by s r id i n v carry x t at number looks low high more quiet active
+        (buffers_lead p r.whole s.words (set s.words i n) x (wired_in p r.whole s.words s.views r.seated) paced
+        (early_word p s.words i n high) r.buffers)
 
-    pub kick_allowed : (slots id i n : ℕ) (me : Me S View) (t : ℕ → Trail) (after : ℕ → View) → me.0.number ≡ p.seats → ((found : ℕ) → (t found).looks ≡ me.0.trail.looks) → me.0.lead.drive ≡ drives.Kick i false → i < length (p.targets p.driver) → get_or (p.targets p.driver) i 0 ≡ n
-        → ((found : ℕ) → after found ≡ view_lead me.0 (record me.0.lead { drive = kicked (length (p.targets p.driver)) (i + 1) (eqb found 1) }) (t found))
+    pub kick_allowed : (slots id i n : ℕ) (me : Me S View) (t : ℕ → Trail) (after : ℕ → View) → me.0.number ≡ p.seats
+        → ((found : ℕ) → (t found).looks ≡ me.0.trail.looks) → me.0.lead.drive ≡ drives.Kick i false → i < length (p.targets p.driver)
+        → get_or (p.targets p.driver) i 0 ≡ n
+        → ((found : ℕ) → after found ≡ view_lead me.0 (record me.0.lead
+        { drive = kicked (length (p.targets p.driver)) (i + 1) (eqb found 1) }) (t found))
         → Allows (Holds p) slots id me (pending_place p.shape n) (λ w. (w + (2 ^ 64 - 1)) % 2 ^ 64) (Turns after me)
     kick_allowed slots id i n me t after number looks phase near target is_after s r _ at fits =
-        let g = r.whole in let a = r.activations in let sound = r.seated.sound in let wide = r.seated.wide in let m = p.driver in let hm = sound.driver_in in
+        let g = r.whole in let a = r.activations in let sound = r.seated.sound in let wide = r.seated.wide in let m = p.driver in
+        let hm = sound.driver_in in
         let is = lead_is s r id me.0 at number in
         let drive : g.lead.drive ≡ drives.Kick i false = ap (λ (l : LeadView). l.drive) (sym is) ∙ phase in
         let c : ℕ = g.lead.cycle in
@@ -181,28 +236,42 @@ module _ (p : Lay) where
         let above = positive p.shape m n (posts p g) (drop (suc i) ts) hm (rest ∙ next) in
         let counts = (runs.node n inside).counts in
         let rest' : (posts p whole).rest m ≡ drop (suc i) ts = rest_driver whole ∙ kicked_rest ts (suc i) (eqb found 1) in
-        let owing' : (posts p whole).owing m ≡ owed_of ts (suc i) (eqb found 1) = owing_driver whole ∙ kicked_owing ts (suc i) (eqb found 1) in
+        let owing' : (posts p whole).owing m ≡ owed_of ts (suc i) (eqb found 1) = owing_driver whole
+        ∙ kicked_owing ts (suc i) (eqb found 1) in
         let stage' : (posts p whole).stage m ≡ 0 = stage_driver whole ∙ kicked_stage (length ts) (suc i) (eqb found 1) in
-        let lowered = lowers p.shape c m n (found - 1) (posts p g) (posts p whole) s.words hm inside wide (beside g new g.lead) (stage' ∙ sym stage) (rest ∙ next ∙ ap (λ k. n ∷ k) (sym rest')) owing
-        (λ e. owing' ∙ ap (owed_of ts (suc i)) (eq-eqb found 1 e) ∙ owed_is ts i n near target) (λ e. owing' ∙ ap (owed_of ts (suc i)) (ne_eqb found 1 e)) (omega arith) runs in
+        let lowered = lowers p.shape c m n (found - 1) (posts p g) (posts p whole) s.words hm inside wide (beside g new g.lead)
+        (stage' ∙ sym stage) (rest ∙ next ∙ ap (λ k. n ∷ k) (sym rest')) owing
+        (λ e. owing' ∙ ap (owed_of ts (suc i)) (eq-eqb found 1 e) ∙ owed_is ts i n near target)
+        (λ e. owing' ∙ ap (owed_of ts (suc i)) (ne_eqb found 1 e)) (omega arith) runs in
         let word : (found + (2 ^ 64 - 1)) % 2 ^ 64 ≡ found - 1 = omega arith in
         let drawn = kicked_drawn (length ts) (suc i) c g.lead.checked (eqb found 1) in
-        let before : lead_drawn g.lead ≡ 5 * c + (1 + cond g.lead.checked 1 0) = ap (λ d. 5 * c + cond (is_between d) 0 (drive_drawn d + cond g.lead.checked 1 0)) drive in (
+        let before : lead_drawn g.lead ≡ 5 * c + (1 + cond g.lead.checked 1 0) =
+        ap (λ d. 5 * c + cond (is_between d) 0 (drive_drawn d + cond g.lead.checked 1 0)) drive in (
           view_lead me.0 (record me.0.lead { drive = kicked (length ts) (i + 1) (eqb found 1) }) (t found),
           keeps,
           tt,
-          subst (λ (k : ℕ × LeadView × ℕ). Holds p (stepped s (pending_place p.shape n) k.0 id me.1 (view_lead me.0 (record k.1 { drive = kicked (length ts) k.2 (eqb found 1) }) (t found)) keeps)) (λ j. (sym word j, sym is j, sym one j))
-              (holds_lead s r id (pending_place p.shape n) (found - 1) me.0 me.1 (lead_to g new g.lead) (t found) at number (looks found) (omega arith) (omega arith) (omega arith) (quiet_drive g.lead (drives.Kick i false) new drive (kicked_quiet i (length ts) (suc i) false (eqb found 1)))
-              (let z = kicked_paced (length ts) (suc i) (eqb found 1) in drive_paced g.lead (drives.Kick i false) (lead_to g new g.lead) drive refl z.0 (omega arith))
-              (active_lead g s.words (set s.words (pending_place p.shape n) (found - 1)) new g.lead (kicked_ok (suc i) (eqb found 1) (omega arith) (omega arith)) (kicked_runs (length ts) (suc i) (eqb found 1)) (a.within (runs_within g.lead.drive runs_on)) lowered a)),
+          subst (λ (k : ℕ × LeadView × ℕ). Holds p (stepped s (pending_place p.shape n) k.0 id me.1
+              (view_lead me.0 (record k.1 { drive = kicked (length ts) k.2 (eqb found 1) }) (t found)) keeps))
+              (λ j. (sym word j, sym is j, sym one j))
+              (holds_lead s r id (pending_place p.shape n) (found - 1) me.0 me.1 (lead_to g new g.lead) (t found) at number (looks found)
+              (omega arith) (omega arith) (omega arith) (quiet_drive g.lead (drives.Kick i false) new drive
+              (kicked_quiet i (length ts) (suc i) false (eqb found 1)))
+              (let z = kicked_paced (length ts) (suc i) (eqb found 1) in
+              drive_paced g.lead (drives.Kick i false) (lead_to g new g.lead) drive refl z.0 (omega arith))
+              (active_lead g s.words (set s.words (pending_place p.shape n) (found - 1)) new g.lead
+              (kicked_ok (suc i) (eqb found 1) (omega arith) (omega arith)) (kicked_runs (length ts) (suc i) (eqb found 1))
+              (a.within (runs_within g.lead.drive runs_on)) lowered a)),
           (sym (is_after found), refl),
         )
 
-    pub kick_trigger_allowed : (slots id i n : ℕ) (me : Me S View) (t : Trail) (after : ℕ → View) → me.0.number ≡ p.seats → t.looks ≡ me.0.trail.looks → me.0.lead.drive ≡ drives.Kick (suc i) true → get_or (p.targets p.driver) i 0 ≡ n
+    pub kick_trigger_allowed : (slots id i n : ℕ) (me : Me S View) (t : Trail) (after : ℕ → View) → me.0.number ≡ p.seats
+        → t.looks ≡ me.0.trail.looks → me.0.lead.drive ≡ drives.Kick (suc i) true → get_or (p.targets p.driver) i 0 ≡ n
         → ((found : ℕ) → after found ≡ view_lead me.0 (record me.0.lead { drive = kicked (length (p.targets p.driver)) (suc i) false }) t)
-        → Allows (Holds p) slots id me (status_place p.shape n) (λ _. status_word_of 1 me.0.lead.cycle) (λ _. Turns after me (status_word_of 1 me.0.lead.cycle))
+        → Allows (Holds p) slots id me (status_place p.shape n) (λ _. status_word_of 1 me.0.lead.cycle)
+        (λ _. Turns after me (status_word_of 1 me.0.lead.cycle))
     kick_trigger_allowed slots id i n me t after number looks phase target is_after s r _ at fits =
-        let g = r.whole in let a = r.activations in let sound = r.seated.sound in let wide = r.seated.wide in let m = p.driver in let hm = sound.driver_in in
+        let g = r.whole in let a = r.activations in let sound = r.seated.sound in let wide = r.seated.wide in let m = p.driver in
+        let hm = sound.driver_in in
         let is = lead_is s r id me.0 at number in
         let drive : g.lead.drive ≡ drives.Kick (suc i) true = ap (λ (l : LeadView). l.drive) (sym is) ∙ phase in
         let c : ℕ = g.lead.cycle in
@@ -219,16 +288,24 @@ module _ (p : Lay) where
         let rest' : (posts p whole).rest m ≡ drop (suc i) ts = rest_driver whole ∙ kicked_rest ts (suc i) false in
         let owing' : (posts p whole).owing m ≡ [] = owing_driver whole ∙ kicked_owing ts (suc i) false in
         let stage' : (posts p whole).stage m ≡ 0 = stage_driver whole ∙ kicked_stage (length ts) (suc i) false in
-        let triggered = triggers p.shape c m n (posts p g) (posts p whole) s.words hm inside wide (beside g new g.lead) (stage' ∙ sym stage) (rest' ∙ sym rest) owing owing' runs in
+        let triggered = triggers p.shape c m n (posts p g) (posts p whole) s.words hm inside wide (beside g new g.lead) (stage' ∙ sym stage)
+        (rest' ∙ sym rest) owing owing' runs in
         let drawn = kicked_drawn (length ts) (suc i) c g.lead.checked false in
-        let before : lead_drawn g.lead ≡ 5 * c + (1 + cond g.lead.checked 1 0) = ap (λ d. 5 * c + cond (is_between d) 0 (drive_drawn d + cond g.lead.checked 1 0)) drive in (
+        let before : lead_drawn g.lead ≡ 5 * c + (1 + cond g.lead.checked 1 0) =
+        ap (λ d. 5 * c + cond (is_between d) 0 (drive_drawn d + cond g.lead.checked 1 0)) drive in (
           view_lead me.0 (record me.0.lead { drive = new }) t,
           keeps,
           tt,
-          subst (λ (l : LeadView). Holds p (stepped s (status_place p.shape n) (status_word_of 1 l.cycle) id me.1 (view_lead me.0 (record l { drive = new }) t) keeps)) (sym is)
-              (holds_lead s r id (status_place p.shape n) (status_word_of 1 c) me.0 me.1 (lead_to g new g.lead) t at number looks (omega arith) (omega arith) (omega arith) (quiet_drive g.lead (drives.Kick (suc i) true) new drive (kicked_quiet (suc i) (length ts) (suc i) true false))
-              (let z = kicked_paced (length ts) (suc i) false in drive_paced g.lead (drives.Kick (suc i) true) (lead_to g new g.lead) drive refl z.0 (omega arith))
-              (active_lead g s.words (set s.words (status_place p.shape n) (status_word_of 1 c)) new g.lead (kicked_ok (suc i) false (omega arith) (omega arith)) (kicked_runs (length ts) (suc i) false) (a.within (runs_within g.lead.drive runs_on)) triggered a)),
+          subst (λ (l : LeadView). Holds p (stepped s (status_place p.shape n) (status_word_of 1 l.cycle) id me.1
+              (view_lead me.0 (record l { drive = new }) t) keeps)) (sym is)
+              (holds_lead s r id (status_place p.shape n) (status_word_of 1 c) me.0 me.1 (lead_to g new g.lead) t at number looks
+              (omega arith) (omega arith) (omega arith) (quiet_drive g.lead (drives.Kick (suc i) true) new drive
+              (kicked_quiet (suc i) (length ts) (suc i) true false))
+              (let z = kicked_paced (length ts) (suc i) false in
+              drive_paced g.lead (drives.Kick (suc i) true) (lead_to g new g.lead) drive refl z.0 (omega arith))
+              (active_lead g s.words (set s.words (status_place p.shape n) (status_word_of 1 c)) new g.lead
+              (kicked_ok (suc i) false (omega arith) (omega arith)) (kicked_runs (length ts) (suc i) false)
+              (a.within (runs_within g.lead.drive runs_on)) triggered a)),
           (sym (is_after (status_word_of 1 me.0.lead.cycle)), refl),
         )
 
@@ -251,13 +328,15 @@ can_kick n drives.FinishDrawn h = absurd h
 can_kick n drives.FinishStored h = absurd h
 can_kick n drives.EndDrawn h = absurd h
 
-pub kick_in_debt : (n : ℕ) (d : Drive) → KickIndebted n d → (d ≡ drives.Kick (suc (taken_of d - 1)) true) × (suc (taken_of d - 1) ≡ taken_of d) × (taken_of d - 1 < n)
+pub kick_in_debt : (n : ℕ) (d : Drive) → KickIndebted n d → (d ≡ drives.Kick (suc (taken_of d - 1)) true)
+    × (suc (taken_of d - 1) ≡ taken_of d) × (taken_of d - 1 < n)
 kick_in_debt n drives.Between h = absurd h
 kick_in_debt n drives.BeginDrawn h = absurd h
 kick_in_debt n (drives.Reset i) h = absurd h
 kick_in_debt n (drives.Half i) h = absurd h
 kick_in_debt n (drives.Kick i false) h = absurd h
-kick_in_debt n (drives.Kick i true) h = let a = h.0 in let b = h.1 in let e : suc (i - 1) ≡ i = omega arith in (ap (λ k. let d : Drive = drives.Kick k true in d) (sym e), e, omega arith)
+kick_in_debt n (drives.Kick i true) h = let a = h.0 in let b = h.1 in let e : suc (i - 1) ≡ i = omega arith in
+    (ap (λ k. let d : Drive = drives.Kick k true in d) (sym e), e, omega arith)
 kick_in_debt n drives.Waiting h = absurd h
 kick_in_debt n drives.Checking h = absurd h
 kick_in_debt n drives.LateStored h = absurd h

@@ -1,5 +1,6 @@
 -- What a seat knows of the ends of links and of blocks, and the step that changes one of them.
-use Rattle.std.proofs.Common.{◌≡◌, ◌≢◌, ℕ, zero, suc, ◌+◌, ◌<◌, ◌≤◌, Bool, true, false, true≢false, not, cond, List, [], ◌∷◌, length, set, get_or, refl, sym, ap, ◌∙◌, subst, arith, eq-eqb, ne_eqb}
+use Rattle.std.proofs.Common.{◌≡◌, ◌≢◌, ℕ, zero, suc, ◌+◌, ◌<◌, ◌≤◌, Bool, true, false, true≢false, not, cond, List, []}
+use Rattle.std.proofs.Common.{◌∷◌, length, set, get_or, refl, sym, ap, ◌∙◌, subst, arith, eq-eqb, ne_eqb}
 use Rattle.std.specs.Prelude.{slice_get, Some, Contains, sum_by, take}
 use Rattle.std.specs.List.{position_or_len}
 use Rattle.std.proofs.lemmas.List.Sums.{sum_by-cons}
@@ -55,22 +56,30 @@ got (x ∷ xs) zero a d e = some-injective x a e
 got (x ∷ xs) (suc i) a d e = got xs i a d e
 
 -- a sum over the first j includes the one before
-pub take_less : {A : Type 0} (f : A → ℕ) (xs : List A) (i j : ℕ) (x : A) → i < j → slice_get xs i ≡ Some x → sum_by f (take i xs) + f x ≤ sum_by f (take j xs)
+pub take_less : {A : Type 0} (f : A → ℕ) (xs : List A) (i j : ℕ) (x : A) → i < j → slice_get xs i ≡ Some x
+    → sum_by f (take i xs) + f x ≤ sum_by f (take j xs)
 take_less f [] i j x h at = absurd (let z = slice_get_within [] i x at in omega arith)
 take_less f (y ∷ ys) zero zero x h at = absurd (omega arith)
-take_less f (y ∷ ys) zero (suc j) x h at = let is : y ≡ x = get_or_from_slice_get (y ∷ ys) 0 x y at in let fx : f y ≡ f x = ap f is in let s = sum_by-cons f y (take j ys) in let z : sum_by f [] ≡ 0 = refl in omega arith
+take_less f (y ∷ ys) zero (suc j) x h at = let is : y ≡ x = get_or_from_slice_get (y ∷ ys) 0 x y at in let fx : f y ≡ f x = ap f is in
+    let s = sum_by-cons f y (take j ys) in let z : sum_by f [] ≡ 0 = refl in omega arith
 take_less f (y ∷ ys) (suc i) zero x h at = absurd (omega arith)
-take_less f (y ∷ ys) (suc i) (suc j) x h at = let r = take_less f ys i j x (omega arith) at in let s = sum_by-cons f y (take j ys) in let t = sum_by-cons f y (take i ys) in omega arith
+take_less f (y ∷ ys) (suc i) (suc j) x h at = let r = take_less f ys i j x (omega arith) at in let s = sum_by-cons f y (take j ys) in
+    let t = sum_by-cons f y (take i ys) in omega arith
 
 -- the first that passes
-pub first_pass : {A : Type 0} (f : A → Bool) (xs : List A) (i : ℕ) (d : A) → i < length xs → f (get_or xs i d) ≡ true → (position_or_len f xs ≤ i) × (f (get_or xs (position_or_len f xs) d) ≡ true)
+pub first_pass : {A : Type 0} (f : A → Bool) (xs : List A) (i : ℕ) (d : A) → i < length xs → f (get_or xs i d) ≡ true
+    → (position_or_len f xs ≤ i) × (f (get_or xs (position_or_len f xs) d) ≡ true)
 first_pass f [] i d h t = absurd (omega arith)
-first_pass f (x ∷ xs) zero d h t = let z : position_or_len f (x ∷ xs) ≡ 0 = ap (λ b. cond (not b) (1 + position_or_len f xs) 0) t in (omega arith, ap (λ k. f (get_or (x ∷ xs) k d)) z ∙ t)
+first_pass f (x ∷ xs) zero d h t = let z : position_or_len f (x ∷ xs) ≡ 0 = ap (λ b. cond (not b) (1 + position_or_len f xs) 0) t in
+    (omega arith, ap (λ k. f (get_or (x ∷ xs) k d)) z ∙ t)
 first_pass f (x ∷ xs) (suc i) d h t = by (f x) refl (first_pass f xs i d (omega arith) t)
   where
-    by : (b : Bool) → f x ≡ b → (position_or_len f xs ≤ i) × (f (get_or xs (position_or_len f xs) d) ≡ true) → (position_or_len f (x ∷ xs) ≤ suc i) × (f (get_or (x ∷ xs) (position_or_len f (x ∷ xs)) d) ≡ true)
-    by true e r = let z : position_or_len f (x ∷ xs) ≡ 0 = ap (λ b. cond (not b) (1 + position_or_len f xs) 0) e in (omega arith, ap (λ k. f (get_or (x ∷ xs) k d)) z ∙ e)
-    by false e r = let a = r.0 in let z : position_or_len f (x ∷ xs) ≡ suc (position_or_len f xs) = ap (λ b. cond (not b) (1 + position_or_len f xs) 0) e ∙ (omega arith) in (omega arith, ap (λ k. f (get_or (x ∷ xs) k d)) z ∙ r.1)
+    by : (b : Bool) → f x ≡ b → (position_or_len f xs ≤ i) × (f (get_or xs (position_or_len f xs) d) ≡ true)
+        → (position_or_len f (x ∷ xs) ≤ suc i) × (f (get_or (x ∷ xs) (position_or_len f (x ∷ xs)) d) ≡ true)
+    by true e r = let z : position_or_len f (x ∷ xs) ≡ 0 = ap (λ b. cond (not b) (1 + position_or_len f xs) 0) e in
+        (omega arith, ap (λ k. f (get_or (x ∷ xs) k d)) z ∙ e)
+    by false e r = let a = r.0 in let z : position_or_len f (x ∷ xs) ≡ suc (position_or_len f xs) =
+        ap (λ b. cond (not b) (1 + position_or_len f xs) 0) e ∙ (omega arith) in (omega arith, ap (λ k. f (get_or (x ∷ xs) k d)) z ∙ r.1)
 
 module _ (p : Lay) where
   pub link_is : (l : ℕ) (k : ShapeLink) → LinkAt p l k → link_at p l ≡ k
@@ -86,20 +95,27 @@ module _ (p : Lay) where
   pool_there q h = slice_get-get_or (pools_of p.shape) q no_pool h
 
   -- the pool that a link reads
-  pub pool_here : Wired p → (l : ℕ) (k : ShapeLink) → LinkAt p l k → PoolAt p (pool_of p l) (pool_at p (pool_of p l)) × Contains (pool_at p (pool_of p l)).links l × (p.place (pool_at p (pool_of p l)).port.node ≡ p.place k.from.node)
+  pub pool_here : Wired p → (l : ℕ) (k : ShapeLink) → LinkAt p l k → PoolAt p (pool_of p l) (pool_at p (pool_of p l))
+      × Contains (pool_at p (pool_of p l)).links l × (p.place (pool_at p (pool_of p l)).port.node ≡ p.place k.from.node)
   pool_here w l k at =
-      let c = w.pool l k at in let q : ℕ = c.0 in let x : PoolShape = c.1 in let f : PoolShape → Bool = λ z. is_port z.port (link_at p l).from in
+      let c = w.pool l k at in let q : ℕ = c.0 in let x : PoolShape = c.1 in let f : PoolShape
+      → Bool = λ z. is_port z.port (link_at p l).from in
       let from : (link_at p l).from ≡ k.from = ap (λ (z : ShapeLink). z.from) (link_is l k at) in
-      let made = w.there q l x c.2 c.3 in let same : made.0 ≡ k = cc in let port : x.port ≡ k.from = sym made.2 ∙ ap (λ (z : ShapeLink). z.from) same in
+      let made = w.there q l x c.2 c.3 in let same : made.0 ≡ k = cc in let port : x.port ≡ k.from = sym made.2
+      ∙ ap (λ (z : ShapeLink). z.from) same in
       let lt = slice_get_within (pools_of p.shape) q x c.2 in
-      let first = first_pass f (pools_of p.shape) q no_pool lt (ap f (get_or_from_slice_get (pools_of p.shape) q x no_pool c.2) ∙ port_same x.port (link_at p l).from (port ∙ sym from)) in let low = first.0 in
+      let first = first_pass f (pools_of p.shape) q no_pool lt
+      (ap f (get_or_from_slice_get (pools_of p.shape) q x no_pool c.2) ∙ port_same x.port (link_at p l).from (port ∙ sym from)) in
+      let low = first.0 in
       let y : PoolShape = pool_at p (pool_of p l) in
       let there = pool_there (pool_of p l) (omega arith) in
       let mine : y.port ≡ k.from = same_port y.port (link_at p l).from first.1 ∙ from in
       let source = pool_source p.shape (pool_of p l) y there in
       let named : source.0 ≡ k.from = sym (ap (λ (z : PoolShape). z.port) source.2) ∙ mine in (
         there,
-        subst (λ (z : PoolShape). Contains z.links l) (sym source.2) (has_id p.shape.links source.0 l k (slice_get_within p.shape.links l k at) (ap (λ (z : ShapeLink). z.from) (get_or_from_slice_get p.shape.links l k k at) ∙ sym named)),
+        subst (λ (z : PoolShape). Contains z.links l) (sym source.2)
+            (has_id p.shape.links source.0 l k (slice_get_within p.shape.links l k at)
+            (ap (λ (z : ShapeLink). z.from) (get_or_from_slice_get p.shape.links l k k at) ∙ sym named)),
         ap (λ (z : PortId). p.place z.node) mine,
       )
 
@@ -110,10 +126,17 @@ module _ (p : Lay) where
   holder_leads n e = ap (λ k. cond k p.seats (p.seat_of n)) (eq-eqb n p.driver e)
 
   -- what the view says of the links of a node that ends is so
-  pub is_ready : (g : Whole) (ws : List ℕ) (views : List View) (id : ℕ) (v : View) (m c : ℕ) → Seated p g ws views → get_elem? views id ≡ some v → holder p m ≡ v.number → (spans p g m).begun ≡ c + 1 → IsGivenOn p v m c → Ready p (spans p g) g.ends m
+  pub is_ready : (g : Whole) (ws : List ℕ) (views : List View) (id : ℕ) (v : View) (m c : ℕ) → Seated p g ws views
+      → get_elem? views id ≡ some v → holder p m ≡ v.number → (spans p g m).begun ≡ c + 1 → IsGivenOn p v m c → Ready p (spans p g) g.ends m
   is_ready g ws views id v m c s at mine begun given = let k = (s.knows id v at).ends in record {
-    wrote = λ l x there q. ap (λ (y : WriteView). y.stored) (sym (got v.writes l (g.ends.writes l) (unwritten 0) (k.of_write l x there (ap (holder p) q ∙ mine)))) ∙ given.0 l (slice_get_within p.shape.links l x there) (ap (λ (y : ShapeLink). p.place y.from.node) (link_is l x there) ∙ q) ∙ sym begun;
-    gave = λ l x there q. ap (λ (y : ReadView). y.stored) (sym (got v.reads l (g.ends.reads l) (unread 0) (k.of_read l x there (ap (holder p) q ∙ mine)))) ∙ given.1 l (slice_get_within p.shape.links l x there) (ap (λ (y : ShapeLink). p.place y.to.node) (link_is l x there) ∙ q) ∙ sym begun;
+    wrote = λ l x there q. ap (λ (y : WriteView). y.stored)
+        (sym (got v.writes l (g.ends.writes l) (unwritten 0) (k.of_write l x there (ap (holder p) q ∙ mine))))
+        ∙ given.0 l (slice_get_within p.shape.links l x there) (ap (λ (y : ShapeLink). p.place y.from.node) (link_is l x there) ∙ q)
+        ∙ sym begun;
+    gave = λ l x there q. ap (λ (y : ReadView). y.stored)
+        (sym (got v.reads l (g.ends.reads l) (unread 0) (k.of_read l x there (ap (holder p) q ∙ mine))))
+        ∙ given.1 l (slice_get_within p.shape.links l x there) (ap (λ (y : ShapeLink). p.place y.to.node) (link_is l x there) ∙ q)
+        ∙ sym begun;
   }
 
   -- the ends after a step, and the whole with them
@@ -130,9 +153,12 @@ module _ (p : Lay) where
   with_ends g ends = record g { ends = ends }
 
   -- one end or one block of the seat id changes
-  ends_step : (g : Whole) (ends : Ends) (words after : List ℕ) (views : List View) (id : ℕ) (v w : View) → get_elem? views id ≡ some v → length after ≡ length words → v.number ≤ p.seats → Knows p (with_ends g ends) id w
-      → ((number : ℕ) (writes : List WriteView) (reads : List ReadView) (blocks : List BlockView) → (number ≡ v.number → ⊥) → KnowsEnds p g.ends number writes reads blocks → KnowsEnds p ends number writes reads blocks)
-      → AreStill p ends g.split → ((l : ℕ) → first p < (ends.writes l).stored → IsTable p g.expect) → Seated p g words views → Seated p (with_ends g ends) after (set views id w)
+  ends_step : (g : Whole) (ends : Ends) (words after : List ℕ) (views : List View) (id : ℕ) (v w : View) → get_elem? views id ≡ some v
+      → length after ≡ length words → v.number ≤ p.seats → Knows p (with_ends g ends) id w
+      → ((number : ℕ) (writes : List WriteView) (reads : List ReadView) (blocks : List BlockView) → (number ≡ v.number → ⊥)
+      → KnowsEnds p g.ends number writes reads blocks → KnowsEnds p ends number writes reads blocks)
+      → AreStill p ends g.split → ((l : ℕ) → first p < (ends.writes l).stored → IsTable p g.expect) → Seated p g words views
+      → Seated p (with_ends g ends) after (set views id w)
   ends_step g ends words after views id v w at same low mine others still table s = let k = s.knows id v at in
       seat_step p g (with_ends g ends) words after views id v w at same mine
       (λ j u other r. record {
@@ -146,7 +172,9 @@ module _ (p : Lay) where
         ends = others u.number u.writes u.reads u.blocks (λ e. other (sym (r.here (omega arith)) ∙ ap g.seat_at e ∙ k.here low)) r.ends;
       }) s.unsplit still table s
 
-  pub write_step : (g : Whole) (words after : List ℕ) (views : List View) (id l : ℕ) (x : ShapeLink) (v : View) (y : WriteView) → get_elem? views id ≡ some v → length after ≡ length words → LinkAt p l x → holder p (p.place x.from.node) ≡ v.number → v.number < p.seats
+  pub write_step : (g : Whole) (words after : List ℕ) (views : List View) (id l : ℕ) (x : ShapeLink) (v : View) (y : WriteView)
+      → get_elem? views id ≡ some v → length after ≡ length words → LinkAt p l x → holder p (p.place x.from.node) ≡ v.number
+      → v.number < p.seats
       → Seated p g words views → Seated p (with_ends g (new_write g.ends l y)) after (set views id (view_write v l y))
   write_step g words after views id l x v y at same there mine loops s = let k = s.knows id v at in let split = k.is_split loops in
       ends_step g (new_write g.ends l y) words after views id v (view_write v l y) at same (omega arith)
@@ -160,7 +188,8 @@ module _ (p : Lay) where
         owns = k.owns;
         ends = record {
           of_write = λ i z h e. dite (ℕ_discrete i l)
-              (λ q. subst (λ j. get_elem? (set v.writes l y) j ≡ some (put g.ends.writes l y j)) (sym q) (set_there v.writes l y (g.ends.writes l) (k.ends.of_write l x there mine) ∙ ap some (sym (put_here g.ends.writes l y))))
+              (λ q. subst (λ j. get_elem? (set v.writes l y) j ≡ some (put g.ends.writes l y j)) (sym q)
+              (set_there v.writes l y (g.ends.writes l) (k.ends.of_write l x there mine) ∙ ap some (sym (put_here g.ends.writes l y))))
               (λ q. set_else v.writes l i y q ∙ k.ends.of_write i z h e ∙ ap some (sym (put_else g.ends.writes l i y q)));
           of_read = k.ends.of_read;
           of_block = k.ends.of_block;
@@ -178,9 +207,12 @@ module _ (p : Lay) where
       } (λ _ _. k.table loops) s
     where
       seat_from : (i : ℕ) (z : ShapeLink) → LinkAt p i z → i ≡ l → holder p (p.place z.from.node) ≡ v.number
-      seat_from i z h q = ap (λ (j : ShapeLink). holder p (p.place j.from.node)) (sym (link_is i z h) ∙ ap (link_at p) q ∙ link_is l x there) ∙ mine
+      seat_from i z h q = ap (λ (j : ShapeLink). holder p (p.place j.from.node))
+          (sym (link_is i z h) ∙ ap (link_at p) q ∙ link_is l x there) ∙ mine
 
-  pub read_step : (g : Whole) (words after : List ℕ) (views : List View) (id l : ℕ) (x : ShapeLink) (v : View) (y : ReadView) → get_elem? views id ≡ some v → length after ≡ length words → LinkAt p l x → holder p (p.place x.to.node) ≡ v.number → v.number ≤ p.seats
+  pub read_step : (g : Whole) (words after : List ℕ) (views : List View) (id l : ℕ) (x : ShapeLink) (v : View) (y : ReadView)
+      → get_elem? views id ≡ some v → length after ≡ length words → LinkAt p l x → holder p (p.place x.to.node) ≡ v.number
+      → v.number ≤ p.seats
       → Seated p g words views → Seated p (with_ends g (new_read g.ends l y)) after (set views id (view_read v l y))
   read_step g words after views id l x v y at same there mine low s = let k = s.knows id v at in
       ends_step g (new_read g.ends l y) words after views id v (view_read v l y) at same low
@@ -195,7 +227,8 @@ module _ (p : Lay) where
         ends = record {
           of_write = k.ends.of_write;
           of_read = λ i z h e. dite (ℕ_discrete i l)
-              (λ q. subst (λ j. get_elem? (set v.reads l y) j ≡ some (put g.ends.reads l y j)) (sym q) (set_there v.reads l y (g.ends.reads l) (k.ends.of_read l x there mine) ∙ ap some (sym (put_here g.ends.reads l y))))
+              (λ q. subst (λ j. get_elem? (set v.reads l y) j ≡ some (put g.ends.reads l y j)) (sym q)
+              (set_there v.reads l y (g.ends.reads l) (k.ends.of_read l x there mine) ∙ ap some (sym (put_here g.ends.reads l y))))
               (λ q. set_else v.reads l i y q ∙ k.ends.of_read i z h e ∙ ap some (sym (put_else g.ends.reads l i y q)));
           of_block = k.ends.of_block;
         };
@@ -207,15 +240,19 @@ module _ (p : Lay) where
       })
       record {
         writes = s.still.writes;
-        reads = λ i z h far e. put_else g.ends.reads l i y (λ q. let a = seat_to i z h q in let split = k.is_split (omega arith) in omega arith) ∙ s.still.reads i z h far e;
+        reads = λ i z h far e. put_else g.ends.reads l i y
+            (λ q. let a = seat_to i z h q in let split = k.is_split (omega arith) in omega arith) ∙ s.still.reads i z h far e;
         blocks = s.still.blocks;
       } s.table s
     where
       seat_to : (i : ℕ) (z : ShapeLink) → LinkAt p i z → i ≡ l → holder p (p.place z.to.node) ≡ v.number
-      seat_to i z h q = ap (λ (j : ShapeLink). holder p (p.place j.to.node)) (sym (link_is i z h) ∙ ap (link_at p) q ∙ link_is l x there) ∙ mine
+      seat_to i z h q = ap (λ (j : ShapeLink). holder p (p.place j.to.node)) (sym (link_is i z h) ∙ ap (link_at p) q ∙ link_is l x there)
+          ∙ mine
 
   -- a block is put at its place; no other block stands there
-  pub block_step : (g : Whole) (words after : List ℕ) (views : List View) (id q b : ℕ) (x : PoolShape) (v : View) (y : BlockView) → get_elem? views id ≡ some v → length after ≡ length words → PoolAt p q x → b < x.blocks → holder p (p.place x.port.node) ≡ v.number → v.number < p.seats
+  pub block_step : (g : Whole) (words after : List ℕ) (views : List View) (id q b : ℕ) (x : PoolShape) (v : View) (y : BlockView)
+      → get_elem? views id ≡ some v → length after ≡ length words → PoolAt p q x → b < x.blocks → holder p (p.place x.port.node) ≡ v.number
+      → v.number < p.seats
       → Seated p g words views → Seated p (with_ends g (new_block g.ends q b y)) after (set views id (view_block p v q b y))
   block_step g words after views id q b x v y at same there low mine loops s = let k = s.knows id v at in let split = k.is_split loops in
       ends_step g (new_block g.ends q b y) words after views id v (view_block p v q b y) at same (omega arith)
@@ -231,9 +268,11 @@ module _ (p : Lay) where
           of_write = k.ends.of_write;
           of_read = k.ends.of_read;
           of_block = λ r c z h l e. same_or_else r c (λ i. i)
-              (λ t. subst (λ (j : ℕ × ℕ). get_elem? (set v.blocks (block_at p q b) y) (block_at p j.0 j.1) ≡ some (put g.ends.blocks q (put (g.ends.blocks q) b y) j.0 j.1)) (λ i. (sym t.0 i, sym t.1 i))
+              (λ t. subst (λ (j : ℕ × ℕ). get_elem? (set v.blocks (block_at p q b) y) (block_at p j.0 j.1)
+              ≡ some (put g.ends.blocks q (put (g.ends.blocks q) b y) j.0 j.1)) (λ i. (sym t.0 i, sym t.1 i))
               (set_there v.blocks (block_at p q b) y (g.ends.blocks q b) (k.ends.of_block q b x there low mine) ∙ ap some (sym block_now)))
-              (λ o. set_else v.blocks (block_at p q b) (block_at p r c) y (blocks_apart r c z h l o) ∙ k.ends.of_block r c z h l e ∙ ap some (sym (block_else r c o)));
+              (λ o. set_else v.blocks (block_at p q b) (block_at p r c) y (blocks_apart r c z h l o) ∙ k.ends.of_block r c z h l e
+              ∙ ap some (sym (block_else r c o)));
         };
       }
       (λ number writes reads blocks other r. record {
@@ -248,48 +287,66 @@ module _ (p : Lay) where
       } s.table s
     where
       seat_of_pool : (i : ℕ) (z : PoolShape) → PoolAt p i z → i ≡ q → holder p (p.place z.port.node) ≡ v.number
-      seat_of_pool i z h t = ap (λ (j : PoolShape). holder p (p.place j.port.node)) (sym (pool_is i z h) ∙ ap (pool_at p) t ∙ pool_is q x there) ∙ mine
+      seat_of_pool i z h t = ap (λ (j : PoolShape). holder p (p.place j.port.node))
+          (sym (pool_is i z h) ∙ ap (pool_at p) t ∙ pool_is q x there) ∙ mine
 
       block_now : put g.ends.blocks q (put (g.ends.blocks q) b y) q b ≡ y
       block_now = ap (λ (f : ℕ → BlockView). f b) (put_here g.ends.blocks q (put (g.ends.blocks q) b y)) ∙ put_here (g.ends.blocks q) b y
 
       block_else : (i c : ℕ) → ((i ≡ q) × (c ≡ b) → ⊥) → put g.ends.blocks q (put (g.ends.blocks q) b y) i c ≡ g.ends.blocks i c
       block_else i c o = dite (ℕ_discrete i q)
-          (λ t. ap (λ j. put g.ends.blocks q (put (g.ends.blocks q) b y) j c) t ∙ ap (λ (f : ℕ → BlockView). f c) (put_here g.ends.blocks q (put (g.ends.blocks q) b y)) ∙ put_else (g.ends.blocks q) b c y (λ e. o (t, e)) ∙ ap (λ j. g.ends.blocks j c) (sym t))
+          (λ t. ap (λ j. put g.ends.blocks q (put (g.ends.blocks q) b y) j c) t
+          ∙ ap (λ (f : ℕ → BlockView). f c) (put_here g.ends.blocks q (put (g.ends.blocks q) b y))
+          ∙ put_else (g.ends.blocks q) b c y (λ e. o (t, e)) ∙ ap (λ j. g.ends.blocks j c) (sym t))
           (λ t. ap (λ (f : ℕ → BlockView). f c) (put_else g.ends.blocks q i (put (g.ends.blocks q) b y) t))
 
       same_or_else : {A : Type 0} (i c : ℕ) → (A → A) → ((i ≡ q) × (c ≡ b) → A) → (((i ≡ q) × (c ≡ b) → ⊥) → A) → A
-      same_or_else i c f both either = dite (ℕ_discrete i q) (λ t. dite (ℕ_discrete c b) (λ e. both (t, e)) (λ e. either (λ z. e z.1))) (λ t. either (λ z. t z.0))
+      same_or_else i c f both either = dite (ℕ_discrete i q) (λ t. dite (ℕ_discrete c b) (λ e. both (t, e)) (λ e. either (λ z. e z.1)))
+          (λ t. either (λ z. t z.0))
 
       blocks_apart : (i c : ℕ) (z : PoolShape) → PoolAt p i z → c < z.blocks → ((i ≡ q) × (c ≡ b) → ⊥) → block_at p i c ≢ block_at p q b
       blocks_apart i c z h l o e = dite (ℕ_discrete i q)
-          (λ t. let d : sum_by (λ (k : PoolShape). k.blocks) (take i (pools_of p.shape)) ≡ sum_by (λ (k : PoolShape). k.blocks) (take q (pools_of p.shape)) = ap (λ j. sum_by (λ (k : PoolShape). k.blocks) (take j (pools_of p.shape))) t in o (t, (omega arith)))
+          (λ t. let d : sum_by (λ (k : PoolShape). k.blocks) (take i (pools_of p.shape))
+          ≡ sum_by (λ (k : PoolShape). k.blocks) (take q (pools_of p.shape)) =
+          ap (λ j. sum_by (λ (k : PoolShape). k.blocks) (take j (pools_of p.shape))) t in o (t, (omega arith)))
           (λ t. dite (dec_le i q)
           (λ le. let a = take_less (λ (k : PoolShape). k.blocks) (pools_of p.shape) i q z (omega arith) h in omega arith)
           (λ gt. let a = take_less (λ (k : PoolShape). k.blocks) (pools_of p.shape) q i x (omega arith) there in omega arith))
 
   module _ {S : Type 0} where
     -- a node of the seat that works has begun the cycle that the seat is in with it, and not ended it
-    pub now_running : (s : State S View) (r : Holds p s) (id : ℕ) (b : Bool) (v : View) (m : ℕ) → get_elem? s.views id ≡ some v → HasNode b p v m → IsRunning b v m
-        → ((spans p r.whole m).over ≡ cycle_of b v m) × ((spans p r.whole m).begun ≡ (spans p r.whole m).over + 1) × (holder p m ≡ v.number) × (v.number ≤ p.seats) × (b ≡ false → v.number < p.seats)
+    pub now_running : (s : State S View) (r : Holds p s) (id : ℕ) (b : Bool) (v : View) (m : ℕ) → get_elem? s.views id ≡ some v
+        → HasNode b p v m → IsRunning b v m
+        → ((spans p r.whole m).over ≡ cycle_of b v m) × ((spans p r.whole m).begun ≡ (spans p r.whole m).over + 1) × (holder p m ≡ v.number)
+        × (v.number ≤ p.seats) × (b ≡ false → v.number < p.seats)
     now_running s r id true v m at h run = let g = r.whole in let is = lead_is p s r id v at h.0.1 in
-        let d : g.lead.drive ≡ drives.Running = ap (λ (l : LeadView). l.drive) (sym is) ∙ run in let c : g.lead.cycle ≡ v.lead.cycle = ap (λ (l : LeadView). l.cycle) (sym is) in
+        let d : g.lead.drive ≡ drives.Running = ap (λ (l : LeadView). l.drive) (sym is) ∙ run in
+        let c : g.lead.cycle ≡ v.lead.cycle = ap (λ (l : LeadView). l.cycle) (sym is) in
         let o : (spans p g m).over ≡ g.lead.cycle + 0 = over_lead p g m h.0.0 ∙ ap (λ k. g.lead.cycle + drive_over k) d in
-        let n : (spans p g m).begun ≡ g.lead.cycle + 1 = begun_lead p g m h.0.0 ∙ ap (λ k. g.lead.cycle + drive_begun k) d in let e = h.0.1 in
+        let n : (spans p g m).begun ≡ g.lead.cycle + 1 = begun_lead p g m h.0.0 ∙ ap (λ k. g.lead.cycle + drive_begun k) d in
+        let e = h.0.1 in
         (omega arith, omega arith, holder_leads m h.0.0 ∙ sym h.0.1, omega arith, λ z. absurd (true≢false z))
-    now_running s r id false v m at h run = let g = r.whole in let has = h.0 in let x : NodeView = node_of v m in let same = same_node p s r id m v at has in
-        let o : (spans p g m).over ≡ x.next + 0 = over_at p g m has.follows ∙ ap (λ (y : NodeView). y.next + phase_over y.phase) same ∙ ap (λ f. x.next + phase_over f) run in
-        let n : (spans p g m).begun ≡ x.next + 1 = begun_at p g m has.follows ∙ ap (λ (y : NodeView). y.next + phase_begun y.phase) same ∙ ap (λ f. x.next + phase_begun f) run in
+    now_running s r id false v m at h run = let g = r.whole in let has = h.0 in let x : NodeView = node_of v m in
+        let same = same_node p s r id m v at has in
+        let o : (spans p g m).over ≡ x.next + 0 = over_at p g m has.follows ∙ ap (λ (y : NodeView). y.next + phase_over y.phase) same
+        ∙ ap (λ f. x.next + phase_over f) run in
+        let n : (spans p g m).begun ≡ x.next + 1 = begun_at p g m has.follows ∙ ap (λ (y : NodeView). y.next + phase_begun y.phase) same
+        ∙ ap (λ f. x.next + phase_begun f) run in
         (omega arith, omega arith, holder_follows m has.follows ∙ has.owned, omega arith, λ z. has.loops)
 
 -- where a board has the words of areas and blocks
 pub placed : (plot : Plot) → IsPooledShape plot.shape → IsUndelayed plot.shape → HasSeats plot → HasPlaces plot.shape
-placed plot pooled undelayed seats = let p = lay plot in let w = wired p (sound_layout plot pooled.sound seats) pooled undelayed in let long = length-start_words plot.shape pooled in let count = count_is plot.shape in record {
-  pools = λ l h. slice_get_within (pools_of plot.shape) (pool_of p l) (pool_at p (pool_of p l)) (pool_here p w l (link_at p l) (link_there p l h)).0;
-  areas = λ l h. let a = (w.io_in l (link_at p l) (link_there p l h)).1 in let e = long_enough plot.shape undelayed in omega arith;
-  blocks = λ q b h low. let r = (w.readers_in q b (pool_at p q) (pool_there p q h) low).1 in omega arith;
-  some = λ q h. pools_have_words p (sound_layout plot pooled.sound seats) pooled undelayed q (pool_at p q) (pool_there p q h);
-  count = let a = few_ports [] plot.shape.links in let b = length-map (sources_of plot.shape) (pools.pool_of plot.shape) in let few = pooled.sound.links.few in omega arith;
-  few = λ q h. let s = pool_source plot.shape q (pool_at p q) (pool_there p q h) in let words : (pool_at p q).words ≡ words_of plot.shape s.0 = ap (λ (z : PoolShape). z.words) s.2 in
-      let most = mul-le plot.shape.quantum (channels_of plot.shape s.0) 8192 8 pooled.sound.cycles.quantum.1 (channels_le plot.shape s.0 pooled) in omega arith;
-}
+placed plot pooled undelayed seats = let p = lay plot in let w = wired p (sound_layout plot pooled.sound seats) pooled undelayed in
+    let long = length-start_words plot.shape pooled in let count = count_is plot.shape in record {
+      pools = λ l h. slice_get_within (pools_of plot.shape) (pool_of p l) (pool_at p (pool_of p l))
+          (pool_here p w l (link_at p l) (link_there p l h)).0;
+      areas = λ l h. let a = (w.io_in l (link_at p l) (link_there p l h)).1 in let e = long_enough plot.shape undelayed in omega arith;
+      blocks = λ q b h low. let r = (w.readers_in q b (pool_at p q) (pool_there p q h) low).1 in omega arith;
+      some = λ q h. pools_have_words p (sound_layout plot pooled.sound seats) pooled undelayed q (pool_at p q) (pool_there p q h);
+      count = let a = few_ports [] plot.shape.links in let b = length-map (sources_of plot.shape) (pools.pool_of plot.shape) in
+          let few = pooled.sound.links.few in omega arith;
+      few = λ q h. let s = pool_source plot.shape q (pool_at p q) (pool_there p q h) in
+          let words : (pool_at p q).words ≡ words_of plot.shape s.0 = ap (λ (z : PoolShape). z.words) s.2 in
+          let most = mul-le plot.shape.quantum (channels_of plot.shape s.0) 8192 8 pooled.sound.cycles.quantum.1
+          (channels_le plot.shape s.0 pooled) in omega arith;
+    }

@@ -1,5 +1,6 @@
 -- The activation rule and the event rule after a step on a word of the buffer rule, which leaves their words and all phases.
-use Rattle.std.proofs.Common.{◌≡◌, ◌≢◌, ℕ, suc, ◌+◌, ◌-◌, ◌<◌, ◌≤◌, ◌⊎◌, ⊎_elim, List, set, get_or, sym, ◌∙◌, subst, arith, get_or-set_other}
+use Rattle.std.proofs.Common.{◌≡◌, ◌≢◌, ℕ, suc, ◌+◌, ◌-◌, ◌<◌, ◌≤◌, ◌⊎◌, ⊎_elim, List, set, get_or, sym, ◌∙◌}
+use Rattle.std.proofs.Common.{subst, arith, get_or-set_other}
 use Rattle.std.proofs.lemmas.Option.{slice_get_within}
 use Rattle.std.proofs.lemmas.List.Elements.{All-contains}
 use Rattle.atomic_table.specs.Table.{State, keeps, stepped}
@@ -22,10 +23,13 @@ use Rattle.board_rule.proofs.StayLemmas.{IsBufferWord}
 use Rattle.board_rule.proofs.HolderLemmas.{with_ends}
 
 module _ (p : Lay) where
-  module _ (ws after : List ℕ) (pending : (n : ℕ) → n < nodes p → get_or after (pending_place p.shape n) 0 ≡ get_or ws (pending_place p.shape n) 0) (status : (n : ℕ) → n < nodes p → get_or after (status_place p.shape n) 0 ≡ get_or ws (status_place p.shape n) 0) where
+  module _ (ws after : List ℕ) (pending : (n : ℕ) → n < nodes p
+      → get_or after (pending_place p.shape n) 0 ≡ get_or ws (pending_place p.shape n) 0)
+      (status : (n : ℕ) → n < nodes p → get_or after (status_place p.shape n) 0 ≡ get_or ws (status_place p.shape n) 0) where
     runs_stay : (c : ℕ) (s : Posts) → Runs p c s ws → Runs p c s after
     runs_stay c s r = record {
-      node = λ n h. subst (λ (k : ℕ × ℕ). NodeOk c k.0 k.1 (s.stage n) (left p s n) (debts p s n)) (λ i. (sym (pending n h) i, sym (status n h) i)) (r.node n h);
+      node = λ n h. subst (λ (k : ℕ × ℕ). NodeOk c k.0 k.1 (s.stage n) (left p s n) (debts p s n))
+          (λ i. (sym (pending n h) i, sym (status n h) i)) (r.node n h);
     }
 
     resets_stay : (c i k : ℕ) → Resets p c i k ws → Resets p c i k after
@@ -63,7 +67,8 @@ module _ (p : Lay) where
   no_late_set : (i k : ℕ) → IsBufferWord p i → k < p.shape.cycles → late_place p.shape k ≢ i
   no_late_set i k h l e = ⊎_elim (λ a. let b = a.1 in omega arith) (λ a. omega arith) h
 
-  active_ends : (g : Whole) (ends : Ends) (ws : List ℕ) (i x : ℕ) → IsBufferWord p i → Activations p g ws → Activations p (with_ends p g ends) (set ws i x)
+  active_ends : (g : Whole) (ends : Ends) (ws : List ℕ) (i x : ℕ) → IsBufferWord p i → Activations p g ws
+      → Activations p (with_ends p g ends) (set ws i x)
   active_ends g ends ws i x word a = let up = far i word in record {
     later = a.later;
     early = a.early;
@@ -71,11 +76,14 @@ module _ (p : Lay) where
     drive = a.drive;
     followers = a.followers;
     resting = a.resting;
-    laid = words_stay ws (set ws i x) (λ n h. get_or-set_other ws i (pending_place p.shape n) x 0 (λ z. omega arith)) (λ n h. get_or-set_other ws i (status_place p.shape n) x 0 (λ z. omega arith)) g.lead.cycle (posts p g) g.lead.drive a.laid;
+    laid = words_stay ws (set ws i x) (λ n h. get_or-set_other ws i (pending_place p.shape n) x 0 (λ z. omega arith))
+        (λ n h. get_or-set_other ws i (status_place p.shape n) x 0 (λ z. omega arith)) g.lead.cycle (posts p g) g.lead.drive a.laid;
   }
 
-  events_ends : (g : Whole) (ends : Ends) (ws : List ℕ) (i x : ℕ) → IsSound p → IsBufferWord p i → Activations p g ws → Events p g ws → Events p (with_ends p g ends) (set ws i x)
-  events_ends g ends ws i x sound word a e = let k = e.tickets in let l = e.earlier in let ticket = get_or-set_other ws i 0 x 0 (λ z. let up = far i word in omega arith) in let drawn = k.drawn in
+  events_ends : (g : Whole) (ends : Ends) (ws : List ℕ) (i x : ℕ) → IsSound p → IsBufferWord p i → Activations p g ws → Events p g ws
+      → Events p (with_ends p g ends) (set ws i x)
+  events_ends g ends ws i x sound word a e = let k = e.tickets in let l = e.earlier in
+      let ticket = get_or-set_other ws i 0 x 0 (λ z. let up = far i word in omega arith) in let drawn = k.drawn in
       let few = few_tickets p g (get_or ws 0 0) ws sound a e.count in let low = a.later in let high = a.early in record {
         count = let c = e.count in omega arith;
         checks = e.checks;
@@ -83,7 +91,9 @@ module _ (p : Lay) where
         fresh = e.fresh;
         tickets = record {
           drawn = ticket ∙ k.drawn;
-          stored = λ t y h. let near = slice_get_within _ t y h in subst (λ w. (w ≡ event_word_of y) ⊎ ((w ≡ 0) × IsHeld p (marks p g) t)) (sym (get_or-set_other ws i (event_place p.shape t) x 0 (no_event i t word (omega arith)))) (k.stored t y h);
+          stored = λ t y h. let near = slice_get_within _ t y h in
+              subst (λ w. (w ≡ event_word_of y) ⊎ ((w ≡ 0) × IsHeld p (marks p g) t))
+              (sym (get_or-set_other ws i (event_place p.shape t) x 0 (no_event i t word (omega arith)))) (k.stored t y h);
           unused = λ t h l. get_or-set_other ws i (event_place p.shape t) x 0 (no_event i t word l) ∙ k.unused t h l;
           starts_kept = k.starts_kept;
           finishes_kept = k.finishes_kept;
@@ -92,17 +102,22 @@ module _ (p : Lay) where
         earlier = record {
           legal = l.legal;
           before = l.before;
-          lates = λ j y h. let b = All-contains (λ z. (first p ≤ event_cycle z) × (event_cycle z < g.lead.cycle) × (event_node z ≤ 63)) g.past (Tick j y) l.before h in let b₀ = b.0 in let b₁ = b.1 in
+          lates = λ j y h. let b = All-contains (λ z. (first p ≤ event_cycle z) × (event_cycle z < g.lead.cycle) × (event_node z ≤ 63))
+              g.past (Tick j y) l.before h in let b₀ = b.0 in let b₁ = b.1 in
               get_or-set_other ws i (late_place p.shape (j - first p)) x 0 (no_late_set i (j - first p) word (omega arith)) ∙ l.lates j y h;
-          late_now = λ h. get_or-set_other ws i (late_place p.shape (g.lead.cycle - first p)) x 0 (no_late_set i (g.lead.cycle - first p) word (omega arith)) ∙ l.late_now h;
-          late_later = λ j h m. get_or-set_other ws i (late_place p.shape (j - first p)) x 0 (no_late_set i (j - first p) word (omega arith)) ∙ l.late_later j h m;
+          late_now = λ h. get_or-set_other ws i (late_place p.shape (g.lead.cycle - first p)) x 0
+              (no_late_set i (g.lead.cycle - first p) word (omega arith)) ∙ l.late_now h;
+          late_later = λ j h m. get_or-set_other ws i (late_place p.shape (j - first p)) x 0
+              (no_late_set i (j - first p) word (omega arith)) ∙ l.late_later j h m;
         };
         inside = e.inside;
       }
 
   module _ {S : Type 0} where
     -- a step on a word i of the buffer rule: what the rule has to show
-    pub holds_ends : (s : State S View) (r : Holds p s) (id i n : ℕ) (v : View) (carry : List (ℕ × S)) (ends : Ends) → IsBufferWord p i → Seated p (with_ends p r.whole ends) (set s.words i n) (set s.views id v) → Buffers p (spans p r.whole) ends r.whole.expect (set s.words i n)
+    pub holds_ends : (s : State S View) (r : Holds p s) (id i n : ℕ) (v : View) (carry : List (ℕ × S)) (ends : Ends) → IsBufferWord p i
+        → Seated p (with_ends p r.whole ends) (set s.words i n) (set s.views id v)
+        → Buffers p (spans p r.whole) ends r.whole.expect (set s.words i n)
         → Holds p (stepped s i n id carry v keeps)
     holds_ends s r id i n v carry ends word seated buffers = record {
       whole = with_ends p r.whole ends;

@@ -1,5 +1,7 @@
 -- Laws of `specs/Logged.antt` on late checks: what a check has loaded, and the late set that it stores.
-use Rattle.std.proofs.Common.{◌≡◌, ◌≢◌, ℕ, zero, suc, ◌+◌, ◌-◌, ◌*◌, ◌^◌, ◌<◌, ◌≤◌, ◌⊎◌, inl, inr, ⊎_elim, Bool, true, false, true≢false, cond, eqb, List, [], ◌∷◌, ◌++◌, map, max, length, get_or, Some, refl, sym, ap, ◌∙◌, subst, arith, eq-eqb, length-append}
+use Rattle.std.proofs.Common.{◌≡◌, ◌≢◌, ℕ, zero, suc, ◌+◌, ◌-◌, ◌*◌, ◌^◌, ◌<◌, ◌≤◌, ◌⊎◌, inl, inr, ⊎_elim, Bool}
+use Rattle.std.proofs.Common.{true, false, true≢false, cond, eqb, List, [], ◌∷◌, ◌++◌, map, max, length, get_or, Some, refl, sym, ap, ◌∙◌}
+use Rattle.std.proofs.Common.{subst, arith, eq-eqb, length-append}
 use mathlib.Core.Logic.{dite}
 use native.Mathlib.Decide.{ℕ_discrete}
 use Rattle.std.specs.Prelude.{slice_get, All, Contains, IsBitSet}
@@ -33,13 +35,18 @@ other_bit set k n o h z = h (and_pow (with_bit set k) n ∙ ap (λ b. b * 2 ^ n)
 no_bit : (n : ℕ) → IsBitSet 0 n → ⊥
 no_bit n h = h (and_pow 0 n ∙ ap (λ b. b * 2 ^ n) (bit_at-zero n) ∙ (omega arith))
 
-pub late_bits : (c : ℕ) (P : ℕ → Type 0) (fs : List Found) → All (λ f. ¬ (f.word ≡ status_word_of 3 c) → P f.node) fs → (n : ℕ) → IsBitSet (late_of c fs) n → P n
+pub late_bits : (c : ℕ) (P : ℕ → Type 0) (fs : List Found) → All (λ f. ¬ (f.word ≡ status_word_of 3 c) → P f.node) fs → (n : ℕ)
+    → IsBitSet (late_of c fs) n → P n
 late_bits c P [] all n h = absurd (no_bit n h)
-late_bits c P (f ∷ fs) all n h = by (eqb f.word (status_word_of 3 c)) refl (late_bits c P fs (All-tail (λ f. ¬ (f.word ≡ status_word_of 3 c) → P f.node) f fs all)) h
+late_bits c P (f ∷ fs) all n h = by (eqb f.word (status_word_of 3 c)) refl
+    (late_bits c P fs (All-tail (λ f. ¬ (f.word ≡ status_word_of 3 c) → P f.node) f fs all)) h
   where
-    by : (b : Bool) → eqb f.word (status_word_of 3 c) ≡ b → ((n : ℕ) → IsBitSet (late_of c fs) n → P n) → IsBitSet (cond b (late_of c fs) (with_bit (late_of c fs) f.node)) n → P n
+    by : (b : Bool) → eqb f.word (status_word_of 3 c) ≡ b → ((n : ℕ) → IsBitSet (late_of c fs) n → P n)
+        → IsBitSet (cond b (late_of c fs) (with_bit (late_of c fs) f.node)) n → P n
     by true e rest h = rest n h
-    by false e rest h = dite (ℕ_discrete n f.node) (λ q. subst P (sym q) (All-head (λ f. ¬ (f.word ≡ status_word_of 3 c) → P f.node) f fs all (λ z. true≢false (sym (eq-eqb f.word (status_word_of 3 c) z) ∙ e))))
+    by false e rest h = dite (ℕ_discrete n f.node) (λ q. subst P (sym q)
+        (All-head (λ f. ¬ (f.word ≡ status_word_of 3 c) → P f.node) f fs all
+        (λ z. true≢false (sym (eq-eqb f.word (status_word_of 3 c) z) ∙ e))))
         (λ q. rest n (other_bit (late_of c fs) f.node n q h))
 
 -- a Tick is given its late set
@@ -76,14 +83,16 @@ word_same set (Tick k late) = refl
 word_same set (End k) = refl
 
 -- what a list gives at a place when its end is changed
-found_late : (set : ℕ) (past xs : List Event) (k : ℕ) (y : Event) → slice_get (past ++ map (told_late set) xs) k ≡ Some y → (x : Event) × (slice_get (past ++ xs) k ≡ Some x) × (event_word_of x ≡ event_word_of y)
+found_late : (set : ℕ) (past xs : List Event) (k : ℕ) (y : Event) → slice_get (past ++ map (told_late set) xs) k ≡ Some y → (x : Event)
+    × (slice_get (past ++ xs) k ≡ Some x) × (event_word_of x ≡ event_word_of y)
 found_late set [] [] k y h = cc
 found_late set [] (x ∷ xs) zero y h = (x, refl, sym (word_same set x) ∙ ap event_word_of (let e : told_late set x ≡ y = (cc) in e))
 found_late set [] (x ∷ xs) (suc k) y h = found_late set [] xs k y h
 found_late set (z ∷ past) xs zero y h = (y, h, refl)
 found_late set (z ∷ past) xs (suc k) y h = found_late set past xs k y h
 
-keeps_late : (set : ℕ) (past xs : List Event) (k : ℕ) (y : Event) → length past ≤ k → slice_get (past ++ xs) k ≡ Some y → slice_get (past ++ map (told_late set) xs) k ≡ Some (told_late set y)
+keeps_late : (set : ℕ) (past xs : List Event) (k : ℕ) (y : Event) → length past ≤ k → slice_get (past ++ xs) k ≡ Some y
+    → slice_get (past ++ map (told_late set) xs) k ≡ Some (told_late set y)
 keeps_late set [] [] k y l h = cc
 keeps_late set [] (x ∷ xs) zero y l h = let e : x ≡ y = (cc) in ap (λ z. Some (told_late set z)) e
 keeps_late set [] (x ∷ xs) (suc k) y l h = keeps_late set [] xs k y (omega arith) h
@@ -92,34 +101,51 @@ keeps_late set (z ∷ past) xs (suc k) y l h = keeps_late set past xs k y (omega
 
 module _ (p : Lay) (c : ℕ) where
   -- the events so far, with the late set of the Tick
-  pub tickets_late : (set : ℕ) (s t : Marks) (past xs : List Event) (r : Records) (late : ℕ → ℕ) → Tickets p c (length past) s (past ++ xs) r → ((k : ℕ) → IsHeld p s k → IsHeld p t k)
-      → ((n : ℕ) → n < nodes p → t.tally.started n ≡ 1 → (s.tally.started n ≡ 1) × (t.start n ≡ s.start n)) → ((n : ℕ) → n < nodes p → t.tally.finished n ≡ 1 → (s.tally.finished n ≡ 1) × (t.finish n ≡ s.finish n))
+  pub tickets_late : (set : ℕ) (s t : Marks) (past xs : List Event) (r : Records) (late : ℕ → ℕ)
+      → Tickets p c (length past) s (past ++ xs) r → ((k : ℕ) → IsHeld p s k → IsHeld p t k)
+      → ((n : ℕ) → n < nodes p → t.tally.started n ≡ 1 → (s.tally.started n ≡ 1) × (t.start n ≡ s.start n))
+      → ((n : ℕ) → n < nodes p → t.tally.finished n ≡ 1 → (s.tally.finished n ≡ 1) × (t.finish n ≡ s.finish n))
       → ((k : ℕ) (y : Event) → Contains t.tells (k, y) → (x : Event) × Contains s.tells (k, x) × (told_late set x ≡ y))
       → Tickets p c (length past) t (past ++ map (told_late set) xs) (record r { late = late })
   tickets_late set s t past xs r late a held starts finishes tells =
-      let long : length (past ++ map (told_late set) xs) ≡ length (past ++ xs) = length-append past (map (told_late set) xs) ∙ ap (λ n. length past + n) (length-map xs (told_late set)) ∙ sym (length-append past xs) in record {
+      let long : length (past ++ map (told_late set) xs) ≡ length (past ++ xs) = length-append past (map (told_late set) xs)
+      ∙ ap (λ n. length past + n) (length-map xs (told_late set)) ∙ sym (length-append past xs) in record {
         drawn = a.drawn ∙ sym long;
         stored = λ k y h. let f = found_late set past xs k y h in either' k y f.0 f.2 (a.stored k f.0 f.1);
         unused = λ k h l. a.unused k (omega arith) l;
-        starts_kept = λ n h one. let z = starts n h one in let o = a.starts_kept n h z.0 in let o₀ = o.0 in (subst (λ j. length past < j) (sym z.1) o.0, ap (slice_get (past ++ map (told_late set) xs)) z.1 ∙ keeps_late set past xs (s.start n) (Start c (p.number n)) (omega arith) o.1);
-        finishes_kept = λ n h one. let z = finishes n h one in let o = a.finishes_kept n h z.0 in let o₀ = o.0 in (subst (λ j. length past < j) (sym z.1) o.0, ap (slice_get (past ++ map (told_late set) xs)) z.1 ∙ keeps_late set past xs (s.finish n) (Finish c (p.number n)) (omega arith) o.1);
-        told_kept = λ k y h. let z = tells k y h in let o = a.told_kept k z.0 z.1 in (o.0, keeps_late set past xs k z.0 o.0 o.1 ∙ ap (λ x. Some x) z.2);
+        starts_kept = λ n h one. let z = starts n h one in let o = a.starts_kept n h z.0 in let o₀ = o.0 in (
+          subst (λ j. length past < j) (sym z.1) o.0,
+          ap (slice_get (past ++ map (told_late set) xs)) z.1
+              ∙ keeps_late set past xs (s.start n) (Start c (p.number n)) (omega arith) o.1,
+        );
+        finishes_kept = λ n h one. let z = finishes n h one in let o = a.finishes_kept n h z.0 in let o₀ = o.0 in (
+          subst (λ j. length past < j) (sym z.1) o.0,
+          ap (slice_get (past ++ map (told_late set) xs)) z.1
+              ∙ keeps_late set past xs (s.finish n) (Finish c (p.number n)) (omega arith) o.1,
+        );
+        told_kept = λ k y h. let z = tells k y h in let o = a.told_kept k z.0 z.1 in
+            (o.0, keeps_late set past xs k z.0 o.0 o.1 ∙ ap (λ x. Some x) z.2);
       }
     where
-      either' : (k : ℕ) (y x : Event) → event_word_of x ≡ event_word_of y → (r.event k ≡ event_word_of x) ⊎ ((r.event k ≡ 0) × IsHeld p s k) → (r.event k ≡ event_word_of y) ⊎ ((r.event k ≡ 0) × IsHeld p t k)
-      either' k y x e h = ⊎_elim (λ (z : r.event k ≡ event_word_of x). inl (z ∙ e)) (λ (z : (r.event k ≡ 0) × IsHeld p s k). inr (z.0, held k z.1)) h
+      either' : (k : ℕ) (y x : Event) → event_word_of x ≡ event_word_of y → (r.event k ≡ event_word_of x) ⊎ ((r.event k ≡ 0) × IsHeld p s k)
+          → (r.event k ≡ event_word_of y) ⊎ ((r.event k ≡ 0) × IsHeld p t k)
+      either' k y x e h = ⊎_elim (λ (z : r.event k ≡ event_word_of x). inl (z ∙ e))
+          (λ (z : (r.event k ≡ 0) × IsHeld p s k). inr (z.0, held k z.1)) h
 
-  pub earlier_late : (late set : ℕ) (past : List Event) (r : Records) → first p ≤ c → Earlier p c late past r → Earlier p c set past (record r { late = put r.late (c - first p) set })
+  pub earlier_late : (late set : ℕ) (past : List Event) (r : Records) → first p ≤ c → Earlier p c late past r
+      → Earlier p c set past (record r { late = put r.late (c - first p) set })
   earlier_late late set past r low a = record {
     legal = a.legal;
     before = a.before;
-    lates = λ k x h. let b = earlier k x h in let b₀ = b.0 in let b₁ = b.1 in put_else r.late (c - first p) (k - first p) set (λ z. omega arith) ∙ a.lates k x h;
+    lates = λ k x h. let b = earlier k x h in let b₀ = b.0 in let b₁ = b.1 in
+        put_else r.late (c - first p) (k - first p) set (λ z. omega arith) ∙ a.lates k x h;
     late_now = λ _. put_here r.late (c - first p) set;
     late_later = λ k h l. put_else r.late (c - first p) (k - first p) set (λ z. omega arith) ∙ a.late_later k h l;
   }
     where
       earlier : (k x : ℕ) → Contains past (Tick k x) → (first p ≤ k) × (k < c)
-      earlier k x h = let b = All-contains (λ e. (first p ≤ event_cycle e) × (event_cycle e < c) × (event_node e ≤ 63)) past (Tick k x) a.before h in (b.0, b.1)
+      earlier k x h = let b = All-contains (λ e. (first p ≤ event_cycle e) × (event_cycle e < c) × (event_node e ≤ 63)) past
+          (Tick k x) a.before h in (b.0, b.1)
 
   so_far_late : (late set : ℕ) (e : Event) → IsSoFar p c late e → IsSoFar p c set (told_late set e)
   so_far_late late set (Begin k) h = absurd h
@@ -129,24 +155,47 @@ module _ (p : Lay) (c : ℕ) where
   so_far_late late set (End k) h = absurd h
 
   is_late_told : (set : ℕ) (xs : List Event) (n : ℕ) → IsLate p.shape xs c n → IsLate p.shape (map (told_late set) xs) c n
-  is_late_told set xs n h = (h.0, h.1, subst (λ (z : ℕ × ℕ). z.0 < z.1) (λ i. (sym (first_mapped is_tick (told_late set) (tick_same set) xs) i, sym (first_mapped (is_finish c n) (told_late set) (finish_same set c n) xs) i)) h.2)
+  is_late_told set xs n h = (
+    h.0,
+    h.1,
+    subst (λ (z : ℕ × ℕ). z.0 < z.1)
+        (λ i. (
+          sym (first_mapped is_tick (told_late set) (tick_same set) xs) i,
+          sym (first_mapped (is_finish c n) (told_late set) (finish_same set c n) xs) i,
+        )) h.2,
+  )
 
-  pub inside_late : (late set : ℕ) (k l : Tally) (xs : List Event) → Inside p c late k xs → ((n : ℕ) → l.started n ≡ k.started n) → ((n : ℕ) → l.finished n ≡ k.finished n) → l.checked ≡ k.checked → l.sees ≡ []
+  pub inside_late : (late set : ℕ) (k l : Tally) (xs : List Event) → Inside p c late k xs → ((n : ℕ) → l.started n ≡ k.started n)
+      → ((n : ℕ) → l.finished n ≡ k.finished n) → l.checked ≡ k.checked → l.sees ≡ []
       → ((n : ℕ) → IsBitSet set n → IsLate p.shape xs c n) → Inside p c set l (map (told_late set) xs)
   inside_late late set k l xs a started finished checked sees bits = let h : Event → Event = told_late set in record {
     only = All-map (IsSoFar p c set) h xs (λ i d q. so_far_late late set (get_or xs i d) (a.only i d q));
     starts = λ n q. count_mapped (is_start c (p.number n)) h (start_same set c (p.number n)) xs ∙ a.starts n q ∙ sym (started n);
     finishes = λ n q. count_mapped (is_finish c (p.number n)) h (finish_same set c (p.number n)) xs ∙ a.finishes n q ∙ sym (finished n);
     ticks = count_mapped is_tick h (tick_same set) xs ∙ a.ticks ∙ ap (λ b. cond {A = ℕ} b 1 0) (sym checked);
-    order = λ n q one. subst (λ (z : ℕ × ℕ). z.0 < z.1) (λ i. (sym (first_mapped (is_start c (p.number n)) h (start_same set c (p.number n)) xs) i, sym (first_mapped (is_finish c (p.number n)) h (finish_same set c (p.number n)) xs) i)) (a.order n q (sym (finished n) ∙ one));
-    waits = λ m n hm hn before one. subst (λ (z : ℕ × ℕ). z.0 < z.1) (λ i. (sym (first_mapped (is_finish c (p.number m)) h (finish_same set c (p.number m)) xs) i, sym (first_mapped (is_start c (p.number n)) h (start_same set c (p.number n)) xs) i)) (a.waits m n hm hn before (sym (started n) ∙ one));
-    tick = λ one. subst (λ (z : ℕ × ℕ). z.0 < z.1) (λ i. (sym (first_mapped is_tick h (tick_same set) xs) i, sym (first_mapped (is_start c (p.number p.driver)) h (start_same set c (p.number p.driver)) xs) i)) (a.tick (sym checked ∙ one));
+    order = λ n q one. subst (λ (z : ℕ × ℕ). z.0 < z.1)
+        (λ i. (
+          sym (first_mapped (is_start c (p.number n)) h (start_same set c (p.number n)) xs) i,
+          sym (first_mapped (is_finish c (p.number n)) h (finish_same set c (p.number n)) xs) i,
+        )) (a.order n q (sym (finished n) ∙ one));
+    waits = λ m n hm hn before one. subst (λ (z : ℕ × ℕ). z.0 < z.1)
+        (λ i. (
+          sym (first_mapped (is_finish c (p.number m)) h (finish_same set c (p.number m)) xs) i,
+          sym (first_mapped (is_start c (p.number n)) h (start_same set c (p.number n)) xs) i,
+        ))
+        (a.waits m n hm hn before (sym (started n) ∙ one));
+    tick = λ one. subst (λ (z : ℕ × ℕ). z.0 < z.1) (λ i. (
+      sym (first_mapped is_tick h (tick_same set) xs) i,
+      sym (first_mapped (is_start c (p.number p.driver)) h (start_same set c (p.number p.driver)) xs) i,
+    )) (a.tick (sym checked ∙ one));
     late_ones = λ n _ b. is_late_told set xs n (bits n b);
-    seen = subst (All (λ f. ¬ (f.word ≡ status_word_of 3 c) → IsLate p.shape (map h xs) c f.node)) (sym sees) (λ i d q. absurd (omega arith));
+    seen = subst (All (λ f. ¬ (f.word ≡ status_word_of 3 c) → IsLate p.shape (map h xs) c f.node)) (sym sees)
+        (λ i d q. absurd (omega arith));
   }
 
   -- a status is loaded
-  pub inside_looks : (late : ℕ) (k : Tally) (xs : List Event) (f : Found) → Inside p c late k xs → (¬ (f.word ≡ status_word_of 3 c) → IsLate p.shape xs c f.node) → Inside p c late (record k { sees = f ∷ k.sees }) xs
+  pub inside_looks : (late : ℕ) (k : Tally) (xs : List Event) (f : Found) → Inside p c late k xs
+      → (¬ (f.word ≡ status_word_of 3 c) → IsLate p.shape xs c f.node) → Inside p c late (record k { sees = f ∷ k.sees }) xs
   inside_looks late k xs f a h = record {
     only = a.only;
     starts = a.starts;

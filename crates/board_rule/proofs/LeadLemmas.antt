@@ -13,30 +13,54 @@ use Rattle.board_rule.specs.EventSteps.{CanDrawLead, lead_draws, draw_trail, dra
 use Rattle.board_rule.specs.LeadProgress.{done_of, due_of, lead_progress_of, lead_drawn, is_begin}
 use Rattle.board_rule.specs.Known.{IsDriverSeat}
 
-module _ (v w : View) (x : LeadView) (t : Trail) (l k : LeadProgress) (rs : List ReadView) (o o' : ℕ) (is : w ≡ view_lead v x t) (s : IsDriverSeat v l rs o) (woke : woke_of t.told ≡ o') where
+module _ (v w : View) (x : LeadView) (t : Trail) (l k : LeadProgress) (rs : List ReadView) (o o' : ℕ) (is : w ≡ view_lead v x t)
+    (s : IsDriverSeat v l rs o) (woke : woke_of t.told ≡ o') where
   -- the seat after one of its steps
   pub lead_set : lead_progress_of x ≡ k → IsDriverSeat w k rs o'
   lead_set e = subst (λ (u : View). IsDriverSeat u k rs o') (sym is) record { lead_is = e; reads_are = s.reads_are; woke_is = woke }
 
 module _ (v w : View) (m : ℕ) (l k : LeadProgress) (rs : List ReadView) (o : ℕ) (s : IsDriverSeat v l rs o) where
-  drawn_by : (ticket : ℕ) (d : Drive) → v.lead.drive ≡ d → CanDrawLead v.lead.checked d → (lead_progress_of (lead_draws v.lead ticket d) ≡ lead_drawn (lead_progress_of v.lead) (due_of v.lead.drive) ticket) × (woke_of (draw_trail v.trail d).told ≡ cond (is_begin (due_of v.lead.drive)) 0 (woke_of v.trail.told))
-  drawn_by ticket drives.Between e can = (λ j. let d = sym e j in lead_drawn (record (lead_progress_of v.lead) { done = done_of d; due = due_of d }) (due_of d) ticket, λ j. cond (is_begin (due_of (sym e j))) 0 (woke_of v.trail.told))
+  drawn_by : (ticket : ℕ) (d : Drive) → v.lead.drive ≡ d → CanDrawLead v.lead.checked d
+      → (lead_progress_of (lead_draws v.lead ticket d) ≡ lead_drawn (lead_progress_of v.lead) (due_of v.lead.drive) ticket)
+      × (woke_of (draw_trail v.trail d).told ≡ cond (is_begin (due_of v.lead.drive)) 0 (woke_of v.trail.told))
+  drawn_by ticket drives.Between e can = (
+    λ j. let d = sym e j in
+        lead_drawn (record (lead_progress_of v.lead) { done = done_of d; due = due_of d }) (due_of d) ticket,
+    λ j. cond (is_begin (due_of (sym e j))) 0 (woke_of v.trail.told),
+  )
   drawn_by ticket drives.BeginDrawn e can = absurd can
   drawn_by ticket (drives.Reset i) e can = absurd can
   drawn_by ticket (drives.Half i) e can = absurd can
   drawn_by ticket (drives.Kick i o) e can = absurd can
-  drawn_by ticket drives.Waiting e can = (λ j. let d = sym e j in lead_drawn (record (lead_progress_of v.lead) { done = done_of d; due = due_of d }) (due_of d) ticket, λ j. cond (is_begin (due_of (sym e j))) 0 (woke_of v.trail.told))
+  drawn_by ticket drives.Waiting e can = (
+    λ j. let d = sym e j in
+        lead_drawn (record (lead_progress_of v.lead) { done = done_of d; due = due_of d }) (due_of d) ticket,
+    λ j. cond (is_begin (due_of (sym e j))) 0 (woke_of v.trail.told),
+  )
   drawn_by ticket drives.Checking e can = absurd can
   drawn_by ticket drives.LateStored e can = absurd can
-  drawn_by ticket drives.Awake e can = (λ j. let d = sym e j in lead_drawn (record (lead_progress_of v.lead) { done = done_of d; due = due_of d }) (due_of d) ticket, λ j. cond (is_begin (due_of (sym e j))) 0 (woke_of v.trail.told))
+  drawn_by ticket drives.Awake e can = (
+    λ j. let d = sym e j in
+        lead_drawn (record (lead_progress_of v.lead) { done = done_of d; due = due_of d }) (due_of d) ticket,
+    λ j. cond (is_begin (due_of (sym e j))) 0 (woke_of v.trail.told),
+  )
   drawn_by ticket drives.StartDrawn e can = absurd can
   drawn_by ticket drives.Running e can = absurd can
-  drawn_by ticket drives.Done e can = (λ j. let d = sym e j in lead_drawn (record (lead_progress_of v.lead) { done = done_of d; due = due_of d }) (due_of d) ticket, λ j. cond (is_begin (due_of (sym e j))) 0 (woke_of v.trail.told))
+  drawn_by ticket drives.Done e can = (
+    λ j. let d = sym e j in
+        lead_drawn (record (lead_progress_of v.lead) { done = done_of d; due = due_of d }) (due_of d) ticket,
+    λ j. cond (is_begin (due_of (sym e j))) 0 (woke_of v.trail.told),
+  )
   drawn_by ticket drives.FinishDrawn e can = absurd can
-  drawn_by ticket drives.FinishStored e can = (λ j. let d = sym e j in lead_drawn (record (lead_progress_of v.lead) { done = done_of d; due = due_of d }) (due_of d) ticket, λ j. cond (is_begin (due_of (sym e j))) 0 (woke_of v.trail.told))
+  drawn_by ticket drives.FinishStored e can = (
+    λ j. let d = sym e j in
+        lead_drawn (record (lead_progress_of v.lead) { done = done_of d; due = due_of d }) (due_of d) ticket,
+    λ j. cond (is_begin (due_of (sym e j))) 0 (woke_of v.trail.told),
+  )
   drawn_by ticket drives.EndDrawn e can = absurd can
 
-  pub lead_draws_on : (ticket o' : ℕ) → w ≡ draws true v m ticket → CanDrawLead v.lead.checked v.lead.drive → k ≡ lead_drawn l l.due ticket → o' ≡ cond (is_begin l.due) 0 o → IsDriverSeat w k rs o'
+  pub lead_draws_on : (ticket o' : ℕ) → w ≡ draws true v m ticket → CanDrawLead v.lead.checked v.lead.drive → k ≡ lead_drawn l l.due ticket
+      → o' ≡ cond (is_begin l.due) 0 o → IsDriverSeat w k rs o'
   lead_draws_on ticket o' is can k_is woke = let by = drawn_by ticket v.lead.drive refl can in
       lead_set v w (lead_draws v.lead ticket v.lead.drive) (draw_trail v.trail v.lead.drive) l k rs o o' is s
       (by.1 ∙ (λ j. cond (is_begin (s.lead_is j).due) 0 (s.woke_is j)) ∙ sym woke)

@@ -1,5 +1,6 @@
 -- Laws of `specs/Left.antt`: the sum over the dependencies of a node is the sum over all nodes.
-use Rattle.std.proofs.Common.{◌≡◌, ℕ, zero, suc, ◌+◌, ◌<◌, ◌≤◌, Bool, true, false, List, [], ◌∷◌, ◌++◌, cond, eqb, drop, refl, sym, ap, ◌∙◌, arith, eq-eqb, ne_eqb}
+use Rattle.std.proofs.Common.{◌≡◌, ℕ, zero, suc, ◌+◌, ◌<◌, ◌≤◌, Bool, true, false, List, [], ◌∷◌, ◌++◌, cond, eqb, drop, refl}
+use Rattle.std.proofs.Common.{sym, ap, ◌∙◌, arith, eq-eqb, ne_eqb}
 use mathlib.Core.Logic.{dite}
 use native.Mathlib.Decide.{ℕ_discrete}
 use Rattle.board_rule.specs.declared.view.Phase.{Phase}
@@ -18,13 +19,16 @@ pub left_of-append : (t : ℕ → ℕ) (xs ys : List ℕ) → left_of t (xs ++ y
 left_of-append t [] ys = omega arith
 left_of-append t (x ∷ xs) ys = let e = left_of-append t xs ys in omega arith
 
-below_is : (p : Lay) (n : ℕ) (t : ℕ → ℕ) (k : ℕ) → ((m : ℕ) → m < k → t m ≤ times n (p.targets m)) → left_of t (dependencies_below p n k) ≡ total t k
+below_is : (p : Lay) (n : ℕ) (t : ℕ → ℕ) (k : ℕ) → ((m : ℕ) → m < k → t m ≤ times n (p.targets m))
+    → left_of t (dependencies_below p n k) ≡ total t k
 below_is p n t zero h = refl
 below_is p n t (suc k) h = let ih = below_is p n t k (λ m l. h m (omega arith)) in let here = h k (omega arith) in
     let a = left_of-append t (dependencies_below p n k) (cond (eqb (times n (p.targets k)) 0) [] (k ∷ [])) in
     dite (ℕ_discrete (times n (p.targets k)) 0)
-    (λ q. let b : left_of t (cond (eqb (times n (p.targets k)) 0) [] (k ∷ [])) ≡ 0 = ap (λ b. left_of t (cond b [] (k ∷ []))) (eq-eqb (times n (p.targets k)) 0 q) in omega arith)
-    (λ q. let b : left_of t (cond (eqb (times n (p.targets k)) 0) [] (k ∷ [])) ≡ t k + 0 = ap (λ b. left_of t (cond b [] (k ∷ []))) (ne_eqb (times n (p.targets k)) 0 q) in omega arith)
+    (λ q. let b : left_of t (cond (eqb (times n (p.targets k)) 0) [] (k ∷ [])) ≡ 0 =
+    ap (λ b. left_of t (cond b [] (k ∷ []))) (eq-eqb (times n (p.targets k)) 0 q) in omega arith)
+    (λ q. let b : left_of t (cond (eqb (times n (p.targets k)) 0) [] (k ∷ [])) ≡ t k + 0 =
+    ap (λ b. left_of t (cond b [] (k ∷ []))) (ne_eqb (times n (p.targets k)) 0 q) in omega arith)
 
 -- what a node has yet to take down is a part of its targets
 times_cond : (n x : ℕ) (b : Bool) (k : ℕ) → k ≤ cond b 1 0 + k
@@ -73,7 +77,8 @@ both_part n ts xs ys false h k = k
 module _ (p : Lay) where
   pub left_is : (g : Whole) (n : ℕ) → left p (posts p g) n ≡ sum_left (nodes p) (posts p g) n
   left_is g n = below_is p n (λ m. times n ((posts p g).rest m)) (nodes p)
-      (λ m _. both_part n (p.targets m) (drive_rest (p.targets m) g.lead.drive) (phase_rest (p.targets m) (eqb (g.nodes m).next g.lead.cycle) (g.nodes m).phase) (eqb m p.driver)
+      (λ m _. both_part n (p.targets m) (drive_rest (p.targets m) g.lead.drive)
+      (phase_rest (p.targets m) (eqb (g.nodes m).next g.lead.cycle) (g.nodes m).phase) (eqb m p.driver)
       (drive_part n (p.targets m) g.lead.drive) (phase_part n (p.targets m) (eqb (g.nodes m).next g.lead.cycle) (g.nodes m).phase))
 
   -- from the rule's form to the form of the lemmas on runs, and back

@@ -1,5 +1,6 @@
 -- Laws of `specs/Logged.antt`: a cycle of which all events are drawn is legal, and joins the earlier ones.
-use Rattle.std.proofs.Common.{◌≡◌, ℕ, zero, suc, ◌+◌, ◌-◌, ◌<◌, ◌≤◌, ⊎_elim, Bool, true, false, cond, List, [], ◌∷◌, ◌++◌, length, get_or, refl, sym, ap, ◌∙◌, subst, arith, append-nil}
+use Rattle.std.proofs.Common.{◌≡◌, ℕ, zero, suc, ◌+◌, ◌-◌, ◌<◌, ◌≤◌, ⊎_elim, Bool, true, false, cond, List, [], ◌∷◌, ◌++◌}
+use Rattle.std.proofs.Common.{length, get_or, refl, sym, ap, ◌∙◌, subst, arith, append-nil}
 use Rattle.std.specs.Prelude.{count_by, All, Contains, IsBitSet}
 use Rattle.std.specs.List.{flat_map, AllZip}
 use Rattle.std.proofs.lemmas.List.{get_or-map}
@@ -14,15 +15,18 @@ use Rattle.pw_base.specs.declared.shape.Shape.{Shape}
 use Rattle.pw_base.specs.declared.shape.ShapeNode.{ShapeNode}
 use Rattle.pw_base.specs.Dependencies.{Precedes}
 use Rattle.pw_base.specs.EventWords.{event_cycle, event_node}
-use Rattle.pw_base.specs.History.{is_tick, tick_place, start_place, finish_place, IsOfCycle, RunsOnce, IsLegalInside, IsLegalCycle, AreJoined, epoch_cycles}
+use Rattle.pw_base.specs.History.{is_tick, tick_place, start_place, finish_place, IsOfCycle, RunsOnce, IsLegalInside, IsLegalCycle}
+use Rattle.pw_base.specs.History.{AreJoined, epoch_cycles}
 use Rattle.board_rule.specs.Layout.{Lay, IsSound, nodes, first, last}
 use Rattle.board_rule.specs.Logged.{IsSoFar, Earlier, Inside}
 use Rattle.board_rule.specs.Records.{Records, Tally}
 
 some_pass : {X : Type 0} (f : X → Bool) (xs : List X) (i : ℕ) (d : X) → i < length xs → f (get_or xs i d) ≡ true → 0 < count_by f xs
 some_pass f [] i d h t = absurd (omega arith)
-some_pass f (x ∷ xs) zero d h t = let a = sum_by-cons (λ x. cond (f x) 1 0) x xs in let b : cond {A = ℕ} (f x) 1 0 ≡ 1 = ap (λ b. cond {A = ℕ} b 1 0) t in omega arith
-some_pass f (x ∷ xs) (suc i) d h t = let a = some_pass f xs i d (omega arith) t in let b = sum_by-cons (λ x. cond (f x) 1 0) x xs in omega arith
+some_pass f (x ∷ xs) zero d h t = let a = sum_by-cons (λ x. cond (f x) 1 0) x xs in
+    let b : cond {A = ℕ} (f x) 1 0 ≡ 1 = ap (λ b. cond {A = ℕ} b 1 0) t in omega arith
+some_pass f (x ∷ xs) (suc i) d h t = let a = some_pass f xs i d (omega arith) t in let b = sum_by-cons (λ x. cond (f x) 1 0) x xs in
+    omega arith
 
 is_one : (b : Bool) → 0 < cond b 1 0 → b ≡ true
 is_one true h = refl
@@ -38,7 +42,11 @@ module _ (p : Lay) (sound : IsSound p) (c late : ℕ) (k : Tally) (xs : List Eve
     of_cycle (Begin j) h t = absurd h
     of_cycle (Start j n) h t = h
     of_cycle (Finish j n) h t = h
-    of_cycle (Tick j set) h t = (h.0, subst (λ n. tick_place xs < start_place xs c n) sound.names_driver (a.tick (t refl)), λ n l b. a.late_ones n l (subst (λ s. IsBitSet s n) h.1 b))
+    of_cycle (Tick j set) h t = (
+      h.0,
+      subst (λ n. tick_place xs < start_place xs c n) sound.names_driver (a.tick (t refl)),
+      λ n l b. a.late_ones n l (subst (λ s. IsBitSet s n) h.1 b),
+    )
     of_cycle (End j) h t = absurd h
 
     node_number : (i : ℕ) (d : ShapeNode) → i < length p.shape.nodes → p.number i ≡ (get_or p.shape.nodes i d).node
@@ -46,14 +54,17 @@ module _ (p : Lay) (sound : IsSound p) (c late : ℕ) (k : Tally) (xs : List Eve
 
     pub legal_inside : IsLegalInside p.shape xs c
     legal_inside = record {
-      only = λ i d h. of_cycle (get_or xs i d) (a.only i d h) (λ t. is_one k.checked (let z = some_pass is_tick xs i d h t in let y = a.ticks in omega arith));
-      nodes = λ i d h. subst (RunsOnce xs c) (node_number i d h) record { start = a.starts i h ∙ started i h; finish = a.finishes i h ∙ finished i h; order = a.order i h (finished i h) };
+      only = λ i d h. of_cycle (get_or xs i d) (a.only i d h)
+          (λ t. is_one k.checked (let z = some_pass is_tick xs i d h t in let y = a.ticks in omega arith));
+      nodes = λ i d h. subst (RunsOnce xs c) (node_number i d h) record
+          { start = a.starts i h ∙ started i h; finish = a.finishes i h ∙ finished i h; order = a.order i h (finished i h) };
       order = record {
         waits = λ m n before.
             let hm = sound.named m before.depends.from_active in let hn = sound.named n before.depends.to_active in
             let em = sound.known m hm in let en = sound.known n hn in
             subst (λ (z : ℕ × ℕ). finish_place xs c z.0 < start_place xs c z.1) (λ i. (em i, en i))
-            (a.waits (p.place m) (p.place n) hm hn (subst (λ (z : ℕ × ℕ). Precedes p.shape z.0 z.1) (λ i. (sym em i, sym en i)) before) (started (p.place n) hn));
+            (a.waits (p.place m) (p.place n) hm hn (subst (λ (z : ℕ × ℕ). Precedes p.shape z.0 z.1) (λ i. (sym em i, sym en i)) before)
+            (started (p.place n) hn));
       };
       ticks = let z = a.ticks in let y = at_most_one k.checked in omega arith;
     }
@@ -89,20 +100,29 @@ module _ (p : Lay) (sound : IsSound p) (c late : ℕ) (k : Tally) (xs : List Eve
     not_end j set q = cc
 
     -- the cycle has ended
-    pub earlier_ends : (past : List Event) (r : Records) (event : ℕ → ℕ) → first p ≤ c → c < last p → Earlier p c late past r → Earlier p (c + 1) 0 (past ++ part) (record r { event = event })
-    earlier_ends past r event low high e = let l = e.legal in let k₁ : c + 1 - first p ≡ c - first p + 1 = omega arith in let now : first p + (c - first p) ≡ c = omega arith in record {
-      legal = subst (λ n. AreJoined (epoch_cycles p.shape n) (past ++ part)) (sym k₁) record {
-        parts = l.parts ++ part ∷ [];
-        joined = ap (λ ys. ys ++ part) l.joined ∙ ap (λ ys. flat_map (λ q. q) l.parts ++ ys) (sym (append-nil part)) ∙ sym (flat_map-append (λ q. q) l.parts (part ∷ []));
-        legal = subst (λ cs. AllZip (λ (z : Shape × ℕ) q. IsLegalCycle z.0 z.1 q) cs (l.parts ++ part ∷ [])) (sym (map-range_with_len_more {X = Shape × ℕ} (λ z. (p.shape, z)) p.shape.first (c - first p) c now))
-            (all_zipped_more (λ (z : Shape × ℕ) q. IsLegalCycle z.0 z.1 q) (epoch_cycles p.shape (c - first p)) l.parts (p.shape, c) part l.legal (xs, refl, legal_inside));
-      };
-      before = All-append (λ x. (first p ≤ event_cycle x) × (event_cycle x < c + 1) × (event_node x ≤ 63)) past part (λ i d h. let b = e.before i d h in let b₀ = b.0 in let b₁ = b.1 in let b₂ = b.2 in (omega arith, omega arith, omega arith))
-          (all_of (λ x. (first p ≤ event_cycle x) × (event_cycle x < c + 1) × (event_node x ≤ 63)) (omega arith, omega arith, omega arith)
-          (λ i d h. let b = cycle_of (get_or xs i d) (a.only i d h) in let b₀ = b.0 in (omega arith, omega arith, b.1)) (omega arith, omega arith, omega arith));
-      lates = λ j set h. ⊎_elim (λ (z : Contains past (Tick j set)). e.lates j set z)
-          (λ (z : Contains part (Tick j set)). let t = All-contains (λ x. x ≡ Tick j set → (j ≡ c) × (set ≡ late)) part (Tick j set) (all_of (λ x. x ≡ Tick j set → (j ≡ c) × (set ≡ late)) (not_begin j set) (λ i d h. tick_of j set (get_or xs i d) (a.only i d h)) (not_end j set)) z refl in
-          ap (λ n. r.late (n - first p)) t.0 ∙ e.late_now high ∙ sym t.1) (Contains-append_cases past part (Tick j set) h);
-      late_now = λ h. e.late_later (c + 1) (omega arith) h;
-      late_later = λ j h q. e.late_later j (omega arith) q;
-    }
+    pub earlier_ends : (past : List Event) (r : Records) (event : ℕ → ℕ) → first p ≤ c → c < last p → Earlier p c late past r
+        → Earlier p (c + 1) 0 (past ++ part) (record r { event = event })
+    earlier_ends past r event low high e = let l = e.legal in let k₁ : c + 1 - first p ≡ c - first p + 1 = omega arith in
+        let now : first p + (c - first p) ≡ c = omega arith in record {
+          legal = subst (λ n. AreJoined (epoch_cycles p.shape n) (past ++ part)) (sym k₁) record {
+            parts = l.parts ++ part ∷ [];
+            joined = ap (λ ys. ys ++ part) l.joined ∙ ap (λ ys. flat_map (λ q. q) l.parts ++ ys) (sym (append-nil part))
+                ∙ sym (flat_map-append (λ q. q) l.parts (part ∷ []));
+            legal = subst (λ cs. AllZip (λ (z : Shape × ℕ) q. IsLegalCycle z.0 z.1 q) cs (l.parts ++ part ∷ []))
+                (sym (map-range_with_len_more {X = Shape × ℕ} (λ z. (p.shape, z)) p.shape.first (c - first p) c now))
+                (all_zipped_more (λ (z : Shape × ℕ) q. IsLegalCycle z.0 z.1 q) (epoch_cycles p.shape (c - first p)) l.parts
+                (p.shape, c) part l.legal (xs, refl, legal_inside));
+          };
+          before = All-append (λ x. (first p ≤ event_cycle x) × (event_cycle x < c + 1) × (event_node x ≤ 63)) past part
+              (λ i d h. let b = e.before i d h in let b₀ = b.0 in let b₁ = b.1 in let b₂ = b.2 in (omega arith, omega arith, omega arith))
+              (all_of (λ x. (first p ≤ event_cycle x) × (event_cycle x < c + 1) × (event_node x ≤ 63)) (omega arith, omega arith, omega arith)
+              (λ i d h. let b = cycle_of (get_or xs i d) (a.only i d h) in let b₀ = b.0 in (omega arith, omega arith, b.1))
+              (omega arith, omega arith, omega arith));
+          lates = λ j set h. ⊎_elim (λ (z : Contains past (Tick j set)). e.lates j set z)
+              (λ (z : Contains part (Tick j set)). let t = All-contains (λ x. x ≡ Tick j set → (j ≡ c) × (set ≡ late)) part (Tick j set)
+              (all_of (λ x. x ≡ Tick j set → (j ≡ c) × (set ≡ late)) (not_begin j set)
+              (λ i d h. tick_of j set (get_or xs i d) (a.only i d h)) (not_end j set)) z refl in
+              ap (λ n. r.late (n - first p)) t.0 ∙ e.late_now high ∙ sym t.1) (Contains-append_cases past part (Tick j set) h);
+          late_now = λ h. e.late_later (c + 1) (omega arith) h;
+          late_later = λ j h q. e.late_later j (omega arith) q;
+        }

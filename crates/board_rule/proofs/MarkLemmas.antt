@@ -1,5 +1,6 @@
 -- What a step changes of what the event rule reads of words and phases.
-use Rattle.std.proofs.Common.{◌≡◌, ◌≢◌, ℕ, ◌+◌, ◌-◌, ◌<◌, ◌≤◌, ◌⊎◌, cond, eqb, List, length, set, refl, sym, ap, ◌∙◌, subst, arith, eq-eqb, ne_eqb, get_or-set_other, get_or-set_same}
+use Rattle.std.proofs.Common.{◌≡◌, ◌≢◌, ℕ, ◌+◌, ◌-◌, ◌<◌, ◌≤◌, ◌⊎◌, cond, eqb, List, length, set, refl, sym, ap}
+use Rattle.std.proofs.Common.{◌∙◌, subst, arith, eq-eqb, ne_eqb, get_or-set_other, get_or-set_same}
 use mathlib.Core.Logic.{dite}
 use native.Mathlib.Decide.{ℕ_discrete}
 use Rattle.std.proofs.lemmas.List.Elements.{All-contains}
@@ -15,14 +16,16 @@ use Rattle.board_rule.specs.declared.view.LeadView.{LeadView}
 use Rattle.board_rule.specs.declared.view.Found.{Found}
 use Rattle.board_rule.specs.Layout.{Lay, nodes, first, last}
 use Rattle.board_rule.specs.View.{Whole, put, with_node, with_lead}
-use Rattle.board_rule.specs.Marks.{phase_started, phase_finished, phase_holds, drive_started, drive_finished, drive_holds, drive_tells, drive_sees, is_begun, is_ending, is_checking}
+use Rattle.board_rule.specs.Marks.{phase_started, phase_finished, phase_holds, drive_started, drive_finished, drive_holds, drive_tells}
+use Rattle.board_rule.specs.Marks.{drive_sees, is_begun, is_ending, is_checking}
 use Rattle.board_rule.specs.EventRule.{Records, Marks, IsHeld, marks, records}
 use Rattle.board_rule.proofs.SeatLemmas.{put_here, put_else}
 use Rattle.board_rule.proofs.DrawLemmas.{Logs}
 
 -- only what the rule reads of the words counts
 module _ (p : Lay) where
-  pub logs_from : (c late : ℕ) (past xs : List Event) (s : Marks) (r q : Records) → first p ≤ c → c ≤ last p → r.ticket ≡ q.ticket → r.event ≡ q.event → ((k : ℕ) → k < p.shape.cycles → q.late k ≡ r.late k) → Logs p c late past xs s r → Logs p c late past xs s q
+  pub logs_from : (c late : ℕ) (past xs : List Event) (s : Marks) (r q : Records) → first p ≤ c → c ≤ last p → r.ticket ≡ q.ticket
+      → r.event ≡ q.event → ((k : ℕ) → k < p.shape.cycles → q.late k ≡ r.late k) → Logs p c late past xs s r → Logs p c late past xs s q
   logs_from c late past xs s r q low high ticket event lates a = let k = a.tickets in let e = a.earlier in record {
     tickets = record {
       drawn = sym ticket ∙ k.drawn;
@@ -35,7 +38,8 @@ module _ (p : Lay) where
     earlier = record {
       legal = e.legal;
       before = e.before;
-      lates = λ j x h. let b = All-contains (λ y. (first p ≤ event_cycle y) × (event_cycle y < c) × (event_node y ≤ 63)) past (Tick j x) e.before h in let b₀ = b.0 in let b₁ = b.1 in lates (j - first p) (omega arith) ∙ e.lates j x h;
+      lates = λ j x h. let b = All-contains (λ y. (first p ≤ event_cycle y) × (event_cycle y < c) × (event_node y ≤ 63)) past
+          (Tick j x) e.before h in let b₀ = b.0 in let b₁ = b.1 in lates (j - first p) (omega arith) ∙ e.lates j x h;
       late_now = λ h. lates (c - first p) (omega arith) ∙ e.late_now h;
       late_later = λ j h l. lates (j - first p) (omega arith) ∙ e.late_later j h l;
     };
@@ -59,19 +63,31 @@ module _ (p : Lay) where
     }
 
     put_path : (f g : ℕ → ℕ) (t y : ℕ) → g t ≡ y → ((n : ℕ) → n ≢ t → g n ≡ f n) → put f t y ≡ g
-    put_path f g t y here else = λ j n. (dite (ℕ_discrete n t) (λ (q : n ≡ t). ap (put f t y) q ∙ put_here f t y ∙ sym (ap g q ∙ here)) (λ q. put_else f t n y q ∙ sym (else n q))) j
+    put_path f g t y here else = λ j n. (dite (ℕ_discrete n t) (λ (q : n ≡ t). ap (put f t y) q ∙ put_here f t y ∙ sym (ap g q ∙ here))
+        (λ q. put_else f t n y q ∙ sym (else n q))) j
 
-    event_stays : (t : ℕ) → event_place p.shape t < length ws → put (records p ws).event t x ≡ (records p (set ws (event_place p.shape t) x)).event
-    event_stays t h = put_path (records p ws).event (records p (set ws (event_place p.shape t) x)).event t x (get_or-set_same ws (event_place p.shape t) x 0 h) (λ n o. get_or-set_other ws (event_place p.shape t) (event_place p.shape n) x 0 (λ z. o (omega arith)))
+    event_stays : (t : ℕ) → event_place p.shape t < length ws
+        → put (records p ws).event t x ≡ (records p (set ws (event_place p.shape t) x)).event
+    event_stays t h = put_path (records p ws).event (records p (set ws (event_place p.shape t) x)).event t x
+        (get_or-set_same ws (event_place p.shape t) x 0 h)
+        (λ n o. get_or-set_other ws (event_place p.shape t) (event_place p.shape n) x 0 (λ z. o (omega arith)))
 
-    pub words_stored : (c late : ℕ) (past xs : List Event) (s : Marks) (t : ℕ) → first p ≤ c → c ≤ last p → event_place p.shape t < length ws → Logs p c late past xs s (record (records p ws) { event = put (records p ws).event t x }) → Logs p c late past xs s (records p (set ws (event_place p.shape t) x))
-    words_stored c late past xs s t low high h a = logs_from c late past xs s (record (records p ws) { event = put (records p ws).event t x }) (records p (set ws (event_place p.shape t) x)) low high
-        (sym (get_or-set_other ws (event_place p.shape t) 0 x 0 (λ z. omega arith))) (event_stays t h) (λ k l. get_or-set_other ws (event_place p.shape t) (late_place p.shape k) x 0 (λ z. omega arith)) a
+    pub words_stored : (c late : ℕ) (past xs : List Event) (s : Marks) (t : ℕ) → first p ≤ c → c ≤ last p
+        → event_place p.shape t < length ws → Logs p c late past xs s (record (records p ws) { event = put (records p ws).event t x })
+        → Logs p c late past xs s (records p (set ws (event_place p.shape t) x))
+    words_stored c late past xs s t low high h a = logs_from c late past xs s
+        (record (records p ws) { event = put (records p ws).event t x }) (records p (set ws (event_place p.shape t) x)) low high
+        (sym (get_or-set_other ws (event_place p.shape t) 0 x 0 (λ z. omega arith))) (event_stays t h)
+        (λ k l. get_or-set_other ws (event_place p.shape t) (late_place p.shape k) x 0 (λ z. omega arith)) a
 
-    late_stays : (k : ℕ) → late_place p.shape k < length ws → put (records p ws).late k x ≡ (records p (set ws (late_place p.shape k) x)).late
-    late_stays k h = put_path (records p ws).late (records p (set ws (late_place p.shape k) x)).late k x (get_or-set_same ws (late_place p.shape k) x 0 h) (λ n o. get_or-set_other ws (late_place p.shape k) (late_place p.shape n) x 0 (λ z. o (omega arith)))
+    late_stays : (k : ℕ) → late_place p.shape k < length ws
+        → put (records p ws).late k x ≡ (records p (set ws (late_place p.shape k) x)).late
+    late_stays k h = put_path (records p ws).late (records p (set ws (late_place p.shape k) x)).late k x
+        (get_or-set_same ws (late_place p.shape k) x 0 h)
+        (λ n o. get_or-set_other ws (late_place p.shape k) (late_place p.shape n) x 0 (λ z. o (omega arith)))
 
-    pub words_late : (k : ℕ) → k < p.shape.cycles → late_place p.shape k < length ws → records p (set ws (late_place p.shape k) x) ≡ record (records p ws) { late = put (records p ws).late k x }
+    pub words_late : (k : ℕ) → k < p.shape.cycles → late_place p.shape k < length ws
+        → records p (set ws (late_place p.shape k) x) ≡ record (records p ws) { late = put (records p ws).late k x }
     words_late k low h = λ j. record {
       ticket = get_or-set_other ws (late_place p.shape k) 0 x 0 (λ z. omega arith) j;
       event = λ t. get_or-set_other ws (late_place p.shape k) (event_place p.shape t) x 0 (λ z. omega arith) j;
@@ -86,7 +102,9 @@ pub record QuietNode (c : ℕ) (x y : NodeView) : Type 0 where
   pub finish : y.finish ≡ x.finish
   pub holds : phase_holds y y.phase ≡ phase_holds x x.phase
 
-pub quiet_phase : (c : ℕ) (x : NodeView) (f h : Phase) → x.phase ≡ f → phase_started h ≡ phase_started f → phase_finished h ≡ phase_finished f → phase_holds (record x { phase = h }) h ≡ phase_holds x f → QuietNode c x (record x { phase = h })
+pub quiet_phase : (c : ℕ) (x : NodeView) (f h : Phase) → x.phase ≡ f → phase_started h ≡ phase_started f
+    → phase_finished h ≡ phase_finished f → phase_holds (record x { phase = h }) h ≡ phase_holds x f
+    → QuietNode c x (record x { phase = h })
 quiet_phase c x f h is started finished holds = record {
   started = ap (λ k. cond (eqb x.next c) k 1) (started ∙ sym (ap phase_started is));
   finished = ap (λ k. cond (eqb x.next c) k 1) (finished ∙ sym (ap phase_finished is));
@@ -178,25 +196,31 @@ quiet_drive l d e is q = record {
 
 module _ (p : Lay) (g : Whole) where
   -- what is read at each place, when a follower or the driver's seat changes
-  pub node_else : {A : Type 0} (F : NodeView → A) (D : A) (m n : ℕ) (y : NodeView) → n ≢ m → cond (eqb n p.driver) D (F (put g.nodes m y n)) ≡ cond (eqb n p.driver) D (F (g.nodes n))
+  pub node_else : {A : Type 0} (F : NodeView → A) (D : A) (m n : ℕ) (y : NodeView) → n ≢ m
+      → cond (eqb n p.driver) D (F (put g.nodes m y n)) ≡ cond (eqb n p.driver) D (F (g.nodes n))
   node_else F D m n y o = ap (λ z. cond (eqb n p.driver) D (F z)) (put_else g.nodes m n y o)
 
-  pub node_here : {A : Type 0} (F : NodeView → A) (D : A) (m : ℕ) (y : NodeView) → m ≢ p.driver → cond (eqb m p.driver) D (F (put g.nodes m y m)) ≡ F y
+  pub node_here : {A : Type 0} (F : NodeView → A) (D : A) (m : ℕ) (y : NodeView) → m ≢ p.driver
+      → cond (eqb m p.driver) D (F (put g.nodes m y m)) ≡ F y
   node_here F D m y o = ap (λ b. cond b D (F (put g.nodes m y m))) (ne_eqb m p.driver o) ∙ ap F (put_here g.nodes m y)
 
   pub node_was : {A : Type 0} (F : NodeView → A) (D : A) (m : ℕ) → m ≢ p.driver → cond (eqb m p.driver) D (F (g.nodes m)) ≡ F (g.nodes m)
   node_was F D m o = ap (λ b. cond b D (F (g.nodes m))) (ne_eqb m p.driver o)
 
-  pub node_same : {A : Type 0} (F : NodeView → A) (D : A) (m : ℕ) (x y : NodeView) → g.nodes m ≡ x → F y ≡ F x → (n : ℕ) → cond (eqb n p.driver) D (F (put g.nodes m y n)) ≡ cond (eqb n p.driver) D (F (g.nodes n))
+  pub node_same : {A : Type 0} (F : NodeView → A) (D : A) (m : ℕ) (x y : NodeView) → g.nodes m ≡ x → F y ≡ F x → (n : ℕ)
+      → cond (eqb n p.driver) D (F (put g.nodes m y n)) ≡ cond (eqb n p.driver) D (F (g.nodes n))
   node_same F D m x y is q n = dite (ℕ_discrete n m)
-      (λ (h : n ≡ m). ap (λ z. cond (eqb n p.driver) D z) (ap F (ap (put g.nodes m y) h ∙ put_here g.nodes m y) ∙ q ∙ sym (ap F (ap g.nodes h ∙ is))))
+      (λ (h : n ≡ m). ap (λ z. cond (eqb n p.driver) D z)
+      (ap F (ap (put g.nodes m y) h ∙ put_here g.nodes m y) ∙ q ∙ sym (ap F (ap g.nodes h ∙ is))))
       (λ (h : n ≢ m). node_else F D m n y h)
 
   pub marks_node : (m : ℕ) (x y : NodeView) → g.nodes m ≡ x → QuietNode g.lead.cycle x y → marks p (with_node g m y) ≡ marks p g
   marks_node m x y is q = λ i. record {
     tally = record {
-      started = λ n. node_same (λ (z : NodeView). cond (eqb z.next g.lead.cycle) (phase_started z.phase) 1) (drive_started g.lead.drive) m x y is q.started n i;
-      finished = λ n. node_same (λ (z : NodeView). cond (eqb z.next g.lead.cycle) (phase_finished z.phase) 1) (drive_finished g.lead.drive) m x y is q.finished n i;
+      started = λ n. node_same (λ (z : NodeView). cond (eqb z.next g.lead.cycle) (phase_started z.phase) 1)
+          (drive_started g.lead.drive) m x y is q.started n i;
+      finished = λ n. node_same (λ (z : NodeView). cond (eqb z.next g.lead.cycle) (phase_finished z.phase) 1)
+          (drive_finished g.lead.drive) m x y is q.finished n i;
       checked = g.lead.checked;
       sees = drive_sees g.looks g.lead.drive;
     };
@@ -227,5 +251,7 @@ module _ (p : Lay) (g : Whole) where
   pub lead_here : {A : Type 0} (D : A) (F : NodeView → A) → cond (eqb p.driver p.driver) D (F (g.nodes p.driver)) ≡ D
   lead_here D F = ap (λ b. cond b D (F (g.nodes p.driver))) (eq-eqb p.driver p.driver refl)
 
-  pub lead_else : {A : Type 0} (D E : A) (F : NodeView → A) (n : ℕ) → n ≢ p.driver → cond (eqb n p.driver) D (F (g.nodes n)) ≡ cond (eqb n p.driver) E (F (g.nodes n))
-  lead_else D E F n o = ap (λ b. cond b D (F (g.nodes n))) (ne_eqb n p.driver o) ∙ sym (ap (λ b. cond b E (F (g.nodes n))) (ne_eqb n p.driver o))
+  pub lead_else : {A : Type 0} (D E : A) (F : NodeView → A) (n : ℕ) → n ≢ p.driver
+      → cond (eqb n p.driver) D (F (g.nodes n)) ≡ cond (eqb n p.driver) E (F (g.nodes n))
+  lead_else D E F n o = ap (λ b. cond b D (F (g.nodes n))) (ne_eqb n p.driver o)
+      ∙ sym (ap (λ b. cond b E (F (g.nodes n))) (ne_eqb n p.driver o))

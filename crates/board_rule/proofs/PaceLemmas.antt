@@ -1,5 +1,7 @@
--- What the activation rule tells the buffer rule: a node begins a cycle only after the writers of its links have ended it, and all nodes are within one cycle.
-use Rattle.std.proofs.Common.{◌≡◌, ◌≢◌, ℕ, ◌+◌, ◌<◌, ◌≤◌, true, true≢false, cond, eqb, List, [], length, sym, ap, ◌∙◌, subst, arith, eq-eqb, ne_eqb}
+-- What the activation rule tells the buffer rule: a node begins a cycle only after the writers of its links have ended it, and all nodes
+-- are within one cycle.
+use Rattle.std.proofs.Common.{◌≡◌, ◌≢◌, ℕ, ◌+◌, ◌<◌, ◌≤◌, true, true≢false, cond, eqb, List, [], length, sym, ap, ◌∙◌}
+use Rattle.std.proofs.Common.{subst, arith, eq-eqb, ne_eqb}
 use mathlib.Core.Logic.{dite}
 use native.Mathlib.Decide.{ℕ_discrete, dec_le}
 use Rattle.pw_base.specs.declared.shape.ShapeLink.{ShapeLink}
@@ -21,7 +23,8 @@ use Rattle.board_rule.proofs.DriverLemmas.{stage_driver}
 use Rattle.board_rule.proofs.WiringLemmas.{LinkAt, Wired}
 
 -- a follower has ended the cycles before the driver's, and begun no later one
-phase_span : (n c next : ℕ) (f : Phase) → PhaseOk n c next f → (c ≤ next + phase_over f) × (next + phase_over f ≤ next + phase_begun f) × (next + phase_begun f ≤ c + 1)
+phase_span : (n c next : ℕ) (f : Phase) → PhaseOk n c next f → (c ≤ next + phase_over f) × (next + phase_over f ≤ next + phase_begun f)
+    × (next + phase_begun f ≤ c + 1)
 phase_span n c next Idle h = let a = h.0 in let b = h.1 in (omega arith, omega arith, omega arith)
 phase_span n c next Awake h = (omega arith, omega arith, omega arith)
 phase_span n c next StartDrawn h = (omega arith, omega arith, omega arith)
@@ -32,7 +35,8 @@ phase_span n c next (Telling i o) h = let a = h.0 in (omega arith, omega arith, 
 
 -- one that has begun this cycle has woken in it
 begun_woken : (n c next : ℕ) (f : Phase) → PhaseOk n c next f → c < next + phase_begun f → 0 < phase_stage (eqb next c) f
-begun_woken n c next Idle h l = let e : phase_stage (eqb next c) Idle ≡ 2 = ap (λ b. cond b 0 2) (ne_eqb next c (λ z. omega arith)) in omega arith
+begun_woken n c next Idle h l = let e : phase_stage (eqb next c) Idle ≡ 2 = ap (λ b. cond b 0 2) (ne_eqb next c (λ z. omega arith)) in
+    omega arith
 begun_woken n c next Awake h l = omega arith
 begun_woken n c next StartDrawn h l = omega arith
 begun_woken n c next Running h l = omega arith
@@ -42,10 +46,13 @@ begun_woken n c next (Telling i o) h l = omega arith
 
 -- one that has told n has ended this cycle
 still_left : (ts : List ℕ) (c next n : ℕ) → next ≡ c → 0 < times n ts → times n (cond (eqb next c) ts []) ≡ 0 → ⊥
-still_left ts c next n e dep none = let b : times n ts ≡ 0 = sym (ap (λ b. times n (cond b ts [])) (eq-eqb next c e)) ∙ none in absurd (omega arith)
+still_left ts c next n e dep none = let b : times n ts ≡ 0 = sym (ap (λ b. times n (cond b ts [])) (eq-eqb next c e)) ∙ none in
+    absurd (omega arith)
 
-told_over : (ts : List ℕ) (len c next n : ℕ) (f : Phase) → PhaseOk len c next f → 0 < times n ts → times n (phase_rest ts (eqb next c) f) ≡ 0 → next + phase_over f ≡ c + 1
-told_over ts len c next n Idle ok dep none = dite (ℕ_discrete next c) (λ q. absurd (still_left ts c next n q dep none)) (λ q. let a = ok.0 in let b = ok.1 in omega arith)
+told_over : (ts : List ℕ) (len c next n : ℕ) (f : Phase) → PhaseOk len c next f → 0 < times n ts
+    → times n (phase_rest ts (eqb next c) f) ≡ 0 → next + phase_over f ≡ c + 1
+told_over ts len c next n Idle ok dep none = dite (ℕ_discrete next c) (λ q. absurd (still_left ts c next n q dep none))
+    (λ q. let a = ok.0 in let b = ok.1 in omega arith)
 told_over ts len c next n Awake ok dep none = absurd (still_left ts c next n ok dep none)
 told_over ts len c next n StartDrawn ok dep none = absurd (still_left ts c next n ok dep none)
 told_over ts len c next n Running ok dep none = absurd (still_left ts c next n ok dep none)
@@ -96,22 +103,31 @@ module _ (p : Lay) where
     pub ordered : (l : ℕ) (k : ShapeLink) → LinkAt p l k → (s (p.place k.to.node)).begun ≤ (s (p.place k.from.node)).over
 
   -- all nodes are in the driver's cycle
-  pub in_cycle : (g : Whole) (ws : List ℕ) → Activations p g ws → (n : ℕ) → n < nodes p → (g.lead.cycle ≤ (spans p g n).over) × ((spans p g n).over ≤ (spans p g n).begun) × ((spans p g n).begun ≤ g.lead.cycle + 1)
+  pub in_cycle : (g : Whole) (ws : List ℕ) → Activations p g ws → (n : ℕ) → n < nodes p → (g.lead.cycle ≤ (spans p g n).over)
+      × ((spans p g n).over ≤ (spans p g n).begun) × ((spans p g n).begun ≤ g.lead.cycle + 1)
   in_cycle g ws a n h = dite (ℕ_discrete n p.driver)
-      (λ q. let x = over_lead p g n q in let y = begun_lead p g n q in let z = drive_span g.lead.drive in let z₀ = z.0 in let z₁ = z.1 in (omega arith, omega arith, omega arith))
-      (λ q. let x = over_at p g n q in let y = begun_at p g n q in let z = phase_span (length (p.targets n)) g.lead.cycle (g.nodes n).next (g.nodes n).phase (a.followers n h q) in let z₀ = z.0 in let z₁ = z.1 in let z₂ = z.2 in (omega arith, omega arith, omega arith))
+      (λ q. let x = over_lead p g n q in let y = begun_lead p g n q in let z = drive_span g.lead.drive in let z₀ = z.0 in let z₁ = z.1 in
+      (omega arith, omega arith, omega arith))
+      (λ q. let x = over_at p g n q in let y = begun_at p g n q in
+      let z = phase_span (length (p.targets n)) g.lead.cycle (g.nodes n).next (g.nodes n).phase (a.followers n h q) in let z₀ = z.0 in
+      let z₁ = z.1 in let z₂ = z.2 in (omega arith, omega arith, omega arith))
 
   -- where the cycle runs and n has woken, each node that it waits for is over
-  told : (g : Whole) (ws : List ℕ) (m n : ℕ) → Activations p g ws → m < nodes p → n < nodes p → m ≢ p.driver → 0 < times n (p.targets m) → (is_resetting g.lead.drive ≡ true → ⊥) → 0 < (posts p g).stage n → (spans p g m).over ≡ g.lead.cycle + 1
-  told g ws m n a hm hn follows dep runs_on woken = over_at p g m follows ∙ told_over (p.targets m) (length (p.targets m)) g.lead.cycle (g.nodes m).next n (g.nodes m).phase (a.followers m hm follows) dep
-      (sym (ap (times n) (rest_at p g m follows)) ∙ begun_told p.shape g.lead.cycle n m (posts p g) ws hn hm woken (words_run p g g.lead.drive ws runs_on a.laid))
+  told : (g : Whole) (ws : List ℕ) (m n : ℕ) → Activations p g ws → m < nodes p → n < nodes p → m ≢ p.driver → 0 < times n (p.targets m)
+      → (is_resetting g.lead.drive ≡ true → ⊥) → 0 < (posts p g).stage n → (spans p g m).over ≡ g.lead.cycle + 1
+  told g ws m n a hm hn follows dep runs_on woken = over_at p g m follows
+      ∙ told_over (p.targets m) (length (p.targets m)) g.lead.cycle (g.nodes m).next n (g.nodes m).phase (a.followers m hm follows) dep
+      (sym (ap (times n) (rest_at p g m follows)) ∙ begun_told p.shape g.lead.cycle n m (posts p g) ws hn hm woken
+      (words_run p g g.lead.drive ws runs_on a.laid))
 
   pub paces : (g : Whole) (ws : List ℕ) → Wired p → Activations p g ws → Paced (spans p g)
   paces g ws w a = record {
     first = λ n h. let c = (in_cycle g ws a n h).0 in let l = a.later in omega arith;
     begun = λ n h. (in_cycle g ws a n h).1;
     near = λ m n hm hn. let x = (in_cycle g ws a m hm).2 in let y = (in_cycle g ws a n hn).0 in omega arith;
-    ordered = λ l k at. let m : ℕ = p.place k.from.node in let n : ℕ = p.place k.to.node in let hm = w.from_in l k at in let hn = w.to_in l k at in let dep = w.depends l k at in let x = in_cycle g ws a n hn in let y = in_cycle g ws a m hm in let y₀ = y.0 in let x₂ = x.2 in
+    ordered = λ l k at. let m : ℕ = p.place k.from.node in let n : ℕ = p.place k.to.node in let hm = w.from_in l k at in
+        let hn = w.to_in l k at in let dep = w.depends l k at in let x = in_cycle g ws a n hn in let y = in_cycle g ws a m hm in
+        let y₀ = y.0 in let x₂ = x.2 in
         dite (dec_le (spans p g n).begun g.lead.cycle)
         (λ z. omega arith)
         (λ z. let over = dite (ℕ_discrete n p.driver)
@@ -119,6 +135,8 @@ module _ (p : Lay) where
         told g ws m n a hm hn (w.from_follows l k at) dep d.0 (subst (λ j. 0 < j) (sym (ap (posts p g).stage q ∙ stage_driver p g)) d.1))
         (λ q. let e = begun_at p g n q in
         told g ws m n a hm hn (w.from_follows l k at) dep
-        (λ r. let i = a.resting r n hn q in let f : (g.nodes n).next + phase_begun (g.nodes n).phase ≡ g.lead.cycle + 0 = (λ j. i.0 j + phase_begun (i.1 j)) in omega arith)
-        (subst (λ j. 0 < j) (sym (stage_at p g n q)) (begun_woken (length (p.targets n)) g.lead.cycle (g.nodes n).next (g.nodes n).phase (a.followers n hn q) (omega arith)))) in omega arith);
+        (λ r. let i = a.resting r n hn q in let f : (g.nodes n).next + phase_begun (g.nodes n).phase ≡ g.lead.cycle + 0 =
+        (λ j. i.0 j + phase_begun (i.1 j)) in omega arith)
+        (subst (λ j. 0 < j) (sym (stage_at p g n q)) (begun_woken (length (p.targets n)) g.lead.cycle (g.nodes n).next (g.nodes n).phase
+        (a.followers n hn q) (omega arith)))) in omega arith);
   }

@@ -1,5 +1,6 @@
 -- What a follower's phase means after it has told a target.
-use Rattle.std.proofs.Common.{◌≡◌, ◌≢◌, ℕ, suc, ◌+◌, ◌-◌, ◌*◌, ◌<◌, ◌≤◌, Bool, true, false, true≢false, cond, eqb, List, [], ◌∷◌, take, drop, length, get_or, refl, sym, ap, ◌∙◌, arith, eq-eqb, ne_eqb, eqb-true}
+use Rattle.std.proofs.Common.{◌≡◌, ◌≢◌, ℕ, suc, ◌+◌, ◌-◌, ◌*◌, ◌<◌, ◌≤◌, Bool, true, false, true≢false, cond, eqb, List}
+use Rattle.std.proofs.Common.{[], ◌∷◌, take, drop, length, get_or, refl, sym, ap, ◌∙◌, arith, eq-eqb, ne_eqb, eqb-true}
 use Rattle.std.proofs.lemmas.List.{drop_more, drop_all}
 use Rattle.board_rule.specs.declared.view.Phase.{Phase}
 use Rattle.board_rule.specs.declared.view.Phase.TheVariants.{Idle, Awake, StartDrawn, Running, Done, FinishDrawn, Telling}
@@ -20,7 +21,8 @@ not_next : (x c : ℕ) → x ≡ c → eqb (x + 1) c ≡ false
 not_next x c e = ne_eqb (x + 1) c (λ z. omega arith)
 
 module _ (ts : List ℕ) (c : ℕ) (x : NodeView) (i : ℕ) (now : x.next ≡ c) where
-  rest_by : (b : Bool) → (b ≡ true → drop i ts ≡ []) → phase_rest ts (eqb (cond b (over x) (goes_on x i)).next c) (cond b (over x) (goes_on x i)).phase ≡ drop i ts
+  rest_by : (b : Bool) → (b ≡ true → drop i ts ≡ [])
+      → phase_rest ts (eqb (cond b (over x) (goes_on x i)).next c) (cond b (over x) (goes_on x i)).phase ≡ drop i ts
   rest_by true h = ap (λ b. cond b ts []) (not_next x.next c now) ∙ sym (h refl)
   rest_by false h = refl
 
@@ -40,7 +42,8 @@ module _ (ts : List ℕ) (c : ℕ) (x : NodeView) (i : ℕ) (now : x.next ≡ c)
   ok_by n true h = (omega arith, omega arith)
   ok_by n false h = (now, h refl)
 
-  pub settled_rest : (n : ℕ) (owes : Bool) → n ≡ length ts → phase_rest ts (eqb (settled n x i owes).next c) (settled n x i owes).phase ≡ drop i ts
+  pub settled_rest : (n : ℕ) (owes : Bool) → n ≡ length ts
+      → phase_rest ts (eqb (settled n x i owes).next c) (settled n x i owes).phase ≡ drop i ts
   settled_rest n true e = refl
   settled_rest n false e = rest_by (eqb i n) (λ t. drop_all i ts (let a = eqb-true i n t in omega arith))
 
@@ -72,7 +75,13 @@ module _ (c : ℕ) (x : NodeView) (i j : ℕ) (o : Bool) (now : x.next ≡ c) (w
   was_finished = ap (λ f. cond (eqb x.next c) (phase_finished f) 1) was ∙ told_one (eqb x.next c)
 
   quiet_goes_on : (owes : Bool) → QuietNode c x (record x { phase = Telling i owes })
-  quiet_goes_on owes = record { started = told_one (eqb x.next c) ∙ sym was_started; finished = told_one (eqb x.next c) ∙ sym was_finished; start = refl; finish = refl; holds = sym (ap (phase_holds x) was) }
+  quiet_goes_on owes = record {
+    started = told_one (eqb x.next c) ∙ sym was_started;
+    finished = told_one (eqb x.next c) ∙ sym was_finished;
+    start = refl;
+    finish = refl;
+    holds = sym (ap (phase_holds x) was);
+  }
 
   quiet_by : (b : Bool) → QuietNode c x (cond b (over x) (goes_on x i))
   quiet_by true = record {
@@ -90,7 +99,8 @@ module _ (c : ℕ) (x : NodeView) (i j : ℕ) (o : Bool) (now : x.next ≡ c) (w
 
 -- the target that is told last
 pub owed_is : (ts : List ℕ) (i n : ℕ) → i < length ts → get_or ts i 0 ≡ n → owed_of ts (suc i) true ≡ n ∷ []
-owed_is ts i n h e = let k : suc i - 1 ≡ i = omega arith in ap (λ j. take 1 (drop j ts)) k ∙ ap (take 1) (drop_more ts i 0 h) ∙ ap (λ x. x ∷ []) e
+owed_is ts i n h e = let k : suc i - 1 ≡ i = omega arith in ap (λ j. take 1 (drop j ts)) k ∙ ap (take 1) (drop_more ts i 0 h)
+    ∙ ap (λ x. x ∷ []) e
 
 -- a node that can tell its next target, or owes its last one
 pub can_tell : (n : ℕ) (f : Phase) → CanTell n f → (f ≡ Telling (told_of f) false) × told_of f < n
@@ -103,7 +113,8 @@ can_tell n FinishDrawn h = absurd h
 can_tell n (Telling j true) h = absurd h
 can_tell n (Telling j false) h = (refl, h)
 
-pub in_debt : (n : ℕ) (f : Phase) → Indebted n f → (f ≡ Telling (suc (told_of f - 1)) true) × (suc (told_of f - 1) ≡ told_of f) × (told_of f - 1 < n)
+pub in_debt : (n : ℕ) (f : Phase) → Indebted n f → (f ≡ Telling (suc (told_of f - 1)) true) × (suc (told_of f - 1) ≡ told_of f)
+    × (told_of f - 1 < n)
 in_debt n Idle h = absurd h
 in_debt n Awake h = absurd h
 in_debt n StartDrawn h = absurd h
@@ -111,7 +122,8 @@ in_debt n Running h = absurd h
 in_debt n Done h = absurd h
 in_debt n FinishDrawn h = absurd h
 in_debt n (Telling i false) h = absurd h
-in_debt n (Telling i true) h = let a = h.0 in let b = h.1 in let e : suc (i - 1) ≡ i = omega arith in (ap (λ k. let f : Phase = Telling k true in f) (sym e), e, omega arith)
+in_debt n (Telling i true) h = let a = h.0 in let b = h.1 in let e : suc (i - 1) ≡ i = omega arith in
+    (ap (λ k. let f : Phase = Telling k true in f) (sym e), e, omega arith)
 
 -- no node has drawn more than two tickets in its cycle
 pub drawn_most : (f : Phase) → phase_drawn f ≤ 2

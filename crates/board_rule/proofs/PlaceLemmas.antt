@@ -1,5 +1,6 @@
 -- Where the words of the buffer rule stand: apart from one another, and from those of the other two rules.
-use Rattle.std.proofs.Common.{◌≡◌, ◌≢◌, ℕ, zero, suc, ◌+◌, ◌-◌, ◌*◌, ◌<◌, ◌≤◌, cond, List, [], ◌∷◌, length, take, get_or, ◌⊎◌, inl, inr, refl, sym, ap, ◌∙◌, subst, arith}
+use Rattle.std.proofs.Common.{◌≡◌, ◌≢◌, ℕ, zero, suc, ◌+◌, ◌-◌, ◌*◌, ◌<◌, ◌≤◌, cond, List, [], ◌∷◌, length, take}
+use Rattle.std.proofs.Common.{get_or, ◌⊎◌, inl, inr, refl, sym, ap, ◌∙◌, subst, arith}
 use Rattle.std.specs.Prelude.{Some, sum_by, slice_get, unwrap_or, option_map}
 use mathlib.Core.Logic.{dite}
 use native.Mathlib.Decide.{ℕ_discrete, dec_le}
@@ -10,14 +11,17 @@ use Rattle.pw_base.specs.declared.shape.Shape.{Shape}
 use Rattle.pw_base.specs.declared.shape.ShapeLink.{ShapeLink}
 use Rattle.pw_base.specs.declared.pools.PoolShape.{PoolShape}
 use Rattle.pw_base.specs.Pools.{pools_of}
-use Rattle.pw_base.specs.Layout.{node_count, areas_of, area_count, event_count, pool_words, io_place, late_place, event_place, block_words, readers_place, word_count}
+use Rattle.pw_base.specs.Layout.{node_count, areas_of, area_count, event_count, pool_words, io_place, late_place, event_place, block_words}
+use Rattle.pw_base.specs.Layout.{readers_place, word_count}
 use Rattle.board_rule.specs.Layout.{IsUndelayed}
 
 takes_rise : {X : Type 0} (f : X → ℕ) (i n : ℕ) (xs : List X) → sum_by f (take i xs) ≤ sum_by f (take (i + n) xs)
 takes_rise f zero n xs = omega arith
 takes_rise f (suc i) n [] = omega arith
-takes_rise f (suc i) n (x ∷ xs) = let e : suc (i + n) ≡ suc i + n = omega arith in let a = takes_rise f i n xs in let b = sum_by-cons f x (take i xs) in let c = sum_by-cons f x (take (i + n) xs) in
-    let h : sum_by f (x ∷ take i xs) ≤ sum_by f (x ∷ take (i + n) xs) = omega arith in subst (λ k. sum_by f (take (suc i) (x ∷ xs)) ≤ sum_by f (take k (x ∷ xs))) e h
+takes_rise f (suc i) n (x ∷ xs) = let e : suc (i + n) ≡ suc i + n = omega arith in let a = takes_rise f i n xs in
+    let b = sum_by-cons f x (take i xs) in let c = sum_by-cons f x (take (i + n) xs) in
+    let h : sum_by f (x ∷ take i xs) ≤ sum_by f (x ∷ take (i + n) xs) = omega arith in
+    subst (λ k. sum_by f (take (suc i) (x ∷ xs)) ≤ sum_by f (take k (x ∷ xs))) e h
 
 module _ (shape : Shape) where
   abbrev pools : List PoolShape
@@ -30,13 +34,18 @@ module _ (shape : Shape) where
 
     pub areas_before : (l : ℕ) (d : ShapeLink) → l ≤ length shape.links → area_count (take l shape.links) ≡ l
     areas_before zero d le = refl
-    areas_before (suc l) d le = let a = areas_before l d (omega arith) in let m = sum_by_more areas_of shape.links l d (omega arith) in let o = one_area l d (omega arith) in
-        let e : l + 1 ≡ suc l = omega arith in let f : area_count (take (l + 1) shape.links) ≡ area_count (take (suc l) shape.links) = ap (λ k. area_count (take k shape.links)) e in omega arith
+    areas_before (suc l) d le = let a = areas_before l d (omega arith) in let m = sum_by_more areas_of shape.links l d (omega arith) in
+        let o = one_area l d (omega arith) in
+        let e : l + 1 ≡ suc l = omega arith in let f : area_count (take (l + 1) shape.links) ≡ area_count (take (suc l) shape.links) =
+        ap (λ k. area_count (take k shape.links)) e in omega arith
 
-    pub io_in : (l : ℕ) (d : ShapeLink) → l < length shape.links → (2 * node_count shape < io_place shape l 0) × (io_place shape l 0 < late_place shape 0)
-    io_in l d lt = let a = areas_before l d (omega arith) in let m = sum_by_more_le areas_of shape.links l d lt in let o = one_area l d lt in (omega arith, omega arith)
+    pub io_in : (l : ℕ) (d : ShapeLink) → l < length shape.links → (2 * node_count shape < io_place shape l 0)
+        × (io_place shape l 0 < late_place shape 0)
+    io_in l d lt = let a = areas_before l d (omega arith) in let m = sum_by_more_le areas_of shape.links l d lt in
+        let o = one_area l d lt in (omega arith, omega arith)
 
-    pub io_apart : (l k : ℕ) (d : ShapeLink) → l < length shape.links → k < length shape.links → l ≢ k → io_place shape l 0 ≢ io_place shape k 0
+    pub io_apart : (l k : ℕ) (d : ShapeLink) → l < length shape.links → k < length shape.links → l ≢ k
+        → io_place shape l 0 ≢ io_place shape k 0
     io_apart l k d hl hk o e = let a = areas_before l d (omega arith) in let b = areas_before k d (omega arith) in o (omega arith)
 
   -- the words of a pool
@@ -51,28 +60,41 @@ module _ (shape : Shape) where
 
   -- a block ends before the next one begins, and within its pool
   block_end : (b blocks words : ℕ) → b < blocks → b * (1 + words) + (1 + words) ≤ blocks * (1 + words)
-  block_end b blocks words h = let m : suc b * (1 + words) ≤ blocks * (1 + words) = mul-le-mul_right (1 + words) (omega arith) in omega arith
+  block_end b blocks words h = let m : suc b * (1 + words) ≤ blocks * (1 + words) = mul-le-mul_right (1 + words) (omega arith) in
+      omega arith
 
-  pool_end : (q : ℕ) (x : PoolShape) → slice_get pools q ≡ Some x → sum_by pool_words (take (q + 1) pools) ≡ sum_by pool_words (take q pools) + x.blocks * (1 + x.words)
-  pool_end q x at = sum_by_more pool_words pools q x (slice_get_within pools q x at) ∙ ap (λ (y : PoolShape). sum_by pool_words (take q pools) + pool_words y) (get_or_from_slice_get pools q x x at)
+  pool_end : (q : ℕ) (x : PoolShape) → slice_get pools q ≡ Some x
+      → sum_by pool_words (take (q + 1) pools) ≡ sum_by pool_words (take q pools) + x.blocks * (1 + x.words)
+  pool_end q x at = sum_by_more pool_words pools q x (slice_get_within pools q x at)
+      ∙ ap (λ (y : PoolShape). sum_by pool_words (take q pools) + pool_words y) (get_or_from_slice_get pools q x x at)
 
-  pub readers_in : (q b : ℕ) (x : PoolShape) → slice_get pools q ≡ Some x → b < x.blocks → (event_place shape (event_count shape) ≤ readers_place shape q b) × (readers_place shape q b + x.words < word_count shape)
-  readers_in q b x at h = let r = readers_is q b x at in let e = block_end b x.blocks x.words h in let p = pool_end q x at in let l = sum_by-take-le pool_words pools (q + 1) in (omega arith, omega arith)
+  pub readers_in : (q b : ℕ) (x : PoolShape) → slice_get pools q ≡ Some x → b < x.blocks
+      → (event_place shape (event_count shape) ≤ readers_place shape q b) × (readers_place shape q b + x.words < word_count shape)
+  readers_in q b x at h = let r = readers_is q b x at in let e = block_end b x.blocks x.words h in let p = pool_end q x at in
+      let l = sum_by-take-le pool_words pools (q + 1) in (omega arith, omega arith)
 
   sums_rise : (q r : ℕ) → q ≤ r → sum_by pool_words (take q pools) ≤ sum_by pool_words (take r pools)
-  sums_rise q r h = let e : q + (r - q) ≡ r = omega arith in subst (λ k. sum_by pool_words (take q pools) ≤ sum_by pool_words (take k pools)) e (takes_rise pool_words q (r - q) pools)
+  sums_rise q r h = let e : q + (r - q) ≡ r = omega arith in
+      subst (λ k. sum_by pool_words (take q pools) ≤ sum_by pool_words (take k pools)) e (takes_rise pool_words q (r - q) pools)
 
-  lower_pool : (q r b d : ℕ) (x y : PoolShape) → slice_get pools q ≡ Some x → slice_get pools r ≡ Some y → b < x.blocks → q < r → readers_place shape q b + x.words < readers_place shape r d
-  lower_pool q r b d x y at to h lt = let a = readers_is q b x at in let c = readers_is r d y to in let e = block_end b x.blocks x.words h in let p = pool_end q x at in let s = sums_rise (q + 1) r (omega arith) in omega arith
+  lower_pool : (q r b d : ℕ) (x y : PoolShape) → slice_get pools q ≡ Some x → slice_get pools r ≡ Some y → b < x.blocks → q < r
+      → readers_place shape q b + x.words < readers_place shape r d
+  lower_pool q r b d x y at to h lt = let a = readers_is q b x at in let c = readers_is r d y to in
+      let e = block_end b x.blocks x.words h in let p = pool_end q x at in let s = sums_rise (q + 1) r (omega arith) in omega arith
 
-  lower_block : (q b d : ℕ) (x : PoolShape) → slice_get pools q ≡ Some x → b < d → readers_place shape q b + x.words < readers_place shape q d
-  lower_block q b d x at lt = let a = readers_is q b x at in let c = readers_is q d x at in let m : b * (1 + x.words) + (1 + x.words) ≤ d * (1 + x.words) = block_end b d x.words lt in omega arith
+  lower_block : (q b d : ℕ) (x : PoolShape) → slice_get pools q ≡ Some x → b < d
+      → readers_place shape q b + x.words < readers_place shape q d
+  lower_block q b d x at lt = let a = readers_is q b x at in let c = readers_is q d x at in
+      let m : b * (1 + x.words) + (1 + x.words) ≤ d * (1 + x.words) = block_end b d x.words lt in omega arith
 
   -- the words of two blocks are apart
-  pub blocks_apart : (q r b d : ℕ) (x y : PoolShape) → slice_get pools q ≡ Some x → slice_get pools r ≡ Some y → b < x.blocks → d < y.blocks → ((q ≡ r) × (b ≡ d) → ⊥)
+  pub blocks_apart : (q r b d : ℕ) (x y : PoolShape) → slice_get pools q ≡ Some x → slice_get pools r ≡ Some y → b < x.blocks → d < y.blocks
+      → ((q ≡ r) × (b ≡ d) → ⊥)
       → (readers_place shape q b + x.words < readers_place shape r d) ⊎ (readers_place shape r d + y.words < readers_place shape q b)
   blocks_apart q r b d x y at to h g o = dite (ℕ_discrete q r)
       (λ e. dite (dec_le b d)
-      (λ l. inl (subst (λ k. readers_place shape q b + x.words < readers_place shape k d) e (lower_block q b d x at (dite (ℕ_discrete b d) (λ f. absurd (o (e, f))) (λ f. omega arith)))))
+      (λ l. inl (subst (λ k. readers_place shape q b + x.words < readers_place shape k d) e
+      (lower_block q b d x at (dite (ℕ_discrete b d) (λ f. absurd (o (e, f))) (λ f. omega arith)))))
       (λ l. inr (subst (λ k. readers_place shape r d + y.words < readers_place shape k b) (sym e) (lower_block r d b y to (omega arith)))))
-      (λ e. dite (dec_le q r) (λ l. inl (lower_pool q r b d x y at to h (omega arith))) (λ l. inr (lower_pool r q d b y x to at g (omega arith))))
+      (λ e. dite (dec_le q r) (λ l. inl (lower_pool q r b d x y at to h (omega arith)))
+      (λ l. inr (lower_pool r q d b y x to at g (omega arith))))

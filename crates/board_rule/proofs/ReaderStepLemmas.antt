@@ -1,5 +1,6 @@
 -- What each step of a reader on buffers allows. `b` is true for the driver's seat.
-use Rattle.std.proofs.Common.{◌≡◌, ℕ, ◌+◌, ◌-◌, ◌%◌, ◌^◌, ◌<◌, ◌≤◌, inl, inr, Bool, set, get_or, refl, sym, ap, ◌∙◌, subst, arith, length-set}
+use Rattle.std.proofs.Common.{◌≡◌, ℕ, ◌+◌, ◌-◌, ◌%◌, ◌^◌, ◌<◌, ◌≤◌, inl, inr, Bool, set, get_or, refl, sym, ap, ◌∙◌}
+use Rattle.std.proofs.Common.{subst, arith, length-set}
 use Rattle.atomic_table.specs.Table.{Me, keeps, stepped, Allows}
 use Rattle.pw_base.specs.declared.shape.ShapeLink.{ShapeLink}
 use Rattle.pw_base.specs.declared.pools.PoolShape.{PoolShape}
@@ -15,7 +16,8 @@ use Rattle.board_rule.specs.BlockReadings.{late_at}
 use Rattle.board_rule.specs.Spans.{spans}
 use Rattle.board_rule.specs.BoardRule.{Holds}
 use Rattle.board_rule.specs.EndViews.{link_at, pool_at, pool_of, reader_of, read_of}
-use Rattle.board_rule.specs.ReaderSteps.{read_cycle, LoadsAsReader, loaded_as_reader, IsPublished, ReadsBlock, readers_lowered, samples_read, StoresNeed, need_stored}
+use Rattle.board_rule.specs.ReaderSteps.{read_cycle, LoadsAsReader, loaded_as_reader, IsPublished, ReadsBlock, readers_lowered}
+use Rattle.board_rule.specs.ReaderSteps.{samples_read, StoresNeed, need_stored}
 use Rattle.board_rule.specs.Plays.{Turns, Learns}
 use Rattle.board_rule.proofs.PlainLemmas.{no_late}
 use Rattle.board_rule.proofs.PaceLemmas.{paces}
@@ -28,63 +30,82 @@ use Rattle.board_rule.proofs.AreaLemmas.{link_is as area_is, wrote_now, finds_ha
 use Rattle.board_rule.proofs.ReaderLemmas.{reads_block, finds_sample, finds_some, lowers_block}
 
 module _ (p : Lay) {S : Type 0} (slots id : ℕ) (me : Me S View) (after : ℕ → View) (says : ℕ → Type 0) where
-  pub load_reader_allowed : (b : Bool) (l : ℕ) → LoadsAsReader b p me.0 l → ((found : ℕ) → after found ≡ loaded_as_reader b p me.0 l found) → ((found : ℕ) → IsPublished b p l found → says found)
+  pub load_reader_allowed : (b : Bool) (l : ℕ) → LoadsAsReader b p me.0 l → ((found : ℕ) → after found ≡ loaded_as_reader b p me.0 l found)
+      → ((found : ℕ) → IsPublished b p l found → says found)
       → Allows (Holds p) slots id me (io_place p.shape l 0) (λ n. n) (Learns after says me)
   load_reader_allowed b l h is_after it s r _ at fits =
-      let g = r.whole in let w = wired_in p g s.words s.views r.seated in let k : ShapeLink = link_at p l in let there = link_there p l h.0.0 in let m : ℕ = reader_of p l in
+      let g = r.whole in let w = wired_in p g s.words s.views r.seated in let k : ShapeLink = link_at p l in
+      let there = link_there p l h.0.0 in let m : ℕ = reader_of p l in
       let now = now_running p s r id b me.0 m at h.0.2 h.0.3 in let run = now.1 in let c = now.0 in
-      let is : g.ends.reads l ≡ read_of me.0 l = sym (got me.0.reads l (g.ends.reads l) (unread 0) ((r.seated.knows id me.0 at).ends.of_read l k there now.2)) in
+      let is : g.ends.reads l ≡ read_of me.0 l = sym (got me.0.reads l (g.ends.reads l) (unread 0)
+      ((r.seated.knows id me.0 at).ends.of_read l k there now.2)) in
       let paced = paces p g s.words w r.activations in let bs = r.buffers in let sp = spans p g in
-      let o = area_is p sp g.ends g.expect s.words w paced bs l k there in let rt = o.reader_turn in let r₀ = rt.0 in let r₁ = rt.1 in let r₂ = rt.2 in
+      let o = area_is p sp g.ends g.expect s.words w paced bs l k there in let rt = o.reader_turn in let r₀ = rt.0 in let r₁ = rt.1 in
+      let r₂ = rt.2 in
       let loaded : (g.ends.reads l).loaded ≡ (sp m).over = ap (λ (y : ReadView). y.loaded) is ∙ h.1 ∙ sym c in
       let new = loads_as_reader p sp g.ends g.expect s.words w paced bs l k there run loaded in
       let i : ℕ = io_place p.shape l 0 in let found : ℕ = get_or s.words i 0 in
-      let word : found ≡ io_word_of 2 (g.ends.writes l).id = finds_have p sp g.ends g.expect s.words w paced bs l k there run (omega arith) in
+      let word : found ≡ io_word_of 2 (g.ends.writes l).id =
+      finds_have p sp g.ends g.expect s.words w paced bs l k there run (omega arith) in
       let number : io_id_in found ≡ (g.ends.writes l).id = ap io_id_in word ∙ id_of 2 (g.ends.writes l).id (omega arith) in
       let pool = pool_here p w l k there in
-      let small = finds_number p sp g.ends g.expect s.words w paced bs l k there run (pool_of p l) (pool_at p (pool_of p l)) pool.0 pool.1 in
+      let small = finds_number p sp g.ends g.expect s.words w paced bs l k there run (pool_of p l)
+      (pool_at p (pool_of p l)) pool.0 pool.1 in
       let y : ReadView = record (read_of me.0 l) { loaded = read_cycle b p me.0 l + 1; id = io_id_in found } in (
         loaded_as_reader b p me.0 l found,
         keeps,
         tt,
         holds_ends p s r id i found (loaded_as_reader b p me.0 l found) me.1 (new_read p g.ends l y) (inl (w.io_in l k there))
             (read_step p g s.words (set s.words i found) s.views id l k me.0 y at (length-set s.words i found) there now.2 now.3 r.seated)
-            (unread_word s.words i (λ ws. Buffers p sp (new_read p g.ends l y) g.expect ws) (subst (λ (z : ReadView). Buffers p sp (new_read p g.ends l z) g.expect s.words) (λ j. record (is j) { loaded = c j + 1; id = io_id_in found }) new)),
+            (unread_word s.words i (λ ws. Buffers p sp (new_read p g.ends l y) g.expect ws)
+            (subst (λ (z : ReadView). Buffers p sp (new_read p g.ends l z) g.expect s.words)
+            (λ j. record (is j) { loaded = c j + 1; id = io_id_in found }) new)),
         (sym (is_after found), refl, it found (word ∙ ap (io_word_of 2) (sym number), (omega arith))),
       )
 
   pub store_need_allowed : (b : Bool) (l num : ℕ) → StoresNeed b p me.0 l num → ((found : ℕ) → after found ≡ need_stored b p me.0 l)
       → Allows (Holds p) slots id me (io_place p.shape l 0) (λ _. io_word_of 1 num) (λ _. Turns after me (io_word_of 1 num))
   store_need_allowed b l num h is_after s r _ at fits =
-      let g = r.whole in let w = wired_in p g s.words s.views r.seated in let k : ShapeLink = link_at p l in let there = link_there p l h.0.0.0 in let m : ℕ = reader_of p l in
+      let g = r.whole in let w = wired_in p g s.words s.views r.seated in let k : ShapeLink = link_at p l in
+      let there = link_there p l h.0.0.0 in let m : ℕ = reader_of p l in
       let now = now_running p s r id b me.0 m at h.0.0.2 h.0.0.3 in let run = now.1 in let c = now.0 in
-      let is : g.ends.reads l ≡ read_of me.0 l = sym (got me.0.reads l (g.ends.reads l) (unread 0) ((r.seated.knows id me.0 at).ends.of_read l k there now.2)) in
-      let paced = paces p g s.words w r.activations in let sp = spans p g in let i : ℕ = io_place p.shape l 0 in let word : ℕ = io_word_of 1 num in
-      let new = stores_need p sp g.ends g.expect s.words w paced r.buffers l k there num (room_in p g s.words s.views r.seated) run (ap (λ (z : ReadView). z.lowered) is ∙ h.1 ∙ ap (λ n. n + 1) (sym c)) (ap (λ (z : ReadView). z.stored) is ∙ h.2 ∙ sym c) (h.0.3 ∙ ap (λ (z : ReadView). z.id) (sym is)) in
+      let is : g.ends.reads l ≡ read_of me.0 l = sym (got me.0.reads l (g.ends.reads l) (unread 0)
+      ((r.seated.knows id me.0 at).ends.of_read l k there now.2)) in
+      let paced = paces p g s.words w r.activations in let sp = spans p g in let i : ℕ = io_place p.shape l 0 in
+      let word : ℕ = io_word_of 1 num in
+      let new = stores_need p sp g.ends g.expect s.words w paced r.buffers l k there num (room_in p g s.words s.views r.seated) run
+      (ap (λ (z : ReadView). z.lowered) is ∙ h.1 ∙ ap (λ n. n + 1) (sym c)) (ap (λ (z : ReadView). z.stored) is ∙ h.2 ∙ sym c)
+      (h.0.3 ∙ ap (λ (z : ReadView). z.id) (sym is)) in
       let y : ReadView = record (read_of me.0 l) { stored = read_cycle b p me.0 l + 1 } in (
         need_stored b p me.0 l,
         keeps,
         tt,
         holds_ends p s r id i word (need_stored b p me.0 l) me.1 (new_read p g.ends l y) (inl (w.io_in l k there))
             (read_step p g s.words (set s.words i word) s.views id l k me.0 y at (length-set s.words i word) there now.2 now.3 r.seated)
-            (subst (λ (z : ReadView). Buffers p sp (new_read p g.ends l z) g.expect (set s.words i word)) (λ j. record (is j) { stored = c j + 1 }) new),
+            (subst (λ (z : ReadView). Buffers p sp (new_read p g.ends l z) g.expect (set s.words i word))
+            (λ j. record (is j) { stored = c j + 1 }) new),
         (sym (is_after word), refl),
       )
 
-  pub load_sample_allowed : (b : Bool) (l num i : ℕ) → ReadsBlock b p me.0 l num → i < (pool_at p (pool_of p l)).words → ((found : ℕ) → after found ≡ me.0) → ((found : ℕ) → found ≡ packed (samples_read b p me.0 l) i → IsTable p me.0.expect → says found)
+  pub load_sample_allowed : (b : Bool) (l num i : ℕ) → ReadsBlock b p me.0 l num → i < (pool_at p (pool_of p l)).words
+      → ((found : ℕ) → after found ≡ me.0) → ((found : ℕ) → found ≡ packed (samples_read b p me.0 l) i → IsTable p me.0.expect → says found)
       → Allows (Holds p) slots id me (sample_place p.shape (pool_of p l) num i) (λ n. n) (Learns after says me)
   load_sample_allowed b l num i h short is_after it s r _ at fits =
-      let g = r.whole in let w = wired_in p g s.words s.views r.seated in let k : ShapeLink = link_at p l in let there = link_there p l h.0.0.0 in let m : ℕ = reader_of p l in
-      let now = now_running p s r id b me.0 m at h.0.0.2 h.0.0.3 in let run = now.1 in let c = now.0 in let ks = r.seated.knows id me.0 at in
+      let g = r.whole in let w = wired_in p g s.words s.views r.seated in let k : ShapeLink = link_at p l in
+      let there = link_there p l h.0.0.0 in let m : ℕ = reader_of p l in
+      let now = now_running p s r id b me.0 m at h.0.0.2 h.0.0.3 in let run = now.1 in let c = now.0 in
+      let ks = r.seated.knows id me.0 at in
       let is : g.ends.reads l ≡ read_of me.0 l = sym (got me.0.reads l (g.ends.reads l) (unread 0) (ks.ends.of_read l k there now.2)) in
-      let paced = paces p g s.words w r.activations in let sp = spans p g in let q : ℕ = pool_of p l in let x : PoolShape = pool_at p q in let pool = pool_here p w l k there in
+      let paced = paces p g s.words w r.activations in let sp = spans p g in let q : ℕ = pool_of p l in let x : PoolShape = pool_at p q in
+      let pool = pool_here p w l k there in
       let loaded : (g.ends.reads l).loaded ≡ (sp m).over + 1 = ap (λ (z : ReadView). z.loaded) is ∙ h.0.1 ∙ ap (λ n. n + 1) (sym c) in
       let here : (g.ends.reads l).lowered ≡ (sp m).over = ap (λ (z : ReadView). z.lowered) is ∙ h.1 ∙ sym c in
       let number : num ≡ (g.ends.reads l).id = h.0.3 ∙ ap (λ (z : ReadView). z.id) (sym is) in
       let place : ℕ = sample_place p.shape q num i in let found : ℕ = get_or s.words place 0 in
       let wrote = wrote_now p sp g.ends g.expect s.words w paced r.buffers l k there run in let low = paced.first m (w.to_in l k there) in
       let late = no_late p w l in let on_time : (sp m).over + 1 ≡ read_cycle b p me.0 l + 1 - late_at p l = omega arith in
-      let word : found ≡ packed (samples_read b p me.0 l) i = ap (λ n. get_or s.words (sample_place p.shape q n i) 0) number ∙ finds_sample p sp g.ends g.expect s.words w paced r.buffers l k there q x pool.0 pool.1 run loaded here i short
+      let word : found ≡ packed (samples_read b p me.0 l) i = ap (λ n. get_or s.words (sample_place p.shape q n i) 0) number
+      ∙ finds_sample p sp g.ends g.expect s.words w paced r.buffers l k there q x pool.0 pool.1 run loaded here i short
       ∙ (λ j. packed (samples_of p (sym ks.expects j) (on_time j) q) i) in (
         me.0,
         keeps,
@@ -99,29 +120,39 @@ module _ (p : Lay) {S : Type 0} (slots id : ℕ) (me : Me S View) (after : ℕ �
         (sym (is_after found), refl, it found word (subst (IsTable p) (sym ks.expects) (r.seated.table l (omega arith)))),
       )
 
-  pub lower_readers_allowed : (b : Bool) (l num : ℕ) → ReadsBlock b p me.0 l num → ((found : ℕ) → after found ≡ readers_lowered b p me.0 l) → ((found : ℕ) → 0 < found → says found)
+  pub lower_readers_allowed : (b : Bool) (l num : ℕ) → ReadsBlock b p me.0 l num → ((found : ℕ) → after found ≡ readers_lowered b p me.0 l)
+      → ((found : ℕ) → 0 < found → says found)
       → Allows (Holds p) slots id me (readers_place p.shape (pool_of p l) num) (λ n. (n + (2 ^ 64 - 1)) % 2 ^ 64) (Learns after says me)
   lower_readers_allowed b l num h is_after it s r _ at fits =
-      let g = r.whole in let w = wired_in p g s.words s.views r.seated in let k : ShapeLink = link_at p l in let there = link_there p l h.0.0.0 in let m : ℕ = reader_of p l in
+      let g = r.whole in let w = wired_in p g s.words s.views r.seated in let k : ShapeLink = link_at p l in
+      let there = link_there p l h.0.0.0 in let m : ℕ = reader_of p l in
       let now = now_running p s r id b me.0 m at h.0.0.2 h.0.0.3 in let run = now.1 in let c = now.0 in
-      let is : g.ends.reads l ≡ read_of me.0 l = sym (got me.0.reads l (g.ends.reads l) (unread 0) ((r.seated.knows id me.0 at).ends.of_read l k there now.2)) in
-      let paced = paces p g s.words w r.activations in let sp = spans p g in let q : ℕ = pool_of p l in let x : PoolShape = pool_at p q in let pool = pool_here p w l k there in
+      let is : g.ends.reads l ≡ read_of me.0 l = sym (got me.0.reads l (g.ends.reads l) (unread 0)
+      ((r.seated.knows id me.0 at).ends.of_read l k there now.2)) in
+      let paced = paces p g s.words w r.activations in let sp = spans p g in let q : ℕ = pool_of p l in let x : PoolShape = pool_at p q in
+      let pool = pool_here p w l k there in
       let loaded : (g.ends.reads l).loaded ≡ (sp m).over + 1 = ap (λ (z : ReadView). z.loaded) is ∙ h.0.1 ∙ ap (λ n. n + 1) (sym c) in
       let here : (g.ends.reads l).lowered ≡ (sp m).over = ap (λ (z : ReadView). z.lowered) is ∙ h.1 ∙ sym c in
       let number : num ≡ (g.ends.reads l).id = h.0.3 ∙ ap (λ (z : ReadView). z.id) (sym is) in
       let place : ℕ = readers_place p.shape q num in let found : ℕ = get_or s.words place 0 in
-      let same : get_or s.words (readers_place p.shape q (g.ends.reads l).id) 0 ≡ found = ap (λ n. get_or s.words (readers_place p.shape q n) 0) (sym number) in
+      let same : get_or s.words (readers_place p.shape q (g.ends.reads l).id) 0 ≡ found =
+      ap (λ n. get_or s.words (readers_place p.shape q n) 0) (sym number) in
       let some = finds_some p sp g.ends g.expect s.words w paced r.buffers l k there q x pool.0 pool.1 run loaded here in
       let block = reads_block p sp g.ends g.expect s.words w paced r.buffers l k there q x pool.0 pool.1 run loaded here in
-      let new = lowers_block p sp g.ends g.expect s.words w paced r.buffers l k there q x pool.0 pool.1 run loaded here (found - 1) (room_in p g s.words s.views r.seated) (omega arith) in
+      let new = lowers_block p sp g.ends g.expect s.words w paced r.buffers l k there q x pool.0 pool.1 run loaded here (found - 1)
+      (room_in p g s.words s.views r.seated) (omega arith) in
       let word : (found + (2 ^ 64 - 1)) % 2 ^ 64 ≡ found - 1 = omega arith in
       let y : ReadView = record (read_of me.0 l) { lowered = read_cycle b p me.0 l + 1 } in (
         readers_lowered b p me.0 l,
         keeps,
         tt,
         subst (λ n. Holds p (stepped s place n id me.1 (readers_lowered b p me.0 l) keeps)) (sym word)
-            (holds_ends p s r id place (found - 1) (readers_lowered b p me.0 l) me.1 (new_read p g.ends l y) (inr (subst (λ n. event_place p.shape (event_count p.shape) ≤ readers_place p.shape q n) (sym number) (w.readers_in q (g.ends.reads l).id x pool.0 block.0).0))
-            (read_step p g s.words (set s.words place (found - 1)) s.views id l k me.0 y at (length-set s.words place (found - 1)) there now.2 now.3 r.seated)
-            (subst (λ (z : ReadView × ℕ). Buffers p sp (new_read p g.ends l z.0) g.expect (set s.words (readers_place p.shape q z.1) (found - 1))) (λ j. (record (is j) { lowered = c j + 1 }, sym number j)) new)),
+            (holds_ends p s r id place (found - 1) (readers_lowered b p me.0 l) me.1 (new_read p g.ends l y)
+            (inr (subst (λ n. event_place p.shape (event_count p.shape) ≤ readers_place p.shape q n) (sym number)
+            (w.readers_in q (g.ends.reads l).id x pool.0 block.0).0))
+            (read_step p g s.words (set s.words place (found - 1)) s.views id l k me.0 y at
+            (length-set s.words place (found - 1)) there now.2 now.3 r.seated)
+            (subst (λ (z : ReadView × ℕ). Buffers p sp (new_read p g.ends l z.0) g.expect
+            (set s.words (readers_place p.shape q z.1) (found - 1))) (λ j. (record (is j) { lowered = c j + 1 }, sym number j)) new)),
         (sym (is_after found), refl, it found (omega arith)),
       )

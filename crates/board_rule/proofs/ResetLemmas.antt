@@ -1,5 +1,6 @@
 -- The reset of a cycle, under loops that keep trying: the driver's seat stores the pending word and the status word of each node.
-use Rattle.std.proofs.Common.{◌≡◌, ◌≢◌, ℕ, suc, ◌+◌, ◌*◌, ◌<◌, Bool, true, false, true≢false, cond, eqb, List, [], length, set, get_or, refl, sym, ap, ◌∙◌, subst, arith, eq-eqb, ne_eqb, get_or-set_other, get_or-set_same}
+use Rattle.std.proofs.Common.{◌≡◌, ◌≢◌, ℕ, suc, ◌+◌, ◌*◌, ◌<◌, Bool, true, false, true≢false, cond, eqb, List, [], length, set}
+use Rattle.std.proofs.Common.{get_or, refl, sym, ap, ◌∙◌, subst, arith, eq-eqb, ne_eqb, get_or-set_other, get_or-set_same}
 use mathlib.Core.Logic.{dite}
 use native.Mathlib.Decide.{ℕ_discrete}
 use Rattle.atomic_table.specs.Table.{Me, keeps, stepped, Allows}
@@ -28,14 +29,34 @@ use Rattle.board_rule.proofs.FollowerLemmas.{rest_at, owing_at, stage_at}
 use Rattle.board_rule.proofs.DriverLemmas.{lead_to, lead_is, holds_lead, rest_driver, owing_driver, stage_driver}
 
 reset_quiet : (i k : ℕ) (b : Bool) → QuietDrives (drives.Half i) (cond b (drives.Kick 0 false) (drives.Reset k))
-reset_quiet i k true = record { started = refl; finished = refl; holds = λ _. refl; tells = λ _ _. refl; sees = λ _. refl; begun = refl; ending = refl; checking = refl }
-reset_quiet i k false = record { started = refl; finished = refl; holds = λ _. refl; tells = λ _ _. refl; sees = λ _. refl; begun = refl; ending = refl; checking = refl }
+reset_quiet i k true = record {
+  started = refl;
+  finished = refl;
+  holds = λ _. refl;
+  tells = λ _ _. refl;
+  sees = λ _. refl;
+  begun = refl;
+  ending = refl;
+  checking = refl;
+}
+reset_quiet i k false = record {
+  started = refl;
+  finished = refl;
+  holds = λ _. refl;
+  tells = λ _ _. refl;
+  sees = λ _. refl;
+  begun = refl;
+  ending = refl;
+  checking = refl;
+}
 
 module _ (p : Lay) where
   -- one more pending word is reset
-  resets_pending : (c i : ℕ) (ws : List ℕ) → i < nodes p → nodes p + nodes p < length ws → Resets p c i i ws → Resets p c (suc i) i (set ws (pending_place p.shape i) (p.required i))
+  resets_pending : (c i : ℕ) (ws : List ℕ) → i < nodes p → nodes p + nodes p < length ws → Resets p c i i ws
+      → Resets p c (suc i) i (set ws (pending_place p.shape i) (p.required i))
   resets_pending c i ws h wide r = let x : ℕ = p.required i in let at : ℕ = pending_place p.shape i in record {
-    pending_new = λ n hn l. dite (ℕ_discrete n i) (λ e. ap (λ k. get_or (set ws at x) (pending_place p.shape k) 0) e ∙ get_or-set_same ws at x 0 (omega arith) ∙ ap p.required (sym e))
+    pending_new = λ n hn l. dite (ℕ_discrete n i) (λ e. ap (λ k. get_or (set ws at x) (pending_place p.shape k) 0) e
+        ∙ get_or-set_same ws at x 0 (omega arith) ∙ ap p.required (sym e))
         (λ e. get_or-set_other ws at (pending_place p.shape n) x 0 (λ z. e (omega arith)) ∙ r.pending_new n hn (omega arith));
     pending_old = λ n hn l. get_or-set_other ws at (pending_place p.shape n) x 0 (λ z. omega arith) ∙ r.pending_old n hn (omega arith);
     status_new = λ n hn l. get_or-set_other ws at (status_place p.shape n) x 0 (λ z. omega arith) ∙ r.status_new n hn l;
@@ -43,31 +64,39 @@ module _ (p : Lay) where
   }
 
   -- and its status word
-  resets_status : (c i : ℕ) (ws : List ℕ) → i < nodes p → nodes p + nodes p < length ws → Resets p c (suc i) i ws → Resets p c (suc i) (suc i) (set ws (status_place p.shape i) (status_word_of 0 c))
+  resets_status : (c i : ℕ) (ws : List ℕ) → i < nodes p → nodes p + nodes p < length ws → Resets p c (suc i) i ws
+      → Resets p c (suc i) (suc i) (set ws (status_place p.shape i) (status_word_of 0 c))
   resets_status c i ws h wide r = let x : ℕ = status_word_of 0 c in let at : ℕ = status_place p.shape i in record {
     pending_new = λ n hn l. get_or-set_other ws at (pending_place p.shape n) x 0 (λ z. omega arith) ∙ r.pending_new n hn l;
     pending_old = λ n hn l. get_or-set_other ws at (pending_place p.shape n) x 0 (λ z. omega arith) ∙ r.pending_old n hn l;
-    status_new = λ n hn l. dite (ℕ_discrete n i) (λ e. ap (λ k. get_or (set ws at x) (status_place p.shape k) 0) e ∙ get_or-set_same ws at x 0 (omega arith))
+    status_new = λ n hn l. dite (ℕ_discrete n i) (λ e. ap (λ k. get_or (set ws at x) (status_place p.shape k) 0) e
+        ∙ get_or-set_same ws at x 0 (omega arith))
         (λ e. get_or-set_other ws at (status_place p.shape n) x 0 (λ z. e (omega arith)) ∙ r.status_new n hn (omega arith));
     status_old = λ n hn l. get_or-set_other ws at (status_place p.shape n) x 0 (λ z. omega arith) ∙ r.status_old n hn (omega arith);
   }
 
   -- when all nodes are reset, each waits for all that it depends on
-  begins : (g : Whole) (ws : List ℕ) → IsSound p → ((n : ℕ) → n < nodes p → n ≢ p.driver → IsIdle p g.lead.cycle (g.nodes n)) → Resets p g.lead.cycle (nodes p) (nodes p) ws
+  begins : (g : Whole) (ws : List ℕ) → IsSound p → ((n : ℕ) → n < nodes p → n ≢ p.driver → IsIdle p g.lead.cycle (g.nodes n))
+      → Resets p g.lead.cycle (nodes p) (nodes p) ws
       → Sums p.shape g.lead.cycle (posts p (with_lead g (lead_to g (drives.Kick 0 false) g.lead))) ws
   begins g ws sound resting r = let h : Whole = with_lead g (lead_to g (drives.Kick 0 false) g.lead) in let c : ℕ = g.lead.cycle in
       let rest : (m : ℕ) → m < nodes p → (posts p h).rest m ≡ p.targets m = λ m l. dite (ℕ_discrete m p.driver)
       (λ e. ap (posts p h).rest e ∙ rest_driver p h ∙ ap p.targets (sym e))
-      (λ e. rest_at p h m e ∙ (let d = resting m l e in λ j. phase_rest (p.targets m) (eqb (d.0 j) c) (d.1 j)) ∙ ap (λ b. cond b (p.targets m) []) (eq-eqb c c refl)) in
+      (λ e. rest_at p h m e ∙ (let d = resting m l e in λ j. phase_rest (p.targets m) (eqb (d.0 j) c) (d.1 j))
+      ∙ ap (λ b. cond b (p.targets m) []) (eq-eqb c c refl)) in
       let owing : (m : ℕ) → m < nodes p → (posts p h).owing m ≡ [] = λ m l. dite (ℕ_discrete m p.driver)
       (λ e. ap (posts p h).owing e ∙ owing_driver p h)
       (λ e. owing_at p h m e ∙ ap (phase_owing (p.targets m)) (resting m l e).1) in
       let stage : (m : ℕ) → m < nodes p → (posts p h).stage m ≡ 0 = λ m l. dite (ℕ_discrete m p.driver)
       (λ e. ap (posts p h).stage e ∙ stage_driver p h)
-      (λ e. stage_at p h m e ∙ (let d = resting m l e in λ j. phase_stage (eqb (d.0 j) c) (d.1 j)) ∙ ap (λ b. cond b 0 2) (eq-eqb c c refl)) in record {
-        node = λ n hn. let pending = r.pending_new n hn hn in let status = r.status_new n hn hn in let required = sound.required_is n hn in let some = sound.required_some n hn in
-            let sum : sum_left (nodes p) (posts p h) n ≡ total (λ m. times n (p.targets m)) (nodes p) = total_same (λ m. times n (p.targets m)) (λ m. times n ((posts p h).rest m)) (nodes p) (λ m l. ap (times n) (rest m l)) in
-            let free : sum_debts (nodes p) (posts p h) n ≡ 0 = total_zero (λ m. times n ((posts p h).owing m)) (nodes p) (λ m l. ap (times n) (owing m l)) in record {
+      (λ e. stage_at p h m e ∙ (let d = resting m l e in λ j. phase_stage (eqb (d.0 j) c) (d.1 j)) ∙ ap (λ b. cond b 0 2) (eq-eqb c c refl))
+      in record {
+        node = λ n hn. let pending = r.pending_new n hn hn in let status = r.status_new n hn hn in let required = sound.required_is n hn in
+            let some = sound.required_some n hn in
+            let sum : sum_left (nodes p) (posts p h) n ≡ total (λ m. times n (p.targets m)) (nodes p) =
+            total_same (λ m. times n (p.targets m)) (λ m. times n ((posts p h).rest m)) (nodes p) (λ m l. ap (times n) (rest m l)) in
+            let free : sum_debts (nodes p) (posts p h) n ≡ 0 =
+            total_zero (λ m. times n ((posts p h).owing m)) (nodes p) (λ m l. ap (times n) (owing m l)) in record {
               kind = 0;
               status_is = status;
               kinds = omega arith;
@@ -82,7 +111,9 @@ module _ (p : Lay) where
       }
 
   module _ {S : Type 0} where
-    pub store_pending_allowed : (slots id i : ℕ) (me : Me S View) (t : Trail) (after : ℕ → View) → me.0.number ≡ p.seats → t.looks ≡ me.0.trail.looks → me.0.lead.drive ≡ drives.Reset i → ((found : ℕ) → after found ≡ view_lead me.0 (record me.0.lead { drive = drives.Half i }) t)
+    pub store_pending_allowed : (slots id i : ℕ) (me : Me S View) (t : Trail) (after : ℕ → View) → me.0.number ≡ p.seats
+        → t.looks ≡ me.0.trail.looks → me.0.lead.drive ≡ drives.Reset i
+        → ((found : ℕ) → after found ≡ view_lead me.0 (record me.0.lead { drive = drives.Half i }) t)
         → Allows (Holds p) slots id me (pending_place p.shape i) (λ _. p.required i) (λ _. Turns after me (p.required i))
     store_pending_allowed slots id i me t after number looks phase is_after s r _ at fits =
         let g = r.whole in let a = r.activations in let wide = r.seated.wide in
@@ -91,24 +122,41 @@ module _ (p : Lay) where
         let c : ℕ = g.lead.cycle in
         let h : DriveOk p (drives.Reset i) = subst (DriveOk p) drive a.drive in
         let old : Words p c (posts p g) (drives.Reset i) s.words = subst (λ d. Words p c (posts p g) d s.words) drive a.laid in
-        let same : lead_drawn g.lead ≡ 5 * c + (1 + cond g.lead.checked 1 0) = ap (λ d. 5 * c + cond (is_between d) 0 (drive_drawn d + cond g.lead.checked 1 0)) drive in (
+        let same : lead_drawn g.lead ≡ 5 * c + (1 + cond g.lead.checked 1 0) =
+        ap (λ d. 5 * c + cond (is_between d) 0 (drive_drawn d + cond g.lead.checked 1 0)) drive in (
           view_lead me.0 (record me.0.lead { drive = drives.Half i }) t,
           keeps,
           tt,
-          subst (λ (l : LeadView). Holds p (stepped s (pending_place p.shape i) (p.required i) id me.1 (view_lead me.0 (record l { drive = drives.Half i }) t) keeps)) (sym is) (holds_lead p s r id (pending_place p.shape i) (p.required i) me.0 me.1 (lead_to g (drives.Half i) g.lead) t at number looks (omega arith) (omega arith) (omega arith) (quiet_drive g.lead (drives.Reset i) (drives.Half i) drive record { started = refl; finished = refl; holds = λ _. refl; tells = λ _ _. refl; sees = λ _. refl; begun = refl; ending = refl; checking = refl }) (drive_paced g.lead (drives.Reset i) (lead_to g (drives.Half i) g.lead) drive refl refl (omega arith)) record {
-            later = a.later;
-            early = a.early;
-            within = λ _. a.within (ap is_between drive);
-            drive = h;
-            followers = a.followers;
-            resting = λ _. a.resting (ap is_resetting drive);
-            laid = resets_pending c i s.words h wide old;
-          }),
+          subst (λ (l : LeadView). Holds p (stepped s (pending_place p.shape i) (p.required i) id me.1
+              (view_lead me.0 (record l { drive = drives.Half i }) t) keeps)) (sym is)
+              (holds_lead p s r id (pending_place p.shape i) (p.required i) me.0 me.1 (lead_to g (drives.Half i) g.lead) t at number looks
+              (omega arith) (omega arith) (omega arith) (quiet_drive g.lead (drives.Reset i) (drives.Half i) drive record {
+                started = refl;
+                finished = refl;
+                holds = λ _. refl;
+                tells = λ _ _. refl;
+                sees = λ _. refl;
+                begun = refl;
+                ending = refl;
+                checking = refl;
+              }) (drive_paced g.lead (drives.Reset i) (lead_to g (drives.Half i) g.lead) drive refl refl (omega arith))
+              record {
+                later = a.later;
+                early = a.early;
+                within = λ _. a.within (ap is_between drive);
+                drive = h;
+                followers = a.followers;
+                resting = λ _. a.resting (ap is_resetting drive);
+                laid = resets_pending c i s.words h wide old;
+              }),
           (sym (is_after (p.required i)), refl),
         )
 
-    pub store_not_triggered_allowed : (slots id i : ℕ) (me : Me S View) (t : Trail) (after : ℕ → View) → me.0.number ≡ p.seats → t.looks ≡ me.0.trail.looks → me.0.lead.drive ≡ drives.Half i → ((found : ℕ) → after found ≡ view_lead me.0 (record me.0.lead { drive = reset_to (nodes p) (suc i) }) t)
-        → Allows (Holds p) slots id me (status_place p.shape i) (λ _. status_word_of 0 me.0.lead.cycle) (λ _. Turns after me (status_word_of 0 me.0.lead.cycle))
+    pub store_not_triggered_allowed : (slots id i : ℕ) (me : Me S View) (t : Trail) (after : ℕ → View) → me.0.number ≡ p.seats
+        → t.looks ≡ me.0.trail.looks → me.0.lead.drive ≡ drives.Half i
+        → ((found : ℕ) → after found ≡ view_lead me.0 (record me.0.lead { drive = reset_to (nodes p) (suc i) }) t)
+        → Allows (Holds p) slots id me (status_place p.shape i) (λ _. status_word_of 0 me.0.lead.cycle)
+        (λ _. Turns after me (status_word_of 0 me.0.lead.cycle))
     store_not_triggered_allowed slots id i me t after number looks phase is_after s r _ at fits =
         let g = r.whole in let a = r.activations in let sound = r.seated.sound in let wide = r.seated.wide in
         let is = lead_is p s r id me.0 at number in
@@ -120,7 +168,8 @@ module _ (p : Lay) where
         let old : Words p c (posts p g) (drives.Half i) s.words = subst (λ d. Words p c (posts p g) d s.words) drive a.laid in
         let ws : List ℕ = set s.words (status_place p.shape i) (status_word_of 0 c) in
         let new = resets_status c i s.words h wide old in
-        let goal : Drive → Type 0 = λ d. Activations p (with_lead g (lead_to g d g.lead)) ws × (lead_drawn (lead_to g d g.lead) ≡ 5 * c + (1 + cond g.lead.checked 1 0)) in
+        let goal : Drive → Type 0 = λ d. Activations p (with_lead g (lead_to g d g.lead)) ws
+        × (lead_drawn (lead_to g d g.lead) ≡ 5 * c + (1 + cond g.lead.checked 1 0)) in
         let act : goal (reset_to (nodes p) (suc i)) = dite (ℕ_discrete (suc i) (nodes p))
         (λ (e : suc i ≡ nodes p). subst (λ b. goal (cond b (drives.Kick 0 false) (drives.Reset (suc i)))) (sym (eq-eqb (suc i) (nodes p) e)) (
           record {
@@ -130,7 +179,8 @@ module _ (p : Lay) where
             drive = sound.tells p.driver sound.driver_in;
             followers = a.followers;
             resting = λ z. absurd (true≢false (sym z));
-            laid = from_sums p (with_lead g (lead_to g (drives.Kick 0 false) g.lead)) c ws (begins g ws sound resting (subst (λ k. Resets p c k k ws) e new));
+            laid = from_sums p (with_lead g (lead_to g (drives.Kick 0 false) g.lead)) c ws
+                (begins g ws sound resting (subst (λ k. Resets p c k k ws) e new));
           },
           refl,
         ))
@@ -147,12 +197,17 @@ module _ (p : Lay) where
           refl,
         )) in
         let drawn = act.1 in
-        let same : lead_drawn g.lead ≡ 5 * c + (1 + cond g.lead.checked 1 0) = ap (λ d. 5 * c + cond (is_between d) 0 (drive_drawn d + cond g.lead.checked 1 0)) drive in (
+        let same : lead_drawn g.lead ≡ 5 * c + (1 + cond g.lead.checked 1 0) =
+        ap (λ d. 5 * c + cond (is_between d) 0 (drive_drawn d + cond g.lead.checked 1 0)) drive in (
           view_lead me.0 (record me.0.lead { drive = reset_to (nodes p) (suc i) }) t,
           keeps,
           tt,
-          subst (λ (l : LeadView). Holds p (stepped s (status_place p.shape i) (status_word_of 0 l.cycle) id me.1 (view_lead me.0 (record l { drive = reset_to (nodes p) (suc i) }) t) keeps)) (sym is)
-              (holds_lead p s r id (status_place p.shape i) (status_word_of 0 c) me.0 me.1 (lead_to g (reset_to (nodes p) (suc i)) g.lead) t at number looks (omega arith) (omega arith) (omega arith) (quiet_drive g.lead (drives.Half i) (reset_to (nodes p) (suc i)) drive (reset_quiet i (suc i) (eqb (suc i) (nodes p))))
-              (let z = reset_paced (nodes p) (suc i) in drive_paced g.lead (drives.Half i) (lead_to g (reset_to (nodes p) (suc i)) g.lead) drive refl z.0 (omega arith)) act.0),
+          subst (λ (l : LeadView). Holds p (stepped s (status_place p.shape i) (status_word_of 0 l.cycle) id me.1
+              (view_lead me.0 (record l { drive = reset_to (nodes p) (suc i) }) t) keeps)) (sym is)
+              (holds_lead p s r id (status_place p.shape i) (status_word_of 0 c) me.0 me.1
+              (lead_to g (reset_to (nodes p) (suc i)) g.lead) t at number looks (omega arith) (omega arith) (omega arith)
+              (quiet_drive g.lead (drives.Half i) (reset_to (nodes p) (suc i)) drive (reset_quiet i (suc i) (eqb (suc i) (nodes p))))
+              (let z = reset_paced (nodes p) (suc i) in drive_paced g.lead (drives.Half i)
+              (lead_to g (reset_to (nodes p) (suc i)) g.lead) drive refl z.0 (omega arith)) act.0),
           (sym (is_after (status_word_of 0 me.0.lead.cycle)), refl),
         )

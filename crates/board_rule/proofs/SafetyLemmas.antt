@@ -31,7 +31,8 @@ module _ (p : Lay) {S : Type 0} (s : State S View) (h : Holds p s) where
   wires = wired p h.seated.sound h.seated.pooled h.seated.undelayed
 
   -- at most one block of a pool is being filled or out
-  pub one_writer : (q a b : ℕ) (x : PoolShape) → PoolAt p q x → a < x.blocks → b < x.blocks → is_busy (ends.blocks q a) ≡ true → is_busy (ends.blocks q b) ≡ true → a ≡ b
+  pub one_writer : (q a b : ℕ) (x : PoolShape) → PoolAt p q x → a < x.blocks → b < x.blocks → is_busy (ends.blocks q a) ≡ true
+      → is_busy (ends.blocks q b) ≡ true → a ≡ b
   one_writer q a b x at = (to_plain p wires (spans p h.whole) ends h.whole.expect s.words h.buffers).one q a b x at
 
   -- the reader of the link l is in its turn, and has not yet taken its block down
@@ -40,13 +41,15 @@ module _ (p : Lay) {S : Type 0} (s : State S View) (h : Holds p s) where
     pub loaded : (ends.reads l).loaded ≡ (spans p h.whole (p.place k.to.node)).over + 1
     pub here : (ends.reads l).lowered ≡ (spans p h.whole (p.place k.to.node)).over
 
-  module _ (l q : ℕ) (k : ShapeLink) (x : PoolShape) (at : LinkAt p l k) (is : PoolAt p q x) (c : Contains x.links l) (r : IsAtBlock l k) where
+  module _ (l q : ℕ) (k : ShapeLink) (x : PoolShape) (at : LinkAt p l k) (is : PoolAt p q x) (c : Contains x.links l)
+      (r : IsAtBlock l k) where
     abbrev block : ℕ
     block = (ends.reads l).id
 
     -- its block is one of the pool, and out
     pub block_is_out : (block < x.blocks) × ((n : ℕ) × (ends.blocks q block ≡ Out n))
-    block_is_out = let o = reads_block p (spans p h.whole) ends h.whole.expect s.words wires (paces p h.whole s.words wires h.activations) h.buffers l k at q x is c r.runs r.loaded r.here in (o.0, (_, o.1))
+    block_is_out = let o = reads_block p (spans p h.whole) ends h.whole.expect s.words wires
+        (paces p h.whole s.words wires h.activations) h.buffers l k at q x is c r.runs r.loaded r.here in (o.0, (_, o.1))
 
     -- so no writer fills it
     pub no_writer : (i : ℕ) → ends.blocks q block ≡ Filling i → ⊥
@@ -58,4 +61,5 @@ module _ (p : Lay) {S : Type 0} (s : State S View) (h : Holds p s) where
 
     -- and its readers word counts the reader, where the writer would have to find 0
     pub is_counted : 0 < slice_index s.words (readers_place p.shape q block)
-    is_counted = finds_some p (spans p h.whole) ends h.whole.expect s.words wires (paces p h.whole s.words wires h.activations) h.buffers l k at q x is c r.runs r.loaded r.here
+    is_counted = finds_some p (spans p h.whole) ends h.whole.expect s.words wires
+        (paces p h.whole s.words wires h.activations) h.buffers l k at q x is c r.runs r.loaded r.here

@@ -1,5 +1,6 @@
 -- One step changes one view. What the other seats know stays.
-use Rattle.std.proofs.Common.{◌≡◌, ◌≢◌, ℕ, zero, suc, ◌<◌, ◌≤◌, cond, List, [], ◌∷◌, length, set, refl, sym, ap, ◌∙◌, subst, ⊎_elim, arith, eq-eqb, ne_eqb}
+use Rattle.std.proofs.Common.{◌≡◌, ◌≢◌, ℕ, zero, suc, ◌<◌, ◌≤◌, cond, List, [], ◌∷◌, length, set, refl, sym, ap, ◌∙◌, subst}
+use Rattle.std.proofs.Common.{⊎_elim, arith, eq-eqb, ne_eqb}
 use mathlib.Core.Logic.{dite}
 use mathlib.Core.Option.{some, some-ne-none}
 use native.Mathlib.Decide.{ℕ_discrete}
@@ -31,8 +32,10 @@ set_there (x ∷ xs) (suc i) a b e = set_there xs i a b e
 
 module _ (p : Lay) where
   -- the general form: the seat id has the view w from now on
-  pub seat_step : (g h : Whole) (words after : List ℕ) (views : List View) (id : ℕ) (v w : View) → get_elem? views id ≡ some v → length after ≡ length words → Knows p h id w
-      → ((j : ℕ) (u : View) → j ≢ id → Knows p g j u → Knows p h j u) → ((n : ℕ) → n < nodes p → n ≢ p.driver → h.split ≤ p.seat_of n → h.nodes n ≡ idle (first p))
+  pub seat_step : (g h : Whole) (words after : List ℕ) (views : List View) (id : ℕ) (v w : View) → get_elem? views id ≡ some v
+      → length after ≡ length words → Knows p h id w
+      → ((j : ℕ) (u : View) → j ≢ id → Knows p g j u → Knows p h j u)
+      → ((n : ℕ) → n < nodes p → n ≢ p.driver → h.split ≤ p.seat_of n → h.nodes n ≡ idle (first p))
       → AreStill p h.ends h.split → ((l : ℕ) → first p < (h.ends.writes l).stored → IsTable p h.expect)
       → Seated p g words views → Seated p h after (set views id w)
   seat_step g h words after views id v w at same mine others unsplit still table s = record {
@@ -50,7 +53,8 @@ module _ (p : Lay) where
   }
 
   -- a step of the follower m, whose phase becomes x
-  pub node_step : (g : Whole) (words after : List ℕ) (views : List View) (id m : ℕ) (v : View) (x : NodeView) (t : Trail) → get_elem? views id ≡ some v → length after ≡ length words → v.number < p.seats → m < nodes p → m ≢ p.driver → p.seat_of m ≡ v.number
+  pub node_step : (g : Whole) (words after : List ℕ) (views : List View) (id m : ℕ) (v : View) (x : NodeView) (t : Trail)
+      → get_elem? views id ≡ some v → length after ≡ length words → v.number < p.seats → m < nodes p → m ≢ p.driver → p.seat_of m ≡ v.number
       → Seated p g words views → Seated p (with_node g m x) after (set views id (view_node v m x t))
   node_step g words after views id m v x t at same loops inside follows owns s = let k = s.knows id v at in
       seat_step g (with_node g m x) words after views id v (view_node v m x t) at same
@@ -62,7 +66,8 @@ module _ (p : Lay) where
         table = k.table;
         is_split = k.is_split;
         owns = λ n h o e. dite (ℕ_discrete n m)
-            (λ q. subst (λ i. get_elem? (set v.nodes m x) i ≡ some (put g.nodes m x i)) (sym q) (set_there v.nodes m x (g.nodes m) (k.owns m inside follows owns) ∙ ap some (sym (put_here g.nodes m x))))
+            (λ q. subst (λ i. get_elem? (set v.nodes m x) i ≡ some (put g.nodes m x i)) (sym q)
+            (set_there v.nodes m x (g.nodes m) (k.owns m inside follows owns) ∙ ap some (sym (put_here g.nodes m x))))
             (λ q. set_else v.nodes m n x q ∙ k.owns n h o e ∙ ap some (sym (put_else g.nodes m n x q)));
         ends = k.ends;
       }
@@ -73,13 +78,17 @@ module _ (p : Lay) where
         expects = r.expects;
         table = r.table;
         is_split = r.is_split;
-        owns = λ n h o e. r.owns n h o e ∙ ap some (sym (put_else g.nodes m n x (λ q. other (sym (r.here (let z = sym e ∙ ap p.seat_of q ∙ owns in omega arith)) ∙ ap g.seat_at (sym e ∙ ap p.seat_of q ∙ owns) ∙ k.here (omega arith)))));
+        owns = λ n h o e. r.owns n h o e ∙ ap some (sym
+            (put_else g.nodes m n x (λ q. other (sym (r.here (let z = sym e ∙ ap p.seat_of q ∙ owns in omega arith))
+            ∙ ap g.seat_at (sym e ∙ ap p.seat_of q ∙ owns) ∙ k.here (omega arith)))));
         ends = r.ends;
       })
-      (λ n h o e. put_else g.nodes m n x (λ q. let a = k.is_split loops in let b = ap p.seat_of q in omega arith) ∙ s.unsplit n h o e) s.still s.table s
+      (λ n h o e. put_else g.nodes m n x (λ q. let a = k.is_split loops in let b = ap p.seat_of q in omega arith) ∙ s.unsplit n h o e)
+      s.still s.table s
 
   -- a step of the driver's seat, after which it has loaded the statuses `looks` in its last check
-  pub lead_step : (g : Whole) (words after : List ℕ) (views : List View) (id : ℕ) (v : View) (x : LeadView) (t : Trail) (looks : List Found) → get_elem? views id ≡ some v → length after ≡ length words → v.number ≡ p.seats → t.looks ≡ looks
+  pub lead_step : (g : Whole) (words after : List ℕ) (views : List View) (id : ℕ) (v : View) (x : LeadView) (t : Trail) (looks : List Found)
+      → get_elem? views id ≡ some v → length after ≡ length words → v.number ≡ p.seats → t.looks ≡ looks
       → Seated p g words views → Seated p (record (with_lead g x) { looks = looks }) after (set views id (view_lead v x t))
   lead_step g words after views id v x t looks at same leads seen s = let k = s.knows id v at in
       seat_step g (record (with_lead g x) { looks = looks }) words after views id v (view_lead v x t) at same
@@ -106,7 +115,8 @@ module _ (p : Lay) where
       s.unsplit s.still s.table s
 
   -- nothing of the whole changes: the seat remembers something
-  pub stay_step : (g : Whole) (words after : List ℕ) (views : List View) (id : ℕ) (v : View) (t : Trail) → get_elem? views id ≡ some v → length after ≡ length words → t.looks ≡ v.trail.looks → Seated p g words views → Seated p g after (set views id (view_trail v t))
+  pub stay_step : (g : Whole) (words after : List ℕ) (views : List View) (id : ℕ) (v : View) (t : Trail) → get_elem? views id ≡ some v
+      → length after ≡ length words → t.looks ≡ v.trail.looks → Seated p g words views → Seated p g after (set views id (view_trail v t))
   stay_step g words after views id v t at same seen s = let k = s.knows id v at in
       seat_step g g words after views id v (view_trail v t) at same
       record {
@@ -122,7 +132,8 @@ module _ (p : Lay) where
       (λ j u _ r. r) s.unsplit s.still s.table s
 
   -- a check has loaded a status more
-  pub look_step : (g : Whole) (words : List ℕ) (views : List View) (id : ℕ) (v : View) (t : Trail) → get_elem? views id ≡ some v → v.number ≡ p.seats → Seated p g words views → Seated p (record g { looks = t.looks }) words (set views id (view_trail v t))
+  pub look_step : (g : Whole) (words : List ℕ) (views : List View) (id : ℕ) (v : View) (t : Trail) → get_elem? views id ≡ some v
+      → v.number ≡ p.seats → Seated p g words views → Seated p (record g { looks = t.looks }) words (set views id (view_trail v t))
   look_step g words views id v t at leads s = let k = s.knows id v at in
       seat_step g (record g { looks = t.looks }) words words views id v (view_trail v t) at refl
       record {
@@ -148,7 +159,8 @@ module _ (p : Lay) where
       s.unsplit s.still s.table s
 
   -- no seat's view has the events
-  pub seated_logs : (g : Whole) (words : List ℕ) (views : List View) (past inside : List Event) (late : ℕ) → Seated p g words views → Seated p (record g { past = past; inside = inside; late = late }) words views
+  pub seated_logs : (g : Whole) (words : List ℕ) (views : List View) (past inside : List Event) (late : ℕ) → Seated p g words views
+      → Seated p (record g { past = past; inside = inside; late = late }) words views
   seated_logs g words views past inside late s = record {
     sound = s.sound;
     pooled = s.pooled;
@@ -156,7 +168,16 @@ module _ (p : Lay) where
     room = s.room;
     wide = s.wide;
     long = s.long;
-    knows = λ j v at. let k = s.knows j v at in record { kept = k.kept; here = k.here; leads = k.leads; expects = k.expects; table = k.table; is_split = k.is_split; owns = k.owns; ends = k.ends };
+    knows = λ j v at. let k = s.knows j v at in record {
+      kept = k.kept;
+      here = k.here;
+      leads = k.leads;
+      expects = k.expects;
+      table = k.table;
+      is_split = k.is_split;
+      owns = k.owns;
+      ends = k.ends;
+    };
     unsplit = s.unsplit;
     still = s.still;
     table = s.table;

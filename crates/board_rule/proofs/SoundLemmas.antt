@@ -1,5 +1,7 @@
 -- A sound shape has a sound layout: required counts are sums over the targets, by places.
-use Rattle.std.proofs.Common.{◌≡◌, ◌≢◌, ℕ, zero, suc, ◌+◌, ◌<◌, ◌≤◌, ◌==◌, ◌&&◌, ◌||◌, Bool, true, false, true≢false, not, cond, eqb, List, [], ◌∷◌, ◌++◌, map, drop, length, get_or, refl, sym, ap, ◌∙◌, subst, arith, eq-eqb, ne_eqb, eqb-true}
+use Rattle.std.proofs.Common.{◌≡◌, ◌≢◌, ℕ, zero, suc, ◌+◌, ◌<◌, ◌≤◌, ◌==◌, ◌&&◌, ◌||◌, Bool, true, false, true≢false}
+use Rattle.std.proofs.Common.{not, cond, eqb, List, [], ◌∷◌, ◌++◌, map, drop, length, get_or, refl, sym, ap, ◌∙◌, subst, arith, eq-eqb}
+use Rattle.std.proofs.Common.{ne_eqb, eqb-true}
 use Rattle.std.specs.Prelude.{filter, All, Contains}
 use Rattle.std.specs.List.Sorted.{IsStrictlyIncreasing}
 use mathlib.Core.Logic.{dite}
@@ -21,8 +23,10 @@ use Rattle.board_rule.proofs.SumLemmas.{total_same, total_at, times_here}
 -- strictly increasing numbers: a later one is greater
 pub rises : (xs : List ℕ) → IsStrictlyIncreasing xs → (k i : ℕ) → k < i → i < length xs → get_or xs k 0 < get_or xs i 0
 rises xs up k zero h l = absurd (omega arith)
-rises xs up k (suc i) h l = let one : i + 1 ≡ suc i = omega arith in let s : get_or xs i 0 < get_or xs (suc i) 0 = subst (λ j. get_or xs i 0 < get_or xs j 0) one (up i (omega arith)) in
-    dite (ℕ_discrete k i) (λ q. subst (λ j. get_or xs j 0 < get_or xs (suc i) 0) (sym q) s) (λ q. let b = rises xs up k i (omega arith) (omega arith) in omega arith)
+rises xs up k (suc i) h l = let one : i + 1 ≡ suc i = omega arith in
+    let s : get_or xs i 0 < get_or xs (suc i) 0 = subst (λ j. get_or xs i 0 < get_or xs j 0) one (up i (omega arith)) in
+    dite (ℕ_discrete k i) (λ q. subst (λ j. get_or xs j 0 < get_or xs (suc i) 0) (sym q) s)
+    (λ q. let b = rises xs up k i (omega arith) (omega arith) in omega arith)
 
 -- the sum over a list, by places, is the length of what passes
 total_shift : (f : ℕ → ℕ) (k : ℕ) → total f (suc k) ≡ f 0 + total (λ i. f (suc i)) k
@@ -31,7 +35,8 @@ total_shift f (suc k) = let a = total_shift f k in omega arith
 
 passing : (w : ℕ → Bool) (xs : List ℕ) → total (λ m. cond (w (get_or xs m 0)) 1 0) (length xs) ≡ length (filter w xs)
 passing w [] = refl
-passing w (x ∷ xs) = let a = passing w xs in let s = total_shift (λ m. cond (w (get_or (x ∷ xs) m 0)) 1 0) (length xs) in by (w x) (filter w xs) (s ∙ ap (λ k. cond (w x) 1 0 + k) a)
+passing w (x ∷ xs) = let a = passing w xs in let s = total_shift (λ m. cond (w (get_or (x ∷ xs) m 0)) 1 0) (length xs) in
+    by (w x) (filter w xs) (s ∙ ap (λ k. cond (w x) 1 0 + k) a)
   where
     by : (b : Bool) (ys : List ℕ) {t : ℕ} → t ≡ cond b 1 0 + length ys → t ≡ length (cond b (x ∷ ys) ys)
     by true ys e = e ∙ (omega arith)
@@ -53,23 +58,30 @@ module _ (pl : ℕ → ℕ) (f : ℕ → Bool) (j : ℕ) where
   -- how often a place stands among those of the elements that pass: none of them has it, or one has
   times_absent : (xs : List ℕ) → ((k : ℕ) → k < length xs → pl (get_or xs k 0) ≢ j) → times j (map pl (filter f xs)) ≡ 0
   times_absent [] o = refl
-  times_absent (x ∷ xs) o = let a = times_absent xs (λ k h. o (suc k) (omega arith)) in ap (times j) (map_by pl (f x) x (filter f xs)) ∙ times_by (f x) j (pl x) (map pl (filter f xs)) ∙ by (f x) a
+  times_absent (x ∷ xs) o = let a = times_absent xs (λ k h. o (suc k) (omega arith)) in ap (times j) (map_by pl (f x) x (filter f xs))
+      ∙ times_by (f x) j (pl x) (map pl (filter f xs)) ∙ by (f x) a
     where
       by : (b : Bool) {t : ℕ} → t ≡ 0 → cond b (cond (eqb (pl x) j) 1 0) 0 + t ≡ 0
-      by true e = let z : cond {A = ℕ} (eqb (pl x) j) 1 0 ≡ 0 = ap (λ b. cond {A = ℕ} b 1 0) (ne_eqb (pl x) j (o 0 (omega arith))) in omega arith
+      by true e = let z : cond {A = ℕ} (eqb (pl x) j) 1 0 ≡ 0 = ap (λ b. cond {A = ℕ} b 1 0) (ne_eqb (pl x) j (o 0 (omega arith))) in
+          omega arith
       by false e = omega arith
 
-  times_present : (xs : List ℕ) (i : ℕ) → i < length xs → pl (get_or xs i 0) ≡ j → ((k : ℕ) → k < length xs → k ≢ i → pl (get_or xs k 0) ≢ j) → times j (map pl (filter f xs)) ≡ cond (f (get_or xs i 0)) 1 0
+  times_present : (xs : List ℕ) (i : ℕ) → i < length xs → pl (get_or xs i 0) ≡ j
+      → ((k : ℕ) → k < length xs → k ≢ i → pl (get_or xs k 0) ≢ j) → times j (map pl (filter f xs)) ≡ cond (f (get_or xs i 0)) 1 0
   times_present [] i h e o = absurd (omega arith)
-  times_present (x ∷ xs) zero h e o = let a = times_absent xs (λ k l. o (suc k) (omega arith) (λ z. omega arith)) in ap (times j) (map_by pl (f x) x (filter f xs)) ∙ times_by (f x) j (pl x) (map pl (filter f xs)) ∙ by (f x) a
+  times_present (x ∷ xs) zero h e o = let a = times_absent xs (λ k l. o (suc k) (omega arith) (λ z. omega arith)) in
+      ap (times j) (map_by pl (f x) x (filter f xs)) ∙ times_by (f x) j (pl x) (map pl (filter f xs)) ∙ by (f x) a
     where
       by : (b : Bool) {t : ℕ} → t ≡ 0 → cond b (cond (eqb (pl x) j) 1 0) 0 + t ≡ cond b 1 0
       by true z = let y : cond {A = ℕ} (eqb (pl x) j) 1 0 ≡ 1 = ap (λ b. cond {A = ℕ} b 1 0) (eq-eqb (pl x) j e) in omega arith
       by false z = omega arith
-  times_present (x ∷ xs) (suc i) h e o = let a = times_present xs i (omega arith) e (λ k l q. o (suc k) (omega arith) (λ z. q (omega arith))) in ap (times j) (map_by pl (f x) x (filter f xs)) ∙ times_by (f x) j (pl x) (map pl (filter f xs)) ∙ by (f x) a
+  times_present (x ∷ xs) (suc i) h e o = let a = times_present xs i (omega arith) e
+      (λ k l q. o (suc k) (omega arith) (λ z. q (omega arith))) in ap (times j) (map_by pl (f x) x (filter f xs))
+      ∙ times_by (f x) j (pl x) (map pl (filter f xs)) ∙ by (f x) a
     where
       by : (b : Bool) {t : ℕ} → t ≡ cond (f (get_or xs i 0)) 1 0 → cond b (cond (eqb (pl x) j) 1 0) 0 + t ≡ cond (f (get_or xs i 0)) 1 0
-      by true z = let y : cond {A = ℕ} (eqb (pl x) j) 1 0 ≡ 0 = ap (λ b. cond {A = ℕ} b 1 0) (ne_eqb (pl x) j (o 0 (omega arith) (λ z. omega arith))) in omega arith
+      by true z = let y : cond {A = ℕ} (eqb (pl x) j) 1 0 ≡ 0 =
+          ap (λ b. cond {A = ℕ} b 1 0) (ne_eqb (pl x) j (o 0 (omega arith) (λ z. omega arith))) in omega arith
       by false z = omega arith
 
 -- the last element of a list stands in each end of it
@@ -118,7 +130,8 @@ module _ (shape : Shape) (s : IsSoundShape shape) where
   at_place n h = let l = long in eqb-true (get_or ns (place n) 0) n (passes_at_first (λ k. k == n) ns 0 (omega arith))
 
   contained : (n : ℕ) → Contains ns n → (place n < node_count shape) × (get_or ns (place n) 0 ≡ n)
-  contained n c = let l = long in let h = c.1 in let e : get_or ns c.0 0 ≡ n = get_or_default ns c.0 0 n h ∙ c.2 in let p : place n ≡ c.0 = ap place (sym e) ∙ place_at c.0 (omega arith) in (omega arith, at_place n (omega arith))
+  contained n c = let l = long in let h = c.1 in let e : get_or ns c.0 0 ≡ n = get_or_default ns c.0 0 n h ∙ c.2 in
+      let p : place n ≡ c.0 = ap place (sym e) ∙ place_at c.0 (omega arith) in (omega arith, at_place n (omega arith))
 
   driver_in : place shape.driver < node_count shape
   driver_in = (contained shape.driver s.nodes.driver).0
@@ -131,7 +144,8 @@ module _ (shape : Shape) (s : IsSoundShape shape) where
   counted i h = s.counts i no_node h
 
   targets_at : (m : ℕ) → m < node_count shape → get_or (target_rows shape) m [] ≡ map place (targets_of shape (get_or ns m 0))
-  targets_at m h = get_or-map (λ n. map place n.targets) shape.nodes m no_node [] h ∙ ap (map place) ((counted m h).1 ∙ ap (targets_of shape) (node_at m h))
+  targets_at m h = get_or-map (λ n. map place n.targets) shape.nodes m no_node [] h
+      ∙ ap (map place) ((counted m h).1 ∙ ap (targets_of shape) (node_at m h))
 
   required_at : (n : ℕ) → n < node_count shape → get_or (required_row shape) n 0 ≡ required_of shape (get_or ns n 0)
   required_at n h = get_or-map (λ n. n.required) shape.nodes n no_node 0 h ∙ (counted n h).0 ∙ ap (required_of shape) (node_at n h)
@@ -139,46 +153,68 @@ module _ (shape : Shape) (s : IsSoundShape shape) where
   abbrev followers_of : ℕ → List ℕ
   followers_of m = filter (λ n. not (n == shape.driver) && waits shape n m) ns
 
-  targets_split : (m : ℕ) → m < node_count shape → get_or (target_rows shape) m [] ≡ map place (followers_of (get_or ns m 0)) ++ place shape.driver ∷ []
+  targets_split : (m : ℕ) → m < node_count shape → get_or (target_rows shape) m []
+      ≡ map place (followers_of (get_or ns m 0)) ++ place shape.driver ∷ []
   targets_split m h = targets_at m h ∙ map-append place (followers_of (get_or ns m 0)) (shape.driver ∷ [])
 
   -- each node is told once by those that it depends on
-  told : (j m : ℕ) → j < node_count shape → m < node_count shape → times j (get_or (target_rows shape) m []) ≡ cond {A = ℕ} (waits shape (get_or ns j 0) (get_or ns m 0)) 1 0
+  told : (j m : ℕ) → j < node_count shape → m < node_count shape
+      → times j (get_or (target_rows shape) m []) ≡ cond {A = ℕ} (waits shape (get_or ns j 0) (get_or ns m 0)) 1 0
   told j m hj hm =
       let l = long in let x : ℕ = get_or ns j 0 in let y : ℕ = get_or ns m 0 in let d : ℕ = place shape.driver in
-      let a = times_present place (λ n. not (n == shape.driver) && waits shape n y) j ns j (omega arith) (place_at j hj) (λ k h o e. o (sym (place_at k (omega arith)) ∙ e)) in
+      let a = times_present place (λ n. not (n == shape.driver) && waits shape n y) j ns j (omega arith) (place_at j hj)
+      (λ k h o e. o (sym (place_at k (omega arith)) ∙ e)) in
       let b = times_append j (map place (followers_of y)) (d ∷ []) in
-      let c : times j (get_or (target_rows shape) m []) ≡ times j (map place (followers_of y) ++ d ∷ []) = ap (times j) (targets_split m hm) in
+      let c : times j (get_or (target_rows shape) m []) ≡ times j (map place (followers_of y) ++ d ∷ []) =
+      ap (times j) (targets_split m hm) in
       dite (ℕ_discrete x shape.driver)
       (λ q. let same : d ≡ j = ap place (sym q) ∙ place_at j hj in
       let t : cond {A = ℕ} (eqb d j) 1 0 ≡ 1 = ap (λ b. cond {A = ℕ} b 1 0) (eq-eqb d j same) in
-      let n : cond {A = ℕ} (not (x == shape.driver) && waits shape x y) 1 0 ≡ 0 = ap (λ b. cond {A = ℕ} b 1 0) (drop_tests (x == shape.driver) (waits shape x y) (eq-eqb x shape.driver q)) in
-      let w : cond {A = ℕ} (waits shape x y) 1 0 ≡ 1 = ap (λ b. cond {A = ℕ} b 1 0) (or_right (y == shape.driver) _ (or_left (x == shape.driver) (are_linked shape y x) (eq-eqb x shape.driver q))) in omega arith)
+      let n : cond {A = ℕ} (not (x == shape.driver) && waits shape x y) 1 0 ≡ 0 =
+      ap (λ b. cond {A = ℕ} b 1 0) (drop_tests (x == shape.driver) (waits shape x y) (eq-eqb x shape.driver q)) in
+      let w : cond {A = ℕ} (waits shape x y) 1 0 ≡ 1 =
+      ap (λ b. cond {A = ℕ} b 1 0) (or_right (y == shape.driver) _
+      (or_left (x == shape.driver) (are_linked shape y x) (eq-eqb x shape.driver q))) in omega arith)
       (λ q. let other : d ≢ j = λ e. q (sym (ap (λ k. get_or ns k 0) e) ∙ at_place shape.driver driver_in) in
       let t : cond {A = ℕ} (eqb d j) 1 0 ≡ 0 = ap (λ b. cond {A = ℕ} b 1 0) (ne_eqb d j other) in
-      let n : cond {A = ℕ} (not (x == shape.driver) && waits shape x y) 1 0 ≡ cond {A = ℕ} (waits shape x y) 1 0 = ap (λ b. cond {A = ℕ} b 1 0) (both_tests (x == shape.driver) (waits shape x y) (ne_eqb x shape.driver q)) in omega arith)
+      let n : cond {A = ℕ} (not (x == shape.driver) && waits shape x y) 1 0 ≡ cond {A = ℕ} (waits shape x y) 1 0 =
+      ap (λ b. cond {A = ℕ} b 1 0) (both_tests (x == shape.driver) (waits shape x y) (ne_eqb x shape.driver q)) in omega arith)
 
-  required_is : (n : ℕ) → n < node_count shape → get_or (required_row shape) n 0 ≡ total (λ m. times n (get_or (target_rows shape) m [])) (node_count shape)
-  required_is n h = let l = long in required_at n h ∙ sym (passing (waits shape (get_or ns n 0)) ns) ∙ ap (total (λ m. cond (waits shape (get_or ns n 0) (get_or ns m 0)) 1 0)) l
-      ∙ total_same (λ m. times n (get_or (target_rows shape) m [])) (λ m. cond (waits shape (get_or ns n 0) (get_or ns m 0)) 1 0) (node_count shape) (λ m q. sym (told n m h q))
+  required_is : (n : ℕ) → n < node_count shape → get_or (required_row shape) n 0
+      ≡ total (λ m. times n (get_or (target_rows shape) m [])) (node_count shape)
+  required_is n h = let l = long in required_at n h ∙ sym (passing (waits shape (get_or ns n 0)) ns)
+      ∙ ap (total (λ m. cond (waits shape (get_or ns n 0) (get_or ns m 0)) 1 0)) l
+      ∙ total_same (λ m. times n (get_or (target_rows shape) m [])) (λ m. cond (waits shape (get_or ns n 0) (get_or ns m 0)) 1 0)
+      (node_count shape) (λ m q. sym (told n m h q))
 
   required_some : (n : ℕ) → n < node_count shape → 0 < get_or (required_row shape) n 0
-  required_some n h = let d : ℕ = place shape.driver in let a = required_is n h in let b = total_at (λ m. times n (get_or (target_rows shape) m [])) d (node_count shape) driver_in in
-      let c : times n (get_or (target_rows shape) d []) ≡ 1 = told n d h driver_in ∙ ap (λ b. cond {A = ℕ} b 1 0) (or_left (get_or ns d 0 == shape.driver) (get_or ns n 0 == shape.driver || are_linked shape (get_or ns d 0) (get_or ns n 0)) (eq-eqb (get_or ns d 0) shape.driver (at_place shape.driver driver_in))) in omega arith
+  required_some n h = let d : ℕ = place shape.driver in let a = required_is n h in
+      let b = total_at (λ m. times n (get_or (target_rows shape) m [])) d (node_count shape) driver_in in
+      let c : times n (get_or (target_rows shape) d []) ≡ 1 = told n d h driver_in
+      ∙ ap (λ b. cond {A = ℕ} b 1 0) (or_left (get_or ns d 0 == shape.driver)
+      (get_or ns n 0 == shape.driver || are_linked shape (get_or ns d 0) (get_or ns n 0))
+      (eq-eqb (get_or ns d 0) shape.driver (at_place shape.driver driver_in))) in omega arith
 
-  targets_in : (m i : ℕ) → m < node_count shape → i < length (get_or (target_rows shape) m []) → get_or (get_or (target_rows shape) m []) i 0 < node_count shape
+  targets_in : (m i : ℕ) → m < node_count shape → i < length (get_or (target_rows shape) m [])
+      → get_or (get_or (target_rows shape) m []) i 0 < node_count shape
   targets_in m i hm h = let y : ℕ = get_or ns m 0 in
-      let there : All (λ n. place n < node_count shape) ns = λ k d q. let e = get_or_default ns k d 0 q in let l = long in subst (λ n. place n < node_count shape) (sym e) (let p = place_at k (omega arith) in omega arith) in
-      let all : All (λ k. k < node_count shape) (map place (targets_of shape y)) = All-map (λ k. k < node_count shape) place (targets_of shape y)
-      (All-append (λ n. place n < node_count shape) (followers_of y) (shape.driver ∷ []) (All-filter (λ n. not (n == shape.driver) && waits shape n y) (λ n. place n < node_count shape) ns there) (only (λ n. place n < node_count shape) shape.driver driver_in)) in
+      let there : All (λ n. place n < node_count shape) ns = λ k d q. let e = get_or_default ns k d 0 q in let l = long in
+      subst (λ n. place n < node_count shape) (sym e) (let p = place_at k (omega arith) in omega arith) in
+      let all : All (λ k. k < node_count shape) (map place (targets_of shape y)) =
+      All-map (λ k. k < node_count shape) place (targets_of shape y)
+      (All-append (λ n. place n < node_count shape) (followers_of y) (shape.driver ∷ [])
+      (All-filter (λ n. not (n == shape.driver) && waits shape n y) (λ n. place n < node_count shape) ns there)
+      (only (λ n. place n < node_count shape) shape.driver driver_in)) in
       subst (λ (ts : List ℕ). i < length ts → get_or ts i 0 < node_count shape) (sym (targets_at m hm)) (λ q. all i 0 q) h
     where
       only : (P : ℕ → Type 0) (d : ℕ) → P d → All P (d ∷ [])
       only P d h zero e q = h
       only P d h (suc k) e q = absurd (omega arith)
 
-  tells_driver : (m i : ℕ) → m < node_count shape → i < length (get_or (target_rows shape) m []) → 0 < times (place shape.driver) (drop i (get_or (target_rows shape) m []))
-  tells_driver m i hm h = subst (λ (ts : List ℕ). i < length ts → 0 < times (place shape.driver) (drop i ts)) (sym (targets_split m hm)) (λ q. last_stands (place shape.driver) i (map place (followers_of (get_or ns m 0))) q) h
+  tells_driver : (m i : ℕ) → m < node_count shape → i < length (get_or (target_rows shape) m [])
+      → 0 < times (place shape.driver) (drop i (get_or (target_rows shape) m []))
+  tells_driver m i hm h = subst (λ (ts : List ℕ). i < length ts → 0 < times (place shape.driver) (drop i ts)) (sym (targets_split m hm))
+      (λ q. last_stands (place shape.driver) i (map place (followers_of (get_or ns m 0))) q) h
 
   tells : (m : ℕ) → m < node_count shape → 0 < length (get_or (target_rows shape) m [])
   tells m hm = subst (λ (ts : List ℕ). 0 < length ts) (sym (targets_split m hm)) (more (map place (followers_of (get_or ns m 0))))
@@ -188,7 +224,8 @@ module _ (shape : Shape) (s : IsSoundShape shape) where
       more (y ∷ ys) = omega arith
 
   numbers : (n : ℕ) → place n < node_count shape → n ≤ 63
-  numbers n h = let a : (get_or shape.nodes (place n) no_node).node ≤ 63 = s.nodes.numbers (place n) no_node h in let b = node_at (place n) h in let c = at_place n h in omega arith
+  numbers n h = let a : (get_or shape.nodes (place n) no_node).node ≤ 63 = s.nodes.numbers (place n) no_node h in
+      let b = node_at (place n) h in let c = at_place n h in omega arith
 
   pub number_most : (i : ℕ) → i < node_count shape → get_or ns i 0 ≤ 63
   number_most i h = let a : (get_or shape.nodes i no_node).node ≤ 63 = s.nodes.numbers i no_node h in let b = node_at i h in omega arith
@@ -212,5 +249,7 @@ sound_layout plot s h = record {
   names = λ n h. refl;
   named = λ n c. (contained plot.shape s n c).0;
   names_driver = at_place plot.shape s plot.shape.driver (driver_in plot.shape s);
-  follows = λ m n hm hn e. let a = told plot.shape s n m hn hm in let b : cond {A = ℕ} (waits plot.shape (get_or (nodes_of plot.shape) n 0) (get_or (nodes_of plot.shape) m 0)) 1 0 ≡ 1 = ap (λ b. cond {A = ℕ} b 1 0) e.depends.waits in omega arith;
+  follows = λ m n hm hn e. let a = told plot.shape s n m hn hm in
+      let b : cond {A = ℕ} (waits plot.shape (get_or (nodes_of plot.shape) n 0) (get_or (nodes_of plot.shape) m 0)) 1 0 ≡ 1 =
+      ap (λ b. cond {A = ℕ} b 1 0) e.depends.waits in omega arith;
 }

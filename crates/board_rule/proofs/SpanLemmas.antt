@@ -1,5 +1,7 @@
--- The buffer rule after a step of another part: what the phases say of the cycles that each node has begun and ended, and the words that are not its own.
-use Rattle.std.proofs.Common.{◌≡◌, ◌≢◌, ℕ, ◌+◌, ◌<◌, ◌≤◌, ⊎_elim, Bool, true, false, cond, eqb, List, set, refl, sym, ap, ◌∙◌, arith, eq-eqb, ne_eqb, get_or-set_other}
+-- The buffer rule after a step of another part: what the phases say of the cycles that each node has begun and ended, and the words that
+-- are not its own.
+use Rattle.std.proofs.Common.{◌≡◌, ◌≢◌, ℕ, ◌+◌, ◌<◌, ◌≤◌, ⊎_elim, Bool, true, false, cond, eqb, List, set, refl, sym, ap}
+use Rattle.std.proofs.Common.{◌∙◌, arith, eq-eqb, ne_eqb, get_or-set_other}
 use mathlib.Core.Logic.{dite}
 use native.Mathlib.Decide.{ℕ_discrete}
 use Rattle.pw_base.specs.Layout.{late_place, event_place, event_count}
@@ -74,7 +76,8 @@ module _ (p : Lay) where
   IsLogWord i = (late_place p.shape 0 ≤ i) × (i < event_place p.shape (event_count p.shape))
 
   pub log_word : (ws : List ℕ) (i x : ℕ) → IsLogWord i → SameBuffers p ws (set ws i x)
-  log_word ws i x log j h = let a = log.0 in let b = log.1 in get_or-set_other ws i j x 0 (λ e. ⊎_elim (λ z. let c = z.1 in omega arith) (λ z. omega arith) h)
+  log_word ws i x log j h = let a = log.0 in let b = log.1 in
+      get_or-set_other ws i j x 0 (λ e. ⊎_elim (λ z. let c = z.1 in omega arith) (λ z. omega arith) h)
 
   -- the follower m goes on from x to y
   pub over_else : (g : Whole) (m n : ℕ) (y : NodeView) → n ≢ m → (spans p (with_node g m y) n).over ≡ (spans p g n).over
@@ -83,48 +86,65 @@ module _ (p : Lay) where
   pub over_put : (g : Whole) (m : ℕ) (y : NodeView) → m ≢ p.driver → (spans p (with_node g m y) m).over ≡ node_over y
   over_put g m y o = over_at (with_node g m y) m o ∙ ap node_over (put_here g.nodes m y)
 
-  pub begun_put : (g : Whole) (m n : ℕ) (x y : NodeView) → g.nodes m ≡ x → node_begun x ≤ node_begun y → (spans p g n).begun ≤ (spans p (with_node g m y) n).begun
-  begun_put g m n x y is more = cond_more (eqb n p.driver) (lead_begun g.lead) (node_begun (g.nodes n)) (node_begun (put g.nodes m y n)) (dite (ℕ_discrete n m)
-      (λ e. let a : node_begun (g.nodes n) ≡ node_begun x = ap (λ k. node_begun (g.nodes k)) e ∙ ap node_begun is in let b : node_begun (put g.nodes m y n) ≡ node_begun y = ap (λ k. node_begun (put g.nodes m y k)) e ∙ ap node_begun (put_here g.nodes m y) in omega arith)
+  pub begun_put : (g : Whole) (m n : ℕ) (x y : NodeView) → g.nodes m ≡ x → node_begun x ≤ node_begun y
+      → (spans p g n).begun ≤ (spans p (with_node g m y) n).begun
+  begun_put g m n x y is more = cond_more (eqb n p.driver) (lead_begun g.lead) (node_begun (g.nodes n)) (node_begun (put g.nodes m y n))
+      (dite (ℕ_discrete n m)
+      (λ e. let a : node_begun (g.nodes n) ≡ node_begun x = ap (λ k. node_begun (g.nodes k)) e ∙ ap node_begun is in
+      let b : node_begun (put g.nodes m y n) ≡ node_begun y = ap (λ k. node_begun (put g.nodes m y k)) e
+      ∙ ap node_begun (put_here g.nodes m y) in omega arith)
       (λ o. let a : node_begun (put g.nodes m y n) ≡ node_begun (g.nodes n) = ap node_begun (put_else g.nodes m n y o) in omega arith))
 
-  pub buffers_node : (g : Whole) (ws after : List ℕ) (m : ℕ) (x y : NodeView) → Wired p → g.nodes m ≡ x → IsPaced x y → SameBuffers p ws after → Buffers p (spans p g) g.ends g.expect ws → Buffers p (spans p (with_node g m y)) g.ends g.expect after
-  buffers_node g ws after m x y wired is paced same b = buffers_stay p (spans p g) (spans p (with_node g m y)) g.ends g.expect ws after wired
+  pub buffers_node : (g : Whole) (ws after : List ℕ) (m : ℕ) (x y : NodeView) → Wired p → g.nodes m ≡ x → IsPaced x y
+      → SameBuffers p ws after → Buffers p (spans p g) g.ends g.expect ws → Buffers p (spans p (with_node g m y)) g.ends g.expect after
+  buffers_node g ws after m x y wired is paced same b =
+      buffers_stay p (spans p g) (spans p (with_node g m y)) g.ends g.expect ws after wired
       (λ n h. ap (λ k. cond (eqb n p.driver) (lead_over g.lead) k) (dite (ℕ_discrete n m)
-      (λ e. ap (λ k. node_over (put g.nodes m y k)) e ∙ ap node_over (put_here g.nodes m y) ∙ paced.0 ∙ sym (ap (λ k. node_over (g.nodes k)) e ∙ ap node_over is))
+      (λ e. ap (λ k. node_over (put g.nodes m y k)) e ∙ ap node_over (put_here g.nodes m y) ∙ paced.0
+      ∙ sym (ap (λ k. node_over (g.nodes k)) e ∙ ap node_over is))
       (λ o. ap node_over (put_else g.nodes m n y o))))
       (λ n h. begun_put g m n x y is paced.1) same b
 
   -- the driver's seat goes on to y
-  pub begun_lead_put : (g : Whole) (n : ℕ) (y : LeadView) → lead_begun g.lead ≤ lead_begun y → (spans p g n).begun ≤ (spans p (with_lead g y) n).begun
+  pub begun_lead_put : (g : Whole) (n : ℕ) (y : LeadView) → lead_begun g.lead ≤ lead_begun y
+      → (spans p g n).begun ≤ (spans p (with_lead g y) n).begun
   begun_lead_put g n y more = cond_first (eqb n p.driver) (node_begun (g.nodes n)) (lead_begun g.lead) (lead_begun y) more
 
-  pub buffers_lead : (g : Whole) (ws after : List ℕ) (y : LeadView) → Wired p → IsLeadPaced g.lead y → SameBuffers p ws after → Buffers p (spans p g) g.ends g.expect ws → Buffers p (spans p (with_lead g y)) g.ends g.expect after
+  pub buffers_lead : (g : Whole) (ws after : List ℕ) (y : LeadView) → Wired p → IsLeadPaced g.lead y → SameBuffers p ws after
+      → Buffers p (spans p g) g.ends g.expect ws → Buffers p (spans p (with_lead g y)) g.ends g.expect after
   buffers_lead g ws after y wired paced same b = buffers_stay p (spans p g) (spans p (with_lead g y)) g.ends g.expect ws after wired
       (λ n h. ap (λ k. cond (eqb n p.driver) k (node_over (g.nodes n))) paced.0)
       (λ n h. begun_lead_put g n y paced.1) same b
 
 -- a node that tells its targets
-told_by : (x : NodeView) (i : ℕ) (b : Bool) → (let y : NodeView = cond b (record x { next = x.next + 1; phase = Idle }) (record x { phase = Telling i false }) in node_over y ≡ x.next + 1 × node_begun y ≡ x.next + 1)
+told_by : (x : NodeView) (i : ℕ) (b : Bool) → (let y : NodeView =
+    cond b (record x { next = x.next + 1; phase = Idle }) (record x { phase = Telling i false }) in node_over y ≡ x.next + 1
+    × node_begun y ≡ x.next + 1)
 told_by x i true = (omega arith, omega arith)
 told_by x i false = (refl, refl)
 
 pub settled_paced : (n i j : ℕ) (o owes : Bool) (x : NodeView) → x.phase ≡ Telling j o → IsPaced x (settled n x i owes)
-settled_paced n i j o owes x is = let a : node_over x ≡ x.next + 1 = ap (λ f. x.next + phase_over f) is in let b : node_begun x ≡ x.next + 1 = ap (λ f. x.next + phase_begun f) is in by owes (omega arith) (omega arith)
+settled_paced n i j o owes x is = let a : node_over x ≡ x.next + 1 = ap (λ f. x.next + phase_over f) is in
+    let b : node_begun x ≡ x.next + 1 = ap (λ f. x.next + phase_begun f) is in by owes (omega arith) (omega arith)
   where
     by : (b : Bool) → node_over x ≡ x.next + 1 → node_begun x ≡ x.next + 1 → IsPaced x (settled n x i b)
     by true a b = (sym a, omega arith)
     by false a b = let z = told_by x i (eqb i n) in let z₀ = z.0 in let z₁ = z.1 in (z₀ ∙ sym a, omega arith)
 
 -- a follower from the phase f to the phase h
-pub phase_paced : (x : NodeView) (f : Phase) (y : NodeView) → x.phase ≡ f → y.next ≡ x.next → phase_over y.phase ≡ phase_over f → phase_begun f ≤ phase_begun y.phase → IsPaced x y
-phase_paced x f y is next over begun = let a : phase_over x.phase ≡ phase_over f = ap phase_over is in let b : phase_begun x.phase ≡ phase_begun f = ap phase_begun is in (omega arith, omega arith)
+pub phase_paced : (x : NodeView) (f : Phase) (y : NodeView) → x.phase ≡ f → y.next ≡ x.next → phase_over y.phase ≡ phase_over f
+    → phase_begun f ≤ phase_begun y.phase → IsPaced x y
+phase_paced x f y is next over begun = let a : phase_over x.phase ≡ phase_over f = ap phase_over is in
+    let b : phase_begun x.phase ≡ phase_begun f = ap phase_begun is in (omega arith, omega arith)
 
 -- the driver's seat from the phase d to the phase of y
-pub drive_paced : (x : LeadView) (d : Drive) (y : LeadView) → x.drive ≡ d → y.cycle ≡ x.cycle → drive_over y.drive ≡ drive_over d → drive_begun d ≤ drive_begun y.drive → IsLeadPaced x y
-drive_paced x d y is cycle over begun = let a : drive_over x.drive ≡ drive_over d = ap drive_over is in let b : drive_begun x.drive ≡ drive_begun d = ap drive_begun is in (omega arith, omega arith)
+pub drive_paced : (x : LeadView) (d : Drive) (y : LeadView) → x.drive ≡ d → y.cycle ≡ x.cycle → drive_over y.drive ≡ drive_over d
+    → drive_begun d ≤ drive_begun y.drive → IsLeadPaced x y
+drive_paced x d y is cycle over begun = let a : drive_over x.drive ≡ drive_over d = ap drive_over is in
+    let b : drive_begun x.drive ≡ drive_begun d = ap drive_begun is in (omega arith, omega arith)
 
-kicked_by : (i : ℕ) (b : Bool) → (drive_over (cond b drives.Waiting (drives.Kick i false)) ≡ 0) × (drive_begun (cond b drives.Waiting (drives.Kick i false)) ≡ 0)
+kicked_by : (i : ℕ) (b : Bool) → (drive_over (cond b drives.Waiting (drives.Kick i false)) ≡ 0)
+    × (drive_begun (cond b drives.Waiting (drives.Kick i false)) ≡ 0)
 kicked_by i true = (refl, refl)
 kicked_by i false = (refl, refl)
 
@@ -132,7 +152,8 @@ pub kicked_paced : (n i : ℕ) (owes : Bool) → (drive_over (kicked n i owes) �
 kicked_paced n i true = (refl, refl)
 kicked_paced n i false = kicked_by i (eqb i n)
 
-reset_by : (i : ℕ) (b : Bool) → (drive_over (cond b (drives.Kick 0 false) (drives.Reset i)) ≡ 0) × (drive_begun (cond b (drives.Kick 0 false) (drives.Reset i)) ≡ 0)
+reset_by : (i : ℕ) (b : Bool) → (drive_over (cond b (drives.Kick 0 false) (drives.Reset i)) ≡ 0)
+    × (drive_begun (cond b (drives.Kick 0 false) (drives.Reset i)) ≡ 0)
 reset_by i true = (refl, refl)
 reset_by i false = (refl, refl)
 
@@ -172,4 +193,5 @@ stores_paced l drives.Running e can = absurd can
 stores_paced l drives.Done e can = absurd can
 stores_paced l drives.FinishDrawn e can = drive_paced l drives.FinishDrawn (lead_stores l drives.FinishDrawn) e refl refl (omega arith)
 stores_paced l drives.FinishStored e can = absurd can
-stores_paced l drives.EndDrawn e can = let a : drive_over l.drive ≡ 1 = ap drive_over e in let b : drive_begun l.drive ≡ 1 = ap drive_begun e in (omega arith, omega arith)
+stores_paced l drives.EndDrawn e can = let a : drive_over l.drive ≡ 1 = ap drive_over e in
+    let b : drive_begun l.drive ≡ 1 = ap drive_begun e in (omega arith, omega arith)

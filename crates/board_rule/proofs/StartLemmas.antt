@@ -1,5 +1,7 @@
 -- The start of a board, and the seats that are split off.
-use Rattle.std.proofs.Common.{◌≡◌, ◌≢◌, ℕ, zero, suc, ◌+◌, ◌-◌, ◌*◌, ◌<◌, ◌⊎◌, inl, inr, ⊎_elim, ◌≤◌, Bool, true, false, true≢false, cond, eqb, List, [], ◌∷◌, ◌++◌, length, set, get_or, replicate, refl, sym, ap, ◌∙◌, subst, arith, eq-eqb, ne_eqb, length-set}
+use Rattle.std.proofs.Common.{◌≡◌, ◌≢◌, ℕ, zero, suc, ◌+◌, ◌-◌, ◌*◌, ◌<◌, ◌⊎◌, inl, inr, ⊎_elim, ◌≤◌, Bool, true}
+use Rattle.std.proofs.Common.{false, true≢false, cond, eqb, List, [], ◌∷◌, ◌++◌, length, set, get_or, replicate, refl, sym, ap, ◌∙◌, subst}
+use Rattle.std.proofs.Common.{arith, eq-eqb, ne_eqb, length-set}
 use mathlib.Core.Logic.{dite}
 use mathlib.Core.Option.{some, some-injective, some-ne-none}
 use native.Mathlib.Decide.{ℕ_discrete, dec_le}
@@ -37,7 +39,8 @@ use Rattle.board_rule.proofs.WiringLemmas.{Wired, wired, made}
 use Rattle.board_rule.proofs.BufferStartLemmas.{start_ends, buffers_start, buffers_named, idle_start, pools_start}
 use Rattle.board_rule.proofs.SpanLemmas.{wired_in}
 
-at_end : {A : Type 0} (l : List A) (a b : A) (j : ℕ) → get_elem? (l ++ a ∷ []) j ≡ some b → (get_elem? l j ≡ some b) ⊎ ((j ≡ length l) × (a ≡ b))
+at_end : {A : Type 0} (l : List A) (a b : A) (j : ℕ) → get_elem? (l ++ a ∷ []) j ≡ some b → (get_elem? l j ≡ some b)
+    ⊎ ((j ≡ length l) × (a ≡ b))
 at_end [] a b zero e = inr (refl, some-injective a b e)
 at_end [] a b (suc j) e = absurd (some-ne-none b (sym e))
 at_end (x ∷ xs) a b zero e = inl e
@@ -58,26 +61,45 @@ behind zero a ys i = let e : 0 + i ≡ i = omega arith in ap (get_elem? ys) e
 behind (suc k) a ys i = let e : suc k + i ≡ suc (k + i) = omega arith in ap (get_elem? (a ∷ (replicate k a ++ ys))) e ∙ behind k a ys i
 
 -- the block b of the pool q among the free blocks of all pools
-free_there : (pools : List PoolShape) (q b : ℕ) (x : PoolShape) → slice_get pools q ≡ Some x → b < x.blocks → get_elem? (flat_map (λ y. replicate y.blocks Free) pools) (sum_by (λ y. y.blocks) (take q pools) + b) ≡ some (let z : BlockView = Free in z)
+free_there : (pools : List PoolShape) (q b : ℕ) (x : PoolShape) → slice_get pools q ≡ Some x → b < x.blocks
+    → get_elem? (flat_map (λ y. replicate y.blocks Free) pools) (sum_by (λ y. y.blocks) (take q pools) + b)
+    ≡ some (let z : BlockView = Free in z)
 free_there [] q b x at low = absurd (let z = slice_get_within [] q x at in omega arith)
-free_there (y ∷ ys) zero b x at low = let is : y ≡ x = get_or_from_slice_get (y ∷ ys) 0 x y at in let count : y.blocks ≡ x.blocks = ap (λ (z : PoolShape). z.blocks) is in
+free_there (y ∷ ys) zero b x at low = let is : y ≡ x = get_or_from_slice_get (y ∷ ys) 0 x y at in
+    let count : y.blocks ≡ x.blocks = ap (λ (z : PoolShape). z.blocks) is in
     let e : sum_by (λ (z : PoolShape). z.blocks) [] + b ≡ b = omega arith in
-    (λ i. get_elem? (flat_map-cons (λ (z : PoolShape). replicate z.blocks Free) y ys i) (e i)) ∙ front_at (replicate y.blocks Free) (flat_map (λ (z : PoolShape). replicate z.blocks Free) ys) b Free (all_same y.blocks b Free (omega arith))
+    (λ i. get_elem? (flat_map-cons (λ (z : PoolShape). replicate z.blocks Free) y ys i) (e i))
+    ∙ front_at (replicate y.blocks Free) (flat_map (λ (z : PoolShape). replicate z.blocks Free) ys) b Free
+    (all_same y.blocks b Free (omega arith))
 free_there (y ∷ ys) (suc q) b x at low = let rest : ℕ = sum_by (λ (z : PoolShape). z.blocks) (take q ys) + b in
-    let e : sum_by (λ (z : PoolShape). z.blocks) (y ∷ take q ys) + b ≡ y.blocks + rest = let s = sum_by-cons (λ (z : PoolShape). z.blocks) y (take q ys) in omega arith in
-    (λ i. get_elem? (flat_map-cons (λ (z : PoolShape). replicate z.blocks Free) y ys i) (e i)) ∙ behind y.blocks Free (flat_map (λ (z : PoolShape). replicate z.blocks Free) ys) rest ∙ free_there ys q b x at low
+    let e : sum_by (λ (z : PoolShape). z.blocks) (y ∷ take q ys) + b ≡ y.blocks + rest = let s =
+    sum_by-cons (λ (z : PoolShape). z.blocks) y (take q ys) in omega arith in
+    (λ i. get_elem? (flat_map-cons (λ (z : PoolShape). replicate z.blocks Free) y ys i) (e i))
+    ∙ behind y.blocks Free (flat_map (λ (z : PoolShape). replicate z.blocks Free) ys) rest ∙ free_there ys q b x at low
 
 abbrev move : (ℕ → ℕ) → ℕ → ℕ → ℕ → ℕ
 move f m x i = cond (eqb i m) x (f i)
 
 module _ (p : Lay) where
   abbrev start : Whole
-  start = record { lead = resting (first p); split = 0; nodes = λ _. idle (first p); seat_at = λ _. 0; expect = []; ends = start_ends p; past = []; inside = []; late = 0; looks = [] }
+  start = record {
+    lead = resting (first p);
+    split = 0;
+    nodes = λ _. idle (first p);
+    seat_at = λ _. 0;
+    expect = [];
+    ends = start_ends p;
+    past = [];
+    inside = [];
+    late = 0;
+    looks = [];
+  }
 
 module _ (p : Lay) where
   -- the number of a follower's seat
   holder_at : IsSound p → (n : ℕ) → n < nodes p → n ≢ p.driver → holder p n < p.seats
-  holder_at sound n inside follows = let a = sound.seats_in n inside follows in let b : holder p n ≡ p.seat_of n = ap (λ k. cond k p.seats (p.seat_of n)) (ne_eqb n p.driver follows) in omega arith
+  holder_at sound n inside follows = let a = sound.seats_in n inside follows in
+      let b : holder p n ≡ p.seat_of n = ap (λ k. cond k p.seats (p.seat_of n)) (ne_eqb n p.driver follows) in omega arith
 
   holder_low : IsSound p → (n : ℕ) → n < nodes p → holder p n ≤ p.seats
   holder_low sound n inside = dite (ℕ_discrete n p.driver)
@@ -85,7 +107,8 @@ module _ (p : Lay) where
       (λ o. let a = holder_at sound n inside o in omega arith)
 
   -- what the views know of links and blocks: the driver's before any split, one that is split off, and the one that is kept of a board
-  first_knows : IsSound p → IsPooledShape p.shape → IsUndelayed p.shape → KnowsEnds p (start_ends p) p.seats [] (replicate (length p.shape.links) (unread (first p))) []
+  first_knows : IsSound p → IsPooledShape p.shape → IsUndelayed p.shape
+      → KnowsEnds p (start_ends p) p.seats [] (replicate (length p.shape.links) (unread (first p))) []
   first_knows sound pooled undelayed = let w = wired p sound pooled undelayed in record {
     of_write = λ l k at h. absurd (let z = holder_at sound (p.place k.from.node) (w.from_in l k at) (w.from_follows l k at) in omega arith);
     of_read = λ l k at h. all_same (length p.shape.links) l (unread (first p)) (slice_get_within p.shape.links l k at);
@@ -99,11 +122,15 @@ module _ (p : Lay) where
     of_block = λ q b x at low h. absurd (let m = made p w q x at in let z = holder_low sound (p.place x.port.node) m.0 in omega arith);
   }
 
-  loop_knows : (e : Samples) (j : ℕ) (ends : Ends) → IsPooledShape p.shape → AreStill p ends j → j < p.seats → KnowsEnds p ends j (loop_view p e j).writes (loop_view p e j).reads (loop_view p e j).blocks
+  loop_knows : (e : Samples) (j : ℕ) (ends : Ends) → IsPooledShape p.shape → AreStill p ends j → j < p.seats
+      → KnowsEnds p ends j (loop_view p e j).writes (loop_view p e j).reads (loop_view p e j).blocks
   loop_knows e j ends pooled s room = record {
-    of_write = λ l k at h. all_same (length p.shape.links) l (unwritten (first p)) (slice_get_within p.shape.links l k at) ∙ ap some (sym (s.writes l k at (omega arith) (omega arith)));
-    of_read = λ l k at h. all_same (length p.shape.links) l (unread (first p)) (slice_get_within p.shape.links l k at) ∙ ap some (sym (s.reads l k at (omega arith) (omega arith)));
-    of_block = λ q b x at low h. free_there (pools_of p.shape) q b x at low ∙ ap some (sym (s.blocks q b x at low (omega arith) (omega arith)));
+    of_write = λ l k at h. all_same (length p.shape.links) l (unwritten (first p)) (slice_get_within p.shape.links l k at)
+        ∙ ap some (sym (s.writes l k at (omega arith) (omega arith)));
+    of_read = λ l k at h. all_same (length p.shape.links) l (unread (first p)) (slice_get_within p.shape.links l k at)
+        ∙ ap some (sym (s.reads l k at (omega arith) (omega arith)));
+    of_block = λ q b x at low h. free_there (pools_of p.shape) q b x at low
+        ∙ ap some (sym (s.blocks q b x at low (omega arith) (omega arith)));
   }
 
   still_later : (ends : Ends) (j : ℕ) → AreStill p ends j → AreStill p ends (suc j)
@@ -113,13 +140,19 @@ module _ (p : Lay) where
     blocks = λ q b x at low a c. s.blocks q b x at low (omega arith) c;
   }
 
-  unsplit_free : IsSound p → Wired p → (ends : Ends) → AreStill p ends 0 → (q b : ℕ) (x : PoolShape) → slice_get (pools_of p.shape) q ≡ Some x → b < x.blocks → ends.blocks q b ≡ (let z : BlockView = Free in z)
-  unsplit_free sound w ends s q b x at low = let m = made p w q x at in s.blocks q b x at low (omega arith) (holder_at sound (p.place x.port.node) m.0 m.1)
+  unsplit_free : IsSound p → Wired p → (ends : Ends) → AreStill p ends 0 → (q b : ℕ) (x : PoolShape)
+      → slice_get (pools_of p.shape) q ≡ Some x → b < x.blocks → ends.blocks q b ≡ (let z : BlockView = Free in z)
+  unsplit_free sound w ends s q b x at low = let m = made p w q x at in
+      s.blocks q b x at low (omega arith) (holder_at sound (p.place x.port.node) m.0 m.1)
 
 module _ (p : Lay) {S : Type 0} where
-  pub opens : (words : List ℕ) (slots : List S) → IsSound p → IsPooledShape p.shape → IsUndelayed p.shape → words ≡ start_words p.shape → word_count p.shape ≡ length words → nodes p + nodes p < length words → event_place p.shape (event_count p.shape) ≤ length words → get_or words 0 0 ≡ 0
-      → ((k : ℕ) → k < p.shape.cycles → get_or words (late_place p.shape k) 0 ≡ 0) → ((t : ℕ) → t < event_count p.shape → get_or words (event_place p.shape t) 0 ≡ 0)
-      → ((n : ℕ) → n < nodes p → get_or words (pending_place p.shape n) 0 ≡ 0) → ((n : ℕ) → n < nodes p → get_or words (status_place p.shape n) 0 ≡ status_word_of 0 (first p))
+  pub opens : (words : List ℕ) (slots : List S) → IsSound p → IsPooledShape p.shape → IsUndelayed p.shape → words ≡ start_words p.shape
+      → word_count p.shape ≡ length words → nodes p + nodes p < length words → event_place p.shape (event_count p.shape) ≤ length words
+      → get_or words 0 0 ≡ 0
+      → ((k : ℕ) → k < p.shape.cycles → get_or words (late_place p.shape k) 0 ≡ 0)
+      → ((t : ℕ) → t < event_count p.shape → get_or words (event_place p.shape t) 0 ≡ 0)
+      → ((n : ℕ) → n < nodes p → get_or words (pending_place p.shape n) 0 ≡ 0)
+      → ((n : ℕ) → n < nodes p → get_or words (status_place p.shape n) 0 ≡ status_word_of 0 (first p))
       → Holds p (opening words slots (first_view p))
   opens words slots sound pooled undelayed is room wide long ticket lates unused pending status = record {
     whole = start p;
@@ -146,12 +179,14 @@ module _ (p : Lay) {S : Type 0} where
         pending_new = λ n h l. absurd (omega arith);
         pending_old = λ n h l. pending n h;
         status_new = λ n h l. absurd (omega arith);
-        status_old = λ n h l. status n h ∙ sym (ap (λ b. cond b (status_word_of 0 (first p)) (status_word_of 3 (first p - 1))) (eq-eqb (first p) (first p) refl));
+        status_old = λ n h l. status n h ∙ sym (ap (λ b. cond b (status_word_of 0 (first p)) (status_word_of 3 (first p - 1)))
+            (eq-eqb (first p) (first p) refl));
       };
     };
     events = record {
       count = let none : 2 * first p + 0 ≡ 2 * first p = omega arith in
-          let same = total_same (drawn_before p) (λ n. cond (eqb n p.driver) 0 (2 * first p + 0)) (nodes p) (λ n l. ap (λ k. cond (eqb n p.driver) 0 k) none) in omega arith;
+          let same = total_same (drawn_before p) (λ n. cond (eqb n p.driver) 0 (2 * first p + 0)) (nodes p)
+          (λ n l. ap (λ k. cond (eqb n p.driver) 0 k) none) in omega arith;
       checks = refl;
       checking = λ z. absurd (true≢false (sym z));
       fresh = λ _. refl;
@@ -164,7 +199,8 @@ module _ (p : Lay) {S : Type 0} where
         told_kept = λ t e h. absurd (none_in (t, e) h);
       };
       earlier = record {
-        legal = subst (λ k. AreJoined (epoch_cycles p.shape k) []) (let z : 0 ≡ first p - first p = omega arith in z) record { parts = []; joined = refl; legal = tt };
+        legal = subst (λ k. AreJoined (epoch_cycles p.shape k) []) (let z : 0 ≡ first p - first p = omega arith in z) record
+            { parts = []; joined = refl; legal = tt };
         before = λ i d h. absurd (omega arith);
         lates = λ k set h. absurd (none_in (Tick k set) h);
         late_now = λ h. lates (first p - first p) (omega arith);
@@ -182,7 +218,9 @@ module _ (p : Lay) {S : Type 0} where
         seen = λ i d h. absurd (omega arith);
       };
     };
-    buffers = subst (Buffers p (spans p (start p)) (start_ends p) []) (sym is) (buffers_start p (spans p (start p)) [] (start_words p.shape) (wired p sound pooled undelayed) (λ n h. (first_by (eqb n p.driver), first_by (eqb n p.driver))) (idle_start p.shape undelayed) (pools_start p.shape undelayed));
+    buffers = subst (Buffers p (spans p (start p)) (start_ends p) []) (sym is)
+        (buffers_start p (spans p (start p)) [] (start_words p.shape) (wired p sound pooled undelayed)
+        (λ n h. (first_by (eqb n p.driver), first_by (eqb n p.driver))) (idle_start p.shape undelayed) (pools_start p.shape undelayed));
   }
     where
       first_by : (b : Bool) → cond b (first p + 0) (first p + 0) ≡ first p
@@ -212,12 +250,26 @@ module _ (p : Lay) {S : Type 0} where
       }
       only (suc j) v e = absurd (some-ne-none v (sym e))
 
-  pub splits : (id : ℕ) (v : View) (e : Samples) → v.number ≡ p.seats → v.split < p.seats → (0 < v.split → e ≡ v.expect) → IsTable p e → Splits {S = S} (Holds p) id v (split_off e v) (loop_view p e v.split)
+  pub splits : (id : ℕ) (v : View) (e : Samples) → v.number ≡ p.seats → v.split < p.seats → (0 < v.split → e ≡ v.expect) → IsTable p e
+      → Splits {S = S} (Holds p) id v (split_off e v) (loop_view p e v.split)
   splits id v e leads room keeps table s r at =
-      let w = wired_in p r.whole s.words s.views r.seated in let g = r.whole in let k = r.seated.knows id v at in let is = k.leads leads in let count = is.1 in
-      let h : Whole = record { lead = g.lead; split = suc g.split; nodes = g.nodes; seat_at = move g.seat_at g.split (length s.views); expect = e; ends = g.ends; past = g.past; inside = g.inside; late = g.late; looks = g.looks } in
+      let w = wired_in p r.whole s.words s.views r.seated in let g = r.whole in let k = r.seated.knows id v at in let is = k.leads leads in
+      let count = is.1 in
+      let h : Whole = record {
+        lead = g.lead;
+        split = suc g.split;
+        nodes = g.nodes;
+        seat_at = move g.seat_at g.split (length s.views);
+        expect = e;
+        ends = g.ends;
+        past = g.past;
+        inside = g.inside;
+        late = g.late;
+        looks = g.looks;
+      } in
       let here : h.seat_at g.split ≡ length s.views = ap (λ b. cond b (length s.views) (g.seat_at g.split)) (eq-eqb g.split g.split refl) in
-      let else : (i : ℕ) → i ≢ g.split → h.seat_at i ≡ g.seat_at i = λ i o. ap (λ b. cond b (length s.views) (g.seat_at i)) (ne_eqb i g.split o) in record {
+      let else : (i : ℕ) → i ≢ g.split → h.seat_at i ≡ g.seat_at i =
+      λ i o. ap (λ b. cond b (length s.views) (g.seat_at i)) (ne_eqb i g.split o) in record {
         whole = h;
         seated = record {
           sound = r.seated.sound;
@@ -239,7 +291,10 @@ module _ (p : Lay) {S : Type 0} where
                 ends = k.ends;
               })
               (λ (t : (j ≢ id) × (get_elem? s.views j ≡ some u)). let q = r.seated.knows j u t.1 in
-              let small : u.number < g.split = q.is_split (dite (ℕ_discrete u.number p.seats) (λ z. absurd (t.0 (sym (q.here (omega arith)) ∙ ap g.seat_at (z ∙ sym leads) ∙ k.here (omega arith)))) (λ z. dite (dec_le (suc p.seats) u.number) (λ y. absurd (let l = q.kept y in omega arith)) (λ y. omega arith))) in record {
+              let small : u.number < g.split = q.is_split (dite (ℕ_discrete u.number p.seats)
+              (λ z. absurd (t.0 (sym (q.here (omega arith)) ∙ ap g.seat_at (z ∙ sym leads) ∙ k.here (omega arith))))
+              (λ z. dite (dec_le (suc p.seats) u.number) (λ y. absurd (let l = q.kept y in omega arith)) (λ y. omega arith))) in
+              record {
                 kept = λ z. absurd (omega arith);
                 here = λ h. else u.number (λ z. omega arith) ∙ q.here h;
                 leads = λ z. absurd (omega arith);
@@ -250,7 +305,8 @@ module _ (p : Lay) {S : Type 0} where
                 ends = q.ends;
               })
               (at_set s.views id j (split_off e v) u old))
-              (λ (t : (j ≡ length (set s.views id (split_off e v))) × (loop_view p e v.split ≡ u)). subst (λ (x : ℕ × View). Knows p h x.0 x.1) (λ i. (sym (t.0 ∙ length-set s.views id (split_off e v)) i, t.1 i)) record {
+              (λ (t : (j ≡ length (set s.views id (split_off e v))) × (loop_view p e v.split ≡ u)). subst
+              (λ (x : ℕ × View). Knows p h x.0 x.1) (λ i. (sym (t.0 ∙ length-set s.views id (split_off e v)) i, t.1 i)) record {
                 kept = λ z. absurd (omega arith);
                 here = λ _. ap h.seat_at count ∙ here;
                 leads = λ z. absurd (omega arith);
@@ -279,12 +335,20 @@ module _ (p : Lay) {S : Type 0} where
           checks = v.checks;
           checking = v.checking;
           fresh = v.fresh;
-          tickets = record { drawn = t.drawn; stored = t.stored; unused = t.unused; starts_kept = t.starts_kept; finishes_kept = t.finishes_kept; told_kept = t.told_kept };
+          tickets = record {
+            drawn = t.drawn;
+            stored = t.stored;
+            unused = t.unused;
+            starts_kept = t.starts_kept;
+            finishes_kept = t.finishes_kept;
+            told_kept = t.told_kept;
+          };
           earlier = v.earlier;
           inside = v.inside;
         };
         buffers = dite (ℕ_discrete v.split 0)
-            (λ z. buffers_named p (spans p g) g.ends g.expect e s.words w (unsplit_free p r.seated.sound w g.ends (subst (AreStill p g.ends) (sym count ∙ z) r.seated.still)) r.buffers)
+            (λ z. buffers_named p (spans p g) g.ends g.expect e s.words w
+            (unsplit_free p r.seated.sound w g.ends (subst (AreStill p g.ends) (sym count ∙ z) r.seated.still)) r.buffers)
             (λ o. subst (λ x. Buffers p (spans p g) g.ends x s.words) (sym (keeps (omega arith) ∙ k.expects)) r.buffers);
       }
 
@@ -324,7 +388,8 @@ module _ (p : Lay) {S : Type 0} where
                 ends = q.ends;
               })
               (at_set s.views id j (last_view p v) u old))
-              (λ (t : (j ≡ length (set s.views id (last_view p v))) × (kept_view p v ≡ u)). subst (λ (x : ℕ × View). Knows p h x.0 x.1) (λ i. (sym t.0 i, t.1 i)) record {
+              (λ (t : (j ≡ length (set s.views id (last_view p v))) × (kept_view p v ≡ u)). subst (λ (x : ℕ × View). Knows p h x.0 x.1)
+              (λ i. (sym t.0 i, t.1 i)) record {
                 kept = λ z. omega arith;
                 here = λ z. absurd (omega arith);
                 leads = λ z. absurd (omega arith);
@@ -336,7 +401,11 @@ module _ (p : Lay) {S : Type 0} where
               })
               (at_end (set s.views id (last_view p v)) (kept_view p v) u j q₀);
           unsplit = λ n l o q₀. absurd (let z = r.seated.sound.seats_in n l o in omega arith);
-          still = record { writes = λ l k at a b. absurd (omega arith); reads = λ l k at a b. absurd (omega arith); blocks = λ q n x at low a b. absurd (omega arith) };
+          still = record {
+            writes = λ l k at a b. absurd (omega arith);
+            reads = λ l k at a b. absurd (omega arith);
+            blocks = λ q n x at low a b. absurd (omega arith);
+          };
           table = r.seated.table;
         };
         activations = record {
@@ -353,7 +422,14 @@ module _ (p : Lay) {S : Type 0} where
           checks = v.checks;
           checking = v.checking;
           fresh = v.fresh;
-          tickets = record { drawn = t.drawn; stored = t.stored; unused = t.unused; starts_kept = t.starts_kept; finishes_kept = t.finishes_kept; told_kept = t.told_kept };
+          tickets = record {
+            drawn = t.drawn;
+            stored = t.stored;
+            unused = t.unused;
+            starts_kept = t.starts_kept;
+            finishes_kept = t.finishes_kept;
+            told_kept = t.told_kept;
+          };
           earlier = v.earlier;
           inside = v.inside;
         };

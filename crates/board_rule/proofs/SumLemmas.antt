@@ -1,5 +1,6 @@
 -- Laws of `specs/Sums.antt`.
-use Rattle.std.proofs.Common.{◌≡◌, ◌≢◌, ℕ, zero, suc, ◌+◌, ◌<◌, ◌≤◌, List, ◌∷◌, cond, refl, sym, ap, ◌∙◌, arith, eq-eqb, ne_eqb}
+use Rattle.std.proofs.Common.{◌≡◌, ◌≢◌, ℕ, zero, suc, ◌+◌, ◌<◌, ◌≤◌, List, ◌∷◌, cond, refl, sym, ap, ◌∙◌, arith, eq-eqb}
+use Rattle.std.proofs.Common.{ne_eqb}
 use mathlib.Core.Logic.{dite}
 use native.Mathlib.Decide.{ℕ_discrete}
 use Rattle.board_rule.specs.Sums.{total, times}
@@ -11,7 +12,8 @@ total_same f g (suc k) same = let e = total_same f g k (λ i h. same i (omega ar
 pub total_change : (f g : ℕ → ℕ) (m k : ℕ) → m < k → ((i : ℕ) → i ≢ m → g i ≡ f i) → total g k + f m ≡ total f k + g m
 total_change f g m zero h same = absurd (omega arith)
 total_change f g m (suc k) h same = dite (ℕ_discrete m k)
-    (λ (e : m ≡ k). let t = total_same f g k (λ i l. same i (λ x. omega arith)) in let a : f m ≡ f k = ap f e in let b : g m ≡ g k = ap g e in omega arith)
+    (λ (e : m ≡ k). let t = total_same f g k (λ i l. same i (λ x. omega arith)) in let a : f m ≡ f k = ap f e in
+    let b : g m ≡ g k = ap g e in omega arith)
     (λ (e : m ≢ k). let t = total_change f g m k (omega arith) same in let a = same k (λ x. e (sym x)) in omega arith)
 
 pub total_zero : (f : ℕ → ℕ) (k : ℕ) → ((i : ℕ) → i < k → f i ≡ 0) → total f k ≡ 0
@@ -28,4 +30,5 @@ pub times_here : (n : ℕ) (xs : List ℕ) → times n (n ∷ xs) ≡ 1 + times 
 times_here n xs = ap (λ b. cond b 1 0 + times n xs) (eq-eqb n n refl)
 
 pub times_else : (n i : ℕ) (xs : List ℕ) → i ≢ n → times i (n ∷ xs) ≡ times i xs
-times_else n i xs other = ap (λ b. cond b 1 0 + times i xs) (ne_eqb n i (λ e. other (sym e))) ∙ (let e : 0 + times i xs ≡ times i xs = omega arith in e)
+times_else n i xs other = ap (λ b. cond b 1 0 + times i xs) (ne_eqb n i (λ e. other (sym e)))
+    ∙ (let e : 0 + times i xs ≡ times i xs = omega arith in e)

@@ -1,5 +1,6 @@
 -- Laws of `specs/EventRule.antt`: how many tickets are drawn.
-use Rattle.std.proofs.Common.{◌≡◌, ◌≢◌, ℕ, zero, suc, ◌+◌, ◌*◌, ◌<◌, ◌≤◌, Bool, true, false, true≢false, cond, eqb, List, length, set, get_or, refl, sym, ap, ◌∙◌, subst, arith, eq-eqb, ne_eqb, suc-mul, get_or-set_other}
+use Rattle.std.proofs.Common.{◌≡◌, ◌≢◌, ℕ, zero, suc, ◌+◌, ◌*◌, ◌<◌, ◌≤◌, Bool, true, false, true≢false, cond, eqb, List}
+use Rattle.std.proofs.Common.{length, set, get_or, refl, sym, ap, ◌∙◌, subst, arith, eq-eqb, ne_eqb, suc-mul, get_or-set_other}
 use mathlib.Core.Logic.{dite}
 use native.Mathlib.Decide.{ℕ_discrete}
 use Rattle.board_rule.specs.declared.view.NodeView.{NodeView}
@@ -60,7 +61,8 @@ one_most : (b : Bool) → cond b 1 0 ≤ 1
 one_most true = omega arith
 one_most false = omega arith
 
-phase_most : (n c next l : ℕ) (f : Phase) → PhaseOk n c next f → (f ≡ Idle → next ≤ l) → ((f ≡ Idle → ⊥) → c < l) → 2 * next + phase_drawn f ≤ 2 * l
+phase_most : (n c next l : ℕ) (f : Phase) → PhaseOk n c next f → (f ≡ Idle → next ≤ l) → ((f ≡ Idle → ⊥) → c < l)
+    → 2 * next + phase_drawn f ≤ 2 * l
 phase_most n c next l Idle ok i o = let a = i refl in omega arith
 phase_most n c next l Awake ok i o = let a = o (λ e. (cc)) in omega arith
 phase_most n c next l StartDrawn ok i o = let a = o (λ e. (cc)) in omega arith
@@ -91,13 +93,16 @@ product n c = grind arith
 
 module _ (p : Lay) where
   drawn_here : (g : Whole) (m : ℕ) (y : NodeView) → m ≢ p.driver → drawn p (with_node g m y) m ≡ node_drawn y
-  drawn_here g m y o = ap (λ (z : NodeView). cond (eqb m p.driver) 0 (node_drawn z)) (put_here g.nodes m y) ∙ ap (λ b. cond b 0 (node_drawn y)) (ne_eqb m p.driver o)
+  drawn_here g m y o = ap (λ (z : NodeView). cond (eqb m p.driver) 0 (node_drawn z)) (put_here g.nodes m y)
+      ∙ ap (λ b. cond b 0 (node_drawn y)) (ne_eqb m p.driver o)
 
   drawn_at : (g : Whole) (m : ℕ) (x : NodeView) → m ≢ p.driver → g.nodes m ≡ x → drawn p g m ≡ node_drawn x
   drawn_at g m x o e = ap (λ b. cond b 0 (node_drawn (g.nodes m))) (ne_eqb m p.driver o) ∙ ap node_drawn e
 
-  change : (g : Whole) (m : ℕ) (x y : NodeView) → m < nodes p → m ≢ p.driver → g.nodes m ≡ x → total (drawn p (with_node g m y)) (nodes p) + node_drawn x ≡ total (drawn p g) (nodes p) + node_drawn y
-  change g m x y inside follows same = let a = total_change (drawn p g) (drawn p (with_node g m y)) m (nodes p) inside (λ i o. ap (λ (z : NodeView). cond (eqb i p.driver) 0 (node_drawn z)) (put_else g.nodes m i y o)) in
+  change : (g : Whole) (m : ℕ) (x y : NodeView) → m < nodes p → m ≢ p.driver → g.nodes m ≡ x
+      → total (drawn p (with_node g m y)) (nodes p) + node_drawn x ≡ total (drawn p g) (nodes p) + node_drawn y
+  change g m x y inside follows same = let a = total_change (drawn p g) (drawn p (with_node g m y)) m (nodes p) inside
+      (λ i o. ap (λ (z : NodeView). cond (eqb i p.driver) 0 (node_drawn z)) (put_else g.nodes m i y o)) in
       let b = drawn_here g m y follows in let c = drawn_at g m x follows same in omega arith
 
   -- all parts of the rule but the counts
@@ -108,18 +113,24 @@ module _ (p : Lay) where
   abbrev pub Counted : Whole → ℕ → Type 0
   Counted g w = w + (total (drawn_before p) (nodes p) + 5 * first p) ≤ total (drawn p g) (nodes p) + lead_drawn g.lead
 
-  pub count_node : (g : Whole) (w k m : ℕ) (x y : NodeView) → m < nodes p → m ≢ p.driver → g.nodes m ≡ x → node_drawn x + k ≤ node_drawn y → Counted g w → Counted (with_node g m y) (w + k)
+  pub count_node : (g : Whole) (w k m : ℕ) (x y : NodeView) → m < nodes p → m ≢ p.driver → g.nodes m ≡ x → node_drawn x + k ≤ node_drawn y
+      → Counted g w → Counted (with_node g m y) (w + k)
   count_node g w k m x y inside follows same more a = let b = change g m x y inside follows same in omega arith
 
-  pub count_lead : (g : Whole) (w k : ℕ) (x : LeadView) → lead_drawn g.lead + k ≤ lead_drawn x → Counted g w → Counted (with_lead g x) (w + k)
+  pub count_lead : (g : Whole) (w k : ℕ) (x : LeadView) → lead_drawn g.lead + k ≤ lead_drawn x → Counted g w
+      → Counted (with_lead g x) (w + k)
   count_lead g w k x more a = omega arith
 
   -- a step on an activation word: of a follower, and of the driver's seat
-  pub events_node : (g : Whole) (ws : List ℕ) (i v m : ℕ) (x y : NodeView) → m < nodes p → m ≢ p.driver → g.nodes m ≡ x → node_drawn x ≤ node_drawn y → QuietNode g.lead.cycle x y → 0 < i → i ≤ nodes p + nodes p → Events p g ws → Events p (with_node g m y) (set ws i v)
+  pub events_node : (g : Whole) (ws : List ℕ) (i v m : ℕ) (x y : NodeView) → m < nodes p → m ≢ p.driver → g.nodes m ≡ x
+      → node_drawn x ≤ node_drawn y → QuietNode g.lead.cycle x y → 0 < i → i ≤ nodes p + nodes p → Events p g ws
+      → Events p (with_node g m y) (set ws i v)
   events_node g ws i v m x y inside follows same more quiet low high e =
       let word = words_quiet p ws v i low high in let mark = marks_node p g m x y same quiet in
-      let logs = subst (λ (k : Marks × Records). Logs p g.lead.cycle g.late g.past g.inside k.0 k.1) (λ j. (sym mark j, sym word j)) (logs_of g ws e) in record {
-        count = let a = count_node g (get_or ws 0 0) 0 m x y inside follows same (omega arith) e.count in let b = get_or-set_other ws i 0 v 0 (λ z. omega arith) in omega arith;
+      let logs = subst (λ (k : Marks × Records). Logs p g.lead.cycle g.late g.past g.inside k.0 k.1) (λ j. (sym mark j, sym word j))
+      (logs_of g ws e) in record {
+        count = let a = count_node g (get_or ws 0 0) 0 m x y inside follows same (omega arith) e.count in
+            let b = get_or-set_other ws i 0 v 0 (λ z. omega arith) in omega arith;
         checks = e.checks;
         checking = e.checking;
         fresh = e.fresh;
@@ -128,11 +139,14 @@ module _ (p : Lay) where
         inside = logs.inside;
       }
 
-  pub events_lead : (g : Whole) (ws : List ℕ) (i v : ℕ) (x : LeadView) → lead_drawn g.lead ≤ lead_drawn x → QuietLead g.lead x → 0 < i → i ≤ nodes p + nodes p → Events p g ws → Events p (with_lead g x) (set ws i v)
+  pub events_lead : (g : Whole) (ws : List ℕ) (i v : ℕ) (x : LeadView) → lead_drawn g.lead ≤ lead_drawn x → QuietLead g.lead x → 0 < i
+      → i ≤ nodes p + nodes p → Events p g ws → Events p (with_lead g x) (set ws i v)
   events_lead g ws i v x more quiet low high e =
       let word = words_quiet p ws v i low high in let mark = marks_lead p g x quiet in
-      let logs = subst (λ (k : ℕ × Marks × Records). Logs p k.0 g.late g.past g.inside k.1 k.2) (λ j. (sym quiet.cycle j, sym mark j, sym word j)) (logs_of g ws e) in record {
-        count = let a = count_lead g (get_or ws 0 0) 0 x (omega arith) e.count in let b = get_or-set_other ws i 0 v 0 (λ z. omega arith) in omega arith;
+      let logs = subst (λ (k : ℕ × Marks × Records). Logs p k.0 g.late g.past g.inside k.1 k.2)
+      (λ j. (sym quiet.cycle j, sym mark j, sym word j)) (logs_of g ws e) in record {
+        count = let a = count_lead g (get_or ws 0 0) 0 x (omega arith) e.count in let b = get_or-set_other ws i 0 v 0 (λ z. omega arith) in
+            omega arith;
         checks = (λ j. count_by is_tick g.past + cond (quiet.checked j) 1 0) ∙ e.checks ∙ sym quiet.checks;
         checking = λ z. quiet.checked ∙ e.checking (sym quiet.checking ∙ z);
         fresh = λ z. e.fresh (sym quiet.begun ∙ z);
@@ -164,7 +178,8 @@ module _ (p : Lay) where
       lead_most : (d : Drive) → g.lead.drive ≡ d → lead_drawn g.lead ≤ 5 * last p
       lead_most d e = by (is_between g.lead.drive) refl
         where
-          by : (b : Bool) → is_between g.lead.drive ≡ b → 5 * g.lead.cycle + cond b 0 (drive_drawn g.lead.drive + cond g.lead.checked 1 0) ≤ 5 * last p
+          by : (b : Bool) → is_between g.lead.drive ≡ b → 5 * g.lead.cycle + cond b 0
+              (drive_drawn g.lead.drive + cond g.lead.checked 1 0) ≤ 5 * last p
           by true q = let z = a.early in omega arith
           by false q = let z = a.within q in let h = drive_most g.lead.drive in let k = one_most g.lead.checked in omega arith
 
@@ -173,11 +188,13 @@ module _ (p : Lay) where
           (λ q. let z : drawn p g k ≡ 0 = ap (λ b. cond b 0 (node_drawn (g.nodes k))) (eq-eqb k p.driver q) in omega arith)
           (λ q. let z : drawn p g k ≡ node_drawn (g.nodes k) = ap (λ b. cond b 0 (node_drawn (g.nodes k))) (ne_eqb k p.driver q) in
           let y : drawn_before p k ≡ 2 * first p = ap (λ b. cond b 0 (2 * first p)) (ne_eqb k p.driver q) in
-          let x : cond (eqb k p.driver) 0 (2 * p.shape.cycles) ≡ 2 * p.shape.cycles = ap (λ b. cond b 0 (2 * p.shape.cycles)) (ne_eqb k p.driver q) in
+          let x : cond (eqb k p.driver) 0 (2 * p.shape.cycles) ≡ 2 * p.shape.cycles =
+          ap (λ b. cond b 0 (2 * p.shape.cycles)) (ne_eqb k p.driver q) in
           let m = follower k h q in omega arith)
         where
           follower : (k : ℕ) → k < nodes p → k ≢ p.driver → node_drawn (g.nodes k) ≤ 2 * last p
-          follower k h q = phase_most (length (p.targets k)) g.lead.cycle (g.nodes k).next (last p) (g.nodes k).phase (a.followers k h q) (λ e. idle_most e) (λ busy. busy_most busy)
+          follower k h q = phase_most (length (p.targets k)) g.lead.cycle (g.nodes k).next (last p) (g.nodes k).phase (a.followers k h q)
+              (λ e. idle_most e) (λ busy. busy_most busy)
             where
               busy_most : ((g.nodes k).phase ≡ Idle → ⊥) → g.lead.cycle < last p
               busy_most busy = in_cycle g.lead.drive refl (λ t. busy (a.resting (between_resets g.lead.drive t) k h q).1)
@@ -187,4 +204,6 @@ module _ (p : Lay) where
                 where
                   by : (b : Bool) → is_between g.lead.drive ≡ b → (g.nodes k).next ≤ last p
                   by true t = let z = (a.resting (between_resets g.lead.drive t) k h q).0 in let y = a.early in omega arith
-                  by false t = let z = a.within t in let ok : PhaseOk (length (p.targets k)) g.lead.cycle (g.nodes k).next Idle = subst (λ (f : Phase). PhaseOk (length (p.targets k)) g.lead.cycle (g.nodes k).next f) e (a.followers k h q) in let w = ok.1 in omega arith
+                  by false t = let z = a.within t in let ok : PhaseOk (length (p.targets k)) g.lead.cycle (g.nodes k).next Idle =
+                      subst (λ (f : Phase). PhaseOk (length (p.targets k)) g.lead.cycle (g.nodes k).next f) e (a.followers k h q) in
+                      let w = ok.1 in omega arith

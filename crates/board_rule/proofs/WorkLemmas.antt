@@ -1,5 +1,6 @@
 -- The steps of a follower at its work: it ends, it draws a ticket, it stores an event.
-use Rattle.std.proofs.Common.{◌≡◌, ◌≢◌, ℕ, ◌+◌, ◌*◌, ◌<◌, true, false, cond, eqb, List, [], length, set, refl, sym, ap, ◌∙◌, subst, arith, eq-eqb, get_or-set_other}
+use Rattle.std.proofs.Common.{◌≡◌, ◌≢◌, ℕ, ◌+◌, ◌*◌, ◌<◌, true, false, cond, eqb, List, [], length, set, refl, sym, ap, ◌∙◌}
+use Rattle.std.proofs.Common.{subst, arith, eq-eqb, get_or-set_other}
 use mathlib.Core.Logic.{dite}
 use mathlib.Core.Option.{some}
 use native.Mathlib.Decide.{ℕ_discrete}
@@ -23,7 +24,8 @@ use Rattle.board_rule.specs.Steps.{Has, IsGivenOn}
 use Rattle.board_rule.specs.Plays.{Turns}
 use Rattle.board_rule.proofs.RunLemmas.{Sums, keeps as stays, finishes}
 use Rattle.board_rule.proofs.MarkLemmas.{quiet_phase}
-use Rattle.board_rule.proofs.FollowerLemmas.{rest_at, owing_at, stage_at, rest_put, owing_put, stage_put, elsewhere, words_run, not_resetting, active_node, same_node, holds_node_by}
+use Rattle.board_rule.proofs.FollowerLemmas.{rest_at, owing_at, stage_at, rest_put, owing_put, stage_put, elsewhere, words_run}
+use Rattle.board_rule.proofs.FollowerLemmas.{not_resetting, active_node, same_node, holds_node_by}
 use Rattle.board_rule.proofs.SpanLemmas.{node_over, node_begun, wired_in, over_at, begun_at, over_else, over_put, begun_put, early_word}
 use Rattle.board_rule.proofs.HolderLemmas.{is_ready, holder_follows}
 use Rattle.board_rule.proofs.PaceLemmas.{paces}
@@ -48,7 +50,14 @@ pub stores_start : Alike StartDrawn Running
 stores_start = record { rest = λ _. refl; owing = λ _. refl; stage = refl; now = λ _ _ _ h. h; ok = λ _ _ _ _ h. h; busy = λ e. (cc) }
 
 pub stores_finish : Alike FinishDrawn (Telling 0 false)
-stores_finish = record { rest = λ _. refl; owing = λ _. refl; stage = refl; now = λ _ _ _ h. h; ok = λ _ _ _ some h. (h, some); busy = λ e. (cc) }
+stores_finish = record {
+  rest = λ _. refl;
+  owing = λ _. refl;
+  stage = refl;
+  now = λ _ _ _ h. h;
+  ok = λ _ _ _ some h. (h, some);
+  busy = λ e. (cc);
+}
 
 -- a word of another part is no activation word
 abbrev pub IsOther : Lay → ℕ → Type 0
@@ -62,7 +71,9 @@ later_is_other p i l n h = ((λ z. omega arith), (λ z. omega arith))
 
 module _ (p : Lay) {S : Type 0} where
   -- the activation rule after a step of the follower m to a phase that means the same
-  pub active_alike : (s : State S View) (r : Holds p s) (id m : ℕ) (v : View) (f h : Phase) (y : NodeView) (i x : ℕ) → get_elem? s.views id ≡ some v → Has p v m → Alike f h → (node_of v m).phase ≡ f → y.next ≡ (node_of v m).next → y.phase ≡ h → IsOther p i
+  pub active_alike : (s : State S View) (r : Holds p s) (id m : ℕ) (v : View) (f h : Phase) (y : NodeView) (i x : ℕ)
+      → get_elem? s.views id ≡ some v → Has p v m → Alike f h → (node_of v m).phase ≡ f → y.next ≡ (node_of v m).next → y.phase ≡ h
+      → IsOther p i
       → Activations p (with_node r.whole m y) (set s.words i x)
   active_alike s r id m v f h y i x at has like was next is other =
       let g = r.whole in let a = r.activations in let sound = r.seated.sound in
@@ -70,7 +81,8 @@ module _ (p : Lay) {S : Type 0} where
       let ts : List ℕ = p.targets m in
       let c : ℕ = g.lead.cycle in
       let was' : (g.nodes m).phase ≡ f = ap (λ (z : NodeView). z.phase) same ∙ was in
-      let ok : PhaseOk (length ts) c (g.nodes m).next f = subst (λ (k : Phase). PhaseOk (length ts) c (g.nodes m).next k) was' (a.followers m has.inside has.follows) in
+      let ok : PhaseOk (length ts) c (g.nodes m).next f =
+      subst (λ (k : Phase). PhaseOk (length ts) c (g.nodes m).next k) was' (a.followers m has.inside has.follows) in
       let cycle : (g.nodes m).next ≡ c = like.now (length ts) c (g.nodes m).next ok in
       let next' : y.next ≡ c = next ∙ sym (ap (λ (z : NodeView). z.next) same) ∙ cycle in
       let now = eq-eqb (g.nodes m).next c cycle in let now' = eq-eqb y.next c next' in
@@ -79,19 +91,28 @@ module _ (p : Lay) {S : Type 0} where
       let whole : Whole = with_node g m y in
       let ws : List ℕ = set s.words i x in
       let away = elsewhere p g m y in
-      let rest : (posts p whole).rest m ≡ (posts p g).rest m = rest_put p g m y has.follows ∙ (λ j. phase_rest ts (now' j) (is j)) ∙ like.rest ts ∙ sym (rest_at p g m has.follows ∙ (λ j. phase_rest ts (now j) (was' j))) in
-      let owing : (posts p whole).owing m ≡ (posts p g).owing m = owing_put p g m y has.follows ∙ ap (phase_owing ts) is ∙ like.owing ts ∙ sym (owing_at p g m has.follows ∙ ap (phase_owing ts) was') in
-      let stage : (posts p whole).stage m ≡ (posts p g).stage m = stage_put p g m y has.follows ∙ (λ j. phase_stage (now' j) (is j)) ∙ like.stage ∙ sym (stage_at p g m has.follows ∙ (λ j. phase_stage (now j) (was' j))) in
+      let rest : (posts p whole).rest m ≡ (posts p g).rest m = rest_put p g m y has.follows ∙ (λ j. phase_rest ts (now' j) (is j))
+      ∙ like.rest ts ∙ sym (rest_at p g m has.follows ∙ (λ j. phase_rest ts (now j) (was' j))) in
+      let owing : (posts p whole).owing m ≡ (posts p g).owing m = owing_put p g m y has.follows ∙ ap (phase_owing ts) is ∙ like.owing ts
+      ∙ sym (owing_at p g m has.follows ∙ ap (phase_owing ts) was') in
+      let stage : (posts p whole).stage m ≡ (posts p g).stage m = stage_put p g m y has.follows ∙ (λ j. phase_stage (now' j) (is j))
+      ∙ like.stage ∙ sym (stage_at p g m has.follows ∙ (λ j. phase_stage (now j) (was' j))) in
       let after : Sums p.shape c (posts p whole) ws = stays p.shape c (posts p g) (posts p whole) s.words ws
       (λ k l. dite (ℕ_discrete k m) (λ q. ap (posts p whole).rest q ∙ rest ∙ ap (posts p g).rest (sym q)) (λ q. away.rest k q))
       (λ k l. dite (ℕ_discrete k m) (λ q. ap (posts p whole).owing q ∙ owing ∙ ap (posts p g).owing (sym q)) (λ q. away.owing k q))
       (λ k l. dite (ℕ_discrete k m) (λ q. ap (posts p whole).stage q ∙ stage ∙ ap (posts p g).stage (sym q)) (λ q. away.stage k q))
-      (λ n l. get_or-set_other s.words i (pending_place p.shape n) x 0 (other n l).0) (λ n l. get_or-set_other s.words i (status_place p.shape n) x 0 (other n l).1) runs in
-      active_node p g s.words ws m y has.follows runs_on (subst (λ (k : Phase). PhaseOk (length ts) c y.next k) (sym is) (like.ok (length ts) c y.next (sound.tells m has.inside) next')) after a
+      (λ n l. get_or-set_other s.words i (pending_place p.shape n) x 0 (other n l).0)
+      (λ n l. get_or-set_other s.words i (status_place p.shape n) x 0 (other n l).1) runs in
+      active_node p g s.words ws m y has.follows runs_on
+      (subst (λ (k : Phase). PhaseOk (length ts) c y.next k) (sym is) (like.ok (length ts) c y.next (sound.tells m has.inside) next'))
+      after a
 
   -- a node that works stores FINISHED
-  pub finish_allowed : (slots id m : ℕ) (me : Me S View) (t : Trail) (after : ℕ → View) → Has p me.0 m → (node_of me.0 m).phase ≡ Running → IsGivenOn p me.0 m (node_of me.0 m).next → ((found : ℕ) → after found ≡ view_node me.0 m (record (node_of me.0 m) { phase = Done }) t)
-      → Allows (Holds p) slots id me (status_place p.shape m) (λ _. status_word_of 3 (node_of me.0 m).next) (λ _. Turns after me (status_word_of 3 (node_of me.0 m).next))
+  pub finish_allowed : (slots id m : ℕ) (me : Me S View) (t : Trail) (after : ℕ → View) → Has p me.0 m → (node_of me.0 m).phase ≡ Running
+      → IsGivenOn p me.0 m (node_of me.0 m).next → ((found : ℕ)
+      → after found ≡ view_node me.0 m (record (node_of me.0 m) { phase = Done }) t)
+      → Allows (Holds p) slots id me (status_place p.shape m) (λ _. status_word_of 3 (node_of me.0 m).next)
+      (λ _. Turns after me (status_word_of 3 (node_of me.0 m).next))
   finish_allowed slots id m me t after h phase given is_after s r _ at fits =
       let g = r.whole in let a = r.activations in let wide = r.seated.wide in
       let x : NodeView = node_of me.0 m in
@@ -99,7 +120,8 @@ module _ (p : Lay) {S : Type 0} where
       let ts : List ℕ = p.targets m in
       let c : ℕ = g.lead.cycle in
       let phase' : (g.nodes m).phase ≡ Running = ap (λ (y : NodeView). y.phase) same ∙ phase in
-      let ok : PhaseOk (length ts) c (g.nodes m).next Running = subst (λ (f : Phase). PhaseOk (length ts) c (g.nodes m).next f) phase' (a.followers m h.inside h.follows) in
+      let ok : PhaseOk (length ts) c (g.nodes m).next Running =
+      subst (λ (f : Phase). PhaseOk (length ts) c (g.nodes m).next f) phase' (a.followers m h.inside h.follows) in
       let cycle : x.next ≡ c = sym (ap (λ (y : NodeView). y.next) same) ∙ ok in
       let runs_on = not_resetting p g s.words m a h.inside h.follows (λ e. idle_not (sym e ∙ phase')) in
       let runs = words_run p g g.lead.drive s.words runs_on a.laid in
@@ -112,7 +134,8 @@ module _ (p : Lay) {S : Type 0} where
       let rest' : (posts p whole).rest m ≡ ts = rest_put p g m new h.follows ∙ ap (λ b. cond b ts []) (eq-eqb x.next c cycle) in
       let owing' : (posts p whole).owing m ≡ [] = owing_put p g m new h.follows in
       let stage' : (posts p whole).stage m ≡ 2 = stage_put p g m new h.follows in
-      let finished = finishes p.shape c m (posts p g) (posts p whole) s.words h.inside wide (elsewhere p g m new) (rest' ∙ sym rest) (owing' ∙ sym owing) stage stage' runs in
+      let finished = finishes p.shape c m (posts p g) (posts p whole) s.words h.inside wide (elsewhere p g m new) (rest' ∙ sym rest)
+      (owing' ∙ sym owing) stage stage' runs in
       let ws : List ℕ = set s.words (status_place p.shape m) (status_word_of 3 c) in
       let w = wired_in p g s.words s.views r.seated in
       let now_begun : node_begun x ≡ x.next + 1 = ap (λ f. x.next + phase_begun f) phase in
@@ -125,9 +148,12 @@ module _ (p : Lay) {S : Type 0} where
         keeps,
         tt,
         subst (λ k. Holds p (stepped s (status_place p.shape m) (status_word_of 3 k) id me.1 (view_node me.0 m new t) keeps)) (sym cycle)
-            (holds_node_by p s r id m (status_place p.shape m) (status_word_of 3 c) me.0 me.1 new t at h (omega arith) (omega arith) (omega arith) (quiet_phase c x Running Done phase refl refl refl)
+            (holds_node_by p s r id m (status_place p.shape m) (status_word_of 3 c) me.0 me.1 new t at h (omega arith) (omega arith)
+            (omega arith) (quiet_phase c x Running Done phase refl refl refl)
             (active_node p g s.words ws m new h.follows runs_on cycle finished a)
-            (buffers_finish p (spans p g) (spans p whole) g.ends g.expect s.words ws m w h.inside (paces p g s.words w a) ready (omega arith) (omega arith) (λ n l o. over_else p g m n new o) (λ n l. begun_put p g m n x new same (omega arith)) (early_word p s.words (status_place p.shape m) (status_word_of 3 c) (omega arith)) r.buffers)),
+            (buffers_finish p (spans p g) (spans p whole) g.ends g.expect s.words ws m w h.inside (paces p g s.words w a) ready
+            (omega arith) (omega arith) (λ n l o. over_else p g m n new o) (λ n l. begun_put p g m n x new same (omega arith))
+            (early_word p s.words (status_place p.shape m) (status_word_of 3 c) (omega arith)) r.buffers)),
         (sym (is_after (status_word_of 3 x.next)), refl),
       )
     where

@@ -1,5 +1,6 @@
 -- What each step of a writer on buffers allows.
-use Rattle.std.proofs.Common.{◌≡◌, ℕ, ◌+◌, ◌-◌, ◌*◌, ◌/◌, ◌<◌, ◌≤◌, inl, inr, ⊎_elim, true, false, cond, ltb, List, [], length, set, get_or, refl, sym, ap, ◌∙◌, subst, arith, length-set}
+use Rattle.std.proofs.Common.{◌≡◌, ℕ, ◌+◌, ◌-◌, ◌*◌, ◌/◌, ◌<◌, ◌≤◌, inl, inr, ⊎_elim, true, false, cond, ltb, List, []}
+use Rattle.std.proofs.Common.{length, set, get_or, refl, sym, ap, ◌∙◌, subst, arith, length-set}
 use lib.Seq.{set-get_or}
 use Rattle.atomic_table.specs.Table.{Me, keeps, Allows}
 use Rattle.pw_base.specs.declared.shape.ShapeLink.{ShapeLink}
@@ -21,13 +22,15 @@ use Rattle.board_rule.specs.Spans.{spans, holder, block_at}
 use Rattle.board_rule.specs.BoardRule.{Seated, Holds}
 use Rattle.board_rule.specs.EndViews.{link_at, pool_at, pool_of, writer_of, filler_of, write_of, block_of}
 use Rattle.board_rule.specs.WriterSteps.{write_cycle, LoadsAsWriter, loaded_as_writer, IsGivenBack, StoresHave, have_stored}
-use Rattle.board_rule.specs.BlockSteps.{fill_cycle, LoadsReaders, readers_loaded, StoresSample, sample_stored, StoresReaders, readers_stored}
+use Rattle.board_rule.specs.BlockSteps.{fill_cycle, LoadsReaders, readers_loaded, StoresSample, sample_stored, StoresReaders}
+use Rattle.board_rule.specs.BlockSteps.{readers_stored}
 use Rattle.board_rule.specs.Plays.{Turns, Learns}
 use Rattle.board_rule.proofs.LayoutLemmas.{count_is}
 use Rattle.board_rule.proofs.PlainLemmas.{no_late, one_lag}
 use Rattle.board_rule.proofs.PaceLemmas.{paces}
 use Rattle.board_rule.proofs.SpanLemmas.{wired_in}
-use Rattle.board_rule.proofs.HolderLemmas.{got, link_there, pool_there, pool_here, now_running, new_write, new_block, write_step, block_step}
+use Rattle.board_rule.proofs.HolderLemmas.{got, link_there, pool_there, pool_here, now_running, new_write, new_block, write_step}
+use Rattle.board_rule.proofs.HolderLemmas.{block_step}
 use Rattle.board_rule.proofs.KeepLemmas.{holds_ends}
 use Rattle.board_rule.proofs.AreaLemmas.{link_is as area_is, finds_need, wrote_late, loads_as_writer, stores_have}
 use Rattle.board_rule.proofs.FillingLemmas.{finds_none, frees, CanFill, fills, announces}
@@ -45,18 +48,22 @@ pub id_of : (status id : ℕ) → status < 4294967296 → io_id_in (io_word_of s
 id_of status id h = let z : (status + 4294967296 * id) / 4294967296 ≡ id = omega arith in z
 
 module _ (p : Lay) {S : Type 0} (slots id : ℕ) (me : Me S View) (after : ℕ → View) (says : ℕ → Type 0) where
-  pub load_writer_allowed : (l : ℕ) → LoadsAsWriter p me.0 l → ((found : ℕ) → after found ≡ loaded_as_writer p me.0 l) → ((found : ℕ) → found ≡ io_word_of 1 (io_id_in found) → IsGivenBack p me.0 l (io_id_in found) → says found)
+  pub load_writer_allowed : (l : ℕ) → LoadsAsWriter p me.0 l → ((found : ℕ) → after found ≡ loaded_as_writer p me.0 l)
+      → ((found : ℕ) → found ≡ io_word_of 1 (io_id_in found) → IsGivenBack p me.0 l (io_id_in found) → says found)
       → Allows (Holds p) slots id me (io_place p.shape l 0) (λ n. n) (Learns after says me)
   load_writer_allowed l h is_after it s r _ at fits =
-      let g = r.whole in let w = wired_in p g s.words s.views r.seated in let k : ShapeLink = link_at p l in let there = link_there p l h.0.0 in let m : ℕ = writer_of p l in
+      let g = r.whole in let w = wired_in p g s.words s.views r.seated in let k : ShapeLink = link_at p l in
+      let there = link_there p l h.0.0 in let m : ℕ = writer_of p l in
       let now = now_running p s r id false me.0 m at h.0.2 h.0.3 in let run = now.1 in let c = now.0 in
-      let is : g.ends.writes l ≡ write_of me.0 l = sym (got me.0.writes l (g.ends.writes l) (unwritten 0) ((r.seated.knows id me.0 at).ends.of_write l k there now.2)) in
+      let is : g.ends.writes l ≡ write_of me.0 l = sym
+      (got me.0.writes l (g.ends.writes l) (unwritten 0) ((r.seated.knows id me.0 at).ends.of_write l k there now.2)) in
       let paced = paces p g s.words w r.activations in let b = r.buffers in let sp = spans p g in
       let o = area_is p sp g.ends g.expect s.words w paced b l k there in let wt = o.writer_turn in let w₀ = wt.0 in let w₁ = wt.1 in
       let loaded : (g.ends.writes l).loaded ≡ (sp m).over = ap (λ (y : WriteView). y.loaded) is ∙ h.1 ∙ sym c in
       let new = loads_as_writer p sp g.ends g.expect s.words w paced b l k there run loaded in
       let i : ℕ = io_place p.shape l 0 in let found : ℕ = get_or s.words i 0 in
-      let word : found ≡ io_word_of 1 (g.ends.writes l).id = finds_need p sp g.ends g.expect s.words w paced b l k there run (omega arith) in
+      let word : found ≡ io_word_of 1 (g.ends.writes l).id =
+      finds_need p sp g.ends g.expect s.words w paced b l k there run (omega arith) in
       let number : io_id_in found ≡ (g.ends.writes l).id = ap io_id_in word ∙ id_of 1 (g.ends.writes l).id (omega arith) in
       let first_low = paced.first m (w.from_in l k there) in
       let pool = pool_here p w l k there in
@@ -65,15 +72,19 @@ module _ (p : Lay) {S : Type 0} (slots id : ℕ) (me : Me S View) (after : ℕ �
         keeps,
         tt,
         holds_ends p s r id i found (loaded_as_writer p me.0 l) me.1 (new_write p g.ends l y) (inl (w.io_in l k there))
-            (write_step p g s.words (set s.words i found) s.views id l k me.0 y at (length-set s.words i found) there now.2 (now.4 refl) r.seated)
-            (unread_word s.words i (λ ws. Buffers p sp (new_write p g.ends l y) g.expect ws) (subst (λ (z : WriteView). Buffers p sp (new_write p g.ends l z) g.expect s.words) (λ j. record (is j) { loaded = c j + 1 }) new)),
+            (write_step p g s.words (set s.words i found) s.views id l k me.0 y at (length-set s.words i found) there now.2
+            (now.4 refl) r.seated)
+            (unread_word s.words i (λ ws. Buffers p sp (new_write p g.ends l y) g.expect ws)
+            (subst (λ (z : WriteView). Buffers p sp (new_write p g.ends l z) g.expect s.words)
+            (λ j. record (is j) { loaded = c j + 1 }) new)),
         (
           sym (is_after found),
           refl,
           it found (word ∙ ap (io_word_of 1) (sym number)) (
             number ∙ ap (λ (z : WriteView). z.id) is ∙ ap (stored_id (write_of me.0 l)) (sym (no_late p w l)),
             (λ e. number ∙ o.unnamed (omega arith)),
-            (λ e. let z = wrote_late p sp g.ends g.expect s.words w paced b l k there (omega arith) (pool_of p l) (pool_at p (pool_of p l)) pool.0 pool.1 in omega arith),
+            (λ e. let z = wrote_late p sp g.ends g.expect s.words w paced b l k there (omega arith) (pool_of p l)
+                (pool_at p (pool_of p l)) pool.0 pool.1 in omega arith),
           ),
         ),
       )
@@ -81,31 +92,44 @@ module _ (p : Lay) {S : Type 0} (slots id : ℕ) (me : Me S View) (after : ℕ �
   pub store_have_allowed : (l num : ℕ) → StoresHave p me.0 l num → ((found : ℕ) → after found ≡ have_stored p me.0 l num)
       → Allows (Holds p) slots id me (io_place p.shape l 0) (λ _. io_word_of 2 num) (λ _. Turns after me (io_word_of 2 num))
   store_have_allowed l num h is_after s r _ at fits =
-      let g = r.whole in let w = wired_in p g s.words s.views r.seated in let k : ShapeLink = link_at p l in let there = link_there p l h.0.0 in let m : ℕ = writer_of p l in
-      let now = now_running p s r id false me.0 m at h.0.2 h.0.3 in let run = now.1 in let c = now.0 in let ks = (r.seated.knows id me.0 at).ends in
+      let g = r.whole in let w = wired_in p g s.words s.views r.seated in let k : ShapeLink = link_at p l in
+      let there = link_there p l h.0.0 in let m : ℕ = writer_of p l in
+      let now = now_running p s r id false me.0 m at h.0.2 h.0.3 in let run = now.1 in let c = now.0 in
+      let ks = (r.seated.knows id me.0 at).ends in
       let is : g.ends.writes l ≡ write_of me.0 l = sym (got me.0.writes l (g.ends.writes l) (unwritten 0) (ks.of_write l k there now.2)) in
       let q : ℕ = pool_of p l in let x : PoolShape = pool_at p q in let pool = pool_here p w l k there in
-      let blk : g.ends.blocks q num ≡ (let z : BlockView = Out (write_cycle p me.0 l + 1) in z) = sym (got me.0.blocks (block_at p q num) (g.ends.blocks q num) Free (ks.of_block q num x pool.0 h.3 (ap (holder p) pool.2 ∙ now.2))) ∙ h.4 in
-      let paced = paces p g s.words w r.activations in let sp = spans p g in let i : ℕ = io_place p.shape l 0 in let word : ℕ = io_word_of 2 num in
-      let new = stores_have p sp g.ends g.expect s.words w paced r.buffers l k there num q x pool.0 pool.1 (room_in p g s.words s.views r.seated) run (ap (λ (z : WriteView). z.loaded) is ∙ h.1 ∙ ap (λ n. n + 1) (sym c)) (ap (λ (z : WriteView). z.stored) is ∙ h.2 ∙ sym c) h.3
+      let blk : g.ends.blocks q num ≡ (let z : BlockView = Out (write_cycle p me.0 l + 1) in z) =
+      sym (got me.0.blocks (block_at p q num) (g.ends.blocks q num) Free
+      (ks.of_block q num x pool.0 h.3 (ap (holder p) pool.2 ∙ now.2))) ∙ h.4 in
+      let paced = paces p g s.words w r.activations in let sp = spans p g in let i : ℕ = io_place p.shape l 0 in
+      let word : ℕ = io_word_of 2 num in
+      let new = stores_have p sp g.ends g.expect s.words w paced r.buffers l k there num q x pool.0 pool.1
+      (room_in p g s.words s.views r.seated) run (ap (λ (z : WriteView). z.loaded) is ∙ h.1 ∙ ap (λ n. n + 1) (sym c))
+      (ap (λ (z : WriteView). z.stored) is ∙ h.2 ∙ sym c) h.3
       (blk ∙ ap (λ n. let z : BlockView = Out (n + 1) in z) (sym c)) in
       let y : WriteView = record (write_of me.0 l) { stored = write_cycle p me.0 l + 1; id = num; last = (write_of me.0 l).id } in (
         have_stored p me.0 l num,
         keeps,
         tt,
         holds_ends p s r id i word (have_stored p me.0 l num) me.1 (new_write p g.ends l y) (inl (w.io_in l k there))
-            (write_step p g s.words (set s.words i word) s.views id l k me.0 y at (length-set s.words i word) there now.2 (now.4 refl) r.seated)
-            (subst (λ (z : WriteView). Buffers p sp (new_write p g.ends l z) g.expect (set s.words i word)) (λ j. record { loaded = (is j).loaded; stored = c j + 1; id = num; last = (is j).id }) new),
+            (write_step p g s.words (set s.words i word) s.views id l k me.0 y at (length-set s.words i word) there now.2
+            (now.4 refl) r.seated)
+            (subst (λ (z : WriteView). Buffers p sp (new_write p g.ends l z) g.expect (set s.words i word))
+            (λ j. record { loaded = (is j).loaded; stored = c j + 1; id = num; last = (is j).id }) new),
         (sym (is_after word), refl),
       )
 
-  pub load_readers_allowed : (q n : ℕ) → LoadsReaders p me.0 q n → ((found : ℕ) → after found ≡ readers_loaded p me.0 q n found) → ((found : ℕ) → found ≡ 0 → says found)
+  pub load_readers_allowed : (q n : ℕ) → LoadsReaders p me.0 q n → ((found : ℕ) → after found ≡ readers_loaded p me.0 q n found)
+      → ((found : ℕ) → found ≡ 0 → says found)
       → Allows (Holds p) slots id me (readers_place p.shape q n) (λ k. k) (Learns after says me)
   load_readers_allowed q n h is_after it s r _ at fits =
-      let g = r.whole in let w = wired_in p g s.words s.views r.seated in let x : PoolShape = pool_at p q in let there = pool_there p q h.0.0 in let m : ℕ = filler_of p q in
+      let g = r.whole in let w = wired_in p g s.words s.views r.seated in let x : PoolShape = pool_at p q in
+      let there = pool_there p q h.0.0 in let m : ℕ = filler_of p q in
       let now = now_running p s r id false me.0 m at h.0.3 h.0.4 in let run = now.1 in let c = now.0 in
       let one = one_lag p w x in let due : fill_cycle p me.0 q + 1 - lag p x ≡ (spans p g m).over = omega arith in
-      let is : g.ends.blocks q n ≡ (let z : BlockView = Out (spans p g m).over in z) = sym (got me.0.blocks (block_at p q n) (g.ends.blocks q n) Free ((r.seated.knows id me.0 at).ends.of_block q n x there h.0.1 now.2)) ∙ h.2 ∙ ap (λ k. let z : BlockView = Out k in z) due in
+      let is : g.ends.blocks q n ≡ (let z : BlockView = Out (spans p g m).over in z) =
+      sym (got me.0.blocks (block_at p q n) (g.ends.blocks q n) Free
+      ((r.seated.knows id me.0 at).ends.of_block q n x there h.0.1 now.2)) ∙ h.2 ∙ ap (λ k. let z : BlockView = Out k in z) due in
       let paced = paces p g s.words w r.activations in let sp = spans p g in
       let i : ℕ = readers_place p.shape q n in let found : ℕ = get_or s.words i 0 in
       let none = finds_none p sp g.ends g.expect s.words w paced r.buffers q n x there h.0.1 is run in
@@ -116,51 +140,71 @@ module _ (p : Lay) {S : Type 0} (slots id : ℕ) (me : Me S View) (after : ℕ �
         keeps,
         tt,
         holds_ends p s r id i found freed me.1 (new_block p g.ends q n Free) (inr (w.readers_in q n x there h.0.1).0)
-            (block_step p g s.words (set s.words i found) s.views id q n x me.0 Free at (length-set s.words i found) there h.0.1 now.2 (now.4 refl) r.seated)
+            (block_step p g s.words (set s.words i found) s.views id q n x me.0 Free at (length-set s.words i found) there h.0.1 now.2
+            (now.4 refl) r.seated)
             (unread_word s.words i (λ ws. Buffers p sp (new_block p g.ends q n Free) g.expect ws) new),
         (sym (is_after found ∙ same), refl, it found none),
       )
 
   -- the samples of this cycle
   samples_now : (e : Samples) (c q : ℕ) → first p ≤ c → samples_of p e (c + 1) q ≡ samples_in p e c q
-  samples_now e c q h = let a : ltb (first p) (c + 1) ≡ true = (grind arith) in let b : c + 1 - 1 ≡ c = omega arith in (λ i. cond (a i) (samples_in p e (b i) q) [])
+  samples_now e c q h = let a : ltb (first p) (c + 1) ≡ true = (grind arith) in let b : c + 1 - 1 ≡ c = omega arith in
+      (λ i. cond (a i) (samples_in p e (b i) q) [])
 
   pub store_sample_allowed : (q n i word : ℕ) → StoresSample p me.0 q n i word → ((found : ℕ) → after found ≡ sample_stored p me.0 q n i)
       → Allows (Holds p) slots id me (sample_place p.shape q n i) (λ _. word) (λ _. Turns after me word)
   store_sample_allowed q n i word h is_after s r _ at fits =
-      let g = r.whole in let w = wired_in p g s.words s.views r.seated in let x : PoolShape = pool_at p q in let there = pool_there p q h.0.0 in let m : ℕ = filler_of p q in
+      let g = r.whole in let w = wired_in p g s.words s.views r.seated in let x : PoolShape = pool_at p q in
+      let there = pool_there p q h.0.0 in let m : ℕ = filler_of p q in
       let now = now_running p s r id false me.0 m at h.0.3 h.0.4 in let run = now.1 in let c = now.0 in let k = r.seated.knows id me.0 at in
-      let is : (a : ℕ) → a < x.blocks → g.ends.blocks q a ≡ block_of p me.0 q a = λ a l. sym (got me.0.blocks (block_at p q a) (g.ends.blocks q a) Free (k.ends.of_block q a x there l now.2)) in
+      let is : (a : ℕ) → a < x.blocks → g.ends.blocks q a ≡ block_of p me.0 q a =
+      λ a l. sym (got me.0.blocks (block_at p q a) (g.ends.blocks q a) Free (k.ends.of_block q a x there l now.2)) in
       let paced = paces p g s.words w r.activations in let sp = spans p g in let place : ℕ = sample_place p.shape q n i in
       let can : CanFill p sp g.ends g.expect s.words w paced r.buffers q n x there h.0.1 i = ⊎_elim (λ z. inl (is n h.0.1 ∙ z))
-      (λ z. inr (is n h.0.1 ∙ z.0, z.1, λ a l busy. subst (λ (y : ℕ × BlockView). (stamp y.0 y.1 < y.0 + 1) × (y.0 + 1 < stamp y.0 y.1 + lag p x)) (λ j. (sym c j, sym (is a l) j)) (z.2 a l (ap is_busy (sym (is a l)) ∙ busy)))) h.4 in
-      let new = fills p sp g.ends g.expect s.words w paced r.buffers q n x there h.0.1 i (room_in p g s.words s.views r.seated) run h.2 can in
+      (λ z. inr (
+        is n h.0.1 ∙ z.0,
+        z.1,
+        λ a l busy. subst
+            (λ (y : ℕ × BlockView). (stamp y.0 y.1 < y.0 + 1) × (y.0 + 1 < stamp y.0 y.1 + lag p x)) (λ j. (sym c j, sym (is a l) j))
+            (z.2 a l (ap is_busy (sym (is a l)) ∙ busy)),
+      )) h.4 in
+      let new = fills p sp g.ends g.expect s.words w paced r.buffers q n x there h.0.1 i
+      (room_in p g s.words s.views r.seated) run h.2 can in
       let low = paced.first m (let z = (w.readers_in q n x there h.0.1).0 in h.0.3.2) in
-      let text : packed (samples_of p g.expect ((sp m).over + 1) q) i ≡ word = ap (λ z. packed (samples_of p g.expect (z + 1) q) i) c ∙ ap (λ z. packed z i) (samples_now g.expect (fill_cycle p me.0 q) q (omega arith)) ∙ ap (λ (z : Samples). packed (samples_in p z (fill_cycle p me.0 q) q) i) (sym k.expects) ∙ sym h.3 in
+      let text : packed (samples_of p g.expect ((sp m).over + 1) q) i ≡ word = ap (λ z. packed (samples_of p g.expect (z + 1) q) i) c
+      ∙ ap (λ z. packed z i) (samples_now g.expect (fill_cycle p me.0 q) q (omega arith))
+      ∙ ap (λ (z : Samples). packed (samples_in p z (fill_cycle p me.0 q) q) i) (sym k.expects) ∙ sym h.3 in
       let y : BlockView = Filling (i + 1) in let r₁ = (w.readers_in q n x there h.0.1).0 in (
         sample_stored p me.0 q n i,
         keeps,
         tt,
         holds_ends p s r id place word (sample_stored p me.0 q n i) me.1 (new_block p g.ends q n y) (inr (omega arith))
-            (block_step p g s.words (set s.words place word) s.views id q n x me.0 y at (length-set s.words place word) there h.0.1 now.2 (now.4 refl) r.seated)
+            (block_step p g s.words (set s.words place word) s.views id q n x me.0 y at (length-set s.words place word) there h.0.1 now.2
+            (now.4 refl) r.seated)
             (subst (λ z. Buffers p sp (new_block p g.ends q n y) g.expect (set s.words place z)) text new),
         (sym (is_after word), refl),
       )
 
   pub store_readers_allowed : (q n : ℕ) → StoresReaders p me.0 q n → ((found : ℕ) → after found ≡ readers_stored p me.0 q n)
-      → Allows (Holds p) slots id me (readers_place p.shape q n) (λ _. length (pool_at p q).links) (λ _. Turns after me (length (pool_at p q).links))
+      → Allows (Holds p) slots id me (readers_place p.shape q n) (λ _. length (pool_at p q).links)
+      (λ _. Turns after me (length (pool_at p q).links))
   store_readers_allowed q n h is_after s r _ at fits =
-      let g = r.whole in let w = wired_in p g s.words s.views r.seated in let x : PoolShape = pool_at p q in let there = pool_there p q h.0.0 in let m : ℕ = filler_of p q in
+      let g = r.whole in let w = wired_in p g s.words s.views r.seated in let x : PoolShape = pool_at p q in
+      let there = pool_there p q h.0.0 in let m : ℕ = filler_of p q in
       let now = now_running p s r id false me.0 m at h.0.3 h.0.4 in let run = now.1 in let c = now.0 in
-      let is : g.ends.blocks q n ≡ (let z : BlockView = Filling x.words in z) = sym (got me.0.blocks (block_at p q n) (g.ends.blocks q n) Free ((r.seated.knows id me.0 at).ends.of_block q n x there h.0.1 now.2)) ∙ h.1 in
-      let paced = paces p g s.words w r.activations in let sp = spans p g in let i : ℕ = readers_place p.shape q n in let word : ℕ = length x.links in
+      let is : g.ends.blocks q n ≡ (let z : BlockView = Filling x.words in z) =
+      sym (got me.0.blocks (block_at p q n) (g.ends.blocks q n) Free
+      ((r.seated.knows id me.0 at).ends.of_block q n x there h.0.1 now.2)) ∙ h.1 in
+      let paced = paces p g s.words w r.activations in let sp = spans p g in let i : ℕ = readers_place p.shape q n in
+      let word : ℕ = length x.links in
       let new = announces p sp g.ends g.expect s.words w paced r.buffers q n x there h.0.1 (room_in p g s.words s.views r.seated) run is in
       let y : BlockView = Out (fill_cycle p me.0 q + 1) in (
         readers_stored p me.0 q n,
         keeps,
         tt,
         holds_ends p s r id i word (readers_stored p me.0 q n) me.1 (new_block p g.ends q n y) (inr (w.readers_in q n x there h.0.1).0)
-            (block_step p g s.words (set s.words i word) s.views id q n x me.0 y at (length-set s.words i word) there h.0.1 now.2 (now.4 refl) r.seated)
+            (block_step p g s.words (set s.words i word) s.views id q n x me.0 y at (length-set s.words i word) there h.0.1 now.2
+            (now.4 refl) r.seated)
             (subst (λ k. Buffers p sp (new_block p g.ends q n (Out (k + 1))) g.expect (set s.words i word)) c new),
         (sym (is_after word), refl),
       )

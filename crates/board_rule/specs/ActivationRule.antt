@@ -1,5 +1,6 @@
 -- The activation rule: between any two steps, the pending and status words of all nodes agree with the phases of all seats.
--- Source: PipeWire's documentation, "Graph Scheduling"; spa/graph/graph.h, spa_graph_state; the statuses' numbers are this project's.
+-- Source: PipeWire's documentation, "Graph Scheduling"; spa/graph/graph.h, spa_graph_state; the statuses' numbers are this
+-- project's.
 use Rattle.std.specs.Prelude.{◌≡◌, ◌≢◌, ℕ, suc, ◌-◌, ◌<◌, ◌≤◌, true, false, cond, eqb, List, length, slice_index}
 use Rattle.board_rule.specs.declared.view.Phase.TheVariants.{Idle}
 use Rattle.board_rule.specs.declared.view.Drive.{Drive}
@@ -10,16 +11,19 @@ use Rattle.pw_base.specs.Layout.{pending_place, status_place}
 use Rattle.board_rule.specs.Layout.{Lay, nodes, first, last}
 use Rattle.board_rule.specs.Left.{dependencies, left_of}
 use Rattle.board_rule.specs.Sums.{total, times}
-use Rattle.board_rule.specs.Phases.{phase_rest, phase_owing, phase_stage, PhaseOk, IsTold, drive_rest, drive_owing, drive_stage, is_resetting, is_between}
+use Rattle.board_rule.specs.Phases.{phase_rest, phase_owing, phase_stage, PhaseOk, IsTold, drive_rest, drive_owing, drive_stage}
+use Rattle.board_rule.specs.Phases.{is_resetting, is_between}
 use Rattle.board_rule.specs.View.{Whole}
 pub use Rattle.board_rule.specs.NodeRow.{Posts, NodeOk}
 
 module _ (p : Lay) where
   abbrev pub posts : Whole → Posts
   posts g = record {
-    rest = λ m. cond (eqb m p.driver) (drive_rest (p.targets m) g.lead.drive) (phase_rest (p.targets m) (eqb (g.nodes m).next g.lead.cycle) (g.nodes m).phase);
+    rest = λ m. cond (eqb m p.driver) (drive_rest (p.targets m) g.lead.drive)
+        (phase_rest (p.targets m) (eqb (g.nodes m).next g.lead.cycle) (g.nodes m).phase);
     owing = λ m. cond (eqb m p.driver) (drive_owing (p.targets m) g.lead.drive) (phase_owing (p.targets m) (g.nodes m).phase);
-    stage = λ m. cond (eqb m p.driver) (drive_stage g.lead.drive) (phase_stage (eqb (g.nodes m).next g.lead.cycle) (g.nodes m).phase);
+    stage = λ m. cond (eqb m p.driver) (drive_stage g.lead.drive)
+        (phase_stage (eqb (g.nodes m).next g.lead.cycle) (g.nodes m).phase);
   }
 
   -- the dependencies of n that have yet to take it down, and the phases that owe it
@@ -30,7 +34,8 @@ module _ (p : Lay) where
   debts s n = total (λ m. times n (s.owing m)) (nodes p)
 
   pub record Runs (c : ℕ) (s : Posts) (words : List ℕ) : Type 0 where
-    pub node : (n : ℕ) → n < nodes p → NodeOk c (slice_index words (pending_place p.shape n)) (slice_index words (status_place p.shape n)) (s.stage n) (left s n) (debts s n)
+    pub node : (n : ℕ) → n < nodes p → NodeOk c (slice_index words (pending_place p.shape n))
+        (slice_index words (status_place p.shape n)) (s.stage n) (left s n) (debts s n)
 
   -- the status word before the reset for the cycle c: FINISHED of the cycle before, at first NOT_TRIGGERED
   abbrev pub old_status : ℕ → ℕ
@@ -67,6 +72,7 @@ module _ (p : Lay) where
     pub early : g.lead.cycle ≤ last p
     pub within : is_between g.lead.drive ≡ false → g.lead.cycle < last p
     pub drive : DriveOk g.lead.drive
-    pub followers : (n : ℕ) → n < nodes p → n ≢ p.driver → PhaseOk (length (p.targets n)) g.lead.cycle (g.nodes n).next (g.nodes n).phase
+    pub followers : (n : ℕ) → n < nodes p → n ≢ p.driver
+        → PhaseOk (length (p.targets n)) g.lead.cycle (g.nodes n).next (g.nodes n).phase
     pub resting : is_resetting g.lead.drive ≡ true → (n : ℕ) → n < nodes p → n ≢ p.driver → IsIdle g.lead.cycle (g.nodes n)
     pub laid : Words g.lead.cycle (posts g) g.lead.drive words

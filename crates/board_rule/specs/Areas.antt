@@ -1,4 +1,5 @@
--- The two ends of a link and its io areas, by stamps: each end counts the cycles in which it has done a thing, so that nothing is reset between cycles.
+-- The two ends of a link and its io areas, by stamps: each end counts the cycles in which it has done a thing, so that
+-- nothing is reset between cycles.
 -- Source: spa/node/io.h, spa_io_buffers and spa_io_async_buffers; the stamps are this project's own.
 use Rattle.std.specs.Prelude.{◌≡◌, ℕ, ◌+◌, ◌%◌, ◌<◌, ◌≤◌, cond, eqb}
 use Rattle.pw_base.specs.declared.shape.ShapeLink.{ShapeLink}
@@ -27,14 +28,20 @@ pub record Span : Type 0 where
   pub over : ℕ
   pub begun : ℕ
 
--- A LINK of a pool of so many blocks, in an epoch from the cycle `first`. `turns`: a turn is inside the node's Running. Of the stores `a` ago, 0 or 1:
--- `have` and `need` say what the area holds, `unnamed` and `named` whether a block was ever stored there. `found`: the reader has the block that its area names
-pub record LinkOk (first blocks : ℕ) (k : ShapeLink) (writer reader : Span) (w : WriteView) (r : ReadView) (area : ℕ → ℕ) : Type 0 where
+-- A LINK of a pool of so many blocks, in an epoch from the cycle `first`. `turns`: a turn is inside the node's
+-- Running. Of the stores `a` ago, 0 or 1:
+-- `have` and `need` say what the area holds, `unnamed` and `named` whether a block was ever stored there. `found`: the
+-- reader has the block that its area names
+pub record LinkOk (first blocks : ℕ) (k : ShapeLink) (writer reader : Span) (w : WriteView) (r : ReadView)
+    (area : ℕ → ℕ) : Type 0 where
   pub writer_turn : (writer.over ≤ w.stored) × (w.stored ≤ w.loaded) × (w.loaded ≤ writer.begun)
-  pub reader_turn : (reader.over ≤ r.stored) × (r.stored ≤ r.lowered) × (r.lowered ≤ r.loaded) × (r.loaded ≤ reader.begun)
+  pub reader_turn : (reader.over ≤ r.stored) × (r.stored ≤ r.lowered) × (r.lowered ≤ r.loaded)
+      × (r.loaded ≤ reader.begun)
   pub later : (first ≤ w.stored) × (first ≤ r.stored)
-  pub have : (a : ℕ) → a ≤ late_by k → r.stored + a < w.stored + late_by k → area (area_of k (w.stored + a)) ≡ io_word_of 2 (stored_id w a)
-  pub need : (a : ℕ) → a ≤ late_by k → w.stored + late_by k ≤ r.stored + a → area (area_of k (w.stored + a)) ≡ io_word_of 1 (stored_id w a)
+  pub have : (a : ℕ) → a ≤ late_by k → r.stored + a < w.stored + late_by k
+      → area (area_of k (w.stored + a)) ≡ io_word_of 2 (stored_id w a)
+  pub need : (a : ℕ) → a ≤ late_by k → w.stored + late_by k ≤ r.stored + a
+      → area (area_of k (w.stored + a)) ≡ io_word_of 1 (stored_id w a)
   pub unnamed : (a : ℕ) → a ≤ late_by k → w.stored + late_by k ≤ first + a → stored_id w a ≡ no_block
   pub named : (a : ℕ) → a ≤ late_by k → first + a < w.stored + late_by k → stored_id w a < blocks
   pub found : (a : ℕ) → a ≤ late_by k → r.stored < r.loaded → w.stored + late_by k ≡ r.loaded + a → r.id ≡ stored_id w a

@@ -1,4 +1,5 @@
--- The rule of a board: one whole that every seat's view agrees with, whose words obey the activation rule, the event rule and the buffer rule.
+-- The rule of a board: one whole that every seat's view agrees with, whose words obey the activation rule, the event
+-- rule and the buffer rule.
 -- Source: this project's own.
 use Rattle.std.specs.Prelude.{◌≡◌, ◌≢◌, ℕ, ◌+◌, ◌<◌, ◌≤◌, List, length}
 use mathlib.Core.Option.{some}
@@ -16,7 +17,8 @@ use Rattle.board_rule.specs.BufferRule.{Buffers}
 use Rattle.board_rule.specs.Spans.{spans, KnowsEnds, AreStill}
 
 module _ (p : Lay) where
-  -- what the view at the place j among all views says of the whole: no two views of seats have the same number. A view with a greater number is
+  -- what the view at the place j among all views says of the whole: no two views of seats have the same number. A view
+  -- with a greater number is
   -- kept of a board that is closed, and then no seat is split off any more
   pub record Knows (g : Whole) (j : ℕ) (v : View) : Type 0 where
     pub kept : p.seats < v.number → p.seats < g.split

@@ -1,4 +1,5 @@
--- What a seat is asked of the blocks of a pool: the one that is filled in this cycle, and the one that has been out longest.
+-- What a seat is asked of the blocks of a pool: the one that is filled in this cycle, and the one that has been out
+-- longest.
 -- Source: this project's own.
 use Rattle.std.specs.Prelude.{◌≡◌, ℕ, ◌+◌, ◌<◌, ◌≤◌, ◌⊎◌, Bool, false, cond, eqb, leb, Option, Some, option_map, unwrap_or, length}
 use Rattle.pw_base.specs.Pools.{pools_of}
@@ -25,7 +26,8 @@ older before b _ = before
 module _ (p : Lay) where
   -- the pool is filled by a node of the seat
   abbrev pub HasPool : View → ℕ → Type 0
-  HasPool v q = (q < length (pools_of p.shape)) × HasNode false p v (filler_of p q) × (block_at p q (pool_at p q).blocks ≤ length v.blocks)
+  HasPool v q = (q < length (pools_of p.shape)) × HasNode false p v (filler_of p q)
+      × (block_at p q (pool_at p q).blocks ≤ length v.blocks)
 
   -- the block b was filled whole in this cycle, whether it is announced or not
   abbrev pub IsFilled : View → ℕ → ℕ → Type 0

@@ -1,4 +1,5 @@
--- A late check: what its loads and its store ask of the view of the driver's seat, and the view after them. Nodes are places.
+-- A late check: what its loads and its store ask of the view of the driver's seat, and the view after them. Nodes are
+-- places.
 -- Source: this project's own.
 use Rattle.std.specs.Prelude.{◌≡◌, ◌≢◌, ℕ, ◌<◌, true, cond, eqb, List, [], ◌∷◌, map, Contains}
 use Rattle.board_rule.specs.declared.view.Drive.TheVariants as drives
@@ -10,22 +11,27 @@ use Rattle.board_rule.specs.View.{view_trail}
 use Rattle.board_rule.specs.Steps.{HasNode, driven}
 use Rattle.board_rule.specs.Bits.{with_bit}
 
--- A CHECK loads the status of each follower once, in any order, and stores the set of those whose word was not FINISHED of its cycle
+-- A CHECK loads the status of each follower once, in any order, and stores the set of those whose word was not
+-- FINISHED of its cycle
 abbrev pub looked_at : List Found → List ℕ
 looked_at looks = map (λ f. f.node) looks
 
 abbrev pub Looks : Lay → View → ℕ → Type 0
-Looks p v n = HasNode true p v p.driver × (v.lead.drive ≡ drives.Checking) × (n < nodes p) × (n ≢ p.driver) × (Contains (looked_at v.trail.looks) (p.number n) → ⊥)
+Looks p v n = HasNode true p v p.driver × (v.lead.drive ≡ drives.Checking) × (n < nodes p) × (n ≢ p.driver)
+    × (Contains (looked_at v.trail.looks) (p.number n) → ⊥)
 
 abbrev pub looked : Lay → View → ℕ → ℕ → View
-looked p v n found = view_trail v (record v.trail { looks = record { node = p.number n; word = found } ∷ v.trail.looks })
+looked p v n found = view_trail v (record v.trail
+    { looks = record { node = p.number n; word = found } ∷ v.trail.looks })
 
 abbrev pub late_of : ℕ → List Found → ℕ
 late_of cycle [] = 0
-late_of cycle (f ∷ fs) = cond (eqb f.word (status_word_of 3 cycle)) (late_of cycle fs) (with_bit (late_of cycle fs) f.node)
+late_of cycle (f ∷ fs) = cond (eqb f.word (status_word_of 3 cycle)) (late_of cycle fs)
+    (with_bit (late_of cycle fs) f.node)
 
 abbrev pub StoresLate : Lay → View → ℕ → Type 0
-StoresLate p v late = HasNode true p v p.driver × (v.lead.drive ≡ drives.Checking) × (late ≡ late_of v.lead.cycle v.trail.looks)
+StoresLate p v late = HasNode true p v p.driver × (v.lead.drive ≡ drives.Checking)
+    × (late ≡ late_of v.lead.cycle v.trail.looks)
     × ((n : ℕ) → n < nodes p → n ≢ p.driver → Contains (looked_at v.trail.looks) (p.number n))
 
 abbrev pub late_stored : View → View

@@ -14,12 +14,23 @@ use Rattle.board_rule.specs.View.{Samples, resting, no_trail}
 abbrev pub HasEndedAll : Lay → View → Type 0
 HasEndedAll p v = Owns true p v p.driver × (v.lead.cycle ≡ last p)
 
--- the driver's view when no more seats are split off, and the view that is kept of a board: it is of no seat that steps, and knows the samples alone
+-- the driver's view when no more seats are split off, and the view that is kept of a board: it is of no seat that
+-- steps, and knows the samples alone
 abbrev pub last_view : Lay → View → View
 last_view p v = record v { split = suc p.seats }
 
 abbrev pub kept_view : Lay → View → View
-kept_view p v = record { number = suc p.seats; split = 0; lead = resting 0; nodes = []; writes = []; reads = []; blocks = []; trail = no_trail; expect = v.expect }
+kept_view p v = record {
+  number = suc p.seats;
+  split = 0;
+  lead = resting 0;
+  nodes = [];
+  writes = [];
+  reads = [];
+  blocks = [];
+  trail = no_trail;
+  expect = v.expect;
+}
 
 -- the samples that all seats of the board agreed on
 abbrev pub expected : Closed → Samples
@@ -31,10 +42,12 @@ IsInRange first e = (first ≤ event_cycle e) × (event_cycle e < 2 ^ 32) × (ev
 
 -- the late set of a Tick stands in the word of its cycle, counted from `first`, behind those before `lates`
 abbrev pub LateOf : ℕ → ℕ → Event → List ℕ → Type 0
-LateOf first lates (Tick k set) words = (lates + (k - first) < length words) × (slice_index words (lates + (k - first)) ≡ set)
+LateOf first lates (Tick k set) words = (lates + (k - first) < length words)
+    × (slice_index words (lates + (k - first)) ≡ set)
 LateOf first lates _ words = Unit {0}
 
--- the words of a table hold the events: the ticket word, the word of each event from `events` on, and the late set of each Tick from `lates` on
+-- the words of a table hold the events: the ticket word, the word of each event from `events` on, and the late set of
+-- each Tick from `lates` on
 pub record AreRecorded (first lates events : ℕ) (history : List Event) (words : List ℕ) : Type 0 where
   pub count : slice_index words 0 ≡ length history
   pub room : events + length history ≤ length words

@@ -17,7 +17,13 @@ use Rattle.board_rule.specs.Spans.{block_at}
 
 -- what is read of a number that no link or pool has
 abbrev pub no_link : ShapeLink
-no_link = record { from = record { node = 0; port = 0 }; to = record { node = 0; port = 0 }; channels = 0; buffers = 0; delayed = false }
+no_link = record {
+  from = record { node = 0; port = 0 };
+  to = record { node = 0; port = 0 };
+  channels = 0;
+  buffers = 0;
+  delayed = false;
+}
 
 abbrev pub no_pool : PoolShape
 no_pool = record { port = record { node = 0; port = 0 }; channels = 0; blocks = 0; words = 0; links = [] }

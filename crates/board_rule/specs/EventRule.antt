@@ -1,4 +1,5 @@
--- The event rule: between any two steps each drawn ticket is held by a phase or its event is stored, and the events so far, in the order of their tickets, are legal.
+-- The event rule: between any two steps each drawn ticket is held by a phase or its event is stored, and the events so
+-- far, in the order of their tickets, are legal.
 -- Source: this project's own.
 use Rattle.std.specs.Prelude.{◌≡◌, ℕ, ◌+◌, ◌*◌, ◌≤◌, true, false, cond, eqb, List, [], ◌++◌, length, slice_index, count_by}
 use Rattle.board_rule.specs.declared.view.NodeView.{NodeView}
@@ -9,7 +10,8 @@ use Rattle.board_rule.specs.Layout.{Lay, nodes, first}
 use Rattle.board_rule.specs.Phases.{is_between, phase_drawn, drive_drawn}
 use Rattle.board_rule.specs.Sums.{total}
 use Rattle.board_rule.specs.View.{Whole}
-use Rattle.board_rule.specs.Marks.{phase_started, phase_finished, phase_holds, drive_started, drive_finished, drive_holds, drive_tells, drive_sees, is_begun, is_ending, is_checking}
+use Rattle.board_rule.specs.Marks.{phase_started, phase_finished, phase_holds, drive_started, drive_finished, drive_holds, drive_tells}
+use Rattle.board_rule.specs.Marks.{drive_sees, is_begun, is_ending, is_checking}
 pub use Rattle.board_rule.specs.Logged.{IsSoFar, IsHeld, Tickets, Earlier, Inside}
 pub use Rattle.board_rule.specs.Records.{Records, Tally, Marks, so_far}
 
@@ -30,8 +32,10 @@ module _ (p : Lay) where
   -- what the phases say of the driver's cycle; a follower that has ended it has drawn both
   abbrev pub tally : Whole → Tally
   tally g = record {
-    started = λ n. cond (eqb n p.driver) (drive_started g.lead.drive) (cond (eqb (g.nodes n).next g.lead.cycle) (phase_started (g.nodes n).phase) 1);
-    finished = λ n. cond (eqb n p.driver) (drive_finished g.lead.drive) (cond (eqb (g.nodes n).next g.lead.cycle) (phase_finished (g.nodes n).phase) 1);
+    started = λ n. cond (eqb n p.driver) (drive_started g.lead.drive)
+        (cond (eqb (g.nodes n).next g.lead.cycle) (phase_started (g.nodes n).phase) 1);
+    finished = λ n. cond (eqb n p.driver) (drive_finished g.lead.drive)
+        (cond (eqb (g.nodes n).next g.lead.cycle) (phase_finished (g.nodes n).phase) 1);
     checked = g.lead.checked;
     sees = drive_sees g.looks g.lead.drive;
   }
@@ -54,12 +58,15 @@ module _ (p : Lay) where
     late = λ k. slice_index words (late_place p.shape k);
   }
 
-  -- EVENT RULE. `count`: there are no more tickets than the phases say; `checks`: a Tick for each check that was begun; `fresh`: nothing before Begin
+  -- EVENT RULE. `count`: there are no more tickets than the phases say; `checks`: a Tick for each check that was
+  -- begun; `fresh`: nothing before Begin
   pub record Events (g : Whole) (words : List ℕ) : Type 0 where
-    pub count : slice_index words ticket_place + (total drawn_before (nodes p) + 5 * first p) ≤ total (drawn g) (nodes p) + lead_drawn g.lead
+    pub count : slice_index words ticket_place + (total drawn_before (nodes p) + 5 * first p) ≤ total (drawn g)
+        (nodes p) + lead_drawn g.lead
     pub checks : count_by is_tick g.past + cond g.lead.checked 1 0 ≡ g.lead.checks
     pub checking : is_checking g.lead.drive ≡ true → g.lead.checked ≡ true
     pub fresh : is_begun g.lead.drive ≡ false → g.inside ≡ []
-    pub tickets : Tickets p g.lead.cycle (length g.past) (marks g) (g.past ++ so_far (marks g) g.lead.cycle g.inside) (records words)
+    pub tickets : Tickets p g.lead.cycle (length g.past) (marks g) (g.past ++ so_far (marks g) g.lead.cycle g.inside)
+        (records words)
     pub earlier : Earlier p g.lead.cycle g.late g.past (records words)
     pub inside : Inside p g.lead.cycle g.late (tally g) g.inside

@@ -33,7 +33,8 @@ ticket_of false v m = held (node_of v m) (node_of v m).phase
 
 abbrev pub StoresEvent : Bool → Lay → View → ℕ → Type 0
 StoresEvent true p v m = HasNode true p v m × CanStoreLead v.lead.drive × (ticket_of true v m < event_count p.shape)
-StoresEvent false p v m = HasNode false p v m × CanStore (node_of v m).phase × (ticket_of false v m < event_count p.shape)
+StoresEvent false p v m = HasNode false p v m × CanStore (node_of v m).phase
+    × (ticket_of false v m < event_count p.shape)
 
 -- its event, where the node has the number n; the late set of a Tick stands in a word of its own
 abbrev pub node_tells : NodeView → ℕ → Phase → Event

@@ -1,6 +1,7 @@
 -- The shape of a board as the rule reads it: nodes by their places in the shape.
 -- Source: PipeWire's documentation, "Graph Scheduling" (required, target list); the words are this project's.
-use Rattle.std.specs.Prelude.{◌≡◌, ◌≢◌, ℕ, ◌+◌, ◌^◌, ◌<◌, ◌≤◌, List, [], drop, length, false, All, Contains, slice_index, slice_index_or}
+use Rattle.std.specs.Prelude.{◌≡◌, ◌≢◌, ℕ, ◌+◌, ◌^◌, ◌<◌, ◌≤◌, List, [], drop, length, false, All, Contains, slice_index}
+use Rattle.std.specs.Prelude.{slice_index_or}
 use Rattle.pw_base.specs.declared.shape.Shape.{Shape}
 use Rattle.pw_base.specs.Dependencies.{nodes_of, Precedes}
 use Rattle.pw_base.specs.Limits.{events_limit}
@@ -29,7 +30,8 @@ pub record Lay : Type 0 where
 pub record HasSeats (plot : Plot) : Type 0 where
   pub some_seats : 1 ≤ plot.seats
   pub all : length plot.seat_of ≡ node_count plot.shape
-  pub each : (n : ℕ) → n < node_count plot.shape → n ≢ place_in plot.shape plot.shape.driver → slice_index plot.seat_of n < plot.seats
+  pub each : (n : ℕ) → n < node_count plot.shape → n ≢ place_in plot.shape plot.shape.driver
+      → slice_index plot.seat_of n < plot.seats
 
 abbrev pub lay : Plot → Lay
 lay plot = record {
@@ -72,4 +74,5 @@ pub record IsSound (p : Lay) : Type 0 where
   pub names : (n : ℕ) → n < nodes p → slice_index (nodes_of p.shape) n ≡ p.number n
   pub named : (n : ℕ) → Contains (nodes_of p.shape) n → p.place n < nodes p
   pub names_driver : p.number p.driver ≡ p.shape.driver
-  pub follows : (m n : ℕ) → m < nodes p → n < nodes p → Precedes p.shape (p.number m) (p.number n) → 0 < times n (p.targets m)
+  pub follows : (m n : ℕ) → m < nodes p → n < nodes p → Precedes p.shape (p.number m) (p.number n)
+      → 0 < times n (p.targets m)

@@ -31,7 +31,14 @@ due_of drives.EndDrawn = dues.End
 due_of _ = dues.Tick
 
 abbrev pub lead_progress_of : LeadView → LeadProgress
-lead_progress_of x = record { cycle = x.cycle; done = done_of x.drive; due = due_of x.drive; ticket = x.ticket; start = x.start; finish = x.finish }
+lead_progress_of x = record {
+  cycle = x.cycle;
+  done = done_of x.drive;
+  due = due_of x.drive;
+  ticket = x.ticket;
+  start = x.start;
+  finish = x.finish;
+}
 
 -- the first i of n targets are taken down, and the last of these may be owed; the first i of n nodes are reset
 abbrev pub told_so_far : ℕ → ℕ → Bool → ℕ

@@ -1,5 +1,6 @@
 -- How many dependencies of a node have not yet taken it down in a cycle.
--- Source: PipeWire's documentation, "Graph Scheduling": pending counts down from required; spa/graph/graph.h, spa_graph_state_dec.
+-- Source: PipeWire's documentation, "Graph Scheduling": pending counts down from required; spa/graph/graph.h,
+-- spa_graph_state_dec.
 use Rattle.std.specs.Prelude.{ℕ, zero, suc, ◌+◌, Bool, false, List, [], ◌∷◌, ◌++◌, cond, eqb, slice_index_or}
 use Rattle.board_rule.specs.Layout.{Lay, nodes}
 use Rattle.board_rule.specs.Sums.{times}

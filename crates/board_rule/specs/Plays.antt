@@ -13,4 +13,14 @@ Learns after says me found m = (m.0 ≡ after found) × (m.1 ≡ me.1) × says f
 
 -- no seat has it: the view of a step that is not picked
 abbrev pub no_view : View
-no_view = record { number = 0; split = 0; lead = resting 0; nodes = []; writes = []; reads = []; blocks = []; trail = no_trail; expect = [] }
+no_view = record {
+  number = 0;
+  split = 0;
+  lead = resting 0;
+  nodes = [];
+  writes = [];
+  reads = [];
+  blocks = [];
+  trail = no_trail;
+  expect = [];
+}

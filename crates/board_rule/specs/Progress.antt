@@ -18,8 +18,15 @@ ends_of FinishDrawn = true
 ends_of (Telling i owes) = true
 
 abbrev pub progress_of : NodeView → NodeProgress
-progress_of x = record { next = x.next; told = told_of x.phase; ends = ends_of x.phase; start = x.start; finish = x.finish }
+progress_of x = record {
+  next = x.next;
+  told = told_of x.phase;
+  ends = ends_of x.phase;
+  start = x.start;
+  finish = x.finish;
+}
 
 -- the first i of n targets are taken down; after the last without a debt the cycle is over for the node
 abbrev pub progress_settled : ℕ → NodeProgress → ℕ → Bool → NodeProgress
-progress_settled n x i owes = cond owes (record x { told = i; ends = true }) (cond (eqb i n) (record x { next = x.next + 1; told = 0; ends = false }) (record x { told = i; ends = true }))
+progress_settled n x i owes = cond owes (record x { told = i; ends = true })
+    (cond (eqb i n) (record x { next = x.next + 1; told = 0; ends = false }) (record x { told = i; ends = true }))

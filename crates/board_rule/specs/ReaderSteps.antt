@@ -1,5 +1,7 @@
--- The steps on buffers of a node that reads: what each asks of the view of its seat, and the view after it. Links are given by number; `leads` is true for the driver's seat.
--- Source: PipeWire's documentation, "SPA Buffers"; spa/node/io.h, spa_io_buffers; the words of pools are this project's own.
+-- The steps on buffers of a node that reads: what each asks of the view of its seat, and the view after it. Links are
+-- given by number; `leads` is true for the driver's seat.
+-- Source: PipeWire's documentation, "SPA Buffers"; spa/node/io.h, spa_io_buffers; the words of pools are this
+-- project's own.
 use Rattle.std.specs.Prelude.{◌≡◌, ℕ, ℤ, ◌+◌, ◌-◌, ◌<◌, Bool, List, length}
 use Rattle.pw_base.specs.Words.{io_word_of, io_id_in}
 use Rattle.board_rule.specs.declared.view.View.{View}
@@ -17,7 +19,8 @@ module _ (leads : Bool) (p : Lay) where
 
   -- the link's reader is a node of the seat, and works
   abbrev pub IsReader : View → ℕ → Type 0
-  IsReader v l = (l < length p.shape.links) × (l < length v.reads) × HasNode leads p v (reader_of p l) × IsRunning leads v (reader_of p l)
+  IsReader v l = (l < length p.shape.links) × (l < length v.reads) × HasNode leads p v (reader_of p l)
+      × IsRunning leads v (reader_of p l)
 
   -- LOADING AN AREA AS READER: not yet done in this cycle. It has data, with the number of a block of the link's pool
   abbrev pub LoadsAsReader : View → ℕ → Type 0
@@ -31,7 +34,8 @@ module _ (leads : Bool) (p : Lay) where
 
   -- THE READER'S TURN: it has loaded the number of a block in this cycle
   abbrev pub IsReading : View → ℕ → ℕ → Type 0
-  IsReading v l id = IsReader v l × ((read_of v l).loaded ≡ read_cycle v l + 1) × ((read_of v l).id < (pool_at p (pool_of p l)).blocks) × (id ≡ (read_of v l).id)
+  IsReading v l id = IsReader v l × ((read_of v l).loaded ≡ read_cycle v l + 1)
+      × ((read_of v l).id < (pool_at p (pool_of p l)).blocks) × (id ≡ (read_of v l).id)
 
   -- LOADING A SAMPLE WORD, AND TAKING THE READERS DOWN: the block is not yet taken down
   abbrev pub ReadsBlock : View → ℕ → ℕ → Type 0
@@ -46,7 +50,8 @@ module _ (leads : Bool) (p : Lay) where
 
   -- STORING NEED_DATA: the block is taken down
   abbrev pub StoresNeed : View → ℕ → ℕ → Type 0
-  StoresNeed v l id = IsReading v l id × ((read_of v l).lowered ≡ read_cycle v l + 1) × ((read_of v l).stored ≡ read_cycle v l)
+  StoresNeed v l id = IsReading v l id × ((read_of v l).lowered ≡ read_cycle v l + 1)
+      × ((read_of v l).stored ≡ read_cycle v l)
 
   abbrev pub need_stored : View → ℕ → View
   need_stored v l = view_read v l (record (read_of v l) { stored = read_cycle v l + 1 })

@@ -1,4 +1,5 @@
--- Whose node it is: what a seat must be for a step on a node, and the view with the node in another phase. Nodes are places.
+-- Whose node it is: what a seat must be for a step on a node, and the view with the node in another phase. Nodes are
+-- places.
 -- Source: this project's own. `leads` is true for the driver's seat.
 use Rattle.std.specs.Prelude.{◌≡◌, ◌≢◌, ℕ, ◌<◌, ◌≤◌, Bool, true, false, length}
 use mathlib.Core.Option.{some}
@@ -38,7 +39,8 @@ HasNode leads p v m = Owns leads p v m × IsCycle p (cycle_of leads v m) × (m <
 
 -- or has ended them all
 abbrev pub IsMember : Bool → Lay → View → ℕ → Type 0
-IsMember leads p v m = Owns leads p v m × ((first p ≤ cycle_of leads v m) × (cycle_of leads v m ≤ last p)) × (m < nodes p)
+IsMember leads p v m = Owns leads p v m × ((first p ≤ cycle_of leads v m) × (cycle_of leads v m ≤ last p))
+    × (m < nodes p)
 
 -- the view with a follower, or the driver's seat, in another phase
 abbrev pub phased : View → ℕ → Phase → Trail → View

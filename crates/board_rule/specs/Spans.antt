@@ -1,4 +1,5 @@
--- What the buffer rule reads of the phases of nodes, and what each seat knows of the ends of its links and of its blocks.
+-- What the buffer rule reads of the phases of nodes, and what each seat knows of the ends of its links and of its
+-- blocks.
 -- Source: this project's own; the phases are those of src/view.rt.
 use Rattle.std.specs.Prelude.{◌≡◌, ℕ, ◌+◌, ◌<◌, ◌≤◌, List, Some, cond, eqb, sum_by, take, slice_get}
 use mathlib.Core.Option.{some}
@@ -44,8 +45,10 @@ drive_begun d = drive_over d
 module _ (p : Lay) where
   abbrev pub spans : Whole → ℕ → Span
   spans g n = record {
-    over = cond (eqb n p.driver) (g.lead.cycle + drive_over g.lead.drive) ((g.nodes n).next + phase_over (g.nodes n).phase);
-    begun = cond (eqb n p.driver) (g.lead.cycle + drive_begun g.lead.drive) ((g.nodes n).next + phase_begun (g.nodes n).phase);
+    over = cond (eqb n p.driver) (g.lead.cycle + drive_over g.lead.drive)
+        ((g.nodes n).next + phase_over (g.nodes n).phase);
+    begun = cond (eqb n p.driver) (g.lead.cycle + drive_begun g.lead.drive)
+        ((g.nodes n).next + phase_begun (g.nodes n).phase);
   }
 
   -- the number of the seat that has the place n
@@ -57,13 +60,20 @@ module _ (p : Lay) where
   block_at q b = sum_by (λ x. x.blocks) (take q (pools_of p.shape)) + b
 
   -- a seat, by its number, knows the ends of its own nodes and the blocks that they fill
-  pub record KnowsEnds (ends : Ends) (number : ℕ) (writes : List WriteView) (reads : List ReadView) (blocks : List BlockView) : Type 0 where
-    pub of_write : (l : ℕ) (k : ShapeLink) → slice_get p.shape.links l ≡ Some k → holder (p.place k.from.node) ≡ number → get_elem? writes l ≡ some (ends.writes l)
-    pub of_read : (l : ℕ) (k : ShapeLink) → slice_get p.shape.links l ≡ Some k → holder (p.place k.to.node) ≡ number → get_elem? reads l ≡ some (ends.reads l)
-    pub of_block : (q b : ℕ) (x : PoolShape) → slice_get (pools_of p.shape) q ≡ Some x → b < x.blocks → holder (p.place x.port.node) ≡ number → get_elem? blocks (block_at q b) ≡ some (ends.blocks q b)
+  pub record KnowsEnds (ends : Ends) (number : ℕ) (writes : List WriteView) (reads : List ReadView)
+      (blocks : List BlockView) : Type 0 where
+    pub of_write : (l : ℕ) (k : ShapeLink) → slice_get p.shape.links l ≡ Some k → holder (p.place k.from.node) ≡ number
+        → get_elem? writes l ≡ some (ends.writes l)
+    pub of_read : (l : ℕ) (k : ShapeLink) → slice_get p.shape.links l ≡ Some k → holder (p.place k.to.node) ≡ number
+        → get_elem? reads l ≡ some (ends.reads l)
+    pub of_block : (q b : ℕ) (x : PoolShape) → slice_get (pools_of p.shape) q ≡ Some x → b < x.blocks
+        → holder (p.place x.port.node) ≡ number → get_elem? blocks (block_at q b) ≡ some (ends.blocks q b)
 
   -- the ends and the blocks of a loop's seat that is not yet split off are as at the start
   pub record AreStill (ends : Ends) (split : ℕ) : Type 0 where
-    pub writes : (l : ℕ) (k : ShapeLink) → slice_get p.shape.links l ≡ Some k → split ≤ holder (p.place k.from.node) → holder (p.place k.from.node) < p.seats → ends.writes l ≡ unwritten (first p)
-    pub reads : (l : ℕ) (k : ShapeLink) → slice_get p.shape.links l ≡ Some k → split ≤ holder (p.place k.to.node) → holder (p.place k.to.node) < p.seats → ends.reads l ≡ unread (first p)
-    pub blocks : (q b : ℕ) (x : PoolShape) → slice_get (pools_of p.shape) q ≡ Some x → b < x.blocks → split ≤ holder (p.place x.port.node) → holder (p.place x.port.node) < p.seats → ends.blocks q b ≡ Free
+    pub writes : (l : ℕ) (k : ShapeLink) → slice_get p.shape.links l ≡ Some k → split ≤ holder (p.place k.from.node)
+        → holder (p.place k.from.node) < p.seats → ends.writes l ≡ unwritten (first p)
+    pub reads : (l : ℕ) (k : ShapeLink) → slice_get p.shape.links l ≡ Some k → split ≤ holder (p.place k.to.node)
+        → holder (p.place k.to.node) < p.seats → ends.reads l ≡ unread (first p)
+    pub blocks : (q b : ℕ) (x : PoolShape) → slice_get (pools_of p.shape) q ≡ Some x → b < x.blocks
+        → split ≤ holder (p.place x.port.node) → holder (p.place x.port.node) < p.seats → ends.blocks q b ≡ Free

@@ -44,7 +44,17 @@ free_blocks shape = flat_map (λ q. replicate q.blocks Free) (pools_of shape)
 module _ (p : Lay) where
   -- the driver's view before any seat is split off: no table of samples is named yet
   abbrev pub first_view : View
-  first_view = record { number = p.seats; split = 0; lead = resting (first p); nodes = []; writes = []; reads = replicate (length p.shape.links) (unread (first p)); blocks = []; trail = no_trail; expect = [] }
+  first_view = record {
+    number = p.seats;
+    split = 0;
+    lead = resting (first p);
+    nodes = [];
+    writes = [];
+    reads = replicate (length p.shape.links) (unread (first p));
+    blocks = [];
+    trail = no_trail;
+    expect = [];
+  }
 
   -- after k splits, the first of which names the table of samples e
   abbrev pub driver_view : Samples → ℕ → View

@@ -1,4 +1,5 @@
--- The kinds of step: what each asks of the view of its seat, and the view after it. Nodes are places; `leads` is true for the driver's seat.
+-- The kinds of step: what each asks of the view of its seat, and the view after it. Nodes are places; `leads` is true
+-- for the driver's seat.
 -- Source: PipeWire's documentation, "Graph Scheduling"; the kinds are this project's.
 use Rattle.std.specs.Prelude.{◌≡◌, ℕ, suc, ◌<◌, true, false, cond, eqb}
 use Rattle.board_rule.specs.declared.view.Drive.{Drive}
@@ -6,7 +7,8 @@ use Rattle.board_rule.specs.declared.view.Drive.TheVariants as drives
 use Rattle.board_rule.specs.declared.view.View.{View}
 use Rattle.board_rule.specs.Layout.{Lay, nodes}
 pub use Rattle.board_rule.specs.SeatNodes.{Has, Owns, cycle_of, IsCycle, HasNode, IsMember, phased, driven}
-pub use Rattle.board_rule.specs.TellingSteps.{CanTell, CanKick, told_of, taken_of, taken, Lowers, settled, kicked, settles, told_trail, target_of, lowered, Indebted, KickIndebted, Triggers, triggered}
+pub use Rattle.board_rule.specs.TellingSteps.{CanTell, CanKick, told_of, taken_of, taken, Lowers, settled, kicked, settles, told_trail}
+pub use Rattle.board_rule.specs.TellingSteps.{target_of, lowered, Indebted, KickIndebted, Triggers, triggered}
 pub use Rattle.board_rule.specs.WorkSteps.{IsAsleep, Claims, woken, tried, claimed, IsRunning, IsGivenOn, IsReadyToFinish, untold, finished}
 
 -- THE RESET: the driver's seat stores the pending word and then the status word of the next node
@@ -19,13 +21,15 @@ abbrev pub reset_to : ℕ → ℕ → Drive
 reset_to n i = cond (eqb i n) (drives.Kick 0 false) (drives.Reset i)
 
 abbrev pub StoresPending : Lay → View → Type 0
-StoresPending p v = HasNode true p v p.driver × (v.lead.drive ≡ drives.Reset (reset_of v.lead.drive)) × (reset_of v.lead.drive < nodes p)
+StoresPending p v = HasNode true p v p.driver × (v.lead.drive ≡ drives.Reset (reset_of v.lead.drive))
+    × (reset_of v.lead.drive < nodes p)
 
 abbrev pub pending_stored : View → View
 pending_stored v = driven v (drives.Half (reset_of v.lead.drive)) v.trail
 
 abbrev pub StoresStatus : Lay → View → Type 0
-StoresStatus p v = HasNode true p v p.driver × (v.lead.drive ≡ drives.Half (reset_of v.lead.drive)) × (reset_of v.lead.drive < nodes p)
+StoresStatus p v = HasNode true p v p.driver × (v.lead.drive ≡ drives.Half (reset_of v.lead.drive))
+    × (reset_of v.lead.drive < nodes p)
 
 abbrev pub status_stored : Lay → View → View
 status_stored p v = driven v (reset_to (nodes p) (suc (reset_of v.lead.drive))) v.trail

@@ -38,9 +38,11 @@ abbrev pub Lowers : Bool → Lay → View → ℕ → Type 0
 Lowers true p v m = HasNode true p v m × CanKick (length (p.targets m)) v.lead.drive
 Lowers false p v m = HasNode false p v m × CanTell (length (p.targets m)) (node_of v m).phase
 
--- the first i of n targets are taken down, and the last of these may be owed; after the last without a debt the cycle is over for the node
+-- the first i of n targets are taken down, and the last of these may be owed; after the last without a debt the cycle is over
+-- for the node
 abbrev pub settled : ℕ → NodeView → ℕ → Bool → NodeView
-settled n x i owes = cond owes (record x { phase = Telling i true }) (cond (eqb i n) (record x { next = x.next + 1; phase = Idle }) (record x { phase = Telling i false }))
+settled n x i owes = cond owes (record x { phase = Telling i true })
+    (cond (eqb i n) (record x { next = x.next + 1; phase = Idle }) (record x { phase = Telling i false }))
 
 abbrev pub kicked : ℕ → ℕ → Bool → Drive
 kicked n i owes = cond owes (drives.Kick i true) (cond (eqb i n) drives.Waiting (drives.Kick i false))
@@ -58,7 +60,8 @@ abbrev pub target_of : Bool → Lay → View → ℕ → ℕ
 target_of leads p v m = p.number (slice_index (p.targets m) (taken leads v m))
 
 abbrev pub lowered : Bool → Lay → View → ℕ → ℕ → View
-lowered leads p v m found = settles leads p v m (taken leads v m + 1) (eqb found 1) (told_trail v.trail (target_of leads p v m) found)
+lowered leads p v m found = settles leads p v m (taken leads v m + 1) (eqb found 1)
+    (told_trail v.trail (target_of leads p v m) found)
 
 -- TRIGGERING: the target that was taken down last is owed
 abbrev pub Indebted : ℕ → Phase → Type 0

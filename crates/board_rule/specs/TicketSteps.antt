@@ -1,4 +1,5 @@
--- Drawing a ticket: what it asks of the view of its seat, and the view after it; and what storing its event asks of the phase. Nodes are places.
+-- Drawing a ticket: what it asks of the view of its seat, and the view after it; and what storing its event asks of
+-- the phase. Nodes are places.
 -- Source: this project's own.
 use Rattle.std.specs.Prelude.{◌≡◌, ℕ, ◌+◌, Bool, true, false, []}
 use Rattle.board_rule.specs.declared.view.Phase.{Phase}
@@ -13,7 +14,8 @@ use Rattle.board_rule.specs.Layout.{Lay}
 use Rattle.board_rule.specs.View.{node_of, view_node, view_lead}
 use Rattle.board_rule.specs.Steps.{HasNode, untold}
 
--- DRAWING A TICKET: for a Start or a Finish of the node; the driver's seat also for a Begin, an End, and a Tick where the cycle has had no check
+-- DRAWING A TICKET: for a Start or a Finish of the node; the driver's seat also for a Begin, an End, and a Tick where
+-- the cycle has had no check
 abbrev pub CanDraw : Phase → Type 0
 CanDraw Awake = Unit {0}
 CanDraw Done = Unit {0}
@@ -38,7 +40,8 @@ node_draws x ticket _ = x
 
 abbrev pub lead_draws : LeadView → ℕ → Drive → LeadView
 lead_draws x ticket drives.Between = record x { drive = drives.BeginDrawn; ticket = ticket }
-lead_draws x ticket drives.Waiting = record x { drive = drives.Checking; checked = true; checks = x.checks + 1; ticket = ticket }
+lead_draws x ticket drives.Waiting = record x
+    { drive = drives.Checking; checked = true; checks = x.checks + 1; ticket = ticket }
 lead_draws x ticket drives.Awake = record x { drive = drives.StartDrawn; start = ticket }
 lead_draws x ticket drives.Done = record x { drive = drives.FinishDrawn; finish = ticket }
 lead_draws x ticket drives.FinishStored = record x { drive = drives.EndDrawn; ticket = ticket }

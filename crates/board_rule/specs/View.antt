@@ -8,10 +8,13 @@ use Rattle.board_rule.specs.declared.view.Found.{Found}
 use Rattle.pw_base.specs.declared.event.Event.{Event}
 use Rattle.board_rule.specs.declared.view.View.{View}
 use Rattle.board_rule.specs.BlockReadings.{Ends}
-pub use Rattle.board_rule.specs.StartViews.{Samples, idle, resting, unwritten, unread, no_trail, free_blocks, first_view, driver_view, loop_view}
+pub use Rattle.board_rule.specs.StartViews.{Samples, idle, resting, unwritten, unread, no_trail, free_blocks, first_view, driver_view}
+pub use Rattle.board_rule.specs.StartViews.{loop_view}
 
--- what all seats know together; seat_at gives for a number the place of its view among the table's views. The ends of links and the blocks, the events of
--- earlier cycles, those between Begin and End of the driver's cycle so far, the late set that is stored in it, and what its last check has loaded
+-- what all seats know together; seat_at gives for a number the place of its view among the table's views. The ends of
+-- links and the blocks, the events of
+-- earlier cycles, those between Begin and End of the driver's cycle so far, the late set that is stored in it, and
+-- what its last check has loaded
 pub record Whole : Type 0 where
   pub lead : LeadView
   pub split : ℕ

@@ -1,4 +1,5 @@
--- Claiming a node, and ending its work: what each asks of the view of its seat, and the view after it. Nodes are places.
+-- Claiming a node, and ending its work: what each asks of the view of its seat, and the view after it. Nodes are
+-- places.
 -- Source: PipeWire's documentation, "Graph Scheduling"; the kinds are this project's.
 use Rattle.std.specs.Prelude.{◌≡◌, ℕ, ◌+◌, ◌<◌, Bool, true, false, cond, eqb, [], ◌∷◌, length}
 use Rattle.board_rule.specs.declared.view.Phase.TheVariants.{Idle, Awake, Running, Done}
@@ -11,7 +12,8 @@ use Rattle.board_rule.specs.View.{node_of, view_trail}
 use Rattle.board_rule.specs.EndViews.{write_of, read_of, writer_of, reader_of}
 use Rattle.board_rule.specs.SeatNodes.{cycle_of, HasNode, phased, driven}
 
--- CLAIMING: the node waits to be triggered. It is awake where the word was TRIGGERED of its cycle; else the seat remembers the word
+-- CLAIMING: the node waits to be triggered. It is awake where the word was TRIGGERED of its cycle; else the seat
+-- remembers the word
 abbrev pub IsAsleep : Bool → View → ℕ → Type 0
 IsAsleep true v m = v.lead.drive ≡ drives.Waiting
 IsAsleep false v m = (node_of v m).phase ≡ Idle
@@ -27,15 +29,18 @@ abbrev pub tried : Lay → View → ℕ → ℕ → View
 tried p v m found = view_trail v (record v.trail { tries = record { node = p.number m; word = found } ∷ v.trail.tries })
 
 abbrev pub claimed : Bool → Lay → View → ℕ → ℕ → View
-claimed leads p v m found = cond (eqb found (status_word_of 1 (cycle_of leads v m))) (woken leads v m) (tried p v m found)
+claimed leads p v m found = cond (eqb found (status_word_of 1 (cycle_of leads v m))) (woken leads v m)
+    (tried p v m found)
 
--- ENDING A NODE: it works, and all its buffers are given on: in its cycle each link from it is published, and each link into it given back
+-- ENDING A NODE: it works, and all its buffers are given on: in its cycle each link from it is published, and each
+-- link into it given back
 abbrev pub IsRunning : Bool → View → ℕ → Type 0
 IsRunning true v m = v.lead.drive ≡ drives.Running
 IsRunning false v m = (node_of v m).phase ≡ Running
 
 abbrev pub IsGivenOn : Lay → View → ℕ → ℕ → Type 0
-IsGivenOn p v m c = ((l : ℕ) → l < length p.shape.links → writer_of p l ≡ m → (write_of v l).stored ≡ c + 1) × ((l : ℕ) → l < length p.shape.links → reader_of p l ≡ m → (read_of v l).stored ≡ c + 1)
+IsGivenOn p v m c = ((l : ℕ) → l < length p.shape.links → writer_of p l ≡ m → (write_of v l).stored ≡ c + 1)
+    × ((l : ℕ) → l < length p.shape.links → reader_of p l ≡ m → (read_of v l).stored ≡ c + 1)
 
 abbrev pub IsReadyToFinish : Bool → Lay → View → ℕ → Type 0
 IsReadyToFinish leads p v m = HasNode leads p v m × IsRunning leads v m × IsGivenOn p v m (cycle_of leads v m)

@@ -1,5 +1,6 @@
 //! The end of a board.
-ghost use Rattle.std.specs.Prelude.{◌≡◌, ℕ, ◌+◌, ◌<◌, ◌≤◌, [], ◌∷◌, ◌++◌, List, length, true, false, slice_index, slice_index_or, count_by};
+ghost use Rattle.std.specs.Prelude.{◌≡◌, ℕ, ◌+◌, ◌<◌, ◌≤◌, [], ◌∷◌, ◌++◌, List, length, true, false, slice_index};
+ghost use Rattle.std.specs.Prelude.{slice_index_or, count_by};
 ghost use Rattle.pw_base.specs.declared.event.Event.{Event};
 ghost use Rattle.pw_base.specs.EventWords.{event_word_of};
 ghost use Rattle.pw_base.specs.History.{is_tick, IsLegalHistory};
@@ -32,9 +33,12 @@ fn keep<C: Cut>(board: &Board, token: &mut BoardToken) -> BoardToken
 
 // The event of a word, with its late set where it is a Tick.
 fn event_at(words: &Words, lates: usize, first: u32, word: u64) -> Event
-    requires full { (k : ℕ) → 0 ≤ k → k < words.now.words.len → slice_index_or words.now.words.filled k false ≡ true }
-    requires is { ((e : Event) × (word ≡ event_word_of e) × IsInRange first e × LateOf first lates e words.now.words.items) }
-    ensures { (e : Event) → word ≡ event_word_of e → IsInRange first e → LateOf first lates e words.now.words.items → result ≡ e }
+    requires full { (k : ℕ) → 0 ≤ k → k < words.now.words.len
+        → slice_index_or words.now.words.filled k false ≡ true }
+    requires is { ((e : Event) × (word ≡ event_word_of e) × IsInRange first e
+        × LateOf first lates e words.now.words.items) }
+    ensures { (e : Event) → word ≡ event_word_of e → IsInRange first e
+        → LateOf first lates e words.now.words.items → result ≡ e }
 {
     match event_of(word, 0) {
         Event::Tick { cycle, .. } => Event::Tick {
@@ -53,7 +57,8 @@ fn history(
     first: u32,
     room: Room<Event>,
 ) -> Items<Event>
-    requires full { (k : ℕ) → 0 ≤ k → k < words.now.words.len → slice_index_or words.now.words.filled k false ≡ true }
+    requires full { (k : ℕ) → 0 ≤ k → k < words.now.words.len
+        → slice_index_or words.now.words.filled k false ≡ true }
     requires recorded { ((all : List Event) × AreRecorded first lates events all words.now.words.items) }
     requires empty { room.list ≡ [] }
     requires spare { slice_index words.now.words.items 0 ≤ room.spare }

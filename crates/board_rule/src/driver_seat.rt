@@ -213,7 +213,8 @@ impl DriverSeat {
         requires table { self.old.table ≡ board.now.table.shared.table_id }
         requires phase { let p = lay board.now.plot in Looks p self.old.knows (p.place node) }
         ensures table { self.new.table ≡ self.old.table }
-        ensures knows { let p = lay board.now.plot in self.new.knows ≡ looked p self.old.knows (p.place node) result }
+        ensures knows { let p = lay board.now.plot in
+            self.new.knows ≡ looked p self.old.knows (p.place node) result }
     {
         let at = board.place(node);
         event::look::<Brand>(board, &mut self.token, at)

@@ -64,7 +64,8 @@ fn push_pools(alloc: Global, words: &mut Items<u64>, shape: &Shape) -> Result<()
 
 // The words before the io areas: no ticket, pending 0, and NOT_TRIGGERED of the first cycle.
 fn node_words(alloc: Global, nodes: usize, first: u32) -> Result<Items<u64>, Memory>
-    ensures { IfOk result (λ words. words ≡ 0 ∷ (replicate nodes 0 ++ replicate nodes (status_word_of 0 first))) }
+    ensures { IfOk result (λ words. words ≡ 0 ∷
+        (replicate nodes 0 ++ replicate nodes (status_word_of 0 first))) }
 {
     let mut words = Items::filled(alloc, 1, 0)?;
     words.extend_filled(nodes, 0)?;

@@ -37,8 +37,10 @@ pub fn tell(_dependencies: &[usize], told: &mut [bool], m: usize)
     requires inside { m < length told.old }
     requires first { slice_index_or told.old m false ≡ false }
     ensures told { told.new ≡ slice_set told.old m true }
-    ensures falls { Contains _dependencies.now m → left_of (untold told.old) _dependencies.now ≡ left_of (untold told.new) _dependencies.now + 1 }
-    ensures stays { (Contains _dependencies.now m → ⊥) → left_of (untold told.new) _dependencies.now ≡ left_of (untold told.old) _dependencies.now }
+    ensures falls { Contains _dependencies.now m
+        → left_of (untold told.old) _dependencies.now ≡ left_of (untold told.new) _dependencies.now + 1 }
+    ensures stays { (Contains _dependencies.now m → ⊥)
+        → left_of (untold told.new) _dependencies.now ≡ left_of (untold told.old) _dependencies.now }
 {
     told[m] = true;
 }

@@ -58,8 +58,11 @@ fn split<C: Cut>(board: &Board, token: &mut BoardToken) -> BoardToken
     requires table { token.old.table_id ≡ board.now.table.shared.table_id }
     requires leads { token.old.me.0.number ≡ (lay board.now.plot).seats }
     requires room { token.old.me.0.split < (lay board.now.plot).seats }
-    requires views { ((e : Samples) × (0 < token.old.me.0.split → e ≡ token.old.me.0.expect) × IsTable (lay board.now.plot) e × (C.left ≡ split_off e token.old.me.0) × (C.right ≡ loop_view (lay board.now.plot) e token.old.me.0.split)) }
-    ensures left { (token.new.table_id ≡ token.old.table_id) × (token.new.id ≡ token.old.id) × (token.new.me.0 ≡ C.left) }
+    requires views { ((e : Samples) × (0 < token.old.me.0.split → e ≡ token.old.me.0.expect)
+        × IsTable (lay board.now.plot) e × (C.left ≡ split_off e token.old.me.0)
+        × (C.right ≡ loop_view (lay board.now.plot) e token.old.me.0.split)) }
+    ensures left { (token.new.table_id ≡ token.old.table_id) × (token.new.id ≡ token.old.id)
+        × (token.new.me.0 ≡ C.left) }
     ensures right { (result.table_id ≡ token.old.table_id) × (result.me.0 ≡ C.right) }
 {
     board.table.shared.split_seat::<Parts<C>>(token)
@@ -132,7 +135,9 @@ impl DriverSeat {
         requires free { free.now ≡ free_blocks board.now.plot.shape }
         requires expect { 0 < self.old.knows.split → E.expect ≡ self.old.knows.expect }
         requires samples { IsTable (lay board.now.plot) E.expect }
-        ensures { IfOk result (λ s. (self.new.table ≡ self.old.table) × (self.new.knows ≡ split_off E.expect self.old.knows) × (s.table ≡ self.old.table) × (s.knows ≡ loop_view (lay board.now.plot) E.expect self.old.knows.split)) }
+        ensures { IfOk result (λ s. (self.new.table ≡ self.old.table)
+            × (self.new.knows ≡ split_off E.expect self.old.knows) × (s.table ≡ self.old.table)
+            × (s.knows ≡ loop_view (lay board.now.plot) E.expect self.old.knows.split)) }
     {
         let shape = board.shape();
         let first = u64::from(shape.first);
@@ -164,9 +169,17 @@ impl DriverSeat {
         requires knows { self.old.knows ≡ first_view (lay board.now.plot) }
         requires free { free.now ≡ free_blocks board.now.plot.shape }
         requires samples { IsTable (lay board.now.plot) E.expect }
-        ensures driver { IfOk result (λ _. self.new ≡ record { table = board.now.table.shared.table_id; knows = driver_view (lay board.now.plot) E.expect board.now.plot.seats }) }
+        ensures driver { IfOk result (λ _. self.new
+            ≡ record {
+              table = board.now.table.shared.table_id;
+              knows = driver_view (lay board.now.plot) E.expect board.now.plot.seats;
+            }) }
         ensures count { IfOk result (λ loops. length loops ≡ board.now.plot.seats) }
-        ensures loops { IfOk result (λ loops. (k : ℕ) → k < board.now.plot.seats → slice_get loops k ≡ Some record { table = board.now.table.shared.table_id; knows = loop_view (lay board.now.plot) E.expect k }) }
+        ensures loops { IfOk result (λ loops. (k : ℕ) → k < board.now.plot.seats
+            → slice_get loops k ≡ Some record {
+              table = board.now.table.shared.table_id;
+              knows = loop_view (lay board.now.plot) E.expect k;
+            }) }
     {
         let mut loops = Items::new(alloc);
         for k in 0..board.plot.seats {
@@ -201,7 +214,8 @@ impl Board {
         requires pooled { IsPooledShape plot.shape }
         requires undelayed { IsUndelayed plot.shape }
         requires seats { HasSeats plot }
-        ensures { IfOk result (λ t. (t.0.plot ≡ plot) × (t.1.table ≡ t.0.table.shared.table_id) × (t.1.knows ≡ first_view (lay plot))) }
+        ensures { IfOk result (λ t. (t.0.plot ≡ plot) × (t.1.table ≡ t.0.table.shared.table_id)
+            × (t.1.knows ≡ first_view (lay plot))) }
     {
         let spare = Items::new(alloc).into_room(event_count(&plot.shape))?;
         let words = start_words(alloc, &plot.shape)?;
@@ -252,12 +266,19 @@ impl Board {
         requires pooled { IsPooledShape shape.now }
         requires undelayed { IsUndelayed shape.now }
         requires seats { HasSeats record { shape = shape.now; seat_of = seat_of.now; seats = seats } }
-        requires samples { IsTable (lay record { shape = shape.now; seat_of = seat_of.now; seats = seats }) E.expect }
+        requires samples { IsTable (lay record { shape = shape.now; seat_of = seat_of.now; seats = seats })
+            E.expect }
 
-        ensures plot { IfOk result (λ t. t.0.plot ≡ record { shape = shape.now; seat_of = seat_of.now; seats = seats }) }
-        ensures driver { IfOk result (λ t. t.1 ≡ record { table = t.0.table.shared.table_id; knows = driver_view (lay t.0.plot) E.expect seats }) }
+        ensures plot { IfOk result (λ t. t.0.plot
+            ≡ record { shape = shape.now; seat_of = seat_of.now; seats = seats }) }
+        ensures driver { IfOk result (λ t. t.1
+            ≡ record { table = t.0.table.shared.table_id; knows = driver_view (lay t.0.plot) E.expect seats }) }
         ensures count { IfOk result (λ t. length t.2 ≡ seats) }
-        ensures loops { IfOk result (λ t. (k : ℕ) → k < seats → slice_get t.2 k ≡ Some record { table = t.0.table.shared.table_id; knows = loop_view (lay t.0.plot) E.expect k }) }
+        ensures loops { IfOk result (λ t. (k : ℕ) → k < seats
+            → slice_get t.2 k ≡ Some record {
+              table = t.0.table.shared.table_id;
+              knows = loop_view (lay t.0.plot) E.expect k;
+            }) }
     {
         let plot = plot_of(alloc, shape, seat_of, seats)?;
         let free = free_blocks(alloc, shape)?;

@@ -37,7 +37,8 @@ pub(crate) fn settle(node: &mut NodeProgress, targets: usize, told: usize, owes:
 
 /// The node has drawn the ticket of its Start, or of its Finish.
 pub(crate) fn draw(node: &mut NodeProgress, ticket: u64)
-    ensures { node.new ≡ cond node.old.ends (record node.old { finish = ticket }) (record node.old { start = ticket }) }
+    ensures { node.new ≡ cond node.old.ends (record node.old { finish = ticket })
+        (record node.old { start = ticket }) }
 {
     if node.ends {
         node.finish = ticket;

@@ -164,7 +164,8 @@ fn link_row(
     requires pools { pools.now ≡ pools_of shape.now }
     requires rows { HasPoolRows shape.now rows.now }
     requires small { (q : ℕ) → q < length (pools_of shape.now) → (pool_in shape.now q).words < 2 ^ 32 }
-    requires has { position_or_len (λ x. is_port x.port link.from) (pools_of shape.now) < length (pools_of shape.now) }
+    requires has { position_or_len (λ x. is_port x.port link.from) (pools_of shape.now) < length
+        (pools_of shape.now) }
     ensures { IsLinkRow shape.now link area result }
 {
     let pool = pool_of(pools, link.from);

@@ -153,7 +153,8 @@ impl LoopSeat {
     /// The number of the block that was filled whole in this cycle, announced or not. Condition: there is one.
     pub fn filled(&self, board: &Board, pool: u32) -> u32
         requires pool { HasPool (lay board.now.plot) self.now.knows pool }
-        requires some { let p = lay board.now.plot in ((b : ℕ) × (b < (pool_at p pool).blocks) × IsFilled p self.now.knows pool b) }
+        requires some { let p = lay board.now.plot in
+            ((b : ℕ) × (b < (pool_at p pool).blocks) × IsFilled p self.now.knows pool b) }
         ensures { IsFirstFilled (lay board.now.plot) self.now.knows pool result }
     {
         let words = board.block_words(pool);
@@ -169,7 +170,8 @@ impl LoopSeat {
     /// The number of the block that has been out longest. Condition: one is out.
     pub fn oldest_out(&self, board: &Board, pool: u32) -> u32
         requires pool { HasPool (lay board.now.plot) self.now.knows pool }
-        requires some { let p = lay board.now.plot in ((b n : ℕ) × (b < (pool_at p pool).blocks) × (block_of p self.now.knows pool b ≡ Out n)) }
+        requires some { let p = lay board.now.plot in
+            ((b n : ℕ) × (b < (pool_at p pool).blocks) × (block_of p self.now.knows pool b ≡ Out n)) }
         ensures { ((n : ℕ) × IsOldestOut (lay board.now.plot) self.now.knows pool result n) }
     {
         let mut oldest = None;

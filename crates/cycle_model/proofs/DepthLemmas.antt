@@ -1,5 +1,6 @@
 -- How deep a node stands in an epoch: how many active nodes stand before it in an order of the links that are not delayed.
-use Rattle.std.proofs.Common.{◌≡◌, ℕ, zero, suc, ◌+◌, ◌<◌, ◌≤◌, Bool, true, false, ◌&&◌, ◌==◌, nat_lt, List, length, filter, refl, ap, ◌∙◌, subst, arith, ⊎_elim}
+use Rattle.std.proofs.Common.{◌≡◌, ℕ, zero, suc, ◌+◌, ◌<◌, ◌≤◌, Bool, true, false, ◌&&◌, ◌==◌, nat_lt, List, length, filter, refl}
+use Rattle.std.proofs.Common.{ap, ◌∙◌, subst, arith, ⊎_elim}
 use Rattle.std.specs.List.{range_with_len}
 use Rattle.std.proofs.lemmas.List.Folds.{Any-from_list_any}
 use Rattle.std.proofs.lemmas.Bool.{cases_Bool, cases_eq, and_parts, and_from, and_right, lt-ltb, ltb-true, le-ltb, eqb-true}
@@ -34,7 +35,8 @@ count_le p q a (suc n) h =
     (λ f. ⊎_elim (λ t. omega (arith, no p a n f, yes q a n t, rest)) (λ g. omega (arith, no p a n f, no q a n g, rest)) (cases_Bool (q a)))
     (cases_Bool (p a))
 
-count_less : (p q : ℕ → Bool) (a n j : ℕ) → ((k : ℕ) → p k ≡ true → q k ≡ true) → a ≤ j → j < a + n → p j ≡ false → q j ≡ true → count p a n < count q a n
+count_less : (p q : ℕ → Bool) (a n j : ℕ) → ((k : ℕ) → p k ≡ true → q k ≡ true) → a ≤ j → j < a + n → p j ≡ false → q j ≡ true
+    → count p a n < count q a n
 count_less p q a zero j h low high f t = absurd (omega arith)
 count_less p q a (suc n) j h low high f t = ⊎_elim
     (λ (e : a ≡ j). omega (arith, no p a n (ap p e ∙ f), yes q a n (ap q e ∙ t), count_le p q (a + 1) n h))
@@ -58,7 +60,8 @@ depth size e rank node = count (λ k. takes_part e k && nat_lt (rank k) (rank no
 not_before_itself : (e : Epoch) (rank : ℕ → ℕ) (n : ℕ) → (takes_part e n && nat_lt (rank n) (rank n)) ≡ false
 not_before_itself e rank n = and_right (takes_part e n) (nat_lt (rank n) (rank n)) (le-ltb (rank n) (rank n) (omega arith))
 
-pub depth_less : (size : ℕ) (e : Epoch) (rank : ℕ → ℕ) (m n : ℕ) → rank m < rank n → takes_part e m ≡ true → m < size → depth size e rank m < depth size e rank n
+pub depth_less : (size : ℕ) (e : Epoch) (rank : ℕ → ℕ) (m n : ℕ) → rank m < rank n → takes_part e m ≡ true → m < size
+    → depth size e rank m < depth size e rank n
 unfolding depth
 depth_less size e rank m n h t lt =
     count_less (λ k. takes_part e k && nat_lt (rank k) (rank m)) (λ k. takes_part e k && nat_lt (rank k) (rank n)) 0 size m
@@ -70,10 +73,12 @@ pub depth_small : (size : ℕ) (e : Epoch) (rank : ℕ → ℕ) (n : ℕ) → n 
 unfolding depth
 depth_small size e rank n lt =
     let less : count (λ k. takes_part e k && nat_lt (rank k) (rank n)) 0 size < count (λ k. true) 0 size =
-    count_less (λ k. takes_part e k && nat_lt (rank k) (rank n)) (λ k. true) 0 size n (λ k u. refl) (omega arith) (omega arith) (not_before_itself e rank n) refl in
+    count_less (λ k. takes_part e k && nat_lt (rank k) (rank n)) (λ k. true) 0 size n (λ k u. refl) (omega arith) (omega arith)
+    (not_before_itself e rank n) refl in
     omega (arith, less, count_all 0 size)
 
-pub node_small : (plan : Plan) (waves : List WavIn) → IsRenderable plan waves → (e : Epoch) → IsRenderableEpoch plan e → (n : ℕ) → takes_part e n ≡ true → n < 64
+pub node_small : (plan : Plan) (waves : List WavIn) → IsRenderable plan waves → (e : Epoch) → IsRenderableEpoch plan e → (n : ℕ)
+    → takes_part e n ≡ true → n < 64
 node_small plan waves r e q n t =
     let at = Any-from_list_any (λ x. x.node == n) e.shape.nodes t in
     let node : IsNodeOf plan at.1 = subst (IsNodeOf plan) at.3 (q.nodes at.0 at.1 at.2) in

@@ -1,5 +1,6 @@
 -- What is kept of all nodes, and the peaks: one node more, and by what the nodes have received.
-use Rattle.std.proofs.Common.{◌≡◌, ℕ, zero, suc, ◌+◌, ◌-◌, ◌<◌, ◌==◌, ◌&&◌, true, false, nat_lt, cond, List, [], ◌∷◌, ◌++◌, length, take, get_or, filter_map, Option, Some, None, option_to_list, refl, ap, sym, ◌∙◌, arith, ⊎_elim}
+use Rattle.std.proofs.Common.{◌≡◌, ℕ, zero, suc, ◌+◌, ◌-◌, ◌<◌, ◌==◌, ◌&&◌, true, false, nat_lt, cond, List, [], ◌∷◌}
+use Rattle.std.proofs.Common.{◌++◌, length, take, get_or, filter_map, Option, Some, None, option_to_list, refl, ap, sym, ◌∙◌, arith, ⊎_elim}
 use Rattle.std.specs.List.{enumerate_from, cons_option}
 use Rattle.std.proofs.lemmas.List.{take_more}
 use Rattle.std.proofs.lemmas.List.Elements.{filter_map-append}
@@ -35,17 +36,20 @@ kept_more {X} h xs i x lt read =
     let all : List (ℕ × X) = enumerate_from 0 xs in
     let n : i < length all = omega (arith, length-enumerate_from 0 xs) in
     let z : 0 + i ≡ i = omega arith in
-    let here : get_or all i (0, x) ≡ (i, x) = get_or-enumerate_from 0 xs i (0, x) lt ∙ ap (λ k. (k, get_or xs i x)) z ∙ ap (λ y. (i, y)) (sym read) in
+    let here : get_or all i (0, x) ≡ (i, x) = get_or-enumerate_from 0 xs i (0, x) lt ∙ ap (λ k. (k, get_or xs i x)) z
+    ∙ ap (λ y. (i, y)) (sym read) in
     ap (filter_map h) (take_more all i (0, x) n ∙ ap (λ p. take i all ++ p ∷ []) here)
     ∙ filter_map-append h (take i all) ((i, x) ∷ [])
     ∙ ap (λ t. filter_map h (take i all) ++ t) (one_kept (h (i, x)))
 
 -- the stream up to the last cycle is the one after all cycles
-end_of : (plan : Plan) (out : Outputs) (port : PortId) (n : ℕ) → cond (n == 0) [] (stream_of plan out (n - 1) port) ≡ streamed plan out n port
+end_of : (plan : Plan) (out : Outputs) (port : PortId) (n : ℕ)
+    → cond (n == 0) [] (stream_of plan out (n - 1) port) ≡ streamed plan out n port
 end_of plan out port zero = refl
 end_of plan out port (suc n) =
     let less : suc n - 1 ≡ n = omega arith in
-    cond-false (suc n == 0) [] (stream_of plan out (suc n - 1) port) (ne_eqb (suc n) 0 (λ e. omega (arith, e))) ∙ ap (λ c. stream_of plan out c port) less
+    cond-false (suc n == 0) [] (stream_of plan out (suc n - 1) port) (ne_eqb (suc n) 0 (λ e. omega (arith, e)))
+    ∙ ap (λ c. stream_of plan out c port) less
 
 -- sinks and meters have an input
 sink_hears : (k : Kind) → is_sink k ≡ true → nat_lt 0 (input_count k) ≡ true
@@ -56,7 +60,8 @@ meter_hears : (k : Kind) → is_meter k ≡ true → nat_lt 0 (input_count k) �
 meter_hears Meter h = refl
 meter_hears _ h = absurd (false≢true h)
 
-module _ (plan : Plan) (waves : List WavIn) (received : List Received) (h : AreReceived (length plan.nodes) (received_until plan (outputs plan waves) (all_cycles plan)) received)
+module _ (plan : Plan) (waves : List WavIn) (received : List Received)
+    (h : AreReceived (length plan.nodes) (received_until plan (outputs plan waves) (all_cycles plan)) received)
     (i : ℕ) (node : PlanNode) (lt : i < length plan.nodes) (read : node ≡ get_or plan.nodes i node) where
   kind : kind_at plan i ≡ node.kind
   kind = kind_there plan.nodes i node lt ∙ ap (λ n. n.kind) (sym read)
@@ -71,12 +76,15 @@ module _ (plan : Plan) (waves : List WavIn) (received : List Received) (h : AreR
 
   pub kept_is : kept_by i node (get_or received i nothing) ≡ kept_of plan waves (i, node)
   kept_is = ⊎_elim
-      (λ (t : is_sink node.kind ≡ true). ap (λ s. cond (is_sink node.kind && nat_lt 0 node.rate) (Some (let k : Kept = record { node = i; wav = record { rate = node.rate; channels = node.channels; samples = s } } in k)) None) (row (sink_hears node.kind t)))
+      (λ (t : is_sink node.kind ≡ true). ap (λ s. cond (is_sink node.kind && nat_lt 0 node.rate)
+      (Some (let k : Kept = record { node = i; wav = record { rate = node.rate; channels = node.channels; samples = s } } in k)) None)
+      (row (sink_hears node.kind t)))
       (λ (f : is_sink node.kind ≡ false). rw f refl)
       (cases_Bool (is_sink node.kind))
 
   pub peak_is : peak_by i node (get_or received i nothing) ≡ peak_at plan waves (i, node)
   peak_is = ⊎_elim
-      (λ (t : is_meter node.kind ≡ true). ap (λ s. cond (is_meter node.kind && nat_lt 0 node.rate) (Some (let p : Peak = record { node = i; value = peak_of s } in p)) None) (row (meter_hears node.kind t)))
+      (λ (t : is_meter node.kind ≡ true). ap (λ s. cond (is_meter node.kind && nat_lt 0 node.rate)
+      (Some (let p : Peak = record { node = i; value = peak_of s } in p)) None) (row (meter_hears node.kind t)))
       (λ (f : is_meter node.kind ≡ false). rw f refl)
       (cases_Bool (is_meter node.kind))

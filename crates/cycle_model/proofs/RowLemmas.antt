@@ -1,5 +1,7 @@
 -- Rows of samples as functions of the place: silence, sums, the end of a row, and rows one after another.
-use Rattle.std.proofs.Common.{Bool, true, false, ◌≡◌, ℕ, zero, suc, ◌+◌, ◌-◌, ◌*◌, ◌<◌, ◌≤◌, List, [], ◌∷◌, ◌++◌, map, length, take, drop, replicate, get_or, filter, fold, flat_map, ℤ, pos, ◌+ℤ◌, All, refl, ap, sym, ◌∙◌, arith, ⊎_elim, length-append, length-drop, length-take, get_or-take, get_or-drop}
+use Rattle.std.proofs.Common.{Bool, true, false, ◌≡◌, ℕ, zero, suc, ◌+◌, ◌-◌, ◌*◌, ◌<◌, ◌≤◌, List, [], ◌∷◌, ◌++◌, map}
+use Rattle.std.proofs.Common.{length, take, drop, replicate, get_or, filter, fold, flat_map, ℤ, pos, ◌+ℤ◌, All, refl, ap, sym, ◌∙◌, arith}
+use Rattle.std.proofs.Common.{⊎_elim, length-append, length-drop, length-take, get_or-take, get_or-drop}
 use Rattle.std.specs.List.{range_with_len}
 use Rattle.std.proofs.lemmas.List.{length-replicate, get_or_append_left, get_or-append_right, get_or-replicate, get_or_past}
 use Rattle.std.proofs.lemmas.List.Elements.{All-head, All-tail}
@@ -12,7 +14,8 @@ padded_at : (w : List ℤ) (n k : ℕ) → k < n → get_or (w ++ replicate n (p
 padded_at w n k h = ⊎_elim
     (λ (a : k < length w). get_or_append_left w (replicate n (pos 0)) (pos 0) k a)
     (λ (b : length w ≤ k). let lt : k - length w < n = omega arith in
-    get_or-append_right w (replicate n (pos 0)) (length w) k (pos 0) refl b ∙ get_or-replicate n (k - length w) (pos 0) (pos 0) lt ∙ sym (get_or_past w k (pos 0) b))
+    get_or-append_right w (replicate n (pos 0)) (length w) k (pos 0) refl b ∙ get_or-replicate n (k - length w) (pos 0) (pos 0) lt
+    ∙ sym (get_or_past w k (pos 0) b))
     (cases_lt k (length w))
 
 pub padded : (w : List ℤ) (n : ℕ) → take n (w ++ replicate n (pos 0)) ≡ map (λ j. get_or w j (pos 0)) (range_with_len 0 n)
@@ -24,7 +27,8 @@ padded w n = fill_by_all (λ j. get_or w j (pos 0)) (take n (w ++ replicate n (p
 pub end_of_row : (f : ℕ → ℤ) (m n : ℕ) → drop m (map f (range_with_len 0 (m + n))) ≡ map (λ r. f (m + r)) (range_with_len 0 n)
 end_of_row f m n = fill_by_all (λ r. f (m + r)) (drop m (map f (range_with_len 0 (m + n)))) n (pos 0)
     (omega (arith, length-drop m (map f (range_with_len 0 (m + n))), length-map-range_with_len f 0 (m + n)))
-    (λ k h. get_or-drop m (map f (range_with_len 0 (m + n))) k (pos 0) ∙ get_or-map-range_with_len f 0 (m + n) (m + k) (m + k) (pos 0) (omega arith) (omega arith))
+    (λ k h. get_or-drop m (map f (range_with_len 0 (m + n))) k (pos 0)
+    ∙ get_or-map-range_with_len f 0 (m + n) (m + k) (m + k) (pos 0) (omega arith) (omega arith))
 
 pub silence_is : (a n : ℕ) → silence n ≡ map (λ j. pos 0) (range_with_len a n)
 silence_is a zero = refl
@@ -35,7 +39,8 @@ summed_rows f g [] = refl
 summed_rows f g (k ∷ ks) = ap (λ t. (f k +ℤ g k) ∷ t) (summed_rows f g ks)
 
 -- the sum of rows, each of which is a function of the place
-pub fold_summed : {L : Type 0} (row : L → List ℤ) (at : L → ℕ → ℤ) (f : ℕ → ℤ) (ks : List ℕ) (ls : List L) → All (λ l. row l ≡ map (at l) ks) ls
+pub fold_summed : {L : Type 0} (row : L → List ℤ) (at : L → ℕ → ℤ) (f : ℕ → ℤ) (ks : List ℕ) (ls : List L)
+    → All (λ l. row l ≡ map (at l) ks) ls
     → fold summed (map f ks) (map row ls) ≡ map (λ j. fold (λ s l. s +ℤ at l j) (f j) ls) ks
 fold_summed row at f ks [] h = refl
 fold_summed row at f ks (l ∷ ls) h =
@@ -67,14 +72,17 @@ joined g a (suc n) m =
     ∙ ap (λ k. map g (range_with_len a k)) e
 
 -- rows of one length, one after another
-pub rows_joined : (g : ℕ → ℤ) (q a n : ℕ) → flat_map (λ k. map (λ r. g (k * q + r)) (range_with_len 0 q)) (range_with_len a n) ≡ map g (range_with_len (a * q) (n * q))
+pub rows_joined : (g : ℕ → ℤ) (q a n : ℕ) → flat_map (λ k. map (λ r. g (k * q + r)) (range_with_len 0 q)) (range_with_len a n)
+    ≡ map g (range_with_len (a * q) (n * q))
 rows_joined g q a zero = let e : 0 ≡ 0 * q = omega arith in ap (λ k. map g (range_with_len (a * q) k)) e
 rows_joined g q a (suc n) =
     let e : a * q + 0 ≡ a * q = omega arith in
     let d : (a + 1) * q ≡ a * q + q = omega arith in
     let l : q + n * q ≡ suc n * q = omega arith in
-    let first : map (λ r. g (a * q + r)) (range_with_len 0 q) ≡ map g (range_with_len (a * q) q) = shifted g (a * q) 0 q ∙ ap (λ k. map g (range_with_len k q)) e in
-    let rest : flat_map (λ k. map (λ r. g (k * q + r)) (range_with_len 0 q)) (range_with_len (a + 1) n) ≡ map g (range_with_len (a * q + q) (n * q)) =
+    let first : map (λ r. g (a * q + r)) (range_with_len 0 q) ≡ map g (range_with_len (a * q) q) = shifted g (a * q) 0 q
+    ∙ ap (λ k. map g (range_with_len k q)) e in
+    let rest : flat_map (λ k. map (λ r. g (k * q + r)) (range_with_len 0 q)) (range_with_len (a + 1) n)
+    ≡ map g (range_with_len (a * q + q) (n * q)) =
     rows_joined g q (a + 1) n ∙ ap (λ k. map g (range_with_len k (n * q))) d in
     ap (λ t. t ++ flat_map (λ k. map (λ r. g (k * q + r)) (range_with_len 0 q)) (range_with_len (a + 1) n)) first
     ∙ ap (λ t. map g (range_with_len (a * q) q) ++ t) rest
@@ -82,7 +90,8 @@ rows_joined g q a (suc n) =
     ∙ ap (λ k. map g (range_with_len (a * q) k)) l
 
 -- two functions that agree on a range
-pub flat_map_agree : {X : Type 0} (f g : ℕ → List X) (a n : ℕ) → ((k : ℕ) → k < a + n → f k ≡ g k) → flat_map f (range_with_len a n) ≡ flat_map g (range_with_len a n)
+pub flat_map_agree : {X : Type 0} (f g : ℕ → List X) (a n : ℕ) → ((k : ℕ) → k < a + n → f k ≡ g k)
+    → flat_map f (range_with_len a n) ≡ flat_map g (range_with_len a n)
 flat_map_agree f g a zero h = refl
 flat_map_agree f g a (suc n) h =
     ap (λ t. t ++ flat_map f (range_with_len (a + 1) n)) (h a (omega arith))

@@ -1,5 +1,6 @@
 -- A sound plan whose waves fit can be rendered.
-use Rattle.std.proofs.Common.{◌≡◌, ℕ, zero, suc, ◌<◌, ◌==◌, true, false, nat_lt, List, [], ◌∷◌, length, get_or, refl, ap, subst, arith, inl, inr}
+use Rattle.std.proofs.Common.{◌≡◌, ℕ, zero, suc, ◌<◌, ◌==◌, true, false, nat_lt, List, [], ◌∷◌, length, get_or, refl, ap, subst, arith}
+use Rattle.std.proofs.Common.{inl, inr}
 use mathlib.Core.Logic.{dite}
 use native.Mathlib.Decide.{ℕ_discrete}
 use Rattle.std.specs.Prelude.{AllPairs, Contains, IsTrue}
@@ -30,19 +31,23 @@ not_before_itself p t =
     cc
 
 -- where ports ascend, the form of a port is the first one of that port
-found_at : (forms : List PortForm) (a : PortForm) (k : ℕ) → AllPairs (λ f g. IsTrue (is_before f.port g.port)) forms → k < length forms → get_or forms k a ≡ a → channels_of forms a.port ≡ a.channels
+found_at : (forms : List PortForm) (a : PortForm) (k : ℕ) → AllPairs (λ f g. IsTrue (is_before f.port g.port)) forms → k < length forms
+    → get_or forms k a ≡ a → channels_of forms a.port ≡ a.channels
 found_at [] a k ascend lt e = absurd (omega arith)
 found_at (f ∷ fs) a zero ascend lt e =
     let t : is_port f.port a.port ≡ true = port_same f.port a.port (ap (λ g. g.port) e) in
     rw t (ap (λ g. g.channels) e)
 found_at (f ∷ fs) a (suc k) ascend lt e =
     let here : IsTrue (is_before f.port a.port) = subst (λ g. IsTrue (is_before f.port g.port)) e (ascend 0 (suc k) a (omega arith) lt) in
-    let other : is_port f.port a.port ≡ false = false_from_ne_true (is_port f.port a.port) (λ t. not_before_itself a.port (subst (λ p. IsTrue (is_before p a.port)) (same_port f.port a.port t) here)) in
+    let other : is_port f.port a.port ≡ false = false_from_ne_true (is_port f.port a.port)
+    (λ t. not_before_itself a.port (subst (λ p. IsTrue (is_before p a.port)) (same_port f.port a.port t) here)) in
     rw other (found_at fs a k (λ i j d ij jl. ascend (suc i) (suc j) d (omega arith) (omega arith)) (omega arith) e)
 
-channels_are : (forms : List PortForm) (port : PortId) (rate channels : ℕ) → AllPairs (λ f g. IsTrue (is_before f.port g.port)) forms → Contains forms (record { port = port; rate = rate; channels = channels })
+channels_are : (forms : List PortForm) (port : PortId) (rate channels : ℕ) → AllPairs (λ f g. IsTrue (is_before f.port g.port)) forms
+    → Contains forms (record { port = port; rate = rate; channels = channels })
     → channels_of forms port ≡ channels
-channels_are forms port rate channels ascend c = found_at forms (record { port = port; rate = rate; channels = channels }) c.0 ascend c.1 c.2
+channels_are forms port rate channels ascend c = found_at forms
+    (record { port = port; rate = rate; channels = channels }) c.0 ascend c.1 c.2
 
 module _ (plan : Plan) (e : Epoch) (h : IsSoundEpoch plan e) where
   link_fits : (l : ShapeLink) → IsSoundLink e.shape l → IsFormed plan e l → IsFitting plan e l

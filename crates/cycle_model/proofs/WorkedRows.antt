@@ -62,7 +62,8 @@ Keeps p waves n samples = rendered_sinks p waves ≡ record { node = n; wav = re
 
 -- a source of three samples, for two cycles of two frames: the rest is silence
 abbrev one_source : Plan
-one_source = plan 2 (node Source ∷ sink ∷ []) (epoch 0 2 2 (0 ∷ 1 ∷ 63 ∷ []) (prompt (port 0 0) (port 1 0) ∷ []) ((0, 0, 1) ∷ (1, 0, 1) ∷ []) (1 ∷ []) ∷ [])
+one_source = plan 2 (node Source ∷ sink ∷ []) (epoch 0 2 2 (0 ∷ 1 ∷ 63 ∷ []) (prompt (port 0 0) (port 1 0) ∷ [])
+    ((0, 0, 1) ∷ (1, 0, 1) ∷ []) (1 ∷ []) ∷ [])
 
 pub one_source_is_kept : Keeps one_source (wave 0 1 (pos 7 ∷ pos 8 ∷ pos 9 ∷ []) ∷ []) 1 (pos 7 ∷ pos 8 ∷ pos 9 ∷ pos 0 ∷ [])
 unfolding outputs_after rendered_sinks
@@ -74,20 +75,24 @@ three_sources = plan 1 (node Source ∷ node Source ∷ node Source ∷ sink ∷
     (epoch 0 1 1 (0 ∷ 1 ∷ 2 ∷ 3 ∷ 63 ∷ []) (prompt (port 0 0) (port 3 0) ∷ prompt (port 1 0) (port 3 0) ∷ prompt (port 2 0) (port 3 0) ∷ [])
     ((0, 0, 1) ∷ (1, 0, 1) ∷ (2, 0, 1) ∷ (3, 0, 1) ∷ []) (3 ∷ []) ∷ [])
 
-pub three_sources_are_clamped_once : Keeps three_sources (wave 0 1 (pos 30000 ∷ []) ∷ wave 1 1 (pos 30000 ∷ []) ∷ wave 2 1 (negsuc 29999 ∷ []) ∷ []) 3 (pos 30000 ∷ [])
+pub three_sources_are_clamped_once : Keeps three_sources
+    (wave 0 1 (pos 30000 ∷ []) ∷ wave 1 1 (pos 30000 ∷ []) ∷ wave 2 1 (negsuc 29999 ∷ []) ∷ []) 3 (pos 30000 ∷ [])
 unfolding outputs_after rendered_sinks
 three_sources_are_clamped_once = refl
 
-pub two_sources_stop_at_the_end : Keeps three_sources (wave 0 1 (negsuc 32767 ∷ []) ∷ wave 1 1 (negsuc 32767 ∷ []) ∷ []) 3 (negsuc 32767 ∷ [])
+pub two_sources_stop_at_the_end : Keeps three_sources (wave 0 1 (negsuc 32767 ∷ []) ∷ wave 1 1 (negsuc 32767 ∷ []) ∷ []) 3
+    (negsuc 32767 ∷ [])
 unfolding outputs_after rendered_sinks
 two_sources_stop_at_the_end = refl
 
 -- a source that is off for an epoch goes on where it stopped
 abbrev off_and_on : Plan
 off_and_on = let links = prompt (port 0 0) (port 1 0) ∷ [] in let forms = (0, 0, 1) ∷ (1, 0, 1) ∷ [] in plan 2 (node Source ∷ sink ∷ [])
-    (epoch 0 1 2 (0 ∷ 1 ∷ []) links forms (1 ∷ []) ∷ epoch 1 1 2 (1 ∷ []) [] ((1, 0, 1) ∷ []) [] ∷ epoch 2 1 2 (0 ∷ 1 ∷ []) links forms [] ∷ [])
+    (epoch 0 1 2 (0 ∷ 1 ∷ []) links forms (1 ∷ []) ∷ epoch 1 1 2 (1 ∷ []) [] ((1, 0, 1) ∷ []) [] ∷ epoch 2 1 2 (0 ∷ 1 ∷ []) links forms [] ∷
+    [])
 
-pub a_source_goes_on_where_it_stopped : Keeps off_and_on (wave 0 1 (pos 1 ∷ pos 2 ∷ pos 3 ∷ pos 4 ∷ pos 5 ∷ pos 6 ∷ []) ∷ []) 1 (pos 1 ∷ pos 2 ∷ pos 0 ∷ pos 0 ∷ pos 3 ∷ pos 4 ∷ [])
+pub a_source_goes_on_where_it_stopped : Keeps off_and_on (wave 0 1 (pos 1 ∷ pos 2 ∷ pos 3 ∷ pos 4 ∷ pos 5 ∷ pos 6 ∷ []) ∷ []) 1
+    (pos 1 ∷ pos 2 ∷ pos 0 ∷ pos 0 ∷ pos 3 ∷ pos 4 ∷ [])
 unfolding outputs_after rendered_sinks
 a_source_goes_on_where_it_stopped = refl
 
@@ -95,10 +100,12 @@ a_source_goes_on_where_it_stopped = refl
 abbrev split_and_mixed : Plan
 split_and_mixed = plan 4 (node Source ∷ node Split ∷ node (Mix2 (pos 256) (pos 256)) ∷ sink ∷ [])
     (epoch 0 1 4 (0 ∷ 1 ∷ 2 ∷ 3 ∷ [])
-    (record { from = port 0 0; to = port 1 0; channels = 2; buffers = 2; delayed = false } ∷ prompt (port 1 1) (port 2 0) ∷ prompt (port 1 2) (port 2 1) ∷ prompt (port 2 2) (port 3 0) ∷ [])
+    (record { from = port 0 0; to = port 1 0; channels = 2; buffers = 2; delayed = false } ∷ prompt (port 1 1) (port 2 0) ∷ prompt
+    (port 1 2) (port 2 1) ∷ prompt (port 2 2) (port 3 0) ∷ [])
     ((0, 0, 2) ∷ (1, 0, 2) ∷ (1, 1, 1) ∷ (1, 2, 1) ∷ (2, 0, 1) ∷ (2, 1, 1) ∷ (2, 2, 1) ∷ (3, 0, 1) ∷ []) (1 ∷ 2 ∷ 3 ∷ []) ∷ [])
 
-pub left_and_right_are_mixed : Keeps split_and_mixed (wave 0 2 (pos 1 ∷ pos 10 ∷ pos 2 ∷ pos 20 ∷ pos 3 ∷ pos 30 ∷ pos 4 ∷ pos 40 ∷ []) ∷ []) 3
+pub left_and_right_are_mixed : Keeps split_and_mixed
+    (wave 0 2 (pos 1 ∷ pos 10 ∷ pos 2 ∷ pos 20 ∷ pos 3 ∷ pos 30 ∷ pos 4 ∷ pos 40 ∷ []) ∷ []) 3
     (pos 11 ∷ pos 22 ∷ pos 33 ∷ pos 44 ∷ [])
 unfolding outputs_after rendered_sinks
 left_and_right_are_mixed = refl
@@ -108,7 +115,8 @@ abbrev delayed_by : ℕ → ℕ → List Epoch → Plan
 delayed_by frames quantum epochs = plan quantum (node Source ∷ node (Delay frames) ∷ sink ∷ []) epochs
 
 abbrev through_delay : ℕ → ℕ → ℕ → List ℕ → Epoch
-through_delay first cycles quantum begins = epoch first cycles quantum (0 ∷ 1 ∷ 2 ∷ []) (prompt (port 0 0) (port 1 0) ∷ prompt (port 1 1) (port 2 0) ∷ [])
+through_delay first cycles quantum begins = epoch first cycles quantum (0 ∷ 1 ∷ 2 ∷ [])
+    (prompt (port 0 0) (port 1 0) ∷ prompt (port 1 1) (port 2 0) ∷ [])
     ((0, 0, 1) ∷ (1, 0, 1) ∷ (1, 1, 1) ∷ (2, 0, 1) ∷ []) begins
 
 pub a_delay_begins_anew : Keeps (delayed_by 1 2 (through_delay 0 1 2 (1 ∷ 2 ∷ []) ∷ through_delay 1 1 2 (1 ∷ []) ∷ []))
@@ -129,16 +137,19 @@ a_delay_longer_than_the_run = refl
 -- two links that are a cycle late, one after the other
 abbrev late_gain : Plan
 late_gain = plan 2 (node Source ∷ node (Gain (pos 256)) ∷ sink ∷ [])
-    (epoch 0 4 2 (0 ∷ 1 ∷ 2 ∷ []) (late (port 0 0) (port 1 0) ∷ late (port 1 1) (port 2 0) ∷ []) ((0, 0, 1) ∷ (1, 0, 1) ∷ (1, 1, 1) ∷ (2, 0, 1) ∷ []) (1 ∷ 2 ∷ []) ∷ [])
+    (epoch 0 4 2 (0 ∷ 1 ∷ 2 ∷ []) (late (port 0 0) (port 1 0) ∷ late (port 1 1) (port 2 0) ∷ [])
+    ((0, 0, 1) ∷ (1, 0, 1) ∷ (1, 1, 1) ∷ (2, 0, 1) ∷ []) (1 ∷ 2 ∷ []) ∷ [])
 
-pub two_late_links_are_two_cycles : Keeps late_gain (wave 0 1 (pos 1 ∷ pos 2 ∷ pos 3 ∷ pos 4 ∷ []) ∷ []) 2 (pos 0 ∷ pos 0 ∷ pos 0 ∷ pos 0 ∷ pos 1 ∷ pos 2 ∷ pos 3 ∷ pos 4 ∷ [])
+pub two_late_links_are_two_cycles : Keeps late_gain (wave 0 1 (pos 1 ∷ pos 2 ∷ pos 3 ∷ pos 4 ∷ []) ∷ []) 2
+    (pos 0 ∷ pos 0 ∷ pos 0 ∷ pos 0 ∷ pos 1 ∷ pos 2 ∷ pos 3 ∷ pos 4 ∷ [])
 unfolding outputs_after rendered_sinks
 two_late_links_are_two_cycles = refl
 
 -- a loop through links that are a cycle late
 abbrev feedback : Plan
 feedback = plan 1 (node Source ∷ node (Mix2 (pos 256) (pos 128)) ∷ node (Gain (pos 256)) ∷ sink ∷ [])
-    (epoch 0 5 1 (0 ∷ 1 ∷ 2 ∷ 3 ∷ []) (prompt (port 0 0) (port 1 0) ∷ late (port 1 2) (port 2 0) ∷ late (port 2 1) (port 1 1) ∷ prompt (port 1 2) (port 3 0) ∷ [])
+    (epoch 0 5 1 (0 ∷ 1 ∷ 2 ∷ 3 ∷ []) (prompt (port 0 0) (port 1 0) ∷ late (port 1 2) (port 2 0) ∷ late (port 2 1) (port 1 1) ∷ prompt
+    (port 1 2) (port 3 0) ∷ [])
     ((0, 0, 1) ∷ (1, 0, 1) ∷ (1, 1, 1) ∷ (1, 2, 1) ∷ (2, 0, 1) ∷ (2, 1, 1) ∷ (3, 0, 1) ∷ []) (1 ∷ 2 ∷ 3 ∷ []) ∷ [])
 
 pub feedback_decays : Keeps feedback (wave 0 1 (pos 8 ∷ []) ∷ []) 3 (pos 8 ∷ pos 0 ∷ pos 4 ∷ pos 0 ∷ pos 2 ∷ [])
@@ -152,15 +163,18 @@ late_epoch first cycles begins = epoch first cycles 1 (0 ∷ 1 ∷ []) (late (po
 abbrev late_source : List Epoch → Plan
 late_source epochs = plan 1 (node Source ∷ sink ∷ []) epochs
 
-pub a_late_link : Keeps (late_source (late_epoch 0 3 (1 ∷ []) ∷ [])) (wave 0 1 (pos 5 ∷ pos 6 ∷ pos 7 ∷ []) ∷ []) 1 (pos 0 ∷ pos 5 ∷ pos 6 ∷ [])
+pub a_late_link : Keeps (late_source (late_epoch 0 3 (1 ∷ []) ∷ [])) (wave 0 1 (pos 5 ∷ pos 6 ∷ pos 7 ∷ []) ∷ []) 1
+    (pos 0 ∷ pos 5 ∷ pos 6 ∷ [])
 unfolding outputs_after rendered_sinks
 a_late_link = refl
 
-pub each_epoch_begins_with_silence : Keeps (late_source (late_epoch 0 1 (1 ∷ []) ∷ late_epoch 1 2 [] ∷ [])) (wave 0 1 (pos 5 ∷ pos 6 ∷ pos 7 ∷ []) ∷ []) 1 (pos 0 ∷ pos 0 ∷ pos 6 ∷ [])
+pub each_epoch_begins_with_silence : Keeps (late_source (late_epoch 0 1 (1 ∷ []) ∷ late_epoch 1 2 [] ∷ []))
+    (wave 0 1 (pos 5 ∷ pos 6 ∷ pos 7 ∷ []) ∷ []) 1 (pos 0 ∷ pos 0 ∷ pos 6 ∷ [])
 unfolding outputs_after rendered_sinks
 each_epoch_begins_with_silence = refl
 
-pub so_does_one_after_a_pause : Keeps (late_source (late_epoch 0 1 (1 ∷ []) ∷ epoch 1 1 1 (1 ∷ []) [] ((1, 0, 1) ∷ []) [] ∷ late_epoch 2 2 [] ∷ []))
+pub so_does_one_after_a_pause : Keeps (late_source
+    (late_epoch 0 1 (1 ∷ []) ∷ epoch 1 1 1 (1 ∷ []) [] ((1, 0, 1) ∷ []) [] ∷ late_epoch 2 2 [] ∷ []))
     (wave 0 1 (pos 5 ∷ pos 6 ∷ pos 7 ∷ []) ∷ []) 1 (pos 0 ∷ pos 0 ∷ pos 0 ∷ pos 6 ∷ [])
 unfolding outputs_after rendered_sinks
 so_does_one_after_a_pause = refl

@@ -1,6 +1,8 @@
 -- The cycle function: what each port receives and gives in each cycle, by whole streams.
--- Source: PipeWire's documentation, "Graph Scheduling": a node runs after those it depends on; the kinds are this project's.
-use Rattle.std.specs.Prelude.{ℕ, zero, suc, ◌+◌, ◌-◌, ◌*◌, ◌==◌, List, [], option_map, unwrap_or, map, fold, find, flat_map, length, drop, ℤ, if◌then◌else◌}
+-- Source: PipeWire's documentation, "Graph Scheduling": a node runs after those it depends on; the kinds are this
+-- project's.
+use Rattle.std.specs.Prelude.{ℕ, zero, suc, ◌+◌, ◌-◌, ◌*◌, ◌==◌, List, [], option_map, unwrap_or, map, fold, find, flat_map, length, drop}
+use Rattle.std.specs.Prelude.{ℤ, if◌then◌else◌}
 use Rattle.pw_base.specs.declared.ids.PortId.{PortId}
 use Rattle.pw_base.specs.declared.shape.ShapeLink.{ShapeLink}
 use Rattle.pw_base.specs.declared.plan.Plan.{Plan}
@@ -22,13 +24,15 @@ wave_of waves node = unwrap_or (option_map (λ w. w.wav.samples) (find (λ w. w.
 -- what a link brings: what was made in this cycle; a delayed one, in the cycle before, and zeros in its epoch's first
 abbrev pub brought : Plan → Outputs → ℕ → ShapeLink → List ℤ
 brought plan out cycle link =
-    if link.delayed then (if cycle == first_at plan cycle then silence (plan.quantum * link.channels) else out (cycle - 1) link.from)
+    if link.delayed then (if cycle == first_at plan cycle then silence (plan.quantum * link.channels)
+    else out (cycle - 1) link.from)
     else out cycle link.from
 
 -- PORT INPUT: the sum of all that its links bring, clamped once; silence without a link, nothing without a form
 abbrev pub input_of : Plan → Outputs → ℕ → PortId → List ℤ
 input_of plan out cycle port =
-    map clamped (fold summed (silence (plan.quantum * channels_at plan cycle port)) (map (λ l. brought plan out cycle l) (links_into plan cycle port)))
+    map clamped (fold summed (silence (plan.quantum * channels_at plan cycle port))
+    (map (λ l. brought plan out cycle l) (links_into plan cycle port)))
 
 -- PORT STREAM up to a cycle: its inputs in the cycles in which its node was active, since the node's last release
 abbrev pub stream_of : Plan → Outputs → ℕ → PortId → List ℤ
@@ -53,7 +57,8 @@ last_of n row = drop (length row - n) row
 abbrev pub output_of : Plan → List WavIn → Outputs → ℕ → PortId → List ℤ
 output_of plan waves out cycle port =
     last_of (plan.quantum * channels_at plan cycle port)
-    (kind_output (kind_at plan port.node) (heard plan waves out cycle port) (port.port - input_count (kind_at plan port.node)))
+    (kind_output (kind_at plan port.node) (heard plan waves out cycle port)
+    (port.port - input_count (kind_at plan port.node)))
 
 -- what is known after so many rounds, each of which works out every output from those known before it
 unfoldable pub outputs_after : Plan → List WavIn → ℕ → Outputs

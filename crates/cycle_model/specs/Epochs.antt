@@ -1,5 +1,6 @@
 -- Cycles of a plan: which epoch one belongs to, and what that epoch's graph has.
-use Rattle.std.specs.Prelude.{ℕ, ◌+◌, ◌-◌, ◌==◌, ◌&&◌, Bool, List, [], Option, Some, None, option_map, unwrap_or, map, filter, find, fold, sum_by, nat_lt, nat_le, if◌then◌else◌}
+use Rattle.std.specs.Prelude.{ℕ, ◌+◌, ◌-◌, ◌==◌, ◌&&◌, Bool, List, [], Option, Some, None, option_map, unwrap_or, map, filter, find, fold}
+use Rattle.std.specs.Prelude.{sum_by, nat_lt, nat_le, if◌then◌else◌}
 use Rattle.std.specs.List.{list_any, range_with_len}
 use Rattle.pw_base.specs.declared.ids.PortId.{PortId}
 use Rattle.pw_base.specs.declared.shape.ShapeLink.{ShapeLink}

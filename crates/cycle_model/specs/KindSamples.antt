@@ -17,8 +17,10 @@ kind_sample Source h output i = slice_index_or h.wave i (pos 0)
 kind_sample (Square rate channels period amp) h output i = square_at period amp (i / h.channels)
 kind_sample (Gain g) h output i = scaled g (slice_index_or h.a i (pos 0))
 kind_sample (Mix2 ga gb) h output i = mixed ga gb (slice_index_or h.a i (pos 0)) (slice_index_or h.b i (pos 0))
-kind_sample (Delay frames) h output i = if nat_lt i (frames * h.channels) then pos 0 else slice_index_or h.a (i - frames * h.channels) (pos 0)
-kind_sample (Map channels list) h output i = sample_at channels h.a (i / length list) (slice_index list (i % length list))
+kind_sample (Delay frames) h output i = if nat_lt i (frames * h.channels) then pos 0
+    else slice_index_or h.a (i - frames * h.channels) (pos 0)
+kind_sample (Map channels list) h output i =
+    sample_at channels h.a (i / length list) (slice_index list (i % length list))
 kind_sample Split h output i = sample_at 2 h.a i output
 kind_sample Sink h output i = pos 0
 kind_sample Meter h output i = pos 0

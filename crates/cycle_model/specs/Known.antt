@@ -1,6 +1,7 @@
 -- What the reference program knows: what ports gave in a cycle, and what nodes have received; and what follows.
 -- Source: PipeWire's documentation, "Graph Scheduling": a node runs after those it depends on.
-use Rattle.std.specs.Prelude.{ℕ, ◌+◌, ◌*◌, ◌==◌, ◌&&◌, nat_lt, Bool, List, [], ◌++◌, Option, Some, None, map, filter, find, fold, option_map, unwrap_or, ℤ, if◌then◌else◌}
+use Rattle.std.specs.Prelude.{ℕ, ◌+◌, ◌*◌, ◌==◌, ◌&&◌, nat_lt, Bool, List, [], ◌++◌, Option, Some, None, map, filter, find, fold}
+use Rattle.std.specs.Prelude.{option_map, unwrap_or, ℤ, if◌then◌else◌}
 use Rattle.std.specs.List.{list_any, range_with_len}
 use Rattle.pw_base.specs.declared.ids.PortId.{PortId}
 use Rattle.pw_base.specs.declared.kind.Kind.{Kind}
@@ -49,7 +50,11 @@ received_more quantum first before now epoch kind node r = record {
 abbrev pub given_by : ℕ → Epoch → Kind → List ℤ → ℕ → Received → ℕ → Given
 given_by quantum epoch kind wave node r output =
     let port : PortId = record { node = node; port = input_count kind + output } in
-    record { port = port; samples = last_of (quantum * channels_of epoch.forms port) (kind_output kind (heard_of wave (channels_of epoch.forms port) r) output) }
+    record {
+      port = port;
+      samples = last_of (quantum * channels_of epoch.forms port)
+          (kind_output kind (heard_of wave (channels_of epoch.forms port) r) output);
+    }
 
 -- what it gives at all of them
 abbrev pub all_given_by : ℕ → Epoch → Kind → List ℤ → ℕ → Received → List Given

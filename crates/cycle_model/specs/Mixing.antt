@@ -1,6 +1,7 @@
 -- Mixing by the sample, where sources play into sinks: what waves have at one place, added and then clamped once.
 -- Samples past the end of a wave are silence. Source: RIFF WAVE PCM of 16 bits; clamping is this project's.
-use Rattle.std.specs.Prelude.{◌≡◌, ℕ, ◌*◌, ◌≤◌, false, List, [], All, length, map, fold, filter, ℤ, pos, ◌+ℤ◌, slice_get, slice_index_or, option_map, unwrap_or, ◌==◌, Bool, if◌then◌else◌}
+use Rattle.std.specs.Prelude.{◌≡◌, ℕ, ◌*◌, ◌≤◌, false, List, [], All, length, map, fold, filter, ℤ, pos, ◌+ℤ◌, slice_get}
+use Rattle.std.specs.Prelude.{slice_index_or, option_map, unwrap_or, ◌==◌, Bool, if◌then◌else◌}
 use Rattle.std.specs.List.{list_any, range_with_len, position_or_len}
 use Rattle.pw_base.specs.declared.ids.PortId.{PortId}
 use Rattle.pw_base.specs.declared.kind.Kind.{Kind}
@@ -19,7 +20,8 @@ place_of waves node = position_or_len (λ w. w.node == node) waves
 
 -- sample j of the wave at a place
 abbrev pub sample_at_place : List WavIn → ℕ → ℕ → ℤ
-sample_at_place waves j place = slice_index_or (unwrap_or (option_map (λ w. w.wav.samples) (slice_get waves place)) []) j (pos 0)
+sample_at_place waves j place = slice_index_or
+    (unwrap_or (option_map (λ w. w.wav.samples) (slice_get waves place)) []) j (pos 0)
 
 -- the sum of sample j of the waves at the places
 abbrev pub sum_at : List WavIn → List ℕ → ℕ → ℤ
@@ -41,7 +43,8 @@ takes_part epoch node = list_any (λ n. n.node == node) epoch.shape.nodes
 abbrev pub epoch_row : Epoch → List WavIn → PortId → List ℤ
 epoch_row epoch waves port =
     if takes_part epoch port.node
-    then mixed_row waves (places_into waves epoch.shape.links port) (epoch.shape.cycles * (epoch.shape.quantum * channels_of epoch.forms port))
+    then mixed_row waves (places_into waves epoch.shape.links port)
+    (epoch.shape.cycles * (epoch.shape.quantum * channels_of epoch.forms port))
     else []
 
 abbrev pub IsSourceOrSink : Kind → Type 0
@@ -49,7 +52,8 @@ IsSourceOrSink Source = Unit {0}
 IsSourceOrSink Sink = Unit {0}
 IsSourceOrSink _ = ⊥
 
--- PLAIN MIX: sources and sinks alone, in at most one epoch, and no delayed link. There a sink gets the epoch's mixed row
+-- PLAIN MIX: sources and sinks alone, in at most one epoch, and no delayed link. There a sink gets the epoch's mixed
+-- row
 pub record IsPlainMix (plan : Plan) : Type 0 where
   pub kinds : All (λ n. IsSourceOrSink n.kind) plan.nodes
   pub one : length plan.epochs ≤ 1

@@ -1,6 +1,7 @@
 -- How far the cycle function has come: what each node has received before and after a cycle, and what ports gave in it.
 -- Source: PipeWire's documentation, "Graph Scheduling": a node runs after those it depends on.
-use Rattle.std.specs.Prelude.{◌≡◌, ℕ, zero, suc, ◌-◌, ◌*◌, ◌<◌, ◌≤◌, nat_lt, true, List, [], filter, flat_map, length, slice_index_or, ℤ, if◌then◌else◌}
+use Rattle.std.specs.Prelude.{◌≡◌, ℕ, zero, suc, ◌-◌, ◌*◌, ◌<◌, ◌≤◌, nat_lt, true, List, [], filter, flat_map, length, slice_index_or}
+use Rattle.std.specs.Prelude.{ℤ, if◌then◌else◌}
 use Rattle.std.specs.List.{range_with_len}
 use Rattle.pw_base.specs.declared.ids.PortId.{PortId}
 use Rattle.pw_base.specs.declared.plan.Plan.{Plan}
@@ -21,7 +22,8 @@ streamed plan out (suc cycle) port = stream_of plan out cycle port
 abbrev pub begun : Plan → Outputs → ℕ → PortId → List ℤ
 begun plan out cycle port =
     flat_map (λ k. input_of plan out k port)
-    (filter (λ k. is_active plan k port.node) (range_with_len (stream_start plan cycle port.node) (cycle - stream_start plan cycle port.node)))
+    (filter (λ k. is_active plan k port.node)
+    (range_with_len (stream_start plan cycle port.node) (cycle - stream_start plan cycle port.node)))
 
 -- what a node has received in so many cycles, by the streams of its ports
 abbrev pub received_with : Plan → ℕ → (PortId → List ℤ) → ℕ → Received
@@ -49,11 +51,13 @@ pub record AreReceived (count : ℕ) (f : ℕ → Received) (received : List Rec
 
 -- an output of a node of the plan
 abbrev pub IsOutputOf : Plan → PortId → Type 0
-IsOutputOf plan port = (input_count (kind_at plan port.node) ≤ port.port) × (port.port < port_count (kind_at plan port.node))
+IsOutputOf plan port = (input_count (kind_at plan port.node) ≤ port.port)
+    × (port.port < port_count (kind_at plan port.node))
 
 -- a list tells what each output of an active node gave in a cycle; in the cycle before one
 abbrev pub TellsCycle : Plan → Outputs → ℕ → List Given → Type 0
-TellsCycle plan out cycle given = (port : PortId) → is_active plan cycle port.node ≡ true → IsOutputOf plan port → given_at given port ≡ out cycle port
+TellsCycle plan out cycle given = (port : PortId) → is_active plan cycle port.node ≡ true → IsOutputOf plan port
+    → given_at given port ≡ out cycle port
 
 abbrev pub TellsBefore : Plan → Outputs → ℕ → List Given → Type 0
 TellsBefore plan out cycle given = (k : ℕ) → suc k ≡ cycle → TellsCycle plan out k given

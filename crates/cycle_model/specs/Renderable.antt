@@ -17,7 +17,8 @@ use Rattle.cycle_model.specs.WavesFit.{WavesFit}
 pub record IsFitting (plan : Plan) (epoch : Epoch) (link : ShapeLink) : Type 0 where
   pub from_active : Contains (map (λ n. n.node) epoch.shape.nodes) link.from.node
   pub to_active : Contains (map (λ n. n.node) epoch.shape.nodes) link.to.node
-  pub from_output : (input_count (kind_at plan link.from.node) ≤ link.from.port) × (link.from.port < port_count (kind_at plan link.from.node))
+  pub from_output : (input_count (kind_at plan link.from.node) ≤ link.from.port)
+      × (link.from.port < port_count (kind_at plan link.from.node))
   pub to_input : link.to.port < input_count (kind_at plan link.to.node)
   pub from_form : channels_of epoch.forms link.from ≡ link.channels
   pub to_form : channels_of epoch.forms link.to ≡ link.channels
@@ -33,7 +34,8 @@ pub record IsRenderableEpoch (plan : Plan) (epoch : Epoch) : Type 0 where
   pub links : All (IsFitting plan epoch) epoch.shape.links
   pub order : HasOrder epoch.shape.links
 
--- few enough nodes with numbers in range, epochs that follow one another from cycle 0 on and can each be rendered, and a wave for each source
+-- few enough nodes with numbers in range, epochs that follow one another from cycle 0 on and can each be rendered, and
+-- a wave for each source
 pub record IsRenderable (plan : Plan) (waves : List WavIn) : Type 0 where
   pub few : length plan.nodes ≤ 63
   pub ranges : All (λ n. IsInRange n.kind) plan.nodes

@@ -21,13 +21,18 @@ is_meter _ = false
 -- the stream of a node's first input up to the run's last cycle; nothing where there is no cycle
 abbrev pub end_stream : Plan → List WavIn → ℕ → List ℤ
 end_stream plan waves node =
-    if all_cycles plan == 0 then [] else stream_of plan (outputs plan waves) (all_cycles plan - 1) (record { node = node; port = 0 })
+    if all_cycles plan == 0 then [] else stream_of plan (outputs plan waves) (all_cycles plan - 1)
+    (record { node = node; port = 0 })
 
 -- a sink with a format at the end keeps its stream, in that format
 abbrev pub kept_of : Plan → List WavIn → ℕ × PlanNode → Option Kept
 kept_of plan waves (place, node) =
     if is_sink node.kind && nat_lt 0 node.rate
-    then Some (record { node = place; wav = record { rate = node.rate; channels = node.channels; samples = end_stream plan waves place } })
+    then Some (record {
+      node = place;
+      wav = record
+          { rate = node.rate; channels = node.channels; samples = end_stream plan waves place };
+    })
     else None
 
 -- a meter with a format at the end has the peak of its stream

@@ -15,12 +15,16 @@ use Rattle.cycle_model.specs.Known.{given_at}
 use Rattle.cycle_model.specs.Progress.{received_until, received_before, nothing, IsOutputOf, TellsBefore}
 
 -- how far a cycle has come: these nodes are done
-pub record IsUnderWay (plan : Plan) (waves : List WavIn) (c : ℕ) (done : List ℕ) (received : List Received) (now : List Given) : Type 0 where
+pub record IsUnderWay (plan : Plan) (waves : List WavIn) (c : ℕ) (done : List ℕ) (received : List Received)
+    (now : List Given) : Type 0 where
   pub counted : length received ≡ length plan.nodes
-  pub heard : (n : ℕ) → n < length plan.nodes → is_among done n ≡ true → slice_index_or received n nothing ≡ received_until plan (outputs plan waves) (suc c) n
-  pub waiting : (n : ℕ) → n < length plan.nodes → is_among done n ≡ false → slice_index_or received n nothing ≡ received_before plan (outputs plan waves) c n
+  pub heard : (n : ℕ) → n < length plan.nodes → is_among done n ≡ true
+      → slice_index_or received n nothing ≡ received_until plan (outputs plan waves) (suc c) n
+  pub waiting : (n : ℕ) → n < length plan.nodes → is_among done n ≡ false
+      → slice_index_or received n nothing ≡ received_before plan (outputs plan waves) c n
   pub only : All (λ g. is_among done g.port.node ≡ true) now
-  pub told : (port : PortId) → is_among done port.node ≡ true → IsOutputOf plan port → given_at now port ≡ outputs plan waves c port
+  pub told : (port : PortId) → is_among done port.node ≡ true → IsOutputOf plan port
+      → given_at now port ≡ outputs plan waves c port
 
 -- what is known of a cycle
 pub record IsCycle (plan : Plan) (waves : List WavIn) (c : ℕ) (e : Epoch) (earlier : List Given) : Type 0 where

@@ -1,4 +1,5 @@
--- The waves that a plan is rendered from: one for each of its sources and no other, each in the form of its source's port.
+-- The waves that a plan is rendered from: one for each of its sources and no other, each in the form of its source's
+-- port.
 use Rattle.std.specs.Prelude.{◌≡◌, ℕ, ◌==◌, List, All, count_by}
 use Rattle.pw_base.specs.declared.kind.Kind.TheVariants.{Source}
 use Rattle.pw_base.specs.declared.plan.PortForm.{PortForm}

@@ -57,8 +57,10 @@ fn work_cycle(
     received: &mut [Received],
 ) -> Result<Items<Given>, Memory>
     requires cycle { IsCycle plan.now waves.now cycle epoch.now before.now }
-    requires received { AreReceived (length plan.now.nodes) (received_before plan.now (outputs plan.now waves.now) cycle) received.old }
-    ensures received { OnOk result (AreReceived (length plan.now.nodes) (received_until plan.now (outputs plan.now waves.now) (suc cycle)) received.new) }
+    requires received { AreReceived (length plan.now.nodes)
+        (received_before plan.now (outputs plan.now waves.now) cycle) received.old }
+    ensures received { OnOk result (AreReceived (length plan.now.nodes)
+        (received_until plan.now (outputs plan.now waves.now) (suc cycle)) received.new) }
     ensures told { IfOk result (TellsCycle plan.now (outputs plan.now waves.now) cycle) }
 {
     let order = order_of(alloc, epoch)?;
@@ -105,8 +107,10 @@ fn next_cycle(
 ) -> Result<Items<Given>, Memory>
     requires renderable { IsRenderable plan.now waves.now }
     requires before { TellsBefore plan.now (outputs plan.now waves.now) cycle before.now }
-    requires received { AreReceived (length plan.now.nodes) (received_until plan.now (outputs plan.now waves.now) cycle) received.old }
-    ensures received { OnOk result (AreReceived (length plan.now.nodes) (received_until plan.now (outputs plan.now waves.now) (suc cycle)) received.new) }
+    requires received { AreReceived (length plan.now.nodes)
+        (received_until plan.now (outputs plan.now waves.now) cycle) received.old }
+    ensures received { OnOk result (AreReceived (length plan.now.nodes)
+        (received_until plan.now (outputs plan.now waves.now) (suc cycle)) received.new) }
     ensures told { IfOk result (TellsCycle plan.now (outputs plan.now waves.now) cycle) }
 {
     release(alloc, plan.epochs.as_slice(), cycle, received);
@@ -123,7 +127,8 @@ pub(crate) fn all_received(
     waves: &[WavIn],
 ) -> Result<Items<Received>, Memory>
     requires renderable { IsRenderable plan.now waves.now }
-    ensures { IfOk result (AreReceived (length plan.now.nodes) (received_until plan.now (outputs plan.now waves.now) (all_cycles plan.now))) }
+    ensures { IfOk result (AreReceived (length plan.now.nodes)
+        (received_until plan.now (outputs plan.now waves.now) (all_cycles plan.now))) }
 {
     let Some(cycles) = all_cycles(plan.epochs.as_slice()) else {
         return Err(Memory);

@@ -58,7 +58,8 @@ fn with_link(
     link: &ShapeLink,
     sums: &[i64],
 ) -> Result<Items<i64>, Memory>
-    ensures { IfOk result (λ more. more ≡ summed sums.now (brought_by at.now.quantum at.now.first at.now.before.now now.now link.now)) }
+    ensures { IfOk result (λ more. more ≡ summed sums.now
+        (brought_by at.now.quantum at.now.first at.now.before.now now.now link.now)) }
 {
     if !link.delayed {
         return added(alloc, sums, given_at(now, link.from));
@@ -87,7 +88,8 @@ pub(crate) fn input_of(
     now: &[Given],
     port: PortId,
 ) -> Result<Items<i16>, Memory>
-    ensures { IfOk result (λ row. row ≡ input_by at.now.quantum at.now.first at.now.before.now now.now at.now.epoch.now port) }
+    ensures { IfOk result (λ row. row
+        ≡ input_by at.now.quantum at.now.first at.now.before.now now.now at.now.epoch.now port) }
 {
     let epoch = at.epoch;
     let channels = channels_of(epoch.forms.as_slice(), port);

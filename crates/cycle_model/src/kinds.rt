@@ -1,5 +1,6 @@
 //! What a node gives: a case for each kind, by index into all that the node has received.
-ghost use Rattle.std.specs.Prelude.{◌≡◌, ℕ, ◌+◌, ◌-◌, ◌<◌, ◌≤◌, ◌^◌, List, length, map, ℤ, pos, ◌≤ℤ◌, ◌*ℤ◌, unsigned_abs, nat_lt, if◌then◌else◌, slice_index_or, IfSome, IfOk};
+ghost use Rattle.std.specs.Prelude.{◌≡◌, ℕ, ◌+◌, ◌-◌, ◌<◌, ◌≤◌, ◌^◌, List, length, map, ℤ, pos, ◌≤ℤ◌, ◌*ℤ◌};
+ghost use Rattle.std.specs.Prelude.{unsigned_abs, nat_lt, if◌then◌else◌, slice_index_or, IfSome, IfOk};
 ghost use Rattle.std.specs.Int.{int_shr};
 ghost use Rattle.std.specs.List.{range_with_len};
 ghost use Rattle.pw_base.specs.Samples.{clamped, scaled, mixed, sample_at};
@@ -129,7 +130,8 @@ fn sample_of(
 /// How many samples a node gives in all, at each output; nothing where the number does not fit.
 fn length_of(kind: &Kind, received: &Received, channels: u32) -> Option<usize>
     requires range { IsInRange kind.now }
-    ensures { (wave : List ℤ) → IfSome result (λ n. n ≡ kind_length kind.now (heard_of wave channels received.now)) }
+    ensures { (wave : List ℤ) → IfSome result
+        (λ n. n ≡ kind_length kind.now (heard_of wave channels received.now)) }
 {
     let a = received.a.len();
     match kind {
@@ -157,7 +159,8 @@ fn fill(
     requires range { IsInRange kind.now }
     requires within { from + length to.old ≤ kind_length kind.now (heard_of wave.now channels received.now) }
     requires fits { from + length to.old < 2 ^ 64 }
-    ensures { to.new ≡ map (λ r. kind_sample kind.now (heard_of wave.now channels received.now) output (from + r)) (range_with_len 0 (length to.old)) }
+    ensures { to.new ≡ map (λ r. kind_sample kind.now (heard_of wave.now channels received.now) output
+        (from + r)) (range_with_len 0 (length to.old)) }
 {
     for r in 0..to.len() {
         to[r] = sample_of(kind, wave, received, channels, output, from + r);
@@ -175,7 +178,8 @@ pub(crate) fn last_given(
     n: usize,
 ) -> Result<Items<i16>, Memory>
     requires range { IsInRange kind.now }
-    ensures { IfOk result (λ row. row ≡ last_of n (kind_output kind.now (heard_of wave.now channels received.now) output)) }
+    ensures { IfOk result (λ row. row ≡ last_of n
+        (kind_output kind.now (heard_of wave.now channels received.now) output)) }
 {
     let Some(len) = length_of(kind, received, channels) else {
         return Err(Memory);

@@ -88,7 +88,8 @@ fn all_kept(
     received: &[Received],
 ) -> Result<Items<Kept>, Memory>
     requires renderable { IsRenderable plan.now waves.now }
-    requires received { AreReceived (length plan.now.nodes) (received_until plan.now (outputs plan.now waves.now) (all_cycles plan.now)) received.now }
+    requires received { AreReceived (length plan.now.nodes)
+        (received_until plan.now (outputs plan.now waves.now) (all_cycles plan.now)) received.now }
     ensures { IfOk result (λ sinks. sinks ≡ rendered_sinks plan.now waves.now) }
 {
     let nodes = plan.nodes.as_slice();
@@ -108,7 +109,8 @@ fn all_peaks(
     received: &[Received],
 ) -> Result<Items<Peak>, Memory>
     requires renderable { IsRenderable plan.now waves.now }
-    requires received { AreReceived (length plan.now.nodes) (received_until plan.now (outputs plan.now waves.now) (all_cycles plan.now)) received.now }
+    requires received { AreReceived (length plan.now.nodes)
+        (received_until plan.now (outputs plan.now waves.now) (all_cycles plan.now)) received.now }
     ensures { IfOk result (λ peaks. peaks ≡ rendered_peaks plan.now waves.now) }
 {
     let nodes = plan.nodes.as_slice();

@@ -65,7 +65,8 @@ fn has_one(waves: &[WavIn], node: u32) -> bool
 /// Whether each source has just one wave.
 fn have_one(plan: &Plan, waves: &[WavIn]) -> bool
     requires { length plan.now.nodes ≤ 63 }
-    ensures { IsTrue result ↔ ((node : ℕ) → kind_at plan.now node ≡ Source → count_by (λ w. w.node == node) waves.now ≡ 1) }
+    ensures { IsTrue result ↔ ((node : ℕ) → kind_at plan.now node ≡ Source
+        → count_by (λ w. w.node == node) waves.now ≡ 1) }
 {
     for n in 0..plan.nodes.len() {
         if is_source(plan, n as u32) && !has_one(waves, n as u32) {

@@ -69,7 +69,9 @@ fn receive(
     node: u32,
     received: &mut Received,
 ) -> Result<(), Memory>
-    ensures { OnOk result (received.new ≡ received_more at.now.quantum at.now.first at.now.before.now now.now at.now.epoch.now kind.now node received.old) }
+    ensures { OnOk result (received.new
+        ≡ received_more at.now.quantum at.now.first at.now.before.now now.now at.now.epoch.now kind.now node
+        received.old) }
 {
     let Some(frames) = received.frames.checked_add(u64::from(at.quantum)) else {
         return Err(Memory);
@@ -98,7 +100,8 @@ fn give(
     now: &mut Items<Given>,
 ) -> Result<(), Memory>
     requires { IsInRange kind.now }
-    ensures { OnOk result (now.new ≡ now.old ++ all_given_by at.now.quantum at.now.epoch.now kind.now wave.now node received.now) }
+    ensures { OnOk result (now.new
+        ≡ now.old ++ all_given_by at.now.quantum at.now.epoch.now kind.now wave.now node received.now) }
 {
     let inputs = kind.inputs();
     for output in 0..kind.outputs() {
@@ -128,7 +131,8 @@ pub(crate) fn work(
     requires there { node < length received.old }
     ensures received { OnOk result (received.new ≡ slice_set received.old node
         (received_more at.now.quantum at.now.first at.now.before.now now.old at.now.epoch.now kind.now node (slice_index_or received.old node nothing))) }
-    ensures now { OnOk result (now.new ≡ now.old ++ all_given_by at.now.quantum at.now.epoch.now kind.now (wave_of waves.now node) node
+    ensures now { OnOk result (now.new ≡ now.old ++ all_given_by at.now.quantum at.now.epoch.now kind.now
+        (wave_of waves.now node) node
         (received_more at.now.quantum at.now.first at.now.before.now now.old at.now.epoch.now kind.now node (slice_index_or received.old node nothing))) }
 {
     let here = &mut received[node as usize];

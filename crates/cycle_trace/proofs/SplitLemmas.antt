@@ -11,7 +11,8 @@ abbrev pub IsWord : List ℕ → Type 0
 IsWord word = All (λ b. is_space b ≡ false) word
 
 -- a line of words is cut into its words
-pub words_split : (first : List ℕ) (others : List (List ℕ)) → IsWord first → All IsWord others → slice_split is_space (first ++ spaced others) ≡ first ∷ others
+pub words_split : (first : List ℕ) (others : List (List ℕ)) → IsWord first → All IsWord others
+    → slice_split is_space (first ++ spaced others) ≡ first ∷ others
 words_split first [] h hs = ap (slice_split is_space) (append-nil first) ∙ slice_split_none is_space first h
 words_split first (word ∷ words) h hs =
     slice_split_at is_space first 32 (word ++ spaced words) h refl

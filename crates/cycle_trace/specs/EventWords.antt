@@ -1,5 +1,6 @@
 -- The event that the words of a line name, if they name one. The form is this project's own.
-use Rattle.std.specs.Prelude.{ℕ, ◌+◌, ◌^◌, List, [], ◌∷◌, Option, Some, None, option_map, position, bytes_eq, codes, nat_lt, if◌then◌else◌}
+use Rattle.std.specs.Prelude.{ℕ, ◌+◌, ◌^◌, List, [], ◌∷◌, Option, Some, None, option_map, position, bytes_eq, codes, nat_lt}
+use Rattle.std.specs.Prelude.{if◌then◌else◌}
 use Rattle.std.specs.Option.{option_map_or}
 use Rattle.pw_base.specs.declared.ids.TheConstants.{DUMMY}
 use Rattle.pw_base.specs.declared.event.Event.{Event}
@@ -19,7 +20,8 @@ one_node_said names (word ∷ (next ∷ rest)) = None
 abbrev pub late_said : List (List ℕ) → List (List ℕ) → ℕ → Option ℕ
 late_said names [] late = Some late
 late_said names (word ∷ words) late =
-    option_map_or (λ n. if nat_lt (late + 2 ^ n) (2 ^ 64) then late_said names words (late + 2 ^ n) else None) (node_said names word) None
+    option_map_or (λ n. if nat_lt (late + 2 ^ n) (2 ^ 64) then late_said names words (late + 2 ^ n) else None)
+    (node_said names word) None
 
 -- an event that no word follows
 abbrev pub alone : Event → List (List ℕ) → Option Event

@@ -9,7 +9,8 @@ use Rattle.cycle_trace.specs.Words.{line}
 
 -- the frames that a sink has kept
 abbrev pub sink_frames : Outcome → ℕ → ℕ
-sink_frames outcome place = option_map_or (λ k. length k.wav.samples / k.wav.channels) (find (λ k. k.node == place) outcome.sinks) 0
+sink_frames outcome place = option_map_or (λ k. length k.wav.samples / k.wav.channels)
+    (find (λ k. k.node == place) outcome.sinks) 0
 
 -- the greatest absolute value that a meter has heard
 abbrev pub meter_peak : Outcome → ℕ → ℕ
@@ -21,8 +22,10 @@ unless_unused node wanted = if node.rate == 0 then line (codes "unused") (node.n
 
 -- the line of the node at a place if it were of a kind; only sinks and meters have one
 abbrev pub kept_line : Outcome → ℕ → PlanNode → Kind → List ℕ
-kept_line outcome place node Sink = unless_unused node (line (codes "wrote") (node.name ∷ decimal (sink_frames outcome place) ∷ []))
-kept_line outcome place node Meter = unless_unused node (line (codes "peak") (node.name ∷ decimal (meter_peak outcome place) ∷ []))
+kept_line outcome place node Sink = unless_unused node
+    (line (codes "wrote") (node.name ∷ decimal (sink_frames outcome place) ∷ []))
+kept_line outcome place node Meter = unless_unused node
+    (line (codes "peak") (node.name ∷ decimal (meter_peak outcome place) ∷ []))
 kept_line outcome place node _ = []
 
 -- the line of the node at a place

@@ -1,5 +1,6 @@
 //! The events that the lines of a trace tell.
-ghost use Rattle.std.specs.Prelude.{◌≡◌, ℕ, ◌<◌, ◌≤◌, ◌/◌, ◌%◌, ◌^◌, ◌↔◌, List, [], ◌∷◌, ◌++◌, length, decimal, Some, IsTrue, IfOk, IfErr, IfSome, MatchOption};
+ghost use Rattle.std.specs.Prelude.{◌≡◌, ℕ, ◌<◌, ◌≤◌, ◌/◌, ◌%◌, ◌^◌, ◌↔◌, List, [], ◌∷◌, ◌++◌, length, decimal};
+ghost use Rattle.std.specs.Prelude.{Some, IsTrue, IfOk, IfErr, IfSome, MatchOption};
 ghost use Rattle.std.specs.List.{AllZip, slice_split};
 ghost use Rattle.pw_base.specs.declared.event.Event.{Event};
 ghost use Rattle.cycle_trace.specs.TraceReading.{is_space, trace_lines, IsLineOf, IsNoLine, IsFaultOf, AreNames, NumbersFit};
@@ -33,7 +34,8 @@ impl From<Memory> for TraceFault {
 /// The event of a first word and the text after it: a cycle, and what belongs to the event.
 fn event_after(names: &[Text], first: &[u8], after: &[u8]) -> Option<Event>
     requires { length names.now ≤ 63 }
-    ensures only { (event : Event) (cycle : ℕ) (others : List (List ℕ)) → slice_split is_space after.now ≡ decimal cycle ∷ others → cycle < 2 ^ 32
+    ensures only { (event : Event) (cycle : ℕ) (others : List (List ℕ))
+        → slice_split is_space after.now ≡ decimal cycle ∷ others → cycle < 2 ^ 32
         → event_said names.now first.now cycle others ≡ Some event → result ≡ Some event }
     ensures fits { IfSome result NumbersFit }
 {
@@ -102,7 +104,8 @@ fn is_line_of(alloc: Global, names: &[Text], event: Event, line: &[u8]) -> Resul
 /// The event whose line it is, if there is one.
 fn read_line(alloc: Global, names: &[Text], line: &[u8]) -> Result<Option<Event>, Memory>
     requires { AreNames names.now }
-    ensures { IfOk result (λ read. MatchOption read (IsNoLine names.now line.now) (IsLineOf names.now line.now)) }
+    ensures { IfOk result (λ read. MatchOption read (IsNoLine names.now line.now)
+        (IsLineOf names.now line.now)) }
 {
     let Some(event) = candidate(names, line) else {
         return Ok(None);
@@ -119,7 +122,8 @@ fn read_line(alloc: Global, names: &[Text], line: &[u8]) -> Result<Option<Event>
 
 /// The first line of a text, if it has one, and the text after that.
 fn next_line(text: &[u8]) -> Option<(&[u8], &[u8])>
-    ensures lines { MatchOption result (trace_lines text.now ≡ []) (λ cut. trace_lines text.now ≡ cut.0.now ∷ trace_lines cut.1.now) }
+    ensures lines { MatchOption result (trace_lines text.now ≡ [])
+        (λ cut. trace_lines text.now ≡ cut.0.now ∷ trace_lines cut.1.now) }
     ensures shorter { IfSome result (λ cut. length cut.1.now < length text.now) }
 {
     let (line, after) = next_piece(text, b'\n');

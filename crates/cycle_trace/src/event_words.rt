@@ -35,7 +35,8 @@ fn node_said(names: &[Text], word: &[u8]) -> Option<u32>
 /// The node that a text names, if it is one word.
 fn one_node_said(names: &[Text], words: Option<&[u8]>) -> Option<u32>
     requires { length names.now ≤ 63 }
-    ensures { result ≡ one_node_said names.now (option_map_or (λ text. slice_split is_space text.now) words.entry []) }
+    ensures { result ≡ one_node_said names.now
+        (option_map_or (λ text. slice_split is_space text.now) words.entry []) }
 {
     let Some(text) = words else {
         return None;
@@ -49,7 +50,8 @@ fn one_node_said(names: &[Text], words: Option<&[u8]>) -> Option<u32>
 /// The set of the nodes that the words of a text name: bit n is node n.
 fn late_said(names: &[Text], words: Option<&[u8]>) -> Option<u64>
     requires { length names.now ≤ 63 }
-    ensures { result ≡ late_said names.now (option_map_or (λ text. slice_split is_space text.now) words.entry []) 0 }
+    ensures { result ≡ late_said names.now
+        (option_map_or (λ text. slice_split is_space text.now) words.entry []) 0 }
 {
     let mut late: u64 = 0;
     let mut rest = words;
@@ -85,7 +87,8 @@ pub(crate) fn event_said(
     words: Option<&[u8]>,
 ) -> Option<Event>
     requires { length names.now ≤ 63 }
-    ensures value { result ≡ event_said names.now first.now cycle (option_map_or (λ text. slice_split is_space text.now) words.entry []) }
+    ensures value { result ≡ event_said names.now first.now cycle
+        (option_map_or (λ text. slice_split is_space text.now) words.entry []) }
     ensures fits { IfSome result NumbersFit }
 {
     if first == b"begin".as_slice() {

@@ -98,7 +98,8 @@ pub(crate) fn append_result_lines(
     outcome: &Outcome,
     text: &mut Text,
 ) -> Result<(), Memory>
-    ensures { OnOk result (text.new ≡ text.old ++ flat_map (λ n. result_line outcome.now n.0 n.1) (enumerate_from 0 nodes.now)) }
+    ensures { OnOk result (text.new ≡ text.old ++ flat_map (λ n. result_line outcome.now n.0 n.1)
+        (enumerate_from 0 nodes.now)) }
 {
     for (place, node) in nodes.iter().enumerate() {
         append_result_line(outcome, place, node, text)?;

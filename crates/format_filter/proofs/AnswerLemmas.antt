@@ -1,5 +1,6 @@
 -- An object has one first fault at most, and an answer that is right is the only one.
-use Rattle.std.proofs.Common.{◌≡◌, ℕ, ◌<◌, ◌⊎◌, inl, inr, List, [], ◌∷◌, ◌++◌, length, get_or, take, Result, Ok, Err, sym, ap, ◌∙◌, subst, arith}
+use Rattle.std.proofs.Common.{◌≡◌, ℕ, ◌<◌, ◌⊎◌, inl, inr, List, [], ◌∷◌, ◌++◌, length, get_or, take, Result, Ok, Err, sym, ap}
+use Rattle.std.proofs.Common.{◌∙◌, subst, arith}
 use Rattle.std.specs.Prelude.{IfOk, IfErr}
 use Rattle.std.proofs.lemmas.List.{get_or_append_left, get_or_default}
 use Rattle.std.proofs.Math.Seq.{get_or-append_seam, take-append_seam}
@@ -19,7 +20,8 @@ use Rattle.format_filter.specs.FormatAnswer.{IsGiven, IsRefusedAs}
 use Rattle.format_filter.proofs.UniqueLemmas.{reads_faultless, formats_one, object_faultless}
 
 -- values have one fault
-values_fault : (kind : ChoiceKind) (values : List Pod) (key : ℕ) (a b : FormatFault) → FaultsValues kind values key a → FaultsValues kind values key b → a ≡ b
+values_fault : (kind : ChoiceKind) (values : List Pod) (key : ℕ) (a b : FormatFault) → FaultsValues kind values key a
+    → FaultsValues kind values key b → a ≡ b
 values_fault k.None [] key a b x y = x ∙ sym y
 values_fault k.Range [] key a b x y = x ∙ sym y
 values_fault k.Step [] key a b x y = x ∙ sym y
@@ -43,7 +45,8 @@ prop_fault before prop a b x y = elim x [
 ]
 
 -- a property at fault is not among those before another one
-none_before : (props : List Prop) (a b : FormatFault) (x : FaultsProps props a) (y : FaultsProps props b) → length x.before < length y.before → ⊥
+none_before : (props : List Prop) (a b : FormatFault) (x : FaultsProps props a) (y : FaultsProps props b)
+    → length x.before < length y.before → ⊥
 none_before props a b x y l =
     let n = length x.before in
     let here : get_or y.before n x.prop ≡ x.prop =
@@ -74,9 +77,11 @@ props_fault props a b x y =
     sym (take-append_seam y.before (y.prop ∷ y.after)) ∙ ap (take (length y.before)) (sym y.parts ∙ x.parts)
     ∙ ap (λ (n : ℕ). take n (x.before ++ x.prop ∷ x.after)) (sym lengths) ∙ take-append_seam x.before (x.prop ∷ x.after) in
     let props : y.prop ≡ x.prop =
-    sym (get_or-append_seam y.before y.prop y.after x.prop) ∙ ap (λ (ps : List Prop). get_or ps (length y.before) x.prop) (sym y.parts ∙ x.parts)
+    sym (get_or-append_seam y.before y.prop y.after x.prop)
+    ∙ ap (λ (ps : List Prop). get_or ps (length y.before) x.prop) (sym y.parts ∙ x.parts)
     ∙ ap (λ (n : ℕ). get_or (x.before ++ x.prop ∷ x.after) n x.prop) (sym lengths) ∙ get_or-append_seam x.before x.prop x.after x.prop in
-    let other = subst (λ (p : Prop). FaultsProp x.before p b) props (subst (λ (ps : List Prop). FaultsProp ps y.prop b) befores y.at_fault) in
+    let other = subst (λ (p : Prop). FaultsProp x.before p b) props
+    (subst (λ (ps : List Prop). FaultsProp ps y.prop b) befores y.at_fault) in
     prop_fault x.before x.prop a b x.at_fault other
 
 -- an object has one first fault
@@ -86,13 +91,15 @@ object_fault other a b x y = x ∙ sym y
 
 module _ (pod : Pod) where
   -- an answer that is right is the only format, and the only fault
-  pub only_format : (r : Result Format FormatFault) → IfOk r (IsFormatOf pod) → IfErr r (λ fault. (fault ≡ f.Memory) ⊎ IsFirstFault pod fault)
+  pub only_format : (r : Result Format FormatFault) → IfOk r (IsFormatOf pod)
+      → IfErr r (λ fault. (fault ≡ f.Memory) ⊎ IsFirstFault pod fault)
       → (format : Format) → IsFormatOf pod format → IsGiven r format
   only_format (Ok x) found fault format h = formats_one (out-Pod pod) x format found h
   only_format (Err g) found (inl memory) format h = memory
   only_format (Err g) found (inr first) format h = absurd (object_faultless (out-Pod pod) format g h first)
 
-  pub only_refused : (r : Result Format FormatFault) → IfOk r (IsFormatOf pod) → IfErr r (λ fault. (fault ≡ f.Memory) ⊎ IsFirstFault pod fault)
+  pub only_refused : (r : Result Format FormatFault) → IfOk r (IsFormatOf pod)
+      → IfErr r (λ fault. (fault ≡ f.Memory) ⊎ IsFirstFault pod fault)
       → (first : FormatFault) → IsFirstFault pod first → IsRefusedAs r first
   only_refused (Ok x) found fault first h = object_faultless (out-Pod pod) x first found h
   only_refused (Err g) found (inl memory) first h = inl memory

@@ -1,6 +1,8 @@
 -- The extended Euclid's way back: the solutions of a congruence from those of the lesser one.
-use Rattle.std.proofs.Common.{◌≡◌, ℕ, zero, suc, ◌+◌, ◌*◌, ◌-◌, ◌/◌, ◌%◌, ◌<◌, ◌≤◌, ◌⊎◌, inl, inr, sym, ap, ◌∙◌, arith}
-use Rattle.std.proofs.Math.Nat.{add-mul-mod_self_right, mul-mod_left, mul-le-mul_right, mul-le-mul_left, lt_of_mul-lt-mul_right, le_of_mul-le-mul_right, add_comm}
+use Rattle.std.proofs.Common.{◌≡◌, ℕ, zero, suc, ◌+◌, ◌*◌, ◌-◌, ◌/◌, ◌%◌, ◌<◌, ◌≤◌, ◌⊎◌, inl, inr, sym, ap}
+use Rattle.std.proofs.Common.{◌∙◌, arith}
+use Rattle.std.proofs.Math.Nat.{add-mul-mod_self_right, mul-mod_left, mul-le-mul_right, mul-le-mul_left, lt_of_mul-lt-mul_right}
+use Rattle.std.proofs.Math.Nat.{le_of_mul-le-mul_right, add_comm}
 use Rattle.std.proofs.lemmas.Nat.{div-add-mod', mul-mod_second, mod-mul-add, mod_below}
 use Rattle.format_filter.specs.declared.progression.Solutions.{Solutions}
 use Rattle.format_filter.specs.Progression.{AreSolutions}
@@ -34,7 +36,8 @@ small_multiple (suc (suc e)) s q m h a b = absurd (omega arith)
 
 pub complement_only : (n s m : ℕ) → 0 < s → (n + m) % s ≡ 0 → ((n % s ≡ 0) × (m % s ≡ 0)) ⊎ (n % s + m % s ≡ s)
 complement_only n s m z h =
-    let low : n / s + m / s ≤ (n + m) / s = le_of_mul-le-mul_right {k = s} (omega (arith, whole_is (n + m) s h, div-add-mod' n s, div-add-mod' m s)) z in
+    let low : n / s + m / s ≤ (n + m) / s = le_of_mul-le-mul_right {k = s}
+    (omega (arith, whole_is (n + m) s h, div-add-mod' n s, div-add-mod' m s)) z in
     let e = (n + m) / s - (n / s + m / s) in
     let sum : (n + m) / s ≡ e + (n / s + m / s) = omega arith in
     let parts : e * s ≡ n % s + m % s = omega (arith, ap (λ x. x * s) sum, whole_is (n + m) s h, div-add-mod' n s, div-add-mod' m s) in
@@ -51,7 +54,8 @@ cancel s a b z h =
     let down : b ≤ a = le_of_mul-le-mul_right {k = s} (omega arith) z in
     omega arith
 
-module _ (s t r c step : ℕ) (turned : Solutions) (z : 0 < s) (l : r < t) (e : s ≡ step % t) (less : AreSolutions t s c turned) (whole : (m : ℕ) → m % s ≡ c → (r + m) % s ≡ 0) (only : (m : ℕ) → (r + m) % s ≡ 0 → m % s ≡ c) where
+module _ (s t r c step : ℕ) (turned : Solutions) (z : 0 < s) (l : r < t) (e : s ≡ step % t) (less : AreSolutions t s c turned)
+    (whole : (m : ℕ) → m % s ≡ c → (r + m) % s ≡ 0) (only : (m : ℕ) → (r + m) % s ≡ 0 → m % s ≡ c) where
   at : (i : ℕ) → (r + (turned.first + i * turned.period) * t) % s ≡ 0
   at i = whole ((turned.first + i * turned.period) * t) (less.each i)
 
@@ -74,11 +78,13 @@ module _ (s t r c step : ℕ) (turned : Solutions) (z : 0 < s) (l : r < t) (e : 
   multiple : (k : ℕ) → (k * s) % t ≡ (k * step) % t
   multiple k = ap (λ v. (k * v) % t) e ∙ mul-mod_second k step t
 
-  pub turned_back : (first period : ℕ) → first ≡ (r + turned.first * t) / s → period ≡ (turned.period * t) / s → AreSolutions step t r (record { first = first; period = period })
+  pub turned_back : (first period : ℕ) → first ≡ (r + turned.first * t) / s → period ≡ (turned.period * t) / s
+      → AreSolutions step t r (record { first = first; period = period })
   turned_back first period f p =
       let first_s : first * s ≡ r + turned.first * t = ap (λ v. v * s) f ∙ first_is in
       let period_s : period * s ≡ turned.period * t = ap (λ v. v * s) p ∙ period_is in
-      let times : (i : ℕ) → (first + i * period) * s ≡ r + (turned.first + i * turned.period) * t = λ i. omega (arith, first_s, ap (λ v. i * v) period_s) in
+      let times : (i : ℕ) → (first + i * period) * s ≡ r + (turned.first + i * turned.period) * t =
+      λ i. omega (arith, first_s, ap (λ v. i * v) period_s) in
       let room : (turned.first + 1) * t ≤ turned.period * t = mul-le-mul_right t (omega (arith, less.order)) in
       record {
         order = lt_of_mul-lt-mul_right s (omega (arith, first_s, period_s, room));
@@ -94,7 +100,8 @@ module _ (s t r c step : ℕ) (turned : Solutions) (z : 0 < s) (l : r < t) (e : 
 
 module _ (s t r c step : ℕ) (e : s ≡ step % t) where
   -- where the lesser congruence has no solution there is none
-  pub none_turned : (only : (m : ℕ) → (r + m) % s ≡ 0 → m % s ≡ c) (none : (j : ℕ) → (j * t) % s ≡ c → ⊥) (k : ℕ) → (k * step) % t ≡ r → ⊥
+  pub none_turned : (only : (m : ℕ) → (r + m) % s ≡ 0 → m % s ≡ c) (none : (j : ℕ) → (j * t) % s ≡ c → ⊥) (k : ℕ) → (k * step) % t ≡ r
+      → ⊥
   none_turned only none k h =
       let j = (k * s) / t in
       let lesser : (k * s) % t ≡ r = ap (λ v. (k * v) % t) e ∙ mul-mod_second k step t ∙ h in
@@ -104,7 +111,8 @@ module _ (s t r c step : ℕ) (e : s ≡ step % t) where
 -- a step that is a multiple itself
 multiple_step : (t step k : ℕ) → 0 < t → step % t ≡ 0 → (k * step) % t ≡ 0
 multiple_step t step k z e =
-    let no_rest : (k * (step % t)) % t ≡ 0 = let nothing : k * (step % t) ≡ 0 * t = ap (λ v. k * v) e ∙ omega arith in ap (λ v. v % t) nothing ∙ mul-mod_left 0 t in
+    let no_rest : (k * (step % t)) % t ≡ 0 = let nothing : k * (step % t) ≡ 0 * t = ap (λ v. k * v) e ∙ omega arith in
+    ap (λ v. v % t) nothing ∙ mul-mod_left 0 t in
     sym (mul-mod_second k step t) ∙ no_rest
 
 pub all_solve : (t step : ℕ) → 0 < t → step % t ≡ 0 → AreSolutions step t 0 (record { first = 0; period = 1 })

@@ -1,5 +1,6 @@
 -- Fields by their keys, and their order.
-use Rattle.std.proofs.Common.{◌≡◌, ◌≢◌, ℕ, zero, suc, ◌+◌, ◌-◌, ◌<◌, ◌≤◌, inl, inr, List, [], ◌∷◌, ◌++◌, length, get_or, take, drop, Option, Some, None, refl, ap, ◌∙◌, ◌==◌, arith}
+use Rattle.std.proofs.Common.{◌≡◌, ◌≢◌, ℕ, zero, suc, ◌+◌, ◌-◌, ◌<◌, ◌≤◌, inl, inr, List, [], ◌∷◌, ◌++◌, length}
+use Rattle.std.proofs.Common.{get_or, take, drop, Option, Some, None, refl, ap, ◌∙◌, ◌==◌, arith}
 use Rattle.std.specs.List.{All}
 use Rattle.std.specs.Option.{option_or}
 use Rattle.std.specs.Prelude.{slice_get, slice_range}
@@ -39,17 +40,20 @@ or_none (Some f) = refl
 
 -- fields of other keys change nothing
 pub field_off : (ls zs : List Field) (key : ℕ) → All (λ f. f.key ≢ key) zs → field_of (ls ++ zs) key ≡ field_of ls key
-field_off ls zs key h = find-append (λ f. f.key == key) ls zs ∙ ap (option_or (field_of ls key)) (field_none key zs h) ∙ or_none (field_of ls key)
+field_off ls zs key h = find-append (λ f. f.key == key) ls zs ∙ ap (option_or (field_of ls key)) (field_none key zs h)
+    ∙ or_none (field_of ls key)
 
 -- a key that is not yet there is that of the next fields
 pub field_next : (ls xs : List Field) (key : ℕ) → All (λ f. f.key ≢ key) ls → field_of (ls ++ xs) key ≡ field_of xs key
-field_next ls xs key h = find-append (λ f. f.key == key) ls xs ∙ ap (λ (o : Option Field). option_or o (field_of xs key)) (field_none key ls h)
+field_next ls xs key h = find-append (λ f. f.key == key) ls xs
+    ∙ ap (λ (o : Option Field). option_or o (field_of xs key)) (field_none key ls h)
 
 pub key_least : (xs : List Field) (at key m : ℕ) → IsKeyAt xs at key → All (λ f. m ≤ f.key) (drop at xs) → m ≤ key
 key_least xs at key m h low =
     let inside : 0 < length (drop at xs) = omega (arith, length-drop at xs, h.0) in
     let least = low 0 any_field inside in
-    let same : (get_or (drop at xs) 0 any_field).key ≡ key = ap (λ (f : Field). f.key) (get_or-drop at xs 0 any_field) ∙ ap (λ (n : ℕ). (get_or xs n any_field).key) (omega arith) ∙ h.1 any_field in
+    let same : (get_or (drop at xs) 0 any_field).key ≡ key = ap (λ (f : Field). f.key) (get_or-drop at xs 0 any_field)
+    ∙ ap (λ (n : ℕ). (get_or xs n any_field).key) (omega arith) ∙ h.1 any_field in
     omega arith
 
 -- the key at a place
@@ -61,20 +65,23 @@ pub later : (xs : List Field) (at key : ℕ) → AreSoundFields xs → IsKeyAt x
 later xs at key sound h k d l =
     let place : (at + 1) + k < length xs = omega (arith, length-drop (at + 1) xs, l) in
     let order = sound.ascending at (at + 1 + k) d (omega arith) place in
-    let read : (get_or (drop (at + 1) xs) k d).key ≡ (get_or xs (at + 1 + k) d).key = ap (λ (f : Field). f.key) (get_or-drop (at + 1) xs k d) in
+    let read : (get_or (drop (at + 1) xs) k d).key ≡ (get_or xs (at + 1 + k) d).key =
+    ap (λ (f : Field). f.key) (get_or-drop (at + 1) xs k d) in
     let own : (get_or xs at d).key ≡ key = h.1 d in
     omega arith
 
 -- from a place on no key is less than its own
 pub from_here : (xs : List Field) (at key : ℕ) → AreSoundFields xs → IsKeyAt xs at key → All (λ f. key ≤ f.key) (drop at xs)
 from_here xs at key sound h zero d l =
-    let read : (get_or (drop at xs) 0 d).key ≡ (get_or xs at d).key = ap (λ (f : Field). f.key) (get_or-drop at xs 0 d) ∙ ap (λ (n : ℕ). (get_or xs n d).key) (omega arith) in
+    let read : (get_or (drop at xs) 0 d).key ≡ (get_or xs at d).key = ap (λ (f : Field). f.key) (get_or-drop at xs 0 d)
+    ∙ ap (λ (n : ℕ). (get_or xs n d).key) (omega arith) in
     let own : (get_or xs at d).key ≡ key = h.1 d in
     omega arith
 from_here xs at key sound h (suc k) d l =
     let place : at + suc k < length xs = omega (arith, length-drop at xs, l) in
     let order = sound.ascending at (at + suc k) d (omega arith) place in
-    let read : (get_or (drop at xs) (suc k) d).key ≡ (get_or xs (at + suc k) d).key = ap (λ (f : Field). f.key) (get_or-drop at xs (suc k) d) in
+    let read : (get_or (drop at xs) (suc k) d).key ≡ (get_or xs (at + suc k) d).key =
+    ap (λ (f : Field). f.key) (get_or-drop at xs (suc k) d) in
     let own : (get_or xs at d).key ≡ key = h.1 d in
     omega arith
 
@@ -97,7 +104,8 @@ behind_one xs at key sound h = record {
       let n = (at + 1) - at in
       let single : k < n = omega (arith, length-take n (drop at xs), l) in
       let first : k ≡ 0 = omega arith in
-      ap (λ (f : Field). f.key) (get_or-take n (drop at xs) k d single ∙ get_or-drop at xs k d) ∙ ap (λ (i : ℕ). (get_or xs (at + i) d).key) first ∙ ap (λ (i : ℕ). (get_or xs i d).key) (omega arith) ∙ h.1 d
+      ap (λ (f : Field). f.key) (get_or-take n (drop at xs) k d single ∙ get_or-drop at xs k d)
+      ∙ ap (λ (i : ℕ). (get_or xs (at + i) d).key) first ∙ ap (λ (i : ℕ). (get_or xs i d).key) (omega arith) ∙ h.1 d
 
 -- no field of the key stands there
 pub behind_none : (xs : List Field) (at key : ℕ) → at ≤ length xs → All (λ f. key < f.key) (drop at xs) → IsBehind xs at key at
@@ -111,7 +119,8 @@ behind_none xs at key l above = record {
   nothing xs at = let none : at - at ≡ 0 = omega arith in ap (λ n. take n (drop at xs)) none
 
 -- a key that is less than what stands at a place is less than all behind it
-pub under : (xs : List Field) (at key first : ℕ) → AreSoundFields xs → IsKeyAt xs at first → All (λ f. key ≤ f.key) (drop at xs) → (first ≡ key → ⊥) → All (λ f. key < f.key) (drop at xs)
+pub under : (xs : List Field) (at key first : ℕ) → AreSoundFields xs → IsKeyAt xs at first → All (λ f. key ≤ f.key) (drop at xs)
+    → (first ≡ key → ⊥) → All (λ f. key < f.key) (drop at xs)
 under xs at key first sound h low different k d l =
     let least = key_least xs at first key h low in
     let more = from_here xs at first sound h k d l in

@@ -27,9 +27,12 @@ pub fixed_sound : (fields : List Field) → AreSoundFields fields → AreSoundFi
 fixed_sound fields h = record {
   ascending = λ i j d a b.
       let within : j < length fields = omega (arith, b, length-map fields fixed) in
-      let own : (get_or (map fixed fields) i d).key ≡ (get_or fields i d).key = ap (λ (f : Field). f.key) (get_or-map fixed fields i d d (omega arith)) in
-      let other : (get_or (map fixed fields) j d).key ≡ (get_or fields j d).key = ap (λ (f : Field). f.key) (get_or-map fixed fields j d d within) in
+      let own : (get_or (map fixed fields) i d).key ≡ (get_or fields i d).key =
+      ap (λ (f : Field). f.key) (get_or-map fixed fields i d d (omega arith)) in
+      let other : (get_or (map fixed fields) j d).key ≡ (get_or fields j d).key =
+      ap (λ (f : Field). f.key) (get_or-map fixed fields j d d within) in
       let order = h.ascending i j d a within in
       omega arith;
-  choices = All-map (λ f. IsSound f.choice) fixed fields (All-weaker (λ f. IsSound f.choice) (λ f. IsSound (fixed f).choice) fixed_one fields h.choices);
+  choices = All-map (λ f. IsSound f.choice) fixed fields
+      (All-weaker (λ f. IsSound f.choice) (λ f. IsSound (fixed f).choice) fixed_one fields h.choices);
 }

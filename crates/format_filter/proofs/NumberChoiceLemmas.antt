@@ -1,5 +1,6 @@
 -- Choices of the numbers that two choices have in common.
-use Rattle.std.proofs.Common.{◌≡◌, ℕ, ℤ, pos, negsuc, zero, suc, ◌*◌, ◌<◌, ◌≤◌, ◌+ℤ◌, ◌*ℤ◌, ◌<ℤ◌, ◌≤ℤ◌, ◌⊎◌, inl, inr, List, [], ◌∷◌, length, get_or, refl, sym, ap, ◌∙◌, subst, arith}
+use Rattle.std.proofs.Common.{◌≡◌, ℕ, ℤ, pos, negsuc, zero, suc, ◌*◌, ◌<◌, ◌≤◌, ◌+ℤ◌, ◌*ℤ◌, ◌<ℤ◌, ◌≤ℤ◌}
+use Rattle.std.proofs.Common.{◌⊎◌, inl, inr, List, [], ◌∷◌, length, get_or, refl, sym, ap, ◌∙◌, subst, arith}
 use Rattle.std.specs.List.{Contains}
 use Rattle.std.proofs.lemmas.Int.{ints}
 use Rattle.std.proofs.lemmas.List.Elements.{All-nil, All-cons}
@@ -32,8 +33,18 @@ second_of_pair v w x e = (1, omega arith, sym e)
 
 -- numbers of a type are of one type
 pair_types : (wide : Wide) (l h : ℤ) → AreOfOneType (number_of wide l ∷ number_of wide h ∷ [])
-pair_types Int l h = (4, omega arith, All-cons (IsOfType 4) (number_of Int l) (number_of Int h ∷ []) (int_type l) (All-cons (IsOfType 4) (number_of Int h) [] (int_type h) (All-nil (IsOfType 4))))
-pair_types Long l h = (5, omega arith, All-cons (IsOfType 5) (number_of Long l) (number_of Long h ∷ []) (long_type l) (All-cons (IsOfType 5) (number_of Long h) [] (long_type h) (All-nil (IsOfType 5))))
+pair_types Int l h = (
+  4,
+  omega arith,
+  All-cons (IsOfType 4) (number_of Int l) (number_of Int h ∷ []) (int_type l)
+      (All-cons (IsOfType 4) (number_of Int h) [] (int_type h) (All-nil (IsOfType 4))),
+)
+pair_types Long l h = (
+  5,
+  omega arith,
+  All-cons (IsOfType 5) (number_of Long l) (number_of Long h ∷ []) (long_type l)
+      (All-cons (IsOfType 5) (number_of Long h) [] (long_type h) (All-nil (IsOfType 5))),
+)
 
 pub above : (min max step : ℤ) (k : ℕ) → pos 0 <ℤ step → max ≡ min +ℤ (pos k *ℤ step) → min ≤ℤ max
 above min max (pos s) k z e = omega (arith, ints)
@@ -72,12 +83,14 @@ module _ (a b : Choice) (wide : Wide) (form : (c : Choice) → IsProgression c �
       })
 
   -- the greatest of a row is at least two steps above the least, so that the step fits
-  step_fits : (min max step : ℤ) (k : ℕ) → FitsWide wide min → FitsWide wide max → pos 0 <ℤ step → 2 ≤ k → max ≡ min +ℤ (pos k *ℤ step) → FitsWide wide step
+  step_fits : (min max step : ℤ) (k : ℕ) → FitsWide wide min → FitsWide wide max → pos 0 <ℤ step → 2 ≤ k → max ≡ min +ℤ (pos k *ℤ step)
+      → FitsWide wide step
   step_fits min max step k f g z two e = steps wide min max step k f g z two e where
     doubled : (min max : ℤ) (k s : ℕ) → 2 ≤ k → max ≡ min +ℤ (pos k *ℤ pos s) → (min +ℤ pos (2 * s)) ≤ℤ max
     doubled min max k s two e = let more : 2 * s ≤ k * s = mul-le-mul_right s two in omega (arith, ints)
 
-    steps : (wide : Wide) (min max step : ℤ) (k : ℕ) → FitsWide wide min → FitsWide wide max → pos 0 <ℤ step → 2 ≤ k → max ≡ min +ℤ (pos k *ℤ step) → FitsWide wide step
+    steps : (wide : Wide) (min max step : ℤ) (k : ℕ) → FitsWide wide min → FitsWide wide max → pos 0 <ℤ step → 2 ≤ k
+        → max ≡ min +ℤ (pos k *ℤ step) → FitsWide wide step
     steps Int min max (pos s) k f g z two e = let d = doubled min max k s two e in record { sfits = omega (arith, ints) }
     steps Long min max (pos s) k f g z two e = let d = doubled min max k s two e in record { sfits = omega (arith, ints) }
     steps w min max (negsuc s) k f g z two e = absurd (omega (arith, ints))
@@ -86,16 +99,25 @@ module _ (a b : Choice) (wide : Wide) (form : (c : Choice) → IsProgression c �
   pub more_meet : (min max step pick : ℤ) → FitsWide wide pick → pos 0 <ℤ step → ((k : ℕ) × (2 ≤ k) × (max ≡ min +ℤ (pos k *ℤ step)))
       → ((n : ℤ) → IsReached min step n × (n ≤ℤ max) → IsCommon a b (number_of wide n) × FitsWide wide n)
       → ((x : Pod) → IsCommon a b x → (n : ℤ) × (x ≡ number_of wide n) × (IsReached min step n × (n ≤ℤ max)))
-      → IsPicked a b (number_of wide min) (number_of wide pick) → IsCommon a b (number_of wide pick) ⊎ (pick ≡ min) → IsCommonIn (HasForm a b) a b (Step wide pick min max step)
+      → IsPicked a b (number_of wide min) (number_of wide pick) → IsCommon a b (number_of wide pick) ⊎ (pick ≡ min)
+      → IsCommonIn (HasForm a b) a b (Step wide pick min max step)
   more_meet min max step pick fits z many only all picked member =
       let first : IsReached min step min = (0, omega (arith, ints)) in
       let last : IsReached min step max = (many.0, many.2) in
       let order : min ≤ℤ max = above min max step many.0 z many.2 in
-      let of_row : (x : Pod) → IsMember (Step wide pick min max step) x → IsCommon a b x = λ x e. subst (λ (y : Pod). IsCommon a b y) (sym e.1) (only e.0 (e.2, e.3)).0 in
-      let in_row : (x : Pod) → IsCommon a b x → IsMember (Step wide pick min max step) x = λ x e. let f = all x e in (f.0, f.1, f.2.0, f.2.1) in
+      let of_row : (x : Pod) → IsMember (Step wide pick min max step) x
+      → IsCommon a b x = λ x e. subst (λ (y : Pod). IsCommon a b y) (sym e.1) (only e.0 (e.2, e.3)).0 in
+      let in_row : (x : Pod) → IsCommon a b x → IsMember (Step wide pick min max step) x = λ x e. let f = all x e in
+      (f.0, f.1, f.2.0, f.2.1) in
       record {
         sound = record {
-          parts = (fits, (only min (first, order)).1, (only max (last, omega (arith, ints))).1, step_fits min max step many.0 (only min (first, order)).1 (only max (last, omega (arith, ints))).1 z many.1 many.2, z);
+          parts = (
+            fits,
+            (only min (first, order)).1,
+            (only max (last, omega (arith, ints))).1,
+            step_fits min max step many.0 (only min (first, order)).1 (only max (last, omega (arith, ints))).1 z many.1 many.2,
+            z,
+          );
           pick = elim member [
             | inl p ↦ in_row (number_of wide pick) p
             | inr p ↦ (min, ap (number_of wide) p, first, order)

@@ -62,7 +62,8 @@ module _ (a b : Choice) (wide : Wide) (p min max q low high : ℤ) (a_is : a ≡
   pub overlap_none : int_min max high <ℤ int_max min low → (x : Pod) → IsCommon a b x → ⊥
   overlap_none apart x w = let f = common_is x w in omega (arith, ints, f.2, f.3)
 
-  pub overlap_one : (n : ℤ) → n ≡ int_max min low → n ≡ int_min max high → (v : Pod) → v ≡ number_of wide n → IsCommonIn (HasForm a b) a b (Only v)
+  pub overlap_one : (n : ℤ) → n ≡ int_max min low → n ≡ int_min max high → (v : Pod) → v ≡ number_of wide n
+      → IsCommonIn (HasForm a b) a b (Only v)
   overlap_one n l h v e =
       let value = number_of wide n in
       let only : (x : Pod) → IsCommon a b x → x ≡ value = λ x w.
@@ -78,8 +79,10 @@ module _ (a b : Choice) (wide : Wide) (p min max q low high : ℤ) (a_is : a ≡
         pick = one_picked a b value only;
       })
 
-  pub overlap_more : (pick least greatest : ℤ) → least ≡ int_max min low → greatest ≡ int_min max high → least <ℤ greatest → FitsWide wide pick → FitsWide wide least → FitsWide wide greatest
-      → IsPicked a b (number_of wide least) (number_of wide pick) → IsCommon a b (number_of wide pick) ⊎ (pick ≡ least) → IsCommonIn (HasForm a b) a b (Range wide pick least greatest)
+  pub overlap_more : (pick least greatest : ℤ) → least ≡ int_max min low → greatest ≡ int_min max high → least <ℤ greatest
+      → FitsWide wide pick → FitsWide wide least → FitsWide wide greatest
+      → IsPicked a b (number_of wide least) (number_of wide pick) → IsCommon a b (number_of wide pick) ⊎ (pick ≡ least)
+      → IsCommonIn (HasForm a b) a b (Range wide pick least greatest)
   overlap_more pick least greatest l h order f g k picked member =
       let in_range : (x : Pod) → IsCommon a b x → IsMember (Range wide pick least greatest) x = λ x w.
       let is = common_is x w in (is.0, is.1, omega (arith, ints, is.2), omega (arith, ints, is.3)) in
@@ -93,6 +96,7 @@ module _ (a b : Choice) (wide : Wide) (p min max q low high : ℤ) (a_is : a ≡
         };
         only = λ x w. is_common x w.0 w.1 (omega (arith, ints, w.2)) (omega (arith, ints, w.3));
         all = in_range;
-        form = has_form (Range wide pick least greatest) (subst (λ (v : ℤ). int_max min low <ℤ v) h (subst (λ (v : ℤ). v <ℤ greatest) l order), refl, l, h);
+        form = has_form (Range wide pick least greatest)
+            (subst (λ (v : ℤ). int_max min low <ℤ v) h (subst (λ (v : ℤ). v <ℤ greatest) l order), refl, l, h);
         pick = picked;
       }

@@ -1,5 +1,6 @@
 -- The numbers from low + first in steps of a period, by how many there are.
-use Rattle.std.proofs.Common.{◌≡◌, ℕ, ℤ, pos, suc, zero, ◌+◌, ◌*◌, ◌-◌, ◌/◌, ◌<◌, ◌≤◌, ◌+ℤ◌, ◌*ℤ◌, ◌≤ℤ◌, ◌⊎◌, inl, inr, sym, ap, ◌∙◌, arith}
+use Rattle.std.proofs.Common.{◌≡◌, ℕ, ℤ, pos, suc, zero, ◌+◌, ◌*◌, ◌-◌, ◌/◌, ◌<◌, ◌≤◌, ◌+ℤ◌, ◌*ℤ◌, ◌≤ℤ◌}
+use Rattle.std.proofs.Common.{◌⊎◌, inl, inr, sym, ap, ◌∙◌, arith}
 use Rattle.std.proofs.lemmas.Int.{ints}
 use Rattle.std.proofs.lemmas.Nat.{le-div, div-add-mod'}
 use Rattle.std.proofs.Math.Nat.{mul-le-mul_right}
@@ -39,7 +40,8 @@ module _ (low high : ℤ) (span first period : ℕ) (e : high ≡ low +ℤ pos s
   pub fit : first ≤ span → (i : ℕ) → i ≤ (span - first) / period → first + i * period ≤ span
   fit l i h = omega (arith, mul-le-mul_right period h, div-add-mod' (span - first) period)
 
-  pub from_two : (m k : ℤ) → first ≤ span → (span - first) / period ≡ 1 → m ≡ low +ℤ pos first → k ≡ low +ℤ pos (first + period) → AreFrom low high first period (Two m k)
+  pub from_two : (m k : ℤ) → first ≤ span → (span - first) / period ≡ 1 → m ≡ low +ℤ pos first → k ≡ low +ℤ pos (first + period)
+      → AreFrom low high first period (Two m k)
   from_two m k l c f g = record {
     only = λ n h. elim h [
       | inl is_m ↦ let is : n ≡ low +ℤ pos (first + 0 * period) = is_m ∙ f ∙ ap (λ (v : ℕ). low +ℤ pos v) (omega arith) in
@@ -55,7 +57,9 @@ module _ (low high : ℤ) (span first period : ℕ) (e : high ≡ low +ℤ pos s
     one_or_other n (suc zero) h u = inr (h ∙ ap (λ (v : ℕ). low +ℤ pos v) (omega arith) ∙ sym g)
     one_or_other n (suc (suc i)) h u = absurd (omega arith)
 
-  pub from_more : (min max step : ℤ) (more : ℕ) → first ≤ span → more ≡ (span - first) / period → 2 ≤ more → min ≡ low +ℤ pos first → max ≡ low +ℤ pos (first + more * period) → step ≡ pos period → AreFrom low high first period (More (record { min = min; max = max; step = step }))
+  pub from_more : (min max step : ℤ) (more : ℕ) → first ≤ span → more ≡ (span - first) / period → 2 ≤ more → min ≡ low +ℤ pos first
+      → max ≡ low +ℤ pos (first + more * period) → step ≡ pos period
+      → AreFrom low high first period (More (record { min = min; max = max; step = step }))
   from_more min max step more l c two f g s =
       let turned : (i : ℕ) → low +ℤ pos (first + i * period) ≡ min +ℤ (pos i *ℤ step) =
       λ i. let product : pos i *ℤ step ≡ pos (i * period) = ap (λ (v : ℤ). pos i *ℤ v) s in omega (arith, ints) in

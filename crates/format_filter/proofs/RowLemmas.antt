@@ -20,7 +20,8 @@ ones min n h =
 reached_above : (min n : ℤ) → IsReached min (pos 1) n → min ≤ℤ n
 reached_above min n h = let once : pos h.0 *ℤ pos 1 ≡ pos h.0 = ap pos (omega arith) in omega (arith, ints, h.1)
 
-range_is_row : (wide : Wide) (pick min max : ℤ) → IsSound (Range wide pick min max) → IsRowOf (Range wide pick min max) (range_of wide pick min max)
+range_is_row : (wide : Wide) (pick min max : ℤ) → IsSound (Range wide pick min max)
+    → IsRowOf (Range wide pick min max) (range_of wide pick min max)
 range_is_row wide pick min max s = record {
   pick = refl;
   only = λ x w. (w.0, w.1, (ones min w.0 w.2, w.3));
@@ -29,7 +30,8 @@ range_is_row wide pick min max s = record {
   step = omega (arith, ints);
 }
 
-step_is_row : (wide : Wide) (pick min max step : ℤ) → IsSound (Step wide pick min max step) → IsRowOf (Step wide pick min max step) (step_of wide pick min max step)
+step_is_row : (wide : Wide) (pick min max step : ℤ) → IsSound (Step wide pick min max step)
+    → IsRowOf (Step wide pick min max step) (step_of wide pick min max step)
 step_is_row wide pick min max step s = record {
   pick = refl;
   only = λ x w. (w.0, w.1, (w.2, w.3));
@@ -38,12 +40,15 @@ step_is_row wide pick min max step s = record {
   step = s.parts.4;
 }
 
-pub range_row : (choice : Choice) (r : Ranged) (wide : Wide) (pick min max : ℤ) → choice ≡ Range wide pick min max → r ≡ range_of wide pick min max → IsSound choice → IsRowOf choice r
+pub range_row : (choice : Choice) (r : Ranged) (wide : Wide) (pick min max : ℤ) → choice ≡ Range wide pick min max
+    → r ≡ range_of wide pick min max → IsSound choice → IsRowOf choice r
 range_row choice r wide pick min max e f s =
     let sound = subst IsSound e s in
     subst (λ (d : Choice). IsRowOf d r) (sym e) (subst (IsRowOf (Range wide pick min max)) (sym f) (range_is_row wide pick min max sound))
 
-pub step_row : (choice : Choice) (r : Ranged) (wide : Wide) (pick min max step : ℤ) → choice ≡ Step wide pick min max step → r ≡ step_of wide pick min max step → IsSound choice → IsRowOf choice r
+pub step_row : (choice : Choice) (r : Ranged) (wide : Wide) (pick min max step : ℤ) → choice ≡ Step wide pick min max step
+    → r ≡ step_of wide pick min max step → IsSound choice → IsRowOf choice r
 step_row choice r wide pick min max step e f s =
     let sound = subst IsSound e s in
-    subst (λ (d : Choice). IsRowOf d r) (sym e) (subst (IsRowOf (Step wide pick min max step)) (sym f) (step_is_row wide pick min max step sound))
+    subst (λ (d : Choice). IsRowOf d r) (sym e) (subst (IsRowOf (Step wide pick min max step)) (sym f)
+    (step_is_row wide pick min max step sound))

@@ -1,5 +1,6 @@
 -- An object is read as one format at most, and has no fault then.
-use Rattle.std.proofs.Common.{◌≡◌, ◌≢◌, ℕ, ℤ, suc, ◌<◌, ◌≤◌, ◌⊎◌, inl, inr, List, [], ◌∷◌, ◌++◌, length, get_or, Some, None, refl, sym, ap, ◌∙◌, subst, length-append, arith}
+use Rattle.std.proofs.Common.{◌≡◌, ◌≢◌, ℕ, ℤ, suc, ◌<◌, ◌≤◌, ◌⊎◌, inl, inr, List, [], ◌∷◌, ◌++◌, length, get_or, Some}
+use Rattle.std.proofs.Common.{None, refl, sym, ap, ◌∙◌, subst, length-append, arith}
 use Rattle.std.specs.List.{All, AllPairs, Any}
 use Rattle.std.proofs.lemmas.Bool.Decides.{eqb_tells}
 use Rattle.std.proofs.lemmas.List.{get_or_append_left, get_or_default}
@@ -59,7 +60,8 @@ range_one wish low high (Range w p l h) (Range w' q l' h') a b =
     let wides : w' ≡ w = wide_same w' w b.0.0 a.0.0 (sym b.0.1 ∙ a.0.1) in
     let lows : l' ≡ l = same_number w' w l' l low wides b.1 a.1 in
     let highs : h' ≡ h = same_number w' w h' h high wides b.2 a.2 in
-    let other = subst (λ (x : Wide). Prefers wish (Range x q l h)) wides (subst (λ (x : ℤ). Prefers wish (Range w' q x h)) lows (subst (λ (x : ℤ). Prefers wish (Range w' q l' x)) highs b.4)) in
+    let other = subst (λ (x : Wide). Prefers wish (Range x q l h)) wides
+    (subst (λ (x : ℤ). Prefers wish (Range w' q x h)) lows (subst (λ (x : ℤ). Prefers wish (Range w' q l' x)) highs b.4)) in
     let picks = range_picks wish w p q l h a.4 other in
     cc
 range_one wish low high (Range w p l h) (Only v) a b = absurd b
@@ -124,13 +126,15 @@ some_or_none (p ∷ ps) key = elim (eqb_tells (key_of p) key) [
   ]
 ]
 
-same_lookups : (props : List Prop) (f g : List Field) → AreFieldsOf props f → AreFieldsOf props g → (key : ℕ) → field_of f key ≡ field_of g key
+same_lookups : (props : List Prop) (f g : List Field) → AreFieldsOf props f → AreFieldsOf props g → (key : ℕ)
+    → field_of f key ≡ field_of g key
 same_lookups props f g a b key = elim (some_or_none props key) [
   | inl h ↦
       let key_is : key_of (get_or props h.0 h.1) ≡ key = ap key_of h.3 ∙ h.4 in
       let own = a.each h.0 h.1 h.2 in
       let other = b.each h.0 h.1 h.2 in
-      sym (ap (field_of f) key_is) ∙ own.1 ∙ ap Some (field_one (get_or props h.0 h.1) own.0 other.0 own.2 other.2) ∙ sym other.1 ∙ ap (field_of g) key_is
+      sym (ap (field_of f) key_is) ∙ own.1 ∙ ap Some (field_one (get_or props h.0 h.1) own.0 other.0 own.2 other.2) ∙ sym other.1
+      ∙ ap (field_of g) key_is
   | inr h ↦ a.only key h ∙ sym (b.only key h)
 ]
 
@@ -144,13 +148,15 @@ head_least : (f : Field) (fs : List Field) → AllPairs (λ g h. g.key < h.key) 
 head_least f fs h key l = field_none key fs (λ i d b e. let order = h 0 (suc i) d (omega arith) (omega arith) in omega arith)
 
 -- of two fields that lists begin with, neither has the lesser key
-none_less : (f g : Field) (fs gs : List Field) → AllPairs (λ x y. x.key < y.key) (g ∷ gs) → field_of (f ∷ fs) f.key ≡ field_of (g ∷ gs) f.key → f.key < g.key → ⊥
+none_less : (f g : Field) (fs gs : List Field) → AllPairs (λ x y. x.key < y.key) (g ∷ gs)
+    → field_of (f ∷ fs) f.key ≡ field_of (g ∷ gs) f.key → f.key < g.key → ⊥
 none_less f g fs gs h e l =
     let missing : field_of (g ∷ gs) f.key ≡ None = skip g gs f.key (λ same. omega arith) ∙ head_least g gs h f.key (omega arith) in
     let clash : Some f ≡ None = sym (first_found f fs) ∙ e ∙ missing in
     cc
 
-lists_one : (fs gs : List Field) → AllPairs (λ x y. x.key < y.key) fs → AllPairs (λ x y. x.key < y.key) gs → ((key : ℕ) → field_of fs key ≡ field_of gs key) → fs ≡ gs
+lists_one : (fs gs : List Field) → AllPairs (λ x y. x.key < y.key) fs → AllPairs (λ x y. x.key < y.key) gs
+    → ((key : ℕ) → field_of fs key ≡ field_of gs key) → fs ≡ gs
 lists_one [] [] a b h = refl
 lists_one [] (g ∷ gs) a b h = let clash : None ≡ Some g = h g.key ∙ first_found g gs in absurd (cc)
 lists_one (f ∷ fs) [] a b h = let clash : Some f ≡ None = sym (first_found f fs) ∙ h f.key in absurd (cc)
@@ -171,12 +177,14 @@ pub formats_one : (o : Pod-F Pod Control Prop) (f g : Format) → ReadsObject o 
 formats_one (Pod-F.Object object id props) f g a b =
     let objects : f.object ≡ g.object = a.0 ∙ sym b.0 in
     let ids : f.id ≡ g.id = a.1 ∙ sym b.1 in
-    let fields : f.fields ≡ g.fields = lists_one f.fields g.fields a.2.sound.ascending b.2.sound.ascending (same_lookups props f.fields g.fields a.2 b.2) in
+    let fields : f.fields ≡ g.fields = lists_one f.fields g.fields a.2.sound.ascending b.2.sound.ascending
+    (same_lookups props f.fields g.fields a.2 b.2) in
     let made : ℕ → ℕ → List Field → Format = λ type name all. record { object = type; id = name; fields = all } in
     ap (λ (n : ℕ). made n f.id f.fields) objects ∙ ap (λ (n : ℕ). made g.object n f.fields) ids ∙ ap (made g.object g.id) fields
 formats_one other f g a b = absurd a
 
-values_faultless : (kind : ChoiceKind) (values : List Pod) (c : Choice) (key : ℕ) (fault : FormatFault) → FaultsValues kind values key fault → ReadsValues kind values c → ⊥
+values_faultless : (kind : ChoiceKind) (values : List Pod) (c : Choice) (key : ℕ) (fault : FormatFault) → FaultsValues kind values key fault
+    → ReadsValues kind values c → ⊥
 values_faultless k.None [] c key fault a b = b
 values_faultless k.Range [] c key fault a b = b
 values_faultless k.Step [] c key fault a b = b
@@ -188,7 +196,8 @@ values_faultless k.Flags (v ∷ rest) c key fault a b = b
 values_faultless k.None (v ∷ rest) c key fault a b = a
 values_faultless k.Enum (v ∷ rest) c key fault a b = a
 
-pub reads_faultless : (o : Pod-F Pod Control Prop) (v : Pod) (c : Choice) (key : ℕ) (fault : FormatFault) → Faults o key fault → Reads o v c → ⊥
+pub reads_faultless : (o : Pod-F Pod Control Prop) (v : Pod) (c : Choice) (key : ℕ) (fault : FormatFault) → Faults o key fault → Reads o v c
+    → ⊥
 reads_faultless (Pod-F.Choice kind flags child values) v c key fault a b = values_faultless kind values c key fault a b
 reads_faultless other v c key fault a b = a
 
@@ -197,11 +206,13 @@ props_faultless props fault fields h a =
     let n = length h.before in
     let whole = h.before ++ h.prop ∷ h.after in
     let inside : n < length props = omega (arith, ap length h.parts, length-append h.before (h.prop ∷ h.after)) in
-    let here : get_or props n h.prop ≡ h.prop = ap (λ (ps : List Prop). get_or ps n h.prop) h.parts ∙ get_or-append_seam h.before h.prop h.after h.prop in
+    let here : get_or props n h.prop ≡ h.prop = ap (λ (ps : List Prop). get_or ps n h.prop) h.parts
+    ∙ get_or-append_seam h.before h.prop h.after h.prop in
     elim h.at_fault [
       | inl w ↦
           let t = w.0 in
-          let there : get_or props t.0 h.prop ≡ t.1 = ap (λ (ps : List Prop). get_or ps t.0 h.prop) h.parts ∙ get_or_append_left h.before (h.prop ∷ h.after) h.prop t.0 t.2 ∙ get_or_default h.before t.0 h.prop t.1 t.2 ∙ t.3 in
+          let there : get_or props t.0 h.prop ≡ t.1 = ap (λ (ps : List Prop). get_or ps t.0 h.prop) h.parts
+          ∙ get_or_append_left h.before (h.prop ∷ h.after) h.prop t.0 t.2 ∙ get_or_default h.before t.0 h.prop t.1 t.2 ∙ t.3 in
           a.distinct t.0 n h.prop t.2 inside (ap key_of there ∙ t.4 ∙ sym (ap key_of here))
       | inr w ↦
           let e = a.each n h.prop inside in

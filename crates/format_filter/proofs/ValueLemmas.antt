@@ -1,5 +1,6 @@
 -- Lists of those of some values for which something holds, in their order, none twice.
-use Rattle.std.proofs.Common.{◌≡◌, ℕ, zero, suc, ◌<◌, ◌≤◌, ◌⊎◌, inl, inr, List, [], ◌∷◌, ◌++◌, length, get_or, take, ◌+◌, refl, sym, ap, ◌∙◌, subst, append_assoc, length-append, arith}
+use Rattle.std.proofs.Common.{◌≡◌, ℕ, zero, suc, ◌<◌, ◌≤◌, ◌⊎◌, inl, inr, List, [], ◌∷◌, ◌++◌, length, get_or, take, ◌+◌}
+use Rattle.std.proofs.Common.{refl, sym, ap, ◌∙◌, subst, append_assoc, length-append, arith}
 use Rattle.std.specs.List.{Contains}
 use Rattle.std.proofs.lemmas.List.Elements.{Contains-get_or, Contains-append_left, Contains-push, Contains-push_cases, All-contains}
 use Rattle.std.proofs.lemmas.List.{take_more}
@@ -51,12 +52,14 @@ module _ (xs : List Pod) (P : Pod → Type 0) (those : List Pod) (v : Pod) (h : 
       }
 
 -- the next value, where it stays and where it is added
-pub stay_next : (values : List Pod) (P : Pod → Type 0) (those more : List Pod) (i : ℕ) (v : Pod) → i < length values → v ≡ get_or values i v → AreThoseOf (take i values) P those → more ≡ those → (P v → Contains those v) → AreThoseOf (take (i + 1) values) P more
+pub stay_next : (values : List Pod) (P : Pod → Type 0) (those more : List Pod) (i : ℕ) (v : Pod) → i < length values → v ≡ get_or values i v
+    → AreThoseOf (take i values) P those → more ≡ those → (P v → Contains those v) → AreThoseOf (take (i + 1) values) P more
 stay_next values P those more i v l at h e there =
     subst (λ (xs : List Pod). AreThoseOf xs P more) (sym (next values i v l at))
     (subst (λ (ys : List Pod). AreThoseOf (take i values ++ v ∷ []) P ys) (sym e) (those_stay (take i values) P those v h there))
 
-pub more_next : (values : List Pod) (P : Pod → Type 0) (those more : List Pod) (i : ℕ) (v : Pod) → i < length values → v ≡ get_or values i v → AreThoseOf (take i values) P those → more ≡ those ++ v ∷ [] → P v → (Contains those v → ⊥) → AreThoseOf (take (i + 1) values) P more
+pub more_next : (values : List Pod) (P : Pod → Type 0) (those more : List Pod) (i : ℕ) (v : Pod) → i < length values → v ≡ get_or values i v
+    → AreThoseOf (take i values) P those → more ≡ those ++ v ∷ [] → P v → (Contains those v → ⊥) → AreThoseOf (take (i + 1) values) P more
 more_next values P those more i v l at h e p new =
     subst (λ (xs : List Pod). AreThoseOf xs P more) (sym (next values i v l at))
     (subst (λ (ys : List Pod). AreThoseOf (take i values ++ v ∷ []) P ys) (sym e) (those_more (take i values) P those v h p new))
@@ -97,7 +100,8 @@ only_front those (x ∷ xs) v e l = absurd (omega (arith, ap length e, length-ap
 pub no_choice : (child : ℕ) → 0 < child_size child → child ≡ 19 → ⊥
 no_choice child l e = let none : child_size child ≡ 0 = ap child_size e in omega arith
 
-module _ (a b other : Choice) (values those : List Pod) (listed : AreListed a b other values) (h : AreThoseOf values (IsMember other) those) (types : AreOfOneType values) where
+module _ (a b other : Choice) (values those : List Pod) (listed : AreListed a b other values) (h : AreThoseOf values (IsMember other) those)
+    (types : AreOfOneType values) where
   both : (x : Pod) → Contains those x → IsCommon a b x
   both x w = listed.all x (h.only x w).0 (h.only x w).1
 
@@ -105,7 +109,8 @@ module _ (a b other : Choice) (values those : List Pod) (listed : AreListed a b 
   every x w = h.all x (listed.only x w).0 (listed.only x w).1
 
   -- more than one are an Enum
-  pub many_meet : (pick first : Pod) → 2 ≤ length those → get_or those 0 first ≡ first → IsPicked a b first pick → IsCommon a b pick ⊎ (pick ≡ first) → IsCommonIn (HasForm a b) a b (Enum pick those)
+  pub many_meet : (pick first : Pod) → 2 ≤ length those → get_or those 0 first ≡ first → IsPicked a b first pick → IsCommon a b pick
+      ⊎ (pick ≡ first) → IsCommonIn (HasForm a b) a b (Enum pick those)
   many_meet pick first l f picked member =
       let head : first_of (Enum pick those) ≡ first = first_is pick those first (omega arith) ∙ f in
       record {
@@ -127,7 +132,8 @@ module _ (a b other : Choice) (values those : List Pod) (listed : AreListed a b 
   one_meets front v e l =
       let alone : those ≡ v ∷ [] = only_front those front v e l in
       let here : Contains those v = subst (λ (ys : List Pod). Contains ys v) (sym alone) (0, omega arith, refl) in
-      let only_it : (x : Pod) → IsCommon a b x → x ≡ v = λ x w. let c = subst (λ (ys : List Pod). Contains ys x) alone (every x w) in contains_one v x c.0 c.1 c.2 in
+      let only_it : (x : Pod) → IsCommon a b x → x ≡ v = λ x w. let c = subst (λ (ys : List Pod). Contains ys x) alone (every x w) in
+      contains_one v x c.0 c.1 c.2 in
       record {
         sound = record {
           parts = λ is. no_choice types.0 types.1 (sym (All-contains (IsOfType types.0) values v types.2 (h.only v here).0) ∙ is);

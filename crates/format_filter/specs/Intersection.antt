@@ -1,6 +1,7 @@
 -- The intersection of two choices: a choice of just the common members, its form and its pick.
 -- SPA POD, "Choice"; spa/pod/filter.h, spa_pod_filter_prop; which form and which pick is this project's.
-use Rattle.std.specs.Prelude.{◌≡◌, ℕ, ℤ, pos, ◌+ℤ◌, ◌*ℤ◌, ◌<ℤ◌, ◌≤◌, List, [], ◌∷◌, ◌++◌, length, Option, Some, None}
+use Rattle.std.specs.Prelude.{◌≡◌, ℕ, ℤ, pos, ◌+ℤ◌, ◌*ℤ◌, ◌<ℤ◌, ◌≤◌, List, [], ◌∷◌, ◌++◌, length, Option, Some}
+use Rattle.std.specs.Prelude.{None}
 use Rattle.std.specs.List.{Contains, AllPairs}
 use Rattle.std.specs.Int.{int_max, int_min}
 use Rattle.pod_codec.specs.declared.pod.Pod.{Pod}

@@ -1,5 +1,6 @@
 -- Rows of numbers in even steps, what two of them have in common, and congruences.
-use Rattle.std.specs.Prelude.{◌≡◌, ◌⊎◌, ℕ, ℤ, pos, ◌+◌, ◌*◌, ◌%◌, ◌<◌, ◌≤◌, ◌+ℤ◌, ◌*ℤ◌, ◌<ℤ◌, ◌≤ℤ◌}
+use Rattle.std.specs.Prelude.{◌≡◌, ◌⊎◌, ℕ, ℤ, pos, ◌+◌, ◌*◌, ◌%◌, ◌<◌, ◌≤◌, ◌+ℤ◌, ◌*ℤ◌, ◌<ℤ◌}
+use Rattle.std.specs.Prelude.{◌≤ℤ◌}
 use Rattle.format_filter.specs.declared.progression.Row.{Row}
 use Rattle.format_filter.specs.declared.progression.Numbers.{Numbers}
 use Rattle.format_filter.specs.declared.progression.Numbers.TheVariants.{Nothing, One, Two, More}

@@ -23,7 +23,8 @@ use std::collections::BTreeMap;
 
 /// Puts a field under its key.
 fn put(read: &mut BTreeMap<u32, Field>, key: u32, flags: u32, choice: Choice) -> Result<(), Memory>
-    ensures updates { OnOk result (Updates nat_cmp read.old read.new key (Some (record { key = key; flags = flags; choice = choice }))) }
+    ensures updates { OnOk result (Updates nat_cmp read.old read.new key
+        (Some (record { key = key; flags = flags; choice = choice }))) }
     ensures ordered { IsOrdered nat_cmp read.new }
 {
     match read.insert(key, Field { key, flags, choice }) {

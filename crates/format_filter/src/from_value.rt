@@ -32,7 +32,8 @@ fn wide_of(value: &Pod) -> Option<Wide>
 
 /// A default where it is in a Range, else the min.
 fn kept_in_range(min: i64, max: i64, n: i64) -> i64
-    ensures { (((min ≤ℤ n) × (n ≤ℤ max)) × (result ≡ n)) ⊎ (((min ≤ℤ n) × (n ≤ℤ max) → ⊥) × (result ≡ min)) }
+    ensures { (((min ≤ℤ n) × (n ≤ℤ max)) × (result ≡ n))
+        ⊎ (((min ≤ℤ n) × (n ≤ℤ max) → ⊥) × (result ≡ min)) }
 {
     if min <= n && n <= max { n } else { min }
 }
@@ -40,7 +41,8 @@ fn kept_in_range(min: i64, max: i64, n: i64) -> i64
 /// A default where it is in a Step, else the min.
 fn kept_in_step(min: i64, max: i64, step: i64, n: i64) -> i64
     requires { pos 0 <ℤ step }
-    ensures { ((IsReached min step n × (n ≤ℤ max)) × (result ≡ n)) ⊎ ((IsReached min step n × (n ≤ℤ max) → ⊥) × (result ≡ min)) }
+    ensures { ((IsReached min step n × (n ≤ℤ max)) × (result ≡ n))
+        ⊎ ((IsReached min step n × (n ≤ℤ max) → ⊥) × (result ≡ min)) }
 {
     if is_reached(min, step, n) && n <= max {
         n

@@ -62,7 +62,8 @@ fn range_values(
     requires pick { FitsWide wide pick }
     requires min { FitsWide wide min }
     requires max { FitsWide wide max }
-    ensures { IfOk result (λ values. values ≡ number_of wide pick ∷ number_of wide min ∷ number_of wide max ∷ []) }
+    ensures { IfOk result (λ values. values
+        ≡ number_of wide pick ∷ number_of wide min ∷ number_of wide max ∷ []) }
 {
     let mut values = Items::new(alloc);
     values.push(number(wide, pick))?;

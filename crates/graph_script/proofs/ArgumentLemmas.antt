@@ -8,7 +8,8 @@ pub fold_grows : (start : ℕ) (digits : List ℕ) → start ≤ fold (λ n b. n
 fold_grows start [] = omega arith
 fold_grows start (b ∷ digits) = omega (arith, fold_grows (start * 10 + (b - 0x30)) digits)
 
-take_grows : (start : ℕ) (i : ℕ) (digits : List ℕ) → fold (λ n b. n * 10 + (b - 0x30)) start (take i digits) ≤ fold (λ n b. n * 10 + (b - 0x30)) start digits
+take_grows : (start : ℕ) (i : ℕ) (digits : List ℕ)
+    → fold (λ n b. n * 10 + (b - 0x30)) start (take i digits) ≤ fold (λ n b. n * 10 + (b - 0x30)) start digits
 take_grows start zero digits = fold_grows start digits
 take_grows start (suc i) [] = omega arith
 take_grows start (suc i) (b ∷ digits) = take_grows (start * 10 + (b - 0x30)) i digits

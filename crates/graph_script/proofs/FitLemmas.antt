@@ -1,6 +1,8 @@
 -- What a line says fits the lines before it: its numbers are in range, and its nodes and ports are there.
-use Rattle.std.proofs.Common.{◌≡◌, ℕ, ◌+◌, ◌<◌, ◌≤◌, Bool, true, false, cond, not, ◌&&◌, List, [], ◌∷◌, ◌++◌, length, refl, sym, subst, arith, append-nil}
-use Rattle.std.specs.Prelude.{Option, Some, None, option_map, option_to_list, IsTrue, IfSome, bytes_eq, position, nat_le, nat_lt, codes, is_some, if◌then◌else◌}
+use Rattle.std.proofs.Common.{◌≡◌, ℕ, ◌+◌, ◌<◌, ◌≤◌, Bool, true, false, cond, not, ◌&&◌, List, [], ◌∷◌, ◌++◌, length, refl}
+use Rattle.std.proofs.Common.{sym, subst, arith, append-nil}
+use Rattle.std.specs.Prelude.{Option, Some, None, option_map, option_to_list, IsTrue, IfSome, bytes_eq, position, nat_le, nat_lt, codes}
+use Rattle.std.specs.Prelude.{is_some, if◌then◌else◌}
 use Rattle.std.proofs.lemmas.Bool.{and_parts, leb-true, ltb-true}
 use Rattle.std.proofs.lemmas.List.Quantifiers.{position-Some}
 use Rattle.pw_base.specs.declared.ids.PortId.{PortId}
@@ -12,9 +14,11 @@ use Rattle.graph_script.specs.declared.command.Command.TheVariants as C
 use Rattle.graph_script.specs.declared.reading.Made.{Made}
 use Rattle.graph_script.specs.declared.reading.Said.{Said}
 use Rattle.graph_script.specs.declared.reading.Reading.{Reading}
-use Rattle.graph_script.specs.Arguments.{◌>>=◌, number_of, is_within, is_numeral, digits_number, is_node_name, one_of, two_of, file_of, endpoint_parts}
+use Rattle.graph_script.specs.Arguments.{◌>>=◌, number_of, is_within, is_numeral, digits_number, is_node_name, one_of, two_of, file_of}
+use Rattle.graph_script.specs.Arguments.{endpoint_parts}
 use Rattle.graph_script.specs.Nodes.{node_called, new_node, endpoint_of, kind_at, output_called, input_called}
-use Rattle.graph_script.specs.Commands.{node_and_file, quantum_of, source_of, sink_of, link_of, cycles_of, meaning_of_command, meaning_of_words}
+use Rattle.graph_script.specs.Commands.{node_and_file, quantum_of, source_of, sink_of, link_of, cycles_of, meaning_of_command}
+use Rattle.graph_script.specs.Commands.{meaning_of_words}
 use Rattle.graph_script.specs.Stages.{stage_of}
 use Rattle.graph_script.specs.Ranges.{IsInRange, HasNodes}
 use Rattle.graph_script.specs.Kinds.{made_by, HasPorts}
@@ -66,7 +70,8 @@ new_node-IsNew reading name node e =
     let r = and_parts form free q.0 in
     record { form = r.0; room = ltb-true _ _ p.1; number = sym t.1 }
 
-node_and_file-IsNew : (reading : Reading) (words : List (List ℕ)) (new : ℕ × List ℕ × List ℕ) → node_and_file reading words ≡ Some new → IsNew reading new.1 new.0
+node_and_file-IsNew : (reading : Reading) (words : List (List ℕ)) (new : ℕ × List ℕ × List ℕ) → node_and_file reading words ≡ Some new
+    → IsNew reading new.1 new.0
 node_and_file-IsNew reading words new e =
     let args = from_bind (two_of words) _ new e in
     let node = from_bind (new_node reading args.0.0) _ new args.2 in
@@ -84,7 +89,8 @@ pub record IsEndpoint (port_called : Kind → List ℕ → Option ℕ) (reading 
   pub name : List ℕ
   pub found : port_called (kind_at reading port.node) name ≡ Some port.port
 
-endpoint_of-IsEndpoint : (port_called : Kind → List ℕ → Option ℕ) (reading : Reading) (word : List ℕ) (port : PortId) → endpoint_of port_called reading word ≡ Some port
+endpoint_of-IsEndpoint : (port_called : Kind → List ℕ → Option ℕ) (reading : Reading) (word : List ℕ) (port : PortId)
+    → endpoint_of port_called reading word ≡ Some port
     → IsEndpoint port_called reading port
 endpoint_of-IsEndpoint port_called reading word port e =
     let parts = from_bind (endpoint_parts word) _ port e in
@@ -94,7 +100,8 @@ endpoint_of-IsEndpoint port_called reading word port e =
     let there = position-Some (bytes_eq parts.0.0) reading.script.names node.0 [] node.1 in
     subst (IsEndpoint port_called reading) same (record { there = there.0; name = parts.0.1; found = place.1 })
 
-output-found : (kind : Kind) (name : List ℕ) (port : ℕ) → output_called kind name ≡ Some port → (input_count kind ≤ port) × (port < port_count kind)
+output-found : (kind : Kind) (name : List ℕ) (port : ℕ) → output_called kind name ≡ Some port → (input_count kind ≤ port)
+    × (port < port_count kind)
 output-found kind name port e =
     let place = from_map (λ place. input_count kind + place) (position (bytes_eq name) (output_names kind)) port e in
     let within = position-Some (bytes_eq name) (output_names kind) place.0 [] place.1 in
@@ -109,28 +116,56 @@ quantum-fits reading words said e =
     let word = from_bind (one_of words) _ said e in
     let n = from_bind (number_of 1 8192 word.0) _ said word.2 in
     let same : record { command = C.Quantum n.0; made = None } ≡ said = cc in
-    subst (IsFit reading) same (record { range = number-within 1 8192 n.0 word.0 n.1; nodes = tt; form = tt; made = refl; ports = tt; stage = omega arith })
+    subst (IsFit reading) same (record {
+      range = number-within 1 8192 n.0 word.0 n.1;
+      nodes = tt;
+      form = tt;
+      made = refl;
+      ports = tt;
+      stage = omega arith;
+    })
 
 cycles-fits : (reading : Reading) (words : List (List ℕ)) (said : Said) → cycles_of words ≡ Some said → IsFit reading said
 cycles-fits reading words said e =
     let word = from_bind (one_of words) _ said e in
     let n = from_bind (number_of 1 1000000 word.0) _ said word.2 in
     let same : record { command = C.Cycles n.0; made = None } ≡ said = cc in
-    subst (IsFit reading) same (record { range = number-within 1 1000000 n.0 word.0 n.1; nodes = tt; form = tt; made = refl; ports = tt; stage = omega arith })
+    subst (IsFit reading) same (record {
+      range = number-within 1 1000000 n.0 word.0 n.1;
+      nodes = tt;
+      form = tt;
+      made = refl;
+      ports = tt;
+      stage = omega arith;
+    })
 
 source-fits : (reading : Reading) (words : List (List ℕ)) (said : Said) → source_of reading words ≡ Some said → IsFit reading said
 source-fits reading words said e =
     let new = from_bind (node_and_file reading words) _ said e in
     let is_new = node_and_file-IsNew reading words new.0 new.1 in
     let same : record { command = C.Source new.0.0 new.0.2; made = Some (record { name = new.0.1; kind = K.Source }) } ≡ said = cc in
-    subst (IsFit reading) same (record { range = tt; nodes = omega (arith, is_new.number); form = (is_new.form, is_new.room); made = rw is_new.number refl; ports = tt; stage = omega arith })
+    subst (IsFit reading) same (record {
+      range = tt;
+      nodes = omega (arith, is_new.number);
+      form = (is_new.form, is_new.room);
+      made = rw is_new.number refl;
+      ports = tt;
+      stage = omega arith;
+    })
 
 sink-fits : (reading : Reading) (words : List (List ℕ)) (said : Said) → sink_of reading words ≡ Some said → IsFit reading said
 sink-fits reading words said e =
     let new = from_bind (node_and_file reading words) _ said e in
     let is_new = node_and_file-IsNew reading words new.0 new.1 in
     let same : record { command = C.Sink new.0.0 new.0.2; made = Some (record { name = new.0.1; kind = K.Sink }) } ≡ said = cc in
-    subst (IsFit reading) same (record { range = tt; nodes = omega (arith, is_new.number); form = (is_new.form, is_new.room); made = rw is_new.number refl; ports = tt; stage = omega arith })
+    subst (IsFit reading) same (record {
+      range = tt;
+      nodes = omega (arith, is_new.number);
+      form = (is_new.form, is_new.room);
+      made = rw is_new.number refl;
+      ports = tt;
+      stage = omega arith;
+    })
 
 link-fits : (reading : Reading) (words : List (List ℕ)) (said : Said) → link_of reading words ≡ Some said → IsFit reading said
 link-fits reading words said e =
@@ -145,7 +180,10 @@ link-fits reading words said e =
       nodes = (omega (arith, out.there), omega (arith, in_.there));
       form = tt;
       made = refl;
-      ports = rw append-nil (output-found (kind_at reading from.0.node) out.name from.0.port out.found, input-found (kind_at reading to.0.node) in_.name to.0.port in_.found);
+      ports = rw append-nil (
+        output-found (kind_at reading from.0.node) out.name from.0.port out.found,
+        input-found (kind_at reading to.0.node) in_.name to.0.port in_.found,
+      );
       stage = omega arith;
     })
 
@@ -153,7 +191,8 @@ choose : {A : Type 0} (b : Bool) (x y : Option A) (P : Option A → Type 0) → 
 choose true x y P h k = h
 choose false x y P h k = k
 
-meaning_of_command-fits : (reading : Reading) (name : List ℕ) (words : List (List ℕ)) (said : Said) → meaning_of_command reading name words ≡ Some said → IsFit reading said
+meaning_of_command-fits : (reading : Reading) (name : List ℕ) (words : List (List ℕ)) (said : Said)
+    → meaning_of_command reading name words ≡ Some said → IsFit reading said
 unfolding meaning_of_command
 meaning_of_command-fits reading name words said =
     let P : Option Said → Type 0 = λ o. o ≡ Some said → IsFit reading said in
@@ -164,6 +203,7 @@ meaning_of_command-fits reading name words said =
     (choose (bytes_eq name (codes "cycles")) _ None P (cycles-fits reading words said)
     (λ e. cc)))))
 
-pub meaning_of_words-fits : (reading : Reading) (words : List (List ℕ)) (said : Said) → meaning_of_words reading words ≡ Some said → IsFit reading said
+pub meaning_of_words-fits : (reading : Reading) (words : List (List ℕ)) (said : Said) → meaning_of_words reading words ≡ Some said
+    → IsFit reading said
 meaning_of_words-fits reading [] said e = cc
 meaning_of_words-fits reading (name ∷ words) said e = meaning_of_command-fits reading name words said e

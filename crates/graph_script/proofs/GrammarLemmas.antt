@@ -8,7 +8,8 @@ use Rattle.graph_script.specs.Grammar.{meaning_of_line, reading_with, script_fro
 
 -- where the first line is read, the others follow
 pub goes_on : (number : ℕ) (reading next : Reading) (line : List ℕ) (lines more : List (List ℕ)) → lines ≡ line ∷ more
-    → reading_with number reading (meaning_of_line reading line) ≡ Ok next → script_from number reading lines ≡ script_from (number + 1) next more
+    → reading_with number reading (meaning_of_line reading line) ≡ Ok next
+    → script_from number reading lines ≡ script_from (number + 1) next more
 unfolding script_from
 goes_on number reading next line lines more e h = rw e (rw h refl)
 
@@ -23,6 +24,7 @@ unfolding script_from
 ends number reading = refl
 
 -- a fault of one meaning is that of another, where the meanings share their faults
-pub same_fault : {A B : Type 0} (m : Result A ScriptFault) (n : Result B ScriptFault) (fault : ScriptFault) → IsRead m (Err fault) → (m ≡ Err fault → n ≡ Err fault) → IsRead n (Err fault)
+pub same_fault : {A B : Type 0} (m : Result A ScriptFault) (n : Result B ScriptFault) (fault : ScriptFault) → IsRead m (Err fault)
+    → (m ≡ Err fault → n ≡ Err fault) → IsRead n (Err fault)
 same_fault m n F.Memory h to = tt
 same_fault m n (F.At line why) h to = to h

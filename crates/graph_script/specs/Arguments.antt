@@ -1,5 +1,6 @@
 -- Arguments of commands: numbers, names, file words and endpoints, each one word. The forms are this project's.
-use Rattle.std.specs.Prelude.{ℕ, ◌+◌, ◌-◌, ◌*◌, ◌==◌, ◌&&◌, ◌||◌, Bool, false, not, List, [], ◌∷◌, length, fold, Option, Some, None, nat_le, if◌then◌else◌}
+use Rattle.std.specs.Prelude.{ℕ, ◌+◌, ◌-◌, ◌*◌, ◌==◌, ◌&&◌, ◌||◌, Bool, false, not, List, [], ◌∷◌, length, fold, Option, Some}
+use Rattle.std.specs.Prelude.{None, nat_le, if◌then◌else◌}
 use Rattle.std.specs.List.{list_all, slice_split}
 
 -- one thing that may be missing, and then what follows from it

@@ -1,5 +1,6 @@
 -- Nodes and ports that the lines so far have made, by name.
-use Rattle.std.specs.Prelude.{ℕ, ◌+◌, ◌&&◌, Bool, not, List, length, Option, Some, None, option_map, is_some, position, slice_index_or, nat_lt, bytes_eq, codes, if◌then◌else◌}
+use Rattle.std.specs.Prelude.{ℕ, ◌+◌, ◌&&◌, Bool, not, List, length, Option, Some, None, option_map, is_some, position, slice_index_or}
+use Rattle.std.specs.Prelude.{nat_lt, bytes_eq, codes, if◌then◌else◌}
 use Rattle.pw_base.specs.declared.ids.PortId.{PortId}
 use Rattle.pw_base.specs.declared.kind.Kind.{Kind}
 use Rattle.pw_base.specs.declared.kind.Kind.TheVariants as K

@@ -15,7 +15,8 @@ IsInRange (C.Square node rate channels period amp) =
 IsInRange (C.Gain node g) = IsGain g
 IsInRange (C.Mix2 node ga gb) = IsGain ga × IsGain gb
 IsInRange (C.Delay node frames) = frames ≤ 65536
-IsInRange (C.Map node channels list) = IsBetween 1 8 channels × IsBetween 1 8 (length list) × All (λ n. n < channels) list
+IsInRange (C.Map node channels list) = IsBetween 1 8 channels × IsBetween 1 8 (length list)
+    × All (λ n. n < channels) list
 IsInRange (C.Driver node priority) = priority ≤ 1000000
 IsInRange (C.Loop node k) = k ≤ 15
 IsInRange (C.Buffers port n) = IsBetween 1 8 n

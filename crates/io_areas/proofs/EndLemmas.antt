@@ -15,7 +15,8 @@ module _ (leads : Bool) (p : Lay) (v : View) (l : ℕ) where
 
   pub gives_back : GivesBack leads p v l → need_stored leads p (readers_lowered leads p v l) l ≡ given_back leads p v l
   gives_back h =
-      ap (λ (k : ReadView × ℕ). view_read (view_read v l y) l (record k.0 { stored = k.1 + 1 })) (λ i. (get_or-set_same v.reads l y (unread 0) h.0.0.0.1 i, cycle_again leads y i))
+      ap (λ (k : ReadView × ℕ). view_read (view_read v l y) l (record k.0 { stored = k.1 + 1 }))
+      (λ i. (get_or-set_same v.reads l y (unread 0) h.0.0.0.1 i, cycle_again leads y i))
       ∙ ap (λ (xs : List ReadView). record v { reads = xs }) (set-set v.reads l y _)
     where
       y : ReadView

@@ -1,5 +1,6 @@
 -- One more word of a block that is filled word by word.
-use Rattle.std.proofs.Common.{◌≡◌, ℕ, ℤ, zero, suc, ◌+◌, ◌<◌, inl, inr, false, List, length, refl, sym, ap, ◌∙◌, arith, length-set, get_or-set_same, set-set}
+use Rattle.std.proofs.Common.{◌≡◌, ℕ, ℤ, zero, suc, ◌+◌, ◌<◌, inl, inr, false, List, length, refl, sym, ap, ◌∙◌, arith, length-set}
+use Rattle.std.proofs.Common.{get_or-set_same, set-set}
 use Rattle.board_rule.specs.declared.view.BlockView.{BlockView}
 use Rattle.board_rule.specs.declared.view.BlockView.TheVariants.{Free, Filling}
 use Rattle.board_rule.specs.declared.view.View.{View}
@@ -26,12 +27,29 @@ module _ (p : Lay) (v : View) (q b : ℕ) (xs : List ℤ) (h : Fills p v q b xs)
 
   -- a record over the view is another at each view: it is built again
   has_again : (y : BlockView) → HasNode false p v (filler_of p q) → HasNode false p (view_block p v q b y) (filler_of p q)
-  has_again y r = let a = r.0 in (record { inside = a.inside; follows = a.follows; loops = a.loops; owned = a.owned; there = a.there; knows = a.knows }, r.1, r.2)
+  has_again y r = let a = r.0 in (
+    record {
+      inside = a.inside;
+      follows = a.follows;
+      loops = a.loops;
+      owned = a.owned;
+      there = a.there;
+      knows = a.knows;
+    },
+    r.1,
+    r.2,
+  )
 
   pub can_store : (k : ℕ) → k < (pool_at p q).words → StoresSample p (filling p v q b k) q b k (packed xs k)
   can_store zero l = (h.0, h.1, l, ap (λ (y : List ℤ). packed y 0) h.4, inr (h.2, refl, h.3))
   can_store (suc k) l = let has = h.0 in let here : block_at p q b < length v.blocks = has.2 in (
-    (has.0, has.1, (let e = length-set v.blocks (block_at p q b) (Filling (suc k)) in omega arith), has_again (Filling (suc k)) has.3, has.4),
+    (
+      has.0,
+      has.1,
+      (let e = length-set v.blocks (block_at p q b) (Filling (suc k)) in omega arith),
+      has_again (Filling (suc k)) has.3,
+      has.4,
+    ),
     h.1,
     l,
     ap (λ (y : List ℤ). packed y (suc k)) h.4,
@@ -41,4 +59,5 @@ module _ (p : Lay) (v : View) (q b : ℕ) (xs : List ℤ) (h : Fills p v q b xs)
   pub stored_more : (k : ℕ) → sample_stored p (filling p v q b k) q b k ≡ filling p v q b (k + 1)
   stored_more zero = refl
   stored_more (suc k) = let one : suc (suc k) ≡ suc k + 1 = omega arith in
-      ap (λ (l : List BlockView). record v { blocks = l }) (set-set v.blocks (block_at p q b) (Filling (suc k)) (Filling (suc k + 1))) ∙ ap (λ n. view_block p v q b (Filling n)) (sym one) ∙ ap (filling p v q b) one
+      ap (λ (l : List BlockView). record v { blocks = l }) (set-set v.blocks (block_at p q b) (Filling (suc k)) (Filling (suc k + 1)))
+      ∙ ap (λ n. view_block p v q b (Filling n)) (sym one) ∙ ap (filling p v q b) one

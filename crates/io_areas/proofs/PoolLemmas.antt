@@ -1,5 +1,6 @@
 -- What the calls use of a pool: its words by its quantum, and that the block a seat is asked for is one alone.
-use Rattle.std.proofs.Common.{◌≡◌, ℕ, ◌+◌, ◌-◌, ◌*◌, ◌/◌, ◌<◌, ◌≤◌, ⊎_elim, length, get_or, sym, ap, ◌∙◌, subst, arith}
+use Rattle.std.proofs.Common.{◌≡◌, ℕ, ◌+◌, ◌-◌, ◌*◌, ◌/◌, ◌<◌, ◌≤◌, ⊎_elim, length, get_or, sym, ap, ◌∙◌, subst}
+use Rattle.std.proofs.Common.{arith}
 use Rattle.std.proofs.Math.Nat.{le_antisymm}
 use Rattle.std.proofs.lemmas.Bool.{cases_lt}
 use Rattle.std.proofs.lemmas.List.{get_or-map, length-map}
@@ -18,7 +19,8 @@ use Rattle.io_areas.specs.Writing.{IsAtPool, IsDue}
 module _ (p : Lay) where
   -- a word has four samples
   pub words_of_quantum : (q : ℕ) → q < length (pools_of p.shape) → (pool_at p q).words ≡ (quantum_of p q + 3) / 4
-  words_of_quantum q h = let port : PortId = get_or (sources_of p.shape) q no_pool.port in let inside : q < length (sources_of p.shape) = subst (λ n. q < n) (length-map (sources_of p.shape) (pool_of p.shape)) h in
+  words_of_quantum q h = let port : PortId = get_or (sources_of p.shape) q no_pool.port in
+      let inside : q < length (sources_of p.shape) = subst (λ n. q < n) (length-map (sources_of p.shape) (pool_of p.shape)) h in
       let is : pool_at p q ≡ pool_of p.shape port = get_or-map (pool_of p.shape) (sources_of p.shape) q no_pool.port no_pool inside in
       ap (λ (x : PoolShape). x.words) is ∙ ap (λ (x : PoolShape). (p.shape.quantum * x.channels + 3) / 4) (sym is)
 
@@ -35,4 +37,5 @@ module _ (p : Lay) where
 
     -- what has been out longest is due where something due has
     pub oldest_due : (a n b : ℕ) → IsOldestOut p v q a n → IsDue p v q b → IsDue p v q a
-    oldest_due a n b f g = let e : n ≡ fill_cycle p v q + 1 - lag p (pool_at p q) = le_antisymm (f.oldest b _ g.inside g.is) (g.oldest a n f.inside f.is) in subst (λ k. IsOldestOut p v q a k) e f
+    oldest_due a n b f g = let e : n ≡ fill_cycle p v q + 1 - lag p (pool_at p q) =
+        le_antisymm (f.oldest b _ g.inside g.is) (g.oldest a n f.inside f.is) in subst (λ k. IsOldestOut p v q a k) e f

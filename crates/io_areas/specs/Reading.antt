@@ -1,5 +1,7 @@
--- The calls of a node that reads: what each asks of the view of its seat, its answer, and the view after it. Links are given by number; `leads` is true for the driver's seat.
--- Source: PipeWire's documentation, "SPA Buffers"; spa/node/io.h, spa_io_buffers; the words of pools are this project's own.
+-- The calls of a node that reads: what each asks of the view of its seat, its answer, and the view after it. Links are
+-- given by number; `leads` is true for the driver's seat.
+-- Source: PipeWire's documentation, "SPA Buffers"; spa/node/io.h, spa_io_buffers; the words of pools are this
+-- project's own.
 use Rattle.std.specs.Prelude.{◌≡◌, ℕ, ℤ, pos, ◌+◌, ◌-◌, Bool, cond, ltb, List, replicate}
 use Rattle.board_rule.specs.declared.view.View.{View}
 use Rattle.board_rule.specs.Layout.{Lay, first}
@@ -14,7 +16,8 @@ module _ (leads : Bool) (p : Lay) where
   abbrev pub taken : View → ℕ → ℕ → View
   taken v l id = view_read v l (record (read_of v l) { loaded = read_cycle leads p v l + 1; id = id })
 
-  -- READING: the block is taken in this cycle and not yet given back. One more than the cycle in which it was announced:
+  -- READING: the block is taken in this cycle and not yet given back. One more than the cycle in which it was
+  -- announced:
   abbrev pub IsHolding : View → ℕ → Type 0
   IsHolding v l = ReadsBlock leads p v l (read_of v l).id
 
@@ -23,11 +26,13 @@ module _ (leads : Bool) (p : Lay) where
 
   -- what the pool gives in the cycle in which the block was announced; zeros where that is before the first
   abbrev pub heard : View → ℕ → List ℤ
-  heard v l = cond (ltb (first p) (held_stamp v l)) (samples_in p v.expect (held_stamp v l - 1) (pool_of p l)) (replicate (quantum_of p (pool_of p l)) (pos 0))
+  heard v l = cond (ltb (first p) (held_stamp v l)) (samples_in p v.expect (held_stamp v l - 1) (pool_of p l))
+      (replicate (quantum_of p (pool_of p l)) (pos 0))
 
   -- GIVING BACK: the readers of the block are one fewer, and then the link's area asks for data
   abbrev pub GivesBack : View → ℕ → Type 0
   GivesBack v l = IsHolding v l × ((read_of v l).stored ≡ read_cycle leads p v l)
 
   abbrev pub given_back : View → ℕ → View
-  given_back v l = view_read v l (record (read_of v l) { lowered = read_cycle leads p v l + 1; stored = read_cycle leads p v l + 1 })
+  given_back v l = view_read v l (record (read_of v l)
+      { lowered = read_cycle leads p v l + 1; stored = read_cycle leads p v l + 1 })

@@ -15,4 +15,5 @@ unpacked word = sample_in word 0 ∷ sample_in word 1 ∷ sample_in word 2 ∷ s
 
 -- the list with the four samples from a place on, as far as there are places
 abbrev pub spread : List ℤ → ℕ → ℕ → List ℤ
-spread xs at word = set (set (set (set xs at (sample_in word 0)) (at + 1) (sample_in word 1)) (at + 2) (sample_in word 2)) (at + 3) (sample_in word 3)
+spread xs at word = set (set (set (set xs at (sample_in word 0)) (at + 1) (sample_in word 1)) (at + 2)
+    (sample_in word 2)) (at + 3) (sample_in word 3)

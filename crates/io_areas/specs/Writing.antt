@@ -1,5 +1,7 @@
--- The calls of a node that writes: what each asks of the view of its seat, its answer, and the view after it. Links, pools and blocks are given by number.
--- Source: PipeWire's documentation, "SPA Buffers"; spa/node/io.h, spa_io_buffers; the words of pools are this project's own.
+-- The calls of a node that writes: what each asks of the view of its seat, its answer, and the view after it. Links,
+-- pools and blocks are given by number.
+-- Source: PipeWire's documentation, "SPA Buffers"; spa/node/io.h, spa_io_buffers; the words of pools are this
+-- project's own.
 use Rattle.std.specs.Prelude.{◌≡◌, ℕ, ℤ, ◌+◌, ◌-◌, ◌<◌, true, false, cond, eqb, List, Option, Some, None}
 use Rattle.board_rule.specs.declared.view.BlockView.TheVariants.{Free, Filling, Out}
 use Rattle.board_rule.specs.declared.view.View.{View}
@@ -22,11 +24,13 @@ module _ (p : Lay) where
   abbrev pub IsAtPool : View → ℕ → Type 0
   IsAtPool v q = HasPool p v q × IsRunning false v (filler_of p q)
 
-  -- the block that is due in this cycle: of those that are out it was announced first, one cycle ago, or two where a link of the pool is delayed
+  -- the block that is due in this cycle: of those that are out it was announced first, one cycle ago, or two where a
+  -- link of the pool is delayed
   abbrev pub IsDue : View → ℕ → ℕ → Type 0
   IsDue v q b = IsOldestOut p v q b (fill_cycle p v q + 1 - lag p (pool_at p q))
 
-  -- RECLAIMING: all links of the pool are loaded in this cycle. In each cycle but the first a block is due, and it becomes free
+  -- RECLAIMING: all links of the pool are loaded in this cycle. In each cycle but the first a block is due, and it
+  -- becomes free
   abbrev pub Reclaims : View → ℕ → Type 0
   Reclaims v q = IsAtPool v q × IsLoaded p v q × (first p < fill_cycle p v q → (b : ℕ) × IsDue v q b)
 
@@ -34,12 +38,15 @@ module _ (p : Lay) where
   HasReclaimed v q None w = (fill_cycle p v q ≡ first p) × (w ≡ v)
   HasReclaimed v q (Some b) w = (first p < fill_cycle p v q) × IsDue v q b × (w ≡ view_block p v q b Free)
 
-  -- FILLING: the block is free, no block of the pool is due or filled in this cycle, and the samples are those that the pool gives in it
+  -- FILLING: the block is free, no block of the pool is due or filled in this cycle, and the samples are those that
+  -- the pool gives in it
   abbrev pub IsUnfilled : View → ℕ → ℕ → Type 0
-  IsUnfilled v q c = (a : ℕ) → a < (pool_at p q).blocks → is_busy (block_of p v q a) ≡ true → (stamp c (block_of p v q a) < c + 1) × (c + 1 < stamp c (block_of p v q a) + lag p (pool_at p q))
+  IsUnfilled v q c = (a : ℕ) → a < (pool_at p q).blocks → is_busy (block_of p v q a) ≡ true
+      → (stamp c (block_of p v q a) < c + 1) × (c + 1 < stamp c (block_of p v q a) + lag p (pool_at p q))
 
   abbrev pub Fills : View → ℕ → ℕ → List ℤ → Type 0
-  Fills v q b samples = HasBlock p v q b × IsWriting p v q × (block_of p v q b ≡ Free) × IsUnfilled v q (fill_cycle p v q) × (samples ≡ samples_in p v.expect (fill_cycle p v q) q)
+  Fills v q b samples = HasBlock p v q b × IsWriting p v q × (block_of p v q b ≡ Free)
+      × IsUnfilled v q (fill_cycle p v q) × (samples ≡ samples_in p v.expect (fill_cycle p v q) q)
 
   -- all words of the block have their samples
   abbrev pub filled_whole : View → ℕ → ℕ → View
@@ -60,7 +67,8 @@ module _ (p : Lay) where
   IsNew v l b = IsFirstFilled p v (pool_of p l) b × (block_of p v (pool_of p l) b ≡ Out (write_cycle p v l + 1))
 
   abbrev pub Publishes : View → ℕ → Type 0
-  Publishes v l = IsWriter p v l × HasPool p v (pool_of p l) × ((write_of v l).loaded ≡ write_cycle p v l + 1) × ((write_of v l).stored ≡ write_cycle p v l) × ((b : ℕ) × IsNew v l b)
+  Publishes v l = IsWriter p v l × HasPool p v (pool_of p l) × ((write_of v l).loaded ≡ write_cycle p v l + 1)
+      × ((write_of v l).stored ≡ write_cycle p v l) × ((b : ℕ) × IsNew v l b)
 
   abbrev pub HasPublished : View → ℕ → View → Type 0
   HasPublished v l w = (b : ℕ) × IsNew v l b × (w ≡ have_stored p v l b)

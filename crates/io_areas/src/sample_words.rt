@@ -35,7 +35,9 @@ fn joined(first: u64, second: u64, third: u64, fourth: u64) -> u64
 // The word of the samples from `at` on, where fewer than four may be left: the rest is 0.
 fn pack_rest(samples: &[i16], at: usize) -> u64
     requires { at < 2 ^ 35 }
-    ensures { result ≡ bits_at samples.now at + 65536 * (bits_at samples.now (at + 1) + 65536 * (bits_at samples.now (at + 2) + 65536 * bits_at samples.now (at + 3))) }
+    ensures { result ≡ bits_at samples.now at + 65536 *
+        (bits_at samples.now (at + 1) + 65536 *
+        (bits_at samples.now (at + 2) + 65536 * bits_at samples.now (at + 3))) }
 {
     joined(
         bits_or_zero(samples, at),

@@ -3,7 +3,8 @@ ghost use Rattle.std.specs.Prelude.{◌≡◌, ℕ, ◌<◌, IfSome, length};
 ghost use Rattle.board_rule.specs.Layout.{lay};
 ghost use Rattle.board_rule.specs.EndViews.{link_at, pool_at, pool_of};
 ghost use Rattle.board_rule.specs.WriterSteps.{LoadsAsWriter, loaded_as_writer};
-ghost use Rattle.io_areas.specs.Writing.{number_given, Reclaims, HasReclaimed, Fills, filled_whole, Announces, HasAnnounced, Publishes, HasPublished};
+ghost use Rattle.io_areas.specs.Writing.{number_given, Reclaims, HasReclaimed, Fills, filled_whole, Announces, HasAnnounced, Publishes};
+ghost use Rattle.io_areas.specs.Writing.{HasPublished};
 
 use crate::sample_words::pack;
 use board_rule::{Board, BoardSeat, LoopSeat};
@@ -26,7 +27,8 @@ pub fn load_for_write(board: &Board, seat: &mut LoopSeat, link: u32) -> Option<u
     ensures table { seat.new.table ≡ seat.old.table }
     ensures knows { seat.new.knows ≡ loaded_as_writer (lay board.now.plot) seat.old.knows link }
     ensures given { result ≡ number_given (lay board.now.plot) seat.old.knows link }
-    ensures inside { let p = lay board.now.plot in IfSome result (λ id. id < (pool_at p (pool_of p link)).blocks) }
+    ensures inside { let p = lay board.now.plot in
+        IfSome result (λ id. id < (pool_at p (pool_of p link)).blocks) }
 {
     let node = writer(board, link);
     let past = seat.ended(board, node);

@@ -1,5 +1,6 @@
 -- Nodes that are reached, one after the other.
-use Rattle.std.proofs.Common.{◌≡◌, ◌⊎◌, inl, inr, ℕ, zero, suc, ◌+◌, ◌<◌, ◌≤◌, List, length, get_or, replicate, Bool, true, false, not, cond, refl, sym, ap, ◌∙◌, arith}
+use Rattle.std.proofs.Common.{◌≡◌, ◌⊎◌, inl, inr, ℕ, zero, suc, ◌+◌, ◌<◌, ◌≤◌, List, length, get_or, replicate, Bool, true, false}
+use Rattle.std.proofs.Common.{not, cond, refl, sym, ap, ◌∙◌, arith}
 use Rattle.std.specs.List.{count_by, sum_by}
 use Rattle.std.proofs.Math.ListN.{set, length-set}
 use Rattle.std.proofs.lemmas.Bool.{cases_eq}
@@ -34,24 +35,33 @@ fewer here n l e =
 room : (r : Reached) (n : ℕ) → n < length r.here → is_reached r.here n ≡ false → IsQueue r → r.count < length r.order
 room r n l e q = omega (arith, fewer r.here n l e, q.once, q.room)
 
-pub queue_more : (r : Reached) (n : ℕ) → n < 64 → is_reached r.here n ≡ false → IsQueue r → IsQueue (record { here = set r.here n true; order = set r.order r.count n; count = r.count + 1 })
+pub queue_more : (r : Reached) (n : ℕ) → n < 64 → is_reached r.here n ≡ false → IsQueue r
+    → IsQueue (record { here = set r.here n true; order = set r.order r.count n; count = r.count + 1 })
 queue_more r n low e q =
     let l : n < length r.here = omega (arith, low, q.nodes) in
     let free = room r n l e q in record {
       nodes = length-set r.here n true ∙ q.nodes;
       room = length-set r.order r.count n ∙ q.room;
       here = λ k below. elim (cases_eq k r.count) [
-        | inl same ↦ ap (is_reached (set r.here n true)) (ap (λ i. get_or (set r.order r.count n) i 0) same ∙ get_or-set_same r.order r.count n 0 free) ∙ get_or-set_same r.here n true false l
-        | inr other ↦ ap (is_reached (set r.here n true)) (get_or-set_other r.order r.count k n 0 other) ∙ still r.here n (get_or r.order k 0) l (q.here k (omega (arith, below, other)))
+        | inl same ↦ ap (is_reached (set r.here n true))
+            (ap (λ i. get_or (set r.order r.count n) i 0) same ∙ get_or-set_same r.order r.count n 0 free)
+            ∙ get_or-set_same r.here n true false l
+        | inr other ↦ ap (is_reached (set r.here n true)) (get_or-set_other r.order r.count k n 0 other)
+            ∙ still r.here n (get_or r.order k 0) l (q.here k (omega (arith, below, other)))
       ];
       places = λ m t. elim (old_or_new r.here n m t) [
         | inl same ↦ (r.count, omega arith, get_or-set_same r.order r.count n 0 free ∙ sym same)
-        | inr there ↦ let w = q.places m there in (w.0, omega (arith, w.1), get_or-set_other r.order r.count w.0 n 0 (λ same. omega (arith, same, w.1)) ∙ w.2)
+        | inr there ↦ let w = q.places m there in (
+          w.0,
+          omega (arith, w.1),
+          get_or-set_other r.order r.count w.0 n 0 (λ same. omega (arith, same, w.1)) ∙ w.2,
+        )
       ];
       once = omega (arith, fewer r.here n l e, q.once);
     }
 
-pub longer_more : (r : Reached) (n : ℕ) → n < 64 → IsQueue r → IsLonger r (record { here = set r.here n true; order = set r.order r.count n; count = r.count + 1 })
+pub longer_more : (r : Reached) (n : ℕ) → n < 64 → IsQueue r
+    → IsLonger r (record { here = set r.here n true; order = set r.order r.count n; count = r.count + 1 })
 longer_more r n low q = record {
   count = omega arith;
   order = λ k below. get_or-set_other r.order r.count k n 0 (λ same. omega (arith, same, below));

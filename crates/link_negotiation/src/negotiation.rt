@@ -167,7 +167,8 @@ impl Links {
         requires from { IsOutput ports.old from }
         requires to { IsInput ports.old to }
         ensures outcome { IfOk result (IsLinkOutcome self.old ports.old from to) }
-        ensures leaves { IfOk result (λ linked. LeavesLink self.old ports.old from to linked self.new ports.new) }
+        ensures leaves { IfOk result (λ linked. LeavesLink self.old ports.old from to linked self.new
+            ports.new) }
         ensures count { IfOk result HasFewBuffers }
         ensures err { OnErr result ((self.new ≡ self.old) × (ports.new ≡ ports.old)) }
     {

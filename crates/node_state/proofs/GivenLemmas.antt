@@ -1,5 +1,7 @@
 -- Given: what a state gives is what the kind's function of the streams gains by this quantum.
-use Rattle.std.proofs.Common.{◌≡◌, ℕ, ◌+◌, ◌-◌, ◌*◌, ◌/◌, ◌%◌, ◌<◌, ◌≤◌, ◌∙◌, min, All, List, [], ◌∷◌, ◌++◌, length, take, drop, map, zip, ℤ, pos, ◌⊎◌, inl, inr, refl, sym, ap, ap₂, arith, length-append, append_assoc, take-add, take_all, mul-le-mul_right}
+use Rattle.std.proofs.Common.{◌≡◌, ℕ, ◌+◌, ◌-◌, ◌*◌, ◌/◌, ◌%◌, ◌<◌, ◌≤◌, ◌∙◌, min, All, List, [], ◌∷◌}
+use Rattle.std.proofs.Common.{◌++◌, length, take, drop, map, zip, ℤ, pos, ◌⊎◌, inl, inr, refl, sym, ap, ap₂, arith, length-append}
+use Rattle.std.proofs.Common.{append_assoc, take-add, take_all, mul-le-mul_right}
 use Rattle.std.proofs.lemmas.Grind.{common_steps}
 use Rattle.std.proofs.lemmas.List.{map-append, take-append-le, drop-append-le}
 use Rattle.std.proofs.Math.Nat.{mod-add-mod, mod-add-div'}
@@ -33,15 +35,18 @@ stereo c h i d lt = grind (arith, common_steps, h, lt)
 
 -- a delayed row and more
 delayed_more : (zeros row more : List ℤ)
-    → take (length (row ++ more)) (zeros ++ (row ++ more)) ≡ take (length row) (zeros ++ row) ++ take (length more) (drop (length row) (zeros ++ row) ++ more)
+    → take (length (row ++ more)) (zeros ++ (row ++ more))
+    ≡ take (length row) (zeros ++ row) ++ take (length more) (drop (length row) (zeros ++ row) ++ more)
 delayed_more zeros row more =
     let within : length row ≤ length (zeros ++ row) = grind (arith, common_steps) in
     ap₂ take (length-append row more) (sym (append_assoc zeros row more))
     ∙ take-add (length row) (length more) ((zeros ++ row) ++ more)
-    ∙ ap₂ (λ x y. x ++ y) (take-append-le (length row) (zeros ++ row) more within) (ap (take (length more)) (drop-append-le (length row) (zeros ++ row) more within))
+    ∙ ap₂ (λ x y. x ++ y) (take-append-le (length row) (zeros ++ row) more within)
+    (ap (take (length more)) (drop-append-le (length row) (zeros ++ row) more within))
 
 -- what a kind's function gains by one quantum
-pub gained : (s : KindState) (channels prepared quantum : ℕ) (a b left right : List ℤ) (h : Heard) (output : ℕ) → output < 2 → h.frames + quantum ≤ prepared
+pub gained : (s : KindState) (channels prepared quantum : ℕ) (a b left right : List ℤ) (h : Heard) (output : ℕ) → output < 2
+    → h.frames + quantum ≤ prepared
     → CanStep s quantum a b left right → Keeps s channels prepared h
     → kind_output (kind_of s) (followed quantum a b h) output ≡ kind_output (kind_of s) h output ++ given_by s quantum a b output
 gained (Source s) channels prepared quantum a b left right h output two within can kept =
@@ -50,7 +55,8 @@ gained (Source s) channels prepared quantum a b left right h output two within c
     let n = h.frames * c in
     let m = quantum * c in
     let sum : (h.frames + quantum) * c ≡ n + m = omega arith in
-    let fits : n + m ≤ prepared * c = let wide : (h.frames + quantum) * c ≤ prepared * c = mul-le-mul_right c within in omega (arith, wide, sum) in
+    let fits : n + m ≤ prepared * c = let wide : (h.frames + quantum) * c ≤ prepared * c = mul-le-mul_right c within in
+    omega (arith, wide, sum) in
     let place : s.given ≡ min n (length (take (prepared * c) w)) = kept.2 ∙ ap (λ t. min n (length t)) kept.1 in
     let copy : take m (drop s.given s.samples ++ silence m) ≡ take m (drop n w ++ silence m) =
     ap (λ t. take m (drop s.given t ++ silence m)) kept.1 ∙ copy_alike w n m (prepared * c) s.given (pos 0) fits place in
@@ -61,14 +67,17 @@ gained (Source s) channels prepared quantum a b left right h output two within c
 gained (Square s) channels prepared quantum a b left right h output two within can kept =
     let period = s.wave.period in
     let amp = s.wave.amp in
-    let next : (i j : ℕ) → i < quantum → j < s.wave.channels → square_at period amp (h.frames + i) ≡ square_at period amp (s.phase + i) = λ i j lt in_frame.
+    let next : (i j : ℕ) → i < quantum → j < s.wave.channels
+    → square_at period amp (h.frames + i) ≡ square_at period amp (s.phase + i) = λ i j lt in_frame.
     same_place period amp (h.frames + i) (s.phase + i) (sym (mod-add-mod h.frames period i) ∙ ap (λ k. (k + i) % period) (sym kept.1)) in
     ap (λ k. of_frames (h.frames + quantum) k (λ i j. square_at period amp i)) (sym kept.0)
-    ∙ of_frames-add (λ i j. square_at period amp i) (λ i j. square_at period amp i) (λ i j. square_at period amp (s.phase + i)) h.frames quantum s.wave.channels (λ i j lt in_frame. refl) next
+    ∙ of_frames-add (λ i j. square_at period amp i) (λ i j. square_at period amp i)
+    (λ i j. square_at period amp (s.phase + i)) h.frames quantum s.wave.channels (λ i j lt in_frame. refl) next
     ∙ ap (λ k. of_frames h.frames k (λ i j. square_at period amp i) ++ given_by (Square s) quantum a b output) kept.0
 gained (Gain s) channels prepared quantum a b left right h output two within can kept = map-append (scaled s.g) h.a a
 gained (Mix2 s) channels prepared quantum a b left right h output two within can kept =
-    ap (map (λ p. mixed s.ga s.gb p.0 p.1)) (zip-append h.a a h.b b kept) ∙ map-append (λ p. mixed s.ga s.gb p.0 p.1) (zip h.a h.b) (zip a b)
+    ap (map (λ p. mixed s.ga s.gb p.0 p.1)) (zip-append h.a a h.b b kept)
+    ∙ map-append (λ p. mixed s.ga s.gb p.0 p.1) (zip h.a h.b) (zip a b)
 gained (Delay s) channels prepared quantum a b left right h output two within can kept =
     ap (λ k. take (length (h.a ++ a)) (silence (s.frames * k) ++ (h.a ++ a))) (sym kept.0)
     ∙ delayed_more (silence (s.frames * channels)) h.a a
@@ -81,7 +90,8 @@ gained (Sink s) channels prepared quantum a b left right h output two within can
 gained (Meter s) channels prepared quantum a b left right h output two within can kept = refl
 
 -- the last of it
-pub last_gained : (n : ℕ) (before new whole : List ℤ) → (n ≡ 0) ⊎ (n ≡ length new) → whole ≡ before ++ new → take n new ≡ drop (length whole - n) whole
+pub last_gained : (n : ℕ) (before new whole : List ℤ) → (n ≡ 0) ⊎ (n ≡ length new) → whole ≡ before ++ new
+    → take n new ≡ drop (length whole - n) whole
 last_gained n before new whole (inl none) w =
     let end : length whole - n ≡ length whole = omega (arith, none) in
     ap (λ k. take k new) none ∙ sym (ap (λ k. drop k whole) end ∙ drop-length whole)
@@ -91,7 +101,9 @@ last_gained n before new whole (inr all) w =
     take_all n new (omega (arith, all)) ∙ sym (ap₂ drop end w ∙ drop-append_seam before new)
 
 -- what is written joins what was given before
-pub joined : (n : ℕ) (kind : Kind) (before after : Heard) (output : ℕ) (new : List ℤ) → (n ≡ 0) ⊎ (n ≡ length new) → kind_output kind after output ≡ kind_output kind before output ++ new
+pub joined : (n : ℕ) (kind : Kind) (before after : Heard) (output : ℕ) (new : List ℤ) → (n ≡ 0) ⊎ (n ≡ length new)
+    → kind_output kind after output ≡ kind_output kind before output ++ new
     → Joins kind before after output (take n new)
 joined n kind before after output new (inl none) w = inl (ap (λ k. length (take k new)) none)
-joined n kind before after output new (inr all) w = inr (w ∙ ap (λ t. kind_output kind before output ++ t) (sym (take_all n new (omega (arith, all)))))
+joined n kind before after output new (inr all) w =
+    inr (w ∙ ap (λ t. kind_output kind before output ++ t) (sym (take_all n new (omega (arith, all)))))

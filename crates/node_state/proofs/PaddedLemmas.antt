@@ -1,5 +1,6 @@
 -- Padded: lists followed by as much silence as is asked for.
-use Rattle.std.proofs.Common.{◌≡◌, ℕ, zero, suc, ◌+◌, ◌-◌, ◌≤◌, ◌∙◌, min, List, [], ◌∷◌, ◌++◌, length, take, drop, replicate, refl, sym, ap, ap₂, arith, drop_of_length-le, inl, inr}
+use Rattle.std.proofs.Common.{◌≡◌, ℕ, zero, suc, ◌+◌, ◌-◌, ◌≤◌, ◌∙◌, min, List, [], ◌∷◌, ◌++◌, length, take, drop}
+use Rattle.std.proofs.Common.{replicate, refl, sym, ap, ap₂, arith, drop_of_length-le, inl, inr}
 use Rattle.std.proofs.lemmas.Grind.{common_steps}
 use Rattle.std.proofs.lemmas.List.{take_all, drop-take}
 use Rattle.std.proofs.lemmas.Bool.{cases_lt}
@@ -19,7 +20,8 @@ cut_alike (x ∷ w) zero k z h = refl
 cut_alike (x ∷ w) (suc m) zero z h = absurd (omega (arith, h))
 cut_alike (x ∷ w) (suc m) (suc k) z h =
     ap (λ t. x ∷ t) (
-    padded_alike (take k w) m (suc m) m z (omega arith) (omega arith) ∙ cut_alike w m k z (omega (arith, h)) ∙ padded_alike w m m (suc m) z (omega arith) (omega arith))
+    padded_alike (take k w) m (suc m) m z (omega arith) (omega arith) ∙ cut_alike w m k z (omega (arith, h))
+    ∙ padded_alike w m m (suc m) z (omega arith) (omega arith))
 
 replicate_more : {X : Type 0} (n m : ℕ) (z : X) → replicate (n + m) z ≡ replicate n z ++ replicate m z
 replicate_more zero m z = ap (λ k. replicate k z) zero_plus
@@ -37,11 +39,13 @@ padded_more w zero m i j l z h g e =
     let sum : zero + m ≡ m = omega arith in
     ap (λ k. take k (w ++ replicate j z)) sum ∙ padded_alike w m j l z (omega (arith, g)) e
 padded_more [] (suc n) m i j l z h g e =
-    replicate_front (suc n + m) j z g ∙ replicate_more (suc n) m z ∙ sym (ap₂ (λ x y. x ++ y) (replicate_front (suc n) i z h) (replicate_front m l z e))
+    replicate_front (suc n + m) j z g ∙ replicate_more (suc n) m z
+    ∙ sym (ap₂ (λ x y. x ++ y) (replicate_front (suc n) i z h) (replicate_front m l z e))
 padded_more (x ∷ w) (suc n) m i j l z h g e =
     let next : suc n + m ≡ suc (n + m) = omega arith in
     ap (λ k. take k (x ∷ (w ++ replicate j z))) next
-    ∙ ap (λ t. x ∷ t) (padded_alike w (n + m) j (n + m) z (omega (arith, g)) (omega arith) ∙ padded_more w n m n (n + m) l z (omega arith) (omega arith) e)
+    ∙ ap (λ t. x ∷ t) (padded_alike w (n + m) j (n + m) z (omega (arith, g)) (omega arith)
+    ∙ padded_more w n m n (n + m) l z (omega arith) (omega arith) e)
     ∙ ap (λ t. x ∷ (t ++ take m (drop n w ++ replicate l z))) (padded_alike w n n i z (omega arith) (omega (arith, h)))
 
 -- a copy of the front of a list gives the same as the list

@@ -1,5 +1,6 @@
 -- Square waves: runs of equal samples, and frames from a place in the period on.
-use Rattle.std.proofs.Common.{◌≡◌, ℕ, zero, suc, ◌+◌, ◌-◌, ◌*◌, ◌%◌, ◌<◌, ◌≤◌, ◌∙◌, List, ◌∷◌, ◌++◌, length, drop, map, replicate, ℤ, neg_ℤ, refl, sym, ap, ap₂, arith, nat_lt, if◌then◌else◌}
+use Rattle.std.proofs.Common.{◌≡◌, ℕ, zero, suc, ◌+◌, ◌-◌, ◌*◌, ◌%◌, ◌<◌, ◌≤◌, ◌∙◌, List, ◌∷◌, ◌++◌, length}
+use Rattle.std.proofs.Common.{drop, map, replicate, ℤ, neg_ℤ, refl, sym, ap, ap₂, arith, nat_lt, if◌then◌else◌}
 use Rattle.std.specs.List.{range_with_len}
 use Rattle.std.proofs.Math.Nat.{mod-add-mod}
 use Rattle.std.proofs.lemmas.List.FromFn.{length-map-range_with_len}
@@ -34,20 +35,25 @@ run_written f v ys to new done run channels w same t e h =
     let flat : of_frames run channels (λ i j. v) ≡ new = one_value v (run * channels) 0 ∙ ap (λ n. replicate n v) (sym h) ∙ sym e in
     ap (λ r. put_mid (done * channels) w r new) t
     ∙ piece_written (of_frames done channels f) ys new (done * channels) w long
-    ∙ ap₂ (λ r n. r ++ drop n ys) (ap (λ r. of_frames done channels f ++ r) (sym flat) ∙ sym (of_frames-add f f (λ i j. v) done run channels (λ i j lt in_frame. refl) (λ i j lt in_frame. same i j lt))) end
+    ∙ ap₂ (λ r n. r ++ drop n ys) (ap (λ r. of_frames done channels f ++ r) (sym flat)
+    ∙ sym (of_frames-add f f (λ i j. v) done run channels (λ i j lt in_frame. refl) (λ i j lt in_frame. same i j lt))) end
 
 -- the samples of a run from a place in the period on
-pub run_row : (period : ℕ) (amp v : ℤ) (ys to new : List ℤ) (phase done place end run channels n m w : ℕ) → place ≡ (phase + done) % period → run ≤ end - place
+pub run_row : (period : ℕ) (amp v : ℤ) (ys to new : List ℤ) (phase done place end run channels n m w : ℕ) → place ≡ (phase + done) % period
+    → run ≤ end - place
     → ((i : ℕ) → place ≤ i → i < end → square_at period amp i ≡ v)
-    → to ≡ of_frames done channels (λ i j. square_at period amp (phase + i)) ++ drop n ys → n ≡ done * channels → m ≡ (done + run) * channels → w ≡ m - n → new ≡ replicate w v
+    → to ≡ of_frames done channels (λ i j. square_at period amp (phase + i)) ++ drop n ys → n ≡ done * channels
+    → m ≡ (done + run) * channels → w ≡ m - n → new ≡ replicate w v
     → put_mid n w to new ≡ of_frames (done + run) channels (λ i j. square_at period amp (phase + i)) ++ drop m ys
 run_row period amp v ys to new phase done place end run channels n m w p r value t a b e f =
     let shape = λ (i j : ℕ). square_at period amp (phase + i) in
-    let row : to ≡ of_frames done channels shape ++ drop (done * channels) ys = t ∙ ap (λ k. of_frames done channels shape ++ drop k ys) a in
+    let row : to ≡ of_frames done channels shape ++ drop (done * channels) ys = t
+    ∙ ap (λ k. of_frames done channels shape ++ drop k ys) a in
     let wide : w ≡ run * channels = omega (arith, a, b, e) in
     let at : (i j : ℕ) → i < run → shape (done + i) j ≡ v = λ i j lt.
     let moved : phase + (done + i) ≡ phase + done + i = omega arith in
     let same : (phase + (done + i)) % period ≡ (place + i) % period =
     ap (λ k. k % period) moved ∙ sym (mod-add-mod (phase + done) period i) ∙ ap (λ k. (k + i) % period) (sym p) in
     same_place period amp (phase + (done + i)) (place + i) same ∙ value (place + i) (omega arith) (omega (arith, lt, r)) in
-    ap (λ k. put_mid k w to new) a ∙ run_written shape v ys to new done run channels w at row f wide ∙ ap (λ k. of_frames (done + run) channels shape ++ drop k ys) (sym b)
+    ap (λ k. put_mid k w to new) a ∙ run_written shape v ys to new done run channels w at row f wide
+    ∙ ap (λ k. of_frames (done + run) channels shape ++ drop k ys) (sym b)

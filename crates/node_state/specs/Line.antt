@@ -12,7 +12,8 @@ pub record Line : Type 0 where
 -- it is stored as the tuple of its fields
 abbrev pub line_code : Coded Line
 line_code =
-    code_by (ℕ × (List ℤ × ℕ)) (coded× coded_ℕ (coded× (coded_list coded_ℤ) coded_ℕ)) (λ l. (l.frames, (l.samples, l.room)))
+    code_by (ℕ × (List ℤ × ℕ)) (coded× coded_ℕ (coded× (coded_list coded_ℤ) coded_ℕ))
+    (λ l. (l.frames, (l.samples, l.room)))
     (λ p. record { frames = p.0; samples = p.1.0; room = p.1.1 }) (λ _. refl)
 
 -- a ring read from one place round to it

@@ -14,7 +14,8 @@ use Rattle.node_state.specs.States.{kind_of, wave_channels, stream_of}
 -- period; the samples not yet given; the stream; the peak. The other kinds keep nothing, of inputs in whole frames
 abbrev pub Keeps : KindState → ℕ → ℕ → Heard → Type 0
 Keeps (Source s) channels prepared h =
-    (s.channels ≡ h.channels) × (s.samples ≡ take (prepared * s.channels) h.wave) × (s.given ≡ min (h.frames * s.channels) (length s.samples))
+    (s.channels ≡ h.channels) × (s.samples ≡ take (prepared * s.channels) h.wave)
+    × (s.given ≡ min (h.frames * s.channels) (length s.samples))
 Keeps (Square s) channels prepared h = (s.wave.channels ≡ h.channels) × (s.phase ≡ h.frames % s.wave.period)
 Keeps (Gain s) channels prepared h = Unit {0}
 Keeps (Mix2 s) channels prepared h = length h.a ≡ length h.b

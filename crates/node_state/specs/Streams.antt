@@ -19,7 +19,13 @@ channels_of None = 0
 
 -- nothing heard yet
 abbrev pub unheard : Kind → Option Wav → ℕ → Heard
-unheard kind wav n = record { wave = samples_of wav; frames = 0; channels = left_channels kind (channels_of wav) n; a = []; b = [] }
+unheard kind wav n = record {
+  wave = samples_of wav;
+  frames = 0;
+  channels = left_channels kind (channels_of wav) n;
+  a = [];
+  b = [];
+}
 
 -- a wave is there for a source, and for no other kind
 abbrev pub HasItsWave : Kind → Option Wav → Type 0
@@ -42,7 +48,8 @@ output_now kind h output n = drop (length (kind_output kind h output) - n) (kind
 
 -- what is given behind what was given: the outputs of all quanta join to the kind's function of whole streams
 abbrev pub Joins : Kind → Heard → Heard → ℕ → List ℤ → Type 0
-Joins kind before after output new = (length new ≡ 0) ⊎ (kind_output kind after output ≡ kind_output kind before output ++ new)
+Joins kind before after output new = (length new ≡ 0)
+    ⊎ (kind_output kind after output ≡ kind_output kind before output ++ new)
 
 -- the stream that a node keeps: a sink's whole input
 abbrev pub stream_heard : Kind → Heard → List ℤ

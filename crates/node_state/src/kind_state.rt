@@ -73,7 +73,8 @@ impl KindState {
         requires channels { channels ≤ 8 }
         ensures kind { IfOk result (λ s. kind_of s ≡ kind.now) }
         ensures wave { IfOk result (λ s. wave_channels s ≡ channels_of (option_copied wav.entry)) }
-        ensures keeps { IfOk result (λ s. Keeps s channels frames (unheard kind.now (option_copied wav.entry) channels)) }
+        ensures keeps { IfOk result (λ s. Keeps s channels frames
+            (unheard kind.now (option_copied wav.entry) channels)) }
         ensures empty { IfOk result (λ s. stream_of s ≡ []) }
         ensures room { IfOk result (λ s. wanted_room s channels frames ≤ room_in s) }
     {
@@ -112,7 +113,8 @@ impl KindState {
         ensures kind { kind_of self.new ≡ kind_of self.old }
         ensures wave { wave_channels self.new ≡ wave_channels self.old }
         ensures empty { stream_of self.new ≡ [] }
-        ensures room { (most frames : ℕ) → wanted_room self.old most frames ≤ room_in self.old → wanted_room self.new most frames ≤ room_in self.new }
+        ensures room { (most frames : ℕ) → wanted_room self.old most frames ≤ room_in self.old
+            → wanted_room self.new most frames ≤ room_in self.new }
     {
         match self {
             KindState::Delay(s) => s.clear(channels),

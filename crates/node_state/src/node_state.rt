@@ -36,7 +36,8 @@ impl NodeState {
     /// A sink's stream so far: all that came to its input. Of every other kind nothing. Takes no memory.
     pub fn kept(&self) -> &[i16]
         ensures value { result.now ≡ kept_stream self.now }
-        ensures stream { (h : Heard) → StandsFor self.now h → result.now ≡ stream_heard (node_kind self.now) h }
+        ensures stream { (h : Heard) → StandsFor self.now h
+            → result.now ≡ stream_heard (node_kind self.now) h }
     {
         self.state.stream()
     }

@@ -5,7 +5,8 @@ ghost use Rattle.pw_base.specs.KindPorts.{input_count};
 ghost use Rattle.pw_base.specs.KindRanges.{IsInRange};
 ghost use Rattle.pw_base.specs.SoundShape.{IsBetween};
 ghost use Rattle.node_state.specs.Slices.{AllowsChannels};
-ghost use Rattle.node_state.specs.StandsFor.{StandsFor, IsPrepared, IsRestarted, node_kind, node_wave_channels, node_channels, most_channels, kept_stream};
+ghost use Rattle.node_state.specs.StandsFor.{StandsFor, IsPrepared, IsRestarted, node_kind, node_wave_channels, node_channels};
+ghost use Rattle.node_state.specs.StandsFor.{most_channels, kept_stream};
 ghost use Rattle.node_state.specs.Streams.{HasItsWave, unheard, restarted, channels_of};
 
 use crate::kind_state::KindState;
@@ -58,7 +59,8 @@ impl NodeState {
         requires allowed { AllowsChannels (node_kind self.old) channels }
         requires room { channels ≤ most_channels self.old }
         requires empty { kept_stream self.old ≡ [] }
-        ensures stands { (h : Heard) → StandsFor self.old h → StandsFor self.new (restarted (node_kind self.old) channels h) }
+        ensures stands { (h : Heard) → StandsFor self.old h
+            → StandsFor self.new (restarted (node_kind self.old) channels h) }
         ensures channels { 0 < input_count (node_kind self.old) → node_channels self.new ≡ channels }
         ensures same { IsRestarted self.old self.new }
         ensures goes_on { input_count (node_kind self.old) ≡ 0 → self.new ≡ self.old }

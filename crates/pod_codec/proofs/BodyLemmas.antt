@@ -22,14 +22,16 @@ use Rattle.pod_codec.proofs.LeafLemmas.{children_found, kind_found}
 abbrev pub IsFixed : (ℕ → Pod → ℕ → Type 0) → (ℕ → Result (Pod × ℕ) PodFault) → ℕ → Type 0
 IsFixed Held step e = (q : ℕ) (pod : Pod) (m : ℕ) → Held q pod m → (step q ≡ Ok (pod, m)) × (q + 8 ≤ m) × (m ≤ e)
 
-pub pod_fixed : (Held : ℕ → Pod → ℕ → Type 0) (step : ℕ → Result (Pod × ℕ) PodFault) (e : ℕ) → IsFixed Held step e → (q : ℕ) (pod : Pod) (m : ℕ) → Held q pod m → (step q ≡ Ok (pod, m)) × (q < m)
+pub pod_fixed : (Held : ℕ → Pod → ℕ → Type 0) (step : ℕ → Result (Pod × ℕ) PodFault) (e : ℕ) → IsFixed Held step e
+    → (q : ℕ) (pod : Pod) (m : ℕ) → Held q pod m → (step q ≡ Ok (pod, m)) × (q < m)
 pod_fixed Held step e fixed q pod m h = let s = fixed q pod m h in (s.0, omega (arith, s.1))
 
 same_prop : (bytes : List ℕ) (q : ℕ) (prop : Prop) → (out-Prop prop).key ≡ u32_at bytes q → (out-Prop prop).flags ≡ u32_at bytes (q + 4)
     → roll-Prop (record { key = u32_at bytes q; flags = u32_at bytes (q + 4); value = (out-Prop prop).value }) ≡ prop
 same_prop bytes q prop key flags = rw (← key, ← flags) (roll-out-Prop prop)
 
-pub prop_fixed : (Held : ℕ → Pod → ℕ → Type 0) (step : ℕ → Result (Pod × ℕ) PodFault) (bytes : List ℕ) (e : ℕ) → IsFixed Held step e → (q : ℕ) (prop : Prop) (m : ℕ) → IsPropAt Held bytes q prop m
+pub prop_fixed : (Held : ℕ → Pod → ℕ → Type 0) (step : ℕ → Result (Pod × ℕ) PodFault) (bytes : List ℕ) (e : ℕ) → IsFixed Held step e
+    → (q : ℕ) (prop : Prop) (m : ℕ) → IsPropAt Held bytes q prop m
     → (prop_step step bytes e q ≡ Ok (prop, m)) × (q < m)
 prop_fixed Held step bytes e fixed q prop m h =
     let s = fixed (q + 8) (out-Prop prop).value m h.2 in (
@@ -40,7 +42,8 @@ prop_fixed Held step bytes e fixed q prop m h =
     )
 
 -- the decoder's body
-pub body_found : (Held : ℕ → Pod → ℕ → Type 0) (step : ℕ → Result (Pod × ℕ) PodFault) (bytes : List ℕ) (t b e : ℕ) → IsFixed Held step e → (v : Pod-F Pod Control Prop) → IsBodyAt Held bytes t b e v → body_of step bytes t b e ≡ Ok v
+pub body_found : (Held : ℕ → Pod → ℕ → Type 0) (step : ℕ → Result (Pod × ℕ) PodFault) (bytes : List ℕ) (t b e : ℕ) → IsFixed Held step e
+    → (v : Pod-F Pod Control Prop) → IsBodyAt Held bytes t b e v → body_of step bytes t b e ≡ Ok v
 body_found Held step bytes t b e fixed Pod-F.None h = rw h.0 refl
 body_found Held step bytes t b e fixed (Pod-F.Text text) h = rw (h.0, h.3) refl
 body_found Held step bytes t b e fixed (Pod-F.Bytes text) h = rw (h.0, h.1) refl
@@ -52,9 +55,11 @@ body_found Held step bytes t b e fixed (Pod-F.Array child values) h =
           let c = children_found bytes b b e child values s in
           rw (h.0, ne_eqb e b (λ z. omega (arith, c.header, z)), c.one_child, c.all_values) refl
     ]
-body_found Held step bytes t b e fixed (Pod-F.Struct fields) h = rw h.0 (ap (mapped Pod-F.Struct) (run_found Held step (pod_fixed Held step e fixed) e b e fields h.1 (omega arith)))
+body_found Held step bytes t b e fixed (Pod-F.Struct fields) h =
+    rw h.0 (ap (mapped Pod-F.Struct) (run_found Held step (pod_fixed Held step e fixed) e b e fields h.1 (omega arith)))
 body_found Held step bytes t b e fixed (Pod-F.Object object id props) h =
-    rw (h.0, h.1, h.2) (ap (mapped (Pod-F.Object (u32_at bytes b) (u32_at bytes (b + 4)))) (run_found (IsPropAt Held bytes) (prop_step step bytes e) (prop_fixed Held step bytes e fixed) e (b + 8) e props h.3 (omega arith)))
+    rw (h.0, h.1, h.2) (ap (mapped (Pod-F.Object (u32_at bytes b) (u32_at bytes (b + 4))))
+    (run_found (IsPropAt Held bytes) (prop_step step bytes e) (prop_fixed Held step bytes e fixed) e (b + 8) e props h.3 (omega arith)))
 body_found Held step bytes t b e fixed (Pod-F.Choice kind flags child values) h =
     let c = children_found bytes b (b + 8) e child values h.3 in
     rw (h.0, kind_found kind (u32_at bytes b) h.1, h.2, c.one_child, c.all_values) refl
@@ -73,11 +78,14 @@ body_found Held step bytes t b e fixed (Pod-F.Fd n) h = rw (h.1.0, h.1.1) refl
 size_of : (p size t : ℕ) (n : ℕ) → p + 8 + size ≡ p + 8 + child_size t → t ≡ n → size ≡ child_size n
 size_of p size t n e h = omega (arith, e, ap child_size h)
 
-choice_checked : (bytes : List ℕ) (p size : ℕ) → 16 ≤ size → u32_at bytes (p + 8) ≤ 4 → first_failed (children_checks bytes p (p + 16) (p + 8 + size)) ≡ None → first_failed (choice_checks bytes p size) ≡ None
+choice_checked : (bytes : List ℕ) (p size : ℕ) → 16 ≤ size → u32_at bytes (p + 8) ≤ 4
+    → first_failed (children_checks bytes p (p + 16) (p + 8 + size)) ≡ None → first_failed (choice_checks bytes p size) ≡ None
 choice_checked bytes p size long kind rest = rw (le-ltb size 16 long, le-ltb 4 (u32_at bytes (p + 8)) kind) rest
 
-array_checked : (bytes : List ℕ) (p size : ℕ) → 8 ≤ size → first_failed (children_checks bytes p (p + 8) (p + 8 + size)) ≡ None → first_failed (array_checks bytes p size) ≡ None
-array_checked bytes p size long rest = rw (and_right (nat_lt 0 size) (nat_lt size 8) (le-ltb size 8 long), ne_eqb size 0 (λ z. omega arith)) rest
+array_checked : (bytes : List ℕ) (p size : ℕ) → 8 ≤ size → first_failed (children_checks bytes p (p + 8) (p + 8 + size)) ≡ None
+    → first_failed (array_checks bytes p size) ≡ None
+array_checked bytes p size long rest = rw (and_right (nat_lt 0 size) (nat_lt size 8) (le-ltb size 8 long), ne_eqb size 0 (λ z. omega arith))
+    rest
 
 kind_small : (kind : ChoiceKind) (n : ℕ) → choice_number kind ≡ n → n ≤ 4
 kind_small k.None n h = omega (arith, h)
@@ -86,7 +94,8 @@ kind_small k.Step n h = omega (arith, h)
 kind_small k.Enum n h = omega (arith, h)
 kind_small k.Flags n h = omega (arith, h)
 
-pub checks_found : (Held : ℕ → Pod → ℕ → Type 0) (step : ℕ → Result (Pod × ℕ) PodFault) (bytes : List ℕ) (p size t : ℕ) → IsFixed Held step (p + 8 + size) → (v : Pod-F Pod Control Prop) → IsBodyAt Held bytes t (p + 8) (p + 8 + size) v
+pub checks_found : (Held : ℕ → Pod → ℕ → Type 0) (step : ℕ → Result (Pod × ℕ) PodFault) (bytes : List ℕ) (p size t : ℕ)
+    → IsFixed Held step (p + 8 + size) → (v : Pod-F Pod Control Prop) → IsBodyAt Held bytes t (p + 8) (p + 8 + size) v
     → first_failed (body_checks bytes p size t) ≡ None
 checks_found Held step bytes p size t fixed Pod-F.None h = let z : size ≡ 0 = omega (arith, h.1) in rw (h.0, z) refl
 checks_found Held step bytes p size t fixed (Pod-F.Text text) h = rw (h.0, ne_eqb size 0 (λ z. omega (arith, h.1)), h.2) refl
@@ -101,11 +110,16 @@ checks_found Held step bytes p size t fixed (Pod-F.Array child values) h =
     ]
 checks_found Held step bytes p size t fixed (Pod-F.Struct fields) h = rw h.0 refl
 checks_found Held step bytes p size t fixed (Pod-F.Object object id props) h =
-    let r = reaches (IsPropAt Held bytes) (prop_step step bytes (p + 8 + size)) (prop_fixed Held step bytes (p + 8 + size) fixed) (p + 8 + 8) props (p + 8 + size) h.3 in
+    let r = reaches (IsPropAt Held bytes) (prop_step step bytes (p + 8 + size)) (prop_fixed Held step bytes (p + 8 + size) fixed)
+    (p + 8 + 8) props (p + 8 + size) h.3 in
     rw (h.0, le-ltb size 8 (omega (arith, r))) refl
 checks_found Held step bytes p size t fixed (Pod-F.Choice kind flags child values) h =
     let c = children_found bytes p (p + 8 + 8) (p + 8 + size) child values h.3 in
-    rw (h.0, choice_checked bytes p size (omega (arith, c.header)) (kind_small kind (u32_at bytes (p + 8)) h.1) (subst (λ (n : ℕ). first_failed (children_checks bytes p n (p + 8 + size)) ≡ None) (omega arith) c.checks)) refl
+    rw (
+      h.0,
+      choice_checked bytes p size (omega (arith, c.header)) (kind_small kind (u32_at bytes (p + 8)) h.1)
+          (subst (λ (n : ℕ). first_failed (children_checks bytes p n (p + 8 + size)) ≡ None) (omega arith) c.checks),
+    ) refl
 checks_found Held step bytes p size t fixed (Pod-F.Sequence unit controls) h = absurd (false≢true h.1)
 checks_found Held step bytes p size t fixed (Pod-F.Bool x) h = rw (h.1.0, size_of p size t 2 h.0 h.1.0) refl
 checks_found Held step bytes p size t fixed (Pod-F.Id n) h = rw (h.1.0, size_of p size t 3 h.0 h.1.0) refl

@@ -1,5 +1,6 @@
 -- The canonical spelling of a value that can be written spells it, whatever stands behind.
-use Rattle.std.proofs.Common.{◌≡◌, ℕ, zero, suc, ◌+◌, ◌-◌, ◌≤◌, ◌<◌, ◌^◌, replicate, inr, List, [], ◌∷◌, ◌++◌, length, map, refl, sym, ap, subst, ◌∙◌, arith, length-append}
+use Rattle.std.proofs.Common.{◌≡◌, ℕ, zero, suc, ◌+◌, ◌-◌, ◌≤◌, ◌<◌, ◌^◌, replicate, inr, List, [], ◌∷◌, ◌++◌, length}
+use Rattle.std.proofs.Common.{map, refl, sym, ap, subst, ◌∙◌, arith, length-append}
 use Rattle.std.specs.List.{flat_map}
 use Rattle.std.specs.Prelude.{slice_index}
 use Rattle.std.proofs.lemmas.List.{length-replicate}
@@ -29,7 +30,13 @@ pub framed_length : (f : Form) → length (framed f) ≡ 8 + pad8 (length f.body
 framed_length f =
     let head = u32_bytes (length f.body) ++ u32_bytes f.number in
     let zeros : List ℕ = replicate (pad8 (length f.body) - length f.body) 0 in
-    omega (arith, length-append (head ++ f.body) zeros, length-append head f.body, pair_length (length f.body) f.number, length-replicate {A = ℕ} (pad8 (length f.body) - length f.body) 0)
+    omega (
+      arith,
+      length-append (head ++ f.body) zeros,
+      length-append head f.body,
+      pair_length (length f.body) f.number,
+      length-replicate {A = ℕ} (pad8 (length f.body) - length f.body) 0,
+    )
 
 deep : (v : Pod-F Pod Control Prop) → 1 ≤ (form_at v).depth
 deep Pod-F.None = omega arith
@@ -50,33 +57,54 @@ pub record IsBody (left : ℕ) (bytes : List ℕ) (b e : ℕ) (v : Pod-F Pod Con
   pub stands : StandsAt bytes b (form_at v).body
   pub end : e ≡ b + length (form_at v).body
 
-body_spells : (left : ℕ) (bytes : List ℕ) (b e : ℕ) → IsSpelled left bytes e → (v : Pod-F Pod Control Prop) → IsBody left bytes b e v → IsBodyAt (λ a x m. SpellsAt left bytes a e x m) bytes (form_at v).number b e v
+body_spells : (left : ℕ) (bytes : List ℕ) (b e : ℕ) → IsSpelled left bytes e → (v : Pod-F Pod Control Prop) → IsBody left bytes b e v
+    → IsBodyAt (λ a x m. SpellsAt left bytes a e x m) bytes (form_at v).number b e v
 body_spells left bytes b e held Pod-F.None h = (refl, omega (arith, h.end))
 body_spells left bytes b e held (Pod-F.Text text) h =
     let end : e ≡ b + length text + 1 = omega (arith, h.end, length-append text (0 ∷ [])) in
-    let last = first_stands bytes (b + length text) 0 [] (stands_right bytes b (b + length text) text (0 ∷ []) refl h.stands) in
-    (refl, omega arith, ap (slice_index bytes) (omega arith) ∙ last, sym (range_stands bytes b (e - 1) text (stands_left bytes b text (0 ∷ []) h.stands) (omega arith)))
+    let last = first_stands bytes (b + length text) 0 [] (stands_right bytes b (b + length text) text (0 ∷ []) refl h.stands) in (
+      refl,
+      omega arith,
+      ap (slice_index bytes) (omega arith) ∙ last,
+      sym (range_stands bytes b (e - 1) text (stands_left bytes b text (0 ∷ []) h.stands) (omega arith)),
+    )
 body_spells left bytes b e held (Pod-F.Bytes text) h = (refl, sym (range_stands bytes b e text h.stands h.end))
 body_spells left bytes b e held (Pod-F.Bitmap text) h = (refl, sym (range_stands bytes b e text h.stands h.end))
-body_spells left bytes b e held (Pod-F.Array child values) h = (refl, inr (children_spell bytes b e child values h.fits.sound h.numbers h.stands h.end))
-body_spells left bytes b e held (Pod-F.Struct fields) h =
-    (refl, fields_spell left bytes e held b fields (parts_fit left (map form_of fields) h.fits.sound (omega (arith, h.fits.depth)) h.fits.size) h.numbers h.stands h.end)
+body_spells left bytes b e held (Pod-F.Array child values) h =
+    (refl, inr (children_spell bytes b e child values h.fits.sound h.numbers h.stands h.end))
+body_spells left bytes b e held (Pod-F.Struct fields) h = (
+  refl,
+  fields_spell left bytes e held b fields (parts_fit left (map form_of fields) h.fits.sound
+      (omega (arith, h.fits.depth)) h.fits.size) h.numbers h.stands h.end,
+)
 body_spells left bytes b e held (Pod-F.Object object id props) h =
     let head = u32_bytes object ++ u32_bytes id in
     let rest = flat_map keyed_bytes (map keyed_of props) in
     let long : length (head ++ rest) ≡ 8 + length rest = omega (arith, length-append head rest, pair_length object id) in
     let pair = pair_stands bytes b object id h.numbers.0 h.numbers.1 (stands_left bytes b head rest h.stands) in
-    let behind = stands_right bytes b (b + 8) head rest (omega (arith, pair_length object id)) h.stands in
-    (refl, pair.0, pair.1, props_spell left bytes e held (b + 8) props (parts_fit_keyed left (map keyed_of props) h.fits.sound (omega (arith, h.fits.depth)) (omega (arith, h.fits.size, long))) h.numbers.2 behind (omega (arith, h.end, long)))
+    let behind = stands_right bytes b (b + 8) head rest (omega (arith, pair_length object id)) h.stands in (
+      refl,
+      pair.0,
+      pair.1,
+      props_spell left bytes e held (b + 8) props
+          (parts_fit_keyed left (map keyed_of props) h.fits.sound (omega (arith, h.fits.depth)) (omega (arith, h.fits.size, long)))
+          h.numbers.2 behind (omega (arith, h.end, long)),
+    )
 body_spells left bytes b e held (Pod-F.Choice kind flags child values) h =
     let n = choice_number kind in
     let head = u32_bytes n ++ u32_bytes flags in
     let rest = child_bytes child (map form_of values) in
     let pair = pair_stands bytes b n flags (kind_is_small kind) h.numbers.0 (stands_left bytes b head rest h.stands) in
-    let behind = stands_right bytes b (b + 8) head rest (omega (arith, pair_length n flags)) h.stands in
-    (refl, pair.0, pair.1, children_spell bytes (b + 8) e child values h.fits.sound h.numbers.1 behind (omega (arith, h.end, length-append head rest, pair_length n flags)))
+    let behind = stands_right bytes b (b + 8) head rest (omega (arith, pair_length n flags)) h.stands in (
+      refl,
+      pair.0,
+      pair.1,
+      children_spell bytes (b + 8) e child values h.fits.sound h.numbers.1 behind
+          (omega (arith, h.end, length-append head rest, pair_length n flags)),
+    )
 body_spells left bytes b e held (Pod-F.Sequence unit controls) h = absurd (false≢true h.fits.sound)
-body_spells left bytes b e held scalar h = let s = scalar_spells bytes (form_at scalar).number b scalar refl (omega arith) h.numbers h.stands in (omega (arith, h.end, s.1), s.0)
+body_spells left bytes b e held scalar h = let s =
+    scalar_spells bytes (form_at scalar).number b scalar refl (omega arith) h.numbers h.stands in (omega (arith, h.end, s.1), s.0)
 
 -- the header of what stands framed, and its body
 pub record IsFramed (bytes : List ℕ) (a : ℕ) (f : Form) : Type 0 where
@@ -84,20 +112,28 @@ pub record IsFramed (bytes : List ℕ) (a : ℕ) (f : Form) : Type 0 where
   pub number : u32_at bytes (a + 4) ≡ f.number
   pub body : StandsAt bytes (a + 8) f.body
 
-frame_stands : (bytes : List ℕ) (a : ℕ) (f : Form) → f.number ≤ 19 → length f.body ≤ 1048576 → StandsAt bytes a (framed f) → IsFramed bytes a f
+frame_stands : (bytes : List ℕ) (a : ℕ) (f : Form) → f.number ≤ 19 → length f.body ≤ 1048576 → StandsAt bytes a (framed f)
+    → IsFramed bytes a f
 frame_stands bytes a f n l s =
     let head = u32_bytes (length f.body) ++ u32_bytes f.number in
     let zeros : List ℕ = replicate (pad8 (length f.body) - length f.body) 0 in
     let both = stands_left bytes a (head ++ f.body) zeros s in
     let pair = pair_stands bytes a (length f.body) f.number (omega arith) (omega arith) (stands_left bytes a head f.body both) in
-    record { size = sym pair.0; number = sym pair.1; body = stands_right bytes a (a + 8) head f.body (omega (arith, pair_length (length f.body) f.number)) both }
+    record {
+      size = sym pair.0;
+      number = sym pair.1;
+      body = stands_right bytes a (a + 8) head f.body (omega (arith, pair_length (length f.body) f.number)) both;
+    }
 
-framed_at : (bytes : List ℕ) (a : ℕ) (pod : Pod) → length (form_of pod).body ≤ 1048576 → StandsAt bytes a (framed (form_of pod)) → IsFramed bytes a (form_of pod)
-framed_at bytes a pod l s = frame_stands bytes a (form_of pod) (omega (arith, ap (λ (f : Form). f.number) (form_out pod), number_small (out-Pod pod))) l s
+framed_at : (bytes : List ℕ) (a : ℕ) (pod : Pod) → length (form_of pod).body ≤ 1048576 → StandsAt bytes a (framed (form_of pod))
+    → IsFramed bytes a (form_of pod)
+framed_at bytes a pod l s = frame_stands bytes a (form_of pod)
+    (omega (arith, ap (λ (f : Form). f.number) (form_out pod), number_small (out-Pod pod))) l s
 
 pub canonical_spells : (left : ℕ) (bytes : List ℕ) (e : ℕ) → IsSpelled left bytes e
 unfolding SpellsAt NumbersFit
-canonical_spells zero bytes e pod a fits numbers s within = absurd (omega (arith, fits.depth, ap (λ (f : Form). f.depth) (form_out pod), deep (out-Pod pod)))
+canonical_spells zero bytes e pod a fits numbers s within =
+    absurd (omega (arith, fits.depth, ap (λ (f : Form). f.depth) (form_out pod), deep (out-Pod pod)))
 canonical_spells (suc left) bytes e pod a fits numbers s within =
     let f = form_of pod in
     let v = out-Pod pod in
@@ -114,11 +150,13 @@ canonical_spells (suc left) bytes e pod a fits numbers s within =
     let typed = subst (λ (t : ℕ). IsBodyAt (λ q x m. SpellsAt left bytes q end x m) bytes t (a + 8) end v) number body in (
       within,
       omega (arith, framed_length f, ap pad8 h.size),
-      subst (λ (n : ℕ). IsBodyAt (λ q x m. SpellsAt left bytes q (a + 8 + n) x m) bytes (u32_at bytes (a + 4)) (a + 8) (a + 8 + n) v) (sym h.size) typed,
+      subst (λ (n : ℕ). IsBodyAt (λ q x m. SpellsAt left bytes q (a + 8 + n) x m) bytes (u32_at bytes (a + 4)) (a + 8) (a + 8 + n) v)
+          (sym h.size) typed,
     )
 
 -- of all bytes
-pub canonical_front : (bytes rest : List ℕ) (pod : Pod) → IsWritable pod → NumbersFit 16 pod → bytes ≡ canonical pod ++ rest → FrontSpells bytes pod (length (canonical pod))
+pub canonical_front : (bytes rest : List ℕ) (pod : Pod) → IsWritable pod → NumbersFit 16 pod → bytes ≡ canonical pod ++ rest
+    → FrontSpells bytes pod (length (canonical pod))
 canonical_front bytes rest pod fits numbers is =
     let s : StandsAt bytes 0 (canonical pod) = record { rest = rest; parts = is } in
     record {

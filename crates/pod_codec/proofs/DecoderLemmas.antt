@@ -5,7 +5,8 @@ use Rattle.pod_codec.specs.declared.fault.PodFault.{PodFault}
 use Rattle.pod_codec.specs.Places.{AreAfter}
 use Rattle.pod_codec.proofs.Decoder.{mapped, after, run}
 
-module _ {X : Type 0} (R : ℕ → X → ℕ → Type 0) (step : ℕ → Result (X × ℕ) PodFault) (fixed : (q : ℕ) (x : X) (m : ℕ) → R q x m → (step q ≡ Ok (x, m)) × (q < m)) where
+module _ {X : Type 0} (R : ℕ → X → ℕ → Type 0) (step : ℕ → Result (X × ℕ) PodFault)
+    (fixed : (q : ℕ) (x : X) (m : ℕ) → R q x m → (step q ≡ Ok (x, m)) × (q < m)) where
   pub reaches : (p : ℕ) (xs : List X) (e : ℕ) → AreAfter R p xs e → p ≤ e
   reaches p [] e h = omega (arith, h)
   reaches p (x ∷ xs) e h = omega (arith, (fixed p x h.0 h.1).1, reaches h.0 xs e h.2)
@@ -21,7 +22,8 @@ module _ {X : Type 0} (R : ℕ → X → ℕ → Type 0) (step : ℕ → Result 
       ∙ ap (after (λ m. run step n m e)) s.0
       ∙ ap (mapped (λ ys. x ∷ ys)) (run_found n h.0 e xs h.2 (omega (arith, s.1)))
 
-  pub run_fault : (n p e : ℕ) (xs : List X) (q : ℕ) (f : PodFault) → AreAfter R p xs q → q < e → step q ≡ Err f → e ≤ p + n → run step n p e ≡ Err f
+  pub run_fault : (n p e : ℕ) (xs : List X) (q : ℕ) (f : PodFault) → AreAfter R p xs q → q < e → step q ≡ Err f → e ≤ p + n
+      → run step n p e ≡ Err f
   run_fault zero p e xs q f h l s b = absurd (omega (arith, reaches p xs q h))
   run_fault (suc n) p e [] q f h l s b =
       cond-true (nat_lt p e) (after (λ m. run step n m e) (step p)) (Ok []) (lt-ltb p e (omega (arith, h)))

@@ -18,5 +18,6 @@ form_at v = pod_form (map-Pod Pod Control Prop Form Keyed Keyed form_of control_
 pub form_out : (pod : Pod) → form_of pod ≡ form_at (out-Pod pod)
 form_out pod = fold_out-Pod Form Keyed Keyed pod_form control_form prop_form pod
 
-pub keyed_out : (prop : Prop) → keyed_of prop ≡ record { first = (out-Prop prop).key; second = (out-Prop prop).flags; value = form_of (out-Prop prop).value }
+pub keyed_out : (prop : Prop) → keyed_of prop ≡ record
+    { first = (out-Prop prop).key; second = (out-Prop prop).flags; value = form_of (out-Prop prop).value }
 keyed_out prop = fold_out-Prop Form Keyed Keyed pod_form control_form prop_form prop

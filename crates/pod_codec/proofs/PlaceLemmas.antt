@@ -1,5 +1,6 @@
 -- What stands at a place of bytes: parts, numbers and ranges.
-use Rattle.std.proofs.Common.{◌≡◌, ℕ, ◌+◌, ◌<◌, ◌^◌, get_or, take, drop, List, ◌∷◌, ◌++◌, length, refl, sym, ap, ◌∙◌, arith, append_assoc}
+use Rattle.std.proofs.Common.{◌≡◌, ℕ, ◌+◌, ◌<◌, ◌^◌, get_or, take, drop, List, ◌∷◌, ◌++◌, length, refl, sym, ap, ◌∙◌, arith}
+use Rattle.std.proofs.Common.{append_assoc}
 use Rattle.std.proofs.lemmas.List.{get_or-drop, drop-drop, drop_at, take_at}
 use Rattle.std.proofs.lemmas.Nat.{from_le_bytes-to_le_bytes_4, from_le_bytes-to_le_bytes_8}
 use Rattle.std.specs.Int.{w32, w64, to_le_bytes}
@@ -21,7 +22,8 @@ drop_twice p n bytes = sym (drop-drop n p bytes)
 pub stands_right : (bytes : List ℕ) (p q : ℕ) (xs ys : List ℕ) → q ≡ p + length xs → StandsAt bytes p (xs ++ ys) → StandsAt bytes q ys
 stands_right bytes p q xs ys e s = record {
   rest = s.rest;
-  parts = ap (λ (n : ℕ). drop n bytes) e ∙ drop_twice p (length xs) bytes ∙ ap (drop (length xs)) (s.parts ∙ append_assoc xs ys s.rest) ∙ drop_at xs (ys ++ s.rest) (length xs) refl;
+  parts = ap (λ (n : ℕ). drop n bytes) e ∙ drop_twice p (length xs) bytes ∙ ap (drop (length xs)) (s.parts ∙ append_assoc xs ys s.rest)
+      ∙ drop_at xs (ys ++ s.rest) (length xs) refl;
 }
 
 at_stands : (bytes : List ℕ) (p i : ℕ) (xs : List ℕ) (s : StandsAt bytes p xs) → slice_index bytes (p + i) ≡ get_or (xs ++ s.rest) i 0
@@ -33,15 +35,19 @@ first_stands bytes p x xs s = ap (slice_index bytes) (omega arith) ∙ at_stands
 pub u32_stands : (bytes : List ℕ) (p n : ℕ) → n < 2 ^ 32 → StandsAt bytes p (u32_bytes n) → u32_at bytes p ≡ n
 unfolding u32_at u32_bytes
 u32_stands bytes p n small s =
-    let first : slice_index bytes p ≡ slice_index (to_le_bytes w32 n) 0 = ap (slice_index bytes) (omega arith) ∙ at_stands bytes p 0 (u32_bytes n) s in
-    rw (first, at_stands bytes p 1 (u32_bytes n) s, at_stands bytes p 2 (u32_bytes n) s, at_stands bytes p 3 (u32_bytes n) s) (from_le_bytes-to_le_bytes_4 n small)
+    let first : slice_index bytes p ≡ slice_index (to_le_bytes w32 n) 0 = ap (slice_index bytes) (omega arith)
+    ∙ at_stands bytes p 0 (u32_bytes n) s in
+    rw (first, at_stands bytes p 1 (u32_bytes n) s, at_stands bytes p 2 (u32_bytes n) s, at_stands bytes p 3 (u32_bytes n) s)
+    (from_le_bytes-to_le_bytes_4 n small)
 
 pub u64_stands : (bytes : List ℕ) (p n : ℕ) → n < 2 ^ 64 → StandsAt bytes p (u64_bytes n) → u64_at bytes p ≡ n
 unfolding u64_at u64_bytes
 u64_stands bytes p n small s =
-    let first : slice_index bytes p ≡ slice_index (to_le_bytes w64 n) 0 = ap (slice_index bytes) (omega arith) ∙ at_stands bytes p 0 (u64_bytes n) s in
+    let first : slice_index bytes p ≡ slice_index (to_le_bytes w64 n) 0 = ap (slice_index bytes) (omega arith)
+    ∙ at_stands bytes p 0 (u64_bytes n) s in
     let at = λ (i : ℕ). at_stands bytes p i (u64_bytes n) s in
     rw (first, at 1, at 2, at 3, at 4, at 5, at 6, at 7) (from_le_bytes-to_le_bytes_8 n small)
 
 pub range_stands : (bytes : List ℕ) (b e : ℕ) (xs : List ℕ) → StandsAt bytes b xs → e ≡ b + length xs → slice_range bytes b e ≡ xs
-range_stands bytes b e xs s end = ap (λ (n : ℕ). take n (drop b bytes)) (omega arith) ∙ ap (take (length xs)) s.parts ∙ take_at xs s.rest (length xs) refl
+range_stands bytes b e xs s end = ap (λ (n : ℕ). take n (drop b bytes)) (omega arith) ∙ ap (take (length xs)) s.parts
+    ∙ take_at xs s.rest (length xs) refl

@@ -1,5 +1,6 @@
 -- A front spells one value, or has one first fault, and never both.
-use Rattle.std.proofs.Common.{◌≡◌, ℕ, zero, suc, ◌+◌, ◌≤◌, ◌<◌, nat_lt, ◌⊎◌, inl, inr, List, length, None, Result, Ok, Err, refl, sym, ap, ◌∙◌, arith}
+use Rattle.std.proofs.Common.{◌≡◌, ℕ, zero, suc, ◌+◌, ◌≤◌, ◌<◌, nat_lt, ◌⊎◌, inl, inr, List, length, None, Result, Ok, Err, refl}
+use Rattle.std.proofs.Common.{sym, ap, ◌∙◌, arith}
 use Rattle.std.proofs.lemmas.Bool.{lt-ltb, le-ltb, cond-true, cond-false}
 use Rattle.std.specs.Prelude.{IfOk}
 use Rattle.pod_codec.specs.declared.pod.Pod.{Pod}
@@ -25,7 +26,8 @@ header_good : (bytes : List ℕ) (p e : ℕ) → p + 8 + pad8 (u32_at bytes p) �
 header_good bytes p e h = rw (le-ltb e (p + 8) (omega arith), le-ltb e (p + 8 + pad8 (u32_at bytes p)) h) refl
 
 -- what is spelled is what the decoder answers
-pub spelled_decoded : (left : ℕ) (bytes : List ℕ) (p e : ℕ) (pod : Pod) (q : ℕ) → SpellsAt left bytes p e pod q → (decoded left bytes p e ≡ Ok (pod, q)) × (p + 8 ≤ q) × (q ≤ e)
+pub spelled_decoded : (left : ℕ) (bytes : List ℕ) (p e : ℕ) (pod : Pod) (q : ℕ) → SpellsAt left bytes p e pod q
+    → (decoded left bytes p e ≡ Ok (pod, q)) × (p + 8 ≤ q) × (q ≤ e)
 unfolding SpellsAt decoded
 spelled_decoded zero bytes p e pod q h = absurd h
 spelled_decoded (suc left) bytes p e pod q h =
@@ -41,21 +43,28 @@ spelled_decoded (suc left) bytes p e pod q h =
     (rw (head, checks, body, roll-out-Pod pod) (ap (λ (n : ℕ). Ok (pod, n)) (sym h.1)), omega (arith, h.1), h.0)
 
 -- a property that is not there, or whose value is at fault
-prop_fails : (Faults : ℕ → PodFault → Type 0) (step : ℕ → Result (Pod × ℕ) PodFault) (bytes : List ℕ) (e q : ℕ) (f : PodFault) → ((a : ℕ) (g : PodFault) → Faults a g → step a ≡ Err g)
+prop_fails : (Faults : ℕ → PodFault → Type 0) (step : ℕ → Result (Pod × ℕ) PodFault) (bytes : List ℕ) (e q : ℕ) (f : PodFault)
+    → ((a : ℕ) (g : PodFault) → Faults a g → step a ≡ Err g)
     → ((e < q + 8) × (f ≡ Short q)) ⊎ ((q + 8 ≤ e) × Faults (q + 8) f) → prop_step step bytes e q ≡ Err f
-prop_fails Faults step bytes e q f fails (inl x) = cond-true (nat_lt e (q + 8)) (Err (Short q)) (mapped (prop_of bytes q) (step (q + 8))) (lt-ltb e (q + 8) x.0) ∙ ap Err (sym x.1)
-prop_fails Faults step bytes e q f fails (inr y) = cond-false (nat_lt e (q + 8)) (Err (Short q)) (mapped (prop_of bytes q) (step (q + 8))) (le-ltb e (q + 8) y.0) ∙ ap (mapped (prop_of bytes q)) (fails (q + 8) f y.1)
+prop_fails Faults step bytes e q f fails (inl x) =
+    cond-true (nat_lt e (q + 8)) (Err (Short q)) (mapped (prop_of bytes q) (step (q + 8))) (lt-ltb e (q + 8) x.0) ∙ ap Err (sym x.1)
+prop_fails Faults step bytes e q f fails (inr y) =
+    cond-false (nat_lt e (q + 8)) (Err (Short q)) (mapped (prop_of bytes q) (step (q + 8))) (le-ltb e (q + 8) y.0)
+    ∙ ap (mapped (prop_of bytes q)) (fails (q + 8) f y.1)
 
 -- a fault of what is held is the decoder's
-held_fault : (Held : ℕ → Pod → ℕ → Type 0) (Faults : ℕ → PodFault → Type 0) (step : ℕ → Result (Pod × ℕ) PodFault) (bytes : List ℕ) (t b e : ℕ) (f : PodFault) → IsFixed Held step e
+held_fault : (Held : ℕ → Pod → ℕ → Type 0) (Faults : ℕ → PodFault → Type 0) (step : ℕ → Result (Pod × ℕ) PodFault) (bytes : List ℕ)
+    (t b e : ℕ) (f : PodFault) → IsFixed Held step e
     → ((a : ℕ) (g : PodFault) → Faults a g → step a ≡ Err g) → IsHeldFault Held Faults bytes t b e f → body_of step bytes t b e ≡ Err f
 held_fault Held Faults step bytes t b e f fixed fails (inl x) =
     let h = x.1 in
-    rw x.0 (ap (mapped Pod-F.Struct) (run_fault Held step (pod_fixed Held step e fixed) e b e h.0 h.1 f h.2 h.3 (fails h.1 f h.4) (omega arith)))
+    rw x.0 (ap (mapped Pod-F.Struct) (run_fault Held step (pod_fixed Held step e fixed) e b e h.0 h.1 f h.2 h.3 (fails h.1 f h.4)
+    (omega arith)))
 held_fault Held Faults step bytes t b e f fixed fails (inr y) =
     let h = y.1 in
     rw y.0 (ap (mapped (Pod-F.Object (u32_at bytes b) (u32_at bytes (b + 4))))
-    (run_fault (IsPropAt Held bytes) (prop_step step bytes e) (prop_fixed Held step bytes e fixed) e (b + 8) e h.0 h.1 f h.2 h.3 (prop_fails Faults step bytes e h.1 f fails h.4) (omega arith)))
+    (run_fault (IsPropAt Held bytes) (prop_step step bytes e) (prop_fixed Held step bytes e fixed) e (b + 8) e h.0 h.1 f h.2 h.3
+    (prop_fails Faults step bytes e h.1 f fails h.4) (omega arith)))
 
 -- a first fault is what the decoder answers
 pub faulty_decoded : (left : ℕ) (bytes : List ℕ) (p e : ℕ) (f : PodFault) → FaultsAt left bytes p e f → decoded left bytes p e ≡ Err f
@@ -95,17 +104,23 @@ apart : (r : Result (Pod × ℕ) PodFault) (x : Pod × ℕ) (f : PodFault) → r
 apart r x f h k = cc
 
 -- an answer that is right is the only one
-pub only_read : (r : Result (Pod × ℕ) PodFault) (bytes : List ℕ) → IfOk r (λ x. FrontSpells bytes x.0 x.1) → Fails r (IsFirstFault bytes) → (pod : Pod) (size : ℕ) → FrontSpells bytes pod size → IsReadAs r pod size
-only_read (Ok x) bytes found fault pod size h = same_parts (decoded_front bytes) x (pod, size) (front_decoded bytes x.0 x.1 found) (front_decoded bytes pod size h)
+pub only_read : (r : Result (Pod × ℕ) PodFault) (bytes : List ℕ) → IfOk r (λ x. FrontSpells bytes x.0 x.1) → Fails r (IsFirstFault bytes)
+    → (pod : Pod) (size : ℕ) → FrontSpells bytes pod size → IsReadAs r pod size
+only_read (Ok x) bytes found fault pod size h = same_parts (decoded_front bytes) x (pod, size) (front_decoded bytes x.0 x.1 found)
+    (front_decoded bytes pod size h)
 only_read (Err f) bytes found (inl memory) pod size h = memory
-only_read (Err f) bytes found (inr g) pod size h = absurd (apart (decoded_front bytes) (pod, size) f (front_decoded bytes pod size h) (first_decoded bytes f g))
+only_read (Err f) bytes found (inr g) pod size h =
+    absurd (apart (decoded_front bytes) (pod, size) f (front_decoded bytes pod size h) (first_decoded bytes f g))
 
-pub only_refused : (r : Result (Pod × ℕ) PodFault) (bytes : List ℕ) → IfOk r (λ x. FrontSpells bytes x.0 x.1) → Fails r (IsFirstFault bytes) → (f : PodFault) → IsFirstFault bytes f → IsRefusedAs r f
+pub only_refused : (r : Result (Pod × ℕ) PodFault) (bytes : List ℕ) → IfOk r (λ x. FrontSpells bytes x.0 x.1) → Fails r (IsFirstFault bytes)
+    → (f : PodFault) → IsFirstFault bytes f → IsRefusedAs r f
 only_refused (Ok x) bytes found fault f h = apart (decoded_front bytes) x f (front_decoded bytes x.0 x.1 found) (first_decoded bytes f h)
 only_refused (Err g) bytes found (inl memory) f h = inl memory
-only_refused (Err g) bytes found (inr k) f h = inr (same_fault (decoded_front bytes) g f (first_decoded bytes g k) (first_decoded bytes f h))
+only_refused (Err g) bytes found (inr k) f h = inr
+    (same_fault (decoded_front bytes) g f (first_decoded bytes g k) (first_decoded bytes f h))
 
 -- a value that is read has sound choices
-pub only_sound : (r : Result (Pod × ℕ) PodFault) (bytes : List ℕ) → IfOk r (λ x. FrontSpells bytes x.0 x.1) → IfOk r (λ x. HasSoundChoices x.0)
+pub only_sound : (r : Result (Pod × ℕ) PodFault) (bytes : List ℕ) → IfOk r (λ x. FrontSpells bytes x.0 x.1)
+    → IfOk r (λ x. HasSoundChoices x.0)
 only_sound (Ok x) bytes found = sound_front bytes x.0 x.1 found
 only_sound (Err f) bytes found = tt

@@ -1,6 +1,7 @@
 -- The checks of a POD in their order, each with its fault. SPA POD, "Types"; spa/pod/pod.h; the order of the
 -- checks is this project's.
-use Rattle.std.specs.Prelude.{◌≡◌, ℕ, ◌+◌, ◌-◌, ◌%◌, ◌==◌, ◌&&◌, not, nat_lt, nat_le, Bool, true, List, [], ◌∷◌, length, slice_index, Option, Some, None, Result, Ok, Err, if◌then◌else◌}
+use Rattle.std.specs.Prelude.{◌≡◌, ℕ, ◌+◌, ◌-◌, ◌%◌, ◌==◌, ◌&&◌, not, nat_lt, nat_le, Bool, true, List, [], ◌∷◌, length}
+use Rattle.std.specs.Prelude.{slice_index, Option, Some, None, Result, Ok, Err, if◌then◌else◌}
 use Rattle.pod_codec.specs.declared.fault.PodFault.{PodFault}
 use Rattle.pod_codec.specs.declared.fault.PodFault.TheVariants.{Short, TypeUnknown, Size, Uneven, Large, Nul, Memory}
 use Rattle.pod_codec.specs.PodType.{is_known_type, child_size}
@@ -35,16 +36,19 @@ children_checks bytes p c e =
     let child = u32_at bytes (c + 4) in
     if (size == 0) && nat_le child 1
     then (not (e == c + 8), Uneven p) ∷ []
-    else (child_size child == 0, TypeUnknown (c + 4) child) ∷ (not (size == child_size child), Size c) ∷ (not ((e - (c + 8)) % child_size child == 0), Uneven p) ∷ []
+    else (child_size child == 0, TypeUnknown (c + 4) child) ∷ (not (size == child_size child), Size c) ∷
+    (not ((e - (c + 8)) % child_size child == 0), Uneven p) ∷ []
 
 -- of an array and of a choice at p, whose body is so long
 abbrev pub array_checks : List ℕ → ℕ → ℕ → List Check
-array_checks bytes p size = (nat_lt 0 size && nat_lt size 8, Size p) ∷ (if size == 0 then [] else children_checks bytes p (p + 8) (p + 8 + size))
+array_checks bytes p size = (nat_lt 0 size && nat_lt size 8, Size p) ∷
+    (if size == 0 then [] else children_checks bytes p (p + 8) (p + 8 + size))
 
 abbrev pub choice_checks : List ℕ → ℕ → ℕ → List Check
 choice_checks bytes p size =
     let kind = u32_at bytes (p + 8) in
-    (nat_lt size 16, Size p) ∷ (nat_lt 4 kind, TypeUnknown (p + 8) kind) ∷ children_checks bytes p (p + 16) (p + 8 + size)
+    (nat_lt size 16, Size p) ∷ (nat_lt 4 kind, TypeUnknown (p + 8) kind) ∷ children_checks bytes p (p + 16)
+    (p + 8 + size)
 
 -- of a string: it has a nul, and ends in one
 abbrev pub text_checks : List ℕ → ℕ → ℕ → List Check

@@ -28,15 +28,25 @@ pod_lines (Pod-F.Bitmap bytes) = alone (quoted (codes "bitmap \"") (hex bytes))
 pod_lines (Pod-F.Fd n) = alone (codes "fd " ++ signed_decimal n)
 pod_lines (Pod-F.Array child values) = over (two_numbered (codes "array ") child (codes " ") (length values)) values
 pod_lines (Pod-F.Struct fields) = over (numbered (codes "struct ") (length fields)) fields
-pod_lines (Pod-F.Object object id props) = over (two_numbered (codes "object ") object (codes " ") id ++ numbered (codes " ") (length props)) props
-pod_lines (Pod-F.Choice kind flags child values) = over ((codes "choice " ++ kind_word kind) ++ (two_numbered (codes " ") flags (codes " ") child ++ numbered (codes " ") (length values))) values
-pod_lines (Pod-F.Sequence unit controls) = over (two_numbered (codes "sequence ") unit (codes " ") (length controls)) controls
+pod_lines (Pod-F.Object object id props) =
+    over (two_numbered (codes "object ") object (codes " ") id ++ numbered (codes " ") (length props)) props
+pod_lines (Pod-F.Choice kind flags child values) =
+    over ((codes "choice " ++ kind_word kind) ++
+    (two_numbered (codes " ") flags (codes " ") child ++ numbered (codes " ") (length values))) values
+pod_lines (Pod-F.Sequence unit controls) =
+    over (two_numbered (codes "sequence ") unit (codes " ") (length controls)) controls
 
 abbrev pub prop_lines : Prop-F Lines Lines Lines → Lines
-prop_lines p = record { head = two_numbered (codes "prop ") p.key (codes " ") p.flags; held = λ level. text_at level p.value }
+prop_lines p = record {
+  head = two_numbered (codes "prop ") p.key (codes " ") p.flags;
+  held = λ level. text_at level p.value;
+}
 
 abbrev pub control_lines : Control-F Lines Lines Lines → Lines
-control_lines c = record { head = two_numbered (codes "control ") c.offset (codes " ") c.kind; held = λ level. text_at level c.value }
+control_lines c = record {
+  head = two_numbered (codes "control ") c.offset (codes " ") c.kind;
+  held = λ level. text_at level c.value;
+}
 
 abbrev pub lines_of : Pod → Lines
 lines_of = fold-Pod Lines Lines Lines pod_lines control_lines prop_lines

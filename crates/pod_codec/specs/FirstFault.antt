@@ -13,15 +13,19 @@ use Rattle.pod_codec.specs.Checks.{first_failed, header_checks, body_checks, out
 abbrev pub IsFieldFault : (ℕ → Pod → ℕ → Type 0) → (ℕ → PodFault → Type 0) → ℕ → ℕ → PodFault → Type 0
 IsFieldFault Held Faults b e f = (fields : List Pod) × (q : ℕ) × AreAfter Held b fields q × (q < e) × Faults q f
 
-abbrev pub IsPropFault : (ℕ → Pod → ℕ → Type 0) → (ℕ → PodFault → Type 0) → List ℕ → ℕ → ℕ → PodFault → Type 0
+abbrev pub IsPropFault : (ℕ → Pod → ℕ → Type 0) → (ℕ → PodFault → Type 0) → List ℕ → ℕ → ℕ → PodFault
+    → Type 0
 IsPropFault Held Faults bytes b e f = (props : List Prop) × (q : ℕ) × AreAfter (IsPropAt Held bytes) b props q × (q < e)
     × (((e < q + 8) × (f ≡ Short q)) ⊎ ((q + 8 ≤ e) × Faults (q + 8) f))
 
-abbrev pub IsHeldFault : (ℕ → Pod → ℕ → Type 0) → (ℕ → PodFault → Type 0) → List ℕ → ℕ → ℕ → ℕ → PodFault → Type 0
-IsHeldFault Held Faults bytes t b e f = ((t ≡ 14) × IsFieldFault Held Faults b e f) ⊎ ((t ≡ 15) × IsPropFault Held Faults bytes (b + 8) e f)
+abbrev pub IsHeldFault : (ℕ → Pod → ℕ → Type 0) → (ℕ → PodFault → Type 0) → List ℕ → ℕ → ℕ → ℕ
+    → PodFault → Type 0
+IsHeldFault Held Faults bytes t b e f = ((t ≡ 14) × IsFieldFault Held Faults b e f)
+    ⊎ ((t ≡ 15) × IsPropFault Held Faults bytes (b + 8) e f)
 
 -- the body's first check that fails, or, where none does, a fault of what is held
-abbrev pub IsBodyFault : (ℕ → Pod → ℕ → Type 0) → (ℕ → PodFault → Type 0) → List ℕ → ℕ → ℕ → ℕ → PodFault → Type 0
+abbrev pub IsBodyFault : (ℕ → Pod → ℕ → Type 0) → (ℕ → PodFault → Type 0) → List ℕ → ℕ → ℕ → ℕ
+    → PodFault → Type 0
 IsBodyFault Held Faults bytes p size t f = (first_failed (body_checks bytes p size t) ≡ Some f)
     ⊎ ((first_failed (body_checks bytes p size t) ≡ None) × IsHeldFault Held Faults bytes t (p + 8) (p + 8 + size) f)
 
@@ -32,7 +36,8 @@ FaultsAt (suc left) bytes p e f =
     let size = u32_at bytes p in
     (first_failed (header_checks bytes p e) ≡ Some f)
     ⊎ ((first_failed (header_checks bytes p e) ≡ None)
-    × IsBodyFault (λ a x m. SpellsAt left bytes a (p + 8 + size) x m) (λ a g. FaultsAt left bytes a (p + 8 + size) g) bytes p size (u32_at bytes (p + 4)) f)
+    × IsBodyFault (λ a x m. SpellsAt left bytes a (p + 8 + size) x m)
+    (λ a g. FaultsAt left bytes a (p + 8 + size) g) bytes p size (u32_at bytes (p + 4)) f)
 
 -- a fault is one of these, or want of memory
 abbrev pub Fails : {X : Type 0} → Result X PodFault → (PodFault → Type 0) → Type 0

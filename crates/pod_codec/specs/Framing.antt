@@ -1,6 +1,7 @@
 -- The parts of a written POD: size, type, body and zeros up to a multiple of 8, and elements without padding.
 -- SPA POD, "Types"; spa/pod/pod.h. Numbers are little-endian.
-use Rattle.std.specs.Prelude.{ℕ, ◌+◌, ◌*◌, ◌-◌, ◌/◌, ◌==◌, ◌&&◌, ◌||◌, max, nat_lt, Bool, true, List, [], ◌∷◌, ◌++◌, length, replicate}
+use Rattle.std.specs.Prelude.{ℕ, ◌+◌, ◌*◌, ◌-◌, ◌/◌, ◌==◌, ◌&&◌, ◌||◌, max, nat_lt, Bool, true, List, [], ◌∷◌, ◌++◌}
+use Rattle.std.specs.Prelude.{length, replicate}
 use Rattle.std.specs.List.{flat_map, list_all}
 use Rattle.std.specs.Int.{w32, w64, to_le_bytes}
 use Rattle.pod_codec.specs.PodType.{child_size}
@@ -31,7 +32,8 @@ pad8 n = 8 * ((n + 7) / 8)
 
 -- a whole POD: size, type, body, zeros up to a multiple of 8
 abbrev pub framed : Form → List ℕ
-framed f = (u32_bytes (length f.body) ++ u32_bytes f.number) ++ f.body ++ replicate (pad8 (length f.body) - length f.body) 0
+framed f = (u32_bytes (length f.body) ++ u32_bytes f.number) ++ f.body ++ replicate
+    (pad8 (length f.body) - length f.body) 0
 
 abbrev pub keyed_bytes : Keyed → List ℕ
 keyed_bytes k = (u32_bytes k.first ++ u32_bytes k.second) ++ framed k.value

@@ -11,11 +11,14 @@ use Rattle.pod_codec.specs.PodType.{child_size}
 
 -- the number in four bytes, and in eight, the lowest first
 unfoldable pub u32_at : List ℕ → ℕ → ℕ
-u32_at bytes p = from_le_bytes w32 (slice_index bytes p ∷ slice_index bytes (p + 1) ∷ slice_index bytes (p + 2) ∷ slice_index bytes (p + 3) ∷ [])
+u32_at bytes p = from_le_bytes w32 (slice_index bytes p ∷ slice_index bytes (p + 1) ∷ slice_index bytes
+    (p + 2) ∷ slice_index bytes (p + 3) ∷ [])
 
 unfoldable pub u64_at : List ℕ → ℕ → ℕ
-u64_at bytes p = from_le_bytes w64 (slice_index bytes p ∷ slice_index bytes (p + 1) ∷ slice_index bytes (p + 2) ∷ slice_index bytes (p + 3)
-    ∷ slice_index bytes (p + 4) ∷ slice_index bytes (p + 5) ∷ slice_index bytes (p + 6) ∷ slice_index bytes (p + 7) ∷ [])
+u64_at bytes p = from_le_bytes w64 (slice_index bytes p ∷ slice_index bytes (p + 1) ∷ slice_index bytes
+    (p + 2) ∷ slice_index bytes (p + 3)
+    ∷ slice_index bytes (p + 4) ∷ slice_index bytes (p + 5) ∷ slice_index bytes (p + 6) ∷ slice_index bytes (p + 7) ∷
+    [])
 
 -- things one after the other: each from where the one before ends, the first from p, the last to e
 abbrev pub AreAfter : {X : Type 0} → (ℕ → X → ℕ → Type 0) → ℕ → List X → ℕ → Type 0
@@ -30,7 +33,8 @@ IsScalarAt bytes t b (Pod-F.Int n) = (t ≡ 4) × (n ≡ cast_signed w32 (u32_at
 IsScalarAt bytes t b (Pod-F.Long n) = (t ≡ 5) × (n ≡ cast_signed w64 (u64_at bytes b))
 IsScalarAt bytes t b (Pod-F.FloatBits n) = (t ≡ 6) × (n ≡ u32_at bytes b)
 IsScalarAt bytes t b (Pod-F.DoubleBits n) = (t ≡ 7) × (n ≡ u64_at bytes b)
-IsScalarAt bytes t b (Pod-F.Rectangle width height) = (t ≡ 10) × (width ≡ u32_at bytes b) × (height ≡ u32_at bytes (b + 4))
+IsScalarAt bytes t b (Pod-F.Rectangle width height) = (t ≡ 10) × (width ≡ u32_at bytes b)
+    × (height ≡ u32_at bytes (b + 4))
 IsScalarAt bytes t b (Pod-F.Fraction num denom) = (t ≡ 11) × (num ≡ u32_at bytes b) × (denom ≡ u32_at bytes (b + 4))
 IsScalarAt bytes t b (Pod-F.Fd n) = (t ≡ 18) × (n ≡ cast_signed w64 (u64_at bytes b))
 IsScalarAt bytes t b _ = ⊥

@@ -8,7 +8,8 @@ use Rattle.pod_codec.specs.declared.pod.Prop.{Prop}
 use Rattle.pod_codec.specs.declared.pod.Pod.TheOpen.{Pod-F, Prop-F, Control-F}
 use Rattle.pod_codec.specs.declared.pod.Pod.TheFolds.{fold-Pod, fold-Prop}
 use Rattle.pod_codec.specs.PodType.{is_known_type, choice_number}
-use Rattle.pod_codec.specs.Framing.{Form, Keyed, u32_bytes, u64_bytes, framed, keyed_bytes, deepest, deepest_keyed, child_bytes, are_children, leaf}
+use Rattle.pod_codec.specs.Framing.{Form, Keyed, u32_bytes, u64_bytes, framed, keyed_bytes, deepest, deepest_keyed, child_bytes}
+use Rattle.pod_codec.specs.Framing.{are_children, leaf}
 
 abbrev pub array_form : ℕ → List Form → Form
 array_form child values = record { number = 13; body = child_bytes child values; depth = 1; sound = are_children child values }

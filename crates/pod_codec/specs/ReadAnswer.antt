@@ -8,7 +8,8 @@ use Rattle.pod_codec.specs.FirstFault.{IsFirstFault}
 
 -- the front of the bytes spells a value, or has a first fault
 abbrev pub HasAnswer : List ℕ → Type 0
-HasAnswer bytes = ((pod : Pod) × (size : ℕ) × FrontSpells bytes pod size) ⊎ ((first : PodFault) × IsFirstFault bytes first)
+HasAnswer bytes = ((pod : Pod) × (size : ℕ) × FrontSpells bytes pod size)
+    ⊎ ((first : PodFault) × IsFirstFault bytes first)
 
 -- the answer is this value, of this length
 abbrev pub IsReadAs : Result (Pod × ℕ) PodFault → Pod → ℕ → Type 0

@@ -16,7 +16,8 @@ IsOfType number pod = (form_of pod).number ≡ number
 
 -- a choice that has values: its child type is allowed, and each value is of that type; any other value is free
 abbrev pub IsSoundChoice : Pod-F Pod Control Prop → Type 0
-IsSoundChoice (Pod-F.Choice kind flags child values) = 0 < length values → (0 < child_size child) × All (IsOfType child) values
+IsSoundChoice (Pod-F.Choice kind flags child values) = 0 < length values → (0 < child_size child)
+    × All (IsOfType child) values
 IsSoundChoice other = Unit {0}
 
 -- of an object: each property's value

@@ -1,5 +1,6 @@
 //! The values that stand in others: elements without padding, whole PODs, and their frames.
-ghost use Rattle.std.specs.Prelude.{◌≡◌, ℕ, List, ◌+◌, ◌-◌, ◌≤◌, ◌<◌, ◌^◌, ◌==◌, ◌++◌, length, take, drop, replicate, map, IsTrue, OnOk};
+ghost use Rattle.std.specs.Prelude.{◌≡◌, ℕ, List, ◌+◌, ◌-◌, ◌≤◌, ◌<◌, ◌^◌, ◌==◌, ◌++◌, length, take, drop, replicate};
+ghost use Rattle.std.specs.Prelude.{map, IsTrue, OnOk};
 ghost use Rattle.std.specs.List.{flat_map, list_all};
 ghost use Rattle.pod_codec.specs.PodType.{child_size};
 ghost use Rattle.pod_codec.specs.Framing.{Form, framed, pad8, u32_bytes, child_bytes, are_children};
@@ -48,7 +49,8 @@ pub fn padding(size: usize) -> usize
 /// long is refused.
 pub fn end_frame(at: usize, to: &mut Items<u8>) -> Result<(), WriteFault>
     requires { at + 8 ≤ length to.old }
-    ensures ok { (front : List ℕ) (f : Form) → IsOpen front f at to.old → OnOk result (to.new ≡ front ++ framed f) }
+    ensures ok { (front : List ℕ) (f : Form) → IsOpen front f at to.old
+        → OnOk result (to.new ≡ front ++ framed f) }
     ensures told { Tells result (length to.old - (at + 8) ≤ 1048576) }
 {
     let size = to.len() - (at + 8);

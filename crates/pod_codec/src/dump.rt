@@ -24,7 +24,8 @@ fn word_of(kind: ChoiceKind) -> &'static [u8]
 
 /// Appends the words of an object or a choice behind the first: two numbers and a count.
 fn put_counted(word: &[u8], n: u32, m: u32, count: usize, text: &mut Text) -> Result<(), Memory>
-    ensures { OnOk result (text.new ≡ text.old ++ (two_numbered word.now n (codes " ") m ++ numbered (codes " ") count)) }
+    ensures { OnOk result (text.new ≡ text.old ++
+        (two_numbered word.now n (codes " ") m ++ numbered (codes " ") count)) }
 {
     put_numbers(word, u64::from(n), b" ".as_slice(), u64::from(m), text)?;
     put_number(b" ".as_slice(), count as u64, text)
@@ -45,7 +46,8 @@ fn put_rectangle(width: u32, height: u32, text: &mut Text) -> Result<(), Memory>
 
 /// Appends the words of an array.
 fn put_array(child: u32, values: &[Pod], text: &mut Text) -> Result<(), Memory>
-    ensures { OnOk result (text.new ≡ text.old ++ two_numbered (codes "array ") child (codes " ") (length (map lines_of values.now))) }
+    ensures { OnOk result (text.new ≡ text.old ++ two_numbered (codes "array ") child (codes " ")
+        (length (map lines_of values.now))) }
 {
     put_numbers(
         b"array ".as_slice(),
@@ -58,14 +60,17 @@ fn put_array(child: u32, values: &[Pod], text: &mut Text) -> Result<(), Memory>
 
 /// Appends the words of a struct.
 fn put_struct(fields: &[Pod], text: &mut Text) -> Result<(), Memory>
-    ensures { OnOk result (text.new ≡ text.old ++ numbered (codes "struct ") (length (map lines_of fields.now))) }
+    ensures { OnOk result (text.new ≡ text.old ++ numbered (codes "struct ")
+        (length (map lines_of fields.now))) }
 {
     put_number(b"struct ".as_slice(), fields.len() as u64, text)
 }
 
 /// Appends the words of an object.
 fn put_object(object: u32, id: u32, props: &[Prop], text: &mut Text) -> Result<(), Memory>
-    ensures { OnOk result (text.new ≡ text.old ++ (two_numbered (codes "object ") object (codes " ") id ++ numbered (codes " ") (length (map prop_lines_of props.now)))) }
+    ensures { OnOk result (text.new ≡ text.old ++
+        (two_numbered (codes "object ") object (codes " ") id ++ numbered (codes " ")
+        (length (map prop_lines_of props.now)))) }
 {
     put_counted(b"object ".as_slice(), object, id, props.len(), text)
 }
@@ -78,7 +83,10 @@ fn put_choice(
     values: &[Pod],
     text: &mut Text,
 ) -> Result<(), Memory>
-    ensures { OnOk result (text.new ≡ text.old ++ ((codes "choice " ++ kind_word kind) ++ (two_numbered (codes " ") flags (codes " ") child ++ numbered (codes " ") (length (map lines_of values.now))))) }
+    ensures { OnOk result (text.new ≡ text.old ++
+        ((codes "choice " ++ kind_word kind) ++
+        (two_numbered (codes " ") flags (codes " ") child ++ numbered (codes " ")
+        (length (map lines_of values.now))))) }
 {
     text.extend(b"choice ".as_slice())?;
     text.extend(word_of(kind))?;
@@ -87,7 +95,8 @@ fn put_choice(
 
 /// Appends the words of a sequence.
 fn put_sequence(unit: u32, controls: &[Control], text: &mut Text) -> Result<(), Memory>
-    ensures { OnOk result (text.new ≡ text.old ++ two_numbered (codes "sequence ") unit (codes " ") (length (map control_lines_of controls.now))) }
+    ensures { OnOk result (text.new ≡ text.old ++ two_numbered (codes "sequence ") unit (codes " ")
+        (length (map control_lines_of controls.now))) }
 {
     put_numbers(
         b"sequence ".as_slice(),
@@ -232,7 +241,8 @@ fn put_control(control: &Control, level: usize, text: &mut Text) -> Result<(), M
 /// Appends the lines of controls.
 #[cycle(dump)]
 fn put_controls(controls: &[Control], level: usize, text: &mut Text) -> Result<(), Memory>
-    ensures { OnOk result (text.new ≡ text.old ++ flat_map (text_at level) (map control_lines_of controls.now)) }
+    ensures { OnOk result (text.new ≡ text.old ++ flat_map (text_at level)
+        (map control_lines_of controls.now)) }
 {
     for control in controls {
         put_control(control, level, text)?;

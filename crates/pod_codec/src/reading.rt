@@ -1,5 +1,6 @@
 //! The value that bytes spell, or their first fault.
-ghost use Rattle.std.specs.Prelude.{◌≡◌, ℕ, List, ◌+◌, ◌++◌, ◌-◌, ◌≤◌, ◌<◌, ◌⊎◌, [], length, slice_index, slice_range, IfOk, IfSome, IsNone};
+ghost use Rattle.std.specs.Prelude.{◌≡◌, ℕ, List, ◌+◌, ◌++◌, ◌-◌, ◌≤◌, ◌<◌, ◌⊎◌, [], length, slice_index, slice_range};
+ghost use Rattle.std.specs.Prelude.{IfOk, IfSome, IsNone};
 ghost use Rattle.pod_codec.specs.declared.pod.Pod.TheViews.{out-Pod, out-Prop};
 ghost use Rattle.pod_codec.specs.declared.pod.Pod.{Pod};
 ghost use Rattle.pod_codec.specs.declared.fault.PodFault.{PodFault};
@@ -29,7 +30,8 @@ fn header_at(bytes: &[u8], at: usize, end: usize) -> Result<(usize, u32), PodFau
     requires order { at ≤ end }
     requires within { end ≤ length bytes.now }
     requires small { end ≤ 1048584 }
-    ensures found { IfOk result (λ h. (h.0 ≡ u32_at bytes.now at) × (h.1 ≡ u32_at bytes.now (at + 4)) × (at + 8 + pad8 h.0 ≤ end)) }
+    ensures found { IfOk result (λ h. (h.0 ≡ u32_at bytes.now at) × (h.1 ≡ u32_at bytes.now (at + 4))
+        × (at + 8 + pad8 h.0 ≤ end)) }
     ensures fault { Answers result (first_failed (header_checks bytes.now at end)) }
 {
     let offset = at as u32;
@@ -47,7 +49,9 @@ fn header_at(bytes: &[u8], at: usize, end: usize) -> Result<(usize, u32), PodFau
 fn text_at(alloc: Global, bytes: &[u8], at: usize, size: usize) -> Result<Text, PodFault>
     requires within { at + 8 + size ≤ length bytes.now }
     requires small { at + 8 + size ≤ 1048584 }
-    ensures found { let e = at + 8 + size in IfOk result (λ text. (at + 8 < e) × (slice_index bytes.now (e - 1) ≡ 0) × (text ≡ slice_range bytes.now (at + 8) (e - 1))) }
+    ensures found { let e = at + 8 + size in
+        IfOk result (λ text. (at + 8 < e) × (slice_index bytes.now (e - 1) ≡ 0)
+        × (text ≡ slice_range bytes.now (at + 8) (e - 1))) }
     ensures fault { Answers result (first_failed (text_checks bytes.now at size)) }
 {
     let offset = at as u32;
@@ -70,7 +74,8 @@ fn array_at(
 ) -> Result<(u32, Items<Pod>), PodFault>
     requires within { at + 8 + size ≤ length bytes.now }
     requires small { at + 8 + size ≤ 1048584 }
-    ensures found { IfOk result (λ x. ((at + 8 + size ≡ at + 8) × (x.0 ≡ 1) × (x.1 ≡ [])) ⊎ HasChildren bytes.now (at + 8) (at + 8 + size) x.0 x.1) }
+    ensures found { IfOk result (λ x. ((at + 8 + size ≡ at + 8) × (x.0 ≡ 1) × (x.1 ≡ []))
+        ⊎ HasChildren bytes.now (at + 8) (at + 8 + size) x.0 x.1) }
     ensures fault { Answers result (first_failed (array_checks bytes.now at size)) }
 {
     if size == 0 {
@@ -110,7 +115,9 @@ fn kind_of(number: u32) -> Option<ChoiceKind>
 fn choice_at(alloc: Global, bytes: &[u8], at: usize, size: usize) -> Result<ReadChoice, PodFault>
     requires within { at + 8 + size ≤ length bytes.now }
     requires small { at + 8 + size ≤ 1048584 }
-    ensures found { IfOk result (λ x. (choice_number x.kind ≡ u32_at bytes.now (at + 8)) × (x.flags ≡ u32_at bytes.now (at + 12)) × HasChildren bytes.now (at + 16) (at + 8 + size) x.child x.values) }
+    ensures found { IfOk result (λ x. (choice_number x.kind ≡ u32_at bytes.now (at + 8))
+        × (x.flags ≡ u32_at bytes.now (at + 12))
+        × HasChildren bytes.now (at + 16) (at + 8 + size) x.child x.values) }
     ensures fault { Answers result (first_failed (choice_checks bytes.now at size)) }
 {
     if size < 16 {
@@ -174,8 +181,12 @@ fn body_at(
 ) -> Result<Pod, PodFault>
     requires within { at + 8 + size ≤ length bytes.now }
     requires small { at + 8 + size ≤ 1048584 }
-    ensures found { let e = at + 8 + size in IfOk result (λ pod. IsBodyAt (λ a x m. SpellsAt left bytes.now a e x m) bytes.now kind (at + 8) e (out-Pod pod)) }
-    ensures fault { let e = at + 8 + size in Fails result (IsBodyFault (λ a x m. SpellsAt left bytes.now a e x m) (λ a g. FaultsAt left bytes.now a e g) bytes.now at size kind) }
+    ensures found { let e = at + 8 + size in
+        IfOk result (λ pod. IsBodyAt (λ a x m. SpellsAt left bytes.now a e x m) bytes.now kind (at + 8) e
+        (out-Pod pod)) }
+    ensures fault { let e = at + 8 + size in
+        Fails result (IsBodyFault (λ a x m. SpellsAt left bytes.now a e x m)
+        (λ a g. FaultsAt left bytes.now a e g) bytes.now at size kind) }
 {
     let offset = at as u32;
     let (begin, end) = (at + 8, at + 8 + size);
@@ -230,8 +241,10 @@ fn fields_at(
     requires order { begin ≤ end }
     requires within { end ≤ length bytes.now }
     requires small { end ≤ 1048584 }
-    ensures found { IfOk result (λ fields. AreAfter (λ a x m. SpellsAt left bytes.now a end x m) begin fields end) }
-    ensures fault { Fails result (IsFieldFault (λ a x m. SpellsAt left bytes.now a end x m) (λ a g. FaultsAt left bytes.now a end g) begin end) }
+    ensures found { IfOk result (λ fields. AreAfter
+        (λ a x m. SpellsAt left bytes.now a end x m) begin fields end) }
+    ensures fault { Fails result (IsFieldFault (λ a x m. SpellsAt left bytes.now a end x m)
+        (λ a g. FaultsAt left bytes.now a end g) begin end) }
 {
     let mut fields = Items::new(alloc);
     let mut next = begin;
@@ -269,8 +282,10 @@ fn props_at(
     requires order { begin ≤ end }
     requires within { end ≤ length bytes.now }
     requires small { end ≤ 1048584 }
-    ensures found { IfOk result (λ props. AreAfter (IsPropAt (λ a x m. SpellsAt left bytes.now a end x m) bytes.now) begin props end) }
-    ensures fault { Fails result (IsPropFault (λ a x m. SpellsAt left bytes.now a end x m) (λ a g. FaultsAt left bytes.now a end g) bytes.now begin end) }
+    ensures found { IfOk result (λ props. AreAfter
+        (IsPropAt (λ a x m. SpellsAt left bytes.now a end x m) bytes.now) begin props end) }
+    ensures fault { Fails result (IsPropFault (λ a x m. SpellsAt left bytes.now a end x m)
+        (λ a g. FaultsAt left bytes.now a end g) bytes.now begin end) }
 {
     let mut props = Items::new(alloc);
     let mut next = begin;
@@ -292,7 +307,8 @@ fn scalar_or_fault(bytes: &[u8], at: usize, size: usize, kind: u32) -> Result<Po
     requires within { at + 8 + size ≤ length bytes.now }
     requires small { at + 8 + size ≤ 1048584 }
     requires other { IsOther kind → ⊥ }
-    ensures found { IfOk result (λ pod. (size ≡ child_size kind) × IsScalarAt bytes.now kind (at + 8) (out-Pod pod)) }
+    ensures found { IfOk result (λ pod. (size ≡ child_size kind)
+        × IsScalarAt bytes.now kind (at + 8) (out-Pod pod)) }
     ensures fault { Answers result (first_failed (body_checks bytes.now at size kind)) }
 {
     let offset = at as u32;
@@ -347,7 +363,8 @@ pub fn read_pod(alloc: Global, bytes: &[u8]) -> Result<(Pod, usize), PodFault>
     ensures only_fault { (first : PodFault) → IsFirstFault bytes.now first → IsRefusedAs result first }
 
     // What was written is read back, whatever stands behind; and each choice can be read by its child type.
-    ensures back { (pod : Pod) (rest : List ℕ) → IsWritable pod → NumbersFit 16 pod → bytes.now ≡ canonical pod ++ rest → IsReadAs result pod (length (canonical pod)) }
+    ensures back { (pod : Pod) (rest : List ℕ) → IsWritable pod → NumbersFit 16 pod
+        → bytes.now ≡ canonical pod ++ rest → IsReadAs result pod (length (canonical pod)) }
     ensures sound { IfOk result (λ x. HasSoundChoices x.0) }
 {
     front_of(alloc, bytes)

@@ -1,5 +1,6 @@
 -- Lists with one thing changed, and what a write through a slice leaves of them.
-use Rattle.std.proofs.Common.{◌≡◌, ◌≢◌, ◌⊎◌, inl, inr, ℕ, zero, suc, ◌<◌, List, [], ◌∷◌, length, get_or, drop, Some, refl, sym, ap, ◌∙◌, subst, arith}
+use Rattle.std.proofs.Common.{◌≡◌, ◌≢◌, ◌⊎◌, inl, inr, ℕ, zero, suc, ◌<◌, List, [], ◌∷◌, length, get_or, drop, Some, refl, sym}
+use Rattle.std.proofs.Common.{ap, ◌∙◌, subst, arith}
 use Rattle.std.specs.List.{All}
 use Rattle.std.specs.Prelude.{slice_get}
 use Rattle.std.proofs.Math.ListN.{set, length-set}
@@ -24,13 +25,16 @@ pub refilled_whole : {X : Type 0} (xs ys : List X) → length ys ≡ length xs �
 refilled_whole xs ys e = rw (sym e) (take-append-le (length ys) ys (drop (length ys) xs) (omega arith) ∙ take-length ys)
 
 -- a write through a slice, which has what stood there, changed
-pub written : {X : Type 0} (xs seen : List X) (i : ℕ) (d v : X) (f : X → X) → seen ≡ xs → i < length xs → v ≡ f (get_or seen i d) → refilled xs (set seen i v) ≡ changed xs i f
+pub written : {X : Type 0} (xs seen : List X) (i : ℕ) (d v : X) (f : X → X) → seen ≡ xs → i < length xs → v ≡ f (get_or seen i d)
+    → refilled xs (set seen i v) ≡ changed xs i f
 written xs seen i d v f same l e =
     let at : i < length seen = subst (λ (ys : List _). i < length ys) (sym same) l in
-    refilled_whole xs (set seen i v) (length-set seen i v ∙ ap length same) ∙ ap (set seen i) e ∙ set-changed seen i d f at ∙ ap (λ (ys : List _). changed ys i f) same
+    refilled_whole xs (set seen i v) (length-set seen i v ∙ ap length same) ∙ ap (set seen i) e ∙ set-changed seen i d f at
+    ∙ ap (λ (ys : List _). changed ys i f) same
 
 -- what stands in a changed list: what was changed, or what stood there before
-pub changed_here : {X : Type 0} (xs : List X) (i : ℕ) (f : X → X) (x : X) → slice_get xs i ≡ Some x → slice_get (changed xs i f) i ≡ Some (f x)
+pub changed_here : {X : Type 0} (xs : List X) (i : ℕ) (f : X → X) (x : X) → slice_get xs i ≡ Some x
+    → slice_get (changed xs i f) i ≡ Some (f x)
 changed_here [] i f x e = elim (none-some x e) [ ]
 changed_here (y ∷ xs) zero f x e = ap (λ (z : _). Some (f z)) (same_Some y x e)
 changed_here (y ∷ xs) (suc i) f x e = changed_here xs i f x e
@@ -54,7 +58,8 @@ changed_origin (x ∷ xs) (suc i) (suc j) f y e =
       | inr w ↦ inr ((λ z. w.0 (omega arith)), w.1)
     ]
 
-pub All-changed : {X : Type 0} (P : X → Type 0) (xs : List X) (i : ℕ) (f : X → X) → All P xs → ((x : X) → slice_get xs i ≡ Some x → P x → P (f x)) → All P (changed xs i f)
+pub All-changed : {X : Type 0} (P : X → Type 0) (xs : List X) (i : ℕ) (f : X → X) → All P xs
+    → ((x : X) → slice_get xs i ≡ Some x → P x → P (f x)) → All P (changed xs i f)
 All-changed P [] i f h g = h
 All-changed P (x ∷ xs) zero f h g = All-cons P (f x) xs (g x refl (All-head P x xs h)) (All-tail P x xs h)
 All-changed P (x ∷ xs) (suc i) f h g = All-cons P x (changed xs i f) (All-head P x xs h) (All-changed P xs i f (All-tail P x xs h) g)

@@ -43,19 +43,27 @@ value_cases : (P : ℕ → Type 0) (node : Node) (s : PortState) (key n : ℕ) �
     → (value_at s.own.fields key ≡ Some (int_of n) → P n) → P n
 value_cases P node s key n e format shared own = go s.format refl (shared_value node key) refl where
   go : (o : Option Format) → s.format ≡ o → (p : Option Pod) → shared_value node key ≡ p → P n
-  go (Some f) q p r = format f q (sym (ap (λ (o : Option Format). option_map_or (λ (g : Format). value_at g.fields key) o (option_or (shared_value node key) (value_at s.own.fields key))) q) ∙ e)
-  go None q (Some v) r = shared (r ∙ (sym (ap (λ (o : Option Format). option_map_or (λ (g : Format). value_at g.fields key) o (option_or (shared_value node key) (value_at s.own.fields key))) q ∙ ap (λ (p : Option Pod). option_or p (value_at s.own.fields key)) r) ∙ e))
-  go None q None r = own (sym (ap (λ (o : Option Format). option_map_or (λ (g : Format). value_at g.fields key) o (option_or (shared_value node key) (value_at s.own.fields key))) q ∙ ap (λ (p : Option Pod). option_or p (value_at s.own.fields key)) r) ∙ e)
+  go (Some f) q p r = format f q (sym (ap (λ (o : Option Format). option_map_or (λ (g : Format). value_at g.fields key) o
+      (option_or (shared_value node key) (value_at s.own.fields key))) q) ∙ e)
+  go None q (Some v) r = shared (r ∙ (sym (ap (λ (o : Option Format). option_map_or (λ (g : Format). value_at g.fields key) o
+      (option_or (shared_value node key) (value_at s.own.fields key))) q
+      ∙ ap (λ (p : Option Pod). option_or p (value_at s.own.fields key)) r) ∙ e))
+  go None q None r = own (sym (ap (λ (o : Option Format). option_map_or (λ (g : Format). value_at g.fields key) o
+      (option_or (shared_value node key) (value_at s.own.fields key))) q
+      ∙ ap (λ (p : Option Pod). option_or p (value_at s.own.fields key)) r) ∙ e)
 
-pub rate_in_range : (node : Node) (port : ℕ) (s : PortState) (n : ℕ) → IsSoundNode node → IsSoundPort node.kind port s → value_of node s 65539 ≡ Some (int_of n) → MayHaveRate node.kind n
+pub rate_in_range : (node : Node) (port : ℕ) (s : PortState) (n : ℕ) → IsSoundNode node → IsSoundPort node.kind port s
+    → value_of node s 65539 ≡ Some (int_of n) → MayHaveRate node.kind n
 rate_in_range node port s n whole sound e =
     value_cases (MayHaveRate node.kind) node s 65539 n e
-    (λ f q v. same_number (MayHaveRate node.kind) n (within_number s.own f 65539 (MayHaveRate node.kind) (int_of n) (subst (λ (o : Option Format). IfSome o (IsTaken s.own)) q sound.format).rate sound.own.rate v))
+    (λ f q v. same_number (MayHaveRate node.kind) n (within_number s.own f 65539 (MayHaveRate node.kind) (int_of n)
+    (subst (λ (o : Option Format). IfSome o (IsTaken s.own)) q sound.format).rate sound.own.rate v))
     (λ v.
     let o = shared_origin node 65539 (int_of n) v in
     let first = first_stands node.ports o.0 o.1 in
     let other = whole.ports first.place first.state first.there in
-    same_number (MayHaveRate node.kind) n (within_number first.state.own o.0 65539 (MayHaveRate node.kind) (int_of n) (subst (λ (f : Option Format). IfSome f (IsTaken first.state.own)) first.has other.format).rate other.own.rate o.2))
+    same_number (MayHaveRate node.kind) n (within_number first.state.own o.0 65539 (MayHaveRate node.kind) (int_of n)
+    (subst (λ (f : Option Format). IfSome f (IsTaken first.state.own)) first.has other.format).rate other.own.rate o.2))
     (λ v. same_number (MayHaveRate node.kind) n (own_number s.own.fields 65539 (MayHaveRate node.kind) (int_of n) sound.own.rate v))
 
 -- where channels are shared, all ports may have the same
@@ -71,15 +79,20 @@ any_port Sink p q n e h = h
 any_port Meter p q n e h = h
 any_port Dummy p q n e h = h
 
-pub channels_in_range : (node : Node) (port : ℕ) (s : PortState) (n : ℕ) → IsSoundNode node → IsSoundPort node.kind port s → value_of node s 65540 ≡ Some (int_of n) → MayHaveChannels node.kind port n
+pub channels_in_range : (node : Node) (port : ℕ) (s : PortState) (n : ℕ) → IsSoundNode node → IsSoundPort node.kind port s
+    → value_of node s 65540 ≡ Some (int_of n) → MayHaveChannels node.kind port n
 channels_in_range node port s n whole sound e =
     value_cases (MayHaveChannels node.kind port) node s 65540 n e
-    (λ f q v. same_number (MayHaveChannels node.kind port) n (within_number s.own f 65540 (MayHaveChannels node.kind port) (int_of n) (subst (λ (o : Option Format). IfSome o (IsTaken s.own)) q sound.format).channels sound.own.channels v))
+    (λ f q v. same_number (MayHaveChannels node.kind port) n
+    (within_number s.own f 65540 (MayHaveChannels node.kind port) (int_of n)
+    (subst (λ (o : Option Format). IfSome o (IsTaken s.own)) q sound.format).channels sound.own.channels v))
     (λ v.
     let o = shared_origin node 65540 (int_of n) v in
     let first = first_stands node.ports o.0 o.1 in
     let other = whole.ports first.place first.state first.there in
     let P = MayHaveChannels node.kind first.place in
     any_port node.kind first.place port n o.3
-    (same_number P n (within_number first.state.own o.0 65540 P (int_of n) (subst (λ (f : Option Format). IfSome f (IsTaken first.state.own)) first.has other.format).channels other.own.channels o.2)))
-    (λ v. same_number (MayHaveChannels node.kind port) n (own_number s.own.fields 65540 (MayHaveChannels node.kind port) (int_of n) sound.own.channels v))
+    (same_number P n (within_number first.state.own o.0 65540 P (int_of n)
+    (subst (λ (f : Option Format). IfSome f (IsTaken first.state.own)) first.has other.format).channels other.own.channels o.2)))
+    (λ v. same_number (MayHaveChannels node.kind port) n
+    (own_number s.own.fields 65540 (MayHaveChannels node.kind port) (int_of n) sound.own.channels v))

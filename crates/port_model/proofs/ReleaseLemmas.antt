@@ -16,11 +16,13 @@ use Rattle.port_model.proofs.ChangedLemmas.{length-changed, All-changed, written
 use Rattle.port_model.proofs.NodeLemmas.{node_changed, nodes_changed}
 
 -- what stands in the mapped list stood in the list
-map_origin : (f : PortState → PortState) (o : Option PortState) (s : PortState) → option_map f o ≡ Some s → (t : PortState) × (o ≡ Some t) × (s ≡ f t)
+map_origin : (f : PortState → PortState) (o : Option PortState) (s : PortState) → option_map f o ≡ Some s → (t : PortState) × (o ≡ Some t)
+    × (s ≡ f t)
 map_origin f (Some t) s e = (t, refl, sym (same_Some (f t) s e))
 map_origin f None s e = absurd (none-some s e)
 
-released_origin : (ports : List PortState) (i : ℕ) (s : PortState) → slice_get (map released ports) i ≡ Some s → (t : PortState) × (slice_get ports i ≡ Some t) × (s ≡ released t)
+released_origin : (ports : List PortState) (i : ℕ) (s : PortState) → slice_get (map released ports) i ≡ Some s → (t : PortState)
+    × (slice_get ports i ≡ Some t) × (s ≡ released t)
 released_origin ports i s e = map_origin released (slice_get ports i) s (sym (slice_get-map released ports i) ∙ e)
 
 node_released : (node : Node) → IsSoundNode node → IsSoundNode (record node { ports = map released node.ports })
@@ -39,21 +41,28 @@ node_released node sound = record {
 pub nodes_released : (nodes : List Node) (n : ℕ) → AreSoundNodes nodes → AreSoundNodes (with_released nodes n)
 nodes_released nodes n sound = record {
   few = subst (λ (k : ℕ). k ≤ 63) (sym (length-changed nodes n (λ node. record node { ports = map released node.ports }))) sound.few;
-  each = All-changed IsSoundNode nodes n (λ node. record node { ports = map released node.ports }) sound.each (λ node e. node_released node);
+  each = All-changed IsSoundNode nodes n (λ node. record node { ports = map released node.ports }) sound.each
+      (λ node e. node_released node);
 }
 
 -- the write of a release
-pub release_written : (nodes seen : List Node) (n : ℕ) (d : Node) (ports : List PortState) → seen ≡ nodes → n < length nodes → ports ≡ map released (get_or seen n d).ports
+pub release_written : (nodes seen : List Node) (n : ℕ) (d : Node) (ports : List PortState) → seen ≡ nodes → n < length nodes
+    → ports ≡ map released (get_or seen n d).ports
     → refilled nodes (set seen n (record (get_or seen n d) { ports = refilled (get_or seen n d).ports ports })) ≡ with_released nodes n
 release_written nodes seen n d ports same within e =
     let node = get_or seen n d in
     let count : length ports ≡ length node.ports = ap length e ∙ length-map node.ports released in
     let own : refilled node.ports ports ≡ map released node.ports = refilled_whole node.ports ports count ∙ e in
-    written nodes seen n d (record node { ports = refilled node.ports ports }) (λ node. record node { ports = map released node.ports }) same within (ap (λ (ps : List PortState). record node { ports = ps }) own)
+    written nodes seen n d (record node { ports = refilled node.ports ports })
+    (λ node. record node { ports = map released node.ports }) same within (ap (λ (ps : List PortState). record node { ports = ps }) own)
 
-pub nodes_buffered : (nodes : List Node) (port : PortId) (n : ℕ) → AreSoundNodes nodes → IsBetween 1 8 n → AreSoundNodes (with_port nodes port (buffered n))
+pub nodes_buffered : (nodes : List Node) (port : PortId) (n : ℕ) → AreSoundNodes nodes → IsBetween 1 8 n
+    → AreSoundNodes (with_port nodes port (buffered n))
 nodes_buffered nodes port n sound range =
     nodes_changed nodes port (buffered n) sound (λ node here whole.
     node_changed node port.port (buffered n) whole
-    (λ s e. let old = whole.ports port.port s e in (record { own = old.own; format = old.format; buffers = range }, whole.agree port.port port.port s s e e))
+    (λ s e. let old = whole.ports port.port s e in (
+      record { own = old.own; format = old.format; buffers = range },
+      whole.agree port.port port.port s s e e,
+    ))
     (λ s t k e d. (whole.agree port.port k s t e d, whole.agree k port.port t s d e)))

@@ -37,7 +37,8 @@ pub record IsFirst (ports : List PortState) (format : Format) : Type 0 where
   pub there : slice_get ports place ≡ Some state
   pub has : state.format ≡ Some format
 
-or_else : (o : Option Format) (ports : List PortState) (s : PortState) (g : Format) → s.format ≡ o → option_or o (first_format ports) ≡ Some g → ((h : Format) → first_format ports ≡ Some h → IsFirst ports h) → IsFirst (s ∷ ports) g
+or_else : (o : Option Format) (ports : List PortState) (s : PortState) (g : Format) → s.format ≡ o
+    → option_or o (first_format ports) ≡ Some g → ((h : Format) → first_format ports ≡ Some h → IsFirst ports h) → IsFirst (s ∷ ports) g
 or_else (Some f) ports s g e d next = record { place = 0; state = s; there = refl; has = e ∙ d }
 or_else None ports s g e d next = let w = next g d in record { place = suc w.place; state = w.state; there = w.there; has = w.has }
 
@@ -46,21 +47,25 @@ first_stands [] format e = absurd (none-some format e)
 first_stands (s ∷ ports) format e = or_else s.format ports s format refl e (first_stands ports)
 
 -- where a port has a format, there is a first one
-or_found : (o : Option Format) (ports : List PortState) → ((h : Format) × (first_format ports ≡ Some h)) → (h : Format) × (option_or o (first_format ports) ≡ Some h)
+or_found : (o : Option Format) (ports : List PortState) → ((h : Format) × (first_format ports ≡ Some h)) → (h : Format)
+    × (option_or o (first_format ports) ≡ Some h)
 or_found (Some f) ports w = (f, refl)
 or_found None ports w = w
 
-or_here : (o : Option Format) (ports : List PortState) (g : Format) → o ≡ Some g → (h : Format) × (option_or o (first_format ports) ≡ Some h)
+or_here : (o : Option Format) (ports : List PortState) (g : Format) → o ≡ Some g → (h : Format)
+    × (option_or o (first_format ports) ≡ Some h)
 or_here (Some f) ports g e = (f, refl)
 or_here None ports g e = absurd (none-some g e)
 
-pub some_first : (ports : List PortState) (k : ℕ) (s : PortState) (g : Format) → slice_get ports k ≡ Some s → s.format ≡ Some g → (h : Format) × (first_format ports ≡ Some h)
+pub some_first : (ports : List PortState) (k : ℕ) (s : PortState) (g : Format) → slice_get ports k ≡ Some s → s.format ≡ Some g
+    → (h : Format) × (first_format ports ≡ Some h)
 some_first [] k s g e d = absurd (none-some s e)
 some_first (t ∷ ports) zero s g e d = or_here t.format ports g (ap (λ (u : PortState). u.format) (same_Some t s e) ∙ d)
 some_first (t ∷ ports) (suc k) s g e d = or_found t.format ports (some_first ports k s g e d)
 
 -- the value of a port's format at a shared key is the node's
-pub shared_at : (node : Node) (key k : ℕ) (s : PortState) (g : Format) → IsSoundNode node → is_shared_key node.kind key ≡ true → slice_get node.ports k ≡ Some s → s.format ≡ Some g → shared_value node key ≡ value_at g.fields key
+pub shared_at : (node : Node) (key k : ℕ) (s : PortState) (g : Format) → IsSoundNode node → is_shared_key node.kind key ≡ true
+    → slice_get node.ports k ≡ Some s → s.format ≡ Some g → shared_value node key ≡ value_at g.fields key
 shared_at node key k s g sound shared e d =
     let some = some_first node.ports k s g e d in
     let first = first_stands node.ports some.0 some.1 in
@@ -74,14 +79,16 @@ taken_value own g key h (inr e) = (h.channels.value, ap (value_at g.fields) e �
 -- what a port may take agrees with what another one has
 agrees : (node : Node) (format g : Format) (t : PortState) (k key : ℕ) → IsSoundNode node
     → ((key : ℕ) (value : Pod) → shared_value node key ≡ Some value → value_at format.fields key ≡ Some value)
-    → slice_get node.ports k ≡ Some t → t.format ≡ Some g → is_shared_key node.kind key ≡ true → value_at format.fields key ≡ value_at g.fields key
+    → slice_get node.ports k ≡ Some t → t.format ≡ Some g → is_shared_key node.kind key ≡ true
+    → value_at format.fields key ≡ value_at g.fields key
 agrees node format g t k key sound may e d shared =
     let taken : IsTaken t.own g = subst (λ (o : Option Format). IfSome o (IsTaken t.own)) d (sound.ports k t e).format in
     let value = taken_value t.own g key taken (shared_key node.kind key shared) in
     let own : shared_value node key ≡ Some value.0 = shared_at node key k t g sound shared e d ∙ value.1 in
     may key value.0 own ∙ sym value.1
 
-pub nodes_taken : (nodes : List Node) (port : PortId) (format : Format) → AreSoundNodes nodes → ((n : Node) (s : PortState) → slice_get nodes port.node ≡ Some n → slice_get n.ports port.port ≡ Some s → MayTake format n s)
+pub nodes_taken : (nodes : List Node) (port : PortId) (format : Format) → AreSoundNodes nodes
+    → ((n : Node) (s : PortState) → slice_get nodes port.node ≡ Some n → slice_get n.ports port.port ≡ Some s → MayTake format n s)
     → AreSoundNodes (with_port nodes port (taking format))
 nodes_taken nodes port format sound may =
     nodes_changed nodes port (taking format) sound (λ node here whole.
@@ -93,6 +100,8 @@ nodes_taken nodes port format sound may =
     ))
     (λ s t k e d.
     let allowed = (may node s here e).shared in (
-      (λ f g key p q shared. ap (λ (h : Format). value_at h.fields key) (sym (same_Some format f p)) ∙ agrees node format g t k key whole allowed d q shared),
-      (λ f g key p q shared. sym (agrees node format f t k key whole allowed d p shared) ∙ ap (λ (h : Format). value_at h.fields key) (same_Some format g q)),
+      (λ f g key p q shared. ap (λ (h : Format). value_at h.fields key) (sym (same_Some format f p))
+          ∙ agrees node format g t k key whole allowed d q shared),
+      (λ f g key p q shared. sym (agrees node format f t k key whole allowed d p shared)
+          ∙ ap (λ (h : Format). value_at h.fields key) (same_Some format g q)),
     )))

@@ -30,7 +30,8 @@ fn value_of<'a>(node: &'a Node, state: &'a PortState, key: u32) -> Option<&'a Po
 
 /// The number of a port at a key.
 fn number_of(node: &Node, state: &PortState, key: u32) -> Option<u32>
-    ensures { MatchOption result ((n : ℕ) → value_of node.now state.now key ≡ Some (int_of n) → ⊥) (λ n. value_of node.now state.now key ≡ Some (int_of n)) }
+    ensures { MatchOption result ((n : ℕ) → value_of node.now state.now key ≡ Some (int_of n) → ⊥)
+        (λ n. value_of node.now state.now key ≡ Some (int_of n)) }
 {
     match value_of(node, state, key) {
         Some(value) => number_in(value),
@@ -45,7 +46,8 @@ impl Ports {
     pub fn sound(&self, port: PortId) -> Option<(u32, u32)>
         requires { IsPort self.now port }
         ensures form { AtPort self.now port (λ node s. IsForm node s result) }
-        ensures range { IfSome result (λ form. AtPort self.now port (λ node s. MayHaveRate node.kind form.0 × MayHaveChannels node.kind port.port form.1)) }
+        ensures range { IfSome result (λ form. AtPort self.now port
+            (λ node s. MayHaveRate node.kind form.0 × MayHaveChannels node.kind port.port form.1)) }
     {
         let node = node_at(self.nodes.as_slice(), port);
         let state = state_at(node, port.port);

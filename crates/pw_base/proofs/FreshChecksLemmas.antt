@@ -13,7 +13,8 @@ use Rattle.pw_base.specs.declared.plan.Plan.{Plan}
 use Rattle.pw_base.specs.declared.plan.PortForm.{PortForm}
 use Rattle.pw_base.specs.PlanForms.{HasForm}
 use Rattle.pw_base.specs.PlanFresh.{IsEpoch, Names, HasSoundFresh}
-use Rattle.pw_base.specs.FreshChecks.{HasEntry, HasSomeEntry, IsNamed, IsSameForm, AgreesIn, KeepsForm, IsKeptFrom, IsLastNamed, IsKeptForm, KeepsEpoch, NamesWell}
+use Rattle.pw_base.specs.FreshChecks.{HasEntry, HasSomeEntry, IsNamed, IsSameForm, AgreesIn, KeepsForm, IsKeptFrom, IsLastNamed, IsKeptForm}
+use Rattle.pw_base.specs.FreshChecks.{KeepsEpoch, NamesWell}
 
 -- an epoch's place has one epoch
 pub epoch_is : (plan : Plan) (k : ℕ) (e f : Epoch) → IsEpoch plan k e → IsEpoch plan k f → e ≡ f
@@ -38,25 +39,31 @@ between_more P i j below here k above lt = dite (ℕ_discrete k j) (λ e. subst 
 module _ (plan : Plan) (i j : ℕ) (a : PortForm) where
   pub keeps_until : ((k : ℕ) → i < k → k < j → AgreesIn plan k a) → i < j → IsNamed plan j a.port.node → KeepsForm plan i a
   keeps_until same lt named = record {
-    later = λ m above within stays. elim (cases_lt m j) [ inl below ↦ same m above below | inr past ↦ absurd (stays j named.0 lt past named.1) ];
+    later = λ m above within stays. elim (cases_lt m j)
+        [ inl below ↦ same m above below | inr past ↦ absurd (stays j named.0 lt past named.1) ];
   }
 
   pub keeps_to_end : ((k : ℕ) → i < k → k < j → AgreesIn plan k a) → length plan.epochs ≤ j → KeepsForm plan i a
   keeps_to_end same end = record { later = λ m above within stays. same m above (omega arith) }
 
-  pub keeps_at : ((k : ℕ) → i < k → k < j → ¬ IsNamed plan k a.port.node) → ¬ IsNamed plan j a.port.node → i < j → j < length plan.epochs → KeepsForm plan i a → AgreesIn plan j a
-  keeps_at never here lt within h = h.later j lt within (λ k channels above le named. between_more (λ m. ¬ IsNamed plan m a.port.node) i j never here k above (omega arith) (channels, named))
+  pub keeps_at : ((k : ℕ) → i < k → k < j → ¬ IsNamed plan k a.port.node) → ¬ IsNamed plan j a.port.node → i < j → j < length plan.epochs
+      → KeepsForm plan i a → AgreesIn plan j a
+  keeps_at never here lt within h = h.later j lt within
+      (λ k channels above le named. between_more (λ m. ¬ IsNamed plan m a.port.node) i j never here k above (omega arith) (channels, named))
 
-pub kept_to_end : (plan : Plan) (i j node : ℕ) → ((k : ℕ) → i < k → k < j → ¬ IsNamed plan k node) → length plan.epochs ≤ j → IsKeptFrom plan i node
+pub kept_to_end : (plan : Plan) (i j node : ℕ) → ((k : ℕ) → i < k → k < j → ¬ IsNamed plan k node) → length plan.epochs ≤ j
+    → IsKeptFrom plan i node
 kept_to_end plan i j node never end = record {
-  never = λ m above named. let within : m < length plan.epochs = slice_get_within plan.epochs m named.1.epoch named.1.at in never m above (omega arith) named;
+  never = λ m above named. let within : m < length plan.epochs = slice_get_within plan.epochs m named.1.epoch named.1.at in
+      never m above (omega arith) named;
 }
 
 -- the last epoch that names a node, found from the back
 module _ (plan : Plan) (j node channels : ℕ) where
   pub last_here : IsNamed plan j node → IsLastNamed plan j node channels ↔ Names plan j node channels
   last_here named = (
-    λ h. dite (ℕ_discrete h.0 j) (λ e. subst (λ k. Names plan k node channels) e h.2) (λ ne. let le : h.0 ≤ j = h.1 in absurd (h.3 j named.0 (omega arith) (omega arith) named.1)),
+    λ h. dite (ℕ_discrete h.0 j) (λ e. subst (λ k. Names plan k node channels) e h.2)
+        (λ ne. let le : h.0 ≤ j = h.1 in absurd (h.3 j named.0 (omega arith) (omega arith) named.1)),
     λ n. (j, omega arith, n, λ k more lt le. absurd (omega arith)),
   )
 
@@ -74,15 +81,19 @@ module _ (plan : Plan) (j node channels : ℕ) where
   )
 
   pub last_none : j ≡ 0 → ¬ IsNamed plan j node → ¬ IsLastNamed plan j node channels
-  last_none zero never h = let le : h.0 ≤ j = h.1 in let e : h.0 ≡ j = omega arith in never (channels, subst (λ k. Names plan k node channels) e h.2)
+  last_none zero never h = let le : h.0 ≤ j = h.1 in let e : h.0 ≡ j = omega arith in
+      never (channels, subst (λ k. Names plan k node channels) e h.2)
 
 -- each form is an epoch's own
-own_form : (e : Epoch) (k : ℕ) (d : PortForm) → k < length e.forms → HasForm e (get_or e.forms k d).port (get_or e.forms k d).rate (get_or e.forms k d).channels
+own_form : (e : Epoch) (k : ℕ) (d : PortForm) → k < length e.forms
+    → HasForm e (get_or e.forms k d).port (get_or e.forms k d).rate (get_or e.forms k d).channels
 own_form e k d lt = (k, lt, get_or_default e.forms k (get_or e.forms k d) d lt)
 
 module _ (plan : Plan) (keeps : (i : ℕ) → i < length plan.epochs → KeepsEpoch plan i) where
-  kept : (i : ℕ) (e : Epoch) (port : PortId) (rate channels : ℕ) → IsEpoch plan i e → HasForm e port rate channels → IsKeptForm plan i (record { port = port; rate = rate; channels = channels })
-  kept i e port rate channels at has = All-contains (IsKeptForm plan i) e.forms (record { port = port; rate = rate; channels = channels }) ((keeps i (slice_get_within plan.epochs i e at)).each e at) has
+  kept : (i : ℕ) (e : Epoch) (port : PortId) (rate channels : ℕ) → IsEpoch plan i e → HasForm e port rate channels
+      → IsKeptForm plan i (record { port = port; rate = rate; channels = channels })
+  kept i e port rate channels at has = All-contains (IsKeptForm plan i) e.forms (record { port = port; rate = rate; channels = channels })
+      ((keeps i (slice_get_within plan.epochs i e at)).each e at) has
 
   -- what each form of each epoch says is what the whole plan says
   pub fresh_is_sound : All (NamesWell plan) plan.epochs → HasSoundFresh plan
@@ -91,8 +102,10 @@ module _ (plan : Plan) (keeps : (i : ℕ) → i < length plan.epochs → KeepsEp
     each = λ k d lt. (well k d lt).each;
     forms = λ i j e f port rate channels rate' channels' lt at at' stays has has'.
         let agrees = (kept i e port rate channels at has).form.later j lt (slice_get_within plan.epochs j f at') stays in
-        All-contains (IsSameForm (record { port = port; rate = rate; channels = channels })) f.forms (record { port = port; rate = rate'; channels = channels' }) (agrees.same f at') has' refl;
-    sinks = λ i j e port rate channels more lt at sink has named. ((kept i e port rate channels at has).sink.kept sink).never j lt (more, named);
+        All-contains (IsSameForm (record { port = port; rate = rate; channels = channels })) f.forms
+        (record { port = port; rate = rate'; channels = channels' }) (agrees.same f at') has' refl;
+    sinks = λ i j e port rate channels more lt at sink has named. ((kept i e port rate channels at has).sink.kept sink).never j lt
+        (more, named);
     told = λ j e node rate channels at lt has. (kept j e (record { node = node; port = 0 }) rate channels at has).told.last refl lt;
   }
 
@@ -106,11 +119,15 @@ module _ (plan : Plan) (h : HasSoundFresh plan) where
       later = λ j lt within stays. record {
         same = λ f at' k d lt' same.
             let b : PortForm = get_or f.forms k d in
-            h.forms i j e f a.port a.rate a.channels b.rate b.channels lt at at' stays has (subst (λ p. HasForm f p b.rate b.channels) same (own_form f k d lt'));
+            h.forms i j e f a.port a.rate a.channels b.rate b.channels lt at at' stays has
+            (subst (λ p. HasForm f p b.rate b.channels) same (own_form f k d lt'));
       };
     };
     sink = record { kept = λ sink. record { never = λ j lt named. h.sinks i j e a.port a.rate a.channels named.0 lt at sink has named.1 } };
-    told = record { last = λ zero lt. h.told i e a.port.node a.rate a.channels at lt (subst (λ n. HasForm e (record { node = a.port.node; port = n }) a.rate a.channels) zero has) };
+    told = record {
+      last = λ zero lt. h.told i e a.port.node a.rate a.channels at lt
+          (subst (λ n. HasForm e (record { node = a.port.node; port = n }) a.rate a.channels) zero has);
+    };
   }
 
   pub keeps_each : (i : ℕ) → i < length plan.epochs → KeepsEpoch plan i

@@ -17,20 +17,29 @@ or_end false k n h = sym (h refl)
 pub place_or_end : {X : Type 0} (p : X → Bool) (xs : List X) → unwrap_or (position p xs) (length xs) ≡ position_or_len p xs
 place_or_end p xs = or_end (ltb (position_or_len p xs) (length xs)) (position_or_len p xs) (length xs)
     (λ e. let le = prefix_len-le-length (λ x. not (p x)) xs in
-    let ge : ¬ (position_or_len p xs < length xs) = λ h. let t : ltb (position_or_len p xs) (length xs) ≡ true = (Decides-ltb _ _).1 h in cc in omega arith)
+    let ge : ¬ (position_or_len p xs < length xs) = λ h. let t : ltb (position_or_len p xs) (length xs) ≡ true = (Decides-ltb _ _).1 h in
+    cc in omega arith)
 
 -- of all pairs of nodes, by their places and by their numbers
 pub order_by_numbers : (shape : Shape) (C : ℕ → ℕ → Type 0)
-    → All (λ n. All (λ m. IsTrue (waits shape n.node m.node) → ¬ (m.node ≡ shape.driver) → C m.node n.node) shape.nodes) shape.nodes ↔ ((m n : ℕ) → Precedes shape m n → C m n)
+    → All (λ n. All (λ m. IsTrue (waits shape n.node m.node) → ¬ (m.node ≡ shape.driver) → C m.node n.node) shape.nodes) shape.nodes ↔
+    ((m n : ℕ) → Precedes shape m n → C m n)
 order_by_numbers shape C = (
   λ h m n p.
-      let all = All-map (λ j. All (λ i. IsTrue (waits shape j i.node) → ¬ (i.node ≡ shape.driver) → C i.node j) shape.nodes) (λ j. j.node) shape.nodes h in
+      let all = All-map (λ j. All (λ i. IsTrue (waits shape j i.node) → ¬ (i.node ≡ shape.driver) → C i.node j) shape.nodes)
+      (λ j. j.node) shape.nodes h in
       let at : All (λ i. IsTrue (waits shape n i.node) → ¬ (i.node ≡ shape.driver) → C i.node n) shape.nodes =
-      All-contains (λ j. All (λ i. IsTrue (waits shape j i.node) → ¬ (i.node ≡ shape.driver) → C i.node j) shape.nodes) (nodes_of shape) n all p.depends.to_active in
+      All-contains (λ j. All (λ i. IsTrue (waits shape j i.node) → ¬ (i.node ≡ shape.driver) → C i.node j) shape.nodes)
+      (nodes_of shape) n all p.depends.to_active in
       let every = All-map (λ i. IsTrue (waits shape n i) → ¬ (i ≡ shape.driver) → C i n) (λ i. i.node) shape.nodes at in
-      All-contains (λ i. IsTrue (waits shape n i) → ¬ (i ≡ shape.driver) → C i n) (nodes_of shape) m every p.depends.from_active p.depends.waits p.follower,
+      All-contains (λ i. IsTrue (waits shape n i) → ¬ (i ≡ shape.driver) → C i n)
+      (nodes_of shape) m every p.depends.from_active p.depends.waits p.follower,
   λ h k d lt j e lt' w ne. h _ _ (record {
-    depends = record { from_active = contains_mapped (λ n. n.node) shape.nodes j e lt'; to_active = contains_mapped (λ n. n.node) shape.nodes k d lt; waits = w };
+    depends = record {
+      from_active = contains_mapped (λ n. n.node) shape.nodes j e lt';
+      to_active = contains_mapped (λ n. n.node) shape.nodes k d lt;
+      waits = w;
+    };
     follower = ne;
   }),
 )

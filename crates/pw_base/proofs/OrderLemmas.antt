@@ -1,5 +1,6 @@
 -- Laws of `specs/LinkOrder.antt`: nodes are taken away one after the other, each when no link comes to it from one that is left.
-use Rattle.std.proofs.Common.{inl, inr, ◌≡◌, ℕ, zero, suc, ◌<◌, ◌==◌, ◌&&◌, Bool, true, false, cond, not, List, length, get_or, set, refl, sym, ◌∙◌, ap, subst, arith, get_or-set_other, replicate, eqb}
+use Rattle.std.proofs.Common.{inl, inr, ◌≡◌, ℕ, zero, suc, ◌<◌, ◌==◌, ◌&&◌, Bool, true, false, cond, not, List, length, get_or, set, refl}
+use Rattle.std.proofs.Common.{sym, ◌∙◌, ap, subst, arith, get_or-set_other, replicate, eqb}
 use mathlib.Core.Logic.{dite}
 use native.Mathlib.Decide.{ℕ_discrete}
 use Rattle.std.specs.Prelude.{All, ◌≢◌}
@@ -15,12 +16,14 @@ use Rattle.pw_base.specs.LinkOrder.{HasOrder, is_blocked, IsStuck, IsFree, IsWit
 abbrev pub has : List Bool → ℕ → Bool
 has left n = get_or left n false
 
--- those that are gone have a rank below the count of rounds, and each link that is not delayed and comes to one of them comes from one of them, and rises
+-- those that are gone have a rank below the count of rounds, and each link that is not delayed and comes to one of them comes from one of
+-- them, and rises
 pub record IsPlaced (links : List ShapeLink) (left : List Bool) : Type 0 where
   pub round : ℕ
   pub rank : ℕ → ℕ
   pub below : (n : ℕ) → n < 64 → has left n ≡ false → rank n < round
-  pub rises : All (λ l. l.delayed ≡ false → has left l.to.node ≡ false → (has left l.from.node ≡ false) × (rank l.from.node < rank l.to.node)) links
+  pub rises : All (λ l. l.delayed ≡ false → has left l.to.node ≡ false → (has left l.from.node ≡ false)
+      × (rank l.from.node < rank l.to.node)) links
 
 -- the parts of the test in `is_blocked`
 pub blocks : (a b c : Bool) → a ≡ false → b ≡ true → c ≡ true → (not a && (b && c)) ≡ true
@@ -43,7 +46,8 @@ starts links within = record {
   rises = λ k d lt here gone. cc (there _ (within k d lt).1);
 }
 
-module _ (links : List ShapeLink) (left : List Bool) (n : ℕ) (long : length left ≡ 64) (within : All IsWithinNodes links) (free : IsFree links left n) (p : IsPlaced links left) where
+module _ (links : List ShapeLink) (left : List Bool) (n : ℕ) (long : length left ≡ 64) (within : All IsWithinNodes links)
+    (free : IsFree links left n) (p : IsPlaced links left) where
   newer : ℕ → ℕ
   newer m = cond (eqb m n) p.round (p.rank m)
 
@@ -66,7 +70,8 @@ module _ (links : List ShapeLink) (left : List Bool) (n : ℕ) (long : length le
   goes m gone ne = sym (get_or-set_other left n m false false ne) ∙ gone
 
   -- no link that is not delayed comes to it from one that is left
-  clear : (k : ℕ) (d : ShapeLink) → k < length links → (get_or links k d).delayed ≡ false → (get_or links k d).to.node ≡ n → has left (get_or links k d).from.node ≡ false
+  clear : (k : ℕ) (d : ShapeLink) → k < length links → (get_or links k d).delayed ≡ false → (get_or links k d).to.node ≡ n
+      → has left (get_or links k d).from.node ≡ false
   clear k d lt here to = false_from_ne_true _ (λ t.
       let b : is_blocked links left n ≡ true = list_any_at (λ l. not l.delayed && ((l.to.node == n) && has left l.from.node)) links k d lt
       (blocks _ _ _ here ((Decides-eqb _ n).1 to) t) in cc (free.2))
@@ -102,17 +107,21 @@ ends links left p none = record {
 }
 
 -- where there is an order and each that is left is blocked, none is left: there is no least one
-least : (links : List ShapeLink) (left : List Bool) → All IsWithinNodes links → (h : HasOrder links) → IsStuck links left → (k n : ℕ) → n < 64 → h.rank n < k → has left n ≡ true → ⊥
+least : (links : List ShapeLink) (left : List Bool) → All IsWithinNodes links → (h : HasOrder links) → IsStuck links left → (k n : ℕ)
+    → n < 64 → h.rank n < k → has left n ≡ true → ⊥
 least links left within h stuck zero n small lt here = absurd (omega arith)
 least links left within h stuck (suc k) n small lt here =
     let a = Any-from_list_any (λ l. not l.delayed && ((l.to.node == n) && has left l.from.node)) links (stuck n small here) in
     let q = parts _ _ _ a.4 in
     let same : get_or links a.0 a.1 ≡ a.1 = a.3 in
-    let rise : h.rank a.1.from.node < h.rank a.1.to.node = subst (λ l. h.rank l.from.node < h.rank l.to.node) same (h.rises a.0 a.1 a.2 (ap (λ l. l.delayed) same ∙ q.0)) in
+    let rise : h.rank a.1.from.node < h.rank a.1.to.node =
+    subst (λ l. h.rank l.from.node < h.rank l.to.node) same (h.rises a.0 a.1 a.2 (ap (λ l. l.delayed) same ∙ q.0)) in
     let to : a.1.to.node ≡ n = (Decides-eqb _ _).0 q.1 in
     let low : h.rank a.1.to.node ≡ h.rank n = ap h.rank to in
     least links left within h stuck k a.1.from.node (subst (λ l. l.from.node < 64) same (within a.0 a.1 a.2).0) (omega arith) q.2
 
-pub none_left : (links : List ShapeLink) (left : List Bool) → length left ≡ 64 → All IsWithinNodes links → HasOrder links → IsStuck links left → All (λ b. b ≡ false) left
+pub none_left : (links : List ShapeLink) (left : List Bool) → length left ≡ 64 → All IsWithinNodes links → HasOrder links
+    → IsStuck links left → All (λ b. b ≡ false) left
 none_left links left long within h stuck k d lt =
-    false_from_ne_true _ (λ t. least links left within h stuck (suc (h.rank k)) k (omega arith) (omega arith) (get_or_default left k false d lt ∙ t))
+    false_from_ne_true _ (λ t. least links left within h stuck (suc (h.rank k)) k (omega arith) (omega arith)
+    (get_or_default left k false d lt ∙ t))

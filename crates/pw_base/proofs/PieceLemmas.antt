@@ -12,7 +12,8 @@ pieces_after p [] = []
 pieces_after p (x ∷ xs) = slice_split p xs
 
 -- the first piece stands before the first byte that parts
-pub first_piece : (p : ℕ → Bool) (xs : List ℕ) → slice_split p xs ≡ take (position_or_len p xs) xs ∷ pieces_after p (drop (position_or_len p xs) xs)
+pub first_piece : (p : ℕ → Bool) (xs : List ℕ) → slice_split p xs
+    ≡ take (position_or_len p xs) xs ∷ pieces_after p (drop (position_or_len p xs) xs)
 first_piece p [] = refl
 first_piece p (x ∷ xs) = at_front (p x) refl (first_piece p xs)
   where

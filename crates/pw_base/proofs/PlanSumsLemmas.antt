@@ -1,5 +1,6 @@
 -- Laws of `specs/PlanSums.antt`: sums that stay at the greatest number.
-use Rattle.std.proofs.Common.{◌≡◌, ℕ, zero, suc, ◌+◌, ◌-◌, ◌*◌, ◌^◌, ◌<◌, ◌≤◌, min, List, [], ◌∷◌, ◌++◌, length, get_or, take, true, false, Bool, cond, refl, sym, ◌∙◌, ap, subst, arith, inl, inr, append-nil}
+use Rattle.std.proofs.Common.{◌≡◌, ℕ, zero, suc, ◌+◌, ◌-◌, ◌*◌, ◌^◌, ◌<◌, ◌≤◌, min, List, [], ◌∷◌, ◌++◌, length}
+use Rattle.std.proofs.Common.{get_or, take, true, false, Bool, cond, refl, sym, ◌∙◌, ap, subst, arith, inl, inr, append-nil}
 use Rattle.std.specs.Prelude.{filter, sum_by, IsTrue, nat_le, ◌↔◌}
 use Rattle.std.proofs.Math.Nat.{le-mul_of_pos_right, mul_comm, zero-mul}
 use Rattle.std.proofs.lemmas.Bool.{cases_lt, le-leb, leb-true}
@@ -48,23 +49,28 @@ capped-mul (suc a) x = elim (cases_lt x (2 ^ 64)) [
 
 -- one number more
 module _ {X : Type 0} (f : X → ℕ) (xs : List X) (i : ℕ) (d : X) (lt : i < length xs) where
-  pub capped_sum_more : (total amount next : ℕ) → total ≡ capped (sum_by f (take i xs)) → amount ≡ capped (f (get_or xs i d)) → next ≡ capped (total + amount) → next ≡ capped (sum_by f (take (i + 1) xs))
+  pub capped_sum_more : (total amount next : ℕ) → total ≡ capped (sum_by f (take i xs)) → amount ≡ capped (f (get_or xs i d))
+      → next ≡ capped (total + amount) → next ≡ capped (sum_by f (take (i + 1) xs))
   capped_sum_more total amount next t a n =
-      n ∙ ap (λ k. capped (k + amount)) t ∙ ap (λ k. capped (capped (sum_by f (take i xs)) + k)) a ∙ capped-add (sum_by f (take i xs)) (f (get_or xs i d)) ∙ ap capped (sym (sum_by_more f xs i d lt))
+      n ∙ ap (λ k. capped (k + amount)) t ∙ ap (λ k. capped (capped (sum_by f (take i xs)) + k)) a
+      ∙ capped-add (sum_by f (take i xs)) (f (get_or xs i d)) ∙ ap capped (sym (sum_by_more f xs i d lt))
 
 module _ {X : Type 0} (p : X → Bool) (f : X → ℕ) (xs : List X) (i : ℕ) (d : X) (lt : i < length xs) where
   filter_more : filter p (take (i + 1) xs) ≡ filter p (take i xs) ++ cond (p (get_or xs i d)) (get_or xs i d ∷ []) []
   filter_more = ap (filter p) (take_more xs i d lt) ∙ filter-append p (take i xs) (get_or xs i d ∷ [])
 
-  pub capped_filter_yes : p (get_or xs i d) ≡ true → (total amount next : ℕ) → total ≡ capped (sum_by f (filter p (take i xs))) → amount ≡ capped (f (get_or xs i d)) → next ≡ capped (total + amount)
+  pub capped_filter_yes : p (get_or xs i d) ≡ true → (total amount next : ℕ) → total ≡ capped (sum_by f (filter p (take i xs)))
+      → amount ≡ capped (f (get_or xs i d)) → next ≡ capped (total + amount)
       → next ≡ capped (sum_by f (filter p (take (i + 1) xs)))
   capped_filter_yes here total amount next t a n =
       let more : filter p (take (i + 1) xs) ≡ filter p (take i xs) ++ get_or xs i d ∷ [] =
       filter_more ∙ ap (λ b. filter p (take i xs) ++ cond b (get_or xs i d ∷ []) []) here in
-      n ∙ ap (λ k. capped (k + amount)) t ∙ ap (λ k. capped (capped (sum_by f (filter p (take i xs))) + k)) a ∙ capped-add (sum_by f (filter p (take i xs))) (f (get_or xs i d))
+      n ∙ ap (λ k. capped (k + amount)) t ∙ ap (λ k. capped (capped (sum_by f (filter p (take i xs))) + k)) a
+      ∙ capped-add (sum_by f (filter p (take i xs))) (f (get_or xs i d))
       ∙ ap capped (sym (sum_by_push f (filter p (take i xs)) (get_or xs i d))) ∙ ap (λ ys. capped (sum_by f ys)) (sym more)
 
-  pub capped_filter_no : p (get_or xs i d) ≡ false → (total next : ℕ) → total ≡ capped (sum_by f (filter p (take i xs))) → next ≡ total → next ≡ capped (sum_by f (filter p (take (i + 1) xs)))
+  pub capped_filter_no : p (get_or xs i d) ≡ false → (total next : ℕ) → total ≡ capped (sum_by f (filter p (take i xs))) → next ≡ total
+      → next ≡ capped (sum_by f (filter p (take (i + 1) xs)))
   capped_filter_no here total next t n =
       let same : filter p (take (i + 1) xs) ≡ filter p (take i xs) =
       filter_more ∙ ap (λ b. filter p (take i xs) ++ cond b (get_or xs i d ∷ []) []) here ∙ append-nil (filter p (take i xs)) in

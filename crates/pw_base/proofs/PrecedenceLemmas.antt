@@ -1,6 +1,8 @@
--- Laws of `specs/Dependencies.antt`: required counts are those of the dependencies, targets and dependencies are inverse, and in a sound shape
+-- Laws of `specs/Dependencies.antt`: required counts are those of the dependencies, targets and dependencies are inverse, and in a sound
+-- shape
 -- an order rises from each node to those that it precedes, so that no walk along links that are not delayed comes back.
-use Rattle.std.proofs.Common.{◌≡◌, ℕ, zero, suc, ◌<◌, ◌≤◌, ◌==◌, ◌&&◌, ◌||◌, ◌↔◌, inl, inr, Bool, true, false, cond, not, List, [], ◌∷◌, length, get_or, refl, sym, ◌∙◌, ap, subst, arith}
+use Rattle.std.proofs.Common.{◌≡◌, ℕ, zero, suc, ◌<◌, ◌≤◌, ◌==◌, ◌&&◌, ◌||◌, ◌↔◌, inl, inr, Bool, true, false, cond, not}
+use Rattle.std.proofs.Common.{List, [], ◌∷◌, length, get_or, refl, sym, ◌∙◌, ap, subst, arith}
 use mathlib.Core.Logic.{dite}
 use native.Mathlib.Decide.{ℕ_discrete}
 use Rattle.std.specs.Prelude.{◌≢◌, filter, All, Contains, sum_by}
@@ -8,7 +10,8 @@ use Rattle.std.proofs.lemmas.Bool.{false_from_ne_true, and_parts, or_cases}
 use Rattle.std.proofs.lemmas.Bool.Decides.{Decides-eqb}
 use Rattle.std.proofs.lemmas.List.Folds.{Any-from_list_any}
 use Rattle.std.proofs.lemmas.List.Sums.{get_or-le-sum_by}
-use Rattle.std.proofs.lemmas.List.Elements.{All-contains, All-contains_itself, All-filter, filter_passes, Contains-append_left, Contains-append_right, Contains-append_cases}
+use Rattle.std.proofs.lemmas.List.Elements.{All-contains, All-contains_itself, All-filter, filter_passes, Contains-append_left}
+use Rattle.std.proofs.lemmas.List.Elements.{Contains-append_right, Contains-append_cases}
 use Rattle.pw_base.specs.declared.shape.Shape.{Shape}
 use Rattle.pw_base.specs.LinkOrder.{HasOrder}
 use Rattle.pw_base.specs.SoundShape.{HasSoundNodes, IsSoundShape}
@@ -29,7 +32,8 @@ behind : {X : Type 0} (b : Bool) (y x : X) (ys : List X) → Contains ys x → C
 behind true y x ys c = Contains-append_right (y ∷ []) ys x c
 behind false y x ys c = c
 
-pub holds_at : {X : Type 0} (p : X → Bool) (xs : List X) (x : X) (k : ℕ) → p x ≡ true → k < length xs → get_or xs k x ≡ x → Contains (filter p xs) x
+pub holds_at : {X : Type 0} (p : X → Bool) (xs : List X) (x : X) (k : ℕ) → p x ≡ true → k < length xs → get_or xs k x ≡ x
+    → Contains (filter p xs) x
 holds_at p [] x k t lt e = absurd (omega arith)
 holds_at p (y ∷ ys) x zero t lt e = in_front (p y) y x (filter p ys) (ap p e ∙ t) e
 holds_at p (y ∷ ys) x (suc k) t lt e = behind (p y) y x (filter p ys) (holds_at p ys x k t (omega arith) e)
@@ -128,7 +132,8 @@ or_here false true c e = refl
 or_here false false c e = cc
 
 driver_waits_for : (shape : Shape) (m n : ℕ) → shape.driver ≡ n → waits shape n m ≡ true
-driver_waits_for shape m n e = or_here (m == shape.driver) (n == shape.driver) (are_linked shape m n) ((Decides-eqb n shape.driver).1 (sym e))
+driver_waits_for shape m n e = or_here (m == shape.driver) (n == shape.driver) (are_linked shape m n)
+    ((Decides-eqb n shape.driver).1 (sym e))
 
 -- the targets of a node are those that depend on it
 module _ (shape : Shape) (m n : ℕ) (nodes : HasSoundNodes shape) (from : Contains (nodes_of shape) m) where
@@ -143,5 +148,6 @@ module _ (shape : Shape) (m n : ℕ) (nodes : HasSoundNodes shape) (from : Conta
   pub dependents_are_targets : DependsOn shape m n → Contains (targets_of shape m) n
   dependents_are_targets d = dite (ℕ_discrete n shape.driver)
       (λ e. Contains-append_right _ (shape.driver ∷ []) n (0, omega arith, sym e))
-      (λ ne. Contains-append_left _ (shape.driver ∷ []) n (holds_at (λ k. not (k == shape.driver) && waits shape k m) (nodes_of shape) n d.to_active.0
+      (λ ne. Contains-append_left _ (shape.driver ∷ []) n
+      (holds_at (λ k. not (k == shape.driver) && waits shape k m) (nodes_of shape) n d.to_active.0
       (both _ _ (false_from_ne_true (n == shape.driver) (λ t. ne ((Decides-eqb n shape.driver).0 t))) d.waits) d.to_active.1 d.to_active.2))

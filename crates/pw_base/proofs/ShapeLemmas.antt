@@ -1,5 +1,6 @@
 -- Laws of `specs/Dependencies.antt` and `specs/SoundShape.antt` over plain lists.
-use Rattle.std.proofs.Common.{◌≡◌, ℕ, ◌+◌, ◌<◌, ◌≤◌, ◌==◌, Bool, true, false, cond, ◌||◌, List, [], ◌∷◌, ◌++◌, map, length, get_or, drop, take, refl, sym, ap, subst, arith, add-one, drop-cons}
+use Rattle.std.proofs.Common.{◌≡◌, ℕ, ◌+◌, ◌<◌, ◌≤◌, ◌==◌, Bool, true, false, cond, ◌||◌, List, [], ◌∷◌, ◌++◌, map}
+use Rattle.std.proofs.Common.{length, get_or, drop, take, refl, sym, ap, subst, arith, add-one, drop-cons}
 use mathlib.Core.Logic.{dite}
 use native.Mathlib.Decide.{ℕ_discrete}
 use Rattle.std.specs.Prelude.{filter, Contains, All, AllPairs}
@@ -21,7 +22,8 @@ any_mapped p f (x ∷ xs) = ap (λ b. p (f x) || b) (any_mapped p f xs)
 -- the test of each element for a number decides whether the numbers hold it
 pub Decides-contains_mapped : {X : Type 0} (f : X → ℕ) (xs : List X) (n : ℕ) → Decides (list_any (λ x. f x == n) xs) (Contains (map f xs) n)
 Decides-contains_mapped f xs n = Decides-at _ _ (any_mapped (λ y. y == n) f xs)
-    (Decides-contains (map f xs) n _ (Decides-by_or (λ y. y == n) (λ y. y ≡ n) (list_any (λ y. y == n)) (λ y. Decides-eqb y n) refl (λ _ _. refl) (map f xs)))
+    (Decides-contains (map f xs) n _ (Decides-by_or (λ y. y == n) (λ y. y ≡ n) (list_any (λ y. y == n)) (λ y. Decides-eqb y n) refl
+    (λ _ _. refl) (map f xs)))
 
 -- the number of each element is one of the numbers
 pub contains_mapped : {X : Type 0} (f : X → ℕ) (xs : List X) (k : ℕ) (d : X) → k < length xs → Contains (map f xs) (f (get_or xs k d))
@@ -32,7 +34,8 @@ one_more true y r = omega arith
 one_more false y r = refl
 
 pub length_filter_mapped : {X : Type 0} (p : ℕ → Bool) (f : X → ℕ) (xs : List X) → length (filter p (map f xs)) ≡ count_by (λ x. p (f x)) xs
-length_filter_mapped p f xs = is_count_by (λ ys. length (filter p (map f ys))) (λ x. p (f x)) refl (λ y ys. one_more (p (f y)) (f y) (filter p (map f ys))) xs
+length_filter_mapped p f xs = is_count_by (λ ys. length (filter p (map f ys))) (λ x. p (f x)) refl
+    (λ y ys. one_more (p (f y)) (f y) (filter p (map f ys))) xs
 
 -- R of all pairs of the first elements, and of each of them with the next one
 module _ {X : Type 0} (R : X → X → Type 0) (xs : List X) (i : ℕ) (e : X) (lt : i < length xs) where
@@ -46,11 +49,13 @@ module _ {X : Type 0} (R : X → X → Type 0) (xs : List X) (i : ℕ) (e : X) (
   pub pairs_at : AllPairs R xs → All (λ x. R x (get_or xs i e)) (take i xs)
   pairs_at all k d kl =
       let t : k < i = omega (arith, length-take i xs) in
-      subst (λ x. R x (get_or xs i e)) (sym (get_or-take i xs k d t)) (subst (λ x. R (get_or xs k d) x) (get_or_default xs i d e lt) (all k i d t lt))
+      subst (λ x. R x (get_or xs i e)) (sym (get_or-take i xs k d t))
+      (subst (λ x. R (get_or xs k d) x) (get_or_default xs i d e lt) (all k i d t lt))
 
 -- one more element of a filtered list of numbers, from the front
 module _ {X : Type 0} (p : ℕ → Bool) (f : X → ℕ) (xs : List X) (i : ℕ) (d : X) (end : List ℕ) (lt : i < length xs) where
-  pub front_passes : p (f (get_or xs i d)) ≡ true → filter p (map f (drop i xs)) ++ end ≡ f (get_or xs i d) ∷ (filter p (map f (drop (i + 1) xs)) ++ end)
+  pub front_passes : p (f (get_or xs i d)) ≡ true → filter p (map f (drop i xs)) ++ end
+      ≡ f (get_or xs i d) ∷ (filter p (map f (drop (i + 1) xs)) ++ end)
   front_passes e = rw (add-one, drop-cons xs i d) (rw e refl)
 
   pub front_fails : p (f (get_or xs i d)) ≡ false → filter p (map f (drop i xs)) ++ end ≡ filter p (map f (drop (i + 1) xs)) ++ end

@@ -1,5 +1,6 @@
 -- Dependencies: which nodes of a shape wait for which in a cycle; links that are not delayed count.
--- Source: PipeWire's documentation, "Graph Scheduling" (required, target list); the driver's own place is this project's.
+-- Source: PipeWire's documentation, "Graph Scheduling" (required, target list); the driver's own place is this
+-- project's.
 use Rattle.std.specs.Prelude.{◌≡◌, ℕ, ◌==◌, ◌&&◌, ◌||◌, Bool, not, List, [], ◌∷◌, ◌++◌, map, filter, length, IsTrue, Contains}
 use Rattle.std.specs.List.{list_any}
 use Rattle.pw_base.specs.declared.shape.Shape.{Shape}

@@ -38,7 +38,8 @@ abbrev pub event_word_of : Event → ℕ
 event_word_of event = event_kind event + 1 + 8 * event_node event + 512 * event_cycle event
 
 abbrev pub IsEventWord : ℕ → Type 0
-IsEventWord word = (event : Event) × (event_node event ≤ 63) × (event_cycle event < 2 ^ 32) × (word ≡ event_word_of event)
+IsEventWord word = (event : Event) × (event_node event ≤ 63) × (event_cycle event < 2 ^ 32)
+    × (word ≡ event_word_of event)
 
 -- the event of a word, with the late set where it is a Tick
 abbrev pub event_in : ℕ → ℕ → Event

@@ -1,5 +1,6 @@
 -- Files: what is held under each name, and what a load and a store say of it.
-use Rattle.std.specs.Prelude.{◌≡◌, ℕ, ◌<◌, ◌≤◌, List, length, take, Option, Some, None, option_map, Result, Ok, Err, bytes_eq, if◌then◌else◌}
+use Rattle.std.specs.Prelude.{◌≡◌, ℕ, ◌<◌, ◌≤◌, List, length, take, Option, Some, None, option_map, Result, Ok, Err, bytes_eq}
+use Rattle.std.specs.Prelude.{if◌then◌else◌}
 use Rattle.pw_base.specs.declared.files.Loaded.{Loaded}
 use Rattle.pw_base.specs.declared.files.Loaded.TheVariants.{Whole, Absent, TooLong}
 use Rattle.pw_base.specs.declared.files.FileFail.{FileFail}

@@ -1,4 +1,5 @@
--- Nodes and forms one by one, as a checker goes through an epoch; `PlanForms` and `SoundPlan` say the same of the whole.
+-- Nodes and forms one by one, as a checker goes through an epoch; `PlanForms` and `SoundPlan` say the same of the
+-- whole.
 -- Source: this project's.
 use Rattle.std.specs.Prelude.{◌≡◌, ℕ, ◌<◌, ◌⊎◌, length, Contains, Some, slice_get}
 use Rattle.pw_base.specs.declared.ids.PortId.{PortId}
@@ -23,7 +24,8 @@ HasBothForms epoch from to channels = (rate : ℕ) × HasForm epoch from rate ch
 
 -- a node has forms for all its ports
 pub record HasAllForms (plan : Plan) (epoch : Epoch) (node : ℕ) : Type 0 where
-  pub ports : (port : ℕ) → port < port_count (kind_at plan node) → HasSomeForm epoch (record { node = node; port = port })
+  pub ports : (port : ℕ) → port < port_count (kind_at plan node)
+      → HasSomeForm epoch (record { node = node; port = port })
 
 -- a node is the driver, or has forms for all its ports
 pub record IsWhole (plan : Plan) (epoch : Epoch) (n : ShapeNode) : Type 0 where
@@ -43,4 +45,5 @@ pub record HasSoundDriver (plan : Plan) (epoch : Epoch) : Type 0 where
 
 -- a form, if of a sink, is the rate and channels that its node ends with
 pub record IsEnded (plan : Plan) (form : PortForm) : Type 0 where
-  pub ends : (node : PlanNode) → slice_get plan.nodes form.port.node ≡ Some node → node.kind ≡ Sink → (form.rate ≡ node.rate) × (form.channels ≡ node.channels)
+  pub ends : (node : PlanNode) → slice_get plan.nodes form.port.node ≡ Some node → node.kind ≡ Sink
+      → (form.rate ≡ node.rate) × (form.channels ≡ node.channels)

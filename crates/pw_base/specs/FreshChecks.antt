@@ -12,7 +12,8 @@ use Rattle.pw_base.specs.PlanFresh.{IsEpoch, Names, StaysFrom, IsSoundFresh}
 
 -- a node has an input, and the first one may have these channels
 abbrev pub HasFirstInput : Plan → ℕ → ℕ → Type 0
-HasFirstInput plan node channels = (0 < input_count (kind_at plan node)) × MayHaveChannels (kind_at plan node) 0 channels
+HasFirstInput plan node channels = (0 < input_count (kind_at plan node))
+    × MayHaveChannels (kind_at plan node) 0 channels
 
 -- the entries of an epoch ascend and name places of nodes
 pub record NamesWell (plan : Plan) (epoch : Epoch) : Type 0 where

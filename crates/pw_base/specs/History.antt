@@ -1,5 +1,6 @@
 -- Legal histories: events, cycle by cycle, in the order of their tickets. PipeWire's documentation, "Graph Scheduling".
-use Rattle.std.specs.Prelude.{◌≡◌, ℕ, ◌<◌, ◌≤◌, ◌==◌, ◌&&◌, Bool, true, false, List, [], ◌∷◌, ◌++◌, map, count_by, All, Contains, IsBitSet}
+use Rattle.std.specs.Prelude.{◌≡◌, ℕ, ◌<◌, ◌≤◌, ◌==◌, ◌&&◌, Bool, true, false, List, [], ◌∷◌, ◌++◌, map, count_by, All}
+use Rattle.std.specs.Prelude.{Contains, IsBitSet}
 use Rattle.std.specs.List.{position_or_len, flat_map, range_with_len, AllZip}
 use Rattle.pw_base.specs.declared.event.Event.{Event}
 use Rattle.pw_base.specs.declared.event.Event.TheVariants.{Begin, Start, Finish, Tick, End}
@@ -36,7 +37,8 @@ IsLate shape events cycle n = Contains (nodes_of shape) n × ¬ (n ≡ shape.dri
 abbrev pub IsOfCycle : Shape → List Event → ℕ → Event → Type 0
 IsOfCycle shape events cycle (Start c n) = (c ≡ cycle) × Contains (nodes_of shape) n
 IsOfCycle shape events cycle (Finish c n) = (c ≡ cycle) × Contains (nodes_of shape) n
-IsOfCycle shape events cycle (Tick c late) = (c ≡ cycle) × (tick_place events < start_place events cycle shape.driver) × ((n : ℕ) → n < 64 → IsBitSet late n → IsLate shape events cycle n)
+IsOfCycle shape events cycle (Tick c late) = (c ≡ cycle) × (tick_place events < start_place events cycle shape.driver)
+    × ((n : ℕ) → n < 64 → IsBitSet late n → IsLate shape events cycle n)
 IsOfCycle shape events cycle _ = ⊥
 
 -- a node has one Start and one Finish, the Start first

@@ -48,7 +48,8 @@ abbrev pub WithLoadFault : MemFiles → MemFiles → ℕ → Type 0
 WithLoadFault old new number = SameFiles (record old { failing_loads = old.failing_loads ++ number ∷ [] }) new
 
 abbrev pub WithStoreFault : MemFiles → MemFiles → ℕ → ℕ → Type 0
-WithStoreFault old new number kept = SameFiles (record old { failing_stores = old.failing_stores ++ (number, kept) ∷ [] }) new
+WithStoreFault old new number kept = SameFiles
+    (record old { failing_stores = old.failing_stores ++ (number, kept) ∷ [] }) new
 
 pub record IsNewSink (sink : MemSink) : Type 0 where
   pub given : mem_given sink ≡ []

@@ -18,7 +18,8 @@ IsGain g = (neg_ℤ (pos 32767) ≤ℤ g) × (g ≤ℤ pos 32767)
 -- the numbers of a kind are in the ranges of the script; the dummy is no node of a script
 abbrev pub IsInRange : Kind → Type 0
 IsInRange Source = Unit {0}
-IsInRange (Square rate channels period amp) = IsRate rate × IsChannels channels × IsBetween 1 1000000 period × (pos 0 ≤ℤ amp) × (amp ≤ℤ pos 32767)
+IsInRange (Square rate channels period amp) = IsRate rate × IsChannels channels × IsBetween 1 1000000 period
+    × (pos 0 ≤ℤ amp) × (amp ≤ℤ pos 32767)
 IsInRange (Gain g) = IsGain g
 IsInRange (Mix2 ga gb) = IsGain ga × IsGain gb
 IsInRange (Delay frames) = frames ≤ 65536

@@ -1,6 +1,8 @@
 -- The words of a board: where each stands in the table of a shape, and what it holds at the start.
--- Source: spa/node/io.h, spa_io_buffers (one area a link; two for a delayed one, as spa_io_async_buffers); the rest is this project's.
-use Rattle.std.specs.Prelude.{ℕ, ◌+◌, ◌-◌, ◌*◌, ◌%◌, ◌==◌, List, [], ◌∷◌, ◌++◌, length, take, replicate, sum_by, count_by, unwrap_or, option_map, slice_get, if◌then◌else◌}
+-- Source: spa/node/io.h, spa_io_buffers (one area a link; two for a delayed one, as spa_io_async_buffers); the rest is
+-- this project's.
+use Rattle.std.specs.Prelude.{ℕ, ◌+◌, ◌-◌, ◌*◌, ◌%◌, ◌==◌, List, [], ◌∷◌, ◌++◌, length, take, replicate, sum_by, count_by}
+use Rattle.std.specs.Prelude.{unwrap_or, option_map, slice_get, if◌then◌else◌}
 use Rattle.std.specs.List.{flat_map}
 use Rattle.pw_base.specs.declared.pools.PoolShape.{PoolShape}
 use Rattle.pw_base.specs.declared.shape.Shape.{Shape}
@@ -49,7 +51,8 @@ abbrev pub block_words : Shape → ℕ → ℕ
 block_words shape pool = unwrap_or (option_map (λ p. p.words) (slice_get (pools_of shape) pool)) 0
 
 abbrev pub readers_place : Shape → ℕ → ℕ → ℕ
-readers_place shape pool block = event_place shape (event_count shape) + sum_by pool_words (take pool (pools_of shape)) + block * (1 + block_words shape pool)
+readers_place shape pool block = event_place shape (event_count shape) + sum_by pool_words
+    (take pool (pools_of shape)) + block * (1 + block_words shape pool)
 
 abbrev pub sample_place : Shape → ℕ → ℕ → ℕ → ℕ
 sample_place shape pool block word = readers_place shape pool block + 1 + word
@@ -61,7 +64,8 @@ word_count shape = event_place shape (event_count shape) + sum_by pool_words (po
 -- AT THE START: area 0 first; the area of a delayed link that is read in the first cycle names block 0
 abbrev pub io_start : ℕ → ShapeLink → List ℕ
 io_start first link =
-    if link.delayed then (if first % 2 == 0 then io_word_of 2 0 ∷ io_word_of 1 no_block ∷ [] else io_word_of 1 no_block ∷ io_word_of 2 0 ∷ [])
+    if link.delayed then (if first % 2 == 0 then io_word_of 2 0 ∷ io_word_of 1 no_block ∷ []
+    else io_word_of 1 no_block ∷ io_word_of 2 0 ∷ [])
     else io_word_of 1 no_block ∷ []
 
 -- block 0 begins out, read by the pool's delayed links
@@ -70,4 +74,5 @@ pool_start shape pool = count_by (λ l. l.delayed) (links_from shape pool.port) 
 
 abbrev pub start_words : Shape → List ℕ
 start_words shape = 0 ∷ (replicate (node_count shape) 0 ++ (replicate (node_count shape) (status_word_of 0 shape.first)
-    ++ (flat_map (io_start shape.first) shape.links ++ (replicate (shape.cycles + event_count shape) 0 ++ flat_map (pool_start shape) (pools_of shape)))))
+    ++ (flat_map (io_start shape.first) shape.links ++
+    (replicate (shape.cycles + event_count shape) 0 ++ flat_map (pool_start shape) (pools_of shape)))))

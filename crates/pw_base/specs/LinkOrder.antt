@@ -11,7 +11,8 @@ pub record HasOrder (links : List ShapeLink) : Type 0 where
 
 -- while nodes are taken away: a link that is not delayed comes to the node from one that is left
 abbrev pub is_blocked : List ShapeLink → List Bool → ℕ → Bool
-is_blocked links left node = list_any (λ l. not l.delayed && ((l.to.node == node) && slice_index_or left l.from.node false)) links
+is_blocked links left node = list_any (λ l. not l.delayed &&
+    ((l.to.node == node) && slice_index_or left l.from.node false)) links
 
 -- each node below a number that is left is blocked, and each node that is left
 abbrev pub AreBlocked : List ShapeLink → List Bool → ℕ → Type 0

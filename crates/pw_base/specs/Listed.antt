@@ -9,4 +9,5 @@ pub record Listed (T : Type 0) : Type 0 where
 -- it is stored as the pair of its fields
 abbrev pub listed_code : {T : Type 0} → Coded T → Coded (Listed T)
 listed_code {T} code =
-    code_by (List T × ℕ) (coded× (coded_list code) coded_ℕ) (λ l. (l.list, l.spare)) (λ p. record { list = p.0; spare = p.1 }) (λ _. refl)
+    code_by (List T × ℕ) (coded× (coded_list code) coded_ℕ) (λ l. (l.list, l.spare))
+    (λ p. record { list = p.0; spare = p.1 }) (λ _. refl)

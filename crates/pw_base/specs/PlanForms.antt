@@ -30,11 +30,13 @@ pub record IsSoundForm (plan : Plan) (epoch : Epoch) (form : PortForm) : Type 0 
 
 -- the ports of a node share their rate, and those of some kinds their channels
 abbrev pub AreShared : Plan → PortForm → PortForm → Type 0
-AreShared plan f g = f.port.node ≡ g.port.node → (f.rate ≡ g.rate) × (SharesChannels (kind_at plan f.port.node) → f.channels ≡ g.channels)
+AreShared plan f g = f.port.node ≡ g.port.node → (f.rate ≡ g.rate)
+    × (SharesChannels (kind_at plan f.port.node) → f.channels ≡ g.channels)
 
 -- a link goes from an output to an input, and both have forms of one rate and of the link's channels
 pub record IsFormed (plan : Plan) (epoch : Epoch) (link : ShapeLink) : Type 0 where
-  pub output : (input_count (kind_at plan link.from.node) ≤ link.from.port) × (link.from.port < port_count (kind_at plan link.from.node))
+  pub output : (input_count (kind_at plan link.from.node) ≤ link.from.port)
+      × (link.from.port < port_count (kind_at plan link.from.node))
   pub input : link.to.port < input_count (kind_at plan link.to.node)
   pub rate : ℕ
   pub from : HasForm epoch link.from rate link.channels
@@ -45,6 +47,7 @@ pub record HasSoundForms (plan : Plan) (epoch : Epoch) : Type 0 where
   pub ascend : AllPairs (λ f g. IsTrue (is_before f.port g.port)) epoch.forms
   pub each : All (IsSoundForm plan epoch) epoch.forms
   pub shared : AllPairs (AreShared plan) epoch.forms
-  pub whole : (port : PortId) → Contains (nodes_of epoch.shape) port.node → ¬ (port.node ≡ epoch.shape.driver) → port.port < port_count (kind_at plan port.node)
+  pub whole : (port : PortId) → Contains (nodes_of epoch.shape) port.node → ¬ (port.node ≡ epoch.shape.driver)
+      → port.port < port_count (kind_at plan port.node)
       → (rate : ℕ) × (channels : ℕ) × HasForm epoch port rate channels
   pub links : All (IsFormed plan epoch) epoch.shape.links

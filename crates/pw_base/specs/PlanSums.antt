@@ -23,7 +23,8 @@ abbrev pub form_samples : Plan → Epoch → PortForm → ℕ
 form_samples plan epoch form = epoch.shape.cycles * (plan.quantum * form.channels)
 
 abbrev pub epoch_samples : Plan → Epoch → ℕ
-epoch_samples plan epoch = sum_by (form_samples plan epoch) (filter (λ f. is_sink (kind_at plan f.port.node)) epoch.forms)
+epoch_samples plan epoch = sum_by (form_samples plan epoch)
+    (filter (λ f. is_sink (kind_at plan f.port.node)) epoch.forms)
 
 -- the bytes of the blocks that a link asks for, where a delayed link counts at least 2 buffers, and those of all links
 abbrev pub link_bytes : Plan → ShapeLink → ℕ

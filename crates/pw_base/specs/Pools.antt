@@ -1,6 +1,8 @@
 -- Pools: the output ports of a shape that have a link, each with the blocks that hold what it gives in a cycle.
--- Source: PipeWire's documentation, "SPA Buffers": the buffers of a port are shared by number; one pool an output port is this project's.
-use Rattle.std.specs.Prelude.{◌≡◌, ℕ, ◌+◌, ◌*◌, ◌/◌, ◌==◌, ◌&&◌, ◌||◌, max, Bool, List, [], ◌∷◌, ◌++◌, map, filter, fold, AllPairs, nat_lt, if◌then◌else◌}
+-- Source: PipeWire's documentation, "SPA Buffers": the buffers of a port are shared by number; one pool an output port
+-- is this project's.
+use Rattle.std.specs.Prelude.{◌≡◌, ℕ, ◌+◌, ◌*◌, ◌/◌, ◌==◌, ◌&&◌, ◌||◌, max, Bool, List, [], ◌∷◌, ◌++◌, map, filter}
+use Rattle.std.specs.Prelude.{fold, AllPairs, nat_lt, if◌then◌else◌}
 use Rattle.std.specs.List.{enumerate_from}
 use Rattle.pw_base.specs.declared.ids.PortId.{PortId}
 use Rattle.pw_base.specs.declared.shape.Shape.{Shape}

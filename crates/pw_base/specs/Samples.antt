@@ -1,6 +1,7 @@
 -- Samples: what is done to one sample, and rows of samples. S16 PCM, interleaved; gains are factors in 1/256.
 -- Source: RIFF WAVE PCM of 16 bits; SPA_AUDIO_FORMAT_S16_LE; rounding and clamping are this project's.
-use Rattle.std.specs.Prelude.{ℕ, ◌+◌, ◌*◌, ◌/◌, ◌%◌, max, List, map, fold, length, replicate, zip, ℤ, pos, neg_ℤ, ◌+ℤ◌, ◌*ℤ◌, unsigned_abs, slice_index, slice_index_or}
+use Rattle.std.specs.Prelude.{ℕ, ◌+◌, ◌*◌, ◌/◌, ◌%◌, max, List, map, fold, length, replicate, zip, ℤ, pos, neg_ℤ, ◌+ℤ◌, ◌*ℤ◌}
+use Rattle.std.specs.Prelude.{unsigned_abs, slice_index, slice_index_or}
 use Rattle.std.specs.Int.{int_max, int_min, int_shr}
 use Rattle.std.specs.List.{range_with_len}
 
@@ -34,7 +35,8 @@ of_frames frames channels f = map (λ i. f (i / channels) (i % channels)) (range
 
 -- of each whole frame, the channels that the list names
 abbrev pub picked : ℕ → List ℕ → List ℤ → List ℤ
-picked channels list row = of_frames (length row / channels) (length list) (λ i j. sample_at channels row i (slice_index list j))
+picked channels list row = of_frames (length row / channels) (length list)
+    (λ i j. sample_at channels row i (slice_index list j))
 
 -- the greatest absolute value, 0 of none
 abbrev pub peak_of : List ℤ → ℕ

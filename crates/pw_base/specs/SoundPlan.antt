@@ -1,4 +1,5 @@
--- A sound plan: its epochs follow one another, its shapes, nodes, links and forms agree, and the sums of the limits are kept.
+-- A sound plan: its epochs follow one another, its shapes, nodes, links and forms agree, and the sums of the limits
+-- are kept.
 -- Source: this project's. What it says of the waves of sources stands with the cycle function.
 use Rattle.std.specs.Prelude.{◌≡◌, ℕ, ◌+◌, ◌<◌, ◌≤◌, ◌⊎◌, List, [], ◌∷◌, length, All, Contains, slice_get, Some}
 use Rattle.pw_base.specs.declared.kind.Kind.TheVariants.{Sink}
@@ -22,9 +23,11 @@ FollowFrom first (e ∷ es) = (e.shape.first ≡ first) × FollowFrom (first + e
 -- a node's numbers are in range; its rate and channels are 0, or those that a sink or meter may end with
 pub record IsSoundNode (node : PlanNode) : Type 0 where
   pub kind : IsInRange node.kind
-  pub kept : ((node.rate ≡ 0) × (node.channels ≡ 0)) ⊎ (IsSinkOrMeter node.kind × IsRate node.rate × IsChannels node.channels)
+  pub kept : ((node.rate ≡ 0) × (node.channels ≡ 0))
+      ⊎ (IsSinkOrMeter node.kind × IsRate node.rate × IsChannels node.channels)
 
--- an epoch's nodes are places of the plan's, but for 63, which is there exactly where it drives; else a sink or meter drives
+-- an epoch's nodes are places of the plan's, but for 63, which is there exactly where it drives; else a sink or meter
+-- drives
 pub record HasSoundPlaces (plan : Plan) (epoch : Epoch) : Type 0 where
   pub places : (n : ℕ) → Contains (nodes_of epoch.shape) n → ¬ (n ≡ 63) → n < length plan.nodes
   pub dummy : Contains (nodes_of epoch.shape) 63 → epoch.shape.driver ≡ 63
@@ -32,7 +35,8 @@ pub record HasSoundPlaces (plan : Plan) (epoch : Epoch) : Type 0 where
 
 -- a sink's form is the rate and channels that its node ends with
 abbrev pub EndsWith : Plan → Epoch → Type 0
-EndsWith plan epoch = (port : PortId) (rate channels : ℕ) (node : PlanNode) → HasForm epoch port rate channels → slice_get plan.nodes port.node ≡ Some node → node.kind ≡ Sink
+EndsWith plan epoch = (port : PortId) (rate channels : ℕ) (node : PlanNode) → HasForm epoch port rate channels
+    → slice_get plan.nodes port.node ≡ Some node → node.kind ≡ Sink
     → (rate ≡ node.rate) × (channels ≡ node.channels)
 
 pub record IsSoundEpoch (plan : Plan) (epoch : Epoch) : Type 0 where

@@ -1,5 +1,6 @@
 -- Words: how the status of a node and an io area stand in one word of 64 bits, and what is read back from one.
--- Source: spa/node/io.h, spa_io_buffers (SPA_STATUS_NEED_DATA, SPA_STATUS_HAVE_DATA, SPA_ID_INVALID); the rest is this project's.
+-- Source: spa/node/io.h, spa_io_buffers (SPA_STATUS_NEED_DATA, SPA_STATUS_HAVE_DATA, SPA_ID_INVALID); the rest is this
+-- project's.
 use Rattle.std.specs.Prelude.{◌≡◌, ℕ, ◌+◌, ◌-◌, ◌*◌, ◌/◌, ◌%◌, ◌^◌, ◌<◌, ◌≤◌}
 use Rattle.pw_base.specs.declared.status.Status.{Status}
 use Rattle.pw_base.specs.declared.status.Status.TheVariants.{NotTriggered, Triggered, Awake, Finished}

@@ -57,7 +57,8 @@ fn find_end(events: &[Event]) -> Option<usize>
 
 // What is left after the cycle's part, if that stands first and is legal.
 fn after_cycle<'a>(shape: &Shape, cycle: u64, events: &'a [Event]) -> Option<&'a [Event]>
-    ensures { MatchOption result (IsNoFront ((shape.now, cycle) ∷ []) events.now) (λ rest. LeavesOver ((shape.now, cycle) ∷ []) events.now rest.now) }
+    ensures { MatchOption result (IsNoFront ((shape.now, cycle) ∷ []) events.now)
+        (λ rest. LeavesOver ((shape.now, cycle) ∷ []) events.now rest.now) }
 {
     let n = find_end(events)?;
     let (part, rest) = events.split_at(n + 1);
@@ -70,7 +71,8 @@ fn after_cycle<'a>(shape: &Shape, cycle: u64, events: &'a [Event]) -> Option<&'a
 
 // What is left after the parts of the epoch's cycles, if those stand first and are legal.
 fn after_epoch<'a>(shape: &Shape, events: &'a [Event]) -> Option<&'a [Event]>
-    ensures { MatchOption result (IsNoFront (epoch_cycles shape.now shape.now.cycles) events.now) (λ rest. LeavesOver (epoch_cycles shape.now shape.now.cycles) events.now rest.now) }
+    ensures { MatchOption result (IsNoFront (epoch_cycles shape.now shape.now.cycles) events.now)
+        (λ rest. LeavesOver (epoch_cycles shape.now shape.now.cycles) events.now rest.now) }
 {
     let mut rest = events;
     for k in 0..shape.cycles {

@@ -1,5 +1,6 @@
 //! A list of values over a vector. Contracts see the list alone, so that a copy is an equal value.
-ghost use Rattle.std.specs.Prelude.{◌≡◌, ℕ, ◌+◌, ◌≤◌, [], ◌∷◌, ◌++◌, length, replicate, option_to_list, IsNone, ◌↔◌, OnOk, OnErr, IfOk};
+ghost use Rattle.std.specs.Prelude.{◌≡◌, ℕ, ◌+◌, ◌≤◌, [], ◌∷◌, ◌++◌, length, replicate, option_to_list, IsNone, ◌↔◌, OnOk};
+ghost use Rattle.std.specs.Prelude.{OnErr, IfOk};
 
 use crate::memory::Memory;
 use crate::room::Room;
@@ -108,7 +109,8 @@ impl<T> Items<T> {
 
     /// The list as a slice to write to; its length stays.
     pub fn as_mut_slice(&mut self) -> &mut [T]
-        ensures* writes_back { sem 𝓛 (Lends (the_row T.row) (Array T.row 0) self.entry result (refilled self.old)) }
+        ensures* writes_back { sem 𝓛 (Lends (the_row T.row) (Array T.row 0) self.entry result
+            (refilled self.old)) }
         ensures value { result.now ≡ self.old }
     {
         self.inner.as_mut_slice()

@@ -1,6 +1,7 @@
 //! Whether the numbers of a kind are in range, and what its ports may have.
 ghost use Rattle.std.specs.Prelude.{◌≡◌, ◌<◌, ◌≤◌, IsTrue, ◌↔◌, All, length};
-ghost use Rattle.pw_base.specs.KindRanges.{IsRate, IsChannels, IsGain, IsInRange, MayHaveRate, MayHaveChannels, SharesChannels, IsSinkOrMeter};
+ghost use Rattle.pw_base.specs.KindRanges.{IsRate, IsChannels, IsGain, IsInRange, MayHaveRate, MayHaveChannels, SharesChannels};
+ghost use Rattle.pw_base.specs.KindRanges.{IsSinkOrMeter};
 ghost use Rattle.pw_base.specs.PlanSums.{is_sink};
 
 use crate::kind::Kind;
@@ -36,7 +37,8 @@ fn are_below(channels: u32, list: &[u32]) -> bool
 
 // Whether it is a list of a map of so many channels.
 fn is_map(channels: u32, list: &[u32]) -> bool
-    ensures { IsTrue result ↔ (IsChannels channels × ((1 ≤ length list.now) × (length list.now ≤ 8)) × All (λ c. c < channels) list.now) }
+    ensures { IsTrue result ↔ (IsChannels channels × ((1 ≤ length list.now) × (length list.now ≤ 8))
+        × All (λ c. c < channels) list.now) }
 {
     is_channels(channels) && 1 <= list.len() && list.len() <= 8 && are_below(channels, list)
 }

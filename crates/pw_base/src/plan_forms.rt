@@ -19,7 +19,8 @@ use crate::shape::{ShapeLink, ShapeNode};
 
 /// The kind of a node, if the number is a place; a number that is none counts as the dummy.
 pub(crate) fn kind_at(plan: &Plan, node: u32) -> Option<&Kind>
-    ensures { MatchOption result (kind_at plan.now node ≡ Kind.Dummy) (λ kind. kind.now ≡ kind_at plan.now node) }
+    ensures { MatchOption result (kind_at plan.now node ≡ Kind.Dummy)
+        (λ kind. kind.now ≡ kind_at plan.now node) }
 {
     match plan.nodes.as_slice().get(node as usize) {
         Some(n) => Some(&n.kind),

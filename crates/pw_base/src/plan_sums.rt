@@ -2,7 +2,8 @@
 ghost use Rattle.std.specs.Prelude.{◌≡◌, ◌≤◌, ◌*◌, ◌+◌, filter, sum_by, IsTrue, ◌↔◌};
 ghost use Rattle.pw_base.specs.Limits.{events_limit, sink_samples_limit, block_bytes_limit};
 ghost use Rattle.pw_base.specs.PlanForms.{kind_at};
-ghost use Rattle.pw_base.specs.PlanSums.{is_sink, epoch_events, form_samples, epoch_samples, link_bytes, epoch_bytes, events_of, sink_samples_of, block_bytes_of, capped};
+ghost use Rattle.pw_base.specs.PlanSums.{is_sink, epoch_events, form_samples, epoch_samples, link_bytes, epoch_bytes, events_of};
+ghost use Rattle.pw_base.specs.PlanSums.{sink_samples_of, block_bytes_of, capped};
 
 use crate::plan::{Epoch, Plan, PortForm};
 use crate::plan_forms::is_sink_at;
@@ -75,7 +76,8 @@ fn form_samples(plan: &Plan, epoch: &Epoch, form: &PortForm) -> u64
 
 // The samples of those of these forms that are of sinks.
 fn sink_samples(plan: &Plan, epoch: &Epoch, forms: &[PortForm]) -> u64
-    ensures { result ≡ capped (sum_by (form_samples plan.now epoch.now) (filter (λ f. is_sink (kind_at plan.now f.port.node)) forms.now)) }
+    ensures { result ≡ capped (sum_by (form_samples plan.now epoch.now)
+        (filter (λ f. is_sink (kind_at plan.now f.port.node)) forms.now)) }
 {
     let mut total = 0;
     for form in forms {

@@ -1,6 +1,7 @@
 //! How the pools of a shape are found.
 ghost use Rattle.std.specs.Prelude.{◌≡◌, ℕ, ◌≤◌, max, [], filter, fold, map, IsTrue, ◌↔◌, All, AllPairs, IfOk, length};
-ghost use Rattle.pw_base.specs.Pools.{is_port, is_before, with_port, sources_of, links_from, link_ids_from, asked, blocks_of, channels_of, words_of};
+ghost use Rattle.pw_base.specs.Pools.{is_port, is_before, with_port, sources_of, links_from, link_ids_from, asked, blocks_of, channels_of};
+ghost use Rattle.pw_base.specs.Pools.{words_of};
 ghost use Rattle.pw_base.specs.Pools.{pool_of, pools_of, AreAlike, IsPooledShape};
 
 use crate::ids::{PortId, is_port};

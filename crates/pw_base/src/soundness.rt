@@ -1,7 +1,8 @@
 //! Whether the numbers of a shape are in range and agree.
 ghost use Rattle.std.specs.Prelude.{◌≡◌, ℕ, ◌<◌, ◌≤◌, IsTrue, ◌↔◌, All, AllPairs, map, length, slice_index};
 ghost use Rattle.std.specs.List.Sorted.{IsStrictlyIncreasing};
-ghost use Rattle.pw_base.specs.SoundShape.{IsBetween, HasSoundCycles, HasSoundNodes, IsCounted, IsSoundLink, AreApart, HasSoundLinks, IsSoundShape};
+ghost use Rattle.pw_base.specs.SoundShape.{IsBetween, HasSoundCycles, HasSoundNodes, IsCounted, IsSoundLink, AreApart, HasSoundLinks};
+ghost use Rattle.pw_base.specs.SoundShape.{IsSoundShape};
 ghost use Rattle.pw_base.specs.Dependencies.{nodes_of};
 
 use crate::dependencies::{has_node, is_counted};

@@ -67,7 +67,8 @@ impl AreaStatus {
 
     /// The status of this number, if there is one.
     pub fn from_number(number: u32) -> Option<AreaStatus>
-        ensures { MatchOption result ((number ≢ 1) × (number ≢ 2)) (λ status. area_status_number status ≡ number) }
+        ensures { MatchOption result ((number ≢ 1) × (number ≢ 2))
+            (λ status. area_status_number status ≡ number) }
     {
         match number {
             1 => Some(AreaStatus::NeedData),

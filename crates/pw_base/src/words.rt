@@ -60,7 +60,8 @@ pub fn io_id_of(word: u64) -> u32
 
 // The parts of an event: the number of its kind, its node or 0, its cycle.
 fn parts_of(event: &Event) -> (u64, u32, u32)
-    ensures { (result.0 ≡ event_kind event.now) × (result.1 ≡ event_node event.now) × (result.2 ≡ event_cycle event.now) }
+    ensures { (result.0 ≡ event_kind event.now) × (result.1 ≡ event_node event.now)
+        × (result.2 ≡ event_cycle event.now) }
 {
     match event {
         Event::Begin { cycle } => (0, 0, *cycle),

@@ -54,8 +54,10 @@ module _ {U : Type 0} (names : Names) (place : ℕ) (name : List ℕ) (limit : �
       → EndsAs (Loads names place name limit which next) r
   load_goes bytes r e h = as_goes (place ∷ []) (λ outcome. outcome ≡ load_outcome names place name limit which) next bytes r (sym e) h
 
-  pub load_stops : (status : Status) → Came (load_of names place name limit which) (Err status) → EndsAs (Loads names place name limit which next) (Err status)
-  load_stops status (inl h) = as_stops (place ∷ []) (λ outcome. outcome ≡ load_outcome names place name limit which) next status (sym h.0) h.1
+  pub load_stops : (status : Status) → Came (load_of names place name limit which) (Err status)
+      → EndsAs (Loads names place name limit which next) (Err status)
+  load_stops status (inl h) = as_stops (place ∷ []) (λ outcome. outcome ≡ load_outcome names place name limit which) next status
+      (sym h.0) h.1
   load_stops status (inr (inl h)) = as_read (place ∷ []) (λ outcome. outcome ≡ load_outcome names place name limit which) next status h
   load_stops status (inr (inr h)) = as_memory (place ∷ []) (λ outcome. outcome ≡ load_outcome names place name limit which) next status h
 
@@ -79,4 +81,8 @@ gives P (Err status) (inl h) = record {
   allowed = (refl, inl h.0);
   ends = plain_ends status h.1;
 }
-gives P (Err status) (inr h) = record { answer = ended [] S.Memory; allowed = (refl, inr refl); ends = stop_memory (ended [] S.Memory) status h }
+gives P (Err status) (inr h) = record {
+  answer = ended [] S.Memory;
+  allowed = (refl, inr refl);
+  ends = stop_memory (ended [] S.Memory) status h;
+}

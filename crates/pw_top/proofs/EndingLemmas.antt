@@ -1,5 +1,6 @@
 -- Laws of `specs/Ending.antt`: a part of a command, then what comes next.
-use Rattle.std.proofs.Common.{◌≡◌, ℕ, ◌+◌, ◌<◌, ◌≤◌, true, false, List, [], ◌∷◌, ◌++◌, length, refl, sym, ap, arith, rules, get_or, drop, take, ◌-◌, ◌∙◌, inl, inr}
+use Rattle.std.proofs.Common.{◌≡◌, ℕ, ◌+◌, ◌<◌, ◌≤◌, true, false, List, [], ◌∷◌, ◌++◌, length, refl, sym, ap, arith, rules}
+use Rattle.std.proofs.Common.{get_or, drop, take, ◌-◌, ◌∙◌, inl, inr}
 use Rattle.std.specs.Prelude.{Some, None, Result, Ok, Err, Contains, nat_le}
 use Rattle.pw_base.specs.declared.limit.Which.{Which}
 use Rattle.pw_top.specs.declared.status.Status.{Status}
@@ -64,12 +65,14 @@ pub read_here : (place : ℕ) → IsReadAt (place ∷ []) (S.ReadFault place)
 read_here place = record { place = place; fault = refl; there = (0, grind arith, refl) }
 
 -- the same two steps for a proof by hand
-pub then_stops : {T U : Type 0} (first : Expected T) (next : T → Expected U) (status : Status) → Came first (Err status) → Ends (after first next) (Err status)
+pub then_stops : {T U : Type 0} (first : Expected T) (next : T → Expected U) (status : Status) → Came first (Err status)
+    → Ends (after first next) (Err status)
 then_stops first next status (inl h) = stop_plain first.loads first.outcome next status h.0 h.1
 then_stops first next status (inr (inl h)) = stop_read first.loads first.outcome next status h
 then_stops first next status (inr (inr h)) = stop_memory (after first next) status h
 
-pub then_goes_on : {T U : Type 0} (first : Expected T) (x : T) (next : T → Expected U) (r : Result U Status) → Came first (Ok x) → Ends (next x) r → Ends (after first next) r
+pub then_goes_on : {T U : Type 0} (first : Expected T) (x : T) (next : T → Expected U) (r : Result U Status) → Came first (Ok x)
+    → Ends (next x) r → Ends (after first next) r
 then_goes_on first x next r e h = rw e (go_on first.loads x next r h)
 
 -- a list by its first item and the rest, as a `match` on a slice gives them

@@ -1,5 +1,6 @@
 -- Laws of `specs/FirstEpoch.antt`: the plan of a script of the first path can be rendered, and is a plain mix.
-use Rattle.std.proofs.Common.{◌≡◌, ℕ, zero, suc, ◌<◌, ◌≤◌, ◌==◌, false, List, [], ◌∷◌, ◌++◌, length, map, All, Contains, count_by, refl, sym, ap, subst, inl, inr, arith}
+use Rattle.std.proofs.Common.{◌≡◌, ℕ, zero, suc, ◌<◌, ◌≤◌, ◌==◌, false, List, [], ◌∷◌, ◌++◌, length, map, All, Contains}
+use Rattle.std.proofs.Common.{count_by, refl, sym, ap, subst, inl, inr, arith}
 use Rattle.std.specs.Prelude.{Option, Some, None}
 use Rattle.std.proofs.lemmas.List.Elements.{All-cons, All-nil}
 use Rattle.pw_base.specs.declared.kind.Kind.TheVariants.{Source, Sink, Dummy}
@@ -20,7 +21,8 @@ use Rattle.pw_base.specs.KindRanges.{IsInRange}
 use Rattle.cycle_model.specs.Renderable.{FollowFrom, IsRenderable, IsRenderableEpoch, IsFitting, HasOrder, IsNodeOf}
 use Rattle.pw_top.specs.declared.first_plan.Form.{Form}
 use Rattle.pw_top.specs.FirstLines.{quantum_line, sink_line, link_line, cycles_line, quantum_of, cycles_of}
-use Rattle.pw_top.specs.FirstPlan.{form_of, source_nodes, sink_nodes, source_node, sink_node, shape_nodes, shape_links, port_forms, fresh_nodes}
+use Rattle.pw_top.specs.FirstPlan.{form_of, source_nodes, sink_nodes, source_node, sink_node, shape_nodes, shape_links, port_forms}
+use Rattle.pw_top.specs.FirstPlan.{fresh_nodes}
 use Rattle.pw_top.specs.FirstEpoch.{epochs_of, lines_of, plan_of, AreFirstWaves}
 
 -- the plan, by its parts
@@ -49,7 +51,14 @@ all_one P x h = All-cons P x [] h (All-nil P)
 module _ (plan : Plan) (cycles : ℕ) where
   abbrev lone_epoch : Epoch
   lone_epoch = record {
-    shape = record { quantum = plan.quantum; first = 0; cycles = suc cycles; driver = 63; nodes = shape_nodes None; links = shape_links None };
+    shape = record {
+      quantum = plan.quantum;
+      first = 0;
+      cycles = suc cycles;
+      driver = 63;
+      nodes = shape_nodes None;
+      links = shape_links None;
+    };
     forms = port_forms None;
     fresh = [];
   }
@@ -63,7 +72,8 @@ module _ (plan : Plan) (cycles : ℕ) where
   }
 
 -- where no link is made, the epochs can be rendered whatever the nodes
-lone_epochs : (plan : Plan) (cycles : ℕ) → plan.epochs ≡ epochs_of plan.quantum cycles None → FollowFrom 0 plan.epochs × All (IsRenderableEpoch plan) plan.epochs
+lone_epochs : (plan : Plan) (cycles : ℕ) → plan.epochs ≡ epochs_of plan.quantum cycles None → FollowFrom 0 plan.epochs
+    × All (IsRenderableEpoch plan) plan.epochs
 lone_epochs plan zero e = subst (λ es. FollowFrom 0 es × All (IsRenderableEpoch plan) es) (sym e) (tt, All-nil (IsRenderableEpoch plan))
 lone_epochs plan (suc cycles) e =
     subst (λ es. FollowFrom 0 es × All (IsRenderableEpoch plan) es) (sym e)
@@ -71,7 +81,8 @@ lone_epochs plan (suc cycles) e =
 
 lone_prompt : (quantum cycles : ℕ) → All (λ (e : Epoch). All (λ l. l.delayed ≡ false) e.shape.links) (epochs_of quantum cycles None)
 lone_prompt quantum zero = All-nil (λ (e : Epoch). All (λ l. l.delayed ≡ false) e.shape.links)
-lone_prompt quantum (suc cycles) = all_one (λ (e : Epoch). All (λ l. l.delayed ≡ false) e.shape.links) _ (All-nil (λ (l : ShapeLink). l.delayed ≡ false))
+lone_prompt quantum (suc cycles) = all_one (λ (e : Epoch). All (λ l. l.delayed ≡ false) e.shape.links) _
+    (All-nil (λ (l : ShapeLink). l.delayed ≡ false))
 
 few_epochs : (quantum cycles : ℕ) (form : Option Form) → length (epochs_of quantum cycles form) ≤ 1
 few_epochs quantum zero form = omega arith
@@ -86,7 +97,8 @@ module _ (names : List (List ℕ)) (quantum cycles : ℕ) where
   none_fit : (node : ℕ) → kind_at (made names quantum cycles None None []) node ≡ Source → count_by (λ (w : WavIn). w.node == node) [] ≡ 1
   none_fit node h = absurd (let e : Dummy ≡ Source = h in cc)
 
-  sink_fit : (sink : Line) (node : ℕ) → kind_at (made names quantum cycles (Some sink) None []) node ≡ Source → count_by (λ (w : WavIn). w.node == node) [] ≡ 1
+  sink_fit : (sink : Line) (node : ℕ) → kind_at (made names quantum cycles (Some sink) None []) node ≡ Source
+      → count_by (λ (w : WavIn). w.node == node) [] ≡ 1
   sink_fit sink zero h = absurd (let e : Sink ≡ Source = h in cc)
   sink_fit sink (suc n) h = absurd (let e : Dummy ≡ Source = h in cc)
 
@@ -95,14 +107,16 @@ module _ (names : List (List ℕ)) (quantum cycles : ℕ) where
   source_fit wav zero h = refl
   source_fit wav (suc n) h = absurd (let e : Dummy ≡ Source = h in cc)
 
-  both_fit : (sink : Line) (form : Option Form) (wav : Wav) (node : ℕ) → kind_at (made names quantum cycles (Some sink) form (the_wave wav ∷ [])) node ≡ Source
+  both_fit : (sink : Line) (form : Option Form) (wav : Wav) (node : ℕ)
+      → kind_at (made names quantum cycles (Some sink) form (the_wave wav ∷ [])) node ≡ Source
       → count_by (λ w. w.node == node) (the_wave wav ∷ []) ≡ 1
   both_fit sink form wav zero h = refl
   both_fit sink form wav (suc zero) h = absurd (let e : Sink ≡ Source = h in cc)
   both_fit sink form wav (suc (suc n)) h = absurd (let e : Dummy ≡ Source = h in cc)
 
   -- sources and sinks have no numbers
-  ranges_of : (sink : Option Line) (form : Option Form) (waves : List WavIn) → All (λ (n : PlanNode). IsInRange n.kind) (made names quantum cycles sink form waves).nodes
+  ranges_of : (sink : Option Line) (form : Option Form) (waves : List WavIn)
+      → All (λ (n : PlanNode). IsInRange n.kind) (made names quantum cycles sink form waves).nodes
   ranges_of None form [] = All-nil (λ (n : PlanNode). IsInRange n.kind)
   ranges_of None form (w ∷ ws) = all_one (λ (n : PlanNode). IsInRange n.kind) (source_node names) tt
   ranges_of (Some sink) form [] = all_one (λ (n : PlanNode). IsInRange n.kind) (sink_node names 0 form) tt
@@ -115,19 +129,24 @@ module _ (names : List (List ℕ)) (quantum cycles : ℕ) where
       let es = lone_epochs (made names quantum cycles sink None waves) cycles refl in
       record { few = few; ranges = ranges_of sink None waves; numbered = es.0; epochs = es.1; sources = fit }
 
-  lone_renders : (sink : Option Line) (wav : Wav) → IsRenderable (made names quantum cycles sink None (the_wave wav ∷ [])) (the_wave wav ∷ [])
+  lone_renders : (sink : Option Line) (wav : Wav) → IsRenderable (made names quantum cycles sink None (the_wave wav ∷ []))
+      (the_wave wav ∷ [])
   lone_renders None wav = lone None (the_wave wav ∷ []) (omega arith) (record {
-    sources = all_one (IsWaveOfSource (made names quantum cycles None None (the_wave wav ∷ []))) (the_wave wav) (record { source = refl; forms = lone_waves wav quantum cycles });
+    sources = all_one (IsWaveOfSource (made names quantum cycles None None (the_wave wav ∷ []))) (the_wave wav)
+        (record { source = refl; forms = lone_waves wav quantum cycles });
     one = source_fit wav;
   })
   lone_renders (Some sink) wav = lone (Some sink) (the_wave wav ∷ []) (omega arith) (record {
-    sources = all_one (IsWaveOfSource (made names quantum cycles (Some sink) None (the_wave wav ∷ []))) (the_wave wav) (record { source = refl; forms = lone_waves wav quantum cycles });
+    sources = all_one (IsWaveOfSource (made names quantum cycles (Some sink) None (the_wave wav ∷ []))) (the_wave wav)
+        (record { source = refl; forms = lone_waves wav quantum cycles });
     one = both_fit sink None wav;
   })
 
   waveless_renders : (sink : Option Line) → IsRenderable (made names quantum cycles sink None []) []
-  waveless_renders None = lone None [] (omega arith) (record { sources = All-nil (IsWaveOfSource (made names quantum cycles None None [])); one = none_fit })
-  waveless_renders (Some sink) = lone (Some sink) [] (omega arith) (record { sources = All-nil (IsWaveOfSource (made names quantum cycles (Some sink) None [])); one = sink_fit sink })
+  waveless_renders None = lone None [] (omega arith)
+      (record { sources = All-nil (IsWaveOfSource (made names quantum cycles None None [])); one = none_fit })
+  waveless_renders (Some sink) = lone (Some sink) [] (omega arith)
+      (record { sources = All-nil (IsWaveOfSource (made names quantum cycles (Some sink) None [])); one = sink_fit sink })
 
   -- a plan with its link
   module _ (sink : Line) (wav : Wav) where
@@ -135,9 +154,16 @@ module _ (names : List (List ℕ)) (quantum cycles : ℕ) where
     linked = made names quantum cycles (Some sink) (Some (wave_form wav)) (the_wave wav ∷ [])
 
     abbrev path : ShapeLink
-    path = record { from = record { node = 0; port = 0 }; to = record { node = 1; port = 0 }; channels = wav.channels; buffers = 2; delayed = false }
+    path = record {
+      from = record { node = 0; port = 0 };
+      to = record { node = 1; port = 0 };
+      channels = wav.channels;
+      buffers = 2;
+      delayed = false;
+    }
 
-    linked_fits : (epoch : Epoch) → epoch.shape.nodes ≡ shape_nodes (Some (wave_form wav)) → epoch.forms ≡ port_forms (Some (wave_form wav)) → IsFitting linked epoch path
+    linked_fits : (epoch : Epoch) → epoch.shape.nodes ≡ shape_nodes (Some (wave_form wav)) → epoch.forms ≡ port_forms (Some (wave_form wav))
+        → IsFitting linked epoch path
     linked_fits epoch nodes forms = record {
       from_active = subst (λ ns. Contains (map (λ (n : ShapeNode). n.node) ns) 0) (sym nodes) (0, omega arith, refl);
       to_active = subst (λ ns. Contains (map (λ (n : ShapeNode). n.node) ns) 1) (sym nodes) (1, omega arith, refl);
@@ -156,13 +182,22 @@ module _ (names : List (List ℕ)) (quantum cycles : ℕ) where
     linked_nodes : All (IsNodeOf linked) (shape_nodes (Some (wave_form wav)))
     linked_nodes =
         All-cons (IsNodeOf linked) (record { node = 0; required = 1; targets = 1 ∷ 63 ∷ [] })
-        (record { node = 1; required = 2; targets = 63 ∷ [] } ∷ record { node = 63; required = 3; targets = 0 ∷ 1 ∷ 63 ∷ [] } ∷ []) (inl (omega arith))
-        (all_two (IsNodeOf linked) (record { node = 1; required = 2; targets = 63 ∷ [] }) (record { node = 63; required = 3; targets = 0 ∷ 1 ∷ 63 ∷ [] })
+        (record { node = 1; required = 2; targets = 63 ∷ [] } ∷ record { node = 63; required = 3; targets = 0 ∷ 1 ∷ 63 ∷ [] } ∷ [])
+        (inl (omega arith))
+        (all_two (IsNodeOf linked) (record { node = 1; required = 2; targets = 63 ∷ [] })
+        (record { node = 63; required = 3; targets = 0 ∷ 1 ∷ 63 ∷ [] })
         (inl (omega arith)) (inr refl))
 
     abbrev linked_epoch : ℕ → Epoch
     linked_epoch n = record {
-      shape = record { quantum = quantum; first = 0; cycles = suc n; driver = 63; nodes = shape_nodes (Some (wave_form wav)); links = shape_links (Some (wave_form wav)) };
+      shape = record {
+        quantum = quantum;
+        first = 0;
+        cycles = suc n;
+        driver = 63;
+        nodes = shape_nodes (Some (wave_form wav));
+        links = shape_links (Some (wave_form wav));
+      };
       forms = port_forms (Some (wave_form wav));
       fresh = fresh_nodes (Some (wave_form wav));
     }
@@ -215,13 +250,15 @@ module _ (names : List (List ℕ)) (quantum cycles : ℕ) where
   renders_none (Some sink) None = waveless_renders (Some sink)
   renders_none (Some sink) (Some link) = waveless_renders (Some sink)
 
-  prompt_of : (sink link : Option Line) (waves : List WavIn) → All (λ (e : Epoch). All (λ l. l.delayed ≡ false) e.shape.links) (epochs_of quantum cycles (form_of sink link waves))
+  prompt_of : (sink link : Option Line) (waves : List WavIn)
+      → All (λ (e : Epoch). All (λ l. l.delayed ≡ false) e.shape.links) (epochs_of quantum cycles (form_of sink link waves))
   prompt_of None link waves = lone_prompt quantum cycles
   prompt_of (Some sink) None waves = lone_prompt quantum cycles
   prompt_of (Some sink) (Some link) [] = lone_prompt quantum cycles
   prompt_of (Some sink) (Some link) (w ∷ ws) = linked_prompt sink w.wav cycles
 
-  kinds_of : (sink : Option Line) (form : Option Form) (waves : List WavIn) → All (λ (n : PlanNode). IsSourceOrSink n.kind) (made names quantum cycles sink form waves).nodes
+  kinds_of : (sink : Option Line) (form : Option Form) (waves : List WavIn)
+      → All (λ (n : PlanNode). IsSourceOrSink n.kind) (made names quantum cycles sink form waves).nodes
   kinds_of None form [] = All-nil (λ (n : PlanNode). IsSourceOrSink n.kind)
   kinds_of None form (w ∷ ws) = all_one (λ (n : PlanNode). IsSourceOrSink n.kind) (source_node names) tt
   kinds_of (Some sink) form [] = all_one (λ (n : PlanNode). IsSourceOrSink n.kind) (sink_node names 0 form) tt
@@ -248,4 +285,5 @@ made_mixes names quantum cycles sink link waves = record {
 
 pub plan_renders : (script : Script) (waves : List WavIn) → AreFirstWaves waves → IsRenderable (plan_of script waves) waves
 plan_renders script waves h =
-    made_renders script.names (quantum_of (quantum_line script.lines)) (cycles_of (cycles_line script.lines)) (sink_line script.lines) (link_line script.lines) waves h
+    made_renders script.names (quantum_of (quantum_line script.lines)) (cycles_of (cycles_line script.lines)) (sink_line script.lines)
+    (link_line script.lines) waves h

@@ -1,5 +1,6 @@
 -- Laws of `specs/FirstStores.antt`: what is stored has a place, and is a wave that can be written.
-use Rattle.std.proofs.Common.{◌≡◌, ℕ, ℤ, zero, suc, ◌*◌, ◌%◌, ◌≤◌, Bool, true, false, cond, List, [], ◌∷◌, length, map, All, refl, sym, ap, subst, ◌∙◌, arith, rules}
+use Rattle.std.proofs.Common.{◌≡◌, ℕ, ℤ, zero, suc, ◌*◌, ◌%◌, ◌≤◌, Bool, true, false, cond, List, [], ◌∷◌, length, map, All, refl}
+use Rattle.std.proofs.Common.{sym, ap, subst, ◌∙◌, arith, rules}
 use Rattle.std.specs.Prelude.{Option, Some, None, find, nat_lt}
 use Rattle.std.proofs.Math.Nat.{mul-mod_left, zero-mul, mul_assoc}
 use Rattle.std.proofs.lemmas.List.Elements.{All-cons, All-nil}
@@ -37,12 +38,20 @@ found P test (y ∷ ys) x all e =
 
 abbrev linked_row : (wav : Wav) (quantum n : ℕ) → List WavIn → List ℤ
 linked_row wav quantum n waves = epoch_row (record {
-  shape = record { quantum = quantum; first = 0; cycles = n; driver = 63; nodes = shape_nodes (Some (wave_form wav)); links = shape_links (Some (wave_form wav)) };
+  shape = record {
+    quantum = quantum;
+    first = 0;
+    cycles = n;
+    driver = 63;
+    nodes = shape_nodes (Some (wave_form wav));
+    links = shape_links (Some (wave_form wav));
+  };
   forms = port_forms (Some (wave_form wav));
   fresh = fresh_nodes (Some (wave_form wav));
 }) waves (record { node = 1; port = 0 })
 
-length-linked_row : (wav : Wav) (quantum n : ℕ) (waves : List WavIn) → length (linked_row wav quantum n waves) ≡ n * (quantum * wav.channels)
+length-linked_row : (wav : Wav) (quantum n : ℕ) (waves : List WavIn)
+    → length (linked_row wav quantum n waves) ≡ n * (quantum * wav.channels)
 length-linked_row wav quantum n waves = length-map-range_with_len _ 0 (n * (quantum * wav.channels))
 
 module _ (names : List (List ℕ)) (quantum : ℕ) (sink link : Line) (w : WavIn) (first : AreFirstWaves (w ∷ [])) where
@@ -70,14 +79,16 @@ module _ (names : List (List ℕ)) (quantum : ℕ) (sink link : Line) (w : WavIn
   kept_wave n small = record {
     rate = first.1.rate;
     channels = first.1.channels;
-    whole = ap (λ k. k % w.wav.channels) (length-stream n ∙ sym (mul_assoc n quantum w.wav.channels)) ∙ mul-mod_left (n * quantum) w.wav.channels;
+    whole = ap (λ k. k % w.wav.channels) (length-stream n ∙ sym (mul_assoc n quantum w.wav.channels))
+        ∙ mul-mod_left (n * quantum) w.wav.channels;
     small = let e : length (end_stream (linked n) (w ∷ []) 1) ≡ n * (quantum * w.wav.channels) = length-stream n in omega arith;
   }
 
   storable : (n : ℕ) → 1 ≤ sink.line → n * (quantum * w.wav.channels) ≤ 134217728
       → All IsStorable (map (store_of (Some sink)) (rendered_sinks (linked n) (w ∷ [])))
   storable n placed small = subst (λ ks. All IsStorable (map (store_of (Some sink)) ks)) (sym (one_kept n))
-      (All-cons IsStorable (store_of (Some sink) (kept n)) [] (record { placed = placed; content = kept_wave n small }) (All-nil IsStorable))
+      (All-cons IsStorable (store_of (Some sink) (kept n)) [] (record { placed = placed; content = kept_wave n small })
+      (All-nil IsStorable))
 
 -- whatever the lines are
 all_storable : (names : List (List ℕ)) (quantum cycles : ℕ) (sink link : Option Line) (waves : List WavIn) → AreFirstWaves waves
@@ -88,7 +99,8 @@ all_storable names quantum cycles None link [] first placed small = All-nil IsSt
 all_storable names quantum cycles None link (w ∷ []) first placed small = All-nil IsStorable
 all_storable names quantum cycles None link (w ∷ x ∷ more) first placed small = absurd first
 all_storable names quantum cycles (Some sink) link [] first placed small = none link where
-  none : (l : Option Line) → All IsStorable (map (store_of (Some sink)) (rendered_sinks (made names quantum cycles (Some sink) (form_of (Some sink) l []) []) []))
+  none : (l : Option Line) → All IsStorable (map (store_of (Some sink))
+      (rendered_sinks (made names quantum cycles (Some sink) (form_of (Some sink) l []) []) []))
   none None = All-nil IsStorable
   none (Some l) = All-nil IsStorable
 all_storable names quantum cycles (Some sink) None (w ∷ []) first placed small = All-nil IsStorable
@@ -96,8 +108,10 @@ all_storable names quantum cycles (Some sink) (Some link) (w ∷ []) first place
     storable names quantum sink link w first cycles (placed sink refl) small
 all_storable names quantum cycles (Some sink) link (w ∷ x ∷ more) first placed small = absurd first
 
-pub stores_deliverable : (script : Script) (waves : List WavIn) → AreNumbered script → AreFirstWaves waves → sink_samples script waves ≤ 134217728
+pub stores_deliverable : (script : Script) (waves : List WavIn) → AreNumbered script → AreFirstWaves waves
+    → sink_samples script waves ≤ 134217728
     → All IsStorable (first_stores script waves)
 stores_deliverable script waves numbered first small =
-    all_storable script.names (quantum_of (quantum_line script.lines)) (cycles_of (cycles_line script.lines)) (sink_line script.lines) (link_line script.lines) waves first
+    all_storable script.names (quantum_of (quantum_line script.lines)) (cycles_of (cycles_line script.lines)) (sink_line script.lines)
+    (link_line script.lines) waves first
     (λ l e. found (λ x. 1 ≤ x.line) (λ x. is_sink x.command) script.lines l numbered e) small

@@ -23,11 +23,15 @@ made_lines names quantum cycles (Some sink) (Some link) [] = joins _
 made_lines names quantum cycles (Some sink) (Some link) (w ∷ ws) =
     let form = Some (record { rate = w.wav.rate; channels = w.wav.channels }) in
     let nodes = source_node names ∷ sink_node names 1 form ∷ [] in
-    All-cons (JoinsPorts nodes) _ [] (record { from = record { node = omega arith; port = omega arith }; to = record { node = omega arith; port = omega arith } })
+    All-cons (JoinsPorts nodes) _ [] (record {
+      from = record { node = omega arith; port = omega arith };
+      to = record { node = omega arith; port = omega arith };
+    })
     (joins nodes)
 
 pub plan_prints : (script : Script) (waves : List WavIn) → IsPrintable (plan_of script waves) None
 plan_prints script waves = record {
-  lines = made_lines script.names (quantum_of (quantum_line script.lines)) (cycles_of (cycles_line script.lines)) (sink_line script.lines) (link_line script.lines) waves;
+  lines = made_lines script.names (quantum_of (quantum_line script.lines)) (cycles_of (cycles_line script.lines)) (sink_line script.lines)
+      (link_line script.lines) waves;
   events = All-nil (NamesNodes (plan_of script waves).nodes);
 }

@@ -35,7 +35,8 @@ module _ (a : Answer) (s s' p p' : ℕ) (h h' : Held) (g g' : Given) where
     text = (g, gave_nothing (text_of a.outcome) g, inl f);
   }
 
-  refusal_line : (f f' : ℕ) (e : Status) → Ends a (Err e) → IsRefusal f f' e → h' ≡ h → GaveLine (line_of e) p p' g g' → Follows a s s' p p' h h' g g' e
+  refusal_line : (f f' : ℕ) (e : Status) → Ends a (Err e) → IsRefusal f f' e → h' ≡ h → GaveLine (line_of e) p p' g g'
+      → Follows a s s' p p' h h' g g' e
   refusal_line f f' S.Ok m c e l = absurd c
   refusal_line f f' (S.Usage n) (ends m) c e l = record { stop = ap status_of m; files = e; text = l }
   refusal_line f f' (S.Absent n) (ends m) c e l = record { stop = ap status_of m; files = e; text = l }
@@ -45,7 +46,11 @@ module _ (a : Answer) (s s' p p' : ℕ) (h h' : Held) (g g' : Given) where
   refusal_line f f' (S.Limit n w) (ends m) c e l = record { stop = ap status_of m; files = e; text = l }
   refusal_line f f' (S.ReadFault n) (ends m) c e l = record { stop = m; files = e; text = l }
   refusal_line f f' (S.WriteFault n) m c e l = absurd c
-  refusal_line f f' S.Memory m c e l = record { stop = tt; files = inl (0, e ∙ stored_nothing (stores_of a.outcome) h); text = (g, gave_nothing (text_of a.outcome) g, inr l) }
+  refusal_line f f' S.Memory m c e l = record {
+    stop = tt;
+    files = inl (0, e ∙ stored_nothing (stores_of a.outcome) h);
+    text = (g, gave_nothing (text_of a.outcome) g, inr l);
+  }
 
 refusal_lined : (f f' : ℕ) (e : Status) → IsRefusal f f' e → has_line e ≡ true
 refusal_lined f f' S.Ok c = absurd c
@@ -59,10 +64,12 @@ refusal_lined f f' (S.ReadFault n) c = refl
 refusal_lined f f' (S.WriteFault n) c = absurd c
 refusal_lined f f' S.Memory c = refl
 
-ends_lined : (status : Status) (before now : ℕ) (old new : Given) (result : Status) → has_line status ≡ true → LineEnds status before now old new result
+ends_lined : (status : Status) (before now : ℕ) (old new : Given) (result : Status) → has_line status ≡ true
+    → LineEnds status before now old new result
     → ((result ≡ status) × GaveLine (line_of status) before now old new) ⊎ ((result ≡ S.Memory) × (new ≡ old))
 ends_lined status before now old new result e l =
-    let P : Bool → Type 0 = λ b. MatchBool b (((result ≡ status) × GaveLine (line_of status) before now old new) ⊎ ((result ≡ S.Memory) × (new ≡ old))) ((result ≡ status) × (new ≡ old)) in
+    let P : Bool → Type 0 = λ b. MatchBool b (((result ≡ status) × GaveLine (line_of status) before now old new)
+    ⊎ ((result ≡ S.Memory) × (new ≡ old))) ((result ≡ status) × (new ≡ old)) in
     subst P e l
 
 -- a refusal, and its line
@@ -71,13 +78,15 @@ refused_ends : (a : Answer) (f f' s s' p p1 p' : ℕ) (h h' : Held) (g g1 g' : G
     → ((status ≡ e) × GaveLine (line_of e) p1 p' g1 g') ⊎ ((status ≡ S.Memory) × (g' ≡ g1))
     → Follows a s s' p p' h h' g g' status
 refused_ends a f f' s s' p p1 p' h h' g g1 g' e status l m c he ge (inl x) =
-    subst (λ r. Follows a s s' p p' h h' g g' r) (sym x.0) (refusal_line a s s' p p' h h' g g' f f' e m c he (line_later (line_of e) p p1 p' g g1 g' l ge x.1))
+    subst (λ r. Follows a s s' p p' h h' g g' r) (sym x.0)
+    (refusal_line a s s' p p' h h' g g' f f' e m c he (line_later (line_of e) p p1 p' g g1 g' l ge x.1))
 refused_ends a f f' s s' p p1 p' h h' g g1 g' e status l m c he ge (inr x) =
     subst (λ r. Follows a s s' p p' h h' g g' r) (sym x.0) (lost a s s' p p' h h' g g' he (x.1 ∙ ge))
 
 -- the same of work, whose stores and text are those of the answer
 module _ (a : Answer) (w : Work) (m : IsEnd a (Ok w)) (s s' p p1 p' : ℕ) (l : p ≤ p1) (h h' : Held) (g g1 g' : Given) where
-  follows : (status : Status) → StatusFollows a status → FilesFollow w.stores s s' h h' status → TextFollows w.text p p' g g' status → Follows a s s' p p' h h' g g' status
+  follows : (status : Status) → StatusFollows a status → FilesFollow w.stores s s' h h' status → TextFollows w.text p p' g g' status
+      → Follows a s s' p p' h h' g g' status
   follows status stop files text = record {
     stop = stop;
     files = subst (λ x. FilesFollow x s s' h h' status) (sym (ap stores_of m)) files;
@@ -87,7 +96,8 @@ module _ (a : Answer) (w : Work) (m : IsEnd a (Ok w)) (s s' p p1 p' : ℕ) (l : 
   done : AllStored w.stores h h' → Gave w.text g g1 → (status : Status) → (status ≡ S.Ok) × (g' ≡ g1) → Follows a s s' p p' h h' g g' status
   done d t status x = subst (λ r. Follows a s s' p p' h h' g g' r) (sym x.0) (follows S.Ok (ap status_of m) d (x.1 ∙ t))
 
-  put_failed : AllStored w.stores h h' → GavePart w.text g g1 → (status : Status) → (status ≡ S.WriteFault 0) × (g' ≡ g1) → Follows a s s' p p' h h' g g' status
+  put_failed : AllStored w.stores h h' → GavePart w.text g g1 → (status : Status) → (status ≡ S.WriteFault 0) × (g' ≡ g1)
+      → Follows a s s' p p' h h' g g' status
   put_failed d t status x = subst (λ r. Follows a s s' p p' h h' g g' r) (sym x.0) (follows (S.WriteFault 0) (ap status_of m)
       (λ z. d, λ ne. absurd (ne refl))
       (λ z. subst (λ y. GavePart w.text g y) (sym x.1) t, λ ne. absurd (ne refl)))
@@ -95,7 +105,8 @@ module _ (a : Answer) (w : Work) (m : IsEnd a (Ok w)) (s s' p p1 p' : ℕ) (l : 
   store_failed : (place : ℕ) → 0 < place → Rose s s' → CutAt w.stores place h h' → g1 ≡ g → (status : Status)
       → ((status ≡ S.WriteFault place) × GaveLine (line_of (S.WriteFault place)) p1 p' g1 g') ⊎ ((status ≡ S.Memory) × (g' ≡ g1))
       → Follows a s s' p p' h h' g g' status
-  store_failed place big rose cut ge status (inl x) = subst (λ r. Follows a s s' p p' h h' g g' r) (sym x.0) (follows (S.WriteFault place) (ap status_of m)
+  store_failed place big rose cut ge status (inl x) =
+      subst (λ r. Follows a s s' p p' h h' g g' r) (sym x.0) (follows (S.WriteFault place) (ap status_of m)
       (λ z. absurd (omega (arith, z, big)), λ ne. cut)
       (λ z. absurd (omega (arith, z, big)), λ ne. line_later (line_of (S.WriteFault place)) p p1 p' g g1 g' l ge x.1))
   store_failed place big rose cut ge status (inr x) = subst (λ r. Follows a s s' p p' h h' g g' r) (sym x.0) (follows S.Memory tt
@@ -112,12 +123,14 @@ module _ (a : Answer) (w : Work) (m : IsEnd a (Ok w)) (s s' p p1 p' : ℕ) (l : 
   place_lined : (place : ℕ) → 0 < place → has_line (S.WriteFault place) ≡ true
   place_lined place big = grind (arith, big)
 
-  work_ends : (mid status : Status) → WorkDelivered w s s' p p1 h h' g g1 mid → LineEnds mid p1 p' g1 g' status → Follows a s s' p p' h h' g g' status
+  work_ends : (mid status : Status) → WorkDelivered w s s' p p1 h h' g g1 mid → LineEnds mid p1 p' g1 g' status
+      → Follows a s s' p p' h h' g g' status
   work_ends S.Ok status d e = done d.0 d.1 status e
   work_ends (S.WriteFault place) status (inl x) e =
       let P : ℕ → Type 0 = λ n. LineEnds (S.WriteFault n) p1 p' g1 g' status in
       put_failed x.2 x.3 status (subst P x.0 e)
-  work_ends (S.WriteFault place) status (inr x) e = store_failed place x.0 x.1 x.2 x.3 status (ends_lined (S.WriteFault place) p1 p' g1 g' status (place_lined place x.0) e)
+  work_ends (S.WriteFault place) status (inr x) e =
+      store_failed place x.0 x.1 x.2 x.3 status (ends_lined (S.WriteFault place) p1 p' g1 g' status (place_lined place x.0) e)
   work_ends S.Memory status d e = memory_short d.0.0 d.0.1 d.1 status e
   work_ends (S.Usage n) status d e = absurd d
   work_ends (S.Absent n) status d e = absurd d

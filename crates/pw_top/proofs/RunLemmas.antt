@@ -11,6 +11,7 @@ use Rattle.pw_top.specs.FirstLines.{file_in}
 use Rattle.pw_top.specs.Run.{run_source, run_lines}
 
 pub sourced : (names : Names) (script : Script) (found : Option Line) (source : Line) (file : List ℕ) (r : Result Work Status)
-    → Some source ≡ found → file ≡ file_in source.command → Ends (run_source names script source.line file) r → Ends (run_lines names script found) r
+    → Some source ≡ found → file ≡ file_in source.command → Ends (run_source names script source.line file) r
+    → Ends (run_lines names script found) r
 sourced names script found source file r e f h =
     subst (λ o. Ends (run_lines names script o) r) e (subst (λ n. Ends (run_source names script source.line n) r) f h)

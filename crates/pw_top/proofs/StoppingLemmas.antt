@@ -33,14 +33,17 @@ stopped w s s' p p' h h' g (S.ReadFault n) all d = absurd d
 stopped w s s' p p' h h' g (S.WriteFault n) all d = inr (cut_placed w.stores n h h' all d.0, d.1, d.0, refl)
 stopped w s s' p p' h h' g S.Memory all d = ((d.0, d.1), gave_nothing w.text g)
 
-pub stop_stores : (made : Result Work Status) (w : Work) (xs : List Store) (stores stores' puts puts' : ℕ) (held held' : Held) (given : Given) (status : Status)
-    → made ≡ Ok w → xs ≡ w.stores → CanBeDelivered made → StoresDone xs stores stores' held held' (Err status) → Delivered made stores stores' puts puts' held held' given given status
+pub stop_stores : (made : Result Work Status) (w : Work) (xs : List Store) (stores stores' puts puts' : ℕ) (held held' : Held)
+    (given : Given) (status : Status)
+    → made ≡ Ok w → xs ≡ w.stores → CanBeDelivered made → StoresDone xs stores stores' held held' (Err status)
+    → Delivered made stores stores' puts puts' held held' given given status
 stop_stores made w xs s s' p p' h h' g status e f all d =
     subst (λ m. Delivered m s s' p p' h h' g g status) (sym e)
     (stopped w s s' p p' h h' g status (subst CanBeDelivered e all) (subst (λ ys. StoresDone ys s s' h h' (Err status)) f d))
 
 stopped_text : (w : Work) (stores stores' puts puts' : ℕ) (held held' : Held) (given given' : Given) (status : Status)
-    → AllStored w.stores held held' → TextDone w.text puts puts' given given' (Err status) → WorkDelivered w stores stores' puts puts' held held' given given' status
+    → AllStored w.stores held held' → TextDone w.text puts puts' given given' (Err status)
+    → WorkDelivered w stores stores' puts puts' held held' given given' status
 stopped_text w s s' p p' h h' g g' S.Ok a d = absurd d
 stopped_text w s s' p p' h h' g g' (S.Usage n) a d = absurd d
 stopped_text w s s' p p' h h' g g' (S.Absent n) a d = absurd d
@@ -54,7 +57,8 @@ stopped_text w s s' p p' h h' g g' S.Memory a d =
     let all : take (length w.stores) w.stores ≡ w.stores = grind (arith, take_all) in
     ((length w.stores, subst (λ x. AllStored x h h') (sym all) a), d)
 
-pub stop_text : (made : Result Work Status) (w : Work) (xs : List Store) (t : List ℕ) (stores stores' puts puts' : ℕ) (held held' : Held) (given given' : Given) (status : Status)
+pub stop_text : (made : Result Work Status) (w : Work) (xs : List Store) (t : List ℕ) (stores stores' puts puts' : ℕ) (held held' : Held)
+    (given given' : Given) (status : Status)
     → made ≡ Ok w → xs ≡ w.stores → t ≡ w.text → AllStored xs held held' → TextDone t puts puts' given given' (Err status)
     → Delivered made stores stores' puts puts' held held' given given' status
 stop_text made w xs t s s' p p' h h' g g' status e f k a d =

@@ -16,14 +16,17 @@ abbrev pub gone_on : {T : Type 0} → List ℕ → Expected T → Expected T
 gone_on loads rest = record { loads = loads ++ rest.loads; outcome = rest.outcome }
 
 -- a part with these loads, whose outcome P allows, and what comes next; where memory is short, no more is told
-pub data Then {T U : Type 0} (loads : List ℕ) (P : Result T Status → Type 0) (next : T → Expected U → Type 0) (e : Expected U) : Type 0 where
+pub data Then {T U : Type 0} (loads : List ℕ) (P : Result T Status → Type 0) (next : T → Expected U → Type 0)
+    (e : Expected U) : Type 0 where
   short : e ≡ ended loads S.Memory → Then loads P next e
   stops : (status : Status) → P (Err status) → e ≡ ended loads status → Then loads P next e
   goes : (x : T) (rest : Expected U) → P (Ok x) → next x rest → e ≡ gone_on loads rest → Then loads P next e
 
 -- THE STEPS of a command's definition: a load at a place, by a limit; a part that loads nothing; the last part
-abbrev pub Loads : {U : Type 0} → Names → ℕ → List ℕ → ℕ → Which → (List ℕ → Expected U → Type 0) → Expected U → Type 0
-Loads names place name limit which next = Then (place ∷ []) (λ outcome. outcome ≡ load_outcome names place name limit which) next
+abbrev pub Loads : {U : Type 0} → Names → ℕ → List ℕ → ℕ → Which → (List ℕ → Expected U → Type 0) → Expected U
+    → Type 0
+Loads names place name limit which next = Then (place ∷ [])
+    (λ outcome. outcome ≡ load_outcome names place name limit which) next
 
 abbrev pub Reads : {T U : Type 0} → (Result T Status → Type 0) → (T → Expected U → Type 0) → Expected U → Type 0
 Reads P next = Then [] P next

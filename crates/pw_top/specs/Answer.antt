@@ -42,7 +42,8 @@ load_outcome names place name limit which = load_of_some (names name) limit plac
 
 -- THE STEP of a command's definition: a load at a place, by a limit
 abbrev pub load_of : Names → ℕ → List ℕ → ℕ → Which → Expected (List ℕ)
-load_of names place name limit which = record { loads = place ∷ []; outcome = load_outcome names place name limit which }
+load_of names place name limit which = record
+    { loads = place ∷ []; outcome = load_outcome names place name limit which }
 
 abbrev pub loading : {U : Type 0} → Names → ℕ → List ℕ → ℕ → Which → (List ℕ → Expected U) → Expected U
 loading names place name limit which next = after (load_of names place name limit which) next

@@ -27,7 +27,8 @@ TextDone text before now old new (Err status) = ⊥
 
 -- of work, the stores and then the text
 abbrev pub WorkDelivered : Work → ℕ → ℕ → ℕ → ℕ → Held → Held → Given → Given → Status → Type 0
-WorkDelivered w stores stores' puts puts' held held' given given' S.Ok = AllStored w.stores held held' × Gave w.text given given'
+WorkDelivered w stores stores' puts puts' held held' given given' S.Ok = AllStored w.stores held held'
+    × Gave w.text given given'
 WorkDelivered w stores stores' puts puts' held held' given given' (S.WriteFault place) =
     ((place ≡ 0) × Rose puts puts' × AllStored w.stores held held' × GavePart w.text given given')
     ⊎ ((0 < place) × Rose stores stores' × CutAt w.stores place held held' × (given' ≡ given))
@@ -37,8 +38,10 @@ WorkDelivered w stores stores' puts puts' held held' given given' status = ⊥
 
 -- a refusal is delivered as it is
 abbrev pub Delivered : Result Work Status → ℕ → ℕ → ℕ → ℕ → Held → Held → Given → Given → Status → Type 0
-Delivered (Ok w) stores stores' puts puts' held held' given given' status = WorkDelivered w stores stores' puts puts' held held' given given' status
-Delivered (Err e) stores stores' puts puts' held held' given given' status = (status ≡ e) × (held' ≡ held) × (given' ≡ given)
+Delivered (Ok w) stores stores' puts puts' held held' given given' status =
+    WorkDelivered w stores stores' puts puts' held held' given given' status
+Delivered (Err e) stores stores' puts puts' held held' given given' status = (status ≡ e) × (held' ≡ held)
+    × (given' ≡ given)
 
 abbrev pub CanBeDelivered : Result Work Status → Type 0
 CanBeDelivered (Ok w) = IsDeliverable w

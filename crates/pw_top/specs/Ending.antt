@@ -34,7 +34,8 @@ pub record IsReadAt (loads : List ℕ) (status : Status) : Type 0 where
 -- the same as Ends, in the form that a `match` on the result wants
 abbrev pub Came : {T : Type 0} → Expected T → Result T Status → Type 0
 Came e (Ok x) = e.outcome ≡ Ok x
-Came e (Err status) = ((e.outcome ≡ Err status) × (is_plain status ≡ true)) ⊎ IsReadAt e.loads status ⊎ (status ≡ S.Memory)
+Came e (Err status) = ((e.outcome ≡ Err status) × (is_plain status ≡ true)) ⊎ IsReadAt e.loads status
+    ⊎ (status ≡ S.Memory)
 
 -- of all that can end a command before its stores, only a fault of a load has a cause outside
 abbrev pub IsRefusal : ℕ → ℕ → Status → Type 0

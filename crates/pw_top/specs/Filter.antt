@@ -1,4 +1,5 @@
--- The expected answer of `filter A B OUT`: two objects are loaded and read as formats, one after the other; what they have in
+-- The expected answer of `filter A B OUT`: two objects are loaded and read as formats, one after the other; what they
+-- have in
 -- common is stored as an object in its one spelling. PipeWire's documentation, "SPA POD"; spa/pod/filter.h.
 use Rattle.std.specs.Prelude.{◌≡◌, ℕ, List, [], ◌∷◌, ◌++◌, codes, Result, Ok, Err}
 use Rattle.pw_base.specs.Files.{Names}
@@ -23,7 +24,10 @@ use Rattle.pw_top.specs.FormatFile.{HoldsFormat}
 
 -- the object is stored in OUT
 abbrev pub common_work : List ℕ → Pod → Work
-common_work out pod = record { stores = record { place = 3; name = out; content = Bytes (canonical pod) } ∷ []; text = codes "common\n" }
+common_work out pod = record {
+  stores = record { place = 3; name = out; content = Bytes (canonical pod) } ∷ [];
+  text = codes "common\n";
+}
 
 -- nothing is stored
 abbrev pub clash_work : ℕ → Work
@@ -49,7 +53,8 @@ FiltersTo out a b outcome = (filtered : Filtered) × Filters a b filtered × Giv
 -- THE ANSWER: a second file is loaded only where the first is a format
 abbrev pub IsSecondAnswer : Names → List ℕ → List ℕ → Format → Answer → Type 0
 IsSecondAnswer names b out first =
-    Loads names 2 b pod_bytes_limit W.PodBytes (λ bytes. Reads (HoldsFormat 2 bytes) (λ second. Gives (FiltersTo out first second)))
+    Loads names 2 b pod_bytes_limit W.PodBytes
+    (λ bytes. Reads (HoldsFormat 2 bytes) (λ second. Gives (FiltersTo out first second)))
 
 abbrev pub IsFilterAnswer : Names → List ℕ → List ℕ → List ℕ → Answer → Type 0
 IsFilterAnswer names a b out =

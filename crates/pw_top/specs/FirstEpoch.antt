@@ -9,13 +9,21 @@ use Rattle.wav_files.specs.WavWriting.{IsWave}
 use Rattle.graph_script.specs.declared.script.Script.{Script}
 use Rattle.pw_top.specs.declared.first_plan.Form.{Form}
 use Rattle.pw_top.specs.FirstLines.{quantum_line, sink_line, link_line, cycles_line, quantum_of, cycles_of}
-use Rattle.pw_top.specs.FirstPlan.{form_of, channels_in, source_nodes, sink_nodes, source_out, sink_in, shape_nodes, shape_links, port_forms, fresh_nodes}
+use Rattle.pw_top.specs.FirstPlan.{form_of, channels_in, source_nodes, sink_nodes, source_out, sink_in, shape_nodes, shape_links}
+use Rattle.pw_top.specs.FirstPlan.{port_forms, fresh_nodes}
 
 -- one epoch, where there are cycles
 abbrev pub epochs_of : ℕ → ℕ → Option Form → List Epoch
 epochs_of quantum zero form = []
 epochs_of quantum (suc cycles) form = record {
-  shape = record { quantum = quantum; first = 0; cycles = suc cycles; driver = 63; nodes = shape_nodes form; links = shape_links form };
+  shape = record {
+    quantum = quantum;
+    first = 0;
+    cycles = suc cycles;
+    driver = 63;
+    nodes = shape_nodes form;
+    links = shape_links form;
+  };
   forms = port_forms form;
   fresh = fresh_nodes form;
 } ∷ []
@@ -34,15 +42,18 @@ abbrev pub plan_of : Script → List WavIn → Plan
 plan_of script waves = record {
   quantum = quantum_of (quantum_line script.lines);
   nodes = source_nodes script.names waves
-      ++ sink_nodes script.names (length (source_nodes script.names waves)) (script_form script waves) (sink_line script.lines);
-  epochs = epochs_of (quantum_of (quantum_line script.lines)) (cycles_of (cycles_line script.lines)) (script_form script waves);
+      ++ sink_nodes script.names (length (source_nodes script.names waves)) (script_form script waves)
+      (sink_line script.lines);
+  epochs = epochs_of (quantum_of (quantum_line script.lines)) (cycles_of (cycles_line script.lines))
+      (script_form script waves);
   lines = lines_of (script_form script waves);
 }
 
 -- the samples of its sink
 abbrev pub sink_samples : Script → List WavIn → ℕ
 sink_samples script waves =
-    cycles_of (cycles_line script.lines) * (quantum_of (quantum_line script.lines) * channels_in (script_form script waves))
+    cycles_of (cycles_line script.lines) * (quantum_of (quantum_line script.lines) * channels_in
+    (script_form script waves))
 
 -- lines are numbered from 1, so that no place of a line is that of the text
 abbrev pub AreNumbered : Script → Type 0

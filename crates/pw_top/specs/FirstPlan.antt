@@ -30,7 +30,13 @@ source_node names = record { name = slice_index_or names 0 []; kind = K.Source; 
 
 abbrev pub sink_node : List (List ℕ) → ℕ → Option Form → PlanNode
 sink_node names place form =
-    record { name = slice_index_or names place []; kind = K.Sink; k = place; rate = rate_in form; channels = channels_in form }
+    record {
+      name = slice_index_or names place [];
+      kind = K.Sink;
+      k = place;
+      rate = rate_in form;
+      channels = channels_in form;
+    }
 
 abbrev pub source_nodes : List (List ℕ) → List WavIn → List PlanNode
 source_nodes names [] = []
@@ -55,12 +61,19 @@ shape_nodes (Some form) =
 
 abbrev pub shape_links : Option Form → List ShapeLink
 shape_links None = []
-shape_links (Some form) = record { from = source_out; to = sink_in; channels = form.channels; buffers = 2; delayed = false } ∷ []
+shape_links (Some form) = record {
+  from = source_out;
+  to = sink_in;
+  channels = form.channels;
+  buffers = 2;
+  delayed = false;
+} ∷ []
 
 abbrev pub port_forms : Option Form → List PortForm
 port_forms None = []
 port_forms (Some form) =
-    record { port = source_out; rate = form.rate; channels = form.channels } ∷ record { port = sink_in; rate = form.rate; channels = form.channels } ∷ []
+    record { port = source_out; rate = form.rate; channels = form.channels } ∷ record
+    { port = sink_in; rate = form.rate; channels = form.channels } ∷ []
 
 abbrev pub fresh_nodes : Option Form → List Fresh
 fresh_nodes None = []

@@ -34,7 +34,8 @@ pub record CutAt (stores : List Store) (place : ℕ) (old new : Held) : Type 0 w
   pub kept : ℕ
   pub there : slice_get stores before ≡ Some store
   pub here : store.place ≡ place
-  pub held : new ≡ option_map (λ names. stored store.name (take kept (bytes_of store.content)) (stored_all (take before stores) names)) old
+  pub held : new ≡ option_map (λ names. stored store.name (take kept (bytes_of store.content))
+      (stored_all (take before stores) names)) old
 
 -- a line was given; of a failed put, a prefix
 abbrev pub GaveLine : List ℕ → ℕ → ℕ → Given → Given → Type 0
@@ -63,12 +64,16 @@ StatusFollows a status = status_of a.outcome ≡ status
 
 abbrev pub FilesFollow : List Store → ℕ → ℕ → Held → Held → Status → Type 0
 FilesFollow stores before now old new S.Ok = AllStored stores old new
-FilesFollow stores before now old new (S.WriteFault place) = (place ≡ 0 → AllStored stores old new) × (place ≢ 0 → CutAt stores place old new)
-FilesFollow stores before now old new S.Memory = ((i : ℕ) × AllStored (take i stores) old new) ⊎ ((place : ℕ) × CutAt stores place old new × Rose before now)
+FilesFollow stores before now old new (S.WriteFault place) = (place ≡ 0 → AllStored stores old new)
+    × (place ≢ 0 → CutAt stores place old new)
+FilesFollow stores before now old new S.Memory = ((i : ℕ) × AllStored (take i stores) old new)
+    ⊎ ((place : ℕ) × CutAt stores place old new × Rose before now)
 FilesFollow stores before now old new status = new ≡ old
 
 abbrev pub TextFollows : List ℕ → ℕ → ℕ → Given → Given → Status → Type 0
 TextFollows text before now old new S.Ok = Gave text old new
-TextFollows text before now old new (S.WriteFault place) = (place ≡ 0 → GavePart text old new) × (place ≢ 0 → GaveLine (line_of (S.WriteFault place)) before now old new)
-TextFollows text before now old new S.Memory = (mid : Given) × GavePart text old mid × ((new ≡ mid) ⊎ GaveLine (line_of S.Memory) before now mid new)
+TextFollows text before now old new (S.WriteFault place) = (place ≡ 0 → GavePart text old new)
+    × (place ≢ 0 → GaveLine (line_of (S.WriteFault place)) before now old new)
+TextFollows text before now old new S.Memory = (mid : Given) × GavePart text old mid
+    × ((new ≡ mid) ⊎ GaveLine (line_of S.Memory) before now mid new)
 TextFollows text before now old new status = GaveLine (line_of status) before now old new

@@ -23,7 +23,8 @@ format_refusal place F.Memory = S.Memory
 -- what a value is read as
 abbrev pub IsFormatIn : ℕ → Pod → Result Format Status → Type 0
 IsFormatIn place pod (Ok format) = IsFormatOf pod format
-IsFormatIn place pod (Err status) = (fault : FormatFault) × IsFirstFault pod fault × (status ≡ format_refusal place fault)
+IsFormatIn place pod (Err status) = (fault : FormatFault) × IsFirstFault pod fault
+    × (status ≡ format_refusal place fault)
 
 -- what a file's one value is read as, where it has one
 abbrev pub IsFormatOfFile : ℕ → Result Pod Status → Result Format Status → Type 0

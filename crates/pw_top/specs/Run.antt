@@ -37,7 +37,8 @@ work_of script waves = record {
 -- a sink of too many samples is refused at the line that asks for its cycles
 abbrev pub run_plan : Script → List WavIn → Answer
 run_plan script waves =
-    if nat_lt sink_samples_limit (sink_samples script waves) then refused (S.Limit (number_of (cycles_line script.lines)) W.SinkSamples)
+    if nat_lt sink_samples_limit (sink_samples script waves)
+    then refused (S.Limit (number_of (cycles_line script.lines)) W.SinkSamples)
     else given (work_of script waves)
 
 -- the source's file is a wave, or refused at its line

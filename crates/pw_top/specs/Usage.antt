@@ -1,6 +1,8 @@
--- The grammar of command lines: so far `run SCRIPT`, `dump FILE` and `filter A B OUT`. Of words outside it, the first at
+-- The grammar of command lines: so far `run SCRIPT`, `dump FILE` and `filter A B OUT`. Of words outside it, the first
+-- at
 -- fault; where more are wanted, their number.
-use Rattle.std.specs.Prelude.{◌≡◌, ℕ, ◌==◌, ◌&&◌, Bool, false, not, nat_le, if◌then◌else◌, List, [], ◌∷◌, length, codes, bytes_eq, Result, Ok, Err}
+use Rattle.std.specs.Prelude.{◌≡◌, ℕ, ◌==◌, ◌&&◌, Bool, false, not, nat_le, if◌then◌else◌, List, [], ◌∷◌, length, codes, bytes_eq}
+use Rattle.std.specs.Prelude.{Result, Ok, Err}
 use Rattle.pw_top.specs.declared.status.Status.{Status}
 use Rattle.pw_top.specs.declared.status.Status.TheVariants as S
 use Rattle.pw_top.specs.declared.usage.Command.{Command}
@@ -31,7 +33,8 @@ unfoldable pub one_file : Words → Result (List ℕ) Status
 one_file words = then_file 1 words (λ file rest. then_nothing 2 rest file)
 
 unfoldable pub three_files : Words → Result FilterFiles Status
-three_files words = then_file 1 words (λ a bs. then_file 2 bs (λ b outs. then_file 3 outs (λ out rest. then_nothing 4 rest (record { a = a; b = b; out = out }))))
+three_files words = then_file 1 words (λ a bs. then_file 2 bs
+    (λ b outs. then_file 3 outs (λ out rest. then_nothing 4 rest (record { a = a; b = b; out = out }))))
 
 abbrev pub run_of : Result (List ℕ) Status → Result Command Status
 run_of (Ok script) = Ok (C.Run (record { script = script }))

@@ -55,7 +55,8 @@ fn store_one<F: Files>(
 /// Makes the stores in order, up to one that fails.
 pub fn store_all<F: Files>(alloc: Global, files: &mut F, stores: &[Store]) -> Result<(), Status>
     requires { All IsStorable stores.now }
-    ensures done { StoresDone stores.now (F.store_faults files.old) (F.store_faults files.new) (F.held files.old) (F.held files.new) result }
+    ensures done { StoresDone stores.now (F.store_faults files.old) (F.store_faults files.new)
+        (F.held files.old) (F.held files.new) result }
     ensures later { F.store_faults files.old ≤ F.store_faults files.new }
     ensures loads { F.load_faults files.new ≡ F.load_faults files.old }
 {
@@ -85,7 +86,8 @@ fn piece_end(done: usize, len: usize) -> usize
 
 /// Puts the text, in pieces, up to one that fails.
 pub fn put_text<O: Sink>(alloc: Global, out: &mut O, text: &[u8]) -> Result<(), Status>
-    ensures done { TextDone text.now (O.faults out.old) (O.faults out.new) (O.given out.old) (O.given out.new) result }
+    ensures done { TextDone text.now (O.faults out.old) (O.faults out.new) (O.given out.old)
+        (O.given out.new) result }
     ensures later { O.faults out.old ≤ O.faults out.new }
 {
     let mut done = 0;
@@ -102,7 +104,8 @@ pub fn put_text<O: Sink>(alloc: Global, out: &mut O, text: &[u8]) -> Result<(), 
 
 /// Puts the line of a status that has one. A put that fails leaves the status, and want of memory is the status then.
 pub fn end_line<O: Sink>(alloc: Global, out: &mut O, status: Status) -> Status
-    ensures ends { LineEnds status (O.faults out.old) (O.faults out.new) (O.given out.old) (O.given out.new) result }
+    ensures ends { LineEnds status (O.faults out.old) (O.faults out.new) (O.given out.old)
+        (O.given out.new) result }
     ensures later { O.faults out.old ≤ O.faults out.new }
 {
     if !is_lined(status) {
@@ -122,7 +125,8 @@ pub fn deliver<F: Files, O: Sink>(
     made: &Result<Work, Status>,
 ) -> Status
     requires { CanBeDelivered made.now }
-    ensures delivered { Delivered made.now (F.store_faults files.old) (F.store_faults files.new) (O.faults out.old) (O.faults out.new)
+    ensures delivered { Delivered made.now (F.store_faults files.old) (F.store_faults files.new)
+        (O.faults out.old) (O.faults out.new)
         (F.held files.old) (F.held files.new) (O.given out.old) (O.given out.new) result }
     ensures later { F.store_faults files.old ≤ F.store_faults files.new }
     ensures later_put { O.faults out.old ≤ O.faults out.new }

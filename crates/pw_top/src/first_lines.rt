@@ -1,6 +1,7 @@
 //! The lines of a script of the first path.
 ghost use Rattle.std.specs.Prelude.{◌≡◌, option_copied, IfOk};
-ghost use Rattle.pw_top.specs.FirstLines.{is_quantum, is_source, is_sink, is_link, is_cycles, quantum_line, source_line, sink_line, link_line, cycles_line, number_of, file_in, quantum_of, cycles_of};
+ghost use Rattle.pw_top.specs.FirstLines.{is_quantum, is_source, is_sink, is_link, is_cycles, quantum_line, source_line, sink_line};
+ghost use Rattle.pw_top.specs.FirstLines.{link_line, cycles_line, number_of, file_in, quantum_of, cycles_of};
 
 use graph_script::{Command, Line};
 use pw_base::{Items, Memory, Text};

@@ -1,6 +1,7 @@
 //! The plan of a script of the first path.
 ghost use Rattle.std.specs.Prelude.{◌≡◌, ℕ, ◌++◌, length, IfOk, slice_index_or, [], ◌∷◌, ◌<◌};
-ghost use Rattle.pw_top.specs.FirstPlan.{form_of, rate_in, channels_in, source_node, sink_node, source_nodes, sink_nodes, shape_nodes, shape_links, port_forms, fresh_nodes};
+ghost use Rattle.pw_top.specs.FirstPlan.{form_of, rate_in, channels_in, source_node, sink_node, source_nodes, sink_nodes, shape_nodes};
+ghost use Rattle.pw_top.specs.FirstPlan.{shape_links, port_forms, fresh_nodes};
 ghost use Rattle.pw_top.specs.FirstEpoch.{epochs_of, lines_of, script_form, plan_of};
 ghost use Rattle.pw_top.specs.FirstLines.{sink_line, link_line};
 

@@ -18,9 +18,11 @@ pub fn load_step<F: Files>(
     which: Which,
 ) -> Result<Items<u8>, Status>
     ensures held { F.held files.new ≡ F.held files.old }
-    ensures told { IsSome (F.held files.old) → Came (load_of (names_in (F.held files.old)) place name.now limit which) result }
+    ensures told { IsSome (F.held files.old)
+        → Came (load_of (names_in (F.held files.old)) place name.now limit which) result }
     ensures later { F.load_faults files.old ≤ F.load_faults files.new }
-    ensures cause { CommandCause (λ bytes. length bytes ≤ limit) (F.load_faults files.old) (F.load_faults files.new) result }
+    ensures cause { CommandCause (λ bytes. length bytes ≤ limit) (F.load_faults files.old)
+        (F.load_faults files.new) result }
     ensures stores { F.store_faults files.new ≡ F.store_faults files.old }
 {
     match files.load(alloc, name, limit) {

@@ -30,8 +30,10 @@ pub trait Prepare {
         history: &mut Items<Event>,
     ) -> Result<Work, Status>
         ensures held { F.held files.new ≡ F.held files.old }
-        ensures told { IsSome (F.held files.old) → Ends (answer self history.new (names_in (F.held files.old))) result }
+        ensures told { IsSome (F.held files.old)
+            → Ends (answer self history.new (names_in (F.held files.old))) result }
         ensures later { F.load_faults files.old ≤ F.load_faults files.new }
-        ensures cause { CommandCause IsDeliverable (F.load_faults files.old) (F.load_faults files.new) result }
+        ensures cause { CommandCause IsDeliverable (F.load_faults files.old)
+            (F.load_faults files.new) result }
         ensures stores { F.store_faults files.new ≡ F.store_faults files.old };
 }

@@ -32,9 +32,11 @@ impl Command {
         history: &mut Items<Event>,
     ) -> Result<Work, Status>
         ensures held { F.held files.new ≡ F.held files.old }
-        ensures told { IsSome (F.held files.old) → EndsAs (IsAnswerTo self history.new (names_in (F.held files.old))) result }
+        ensures told { IsSome (F.held files.old)
+            → EndsAs (IsAnswerTo self history.new (names_in (F.held files.old))) result }
         ensures later { F.load_faults files.old ≤ F.load_faults files.new }
-        ensures cause { CommandCause IsDeliverable (F.load_faults files.old) (F.load_faults files.new) result }
+        ensures cause { CommandCause IsDeliverable (F.load_faults files.old)
+            (F.load_faults files.new) result }
         ensures stores { F.store_faults files.new ≡ F.store_faults files.old }
     {
         match self {
@@ -56,7 +58,8 @@ fn prepare_words<R: Threads + Wait + Sync, F: Files, G: Gate + Sync, K: Ticker>(
     history: &mut Items<Event>,
 ) -> Result<Work, Status>
     ensures held { F.held files.new ≡ F.held files.old }
-    ensures told { IsSome (F.held files.old) → EndsAs (IsAnswer (map string_bytes words.now) history.new (names_in (F.held files.old))) result }
+    ensures told { IsSome (F.held files.old)
+        → EndsAs (IsAnswer (map string_bytes words.now) history.new (names_in (F.held files.old))) result }
     ensures later { F.load_faults files.old ≤ F.load_faults files.new }
     ensures cause { PrepareCause IsDeliverable (F.load_faults files.old) (F.load_faults files.new) result }
     ensures stores { F.store_faults files.new ≡ F.store_faults files.old }
@@ -103,7 +106,8 @@ pub fn run_words<R: Threads + Wait + Sync, F: Files, O: Sink, G: Gate + Sync, K:
     ensures usage { IsUsage (command_of (map string_bytes words.now)) result.status }
 
     // Where no count of faults rose, the status is an expected answer's, or memory was short.
-    ensures complete { IsSome (F.held files.old) → ¬ Rose (F.load_faults files.old) (F.load_faults files.new) →
+    ensures complete { IsSome (F.held files.old)
+        → ¬ Rose (F.load_faults files.old) (F.load_faults files.new) →
         ¬ Rose (F.store_faults files.old) (F.store_faults files.new) → ¬ Rose (O.faults out.old) (O.faults out.new) →
         (a : Answer) × IsAnswer (map string_bytes words.now) result.history (names_in (F.held files.old)) a ×
         ((result.status ≡ status_of a.outcome) ⊎ (result.status ≡ Status.Memory)) }

@@ -1,6 +1,7 @@
 //! The words of a command line.
 ghost use Rattle.std.specs.Prelude.{◌≡◌, ℕ, ◌<◌, map, string_bytes, length, IfOk, Ok};
-ghost use Rattle.pw_top.specs.Usage.{is_file_word, then_file, then_nothing, one_file, three_files, run_of, dump_of, filter_of, command_of, IsRead};
+ghost use Rattle.pw_top.specs.Usage.{is_file_word, then_file, then_nothing, one_file, three_files, run_of, dump_of, filter_of, command_of};
+ghost use Rattle.pw_top.specs.Usage.{IsRead};
 
 use crate::commands::dump::DumpFile;
 use crate::commands::filter_files::FilterFiles;
@@ -58,7 +59,11 @@ fn one_file(alloc: Global, rest: &[String]) -> Result<Text, Status>
 
 // Three words as the names of files.
 fn names_of(alloc: Global, a: &String, b: &String, out: &String) -> Result<FilterFiles, Status>
-    ensures { IsRead (Ok (record { a = string_bytes a.now; b = string_bytes b.now; out = string_bytes out.now })) result }
+    ensures { IsRead (Ok (record {
+      a = string_bytes a.now;
+      b = string_bytes b.now;
+      out = string_bytes out.now;
+    })) result }
 {
     match (name_of(alloc, a), name_of(alloc, b), name_of(alloc, out)) {
         (Ok(a), Ok(b), Ok(out)) => Ok(FilterFiles { a, b, out }),
@@ -68,7 +73,9 @@ fn names_of(alloc: Global, a: &String, b: &String, out: &String) -> Result<Filte
 
 // The third file, and nothing behind it.
 fn third_file(alloc: Global, a: &String, b: &String, rest: &[String]) -> Result<FilterFiles, Status>
-    ensures { IsRead (then_file 3 (map string_bytes rest.now) (λ out rest. then_nothing 4 rest (record { a = string_bytes a.now; b = string_bytes b.now; out = out }))) result }
+    ensures { IsRead (then_file 3 (map string_bytes rest.now)
+        (λ out rest. then_nothing 4 rest (record
+        { a = string_bytes a.now; b = string_bytes b.now; out = out }))) result }
 {
     match rest {
         [] => Err(Status::Usage { word: 3 }),
@@ -86,7 +93,9 @@ fn third_file(alloc: Global, a: &String, b: &String, rest: &[String]) -> Result<
 
 // The second file and what stands behind it.
 fn second_file(alloc: Global, a: &String, rest: &[String]) -> Result<FilterFiles, Status>
-    ensures { IsRead (then_file 2 (map string_bytes rest.now) (λ b outs. then_file 3 outs (λ out rest. then_nothing 4 rest (record { a = string_bytes a.now; b = b; out = out })))) result }
+    ensures { IsRead (then_file 2 (map string_bytes rest.now)
+        (λ b outs. then_file 3 outs (λ out rest. then_nothing 4 rest
+        (record { a = string_bytes a.now; b = b; out = out })))) result }
 {
     match rest {
         [] => Err(Status::Usage { word: 2 }),

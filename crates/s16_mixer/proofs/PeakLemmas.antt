@@ -38,18 +38,21 @@ fold_first x xs = fold_max (max 0 x) xs ∙ zero_max x (fold max 0 xs)
 pub peak_append : (xs ys : List ℤ) → peak_of (xs ++ ys) ≡ max (peak_of xs) (peak_of ys)
 peak_append [] ys = omega arith
 peak_append (x ∷ xs) ys =
-    peak_first x (xs ++ ys) ∙ ap (max (unsigned_abs x)) (peak_append xs ys) ∙ assoc (unsigned_abs x) (peak_of xs) (peak_of ys) ∙ ap (λ m. max m (peak_of ys)) (sym (peak_first x xs))
+    peak_first x (xs ++ ys) ∙ ap (max (unsigned_abs x)) (peak_append xs ys) ∙ assoc (unsigned_abs x) (peak_of xs) (peak_of ys)
+    ∙ ap (λ m. max m (peak_of ys)) (sym (peak_first x xs))
   where
     assoc : (a x m : ℕ) → max a (max x m) ≡ max (max a x) m
     assoc a x m = omega arith
 
 -- tops that are raised in their places
-pub raised : (tops : List ℕ) (s : List ℤ) → length tops ≡ length s → fold max 0 (map (λ p. max p.0 (unsigned_abs p.1)) (zip tops s)) ≡ max (fold max 0 tops) (peak_of s)
+pub raised : (tops : List ℕ) (s : List ℤ) → length tops ≡ length s
+    → fold max 0 (map (λ p. max p.0 (unsigned_abs p.1)) (zip tops s)) ≡ max (fold max 0 tops) (peak_of s)
 raised [] [] h = refl
 raised [] (x ∷ xs) h = absurd (omega (arith, h))
 raised (t ∷ ts) [] h = absurd (omega (arith, h))
 raised (t ∷ ts) (x ∷ xs) h =
-    fold_first (max t (unsigned_abs x)) (map (λ (p : ℕ × ℤ). max p.0 (unsigned_abs p.1)) (zip ts xs)) ∙ ap (max (max t (unsigned_abs x))) (raised ts xs (omega (arith, h)))
+    fold_first (max t (unsigned_abs x)) (map (λ (p : ℕ × ℤ). max p.0 (unsigned_abs p.1)) (zip ts xs))
+    ∙ ap (max (max t (unsigned_abs x))) (raised ts xs (omega (arith, h)))
     ∙ both t (unsigned_abs x) (fold max 0 ts) (peak_of xs) ∙ ap₂ max (sym (fold_first t ts)) (sym (peak_first x xs))
   where
     both : (a b m n : ℕ) → max (max a b) (max m n) ≡ max (max a m) (max b n)

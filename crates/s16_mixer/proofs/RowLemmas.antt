@@ -1,5 +1,6 @@
 -- Rows that are written over from the front.
-use Rattle.std.proofs.Common.{◌≡◌, ℕ, suc, zero, ◌+◌, ◌<◌, ◌≤◌, List, [], ◌∷◌, ◌++◌, length, get_or, set, take, drop, map, refl, ap, arith}
+use Rattle.std.proofs.Common.{◌≡◌, ℕ, suc, zero, ◌+◌, ◌<◌, ◌≤◌, List, [], ◌∷◌, ◌++◌, length, get_or, set, take, drop, map, refl}
+use Rattle.std.proofs.Common.{ap, arith}
 use Rattle.std.specs.List.{zip, range_with_len}
 
 -- one more of a map
@@ -13,12 +14,14 @@ map_over f (x ∷ xs) (y ∷ ys) (suc i) d h k = ap (λ t. f x ∷ t) (map_over 
 -- one more of a map of two rows
 pub zip_over : {A B C : Type 0} (f : A × B → C) (ps : List A) (qs : List B) (ys : List C) (i : ℕ) (d : A) (e : B)
     → i < length ps → length ps ≡ length qs → length ys ≡ length ps
-    → set (map f (zip (take i ps) (take i qs)) ++ drop i ys) i (f (get_or ps i d, get_or qs i e)) ≡ map f (zip (take (suc i) ps) (take (suc i) qs)) ++ drop (suc i) ys
+    → set (map f (zip (take i ps) (take i qs)) ++ drop i ys) i (f (get_or ps i d, get_or qs i e))
+    ≡ map f (zip (take (suc i) ps) (take (suc i) qs)) ++ drop (suc i) ys
 zip_over f [] qs ys i d e h k l = absurd (omega arith)
 zip_over f (a ∷ ps) [] ys i d e h k l = absurd (omega arith)
 zip_over f (a ∷ ps) (b ∷ qs) [] i d e h k l = absurd (omega arith)
 zip_over f (a ∷ ps) (b ∷ qs) (y ∷ ys) zero d e h k l = refl
-zip_over f (a ∷ ps) (b ∷ qs) (y ∷ ys) (suc i) d e h k l = ap (λ t. f (a, b) ∷ t) (zip_over f ps qs ys i d e (omega arith) (omega arith) (omega arith))
+zip_over f (a ∷ ps) (b ∷ qs) (y ∷ ys) (suc i) d e h k l =
+    ap (λ t. f (a, b) ∷ t) (zip_over f ps qs ys i d e (omega arith) (omega arith) (omega arith))
 
 -- what is not written over yet is ps it was
 pub zip_past : {A B C : Type 0} (f : A × B → C) (ps : List A) (qs : List B) (ys : List C) (i : ℕ) (d : C)
@@ -38,7 +41,8 @@ range_over f a (y ∷ ys) zero j h e = let same : j ≡ a = omega arith in ap (�
 range_over f a (y ∷ ys) (suc i) j h e = ap (λ t. f a ∷ t) (range_over f (a + 1) ys i j (omega arith) (omega arith))
 
 -- one more of a map that is written in the middle of a row, from n on
-pub piece_over : {A B : Type 0} (f : A → B) (xs : List A) (ys : List B) (n j m : ℕ) (d : A) → j < length xs → n + length xs ≤ length ys → m ≡ n + j
+pub piece_over : {A B : Type 0} (f : A → B) (xs : List A) (ys : List B) (n j m : ℕ) (d : A) → j < length xs → n + length xs ≤ length ys
+    → m ≡ n + j
     → set (take n ys ++ map f (take j xs) ++ drop m ys) m (f (get_or xs j d)) ≡ take n ys ++ map f (take (suc j) xs) ++ drop (suc m) ys
 piece_over f xs ys zero j m d h k e = let same : m ≡ j = omega arith in rw same (map_over f xs ys j d h (omega arith))
 piece_over f xs [] (suc n) j m d h k e = absurd (omega arith)

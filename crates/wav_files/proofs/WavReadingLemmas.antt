@@ -1,5 +1,8 @@
 -- What writing and reading have to do with each other, and one step of reading along a list of chunks.
-use Rattle.std.proofs.Common.{◌≡◌, ℕ, suc, ◌+◌, ◌*◌, ◌/◌, ◌%◌, ◌<◌, ◌≤◌, ◌&&◌, ◌==◌, not, nat_lt, nat_le, bytes_eq, codes, Option, Some, None, Bool, true, false, List, [], ◌∷◌, ◌++◌, length, take, drop, get_or, refl, sym, ap, ap₂, ◌∙◌, arith, ℤ, pos, length-append, length-drop, length-take-le, take_at, take_all, append_assoc, lit<, append-nil, FitsSigned, Ok, Err, to_z-of_z}
+use Rattle.std.proofs.Common.{◌≡◌, ℕ, suc, ◌+◌, ◌*◌, ◌/◌, ◌%◌, ◌<◌, ◌≤◌, ◌&&◌, ◌==◌, not, nat_lt, nat_le, bytes_eq}
+use Rattle.std.proofs.Common.{codes, Option, Some, None, Bool, true, false, List, [], ◌∷◌, ◌++◌, length, take, drop, get_or, refl, sym, ap}
+use Rattle.std.proofs.Common.{ap₂, ◌∙◌, arith, ℤ, pos, length-append, length-drop, length-take-le, take_at, take_all, append_assoc, lit<}
+use Rattle.std.proofs.Common.{append-nil, FitsSigned, Ok, Err, to_z-of_z}
 use mir.Facts.{Fits-of_z}
 use Rattle.std.proofs.lemmas.List.{take_more}
 use Rattle.std.proofs.lemmas.Grind.{flat_map-append}
@@ -28,17 +31,20 @@ length-sample_bytes [] = refl
 length-sample_bytes (z ∷ zs) = let e = length-sample_bytes zs in omega (arith, e)
 
 -- the bytes of samples are these samples
-pub samples_in-sample_bytes : (zs : List ℤ) → ((k : ℕ) → k < length zs → FitsSigned w16 (get_or zs k (pos 0))) → samples_in (sample_bytes zs) ≡ zs
+pub samples_in-sample_bytes : (zs : List ℤ) → ((k : ℕ) → k < length zs → FitsSigned w16 (get_or zs k (pos 0)))
+    → samples_in (sample_bytes zs) ≡ zs
 samples_in-sample_bytes [] fits = refl
 samples_in-sample_bytes (z ∷ zs) fits =
     let fit : FitsSigned w16 z = fits 0 (omega arith) in
-    let number : little_number 2 (little_bytes 2 (cast_unsigned w16 z) ++ []) ≡ cast_unsigned w16 z = little_number-reads_back 2 (cast_unsigned w16 z) [] (omega (arith, Fits-of_z fit)) in
+    let number : little_number 2 (little_bytes 2 (cast_unsigned w16 z) ++ []) ≡ cast_unsigned w16 z =
+    little_number-reads_back 2 (cast_unsigned w16 z) [] (omega (arith, Fits-of_z fit)) in
     let back : cast_signed w16 (cast_unsigned w16 z) ≡ z = to_z-of_z fit in
     let others : samples_in (sample_bytes zs) ≡ zs = samples_in-sample_bytes zs (λ k h. fits (suc k) (omega arith)) in
     ap₂ (λ (x : ℤ) (xs : List ℤ). x ∷ xs) (ap (cast_signed w16) number ∙ back) others
 
 -- what was read pair by pair is the samples
-pub samples_in_is : (xs : List ℕ) (zs : List ℤ) → length xs ≡ 2 * length zs → IsReadBy (λ ys. cast_signed w16 (little_number 2 ys)) 2 xs zs → zs ≡ samples_in xs
+pub samples_in_is : (xs : List ℕ) (zs : List ℤ) → length xs ≡ 2 * length zs → IsReadBy (λ ys. cast_signed w16 (little_number 2 ys)) 2 xs zs
+    → zs ≡ samples_in xs
 samples_in_is [] [] size read = refl
 samples_in_is [] (z ∷ zs) size read = absurd (omega arith)
 samples_in_is (low ∷ []) [] size read = absurd (omega arith)
@@ -68,29 +74,35 @@ pub parts_from-end : (known : Option Form) (bytes : List ℕ) → length bytes <
 unfolding parts_from
 parts_from-end known bytes short = ap (parts_from known) (chunks_of-end bytes short)
 
-pub parts_from-data : (known : Option Form) (bytes : List ℕ) → 8 ≤ length bytes → is_data (chunk_at bytes) ≡ true → parts_from known (chunks_of bytes) ≡ data_of known (chunk_at bytes)
+pub parts_from-data : (known : Option Form) (bytes : List ℕ) → 8 ≤ length bytes → is_data (chunk_at bytes) ≡ true
+    → parts_from known (chunks_of bytes) ≡ data_of known (chunk_at bytes)
 unfolding parts_from
-parts_from-data known bytes long samples = ap (parts_from known) (chunks_of-head bytes long) ∙ if-true (is_data (chunk_at bytes)) _ _ samples
+parts_from-data known bytes long samples = ap (parts_from known) (chunks_of-head bytes long)
+    ∙ if-true (is_data (chunk_at bytes)) _ _ samples
 
 pub parts_from-other : (known : Option Form) (bytes : List ℕ) → 8 ≤ length bytes → is_data (chunk_at bytes) ≡ false
-    → parts_from known (chunks_of bytes) ≡ go_on (form_after known (chunk_at bytes)) (λ next. parts_from next (chunks_of (after (chunk_at bytes))))
+    → parts_from known (chunks_of bytes) ≡ go_on (form_after known (chunk_at bytes))
+    (λ next. parts_from next (chunks_of (after (chunk_at bytes))))
 unfolding parts_from
 parts_from-other known bytes long other =
     ap (parts_from known) (chunks_of-head bytes long)
     ∙ if-false (is_data (chunk_at bytes)) _ _ other
-    ∙ ap (λ chunks. go_on (form_after known (chunk_at bytes)) (λ next. parts_from next chunks)) (if-false (is_data (chunk_at bytes)) [] (chunks_of (after (chunk_at bytes))) other)
+    ∙ ap (λ chunks. go_on (form_after known (chunk_at bytes)) (λ next. parts_from next chunks))
+    (if-false (is_data (chunk_at bytes)) [] (chunks_of (after (chunk_at bytes))) other)
 
 -- twice a number, over twice a count of channels
 double-mod : (n channels : ℕ) → 1 ≤ channels → (2 * n) % (2 * channels) ≡ 2 * (n % channels)
 double-mod n channels low =
-    let halves : (2 * n) % (channels * 2) ≡ ((2 * n) / 2 % channels) * 2 + (2 * n) % 2 = mod-mul (2 * n) {m = channels} {c = 2} low (lit< tt) in
+    let halves : (2 * n) % (channels * 2) ≡ ((2 * n) / 2 % channels) * 2 + (2 * n) % 2 =
+    mod-mul (2 * n) {m = channels} {c = 2} low (lit< tt) in
     let half : (2 * n) / 2 ≡ n = omega arith in
     let even : (2 * n) % 2 ≡ 0 = omega arith in
     let turned : 2 * channels ≡ channels * 2 = omega arith in
     ap (λ (d : ℕ). (2 * n) % d) turned ∙ halves ∙ ap₂ (λ (x y : ℕ). (x % channels) * 2 + y) half even ∙ (omega arith)
 
 -- bytes of whole frames are samples of whole frames
-pub whole_samples : (bytes : List ℕ) (channels : ℕ) → 1 ≤ channels → length bytes % (2 * channels) ≡ 0 → length bytes % 2 ≡ 0 → length (samples_in bytes) % channels ≡ 0
+pub whole_samples : (bytes : List ℕ) (channels : ℕ) → 1 ≤ channels → length bytes % (2 * channels) ≡ 0 → length bytes % 2 ≡ 0
+    → length (samples_in bytes) % channels ≡ 0
 whole_samples bytes channels low whole even =
     let count : length bytes ≡ 2 * length (samples_in bytes) = omega (arith, length-samples_in bytes) in
     let doubled : (2 * length (samples_in bytes)) % (2 * channels) ≡ 0 = ap (λ (n : ℕ). n % (2 * channels)) (sym count) ∙ whole in
@@ -107,7 +119,8 @@ whole-even n channels low whole =
     omega arith
 
 -- a format chunk as it is written
-form_of-plain : (chunk : Chunk) (form : Form) → chunk.size ≡ 16 → 16 ≤ length chunk.body → tag chunk ≡ 1 → bits chunk ≡ 16 → block_align chunk ≡ 2 * form.channels
+form_of-plain : (chunk : Chunk) (form : Form) → chunk.size ≡ 16 → 16 ≤ length chunk.body → tag chunk ≡ 1 → bits chunk ≡ 16
+    → block_align chunk ≡ 2 * form.channels
     → named_form chunk ≡ form → is_form form ≡ true → form_of chunk ≡ Ok form
 unfolding form_of
 form_of-plain chunk form size room plain sixteen frame named ranges =
@@ -118,12 +131,14 @@ form_of-plain chunk form size room plain sixteen frame named ranges =
     let t5 : not (is_form (named_form chunk)) ≡ false = ap (λ f. not (is_form f)) named ∙ ap not ranges in
     let channels : (named_form chunk).channels ≡ form.channels = ap (λ (f : Form). f.channels) named in
     let t6 : not (block_align chunk == 2 * (named_form chunk).channels) ≡ false = grind (arith, nat_tests) in
-    if-false (nat_lt chunk.size 16) _ _ t1 ∙ if-false (not (is_whole chunk)) _ _ t2 ∙ if-false (is_extensible chunk && nat_lt chunk.size 40) _ _ t3
+    if-false (nat_lt chunk.size 16) _ _ t1 ∙ if-false (not (is_whole chunk)) _ _ t2
+    ∙ if-false (is_extensible chunk && nat_lt chunk.size 40) _ _ t3
     ∙ if-false (not (is_pcm16 chunk)) _ _ t4 ∙ if-false (not (is_form (named_form chunk))) _ _ t5
     ∙ if-false (not (block_align chunk == 2 * (named_form chunk).channels)) _ _ t6 ∙ ap Ok named
 
 -- a chunk of samples as it is written
-data_of-plain : (form : Form) (chunk : Chunk) → chunk.size ≡ length chunk.body → chunk.size < 4294967295 → chunk.size % (2 * form.channels) ≡ 0 → data_of (Some form) chunk ≡ Ok (form, chunk.body)
+data_of-plain : (form : Form) (chunk : Chunk) → chunk.size ≡ length chunk.body → chunk.size < 4294967295
+    → chunk.size % (2 * form.channels) ≡ 0 → data_of (Some form) chunk ≡ Ok (form, chunk.body)
 unfolding data_of
 data_of-plain form chunk size small whole =
     let t1 : (chunk.size == 4294967295) ≡ false = grind (arith, nat_tests) in
@@ -138,7 +153,8 @@ all_three : (a b c : Bool) → a ≡ true → b ≡ true → c ≡ true → (a &
 all_three a b c p q r = rw (p, q, r) refl
 
 -- the test of a file's front
-riff_from : (bytes : List ℕ) → 12 ≤ length bytes → bytes_eq (take 4 bytes) (codes "RIFF") ≡ true → bytes_eq (take 4 (drop 8 bytes)) (codes "WAVE") ≡ true → is_riff bytes ≡ true
+riff_from : (bytes : List ℕ) → 12 ≤ length bytes → bytes_eq (take 4 bytes) (codes "RIFF") ≡ true
+    → bytes_eq (take 4 (drop 8 bytes)) (codes "WAVE") ≡ true → is_riff bytes ≡ true
 riff_from bytes long riff wave = let front : nat_le 12 (length bytes) ≡ true = grind (arith, nat_tests) in all_three _ _ _ front riff wave
 
 -- a wave is of a form
@@ -156,18 +172,24 @@ parts_from-written wav is form same =
     let long1 : 8 ≤ length first = omega (arith, length-drop 12 (wav_bytes wav), size) in
     let long2 : 8 ≤ length second = omega (arith, length-drop 36 (wav_bytes wav), size) in
     let room : 16 ≤ length (chunk_at first).body = omega (arith, length-drop 20 (wav_bytes wav), size) in
-    let rate : little_number 4 (drop 24 (wav_bytes wav)) ≡ wav.rate = little_number-reads_back 4 wav.rate (drop 28 (wav_bytes wav)) (omega (arith, is.rate.1)) in
-    let channels : little_number 2 (drop 22 (wav_bytes wav)) ≡ wav.channels = little_number-reads_back 2 wav.channels (drop 24 (wav_bytes wav)) (omega (arith, is.channels.1)) in
-    let align : little_number 2 (drop 32 (wav_bytes wav)) ≡ 2 * wav.channels = little_number-reads_back 2 (2 * wav.channels) (drop 34 (wav_bytes wav)) (omega (arith, is.channels.1)) in
-    let named : named_form (chunk_at first) ≡ form = ap₂ (λ (r c : ℕ). let f : Form = record { rate = r; channels = c } in f) rate channels ∙ sym same in
+    let rate : little_number 4 (drop 24 (wav_bytes wav)) ≡ wav.rate =
+    little_number-reads_back 4 wav.rate (drop 28 (wav_bytes wav)) (omega (arith, is.rate.1)) in
+    let channels : little_number 2 (drop 22 (wav_bytes wav)) ≡ wav.channels =
+    little_number-reads_back 2 wav.channels (drop 24 (wav_bytes wav)) (omega (arith, is.channels.1)) in
+    let align : little_number 2 (drop 32 (wav_bytes wav)) ≡ 2 * wav.channels =
+    little_number-reads_back 2 (2 * wav.channels) (drop 34 (wav_bytes wav)) (omega (arith, is.channels.1)) in
+    let named : named_form (chunk_at first) ≡ form = ap₂ (λ (r c : ℕ). let f : Form = record { rate = r; channels = c } in f) rate channels
+    ∙ sym same in
     let frame : block_align (chunk_at first) ≡ 2 * form.channels = align ∙ ap (λ (f : Form). 2 * f.channels) (sym same) in
     let ranges : is_form form ≡ true = ap is_form same ∙ is_form-wave wav is in
     let read : form_of (chunk_at first) ≡ Ok form = form_of-plain (chunk_at first) form refl room refl refl frame named ranges in
     let known : form_after None (chunk_at first) ≡ Ok (Some form) = ap known_form read in
-    let bytes : (chunk_at second).size ≡ 2 * length wav.samples = little_number-reads_back 4 (2 * length wav.samples) (sample_bytes wav.samples) (omega (arith, is.small)) in
+    let bytes : (chunk_at second).size ≡ 2 * length wav.samples =
+    little_number-reads_back 4 (2 * length wav.samples) (sample_bytes wav.samples) (omega (arith, is.small)) in
     let filled : (chunk_at second).size ≡ length (chunk_at second).body = bytes ∙ sym (length-sample_bytes wav.samples) in
     let whole : (chunk_at second).size % (2 * form.channels) ≡ 0 =
-    ap₂ (λ (n : ℕ) (f : Form). n % (2 * f.channels)) bytes same ∙ double-mod (length wav.samples) wav.channels is.channels.0 ∙ ap (λ (n : ℕ). 2 * n) is.whole in
+    ap₂ (λ (n : ℕ) (f : Form). n % (2 * f.channels)) bytes same ∙ double-mod (length wav.samples) wav.channels is.channels.0
+    ∙ ap (λ (n : ℕ). 2 * n) is.whole in
     parts_from-other None first long1 refl
     ∙ ap (λ r. go_on r (λ next. parts_from next (chunks_of second))) known
     ∙ parts_from-data (Some form) second long2 refl
@@ -184,13 +206,18 @@ wav_of-wav_bytes wav is samples =
     ∙ ap (λ (s : List ℤ). let w : Wav = record { rate = wav.rate; channels = wav.channels; samples = s } in Ok w) samples
 
 -- one sample more is written
-pub sample_written : (zs : List ℤ) (to rest post : List ℕ) (i : ℕ) → 2 * i ≤ length to → i < length zs → take (2 * i) to ≡ sample_bytes (take i zs)
-    → take (2 * (i + 1)) (take (2 * i) to ++ ((little_bytes 2 (cast_unsigned w16 (get_or zs i (pos 0))) ++ rest) ++ post)) ≡ sample_bytes (take (i + 1) zs)
+pub sample_written : (zs : List ℤ) (to rest post : List ℕ) (i : ℕ) → 2 * i ≤ length to → i < length zs
+    → take (2 * i) to ≡ sample_bytes (take i zs)
+    → take (2 * (i + 1)) (take (2 * i) to ++ ((little_bytes 2 (cast_unsigned w16 (get_or zs i (pos 0))) ++ rest) ++ post))
+    ≡ sample_bytes (take (i + 1) zs)
 sample_written zs to rest post i room here before =
     let pair : List ℕ = little_bytes 2 (cast_unsigned w16 (get_or zs i (pos 0))) in
     let regrouped : take (2 * i) to ++ ((pair ++ rest) ++ post) ≡ (take (2 * i) to ++ pair) ++ (rest ++ post) =
     ap (λ (r : List ℕ). take (2 * i) to ++ r) (append_assoc pair rest post) ∙ sym (append_assoc (take (2 * i) to) pair (rest ++ post)) in
-    let long : length (take (2 * i) to ++ pair) ≡ 2 * (i + 1) = omega (arith, length-append (take (2 * i) to) pair, length-take-le (2 * i) to room) in
+    let long : length (take (2 * i) to ++ pair) ≡ 2 * (i + 1) =
+    omega (arith, length-append (take (2 * i) to) pair, length-take-le (2 * i) to room) in
     ap (take (2 * (i + 1))) regrouped ∙ take_at (take (2 * i) to ++ pair) (rest ++ post) (2 * (i + 1)) long
     ∙ ap (λ (r : List ℕ). r ++ pair) before
-    ∙ sym (ap sample_bytes (take_more zs i (pos 0) here) ∙ flat_map-append (λ (s : ℤ). little_bytes 2 (cast_unsigned w16 s)) (take i zs) (get_or zs i (pos 0) ∷ []) ∙ ap (λ (r : List ℕ). sample_bytes (take i zs) ++ r) (append-nil pair))
+    ∙ sym (ap sample_bytes (take_more zs i (pos 0) here)
+    ∙ flat_map-append (λ (s : ℤ). little_bytes 2 (cast_unsigned w16 s)) (take i zs) (get_or zs i (pos 0) ∷ [])
+    ∙ ap (λ (r : List ℕ). sample_bytes (take i zs) ++ r) (append-nil pair))

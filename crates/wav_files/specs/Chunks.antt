@@ -1,10 +1,12 @@
 -- Chunks of a RIFF WAVE file: a name of four bytes, a size of 32 bits, and so many bytes; numbers little-endian.
-use Rattle.std.specs.Prelude.{ℕ, zero, suc, ◌+◌, ◌%◌, ◌&&◌, Bool, nat_lt, nat_le, if◌then◌else◌, List, [], ◌∷◌, length, take, drop, codes, bytes_eq}
+use Rattle.std.specs.Prelude.{ℕ, zero, suc, ◌+◌, ◌%◌, ◌&&◌, Bool, nat_lt, nat_le, if◌then◌else◌, List, [], ◌∷◌, length, take, drop}
+use Rattle.std.specs.Prelude.{codes, bytes_eq}
 use Rattle.byteorder.specs.Endian.{little_number}
 
 -- the bytes of a file begin as they have to
 abbrev pub is_riff : List ℕ → Bool
-is_riff bytes = nat_le 12 (length bytes) && bytes_eq (take 4 bytes) (codes "RIFF") && bytes_eq (take 4 (drop 8 bytes)) (codes "WAVE")
+is_riff bytes = nat_le 12 (length bytes) && bytes_eq (take 4 bytes) (codes "RIFF") && bytes_eq (take 4 (drop 8 bytes))
+    (codes "WAVE")
 
 -- a chunk: its name, its size as it is written, and the bytes from the end of its head to the end of the file
 pub record Chunk : Type 0 where
@@ -36,7 +38,8 @@ after chunk = drop (chunk.size + chunk.size % 2) chunk.body
 unfoldable pub first_chunks : ℕ → List ℕ → List Chunk
 first_chunks zero bytes = []
 first_chunks (suc more) bytes =
-    if nat_lt (length bytes) 8 then [] else chunk_at bytes ∷ (if is_data (chunk_at bytes) then [] else first_chunks more (after (chunk_at bytes)))
+    if nat_lt (length bytes) 8 then [] else chunk_at bytes ∷
+    (if is_data (chunk_at bytes) then [] else first_chunks more (after (chunk_at bytes)))
 
 -- the chunks of a row of bytes, up to the first of samples: there are no more of them than bytes
 unfoldable pub chunks_of : List ℕ → List Chunk

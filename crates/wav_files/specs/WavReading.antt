@@ -1,5 +1,6 @@
 -- WAV reading: the list of a file's chunks, and the samples read off it. RIFF WAVE, PCM of 16 bits.
-use Rattle.std.specs.Prelude.{◌≡◌, ◌≢◌, ℕ, ◌*◌, ◌%◌, ◌==◌, not, List, [], ◌∷◌, take, drop, ℤ, if◌then◌else◌, Option, Some, None, Result, Ok, Err}
+use Rattle.std.specs.Prelude.{◌≡◌, ◌≢◌, ℕ, ◌*◌, ◌%◌, ◌==◌, not, List, [], ◌∷◌, take, drop, ℤ, if◌then◌else◌, Option}
+use Rattle.std.specs.Prelude.{Some, None, Result, Ok, Err}
 use Rattle.std.specs.Int.{w16, cast_signed}
 use Rattle.byteorder.specs.Endian.{little_number}
 use Rattle.wav_files.specs.declared.wav.Wav.{Wav}

@@ -25,7 +25,8 @@ format_chunk rate channels =
 -- the 44 bytes before so many bytes of samples
 abbrev pub wav_header : ℕ → ℕ → ℕ → List ℕ
 wav_header rate channels size =
-    codes "RIFF" ++ u32_bytes (36 + size) ++ codes "WAVE" ++ format_chunk rate channels ++ codes "data" ++ u32_bytes size
+    codes "RIFF" ++ u32_bytes (36 + size)
+    ++ codes "WAVE" ++ format_chunk rate channels ++ codes "data" ++ u32_bytes size
 
 -- the whole file of a wave
 abbrev pub wav_bytes : Wav → List ℕ

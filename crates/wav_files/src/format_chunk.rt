@@ -43,7 +43,8 @@ fn is_pcm16(chunk: &[u8]) -> bool
 /// The form that the chunk names, if it is one.
 fn named_form(chunk: &[u8]) -> Option<Form>
     requires { 24 ≤ length chunk.now }
-    ensures form { result ≡ (if is_form (named_form (chunk_at chunk.now)) then Some (named_form (chunk_at chunk.now)) else None) }
+    ensures form { result ≡ (if is_form (named_form (chunk_at chunk.now))
+        then Some (named_form (chunk_at chunk.now)) else None) }
     ensures in_range { IfSome result IsForm }
 {
     let fields = body_of(chunk);

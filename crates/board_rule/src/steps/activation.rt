@@ -2,7 +2,8 @@
 ghost use Rattle.std.specs.Prelude.{◌≡◌, ℕ, ◌-◌, ◌<◌, ◌^◌, slice_index};
 ghost use Rattle.pw_base.specs.Words.{status_word_of};
 ghost use Rattle.board_rule.specs.Layout.{lay, nodes};
-ghost use Rattle.board_rule.specs.Steps.{taken, cycle_of, reset_of, Lowers, lowered, Triggers, triggered, Claims, claimed, IsReadyToFinish, finished, StoresPending, pending_stored, StoresStatus, status_stored};
+ghost use Rattle.board_rule.specs.Steps.{taken, cycle_of, reset_of, Lowers, lowered, Triggers, triggered, Claims, claimed, IsReadyToFinish};
+ghost use Rattle.board_rule.specs.Steps.{finished, StoresPending, pending_stored, StoresStatus, status_stored};
 
 use crate::board::Board;
 use crate::rule::BoardToken;
@@ -18,10 +19,13 @@ pub(crate) fn lower<C: Change>(
 ) -> u64
     requires table { token.old.table_id ≡ board.now.table.shared.table_id }
     requires phase { Lowers C.leads (lay board.now.plot) token.old.me.0 at }
-    requires target { slice_index ((lay board.now.plot).targets at) (taken C.leads token.old.me.0 at) ≡ target }
+    requires target { slice_index ((lay board.now.plot).targets at) (taken C.leads token.old.me.0 at)
+        ≡ target }
     requires inside { target < nodes (lay board.now.plot) }
-    requires after { (found : ℕ) → C.after found ≡ lowered C.leads (lay board.now.plot) token.old.me.0 at found }
-    ensures same { (token.new.table_id ≡ token.old.table_id) × (token.new.id ≡ token.old.id) × (token.new.me.1 ≡ token.old.me.1) }
+    requires after { (found : ℕ) → C.after found
+        ≡ lowered C.leads (lay board.now.plot) token.old.me.0 at found }
+    ensures same { (token.new.table_id ≡ token.old.table_id) × (token.new.id ≡ token.old.id)
+        × (token.new.me.1 ≡ token.old.me.1) }
     ensures after { token.new.me.0 ≡ C.after result }
 {
     let word = board.pending_word(target);
@@ -38,11 +42,13 @@ pub(crate) fn trigger<C: Change>(
 )
     requires table { token.old.table_id ≡ board.now.table.shared.table_id }
     requires phase { Triggers C.leads (lay board.now.plot) token.old.me.0 at }
-    requires target { slice_index ((lay board.now.plot).targets at) (taken C.leads token.old.me.0 at - 1) ≡ target }
+    requires target { slice_index ((lay board.now.plot).targets at) (taken C.leads token.old.me.0 at - 1)
+        ≡ target }
     requires inside { target < nodes (lay board.now.plot) }
     requires cycle { cycle ≡ cycle_of C.leads token.old.me.0 at }
     requires after { (found : ℕ) → C.after found ≡ triggered C.leads (lay board.now.plot) token.old.me.0 at }
-    ensures same { (token.new.table_id ≡ token.old.table_id) × (token.new.id ≡ token.old.id) × (token.new.me.1 ≡ token.old.me.1) }
+    ensures same { (token.new.table_id ≡ token.old.table_id) × (token.new.id ≡ token.old.id)
+        × (token.new.me.1 ≡ token.old.me.1) }
     ensures after { token.new.me.0 ≡ C.after (status_word_of 1 cycle) }
 {
     let word = board.status_word(target);
@@ -56,8 +62,10 @@ pub(crate) fn claim<C: Change>(board: &Board, token: &mut BoardToken, at: usize,
     requires phase { Claims C.leads (lay board.now.plot) token.old.me.0 at }
     requires inside { at < nodes (lay board.now.plot) }
     requires cycle { cycle ≡ cycle_of C.leads token.old.me.0 at }
-    requires after { (found : ℕ) → C.after found ≡ claimed C.leads (lay board.now.plot) token.old.me.0 at found }
-    ensures same { (token.new.table_id ≡ token.old.table_id) × (token.new.id ≡ token.old.id) × (token.new.me.1 ≡ token.old.me.1) }
+    requires after { (found : ℕ) → C.after found
+        ≡ claimed C.leads (lay board.now.plot) token.old.me.0 at found }
+    ensures same { (token.new.table_id ≡ token.old.table_id) × (token.new.id ≡ token.old.id)
+        × (token.new.me.1 ≡ token.old.me.1) }
     ensures after { token.new.me.0 ≡ C.after result }
 {
     let word = board.status_word(at);
@@ -76,7 +84,8 @@ pub(crate) fn finish<C: Change>(board: &Board, token: &mut BoardToken, at: usize
     requires inside { at < nodes (lay board.now.plot) }
     requires cycle { cycle ≡ cycle_of C.leads token.old.me.0 at }
     requires after { (found : ℕ) → C.after found ≡ finished C.leads token.old.me.0 at }
-    ensures same { (token.new.table_id ≡ token.old.table_id) × (token.new.id ≡ token.old.id) × (token.new.me.1 ≡ token.old.me.1) }
+    ensures same { (token.new.table_id ≡ token.old.table_id) × (token.new.id ≡ token.old.id)
+        × (token.new.me.1 ≡ token.old.me.1) }
     ensures after { token.new.me.0 ≡ C.after (status_word_of 3 cycle) }
 {
     let word = board.status_word(at);
@@ -91,7 +100,8 @@ pub(crate) fn reset_pending<C: Change>(board: &Board, token: &mut BoardToken, at
     requires at { at ≡ reset_of token.old.me.0.lead.drive }
     requires inside { at < nodes (lay board.now.plot) }
     requires after { (found : ℕ) → C.after found ≡ pending_stored token.old.me.0 }
-    ensures same { (token.new.table_id ≡ token.old.table_id) × (token.new.id ≡ token.old.id) × (token.new.me.1 ≡ token.old.me.1) }
+    ensures same { (token.new.table_id ≡ token.old.table_id) × (token.new.id ≡ token.old.id)
+        × (token.new.me.1 ≡ token.old.me.1) }
     ensures after { token.new.me.0 ≡ C.after ((lay board.now.plot).required at) }
 {
     let word = board.pending_word(at);
@@ -107,7 +117,8 @@ pub(crate) fn reset_status<C: Change>(board: &Board, token: &mut BoardToken, at:
     requires inside { at < nodes (lay board.now.plot) }
     requires cycle { cycle ≡ token.old.me.0.lead.cycle }
     requires after { (found : ℕ) → C.after found ≡ status_stored (lay board.now.plot) token.old.me.0 }
-    ensures same { (token.new.table_id ≡ token.old.table_id) × (token.new.id ≡ token.old.id) × (token.new.me.1 ≡ token.old.me.1) }
+    ensures same { (token.new.table_id ≡ token.old.table_id) × (token.new.id ≡ token.old.id)
+        × (token.new.me.1 ≡ token.old.me.1) }
     ensures after { token.new.me.0 ≡ C.after (status_word_of 0 cycle) }
 {
     let word = board.status_word(at);

@@ -3,7 +3,8 @@ ghost use Rattle.std.specs.Prelude.{◌≡◌, ℕ, ◌+◌, ◌<◌, ◌≤◌}
 ghost use Rattle.pw_base.specs.Layout.{event_count};
 ghost use Rattle.pw_base.specs.EventWords.{event_node, event_word_of};
 ghost use Rattle.board_rule.specs.Layout.{lay, nodes, first};
-ghost use Rattle.board_rule.specs.EventSteps.{Draws, draws, ticket_of, told_event, StoresEvent, event_stored, Looks, looked, StoresLate, late_stored};
+ghost use Rattle.board_rule.specs.EventSteps.{Draws, draws, ticket_of, told_event, StoresEvent, event_stored, Looks, looked, StoresLate};
+ghost use Rattle.board_rule.specs.EventSteps.{late_stored};
 
 use crate::board::Board;
 use crate::rule::BoardToken;
@@ -16,7 +17,8 @@ pub(crate) fn draw<C: Change>(board: &Board, token: &mut BoardToken, at: usize) 
     requires phase { Draws C.leads (lay board.now.plot) token.old.me.0 at }
     requires after { (found : ℕ) → C.after found ≡ draws C.leads token.old.me.0 at found }
     requires says { (found : ℕ) → found < event_count board.now.plot.shape → C.says found }
-    ensures same { (token.new.table_id ≡ token.old.table_id) × (token.new.id ≡ token.old.id) × (token.new.me.1 ≡ token.old.me.1) }
+    ensures same { (token.new.table_id ≡ token.old.table_id) × (token.new.id ≡ token.old.id)
+        × (token.new.me.1 ≡ token.old.me.1) }
     ensures after { token.new.me.0 ≡ C.after result }
     ensures says { C.says result }
 {
@@ -39,7 +41,8 @@ pub(crate) fn store<C: Change>(
     requires event { event.now ≡ told_event C.leads (lay board.now.plot) token.old.me.0 at }
     requires node { event_node event.now ≤ 63 }
     requires after { (found : ℕ) → C.after found ≡ event_stored C.leads token.old.me.0 at }
-    ensures same { (token.new.table_id ≡ token.old.table_id) × (token.new.id ≡ token.old.id) × (token.new.me.1 ≡ token.old.me.1) }
+    ensures same { (token.new.table_id ≡ token.old.table_id) × (token.new.id ≡ token.old.id)
+        × (token.new.me.1 ≡ token.old.me.1) }
     ensures after { token.new.me.0 ≡ C.after (event_word_of event.now) }
 {
     let word = board.event_word(ticket);
@@ -53,7 +56,8 @@ pub(crate) fn look<C: Change>(board: &Board, token: &mut BoardToken, at: usize) 
     requires phase { Looks (lay board.now.plot) token.old.me.0 at }
     requires inside { at < nodes (lay board.now.plot) }
     requires after { (found : ℕ) → C.after found ≡ looked (lay board.now.plot) token.old.me.0 at found }
-    ensures same { (token.new.table_id ≡ token.old.table_id) × (token.new.id ≡ token.old.id) × (token.new.me.1 ≡ token.old.me.1) }
+    ensures same { (token.new.table_id ≡ token.old.table_id) × (token.new.id ≡ token.old.id)
+        × (token.new.me.1 ≡ token.old.me.1) }
     ensures after { token.new.me.0 ≡ C.after result }
 {
     let word = board.status_word(at);
@@ -67,7 +71,8 @@ pub(crate) fn store_late<C: Change>(board: &Board, token: &mut BoardToken, past:
     requires cycle { first (lay board.now.plot) + past ≡ token.old.me.0.lead.cycle }
     requires within { past < board.now.plot.shape.cycles }
     requires after { (found : ℕ) → C.after found ≡ late_stored token.old.me.0 }
-    ensures same { (token.new.table_id ≡ token.old.table_id) × (token.new.id ≡ token.old.id) × (token.new.me.1 ≡ token.old.me.1) }
+    ensures same { (token.new.table_id ≡ token.old.table_id) × (token.new.id ≡ token.old.id)
+        × (token.new.me.1 ≡ token.old.me.1) }
     ensures after { token.new.me.0 ≡ C.after late }
 {
     let word = board.late_word(past);

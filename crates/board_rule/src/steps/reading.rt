@@ -7,7 +7,8 @@ ghost use Rattle.pw_base.specs.Layout.{sample_place};
 ghost use Rattle.board_rule.specs.Layout.{lay};
 ghost use Rattle.board_rule.specs.SampleWords.{IsTable, packed};
 ghost use Rattle.board_rule.specs.EndViews.{pool_at, pool_of};
-ghost use Rattle.board_rule.specs.ReaderSteps.{LoadsAsReader, loaded_as_reader, IsPublished, ReadsBlock, readers_lowered, samples_read, StoresNeed, need_stored};
+ghost use Rattle.board_rule.specs.ReaderSteps.{LoadsAsReader, loaded_as_reader, IsPublished, ReadsBlock, readers_lowered, samples_read};
+ghost use Rattle.board_rule.specs.ReaderSteps.{StoresNeed, need_stored};
 
 use crate::board::Board;
 use crate::rule::BoardToken;
@@ -20,9 +21,11 @@ pub(crate) fn load_area<C: Change>(board: &Board, token: &mut BoardToken, link: 
     requires table { token.old.table_id ≡ board.now.table.shared.table_id }
     requires phase { LoadsAsReader C.leads (lay board.now.plot) token.old.me.0 link }
     requires inside { link < length board.now.plot.shape.links }
-    requires after { (found : ℕ) → C.after found ≡ loaded_as_reader C.leads (lay board.now.plot) token.old.me.0 link found }
+    requires after { (found : ℕ) → C.after found
+        ≡ loaded_as_reader C.leads (lay board.now.plot) token.old.me.0 link found }
     requires says { (found : ℕ) → IsPublished C.leads (lay board.now.plot) link found → C.says found }
-    ensures same { (token.new.table_id ≡ token.old.table_id) × (token.new.id ≡ token.old.id) × (token.new.me.1 ≡ token.old.me.1) }
+    ensures same { (token.new.table_id ≡ token.old.table_id) × (token.new.id ≡ token.old.id)
+        × (token.new.me.1 ≡ token.old.me.1) }
     ensures after { token.new.me.0 ≡ C.after result }
     ensures says { C.says result }
 {
@@ -48,8 +51,11 @@ pub(crate) fn load_sample<C: Change>(
     requires word { word ≡ sample_place board.now.plot.shape (pool_of (lay board.now.plot) link) id place }
     requires there { word < board.now.table.shared.table_id.words }
     requires after { (found : ℕ) → C.after found ≡ token.old.me.0 }
-    requires says { (found : ℕ) → found ≡ packed (samples_read C.leads (lay board.now.plot) token.old.me.0 link) place → IsTable (lay board.now.plot) token.old.me.0.expect → C.says found }
-    ensures same { (token.new.table_id ≡ token.old.table_id) × (token.new.id ≡ token.old.id) × (token.new.me.1 ≡ token.old.me.1) }
+    requires says { (found : ℕ) → found ≡ packed
+        (samples_read C.leads (lay board.now.plot) token.old.me.0 link) place
+        → IsTable (lay board.now.plot) token.old.me.0.expect → C.says found }
+    ensures same { (token.new.table_id ≡ token.old.table_id) × (token.new.id ≡ token.old.id)
+        × (token.new.me.1 ≡ token.old.me.1) }
     ensures after { token.new.me.0 ≡ C.after result }
     ensures says { C.says result }
 {
@@ -68,9 +74,11 @@ pub(crate) fn lower_readers<C: Change>(
     requires phase { ReadsBlock C.leads (lay board.now.plot) token.old.me.0 link id }
     requires inside { link < length board.now.plot.shape.links }
     requires block { id < (pool_at (lay board.now.plot) (pool_of (lay board.now.plot) link)).blocks }
-    requires after { (found : ℕ) → C.after found ≡ readers_lowered C.leads (lay board.now.plot) token.old.me.0 link }
+    requires after { (found : ℕ) → C.after found
+        ≡ readers_lowered C.leads (lay board.now.plot) token.old.me.0 link }
     requires says { (found : ℕ) → 0 < found → C.says found }
-    ensures same { (token.new.table_id ≡ token.old.table_id) × (token.new.id ≡ token.old.id) × (token.new.me.1 ≡ token.old.me.1) }
+    ensures same { (token.new.table_id ≡ token.old.table_id) × (token.new.id ≡ token.old.id)
+        × (token.new.me.1 ≡ token.old.me.1) }
     ensures after { token.new.me.0 ≡ C.after result }
     ensures says { C.says result }
 {
@@ -84,8 +92,10 @@ pub(crate) fn store_need<C: Change>(board: &Board, token: &mut BoardToken, link:
     requires table { token.old.table_id ≡ board.now.table.shared.table_id }
     requires phase { StoresNeed C.leads (lay board.now.plot) token.old.me.0 link id }
     requires inside { link < length board.now.plot.shape.links }
-    requires after { (found : ℕ) → C.after found ≡ need_stored C.leads (lay board.now.plot) token.old.me.0 link }
-    ensures same { (token.new.table_id ≡ token.old.table_id) × (token.new.id ≡ token.old.id) × (token.new.me.1 ≡ token.old.me.1) }
+    requires after { (found : ℕ) → C.after found
+        ≡ need_stored C.leads (lay board.now.plot) token.old.me.0 link }
+    ensures same { (token.new.table_id ≡ token.old.table_id) × (token.new.id ≡ token.old.id)
+        × (token.new.me.1 ≡ token.old.me.1) }
     ensures after { token.new.me.0 ≡ C.after (io_word_of 1 id) }
 {
     let word = board.area_word(link);

@@ -21,8 +21,10 @@ pub(crate) fn load_area<C: Change>(board: &Board, token: &mut BoardToken, link: 
     requires phase { LoadsAsWriter (lay board.now.plot) token.old.me.0 link }
     requires inside { link < length board.now.plot.shape.links }
     requires after { (found : ℕ) → C.after found ≡ loaded_as_writer (lay board.now.plot) token.old.me.0 link }
-    requires says { (found : ℕ) → found ≡ io_word_of 1 (io_id_in found) → IsGivenBack (lay board.now.plot) token.old.me.0 link (io_id_in found) → C.says found }
-    ensures same { (token.new.table_id ≡ token.old.table_id) × (token.new.id ≡ token.old.id) × (token.new.me.1 ≡ token.old.me.1) }
+    requires says { (found : ℕ) → found ≡ io_word_of 1 (io_id_in found)
+        → IsGivenBack (lay board.now.plot) token.old.me.0 link (io_id_in found) → C.says found }
+    ensures same { (token.new.table_id ≡ token.old.table_id) × (token.new.id ≡ token.old.id)
+        × (token.new.me.1 ≡ token.old.me.1) }
     ensures after { token.new.me.0 ≡ C.after result }
     ensures says { C.says result }
 {
@@ -37,7 +39,8 @@ pub(crate) fn store_have<C: Change>(board: &Board, token: &mut BoardToken, link:
     requires phase { StoresHave (lay board.now.plot) token.old.me.0 link id }
     requires inside { link < length board.now.plot.shape.links }
     requires after { (found : ℕ) → C.after found ≡ have_stored (lay board.now.plot) token.old.me.0 link id }
-    ensures same { (token.new.table_id ≡ token.old.table_id) × (token.new.id ≡ token.old.id) × (token.new.me.1 ≡ token.old.me.1) }
+    ensures same { (token.new.table_id ≡ token.old.table_id) × (token.new.id ≡ token.old.id)
+        × (token.new.me.1 ≡ token.old.me.1) }
     ensures after { token.new.me.0 ≡ C.after (io_word_of 2 id) }
 {
     let word = board.area_word(link);
@@ -57,9 +60,11 @@ pub(crate) fn load_readers<C: Change>(
     requires phase { LoadsReaders (lay board.now.plot) token.old.me.0 pool id }
     requires inside { pool < length (pools_of board.now.plot.shape) }
     requires block { id < (pool_at (lay board.now.plot) pool).blocks }
-    requires after { (found : ℕ) → C.after found ≡ readers_loaded (lay board.now.plot) token.old.me.0 pool id found }
+    requires after { (found : ℕ) → C.after found
+        ≡ readers_loaded (lay board.now.plot) token.old.me.0 pool id found }
     requires says { (found : ℕ) → found ≡ 0 → C.says found }
-    ensures same { (token.new.table_id ≡ token.old.table_id) × (token.new.id ≡ token.old.id) × (token.new.me.1 ≡ token.old.me.1) }
+    ensures same { (token.new.table_id ≡ token.old.table_id) × (token.new.id ≡ token.old.id)
+        × (token.new.me.1 ≡ token.old.me.1) }
     ensures after { token.new.me.0 ≡ C.after result }
     ensures says { C.says result }
 {
@@ -85,8 +90,10 @@ pub(crate) fn store_sample<C: Change>(
     requires place { place < (pool_at (lay board.now.plot) pool).words }
     requires word { word ≡ sample_place board.now.plot.shape pool id place }
     requires there { word < board.now.table.shared.table_id.words }
-    requires after { (found : ℕ) → C.after found ≡ sample_stored (lay board.now.plot) token.old.me.0 pool id place }
-    ensures same { (token.new.table_id ≡ token.old.table_id) × (token.new.id ≡ token.old.id) × (token.new.me.1 ≡ token.old.me.1) }
+    requires after { (found : ℕ) → C.after found
+        ≡ sample_stored (lay board.now.plot) token.old.me.0 pool id place }
+    ensures same { (token.new.table_id ≡ token.old.table_id) × (token.new.id ≡ token.old.id)
+        × (token.new.me.1 ≡ token.old.me.1) }
     ensures after { token.new.me.0 ≡ C.after new }
 {
     board.table.shared.store::<Becomes<C>>(token, word, new);
@@ -99,8 +106,10 @@ pub(crate) fn store_readers<C: Change>(board: &Board, token: &mut BoardToken, po
     requires phase { StoresReaders (lay board.now.plot) token.old.me.0 pool id }
     requires inside { pool < length (pools_of board.now.plot.shape) }
     requires block { id < (pool_at (lay board.now.plot) pool).blocks }
-    requires after { (found : ℕ) → C.after found ≡ readers_stored (lay board.now.plot) token.old.me.0 pool id }
-    ensures same { (token.new.table_id ≡ token.old.table_id) × (token.new.id ≡ token.old.id) × (token.new.me.1 ≡ token.old.me.1) }
+    requires after { (found : ℕ) → C.after found
+        ≡ readers_stored (lay board.now.plot) token.old.me.0 pool id }
+    ensures same { (token.new.table_id ≡ token.old.table_id) × (token.new.id ≡ token.old.id)
+        × (token.new.me.1 ≡ token.old.me.1) }
     ensures after { token.new.me.0 ≡ C.after (length (pool_at (lay board.now.plot) pool).links) }
 {
     let word = board.readers_word(pool, id);

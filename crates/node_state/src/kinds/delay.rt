@@ -26,7 +26,11 @@ impl Model for DelayState {
 
     ghost coded = { line_code };
 
-    ghost view = { λ d. record { frames = d.frames; samples = turned d.oldest (take d.size d.ring); room = length d.ring } };
+    ghost view = { λ d. record {
+      frames = d.frames;
+      samples = turned d.oldest (take d.size d.ring);
+      room = length d.ring;
+    } };
 
     ghost invariant = { λ d. (d.size ≤ length d.ring) × (d.oldest ≤ d.size) };
 }
@@ -100,7 +104,8 @@ fn pass_line(row: &mut [i16], size: usize, oldest: usize, a: &[i16], to: &mut [i
     requires output { IsNoneOr (length a.now) to.old }
     ensures within { result ≤ size }
     ensures output { to.new ≡ take (length to.old) (turned oldest (take size row.old) ++ a.now) }
-    ensures line { turned result (take size row.new) ≡ drop (length a.now) (turned oldest (take size row.old) ++ a.now) }
+    ensures line { turned result (take size row.new)
+        ≡ drop (length a.now) (turned oldest (take size row.old) ++ a.now) }
 {
     let ring = &mut row[..size];
     if a.len() <= size - oldest {
@@ -122,7 +127,8 @@ impl DelayState {
     /// A line of zeros, of so many frames of so many channels.
     pub(crate) fn new(alloc: Global, frames: u32, channels: u32) -> Result<DelayState, Memory>
         requires channels { channels ≤ 8 }
-        ensures { IfOk result (λ d. d ≡ record { frames = frames; samples = silence (frames * channels); room = frames * channels }) }
+        ensures { IfOk result (λ d. d ≡ record
+            { frames = frames; samples = silence (frames * channels); room = frames * channels }) }
     {
         let size = frames as usize * channels as usize;
         match Items::filled(alloc, size, 0) {
@@ -141,7 +147,8 @@ impl DelayState {
     pub(crate) fn process(&mut self, a: &[i16], left: &mut [i16])
         requires { IsNoneOr (length a.now) left.old }
         ensures left { left.new ≡ take (length left.old) (self.old.samples ++ a.now) }
-        ensures line { self.new ≡ record self.old { samples = drop (length a.now) (self.old.samples ++ a.now) } }
+        ensures line { self.new ≡ record self.old
+            { samples = drop (length a.now) (self.old.samples ++ a.now) } }
     {
         self.oldest = pass_line(self.ring.as_mut_slice(), self.size, self.oldest, a, left);
     }

@@ -65,7 +65,8 @@ impl SourceState {
         requires { IsNoneOr (quantum * self.old.channels) left.old }
         ensures left { left.new
             ≡ take (length left.old) (drop self.old.given self.old.samples ++ silence (quantum * self.old.channels)) }
-        ensures given { self.new.given ≡ min (self.old.given + quantum * self.old.channels) (length self.old.samples) }
+        ensures given { self.new.given ≡ min (self.old.given + quantum * self.old.channels)
+            (length self.old.samples) }
         ensures same { (self.new.channels ≡ self.old.channels) × (self.new.samples ≡ self.old.samples) }
     {
         let samples = &self.samples.as_slice()[self.given..];

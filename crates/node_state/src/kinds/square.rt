@@ -31,7 +31,8 @@ impl SquareWave {
     // The sample of a frame by its place in the period, and the place at which the next run of equal samples begins.
     fn run_at(&self, phase: u32) -> (i16, u32)
         requires { phase < self.now.period }
-        ensures value { (i : ℕ) → phase ≤ i → i < result.1 → square_at self.now.period self.now.amp i ≡ result.0 }
+        ensures value { (i : ℕ) → phase ≤ i → i < result.1
+            → square_at self.now.period self.now.amp i ≡ result.0 }
         ensures some { phase < result.1 }
         ensures within { result.1 ≤ self.now.period }
     {
@@ -55,7 +56,8 @@ impl SquareWave {
     fn write(&self, phase: u32, frames: usize, to: &mut [i16])
         requires phase { phase < self.now.period }
         requires lengths { length to.old ≡ frames * self.now.channels }
-        ensures { to.new ≡ of_frames frames self.now.channels (λ i j. square_at self.now.period self.now.amp (phase + i)) }
+        ensures { to.new ≡ of_frames frames self.now.channels
+            (λ i j. square_at self.now.period self.now.amp (phase + i)) }
     {
         let channels = self.channels as usize;
         let mut place = phase;

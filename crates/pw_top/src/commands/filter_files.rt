@@ -33,9 +33,11 @@ impl FilterFiles {
     /// Loads A, then B, and makes the object to store and the line; it stores and puts nothing.
     pub fn prepare<F: Files>(self, alloc: Global, files: &mut F) -> Result<Work, Status>
         ensures held { F.held files.new ≡ F.held files.old }
-        ensures told { IsSome (F.held files.old) → EndsAs (IsFilterAnswer (names_in (F.held files.old)) self.a self.b self.out) result }
+        ensures told { IsSome (F.held files.old)
+            → EndsAs (IsFilterAnswer (names_in (F.held files.old)) self.a self.b self.out) result }
         ensures later { F.load_faults files.old ≤ F.load_faults files.new }
-        ensures cause { CommandCause IsDeliverable (F.load_faults files.old) (F.load_faults files.new) result }
+        ensures cause { CommandCause IsDeliverable (F.load_faults files.old)
+            (F.load_faults files.new) result }
         ensures stores { F.store_faults files.new ≡ F.store_faults files.old }
     {
         let FilterFiles { a, b, out } = self;
@@ -55,7 +57,9 @@ fn first_loaded<F: Files>(
     out: Text,
 ) -> Result<Work, Status>
     ensures held { F.held files.new ≡ F.held files.old }
-    ensures told { IsSome (F.held files.old) → EndsAs (Reads (HoldsFormat 1 bytes.now) (IsSecondAnswer (names_in (F.held files.old)) b.now out)) result }
+    ensures told { IsSome (F.held files.old)
+        → EndsAs (Reads (HoldsFormat 1 bytes.now) (IsSecondAnswer (names_in (F.held files.old)) b.now out))
+        result }
     ensures later { F.load_faults files.old ≤ F.load_faults files.new }
     ensures cause { CommandCause IsDeliverable (F.load_faults files.old) (F.load_faults files.new) result }
     ensures stores { F.store_faults files.new ≡ F.store_faults files.old }
@@ -76,7 +80,8 @@ fn load_second<F: Files>(
 ) -> Result<Work, Status>
     requires { IsSoundFormat first.now }
     ensures held { F.held files.new ≡ F.held files.old }
-    ensures told { IsSome (F.held files.old) → EndsAs (IsSecondAnswer (names_in (F.held files.old)) b.now out first.now) result }
+    ensures told { IsSome (F.held files.old)
+        → EndsAs (IsSecondAnswer (names_in (F.held files.old)) b.now out first.now) result }
     ensures later { F.load_faults files.old ≤ F.load_faults files.new }
     ensures cause { CommandCause IsDeliverable (F.load_faults files.old) (F.load_faults files.new) result }
     ensures stores { F.store_faults files.new ≡ F.store_faults files.old }
@@ -95,7 +100,8 @@ fn second_loaded(
     out: Text,
 ) -> Result<Work, Status>
     requires { IsSoundFormat first.now }
-    ensures done { EndsAs (Reads (HoldsFormat 2 bytes.now) (λ second. Gives (FiltersTo out first.now second))) result }
+    ensures done { EndsAs (Reads (HoldsFormat 2 bytes.now) (λ second. Gives (FiltersTo out first.now second)))
+        result }
     ensures cause { CommandCause IsDeliverable 0 0 result }
 {
     match format_step(alloc, 2, bytes.as_slice()) {
@@ -152,7 +158,8 @@ fn store_object(alloc: Global, pod: &Pod, out: Text) -> Result<Work, Status>
 
 // The store of these bytes.
 fn store_bytes(alloc: Global, out: Text, bytes: Items<u8>) -> Result<Work, Memory>
-    ensures { IfOk result (λ work. work ≡ record { stores = record { place = 3; name = out; content = C.Bytes bytes } ∷ []; text = codes "common\n" }) }
+    ensures { IfOk result (λ work. work ≡ record
+        { stores = record { place = 3; name = out; content = C.Bytes bytes } ∷ []; text = codes "common\n" }) }
 {
     let mut stores = Items::new(alloc);
     stores.push(Store {

@@ -4,4 +4,5 @@ use Rattle.board_rule.specs.Steps.{driven, reset_to}
 use Rattle.activation_words.proofs.beginning.reset_all.Given as goal
 
 abbrev pub invariant-loop-done : goal.invariant-loop-done
-invariant-loop-done l = (l.seat.table ≡ l.fn.seat.table) × (l.seat.knows ≡ driven l.fn.seat.knows (reset_to (nodes (lay l.board.plot)) l.done) l.fn.seat.knows.trail)
+invariant-loop-done l = (l.seat.table ≡ l.fn.seat.table)
+    × (l.seat.knows ≡ driven l.fn.seat.knows (reset_to (nodes (lay l.board.plot)) l.done) l.fn.seat.knows.trail)

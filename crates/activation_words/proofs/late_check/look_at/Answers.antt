@@ -5,11 +5,15 @@ use Rattle.board_rule.specs.EventSteps.{Looks}
 use Rattle.activation_words.proofs.late_check.look_at.Goals as goal
 
 pub load_status-found-requires-clause-phase : goal.load_status-found-requires-clause-phase
-load_status-found-requires-clause-phase c = let board = c.args.board.now in let p = lay board.plot in let v : View = c.args.seat.now.knows in
-    let number = c.node_at-node.ensures in let at : p.place c.node_at-node.result ≡ c.args.at = ap p.place number ∙ board.sound.at c.args.at c.requires.inside in
+load_status-found-requires-clause-phase c = let board = c.args.board.now in let p = lay board.plot in
+    let v : View = c.args.seat.now.knows in
+    let number = c.node_at-node.ensures in let at : p.place c.node_at-node.result ≡ c.args.at = ap p.place number
+    ∙ board.sound.at c.args.at c.requires.inside in
     let else : c.node_at-node.result ≢ board.plot.shape.driver = search rules in
-    let other : c.args.at ≢ p.driver = λ e. else (number ∙ ap p.number e ∙ board.sound.known board.plot.shape.driver board.sound.driver_in) in
+    let other : c.args.at ≢ p.driver = λ e. else (number ∙ ap p.number e ∙ board.sound.known board.plot.shape.driver board.sound.driver_in)
+    in
     subst (λ k. Looks p v k) (sym at) (c.requires.phase other)
 
 pub late_with-requires : goal.late_with-requires
-late_with-requires c = let board = c.args.board.now in subst (λ k. k ≤ 63) (sym c.node_at-node.ensures) (board.sound.numbers c.args.at c.requires.inside)
+late_with-requires c = let board = c.args.board.now in
+    subst (λ k. k ≤ 63) (sym c.node_at-node.ensures) (board.sound.numbers c.args.at c.requires.inside)

@@ -6,12 +6,23 @@ use Rattle.activation_words.proofs.CallLemmas.{work_draws, work_stores, work_sto
 use Rattle.activation_words.proofs.running.end_work.Goals as goal
 
 pub draw_ticket-requires-clause-phase : goal.draw_ticket-requires-clause-phase
-draw_ticket-requires-clause-phase g c = let p = lay c.args.board.now.plot in let m : ℕ = p.place c.args.node in let v : View = g.S.BoardSeat.knows c.args.seat.now in let b : Bool = g.S.BoardSeat.leads in subst (λ (w : View). Draws b p w m) (sym c.store_finished.ensures.knows) (work_draws p v m b c.requires.ready.0)
+draw_ticket-requires-clause-phase g c = let p = lay c.args.board.now.plot in let m : ℕ = p.place c.args.node in
+    let v : View = g.S.BoardSeat.knows c.args.seat.now in let b : Bool = g.S.BoardSeat.leads in
+    subst (λ (w : View). Draws b p w m) (sym c.store_finished.ensures.knows) (work_draws p v m b c.requires.ready.0)
 
 pub store_event-requires-clause-phase : goal.store_event-requires-clause-phase
-store_event-requires-clause-phase g c = let p = lay c.args.board.now.plot in let m : ℕ = p.place c.args.node in let v : View = g.S.BoardSeat.knows c.args.seat.now in let b : Bool = g.S.BoardSeat.leads in let t : ℕ = c.draw_ticket.result in
-    subst (λ (w : View). StoresEvent b p w m) (sym (c.draw_ticket.ensures.knows ∙ ap (λ (w : View). draws b w m t) c.store_finished.ensures.knows)) (work_stores p v m b t c.requires.ready.0 c.draw_ticket.ensures.word)
+store_event-requires-clause-phase g c = let p = lay c.args.board.now.plot in let m : ℕ = p.place c.args.node in
+    let v : View = g.S.BoardSeat.knows c.args.seat.now in let b : Bool = g.S.BoardSeat.leads in let t : ℕ = c.draw_ticket.result in
+    subst (λ (w : View). StoresEvent b p w m) (sym (c.draw_ticket.ensures.knows
+    ∙ ap (λ (w : View). draws b w m t) c.store_finished.ensures.knows))
+    (work_stores p v m b t c.requires.ready.0 c.draw_ticket.ensures.word)
 
 pub returns-clause-knows : goal.returns-clause-knows
-returns-clause-knows g c = let p = lay c.args.board.now.plot in let m : ℕ = p.place c.args.node in let v : View = g.S.BoardSeat.knows c.args.seat.now in let b : Bool = g.S.BoardSeat.leads in let t : ℕ = c.draw_ticket.result in
-    (t, c.draw_ticket.ensures.word, c.store_event.ensures.knows ∙ ap (λ (w : View). event_stored b w m) (c.draw_ticket.ensures.knows ∙ ap (λ (w : View). draws b w m t) c.store_finished.ensures.knows) ∙ work_stored p v m b t c.requires.ready.0)
+returns-clause-knows g c = let p = lay c.args.board.now.plot in let m : ℕ = p.place c.args.node in
+    let v : View = g.S.BoardSeat.knows c.args.seat.now in let b : Bool = g.S.BoardSeat.leads in let t : ℕ = c.draw_ticket.result in (
+      t,
+      c.draw_ticket.ensures.word,
+      c.store_event.ensures.knows
+          ∙ ap (λ (w : View). event_stored b w m) (c.draw_ticket.ensures.knows
+          ∙ ap (λ (w : View). draws b w m t) c.store_finished.ensures.knows) ∙ work_stored p v m b t c.requires.ready.0,
+    )

@@ -26,10 +26,13 @@ new-requires-clause-seats c = let e = c.in_ok-seat_of.ensures in let four : leng
 }
 
 pub returns-in-Some : goal.returns-in-Some
-returns-in-Some c = let b = c.in_ok-board.board in let p = lay b.plot in let e : Samples = silence c.args.shape.now in let d = c.in_ok-board.ensures.driver in let plot = c.in_ok-board.ensures.plot in
+returns-in-Some c = let b = c.in_ok-board.board in let p = lay b.plot in let e : Samples = silence c.args.shape.now in
+    let d = c.in_ok-board.ensures.driver in let plot = c.in_ok-board.ensures.plot in
     let seat : ℕ → Known = λ k. record { table = b.table.shared.table_id; knows = loop_view p e k } in
-    let s₁ : c.in-Some.one ≡ seat 0 = ap (λ o. unwrap_or o (seat 0)) (sym c.in-Some.ensures.0 ∙ c.in_ok-board.ensures.loops 0 (omega arith)) in
-    let s₂ : c.in-Some.two ≡ seat 1 = ap (λ o. unwrap_or o (seat 1)) (sym c.in-Some.ensures.1 ∙ c.in_ok-board.ensures.loops 1 (omega arith)) in
+    let s₁ : c.in-Some.one ≡ seat 0 = ap (λ o. unwrap_or o (seat 0))
+    (sym c.in-Some.ensures.0 ∙ c.in_ok-board.ensures.loops 0 (omega arith)) in
+    let s₂ : c.in-Some.two ≡ seat 1 = ap (λ o. unwrap_or o (seat 1))
+    (sym c.in-Some.ensures.1 ∙ c.in_ok-board.ensures.loops 1 (omega arith)) in
     let count : p.seats ≡ 2 = ap (λ (q : Plot). q.seats) plot in (
       ap (λ (q : Plot). q.shape) plot,
       ap (λ (k : Known). k.table) d,
@@ -38,8 +41,10 @@ returns-in-Some c = let b = c.in_ok-board.board in let p = lay b.plot in let e :
       ap (λ (q : Plot). q.seat_of) plot ∙ c.in_ok-seat_of.ensures,
       (
         subst (λ (v : View). IsBetween p v) (sym (ap (λ (k : Known). k.knows) d)) (new_between p e 2 b.sound),
-        (λ m h o own. subst (λ (v : View). IsResting p v m) (sym (ap (λ (k : Known). k.knows) s₁)) (new_rests p e 0 m h o own (omega arith))),
-        (λ m h o own. subst (λ (v : View). IsResting p v m) (sym (ap (λ (k : Known). k.knows) s₂)) (new_rests p e 1 m h o own (omega arith))),
+        (λ m h o own. subst (λ (v : View). IsResting p v m) (sym (ap (λ (k : Known). k.knows) s₁))
+            (new_rests p e 0 m h o own (omega arith))),
+        (λ m h o own. subst (λ (v : View). IsResting p v m) (sym (ap (λ (k : Known). k.knows) s₂))
+            (new_rests p e 1 m h o own (omega arith))),
       ),
     )
 

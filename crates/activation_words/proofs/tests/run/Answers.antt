@@ -8,12 +8,18 @@ use Rattle.activation_words.proofs.MemberLemmas.{started_ready, rested_rests, el
 use Rattle.activation_words.proofs.tests.run.Goals as goal
 
 pub finish-requires-clause-ready : goal.finish-requires-clause-ready
-finish-requires-clause-ready c = let p = lay c.args.board.now.plot in let m : ℕ = p.place c.args.node in started_ready p c.args.seat.now.knows m c.start.new.seat.knows c.requires.bare c.requires.node c.start.ensures.knows
+finish-requires-clause-ready c = let p = lay c.args.board.now.plot in let m : ℕ = p.place c.args.node in
+    started_ready p c.args.seat.now.knows m c.start.new.seat.knows c.requires.bare c.requires.node c.start.ensures.knows
 
 pub returns-clause-rests : goal.returns-clause-rests
 returns-clause-rests c = let p = lay c.args.board.now.plot in let m : ℕ = p.place c.args.node in
-    rested_rests p c.start.new.seat.knows m c.finish.new.seat.knows (started_ready p c.args.seat.now.knows m c.start.new.seat.knows c.requires.bare c.requires.node c.start.ensures.knows).0 c.finish.ensures.knows
+    rested_rests p c.start.new.seat.knows m c.finish.new.seat.knows
+    (started_ready p c.args.seat.now.knows m c.start.new.seat.knows c.requires.bare c.requires.node c.start.ensures.knows).0
+    c.finish.ensures.knows
 
 pub returns-clause-others : goal.returns-clause-others
-returns-clause-others c = let p = lay c.args.board.now.plot in let m : ℕ = p.place c.args.node in let v : View = c.args.seat.now.knows in let w : View = c.start.new.seat.knows in let s = c.start.ensures.knows in let f = c.finish.ensures.knows in
-    λ n o r. subst (λ (u : View). IsResting p u n) (sym f.is) (else_rests p w m n _ _ o (subst (λ (u : View). IsResting p u n) (sym s.2) (else_rests p v m n (record (node_of v m) { phase = Running; start = s.0 }) v.trail o r)))
+returns-clause-others c = let p = lay c.args.board.now.plot in let m : ℕ = p.place c.args.node in let v : View = c.args.seat.now.knows in
+    let w : View = c.start.new.seat.knows in let s = c.start.ensures.knows in let f = c.finish.ensures.knows in
+    λ n o r. subst (λ (u : View). IsResting p u n) (sym f.is)
+    (else_rests p w m n _ _ o (subst (λ (u : View). IsResting p u n) (sym s.2)
+    (else_rests p v m n (record (node_of v m) { phase = Running; start = s.0 }) v.trail o r)))

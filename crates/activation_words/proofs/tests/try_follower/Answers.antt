@@ -9,8 +9,15 @@ use Rattle.activation_words.proofs.tests.try_follower.Goals as goal
 
 pub turn-requires-clause-rests : goal.turn-requires-clause-rests
 turn-requires-clause-rests c = let p = lay c.args.board.now.plot in
-    let inside : p.place c.args.node < nodes p = search rules in let other : p.place c.args.node ≢ p.driver = search rules in let own : p.seat_of (p.place c.args.node) ≡ c.args.of_loop = ap (λ (l : List ℕ). get_or l (p.place c.args.node) 0) c.requires.row ∙ (let at : get_or (0 ∷ 1 ∷ 0 ∷ 0 ∷ []) c.place_of-at.result 0 ≡ c.args.of_loop = sym c.seat_at.ensures ∙ (let same : c.seat_at.result ≡ c.args.of_loop = search rules in same) in subst (λ k. get_or (0 ∷ 1 ∷ 0 ∷ 0 ∷ []) k 0 ≡ c.args.of_loop) (c.place_of-at.ensures ∙ ap (λ (s : Shape). place_in s c.args.node) c.shape-shape.ensures) at) in c.requires.rests (p.place c.args.node) inside other own
+    let inside : p.place c.args.node < nodes p = search rules in let other : p.place c.args.node ≢ p.driver = search rules in
+    let own : p.seat_of (p.place c.args.node) ≡ c.args.of_loop = ap (λ (l : List ℕ). get_or l (p.place c.args.node) 0) c.requires.row
+    ∙ (let at : get_or (0 ∷ 1 ∷ 0 ∷ 0 ∷ []) c.place_of-at.result 0 ≡ c.args.of_loop = sym c.seat_at.ensures
+    ∙ (let same : c.seat_at.result ≡ c.args.of_loop = search rules in same) in
+    subst (λ k. get_or (0 ∷ 1 ∷ 0 ∷ 0 ∷ []) k 0 ≡ c.args.of_loop)
+    (c.place_of-at.ensures ∙ ap (λ (s : Shape). place_in s c.args.node) c.shape-shape.ensures) at) in
+    c.requires.rests (p.place c.args.node) inside other own
 
 pub returns-clause-rests : goal.returns-clause-rests
 returns-clause-rests c = let p = lay c.args.board.now.plot in let m : ℕ = p.place c.args.node in let u : View = c.turn.new.seat.knows in
-    λ n h o e. dite (ℕ_discrete n m) (λ (q : n ≡ m). subst (λ k. IsResting p u k) (sym q) c.turn.ensures.rests) (λ (q : n ≢ m). c.turn.ensures.others n q (c.requires.rests n h o e))
+    λ n h o e. dite (ℕ_discrete n m) (λ (q : n ≡ m). subst (λ k. IsResting p u k) (sym q) c.turn.ensures.rests)
+    (λ (q : n ≢ m). c.turn.ensures.others n q (c.requires.rests n h o e))

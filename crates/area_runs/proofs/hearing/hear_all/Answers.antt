@@ -4,11 +4,13 @@ use Rattle.area_runs.proofs.hearing.hear_all.Goals as goal
 use Rattle.area_runs.proofs.hearing.hear_all.Goals.{then-hears, else-hears}
 
 pub hears-requires-clause-phase : goal.hears-requires-clause-phase
-hears-requires-clause-phase g c = may_hear _ _ _ c.args.links.now c.requires.phase c.loop-link.link-index _ c.loop-link-test.true c.loop-link.invariant.heard
+hears-requires-clause-phase g c =
+    may_hear _ _ _ c.args.links.now c.requires.phase c.loop-link.link-index _ c.loop-link-test.true c.loop-link.invariant.heard
 
 pub hears-requires-clause-gives : goal.hears-requires-clause-gives
 hears-requires-clause-gives g c =
-    still_gives _ _ _ c.args.links.now c.requires.phase c.loop-link.link-index _ c.loop-link-test.true c.loop-link.invariant.heard c.args.samples.now
+    still_gives _ _ _ c.args.links.now c.requires.phase c.loop-link.link-index _ c.loop-link-test.true c.loop-link.invariant.heard
+    c.args.samples.now
     (c.requires.gives c.loop-link.link-index 0 c.loop-link-test.true)
 
 pub loop-link-preserved : goal.loop-link-preserved

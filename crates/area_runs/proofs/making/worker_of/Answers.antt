@@ -12,7 +12,8 @@ nodes_of-requires-clause-few c = let few = few_pools c.args.shape.now c.requires
 pub returns : goal.returns
 returns c = λ seats. record {
   seat_is = c.seat.view_is;
-  nodes_are = subst (HasNodesOf (record { shape = c.args.shape.now; seat_of = c.args.seat_of.now; seats = seats }) c.args.k) (sym c.nodes.view_is)
+  nodes_are = subst (HasNodesOf (record { shape = c.args.shape.now; seat_of = c.args.seat_of.now; seats = seats }) c.args.k)
+      (sym c.nodes.view_is)
       (c.in_ok-nodes.ensures seats);
   shapes_are = c.shapes.view_is ∙ c.in_ok-shapes.ensures;
   free_are = c.into_vec-free.ensures ∙ c.in_ok-free_of.ensures ∙ ap (map fresh_queue) (c.as_slice-2.ensures ∙ c.in_ok-shapes.ensures);

@@ -10,7 +10,8 @@ use Rattle.area_runs.proofs.MakingLemmas.{one_made}
 use Rattle.area_runs.proofs.making.workers_of.Goals as goal
 
 pub loop-seat-preserved : goal.loop-seat-preserved
-loop-seat-preserved c = let i = c.loop-seat.invariant in let y = c.loop-seat.yielded in let seat = c.in-Some.seat in let x = length-append y (seat ∷ []) in
+loop-seat-preserved c = let i = c.loop-seat.invariant in let y = c.loop-seat.yielded in let seat = c.in-Some.seat in
+    let x = length-append y (seat ∷ []) in
     let n = i.number in record {
       number = omega arith;
       made = λ seats. let plot : Plot = record { shape = c.args.shape.now; seat_of = c.args.seat_of.now; seats = seats } in
@@ -21,7 +22,8 @@ loop-seat-preserved c = let i = c.loop-seat.invariant in let y = c.loop-seat.yie
 
 pub returns : goal.returns
 returns c = let gives = c.into_iter-seat-iterator.ensures.into_iter_gives in
-    let end = YieldsList-end (YieldsList-from_vec {s = c.into_iter-seat-iterator.result} c.args.loops (gives.0 ∙ c.into_vec-seat-items.ensures)
+    let end = YieldsList-end (YieldsList-from_vec {s = c.into_iter-seat-iterator.result} c.args.loops
+    (gives.0 ∙ c.into_vec-seat-items.ensures)
     (gives.1 ∙ c.into_vec-seat-items.result.ok.0 ∙ ap (λ (l : List Known). length l) c.into_vec-seat-items.ensures))
     c.loop-seat.yielded c.loop-seat.seat-iterator c.loop-seat.yielded_by _ c.next.new.self c.in-None.is c.next.ensures.steps in
     let all : c.loop-seat.yielded ≡ c.args.loops = sym (map-id c.loop-seat.yielded) ∙ end.0 in

@@ -14,18 +14,23 @@ use Rattle.area_runs.proofs.OpeningLemmas.{is_table, worker_begins, workers_firs
 use Rattle.area_runs.proofs.opening.open.Goals as goal
 
 pub new-requires-clause-samples : goal.new-requires-clause-samples
-new-requires-clause-samples g c = let plot : Plot = record { shape = c.args.shape.now; seat_of = c.args.seat_of.now; seats = c.args.seats } in
+new-requires-clause-samples g c = let plot : Plot =
+    record { shape = c.args.shape.now; seat_of = c.args.seat_of.now; seats = c.args.seats } in
     subst (IsTable (lay plot)) (sym c.requires.table) (is_table (lay plot) c.args.samples.now c.requires.openable.fit c.look_over.ensures)
 
 pub returns : goal.returns
-returns g c = let plot : Plot = record { shape = c.args.shape.now; seat_of = c.args.seat_of.now; seats = c.args.seats } in let xs = c.args.samples.now in
+returns g c = let plot : Plot = record { shape = c.args.shape.now; seat_of = c.args.seat_of.now; seats = c.args.seats } in
+    let xs = c.args.samples.now in
     let ok = c.requires.openable in
-    let b = c.in_ok-board.board in let t : TableId = b.table.shared.table_id in let e = c.in_ok-board.ensures in let some = ok.seats.some_seats in
+    let b = c.in_ok-board.board in let t : TableId = b.table.shared.table_id in let e = c.in_ok-board.ensures in
+    let some = ok.seats.some_seats in
     let sound : IsSound (lay plot) = subst (λ (q : Plot). IsSound (lay q)) e.plot b.sound in
     let driver : c.in_ok-board.driver ≡ record { table = t; knows = driver_view (lay plot) (steady plot.shape xs) plot.seats } = e.driver
-    ∙ ap (λ (x : Plot × Samples). record { table = t; knows = driver_view (lay x.0) x.1 plot.seats }) (λ i. (e.plot i, c.requires.table i)) in
+    ∙ ap (λ (x : Plot × Samples). record { table = t; knows = driver_view (lay x.0) x.1 plot.seats })
+    (λ i. (e.plot i, c.requires.table i)) in
     let made : AreMade plot xs c.in_ok-board.loops c.in_ok-workers.workers =
-    subst (λ (s : List ℕ). AreMade (record { shape = c.args.shape.now; seat_of = s; seats = c.args.seats }) xs c.in_ok-board.loops c.in_ok-workers.workers)
+    subst (λ (s : List ℕ). AreMade (record { shape = c.args.shape.now; seat_of = s; seats = c.args.seats })
+    xs c.in_ok-board.loops c.in_ok-workers.workers)
     c.as_slice.ensures (c.in_ok-workers.ensures c.args.seats) in
     let lead = subst (λ s. IsLeadMade plot.shape xs s c.in_ok-lead.lead) driver c.in_ok-lead.ensures in
     let begins = lead_first plot sound xs ok t plot.seats some c.in_ok-lead.lead lead in record {
@@ -41,7 +46,8 @@ returns g c = let plot : Plot = record { shape = c.args.shape.now; seat_of = c.a
           let seat : Known = record { table = t; knows = loop_view (lay plot) (steady plot.shape xs) k } in
           let loop = get_or_from_slice_get c.in_ok-board.loops k _ seat (e.loops k low)
           ∙ ap (λ (x : Plot × Samples). record { table = t; knows = loop_view (lay x.0) x.1 k }) (λ i. (e.plot i, c.requires.table i)) in
-          let is = subst (λ (x : Known × Worker). IsMade plot xs k x.0 x.1) (λ i. (loop i, get_or_from_slice_get c.in_ok-workers.workers k w w at i))
+          let is = subst (λ (x : Known × Worker). IsMade plot xs k x.0 x.1)
+          (λ i. (loop i, get_or_from_slice_get c.in_ok-workers.workers k w w at i))
           (made.each k seat w (omega arith)) in (
             subst (λ (q : Plot). IsReady (lay q) t w) (sym e.plot) (worker_begins plot sound xs ok t k low w is),
             is.nodes_are,

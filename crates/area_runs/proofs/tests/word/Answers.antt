@@ -9,4 +9,5 @@ unfolding word_count
 forty = refl
 
 pub peek-requires : goal.peek-requires
-peek-requires c = subst (λ (s : Shape). c.args.at < word_count s) (sym c.requires.shape) (subst (λ n. c.args.at < n) (sym forty) c.requires.inside)
+peek-requires c = subst (λ (s : Shape). c.args.at < word_count s) (sym c.requires.shape)
+    (subst (λ n. c.args.at < n) (sym forty) c.requires.inside)

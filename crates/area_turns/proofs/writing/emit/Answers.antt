@@ -7,7 +7,8 @@ use Rattle.area_turns.proofs.writing.emit.Goals as goal
 
 pub announce-requires-clause-phase : goal.announce-requires-clause-phase
 announce-requires-clause-phase c = let p = lay c.args.board.now.plot in let v : View = c.args.seat.now.knows in let q : ℕ = c.args.pool in
-    subst (λ (w : View). Announces p w q) (sym c.fill.ensures.knows) (may_announce p v q c.args.id c.requires.phase.0 c.requires.free c.requires.inside)
+    subst (λ (w : View). Announces p w q) (sym c.fill.ensures.knows)
+    (may_announce p v q c.args.id c.requires.phase.0 c.requires.free c.requires.inside)
 
 pub returns-clause-knows : goal.returns-clause-knows
 returns-clause-knows c = let p = lay c.args.board.now.plot in let v : View = c.args.seat.now.knows in let q : ℕ = c.args.pool in

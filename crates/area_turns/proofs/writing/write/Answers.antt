@@ -35,24 +35,30 @@ obtain-reclaimed-requires-clause-stock c = let p = lay c.args.board.now.plot in 
     turn.stock_again t
 
 pub emit-requires-clause-phase : goal.emit-requires-clause-phase
-emit-requires-clause-phase c = let p = lay c.args.board.now.plot in let v : View = c.args.seat.now.knows in let w : View = c.load_all-given.new.seat.knows in
+emit-requires-clause-phase c = let p = lay c.args.board.now.plot in let v : View = c.args.seat.now.knows in
+    let w : View = c.load_all-given.new.seat.knows in
     let r = c.requires in
     let t = begun p v c.args.pool c.args.free.now c.args.links.now w r.plain r.phase r.links r.stock c.load_all-given.ensures.ends in
-    let o = c.obtain-reclaimed in let e = o.ensures in let u = obtained t o.result o.new.seat.knows o.new.free e.reclaimed e.queue e.blocks in
+    let o = c.obtain-reclaimed in let e = o.ensures in
+    let u = obtained t o.result o.new.seat.knows o.new.free e.reclaimed e.queue e.blocks in
     turn.may_fill u
 
 pub emit-requires-clause-free : goal.emit-requires-clause-free
-emit-requires-clause-free c = let p = lay c.args.board.now.plot in let v : View = c.args.seat.now.knows in let w : View = c.load_all-given.new.seat.knows in
+emit-requires-clause-free c = let p = lay c.args.board.now.plot in let v : View = c.args.seat.now.knows in
+    let w : View = c.load_all-given.new.seat.knows in
     let r = c.requires in
     let t = begun p v c.args.pool c.args.free.now c.args.links.now w r.plain r.phase r.links r.stock c.load_all-given.ensures.ends in
-    let o = c.obtain-reclaimed in let e = o.ensures in let u = obtained t o.result o.new.seat.knows o.new.free e.reclaimed e.queue e.blocks in
+    let o = c.obtain-reclaimed in let e = o.ensures in
+    let u = obtained t o.result o.new.seat.knows o.new.free e.reclaimed e.queue e.blocks in
     turn.all_back u
 
 pub emit-requires-clause-inside : goal.emit-requires-clause-inside
-emit-requires-clause-inside c = let p = lay c.args.board.now.plot in let v : View = c.args.seat.now.knows in let w : View = c.load_all-given.new.seat.knows in
+emit-requires-clause-inside c = let p = lay c.args.board.now.plot in let v : View = c.args.seat.now.knows in
+    let w : View = c.load_all-given.new.seat.knows in
     let r = c.requires in
     let t = begun p v c.args.pool c.args.free.now c.args.links.now w r.plain r.phase r.links r.stock c.load_all-given.ensures.ends in
-    let o = c.obtain-reclaimed in let e = o.ensures in let u = obtained t o.result o.new.seat.knows o.new.free e.reclaimed e.queue e.blocks in
+    let o = c.obtain-reclaimed in let e = o.ensures in
+    let u = obtained t o.result o.new.seat.knows o.new.free e.reclaimed e.queue e.blocks in
     (turn.others u).inside
 
 pub publish_all-requires-clause-once : goal.publish_all-requires-clause-once
@@ -63,35 +69,45 @@ pub publish_all-requires-clause-phase : goal.publish_all-requires-clause-phase
 publish_all-requires-clause-phase c = let p = lay c.args.board.now.plot in let v : View = c.args.seat.now.knows in
     let w : View = c.load_all-given.new.seat.knows in let r = c.requires in
     let t = begun p v c.args.pool c.args.free.now c.args.links.now w r.plain r.phase r.links r.stock c.load_all-given.ensures.ends in
-    let o = c.obtain-reclaimed in let e = o.ensures in let u = obtained t o.result o.new.seat.knows o.new.free e.reclaimed e.queue e.blocks in
+    let o = c.obtain-reclaimed in let e = o.ensures in
+    let u = obtained t o.result o.new.seat.knows o.new.free e.reclaimed e.queue e.blocks in
     let y : View = c.emit.new.seat.knows in let d = emitted u y c.emit.ensures.knows in
     subst (All (Publishes p y)) (sym r.links) (turn.may_publish_all d)
 
 pub returns-clause-knows : goal.returns-clause-knows
-returns-clause-knows c = let p = lay c.args.board.now.plot in let v : View = c.args.seat.now.knows in let w : View = c.load_all-given.new.seat.knows in
+returns-clause-knows c = let p = lay c.args.board.now.plot in let v : View = c.args.seat.now.knows in
+    let w : View = c.load_all-given.new.seat.knows in
     let r = c.requires in
     let t = begun p v c.args.pool c.args.free.now c.args.links.now w r.plain r.phase r.links r.stock c.load_all-given.ensures.ends in
-    let o = c.obtain-reclaimed in let e = o.ensures in let u = obtained t o.result o.new.seat.knows o.new.free e.reclaimed e.queue e.blocks in
+    let o = c.obtain-reclaimed in let e = o.ensures in
+    let u = obtained t o.result o.new.seat.knows o.new.free e.reclaimed e.queue e.blocks in
     let y : View = c.emit.new.seat.knows in let d = emitted u y c.emit.ensures.knows in
-    let z : View = c.publish_all.new.seat.knows in let ends = subst (λ xs. AreMade (IsPublishedNow p y) y xs z) r.links c.publish_all.ensures.ends in
+    let z : View = c.publish_all.new.seat.knows in let ends =
+    subst (λ xs. AreMade (IsPublishedNow p y) y xs z) r.links c.publish_all.ensures.ends in
     turn.has_written d z ends
 
 pub returns-clause-stock : goal.returns-clause-stock
-returns-clause-stock c = let p = lay c.args.board.now.plot in let v : View = c.args.seat.now.knows in let w : View = c.load_all-given.new.seat.knows in
+returns-clause-stock c = let p = lay c.args.board.now.plot in let v : View = c.args.seat.now.knows in
+    let w : View = c.load_all-given.new.seat.knows in
     let r = c.requires in
     let t = begun p v c.args.pool c.args.free.now c.args.links.now w r.plain r.phase r.links r.stock c.load_all-given.ensures.ends in
-    let o = c.obtain-reclaimed in let e = o.ensures in let u = obtained t o.result o.new.seat.knows o.new.free e.reclaimed e.queue e.blocks in
+    let o = c.obtain-reclaimed in let e = o.ensures in
+    let u = obtained t o.result o.new.seat.knows o.new.free e.reclaimed e.queue e.blocks in
     let y : View = c.emit.new.seat.knows in let d = emitted u y c.emit.ensures.knows in
-    let z : View = c.publish_all.new.seat.knows in let ends = subst (λ xs. AreMade (IsPublishedNow p y) y xs z) r.links c.publish_all.ensures.ends in
+    let z : View = c.publish_all.new.seat.knows in let ends =
+    subst (λ xs. AreMade (IsPublishedNow p y) y xs z) r.links c.publish_all.ensures.ends in
     turn.new_stock d z ends
 
 pub returns-clause-answer : goal.returns-clause-answer
-returns-clause-answer c = let p = lay c.args.board.now.plot in let v : View = c.args.seat.now.knows in let w : View = c.load_all-given.new.seat.knows in
+returns-clause-answer c = let p = lay c.args.board.now.plot in let v : View = c.args.seat.now.knows in
+    let w : View = c.load_all-given.new.seat.knows in
     let r = c.requires in
     let t = begun p v c.args.pool c.args.free.now c.args.links.now w r.plain r.phase r.links r.stock c.load_all-given.ensures.ends in
-    let o = c.obtain-reclaimed in let e = o.ensures in let u = obtained t o.result o.new.seat.knows o.new.free e.reclaimed e.queue e.blocks in
+    let o = c.obtain-reclaimed in let e = o.ensures in
+    let u = obtained t o.result o.new.seat.knows o.new.free e.reclaimed e.queue e.blocks in
     let y : View = c.emit.new.seat.knows in let d = emitted u y c.emit.ensures.knows in
-    let z : View = c.publish_all.new.seat.knows in let ends = subst (λ xs. AreMade (IsPublishedNow p y) y xs z) r.links c.publish_all.ensures.ends in
+    let z : View = c.publish_all.new.seat.knows in let ends =
+    subst (λ xs. AreMade (IsPublishedNow p y) y xs z) r.links c.publish_all.ensures.ends in
     record {
       given = c.load_all-given.ensures.given ∙ ap (λ xs. number_given p v (last_of xs)) r.links;
       reclaimed = turn.told_back u;

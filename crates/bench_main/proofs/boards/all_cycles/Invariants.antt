@@ -5,4 +5,5 @@ use Rattle.bench_main.proofs.boards.all_cycles.Given as goal
 
 abbrev pub invariant-loop : goal.invariant-loop
 invariant-loop l =
-    (l.driver.table ≡ l.fn.driver.table) × (l.seat.table ≡ l.fn.seat.table) × IsBetween (lay l.board.plot) l.driver.knows × AllRest (lay l.board.plot) 0 l.seat.knows
+    (l.driver.table ≡ l.fn.driver.table) × (l.seat.table ≡ l.fn.seat.table) × IsBetween (lay l.board.plot) l.driver.knows
+    × AllRest (lay l.board.plot) 0 l.seat.knows

@@ -4,4 +4,5 @@ use Rattle.board_rule.specs.Closing.{AreRecorded}
 use Rattle.board_rule.proofs.closing.history.Given as goal
 
 abbrev pub invariant-loop-t : goal.invariant-loop-t
-invariant-loop-t l = ((all : List Event) → AreRecorded l.first l.lates l.events all l.words.words.items → l.room.list ≡ take l.t all) × (get_or l.words.words.items 0 0 ≤ l.room.spare + l.t)
+invariant-loop-t l = ((all : List Event) → AreRecorded l.first l.lates l.events all l.words.words.items → l.room.list ≡ take l.t all)
+    × (get_or l.words.words.items 0 0 ≤ l.room.spare + l.t)

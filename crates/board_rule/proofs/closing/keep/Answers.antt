@@ -11,5 +11,6 @@ pub split_seat-requires : goal.split_seat-requires
 split_seat-requires g c = let b = c.args.board.now in let t = c.args.token.now in let words = b.words in let room = b.room in (
   c.requires.table,
   omega arith,
-  subst (λ (k : Plot × View × View). Splits {S = Option ℕ} (Holds (lay k.0)) t.id t.me.0 k.1 k.2) (λ i. (sym b.about i, sym c.requires.left i, sym c.requires.right i)) (keeps_view (lay b.plot) t.id t.me.0 c.requires.leads),
+  subst (λ (k : Plot × View × View). Splits {S = Option ℕ} (Holds (lay k.0)) t.id t.me.0 k.1 k.2)
+      (λ i. (sym b.about i, sym c.requires.left i, sym c.requires.right i)) (keeps_view (lay b.plot) t.id t.me.0 c.requires.leads),
 )

@@ -11,8 +11,10 @@ use Rattle.board_rule.proofs.RowLemmas.{row_grown, sum_more}
 use Rattle.board_rule.proofs.rows.links_of.Goals as goal
 
 pub loop-link-preserved : goal.loop-link-preserved
-loop-link-preserved c = let i = c.loop-link.invariant in let n : ℕ = c.loop-link.link-index in let shape = c.args.shape.now in let long = i.0 in let start = i.1 in let few = i.2 in
-    let links : List ShapeLink = shape.links in let now = c.as_slice-link-items.ensures in let count : length c.as_slice-link-items.result.now ≡ length links = ap (λ (l : List ShapeLink). length l) now in
+loop-link-preserved c = let i = c.loop-link.invariant in let n : ℕ = c.loop-link.link-index in let shape = c.args.shape.now in
+    let long = i.0 in let start = i.1 in let few = i.2 in
+    let links : List ShapeLink = shape.links in let now = c.as_slice-link-items.ensures in
+    let count : length c.as_slice-link-items.result.now ≡ length links = ap (λ (l : List ShapeLink). length l) now in
     let inside : n < length links = (let t = c.loop-link-test.true in omega arith) in
     let k : ShapeLink = slice_index_or c.as_slice-link-items.result.now n no_link in
     let same : k ≡ link_in shape n = ap (λ (l : List ShapeLink). slice_index_or l n no_link) now in
@@ -21,7 +23,8 @@ loop-link-preserved c = let i = c.loop-link.invariant in let n : ℕ = c.loop-li
     let more = sum_more areas_of links n no_link inside in
     let next : c.loop-link.area + c.areas_at-area.result ≡ io_place shape (n + 1) 0 = omega arith in
     let items = c.in_ok-push.ensures.items in let row = c.link_row.result in
-    let new : IsLinkRow shape (link_in shape n) (io_place shape n 0) row = subst (λ (z : ShapeLink × ℕ). IsLinkRow shape z.0 z.1 row) (λ j. (same j, start j)) c.link_row.ensures in (
+    let new : IsLinkRow shape (link_in shape n) (io_place shape n 0) row =
+    subst (λ (z : ShapeLink × ℕ). IsLinkRow shape z.0 z.1 row) (λ j. (same j, start j)) c.link_row.ensures in (
       ap (λ (l : List LinkRow). length l) items ∙ length-append c.loop-link.rows.items (row ∷ []) ∙ ap (λ z. z + 1) long,
       next,
       omega arith,
@@ -30,7 +33,11 @@ loop-link-preserved c = let i = c.loop-link.invariant in let n : ℕ = c.loop-li
     )
 
 pub link_row-requires-clause-has : goal.link_row-requires-clause-has
-link_row-requires-clause-has c = let n : ℕ = c.loop-link.link-index in let shape = c.args.shape.now in let now = c.as_slice-link-items.ensures in
-    let count : length c.as_slice-link-items.result.now ≡ length shape.links = ap (λ (l : List ShapeLink). length l) now in let inside : n < length shape.links = (let t = c.loop-link-test.true in omega arith) in
-    let same : slice_index_or c.as_slice-link-items.result.now n no_link ≡ link_in shape n = ap (λ (l : List ShapeLink). slice_index_or l n no_link) now in
-    subst (λ (k : ShapeLink). position_or_len (λ x. is_port x.port k.from) (pools_of shape) < length (pools_of shape)) (sym same) (c.requires.placed.pools n inside)
+link_row-requires-clause-has c = let n : ℕ = c.loop-link.link-index in let shape = c.args.shape.now in
+    let now = c.as_slice-link-items.ensures in
+    let count : length c.as_slice-link-items.result.now ≡ length shape.links = ap (λ (l : List ShapeLink). length l) now in
+    let inside : n < length shape.links = (let t = c.loop-link-test.true in omega arith) in
+    let same : slice_index_or c.as_slice-link-items.result.now n no_link ≡ link_in shape n =
+    ap (λ (l : List ShapeLink). slice_index_or l n no_link) now in
+    subst (λ (k : ShapeLink). position_or_len (λ x. is_port x.port k.from) (pools_of shape) < length (pools_of shape)) (sym same)
+    (c.requires.placed.pools n inside)

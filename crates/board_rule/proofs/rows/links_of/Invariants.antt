@@ -7,5 +7,7 @@ use Rattle.board_rule.specs.Rows.{IsLinkRow}
 use Rattle.board_rule.proofs.rows.links_of.Given as goal
 
 abbrev pub invariant-loop-link : goal.invariant-loop-link
-invariant-loop-link l = (length l.rows.items ≡ l.link-index) × (l.area ≡ io_place l.shape l.link-index 0) × (l.area ≤ 1 + 2 * node_count l.shape + 2 * l.link-index)
-    × ((j : ℕ) (d : LinkRow) → j < l.link-index → IsLinkRow l.shape (link_in l.shape j) (io_place l.shape j 0) (slice_index_or l.rows.items j d))
+invariant-loop-link l = (length l.rows.items ≡ l.link-index) × (l.area ≡ io_place l.shape l.link-index 0)
+    × (l.area ≤ 1 + 2 * node_count l.shape + 2 * l.link-index)
+    × ((j : ℕ) (d : LinkRow) → j < l.link-index → IsLinkRow l.shape (link_in l.shape j) (io_place l.shape j 0)
+    (slice_index_or l.rows.items j d))

@@ -4,5 +4,7 @@ use Rattle.board_rule.specs.Layout.{place_in}
 use Rattle.board_rule.proofs.rows.places.Goals as goal
 
 pub loop-n-preserved : goal.loop-n-preserved
-loop-n-preserved c = let xs : List ℕ = c.args.nodes.now in let i : ℕ = c.loop-n.n-index in let f = place_in c.args.shape.now in let near : i < length xs = omega arith in
-    c.in_ok-push.ensures.items ∙ ap (λ y. c.loop-n.found.items ++ y ∷ []) c.place_in.ensures ∙ ap (λ l. l ++ f (get_or xs i 0) ∷ []) c.loop-n.invariant ∙ sym (map_more f xs i 0 near)
+loop-n-preserved c = let xs : List ℕ = c.args.nodes.now in let i : ℕ = c.loop-n.n-index in let f = place_in c.args.shape.now in
+    let near : i < length xs = omega arith in
+    c.in_ok-push.ensures.items ∙ ap (λ y. c.loop-n.found.items ++ y ∷ []) c.place_in.ensures
+    ∙ ap (λ l. l ++ f (get_or xs i 0) ∷ []) c.loop-n.invariant ∙ sym (map_more f xs i 0 near)

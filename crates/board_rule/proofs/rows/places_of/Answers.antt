@@ -4,5 +4,8 @@ use Rattle.board_rule.proofs.RowLemmas.{filled}
 use Rattle.board_rule.proofs.rows.places_of.Goals as goal
 
 pub loop-n-preserved : goal.loop-n-preserved
-loop-n-preserved c = let i = c.loop-n.invariant in let n : ℕ = c.loop-n.n in let e = c.place_in.ensures in let long = i.0 in
-    (length-set c.loop-n.places n c.place_in.result ∙ i.0, subst (λ x. (k : ℕ) → k < n + 1 → slice_index (set c.loop-n.places n x) k ≡ place_in c.args.shape.now k) (sym e) (filled (place_in c.args.shape.now) c.loop-n.places n (omega arith) i.1))
+loop-n-preserved c = let i = c.loop-n.invariant in let n : ℕ = c.loop-n.n in let e = c.place_in.ensures in let long = i.0 in (
+  length-set c.loop-n.places n c.place_in.result ∙ i.0,
+  subst (λ x. (k : ℕ) → k < n + 1 → slice_index (set c.loop-n.places n x) k ≡ place_in c.args.shape.now k) (sym e)
+      (filled (place_in c.args.shape.now) c.loop-n.places n (omega arith) i.1),
+)

@@ -6,4 +6,5 @@ use Rattle.pw_base.proofs.HistoryLemmas.{place_or_end}
 use Rattle.board_rule.proofs.rows.pool_of.Goals as goal
 
 pub returns : goal.returns
-returns c = c.unwrap_or.ensures ∙ ap (λ o. unwrap_or o (length c.args.pools.now)) c.find_pool.ensures ∙ place_or_end (λ (x : PoolShape). is_port x.port c.args.port) c.args.pools.now
+returns c = c.unwrap_or.ensures ∙ ap (λ o. unwrap_or o (length c.args.pools.now)) c.find_pool.ensures
+    ∙ place_or_end (λ (x : PoolShape). is_port x.port c.args.port) c.args.pools.now

@@ -20,6 +20,7 @@ loop-i-preserved c =
 pub returns : goal.returns
 returns c =
     let long : length c.loop-i.to ≡ min (length c.args.sums.now) (length c.args.row.now) = omega arith in
-    fill_by_all (λ k. get_or c.args.sums.now k (pos 0) +ℤ get_or c.args.row.now k (pos 0)) c.loop-i.to (min (length c.args.sums.now) (length c.args.row.now)) (pos 0) long
+    fill_by_all (λ k. get_or c.args.sums.now k (pos 0) +ℤ get_or c.args.row.now k (pos 0)) c.loop-i.to
+    (min (length c.args.sums.now) (length c.args.row.now)) (pos 0) long
     (λ k h. c.loop-i.invariant k (omega arith))
     ∙ sym (pair_row (λ x y. x +ℤ y) c.args.sums.now c.args.row.now)

@@ -6,5 +6,6 @@ use Rattle.cycle_model.proofs.kinds.fill.Goals as goal
 pub returns : goal.returns
 returns c =
     let long : length c.loop-r.to ≡ length c.args.to.now = omega arith in
-    fill_by_all (λ r. kind_sample c.args.kind.now (heard_of c.args.wave.now c.args.channels c.args.received.now) c.args.output (c.args.from + r)) c.loop-r.to (length c.args.to.now) (pos 0) long
+    fill_by_all (λ r. kind_sample c.args.kind.now (heard_of c.args.wave.now c.args.channels c.args.received.now) c.args.output
+    (c.args.from + r)) c.loop-r.to (length c.args.to.now) (pos 0) long
     (λ k h. c.loop-r.invariant k (omega arith))

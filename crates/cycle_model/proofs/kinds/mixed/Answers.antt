@@ -12,6 +12,7 @@ returns c =
     let gb_fits = c.ranges.gb in
     let left : c.product.result ≡ c.args.a *ℤ c.args.ga = simp to_z-of_z at c.product.ensures.value in
     let right : c.product-2.result ≡ c.args.b *ℤ c.args.gb = simp to_z-of_z at c.product-2.ensures.value in
-    let sum : to_z w64 (of_z w64 (to_z w64 (of_z w64 c.product.result) +ℤ to_z w64 (of_z w64 c.product-2.result))) ≡ c.product.result +ℤ c.product-2.result = omega (arith, ints) in
+    let sum : to_z w64 (of_z w64 (to_z w64 (of_z w64 c.product.result) +ℤ to_z w64 (of_z w64 c.product-2.result)))
+    ≡ c.product.result +ℤ c.product-2.result = omega (arith, ints) in
     let same : to_z w16 (of_z w16 c.rounded.result) ≡ c.rounded.result = omega (arith, ints) in
     same ∙ c.rounded.ensures ∙ ap (λ z. clamped (int_shr z 8)) (sum ∙ ap₂ (λ x y. x +ℤ y) left right)

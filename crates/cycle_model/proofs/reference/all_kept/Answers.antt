@@ -20,8 +20,10 @@ loop-i-preserved c =
     let lt : i < length plan.nodes = omega (arith, ap length same) in
     let read : node ≡ get_or plan.nodes i node = subst (λ xs. node ≡ get_or xs i node) same c.index-nodes-i.is in
     let has : i < length received = omega (arith, lt, c.requires.received.counted) in
-    let here : c.index-received-i.result ≡ get_or received i nothing = c.index-received-i.is ∙ get_or_default received i c.index-received-i.result nothing has in
-    let kept : c.in_ok-kept.kept ≡ h (i, node) = c.in_ok-kept.ensures ∙ ap (λ r. kept_by i node r) here ∙ kept_is plan c.args.waves.now received c.requires.received i node lt read in
+    let here : c.index-received-i.result ≡ get_or received i nothing = c.index-received-i.is
+    ∙ get_or_default received i c.index-received-i.result nothing has in
+    let kept : c.in_ok-kept.kept ≡ h (i, node) = c.in_ok-kept.ensures ∙ ap (λ r. kept_by i node r) here
+    ∙ kept_is plan c.args.waves.now received c.requires.received i node lt read in
     c.in_ok-append.ensures
     ∙ ap (λ k. c.loop-i.sinks ++ option_to_list k) kept
     ∙ ap (λ t. t ++ option_to_list (h (i, node))) c.loop-i.invariant

@@ -22,8 +22,10 @@ loop-output-preserved c =
     let found : PortId = record { node = c.args.node; port = c.inputs-inputs.result + k } in
     let wanted : PortId = record { node = c.args.node; port = input_count kind + k } in
     let same : found ≡ wanted = ap (λ n. let p : PortId = record { node = c.args.node; port = n + k } in p) c.inputs-inputs.ensures in
-    let channels : c.channels_of-channels.result ≡ channels_of c.args.at.now.epoch.now.forms wanted = c.channels_of-channels.ensures ∙ ap₂ (λ forms p. channels_of forms p) c.as_slice.ensures same in
-    let row : c.in_ok-samples.samples ≡ last_of (q * channels_of c.args.at.now.epoch.now.forms wanted) (kind_output kind (heard_of wave (channels_of c.args.at.now.epoch.now.forms wanted) received) k) =
+    let channels : c.channels_of-channels.result ≡ channels_of c.args.at.now.epoch.now.forms wanted = c.channels_of-channels.ensures
+    ∙ ap₂ (λ forms p. channels_of forms p) c.as_slice.ensures same in
+    let row : c.in_ok-samples.samples ≡ last_of (q * channels_of c.args.at.now.epoch.now.forms wanted)
+    (kind_output kind (heard_of wave (channels_of c.args.at.now.epoch.now.forms wanted) received) k) =
     c.in_ok-samples.ensures
     ∙ ap (λ n. last_of n (kind_output kind (heard_of wave c.channels_of-channels.result received) k)) c.samples_in-n.ensures
     ∙ ap (λ ch. last_of (q * ch) (kind_output kind (heard_of wave ch received) k)) channels in

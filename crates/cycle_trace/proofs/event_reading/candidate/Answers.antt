@@ -11,7 +11,8 @@ returns-in-Some-clause-only c = λ event line.
     let pieces = rw c.in-Some.is at c.next_piece.ensures.pieces in
     let first : c.next_piece.result.0.now ≡ said.first = cc (pieces, said.words) in
     let rest : slice_split is_space c.in-Some.after.now ≡ decimal said.cycle ∷ said.others = cc (pieces, said.words) in
-    c.event_after.ensures.only event said.cycle said.others rest said.fits (ap (λ w. event_said c.args.names.now w said.cycle said.others) first ∙ said.said)
+    c.event_after.ensures.only event said.cycle said.others rest said.fits
+    (ap (λ w. event_said c.args.names.now w said.cycle said.others) first ∙ said.said)
 
 pub returns-in-None-clause-only : goal.returns-in-None-clause-only
 returns-in-None-clause-only c = λ event line.

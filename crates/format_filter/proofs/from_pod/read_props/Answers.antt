@@ -11,7 +11,8 @@ returns-then-contains_key-clause-fault c =
     let inside : c.loop-prop.prop-index < length c.args.props.now = omega arith in
     let prop = c.prop-item.result in
     let some = some_from (field_at c.loop-prop.read (key_of prop)) (sym c.contains_key.ensures ∙ c.if-contains_key.true) in
-    inr (twice_faults c.args.props.now c.loop-prop.prop-index prop c.loop-prop.read some.0 inside c.prop-item.is c.loop-prop.invariant some.1)
+    inr (twice_faults c.args.props.now c.loop-prop.prop-index prop c.loop-prop.read some.0 inside c.prop-item.is c.loop-prop.invariant
+    some.1)
 
 pub returns-in-Err-clause-fault : goal.returns-in-Err-clause-fault
 returns-in-Err-clause-fault c =
@@ -20,7 +21,8 @@ returns-in-Err-clause-fault c =
     let none = none_from (field_at c.loop-prop.read (key_of prop)) (sym c.contains_key.ensures ∙ c.if-contains_key.false) in
     elim c.in-Err.ensures.fault [
       | inl m ↦ inl m
-      | inr w ↦ inr (value_faults c.args.props.now c.loop-prop.prop-index prop c.loop-prop.read c.in-Err.fault inside c.prop-item.is c.loop-prop.invariant none w)
+      | inr w ↦ inr (value_faults c.args.props.now c.loop-prop.prop-index prop c.loop-prop.read c.in-Err.fault inside c.prop-item.is
+          c.loop-prop.invariant none w)
     ]
 
 pub loop-prop-preserved : goal.loop-prop-preserved
@@ -30,5 +32,6 @@ loop-prop-preserved c =
     let i = c.loop-prop.prop-index in
     let none = none_from (field_at c.loop-prop.read (key_of prop)) (sym c.contains_key.ensures ∙ c.if-contains_key.false) in
     subst (λ (xs : List Prop). AreRead xs c.put.new.read) (sym (next_prop c.args.props.now i prop inside c.prop-item.is))
-    (read_more (take i c.args.props.now) c.loop-prop.read c.put.new.read prop (record { key = prop.key; flags = prop.flags; choice = c.in-Ok.choice }) c.loop-prop.invariant none
+    (read_more (take i c.args.props.now) c.loop-prop.read c.put.new.read prop
+    (record { key = prop.key; flags = prop.flags; choice = c.in-Ok.choice }) c.loop-prop.invariant none
     c.in_ok-put-in-Ok.ensures.updates c.in_ok-put-in-Ok.ensures.ordered (refl, refl, c.in-Ok.ensures.found.0) c.in-Ok.ensures.found.1)

@@ -12,7 +12,8 @@ returns-in-None-clause-none c = λ w. range_needs_number c.args.wish.now c.args.
 pub returns-then-max-min-clause-none : goal.returns-then-max-min-clause-none
 returns-then-max-min-clause-none c =
     let order : c.in_ok-max.max <ℤ c.in_ok-min.min = grind (arith, ints) in
-    λ w. range_needs_order c.args.wish.now c.args.low.now c.args.high.now c.in-Some.wide c.in_ok-pick.pick c.in_ok-min.min c.in_ok-max.max c.in_ok-pick.ensures.some c.in_ok-min.ensures.some c.in_ok-max.ensures.some order
+    λ w. range_needs_order c.args.wish.now c.args.low.now c.args.high.now c.in-Some.wide c.in_ok-pick.pick c.in_ok-min.min c.in_ok-max.max
+    c.in_ok-pick.ensures.some c.in_ok-min.ensures.some c.in_ok-max.ensures.some order
 
 pub returns-clause-some : goal.returns-clause-some
 returns-clause-some c =
@@ -32,5 +33,8 @@ returns-clause-some c =
     let kept = to_z w64 (of_z w64 c.kept_in_range.result) in
     let kept_is : kept ≡ c.kept_in_range.result = search rules in
     let order : min ≤ℤ max = grind (arith, ints) in
-    let chosen : (((min ≤ℤ n) × (n ≤ℤ max)) × (kept ≡ n)) ⊎ (((min ≤ℤ n) × (n ≤ℤ max) → ⊥) × (kept ≡ min)) = elim c.kept_in_range.ensures [ inl w ↦ inl (w.0, kept_is ∙ w.1) | inr w ↦ inr (w.0, kept_is ∙ w.1) ] in
-    range_is_read c.args.wish.now c.args.low.now c.args.high.now wide n min max kept pick_value min_value max_value pick_fits min_fits max_fits order chosen
+    let chosen : (((min ≤ℤ n) × (n ≤ℤ max)) × (kept ≡ n))
+    ⊎ (((min ≤ℤ n) × (n ≤ℤ max) → ⊥) × (kept ≡ min)) =
+    elim c.kept_in_range.ensures [ inl w ↦ inl (w.0, kept_is ∙ w.1) | inr w ↦ inr (w.0, kept_is ∙ w.1) ] in
+    range_is_read c.args.wish.now c.args.low.now c.args.high.now wide n min max kept pick_value min_value max_value pick_fits min_fits
+    max_fits order chosen

@@ -7,12 +7,14 @@ use Rattle.format_filter.proofs.ReadingLemmas.{step_needs_number, step_needs_ord
 use Rattle.format_filter.proofs.from_value.read_step.Goals as goal
 
 pub returns-in-None-clause-none : goal.returns-in-None-clause-none
-returns-in-None-clause-none c = λ w. step_needs_number c.args.wish.now c.args.low.now c.args.high.now c.args.by.now (c.in-None.ensures.none refl)
+returns-in-None-clause-none c = λ w. step_needs_number c.args.wish.now c.args.low.now c.args.high.now c.args.by.now
+    (c.in-None.ensures.none refl)
 
 pub returns-then-max-min-clause-none : goal.returns-then-max-min-clause-none
 returns-then-max-min-clause-none c =
     let order : c.in_ok-max.max <ℤ c.in_ok-min.min = grind (arith, ints) in
-    λ w. step_needs_order c.args.wish.now c.args.low.now c.args.high.now c.args.by.now c.in-Some.wide c.in_ok-pick.pick c.in_ok-min.min c.in_ok-max.max c.in_ok-pick.ensures.some c.in_ok-min.ensures.some c.in_ok-max.ensures.some order
+    λ w. step_needs_order c.args.wish.now c.args.low.now c.args.high.now c.args.by.now c.in-Some.wide c.in_ok-pick.pick c.in_ok-min.min
+    c.in_ok-max.max c.in_ok-pick.ensures.some c.in_ok-min.ensures.some c.in_ok-max.ensures.some order
 
 pub returns-clause-some : goal.returns-clause-some
 returns-clause-some c =
@@ -37,5 +39,8 @@ returns-clause-some c =
     let kept_is : kept ≡ c.kept_in_step.result = search rules in
     let order : min ≤ℤ max = grind (arith, ints) in
     let above : pos 0 <ℤ step = grind (arith, ints) in
-    let chosen : ((IsReached min step n × (n ≤ℤ max)) × (kept ≡ n)) ⊎ ((IsReached min step n × (n ≤ℤ max) → ⊥) × (kept ≡ min)) = elim c.kept_in_step.ensures [ inl w ↦ inl (w.0, kept_is ∙ w.1) | inr w ↦ inr (w.0, kept_is ∙ w.1) ] in
-    step_is_read c.args.wish.now c.args.low.now c.args.high.now c.args.by.now wide n min max step kept pick_value min_value max_value step_value pick_fits min_fits max_fits step_fits order above chosen
+    let chosen : ((IsReached min step n × (n ≤ℤ max)) × (kept ≡ n))
+    ⊎ ((IsReached min step n × (n ≤ℤ max) → ⊥) × (kept ≡ min)) =
+    elim c.kept_in_step.ensures [ inl w ↦ inl (w.0, kept_is ∙ w.1) | inr w ↦ inr (w.0, kept_is ∙ w.1) ] in
+    step_is_read c.args.wish.now c.args.low.now c.args.high.now c.args.by.now wide n min max step kept pick_value min_value max_value
+    step_value pick_fits min_fits max_fits step_fits order above chosen

@@ -10,7 +10,8 @@ returns-then-fields-at-clause-behind c =
     let first = c.index-fields-at.result in
     let read = ap (λ (f : Field). f.key) c.index-fields-at.is in
     let same : first.key ≡ c.args.key = omega arith in
-    behind_one c.args.fields.now c.args.at c.args.key c.requires.sound (key_at c.args.fields.now c.args.at c.args.key first (omega arith) (ap (λ (f : Field). f.key) (sym c.index-fields-at.is) ∙ same))
+    behind_one c.args.fields.now c.args.at c.args.key c.requires.sound
+    (key_at c.args.fields.now c.args.at c.args.key first (omega arith) (ap (λ (f : Field). f.key) (sym c.index-fields-at.is) ∙ same))
 
 pub returns-else-at-fields-clause-behind : goal.returns-else-at-fields-clause-behind
 returns-else-at-fields-clause-behind c = elim c.else-at-fields.branch [
@@ -18,6 +19,9 @@ returns-else-at-fields-clause-behind c = elim c.else-at-fields.branch [
       let first = w.index-fields-at.result in
       let read = ap (λ (f : Field). f.key) w.index-fields-at.is in
       behind_none c.args.fields.now c.args.at c.args.key c.requires.within
-      (under c.args.fields.now c.args.at c.args.key first.key c.requires.sound (key_at c.args.fields.now c.args.at first.key first (omega arith) (ap (λ (f : Field). f.key) (sym w.index-fields-at.is))) c.requires.least (λ e. omega arith))
-  | else-at-fields-via-else-at-fields w ↦ behind_none c.args.fields.now c.args.at c.args.key c.requires.within (none_after c.args.fields.now c.args.at c.args.key (omega arith))
+      (under c.args.fields.now c.args.at c.args.key first.key c.requires.sound
+      (key_at c.args.fields.now c.args.at first.key first (omega arith) (ap (λ (f : Field). f.key) (sym w.index-fields-at.is)))
+      c.requires.least (λ e. omega arith))
+  | else-at-fields-via-else-at-fields w ↦ behind_none c.args.fields.now c.args.at c.args.key c.requires.within
+      (none_after c.args.fields.now c.args.at c.args.key (omega arith))
 ]

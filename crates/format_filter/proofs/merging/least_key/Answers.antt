@@ -37,6 +37,8 @@ returns-clause-found c =
     let own = (get_or c.args.a.now c.args.i c.index-a-i-2.result).key in
     let other = (get_or c.args.b.now c.args.j c.index-b-j-2.result).key in
     elim (cases_lt own other) [
-      | inl l ↦ let is : own ≡ c.min.result = omega (arith, c.min.ensures) in inl (key_at c.args.a.now c.args.i c.min.result c.index-a-i-2.result own_inside is)
-      | inr l ↦ let is : other ≡ c.min.result = omega (arith, c.min.ensures) in inr (key_at c.args.b.now c.args.j c.min.result c.index-b-j-2.result other_inside is)
+      | inl l ↦ let is : own ≡ c.min.result = omega (arith, c.min.ensures) in
+          inl (key_at c.args.a.now c.args.i c.min.result c.index-a-i-2.result own_inside is)
+      | inr l ↦ let is : other ≡ c.min.result = omega (arith, c.min.ensures) in
+          inr (key_at c.args.b.now c.args.j c.min.result c.index-b-j-2.result other_inside is)
     ]

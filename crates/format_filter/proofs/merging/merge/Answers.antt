@@ -15,9 +15,11 @@ returns-in-None c =
     let behind_a = c.behind-after_i.ensures.behind in
     let behind_b = c.behind-after_j.ensures.behind in
     let low = found_least a b c.loop-i.i c.loop-i.j key inv.up_to c.least_key-key.ensures.found inv.own inv.other in
-    let clash = subst (Joins (slice_get (slice_range a c.loop-i.i c.behind-after_i.result) 0) (slice_get (slice_range b c.loop-i.j c.behind-after_j.result) 0)) c.in-None.is c.in_ok-field.ensures in
+    let clash = subst (Joins (slice_get (slice_range a c.loop-i.i c.behind-after_i.result) 0)
+    (slice_get (slice_range b c.loop-i.j c.behind-after_j.result) 0)) c.in-None.is c.in_ok-field.ensures in
     clash_first inv.up_to key c.loop-i.i c.loop-i.j c.behind-after_i.result c.behind-after_j.result a b c.loop-i.fields inv.merged low
-    (not_back c.loop-i.i c.behind-after_i.result behind_a.near) (not_back c.loop-i.j c.behind-after_j.result behind_b.near) behind_a behind_b clash
+    (not_back c.loop-i.i c.behind-after_i.result behind_a.near)
+    (not_back c.loop-i.j c.behind-after_j.result behind_b.near) behind_a behind_b clash
 
 pub loop-i-preserved : goal.loop-i-preserved
 loop-i-preserved c =
@@ -32,14 +34,20 @@ loop-i-preserved c =
     let behind_a = c.behind-after_i.ensures.behind in
     let behind_b = c.behind-after_j.ensures.behind in
     let low = found_least a b i j key inv.up_to c.least_key-key.ensures.found inv.own inv.other in
-    let joined = subst (Joins (slice_get (slice_range a i after_i) 0) (slice_get (slice_range b j after_j) 0)) c.in-Some.is c.in_ok-field.ensures in
-    let same_key = joined_key (slice_range a i after_i) (slice_range b j after_j) key c.in-Some.field behind_a.passed behind_b.passed joined in
-    let more = merged_more inv.up_to key (take i a) (take j b) c.loop-i.fields (slice_range a i after_i) (slice_range b j after_j) c.in-Some.field inv.merged low behind_a.passed behind_b.passed same_key joined in
+    let joined = subst (Joins (slice_get (slice_range a i after_i) 0) (slice_get (slice_range b j after_j) 0))
+    c.in-Some.is c.in_ok-field.ensures in
+    let same_key = joined_key (slice_range a i after_i)
+    (slice_range b j after_j) key c.in-Some.field behind_a.passed behind_b.passed joined in
+    let more = merged_more inv.up_to key (take i a) (take j b) c.loop-i.fields (slice_range a i after_i)
+    (slice_range b j after_j) c.in-Some.field inv.merged low behind_a.passed behind_b.passed same_key joined in
     record {
       up_to = key + 1;
-      merged = subst (λ (xs : List Field). IsMerged (key + 1) xs (take after_j b) c.push.new.self) (sym (taken a i after_i (not_back i after_i behind_a.near)))
-          (subst (λ (ys : List Field). IsMerged (key + 1) (take i a ++ slice_range a i after_i) ys c.push.new.self) (sym (taken b j after_j (not_back j after_j behind_b.near)))
-          (subst (IsMerged (key + 1) (take i a ++ slice_range a i after_i) (take j b ++ slice_range b j after_j)) (sym c.in_ok-push-in-Some.ensures.ok) more));
+      merged = subst (λ (xs : List Field). IsMerged (key + 1) xs (take after_j b) c.push.new.self)
+          (sym (taken a i after_i (not_back i after_i behind_a.near)))
+          (subst (λ (ys : List Field). IsMerged (key + 1) (take i a ++ slice_range a i after_i) ys c.push.new.self)
+          (sym (taken b j after_j (not_back j after_j behind_b.near)))
+          (subst (IsMerged (key + 1) (take i a ++ slice_range a i after_i) (take j b ++ slice_range b j after_j))
+          (sym c.in_ok-push-in-Some.ensures.ok) more));
       own = λ k d l. let u = behind_a.left k d l in omega arith;
       other = λ k d l. let u = behind_b.left k d l in omega arith;
       own_within = behind_a.within;

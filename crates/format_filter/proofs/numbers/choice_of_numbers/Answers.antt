@@ -1,5 +1,6 @@
 -- Two numbers are an Enum, more are a Step.
-use Rattle.std.proofs.Common.{◌≡◌, ℤ, ◌<ℤ◌, ◌≤ℤ◌, ◌⊎◌, inl, inr, ◌∙◌, ap, sym, subst, ◌∷◌, ◌++◌, [], List, rules, to_z, of_z, w64}
+use Rattle.std.proofs.Common.{◌≡◌, ℤ, ◌<ℤ◌, ◌≤ℤ◌, ◌⊎◌, inl, inr, ◌∙◌, ap, sym, subst, ◌∷◌, ◌++◌, [], List, rules}
+use Rattle.std.proofs.Common.{to_z, of_z, w64}
 use Rattle.pod_codec.specs.declared.pod.Pod.{Pod}
 use Rattle.format_filter.specs.declared.choice.Choice.TheVariants.{Enum}
 use Rattle.format_filter.specs.declared.progression.Numbers.{Numbers}
@@ -23,11 +24,14 @@ returns-in_ok-push-in-Two-2 c =
     let high_value = c.number-in-Two-2.ensures ∙ ap (number_of wide) high_is in
     let pick_value = c.number-pick.ensures ∙ ap (number_of wide) pick_is in
     let alts : c.push-in-Two.new.self ≡ number_of wide c.in-Two.low ∷ number_of wide c.in-Two.high ∷ [] =
-    c.in_ok-push-in-Two-2.ensures.ok ∙ ap (λ (xs : List Pod). xs ++ c.number-in-Two-2.result ∷ []) (c.in_ok-push-in-Two.ensures.ok ∙ ap (λ (xs : List Pod). xs ++ c.number-in-Two.result ∷ []) c.new-alts.ensures)
+    c.in_ok-push-in-Two-2.ensures.ok ∙ ap (λ (xs : List Pod). xs ++ c.number-in-Two-2.result ∷ [])
+    (c.in_ok-push-in-Two.ensures.ok ∙ ap (λ (xs : List Pod). xs ++ c.number-in-Two.result ∷ []) c.new-alts.ensures)
     ∙ ap (λ (v : Pod). c.number-in-Two.result ∷ v ∷ []) high_value ∙ ap (λ (v : Pod). v ∷ number_of wide c.in-Two.high ∷ []) low_value in
     let order : c.in-Two.low <ℤ c.in-Two.high = subst AreOrdered found c.requires.ordered in
-    let picked = subst (λ (v : ℤ). IsPicked a b (number_of wide v) (number_of wide c.picked_number.result)) low_is c.picked_number.ensures.pick in
-    let member : IsCommon a b (number_of wide c.picked_number.result) ⊎ (number_of wide c.picked_number.result ≡ number_of wide c.in-Two.low) =
+    let picked = subst (λ (v : ℤ). IsPicked a b (number_of wide v) (number_of wide c.picked_number.result))
+    low_is c.picked_number.ensures.pick in
+    let member : IsCommon a b (number_of wide c.picked_number.result)
+    ⊎ (number_of wide c.picked_number.result ≡ number_of wide c.in-Two.low) =
     elim c.picked_number.ensures.member [ inl p ↦ inl p | inr e ↦ inr (ap (number_of wide) (e ∙ low_is)) ] in
     subst (λ (v : Pod). IsCommonIn (HasForm a b) a b (Enum v c.push-in-Two.new.self)) (sym pick_value)
     (two_meet a b wide c.requires.form c.in-Two.low c.in-Two.high (number_of wide c.picked_number.result) c.push-in-Two.new.self alts order
@@ -48,8 +52,10 @@ returns-in-More c =
     let pick = c.picked_number-in-More.result in
     let ordered = subst AreOrdered found c.requires.ordered in
     let picked = subst (λ (v : ℤ). IsPicked a b (number_of wide v) (number_of wide pick)) min_is c.picked_number-in-More.ensures.pick in
-    let member : IsCommon a b (number_of wide pick) ⊎ (pick ≡ row.min) = elim c.picked_number-in-More.ensures.member [ inl p ↦ inl p | inr e ↦ inr (e ∙ min_is) ] in
-    let only : (n : ℤ) → IsReached row.min row.step n × (n ≤ℤ row.max) → IsCommon a b (number_of wide n) × FitsWide wide n = λ n w. c.requires.only n (subst (λ (f : Numbers). IsOneOf f n) (sym found) w) in
+    let member : IsCommon a b (number_of wide pick) ⊎ (pick ≡ row.min) =
+    elim c.picked_number-in-More.ensures.member [ inl p ↦ inl p | inr e ↦ inr (e ∙ min_is) ] in
+    let only : (n : ℤ) → IsReached row.min row.step n × (n ≤ℤ row.max) → IsCommon a b (number_of wide n)
+    × FitsWide wide n = λ n w. c.requires.only n (subst (λ (f : Numbers). IsOneOf f n) (sym found) w) in
     let least : FitsWide wide row.min = (only row.min (row_first row ordered)).1 in
     let fits : FitsWide wide pick = elim c.picked_number-in-More.ensures.origin [
       | inl e ↦ subst (FitsWide wide) (sym e) c.requires.own.1

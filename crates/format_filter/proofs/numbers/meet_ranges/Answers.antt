@@ -16,10 +16,13 @@ returns-then-high-low c =
     let other = c.args.other in
     let wides : one.wide ≡ other.wide = search rules in
     let b_is = c.requires.other ∙ ap (λ (w : Wide). Range w other.pick other.row.min other.row.max) (sym wides) in
-    let low : to_z w64 (of_z w64 c.max-low.result) ≡ int_max one.row.min other.row.min = omega (arith, ints, clamps, c.max-low.ensures.value) in
-    let high : to_z w64 (of_z w64 c.min-high.result) ≡ int_min one.row.max other.row.max = omega (arith, ints, clamps, c.min-high.ensures.value) in
+    let low : to_z w64 (of_z w64 c.max-low.result) ≡ int_max one.row.min other.row.min =
+    omega (arith, ints, clamps, c.max-low.ensures.value) in
+    let high : to_z w64 (of_z w64 c.min-high.result) ≡ int_min one.row.max other.row.max =
+    omega (arith, ints, clamps, c.min-high.ensures.value) in
     let apart : int_min one.row.max other.row.max <ℤ int_max one.row.min other.row.min = grind (arith, ints) in
-    overlap_none c.args.a.now c.args.b.now one.wide one.pick one.row.min one.row.max other.pick other.row.min other.row.max c.requires.one b_is apart
+    overlap_none c.args.a.now c.args.b.now one.wide one.pick one.row.min one.row.max other.pick other.row.min other.row.max c.requires.one
+    b_is apart
 
 pub number-requires : goal.number-requires
 number-requires c =
@@ -27,8 +30,10 @@ number-requires c =
     let other = c.args.other in
     let wides : one.wide ≡ other.wide = search rules in
     let own = subst HasSoundParts c.requires.one c.requires.a.parts in
-    let theirs = subst HasSoundParts (c.requires.other ∙ ap (λ (w : Wide). Range w other.pick other.row.min other.row.max) (sym wides)) c.requires.b.parts in
-    let low : to_z w64 (of_z w64 c.max-low.result) ≡ int_max one.row.min other.row.min = omega (arith, ints, clamps, c.max-low.ensures.value) in
+    let theirs = subst HasSoundParts (c.requires.other ∙ ap (λ (w : Wide). Range w other.pick other.row.min other.row.max) (sym wides))
+    c.requires.b.parts in
+    let low : to_z w64 (of_z w64 c.max-low.result) ≡ int_max one.row.min other.row.min =
+    omega (arith, ints, clamps, c.max-low.ensures.value) in
     subst (FitsWide one.wide) (sym low) (max_fits one.wide one.row.min other.row.min own.1 theirs.1)
 
 pub returns-then-low-high : goal.returns-then-low-high
@@ -39,9 +44,11 @@ returns-then-low-high c =
     let b_is = c.requires.other ∙ ap (λ (w : Wide). Range w other.pick other.row.min other.row.max) (sym wides) in
     let n = to_z w64 (of_z w64 c.max-low.result) in
     let low : n ≡ int_max one.row.min other.row.min = omega (arith, ints, clamps, c.max-low.ensures.value) in
-    let greatest : to_z w64 (of_z w64 c.min-high.result) ≡ int_min one.row.max other.row.max = omega (arith, ints, clamps, c.min-high.ensures.value) in
+    let greatest : to_z w64 (of_z w64 c.min-high.result) ≡ int_min one.row.max other.row.max =
+    omega (arith, ints, clamps, c.min-high.ensures.value) in
     let high = ap (to_z w64) c.if-low-high.true ∙ greatest in
-    overlap_one c.args.a.now c.args.b.now one.wide one.pick one.row.min one.row.max other.pick other.row.min other.row.max c.requires.one b_is n low high c.number.result c.number.ensures
+    overlap_one c.args.a.now c.args.b.now one.wide one.pick one.row.min one.row.max other.pick other.row.min other.row.max c.requires.one
+    b_is n low high c.number.result c.number.ensures
 
 pub picked_number-requires-clause-other : goal.picked_number-requires-clause-other
 picked_number-requires-clause-other c =
@@ -68,15 +75,23 @@ returns c =
     let pick_is : pick ≡ c.picked_number.result = search rules in
     let own_pick : to_z w64 (of_z w64 one.pick) ≡ one.pick = search rules in
     let other_pick : to_z w64 (of_z w64 other.pick) ≡ other.pick = search rules in
-    let least_fits : FitsWide one.wide least = subst (FitsWide one.wide) (sym low) (max_fits one.wide one.row.min other.row.min own.1 theirs.1) in
-    let greatest_fits : FitsWide one.wide greatest = subst (FitsWide one.wide) (sym high) (min_fits one.wide one.row.max other.row.max own.2 theirs.2) in
+    let least_fits : FitsWide one.wide least = subst (FitsWide one.wide) (sym low)
+    (max_fits one.wide one.row.min other.row.min own.1 theirs.1) in
+    let greatest_fits : FitsWide one.wide greatest =
+    subst (FitsWide one.wide) (sym high) (min_fits one.wide one.row.max other.row.max own.2 theirs.2) in
     let fits : FitsWide one.wide pick = elim c.picked_number.ensures.origin [
       | inl e ↦ subst (FitsWide one.wide) (sym (pick_is ∙ e ∙ own_pick)) own.0
-      | inr e ↦ elim e [ inl f ↦ subst (FitsWide one.wide) (sym (pick_is ∙ f ∙ other_pick)) theirs.0 | inr f ↦ subst (FitsWide one.wide) (sym (pick_is ∙ f)) least_fits ]
+      | inr e ↦ elim e [
+        | inl f ↦ subst (FitsWide one.wide) (sym (pick_is ∙ f ∙ other_pick)) theirs.0
+        | inr f ↦ subst (FitsWide one.wide)
+            (sym (pick_is ∙ f)) least_fits
+      ]
     ] in
-    let picked = subst (λ (v : ℤ). IsPicked c.args.a.now c.args.b.now (number_of one.wide least) (number_of one.wide v)) (sym pick_is) c.picked_number.ensures.pick in
+    let picked = subst (λ (v : ℤ). IsPicked c.args.a.now c.args.b.now (number_of one.wide least) (number_of one.wide v))
+    (sym pick_is) c.picked_number.ensures.pick in
     let member : IsCommon c.args.a.now c.args.b.now (number_of one.wide pick) ⊎ (pick ≡ least) = elim c.picked_number.ensures.member [
       | inl w ↦ inl (subst (λ (v : ℤ). IsCommon c.args.a.now c.args.b.now (number_of one.wide v)) (sym pick_is) w)
       | inr e ↦ inr (pick_is ∙ e)
     ] in
-    overlap_more c.args.a.now c.args.b.now one.wide one.pick one.row.min one.row.max other.pick other.row.min other.row.max c.requires.one b_is pick least greatest low high order fits least_fits greatest_fits picked member
+    overlap_more c.args.a.now c.args.b.now one.wide one.pick one.row.min one.row.max other.pick other.row.min other.row.max c.requires.one
+    b_is pick least greatest low high order fits least_fits greatest_fits picked member

@@ -14,4 +14,6 @@ loop-field-preserved c =
     let inside : i < length c.args.fields.now = omega arith in
     let next = take_more c.args.fields.now i field inside ∙ ap (λ (f : Field). take i c.args.fields.now ++ f ∷ []) (sym c.field-item.is) in
     subst (AllZip WritesField (take (i + 1) c.args.fields.now)) (sym c.in_ok-push.ensures.ok)
-    (subst (λ (fs : List Field). AllZip WritesField fs (c.loop-field.props ++ c.in_ok-prop_of.field-0 ∷ [])) (sym next) (zip_push (take i c.args.fields.now) c.loop-field.props field c.in_ok-prop_of.field-0 c.loop-field.invariant c.in_ok-prop_of.ensures))
+    (subst (λ (fs : List Field). AllZip WritesField fs (c.loop-field.props ++ c.in_ok-prop_of.field-0 ∷ [])) (sym next)
+    (zip_push (take i c.args.fields.now)
+    c.loop-field.props field c.in_ok-prop_of.field-0 c.loop-field.invariant c.in_ok-prop_of.ensures))

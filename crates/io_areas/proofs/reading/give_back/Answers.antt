@@ -7,4 +7,5 @@ use Rattle.io_areas.proofs.reading.give_back.Goals as goal
 
 pub returns-clause-knows : goal.returns-clause-knows
 returns-clause-knows g c = let b = g.S.BoardSeat.leads in let p = lay c.args.board.now.plot in
-    c.store_need_data.ensures.knows ∙ ap (λ (v : View). need_stored b p v c.args.link) c.lower_readers.ensures.knows ∙ gives_back b p (g.S.BoardSeat.knows c.args.seat.now) c.args.link c.requires.phase
+    c.store_need_data.ensures.knows ∙ ap (λ (v : View). need_stored b p v c.args.link) c.lower_readers.ensures.knows
+    ∙ gives_back b p (g.S.BoardSeat.knows c.args.seat.now) c.args.link c.requires.phase

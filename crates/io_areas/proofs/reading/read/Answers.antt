@@ -8,18 +8,25 @@ use Rattle.io_areas.proofs.HeardLemmas.{all_short, heard_whole}
 use Rattle.io_areas.proofs.reading.read.Goals as goal
 
 pub loop-place-preserved : goal.loop-place-preserved
-loop-place-preserved g c = let b = g.S.BoardSeat.leads in let p = lay c.args.board.now.plot in let v : View = g.S.BoardSeat.knows c.args.seat.now in let l = c.args.link in let i = c.loop-place.invariant in let e = c.load_sample_at-word.ensures in let k = c.loop-place.place in
-    let word : c.load_sample_at-word.result ≡ packed (samples_read b p v l) k = e.word ∙ ap (λ (x : View). packed (samples_read b p x l) k) i.knows in
+loop-place-preserved g c = let b = g.S.BoardSeat.leads in let p = lay c.args.board.now.plot in
+    let v : View = g.S.BoardSeat.knows c.args.seat.now in let l = c.args.link in let i = c.loop-place.invariant in
+    let e = c.load_sample_at-word.ensures in let k = c.loop-place.place in
+    let word : c.load_sample_at-word.result ≡ packed (samples_read b p v l) k = e.word
+    ∙ ap (λ (x : View). packed (samples_read b p x l) k) i.knows in
     let table : IsTable p v.expect = subst (λ (x : View). IsTable p x.expect) i.knows e.samples in
     record {
       table = e.table ∙ i.table;
       knows = e.knows ∙ i.knows;
-      long = ap length c.spread.ensures ∙ length-spread (samples_read b p v l) (all_short b p v l table) c.loop-place.to (4 * k) c.load_sample_at-word.result ∙ i.long;
-      so_far = subst (IsReadTo (samples_read b p v l) (4 * (k + 1))) (sym c.spread.ensures) (spread_more (samples_read b p v l) (all_short b p v l table) c.loop-place.to k c.load_sample_at-word.result word i.so_far);
+      long = ap length c.spread.ensures ∙ length-spread (samples_read b p v l) (all_short b p v l table) c.loop-place.to
+          (4 * k) c.load_sample_at-word.result ∙ i.long;
+      so_far = subst (IsReadTo (samples_read b p v l) (4 * (k + 1))) (sym c.spread.ensures)
+          (spread_more (samples_read b p v l) (all_short b p v l table) c.loop-place.to k c.load_sample_at-word.result word i.so_far);
       fits = λ _. table;
     }
 
 pub returns-clause-samples : goal.returns-clause-samples
-returns-clause-samples g c = let b = g.S.BoardSeat.leads in let p = lay c.args.board.now.plot in let v : View = g.S.BoardSeat.knows c.args.seat.now in let l = c.args.link in let i = c.loop-place.invariant in
-    let is = i.long in let w = c.words_of-place-end.ensures in let all = i.so_far in let q = c.requires.long in let some = w.some in let end = c.loop-place-test.false in
+returns-clause-samples g c = let b = g.S.BoardSeat.leads in let p = lay c.args.board.now.plot in
+    let v : View = g.S.BoardSeat.knows c.args.seat.now in let l = c.args.link in let i = c.loop-place.invariant in
+    let is = i.long in let w = c.words_of-place-end.ensures in let all = i.so_far in let q = c.requires.long in let some = w.some in
+    let end = c.loop-place-test.false in
     heard_whole b p v l (i.fits (omega arith)) c.requires.phase w.inside c.loop-place.to (is ∙ q) (λ j lt near. all j (omega arith) near)

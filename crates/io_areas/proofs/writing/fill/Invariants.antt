@@ -4,4 +4,5 @@ use Rattle.io_areas.proofs.FillLemmas.{filling}
 use Rattle.io_areas.proofs.writing.fill.Given as goal
 
 abbrev pub invariant-loop-place : goal.invariant-loop-place
-invariant-loop-place l = (l.seat.table ≡ l.fn.seat.table) × (l.seat.knows ≡ filling (lay l.board.plot) (l.fn.seat.knows) l.pool l.id l.place)
+invariant-loop-place l = (l.seat.table ≡ l.fn.seat.table)
+    × (l.seat.knows ≡ filling (lay l.board.plot) (l.fn.seat.knows) l.pool l.id l.place)

@@ -11,11 +11,15 @@ use Rattle.io_areas.proofs.writing.load_for_write.Goals as goal
 
 pub returns-then-past-eq0-clause-given : goal.returns-then-past-eq0-clause-given
 returns-then-past-eq0-clause-given c = let p = lay c.args.board.now.plot in let v : View = c.args.seat.now.knows in let l = c.args.link in
-    let e : first p + c.ended-past.result ≡ write_cycle p v l = c.ended-past.ensures ∙ ap (λ (n : ℕ). cycle_of false v (p.place n)) c.writer-node.ensures in let z = c.if-past-eq0.true in
-    sym (ap (λ (b : Bool). cond b None (Some (stored_id (write_of v l) (late_at p l)))) (eq-eqb (write_cycle p v l) (first p) (omega arith)))
+    let e : first p + c.ended-past.result ≡ write_cycle p v l = c.ended-past.ensures
+    ∙ ap (λ (n : ℕ). cycle_of false v (p.place n)) c.writer-node.ensures in let z = c.if-past-eq0.true in
+    sym (ap (λ (b : Bool). cond b None (Some (stored_id (write_of v l) (late_at p l))))
+    (eq-eqb (write_cycle p v l) (first p) (omega arith)))
 
 pub returns-else-past-eq0-clause-given : goal.returns-else-past-eq0-clause-given
 returns-else-past-eq0-clause-given c = let p = lay c.args.board.now.plot in let v : View = c.args.seat.now.knows in let l = c.args.link in
-    let e : first p + c.ended-past.result ≡ write_cycle p v l = c.ended-past.ensures ∙ ap (λ (n : ℕ). cycle_of false v (p.place n)) c.writer-node.ensures in let z = c.if-past-eq0.false in
+    let e : first p + c.ended-past.result ≡ write_cycle p v l = c.ended-past.ensures
+    ∙ ap (λ (n : ℕ). cycle_of false v (p.place n)) c.writer-node.ensures in let z = c.if-past-eq0.false in
     ap (λ (n : ℕ). Some n) (c.io_id_of.ensures ∙ c.load_io_as_writer-word.ensures.given.0)
-    ∙ sym (ap (λ (b : Bool). cond b None (Some (stored_id (write_of v l) (late_at p l)))) (ne_eqb (write_cycle p v l) (first p) (omega arith)))
+    ∙ sym (ap (λ (b : Bool). cond b None (Some (stored_id (write_of v l) (late_at p l))))
+    (ne_eqb (write_cycle p v l) (first p) (omega arith)))

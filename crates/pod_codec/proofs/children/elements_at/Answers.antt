@@ -9,9 +9,11 @@ pub loop-next-preserved : goal.loop-next-preserved
 loop-next-preserved c =
     let kept = c.loop-next.invariant in
     let size : c.size_of_child-size.result ≡ child_size c.args.child = c.size_of_child-size.ensures.size in
-    let less = whole_less (child_size c.args.child) c.args.end c.loop-next.next (four_or_eight c.args.child c.requires.allowed) kept.whole c.loop-next-test.true in
+    let less = whole_less (child_size c.args.child) c.args.end c.loop-next.next
+    (four_or_eight c.args.child c.requires.allowed) kept.whole c.loop-next-test.true in
     let next : ℕ = c.loop-next.next + c.size_of_child-size.result in
-    let more = after_more (IsElementAt c.args.bytes.now c.args.child) c.args.at c.loop-next.values c.loop-next.next next c.scalar_at.result kept.so_far (omega arith, c.scalar_at.ensures) in
+    let more = after_more (IsElementAt c.args.bytes.now c.args.child)
+    c.args.at c.loop-next.values c.loop-next.next next c.scalar_at.result kept.so_far (omega arith, c.scalar_at.ensures) in
     record {
       so_far = subst (λ vs. AreAfter (IsElementAt c.args.bytes.now c.args.child) c.args.at vs next) (sym c.in_ok-push.ensures.ok) more;
       order = omega (arith, less.0);

@@ -8,7 +8,11 @@ pub returns-in-Ok-clause-found : goal.returns-in-Ok-clause-found
 returns-in-Ok-clause-found c =
     let small : u32_at c.args.bytes.now 0 ≤ 1048576 = omega (arith, c.number_at-size.ensures) in
     let near : c.min-end.result ≤ length c.args.bytes.now = omega (arith, c.min-end.ensures) in
-    record { front = further 15 0 c.min-end.result (length c.args.bytes.now) c.in-Ok.length c.args.bytes.now c.in-Ok.pod near c.in-Ok.ensures.found; limit = small }
+    record {
+      front = further 15 0 c.min-end.result (length c.args.bytes.now)
+          c.in-Ok.length c.args.bytes.now c.in-Ok.pod near c.in-Ok.ensures.found;
+      limit = small;
+    }
 
 pub returns-in-Err-clause-fault : goal.returns-in-Err-clause-fault
 returns-in-Err-clause-fault c =

@@ -26,5 +26,6 @@ invariant-put_props-loop-prop l =
       bytes : l.to ++ flat_map keyed_bytes left ≡ l.fn.to ++ flat_map keyed_bytes all;
       fits : AllByRecursion (λ k. Fits l.left k.value) left → AllByRecursion (λ k. Fits l.left k.value) all;
       only : AllByRecursion (λ k. Fits l.left k.value) all → AllByRecursion (λ k. Fits l.left k.value) left;
-      numbers : AllByRecursion (PropFits (NumbersFit l.left)) (drop l.prop-index l.props) → AllByRecursion (PropFits (NumbersFit l.left)) l.fn.props;
+      numbers : AllByRecursion (PropFits (NumbersFit l.left)) (drop l.prop-index l.props)
+          → AllByRecursion (PropFits (NumbersFit l.left)) l.fn.props;
     }

@@ -9,5 +9,7 @@ use Rattle.port_model.proofs.buffers.range.Goals as goal
 
 pub returns-clause-numbers : goal.returns-clause-numbers
 returns-clause-numbers c = λ x w.
-    let whole : Range wide.Int (to_z w64 (of_z w64 c.from.result)) (to_z w64 (of_z w64 c.from-2.result)) (to_z w64 (of_z w64 c.from-3.result)) ≡ Range wide.Int (pos c.args.pick) (pos c.args.min) (pos c.args.max) = search rules in
-    between_number c.args.pick c.args.min c.args.max 1 8 x c.requires.some c.requires.few (subst (λ (choice : Choice). IsMember choice x) whole w)
+    let whole : Range wide.Int (to_z w64 (of_z w64 c.from.result)) (to_z w64 (of_z w64 c.from-2.result))
+    (to_z w64 (of_z w64 c.from-3.result)) ≡ Range wide.Int (pos c.args.pick) (pos c.args.min) (pos c.args.max) = search rules in
+    between_number c.args.pick c.args.min c.args.max 1 8 x c.requires.some c.requires.few
+    (subst (λ (choice : Choice). IsMember choice x) whole w)

@@ -9,6 +9,9 @@ use Rattle.port_model.proofs.kind_offers.new_ports.Goals as goal
 
 pub loop-port-preserved : goal.loop-port-preserved
 loop-port-preserved c =
-    let more = map-range_with_len_more (new_port c.args.kind.now c.args.rate c.args.channels) 0 c.loop-port.port c.loop-port.port (omega arith) in
-    c.in_ok-push.ensures.ok ∙ ap (λ (ps : List PortState). ps ++ record { own = c.in_ok-offer_of.field-0; format = None; buffers = None } ∷ []) c.loop-port.invariant
-    ∙ ap (λ (own : Format). map (new_port c.args.kind.now c.args.rate c.args.channels) (range_with_len 0 c.loop-port.port) ++ record { own = own; format = None; buffers = None } ∷ []) c.in_ok-offer_of.ensures ∙ sym more
+    let more = map-range_with_len_more (new_port c.args.kind.now c.args.rate c.args.channels) 0 c.loop-port.port c.loop-port.port
+    (omega arith) in
+    c.in_ok-push.ensures.ok ∙ ap (λ (ps : List PortState). ps ++ record { own = c.in_ok-offer_of.field-0; format = None; buffers = None } ∷
+    []) c.loop-port.invariant
+    ∙ ap (λ (own : Format). map (new_port c.args.kind.now c.args.rate c.args.channels) (range_with_len 0 c.loop-port.port) ++ record
+    { own = own; format = None; buffers = None } ∷ []) c.in_ok-offer_of.ensures ∙ sym more

@@ -10,5 +10,7 @@ returns-clause-sound c =
     let ports = c.as_slice.result.now in
     let state = c.index-as_slice-port.result in
     let there : c.args.port < length ports = omega (arith, ap length c.as_slice.ensures) in
-    let here : slice_get c.args.node.now.ports c.args.port ≡ Some state = ap (λ (ps : List PortState). slice_get ps c.args.port) (sym c.as_slice.ensures) ∙ slice_get_read ports (length ports) c.args.port state refl there c.index-as_slice-port.is in
+    let here : slice_get c.args.node.now.ports c.args.port ≡ Some state =
+    ap (λ (ps : List PortState). slice_get ps c.args.port) (sym c.as_slice.ensures)
+    ∙ slice_get_read ports (length ports) c.args.port state refl there c.index-as_slice-port.is in
     c.requires.sound.ports c.args.port state here

@@ -16,8 +16,10 @@ returns-in-Fields-clause-offers c =
 pub returns-in-Fields-clause-sound : goal.returns-in-Fields-clause-sound
 returns-in-Fields-clause-sound c =
     let all = subst (SharesAll c.args.node.now c.as_slice.result.now) c.in-Fields.is c.in_ok-fields.ensures in
-    let own = subst (λ (fs : List Field). SharesAll c.args.node.now fs (Fields c.in-Fields.fields)) c.as_slice.ensures all in
-    (subst AreSoundFields (sym own.1) (shared_sound c.args.node.now c.args.state.now.own.fields c.requires.plain c.requires.own), c.requires.object)
+    let own = subst (λ (fs : List Field). SharesAll c.args.node.now fs (Fields c.in-Fields.fields)) c.as_slice.ensures all in (
+      subst AreSoundFields (sym own.1) (shared_sound c.args.node.now c.args.state.now.own.fields c.requires.plain c.requires.own),
+      c.requires.object,
+    )
 
 pub returns-in-Outside-clause-offers : goal.returns-in-Outside-clause-offers
 returns-in-Outside-clause-offers c =

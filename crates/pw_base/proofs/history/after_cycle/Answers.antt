@@ -14,7 +14,8 @@ pub returns-then-is_legal_cycle : goal.returns-then-is_legal_cycle
 returns-then-is_legal_cycle c =
     let s = c.args.shape.now in let k = c.args.cycle in let es = c.args.events.now in
     subst (LeavesOver ((s, k) ∷ []) es) (sym c.split_at.ensures.back)
-    (front_is s k es c.in_ok-n.n (end_found es c.in_ok-n.n c.in_ok-n.ensures) (subst (IsLegalCycle s k) c.split_at.ensures.front (c.if-is_legal_cycle.ensures.0 refl)))
+    (front_is s k es c.in_ok-n.n (end_found es c.in_ok-n.n c.in_ok-n.ensures)
+    (subst (IsLegalCycle s k) c.split_at.ensures.front (c.if-is_legal_cycle.ensures.0 refl)))
 
 pub returns-else-is_legal_cycle : goal.returns-else-is_legal_cycle
 returns-else-is_legal_cycle c =

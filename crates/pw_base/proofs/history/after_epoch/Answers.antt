@@ -9,7 +9,8 @@ returns-in_err-rest c =
     let s = c.args.shape.now in let es = c.args.events.now in
     let cycle : ℕ = c.from.result + c.from-in-loop-k.result in
     let at : cycle ≡ s.first + c.loop-k.k = omega arith in
-    subst (λ o. MatchOption o (IsNoFront (epoch_cycles s s.cycles) es) (λ r. LeavesOver (epoch_cycles s s.cycles) es r.now)) (sym c.from_residual.ensures)
+    subst (λ o. MatchOption o (IsNoFront (epoch_cycles s s.cycles) es) (λ r. LeavesOver (epoch_cycles s s.cycles) es r.now))
+    (sym c.from_residual.ensures)
     (epoch_stops s c.loop-k.k cycle es c.loop-k.rest.now at c.loop-k.invariant (omega arith) c.in_err-rest.ensures)
 
 pub loop-k-preserved : goal.loop-k-preserved

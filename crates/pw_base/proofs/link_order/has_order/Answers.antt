@@ -7,7 +7,8 @@ loop-n-init c = record { placed = starts c.args.links.now c.requires; long = ref
 
 pub loop-n-preserved : goal.loop-n-preserved
 loop-n-preserved c = record {
-  placed = places c.args.links.now c.loop-n.left c.in-Some.n c.loop-n.invariant.long c.requires c.in-Some.ensures.free c.loop-n.invariant.placed;
+  placed = places c.args.links.now c.loop-n.left c.in-Some.n c.loop-n.invariant.long c.requires c.in-Some.ensures.free
+      c.loop-n.invariant.placed;
   long = simp length-set c.loop-n.invariant.long;
 }
 

@@ -6,7 +6,8 @@ use Rattle.pw_base.proofs.pieces.next_piece.Goals as goal
 
 pub returns-in-empty-clause-pieces : goal.returns-in-empty-clause-pieces
 returns-in-empty-clause-pieces c =
-    let cut = first_piece (λ b. b == c.args.mark) c.args.text.now in grind (arith, common_steps, cut, c.split_at.ensures, c.piece_len.ensures)
+    let cut = first_piece (λ b. b == c.args.mark) c.args.text.now in
+    grind (arith, common_steps, cut, c.split_at.ensures, c.piece_len.ensures)
 
 pub returns-in-len1-up-clause-pieces : goal.returns-in-len1-up-clause-pieces
 returns-in-len1-up-clause-pieces c =

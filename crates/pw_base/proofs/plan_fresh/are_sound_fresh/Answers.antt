@@ -12,6 +12,7 @@ loop-fresh-preserved c =
 
 pub returns : goal.returns
 returns c = (
-  λ t. subst (All (IsSoundFresh c.args.plan.now)) (take_all c.loop-fresh.fresh-index c.args.list.now c.loop-fresh-test.false) c.loop-fresh.invariant,
+  λ t. subst (All (IsSoundFresh c.args.plan.now)) (take_all c.loop-fresh.fresh-index c.args.list.now c.loop-fresh-test.false)
+      c.loop-fresh.invariant,
   λ h. refl,
 )

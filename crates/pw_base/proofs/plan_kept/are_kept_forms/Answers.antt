@@ -7,10 +7,12 @@ use Rattle.pw_base.proofs.plan_kept.are_kept_forms.Goals as goal
 
 pub loop-a-preserved : goal.loop-a-preserved
 loop-a-preserved c =
-    All-more (IsKeptForm c.args.plan.now c.args.i) c.args.forms.now c.loop-a.a-index _ c.loop-a-test.true c.loop-a.invariant (c.if-not-is_kept_form.ensures.0 refl)
+    All-more (IsKeptForm c.args.plan.now c.args.i) c.args.forms.now c.loop-a.a-index _ c.loop-a-test.true c.loop-a.invariant
+    (c.if-not-is_kept_form.ensures.0 refl)
 
 pub returns : goal.returns
 returns c = (
-  λ t. subst (All (IsKeptForm c.args.plan.now c.args.i)) (take_all c.loop-a.a-index c.args.forms.now c.loop-a-test.false) c.loop-a.invariant,
+  λ t. subst (All (IsKeptForm c.args.plan.now c.args.i))
+      (take_all c.loop-a.a-index c.args.forms.now c.loop-a-test.false) c.loop-a.invariant,
   λ h. refl,
 )

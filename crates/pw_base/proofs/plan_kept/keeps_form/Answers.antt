@@ -18,8 +18,10 @@ returns-then-not-agrees_in c = (
 
 pub loop-j-preserved : goal.loop-j-preserved
 loop-j-preserved c = record {
-  stays = between_more (λ k. ¬ IsNamed c.args.plan.now k c.args.a.now.port.node) c.args.i c.loop-j.j c.loop-j.invariant.stays (λ n. let t = c.if-is_named.ensures.1 n in cc);
-  same = between_more (λ k. AgreesIn c.args.plan.now k c.args.a.now) c.args.i c.loop-j.j c.loop-j.invariant.same (c.if-not-agrees_in.ensures.0 refl);
+  stays = between_more (λ k. ¬ IsNamed c.args.plan.now k c.args.a.now.port.node) c.args.i c.loop-j.j c.loop-j.invariant.stays
+      (λ n. let t = c.if-is_named.ensures.1 n in cc);
+  same = between_more (λ k. AgreesIn c.args.plan.now k c.args.a.now) c.args.i c.loop-j.j c.loop-j.invariant.same
+      (c.if-not-agrees_in.ensures.0 refl);
 }
 
 pub returns : goal.returns

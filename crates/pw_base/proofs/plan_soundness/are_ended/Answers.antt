@@ -12,6 +12,7 @@ loop-form-preserved c =
 
 pub returns : goal.returns
 returns c = (
-  λ t. subst (All (IsEnded c.args.plan.now)) (take_all c.loop-form.form-index c.args.forms.now c.loop-form-test.false) c.loop-form.invariant,
+  λ t. subst (All (IsEnded c.args.plan.now)) (take_all c.loop-form.form-index c.args.forms.now c.loop-form-test.false)
+      c.loop-form.invariant,
   λ h. refl,
 )

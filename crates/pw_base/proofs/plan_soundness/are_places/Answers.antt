@@ -13,7 +13,8 @@ loop-n-preserved c =
 pub returns-then-not-is_place : goal.returns-then-not-is_place
 returns-then-not-is_place c = (
   λ f. cc,
-  λ h. c.if-not-is_place.ensures.1 (subst (IsPlace c.args.plan.now) (sym c.n-item.is) (h c.loop-n.n-index c.n-item.result c.loop-n-test.true)),
+  λ h. c.if-not-is_place.ensures.1 (subst (IsPlace c.args.plan.now) (sym c.n-item.is)
+      (h c.loop-n.n-index c.n-item.result c.loop-n-test.true)),
 )
 
 pub returns : goal.returns

@@ -13,7 +13,8 @@ loop-node-preserved c =
 pub returns-then-not-is_sound_node : goal.returns-then-not-is_sound_node
 returns-then-not-is_sound_node c = (
   λ f. cc,
-  λ h. c.if-not-is_sound_node.ensures.1 (subst IsSoundNode (sym c.node-item.is) (h c.loop-node.node-index c.node-item.result c.loop-node-test.true)),
+  λ h. c.if-not-is_sound_node.ensures.1 (subst IsSoundNode (sym c.node-item.is)
+      (h c.loop-node.node-index c.node-item.result c.loop-node-test.true)),
 )
 
 pub returns : goal.returns

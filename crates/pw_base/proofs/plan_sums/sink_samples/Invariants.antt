@@ -5,4 +5,5 @@ use Rattle.pw_base.specs.PlanSums.{is_sink, form_samples, capped}
 use Rattle.pw_base.proofs.plan_sums.sink_samples.Given as goal
 
 abbrev pub invariant-loop-form : goal.invariant-loop-form
-invariant-loop-form l = l.total ≡ capped (sum_by (form_samples l.plan l.epoch) (filter (λ f. is_sink (kind_at l.plan f.port.node)) (take l.form-index l.forms)))
+invariant-loop-form l = l.total ≡ capped (sum_by (form_samples l.plan l.epoch)
+    (filter (λ f. is_sink (kind_at l.plan f.port.node)) (take l.form-index l.forms)))

@@ -8,7 +8,9 @@ use Rattle.pw_base.proofs.pooling.link_ids_from.Goals.{then-is_port+in_ok-push, 
 pub loop-i-preserved : goal.loop-i-preserved
 loop-i-preserved c = elim c.if-is_port.branch [
   | then-is_port+in_ok-push w ↦ w.ids-is ∙ w.in_ok-push.ensures.ok ∙ ap (λ ids. ids ++ c.loop-i.i ∷ []) c.loop-i.invariant
-      ∙ sym (places_yes (λ l. is_port l.from c.args.port) c.args.links.now c.loop-i.i _ c.loop-i-test.true (sym c.is_port.ensures ∙ w.if-is_port.true))
+      ∙ sym (places_yes (λ l. is_port l.from c.args.port) c.args.links.now c.loop-i.i _ c.loop-i-test.true
+      (sym c.is_port.ensures ∙ w.if-is_port.true))
   | else-is_port w ↦ w.ids-is ∙ c.loop-i.invariant
-      ∙ sym (places_no (λ l. is_port l.from c.args.port) c.args.links.now c.loop-i.i _ c.loop-i-test.true (sym c.is_port.ensures ∙ w.if-is_port.false))
+      ∙ sym (places_no (λ l. is_port l.from c.args.port) c.args.links.now c.loop-i.i _ c.loop-i-test.true
+      (sym c.is_port.ensures ∙ w.if-is_port.false))
 ]

@@ -14,4 +14,5 @@ returns-in-Ok-clause-cause c =
     let P : List Store → Type 0 = λ s. All IsStorable s in
     let small : sink_samples c.args.script.now c.args.waves.now ≤ 134217728 =
     subst (λ ws. sink_samples c.args.script.now ws ≤ 134217728) c.as_slice.ensures (at_most _ _ c.if-has_too_many.ensures) in
-    subst P (sym (ap (λ w. w.stores) c.in-Ok.ensures)) (stores_deliverable c.args.script.now c.args.waves.now c.requires.numbered c.requires.waves small)
+    subst P (sym (ap (λ w. w.stores) c.in-Ok.ensures))
+    (stores_deliverable c.args.script.now c.args.waves.now c.requires.numbered c.requires.waves small)

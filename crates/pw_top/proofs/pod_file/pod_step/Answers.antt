@@ -8,10 +8,13 @@ pub overflow_cast-result : goal.overflow_cast-result
 overflow_cast-result c = grind (arith, (front_fits c.args.bytes.now c.in-Ok.pod c.in-Ok.length c.in-Ok.ensures.found).1)
 
 pub returns-in-Err-clause-told : goal.returns-in-Err-clause-told
-returns-in-Err-clause-told c = refused c.args.place c.args.bytes.now c.in-Err.fault c.refusal_of.result c.refusal_of.ensures c.in-Err.ensures.fault
+returns-in-Err-clause-told c =
+    refused c.args.place c.args.bytes.now c.in-Err.fault c.refusal_of.result c.refusal_of.ensures c.in-Err.ensures.fault
 
 pub returns-then-length-bytes-clause-told : goal.returns-then-length-bytes-clause-told
-returns-then-length-bytes-clause-told c = read_whole c.args.place c.args.bytes.now c.in-Ok.pod c.in-Ok.length c.in-Ok.ensures.found c.if-length-bytes.true
+returns-then-length-bytes-clause-told c =
+    read_whole c.args.place c.args.bytes.now c.in-Ok.pod c.in-Ok.length c.in-Ok.ensures.found c.if-length-bytes.true
 
 pub returns-else-length-bytes-clause-told : goal.returns-else-length-bytes-clause-told
-returns-else-length-bytes-clause-told c = inl (read_rest c.args.place c.args.bytes.now c.in-Ok.pod c.in-Ok.length c.in-Ok.ensures.found c.if-length-bytes.false, refl)
+returns-else-length-bytes-clause-told c = inl
+    (read_rest c.args.place c.args.bytes.now c.in-Ok.pod c.in-Ok.length c.in-Ok.ensures.found c.if-length-bytes.false, refl)

@@ -10,7 +10,8 @@ put_number-requires c =
     omega arith
 
 pub returns-clause-value : goal.returns-clause-value
-returns-clause-value c = c.put_number.ensures ∙ ap (λ line. line ++ decimal c.args.n) c.push.ensures ∙ append_assoc c.args.line.now (32 ∷ []) (decimal c.args.n)
+returns-clause-value c = c.put_number.ensures ∙ ap (λ line. line ++ decimal c.args.n) c.push.ensures
+    ∙ append_assoc c.args.line.now (32 ∷ []) (decimal c.args.n)
 
 pub returns-clause-len : goal.returns-clause-len
 returns-clause-len c =

@@ -8,10 +8,19 @@ returns-clause-told g c = λ h.
     let made = c.prepare_words-made.result in
     let p = c.prepare_words-made.ensures in
     let d0 = c.deliver-delivered.ensures.delivered in
-    let d1 = subst (λ y. Delivered made (g.F.Files.store_faults c.prepare_words-made.new.files) (g.F.Files.store_faults c.deliver-delivered.new.files) (g.O.Sink.faults c.args.out.now) (g.O.Sink.faults c.deliver-delivered.new.out) y (g.F.Files.held c.deliver-delivered.new.files) (g.O.Sink.given c.args.out.now) (g.O.Sink.given c.deliver-delivered.new.out) c.deliver-delivered.result) p.held d0 in
-    let d2 = subst (λ x. Delivered made x (g.F.Files.store_faults c.deliver-delivered.new.files) (g.O.Sink.faults c.args.out.now) (g.O.Sink.faults c.deliver-delivered.new.out) (g.F.Files.held c.args.files.now) (g.F.Files.held c.deliver-delivered.new.files) (g.O.Sink.given c.args.out.now) (g.O.Sink.given c.deliver-delivered.new.out) c.deliver-delivered.result) p.stores d1 in
-    let e = p.told h in
-    (e.answer, e.allowed, run_follows e.answer made _ _ _ _ _ _ _ _ _ _ _ _ _ _ c.deliver-delivered.ensures.later_put p.cause e.ends d2 c.end_line-status.ensures.ends)
+    let d1 = subst (λ y. Delivered made (g.F.Files.store_faults c.prepare_words-made.new.files)
+    (g.F.Files.store_faults c.deliver-delivered.new.files) (g.O.Sink.faults c.args.out.now)
+    (g.O.Sink.faults c.deliver-delivered.new.out) y (g.F.Files.held c.deliver-delivered.new.files) (g.O.Sink.given c.args.out.now)
+    (g.O.Sink.given c.deliver-delivered.new.out) c.deliver-delivered.result) p.held d0 in
+    let d2 = subst (λ x. Delivered made x (g.F.Files.store_faults c.deliver-delivered.new.files) (g.O.Sink.faults c.args.out.now)
+    (g.O.Sink.faults c.deliver-delivered.new.out) (g.F.Files.held c.args.files.now) (g.F.Files.held c.deliver-delivered.new.files)
+    (g.O.Sink.given c.args.out.now) (g.O.Sink.given c.deliver-delivered.new.out) c.deliver-delivered.result) p.stores d1 in
+    let e = p.told h in (
+      e.answer,
+      e.allowed,
+      run_follows e.answer made _ _ _ _ _ _ _ _ _ _ _ _ _ _ c.deliver-delivered.ensures.later_put p.cause e.ends d2
+          c.end_line-status.ensures.ends,
+    )
 
 pub returns-clause-complete : goal.returns-clause-complete
 returns-clause-complete g c = λ h nf ns np.

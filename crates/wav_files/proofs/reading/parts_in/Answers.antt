@@ -23,15 +23,18 @@ chunks-preserved c =
     let before = parts_from-other c.chunks.known c.chunks.left.now (omega arith) other in
     let step = ap (λ r. go_on r (λ next. parts_from next (chunks_of (after (chunk_at c.chunks.left.now))))) (sym c.in-Ok.ensures.next) in
     record {
-      same = ap (λ left. parts_from c.in-Ok.next (chunks_of left)) c.after-left.ensures.bytes ∙ sym (before ∙ step) ∙ c.chunks.invariant.same;
+      same = ap (λ left. parts_from c.in-Ok.next (chunks_of left)) c.after-left.ensures.bytes ∙ sym (before ∙ step)
+          ∙ c.chunks.invariant.same;
       form = c.in-Ok.ensures.form;
       shorter = omega arith;
     }
 
 pub returns-in-None-clause-parts : goal.returns-in-None-clause-parts
 returns-in-None-clause-parts c =
-    sym c.chunks.invariant.same ∙ parts_from-end c.chunks.known c.chunks.left.now (omega arith) ∙ ap (λ known. Err (missing known)) c.in-None.is
+    sym c.chunks.invariant.same ∙ parts_from-end c.chunks.known c.chunks.left.now (omega arith)
+    ∙ ap (λ known. Err (missing known)) c.in-None.is
 
 pub returns-in-Some-clause-parts : goal.returns-in-Some-clause-parts
 returns-in-Some-clause-parts c =
-    sym c.chunks.invariant.same ∙ parts_from-end c.chunks.known c.chunks.left.now (omega arith) ∙ ap (λ known. Err (missing known)) c.in-Some.is
+    sym c.chunks.invariant.same ∙ parts_from-end c.chunks.known c.chunks.left.now (omega arith)
+    ∙ ap (λ known. Err (missing known)) c.in-Some.is

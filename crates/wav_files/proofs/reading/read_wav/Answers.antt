@@ -13,6 +13,7 @@ returns-in-Ok-samples_of-clause-wave c = λ small.
     record {
       rate = (form.0, form.1);
       channels = (form.2, form.3);
-      whole = ap (λ n. n % c.in-Ok.form.channels) same ∙ whole_samples c.in-Ok.data.now c.in-Ok.form.channels form.2 c.in-Ok.ensures.whole even;
+      whole = ap (λ n. n % c.in-Ok.form.channels) same
+          ∙ whole_samples c.in-Ok.data.now c.in-Ok.form.channels form.2 c.in-Ok.ensures.whole even;
       small = omega (arith, same, count, short, small);
     }

@@ -7,4 +7,5 @@ pub returns : goal.returns
 returns c =
     let count : length c.in_ok-samples.samples ≡ length c.args.bytes.now / 2 = ap length c.in_ok-samples.ensures ∙ length-replicate _ _ in
     let same : length c.read_i16_into.new.dst ≡ length c.in_ok-samples.samples = omega (arith, ap length c.as_mut_slice.ensures.value) in
-    take_at c.read_i16_into.new.dst _ _ same ∙ samples_in_is c.args.bytes.now c.read_i16_into.new.dst (omega (arith, c.requires)) c.read_i16_into.ensures
+    take_at c.read_i16_into.new.dst _ _ same ∙ samples_in_is c.args.bytes.now c.read_i16_into.new.dst
+    (omega (arith, c.requires)) c.read_i16_into.ensures

@@ -7,7 +7,8 @@ use Rattle.area_runs.proofs.LeadLemmas.{lead_moves, checked_waits}
 use Rattle.area_runs.proofs.lead.Lead.check.Goals as goal
 
 pub returns-clause-ready : goal.returns-clause-ready
-returns-clause-ready c = let p = lay c.args.board.now.plot in let r = c.requires.ready in let o = r.0 in let e = c.check_late.ensures.knows in
+returns-clause-ready c = let p = lay c.args.board.now.plot in let r = c.requires.ready in let o = r.0 in
+    let e = c.check_late.ensures.knows in
     let v : View = c.args.self.now.seat.knows in let w : View = c.check_late.new.seat.knows in (
       record {
         table = c.check_late.ensures.table ∙ o.table;

@@ -9,7 +9,8 @@ use Rattle.board_rule.specs.Steps.{IsReadyToFinish}
 use Rattle.activation_words.specs.Calls.{started}
 use Rattle.area_runs.specs.Steady.{IsSteady}
 use Rattle.area_runs.specs.Hearing.{MayHearAll, Gives, AreHeard}
-use Rattle.area_runs.proofs.LeadLemmas.{lead_moves, lead_may_hear, lead_gives, lead_ready, ended_later, ended_even, ended_expect, ended_between}
+use Rattle.area_runs.proofs.LeadLemmas.{lead_moves, lead_may_hear, lead_gives, lead_ready, ended_later, ended_even, ended_expect}
+use Rattle.area_runs.proofs.LeadLemmas.{ended_between}
 use Rattle.area_runs.proofs.lead.Lead.conclude.Goals as goal
 
 pub hear_all-heard-requires-clause-phase : goal.hear_all-heard-requires-clause-phase
@@ -31,11 +32,14 @@ finish-requires-clause-ready c = let plot = c.args.board.now.plot in let p = lay
     let w : View = c.hear_all-heard.new.seat.knows in
     subst (IsReadyToFinish true p w) (sym (ap (λ (x : Shape). place_in plot.shape x.driver) c.shape.ensures))
     (lead_ready plot o.plain u a.1 refl (lead_moves p v u v.lead.cycle v.lead.cycle refl refl o.even) w
-    (subst (λ (x : View × List ℕ). AreHeard true p x.0 x.1 w) (λ i. (s.2 i, (c.as_slice.ensures ∙ o.reads_are) i)) c.hear_all-heard.ensures.knows))
+    (subst (λ (x : View × List ℕ). AreHeard true p x.0 x.1 w)
+    (λ i. (s.2 i, (c.as_slice.ensures ∙ o.reads_are) i)) c.hear_all-heard.ensures.knows))
 
 pub returns-clause-ready : goal.returns-clause-ready
-returns-clause-ready c = let plot = c.args.board.now.plot in let p = lay plot in let a = c.requires.awake in let o = a.0 in let s = c.start.ensures.knows in
-    let v : View = c.args.self.now.seat.knows in let u : View = started true v p.driver s.0 in let w : View = c.hear_all-heard.new.seat.knows in
+returns-clause-ready c = let plot = c.args.board.now.plot in let p = lay plot in let a = c.requires.awake in let o = a.0 in
+    let s = c.start.ensures.knows in
+    let v : View = c.args.self.now.seat.knows in let u : View = started true v p.driver s.0 in
+    let w : View = c.hear_all-heard.new.seat.knows in
     let x : View = c.finish.new.seat.knows in let y : View = c.end.new.seat.knows in
     let even = lead_moves p v u v.lead.cycle v.lead.cycle refl refl o.even in
     let heard : AreHeard true p u _ w = subst (λ (z : View × List ℕ). AreHeard true p z.0 z.1 w)
@@ -48,19 +52,23 @@ returns-clause-ready c = let plot = c.args.board.now.plot in let p = lay plot in
         steady = subst (λ (e : Samples). IsSteady p e c.args.self.now.samples)
             (sym (ended_expect plot o.plain u a.1 refl even w heard x y c.finish.ensures.knows c.end.ensures.knows)) o.steady;
         long = ap (λ (l : List ℤ). length l) (with_items_is c.args.self.now.room c.hear_all-heard.new.room
-            (c.hear_all-heard.auto.room ∙ c.as_mut_slice.ensures.len)) ∙ c.hear_all-heard.auto.room ∙ ap (λ (l : List ℤ). length l) c.as_mut_slice.ensures.value
+            (c.hear_all-heard.auto.room ∙ c.as_mut_slice.ensures.len)) ∙ c.hear_all-heard.auto.room
+            ∙ ap (λ (l : List ℤ). length l) c.as_mut_slice.ensures.value
             ∙ o.long;
       },
       ended_between plot o.plain u a.1 refl even w heard x y c.finish.ensures.knows c.end.ensures.knows,
     )
 
 pub returns-clause-concluded : goal.returns-clause-concluded
-returns-clause-concluded c = let plot = c.args.board.now.plot in let p = lay plot in let a = c.requires.awake in let o = a.0 in let s = c.start.ensures.knows in
-    let v : View = c.args.self.now.seat.knows in let u : View = started true v p.driver s.0 in let w : View = c.hear_all-heard.new.seat.knows in
+returns-clause-concluded c = let plot = c.args.board.now.plot in let p = lay plot in let a = c.requires.awake in let o = a.0 in
+    let s = c.start.ensures.knows in
+    let v : View = c.args.self.now.seat.knows in let u : View = started true v p.driver s.0 in
+    let w : View = c.hear_all-heard.new.seat.knows in
     let even = lead_moves p v u v.lead.cycle v.lead.cycle refl refl o.even in
     let heard : AreHeard true p u _ w = subst (λ (z : View × List ℕ). AreHeard true p z.0 z.1 w)
     (λ i. (s.2 i, (c.as_slice.ensures ∙ o.reads_are) i)) c.hear_all-heard.ensures.knows in record {
-      later = ended_later plot o.plain u a.1 refl even w heard c.finish.new.seat.knows c.end.new.seat.knows c.finish.ensures.knows c.end.ensures.knows;
+      later = ended_later plot o.plain u a.1 refl even w heard c.finish.new.seat.knows c.end.new.seat.knows c.finish.ensures.knows
+          c.end.ensures.knows;
       read = λ some. with_items_is c.args.self.now.room c.hear_all-heard.new.room (c.hear_all-heard.auto.room ∙ c.as_mut_slice.ensures.len)
           ∙ c.hear_all-heard.ensures.room (subst (λ (l : List ℕ). 0 < length l) (sym c.as_slice.ensures) some) ∙ c.as_slice-2.ensures;
       same = refl;

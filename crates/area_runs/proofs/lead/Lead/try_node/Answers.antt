@@ -26,7 +26,8 @@ conclude-requires c = let p = lay c.args.board.now.plot in let e = c.in-Awake.en
     }
 
 pub returns-in-NotYet-clause-ready : goal.returns-in-NotYet-clause-ready
-returns-in-NotYet-clause-ready c = let p = lay c.args.board.now.plot in let e = c.in-NotYet.ensures.claim.1 in let r = c.requires.ready in let o = r.0 in
+returns-in-NotYet-clause-ready c = let p = lay c.args.board.now.plot in let e = c.in-NotYet.ensures.claim.1 in let r = c.requires.ready in
+    let o = r.0 in
     let v : View = c.args.self.now.seat.knows in let w : View = c.claim_driver.new.seat.knows in (
       record {
         table = c.claim_driver.ensures.table ∙ o.table;

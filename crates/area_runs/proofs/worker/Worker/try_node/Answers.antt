@@ -13,28 +13,33 @@ use Rattle.area_runs.proofs.WorkerLemmas.{node_is, may_turn, turned_before, turn
 use Rattle.area_runs.proofs.worker.Worker.try_node.Goals as goal
 
 pub returns-then-ended-shape-clause-tried : goal.returns-then-ended-shape-clause-tried
-returns-then-ended-shape-clause-tried c = let plot = c.args.board.now.plot in let p = lay plot in let v : View = c.args.self.now.seat.knows in
+returns-then-ended-shape-clause-tried c = let plot = c.args.board.now.plot in let p = lay plot in
+    let v : View = c.args.self.now.seat.knows in
     let ends : NodeEnds = c.index-as_slice-at.result in
     let is = c.index-as_slice-at.is ∙ ap (λ (l : List NodeEnds). get_or l c.args.at ends) c.as_slice.ensures in
     let all : c.ended.result ≡ plot.shape.cycles = c.if-ended-shape.true ∙ ap (λ (s : Shape). s.cycles) c.shape.ensures in (
-      ap (λ n. (node_of v (p.place n)).next) (node_is p _ c.args.self.now c.requires.ready c.args.at c.requires.inside ends is) ∙ sym c.ended.ensures
+      ap (λ n. (node_of v (p.place n)).next) (node_is p _ c.args.self.now c.requires.ready c.args.at c.requires.inside ends is)
+          ∙ sym c.ended.ensures
           ∙ ap (λ n. first p + n) all,
       refl,
     )
 
 pub take_turn-heard-requires-clause-awake : goal.take_turn-heard-requires-clause-awake
-take_turn-heard-requires-clause-awake c = let plot = c.args.board.now.plot in let p = lay plot in let v : View = c.args.self.now.seat.knows in
+take_turn-heard-requires-clause-awake c = let plot = c.args.board.now.plot in let p = lay plot in
+    let v : View = c.args.self.now.seat.knows in
     let ends : NodeEnds = c.index-as_slice-at.result in let w : View = c.claim.new.seat.knows in
     let is = c.index-as_slice-at.is ∙ ap (λ (l : List NodeEnds). get_or l c.args.at ends) c.as_slice.ensures in
     let some_left : c.ended.result ≢ plot.shape.cycles = search rules in
     let now : first p + c.ended.result ≡ (node_of v (p.place ends.node)).next = c.ended.ensures in
     subst (λ (free : List Queue). MayTurn p w free ends) (sym c.as_mut_slice.ensures.value)
-    (may_turn p _ c.args.self.now c.requires.ready c.args.at c.requires.inside ends is (λ e. some_left (omega arith)) w c.in-Awake.ensures.claim.1)
+    (may_turn p _ c.args.self.now c.requires.ready c.args.at c.requires.inside ends is
+    (λ e. some_left (omega arith)) w c.in-Awake.ensures.claim.1)
 
 pub returns-in-NotYet-clause-ready : goal.returns-in-NotYet-clause-ready
 returns-in-NotYet-clause-ready c = let ends : NodeEnds = c.index-as_slice-at.result in
     let is = c.index-as_slice-at.is ∙ ap (λ (l : List NodeEnds). get_or l c.args.at ends) c.as_slice.ensures in
-    tried_ready _ _ c.args.self.now c.requires.ready c.args.at c.requires.inside ends is (record c.args.self.now { seat = c.claim.new.seat })
+    tried_ready _ _ c.args.self.now c.requires.ready c.args.at c.requires.inside ends is
+    (record c.args.self.now { seat = c.claim.new.seat })
     (c.claim.ensures.table ∙ c.requires.ready.table) refl refl refl refl c.in-NotYet.found refl c.in-NotYet.ensures.claim.1
 
 pub returns-in-NotYet-clause-tried : goal.returns-in-NotYet-clause-tried
@@ -44,7 +49,8 @@ returns-in-NotYet-clause-tried c = let p = lay c.args.board.now.plot in let ends
     (sym (node_is p _ c.args.self.now c.requires.ready c.args.at c.requires.inside ends is)) c.in-NotYet.ensures.claim
 
 pub returns-in-Awake-clause-ready : goal.returns-in-Awake-clause-ready
-returns-in-Awake-clause-ready c = let plot = c.args.board.now.plot in let p = lay plot in let self = c.args.self.now in let v : View = self.seat.knows in
+returns-in-Awake-clause-ready c = let plot = c.args.board.now.plot in let p = lay plot in let self = c.args.self.now in
+    let v : View = self.seat.knows in
     let ends : NodeEnds = c.index-as_slice-at.result in let w : View = c.claim.new.seat.knows in
     let is = c.index-as_slice-at.is ∙ ap (λ (l : List NodeEnds). get_or l c.args.at ends) c.as_slice.ensures in let t = c.take_turn-heard in
     let x : View = t.new.seat.knows in
@@ -56,11 +62,13 @@ returns-in-Awake-clause-ready c = let plot = c.args.board.now.plot in let p = la
     (t.ensures.table ∙ c.claim.ensures.table ∙ c.requires.ready.table) refl refl refl
     (ap (λ (l : List ℤ). length l) room ∙ t.auto.room ∙ ap (λ (l : List ℤ). length l) c.as_mut_slice-in-Awake.ensures.value)
     (subst (λ (free : List Queue). HasTurned p v self.free.items (p.place ends.node) x free) (sym lists)
-    (turned_before p _ self c.requires.ready c.args.at c.requires.inside ends is (λ e. some_left (omega arith)) w x t.new.free c.in-Awake.ensures.claim.1
+    (turned_before p _ self c.requires.ready c.args.at c.requires.inside ends is
+    (λ e. some_left (omega arith)) w x t.new.free c.in-Awake.ensures.claim.1
     (subst (λ (free : List Queue). HasTurned p w free (p.place ends.node) x t.new.free) c.as_mut_slice.ensures.value t.ensures.turned)))
 
 pub returns-in-Awake-clause-tried : goal.returns-in-Awake-clause-tried
-returns-in-Awake-clause-tried c = let plot = c.args.board.now.plot in let p = lay plot in let self = c.args.self.now in let v : View = self.seat.knows in
+returns-in-Awake-clause-tried c = let plot = c.args.board.now.plot in let p = lay plot in let self = c.args.self.now in
+    let v : View = self.seat.knows in
     let ends : NodeEnds = c.index-as_slice-at.result in let w : View = c.claim.new.seat.knows in
     let is = c.index-as_slice-at.is ∙ ap (λ (l : List NodeEnds). get_or l c.args.at ends) c.as_slice.ensures in let t = c.take_turn-heard in
     let x : View = t.new.seat.knows in
@@ -70,6 +78,8 @@ returns-in-Awake-clause-tried c = let plot = c.args.board.now.plot in let p = la
       t.ensures.heard,
       subst (λ (k : ℕ × List Queue). HasTurned p v self.free.items (p.place k.0) x k.1)
           (λ i. (sym (node_is p _ self c.requires.ready c.args.at c.requires.inside ends is) i, sym lists i))
-          (turned_before p _ self c.requires.ready c.args.at c.requires.inside ends is (λ e. some_left (omega arith)) w x t.new.free c.in-Awake.ensures.claim.1
-          (subst (λ (free : List Queue). HasTurned p w free (p.place ends.node) x t.new.free) c.as_mut_slice.ensures.value t.ensures.turned)),
+          (turned_before p _ self c.requires.ready c.args.at c.requires.inside ends is
+          (λ e. some_left (omega arith)) w x t.new.free c.in-Awake.ensures.claim.1
+          (subst (λ (free : List Queue). HasTurned p w free (p.place ends.node) x t.new.free)
+          c.as_mut_slice.ensures.value t.ensures.turned)),
     )

@@ -8,6 +8,8 @@ use Rattle.board_rule.proofs.WordLemmas.{row_fits}
 use Rattle.board_rule.proofs.board.Board.block.Goals as goal
 
 pub overflow_add-result : goal.overflow_add-result
-overflow_add-result c = let b = c.args.self.now in let q : ℕ = c.args.pool in let shape = b.plot.shape in let row : PoolRow = c.index.result.now in
-    let is : IsPoolRow shape (pool_in shape q) (sum_by (λ x. x.blocks) (take q (pools_of shape))) (base_of shape q) row = subst (IsPoolRow shape (pool_in shape q) _ _) (sym c.index.ensures) (b.tied.pools.each q row c.requires.inside) in
+overflow_add-result c = let b = c.args.self.now in let q : ℕ = c.args.pool in let shape = b.plot.shape in
+    let row : PoolRow = c.index.result.now in
+    let is : IsPoolRow shape (pool_in shape q) (sum_by (λ x. x.blocks) (take q (pools_of shape))) (base_of shape q) row =
+    subst (IsPoolRow shape (pool_in shape q) _ _) (sym c.index.ensures) (b.tied.pools.each q row c.requires.inside) in
     record { fits = (row_fits shape q c.args.id row c.requires.inside c.requires.block b.placed b.fits is).3 }

@@ -6,5 +6,8 @@ use Rattle.board_rule.specs.View.{driver_view, loop_view}
 use Rattle.board_rule.proofs.driver_seat.DriverSeat.split_all.Given as goal
 
 abbrev pub invariant-loop-k : goal.invariant-loop-k
-invariant-loop-k g l = (l.self ≡ (let x : Known = record { table = l.board.table.shared.table_id; knows = driver_view (lay l.board.plot) g.E.Expect.expect l.k } in x)) × (length l.loops ≡ l.k)
-    × ((i : ℕ) → i < l.k → slice_get l.loops i ≡ Some record { table = l.board.table.shared.table_id; knows = loop_view (lay l.board.plot) g.E.Expect.expect i })
+invariant-loop-k g l = (l.self ≡ (let x : Known =
+    record { table = l.board.table.shared.table_id; knows = driver_view (lay l.board.plot) g.E.Expect.expect l.k } in x))
+    × (length l.loops ≡ l.k)
+    × ((i : ℕ) → i < l.k → slice_get l.loops i ≡ Some record
+    { table = l.board.table.shared.table_id; knows = loop_view (lay l.board.plot) g.E.Expect.expect i })

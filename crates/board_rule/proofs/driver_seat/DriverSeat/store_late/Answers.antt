@@ -6,4 +6,5 @@ use Rattle.board_rule.specs.EventSteps.{StoresLate}
 use Rattle.board_rule.proofs.driver_seat.DriverSeat.store_late.Goals as goal
 
 pub store_late-requires-clause-phase : goal.store_late-requires-clause-phase
-store_late-requires-clause-phase c = subst (λ (v : View). StoresLate (lay c.args.board.now.plot) v c.args.late) (sym (ap (λ (k : Known). k.knows) c.self.view_is)) c.requires.phase
+store_late-requires-clause-phase c = subst (λ (v : View). StoresLate (lay c.args.board.now.plot) v c.args.late)
+    (sym (ap (λ (k : Known). k.knows) c.self.view_is)) c.requires.phase

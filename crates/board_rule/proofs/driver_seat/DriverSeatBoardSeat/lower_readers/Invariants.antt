@@ -4,4 +4,8 @@ use Rattle.board_rule.specs.ReaderSteps.{readers_lowered}
 use Rattle.board_rule.proofs.driver_seat.DriverSeatBoardSeat.lower_readers.Given as goal
 
 abbrev pub ghosts-lower_readers : goal.ghosts-lower_readers
-ghosts-lower_readers a = record { leads = true; after = λ _. readers_lowered true (lay a.board.now.plot) a.token.now.me.0 a.link; says = λ found. 0 < found }
+ghosts-lower_readers a = record {
+  leads = true;
+  after = λ _. readers_lowered true (lay a.board.now.plot) a.token.now.me.0 a.link;
+  says = λ found. 0 < found;
+}

@@ -4,4 +4,8 @@ use Rattle.board_rule.specs.ReaderSteps.{need_stored}
 use Rattle.board_rule.proofs.driver_seat.DriverSeatBoardSeat.store_need_data.Given as goal
 
 abbrev pub ghosts-store_need : goal.ghosts-store_need
-ghosts-store_need a = record { leads = true; after = λ _. need_stored true (lay a.board.now.plot) a.token.now.me.0 a.link; says = λ n. n ≡ n }
+ghosts-store_need a = record {
+  leads = true;
+  after = λ _. need_stored true (lay a.board.now.plot) a.token.now.me.0 a.link;
+  says = λ n. n ≡ n;
+}

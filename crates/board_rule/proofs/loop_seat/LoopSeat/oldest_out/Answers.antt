@@ -7,10 +7,14 @@ use Rattle.board_rule.proofs.loop_seat.LoopSeat.oldest_out.Goals as goal
 
 pub loop-id-preserved : goal.loop-id-preserved
 loop-id-preserved c = let p = lay c.args.board.now.plot in let v : View = c.args.self.now.knows in
-    subst (IsOldest p v c.args.pool (c.loop-id.id + 1)) (sym c.older-oldest.ensures) (older_next p v c.args.pool c.loop-id.id c.loop-id.oldest c.view_of.result (sym c.view_of.ensures) c.loop-id.invariant)
+    subst (IsOldest p v c.args.pool (c.loop-id.id + 1)) (sym c.older-oldest.ensures)
+    (older_next p v c.args.pool c.loop-id.id c.loop-id.oldest c.view_of.result (sym c.view_of.ensures) c.loop-id.invariant)
 
 pub returns-in-Some : goal.returns-in-Some
-returns-in-Some c = let p = lay c.args.board.now.plot in let v : View = c.args.self.now.knows in let low = c.loop-id-test.false in let high = c.loop-id.auto.id-end in let count = c.block_count-id-end.ensures in
+returns-in-Some c = let p = lay c.args.board.now.plot in let v : View = c.args.self.now.knows in let low = c.loop-id-test.false in
+    let high = c.loop-id.auto.id-end in let count = c.block_count-id-end.ensures in
     let all : c.loop-id.id ≡ (pool_at p c.args.pool).blocks = omega arith in
-    let oldest : IsOldest p v c.args.pool (pool_at p c.args.pool).blocks (Some (c.in-Some.id, c.in-Some.field-0-1)) = subst (λ k. IsOldest p v c.args.pool k (Some (c.in-Some.id, c.in-Some.field-0-1))) all (subst (IsOldest p v c.args.pool c.loop-id.id) c.in-Some.is c.loop-id.invariant) in
+    let oldest : IsOldest p v c.args.pool (pool_at p c.args.pool).blocks (Some (c.in-Some.id, c.in-Some.field-0-1)) =
+    subst (λ k. IsOldest p v c.args.pool k (Some (c.in-Some.id, c.in-Some.field-0-1))) all
+    (subst (IsOldest p v c.args.pool c.loop-id.id) c.in-Some.is c.loop-id.invariant) in
     (c.in-Some.field-0-1, oldest_is p v c.args.pool (c.in-Some.id, c.in-Some.field-0-1) oldest)

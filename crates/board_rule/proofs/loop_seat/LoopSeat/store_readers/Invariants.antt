@@ -4,4 +4,8 @@ use Rattle.board_rule.specs.BlockSteps.{readers_stored}
 use Rattle.board_rule.proofs.loop_seat.LoopSeat.store_readers.Given as goal
 
 abbrev pub ghosts-store_readers : goal.ghosts-store_readers
-ghosts-store_readers a = record { leads = false; after = λ _. readers_stored (lay a.board.now.plot) a.token.now.me.0 a.pool a.id; says = λ n. n ≡ n }
+ghosts-store_readers a = record {
+  leads = false;
+  after = λ _. readers_stored (lay a.board.now.plot) a.token.now.me.0 a.pool a.id;
+  says = λ n. n ≡ n;
+}

@@ -12,8 +12,11 @@ knows : (v w : Known) → v ≡ w → v.knows ≡ w.knows
 knows v w e = ap (λ (k : Known). k.knows) e
 
 pub invariant_of-self : goal.invariant_of-self
-invariant_of-self c = let i = c.self.inside in let is = knows _ _ c.self.view_is in let p = lay c.args.board.now.plot in let at : ℕ = c.place-at.result in
-    seat_draws p i.token.me.0 c.draw-ticket.new.token.me.0 at i.nodes.items i.writes.items i.reads.items i.blocks.items i.woke c.index_mut-kept.result.now c.draw.new.node c.self.invariant
+invariant_of-self c = let i = c.self.inside in let is = knows _ _ c.self.view_is in let p = lay c.args.board.now.plot in
+    let at : ℕ = c.place-at.result in
+    seat_draws p i.token.me.0 c.draw-ticket.new.token.me.0 at i.nodes.items i.writes.items i.reads.items i.blocks.items i.woke
+    c.index_mut-kept.result.now c.draw.new.node c.self.invariant
     (subst (λ (k : ℕ × View). k.0 < length k.1.nodes) (λ j. (sym c.place-at.ensures j, sym is j)) c.requires.phase.0.0.there)
     c.index_mut-kept.ensures.value c.draw-ticket.result c.draw-ticket.ensures.after
-    (subst (λ (k : ℕ × View). CanDraw (node_of k.1 k.0).phase) (λ j. (sym c.place-at.ensures j, sym is j)) c.requires.phase.1) c.draw.ensures
+    (subst (λ (k : ℕ × View). CanDraw (node_of k.1 k.0).phase) (λ j. (sym c.place-at.ensures j, sym is j)) c.requires.phase.1)
+    c.draw.ensures

@@ -13,5 +13,8 @@ knows v w e = ap (λ (k : Known). k.knows) e
 
 pub invariant_of-self : goal.invariant_of-self
 invariant_of-self c = let i = c.self.inside in let is = knows _ _ c.self.view_is in
-    seat_claims (lay c.args.board.now.plot) i.token.me.0 c.claim.new.token.me.0 c.place-at.result c.claim.result i.nodes.items i.writes.items i.reads.items i.blocks.items i.woke c.claim.ensures.after
-    (subst (λ (k : ℕ × View). (node_of k.1 k.0).phase ≡ Idle) (λ j. (sym c.place-at.ensures j, sym is j)) c.requires.phase.1) c.self.invariant
+    seat_claims (lay c.args.board.now.plot)
+    i.token.me.0 c.claim.new.token.me.0 c.place-at.result c.claim.result i.nodes.items i.writes.items i.reads.items i.blocks.items
+    i.woke c.claim.ensures.after
+    (subst (λ (k : ℕ × View). (node_of k.1 k.0).phase ≡ Idle) (λ j. (sym c.place-at.ensures j, sym is j)) c.requires.phase.1)
+    c.self.invariant

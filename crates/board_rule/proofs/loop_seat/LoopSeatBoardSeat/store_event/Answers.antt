@@ -12,5 +12,7 @@ knows v w e = ap (λ (k : Known). k.knows) e
 
 pub invariant_of-self : goal.invariant_of-self
 invariant_of-self c = let i = c.self.inside in let is = knows _ _ c.self.view_is in
-    seat_stores i.token.me.0 c.store.new.token.me.0 c.place-at.result i.nodes.items i.writes.items i.reads.items i.blocks.items i.woke c.store.ensures.after
-    (subst (λ (k : ℕ × View). CanStore (node_of k.1 k.0).phase) (λ j. (sym c.place-at.ensures j, sym is j)) c.requires.phase.1) c.self.invariant
+    seat_stores i.token.me.0 c.store.new.token.me.0 c.place-at.result i.nodes.items i.writes.items i.reads.items i.blocks.items i.woke
+    c.store.ensures.after
+    (subst (λ (k : ℕ × View). CanStore (node_of k.1 k.0).phase) (λ j. (sym c.place-at.ensures j, sym is j)) c.requires.phase.1)
+    c.self.invariant

@@ -13,8 +13,12 @@ knows : (v w : Known) → v ≡ w → v.knows ≡ w.knows
 knows v w e = ap (λ (k : Known). k.knows) e
 
 pub invariant_of-self : goal.invariant_of-self
-invariant_of-self c = let i = c.self.inside in let is = knows _ _ c.self.view_is in let p = lay c.args.board.now.plot in let at : ℕ = c.place-at.result in
-    let told : c.node_at-before.result.told ≡ told_of (node_of i.token.me.0 at).phase = ap (λ (k : NodeProgress). k.told) c.node_at-before.ensures ∙ ap (λ (v : View). told_of (node_of v at).phase) (sym is) in
-    seat_triggers p i.token.me.0 c.trigger.new.token.me.0 at i.nodes.items i.writes.items i.reads.items i.blocks.items i.woke c.index_mut-kept.result.now c.settle.new.node c.self.invariant
+invariant_of-self c = let i = c.self.inside in let is = knows _ _ c.self.view_is in let p = lay c.args.board.now.plot in
+    let at : ℕ = c.place-at.result in
+    let told : c.node_at-before.result.told ≡ told_of (node_of i.token.me.0 at).phase =
+    ap (λ (k : NodeProgress). k.told) c.node_at-before.ensures ∙ ap (λ (v : View). told_of (node_of v at).phase) (sym is) in
+    seat_triggers p i.token.me.0 c.trigger.new.token.me.0 at i.nodes.items i.writes.items i.reads.items i.blocks.items i.woke
+    c.index_mut-kept.result.now c.settle.new.node c.self.invariant
     (subst (λ (k : ℕ × View). k.0 < length k.1.nodes) (λ j. (sym c.place-at.ensures j, sym is j)) c.requires.phase.0.0.there)
-    c.index_mut-kept.ensures.value c.targets_at.result c.node_at-before.result.told c.trigger.ensures.after c.targets_at.ensures told c.settle.ensures
+    c.index_mut-kept.ensures.value c.targets_at.result c.node_at-before.result.told c.trigger.ensures.after c.targets_at.ensures told
+    c.settle.ensures

@@ -8,9 +8,11 @@ use Rattle.board_rule.proofs.WriterStepLemmas.{store_readers_allowed}
 use Rattle.board_rule.proofs.steps.writing.store_readers.Goals as goal
 
 pub store-requires : goal.store-requires
-store-requires g c = let b = c.args.board.now in let p = lay b.plot in let t = c.args.token.now in let slots : ℕ = b.table.shared.table_id.slots in let after = g.C.Change.after in let says = g.C.Change.says in (
-  c.requires.table,
-  c.readers_word-word.ensures.there,
-  subst (λ (k : Plot × ℕ × ℕ). Allows (Holds (lay k.0)) slots t.id t.me k.1 (λ _. k.2) (λ _. Turns after t.me k.2)) (λ i. (sym b.about i, sym c.readers_word-word.ensures.is i, sym c.readers-new.ensures i))
-      (store_readers_allowed p slots t.id t.me after says c.args.pool c.args.id c.requires.phase c.requires.after),
-)
+store-requires g c = let b = c.args.board.now in let p = lay b.plot in let t = c.args.token.now in
+    let slots : ℕ = b.table.shared.table_id.slots in let after = g.C.Change.after in let says = g.C.Change.says in (
+      c.requires.table,
+      c.readers_word-word.ensures.there,
+      subst (λ (k : Plot × ℕ × ℕ). Allows (Holds (lay k.0)) slots t.id t.me k.1 (λ _. k.2) (λ _. Turns after t.me k.2))
+          (λ i. (sym b.about i, sym c.readers_word-word.ensures.is i, sym c.readers-new.ensures i))
+          (store_readers_allowed p slots t.id t.me after says c.args.pool c.args.id c.requires.phase c.requires.after),
+    )

@@ -9,7 +9,8 @@ use Rattle.node_state.proofs.KeptLemmas.{keeps_on, stream_on, room_on}
 use Rattle.node_state.proofs.node_state.NodeState.process.Goals as goal
 
 pub process-requires-clause-slices : goal.process-requires-clause-slices
-process-requires-clause-slices c = quantum_fits c.args.self.now c.args.a.now c.args.b.now c.args.left.now c.args.right.now c.requires.slices c.requires.frames
+process-requires-clause-slices c =
+    quantum_fits c.args.self.now c.args.a.now c.args.b.now c.args.left.now c.args.right.now c.requires.slices c.requires.frames
 
 pub invariant_of-self : goal.invariant_of-self
 invariant_of-self c =
@@ -36,7 +37,8 @@ returns-clause-left c = λ h stands.
     let within : h.frames + s.quantum ≤ s.prepared = omega (arith, stands.0, c.requires.frames) in
     let whole = kind_output (kind_of s.state) (followed s.quantum a b h) 0 in
     c.process.ensures.left
-    ∙ last_gained (length left) (kind_output (kind_of s.state) h 0) (given_by s.state s.quantum a b 0) whole (left_whole s.state s.quantum a b left c.args.right.now can)
+    ∙ last_gained (length left) (kind_output (kind_of s.state) h 0) (given_by s.state s.quantum a b 0) whole
+    (left_whole s.state s.quantum a b left c.args.right.now can)
     (gained s.state s.channels s.prepared s.quantum a b left c.args.right.now h 0 (omega arith) within can stands.1)
 
 pub returns-clause-right : goal.returns-clause-right
@@ -49,7 +51,8 @@ returns-clause-right c = λ h stands.
     let within : h.frames + s.quantum ≤ s.prepared = omega (arith, stands.0, c.requires.frames) in
     let whole = kind_output (kind_of s.state) (followed s.quantum a b h) 1 in
     c.process.ensures.right
-    ∙ last_gained (length right) (kind_output (kind_of s.state) h 1) (given_by s.state s.quantum a b 1) whole (right_whole s.state s.quantum a b c.args.left.now right can)
+    ∙ last_gained (length right) (kind_output (kind_of s.state) h 1) (given_by s.state s.quantum a b 1) whole
+    (right_whole s.state s.quantum a b c.args.left.now right can)
     (gained s.state s.channels s.prepared s.quantum a b c.args.left.now right h 1 (omega arith) within can stands.1)
 
 pub returns-clause-stands : goal.returns-clause-stands
@@ -59,7 +62,8 @@ returns-clause-stands c = λ h stands.
     let b = c.args.b.now in
     let can = quantum_fits s a b c.args.left.now c.args.right.now c.requires.slices c.requires.frames in (
       omega (arith, stands.0, c.from.ensures),
-      keeps_on s.state c.process.new.self s.channels s.prepared s.quantum a b c.args.left.now c.args.right.now h can c.process.ensures.state stands.1,
+      keeps_on s.state c.process.new.self s.channels s.prepared s.quantum a b c.args.left.now c.args.right.now h can c.process.ensures.state
+          stands.1,
     )
 
 pub returns-clause-joins_left : goal.returns-clause-joins_left
@@ -73,7 +77,8 @@ returns-clause-joins_left c = λ h stands.
     let after = followed s.quantum a b h in
     let P : List ℤ → Type 0 = λ new. Joins (kind_of s.state) h after 0 new in
     subst P (sym c.process.ensures.left)
-    (joined (length left) (kind_of s.state) h after 0 (given_by s.state s.quantum a b 0) (left_whole s.state s.quantum a b left c.args.right.now can)
+    (joined (length left) (kind_of s.state) h after 0 (given_by s.state s.quantum a b 0)
+    (left_whole s.state s.quantum a b left c.args.right.now can)
     (gained s.state s.channels s.prepared s.quantum a b left c.args.right.now h 0 (omega arith) within can stands.1))
 
 pub returns-clause-joins_right : goal.returns-clause-joins_right
@@ -87,5 +92,6 @@ returns-clause-joins_right c = λ h stands.
     let after = followed s.quantum a b h in
     let P : List ℤ → Type 0 = λ new. Joins (kind_of s.state) h after 1 new in
     subst P (sym c.process.ensures.right)
-    (joined (length right) (kind_of s.state) h after 1 (given_by s.state s.quantum a b 1) (right_whole s.state s.quantum a b c.args.left.now right can)
+    (joined (length right) (kind_of s.state) h after 1 (given_by s.state s.quantum a b 1)
+    (right_whole s.state s.quantum a b c.args.left.now right can)
     (gained s.state s.channels s.prepared s.quantum a b c.args.left.now right h 1 (omega arith) within can stands.1))

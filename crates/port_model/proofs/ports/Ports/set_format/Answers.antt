@@ -12,4 +12,5 @@ invariant_of-self c =
     let nodes = c.self.inside.nodes in
     subst AreSoundNodes (sym c.put_format.ensures)
     (nodes_taken nodes c.args.port c.args.format c.self.invariant
-    (λ n s e d. at_port (MayTake c.args.format) nodes c.args.port n s e d (subst (λ (ns : List Node). AtPort ns c.args.port (MayTake c.args.format)) (sym c.self.view_is) c.requires.format)))
+    (λ n s e d. at_port (MayTake c.args.format) nodes c.args.port n s e d
+    (subst (λ (ns : List Node). AtPort ns c.args.port (MayTake c.args.format)) (sym c.self.view_is) c.requires.format)))

@@ -16,8 +16,10 @@ returns-clause-range c =
     let s = c.state_at-state.result.now in
     let rate = c.in_ok-rate.rate in
     let channels = c.in_ok-channels.channels in
-    let here : slice_get nodes port.node ≡ Some n = ap (λ (ns : List Node). slice_get ns port.node) (sym (c.as_slice.ensures ∙ c.self.view_is)) ∙ c.node_at-node.ensures.node in
-    port_at (λ (node : Node) (t : PortState). MayHaveRate node.kind rate × MayHaveChannels node.kind port.port channels) nodes port n s here c.state_at-state.ensures.state (
+    let here : slice_get nodes port.node ≡ Some n = ap (λ (ns : List Node). slice_get ns port.node)
+    (sym (c.as_slice.ensures ∙ c.self.view_is)) ∙ c.node_at-node.ensures.node in
+    port_at (λ (node : Node) (t : PortState). MayHaveRate node.kind rate × MayHaveChannels node.kind port.port channels)
+    nodes port n s here c.state_at-state.ensures.state (
       rate_in_range n port.port s rate c.node_at-node.ensures.sound c.state_at-state.ensures.sound c.in_ok-rate.ensures,
       channels_in_range n port.port s channels c.node_at-node.ensures.sound c.state_at-state.ensures.sound c.in_ok-channels.ensures,
     )

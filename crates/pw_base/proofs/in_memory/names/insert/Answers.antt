@@ -3,4 +3,6 @@ use Rattle.pw_base.proofs.InMemoryLemmas.{names_after}
 use Rattle.pw_base.proofs.in_memory.names.insert.Goals as goal
 
 pub returns-in-Ok-insert-clause-others : goal.returns-in-Ok-insert-clause-others
-returns-in-Ok-insert-clause-others c = λ n ne. names_after c.args.map.now c.insert.new.self c.in-Ok.key.items _ c.in-Ok-insert.ensures.updates n (λ e. ne (e ∙ c.in-Ok.ensures.items))
+returns-in-Ok-insert-clause-others c =
+    λ n ne. names_after c.args.map.now c.insert.new.self c.in-Ok.key.items _ c.in-Ok-insert.ensures.updates n
+    (λ e. ne (e ∙ c.in-Ok.ensures.items))

@@ -9,7 +9,8 @@ use Rattle.pw_top.proofs.commands.filter_files.first_loaded.Goals as goal
 pub returns-in-Err-clause-told : goal.returns-in-Err-clause-told
 returns-in-Err-clause-told g c = λ h.
     let told = subst (λ x. CameAs (HoldsFormat 1 x) (Err c.in-Err.status)) c.as_slice.ensures c.in-Err.ensures.told in
-    reads_stops (HoldsFormat 1 c.args.bytes.now) (IsSecondAnswer (names_in (g.F.Files.held c.args.files.now)) c.args.b.now c.args.out) c.in-Err.status told
+    reads_stops (HoldsFormat 1 c.args.bytes.now) (IsSecondAnswer (names_in (g.F.Files.held c.args.files.now)) c.args.b.now c.args.out)
+    c.in-Err.status told
 
 pub returns-in-Ok-clause-told : goal.returns-in-Ok-clause-told
 returns-in-Ok-clause-told g c = λ h.

@@ -13,5 +13,6 @@ returns-in-Err-clause-done c =
 pub returns-in-Ok-clause-done : goal.returns-in-Ok-clause-done
 returns-in-Ok-clause-done c =
     let told = subst (λ x. CameAs (HoldsFormat 2 x) (Ok c.in-Ok.second)) c.as_slice.ensures c.in-Ok.ensures.told in
-    as_goes [] (HoldsFormat 2 c.args.bytes.now) (λ second. Gives (FiltersTo c.args.out c.args.first.now second)) c.in-Ok.second c.filter_both.result told
+    as_goes [] (HoldsFormat 2 c.args.bytes.now) (λ second. Gives (FiltersTo c.args.out c.args.first.now second))
+    c.in-Ok.second c.filter_both.result told
     (gives (FiltersTo c.args.out c.args.first.now c.in-Ok.second) c.filter_both.result c.filter_both.ensures.done)

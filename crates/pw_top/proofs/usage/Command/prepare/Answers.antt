@@ -8,4 +8,5 @@ use Rattle.pw_top.proofs.usage.Command.prepare.Goals as goal
 pub returns-in-Filter-clause-told : goal.returns-in-Filter-clause-told
 returns-in-Filter-clause-told g c = λ h.
     let names = names_in (g.F.Files.held c.args.files.now) in
-    subst (λ (x : Command). EndsAs (IsAnswerTo x c.args.history.now names) c.prepare-in-Filter.result) (sym c.in-Filter.is) (c.prepare-in-Filter.ensures.told h)
+    subst (λ (x : Command). EndsAs (IsAnswerTo x c.args.history.now names) c.prepare-in-Filter.result) (sym c.in-Filter.is)
+    (c.prepare-in-Filter.ensures.told h)

@@ -15,8 +15,10 @@ loop-i-preserved c =
     let from : i ≡ 0 + i = omega arith in
     let left_fits : SFits w16 (get_or s (2 * i) (pos 0)) = search rules in
     let right_fits : SFits w16 (get_or s (2 * i + 1) (pos 0)) = search rules in
-    let left : to_z w16 (of_z w16 (get_or s (2 * i) (pos 0))) ≡ sample_at 2 s i 0 = to_z-of_z w16 _ left_fits ∙ ap (λ k. get_or s k (pos 0)) even in
-    let right : to_z w16 (of_z w16 (get_or s (2 * i + 1) (pos 0))) ≡ sample_at 2 s i 1 = to_z-of_z w16 _ right_fits ∙ ap (λ k. get_or s k (pos 0)) odd in (
+    let left : to_z w16 (of_z w16 (get_or s (2 * i) (pos 0))) ≡ sample_at 2 s i 0 = to_z-of_z w16 _ left_fits
+    ∙ ap (λ k. get_or s k (pos 0)) even in
+    let right : to_z w16 (of_z w16 (get_or s (2 * i + 1) (pos 0))) ≡ sample_at 2 s i 1 = to_z-of_z w16 _ right_fits
+    ∙ ap (λ k. get_or s k (pos 0)) odd in (
       rw (c.loop-i.invariant.0, left, next) (range_over (λ k. sample_at 2 s k 0) 0 c.args.left.now i i (omega arith) from),
       rw (c.loop-i.invariant.1, right, next) (range_over (λ k. sample_at 2 s k 1) 0 c.args.right.now i i (omega arith) from),
     )
@@ -25,4 +27,5 @@ pub returns-clause-left : goal.returns-clause-left
 returns-clause-left c = picked_one c.args.s.now c.args.left.now c.loop-i.left 0 c.loop-i.i (omega arith) (omega arith) c.loop-i.invariant.0
 
 pub returns-clause-right : goal.returns-clause-right
-returns-clause-right c = picked_one c.args.s.now c.args.right.now c.loop-i.right 1 c.loop-i.i (omega arith) (omega arith) c.loop-i.invariant.1
+returns-clause-right c = picked_one c.args.s.now c.args.right.now c.loop-i.right 1 c.loop-i.i (omega arith)
+    (omega arith) c.loop-i.invariant.1

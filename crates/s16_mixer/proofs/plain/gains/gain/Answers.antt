@@ -12,4 +12,5 @@ loop-i-preserved c =
     let v = simp to_z-of_z at c.scale.ensures in
     let w : to_z w16 (of_z w16 c.scale.result) ≡ c.scale.result = omega (arith, ints) in
     let e : to_z w32 (of_z w32 c.args.g) ≡ c.args.g = omega (arith, ints) in
-    rw (e, w, v, c.loop-i.invariant, e, add-one) (map_over (scaled c.args.g) c.args.s.now c.args.to.now c.loop-i.i (pos 0) here (omega arith))
+    rw (e, w, v, c.loop-i.invariant, e, add-one) (map_over (scaled c.args.g) c.args.s.now c.args.to.now c.loop-i.i (pos 0) here
+    (omega arith))

@@ -17,7 +17,8 @@ loop-i-preserved c =
     let w : to_z w16 (of_z w16 c.mix.result) ≡ c.mix.result = omega (arith, ints) in
     let ea : to_z w32 (of_z w32 c.args.ga) ≡ c.args.ga = omega (arith, ints) in
     let eb : to_z w32 (of_z w32 c.args.gb) ≡ c.args.gb = omega (arith, ints) in
-    let done = zip_over (λ (p : ℤ × ℤ). mixed c.args.ga c.args.gb p.0 p.1) c.args.a.now c.args.b.now c.args.to.now c.loop-i.i (pos 0) (pos 0) here same (sym c.requires.length_a) in
+    let done = zip_over (λ (p : ℤ × ℤ). mixed c.args.ga c.args.gb p.0 p.1) c.args.a.now c.args.b.now c.args.to.now c.loop-i.i (pos 0)
+    (pos 0) here same (sym c.requires.length_a) in
     rw (ea, eb, w, v, c.loop-i.invariant, ea, eb, add-one) done
 
 pub returns : goal.returns

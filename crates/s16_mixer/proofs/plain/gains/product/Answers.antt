@@ -11,6 +11,7 @@ returns c =
     let ga : unsigned_abs c.args.g ≤ 32767 = omega (arith, ints) in
     let p : SFits w32 (c.args.x *ℤ c.args.g) = fits_signed_mul w32 c.args.x c.args.g 32768 32767 xa ga (omega arith) in
     let same : c.from.result ≡ c.args.x = simp to_z-of_z at c.from.ensures in
-    let value : to_z w32 (of_z w32 (to_z w32 (of_z w32 c.from.result) *ℤ to_z w32 (of_z w32 c.args.g))) ≡ c.args.x *ℤ c.args.g = grind (arith, to_z-of_z) in
+    let value : to_z w32 (of_z w32 (to_z w32 (of_z w32 c.from.result) *ℤ to_z w32 (of_z w32 c.args.g))) ≡ c.args.x *ℤ c.args.g =
+    grind (arith, to_z-of_z) in
     let limit : unsigned_abs (c.args.x *ℤ c.args.g) ≤ 1073709056 = rw unsigned_abs-mul (mul-le-mul xa ga) in
     record { value = value; limit = rw value limit }

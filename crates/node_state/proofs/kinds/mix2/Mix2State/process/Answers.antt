@@ -13,6 +13,7 @@ returns-then-not-is_empty c =
     let gb = c.args.self.now.gb in
     let same_a : to_z w32 (of_z w32 ga) ≡ ga = let range = c.args.self.now.range_a in omega (arith, ints) in
     let same_b : to_z w32 (of_z w32 gb) ≡ gb = let range = c.args.self.now.range_b in omega (arith, ints) in
-    let long : length (row ga gb) ≤ length c.args.left.now = grind (arith, common_steps, length-zip c.args.a.now c.args.b.now, c.requires.inputs, c.requires.output) in
+    let long : length (row ga gb) ≤ length c.args.left.now =
+    grind (arith, common_steps, length-zip c.args.a.now c.args.b.now, c.requires.inputs, c.requires.output) in
     let e : c.mix2.new.to ≡ row (to_z w32 (of_z w32 ga)) (to_z w32 (of_z w32 gb)) = c.mix2.ensures in
     e ∙ ap₂ row same_a same_b ∙ sym (take_all (length c.args.left.now) (row ga gb) long)

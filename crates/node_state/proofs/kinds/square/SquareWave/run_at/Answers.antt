@@ -1,4 +1,5 @@
-use Rattle.std.proofs.Common.{◌≡◌, ◌∙◌, ◌≤◌, ◌*◌, ◌%◌, false, ap, arith, w16, w32, to_z, of_z, neg_ℤ, nat_lt, pos, ◌-ℤ◌, if◌then◌else◌}
+use Rattle.std.proofs.Common.{◌≡◌, ◌∙◌, ◌≤◌, ◌*◌, ◌%◌, false, ap, arith, w16, w32, to_z, of_z, neg_ℤ, nat_lt, pos, ◌-ℤ◌}
+use Rattle.std.proofs.Common.{if◌then◌else◌}
 use Rattle.std.proofs.lemmas.Int.{ints}
 use Rattle.std.proofs.lemmas.Grind.{common_steps, div_ceil_times}
 use Rattle.std.proofs.lemmas.Bool.Decides.{nat_tests}

@@ -18,7 +18,9 @@ pub returns-clause-told : goal.returns-clause-told
 returns-clause-told g c = λ h.
     let names = names_in (g.F.Files.held c.args.files.now) in
     let self = c.args.self in
-    let told = subst (λ (m : Held). IsSome m → EndsAs (Reads (HoldsFormat 1 c.in-Ok.bytes) (IsSecondAnswer (names_in m) self.b self.out)) c.first_loaded.result)
+    let told = subst (λ (m : Held). IsSome m → EndsAs
+    (Reads (HoldsFormat 1 c.in-Ok.bytes) (IsSecondAnswer (names_in m) self.b self.out)) c.first_loaded.result)
     c.in-Ok.ensures.held c.first_loaded.ensures.told in
     load_goes names 1 c.args.self.a pod_bytes_limit W.PodBytes
-    (λ bytes. Reads (HoldsFormat 1 bytes) (IsSecondAnswer names c.args.self.b c.args.self.out)) c.in-Ok.bytes c.first_loaded.result (c.in-Ok.ensures.told h) (told h)
+    (λ bytes. Reads (HoldsFormat 1 bytes) (IsSecondAnswer names c.args.self.b c.args.self.out)) c.in-Ok.bytes c.first_loaded.result
+    (c.in-Ok.ensures.told h) (told h)
