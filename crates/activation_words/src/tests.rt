@@ -1,25 +1,15 @@
-//! The words of a board in the first cycle of four nodes in a row, and many cycles by one thread and by two.
-ghost use Rattle.std.specs.Prelude.{◌≡◌, ◌≢◌, ℕ, ◌==◌, ◌≤◌, false, true, length, slice_get, Some, [], ◌∷◌, slice_index, IsTrue};
-ghost use Rattle.std.specs.Prelude.{IsFalse, IfSome, IfOk, MatchOption};
+//! The words of a board after the beginning of a cycle of four nodes in a row, what claims find, and a check.
+ghost use Rattle.std.specs.Prelude.{◌≡◌, ◌==◌, ◌≤◌, length, slice_get, Some, [], ◌∷◌, slice_index, IsTrue, IsFalse, IfSome, IfOk};
 ghost use Rattle.std.specs.List.{position};
-ghost use Rattle.pw_base.specs.History.{IsLegalHistory};
-ghost use Rattle.board_rule.specs.declared.view.Drive.TheVariants.{Awake};
 ghost use Rattle.board_rule.specs.Layout.{lay, place_in, IsUndelayed};
-ghost use Rattle.board_rule.specs.Steps.{HasNode};
-ghost use Rattle.activation_words.specs.Calls.{IsAwake};
-ghost use Rattle.activation_words.specs.Members.{IsResting, AllRest, IsBetween, IsWaiting, IsDriving};
+ghost use Rattle.activation_words.specs.Members.{IsResting, AllRest, IsBetween, IsWaiting};
 
-use crate::{Claim, begin, check_late, claim, claim_driver, end, finish, start};
-use board_rule::{Board, BoardSeat, Closed, DriverSeat, LoopSeat};
-use pw_base::{
-    Epoch, Event, Items, Memory, PortId, Shape, ShapeLink, ShapeNode, is_legal_history,
-    is_pooled_shape,
-};
+use crate::{Claim, begin, check_late, claim};
+use board_rule::{Board, BoardSeat, DriverSeat, LoopSeat};
+use pw_base::{Items, Memory, PortId, Shape, ShapeLink, ShapeNode, is_pooled_shape};
 use std::alloc::Global;
 use std::marker::Brand;
-use std::sync::Wait;
 use std::test::Fail;
-use std::thread::{Threads, join};
 
 fn node(alloc: Global, node: u32, required: u32, targets: &[u32]) -> Result<ShapeNode, Memory> {
     Ok(ShapeNode {
@@ -61,25 +51,6 @@ fn row(alloc: Global, cycles: u32) -> Result<Shape, Memory> {
         driver: 3,
         nodes,
         links,
-    })
-}
-
-// Four nodes of which each follower waits for the driver alone. The last drives.
-fn apart(alloc: Global, cycles: u32) -> Result<Shape, Memory>
-    ensures { IfOk result (λ shape. length shape.links ≡ 0) }
-{
-    let mut nodes = Items::new(alloc);
-    nodes.push(node(alloc, 0, 1, &[3])?)?;
-    nodes.push(node(alloc, 1, 1, &[3])?)?;
-    nodes.push(node(alloc, 2, 1, &[3])?)?;
-    nodes.push(node(alloc, 3, 4, &[0, 1, 2, 3])?)?;
-    Ok(Shape {
-        quantum: 4,
-        first: 0,
-        cycles,
-        driver: 3,
-        nodes,
-        links: Items::new(alloc),
     })
 }
 
@@ -143,68 +114,11 @@ fn opened(
     }
 }
 
-// A follower that is awake does its work: none.
-fn run(board: &Board, seat: &mut LoopSeat, node: u32)
-    requires bare { length board.now.plot.shape.links ≡ 0 }
-    requires table { seat.old.table ≡ board.now.table.shared.table_id }
-    requires node { let p = lay board.now.plot in HasNode false p seat.old.knows (p.place node) }
-    requires awake { let p = lay board.now.plot in IsAwake false seat.old.knows (p.place node) }
-    ensures table { seat.new.table ≡ seat.old.table }
-    ensures rests { let p = lay board.now.plot in IsResting p seat.new.knows (p.place node) }
-    ensures others { let p = lay board.now.plot in (n : ℕ) → n ≢ p.place node → IsResting p seat.old.knows n
-        → IsResting p seat.new.knows n }
-{
-    start(board, seat, node);
-    finish(board, seat, node);
-}
-
-// One try of a follower, and its work where it is awake. None where it has no cycles left.
-fn turn(board: &Board, seat: &mut LoopSeat, node: u32) -> Option<Claim>
-    requires bare { length board.now.plot.shape.links ≡ 0 }
-    requires table { seat.old.table ≡ board.now.table.shared.table_id }
-    requires rests { let p = lay board.now.plot in IsResting p seat.old.knows (p.place node) }
-    ensures table { seat.new.table ≡ seat.old.table }
-    ensures rests { let p = lay board.now.plot in IsResting p seat.new.knows (p.place node) }
-    ensures others { let p = lay board.now.plot in (n : ℕ) → n ≢ p.place node → IsResting p seat.old.knows n
-        → IsResting p seat.new.knows n }
-{
-    if seat.ended(board, node) == board.shape().cycles {
-        return None;
-    }
-    match claim(board, seat, node) {
-        Claim::Awake { cycle } => {
-            run(board, seat, node);
-            Some(Claim::Awake { cycle })
-        }
-        Claim::NotYet { found } => Some(Claim::NotYet { found }),
-    }
-}
-
 // The seat of each place, as the board has it.
 fn seat_at(at: usize) -> u32
     ensures { result ≡ slice_index (0 ∷ 1 ∷ 0 ∷ 0 ∷ []) at }
 {
     if at == 1 { 1 } else { 0 }
-}
-
-// The same by the seat of a loop, at a board for the row. None also where the node is not the loop's.
-fn try_follower(board: &Board, seat: &mut LoopSeat, of_loop: u32, node: u32) -> Option<Claim>
-    requires bare { length board.now.plot.shape.links ≡ 0 }
-    requires table { seat.old.table ≡ board.now.table.shared.table_id }
-    requires row { board.now.plot.seat_of ≡ 0 ∷ 1 ∷ 0 ∷ 0 ∷ [] }
-    requires rests { AllRest (lay board.now.plot) of_loop seat.old.knows }
-    ensures table { seat.new.table ≡ seat.old.table }
-    ensures rests { AllRest (lay board.now.plot) of_loop seat.new.knows }
-{
-    let shape = board.shape();
-    let at = place_of(shape, node);
-    if at == shape.nodes.len() || at == place_of(shape, shape.driver) {
-        return None;
-    }
-    if at > shape.nodes.len() || seat_at(at) != of_loop {
-        return None;
-    }
-    turn(board, seat, node)
 }
 
 // One try of a follower, without its work. None where it has no cycles left.
@@ -252,39 +166,6 @@ fn begin_next(board: &Board, seat: &mut DriverSeat) -> bool
     true
 }
 
-// The driver's node is awake: it works, and the cycle ends.
-fn run_driver(board: &Board, seat: &mut DriverSeat)
-    requires bare { length board.now.plot.shape.links ≡ 0 }
-    requires table { seat.old.table ≡ board.now.table.shared.table_id }
-    requires node { let p = lay board.now.plot in HasNode true p seat.old.knows p.driver }
-    requires awake { seat.old.knows.lead.drive ≡ Awake }
-    ensures table { seat.new.table ≡ seat.old.table }
-    ensures between { IsBetween (lay board.now.plot) seat.new.knows }
-{
-    let driver = board.shape().driver;
-    start(board, seat, driver);
-    finish(board, seat, driver);
-    end(board, seat);
-}
-
-// One try of the driver's node, and the end of the cycle where it is awake.
-fn try_driver(board: &Board, seat: &mut DriverSeat) -> bool
-    requires bare { length board.now.plot.shape.links ≡ 0 }
-    requires table { seat.old.table ≡ board.now.table.shared.table_id }
-    requires waits { IsWaiting (lay board.now.plot) seat.old.knows }
-    ensures table { seat.new.table ≡ seat.old.table }
-    ensures ended { IsTrue result → IsBetween (lay board.now.plot) seat.new.knows }
-    ensures not_yet { IsFalse result → IsWaiting (lay board.now.plot) seat.new.knows }
-{
-    match claim_driver(board, seat) {
-        Claim::Awake { .. } => {
-            run_driver(board, seat);
-            true
-        }
-        Claim::NotYet { .. } => false,
-    }
-}
-
 // Whether four words from a place on are these. The board has four nodes.
 fn has_words(board: &Board, first: usize, words: (u64, u64, u64, u64)) -> bool
     requires { (length board.now.plot.shape.nodes ≡ 4) × (first ≤ 5) }
@@ -313,182 +194,6 @@ fn begin_and_check(board: &Board, seat: &mut DriverSeat) -> Option<u64>
     Some(check_late(board, seat))
 }
 
-// One try of each follower. False where none has cycles left.
-fn try_all(board: &Board, seat: &mut LoopSeat, of_loop: u32) -> bool
-    requires bare { length board.now.plot.shape.links ≡ 0 }
-    requires table { seat.old.table ≡ board.now.table.shared.table_id }
-    requires row { board.now.plot.seat_of ≡ 0 ∷ 1 ∷ 0 ∷ 0 ∷ [] }
-    requires rests { AllRest (lay board.now.plot) of_loop seat.old.knows }
-    ensures table { seat.new.table ≡ seat.old.table }
-    ensures rests { AllRest (lay board.now.plot) of_loop seat.new.knows }
-{
-    let mut has_left = false;
-    for node in 0..3 {
-        if try_follower(board, seat, of_loop, node).is_some() {
-            has_left = true;
-        }
-    }
-    has_left
-}
-
-// All turns of the loop.
-fn run_loop<R: Wait>(rt: &R, board: &Board, mut seat: LoopSeat, of_loop: u32)
-    requires bare { length board.now.plot.shape.links ≡ 0 }
-    requires table { seat.table ≡ board.now.table.shared.table_id }
-    requires row { board.now.plot.seat_of ≡ 0 ∷ 1 ∷ 0 ∷ 0 ∷ [] }
-    requires rests { AllRest (lay board.now.plot) of_loop seat.knows }
-{
-    for _ in rt.forever() {
-        if !try_all(board, &mut seat, of_loop) {
-            break;
-        }
-    }
-}
-
-// One deed of the driver's thread: a try of its node where it waits, else the beginning of a cycle, if there is one.
-fn drive_once(board: &Board, seat: &mut DriverSeat, waits: bool) -> Option<bool>
-    requires bare { length board.now.plot.shape.links ≡ 0 }
-    requires table { seat.old.table ≡ board.now.table.shared.table_id }
-    requires phase { IsDriving (lay board.now.plot) seat.old.knows waits }
-    ensures table { seat.new.table ≡ seat.old.table }
-    ensures phase { MatchOption result (IsBetween (lay board.now.plot) seat.new.knows)
-        (λ still. IsDriving (lay board.now.plot) seat.new.knows still) }
-{
-    if waits {
-        return Some(!try_driver(board, seat));
-    }
-    if begin_next(board, seat) {
-        Some(true)
-    } else {
-        None
-    }
-}
-
-// All cycles of the driver's thread.
-fn drive<R: Wait>(rt: &R, board: &Board, mut seat: DriverSeat) -> DriverSeat
-    requires bare { length board.now.plot.shape.links ≡ 0 }
-    requires table { seat.table ≡ board.now.table.shared.table_id }
-    requires between { IsBetween (lay board.now.plot) seat.knows }
-    ensures table { result.table ≡ seat.table }
-    ensures between { IsBetween (lay board.now.plot) result.knows }
-{
-    let mut waits = false;
-    for _ in rt.forever() {
-        match drive_once(board, &mut seat, waits) {
-            Some(still) => waits = still,
-            None => return seat,
-        }
-    }
-    seat
-}
-
-// Two loops, each in a thread.
-fn run_loops<R: Threads + Wait + Sync>(rt: &R, board: &Board, one: LoopSeat, two: LoopSeat)
-    requires bare { length board.now.plot.shape.links ≡ 0 }
-    requires one { one.table ≡ board.now.table.shared.table_id }
-    requires two { two.table ≡ board.now.table.shared.table_id }
-    requires row { board.now.plot.seat_of ≡ 0 ∷ 1 ∷ 0 ∷ 0 ∷ [] }
-    requires first { AllRest (lay board.now.plot) 0 one.knows }
-    requires second { AllRest (lay board.now.plot) 1 two.knows }
-{
-    join(
-        rt,
-        move || run_loop(rt, board, one, 0),
-        move || run_loop(rt, board, two, 1),
-    );
-}
-
-// The driver's thread beside those of two loops.
-fn run_three<R: Threads + Wait + Sync>(
-    rt: &R,
-    board: &Board,
-    driver: DriverSeat,
-    one: LoopSeat,
-    two: LoopSeat,
-) -> DriverSeat
-    requires bare { length board.now.plot.shape.links ≡ 0 }
-    requires driver { driver.table ≡ board.now.table.shared.table_id }
-    requires one { one.table ≡ board.now.table.shared.table_id }
-    requires two { two.table ≡ board.now.table.shared.table_id }
-    requires row { board.now.plot.seat_of ≡ 0 ∷ 1 ∷ 0 ∷ 0 ∷ [] }
-    requires between { IsBetween (lay board.now.plot) driver.knows }
-    requires first { AllRest (lay board.now.plot) 0 one.knows }
-    requires second { AllRest (lay board.now.plot) 1 two.knows }
-    ensures table { result.table ≡ board.now.table.shared.table_id }
-    ensures between { IsBetween (lay board.now.plot) result.knows }
-{
-    let (driver, ()) = join(
-        rt,
-        move || drive(rt, board, driver),
-        move ||
-            requires bare { length board.now.plot.shape.links ≡ 0 }
-            requires one { one.table ≡ board.now.table.shared.table_id }
-            requires two { two.table ≡ board.now.table.shared.table_id }
-            requires row { board.now.plot.seat_of ≡ 0 ∷ 1 ∷ 0 ∷ 0 ∷ [] }
-            requires first { AllRest (lay board.now.plot) 0 one.knows }
-            requires second { AllRest (lay board.now.plot) 1 two.knows }
-        { run_loops(rt, board, one, two) },
-    );
-    driver
-}
-
-// The check of a cycle.
-fn check_once(board: &Board, seat: &mut DriverSeat) -> u64
-    requires table { seat.old.table ≡ board.now.table.shared.table_id }
-    requires waits { IsWaiting (lay board.now.plot) seat.old.knows }
-    requires unchecked { seat.old.knows.lead.checked ≡ false }
-    ensures table { seat.new.table ≡ seat.old.table }
-    ensures waits { IsWaiting (lay board.now.plot) seat.new.knows }
-{
-    check_late(board, seat)
-}
-
-// One cycle by one thread, the lowest node that can run first, with a check after node 1. What the check found, where the
-// cycle ended.
-fn one_cycle(
-    board: &Board,
-    driver: &mut DriverSeat,
-    one: &mut LoopSeat,
-    two: &mut LoopSeat,
-) -> Option<u64>
-    requires bare { length board.now.plot.shape.links ≡ 0 }
-    requires driver { driver.old.table ≡ board.now.table.shared.table_id }
-    requires one { one.old.table ≡ board.now.table.shared.table_id }
-    requires two { two.old.table ≡ board.now.table.shared.table_id }
-    requires row { board.now.plot.seat_of ≡ 0 ∷ 1 ∷ 0 ∷ 0 ∷ [] }
-    requires between { IsBetween (lay board.now.plot) driver.old.knows }
-    requires first { AllRest (lay board.now.plot) 0 one.old.knows }
-    requires second { AllRest (lay board.now.plot) 1 two.old.knows }
-    ensures table { driver.new.table ≡ driver.old.table }
-    ensures between { IfSome result (λ late. IsBetween (lay board.now.plot) driver.new.knows) }
-{
-    if !begin_next(board, driver) {
-        return None;
-    }
-    try_follower(board, one, 0, 0);
-    try_follower(board, two, 1, 1);
-    let late = check_once(board, driver);
-    try_follower(board, one, 0, 2);
-    if try_driver(board, driver) {
-        Some(late)
-    } else {
-        None
-    }
-}
-
-// What is left of a board whose driver's seat has ended all cycles.
-fn closed(board: Board, seat: DriverSeat) -> Option<Closed>
-    requires table { seat.table ≡ board.table.shared.table_id }
-    requires between { IsBetween (lay board.plot) seat.knows }
-    ensures { IfSome result (λ c. IsLegalHistory (board.plot.shape ∷ []) c.events) }
-{
-    let driver = board.shape().driver;
-    if seat.ended(&board, driver) != board.shape().cycles {
-        return None;
-    }
-    Some(board.close(seat))
-}
-
 #[test]
 fn words_of_one_begin(rt: HostRuntime) -> Result<(), Fail> {
     let shape = row(rt.alloc(), 1)?;
@@ -506,78 +211,11 @@ fn words_of_one_begin(rt: HostRuntime) -> Result<(), Fail> {
 }
 
 #[test]
-fn words_of_one_finish(rt: HostRuntime) -> Result<(), Fail> {
-    let shape = apart(rt.alloc(), 1)?;
-    let Some((board, mut driver, mut one, _two)) = opened(rt.alloc(), &shape)? else {
-        panic!(rt; "the shape is not pooled")
-    };
-    if !begin_next(&board, &mut driver) {
-        panic!(rt; "no cycle is left");
-    }
-    assert!(rt; is_at(&board, (0, 0, 0, 3), (1, 1, 1, 0)));
-    assert!(rt; try_follower(&board, &mut one, 0, 0) == Some(Claim::Awake { cycle: 0 }));
-    assert!(rt; is_at(&board, (0, 0, 0, 2), (3, 1, 1, 0)));
-    Ok(())
-}
-
-#[test]
 fn a_check_names_the_unfinished(rt: HostRuntime) -> Result<(), Fail> {
     let shape = row(rt.alloc(), 1)?;
     let Some((board, mut driver, _one, _two)) = opened(rt.alloc(), &shape)? else {
         panic!(rt; "the row is not pooled")
     };
     assert!(rt; begin_and_check(&board, &mut driver) == Some(7));
-    Ok(())
-}
-
-#[test]
-fn a_thousand_cycles_on_three_threads(rt: HostRuntime) -> Result<(), Fail> {
-    let shape = apart(rt.alloc(), 1000)?;
-    let Some((board, driver, one, two)) = opened(rt.alloc(), &shape)? else {
-        panic!(rt; "the shape is not pooled")
-    };
-    let driver = run_three(&rt, &board, driver, one, two);
-    assert!(rt; is_at(&board, (0, 0, 0, 0), (3999, 3999, 3999, 3999)));
-    let Some(closed) = closed(board, driver) else {
-        panic!(rt; "a cycle is left")
-    };
-    assert_eq!(rt; closed.events().len(), 10_000);
-    let epoch = Epoch {
-        shape,
-        forms: Items::new(rt.alloc()),
-        fresh: Items::new(rt.alloc()),
-    };
-    assert!(rt; is_legal_history(&[epoch], closed.events().as_slice()));
-    Ok(())
-}
-
-#[test]
-fn one_cycle_with_a_late_check(rt: HostRuntime) -> Result<(), Fail> {
-    let shape = apart(rt.alloc(), 1)?;
-    let Some((board, mut driver, mut one, mut two)) = opened(rt.alloc(), &shape)? else {
-        panic!(rt; "the shape is not pooled")
-    };
-    let Some(late) = one_cycle(&board, &mut driver, &mut one, &mut two) else {
-        panic!(rt; "the cycle did not end")
-    };
-    assert_eq!(rt; late, 4);
-    let Some(closed) = closed(board, driver) else {
-        panic!(rt; "a cycle is left")
-    };
-    let cycle = 0;
-    let events = [
-        Event::Begin { cycle },
-        Event::Start { cycle, node: 0 },
-        Event::Finish { cycle, node: 0 },
-        Event::Start { cycle, node: 1 },
-        Event::Finish { cycle, node: 1 },
-        Event::Tick { cycle, late: 4 },
-        Event::Start { cycle, node: 2 },
-        Event::Finish { cycle, node: 2 },
-        Event::Start { cycle, node: 3 },
-        Event::Finish { cycle, node: 3 },
-        Event::End { cycle },
-    ];
-    assert_eq!(rt; closed.events().as_slice(), events.as_slice());
     Ok(())
 }
