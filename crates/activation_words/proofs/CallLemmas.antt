@@ -110,7 +110,8 @@ module _ (p : Lay) (v : View) (m : ℕ) where
         ticket = t;
         drawn = low;
         told = r.told ∙ ap (λ l. reverse (map p.number l)) (all_of (p.targets m));
-        is = r.is ∙ ap (λ (z : NodeView). view_node (worked false v m t) m (settled n z n false) s) (again p v m y (untold v.trail) has.0.there)
+        is = r.is ∙ ap (λ (z : NodeView). view_node (worked false v m t) m (settled n z n false) s)
+            (again p v m y (untold v.trail) has.0.there)
             ∙ twice p v m y (settled n y n false) (untold v.trail) s
             ∙ ap (λ (z : NodeView). view_node v m z s) (all_settled p v m y);
       }

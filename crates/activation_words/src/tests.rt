@@ -1,5 +1,5 @@
 //! The words of a board after the beginning of a cycle of four nodes in a row, what claims find, and a check.
-ghost use Rattle.std.specs.Prelude.{◌≡◌, ◌==◌, ◌≤◌, length, slice_get, Some, [], ◌∷◌, slice_index, IsTrue, IsFalse, IfSome, IfOk};
+ghost use Rattle.std.specs.Prelude.{◌≡◌, ◌==◌, ◌≤◌, length, slice_get, Some, [], ◌∷◌, slice_index, false, IsTrue, IsFalse, IfSome, IfOk};
 ghost use Rattle.std.specs.List.{position};
 ghost use Rattle.board_rule.specs.Layout.{lay, place_in, IsUndelayed};
 ghost use Rattle.activation_words.specs.Members.{IsResting, AllRest, IsBetween, IsWaiting};

@@ -295,7 +295,8 @@ module _ (p : Lay) where
                 seated = look_step p g s.words s.views id me.0 t at number r.seated;
                 activations = act_logs g s.words g.past g.inside g.late t.looks r.activations;
                 buffers = r.buffers;
-                events = subst (λ (fs : List Found). Events p (record g { looks = record { node = p.number n; word = found } ∷ fs }) s.words)
+                events = subst (λ (fs : List Found). Events p
+                    (record g { looks = record { node = p.number n; word = found } ∷ fs }) s.words)
                     (sym looks) (events_looked p g s.words sound r.activations r.events n found drive runs_on inside follows refl);
               },
           (sym (is_after found), refl),

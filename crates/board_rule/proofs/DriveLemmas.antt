@@ -213,7 +213,8 @@ module _ (p : Lay) (g : Whole) (ws : List ℕ) (l : LeadView) (fs : List Found) 
     draws_logs tr drives.Awake same q can = let w = at_lead drives.Awake q in
         let inside : List Event = g.inside ++ Start g.lead.cycle (p.number p.driver) ∷ [] in (
           inside,
-          subst (λ (z : LeadView × List Found). Events p (record (with_lead g (lead_draws z.0 t drives.Awake)) { inside = inside; looks = z.1 })
+          subst (λ (z : LeadView × List Found). Events p
+              (record (with_lead g (lead_draws z.0 t drives.Awake)) { inside = inside; looks = z.1 })
               (set ws 0 (suc t))) (λ i. (sym is i, sym (same ∙ looks) i))
               (events_lead_start p g ws sound a e wide room w (λ z. true≢false (sym z ∙ ap is_resetting w))
               (stage_driver p g ∙ ap drive_stage w) (draws_more g.lead drives.Awake t w tt)),
@@ -223,7 +224,8 @@ module _ (p : Lay) (g : Whole) (ws : List ℕ) (l : LeadView) (fs : List Found) 
     draws_logs tr drives.Done same q can = let w = at_lead drives.Done q in
         let inside : List Event = g.inside ++ Finish g.lead.cycle (p.number p.driver) ∷ [] in (
           inside,
-          subst (λ (z : LeadView × List Found). Events p (record (with_lead g (lead_draws z.0 t drives.Done)) { inside = inside; looks = z.1 })
+          subst (λ (z : LeadView × List Found). Events p
+              (record (with_lead g (lead_draws z.0 t drives.Done)) { inside = inside; looks = z.1 })
               (set ws 0 (suc t))) (λ i. (sym is i, sym (same ∙ looks) i))
               (events_lead_finish p g ws sound a e wide room w (draws_more g.lead drives.Done t w tt)),
         )

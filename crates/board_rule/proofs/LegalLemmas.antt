@@ -115,7 +115,8 @@ module _ (p : Lay) (sound : IsSound p) (c late : ℕ) (k : Tally) (xs : List Eve
           };
           before = All-append (λ x. (first p ≤ event_cycle x) × (event_cycle x < c + 1) × (event_node x ≤ 63)) past part
               (λ i d h. let b = e.before i d h in let b₀ = b.0 in let b₁ = b.1 in let b₂ = b.2 in (omega arith, omega arith, omega arith))
-              (all_of (λ x. (first p ≤ event_cycle x) × (event_cycle x < c + 1) × (event_node x ≤ 63)) (omega arith, omega arith, omega arith)
+              (all_of (λ x. (first p ≤ event_cycle x) × (event_cycle x < c + 1) × (event_node x ≤ 63))
+              (omega arith, omega arith, omega arith)
               (λ i d h. let b = cycle_of (get_or xs i d) (a.only i d h) in let b₀ = b.0 in (omega arith, omega arith, b.1))
               (omega arith, omega arith, omega arith));
           lates = λ j set h. ⊎_elim (λ (z : Contains past (Tick j set)). e.lates j set z)

@@ -14,5 +14,6 @@ fetch_add-requires g c = let b = c.args.board.now in let p = lay b.plot in let t
       c.ticket_word-word.ensures.there,
       subst (λ (k : Plot × ℕ). Allows (Holds (lay k.0)) slots t.id t.me k.1 (λ n. (n + 1) % 2 ^ 64) (Learns after g.C.Change.says t.me))
           (λ i. (sym b.about i, sym c.ticket_word-word.ensures.is i))
-          (draws_ticket p slots t.id t.me after g.C.Change.leads c.args.at g.C.Change.says c.requires.phase c.requires.after c.requires.says),
+          (draws_ticket p slots t.id t.me after g.C.Change.leads c.args.at g.C.Change.says c.requires.phase c.requires.after
+          c.requires.says),
     )

@@ -14,5 +14,6 @@ store-requires g c = let b = c.args.board.now in let p = lay b.plot in let t = c
       c.requires.there,
       subst (λ (k : Plot × ℕ). Allows (Holds (lay k.0)) slots t.id t.me k.1 (λ _. c.args.new) (λ _. Turns after t.me c.args.new))
           (λ i. (sym b.about i, sym c.requires.word i))
-          (store_sample_allowed p slots t.id t.me after says c.args.pool c.args.id c.args.place c.args.new c.requires.phase c.requires.after),
+          (store_sample_allowed p slots t.id t.me after says c.args.pool c.args.id c.args.place c.args.new c.requires.phase
+          c.requires.after),
     )
