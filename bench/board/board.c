@@ -1,16 +1,17 @@
-/* The steps of the nodes of a board, in C: the same sequentially consistent loads, stores, exchanges and additions,
-   through one thread. Each node waits for the driver alone. Prints how often a node was
-   awake. */
+/* Cycles of nodes in a chain, in C: the same sequentially consistent loads, stores, exchanges, additions and subtractions on
+   the words of a board, by one thread. Each node reads the block of the one before it and fills one of its own, of one
+   sample; the driver's node reads the last. Prints how often a follower was awake, and a checksum of what the driver's
+   node read. */
 #include <stdatomic.h>
 #include <stdint.h>
 #include <stdio.h>
 #include <stdlib.h>
-#include <string.h>
 
-enum { NODES = 64, NOT_TRIGGERED = 0, TRIGGERED = 1, AWAKE = 2, FINISHED = 3 };
-enum { BEGIN = 0, START = 1, FINISH = 2, END = 4 };
+enum { NODES = 64, BLOCKS = 2, NOT_TRIGGERED = 0, TRIGGERED = 1, AWAKE = 2, FINISHED = 3 };
+enum { BEGIN = 0, START = 1, FINISH = 2, END = 4, NEED_DATA = 1, HAVE_DATA = 2 };
 
 static _Atomic uint64_t ticket, pending[NODES], status[NODES], *events;
+static _Atomic uint64_t area[NODES], readers[NODES][BLOCKS], words[NODES][BLOCKS];
 static uint64_t required[NODES];
 static uint32_t targets[NODES][NODES], target_count[NODES], count, driver;
 
@@ -34,13 +35,35 @@ static int claim(uint32_t node, uint64_t cycle) {
     return atomic_compare_exchange_strong(&status[node], &wanted, status_word(AWAKE, cycle));
 }
 
-static void work(uint32_t node, uint64_t cycle) {
-    record(START, node, cycle);
-    atomic_store(&status[node], status_word(FINISHED, cycle));
-    record(FINISH, node, cycle);
+/* The node behind a link reads its block: the link and its pool have the number of the node before it. */
+static uint16_t hear(uint32_t link) {
+    uint64_t id = atomic_load(&area[link]) >> 32;
+    uint16_t sample = (uint16_t)atomic_load(&words[link][id]);
+    atomic_fetch_sub(&readers[link][id], 1);
+    atomic_store(&area[link], NEED_DATA + (id << 32));
+    return sample;
 }
 
-static uint32_t one_cycle(uint64_t cycle) {
+static void write_block(uint32_t link, uint64_t cycle, uint16_t sample) {
+    uint64_t id = cycle % BLOCKS;
+    (void)atomic_load(&area[link]);
+    if (cycle > 0) (void)atomic_load(&readers[link][(cycle - 1) % BLOCKS]);
+    atomic_store(&words[link][id], sample);
+    atomic_store(&readers[link][id], 1);
+    atomic_store(&area[link], HAVE_DATA + (id << 32));
+}
+
+static uint16_t work(uint32_t node, uint64_t cycle) {
+    uint16_t heard = 0;
+    record(START, node, cycle);
+    if (node > 0) heard = hear(node - 1);
+    if (node < count) write_block(node, cycle, (uint16_t)-12345);
+    atomic_store(&status[node], status_word(FINISHED, cycle));
+    record(FINISH, node, cycle);
+    return heard;
+}
+
+static uint32_t one_cycle(uint64_t cycle, uint64_t *sum) {
     uint32_t awake = 0;
     record(BEGIN, 0, cycle);
     for (uint32_t node = 0; node <= count; node++) {
@@ -54,27 +77,29 @@ static uint32_t one_cycle(uint64_t cycle) {
             tell(node, cycle);
             awake++;
         }
-    if (claim(driver, cycle)) work(driver, cycle);
+    if (claim(driver, cycle)) *sum = *sum * 31 + work(driver, cycle);
     record(END, 0, cycle);
     return awake;
 }
 
 int main(int argc, char **argv) {
-    if (argc < 4) return 1;
-    count = (uint32_t)atoi(argv[2]);
-    uint64_t cycles = (uint64_t)atoll(argv[3]);
+    if (argc < 3) return 1;
+    count = (uint32_t)atoi(argv[1]);
+    uint64_t cycles = (uint64_t)atoll(argv[2]), sum = 0;
     driver = count;
     for (uint32_t node = 0; node < count; node++) {
+        if (node + 1 < count) targets[node][target_count[node]++] = node + 1;
         targets[node][target_count[node]++] = driver;
-        required[node] = 1;
+        required[node] = node > 0 ? 2 : 1;
+        area[node] = NEED_DATA + (0xffffffffull << 32);
     }
     for (uint32_t node = 0; node <= count; node++) targets[driver][target_count[driver]++] = node;
     required[driver] = count + 1;
-    uint64_t words = cycles * (2 * (count + 1) + 3);
-    events = malloc(words * sizeof *events);
-    for (uint64_t i = 0; i < words; i++) atomic_store_explicit(&events[i], 0, memory_order_relaxed);
-    uint32_t all = 0;
-    for (uint64_t cycle = 0; cycle < cycles; cycle++) all += one_cycle(cycle);
-    printf("%s %u\n", argv[1], all);
+    uint64_t all = cycles * (2 * (count + 1) + 3);
+    events = malloc(all * sizeof *events);
+    for (uint64_t i = 0; i < all; i++) atomic_store_explicit(&events[i], 0, memory_order_relaxed);
+    uint64_t awake = 0;
+    for (uint64_t cycle = 0; cycle < cycles; cycle++) awake += one_cycle(cycle, &sum);
+    printf("%llu %llu\n", (unsigned long long)awake, (unsigned long long)sum);
     return 0;
 }

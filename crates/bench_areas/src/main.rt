@@ -1,10 +1,17 @@
-//! Runs cycles of a source whose one block three nodes read, by one thread: `QUANTUM CHANNELS CYCLES`. It prints in how many
-//! cycles the driver's node ran, and a checksum of what it read. It tells no time: a script does.
+//! Runs cycles of linked nodes, by one thread, and tells no time: a script does.
+//!
+//! `fan QUANTUM CHANNELS CYCLES`: a source whose one block three nodes read. It prints in how many cycles the driver's node
+//! ran, and a checksum of what it read. `chain NODES CYCLES`: followers of which each reads the one before it, and the
+//! driver's node the last, one sample a quantum. It prints how often a follower ran, and the same checksum.
 #![tactic(auto)]
 
-mod cycles;
+mod chain_shape;
+mod chains;
+mod checksum;
+mod fans;
 
-use crate::cycles::run_cycles;
+use crate::chains::run_chain;
+use crate::fans::run_fan;
 use pw_base::{Items, Memory};
 use std::alloc::Global;
 use std::env;
@@ -27,14 +34,23 @@ fn number(word: &str) -> u32 {
     word.parse::<u32>().unwrap_or(0)
 }
 
+/// Runs the cycles that the words name: a count and a checksum. None for other words.
+fn run_named(alloc: Global, words: &[String]) -> Result<Option<(u64, u64)>, Memory> {
+    match words {
+        [name, quantum, channels, cycles] if name.as_str() == "fan" => {
+            let (quantum, channels) = (number(quantum.as_str()), number(channels.as_str()));
+            run_fan(alloc, quantum, channels, number(cycles.as_str()))
+        }
+        [name, nodes, cycles] if name.as_str() == "chain" => {
+            run_chain(alloc, number(nodes.as_str()), number(cycles.as_str()))
+        }
+        _ => Ok(None),
+    }
+}
+
 /// Runs the cycles that the words name, and prints a line. Whether all went well.
 fn run_words<R: Print + Alloc<A = Global>>(rt: &R, words: &[String]) -> bool {
-    let [quantum, channels, cycles] = words else {
-        return false;
-    };
-    let (quantum, channels) = (number(quantum.as_str()), number(channels.as_str()));
-    let cycles = number(cycles.as_str());
-    match run_cycles(rt.alloc(), quantum, channels, cycles) {
+    match run_named(rt.alloc(), words) {
         Ok(Some((ran, sum))) => println!(rt; "{ran} {sum}").is_ok(),
         Ok(None) => false,
         Err(_) => false,

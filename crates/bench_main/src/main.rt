@@ -1,9 +1,8 @@
 //! Runs a piece of work again and again, and prints a checksum of what it leaves: `WORK SAMPLES REPEATS
-//! GAIN..`, where the work is a sample kernel, a fill, a WAV file written or read, bytes scanned or read as a POD,
-//! or the nodes of a board, and `all` names each. It tells no time: a script does.
+//! GAIN..`, where the work is a sample kernel, a fill, a WAV file written or read, or bytes scanned or read as a POD, and
+//! `all` names each. It tells no time: a script does.
 #![tactic(auto)]
 
-mod boards;
 mod factors;
 mod kernels;
 mod pods;
@@ -14,7 +13,6 @@ mod waves;
 ghost use Rattle.std.specs.Prelude.{All};
 ghost use Rattle.s16_mixer.specs.Ranges.{IsGain};
 
-use crate::boards::board_rounds;
 use crate::factors::factors_of;
 use crate::pods::{array_rounds, flat_rounds, nested_rounds, scan_rounds};
 use crate::rounds::{
@@ -54,9 +52,6 @@ const FILES: [&str; 3] = ["fill", "write_wav", "read_wav"];
 
 /// Those on PODs.
 const PODS: [&str; 4] = ["scan", "read_nested", "read_flat", "read_array"];
-
-/// That on boards.
-const BOARDS: [&str; 1] = ["board"];
 
 /// The words of the command line, without the program's own name; no words where they are no text.
 fn words_of<R: Env + Alloc<A = Global>>(rt: &R) -> Result<Items<String>, Memory> {
@@ -114,7 +109,6 @@ fn checksum_of(
         "read_nested" => nested_rounds(alloc, n, repeats),
         "read_flat" => flat_rounds(alloc, n, repeats),
         "read_array" => array_rounds(alloc, n, repeats),
-        "board" => board_rounds(alloc, n, repeats),
         _ => match work.strip_prefix("plain_") {
             Some(kernel) => kernel_sum(alloc, true, kernel, n, repeats, factors.as_slice()),
             None => kernel_sum(alloc, false, work, n, repeats, factors.as_slice()),
@@ -147,7 +141,6 @@ fn run<R: Print + Alloc<A = Global>>(rt: &R, words: &[String]) -> bool {
         && run_some(rt, PLAIN.as_slice(), words)
         && run_some(rt, FILES.as_slice(), words)
         && run_some(rt, PODS.as_slice(), words)
-        && run_some(rt, BOARDS.as_slice(), words)
 }
 
 fn main(rt: HostRuntime) -> ExitCode {

@@ -1,6 +1,6 @@
 use Rattle.std.proofs.Common.{false}
 use Rattle.area_runs.specs.Ready.{IsReadyOn, IsLeadReadyOn}
-use Rattle.bench_areas.proofs.cycles.run_all.Given as goal
+use Rattle.bench_areas.proofs.fans.run_all.Given as goal
 
 abbrev pub invariant-loop-cycle : goal.invariant-loop-cycle
 invariant-loop-cycle l = record {

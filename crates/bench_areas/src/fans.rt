@@ -1,7 +1,8 @@
-//! The cycles, by one thread.
+//! Cycles of a source whose one block three nodes read, by one thread.
 ghost use Rattle.std.specs.Prelude.{◌≡◌, false, length, slice_get, IfSome, IsTrue, Some};
 ghost use Rattle.area_runs.specs.Ready.{IsReadyOn, IsLeadReadyOn};
 
+use crate::checksum::add_last;
 use area_runs::{Lead, Run, Tried, Worker, fan, opened};
 use board_rule::Board;
 use pw_base::{Items, Memory};
@@ -74,14 +75,6 @@ fn run_cycle(board: &Board, lead: &mut Lead, loops: &mut Loops) -> bool
     }
 }
 
-// The last sample as a number.
-fn last_bits(samples: &[i16]) -> u64 {
-    match samples.last() {
-        Some(sample) => u64::from(sample.cast_unsigned()),
-        None => 0,
-    }
-}
-
 // All cycles: how many there were, and a checksum of what the driver's node read.
 fn run_all(board: &Board, mut lead: Lead, mut loops: Loops) -> (u64, u64)
     requires lead { IsLeadReadyOn board.now lead false }
@@ -96,15 +89,14 @@ fn run_all(board: &Board, mut lead: Lead, mut loops: Loops) -> (u64, u64)
             break;
         }
         ran = ran.saturating_add(1);
-        sum = sum
-            .wrapping_mul(31)
-            .wrapping_add(last_bits(lead.last_read()));
+        sum = add_last(sum, lead.last_read());
     }
     (ran, sum)
 }
 
-/// Runs so many cycles, each with one quantum of samples. None where the shape is not sound.
-pub fn run_cycles(
+/// Runs so many cycles of the fan, each with one quantum of samples: how many there were, and the checksum of what the
+/// driver's node read. None where the shape is not sound.
+pub fn run_fan(
     alloc: Global,
     quantum: u32,
     channels: u32,
