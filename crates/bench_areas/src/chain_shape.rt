@@ -1,10 +1,10 @@
-//! The shape of a chain: mono, one frame a quantum. The node behind the last follower drives.
+//! Followers in a chain, mono, one frame a quantum, and the same without links. The node behind the last one drives.
 ghost use Rattle.std.specs.Prelude.{◌<◌};
 
 use pw_base::{Items, Memory, PortId, Shape, ShapeLink, ShapeNode};
 use std::alloc::Global;
 
-// A follower: it waits for the driver and for the one before it, and the next one and the driver wait for it.
+// A follower of a chain: it waits for the driver and for the one before it, and the next one and the driver wait for it.
 fn follower(alloc: Global, node: u32, count: u32) -> Result<ShapeNode, Memory>
     requires { node < count }
 {
@@ -16,6 +16,17 @@ fn follower(alloc: Global, node: u32, count: u32) -> Result<ShapeNode, Memory>
     Ok(ShapeNode {
         node,
         required: if node == 0 { 1 } else { 2 },
+        targets,
+    })
+}
+
+// A follower that waits for the driver alone, and the driver for it.
+fn single(alloc: Global, node: u32, count: u32) -> Result<ShapeNode, Memory> {
+    let mut targets = Items::new(alloc);
+    targets.push(count)?;
+    Ok(ShapeNode {
+        node,
+        required: 1,
         targets,
     })
 }
@@ -72,5 +83,24 @@ pub fn chain(alloc: Global, count: u32, cycles: u32) -> Result<Shape, Memory>
         driver: count,
         nodes,
         links,
+    })
+}
+
+/// So many followers without links, whose driver has the number of their count.
+pub fn apart(alloc: Global, count: u32, cycles: u32) -> Result<Shape, Memory>
+    requires { count < 64 }
+{
+    let mut nodes = Items::new(alloc);
+    for node in 0..count {
+        nodes.push(single(alloc, node, count)?)?;
+    }
+    nodes.push(driver(alloc, count)?)?;
+    Ok(Shape {
+        quantum: 1,
+        first: 0,
+        cycles,
+        driver: count,
+        nodes,
+        links: Items::new(alloc),
     })
 }

@@ -1,12 +1,12 @@
-//! Cycles of followers in a chain, by one thread.
+//! Cycles of followers, in a chain or without links, by one thread.
 ghost use Rattle.std.specs.Prelude.{◌≡◌, false, length, slice_get, IfSome, IsTrue, Some};
 ghost use Rattle.area_runs.specs.Ready.{IsReadyOn, IsLeadReadyOn};
 
-use crate::chain_shape::chain;
+use crate::chain_shape::{apart, chain};
 use crate::checksum::add_last;
 use area_runs::{Lead, Run, Tried, Worker, opened};
 use board_rule::Board;
-use pw_base::{Items, Memory};
+use pw_base::{Items, Memory, Shape};
 use std::alloc::Global;
 
 // The loop of all followers.
@@ -67,15 +67,11 @@ fn run_all(board: &Board, mut lead: Lead, mut worker: Worker) -> (u64, u64)
     (ran, sum)
 }
 
-/// Runs so many cycles of a chain of 1 to 62 followers: how often one ran, and the checksum of what the driver's node
-/// read. None for another count, and where the shape is not sound, as for more cycles than there may be events.
-pub fn run_chain(alloc: Global, count: u32, cycles: u32) -> Result<Option<(u64, u64)>, Memory> {
-    if count < 1 || count > 62 {
-        return Ok(None);
-    }
-    let shape = chain(alloc, count, cycles)?;
+// All cycles of a shape whose followers belong to one loop. None where the shape is not sound, as for more cycles than
+// there may be events.
+fn run_shape(alloc: Global, shape: &Shape) -> Result<Option<(u64, u64)>, Memory> {
     let seat_of = Items::filled(alloc, shape.nodes.len(), 0)?;
-    let Some(run) = opened(alloc, &shape, &seat_of, 1, &[-12345])? else {
+    let Some(run) = opened(alloc, shape, &seat_of, 1, &[-12345])? else {
         return Ok(None);
     };
     let Run {
@@ -87,4 +83,23 @@ pub fn run_chain(alloc: Global, count: u32, cycles: u32) -> Result<Option<(u64, 
         Some(worker) => Ok(Some(run_all(&board, lead, worker))),
         None => Ok(None),
     }
+}
+
+/// Runs so many cycles of 1 to 62 followers, in a chain or without links: how often one ran, and the checksum of what the
+/// driver's node read. None for another count, and where the shape is not sound, as for more cycles than there may be events.
+pub fn run_followers(
+    alloc: Global,
+    linked: bool,
+    count: u32,
+    cycles: u32,
+) -> Result<Option<(u64, u64)>, Memory> {
+    if count < 1 || count > 62 {
+        return Ok(None);
+    }
+    let shape = if linked {
+        chain(alloc, count, cycles)?
+    } else {
+        apart(alloc, count, cycles)?
+    };
+    run_shape(alloc, &shape)
 }

@@ -2,7 +2,8 @@
 //!
 //! `fan QUANTUM CHANNELS CYCLES`: a source whose one block three nodes read. It prints in how many cycles the driver's node
 //! ran, and a checksum of what it read. `chain NODES CYCLES`: followers of which each reads the one before it, and the
-//! driver's node the last, one sample a quantum. It prints how often a follower ran, and the same checksum.
+//! driver's node the last, one sample a quantum; `apart NODES CYCLES`: followers without links. Each prints how often a
+//! follower ran, and the same checksum.
 #![tactic(auto)]
 
 mod chain_shape;
@@ -10,7 +11,7 @@ mod chains;
 mod checksum;
 mod fans;
 
-use crate::chains::run_chain;
+use crate::chains::run_followers;
 use crate::fans::run_fan;
 use pw_base::{Items, Memory};
 use std::alloc::Global;
@@ -41,8 +42,14 @@ fn run_named(alloc: Global, words: &[String]) -> Result<Option<(u64, u64)>, Memo
             let (quantum, channels) = (number(quantum.as_str()), number(channels.as_str()));
             run_fan(alloc, quantum, channels, number(cycles.as_str()))
         }
-        [name, nodes, cycles] if name.as_str() == "chain" => {
-            run_chain(alloc, number(nodes.as_str()), number(cycles.as_str()))
+        [name, nodes, cycles] if name.as_str() == "chain" || name.as_str() == "apart" => {
+            let linked = name.as_str() == "chain";
+            run_followers(
+                alloc,
+                linked,
+                number(nodes.as_str()),
+                number(cycles.as_str()),
+            )
         }
         _ => Ok(None),
     }
