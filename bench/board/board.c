@@ -1,11 +1,12 @@
-/* Cycles of nodes in a chain, in C: the same sequentially consistent loads, stores, exchanges, additions and subtractions on
-   the words of a board, by one thread. Each node reads the block of the one before it and fills one of its own, of one
-   sample; the driver's node reads the last. Prints how often a follower was awake, and a checksum of what the driver's
-   node read. */
+/* Cycles of followers of a board, in C: the same sequentially consistent loads, stores, exchanges, additions and
+   subtractions on its words, by one thread: `chain NODES CYCLES`, where each reads the block of the one before it and fills
+   one of its own, of one sample, and the driver's node reads the last; or `apart NODES CYCLES`, without links. Prints how
+   often a follower was awake, and a checksum of what the driver's node read. */
 #include <stdatomic.h>
 #include <stdint.h>
 #include <stdio.h>
 #include <stdlib.h>
+#include <string.h>
 
 enum { NODES = 64, BLOCKS = 2, NOT_TRIGGERED = 0, TRIGGERED = 1, AWAKE = 2, FINISHED = 3 };
 enum { BEGIN = 0, START = 1, FINISH = 2, END = 4, NEED_DATA = 1, HAVE_DATA = 2 };
@@ -14,6 +15,7 @@ static _Atomic uint64_t ticket, pending[NODES], status[NODES], *events;
 static _Atomic uint64_t area[NODES], readers[NODES][BLOCKS], words[NODES][BLOCKS];
 static uint64_t required[NODES];
 static uint32_t targets[NODES][NODES], target_count[NODES], count, driver;
+static int linked;
 
 static uint64_t status_word(uint64_t kind, uint64_t cycle) { return kind + 4 * cycle; }
 
@@ -56,8 +58,8 @@ static void write_block(uint32_t link, uint64_t cycle, uint16_t sample) {
 static uint16_t work(uint32_t node, uint64_t cycle) {
     uint16_t heard = 0;
     record(START, node, cycle);
-    if (node > 0) heard = hear(node - 1);
-    if (node < count) write_block(node, cycle, (uint16_t)-12345);
+    if (linked && node > 0) heard = hear(node - 1);
+    if (linked && node < count) write_block(node, cycle, (uint16_t)-12345);
     atomic_store(&status[node], status_word(FINISHED, cycle));
     record(FINISH, node, cycle);
     return heard;
@@ -83,14 +85,15 @@ static uint32_t one_cycle(uint64_t cycle, uint64_t *sum) {
 }
 
 int main(int argc, char **argv) {
-    if (argc < 3) return 1;
-    count = (uint32_t)atoi(argv[1]);
-    uint64_t cycles = (uint64_t)atoll(argv[2]), sum = 0;
+    if (argc < 4) return 1;
+    linked = strcmp(argv[1], "chain") == 0;
+    count = (uint32_t)atoi(argv[2]);
+    uint64_t cycles = (uint64_t)atoll(argv[3]), sum = 0;
     driver = count;
     for (uint32_t node = 0; node < count; node++) {
-        if (node + 1 < count) targets[node][target_count[node]++] = node + 1;
+        if (linked && node + 1 < count) targets[node][target_count[node]++] = node + 1;
         targets[node][target_count[node]++] = driver;
-        required[node] = node > 0 ? 2 : 1;
+        required[node] = linked && node > 0 ? 2 : 1;
         area[node] = NEED_DATA + (0xffffffffull << 32);
     }
     for (uint32_t node = 0; node <= count; node++) targets[driver][target_count[driver]++] = node;
