@@ -1,0 +1,2 @@
+pub mod ActivityLemmas
+pub mod DrivingLemmas

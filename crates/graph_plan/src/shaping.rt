@@ -1,0 +1,7 @@
+//! The shape of an epoch: its driver, its active nodes, and who waits for whom.
+
+mod activity;
+mod driving;
+
+pub use activity::{active_nodes, live_wires};
+pub use driving::driver_of;
