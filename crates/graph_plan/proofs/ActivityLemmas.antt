@@ -121,7 +121,7 @@ all_in live node n here start closed j = go j.0 n j.1 where
     at_wire = subst (λ (x : Wire). IsClosed here x) h.0.2 (closed h.0.0 w h.0.1)
 
 -- no number is in at first, and then one
-none_in : (n k : ℕ) → is_in (replicate n false) k ≡ false
+pub none_in : (n k : ℕ) → is_in (replicate n false) k ≡ false
 none_in zero k = refl
 none_in (suc n) zero = refl
 none_in (suc n) (suc k) = none_in n k

@@ -1,2 +1,4 @@
 pub mod ActivityLemmas
 pub mod DrivingLemmas
+pub mod CountingLemmas
+pub mod SumLemmas

@@ -1,2 +1,3 @@
 pub mod Activity
 pub mod Searching
+pub mod Sums

@@ -1,7 +1,8 @@
 -- The search for the nodes that are joined: what a look at one link and a pass over all of them do.
 -- Source: this project's own.
 use Rattle.std.specs.Prelude.{◌≡◌, ◌⊎◌, ℕ, ◌<◌, ◌≤◌, Bool, true, false, not, List, length, slice_index_or, slice_set}
-use Rattle.std.specs.Prelude.{Option, Some, None, count_by, All}
+use Rattle.std.specs.Prelude.{Option, Some, None, count_by, All, filter}
+use Rattle.std.specs.List.{range_with_len}
 use Rattle.pw_base.specs.declared.kind.Kind.{Kind}
 use Rattle.graph_plan.specs.declared.wire.Wire.{Wire}
 use Rattle.graph_plan.specs.declared.standing.Standing.{Standing}
@@ -52,3 +53,7 @@ IsBest kinds nodes count None = (m : ℕ) → m < count → candidacy kinds node
 IsBest kinds nodes count (Some b) = (candidacy kinds nodes b.node ≡ Some b.priority) × (b.node < count)
     × ((m q : ℕ) → m < count → candidacy kinds nodes m ≡ Some q
     → (q < b.priority) ⊎ ((q ≡ b.priority) × (b.node ≤ m)))
+
+-- the numbers below a count that are in, ascending
+abbrev pub numbers_in : List Bool → ℕ → List ℕ
+numbers_in here count = filter (is_in here) (range_with_len 0 count)
