@@ -6,4 +6,4 @@ mod driving;
 
 pub use activity::{active_nodes, live_wires};
 pub use counting::{bare_nodes, counted};
-pub use driving::driver_of;
+pub use driving::{Candidate, driver_of};
