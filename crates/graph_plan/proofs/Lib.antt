@@ -6,3 +6,4 @@ pub mod LinkingLemmas
 pub mod BitLemmas
 pub mod WireLemmas
 pub mod DrainingLemmas
+pub mod StartLemmas

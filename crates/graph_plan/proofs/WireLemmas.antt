@@ -21,7 +21,8 @@ use Rattle.graph_plan.specs.declared.graph.Stepped.TheVariants as T
 use Rattle.graph_plan.specs.declared.wire.Wire.{Wire}
 use Rattle.graph_plan.specs.LinkLines.{IsRecorded}
 use Rattle.graph_plan.specs.UnlinkLines.{wires_without, IsTakenAway}
-use Rattle.graph_plan.specs.Lines.{Marks, AreWired, Does}
+use Rattle.graph_plan.specs.Lines.{Marks, Does}
+use Rattle.graph_plan.specs.Conditions.{AreWired}
 
 pub any_wire : (wires : List Wire) (n : ℕ) → list_any (λ w. (w.from.node == n) || (w.to.node == n)) wires
     ≡ has_link (map (λ w. link_of w.from w.to) wires) n

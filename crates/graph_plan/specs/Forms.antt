@@ -1,12 +1,12 @@
 -- Forms of ports in an epoch: their rate and channels; a sink or meter without a format has none.
 -- Source: PipeWire's documentation, "SPA POD" (a port's Format); the rest is this project's.
-use Rattle.std.specs.Prelude.{◌≡◌, ◌⊎◌, ℕ, List, map, Option, Some, None, IsSome}
+use Rattle.std.specs.Prelude.{◌≡◌, ℕ, List, map, Option, Some, None, IsSome}
 use Rattle.pw_base.specs.declared.ids.PortId.{PortId}
 use Rattle.pw_base.specs.declared.kind.Kind.{Kind}
 use Rattle.pw_base.specs.KindRanges.{IsSinkOrMeter}
 use Rattle.port_model.specs.declared.port_state.PortState.{PortState}
 use Rattle.port_model.specs.declared.port_state.Node.{Node}
-use Rattle.port_model.specs.PortState.{IsPort, IsInput, AtPort}
+use Rattle.port_model.specs.PortState.{IsPort, AtPort}
 use Rattle.port_model.specs.Forms.{HasForm}
 
 -- the kinds of the nodes, by number
@@ -24,11 +24,3 @@ FormIn nodes port rate channels = IsPort nodes port × AtPort nodes port (IsForm
 abbrev pub IsFormIn : List Node → PortId → Option (ℕ × ℕ) → Type 0
 IsFormIn nodes port None = (rate channels : ℕ) → FormIn nodes port rate channels → ⊥
 IsFormIn nodes port (Some form) = FormIn nodes port form.0 form.1
-
--- CHANNELS of a node's first input: those of its form; 0 where it has no input or no form
-abbrev pub first_input : ℕ → PortId
-first_input node = record { node = node; port = 0 }
-
-abbrev pub ChannelsIn : List Node → ℕ → ℕ → Type 0
-ChannelsIn nodes node channels = (IsInput nodes (first_input node) × ((rate : ℕ) × FormIn nodes (first_input node) rate channels))
-    ⊎ ((channels ≡ 0) × (IsInput nodes (first_input node) → (rate more : ℕ) → FormIn nodes (first_input node) rate more → ⊥))

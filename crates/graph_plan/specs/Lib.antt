@@ -4,5 +4,7 @@ pub mod Sums
 pub mod LinkLines
 pub mod UnlinkLines
 pub mod Lines
+pub mod Conditions
 pub mod Draining
 pub mod Forms
+pub mod Start

@@ -1,12 +1,10 @@
 -- What a line of a script does to the graph, but for the lines that make epochs.
 -- Source: this project's script grammar; PipeWire's documentation, "Graph Scheduling" (asynchronous nodes).
-use Rattle.std.specs.Prelude.{◌≡◌, ◌⊎◌, ℕ, ◌<◌, true, false, length, map, Some, slice_set}
-use Rattle.pw_base.specs.SoundShape.{IsBetween}
+use Rattle.std.specs.Prelude.{◌≡◌, ◌⊎◌, ℕ, true, false, Some, slice_set}
 use Rattle.graph_script.specs.declared.command.Command.{Command}
 use Rattle.graph_script.specs.declared.command.Command.TheVariants as C
-use Rattle.graph_script.specs.Ranges.{HasNodes}
-use Rattle.port_model.specs.PortState.{IsPort, IsInput, IsOutput, with_port, buffered}
-use Rattle.link_negotiation.specs.Links.{link_of, has_link}
+use Rattle.port_model.specs.PortState.{with_port, buffered}
+use Rattle.link_negotiation.specs.Links.{has_link}
 use Rattle.graph_plan.specs.declared.graph.Graph.{Graph}
 use Rattle.graph_plan.specs.declared.graph.Stepped.{Stepped}
 use Rattle.graph_plan.specs.declared.graph.Stepped.TheVariants as T
@@ -66,17 +64,3 @@ Does g (C.Quantum n) stepped after = (stepped ≡ T.Done) × (after ≡ g)
 Does g (C.Offer port file) stepped after = (stepped ≡ T.Done) × (after ≡ g)
 Does g (C.Cycles n) stepped after = ⊥
 Does g C.Drain stepped after = ⊥
-
--- the links of a graph are those of its wires
-abbrev pub AreWired : Graph → Type 0
-AreWired g = map (λ w. link_of w.from w.to) g.wires ≡ g.links.made
-
--- a line may stand here: its nodes and ports are there, and it makes no epoch
-abbrev pub MayDo : Graph → Command → Type 0
-MayDo g (C.Buffers port n) = IsPort g.ports port × IsBetween 1 8 n
-MayDo g (C.Link from to) = IsOutput g.ports from × IsInput g.ports to
-MayDo g (C.Unlink from to) = IsOutput g.ports from × IsInput g.ports to
-    × (from.node < length g.nodes) × (to.node < length g.nodes)
-MayDo g (C.Cycles n) = ⊥
-MayDo g C.Drain = ⊥
-MayDo g command = HasNodes (length g.nodes) command

@@ -6,7 +6,8 @@ ghost use Rattle.port_model.specs.PortState.{IsPort, with_port, buffered};
 ghost use Rattle.link_negotiation.specs.Links.{link_of, has_link};
 ghost use Rattle.graph_plan.specs.declared.graph.Stepped.TheVariants.{Done};
 ghost use Rattle.graph_plan.specs.Activity.{standing};
-ghost use Rattle.graph_plan.specs.Lines.{with_node, made, Marks, AreWired, MayDo, Does};
+ghost use Rattle.graph_plan.specs.Lines.{with_node, made, Marks, Does};
+ghost use Rattle.graph_plan.specs.Conditions.{AreWired, MayDo};
 
 use crate::graph::{Graph, Stepped};
 use crate::standing::Standing;

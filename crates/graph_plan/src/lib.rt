@@ -13,6 +13,7 @@ mod limits;
 mod linking;
 mod shaping;
 mod standing;
+mod starting;
 mod unlinking;
 mod wire;
 
