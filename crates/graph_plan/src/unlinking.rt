@@ -10,7 +10,7 @@ use crate::graph::{Graph, Stepped, note};
 use crate::standing::Standing;
 use crate::wire::Wire;
 use link_negotiation::Unlinked;
-use pw_base::{Items, LineOutcome, Memory, PortId, is_port};
+use pw_base::{Items, LineOutcome, Memory, PortId, is_same_port};
 use std::alloc::Global;
 
 // The set with one number more.
@@ -65,7 +65,7 @@ fn wires_without(
 {
     let mut left = Items::new(alloc);
     for wire in wires {
-        if !(is_port(wire.from, from) && is_port(wire.to, to)) {
+        if !(is_same_port(wire.from, from) && is_same_port(wire.to, to)) {
             left.push(*wire)?;
         }
     }
