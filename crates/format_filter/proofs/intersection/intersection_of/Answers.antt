@@ -2,7 +2,7 @@
 use Rattle.std.proofs.Common.{◌≡◌, rules}
 use Rattle.format_filter.specs.Making.{range_of, step_of}
 use Rattle.format_filter.proofs.RowLemmas.{range_row, step_row}
-use Rattle.format_filter.proofs.intersection.meet.Goals as goal
+use Rattle.format_filter.proofs.intersection.intersection_of.Goals as goal
 
 pub meet_range-requires-clause-row : goal.meet_range-requires-clause-row
 meet_range-requires-clause-row c =
