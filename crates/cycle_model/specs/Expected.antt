@@ -1,4 +1,4 @@
--- The samples that a board of an epoch has to give: by cycle and by pool, and that all are of 16 bits.
+-- The samples that a board of an epoch has to give, by cycle and by pool, and samples of 16 bits.
 -- Source: SPA_AUDIO_FORMAT_S16_LE; one pool an output port that has a link is this project's.
 use Rattle.std.specs.Prelude.{ℕ, List, All, map, slice_get, ℤ, pos, neg_ℤ, ◌≤ℤ◌}
 use Rattle.std.specs.List.{range_with_len}
@@ -12,7 +12,8 @@ use Rattle.cycle_model.specs.Cycle.{outputs}
 -- what each pool of an epoch gives in each of its cycles: by cycle of the epoch, by pool
 abbrev pub epoch_rows : Plan → List WavIn → Epoch → List (List (List ℤ))
 epoch_rows plan waves e =
-    map (λ c. map (λ x. outputs plan waves c x.port) (pools_of e.shape)) (range_with_len e.shape.first e.shape.cycles)
+    map (λ c. map (λ x. outputs plan waves c x.port) (pools_of e.shape))
+    (range_with_len e.shape.first e.shape.cycles)
 
 -- EXPECTED SAMPLES of epoch k of the plan, counted from 0; nothing past the last
 unfoldable pub expected_samples : Plan → List WavIn → ℕ → List (List (List ℤ))

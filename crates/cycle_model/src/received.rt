@@ -8,11 +8,11 @@ pub(crate) struct Given {
     pub samples: Items<i16>,
 }
 
-/// What a node has received: for how many frames it was active, and the samples that its inputs got.
+/// What a node has received: for how many frames it was active, and what its inputs got.
 ///
-/// `a` is the stream of its first input and `b` that of its second, frames interleaved, from where its streams began;
-/// without such an input the list is empty. Contracts of other crates speak of it: `specs/Progress.antt` has what a
-/// node has received after so many cycles.
+/// `a` is the stream of its first input and `b` that of its second, frames interleaved, from where
+/// its streams began; without such an input the list is empty. Contracts of other crates speak of
+/// it: `specs/Progress.antt` has what a node has received after so many cycles.
 #[derive(Debug, Drop)]
 pub struct Received {
     pub frames: u64,

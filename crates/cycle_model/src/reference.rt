@@ -136,7 +136,8 @@ pub fn render(alloc: Global, plan: &Plan, waves: &Items<WavIn>) -> Result<Outcom
     ensures history { IfOk result (λ outcome. outcome.history ≡ []) }
 
     // What the sinks of a sound plan keep can be written as WAV files.
-    ensures waves { IsSoundPlan plan.now → IfOk result (λ outcome. All (λ kept. IsWave kept.wav) outcome.sinks) }
+    ensures waves { IsSoundPlan plan.now
+        → IfOk result (λ outcome. All (λ kept. IsWave kept.wav) outcome.sinks) }
 {
     let waves = waves.as_slice();
     let received = all_received(alloc, plan, waves)?;
