@@ -1,6 +1,6 @@
 -- What becomes of a link is one thing alone: what ports offer, settle on and share is fixed, and so is the outcome.
-use Rattle.std.proofs.Common.{◌≡◌, ◌⊎◌, inl, inr, ℕ, ◌<◌, ◌≤◌, List, Option, Some, None, Bool, true, false, true≢false, refl, sym, ap, ap₂}
-use Rattle.std.proofs.Common.{◌∙◌, subst, arith, length}
+use Rattle.std.proofs.Common.{◌≡◌, inl, inr, ℕ, ◌<◌, List, Option, Some, None, Bool, true, false, true≢false, refl, sym, ap, ap₂}
+use Rattle.std.proofs.Common.{◌∙◌, subst, arith}
 use Rattle.std.proofs.lemmas.Bool.{cases_lt}
 use Rattle.std.specs.Prelude.{slice_get}
 use Rattle.std.specs.Option.{option_map_or}
@@ -8,9 +8,7 @@ use Rattle.pw_base.specs.KindPorts.{input_count, port_count}
 use Rattle.pw_base.specs.declared.ids.PortId.{PortId}
 use Rattle.format_filter.specs.declared.choice.Choice.{Choice}
 use Rattle.format_filter.specs.declared.format.Format.{Format}
-use Rattle.format_filter.specs.declared.common.Filtered.{Filtered}
 use Rattle.format_filter.specs.declared.common.Filtered.TheVariants.{Common, Clash}
-use Rattle.format_filter.specs.Members.{pick_of}
 use Rattle.format_filter.specs.Fixation.{fixated}
 use Rattle.format_filter.proofs.IntersectionOneLemmas.{meets_one}
 use Rattle.format_filter.proofs.UniqueLemmas.{filters_one}

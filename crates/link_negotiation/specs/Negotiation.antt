@@ -44,8 +44,8 @@ Negotiates nodes from to outcome = (o : Offered) × OffersAt nodes from o × Set
 
 -- a port that has its format agrees with another format at each key of its own
 abbrev pub Agrees : Format → Node → PortState → Type 0
-Agrees format node s = (own : Format) (key : ℕ) (v : Pod) → s.format ≡ Some own → value_at own.fields key ≡ Some v
-    → value_at format.fields key ≡ Some v
+Agrees format node s = (own : Format) (key : ℕ) (v : Pod) → s.format ≡ Some own
+    → value_at own.fields key ≡ Some v → value_at format.fields key ≡ Some v
 
 -- the number of buffers is the pick of what both counts have in common, the output's first
 abbrev pub IsCount : Option Choice → Option ℕ → Type 0
