@@ -1,5 +1,5 @@
 -- Two choices have one intersection at most: its members, its form and its pick fix it.
-use Rattle.std.proofs.Common.{◌≡◌, ◌≢◌, ◌⊎◌, inl, inr, ℕ, ℤ, pos, zero, suc, ◌<◌, ◌≤◌, ◌*◌, ◌+ℤ◌, ◌*ℤ◌, ◌<ℤ◌, ◌≤ℤ◌, List, [], ◌∷◌, ◌++◌}
+use Rattle.std.proofs.Common.{◌≡◌, ◌≢◌, ◌⊎◌, inl, inr, ℕ, ℤ, pos, zero, suc, ◌<◌, ◌≤◌, ◌+ℤ◌, ◌*ℤ◌, ◌<ℤ◌, ◌≤ℤ◌, List, [], ◌∷◌, ◌++◌}
 use Rattle.std.proofs.Common.{length, get_or, Option, Some, None, refl, sym, ap, ap₂, ◌∙◌, subst, arith}
 use mathlib.Core.Logic.{dite}
 use Rattle.std.proofs.Math.IntN.{ℤ_discrete}
@@ -12,8 +12,8 @@ use Rattle.pod_codec.specs.declared.pod.Pod.{Pod}
 use Rattle.format_filter.specs.declared.choice.Choice.{Choice}
 use Rattle.format_filter.specs.declared.choice.Choice.TheVariants.{Only, Enum, Range, Step}
 use Rattle.format_filter.specs.declared.choice.Wide.{Wide}
-use Rattle.format_filter.specs.Members.{number_of, IsReached, IsMember, pick_of, first_of}
-use Rattle.format_filter.specs.Soundness.{HasSoundParts, IsSound}
+use Rattle.format_filter.specs.Members.{number_of, IsMember, pick_of, first_of}
+use Rattle.format_filter.specs.Soundness.{IsSound}
 use Rattle.format_filter.specs.Intersection.{IsBefore, AreThoseOf, IsOfValues, IsOverlap, IsProgression, HasForm, IsCommon, IsPicked, IsCommonIn}
 use Rattle.format_filter.specs.Intersection.{IsIntersection, Meets}
 use Rattle.format_filter.proofs.NumberLemmas.{positive}
