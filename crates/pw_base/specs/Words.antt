@@ -2,12 +2,12 @@
 -- Source: spa/node/io.h, spa_io_buffers (SPA_STATUS_NEED_DATA, SPA_STATUS_HAVE_DATA, SPA_ID_INVALID); the rest is this
 -- project's.
 use Rattle.std.specs.Prelude.{◌≡◌, ℕ, ◌+◌, ◌-◌, ◌*◌, ◌/◌, ◌%◌, ◌^◌, ◌<◌, ◌≤◌}
-use Rattle.pw_base.specs.declared.status.Status.{Status}
-use Rattle.pw_base.specs.declared.status.Status.TheVariants.{NotTriggered, Triggered, Awake, Finished}
+use Rattle.pw_base.specs.declared.status.ActivationStatus.{ActivationStatus}
+use Rattle.pw_base.specs.declared.status.ActivationStatus.TheVariants.{NotTriggered, Triggered, Awake, Finished}
 use Rattle.pw_base.specs.declared.status.AreaStatus.{AreaStatus}
 use Rattle.pw_base.specs.declared.status.AreaStatus.TheVariants.{NeedData, HaveData}
 
-abbrev pub status_number : Status → ℕ
+abbrev pub status_number : ActivationStatus → ℕ
 status_number NotTriggered = 0
 status_number Triggered = 1
 status_number Awake = 2

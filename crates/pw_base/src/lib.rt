@@ -52,7 +52,7 @@ pub use files::{FileFail, Files, Loaded};
 pub use free_node::find_free;
 pub use gate::{Gate, Open};
 pub use history::is_legal_history;
-pub use ids::{DUMMY, LinkId, NODES, NodeId, PortId, is_port};
+pub use ids::{DUMMY, LinkId, NODES, NodeId, PortId, is_same_port};
 pub use in_memory::mem_files::MemFiles;
 pub use in_memory::mem_sink::MemSink;
 pub use in_memory::sure_files::SureFiles;
@@ -74,7 +74,7 @@ pub use pools::PoolShape;
 pub use room::Room;
 pub use shape::{Shape, ShapeLink, ShapeNode};
 pub use soundness::is_sound_shape;
-pub use status::{AreaStatus, Status};
+pub use status::{AreaStatus, ActivationStatus};
 pub use ticker::{Never, Ticker};
 pub use words::{
     NO_BLOCK, cycle_of, event_of, event_word, io_id_of, io_status_of, io_word, status_of,
