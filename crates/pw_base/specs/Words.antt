@@ -21,6 +21,18 @@ area_status_number HaveData = 2
 abbrev pub status_word_of : ℕ → ℕ → ℕ
 status_word_of status cycle = status + 4 * cycle
 
+abbrev pub not_triggered_word : ℕ → ℕ
+not_triggered_word cycle = status_word_of (status_number NotTriggered) cycle
+
+abbrev pub triggered_word : ℕ → ℕ
+triggered_word cycle = status_word_of (status_number Triggered) cycle
+
+abbrev pub awake_word : ℕ → ℕ
+awake_word cycle = status_word_of (status_number Awake) cycle
+
+abbrev pub finished_word : ℕ → ℕ
+finished_word cycle = status_word_of (status_number Finished) cycle
+
 abbrev pub status_in : ℕ → ℕ
 status_in word = word % 4
 
@@ -33,6 +45,12 @@ IsStatusWord word = (status cycle : ℕ) × (status ≤ 3) × (cycle < 2 ^ 32) �
 -- a status of an io area and the number of a block
 abbrev pub io_word_of : ℕ → ℕ → ℕ
 io_word_of status id = status + 2 ^ 32 * id
+
+abbrev pub need_data_word : ℕ → ℕ
+need_data_word id = io_word_of (area_status_number NeedData) id
+
+abbrev pub have_data_word : ℕ → ℕ
+have_data_word id = io_word_of (area_status_number HaveData) id
 
 abbrev pub io_status_in : ℕ → ℕ
 io_status_in word = word % 2 ^ 32

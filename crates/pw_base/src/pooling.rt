@@ -1,6 +1,7 @@
 //! How the pools of a shape are found.
 ghost use Rattle.std.specs.Prelude.{◌≡◌, ℕ, ◌≤◌, max, [], filter, fold, map, IsTrue, ◌↔◌, All, AllPairs, IfOk, length};
 ghost use Rattle.pw_base.specs.Pools.{is_same_port, is_before, with_port, sources_of, links_from, link_ids_from, asked, blocks_of, channels_of};
+ghost use Rattle.pw_base.specs.Limits.{links_limit};
 ghost use Rattle.pw_base.specs.Pools.{words_of};
 ghost use Rattle.pw_base.specs.Pools.{pool_of, pools_of, AreAlike, IsPooledShape};
 
@@ -51,7 +52,7 @@ fn sources_of(alloc: Global, shape: &Shape) -> Result<Items<PortId>, Memory>
 
 // The numbers of the links from a port.
 fn link_ids_from(alloc: Global, links: &[ShapeLink], port: PortId) -> Result<Items<u32>, Memory>
-    requires { length links.now ≤ 256 }
+    requires { length links.now ≤ links_limit }
     ensures { IfOk result (λ list. list ≡ link_ids_from links.now port) }
 {
     let mut ids = Items::new(alloc);
