@@ -387,6 +387,7 @@ fn lists_grow_and_shrink(rt: HostRuntime) -> Result<(), Fail> {
     room.push_spare(3);
     assert!(rt; room.as_slice() == [1, 2, 3].as_slice() && room.spare() >= 2);
     assert!(rt; room.into_items().len() == 3 && numbers.len() == 2);
+    assert!(rt; Items::from_vec(numbers.into_vec()).as_slice() == [1, 2].as_slice());
     Ok(())
 }
 
