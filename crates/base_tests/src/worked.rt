@@ -1,9 +1,9 @@
 //! Worked shapes and histories, words, lists, and the objects in memory.
 
 use pw_base::{
-    AreaStatus, DUMMY, Epoch, Event, Every, FileFail, Files, Gate, Items, Kind, Loaded,
-    MemFiles, MemSink, Memory, NO_BLOCK, Never, Open, PortId, Shape, ShapeLink, ShapeNode, Sink,
-    ActivationStatus, SureFiles, SureSink, Ticker, Which, append_decimal, cycle_of, event_of, event_word,
+    ActivationStatus, AreaStatus, DUMMY, Epoch, Event, Every, FileFail, Files, Gate, Items, Kind,
+    Loaded, MemFiles, MemSink, Memory, NO_BLOCK, Never, Open, PortId, Shape, ShapeLink, ShapeNode,
+    Sink, SureFiles, SureSink, Ticker, Which, append_decimal, cycle_of, event_of, event_word,
     io_id_of, io_status_of, io_word, is_legal_history, is_pooled_shape, is_sound_shape, pools_of,
     status_of, status_word,
 };
@@ -356,7 +356,8 @@ fn the_word_of_a_start(rt: HostRuntime) {
     let word = status_word(ActivationStatus::Finished.number(), 8);
     assert!(rt; word == 35 && status_of(word) == 3 && cycle_of(word) == 8);
     assert!(rt;
-        ActivationStatus::from_number(1) == Some(ActivationStatus::Triggered) && ActivationStatus::from_number(4) == None
+        ActivationStatus::from_number(1) == Some(ActivationStatus::Triggered)
+            && ActivationStatus::from_number(4) == None
     );
     assert!(rt;
         AreaStatus::from_number(2) == Some(AreaStatus::HaveData)
