@@ -4,7 +4,7 @@ use Rattle.std.proofs.Common.{get_or-set_other, get_or-set_same}
 use Rattle.std.specs.Prelude.{Contains}
 use Rattle.pw_base.specs.declared.shape.ShapeLink.{ShapeLink}
 use Rattle.pw_base.specs.declared.pools.PoolShape.{PoolShape}
-use Rattle.pw_base.specs.Words.{io_word_of, io_id_in}
+use Rattle.pw_base.specs.Words.{io_id_in, have_data_word, need_data_word}
 use Rattle.pw_base.specs.Layout.{io_place, word_count}
 use Rattle.board_rule.specs.declared.view.WriteView.{WriteView}
 use Rattle.board_rule.specs.declared.view.ReadView.{ReadView}
@@ -49,7 +49,7 @@ module _ (p : Lay) (s : ℕ → Span) (ends : Ends) (e : Samples) (ws : List ℕ
     area_in room = let a = (w.io_in l k at).1 in omega arith
 
     -- what the writer finds: the number that the reader gave back
-    pub finds_need : from.begun ≡ from.over + 1 → writer.stored ≡ from.over → get_or ws place 0 ≡ io_word_of 1 writer.id
+    pub finds_need : from.begun ≡ from.over + 1 → writer.stored ≡ from.over → get_or ws place 0 ≡ need_data_word writer.id
     finds_need run stored = let o = link_is in let n : from.begun ≤ to.over + 1 =
         paced.near (p.place k.from.node) (p.place k.to.node) (w.from_in l k at) (w.to_in l k at) in let r = o.reader_turn.0 in
         o.need (omega arith)
@@ -77,14 +77,14 @@ module _ (p : Lay) (s : ℕ → Span) (ends : Ends) (e : Samples) (ws : List ℕ
         → from.begun ≡ from.over + 1 → writer.loaded ≡ from.over + 1 → writer.stored ≡ from.over → id < x.blocks
         → ends.blocks q id ≡ Out (from.over + 1)
         → Buffers p s (with_write ends l record { loaded = writer.loaded; stored = from.over + 1; id = id; last = writer.id }) e
-        (set ws place (io_word_of 2 id))
+        (set ws place (have_data_word id))
     stores_have id q x is c room run loaded stored small out = let y : WriteView =
         record { loaded = writer.loaded; stored = from.over + 1; id = id; last = writer.id } in
         let d : to.begun ≤ from.over = paced.ordered l k at in
         let f : first p ≤ from.over = paced.first (p.place k.from.node) (w.from_in l k at) in
-        let word = get_or-set_same ws place (io_word_of 2 id) 0 (area_in room) in
-        from_plain p w s (with_write ends l y) e (set ws place (io_word_of 2 id))
-        (plain_write p s ends e ws (set ws place (io_word_of 2 id)) w l k at plain y
+        let word = get_or-set_same ws place (have_data_word id) 0 (area_in room) in
+        from_plain p w s (with_write ends l y) e (set ws place (have_data_word id))
+        (plain_write p s ends e ws (set ws place (have_data_word id)) w l k at plain y
         (λ r z ir cr. let o = plain.links r l z k ir cr at in let rt = o.reader_turn in let r₁ = rt.1 in let r₂ = rt.2 in let r₃ = rt.3 in
         let la = o.later in let same : q ≡ r = w.one_pool q r l x z is ir c cr in let pool : x ≡ z = cc in
         let one : x.blocks ≡ z.blocks = ap (λ (v : PoolShape). v.blocks) pool in record {
@@ -99,7 +99,7 @@ module _ (p : Lay) (s : ℕ → Span) (ends : Ends) (e : Samples) (ws : List ℕ
         })
         (λ r z ir cr _ _. let same : q ≡ r = w.one_pool q r l x z is ir c cr in
         subst (λ v. ends.blocks v id ≡ Out (from.over + 1)) same out)
-        (λ i o. get_or-set_other ws place i (io_word_of 2 id) 0 o))
+        (λ i o. get_or-set_other ws place i (have_data_word id) 0 o))
 
     -- what the reader finds, and of which cycle
     pub wrote_now : to.begun ≡ to.over + 1 → writer.stored ≡ to.over + 1
@@ -108,7 +108,7 @@ module _ (p : Lay) (s : ℕ → Span) (ends : Ends) (e : Samples) (ws : List ℕ
         let d : to.begun ≤ from.over = paced.ordered l k at in let wt = o.writer_turn in let w₀ = wt.0 in let w₁ = wt.1 in let w₂ = wt.2 in
         omega arith
 
-    pub finds_have : to.begun ≡ to.over + 1 → reader.stored ≡ to.over → get_or ws place 0 ≡ io_word_of 2 writer.id
+    pub finds_have : to.begun ≡ to.over + 1 → reader.stored ≡ to.over → get_or ws place 0 ≡ have_data_word writer.id
     finds_have run stored = let o = link_is in let n = wrote_now run in o.have (omega arith)
 
     pub finds_number : to.begun ≡ to.over + 1 → (q : ℕ) (x : PoolShape) → PoolAt p q x → Contains x.links l → writer.id < x.blocks
@@ -117,7 +117,7 @@ module _ (p : Lay) (s : ℕ → Span) (ends : Ends) (e : Samples) (ws : List ℕ
 
     pub found_id : to.begun ≡ to.over + 1 → reader.stored ≡ to.over → io_id_in (get_or ws place 0) ≡ writer.id
     found_id run stored = let h = finds_have run stored in
-        let f : io_id_in (get_or ws place 0) ≡ io_id_in (io_word_of 2 writer.id) = ap io_id_in h in
+        let f : io_id_in (get_or ws place 0) ≡ io_id_in (have_data_word writer.id) = ap io_id_in h in
         let g : (2 + 4294967296 * writer.id) / 4294967296 ≡ writer.id = omega arith in f ∙ g
 
     pub loads_as_reader : to.begun ≡ to.over + 1 → reader.loaded ≡ to.over
@@ -138,19 +138,19 @@ module _ (p : Lay) (s : ℕ → Span) (ends : Ends) (e : Samples) (ws : List ℕ
 
     pub stores_need : (id : ℕ) → word_count p.shape ≤ length ws → to.begun ≡ to.over + 1 → reader.lowered ≡ to.over + 1
         → reader.stored ≡ to.over → id ≡ reader.id
-        → Buffers p s (with_read ends l record reader { stored = to.over + 1 }) e (set ws place (io_word_of 1 id))
+        → Buffers p s (with_read ends l record reader { stored = to.over + 1 }) e (set ws place (need_data_word id))
     stores_need id room run lowered stored is = let y : ReadView = record reader { stored = to.over + 1 } in let n = wrote_now run in
-        let word = get_or-set_same ws place (io_word_of 1 id) 0 (area_in room) in
-        from_plain p w s (with_read ends l y) e (set ws place (io_word_of 1 id))
-        (plain_turn p s ends e ws (set ws place (io_word_of 1 id)) w l k at plain y
+        let word = get_or-set_same ws place (need_data_word id) 0 (area_in room) in
+        from_plain p w s (with_read ends l y) e (set ws place (need_data_word id))
+        (plain_turn p s ends e ws (set ws place (need_data_word id)) w l k at plain y
         (λ q x iq c. let o = plain.links q l x k iq c at in let rt = o.reader_turn in let r₂ = rt.2 in let r₃ = rt.3 in let la = o.later in
         let la₁ = la.1 in let same : reader.id ≡ writer.id = o.found (omega arith) (omega arith) in record {
           writer_turn = o.writer_turn;
           reader_turn = (omega arith, omega arith, r₂, r₃);
           later = (la.0, omega arith);
           have = λ z. absurd (omega arith);
-          need = λ _. word ∙ ap (io_word_of 1) (is ∙ same);
+          need = λ _. word ∙ ap (need_data_word) (is ∙ same);
           unnamed = o.unnamed;
           named = o.named;
           found = λ z. absurd (omega arith);
-        }) refl (λ i o. get_or-set_other ws place i (io_word_of 1 id) 0 o))
+        }) refl (λ i o. get_or-set_other ws place i (need_data_word id) 0 o))

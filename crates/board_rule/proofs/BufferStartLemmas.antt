@@ -12,7 +12,7 @@ use Rattle.pw_base.specs.declared.shape.Shape.{Shape}
 use Rattle.pw_base.specs.declared.shape.ShapeLink.{ShapeLink}
 use Rattle.pw_base.specs.declared.pools.PoolShape.{PoolShape}
 use Rattle.pw_base.specs.Pools.{pools_of}
-use Rattle.pw_base.specs.Words.{status_word_of, io_word_of, no_block}
+use Rattle.pw_base.specs.Words.{no_block, need_data_word, not_triggered_word}
 use Rattle.pw_base.specs.Layout.{node_count, areas_of, area_count, event_count, io_start, pool_words, pool_start, start_words, io_place}
 use Rattle.pw_base.specs.Layout.{event_place, readers_place}
 use Rattle.board_rule.specs.declared.view.BlockView.TheVariants.{Free}
@@ -28,7 +28,7 @@ use Rattle.board_rule.proofs.PlainLemmas.{to_plain, from_plain}
 
 -- the area of an undelayed link asks for data, and names no block
 abbrev pub idle_area : ℕ
-idle_area = io_word_of 1 no_block
+idle_area = need_data_word no_block
 
 idle_areas : (f : ℕ) (xs : List ShapeLink) → All (λ l. l.delayed ≡ false) xs → flat_map (io_start f) xs ≡ replicate (length xs) idle_area
 idle_areas f [] h = refl
@@ -50,7 +50,7 @@ module _ (shape : Shape) (h : IsUndelayed shape) where
   pending = replicate n 0
 
   abbrev status : List ℕ
-  status = replicate n (status_word_of 0 shape.first)
+  status = replicate n (not_triggered_word shape.first)
 
   abbrev areas : List ℕ
   areas = flat_map (io_start shape.first) shape.links
@@ -80,7 +80,7 @@ module _ (shape : Shape) (h : IsUndelayed shape) where
   pub idle_start : (l : ℕ) (k : ShapeLink) → slice_get shape.links l ≡ Some k
       → get_or (start_words shape) (io_place shape l 0) 0 ≡ idle_area
   idle_start l k at = let lt = slice_get_within shape.links l k at in let before = areas_before shape h l k (omega arith) in
-      let a : length pending ≡ n = length-replicate n 0 in let b : length status ≡ n = length-replicate n (status_word_of 0 shape.first) in
+      let a : length pending ≡ n = length-replicate n 0 in let b : length status ≡ n = length-replicate n (not_triggered_word shape.first) in
       let c = areas_long in
       let e : io_place shape l 0 ≡ suc (length pending + (length status + l)) = omega arith in
       ap (λ k. get_or (start_words shape) k 0) e ∙ get_or-append-add pending (status ++ (areas ++ (unused ++ blocks))) (length status + l) 0
@@ -90,7 +90,7 @@ module _ (shape : Shape) (h : IsUndelayed shape) where
 
   pub pools_start : (i : ℕ) → event_place shape (event_count shape) ≤ i → get_or (start_words shape) i 0 ≡ 0
   pools_start i le = let a : length pending ≡ n = length-replicate n 0 in
-      let b : length status ≡ n = length-replicate n (status_word_of 0 shape.first) in let c = areas_long in
+      let b : length status ≡ n = length-replicate n (not_triggered_word shape.first) in let c = areas_long in
       let d : length unused ≡ shape.cycles + event_count shape = length-replicate (shape.cycles + event_count shape) 0 in
       let g = counted shape.links h in let j : ℕ = i - event_place shape (event_count shape) in
       let e : i ≡ suc (length pending + (length status + (length areas + (length unused + j)))) = omega arith in

@@ -7,8 +7,8 @@ use Rattle.std.proofs.lemmas.List.Folds.{list_any_none}
 use Rattle.std.proofs.lemmas.List.Elements.{All-filter}
 use Rattle.pw_base.specs.declared.shape.ShapeLink.{ShapeLink}
 use Rattle.pw_base.specs.declared.pools.PoolShape.{PoolShape}
-use Rattle.pw_base.specs.Pools.{is_port, links_from}
-use Rattle.pw_base.specs.Words.{io_word_of, no_block}
+use Rattle.pw_base.specs.Pools.{is_same_port, links_from}
+use Rattle.pw_base.specs.Words.{no_block, have_data_word, need_data_word}
 use Rattle.pw_base.specs.Layout.{io_place, readers_place, sample_place}
 use Rattle.board_rule.specs.declared.view.WriteView.{WriteView}
 use Rattle.board_rule.specs.declared.view.ReadView.{ReadView}
@@ -27,8 +27,8 @@ pub record PlainLink (first blocks : ℕ) (writer reader : Span) (w : WriteView)
   pub writer_turn : (writer.over ≤ w.stored) × (w.stored ≤ w.loaded) × (w.loaded ≤ writer.begun)
   pub reader_turn : (reader.over ≤ r.stored) × (r.stored ≤ r.lowered) × (r.lowered ≤ r.loaded) × (r.loaded ≤ reader.begun)
   pub later : (first ≤ w.stored) × (first ≤ r.stored)
-  pub have : r.stored < w.stored → word ≡ io_word_of 2 w.id
-  pub need : w.stored ≤ r.stored → word ≡ io_word_of 1 w.id
+  pub have : r.stored < w.stored → word ≡ have_data_word w.id
+  pub need : w.stored ≤ r.stored → word ≡ need_data_word w.id
   pub unnamed : w.stored ≤ first → w.id ≡ no_block
   pub named : first < w.stored → w.id < blocks
   pub found : r.stored < r.loaded → w.stored ≡ r.loaded → r.id ≡ w.id
@@ -61,9 +61,9 @@ module _ (first blocks : ℕ) (k : ShapeLink) (writer reader : Span) (w : WriteV
     writer_turn = o.writer_turn;
     reader_turn = o.reader_turn;
     later = o.later;
-    have = λ a l h. subst (λ j. area (area_of k (w.stored + j)) ≡ io_word_of 2 (stored_id w j)) (none_late a l)
+    have = λ a l h. subst (λ j. area (area_of k (w.stored + j)) ≡ have_data_word (stored_id w j)) (none_late a l)
         (ap area (one_area (w.stored + 0)) ∙ o.have (omega arith));
-    need = λ a l h. subst (λ j. area (area_of k (w.stored + j)) ≡ io_word_of 1 (stored_id w j)) (none_late a l)
+    need = λ a l h. subst (λ j. area (area_of k (w.stored + j)) ≡ need_data_word (stored_id w j)) (none_late a l)
         (ap area (one_area (w.stored + 0)) ∙ o.need (omega arith));
     unnamed = λ a l h. subst (λ j. stored_id w j ≡ no_block) (none_late a l) (o.unnamed (omega arith));
     named = λ a l h. subst (λ j. stored_id w j < blocks) (none_late a l) (o.named (omega arith));
@@ -112,7 +112,7 @@ module _ (p : Lay) where
 
     pub one_lag : (x : PoolShape) → lag p x ≡ 1
     one_lag x = ap (λ b. cond {A = ℕ} b 2 1) (list_any_none (λ k. k.delayed) (links_from p.shape x.port)
-        (All-filter (λ k. is_port k.from x.port) (λ k. k.delayed ≡ false) p.shape.links all_plain))
+        (All-filter (λ k. is_same_port k.from x.port) (λ k. k.delayed ≡ false) p.shape.links all_plain))
 
     same_awaited : (reads : ℕ → ReadView) (x : PoolShape) (n : ℕ) → waiting p reads x n ≡ awaited reads x.links n
     same_awaited reads x n = ap (λ (f : ℕ → ℕ). sum_by (λ l. cond (ltb (reads l).lowered (f l)) 1 0) x.links) (λ i l. at l i)

@@ -5,7 +5,7 @@ use Rattle.atomic_table.specs.Table.{Me, keeps, stepped, Allows}
 use Rattle.pw_base.specs.declared.shape.ShapeLink.{ShapeLink}
 use Rattle.pw_base.specs.declared.pools.PoolShape.{PoolShape}
 use Rattle.pw_base.specs.Layout.{io_place, event_place, event_count, readers_place, sample_place}
-use Rattle.pw_base.specs.Words.{io_word_of, io_id_in}
+use Rattle.pw_base.specs.Words.{io_id_in, have_data_word, need_data_word}
 use Rattle.board_rule.specs.declared.view.ReadView.{ReadView}
 use Rattle.board_rule.specs.declared.view.View.{View}
 use Rattle.board_rule.specs.Layout.{Lay}
@@ -45,7 +45,7 @@ module _ (p : Lay) {S : Type 0} (slots id : ℕ) (me : Me S View) (after : ℕ �
       let loaded : (g.ends.reads l).loaded ≡ (sp m).over = ap (λ (y : ReadView). y.loaded) is ∙ h.1 ∙ sym c in
       let new = loads_as_reader p sp g.ends g.expect s.words w paced bs l k there run loaded in
       let i : ℕ = io_place p.shape l 0 in let found : ℕ = get_or s.words i 0 in
-      let word : found ≡ io_word_of 2 (g.ends.writes l).id =
+      let word : found ≡ have_data_word (g.ends.writes l).id =
       finds_have p sp g.ends g.expect s.words w paced bs l k there run (omega arith) in
       let number : io_id_in found ≡ (g.ends.writes l).id = ap io_id_in word ∙ id_of 2 (g.ends.writes l).id (omega arith) in
       let pool = pool_here p w l k there in
@@ -60,11 +60,11 @@ module _ (p : Lay) {S : Type 0} (slots id : ℕ) (me : Me S View) (after : ℕ �
             (unread_word s.words i (λ ws. Buffers p sp (new_read p g.ends l y) g.expect ws)
             (subst (λ (z : ReadView). Buffers p sp (new_read p g.ends l z) g.expect s.words)
             (λ j. record (is j) { loaded = c j + 1; id = io_id_in found }) new)),
-        (sym (is_after found), refl, it found (word ∙ ap (io_word_of 2) (sym number), (omega arith))),
+        (sym (is_after found), refl, it found (word ∙ ap (have_data_word) (sym number), (omega arith))),
       )
 
   pub store_need_allowed : (b : Bool) (l num : ℕ) → StoresNeed b p me.0 l num → ((found : ℕ) → after found ≡ need_stored b p me.0 l)
-      → Allows (Holds p) slots id me (io_place p.shape l 0) (λ _. io_word_of 1 num) (λ _. Turns after me (io_word_of 1 num))
+      → Allows (Holds p) slots id me (io_place p.shape l 0) (λ _. need_data_word num) (λ _. Turns after me (need_data_word num))
   store_need_allowed b l num h is_after s r _ at fits =
       let g = r.whole in let w = wired_in p g s.words s.views r.seated in let k : ShapeLink = link_at p l in
       let there = link_there p l h.0.0.0 in let m : ℕ = reader_of p l in
@@ -72,7 +72,7 @@ module _ (p : Lay) {S : Type 0} (slots id : ℕ) (me : Me S View) (after : ℕ �
       let is : g.ends.reads l ≡ read_of me.0 l = sym (got me.0.reads l (g.ends.reads l) (unread 0)
       ((r.seated.knows id me.0 at).ends.of_read l k there now.2)) in
       let paced = paces p g s.words w r.activations in let sp = spans p g in let i : ℕ = io_place p.shape l 0 in
-      let word : ℕ = io_word_of 1 num in
+      let word : ℕ = need_data_word num in
       let new = stores_need p sp g.ends g.expect s.words w paced r.buffers l k there num (room_in p g s.words s.views r.seated) run
       (ap (λ (z : ReadView). z.lowered) is ∙ h.1 ∙ ap (λ n. n + 1) (sym c)) (ap (λ (z : ReadView). z.stored) is ∙ h.2 ∙ sym c)
       (h.0.3 ∙ ap (λ (z : ReadView). z.id) (sym is)) in

@@ -3,7 +3,7 @@
 -- Source: PipeWire's documentation, "SPA Buffers"; spa/node/io.h, spa_io_buffers; the words of pools are this
 -- project's own.
 use Rattle.std.specs.Prelude.{◌≡◌, ℕ, ℤ, ◌+◌, ◌-◌, ◌<◌, Bool, List, length}
-use Rattle.pw_base.specs.Words.{io_word_of, io_id_in}
+use Rattle.pw_base.specs.Words.{io_id_in, have_data_word}
 use Rattle.board_rule.specs.declared.view.View.{View}
 use Rattle.board_rule.specs.Layout.{Lay}
 use Rattle.board_rule.specs.SampleWords.{samples_of}
@@ -30,7 +30,7 @@ module _ (leads : Bool) (p : Lay) where
   loaded_as_reader v l found = view_read v l (record (read_of v l) { loaded = read_cycle v l + 1; id = io_id_in found })
 
   abbrev pub IsPublished : ℕ → ℕ → Type 0
-  IsPublished l found = (found ≡ io_word_of 2 (io_id_in found)) × (io_id_in found < (pool_at p (pool_of p l)).blocks)
+  IsPublished l found = (found ≡ have_data_word (io_id_in found)) × (io_id_in found < (pool_at p (pool_of p l)).blocks)
 
   -- THE READER'S TURN: it has loaded the number of a block in this cycle
   abbrev pub IsReading : View → ℕ → ℕ → Type 0

@@ -6,7 +6,7 @@ use Rattle.board_rule.specs.declared.view.Phase.TheVariants.{Idle, Awake, Runnin
 use Rattle.board_rule.specs.declared.view.Drive.TheVariants as drives
 use Rattle.board_rule.specs.declared.view.Trail.{Trail}
 use Rattle.board_rule.specs.declared.view.View.{View}
-use Rattle.pw_base.specs.Words.{status_word_of}
+use Rattle.pw_base.specs.Words.{triggered_word}
 use Rattle.board_rule.specs.Layout.{Lay}
 use Rattle.board_rule.specs.View.{node_of, view_trail}
 use Rattle.board_rule.specs.EndViews.{write_of, read_of, writer_of, reader_of}
@@ -29,7 +29,7 @@ abbrev pub tried : Lay → View → ℕ → ℕ → View
 tried p v m found = view_trail v (record v.trail { tries = record { node = p.number m; word = found } ∷ v.trail.tries })
 
 abbrev pub claimed : Bool → Lay → View → ℕ → ℕ → View
-claimed leads p v m found = cond (eqb found (status_word_of 1 (cycle_of leads v m))) (woken leads v m)
+claimed leads p v m found = cond (eqb found (triggered_word (cycle_of leads v m))) (woken leads v m)
     (tried p v m found)
 
 -- ENDING A NODE: it works, and all its buffers are given on: in its cycle each link from it is published, and each

@@ -2,7 +2,7 @@
 ghost use Rattle.std.specs.Prelude.{◌≡◌, ◌+◌, ◌-◌, ◌∷◌, ◌++◌, false, OnOk, IfOk, All, replicate};
 ghost use Rattle.std.specs.List.{flat_map};
 ghost use Rattle.pw_base.specs.Pools.{IsPooledShape, pools_of};
-ghost use Rattle.pw_base.specs.Words.{status_word_of};
+ghost use Rattle.pw_base.specs.Words.{not_triggered_word};
 ghost use Rattle.pw_base.specs.Layout.{start_words, io_start, pool_words, pool_start};
 ghost use Rattle.board_rule.specs.Layout.{IsUndelayed};
 
@@ -65,7 +65,7 @@ fn push_pools(alloc: Global, words: &mut Items<u64>, shape: &Shape) -> Result<()
 // The words before the io areas: no ticket, pending 0, and NOT_TRIGGERED of the first cycle.
 fn node_words(alloc: Global, nodes: usize, first: u32) -> Result<Items<u64>, Memory>
     ensures { IfOk result (λ words. words ≡ 0 ∷
-        (replicate nodes 0 ++ replicate nodes (status_word_of 0 first))) }
+        (replicate nodes 0 ++ replicate nodes (not_triggered_word first))) }
 {
     let mut words = Items::filled(alloc, 1, 0)?;
     words.extend_filled(nodes, 0)?;

@@ -1,7 +1,7 @@
 //! The steps on buffers of a loop's seat whose node writes. Each is one sequentially consistent operation on one word; it
 //! takes no memory, does not wait and does not fail. Links, pools and blocks are given by number.
 ghost use Rattle.std.specs.Prelude.{◌≡◌, ℕ, ◌<◌, length};
-ghost use Rattle.pw_base.specs.Words.{io_word_of, io_id_in};
+ghost use Rattle.pw_base.specs.Words.{io_id_in, need_data_word};
 ghost use Rattle.pw_base.specs.Layout.{sample_place};
 ghost use Rattle.board_rule.specs.Layout.{lay};
 ghost use Rattle.board_rule.specs.declared.view.BlockView.TheVariants.{Out};
@@ -35,7 +35,7 @@ impl LoopSeat {
         requires phase { LoadsAsWriter (lay board.now.plot) self.old.knows link }
         ensures table { self.new.table ≡ self.old.table }
         ensures knows { self.new.knows ≡ loaded_as_writer (lay board.now.plot) self.old.knows link }
-        ensures word { result ≡ io_word_of 1 (io_id_in result) }
+        ensures word { result ≡ need_data_word (io_id_in result) }
         ensures given { IsGivenBack (lay board.now.plot) self.old.knows link (io_id_in result) }
     {
         let end = self.write_at(link);

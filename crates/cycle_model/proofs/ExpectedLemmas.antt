@@ -23,7 +23,7 @@ use Rattle.pw_base.specs.KindFunction.{Heard, kind_output, square_at}
 use Rattle.pw_base.specs.KindPorts.{input_count}
 use Rattle.pw_base.specs.KindRanges.{IsInRange}
 use Rattle.pw_base.specs.PlanForms.{kind_at}
-use Rattle.pw_base.specs.Pools.{is_port, is_before, with_port, sources_of, links_from, pool_of, pools_of}
+use Rattle.pw_base.specs.Pools.{is_same_port, is_before, with_port, sources_of, links_from, pool_of, pools_of}
 use Rattle.pw_base.specs.Pools as pools
 use Rattle.pw_base.specs.Samples.{clamped, summed, silence}
 use Rattle.pw_base.specs.SoundPlan.{FollowFrom, IsSoundEpoch, IsSoundPlan}
@@ -124,13 +124,13 @@ link_port plan e h k d lt =
     let m : ShapeLink = get_or e.shape.links i c in
     let f = h.forms.links i c less in
     sym (channels_are e.forms m.from f.rate m.channels h.forms.ascend f.from) in
-    let own : All (λ (m : ShapeLink). is_port m.from l.from ≡ true) (links_from e.shape l.from) = λ i c less.
-    filter_passes (λ (m : ShapeLink). is_port m.from l.from) e.shape.links i c less in
+    let own : All (λ (m : ShapeLink). is_same_port m.from l.from ≡ true) (links_from e.shape l.from) = λ i c less.
+    filter_passes (λ (m : ShapeLink). is_same_port m.from l.from) e.shape.links i c less in
     let same : All (λ (m : ShapeLink). m.channels ≡ channels_of e.forms l.from) (links_from e.shape l.from) = λ i c less.
-    All-filter (λ (m : ShapeLink). is_port m.from l.from) (λ (m : ShapeLink). m.channels ≡ channels_of e.forms m.from) e.shape.links channels
+    All-filter (λ (m : ShapeLink). is_same_port m.from l.from) (λ (m : ShapeLink). m.channels ≡ channels_of e.forms m.from) e.shape.links channels
     i c less
     ∙ ap (channels_of e.forms) (same_port (get_or (links_from e.shape l.from) i c).from l.from (own i c less)) in
-    let at = holds_at (λ (m : ShapeLink). is_port m.from l.from) e.shape.links l k (port_same l.from l.from refl) lt
+    let at = holds_at (λ (m : ShapeLink). is_same_port m.from l.from) e.shape.links l k (port_same l.from l.from refl) lt
     (get_or_default e.shape.links k l d lt) in
     let some : 0 < length (links_from e.shape l.from) = let less = at.1 in omega (arith, less) in
     record {

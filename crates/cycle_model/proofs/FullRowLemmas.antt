@@ -19,7 +19,7 @@ use Rattle.pw_base.specs.Samples.{clamped, silence, summed}
 use Rattle.pw_base.specs.KindFunction.{Heard, kind_output}
 use Rattle.pw_base.specs.KindPorts.{input_count, port_count}
 use Rattle.pw_base.specs.PlanForms.{kind_at}
-use Rattle.pw_base.specs.Pools.{is_port}
+use Rattle.pw_base.specs.Pools.{is_same_port}
 use Rattle.pw_base.proofs.PoolLemmas.{same_port}
 use Rattle.wav_files.specs.declared.wav.WavIn.{WavIn}
 use Rattle.cycle_model.specs.Epochs.{epoch_at, listed, first_at, is_active, links_into, channels_of, channels_at, active_cycles}
@@ -134,7 +134,7 @@ module _ (plan : Plan) (waves : List WavIn) (r : IsRenderable plan waves) (size 
 
   -- what any link into a port brings, whose node stands no deeper than the bound
   brought_full : (k : ℕ) (e : Epoch) (rank : ℕ → ℕ) → epoch_at plan k ≡ Some e → All (Rises rank) e.shape.links → (port : PortId)
-      → size * k + depth size e rank port.node ≤ m → (l : ShapeLink) → IsFitting plan e l → Rises rank l → is_port l.to port ≡ true
+      → size * k + depth size e rank port.node ≤ m → (l : ShapeLink) → IsFitting plan e l → Rises rank l → is_same_port l.to port ≡ true
       → length (brought plan out k l) ≡ plan.quantum * l.channels
   brought_full k e rank h g port bound l fits rises into =
       let first : first_at plan k ≡ e.shape.first = ap (λ o. unwrap_or (option_map (λ e. e.shape.first) o) 0) h in
@@ -160,14 +160,14 @@ module _ (plan : Plan) (waves : List WavIn) (r : IsRenderable plan waves) (size 
   input_full k e rank h g port bound =
       let q = (known_epoch plan waves r k e h).0 in
       let n = plan.quantum * channels_of e.forms port in
-      let ls = filter (λ l. is_port l.to port) e.shape.links in
-      let links : links_into plan k port ≡ ls = ap (λ o. filter (λ l. is_port l.to port) (listed (λ e. e.shape.links) o)) h in
+      let ls = filter (λ l. is_same_port l.to port) e.shape.links in
+      let links : links_into plan k port ≡ ls = ap (λ o. filter (λ l. is_same_port l.to port) (listed (λ e. e.shape.links) o)) h in
       let channels : channels_at plan k port ≡ channels_of e.forms port = ap (λ o. channels_of (listed (λ e. e.forms) o) port) h in
       let each : All (λ l. length (brought plan out k l) ≡ n) ls = λ i d lt.
       let l = get_or ls i d in
-      let fits = All-filter (λ l. is_port l.to port) (IsFitting plan e) e.shape.links q.links i d lt in
-      let into : is_port l.to port ≡ true = filter_passes (λ l. is_port l.to port) e.shape.links i d lt in
-      brought_full k e rank h g port bound l fits (All-filter (λ l. is_port l.to port) (Rises rank) e.shape.links g i d lt) into
+      let fits = All-filter (λ l. is_same_port l.to port) (IsFitting plan e) e.shape.links q.links i d lt in
+      let into : is_same_port l.to port ≡ true = filter_passes (λ l. is_same_port l.to port) e.shape.links i d lt in
+      brought_full k e rank h g port bound l fits (All-filter (λ l. is_same_port l.to port) (Rises rank) e.shape.links g i d lt) into
       ∙ ap (λ x. plan.quantum * x) (sym fits.to_form ∙ ap (channels_of e.forms) (same_port l.to port into)) in
       length-map _ clamped
       ∙ ap₂ (λ c ks. length (fold summed (silence (plan.quantum * c)) (map (λ l. brought plan out k l) ks))) channels links

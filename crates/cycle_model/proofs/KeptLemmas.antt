@@ -20,7 +20,7 @@ use Rattle.pw_base.specs.declared.plan.PortForm.{PortForm}
 use Rattle.pw_base.specs.KindRanges.{IsRate, IsChannels, IsSinkOrMeter}
 use Rattle.pw_base.specs.PlanForms.{kind_at}
 use Rattle.pw_base.specs.PlanSums.{is_sink, form_samples, epoch_samples, sink_samples_of}
-use Rattle.pw_base.specs.Pools.{is_port}
+use Rattle.pw_base.specs.Pools.{is_same_port}
 use Rattle.pw_base.specs.SoundPlan.{FollowFrom, IsSoundNode, IsSoundPlan}
 use Rattle.pw_base.proofs.PoolLemmas.{same_port}
 use Rattle.wav_files.specs.declared.wav.WavIn.{WavIn}
@@ -131,24 +131,24 @@ one_form plan e port (f ∷ fs) sink =
     let rest = one_form plan e port fs sink in
     let parts = sum_by-cons (form_samples plan e) f sinks in
     ⊎_elim
-    (λ (t : is_port f.port port ≡ true).
+    (λ (t : is_same_port f.port port ≡ true).
     let here : is_sink (kind_at plan f.port.node) ≡ true =
     ap (λ (p : PortId). is_sink (kind_at plan p.node)) (same_port f.port port t) ∙ sink in
     rw (t, here) (omega (arith, parts)))
-    (λ (s : is_port f.port port ≡ false). ⊎_elim
+    (λ (s : is_same_port f.port port ≡ false). ⊎_elim
     (λ (t : is_sink (kind_at plan f.port.node) ≡ true). rw (s, t) (omega (arith, rest, parts)))
     (λ (n : is_sink (kind_at plan f.port.node) ≡ false). rw (s, n) rest)
     (cases_Bool (is_sink (kind_at plan f.port.node))))
-    (cases_Bool (is_port f.port port))
+    (cases_Bool (is_same_port f.port port))
 
 -- the channels of a port are 0, or those of a form of it
 channels_cases : (forms : List PortForm) (port : PortId) → (channels_of forms port ≡ 0)
     ⊎ ((rate : ℕ) × Contains forms (record { port = port; rate = rate; channels = channels_of forms port }))
 channels_cases [] port = inl refl
 channels_cases (f ∷ fs) port = ⊎_elim
-    (λ (t : is_port f.port port ≡ true). rw t (inr (f.rate, (0, omega arith, form_is f port (same_port f.port port t)))))
-    (λ (s : is_port f.port port ≡ false). rw s (⊎_elim (λ none. inl none) (λ some. inr (some.0, behind some.1)) (channels_cases fs port)))
-    (cases_Bool (is_port f.port port))
+    (λ (t : is_same_port f.port port ≡ true). rw t (inr (f.rate, (0, omega arith, form_is f port (same_port f.port port t)))))
+    (λ (s : is_same_port f.port port ≡ false). rw s (⊎_elim (λ none. inl none) (λ some. inr (some.0, behind some.1)) (channels_cases fs port)))
+    (cases_Bool (is_same_port f.port port))
   where
     form_is : (g : PortForm) (p : PortId) → g.port ≡ p → g ≡ record { port = p; rate = g.rate; channels = g.channels }
     form_is g p e = λ i. record { port = e i; rate = g.rate; channels = g.channels }

@@ -1,6 +1,6 @@
 //! The atomic steps on activation words. Nodes are places; `C` is what the step gives its seat to know.
 ghost use Rattle.std.specs.Prelude.{◌≡◌, ℕ, ◌-◌, ◌<◌, ◌^◌, slice_index};
-ghost use Rattle.pw_base.specs.Words.{status_word_of};
+ghost use Rattle.pw_base.specs.Words.{finished_word, not_triggered_word, triggered_word};
 ghost use Rattle.board_rule.specs.Layout.{lay, nodes};
 ghost use Rattle.board_rule.specs.Steps.{taken, cycle_of, reset_of, Lowers, lowered, Triggers, triggered, Claims, claimed, IsReadyToFinish};
 ghost use Rattle.board_rule.specs.Steps.{finished, StoresPending, pending_stored, StoresStatus, status_stored};
@@ -49,7 +49,7 @@ pub(crate) fn trigger<C: Change>(
     requires after { (found : ℕ) → C.after found ≡ triggered C.leads (lay board.now.plot) token.old.me.0 at }
     ensures same { (token.new.table_id ≡ token.old.table_id) × (token.new.id ≡ token.old.id)
         × (token.new.me.1 ≡ token.old.me.1) }
-    ensures after { token.new.me.0 ≡ C.after (status_word_of 1 cycle) }
+    ensures after { token.new.me.0 ≡ C.after (triggered_word cycle) }
 {
     let word = board.status_word(target);
     let new = triggered(cycle);
@@ -86,7 +86,7 @@ pub(crate) fn finish<C: Change>(board: &Board, token: &mut BoardToken, at: usize
     requires after { (found : ℕ) → C.after found ≡ finished C.leads token.old.me.0 at }
     ensures same { (token.new.table_id ≡ token.old.table_id) × (token.new.id ≡ token.old.id)
         × (token.new.me.1 ≡ token.old.me.1) }
-    ensures after { token.new.me.0 ≡ C.after (status_word_of 3 cycle) }
+    ensures after { token.new.me.0 ≡ C.after (finished_word cycle) }
 {
     let word = board.status_word(at);
     let new = finished(cycle);
@@ -119,7 +119,7 @@ pub(crate) fn reset_status<C: Change>(board: &Board, token: &mut BoardToken, at:
     requires after { (found : ℕ) → C.after found ≡ status_stored (lay board.now.plot) token.old.me.0 }
     ensures same { (token.new.table_id ≡ token.old.table_id) × (token.new.id ≡ token.old.id)
         × (token.new.me.1 ≡ token.old.me.1) }
-    ensures after { token.new.me.0 ≡ C.after (status_word_of 0 cycle) }
+    ensures after { token.new.me.0 ≡ C.after (not_triggered_word cycle) }
 {
     let word = board.status_word(at);
     let new = not_triggered(cycle);

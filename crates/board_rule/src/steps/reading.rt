@@ -2,7 +2,7 @@
 //! its seat to know.
 ghost use Rattle.std.specs.Prelude.{◌≡◌, ℕ, ◌<◌, length};
 ghost use Rattle.pw_base.specs.Pools.{pools_of};
-ghost use Rattle.pw_base.specs.Words.{io_word_of};
+ghost use Rattle.pw_base.specs.Words.{need_data_word};
 ghost use Rattle.pw_base.specs.Layout.{sample_place};
 ghost use Rattle.board_rule.specs.Layout.{lay};
 ghost use Rattle.board_rule.specs.SampleWords.{IsTable, packed};
@@ -96,7 +96,7 @@ pub(crate) fn store_need<C: Change>(board: &Board, token: &mut BoardToken, link:
         ≡ need_stored C.leads (lay board.now.plot) token.old.me.0 link }
     ensures same { (token.new.table_id ≡ token.old.table_id) × (token.new.id ≡ token.old.id)
         × (token.new.me.1 ≡ token.old.me.1) }
-    ensures after { token.new.me.0 ≡ C.after (io_word_of 1 id) }
+    ensures after { token.new.me.0 ≡ C.after (need_data_word id) }
 {
     let word = board.area_word(link);
     let new = io_word(AreaStatus::NeedData.number(), id);

@@ -2,7 +2,7 @@
 //! its seat to know.
 ghost use Rattle.std.specs.Prelude.{◌≡◌, ℕ, ◌<◌, length};
 ghost use Rattle.pw_base.specs.Pools.{pools_of};
-ghost use Rattle.pw_base.specs.Words.{io_word_of, io_id_in};
+ghost use Rattle.pw_base.specs.Words.{io_id_in, have_data_word, need_data_word};
 ghost use Rattle.pw_base.specs.Layout.{sample_place};
 ghost use Rattle.board_rule.specs.Layout.{lay};
 ghost use Rattle.board_rule.specs.EndViews.{pool_at};
@@ -21,7 +21,7 @@ pub(crate) fn load_area<C: Change>(board: &Board, token: &mut BoardToken, link: 
     requires phase { LoadsAsWriter (lay board.now.plot) token.old.me.0 link }
     requires inside { link < length board.now.plot.shape.links }
     requires after { (found : ℕ) → C.after found ≡ loaded_as_writer (lay board.now.plot) token.old.me.0 link }
-    requires says { (found : ℕ) → found ≡ io_word_of 1 (io_id_in found)
+    requires says { (found : ℕ) → found ≡ need_data_word (io_id_in found)
         → IsGivenBack (lay board.now.plot) token.old.me.0 link (io_id_in found) → C.says found }
     ensures same { (token.new.table_id ≡ token.old.table_id) × (token.new.id ≡ token.old.id)
         × (token.new.me.1 ≡ token.old.me.1) }
@@ -41,7 +41,7 @@ pub(crate) fn store_have<C: Change>(board: &Board, token: &mut BoardToken, link:
     requires after { (found : ℕ) → C.after found ≡ have_stored (lay board.now.plot) token.old.me.0 link id }
     ensures same { (token.new.table_id ≡ token.old.table_id) × (token.new.id ≡ token.old.id)
         × (token.new.me.1 ≡ token.old.me.1) }
-    ensures after { token.new.me.0 ≡ C.after (io_word_of 2 id) }
+    ensures after { token.new.me.0 ≡ C.after (have_data_word id) }
 {
     let word = board.area_word(link);
     let new = io_word(AreaStatus::HaveData.number(), id);

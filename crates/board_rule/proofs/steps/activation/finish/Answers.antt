@@ -1,6 +1,6 @@
 use Rattle.std.proofs.Common.{◌∙◌, ℕ, sym, subst}
 use Rattle.atomic_table.specs.Table.{Allows}
-use Rattle.pw_base.specs.Words.{status_word_of}
+use Rattle.pw_base.specs.Words.{finished_word}
 use Rattle.board_rule.specs.declared.plot.Plot.{Plot}
 use Rattle.board_rule.specs.Layout.{lay}
 use Rattle.board_rule.specs.BoardRule.{Holds}
@@ -17,7 +17,7 @@ store-requires g c = let b = c.args.board.now in let p = lay b.plot in let t = c
           (λ i. (
             sym b.about i,
             sym c.status_word-word.ensures.is i,
-            sym (c.finished-new.ensures ∙ (λ j. status_word_of 3 (c.requires.cycle j))) i,
+            sym (c.finished-new.ensures ∙ (λ j. finished_word (c.requires.cycle j))) i,
           ))
           (finishes p slots t.id t.me after g.C.Change.leads c.args.at c.requires.phase c.requires.after),
     )
