@@ -91,7 +91,7 @@ props_fault props a b x y =
     prop_fault x.before x.prop a b x.at_fault other
 
 -- an object has one first fault
-object_fault : (o : Pod-F Pod Control Prop) (a b : FormatFault) → FaultsObject o a → FaultsObject o b → a ≡ b
+pub object_fault : (o : Pod-F Pod Control Prop) (a b : FormatFault) → FaultsObject o a → FaultsObject o b → a ≡ b
 object_fault (Pod-F.Object object id props) a b x y = props_fault props a b x y
 object_fault other a b x y = x ∙ sym y
 
