@@ -26,7 +26,8 @@ pub record Admits (fields : List Field) (key : ℕ) (P : ℕ → Type 0) : Type 
   pub own : field_of fields key ≡ Some field
   pub numbers : (x : Pod) → IsMember field.choice x → IsNumber P x
 
--- an own offer has a rate and channels that its kind may have, and one value of channels where the kind fixes them
+-- an own offer has a rate and channels that its kind may have; where the kind fixes the channels, they are
+-- one value
 pub record IsOwnOffer (kind : Kind) (port : ℕ) (own : Format) : Type 0 where
   pub sound : IsSoundFormat own
   pub object : own.object ≡ 262147
