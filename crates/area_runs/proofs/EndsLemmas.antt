@@ -15,7 +15,7 @@ use Rattle.board_rule.specs.EndViews.{no_link, no_pool, link_at, pool_at, writer
 use Rattle.board_rule.proofs.PortLemmas.{Differ, differ_at, places_pass, has_place, differ_places}
 use Rattle.board_rule.proofs.WiringLemmas.{Wired, wired, made}
 use Rattle.board_rule.proofs.HolderLemmas.{link_is, link_there, pool_there, pool_here}
-use Rattle.area_turns.specs.Plain.{IsPlain}
+use Rattle.io_areas.specs.Plain.{IsPlain}
 use Rattle.area_runs.specs.Ends.{reads_of, fills_of}
 
 pairs_differ : (xs : List ℕ) → Differ xs → AllPairs (λ x y. x ≢ y) xs

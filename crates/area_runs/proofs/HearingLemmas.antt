@@ -13,9 +13,9 @@ use Rattle.board_rule.specs.EndViews.{read_of, reader_of}
 use Rattle.board_rule.specs.SeatNodes.{HasNode}
 use Rattle.board_rule.specs.WorkSteps.{IsRunning}
 use Rattle.board_rule.specs.ReaderSteps.{read_cycle}
-use Rattle.area_turns.specs.Ends.{IsReadUpTo}
-use Rattle.area_turns.specs.Hearing.{MayHear, HasHeard}
-use Rattle.area_turns.proofs.HearingLemmas.{heard_even}
+use Rattle.io_areas.specs.Ends.{IsReadUpTo}
+use Rattle.io_areas.specs.InputTurn.{MayReadInput, HasReadInput}
+use Rattle.io_areas.proofs.InputTurnLemmas.{heard_even}
 use Rattle.area_runs.specs.Hearing.{MayHearAll, Gives, AreHeard}
 use Rattle.area_runs.proofs.ListLemmas.{take_cases, early_differs, last_taken, still_taken}
 
@@ -56,7 +56,7 @@ module _ (b : Bool) (p : Lay) (v : View) (links : List ℕ) (may : MayHearAll b 
     abbrev cycle : ℕ
     cycle = read_cycle b p v link
 
-    was : MayHear b p v link
+    was : MayReadInput b p v link
     was = may.0 k 0 low
 
     same_cycle : (l : ℕ) → read_cycle b p w l ≡ read_cycle b p v l
@@ -65,7 +65,7 @@ module _ (b : Bool) (p : Lay) (v : View) (links : List ℕ) (may : MayHearAll b 
     untouched : read_of w link ≡ read_of v link
     untouched = so_far.others link (early_differs links k may.1 low)
 
-    pub may_hear : MayHear b p w link
+    pub may_hear : MayReadInput b p w link
     may_hear = record {
       inside = was.inside;
       has = subst (λ (x : View). HasNode b p x (reader_of p link)) (sym so_far.same) (reads_have p v w.reads b (reader_of p link) was.has);
@@ -80,7 +80,7 @@ module _ (b : Bool) (p : Lay) (v : View) (links : List ℕ) (may : MayHearAll b 
         by true h = h
         by false h = h
 
-    module _ (u : View) (heard : HasHeard b p w link u) where
+    module _ (u : View) (heard : HasReadInput b p w link u) where
       longer : length u.reads ≡ length w.reads
       longer = ap (λ (x : View). length x.reads) heard.1 ∙ length-set w.reads link _
 

@@ -15,8 +15,8 @@ use Rattle.board_rule.proofs.HolderLemmas.{link_there}
 use Rattle.activation_words.specs.Calls.{HasFinished}
 use Rattle.activation_words.specs.CycleCalls.{HasBegun, HasChecked, HasEnded}
 use Rattle.activation_words.specs.Members.{IsBetween, IsWaiting}
-use Rattle.area_turns.specs.Plain.{IsPlain}
-use Rattle.area_turns.specs.Ends.{IsReadUpTo}
+use Rattle.io_areas.specs.Plain.{IsPlain}
+use Rattle.io_areas.specs.Ends.{IsReadUpTo}
 use Rattle.area_runs.specs.Ends.{reads_of}
 use Rattle.area_runs.specs.Steady.{IsSteady}
 use Rattle.area_runs.specs.Hearing.{MayHearAll, Gives, AreHeard}

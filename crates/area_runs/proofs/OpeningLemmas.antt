@@ -30,9 +30,9 @@ use Rattle.board_rule.specs.EndViews.{no_pool, pool_at, block_of, read_of, write
 use Rattle.buffer_pool.specs.Queue.{Queue, numbers_below}
 use Rattle.activation_words.specs.Members.{IsBetween}
 use Rattle.activation_words.proofs.MemberLemmas.{new_rests, new_between}
-use Rattle.area_turns.specs.Plain.{IsPlain}
-use Rattle.area_turns.specs.Ends.{IsReadUpTo}
-use Rattle.area_turns.specs.Stock.{Stock}
+use Rattle.io_areas.specs.Plain.{IsPlain}
+use Rattle.io_areas.specs.Ends.{IsReadUpTo}
+use Rattle.io_areas.specs.FreeBlocks.{FreeBlocks}
 use Rattle.area_runs.specs.declared.node_ends.NodeEnds.{NodeEnds}
 use Rattle.area_runs.specs.declared.worker.Worker.{Worker}
 use Rattle.area_runs.specs.declared.lead.Lead.{Lead}
@@ -130,7 +130,7 @@ module _ (p : Lay) (e : Samples) (k : ℕ) where
   next_is m low = ap (λ (x : NodeView). x.next) (get_or-replicate (nodes p) m (idle (first p)) (idle 0) low)
 
   module _ (fit : All (λ x. (1 ≤ x.blocks) × (x.blocks ≤ 8)) (pools_of p.shape)) where
-    stock : (q : ℕ) → q < length (pools_of p.shape) → Stock p v q (first p) (fresh_queue (pool_at p q))
+    stock : (q : ℕ) → q < length (pools_of p.shape) → FreeBlocks p v q (first p) (fresh_queue (pool_at p q))
     stock q low = let some = (fit q no_pool low).0 in record {
       size = refl;
       some = some;
@@ -157,7 +157,7 @@ module _ (p : Lay) (e : Samples) (k : ℕ) where
           get_or-replicate (length p.shape.links) l (unwritten (first p)) (unwritten 0) low in
           let long = length-replicate (length p.shape.links) (unwritten (first p)) in
           record { there = omega arith; loaded = ap (λ (w : WriteView). w.loaded) at; stored = ap (λ (w : WriteView). w.stored) at };
-      stocks = λ q low _. subst (Stock p v q (first p))
+      stocks = λ q low _. subst (FreeBlocks p v q (first p))
           (sym (get_or-map fresh_queue (pools_of p.shape) q no_pool (record { free = []; blocks = 0 }) low))
           (stock q low);
     }

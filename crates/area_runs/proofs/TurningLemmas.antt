@@ -26,9 +26,9 @@ use Rattle.activation_words.specs.Calls.{started, HasRested}
 use Rattle.activation_words.specs.Members.{IsResting}
 use Rattle.activation_words.proofs.ViewLemmas.{again, has_again}
 use Rattle.activation_words.proofs.MemberLemmas.{else_rests, rested_rests}
-use Rattle.area_turns.specs.Plain.{IsPlain}
-use Rattle.area_turns.specs.Ends.{IsWrittenUpTo, IsReadUpTo}
-use Rattle.area_turns.specs.Stock.{Stock}
+use Rattle.io_areas.specs.Plain.{IsPlain}
+use Rattle.io_areas.specs.Ends.{IsWrittenUpTo, IsReadUpTo}
+use Rattle.io_areas.specs.FreeBlocks.{FreeBlocks}
 use Rattle.area_runs.specs.Ends.{reads_of, fills_of}
 use Rattle.area_runs.specs.Steady.{IsSteady}
 use Rattle.area_runs.specs.Hearing.{MayHearAll, Gives, AreHeard}
@@ -142,7 +142,7 @@ module _ (p : Lay) (plain : IsPlain p) (n : ℕ) where
                     (ap (λ (y : List WriteView). slice_index_or y l (unwritten 0)) ws)
                     (even.writes l (pool_link p plain q l h.0 c) (pool_writer p plain q l h.0 c ∙ h.1)));
               },
-              subst (λ c. Stock p w q c (queue_of old q)) (sym now)
+              subst (λ c. FreeBlocks p w q c (queue_of old q)) (sym now)
                   (stock_moves p v w q cycle (queue_of old q)
                   (λ b lt. ap (λ (y : List BlockView). slice_index_or y (block_at p q b) Free) bs)
                   (even.stocks q h.0 h.1)),
@@ -179,7 +179,7 @@ module _ (p : Lay) (plain : IsPlain p) (n : ℕ) where
           writes = λ l low e. let q = of_pool p plain l low in let f = q.2 ∙ e in
               subst (λ c. IsWrittenUpTo x l (c + 1)) (filler_cycle (pool_of p l) f)
               (written.even (pool_of p l) l (fills_it p plain n inside (pool_of p l) q.0 f) q.1);
-          stocks = λ q low e. subst (λ c. Stock p x q (c + 1) (queue_of new q)) (filler_cycle q e)
+          stocks = λ q low e. subst (λ c. FreeBlocks p x q (c + 1) (queue_of new q)) (filler_cycle q e)
               (written.stocks q (fills_it p plain n inside q low e));
         }
 
@@ -192,7 +192,7 @@ module _ (p : Lay) (plain : IsPlain p) (n : ℕ) where
               o (sym e ∙ pool_writer p plain q l f.0 of_q ∙ f.1))
               ∙ ap (λ (y : List WriteView). slice_index_or y l (unwritten 0)) ws) (h.writes l low e);
           stocks = λ q low e. let left = written.other_pools q low (λ i. o (sym e ∙ (filled_by p plain n inside q i).1)) in
-              subst (Stock p x q c) (sym left.0) (stock_moves p v x q c (queue_of old q)
+              subst (FreeBlocks p x q c) (sym left.0) (stock_moves p v x q c (queue_of old q)
               (λ b lt. left.1 b lt ∙ ap (λ (y : List BlockView). slice_index_or y (block_at p q b) Free) bs) (h.stocks q low e));
         }
 

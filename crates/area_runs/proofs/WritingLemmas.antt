@@ -18,10 +18,10 @@ use Rattle.board_rule.specs.SeatNodes.{HasNode}
 use Rattle.board_rule.specs.BlockSteps.{fill_cycle}
 use Rattle.board_rule.proofs.WiringLemmas.{wired}
 use Rattle.buffer_pool.specs.Queue.{Queue}
-use Rattle.area_turns.specs.Plain.{IsPlain}
-use Rattle.area_turns.specs.Ends.{IsWrittenUpTo}
-use Rattle.area_turns.specs.Stock.{Stock}
-use Rattle.area_turns.specs.Writing.{MayWrite, HasWritten}
+use Rattle.io_areas.specs.Plain.{IsPlain}
+use Rattle.io_areas.specs.Ends.{IsWrittenUpTo}
+use Rattle.io_areas.specs.FreeBlocks.{FreeBlocks}
+use Rattle.io_areas.specs.OutputTurn.{MayWriteOutput, HasWrittenOutput}
 use Rattle.area_runs.specs.Writing.{queue_of, MayFillAll, Puts, IsLeft, AreWritten}
 use Rattle.area_runs.proofs.ListLemmas.{taken, take_cases, early_differs, last_taken, still_taken}
 
@@ -35,7 +35,7 @@ write_moves v w l c long same e = record {
 
 pub stock_moves : (p : Lay) (v w : View) (q c : ℕ) (pool : Queue)
     → ((b : ℕ) → b < (pool_at p q).blocks → block_of p w q b ≡ block_of p v q b)
-    → Stock p v q c pool → Stock p w q c pool
+    → FreeBlocks p v q c pool → FreeBlocks p w q c pool
 stock_moves p v w q c pool same s = record {
   size = s.size;
   some = s.some;
@@ -84,7 +84,7 @@ module _ (p : Lay) (plain : IsPlain p) where
       abbrev pool : ℕ
       pool = get_or pools k 0
 
-      was : MayWrite p v pool
+      was : MayWriteOutput p v pool
       was = (may.0 k 0 low).0
 
       pub pool_in : pool < length (pools_of p.shape)
@@ -96,7 +96,7 @@ module _ (p : Lay) (plain : IsPlain p) where
       same_cycle : (q : ℕ) → fill_cycle p w q ≡ fill_cycle p v q
       same_cycle q = ap (λ (x : View). fill_cycle p x q) so_far.same
 
-      pub may_write : MayWrite p w pool
+      pub may_write : MayWriteOutput p w pool
       may_write = record {
         has = (
           pool_in,
@@ -113,8 +113,8 @@ module _ (p : Lay) (plain : IsPlain p) where
       left : IsLeft p v old pool w new
       left = so_far.other_pools pool pool_in (early_differs pools k may.1 low)
 
-      pub has_stock : Stock p w pool (fill_cycle p w pool) (queue_of new pool)
-      has_stock = subst (λ (x : ℕ × Queue). Stock p w pool x.0 x.1) (λ i. (sym (same_cycle pool) i, sym left.0 i))
+      pub has_stock : FreeBlocks p w pool (fill_cycle p w pool) (queue_of new pool)
+      has_stock = subst (λ (x : ℕ × Queue). FreeBlocks p w pool x.0 x.1) (λ i. (sym (same_cycle pool) i, sym left.0 i))
           (stock_moves p v w pool (fill_cycle p v pool) (queue_of old pool) left.1 (may.0 k 0 low).1)
 
       pub free_at : length new ≡ length (pools_of p.shape) → (x : Queue) → get_or new pool x ≡ queue_of new pool
@@ -123,7 +123,7 @@ module _ (p : Lay) (plain : IsPlain p) where
       pub still_puts : (samples : List ℤ) → Puts p v samples pool → Puts p w samples pool
       still_puts samples g = g ∙ sym (ap (λ (x : View). samples_in p x.expect (fill_cycle p x pool) pool) so_far.same)
 
-      module _ (u : View) (x : Queue) (written : HasWritten p w pool u) (stock : Stock p u pool (fill_cycle p w pool + 1) x)
+      module _ (u : View) (x : Queue) (written : HasWrittenOutput p w pool u) (stock : FreeBlocks p u pool (fill_cycle p w pool + 1) x)
           (long : length new ≡ length (pools_of p.shape)) where
         abbrev newer : List Queue
         newer = set new pool x
@@ -145,11 +145,11 @@ module _ (p : Lay) (plain : IsPlain p) where
               (written.even l (subst (λ i. Contains (pool_at p i).links l) (sym e) of_q))))
               (take_cases pools k q low c);
           stocks = λ q c. ⊎_elim
-              (λ done. let h = early q done in subst (Stock p u q (fill_cycle p v q + 1)) (sym (other q h.1))
+              (λ done. let h = early q done in subst (FreeBlocks p u q (fill_cycle p v q + 1)) (sym (other q h.1))
               (stock_moves p w u q (fill_cycle p v q + 1) (queue_of new q) (λ b lt. written.other_pools q b h.0 lt h.1)
               (so_far.stocks q done)))
-              (λ (e : pool ≡ q). subst (λ i. Stock p u i (fill_cycle p v i + 1) (queue_of newer i)) e
-              (subst (λ (y : ℕ × Queue). Stock p u pool (y.0 + 1) y.1)
+              (λ (e : pool ≡ q). subst (λ i. FreeBlocks p u i (fill_cycle p v i + 1) (queue_of newer i)) e
+              (subst (λ (y : ℕ × Queue). FreeBlocks p u pool (y.0 + 1) y.1)
               (λ i. (
                 same_cycle pool i,
                 sym (get_or-set_same new pool x (record { free = []; blocks = 0 })

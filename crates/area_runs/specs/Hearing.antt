@@ -7,12 +7,12 @@ use Rattle.board_rule.specs.SampleWords.{samples_in}
 use Rattle.board_rule.specs.EndViews.{read_of, pool_of}
 use Rattle.board_rule.specs.ReaderSteps.{read_cycle}
 use Rattle.io_areas.specs.Quanta.{quantum_of}
-use Rattle.area_turns.specs.Ends.{IsReadUpTo}
-use Rattle.area_turns.specs.Hearing.{MayHear}
+use Rattle.io_areas.specs.Ends.{IsReadUpTo}
+use Rattle.io_areas.specs.InputTurn.{MayReadInput}
 
 -- none of the links is touched in this cycle, and none stands there twice
 abbrev pub MayHearAll : Bool → Lay → View → List ℕ → Type 0
-MayHearAll leads p v links = All (MayHear leads p v) links × AllPairs (λ k l. k ≢ l) links
+MayHearAll leads p v links = All (MayReadInput leads p v) links × AllPairs (λ k l. k ≢ l) links
 
 -- the pool of each link gives these samples, one quantum, in this cycle
 abbrev pub Gives : Bool → Lay → View → List ℤ → ℕ → Type 0

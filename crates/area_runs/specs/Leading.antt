@@ -6,8 +6,8 @@ use Rattle.board_rule.specs.declared.view.Drive.TheVariants.{Awake}
 use Rattle.board_rule.specs.Layout.{Lay}
 use Rattle.board_rule.specs.EndViews.{reader_of}
 use Rattle.board_rule.specs.SeatNodes.{HasNode}
-use Rattle.area_turns.specs.Plain.{IsPlain}
-use Rattle.area_turns.specs.Ends.{IsReadUpTo}
+use Rattle.io_areas.specs.Plain.{IsPlain}
+use Rattle.io_areas.specs.Ends.{IsReadUpTo}
 use Rattle.area_runs.specs.declared.lead.Lead.{Lead}
 use Rattle.area_runs.specs.Ends.{reads_of}
 use Rattle.area_runs.specs.Steady.{IsSteady}

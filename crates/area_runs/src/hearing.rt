@@ -1,12 +1,12 @@
 //! The turn of a node on all links that it reads.
 ghost use Rattle.std.specs.Prelude.{◌≡◌, ◌<◌, ◌↔◌, All, length, IsTrue};
 ghost use Rattle.board_rule.specs.Layout.{lay};
-ghost use Rattle.area_turns.specs.Plain.{IsPlain};
-ghost use Rattle.area_turns.specs.Hearing.{MayHear, HasHeard};
+ghost use Rattle.io_areas.specs.Plain.{IsPlain};
+ghost use Rattle.io_areas.specs.InputTurn.{MayReadInput, HasReadInput};
 ghost use Rattle.area_runs.specs.Hearing.{MayHearAll, Gives, AreHeard};
 
-use area_turns::hear;
 use board_rule::{Board, BoardSeat};
+use io_areas::read_input;
 
 // Whether two quanta are the same. It looks at all samples, so that many are compared at once.
 fn are_same(a: &[i16], b: &[i16]) -> bool
@@ -30,16 +30,16 @@ fn hears<S: BoardSeat>(
 ) -> bool
     requires plain { IsPlain (lay board.now.plot) }
     requires table { S.table seat.old ≡ board.now.table.shared.table_id }
-    requires phase { MayHear S.leads (lay board.now.plot) (S.knows seat.old) link }
+    requires phase { MayReadInput S.leads (lay board.now.plot) (S.knows seat.old) link }
     requires gives { Gives S.leads (lay board.now.plot) (S.knows seat.old) samples.now link }
     requires long { length room.old ≡ length samples.now }
     ensures table { S.table seat.new ≡ S.table seat.old }
     ensures knows { let p = lay board.now.plot in
-        HasHeard S.leads p (S.knows seat.old) link (S.knows seat.new) }
+        HasReadInput S.leads p (S.knows seat.old) link (S.knows seat.new) }
     ensures room { room.new ≡ samples.now }
     ensures samples { IsTrue result }
 {
-    hear(board, seat, link, room);
+    read_input(board, seat, link, room);
     are_same(room, samples)
 }
 

@@ -2,12 +2,12 @@
 ghost use Rattle.std.specs.Prelude.{◌≡◌, All, length};
 ghost use Rattle.pw_base.specs.Pools.{pools_of};
 ghost use Rattle.board_rule.specs.Layout.{lay};
-ghost use Rattle.area_turns.specs.Plain.{IsPlain};
+ghost use Rattle.io_areas.specs.Plain.{IsPlain};
 ghost use Rattle.area_runs.specs.Writing.{MayFillAll, Puts, AreWritten};
 
-use area_turns::write;
 use board_rule::{Board, LoopSeat};
 use buffer_pool::Pool;
+use io_areas::write_output;
 use pw_base::PoolShape;
 
 /// The node that works gives the samples in each of its pools. `shapes` and `free` have all pools of the board's shape,
@@ -32,7 +32,7 @@ pub(crate) fn write_all(
 {
     for pool in pools {
         let links = shapes[*pool as usize].links.as_slice();
-        write(
+        write_output(
             board,
             seat,
             *pool,
