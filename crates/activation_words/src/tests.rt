@@ -1,7 +1,7 @@
 //! The words of a board after the beginning of a cycle of four nodes in a row, what claims find, and a check.
 ghost use Rattle.std.specs.Prelude.{◌≡◌, ◌==◌, ◌≤◌, length, slice_get, Some, [], ◌∷◌, slice_index, false, IsTrue, IsFalse, IfSome, IfOk};
 ghost use Rattle.std.specs.List.{position};
-ghost use Rattle.board_rule.specs.Layout.{lay, place_in, IsUndelayed};
+ghost use Rattle.board_rule.specs.Layout.{lay, place_in};
 ghost use Rattle.activation_words.specs.Members.{IsResting, AllRest, IsBetween, IsWaiting};
 
 use crate::{Claim, begin, check_late, claim};
@@ -54,12 +54,6 @@ fn row(alloc: Global, cycles: u32) -> Result<Shape, Memory> {
     })
 }
 
-fn is_undelayed(shape: &Shape) -> bool
-    ensures { IsTrue result → IsUndelayed shape.now }
-{
-    shape.links.as_slice().iter().all(|l| !l.delayed)
-}
-
 // The place of a node, if the shape has it.
 fn find_place(shape: &Shape, node: u32) -> Option<usize>
     ensures { result ≡ position (λ n. n.node == node) shape.now.nodes }
@@ -92,8 +86,8 @@ fn seats_of_row(alloc: Global) -> Result<Items<u32>, Memory>
     Items::from_slice(alloc, &[0, 1, 0, 0])
 }
 
-// A board for a shape of four nodes, with a seat for each of two loops. None for another shape, one that is not pooled,
-// or one with a delayed link.
+// A board for a shape of four nodes, with a seat for each of two loops. None for another shape, or one that is not
+// pooled.
 fn opened(
     alloc: Global,
     shape: &Shape,
@@ -103,7 +97,7 @@ fn opened(
         × (t.3.table ≡ t.0.table.shared.table_id) × (t.0.plot.seat_of ≡ 0 ∷ 1 ∷ 0 ∷ 0 ∷ [])
         × (let p = lay t.0.plot in IsBetween p t.1.knows × AllRest p 0 t.2.knows × AllRest p 1 t.3.knows))) }
 {
-    if !is_pooled_shape(shape) || !is_undelayed(shape) || shape.nodes.len() != 4 {
+    if !is_pooled_shape(shape) || shape.nodes.len() != 4 {
         return Ok(None);
     }
     let seat_of = seats_of_row(alloc)?;

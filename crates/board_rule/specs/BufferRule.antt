@@ -5,6 +5,7 @@ use Rattle.pw_base.specs.declared.shape.ShapeLink.{ShapeLink}
 use Rattle.pw_base.specs.declared.pools.PoolShape.{PoolShape}
 use Rattle.pw_base.specs.Layout.{io_place, readers_place, sample_place}
 use Rattle.pw_base.specs.Pools.{pools_of}
+use Rattle.board_rule.specs.declared.view.WriteView.{WriteView}
 use Rattle.board_rule.specs.declared.view.ReadView.{ReadView}
 use Rattle.board_rule.specs.declared.view.BlockView.{BlockView}
 use Rattle.board_rule.specs.declared.view.BlockView.TheVariants.{Out}
@@ -26,16 +27,23 @@ module _ (p : Lay) where
     pub samples : (i : ℕ) → i < filled x.words block
         → slice_index words (sample_place p.shape q b i) ≡ packed (samples_of p e (stamp writer.over block) q) i
 
-  -- A POOL x, whose number is q. `out`: a block that a reader has yet to take down is out. `apart` and `near`: busy
-  -- blocks have stamps that differ, by less than the lag
-  pub record PoolOk (q : ℕ) (x : PoolShape) (over : ℕ) (ends : Ends) : Type 0 where
-    pub out : (l a n : ℕ) → Contains x.links l → a ≤ late_at p l → first p + a < (ends.writes l).stored + late_at p l
-        → (ends.reads l).lowered + a < (ends.writes l).stored + late_at p l → n + a ≡ (ends.writes l).stored
-        → ends.blocks q (stored_id (ends.writes l) a) ≡ Out n
-    pub apart : (a b : ℕ) → a < x.blocks → b < x.blocks → is_busy (ends.blocks q a) ≡ true
-        → is_busy (ends.blocks q b) ≡ true → stamp over (ends.blocks q a) ≡ stamp over (ends.blocks q b) → a ≡ b
-    pub near : (a b : ℕ) → a < x.blocks → b < x.blocks → is_busy (ends.blocks q a) ≡ true
-        → is_busy (ends.blocks q b) ≡ true → stamp over (ends.blocks q a) < stamp over (ends.blocks q b) + lag p x
+  -- THE BLOCKS THAT A LINK NAMES, where it is so late and the writer of its pool x has begun so many cycles. Of the
+  -- stores `a` ago, 0 or 1, whose stamp is n: `out`: the block is out until the cycle in which its writer may reclaim it.
+  -- `names`: no other block with the stamp is out
+  pub record NamesBlocks (x : PoolShape) (late begun : ℕ) (w : WriteView) (blocks : ℕ → BlockView) : Type 0 where
+    pub out : (a n : ℕ) → a ≤ late → n + a ≡ w.stored → first p < n + late → begun < n + lag p x
+        → blocks (stored_id w a) ≡ Out n
+    pub names : (a n b : ℕ) → a ≤ late → n + a ≡ w.stored → first p < n + late → b < x.blocks → blocks b ≡ Out n
+        → stored_id w a ≡ b
+
+  -- A POOL x. `apart` and `near`: busy blocks have stamps that differ, by less than the lag
+  pub record PoolOk (x : PoolShape) (writer : Span) (writes : ℕ → WriteView) (blocks : ℕ → BlockView)
+      : Type 0 where
+    pub named : (l : ℕ) → Contains x.links l → NamesBlocks x (late_at p l) writer.begun (writes l) blocks
+    pub apart : (a b : ℕ) → a < x.blocks → b < x.blocks → is_busy (blocks a) ≡ true → is_busy (blocks b) ≡ true
+        → stamp writer.over (blocks a) ≡ stamp writer.over (blocks b) → a ≡ b
+    pub near : (a b : ℕ) → a < x.blocks → b < x.blocks → is_busy (blocks a) ≡ true → is_busy (blocks b) ≡ true
+        → stamp writer.over (blocks a) < stamp writer.over (blocks b) + lag p x
 
   -- BUFFER RULE: each link of each pool, each block and each pool, where `spans` has what each place has done
   pub record Buffers (spans : ℕ → Span) (ends : Ends) (e : Samples) (words : List ℕ) : Type 0 where
@@ -45,4 +53,4 @@ module _ (p : Lay) where
     pub blocks : (q b : ℕ) (x : PoolShape) → slice_get (pools_of p.shape) q ≡ Some x → b < x.blocks
         → BlockOk q b x (spans (p.place x.port.node)) ends.reads e (ends.blocks q b) words
     pub pools : (q : ℕ) (x : PoolShape) → slice_get (pools_of p.shape) q ≡ Some x
-        → PoolOk q x (spans (p.place x.port.node)).over ends
+        → PoolOk x (spans (p.place x.port.node)) ends.writes (ends.blocks q)

@@ -7,8 +7,9 @@ use Rattle.pw_base.specs.Words.{io_word_of, io_id_in}
 use Rattle.board_rule.specs.declared.view.View.{View}
 use Rattle.board_rule.specs.Layout.{Lay}
 use Rattle.board_rule.specs.SampleWords.{samples_of}
+use Rattle.board_rule.specs.Areas.{area_of}
 use Rattle.board_rule.specs.BlockReadings.{late_at}
-use Rattle.board_rule.specs.EndViews.{read_of, view_read, pool_at, reader_of, pool_of}
+use Rattle.board_rule.specs.EndViews.{read_of, view_read, link_at, pool_at, reader_of, pool_of}
 use Rattle.board_rule.specs.SeatNodes.{cycle_of, HasNode}
 use Rattle.board_rule.specs.WorkSteps.{IsRunning}
 
@@ -21,6 +22,10 @@ module _ (leads : Bool) (p : Lay) where
   abbrev pub IsReader : View → ℕ → Type 0
   IsReader v l = (l < length p.shape.links) × (l < length v.reads) × HasNode leads p v (reader_of p l)
       × IsRunning leads v (reader_of p l)
+
+  -- the area that it uses in this cycle
+  abbrev pub read_area : View → ℕ → ℕ
+  read_area v l = area_of (link_at p l) (read_cycle v l)
 
   -- LOADING AN AREA AS READER: not yet done in this cycle. It has data, with the number of a block of the link's pool
   abbrev pub LoadsAsReader : View → ℕ → Type 0

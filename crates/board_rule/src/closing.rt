@@ -23,6 +23,7 @@ type Words = atomic_table::Closed<Option<u64>, Global>;
 fn keep<C: Cut>(board: &Board, token: &mut BoardToken) -> BoardToken
     requires table { token.old.table_id ≡ board.now.table.shared.table_id }
     requires leads { token.old.me.0.number ≡ (lay board.now.plot).seats }
+    requires ended { HasEndedAll (lay board.now.plot) token.old.me.0 }
     requires left { C.left ≡ last_view (lay board.now.plot) token.old.me.0 }
     requires right { C.right ≡ kept_view (lay board.now.plot) token.old.me.0 }
     ensures left { (token.new.table_id ≡ token.old.table_id) × (token.new.me.0 ≡ C.left) }

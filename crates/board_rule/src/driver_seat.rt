@@ -126,7 +126,7 @@ impl BoardSeat for DriverSeat {
     fn load_io_as_reader(&mut self, board: &Board, link: u32) -> u64 {
         let end = self.read_at(link);
         let cycle = self.lead.cycle;
-        let found = reading::load_area::<Brand>(board, &mut self.token, link);
+        let found = reading::load_area::<Brand>(board, &mut self.token, link, cycle);
         self.reads[link as usize] = ReadView {
             loaded: cycle + 1,
             lowered: end.lowered,
@@ -173,7 +173,7 @@ impl BoardSeat for DriverSeat {
     fn store_need_data(&mut self, board: &Board, link: u32, id: u32) {
         let end = self.read_at(link);
         let cycle = self.lead.cycle;
-        reading::store_need::<Brand>(board, &mut self.token, link, id);
+        reading::store_need::<Brand>(board, &mut self.token, link, cycle, id);
         self.reads[link as usize] = ReadView {
             loaded: end.loaded,
             lowered: end.lowered,

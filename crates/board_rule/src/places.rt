@@ -4,7 +4,8 @@ ghost use Rattle.pw_base.specs.Layout.{io_place, readers_place, sample_place};
 ghost use Rattle.pw_base.specs.Pools.{pools_of};
 ghost use Rattle.board_rule.specs.Layout.{lay, nodes};
 ghost use Rattle.board_rule.specs.Spans.{block_at};
-ghost use Rattle.board_rule.specs.EndViews.{pool_at, writer_of, reader_of, filler_of, pool_of};
+ghost use Rattle.board_rule.specs.Areas.{area_of};
+ghost use Rattle.board_rule.specs.EndViews.{link_at, pool_at, writer_of, reader_of, filler_of, pool_of};
 
 use crate::board::Board;
 
@@ -85,13 +86,18 @@ impl Board {
         self.rows.links[link as usize].pool
     }
 
-    /// Where the area of a link stands.
-    pub(crate) fn area_word(&self, link: u32) -> usize
+    /// Where the area of a link stands that has the block of a stamp.
+    pub(crate) fn area_word(&self, link: u32, stamp: u64) -> usize
         requires { link < length self.now.plot.shape.links }
-        ensures is { result ≡ io_place self.now.plot.shape link 0 }
+        ensures is { result ≡ io_place self.now.plot.shape link (area_of (link_at (lay self.now.plot) link) stamp) }
         ensures there { result < self.now.table.shared.table_id.words }
     {
-        self.rows.links[link as usize].area
+        let row = self.rows.links[link as usize];
+        if row.delayed {
+            row.area + (stamp % 2) as usize
+        } else {
+            row.area
+        }
     }
 }
 

@@ -42,7 +42,8 @@ pub trait BoardSeat {
         requires phase { let p = lay board.now.plot in Lowers leads p (knows self.old) (p.place node) }
         ensures table { table self.new ≡ table self.old }
         ensures knows { let p = lay board.now.plot in
-            knows self.new ≡ lowered leads p (knows self.old) (p.place node) result };
+            knows self.new ≡ lowered leads p (knows self.old) (p.place node) result }
+        ensures word { 0 < result };
 
     /// Stores TRIGGERED of its cycle in the status word of the target that is owed.
     fn store_triggered(&mut self, board: &Board, node: u32)
