@@ -15,13 +15,14 @@ use Rattle.board_rule.specs.declared.view.BlockView.{BlockView}
 use Rattle.board_rule.specs.declared.view.BlockView.TheVariants.{Out}
 use Rattle.board_rule.specs.Layout.{Lay, first}
 use Rattle.board_rule.specs.StartViews.{Samples}
+use Rattle.board_rule.specs.View.{put}
 use Rattle.board_rule.specs.Areas.{late_by, area_of, stored_id, Span}
 use Rattle.board_rule.specs.BufferRule.{NamesBlocks, Buffers}
 use Rattle.board_rule.specs.BlockReadings.{Ends, is_busy, stamp, late_at}
 use Rattle.board_rule.proofs.WiringLemmas.{LinkAt, PoolAt, Wired, late_is, lag_some}
 use Rattle.board_rule.proofs.DelayLemmas.{late_most, same_area, area_most, areas_differ}
 use Rattle.board_rule.proofs.PaceLemmas.{Paced}
-use Rattle.board_rule.proofs.EndLemmas.{with_write, with_read, LinkIs, buffers_write, buffers_turn}
+use Rattle.board_rule.proofs.EndLemmas.{with_write, with_read, LinkIs, loads_more, buffers_write, buffers_turn}
 
 -- the store before the one that was made last
 one_ago : (loaded stored id : ℕ) (w : WriteView) (a : ℕ) → a ≡ 1
@@ -73,6 +74,7 @@ module _ (p : Lay) (s : ℕ → Span) (ends : Ends) (e : Samples) (ws : List ℕ
     pub loads_as_writer : from.begun ≡ from.over + 1 → writer.loaded ≡ from.over
         → Buffers p s (with_write ends l record writer { loaded = from.over + 1 }) e ws
     loads_as_writer run loaded = let y : WriteView = record writer { loaded = from.over + 1 } in
+        let more : writer.loaded ≤ from.over + 1 = omega arith in
         buffers_write p s ends e ws ws w l k at b y
         (λ q x is c. let o = b.links q l x k is c at in let wt = o.writer_turn in let w₀ = wt.0 in let w₁ = wt.1 in record {
           writer_turn = (w₀, omega arith, omega arith);
@@ -83,7 +85,11 @@ module _ (p : Lay) (s : ℕ → Span) (ends : Ends) (e : Samples) (ws : List ℕ
           unnamed = o.unnamed;
           named = o.named;
           found = o.found;
-        }) (λ q x is c. let o = (b.pools q x is).named l c in record { out = o.out; names = o.names }) (λ i _. refl)
+        }) more (λ q x is c m d. let o = (b.pools q x is).named l m c d in let mine = loads_more ends l y more m in record {
+          out = λ a n h i j z. o.out a n h i j (omega arith);
+          zero = o.zero;
+          names = o.names;
+        }) (λ i _. refl)
 
     -- the pool's node writes the link
     fills_from : (q : ℕ) (x : PoolShape) → PoolAt p q x → Contains x.links l → s (p.place x.port.node) ≡ from
@@ -121,9 +127,10 @@ module _ (p : Lay) (s : ℕ → Span) (ends : Ends) (e : Samples) (ws : List ℕ
           found = λ a h g t. dite (ℕ_discrete a 0) (λ v. absurd (omega arith))
               (λ v. o.found 0 (omega arith) g (omega arith) ∙ sym (one_ago writer.loaded (from.over + 1) id writer a (omega arith)));
         })
-        (λ r z ir cr. let same : q ≡ r = w.one_pool q r l x z is ir c cr in let pool : x ≡ z = cc in
-        subst (λ (v : ℕ × PoolShape). NamesBlocks p v.1 (late_at p l) (s (p.place v.1.port.node)).begun y (ends.blocks v.0))
-        (λ i. (same i, pool i)) names)
+        (omega arith)
+        (λ r z ir cr m d. let same : q ≡ r = w.one_pool q r l x z is ir c cr in let pool : x ≡ z = cc in
+        subst (λ (v : ℕ × PoolShape). NamesBlocks p v.1 (late_at p l) (put ends.writes l y m).loaded y (ends.blocks v.0))
+        (λ i. (same i, pool i)) (names m (subst (λ (v : PoolShape). Contains v.links m) (sym pool) d)))
         (λ i o. get_or-set_other ws writing_place i (io_word_of 2 id) 0 (o (area_of k (from.over + 1)) (area_most k (from.over + 1))))
       where
         y : WriteView
@@ -151,16 +158,17 @@ module _ (p : Lay) (s : ℕ → Span) (ends : Ends) (e : Samples) (ws : List ℕ
             ∙ ap (λ j. get_or ws (io_place p.shape l (area_of k (j + 0))) 0) (sym stored)
 
         -- what the link names now
-        names : NamesBlocks p x (late_at p l) (s (p.place x.port.node)).begun y (ends.blocks q)
-        names = let o = (b.pools q x is).named l c in let t = late_is p l k at in let most = late_most k in
-            let sp = fills_from q x is c in let g : (s (p.place x.port.node)).begun ≡ from.begun = ap (λ (z : Span). z.begun) sp in
-            let some = lag_some p x in
+        names : (m : ℕ) → Contains x.links m → NamesBlocks p x (late_at p l) (put ends.writes l y m).loaded y (ends.blocks q)
+        names m d = let o = (b.pools q x is).named l m c d in let t = late_is p l k at in let most = late_most k in
+            let mine = loads_more ends l y (omega arith) m in
+            let f : first p ≤ from.over = paced.first (p.place k.from.node) (w.from_in l k at) in
             record {
               out = λ a n h i j z. dite (ℕ_discrete a 0)
                   (λ v. ap (λ m. ends.blocks q (stored_id y m)) v ∙ out
                   ∙ ap (λ m. let u : BlockView = Out m in u) (let u : from.over + 1 ≡ n = omega arith in u))
                   (λ v. ap (ends.blocks q) (one_ago writer.loaded (from.over + 1) id writer a (omega arith))
-                  ∙ o.out 0 n (omega arith) (omega arith) j z);
+                  ∙ o.out 0 n (omega arith) (omega arith) j (omega arith));
+              zero = λ one a h i. one_ago writer.loaded (from.over + 1) id writer a (omega arith) ∙ o.zero one 0 (omega arith) (omega arith);
               names = λ a n m h i j low at_m. dite (ℕ_discrete a 0)
                   (λ v. ap (stored_id y) v ∙ (b.pools q x is).apart id m small low (ap is_busy out) (ap is_busy at_m)
                   (ap (stamp (s (p.place x.port.node)).over) out ∙ (let u : from.over + 1 ≡ n = omega arith in u)
@@ -189,6 +197,12 @@ module _ (p : Lay) (s : ℕ → Span) (ends : Ends) (e : Samples) (ws : List ℕ
         → stored_id writer (wrote_now run).0 < x.blocks
     finds_number run q x is c = let f : first p ≤ to.over = paced.first (p.place k.to.node) (w.to_in l k at) in let n = wrote_now run in
         let n₂ = n.2 in (b.links q l x k is c at).named n.0 n.1 (omega arith)
+
+    -- over a delayed link it is block 0 in the first cycle
+    pub finds_zero : (run : to.begun ≡ to.over + 1) → (q : ℕ) (x : PoolShape) → PoolAt p q x → Contains x.links l → late ≡ 1
+        → to.over ≡ first p → stored_id writer (wrote_now run).0 ≡ 0
+    finds_zero run q x is c one start = let n = wrote_now run in let n₁ = n.1 in let n₂ = n.2 in let t = late_is p l k at in
+        ((b.pools q x is).named l l c c).zero (omega arith) n.0 (omega arith) (omega arith)
 
     pub found_id : (run : to.begun ≡ to.over + 1) → reader.stored ≡ to.over
         → io_id_in (get_or ws reading_place 0) ≡ stored_id writer (wrote_now run).0

@@ -35,16 +35,17 @@ module _ (ends : Ends) (q b : ℕ) (y : BlockView) where
       (λ z. ap (λ (f : ℕ → BlockView). f c) (put_else ends.blocks q r (put (ends.blocks q) b y) z))
 
 module _ (p : Lay) where
-  -- a link of the pool x names the same blocks after the block n became y: it was no block that the link names, and if it is out now,
-  -- the link names it
-  pub names_put : (x : PoolShape) (late begun n : ℕ) (w : WriteView) (blocks : ℕ → BlockView) (y : BlockView)
-      → NamesBlocks p x late begun w blocks
-      → ((m : ℕ) → begun < m + lag p x → blocks n ≡ Out m → ⊥)
+  -- a link of the pool x names the same blocks after the block n became y: it was no block that the link names, and if it is
+  -- out now, the link names it
+  pub names_put : (x : PoolShape) (late loaded n : ℕ) (w : WriteView) (blocks : ℕ → BlockView) (y : BlockView)
+      → NamesBlocks p x late loaded w blocks
+      → ((m : ℕ) → loaded < m + lag p x → blocks n ≡ Out m → ⊥)
       → ((a m : ℕ) → a ≤ late → m + a ≡ w.stored → first p < m + late → y ≡ Out m → stored_id w a ≡ n)
-      → NamesBlocks p x late begun w (put blocks n y)
-  names_put x late begun n w blocks y o gone new = record {
+      → NamesBlocks p x late loaded w (put blocks n y)
+  names_put x late loaded n w blocks y o gone new = record {
     out = λ a m h i j z. put_else blocks n (stored_id w a) y
         (λ u. gone m z (ap blocks (sym u) ∙ o.out a m h i j z)) ∙ o.out a m h i j z;
+    zero = o.zero;
     names = λ a m c h i j low is. dite (ℕ_discrete c n)
         (λ u. new a m h i j (sym (put_here blocks n y) ∙ ap (put blocks n y) (sym u) ∙ is) ∙ sym u)
         (λ u. o.names a m c h i j low (sym (put_else blocks n c y u) ∙ is));
@@ -58,8 +59,8 @@ module _ (p : Lay) (s : ℕ → Span) (ends : Ends) (e : Samples) (ws after : Li
     (at : PoolAt p q x) (inside : n < x.blocks) (b : Buffers p s ends e ws) where
   -- the block n of the pool q becomes y, and only its words change
   pub buffers_block : (y : BlockView) → BlockOk p q n x (s (p.place x.port.node)) ends.reads e y after
-      → ((l : ℕ) → Contains x.links l
-      → NamesBlocks p x (late_at p l) (s (p.place x.port.node)).begun (ends.writes l) (put (ends.blocks q) n y))
+      → ((l m : ℕ) → Contains x.links l → Contains x.links m
+      → NamesBlocks p x (late_at p l) (ends.writes m).loaded (ends.writes l) (put (ends.blocks q) n y))
       → ((a : ℕ) → a < x.blocks → a ≢ n → is_busy (ends.blocks q a) ≡ true → is_busy y ≡ true
       → AreNear p x (s (p.place x.port.node)).over (ends.blocks q a) y)
       → ((j : ℕ) → (readers_place p.shape q n ≤ j → j ≤ readers_place p.shape q n + x.words → ⊥) → get_or after j 0 ≡ get_or ws j 0)

@@ -171,11 +171,11 @@ module _ (p : Lay) where
 
       pool : (q : ℕ) (x : PoolShape) → PoolAt p q x → PoolOk p x (s (p.place x.port.node)) start_ends.writes (first_block p.shape x)
       pool q x to = let lagged = lag_some p x in record {
-        named = λ l c. let k = w.there q l x to c in let late = w.late_in q l x to c in
+        named = λ l m c _. let k = w.there q l x to c in let late = w.late_in q l x to c in
             let y = ap (first_write (first p)) (get_or_from_slice_get p.shape.links l k.0 no_link k.1) in
             let t : late_at p l ≡ late_by k.0 = ap (λ o. unwrap_or (option_map late_by o) 0) k.1 in
-            subst (λ v. NamesBlocks p x (late_at p l) (s (p.place x.port.node)).begun v (first_block p.shape x)) (sym y)
-            (names k.0 x (late_at p l) (s (p.place x.port.node)).begun t late);
+            subst (λ v. NamesBlocks p x (late_at p l) (start_ends.writes m).loaded v (first_block p.shape x)) (sym y)
+            (names k.0 x (late_at p l) (start_ends.writes m).loaded t late);
         apart = λ a b ha hb ba bb _. let u = (busy_first x a ba).0 in let v = (busy_first x b bb).0 in omega arith;
         near = λ a b ha hb ba bb. let u : stamp (s (p.place x.port.node)).over (first_block p.shape x a) ≡ first p =
             ap (stamp (s (p.place x.port.node)).over) (busy_first x a ba).1 in
@@ -183,21 +183,23 @@ module _ (p : Lay) where
             ap (stamp (s (p.place x.port.node)).over) (busy_first x b bb).1 in omega arith;
       }
         where
-          names : (k : ShapeLink) (x : PoolShape) (late begun : ℕ) → late ≡ late_by k → late < lag p x
-              → NamesBlocks p x late begun (first_write (first p) k) (first_block p.shape x)
-          names k x late begun t small = by k.delayed refl
+          names : (k : ShapeLink) (x : PoolShape) (late loaded : ℕ) → late ≡ late_by k → late < lag p x
+              → NamesBlocks p x late loaded (first_write (first p) k) (first_block p.shape x)
+          names k x late loaded t small = by k.delayed refl
             where
-              by : (d : Bool) → k.delayed ≡ d → NamesBlocks p x late begun (first_write (first p) k) (first_block p.shape x)
+              by : (d : Bool) → k.delayed ≡ d → NamesBlocks p x late loaded (first_write (first p) k) (first_block p.shape x)
               by true d = let one : late_by k ≡ 1 = ap (λ b. cond {A = ℕ} b 1 0) d in
                   let id : (first_write (first p) k).id ≡ 0 = ap (λ b. cond b 0 no_block) d in record {
                     out = λ a n h i j _. let z : a ≡ 0 = omega arith in let m : first p ≡ n = omega arith in
                         ap (λ v. first_block p.shape x (stored_id (first_write (first p) k) v)) z ∙ ap (first_block p.shape x) id
                         ∙ late_first x (omega arith) ∙ ap (λ v. let y : BlockView = Out v in y) m;
+                    zero = λ _ a h i. let z : a ≡ 0 = omega arith in ap (stored_id (first_write (first p) k)) z ∙ id;
                     names = λ a n b h i j low is. let z : a ≡ 0 = omega arith in
                         ap (stored_id (first_write (first p) k)) z ∙ id ∙ sym (busy_first x b (ap is_busy is)).0;
                   }
               by false d = let none : late_by k ≡ 0 = ap (λ b. cond {A = ℕ} b 1 0) d in record {
                 out = λ a n h i j _. absurd (omega arith);
+                zero = λ one a h i. absurd (omega arith);
                 names = λ a n b h i j low is. absurd (omega arith);
               }
 

@@ -8,6 +8,7 @@ use Rattle.pw_base.specs.declared.pools.PoolShape.{PoolShape}
 use Rattle.pw_base.specs.Layout.{io_place, readers_place, sample_place}
 use Rattle.board_rule.specs.declared.view.WriteView.{WriteView}
 use Rattle.board_rule.specs.declared.view.ReadView.{ReadView}
+use Rattle.board_rule.specs.declared.view.BlockView.{BlockView}
 use Rattle.board_rule.specs.Layout.{Lay, first}
 use Rattle.board_rule.specs.StartViews.{Samples}
 use Rattle.board_rule.specs.View.{put}
@@ -25,6 +26,25 @@ with_write ends l y = record ends { writes = put ends.writes l y }
 
 abbrev pub with_read : Ends → ℕ → ReadView → Ends
 with_read ends l y = record ends { reads = put ends.reads l y }
+
+-- the writer's ends have loaded no less after a step of one
+pub loads_more : (ends : Ends) (l : ℕ) (y : WriteView) → (ends.writes l).loaded ≤ y.loaded → (n : ℕ)
+    → (ends.writes n).loaded ≤ (put ends.writes l y n).loaded
+loads_more ends l y later n = dite (ℕ_discrete n l)
+    (λ z. let now : (put ends.writes l y n).loaded ≡ y.loaded =
+    ap (λ (v : WriteView). v.loaded) (ap (put ends.writes l y) z ∙ put_here ends.writes l y) in
+    let was : (ends.writes n).loaded ≡ (ends.writes l).loaded = ap (λ v. (ends.writes v).loaded) z in omega arith)
+    (λ z. let now : (put ends.writes l y n).loaded ≡ (ends.writes n).loaded =
+    ap (λ (v : WriteView). v.loaded) (put_else ends.writes l n y z) in omega arith)
+
+-- what a link names is out for no longer where more is loaded
+names_later : (p : Lay) (x : PoolShape) (late before now : ℕ) (y : WriteView) (blocks : ℕ → BlockView) → before ≤ now
+    → NamesBlocks p x late before y blocks → NamesBlocks p x late now y blocks
+names_later p x late before now y blocks h o = record {
+  out = λ a n l e f z. o.out a n l e f (omega arith);
+  zero = o.zero;
+  names = o.names;
+}
 
 module _ (p : Lay) where
   -- the link l, whose ends are y and r, as the rule says it of a pool
@@ -63,10 +83,11 @@ module _ (p : Lay) where
     -- the writer's end and the areas change
     pub buffers_write : (y : WriteView) → ((q : ℕ) (x : PoolShape) → PoolAt p q x → Contains x.links l
         → LinkIs s l k y (ends.reads l) after x)
-        → ((q : ℕ) (x : PoolShape) → PoolAt p q x → Contains x.links l
-        → NamesBlocks p x (late_at p l) (s (p.place x.port.node)).begun y (ends.blocks q))
+        → (ends.writes l).loaded ≤ y.loaded
+        → ((q : ℕ) (x : PoolShape) → PoolAt p q x → Contains x.links l → (m : ℕ) → Contains x.links m
+        → NamesBlocks p x (late_at p l) (put ends.writes l y m).loaded y (ends.blocks q))
         → OnlyAreas → Buffers p s (with_write ends l y) e after
-    buffers_write y ok names same = record {
+    buffers_write y ok later names same = record {
       links = λ q m x j to c is. dite (ℕ_discrete m l)
           (λ z. let jk : j ≡ k = cc in subst (λ (v : ℕ × ShapeLink). LinkIs s v.0 v.1 (put ends.writes l y v.0) (ends.reads v.0) after x)
           (λ i. (sym z i, sym jk i))
@@ -81,12 +102,14 @@ module _ (p : Lay) where
         samples = λ i g. samples_else same q n i x to h ∙ o.samples i g;
       };
       pools = λ q x to. let o = b.pools q x to in record {
-        named = λ m c. dite (ℕ_discrete m l)
-            (λ z. subst (λ v. NamesBlocks p x (late_at p v) (s (p.place x.port.node)).begun (put ends.writes l y v) (ends.blocks q)) (sym z)
-            (subst (λ v. NamesBlocks p x (late_at p l) (s (p.place x.port.node)).begun v (ends.blocks q)) (sym (put_here ends.writes l y))
-            (names q x to (subst (Contains x.links) z c))))
-            (λ z. subst (λ v. NamesBlocks p x (late_at p m) (s (p.place x.port.node)).begun v (ends.blocks q))
-            (sym (put_else ends.writes l m y z)) (o.named m c));
+        named = λ m n c d. dite (ℕ_discrete m l)
+            (λ z. subst (λ v. NamesBlocks p x (late_at p v) (put ends.writes l y n).loaded (put ends.writes l y v) (ends.blocks q)) (sym z)
+            (subst (λ v. NamesBlocks p x (late_at p l) (put ends.writes l y n).loaded v (ends.blocks q)) (sym (put_here ends.writes l y))
+            (names q x to (subst (Contains x.links) z c) n d)))
+            (λ z. subst (λ v. NamesBlocks p x (late_at p m) (put ends.writes l y n).loaded v (ends.blocks q))
+            (sym (put_else ends.writes l m y z))
+            (names_later p x (late_at p m) (ends.writes n).loaded (put ends.writes l y n).loaded (ends.writes m) (ends.blocks q)
+            (loads_more ends l y later n) (o.named m n c d)));
         apart = o.apart;
         near = o.near;
       };

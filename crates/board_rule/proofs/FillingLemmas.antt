@@ -17,7 +17,7 @@ use Rattle.board_rule.specs.Areas.{Span}
 use Rattle.board_rule.specs.Areas.{stored_id}
 use Rattle.board_rule.specs.BufferRule.{BlockOk, Buffers}
 use Rattle.board_rule.specs.BlockReadings.{Ends, is_busy, stamp, filled, late_at, lag, readers_of}
-use Rattle.board_rule.proofs.WiringLemmas.{LinkAt, PoolAt, Wired, late_is, lag_some}
+use Rattle.board_rule.proofs.WiringLemmas.{LinkAt, PoolAt, Wired, late_is, lag_some, late_link}
 use Rattle.board_rule.proofs.PaceLemmas.{Paced}
 use Rattle.board_rule.proofs.AwaitedLemmas.{none_waiting, all_waiting}
 use Rattle.board_rule.proofs.BlockLemmas.{with_block, names_put, AreNear, buffers_block}
@@ -66,15 +66,34 @@ module _ (p : Lay) (s : ℕ → Span) (ends : Ends) (e : Samples) (ws : List ℕ
     pub due_named : (m : ℕ) → IsDue m → first p < maker.over → (l : ℕ) → Contains x.links l → late_at p l + 1 ≡ lag p x
         → (ends.writes l).stored ≡ maker.over → stored_id (ends.writes l) (late_at p l) ≡ n
     due_named m due new l c late stored = let soon = due.1 in
-        ((b.pools q x at).named l c).names (late_at p l) m n (omega arith) (omega arith) (omega arith) inside due.0
+        ((b.pools q x at).named l l c c).names (late_at p l) m n (omega arith) (omega arith) (omega arith) inside due.0
+
+    -- it is block 0 in the second cycle where the pool has a delayed link
+    pub due_zero : (m : ℕ) → IsDue m → ((l : ℕ) → Contains x.links l → (ends.writes l).loaded ≡ maker.over + 1) → lag p x ≡ 2
+        → maker.over ≡ first p + 1 → n ≡ 0
+    due_zero m due loaded two second = let late = late_link p q x at (omega arith) in let l : ℕ = late.0 in let k = spans_of l late.1 in
+        let o = b.links q l x k.0 at late.1 k.1 in let ok = b.pools q x at in let names = ok.named l l late.1 late.1 in
+        let wt = o.writer_turn in let w₀ = wt.0 in let w₁ = wt.1 in let now = loaded l late.1 in let soon = due.1 in let one = late.2 in
+        let over : (s (p.place k.0.from.node)).over ≡ maker.over = ap (λ (z : Span). z.over) k.2 in
+        let stored : (ends.writes l).stored ≡ maker.over = dite (ℕ_discrete (ends.writes l).stored maker.over) (λ z. z)
+        (λ z. let is = names.out 0 (maker.over + 1) (omega arith) (omega arith) (omega arith) (omega arith) in
+        let st : stamp maker.over (ends.blocks q (stored_id (ends.writes l) 0)) ≡ maker.over + 1 = ap (stamp maker.over) is in
+        let sn : stamp maker.over (ends.blocks q n) ≡ m = ap (stamp maker.over) due.0 in
+        let e = late_is p l k.0 k.1 in
+        let near = ok.near (stored_id (ends.writes l) 0) n (o.named 0 (omega arith) (omega arith)) inside (ap is_busy is) (ap is_busy due.0) in
+        absurd (omega arith)) in
+        sym (due_named m due (omega arith) l late.1 (omega arith) stored) ∙ ap (stored_id (ends.writes l)) one
+        ∙ names.zero one 1 (omega arith) (omega arith)
 
     -- the writer finds that all readers of it are gone
     pub finds_none : (m : ℕ) → IsDue m → maker.begun ≡ maker.over + 1 → get_or ws base 0 ≡ 0
     finds_none m due run = let late = due.1 in block_is.readers ∙ ap (readers_of p ends.reads x) due.0
         ∙ none_waiting p x ends.reads m (λ l c. let a = readers_ended run l c in let d = w.late_in q l x at c in omega arith)
 
-    pub frees : (m : ℕ) → IsDue m → maker.begun ≡ maker.over + 1 → Buffers p s (with_block ends q n Free) e ws
-    frees m due run = let late = due.1 in buffers_block p s ends e ws ws w q n x at inside b Free
+    -- and frees it, once all links of the pool are loaded in this cycle
+    pub frees : (m : ℕ) → IsDue m → maker.begun ≡ maker.over + 1
+        → ((l : ℕ) → Contains x.links l → (ends.writes l).loaded ≡ maker.over + 1) → Buffers p s (with_block ends q n Free) e ws
+    frees m due run loaded = let late = due.1 in buffers_block p s ends e ws ws w q n x at inside b Free
         record {
           low = λ z. absurd (true≢false (sym z));
           high = λ z. absurd (true≢false (sym z));
@@ -82,8 +101,9 @@ module _ (p : Lay) (s : ℕ → Span) (ends : Ends) (e : Samples) (ws : List ℕ
           readers = finds_none m due run;
           samples = λ i l. absurd (omega arith);
         }
-        (λ l c. names_put p x (late_at p l) maker.begun n (ends.writes l) (ends.blocks q) Free ((b.pools q x at).named l c)
-        (λ t h is. let same : t ≡ m = ap (stamp 0) (sym is ∙ due.0) in absurd (omega arith))
+        (λ l k c d. names_put p x (late_at p l) (ends.writes k).loaded n (ends.writes l) (ends.blocks q) Free
+        ((b.pools q x at).named l k c d)
+        (λ t h is. let same : t ≡ m = ap (stamp 0) (sym is ∙ due.0) in let now = loaded k d in absurd (omega arith))
         (λ a t h i j z. absurd (free_out t z)))
         (λ a ha o ba z. absurd (true≢false (sym z))) (λ j o. refl)
 
@@ -124,7 +144,8 @@ module _ (p : Lay) (s : ℕ → Span) (ends : Ends) (e : Samples) (ws : List ℕ
               (λ z. get_or-set_other ws (sample_place p.shape q n i) (sample_place p.shape q n j) (word i) 0 (λ v. z (omega arith))
               ∙ early j (omega arith));
         }
-        (λ l c. names_put p x (late_at p l) maker.begun n (ends.writes l) (ends.blocks q) (Filling (i + 1)) ((b.pools q x at).named l c)
+        (λ l k c d. names_put p x (late_at p l) (ends.writes k).loaded n (ends.writes l) (ends.blocks q) (Filling (i + 1))
+        ((b.pools q x at).named l k c d)
         (λ t h is. ⊎_elim (λ (f : ends.blocks q n ≡ Filling i). fill_out i t (sym f ∙ is)) (λ f. free_out t (sym f.0 ∙ is)) can)
         (λ a t h u v z. absurd (fill_out (i + 1) t z)))
         (λ a ha o ba _. ⊎_elim (λ (f : ends.blocks q n ≡ Filling i). filling_near i f (Filling (i + 1)) refl a ha o ba)
@@ -153,7 +174,8 @@ module _ (p : Lay) (s : ℕ → Span) (ends : Ends) (e : Samples) (ws : List ℕ
               ∙ block_is.samples j (let z : filled x.words (ends.blocks q n) ≡ x.words = ap (filled x.words) full in omega arith)
               ∙ ap (λ z. packed (samples_of p e (stamp maker.over z) q) j) full;
         }
-        (λ l c. names_put p x (late_at p l) maker.begun n (ends.writes l) (ends.blocks q) (Out (maker.over + 1)) ((b.pools q x at).named l c)
+        (λ l k c d. names_put p x (late_at p l) (ends.writes k).loaded n (ends.writes l) (ends.blocks q) (Out (maker.over + 1))
+        ((b.pools q x at).named l k c d)
         (λ t h is. fill_out x.words t (sym full ∙ is))
         (λ a t h u v z. let now : maker.over + 1 ≡ t = ap (stamp 0) z in named_now l c a t h u v now))
         (λ a ha o ba _. filling_near x.words full (Out (maker.over + 1)) refl a ha o ba)
@@ -163,7 +185,9 @@ module _ (p : Lay) (s : ℕ → Span) (ends : Ends) (e : Samples) (ws : List ℕ
         named_now : (l : ℕ) → Contains x.links l → (a t : ℕ) → a ≤ late_at p l → t + a ≡ (ends.writes l).stored
             → first p < t + late_at p l → maker.over + 1 ≡ t → stored_id (ends.writes l) a ≡ n
         named_now l c a t h u v now = let some = lag_some p x in let k = spans_of l c in let o = b.links q l x k.0 at c k.1 in
-            let ok = b.pools q x at in let is = (ok.named l c).out a t h u v (omega arith) in let e = late_is p l k.0 k.1 in
+            let wt = o.writer_turn in let w₂ = wt.2 in
+            let f : (s (p.place k.0.from.node)).begun ≡ maker.begun = ap (λ (z : Span). z.begun) k.2 in
+            let ok = b.pools q x at in let is = (ok.named l l c c).out a t h u v (omega arith) in let e = late_is p l k.0 k.1 in
             let st : stamp maker.over (ends.blocks q n) ≡ maker.over + 1 = ap (stamp maker.over) full in
             let other : stamp maker.over (ends.blocks q (stored_id (ends.writes l) a)) ≡ t = ap (stamp maker.over) is in
             ok.apart (stored_id (ends.writes l) a) n (o.named a (omega arith) (omega arith)) inside (ap is_busy is) (ap is_busy full)

@@ -13,10 +13,10 @@ use Rattle.board_rule.specs.StartViews.{Samples}
 use Rattle.board_rule.specs.SampleWords.{packed, samples_of}
 use Rattle.board_rule.specs.Areas.{Span}
 use Rattle.board_rule.specs.BufferRule.{BlockOk, Buffers}
-use Rattle.board_rule.specs.BlockReadings.{Ends, is_busy, stamp, late_at, lag}
+use Rattle.board_rule.specs.BlockReadings.{Ends, is_busy, stamp, lag}
 use Rattle.board_rule.proofs.WiringLemmas.{LinkAt, PoolAt, Wired, made, lag_some}
 use Rattle.board_rule.proofs.DelayLemmas.{link_stays}
-use Rattle.board_rule.proofs.StayLemmas.{SameBuffers, io_same, readers_same, samples_same, names_later}
+use Rattle.board_rule.proofs.StayLemmas.{SameBuffers, io_same, readers_same, samples_same}
 use Rattle.board_rule.proofs.PaceLemmas.{Paced}
 
 fill_out : (j n : ℕ) → (let z : BlockView = Filling j in z) ≡ Out n → ⊥
@@ -40,11 +40,12 @@ module _ (p : Lay) where
       let f = paced.first (p.place k.0.from.node) (w.from_in l k.0 k.1) in
       let over : (s (p.place k.0.from.node)).over ≡ (s m).over = ap (λ z. (s z).over) from in
       let mine : (s (p.place x.port.node)).over ≡ (s m).over = ap (λ z. (s z).over) is in
-      let begun : (s (p.place x.port.node)).begun ≡ (s m).begun = ap (λ z. (s z).begun) is in
+      let begun : (s (p.place k.0.from.node)).begun ≡ (s m).begun = ap (λ z. (s z).begun) from in
+      let wt = o.writer_turn in let w₂ = wt.2 in
       let some = lag_some p x in let ok = b.pools q x at in
       let id : (ends.writes l).id < x.blocks = o.named 0 (omega arith) (omega arith) in
       let out : ends.blocks q (ends.writes l).id ≡ Out ((s m).over + 1) =
-      (ok.named l a.1).out 0 ((s m).over + 1) (omega arith) (omega arith) (omega arith) (omega arith) in
+      (ok.named l l a.1 a.1).out 0 ((s m).over + 1) (omega arith) (omega arith) (omega arith) (omega arith) in
       let st : stamp (s (p.place x.port.node)).over (ends.blocks q (ends.writes l).id) ≡ (s m).over + 1 =
       ap (stamp (s (p.place x.port.node)).over) out in
       let near = ok.near (ends.writes l).id n id h (ap is_busy out) busy in
@@ -84,9 +85,8 @@ module _ (p : Lay) where
         (λ z. let a = over (p.place k.to.node) ht z in omega arith))
         (begun (p.place k.to.node) ht) (io_same p w ws after same l k to);
     blocks = λ q n x at h. dite (ℕ_discrete (p.place x.port.node) m) (λ z. mine q n x at h z) (λ z. others q n x at h z);
-    pools = λ q x at. let o = b.pools q x at in let k = (made p w q x at).0 in record {
-      named = λ l c. names_later p x (late_at p l) (s (p.place x.port.node)).begun (t (p.place x.port.node)).begun (ends.writes l)
-          (ends.blocks q) (begun (p.place x.port.node) k) (o.named l c);
+    pools = λ q x at. let o = b.pools q x at in record {
+      named = o.named;
       apart = λ a c ha hc ba bc z. o.apart a c ha hc ba bc (stays q x at a ha ba ∙ z ∙ sym (stays q x at c hc bc));
       near = λ a c ha hc ba bc. let z = o.near a c ha hc ba bc in let u = stays q x at a ha ba in let v = stays q x at c hc bc in
           omega arith;

@@ -54,14 +54,11 @@ module _ (p : Lay) (s : ℕ → Span) (ends : Ends) (e : Samples) (ws : List ℕ
         let f : first p ≤ to.over = paced.first (p.place k.to.node) (w.to_in l k at) in
         let same : reader.id ≡ stored_id (ends.writes l) n.0 = o.found n.0 n.1 (omega arith) (omega arith) in
         let id : stored_id (ends.writes l) n.0 < x.blocks = o.named n.0 n.1 (omega arith) in
-        let m = w.there q l x is c in let k_is : m.0 ≡ k = cc in
-        let node : s (p.place x.port.node) ≡ s (p.place k.from.node) = sym (ap (λ (z : PortId). s (p.place z.node)) m.2)
-        ∙ ap (λ (z : ShapeLink). s (p.place z.from.node)) k_is in
         let near = paced.near (p.place k.from.node) (p.place k.to.node) (w.from_in l k at) (w.to_in l k at) in
-        let begun : (s (p.place x.port.node)).begun ≡ (s (p.place k.from.node)).begun = ap (λ (z : Span). z.begun) node in (
+        let wt = o.writer_turn in let w₂ = wt.2 in (
           omega arith,
           ap (ends.blocks q) same
-              ∙ ((b.pools q x is).named l c).out n.0 stamp_read (omega arith) (omega arith) (omega arith) (omega arith),
+              ∙ ((b.pools q x is).named l l c c).out n.0 stamp_read (omega arith) (omega arith) (omega arith) (omega arith),
         )
 
     block_is : BlockOk p q reader.id x (s (p.place x.port.node)) ends.reads e (ends.blocks q reader.id) ws

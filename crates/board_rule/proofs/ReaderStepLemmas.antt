@@ -30,7 +30,7 @@ use Rattle.board_rule.proofs.SeatLemmas.{stay_step}
 use Rattle.board_rule.proofs.HolderLemmas.{got, link_there, pool_here, now_running, new_read, read_step}
 use Rattle.board_rule.proofs.KeepLemmas.{holds_ends}
 use Rattle.board_rule.proofs.WriterStepLemmas.{unread_word, room_in, id_of}
-use Rattle.board_rule.proofs.AreaLemmas.{link_is as area_is, wrote_now, finds_have, finds_number, loads_as_reader, stores_need}
+use Rattle.board_rule.proofs.AreaLemmas.{link_is as area_is, wrote_now, finds_have, finds_number, finds_zero, loads_as_reader, stores_need}
 use Rattle.board_rule.proofs.ReaderLemmas.{reads_block, finds_sample, finds_some, lowers_block}
 
 -- where a link's reader works, the seat of a follower is split off, and with it the samples are named
@@ -52,7 +52,7 @@ has_table p g words views s paced l k at w run = let n : ℕ = p.place k.to.node
 
 module _ (p : Lay) {S : Type 0} (slots id : ℕ) (me : Me S View) (after : ℕ → View) (says : ℕ → Type 0) where
   pub load_reader_allowed : (b : Bool) (l : ℕ) → LoadsAsReader b p me.0 l → ((found : ℕ) → after found ≡ loaded_as_reader b p me.0 l found)
-      → ((found : ℕ) → IsPublished b p l found → says found)
+      → ((found : ℕ) → IsPublished b p me.0 l found → says found)
       → Allows (Holds p) slots id me (io_place p.shape l (read_area b p me.0 l)) (λ n. n) (Learns after says me)
   load_reader_allowed b l h is_after it s r _ at fits =
       let g = r.whole in let w = wired_in p g s.words s.views r.seated in let k : ShapeLink = link_at p l in
@@ -84,7 +84,16 @@ module _ (p : Lay) {S : Type 0} (slots id : ℕ) (me : Me S View) (after : ℕ �
             (unread_word s.words i (λ ws. Buffers p sp (new_read p g.ends l y) g.expect ws)
             (subst (λ (z : ReadView). Buffers p sp (new_read p g.ends l z) g.expect s.words)
             (λ j. record (is j) { loaded = c j + 1; id = io_id_in (get_or s.words (sym here j) 0) }) new)),
-        (sym (is_after found), refl, it found (word ∙ ap (io_word_of 2) (sym number), (omega arith))),
+        (
+          sym (is_after found),
+          refl,
+          it found (
+            word ∙ ap (io_word_of 2) (sym number),
+            (omega arith),
+            (λ late start. number ∙ finds_zero p sp g.ends g.expect s.words w paced bs l k there run (pool_of p l)
+                (pool_at p (pool_of p l)) pool.0 pool.1 (sym (late_is p l k there) ∙ late) (c ∙ start)),
+          ),
+        ),
       )
 
   pub store_need_allowed : (b : Bool) (l num : ℕ) → StoresNeed b p me.0 l num → ((found : ℕ) → after found ≡ need_stored b p me.0 l)

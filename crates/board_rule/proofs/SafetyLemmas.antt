@@ -1,5 +1,5 @@
 -- Buffer safety, from the rule between any two steps: no block has two writers, or a writer and a reader.
-use Rattle.std.proofs.Common.{◌≡◌, ◌≢◌, ℕ, ◌+◌, ◌<◌, ◌≤◌, true, sym, ap, ◌∙◌, arith}
+use Rattle.std.proofs.Common.{◌≡◌, ◌≢◌, ℕ, ◌+◌, ◌<◌, ◌≤◌, Bool, true, cond, sym, ap, ◌∙◌, arith, ne_eqb}
 use Rattle.std.specs.Prelude.{Contains, slice_index}
 use mathlib.Core.Option.{some}
 use lib.ListN.{get_elem?}
@@ -7,15 +7,20 @@ use Rattle.atomic_table.specs.Table.{State}
 use Rattle.pw_base.specs.declared.shape.ShapeLink.{ShapeLink}
 use Rattle.pw_base.specs.declared.pools.PoolShape.{PoolShape}
 use Rattle.pw_base.specs.Layout.{readers_place}
+use Rattle.board_rule.specs.declared.view.ReadView.{ReadView}
 use Rattle.board_rule.specs.declared.view.BlockView.{BlockView}
 use Rattle.board_rule.specs.declared.view.BlockView.TheVariants.{Free, Filling, Out}
 use Rattle.board_rule.specs.declared.view.View.{View}
 use Rattle.board_rule.specs.Layout.{Lay}
-use Rattle.board_rule.specs.Spans.{spans}
+use Rattle.board_rule.specs.View.{unread}
+use Rattle.board_rule.specs.Spans.{spans, holder, block_at}
 use Rattle.board_rule.specs.BlockReadings.{Ends, is_busy, stamp, lag}
 use Rattle.board_rule.specs.BoardRule.{Holds}
+use Rattle.board_rule.specs.EndViews.{link_at, pool_at, pool_of, reader_of, filler_of, read_of, block_of}
+use Rattle.board_rule.specs.BufferSafety.{AreSafe}
 use Rattle.board_rule.proofs.WiringLemmas.{LinkAt, PoolAt, Wired, wired}
 use Rattle.board_rule.proofs.PaceLemmas.{paces}
+use Rattle.board_rule.proofs.HolderLemmas.{got, link_there, pool_here, now_running}
 use Rattle.board_rule.proofs.ReaderLemmas.{reads_block, finds_some}
 
 out_free : (n : ℕ) → (let z : BlockView = Out n in z) ≡ Free → ⊥
@@ -93,3 +98,28 @@ module _ (p : Lay) {S : Type 0} (s : State S View) (h : Holds p s) where
     pub is_counted : 0 < slice_index s.words (readers_place p.shape q block)
     is_counted = finds_some p (spans p h.whole) ends h.whole.expect s.words wires
         (paces p h.whole s.words wires h.activations) h.buffers l k at q x is c r.runs r.loaded r.here
+
+-- so buffers are safe, whatever the seats
+pub are_safe : (p : Lay) {S : Type 0} (s : State S View) → Holds p s → AreSafe p s.views
+are_safe p s h = record {
+  one_writer = λ i j q b v u at to x y. let a = x.0.1.0 in let c = y.0.1.0 in let low = a.loops in let mine = a.owned in
+      one_seat p s h i j v u at to (omega arith) (sym a.owned ∙ c.owned);
+  no_reader = λ i j l b leads v u at to r x.
+      let g = h.whole in let w = wires p s h in let k : ShapeLink = link_at p l in let there = link_there p l r.0.0.0 in
+      let now = now_running p s h i leads v (reader_of p l) at r.0.0.2 r.0.0.3 in let c = now.0 in
+      let is : g.ends.reads l ≡ read_of v l = sym (got v.reads l (g.ends.reads l) (unread 0)
+      ((h.seated.knows i v at).ends.of_read l k there now.2)) in
+      let q : ℕ = pool_of p l in let pool = pool_here p w l k there in
+      let in_turn : IsAtBlock p s h l k = record {
+        runs = now.1;
+        loaded = ap (λ (z : ReadView). z.loaded) is ∙ r.0.1 ∙ ap (λ n. n + 1) (sym c);
+        here = ap (λ (z : ReadView). z.lowered) is ∙ r.1 ∙ sym c;
+      } in
+      let out = (block_is_out p s h l q k (pool_at p q) there pool.0 pool.1 in_turn).1 in
+      let number : b ≡ (g.ends.reads l).id = r.0.3 ∙ ap (λ (z : ReadView). z.id) (sym is) in
+      let n : ℕ = filler_of p q in let has = x.0.1.0 in
+      let holds : holder p n ≡ u.number = ap (λ z. cond z p.seats (p.seat_of n)) (ne_eqb n p.driver has.follows) ∙ has.owned in
+      let mine : block_of p u q b ≡ g.ends.blocks q b = got u.blocks (block_at p q b) (g.ends.blocks q b) Free
+      ((h.seated.knows j u to).ends.of_block q b (pool_at p q) pool.0 x.1 holds) in
+      x.2 out.0 (mine ∙ ap (g.ends.blocks q) number ∙ out.1);
+}

@@ -6,11 +6,9 @@ use Rattle.pw_base.specs.Layout.{event_count, io_place, late_place, event_place,
 use Rattle.board_rule.specs.Layout.{Lay, nodes, first}
 use Rattle.board_rule.specs.StartViews.{Samples}
 use Rattle.board_rule.specs.SampleWords.{packed, samples_of}
-use Rattle.board_rule.specs.declared.view.WriteView.{WriteView}
-use Rattle.board_rule.specs.declared.view.BlockView.{BlockView}
 use Rattle.board_rule.specs.Areas.{late_by, Span}
-use Rattle.board_rule.specs.BufferRule.{NamesBlocks, PoolOk, Buffers}
-use Rattle.board_rule.specs.BlockReadings.{Ends, stamp, late_at}
+use Rattle.board_rule.specs.BufferRule.{PoolOk, Buffers}
+use Rattle.board_rule.specs.BlockReadings.{Ends, stamp}
 use Rattle.board_rule.proofs.WiringLemmas.{LinkAt, PoolAt, Wired, made}
 use Rattle.board_rule.proofs.DelayLemmas.{link_stays}
 
@@ -35,14 +33,6 @@ module _ (p : Lay) where
         → get_or after (sample_place p.shape q b i) 0 ≡ get_or ws (sample_place p.shape q b i) 0
     samples_same q b i x at h = let r = (w.readers_in q b x at h).0 in same (sample_place p.shape q b i) (inr (omega arith))
 
-  -- what a link names does not change where its writer begins a cycle
-  pub names_later : (x : PoolShape) (late before now : ℕ) (y : WriteView) (blocks : ℕ → BlockView) → before ≤ now
-      → NamesBlocks p x late before y blocks → NamesBlocks p x late now y blocks
-  names_later x late before now y blocks h o = record {
-    out = λ a n l e f z. o.out a n l e f (omega arith);
-    names = o.names;
-  }
-
   -- no node ends
   pub buffers_stay : (s t : ℕ → Span) (ends : Ends) (e : Samples) (ws after : List ℕ) → Wired p
       → ((n : ℕ) → n < nodes p → (t n).over ≡ (s n).over) → ((n : ℕ) → n < nodes p → (s n).begun ≤ (t n).begun) → SameBuffers ws after
@@ -66,8 +56,7 @@ module _ (p : Lay) where
         };
     pools = λ q x at. let o = b.pools q x at in let m = (made p w q x at).0 in let up = over (p.place x.port.node) m in
         subst (λ k. PoolOk p x record { over = k; begun = (t (p.place x.port.node)).begun } ends.writes (ends.blocks q)) (sym up) record {
-          named = λ l c. names_later x (late_at p l) (s (p.place x.port.node)).begun (t (p.place x.port.node)).begun (ends.writes l)
-              (ends.blocks q) (begun (p.place x.port.node) m) (o.named l c);
+          named = o.named;
           apart = o.apart;
           near = o.near;
         };

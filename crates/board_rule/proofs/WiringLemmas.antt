@@ -1,9 +1,10 @@
 -- What the laws of buffers use of a pooled shape: the ends of links, pools and their links, and places of words.
 use Rattle.std.proofs.Common.{◌≡◌, ◌≢◌, ℕ, ◌+◌, ◌*◌, ◌<◌, ◌≤◌, ◌==◌, ◌&&◌, ◌||◌, Bool, true, false, true≢false, cond}
 use Rattle.std.proofs.Common.{not, [], get_or, ◌⊎◌, refl, sym, ap, ◌∙◌, subst, arith, eq-eqb}
-use Rattle.std.specs.Prelude.{Contains, Some, None, slice_get, option_map, unwrap_or}
+use Rattle.std.specs.Prelude.{Contains, Any, Some, None, slice_get, option_map, unwrap_or}
 use Rattle.std.proofs.lemmas.Option.{get_or_from_slice_get, slice_get-get_or, slice_get-map, slice_get_within}
-use Rattle.std.proofs.lemmas.List.Folds.{list_any_at}
+use Rattle.std.proofs.lemmas.List.Elements.{All-contains, All-contains_itself, All-filter, filter_passes}
+use Rattle.std.proofs.lemmas.List.Folds.{Any-from_list_any, list_any_at}
 use Rattle.pw_base.specs.declared.ids.PortId.{PortId}
 use Rattle.pw_base.specs.declared.shape.Shape.{Shape}
 use Rattle.pw_base.specs.declared.shape.ShapeLink.{ShapeLink}
@@ -16,7 +17,7 @@ use Rattle.board_rule.specs.Sums.{times}
 use Rattle.board_rule.specs.Layout.{Lay, IsSound, nodes}
 use Rattle.board_rule.specs.Areas.{late_by}
 use Rattle.board_rule.specs.BlockReadings.{late_at, lag}
-use Rattle.pw_base.proofs.PoolLemmas.{port_same}
+use Rattle.pw_base.proofs.PoolLemmas.{port_same, same_port}
 use Rattle.pw_base.proofs.PrecedenceLemmas.{holds_at}
 use Rattle.std.specs.List.{list_any}
 use Rattle.board_rule.proofs.PortLemmas.{Differ, differ_at, differ_ports, has_port, all_ports, id_from, has_id, differ_ids}
@@ -203,3 +204,43 @@ wired p sound pooled = record {
           slice_get-map (pool_of p.shape) (sources_of p.shape) c.0 ∙ ap (option_map (pool_of p.shape)) e,
           has_id p.shape.links k.from l k lt (ap (λ (j : ShapeLink). j.from) here),
         )
+
+is_two : (b : Bool) → 1 < cond {A = ℕ} b 2 1 → b ≡ true
+is_two true h = refl
+is_two false h = absurd (omega arith)
+
+-- a pool that is late has a delayed link
+pub late_link : (p : Lay) (q : ℕ) (x : PoolShape) → PoolAt p q x → 1 < lag p x → (l : ℕ) × Contains x.links l × (late_at p l ≡ 1)
+late_link p q x at two = (l, subst (λ (z : PoolShape). Contains z.links l) (sym source.2) has, late)
+  where
+    delayed : Any (λ (k : ShapeLink). k.delayed ≡ true) (links_from p.shape x.port)
+    delayed = Any-from_list_any (λ (k : ShapeLink). k.delayed) (links_from p.shape x.port)
+        (is_two (list_any (λ (k : ShapeLink). k.delayed) (links_from p.shape x.port)) two)
+
+    k : ShapeLink
+    k = delayed.1
+
+    from_port : Contains (links_from p.shape x.port) k
+    from_port = (delayed.0, delayed.2, delayed.3)
+
+    in_shape : Contains p.shape.links k
+    in_shape = All-contains (Contains p.shape.links) (links_from p.shape x.port) k
+        (All-filter (λ (j : ShapeLink). is_port j.from x.port) (Contains p.shape.links) p.shape.links (All-contains_itself p.shape.links)) from_port
+
+    of_port : k.from ≡ x.port
+    of_port = same_port k.from x.port (All-contains (λ (j : ShapeLink). is_port j.from x.port ≡ true) (links_from p.shape x.port) k
+        (filter_passes (λ (j : ShapeLink). is_port j.from x.port) p.shape.links) from_port)
+
+    l : ℕ
+    l = in_shape.0
+
+    source : (port : PortId) × (slice_get (sources_of p.shape) q ≡ Some port) × (x ≡ pool_of p.shape port)
+    source = pool_source p.shape q x at
+
+    has : Contains (link_ids_from p.shape.links source.0) l
+    has = has_id p.shape.links source.0 l k in_shape.1
+        (ap (λ (j : ShapeLink). j.from) in_shape.2 ∙ of_port ∙ ap (λ (z : PoolShape). z.port) source.2)
+
+    late : late_at p l ≡ 1
+    late = late_is p l k (slice_get-get_or p.shape.links l k in_shape.1 ∙ ap (λ (j : ShapeLink). Some j) in_shape.2)
+        ∙ ap (λ b. cond {A = ℕ} b 1 0) delayed.4

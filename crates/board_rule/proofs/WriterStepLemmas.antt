@@ -1,5 +1,6 @@
 -- What each step of a writer on buffers allows.
 use Rattle.std.proofs.Common.{◌≡◌, ℕ, ◌+◌, ◌-◌, ◌*◌, ◌/◌, ◌<◌, ◌≤◌, inl, inr, ⊎_elim, true, false, cond, ltb, List, []}
+use Rattle.std.specs.Prelude.{Contains}
 use Rattle.std.proofs.Common.{length, set, get_or, refl, sym, ap, ◌∙◌, subst, arith, length-set}
 use lib.Seq.{set-get_or}
 use Rattle.atomic_table.specs.Table.{Me, keeps, Allows}
@@ -23,7 +24,7 @@ use Rattle.board_rule.specs.Spans.{spans, holder, block_at}
 use Rattle.board_rule.specs.BoardRule.{Seated, Holds}
 use Rattle.board_rule.specs.EndViews.{link_at, pool_at, pool_of, writer_of, filler_of, write_of, block_of}
 use Rattle.board_rule.specs.WriterSteps.{write_cycle, write_area, LoadsAsWriter, loaded_as_writer, IsGivenBack, StoresHave, have_stored}
-use Rattle.board_rule.specs.BlockSteps.{fill_cycle, LoadsReaders, IsReturned, readers_loaded, StoresSample, sample_stored, StoresReaders}
+use Rattle.board_rule.specs.BlockSteps.{fill_cycle, LoadsReaders, IsReturned, IsZeroAtSecond, readers_loaded, StoresSample, sample_stored, StoresReaders}
 use Rattle.board_rule.specs.BlockSteps.{readers_stored}
 use Rattle.board_rule.specs.Plays.{Turns, Learns}
 use Rattle.board_rule.proofs.LayoutLemmas.{count_is}
@@ -35,7 +36,7 @@ use Rattle.board_rule.proofs.HolderLemmas.{got, link_there, pool_there, pool_her
 use Rattle.board_rule.proofs.HolderLemmas.{block_step}
 use Rattle.board_rule.proofs.KeepLemmas.{holds_ends}
 use Rattle.board_rule.proofs.AreaLemmas.{link_is as area_is, finds_need, loads_as_writer, stores_have}
-use Rattle.board_rule.proofs.FillingLemmas.{IsDue, due_named, finds_none, frees, CanFill, fills, announces}
+use Rattle.board_rule.proofs.FillingLemmas.{IsDue, due_named, due_zero, finds_none, frees, CanFill, fills, announces}
 
 -- a load leaves the words
 pub unread_word : (ws : List ℕ) (i : ℕ) (f : List ℕ → Type 0) → f ws → f (set ws i (get_or ws i 0))
@@ -127,7 +128,7 @@ module _ (p : Lay) {S : Type 0} (slots id : ℕ) (me : Me S View) (after : ℕ �
       )
 
   pub load_readers_allowed : (q n : ℕ) → LoadsReaders p me.0 q n → ((found : ℕ) → after found ≡ readers_loaded p me.0 q n found)
-      → ((found : ℕ) → found ≡ 0 → IsReturned p me.0 q n → says found)
+      → ((found : ℕ) → found ≡ 0 → IsReturned p me.0 q n → IsZeroAtSecond p me.0 q n → says found)
       → Allows (Holds p) slots id me (readers_place p.shape q n) (λ k. k) (Learns after says me)
   load_readers_allowed q n h is_after it s r _ at fits =
       let g = r.whole in let w = wired_in p g s.words s.views r.seated in let x : PoolShape = pool_at p q in
@@ -142,7 +143,12 @@ module _ (p : Lay) {S : Type 0} (slots id : ℕ) (me : Me S View) (after : ℕ �
       let paced = paces p g s.words w r.activations in let sp = spans p g in
       let i : ℕ = readers_place p.shape q n in let found : ℕ = get_or s.words i 0 in
       let none = finds_none p sp g.ends g.expect s.words w paced r.buffers q n x there h.0.1 stamp is run in
-      let new = frees p sp g.ends g.expect s.words w paced r.buffers q n x there h.0.1 stamp is run in
+      let written : (l : ℕ) → Contains x.links l → g.ends.writes l ≡ write_of me.0 l = λ l in_pool. let k = w.there q l x there in_pool in
+      sym (got me.0.writes l (g.ends.writes l) (unwritten 0) ((r.seated.knows id me.0 at).ends.of_write l k.0 k.1
+      (ap (λ (z : PortId). holder p (p.place z.node)) k.2 ∙ now.2))) in
+      let loaded : (l : ℕ) → Contains x.links l → (g.ends.writes l).loaded ≡ (sp m).over + 1 = λ l in_pool.
+      ap (λ (z : WriteView). z.loaded) (written l in_pool) ∙ h.1 l in_pool ∙ ap (λ z. z + 1) (sym c) in
+      let new = frees p sp g.ends g.expect s.words w paced r.buffers q n x there h.0.1 stamp is run loaded in
       let freed : View = readers_loaded p me.0 q n 0 in
       let same : readers_loaded p me.0 q n found ≡ freed = ap (readers_loaded p me.0 q n) none in (
         freed,
@@ -155,13 +161,11 @@ module _ (p : Lay) {S : Type 0} (slots id : ℕ) (me : Me S View) (after : ℕ �
         (
           sym (is_after found ∙ same),
           refl,
-          it found none (λ l in_pool late stored new_cycle. let k = w.there q l x there in_pool in
-              let wr : g.ends.writes l ≡ write_of me.0 l = sym (got me.0.writes l (g.ends.writes l) (unwritten 0)
-              ((r.seated.knows id me.0 at).ends.of_write l k.0 k.1
-              (ap (λ (z : PortId). holder p (p.place z.node)) k.2 ∙ now.2))) in
+          it found none (λ l in_pool late stored new_cycle. let wr = written l in_pool in
               let st : (g.ends.writes l).stored ≡ (sp m).over = ap (λ (z : WriteView). z.stored) wr ∙ stored ∙ sym c in
               ap (λ (z : WriteView). stored_id z (late_at p l)) (sym wr)
-              ∙ due_named p sp g.ends g.expect s.words w paced r.buffers q n x there h.0.1 stamp is (omega arith) l in_pool late st),
+              ∙ due_named p sp g.ends g.expect s.words w paced r.buffers q n x there h.0.1 stamp is (omega arith) l in_pool late st)
+              (λ two second. due_zero p sp g.ends g.expect s.words w paced r.buffers q n x there h.0.1 stamp is loaded two (c ∙ second)),
         ),
       )
 

@@ -43,6 +43,10 @@ module _ (p : Lay) where
   IsReturned v q b = (l : ℕ) → Contains (pool_at p q).links l → late_at p l + 1 ≡ lag p (pool_at p q)
       → (write_of v l).stored ≡ fill_cycle v q → first p < fill_cycle v q → stored_id (write_of v l) (late_at p l) ≡ b
 
+  -- in the second cycle it is block 0 where the pool has a delayed link
+  abbrev pub IsZeroAtSecond : View → ℕ → ℕ → Type 0
+  IsZeroAtSecond v q b = lag p (pool_at p q) ≡ 2 → fill_cycle v q ≡ first p + 1 → b ≡ 0
+
   abbrev pub readers_loaded : View → ℕ → ℕ → ℕ → View
   readers_loaded v q b found = cond (eqb found 0) (view_block p v q b Free) v
 

@@ -27,19 +27,23 @@ module _ (p : Lay) where
     pub samples : (i : ℕ) → i < filled x.words block
         → slice_index words (sample_place p.shape q b i) ≡ packed (samples_of p e (stamp writer.over block) q) i
 
-  -- THE BLOCKS THAT A LINK NAMES, where it is so late and the writer of its pool x has begun so many cycles. Of the
-  -- stores `a` ago, 0 or 1, whose stamp is n: `out`: the block is out until the cycle in which its writer may reclaim it.
-  -- `names`: no other block with the stamp is out
-  pub record NamesBlocks (x : PoolShape) (late begun : ℕ) (w : WriteView) (blocks : ℕ → BlockView) : Type 0 where
-    pub out : (a n : ℕ) → a ≤ late → n + a ≡ w.stored → first p < n + late → begun < n + lag p x
+  -- THE BLOCKS THAT A LINK NAMES, where it is so late and its writer has loaded a link of the pool x, this one or another,
+  -- in so many cycles. Of the stores `a` ago, 0 or 1, whose stamp is n: `out`: the block is out until that load in the
+  -- cycle in which it is reclaimed. `names`: no other block with the stamp is out. `zero`: the block that a delayed link
+  -- names from the start on is number 0
+  pub record NamesBlocks (x : PoolShape) (late loaded : ℕ) (w : WriteView) (blocks : ℕ → BlockView) : Type 0 where
+    pub out : (a n : ℕ) → a ≤ late → n + a ≡ w.stored → first p < n + late → loaded < n + lag p x
         → blocks (stored_id w a) ≡ Out n
+    pub zero : late ≡ 1 → (a : ℕ) → a ≤ 1 → first p + a ≡ w.stored → stored_id w a ≡ 0
     pub names : (a n b : ℕ) → a ≤ late → n + a ≡ w.stored → first p < n + late → b < x.blocks → blocks b ≡ Out n
         → stored_id w a ≡ b
 
-  -- A POOL x. `apart` and `near`: busy blocks have stamps that differ, by less than the lag
+  -- A POOL x. `named`: what one of its links names is out until the writer has loaded all of them. `apart` and `near`: busy
+  -- blocks have stamps that differ, by less than the lag
   pub record PoolOk (x : PoolShape) (writer : Span) (writes : ℕ → WriteView) (blocks : ℕ → BlockView)
       : Type 0 where
-    pub named : (l : ℕ) → Contains x.links l → NamesBlocks x (late_at p l) writer.begun (writes l) blocks
+    pub named : (l m : ℕ) → Contains x.links l → Contains x.links m
+        → NamesBlocks x (late_at p l) (writes m).loaded (writes l) blocks
     pub apart : (a b : ℕ) → a < x.blocks → b < x.blocks → is_busy (blocks a) ≡ true → is_busy (blocks b) ≡ true
         → stamp writer.over (blocks a) ≡ stamp writer.over (blocks b) → a ≡ b
     pub near : (a b : ℕ) → a < x.blocks → b < x.blocks → is_busy (blocks a) ≡ true → is_busy (blocks b) ≡ true

@@ -17,6 +17,7 @@ mod plot;
 mod progress;
 mod rows;
 mod rule;
+mod safety;
 mod seat;
 mod steps;
 mod view;
@@ -30,6 +31,7 @@ pub use left::{left_at_start, left_of, tell};
 pub use loop_seat::LoopSeat;
 pub use plot::Plot;
 pub use rule::BoardRule;
+pub use safety::buffers_are_safe;
 pub use seat::BoardSeat;
 pub use view::{
     BlockView, Drive, Found, LeadView, NodeView, Phase, ReadView, Trail, View, WriteView,

@@ -101,7 +101,7 @@ pub trait BoardSeat {
         ensures table { table self.new ≡ table self.old }
         ensures knows { knows self.new ≡ loaded_as_reader leads (lay board.now.plot)
             (knows self.old) link result }
-        ensures word { IsPublished leads (lay board.now.plot) link result };
+        ensures word { IsPublished leads (lay board.now.plot) (knows self.old) link result };
 
     /// Loads a sample word of the block that the reader has in its turn and has not taken down: four of the samples that
     /// are expected. The seat's table of samples has one quantum of 16-bit samples for each cycle and pool.

@@ -8,7 +8,7 @@ ghost use Rattle.board_rule.specs.declared.view.BlockView.TheVariants.{Out};
 ghost use Rattle.board_rule.specs.EndViews.{write_of, pool_at, block_of};
 ghost use Rattle.board_rule.specs.BufferReads.{HasPool, IsFilled, is_filled, IsFirstFilled, older, IsOldestOut};
 ghost use Rattle.board_rule.specs.WriterSteps.{LoadsAsWriter, loaded_as_writer, IsGivenBack, StoresHave, have_stored};
-ghost use Rattle.board_rule.specs.BlockSteps.{LoadsReaders, IsReturned, readers_loaded, StoresSample, sample_stored, StoresReaders, readers_stored};
+ghost use Rattle.board_rule.specs.BlockSteps.{LoadsReaders, IsReturned, IsZeroAtSecond, readers_loaded, StoresSample, sample_stored, StoresReaders, readers_stored};
 
 use crate::board::Board;
 use crate::loop_seat::LoopSeat;
@@ -79,6 +79,7 @@ impl LoopSeat {
         ensures knows { self.new.knows ≡ readers_loaded (lay board.now.plot) self.old.knows pool id result }
         ensures word { result ≡ 0 }
         ensures returned { IsReturned (lay board.now.plot) self.old.knows pool id }
+        ensures second { IsZeroAtSecond (lay board.now.plot) self.old.knows pool id }
     {
         let at = board.block(pool as usize, id);
         let found = writing::load_readers::<Brand>(board, &mut self.token, pool as usize, id);

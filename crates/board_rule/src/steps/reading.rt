@@ -29,7 +29,8 @@ pub(crate) fn load_area<C: Change>(
     requires inside { link < length board.now.plot.shape.links }
     requires after { (found : ℕ) → C.after found
         ≡ loaded_as_reader C.leads (lay board.now.plot) token.old.me.0 link found }
-    requires says { (found : ℕ) → IsPublished C.leads (lay board.now.plot) link found → C.says found }
+    requires says { (found : ℕ) → IsPublished C.leads (lay board.now.plot) token.old.me.0 link found
+        → C.says found }
     ensures same { (token.new.table_id ≡ token.old.table_id) × (token.new.id ≡ token.old.id)
         × (token.new.me.1 ≡ token.old.me.1) }
     ensures after { token.new.me.0 ≡ C.after result }

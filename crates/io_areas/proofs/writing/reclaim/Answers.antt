@@ -32,5 +32,10 @@ returns-clause-reclaimed c = let p = lay c.args.board.now.plot in let v : View =
     let e : first p + c.ended-past.result ≡ fill_cycle p v c.args.pool = search rules in let z = c.if-past-eq0.false in
     let d = c.requires.phase.2 (omega arith) in
     let o = oldest_due p v c.args.pool c.oldest_out-id.result c.oldest_out-id.ensures.0 d.0 c.oldest_out-id.ensures.1 d.1 in
-    let r = c.load_readers.ensures in
-    (omega arith, o, r.knows ∙ ap (λ (n : ℕ). readers_loaded p v c.args.pool c.oldest_out-id.result n) r.word)
+    let r = c.load_readers.ensures in (
+      omega arith,
+      o,
+      r.knows ∙ ap (λ (n : ℕ). readers_loaded p v c.args.pool c.oldest_out-id.result n) r.word,
+      r.returned,
+      r.second,
+    )
