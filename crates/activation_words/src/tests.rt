@@ -1,11 +1,10 @@
 //! The words of a board after the beginning of a cycle of four nodes in a row, what claims find, and a check.
-ghost use Rattle.std.specs.Prelude.{◌≡◌, ◌==◌, ◌≤◌, length, slice_get, Some, [], ◌∷◌, slice_index, false, IsTrue, IsFalse, IfSome, IfOk};
-ghost use Rattle.std.specs.List.{position};
-ghost use Rattle.board_rule.specs.Layout.{lay, place_in};
+ghost use Rattle.std.specs.Prelude.{◌≡◌, ◌≤◌, length, slice_get, Some, [], ◌∷◌, slice_index, false, IsTrue, IsFalse, IfSome, IfOk};
+ghost use Rattle.board_rule.specs.Layout.{lay};
 ghost use Rattle.activation_words.specs.Members.{IsResting, AllRest, IsBetween, IsWaiting};
 
 use crate::{Claim, begin, check_late, claim};
-use board_rule::{Board, BoardSeat, DriverSeat, LoopSeat};
+use board_rule::{Board, BoardSeat, DriverSeat, LoopSeat, place_in};
 use pw_base::{Items, Memory, PortId, Shape, ShapeLink, ShapeNode, is_pooled_shape};
 use std::alloc::Global;
 use std::marker::Brand;
@@ -52,20 +51,6 @@ fn row(alloc: Global, cycles: u32) -> Result<Shape, Memory> {
         nodes,
         links,
     })
-}
-
-// The place of a node, if the shape has it.
-fn find_place(shape: &Shape, node: u32) -> Option<usize>
-    ensures { result ≡ position (λ n. n.node == node) shape.now.nodes }
-{
-    shape.nodes.as_slice().iter().position(|n| n.node == node)
-}
-
-// The place of a node, or the number of nodes.
-fn place_of(shape: &Shape, node: u32) -> usize
-    ensures { result ≡ place_in shape.now node }
-{
-    find_place(shape, node).unwrap_or(shape.nodes.len())
 }
 
 // The two seats of a board for two loops, in their order.
@@ -133,8 +118,8 @@ fn claim_follower(board: &Board, seat: &mut LoopSeat, of_loop: u32, node: u32) -
     requires rests { AllRest (lay board.now.plot) of_loop seat.old.knows }
 {
     let shape = board.shape();
-    let at = place_of(shape, node);
-    if at == shape.nodes.len() || at == place_of(shape, shape.driver) {
+    let at = place_in(shape, node);
+    if at == shape.nodes.len() || at == place_in(shape, shape.driver) {
         return None;
     }
     if at > shape.nodes.len() || seat_at(at) != of_loop {

@@ -137,12 +137,6 @@ impl BoardSeat for DriverSeat {
     }
 
     #[inline]
-    fn load_sample(&mut self, board: &Board, link: u32, id: u32, place: u32) -> u64 {
-        let word = board.link_sample_word(link, id, place);
-        reading::load_sample::<Brand>(board, &mut self.token, link, id, place, word)
-    }
-
-    #[inline]
     fn load_sample_at(
         &mut self,
         board: &Board,

@@ -30,6 +30,7 @@ pub use expect::Expect;
 pub use left::{left_at_start, left_of, tell};
 pub use loop_seat::LoopSeat;
 pub use plot::Plot;
+pub use rows::place_in;
 pub use rule::BoardRule;
 pub use safety::buffers_are_safe;
 pub use seat::BoardSeat;

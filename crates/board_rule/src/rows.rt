@@ -57,9 +57,9 @@ fn find_place(shape: &Shape, node: u32) -> Option<usize>
     shape.nodes.as_slice().iter().position(|n| n.node == node)
 }
 
-// The place of a node, or the number of nodes.
+/// The place of a node of a shape, or the number of its nodes. Cost: a look at each node.
 #[tactic(auto, using(crate::proofs::RowLemmas::place_or_end))]
-fn place_in(shape: &Shape, node: u32) -> usize
+pub fn place_in(shape: &Shape, node: u32) -> usize
     ensures { result ≡ place_in shape.now node }
 {
     find_place(shape, node).unwrap_or(shape.nodes.len())

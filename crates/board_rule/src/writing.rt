@@ -87,23 +87,8 @@ impl LoopSeat {
         found
     }
 
-    /// Stores the next sample word of a block, four samples of this cycle.
-    #[inline]
-    pub fn store_sample(&mut self, board: &Board, pool: u32, id: u32, place: u32, word: u64)
-        requires table { self.old.table ≡ board.now.table.shared.table_id }
-        requires phase { StoresSample (lay board.now.plot) self.old.knows pool id place word }
-        ensures table { self.new.table ≡ self.old.table }
-        ensures knows { self.new.knows ≡ sample_stored (lay board.now.plot) self.old.knows pool id place }
-    {
-        let at = board.block(pool as usize, id);
-        let to = board.sample_word(pool as usize, id, place);
-        writing::store_sample::<Brand>(board, &mut self.token, pool as usize, id, place, to, word);
-        self.blocks[at] = BlockView::Filling {
-            words: u64::from(place) + 1,
-        };
-    }
-
-    /// The same, where it is known at which place the first sample word of the block stands (`Board::first_sample`).
+    /// Stores the next sample word of a block, four samples of this cycle. `first` is where the first sample word of the
+    /// block stands (`Board::first_sample`).
     #[inline]
     pub fn store_sample_at(
         &mut self,
