@@ -1,11 +1,10 @@
 //! The words of a board after the beginning of a cycle of four nodes in a row, what claims find, and a check.
-ghost use Rattle.std.specs.Prelude.{◌≡◌, ◌==◌, ◌≤◌, length, slice_get, Some, [], ◌∷◌, slice_index, false, IsTrue, IsFalse, IfSome, IfOk};
-ghost use Rattle.std.specs.List.{position};
-ghost use Rattle.board_rule.specs.Layout.{lay, place_in, IsUndelayed};
+ghost use Rattle.std.specs.Prelude.{◌≡◌, ◌≤◌, length, slice_get, Some, [], ◌∷◌, slice_index, false, IsTrue, IsFalse, IfSome, IfOk};
+ghost use Rattle.board_rule.specs.Layout.{lay};
 ghost use Rattle.activation_words.specs.Members.{IsResting, AllRest, IsBetween, IsWaiting};
 
 use crate::{Claim, begin, check_late, claim};
-use board_rule::{Board, BoardSeat, DriverSeat, LoopSeat};
+use board_rule::{Board, BoardSeat, DriverSeat, LoopSeat, place_in};
 use pw_base::{Items, Memory, PortId, Shape, ShapeLink, ShapeNode, is_pooled_shape};
 use std::alloc::Global;
 use std::marker::Brand;
@@ -54,26 +53,6 @@ fn row(alloc: Global, cycles: u32) -> Result<Shape, Memory> {
     })
 }
 
-fn is_undelayed(shape: &Shape) -> bool
-    ensures { IsTrue result → IsUndelayed shape.now }
-{
-    shape.links.as_slice().iter().all(|l| !l.delayed)
-}
-
-// The place of a node, if the shape has it.
-fn find_place(shape: &Shape, node: u32) -> Option<usize>
-    ensures { result ≡ position (λ n. n.node == node) shape.now.nodes }
-{
-    shape.nodes.as_slice().iter().position(|n| n.node == node)
-}
-
-// The place of a node, or the number of nodes.
-fn place_of(shape: &Shape, node: u32) -> usize
-    ensures { result ≡ place_in shape.now node }
-{
-    find_place(shape, node).unwrap_or(shape.nodes.len())
-}
-
 // The two seats of a board for two loops, in their order.
 fn both(loops: Items<LoopSeat>) -> Option<(LoopSeat, LoopSeat)>
     requires { length loops ≡ 2 }
@@ -92,8 +71,8 @@ fn seats_of_row(alloc: Global) -> Result<Items<u32>, Memory>
     Items::from_slice(alloc, &[0, 1, 0, 0])
 }
 
-// A board for a shape of four nodes, with a seat for each of two loops. None for another shape, one that is not pooled,
-// or one with a delayed link.
+// A board for a shape of four nodes, with a seat for each of two loops. None for another shape, or one that is not
+// pooled.
 fn opened(
     alloc: Global,
     shape: &Shape,
@@ -103,7 +82,7 @@ fn opened(
         × (t.3.table ≡ t.0.table.shared.table_id) × (t.0.plot.seat_of ≡ 0 ∷ 1 ∷ 0 ∷ 0 ∷ [])
         × (let p = lay t.0.plot in IsBetween p t.1.knows × AllRest p 0 t.2.knows × AllRest p 1 t.3.knows))) }
 {
-    if !is_pooled_shape(shape) || !is_undelayed(shape) || shape.nodes.len() != 4 {
+    if !is_pooled_shape(shape) || shape.nodes.len() != 4 {
         return Ok(None);
     }
     let seat_of = seats_of_row(alloc)?;
@@ -139,8 +118,8 @@ fn claim_follower(board: &Board, seat: &mut LoopSeat, of_loop: u32, node: u32) -
     requires rests { AllRest (lay board.now.plot) of_loop seat.old.knows }
 {
     let shape = board.shape();
-    let at = place_of(shape, node);
-    if at == shape.nodes.len() || at == place_of(shape, shape.driver) {
+    let at = place_in(shape, node);
+    if at == shape.nodes.len() || at == place_in(shape, shape.driver) {
         return None;
     }
     if at > shape.nodes.len() || seat_at(at) != of_loop {

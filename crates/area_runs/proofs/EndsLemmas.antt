@@ -42,7 +42,7 @@ module _ {X : Type 0} (node : X → ℕ) (n : ℕ) (xs : List X) where
 
 module _ (p : Lay) (plain : IsPlain p) where
   all_wired : Wired p
-  all_wired = wired p plain.sound plain.pooled plain.undelayed
+  all_wired = wired p plain.sound plain.pooled
 
   -- the pool of a link is filled by the link's writer
   pub of_pool : (l : ℕ) → l < length p.shape.links → (pool_of p l < length (pools_of p.shape)) × Contains (pool_at p (pool_of p l)).links l

@@ -94,7 +94,7 @@ module _ (plot : Plot) (plain : IsPlain (lay plot)) (v : View) (has : HasNode tr
       heard_has,
       ap (λ (x : View). x.lead.drive) heard.same ∙ runs,
       (
-        (λ l low e. absurd ((wired p plain.sound plain.pooled plain.undelayed).from_follows l (link_at p l) (link_there p l low) e)),
+        (λ l low e. absurd ((wired p plain.sound plain.pooled).from_follows l (link_at p l) (link_there p l low) e)),
         (λ l low e. (heard_even l low e).stored ∙ ap (λ c. c + 1) (sym same_cycle)),
       ),
     )

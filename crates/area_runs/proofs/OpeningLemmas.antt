@@ -8,25 +8,26 @@ use Rattle.std.proofs.lemmas.Bool.{cases_lt, ne_eqb}
 use Rattle.std.proofs.lemmas.Option.{slice_get_within, get_or_from_slice_get}
 use Rattle.std.proofs.lemmas.List.{get_or-replicate, get_or_past, get_or-map, length-replicate, length-map, length_push}
 use Rattle.std.proofs.lemmas.List.Concat.{length-flat_map}
-use Rattle.std.proofs.lemmas.List.Folds.{length-flat_map-take}
-use Rattle.std.proofs.lemmas.List.Elements.{Contains-push_cases, Contains-get_or}
+use Rattle.std.proofs.lemmas.List.Folds.{length-flat_map-take, list_any_none}
+use Rattle.std.proofs.lemmas.List.Elements.{Contains-push_cases, Contains-get_or, All-filter}
 use Rattle.std.proofs.lemmas.List.Quantifiers.{all_pairs_push}
 use Rattle.atomic_table.specs.Seated.{TableId}
+use Rattle.pw_base.specs.declared.shape.ShapeLink.{ShapeLink}
 use Rattle.pw_base.specs.declared.pools.PoolShape.{PoolShape}
-use Rattle.pw_base.specs.Pools.{pools_of}
+use Rattle.pw_base.specs.Pools.{is_port, links_from, pools_of}
 use Rattle.board_rule.specs.declared.plot.Plot.{Plot}
 use Rattle.board_rule.specs.declared.view.BlockView.{BlockView}
-use Rattle.board_rule.specs.declared.view.BlockView.TheVariants.{Free}
+use Rattle.board_rule.specs.declared.view.BlockView.TheVariants.{Free, Out}
 use Rattle.board_rule.specs.declared.view.NodeView.{NodeView}
 use Rattle.board_rule.specs.declared.view.WriteView.{WriteView}
 use Rattle.board_rule.specs.declared.view.ReadView.{ReadView}
 use Rattle.board_rule.specs.declared.view.View.{View}
 use Rattle.board_rule.specs.Known.{Known}
-use Rattle.board_rule.specs.Layout.{Lay, lay, IsSound, nodes, first}
-use Rattle.board_rule.specs.View.{Samples, idle, node_of, unwritten, unread, loop_view, driver_view}
+use Rattle.board_rule.specs.Layout.{Lay, lay, IsSound, IsUndelayed, nodes, first}
+use Rattle.board_rule.specs.View.{Samples, idle, node_of, unwritten, unread, first_write, is_late, loop_view, driver_view}
 use Rattle.board_rule.specs.SampleWords.{IsTable}
 use Rattle.board_rule.specs.Spans.{block_at}
-use Rattle.board_rule.specs.EndViews.{no_pool, pool_at, block_of, read_of, write_of}
+use Rattle.board_rule.specs.EndViews.{no_link, no_pool, pool_at, block_of, read_of, write_of}
 use Rattle.buffer_pool.specs.Queue.{Queue, numbers_below}
 use Rattle.activation_words.specs.Members.{IsBetween}
 use Rattle.activation_words.proofs.MemberLemmas.{new_rests, new_between}
@@ -112,19 +113,29 @@ all_free : (pools : List PoolShape) (j : ℕ) → get_or (flat_map (λ q. replic
 all_free [] j = refl
 all_free (x ∷ xs) j = free_after x.blocks (flat_map (λ q. replicate q.blocks Free) xs) (all_free xs) j
 
-module _ (p : Lay) (e : Samples) (k : ℕ) where
+module _ (p : Lay) (e : Samples) (k : ℕ) (undelayed : IsUndelayed p.shape) where
   abbrev v : View
   v = loop_view p e k
 
+  -- no delayed link reads a pool, so its blocks are free
+  never_late : (x : PoolShape) → is_late p.shape x ≡ false
+  never_late x = list_any_none (λ (l : ShapeLink). l.delayed) (links_from p.shape x.port)
+      (All-filter (λ (l : ShapeLink). is_port l.from x.port) (λ l. l.delayed ≡ false) p.shape.links undelayed)
+
+  blocks_are : v.blocks ≡ flat_map (λ x. replicate x.blocks Free) (pools_of p.shape)
+  blocks_are = ap (λ (f : PoolShape → List BlockView). flat_map f (pools_of p.shape))
+      (λ i x. cond (never_late x i) (Out p.shape.first ∷ replicate (x.blocks - 1) Free) (replicate x.blocks Free))
+
   is_free : (q b : ℕ) → block_of p v q b ≡ Free
-  is_free q b = all_free (pools_of p.shape) (block_at p q b)
+  is_free q b = ap (λ (xs : List BlockView). get_or xs (block_at p q b) Free) blocks_are ∙ all_free (pools_of p.shape) (block_at p q b)
 
   pub has_room : (q : ℕ) → q < length (pools_of p.shape) → block_at p q (pool_at p q).blocks ≤ length v.blocks
   has_room q low = let pools : List PoolShape = pools_of p.shape in let f : PoolShape → List BlockView = λ x. replicate x.blocks Free in
       let whole = length-flat_map-take f pools q no_pool low in let before = length-flat_map f (take q pools) in
       let own = length-replicate (pool_at p q).blocks Free in
       let same : sum_by (λ x. length (f x)) (take q pools) ≡ sum_by (λ x. x.blocks) (take q pools) =
-      ap (λ (g : PoolShape → ℕ). sum_by g (take q pools)) (λ i x. length-replicate x.blocks Free i) in omega arith
+      ap (λ (g : PoolShape → ℕ). sum_by g (take q pools)) (λ i x. length-replicate x.blocks Free i) in
+      let all : length v.blocks ≡ length (flat_map f pools) = ap (λ (xs : List BlockView). length xs) blocks_are in omega arith
 
   pub next_is : (m : ℕ) → m < nodes p → (node_of v m).next ≡ first p
   next_is m low = ap (λ (x : NodeView). x.next) (get_or-replicate (nodes p) m (idle (first p)) (idle 0) low)
@@ -153,9 +164,9 @@ module _ (p : Lay) (e : Samples) (k : ℕ) where
             lowered = ap (λ (r : ReadView). r.lowered) at;
             stored = ap (λ (r : ReadView). r.stored) at;
           };
-      writes = λ l low _. let at : write_of v l ≡ unwritten (first p) =
-          get_or-replicate (length p.shape.links) l (unwritten (first p)) (unwritten 0) low in
-          let long = length-replicate (length p.shape.links) (unwritten (first p)) in
+      writes = λ l low _. let at : write_of v l ≡ first_write (first p) (get_or p.shape.links l no_link) =
+          get_or-map (first_write (first p)) p.shape.links l no_link (unwritten 0) low in
+          let long = length-map p.shape.links (first_write (first p)) in
           record { there = omega arith; loaded = ap (λ (w : WriteView). w.loaded) at; stored = ap (λ (w : WriteView). w.stored) at };
       stocks = λ q low _. subst (FreeBlocks p v q (first p))
           (sym (get_or-map fresh_queue (pools_of p.shape) q no_pool (record { free = []; blocks = 0 }) low))
@@ -182,14 +193,14 @@ module _ (plot : Plot) (sound : IsSound (lay plot)) (samples : List ℤ) (ok : I
           plain = plain;
           shapes_are = refl;
           lists = length-map (pools_of plot.shape) fresh_queue;
-          blocks = has_room p expect k;
+          blocks = has_room p expect k ok.undelayed;
           steady = is_steady p samples ok.fit;
         };
     rests = λ i d lt. let n : NodeEnds = get_or w.nodes i d in let h = made.nodes_are.only i d lt in let of = h.1 in let m = of.0 in
         let at : p.place n.node ≡ m = ap p.place (sym of.2) ∙ sound.at m of.1 in (
           h.0,
           subst (λ (x : ℕ × View × List Queue). IsAtRest p x.1 x.2 x.0) (λ j. (sym at j, sym knows j, sym made.free_are j))
-              (new_rests p expect k m of.1 of.3 of.4 low, begins_even p expect k (λ q e lt. let f = ok.fit q e lt in (f.0, f.1)) m of.1),
+              (new_rests p expect k m of.1 of.3 of.4 low, begins_even p expect k ok.undelayed (λ q e lt. let f = ok.fit q e lt in (f.0, f.1)) m of.1),
         );
     long = made.long ∙ sym (ap (λ (l : List ℤ). length l) made.samples_are);
   }
@@ -225,7 +236,7 @@ module _ (plot : Plot) (sound : IsSound (lay plot)) (samples : List ℤ) (ok : I
   pub workers_first : (k : ℕ) (w : Worker) → IsMade plot samples k (record { table = table; knows = loop_view p expect k }) w → AreFirst p w
   workers_first k w made i d lt = let n : NodeEnds = get_or w.nodes i d in let of = (made.nodes_are.only i d lt).1 in let m = of.0 in
       let at : p.place n.node ≡ m = ap p.place (sym of.2) ∙ sound.at m of.1 in
-      ap (λ (x : ℕ × View). (node_of x.1 x.0).next) (λ j. (at j, ap (λ (s : Known). s.knows) made.seat_is j)) ∙ next_is p expect k m of.1
+      ap (λ (x : ℕ × View). (node_of x.1 x.0).next) (λ j. (at j, ap (λ (s : Known). s.knows) made.seat_is j)) ∙ next_is p expect k ok.undelayed m of.1
 
   pub lead_first : (k : ℕ) → 0 < k → (l : Lead) → IsLeadMade plot.shape samples (record { table = table; knows = driver_view p expect k }) l
       → (l.seat.knows.lead.cycle ≡ first p) × (l.seat.knows.lead.checks ≡ 0) × (l.seat.knows.expect ≡ expect)

@@ -61,7 +61,7 @@ module _ (p : Lay) (plain : IsPlain p) where
   pub one_pool : (q r l : ℕ) → q < length (pools_of p.shape) → r < length (pools_of p.shape) → Contains (pool_at p q).links l
       → Contains (pool_at p r).links l
       → q ≡ r
-  one_pool q r l a b c d = (wired p plain.sound plain.pooled plain.undelayed).one_pool q r l (pool_at p q) (pool_at p r)
+  one_pool q r l a b c d = (wired p plain.sound plain.pooled).one_pool q r l (pool_at p q) (pool_at p r)
       (slice_get-get_or (pools_of p.shape) q no_pool a) (slice_get-get_or (pools_of p.shape) r no_pool b) c d
 
   module _ (v : View) (old : List Queue) (pools : List ℕ) (may : MayFillAll p v old pools) where

@@ -23,7 +23,7 @@ use Rattle.board_rule.specs.BufferRule.{Buffers}
 use Rattle.board_rule.specs.Spans.{spans}
 use Rattle.board_rule.specs.BoardRule.{Holds}
 use Rattle.board_rule.specs.Steps.{kicked, taken_of, CanKick, KickIndebted}
-use Rattle.board_rule.specs.Plays.{Turns}
+use Rattle.board_rule.specs.Plays.{Turns, Learns}
 use Rattle.board_rule.proofs.SpanLemmas.{IsLeadPaced, drive_paced, kicked_paced, buffers_lead, wired_in, early_word}
 use Rattle.board_rule.proofs.RunLemmas.{Sums, Elsewhere, positive, lowers, triggers}
 use Rattle.board_rule.proofs.PhaseLemmas.{owed_is}
@@ -209,13 +209,14 @@ module _ (p : Lay) where
         (buffers_lead p r.whole s.words (set s.words i n) x (wired_in p r.whole s.words s.views r.seated) paced
         (early_word p s.words i n high) r.buffers)
 
-    pub kick_allowed : (slots id i n : ℕ) (me : Me S View) (t : ℕ → Trail) (after : ℕ → View) → me.0.number ≡ p.seats
+    pub kick_allowed : (slots id i n : ℕ) (me : Me S View) (t : ℕ → Trail) (after : ℕ → View) (says : ℕ → Type 0) → me.0.number ≡ p.seats
         → ((found : ℕ) → (t found).looks ≡ me.0.trail.looks) → me.0.lead.drive ≡ drives.Kick i false → i < length (p.targets p.driver)
         → get_or (p.targets p.driver) i 0 ≡ n
         → ((found : ℕ) → after found ≡ view_lead me.0 (record me.0.lead
         { drive = kicked (length (p.targets p.driver)) (i + 1) (eqb found 1) }) (t found))
-        → Allows (Holds p) slots id me (pending_place p.shape n) (λ w. (w + (2 ^ 64 - 1)) % 2 ^ 64) (Turns after me)
-    kick_allowed slots id i n me t after number looks phase near target is_after s r _ at fits =
+        → ((found : ℕ) → 0 < found → says found)
+        → Allows (Holds p) slots id me (pending_place p.shape n) (λ w. (w + (2 ^ 64 - 1)) % 2 ^ 64) (Learns after says me)
+    kick_allowed slots id i n me t after says number looks phase near target is_after it s r _ at fits =
         let g = r.whole in let a = r.activations in let sound = r.seated.sound in let wide = r.seated.wide in let m = p.driver in
         let hm = sound.driver_in in
         let is = lead_is s r id me.0 at number in
@@ -261,7 +262,7 @@ module _ (p : Lay) where
               (active_lead g s.words (set s.words (pending_place p.shape n) (found - 1)) new g.lead
               (kicked_ok (suc i) (eqb found 1) (omega arith) (omega arith)) (kicked_runs (length ts) (suc i) (eqb found 1))
               (a.within (runs_within g.lead.drive runs_on)) lowered a)),
-          (sym (is_after found), refl),
+          (sym (is_after found), refl, it found (omega arith)),
         )
 
     pub kick_trigger_allowed : (slots id i n : ℕ) (me : Me S View) (t : Trail) (after : ℕ → View) → me.0.number ≡ p.seats

@@ -26,7 +26,7 @@ use Rattle.board_rule.specs.BufferRule.{Buffers}
 use Rattle.board_rule.specs.Spans.{spans}
 use Rattle.board_rule.specs.BoardRule.{Holds}
 use Rattle.board_rule.specs.Steps.{Has, settled}
-use Rattle.board_rule.specs.Plays.{Turns}
+use Rattle.board_rule.specs.Plays.{Turns, Learns}
 use Rattle.board_rule.proofs.RunLemmas.{Sums, Elsewhere, positive, lowers, triggers}
 use Rattle.board_rule.proofs.LeftLemmas.{to_sums, from_sums}
 use Rattle.board_rule.proofs.PhaseLemmas.{settled_rest, settled_owing, settled_stage, settled_ok, settled_drawn, settled_quiet, owed_is}
@@ -168,11 +168,12 @@ module _ (p : Lay) where
         (buffers_node p r.whole s.words (set s.words i n) m (node_of v m) y (wired_in p r.whole s.words s.views r.seated)
         (same_node s r id m v at h) paced (early_word p s.words i n high) r.buffers)
 
-    pub lower_allowed : (slots id m i n : ℕ) (me : Me S View) (t : ℕ → Trail) (after : ℕ → View) → Has p me.0 m
+    pub lower_allowed : (slots id m i n : ℕ) (me : Me S View) (t : ℕ → Trail) (after : ℕ → View) (says : ℕ → Type 0) → Has p me.0 m
         → (node_of me.0 m).phase ≡ Telling i false → i < length (p.targets m) → get_or (p.targets m) i 0 ≡ n
         → ((found : ℕ) → after found ≡ view_node me.0 m (settled (length (p.targets m)) (node_of me.0 m) (i + 1) (eqb found 1)) (t found))
-        → Allows (Holds p) slots id me (pending_place p.shape n) (λ w. (w + (2 ^ 64 - 1)) % 2 ^ 64) (Turns after me)
-    lower_allowed slots id m i n me t after h phase near target is_after s r _ at fits =
+        → ((found : ℕ) → 0 < found → says found)
+        → Allows (Holds p) slots id me (pending_place p.shape n) (λ w. (w + (2 ^ 64 - 1)) % 2 ^ 64) (Learns after says me)
+    lower_allowed slots id m i n me t after says h phase near target is_after it s r _ at fits =
         let g = r.whole in let a = r.activations in let sound = r.seated.sound in let wide = r.seated.wide in
         let x : NodeView = node_of me.0 m in
         let same = same_node s r id m me.0 at h in
@@ -218,7 +219,7 @@ module _ (p : Lay) where
               (settled_paced (length ts) (suc i) i false (eqb found 1) x phase)
               (active_node g s.words (set s.words (pending_place p.shape n) (found - 1)) m new h.follows runs_on
               (settled_ok ts c x (suc i) now (length ts) (eqb found 1) (omega arith) (omega arith)) lowered a)),
-          (sym (is_after found), refl),
+          (sym (is_after found), refl, it found (omega arith)),
         )
       where
         idle_not : (let a : Phase = Idle in a) ≡ Telling i false → ⊥

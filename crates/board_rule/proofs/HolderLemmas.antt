@@ -30,12 +30,11 @@ use Rattle.board_rule.proofs.PoolWordLemmas.{pools_have_words}
 use Rattle.pw_base.proofs.PoolLemmas.{channels_le, same_port, port_same}
 use Rattle.pw_base.proofs.LayoutLemmas.{length-start_words}
 use Rattle.board_rule.specs.declared.plot.Plot.{Plot}
-use Rattle.board_rule.specs.Layout.{Lay, lay, first, HasSeats, IsUndelayed}
+use Rattle.board_rule.specs.Layout.{Lay, lay, HasSeats}
 use Rattle.board_rule.specs.Rows.{HasPlaces}
 use Rattle.board_rule.proofs.SoundLemmas.{sound_layout}
 use Rattle.board_rule.proofs.LayoutLemmas.{count_is, long_enough}
 use Rattle.board_rule.specs.View.{Whole, put, node_of, unwritten, unread}
-use Rattle.board_rule.specs.SampleWords.{IsTable}
 use Rattle.board_rule.specs.BlockReadings.{Ends}
 use Rattle.board_rule.specs.Spans.{spans, phase_over, phase_begun, drive_over, drive_begun, holder, block_at, KnowsEnds, AreStill}
 use Rattle.board_rule.specs.BoardRule.{Knows, Seated, Holds}
@@ -157,20 +156,19 @@ module _ (p : Lay) where
       → length after ≡ length words → v.number ≤ p.seats → Knows p (with_ends g ends) id w
       → ((number : ℕ) (writes : List WriteView) (reads : List ReadView) (blocks : List BlockView) → (number ≡ v.number → ⊥)
       → KnowsEnds p g.ends number writes reads blocks → KnowsEnds p ends number writes reads blocks)
-      → AreStill p ends g.split → ((l : ℕ) → first p < (ends.writes l).stored → IsTable p g.expect) → Seated p g words views
+      → AreStill p ends g.split → w.number ≡ v.number → Seated p g words views
       → Seated p (with_ends g ends) after (set views id w)
-  ends_step g ends words after views id v w at same low mine others still table s = let k = s.knows id v at in
+  ends_step g ends words after views id v w at same low mine others still number s = let k = s.knows id v at in
       seat_step p g (with_ends g ends) words after views id v w at same mine
       (λ j u other r. record {
         kept = r.kept;
         here = r.here;
         leads = r.leads;
         expects = r.expects;
-        table = r.table;
         is_split = r.is_split;
         owns = r.owns;
         ends = others u.number u.writes u.reads u.blocks (λ e. other (sym (r.here (omega arith)) ∙ ap g.seat_at e ∙ k.here low)) r.ends;
-      }) s.unsplit still table s
+      }) s.unsplit still s.table (λ _. refl) refl number s
 
   pub write_step : (g : Whole) (words after : List ℕ) (views : List View) (id l : ℕ) (x : ShapeLink) (v : View) (y : WriteView)
       → get_elem? views id ≡ some v → length after ≡ length words → LinkAt p l x → holder p (p.place x.from.node) ≡ v.number
@@ -183,7 +181,6 @@ module _ (p : Lay) where
         here = k.here;
         leads = k.leads;
         expects = k.expects;
-        table = k.table;
         is_split = k.is_split;
         owns = k.owns;
         ends = record {
@@ -204,7 +201,7 @@ module _ (p : Lay) where
         writes = λ i z h low e. put_else g.ends.writes l i y (λ q. let a = seat_from i z h q in omega arith) ∙ s.still.writes i z h low e;
         reads = s.still.reads;
         blocks = s.still.blocks;
-      } (λ _ _. k.table loops) s
+      } refl s
     where
       seat_from : (i : ℕ) (z : ShapeLink) → LinkAt p i z → i ≡ l → holder p (p.place z.from.node) ≡ v.number
       seat_from i z h q = ap (λ (j : ShapeLink). holder p (p.place j.from.node))
@@ -221,7 +218,6 @@ module _ (p : Lay) where
         here = k.here;
         leads = k.leads;
         expects = k.expects;
-        table = k.table;
         is_split = k.is_split;
         owns = k.owns;
         ends = record {
@@ -243,7 +239,7 @@ module _ (p : Lay) where
         reads = λ i z h far e. put_else g.ends.reads l i y
             (λ q. let a = seat_to i z h q in let split = k.is_split (omega arith) in omega arith) ∙ s.still.reads i z h far e;
         blocks = s.still.blocks;
-      } s.table s
+      } refl s
     where
       seat_to : (i : ℕ) (z : ShapeLink) → LinkAt p i z → i ≡ l → holder p (p.place z.to.node) ≡ v.number
       seat_to i z h q = ap (λ (j : ShapeLink). holder p (p.place j.to.node)) (sym (link_is i z h) ∙ ap (link_at p) q ∙ link_is l x there)
@@ -261,7 +257,6 @@ module _ (p : Lay) where
         here = k.here;
         leads = k.leads;
         expects = k.expects;
-        table = k.table;
         is_split = k.is_split;
         owns = k.owns;
         ends = record {
@@ -284,7 +279,7 @@ module _ (p : Lay) where
         writes = s.still.writes;
         reads = s.still.reads;
         blocks = λ i c z h l far e. block_else i c (λ t. let a = seat_of_pool i z h t.0 in omega arith) ∙ s.still.blocks i c z h l far e;
-      } s.table s
+      } refl s
     where
       seat_of_pool : (i : ℕ) (z : PoolShape) → PoolAt p i z → i ≡ q → holder p (p.place z.port.node) ≡ v.number
       seat_of_pool i z h t = ap (λ (j : PoolShape). holder p (p.place j.port.node))
@@ -335,14 +330,14 @@ module _ (p : Lay) where
         (omega arith, omega arith, holder_follows m has.follows ∙ has.owned, omega arith, λ z. has.loops)
 
 -- where a board has the words of areas and blocks
-pub placed : (plot : Plot) → IsPooledShape plot.shape → IsUndelayed plot.shape → HasSeats plot → HasPlaces plot.shape
-placed plot pooled undelayed seats = let p = lay plot in let w = wired p (sound_layout plot pooled.sound seats) pooled undelayed in
+pub placed : (plot : Plot) → IsPooledShape plot.shape → HasSeats plot → HasPlaces plot.shape
+placed plot pooled seats = let p = lay plot in let w = wired p (sound_layout plot pooled.sound seats) pooled in
     let long = length-start_words plot.shape pooled in let count = count_is plot.shape in record {
       pools = λ l h. slice_get_within (pools_of plot.shape) (pool_of p l) (pool_at p (pool_of p l))
           (pool_here p w l (link_at p l) (link_there p l h)).0;
-      areas = λ l h. let a = (w.io_in l (link_at p l) (link_there p l h)).1 in let e = long_enough plot.shape undelayed in omega arith;
+      areas = λ l a h late. let b = (w.io_in l a (link_at p l) (link_there p l h) late).1 in let e = long_enough plot.shape in omega arith;
       blocks = λ q b h low. let r = (w.readers_in q b (pool_at p q) (pool_there p q h) low).1 in omega arith;
-      some = λ q h. pools_have_words p (sound_layout plot pooled.sound seats) pooled undelayed q (pool_at p q) (pool_there p q h);
+      some = λ q h. pools_have_words p (sound_layout plot pooled.sound seats) pooled q (pool_at p q) (pool_there p q h);
       count = let a = few_ports [] plot.shape.links in let b = length-map (sources_of plot.shape) (pools.pool_of plot.shape) in
           let few = pooled.sound.links.few in omega arith;
       few = λ q h. let s = pool_source plot.shape q (pool_at p q) (pool_there p q h) in

@@ -35,13 +35,14 @@ pub mod ClosingLemmas
 pub mod PortLemmas
 pub mod PlaceLemmas
 pub mod WiringLemmas
-pub mod PlainLemmas
+pub mod DelayLemmas
 pub mod PaceLemmas
 pub mod StayLemmas
 pub mod FinishLemmas
 pub mod SpanLemmas
 pub mod HolderLemmas
 pub mod KeepLemmas
+pub mod StartWordLemmas
 pub mod BufferStartLemmas
 pub mod AwaitedLemmas
 pub mod EndLemmas

@@ -1,5 +1,5 @@
 -- Where the words of the buffer rule stand: apart from one another, and from those of the other two rules.
-use Rattle.std.proofs.Common.{◌≡◌, ◌≢◌, ℕ, zero, suc, ◌+◌, ◌-◌, ◌*◌, ◌<◌, ◌≤◌, cond, List, [], ◌∷◌, length, take}
+use Rattle.std.proofs.Common.{◌≡◌, ◌≢◌, ℕ, zero, suc, ◌+◌, ◌-◌, ◌*◌, ◌<◌, ◌≤◌, Bool, true, false, cond, List, [], ◌∷◌, length, take}
 use Rattle.std.proofs.Common.{get_or, ◌⊎◌, inl, inr, refl, sym, ap, ◌∙◌, subst, arith}
 use Rattle.std.specs.Prelude.{Some, sum_by, slice_get, unwrap_or, option_map}
 use mathlib.Core.Logic.{dite}
@@ -13,7 +13,7 @@ use Rattle.pw_base.specs.declared.pools.PoolShape.{PoolShape}
 use Rattle.pw_base.specs.Pools.{pools_of}
 use Rattle.pw_base.specs.Layout.{node_count, areas_of, area_count, event_count, pool_words, io_place, late_place, event_place, block_words}
 use Rattle.pw_base.specs.Layout.{readers_place, word_count}
-use Rattle.board_rule.specs.Layout.{IsUndelayed}
+use Rattle.board_rule.specs.Areas.{late_by}
 
 takes_rise : {X : Type 0} (f : X → ℕ) (i n : ℕ) (xs : List X) → sum_by f (take i xs) ≤ sum_by f (take (i + n) xs)
 takes_rise f zero n xs = omega arith
@@ -27,26 +27,33 @@ module _ (shape : Shape) where
   abbrev pools : List PoolShape
   pools = pools_of shape
 
-  -- io areas: one a link
-  module _ (h : IsUndelayed shape) where
-    one_area : (l : ℕ) (d : ShapeLink) → l < length shape.links → areas_of (get_or shape.links l d) ≡ 1
-    one_area l d lt = ap (λ b. cond {A = ℕ} b 2 1) (h l d lt)
+  -- io areas: one a link, two a delayed one
+  areas_late : (k : ShapeLink) → areas_of k ≡ 1 + late_by k
+  areas_late k = by k.delayed
+    where
+      by : (b : Bool) → cond {A = ℕ} b 2 1 ≡ 1 + cond {A = ℕ} b 1 0
+      by true = refl
+      by false = refl
 
-    pub areas_before : (l : ℕ) (d : ShapeLink) → l ≤ length shape.links → area_count (take l shape.links) ≡ l
-    areas_before zero d le = refl
-    areas_before (suc l) d le = let a = areas_before l d (omega arith) in let m = sum_by_more areas_of shape.links l d (omega arith) in
-        let o = one_area l d (omega arith) in
-        let e : l + 1 ≡ suc l = omega arith in let f : area_count (take (l + 1) shape.links) ≡ area_count (take (suc l) shape.links) =
-        ap (λ k. area_count (take k shape.links)) e in omega arith
+  abbrev late_in : ℕ → ShapeLink → ℕ
+  late_in l d = late_by (get_or shape.links l d)
 
-    pub io_in : (l : ℕ) (d : ShapeLink) → l < length shape.links → (2 * node_count shape < io_place shape l 0)
-        × (io_place shape l 0 < late_place shape 0)
-    io_in l d lt = let a = areas_before l d (omega arith) in let m = sum_by_more_le areas_of shape.links l d lt in
-        let o = one_area l d lt in (omega arith, omega arith)
+  pub io_in : (l a : ℕ) (d : ShapeLink) → l < length shape.links → a ≤ late_in l d → (2 * node_count shape < io_place shape l a)
+      × (io_place shape l a < late_place shape 0)
+  io_in l a d lt h = let m = sum_by_more_le areas_of shape.links l d lt in let o = areas_late (get_or shape.links l d) in
+      (omega arith, omega arith)
 
-    pub io_apart : (l k : ℕ) (d : ShapeLink) → l < length shape.links → k < length shape.links → l ≢ k
-        → io_place shape l 0 ≢ io_place shape k 0
-    io_apart l k d hl hk o e = let a = areas_before l d (omega arith) in let b = areas_before k d (omega arith) in o (omega arith)
+  io_before : (l m a b : ℕ) (d : ShapeLink) → l < length shape.links → l < m → a ≤ late_in l d → io_place shape l a < io_place shape m b
+  io_before l m a b d lt less h = let s = sum_by_more areas_of shape.links l d lt in let o = areas_late (get_or shape.links l d) in
+      let e : (l + 1) + (m - (l + 1)) ≡ m = omega arith in
+      let r : area_count (take (l + 1) shape.links) ≤ area_count (take m shape.links) =
+      subst (λ k. area_count (take (l + 1) shape.links) ≤ area_count (take k shape.links)) e
+      (takes_rise areas_of (l + 1) (m - (l + 1)) shape.links) in omega arith
+
+  pub io_apart : (l m a b : ℕ) (d : ShapeLink) → l < length shape.links → m < length shape.links → a ≤ late_in l d → b ≤ late_in m d
+      → l ≢ m → io_place shape l a ≢ io_place shape m b
+  io_apart l m a b d hl hm ha hb o e = dite (dec_le l m) (λ le. let z = io_before l m a b d hl (omega arith) ha in omega arith)
+      (λ gt. let z = io_before m l b a d hm (omega arith) hb in omega arith)
 
   -- the words of a pool
   block_words_is : (q : ℕ) (x : PoolShape) → slice_get pools q ≡ Some x → block_words shape q ≡ x.words

@@ -2,7 +2,7 @@
 use Rattle.std.proofs.Common.{◌≡◌, ◌≢◌, ℕ, zero, suc, ◌<◌, ◌≤◌, cond, List, [], ◌∷◌, length, set, refl, sym, ap, ◌∙◌, subst}
 use Rattle.std.proofs.Common.{⊎_elim, arith, eq-eqb, ne_eqb}
 use mathlib.Core.Logic.{dite}
-use mathlib.Core.Option.{some, some-ne-none}
+use mathlib.Core.Option.{some, some-injective, some-ne-none}
 use native.Mathlib.Decide.{ℕ_discrete}
 use lib.ListN.{get_elem?}
 use Rattle.atomic_table.proofs.Lists.{at_set, set_else}
@@ -36,17 +36,26 @@ module _ (p : Lay) where
       → length after ≡ length words → Knows p h id w
       → ((j : ℕ) (u : View) → j ≢ id → Knows p g j u → Knows p h j u)
       → ((n : ℕ) → n < nodes p → n ≢ p.driver → h.split ≤ p.seat_of n → h.nodes n ≡ idle (first p))
-      → AreStill p h.ends h.split → ((l : ℕ) → first p < (h.ends.writes l).stored → IsTable p h.expect)
+      → AreStill p h.ends h.split → ((n : ℕ) → n < nodes p → n ≢ p.driver → p.seat_of n < h.split → IsTable p h.expect)
+      → ((i : ℕ) → h.seat_at i ≡ g.seat_at i) → h.split ≡ g.split → w.number ≡ v.number
       → Seated p g words views → Seated p h after (set views id w)
-  seat_step g h words after views id v w at same mine others unsplit still table s = record {
+  seat_step g h words after views id v w at same mine others unsplit still table places split number s = record {
     sound = s.sound;
     pooled = s.pooled;
-    undelayed = s.undelayed;
     room = s.room ∙ sym same;
     wide = let k = s.wide in omega arith;
     long = let k = s.long in omega arith;
     knows = λ j u e. ⊎_elim (λ (t : (j ≡ id) × (w ≡ u)). subst (λ (x : ℕ × View). Knows p h x.0 x.1) (λ i. (sym t.0 i, t.1 i)) mine)
         (λ (t : (j ≢ id) × (get_elem? views j ≡ some u)). others j u t.0 (s.knows j u t.1)) (at_set views id j w u e);
+    most = let k = s.most in omega arith;
+    present = λ open_ i low inside. let o = s.present (omega arith) i low (λ l. let z = inside l in omega arith) in
+        dite (ℕ_discrete (g.seat_at i) id)
+        (λ e. let mine : o.0 ≡ v = some-injective _ _ (sym o.1 ∙ ap (get_elem? views) e ∙ at) in (
+          w,
+          ap (get_elem? (set views id w)) (places i ∙ e) ∙ set_there views id w v at,
+          number ∙ ap (λ (x : View). x.number) (sym mine) ∙ o.2,
+        ))
+        (λ e. (o.0, ap (get_elem? (set views id w)) (places i) ∙ set_else views id (g.seat_at i) w e ∙ o.1, o.2));
     unsplit = unsplit;
     still = still;
     table = table;
@@ -63,7 +72,6 @@ module _ (p : Lay) where
         here = k.here;
         leads = λ e. absurd (omega arith);
         expects = k.expects;
-        table = k.table;
         is_split = k.is_split;
         owns = λ n h o e. dite (ℕ_discrete n m)
             (λ q. subst (λ i. get_elem? (set v.nodes m x) i ≡ some (put g.nodes m x i)) (sym q)
@@ -76,7 +84,6 @@ module _ (p : Lay) where
         here = r.here;
         leads = r.leads;
         expects = r.expects;
-        table = r.table;
         is_split = r.is_split;
         owns = λ n h o e. r.owns n h o e ∙ ap some (sym
             (put_else g.nodes m n x (λ q. other (sym (r.here (let z = sym e ∙ ap p.seat_of q ∙ owns in omega arith))
@@ -84,7 +91,7 @@ module _ (p : Lay) where
         ends = r.ends;
       })
       (λ n h o e. put_else g.nodes m n x (λ q. let a = k.is_split loops in let b = ap p.seat_of q in omega arith) ∙ s.unsplit n h o e)
-      s.still s.table s
+      s.still s.table (λ _. refl) refl refl s
 
   -- a step of the driver's seat, after which it has loaded the statuses `looks` in its last check
   pub lead_step : (g : Whole) (words after : List ℕ) (views : List View) (id : ℕ) (v : View) (x : LeadView) (t : Trail) (looks : List Found)
@@ -97,7 +104,6 @@ module _ (p : Lay) where
         here = k.here;
         leads = λ e. (refl, (k.leads e).1, seen);
         expects = k.expects;
-        table = k.table;
         is_split = k.is_split;
         owns = k.owns;
         ends = k.ends;
@@ -107,12 +113,11 @@ module _ (p : Lay) where
         here = r.here;
         leads = λ e. absurd (other (sym (r.here (omega arith)) ∙ ap g.seat_at (e ∙ sym leads) ∙ k.here (omega arith)));
         expects = r.expects;
-        table = r.table;
         is_split = r.is_split;
         owns = r.owns;
         ends = r.ends;
       })
-      s.unsplit s.still s.table s
+      s.unsplit s.still s.table (λ _. refl) refl refl s
 
   -- nothing of the whole changes: the seat remembers something
   pub stay_step : (g : Whole) (words after : List ℕ) (views : List View) (id : ℕ) (v : View) (t : Trail) → get_elem? views id ≡ some v
@@ -124,12 +129,11 @@ module _ (p : Lay) where
         here = k.here;
         leads = λ e. let z = k.leads e in (z.0, z.1, seen ∙ z.2);
         expects = k.expects;
-        table = k.table;
         is_split = k.is_split;
         owns = k.owns;
         ends = k.ends;
       }
-      (λ j u _ r. r) s.unsplit s.still s.table s
+      (λ j u _ r. r) s.unsplit s.still s.table (λ _. refl) refl refl s
 
   -- a check has loaded a status more
   pub look_step : (g : Whole) (words : List ℕ) (views : List View) (id : ℕ) (v : View) (t : Trail) → get_elem? views id ≡ some v
@@ -141,7 +145,6 @@ module _ (p : Lay) where
         here = k.here;
         leads = λ e. let z = k.leads e in (z.0, z.1, refl);
         expects = k.expects;
-        table = k.table;
         is_split = k.is_split;
         owns = k.owns;
         ends = k.ends;
@@ -151,12 +154,11 @@ module _ (p : Lay) where
         here = r.here;
         leads = λ e. absurd (other (sym (r.here (omega arith)) ∙ ap g.seat_at (e ∙ sym leads) ∙ k.here (omega arith)));
         expects = r.expects;
-        table = r.table;
         is_split = r.is_split;
         owns = r.owns;
         ends = r.ends;
       })
-      s.unsplit s.still s.table s
+      s.unsplit s.still s.table (λ _. refl) refl refl s
 
   -- no seat's view has the events
   pub seated_logs : (g : Whole) (words : List ℕ) (views : List View) (past inside : List Event) (late : ℕ) → Seated p g words views
@@ -164,7 +166,6 @@ module _ (p : Lay) where
   seated_logs g words views past inside late s = record {
     sound = s.sound;
     pooled = s.pooled;
-    undelayed = s.undelayed;
     room = s.room;
     wide = s.wide;
     long = s.long;
@@ -173,11 +174,12 @@ module _ (p : Lay) where
       here = k.here;
       leads = k.leads;
       expects = k.expects;
-      table = k.table;
       is_split = k.is_split;
       owns = k.owns;
       ends = k.ends;
     };
+    most = s.most;
+    present = s.present;
     unsplit = s.unsplit;
     still = s.still;
     table = s.table;

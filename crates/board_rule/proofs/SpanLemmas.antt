@@ -54,7 +54,7 @@ cond_first false a x y h = omega arith
 
 module _ (p : Lay) where
   pub wired_in : (g : Whole) (ws : List ℕ) (views : List View) → Seated p g ws views → Wired p
-  wired_in g ws views s = wired p s.sound s.pooled s.undelayed
+  wired_in g ws views s = wired p s.sound s.pooled
 
   pub over_at : (g : Whole) (n : ℕ) → n ≢ p.driver → (spans p g n).over ≡ node_over (g.nodes n)
   over_at g n o = ap (λ b. cond b (lead_over g.lead) (node_over (g.nodes n))) (ne_eqb n p.driver o)

@@ -35,19 +35,20 @@ use Rattle.board_rule.proofs.SpanLemmas.{IsLogWord, draws_paced, stores_paced, d
 use Rattle.board_rule.proofs.DriveLemmas.{draws_more, draws_goes, draws_logs, stores_goes, stores_logs, late_goes, late_logs}
 
 module _ (p : Lay) {S : Type 0} (slots id : ℕ) (me : Me S View) (after : ℕ → View) where
-  pub lowers : (b : Bool) (m n : ℕ) → Lowers b p me.0 m → get_or (p.targets m) (taken b me.0 m) 0 ≡ n
+  pub lowers : (says : ℕ → Type 0) (b : Bool) (m n : ℕ) → Lowers b p me.0 m → get_or (p.targets m) (taken b me.0 m) 0 ≡ n
       → ((found : ℕ) → after found ≡ lowered b p me.0 m found)
-      → Allows (Holds p) slots id me (pending_place p.shape n) (λ w. (w + (2 ^ 64 - 1)) % 2 ^ 64) (Turns after me)
-  lowers true m n h target tells = let e = h.0.0.0 in let can = can_kick (length (p.targets m)) me.0.lead.drive h.1 in
-      kick_allowed p slots id (taken_of me.0.lead.drive) n me (λ found. told_trail me.0.trail (target_of true p me.0 m) found) after h.0.0.1
+      → ((found : ℕ) → 0 < found → says found)
+      → Allows (Holds p) slots id me (pending_place p.shape n) (λ w. (w + (2 ^ 64 - 1)) % 2 ^ 64) (Learns after says me)
+  lowers says true m n h target tells it = let e = h.0.0.0 in let can = can_kick (length (p.targets m)) me.0.lead.drive h.1 in
+      kick_allowed p slots id (taken_of me.0.lead.drive) n me (λ found. told_trail me.0.trail (target_of true p me.0 m) found) after says h.0.0.1
       (λ found. refl) can.0 (subst (λ k. taken_of me.0.lead.drive < length (p.targets k)) e can.1)
       (sym (ap (λ k. get_or (p.targets k) (taken_of me.0.lead.drive) 0) e) ∙ target)
       (λ found. tells found ∙ ap (λ k. view_lead me.0
       (record me.0.lead { drive = kicked (length (p.targets k)) (taken_of me.0.lead.drive + 1) (eqb found 1) })
-      (told_trail me.0.trail (target_of true p me.0 m) found)) e)
-  lowers false m n h target tells = let can = can_tell (length (p.targets m)) (node_of me.0 m).phase h.1 in
+      (told_trail me.0.trail (target_of true p me.0 m) found)) e) it
+  lowers says false m n h target tells it = let can = can_tell (length (p.targets m)) (node_of me.0 m).phase h.1 in
       lower_allowed p slots id m (told_of (node_of me.0 m).phase) n me
-      (λ found. told_trail me.0.trail (target_of false p me.0 m) found) after h.0.0 can.0 can.1 target tells
+      (λ found. told_trail me.0.trail (target_of false p me.0 m) found) after says h.0.0 can.0 can.1 target tells it
 
   pub triggers : (b : Bool) (m n : ℕ) → Triggers b p me.0 m → get_or (p.targets m) (taken b me.0 m - 1) 0 ≡ n
       → ((found : ℕ) → after found ≡ triggered b p me.0 m)

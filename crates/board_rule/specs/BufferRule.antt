@@ -5,6 +5,7 @@ use Rattle.pw_base.specs.declared.shape.ShapeLink.{ShapeLink}
 use Rattle.pw_base.specs.declared.pools.PoolShape.{PoolShape}
 use Rattle.pw_base.specs.Layout.{io_place, readers_place, sample_place}
 use Rattle.pw_base.specs.Pools.{pools_of}
+use Rattle.board_rule.specs.declared.view.WriteView.{WriteView}
 use Rattle.board_rule.specs.declared.view.ReadView.{ReadView}
 use Rattle.board_rule.specs.declared.view.BlockView.{BlockView}
 use Rattle.board_rule.specs.declared.view.BlockView.TheVariants.{Out}
@@ -26,16 +27,27 @@ module _ (p : Lay) where
     pub samples : (i : ℕ) → i < filled x.words block
         → slice_index words (sample_place p.shape q b i) ≡ packed (samples_of p e (stamp writer.over block) q) i
 
-  -- A POOL x, whose number is q. `out`: a block that a reader has yet to take down is out. `apart` and `near`: busy
+  -- THE BLOCKS THAT A LINK NAMES, where it is so late and its writer has loaded a link of the pool x, this one or another,
+  -- in so many cycles. Of the stores `a` ago, 0 or 1, whose stamp is n: `out`: the block is out until that load in the
+  -- cycle in which it is reclaimed. `names`: no other block with the stamp is out. `zero`: the block that a delayed link
+  -- names from the start on is number 0
+  pub record NamesBlocks (x : PoolShape) (late loaded : ℕ) (w : WriteView) (blocks : ℕ → BlockView) : Type 0 where
+    pub out : (a n : ℕ) → a ≤ late → n + a ≡ w.stored → first p < n + late → loaded < n + lag p x
+        → blocks (stored_id w a) ≡ Out n
+    pub zero : late ≡ 1 → (a : ℕ) → a ≤ 1 → first p + a ≡ w.stored → stored_id w a ≡ 0
+    pub names : (a n b : ℕ) → a ≤ late → n + a ≡ w.stored → first p < n + late → b < x.blocks → blocks b ≡ Out n
+        → stored_id w a ≡ b
+
+  -- A POOL x. `named`: what one of its links names is out until the writer has loaded all of them. `apart` and `near`: busy
   -- blocks have stamps that differ, by less than the lag
-  pub record PoolOk (q : ℕ) (x : PoolShape) (over : ℕ) (ends : Ends) : Type 0 where
-    pub out : (l a n : ℕ) → Contains x.links l → a ≤ late_at p l → first p + a < (ends.writes l).stored + late_at p l
-        → (ends.reads l).lowered + a < (ends.writes l).stored + late_at p l → n + a ≡ (ends.writes l).stored
-        → ends.blocks q (stored_id (ends.writes l) a) ≡ Out n
-    pub apart : (a b : ℕ) → a < x.blocks → b < x.blocks → is_busy (ends.blocks q a) ≡ true
-        → is_busy (ends.blocks q b) ≡ true → stamp over (ends.blocks q a) ≡ stamp over (ends.blocks q b) → a ≡ b
-    pub near : (a b : ℕ) → a < x.blocks → b < x.blocks → is_busy (ends.blocks q a) ≡ true
-        → is_busy (ends.blocks q b) ≡ true → stamp over (ends.blocks q a) < stamp over (ends.blocks q b) + lag p x
+  pub record PoolOk (x : PoolShape) (writer : Span) (writes : ℕ → WriteView) (blocks : ℕ → BlockView)
+      : Type 0 where
+    pub named : (l m : ℕ) → Contains x.links l → Contains x.links m
+        → NamesBlocks x (late_at p l) (writes m).loaded (writes l) blocks
+    pub apart : (a b : ℕ) → a < x.blocks → b < x.blocks → is_busy (blocks a) ≡ true → is_busy (blocks b) ≡ true
+        → stamp writer.over (blocks a) ≡ stamp writer.over (blocks b) → a ≡ b
+    pub near : (a b : ℕ) → a < x.blocks → b < x.blocks → is_busy (blocks a) ≡ true → is_busy (blocks b) ≡ true
+        → stamp writer.over (blocks a) < stamp writer.over (blocks b) + lag p x
 
   -- BUFFER RULE: each link of each pool, each block and each pool, where `spans` has what each place has done
   pub record Buffers (spans : ℕ → Span) (ends : Ends) (e : Samples) (words : List ℕ) : Type 0 where
@@ -45,4 +57,4 @@ module _ (p : Lay) where
     pub blocks : (q b : ℕ) (x : PoolShape) → slice_get (pools_of p.shape) q ≡ Some x → b < x.blocks
         → BlockOk q b x (spans (p.place x.port.node)) ends.reads e (ends.blocks q b) words
     pub pools : (q : ℕ) (x : PoolShape) → slice_get (pools_of p.shape) q ≡ Some x
-        → PoolOk q x (spans (p.place x.port.node)).over ends
+        → PoolOk x (spans (p.place x.port.node)) ends.writes (ends.blocks q)

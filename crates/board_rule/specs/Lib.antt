@@ -37,3 +37,4 @@ pub mod Progress
 pub mod LeadProgress
 pub mod Known
 pub mod Closing
+pub mod BufferSafety

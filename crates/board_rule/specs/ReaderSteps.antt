@@ -5,10 +5,11 @@
 use Rattle.std.specs.Prelude.{◌≡◌, ℕ, ℤ, ◌+◌, ◌-◌, ◌<◌, Bool, List, length}
 use Rattle.pw_base.specs.Words.{io_word_of, io_id_in}
 use Rattle.board_rule.specs.declared.view.View.{View}
-use Rattle.board_rule.specs.Layout.{Lay}
+use Rattle.board_rule.specs.Layout.{Lay, first}
 use Rattle.board_rule.specs.SampleWords.{samples_of}
+use Rattle.board_rule.specs.Areas.{area_of}
 use Rattle.board_rule.specs.BlockReadings.{late_at}
-use Rattle.board_rule.specs.EndViews.{read_of, view_read, pool_at, reader_of, pool_of}
+use Rattle.board_rule.specs.EndViews.{read_of, view_read, link_at, pool_at, reader_of, pool_of}
 use Rattle.board_rule.specs.SeatNodes.{cycle_of, HasNode}
 use Rattle.board_rule.specs.WorkSteps.{IsRunning}
 
@@ -22,6 +23,10 @@ module _ (leads : Bool) (p : Lay) where
   IsReader v l = (l < length p.shape.links) × (l < length v.reads) × HasNode leads p v (reader_of p l)
       × IsRunning leads v (reader_of p l)
 
+  -- the area that it uses in this cycle
+  abbrev pub read_area : View → ℕ → ℕ
+  read_area v l = area_of (link_at p l) (read_cycle v l)
+
   -- LOADING AN AREA AS READER: not yet done in this cycle. It has data, with the number of a block of the link's pool
   abbrev pub LoadsAsReader : View → ℕ → Type 0
   LoadsAsReader v l = IsReader v l × ((read_of v l).loaded ≡ read_cycle v l)
@@ -29,8 +34,13 @@ module _ (leads : Bool) (p : Lay) where
   abbrev pub loaded_as_reader : View → ℕ → ℕ → View
   loaded_as_reader v l found = view_read v l (record (read_of v l) { loaded = read_cycle v l + 1; id = io_id_in found })
 
-  abbrev pub IsPublished : ℕ → ℕ → Type 0
-  IsPublished l found = (found ≡ io_word_of 2 (io_id_in found)) × (io_id_in found < (pool_at p (pool_of p l)).blocks)
+  -- over a delayed link the block of the first cycle is number 0
+  abbrev pub IsZeroAtFirst : View → ℕ → ℕ → Type 0
+  IsZeroAtFirst v l id = late_at p l ≡ 1 → read_cycle v l ≡ first p → id ≡ 0
+
+  abbrev pub IsPublished : View → ℕ → ℕ → Type 0
+  IsPublished v l found = (found ≡ io_word_of 2 (io_id_in found)) × (io_id_in found < (pool_at p (pool_of p l)).blocks)
+      × IsZeroAtFirst v l (io_id_in found)
 
   -- THE READER'S TURN: it has loaded the number of a block in this cycle
   abbrev pub IsReading : View → ℕ → ℕ → Type 0

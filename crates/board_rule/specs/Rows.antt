@@ -1,6 +1,6 @@
 -- What the steps of a board read of its shape, in rows by place.
 -- Source: this project's own.
-use Rattle.std.specs.Prelude.{◌≡◌, ℕ, ◌+◌, ◌^◌, ◌<◌, List, map, take, sum_by, length, slice_index, slice_index_or}
+use Rattle.std.specs.Prelude.{◌≡◌, ℕ, ◌+◌, ◌^◌, ◌<◌, ◌≤◌, List, map, take, sum_by, length, slice_index, slice_index_or}
 use Rattle.std.specs.List.{position_or_len}
 use Rattle.pw_base.specs.declared.shape.Shape.{Shape}
 use Rattle.pw_base.specs.declared.shape.ShapeLink.{ShapeLink}
@@ -11,6 +11,7 @@ use Rattle.board_rule.specs.declared.rows.Rows.{Rows}
 use Rattle.board_rule.specs.declared.rows.LinkRow.{LinkRow}
 use Rattle.board_rule.specs.declared.rows.PoolRow.{PoolRow}
 use Rattle.board_rule.specs.Layout.{place_in, required_row, target_rows, word_count}
+use Rattle.board_rule.specs.Areas.{late_by}
 use Rattle.board_rule.specs.EndViews.{link_in, pool_in, pool_number}
 
 -- where the words of a pool begin
@@ -24,6 +25,7 @@ pub record IsLinkRow (shape : Shape) (link : ShapeLink) (area : ℕ) (row : Link
   pub reader : row.reader ≡ place_in shape link.to.node
   pub pool : row.pool ≡ position_or_len (λ x. is_port x.port link.from) (pools_of shape)
   pub area_is : row.area ≡ area
+  pub delayed : row.delayed ≡ link.delayed
   pub base : row.base ≡ base_of shape row.pool
   pub stride : row.stride ≡ 1 + (pool_in shape row.pool).words
 
@@ -63,7 +65,7 @@ pub record HasRows (shape : Shape) (rows : Rows) : Type 0 where
 -- and there are not many pools
 pub record HasPlaces (shape : Shape) : Type 0 where
   pub pools : (l : ℕ) → l < length shape.links → pool_number shape l < length (pools_of shape)
-  pub areas : (l : ℕ) → l < length shape.links → io_place shape l 0 < word_count shape
+  pub areas : (l a : ℕ) → l < length shape.links → a ≤ late_by (link_in shape l) → io_place shape l a < word_count shape
   pub blocks : (q b : ℕ) → q < length (pools_of shape) → b < (pool_in shape q).blocks
       → readers_place shape q b + (pool_in shape q).words < word_count shape
   pub some : (q : ℕ) → q < length (pools_of shape) → 0 < (pool_in shape q).words

@@ -14,9 +14,8 @@ use Rattle.board_rule.specs.declared.view.Drive.TheVariants as drives
 use Rattle.board_rule.specs.declared.view.WriteView.{WriteView}
 use Rattle.board_rule.specs.declared.view.ReadView.{ReadView}
 use Rattle.board_rule.specs.declared.view.BlockView.{BlockView}
-use Rattle.board_rule.specs.declared.view.BlockView.TheVariants.{Free}
 use Rattle.board_rule.specs.Layout.{Lay, first}
-use Rattle.board_rule.specs.View.{Whole, unwritten, unread}
+use Rattle.board_rule.specs.View.{Whole, first_write, first_block, unread}
 use Rattle.board_rule.specs.Areas.{Span}
 use Rattle.board_rule.specs.BlockReadings.{Ends}
 
@@ -72,8 +71,8 @@ module _ (p : Lay) where
   -- the ends and the blocks of a loop's seat that is not yet split off are as at the start
   pub record AreStill (ends : Ends) (split : ℕ) : Type 0 where
     pub writes : (l : ℕ) (k : ShapeLink) → slice_get p.shape.links l ≡ Some k → split ≤ holder (p.place k.from.node)
-        → holder (p.place k.from.node) < p.seats → ends.writes l ≡ unwritten (first p)
+        → holder (p.place k.from.node) < p.seats → ends.writes l ≡ first_write (first p) k
     pub reads : (l : ℕ) (k : ShapeLink) → slice_get p.shape.links l ≡ Some k → split ≤ holder (p.place k.to.node)
         → holder (p.place k.to.node) < p.seats → ends.reads l ≡ unread (first p)
     pub blocks : (q b : ℕ) (x : PoolShape) → slice_get (pools_of p.shape) q ≡ Some x → b < x.blocks
-        → split ≤ holder (p.place x.port.node) → holder (p.place x.port.node) < p.seats → ends.blocks q b ≡ Free
+        → split ≤ holder (p.place x.port.node) → holder (p.place x.port.node) < p.seats → ends.blocks q b ≡ first_block p.shape x b

@@ -4,7 +4,7 @@ ghost use Rattle.std.specs.Prelude.{slice_index_or, count_by};
 ghost use Rattle.pw_base.specs.declared.event.Event.{Event};
 ghost use Rattle.pw_base.specs.EventWords.{event_word_of};
 ghost use Rattle.pw_base.specs.History.{is_tick, IsLegalHistory};
-ghost use Rattle.pw_base.specs.Layout.{late_place, event_place};
+ghost use Rattle.pw_base.specs.Layout.{late_place, event_place, event_count};
 ghost use Rattle.board_rule.specs.Layout.{lay};
 ghost use Rattle.board_rule.specs.Closing.{HasEndedAll, last_view, kept_view, expected, IsInRange, LateOf, AreRecorded};
 
@@ -23,6 +23,7 @@ type Words = atomic_table::Closed<Option<u64>, Global>;
 fn keep<C: Cut>(board: &Board, token: &mut BoardToken) -> BoardToken
     requires table { token.old.table_id ≡ board.now.table.shared.table_id }
     requires leads { token.old.me.0.number ≡ (lay board.now.plot).seats }
+    requires ended { HasEndedAll (lay board.now.plot) token.old.me.0 }
     requires left { C.left ≡ last_view (lay board.now.plot) token.old.me.0 }
     requires right { C.right ≡ kept_view (lay board.now.plot) token.old.me.0 }
     ensures left { (token.new.table_id ≡ token.old.table_id) × (token.new.me.0 ≡ C.left) }
@@ -84,6 +85,7 @@ impl Board {
         // The events are a legal history of the epoch, with one Tick for each check that the seat made.
         ensures legal { IsLegalHistory (self.plot.shape ∷ []) result.events }
         ensures ticks { count_by is_tick result.events ≡ seat.knows.lead.checks }
+        ensures count { length result.events ≤ event_count self.plot.shape }
     {
         let DriverSeat {
             token,

@@ -126,7 +126,7 @@ impl BoardSeat for DriverSeat {
     fn load_io_as_reader(&mut self, board: &Board, link: u32) -> u64 {
         let end = self.read_at(link);
         let cycle = self.lead.cycle;
-        let found = reading::load_area::<Brand>(board, &mut self.token, link);
+        let found = reading::load_area::<Brand>(board, &mut self.token, link, cycle);
         self.reads[link as usize] = ReadView {
             loaded: cycle + 1,
             lowered: end.lowered,
@@ -134,12 +134,6 @@ impl BoardSeat for DriverSeat {
             id: io_id_of(found),
         };
         found
-    }
-
-    #[inline]
-    fn load_sample(&mut self, board: &Board, link: u32, id: u32, place: u32) -> u64 {
-        let word = board.link_sample_word(link, id, place);
-        reading::load_sample::<Brand>(board, &mut self.token, link, id, place, word)
     }
 
     #[inline]
@@ -173,7 +167,7 @@ impl BoardSeat for DriverSeat {
     fn store_need_data(&mut self, board: &Board, link: u32, id: u32) {
         let end = self.read_at(link);
         let cycle = self.lead.cycle;
-        reading::store_need::<Brand>(board, &mut self.token, link, id);
+        reading::store_need::<Brand>(board, &mut self.token, link, cycle, id);
         self.reads[link as usize] = ReadView {
             loaded: end.loaded,
             lowered: end.lowered,

@@ -17,6 +17,7 @@ mod plot;
 mod progress;
 mod rows;
 mod rule;
+mod safety;
 mod seat;
 mod steps;
 mod view;
@@ -29,7 +30,9 @@ pub use expect::Expect;
 pub use left::{left_at_start, left_of, tell};
 pub use loop_seat::LoopSeat;
 pub use plot::Plot;
+pub use rows::place_in;
 pub use rule::BoardRule;
+pub use safety::buffers_are_safe;
 pub use seat::BoardSeat;
 pub use view::{
     BlockView, Drive, Found, LeadView, NodeView, Phase, ReadView, Trail, View, WriteView,

@@ -131,7 +131,7 @@ impl BoardSeat for LoopSeat {
     fn load_io_as_reader(&mut self, board: &Board, link: u32) -> u64 {
         let end = self.read_at(link);
         let cycle = self.node_at(board.reader(link)).next;
-        let found = reading::load_area::<Brand>(board, &mut self.token, link);
+        let found = reading::load_area::<Brand>(board, &mut self.token, link, cycle);
         self.reads[link as usize] = ReadView {
             loaded: cycle + 1,
             lowered: end.lowered,
@@ -139,12 +139,6 @@ impl BoardSeat for LoopSeat {
             id: io_id_of(found),
         };
         found
-    }
-
-    #[inline]
-    fn load_sample(&mut self, board: &Board, link: u32, id: u32, place: u32) -> u64 {
-        let word = board.link_sample_word(link, id, place);
-        reading::load_sample::<Brand>(board, &mut self.token, link, id, place, word)
     }
 
     #[inline]
@@ -178,7 +172,7 @@ impl BoardSeat for LoopSeat {
     fn store_need_data(&mut self, board: &Board, link: u32, id: u32) {
         let end = self.read_at(link);
         let cycle = self.node_at(board.reader(link)).next;
-        reading::store_need::<Brand>(board, &mut self.token, link, id);
+        reading::store_need::<Brand>(board, &mut self.token, link, cycle, id);
         self.reads[link as usize] = ReadView {
             loaded: end.loaded,
             lowered: end.lowered,

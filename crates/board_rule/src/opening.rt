@@ -1,18 +1,18 @@
 //! How a board begins: its words at the start, and its seats split off the first one.
-ghost use Rattle.std.specs.Prelude.{◌≡◌, ℕ, ◌<◌, length, slice_get, replicate, Some, IfOk};
+ghost use Rattle.std.specs.Prelude.{◌≡◌, ◌++◌, ℕ, ◌<◌, length, map, slice_get, replicate, Some, IfOk, OnOk};
 ghost use Rattle.pw_base.specs.Layout.{event_count};
 ghost use Rattle.pw_base.specs.Pools.{IsPooledShape};
 ghost use Rattle.board_rule.specs.Known.{Known};
-ghost use Rattle.board_rule.specs.Layout.{lay, HasSeats, IsUndelayed};
+ghost use Rattle.board_rule.specs.Layout.{lay, HasSeats};
 ghost use Rattle.board_rule.specs.Progress.{progress_of};
 ghost use Rattle.board_rule.specs.SampleWords.{IsTable};
-ghost use Rattle.board_rule.specs.View.{Samples, first_view, driver_view, loop_view, split_off, free_blocks, idle, unread, unwritten};
+ghost use Rattle.board_rule.specs.View.{Samples, first_view, driver_view, loop_view, split_off, blocks_at_first, first_blocks, idle, unread, first_write};
 
 use crate::board::Board;
 use crate::copying::copy_shape;
 use crate::driver_seat::DriverSeat;
 use crate::expect::Expect;
-use crate::layout::start_words;
+use crate::layout::{late_readers, start_words};
 use crate::lead::{Due, LeadProgress};
 use crate::loop_seat::LoopSeat;
 use crate::plot::Plot;
@@ -21,7 +21,7 @@ use crate::rows::rows_of;
 use crate::rule::{BoardTable, BoardToken};
 use crate::view::{BlockView, ReadView, View, WriteView};
 use atomic_table::{Split, Table};
-use pw_base::{Items, Memory, NO_BLOCK, Shape, pools_of};
+use pw_base::{Items, Memory, NO_BLOCK, PoolShape, Shape, ShapeLink, pools_of};
 use std::alloc::{AllocError, Global};
 use std::marker::{Brand, PhantomData};
 
@@ -68,15 +68,28 @@ fn split<C: Cut>(board: &Board, token: &mut BoardToken) -> BoardToken
     board.table.shared.split_seat::<Parts<C>>(token)
 }
 
-// The blocks of all pools of a shape, free.
-fn free_blocks(alloc: Global, shape: &Shape) -> Result<Items<BlockView>, Memory>
+// The blocks of a pool at the start, behind those of the pools before it.
+fn push_blocks(blocks: &mut Items<BlockView>, shape: &Shape, pool: &PoolShape) -> Result<(), Memory>
+    ensures { OnOk result (blocks.new ≡ blocks.old ++ blocks_at_first shape.now pool.now) }
+{
+    if late_readers(shape.links.as_slice(), pool.port) == 0 {
+        return blocks.extend_filled(pool.blocks as usize, BlockView::Free);
+    }
+    blocks.push(BlockView::Out {
+        stamp: u64::from(shape.first),
+    })?;
+    blocks.extend_filled((pool.blocks as usize).saturating_sub(1), BlockView::Free)
+}
+
+// The blocks of all pools of a shape at the start.
+fn first_blocks(alloc: Global, shape: &Shape) -> Result<Items<BlockView>, Memory>
     requires { IsPooledShape shape.now }
-    ensures { IfOk result (λ blocks. blocks ≡ free_blocks shape.now) }
+    ensures { IfOk result (λ blocks. blocks ≡ first_blocks shape.now) }
 {
     let pools = pools_of(alloc, shape)?;
     let mut blocks = Items::new(alloc);
     for pool in pools.as_slice() {
-        blocks.extend_filled(pool.blocks as usize, BlockView::Free)?;
+        push_blocks(&mut blocks, shape, pool)?;
     }
     Ok(blocks)
 }
@@ -94,17 +107,31 @@ fn unread(alloc: Global, links: usize, cycle: u64) -> Result<Vec<ReadView>, Allo
     Vec::from_elem(alloc, end, links)
 }
 
-// The writer's ends of links, of which nothing is written before the cycle.
-fn unwritten(alloc: Global, links: usize, cycle: u64) -> Result<Vec<WriteView>, AllocError>
-    ensures { IfOk result (λ writes. writes.items ≡ replicate links (unwritten cycle)) }
+// The writer's end of a link at the start.
+fn first_write(cycle: u64, link: ShapeLink) -> WriteView
+    ensures { result ≡ first_write cycle link }
 {
-    let end = WriteView {
+    WriteView {
         loaded: cycle,
         stored: cycle,
-        id: NO_BLOCK,
+        id: if link.delayed { 0 } else { NO_BLOCK },
         last: NO_BLOCK,
-    };
-    Vec::from_elem(alloc, end, links)
+    }
+}
+
+// The writer's ends of all links.
+fn first_writes(
+    alloc: Global,
+    links: &[ShapeLink],
+    cycle: u64,
+) -> Result<Vec<WriteView>, AllocError>
+    ensures { IfOk result (λ writes. writes.items ≡ map (first_write cycle) links.now) }
+{
+    let mut writes = Vec::new(alloc);
+    for link in links {
+        writes.push(first_write(cycle, *link))?;
+    }
+    Ok(writes)
 }
 
 // Followers that wait in the cycle.
@@ -132,7 +159,7 @@ impl DriverSeat {
         requires table { self.old.table ≡ board.now.table.shared.table_id }
         requires leads { self.old.knows.number ≡ (lay board.now.plot).seats }
         requires room { self.old.knows.split < (lay board.now.plot).seats }
-        requires free { free.now ≡ free_blocks board.now.plot.shape }
+        requires free { free.now ≡ first_blocks board.now.plot.shape }
         requires expect { 0 < self.old.knows.split → E.expect ≡ self.old.knows.expect }
         requires samples { IsTable (lay board.now.plot) E.expect }
         ensures { IfOk result (λ s. (self.new.table ≡ self.old.table)
@@ -142,7 +169,7 @@ impl DriverSeat {
         let shape = board.shape();
         let first = u64::from(shape.first);
         let nodes = idle(alloc, shape.nodes.len(), first)?;
-        let writes = unwritten(alloc, shape.links.len(), first)?;
+        let writes = first_writes(alloc, shape.links.as_slice(), first)?;
         let reads = unread(alloc, shape.links.len(), first)?;
         let blocks = free.copy(alloc)?.into_vec();
         let token = split::<Brand>(board, &mut self.token);
@@ -167,7 +194,7 @@ impl DriverSeat {
     ) -> Result<Items<LoopSeat>, Memory>
         requires table { self.old.table ≡ board.now.table.shared.table_id }
         requires knows { self.old.knows ≡ first_view (lay board.now.plot) }
-        requires free { free.now ≡ free_blocks board.now.plot.shape }
+        requires free { free.now ≡ first_blocks board.now.plot.shape }
         requires samples { IsTable (lay board.now.plot) E.expect }
         ensures driver { IfOk result (λ _. self.new
             ≡ record {
@@ -212,7 +239,6 @@ impl Board {
     // The board of a plot, with the driver's seat before any split.
     fn lay_out(alloc: Global, plot: Plot) -> Result<(Board, DriverSeat), Memory>
         requires pooled { IsPooledShape plot.shape }
-        requires undelayed { IsUndelayed plot.shape }
         requires seats { HasSeats plot }
         ensures { IfOk result (λ t. (t.0.plot ≡ plot) × (t.1.table ≡ t.0.table.shared.table_id)
             × (t.1.knows ≡ first_view (lay plot))) }
@@ -251,7 +277,7 @@ impl Board {
         ))
     }
 
-    /// A board for a shape without delayed links, the driver's seat and the loops' seats in the order of their numbers.
+    /// A board for a shape, the driver's seat and the loops' seats in the order of their numbers.
     /// `seat_of` gives the loop's seat of each node by place in the shape, below `seats`; the driver's entry is not
     /// looked at. All seats agree on the samples of `E`, which the caller names at the call: for each cycle and pool one
     /// quantum of 16-bit samples.
@@ -264,7 +290,6 @@ impl Board {
         seats: u32,
     ) -> Result<(Board, DriverSeat, Items<LoopSeat>), Memory>
         requires pooled { IsPooledShape shape.now }
-        requires undelayed { IsUndelayed shape.now }
         requires seats { HasSeats record { shape = shape.now; seat_of = seat_of.now; seats = seats } }
         requires samples { IsTable (lay record { shape = shape.now; seat_of = seat_of.now; seats = seats })
             E.expect }
@@ -281,7 +306,7 @@ impl Board {
             }) }
     {
         let plot = plot_of(alloc, shape, seat_of, seats)?;
-        let free = free_blocks(alloc, shape)?;
+        let free = first_blocks(alloc, shape)?;
         let (board, mut driver) = Board::lay_out(alloc, plot)?;
         let loops = driver.split_all::<E>(alloc, &board, &free)?;
         Ok((board, driver, loops))

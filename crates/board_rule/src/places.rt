@@ -4,7 +4,8 @@ ghost use Rattle.pw_base.specs.Layout.{io_place, readers_place, sample_place};
 ghost use Rattle.pw_base.specs.Pools.{pools_of};
 ghost use Rattle.board_rule.specs.Layout.{lay, nodes};
 ghost use Rattle.board_rule.specs.Spans.{block_at};
-ghost use Rattle.board_rule.specs.EndViews.{pool_at, writer_of, reader_of, filler_of, pool_of};
+ghost use Rattle.board_rule.specs.Areas.{area_of};
+ghost use Rattle.board_rule.specs.EndViews.{link_at, pool_at, writer_of, reader_of, filler_of, pool_of};
 
 use crate::board::Board;
 
@@ -85,13 +86,18 @@ impl Board {
         self.rows.links[link as usize].pool
     }
 
-    /// Where the area of a link stands.
-    pub(crate) fn area_word(&self, link: u32) -> usize
+    /// Where the area of a link stands that has the block of a stamp.
+    pub(crate) fn area_word(&self, link: u32, stamp: u64) -> usize
         requires { link < length self.now.plot.shape.links }
-        ensures is { result ≡ io_place self.now.plot.shape link 0 }
+        ensures is { result ≡ io_place self.now.plot.shape link (area_of (link_at (lay self.now.plot) link) stamp) }
         ensures there { result < self.now.table.shared.table_id.words }
     {
-        self.rows.links[link as usize].area
+        let row = self.rows.links[link as usize];
+        if row.delayed {
+            row.area + (stamp % 2) as usize
+        } else {
+            row.area
+        }
     }
 }
 
@@ -139,18 +145,7 @@ impl Board {
         row.base + id as usize * (1 + row.words)
     }
 
-    /// Where a sample word of a block stands.
-    pub(crate) fn sample_word(&self, pool: usize, id: u32, place: u32) -> usize
-        requires inside { pool < length (pools_of self.now.plot.shape) }
-        requires block { id < (pool_at (lay self.now.plot) pool).blocks }
-        requires place { place < (pool_at (lay self.now.plot) pool).words }
-        ensures is { result ≡ sample_place self.now.plot.shape pool id place }
-        ensures there { result < self.now.table.shared.table_id.words }
-    {
-        self.readers_word(pool, id) + 1 + place as usize
-    }
-
-    /// The same, where the first sample word of the block stands at a place that is known.
+    /// Where a sample word of a block stands, whose first sample word stands at a known place.
     pub(crate) fn sample_word_at(&self, pool: usize, id: u32, place: u32, first: usize) -> usize
         requires inside { pool < length (pools_of self.now.plot.shape) }
         requires block { id < (pool_at (lay self.now.plot) pool).blocks }
@@ -173,7 +168,7 @@ impl Board {
         first + place as usize
     }
 
-    /// The same words of a block of the pool that a link reads.
+    /// Where the readers word of a block stands, of the pool that a link reads.
     pub(crate) fn link_readers_word(&self, link: u32, id: u32) -> usize
         requires inside { link < length self.now.plot.shape.links }
         requires block { let p = lay self.now.plot in id < (pool_at p (pool_of p link)).blocks }
@@ -182,15 +177,5 @@ impl Board {
     {
         let row = self.rows.links[link as usize];
         row.base + id as usize * row.stride
-    }
-
-    pub(crate) fn link_sample_word(&self, link: u32, id: u32, place: u32) -> usize
-        requires inside { link < length self.now.plot.shape.links }
-        requires block { let p = lay self.now.plot in id < (pool_at p (pool_of p link)).blocks }
-        requires place { let p = lay self.now.plot in place < (pool_at p (pool_of p link)).words }
-        ensures is { result ≡ sample_place self.now.plot.shape (pool_of (lay self.now.plot) link) id place }
-        ensures there { result < self.now.table.shared.table_id.words }
-    {
-        self.link_readers_word(link, id) + 1 + place as usize
     }
 }

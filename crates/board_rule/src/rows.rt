@@ -10,7 +10,7 @@ ghost use Rattle.board_rule.specs.Rows.{IsLinkRow, HasLinkRows, IsPoolRow, HasPo
 use pw_base::{Memory, PoolShape, PortId, Shape, ShapeLink, is_port, pools_of};
 use std::alloc::{AllocError, Global};
 
-/// A link: the places of its writer and of its reader, the number of the pool that it reads, and where its area stands;
+/// A link: the places of its writer and of its reader, the number of the pool that it reads, where its first area stands, and whether it has a second;
 /// where the words of its pool begin, and how many each block has with its readers word.
 #[derive(Clone, Copy, Drop)]
 pub struct LinkRow {
@@ -18,6 +18,7 @@ pub struct LinkRow {
     pub(crate) reader: usize,
     pub(crate) pool: usize,
     pub(crate) area: usize,
+    pub(crate) delayed: bool,
     pub(crate) base: usize,
     pub(crate) stride: usize,
 }
@@ -56,9 +57,9 @@ fn find_place(shape: &Shape, node: u32) -> Option<usize>
     shape.nodes.as_slice().iter().position(|n| n.node == node)
 }
 
-// The place of a node, or the number of nodes.
+/// The place of a node of a shape, or the number of its nodes. Cost: a look at each node.
 #[tactic(auto, using(crate::proofs::RowLemmas::place_or_end))]
-fn place_in(shape: &Shape, node: u32) -> usize
+pub fn place_in(shape: &Shape, node: u32) -> usize
     ensures { result ≡ place_in shape.now node }
 {
     find_place(shape, node).unwrap_or(shape.nodes.len())
@@ -175,6 +176,7 @@ fn link_row(
         reader: place_in(shape, link.to.node),
         pool,
         area,
+        delayed: link.delayed,
         base: row.base,
         stride: 1 + row.words,
     }

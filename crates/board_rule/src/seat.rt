@@ -42,7 +42,8 @@ pub trait BoardSeat {
         requires phase { let p = lay board.now.plot in Lowers leads p (knows self.old) (p.place node) }
         ensures table { table self.new ≡ table self.old }
         ensures knows { let p = lay board.now.plot in
-            knows self.new ≡ lowered leads p (knows self.old) (p.place node) result };
+            knows self.new ≡ lowered leads p (knows self.old) (p.place node) result }
+        ensures word { 0 < result };
 
     /// Stores TRIGGERED of its cycle in the status word of the target that is owed.
     fn store_triggered(&mut self, board: &Board, node: u32)
@@ -100,20 +101,11 @@ pub trait BoardSeat {
         ensures table { table self.new ≡ table self.old }
         ensures knows { knows self.new ≡ loaded_as_reader leads (lay board.now.plot)
             (knows self.old) link result }
-        ensures word { IsPublished leads (lay board.now.plot) link result };
+        ensures word { IsPublished leads (lay board.now.plot) (knows self.old) link result };
 
     /// Loads a sample word of the block that the reader has in its turn and has not taken down: four of the samples that
-    /// are expected. The seat's table of samples has one quantum of 16-bit samples for each cycle and pool.
-    fn load_sample(&mut self, board: &Board, link: u32, id: u32, place: u32) -> u64
-        requires table { table self.old ≡ board.now.table.shared.table_id }
-        requires phase { ReadsBlock leads (lay board.now.plot) (knows self.old) link id }
-        requires place { let p = lay board.now.plot in place < (pool_at p (pool_of p link)).words }
-        ensures table { table self.new ≡ table self.old }
-        ensures knows { knows self.new ≡ knows self.old }
-        ensures word { result ≡ packed (samples_read leads (lay board.now.plot) (knows self.old) link) place }
-        ensures samples { IsTable (lay board.now.plot) (knows self.old).expect };
-
-    /// The same, where it is known at which place the first sample word of the block stands (`Board::first_sample`).
+    /// are expected. `first` is where the first sample word of the block stands (`Board::first_sample`). The seat's table
+    /// of samples has one quantum of 16-bit samples for each cycle and pool.
     fn load_sample_at(&mut self, board: &Board, link: u32, id: u32, place: u32, first: usize) -> u64
         requires table { table self.old ≡ board.now.table.shared.table_id }
         requires phase { ReadsBlock leads (lay board.now.plot) (knows self.old) link id }

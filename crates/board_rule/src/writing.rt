@@ -8,7 +8,7 @@ ghost use Rattle.board_rule.specs.declared.view.BlockView.TheVariants.{Out};
 ghost use Rattle.board_rule.specs.EndViews.{write_of, pool_at, block_of};
 ghost use Rattle.board_rule.specs.BufferReads.{HasPool, IsFilled, is_filled, IsFirstFilled, older, IsOldestOut};
 ghost use Rattle.board_rule.specs.WriterSteps.{LoadsAsWriter, loaded_as_writer, IsGivenBack, StoresHave, have_stored};
-ghost use Rattle.board_rule.specs.BlockSteps.{LoadsReaders, readers_loaded, StoresSample, sample_stored, StoresReaders, readers_stored};
+ghost use Rattle.board_rule.specs.BlockSteps.{LoadsReaders, IsReturned, IsZeroAtSecond, readers_loaded, StoresSample, sample_stored, StoresReaders, readers_stored};
 
 use crate::board::Board;
 use crate::loop_seat::LoopSeat;
@@ -40,7 +40,7 @@ impl LoopSeat {
     {
         let end = self.write_at(link);
         let cycle = self.node_at(board.writer(link)).next;
-        let found = writing::load_area::<Brand>(board, &mut self.token, link);
+        let found = writing::load_area::<Brand>(board, &mut self.token, link, cycle + 1);
         self.writes[link as usize] = WriteView {
             loaded: cycle + 1,
             stored: end.stored,
@@ -60,7 +60,7 @@ impl LoopSeat {
     {
         let end = self.write_at(link);
         let cycle = self.node_at(board.writer(link)).next;
-        writing::store_have::<Brand>(board, &mut self.token, link, id);
+        writing::store_have::<Brand>(board, &mut self.token, link, cycle + 1, id);
         self.writes[link as usize] = WriteView {
             loaded: end.loaded,
             stored: cycle + 1,
@@ -69,7 +69,8 @@ impl LoopSeat {
         };
     }
 
-    /// Loads the readers word of the block that was announced a cycle ago. It is 0, and the block is free then.
+    /// Loads the readers word of the block that was announced a cycle ago, or two in a pool with a delayed link. It is 0, and the
+    /// block is free then; it is the one whose number the readers gave back.
     #[inline]
     pub fn load_readers(&mut self, board: &Board, pool: u32, id: u32) -> u64
         requires table { self.old.table ≡ board.now.table.shared.table_id }
@@ -77,6 +78,8 @@ impl LoopSeat {
         ensures table { self.new.table ≡ self.old.table }
         ensures knows { self.new.knows ≡ readers_loaded (lay board.now.plot) self.old.knows pool id result }
         ensures word { result ≡ 0 }
+        ensures returned { IsReturned (lay board.now.plot) self.old.knows pool id }
+        ensures second { IsZeroAtSecond (lay board.now.plot) self.old.knows pool id }
     {
         let at = board.block(pool as usize, id);
         let found = writing::load_readers::<Brand>(board, &mut self.token, pool as usize, id);
@@ -84,23 +87,8 @@ impl LoopSeat {
         found
     }
 
-    /// Stores the next sample word of a block, four samples of this cycle.
-    #[inline]
-    pub fn store_sample(&mut self, board: &Board, pool: u32, id: u32, place: u32, word: u64)
-        requires table { self.old.table ≡ board.now.table.shared.table_id }
-        requires phase { StoresSample (lay board.now.plot) self.old.knows pool id place word }
-        ensures table { self.new.table ≡ self.old.table }
-        ensures knows { self.new.knows ≡ sample_stored (lay board.now.plot) self.old.knows pool id place }
-    {
-        let at = board.block(pool as usize, id);
-        let to = board.sample_word(pool as usize, id, place);
-        writing::store_sample::<Brand>(board, &mut self.token, pool as usize, id, place, to, word);
-        self.blocks[at] = BlockView::Filling {
-            words: u64::from(place) + 1,
-        };
-    }
-
-    /// The same, where it is known at which place the first sample word of the block stands (`Board::first_sample`).
+    /// Stores the next sample word of a block, four samples of this cycle. `first` is where the first sample word of the
+    /// block stands (`Board::first_sample`).
     #[inline]
     pub fn store_sample_at(
         &mut self,

@@ -1,12 +1,13 @@
 -- What the calls use of a pool: its words by its quantum, and that the block a seat is asked for is one alone.
-use Rattle.std.proofs.Common.{◌≡◌, ℕ, ◌+◌, ◌-◌, ◌*◌, ◌/◌, ◌<◌, ◌≤◌, ⊎_elim, length, get_or, sym, ap, ◌∙◌, subst}
+use Rattle.std.proofs.Common.{◌≡◌, ℕ, ◌+◌, ◌-◌, ◌*◌, ◌/◌, ◌<◌, ◌≤◌, ⊎_elim, Bool, true, false, cond, length, get_or, sym, ap, ◌∙◌, subst}
 use Rattle.std.proofs.Common.{arith}
 use Rattle.std.proofs.Math.Nat.{le_antisymm}
 use Rattle.std.proofs.lemmas.Bool.{cases_lt}
 use Rattle.std.proofs.lemmas.List.{get_or-map, length-map}
 use Rattle.pw_base.specs.declared.ids.PortId.{PortId}
 use Rattle.pw_base.specs.declared.pools.PoolShape.{PoolShape}
-use Rattle.pw_base.specs.Pools.{sources_of, pool_of, pools_of}
+use Rattle.std.specs.List.{list_any}
+use Rattle.pw_base.specs.Pools.{links_from, sources_of, pool_of, pools_of}
 use Rattle.board_rule.specs.declared.view.View.{View}
 use Rattle.board_rule.specs.Layout.{Lay}
 use Rattle.board_rule.specs.BlockReadings.{lag}
@@ -17,6 +18,14 @@ use Rattle.io_areas.specs.Quanta.{quantum_of}
 use Rattle.io_areas.specs.Writing.{IsAtPool, IsDue}
 
 module _ (p : Lay) where
+  -- a pool is late by two cycles at most
+  pub lag_most : (x : PoolShape) → lag p x ≤ 2
+  lag_most x = by (list_any (λ k. k.delayed) (links_from p.shape x.port))
+    where
+      by : (b : Bool) → cond {A = ℕ} b 2 1 ≤ 2
+      by true = omega arith
+      by false = omega arith
+
   -- a word has four samples
   pub words_of_quantum : (q : ℕ) → q < length (pools_of p.shape) → (pool_at p q).words ≡ (quantum_of p q + 3) / 4
   words_of_quantum q h = let port : PortId = get_or (sources_of p.shape) q no_pool.port in

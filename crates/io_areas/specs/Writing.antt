@@ -12,7 +12,8 @@ use Rattle.board_rule.specs.BlockReadings.{late_at, lag, is_busy, stamp}
 use Rattle.board_rule.specs.EndViews.{write_of, pool_at, filler_of, pool_of, block_of, view_block}
 use Rattle.board_rule.specs.WorkSteps.{IsRunning}
 use Rattle.board_rule.specs.WriterSteps.{write_cycle, IsWriter, have_stored}
-use Rattle.board_rule.specs.BlockSteps.{fill_cycle, IsLoaded, IsWriting, HasBlock, readers_stored}
+use Rattle.board_rule.specs.BlockSteps.{fill_cycle, IsLoaded, IsWriting, HasBlock, IsReturned, IsZeroAtSecond}
+use Rattle.board_rule.specs.BlockSteps.{readers_stored}
 use Rattle.board_rule.specs.BufferReads.{HasPool, IsFirstFilled, IsOldestOut}
 
 module _ (p : Lay) where
@@ -30,13 +31,15 @@ module _ (p : Lay) where
   IsDue v q b = IsOldestOut p v q b (fill_cycle p v q + 1 - lag p (pool_at p q))
 
   -- RECLAIMING: all links of the pool are loaded in this cycle. In each cycle but the first a block is due, and it
-  -- becomes free
+  -- becomes free. It is the one whose number the readers of the latest links gave back, and block 0 in the second cycle
+  -- of a pool with a delayed link
   abbrev pub Reclaims : View → ℕ → Type 0
   Reclaims v q = IsAtPool v q × IsLoaded p v q × (first p < fill_cycle p v q → (b : ℕ) × IsDue v q b)
 
   abbrev pub HasReclaimed : View → ℕ → Option ℕ → View → Type 0
   HasReclaimed v q None w = (fill_cycle p v q ≡ first p) × (w ≡ v)
   HasReclaimed v q (Some b) w = (first p < fill_cycle p v q) × IsDue v q b × (w ≡ view_block p v q b Free)
+      × IsReturned p v q b × IsZeroAtSecond p v q b
 
   -- FILLING: the block is free, no block of the pool is due or filled in this cycle, and the samples are those that
   -- the pool gives in it

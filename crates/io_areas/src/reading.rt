@@ -4,7 +4,7 @@ ghost use Rattle.pw_base.specs.Pools.{pools_of};
 ghost use Rattle.pw_base.specs.Layout.{sample_place};
 ghost use Rattle.board_rule.specs.Layout.{lay};
 ghost use Rattle.board_rule.specs.EndViews.{pool_at, pool_of};
-ghost use Rattle.board_rule.specs.ReaderSteps.{LoadsAsReader};
+ghost use Rattle.board_rule.specs.ReaderSteps.{LoadsAsReader, IsZeroAtFirst};
 ghost use Rattle.io_areas.specs.Quanta.{quantum_of};
 ghost use Rattle.io_areas.specs.Reading.{taken, IsHolding, heard, GivesBack, given_back};
 
@@ -13,7 +13,7 @@ use board_rule::{Board, BoardSeat};
 use pw_base::io_id_of;
 
 /// The link's reader takes its turn in this cycle, which it has not yet done: one load of the io area. Answers the number of
-/// the block that is published there for this cycle.
+/// the block that is published there for this cycle; over a delayed link that is 0 in the epoch's first cycle.
 #[inline]
 pub fn take<S: BoardSeat>(board: &Board, seat: &mut S, link: u32) -> u32
     requires table { S.table seat.old ≡ board.now.table.shared.table_id }
@@ -21,6 +21,7 @@ pub fn take<S: BoardSeat>(board: &Board, seat: &mut S, link: u32) -> u32
     ensures table { S.table seat.new ≡ S.table seat.old }
     ensures knows { S.knows seat.new ≡ taken S.leads (lay board.now.plot) (S.knows seat.old) link result }
     ensures inside { let p = lay board.now.plot in result < (pool_at p (pool_of p link)).blocks }
+    ensures first { IsZeroAtFirst S.leads (lay board.now.plot) (S.knows seat.old) link result }
 {
     io_id_of(seat.load_io_as_reader(board, link))
 }

@@ -42,7 +42,7 @@ pub fn load_for_write(board: &Board, seat: &mut LoopSeat, link: u32) -> Option<u
 
 /// The pool has a free block again: one load of the readers word of the block that is due, which is 0. None exactly in
 /// the first cycle of the epoch, where no word is loaded, else the number of that block, which was announced in the cycle before,
-/// in a pool with a delayed link two cycles before.
+/// in a pool with a delayed link two cycles before; in the second cycle of such a pool it is 0.
 #[inline]
 pub fn reclaim(board: &Board, seat: &mut LoopSeat, pool: u32) -> Option<u32>
     requires table { seat.old.table ≡ board.now.table.shared.table_id }

@@ -7,7 +7,7 @@ ghost use Rattle.board_rule.specs.Steps.{finished, StoresPending, pending_stored
 
 use crate::board::Board;
 use crate::rule::BoardToken;
-use crate::steps::change::{Becomes, Change};
+use crate::steps::change::{Becomes, Change, Learned};
 use crate::steps::statuses::{awake, finished, not_triggered, triggered};
 
 /// Takes a target down: one `fetch_sub` of its pending word.
@@ -24,12 +24,14 @@ pub(crate) fn lower<C: Change>(
     requires inside { target < nodes (lay board.now.plot) }
     requires after { (found : ℕ) → C.after found
         ≡ lowered C.leads (lay board.now.plot) token.old.me.0 at found }
+    requires says { (found : ℕ) → 0 < found → C.says found }
     ensures same { (token.new.table_id ≡ token.old.table_id) × (token.new.id ≡ token.old.id)
         × (token.new.me.1 ≡ token.old.me.1) }
     ensures after { token.new.me.0 ≡ C.after result }
+    ensures says { C.says result }
 {
     let word = board.pending_word(target);
-    board.table.shared.fetch_sub::<Becomes<C>>(token, word, 1)
+    board.table.shared.fetch_sub::<Learned<C>>(token, word, 1)
 }
 
 /// Stores TRIGGERED of a cycle in the status word of a target.

@@ -7,7 +7,7 @@ ghost use Rattle.pw_base.specs.Layout.{sample_place};
 ghost use Rattle.board_rule.specs.Layout.{lay};
 ghost use Rattle.board_rule.specs.SampleWords.{IsTable, packed};
 ghost use Rattle.board_rule.specs.EndViews.{pool_at, pool_of};
-ghost use Rattle.board_rule.specs.ReaderSteps.{LoadsAsReader, loaded_as_reader, IsPublished, ReadsBlock, readers_lowered, samples_read};
+ghost use Rattle.board_rule.specs.ReaderSteps.{read_cycle, LoadsAsReader, loaded_as_reader, IsPublished, ReadsBlock, readers_lowered, samples_read};
 ghost use Rattle.board_rule.specs.ReaderSteps.{StoresNeed, need_stored};
 
 use crate::board::Board;
@@ -17,19 +17,26 @@ use pw_base::{AreaStatus, io_word};
 
 /// Loads the area of a link as its reader.
 #[inline]
-pub(crate) fn load_area<C: Change>(board: &Board, token: &mut BoardToken, link: u32) -> u64
+pub(crate) fn load_area<C: Change>(
+    board: &Board,
+    token: &mut BoardToken,
+    link: u32,
+    stamp: u64,
+) -> u64
     requires table { token.old.table_id ≡ board.now.table.shared.table_id }
     requires phase { LoadsAsReader C.leads (lay board.now.plot) token.old.me.0 link }
+    requires stamp { stamp ≡ read_cycle C.leads (lay board.now.plot) token.old.me.0 link }
     requires inside { link < length board.now.plot.shape.links }
     requires after { (found : ℕ) → C.after found
         ≡ loaded_as_reader C.leads (lay board.now.plot) token.old.me.0 link found }
-    requires says { (found : ℕ) → IsPublished C.leads (lay board.now.plot) link found → C.says found }
+    requires says { (found : ℕ) → IsPublished C.leads (lay board.now.plot) token.old.me.0 link found
+        → C.says found }
     ensures same { (token.new.table_id ≡ token.old.table_id) × (token.new.id ≡ token.old.id)
         × (token.new.me.1 ≡ token.old.me.1) }
     ensures after { token.new.me.0 ≡ C.after result }
     ensures says { C.says result }
 {
-    let word = board.area_word(link);
+    let word = board.area_word(link, stamp);
     board.table.shared.load::<Learned<C>>(token, word)
 }
 
@@ -88,9 +95,16 @@ pub(crate) fn lower_readers<C: Change>(
 
 /// Stores NEED_DATA with the number of a block in the area of a link.
 #[inline]
-pub(crate) fn store_need<C: Change>(board: &Board, token: &mut BoardToken, link: u32, id: u32)
+pub(crate) fn store_need<C: Change>(
+    board: &Board,
+    token: &mut BoardToken,
+    link: u32,
+    stamp: u64,
+    id: u32,
+)
     requires table { token.old.table_id ≡ board.now.table.shared.table_id }
     requires phase { StoresNeed C.leads (lay board.now.plot) token.old.me.0 link id }
+    requires stamp { stamp ≡ read_cycle C.leads (lay board.now.plot) token.old.me.0 link }
     requires inside { link < length board.now.plot.shape.links }
     requires after { (found : ℕ) → C.after found
         ≡ need_stored C.leads (lay board.now.plot) token.old.me.0 link }
@@ -98,7 +112,7 @@ pub(crate) fn store_need<C: Change>(board: &Board, token: &mut BoardToken, link:
         × (token.new.me.1 ≡ token.old.me.1) }
     ensures after { token.new.me.0 ≡ C.after (io_word_of 1 id) }
 {
-    let word = board.area_word(link);
+    let word = board.area_word(link, stamp);
     let new = io_word(AreaStatus::NeedData.number(), id);
     board.table.shared.store::<Becomes<C>>(token, word, new);
 }

@@ -1,13 +1,13 @@
 //! The atomic steps of a writer on areas and blocks. Links, pools and blocks are given by number; `C` is what the step gives
 //! its seat to know.
-ghost use Rattle.std.specs.Prelude.{◌≡◌, ℕ, ◌<◌, length};
+ghost use Rattle.std.specs.Prelude.{◌≡◌, ℕ, ◌+◌, ◌<◌, length};
 ghost use Rattle.pw_base.specs.Pools.{pools_of};
 ghost use Rattle.pw_base.specs.Words.{io_word_of, io_id_in};
 ghost use Rattle.pw_base.specs.Layout.{sample_place};
 ghost use Rattle.board_rule.specs.Layout.{lay};
 ghost use Rattle.board_rule.specs.EndViews.{pool_at};
-ghost use Rattle.board_rule.specs.WriterSteps.{LoadsAsWriter, loaded_as_writer, IsGivenBack, StoresHave, have_stored};
-ghost use Rattle.board_rule.specs.BlockSteps.{LoadsReaders, readers_loaded, StoresSample, sample_stored, StoresReaders, readers_stored};
+ghost use Rattle.board_rule.specs.WriterSteps.{write_cycle, LoadsAsWriter, loaded_as_writer, IsGivenBack, StoresHave, have_stored};
+ghost use Rattle.board_rule.specs.BlockSteps.{LoadsReaders, IsReturned, IsZeroAtSecond, readers_loaded, StoresSample, sample_stored, StoresReaders, readers_stored};
 
 use crate::board::Board;
 use crate::rule::BoardToken;
@@ -16,9 +16,15 @@ use pw_base::{AreaStatus, io_word};
 
 /// Loads the area of a link as its writer.
 #[inline]
-pub(crate) fn load_area<C: Change>(board: &Board, token: &mut BoardToken, link: u32) -> u64
+pub(crate) fn load_area<C: Change>(
+    board: &Board,
+    token: &mut BoardToken,
+    link: u32,
+    stamp: u64,
+) -> u64
     requires table { token.old.table_id ≡ board.now.table.shared.table_id }
     requires phase { LoadsAsWriter (lay board.now.plot) token.old.me.0 link }
+    requires stamp { stamp ≡ write_cycle (lay board.now.plot) token.old.me.0 link + 1 }
     requires inside { link < length board.now.plot.shape.links }
     requires after { (found : ℕ) → C.after found ≡ loaded_as_writer (lay board.now.plot) token.old.me.0 link }
     requires says { (found : ℕ) → found ≡ io_word_of 1 (io_id_in found)
@@ -28,22 +34,29 @@ pub(crate) fn load_area<C: Change>(board: &Board, token: &mut BoardToken, link: 
     ensures after { token.new.me.0 ≡ C.after result }
     ensures says { C.says result }
 {
-    let word = board.area_word(link);
+    let word = board.area_word(link, stamp);
     board.table.shared.load::<Learned<C>>(token, word)
 }
 
 /// Stores HAVE_DATA with the number of a block in the area of a link.
 #[inline]
-pub(crate) fn store_have<C: Change>(board: &Board, token: &mut BoardToken, link: u32, id: u32)
+pub(crate) fn store_have<C: Change>(
+    board: &Board,
+    token: &mut BoardToken,
+    link: u32,
+    stamp: u64,
+    id: u32,
+)
     requires table { token.old.table_id ≡ board.now.table.shared.table_id }
     requires phase { StoresHave (lay board.now.plot) token.old.me.0 link id }
+    requires stamp { stamp ≡ write_cycle (lay board.now.plot) token.old.me.0 link + 1 }
     requires inside { link < length board.now.plot.shape.links }
     requires after { (found : ℕ) → C.after found ≡ have_stored (lay board.now.plot) token.old.me.0 link id }
     ensures same { (token.new.table_id ≡ token.old.table_id) × (token.new.id ≡ token.old.id)
         × (token.new.me.1 ≡ token.old.me.1) }
     ensures after { token.new.me.0 ≡ C.after (io_word_of 2 id) }
 {
-    let word = board.area_word(link);
+    let word = board.area_word(link, stamp);
     let new = io_word(AreaStatus::HaveData.number(), id);
     board.table.shared.store::<Becomes<C>>(token, word, new);
 }
@@ -62,7 +75,9 @@ pub(crate) fn load_readers<C: Change>(
     requires block { id < (pool_at (lay board.now.plot) pool).blocks }
     requires after { (found : ℕ) → C.after found
         ≡ readers_loaded (lay board.now.plot) token.old.me.0 pool id found }
-    requires says { (found : ℕ) → found ≡ 0 → C.says found }
+    requires says { (found : ℕ) → found ≡ 0
+        → IsReturned (lay board.now.plot) token.old.me.0 pool id
+        → IsZeroAtSecond (lay board.now.plot) token.old.me.0 pool id → C.says found }
     ensures same { (token.new.table_id ≡ token.old.table_id) × (token.new.id ≡ token.old.id)
         × (token.new.me.1 ≡ token.old.me.1) }
     ensures after { token.new.me.0 ≡ C.after result }

@@ -7,8 +7,8 @@ pub look-requires-clause-rests : goal.look-requires-clause-rests
 look-requires-clause-rests c = let p = lay c.args.board.now.plot in
     let inside : p.place c.args.node < nodes p = search rules in let other : p.place c.args.node ≢ p.driver = search rules in
     let own : p.seat_of (p.place c.args.node) ≡ c.args.of_loop = ap (λ (l : List ℕ). get_or l (p.place c.args.node) 0) c.requires.row
-    ∙ (let at : get_or (0 ∷ 1 ∷ 0 ∷ 0 ∷ []) c.place_of-at.result 0 ≡ c.args.of_loop = sym c.seat_at.ensures
+    ∙ (let at : get_or (0 ∷ 1 ∷ 0 ∷ 0 ∷ []) c.place_in-at.result 0 ≡ c.args.of_loop = sym c.seat_at.ensures
     ∙ (let same : c.seat_at.result ≡ c.args.of_loop = search rules in same) in
     subst (λ k. get_or (0 ∷ 1 ∷ 0 ∷ 0 ∷ []) k 0 ≡ c.args.of_loop)
-    (c.place_of-at.ensures ∙ ap (λ (s : Shape). place_in s c.args.node) c.shape-shape.ensures) at) in
+    (c.place_in-at.ensures ∙ ap (λ (s : Shape). place_in s c.args.node) c.shape-shape.ensures) at) in
     c.requires.rests (p.place c.args.node) inside other own

@@ -12,5 +12,5 @@ split_seat-requires g c = let b = c.args.board.now in let t = c.args.token.now i
   c.requires.table,
   omega arith,
   subst (λ (k : Plot × View × View). Splits {S = Option ℕ} (Holds (lay k.0)) t.id t.me.0 k.1 k.2)
-      (λ i. (sym b.about i, sym c.requires.left i, sym c.requires.right i)) (keeps_view (lay b.plot) t.id t.me.0 c.requires.leads),
+      (λ i. (sym b.about i, sym c.requires.left i, sym c.requires.right i)) (keeps_view (lay b.plot) t.id t.me.0 c.requires.leads c.requires.ended),
 )

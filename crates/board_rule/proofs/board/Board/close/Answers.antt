@@ -1,6 +1,7 @@
 use Rattle.std.specs.Prelude.{count_by}
 use Rattle.pw_base.specs.History.{is_tick, IsLegalHistory}
-use Rattle.std.proofs.Common.{arith, ◌≡◌, ◌∙◌, ℕ, List, [], ◌∷◌, sym, ap, subst}
+use Rattle.pw_base.specs.Layout.{event_count}
+use Rattle.std.proofs.Common.{arith, ◌≡◌, ◌≤◌, ◌∙◌, ℕ, List, [], ◌∷◌, length, sym, ap, subst}
 use Rattle.pw_base.specs.declared.event.Event.{Event}
 use Rattle.board_rule.specs.declared.view.View.{View}
 use Rattle.board_rule.specs.Known.{Known}
@@ -41,4 +42,5 @@ returns c = let b = c.args.self in let v = c.seat.inside.token.me.0 in let is = 
       expect = ap (λ (u : View). u.expect) c.keep-kept.ensures.right ∙ ap (λ (u : View). u.expect) is;
       legal = subst (λ (es : List Event). IsLegalHistory (b.plot.shape ∷ []) es) (sym events) l.is_legal;
       ticks = ap (count_by is_tick) events ∙ l.has_ticks ∙ ap (λ (u : View). u.lead.checks) is;
+      count = subst (λ (es : List Event). length es ≤ event_count b.plot.shape) (sym events) l.fits;
     }

@@ -7,5 +7,5 @@ abbrev pub ghosts-load_area : goal.ghosts-load_area
 ghosts-load_area a = record {
   leads = true;
   after = loaded_as_reader true (lay a.board.now.plot) a.token.now.me.0 a.link;
-  says = λ found. IsPublished true (lay a.board.now.plot) a.link found;
+  says = λ found. IsPublished true (lay a.board.now.plot) a.token.now.me.0 a.link found;
 }

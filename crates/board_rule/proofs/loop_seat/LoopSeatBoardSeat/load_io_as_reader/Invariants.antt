@@ -7,5 +7,5 @@ abbrev pub ghosts-load_area : goal.ghosts-load_area
 ghosts-load_area a = record {
   leads = false;
   after = loaded_as_reader false (lay a.board.now.plot) a.token.now.me.0 a.link;
-  says = λ found. IsPublished false (lay a.board.now.plot) a.link found;
+  says = λ found. IsPublished false (lay a.board.now.plot) a.token.now.me.0 a.link found;
 }

@@ -1,5 +1,8 @@
 use Rattle.std.proofs.Common.{ℕ, sym, ap, ◌∙◌, subst}
 use Rattle.pw_base.specs.Words.{io_word_of}
+use Rattle.pw_base.specs.Layout.{io_place}
+use Rattle.board_rule.specs.Areas.{area_of}
+use Rattle.board_rule.specs.EndViews.{link_at}
 use Rattle.atomic_table.specs.Table.{Allows}
 use Rattle.board_rule.specs.declared.plot.Plot.{Plot}
 use Rattle.board_rule.specs.Layout.{lay}
@@ -16,7 +19,7 @@ store-requires g c = let b = c.args.board.now in let p = lay b.plot in let t = c
       subst (λ (k : Plot × ℕ × ℕ). Allows (Holds (lay k.0)) slots t.id t.me k.1 (λ _. k.2) (λ _. Turns after t.me k.2))
           (λ i. (
             sym b.about i,
-            sym c.area_word-word.ensures.is i,
+            sym (c.area_word-word.ensures.is ∙ ap (λ n. io_place b.plot.shape c.args.link (area_of (link_at p c.args.link) n)) c.requires.stamp) i,
             sym (c.io_word-new.ensures.word ∙ ap (λ n. io_word_of n c.args.id) c.number.ensures) i,
           ))
           (store_need_allowed p slots t.id t.me after says g.C.Change.leads c.args.link c.args.id c.requires.phase c.requires.after),
