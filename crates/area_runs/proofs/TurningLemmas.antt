@@ -13,7 +13,7 @@ use Rattle.board_rule.specs.declared.view.WriteView.{WriteView}
 use Rattle.board_rule.specs.declared.view.ReadView.{ReadView}
 use Rattle.board_rule.specs.declared.view.Trail.{Trail}
 use Rattle.board_rule.specs.declared.view.View.{View}
-use Rattle.board_rule.specs.Layout.{Lay, nodes}
+use Rattle.board_rule.specs.Layout.{Lay, nodes, first}
 use Rattle.board_rule.specs.View.{Samples, node_of, view_node, idle, unread, unwritten}
 use Rattle.board_rule.specs.SampleWords.{samples_in}
 use Rattle.board_rule.specs.Spans.{block_at}
@@ -26,11 +26,13 @@ use Rattle.activation_words.specs.Calls.{started, HasRested}
 use Rattle.activation_words.specs.Members.{IsResting}
 use Rattle.activation_words.proofs.ViewLemmas.{again, has_again}
 use Rattle.activation_words.proofs.MemberLemmas.{else_rests, rested_rests}
-use Rattle.io_areas.specs.Plain.{IsPlain}
+use Rattle.io_areas.specs.PooledBoard.{IsPooledBoard}
 use Rattle.io_areas.specs.Ends.{IsWrittenUpTo, IsReadUpTo}
 use Rattle.io_areas.specs.FreeBlocks.{FreeBlocks}
 use Rattle.area_runs.specs.Ends.{reads_of, fills_of}
-use Rattle.area_runs.specs.Steady.{IsSteady}
+use Rattle.area_runs.specs.declared.quanta.Quanta.{Quanta}
+use Rattle.area_runs.specs.Steady.{given_in, given_before, IsSteady}
+use Rattle.area_runs.proofs.SteadyLemmas.{gives_at}
 use Rattle.area_runs.specs.Hearing.{MayHearAll, Gives, AreHeard}
 use Rattle.area_runs.specs.Writing.{queue_of, MayFillAll, Puts, AreWritten}
 use Rattle.area_runs.specs.Turning.{IsEquipped, AreEven, HasTurned}
@@ -73,7 +75,7 @@ module _ (p : Lay) (v x : View) (same : x ≡ record v { reads = x.reads; writes
     idle = r.idle;
   }
 
-module _ (p : Lay) (plain : IsPlain p) (n : ℕ) where
+module _ (p : Lay) (plain : IsPooledBoard p) (n : ℕ) where
   abbrev m : ℕ
   m = p.place n
 
@@ -101,13 +103,12 @@ module _ (p : Lay) (plain : IsPlain p) (n : ℕ) where
       reads_once p plain n inside,
     )
 
-    pub all_give : (samples : List ℤ) → IsSteady p v.expect samples → All (Gives false p v samples) (reads_of p.shape n)
-    all_give samples steady k d low = let l : ℕ = slice_index_or (reads_of p.shape n) k d in
-        let h = read_by p plain n inside l (k, low, get_or_default (reads_of p.shape n) k l d low) in let q = of_pool p plain l h.0 in
-        let c = has.1 in let e = reader_cycle l h.1 in (
-          steady.quanta (pool_of p l) q.0,
-          steady.gives (read_cycle false p v l) (pool_of p l) (omega arith) (omega arith) q.0,
-        )
+    pub all_give : (s : Quanta) (k : ℕ) → first p + k ≡ cycle → IsSteady p v.expect s
+        → All (Gives false p v (given_in s k) (given_before s k)) (reads_of p.shape n)
+    all_give s k at steady j d low = let l : ℕ = slice_index_or (reads_of p.shape n) j d in
+        let h = read_by p plain n inside l (j, low, get_or_default (reads_of p.shape n) j l d low) in let q = of_pool p plain l h.0 in
+        let c = has.1.1 in let e = reader_cycle l h.1 in
+        gives_at p v.expect s steady l (read_cycle false p v l) k h.0 q.0 (omega arith) (omega arith)
 
     -- it has heard all
     module _ (w : View) (heard : AreHeard false p v (reads_of p.shape n) w) where
@@ -150,11 +151,11 @@ module _ (p : Lay) (plain : IsPlain p) (n : ℕ) where
         fills_once p plain n inside,
       )
 
-      pub all_put : (samples : List ℤ) → IsSteady p v.expect samples → All (Puts p w samples) (fills_of p.shape n)
-      all_put samples steady k d low = let q : ℕ = slice_index_or (fills_of p.shape n) k d in
-          let h = filled_by p plain n inside q (k, low, get_or_default (fills_of p.shape n) k q d low) in
-          let c = has.1 in let now = filler_cycle q h.1 in
-          steady.gives (fill_cycle p w q) q (omega arith) (omega arith) h.0
+      pub all_put : (s : Quanta) (k : ℕ) → first p + k ≡ cycle → IsSteady p v.expect s → All (Puts p w (given_in s k)) (fills_of p.shape n)
+      all_put s k at steady j d low = let q : ℕ = slice_index_or (fills_of p.shape n) j d in
+          let h = filled_by p plain n inside q (j, low, get_or_default (fills_of p.shape n) j q d low) in
+          let c = has.1.1 in let now = filler_cycle q h.1 in let same : first p + k ≡ fill_cycle p w q = omega arith in
+          sym (steady.gives k q (omega arith) h.0) ∙ ap (λ i. samples_in p v.expect i q) same
           ∙ ap (λ (y : View). samples_in p y.expect (fill_cycle p w q) q) (sym heard.same)
 
       -- it has filled all
@@ -262,11 +263,11 @@ module _ (p : Lay) (v : View) (m t : ℕ) (has : HasNode false p v m) where
   pub begun_runs : IsRunning false at_work m
   begun_runs = ap (λ (x : NodeView). x.phase) begun_is
 
-  same_next : (node_of at_work m).next ≡ (node_of v m).next
-  same_next = ap (λ (x : NodeView). x.next) begun_is
+  pub begun_next : (node_of at_work m).next ≡ (node_of v m).next
+  begun_next = ap (λ (x : NodeView). x.next) begun_is
 
   pub begun_even : (free : List Queue) → AreEven p v free m (node_of v m).next → AreEven p at_work free m (node_of at_work m).next
-  begun_even free even = even_moves p v at_work free m (node_of v m).next (node_of at_work m).next refl refl refl same_next even
+  begun_even free even = even_moves p v at_work free m (node_of v m).next (node_of at_work m).next refl refl refl begun_next even
 
 -- what is so of a turn after a step of its node is so before it
 pub turned_whole : (p : Lay) (v : View) (m : ℕ) (y : NodeView) (t : Trail) → m < length v.nodes → y.next ≡ (node_of v m).next
@@ -285,7 +286,7 @@ turned_whole p v m y t there next old w new h = record {
   lists = h.lists;
 }
 
-module _ (p : Lay) (shapes : List PoolShape) (samples : List ℤ) (v : View) (free : List Queue) (w : View) (new : List Queue) where
+module _ (p : Lay) (shapes : List PoolShape) (samples : Quanta) (v : View) (free : List Queue) (w : View) (new : List Queue) where
   -- a turn leaves the loop what it works with
   pub equipped_moves : w.expect ≡ v.expect → length w.blocks ≡ length v.blocks → length new ≡ length free
       → IsEquipped p v shapes free samples

@@ -1,7 +1,7 @@
 -- From pool to pool of a node that writes.
 use Rattle.std.proofs.Common.{◌≡◌, ◌≢◌, ℕ, ℤ, ◌+◌, ◌<◌, ◌≤◌, false, List, [], length, get_or, set, take, refl, sym, ap, ◌∙◌}
 use Rattle.std.proofs.Common.{subst, arith}
-use Rattle.std.proofs.Common.{⊎_elim, length-set, get_or-set_same, get_or-set_other}
+use Rattle.std.proofs.Common.{inl, inr, ⊎_elim, length-set, get_or-set_same, get_or-set_other}
 use Rattle.std.specs.Prelude.{Contains}
 use Rattle.std.proofs.lemmas.Option.{slice_get-get_or}
 use Rattle.std.proofs.lemmas.List.{get_or_default}
@@ -16,9 +16,10 @@ use Rattle.board_rule.specs.Spans.{block_at}
 use Rattle.board_rule.specs.EndViews.{no_pool, pool_at, filler_of, write_of, block_of}
 use Rattle.board_rule.specs.SeatNodes.{HasNode}
 use Rattle.board_rule.specs.BlockSteps.{fill_cycle}
-use Rattle.board_rule.proofs.WiringLemmas.{wired}
+use Rattle.board_rule.specs.BlockReadings.{lag}
+use Rattle.board_rule.proofs.WiringLemmas.{wired, lag_some}
 use Rattle.buffer_pool.specs.Queue.{Queue}
-use Rattle.io_areas.specs.Plain.{IsPlain}
+use Rattle.io_areas.specs.PooledBoard.{IsPooledBoard}
 use Rattle.io_areas.specs.Ends.{IsWrittenUpTo}
 use Rattle.io_areas.specs.FreeBlocks.{FreeBlocks}
 use Rattle.io_areas.specs.OutputTurn.{MayWriteOutput, HasWrittenOutput}
@@ -38,13 +39,14 @@ pub stock_moves : (p : Lay) (v w : View) (q c : ℕ) (pool : Queue)
     → FreeBlocks p v q c pool → FreeBlocks p w q c pool
 stock_moves p v w q c pool same s = record {
   size = s.size;
-  some = s.some;
+  enough = s.enough;
   listed = λ b here. let h = s.listed b here in (h.0, same b h.0 ∙ h.1);
   once = s.once;
-  full = s.full;
-  fresh = λ e b low. same b low ∙ s.fresh e b low;
-  short = s.short;
-  out = λ later. let o = s.out later in let is = o.1 in (o.0, (is.0, same o.0 is.0 ∙ is.1, (λ a low other. same a low ∙ is.2 a low other)));
+  long = s.long;
+  out = λ n r. let o = s.out n r in (o.0, o.1, same o.0 o.1 ∙ o.2);
+  one = λ a b n i j e f. s.one a b n i j (sym (same a i) ∙ e) (sym (same b j) ∙ f);
+  else = λ b low. ⊎_elim (λ f. inl (same b low ∙ f)) (λ r. inr (r.0, r.1, same b low ∙ r.2)) (s.else b low);
+  zero = λ r. same 0 (let some = lag_some p (pool_at p q) in let e = s.enough in omega arith) ∙ s.zero r;
 }
 
 module _ (p : Lay) (v : View) (ws : List WriteView) (bs : List BlockView) where
@@ -56,7 +58,7 @@ module _ (p : Lay) (v : View) (ws : List WriteView) (bs : List BlockView) where
     h.2,
   )
 
-module _ (p : Lay) (plain : IsPlain p) where
+module _ (p : Lay) (plain : IsPooledBoard p) where
   -- a link is of one pool
   pub one_pool : (q r l : ℕ) → q < length (pools_of p.shape) → r < length (pools_of p.shape) → Contains (pool_at p q).links l
       → Contains (pool_at p r).links l

@@ -5,10 +5,11 @@ use Rattle.pw_base.specs.declared.shape.Shape.{Shape}
 use Rattle.pw_base.specs.declared.pools.PoolShape.{PoolShape}
 use Rattle.pw_base.specs.Pools.{pools_of, IsPooledShape}
 use Rattle.board_rule.specs.declared.plot.Plot.{Plot}
-use Rattle.board_rule.specs.Layout.{Lay, lay, first, IsUndelayed, HasSeats}
+use Rattle.board_rule.specs.Layout.{Lay, lay, first, HasSeats}
 use Rattle.board_rule.specs.View.{node_of}
 use Rattle.area_runs.specs.declared.worker.Worker.{Worker}
 use Rattle.area_runs.specs.declared.opening.Run.{Run}
+use Rattle.area_runs.specs.declared.quanta.Quanta.{Quanta}
 use Rattle.area_runs.specs.Making.{HasNodesOf}
 use Rattle.area_runs.specs.Steady.{steady}
 use Rattle.area_runs.specs.Ready.{IsReadyOn, IsLeadReadyOn}
@@ -20,12 +21,12 @@ plot_of shape seat_of seats = record { shape = shape; seat_of = seat_of; seats =
 abbrev pub IsFit : ℕ → ℕ → PoolShape → Type 0
 IsFit quantum count pool = (1 ≤ pool.blocks) × (pool.blocks ≤ 8) × (quantum * pool.channels ≡ count)
 
--- the shape is pooled and has no delayed link, each follower has one of the seats, and each pool is fit for the samples
-pub record IsOpenable (plot : Plot) (samples : List ℤ) : Type 0 where
+-- the shape is pooled, each follower has one of the seats, and each pool is fit for the samples
+pub record IsOpenable (plot : Plot) (samples : Quanta) : Type 0 where
   pub pooled : IsPooledShape plot.shape
-  pub undelayed : IsUndelayed plot.shape
   pub seats : HasSeats plot
-  pub fit : All (IsFit plot.shape.quantum (length samples)) (pools_of plot.shape)
+  pub fit : All (IsFit plot.shape.quantum (length samples.even)) (pools_of plot.shape)
+  pub odd : length samples.odd ≡ length samples.even
 
 -- its nodes have run in no cycle
 abbrev pub AreFirst : Lay → Worker → Type 0
@@ -33,7 +34,7 @@ AreFirst p w = All (λ e. (node_of w.seat.knows (p.place e.node)).next ≡ first
 
 -- the board of the plot, with a loop for each seat, which rests, and the driver's loop, between two cycles: no cycle is
 -- begun, nobody has looked who is late, and all seats agree on the samples
-pub record IsOpened (plot : Plot) (samples : List ℤ) (o : Run) : Type 0 where
+pub record IsOpened (plot : Plot) (samples : Quanta) (o : Run) : Type 0 where
   pub plot_is : o.board.plot ≡ plot
   pub lead : IsLeadReadyOn o.board o.lead false
   pub first_is : o.lead.seat.knows.lead.cycle ≡ first (lay plot)

@@ -12,18 +12,19 @@ use Rattle.board_rule.specs.SeatNodes.{HasNode}
 use Rattle.buffer_pool.specs.Queue.{Queue}
 use Rattle.activation_words.specs.Calls.{IsAwake}
 use Rattle.activation_words.specs.Members.{IsResting}
-use Rattle.io_areas.specs.Plain.{IsPlain}
+use Rattle.io_areas.specs.PooledBoard.{IsPooledBoard}
 use Rattle.io_areas.specs.Ends.{IsWrittenUpTo, IsReadUpTo}
 use Rattle.io_areas.specs.FreeBlocks.{FreeBlocks}
 use Rattle.area_runs.specs.declared.node_ends.NodeEnds.{NodeEnds}
+use Rattle.area_runs.specs.declared.quanta.Quanta.{Quanta}
 use Rattle.area_runs.specs.Ends.{ends_of}
 use Rattle.area_runs.specs.Steady.{IsSteady}
 use Rattle.area_runs.specs.Writing.{queue_of}
 
 -- what a loop has beside its nodes: the pools of the shape, room for their blocks, the free ones of each, the samples
 pub record IsEquipped (p : Lay) (v : View) (shapes : List PoolShape) (free : List Queue)
-    (samples : List ℤ) : Type 0 where
-  pub plain : IsPlain p
+    (samples : Quanta) : Type 0 where
+  pub plain : IsPooledBoard p
   pub shapes_are : shapes ≡ pools_of p.shape
   pub lists : length free ≡ length shapes
   pub blocks : (q : ℕ) → q < length (pools_of p.shape) → block_at p q (pool_at p q).blocks ≤ length v.blocks

@@ -2,7 +2,7 @@
 ghost use Rattle.std.specs.Prelude.{◌≡◌, All, length};
 ghost use Rattle.pw_base.specs.Pools.{pools_of};
 ghost use Rattle.board_rule.specs.Layout.{lay};
-ghost use Rattle.io_areas.specs.Plain.{IsPlain};
+ghost use Rattle.io_areas.specs.PooledBoard.{IsPooledBoard};
 ghost use Rattle.area_runs.specs.Writing.{MayFillAll, Puts, AreWritten};
 
 use board_rule::{Board, LoopSeat};
@@ -20,7 +20,7 @@ pub(crate) fn write_all(
     free: &mut [Pool],
     samples: &[i16],
 )
-    requires plain { IsPlain (lay board.now.plot) }
+    requires plain { IsPooledBoard (lay board.now.plot) }
     requires table { seat.old.table ≡ board.now.table.shared.table_id }
     requires shapes { shapes.now ≡ pools_of board.now.plot.shape }
     requires lists { length free.old ≡ length shapes.now }

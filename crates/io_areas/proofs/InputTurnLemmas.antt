@@ -1,23 +1,16 @@
 -- From step to step of a reader's turn.
-use Rattle.std.proofs.Common.{◌≡◌, ℕ, ℤ, ◌+◌, ◌-◌, ◌<◌, ◌≤◌, Bool, true, false, cond, ltb, List, length, get_or, refl, sym, ap}
+use Rattle.std.proofs.Common.{◌≡◌, ℕ, ◌+◌, ◌<◌, Bool, true, false, List, length, refl, sym, ap}
 use Rattle.std.proofs.Common.{◌∙◌, subst, arith, set-set}
 use Rattle.std.proofs.Common.{length-set, get_or-set_same}
-use Rattle.std.specs.Prelude.{Option, unwrap_or, option_map}
-use Rattle.std.proofs.lemmas.Option.{slice_get-get_or}
-use Rattle.pw_base.specs.declared.shape.ShapeLink.{ShapeLink}
 use Rattle.board_rule.specs.declared.view.ReadView.{ReadView}
 use Rattle.board_rule.specs.declared.view.View.{View}
-use Rattle.board_rule.specs.Layout.{Lay, first}
-use Rattle.board_rule.specs.View.{Samples, unread}
-use Rattle.board_rule.specs.Areas.{late_by}
-use Rattle.board_rule.specs.BlockReadings.{late_at}
-use Rattle.board_rule.specs.SampleWords.{samples_in}
-use Rattle.board_rule.specs.EndViews.{no_link, read_of, view_read, pool_at, pool_of, reader_of}
+use Rattle.board_rule.specs.Layout.{Lay}
+use Rattle.board_rule.specs.View.{unread}
+use Rattle.board_rule.specs.EndViews.{read_of, view_read, pool_at, pool_of, reader_of}
 use Rattle.board_rule.specs.SeatNodes.{HasNode}
 use Rattle.board_rule.specs.WorkSteps.{IsRunning}
 use Rattle.board_rule.specs.ReaderSteps.{read_cycle, LoadsAsReader}
-use Rattle.io_areas.specs.Reading.{taken, IsHolding, held_stamp, heard, GivesBack, given_back}
-use Rattle.io_areas.specs.Plain.{IsPlain}
+use Rattle.io_areas.specs.Reading.{taken, IsHolding, brought_in, brought, GivesBack, given_back}
 use Rattle.io_areas.specs.Ends.{IsReadUpTo}
 use Rattle.io_areas.specs.InputTurn.{MayReadInput, HasReadInput}
 
@@ -41,21 +34,6 @@ module _ (p : Lay) (v : View) (l : ℕ) (y : ReadView) where
 
   pub end_again : l < length v.reads → read_of (view_read v l y) l ≡ y
   end_again h = get_or-set_same v.reads l y (unread 0) h
-
--- a link is read in the cycle in which it is written
-pub on_time : (p : Lay) → IsPlain p → (l : ℕ) → l < length p.shape.links → late_at p l ≡ 0
-on_time p plain l h = let k : ShapeLink = get_or p.shape.links l no_link in
-    ap (λ (o : Option ShapeLink). unwrap_or (option_map late_by o) 0) (slice_get-get_or p.shape.links l no_link h)
-    ∙ ap (λ t. cond {A = ℕ} t 1 0) (plain.undelayed l no_link h)
-
--- the stamp of a block is one more than its cycle
-of_now : (p : Lay) (e : Samples) (q c n : ℕ) (zeros : List ℤ) → n ≡ c + 1 → first p ≤ c
-    → cond (ltb (first p) n) (samples_in p e (n - 1) q) zeros ≡ samples_in p e c q
-of_now p e q c n zeros is low = ap (λ t. cond t (samples_in p e (n - 1) q) zeros) later
-    ∙ ap (λ k. samples_in p e k q) (let z : n - 1 ≡ c = omega arith in z)
-  where
-    later : ltb (first p) n ≡ true
-    later = grind arith
 
 module _ (b : Bool) (p : Lay) (v : View) (l : ℕ) (h : MayReadInput b p v l) where
   pub may_take : LoadsAsReader b p v l
@@ -82,20 +60,15 @@ module _ (b : Bool) (p : Lay) (v : View) (l : ℕ) (h : MayReadInput b p v l) wh
       ap (λ (z : ReadView). z.lowered) is ∙ h.even.lowered ∙ sym same,
     )
 
-    -- what it reads is of this cycle
-    pub heard_now : IsPlain p → heard b p (taken b p v l id) l ≡ samples_in p v.expect (read_cycle b p v l) (pool_of p l)
-    heard_now plain = of_now p v.expect (pool_of p l) (read_cycle b p v l) (held_stamp b p (taken b p v l id) l) _
-        (let z = on_time p plain l h.inside in let s = same in omega arith) (early b h.has)
-      where
-        early : (d : Bool) → HasNode d p v (reader_of p l) → first p ≤ read_cycle d p v l
-        early true n = n.1.0
-        early false n = n.1.0
+    -- what it reads is told by the view before
+    pub brought_now : brought b p (taken b p v l id) l ≡ brought b p v l
+    brought_now = ap (λ c. brought_in p v.expect l c) same
 
     pub may_give : GivesBack b p (taken b p v l id) l
     may_give = (holds, ap (λ (z : ReadView). z.stored) is ∙ h.even.stored ∙ sym same)
 
-    pub has_heard : (w : View) → w ≡ given_back b p (taken b p v l id) l → HasReadInput b p v l w
-    has_heard w e = (
+    pub has_read : (w : View) → w ≡ given_back b p (taken b p v l id) l → HasReadInput b p v l w
+    has_read w e = (
       id,
       e
           ∙ ap (λ (k : ReadView × ℕ). view_read (taken b p v l id) l (record k.0 { lowered = k.1 + 1; stored = k.1 + 1 }))
@@ -103,8 +76,8 @@ module _ (b : Bool) (p : Lay) (v : View) (l : ℕ) (h : MayReadInput b p v l) wh
           ∙ ap (λ (xs : List ReadView). record v { reads = xs }) (set-set v.reads l y _),
     )
 
-  pub heard_even : (w : View) → HasReadInput b p v l w → IsReadUpTo w l (read_cycle b p v l + 1)
-  heard_even w r = let z : ReadView = record {
+  pub read_even : (w : View) → HasReadInput b p v l w → IsReadUpTo w l (read_cycle b p v l + 1)
+  read_even w r = let z : ReadView = record {
     loaded = read_cycle b p v l + 1;
     lowered = read_cycle b p v l + 1;
     stored = read_cycle b p v l + 1;

@@ -2,7 +2,7 @@ pub mod PoolLemmas
 pub mod FillLemmas
 pub mod EndLemmas
 pub mod SampleLemmas
-pub mod HeardLemmas
+pub mod BroughtLemmas
 pub mod InputTurnLemmas
 pub mod KeptLemmas
 pub mod WriterEndsLemmas
@@ -11,3 +11,4 @@ pub mod RefillLemmas
 pub mod PoolLinkLemmas
 pub mod FreeBlocksLemmas
 pub mod OutputTurnLemmas
+pub mod StartLemmas

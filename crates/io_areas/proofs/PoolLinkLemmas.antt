@@ -1,27 +1,19 @@
--- The links of a pool of a plain board.
-use Rattle.std.proofs.Common.{◌≡◌, ◌≢◌, ℕ, ◌<◌, false, cond, length, AllPairs, Contains, ap, ◌∙◌, arith}
+-- The links of a pool.
+use Rattle.std.proofs.Common.{◌≡◌, ◌≢◌, ℕ, ◌<◌, length, AllPairs, Contains, ap, ◌∙◌, arith}
 use Rattle.std.proofs.lemmas.Option.{slice_get_within}
 use Rattle.pw_base.specs.declared.ids.PortId.{PortId}
 use Rattle.pw_base.specs.declared.shape.ShapeLink.{ShapeLink}
-use Rattle.std.proofs.lemmas.List.Folds.{list_any_none}
-use Rattle.std.proofs.lemmas.List.Elements.{All-filter}
-use Rattle.pw_base.specs.Pools.{is_port, links_from, pools_of}
+use Rattle.pw_base.specs.Pools.{pools_of}
 use Rattle.board_rule.specs.Layout.{Lay}
-use Rattle.board_rule.specs.BlockReadings.{lag}
 use Rattle.board_rule.specs.EndViews.{pool_at, pool_of, writer_of, filler_of}
 use Rattle.board_rule.proofs.PortLemmas.{differ_at}
 use Rattle.board_rule.proofs.WiringLemmas.{PoolAt, Wired, wired}
 use Rattle.board_rule.proofs.HolderLemmas.{link_is, pool_there, pool_here}
-use Rattle.io_areas.specs.Plain.{IsPlain}
+use Rattle.io_areas.specs.PooledBoard.{IsPooledBoard}
 
-module _ (p : Lay) (plain : IsPlain p) (q : ℕ) where
+module _ (p : Lay) (board : IsPooledBoard p) (q : ℕ) where
   wires : Wired p
-  wires = wired p plain.sound plain.pooled
-
-  -- a block is busy for one cycle
-  pub lag_is : lag p (pool_at p q) ≡ 1
-  lag_is = let port : PortId = (pool_at p q).port in ap (λ b. cond {A = ℕ} b 2 1) (list_any_none (λ (k : ShapeLink). k.delayed)
-      (links_from p.shape port) (All-filter (λ (k : ShapeLink). is_port k.from port) (λ k. k.delayed ≡ false) p.shape.links plain.undelayed))
+  wires = wired p board.sound board.pooled
 
   module _ (inside : q < length (pools_of p.shape)) where
     there : PoolAt p q (pool_at p q)

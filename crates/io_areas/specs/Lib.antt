@@ -2,7 +2,7 @@ pub mod Unpacking
 pub mod Quanta
 pub mod Writing
 pub mod Reading
-pub mod Plain
+pub mod PooledBoard
 pub mod Ends
 pub mod InputTurn
 pub mod FreeBlocks

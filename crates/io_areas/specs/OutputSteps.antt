@@ -1,11 +1,10 @@
 -- From step to step of the turn of a node on a pool: the writer's ends of its links, and its blocks.
 -- Source: PipeWire's documentation, "SPA Buffers"; one pool an output port is this project's own.
-use Rattle.std.specs.Prelude.{◌≡◌, ℕ, ◌+◌, ◌<◌, List, Contains, length}
+use Rattle.std.specs.Prelude.{◌≡◌, ℕ, ◌+◌, List, Contains, length}
 use Rattle.board_rule.specs.declared.view.WriteView.{WriteView}
-use Rattle.board_rule.specs.declared.view.BlockView.TheVariants.{Free}
 use Rattle.board_rule.specs.declared.view.View.{View}
 use Rattle.board_rule.specs.Layout.{Lay}
-use Rattle.board_rule.specs.EndViews.{pool_at, write_of, block_of}
+use Rattle.board_rule.specs.EndViews.{write_of}
 use Rattle.board_rule.specs.WriterSteps.{write_cycle}
 use Rattle.io_areas.specs.Writing.{IsNew}
 
@@ -25,7 +24,3 @@ module _ (p : Lay) (v : View) where
   abbrev pub IsPublishedNow : ℕ → WriteView → WriteView → Type 0
   IsPublishedNow l y z = (b : ℕ) × IsNew p v l b
       × (z ≡ record y { stored = write_cycle p v l + 1; id = b; last = y.id })
-
-  -- all blocks of a pool are free
-  abbrev pub AreFree : ℕ → Type 0
-  AreFree q = (a : ℕ) → a < (pool_at p q).blocks → block_of p v q a ≡ Free

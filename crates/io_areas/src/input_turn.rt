@@ -2,25 +2,22 @@
 ghost use Rattle.std.specs.Prelude.{◌≡◌, length};
 ghost use Rattle.board_rule.specs.Layout.{lay};
 ghost use Rattle.board_rule.specs.EndViews.{pool_of};
-ghost use Rattle.board_rule.specs.ReaderSteps.{read_cycle};
-ghost use Rattle.board_rule.specs.SampleWords.{samples_in};
 ghost use Rattle.io_areas.specs.Quanta.{quantum_of};
-ghost use Rattle.io_areas.specs.Plain.{IsPlain};
+ghost use Rattle.io_areas.specs.Reading.{brought};
 ghost use Rattle.io_areas.specs.InputTurn.{MayReadInput, HasReadInput};
 
 use crate::reading::{give_back, read, take};
 use board_rule::{Board, BoardSeat};
 
-/// The node takes the block that is published for this cycle, reads its quantum, frames interleaved, and gives it back.
+/// The node takes the block that the link brings in this cycle, reads its quantum, frames interleaved, and gives it back.
+/// Over a delayed link it gets what was written in the cycle before, and zeros in the epoch's first cycle.
 pub fn read_input<S: BoardSeat>(board: &Board, seat: &mut S, link: u32, to: &mut [i16])
-    requires plain { IsPlain (lay board.now.plot) }
     requires table { S.table seat.old ≡ board.now.table.shared.table_id }
     requires phase { MayReadInput S.leads (lay board.now.plot) (S.knows seat.old) link }
     requires long { let p = lay board.now.plot in length to.old ≡ quantum_of p (pool_of p link) }
     ensures table { S.table seat.new ≡ S.table seat.old }
     ensures knows { HasReadInput S.leads (lay board.now.plot) (S.knows seat.old) link (S.knows seat.new) }
-    ensures samples { let p = lay board.now.plot in let c = read_cycle S.leads p (S.knows seat.old) link in
-        to.new ≡ samples_in p (S.knows seat.old).expect c (pool_of p link) }
+    ensures samples { to.new ≡ brought S.leads (lay board.now.plot) (S.knows seat.old) link }
 {
     take(board, seat, link);
     read(board, seat, link, to);

@@ -6,12 +6,14 @@
 //! all links into it are given back it may finish. None of these calls takes memory, waits or fails.
 #![tactic(auto)]
 
+mod free_blocks;
 mod input_turn;
 mod output_turn;
 mod reading;
 mod sample_words;
 mod writing;
 
+pub use free_blocks::free_at_start;
 pub use input_turn::read_input;
 pub use output_turn::{OutputWritten, write_output};
 pub use reading::{give_back, read, take};

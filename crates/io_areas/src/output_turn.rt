@@ -1,16 +1,16 @@
 //! The turn of a node on a pool that it fills: one block for all links of the pool.
 ghost use Rattle.std.specs.Prelude.{◌≡◌, ◌≢◌, ◌+◌, ◌<◌, All, AllPairs, ◌∷◌, ◌++◌, length, option_to_list};
-ghost use Rattle.board_rule.specs.declared.view.BlockView.TheVariants.{Out};
+ghost use Rattle.board_rule.specs.declared.view.BlockView.TheVariants.{Free, Out};
 ghost use Rattle.board_rule.specs.Layout.{lay};
-ghost use Rattle.board_rule.specs.EndViews.{pool_at, view_block};
+ghost use Rattle.board_rule.specs.EndViews.{pool_at, block_of, view_block};
 ghost use Rattle.board_rule.specs.SampleWords.{samples_in};
 ghost use Rattle.board_rule.specs.WriterSteps.{LoadsAsWriter};
 ghost use Rattle.board_rule.specs.BlockSteps.{IsWriting, fill_cycle};
-ghost use Rattle.io_areas.specs.Writing.{number_given, IsAtPool, Reclaims, HasReclaimed, Publishes};
-ghost use Rattle.io_areas.specs.Plain.{IsPlain};
+ghost use Rattle.io_areas.specs.Writing.{number_given, IsAtPool, IsUnfilled, Reclaims, HasReclaimed, Publishes};
+ghost use Rattle.io_areas.specs.PooledBoard.{IsPooledBoard};
 ghost use Rattle.io_areas.specs.FreeBlocks.{FreeBlocks};
 ghost use Rattle.io_areas.specs.OutputTurn.{MayWriteOutput, HasWrittenOutput};
-ghost use Rattle.io_areas.specs.OutputSteps.{AreMade, IsLoadedNow, IsPublishedNow, AreFree};
+ghost use Rattle.io_areas.specs.OutputSteps.{AreMade, IsLoadedNow, IsPublishedNow};
 ghost use Rattle.io_areas.specs.OutputAnswer.{last_of, AnswersTurn};
 
 use crate::writing::{announce, fill, load_for_write, publish, reclaim};
@@ -22,7 +22,8 @@ use buffer_pool::Pool;
 pub struct OutputWritten {
     /// The number that the reader of the last link gave back. None exactly in the first cycle.
     pub given: Option<u32>,
-    /// The block that came back and is free again. None exactly in the first cycle of the epoch.
+    /// The block that came back and is free again: the one of the cycle before, in a pool with a delayed link of two
+    /// cycles before. None exactly in the first cycle of the epoch.
     pub reclaimed: Option<u32>,
     /// The block that was filled, announced and published.
     pub used: u32,
@@ -66,13 +67,15 @@ fn obtain(board: &Board, seat: &mut LoopSeat, pool: u32, free: &mut Pool) -> (Op
     (reclaimed, free.next())
 }
 
-// A block of a pool whose blocks are all free is filled and announced.
+// A free block of a pool of which no block is due or of this cycle is filled and announced.
 fn emit(board: &Board, seat: &mut LoopSeat, pool: u32, id: u32, samples: &[i16])
     requires table { seat.old.table ≡ board.now.table.shared.table_id }
     requires phase { let p = lay board.now.plot in
         IsAtPool p seat.old.knows pool × IsWriting p seat.old.knows pool }
-    requires free { AreFree (lay board.now.plot) seat.old.knows pool }
-    requires inside { id < (pool_at (lay board.now.plot) pool).blocks }
+    requires unfilled { let p = lay board.now.plot in
+        IsUnfilled p seat.old.knows pool (fill_cycle p seat.old.knows pool) }
+    requires free { let p = lay board.now.plot in
+        (id < (pool_at p pool).blocks) × (block_of p seat.old.knows pool id ≡ Free) }
     requires samples { let p = lay board.now.plot in
         samples.now ≡ samples_in p seat.old.knows.expect (fill_cycle p seat.old.knows pool) pool }
     ensures table { seat.new.table ≡ seat.old.table }
@@ -109,7 +112,7 @@ pub fn write_output(
     free: &mut Pool,
     samples: &[i16],
 ) -> OutputWritten
-    requires plain { IsPlain (lay board.now.plot) }
+    requires board { IsPooledBoard (lay board.now.plot) }
     requires table { seat.old.table ≡ board.now.table.shared.table_id }
     requires phase { MayWriteOutput (lay board.now.plot) seat.old.knows pool }
     requires links { links.now ≡ (pool_at (lay board.now.plot) pool).links }

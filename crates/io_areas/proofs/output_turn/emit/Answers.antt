@@ -8,10 +8,10 @@ use Rattle.io_areas.proofs.output_turn.emit.Goals as goal
 pub announce-requires-clause-phase : goal.announce-requires-clause-phase
 announce-requires-clause-phase c = let p = lay c.args.board.now.plot in let v : View = c.args.seat.now.knows in let q : ℕ = c.args.pool in
     subst (λ (w : View). Announces p w q) (sym c.fill.ensures.knows)
-    (may_announce p v q c.args.id c.requires.phase.0 c.requires.free c.requires.inside)
+    (may_announce p v q c.args.id c.requires.phase.0 c.requires.unfilled c.requires.free.0)
 
 pub returns-clause-knows : goal.returns-clause-knows
 returns-clause-knows c = let p = lay c.args.board.now.plot in let v : View = c.args.seat.now.knows in let q : ℕ = c.args.pool in
     let w : View = c.announce.new.seat.knows in
-    announced p v q c.args.id c.requires.phase.0 c.requires.free c.requires.inside w
+    announced p v q c.args.id c.requires.phase.0 c.requires.unfilled c.requires.free.0 w
     (subst (λ (u : View). HasAnnounced p u q w) c.fill.ensures.knows c.announce.ensures.announced)

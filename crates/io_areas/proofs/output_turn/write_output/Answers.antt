@@ -12,63 +12,63 @@ use Rattle.io_areas.proofs.output_turn.write_output.Goals as goal
 
 pub load_all-given-requires-clause-some : goal.load_all-given-requires-clause-some
 load_all-given-requires-clause-some c = let p = lay c.args.board.now.plot in let r = c.requires in
-    subst (λ xs. 0 < length xs) (sym r.links) (some_link p r.plain c.args.pool r.phase.has.0)
+    subst (λ xs. 0 < length xs) (sym r.links) (some_link p r.board c.args.pool r.phase.has.0)
 
 pub load_all-given-requires-clause-once : goal.load_all-given-requires-clause-once
 load_all-given-requires-clause-once c = let p = lay c.args.board.now.plot in let r = c.requires in
-    subst (AllPairs (λ k l. k ≢ l)) (sym r.links) (once p r.plain c.args.pool r.phase.has.0)
+    subst (AllPairs (λ k l. k ≢ l)) (sym r.links) (once p r.board c.args.pool r.phase.has.0)
 
 pub load_all-given-requires-clause-phase : goal.load_all-given-requires-clause-phase
 load_all-given-requires-clause-phase c = let p = lay c.args.board.now.plot in let r = c.requires in let v : View = c.args.seat.now.knows in
-    subst (All (LoadsAsWriter p v)) (sym r.links) (may_load_all p v c.args.pool r.plain r.phase)
+    subst (All (LoadsAsWriter p v)) (sym r.links) (may_load_all p v c.args.pool r.board r.phase)
 
 pub obtain-reclaimed-requires-clause-phase : goal.obtain-reclaimed-requires-clause-phase
 obtain-reclaimed-requires-clause-phase c = let p = lay c.args.board.now.plot in let v : View = c.args.seat.now.knows in
     let w : View = c.load_all-given.new.seat.knows in let r = c.requires in
-    let t = begun p v c.args.pool c.args.free.now c.args.links.now w r.plain r.phase r.links r.blocks c.load_all-given.ensures.ends in
+    let t = begun p v c.args.pool c.args.free.now c.args.links.now w r.board r.phase r.links r.blocks c.load_all-given.ensures.ends in
     turn.may_reclaim t
 
 pub obtain-reclaimed-requires-clause-blocks : goal.obtain-reclaimed-requires-clause-blocks
 obtain-reclaimed-requires-clause-blocks c = let p = lay c.args.board.now.plot in let v : View = c.args.seat.now.knows in
     let w : View = c.load_all-given.new.seat.knows in let r = c.requires in
-    let t = begun p v c.args.pool c.args.free.now c.args.links.now w r.plain r.phase r.links r.blocks c.load_all-given.ensures.ends in
+    let t = begun p v c.args.pool c.args.free.now c.args.links.now w r.board r.phase r.links r.blocks c.load_all-given.ensures.ends in
     turn.blocks_again t
 
 pub emit-requires-clause-phase : goal.emit-requires-clause-phase
 emit-requires-clause-phase c = let p = lay c.args.board.now.plot in let v : View = c.args.seat.now.knows in
     let w : View = c.load_all-given.new.seat.knows in
     let r = c.requires in
-    let t = begun p v c.args.pool c.args.free.now c.args.links.now w r.plain r.phase r.links r.blocks c.load_all-given.ensures.ends in
+    let t = begun p v c.args.pool c.args.free.now c.args.links.now w r.board r.phase r.links r.blocks c.load_all-given.ensures.ends in
     let o = c.obtain-reclaimed in let e = o.ensures in
     let u = obtained t o.result o.new.seat.knows o.new.free e.reclaimed e.queue e.size in
     turn.may_fill u
+
+pub emit-requires-clause-unfilled : goal.emit-requires-clause-unfilled
+emit-requires-clause-unfilled c = let p = lay c.args.board.now.plot in let v : View = c.args.seat.now.knows in
+    let w : View = c.load_all-given.new.seat.knows in
+    let r = c.requires in
+    let t = begun p v c.args.pool c.args.free.now c.args.links.now w r.board r.phase r.links r.blocks c.load_all-given.ensures.ends in
+    let o = c.obtain-reclaimed in let e = o.ensures in
+    let u = obtained t o.result o.new.seat.knows o.new.free e.reclaimed e.queue e.size in
+    turn.is_unfilled u
 
 pub emit-requires-clause-free : goal.emit-requires-clause-free
 emit-requires-clause-free c = let p = lay c.args.board.now.plot in let v : View = c.args.seat.now.knows in
     let w : View = c.load_all-given.new.seat.knows in
     let r = c.requires in
-    let t = begun p v c.args.pool c.args.free.now c.args.links.now w r.plain r.phase r.links r.blocks c.load_all-given.ensures.ends in
+    let t = begun p v c.args.pool c.args.free.now c.args.links.now w r.board r.phase r.links r.blocks c.load_all-given.ensures.ends in
     let o = c.obtain-reclaimed in let e = o.ensures in
     let u = obtained t o.result o.new.seat.knows o.new.free e.reclaimed e.queue e.size in
-    turn.all_back u
-
-pub emit-requires-clause-inside : goal.emit-requires-clause-inside
-emit-requires-clause-inside c = let p = lay c.args.board.now.plot in let v : View = c.args.seat.now.knows in
-    let w : View = c.load_all-given.new.seat.knows in
-    let r = c.requires in
-    let t = begun p v c.args.pool c.args.free.now c.args.links.now w r.plain r.phase r.links r.blocks c.load_all-given.ensures.ends in
-    let o = c.obtain-reclaimed in let e = o.ensures in
-    let u = obtained t o.result o.new.seat.knows o.new.free e.reclaimed e.queue e.size in
-    (turn.others u).inside
+    ((turn.others u).inside, (turn.others u).free)
 
 pub publish_all-requires-clause-once : goal.publish_all-requires-clause-once
 publish_all-requires-clause-once c = let p = lay c.args.board.now.plot in let r = c.requires in
-    subst (AllPairs (λ k l. k ≢ l)) (sym r.links) (once p r.plain c.args.pool r.phase.has.0)
+    subst (AllPairs (λ k l. k ≢ l)) (sym r.links) (once p r.board c.args.pool r.phase.has.0)
 
 pub publish_all-requires-clause-phase : goal.publish_all-requires-clause-phase
 publish_all-requires-clause-phase c = let p = lay c.args.board.now.plot in let v : View = c.args.seat.now.knows in
     let w : View = c.load_all-given.new.seat.knows in let r = c.requires in
-    let t = begun p v c.args.pool c.args.free.now c.args.links.now w r.plain r.phase r.links r.blocks c.load_all-given.ensures.ends in
+    let t = begun p v c.args.pool c.args.free.now c.args.links.now w r.board r.phase r.links r.blocks c.load_all-given.ensures.ends in
     let o = c.obtain-reclaimed in let e = o.ensures in
     let u = obtained t o.result o.new.seat.knows o.new.free e.reclaimed e.queue e.size in
     let y : View = c.emit.new.seat.knows in let d = emitted u y c.emit.ensures.knows in
@@ -78,7 +78,7 @@ pub returns-clause-knows : goal.returns-clause-knows
 returns-clause-knows c = let p = lay c.args.board.now.plot in let v : View = c.args.seat.now.knows in
     let w : View = c.load_all-given.new.seat.knows in
     let r = c.requires in
-    let t = begun p v c.args.pool c.args.free.now c.args.links.now w r.plain r.phase r.links r.blocks c.load_all-given.ensures.ends in
+    let t = begun p v c.args.pool c.args.free.now c.args.links.now w r.board r.phase r.links r.blocks c.load_all-given.ensures.ends in
     let o = c.obtain-reclaimed in let e = o.ensures in
     let u = obtained t o.result o.new.seat.knows o.new.free e.reclaimed e.queue e.size in
     let y : View = c.emit.new.seat.knows in let d = emitted u y c.emit.ensures.knows in
@@ -90,7 +90,7 @@ pub returns-clause-blocks : goal.returns-clause-blocks
 returns-clause-blocks c = let p = lay c.args.board.now.plot in let v : View = c.args.seat.now.knows in
     let w : View = c.load_all-given.new.seat.knows in
     let r = c.requires in
-    let t = begun p v c.args.pool c.args.free.now c.args.links.now w r.plain r.phase r.links r.blocks c.load_all-given.ensures.ends in
+    let t = begun p v c.args.pool c.args.free.now c.args.links.now w r.board r.phase r.links r.blocks c.load_all-given.ensures.ends in
     let o = c.obtain-reclaimed in let e = o.ensures in
     let u = obtained t o.result o.new.seat.knows o.new.free e.reclaimed e.queue e.size in
     let y : View = c.emit.new.seat.knows in let d = emitted u y c.emit.ensures.knows in
@@ -102,7 +102,7 @@ pub returns-clause-answer : goal.returns-clause-answer
 returns-clause-answer c = let p = lay c.args.board.now.plot in let v : View = c.args.seat.now.knows in
     let w : View = c.load_all-given.new.seat.knows in
     let r = c.requires in
-    let t = begun p v c.args.pool c.args.free.now c.args.links.now w r.plain r.phase r.links r.blocks c.load_all-given.ensures.ends in
+    let t = begun p v c.args.pool c.args.free.now c.args.links.now w r.board r.phase r.links r.blocks c.load_all-given.ensures.ends in
     let o = c.obtain-reclaimed in let e = o.ensures in
     let u = obtained t o.result o.new.seat.knows o.new.free e.reclaimed e.queue e.size in
     let y : View = c.emit.new.seat.knows in let d = emitted u y c.emit.ensures.knows in
@@ -110,7 +110,9 @@ returns-clause-answer c = let p = lay c.args.board.now.plot in let v : View = c.
     subst (λ xs. AreMade (IsPublishedNow p y) y xs z) r.links c.publish_all.ensures.ends in
     record {
       given = c.load_all-given.ensures.given ∙ ap (λ xs. number_given p v (last_of xs)) r.links;
-      reclaimed = turn.told_back u;
-      used = turn.out_alone d z ends;
+      reclaimed = turn.reclaimed u;
+      used = turn.is_used d z ends;
+      freed = turn.is_freed d z ends;
+      others = turn.are_kept d z ends;
       queue = e.queue;
     }

@@ -1,4 +1,4 @@
--- What a reader hears: the samples of the block that it holds, which are 16 bits each and a quantum long.
+-- What a link brings its reader: the samples of the block that it holds, which are 16 bits each and a quantum long.
 use Rattle.std.proofs.Common.{◌≡◌, ℕ, ℤ, ◌+◌, ◌-◌, ◌<◌, Bool, true, false, cond, ltb, List, [], length, get_or, refl, sym, ap, ◌∙◌}
 use Rattle.std.proofs.Common.{subst, arith}
 use Rattle.std.specs.Prelude.{pos, All, replicate}
@@ -10,8 +10,8 @@ use Rattle.board_rule.specs.declared.view.View.{View}
 use Rattle.board_rule.specs.Layout.{Lay, first}
 use Rattle.board_rule.specs.SampleWords.{IsTable, samples_in}
 use Rattle.board_rule.specs.EndViews.{no_pool, pool_at, pool_of}
-use Rattle.board_rule.specs.ReaderSteps.{samples_read}
-use Rattle.io_areas.specs.Reading.{IsHolding, held_stamp, heard}
+use Rattle.board_rule.specs.ReaderSteps.{read_cycle, samples_read}
+use Rattle.io_areas.specs.Reading.{IsHolding, stamp_brought, brought}
 use Rattle.io_areas.specs.Quanta.{quantum_of}
 use Rattle.io_areas.proofs.SampleLemmas.{IsShort, IsReadTo}
 
@@ -28,15 +28,15 @@ short_by false xs h = λ k d l. absurd (omega arith)
 
 module _ (leads : Bool) (p : Lay) (v : View) (l : ℕ) (table : IsTable p v.expect) where
   pub all_short : All IsShort (samples_read leads p v l)
-  all_short = short_by (ltb (first p) (held_stamp leads p v l)) _ (table.fits (held_stamp leads p v l - 1) (pool_of p l))
+  all_short = short_by (ltb (first p) (stamp_brought p l (read_cycle leads p v l))) _ (table.fits (stamp_brought p l (read_cycle leads p v l) - 1) (pool_of p l))
 
-  pub heard_whole : IsHolding leads p v l → pool_of p l < length (pools_of p.shape) → (ys : List ℤ) → length ys ≡ quantum_of p (pool_of p l)
-      → IsReadTo (samples_read leads p v l) (length ys) ys → ys ≡ heard leads p v l
-  heard_whole h inside ys long is = told_by (ltb (first p) n) (samples_in p v.expect (n - 1) q) ys (quantum_of p q) whole long
+  pub brought_whole : IsHolding leads p v l → pool_of p l < length (pools_of p.shape) → (ys : List ℤ) → length ys ≡ quantum_of p (pool_of p l)
+      → IsReadTo (samples_read leads p v l) (length ys) ys → ys ≡ brought leads p v l
+  brought_whole h inside ys long is = told_by (ltb (first p) n) (samples_in p v.expect (n - 1) q) ys (quantum_of p q) whole long
       (λ j lt. is j lt lt)
     where
       n : ℕ
-      n = held_stamp leads p v l
+      n = stamp_brought p l (read_cycle leads p v l)
 
       q : ℕ
       q = pool_of p l
