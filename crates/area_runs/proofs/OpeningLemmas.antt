@@ -5,13 +5,13 @@ use Rattle.std.proofs.lemmas.List.{get_or-replicate, get_or-map, length-replicat
 use Rattle.atomic_table.specs.Seated.{TableId}
 use Rattle.pw_base.specs.declared.pools.PoolShape.{PoolShape}
 use Rattle.pw_base.specs.Pools.{pools_of}
-use Rattle.board_rule.specs.declared.plot.Plot.{Plot}
+use Rattle.board_rule.specs.declared.board_shape.BoardShape.{BoardShape}
 use Rattle.board_rule.specs.declared.view.NodeView.{NodeView}
 use Rattle.board_rule.specs.declared.view.WriteView.{WriteView}
 use Rattle.board_rule.specs.declared.view.ReadView.{ReadView}
 use Rattle.board_rule.specs.declared.view.View.{View}
 use Rattle.board_rule.specs.Known.{Known}
-use Rattle.board_rule.specs.Layout.{Lay, lay, IsSound, nodes, first}
+use Rattle.board_rule.specs.Layout.{BoardLayout, layout_of, IsSound, nodes, first}
 use Rattle.board_rule.specs.View.{Samples, idle, node_of, unwritten, unread, first_write, loop_view, driver_view}
 use Rattle.board_rule.specs.Spans.{block_at}
 use Rattle.board_rule.specs.EndViews.{no_link, no_pool, pool_at, read_of, write_of}
@@ -25,7 +25,7 @@ use Rattle.io_areas.proofs.StartLemmas.{room_there, begins_free}
 use Rattle.area_runs.specs.declared.node_ends.NodeEnds.{NodeEnds}
 use Rattle.area_runs.specs.declared.quanta.Quanta.{Quanta}
 use Rattle.area_runs.specs.declared.worker.Worker.{Worker}
-use Rattle.area_runs.specs.declared.lead.Lead.{Lead}
+use Rattle.area_runs.specs.declared.lead.DriverLoop.{DriverLoop}
 use Rattle.area_runs.specs.Steady.{quanta_of, steady, IsSteady}
 use Rattle.area_runs.specs.Turning.{IsEquipped, AreEven, IsAtRest}
 use Rattle.area_runs.specs.Ready.{IsReady, IsLeadReady}
@@ -34,7 +34,7 @@ use Rattle.area_runs.specs.Opening.{IsOpenable, AreFirst}
 use Rattle.area_runs.proofs.SteadyLemmas.{is_steady}
 
 -- a seat of a loop at the start
-module _ (p : Lay) (fit : All (λ x. (1 ≤ x.blocks) × (x.blocks ≤ 8)) (pools_of p.shape)) (e : Samples) (k : ℕ) where
+module _ (p : BoardLayout) (fit : All (λ x. (1 ≤ x.blocks) × (x.blocks ≤ 8)) (pools_of p.shape)) (e : Samples) (k : ℕ) where
   abbrev v : View
   v = loop_view p e k
 
@@ -67,27 +67,27 @@ module _ (p : Lay) (fit : All (λ x. (1 ≤ x.blocks) × (x.blocks ≤ 8)) (pool
         (begins_free p have e k q low);
   }
 
-module _ (plot : Plot) (sound : IsSound (lay plot)) (even odd : List ℤ) (ok : IsOpenable plot (quanta_of even odd)) (table : TableId) where
+module _ (board_shape : BoardShape) (sound : IsSound (layout_of board_shape)) (even odd : List ℤ) (ok : IsOpenable board_shape (quanta_of even odd)) (table : TableId) where
   abbrev samples : Quanta
   samples = quanta_of even odd
 
-  abbrev p : Lay
-  p = lay plot
+  abbrev p : BoardLayout
+  p = layout_of board_shape
 
   abbrev expect : Samples
-  expect = steady plot.shape samples
+  expect = steady board_shape.shape samples
 
   plain : IsPooledBoard p
   plain = record { sound = sound; pooled = ok.pooled }
 
-  fits : All (λ x. (1 ≤ x.blocks) × (x.blocks ≤ 8)) (pools_of plot.shape)
+  fits : All (λ x. (1 ≤ x.blocks) × (x.blocks ≤ 8)) (pools_of board_shape.shape)
   fits q e lt = let f = ok.fit q e lt in (f.0, f.1)
 
   runs_steady : IsSteady p expect samples
   runs_steady = is_steady p samples ok.odd refl ok.fit
 
-  pub worker_begins : (k : ℕ) → k < plot.seats → (w : Worker)
-      → IsMade plot samples k (record { table = table; knows = loop_view p expect k }) w
+  pub worker_begins : (k : ℕ) → k < board_shape.seats → (w : Worker)
+      → IsMade board_shape samples k (record { table = table; knows = loop_view p expect k }) w
       → IsReady p table w
   worker_begins k low w made = let seat = made.seat_is in let knows = ap (λ (s : Known). s.knows) seat in record {
     table = ap (λ (s : Known). s.table) seat;
@@ -95,12 +95,12 @@ module _ (plot : Plot) (sound : IsSound (lay plot)) (even odd : List ℤ) (ok : 
         (λ i. (sym knows i, sym made.shapes_are i, sym made.free_are i, sym made.samples_are i)) record {
           plain = plain;
           shapes_are = refl;
-          lists = length-map (pools_of plot.shape) (free_at_start plot.shape);
+          lists = length-map (pools_of board_shape.shape) (free_at_start board_shape.shape);
           blocks = has_room p fits expect k;
           steady = runs_steady;
         };
     rests = λ i d lt. let n : NodeEnds = get_or w.nodes i d in let h = made.nodes_are.only i d lt in let of = h.1 in let m = of.0 in
-        let at : p.place n.node ≡ m = ap p.place (sym of.2) ∙ sound.at m of.1 in (
+        let at : p.index n.node ≡ m = ap p.index (sym of.2) ∙ sound.at m of.1 in (
           h.0,
           subst (λ (x : ℕ × View × List Queue). IsAtRest p x.1 x.2 x.0) (λ j. (sym at j, sym knows j, sym made.free_are j))
               (new_rests p expect k m of.1 of.3 of.4 low, begins_even p fits expect k m of.1),
@@ -108,7 +108,7 @@ module _ (plot : Plot) (sound : IsSound (lay plot)) (even odd : List ℤ) (ok : 
     long = made.long ∙ sym (ap (λ (q : Quanta). length q.even) made.samples_are);
   }
 
-  pub lead_begins : (k : ℕ) → 0 < k → (l : Lead) → IsLeadMade plot.shape samples
+  pub lead_begins : (k : ℕ) → 0 < k → (l : DriverLoop) → IsLeadMade board_shape.shape samples
       (record { table = table; knows = driver_view p expect k }) l
       → IsLeadReady p table l false
   lead_begins k some l made = let seat = made.seat_is in let knows = ap (λ (s : Known). s.knows) seat in (
@@ -136,12 +136,12 @@ module _ (plot : Plot) (sound : IsSound (lay plot)) (even odd : List ℤ) (ok : 
       named : (driver_view p expect k).expect ≡ expect
       named = ap (λ b. cond b [] expect) (ne_eqb k 0 (λ z. omega arith))
 
-  pub workers_first : (k : ℕ) (w : Worker) → IsMade plot samples k (record { table = table; knows = loop_view p expect k }) w → AreFirst p w
+  pub workers_first : (k : ℕ) (w : Worker) → IsMade board_shape samples k (record { table = table; knows = loop_view p expect k }) w → AreFirst p w
   workers_first k w made i d lt = let n : NodeEnds = get_or w.nodes i d in let of = (made.nodes_are.only i d lt).1 in let m = of.0 in
-      let at : p.place n.node ≡ m = ap p.place (sym of.2) ∙ sound.at m of.1 in
+      let at : p.index n.node ≡ m = ap p.index (sym of.2) ∙ sound.at m of.1 in
       ap (λ (x : ℕ × View). (node_of x.1 x.0).next) (λ j. (at j, ap (λ (s : Known). s.knows) made.seat_is j)) ∙ next_is p fits expect k m of.1
 
-  pub lead_first : (k : ℕ) → 0 < k → (l : Lead) → IsLeadMade plot.shape samples (record { table = table; knows = driver_view p expect k }) l
+  pub lead_first : (k : ℕ) → 0 < k → (l : DriverLoop) → IsLeadMade board_shape.shape samples (record { table = table; knows = driver_view p expect k }) l
       → (l.seat.knows.lead.cycle ≡ first p) × (l.seat.knows.lead.checks ≡ 0) × (l.seat.knows.expect ≡ expect)
   lead_first k some l made = let knows = ap (λ (s : Known). s.knows) made.seat_is in (
     ap (λ (x : View). x.lead.cycle) knows,

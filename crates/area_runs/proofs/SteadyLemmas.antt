@@ -12,10 +12,10 @@ use Rattle.std.proofs.lemmas.List.FromFn.{length-range_with_len, get_or-range_wi
 use Rattle.pw_base.specs.declared.shape.ShapeLink.{ShapeLink}
 use Rattle.pw_base.specs.declared.pools.PoolShape.{PoolShape}
 use Rattle.pw_base.specs.Pools.{pools_of}
-use Rattle.board_rule.specs.Layout.{Lay, first, last}
+use Rattle.board_rule.specs.Layout.{BoardLayout, first, last}
 use Rattle.board_rule.specs.View.{Samples}
-use Rattle.board_rule.specs.Areas.{late_by}
-use Rattle.board_rule.specs.BlockReadings.{late_at}
+use Rattle.board_rule.specs.Areas.{delay_by}
+use Rattle.board_rule.specs.BlockReadings.{delay_at}
 use Rattle.board_rule.specs.SampleWords.{IsTable, samples_in}
 use Rattle.board_rule.specs.EndViews.{no_link, no_pool, link_at, pool_of}
 use Rattle.io_areas.specs.Quanta.{quantum_of}
@@ -34,7 +34,7 @@ before_by true xs ys n e f = e
 before_by false xs ys n e f = f
 
 -- a block of the cycle c has the stamp c + 1
-of_cycle : (p : Lay) (e : Samples) (q c n : ℕ) (none : List ℤ) → n ≡ c + 1 → first p ≤ c
+of_cycle : (p : BoardLayout) (e : Samples) (q c n : ℕ) (none : List ℤ) → n ≡ c + 1 → first p ≤ c
     → cond (ltb (first p) n) (samples_in p e (n - 1) q) none ≡ samples_in p e c q
 of_cycle p e q c n none is low = ap (λ t. cond t (samples_in p e (n - 1) q) none) later
     ∙ ap (λ k. samples_in p e k q) (let z : n - 1 ≡ c = omega arith in z)
@@ -42,13 +42,13 @@ of_cycle p e q c n none is low = ap (λ t. cond t (samples_in p e (n - 1) q) non
     later : ltb (first p) n ≡ true
     later = grind arith
 
-before_first : (p : Lay) (n : ℕ) (xs none : List ℤ) → n ≡ first p → cond (ltb (first p) n) xs none ≡ none
+before_first : (p : BoardLayout) (n : ℕ) (xs none : List ℤ) → n ≡ first p → cond (ltb (first p) n) xs none ≡ none
 before_first p n xs none is = ap (λ t. cond t xs none) early
   where
     early : ltb (first p) n ≡ false
     early = grind arith
 
-module _ (p : Lay) (e : Samples) (s : Quanta) (steady : IsSteady p e s) where
+module _ (p : BoardLayout) (e : Samples) (s : Quanta) (steady : IsSteady p e s) where
   pub given_long : (k : ℕ) → length (given_in s k) ≡ length s.even
   given_long k = given_by (eqb (k % 2) 0) s.even s.odd steady.odd
 
@@ -59,10 +59,10 @@ module _ (p : Lay) (e : Samples) (s : Quanta) (steady : IsSteady p e s) where
   -- what a link brings in the cycle c, which is k cycles after the first
   module _ (l c k : ℕ) (inside : l < length p.shape.links) (there : pool_of p l < length (pools_of p.shape)) (at : first p + k ≡ c)
       (low : c < last p) where
-    late_is : late_at p l ≡ cond {A = ℕ} (link_at p l).delayed 1 0
-    late_is = ap (λ (o : Option ShapeLink). unwrap_or (option_map late_by o) 0) (slice_get-get_or p.shape.links l no_link inside)
+    late_is : delay_at p l ≡ cond {A = ℕ} (link_at p l).delayed 1 0
+    late_is = ap (λ (o : Option ShapeLink). unwrap_or (option_map delay_by o) 0) (slice_get-get_or p.shape.links l no_link inside)
 
-    brings_by : (b : Bool) → late_at p l ≡ cond {A = ℕ} b 1 0 → brought_in p e l c ≡ cond b (given_before s k) (given_in s k)
+    brings_by : (b : Bool) → delay_at p l ≡ cond {A = ℕ} b 1 0 → brought_in p e l c ≡ cond b (given_before s k) (given_in s k)
     brings_by false late = of_cycle p e (pool_of p l) c (stamp_brought p l c) _ (omega arith) (omega arith)
         ∙ ap (λ j. samples_in p e j (pool_of p l)) (sym at) ∙ steady.gives k (pool_of p l) (omega arith) there
     brings_by true late = dite (ℕ_discrete k 0)
@@ -80,7 +80,7 @@ module _ (p : Lay) (e : Samples) (s : Quanta) (steady : IsSteady p e s) where
     )
 
 -- the table of the quanta
-module _ (p : Lay) (s : Quanta) (odd : length s.odd ≡ length s.even) (zeros : s.zeros ≡ replicate (length s.even) (pos 0))
+module _ (p : BoardLayout) (s : Quanta) (odd : length s.odd ≡ length s.even) (zeros : s.zeros ≡ replicate (length s.even) (pos 0))
     (fit : All (IsFit p.shape.quantum (length s.even)) (pools_of p.shape)) where
   abbrev row : Samples
   row = steady p.shape s

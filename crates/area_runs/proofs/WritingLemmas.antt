@@ -9,15 +9,15 @@ use Rattle.pw_base.specs.Pools.{pools_of}
 use Rattle.board_rule.specs.declared.view.WriteView.{WriteView}
 use Rattle.board_rule.specs.declared.view.BlockView.{BlockView}
 use Rattle.board_rule.specs.declared.view.View.{View}
-use Rattle.board_rule.specs.Layout.{Lay}
+use Rattle.board_rule.specs.Layout.{BoardLayout}
 use Rattle.board_rule.specs.View.{node_of}
 use Rattle.board_rule.specs.SampleWords.{samples_in}
 use Rattle.board_rule.specs.Spans.{block_at}
 use Rattle.board_rule.specs.EndViews.{no_pool, pool_at, filler_of, write_of, block_of}
 use Rattle.board_rule.specs.SeatNodes.{HasNode}
 use Rattle.board_rule.specs.BlockSteps.{fill_cycle}
-use Rattle.board_rule.specs.BlockReadings.{lag}
-use Rattle.board_rule.proofs.WiringLemmas.{wired, lag_some}
+use Rattle.board_rule.specs.BlockReadings.{busy_cycles}
+use Rattle.board_rule.proofs.WiringLemmas.{wired, busy_cycles_some}
 use Rattle.buffer_pool.specs.Queue.{Queue}
 use Rattle.io_areas.specs.PooledBoard.{IsPooledBoard}
 use Rattle.io_areas.specs.Ends.{IsWrittenUpTo}
@@ -34,7 +34,7 @@ write_moves v w l c long same e = record {
   stored = ap (λ (r : WriteView). r.stored) same ∙ e.stored;
 }
 
-pub stock_moves : (p : Lay) (v w : View) (q c : ℕ) (pool : Queue)
+pub stock_moves : (p : BoardLayout) (v w : View) (q c : ℕ) (pool : Queue)
     → ((b : ℕ) → b < (pool_at p q).blocks → block_of p w q b ≡ block_of p v q b)
     → FreeBlocks p v q c pool → FreeBlocks p w q c pool
 stock_moves p v w q c pool same s = record {
@@ -46,10 +46,10 @@ stock_moves p v w q c pool same s = record {
   out = λ n r. let o = s.out n r in (o.0, o.1, same o.0 o.1 ∙ o.2);
   one = λ a b n i j e f. s.one a b n i j (sym (same a i) ∙ e) (sym (same b j) ∙ f);
   else = λ b low. ⊎_elim (λ f. inl (same b low ∙ f)) (λ r. inr (r.0, r.1, same b low ∙ r.2)) (s.else b low);
-  zero = λ r. same 0 (let some = lag_some p (pool_at p q) in let e = s.enough in omega arith) ∙ s.zero r;
+  zero = λ r. same 0 (let some = busy_cycles_some p (pool_at p q) in let e = s.enough in omega arith) ∙ s.zero r;
 }
 
-module _ (p : Lay) (v : View) (ws : List WriteView) (bs : List BlockView) where
+module _ (p : BoardLayout) (v : View) (ws : List WriteView) (bs : List BlockView) where
   -- other ends of links and other blocks leave the nodes
   pub writes_have : (m : ℕ) → HasNode false p v m → HasNode false p (record v { writes = ws; blocks = bs }) m
   writes_have m h = let o = h.0 in (
@@ -58,7 +58,7 @@ module _ (p : Lay) (v : View) (ws : List WriteView) (bs : List BlockView) where
     h.2,
   )
 
-module _ (p : Lay) (plain : IsPooledBoard p) where
+module _ (p : BoardLayout) (plain : IsPooledBoard p) where
   -- a link is of one pool
   pub one_pool : (q r l : ℕ) → q < length (pools_of p.shape) → r < length (pools_of p.shape) → Contains (pool_at p q).links l
       → Contains (pool_at p r).links l

@@ -4,7 +4,7 @@ use Rattle.std.specs.Prelude.{◌≡◌, ℕ, ℤ, pos, neg_ℤ, ◌+◌, ◌-�
 use Rattle.std.specs.List.{range_with_len}
 use Rattle.pw_base.specs.declared.shape.Shape.{Shape}
 use Rattle.pw_base.specs.Pools.{pools_of}
-use Rattle.board_rule.specs.Layout.{Lay, first}
+use Rattle.board_rule.specs.Layout.{BoardLayout, first}
 use Rattle.board_rule.specs.View.{Samples}
 use Rattle.board_rule.specs.SampleWords.{samples_in}
 use Rattle.io_areas.specs.Quanta.{quantum_of}
@@ -29,7 +29,7 @@ abbrev pub steady : Shape → Quanta → Samples
 steady shape s = map (λ k. map (λ x. given_in s k) (pools_of shape)) (range_with_len 0 shape.cycles)
 
 -- each pool gives them, and they are one quantum of it
-pub record IsSteady (p : Lay) (e : Samples) (s : Quanta) : Type 0 where
+pub record IsSteady (p : BoardLayout) (e : Samples) (s : Quanta) : Type 0 where
   pub gives : (k q : ℕ) → k < p.shape.cycles → q < length (pools_of p.shape)
       → samples_in p e (first p + k) q ≡ given_in s k
   pub odd : length s.odd ≡ length s.even

@@ -1,6 +1,6 @@
 //! The turn of a node on all links that it reads.
+ghost use Rattle.board_rule.specs.OnBoard.{IsOn, layout};
 ghost use Rattle.std.specs.Prelude.{◌≡◌, ◌<◌, ◌↔◌, All, length, IsTrue};
-ghost use Rattle.board_rule.specs.Layout.{lay};
 ghost use Rattle.io_areas.specs.InputTurn.{MayReadInput, HasReadInput};
 ghost use Rattle.io_areas.specs.OutputAnswer.{last_of};
 ghost use Rattle.area_runs.specs.Hearing.{MayHearAll, expected_of, Gives, AreHeard};
@@ -22,8 +22,8 @@ fn are_same(a: &[i16], b: &[i16]) -> bool
 
 // What a link brings: `before` if it is delayed.
 fn expected<'a>(board: &Board, link: u32, now: &'a [i16], before: &'a [i16]) -> &'a [i16]
-    requires { link < length board.now.plot.shape.links }
-    ensures { result.now ≡ expected_of (lay board.now.plot) now.now before.now link }
+    requires { link < length board.now.board_shape.shape.links }
+    ensures { result.now ≡ expected_of (layout board.now) now.now before.now link }
 {
     if board.shape().links.as_slice()[link as usize].delayed {
         before
@@ -41,14 +41,14 @@ fn hears<S: BoardSeat>(
     before: &[i16],
     room: &mut [i16],
 ) -> bool
-    requires table { S.table seat.old ≡ board.now.table.shared.table_id }
-    requires phase { MayReadInput S.leads (lay board.now.plot) (S.knows seat.old) link }
-    requires gives { Gives S.leads (lay board.now.plot) (S.knows seat.old) now.now before.now link }
+    requires table { IsOn board.now (S.table seat.old) }
+    requires phase { MayReadInput S.is_driver (layout board.now) (S.knows seat.old) link }
+    requires gives { Gives S.is_driver (layout board.now) (S.knows seat.old) now.now before.now link }
     requires long { length room.old ≡ length now.now }
     ensures table { S.table seat.new ≡ S.table seat.old }
-    ensures knows { let p = lay board.now.plot in
-        HasReadInput S.leads p (S.knows seat.old) link (S.knows seat.new) }
-    ensures room { room.new ≡ expected_of (lay board.now.plot) now.now before.now link }
+    ensures knows { let p = layout board.now in
+        HasReadInput S.is_driver p (S.knows seat.old) link (S.knows seat.new) }
+    ensures room { room.new ≡ expected_of (layout board.now) now.now before.now link }
     ensures samples { IsTrue result }
 {
     read_input(board, seat, link, room);
@@ -65,16 +65,16 @@ pub(crate) fn hear_all<S: BoardSeat>(
     before: &[i16],
     room: &mut [i16],
 ) -> bool
-    requires table { S.table seat.old ≡ board.now.table.shared.table_id }
-    requires phase { MayHearAll S.leads (lay board.now.plot) (S.knows seat.old) links.now }
-    requires gives { let p = lay board.now.plot in
-        All (Gives S.leads p (S.knows seat.old) now.now before.now) links.now }
+    requires table { IsOn board.now (S.table seat.old) }
+    requires phase { MayHearAll S.is_driver (layout board.now) (S.knows seat.old) links.now }
+    requires gives { let p = layout board.now in
+        All (Gives S.is_driver p (S.knows seat.old) now.now before.now) links.now }
     requires long { (length room.old ≡ length now.now) × (length before.now ≡ length now.now) }
     ensures table { S.table seat.new ≡ S.table seat.old }
-    ensures knows { let p = lay board.now.plot in
-        AreHeard S.leads p (S.knows seat.old) links.now (S.knows seat.new) }
+    ensures knows { let p = layout board.now in
+        AreHeard S.is_driver p (S.knows seat.old) links.now (S.knows seat.new) }
     ensures room { 0 < length links.now
-        → room.new ≡ expected_of (lay board.now.plot) now.now before.now (last_of links.now) }
+        → room.new ≡ expected_of (layout board.now) now.now before.now (last_of links.now) }
     ensures samples { IsTrue result }
 {
     let mut heard = true;

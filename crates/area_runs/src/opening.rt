@@ -3,9 +3,9 @@ ghost use Rattle.std.specs.Prelude.{◌≡◌, ◌≤◌, ◌↔◌, All, IfOk, 
 ghost use Rattle.pw_base.specs.Pools.{pools_of};
 ghost use Rattle.area_runs.specs.Steady.{IsShort, quanta_of, steady};
 ghost use Rattle.area_runs.specs.Making.{IsLeadMade};
-ghost use Rattle.area_runs.specs.Opening.{plot_of, IsOpenable, IsOpened};
+ghost use Rattle.area_runs.specs.Opening.{board_shape_of, IsOpenable, IsOpened};
 
-use crate::lead::Lead;
+use crate::lead::DriverLoop;
 use crate::making::workers_of;
 use crate::node_ends::reads_of;
 use crate::openable::{are_fit, has_seats};
@@ -20,7 +20,7 @@ use std::marker::Brand;
 #[derive(Drop)]
 pub struct Run {
     pub board: Board,
-    pub lead: Lead,
+    pub lead: DriverLoop,
     pub workers: Items<Worker>,
 }
 
@@ -40,11 +40,11 @@ fn lead_of(
     seat: DriverSeat,
     even: &[i16],
     odd: &[i16],
-) -> Result<Lead, Memory>
+) -> Result<DriverLoop, Memory>
     requires { length shape.now.links ≤ 256 }
     ensures { IfOk result (IsLeadMade shape.now (quanta_of even.now odd.now) seat) }
 {
-    Ok(Lead {
+    Ok(DriverLoop {
         seat,
         reads: reads_of(alloc, shape, shape.driver)?,
         samples: quanta_of(alloc, even, odd)?,
@@ -61,10 +61,10 @@ fn open<E: Expect>(
     even: &[i16],
     odd: &[i16],
 ) -> Result<Run, Memory>
-    requires openable { IsOpenable (plot_of shape.now seat_of.now seats) (quanta_of even.now odd.now) }
+    requires openable { IsOpenable (board_shape_of shape.now seat_of.now seats) (quanta_of even.now odd.now) }
     requires table { E.expect ≡ steady shape.now (quanta_of even.now odd.now) }
-    ensures { let plot = plot_of shape.now seat_of.now seats in
-        IfOk result (IsOpened plot (quanta_of even.now odd.now)) }
+    ensures { let board_shape = board_shape_of shape.now seat_of.now seats in
+        IfOk result (IsOpened board_shape (quanta_of even.now odd.now)) }
 {
     look_over(even);
     look_over(odd);
@@ -87,8 +87,8 @@ fn is_openable(
     even: &[i16],
     odd: &[i16],
 ) -> Result<bool, Memory>
-    ensures { let plot = plot_of shape.now seat_of.now seats in
-        IfOk result (λ yes. IsTrue yes ↔ IsOpenable plot (quanta_of even.now odd.now)) }
+    ensures { let board_shape = board_shape_of shape.now seat_of.now seats in
+        IfOk result (λ yes. IsTrue yes ↔ IsOpenable board_shape (quanta_of even.now odd.now)) }
 {
     if !is_pooled_shape(shape) {
         return Ok(false);
@@ -103,7 +103,7 @@ fn is_openable(
 }
 
 /// A board whose pools all give the same samples, one quantum with the frames interleaved: `even` in the even cycles,
-/// counted from the first, and `odd` in the odd ones. `seat_of` has the seat of each node by place in the shape, below
+/// counted from the first, and `odd` in the odd ones. `seat_of` has the seat of each node by index in the shape, below
 /// `seats`; the driver's entry is not looked at. None where the shape is not sound and pooled, where a follower has none
 /// of the seats, where the two quanta differ in length, and where a pool has not 1 to 8 blocks or a quantum of that length.
 ///
@@ -116,10 +116,10 @@ pub fn opened(
     even: &[i16],
     odd: &[i16],
 ) -> Result<Option<Run>, Memory>
-    ensures opened { let plot = plot_of shape.now seat_of.now seats in
-        IfOk result (λ o. IfSome o (IsOpened plot (quanta_of even.now odd.now))) }
-    ensures none { let plot = plot_of shape.now seat_of.now seats in
-        IfOk result (λ o. IsNone o → ¬ IsOpenable plot (quanta_of even.now odd.now)) }
+    ensures opened { let board_shape = board_shape_of shape.now seat_of.now seats in
+        IfOk result (λ o. IfSome o (IsOpened board_shape (quanta_of even.now odd.now))) }
+    ensures none { let board_shape = board_shape_of shape.now seat_of.now seats in
+        IfOk result (λ o. IsNone o → ¬ IsOpenable board_shape (quanta_of even.now odd.now)) }
 {
     if !is_openable(alloc, shape, seat_of.as_slice(), seats, even, odd)? {
         return Ok(None);

@@ -25,7 +25,7 @@ pub(crate) fn quanta_of(alloc: Global, even: &[i16], odd: &[i16]) -> Result<Quan
 }
 
 impl Quanta {
-    /// What is given in the cycle that is so many after the first.
+    /// What is given in the cycle that is `n` after the first.
     pub(crate) fn given_in(&self, past: u32) -> &[i16]
         ensures { result.now ≡ given_in self.now past }
     {

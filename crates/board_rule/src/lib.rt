@@ -12,8 +12,8 @@ mod lead;
 mod left;
 mod loop_seat;
 mod opening;
-mod places;
-mod plot;
+mod indexes;
+mod board_shape;
 mod progress;
 mod rows;
 mod rule;
@@ -29,11 +29,11 @@ pub use driver_seat::DriverSeat;
 pub use expect::Expect;
 pub use left::{left_at_start, left_of, tell};
 pub use loop_seat::LoopSeat;
-pub use plot::Plot;
-pub use rows::place_in;
+pub use board_shape::BoardShape;
+pub use rows::index_in;
 pub use rule::BoardRule;
 pub use safety::buffers_are_safe;
 pub use seat::BoardSeat;
 pub use view::{
-    BlockView, Drive, Found, LeadView, NodeView, Phase, ReadView, Trail, View, WriteView,
+    BlockView, DriverPhase, Found, DriverView, NodeView, Phase, ReadView, Trail, View, WriteView,
 };

@@ -4,7 +4,7 @@ use Rattle.std.proofs.Common.{◌∙◌, subst, arith, set-set}
 use Rattle.std.proofs.Common.{length-set, get_or-set_same}
 use Rattle.board_rule.specs.declared.view.ReadView.{ReadView}
 use Rattle.board_rule.specs.declared.view.View.{View}
-use Rattle.board_rule.specs.Layout.{Lay}
+use Rattle.board_rule.specs.Layout.{BoardLayout}
 use Rattle.board_rule.specs.View.{unread}
 use Rattle.board_rule.specs.EndViews.{read_of, view_read, pool_at, pool_of, reader_of}
 use Rattle.board_rule.specs.SeatNodes.{HasNode}
@@ -14,7 +14,7 @@ use Rattle.io_areas.specs.Reading.{taken, IsHolding, brought_in, brought, GivesB
 use Rattle.io_areas.specs.Ends.{IsReadUpTo}
 use Rattle.io_areas.specs.InputTurn.{MayReadInput, HasReadInput}
 
-module _ (p : Lay) (v : View) (l : ℕ) (y : ReadView) where
+module _ (p : BoardLayout) (v : View) (l : ℕ) (y : ReadView) where
   -- another end of a link leaves the node
   pub has_again : (b : Bool) (m : ℕ) → HasNode b p v m → HasNode b p (view_read v l y) m
   has_again true m h = h
@@ -35,7 +35,7 @@ module _ (p : Lay) (v : View) (l : ℕ) (y : ReadView) where
   pub end_again : l < length v.reads → read_of (view_read v l y) l ≡ y
   end_again h = get_or-set_same v.reads l y (unread 0) h
 
-module _ (b : Bool) (p : Lay) (v : View) (l : ℕ) (h : MayReadInput b p v l) where
+module _ (b : Bool) (p : BoardLayout) (v : View) (l : ℕ) (h : MayReadInput b p v l) where
   pub may_take : LoadsAsReader b p v l
   may_take = ((h.inside, h.even.there, h.has, h.runs), h.even.loaded)
 

@@ -4,14 +4,14 @@ use Rattle.std.proofs.lemmas.Option.{slice_get_within}
 use Rattle.pw_base.specs.declared.ids.PortId.{PortId}
 use Rattle.pw_base.specs.declared.shape.ShapeLink.{ShapeLink}
 use Rattle.pw_base.specs.Pools.{pools_of}
-use Rattle.board_rule.specs.Layout.{Lay}
+use Rattle.board_rule.specs.Layout.{BoardLayout}
 use Rattle.board_rule.specs.EndViews.{pool_at, pool_of, writer_of, filler_of}
 use Rattle.board_rule.proofs.PortLemmas.{differ_at}
 use Rattle.board_rule.proofs.WiringLemmas.{PoolAt, Wired, wired}
 use Rattle.board_rule.proofs.HolderLemmas.{link_is, pool_there, pool_here}
 use Rattle.io_areas.specs.PooledBoard.{IsPooledBoard}
 
-module _ (p : Lay) (board : IsPooledBoard p) (q : ℕ) where
+module _ (p : BoardLayout) (board : IsPooledBoard p) (q : ℕ) where
   wires : Wired p
   wires = wired p board.sound board.pooled
 
@@ -31,6 +31,6 @@ module _ (p : Lay) (board : IsPooledBoard p) (q : ℕ) where
         × (pool_of p l ≡ q)
     of_pool l c = let k = wires.there q l (pool_at p q) there c in let here = pool_here p wires l k.0 k.1 in (
       slice_get_within p.shape.links l k.0 k.1,
-      ap (λ (j : ShapeLink). p.place j.from.node) (link_is p l k.0 k.1) ∙ ap (λ (z : PortId). p.place z.node) k.2,
+      ap (λ (j : ShapeLink). p.index j.from.node) (link_is p l k.0 k.1) ∙ ap (λ (z : PortId). p.index z.node) k.2,
       wires.one_pool (pool_of p l) q l (pool_at p (pool_of p l)) (pool_at p q) here.0 there here.1 c,
     )

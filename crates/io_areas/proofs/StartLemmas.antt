@@ -18,9 +18,9 @@ use Rattle.pw_base.specs.Pools.{asked, links_from, sources_of, pool_of, pools_of
 use Rattle.board_rule.specs.declared.view.BlockView.{BlockView}
 use Rattle.board_rule.specs.declared.view.BlockView.TheVariants.{Free, Out}
 use Rattle.board_rule.specs.declared.view.View.{View}
-use Rattle.board_rule.specs.Layout.{Lay, first}
-use Rattle.board_rule.specs.View.{Samples, is_late, first_block, blocks_at_first, loop_view}
-use Rattle.board_rule.specs.BlockReadings.{lag, stamp}
+use Rattle.board_rule.specs.Layout.{BoardLayout, first}
+use Rattle.board_rule.specs.View.{Samples, is_delayed, first_block, blocks_at_first, loop_view}
+use Rattle.board_rule.specs.BlockReadings.{busy_cycles, stamp}
 use Rattle.board_rule.specs.Spans.{block_at}
 use Rattle.board_rule.specs.EndViews.{no_pool, pool_at, block_of}
 use Rattle.buffer_pool.specs.Queue.{numbers_below}
@@ -85,14 +85,14 @@ dropped_differ k n i j d less low e = let long = length-dropped k n in
 -- the blocks of one pool among those of all
 module _ (shape : Shape) where
   length-first : (x : PoolShape) → 1 ≤ x.blocks → length (blocks_at_first shape x) ≡ x.blocks
-  length-first x some = by (is_late shape x)
+  length-first x some = by (is_delayed shape x)
     where
       by : (c : Bool) → length (cond c (Out shape.first ∷ replicate (x.blocks - 1) Free) (replicate x.blocks Free)) ≡ x.blocks
       by true = let l = length-replicate (x.blocks - 1) (let z : BlockView = Free in z) in omega arith
       by false = length-replicate x.blocks Free
 
   first_at : (x : PoolShape) (b : ℕ) → b < x.blocks → get_or (blocks_at_first shape x) b Free ≡ first_block shape x b
-  first_at x b low = by (is_late shape x) b low
+  first_at x b low = by (is_delayed shape x) b low
     where
       by : (c : Bool) (b : ℕ) → b < x.blocks → get_or (cond c (Out shape.first ∷ replicate (x.blocks - 1) Free) (replicate x.blocks Free)) b Free
           ≡ (let z : BlockView = cond (c && eqb b 0) (Out shape.first) Free in z)
@@ -113,7 +113,7 @@ module _ (shape : Shape) where
       (flat_map-cons f x (take q xs)) in
       let d = length-append (f x) (flat_map f (take q xs)) in omega arith
 
-module _ (p : Lay) (have : All (λ x. 1 ≤ x.blocks) (pools_of p.shape)) (e : Samples) (k q : ℕ) (low : q < length (pools_of p.shape)) where
+module _ (p : BoardLayout) (have : All (λ x. 1 ≤ x.blocks) (pools_of p.shape)) (e : Samples) (k q : ℕ) (low : q < length (pools_of p.shape)) where
   abbrev v : View
   v = loop_view p e k
 
@@ -133,8 +133,8 @@ module _ (p : Lay) (have : All (λ x. 1 ≤ x.blocks) (pools_of p.shape)) (e : S
       let front = before p.shape (pools_of p.shape) q have in let own = length-first p.shape x (have q no_pool low) in omega arith
 
   -- the pool has as many blocks as may be out at once
-  enough : lag p x ≤ x.blocks
-  enough = by (is_late p.shape x) refl
+  enough : busy_cycles p x ≤ x.blocks
+  enough = by (is_delayed p.shape x) refl
     where
       port : PortId
       port = get_or (sources_of p.shape) q no_pool.port
@@ -143,20 +143,20 @@ module _ (p : Lay) (have : All (λ x. 1 ≤ x.blocks) (pools_of p.shape)) (e : S
       is = let long = length-map (sources_of p.shape) (pool_of p.shape) in
           get_or-map (pool_of p.shape) (sources_of p.shape) q no_pool.port no_pool (omega arith)
 
-      by : (c : Bool) → is_late p.shape x ≡ c → cond {A = ℕ} c 2 1 ≤ x.blocks
+      by : (c : Bool) → is_delayed p.shape x ≡ c → cond {A = ℕ} c 2 1 ≤ x.blocks
       by true late = let two = late_asks 0 (links_from p.shape port)
           (ap (λ (y : PoolShape). list_any (λ (l : ShapeLink). l.delayed) (links_from p.shape y.port)) (sym is) ∙ late) in
           let same : x.blocks ≡ fold (λ top l. max top (asked l)) 0 (links_from p.shape port) = ap (λ (y : PoolShape). y.blocks) is in omega arith
       by false late = have q no_pool low
 
   pub begins_free : FreeBlocks p v q (first p) (free_at_start p.shape x)
-  begins_free = by (is_late p.shape x) refl
+  begins_free = by (is_delayed p.shape x) refl
     where
       Begins : Bool → Type 0
       Begins c = FreeBlocks p v q (first p) (record { free = drop (cond c 1 0) (numbers_below x.blocks); blocks = x.blocks })
 
-      by : (c : Bool) → is_late p.shape x ≡ c → Begins c
-      by true late = let two : lag p x ≡ 2 = ap (λ b. cond {A = ℕ} b 2 1) late in let fits = enough in
+      by : (c : Bool) → is_delayed p.shape x ≡ c → Begins c
+      by true late = let two : busy_cycles p x ≡ 2 = ap (λ b. cond {A = ℕ} b 2 1) late in let fits = enough in
           let zero_out : block_of p v q 0 ≡ Out (first p) = is_first 0 (omega arith)
           ∙ ap (λ b. let z : BlockView = cond (b && true) (Out (first p)) Free in z) late in
           let others : (b : ℕ) → b < x.blocks → b ≢ 0 → block_of p v q b ≡ Free = (λ b h o. is_first b h
@@ -167,8 +167,8 @@ module _ (p : Lay) (have : All (λ x. 1 ≤ x.blocks) (pools_of p.shape)) (e : S
             enough = fits;
             listed = λ b c. let l = dropped_has 1 x.blocks b c in let l₀ = l.0 in (l.1, others b l.1 (λ i. omega arith));
             once = dropped_differ 1 x.blocks;
-            long = (let l = length-dropped 1 x.blocks in let g : recent_count p q (first p) ≡ lag p x - 1 =
-                ap (λ t. cond t (lag p x - 1) (lag p x)) (eq-eqb (first p) (first p) refl) in omega arith);
+            long = (let l = length-dropped 1 x.blocks in let g : recent_count p q (first p) ≡ busy_cycles p x - 1 =
+                ap (λ t. cond t (busy_cycles p x - 1) (busy_cycles p x)) (eq-eqb (first p) (first p) refl) in omega arith);
             out = λ n r. let r₀ = r.0 in let r₁ = r.1 in let r₂ = r.2 in let is : n ≡ first p = omega arith in
                 (0, omega arith, zero_out ∙ ap (λ m. Out m) (sym is));
             one = λ a b n ha hb ea eb. only a n ha ea ∙ sym (only b n hb eb);
@@ -178,15 +178,15 @@ module _ (p : Lay) (have : All (λ x. 1 ≤ x.blocks) (pools_of p.shape)) (e : S
                 (λ (z : 1 ≤ b). inl (others b h (λ i. omega arith))) (cases_lt b 1);
             zero = λ _. zero_out;
           }
-      by false late = let one : lag p x ≡ 1 = ap (λ b. cond {A = ℕ} b 2 1) late in let fits = enough in
+      by false late = let one : busy_cycles p x ≡ 1 = ap (λ b. cond {A = ℕ} b 2 1) late in let fits = enough in
           let free : (b : ℕ) → b < x.blocks → block_of p v q b ≡ Free = (λ b h. is_first b h
           ∙ ap (λ c. let z : BlockView = cond (c && eqb b 0) (Out (first p)) Free in z) late) in record {
             size = refl;
             enough = fits;
             listed = λ b c. let l = dropped_has 0 x.blocks b c in (l.1, free b l.1);
             once = dropped_differ 0 x.blocks;
-            long = (let l = length-dropped 0 x.blocks in let g : recent_count p q (first p) ≡ lag p x - 1 =
-                ap (λ t. cond t (lag p x - 1) (lag p x)) (eq-eqb (first p) (first p) refl) in omega arith);
+            long = (let l = length-dropped 0 x.blocks in let g : recent_count p q (first p) ≡ busy_cycles p x - 1 =
+                ap (λ t. cond t (busy_cycles p x - 1) (busy_cycles p x)) (eq-eqb (first p) (first p) refl) in omega arith);
             out = λ n r. let r₀ = r.0 in let r₂ = r.2 in absurd (omega arith);
             one = λ a b n ha hb ea eb. absurd (let w : Free ≡ Out n = sym (free a ha) ∙ ea in absurd (cc));
             else = λ b h. inl (free b h);

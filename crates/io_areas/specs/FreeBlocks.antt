@@ -5,35 +5,35 @@ use Rattle.pw_base.specs.declared.shape.Shape.{Shape}
 use Rattle.pw_base.specs.declared.pools.PoolShape.{PoolShape}
 use Rattle.board_rule.specs.declared.view.BlockView.TheVariants.{Free, Out}
 use Rattle.board_rule.specs.declared.view.View.{View}
-use Rattle.board_rule.specs.Layout.{Lay, first}
-use Rattle.board_rule.specs.BlockReadings.{lag}
+use Rattle.board_rule.specs.Layout.{BoardLayout, first}
+use Rattle.board_rule.specs.BlockReadings.{busy_cycles}
 use Rattle.board_rule.specs.EndViews.{pool_at, block_of}
-use Rattle.board_rule.specs.View.{is_late}
+use Rattle.board_rule.specs.View.{is_delayed}
 use Rattle.buffer_pool.specs.Queue.{Queue, numbers_below}
 
 -- the free blocks at the start of an epoch: all, ascending, but block 0 of a pool with a delayed link, which is out
 abbrev pub free_at_start : Shape → PoolShape → Queue
 free_at_start shape x = record {
-  free = drop (cond (is_late shape x) 1 0) (numbers_below x.blocks);
+  free = drop (cond (is_delayed shape x) 1 0) (numbers_below x.blocks);
   blocks = x.blocks;
 }
 
-module _ (p : Lay) where
+module _ (p : BoardLayout) where
   -- the stamps, each one more than the cycle of its block, of which a block is out before the node begins the cycle c:
   -- the last one, or the last two where a link of the pool is delayed, but none of a cycle before the first. To a pool
   -- with a delayed link the cycle before the first counts as one
   abbrev pub IsRecent : ℕ → ℕ → ℕ → Type 0
-  IsRecent q c n = (n ≤ c) × (c < n + lag p (pool_at p q)) × (first p + 1 < n + lag p (pool_at p q))
+  IsRecent q c n = (n ≤ c) × (c < n + busy_cycles p (pool_at p q)) × (first p + 1 < n + busy_cycles p (pool_at p q))
 
   -- how many these are
   abbrev pub recent_count : ℕ → ℕ → ℕ
-  recent_count q c = cond (eqb c (first p)) (lag p (pool_at p q) - 1) (lag p (pool_at p q))
+  recent_count q c = cond (eqb c (first p)) (busy_cycles p (pool_at p q) - 1) (busy_cycles p (pool_at p q))
 
   -- one block of each of those stamps is out, and all others are free; `zero`: that of the cycle before the first is
   -- block 0. The list has free blocks, each once, and as many as there are
   pub record FreeBlocks (v : View) (q c : ℕ) (pool : Queue) : Type 0 where
     pub size : pool.blocks ≡ (pool_at p q).blocks
-    pub enough : lag p (pool_at p q) ≤ (pool_at p q).blocks
+    pub enough : busy_cycles p (pool_at p q) ≤ (pool_at p q).blocks
     pub listed : (b : ℕ) → Contains pool.free b → (b < (pool_at p q).blocks) × (block_of p v q b ≡ Free)
     pub once : AllPairs (λ a b. a ≢ b) pool.free
     pub long : length pool.free + recent_count q c ≡ pool.blocks

@@ -2,7 +2,7 @@
 ghost use Rattle.std.specs.Prelude.{◌≡◌, ◌≤◌, ◌&&◌, IfOk};
 ghost use Rattle.std.specs.List.{list_any};
 ghost use Rattle.pw_base.specs.Pools.{is_port};
-ghost use Rattle.board_rule.specs.View.{is_late};
+ghost use Rattle.board_rule.specs.View.{is_delayed};
 ghost use Rattle.io_areas.specs.FreeBlocks.{free_at_start};
 
 use buffer_pool::Pool;
@@ -17,8 +17,8 @@ fn has_delayed(links: &[ShapeLink], port: PortId) -> bool
 }
 
 // Whether a link of the pool is delayed.
-fn is_late(shape: &Shape, pool: &PoolShape) -> bool
-    ensures { result ≡ is_late shape.now pool.now }
+fn is_delayed(shape: &Shape, pool: &PoolShape) -> bool
+    ensures { result ≡ is_delayed shape.now pool.now }
 {
     has_delayed(shape.links.as_slice(), pool.port)
 }
@@ -31,7 +31,7 @@ pub fn free_at_start(alloc: Global, shape: &Shape, pool: &PoolShape) -> Result<P
     ensures { IfOk result (λ free. free ≡ free_at_start shape.now pool.now) }
 {
     let mut free = Pool::new(alloc, pool.blocks)?;
-    if is_late(shape, pool) {
+    if is_delayed(shape, pool) {
         free.next();
     }
     Ok(free)

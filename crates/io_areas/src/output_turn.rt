@@ -1,7 +1,7 @@
 //! The turn of a node on a pool that it fills: one block for all links of the pool.
+ghost use Rattle.board_rule.specs.OnBoard.{IsOn, layout};
 ghost use Rattle.std.specs.Prelude.{◌≡◌, ◌≢◌, ◌+◌, ◌<◌, All, AllPairs, ◌∷◌, ◌++◌, length, option_to_list};
 ghost use Rattle.board_rule.specs.declared.view.BlockView.TheVariants.{Free, Out};
-ghost use Rattle.board_rule.specs.Layout.{lay};
 ghost use Rattle.board_rule.specs.EndViews.{pool_at, block_of, view_block};
 ghost use Rattle.board_rule.specs.SampleWords.{samples_in};
 ghost use Rattle.board_rule.specs.WriterSteps.{LoadsAsWriter};
@@ -31,14 +31,14 @@ pub struct OutputWritten {
 
 // Each of the links is loaded. Answers what the reader of the last one gave back.
 fn load_all(board: &Board, seat: &mut LoopSeat, links: &[u32]) -> Option<u32>
-    requires table { seat.old.table ≡ board.now.table.shared.table_id }
+    requires table { IsOn board.now seat.old.table }
     requires some { 0 < length links.now }
     requires once { AllPairs (λ k l. k ≢ l) links.now }
-    requires phase { All (LoadsAsWriter (lay board.now.plot) seat.old.knows) links.now }
+    requires phase { All (LoadsAsWriter (layout board.now) seat.old.knows) links.now }
     ensures table { seat.new.table ≡ seat.old.table }
-    ensures ends { let p = lay board.now.plot in
+    ensures ends { let p = layout board.now in
         AreMade (IsLoadedNow p seat.old.knows) seat.old.knows links.now seat.new.knows }
-    ensures given { result ≡ number_given (lay board.now.plot) seat.old.knows (last_of links.now) }
+    ensures given { result ≡ number_given (layout board.now) seat.old.knows (last_of links.now) }
 {
     let mut given = None;
     for link in links {
@@ -50,12 +50,12 @@ fn load_all(board: &Board, seat: &mut LoopSeat, links: &[u32]) -> Option<u32>
 // The block that is due comes back to the list of free ones. Answers it, and the one that was free longest, which
 // leaves the list.
 fn obtain(board: &Board, seat: &mut LoopSeat, pool: u32, free: &mut Pool) -> (Option<u32>, u32)
-    requires table { seat.old.table ≡ board.now.table.shared.table_id }
-    requires phase { Reclaims (lay board.now.plot) seat.old.knows pool }
-    requires blocks { let p = lay board.now.plot in
+    requires table { IsOn board.now seat.old.table }
+    requires phase { Reclaims (layout board.now) seat.old.knows pool }
+    requires blocks { let p = layout board.now in
         FreeBlocks p seat.old.knows pool (fill_cycle p seat.old.knows pool) free.old }
     ensures table { seat.new.table ≡ seat.old.table }
-    ensures reclaimed { let p = lay board.now.plot in
+    ensures reclaimed { let p = layout board.now in
         HasReclaimed p seat.old.knows pool result.0 seat.new.knows }
     ensures queue { free.old.free ++ option_to_list result.0 ≡ result.1 ∷ free.new.free }
     ensures size { free.new.blocks ≡ free.old.blocks }
@@ -69,17 +69,17 @@ fn obtain(board: &Board, seat: &mut LoopSeat, pool: u32, free: &mut Pool) -> (Op
 
 // A free block of a pool of which no block is due or of this cycle is filled and announced.
 fn emit(board: &Board, seat: &mut LoopSeat, pool: u32, id: u32, samples: &[i16])
-    requires table { seat.old.table ≡ board.now.table.shared.table_id }
-    requires phase { let p = lay board.now.plot in
+    requires table { IsOn board.now seat.old.table }
+    requires phase { let p = layout board.now in
         IsAtPool p seat.old.knows pool × IsWriting p seat.old.knows pool }
-    requires unfilled { let p = lay board.now.plot in
+    requires unfilled { let p = layout board.now in
         IsUnfilled p seat.old.knows pool (fill_cycle p seat.old.knows pool) }
-    requires free { let p = lay board.now.plot in
+    requires free { let p = layout board.now in
         (id < (pool_at p pool).blocks) × (block_of p seat.old.knows pool id ≡ Free) }
-    requires samples { let p = lay board.now.plot in
+    requires samples { let p = layout board.now in
         samples.now ≡ samples_in p seat.old.knows.expect (fill_cycle p seat.old.knows pool) pool }
     ensures table { seat.new.table ≡ seat.old.table }
-    ensures knows { let p = lay board.now.plot in let n = fill_cycle p seat.old.knows pool + 1 in
+    ensures knows { let p = layout board.now in let n = fill_cycle p seat.old.knows pool + 1 in
         seat.new.knows ≡ view_block p seat.old.knows pool id (Out n) }
 {
     fill(board, seat, pool, id, samples);
@@ -88,11 +88,11 @@ fn emit(board: &Board, seat: &mut LoopSeat, pool: u32, id: u32, samples: &[i16])
 
 // The block that was announced is published on each of the links.
 fn publish_all(board: &Board, seat: &mut LoopSeat, links: &[u32])
-    requires table { seat.old.table ≡ board.now.table.shared.table_id }
+    requires table { IsOn board.now seat.old.table }
     requires once { AllPairs (λ k l. k ≢ l) links.now }
-    requires phase { All (Publishes (lay board.now.plot) seat.old.knows) links.now }
+    requires phase { All (Publishes (layout board.now) seat.old.knows) links.now }
     ensures table { seat.new.table ≡ seat.old.table }
-    ensures ends { let p = lay board.now.plot in
+    ensures ends { let p = layout board.now in
         AreMade (IsPublishedNow p seat.old.knows) seat.old.knows links.now seat.new.knows }
 {
     for link in links {
@@ -112,19 +112,19 @@ pub fn write_output(
     free: &mut Pool,
     samples: &[i16],
 ) -> OutputWritten
-    requires board { IsPooledBoard (lay board.now.plot) }
-    requires table { seat.old.table ≡ board.now.table.shared.table_id }
-    requires phase { MayWriteOutput (lay board.now.plot) seat.old.knows pool }
-    requires links { links.now ≡ (pool_at (lay board.now.plot) pool).links }
-    requires blocks { let p = lay board.now.plot in
+    requires board { IsPooledBoard (layout board.now) }
+    requires table { IsOn board.now seat.old.table }
+    requires phase { MayWriteOutput (layout board.now) seat.old.knows pool }
+    requires links { links.now ≡ (pool_at (layout board.now) pool).links }
+    requires blocks { let p = layout board.now in
         FreeBlocks p seat.old.knows pool (fill_cycle p seat.old.knows pool) free.old }
-    requires samples { let p = lay board.now.plot in
+    requires samples { let p = layout board.now in
         samples.now ≡ samples_in p seat.old.knows.expect (fill_cycle p seat.old.knows pool) pool }
     ensures table { seat.new.table ≡ seat.old.table }
-    ensures knows { HasWrittenOutput (lay board.now.plot) seat.old.knows pool seat.new.knows }
-    ensures blocks { let p = lay board.now.plot in
+    ensures knows { HasWrittenOutput (layout board.now) seat.old.knows pool seat.new.knows }
+    ensures blocks { let p = layout board.now in
         FreeBlocks p seat.new.knows pool (fill_cycle p seat.old.knows pool + 1) free.new }
-    ensures answer { let p = lay board.now.plot in
+    ensures answer { let p = layout board.now in
         AnswersTurn p seat.old.knows pool free.old.free seat.new.knows free.new.free result }
 {
     let given = load_all(board, seat, links);

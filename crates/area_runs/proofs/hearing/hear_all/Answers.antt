@@ -1,5 +1,5 @@
 use Rattle.std.proofs.Common.{◌≡◌, ◌+◌, ◌-◌, ◌∙◌, ℕ, ℤ, List, length, get_or, sym, ap, arith, true≢false}
-use Rattle.board_rule.specs.Layout.{lay}
+use Rattle.board_rule.specs.Layout.{layout_of}
 use Rattle.area_runs.specs.Hearing.{expected_of}
 use Rattle.area_runs.proofs.HearingLemmas.{may_hear, still_gives, one_more, expected_long}
 use Rattle.area_runs.proofs.hearing.hear_all.Goals as goal
@@ -16,7 +16,7 @@ hears-requires-clause-gives g c =
     (c.requires.gives c.loop-link.link-index 0 c.loop-link-test.true)
 
 pub loop-link-preserved : goal.loop-link-preserved
-loop-link-preserved g c = let i = c.loop-link.invariant in let e = c.hears.ensures in let p = lay c.args.board.now.plot in
+loop-link-preserved g c = let i = c.loop-link.invariant in let e = c.hears.ensures in let p = layout_of c.args.board.now.board_shape in
     let k = c.loop-link.link-index in let back : k ≡ k + 1 - 1 = omega arith in record {
       table = e.table ∙ i.table;
       heard = one_more _ _ _ c.args.links.now c.requires.phase c.loop-link.link-index _ c.loop-link-test.true i.heard _ e.knows;

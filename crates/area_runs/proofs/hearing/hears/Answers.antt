@@ -1,5 +1,5 @@
 use Rattle.std.proofs.Common.{ℤ, ◌∙◌, List, length, cond, Bool, true, false, sym, ap}
-use Rattle.board_rule.specs.Layout.{lay}
+use Rattle.board_rule.specs.Layout.{layout_of}
 use Rattle.board_rule.specs.EndViews.{link_at}
 use Rattle.area_runs.proofs.HearingLemmas.{expected_long}
 use Rattle.area_runs.proofs.hearing.hears.Goals as goal
@@ -8,7 +8,7 @@ pub returns-clause-room : goal.returns-clause-room
 returns-clause-room g c = c.read_input.ensures.samples ∙ c.requires.gives.2
 
 pub are_same-requires : goal.are_same-requires
-are_same-requires g c = let p = lay c.args.board.now.plot in
+are_same-requires g c = let p = layout_of c.args.board.now.board_shape in
     ap (λ (l : List ℤ). length l) (c.read_input.ensures.samples ∙ c.requires.gives.2 ∙ sym c.expected.ensures)
 
 pub returns-clause-samples : goal.returns-clause-samples

@@ -1,7 +1,7 @@
 use Rattle.pw_base.specs.declared.pools.PoolShape.{PoolShape}
 use Rattle.std.proofs.Common.{List, length, get_or, ◌∙◌, sym, ap, subst}
 use Rattle.board_rule.specs.declared.view.View.{View}
-use Rattle.board_rule.specs.Layout.{lay}
+use Rattle.board_rule.specs.Layout.{layout_of}
 use Rattle.buffer_pool.specs.Queue.{Queue}
 use Rattle.board_rule.specs.BlockSteps.{fill_cycle}
 use Rattle.io_areas.specs.FreeBlocks.{FreeBlocks}
@@ -14,7 +14,7 @@ write_output-requires-clause-phase c =
     c.loop-pool.invariant.written
 
 pub write_output-requires-clause-blocks : goal.write_output-requires-clause-blocks
-write_output-requires-clause-blocks c = let p = lay c.args.board.now.plot in let v : View = c.loop-pool.seat.knows in
+write_output-requires-clause-blocks c = let p = layout_of c.args.board.now.board_shape in let v : View = c.loop-pool.seat.knows in
     let i = c.loop-pool.invariant in
     subst (λ (x : Queue). FreeBlocks p v (get_or c.args.pools.now c.loop-pool.pool-index 0)
     (fill_cycle p v (get_or c.args.pools.now c.loop-pool.pool-index 0)) x)

@@ -4,7 +4,7 @@ use Rattle.pw_base.specs.declared.ids.PortId.{PortId}
 use Rattle.pw_base.specs.declared.shape.ShapeLink.{ShapeLink}
 use Rattle.pw_base.specs.Pools.{is_port}
 use Rattle.io_areas.proofs.StartLemmas.{any_filter}
-use Rattle.io_areas.proofs.free_blocks.is_late.Goals as goal
+use Rattle.io_areas.proofs.free_blocks.is_delayed.Goals as goal
 
 pub returns : goal.returns
 returns c = let port : PortId = c.args.pool.now.port in
