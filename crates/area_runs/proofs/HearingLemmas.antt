@@ -7,7 +7,7 @@ use mathlib.Core.Logic.{dite}
 use native.Mathlib.Decide.{ℕ_discrete}
 use Rattle.board_rule.specs.declared.view.ReadView.{ReadView}
 use Rattle.board_rule.specs.declared.view.View.{View}
-use Rattle.board_rule.specs.Layout.{Lay}
+use Rattle.board_rule.specs.Layout.{BoardLayout}
 use Rattle.board_rule.specs.View.{unread}
 use Rattle.board_rule.specs.EndViews.{read_of, reader_of}
 use Rattle.board_rule.specs.SeatNodes.{HasNode}
@@ -19,7 +19,7 @@ use Rattle.area_turns.proofs.HearingLemmas.{heard_even}
 use Rattle.area_runs.specs.Hearing.{MayHearAll, Gives, AreHeard}
 use Rattle.area_runs.proofs.ListLemmas.{take_cases, early_differs, last_taken, still_taken}
 
-module _ (p : Lay) (v : View) (rs : List ReadView) where
+module _ (p : BoardLayout) (v : View) (rs : List ReadView) where
   -- other ends of links leave the nodes
   pub reads_have : (b : Bool) (m : ℕ) → HasNode b p v m → HasNode b p (record v { reads = rs }) m
   reads_have true m h = h
@@ -45,7 +45,7 @@ read_moves v w l c long same e = record {
   stored = ap (λ (r : ReadView). r.stored) same ∙ e.stored;
 }
 
-module _ (b : Bool) (p : Lay) (v : View) (links : List ℕ) (may : MayHearAll b p v links) where
+module _ (b : Bool) (p : BoardLayout) (v : View) (links : List ℕ) (may : MayHearAll b p v links) where
   pub none_heard : AreHeard b p v (take 0 links) v
   none_heard = record { same = refl; ends = refl; heard = λ l c. absurd (omega (arith, c.1)); others = λ l o. refl }
 

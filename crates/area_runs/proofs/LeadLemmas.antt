@@ -2,11 +2,11 @@
 use Rattle.std.proofs.Common.{◌≡◌, ◌≢◌, ℕ, ℤ, ◌+◌, ◌<◌, true, List, length, refl, sym, ap, ◌∙◌, subst, arith}
 use Rattle.std.specs.Prelude.{All, slice_index_or}
 use Rattle.std.proofs.lemmas.List.{get_or_default}
-use Rattle.board_rule.specs.declared.plot.Plot.{Plot}
-use Rattle.board_rule.specs.declared.view.Drive.TheVariants.{Running}
+use Rattle.board_rule.specs.declared.board_shape.BoardShape.{BoardShape}
+use Rattle.board_rule.specs.declared.view.DriverPhase.TheVariants.{Running}
 use Rattle.board_rule.specs.declared.view.ReadView.{ReadView}
 use Rattle.board_rule.specs.declared.view.View.{View}
-use Rattle.board_rule.specs.Layout.{Lay, lay, nodes, last}
+use Rattle.board_rule.specs.Layout.{BoardLayout, layout_of, nodes, last}
 use Rattle.board_rule.specs.View.{unread}
 use Rattle.board_rule.specs.EndViews.{reader_of, pool_of, link_at}
 use Rattle.board_rule.specs.Steps.{HasNode, IsReadyToFinish}
@@ -24,15 +24,15 @@ use Rattle.area_runs.proofs.EndsLemmas.{of_pool, read_by, reads_it, reads_once}
 use Rattle.area_runs.proofs.HearingLemmas.{read_moves}
 
 -- the links that the driver's node reads are even in its cycle
-abbrev pub IsLeadEven : Lay → View → ℕ → Type 0
+abbrev pub IsLeadEven : BoardLayout → View → ℕ → Type 0
 IsLeadEven p v c = (k : ℕ) → k < length p.shape.links → reader_of p k ≡ p.driver → IsReadUpTo v k c
 
-pub lead_moves : (p : Lay) (v w : View) (c d : ℕ) → w.reads ≡ v.reads → d ≡ c → IsLeadEven p v c → IsLeadEven p w d
+pub lead_moves : (p : BoardLayout) (v w : View) (c d : ℕ) → w.reads ≡ v.reads → d ≡ c → IsLeadEven p v c → IsLeadEven p w d
 lead_moves p v w c d rs e h k low is = subst (IsReadUpTo w k) (sym e)
     (read_moves v w k c (ap (λ (x : List ReadView). length x) rs) (ap (λ (x : List ReadView). slice_index_or x k (unread 0)) rs)
     (h k low is))
 
-module _ (p : Lay) (v w : View) where
+module _ (p : BoardLayout) (v w : View) where
   pub begun_waits : HasNode true p v p.driver → HasBegun p v w → IsWaiting p w
   begun_waits h b = record {
     node = subst (λ (x : View). HasNode true p x p.driver) (sym b.is) h;
@@ -47,14 +47,14 @@ module _ (p : Lay) (v w : View) where
   }
 
 -- between two cycles, with cycles left
-pub may_begin : (p : Lay) (v : View) → IsBetween p v → v.lead.cycle ≢ last p → HasNode true p v p.driver
+pub may_begin : (p : BoardLayout) (v : View) → IsBetween p v → v.lead.cycle ≢ last p → HasNode true p v p.driver
 may_begin p v b o = let m = b.member in let low = m.1.0 in let high = m.1.1 in (m.0, (low, omega arith), m.2)
 
-module _ (plot : Plot) (plain : IsPlain (lay plot)) (v : View) (has : HasNode true (lay plot) v (lay plot).driver)
+module _ (board_shape : BoardShape) (plain : IsPlain (layout_of board_shape)) (v : View) (has : HasNode true (layout_of board_shape) v (layout_of board_shape).driver)
     (runs : v.lead.drive ≡ Running)
-    (even : IsLeadEven (lay plot) v v.lead.cycle) where
-  abbrev p : Lay
-  p = lay plot
+    (even : IsLeadEven (layout_of board_shape) v v.lead.cycle) where
+  abbrev p : BoardLayout
+  p = layout_of board_shape
 
   abbrev links : List ℕ
   links = reads_of p.shape p.shape.driver

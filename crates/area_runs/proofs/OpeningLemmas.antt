@@ -15,7 +15,7 @@ use Rattle.atomic_table.specs.Seated.{TableId}
 use Rattle.pw_base.specs.declared.shape.ShapeLink.{ShapeLink}
 use Rattle.pw_base.specs.declared.pools.PoolShape.{PoolShape}
 use Rattle.pw_base.specs.Pools.{is_port, links_from, pools_of}
-use Rattle.board_rule.specs.declared.plot.Plot.{Plot}
+use Rattle.board_rule.specs.declared.board_shape.BoardShape.{BoardShape}
 use Rattle.board_rule.specs.declared.view.BlockView.{BlockView}
 use Rattle.board_rule.specs.declared.view.BlockView.TheVariants.{Free, Out}
 use Rattle.board_rule.specs.declared.view.NodeView.{NodeView}
@@ -23,8 +23,8 @@ use Rattle.board_rule.specs.declared.view.WriteView.{WriteView}
 use Rattle.board_rule.specs.declared.view.ReadView.{ReadView}
 use Rattle.board_rule.specs.declared.view.View.{View}
 use Rattle.board_rule.specs.Known.{Known}
-use Rattle.board_rule.specs.Layout.{Lay, lay, IsSound, IsUndelayed, nodes, first}
-use Rattle.board_rule.specs.View.{Samples, idle, node_of, unwritten, unread, first_write, is_late, loop_view, driver_view}
+use Rattle.board_rule.specs.Layout.{BoardLayout, layout_of, IsSound, IsUndelayed, nodes, first}
+use Rattle.board_rule.specs.View.{Samples, idle, node_of, unwritten, unread, first_write, is_delayed, loop_view, driver_view}
 use Rattle.board_rule.specs.SampleWords.{IsTable}
 use Rattle.board_rule.specs.Spans.{block_at}
 use Rattle.board_rule.specs.EndViews.{no_link, no_pool, pool_at, block_of, read_of, write_of}
@@ -36,7 +36,7 @@ use Rattle.area_turns.specs.Ends.{IsReadUpTo}
 use Rattle.area_turns.specs.Stock.{Stock}
 use Rattle.area_runs.specs.declared.node_ends.NodeEnds.{NodeEnds}
 use Rattle.area_runs.specs.declared.worker.Worker.{Worker}
-use Rattle.area_runs.specs.declared.lead.Lead.{Lead}
+use Rattle.area_runs.specs.declared.lead.DriverLoop.{DriverLoop}
 use Rattle.area_runs.specs.Steady.{IsShort, steady, IsSteady}
 use Rattle.area_runs.specs.Turning.{IsEquipped, AreEven, IsAtRest}
 use Rattle.area_runs.specs.Ready.{IsReady, IsLeadReady}
@@ -44,7 +44,7 @@ use Rattle.area_runs.specs.Making.{fresh_queue, IsMade, IsLeadMade}
 use Rattle.area_runs.specs.Opening.{IsFit, IsOpenable, AreFirst}
 
 -- the table of the samples
-module _ (p : Lay) (xs : List ℤ) (fit : All (IsFit p.shape.quantum (length xs)) (pools_of p.shape)) where
+module _ (p : BoardLayout) (xs : List ℤ) (fit : All (IsFit p.shape.quantum (length xs)) (pools_of p.shape)) where
   abbrev row : Samples
   row = steady p.shape xs
 
@@ -113,12 +113,12 @@ all_free : (pools : List PoolShape) (j : ℕ) → get_or (flat_map (λ q. replic
 all_free [] j = refl
 all_free (x ∷ xs) j = free_after x.blocks (flat_map (λ q. replicate q.blocks Free) xs) (all_free xs) j
 
-module _ (p : Lay) (e : Samples) (k : ℕ) (undelayed : IsUndelayed p.shape) where
+module _ (p : BoardLayout) (e : Samples) (k : ℕ) (undelayed : IsUndelayed p.shape) where
   abbrev v : View
   v = loop_view p e k
 
   -- no delayed link reads a pool, so its blocks are free
-  never_late : (x : PoolShape) → is_late p.shape x ≡ false
+  never_late : (x : PoolShape) → is_delayed p.shape x ≡ false
   never_late x = list_any_none (λ (l : ShapeLink). l.delayed) (links_from p.shape x.port)
       (All-filter (λ (l : ShapeLink). is_port l.from x.port) (λ l. l.delayed ≡ false) p.shape.links undelayed)
 
@@ -173,18 +173,18 @@ module _ (p : Lay) (e : Samples) (k : ℕ) (undelayed : IsUndelayed p.shape) whe
           (stock q low);
     }
 
-module _ (plot : Plot) (sound : IsSound (lay plot)) (samples : List ℤ) (ok : IsOpenable plot samples) (table : TableId) where
-  abbrev p : Lay
-  p = lay plot
+module _ (board_shape : BoardShape) (sound : IsSound (layout_of board_shape)) (samples : List ℤ) (ok : IsOpenable board_shape samples) (table : TableId) where
+  abbrev p : BoardLayout
+  p = layout_of board_shape
 
   abbrev expect : Samples
-  expect = steady plot.shape samples
+  expect = steady board_shape.shape samples
 
   plain : IsPlain p
   plain = record { sound = sound; pooled = ok.pooled; undelayed = ok.undelayed }
 
-  pub worker_begins : (k : ℕ) → k < plot.seats → (w : Worker)
-      → IsMade plot samples k (record { table = table; knows = loop_view p expect k }) w
+  pub worker_begins : (k : ℕ) → k < board_shape.seats → (w : Worker)
+      → IsMade board_shape samples k (record { table = table; knows = loop_view p expect k }) w
       → IsReady p table w
   worker_begins k low w made = let seat = made.seat_is in let knows = ap (λ (s : Known). s.knows) seat in record {
     table = ap (λ (s : Known). s.table) seat;
@@ -192,12 +192,12 @@ module _ (plot : Plot) (sound : IsSound (lay plot)) (samples : List ℤ) (ok : I
         (λ i. (sym knows i, sym made.shapes_are i, sym made.free_are i, sym made.samples_are i)) record {
           plain = plain;
           shapes_are = refl;
-          lists = length-map (pools_of plot.shape) fresh_queue;
+          lists = length-map (pools_of board_shape.shape) fresh_queue;
           blocks = has_room p expect k ok.undelayed;
           steady = is_steady p samples ok.fit;
         };
     rests = λ i d lt. let n : NodeEnds = get_or w.nodes i d in let h = made.nodes_are.only i d lt in let of = h.1 in let m = of.0 in
-        let at : p.place n.node ≡ m = ap p.place (sym of.2) ∙ sound.at m of.1 in (
+        let at : p.index n.node ≡ m = ap p.index (sym of.2) ∙ sound.at m of.1 in (
           h.0,
           subst (λ (x : ℕ × View × List Queue). IsAtRest p x.1 x.2 x.0) (λ j. (sym at j, sym knows j, sym made.free_are j))
               (new_rests p expect k m of.1 of.3 of.4 low, begins_even p expect k ok.undelayed (λ q e lt. let f = ok.fit q e lt in (f.0, f.1)) m of.1),
@@ -205,7 +205,7 @@ module _ (plot : Plot) (sound : IsSound (lay plot)) (samples : List ℤ) (ok : I
     long = made.long ∙ sym (ap (λ (l : List ℤ). length l) made.samples_are);
   }
 
-  pub lead_begins : (k : ℕ) → 0 < k → (l : Lead) → IsLeadMade plot.shape samples
+  pub lead_begins : (k : ℕ) → 0 < k → (l : DriverLoop) → IsLeadMade board_shape.shape samples
       (record { table = table; knows = driver_view p expect k }) l
       → IsLeadReady p table l false
   lead_begins k some l made = let seat = made.seat_is in let knows = ap (λ (s : Known). s.knows) seat in (
@@ -233,12 +233,12 @@ module _ (plot : Plot) (sound : IsSound (lay plot)) (samples : List ℤ) (ok : I
       named : (driver_view p expect k).expect ≡ expect
       named = ap (λ b. cond b [] expect) (ne_eqb k 0 (λ z. omega arith))
 
-  pub workers_first : (k : ℕ) (w : Worker) → IsMade plot samples k (record { table = table; knows = loop_view p expect k }) w → AreFirst p w
+  pub workers_first : (k : ℕ) (w : Worker) → IsMade board_shape samples k (record { table = table; knows = loop_view p expect k }) w → AreFirst p w
   workers_first k w made i d lt = let n : NodeEnds = get_or w.nodes i d in let of = (made.nodes_are.only i d lt).1 in let m = of.0 in
-      let at : p.place n.node ≡ m = ap p.place (sym of.2) ∙ sound.at m of.1 in
+      let at : p.index n.node ≡ m = ap p.index (sym of.2) ∙ sound.at m of.1 in
       ap (λ (x : ℕ × View). (node_of x.1 x.0).next) (λ j. (at j, ap (λ (s : Known). s.knows) made.seat_is j)) ∙ next_is p expect k ok.undelayed m of.1
 
-  pub lead_first : (k : ℕ) → 0 < k → (l : Lead) → IsLeadMade plot.shape samples (record { table = table; knows = driver_view p expect k }) l
+  pub lead_first : (k : ℕ) → 0 < k → (l : DriverLoop) → IsLeadMade board_shape.shape samples (record { table = table; knows = driver_view p expect k }) l
       → (l.seat.knows.lead.cycle ≡ first p) × (l.seat.knows.lead.checks ≡ 0) × (l.seat.knows.expect ≡ expect)
   lead_first k some l made = let knows = ap (λ (s : Known). s.knows) made.seat_is in (
     ap (λ (x : View). x.lead.cycle) knows,

@@ -13,7 +13,7 @@ use Rattle.board_rule.specs.declared.view.WriteView.{WriteView}
 use Rattle.board_rule.specs.declared.view.ReadView.{ReadView}
 use Rattle.board_rule.specs.declared.view.Trail.{Trail}
 use Rattle.board_rule.specs.declared.view.View.{View}
-use Rattle.board_rule.specs.Layout.{Lay, nodes}
+use Rattle.board_rule.specs.Layout.{BoardLayout, nodes}
 use Rattle.board_rule.specs.View.{Samples, node_of, view_node, idle, unread, unwritten}
 use Rattle.board_rule.specs.SampleWords.{samples_in}
 use Rattle.board_rule.specs.Spans.{block_at}
@@ -39,7 +39,7 @@ use Rattle.area_runs.proofs.HearingLemmas.{read_moves}
 use Rattle.area_runs.proofs.WritingLemmas.{write_moves, stock_moves}
 
 -- a view with the same ends and blocks
-pub even_moves : (p : Lay) (v w : View) (free : List Queue) (m c d : ℕ) → w.reads ≡ v.reads → w.writes ≡ v.writes → w.blocks ≡ v.blocks
+pub even_moves : (p : BoardLayout) (v w : View) (free : List Queue) (m c d : ℕ) → w.reads ≡ v.reads → w.writes ≡ v.writes → w.blocks ≡ v.blocks
     → d ≡ c
     → AreEven p v free m c → AreEven p w free m d
 even_moves p v w free m c d rs ws bs e h = subst (AreEven p w free m) (sym e) record {
@@ -54,7 +54,7 @@ even_moves p v w free m c d rs ws bs e h = subst (AreEven p w free m) (sym e) re
       (h.stocks q low is);
 }
 
-module _ (p : Lay) (v x : View) (same : x ≡ record v { reads = x.reads; writes = x.writes; blocks = x.blocks }) where
+module _ (p : BoardLayout) (v x : View) (same : x ≡ record v { reads = x.reads; writes = x.writes; blocks = x.blocks }) where
   -- other ends and blocks leave the nodes
   node_left : (m : ℕ) → node_of x m ≡ node_of v m
   node_left m = ap (λ (y : View). node_of y m) same
@@ -73,9 +73,9 @@ module _ (p : Lay) (v x : View) (same : x ≡ record v { reads = x.reads; writes
     idle = r.idle;
   }
 
-module _ (p : Lay) (plain : IsPlain p) (n : ℕ) where
+module _ (p : BoardLayout) (plain : IsPlain p) (n : ℕ) where
   abbrev m : ℕ
-  m = p.place n
+  m = p.index n
 
   -- the node m works in the view v, and is even
   module _ (v : View) (old : List Queue) (has : HasNode false p v m) (runs : IsRunning false v m)
@@ -246,7 +246,7 @@ module _ (p : Lay) (plain : IsPlain p) (n : ℕ) where
             other k o = ap (λ (u : View). node_of u k) r.is ∙ get_or-set_other x.nodes m k slept (idle 0) o ∙ node_left p v x same k
 
 -- from its waking to its start
-module _ (p : Lay) (v : View) (m t : ℕ) (has : HasNode false p v m) where
+module _ (p : BoardLayout) (v : View) (m t : ℕ) (has : HasNode false p v m) where
   abbrev begun : NodeView
   begun = record (node_of v m) { phase = Running; start = t }
 
@@ -269,7 +269,7 @@ module _ (p : Lay) (v : View) (m t : ℕ) (has : HasNode false p v m) where
   begun_even free even = even_moves p v at_work free m (node_of v m).next (node_of at_work m).next refl refl refl same_next even
 
 -- what is so of a turn after a step of its node is so before it
-pub turned_whole : (p : Lay) (v : View) (m : ℕ) (y : NodeView) (t : Trail) → m < length v.nodes → y.next ≡ (node_of v m).next
+pub turned_whole : (p : BoardLayout) (v : View) (m : ℕ) (y : NodeView) (t : Trail) → m < length v.nodes → y.next ≡ (node_of v m).next
     → (old : List Queue) (w : View) (new : List Queue) → HasTurned p (view_node v m y t) old m w new → HasTurned p v old m w new
 turned_whole p v m y t there next old w new h = record {
   rests = h.rests;
@@ -285,7 +285,7 @@ turned_whole p v m y t there next old w new h = record {
   lists = h.lists;
 }
 
-module _ (p : Lay) (shapes : List PoolShape) (samples : List ℤ) (v : View) (free : List Queue) (w : View) (new : List Queue) where
+module _ (p : BoardLayout) (shapes : List PoolShape) (samples : List ℤ) (v : View) (free : List Queue) (w : View) (new : List Queue) where
   -- a turn leaves the loop what it works with
   pub equipped_moves : w.expect ≡ v.expect → length w.blocks ≡ length v.blocks → length new ≡ length free
       → IsEquipped p v shapes free samples

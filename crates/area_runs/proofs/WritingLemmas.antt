@@ -9,7 +9,7 @@ use Rattle.pw_base.specs.Pools.{pools_of}
 use Rattle.board_rule.specs.declared.view.WriteView.{WriteView}
 use Rattle.board_rule.specs.declared.view.BlockView.{BlockView}
 use Rattle.board_rule.specs.declared.view.View.{View}
-use Rattle.board_rule.specs.Layout.{Lay}
+use Rattle.board_rule.specs.Layout.{BoardLayout}
 use Rattle.board_rule.specs.View.{node_of}
 use Rattle.board_rule.specs.SampleWords.{samples_in}
 use Rattle.board_rule.specs.Spans.{block_at}
@@ -33,7 +33,7 @@ write_moves v w l c long same e = record {
   stored = ap (λ (r : WriteView). r.stored) same ∙ e.stored;
 }
 
-pub stock_moves : (p : Lay) (v w : View) (q c : ℕ) (pool : Queue)
+pub stock_moves : (p : BoardLayout) (v w : View) (q c : ℕ) (pool : Queue)
     → ((b : ℕ) → b < (pool_at p q).blocks → block_of p w q b ≡ block_of p v q b)
     → Stock p v q c pool → Stock p w q c pool
 stock_moves p v w q c pool same s = record {
@@ -47,7 +47,7 @@ stock_moves p v w q c pool same s = record {
   out = λ later. let o = s.out later in let is = o.1 in (o.0, (is.0, same o.0 is.0 ∙ is.1, (λ a low other. same a low ∙ is.2 a low other)));
 }
 
-module _ (p : Lay) (v : View) (ws : List WriteView) (bs : List BlockView) where
+module _ (p : BoardLayout) (v : View) (ws : List WriteView) (bs : List BlockView) where
   -- other ends of links and other blocks leave the nodes
   pub writes_have : (m : ℕ) → HasNode false p v m → HasNode false p (record v { writes = ws; blocks = bs }) m
   writes_have m h = let o = h.0 in (
@@ -56,7 +56,7 @@ module _ (p : Lay) (v : View) (ws : List WriteView) (bs : List BlockView) where
     h.2,
   )
 
-module _ (p : Lay) (plain : IsPlain p) where
+module _ (p : BoardLayout) (plain : IsPlain p) where
   -- a link is of one pool
   pub one_pool : (q r l : ℕ) → q < length (pools_of p.shape) → r < length (pools_of p.shape) → Contains (pool_at p q).links l
       → Contains (pool_at p r).links l

@@ -1,6 +1,6 @@
 //! The turn of a node on all links that it reads.
+ghost use Rattle.board_rule.specs.OnBoard.{IsOn, layout};
 ghost use Rattle.std.specs.Prelude.{◌≡◌, ◌<◌, ◌↔◌, All, length, IsTrue};
-ghost use Rattle.board_rule.specs.Layout.{lay};
 ghost use Rattle.area_turns.specs.Plain.{IsPlain};
 ghost use Rattle.area_turns.specs.Hearing.{MayHear, HasHeard};
 ghost use Rattle.area_runs.specs.Hearing.{MayHearAll, Gives, AreHeard};
@@ -28,14 +28,14 @@ fn hears<S: BoardSeat>(
     samples: &[i16],
     room: &mut [i16],
 ) -> bool
-    requires plain { IsPlain (lay board.now.plot) }
-    requires table { S.table seat.old ≡ board.now.table.shared.table_id }
-    requires phase { MayHear S.leads (lay board.now.plot) (S.knows seat.old) link }
-    requires gives { Gives S.leads (lay board.now.plot) (S.knows seat.old) samples.now link }
+    requires plain { IsPlain (layout board.now) }
+    requires table { IsOn board.now (S.table seat.old) }
+    requires phase { MayHear S.is_driver (layout board.now) (S.knows seat.old) link }
+    requires gives { Gives S.is_driver (layout board.now) (S.knows seat.old) samples.now link }
     requires long { length room.old ≡ length samples.now }
     ensures table { S.table seat.new ≡ S.table seat.old }
-    ensures knows { let p = lay board.now.plot in
-        HasHeard S.leads p (S.knows seat.old) link (S.knows seat.new) }
+    ensures knows { let p = layout board.now in
+        HasHeard S.is_driver p (S.knows seat.old) link (S.knows seat.new) }
     ensures room { room.new ≡ samples.now }
     ensures samples { IsTrue result }
 {
@@ -51,15 +51,15 @@ pub(crate) fn hear_all<S: BoardSeat>(
     samples: &[i16],
     room: &mut [i16],
 ) -> bool
-    requires plain { IsPlain (lay board.now.plot) }
-    requires table { S.table seat.old ≡ board.now.table.shared.table_id }
-    requires phase { MayHearAll S.leads (lay board.now.plot) (S.knows seat.old) links.now }
-    requires gives { let p = lay board.now.plot in
-        All (Gives S.leads p (S.knows seat.old) samples.now) links.now }
+    requires plain { IsPlain (layout board.now) }
+    requires table { IsOn board.now (S.table seat.old) }
+    requires phase { MayHearAll S.is_driver (layout board.now) (S.knows seat.old) links.now }
+    requires gives { let p = layout board.now in
+        All (Gives S.is_driver p (S.knows seat.old) samples.now) links.now }
     requires long { length room.old ≡ length samples.now }
     ensures table { S.table seat.new ≡ S.table seat.old }
-    ensures knows { let p = lay board.now.plot in
-        AreHeard S.leads p (S.knows seat.old) links.now (S.knows seat.new) }
+    ensures knows { let p = layout board.now in
+        AreHeard S.is_driver p (S.knows seat.old) links.now (S.knows seat.new) }
     ensures room { 0 < length links.now → room.new ≡ samples.now }
     ensures samples { IsTrue result }
 {

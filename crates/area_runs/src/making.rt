@@ -2,12 +2,12 @@
 ghost use Rattle.std.specs.Prelude.{◌≡◌, ◌≢◌, ◌↔◌, ℕ, ◌≤◌, ◌<◌, All, IfOk, IsTrue, length, map, slice_index};
 ghost use Rattle.pw_base.specs.Dependencies.{nodes_of};
 ghost use Rattle.pw_base.specs.Pools.{pools_of, IsPooledShape};
-ghost use Rattle.board_rule.specs.Layout.{lay, HasSeats};
+ghost use Rattle.board_rule.specs.Layout.{layout_of, HasSeats};
 ghost use Rattle.area_runs.specs.Making.{fresh_queue, HasNodesOf, IsMade, AreMade};
-ghost use Rattle.area_runs.specs.Opening.{plot_of};
+ghost use Rattle.area_runs.specs.Opening.{board_shape_of};
 
 use crate::node_ends::{NodeEnds, ends_of};
-use crate::openable::place_of;
+use crate::openable::index_of;
 use crate::worker::Worker;
 use board_rule::LoopSeat;
 use buffer_pool::Pool;
@@ -26,7 +26,7 @@ fn free_of(alloc: Global, pools: &[PoolShape]) -> Result<Items<Pool>, Memory>
     Ok(free)
 }
 
-// Whether the node at a place is a follower of a seat.
+// Whether the node at an index is a follower of a seat.
 fn is_of_seat(seat_of: &[u32], driver: usize, m: usize, k: u32) -> bool
     requires { m < length seat_of.now }
     ensures { IsTrue result ↔ ((m ≢ driver) × (slice_index seat_of.now m ≡ k)) }
@@ -34,7 +34,7 @@ fn is_of_seat(seat_of: &[u32], driver: usize, m: usize, k: u32) -> bool
     m != driver && seat_of[m] == k
 }
 
-// The number of the node at a place.
+// The number of the node at an index.
 fn number_at(shape: &Shape, m: usize) -> u32
     requires { m < length shape.now.nodes }
     ensures { result ≡ slice_index (nodes_of shape.now) m }
@@ -54,9 +54,9 @@ fn nodes_of(
     requires pools { pools.now ≡ pools_of shape.now }
     requires seats { length seat_of.now ≡ length shape.now.nodes }
     ensures { IfOk result (λ nodes. (seats : ℕ) →
-        HasNodesOf (plot_of shape.now seat_of.now seats) k nodes) }
+        HasNodesOf (board_shape_of shape.now seat_of.now seats) k nodes) }
 {
-    let driver = place_of(shape, shape.driver);
+    let driver = index_of(shape, shape.driver);
     let mut nodes = Items::new(alloc);
     for m in 0..seat_of.len() {
         if is_of_seat(seat_of, driver, m, k) {
@@ -79,7 +79,7 @@ fn worker_of(
     requires seats { length seat_of.now ≡ length shape.now.nodes }
     requires blocks { All (λ x. (1 ≤ x.blocks) × (x.blocks ≤ 8)) (pools_of shape.now) }
     ensures { IfOk result (λ w. (seats : ℕ) →
-        IsMade (plot_of shape.now seat_of.now seats) samples.now k seat w) }
+        IsMade (board_shape_of shape.now seat_of.now seats) samples.now k seat w) }
 {
     let shapes = pools_of(alloc, shape)?;
     let nodes = nodes_of(alloc, shape, shapes.as_slice(), seat_of, k)?;
@@ -107,7 +107,7 @@ pub(crate) fn workers_of(
     requires blocks { All (λ x. (1 ≤ x.blocks) × (x.blocks ≤ 8)) (pools_of shape.now) }
     requires few { length loops < 4294967296 }
     ensures { IfOk result (λ workers. (seats : ℕ) →
-        AreMade (plot_of shape.now seat_of.now seats) samples.now loops workers) }
+        AreMade (board_shape_of shape.now seat_of.now seats) samples.now loops workers) }
 {
     let mut workers = Items::new(alloc);
     let mut k = 0;

@@ -3,9 +3,9 @@ ghost use Rattle.std.specs.Prelude.{◌≡◌, ◌≤◌, ◌↔◌, All, IfOk, 
 ghost use Rattle.pw_base.specs.Pools.{pools_of};
 ghost use Rattle.area_runs.specs.Steady.{IsShort, steady};
 ghost use Rattle.area_runs.specs.Making.{IsLeadMade};
-ghost use Rattle.area_runs.specs.Opening.{plot_of, IsOpenable, IsOpened};
+ghost use Rattle.area_runs.specs.Opening.{board_shape_of, IsOpenable, IsOpened};
 
-use crate::lead::Lead;
+use crate::lead::DriverLoop;
 use crate::making::workers_of;
 use crate::node_ends::reads_of;
 use crate::openable::{are_fit, has_seats, is_undelayed};
@@ -19,7 +19,7 @@ use std::marker::Brand;
 #[derive(Drop)]
 pub struct Run {
     pub board: Board,
-    pub lead: Lead,
+    pub lead: DriverLoop,
     pub workers: Items<Worker>,
 }
 
@@ -33,11 +33,16 @@ fn look_over(samples: &[i16])
 }
 
 // The driver's loop of a seat.
-fn lead_of(alloc: Global, shape: &Shape, seat: DriverSeat, samples: &[i16]) -> Result<Lead, Memory>
+fn lead_of(
+    alloc: Global,
+    shape: &Shape,
+    seat: DriverSeat,
+    samples: &[i16],
+) -> Result<DriverLoop, Memory>
     requires { length shape.now.links ≤ 256 }
     ensures { IfOk result (IsLeadMade shape.now samples.now seat) }
 {
-    Ok(Lead {
+    Ok(DriverLoop {
         seat,
         reads: reads_of(alloc, shape, shape.driver)?,
         samples: Items::from_slice(alloc, samples)?,
@@ -53,9 +58,9 @@ fn open<E: Expect>(
     seats: u32,
     samples: &[i16],
 ) -> Result<Run, Memory>
-    requires openable { IsOpenable (plot_of shape.now seat_of.now seats) samples.now }
+    requires openable { IsOpenable (board_shape_of shape.now seat_of.now seats) samples.now }
     requires table { E.expect ≡ steady shape.now samples.now }
-    ensures { IfOk result (IsOpened (plot_of shape.now seat_of.now seats) samples.now) }
+    ensures { IfOk result (IsOpened (board_shape_of shape.now seat_of.now seats) samples.now) }
 {
     look_over(samples);
     let (board, driver, loops) = Board::new::<E>(alloc, shape, seat_of, seats)?;
@@ -76,8 +81,8 @@ fn is_openable(
     seats: u32,
     samples: &[i16],
 ) -> Result<bool, Memory>
-    ensures { let plot = plot_of shape.now seat_of.now seats in
-        IfOk result (λ yes. IsTrue yes ↔ IsOpenable plot samples.now) }
+    ensures { let board_shape = board_shape_of shape.now seat_of.now seats in
+        IfOk result (λ yes. IsTrue yes ↔ IsOpenable board_shape samples.now) }
 {
     if !is_pooled_shape(shape) {
         return Ok(false);
@@ -92,7 +97,7 @@ fn is_openable(
 }
 
 /// A board whose pools all give the samples, one quantum with the frames interleaved, in each cycle. `seat_of` has the
-/// seat of each node by place in the shape, below `seats`; the driver's entry is not looked at. None where the shape is
+/// seat of each node by index in the shape, below `seats`; the driver's entry is not looked at. None where the shape is
 /// not sound and pooled or has a delayed link, where a follower has none of the seats, and where a pool has not 1 to 8
 /// blocks or a quantum as long as the samples.
 ///
@@ -104,10 +109,10 @@ pub fn opened(
     seats: u32,
     samples: &[i16],
 ) -> Result<Option<Run>, Memory>
-    ensures opened { let plot = plot_of shape.now seat_of.now seats in
-        IfOk result (λ o. IfSome o (IsOpened plot samples.now)) }
-    ensures none { let plot = plot_of shape.now seat_of.now seats in
-        IfOk result (λ o. IsNone o → ¬ IsOpenable plot samples.now) }
+    ensures opened { let board_shape = board_shape_of shape.now seat_of.now seats in
+        IfOk result (λ o. IfSome o (IsOpened board_shape samples.now)) }
+    ensures none { let board_shape = board_shape_of shape.now seat_of.now seats in
+        IfOk result (λ o. IsNone o → ¬ IsOpenable board_shape samples.now) }
 {
     if !is_openable(alloc, shape, seat_of.as_slice(), seats, samples)? {
         return Ok(None);

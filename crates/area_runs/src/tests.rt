@@ -3,7 +3,7 @@ ghost use Rattle.std.specs.Prelude.{◌≡◌, ◌<◌, ◌≤◌, true, false, 
 ghost use Rattle.area_runs.specs.Ready.{IsReadyOn, IsLeadReadyOn};
 ghost use Rattle.area_runs.specs.Shapes.{fan, row};
 
-use crate::{Lead, Run, Tried, Worker, fan, opened, row};
+use crate::{DriverLoop, Run, Tried, Worker, fan, opened, row};
 use board_rule::Board;
 use pw_base::{Epoch, Event, Items, Memory, is_legal_history};
 use std::alloc::Global;
@@ -43,8 +43,8 @@ fn both(workers: Items<Worker>) -> Option<(Worker, Worker)>
 fn open_fan(
     alloc: Global,
     cycles: u32,
-) -> Result<Option<(Board, Lead, (Worker, Worker, Worker))>, Memory>
-    ensures shape { IfOk result (λ o. IfSome o (λ t. t.0.plot.shape ≡ fan 4 1 cycles)) }
+) -> Result<Option<(Board, DriverLoop, (Worker, Worker, Worker))>, Memory>
+    ensures shape { IfOk result (λ o. IfSome o (λ t. t.0.board_shape.shape ≡ fan 4 1 cycles)) }
     ensures lead { IfOk result (λ o. IfSome o (λ t. IsLeadReadyOn t.0 t.1 false)) }
     ensures first { IfOk result (λ o. IfSome o (λ t. IsReadyOn t.0 t.2.0)) }
     ensures second { IfOk result (λ o. IfSome o (λ t. IsReadyOn t.0 t.2.1)) }
@@ -67,8 +67,11 @@ fn open_fan(
 }
 
 // A row, whose nodes 0 and 2 have one loop, and node 1 another.
-fn open_row(alloc: Global, cycles: u32) -> Result<Option<(Board, Lead, (Worker, Worker))>, Memory>
-    ensures shape { IfOk result (λ o. IfSome o (λ t. t.0.plot.shape ≡ row cycles)) }
+fn open_row(
+    alloc: Global,
+    cycles: u32,
+) -> Result<Option<(Board, DriverLoop, (Worker, Worker))>, Memory>
+    ensures shape { IfOk result (λ o. IfSome o (λ t. t.0.board_shape.shape ≡ row cycles)) }
     ensures lead { IfOk result (λ o. IfSome o (λ t. IsLeadReadyOn t.0 t.1 false)) }
     ensures first { IfOk result (λ o. IfSome o (λ t. IsReadyOn t.0 t.2.0)) }
     ensures second { IfOk result (λ o. IfSome o (λ t. IsReadyOn t.0 t.2.1)) }
@@ -91,7 +94,7 @@ fn open_row(alloc: Global, cycles: u32) -> Result<Option<(Board, Lead, (Worker, 
 
 // A word of a board for a fan of two cycles.
 fn word(board: &Board, at: usize) -> u64
-    requires shape { board.now.plot.shape ≡ fan 4 1 2 }
+    requires shape { board.now.board_shape.shape ≡ fan 4 1 2 }
     requires inside { at < 40 }
 {
     board.peek(at)
@@ -99,14 +102,14 @@ fn word(board: &Board, at: usize) -> u64
 
 // The area of the first link, and the readers and the sample word of block 0.
 fn is_at(board: &Board, area: u64, readers: u64, samples: u64) -> bool
-    requires shape { board.now.plot.shape ≡ fan 4 1 2 }
+    requires shape { board.now.board_shape.shape ≡ fan 4 1 2 }
 {
     word(board, 9) == area && word(board, 36) == readers && word(board, 37) == samples
 }
 
-// Four words from a place on. The board has four nodes.
+// Four words from an index on. The board has four nodes.
 fn has_words(board: &Board, first: usize, words: [u64; 4]) -> bool
-    requires { (length board.now.plot.shape.nodes ≡ 4) × (first ≤ 5) }
+    requires { (length board.now.board_shape.shape.nodes ≡ 4) × (first ≤ 5) }
 {
     board.peek(first) == words[0]
         && board.peek(first + 1) == words[1]
@@ -119,7 +122,7 @@ fn nodes_are(board: &Board, pending: [u64; 4], status: [u64; 4]) -> bool {
     board.shape().nodes.len() == 4 && has_words(board, 1, pending) && has_words(board, 5, status)
 }
 
-// One try of the node at a place of the loop's list. Ended where there is none.
+// One try of the node at an index of the loop's list. Ended where there is none.
 fn try_at(board: &Board, worker: &mut Worker, at: usize) -> Tried
     requires ready { IsReadyOn board.now worker.old }
     ensures ready { IsReadyOn board.now worker.new }
@@ -153,7 +156,7 @@ fn nodes_with_links_take_each_other_down(rt: HostRuntime) -> Result<(), Fail> {
 }
 
 // Begins a cycle, and the source does its work in it.
-fn begin_and_write(board: &Board, lead: &mut Lead, source: &mut Worker) -> Option<Tried>
+fn begin_and_write(board: &Board, lead: &mut DriverLoop, source: &mut Worker) -> Option<Tried>
     requires lead { IsLeadReadyOn board.now lead.old false }
     requires ready { IsReadyOn board.now source.old }
     ensures begun { IfSome result (λ t. IsLeadReadyOn board.now lead.new true) }
@@ -211,7 +214,12 @@ fn a_row_wakes_node_by_node(rt: HostRuntime) -> Result<(), Fail> {
 
 // One cycle of a row by one thread, the lowest node that can run first, with a look after node 1. What it found, where
 // the cycle ended.
-fn one_cycle(board: &Board, lead: &mut Lead, ends: &mut Worker, split: &mut Worker) -> Option<u64>
+fn one_cycle(
+    board: &Board,
+    lead: &mut DriverLoop,
+    ends: &mut Worker,
+    split: &mut Worker,
+) -> Option<u64>
     requires lead { IsLeadReadyOn board.now lead.old false }
     requires ends { IsReadyOn board.now ends.old }
     requires split { IsReadyOn board.now split.old }
@@ -303,9 +311,9 @@ fn run_loop<R: Wait>(rt: &R, board: &Board, mut worker: Worker) -> (u64, u64)
     counts
 }
 
-// One deed of the driver's loop: a try of its node where it waits, else the beginning of a cycle, if there is one.
+// One step of the driver's loop: a try of its node where it waits, else the beginning of a cycle, if there is one.
 // Whether it waits then, and whether it ran and heard the samples.
-fn drive_once(board: &Board, lead: &mut Lead, waits: bool) -> Option<(bool, bool)>
+fn drive_once(board: &Board, lead: &mut DriverLoop, waits: bool) -> Option<(bool, bool)>
     requires ready { IsLeadReadyOn board.now lead.old waits }
     ensures some { IfSome result (λ t. IsLeadReadyOn board.now lead.new t.0) }
     ensures none { IsNone result → IsLeadReadyOn board.now lead.new false }
@@ -323,7 +331,7 @@ fn drive_once(board: &Board, lead: &mut Lead, waits: bool) -> Option<(bool, bool
 }
 
 // All cycles of the driver's loop: in how many its node heard the samples.
-fn drive<R: Wait>(rt: &R, board: &Board, mut lead: Lead) -> (Lead, u64)
+fn drive<R: Wait>(rt: &R, board: &Board, mut lead: DriverLoop) -> (DriverLoop, u64)
     requires ready { IsLeadReadyOn board.now lead false }
     ensures ready { IsLeadReadyOn board.now result.0 false }
 {
@@ -364,10 +372,10 @@ fn run_both<R: Threads + Wait + Sync>(
 fn run_row<R: Threads + Wait + Sync>(
     rt: &R,
     board: &Board,
-    lead: Lead,
+    lead: DriverLoop,
     one: Worker,
     two: Worker,
-) -> ((Lead, u64), ((u64, u64), (u64, u64)))
+) -> ((DriverLoop, u64), ((u64, u64), (u64, u64)))
     requires lead { IsLeadReadyOn board.now lead false }
     requires one { IsReadyOn board.now one }
     requires two { IsReadyOn board.now two }
@@ -387,7 +395,7 @@ fn run_row<R: Threads + Wait + Sync>(
 fn run_fan<R: Threads + Wait + Sync>(
     rt: &R,
     board: &Board,
-    lead: Lead,
+    lead: DriverLoop,
     loops: (Worker, Worker, Worker),
 ) -> ((u64, (u64, u64)), ((u64, u64), (u64, u64)))
     requires lead { IsLeadReadyOn board.now lead false }
@@ -413,7 +421,7 @@ fn run_fan<R: Threads + Wait + Sync>(
 fn drive_beside<R: Threads + Wait + Sync>(
     rt: &R,
     board: &Board,
-    lead: Lead,
+    lead: DriverLoop,
     worker: Worker,
 ) -> (u64, (u64, u64))
     requires lead { IsLeadReadyOn board.now lead false }

@@ -1,6 +1,6 @@
 //! The turn of a follower that is awake.
+ghost use Rattle.board_rule.specs.OnBoard.{IsOn, layout};
 ghost use Rattle.std.specs.Prelude.{◌≡◌, length, IsTrue};
-ghost use Rattle.board_rule.specs.Layout.{lay};
 ghost use Rattle.area_runs.specs.Turning.{IsEquipped, MayTurn, HasTurned};
 
 use crate::hearing::hear_all;
@@ -22,14 +22,14 @@ pub(crate) fn take_turn(
     samples: &[i16],
     room: &mut [i16],
 ) -> bool
-    requires table { seat.old.table ≡ board.now.table.shared.table_id }
-    requires equipped { let p = lay board.now.plot in
+    requires table { IsOn board.now seat.old.table }
+    requires equipped { let p = layout board.now in
         IsEquipped p seat.old.knows shapes.now free.old samples.now }
-    requires awake { MayTurn (lay board.now.plot) seat.old.knows free.old ends.now }
+    requires awake { MayTurn (layout board.now) seat.old.knows free.old ends.now }
     requires long { length room.old ≡ length samples.now }
     ensures table { seat.new.table ≡ seat.old.table }
-    ensures turned { let p = lay board.now.plot in
-        HasTurned p seat.old.knows free.old (p.place ends.now.node) seat.new.knows free.new }
+    ensures turned { let p = layout board.now in
+        HasTurned p seat.old.knows free.old (p.index ends.now.node) seat.new.knows free.new }
     ensures heard { IsTrue result }
 {
     start(board, seat, ends.node);

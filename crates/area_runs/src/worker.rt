@@ -1,6 +1,6 @@
 //! A loop: the followers of one seat.
+ghost use Rattle.board_rule.specs.OnBoard.{layout};
 ghost use Rattle.std.specs.Prelude.{◌≡◌, ◌<◌, length, slice_index};
-ghost use Rattle.board_rule.specs.Layout.{lay};
 ghost use Rattle.area_runs.specs.Ready.{IsReadyOn, HasTried, node_at};
 
 use crate::node_ends::NodeEnds;
@@ -31,14 +31,14 @@ impl Worker {
         &self.nodes
     }
 
-    /// One try of the node at a place of the loop's own list, and where it is awake its turn: it starts, hears each
+    /// One try of the node at an index of the loop's own list, and where it is awake its turn: it starts, hears each
     /// link that it reads, gives the samples in each pool that it fills, and finishes. Takes no memory, does not wait.
     pub fn try_node(&mut self, board: &Board, at: usize) -> Tried
         requires ready { IsReadyOn board.now self.old }
         requires inside { at < length self.old.nodes }
         ensures ready { IsReadyOn board.now self.new }
-        ensures tried { let p = lay board.now.plot in
-            HasTried p self.old (p.place (node_at self.old at)) result self.new }
+        ensures tried { let p = layout board.now in
+            HasTried p self.old (p.index (node_at self.old at)) result self.new }
         ensures same { (self.new.nodes ≡ self.old.nodes) × (self.new.samples ≡ self.old.samples) }
     {
         let ends = &self.nodes.as_slice()[at];

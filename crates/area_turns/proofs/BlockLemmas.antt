@@ -9,7 +9,7 @@ use Rattle.pw_base.specs.Pools.{pools_of}
 use Rattle.board_rule.specs.declared.view.BlockView.{BlockView}
 use Rattle.board_rule.specs.declared.view.BlockView.TheVariants.{Free, Filling, Out}
 use Rattle.board_rule.specs.declared.view.View.{View}
-use Rattle.board_rule.specs.Layout.{Lay}
+use Rattle.board_rule.specs.Layout.{BoardLayout}
 use Rattle.board_rule.specs.Spans.{block_at}
 use Rattle.board_rule.specs.EndViews.{pool_at, block_of, view_block}
 use Rattle.board_rule.specs.BufferReads.{HasPool, IsFilled, IsFirstFilled}
@@ -21,17 +21,17 @@ use Rattle.area_turns.specs.Stock.{AreFreeBut}
 use Rattle.area_turns.specs.Turns.{AreFree}
 use Rattle.area_turns.proofs.FrameLemmas.{IsKept, at_again}
 
-module _ (p : Lay) where
-  -- a lower pool has its blocks at lower places
+module _ (p : BoardLayout) where
+  -- a lower pool has its blocks at lower indexes
   lower_pool : (q r b a : ℕ) → q < length (pools_of p.shape) → b < (pool_at p q).blocks → q < r → block_at p q b < block_at p r a
   lower_pool q r b a inside low h = let s = take_less (λ (x : PoolShape). x.blocks) (pools_of p.shape) q r (pool_at p q) h
       (pool_there p q inside) in
       omega arith
 
-  places_apart : (q r b a : ℕ) → q < length (pools_of p.shape) → r < length (pools_of p.shape) → b < (pool_at p q).blocks
+  indexes_apart : (q r b a : ℕ) → q < length (pools_of p.shape) → r < length (pools_of p.shape) → b < (pool_at p q).blocks
       → a < (pool_at p r).blocks → r ≢ q
       → block_at p r a ≢ block_at p q b
-  places_apart q r b a hq hr hb ha o e = dite (dec_le q r)
+  indexes_apart q r b a hq hr hb ha o e = dite (dec_le q r)
       (λ le. let z = lower_pool q r b a hq hb (omega arith) in omega arith)
       (λ gt. let z = lower_pool r q a b hr ha (omega arith) in omega arith)
 
@@ -49,7 +49,7 @@ module _ (p : Lay) where
     pub elsewhere : HasPool p v q → b < (pool_at p q).blocks → (r a : ℕ) → r < length (pools_of p.shape) → a < (pool_at p r).blocks → r ≢ q
         → block_of p (view_block p v q b y) r a ≡ block_of p v r a
     elsewhere h low r a there under o = get_or-set_other v.blocks (block_at p q b) (block_at p r a) y Free
-        (places_apart q r b a h.0 there low under o)
+        (indexes_apart q r b a h.0 there low under o)
 
   -- a block that is filled or out of this cycle, all others free, is the one
   pub first_filled : (v : View) (q b : ℕ) → b < (pool_at p q).blocks → IsFilled p v q b → AreFreeBut p v q b → IsFirstFilled p v q b

@@ -7,10 +7,10 @@ use Rattle.std.proofs.lemmas.List.Elements.{Contains-push, Contains-append_left,
 use Rattle.board_rule.specs.declared.view.WriteView.{WriteView}
 use Rattle.board_rule.specs.declared.view.BlockView.TheVariants.{Out}
 use Rattle.board_rule.specs.declared.view.View.{View}
-use Rattle.board_rule.specs.Layout.{Lay, first}
+use Rattle.board_rule.specs.Layout.{BoardLayout, first}
 use Rattle.board_rule.specs.View.{unwritten}
 use Rattle.board_rule.specs.Areas.{stored_id}
-use Rattle.board_rule.specs.BlockReadings.{late_at}
+use Rattle.board_rule.specs.BlockReadings.{delay_at}
 use Rattle.board_rule.specs.EndViews.{write_of, view_write, pool_of, writer_of, block_of}
 use Rattle.board_rule.specs.BufferReads.{IsFirstFilled}
 use Rattle.board_rule.specs.WriterSteps.{LoadsAsWriter, IsWriter, write_cycle}
@@ -65,7 +65,7 @@ module _ (Made : ℕ → WriteView → WriteView → Type 0) (v : View) where
       (sym (take_more xs k 0 h))
       (more_made (take k xs) (get_or xs k 0) w y (not_before xs k 0 once h) inside a is)
 
-module _ (p : Lay) (v w : View) (ks : IsKept v w) where
+module _ (p : BoardLayout) (v w : View) (ks : IsKept v w) where
   -- the cycle that a link's writer is in
   pub same_cycle : (l : ℕ) → write_cycle p w l ≡ write_cycle p v l
   same_cycle l = ap (λ (x : View). write_cycle p x l) ks.same
@@ -74,7 +74,7 @@ module _ (p : Lay) (v w : View) (ks : IsKept v w) where
   writer_again l h = let ends = ks.ends in let inside = h.1 in
       (h.0, omega arith, has_again p v w ks (writer_of p l) h.2, runs_again p v w ks (writer_of p l) h.3)
 
-module _ (p : Lay) (v : View) (xs : List ℕ) (w : View) (l : ℕ) (fresh : Contains xs l → ⊥) where
+module _ (p : BoardLayout) (v : View) (xs : List ℕ) (w : View) (l : ℕ) (fresh : Contains xs l → ⊥) where
   module _ (a : AreMade (IsLoadedNow p v) v xs w) where
     abbrev loaded_kept : IsKept v w
     loaded_kept = kept (IsLoadedNow p v) v xs w a
@@ -90,7 +90,7 @@ module _ (p : Lay) (v : View) (xs : List ℕ) (w : View) (l : ℕ) (fresh : Cont
     loaded_is = ap (λ (k : WriteView × ℕ). record k.0 { loaded = k.1 + 1 }) (λ i. (a.left l fresh i, same_cycle p v w loaded_kept l i))
 
     pub same_given : number_given p w l ≡ number_given p v l
-    same_given = ap (λ (k : WriteView × ℕ). cond (eqb k.1 (first p)) None (Some (stored_id k.0 (late_at p l))))
+    same_given = ap (λ (k : WriteView × ℕ). cond (eqb k.1 (first p)) None (Some (stored_id k.0 (delay_at p l))))
         (λ i. (a.left l fresh i, same_cycle p v w loaded_kept l i))
 
   module _ (a : AreMade (IsPublishedNow p v) v xs w) where

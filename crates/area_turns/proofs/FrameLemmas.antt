@@ -1,7 +1,7 @@
 -- Other ends of links and other blocks leave what else is asked of a view.
 use Rattle.std.proofs.Common.{◌≡◌, ℕ, false, length, subst, sym, arith}
 use Rattle.board_rule.specs.declared.view.View.{View}
-use Rattle.board_rule.specs.Layout.{Lay}
+use Rattle.board_rule.specs.Layout.{BoardLayout}
 use Rattle.board_rule.specs.BufferReads.{HasPool}
 use Rattle.board_rule.specs.EndViews.{filler_of}
 use Rattle.board_rule.specs.SeatNodes.{HasNode}
@@ -14,7 +14,7 @@ pub record IsKept (v w : View) : Type 0 where
   pub ends : length w.writes ≡ length v.writes
   pub room : length w.blocks ≡ length v.blocks
 
-module _ (p : Lay) (v w : View) (k : IsKept v w) where
+module _ (p : BoardLayout) (v w : View) (k : IsKept v w) where
   pub has_again : (m : ℕ) → HasNode false p v m → HasNode false p w m
   has_again m h = let o = h.0 in subst (λ (x : View). HasNode false p x m) (sym k.same)
       (record { inside = o.inside; follows = o.follows; loops = o.loops; owned = o.owned; there = o.there; knows = o.knows }, h.1, h.2)

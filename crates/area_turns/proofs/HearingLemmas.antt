@@ -7,10 +7,10 @@ use Rattle.std.proofs.lemmas.Option.{slice_get-get_or}
 use Rattle.pw_base.specs.declared.shape.ShapeLink.{ShapeLink}
 use Rattle.board_rule.specs.declared.view.ReadView.{ReadView}
 use Rattle.board_rule.specs.declared.view.View.{View}
-use Rattle.board_rule.specs.Layout.{Lay, first}
+use Rattle.board_rule.specs.Layout.{BoardLayout, first}
 use Rattle.board_rule.specs.View.{Samples, unread}
-use Rattle.board_rule.specs.Areas.{late_by}
-use Rattle.board_rule.specs.BlockReadings.{late_at}
+use Rattle.board_rule.specs.Areas.{delay_by}
+use Rattle.board_rule.specs.BlockReadings.{delay_at}
 use Rattle.board_rule.specs.SampleWords.{samples_in}
 use Rattle.board_rule.specs.EndViews.{no_link, read_of, view_read, pool_at, pool_of, reader_of}
 use Rattle.board_rule.specs.SeatNodes.{HasNode}
@@ -21,7 +21,7 @@ use Rattle.area_turns.specs.Plain.{IsPlain}
 use Rattle.area_turns.specs.Ends.{IsReadUpTo}
 use Rattle.area_turns.specs.Hearing.{MayHear, HasHeard}
 
-module _ (p : Lay) (v : View) (l : ℕ) (y : ReadView) where
+module _ (p : BoardLayout) (v : View) (l : ℕ) (y : ReadView) where
   -- another end of a link leaves the node
   pub has_again : (b : Bool) (m : ℕ) → HasNode b p v m → HasNode b p (view_read v l y) m
   has_again true m h = h
@@ -43,13 +43,13 @@ module _ (p : Lay) (v : View) (l : ℕ) (y : ReadView) where
   end_again h = get_or-set_same v.reads l y (unread 0) h
 
 -- a link is read in the cycle in which it is written
-pub on_time : (p : Lay) → IsPlain p → (l : ℕ) → l < length p.shape.links → late_at p l ≡ 0
+pub on_time : (p : BoardLayout) → IsPlain p → (l : ℕ) → l < length p.shape.links → delay_at p l ≡ 0
 on_time p plain l h = let k : ShapeLink = get_or p.shape.links l no_link in
-    ap (λ (o : Option ShapeLink). unwrap_or (option_map late_by o) 0) (slice_get-get_or p.shape.links l no_link h)
+    ap (λ (o : Option ShapeLink). unwrap_or (option_map delay_by o) 0) (slice_get-get_or p.shape.links l no_link h)
     ∙ ap (λ t. cond {A = ℕ} t 1 0) (plain.undelayed l no_link h)
 
 -- the stamp of a block is one more than its cycle
-of_now : (p : Lay) (e : Samples) (q c n : ℕ) (zeros : List ℤ) → n ≡ c + 1 → first p ≤ c
+of_now : (p : BoardLayout) (e : Samples) (q c n : ℕ) (zeros : List ℤ) → n ≡ c + 1 → first p ≤ c
     → cond (ltb (first p) n) (samples_in p e (n - 1) q) zeros ≡ samples_in p e c q
 of_now p e q c n zeros is low = ap (λ t. cond t (samples_in p e (n - 1) q) zeros) later
     ∙ ap (λ k. samples_in p e k q) (let z : n - 1 ≡ c = omega arith in z)
@@ -57,7 +57,7 @@ of_now p e q c n zeros is low = ap (λ t. cond t (samples_in p e (n - 1) q) zero
     later : ltb (first p) n ≡ true
     later = grind arith
 
-module _ (b : Bool) (p : Lay) (v : View) (l : ℕ) (h : MayHear b p v l) where
+module _ (b : Bool) (p : BoardLayout) (v : View) (l : ℕ) (h : MayHear b p v l) where
   pub may_take : LoadsAsReader b p v l
   may_take = ((h.inside, h.even.there, h.has, h.runs), h.even.loaded)
 

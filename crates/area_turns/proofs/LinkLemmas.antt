@@ -6,21 +6,21 @@ use Rattle.pw_base.specs.declared.shape.ShapeLink.{ShapeLink}
 use Rattle.std.proofs.lemmas.List.Folds.{list_any_none}
 use Rattle.std.proofs.lemmas.List.Elements.{All-filter}
 use Rattle.pw_base.specs.Pools.{is_port, links_from, pools_of}
-use Rattle.board_rule.specs.Layout.{Lay}
-use Rattle.board_rule.specs.BlockReadings.{lag}
+use Rattle.board_rule.specs.Layout.{BoardLayout}
+use Rattle.board_rule.specs.BlockReadings.{busy_cycles}
 use Rattle.board_rule.specs.EndViews.{pool_at, pool_of, writer_of, filler_of}
 use Rattle.board_rule.proofs.PortLemmas.{differ_at}
 use Rattle.board_rule.proofs.WiringLemmas.{PoolAt, Wired, wired}
 use Rattle.board_rule.proofs.HolderLemmas.{link_is, pool_there, pool_here}
 use Rattle.area_turns.specs.Plain.{IsPlain}
 
-module _ (p : Lay) (plain : IsPlain p) (q : ℕ) where
+module _ (p : BoardLayout) (plain : IsPlain p) (q : ℕ) where
   wires : Wired p
   wires = wired p plain.sound plain.pooled
 
   -- a block is busy for one cycle
-  pub lag_is : lag p (pool_at p q) ≡ 1
-  lag_is = let port : PortId = (pool_at p q).port in ap (λ b. cond {A = ℕ} b 2 1) (list_any_none (λ (k : ShapeLink). k.delayed)
+  pub busy_cycles_is : busy_cycles p (pool_at p q) ≡ 1
+  busy_cycles_is = let port : PortId = (pool_at p q).port in ap (λ b. cond {A = ℕ} b 2 1) (list_any_none (λ (k : ShapeLink). k.delayed)
       (links_from p.shape port) (All-filter (λ (k : ShapeLink). is_port k.from port) (λ k. k.delayed ≡ false) p.shape.links plain.undelayed))
 
   module _ (inside : q < length (pools_of p.shape)) where
@@ -39,6 +39,6 @@ module _ (p : Lay) (plain : IsPlain p) (q : ℕ) where
         × (pool_of p l ≡ q)
     of_pool l c = let k = wires.there q l (pool_at p q) there c in let here = pool_here p wires l k.0 k.1 in (
       slice_get_within p.shape.links l k.0 k.1,
-      ap (λ (j : ShapeLink). p.place j.from.node) (link_is p l k.0 k.1) ∙ ap (λ (z : PortId). p.place z.node) k.2,
+      ap (λ (j : ShapeLink). p.index j.from.node) (link_is p l k.0 k.1) ∙ ap (λ (z : PortId). p.index z.node) k.2,
       wires.one_pool (pool_of p l) q l (pool_at p (pool_of p l)) (pool_at p q) here.0 there here.1 c,
     )

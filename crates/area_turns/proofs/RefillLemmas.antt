@@ -4,7 +4,7 @@ use Rattle.pw_base.specs.Pools.{pools_of}
 use Rattle.board_rule.specs.declared.view.BlockView.{BlockView}
 use Rattle.board_rule.specs.declared.view.BlockView.TheVariants.{Free}
 use Rattle.board_rule.specs.declared.view.View.{View}
-use Rattle.board_rule.specs.Layout.{Lay}
+use Rattle.board_rule.specs.Layout.{BoardLayout}
 use Rattle.board_rule.specs.Spans.{block_at}
 use Rattle.board_rule.specs.EndViews.{pool_at, block_of, view_block}
 use Rattle.board_rule.specs.BufferReads.{HasPool}
@@ -13,12 +13,12 @@ use Rattle.area_turns.proofs.FrameLemmas.{IsKept}
 use Rattle.area_turns.proofs.BlockLemmas.{elsewhere}
 
 -- from v to w only blocks of the pool q are others
-pub record IsRefilled (p : Lay) (q : ℕ) (v w : View) : Type 0 where
+pub record IsRefilled (p : BoardLayout) (q : ℕ) (v w : View) : Type 0 where
   pub same : w ≡ record v { blocks = w.blocks }
   pub room : length w.blocks ≡ length v.blocks
   pub others : (r a : ℕ) → r < length (pools_of p.shape) → a < (pool_at p r).blocks → r ≢ q → block_of p w r a ≡ block_of p v r a
 
-module _ (p : Lay) (q : ℕ) where
+module _ (p : BoardLayout) (q : ℕ) where
   pub refilled : (v w : View) (b : ℕ) (y : BlockView) → HasPool p v q → b < (pool_at p q).blocks → w ≡ view_block p v q b y
       → IsRefilled p q v w
   refilled v w b y h low e = subst (IsRefilled p q v) (sym e) record

@@ -9,8 +9,8 @@ use native.Mathlib.Decide.{ℕ_discrete}
 use Rattle.board_rule.specs.declared.view.BlockView.{BlockView}
 use Rattle.board_rule.specs.declared.view.BlockView.TheVariants.{Free, Out}
 use Rattle.board_rule.specs.declared.view.View.{View}
-use Rattle.board_rule.specs.Layout.{Lay, first}
-use Rattle.board_rule.specs.BlockReadings.{lag, stamp}
+use Rattle.board_rule.specs.Layout.{BoardLayout, first}
+use Rattle.board_rule.specs.BlockReadings.{busy_cycles, stamp}
 use Rattle.board_rule.specs.EndViews.{pool_at, block_of, view_block}
 use Rattle.board_rule.specs.BufferReads.{IsOldestOut}
 use Rattle.board_rule.specs.BlockSteps.{fill_cycle}
@@ -20,7 +20,7 @@ use Rattle.area_turns.specs.Plain.{IsPlain}
 use Rattle.area_turns.specs.Stock.{IsOutAlone, Stock}
 use Rattle.area_turns.specs.Turns.{AreFree}
 use Rattle.area_turns.specs.Answers.{ComesBack}
-use Rattle.area_turns.proofs.LinkLemmas.{lag_is}
+use Rattle.area_turns.proofs.LinkLemmas.{busy_cycles_is}
 use Rattle.area_turns.proofs.BlockLemmas.{here, else}
 
 free_out : (x : BlockView) (n : ℕ) → x ≡ Free → x ≡ Out n → ⊥
@@ -30,19 +30,19 @@ out_same : (m n : ℕ) → (let z : BlockView = Out m in z) ≡ Out n → m ≡ 
 out_same m n e = ap (stamp 0) e
 
 -- the list of all blocks of a pool, in some order
-pub record AreAll (p : Lay) (q : ℕ) (ids : List ℕ) : Type 0 where
+pub record AreAll (p : BoardLayout) (q : ℕ) (ids : List ℕ) : Type 0 where
   pub long : length ids ≡ (pool_at p q).blocks
   pub once : AllPairs (λ a b. a ≢ b) ids
   pub low : All (λ b. b < (pool_at p q).blocks) ids
 
 -- the list without the block `used`
-pub record AreOthers (p : Lay) (q used : ℕ) (ids : List ℕ) : Type 0 where
+pub record AreOthers (p : BoardLayout) (q used : ℕ) (ids : List ℕ) : Type 0 where
   pub inside : used < (pool_at p q).blocks
   pub long : length ids + 1 ≡ (pool_at p q).blocks
   pub once : AllPairs (λ a b. a ≢ b) ids
   pub listed : (b : ℕ) → Contains ids b → (b < (pool_at p q).blocks) × (b ≢ used)
 
-module _ (p : Lay) (q : ℕ) where
+module _ (p : BoardLayout) (q : ℕ) where
   pub taken : (used : ℕ) (ids : List ℕ) → AreAll p q (used ∷ ids) → AreOthers p q used ids
   taken used ids a = record {
     inside = All-head (λ b. b < (pool_at p q).blocks) used ids a.low;
@@ -57,8 +57,8 @@ module _ (p : Lay) (q : ℕ) where
   module _ (v : View) (pool : Queue) (s : Stock p v q (fill_cycle p v q) pool) where
     -- of the blocks that are out there is one, and it is due
     pub due : IsPlain p → first p < fill_cycle p v q → (b : ℕ) × IsDue p v q b
-    due plain later = let o = s.out later in let b : ℕ = o.0 in let is = o.1.1 in let one = lag_is p plain q in
-        let when : fill_cycle p v q ≡ fill_cycle p v q + 1 - lag p (pool_at p q) = omega arith in (
+    due plain later = let o = s.out later in let b : ℕ = o.0 in let is = o.1.1 in let one = busy_cycles_is p plain q in
+        let when : fill_cycle p v q ≡ fill_cycle p v q + 1 - busy_cycles p (pool_at p q) = omega arith in (
           b,
           subst (IsOldestOut p v q b) when record {
             inside = o.1.0;

@@ -6,7 +6,7 @@ use Rattle.std.proofs.lemmas.List.Elements.{Contains-get_or}
 use Rattle.board_rule.specs.declared.view.WriteView.{WriteView}
 use Rattle.board_rule.specs.declared.view.BlockView.TheVariants.{Out}
 use Rattle.board_rule.specs.declared.view.View.{View}
-use Rattle.board_rule.specs.Layout.{Lay}
+use Rattle.board_rule.specs.Layout.{BoardLayout}
 use Rattle.board_rule.specs.EndViews.{pool_at, block_of, view_block, write_of}
 use Rattle.board_rule.specs.BufferReads.{HasPool, IsFirstFilled}
 use Rattle.board_rule.specs.SeatNodes.{cycle_of, HasNode}
@@ -28,10 +28,10 @@ use Rattle.area_turns.proofs.RefillLemmas.{IsRefilled, refilled, refill_kept, re
 use Rattle.area_turns.proofs.LinkLemmas.{of_pool}
 use Rattle.area_turns.proofs.StockLemmas.{AreAll, AreOthers, taken, due, comes_back, all_free, all_listed, restocked}
 
-abbrev links_of : Lay → ℕ → List ℕ
+abbrev links_of : BoardLayout → ℕ → List ℕ
 links_of p q = (pool_at p q).links
 
-module _ (p : Lay) (v : View) (q : ℕ) (plain : IsPlain p) (may : MayWrite p v q) where
+module _ (p : BoardLayout) (v : View) (q : ℕ) (plain : IsPlain p) (may : MayWrite p v q) where
   cycle_at : (l : ℕ) → Contains (links_of p q) l → write_cycle p v l ≡ fill_cycle p v q
   cycle_at l d = ap (cycle_of false v) (of_pool p plain q may.has.0 l d).1
 
@@ -44,19 +44,19 @@ module _ (p : Lay) (v : View) (q : ℕ) (plain : IsPlain p) (may : MayWrite p v 
       (writes l d, (may.even l d).loaded ∙ sym (cycle_at l d))
 
 -- LOADED: the turn began at v, and each link is loaded
-pub record HasLoaded (p : Lay) (v : View) (q : ℕ) (pool : Queue) (w : View) : Type 0 where
+pub record HasLoaded (p : BoardLayout) (v : View) (q : ℕ) (pool : Queue) (w : View) : Type 0 where
   pub plain : IsPlain p
   pub may : MayWrite p v q
   pub stock : Stock p v q (fill_cycle p v q) pool
   pub ends : AreMade (IsLoadedNow p v) v (links_of p q) w
 
-pub begun : (p : Lay) (v : View) (q : ℕ) (pool : Queue) (xs : List ℕ) (w : View) → IsPlain p → MayWrite p v q → xs ≡ links_of p q
+pub begun : (p : BoardLayout) (v : View) (q : ℕ) (pool : Queue) (xs : List ℕ) (w : View) → IsPlain p → MayWrite p v q → xs ≡ links_of p q
     → Stock p v q (fill_cycle p v q) pool
     → AreMade (IsLoadedNow p v) v xs w → HasLoaded p v q pool w
 begun p v q pool xs w plain may e s ends = record
     { plain = plain; may = may; stock = s; ends = subst (λ ls. AreMade (IsLoadedNow p v) v ls w) e ends }
 
-module _ {p : Lay} {v : View} {q : ℕ} {pool : Queue} {w : View} (t : HasLoaded p v q pool w) where
+module _ {p : BoardLayout} {v : View} {q : ℕ} {pool : Queue} {w : View} (t : HasLoaded p v q pool w) where
   kept_loaded : IsKept v w
   kept_loaded = kept (IsLoadedNow p v) v (links_of p q) w t.ends
 
@@ -92,20 +92,20 @@ module _ {p : Lay} {v : View} {q : ℕ} {pool : Queue} {w : View} (t : HasLoaded
   may_reclaim = (at_loaded, (λ l d. (turn_loaded l d).0), due p q w pool stock_again t.plain)
 
 -- OBTAINED: what came back, and the block that is taken from the free ones
-pub record HasObtained (p : Lay) (v : View) (q : ℕ) (pool : Queue) (w : View) (r : Option ℕ) (x : View) (used : ℕ)
+pub record HasObtained (p : BoardLayout) (v : View) (q : ℕ) (pool : Queue) (w : View) (r : Option ℕ) (x : View) (used : ℕ)
     (left : Queue) : Type 0 where
   pub before : HasLoaded p v q pool w
   pub back : HasReclaimed p w q r x
   pub queue : pool.free ++ option_to_list r ≡ used ∷ left.free
   pub size : left.blocks ≡ pool.blocks
 
-pub obtained : {p : Lay} {v : View} {q : ℕ} {pool : Queue} {w : View} → HasLoaded p v q pool w
+pub obtained : {p : BoardLayout} {v : View} {q : ℕ} {pool : Queue} {w : View} → HasLoaded p v q pool w
     → (told : Option ℕ × ℕ) (x : View) (left : Queue)
     → HasReclaimed p w q told.0 x
     → pool.free ++ option_to_list told.0 ≡ told.1 ∷ left.free → left.blocks ≡ pool.blocks → HasObtained p v q pool w told.0 x told.1 left
 obtained t told x left back queue size = record { before = t; back = back; queue = queue; size = size }
 
-module _ {p : Lay} {v : View} {q : ℕ} {pool : Queue} {w : View} {r : Option ℕ} {x : View} {used : ℕ} {left : Queue}
+module _ {p : BoardLayout} {v : View} {q : ℕ} {pool : Queue} {w : View} {r : Option ℕ} {x : View} {used : ℕ} {left : Queue}
     (t : HasObtained p v q pool w r x used left) where
   refill_back : IsRefilled p q w x
   refill_back = reclaim_refills p q w r x (at_loaded t.before).0 t.back
@@ -133,17 +133,17 @@ module _ {p : Lay} {v : View} {q : ℕ} {pool : Queue} {w : View} {r : Option �
   others = taken p q used left.free (subst (AreAll p q) t.queue (all_listed p q w pool (stock_again t.before) r x t.back))
 
 -- EMITTED: that block is out since this cycle
-pub record HasEmitted (p : Lay) (v : View) (q : ℕ) (pool : Queue) (w : View) (r : Option ℕ) (x : View) (used : ℕ) (left : Queue)
+pub record HasEmitted (p : BoardLayout) (v : View) (q : ℕ) (pool : Queue) (w : View) (r : Option ℕ) (x : View) (used : ℕ) (left : Queue)
     (y : View) : Type 0 where
   pub before : HasObtained p v q pool w r x used left
   pub knows : y ≡ view_block p x q used (Out (fill_cycle p x q + 1))
 
-pub emitted : {p : Lay} {v : View} {q : ℕ} {pool : Queue} {w : View} {r : Option ℕ} {x : View} {used : ℕ} {left : Queue}
+pub emitted : {p : BoardLayout} {v : View} {q : ℕ} {pool : Queue} {w : View} {r : Option ℕ} {x : View} {used : ℕ} {left : Queue}
     → HasObtained p v q pool w r x used left
     → (y : View) → y ≡ view_block p x q used (Out (fill_cycle p x q + 1)) → HasEmitted p v q pool w r x used left y
 emitted t y e = record { before = t; knows = e }
 
-module _ {p : Lay} {v : View} {q : ℕ} {pool : Queue} {w : View} {r : Option ℕ} {x : View} {used : ℕ} {left : Queue} {y : View}
+module _ {p : BoardLayout} {v : View} {q : ℕ} {pool : Queue} {w : View} {r : Option ℕ} {x : View} {used : ℕ} {left : Queue} {y : View}
     (t : HasEmitted p v q pool w r x used left y) where
   abbrev first_step : HasLoaded p v q pool w
   first_step = t.before.before

@@ -4,7 +4,7 @@ use Rattle.std.specs.Prelude.{◌≡◌, ℕ, ◌+◌, ◌<◌, List, Contains, 
 use Rattle.board_rule.specs.declared.view.WriteView.{WriteView}
 use Rattle.board_rule.specs.declared.view.BlockView.TheVariants.{Free}
 use Rattle.board_rule.specs.declared.view.View.{View}
-use Rattle.board_rule.specs.Layout.{Lay}
+use Rattle.board_rule.specs.Layout.{BoardLayout}
 use Rattle.board_rule.specs.EndViews.{pool_at, write_of, block_of}
 use Rattle.board_rule.specs.WriterSteps.{write_cycle}
 use Rattle.io_areas.specs.Writing.{IsNew}
@@ -16,7 +16,7 @@ pub record AreMade (Made : ℕ → WriteView → WriteView → Type 0) (v : View
   pub made : (l : ℕ) → Contains links l → Made l (write_of v l) (write_of w l)
   pub left : (l : ℕ) → (Contains links l → ⊥) → write_of w l ≡ write_of v l
 
-module _ (p : Lay) (v : View) where
+module _ (p : BoardLayout) (v : View) where
   -- a link is loaded in its writer's cycle
   abbrev pub IsLoadedNow : ℕ → WriteView → WriteView → Type 0
   IsLoadedNow l y z = z ≡ record y { loaded = write_cycle p v l + 1 }

@@ -3,7 +3,7 @@
 use Rattle.std.specs.Prelude.{◌≡◌, ◌≢◌, ℕ, ◌+◌, ◌<◌, Contains, length, false}
 use Rattle.pw_base.specs.Pools.{pools_of}
 use Rattle.board_rule.specs.declared.view.View.{View}
-use Rattle.board_rule.specs.Layout.{Lay}
+use Rattle.board_rule.specs.Layout.{BoardLayout}
 use Rattle.board_rule.specs.EndViews.{pool_at, filler_of, write_of, block_of}
 use Rattle.board_rule.specs.WorkSteps.{IsRunning}
 use Rattle.board_rule.specs.BlockSteps.{fill_cycle}
@@ -11,13 +11,13 @@ use Rattle.board_rule.specs.BufferReads.{HasPool}
 use Rattle.area_turns.specs.Ends.{IsWrittenUpTo}
 
 -- the pool's node is one of the seat and works, and has touched none of its links in this cycle
-pub record MayWrite (p : Lay) (v : View) (q : ℕ) : Type 0 where
+pub record MayWrite (p : BoardLayout) (v : View) (q : ℕ) : Type 0 where
   pub has : HasPool p v q
   pub runs : IsRunning false v (filler_of p q)
   pub even : (l : ℕ) → Contains (pool_at p q).links l → IsWrittenUpTo v l (fill_cycle p v q)
 
 -- each link of the pool is published in this cycle; only its links and its blocks are others
-pub record HasWritten (p : Lay) (v : View) (q : ℕ) (w : View) : Type 0 where
+pub record HasWritten (p : BoardLayout) (v : View) (q : ℕ) (w : View) : Type 0 where
   pub same : w ≡ record v { writes = w.writes; blocks = w.blocks }
   pub ends : length w.writes ≡ length v.writes
   pub room : length w.blocks ≡ length v.blocks

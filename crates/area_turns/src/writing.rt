@@ -1,7 +1,7 @@
 //! The turn of a node on a pool that it fills: one block for all links of the pool.
+ghost use Rattle.board_rule.specs.OnBoard.{IsOn, layout};
 ghost use Rattle.std.specs.Prelude.{◌≡◌, ◌≢◌, ◌+◌, ◌<◌, All, AllPairs, ◌∷◌, ◌++◌, length, option_to_list};
 ghost use Rattle.board_rule.specs.declared.view.BlockView.TheVariants.{Out};
-ghost use Rattle.board_rule.specs.Layout.{lay};
 ghost use Rattle.board_rule.specs.EndViews.{pool_at, view_block};
 ghost use Rattle.board_rule.specs.SampleWords.{samples_in};
 ghost use Rattle.board_rule.specs.WriterSteps.{LoadsAsWriter};
@@ -30,14 +30,14 @@ pub struct Written {
 
 // Each of the links is loaded. Answers what the reader of the last one gave back.
 fn load_all(board: &Board, seat: &mut LoopSeat, links: &[u32]) -> Option<u32>
-    requires table { seat.old.table ≡ board.now.table.shared.table_id }
+    requires table { IsOn board.now seat.old.table }
     requires some { 0 < length links.now }
     requires once { AllPairs (λ k l. k ≢ l) links.now }
-    requires phase { All (LoadsAsWriter (lay board.now.plot) seat.old.knows) links.now }
+    requires phase { All (LoadsAsWriter (layout board.now) seat.old.knows) links.now }
     ensures table { seat.new.table ≡ seat.old.table }
-    ensures ends { let p = lay board.now.plot in
+    ensures ends { let p = layout board.now in
         AreMade (IsLoadedNow p seat.old.knows) seat.old.knows links.now seat.new.knows }
-    ensures given { result ≡ number_given (lay board.now.plot) seat.old.knows (last_of links.now) }
+    ensures given { result ≡ number_given (layout board.now) seat.old.knows (last_of links.now) }
 {
     let mut given = None;
     for link in links {
@@ -49,12 +49,12 @@ fn load_all(board: &Board, seat: &mut LoopSeat, links: &[u32]) -> Option<u32>
 // The block that is due comes back to the list of free ones. Answers it, and the one that was free longest, which
 // leaves the list.
 fn obtain(board: &Board, seat: &mut LoopSeat, pool: u32, free: &mut Pool) -> (Option<u32>, u32)
-    requires table { seat.old.table ≡ board.now.table.shared.table_id }
-    requires phase { Reclaims (lay board.now.plot) seat.old.knows pool }
-    requires stock { let p = lay board.now.plot in
+    requires table { IsOn board.now seat.old.table }
+    requires phase { Reclaims (layout board.now) seat.old.knows pool }
+    requires stock { let p = layout board.now in
         Stock p seat.old.knows pool (fill_cycle p seat.old.knows pool) free.old }
     ensures table { seat.new.table ≡ seat.old.table }
-    ensures reclaimed { let p = lay board.now.plot in
+    ensures reclaimed { let p = layout board.now in
         HasReclaimed p seat.old.knows pool result.0 seat.new.knows }
     ensures queue { free.old.free ++ option_to_list result.0 ≡ result.1 ∷ free.new.free }
     ensures blocks { free.new.blocks ≡ free.old.blocks }
@@ -68,15 +68,15 @@ fn obtain(board: &Board, seat: &mut LoopSeat, pool: u32, free: &mut Pool) -> (Op
 
 // A block of a pool whose blocks are all free is filled and announced.
 fn emit(board: &Board, seat: &mut LoopSeat, pool: u32, id: u32, samples: &[i16])
-    requires table { seat.old.table ≡ board.now.table.shared.table_id }
-    requires phase { let p = lay board.now.plot in
+    requires table { IsOn board.now seat.old.table }
+    requires phase { let p = layout board.now in
         IsAtPool p seat.old.knows pool × IsWriting p seat.old.knows pool }
-    requires free { AreFree (lay board.now.plot) seat.old.knows pool }
-    requires inside { id < (pool_at (lay board.now.plot) pool).blocks }
-    requires samples { let p = lay board.now.plot in
+    requires free { AreFree (layout board.now) seat.old.knows pool }
+    requires inside { id < (pool_at (layout board.now) pool).blocks }
+    requires samples { let p = layout board.now in
         samples.now ≡ samples_in p seat.old.knows.expect (fill_cycle p seat.old.knows pool) pool }
     ensures table { seat.new.table ≡ seat.old.table }
-    ensures knows { let p = lay board.now.plot in let n = fill_cycle p seat.old.knows pool + 1 in
+    ensures knows { let p = layout board.now in let n = fill_cycle p seat.old.knows pool + 1 in
         seat.new.knows ≡ view_block p seat.old.knows pool id (Out n) }
 {
     fill(board, seat, pool, id, samples);
@@ -85,11 +85,11 @@ fn emit(board: &Board, seat: &mut LoopSeat, pool: u32, id: u32, samples: &[i16])
 
 // The block that was announced is published on each of the links.
 fn publish_all(board: &Board, seat: &mut LoopSeat, links: &[u32])
-    requires table { seat.old.table ≡ board.now.table.shared.table_id }
+    requires table { IsOn board.now seat.old.table }
     requires once { AllPairs (λ k l. k ≢ l) links.now }
-    requires phase { All (Publishes (lay board.now.plot) seat.old.knows) links.now }
+    requires phase { All (Publishes (layout board.now) seat.old.knows) links.now }
     ensures table { seat.new.table ≡ seat.old.table }
-    ensures ends { let p = lay board.now.plot in
+    ensures ends { let p = layout board.now in
         AreMade (IsPublishedNow p seat.old.knows) seat.old.knows links.now seat.new.knows }
 {
     for link in links {
@@ -109,19 +109,19 @@ pub fn write(
     free: &mut Pool,
     samples: &[i16],
 ) -> Written
-    requires plain { IsPlain (lay board.now.plot) }
-    requires table { seat.old.table ≡ board.now.table.shared.table_id }
-    requires phase { MayWrite (lay board.now.plot) seat.old.knows pool }
-    requires links { links.now ≡ (pool_at (lay board.now.plot) pool).links }
-    requires stock { let p = lay board.now.plot in
+    requires plain { IsPlain (layout board.now) }
+    requires table { IsOn board.now seat.old.table }
+    requires phase { MayWrite (layout board.now) seat.old.knows pool }
+    requires links { links.now ≡ (pool_at (layout board.now) pool).links }
+    requires stock { let p = layout board.now in
         Stock p seat.old.knows pool (fill_cycle p seat.old.knows pool) free.old }
-    requires samples { let p = lay board.now.plot in
+    requires samples { let p = layout board.now in
         samples.now ≡ samples_in p seat.old.knows.expect (fill_cycle p seat.old.knows pool) pool }
     ensures table { seat.new.table ≡ seat.old.table }
-    ensures knows { HasWritten (lay board.now.plot) seat.old.knows pool seat.new.knows }
-    ensures stock { let p = lay board.now.plot in
+    ensures knows { HasWritten (layout board.now) seat.old.knows pool seat.new.knows }
+    ensures stock { let p = layout board.now in
         Stock p seat.new.knows pool (fill_cycle p seat.old.knows pool + 1) free.new }
-    ensures answer { let p = lay board.now.plot in
+    ensures answer { let p = layout board.now in
         TellsTurn p seat.old.knows pool free.old.free seat.new.knows free.new.free result }
 {
     let given = load_all(board, seat, links);

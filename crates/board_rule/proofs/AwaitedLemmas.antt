@@ -1,4 +1,4 @@
--- How many readers of a pool have not yet taken a block down.
+-- How many readers of a pool have not yet lowered a block.
 use Rattle.std.proofs.Common.{◌≡◌, ◌≢◌, ℕ, zero, suc, ◌+◌, ◌<◌, ◌≤◌, cond, ltb, List, [], ◌∷◌, length, get_or, refl, sym, ap}
 use Rattle.std.proofs.Common.{◌∙◌, arith, lt-ltb, le-ltb}
 use Rattle.std.specs.Prelude.{All, Contains, sum_by}
@@ -7,10 +7,10 @@ use Rattle.std.proofs.lemmas.List.Sums.{sum_by-cons}
 use Rattle.board_rule.specs.declared.view.ReadView.{ReadView}
 use Rattle.board_rule.specs.declared.view.BlockView.{BlockView}
 use Rattle.board_rule.specs.declared.view.BlockView.TheVariants.{Free, Filling, Out}
-use Rattle.board_rule.specs.Layout.{Lay}
+use Rattle.board_rule.specs.Layout.{BoardLayout}
 use Rattle.board_rule.proofs.PortLemmas.{Differ}
 use Rattle.pw_base.specs.declared.pools.PoolShape.{PoolShape}
-use Rattle.board_rule.specs.BlockReadings.{late_at, waiting, readers_of}
+use Rattle.board_rule.specs.BlockReadings.{delay_at, waiting, readers_of}
 use mathlib.Core.Logic.{dite}
 use native.Mathlib.Decide.{dec_le}
 
@@ -45,7 +45,7 @@ sum_has f [] l i h e = absurd (omega arith)
 sum_has f (x ∷ xs) l zero h e = let a : f x ≡ f l = ap f e in let c = sum_by-cons f x xs in omega arith
 sum_has f (x ∷ xs) l (suc i) h e = let a = sum_has f xs l i (omega arith) e in let c = sum_by-cons f x xs in omega arith
 
--- 1 where the reader of a link that is so late has not yet taken down the block of the stamp n
+-- 1 where the reader of a link that is so late has not yet lowered the block of the stamp n
 abbrev pub waits : ℕ → ReadView → ℕ → ℕ
 waits late r n = cond (ltb r.lowered (n + late)) 1 0
 
@@ -63,35 +63,35 @@ waits_same late n r y f g = dite (dec_le (n + late) r.lowered)
     ∙ sym (waits_none late r n h))
     (λ h. waits_one late y n (g (omega arith)) ∙ sym (waits_one late r n (omega arith)))
 
-module _ (p : Lay) (x : PoolShape) where
-  pub waiting_same : (f g : ℕ → ReadView) (n : ℕ) → ((l : ℕ) → Contains x.links l → waits (late_at p l) (g l) n ≡ waits (late_at p l) (f l) n)
+module _ (p : BoardLayout) (x : PoolShape) where
+  pub waiting_same : (f g : ℕ → ReadView) (n : ℕ) → ((l : ℕ) → Contains x.links l → waits (delay_at p l) (g l) n ≡ waits (delay_at p l) (f l) n)
       → waiting p g x n ≡ waiting p f x n
-  waiting_same f g n same = sum_same (λ l. waits (late_at p l) (f l) n) (λ l. waits (late_at p l) (g l) n) x.links
+  waiting_same f g n same = sum_same (λ l. waits (delay_at p l) (f l) n) (λ l. waits (delay_at p l) (g l) n) x.links
       (λ k d lt. same (get_or x.links k d) (All-contains_itself x.links k d lt))
 
   pub readers_same : (f g : ℕ → ReadView) (y : BlockView)
-      → ((l n : ℕ) → Contains x.links l → y ≡ Out n → waits (late_at p l) (g l) n ≡ waits (late_at p l) (f l) n)
+      → ((l n : ℕ) → Contains x.links l → y ≡ Out n → waits (delay_at p l) (g l) n ≡ waits (delay_at p l) (f l) n)
       → readers_of p g x y ≡ readers_of p f x y
   readers_same f g Free same = refl
   readers_same f g (Filling i) same = refl
   readers_same f g (Out n) same = waiting_same f g n (λ l c. same l n c refl)
 
-  pub none_waiting : (f : ℕ → ReadView) (n : ℕ) → ((l : ℕ) → Contains x.links l → n + late_at p l ≤ (f l).lowered) → waiting p f x n ≡ 0
-  none_waiting f n none = sum_zeros (λ l. waits (late_at p l) (f l) n) x.links
-      (λ k d lt. waits_none (late_at p (get_or x.links k d)) (f (get_or x.links k d)) n
+  pub none_waiting : (f : ℕ → ReadView) (n : ℕ) → ((l : ℕ) → Contains x.links l → n + delay_at p l ≤ (f l).lowered) → waiting p f x n ≡ 0
+  none_waiting f n none = sum_zeros (λ l. waits (delay_at p l) (f l) n) x.links
+      (λ k d lt. waits_none (delay_at p (get_or x.links k d)) (f (get_or x.links k d)) n
       (none (get_or x.links k d) (All-contains_itself x.links k d lt)))
 
-  pub all_waiting : (f : ℕ → ReadView) (n : ℕ) → ((l : ℕ) → Contains x.links l → (f l).lowered < n + late_at p l)
+  pub all_waiting : (f : ℕ → ReadView) (n : ℕ) → ((l : ℕ) → Contains x.links l → (f l).lowered < n + delay_at p l)
       → waiting p f x n ≡ length x.links
-  all_waiting f n all = sum_ones (λ l. waits (late_at p l) (f l) n) x.links
-      (λ k d lt. waits_one (late_at p (get_or x.links k d)) (f (get_or x.links k d)) n
+  all_waiting f n all = sum_ones (λ l. waits (delay_at p l) (f l) n) x.links
+      (λ k d lt. waits_one (delay_at p (get_or x.links k d)) (f (get_or x.links k d)) n
       (all (get_or x.links k d) (All-contains_itself x.links k d lt)))
 
-  -- a reader takes the block down
+  -- a reader lowers the block
   pub waiting_change : (f g : ℕ → ReadView) (l n : ℕ) → Differ x.links → Contains x.links l → ((j : ℕ) → j ≢ l → g j ≡ f j)
-      → waiting p g x n + waits (late_at p l) (f l) n ≡ waiting p f x n + waits (late_at p l) (g l) n
-  waiting_change f g l n d c same = sum_change (λ j. waits (late_at p j) (f j) n) (λ j. waits (late_at p j) (g j) n) x.links l c.0 d c.1 c.2
-      (λ j o. ap (λ r. waits (late_at p j) r n) (same j o))
+      → waiting p g x n + waits (delay_at p l) (f l) n ≡ waiting p f x n + waits (delay_at p l) (g l) n
+  waiting_change f g l n d c same = sum_change (λ j. waits (delay_at p j) (f j) n) (λ j. waits (delay_at p j) (g j) n) x.links l c.0 d c.1 c.2
+      (λ j o. ap (λ r. waits (delay_at p j) r n) (same j o))
 
-  pub waiting_has : (f : ℕ → ReadView) (l n : ℕ) → Contains x.links l → waits (late_at p l) (f l) n ≤ waiting p f x n
-  waiting_has f l n c = sum_has (λ j. waits (late_at p j) (f j) n) x.links l c.0 c.1 c.2
+  pub waiting_has : (f : ℕ → ReadView) (l n : ℕ) → Contains x.links l → waits (delay_at p l) (f l) n ≤ waiting p f x n
+  waiting_has f l n c = sum_has (λ j. waits (delay_at p j) (f j) n) x.links l c.0 c.1 c.2

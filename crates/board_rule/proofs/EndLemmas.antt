@@ -9,12 +9,12 @@ use Rattle.pw_base.specs.Layout.{io_place, readers_place, sample_place}
 use Rattle.board_rule.specs.declared.view.WriteView.{WriteView}
 use Rattle.board_rule.specs.declared.view.ReadView.{ReadView}
 use Rattle.board_rule.specs.declared.view.BlockView.{BlockView}
-use Rattle.board_rule.specs.Layout.{Lay, first}
+use Rattle.board_rule.specs.Layout.{BoardLayout, first}
 use Rattle.board_rule.specs.StartViews.{Samples}
 use Rattle.board_rule.specs.View.{put}
-use Rattle.board_rule.specs.Areas.{late_by, Span, LinkOk}
+use Rattle.board_rule.specs.Areas.{delay_by, Span, LinkOk}
 use Rattle.board_rule.specs.BufferRule.{NamesBlocks, Buffers}
-use Rattle.board_rule.specs.BlockReadings.{Ends, late_at, readers_of}
+use Rattle.board_rule.specs.BlockReadings.{Ends, delay_at, readers_of}
 use Rattle.board_rule.proofs.SeatLemmas.{put_here, put_else}
 use Rattle.board_rule.proofs.WiringLemmas.{LinkAt, PoolAt, Wired}
 use Rattle.board_rule.proofs.DelayLemmas.{link_stays}
@@ -38,7 +38,7 @@ loads_more ends l y later n = dite (ℕ_discrete n l)
     ap (λ (v : WriteView). v.loaded) (put_else ends.writes l n y z) in omega arith)
 
 -- what a link names is out for no longer where more is loaded
-names_later : (p : Lay) (x : PoolShape) (late before now : ℕ) (y : WriteView) (blocks : ℕ → BlockView) → before ≤ now
+names_later : (p : BoardLayout) (x : PoolShape) (late before now : ℕ) (y : WriteView) (blocks : ℕ → BlockView) → before ≤ now
     → NamesBlocks p x late before y blocks → NamesBlocks p x late now y blocks
 names_later p x late before now y blocks h o = record {
   out = λ a n l e f z. o.out a n l e f (omega arith);
@@ -46,27 +46,27 @@ names_later p x late before now y blocks h o = record {
   names = o.names;
 }
 
-module _ (p : Lay) where
+module _ (p : BoardLayout) where
   -- the link l, whose ends are y and r, as the rule says it of a pool
   abbrev pub LinkIs : (ℕ → Span) → ℕ → ShapeLink → WriteView → ReadView → List ℕ → PoolShape → Type 0
-  LinkIs s l k y r ws x = LinkOk (first p) x.blocks k (s (p.place k.from.node)) (s (p.place k.to.node)) y r
+  LinkIs s l k y r ws x = LinkOk (first p) x.blocks k (s (p.index k.from.node)) (s (p.index k.to.node)) y r
       (λ a. get_or ws (io_place p.shape l a) 0)
 
   -- the areas of another link stay
   link_else : (s : ℕ → Span) (m : ℕ) (j : ShapeLink) (y : WriteView) (r : ReadView) (ws after : List ℕ) (x : PoolShape)
-      → ((a : ℕ) → a ≤ late_by j → get_or after (io_place p.shape m a) 0 ≡ get_or ws (io_place p.shape m a) 0)
+      → ((a : ℕ) → a ≤ delay_by j → get_or after (io_place p.shape m a) 0 ≡ get_or ws (io_place p.shape m a) 0)
       → LinkIs s m j y r ws x → LinkIs s m j y r after x
   link_else s m j y r ws after x same o = let a = o.writer_turn.0 in let b = o.reader_turn.0 in
-      link_stays (first p) x.blocks j (s (p.place j.from.node)) (s (p.place j.to.node)) (s (p.place j.from.node)) (s (p.place j.to.node))
+      link_stays (first p) x.blocks j (s (p.index j.from.node)) (s (p.index j.to.node)) (s (p.index j.from.node)) (s (p.index j.to.node))
       y r (λ i. get_or ws (io_place p.shape m i) 0) (λ i. get_or after (io_place p.shape m i) 0) o a (omega arith) b (omega arith) same
 
   module _ (s : ℕ → Span) (ends : Ends) (e : Samples) (ws after : List ℕ) (w : Wired p) (l : ℕ) (k : ShapeLink) (at : LinkAt p l k)
       (b : Buffers p s ends e ws) where
     -- no word changes but the link's areas
     abbrev pub OnlyAreas : Type 0
-    OnlyAreas = (i : ℕ) → ((a : ℕ) → a ≤ late_by k → i ≢ io_place p.shape l a) → get_or after i 0 ≡ get_or ws i 0
+    OnlyAreas = (i : ℕ) → ((a : ℕ) → a ≤ delay_by k → i ≢ io_place p.shape l a) → get_or after i 0 ≡ get_or ws i 0
 
-    areas_else : OnlyAreas → (m : ℕ) (j : ShapeLink) → LinkAt p m j → m ≢ l → (a : ℕ) → a ≤ late_by j
+    areas_else : OnlyAreas → (m : ℕ) (j : ShapeLink) → LinkAt p m j → m ≢ l → (a : ℕ) → a ≤ delay_by j
         → get_or after (io_place p.shape m a) 0 ≡ get_or ws (io_place p.shape m a) 0
     areas_else same m j is o a h = same (io_place p.shape m a) (λ c g. w.io_apart m l a c j k is at h g o)
 
@@ -85,7 +85,7 @@ module _ (p : Lay) where
         → LinkIs s l k y (ends.reads l) after x)
         → (ends.writes l).loaded ≤ y.loaded
         → ((q : ℕ) (x : PoolShape) → PoolAt p q x → Contains x.links l → (m : ℕ) → Contains x.links m
-        → NamesBlocks p x (late_at p l) (put ends.writes l y m).loaded y (ends.blocks q))
+        → NamesBlocks p x (delay_at p l) (put ends.writes l y m).loaded y (ends.blocks q))
         → OnlyAreas → Buffers p s (with_write ends l y) e after
     buffers_write y ok later names same = record {
       links = λ q m x j to c is. dite (ℕ_discrete m l)
@@ -103,12 +103,12 @@ module _ (p : Lay) where
       };
       pools = λ q x to. let o = b.pools q x to in record {
         named = λ m n c d. dite (ℕ_discrete m l)
-            (λ z. subst (λ v. NamesBlocks p x (late_at p v) (put ends.writes l y n).loaded (put ends.writes l y v) (ends.blocks q)) (sym z)
-            (subst (λ v. NamesBlocks p x (late_at p l) (put ends.writes l y n).loaded v (ends.blocks q)) (sym (put_here ends.writes l y))
+            (λ z. subst (λ v. NamesBlocks p x (delay_at p v) (put ends.writes l y n).loaded (put ends.writes l y v) (ends.blocks q)) (sym z)
+            (subst (λ v. NamesBlocks p x (delay_at p l) (put ends.writes l y n).loaded v (ends.blocks q)) (sym (put_here ends.writes l y))
             (names q x to (subst (Contains x.links) z c) n d)))
-            (λ z. subst (λ v. NamesBlocks p x (late_at p m) (put ends.writes l y n).loaded v (ends.blocks q))
+            (λ z. subst (λ v. NamesBlocks p x (delay_at p m) (put ends.writes l y n).loaded v (ends.blocks q))
             (sym (put_else ends.writes l m y z))
-            (names_later p x (late_at p m) (ends.writes n).loaded (put ends.writes l y n).loaded (ends.writes m) (ends.blocks q)
+            (names_later p x (delay_at p m) (ends.writes n).loaded (put ends.writes l y n).loaded (ends.writes m) (ends.blocks q)
             (loads_more ends l y later n) (o.named m n c d)));
         apart = o.apart;
         near = o.near;
@@ -117,7 +117,7 @@ module _ (p : Lay) where
 
     -- the reader's end changes, and the areas or the readers word of a block
     pub buffers_read : (y : ReadView) → ((q : ℕ) (x : PoolShape) → PoolAt p q x → Contains x.links l → LinkIs s l k (ends.writes l) y after x)
-        → ((m : ℕ) (j : ShapeLink) → LinkAt p m j → m ≢ l → (a : ℕ) → a ≤ late_by j
+        → ((m : ℕ) (j : ShapeLink) → LinkAt p m j → m ≢ l → (a : ℕ) → a ≤ delay_by j
         → get_or after (io_place p.shape m a) 0 ≡ get_or ws (io_place p.shape m a) 0)
         → ((q n : ℕ) (x : PoolShape) → PoolAt p q x → n < x.blocks
         → get_or after (readers_place p.shape q n) 0 ≡ readers_of p (put ends.reads l y) x (ends.blocks q n))
@@ -141,14 +141,14 @@ module _ (p : Lay) where
       pools = b.pools;
     }
 
-    -- the same where no block is taken down
+    -- the same where no block is lowered
     pub buffers_turn : (y : ReadView) → ((q : ℕ) (x : PoolShape) → PoolAt p q x → Contains x.links l → LinkIs s l k (ends.writes l) y after x)
         → y.lowered ≡ (ends.reads l).lowered → OnlyAreas → Buffers p s (with_read ends l y) e after
     buffers_turn y ok lowered same =
         buffers_read y ok (areas_else same)
         (λ q n x to h. readers_else same q n x to h ∙ (b.blocks q n x to h).readers
         ∙ sym (readers_same p x ends.reads (put ends.reads l y) (ends.blocks q n) (λ m t _ _. dite (ℕ_discrete m l)
-        (λ z. ap (λ (v : ReadView). waits (late_at p m) v t) (ap (put ends.reads l y) z ∙ put_here ends.reads l y)
-        ∙ ap (λ j. waits (late_at p m) (record y { lowered = j }) t) lowered ∙ ap (λ j. waits (late_at p m) (ends.reads j) t) (sym z))
-        (λ z. ap (λ (v : ReadView). waits (late_at p m) v t) (put_else ends.reads l m y z)))))
+        (λ z. ap (λ (v : ReadView). waits (delay_at p m) v t) (ap (put ends.reads l y) z ∙ put_here ends.reads l y)
+        ∙ ap (λ j. waits (delay_at p m) (record y { lowered = j }) t) lowered ∙ ap (λ j. waits (delay_at p m) (ends.reads j) t) (sym z))
+        (λ z. ap (λ (v : ReadView). waits (delay_at p m) v t) (put_else ends.reads l m y z)))))
         (λ q n i x to h _. samples_else same q n i x to h)

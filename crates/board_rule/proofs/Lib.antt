@@ -33,7 +33,7 @@ pub mod LayoutLemmas
 pub mod TellingLemmas
 pub mod ClosingLemmas
 pub mod PortLemmas
-pub mod PlaceLemmas
+pub mod IndexLemmas
 pub mod WiringLemmas
 pub mod DelayLemmas
 pub mod PaceLemmas

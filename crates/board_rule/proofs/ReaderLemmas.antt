@@ -9,30 +9,30 @@ use Rattle.pw_base.specs.declared.pools.PoolShape.{PoolShape}
 use Rattle.pw_base.specs.Layout.{io_place, readers_place, sample_place, word_count}
 use Rattle.board_rule.specs.declared.view.ReadView.{ReadView}
 use Rattle.board_rule.specs.declared.view.BlockView.TheVariants.{Out}
-use Rattle.board_rule.specs.Layout.{Lay, first}
+use Rattle.board_rule.specs.Layout.{BoardLayout, first}
 use Rattle.board_rule.specs.StartViews.{Samples}
 use Rattle.board_rule.specs.View.{put}
 use Rattle.board_rule.specs.SampleWords.{packed, samples_of}
 use Rattle.pw_base.specs.declared.ids.PortId.{PortId}
-use Rattle.board_rule.specs.Areas.{late_by, area_of, stored_id, Span}
+use Rattle.board_rule.specs.Areas.{delay_by, area_of, stored_id, Span}
 use Rattle.board_rule.specs.BufferRule.{BlockOk, Buffers}
-use Rattle.board_rule.specs.BlockReadings.{Ends, is_busy, stamp, filled, late_at, waiting, readers_of}
+use Rattle.board_rule.specs.BlockReadings.{Ends, is_busy, stamp, filled, delay_at, waiting, readers_of}
 use Rattle.board_rule.proofs.SeatLemmas.{put_here, put_else}
 use Rattle.board_rule.proofs.WiringLemmas.{LinkAt, PoolAt, Wired, late_is}
-use Rattle.board_rule.proofs.DelayLemmas.{late_most, area_most}
+use Rattle.board_rule.proofs.DelayLemmas.{delay_most, area_most}
 use Rattle.board_rule.proofs.PaceLemmas.{Paced}
 use Rattle.board_rule.proofs.AwaitedLemmas.{waits, waits_one, waits_none, waits_same, readers_same, waiting_change, waiting_has}
 use Rattle.board_rule.proofs.EndLemmas.{with_read, LinkIs, buffers_read}
 use Rattle.board_rule.proofs.AreaLemmas.{wrote_now}
 
-module _ (p : Lay) (s : ℕ → Span) (ends : Ends) (e : Samples) (ws : List ℕ) (w : Wired p) (paced : Paced p s)
+module _ (p : BoardLayout) (s : ℕ → Span) (ends : Ends) (e : Samples) (ws : List ℕ) (w : Wired p) (paced : Paced p s)
     (b : Buffers p s ends e ws) where
   module _ (l : ℕ) (k : ShapeLink) (at : LinkAt p l k) (q : ℕ) (x : PoolShape) (is : PoolAt p q x) (c : Contains x.links l)
-      (run : (s (p.place k.to.node)).begun ≡ (s (p.place k.to.node)).over + 1)
-      (loaded : (ends.reads l).loaded ≡ (s (p.place k.to.node)).over + 1)
-      (here : (ends.reads l).lowered ≡ (s (p.place k.to.node)).over) where
+      (run : (s (p.index k.to.node)).begun ≡ (s (p.index k.to.node)).ended + 1)
+      (loaded : (ends.reads l).loaded ≡ (s (p.index k.to.node)).ended + 1)
+      (here : (ends.reads l).lowered ≡ (s (p.index k.to.node)).ended) where
     abbrev to : Span
-    to = s (p.place k.to.node)
+    to = s (p.index k.to.node)
 
     abbrev reader : ReadView
     reader = ends.reads l
@@ -42,7 +42,7 @@ module _ (p : Lay) (s : ℕ → Span) (ends : Ends) (e : Samples) (ws : List ℕ
 
     -- the stamp of the block that is read in this cycle
     abbrev pub stamp_read : ℕ
-    stamp_read = to.over + 1 - late_by k
+    stamp_read = to.ended + 1 - delay_by k
 
     link_is : LinkIs p s l k (ends.writes l) reader ws x
     link_is = b.links q l x k is c at
@@ -50,49 +50,49 @@ module _ (p : Lay) (s : ℕ → Span) (ends : Ends) (e : Samples) (ws : List ℕ
     -- the block that a reader in its turn has: the one of this reading cycle, and out
     pub reads_block : (reader.id < x.blocks) × (ends.blocks q reader.id ≡ Out stamp_read)
     reads_block = let o = link_is in let n = wrote_now p s ends e ws w paced b l k at run in let n₁ = n.1 in let n₂ = n.2 in
-        let rt = o.reader_turn in let r₁ = rt.1 in let most = late_most k in let t = late_is p l k at in let late = w.late_in q l x is c in
-        let f : first p ≤ to.over = paced.first (p.place k.to.node) (w.to_in l k at) in
+        let rt = o.reader_turn in let r₁ = rt.1 in let most = delay_most k in let t = late_is p l k at in let late = w.delay_in q l x is c in
+        let f : first p ≤ to.ended = paced.first (p.index k.to.node) (w.to_in l k at) in
         let same : reader.id ≡ stored_id (ends.writes l) n.0 = o.found n.0 n.1 (omega arith) (omega arith) in
         let id : stored_id (ends.writes l) n.0 < x.blocks = o.named n.0 n.1 (omega arith) in
-        let near = paced.near (p.place k.from.node) (p.place k.to.node) (w.from_in l k at) (w.to_in l k at) in
+        let near = paced.near (p.index k.from.node) (p.index k.to.node) (w.from_in l k at) (w.to_in l k at) in
         let wt = o.writer_turn in let w₂ = wt.2 in (
           omega arith,
           ap (ends.blocks q) same
               ∙ ((b.pools q x is).named l l c c).out n.0 stamp_read (omega arith) (omega arith) (omega arith) (omega arith),
         )
 
-    block_is : BlockOk p q reader.id x (s (p.place x.port.node)) ends.reads e (ends.blocks q reader.id) ws
+    block_is : BlockOk p q reader.id x (s (p.index x.port.node)) ends.reads e (ends.blocks q reader.id) ws
     block_is = b.blocks q reader.id x is reads_block.0
 
     -- it finds the samples that are expected of the cycle in which the block was announced
     pub finds_sample : (i : ℕ) → i < x.words → get_or ws (sample_place p.shape q reader.id i) 0 ≡ packed (samples_of p e stamp_read q) i
     finds_sample i short = let out = reads_block.1 in
         block_is.samples i (let z : filled x.words (ends.blocks q reader.id) ≡ x.words = ap (filled x.words) out in omega arith)
-        ∙ ap (λ z. packed (samples_of p e (stamp (s (p.place x.port.node)).over z) q) i) out
+        ∙ ap (λ z. packed (samples_of p e (stamp (s (p.index x.port.node)).ended z) q) i) out
 
     -- its readers word counts it
     counts : get_or ws base 0 ≡ waiting p ends.reads x stamp_read
     counts = block_is.readers ∙ ap (readers_of p ends.reads x) reads_block.1
 
-    -- the reader is one of those that have not yet taken it down
-    is_waiting : reader.lowered < stamp_read + late_at p l
-    is_waiting = let t = late_is p l k at in let most = late_most k in omega arith
+    -- the reader is one of those that have not yet lowered it
+    is_waiting : reader.lowered < stamp_read + delay_at p l
+    is_waiting = let t = late_is p l k at in let most = delay_most k in omega arith
 
     pub finds_some : 0 < get_or ws base 0
     finds_some = let a = counts in let h = waiting_has p x ends.reads l stamp_read c in
-        let one = waits_one (late_at p l) reader stamp_read is_waiting in omega arith
+        let one = waits_one (delay_at p l) reader stamp_read is_waiting in omega arith
 
     abbrev lowered : ReadView
-    lowered = record reader { lowered = to.over + 1 }
+    lowered = record reader { lowered = to.ended + 1 }
 
-    -- it takes the block down
+    -- it lowers the block
     pub lowers_block : (n : ℕ) → word_count p.shape ≤ length ws → get_or ws base 0 ≡ n + 1
         → Buffers p s (with_read ends l lowered) e (set ws base n)
     lowers_block n room found = let inside = reads_block.0 in let r = w.readers_in q reader.id x is inside in let r₀ = r.0 in
         let r₁ = r.1 in
         buffers_read p s ends e ws (set ws base n) w l k at b lowered
         (λ t z it ct. let o = b.links t l z k it ct at in let rt = o.reader_turn in let rt₁ = rt.1 in
-        let word : (a : ℕ) → a ≤ late_by k → get_or (set ws base n) (io_place p.shape l a) 0 ≡ get_or ws (io_place p.shape l a) 0 =
+        let word : (a : ℕ) → a ≤ delay_by k → get_or (set ws base n) (io_place p.shape l a) 0 ≡ get_or ws (io_place p.shape l a) 0 =
         λ a h. get_or-set_other ws base (io_place p.shape l a) n 0 (λ v. let io = (w.io_in l a k at h).1 in omega arith) in record {
           writer_turn = o.writer_turn;
           reader_turn = (rt.0, omega arith, omega arith, rt.3);
@@ -114,9 +114,9 @@ module _ (p : Lay) (s : ℕ → Span) (ends : Ends) (e : Samples) (ws : List ℕ
         (λ u. apart_from t m i z it h short (λ f. u f.0) v)))
       where
         after_reads : ℕ → ReadView
-        after_reads = put ends.reads l (record (ends.reads l) { lowered = (s (p.place k.to.node)).over + 1 })
+        after_reads = put ends.reads l (record (ends.reads l) { lowered = (s (p.index k.to.node)).ended + 1 })
 
-        -- the block that is taken down: one reader less waits for it
+        -- the block that is lowered: one reader less waits for it
         mine : (n t m : ℕ) (z : PoolShape) → PoolAt p t z → t ≡ q → m ≡ (ends.reads l).id
             → get_or ws (readers_place p.shape q (ends.reads l).id) 0 ≡ n + 1
             → readers_place p.shape q (ends.reads l).id + x.words < word_count p.shape → word_count p.shape ≤ length ws
@@ -131,13 +131,13 @@ module _ (p : Lay) (s : ℕ → Span) (ends : Ends) (e : Samples) (ws : List ℕ
             less : n ≡ waiting p after_reads x stamp_read
             less = let a = counts in
                 let d = waiting_change p x ends.reads after_reads l stamp_read (w.once q x is) c
-                (λ j o. put_else ends.reads l j (record (ends.reads l) { lowered = (s (p.place k.to.node)).over + 1 }) o) in
-                let was = waits_one (late_at p l) (ends.reads l) stamp_read is_waiting in
-                let now : waits (late_at p l) (after_reads l) stamp_read ≡ 0 =
-                ap (λ y. waits (late_at p l) y stamp_read)
-                (put_here ends.reads l (record (ends.reads l) { lowered = (s (p.place k.to.node)).over + 1 }))
-                ∙ waits_none (late_at p l) (record (ends.reads l) { lowered = (s (p.place k.to.node)).over + 1 }) stamp_read
-                (let t = late_is p l k at in let most = late_most k in omega arith) in omega arith
+                (λ j o. put_else ends.reads l j (record (ends.reads l) { lowered = (s (p.index k.to.node)).ended + 1 }) o) in
+                let was = waits_one (delay_at p l) (ends.reads l) stamp_read is_waiting in
+                let now : waits (delay_at p l) (after_reads l) stamp_read ≡ 0 =
+                ap (λ y. waits (delay_at p l) y stamp_read)
+                (put_here ends.reads l (record (ends.reads l) { lowered = (s (p.index k.to.node)).ended + 1 }))
+                ∙ waits_none (delay_at p l) (record (ends.reads l) { lowered = (s (p.index k.to.node)).ended + 1 }) stamp_read
+                (let t = late_is p l k at in let most = delay_most k in omega arith) in omega arith
 
         apart_words : (t m : ℕ) (z : PoolShape) → PoolAt p t z → m < z.blocks → ((t ≡ q) × (m ≡ (ends.reads l).id) → ⊥)
             → (readers_place p.shape t m + z.words < readers_place p.shape q (ends.reads l).id)
@@ -156,7 +156,7 @@ module _ (p : Lay) (s : ℕ → Span) (ends : Ends) (e : Samples) (ws : List ℕ
             let mine : ends.blocks q m ≡ Out y = ap (λ v. ends.blocks v m) (sym tq) ∙ out in let st = reads_block in o (
               tq,
               (b.pools q x is).apart m (ends.reads l).id (omega arith) st.0 (ap is_busy mine) (ap is_busy st.1)
-                  (ap (stamp (s (p.place x.port.node)).over) mine ∙ f ∙ sym (ap (stamp (s (p.place x.port.node)).over) st.1)),
+                  (ap (stamp (s (p.index x.port.node)).ended) mine ∙ f ∙ sym (ap (stamp (s (p.index x.port.node)).ended) st.1)),
             )
 
         -- another block: none of its readers is the one that steps, or that one waits for it as before
@@ -168,10 +168,10 @@ module _ (p : Lay) (s : ℕ → Span) (ends : Ends) (e : Samples) (ws : List ℕ
             ∙ (b.blocks t m z it h).readers
             ∙ sym (readers_same p z ends.reads after_reads (ends.blocks t m) (λ j y cj out. dite (ℕ_discrete j l)
             (λ f. let differ = other_stamp t m y z it h (subst (Contains z.links) f cj) o out in let late = late_is p l k at in
-            let most = late_most k in
-            subst (λ v. waits (late_at p v) (after_reads v) y ≡ waits (late_at p v) (ends.reads v) y) (sym f)
-            (ap (λ v. waits (late_at p l) v y) (put_here ends.reads l (record (ends.reads l) { lowered = (s (p.place k.to.node)).over + 1 }))
-            ∙ waits_same (late_at p l) y (ends.reads l) (record (ends.reads l) { lowered = (s (p.place k.to.node)).over + 1 })
+            let most = delay_most k in
+            subst (λ v. waits (delay_at p v) (after_reads v) y ≡ waits (delay_at p v) (ends.reads v) y) (sym f)
+            (ap (λ v. waits (delay_at p l) v y) (put_here ends.reads l (record (ends.reads l) { lowered = (s (p.index k.to.node)).ended + 1 }))
+            ∙ waits_same (delay_at p l) y (ends.reads l) (record (ends.reads l) { lowered = (s (p.index k.to.node)).ended + 1 })
             (λ v. omega arith) (λ v. omega arith)))
-            (λ f. ap (λ v. waits (late_at p j) v y)
-            (put_else ends.reads l j (record (ends.reads l) { lowered = (s (p.place k.to.node)).over + 1 }) f))))
+            (λ f. ap (λ v. waits (delay_at p j) v y)
+            (put_else ends.reads l j (record (ends.reads l) { lowered = (s (p.index k.to.node)).ended + 1 }) f))))

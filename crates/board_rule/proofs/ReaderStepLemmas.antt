@@ -10,18 +10,18 @@ use Rattle.pw_base.specs.Layout.{io_place, event_place, event_count, readers_pla
 use Rattle.pw_base.specs.Words.{io_word_of, io_id_in}
 use Rattle.board_rule.specs.declared.view.ReadView.{ReadView}
 use Rattle.board_rule.specs.declared.view.View.{View}
-use Rattle.board_rule.specs.Layout.{Lay, nodes, first}
+use Rattle.board_rule.specs.Layout.{BoardLayout, nodes, first}
 use Rattle.board_rule.specs.View.{Whole, idle, unread}
 use Rattle.board_rule.specs.SampleWords.{IsTable, packed, samples_of}
 use Rattle.board_rule.specs.BufferRule.{Buffers}
-use Rattle.board_rule.specs.Areas.{late_by, area_of, stored_id}
-use Rattle.board_rule.specs.BlockReadings.{late_at}
+use Rattle.board_rule.specs.Areas.{delay_by, area_of, stored_id}
+use Rattle.board_rule.specs.BlockReadings.{delay_at}
 use Rattle.board_rule.specs.Spans.{spans}
 use Rattle.board_rule.specs.BoardRule.{Seated, Holds}
 use Rattle.board_rule.specs.EndViews.{link_at, pool_at, pool_of, reader_of, read_of}
 use Rattle.board_rule.specs.ReaderSteps.{read_cycle, read_area, LoadsAsReader, loaded_as_reader, IsPublished, ReadsBlock, readers_lowered}
 use Rattle.board_rule.specs.ReaderSteps.{samples_read, StoresNeed, need_stored}
-use Rattle.board_rule.specs.Plays.{Turns, Learns}
+use Rattle.board_rule.specs.Plays.{Leaves, Learns}
 use Rattle.board_rule.proofs.WiringLemmas.{LinkAt, Wired, late_is}
 use Rattle.board_rule.proofs.DelayLemmas.{area_most}
 use Rattle.board_rule.proofs.PaceLemmas.{Paced, paces}
@@ -34,10 +34,10 @@ use Rattle.board_rule.proofs.AreaLemmas.{link_is as area_is, wrote_now, finds_ha
 use Rattle.board_rule.proofs.ReaderLemmas.{reads_block, finds_sample, finds_some, lowers_block}
 
 -- where a link's reader works, the seat of a follower is split off, and with it the samples are named
-has_table : (p : Lay) (g : Whole) (words : List ℕ) (views : List View) → Seated p g words views → Paced p (spans p g) → (l : ℕ)
+has_table : (p : BoardLayout) (g : Whole) (words : List ℕ) (views : List View) → Seated p g words views → Paced p (spans p g) → (l : ℕ)
     (k : ShapeLink) → LinkAt p l k → Wired p
-    → (spans p g (p.place k.to.node)).begun ≡ (spans p g (p.place k.to.node)).over + 1 → IsTable p g.expect
-has_table p g words views s paced l k at w run = let n : ℕ = p.place k.to.node in let m : ℕ = p.place k.from.node in
+    → (spans p g (p.index k.to.node)).begun ≡ (spans p g (p.index k.to.node)).ended + 1 → IsTable p g.expect
+has_table p g words views s paced l k at w run = let n : ℕ = p.index k.to.node in let m : ℕ = p.index k.from.node in
     let low = paced.first n (w.to_in l k at) in
     dite (ℕ_discrete n p.driver)
     (λ q. by m (w.from_in l k at) (w.from_follows l k at) (λ i. let a = over_at p g m (w.from_follows l k at) in
@@ -50,7 +50,7 @@ has_table p g words views s paced l k at w run = let n : ℕ = p.place k.to.node
     by m h o busy = dite (dec_le (p.seat_of m + 1) g.split) (λ z. s.table m h o (omega arith))
         (λ z. absurd (busy (s.unsplit m h o (omega arith))))
 
-module _ (p : Lay) {S : Type 0} (slots id : ℕ) (me : Me S View) (after : ℕ → View) (says : ℕ → Type 0) where
+module _ (p : BoardLayout) {S : Type 0} (slots id : ℕ) (me : Me S View) (after : ℕ → View) (says : ℕ → Type 0) where
   pub load_reader_allowed : (b : Bool) (l : ℕ) → LoadsAsReader b p me.0 l → ((found : ℕ) → after found ≡ loaded_as_reader b p me.0 l found)
       → ((found : ℕ) → IsPublished b p me.0 l found → says found)
       → Allows (Holds p) slots id me (io_place p.shape l (read_area b p me.0 l)) (λ n. n) (Learns after says me)
@@ -63,10 +63,10 @@ module _ (p : Lay) {S : Type 0} (slots id : ℕ) (me : Me S View) (after : ℕ �
       let paced = paces p g s.words w r.activations in let bs = r.buffers in let sp = spans p g in
       let o = area_is p sp g.ends g.expect s.words w paced bs l k there in let rt = o.reader_turn in let r₀ = rt.0 in let r₁ = rt.1 in
       let r₂ = rt.2 in
-      let loaded : (g.ends.reads l).loaded ≡ (sp m).over = ap (λ (y : ReadView). y.loaded) is ∙ h.1 ∙ sym c in
+      let loaded : (g.ends.reads l).loaded ≡ (sp m).ended = ap (λ (y : ReadView). y.loaded) is ∙ h.1 ∙ sym c in
       let new = loads_as_reader p sp g.ends g.expect s.words w paced bs l k there run loaded in
       let i : ℕ = io_place p.shape l (read_area b p me.0 l) in let found : ℕ = get_or s.words i 0 in
-      let here : i ≡ io_place p.shape l (area_of k (sp m).over) = ap (λ n. io_place p.shape l (area_of k n)) (sym c) in
+      let here : i ≡ io_place p.shape l (area_of k (sp m).ended) = ap (λ n. io_place p.shape l (area_of k n)) (sym c) in
       let wrote : ℕ = stored_id (g.ends.writes l) (wrote_now p sp g.ends g.expect s.words w paced bs l k there run).0 in
       let word : found ≡ io_word_of 2 wrote = ap (λ n. get_or s.words n 0) here
       ∙ finds_have p sp g.ends g.expect s.words w paced bs l k there run (omega arith) in
@@ -98,7 +98,7 @@ module _ (p : Lay) {S : Type 0} (slots id : ℕ) (me : Me S View) (after : ℕ �
 
   pub store_need_allowed : (b : Bool) (l num : ℕ) → StoresNeed b p me.0 l num → ((found : ℕ) → after found ≡ need_stored b p me.0 l)
       → Allows (Holds p) slots id me (io_place p.shape l (read_area b p me.0 l)) (λ _. io_word_of 1 num)
-      (λ _. Turns after me (io_word_of 1 num))
+      (λ _. Leaves after me (io_word_of 1 num))
   store_need_allowed b l num h is_after s r _ at fits =
       let g = r.whole in let w = wired_in p g s.words s.views r.seated in let k : ShapeLink = link_at p l in
       let there = link_there p l h.0.0.0 in let m : ℕ = reader_of p l in
@@ -134,11 +134,11 @@ module _ (p : Lay) {S : Type 0} (slots id : ℕ) (me : Me S View) (after : ℕ �
       let is : g.ends.reads l ≡ read_of me.0 l = sym (got me.0.reads l (g.ends.reads l) (unread 0) (ks.ends.of_read l k there now.2)) in
       let paced = paces p g s.words w r.activations in let sp = spans p g in let q : ℕ = pool_of p l in let x : PoolShape = pool_at p q in
       let pool = pool_here p w l k there in
-      let loaded : (g.ends.reads l).loaded ≡ (sp m).over + 1 = ap (λ (z : ReadView). z.loaded) is ∙ h.0.1 ∙ ap (λ n. n + 1) (sym c) in
-      let here : (g.ends.reads l).lowered ≡ (sp m).over = ap (λ (z : ReadView). z.lowered) is ∙ h.1 ∙ sym c in
+      let loaded : (g.ends.reads l).loaded ≡ (sp m).ended + 1 = ap (λ (z : ReadView). z.loaded) is ∙ h.0.1 ∙ ap (λ n. n + 1) (sym c) in
+      let here : (g.ends.reads l).lowered ≡ (sp m).ended = ap (λ (z : ReadView). z.lowered) is ∙ h.1 ∙ sym c in
       let number : num ≡ (g.ends.reads l).id = h.0.3 ∙ ap (λ (z : ReadView). z.id) (sym is) in
       let place : ℕ = sample_place p.shape q num i in let found : ℕ = get_or s.words place 0 in
-      let late = late_is p l k there in let on_time : (sp m).over + 1 - late_by k ≡ read_cycle b p me.0 l + 1 - late_at p l = omega arith in
+      let late = late_is p l k there in let on_time : (sp m).ended + 1 - delay_by k ≡ read_cycle b p me.0 l + 1 - delay_at p l = omega arith in
       let word : found ≡ packed (samples_read b p me.0 l) i = ap (λ n. get_or s.words (sample_place p.shape q n i) 0) number
       ∙ finds_sample p sp g.ends g.expect s.words w paced r.buffers l k there q x pool.0 pool.1 run loaded here i short
       ∙ (λ j. packed (samples_of p (sym ks.expects j) (on_time j) q) i) in (
@@ -166,8 +166,8 @@ module _ (p : Lay) {S : Type 0} (slots id : ℕ) (me : Me S View) (after : ℕ �
       ((r.seated.knows id me.0 at).ends.of_read l k there now.2)) in
       let paced = paces p g s.words w r.activations in let sp = spans p g in let q : ℕ = pool_of p l in let x : PoolShape = pool_at p q in
       let pool = pool_here p w l k there in
-      let loaded : (g.ends.reads l).loaded ≡ (sp m).over + 1 = ap (λ (z : ReadView). z.loaded) is ∙ h.0.1 ∙ ap (λ n. n + 1) (sym c) in
-      let here : (g.ends.reads l).lowered ≡ (sp m).over = ap (λ (z : ReadView). z.lowered) is ∙ h.1 ∙ sym c in
+      let loaded : (g.ends.reads l).loaded ≡ (sp m).ended + 1 = ap (λ (z : ReadView). z.loaded) is ∙ h.0.1 ∙ ap (λ n. n + 1) (sym c) in
+      let here : (g.ends.reads l).lowered ≡ (sp m).ended = ap (λ (z : ReadView). z.lowered) is ∙ h.1 ∙ sym c in
       let number : num ≡ (g.ends.reads l).id = h.0.3 ∙ ap (λ (z : ReadView). z.id) (sym is) in
       let place : ℕ = readers_place p.shape q num in let found : ℕ = get_or s.words place 0 in
       let same : get_or s.words (readers_place p.shape q (g.ends.reads l).id) 0 ≡ found =

@@ -9,10 +9,10 @@ use Rattle.atomic_table.proofs.Lists.{at_set, set_else}
 use Rattle.board_rule.specs.declared.view.View.{View}
 use Rattle.board_rule.specs.declared.view.Trail.{Trail}
 use Rattle.board_rule.specs.declared.view.NodeView.{NodeView}
-use Rattle.board_rule.specs.declared.view.LeadView.{LeadView}
+use Rattle.board_rule.specs.declared.view.DriverView.{DriverView}
 use Rattle.board_rule.specs.declared.view.Found.{Found}
 use Rattle.pw_base.specs.declared.event.Event.{Event}
-use Rattle.board_rule.specs.Layout.{Lay, nodes, first}
+use Rattle.board_rule.specs.Layout.{BoardLayout, nodes, first}
 use Rattle.board_rule.specs.View.{Whole, put, idle, with_node, view_node, with_lead, view_lead, view_trail}
 use Rattle.board_rule.specs.BoardRule.{Knows, Seated}
 use Rattle.board_rule.specs.SampleWords.{IsTable}
@@ -24,13 +24,13 @@ put_here f m x = ap (λ b. cond b x (f m)) (eq-eqb m m refl)
 pub put_else : {A : Type 0} (f : ℕ → A) (m i : ℕ) (x : A) → i ≢ m → put f m x i ≡ f i
 put_else f m i x o = ap (λ b. cond b x (f i)) (ne_eqb i m o)
 
--- a place that holds something can be written
+-- an index that holds something can be written
 pub set_there : {A : Type 0} (l : List A) (i : ℕ) (a b : A) → get_elem? l i ≡ some b → get_elem? (set l i a) i ≡ some a
 set_there [] i a b e = absurd (some-ne-none b (sym e))
 set_there (x ∷ xs) zero a b e = refl
 set_there (x ∷ xs) (suc i) a b e = set_there xs i a b e
 
-module _ (p : Lay) where
+module _ (p : BoardLayout) where
   -- the general form: the seat id has the view w from now on
   pub seat_step : (g h : Whole) (words after : List ℕ) (views : List View) (id : ℕ) (v w : View) → get_elem? views id ≡ some v
       → length after ≡ length words → Knows p h id w
@@ -39,7 +39,7 @@ module _ (p : Lay) where
       → AreStill p h.ends h.split → ((n : ℕ) → n < nodes p → n ≢ p.driver → p.seat_of n < h.split → IsTable p h.expect)
       → ((i : ℕ) → h.seat_at i ≡ g.seat_at i) → h.split ≡ g.split → w.number ≡ v.number
       → Seated p g words views → Seated p h after (set views id w)
-  seat_step g h words after views id v w at same mine others unsplit still table places split number s = record {
+  seat_step g h words after views id v w at same mine others unsplit still table indexes split number s = record {
     sound = s.sound;
     pooled = s.pooled;
     room = s.room ∙ sym same;
@@ -52,10 +52,10 @@ module _ (p : Lay) where
         dite (ℕ_discrete (g.seat_at i) id)
         (λ e. let mine : o.0 ≡ v = some-injective _ _ (sym o.1 ∙ ap (get_elem? views) e ∙ at) in (
           w,
-          ap (get_elem? (set views id w)) (places i ∙ e) ∙ set_there views id w v at,
+          ap (get_elem? (set views id w)) (indexes i ∙ e) ∙ set_there views id w v at,
           number ∙ ap (λ (x : View). x.number) (sym mine) ∙ o.2,
         ))
-        (λ e. (o.0, ap (get_elem? (set views id w)) (places i) ∙ set_else views id (g.seat_at i) w e ∙ o.1, o.2));
+        (λ e. (o.0, ap (get_elem? (set views id w)) (indexes i) ∙ set_else views id (g.seat_at i) w e ∙ o.1, o.2));
     unsplit = unsplit;
     still = still;
     table = table;
@@ -70,7 +70,7 @@ module _ (p : Lay) where
       record {
         kept = k.kept;
         here = k.here;
-        leads = λ e. absurd (omega arith);
+        is_driver = λ e. absurd (omega arith);
         expects = k.expects;
         is_split = k.is_split;
         owns = λ n h o e. dite (ℕ_discrete n m)
@@ -82,7 +82,7 @@ module _ (p : Lay) where
       (λ j u other r. record {
         kept = r.kept;
         here = r.here;
-        leads = r.leads;
+        is_driver = r.is_driver;
         expects = r.expects;
         is_split = r.is_split;
         owns = λ n h o e. r.owns n h o e ∙ ap some (sym
@@ -94,15 +94,15 @@ module _ (p : Lay) where
       s.still s.table (λ _. refl) refl refl s
 
   -- a step of the driver's seat, after which it has loaded the statuses `looks` in its last check
-  pub lead_step : (g : Whole) (words after : List ℕ) (views : List View) (id : ℕ) (v : View) (x : LeadView) (t : Trail) (looks : List Found)
+  pub lead_step : (g : Whole) (words after : List ℕ) (views : List View) (id : ℕ) (v : View) (x : DriverView) (t : Trail) (looks : List Found)
       → get_elem? views id ≡ some v → length after ≡ length words → v.number ≡ p.seats → t.looks ≡ looks
       → Seated p g words views → Seated p (record (with_lead g x) { looks = looks }) after (set views id (view_lead v x t))
-  lead_step g words after views id v x t looks at same leads seen s = let k = s.knows id v at in
+  lead_step g words after views id v x t looks at same is_driver seen s = let k = s.knows id v at in
       seat_step g (record (with_lead g x) { looks = looks }) words after views id v (view_lead v x t) at same
       record {
         kept = k.kept;
         here = k.here;
-        leads = λ e. (refl, (k.leads e).1, seen);
+        is_driver = λ e. (refl, (k.is_driver e).1, seen);
         expects = k.expects;
         is_split = k.is_split;
         owns = k.owns;
@@ -111,7 +111,7 @@ module _ (p : Lay) where
       (λ j u other r. record {
         kept = r.kept;
         here = r.here;
-        leads = λ e. absurd (other (sym (r.here (omega arith)) ∙ ap g.seat_at (e ∙ sym leads) ∙ k.here (omega arith)));
+        is_driver = λ e. absurd (other (sym (r.here (omega arith)) ∙ ap g.seat_at (e ∙ sym is_driver) ∙ k.here (omega arith)));
         expects = r.expects;
         is_split = r.is_split;
         owns = r.owns;
@@ -127,7 +127,7 @@ module _ (p : Lay) where
       record {
         kept = k.kept;
         here = k.here;
-        leads = λ e. let z = k.leads e in (z.0, z.1, seen ∙ z.2);
+        is_driver = λ e. let z = k.is_driver e in (z.0, z.1, seen ∙ z.2);
         expects = k.expects;
         is_split = k.is_split;
         owns = k.owns;
@@ -138,12 +138,12 @@ module _ (p : Lay) where
   -- a check has loaded a status more
   pub look_step : (g : Whole) (words : List ℕ) (views : List View) (id : ℕ) (v : View) (t : Trail) → get_elem? views id ≡ some v
       → v.number ≡ p.seats → Seated p g words views → Seated p (record g { looks = t.looks }) words (set views id (view_trail v t))
-  look_step g words views id v t at leads s = let k = s.knows id v at in
+  look_step g words views id v t at is_driver s = let k = s.knows id v at in
       seat_step g (record g { looks = t.looks }) words words views id v (view_trail v t) at refl
       record {
         kept = k.kept;
         here = k.here;
-        leads = λ e. let z = k.leads e in (z.0, z.1, refl);
+        is_driver = λ e. let z = k.is_driver e in (z.0, z.1, refl);
         expects = k.expects;
         is_split = k.is_split;
         owns = k.owns;
@@ -152,7 +152,7 @@ module _ (p : Lay) where
       (λ j u other r. record {
         kept = r.kept;
         here = r.here;
-        leads = λ e. absurd (other (sym (r.here (omega arith)) ∙ ap g.seat_at (e ∙ sym leads) ∙ k.here (omega arith)));
+        is_driver = λ e. absurd (other (sym (r.here (omega arith)) ∙ ap g.seat_at (e ∙ sym is_driver) ∙ k.here (omega arith)));
         expects = r.expects;
         is_split = r.is_split;
         owns = r.owns;
@@ -172,7 +172,7 @@ module _ (p : Lay) where
     knows = λ j v at. let k = s.knows j v at in record {
       kept = k.kept;
       here = k.here;
-      leads = k.leads;
+      is_driver = k.is_driver;
       expects = k.expects;
       is_split = k.is_split;
       owns = k.owns;

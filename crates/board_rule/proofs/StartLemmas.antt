@@ -26,8 +26,8 @@ use Rattle.pw_base.specs.declared.pools.PoolShape.{PoolShape}
 use Rattle.board_rule.specs.declared.view.BlockView.{BlockView}
 use Rattle.board_rule.specs.declared.view.BlockView.TheVariants.{Free, Out}
 use Rattle.pw_base.specs.Words.{status_word_of}
-use Rattle.board_rule.specs.Layout.{Lay, IsSound, nodes, first, word_count}
-use Rattle.board_rule.specs.View.{Whole, Samples, idle, resting, unread, first_write, first_block, blocks_at_first, is_late, first_view, loop_view, split_off}
+use Rattle.board_rule.specs.Layout.{BoardLayout, IsSound, nodes, first, word_count}
+use Rattle.board_rule.specs.View.{Whole, Samples, idle, resting, unread, first_write, first_block, blocks_at_first, is_delayed, first_view, loop_view, split_off}
 use Rattle.board_rule.specs.SampleWords.{IsTable}
 use Rattle.board_rule.specs.BufferRule.{Buffers}
 use Rattle.board_rule.specs.BlockReadings.{Ends}
@@ -38,7 +38,7 @@ use Rattle.board_rule.specs.Phases.{PhaseOk}
 use Rattle.board_rule.specs.declared.view.Phase.{Phase}
 use Rattle.board_rule.specs.declared.view.Phase.TheVariants.{Idle, Awake, StartDrawn, Running, Done, FinishDrawn, Telling}
 use Rattle.board_rule.specs.declared.view.NodeView.{NodeView}
-use Rattle.board_rule.specs.declared.view.LeadView.{LeadView}
+use Rattle.board_rule.specs.declared.view.DriverView.{DriverView}
 use Rattle.pw_base.proofs.LayoutLemmas.{pools_have_blocks}
 use Rattle.pw_base.specs.declared.shape.Shape.{Shape}
 use Rattle.std.proofs.lemmas.List.Elements.{All-head, All-tail}
@@ -97,7 +97,7 @@ started c x n ok = by x.phase ok
 module _ (shape : Shape) where
   front : (x : PoolShape) (ys : List BlockView) (b : ℕ) → b < x.blocks
       → get_elem? (blocks_at_first shape x ++ ys) b ≡ some (first_block shape x b)
-  front x ys b low = by (is_late shape x) b low
+  front x ys b low = by (is_delayed shape x) b low
     where
       by : (c : Bool) (b : ℕ) → b < x.blocks
           → get_elem? ((cond c (Out shape.first ∷ replicate (x.blocks - 1) Free) (replicate x.blocks Free)) ++ ys) b
@@ -108,7 +108,7 @@ module _ (shape : Shape) where
       by false b h = front_at (replicate x.blocks Free) ys b Free (all_same x.blocks b Free h)
 
   past : (x : PoolShape) (ys : List BlockView) (i : ℕ) → 0 < x.blocks → get_elem? (blocks_at_first shape x ++ ys) (x.blocks + i) ≡ get_elem? ys i
-  past x ys i filled = by (is_late shape x)
+  past x ys i filled = by (is_delayed shape x)
     where
       by : (c : Bool) → get_elem? ((cond c (Out shape.first ∷ replicate (x.blocks - 1) Free) (replicate x.blocks Free)) ++ ys) (x.blocks + i)
           ≡ get_elem? ys i
@@ -135,7 +135,7 @@ module _ (shape : Shape) where
 abbrev move : (ℕ → ℕ) → ℕ → ℕ → ℕ → ℕ
 move f m x i = cond (eqb i m) x (f i)
 
-module _ (p : Lay) where
+module _ (p : BoardLayout) where
   abbrev start : Whole
   start = record {
     lead = resting (first p);
@@ -150,7 +150,7 @@ module _ (p : Lay) where
     looks = [];
   }
 
-module _ (p : Lay) where
+module _ (p : BoardLayout) where
   -- the number of a follower's seat
   holder_at : IsSound p → (n : ℕ) → n < nodes p → n ≢ p.driver → holder p n < p.seats
   holder_at sound n inside follows = let a = sound.seats_in n inside follows in
@@ -165,16 +165,16 @@ module _ (p : Lay) where
   first_knows : IsSound p → IsPooledShape p.shape
       → KnowsEnds p (start_ends p) p.seats [] (replicate (length p.shape.links) (unread (first p))) []
   first_knows sound pooled = let w = wired p sound pooled in record {
-    of_write = λ l k at h. absurd (let z = holder_at sound (p.place k.from.node) (w.from_in l k at) (w.from_follows l k at) in omega arith);
+    of_write = λ l k at h. absurd (let z = holder_at sound (p.index k.from.node) (w.from_in l k at) (w.from_follows l k at) in omega arith);
     of_read = λ l k at h. all_same (length p.shape.links) l (unread (first p)) (slice_get_within p.shape.links l k at);
-    of_block = λ q b x at low h. absurd (let m = made p w q x at in let z = holder_at sound (p.place x.port.node) m.0 m.1 in omega arith);
+    of_block = λ q b x at low h. absurd (let m = made p w q x at in let z = holder_at sound (p.index x.port.node) m.0 m.1 in omega arith);
   }
 
   kept_knows : IsSound p → Wired p → (ends : Ends) → KnowsEnds p ends (suc p.seats) [] [] []
   kept_knows sound w ends = record {
-    of_write = λ l k at h. absurd (let z = holder_low sound (p.place k.from.node) (w.from_in l k at) in omega arith);
-    of_read = λ l k at h. absurd (let z = holder_low sound (p.place k.to.node) (w.to_in l k at) in omega arith);
-    of_block = λ q b x at low h. absurd (let m = made p w q x at in let z = holder_low sound (p.place x.port.node) m.0 in omega arith);
+    of_write = λ l k at h. absurd (let z = holder_low sound (p.index k.from.node) (w.from_in l k at) in omega arith);
+    of_read = λ l k at h. absurd (let z = holder_low sound (p.index k.to.node) (w.to_in l k at) in omega arith);
+    of_block = λ q b x at low h. absurd (let m = made p w q x at in let z = holder_low sound (p.index x.port.node) m.0 in omega arith);
   }
 
   loop_knows : (e : Samples) (j : ℕ) (ends : Ends) → IsPooledShape p.shape → AreStill p ends j → j < p.seats
@@ -197,9 +197,9 @@ module _ (p : Lay) where
   unsplit_free : IsSound p → Wired p → (ends : Ends) → AreStill p ends 0 → (q b : ℕ) (x : PoolShape)
       → slice_get (pools_of p.shape) q ≡ Some x → b < x.blocks → ends.blocks q b ≡ first_block p.shape x b
   unsplit_free sound w ends s q b x at low = let m = made p w q x at in
-      s.blocks q b x at low (omega arith) (holder_at sound (p.place x.port.node) m.0 m.1)
+      s.blocks q b x at low (omega arith) (holder_at sound (p.index x.port.node) m.0 m.1)
 
-module _ (p : Lay) {S : Type 0} where
+module _ (p : BoardLayout) {S : Type 0} where
   pub opens : (words : List ℕ) (slots : List S) → IsSound p → IsPooledShape p.shape → words ≡ start_words p.shape
       → word_count p.shape ≡ length words → nodes p + nodes p < length words → event_place p.shape (event_count p.shape) ≤ length words
       → get_or words 0 0 ≡ 0
@@ -303,7 +303,7 @@ module _ (p : Lay) {S : Type 0} where
       only zero v e = subst (λ (w : View). Knows p (start p) 0 w) (some-injective _ _ e) record {
         kept = λ h. absurd (omega arith);
         here = λ _. refl;
-        leads = λ _. (refl, refl, refl);
+        is_driver = λ _. (refl, refl, refl);
         expects = refl;
         is_split = λ h. absurd (omega arith);
         owns = λ n h o e'. absurd (let z = sound.seats_in n h o in omega arith);
@@ -313,8 +313,8 @@ module _ (p : Lay) {S : Type 0} where
 
   pub splits : (id : ℕ) (v : View) (e : Samples) → v.number ≡ p.seats → v.split < p.seats → (0 < v.split → e ≡ v.expect) → IsTable p e
       → Splits {S = S} (Holds p) id v (split_off e v) (loop_view p e v.split)
-  splits id v e leads room keeps table s r at =
-      let w = wired_in p r.whole s.words s.views r.seated in let g = r.whole in let k = r.seated.knows id v at in let is = k.leads leads in
+  splits id v e is_driver room keeps table s r at =
+      let w = wired_in p r.whole s.words s.views r.seated in let g = r.whole in let k = r.seated.knows id v at in let is = k.is_driver is_driver in
       let count = is.1 in
       let h : Whole = record {
         lead = g.lead;
@@ -343,7 +343,7 @@ module _ (p : Lay) {S : Type 0} where
               (λ (t : (j ≡ id) × (split_off e v ≡ u)). subst (λ (x : ℕ × View). Knows p h x.0 x.1) (λ i. (sym t.0 i, t.1 i)) record {
                 kept = λ z. absurd (omega arith);
                 here = λ h. else v.number (λ z. omega arith) ∙ k.here h;
-                leads = λ _. (is.0, ap suc count, is.2);
+                is_driver = λ _. (is.0, ap suc count, is.2);
                 expects = refl;
                 is_split = λ z. absurd (omega arith);
                 owns = k.owns;
@@ -351,12 +351,12 @@ module _ (p : Lay) {S : Type 0} where
               })
               (λ (t : (j ≢ id) × (get_elem? s.views j ≡ some u)). let q = r.seated.knows j u t.1 in
               let small : u.number < g.split = q.is_split (dite (ℕ_discrete u.number p.seats)
-              (λ z. absurd (t.0 (sym (q.here (omega arith)) ∙ ap g.seat_at (z ∙ sym leads) ∙ k.here (omega arith))))
+              (λ z. absurd (t.0 (sym (q.here (omega arith)) ∙ ap g.seat_at (z ∙ sym is_driver) ∙ k.here (omega arith))))
               (λ z. dite (dec_le (suc p.seats) u.number) (λ y. absurd (let l = q.kept y in omega arith)) (λ y. omega arith))) in
               record {
                 kept = λ z. absurd (omega arith);
                 here = λ h. else u.number (λ z. omega arith) ∙ q.here h;
-                leads = λ z. absurd (omega arith);
+                is_driver = λ z. absurd (omega arith);
                 expects = q.expects ∙ sym (keeps (omega arith) ∙ k.expects);
                 is_split = λ _. omega arith;
                 owns = q.owns;
@@ -367,7 +367,7 @@ module _ (p : Lay) {S : Type 0} where
               (λ (x : ℕ × View). Knows p h x.0 x.1) (λ i. (sym (t.0 ∙ length-set s.views id (split_off e v)) i, t.1 i)) record {
                 kept = λ z. absurd (omega arith);
                 here = λ _. ap h.seat_at count ∙ here;
-                leads = λ z. absurd (omega arith);
+                is_driver = λ z. absurd (omega arith);
                 expects = refl;
                 is_split = λ _. omega arith;
                 owns = λ n l o q₀. all_same (nodes p) n (idle (first p)) l ∙ ap some (sym (r.seated.unsplit n l o (omega arith)));
@@ -432,8 +432,8 @@ module _ (p : Lay) {S : Type 0} where
 
   -- the view that is kept of a board is split off
   pub keeps_view : (id : ℕ) (v : View) → v.number ≡ p.seats → HasEndedAll p v → Splits {S = S} (Holds p) id v (last_view p v) (kept_view p v)
-  keeps_view id v leads ended s r at =
-      let g = r.whole in let k = r.seated.knows id v at in let is = k.leads leads in
+  keeps_view id v is_driver ended s r at =
+      let g = r.whole in let k = r.seated.knows id v at in let is = k.is_driver is_driver in
       let h : Whole = record g { split = suc p.seats } in record {
         whole = h;
         seated = record {
@@ -447,7 +447,7 @@ module _ (p : Lay) {S : Type 0} where
               (λ (t : (j ≡ id) × (last_view p v ≡ u)). subst (λ (x : ℕ × View). Knows p h x.0 x.1) (λ i. (sym t.0 i, t.1 i)) record {
                 kept = λ z. omega arith;
                 here = k.here;
-                leads = λ _. (is.0, refl, is.2);
+                is_driver = λ _. (is.0, refl, is.2);
                 expects = k.expects;
                 is_split = λ z. absurd (omega arith);
                 owns = k.owns;
@@ -456,7 +456,7 @@ module _ (p : Lay) {S : Type 0} where
               (λ (t : (j ≢ id) × (get_elem? s.views j ≡ some u)). let q = r.seated.knows j u t.1 in record {
                 kept = λ z. omega arith;
                 here = q.here;
-                leads = λ z. absurd (t.0 (sym (q.here (omega arith)) ∙ ap g.seat_at (z ∙ sym leads) ∙ k.here (omega arith)));
+                is_driver = λ z. absurd (t.0 (sym (q.here (omega arith)) ∙ ap g.seat_at (z ∙ sym is_driver) ∙ k.here (omega arith)));
                 expects = q.expects;
                 is_split = λ z. omega arith;
                 owns = q.owns;
@@ -467,7 +467,7 @@ module _ (p : Lay) {S : Type 0} where
               (λ i. (sym t.0 i, t.1 i)) record {
                 kept = λ z. omega arith;
                 here = λ z. absurd (omega arith);
-                leads = λ z. absurd (omega arith);
+                is_driver = λ z. absurd (omega arith);
                 expects = k.expects;
                 is_split = λ z. absurd (omega arith);
                 owns = λ n l o q₀. absurd (let z = r.seated.sound.seats_in n l o in omega arith);
@@ -485,7 +485,7 @@ module _ (p : Lay) {S : Type 0} where
           table = λ n h o _. dite (dec_le (p.seat_of n + 1) g.split) (λ z. r.seated.table n h o (omega arith))
               (λ z. absurd (let i = r.seated.unsplit n h o (omega arith) in let f : (g.nodes n).next ≡ first p = ap (λ (y : NodeView). y.next) i in
               let low = started (g.lead.cycle) (g.nodes n) (length (p.targets n)) (r.activations.followers n h o) in
-              let c : g.lead.cycle ≡ v.lead.cycle = ap (λ (y : LeadView). y.cycle) (sym is.0) in let d = ended.1 in
+              let c : g.lead.cycle ≡ v.lead.cycle = ap (λ (y : DriverView). y.cycle) (sym is.0) in let d = ended.1 in
               let some = r.seated.sound.some_cycles in omega arith));
         };
         activations = record {

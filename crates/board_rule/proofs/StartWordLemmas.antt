@@ -22,15 +22,15 @@ use Rattle.pw_base.specs.Layout.{event_place, readers_place, sample_place, block
 use Rattle.pw_base.proofs.LayoutLemmas.{pools_have_blocks}
 use Rattle.board_rule.specs.declared.view.BlockView.{BlockView}
 use Rattle.board_rule.specs.declared.view.BlockView.TheVariants.{Free, Out}
-use Rattle.board_rule.specs.Layout.{Lay, first}
-use Rattle.board_rule.specs.Areas.{late_by}
-use Rattle.board_rule.specs.StartViews.{is_late, first_block, unread}
-use Rattle.board_rule.specs.BlockReadings.{late_at, waiting, readers_of}
+use Rattle.board_rule.specs.Layout.{BoardLayout, first}
+use Rattle.board_rule.specs.Areas.{delay_by}
+use Rattle.board_rule.specs.StartViews.{is_delayed, first_block, unread}
+use Rattle.board_rule.specs.BlockReadings.{delay_at, waiting, readers_of}
 use Rattle.board_rule.proofs.LayoutLemmas.{areas_start, two_or_one}
 use Rattle.board_rule.proofs.WiringLemmas.{pool_source}
 
 module _ {X : Type 0} (test : X → Bool) (g : ℕ → ℕ) (h : X → ℕ) where
-  -- a sum over the places of the elements that pass, and over these elements
+  -- a sum over the indexes of the elements that pass, and over these elements
   ids_sum : (n : ℕ) (xs : List X) → ((i : ℕ) (d : X) → i < length xs → g (n + i) ≡ h (get_or xs i d))
       → sum_by g (map (λ e. e.0) (filter (λ e. test e.1) (enumerate_from n xs))) ≡ sum_by h (filter test xs)
   ids_sum n [] same = refl
@@ -73,18 +73,18 @@ module _ (shape : Shape) where
   abbrev blocks : List ℕ
   blocks = flat_map (pool_start shape) (pools_of shape)
 
-  area_long : (k : ShapeLink) → length (io_start shape.first k) ≡ 1 + late_by k
+  area_long : (k : ShapeLink) → length (io_start shape.first k) ≡ 1 + delay_by k
   area_long k = two_or_one k.delayed _ _ _ _ _ _ ∙ by k.delayed
     where
       by : (b : Bool) → cond {A = ℕ} b 2 1 ≡ 1 + cond {A = ℕ} b 1 0
       by true = refl
       by false = refl
 
-  pub io_at_start : (l a : ℕ) (k : ShapeLink) → slice_get shape.links l ≡ Some k → a ≤ late_by k
+  pub io_at_start : (l a : ℕ) (k : ShapeLink) → slice_get shape.links l ≡ Some k → a ≤ delay_by k
       → get_or (start_words shape) (io_place shape l a) 0 ≡ get_or (io_start shape.first k) a 0
   io_at_start l a k at h = let lt = slice_get_within shape.links l k at in
       let here : get_or shape.links l k ≡ k = get_or_from_slice_get shape.links l k k at in
-      let long : length (io_start shape.first (get_or shape.links l k)) ≡ 1 + late_by k = ap (λ j. length (io_start shape.first j)) here
+      let long : length (io_start shape.first (get_or shape.links l k)) ≡ 1 + delay_by k = ap (λ j. length (io_start shape.first j)) here
       ∙ area_long k in
       let before : length (flat_map (io_start shape.first) (take l shape.links)) ≡ area_count (take l shape.links) =
       areas_start shape.first (take l shape.links) in
@@ -179,16 +179,16 @@ module _ (shape : Shape) where
             ∙ sym (ap (λ c. cond {A = ℕ} c (count_by (λ l. l.delayed) (links_from shape x.port)) 0) (ne_eqb (suc b) 0 (λ z. omega arith)))
 
 -- that many readers wait for block 0
-module _ (p : Lay) where
+module _ (p : BoardLayout) where
   waits_late : (q : ℕ) (x : PoolShape) → slice_get (pools_of p.shape) q ≡ Some x
       → waiting p (λ _. unread (first p)) x (first p) ≡ count_by (λ l. l.delayed) (links_from p.shape x.port)
   waits_late q x at = let s = pool_source p.shape q x at in
       subst (λ (y : PoolShape). waiting p (λ _. unread (first p)) y (first p) ≡ count_by (λ l. l.delayed) (links_from p.shape y.port)) (sym s.2)
-      (ids_sum (λ l. is_port l.from s.0) (λ l. cond (ltb (first p) (first p + late_at p l)) 1 0) late_by 0 p.shape.links
+      (ids_sum (λ l. is_port l.from s.0) (λ l. cond (ltb (first p) (first p + delay_at p l)) 1 0) delay_by 0 p.shape.links
       (λ i d h. let z : 0 + i ≡ i = omega arith in
-      ap (λ j. cond {A = ℕ} (ltb (first p) (first p + late_at p j)) 1 0) z
+      ap (λ j. cond {A = ℕ} (ltb (first p) (first p + delay_at p j)) 1 0) z
       ∙ ap (λ k. cond {A = ℕ} (ltb (first p) (first p + k)) 1 0)
-      (ap (λ o. unwrap_or (option_map late_by o) 0) (slice_get-get_or p.shape.links i d h)) ∙ by (get_or p.shape.links i d).delayed))
+      (ap (λ o. unwrap_or (option_map delay_by o) 0) (slice_get-get_or p.shape.links i d h)) ∙ by (get_or p.shape.links i d).delayed))
     where
       by : (b : Bool) → cond {A = ℕ} (ltb (first p) (first p + cond {A = ℕ} b 1 0)) 1 0 ≡ cond {A = ℕ} b 1 0
       by true = ap (λ c. cond {A = ℕ} c 1 0) (lt-ltb (first p) (first p + 1) (omega arith))
@@ -197,12 +197,12 @@ module _ (p : Lay) where
   pub readers_first : (q b : ℕ) (x : PoolShape) → slice_get (pools_of p.shape) q ≡ Some x
       → cond {A = ℕ} (eqb b 0) (count_by (λ l. l.delayed) (links_from p.shape x.port)) 0
       ≡ readers_of p (λ _. unread (first p)) x (first_block p.shape x b)
-  readers_first q b x at = by (is_late p.shape x) (eqb b 0) refl (waits_late q x at)
+  readers_first q b x at = by (is_delayed p.shape x) (eqb b 0) refl (waits_late q x at)
     where
       count : ℕ
       count = count_by (λ l. l.delayed) (links_from p.shape x.port)
 
-      by : (c d : Bool) → is_late p.shape x ≡ c → waiting p (λ _. unread (first p)) x (first p) ≡ count
+      by : (c d : Bool) → is_delayed p.shape x ≡ c → waiting p (λ _. unread (first p)) x (first p) ≡ count
           → cond {A = ℕ} d count 0 ≡ readers_of p (λ _. unread (first p)) x (let y : BlockView = cond (c && d) (Out (first p)) Free in y)
       by true true e w = sym w
       by true false e w = refl

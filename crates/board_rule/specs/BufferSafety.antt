@@ -5,12 +5,12 @@ use mathlib.Core.Option.{some}
 use lib.ListN.{get_elem?}
 use Rattle.board_rule.specs.declared.view.BlockView.TheVariants.{Out}
 use Rattle.board_rule.specs.declared.view.View.{View}
-use Rattle.board_rule.specs.Layout.{Lay}
+use Rattle.board_rule.specs.Layout.{BoardLayout}
 use Rattle.board_rule.specs.EndViews.{pool_at, pool_of, block_of}
 use Rattle.board_rule.specs.BufferReads.{HasPool}
 use Rattle.board_rule.specs.ReaderSteps.{ReadsBlock}
 
-module _ (p : Lay) where
+module _ (p : BoardLayout) where
   -- a node of the seat fills the pool, and has the block, free or being filled
   abbrev pub CanWrite : View → ℕ → ℕ → Type 0
   CanWrite v q b = HasPool p v q × (b < (pool_at p q).blocks) × ((n : ℕ) → block_of p v q b ≡ Out n → ⊥)
@@ -19,5 +19,5 @@ module _ (p : Lay) where
   pub record AreSafe (views : List View) : Type 0 where
     pub one_writer : (i j q b : ℕ) (v u : View) → get_elem? views i ≡ some v → get_elem? views j ≡ some u
         → CanWrite v q b → CanWrite u q b → i ≡ j
-    pub no_reader : (i j l b : ℕ) (leads : Bool) (v u : View) → get_elem? views i ≡ some v → get_elem? views j ≡ some u
-        → ReadsBlock leads p v l b → CanWrite u (pool_of p l) b → ⊥
+    pub no_reader : (i j l b : ℕ) (is_driver : Bool) (v u : View) → get_elem? views i ≡ some v → get_elem? views j ≡ some u
+        → ReadsBlock is_driver p v l b → CanWrite u (pool_of p l) b → ⊥

@@ -47,7 +47,7 @@ fn push_areas(words: &mut Items<u64>, links: &[ShapeLink], first: u32) -> Result
 }
 
 /// How many delayed links go from a port.
-pub(crate) fn late_readers(links: &[ShapeLink], port: PortId) -> u64
+pub(crate) fn delayed_readers(links: &[ShapeLink], port: PortId) -> u64
     ensures { result ≡ count_by (λ l. l.delayed && is_port l.from port) links.now }
 {
     let mut late = 0;
@@ -72,7 +72,11 @@ fn push_zeros(words: &mut Items<u64>, pool: &PoolShape, readers: u64) -> Result<
 fn push_pool(words: &mut Items<u64>, shape: &Shape, pool: &PoolShape) -> Result<(), Memory>
     ensures { OnOk result (words.new ≡ words.old ++ pool_start shape.now pool.now) }
 {
-    push_zeros(words, pool, late_readers(shape.links.as_slice(), pool.port))
+    push_zeros(
+        words,
+        pool,
+        delayed_readers(shape.links.as_slice(), pool.port),
+    )
 }
 
 // The words of all pools.

@@ -1,21 +1,22 @@
 //! How a board begins: its words at the start, and its seats split off the first one.
+ghost use Rattle.board_rule.specs.OnBoard.{IsOn, layout};
 ghost use Rattle.std.specs.Prelude.{◌≡◌, ◌++◌, ℕ, ◌<◌, length, map, slice_get, replicate, Some, IfOk, OnOk};
 ghost use Rattle.pw_base.specs.Layout.{event_count};
 ghost use Rattle.pw_base.specs.Pools.{IsPooledShape};
 ghost use Rattle.board_rule.specs.Known.{Known};
-ghost use Rattle.board_rule.specs.Layout.{lay, HasSeats};
+ghost use Rattle.board_rule.specs.Layout.{layout_of, HasSeats};
 ghost use Rattle.board_rule.specs.Progress.{progress_of};
 ghost use Rattle.board_rule.specs.SampleWords.{IsTable};
 ghost use Rattle.board_rule.specs.View.{Samples, first_view, driver_view, loop_view, split_off, blocks_at_first, first_blocks, idle, unread, first_write};
 
 use crate::board::Board;
+use crate::board_shape::BoardShape;
 use crate::copying::copy_shape;
 use crate::driver_seat::DriverSeat;
 use crate::expect::Expect;
-use crate::layout::{late_readers, start_words};
-use crate::lead::{Due, LeadProgress};
+use crate::layout::{delayed_readers, start_words};
+use crate::lead::{DriverProgress, Due};
 use crate::loop_seat::LoopSeat;
-use crate::plot::Plot;
 use crate::progress::NodeProgress;
 use crate::rows::rows_of;
 use crate::rule::{BoardTable, BoardToken};
@@ -55,12 +56,12 @@ impl<C: Cut> Split<View> for Parts<C> {
 
 // Splits a seat off the driver's.
 fn split<C: Cut>(board: &Board, token: &mut BoardToken) -> BoardToken
-    requires table { token.old.table_id ≡ board.now.table.shared.table_id }
-    requires leads { token.old.me.0.number ≡ (lay board.now.plot).seats }
-    requires room { token.old.me.0.split < (lay board.now.plot).seats }
+    requires table { IsOn board.now token.old.table_id }
+    requires is_driver { token.old.me.0.number ≡ (layout board.now).seats }
+    requires room { token.old.me.0.split < (layout board.now).seats }
     requires views { ((e : Samples) × (0 < token.old.me.0.split → e ≡ token.old.me.0.expect)
-        × IsTable (lay board.now.plot) e × (C.left ≡ split_off e token.old.me.0)
-        × (C.right ≡ loop_view (lay board.now.plot) e token.old.me.0.split)) }
+        × IsTable (layout board.now) e × (C.left ≡ split_off e token.old.me.0)
+        × (C.right ≡ loop_view (layout board.now) e token.old.me.0.split)) }
     ensures left { (token.new.table_id ≡ token.old.table_id) × (token.new.id ≡ token.old.id)
         × (token.new.me.0 ≡ C.left) }
     ensures right { (result.table_id ≡ token.old.table_id) × (result.me.0 ≡ C.right) }
@@ -72,7 +73,7 @@ fn split<C: Cut>(board: &Board, token: &mut BoardToken) -> BoardToken
 fn push_blocks(blocks: &mut Items<BlockView>, shape: &Shape, pool: &PoolShape) -> Result<(), Memory>
     ensures { OnOk result (blocks.new ≡ blocks.old ++ blocks_at_first shape.now pool.now) }
 {
-    if late_readers(shape.links.as_slice(), pool.port) == 0 {
+    if delayed_readers(shape.links.as_slice(), pool.port) == 0 {
         return blocks.extend_filled(pool.blocks as usize, BlockView::Free);
     }
     blocks.push(BlockView::Out {
@@ -156,15 +157,15 @@ impl DriverSeat {
         board: &Board,
         free: &Items<BlockView>,
     ) -> Result<LoopSeat, Memory>
-        requires table { self.old.table ≡ board.now.table.shared.table_id }
-        requires leads { self.old.knows.number ≡ (lay board.now.plot).seats }
-        requires room { self.old.knows.split < (lay board.now.plot).seats }
-        requires free { free.now ≡ first_blocks board.now.plot.shape }
+        requires table { IsOn board.now self.old.table }
+        requires is_driver { self.old.knows.number ≡ (layout board.now).seats }
+        requires room { self.old.knows.split < (layout board.now).seats }
+        requires free { free.now ≡ first_blocks board.now.board_shape.shape }
         requires expect { 0 < self.old.knows.split → E.expect ≡ self.old.knows.expect }
-        requires samples { IsTable (lay board.now.plot) E.expect }
+        requires samples { IsTable (layout board.now) E.expect }
         ensures { IfOk result (λ s. (self.new.table ≡ self.old.table)
             × (self.new.knows ≡ split_off E.expect self.old.knows) × (s.table ≡ self.old.table)
-            × (s.knows ≡ loop_view (lay board.now.plot) E.expect self.old.knows.split)) }
+            × (s.knows ≡ loop_view (layout board.now) E.expect self.old.knows.split)) }
     {
         let shape = board.shape();
         let first = u64::from(shape.first);
@@ -192,24 +193,24 @@ impl DriverSeat {
         board: &Board,
         free: &Items<BlockView>,
     ) -> Result<Items<LoopSeat>, Memory>
-        requires table { self.old.table ≡ board.now.table.shared.table_id }
-        requires knows { self.old.knows ≡ first_view (lay board.now.plot) }
-        requires free { free.now ≡ first_blocks board.now.plot.shape }
-        requires samples { IsTable (lay board.now.plot) E.expect }
+        requires table { IsOn board.now self.old.table }
+        requires knows { self.old.knows ≡ first_view (layout board.now) }
+        requires free { free.now ≡ first_blocks board.now.board_shape.shape }
+        requires samples { IsTable (layout board.now) E.expect }
         ensures driver { IfOk result (λ _. self.new
             ≡ record {
               table = board.now.table.shared.table_id;
-              knows = driver_view (lay board.now.plot) E.expect board.now.plot.seats;
+              knows = driver_view (layout board.now) E.expect board.now.board_shape.seats;
             }) }
-        ensures count { IfOk result (λ loops. length loops ≡ board.now.plot.seats) }
-        ensures loops { IfOk result (λ loops. (k : ℕ) → k < board.now.plot.seats
+        ensures count { IfOk result (λ loops. length loops ≡ board.now.board_shape.seats) }
+        ensures loops { IfOk result (λ loops. (k : ℕ) → k < board.now.board_shape.seats
             → slice_get loops k ≡ Some record {
               table = board.now.table.shared.table_id;
-              knows = loop_view (lay board.now.plot) E.expect k;
+              knows = loop_view (layout board.now) E.expect k;
             }) }
     {
         let mut loops = Items::new(alloc);
-        for k in 0..board.plot.seats {
+        for k in 0..board.board_shape.seats {
             loops.push(self.split_off::<E>(alloc, board, free)?)?;
         }
         Ok(loops)
@@ -217,10 +218,15 @@ impl DriverSeat {
 }
 
 // A shape and its seats, in memory of their own.
-fn plot_of(alloc: Global, shape: &Shape, seat_of: &Items<u32>, seats: u32) -> Result<Plot, Memory>
-    ensures { IfOk result (λ plot. plot ≡ record { shape = shape.now; seat_of = seat_of.now; seats = seats }) }
+fn board_shape_of(
+    alloc: Global,
+    shape: &Shape,
+    seat_of: &Items<u32>,
+    seats: u32,
+) -> Result<BoardShape, Memory>
+    ensures { IfOk result (λ board_shape. board_shape ≡ record { shape = shape.now; seat_of = seat_of.now; seats = seats }) }
 {
-    Ok(Plot {
+    Ok(BoardShape {
         shape: copy_shape(alloc, shape)?,
         seat_of: seat_of.copy(alloc)?,
         seats,
@@ -236,24 +242,24 @@ fn event_count(shape: &Shape) -> usize
 }
 
 impl Board {
-    // The board of a plot, with the driver's seat before any split.
-    fn lay_out(alloc: Global, plot: Plot) -> Result<(Board, DriverSeat), Memory>
-        requires pooled { IsPooledShape plot.shape }
-        requires seats { HasSeats plot }
-        ensures { IfOk result (λ t. (t.0.plot ≡ plot) × (t.1.table ≡ t.0.table.shared.table_id)
-            × (t.1.knows ≡ first_view (lay plot))) }
+    // The board of a shape with its seats, with the driver's seat before any split.
+    fn lay_out(alloc: Global, board_shape: BoardShape) -> Result<(Board, DriverSeat), Memory>
+        requires pooled { IsPooledShape board_shape.shape }
+        requires seats { HasSeats board_shape }
+        ensures { IfOk result (λ t. (t.0.board_shape ≡ board_shape) × (t.1.table ≡ t.0.table.shared.table_id)
+            × (t.1.knows ≡ first_view (layout_of board_shape))) }
     {
-        let spare = Items::new(alloc).into_room(event_count(&plot.shape))?;
-        let words = start_words(alloc, &plot.shape)?;
-        let rows = rows_of(alloc, &plot.shape, words.len())?;
-        let first = u64::from(plot.shape.first);
-        let reads = unread(alloc, plot.shape.links.len(), first)?;
+        let spare = Items::new(alloc).into_room(event_count(&board_shape.shape))?;
+        let words = start_words(alloc, &board_shape.shape)?;
+        let rows = rows_of(alloc, &board_shape.shape, words.len())?;
+        let first = u64::from(board_shape.shape.first);
+        let reads = unread(alloc, board_shape.shape.links.len(), first)?;
         let (table, token): (BoardTable, BoardToken) = Table::of_words(
             alloc,
             words.as_slice(),
-            &plot,
+            &board_shape,
         )?;
-        let lead = LeadProgress {
+        let lead = DriverProgress {
             cycle: first,
             done: 0,
             due: Due::Begin,
@@ -264,7 +270,7 @@ impl Board {
         Ok((
             Board {
                 table,
-                plot,
+                board_shape,
                 rows,
                 spare,
             },
@@ -278,7 +284,7 @@ impl Board {
     }
 
     /// A board for a shape, the driver's seat and the loops' seats in the order of their numbers.
-    /// `seat_of` gives the loop's seat of each node by place in the shape, below `seats`; the driver's entry is not
+    /// `seat_of` gives the loop's seat of each node by index in the shape, below `seats`; the driver's entry is not
     /// looked at. All seats agree on the samples of `E`, which the caller names at the call: for each cycle and pool one
     /// quantum of 16-bit samples.
     ///
@@ -291,23 +297,23 @@ impl Board {
     ) -> Result<(Board, DriverSeat, Items<LoopSeat>), Memory>
         requires pooled { IsPooledShape shape.now }
         requires seats { HasSeats record { shape = shape.now; seat_of = seat_of.now; seats = seats } }
-        requires samples { IsTable (lay record { shape = shape.now; seat_of = seat_of.now; seats = seats })
+        requires samples { IsTable (layout_of record { shape = shape.now; seat_of = seat_of.now; seats = seats })
             E.expect }
 
-        ensures plot { IfOk result (λ t. t.0.plot
+        ensures board_shape { IfOk result (λ t. t.0.board_shape
             ≡ record { shape = shape.now; seat_of = seat_of.now; seats = seats }) }
         ensures driver { IfOk result (λ t. t.1
-            ≡ record { table = t.0.table.shared.table_id; knows = driver_view (lay t.0.plot) E.expect seats }) }
+            ≡ record { table = t.0.table.shared.table_id; knows = driver_view (layout_of t.0.board_shape) E.expect seats }) }
         ensures count { IfOk result (λ t. length t.2 ≡ seats) }
         ensures loops { IfOk result (λ t. (k : ℕ) → k < seats
             → slice_get t.2 k ≡ Some record {
               table = t.0.table.shared.table_id;
-              knows = loop_view (lay t.0.plot) E.expect k;
+              knows = loop_view (layout_of t.0.board_shape) E.expect k;
             }) }
     {
-        let plot = plot_of(alloc, shape, seat_of, seats)?;
+        let board_shape = board_shape_of(alloc, shape, seat_of, seats)?;
         let free = first_blocks(alloc, shape)?;
-        let (board, mut driver) = Board::lay_out(alloc, plot)?;
+        let (board, mut driver) = Board::lay_out(alloc, board_shape)?;
         let loops = driver.split_all::<E>(alloc, &board, &free)?;
         Ok((board, driver, loops))
     }

@@ -7,7 +7,7 @@ use Rattle.std.proofs.lemmas.Option.{slice_get-get_or}
 use Rattle.std.proofs.lemmas.List.{ext_get_or, get_or-replicate, length-replicate}
 use Rattle.pw_base.specs.Pools.{pools_of}
 use Rattle.board_rule.specs.declared.view.View.{View}
-use Rattle.board_rule.specs.Layout.{Lay, first}
+use Rattle.board_rule.specs.Layout.{BoardLayout, first}
 use Rattle.board_rule.specs.SampleWords.{IsTable, samples_in}
 use Rattle.board_rule.specs.EndViews.{no_pool, pool_at, pool_of}
 use Rattle.board_rule.specs.ReaderSteps.{samples_read}
@@ -26,17 +26,17 @@ short_by : (b : Bool) (xs : List ℤ) → All IsShort xs → All IsShort (cond b
 short_by true xs h = h
 short_by false xs h = λ k d l. absurd (omega arith)
 
-module _ (leads : Bool) (p : Lay) (v : View) (l : ℕ) (table : IsTable p v.expect) where
-  pub all_short : All IsShort (samples_read leads p v l)
-  all_short = short_by (ltb (first p) (held_stamp leads p v l)) _ (table.fits (held_stamp leads p v l - 1) (pool_of p l))
+module _ (is_driver : Bool) (p : BoardLayout) (v : View) (l : ℕ) (table : IsTable p v.expect) where
+  pub all_short : All IsShort (samples_read is_driver p v l)
+  all_short = short_by (ltb (first p) (held_stamp is_driver p v l)) _ (table.fits (held_stamp is_driver p v l - 1) (pool_of p l))
 
-  pub heard_whole : IsHolding leads p v l → pool_of p l < length (pools_of p.shape) → (ys : List ℤ) → length ys ≡ quantum_of p (pool_of p l)
-      → IsReadTo (samples_read leads p v l) (length ys) ys → ys ≡ heard leads p v l
+  pub heard_whole : IsHolding is_driver p v l → pool_of p l < length (pools_of p.shape) → (ys : List ℤ) → length ys ≡ quantum_of p (pool_of p l)
+      → IsReadTo (samples_read is_driver p v l) (length ys) ys → ys ≡ heard is_driver p v l
   heard_whole h inside ys long is = told_by (ltb (first p) n) (samples_in p v.expect (n - 1) q) ys (quantum_of p q) whole long
       (λ j lt. is j lt lt)
     where
       n : ℕ
-      n = held_stamp leads p v l
+      n = held_stamp is_driver p v l
 
       q : ℕ
       q = pool_of p l

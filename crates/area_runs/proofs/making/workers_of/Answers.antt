@@ -2,7 +2,7 @@ use Rattle.std.proofs.Common.{◌≡◌, ◌∙◌, List, ◌∷◌, ◌++◌, [
 use Rattle.std.proofs.lemmas.List.{map-id}
 use Rattle.std.proofs.lemmas.Iterator.Consumers.{YieldsList-end}
 use Rattle.std.proofs.lemmas.Iterator.Adapters.{YieldsList-from_vec}
-use Rattle.board_rule.specs.declared.plot.Plot.{Plot}
+use Rattle.board_rule.specs.declared.board_shape.BoardShape.{BoardShape}
 use Rattle.board_rule.specs.Known.{Known}
 use Rattle.area_runs.specs.declared.worker.Worker.{Worker}
 use Rattle.area_runs.specs.Making.{IsMade, AreMade}
@@ -14,10 +14,10 @@ loop-seat-preserved c = let i = c.loop-seat.invariant in let y = c.loop-seat.yie
     let x = length-append y (seat ∷ []) in
     let n = i.number in record {
       number = omega arith;
-      made = λ seats. let plot : Plot = record { shape = c.args.shape.now; seat_of = c.args.seat_of.now; seats = seats } in
-          subst (λ (ws : List Worker). AreMade plot c.args.samples.now (y ++ seat ∷ []) ws) (sym c.in_ok-push.ensures.ok)
-          (one_made plot c.args.samples.now y c.loop-seat.workers seat c.in_ok-worker_of.field-0 (i.made seats)
-          (subst (λ k. IsMade plot c.args.samples.now k seat c.in_ok-worker_of.field-0) n (c.in_ok-worker_of.ensures seats)));
+      made = λ seats. let board_shape : BoardShape = record { shape = c.args.shape.now; seat_of = c.args.seat_of.now; seats = seats } in
+          subst (λ (ws : List Worker). AreMade board_shape c.args.samples.now (y ++ seat ∷ []) ws) (sym c.in_ok-push.ensures.ok)
+          (one_made board_shape c.args.samples.now y c.loop-seat.workers seat c.in_ok-worker_of.field-0 (i.made seats)
+          (subst (λ k. IsMade board_shape c.args.samples.now k seat c.in_ok-worker_of.field-0) n (c.in_ok-worker_of.ensures seats)));
     }
 
 pub returns : goal.returns

@@ -1,7 +1,7 @@
 use Rattle.pw_base.specs.declared.pools.PoolShape.{PoolShape}
 use Rattle.std.proofs.Common.{List, length, get_or, ◌∙◌, sym, ap, subst}
 use Rattle.board_rule.specs.declared.view.View.{View}
-use Rattle.board_rule.specs.Layout.{lay}
+use Rattle.board_rule.specs.Layout.{layout_of}
 use Rattle.buffer_pool.specs.Queue.{Queue}
 use Rattle.board_rule.specs.BlockSteps.{fill_cycle}
 use Rattle.area_turns.specs.Stock.{Stock}
@@ -14,7 +14,7 @@ write-requires-clause-phase c =
     c.loop-pool.invariant.written
 
 pub write-requires-clause-stock : goal.write-requires-clause-stock
-write-requires-clause-stock c = let p = lay c.args.board.now.plot in let v : View = c.loop-pool.seat.knows in
+write-requires-clause-stock c = let p = layout_of c.args.board.now.board_shape in let v : View = c.loop-pool.seat.knows in
     let i = c.loop-pool.invariant in
     subst (λ (x : Queue). Stock p v (get_or c.args.pools.now c.loop-pool.pool-index 0)
     (fill_cycle p v (get_or c.args.pools.now c.loop-pool.pool-index 0)) x)

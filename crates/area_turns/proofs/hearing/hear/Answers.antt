@@ -1,16 +1,16 @@
 use Rattle.std.proofs.Common.{◌∙◌, ap}
 use Rattle.board_rule.specs.declared.view.View.{View}
-use Rattle.board_rule.specs.Layout.{lay}
+use Rattle.board_rule.specs.Layout.{layout_of}
 use Rattle.io_areas.specs.Reading.{heard, given_back}
 use Rattle.area_turns.proofs.HearingLemmas.{has_heard, heard_now}
 use Rattle.area_turns.proofs.hearing.hear.Goals as goal
 
 pub returns-clause-knows : goal.returns-clause-knows
-returns-clause-knows g c = let b = g.S.BoardSeat.leads in let p = lay c.args.board.now.plot in let l = c.args.link in
+returns-clause-knows g c = let b = g.S.BoardSeat.is_driver in let p = layout_of c.args.board.now.board_shape in let l = c.args.link in
     has_heard b p (g.S.BoardSeat.knows c.args.seat.now) l c.requires.phase c.take.result c.take.ensures.inside _
     (c.give_back.ensures.knows ∙ ap (λ (v : View). given_back b p v l) (c.read.ensures.knows ∙ c.take.ensures.knows))
 
 pub returns-clause-samples : goal.returns-clause-samples
-returns-clause-samples g c = let b = g.S.BoardSeat.leads in let p = lay c.args.board.now.plot in let l = c.args.link in
+returns-clause-samples g c = let b = g.S.BoardSeat.is_driver in let p = layout_of c.args.board.now.board_shape in let l = c.args.link in
     c.read.ensures.samples ∙ ap (λ (v : View). heard b p v l) c.take.ensures.knows
     ∙ heard_now b p _ l c.requires.phase c.take.result c.take.ensures.inside c.requires.plain

@@ -1,17 +1,17 @@
 use Rattle.std.proofs.Common.{ℕ, sym, subst}
 use Rattle.board_rule.specs.declared.view.View.{View}
-use Rattle.board_rule.specs.Layout.{lay}
+use Rattle.board_rule.specs.Layout.{layout_of}
 use Rattle.io_areas.specs.Writing.{Announces, HasAnnounced}
 use Rattle.area_turns.proofs.BlockLemmas.{may_announce, announced}
 use Rattle.area_turns.proofs.writing.emit.Goals as goal
 
 pub announce-requires-clause-phase : goal.announce-requires-clause-phase
-announce-requires-clause-phase c = let p = lay c.args.board.now.plot in let v : View = c.args.seat.now.knows in let q : ℕ = c.args.pool in
+announce-requires-clause-phase c = let p = layout_of c.args.board.now.board_shape in let v : View = c.args.seat.now.knows in let q : ℕ = c.args.pool in
     subst (λ (w : View). Announces p w q) (sym c.fill.ensures.knows)
     (may_announce p v q c.args.id c.requires.phase.0 c.requires.free c.requires.inside)
 
 pub returns-clause-knows : goal.returns-clause-knows
-returns-clause-knows c = let p = lay c.args.board.now.plot in let v : View = c.args.seat.now.knows in let q : ℕ = c.args.pool in
+returns-clause-knows c = let p = layout_of c.args.board.now.board_shape in let v : View = c.args.seat.now.knows in let q : ℕ = c.args.pool in
     let w : View = c.announce.new.seat.knows in
     announced p v q c.args.id c.requires.phase.0 c.requires.free c.requires.inside w
     (subst (λ (u : View). HasAnnounced p u q w) c.fill.ensures.knows c.announce.ensures.announced)

@@ -1,5 +1,5 @@
 use Rattle.std.proofs.Common.{◌≡◌, ◌-◌, ◌<◌, take, slice_index}
-use Rattle.board_rule.specs.Layout.{lay}
+use Rattle.board_rule.specs.Layout.{layout_of}
 use Rattle.io_areas.specs.Writing.{number_given}
 use Rattle.area_turns.specs.Turns.{AreMade, IsLoadedNow}
 use Rattle.area_turns.proofs.writing.load_all.Given as goal
@@ -7,6 +7,6 @@ use Rattle.area_turns.proofs.writing.load_all.Given as goal
 abbrev pub invariant-loop-link : goal.invariant-loop-link
 invariant-loop-link l = record {
   table : l.seat.table ≡ l.fn.seat.table;
-  ends : AreMade (IsLoadedNow (lay l.board.plot) l.fn.seat.knows) l.fn.seat.knows (take l.link-index l.links) l.seat.knows;
-  given : 0 < l.link-index → l.given ≡ number_given (lay l.board.plot) l.fn.seat.knows (slice_index l.links (l.link-index - 1));
+  ends : AreMade (IsLoadedNow (layout_of l.board.board_shape) l.fn.seat.knows) l.fn.seat.knows (take l.link-index l.links) l.seat.knows;
+  given : 0 < l.link-index → l.given ≡ number_given (layout_of l.board.board_shape) l.fn.seat.knows (slice_index l.links (l.link-index - 1));
 }

@@ -1,6 +1,6 @@
 use Rattle.std.proofs.Common.{◌≢◌, ◌<◌, ◌∙◌, All, AllPairs, length, ap, sym, subst}
 use Rattle.board_rule.specs.declared.view.View.{View}
-use Rattle.board_rule.specs.Layout.{lay}
+use Rattle.board_rule.specs.Layout.{layout_of}
 use Rattle.board_rule.specs.WriterSteps.{LoadsAsWriter}
 use Rattle.io_areas.specs.Writing.{number_given, Publishes}
 use Rattle.area_turns.specs.Answers.{last_of}
@@ -11,31 +11,31 @@ use Rattle.area_turns.proofs.TurnLemmas.{may_load_all, begun, obtained, emitted}
 use Rattle.area_turns.proofs.writing.write.Goals as goal
 
 pub load_all-given-requires-clause-some : goal.load_all-given-requires-clause-some
-load_all-given-requires-clause-some c = let p = lay c.args.board.now.plot in let r = c.requires in
+load_all-given-requires-clause-some c = let p = layout_of c.args.board.now.board_shape in let r = c.requires in
     subst (λ xs. 0 < length xs) (sym r.links) (some_link p r.plain c.args.pool r.phase.has.0)
 
 pub load_all-given-requires-clause-once : goal.load_all-given-requires-clause-once
-load_all-given-requires-clause-once c = let p = lay c.args.board.now.plot in let r = c.requires in
+load_all-given-requires-clause-once c = let p = layout_of c.args.board.now.board_shape in let r = c.requires in
     subst (AllPairs (λ k l. k ≢ l)) (sym r.links) (once p r.plain c.args.pool r.phase.has.0)
 
 pub load_all-given-requires-clause-phase : goal.load_all-given-requires-clause-phase
-load_all-given-requires-clause-phase c = let p = lay c.args.board.now.plot in let r = c.requires in let v : View = c.args.seat.now.knows in
+load_all-given-requires-clause-phase c = let p = layout_of c.args.board.now.board_shape in let r = c.requires in let v : View = c.args.seat.now.knows in
     subst (All (LoadsAsWriter p v)) (sym r.links) (may_load_all p v c.args.pool r.plain r.phase)
 
 pub obtain-reclaimed-requires-clause-phase : goal.obtain-reclaimed-requires-clause-phase
-obtain-reclaimed-requires-clause-phase c = let p = lay c.args.board.now.plot in let v : View = c.args.seat.now.knows in
+obtain-reclaimed-requires-clause-phase c = let p = layout_of c.args.board.now.board_shape in let v : View = c.args.seat.now.knows in
     let w : View = c.load_all-given.new.seat.knows in let r = c.requires in
     let t = begun p v c.args.pool c.args.free.now c.args.links.now w r.plain r.phase r.links r.stock c.load_all-given.ensures.ends in
     turn.may_reclaim t
 
 pub obtain-reclaimed-requires-clause-stock : goal.obtain-reclaimed-requires-clause-stock
-obtain-reclaimed-requires-clause-stock c = let p = lay c.args.board.now.plot in let v : View = c.args.seat.now.knows in
+obtain-reclaimed-requires-clause-stock c = let p = layout_of c.args.board.now.board_shape in let v : View = c.args.seat.now.knows in
     let w : View = c.load_all-given.new.seat.knows in let r = c.requires in
     let t = begun p v c.args.pool c.args.free.now c.args.links.now w r.plain r.phase r.links r.stock c.load_all-given.ensures.ends in
     turn.stock_again t
 
 pub emit-requires-clause-phase : goal.emit-requires-clause-phase
-emit-requires-clause-phase c = let p = lay c.args.board.now.plot in let v : View = c.args.seat.now.knows in
+emit-requires-clause-phase c = let p = layout_of c.args.board.now.board_shape in let v : View = c.args.seat.now.knows in
     let w : View = c.load_all-given.new.seat.knows in
     let r = c.requires in
     let t = begun p v c.args.pool c.args.free.now c.args.links.now w r.plain r.phase r.links r.stock c.load_all-given.ensures.ends in
@@ -44,7 +44,7 @@ emit-requires-clause-phase c = let p = lay c.args.board.now.plot in let v : View
     turn.may_fill u
 
 pub emit-requires-clause-free : goal.emit-requires-clause-free
-emit-requires-clause-free c = let p = lay c.args.board.now.plot in let v : View = c.args.seat.now.knows in
+emit-requires-clause-free c = let p = layout_of c.args.board.now.board_shape in let v : View = c.args.seat.now.knows in
     let w : View = c.load_all-given.new.seat.knows in
     let r = c.requires in
     let t = begun p v c.args.pool c.args.free.now c.args.links.now w r.plain r.phase r.links r.stock c.load_all-given.ensures.ends in
@@ -53,7 +53,7 @@ emit-requires-clause-free c = let p = lay c.args.board.now.plot in let v : View 
     turn.all_back u
 
 pub emit-requires-clause-inside : goal.emit-requires-clause-inside
-emit-requires-clause-inside c = let p = lay c.args.board.now.plot in let v : View = c.args.seat.now.knows in
+emit-requires-clause-inside c = let p = layout_of c.args.board.now.board_shape in let v : View = c.args.seat.now.knows in
     let w : View = c.load_all-given.new.seat.knows in
     let r = c.requires in
     let t = begun p v c.args.pool c.args.free.now c.args.links.now w r.plain r.phase r.links r.stock c.load_all-given.ensures.ends in
@@ -62,11 +62,11 @@ emit-requires-clause-inside c = let p = lay c.args.board.now.plot in let v : Vie
     (turn.others u).inside
 
 pub publish_all-requires-clause-once : goal.publish_all-requires-clause-once
-publish_all-requires-clause-once c = let p = lay c.args.board.now.plot in let r = c.requires in
+publish_all-requires-clause-once c = let p = layout_of c.args.board.now.board_shape in let r = c.requires in
     subst (AllPairs (λ k l. k ≢ l)) (sym r.links) (once p r.plain c.args.pool r.phase.has.0)
 
 pub publish_all-requires-clause-phase : goal.publish_all-requires-clause-phase
-publish_all-requires-clause-phase c = let p = lay c.args.board.now.plot in let v : View = c.args.seat.now.knows in
+publish_all-requires-clause-phase c = let p = layout_of c.args.board.now.board_shape in let v : View = c.args.seat.now.knows in
     let w : View = c.load_all-given.new.seat.knows in let r = c.requires in
     let t = begun p v c.args.pool c.args.free.now c.args.links.now w r.plain r.phase r.links r.stock c.load_all-given.ensures.ends in
     let o = c.obtain-reclaimed in let e = o.ensures in
@@ -75,7 +75,7 @@ publish_all-requires-clause-phase c = let p = lay c.args.board.now.plot in let v
     subst (All (Publishes p y)) (sym r.links) (turn.may_publish_all d)
 
 pub returns-clause-knows : goal.returns-clause-knows
-returns-clause-knows c = let p = lay c.args.board.now.plot in let v : View = c.args.seat.now.knows in
+returns-clause-knows c = let p = layout_of c.args.board.now.board_shape in let v : View = c.args.seat.now.knows in
     let w : View = c.load_all-given.new.seat.knows in
     let r = c.requires in
     let t = begun p v c.args.pool c.args.free.now c.args.links.now w r.plain r.phase r.links r.stock c.load_all-given.ensures.ends in
@@ -87,7 +87,7 @@ returns-clause-knows c = let p = lay c.args.board.now.plot in let v : View = c.a
     turn.has_written d z ends
 
 pub returns-clause-stock : goal.returns-clause-stock
-returns-clause-stock c = let p = lay c.args.board.now.plot in let v : View = c.args.seat.now.knows in
+returns-clause-stock c = let p = layout_of c.args.board.now.board_shape in let v : View = c.args.seat.now.knows in
     let w : View = c.load_all-given.new.seat.knows in
     let r = c.requires in
     let t = begun p v c.args.pool c.args.free.now c.args.links.now w r.plain r.phase r.links r.stock c.load_all-given.ensures.ends in
@@ -99,7 +99,7 @@ returns-clause-stock c = let p = lay c.args.board.now.plot in let v : View = c.a
     turn.new_stock d z ends
 
 pub returns-clause-answer : goal.returns-clause-answer
-returns-clause-answer c = let p = lay c.args.board.now.plot in let v : View = c.args.seat.now.knows in
+returns-clause-answer c = let p = layout_of c.args.board.now.board_shape in let v : View = c.args.seat.now.knows in
     let w : View = c.load_all-given.new.seat.knows in
     let r = c.requires in
     let t = begun p v c.args.pool c.args.free.now c.args.links.now w r.plain r.phase r.links r.stock c.load_all-given.ensures.ends in

@@ -9,5 +9,5 @@ use Rattle.board_rule.proofs.layout.push_pool.Goals as goal
 pub returns : goal.returns
 returns c = let port = c.args.pool.now.port in let links = c.args.shape.now.links in
     subst (λ (n : ℕ). OnOk c.push_zeros.result (c.push_zeros.new.words ≡ c.args.words.now ++ n ∷ replicate (pool_words c.args.pool.now - 1) 0))
-    (c.late_readers.ensures ∙ ap (λ (xs : List ShapeLink). count_by (λ l. l.delayed && is_port l.from port) xs) c.as_slice.ensures
+    (c.delayed_readers.ensures ∙ ap (λ (xs : List ShapeLink). count_by (λ l. l.delayed && is_port l.from port) xs) c.as_slice.ensures
     ∙ sym (counted_both (λ (l : ShapeLink). l.delayed) (λ l. is_port l.from port) links)) c.push_zeros.ensures

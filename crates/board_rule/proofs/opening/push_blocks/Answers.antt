@@ -9,12 +9,12 @@ use Rattle.board_rule.proofs.LayoutLemmas.{counted_both, any_counted}
 use Rattle.std.proofs.lemmas.List.{append_assoc}
 use Rattle.board_rule.proofs.opening.push_blocks.Goals as goal
 
-pub returns-then-late_readers-eq0 : goal.returns-then-late_readers-eq0
-returns-then-late_readers-eq0 c = let x = c.args.pool.now in let shape = c.args.shape.now in
-    let count : c.late_readers.result ≡ count_by (λ (l : ShapeLink). l.delayed) (links_from shape x.port) = c.late_readers.ensures
+pub returns-then-delayed_readers-eq0 : goal.returns-then-delayed_readers-eq0
+returns-then-delayed_readers-eq0 c = let x = c.args.pool.now in let shape = c.args.shape.now in
+    let count : c.delayed_readers.result ≡ count_by (λ (l : ShapeLink). l.delayed) (links_from shape x.port) = c.delayed_readers.ensures
     ∙ ap (λ (xs : List ShapeLink). count_by (λ l. l.delayed && is_port l.from x.port) xs) c.as_slice.ensures
     ∙ sym (counted_both (λ (l : ShapeLink). l.delayed) (λ l. is_port l.from x.port) shape.links) in
-    let none : count_by (λ (l : ShapeLink). l.delayed) (links_from shape x.port) ≡ 0 = (let z = c.if-late_readers-eq0.true in omega arith) in
+    let none : count_by (λ (l : ShapeLink). l.delayed) (links_from shape x.port) ≡ 0 = (let z = c.if-delayed_readers-eq0.true in omega arith) in
     let late : list_any (λ (l : ShapeLink). l.delayed) (links_from shape x.port) ≡ false =
     (any_counted (λ (l : ShapeLink). l.delayed) (links_from shape x.port)).0 none in
     subst (λ (b : Bool). OnOk c.extend_filled.result (c.extend_filled.new.self ≡ c.args.blocks.now
@@ -22,10 +22,10 @@ returns-then-late_readers-eq0 c = let x = c.args.pool.now in let shape = c.args.
 
 pub returns : goal.returns
 returns c = let x = c.args.pool.now in let shape = c.args.shape.now in
-    let count : c.late_readers.result ≡ count_by (λ (l : ShapeLink). l.delayed) (links_from shape x.port) = c.late_readers.ensures
+    let count : c.delayed_readers.result ≡ count_by (λ (l : ShapeLink). l.delayed) (links_from shape x.port) = c.delayed_readers.ensures
     ∙ ap (λ (xs : List ShapeLink). count_by (λ l. l.delayed && is_port l.from x.port) xs) c.as_slice.ensures
     ∙ sym (counted_both (λ (l : ShapeLink). l.delayed) (λ l. is_port l.from x.port) shape.links) in
-    let some : 0 < count_by (λ (l : ShapeLink). l.delayed) (links_from shape x.port) = (let z = c.if-late_readers-eq0.false in omega arith) in
+    let some : 0 < count_by (λ (l : ShapeLink). l.delayed) (links_from shape x.port) = (let z = c.if-delayed_readers-eq0.false in omega arith) in
     let late : list_any (λ (l : ShapeLink). l.delayed) (links_from shape x.port) ≡ true =
     (any_counted (λ (l : ShapeLink). l.delayed) (links_from shape x.port)).1 some in
     let free : List BlockView = replicate (x.blocks - 1) Free in

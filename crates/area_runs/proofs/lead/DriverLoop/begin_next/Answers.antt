@@ -1,15 +1,15 @@
 use Rattle.std.proofs.Common.{◌≡◌, ◌≢◌, ◌+◌, ◌∙◌, ap, subst, sym, arith, rules}
 use Rattle.board_rule.specs.declared.view.View.{View}
-use Rattle.board_rule.specs.Layout.{lay, first}
+use Rattle.board_rule.specs.Layout.{layout_of, first}
 use Rattle.board_rule.specs.View.{Samples}
 use Rattle.area_runs.specs.Steady.{IsSteady}
 use Rattle.area_runs.proofs.LeadLemmas.{lead_moves, may_begin, begun_waits}
-use Rattle.area_runs.proofs.lead.Lead.begin_next.Goals as goal
+use Rattle.area_runs.proofs.lead.DriverLoop.begin_next.Goals as goal
 
 pub returns-clause-ready : goal.returns-clause-ready
-returns-clause-ready c = let p = lay c.args.board.now.plot in let r = c.requires.ready in let o = r.0 in let e = c.begin.ensures.knows in
+returns-clause-ready c = let p = layout_of c.args.board.now.board_shape in let r = c.requires.ready in let o = r.0 in let e = c.begin.ensures.knows in
     let v : View = c.args.self.now.seat.knows in let w : View = c.begin.new.seat.knows in
-    let some_left : c.ended.result ≢ c.args.board.now.plot.shape.cycles = search rules in
+    let some_left : c.ended.result ≢ c.args.board.now.board_shape.shape.cycles = search rules in
     let now : first p + c.ended.result ≡ v.lead.cycle = c.ended.ensures in (
       record {
         table = c.begin.ensures.table ∙ o.table;

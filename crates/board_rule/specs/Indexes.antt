@@ -1,4 +1,4 @@
--- The nodes of a shape by their places, and how many words a board has.
+-- The nodes of a shape by their indexes, and how many words a board has.
 -- Source: PipeWire's documentation, "Graph Scheduling" (required, target list); the words are this project's.
 use Rattle.std.specs.Prelude.{ℕ, ◌==◌, List, map, length}
 use Rattle.std.specs.List.{position_or_len}
@@ -6,13 +6,13 @@ use Rattle.pw_base.specs.declared.shape.Shape.{Shape}
 use Rattle.pw_base.specs.Dependencies.{nodes_of}
 use Rattle.pw_base.specs.Layout.{start_words}
 
--- the place of a node; the number of nodes, where it is none
-abbrev pub place_in : Shape → ℕ → ℕ
-place_in shape n = position_or_len (λ k. k == n) (nodes_of shape)
+-- the index of a node; the number of nodes, where it is none
+abbrev pub index_in : Shape → ℕ → ℕ
+index_in shape n = position_or_len (λ k. k == n) (nodes_of shape)
 
--- the targets of each node, by places
+-- the targets of each node, by indexes
 abbrev pub target_rows : Shape → List (List ℕ)
-target_rows shape = map (λ n. map (place_in shape) n.targets) shape.nodes
+target_rows shape = map (λ n. map (index_in shape) n.targets) shape.nodes
 
 -- the required count of each node
 abbrev pub required_row : Shape → List ℕ

@@ -1,13 +1,13 @@
 use Rattle.std.proofs.Common.{◌∙◌, ap, subst, sym}
 use Rattle.board_rule.specs.declared.view.View.{View}
-use Rattle.board_rule.specs.Layout.{lay}
+use Rattle.board_rule.specs.Layout.{layout_of}
 use Rattle.board_rule.specs.View.{Samples}
 use Rattle.area_runs.specs.Steady.{IsSteady}
 use Rattle.area_runs.proofs.LeadLemmas.{lead_moves, checked_waits}
-use Rattle.area_runs.proofs.lead.Lead.check.Goals as goal
+use Rattle.area_runs.proofs.lead.DriverLoop.check.Goals as goal
 
 pub returns-clause-ready : goal.returns-clause-ready
-returns-clause-ready c = let p = lay c.args.board.now.plot in let r = c.requires.ready in let o = r.0 in
+returns-clause-ready c = let p = layout_of c.args.board.now.board_shape in let r = c.requires.ready in let o = r.0 in
     let e = c.check_late.ensures.knows in
     let v : View = c.args.self.now.seat.knows in let w : View = c.check_late.new.seat.knows in (
       record {

@@ -3,22 +3,22 @@
 use Rattle.std.specs.Prelude.{ℕ, ◌+◌, Bool, true, false, cond, eqb}
 use Rattle.pw_base.specs.declared.event.Event.{Event}
 use Rattle.pw_base.specs.declared.event.Event.TheVariants.{Begin, Start, Finish, Tick, End}
-use Rattle.board_rule.specs.declared.view.Drive.{Drive}
-use Rattle.board_rule.specs.declared.view.Drive.TheVariants as drives
-use Rattle.board_rule.specs.declared.view.LeadView.{LeadView}
-use Rattle.board_rule.specs.declared.lead.LeadProgress.{LeadProgress}
+use Rattle.board_rule.specs.declared.view.DriverPhase.{DriverPhase}
+use Rattle.board_rule.specs.declared.view.DriverPhase.TheVariants as drives
+use Rattle.board_rule.specs.declared.view.DriverView.{DriverView}
+use Rattle.board_rule.specs.declared.lead.DriverProgress.{DriverProgress}
 use Rattle.board_rule.specs.declared.lead.Due.{Due}
 use Rattle.board_rule.specs.declared.lead.Due.TheVariants as dues
 
--- how many nodes are reset, or targets taken down
-abbrev pub done_of : Drive → ℕ
+-- how many nodes are reset, or targets lowered
+abbrev pub done_of : DriverPhase → ℕ
 done_of (drives.Reset i) = i
 done_of (drives.Half i) = i
 done_of (drives.Kick i owes) = i
 done_of _ = 0
 
 -- the event whose ticket is drawn next, or held
-abbrev pub due_of : Drive → Due
+abbrev pub due_of : DriverPhase → Due
 due_of drives.Between = dues.Begin
 due_of drives.BeginDrawn = dues.Begin
 due_of drives.Awake = dues.Start
@@ -30,7 +30,7 @@ due_of drives.FinishStored = dues.End
 due_of drives.EndDrawn = dues.End
 due_of _ = dues.Tick
 
-abbrev pub lead_progress_of : LeadView → LeadProgress
+abbrev pub lead_progress_of : DriverView → DriverProgress
 lead_progress_of x = record {
   cycle = x.cycle;
   done = done_of x.drive;
@@ -40,7 +40,7 @@ lead_progress_of x = record {
   finish = x.finish;
 }
 
--- the first i of n targets are taken down, and the last of these may be owed; the first i of n nodes are reset
+-- the first i of n targets are lowered, and the last of these may be owed; the first i of n nodes are reset
 abbrev pub told_so_far : ℕ → ℕ → Bool → ℕ
 told_so_far n i owes = cond owes i (cond (eqb i n) 0 i)
 
@@ -48,12 +48,12 @@ abbrev pub reset_so_far : ℕ → ℕ → ℕ
 reset_so_far n i = cond (eqb i n) 0 i
 
 -- a ticket is drawn; the one that is held; its event; that event is stored
-abbrev pub lead_drawn : LeadProgress → Due → ℕ → LeadProgress
+abbrev pub lead_drawn : DriverProgress → Due → ℕ → DriverProgress
 lead_drawn x dues.Start ticket = record x { start = ticket }
 lead_drawn x dues.Finish ticket = record x { finish = ticket }
 lead_drawn x _ ticket = record x { ticket = ticket }
 
-abbrev pub due_ticket : LeadProgress → Due → ℕ
+abbrev pub due_ticket : DriverProgress → Due → ℕ
 due_ticket x dues.Start = x.start
 due_ticket x dues.Finish = x.finish
 due_ticket x _ = x.ticket
@@ -65,7 +65,7 @@ due_event dues.Start cycle node = Start cycle node
 due_event dues.Finish cycle node = Finish cycle node
 due_event dues.End cycle node = End cycle
 
-abbrev pub lead_stored : LeadProgress → Due → LeadProgress
+abbrev pub lead_stored : DriverProgress → Due → DriverProgress
 lead_stored x dues.Begin = record x { due = dues.Tick }
 lead_stored x dues.Tick = x
 lead_stored x dues.Start = record x { due = dues.Finish }

@@ -1,15 +1,15 @@
 use Rattle.std.proofs.Common.{◌∙◌, true, ap, subst, sym}
 use Rattle.board_rule.specs.declared.view.View.{View}
-use Rattle.board_rule.specs.Layout.{lay}
+use Rattle.board_rule.specs.Layout.{layout_of}
 use Rattle.board_rule.specs.View.{Samples}
 use Rattle.board_rule.specs.Steps.{HasNode}
 use Rattle.activation_words.specs.Members.{IsWaiting}
 use Rattle.area_runs.specs.Steady.{IsSteady}
 use Rattle.area_runs.proofs.LeadLemmas.{lead_moves}
-use Rattle.area_runs.proofs.lead.Lead.try_node.Goals as goal
+use Rattle.area_runs.proofs.lead.DriverLoop.try_node.Goals as goal
 
 pub conclude-requires : goal.conclude-requires
-conclude-requires c = let p = lay c.args.board.now.plot in let e = c.in-Awake.ensures.claim.1 in let r = c.requires.ready in let o = r.0 in
+conclude-requires c = let p = layout_of c.args.board.now.board_shape in let e = c.in-Awake.ensures.claim.1 in let r = c.requires.ready in let o = r.0 in
     let v : View = c.args.self.now.seat.knows in let w : View = c.claim_driver.new.seat.knows in record {
       awake = (
         record {
@@ -26,7 +26,7 @@ conclude-requires c = let p = lay c.args.board.now.plot in let e = c.in-Awake.en
     }
 
 pub returns-in-NotYet-clause-ready : goal.returns-in-NotYet-clause-ready
-returns-in-NotYet-clause-ready c = let p = lay c.args.board.now.plot in let e = c.in-NotYet.ensures.claim.1 in let r = c.requires.ready in
+returns-in-NotYet-clause-ready c = let p = layout_of c.args.board.now.board_shape in let e = c.in-NotYet.ensures.claim.1 in let r = c.requires.ready in
     let o = r.0 in
     let v : View = c.args.self.now.seat.knows in let w : View = c.claim_driver.new.seat.knows in (
       record {

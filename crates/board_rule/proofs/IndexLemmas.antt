@@ -13,7 +13,7 @@ use Rattle.pw_base.specs.declared.pools.PoolShape.{PoolShape}
 use Rattle.pw_base.specs.Pools.{pools_of}
 use Rattle.pw_base.specs.Layout.{node_count, areas_of, area_count, event_count, pool_words, io_place, late_place, event_place, block_words}
 use Rattle.pw_base.specs.Layout.{readers_place, word_count}
-use Rattle.board_rule.specs.Areas.{late_by}
+use Rattle.board_rule.specs.Areas.{delay_by}
 
 takes_rise : {X : Type 0} (f : X → ℕ) (i n : ℕ) (xs : List X) → sum_by f (take i xs) ≤ sum_by f (take (i + n) xs)
 takes_rise f zero n xs = omega arith
@@ -28,29 +28,29 @@ module _ (shape : Shape) where
   pools = pools_of shape
 
   -- io areas: one a link, two a delayed one
-  areas_late : (k : ShapeLink) → areas_of k ≡ 1 + late_by k
+  areas_late : (k : ShapeLink) → areas_of k ≡ 1 + delay_by k
   areas_late k = by k.delayed
     where
       by : (b : Bool) → cond {A = ℕ} b 2 1 ≡ 1 + cond {A = ℕ} b 1 0
       by true = refl
       by false = refl
 
-  abbrev late_in : ℕ → ShapeLink → ℕ
-  late_in l d = late_by (get_or shape.links l d)
+  abbrev delay_in : ℕ → ShapeLink → ℕ
+  delay_in l d = delay_by (get_or shape.links l d)
 
-  pub io_in : (l a : ℕ) (d : ShapeLink) → l < length shape.links → a ≤ late_in l d → (2 * node_count shape < io_place shape l a)
+  pub io_in : (l a : ℕ) (d : ShapeLink) → l < length shape.links → a ≤ delay_in l d → (2 * node_count shape < io_place shape l a)
       × (io_place shape l a < late_place shape 0)
   io_in l a d lt h = let m = sum_by_more_le areas_of shape.links l d lt in let o = areas_late (get_or shape.links l d) in
       (omega arith, omega arith)
 
-  io_before : (l m a b : ℕ) (d : ShapeLink) → l < length shape.links → l < m → a ≤ late_in l d → io_place shape l a < io_place shape m b
+  io_before : (l m a b : ℕ) (d : ShapeLink) → l < length shape.links → l < m → a ≤ delay_in l d → io_place shape l a < io_place shape m b
   io_before l m a b d lt less h = let s = sum_by_more areas_of shape.links l d lt in let o = areas_late (get_or shape.links l d) in
       let e : (l + 1) + (m - (l + 1)) ≡ m = omega arith in
       let r : area_count (take (l + 1) shape.links) ≤ area_count (take m shape.links) =
       subst (λ k. area_count (take (l + 1) shape.links) ≤ area_count (take k shape.links)) e
       (takes_rise areas_of (l + 1) (m - (l + 1)) shape.links) in omega arith
 
-  pub io_apart : (l m a b : ℕ) (d : ShapeLink) → l < length shape.links → m < length shape.links → a ≤ late_in l d → b ≤ late_in m d
+  pub io_apart : (l m a b : ℕ) (d : ShapeLink) → l < length shape.links → m < length shape.links → a ≤ delay_in l d → b ≤ delay_in m d
       → l ≢ m → io_place shape l a ≢ io_place shape m b
   io_apart l m a b d hl hm ha hb o e = dite (dec_le l m) (λ le. let z = io_before l m a b d hl (omega arith) ha in omega arith)
       (λ gt. let z = io_before m l b a d hm (omega arith) hb in omega arith)
