@@ -68,7 +68,10 @@ fn open_three(
 }
 
 // A row, whose nodes 0 and 2 have one loop, and node 1 another.
-fn open_row(alloc: Global, cycles: u32) -> Result<Option<(Board, DriverLoop, (Worker, Worker))>, Memory>
+fn open_row(
+    alloc: Global,
+    cycles: u32,
+) -> Result<Option<(Board, DriverLoop, (Worker, Worker))>, Memory>
     ensures shape { IfOk result (λ o. IfSome o (λ t. t.0.board_shape.shape ≡ row cycles)) }
     ensures lead { IfOk result (λ o. IfSome o (λ t. IsLeadReadyOn t.0 t.1 false)) }
     ensures first { IfOk result (λ o. IfSome o (λ t. IsReadyOn t.0 t.2.0)) }
@@ -312,7 +315,12 @@ fn a_row_wakes_node_by_node(rt: HostRuntime) -> Result<(), Fail> {
 
 // One cycle of a row by one thread, the lowest node that can run first, with a look after node 1. What it found, where
 // the cycle ended.
-fn one_cycle(board: &Board, lead: &mut DriverLoop, ends: &mut Worker, split: &mut Worker) -> Option<u64>
+fn one_cycle(
+    board: &Board,
+    lead: &mut DriverLoop,
+    ends: &mut Worker,
+    split: &mut Worker,
+) -> Option<u64>
     requires lead { IsLeadReadyOn board.now lead.old false }
     requires ends { IsReadyOn board.now ends.old }
     requires split { IsReadyOn board.now split.old }

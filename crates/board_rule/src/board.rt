@@ -179,7 +179,10 @@ impl Board {
         ensures there { result < self.now.table.shared.table_id.words }
         ensures later { nodes (layout_of self.now.board_shape) + nodes (layout_of self.now.board_shape) < result }
     {
-        1 + 2 * self.nodes() + self.areas() + self.board_shape.shape.cycles as usize + ticket as usize
+        1 + 2 * self.nodes()
+            + self.areas()
+            + self.board_shape.shape.cycles as usize
+            + ticket as usize
     }
 }
 

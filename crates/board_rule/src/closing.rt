@@ -107,6 +107,10 @@ impl Board {
         let words = table.close_with(token);
         let events = history(&words, lates, events, board_shape.shape.first, spare);
         words.free();
-        Closed { board_shape, events, kept }
+        Closed {
+            board_shape,
+            events,
+            kept,
+        }
     }
 }

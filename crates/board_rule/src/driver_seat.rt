@@ -7,7 +7,7 @@ ghost use Rattle.board_rule.specs.EventSteps.{Looks, looked, StoresLate, late_st
 
 use crate::board::Board;
 use crate::lead::{
-    Due, DriverProgress, lead_draw, lead_event, lead_store, lead_ticket, reset_so_far, told_so_far,
+    DriverProgress, Due, lead_draw, lead_event, lead_store, lead_ticket, reset_so_far, told_so_far,
     woke_at_draw,
 };
 use crate::progress::wake;

@@ -72,7 +72,11 @@ fn push_zeros(words: &mut Items<u64>, pool: &PoolShape, readers: u64) -> Result<
 fn push_pool(words: &mut Items<u64>, shape: &Shape, pool: &PoolShape) -> Result<(), Memory>
     ensures { OnOk result (words.new ≡ words.old ++ pool_start shape.now pool.now) }
 {
-    push_zeros(words, pool, delayed_readers(shape.links.as_slice(), pool.port))
+    push_zeros(
+        words,
+        pool,
+        delayed_readers(shape.links.as_slice(), pool.port),
+    )
 }
 
 // The words of all pools.

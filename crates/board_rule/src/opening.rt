@@ -10,13 +10,13 @@ ghost use Rattle.board_rule.specs.SampleWords.{IsTable};
 ghost use Rattle.board_rule.specs.View.{Samples, first_view, driver_view, loop_view, split_off, blocks_at_first, first_blocks, idle, unread, first_write};
 
 use crate::board::Board;
+use crate::board_shape::BoardShape;
 use crate::copying::copy_shape;
 use crate::driver_seat::DriverSeat;
 use crate::expect::Expect;
 use crate::layout::{delayed_readers, start_words};
-use crate::lead::{Due, DriverProgress};
+use crate::lead::{DriverProgress, Due};
 use crate::loop_seat::LoopSeat;
-use crate::board_shape::BoardShape;
 use crate::progress::NodeProgress;
 use crate::rows::rows_of;
 use crate::rule::{BoardTable, BoardToken};
@@ -218,7 +218,12 @@ impl DriverSeat {
 }
 
 // A shape and its seats, in memory of their own.
-fn board_shape_of(alloc: Global, shape: &Shape, seat_of: &Items<u32>, seats: u32) -> Result<BoardShape, Memory>
+fn board_shape_of(
+    alloc: Global,
+    shape: &Shape,
+    seat_of: &Items<u32>,
+    seats: u32,
+) -> Result<BoardShape, Memory>
     ensures { IfOk result (λ board_shape. board_shape ≡ record { shape = shape.now; seat_of = seat_of.now; seats = seats }) }
 {
     Ok(BoardShape {
