@@ -1,19 +1,19 @@
 //! The free blocks of a pool at the start of an epoch.
 ghost use Rattle.std.specs.Prelude.{◌≡◌, ◌≤◌, ◌&&◌, IfOk};
 ghost use Rattle.std.specs.List.{list_any};
-ghost use Rattle.pw_base.specs.Pools.{is_port};
+ghost use Rattle.pw_base.specs.Pools.{is_same_port};
 ghost use Rattle.board_rule.specs.View.{is_delayed};
 ghost use Rattle.io_areas.specs.FreeBlocks.{free_at_start};
 
 use buffer_pool::Pool;
-use pw_base::{Memory, PoolShape, PortId, Shape, ShapeLink, is_port};
+use pw_base::{Memory, PoolShape, PortId, Shape, ShapeLink, is_same_port};
 use std::alloc::Global;
 
 // Whether one of the links goes from the port and is delayed.
 fn has_delayed(links: &[ShapeLink], port: PortId) -> bool
-    ensures { result ≡ list_any (λ l. is_port l.from port && l.delayed) links.now }
+    ensures { result ≡ list_any (λ l. is_same_port l.from port && l.delayed) links.now }
 {
-    links.iter().any(|l| is_port(l.from, port) && l.delayed)
+    links.iter().any(|l| is_same_port(l.from, port) && l.delayed)
 }
 
 // Whether a link of the pool is delayed.
