@@ -2,13 +2,13 @@
 use Rattle.std.proofs.Common.{◌≡◌, ◌≢◌, ℕ, ◌+◌, ◌<◌, Bool, true, false, true≢false, cond, List, [], ◌∷◌, map, take, reverse}
 use Rattle.std.proofs.Common.{length, refl, sym, ap, ◌∙◌, subst, arith, eq-eqb, ne_eqb}
 use Rattle.board_rule.specs.declared.view.Phase.TheVariants.{Idle, Awake, StartDrawn, Done, FinishDrawn, Telling}
-use Rattle.board_rule.specs.declared.view.Drive.TheVariants as drives
+use Rattle.board_rule.specs.declared.view.DriverPhase.TheVariants as drives
 use Rattle.board_rule.specs.declared.view.NodeView.{NodeView}
 use Rattle.board_rule.specs.declared.view.Trail.{Trail}
 use Rattle.board_rule.specs.declared.view.View.{View}
 use Rattle.pw_base.specs.Layout.{event_count}
-use Rattle.board_rule.specs.declared.plot.Plot.{Plot}
-use Rattle.board_rule.specs.Layout.{Lay, lay, IsSound, nodes}
+use Rattle.board_rule.specs.declared.board_shape.BoardShape.{BoardShape}
+use Rattle.board_rule.specs.Layout.{BoardLayout, layout_of, IsSound, nodes}
 use Rattle.board_rule.specs.View.{node_of, view_node, view_lead}
 use Rattle.board_rule.specs.Steps.{HasNode, finished, settled, untold, driven, StoresPending, reset_to}
 use Rattle.board_rule.specs.EventSteps.{Draws, draws, CanDraw, CanDrawLead, StoresEvent, event_stored, CanStore, held, stored_phase}
@@ -23,7 +23,7 @@ all_of : (ts : List ℕ) → take (length ts) ts ≡ ts
 all_of [] = refl
 all_of (k ∷ ks) = ap (λ l. k ∷ l) (all_of ks)
 
-module _ (p : Lay) (v : View) (m : ℕ) where
+module _ (p : BoardLayout) (v : View) (m : ℕ) where
   abbrev x : NodeView
   x = node_of v m
 
@@ -117,7 +117,7 @@ module _ (p : Lay) (v : View) (m : ℕ) where
       }
 
 -- the driver's seat begins a cycle
-module _ (p : Lay) (v : View) where
+module _ (p : BoardLayout) (v : View) where
   pub begin_draws : HasNode true p v p.driver → v.lead.drive ≡ drives.Between → Draws true p v p.driver
   begin_draws has between = (has, subst (CanDrawLead v.lead.checked) (sym between) tt)
 
@@ -158,7 +158,7 @@ module _ (p : Lay) (v : View) where
   pub reset_end : (w : View) → w ≡ driven v (reset_to (nodes p) (nodes p)) v.trail → w ≡ all_reset v
   reset_end w is = is ∙ ap (λ b. driven v (cond b (drives.Kick 0 false) (drives.Reset (nodes p))) v.trail) (eq-eqb (nodes p) (nodes p) refl)
 
-  -- all targets are taken down
+  -- all targets are lowered
   pub begun : (t : ℕ) (w : View) → t < event_count p.shape → HasTold true p (all_reset (begin_stored v t)) p.driver w → HasBegun p v w
   begun t w low r = record {
     ticket = t;
@@ -167,14 +167,14 @@ module _ (p : Lay) (v : View) where
     is = r.is ∙ ap (λ d. driven (all_reset (begin_stored v t)) d (record v.trail { told = w.trail.told })) (all_kicked p v p.driver);
   }
 
--- a follower has another place than the driver
-pub other_place : (plot : Plot) (n : ℕ) → IsSound (lay plot) → (lay plot).place n < nodes (lay plot) → n ≢ plot.shape.driver
-    → (lay plot).place n ≢ (lay plot).driver
-other_place plot n sound inside other e = let p = lay plot in
-    other (sym (sound.known n inside) ∙ ap p.number e ∙ sound.known plot.shape.driver sound.driver_in)
+-- a follower has another index than the driver
+pub other_place : (board_shape : BoardShape) (n : ℕ) → IsSound (layout_of board_shape) → (layout_of board_shape).index n < nodes (layout_of board_shape) → n ≢ board_shape.shape.driver
+    → (layout_of board_shape).index n ≢ (layout_of board_shape).driver
+other_place board_shape n sound inside other e = let p = layout_of board_shape in
+    other (sym (sound.known n inside) ∙ ap p.number e ∙ sound.known board_shape.shape.driver sound.driver_in)
 
 -- the driver's node is done with its work
-pub driver_finish : (p : Lay) (v : View) (m t : ℕ) (b : Bool) (w : View) → b ≡ true → t < event_count p.shape → w ≡ worked b v m t
+pub driver_finish : (p : BoardLayout) (v : View) (m t : ℕ) (b : Bool) (w : View) → b ≡ true → t < event_count p.shape → w ≡ worked b v m t
     → HasFinished b p v m w
 driver_finish p v m t true w e low is = (t, low, is)
 driver_finish p v m t false w e low is = absurd (true≢false (sym e))

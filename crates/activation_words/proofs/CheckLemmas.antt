@@ -4,12 +4,12 @@ use Rattle.std.proofs.Common.{ap, ◌∙◌, subst, arith, eq-eqb, ne_eqb}
 use Rattle.std.specs.Prelude.{Contains}
 use mathlib.Core.Logic.{dite}
 use native.Mathlib.Decide.{ℕ_discrete}
-use Rattle.board_rule.specs.declared.view.Drive.TheVariants as drives
+use Rattle.board_rule.specs.declared.view.DriverPhase.TheVariants as drives
 use Rattle.board_rule.specs.declared.view.Found.{Found}
 use Rattle.board_rule.specs.declared.view.View.{View}
 use Rattle.pw_base.specs.Words.{finished_word}
 use Rattle.pw_base.specs.Layout.{event_count}
-use Rattle.board_rule.specs.Layout.{Lay, IsSound, nodes}
+use Rattle.board_rule.specs.Layout.{BoardLayout, IsSound, nodes}
 use Rattle.board_rule.specs.View.{view_trail, view_lead}
 use Rattle.board_rule.specs.Bits.{with_bit}
 use Rattle.board_rule.specs.Steps.{HasNode}
@@ -28,17 +28,17 @@ cases : (x : ℕ) (xs : List ℕ) (y : ℕ) → Contains (x ∷ xs) y → (x ≡
 cases x xs y (zero, h, e) o = absurd (o e)
 cases x xs y (suc k, h, e) o = (k, omega arith, e)
 
-module _ (p : Lay) (sound : IsSound p) where
-  -- the followers among the first places have their places there
-  pub placed : (k n : ℕ) → k ≤ nodes p → Contains (followers p k) n → p.place n < k
+module _ (p : BoardLayout) (sound : IsSound p) where
+  -- the followers among the first indexes have their indexes there
+  pub placed : (k n : ℕ) → k ≤ nodes p → Contains (followers p k) n → p.index n < k
   placed zero n h c = absurd (let l = c.1 in omega arith)
   placed (suc k) n h c = by (eqb k p.driver) c (λ d. placed k n (omega arith) d)
     where
-      by : (b : Bool) → Contains (cond b (followers p k) (p.number k ∷ followers p k)) n → (Contains (followers p k) n → p.place n < k)
-          → p.place n < suc k
+      by : (b : Bool) → Contains (cond b (followers p k) (p.number k ∷ followers p k)) n → (Contains (followers p k) n → p.index n < k)
+          → p.index n < suc k
       by true d less = let l = less d in omega arith
       by false d less = dite (ℕ_discrete (p.number k) n)
-          (λ (q : p.number k ≡ n). let e : p.place n ≡ k = ap p.place (sym q) ∙ sound.at k (omega arith) in omega arith)
+          (λ (q : p.number k ≡ n). let e : p.index n ≡ k = ap p.index (sym q) ∙ sound.at k (omega arith) in omega arith)
           (λ q. let l = less (cases (p.number k) (followers p k) n d q) in omega arith)
 
   pub not_yet : (k : ℕ) → k < nodes p → Contains (followers p k) (p.number k) → ⊥

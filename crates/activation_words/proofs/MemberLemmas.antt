@@ -9,7 +9,7 @@ use Rattle.board_rule.specs.declared.view.Phase.TheVariants.{Idle, Awake, Runnin
 use Rattle.board_rule.specs.declared.view.NodeView.{NodeView}
 use Rattle.board_rule.specs.declared.view.Trail.{Trail}
 use Rattle.board_rule.specs.declared.view.View.{View}
-use Rattle.board_rule.specs.Layout.{Lay, IsSound, nodes, first, last}
+use Rattle.board_rule.specs.Layout.{BoardLayout, IsSound, nodes, first, last}
 use Rattle.board_rule.specs.View.{Samples, idle, node_of, view_node, loop_view, driver_view}
 use Rattle.board_rule.specs.Steps.{HasNode, Claims, woken, tried, IsReadyToFinish}
 use Rattle.board_rule.proofs.StartLemmas.{all_same}
@@ -17,7 +17,7 @@ use Rattle.activation_words.specs.Calls.{IsAwake, HasStarted, HasRested}
 use Rattle.activation_words.specs.Members.{IsResting, IsBetween}
 use Rattle.activation_words.proofs.ViewLemmas.{again, has_again}
 
-module _ (p : Lay) where
+module _ (p : BoardLayout) where
   pub new_rests : (e : Samples) (k m : ℕ) → m < nodes p → m ≢ p.driver → p.seat_of m ≡ k → k < p.seats → IsResting p (loop_view p e k) m
   new_rests e k m inside follows owned low =
       let at : node_of (loop_view p e k) m ≡ idle (first p) = get_or-replicate (nodes p) m (idle (first p)) (idle 0) inside in record {

@@ -1,30 +1,30 @@
--- What a seat knows while its node takes its targets down.
+-- What a seat knows while its node lowers its targets.
 use Rattle.std.proofs.Common.{◌≡◌, ◌≢◌, ℕ, ◌+◌, ◌<◌, Bool, true, false, cond, List, [], ◌∷◌, map, take, reverse, length, get_or}
 use Rattle.std.proofs.Common.{refl, sym, ap, ◌∙◌, subst, arith, eq-eqb, ne_eqb}
 use Rattle.std.proofs.lemmas.List.{take_more, map-append, reverse-append}
 use Rattle.board_rule.specs.declared.view.Phase.TheVariants.{Idle, Telling}
-use Rattle.board_rule.specs.declared.view.Drive.TheVariants as drives
+use Rattle.board_rule.specs.declared.view.DriverPhase.TheVariants as drives
 use Rattle.board_rule.specs.declared.view.NodeView.{NodeView}
 use Rattle.board_rule.specs.declared.view.Found.{Found}
 use Rattle.board_rule.specs.declared.view.Trail.{Trail}
 use Rattle.board_rule.specs.declared.view.View.{View}
-use Rattle.board_rule.specs.Layout.{Lay}
+use Rattle.board_rule.specs.Layout.{BoardLayout}
 use Rattle.board_rule.specs.View.{node_of, view_node}
 use Rattle.board_rule.specs.Steps.{HasNode, Lowers, lowered, Triggers, triggered, CanTell, CanKick, Indebted, settles, settled, kicked}
-use Rattle.board_rule.specs.Steps.{taken, taken_of, told_of, told_trail, target_of}
+use Rattle.board_rule.specs.Steps.{taken, taken_of, lowered_of, told_trail, target_of}
 use Rattle.board_rule.proofs.PhaseLemmas.{can_tell}
 use Rattle.board_rule.proofs.DriverLemmas.{can_kick}
 use Rattle.activation_words.specs.Told.{IsTelling}
 use Rattle.activation_words.proofs.ViewLemmas.{again, twice, has_again}
 
--- the newest is the last of those that are taken down
+-- the newest is the last of those that are lowered
 pub newest : (f : ℕ → ℕ) (ts : List ℕ) (i : ℕ) → i < length ts
     → f (get_or ts i 0) ∷ reverse (map f (take i ts)) ≡ reverse (map f (take (i + 1) ts))
 newest f ts i h = sym (ap (λ l. reverse (map f l)) (take_more ts i 0 h)
     ∙ ap (λ (l : List ℕ). reverse l) (map-append f (take i ts) (get_or ts i 0 ∷ []))
     ∙ reverse-append (map f (take i ts)) (f (get_or ts i 0) ∷ []))
 
-module _ (p : Lay) (v : View) (m : ℕ) where
+module _ (p : BoardLayout) (v : View) (m : ℕ) where
   abbrev n : ℕ
   n = length (p.targets m)
 
@@ -38,7 +38,7 @@ module _ (p : Lay) (v : View) (m : ℕ) where
   kicking : (i : ℕ) → i < n → kicked n i false ≡ drives.Kick i false
   kicking i h = ap (λ b. cond b drives.Waiting (drives.Kick i false)) (ne_eqb i n (λ e. omega arith))
 
-  -- while a target is left, the node can take it down
+  -- while a target is left, the node can lower it
   pub lowers_at : (b : Bool) (i : ℕ) (t : Trail) → i < n → HasNode b p v m → Lowers b p (settles b p v m i false t) m
   lowers_at true i t h has = (has, subst (CanKick n) (sym (kicking i h)) h)
   lowers_at false i t h has = let y : NodeView = settled n x i false in let e = going i h in (
@@ -48,9 +48,9 @@ module _ (p : Lay) (v : View) (m : ℕ) where
 
   pub taken_at : (b : Bool) (i : ℕ) (t : Trail) → i < n → HasNode b p v m → taken b (settles b p v m i false t) m ≡ i
   taken_at true i t h has = ap taken_of (kicking i h)
-  taken_at false i t h has = ap (λ (z : NodeView). told_of z.phase) (again p v m (settled n x i false) t has.0.there ∙ going i h)
+  taken_at false i t h has = ap (λ (z : NodeView). lowered_of z.phase) (again p v m (settled n x i false) t has.0.there ∙ going i h)
 
-  -- the next target is taken down
+  -- the next target is lowered
   pub settles_next : (b : Bool) (i : ℕ) (t s : Trail) → i < n → HasNode b p v m
       → settles b p (settles b p v m i false t) m (i + 1) false s ≡ settles b p v m (i + 1) false s
   settles_next true i t s h has = refl
@@ -71,7 +71,7 @@ module _ (p : Lay) (v : View) (m : ℕ) where
   triggers_owed : (b : Bool) (t : Trail) → Lowers b p v m → Triggers b p (settles b p v m (taken b v m + 1) true t) m
   triggers_owed true t h = let can = can_kick n v.lead.drive h.1 in let near = can.1 in (h.0, (omega arith, omega arith))
   triggers_owed false t h = let can = can_tell n x.phase h.1 in let near = can.1 in
-      let y : NodeView = record x { phase = Telling (told_of x.phase + 1) true } in (
+      let y : NodeView = record x { phase = Telling (lowered_of x.phase + 1) true } in (
         has_again p v m y t h.0 refl,
         subst (λ (z : NodeView). Indebted n z.phase) (sym (again p v m y t h.0.0.there))
             (omega arith, omega arith),
@@ -80,9 +80,9 @@ module _ (p : Lay) (v : View) (m : ℕ) where
   triggered_owed : (b : Bool) (t : Trail) → Lowers b p v m
       → triggered b p (settles b p v m (taken b v m + 1) true t) m ≡ settles b p v m (taken b v m + 1) false t
   triggered_owed true t h = refl
-  triggered_owed false t h = let y : NodeView = record x { phase = Telling (told_of x.phase + 1) true } in
-      ap (λ (z : NodeView). view_node (view_node v m y t) m (settled n z (told_of z.phase) false) t) (again p v m y t h.0.0.there)
-      ∙ twice p v m y (settled n x (told_of x.phase + 1) false) t t
+  triggered_owed false t h = let y : NodeView = record x { phase = Telling (lowered_of x.phase + 1) true } in
+      ap (λ (z : NodeView). view_node (view_node v m y t) m (settled n z (lowered_of z.phase) false) t) (again p v m y t h.0.0.there)
+      ∙ twice p v m y (settled n x (lowered_of x.phase + 1) false) t t
 
   pub triggers_after : (b : Bool) (found : ℕ) → found ≡ 1 → Lowers b p v m → Triggers b p (lowered b p v m found) m
   triggers_after b found e h = subst (λ (w : View). Triggers b p w m) (sym (owing b found e)) (triggers_owed b (after b found) h)
@@ -91,15 +91,15 @@ module _ (p : Lay) (v : View) (m : ℕ) where
       → triggered b p (lowered b p v m found) m ≡ settles b p v m (taken b v m + 1) false (after b found)
   triggered_after b found e h = ap (λ (w : View). triggered b p w m) (owing b found e) ∙ triggered_owed b (after b found) h
 
-  told_of_settles : (b : Bool) (i : ℕ) (o : Bool) (t : Trail) → (settles b p v m i o t).trail ≡ t
-  told_of_settles true i o t = refl
-  told_of_settles false i o t = refl
+  lowered_of_settles : (b : Bool) (i : ℕ) (o : Bool) (t : Trail) → (settles b p v m i o t).trail ≡ t
+  lowered_of_settles true i o t = refl
+  lowered_of_settles false i o t = refl
 
   trail_of_settles : (w : View) (b : Bool) (i : ℕ) (o : Bool) (t : Trail) → (settles b p w m i o t).trail ≡ t
   trail_of_settles w true i o t = refl
   trail_of_settles w false i o t = refl
 
-  -- one more target of all is taken down
+  -- one more target of all is lowered
   pub telling_next : (b : Bool) (i found : ℕ) (w u : View) → i < n → HasNode b p v m → IsTelling b p v m i w
       → u ≡ settles b p w m (taken b w m + 1) false (told_trail w.trail (target_of b p w m) found) → IsTelling b p v m (i + 1) u
   telling_next b i found w u h has r is =
@@ -107,7 +107,7 @@ module _ (p : Lay) (v : View) (m : ℕ) where
       let k : taken b w m ≡ i = ap (λ (z : View). taken b z m) r.is ∙ taken_at b i t h has in
       let s : Trail = told_trail w.trail (target_of b p w m) found in
       let trail : u.trail ≡ s = ap (λ (z : View). z.trail) is ∙ trail_of_settles w b (taken b w m + 1) false s in
-      let old : w.trail ≡ t = ap (λ (z : View). z.trail) r.is ∙ told_of_settles b i false t in
+      let old : w.trail ≡ t = ap (λ (z : View). z.trail) r.is ∙ lowered_of_settles b i false t in
       let mine : s ≡ record v.trail { told = s.told } = ap (λ (z : Trail). told_trail z (target_of b p w m) found) old in record {
         told = ap (λ (z : Trail). map (λ (f : Found). f.node) z.told) trail
             ∙ ap (λ j. p.number (get_or (p.targets m) j 0) ∷ map (λ (f : Found). f.node) w.trail.told) k

@@ -6,21 +6,21 @@ use lib.Seq.{set-get_or}
 use Rattle.board_rule.specs.declared.view.NodeView.{NodeView}
 use Rattle.board_rule.specs.declared.view.Trail.{Trail}
 use Rattle.board_rule.specs.declared.view.View.{View}
-use Rattle.board_rule.specs.Layout.{Lay}
+use Rattle.board_rule.specs.Layout.{BoardLayout}
 use Rattle.board_rule.specs.View.{idle, node_of, view_node}
 use Rattle.board_rule.specs.Steps.{Owns, IsCycle, HasNode}
 use Rattle.board_rule.proofs.SeatLemmas.{set_there}
 
 -- whose seat it is, by the node
-pub follower_leads : (p : Lay) (v : View) (m : ℕ) (b : Bool) → Owns b p v m → m ≢ p.driver → b ≡ false
+pub follower_leads : (p : BoardLayout) (v : View) (m : ℕ) (b : Bool) → Owns b p v m → m ≢ p.driver → b ≡ false
 follower_leads p v m true o h = absurd (h o.0)
 follower_leads p v m false o h = refl
 
-pub driver_leads : (p : Lay) (v : View) (m : ℕ) (b : Bool) → Owns b p v m → m ≡ p.driver → b ≡ true
-driver_leads p v m true o h = refl
-driver_leads p v m false o h = absurd (o.follows h)
+pub driver_is_driver : (p : BoardLayout) (v : View) (m : ℕ) (b : Bool) → Owns b p v m → m ≡ p.driver → b ≡ true
+driver_is_driver p v m true o h = refl
+driver_is_driver p v m false o h = absurd (o.follows h)
 
-module _ (p : Lay) (v : View) (m : ℕ) where
+module _ (p : BoardLayout) (v : View) (m : ℕ) where
   pub again : (y : NodeView) (t : Trail) → m < length v.nodes → node_of (view_node v m y t) m ≡ y
   again y t h = get_or-set_same v.nodes m y (idle 0) h
 

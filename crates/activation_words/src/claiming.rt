@@ -1,6 +1,6 @@
 //! Claims: one try to wake a node.
+ghost use Rattle.board_rule.specs.OnBoard.{IsOn, layout};
 ghost use Rattle.std.specs.Prelude.{◌≡◌, true, false};
-ghost use Rattle.board_rule.specs.Layout.{lay};
 ghost use Rattle.board_rule.specs.Steps.{Claims};
 ghost use Rattle.activation_words.specs.Calls.{IsClaim};
 
@@ -10,11 +10,11 @@ use pw_base::{ActivationStatus, status_word};
 
 // One exchange of TRIGGERED of the node's next cycle for AWAKE.
 fn try_once<S: BoardSeat>(board: &Board, seat: &mut S, node: u32) -> Claim
-    requires table { S.table seat.old ≡ board.now.table.shared.table_id }
-    requires phase { let p = lay board.now.plot in Claims S.leads p (S.knows seat.old) (p.place node) }
+    requires table { IsOn board.now (S.table seat.old) }
+    requires phase { let p = layout board.now in Claims S.is_driver p (S.knows seat.old) (p.index node) }
     ensures table { S.table seat.new ≡ S.table seat.old }
-    ensures claim { let p = lay board.now.plot in
-        IsClaim S.leads p (S.knows seat.old) (p.place node) result (S.knows seat.new) }
+    ensures claim { let p = layout board.now in
+        IsClaim S.is_driver p (S.knows seat.old) (p.index node) result (S.knows seat.new) }
 {
     let cycle = board.shape().first + seat.ended(board, node);
     let found = seat.exchange_awake(board, node);
@@ -28,21 +28,21 @@ fn try_once<S: BoardSeat>(board: &Board, seat: &mut S, node: u32) -> Claim
 /// One try to wake a follower of the seat that waits with cycles left. `NotYet` carries the word that the one exchange
 /// of this call found, and the seat then remembers one more try with it.
 pub fn claim(board: &Board, seat: &mut LoopSeat, node: u32) -> Claim
-    requires table { seat.old.table ≡ board.now.table.shared.table_id }
-    requires phase { let p = lay board.now.plot in Claims false p seat.old.knows (p.place node) }
+    requires table { IsOn board.now seat.old.table }
+    requires phase { let p = layout board.now in Claims false p seat.old.knows (p.index node) }
     ensures table { seat.new.table ≡ seat.old.table }
-    ensures claim { let p = lay board.now.plot in
-        IsClaim false p seat.old.knows (p.place node) result seat.new.knows }
+    ensures claim { let p = layout board.now in
+        IsClaim false p seat.old.knows (p.index node) result seat.new.knows }
 {
     try_once(board, seat, node)
 }
 
 /// The same of the driver's node, when the driver's seat waits.
 pub fn claim_driver(board: &Board, seat: &mut DriverSeat) -> Claim
-    requires table { seat.old.table ≡ board.now.table.shared.table_id }
-    requires phase { let p = lay board.now.plot in Claims true p seat.old.knows p.driver }
+    requires table { IsOn board.now seat.old.table }
+    requires phase { let p = layout board.now in Claims true p seat.old.knows p.driver }
     ensures table { seat.new.table ≡ seat.old.table }
-    ensures claim { let p = lay board.now.plot in
+    ensures claim { let p = layout board.now in
         IsClaim true p seat.old.knows p.driver result seat.new.knows }
 {
     let driver = board.shape().driver;

@@ -1,11 +1,11 @@
 //! The words of a board after the beginning of a cycle of four nodes in a row, what claims find, and a check.
-ghost use Rattle.std.specs.Prelude.{◌≡◌, ◌==◌, ◌≤◌, length, slice_get, Some, [], ◌∷◌, slice_index, false, IsTrue, IsFalse, IfSome, IfOk};
-ghost use Rattle.std.specs.List.{position};
-ghost use Rattle.board_rule.specs.Layout.{lay, place_in, IsUndelayed};
+ghost use Rattle.board_rule.specs.OnBoard.{IsOn, layout};
+ghost use Rattle.std.specs.Prelude.{◌≡◌, ◌≤◌, length, slice_get, Some, [], ◌∷◌, slice_index, false, IsTrue, IsFalse, IfSome, IfOk};
+ghost use Rattle.board_rule.specs.Layout.{layout_of};
 ghost use Rattle.activation_words.specs.Members.{IsResting, AllRest, IsBetween, IsWaiting};
 
 use crate::{Claim, begin, check_late, claim};
-use board_rule::{Board, BoardSeat, DriverSeat, LoopSeat};
+use board_rule::{Board, BoardSeat, DriverSeat, LoopSeat, index_in};
 use pw_base::{Items, Memory, PortId, Shape, ShapeLink, ShapeNode, is_pooled_shape};
 use std::alloc::Global;
 use std::marker::Brand;
@@ -54,26 +54,6 @@ fn row(alloc: Global, cycles: u32) -> Result<Shape, Memory> {
     })
 }
 
-fn is_undelayed(shape: &Shape) -> bool
-    ensures { IsTrue result → IsUndelayed shape.now }
-{
-    shape.links.as_slice().iter().all(|l| !l.delayed)
-}
-
-// The place of a node, if the shape has it.
-fn find_place(shape: &Shape, node: u32) -> Option<usize>
-    ensures { result ≡ position (λ n. n.node == node) shape.now.nodes }
-{
-    shape.nodes.as_slice().iter().position(|n| n.node == node)
-}
-
-// The place of a node, or the number of nodes.
-fn place_of(shape: &Shape, node: u32) -> usize
-    ensures { result ≡ place_in shape.now node }
-{
-    find_place(shape, node).unwrap_or(shape.nodes.len())
-}
-
 // The two seats of a board for two loops, in their order.
 fn both(loops: Items<LoopSeat>) -> Option<(LoopSeat, LoopSeat)>
     requires { length loops ≡ 2 }
@@ -92,18 +72,18 @@ fn seats_of_row(alloc: Global) -> Result<Items<u32>, Memory>
     Items::from_slice(alloc, &[0, 1, 0, 0])
 }
 
-// A board for a shape of four nodes, with a seat for each of two loops. None for another shape, one that is not pooled,
-// or one with a delayed link.
+// A board for a shape of four nodes, with a seat for each of two loops. None for another shape, or one that is not
+// pooled.
 fn opened(
     alloc: Global,
     shape: &Shape,
 ) -> Result<Option<(Board, DriverSeat, LoopSeat, LoopSeat)>, Memory>
-    ensures { IfOk result (λ o. IfSome o (λ t. (t.0.plot.shape ≡ shape.now)
+    ensures { IfOk result (λ o. IfSome o (λ t. (t.0.board_shape.shape ≡ shape.now)
         × (t.1.table ≡ t.0.table.shared.table_id) × (t.2.table ≡ t.0.table.shared.table_id)
-        × (t.3.table ≡ t.0.table.shared.table_id) × (t.0.plot.seat_of ≡ 0 ∷ 1 ∷ 0 ∷ 0 ∷ [])
-        × (let p = lay t.0.plot in IsBetween p t.1.knows × AllRest p 0 t.2.knows × AllRest p 1 t.3.knows))) }
+        × (t.3.table ≡ t.0.table.shared.table_id) × (t.0.board_shape.seat_of ≡ 0 ∷ 1 ∷ 0 ∷ 0 ∷ [])
+        × (let p = layout_of t.0.board_shape in IsBetween p t.1.knows × AllRest p 0 t.2.knows × AllRest p 1 t.3.knows))) }
 {
-    if !is_pooled_shape(shape) || !is_undelayed(shape) || shape.nodes.len() != 4 {
+    if !is_pooled_shape(shape) || shape.nodes.len() != 4 {
         return Ok(None);
     }
     let seat_of = seats_of_row(alloc)?;
@@ -114,7 +94,7 @@ fn opened(
     }
 }
 
-// The seat of each place, as the board has it.
+// The seat of each index, as the board has it.
 fn seat_at(at: usize) -> u32
     ensures { result ≡ slice_index (0 ∷ 1 ∷ 0 ∷ 0 ∷ []) at }
 {
@@ -123,8 +103,8 @@ fn seat_at(at: usize) -> u32
 
 // One try of a follower, without its work. None where it has no cycles left.
 fn look(board: &Board, seat: &mut LoopSeat, node: u32) -> Option<Claim>
-    requires table { seat.old.table ≡ board.now.table.shared.table_id }
-    requires rests { let p = lay board.now.plot in IsResting p seat.old.knows (p.place node) }
+    requires table { IsOn board.now seat.old.table }
+    requires rests { let p = layout board.now in IsResting p seat.old.knows (p.index node) }
 {
     if seat.ended(board, node) == board.shape().cycles {
         return None;
@@ -134,13 +114,13 @@ fn look(board: &Board, seat: &mut LoopSeat, node: u32) -> Option<Claim>
 
 // The same by the seat of a loop. None also where the node is not the loop's.
 fn claim_follower(board: &Board, seat: &mut LoopSeat, of_loop: u32, node: u32) -> Option<Claim>
-    requires table { seat.old.table ≡ board.now.table.shared.table_id }
-    requires row { board.now.plot.seat_of ≡ 0 ∷ 1 ∷ 0 ∷ 0 ∷ [] }
-    requires rests { AllRest (lay board.now.plot) of_loop seat.old.knows }
+    requires table { IsOn board.now seat.old.table }
+    requires row { board.now.board_shape.seat_of ≡ 0 ∷ 1 ∷ 0 ∷ 0 ∷ [] }
+    requires rests { AllRest (layout board.now) of_loop seat.old.knows }
 {
     let shape = board.shape();
-    let at = place_of(shape, node);
-    if at == shape.nodes.len() || at == place_of(shape, shape.driver) {
+    let at = index_in(shape, node);
+    if at == shape.nodes.len() || at == index_in(shape, shape.driver) {
         return None;
     }
     if at > shape.nodes.len() || seat_at(at) != of_loop {
@@ -151,12 +131,12 @@ fn claim_follower(board: &Board, seat: &mut LoopSeat, of_loop: u32, node: u32) -
 
 // Begins the next cycle, if there is one.
 fn begin_next(board: &Board, seat: &mut DriverSeat) -> bool
-    requires table { seat.old.table ≡ board.now.table.shared.table_id }
-    requires between { IsBetween (lay board.now.plot) seat.old.knows }
+    requires table { IsOn board.now seat.old.table }
+    requires between { IsBetween (layout board.now) seat.old.knows }
     ensures table { seat.new.table ≡ seat.old.table }
-    ensures begun { IsTrue result → IsWaiting (lay board.now.plot) seat.new.knows
+    ensures begun { IsTrue result → IsWaiting (layout board.now) seat.new.knows
         × (seat.new.knows.lead.checked ≡ false) }
-    ensures none { IsFalse result → IsBetween (lay board.now.plot) seat.new.knows }
+    ensures none { IsFalse result → IsBetween (layout board.now) seat.new.knows }
 {
     let driver = board.shape().driver;
     if seat.ended(board, driver) == board.shape().cycles {
@@ -166,9 +146,9 @@ fn begin_next(board: &Board, seat: &mut DriverSeat) -> bool
     true
 }
 
-// Whether four words from a place on are these. The board has four nodes.
+// Whether four words from an index on are these. The board has four nodes.
 fn has_words(board: &Board, first: usize, words: (u64, u64, u64, u64)) -> bool
-    requires { (length board.now.plot.shape.nodes ≡ 4) × (first ≤ 5) }
+    requires { (length board.now.board_shape.shape.nodes ≡ 4) × (first ≤ 5) }
 {
     board.peek(first) == words.0
         && board.peek(first + 1) == words.1
@@ -183,8 +163,8 @@ fn is_at(board: &Board, pending: (u64, u64, u64, u64), status: (u64, u64, u64, u
 
 // Begins the next cycle, if there is one, and looks at once who has not finished it.
 fn begin_and_check(board: &Board, seat: &mut DriverSeat) -> Option<u64>
-    requires table { seat.old.table ≡ board.now.table.shared.table_id }
-    requires between { IsBetween (lay board.now.plot) seat.old.knows }
+    requires table { IsOn board.now seat.old.table }
+    requires between { IsBetween (layout board.now) seat.old.knows }
 {
     let driver = board.shape().driver;
     if seat.ended(board, driver) == board.shape().cycles {

@@ -2,11 +2,11 @@
 use Rattle.std.proofs.Common.{◌≡◌, ◌≢◌, ℕ, ℤ, ◌+◌, ◌<◌, true, List, length, refl, sym, ap, ◌∙◌, subst, arith}
 use Rattle.std.specs.Prelude.{All, slice_index_or}
 use Rattle.std.proofs.lemmas.List.{get_or_default}
-use Rattle.board_rule.specs.declared.plot.Plot.{Plot}
-use Rattle.board_rule.specs.declared.view.Drive.TheVariants.{Running}
+use Rattle.board_rule.specs.declared.board_shape.BoardShape.{BoardShape}
+use Rattle.board_rule.specs.declared.view.DriverPhase.TheVariants.{Running}
 use Rattle.board_rule.specs.declared.view.ReadView.{ReadView}
 use Rattle.board_rule.specs.declared.view.View.{View}
-use Rattle.board_rule.specs.Layout.{Lay, lay, nodes, last}
+use Rattle.board_rule.specs.Layout.{BoardLayout, layout_of, nodes, first, last}
 use Rattle.board_rule.specs.View.{unread}
 use Rattle.board_rule.specs.EndViews.{reader_of, pool_of, link_at}
 use Rattle.board_rule.specs.Steps.{HasNode, IsReadyToFinish}
@@ -15,24 +15,26 @@ use Rattle.board_rule.proofs.HolderLemmas.{link_there}
 use Rattle.activation_words.specs.Calls.{HasFinished}
 use Rattle.activation_words.specs.CycleCalls.{HasBegun, HasChecked, HasEnded}
 use Rattle.activation_words.specs.Members.{IsBetween, IsWaiting}
-use Rattle.area_turns.specs.Plain.{IsPlain}
-use Rattle.area_turns.specs.Ends.{IsReadUpTo}
+use Rattle.io_areas.specs.PooledBoard.{IsPooledBoard}
+use Rattle.io_areas.specs.Ends.{IsReadUpTo}
 use Rattle.area_runs.specs.Ends.{reads_of}
-use Rattle.area_runs.specs.Steady.{IsSteady}
+use Rattle.area_runs.specs.declared.quanta.Quanta.{Quanta}
+use Rattle.area_runs.specs.Steady.{given_in, given_before, IsSteady}
+use Rattle.area_runs.proofs.SteadyLemmas.{gives_at}
 use Rattle.area_runs.specs.Hearing.{MayHearAll, Gives, AreHeard}
 use Rattle.area_runs.proofs.EndsLemmas.{of_pool, read_by, reads_it, reads_once}
 use Rattle.area_runs.proofs.HearingLemmas.{read_moves}
 
 -- the links that the driver's node reads are even in its cycle
-abbrev pub IsLeadEven : Lay → View → ℕ → Type 0
+abbrev pub IsLeadEven : BoardLayout → View → ℕ → Type 0
 IsLeadEven p v c = (k : ℕ) → k < length p.shape.links → reader_of p k ≡ p.driver → IsReadUpTo v k c
 
-pub lead_moves : (p : Lay) (v w : View) (c d : ℕ) → w.reads ≡ v.reads → d ≡ c → IsLeadEven p v c → IsLeadEven p w d
+pub lead_moves : (p : BoardLayout) (v w : View) (c d : ℕ) → w.reads ≡ v.reads → d ≡ c → IsLeadEven p v c → IsLeadEven p w d
 lead_moves p v w c d rs e h k low is = subst (IsReadUpTo w k) (sym e)
     (read_moves v w k c (ap (λ (x : List ReadView). length x) rs) (ap (λ (x : List ReadView). slice_index_or x k (unread 0)) rs)
     (h k low is))
 
-module _ (p : Lay) (v w : View) where
+module _ (p : BoardLayout) (v w : View) where
   pub begun_waits : HasNode true p v p.driver → HasBegun p v w → IsWaiting p w
   begun_waits h b = record {
     node = subst (λ (x : View). HasNode true p x p.driver) (sym b.is) h;
@@ -47,14 +49,14 @@ module _ (p : Lay) (v w : View) where
   }
 
 -- between two cycles, with cycles left
-pub may_begin : (p : Lay) (v : View) → IsBetween p v → v.lead.cycle ≢ last p → HasNode true p v p.driver
+pub may_begin : (p : BoardLayout) (v : View) → IsBetween p v → v.lead.cycle ≢ last p → HasNode true p v p.driver
 may_begin p v b o = let m = b.member in let low = m.1.0 in let high = m.1.1 in (m.0, (low, omega arith), m.2)
 
-module _ (plot : Plot) (plain : IsPlain (lay plot)) (v : View) (has : HasNode true (lay plot) v (lay plot).driver)
+module _ (board_shape : BoardShape) (plain : IsPooledBoard (layout_of board_shape)) (v : View) (has : HasNode true (layout_of board_shape) v (layout_of board_shape).driver)
     (runs : v.lead.drive ≡ Running)
-    (even : IsLeadEven (lay plot) v v.lead.cycle) where
-  abbrev p : Lay
-  p = lay plot
+    (even : IsLeadEven (layout_of board_shape) v v.lead.cycle) where
+  abbrev p : BoardLayout
+  p = layout_of board_shape
 
   abbrev links : List ℕ
   links = reads_of p.shape p.shape.driver
@@ -74,10 +76,11 @@ module _ (plot : Plot) (plain : IsPlain (lay plot)) (v : View) (has : HasNode tr
     reads_once p plain p.shape.driver inside,
   )
 
-  pub lead_gives : (samples : List ℤ) → IsSteady p v.expect samples → All (Gives true p v samples) links
-  lead_gives samples steady k d low = let l : ℕ = slice_index_or links k d in
-      let h = read_by p plain p.shape.driver inside l (k, low, get_or_default links k l d low) in let q = of_pool p plain l h.0 in
-      (steady.quanta (pool_of p l) q.0, steady.gives v.lead.cycle (pool_of p l) has.1.0 has.1.1 q.0)
+  pub lead_gives : (s : Quanta) (k : ℕ) → first p + k ≡ v.lead.cycle → IsSteady p v.expect s
+      → All (Gives true p v (given_in s k) (given_before s k)) links
+  lead_gives s k at steady j d low = let l : ℕ = slice_index_or links j d in
+      let h = read_by p plain p.shape.driver inside l (j, low, get_or_default links j l d low) in let q = of_pool p plain l h.0 in
+      gives_at p v.expect s steady l v.lead.cycle k h.0 q.0 at has.1.1
 
   module _ (w : View) (heard : AreHeard true p v links w) where
     heard_even : IsLeadEven p w (v.lead.cycle + 1)
@@ -94,7 +97,7 @@ module _ (plot : Plot) (plain : IsPlain (lay plot)) (v : View) (has : HasNode tr
       heard_has,
       ap (λ (x : View). x.lead.drive) heard.same ∙ runs,
       (
-        (λ l low e. absurd ((wired p plain.sound plain.pooled plain.undelayed).from_follows l (link_at p l) (link_there p l low) e)),
+        (λ l low e. absurd ((wired p plain.sound plain.pooled).from_follows l (link_at p l) (link_there p l low) e)),
         (λ l low e. (heard_even l low e).stored ∙ ap (λ c. c + 1) (sym same_cycle)),
       ),
     )

@@ -9,20 +9,21 @@ use Rattle.pw_base.specs.declared.pools.PoolShape.{PoolShape}
 use Rattle.board_rule.specs.declared.view.Phase.TheVariants.{Awake}
 use Rattle.board_rule.specs.declared.view.NodeView.{NodeView}
 use Rattle.board_rule.specs.declared.view.View.{View}
-use Rattle.board_rule.specs.Layout.{Lay, last}
+use Rattle.board_rule.specs.Layout.{BoardLayout, last}
 use Rattle.board_rule.specs.View.{node_of}
 use Rattle.board_rule.specs.Steps.{HasNode, woken, tried}
 use Rattle.buffer_pool.specs.Queue.{Queue}
 use Rattle.activation_words.proofs.ViewLemmas.{again}
 use Rattle.activation_words.proofs.MemberLemmas.{may_claim, woken_has, woken_awake, tried_rests}
 use Rattle.area_runs.specs.declared.node_ends.NodeEnds.{NodeEnds}
+use Rattle.area_runs.specs.declared.quanta.Quanta.{Quanta}
 use Rattle.area_runs.specs.declared.worker.Worker.{Worker}
 use Rattle.area_runs.specs.Ends.{ends_of}
 use Rattle.area_runs.specs.Turning.{IsEquipped, IsAtRest, MayTurn, HasTurned}
 use Rattle.area_runs.specs.Ready.{IsReady, node_at}
 use Rattle.area_runs.proofs.TurningLemmas.{even_moves, turned_whole, equipped_moves}
 
-module _ (p : Lay) (t : TableId) (old : Worker) (ready : IsReady p t old) (at : ℕ) (low : at < length old.nodes) (ends : NodeEnds)
+module _ (p : BoardLayout) (t : TableId) (old : Worker) (ready : IsReady p t old) (at : ℕ) (low : at < length old.nodes) (ends : NodeEnds)
     (is : ends ≡ get_or old.nodes at ends) where
   abbrev v : View
   v = old.seat.knows
@@ -31,13 +32,13 @@ module _ (p : Lay) (t : TableId) (old : Worker) (ready : IsReady p t old) (at : 
   free = old.free.items
 
   abbrev m : ℕ
-  m = p.place ends.node
+  m = p.index ends.node
 
   pub node_is : node_at old at ≡ ends.node
   node_is = get_or-map (λ (e : NodeEnds). e.node) old.nodes at ends 0 low ∙ ap (λ (e : NodeEnds). e.node) (sym is)
 
   pub rest : (ends ≡ ends_of p.shape ends.node) × IsAtRest p v free m
-  rest = subst (λ (e : NodeEnds). (e ≡ ends_of p.shape e.node) × IsAtRest p v free (p.place e.node)) (sym is) (ready.rests at ends low)
+  rest = subst (λ (e : NodeEnds). (e ≡ ends_of p.shape e.node) × IsAtRest p v free (p.index e.node)) (sym is) (ready.rests at ends low)
 
   -- it has cycles left
   module _ (some : (node_of v m).next ≢ last p) where
@@ -67,26 +68,26 @@ module _ (p : Lay) (t : TableId) (old : Worker) (ready : IsReady p t old) (at : 
     pub turned_ready : HasTurned p v free m w new.free.items → IsReady p t new
     turned_ready h = record {
       table = table;
-      equipped = subst (λ (x : List PoolShape × List ℤ). IsEquipped p w x.0 new.free.items x.1) (λ i. (sym shapes i, sym samples i))
+      equipped = subst (λ (x : List PoolShape × Quanta). IsEquipped p w x.0 new.free.items x.1) (λ i. (sym shapes i, sym samples i))
           (equipped_moves p old.shapes old.samples v free w new.free.items h.expect h.room h.lists ready.equipped);
-      rests = subst (All (λ e. (e ≡ ends_of p.shape e.node) × IsAtRest p w new.free.items (p.place e.node))) (sym nodes)
+      rests = subst (All (λ e. (e ≡ ends_of p.shape e.node) × IsAtRest p w new.free.items (p.index e.node))) (sym nodes)
           (λ k d lt. let e : NodeEnds = get_or old.nodes k d in let r = ready.rests k d lt in (
             r.0,
-            dite (ℕ_discrete (p.place e.node) m) (λ same. subst (IsAtRest p w new.free.items) (sym same) h.rests)
-                (λ other. (h.others (p.place e.node) other r.1).0),
+            dite (ℕ_discrete (p.index e.node) m) (λ same. subst (IsAtRest p w new.free.items) (sym same) h.rests)
+                (λ other. (h.others (p.index e.node) other r.1).0),
           ));
-      long = long ∙ ready.long ∙ sym (ap (λ (l : List ℤ). length l) samples);
+      long = long ∙ ready.long ∙ sym (ap (λ (q : Quanta). length q.even) samples);
     }
 
     pub tried_ready : (found : ℕ) → new.free.items ≡ free → w ≡ tried p v m found → IsReady p t new
     tried_ready found lists e = record {
       table = table;
-      equipped = subst (λ (x : List PoolShape × List ℤ). IsEquipped p w x.0 new.free.items x.1) (λ i. (sym shapes i, sym samples i))
+      equipped = subst (λ (x : List PoolShape × Quanta). IsEquipped p w x.0 new.free.items x.1) (λ i. (sym shapes i, sym samples i))
           (equipped_moves p old.shapes old.samples v free w new.free.items (ap (λ (x : View). x.expect) e)
           (ap (λ (x : View). length x.blocks) e)
           (ap (λ (l : List Queue). length l) lists) ready.equipped);
-      rests = subst (All (λ e. (e ≡ ends_of p.shape e.node) × IsAtRest p w new.free.items (p.place e.node))) (sym nodes)
-          (λ k d lt. let n : ℕ = p.place (get_or old.nodes k d).node in let r = ready.rests k d lt in (
+      rests = subst (All (λ e. (e ≡ ends_of p.shape e.node) × IsAtRest p w new.free.items (p.index e.node))) (sym nodes)
+          (λ k d lt. let n : ℕ = p.index (get_or old.nodes k d).node in let r = ready.rests k d lt in (
             r.0,
             subst (λ (x : View × List Queue). IsAtRest p x.0 x.1 n) (λ i. (sym e i, sym lists i)) (
               tried_rests p v m n found r.1.0,
@@ -94,5 +95,5 @@ module _ (p : Lay) (t : TableId) (old : Worker) (ready : IsReady p t old) (at : 
                   (node_of v n).next refl refl refl refl r.1.1,
             ),
           ));
-      long = long ∙ ready.long ∙ sym (ap (λ (l : List ℤ). length l) samples);
+      long = long ∙ ready.long ∙ sym (ap (λ (q : Quanta). length q.even) samples);
     }

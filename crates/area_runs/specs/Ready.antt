@@ -1,10 +1,10 @@
--- A loop and the driver's loop between two tries, and what a try does. Nodes are places.
+-- A loop and the driver's loop between two tries, and what a try does. Nodes are indexes.
 -- Source: PipeWire's documentation, "Graph Scheduling"; the calls are this project's own.
 use Rattle.std.specs.Prelude.{◌≡◌, ◌≢◌, ℕ, Bool, true, false, All, map, length, slice_index}
 use Rattle.atomic_table.specs.Seated.{TableId}
 use Rattle.pw_base.specs.Words.{triggered_word}
 use Rattle.board_rule.specs.declared.board.Board.{Board}
-use Rattle.board_rule.specs.Layout.{Lay, lay, last}
+use Rattle.board_rule.specs.Layout.{BoardLayout, layout_of, last}
 use Rattle.board_rule.specs.View.{node_of}
 use Rattle.board_rule.specs.Steps.{tried}
 use Rattle.activation_words.specs.CycleCalls.{HasBegun}
@@ -12,28 +12,28 @@ use Rattle.activation_words.specs.Members.{IsDriving}
 use Rattle.area_runs.specs.declared.tried.Tried.{Tried}
 use Rattle.area_runs.specs.declared.tried.Tried.TheVariants.{Ended, NotYet, Ran}
 use Rattle.area_runs.specs.declared.worker.Worker.{Worker}
-use Rattle.area_runs.specs.declared.lead.Lead.{Lead}
+use Rattle.area_runs.specs.declared.lead.DriverLoop.{DriverLoop}
 use Rattle.area_runs.specs.Ends.{ends_of}
 use Rattle.area_runs.specs.Turning.{IsEquipped, IsAtRest, HasTurned}
 use Rattle.area_runs.specs.Leading.{IsOutfitted, HasConcluded}
 
 -- a loop of the board of the table t: each of its nodes rests
-pub record IsReady (p : Lay) (t : TableId) (w : Worker) : Type 0 where
+pub record IsReady (p : BoardLayout) (t : TableId) (w : Worker) : Type 0 where
   pub table : w.seat.table ≡ t
   pub equipped : IsEquipped p w.seat.knows w.shapes w.free.items w.samples
-  pub rests : All (λ e. (e ≡ ends_of p.shape e.node) × IsAtRest p w.seat.knows w.free.items (p.place e.node)) w.nodes
-  pub long : length w.room.items ≡ length w.samples
+  pub rests : All (λ e. (e ≡ ends_of p.shape e.node) × IsAtRest p w.seat.knows w.free.items (p.index e.node)) w.nodes
+  pub long : length w.room.items ≡ length w.samples.even
 
 -- the same by its board
 abbrev pub IsReadyOn : Board → Worker → Type 0
-IsReadyOn board w = IsReady (lay board.plot) board.table.shared.table_id w
+IsReadyOn board w = IsReady (layout_of board.board_shape) board.table.shared.table_id w
 
--- the node at a place of its list
+-- the node at an index of its list
 abbrev pub node_at : Worker → ℕ → ℕ
 node_at w at = slice_index (map (λ e. e.node) w.nodes) at
 
 -- a try of its node m
-abbrev pub HasTried : Lay → Worker → ℕ → Tried → Worker → Type 0
+abbrev pub HasTried : BoardLayout → Worker → ℕ → Tried → Worker → Type 0
 HasTried p old m Ended new = ((node_of old.seat.knows m).next ≡ last p) × (new.seat.knows ≡ old.seat.knows)
 HasTried p old m (NotYet found) new =
     (found ≢ triggered_word (node_of old.seat.knows m).next) × (new.seat.knows ≡ tried p old.seat.knows m found)
@@ -41,23 +41,23 @@ HasTried p old m (Ran heard) new =
     (heard ≡ true) × HasTurned p old.seat.knows old.free.items m new.seat.knows new.free.items
 
 -- the driver's loop: its node waits to be triggered, or the seat is between two cycles
-abbrev pub IsLeadReady : Lay → TableId → Lead → Bool → Type 0
+abbrev pub IsLeadReady : BoardLayout → TableId → DriverLoop → Bool → Type 0
 IsLeadReady p t l waits = IsOutfitted p t l × IsDriving p l.seat.knows waits
 
-abbrev pub IsLeadReadyOn : Board → Lead → Bool → Type 0
-IsLeadReadyOn board l waits = IsLeadReady (lay board.plot) board.table.shared.table_id l waits
+abbrev pub IsLeadReadyOn : Board → DriverLoop → Bool → Type 0
+IsLeadReadyOn board l waits = IsLeadReady (layout_of board.board_shape) board.table.shared.table_id l waits
 
 -- the next cycle is begun, where there is one
-abbrev pub BeginsNext : Lay → Lead → Bool → Lead → Type 0
+abbrev pub BeginsNext : BoardLayout → DriverLoop → Bool → DriverLoop → Type 0
 BeginsNext p old true new = HasBegun p old.seat.knows new.seat.knows
 BeginsNext p old false new = (old.seat.knows.lead.cycle ≡ last p) × (new.seat.knows ≡ old.seat.knows)
 
 -- a try of the driver's node, and the end of the cycle where it ran
-abbrev pub HasLed : Lay → Lead → Tried → Lead → Type 0
+abbrev pub HasLed : BoardLayout → DriverLoop → Tried → DriverLoop → Type 0
 HasLed p old Ended new = ⊥
 HasLed p old (NotYet found) new =
     (found ≢ triggered_word old.seat.knows.lead.cycle) × (new.seat.knows ≡ tried p old.seat.knows p.driver found)
-HasLed p old (Ran heard) new = (heard ≡ true) × HasConcluded old new
+HasLed p old (Ran heard) new = (heard ≡ true) × HasConcluded p old new
 
 -- whether the driver's node waits after it
 abbrev pub still_waits : Tried → Bool

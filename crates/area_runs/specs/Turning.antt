@@ -1,10 +1,10 @@
--- The turn of a follower, from its waking to its rest: its links, its pools, what it leaves alone. Nodes are places.
+-- The turn of a follower, from its waking to its rest: its links, its pools, what it leaves alone. Nodes are indexes.
 -- Source: PipeWire's documentation, "Graph Scheduling" and "SPA Buffers"; the calls are this project's own.
 use Rattle.std.specs.Prelude.{◌≡◌, ◌≢◌, ℕ, ℤ, ◌+◌, ◌<◌, ◌≤◌, false, List, length}
 use Rattle.pw_base.specs.declared.pools.PoolShape.{PoolShape}
 use Rattle.pw_base.specs.Pools.{pools_of}
 use Rattle.board_rule.specs.declared.view.View.{View}
-use Rattle.board_rule.specs.Layout.{Lay}
+use Rattle.board_rule.specs.Layout.{BoardLayout}
 use Rattle.board_rule.specs.View.{node_of}
 use Rattle.board_rule.specs.Spans.{block_at}
 use Rattle.board_rule.specs.EndViews.{pool_at, writer_of, reader_of, filler_of}
@@ -12,18 +12,19 @@ use Rattle.board_rule.specs.SeatNodes.{HasNode}
 use Rattle.buffer_pool.specs.Queue.{Queue}
 use Rattle.activation_words.specs.Calls.{IsAwake}
 use Rattle.activation_words.specs.Members.{IsResting}
-use Rattle.area_turns.specs.Plain.{IsPlain}
-use Rattle.area_turns.specs.Ends.{IsWrittenUpTo, IsReadUpTo}
-use Rattle.area_turns.specs.Stock.{Stock}
+use Rattle.io_areas.specs.PooledBoard.{IsPooledBoard}
+use Rattle.io_areas.specs.Ends.{IsWrittenUpTo, IsReadUpTo}
+use Rattle.io_areas.specs.FreeBlocks.{FreeBlocks}
 use Rattle.area_runs.specs.declared.node_ends.NodeEnds.{NodeEnds}
+use Rattle.area_runs.specs.declared.quanta.Quanta.{Quanta}
 use Rattle.area_runs.specs.Ends.{ends_of}
 use Rattle.area_runs.specs.Steady.{IsSteady}
 use Rattle.area_runs.specs.Writing.{queue_of}
 
 -- what a loop has beside its nodes: the pools of the shape, room for their blocks, the free ones of each, the samples
-pub record IsEquipped (p : Lay) (v : View) (shapes : List PoolShape) (free : List Queue)
-    (samples : List ℤ) : Type 0 where
-  pub plain : IsPlain p
+pub record IsEquipped (p : BoardLayout) (v : View) (shapes : List PoolShape) (free : List Queue)
+    (samples : Quanta) : Type 0 where
+  pub plain : IsPooledBoard p
   pub shapes_are : shapes ≡ pools_of p.shape
   pub lists : length free ≡ length shapes
   pub blocks : (q : ℕ) → q < length (pools_of p.shape) → block_at p q (pool_at p q).blocks ≤ length v.blocks
@@ -31,24 +32,24 @@ pub record IsEquipped (p : Lay) (v : View) (shapes : List PoolShape) (free : Lis
 
 -- the node m has done the cycles before c, and nothing of c, on all links that it reads or writes and on all pools that
 -- it fills
-pub record AreEven (p : Lay) (v : View) (free : List Queue) (m c : ℕ) : Type 0 where
+pub record AreEven (p : BoardLayout) (v : View) (free : List Queue) (m c : ℕ) : Type 0 where
   pub reads : (l : ℕ) → l < length p.shape.links → reader_of p l ≡ m → IsReadUpTo v l c
   pub writes : (l : ℕ) → l < length p.shape.links → writer_of p l ≡ m → IsWrittenUpTo v l c
-  pub stocks : (q : ℕ) → q < length (pools_of p.shape) → filler_of p q ≡ m → Stock p v q c (queue_of free q)
+  pub stocks : (q : ℕ) → q < length (pools_of p.shape) → filler_of p q ≡ m → FreeBlocks p v q c (queue_of free q)
 
 -- the node waits for its next cycle
-abbrev pub IsAtRest : Lay → View → List Queue → ℕ → Type 0
+abbrev pub IsAtRest : BoardLayout → View → List Queue → ℕ → Type 0
 IsAtRest p v free m = IsResting p v m × AreEven p v free m (node_of v m).next
 
 -- it is awake, and its links and pools are known
-pub record MayTurn (p : Lay) (v : View) (free : List Queue) (ends : NodeEnds) : Type 0 where
+pub record MayTurn (p : BoardLayout) (v : View) (free : List Queue) (ends : NodeEnds) : Type 0 where
   pub are : ends ≡ ends_of p.shape ends.node
-  pub has : HasNode false p v (p.place ends.node)
-  pub awake : IsAwake false v (p.place ends.node)
-  pub even : AreEven p v free (p.place ends.node) (node_of v (p.place ends.node)).next
+  pub has : HasNode false p v (p.index ends.node)
+  pub awake : IsAwake false v (p.index ends.node)
+  pub even : AreEven p v free (p.index ends.node) (node_of v (p.index ends.node)).next
 
 -- it rests again, a cycle later; each other node that rested still does, in its own cycle
-pub record HasTurned (p : Lay) (v : View) (old : List Queue) (m : ℕ) (w : View) (new : List Queue) : Type 0 where
+pub record HasTurned (p : BoardLayout) (v : View) (old : List Queue) (m : ℕ) (w : View) (new : List Queue) : Type 0 where
   pub rests : IsAtRest p w new m
   pub later : (node_of w m).next ≡ (node_of v m).next + 1
   pub others : (n : ℕ) → n ≢ m → IsAtRest p v old n → IsAtRest p w new n × (node_of w n ≡ node_of v n)

@@ -1,28 +1,30 @@
 //! The driver's loop.
+ghost use Rattle.board_rule.specs.OnBoard.{layout};
 ghost use Rattle.std.specs.Prelude.{◌≡◌, ◌≢◌, true, false, IfSome, IsNone, ◌↔◌};
-ghost use Rattle.board_rule.specs.Layout.{lay, last};
+ghost use Rattle.board_rule.specs.Layout.{layout_of, last};
 ghost use Rattle.activation_words.specs.CycleCalls.{HasChecked};
 ghost use Rattle.area_runs.specs.Ready.{IsLeadReadyOn, BeginsNext, HasLed, still_waits};
 ghost use Rattle.area_runs.specs.Leading.{MayLead, HasConcluded};
 ghost use Rattle.area_runs.specs.Closing.{IsClosed};
 
 use crate::hearing::hear_all;
+use crate::quanta::Quanta;
 use crate::tried::Tried;
 use activation_words::{Claim, begin, check_late, claim_driver, end, finish, start};
 use board_rule::{Board, BoardSeat, Closed, DriverSeat};
 use pw_base::Items;
 
-/// The driver's loop of a board: its seat, the links that the driver's node reads, the samples that every pool gives in
-/// every cycle, and room for one quantum.
+/// The driver's loop of a board: its seat, the links that the driver's node reads, what every pool gives in every
+/// cycle, and room for one quantum.
 #[derive(Drop)]
-pub struct Lead {
+pub struct DriverLoop {
     pub(crate) seat: DriverSeat,
     pub(crate) reads: Items<u32>,
-    pub(crate) samples: Items<i16>,
+    pub(crate) samples: Quanta,
     pub(crate) room: Vec<i16>,
 }
 
-impl Lead {
+impl DriverLoop {
     /// The quantum that the driver's node read last.
     pub fn last_read(&self) -> &[i16]
         ensures { result.now ≡ self.now.room.items }
@@ -34,7 +36,7 @@ impl Lead {
     pub fn begin_next(&mut self, board: &Board) -> bool
         requires ready { IsLeadReadyOn board.now self.old false }
         ensures ready { IsLeadReadyOn board.now self.new result }
-        ensures begun { BeginsNext (lay board.now.plot) self.old result self.new }
+        ensures begun { BeginsNext (layout board.now) self.old result self.new }
         ensures unchecked { self.new.seat.knows.lead.checked ≡ false }
     {
         let driver = board.shape().driver;
@@ -51,7 +53,7 @@ impl Lead {
         requires ready { IsLeadReadyOn board.now self.old true }
         requires unchecked { self.old.seat.knows.lead.checked ≡ false }
         ensures ready { IsLeadReadyOn board.now self.new true }
-        ensures late { let p = lay board.now.plot in
+        ensures late { let p = layout board.now in
             HasChecked p self.old.seat.knows result self.new.seat.knows }
     {
         check_late(board, &mut self.seat)
@@ -60,18 +62,20 @@ impl Lead {
     // The driver's node is awake: it hears its links, and the cycle ends.
     fn conclude(&mut self, board: &Board) -> bool
         requires awake { let id = board.now.table.shared.table_id in
-            MayLead (lay board.now.plot) id self.old }
+            MayLead (layout board.now) id self.old }
         ensures ready { IsLeadReadyOn board.now self.new false }
         ensures heard { result ≡ true }
-        ensures concluded { HasConcluded self.old self.new }
+        ensures concluded { HasConcluded (layout board.now) self.old self.new }
     {
         let driver = board.shape().driver;
+        let past = self.seat.ended(board, driver);
         start(board, &mut self.seat, driver);
         let heard = hear_all(
             board,
             &mut self.seat,
             self.reads.as_slice(),
-            self.samples.as_slice(),
+            self.samples.given_in(past),
+            self.samples.given_before(past),
             self.room.as_mut_slice(),
         );
         finish(board, &mut self.seat, driver);
@@ -83,7 +87,7 @@ impl Lead {
     pub fn try_node(&mut self, board: &Board) -> Tried
         requires ready { IsLeadReadyOn board.now self.old true }
         ensures ready { IsLeadReadyOn board.now self.new (still_waits result) }
-        ensures led { HasLed (lay board.now.plot) self.old result self.new }
+        ensures led { HasLed (layout board.now) self.old result self.new }
     {
         match claim_driver(board, &mut self.seat) {
             Claim::NotYet { found } => Tried::NotYet { found },
@@ -98,13 +102,13 @@ impl Lead {
     pub fn close(self, board: Board) -> Option<Closed>
         requires ready { IsLeadReadyOn board self false }
         ensures closed { IfSome result (IsClosed board self) }
-        ensures none { IsNone result ↔ (self.seat.knows.lead.cycle ≢ last (lay board.plot)) }
+        ensures none { IsNone result ↔ (self.seat.knows.lead.cycle ≢ last (layout_of board.board_shape)) }
     {
         let driver = board.shape().driver;
         if self.seat.ended(&board, driver) != board.shape().cycles {
             return None;
         }
-        let Lead {
+        let DriverLoop {
             seat,
             reads: _,
             samples: _,

@@ -2,40 +2,33 @@
 ghost use Rattle.std.specs.Prelude.{◌≡◌, ◌==◌, ◌≤◌, ◌<◌, IsTrue, ◌↔◌, All, length};
 ghost use Rattle.std.specs.List.{position};
 ghost use Rattle.pw_base.specs.Pools.{pools_of};
-ghost use Rattle.board_rule.specs.Layout.{IsUndelayed, HasSeats, place_in};
-ghost use Rattle.area_runs.specs.Opening.{plot_of, IsFit};
+ghost use Rattle.board_rule.specs.Layout.{HasSeats, index_in};
+ghost use Rattle.area_runs.specs.Opening.{board_shape_of, IsFit};
 
 use pw_base::{PoolShape, Shape};
 
-/// Whether no link is delayed.
-pub(crate) fn is_undelayed(shape: &Shape) -> bool
-    ensures { IsTrue result ↔ IsUndelayed shape.now }
-{
-    shape.links.as_slice().iter().all(|l| !l.delayed)
-}
-
-// The place of a node, if the shape has it.
-fn find_place(shape: &Shape, node: u32) -> Option<usize>
+// The index of a node, if the shape has it.
+fn find_index(shape: &Shape, node: u32) -> Option<usize>
     ensures { result ≡ position (λ n. n.node == node) shape.now.nodes }
 {
     shape.nodes.as_slice().iter().position(|n| n.node == node)
 }
 
-/// The place of a node, or the number of nodes.
-pub(crate) fn place_of(shape: &Shape, node: u32) -> usize
-    ensures { result ≡ place_in shape.now node }
+/// The index of a node, or the number of nodes.
+pub(crate) fn index_of(shape: &Shape, node: u32) -> usize
+    ensures { result ≡ index_in shape.now node }
 {
-    find_place(shape, node).unwrap_or(shape.nodes.len())
+    find_index(shape, node).unwrap_or(shape.nodes.len())
 }
 
-/// Whether each follower has one of so many seats. The driver's entry is not looked at.
+/// Whether each follower has one of `n` seats. The driver's entry is not looked at.
 pub(crate) fn has_seats(shape: &Shape, seat_of: &[u32], seats: u32) -> bool
-    ensures { IsTrue result ↔ HasSeats (plot_of shape.now seat_of.now seats) }
+    ensures { IsTrue result ↔ HasSeats (board_shape_of shape.now seat_of.now seats) }
 {
     if seats == 0 || seat_of.len() != shape.nodes.len() {
         return false;
     }
-    let driver = place_of(shape, shape.driver);
+    let driver = index_of(shape, shape.driver);
     for n in 0..seat_of.len() {
         if n != driver && seat_of[n] >= seats {
             return false;
@@ -44,7 +37,7 @@ pub(crate) fn has_seats(shape: &Shape, seat_of: &[u32], seats: u32) -> bool
     true
 }
 
-// Whether a pool has 1 to 8 blocks and so many samples in a quantum.
+// Whether a pool has 1 to 8 blocks and `n` samples in a quantum.
 fn is_fit(quantum: u32, count: u64, pool: &PoolShape) -> bool
     ensures { IsTrue result ↔ IsFit quantum count pool.now }
 {

@@ -1,9 +1,10 @@
 //! A loop: the followers of one seat.
+ghost use Rattle.board_rule.specs.OnBoard.{layout};
 ghost use Rattle.std.specs.Prelude.{◌≡◌, ◌<◌, length, slice_index};
-ghost use Rattle.board_rule.specs.Layout.{lay};
 ghost use Rattle.area_runs.specs.Ready.{IsReadyOn, HasTried, node_at};
 
 use crate::node_ends::NodeEnds;
+use crate::quanta::Quanta;
 use crate::tried::Tried;
 use crate::turning::take_turn;
 use activation_words::{Claim, claim};
@@ -11,15 +12,15 @@ use board_rule::{Board, BoardSeat, LoopSeat};
 use buffer_pool::Pool;
 use pw_base::{Items, PoolShape};
 
-/// A loop of a board: its seat and its nodes, the pools of the shape with the free blocks of each, the samples that
-/// every pool gives in every cycle, and room for one quantum.
+/// A loop of a board: its seat and its nodes, the pools of the shape with the free blocks of each, what every pool
+/// gives in every cycle, and room for one quantum.
 #[derive(Drop)]
 pub struct Worker {
     pub(crate) seat: LoopSeat,
     pub(crate) nodes: Items<NodeEnds>,
     pub(crate) shapes: Items<PoolShape>,
     pub(crate) free: Vec<Pool>,
-    pub(crate) samples: Items<i16>,
+    pub(crate) samples: Quanta,
     pub(crate) room: Vec<i16>,
 }
 
@@ -31,14 +32,14 @@ impl Worker {
         &self.nodes
     }
 
-    /// One try of the node at a place of the loop's own list, and where it is awake its turn: it starts, hears each
+    /// One try of the node at an index of the loop's own list, and where it is awake its turn: it starts, hears each
     /// link that it reads, gives the samples in each pool that it fills, and finishes. Takes no memory, does not wait.
     pub fn try_node(&mut self, board: &Board, at: usize) -> Tried
         requires ready { IsReadyOn board.now self.old }
         requires inside { at < length self.old.nodes }
         ensures ready { IsReadyOn board.now self.new }
-        ensures tried { let p = lay board.now.plot in
-            HasTried p self.old (p.place (node_at self.old at)) result self.new }
+        ensures tried { let p = layout board.now in
+            HasTried p self.old (p.index (node_at self.old at)) result self.new }
         ensures same { (self.new.nodes ≡ self.old.nodes) × (self.new.samples ≡ self.old.samples) }
     {
         let ends = &self.nodes.as_slice()[at];
@@ -54,7 +55,7 @@ impl Worker {
                     ends,
                     self.shapes.as_slice(),
                     self.free.as_mut_slice(),
-                    self.samples.as_slice(),
+                    &self.samples,
                     self.room.as_mut_slice(),
                 );
                 Tried::Ran { heard }

@@ -1,13 +1,13 @@
 //! The turn of a node on all pools that it fills.
+ghost use Rattle.board_rule.specs.OnBoard.{IsOn, layout};
 ghost use Rattle.std.specs.Prelude.{◌≡◌, All, length};
 ghost use Rattle.pw_base.specs.Pools.{pools_of};
-ghost use Rattle.board_rule.specs.Layout.{lay};
-ghost use Rattle.area_turns.specs.Plain.{IsPlain};
+ghost use Rattle.io_areas.specs.PooledBoard.{IsPooledBoard};
 ghost use Rattle.area_runs.specs.Writing.{MayFillAll, Puts, AreWritten};
 
-use area_turns::write;
 use board_rule::{Board, LoopSeat};
 use buffer_pool::Pool;
+use io_areas::write_output;
 use pw_base::PoolShape;
 
 /// The node that works gives the samples in each of its pools. `shapes` and `free` have all pools of the board's shape,
@@ -20,19 +20,19 @@ pub(crate) fn write_all(
     free: &mut [Pool],
     samples: &[i16],
 )
-    requires plain { IsPlain (lay board.now.plot) }
-    requires table { seat.old.table ≡ board.now.table.shared.table_id }
-    requires shapes { shapes.now ≡ pools_of board.now.plot.shape }
+    requires plain { IsPooledBoard (layout board.now) }
+    requires table { IsOn board.now seat.old.table }
+    requires shapes { shapes.now ≡ pools_of board.now.board_shape.shape }
     requires lists { length free.old ≡ length shapes.now }
-    requires phase { MayFillAll (lay board.now.plot) seat.old.knows free.old pools.now }
-    requires gives { All (Puts (lay board.now.plot) seat.old.knows samples.now) pools.now }
+    requires phase { MayFillAll (layout board.now) seat.old.knows free.old pools.now }
+    requires gives { All (Puts (layout board.now) seat.old.knows samples.now) pools.now }
     ensures table { seat.new.table ≡ seat.old.table }
-    ensures knows { let p = lay board.now.plot in
+    ensures knows { let p = layout board.now in
         AreWritten p seat.old.knows free.old pools.now seat.new.knows free.new }
 {
     for pool in pools {
         let links = shapes[*pool as usize].links.as_slice();
-        write(
+        write_output(
             board,
             seat,
             *pool,

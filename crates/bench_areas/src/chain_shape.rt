@@ -65,7 +65,7 @@ fn link(from: u32) -> ShapeLink
     }
 }
 
-/// So many followers, each linked to the next, and the last one to the driver, whose number is their count.
+/// `n` followers, each linked to the next, and the last one to the driver, whose number is their count.
 pub fn chain(alloc: Global, count: u32, cycles: u32) -> Result<Shape, Memory>
     requires { count < 64 }
 {
@@ -86,7 +86,7 @@ pub fn chain(alloc: Global, count: u32, cycles: u32) -> Result<Shape, Memory>
     })
 }
 
-/// So many followers without links, whose driver has the number of their count.
+/// `n` followers without links, whose driver has the number of their count.
 pub fn apart(alloc: Global, count: u32, cycles: u32) -> Result<Shape, Memory>
     requires { count < 64 }
 {

@@ -4,7 +4,7 @@ ghost use Rattle.area_runs.specs.Ready.{IsReadyOn, IsLeadReadyOn};
 
 use crate::chain_shape::{apart, chain};
 use crate::checksum::add_last;
-use area_runs::{Lead, Run, Tried, Worker, opened};
+use area_runs::{DriverLoop, Run, Tried, Worker, opened};
 use board_rule::Board;
 use pw_base::{Items, Memory, Shape};
 use std::alloc::Global;
@@ -34,7 +34,7 @@ fn try_all(board: &Board, worker: &mut Worker) -> u64
 }
 
 // One cycle: how many followers ran. None where no cycle is left.
-fn run_cycle(board: &Board, lead: &mut Lead, worker: &mut Worker) -> Option<u64>
+fn run_cycle(board: &Board, lead: &mut DriverLoop, worker: &mut Worker) -> Option<u64>
     requires lead { IsLeadReadyOn board.now lead.old false }
     requires ready { IsReadyOn board.now worker.old }
     ensures lead { IfSome result (λ awake. IsLeadReadyOn board.now lead.new false) }
@@ -51,7 +51,7 @@ fn run_cycle(board: &Board, lead: &mut Lead, worker: &mut Worker) -> Option<u64>
 }
 
 // All cycles: how often a follower ran, and a checksum of what the driver's node read.
-fn run_all(board: &Board, mut lead: Lead, mut worker: Worker) -> (u64, u64)
+fn run_all(board: &Board, mut lead: DriverLoop, mut worker: Worker) -> (u64, u64)
     requires lead { IsLeadReadyOn board.now lead false }
     requires ready { IsReadyOn board.now worker }
 {
@@ -71,7 +71,7 @@ fn run_all(board: &Board, mut lead: Lead, mut worker: Worker) -> (u64, u64)
 // there may be events.
 fn run_shape(alloc: Global, shape: &Shape) -> Result<Option<(u64, u64)>, Memory> {
     let seat_of = Items::filled(alloc, shape.nodes.len(), 0)?;
-    let Some(run) = opened(alloc, shape, &seat_of, 1, &[-12345])? else {
+    let Some(run) = opened(alloc, shape, &seat_of, 1, &[-12345], &[-12345])? else {
         return Ok(None);
     };
     let Run {
@@ -85,7 +85,7 @@ fn run_shape(alloc: Global, shape: &Shape) -> Result<Option<(u64, u64)>, Memory>
     }
 }
 
-/// Runs so many cycles of 1 to 62 followers, in a chain or without links: how often one ran, and the checksum of what the
+/// Runs `n` cycles of 1 to 62 followers, in a chain or without links: how often one ran, and the checksum of what the
 /// driver's node read. None for another count, and where the shape is not sound, as for more cycles than there may be events.
 pub fn run_followers(
     alloc: Global,

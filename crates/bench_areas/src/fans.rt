@@ -3,7 +3,7 @@ ghost use Rattle.std.specs.Prelude.{◌≡◌, false, length, slice_get, IfSome,
 ghost use Rattle.area_runs.specs.Ready.{IsReadyOn, IsLeadReadyOn};
 
 use crate::checksum::add_last;
-use area_runs::{Lead, Run, Tried, Worker, fan, opened};
+use area_runs::{DriverLoop, Run, Tried, Worker, fan, opened};
 use board_rule::Board;
 use pw_base::{Items, Memory};
 use std::alloc::Global;
@@ -55,7 +55,7 @@ fn try_loops(board: &Board, loops: &mut Loops)
 }
 
 // One cycle. False where none is left.
-fn run_cycle(board: &Board, lead: &mut Lead, loops: &mut Loops) -> bool
+fn run_cycle(board: &Board, lead: &mut DriverLoop, loops: &mut Loops) -> bool
     requires lead { IsLeadReadyOn board.now lead.old false }
     requires source { IsReadyOn board.now loops.old.source }
     requires one { IsReadyOn board.now loops.old.one }
@@ -76,7 +76,7 @@ fn run_cycle(board: &Board, lead: &mut Lead, loops: &mut Loops) -> bool
 }
 
 // All cycles: how many there were, and a checksum of what the driver's node read.
-fn run_all(board: &Board, mut lead: Lead, mut loops: Loops) -> (u64, u64)
+fn run_all(board: &Board, mut lead: DriverLoop, mut loops: Loops) -> (u64, u64)
     requires lead { IsLeadReadyOn board.now lead false }
     requires source { IsReadyOn board.now loops.source }
     requires one { IsReadyOn board.now loops.one }
@@ -94,7 +94,7 @@ fn run_all(board: &Board, mut lead: Lead, mut loops: Loops) -> (u64, u64)
     (ran, sum)
 }
 
-/// Runs so many cycles of the fan, each with one quantum of samples: how many there were, and the checksum of what the
+/// Runs `n` cycles of the fan, each with one quantum of samples: how many there were, and the checksum of what the
 /// driver's node read. None where the shape is not sound.
 pub fn run_fan(
     alloc: Global,
@@ -109,7 +109,15 @@ pub fn run_fan(
     let samples = Items::filled(alloc, count as usize, -12345)?;
     let shape = fan(alloc, quantum, channels, cycles)?;
     let seat_of = Items::from_slice(alloc, &[0, 1, 2, 0])?;
-    let Some(run) = opened(alloc, &shape, &seat_of, 3, samples.as_slice())? else {
+    let Some(run) = opened(
+        alloc,
+        &shape,
+        &seat_of,
+        3,
+        samples.as_slice(),
+        samples.as_slice(),
+    )?
+    else {
         return Ok(None);
     };
     let Run {

@@ -12,22 +12,22 @@ use Rattle.pw_base.specs.EventWords.{event_word_of}
 use Rattle.pw_base.specs.Layout.{event_count, event_place, status_place}
 use Rattle.board_rule.specs.declared.view.Phase.{Phase}
 use Rattle.board_rule.specs.declared.view.Phase.TheVariants.{Idle, Awake, StartDrawn, Done, FinishDrawn}
-use Rattle.board_rule.specs.declared.view.Drive.TheVariants as drives
+use Rattle.board_rule.specs.declared.view.DriverPhase.TheVariants as drives
 use Rattle.board_rule.specs.declared.view.NodeView.{NodeView}
-use Rattle.board_rule.specs.declared.view.LeadView.{LeadView}
+use Rattle.board_rule.specs.declared.view.DriverView.{DriverView}
 use Rattle.board_rule.specs.declared.view.Trail.{Trail}
 use Rattle.board_rule.specs.declared.view.Found.{Found}
 use Rattle.board_rule.specs.declared.view.View.{View}
-use Rattle.board_rule.specs.Layout.{Lay, IsSound, nodes}
+use Rattle.board_rule.specs.Layout.{BoardLayout, IsSound, nodes}
 use Rattle.board_rule.specs.Phases.{phase_stage, PhaseOk, phase_drawn, is_resetting}
 use Rattle.board_rule.specs.Marks.{phase_started, phase_finished, phase_holds}
 use Rattle.board_rule.specs.View.{Whole, node_of, with_node, with_lead, view_node, view_lead, view_trail}
-use Rattle.board_rule.specs.ActivationRule.{Activations, posts}
+use Rattle.board_rule.specs.ActivationRule.{Activations, progress}
 use Rattle.board_rule.specs.EventRule.{Events, so_far, marks, lead_drawn, node_drawn}
 use Rattle.board_rule.specs.Spans.{phase_over, phase_begun}
 use Rattle.board_rule.specs.BoardRule.{Holds}
 use Rattle.board_rule.specs.Steps.{Has}
-use Rattle.board_rule.specs.Plays.{Turns, Learns}
+use Rattle.board_rule.specs.Plays.{Leaves, Learns}
 use Rattle.board_rule.proofs.SeatLemmas.{node_step, lead_step, look_step, seated_logs}
 use Rattle.board_rule.proofs.TicketLemmas.{count_node, count_lead, few_tickets}
 use Rattle.board_rule.proofs.FollowerLemmas.{stage_at, not_resetting, same_node}
@@ -41,7 +41,7 @@ drawn_word : (ws : List ℕ) (k : ℕ) → 0 < length ws → get_or (set ws 0 (s
 drawn_word [] k h = absurd (omega arith)
 drawn_word (x ∷ xs) k h = refl
 
-module _ (p : Lay) where
+module _ (p : BoardLayout) where
   -- the activation rule does not read the events
   pub act_logs : (g : Whole) (ws : List ℕ) (past inside : List Event) (late : ℕ) (looks : List Found) → Activations p g ws
       → Activations p (record g { past = past; inside = inside; late = late; looks = looks }) ws
@@ -83,7 +83,7 @@ module _ (p : Lay) where
         let few = few_tickets p (with_node g m new) (found + 1) ws sound active
         (count_node p g found 1 m x new has.inside has.follows same (omega arith) e.count) in
         let limit = sound.events in
-        let stage : (posts p g).stage m ≡ 1 = stage_at p g m has.follows ∙ ap (phase_stage (eqb (g.nodes m).next g.lead.cycle)) phase' in
+        let stage : (progress p g).stage m ≡ 1 = stage_at p g m has.follows ∙ ap (phase_stage (eqb (g.nodes m).next g.lead.cycle)) phase' in
         let inside : List Event = g.inside ++ Start g.lead.cycle (p.number m) ∷ [] in
         let word : (found + 1) % 2 ^ 64 ≡ suc found = omega arith in (
           view_node me.0 m new me.0.trail,
@@ -163,8 +163,8 @@ module _ (p : Lay) where
         ≡ Some (e r.whole.lead.cycle))
         → ((found : ℕ) → after found ≡ view_node me.0 m (record (node_of me.0 m) { phase = h }) me.0.trail)
         → Allows (Holds p) slots id me (event_place p.shape k) (λ _. event_word_of (e (node_of me.0 m).next))
-        (λ _. Turns after me (event_word_of (e (node_of me.0 m).next)))
-    store_allowed slots id m k me f h e after has like phase started finished drawn over begun none one near logged is_after s r _ at fits =
+        (λ _. Leaves after me (event_word_of (e (node_of me.0 m).next)))
+    store_allowed slots id m k me f h e after has like phase started finished drawn ended begun none one near logged is_after s r _ at fits =
         let g = r.whole in let a = r.activations in let sound = r.seated.sound in let long = r.seated.long in
         let x : NodeView = node_of me.0 m in
         let new : NodeView = record x { phase = h } in
@@ -192,14 +192,14 @@ module _ (p : Lay) where
                 (omega arith) has.inside has.follows same now phase runs_on busy started finished none one (logged s r at same phase')
                 (omega arith);
             buffers = buffers_node p g s.words (set s.words i (event_word_of (e g.lead.cycle))) m x new
-                (wired_in p g s.words s.views r.seated) same (phase_paced x f new phase refl over begun)
+                (wired_in p g s.words s.views r.seated) same (phase_paced x f new phase refl ended begun)
                 (log_word p s.words i (event_word_of (e g.lead.cycle)) (omega arith, omega arith)) r.buffers;
           },
           (sym (is_after (event_word_of (e x.next))), refl),
         )
 
     -- the driver's seat draws a ticket
-    pub draw_lead_allowed : (slots id : ℕ) (me : Me S View) (y : ℕ → LeadView) (t : Trail) (after : ℕ → View) (says : ℕ → Type 0)
+    pub draw_lead_allowed : (slots id : ℕ) (me : Me S View) (y : ℕ → DriverView) (t : Trail) (after : ℕ → View) (says : ℕ → Type 0)
         → me.0.number ≡ p.seats
         → ((g : Whole) (ws : List ℕ) → me.0.lead ≡ g.lead → Activations p g ws → (k : ℕ)
         → Activations p (with_lead g (y k)) (set ws 0 (suc k))) → ((k : ℕ) → lead_drawn me.0.lead + 1 ≤ lead_drawn (y k))
@@ -213,12 +213,12 @@ module _ (p : Lay) where
     draw_lead_allowed slots id me y t after says number goes more paced logs is_after is_said s r _ at fits =
         let g = r.whole in let sound = r.seated.sound in let wide = r.seated.wide in
         let is = lead_is p s r id me.0 at number in
-        let looks = ((r.seated.knows id me.0 at).leads number).2 in
+        let looks = ((r.seated.knows id me.0 at).is_driver number).2 in
         let found : ℕ = get_or s.words 0 0 in
         let ws : List ℕ = set s.words 0 (suc found) in
         let active = goes g s.words is r.activations found in
         let least : lead_drawn g.lead + 1 ≤ lead_drawn (y found) =
-        subst (λ (l : LeadView). lead_drawn l + 1 ≤ lead_drawn (y found)) is (more found) in
+        subst (λ (l : DriverView). lead_drawn l + 1 ≤ lead_drawn (y found)) is (more found) in
         let e = r.events in
         let few = few_tickets p (with_lead g (y found)) (found + 1) ws sound active (count_lead p g found 1 (y found) least e.count) in
         let limit = sound.events in
@@ -234,14 +234,14 @@ module _ (p : Lay) where
             activations = act_logs (with_lead g (y found)) ws g.past l.0 g.late t.looks active;
             events = l.1;
             buffers = buffers_lead p g s.words ws (y found) (wired_in p g s.words s.views r.seated)
-                (subst (λ (x : LeadView). IsLeadPaced x (y found)) is (paced found))
+                (subst (λ (x : DriverView). IsLeadPaced x (y found)) is (paced found))
                 (early_word p s.words 0 (suc found) (omega arith)) r.buffers;
           },
           (sym (is_after found), refl, is_said found (omega arith)),
         )
 
     -- the driver's seat stores an event or a late set in the word i
-    pub store_lead_allowed : (slots id i x : ℕ) (me : Me S View) (y : LeadView) (t : Trail) (after : ℕ → View) → me.0.number ≡ p.seats
+    pub store_lead_allowed : (slots id i x : ℕ) (me : Me S View) (y : DriverView) (t : Trail) (after : ℕ → View) → me.0.number ≡ p.seats
         → t.looks ≡ me.0.trail.looks → IsLogWord p i → IsLeadPaced me.0.lead y
         → ((g : Whole) (ws : List ℕ) → IsSound p → me.0.lead ≡ g.lead → Activations p g ws → Activations p (with_lead g y) (set ws i x))
         → ((g : Whole) (ws : List ℕ) → me.0.lead ≡ g.lead → me.0.trail.looks ≡ g.looks → IsSound p → Activations p g ws → Events p g ws
@@ -249,11 +249,11 @@ module _ (p : Lay) where
         → (past inside : List Event) × (late : ℕ) × Events p
         (record (with_lead g y) { past = past; inside = inside; late = late; looks = g.looks }) (set ws i x))
         → ((found : ℕ) → after found ≡ view_lead me.0 y t)
-        → Allows (Holds p) slots id me i (λ _. x) (λ _. Turns after me x)
+        → Allows (Holds p) slots id me i (λ _. x) (λ _. Leaves after me x)
     store_lead_allowed slots id i x me y t after number seen log paced goes logs is_after s r _ at fits =
         let g = r.whole in let sound = r.seated.sound in
         let is = lead_is p s r id me.0 at number in
-        let looks = ((r.seated.knows id me.0 at).leads number).2 in
+        let looks = ((r.seated.knows id me.0 at).is_driver number).2 in
         let ws : List ℕ = set s.words i x in
         let l = logs g s.words is looks sound r.activations r.events r.seated.long in (
           view_lead me.0 y t,
@@ -266,7 +266,7 @@ module _ (p : Lay) where
             activations = act_logs (with_lead g y) ws l.0 l.1 l.2 g.looks (goes g s.words sound is r.activations);
             events = l.3;
             buffers = buffers_lead p g s.words ws y (wired_in p g s.words s.views r.seated)
-                (subst (λ (z : LeadView). IsLeadPaced z y) is paced) (log_word p s.words i x log) r.buffers;
+                (subst (λ (z : DriverView). IsLeadPaced z y) is paced) (log_word p s.words i x log) r.buffers;
           },
           (sym (is_after x), refl),
         )
@@ -276,12 +276,12 @@ module _ (p : Lay) where
         → n < nodes p → n ≢ p.driver
         → ((found : ℕ) → after found ≡ view_trail me.0 (record me.0.trail
         { looks = record { node = p.number n; word = found } ∷ me.0.trail.looks }))
-        → Allows (Holds p) slots id me (status_place p.shape n) (λ k. k) (Turns after me)
+        → Allows (Holds p) slots id me (status_place p.shape n) (λ k. k) (Leaves after me)
     look_allowed slots id n me after number phase inside follows is_after s r _ at fits =
         let g = r.whole in let sound = r.seated.sound in
         let is = lead_is p s r id me.0 at number in
-        let drive : g.lead.drive ≡ drives.Checking = ap (λ (l : LeadView). l.drive) (sym is) ∙ phase in
-        let looks = ((r.seated.knows id me.0 at).leads number).2 in
+        let drive : g.lead.drive ≡ drives.Checking = ap (λ (l : DriverView). l.drive) (sym is) ∙ phase in
+        let looks = ((r.seated.knows id me.0 at).is_driver number).2 in
         let i : ℕ = status_place p.shape n in
         let found : ℕ = get_or s.words i 0 in
         let t : Trail = record me.0.trail { looks = record { node = p.number n; word = found } ∷ me.0.trail.looks } in

@@ -6,14 +6,18 @@ use native.Mathlib.Decide.{ℕ_discrete}
 use Rattle.pw_base.specs.declared.pools.PoolShape.{PoolShape}
 use Rattle.pw_base.specs.Layout.{io_place, readers_place, sample_place}
 use Rattle.board_rule.specs.declared.view.BlockView.{BlockView}
-use Rattle.board_rule.specs.Layout.{Lay, first}
+use Rattle.board_rule.specs.Layout.{BoardLayout, first}
 use Rattle.board_rule.specs.StartViews.{Samples}
 use Rattle.board_rule.specs.View.{put}
 use Rattle.board_rule.specs.Areas.{Span}
-use Rattle.board_rule.specs.BlockReadings.{Ends, is_busy}
+use Rattle.board_rule.specs.declared.view.WriteView.{WriteView}
+use Rattle.board_rule.specs.declared.view.BlockView.TheVariants.{Out}
+use Rattle.board_rule.specs.Areas.{stored_id}
+use Rattle.board_rule.specs.BufferRule.{NamesBlocks, BlockOk, PoolOk, Buffers}
+use Rattle.board_rule.specs.BlockReadings.{Ends, is_busy, stamp, delay_at, busy_cycles}
 use Rattle.board_rule.proofs.SeatLemmas.{put_here, put_else}
-use Rattle.board_rule.proofs.WiringLemmas.{PoolAt, Wired}
-use Rattle.board_rule.proofs.PlainLemmas.{PlainLink, PlainBlock, Plain}
+use Rattle.board_rule.proofs.WiringLemmas.{PoolAt, Wired, busy_cycles_some}
+use Rattle.board_rule.proofs.DelayLemmas.{link_stays}
 
 -- what is known after a step on the block b of the pool q
 abbrev pub with_block : Ends → ℕ → ℕ → BlockView → Ends
@@ -30,53 +34,102 @@ module _ (ends : Ends) (q b : ℕ) (y : BlockView) where
       ∙ put_else (ends.blocks q) b c y (λ v. o (z, v)) ∙ ap (λ i. ends.blocks i c) (sym z))
       (λ z. ap (λ (f : ℕ → BlockView). f c) (put_else ends.blocks q r (put (ends.blocks q) b y) z))
 
-module _ (p : Lay) (s : ℕ → Span) (ends : Ends) (e : Samples) (ws after : List ℕ) (w : Wired p) (q n : ℕ) (x : PoolShape)
-    (at : PoolAt p q x) (inside : n < x.blocks) (b : Plain p s ends e ws) where
+module _ (p : BoardLayout) where
+  -- a link of the pool x names the same blocks after the block n became y: it was no block that the link names, and if it is
+  -- out now, the link names it
+  pub names_put : (x : PoolShape) (late loaded n : ℕ) (w : WriteView) (blocks : ℕ → BlockView) (y : BlockView)
+      → NamesBlocks p x late loaded w blocks
+      → ((m : ℕ) → loaded < m + busy_cycles p x → blocks n ≡ Out m → ⊥)
+      → ((a m : ℕ) → a ≤ late → m + a ≡ w.stored → first p < m + late → y ≡ Out m → stored_id w a ≡ n)
+      → NamesBlocks p x late loaded w (put blocks n y)
+  names_put x late loaded n w blocks y o gone new = record {
+    out = λ a m h i j z. put_else blocks n (stored_id w a) y
+        (λ u. gone m z (ap blocks (sym u) ∙ o.out a m h i j z)) ∙ o.out a m h i j z;
+    zero = o.zero;
+    names = λ a m c h i j low is. dite (ℕ_discrete c n)
+        (λ u. new a m h i j (sym (put_here blocks n y) ∙ ap (put blocks n y) (sym u) ∙ is) ∙ sym u)
+        (λ u. o.names a m c h i j low (sym (put_else blocks n c y u) ∙ is));
+  }
+
+  -- the stamps of two busy blocks of a pool
+  abbrev pub AreNear : PoolShape → ℕ → BlockView → BlockView → Type 0
+  AreNear x ended a y = (stamp ended a ≢ stamp ended y) × (stamp ended a < stamp ended y + busy_cycles p x) × (stamp ended y < stamp ended a + busy_cycles p x)
+
+module _ (p : BoardLayout) (s : ℕ → Span) (ends : Ends) (e : Samples) (ws after : List ℕ) (w : Wired p) (q n : ℕ) (x : PoolShape)
+    (at : PoolAt p q x) (inside : n < x.blocks) (b : Buffers p s ends e ws) where
   -- the block n of the pool q becomes y, and only its words change
-  pub plain_block : (y : BlockView) → PlainBlock p q n x (s (p.place x.port.node)) ends.reads e y after
-      → ((l : ℕ) → Contains x.links l → first p < (ends.writes l).stored → (ends.reads l).lowered < (ends.writes l).stored
-      → (ends.writes l).id ≢ n)
-      → ((a : ℕ) → a < x.blocks → a ≢ n → is_busy (ends.blocks q a) ≡ true → is_busy y ≡ true → ⊥)
+  pub buffers_block : (y : BlockView) → BlockOk p q n x (s (p.index x.port.node)) ends.reads e y after
+      → ((l m : ℕ) → Contains x.links l → Contains x.links m
+      → NamesBlocks p x (delay_at p l) (ends.writes m).loaded (ends.writes l) (put (ends.blocks q) n y))
+      → ((a : ℕ) → a < x.blocks → a ≢ n → is_busy (ends.blocks q a) ≡ true → is_busy y ≡ true
+      → AreNear p x (s (p.index x.port.node)).ended (ends.blocks q a) y)
       → ((j : ℕ) → (readers_place p.shape q n ≤ j → j ≤ readers_place p.shape q n + x.words → ⊥) → get_or after j 0 ≡ get_or ws j 0)
-      → Plain p s (with_block ends q n y) e after
-  plain_block y ok unnamed only same = record {
-    links = λ r l z k to c is. let i = (w.io_in l k is).1 in let f = (w.readers_in q n x at inside).0 in
-        subst (λ v. PlainLink (first p) z.blocks (s (p.place k.from.node)) (s (p.place k.to.node)) (ends.writes l) (ends.reads l) v)
-        (sym (same (io_place p.shape l 0) (λ u v. omega arith))) (b.links r l z k to c is);
+      → Buffers p s (with_block ends q n y) e after
+  buffers_block y ok names near same = record {
+    links = λ r l z k to c is. let o = b.links r l z k to c is in let t₀ = o.writer_turn.0 in let t₁ = o.reader_turn.0 in
+        let f = (w.readers_in q n x at inside).0 in
+        link_stays (first p) z.blocks k (s (p.index k.from.node)) (s (p.index k.to.node)) (s (p.index k.from.node)) (s (p.index k.to.node))
+        (ends.writes l) (ends.reads l) (λ i. get_or ws (io_place p.shape l i) 0) (λ i. get_or after (io_place p.shape l i) 0) o
+        t₀ (omega arith) t₁ (omega arith)
+        (λ i h. same (io_place p.shape l i) (λ u v. let j = (w.io_in l i k is h).1 in omega arith));
     blocks = λ r c z to h. dite (ℕ_discrete r q)
         (λ u. dite (ℕ_discrete c n) (λ v. here r c z to u v) (λ v. other r c z to h (λ t. v t.1)))
         (λ u. other r c z to h (λ t. u t.0));
-    out = λ r l z to c new less. dite (ℕ_discrete r q)
-        (λ u. let xz : z ≡ x = cc in block_else ends q n y r (ends.writes l).id
-        (λ t. unnamed l (subst (λ (v : PoolShape). Contains v.links l) xz c) new less t.1) ∙ b.out r l z to c new less)
-        (λ u. block_else ends q n y r (ends.writes l).id (λ t. u t.0) ∙ b.out r l z to c new less);
-    one = λ r a c z to ha hc ba bc. dite (ℕ_discrete r q)
-        (λ u. let xz : z ≡ x = cc in let count : z.blocks ≡ x.blocks = ap (λ (v : PoolShape). v.blocks) xz in dite (ℕ_discrete a n)
-        (λ v. dite (ℕ_discrete c n) (λ t. v ∙ sym t) (λ t. absurd (only c (omega arith) t (busy_else r c u t bc) (busy_here r a u v ba))))
-        (λ v. dite (ℕ_discrete c n) (λ t. absurd (only a (omega arith) v (busy_else r a u v ba) (busy_here r c u t bc)))
-        (λ t. b.one r a c z to ha hc (sym (ap is_busy (block_else ends q n y r a (λ m. v m.1))) ∙ ba)
-        (sym (ap is_busy (block_else ends q n y r c (λ m. t m.1))) ∙ bc))))
-        (λ u. b.one r a c z to ha hc (sym (ap is_busy (block_else ends q n y r a (λ m. u m.0))) ∙ ba)
-        (sym (ap is_busy (block_else ends q n y r c (λ m. u m.0))) ∙ bc));
+    pools = λ r z to. dite (ℕ_discrete r q)
+        (λ u. let xz : x ≡ z = cc in subst
+        (λ (t : ℕ × PoolShape). PoolOk p t.1 (s (p.index t.1.port.node)) ends.writes ((with_block ends q n y).blocks t.0))
+        (λ i. (sym u i, xz i)) (subst (PoolOk p x (s (p.index x.port.node)) ends.writes) (sym now) mine))
+        (λ u. subst (PoolOk p z (s (p.index z.port.node)) ends.writes) (sym (put_else ends.blocks q r (put (ends.blocks q) n y) u))
+        (b.pools r z to));
   }
     where
-      busy_here : (r a : ℕ) → r ≡ q → a ≡ n → is_busy ((with_block ends q n y).blocks r a) ≡ true → is_busy y ≡ true
-      busy_here r a u v h = sym (ap is_busy ((λ i. (with_block ends q n y).blocks (u i) (v i)) ∙ block_here ends q n y)) ∙ h
+      now : (with_block ends q n y).blocks q ≡ put (ends.blocks q) n y
+      now = put_here ends.blocks q (put (ends.blocks q) n y)
 
-      busy_else : (r a : ℕ) → r ≡ q → a ≢ n → is_busy ((with_block ends q n y).blocks r a) ≡ true → is_busy (ends.blocks q a) ≡ true
-      busy_else r a u o h = ap (λ i. is_busy (ends.blocks i a)) (sym u) ∙ sym (ap is_busy (block_else ends q n y r a (λ t. o t.1))) ∙ h
+      -- the pool
+      mine : PoolOk p x (s (p.index x.port.node)) ends.writes (put (ends.blocks q) n y)
+      mine = let o = b.pools q x at in let ended : ℕ = (s (p.index x.port.node)).ended in
+          let some = busy_cycles_some p x in
+          let at_n : put (ends.blocks q) n y n ≡ y = put_here (ends.blocks q) n y in
+          let else : (c : ℕ) → c ≢ n → put (ends.blocks q) n y c ≡ ends.blocks q c = λ c u. put_else (ends.blocks q) n c y u in
+          let near_to : (a : ℕ) → a < x.blocks → a ≢ n → is_busy (put (ends.blocks q) n y a) ≡ true
+          → is_busy y ≡ true → AreNear p x ended (put (ends.blocks q) n y a) y =
+          λ a h u ba by. subst (λ v. AreNear p x ended v y) (sym (else a u)) (near a h u (ap is_busy (sym (else a u)) ∙ ba) by) in record {
+            named = names;
+            apart = λ a c ha hc ba bc t. dite (ℕ_discrete a n)
+                (λ u. dite (ℕ_discrete c n) (λ v. u ∙ sym v)
+                (λ v. absurd ((near_to c hc v bc (ap is_busy (sym at_n ∙ ap (put (ends.blocks q) n y) (sym u)) ∙ ba)).0
+                (sym t ∙ ap (stamp ended) (ap (put (ends.blocks q) n y) u ∙ at_n)))))
+                (λ u. dite (ℕ_discrete c n)
+                (λ v. absurd ((near_to a ha u ba (ap is_busy (sym at_n ∙ ap (put (ends.blocks q) n y) (sym v)) ∙ bc)).0
+                (t ∙ ap (stamp ended) (ap (put (ends.blocks q) n y) v ∙ at_n))))
+                (λ v. o.apart a c ha hc (ap is_busy (sym (else a u)) ∙ ba) (ap is_busy (sym (else c v)) ∙ bc)
+                (ap (stamp ended) (sym (else a u)) ∙ t ∙ ap (stamp ended) (else c v))));
+            near = λ a c ha hc ba bc. dite (ℕ_discrete a n)
+                (λ u. let sa : stamp ended (put (ends.blocks q) n y a) ≡ stamp ended y =
+                ap (stamp ended) (ap (put (ends.blocks q) n y) u ∙ at_n) in dite (ℕ_discrete c n)
+                (λ v. let sc : stamp ended (put (ends.blocks q) n y c) ≡ stamp ended y =
+                ap (stamp ended) (ap (put (ends.blocks q) n y) v ∙ at_n) in omega arith)
+                (λ v. let h = (near_to c hc v bc (ap is_busy (sym at_n ∙ ap (put (ends.blocks q) n y) (sym u)) ∙ ba)).2 in omega arith))
+                (λ u. dite (ℕ_discrete c n)
+                (λ v. let sc : stamp ended (put (ends.blocks q) n y c) ≡ stamp ended y =
+                ap (stamp ended) (ap (put (ends.blocks q) n y) v ∙ at_n) in
+                let h = (near_to a ha u ba (ap is_busy (sym at_n ∙ ap (put (ends.blocks q) n y) (sym v)) ∙ bc)).1 in omega arith)
+                (λ v. let h = o.near a c ha hc (ap is_busy (sym (else a u)) ∙ ba) (ap is_busy (sym (else c v)) ∙ bc) in
+                let sa = ap (stamp ended) (else a u) in let sc = ap (stamp ended) (else c v) in omega arith));
+          }
 
       here : (r c : ℕ) (z : PoolShape) → PoolAt p r z → r ≡ q → c ≡ n
-          → PlainBlock p r c z (s (p.place z.port.node)) ends.reads e ((with_block ends q n y).blocks r c) after
+          → BlockOk p r c z (s (p.index z.port.node)) ends.reads e ((with_block ends q n y).blocks r c) after
       here r c z to u v = let xz : x ≡ z = cc in subst
-          (λ (t : ℕ × ℕ × PoolShape). PlainBlock p t.0 t.1 t.2 (s (p.place t.2.port.node)) ends.reads e
+          (λ (t : ℕ × ℕ × PoolShape). BlockOk p t.0 t.1 t.2 (s (p.index t.2.port.node)) ends.reads e
           ((with_block ends q n y).blocks t.0 t.1) after) (λ i. (sym u i, sym v i, xz i))
-          (subst (λ t. PlainBlock p q n x (s (p.place x.port.node)) ends.reads e t after) (sym (block_here ends q n y)) ok)
+          (subst (λ t. BlockOk p q n x (s (p.index x.port.node)) ends.reads e t after) (sym (block_here ends q n y)) ok)
 
       other : (r c : ℕ) (z : PoolShape) → PoolAt p r z → c < z.blocks → ((r ≡ q) × (c ≡ n) → ⊥)
-          → PlainBlock p r c z (s (p.place z.port.node)) ends.reads e ((with_block ends q n y).blocks r c) after
+          → BlockOk p r c z (s (p.index z.port.node)) ends.reads e ((with_block ends q n y).blocks r c) after
       other r c z to h o = let k = b.blocks r c z to h in let a = w.apart r q c n z x to at h inside o in let f = k.full in
-          subst (λ t. PlainBlock p r c z (s (p.place z.port.node)) ends.reads e t after) (sym (block_else ends q n y r c o)) record {
+          subst (λ t. BlockOk p r c z (s (p.index z.port.node)) ends.reads e t after) (sym (block_else ends q n y r c o)) record {
             low = k.low;
             high = k.high;
             full = k.full;

@@ -14,19 +14,19 @@ use Rattle.pw_base.specs.Layout.{event_place, late_place, status_place}
 use Rattle.pw_base.specs.Words.{status_word_of, finished_word}
 use Rattle.board_rule.specs.declared.view.Phase.{Phase}
 use Rattle.board_rule.specs.declared.view.Phase.TheVariants.{Idle, Awake, StartDrawn, Running, Done, FinishDrawn, Telling}
-use Rattle.board_rule.specs.declared.view.Drive.{Drive}
-use Rattle.board_rule.specs.declared.view.Drive.TheVariants as drives
+use Rattle.board_rule.specs.declared.view.DriverPhase.{DriverPhase}
+use Rattle.board_rule.specs.declared.view.DriverPhase.TheVariants as drives
 use Rattle.board_rule.specs.declared.view.NodeView.{NodeView}
-use Rattle.board_rule.specs.declared.view.LeadView.{LeadView}
+use Rattle.board_rule.specs.declared.view.DriverView.{DriverView}
 use Rattle.board_rule.specs.declared.view.Found.{Found}
-use Rattle.board_rule.specs.Layout.{Lay, IsSound, nodes, first, last}
+use Rattle.board_rule.specs.Layout.{BoardLayout, IsSound, nodes, first, last}
 use Rattle.board_rule.specs.Phases.{phase_stage, is_resetting, drive_stage, PhaseOk}
 use Rattle.board_rule.specs.View.{Whole, with_lead}
 use Rattle.board_rule.specs.Marks.{phase_started, phase_finished, phase_holds, drive_started, drive_finished, drive_holds, drive_tells}
 use Rattle.board_rule.specs.Marks.{drive_sees, is_begun, is_ending, is_checking}
-use Rattle.board_rule.specs.ActivationRule.{Activations, posts}
+use Rattle.board_rule.specs.ActivationRule.{Activations, progress}
 use Rattle.board_rule.specs.EventSteps.{late_of}
-use Rattle.board_rule.specs.EventRule.{Events, Marks, Inside, so_far, marks, tally, records, lead_drawn}
+use Rattle.board_rule.specs.EventRule.{Events, Marks, Inside, so_far, marks, counts, records, lead_drawn}
 use Rattle.board_rule.proofs.DrawLemmas.{Logs, none_in, member}
 use Rattle.board_rule.proofs.StoreLemmas.{event_stored, late_set, ended}
 use Rattle.board_rule.proofs.LateLemmas.{told_late, inside_looks}
@@ -52,10 +52,10 @@ unfinished n c next Done ok o = absurd (o refl)
 unfinished n c next FinishDrawn ok o = absurd (o refl)
 unfinished n c next (Telling i d) ok o = absurd (o refl)
 
-module _ (p : Lay) where
+module _ (p : BoardLayout) where
   module _ (g : Whole) (ws : List ℕ) (sound : IsSound p) (a : Activations p g ws) (e : Events p g ws) where
     -- the driver's seat stores an event of its cycle, but the End
-    pub events_lead_stored : (d h : Drive) (k : ℕ) (x : Event) → g.lead.drive ≡ d → event_place p.shape k < length ws
+    pub events_lead_stored : (d h : DriverPhase) (k : ℕ) (x : Event) → g.lead.drive ≡ d → event_place p.shape k < length ws
         → slice_get (g.past ++ so_far (marks p g) g.lead.cycle g.inside) k ≡ Some x
         → drive_started h ≡ drive_started d → drive_finished h ≡ drive_finished d → is_begun d ≡ true → is_ending d ≡ false
         → is_begun h ≡ true → is_ending h ≡ false → is_checking h ≡ false → drive_sees g.looks h ≡ drive_sees g.looks d
@@ -95,7 +95,7 @@ module _ (p : Lay) where
           inside = logs.inside;
         }
 
-    abbrev stored : LeadView
+    abbrev stored : DriverView
     stored = record g.lead { drive = drives.LateStored }
 
     -- the late set of a check is stored
@@ -129,20 +129,20 @@ module _ (p : Lay) where
     events_looked n found d runs_on inside follows is = let c : ℕ = g.lead.cycle in let i = e.inside in
         let run = words_run p g g.lead.drive ws runs_on a.laid in let o = run.node n inside in
         let late : ¬ (found ≡ finished_word c) → IsLate p.shape g.inside c (p.number n) = λ other.
-        let z : (tally p g).finished n ≡ 0 = node_was p g (λ (z : NodeView). cond (eqb z.next c) (phase_finished z.phase) 1)
+        let z : (counts p g).finished n ≡ 0 = node_was p g (λ (z : NodeView). cond (eqb z.next c) (phase_finished z.phase) 1)
         (drive_finished g.lead.drive) n follows
         ∙ unfinished (length (p.targets n)) c (g.nodes n).next (g.nodes n).phase (a.followers n inside follows)
         (λ two. other (is ∙ o.status_is ∙ ap (λ k. status_word_of k c)
-        (kind_is o.kind (posts p g).stage n (stage_at p g n follows ∙ two) o.kinds o.asleep o.awake))) in
+        (kind_is o.kind (progress p g).stage n (stage_at p g n follows ∙ two) o.kinds o.asleep o.awake))) in
         let ends = first_at_end (is_finish c (p.number n)) g.inside (i.finishes n inside ∙ z) in
         let one : count_by is_tick g.inside ≡ 1 = i.ticks ∙ ap (λ b. cond {A = ℕ} b 1 0) (e.checking (ap is_checking d)) in
         let near = first_within is_tick g.inside (omega arith) in (
           member p sound n inside,
-          λ q. follows (sym (sound.at n inside) ∙ ap p.place (q ∙ sym sound.names_driver)
+          λ q. follows (sym (sound.at n inside) ∙ ap p.index (q ∙ sym sound.names_driver)
               ∙ sound.at p.driver sound.driver_in),
           omega arith,
         ) in
-        let more = inside_looks p c g.late (tally p g) g.inside (record { node = p.number n; word = found }) i late in record {
+        let more = inside_looks p c g.late (counts p g) g.inside (record { node = p.number n; word = found }) i late in record {
           count = e.count;
           checks = e.checks;
           checking = e.checking;
@@ -156,7 +156,7 @@ module _ (p : Lay) where
             told_kept = k.told_kept;
           };
           earlier = e.earlier;
-          inside = subst (λ (fs : List Found). Inside p c g.late (record (tally p g) { sees = fs }) g.inside)
+          inside = subst (λ (fs : List Found). Inside p c g.late (record (counts p g) { sees = fs }) g.inside)
               (ap (λ (fs : List Found). let f : Found = record { node = p.number n; word = found } in f ∷ fs) (ap (drive_sees g.looks) d)
               ∙ sym (ap (drive_sees (record { node = p.number n; word = found } ∷ g.looks)) d)) more;
         }
@@ -167,7 +167,7 @@ module _ (p : Lay) where
             (λ z. absurd (dite (ℕ_discrete kind 2) (λ y. let f = awake y in omega arith)
             (λ y. let f = asleep (omega arith) in omega arith)))
 
-    abbrev next : LeadView
+    abbrev next : DriverView
     next = record g.lead { cycle = g.lead.cycle + 1; drive = drives.Between; checked = false }
 
     count_cycle : (c : ℕ) (xs : List Event) → count_by is_tick (Begin c ∷ (xs ++ End c ∷ [])) ≡ count_by is_tick xs
@@ -204,17 +204,17 @@ module _ (p : Lay) where
         ∙ lead_here p g (drive_holds g.lead g.lead.drive) (λ z. phase_holds z z.phase) ∙ ap (drive_holds g.lead) d)
         (λ q. node_was p g (λ z. phase_holds z z.phase) (drive_holds g.lead g.lead.drive) n q
         ∙ ap (phase_holds (g.nodes n)) (done n l q).1))
-        (λ n l. dite (ℕ_discrete n p.driver) (λ q. ap (marks p g).tally.started q ∙ lead_here p g (drive_started g.lead.drive) S
+        (λ n l. dite (ℕ_discrete n p.driver) (λ q. ap (marks p g).counts.started q ∙ lead_here p g (drive_started g.lead.drive) S
         ∙ ap drive_started d) (λ q. node_was p g S (drive_started g.lead.drive) n q
         ∙ ap (λ b. cond b (phase_started (g.nodes n).phase) 1) (past_c n l q)))
-        (λ n l. dite (ℕ_discrete n p.driver) (λ q. ap (marks p g).tally.finished q ∙ lead_here p g (drive_finished g.lead.drive) F
+        (λ n l. dite (ℕ_discrete n p.driver) (λ q. ap (marks p g).counts.finished q ∙ lead_here p g (drive_finished g.lead.drive) F
         ∙ ap drive_finished d) (λ q. node_was p g F (drive_finished g.lead.drive) n q
         ∙ ap (λ b. cond b (phase_finished (g.nodes n).phase) 1) (past_c n l q)))
-        (λ n l. dite (ℕ_discrete n p.driver) (λ q. ap (marks p h).tally.started q
+        (λ n l. dite (ℕ_discrete n p.driver) (λ q. ap (marks p h).counts.started q
         ∙ lead_here p h 0 (λ z. cond (eqb z.next (c + 1)) (phase_started z.phase) 1))
         (λ q. node_was p h (λ z. cond (eqb z.next (c + 1)) (phase_started z.phase) 1) 0 n q
         ∙ (let z = done n l q in λ i. cond (eq-eqb (g.nodes n).next (c + 1) z.0 i) (phase_started (z.1 i)) 1)))
-        (λ n l. dite (ℕ_discrete n p.driver) (λ q. ap (marks p h).tally.finished q
+        (λ n l. dite (ℕ_discrete n p.driver) (λ q. ap (marks p h).counts.finished q
         ∙ lead_here p h 0 (λ z. cond (eqb z.next (c + 1)) (phase_finished z.phase) 1))
         (λ q. node_was p h (λ z. cond (eqb z.next (c + 1)) (phase_finished z.phase) 1) 0 n q
         ∙ (let z = done n l q in λ i. cond (eq-eqb (g.nodes n).next (c + 1) z.0 i) (phase_finished (z.1 i)) 1)))

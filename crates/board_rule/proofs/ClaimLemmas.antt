@@ -9,21 +9,21 @@ use lib.Seq.{set-get_or}
 use prog.Atomic.{either}
 use Rattle.atomic_table.specs.Table.{State, Me, keeps, stepped, Allows}
 use Rattle.board_rule.specs.declared.view.Phase.TheVariants.{Idle, Awake}
-use Rattle.board_rule.specs.declared.view.Drive.{Drive}
-use Rattle.board_rule.specs.declared.view.Drive.TheVariants as drives
+use Rattle.board_rule.specs.declared.view.DriverPhase.{DriverPhase}
+use Rattle.board_rule.specs.declared.view.DriverPhase.TheVariants as drives
 use Rattle.board_rule.specs.declared.view.NodeView.{NodeView}
 use Rattle.board_rule.specs.declared.view.Trail.{Trail}
 use Rattle.board_rule.specs.declared.view.View.{View}
 use Rattle.pw_base.specs.Layout.{status_place}
 use Rattle.pw_base.specs.Words.{awake_word, finished_word, not_triggered_word, triggered_word}
-use Rattle.board_rule.specs.Layout.{Lay, nodes, first}
+use Rattle.board_rule.specs.Layout.{BoardLayout, nodes, first}
 use Rattle.board_rule.specs.Phases.{phase_rest, phase_owing, phase_drawn, is_resetting}
 use Rattle.board_rule.specs.View.{Whole, node_of, with_node, view_node, view_trail}
-use Rattle.board_rule.specs.ActivationRule.{Words, Resets, posts, old_status}
+use Rattle.board_rule.specs.ActivationRule.{Words, Resets, progress, old_status}
 use Rattle.board_rule.specs.EventRule.{node_drawn}
 use Rattle.board_rule.specs.BoardRule.{Holds}
 use Rattle.board_rule.specs.Steps.{Has}
-use Rattle.board_rule.specs.Plays.{Turns}
+use Rattle.board_rule.specs.Plays.{Leaves}
 use Rattle.board_rule.proofs.RunLemmas.{wakes}
 use Rattle.board_rule.proofs.SeatLemmas.{stay_step}
 use Rattle.board_rule.proofs.MarkLemmas.{quiet_phase}
@@ -31,7 +31,7 @@ use Rattle.board_rule.proofs.SpanLemmas.{phase_paced}
 use Rattle.board_rule.proofs.FollowerLemmas.{rest_at, owing_at, rest_put, owing_put, stage_put, elsewhere, words_run, active_node}
 use Rattle.board_rule.proofs.FollowerLemmas.{same_node, holds_node}
 
-module _ (p : Lay) where
+module _ (p : BoardLayout) where
   old_cases : (c : ℕ) → (old_status p c ≡ not_triggered_word c) ⊎ (old_status p c ≡ finished_word (c - 1))
   old_cases c = dite (ℕ_discrete c (first p)) (λ e. inl
       (ap (λ b. cond b (not_triggered_word c) (finished_word (c - 1))) (eq-eqb c (first p) e)))
@@ -46,13 +46,13 @@ module _ (p : Lay) where
       omega arith) (old_cases c))
       (λ l. let q = r.status_new n h (omega arith) in omega arith)
 
-  running_is : (g : Whole) (d : Drive) (n x : ℕ) (ws : List ℕ) → (is_resetting d ≡ true → ⊥) → Words p g.lead.cycle (posts p g) d ws
+  running_is : (g : Whole) (d : DriverPhase) (n x : ℕ) (ws : List ℕ) → (is_resetting d ≡ true → ⊥) → Words p g.lead.cycle (progress p g) d ws
       → n < nodes p → get_or ws (status_place p.shape n) 0 ≡ triggered_word x → (is_resetting d ≡ true → ⊥) × x ≡ g.lead.cycle
   running_is g d n x ws runs_on w h e = let r = words_run p g d ws runs_on w in let o = r.node n h in let k = o.kinds in
       let q = o.status_is in (runs_on, omega arith)
 
   -- a node that is triggered in x shows that the driver has begun x and not ended it
-  pub triggered_is : (g : Whole) (d : Drive) (n x : ℕ) (ws : List ℕ) → Words p g.lead.cycle (posts p g) d ws → n < nodes p
+  pub triggered_is : (g : Whole) (d : DriverPhase) (n x : ℕ) (ws : List ℕ) → Words p g.lead.cycle (progress p g) d ws → n < nodes p
       → get_or ws (status_place p.shape n) 0 ≡ triggered_word x → (is_resetting d ≡ true → ⊥) × x ≡ g.lead.cycle
   triggered_is g drives.Between n x ws w h e = absurd (resting_not g.lead.cycle 0 0 n x ws w h e)
   triggered_is g drives.BeginDrawn n x ws w h e = absurd (resting_not g.lead.cycle 0 0 n x ws w h e)
@@ -89,7 +89,7 @@ module _ (p : Lay) where
         → ((found : ℕ) → found ≢ triggered_word (node_of me.0 m).next → after found ≡ view_trail me.0 (seen found))
         → ((found : ℕ) → (seen found).looks ≡ me.0.trail.looks)
         → Allows (Holds p) slots id me (status_place p.shape m)
-        (λ w. either (eqb w (triggered_word (node_of me.0 m).next)) (awake_word (node_of me.0 m).next) w) (Turns after me)
+        (λ w. either (eqb w (triggered_word (node_of me.0 m).next)) (awake_word (node_of me.0 m).next) w) (Leaves after me)
     claim_allowed slots id m me after t seen h phase hit miss looks s r _ at fits =
         let g = r.whole in let a = r.activations in let wide = r.seated.wide in
         let x : NodeView = node_of me.0 m in
@@ -106,12 +106,12 @@ module _ (p : Lay) where
         let new : NodeView = record x { phase = Awake } in
         let now = eq-eqb (g.nodes m).next c next' in
         let whole : Whole = with_node g m new in
-        let rest : (posts p g).rest m ≡ ts = rest_at p g m h.follows ∙ (λ j. phase_rest ts (now j) (phase' j)) in
-        let owing : (posts p g).owing m ≡ [] = owing_at p g m h.follows ∙ ap (phase_owing ts) phase' in
-        let rest' : (posts p whole).rest m ≡ ts = rest_put p g m new h.follows ∙ ap (λ b. cond b ts []) (eq-eqb x.next c cycle) in
-        let owing' : (posts p whole).owing m ≡ [] = owing_put p g m new h.follows in
-        let stage' : (posts p whole).stage m ≡ 1 = stage_put p g m new h.follows in
-        let woken = wakes p.shape c m (posts p g) (posts p whole) s.words h.inside wide (elsewhere p g m new) (rest' ∙ sym rest)
+        let rest : (progress p g).rest m ≡ ts = rest_at p g m h.follows ∙ (λ j. phase_rest ts (now j) (phase' j)) in
+        let owing : (progress p g).owing m ≡ [] = owing_at p g m h.follows ∙ ap (phase_owing ts) phase' in
+        let rest' : (progress p whole).rest m ≡ ts = rest_put p g m new h.follows ∙ ap (λ b. cond b ts []) (eq-eqb x.next c cycle) in
+        let owing' : (progress p whole).owing m ≡ [] = owing_put p g m new h.follows in
+        let stage' : (progress p whole).stage m ≡ 1 = stage_put p g m new h.follows in
+        let woken = wakes p.shape c m (progress p g) (progress p whole) s.words h.inside wide (elsewhere p g m new) (rest' ∙ sym rest)
         (owing' ∙ sym owing) (e ∙ ap (triggered_word) cycle) stage' runs in
         let more : node_drawn x ≡ node_drawn new = ap (λ f. 2 * x.next + phase_drawn f) phase in (
           view_node me.0 m new t,

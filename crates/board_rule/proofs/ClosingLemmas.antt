@@ -12,14 +12,14 @@ use Rattle.pw_base.specs.declared.event.Event.TheVariants.{Begin, Start, Finish,
 use Rattle.pw_base.specs.EventWords.{event_node, event_cycle, event_word_of, event_in}
 use Rattle.pw_base.specs.History.{is_tick, AreJoined, epoch_cycles, IsLegalHistory}
 use Rattle.pw_base.specs.Layout.{event_count, event_place, late_place}
-use Rattle.board_rule.specs.declared.view.Drive.{Drive}
-use Rattle.board_rule.specs.declared.view.Drive.TheVariants as drives
+use Rattle.board_rule.specs.declared.view.DriverPhase.{DriverPhase}
+use Rattle.board_rule.specs.declared.view.DriverPhase.TheVariants as drives
 use Rattle.atomic_table.specs.Table.{State, Final, Seen}
-use Rattle.board_rule.specs.declared.plot.Plot.{Plot}
-use Rattle.board_rule.specs.declared.view.LeadView.{LeadView}
+use Rattle.board_rule.specs.declared.board_shape.BoardShape.{BoardShape}
+use Rattle.board_rule.specs.declared.view.DriverView.{DriverView}
 use Rattle.board_rule.specs.declared.view.View.{View}
 use Rattle.board_rule.specs.BoardRule.{Holds}
-use Rattle.board_rule.specs.Layout.{Lay, lay, IsSound, nodes, first, last}
+use Rattle.board_rule.specs.Layout.{BoardLayout, layout_of, IsSound, nodes, first, last}
 use Rattle.board_rule.specs.Phases.{is_between}
 use Rattle.board_rule.specs.View.{Whole}
 use Rattle.board_rule.specs.Marks.{phase_holds, drive_holds, drive_tells, is_begun, is_ending}
@@ -56,7 +56,7 @@ tick_read first lates ws (Tick k set) c l x q h w = let same : c ≡ k = (cc) in
 tick_read first lates ws (End k) c l x q h w = cc
 
 -- the driver's seat between two cycles
-between_is : (d : Drive) → is_between d ≡ true → d ≡ (let b : Drive = drives.Between in b)
+between_is : (d : DriverPhase) → is_between d ≡ true → d ≡ (let b : DriverPhase = drives.Between in b)
 between_is drives.Between e = refl
 between_is drives.BeginDrawn e = absurd (true≢false (sym e))
 between_is (drives.Reset i) e = absurd (true≢false (sym e))
@@ -73,9 +73,9 @@ between_is drives.FinishDrawn e = absurd (true≢false (sym e))
 between_is drives.FinishStored e = absurd (true≢false (sym e))
 between_is drives.EndDrawn e = absurd (true≢false (sym e))
 
-module _ (p : Lay) (g : Whole) (ws : List ℕ) (sound : IsSound p) (a : Activations p g ws) (e : Events p g ws)
-    (long : event_place p.shape (event_count p.shape) ≤ length ws) (over : g.lead.cycle ≡ last p) where
-  drive : g.lead.drive ≡ (let b : Drive = drives.Between in b)
+module _ (p : BoardLayout) (g : Whole) (ws : List ℕ) (sound : IsSound p) (a : Activations p g ws) (e : Events p g ws)
+    (long : event_place p.shape (event_count p.shape) ≤ length ws) (ended : g.lead.cycle ≡ last p) where
+  drive : g.lead.drive ≡ (let b : DriverPhase = drives.Between in b)
   drive = between_is g.lead.drive (by (is_between g.lead.drive) refl)
     where
       by : (b : Bool) → is_between g.lead.drive ≡ b → is_between g.lead.drive ≡ true
@@ -137,28 +137,28 @@ module _ (p : Lay) (g : Whole) (ws : List ℕ) (sound : IsSound p) (a : Activati
       let x : count_by is_tick g.inside ≡ 0 = ap (count_by is_tick) (e.fresh (ap is_begun drive)) in omega arith
 
 -- what is left of a board whose driver's seat, with the view v, has ended all cycles
-pub record Leaves (plot : Plot) (v : View) (words : List ℕ) : Type 0 where
+pub record Leaves (board_shape : BoardShape) (v : View) (words : List ℕ) : Type 0 where
   pub history : List Event
-  pub stands : AreRecorded plot.shape.first (late_place plot.shape 0) (event_place plot.shape 0) history words
-  pub is_legal : IsLegalHistory (plot.shape ∷ []) history
+  pub stands : AreRecorded board_shape.shape.first (late_place board_shape.shape 0) (event_place board_shape.shape 0) history words
+  pub is_legal : IsLegalHistory (board_shape.shape ∷ []) history
   pub has_ticks : count_by is_tick history ≡ v.lead.checks
-  pub fits : length history ≤ event_count plot.shape
+  pub fits : length history ≤ event_count board_shape.shape
 
-leaves : {S : Type 0} (plot : Plot) (v w : View) (words : List ℕ) (id : ℕ) (s : State S View) → Holds (lay plot) s → s.words ≡ words
-    → get_elem? s.views id ≡ some w → w ≡ last_view (lay plot) v → HasEndedAll (lay plot) v → Leaves plot v words
-leaves plot v w words id s r are at is has = let p = lay plot in let g = r.whole in
+leaves : {S : Type 0} (board_shape : BoardShape) (v w : View) (words : List ℕ) (id : ℕ) (s : State S View) → Holds (layout_of board_shape) s → s.words ≡ words
+    → get_elem? s.views id ≡ some w → w ≡ last_view (layout_of board_shape) v → HasEndedAll (layout_of board_shape) v → Leaves board_shape v words
+leaves board_shape v w words id s r are at is has = let p = layout_of board_shape in let g = r.whole in
     let number : w.number ≡ p.seats = ap (λ (u : View). u.number) is ∙ has.0.1 in
-    let lead : v.lead ≡ g.lead = sym (ap (λ (u : View). u.lead) is) ∙ ((r.seated.knows id w at).leads number).0 in
-    let over : g.lead.cycle ≡ last p = sym (ap (λ (l : LeadView). l.cycle) lead) ∙ has.1 in record {
+    let lead : v.lead ≡ g.lead = sym (ap (λ (u : View). u.lead) is) ∙ ((r.seated.knows id w at).is_driver number).0 in
+    let ended : g.lead.cycle ≡ last p = sym (ap (λ (l : DriverView). l.cycle) lead) ∙ has.1 in record {
       history = g.past;
-      stands = subst (λ ws. AreRecorded plot.shape.first (late_place plot.shape 0) (event_place plot.shape 0) g.past ws) are
-          (recorded p g s.words r.seated.sound r.activations r.events r.seated.long over);
-      is_legal = legal p g s.words r.seated.sound r.activations r.events r.seated.long over;
-      has_ticks = ticks p g s.words r.seated.sound r.activations r.events r.seated.long over ∙ ap (λ (l : LeadView). l.checks) (sym lead);
-      fits = few p g s.words r.seated.sound r.activations r.events r.seated.long over;
+      stands = subst (λ ws. AreRecorded board_shape.shape.first (late_place board_shape.shape 0) (event_place board_shape.shape 0) g.past ws) are
+          (recorded p g s.words r.seated.sound r.activations r.events r.seated.long ended);
+      is_legal = legal p g s.words r.seated.sound r.activations r.events r.seated.long ended;
+      has_ticks = ticks p g s.words r.seated.sound r.activations r.events r.seated.long ended ∙ ap (λ (l : DriverView). l.checks) (sym lead);
+      fits = few p g s.words r.seated.sound r.activations r.events r.seated.long ended;
     }
 
-pub closed_leaves : {S : Type 0} (plot key : Plot) (v w : View) (words : List ℕ) (slots : List S) (id : ℕ) → key ≡ plot
-    → Final (Seen (Holds (lay key)) id w) words slots → w ≡ last_view (lay plot) v → HasEndedAll (lay plot) v → Leaves plot v words
-closed_leaves plot key v w words slots id about f is has = let s = f.0 in
-    leaves plot v w words id s (subst (λ k. Holds (lay k) s) about f.1.0) f.2 f.1.1 is has
+pub closed_leaves : {S : Type 0} (board_shape key : BoardShape) (v w : View) (words : List ℕ) (slots : List S) (id : ℕ) → key ≡ board_shape
+    → Final (Seen (Holds (layout_of key)) id w) words slots → w ≡ last_view (layout_of board_shape) v → HasEndedAll (layout_of board_shape) v → Leaves board_shape v words
+closed_leaves board_shape key v w words slots id about f is has = let s = f.0 in
+    leaves board_shape v w words id s (subst (λ k. Holds (layout_of k) s) about f.1.0) f.2 f.1.1 is has

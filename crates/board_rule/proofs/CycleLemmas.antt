@@ -8,24 +8,24 @@ use Rattle.std.proofs.lemmas.List.{drop_more, drop_all}
 use Rattle.atomic_table.specs.Table.{Me, keeps, stepped, Allows}
 use Rattle.board_rule.specs.declared.view.Phase.{Phase}
 use Rattle.board_rule.specs.declared.view.Phase.TheVariants.{Idle, Awake, StartDrawn, Running, Done, FinishDrawn, Telling}
-use Rattle.board_rule.specs.declared.view.Drive.{Drive}
-use Rattle.board_rule.specs.declared.view.Drive.TheVariants as drives
-use Rattle.board_rule.specs.declared.view.LeadView.{LeadView}
+use Rattle.board_rule.specs.declared.view.DriverPhase.{DriverPhase}
+use Rattle.board_rule.specs.declared.view.DriverPhase.TheVariants as drives
+use Rattle.board_rule.specs.declared.view.DriverView.{DriverView}
 use Rattle.board_rule.specs.declared.view.Trail.{Trail}
 use Rattle.board_rule.specs.declared.view.View.{View}
 use Rattle.pw_base.specs.Layout.{pending_place, status_place}
 use Rattle.pw_base.specs.Words.{status_word_of, awake_word, finished_word, not_triggered_word, triggered_word}
-use Rattle.board_rule.specs.Layout.{Lay, IsSound, nodes, first, last}
+use Rattle.board_rule.specs.Layout.{BoardLayout, IsSound, nodes, first, last}
 use Rattle.board_rule.specs.Sums.{times}
 use Rattle.board_rule.specs.Phases.{owed_of, phase_rest, phase_owing, phase_stage, PhaseOk, drive_rest, drive_owing, drive_stage}
 use Rattle.board_rule.specs.Phases.{drive_drawn, is_resetting, is_between}
 use Rattle.board_rule.specs.View.{Whole, with_lead, view_lead, view_trail}
-use Rattle.board_rule.specs.ActivationRule.{Activations, DriveOk, Words, Resets, IsIdle, posts, old_status}
+use Rattle.board_rule.specs.ActivationRule.{Activations, DriverPhaseOk, Words, Resets, IsIdle, progress, old_status}
 use Rattle.board_rule.specs.EventRule.{lead_drawn}
 use Rattle.board_rule.specs.Spans.{spans, drive_over, drive_begun}
 use Rattle.board_rule.specs.WorkSteps.{IsGivenOn}
 use Rattle.board_rule.specs.BoardRule.{Holds}
-use Rattle.board_rule.specs.Plays.{Turns}
+use Rattle.board_rule.specs.Plays.{Leaves}
 use Rattle.board_rule.proofs.SpanLemmas.{drive_paced, lead_begun, wired_in, over_at, over_lead, begun_lead, begun_lead_put, early_word}
 use Rattle.board_rule.proofs.HolderLemmas.{is_ready, holder_leads}
 use Rattle.board_rule.proofs.PaceLemmas.{paces}
@@ -40,15 +40,15 @@ use Rattle.board_rule.proofs.DriverLemmas.{lead_to, lead_is, holds_lead, holds_l
 use Rattle.board_rule.proofs.DriverLemmas.{stage_driver, beside}
 
 -- two phases of the driver's seat outside the reset that mean the same for the activation words
-pub record AlikeDrives (d e : Drive) : Type 0 where
+pub record AlikeDrives (d e : DriverPhase) : Type 0 where
   pub rest : (ts : List ℕ) → drive_rest ts e ≡ drive_rest ts d
   pub owing : (ts : List ℕ) → drive_owing ts e ≡ drive_owing ts d
   pub stage : drive_stage e ≡ drive_stage d
   pub runs : is_resetting d ≡ false
   pub goes_on : is_resetting e ≡ false
-  pub ok : (p : Lay) → DriveOk p e
+  pub ok : (p : BoardLayout) → DriverPhaseOk p e
 
-module _ (p : Lay) where
+module _ (p : BoardLayout) where
   -- where nobody has yet to tell the driver, or owes it, each follower is done
   done_by : (ts : List ℕ) (c next d : ℕ) (f : Phase) → PhaseOk (length ts) c next f → ((i : ℕ) → i < length ts → 0 < times d (drop i ts))
       → 0 < length ts
@@ -88,7 +88,7 @@ module _ (p : Lay) where
   all_done g ws sound a on woken m inside follows =
       let runs = words_run p g g.lead.drive ws (λ e. true≢false (sym e ∙ on)) a.laid in
       let o = runs.node p.driver sound.driver_in in
-      let stage : (posts p g).stage p.driver ≡ drive_stage g.lead.drive = stage_driver p g in
+      let stage : (progress p g).stage p.driver ≡ drive_stage g.lead.drive = stage_driver p g in
       let k = o.kinds in
       let high : 0 < o.kind = dite (dec_le o.kind 0) (λ z. absurd (let w = o.asleep (omega arith) in omega arith)) (λ z. omega arith) in
       let empty : get_or ws (pending_place p.shape p.driver) 0 ≡ 0 =
@@ -96,12 +96,12 @@ module _ (p : Lay) where
       (λ z. absurd (let w = o.waits (omega arith) in let w₀ = w.0 in omega arith)) in
       let free = o.paid high in
       let counts = o.counts in
-      let r = total_at (λ i. times p.driver ((posts p g).rest i)) m (nodes p) inside in
-      let d = total_at (λ i. times p.driver ((posts p g).owing i)) m (nodes p) inside in
+      let r = total_at (λ i. times p.driver ((progress p g).rest i)) m (nodes p) inside in
+      let d = total_at (λ i. times p.driver ((progress p g).owing i)) m (nodes p) inside in
       done_by (p.targets m) g.lead.cycle (g.nodes m).next p.driver (g.nodes m).phase (a.followers m inside follows)
       (λ i h. sound.tells_driver m i inside h) (sound.tells m inside)
-      (sym (ap (times p.driver) (rest_at p g m follows)) ∙ (let z : times p.driver ((posts p g).rest m) ≡ 0 = omega arith in z))
-      (sym (ap (times p.driver) (owing_at p g m follows)) ∙ (let z : times p.driver ((posts p g).owing m) ≡ 0 = omega arith in z))
+      (sym (ap (times p.driver) (rest_at p g m follows)) ∙ (let z : times p.driver ((progress p g).rest m) ≡ 0 = omega arith in z))
+      (sym (ap (times p.driver) (owing_at p g m follows)) ∙ (let z : times p.driver ((progress p g).owing m) ≡ 0 = omega arith in z))
 
   -- the words at the end of a cycle are those before the next reset
   ends : (g : Whole) (ws : List ℕ) (i x : ℕ) → IsSound p → Activations p g ws → g.lead.drive ≡ drives.EndDrawn → IsOther p i
@@ -111,12 +111,12 @@ module _ (p : Lay) where
       let on : is_resetting g.lead.drive ≡ false = ap is_resetting drive in
       let done = all_done g ws sound a on (let z : drive_stage g.lead.drive ≡ 2 = ap drive_stage drive in omega arith) in
       let runs = words_run p g g.lead.drive ws (λ e. true≢false (sym e ∙ on)) a.laid in
-      let none : (m : ℕ) → m < nodes p → (posts p g).rest m ≡ [] = λ m h. dite (ℕ_discrete m p.driver)
-      (λ e. ap (posts p g).rest e ∙ rest_driver p g ∙ ap (drive_rest (p.targets p.driver)) drive)
+      let none : (m : ℕ) → m < nodes p → (progress p g).rest m ≡ [] = λ m h. dite (ℕ_discrete m p.driver)
+      (λ e. ap (progress p g).rest e ∙ rest_driver p g ∙ ap (drive_rest (p.targets p.driver)) drive)
       (λ e. rest_at p g m e ∙ (let d = done m h e in λ j. phase_rest (p.targets m) (eqb (d.0 j) c) (d.1 j))
       ∙ ap (λ b. cond b (p.targets m) []) (ne_eqb (c + 1) c (λ z. omega arith))) in
-      let stage : (m : ℕ) → m < nodes p → (posts p g).stage m ≡ 2 = λ m h. dite (ℕ_discrete m p.driver)
-      (λ e. ap (posts p g).stage e ∙ stage_driver p g ∙ ap drive_stage drive)
+      let stage : (m : ℕ) → m < nodes p → (progress p g).stage m ≡ 2 = λ m h. dite (ℕ_discrete m p.driver)
+      (λ e. ap (progress p g).stage e ∙ stage_driver p g ∙ ap drive_stage drive)
       (λ e. stage_at p g m e ∙ (let d = done m h e in λ j. phase_stage (eqb (d.0 j) c) (d.1 j))
       ∙ ap (λ b. cond b 0 2) (ne_eqb (c + 1) c (λ z. omega arith))) in
       let one : c + 1 - 1 ≡ c = omega arith in
@@ -125,7 +125,7 @@ module _ (p : Lay) where
       ∙ ap (finished_word) one in record {
         pending_new = λ n h l. absurd (omega arith);
         pending_old = λ n h _. get_or-set_other ws i (pending_place p.shape n) x 0 (other n h).0 ∙ (runs.node n h).counts
-            ∙ total_zero (λ m. times n ((posts p g).rest m)) (nodes p) (λ m l. ap (times n) (none m l));
+            ∙ total_zero (λ m. times n ((progress p g).rest m)) (nodes p) (λ m l. ap (times n) (none m l));
         status_new = λ n h l. absurd (omega arith);
         status_old = λ n h _. let o = runs.node n h in let k = o.kinds in let at = stage n h in let is = o.status_is in
             let kind : o.kind ≡ 3 = dite (ℕ_discrete o.kind 3) (λ z. z)
@@ -144,7 +144,7 @@ module _ (p : Lay) where
   }
 
   -- the activation rule after a step on another word: to a phase that means the same, to the drawn Begin, and to the reset
-  pub active_alike : (g : Whole) (ws : List ℕ) (d e : Drive) (y : LeadView) (i x : ℕ) → g.lead.drive ≡ d → AlikeDrives d e → IsOther p i
+  pub active_alike : (g : Whole) (ws : List ℕ) (d e : DriverPhase) (y : DriverView) (i x : ℕ) → g.lead.drive ≡ d → AlikeDrives d e → IsOther p i
       → Activations p g ws → Activations p (with_lead g (lead_to g e y)) (set ws i x)
   active_alike g ws d e y i x drive like other a =
       let c : ℕ = g.lead.cycle in
@@ -153,22 +153,22 @@ module _ (p : Lay) where
       let h : Whole = with_lead g (lead_to g e y) in
       let away = beside p g e y in
       let ts : List ℕ = p.targets p.driver in
-      let rest : (posts p h).rest p.driver ≡ (posts p g).rest p.driver = rest_driver p h ∙ like.rest ts
+      let rest : (progress p h).rest p.driver ≡ (progress p g).rest p.driver = rest_driver p h ∙ like.rest ts
       ∙ sym (rest_driver p g ∙ ap (drive_rest ts) drive) in
-      let owing : (posts p h).owing p.driver ≡ (posts p g).owing p.driver = owing_driver p h ∙ like.owing ts
+      let owing : (progress p h).owing p.driver ≡ (progress p g).owing p.driver = owing_driver p h ∙ like.owing ts
       ∙ sym (owing_driver p g ∙ ap (drive_owing ts) drive) in
-      let stage : (posts p h).stage p.driver ≡ (posts p g).stage p.driver = stage_driver p h ∙ like.stage
+      let stage : (progress p h).stage p.driver ≡ (progress p g).stage p.driver = stage_driver p h ∙ like.stage
       ∙ sym (stage_driver p g ∙ ap drive_stage drive) in
-      let after : Sums p.shape c (posts p h) (set ws i x) = stays p.shape c (posts p g) (posts p h) ws (set ws i x)
-      (λ k l. dite (ℕ_discrete k p.driver) (λ q. ap (posts p h).rest q ∙ rest ∙ ap (posts p g).rest (sym q)) (λ q. away.rest k q))
-      (λ k l. dite (ℕ_discrete k p.driver) (λ q. ap (posts p h).owing q ∙ owing ∙ ap (posts p g).owing (sym q)) (λ q. away.owing k q))
-      (λ k l. dite (ℕ_discrete k p.driver) (λ q. ap (posts p h).stage q ∙ stage ∙ ap (posts p g).stage (sym q)) (λ q. away.stage k q))
+      let after : Sums p.shape c (progress p h) (set ws i x) = stays p.shape c (progress p g) (progress p h) ws (set ws i x)
+      (λ k l. dite (ℕ_discrete k p.driver) (λ q. ap (progress p h).rest q ∙ rest ∙ ap (progress p g).rest (sym q)) (λ q. away.rest k q))
+      (λ k l. dite (ℕ_discrete k p.driver) (λ q. ap (progress p h).owing q ∙ owing ∙ ap (progress p g).owing (sym q)) (λ q. away.owing k q))
+      (λ k l. dite (ℕ_discrete k p.driver) (λ q. ap (progress p h).stage q ∙ stage ∙ ap (progress p g).stage (sym q)) (λ q. away.stage k q))
       (λ n l. get_or-set_other ws i (pending_place p.shape n) x 0 (other n l).0)
       (λ n l. get_or-set_other ws i (status_place p.shape n) x 0 (other n l).1) runs in
       active_lead p g ws (set ws i x) e y (like.ok p) (λ t. true≢false (sym t ∙ like.goes_on))
       (a.within (runs_within g.lead.drive runs_on)) after a
 
-  pub active_begin : (g : Whole) (ws : List ℕ) (y : LeadView) (i x : ℕ) → g.lead.drive ≡ drives.Between → g.lead.cycle < last p
+  pub active_begin : (g : Whole) (ws : List ℕ) (y : DriverView) (i x : ℕ) → g.lead.drive ≡ drives.Between → g.lead.cycle < last p
       → IsOther p i → Activations p g ws → Activations p (with_lead g (lead_to g drives.BeginDrawn y)) (set ws i x)
   active_begin g ws y i x drive within other a = record {
     later = a.later;
@@ -177,11 +177,11 @@ module _ (p : Lay) where
     drive = tt;
     followers = a.followers;
     resting = λ _. a.resting (ap is_resetting drive);
-    laid = resets_stay g.lead.cycle i x ws other (let w : Words p g.lead.cycle (posts p g) drives.Between ws =
-        subst (λ d. Words p g.lead.cycle (posts p g) d ws) drive a.laid in w);
+    laid = resets_stay g.lead.cycle i x ws other (let w : Words p g.lead.cycle (progress p g) drives.Between ws =
+        subst (λ d. Words p g.lead.cycle (progress p g) d ws) drive a.laid in w);
   }
 
-  pub active_reset : (g : Whole) (ws : List ℕ) (y : LeadView) (i x : ℕ) → 0 < nodes p → g.lead.drive ≡ drives.BeginDrawn → IsOther p i
+  pub active_reset : (g : Whole) (ws : List ℕ) (y : DriverView) (i x : ℕ) → 0 < nodes p → g.lead.drive ≡ drives.BeginDrawn → IsOther p i
       → Activations p g ws → Activations p (with_lead g (lead_to g (drives.Reset 0) y)) (set ws i x)
   active_reset g ws y i x many drive other a = record {
     later = a.later;
@@ -190,12 +190,12 @@ module _ (p : Lay) where
     drive = many;
     followers = a.followers;
     resting = λ _. a.resting (ap is_resetting drive);
-    laid = resets_stay g.lead.cycle i x ws other (let w : Words p g.lead.cycle (posts p g) drives.BeginDrawn ws =
-        subst (λ d. Words p g.lead.cycle (posts p g) d ws) drive a.laid in w);
+    laid = resets_stay g.lead.cycle i x ws other (let w : Words p g.lead.cycle (progress p g) drives.BeginDrawn ws =
+        subst (λ d. Words p g.lead.cycle (progress p g) d ws) drive a.laid in w);
   }
 
   -- the cycle ends
-  pub active_end : (g : Whole) (ws : List ℕ) (y : LeadView) (i x : ℕ) → IsSound p → g.lead.drive ≡ drives.EndDrawn → IsOther p i
+  pub active_end : (g : Whole) (ws : List ℕ) (y : DriverView) (i x : ℕ) → IsSound p → g.lead.drive ≡ drives.EndDrawn → IsOther p i
       → Activations p g ws → Activations p (with_lead g (record y { cycle = g.lead.cycle + 1; drive = drives.Between })) (set ws i x)
   active_end g ws y i x sound drive other a =
       let within = a.within (ap is_between drive) in
@@ -217,35 +217,35 @@ module _ (p : Lay) where
         → t.looks ≡ me.0.trail.looks → me.0.lead.drive ≡ drives.Running → IsGivenOn p me.0 p.driver me.0.lead.cycle
         → ((found : ℕ) → after found ≡ view_lead me.0 (record me.0.lead { drive = drives.Done }) t)
         → Allows (Holds p) slots id me (status_place p.shape p.driver) (λ _. finished_word me.0.lead.cycle)
-        (λ _. Turns after me (finished_word me.0.lead.cycle))
+        (λ _. Leaves after me (finished_word me.0.lead.cycle))
     finish_lead_allowed slots id me t after number looks phase given is_after s r _ at fits =
         let g = r.whole in let a = r.activations in let sound = r.seated.sound in let wide = r.seated.wide in let hm = sound.driver_in in
         let is = lead_is p s r id me.0 at number in
-        let drive : g.lead.drive ≡ drives.Running = ap (λ (l : LeadView). l.drive) (sym is) ∙ phase in
+        let drive : g.lead.drive ≡ drives.Running = ap (λ (l : DriverView). l.drive) (sym is) ∙ phase in
         let c : ℕ = g.lead.cycle in
         let ts : List ℕ = p.targets p.driver in
         let runs_on : is_resetting g.lead.drive ≡ true → ⊥ = λ z. true≢false (sym z ∙ ap is_resetting drive) in
         let runs = words_run p g g.lead.drive s.words runs_on a.laid in
         let whole : Whole = with_lead g (lead_to g drives.Done g.lead) in
         let ws : List ℕ = set s.words (status_place p.shape p.driver) (finished_word c) in
-        let rest : (posts p g).rest p.driver ≡ [] = rest_driver p g ∙ ap (drive_rest ts) drive in
-        let owing : (posts p g).owing p.driver ≡ [] = owing_driver p g ∙ ap (drive_owing ts) drive in
-        let stage : (posts p g).stage p.driver ≡ 1 = stage_driver p g ∙ ap drive_stage drive in
-        let done = finishes p.shape c p.driver (posts p g) (posts p whole) s.words hm wide (beside p g drives.Done g.lead)
+        let rest : (progress p g).rest p.driver ≡ [] = rest_driver p g ∙ ap (drive_rest ts) drive in
+        let owing : (progress p g).owing p.driver ≡ [] = owing_driver p g ∙ ap (drive_owing ts) drive in
+        let stage : (progress p g).stage p.driver ≡ 1 = stage_driver p g ∙ ap drive_stage drive in
+        let done = finishes p.shape c p.driver (progress p g) (progress p whole) s.words hm wide (beside p g drives.Done g.lead)
         (rest_driver p whole ∙ sym rest) (owing_driver p whole ∙ sym owing) stage (stage_driver p whole) runs in
         let w = wired_in p g s.words s.views r.seated in
         let now_begun : lead_begun g.lead ≡ c + 1 = ap (λ d. c + drive_begun d) drive in
         let begun : (spans p g p.driver).begun ≡ c + 1 = begun_lead p g p.driver refl ∙ now_begun in
-        let over : (spans p g p.driver).over ≡ c + 0 = over_lead p g p.driver refl ∙ ap (λ d. c + drive_over d) drive in
-        let later : (spans p whole p.driver).over ≡ c + 1 = over_lead p whole p.driver refl in
+        let ended : (spans p g p.driver).ended ≡ c + 0 = over_lead p g p.driver refl ∙ ap (λ d. c + drive_over d) drive in
+        let later : (spans p whole p.driver).ended ≡ c + 1 = over_lead p whole p.driver refl in
         let ready = is_ready p g s.words s.views id me.0 p.driver c r.seated at (holder_leads p p.driver refl ∙ sym number) begun
-        (subst (λ (l : LeadView). IsGivenOn p me.0 p.driver l.cycle) is given) in
+        (subst (λ (l : DriverView). IsGivenOn p me.0 p.driver l.cycle) is given) in
         let same : lead_drawn g.lead ≡ 5 * c + (2 + cond g.lead.checked 1 0) =
         ap (λ d. 5 * c + cond (is_between d) 0 (drive_drawn d + cond g.lead.checked 1 0)) drive in (
           view_lead me.0 (record me.0.lead { drive = drives.Done }) t,
           keeps,
           tt,
-          subst (λ (l : LeadView). Holds p (stepped s (status_place p.shape p.driver) (finished_word l.cycle) id me.1
+          subst (λ (l : DriverView). Holds p (stepped s (status_place p.shape p.driver) (finished_word l.cycle) id me.1
               (view_lead me.0 (record l { drive = drives.Done }) t) keeps)) (sym is)
               (holds_lead_by p s r id (status_place p.shape p.driver) (finished_word c) me.0 me.1
               (lead_to g drives.Done g.lead) t at number looks (omega arith) (omega arith) (omega arith)
@@ -273,12 +273,12 @@ module _ (p : Lay) where
         → (after (triggered_word me.0.lead.cycle) ≡ view_lead me.0 (record me.0.lead { drive = drives.Awake }) t)
         → ((found : ℕ) → found ≢ triggered_word me.0.lead.cycle → after found ≡ view_trail me.0 (seen found))
         → Allows (Holds p) slots id me (status_place p.shape p.driver)
-        (λ w. either (eqb w (triggered_word me.0.lead.cycle)) (awake_word me.0.lead.cycle) w) (Turns after me)
+        (λ w. either (eqb w (triggered_word me.0.lead.cycle)) (awake_word me.0.lead.cycle) w) (Leaves after me)
     claim_lead_allowed slots id me after t seen number looks looks_on phase hit miss s r _ at fits =
         let g = r.whole in let a = r.activations in let sound = r.seated.sound in let wide = r.seated.wide in let hm = sound.driver_in in
         let is = lead_is p s r id me.0 at number in
-        let drive : g.lead.drive ≡ drives.Waiting = ap (λ (l : LeadView). l.drive) (sym is) ∙ phase in
-        let cycle : me.0.lead.cycle ≡ g.lead.cycle = ap (λ (l : LeadView). l.cycle) is in
+        let drive : g.lead.drive ≡ drives.Waiting = ap (λ (l : DriverView). l.drive) (sym is) ∙ phase in
+        let cycle : me.0.lead.cycle ≡ g.lead.cycle = ap (λ (l : DriverView). l.cycle) is in
         let c : ℕ = g.lead.cycle in
         let found : ℕ = get_or s.words (status_place p.shape p.driver) 0 in
         let ts : List ℕ = p.targets p.driver in
@@ -287,9 +287,9 @@ module _ (p : Lay) where
         let runs = words_run p g g.lead.drive s.words runs_on a.laid in
         let whole : Whole = with_lead g (lead_to g drives.Awake g.lead) in
         let ws : List ℕ = set s.words (status_place p.shape p.driver) (awake_word c) in
-        let rest : (posts p g).rest p.driver ≡ [] = rest_driver p g ∙ ap (drive_rest ts) drive in
-        let owing : (posts p g).owing p.driver ≡ [] = owing_driver p g ∙ ap (drive_owing ts) drive in
-        let woken = wakes p.shape c p.driver (posts p g) (posts p whole) s.words hm wide (beside p g drives.Awake g.lead)
+        let rest : (progress p g).rest p.driver ≡ [] = rest_driver p g ∙ ap (drive_rest ts) drive in
+        let owing : (progress p g).owing p.driver ≡ [] = owing_driver p g ∙ ap (drive_owing ts) drive in
+        let woken = wakes p.shape c p.driver (progress p g) (progress p whole) s.words hm wide (beside p g drives.Awake g.lead)
         (rest_driver p whole ∙ sym rest) (owing_driver p whole ∙ sym owing) (e ∙ ap (triggered_word) cycle)
         (stage_driver p whole) runs in
         let same : lead_drawn g.lead ≡ 5 * c + (1 + cond g.lead.checked 1 0) =
@@ -300,7 +300,7 @@ module _ (p : Lay) where
           subst (λ b. Holds p (stepped s (status_place p.shape p.driver) (either b (awake_word me.0.lead.cycle) found) id me.1
               (view_lead me.0 (record me.0.lead { drive = drives.Awake }) t) keeps))
               (sym (eq-eqb found (triggered_word me.0.lead.cycle) e))
-              (subst (λ (l : LeadView). Holds p (stepped s (status_place p.shape p.driver) (awake_word l.cycle) id me.1
+              (subst (λ (l : DriverView). Holds p (stepped s (status_place p.shape p.driver) (awake_word l.cycle) id me.1
               (view_lead me.0 (record l { drive = drives.Awake }) t) keeps)) (sym is)
               (holds_lead p s r id (status_place p.shape p.driver) (awake_word c) me.0 me.1
               (lead_to g drives.Awake g.lead) t at number looks (omega arith) (omega arith) (omega arith)

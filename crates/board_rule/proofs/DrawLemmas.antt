@@ -10,7 +10,7 @@ use Rattle.pw_base.specs.declared.event.Event.{Event}
 use Rattle.pw_base.specs.declared.event.Event.TheVariants.{Begin, Start, Finish, End}
 use Rattle.pw_base.specs.Dependencies.{nodes_of, Precedes}
 use Rattle.pw_base.specs.Layout.{event_count}
-use Rattle.board_rule.specs.Layout.{Lay, IsSound, nodes}
+use Rattle.board_rule.specs.Layout.{BoardLayout, IsSound, nodes}
 use Rattle.board_rule.specs.Logged.{IsHeld, Tickets, Earlier, Inside}
 use Rattle.board_rule.specs.Records.{Records, Marks, so_far}
 use Rattle.board_rule.proofs.LogLemmas.{tickets_drawn, inside_more}
@@ -22,15 +22,15 @@ pub record Same (s u : Marks) : Type 0 where
   pub goes_on : u.begun ≡ true
   pub unended : s.ending ≡ false
   pub stays_unended : u.ending ≡ false
-  pub checked : u.tally.checked ≡ s.tally.checked
-  pub sees : u.tally.sees ≡ s.tally.sees
+  pub checked : u.counts.checked ≡ s.counts.checked
+  pub sees : u.counts.sees ≡ s.counts.sees
 
 pub record StartsAt (m t : ℕ) (s u : Marks) : Type 0 where
   pub same : Same s u
-  pub was : s.tally.started m ≡ 0
-  pub now : u.tally.started m ≡ 1
-  pub else : (n : ℕ) → n ≢ m → u.tally.started n ≡ s.tally.started n
-  pub finished : (n : ℕ) → u.tally.finished n ≡ s.tally.finished n
+  pub was : s.counts.started m ≡ 0
+  pub now : u.counts.started m ≡ 1
+  pub else : (n : ℕ) → n ≢ m → u.counts.started n ≡ s.counts.started n
+  pub finished : (n : ℕ) → u.counts.finished n ≡ s.counts.finished n
   pub start : u.start m ≡ t
   pub start_else : (n : ℕ) → n ≢ m → u.start n ≡ s.start n
   pub finish : (n : ℕ) → u.finish n ≡ s.finish n
@@ -40,11 +40,11 @@ pub record StartsAt (m t : ℕ) (s u : Marks) : Type 0 where
 
 pub record FinishesAt (m t : ℕ) (s u : Marks) : Type 0 where
   pub same : Same s u
-  pub was : s.tally.finished m ≡ 0
-  pub now : u.tally.finished m ≡ 1
-  pub else : (n : ℕ) → n ≢ m → u.tally.finished n ≡ s.tally.finished n
-  pub begun : s.tally.started m ≡ 1
-  pub started : (n : ℕ) → u.tally.started n ≡ s.tally.started n
+  pub was : s.counts.finished m ≡ 0
+  pub now : u.counts.finished m ≡ 1
+  pub else : (n : ℕ) → n ≢ m → u.counts.finished n ≡ s.counts.finished n
+  pub begun : s.counts.started m ≡ 1
+  pub started : (n : ℕ) → u.counts.started n ≡ s.counts.started n
   pub finish : u.finish m ≡ t
   pub finish_else : (n : ℕ) → n ≢ m → u.finish n ≡ s.finish n
   pub start : (n : ℕ) → u.start n ≡ s.start n
@@ -53,10 +53,10 @@ pub record FinishesAt (m t : ℕ) (s u : Marks) : Type 0 where
   pub holds_else : (n : ℕ) → n ≢ m → u.holds n ≡ s.holds n
 
 -- all three parts of the rule of a cycle
-pub record Logs (p : Lay) (c late : ℕ) (past xs : List Event) (s : Marks) (r : Records) : Type 0 where
+pub record Logs (p : BoardLayout) (c late : ℕ) (past xs : List Event) (s : Marks) (r : Records) : Type 0 where
   pub tickets : Tickets p c (length past) s (past ++ so_far s c xs) r
   pub earlier : Earlier p c late past r
-  pub inside : Inside p c late s.tally xs
+  pub inside : Inside p c late s.counts xs
 
 pub none_in : {X : Type 0} (x : X) → Contains [] x → ⊥
 none_in x h = let l = h.1 in absurd (omega arith)
@@ -68,9 +68,9 @@ pub only_in : {X : Type 0} (x y : X) → Contains (x ∷ []) y → x ≡ y
 only_in x y (zero, l, e) = e
 only_in x y (suc k, l, e) = absurd (omega arith)
 
-module _ (p : Lay) (sound : IsSound p) where
+module _ (p : BoardLayout) (sound : IsSound p) where
   numbers_apart : (m n : ℕ) → m < nodes p → n < nodes p → n ≢ m → p.number n ≢ p.number m
-  numbers_apart m n hm hn o e = o (sym (sound.at n hn) ∙ ap p.place e ∙ sound.at m hm ∙ refl)
+  numbers_apart m n hm hn o e = o (sym (sound.at n hn) ∙ ap p.index e ∙ sound.at m hm ∙ refl)
 
   of_node : (c m n : ℕ) → m < nodes p → n < nodes p → n ≢ m → ((c == c) && (p.number m == p.number n)) ≡ false
   of_node c m n hm hn o = ap (λ b. (c == c) && b) (ne_eqb (p.number m) (p.number n) (λ z. numbers_apart m n hm hn o (sym z)))
@@ -118,7 +118,7 @@ module _ (p : Lay) (sound : IsSound p) where
         { legal = e.legal; before = e.before; lates = e.lates; late_now = e.late_now; late_later = e.late_later }
 
     pub starts_drawn : (m t : ℕ) → m < nodes p → StartsAt m t s u → t ≡ r.ticket → length log < event_count p.shape
-        → ((n : ℕ) → n < nodes p → Precedes p.shape (p.number n) (p.number m) → s.tally.finished n ≡ 1)
+        → ((n : ℕ) → n < nodes p → Precedes p.shape (p.number n) (p.number m) → s.counts.finished n ≡ 1)
         → Logs p c late past (xs ++ Start c (p.number m) ∷ []) u (record r { ticket = suc r.ticket })
     starts_drawn m t hm at is room done = let at_end : t ≡ length log = is ∙ a.tickets.drawn in let e : Event = Start c (p.number m) in
         record {
@@ -133,9 +133,9 @@ module _ (p : Lay) (sound : IsSound p) where
               (λ n h one. inl (sym (at.finished n) ∙ one, at.finish n))
               (λ k x h. inl (subst (λ ks. Contains ks (k, x)) at.same.tells h)));
           earlier = earlier_same r.event;
-          inside = inside_more p c late s.tally u.tally xs a.inside e (refl, member m hm)
-              (λ n h. dite (ℕ_discrete n m) (λ q. ap u.tally.started q ∙ at.now
-              ∙ sym (λ i. (ap s.tally.started q ∙ at.was) i + cond {A = ℕ}
+          inside = inside_more p c late s.counts u.counts xs a.inside e (refl, member m hm)
+              (λ n h. dite (ℕ_discrete n m) (λ q. ap u.counts.started q ∙ at.now
+              ∙ sym (λ i. (ap s.counts.started q ∙ at.was) i + cond {A = ℕ}
               ((ap (λ k. (c == c) && (p.number m == p.number k)) q ∙ its_own c m) i) 1 0))
               (λ q. at.else n q ∙ (let z : cond {A = ℕ} ((c == c) && (p.number m == p.number n)) 1 0 ≡ 0 =
               ap (λ b. cond {A = ℕ} b 1 0) (of_node c m n hm h q) in omega arith)))
@@ -143,7 +143,7 @@ module _ (p : Lay) (sound : IsSound p) where
               (ap (λ b. cond {A = ℕ} b 1 0) at.same.checked ∙ (omega arith))
               (λ n h one. inl (sym (at.finished n) ∙ one))
               (λ n h one. dite (ℕ_discrete n m) (λ q. inr (
-                ap s.tally.started q ∙ at.was,
+                ap s.counts.started q ∙ at.was,
                 λ k hk before. done k hk (subst (λ z. Precedes p.shape (p.number k) (p.number z)) q before),
               ))
               (λ q. inl (sym (at.else n q) ∙ one)))
@@ -171,17 +171,17 @@ module _ (p : Lay) (sound : IsSound p) where
               )) (λ q. inl (sym (at.else n q) ∙ one, at.finish_else n q)))
               (λ k x h. inl (subst (λ ks. Contains ks (k, x)) at.same.tells h)));
           earlier = earlier_same r.event;
-          inside = inside_more p c late s.tally u.tally xs a.inside e (refl, member m hm)
+          inside = inside_more p c late s.counts u.counts xs a.inside e (refl, member m hm)
               (λ n h. at.started n ∙ (omega arith))
-              (λ n h. dite (ℕ_discrete n m) (λ q. ap u.tally.finished q ∙ at.now
-              ∙ sym (λ i. (ap s.tally.finished q ∙ at.was) i + cond {A = ℕ}
+              (λ n h. dite (ℕ_discrete n m) (λ q. ap u.counts.finished q ∙ at.now
+              ∙ sym (λ i. (ap s.counts.finished q ∙ at.was) i + cond {A = ℕ}
               ((ap (λ k. (c == c) && (p.number m == p.number k)) q ∙ its_own c m) i) 1 0))
               (λ q. at.else n q ∙ (let z : cond {A = ℕ} ((c == c) && (p.number m == p.number n)) 1 0 ≡ 0 =
               ap (λ b. cond {A = ℕ} b 1 0) (of_node c m n hm h q) in omega arith)))
               (ap (λ b. cond {A = ℕ} b 1 0) at.same.checked ∙ (omega arith))
               (λ n h one. dite (ℕ_discrete n m) (λ q. inr (
-                ap s.tally.finished q ∙ at.was,
-                ap s.tally.started q ∙ at.begun,
+                ap s.counts.finished q ∙ at.was,
+                ap s.counts.started q ∙ at.begun,
                 ap (λ k. (c == c) && (p.number m == p.number k)) q ∙ its_own c m,
               )) (λ q. inl (sym (at.else n q) ∙ one)))
               (λ n h one. inl (sym (at.started n) ∙ one))

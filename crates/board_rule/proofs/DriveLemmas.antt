@@ -1,10 +1,10 @@
 -- The tickets and events of the driver's seat, phase by phase.
 use Rattle.std.proofs.Common.{◌≡◌, ℕ, suc, ◌+◌, ◌-◌, ◌*◌, ◌<◌, ◌≤◌, Bool, true, false, true≢false, cond, eqb, List, []}
 use Rattle.std.proofs.Common.{◌∷◌, ◌++◌, map, length, set, get_or, refl, sym, ap, ◌∙◌, subst, arith}
-use Rattle.board_rule.specs.declared.view.Drive.{Drive}
-use Rattle.board_rule.specs.declared.view.Drive.TheVariants as drives
-use Rattle.board_rule.specs.declared.view.LeadView.{LeadView}
-use Rattle.board_rule.specs.Layout.{Lay, IsSound, first, last}
+use Rattle.board_rule.specs.declared.view.DriverPhase.{DriverPhase}
+use Rattle.board_rule.specs.declared.view.DriverPhase.TheVariants as drives
+use Rattle.board_rule.specs.declared.view.DriverView.{DriverView}
+use Rattle.board_rule.specs.Layout.{BoardLayout, IsSound, first, last}
 use Rattle.board_rule.specs.Phases.{drive_drawn, drive_stage, is_between, is_resetting}
 use Rattle.board_rule.specs.View.{Whole, with_lead}
 use Rattle.std.specs.Prelude.{slice_get, Contains}
@@ -52,17 +52,17 @@ finish_stored : AlikeDrives drives.FinishDrawn drives.FinishStored
 finish_stored = record { rest = λ _. refl; owing = λ _. refl; stage = refl; runs = refl; goes_on = refl; ok = λ _. tt }
 
 -- how many tickets the driver's seat has drawn, in a phase d
-abbrev drawn_in : LeadView → Drive → ℕ
+abbrev drawn_in : DriverView → DriverPhase → ℕ
 drawn_in l d = 5 * l.cycle + cond (is_between d) 0 (drive_drawn d + cond l.checked 1 0)
 
 one : (b : Bool) → cond b 1 0 ≤ 1
 one true = omega arith
 one false = omega arith
 
-same : (l : LeadView) (d : Drive) → l.drive ≡ d → lead_drawn l ≡ drawn_in l d
+same : (l : DriverView) (d : DriverPhase) → l.drive ≡ d → lead_drawn l ≡ drawn_in l d
 same l d e = ap (drawn_in l) e
 
-pub draws_more : (l : LeadView) (d : Drive) (k : ℕ) → l.drive ≡ d → CanDrawLead l.checked d
+pub draws_more : (l : DriverView) (d : DriverPhase) (k : ℕ) → l.drive ≡ d → CanDrawLead l.checked d
     → lead_drawn l + 1 ≤ lead_drawn (lead_draws l k d)
 draws_more l drives.Between k e can = let s = same l drives.Between e in omega arith
 draws_more l drives.BeginDrawn k e can = absurd can
@@ -81,7 +81,7 @@ draws_more l drives.FinishDrawn k e can = absurd can
 draws_more l drives.FinishStored k e can = let s = same l drives.FinishStored e in omega arith
 draws_more l drives.EndDrawn k e can = absurd can
 
-pub stores_more : (l : LeadView) (d : Drive) → l.drive ≡ d → CanStoreLead d → lead_drawn l ≤ lead_drawn (lead_stores l d)
+pub stores_more : (l : DriverView) (d : DriverPhase) → l.drive ≡ d → CanStoreLead d → lead_drawn l ≤ lead_drawn (lead_stores l d)
 stores_more l drives.Between e can = absurd can
 stores_more l drives.BeginDrawn e can = let s = same l drives.BeginDrawn e in omega arith
 stores_more l (drives.Reset i) e can = absurd can
@@ -98,48 +98,48 @@ stores_more l drives.FinishDrawn e can = let s = same l drives.FinishDrawn e in 
 stores_more l drives.FinishStored e can = absurd can
 stores_more l drives.EndDrawn e can = let s = same l drives.EndDrawn e in let z = one l.checked in omega arith
 
-module _ (p : Lay) (g : Whole) (ws : List ℕ) (l : LeadView) (is : l ≡ g.lead) (a : Activations p g ws) where
-  at_whole : (d : Drive) → l.drive ≡ d → g.lead.drive ≡ d
-  at_whole d e = ap (λ (z : LeadView). z.drive) (sym is) ∙ e
+module _ (p : BoardLayout) (g : Whole) (ws : List ℕ) (l : DriverView) (is : l ≡ g.lead) (a : Activations p g ws) where
+  at_whole : (d : DriverPhase) → l.drive ≡ d → g.lead.drive ≡ d
+  at_whole d e = ap (λ (z : DriverView). z.drive) (sym is) ∙ e
 
-  pub draws_goes : (d : Drive) (k : ℕ) → l.drive ≡ d → CanDrawLead l.checked d → l.cycle < last p
+  pub draws_goes : (d : DriverPhase) (k : ℕ) → l.drive ≡ d → CanDrawLead l.checked d → l.cycle < last p
       → Activations p (with_lead g (lead_draws l k d)) (set ws 0 (suc k))
-  draws_goes drives.Between k e can within = subst (λ (z : LeadView). Activations p (with_lead g (lead_draws z k drives.Between))
+  draws_goes drives.Between k e can within = subst (λ (z : DriverView). Activations p (with_lead g (lead_draws z k drives.Between))
       (set ws 0 (suc k))) (sym is)
       (active_begin p g ws (lead_draws g.lead k drives.Between) 0 (suc k) (at_whole drives.Between e)
-      (subst (λ (z : LeadView). z.cycle < last p) is within) (ticket_is_other p) a)
+      (subst (λ (z : DriverView). z.cycle < last p) is within) (ticket_is_other p) a)
   draws_goes drives.BeginDrawn k e can within = absurd can
   draws_goes (drives.Reset i) k e can within = absurd can
   draws_goes (drives.Half i) k e can within = absurd can
   draws_goes (drives.Kick i o) k e can within = absurd can
-  draws_goes drives.Waiting k e can within = subst (λ (z : LeadView). Activations p (with_lead g (lead_draws z k drives.Waiting))
+  draws_goes drives.Waiting k e can within = subst (λ (z : DriverView). Activations p (with_lead g (lead_draws z k drives.Waiting))
       (set ws 0 (suc k))) (sym is)
       (active_alike p g ws drives.Waiting drives.Checking (lead_draws g.lead k drives.Waiting) 0 (suc k)
       (at_whole drives.Waiting e) tick_drawn (ticket_is_other p) a)
   draws_goes drives.Checking k e can within = absurd can
   draws_goes drives.LateStored k e can within = absurd can
-  draws_goes drives.Awake k e can within = subst (λ (z : LeadView). Activations p (with_lead g (lead_draws z k drives.Awake))
+  draws_goes drives.Awake k e can within = subst (λ (z : DriverView). Activations p (with_lead g (lead_draws z k drives.Awake))
       (set ws 0 (suc k))) (sym is)
       (active_alike p g ws drives.Awake drives.StartDrawn (lead_draws g.lead k drives.Awake) 0 (suc k) (at_whole drives.Awake e) start_drawn
       (ticket_is_other p) a)
   draws_goes drives.StartDrawn k e can within = absurd can
   draws_goes drives.Running k e can within = absurd can
-  draws_goes drives.Done k e can within = subst (λ (z : LeadView). Activations p (with_lead g (lead_draws z k drives.Done))
+  draws_goes drives.Done k e can within = subst (λ (z : DriverView). Activations p (with_lead g (lead_draws z k drives.Done))
       (set ws 0 (suc k))) (sym is)
       (active_alike p g ws drives.Done drives.FinishDrawn (lead_draws g.lead k drives.Done) 0 (suc k) (at_whole drives.Done e) finish_drawn
       (ticket_is_other p) a)
   draws_goes drives.FinishDrawn k e can within = absurd can
   draws_goes drives.FinishStored k e can within = subst
-      (λ (z : LeadView). Activations p (with_lead g (lead_draws z k drives.FinishStored)) (set ws 0 (suc k))) (sym is)
+      (λ (z : DriverView). Activations p (with_lead g (lead_draws z k drives.FinishStored)) (set ws 0 (suc k))) (sym is)
       (active_alike p g ws drives.FinishStored drives.EndDrawn (lead_draws g.lead k drives.FinishStored) 0 (suc k)
       (at_whole drives.FinishStored e) end_drawn (ticket_is_other p) a)
   draws_goes drives.EndDrawn k e can within = absurd can
 
-  pub stores_goes : (d : Drive) (i x : ℕ) → IsSound p → l.drive ≡ d → CanStoreLead d → IsOther p i
+  pub stores_goes : (d : DriverPhase) (i x : ℕ) → IsSound p → l.drive ≡ d → CanStoreLead d → IsOther p i
       → Activations p (with_lead g (lead_stores l d)) (set ws i x)
   stores_goes drives.Between i x sound e can other = absurd can
   stores_goes drives.BeginDrawn i x sound e can other = let many = sound.driver_in in
-      subst (λ (z : LeadView). Activations p (with_lead g (lead_stores z drives.BeginDrawn)) (set ws i x)) (sym is)
+      subst (λ (z : DriverView). Activations p (with_lead g (lead_stores z drives.BeginDrawn)) (set ws i x)) (sym is)
       (active_reset p g ws (lead_stores g.lead drives.BeginDrawn) i x (omega arith) (at_whole drives.BeginDrawn e) other a)
   stores_goes (drives.Reset j) i x sound e can other = absurd can
   stores_goes (drives.Half j) i x sound e can other = absurd can
@@ -147,52 +147,52 @@ module _ (p : Lay) (g : Whole) (ws : List ℕ) (l : LeadView) (is : l ≡ g.lead
   stores_goes drives.Waiting i x sound e can other = absurd can
   stores_goes drives.Checking i x sound e can other = absurd can
   stores_goes drives.LateStored i x sound e can other =
-      subst (λ (z : LeadView). Activations p (with_lead g (lead_stores z drives.LateStored)) (set ws i x)) (sym is)
+      subst (λ (z : DriverView). Activations p (with_lead g (lead_stores z drives.LateStored)) (set ws i x)) (sym is)
       (active_alike p g ws drives.LateStored drives.Waiting (lead_stores g.lead drives.LateStored) i x
       (at_whole drives.LateStored e) tick_stored other a)
   stores_goes drives.Awake i x sound e can other = absurd can
   stores_goes drives.StartDrawn i x sound e can other =
-      subst (λ (z : LeadView). Activations p (with_lead g (lead_stores z drives.StartDrawn)) (set ws i x)) (sym is)
+      subst (λ (z : DriverView). Activations p (with_lead g (lead_stores z drives.StartDrawn)) (set ws i x)) (sym is)
       (active_alike p g ws drives.StartDrawn drives.Running (lead_stores g.lead drives.StartDrawn) i x
       (at_whole drives.StartDrawn e) start_stored other a)
   stores_goes drives.Running i x sound e can other = absurd can
   stores_goes drives.Done i x sound e can other = absurd can
   stores_goes drives.FinishDrawn i x sound e can other =
-      subst (λ (z : LeadView). Activations p (with_lead g (lead_stores z drives.FinishDrawn)) (set ws i x)) (sym is)
+      subst (λ (z : DriverView). Activations p (with_lead g (lead_stores z drives.FinishDrawn)) (set ws i x)) (sym is)
       (active_alike p g ws drives.FinishDrawn drives.FinishStored (lead_stores g.lead drives.FinishDrawn) i x
       (at_whole drives.FinishDrawn e) finish_stored other a)
   stores_goes drives.FinishStored i x sound e can other = absurd can
   stores_goes drives.EndDrawn i x sound e can other =
-      subst (λ (z : LeadView). Activations p (with_lead g (lead_stores z drives.EndDrawn)) (set ws i x)) (sym is)
+      subst (λ (z : DriverView). Activations p (with_lead g (lead_stores z drives.EndDrawn)) (set ws i x)) (sym is)
       (active_end p g ws (lead_stores g.lead drives.EndDrawn) i x sound (at_whole drives.EndDrawn e) other a)
 
   pub late_goes : (i x : ℕ) → l.drive ≡ drives.Checking → IsOther p i
       → Activations p (with_lead g (record l { drive = drives.LateStored })) (set ws i x)
-  late_goes i x e other = subst (λ (z : LeadView). Activations p (with_lead g (record z { drive = drives.LateStored })) (set ws i x))
+  late_goes i x e other = subst (λ (z : DriverView). Activations p (with_lead g (record z { drive = drives.LateStored })) (set ws i x))
       (sym is)
       (active_alike p g ws drives.Checking drives.LateStored g.lead i x (at_whole drives.Checking e) late_stored other a)
 
-pub late_more : (l : LeadView) → l.drive ≡ drives.Checking → lead_drawn l ≤ lead_drawn (record l { drive = drives.LateStored })
+pub late_more : (l : DriverView) → l.drive ≡ drives.Checking → lead_drawn l ≤ lead_drawn (record l { drive = drives.LateStored })
 late_more l e = let s = same l drives.Checking e in omega arith
 
 -- the events so far, after a ticket of the driver's seat, and after an event that it stores
-module _ (p : Lay) (g : Whole) (ws : List ℕ) (l : LeadView) (fs : List Found) (is : l ≡ g.lead) (looks : fs ≡ g.looks) (sound : IsSound p)
+module _ (p : BoardLayout) (g : Whole) (ws : List ℕ) (l : DriverView) (fs : List Found) (is : l ≡ g.lead) (looks : fs ≡ g.looks) (sound : IsSound p)
     (a : Activations p g ws) (e : Events p g ws) where
-  at_lead : (d : Drive) → l.drive ≡ d → g.lead.drive ≡ d
-  at_lead d q = ap (λ (z : LeadView). z.drive) (sym is) ∙ q
+  at_lead : (d : DriverPhase) → l.drive ≡ d → g.lead.drive ≡ d
+  at_lead d q = ap (λ (z : DriverView). z.drive) (sym is) ∙ q
 
   module _ (wide : 0 < length ws) (room : suc (get_or ws 0 0) ≤ event_count p.shape) where
     abbrev t : ℕ
     t = get_or ws 0 0
 
-    abbrev Drawn : Drive → List Found → Type 0
+    abbrev Drawn : DriverPhase → List Found → Type 0
     Drawn d looks = (inside : List Event) × Events p (record (with_lead g (lead_draws l t d)) { inside = inside; looks = looks })
         (set ws 0 (suc t))
 
-    pub draws_logs : (tr : Trail) (d : Drive) → tr.looks ≡ fs → l.drive ≡ d → CanDrawLead l.checked d → Drawn d (draw_trail tr d).looks
+    pub draws_logs : (tr : Trail) (d : DriverPhase) → tr.looks ≡ fs → l.drive ≡ d → CanDrawLead l.checked d → Drawn d (draw_trail tr d).looks
     draws_logs tr drives.Between same q can = (
       g.inside,
-      subst (λ (z : LeadView × List Found). Events p (record (with_lead g (lead_draws z.0 t drives.Between))
+      subst (λ (z : DriverView × List Found). Events p (record (with_lead g (lead_draws z.0 t drives.Between))
           { inside = g.inside; looks = z.1 }) (set ws 0 (suc t))) (λ i. (sym is i, sym (same ∙ looks) i))
           (events_begin p g ws sound a e wide room (at_lead drives.Between q)
           (draws_more g.lead drives.Between t (at_lead drives.Between q) tt)),
@@ -201,9 +201,9 @@ module _ (p : Lay) (g : Whole) (ws : List ℕ) (l : LeadView) (fs : List Found) 
     draws_logs tr (drives.Reset j) same q can = absurd can
     draws_logs tr (drives.Half j) same q can = absurd can
     draws_logs tr (drives.Kick j o) same q can = absurd can
-    draws_logs tr drives.Waiting same q can = let c : g.lead.checked ≡ false = ap (λ (z : LeadView). z.checked) (sym is) ∙ can in (
+    draws_logs tr drives.Waiting same q can = let c : g.lead.checked ≡ false = ap (λ (z : DriverView). z.checked) (sym is) ∙ can in (
       g.inside ++ Tick g.lead.cycle g.late ∷ [],
-      subst (λ (z : LeadView). Events p (record (with_lead g (lead_draws z t drives.Waiting))
+      subst (λ (z : DriverView). Events p (record (with_lead g (lead_draws z t drives.Waiting))
           { inside = g.inside ++ Tick g.lead.cycle g.late ∷ []; looks = [] }) (set ws 0 (suc t))) (sym is)
           (events_tick p g ws sound a e wide room (at_lead drives.Waiting q) c
           (draws_more g.lead drives.Waiting t (at_lead drives.Waiting q) c)),
@@ -213,7 +213,7 @@ module _ (p : Lay) (g : Whole) (ws : List ℕ) (l : LeadView) (fs : List Found) 
     draws_logs tr drives.Awake same q can = let w = at_lead drives.Awake q in
         let inside : List Event = g.inside ++ Start g.lead.cycle (p.number p.driver) ∷ [] in (
           inside,
-          subst (λ (z : LeadView × List Found). Events p
+          subst (λ (z : DriverView × List Found). Events p
               (record (with_lead g (lead_draws z.0 t drives.Awake)) { inside = inside; looks = z.1 })
               (set ws 0 (suc t))) (λ i. (sym is i, sym (same ∙ looks) i))
               (events_lead_start p g ws sound a e wide room w (λ z. true≢false (sym z ∙ ap is_resetting w))
@@ -224,7 +224,7 @@ module _ (p : Lay) (g : Whole) (ws : List ℕ) (l : LeadView) (fs : List Found) 
     draws_logs tr drives.Done same q can = let w = at_lead drives.Done q in
         let inside : List Event = g.inside ++ Finish g.lead.cycle (p.number p.driver) ∷ [] in (
           inside,
-          subst (λ (z : LeadView × List Found). Events p
+          subst (λ (z : DriverView × List Found). Events p
               (record (with_lead g (lead_draws z.0 t drives.Done)) { inside = inside; looks = z.1 })
               (set ws 0 (suc t))) (λ i. (sym is i, sym (same ∙ looks) i))
               (events_lead_finish p g ws sound a e wide room w (draws_more g.lead drives.Done t w tt)),
@@ -232,14 +232,14 @@ module _ (p : Lay) (g : Whole) (ws : List ℕ) (l : LeadView) (fs : List Found) 
     draws_logs tr drives.FinishDrawn same q can = absurd can
     draws_logs tr drives.FinishStored same q can = (
       g.inside,
-      subst (λ (z : LeadView × List Found). Events p (record (with_lead g (lead_draws z.0 t drives.FinishStored))
+      subst (λ (z : DriverView × List Found). Events p (record (with_lead g (lead_draws z.0 t drives.FinishStored))
           { inside = g.inside; looks = z.1 }) (set ws 0 (suc t))) (λ i. (sym is i, sym (same ∙ looks) i))
           (events_end p g ws sound a e wide room (at_lead drives.FinishStored q)
           (draws_more g.lead drives.FinishStored t (at_lead drives.FinishStored q) tt)),
     )
     draws_logs tr drives.EndDrawn same q can = absurd can
 
-  abbrev Stored : Drive → ℕ → Event → Type 0
+  abbrev Stored : DriverPhase → ℕ → Event → Type 0
   Stored d k x = (past inside : List Event) × (late : ℕ)
       × Events p (record (with_lead g (lead_stores l d)) { past = past; inside = inside; late = late; looks = g.looks })
       (set ws (event_place p.shape k) (event_word_of x))
@@ -257,14 +257,14 @@ module _ (p : Lay) (g : Whole) (ws : List ℕ) (l : LeadView) (fs : List Found) 
   none_told i j y h = absurd (none_in (j, y) h)
 
   module _ (long : event_place p.shape (event_count p.shape) ≤ length ws) where
-    pub stores_logs : (d : Drive) → l.drive ≡ d → CanStoreLead d → held_lead l d < event_count p.shape → l.cycle < last p
+    pub stores_logs : (d : DriverPhase) → l.drive ≡ d → CanStoreLead d → held_lead l d < event_count p.shape → l.cycle < last p
         → Stored d (held_lead l d) (lead_tells l (p.number p.driver) d)
     stores_logs drives.Between q can near within = absurd can
     stores_logs drives.BeginDrawn q can near within = let w = at_lead drives.BeginDrawn q in (
       g.past,
       g.inside,
       g.late,
-      subst (λ (z : LeadView). z.ticket < event_count p.shape
+      subst (λ (z : DriverView). z.ticket < event_count p.shape
           → Events p (record (with_lead g (lead_stores z drives.BeginDrawn)) { looks = g.looks })
           (set ws (event_place p.shape z.ticket) (event_word_of (Begin z.cycle)))) (sym is)
           (λ near. events_lead_stored p g ws sound a e drives.BeginDrawn (drives.Reset 0) g.lead.ticket (Begin g.lead.cycle) w (omega arith)
@@ -283,7 +283,7 @@ module _ (p : Lay) (g : Whole) (ws : List ℕ) (l : LeadView) (fs : List Found) 
       g.past,
       g.inside,
       g.late,
-      subst (λ (z : LeadView). z.ticket < event_count p.shape
+      subst (λ (z : DriverView). z.ticket < event_count p.shape
           → Events p (record (with_lead g (lead_stores z drives.LateStored)) { looks = g.looks })
           (set ws (event_place p.shape z.ticket) (event_word_of (Tick z.cycle 0)))) (sym is)
           (λ near. events_lead_stored p g ws sound a e drives.LateStored drives.Waiting g.lead.ticket (Tick g.lead.cycle g.late) w
@@ -299,7 +299,7 @@ module _ (p : Lay) (g : Whole) (ws : List ℕ) (l : LeadView) (fs : List Found) 
       g.past,
       g.inside,
       g.late,
-      subst (λ (z : LeadView). z.start < event_count p.shape
+      subst (λ (z : DriverView). z.start < event_count p.shape
           → Events p (record (with_lead g (lead_stores z drives.StartDrawn)) { looks = g.looks })
           (set ws (event_place p.shape z.start) (event_word_of (Start z.cycle (p.number p.driver))))) (sym is)
           (λ near. events_lead_stored p g ws sound a e drives.StartDrawn drives.Running g.lead.start
@@ -317,7 +317,7 @@ module _ (p : Lay) (g : Whole) (ws : List ℕ) (l : LeadView) (fs : List Found) 
       g.past,
       g.inside,
       g.late,
-      subst (λ (z : LeadView). z.finish < event_count p.shape
+      subst (λ (z : DriverView). z.finish < event_count p.shape
           → Events p (record (with_lead g (lead_stores z drives.FinishDrawn)) { looks = g.looks })
           (set ws (event_place p.shape z.finish) (event_word_of (Finish z.cycle (p.number p.driver))))) (sym is)
           (λ near. events_lead_stored p g ws sound a e drives.FinishDrawn drives.FinishStored g.lead.finish
@@ -334,7 +334,7 @@ module _ (p : Lay) (g : Whole) (ws : List ℕ) (l : LeadView) (fs : List Found) 
       g.past ++ so_far (marks p g) g.lead.cycle g.inside,
       [],
       0,
-      subst (λ (z : LeadView). z.ticket < event_count p.shape → z.cycle < last p
+      subst (λ (z : DriverView). z.ticket < event_count p.shape → z.cycle < last p
           → Events p (record (with_lead g (lead_stores z drives.EndDrawn))
           { past = g.past ++ so_far (marks p g) g.lead.cycle g.inside; inside = []; late = 0; looks = g.looks })
           (set ws (event_place p.shape z.ticket) (event_word_of (End z.cycle)))) (sym is)
@@ -350,7 +350,7 @@ module _ (p : Lay) (g : Whole) (ws : List ℕ) (l : LeadView) (fs : List Found) 
       g.past,
       map (told_late x) g.inside,
       x,
-      subst (λ (z : LeadView). z.cycle < last p → x ≡ late_of z.cycle fs
+      subst (λ (z : DriverView). z.cycle < last p → x ≡ late_of z.cycle fs
           → Events p (record (with_lead g (record z { drive = drives.LateStored }))
           { inside = map (told_late x) g.inside; late = x; looks = g.looks }) (set ws (late_place p.shape (z.cycle - first p)) x)) (sym is)
           (λ within bits. events_late p g ws sound a e x w within (omega arith) (bits ∙ ap (late_of g.lead.cycle) looks)

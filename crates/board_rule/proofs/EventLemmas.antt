@@ -12,17 +12,17 @@ use Rattle.pw_base.specs.EventWords.{event_word_of}
 use Rattle.pw_base.specs.Layout.{event_count, event_place}
 use Rattle.board_rule.specs.declared.view.Phase.{Phase}
 use Rattle.board_rule.specs.declared.view.Phase.TheVariants.{Idle, Awake, StartDrawn, Running, Done, FinishDrawn, Telling}
-use Rattle.board_rule.specs.declared.view.Drive.{Drive}
-use Rattle.board_rule.specs.declared.view.Drive.TheVariants as drives
+use Rattle.board_rule.specs.declared.view.DriverPhase.{DriverPhase}
+use Rattle.board_rule.specs.declared.view.DriverPhase.TheVariants as drives
 use Rattle.board_rule.specs.declared.view.NodeView.{NodeView}
-use Rattle.board_rule.specs.Layout.{Lay, IsSound, nodes}
+use Rattle.board_rule.specs.Layout.{BoardLayout, IsSound, nodes}
 use Rattle.board_rule.specs.Sums.{times}
 use Rattle.board_rule.specs.Phases.{phase_rest, is_resetting, drive_stage}
 use Rattle.board_rule.specs.View.{Whole, with_node}
 use Rattle.board_rule.specs.Marks.{phase_started, phase_finished, phase_holds, drive_started, drive_finished, drive_holds, is_begun}
 use Rattle.board_rule.specs.Marks.{is_ending}
-use Rattle.board_rule.specs.ActivationRule.{Activations, posts}
-use Rattle.board_rule.specs.EventRule.{Events, IsHeld, so_far, marks, tally, records, node_drawn}
+use Rattle.board_rule.specs.ActivationRule.{Activations, progress}
+use Rattle.board_rule.specs.EventRule.{Events, IsHeld, so_far, marks, counts, records, node_drawn}
 use Rattle.board_rule.proofs.RunLemmas.{woken_told}
 use Rattle.board_rule.proofs.DrawLemmas.{Logs, Same, StartsAt, FinishesAt, starts_drawn, finishes_drawn, only_in}
 use Rattle.board_rule.proofs.StoreLemmas.{SameNodes, event_stored}
@@ -31,7 +31,7 @@ use Rattle.board_rule.proofs.TicketLemmas.{logs_of, count_node}
 use Rattle.board_rule.proofs.FollowerLemmas.{rest_at, words_run}
 use Rattle.board_rule.proofs.CycleLemmas.{all_done}
 
-pub begun_of : (d : Drive) → (is_resetting d ≡ true → ⊥) → is_begun d ≡ true
+pub begun_of : (d : DriverPhase) → (is_resetting d ≡ true → ⊥) → is_begun d ≡ true
 begun_of drives.Between h = absurd (h refl)
 begun_of drives.BeginDrawn h = refl
 begun_of (drives.Reset i) h = refl
@@ -48,7 +48,7 @@ begun_of drives.FinishDrawn h = refl
 begun_of drives.FinishStored h = refl
 begun_of drives.EndDrawn h = refl
 
-ending_is : (d : Drive) → is_ending d ≡ true → (is_resetting d ≡ false) × (0 < drive_stage d)
+ending_is : (d : DriverPhase) → is_ending d ≡ true → (is_resetting d ≡ false) × (0 < drive_stage d)
 ending_is drives.Between e = absurd (true≢false (sym e))
 ending_is drives.BeginDrawn e = absurd (true≢false (sym e))
 ending_is (drives.Reset i) e = absurd (true≢false (sym e))
@@ -88,14 +88,14 @@ pub not_true : (b : Bool) → (b ≡ true → ⊥) → b ≡ false
 not_true true h = absurd (h refl)
 not_true false h = refl
 
-module _ (p : Lay) where
+module _ (p : BoardLayout) where
   -- all that come before a node that is awake have drawn their Finish
   pub done_before : (g : Whole) (ws : List ℕ) (n : ℕ) → IsSound p → Activations p g ws → (is_resetting g.lead.drive ≡ true → ⊥)
-      → n < nodes p → (posts p g).stage n ≡ 1 → (m : ℕ) → m < nodes p → Precedes p.shape (p.number m) (p.number n)
-      → (tally p g).finished m ≡ 1
+      → n < nodes p → (progress p g).stage n ≡ 1 → (m : ℕ) → m < nodes p → Precedes p.shape (p.number m) (p.number n)
+      → (counts p g).finished m ≡ 1
   done_before g ws n sound a runs_on hn stage m hm before =
       let o : m ≢ p.driver = λ e. before.follower (ap p.number e ∙ sound.names_driver) in
-      let told = woken_told p.shape g.lead.cycle n m (posts p g) ws hn hm stage (words_run p g g.lead.drive ws runs_on a.laid) in
+      let told = woken_told p.shape g.lead.cycle n m (progress p g) ws hn hm stage (words_run p g g.lead.drive ws runs_on a.laid) in
       node_was p g (λ (z : NodeView). cond (eqb z.next g.lead.cycle) (phase_finished z.phase) 1) (drive_finished g.lead.drive) m o
       ∙ told_finished (eqb (g.nodes m).next g.lead.cycle) (g.nodes m).phase n (p.targets m) (sym (ap (times n) (rest_at p g m o)) ∙ told)
       (sound.follows m n hm hn before)
@@ -196,7 +196,7 @@ module _ (p : Lay) where
   -- a follower draws its Start
   pub events_start : (g : Whole) (ws : List ℕ) (m : ℕ) (x : NodeView) → IsSound p → Activations p g ws → Events p g ws → 0 < length ws
       → m < nodes p → m ≢ p.driver → g.nodes m ≡ x → x.next ≡ g.lead.cycle → x.phase ≡ Awake → (is_resetting g.lead.drive ≡ true → ⊥)
-      → (posts p g).stage m ≡ 1 → suc (get_or ws 0 0) ≤ event_count p.shape
+      → (progress p g).stage m ≡ 1 → suc (get_or ws 0 0) ≤ event_count p.shape
       → Events p (record (with_node g m (record x { phase = StartDrawn; start = get_or ws 0 0 }))
       { inside = g.inside ++ Start g.lead.cycle (p.number m) ∷ [] }) (set ws 0 (suc (get_or ws 0 0)))
   events_start g ws m x sound a e wide inside follows is now phase runs_on stage room =

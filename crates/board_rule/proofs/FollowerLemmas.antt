@@ -1,4 +1,4 @@
--- What a step of a follower has to show, and its steps after its end: it takes a target down, or triggers one.
+-- What a step of a follower has to show, and its steps after its end: it lowers a target, or triggers one.
 use Rattle.std.proofs.Common.{◌≡◌, ◌≢◌, ℕ, suc, ◌+◌, ◌-◌, ◌*◌, ◌%◌, ◌^◌, ◌<◌, ◌≤◌, true, false, cond, eqb, List, []}
 use Rattle.std.proofs.Common.{◌∷◌, drop, length, set, get_or, refl, sym, ap, ◌∙◌, subst, arith, eq-eqb, ne_eqb, length-set}
 use mathlib.Core.Logic.{dite}
@@ -9,24 +9,24 @@ use Rattle.std.proofs.lemmas.List.{drop_more}
 use Rattle.atomic_table.specs.Table.{State, Me, keeps, stepped, Allows}
 use Rattle.board_rule.specs.declared.view.Phase.{Phase}
 use Rattle.board_rule.specs.declared.view.Phase.TheVariants.{Idle, Telling}
-use Rattle.board_rule.specs.declared.view.Drive.{Drive}
-use Rattle.board_rule.specs.declared.view.Drive.TheVariants as drives
+use Rattle.board_rule.specs.declared.view.DriverPhase.{DriverPhase}
+use Rattle.board_rule.specs.declared.view.DriverPhase.TheVariants as drives
 use Rattle.board_rule.specs.declared.view.NodeView.{NodeView}
 use Rattle.board_rule.specs.declared.view.Trail.{Trail}
 use Rattle.board_rule.specs.declared.view.View.{View}
 use Rattle.pw_base.specs.Layout.{pending_place, status_place}
 use Rattle.pw_base.specs.Words.{triggered_word}
-use Rattle.board_rule.specs.Layout.{Lay, nodes}
+use Rattle.board_rule.specs.Layout.{BoardLayout, nodes}
 use Rattle.board_rule.specs.Phases.{owed_of, phase_rest, phase_owing, phase_stage, PhaseOk, phase_drawn, drive_rest, drive_owing}
 use Rattle.board_rule.specs.Phases.{drive_stage, is_resetting}
 use Rattle.board_rule.specs.View.{Whole, put, node_of, with_node, view_node}
-use Rattle.board_rule.specs.ActivationRule.{Activations, Words, posts}
+use Rattle.board_rule.specs.ActivationRule.{Activations, Words, progress}
 use Rattle.board_rule.specs.EventRule.{node_drawn}
 use Rattle.board_rule.specs.BufferRule.{Buffers}
 use Rattle.board_rule.specs.Spans.{spans}
 use Rattle.board_rule.specs.BoardRule.{Holds}
 use Rattle.board_rule.specs.Steps.{Has, settled}
-use Rattle.board_rule.specs.Plays.{Turns}
+use Rattle.board_rule.specs.Plays.{Leaves, Learns}
 use Rattle.board_rule.proofs.RunLemmas.{Sums, Elsewhere, positive, lowers, triggers}
 use Rattle.board_rule.proofs.LeftLemmas.{to_sums, from_sums}
 use Rattle.board_rule.proofs.PhaseLemmas.{settled_rest, settled_owing, settled_stage, settled_ok, settled_drawn, settled_quiet, owed_is}
@@ -35,38 +35,38 @@ use Rattle.board_rule.proofs.TicketLemmas.{events_node}
 use Rattle.board_rule.proofs.SeatLemmas.{put_here, put_else, node_step}
 use Rattle.board_rule.proofs.SpanLemmas.{IsPaced, settled_paced, buffers_node, wired_in, early_word}
 
-module _ (p : Lay) where
-  -- what the posts are at a follower
-  pub rest_at : (g : Whole) (m : ℕ) → m ≢ p.driver → (posts p g).rest m
+module _ (p : BoardLayout) where
+  -- what the progress is at a follower
+  pub rest_at : (g : Whole) (m : ℕ) → m ≢ p.driver → (progress p g).rest m
       ≡ phase_rest (p.targets m) (eqb (g.nodes m).next g.lead.cycle) (g.nodes m).phase
   rest_at g m o = ap (λ b. cond b (drive_rest (p.targets m) g.lead.drive)
       (phase_rest (p.targets m) (eqb (g.nodes m).next g.lead.cycle) (g.nodes m).phase)) (ne_eqb m p.driver o)
 
-  pub owing_at : (g : Whole) (m : ℕ) → m ≢ p.driver → (posts p g).owing m ≡ phase_owing (p.targets m) (g.nodes m).phase
+  pub owing_at : (g : Whole) (m : ℕ) → m ≢ p.driver → (progress p g).owing m ≡ phase_owing (p.targets m) (g.nodes m).phase
   owing_at g m o = ap (λ b. cond b (drive_owing (p.targets m) g.lead.drive) (phase_owing (p.targets m) (g.nodes m).phase))
       (ne_eqb m p.driver o)
 
   pub stage_at : (g : Whole) (m : ℕ) → m ≢ p.driver
-      → (posts p g).stage m ≡ phase_stage (eqb (g.nodes m).next g.lead.cycle) (g.nodes m).phase
+      → (progress p g).stage m ≡ phase_stage (eqb (g.nodes m).next g.lead.cycle) (g.nodes m).phase
   stage_at g m o = ap (λ b. cond b (drive_stage g.lead.drive) (phase_stage (eqb (g.nodes m).next g.lead.cycle) (g.nodes m).phase))
       (ne_eqb m p.driver o)
 
   -- the same after a step that puts x there
   pub rest_put : (g : Whole) (m : ℕ) (x : NodeView) → m ≢ p.driver
-      → (posts p (with_node g m x)).rest m ≡ phase_rest (p.targets m) (eqb x.next g.lead.cycle) x.phase
+      → (progress p (with_node g m x)).rest m ≡ phase_rest (p.targets m) (eqb x.next g.lead.cycle) x.phase
   rest_put g m x o = rest_at (with_node g m x) m o ∙ ap (λ (y : NodeView). phase_rest (p.targets m) (eqb y.next g.lead.cycle) y.phase)
       (put_here g.nodes m x)
 
   pub owing_put : (g : Whole) (m : ℕ) (x : NodeView) → m ≢ p.driver
-      → (posts p (with_node g m x)).owing m ≡ phase_owing (p.targets m) x.phase
+      → (progress p (with_node g m x)).owing m ≡ phase_owing (p.targets m) x.phase
   owing_put g m x o = owing_at (with_node g m x) m o ∙ ap (λ (y : NodeView). phase_owing (p.targets m) y.phase) (put_here g.nodes m x)
 
   pub stage_put : (g : Whole) (m : ℕ) (x : NodeView) → m ≢ p.driver
-      → (posts p (with_node g m x)).stage m ≡ phase_stage (eqb x.next g.lead.cycle) x.phase
+      → (progress p (with_node g m x)).stage m ≡ phase_stage (eqb x.next g.lead.cycle) x.phase
   stage_put g m x o = stage_at (with_node g m x) m o
       ∙ ap (λ (y : NodeView). phase_stage (eqb y.next g.lead.cycle) y.phase) (put_here g.nodes m x)
 
-  pub elsewhere : (g : Whole) (m : ℕ) (x : NodeView) → Elsewhere m (posts p g) (posts p (with_node g m x))
+  pub elsewhere : (g : Whole) (m : ℕ) (x : NodeView) → Elsewhere m (progress p g) (progress p (with_node g m x))
   elsewhere g m x = record {
     rest = λ i o. ap (λ (y : NodeView). cond (eqb i p.driver) (drive_rest (p.targets i) g.lead.drive)
         (phase_rest (p.targets i) (eqb y.next g.lead.cycle) y.phase)) (put_else g.nodes m i x o);
@@ -77,8 +77,8 @@ module _ (p : Lay) where
   }
 
   -- the words outside the reset
-  pub words_run : (g : Whole) (d : Drive) (ws : List ℕ) → (is_resetting d ≡ true → ⊥) → Words p g.lead.cycle (posts p g) d ws
-      → Sums p.shape g.lead.cycle (posts p g) ws
+  pub words_run : (g : Whole) (d : DriverPhase) (ws : List ℕ) → (is_resetting d ≡ true → ⊥) → Words p g.lead.cycle (progress p g) d ws
+      → Sums p.shape g.lead.cycle (progress p g) ws
   words_run g drives.Between ws runs_on w = absurd (runs_on refl)
   words_run g drives.BeginDrawn ws runs_on w = absurd (runs_on refl)
   words_run g (drives.Reset i) ws runs_on w = absurd (runs_on refl)
@@ -95,8 +95,8 @@ module _ (p : Lay) where
   words_run g drives.FinishStored ws runs_on w = to_sums p g g.lead.cycle ws w
   words_run g drives.EndDrawn ws runs_on w = to_sums p g g.lead.cycle ws w
 
-  pub run_words : (g : Whole) (d : Drive) (ws : List ℕ) → (is_resetting d ≡ true → ⊥) → Sums p.shape g.lead.cycle (posts p g) ws
-      → Words p g.lead.cycle (posts p g) d ws
+  pub run_words : (g : Whole) (d : DriverPhase) (ws : List ℕ) → (is_resetting d ≡ true → ⊥) → Sums p.shape g.lead.cycle (progress p g) ws
+      → Words p g.lead.cycle (progress p g) d ws
   run_words g drives.Between ws runs_on w = absurd (runs_on refl)
   run_words g drives.BeginDrawn ws runs_on w = absurd (runs_on refl)
   run_words g (drives.Reset i) ws runs_on w = absurd (runs_on refl)
@@ -120,7 +120,7 @@ module _ (p : Lay) where
 
   -- the activation rule after a step of the follower m
   pub active_node : (g : Whole) (ws after : List ℕ) (m : ℕ) (x : NodeView) → m ≢ p.driver → (is_resetting g.lead.drive ≡ true → ⊥)
-      → PhaseOk (length (p.targets m)) g.lead.cycle x.next x.phase → Sums p.shape g.lead.cycle (posts p (with_node g m x)) after
+      → PhaseOk (length (p.targets m)) g.lead.cycle x.next x.phase → Sums p.shape g.lead.cycle (progress p (with_node g m x)) after
       → Activations p g ws → Activations p (with_node g m x) after
   active_node g ws after m x follows runs_on ok r a = record {
     later = a.later;
@@ -168,11 +168,12 @@ module _ (p : Lay) where
         (buffers_node p r.whole s.words (set s.words i n) m (node_of v m) y (wired_in p r.whole s.words s.views r.seated)
         (same_node s r id m v at h) paced (early_word p s.words i n high) r.buffers)
 
-    pub lower_allowed : (slots id m i n : ℕ) (me : Me S View) (t : ℕ → Trail) (after : ℕ → View) → Has p me.0 m
+    pub lower_allowed : (slots id m i n : ℕ) (me : Me S View) (t : ℕ → Trail) (after : ℕ → View) (says : ℕ → Type 0) → Has p me.0 m
         → (node_of me.0 m).phase ≡ Telling i false → i < length (p.targets m) → get_or (p.targets m) i 0 ≡ n
         → ((found : ℕ) → after found ≡ view_node me.0 m (settled (length (p.targets m)) (node_of me.0 m) (i + 1) (eqb found 1)) (t found))
-        → Allows (Holds p) slots id me (pending_place p.shape n) (λ w. (w + (2 ^ 64 - 1)) % 2 ^ 64) (Turns after me)
-    lower_allowed slots id m i n me t after h phase near target is_after s r _ at fits =
+        → ((found : ℕ) → 0 < found → says found)
+        → Allows (Holds p) slots id me (pending_place p.shape n) (λ w. (w + (2 ^ 64 - 1)) % 2 ^ 64) (Learns after says me)
+    lower_allowed slots id m i n me t after says h phase near target is_after it s r _ at fits =
         let g = r.whole in let a = r.activations in let sound = r.seated.sound in let wide = r.seated.wide in
         let x : NodeView = node_of me.0 m in
         let same = same_node s r id m me.0 at h in
@@ -189,19 +190,19 @@ module _ (p : Lay) where
         let new : NodeView = settled (length ts) x (suc i) (eqb found 1) in
         let inside : n < nodes p = subst (λ k. k < nodes p) target (sound.targets_in m i h.inside near) in
         let next : drop i ts ≡ n ∷ drop (suc i) ts = drop_more ts i 0 near ∙ (λ j. target j ∷ drop (one j) ts) in
-        let rest : (posts p g).rest m ≡ drop i ts = rest_at g m h.follows ∙ ap (phase_rest ts (eqb (g.nodes m).next c)) phase' in
-        let owing : (posts p g).owing m ≡ [] = owing_at g m h.follows ∙ ap (phase_owing ts) phase' in
-        let stage : (posts p g).stage m ≡ 2 = stage_at g m h.follows ∙ ap (phase_stage (eqb (g.nodes m).next c)) phase' in
-        let above = positive p.shape m n (posts p g) (drop (suc i) ts) h.inside (rest ∙ next) in
+        let rest : (progress p g).rest m ≡ drop i ts = rest_at g m h.follows ∙ ap (phase_rest ts (eqb (g.nodes m).next c)) phase' in
+        let owing : (progress p g).owing m ≡ [] = owing_at g m h.follows ∙ ap (phase_owing ts) phase' in
+        let stage : (progress p g).stage m ≡ 2 = stage_at g m h.follows ∙ ap (phase_stage (eqb (g.nodes m).next c)) phase' in
+        let above = positive p.shape m n (progress p g) (drop (suc i) ts) h.inside (rest ∙ next) in
         let counts = (runs.node n inside).counts in
         let whole : Whole = with_node g m new in
-        let rest' : (posts p whole).rest m ≡ drop (suc i) ts = rest_put g m new h.follows
+        let rest' : (progress p whole).rest m ≡ drop (suc i) ts = rest_put g m new h.follows
         ∙ settled_rest ts c x (suc i) now (length ts) (eqb found 1) refl in
-        let owing' : (posts p whole).owing m ≡ owed_of ts (suc i) (eqb found 1) = owing_put g m new h.follows
+        let owing' : (progress p whole).owing m ≡ owed_of ts (suc i) (eqb found 1) = owing_put g m new h.follows
         ∙ settled_owing ts c x (suc i) now (length ts) (eqb found 1) in
-        let stage' : (posts p whole).stage m ≡ 2 = stage_put g m new h.follows
+        let stage' : (progress p whole).stage m ≡ 2 = stage_put g m new h.follows
         ∙ settled_stage ts c x (suc i) now (length ts) (eqb found 1) in
-        let lowered = lowers p.shape c m n (found - 1) (posts p g) (posts p whole) s.words h.inside inside wide (elsewhere g m new)
+        let lowered = lowers p.shape c m n (found - 1) (progress p g) (progress p whole) s.words h.inside inside wide (elsewhere g m new)
         (stage' ∙ sym stage) (rest ∙ next ∙ ap (λ l. n ∷ l) (sym rest')) owing
         (λ e. owing' ∙ ap (owed_of ts (suc i)) (eq-eqb found 1 e) ∙ owed_is ts i n near target)
         (λ e. owing' ∙ ap (owed_of ts (suc i)) (ne_eqb found 1 e)) (omega arith) runs in
@@ -218,7 +219,7 @@ module _ (p : Lay) where
               (settled_paced (length ts) (suc i) i false (eqb found 1) x phase)
               (active_node g s.words (set s.words (pending_place p.shape n) (found - 1)) m new h.follows runs_on
               (settled_ok ts c x (suc i) now (length ts) (eqb found 1) (omega arith) (omega arith)) lowered a)),
-          (sym (is_after found), refl),
+          (sym (is_after found), refl, it found (omega arith)),
         )
       where
         idle_not : (let a : Phase = Idle in a) ≡ Telling i false → ⊥
@@ -229,7 +230,7 @@ module _ (p : Lay) where
         → (node_of me.0 m).phase ≡ Telling (suc i) true → get_or (p.targets m) i 0 ≡ n
         → ((found : ℕ) → after found ≡ view_node me.0 m (settled (length (p.targets m)) (node_of me.0 m) (suc i) false) t)
         → Allows (Holds p) slots id me (status_place p.shape n) (λ _. triggered_word (node_of me.0 m).next)
-        (λ _. Turns after me (triggered_word (node_of me.0 m).next))
+        (λ _. Leaves after me (triggered_word (node_of me.0 m).next))
     trigger_allowed slots id m i n me t after h phase target is_after s r _ at fits =
         let g = r.whole in let a = r.activations in let sound = r.seated.sound in let wide = r.seated.wide in
         let x : NodeView = node_of me.0 m in
@@ -244,16 +245,16 @@ module _ (p : Lay) where
         let runs = words_run g g.lead.drive s.words runs_on a.laid in
         let new : NodeView = settled (length ts) x (suc i) false in
         let inside : n < nodes p = subst (λ k. k < nodes p) target (sound.targets_in m i h.inside (omega arith)) in
-        let rest : (posts p g).rest m ≡ drop (suc i) ts = rest_at g m h.follows ∙ ap (phase_rest ts (eqb (g.nodes m).next c)) phase' in
-        let owing : (posts p g).owing m ≡ n ∷ [] = owing_at g m h.follows ∙ ap (phase_owing ts) phase'
+        let rest : (progress p g).rest m ≡ drop (suc i) ts = rest_at g m h.follows ∙ ap (phase_rest ts (eqb (g.nodes m).next c)) phase' in
+        let owing : (progress p g).owing m ≡ n ∷ [] = owing_at g m h.follows ∙ ap (phase_owing ts) phase'
         ∙ owed_is ts i n (omega arith) target in
-        let stage : (posts p g).stage m ≡ 2 = stage_at g m h.follows ∙ ap (phase_stage (eqb (g.nodes m).next c)) phase' in
+        let stage : (progress p g).stage m ≡ 2 = stage_at g m h.follows ∙ ap (phase_stage (eqb (g.nodes m).next c)) phase' in
         let whole : Whole = with_node g m new in
-        let rest' : (posts p whole).rest m ≡ drop (suc i) ts = rest_put g m new h.follows
+        let rest' : (progress p whole).rest m ≡ drop (suc i) ts = rest_put g m new h.follows
         ∙ settled_rest ts c x (suc i) now (length ts) false refl in
-        let owing' : (posts p whole).owing m ≡ [] = owing_put g m new h.follows ∙ settled_owing ts c x (suc i) now (length ts) false in
-        let stage' : (posts p whole).stage m ≡ 2 = stage_put g m new h.follows ∙ settled_stage ts c x (suc i) now (length ts) false in
-        let triggered = triggers p.shape c m n (posts p g) (posts p whole) s.words h.inside inside wide (elsewhere g m new)
+        let owing' : (progress p whole).owing m ≡ [] = owing_put g m new h.follows ∙ settled_owing ts c x (suc i) now (length ts) false in
+        let stage' : (progress p whole).stage m ≡ 2 = stage_put g m new h.follows ∙ settled_stage ts c x (suc i) now (length ts) false in
+        let triggered = triggers p.shape c m n (progress p g) (progress p whole) s.words h.inside inside wide (elsewhere g m new)
         (stage' ∙ sym stage) (rest' ∙ sym rest) owing owing' runs in
         let drawn = settled_drawn ts c x (suc i) now (length ts) false in
         let before : node_drawn x ≡ 2 * x.next + 2 = ap (λ f. 2 * x.next + phase_drawn f) phase in (

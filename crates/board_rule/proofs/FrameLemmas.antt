@@ -4,16 +4,16 @@ use Rattle.std.proofs.Common.{set, get_or, refl, sym, ap, ◌∙◌, subst, arit
 use Rattle.pw_base.specs.declared.event.Event.{Event}
 use Rattle.pw_base.specs.declared.event.Event.TheVariants.{Start, Finish, Tick}
 use Rattle.pw_base.specs.Layout.{event_count}
-use Rattle.board_rule.specs.declared.view.Drive.TheVariants as drives
+use Rattle.board_rule.specs.declared.view.DriverPhase.TheVariants as drives
 use Rattle.board_rule.specs.declared.view.NodeView.{NodeView}
-use Rattle.board_rule.specs.declared.view.LeadView.{LeadView}
+use Rattle.board_rule.specs.declared.view.DriverView.{DriverView}
 use Rattle.board_rule.specs.declared.view.Found.{Found}
-use Rattle.board_rule.specs.Layout.{Lay, IsSound}
+use Rattle.board_rule.specs.Layout.{BoardLayout, IsSound}
 use Rattle.board_rule.specs.Phases.{is_resetting}
 use Rattle.board_rule.specs.View.{Whole, with_lead}
 use Rattle.board_rule.specs.Marks.{phase_started, phase_finished, phase_holds, drive_started, drive_finished, drive_holds, drive_tells}
 use Rattle.board_rule.specs.Marks.{drive_sees, is_begun, is_ending}
-use Rattle.board_rule.specs.ActivationRule.{Activations, posts}
+use Rattle.board_rule.specs.ActivationRule.{Activations, progress}
 use Rattle.board_rule.specs.EventRule.{Events, marks, records, lead_drawn}
 use Rattle.board_rule.proofs.DrawLemmas.{Logs, StartsAt, FinishesAt, starts_drawn, finishes_drawn}
 use Rattle.board_rule.proofs.StoreLemmas.{SameNodes, begin_drawn, end_drawn, tick_drawn}
@@ -21,7 +21,7 @@ use Rattle.board_rule.proofs.MarkLemmas.{words_drawn, lead_here, lead_else}
 use Rattle.board_rule.proofs.TicketLemmas.{logs_of, Counted, count_lead}
 use Rattle.board_rule.proofs.EventLemmas.{done_before}
 
-module _ (p : Lay) (g : Whole) (x : LeadView) (looks : List Found) (inside : List Event) (late : ℕ) where
+module _ (p : BoardLayout) (g : Whole) (x : DriverView) (looks : List Found) (inside : List Event) (late : ℕ) where
   -- the whole after a step of the driver's seat in the same cycle
   abbrev pub after : Whole
   after = record (with_lead g (record x { cycle = g.lead.cycle })) { inside = inside; late = late; looks = looks }
@@ -40,16 +40,16 @@ module _ (p : Lay) (g : Whole) (x : LeadView) (looks : List Found) (inside : Lis
       → (marks p after).holds n ≡ (marks p g).holds n
   lead_holds e n = ap (λ k. cond (eqb n p.driver) k (phase_holds (g.nodes n) (g.nodes n).phase)) e
 
-module _ (p : Lay) where
+module _ (p : BoardLayout) where
   module _ (g : Whole) (ws : List ℕ) (sound : IsSound p) (a : Activations p g ws) (e : Events p g ws) (wide : 0 < length ws)
       (room : suc (get_or ws 0 0) ≤ event_count p.shape) where
     abbrev t : ℕ
     t = get_or ws 0 0
 
-    counted : (x : LeadView) → lead_drawn g.lead + 1 ≤ lead_drawn x → Counted p (with_lead g x) (get_or (set ws 0 (suc t)) 0 0)
+    counted : (x : DriverView) → lead_drawn g.lead + 1 ≤ lead_drawn x → Counted p (with_lead g x) (get_or (set ws 0 (suc t)) 0 0)
     counted x more = let b = count_lead p g t 1 x more e.count in let w = get_or-set_same ws 0 (suc t) 0 wide in omega arith
 
-    abbrev began : LeadView
+    abbrev began : DriverView
     began = record g.lead { drive = drives.BeginDrawn; ticket = t }
 
     pub events_begin : g.lead.drive ≡ drives.Between → lead_drawn g.lead + 1 ≤ lead_drawn began
@@ -72,21 +72,21 @@ module _ (p : Lay) where
           inside = logs.inside;
         }
 
-    abbrev over : LeadView
-    over = record g.lead { drive = drives.EndDrawn; ticket = t }
+    abbrev ended : DriverView
+    ended = record g.lead { drive = drives.EndDrawn; ticket = t }
 
-    pub events_end : g.lead.drive ≡ drives.FinishStored → lead_drawn g.lead + 1 ≤ lead_drawn over
-        → Events p (record (with_lead g over) { inside = g.inside; looks = g.looks }) (set ws 0 (suc t))
+    pub events_end : g.lead.drive ≡ drives.FinishStored → lead_drawn g.lead + 1 ≤ lead_drawn ended
+        → Events p (record (with_lead g ended) { inside = g.inside; looks = g.looks }) (set ws 0 (suc t))
     events_end d more = let k = e.tickets in let drawn = k.drawn in
-        let logs = subst (Logs p g.lead.cycle g.late g.past g.inside (marks p (after p g over g.looks g.inside g.late)))
+        let logs = subst (Logs p g.lead.cycle g.late g.past g.inside (marks p (after p g ended g.looks g.inside g.late)))
         (sym (words_drawn p ws (suc t) wide))
-        (end_drawn p g.lead.cycle g.late g.past g.inside (marks p g) (marks p (after p g over g.looks g.inside g.late)) (records p ws)
+        (end_drawn p g.lead.cycle g.late g.past g.inside (marks p g) (marks p (after p g ended g.looks g.inside g.late)) (records p ws)
         (logs_of p g ws e)
-        (lead_nodes p g over g.looks g.inside g.late (sym (ap drive_started d)) (sym (ap drive_finished d)) refl refl) t
+        (lead_nodes p g ended g.looks g.inside g.late (sym (ap drive_started d)) (sym (ap drive_finished d)) refl refl) t
         (ap is_begun d, ap is_ending d) (refl, refl) refl (sym (ap (drive_sees g.looks) d))
-        (lead_holds p g over g.looks g.inside g.late (sym (ap (drive_holds g.lead) d))) (ap (drive_tells g.lead g.late) d) refl refl
+        (lead_holds p g ended g.looks g.inside g.late (sym (ap (drive_holds g.lead) d))) (ap (drive_tells g.lead g.late) d) refl refl
         (omega arith)) in record {
-          count = counted over more;
+          count = counted ended more;
           checks = e.checks;
           checking = λ z. absurd (true≢false (sym z));
           fresh = λ z. absurd (true≢false z);
@@ -95,7 +95,7 @@ module _ (p : Lay) where
           inside = logs.inside;
         }
 
-    abbrev ticked : LeadView
+    abbrev ticked : DriverView
     ticked = record g.lead { drive = drives.Checking; checked = true; checks = g.lead.checks + 1; ticket = t }
 
     pub events_tick : g.lead.drive ≡ drives.Waiting → g.lead.checked ≡ false → lead_drawn g.lead + 1 ≤ lead_drawn ticked
@@ -120,10 +120,10 @@ module _ (p : Lay) where
           inside = logs.inside;
         }
 
-    abbrev starting : LeadView
+    abbrev starting : DriverView
     starting = record g.lead { drive = drives.StartDrawn; start = t }
 
-    pub events_lead_start : g.lead.drive ≡ drives.Awake → (is_resetting g.lead.drive ≡ true → ⊥) → (posts p g).stage p.driver ≡ 1
+    pub events_lead_start : g.lead.drive ≡ drives.Awake → (is_resetting g.lead.drive ≡ true → ⊥) → (progress p g).stage p.driver ≡ 1
         → lead_drawn g.lead + 1 ≤ lead_drawn starting
         → Events p (record (with_lead g starting) { inside = g.inside ++ Start g.lead.cycle (p.number p.driver) ∷ []; looks = g.looks })
         (set ws 0 (suc t))
@@ -166,7 +166,7 @@ module _ (p : Lay) where
           inside = logs.inside;
         }
 
-    abbrev finishing : LeadView
+    abbrev finishing : DriverView
     finishing = record g.lead { drive = drives.FinishDrawn; finish = t }
 
     pub events_lead_finish : g.lead.drive ≡ drives.Done → lead_drawn g.lead + 1 ≤ lead_drawn finishing

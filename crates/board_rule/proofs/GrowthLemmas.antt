@@ -61,7 +61,7 @@ module _ {X : Type 0} (f : X → Bool) (h : X → X) (same : (x : X) → f (h x)
   first_mapped (x ∷ xs) = λ i. cond (not (same x i)) (1 + first_mapped xs i) 0
 
 module _ {X : Type 0} where
-  -- what a list gives at a place, when it grows
+  -- what a list gives at an index, when it grows
   pub get_front : (xs ys : List X) (i : ℕ) (x : X) → slice_get xs i ≡ Some x → slice_get (xs ++ ys) i ≡ Some x
   get_front [] ys i x e = cc
   get_front (y ∷ xs) ys zero x e = e
@@ -71,7 +71,7 @@ module _ {X : Type 0} where
   get_end [] y = refl
   get_end (x ∷ xs) y = get_end xs y
 
-  -- a place in a list with one element more is a place before, or the last
+  -- an index in a list with one element more is an index before, or the last
   pub get_cases : (xs : List X) (y : X) (i : ℕ) (x : X) → slice_get (xs ++ y ∷ []) i ≡ Some x → (slice_get xs i ≡ Some x)
       ⊎ ((i ≡ length xs) × (y ≡ x))
   get_cases [] y zero x e = inr (refl, (cc))

@@ -15,9 +15,9 @@ use Rattle.pw_base.specs.declared.shape.ShapeLink.{ShapeLink}
 use Rattle.pw_base.specs.declared.pools.PoolShape.{PoolShape}
 use Rattle.pw_base.specs.declared.ids.PortId.{PortId}
 use Rattle.pw_base.specs.Pools.{is_same_port, pools_of}
-use Rattle.board_rule.specs.declared.view.Drive.TheVariants as drives
+use Rattle.board_rule.specs.declared.view.DriverPhase.TheVariants as drives
 use Rattle.board_rule.specs.declared.view.NodeView.{NodeView}
-use Rattle.board_rule.specs.declared.view.LeadView.{LeadView}
+use Rattle.board_rule.specs.declared.view.DriverView.{DriverView}
 use Rattle.board_rule.specs.declared.view.WriteView.{WriteView}
 use Rattle.board_rule.specs.declared.view.ReadView.{ReadView}
 use Rattle.board_rule.specs.declared.view.BlockView.{BlockView}
@@ -29,13 +29,12 @@ use Rattle.pw_base.specs.Pools as pools
 use Rattle.board_rule.proofs.PoolWordLemmas.{pools_have_words}
 use Rattle.pw_base.proofs.PoolLemmas.{channels_le, same_port, port_same}
 use Rattle.pw_base.proofs.LayoutLemmas.{length-start_words}
-use Rattle.board_rule.specs.declared.plot.Plot.{Plot}
-use Rattle.board_rule.specs.Layout.{Lay, lay, first, HasSeats, IsUndelayed}
-use Rattle.board_rule.specs.Rows.{HasPlaces}
+use Rattle.board_rule.specs.declared.board_shape.BoardShape.{BoardShape}
+use Rattle.board_rule.specs.Layout.{BoardLayout, layout_of, HasSeats}
+use Rattle.board_rule.specs.Rows.{HasIndexes}
 use Rattle.board_rule.proofs.SoundLemmas.{sound_layout}
 use Rattle.board_rule.proofs.LayoutLemmas.{count_is, long_enough}
 use Rattle.board_rule.specs.View.{Whole, put, node_of, unwritten, unread}
-use Rattle.board_rule.specs.SampleWords.{IsTable}
 use Rattle.board_rule.specs.BlockReadings.{Ends}
 use Rattle.board_rule.specs.Spans.{spans, phase_over, phase_begun, drive_over, drive_begun, holder, block_at, KnowsEnds, AreStill}
 use Rattle.board_rule.specs.BoardRule.{Knows, Seated, Holds}
@@ -81,7 +80,7 @@ first_pass f (x ∷ xs) (suc i) d h t = by (f x) refl (first_pass f xs i d (omeg
     by false e r = let a = r.0 in let z : position_or_len f (x ∷ xs) ≡ suc (position_or_len f xs) =
         ap (λ b. cond (not b) (1 + position_or_len f xs) 0) e ∙ (omega arith) in (omega arith, ap (λ k. f (get_or (x ∷ xs) k d)) z ∙ r.1)
 
-module _ (p : Lay) where
+module _ (p : BoardLayout) where
   pub link_is : (l : ℕ) (k : ShapeLink) → LinkAt p l k → link_at p l ≡ k
   link_is l k at = get_or_from_slice_get p.shape.links l k no_link at
 
@@ -96,7 +95,7 @@ module _ (p : Lay) where
 
   -- the pool that a link reads
   pub pool_here : Wired p → (l : ℕ) (k : ShapeLink) → LinkAt p l k → PoolAt p (pool_of p l) (pool_at p (pool_of p l))
-      × Contains (pool_at p (pool_of p l)).links l × (p.place (pool_at p (pool_of p l)).port.node ≡ p.place k.from.node)
+      × Contains (pool_at p (pool_of p l)).links l × (p.index (pool_at p (pool_of p l)).port.node ≡ p.index k.from.node)
   pool_here w l k at =
       let c = w.pool l k at in let q : ℕ = c.0 in let x : PoolShape = c.1 in let f : PoolShape
       → Bool = λ z. is_same_port z.port (link_at p l).from in
@@ -116,7 +115,7 @@ module _ (p : Lay) where
         subst (λ (z : PoolShape). Contains z.links l) (sym source.2)
             (has_id p.shape.links source.0 l k (slice_get_within p.shape.links l k at)
             (ap (λ (z : ShapeLink). z.from) (get_or_from_slice_get p.shape.links l k k at) ∙ sym named)),
-        ap (λ (z : PortId). p.place z.node) mine,
+        ap (λ (z : PortId). p.index z.node) mine,
       )
 
   pub holder_follows : (n : ℕ) → n ≢ p.driver → holder p n ≡ p.seat_of n
@@ -131,11 +130,11 @@ module _ (p : Lay) where
   is_ready g ws views id v m c s at mine begun given = let k = (s.knows id v at).ends in record {
     wrote = λ l x there q. ap (λ (y : WriteView). y.stored)
         (sym (got v.writes l (g.ends.writes l) (unwritten 0) (k.of_write l x there (ap (holder p) q ∙ mine))))
-        ∙ given.0 l (slice_get_within p.shape.links l x there) (ap (λ (y : ShapeLink). p.place y.from.node) (link_is l x there) ∙ q)
+        ∙ given.0 l (slice_get_within p.shape.links l x there) (ap (λ (y : ShapeLink). p.index y.from.node) (link_is l x there) ∙ q)
         ∙ sym begun;
     gave = λ l x there q. ap (λ (y : ReadView). y.stored)
         (sym (got v.reads l (g.ends.reads l) (unread 0) (k.of_read l x there (ap (holder p) q ∙ mine))))
-        ∙ given.1 l (slice_get_within p.shape.links l x there) (ap (λ (y : ShapeLink). p.place y.to.node) (link_is l x there) ∙ q)
+        ∙ given.1 l (slice_get_within p.shape.links l x there) (ap (λ (y : ShapeLink). p.index y.to.node) (link_is l x there) ∙ q)
         ∙ sym begun;
   }
 
@@ -157,23 +156,22 @@ module _ (p : Lay) where
       → length after ≡ length words → v.number ≤ p.seats → Knows p (with_ends g ends) id w
       → ((number : ℕ) (writes : List WriteView) (reads : List ReadView) (blocks : List BlockView) → (number ≡ v.number → ⊥)
       → KnowsEnds p g.ends number writes reads blocks → KnowsEnds p ends number writes reads blocks)
-      → AreStill p ends g.split → ((l : ℕ) → first p < (ends.writes l).stored → IsTable p g.expect) → Seated p g words views
+      → AreStill p ends g.split → w.number ≡ v.number → Seated p g words views
       → Seated p (with_ends g ends) after (set views id w)
-  ends_step g ends words after views id v w at same low mine others still table s = let k = s.knows id v at in
+  ends_step g ends words after views id v w at same low mine others still number s = let k = s.knows id v at in
       seat_step p g (with_ends g ends) words after views id v w at same mine
       (λ j u other r. record {
         kept = r.kept;
         here = r.here;
-        leads = r.leads;
+        is_driver = r.is_driver;
         expects = r.expects;
-        table = r.table;
         is_split = r.is_split;
         owns = r.owns;
         ends = others u.number u.writes u.reads u.blocks (λ e. other (sym (r.here (omega arith)) ∙ ap g.seat_at e ∙ k.here low)) r.ends;
-      }) s.unsplit still table s
+      }) s.unsplit still s.table (λ _. refl) refl number s
 
   pub write_step : (g : Whole) (words after : List ℕ) (views : List View) (id l : ℕ) (x : ShapeLink) (v : View) (y : WriteView)
-      → get_elem? views id ≡ some v → length after ≡ length words → LinkAt p l x → holder p (p.place x.from.node) ≡ v.number
+      → get_elem? views id ≡ some v → length after ≡ length words → LinkAt p l x → holder p (p.index x.from.node) ≡ v.number
       → v.number < p.seats
       → Seated p g words views → Seated p (with_ends g (new_write g.ends l y)) after (set views id (view_write v l y))
   write_step g words after views id l x v y at same there mine loops s = let k = s.knows id v at in let split = k.is_split loops in
@@ -181,9 +179,8 @@ module _ (p : Lay) where
       record {
         kept = k.kept;
         here = k.here;
-        leads = k.leads;
+        is_driver = k.is_driver;
         expects = k.expects;
-        table = k.table;
         is_split = k.is_split;
         owns = k.owns;
         ends = record {
@@ -204,14 +201,14 @@ module _ (p : Lay) where
         writes = λ i z h low e. put_else g.ends.writes l i y (λ q. let a = seat_from i z h q in omega arith) ∙ s.still.writes i z h low e;
         reads = s.still.reads;
         blocks = s.still.blocks;
-      } (λ _ _. k.table loops) s
+      } refl s
     where
-      seat_from : (i : ℕ) (z : ShapeLink) → LinkAt p i z → i ≡ l → holder p (p.place z.from.node) ≡ v.number
-      seat_from i z h q = ap (λ (j : ShapeLink). holder p (p.place j.from.node))
+      seat_from : (i : ℕ) (z : ShapeLink) → LinkAt p i z → i ≡ l → holder p (p.index z.from.node) ≡ v.number
+      seat_from i z h q = ap (λ (j : ShapeLink). holder p (p.index j.from.node))
           (sym (link_is i z h) ∙ ap (link_at p) q ∙ link_is l x there) ∙ mine
 
   pub read_step : (g : Whole) (words after : List ℕ) (views : List View) (id l : ℕ) (x : ShapeLink) (v : View) (y : ReadView)
-      → get_elem? views id ≡ some v → length after ≡ length words → LinkAt p l x → holder p (p.place x.to.node) ≡ v.number
+      → get_elem? views id ≡ some v → length after ≡ length words → LinkAt p l x → holder p (p.index x.to.node) ≡ v.number
       → v.number ≤ p.seats
       → Seated p g words views → Seated p (with_ends g (new_read g.ends l y)) after (set views id (view_read v l y))
   read_step g words after views id l x v y at same there mine low s = let k = s.knows id v at in
@@ -219,9 +216,8 @@ module _ (p : Lay) where
       record {
         kept = k.kept;
         here = k.here;
-        leads = k.leads;
+        is_driver = k.is_driver;
         expects = k.expects;
-        table = k.table;
         is_split = k.is_split;
         owns = k.owns;
         ends = record {
@@ -243,15 +239,15 @@ module _ (p : Lay) where
         reads = λ i z h far e. put_else g.ends.reads l i y
             (λ q. let a = seat_to i z h q in let split = k.is_split (omega arith) in omega arith) ∙ s.still.reads i z h far e;
         blocks = s.still.blocks;
-      } s.table s
+      } refl s
     where
-      seat_to : (i : ℕ) (z : ShapeLink) → LinkAt p i z → i ≡ l → holder p (p.place z.to.node) ≡ v.number
-      seat_to i z h q = ap (λ (j : ShapeLink). holder p (p.place j.to.node)) (sym (link_is i z h) ∙ ap (link_at p) q ∙ link_is l x there)
+      seat_to : (i : ℕ) (z : ShapeLink) → LinkAt p i z → i ≡ l → holder p (p.index z.to.node) ≡ v.number
+      seat_to i z h q = ap (λ (j : ShapeLink). holder p (p.index j.to.node)) (sym (link_is i z h) ∙ ap (link_at p) q ∙ link_is l x there)
           ∙ mine
 
-  -- a block is put at its place; no other block stands there
+  -- a block is put at its index; no other block stands there
   pub block_step : (g : Whole) (words after : List ℕ) (views : List View) (id q b : ℕ) (x : PoolShape) (v : View) (y : BlockView)
-      → get_elem? views id ≡ some v → length after ≡ length words → PoolAt p q x → b < x.blocks → holder p (p.place x.port.node) ≡ v.number
+      → get_elem? views id ≡ some v → length after ≡ length words → PoolAt p q x → b < x.blocks → holder p (p.index x.port.node) ≡ v.number
       → v.number < p.seats
       → Seated p g words views → Seated p (with_ends g (new_block g.ends q b y)) after (set views id (view_block p v q b y))
   block_step g words after views id q b x v y at same there low mine loops s = let k = s.knows id v at in let split = k.is_split loops in
@@ -259,9 +255,8 @@ module _ (p : Lay) where
       record {
         kept = k.kept;
         here = k.here;
-        leads = k.leads;
+        is_driver = k.is_driver;
         expects = k.expects;
-        table = k.table;
         is_split = k.is_split;
         owns = k.owns;
         ends = record {
@@ -284,10 +279,10 @@ module _ (p : Lay) where
         writes = s.still.writes;
         reads = s.still.reads;
         blocks = λ i c z h l far e. block_else i c (λ t. let a = seat_of_pool i z h t.0 in omega arith) ∙ s.still.blocks i c z h l far e;
-      } s.table s
+      } refl s
     where
-      seat_of_pool : (i : ℕ) (z : PoolShape) → PoolAt p i z → i ≡ q → holder p (p.place z.port.node) ≡ v.number
-      seat_of_pool i z h t = ap (λ (j : PoolShape). holder p (p.place j.port.node))
+      seat_of_pool : (i : ℕ) (z : PoolShape) → PoolAt p i z → i ≡ q → holder p (p.index z.port.node) ≡ v.number
+      seat_of_pool i z h t = ap (λ (j : PoolShape). holder p (p.index j.port.node))
           (sym (pool_is i z h) ∙ ap (pool_at p) t ∙ pool_is q x there) ∙ mine
 
       block_now : put g.ends.blocks q (put (g.ends.blocks q) b y) q b ≡ y
@@ -317,36 +312,36 @@ module _ (p : Lay) where
     -- a node of the seat that works has begun the cycle that the seat is in with it, and not ended it
     pub now_running : (s : State S View) (r : Holds p s) (id : ℕ) (b : Bool) (v : View) (m : ℕ) → get_elem? s.views id ≡ some v
         → HasNode b p v m → IsRunning b v m
-        → ((spans p r.whole m).over ≡ cycle_of b v m) × ((spans p r.whole m).begun ≡ (spans p r.whole m).over + 1) × (holder p m ≡ v.number)
+        → ((spans p r.whole m).ended ≡ cycle_of b v m) × ((spans p r.whole m).begun ≡ (spans p r.whole m).ended + 1) × (holder p m ≡ v.number)
         × (v.number ≤ p.seats) × (b ≡ false → v.number < p.seats)
     now_running s r id true v m at h run = let g = r.whole in let is = lead_is p s r id v at h.0.1 in
-        let d : g.lead.drive ≡ drives.Running = ap (λ (l : LeadView). l.drive) (sym is) ∙ run in
-        let c : g.lead.cycle ≡ v.lead.cycle = ap (λ (l : LeadView). l.cycle) (sym is) in
-        let o : (spans p g m).over ≡ g.lead.cycle + 0 = over_lead p g m h.0.0 ∙ ap (λ k. g.lead.cycle + drive_over k) d in
+        let d : g.lead.drive ≡ drives.Running = ap (λ (l : DriverView). l.drive) (sym is) ∙ run in
+        let c : g.lead.cycle ≡ v.lead.cycle = ap (λ (l : DriverView). l.cycle) (sym is) in
+        let o : (spans p g m).ended ≡ g.lead.cycle + 0 = over_lead p g m h.0.0 ∙ ap (λ k. g.lead.cycle + drive_over k) d in
         let n : (spans p g m).begun ≡ g.lead.cycle + 1 = begun_lead p g m h.0.0 ∙ ap (λ k. g.lead.cycle + drive_begun k) d in
         let e = h.0.1 in
         (omega arith, omega arith, holder_leads m h.0.0 ∙ sym h.0.1, omega arith, λ z. absurd (true≢false z))
     now_running s r id false v m at h run = let g = r.whole in let has = h.0 in let x : NodeView = node_of v m in
         let same = same_node p s r id m v at has in
-        let o : (spans p g m).over ≡ x.next + 0 = over_at p g m has.follows ∙ ap (λ (y : NodeView). y.next + phase_over y.phase) same
+        let o : (spans p g m).ended ≡ x.next + 0 = over_at p g m has.follows ∙ ap (λ (y : NodeView). y.next + phase_over y.phase) same
         ∙ ap (λ f. x.next + phase_over f) run in
         let n : (spans p g m).begun ≡ x.next + 1 = begun_at p g m has.follows ∙ ap (λ (y : NodeView). y.next + phase_begun y.phase) same
         ∙ ap (λ f. x.next + phase_begun f) run in
         (omega arith, omega arith, holder_follows m has.follows ∙ has.owned, omega arith, λ z. has.loops)
 
 -- where a board has the words of areas and blocks
-pub placed : (plot : Plot) → IsPooledShape plot.shape → IsUndelayed plot.shape → HasSeats plot → HasPlaces plot.shape
-placed plot pooled undelayed seats = let p = lay plot in let w = wired p (sound_layout plot pooled.sound seats) pooled undelayed in
-    let long = length-start_words plot.shape pooled in let count = count_is plot.shape in record {
-      pools = λ l h. slice_get_within (pools_of plot.shape) (pool_of p l) (pool_at p (pool_of p l))
+pub placed : (board_shape : BoardShape) → IsPooledShape board_shape.shape → HasSeats board_shape → HasIndexes board_shape.shape
+placed board_shape pooled seats = let p = layout_of board_shape in let w = wired p (sound_layout board_shape pooled.sound seats) pooled in
+    let long = length-start_words board_shape.shape pooled in let count = count_is board_shape.shape in record {
+      pools = λ l h. slice_get_within (pools_of board_shape.shape) (pool_of p l) (pool_at p (pool_of p l))
           (pool_here p w l (link_at p l) (link_there p l h)).0;
-      areas = λ l h. let a = (w.io_in l (link_at p l) (link_there p l h)).1 in let e = long_enough plot.shape undelayed in omega arith;
+      areas = λ l a h late. let b = (w.io_in l a (link_at p l) (link_there p l h) late).1 in let e = long_enough board_shape.shape in omega arith;
       blocks = λ q b h low. let r = (w.readers_in q b (pool_at p q) (pool_there p q h) low).1 in omega arith;
-      some = λ q h. pools_have_words p (sound_layout plot pooled.sound seats) pooled undelayed q (pool_at p q) (pool_there p q h);
-      count = let a = few_ports [] plot.shape.links in let b = length-map (sources_of plot.shape) (pools.pool_of plot.shape) in
+      some = λ q h. pools_have_words p (sound_layout board_shape pooled.sound seats) pooled q (pool_at p q) (pool_there p q h);
+      count = let a = few_ports [] board_shape.shape.links in let b = length-map (sources_of board_shape.shape) (pools.pool_of board_shape.shape) in
           let few = pooled.sound.links.few in omega arith;
-      few = λ q h. let s = pool_source plot.shape q (pool_at p q) (pool_there p q h) in
-          let words : (pool_at p q).words ≡ words_of plot.shape s.0 = ap (λ (z : PoolShape). z.words) s.2 in
-          let most = mul-le plot.shape.quantum (channels_of plot.shape s.0) 8192 8 pooled.sound.cycles.quantum.1
-          (channels_le plot.shape s.0 pooled) in omega arith;
+      few = λ q h. let s = pool_source board_shape.shape q (pool_at p q) (pool_there p q h) in
+          let words : (pool_at p q).words ≡ words_of board_shape.shape s.0 = ap (λ (z : PoolShape). z.words) s.2 in
+          let most = mul-le board_shape.shape.quantum (channels_of board_shape.shape s.0) 8192 8 pooled.sound.cycles.quantum.1
+          (channels_le board_shape.shape s.0 pooled) in omega arith;
     }

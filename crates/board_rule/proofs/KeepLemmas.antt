@@ -7,12 +7,12 @@ use Rattle.atomic_table.specs.Table.{State, keeps, stepped}
 use Rattle.pw_base.specs.declared.event.Event.TheVariants.{Tick}
 use Rattle.pw_base.specs.EventWords.{event_cycle, event_node, event_word_of}
 use Rattle.pw_base.specs.Layout.{pending_place, status_place, late_place, event_place, event_count}
-use Rattle.board_rule.specs.declared.view.Drive.{Drive}
-use Rattle.board_rule.specs.declared.view.Drive.TheVariants as drives
+use Rattle.board_rule.specs.declared.view.DriverPhase.{DriverPhase}
+use Rattle.board_rule.specs.declared.view.DriverPhase.TheVariants as drives
 use Rattle.board_rule.specs.declared.view.View.{View}
-use Rattle.board_rule.specs.Layout.{Lay, IsSound, nodes, first}
+use Rattle.board_rule.specs.Layout.{BoardLayout, IsSound, nodes, first}
 use Rattle.board_rule.specs.View.{Whole}
-use Rattle.board_rule.specs.ActivationRule.{Posts, NodeOk, Activations, Runs, Resets, Words, posts, left, debts}
+use Rattle.board_rule.specs.ActivationRule.{Progress, NodeOk, Activations, Runs, Resets, Words, progress, left, debts}
 use Rattle.board_rule.specs.EventRule.{Events, IsHeld, marks}
 use Rattle.board_rule.specs.BufferRule.{Buffers}
 use Rattle.board_rule.specs.BlockReadings.{Ends}
@@ -22,11 +22,11 @@ use Rattle.board_rule.proofs.TicketLemmas.{few_tickets}
 use Rattle.board_rule.proofs.StayLemmas.{IsBufferWord}
 use Rattle.board_rule.proofs.HolderLemmas.{with_ends}
 
-module _ (p : Lay) where
+module _ (p : BoardLayout) where
   module _ (ws after : List ℕ) (pending : (n : ℕ) → n < nodes p
       → get_or after (pending_place p.shape n) 0 ≡ get_or ws (pending_place p.shape n) 0)
       (status : (n : ℕ) → n < nodes p → get_or after (status_place p.shape n) 0 ≡ get_or ws (status_place p.shape n) 0) where
-    runs_stay : (c : ℕ) (s : Posts) → Runs p c s ws → Runs p c s after
+    runs_stay : (c : ℕ) (s : Progress) → Runs p c s ws → Runs p c s after
     runs_stay c s r = record {
       node = λ n h. subst (λ (k : ℕ × ℕ). NodeOk c k.0 k.1 (s.stage n) (left p s n) (debts p s n))
           (λ i. (sym (pending n h) i, sym (status n h) i)) (r.node n h);
@@ -40,7 +40,7 @@ module _ (p : Lay) where
       status_old = λ n h l. status n h ∙ r.status_old n h l;
     }
 
-    words_stay : (c : ℕ) (s : Posts) (d : Drive) → Words p c s d ws → Words p c s d after
+    words_stay : (c : ℕ) (s : Progress) (d : DriverPhase) → Words p c s d ws → Words p c s d after
     words_stay c s drives.Between w = resets_stay c 0 0 w
     words_stay c s drives.BeginDrawn w = resets_stay c 0 0 w
     words_stay c s (drives.Reset i) w = resets_stay c i i w
@@ -77,7 +77,7 @@ module _ (p : Lay) where
     followers = a.followers;
     resting = a.resting;
     laid = words_stay ws (set ws i x) (λ n h. get_or-set_other ws i (pending_place p.shape n) x 0 (λ z. omega arith))
-        (λ n h. get_or-set_other ws i (status_place p.shape n) x 0 (λ z. omega arith)) g.lead.cycle (posts p g) g.lead.drive a.laid;
+        (λ n h. get_or-set_other ws i (status_place p.shape n) x 0 (λ z. omega arith)) g.lead.cycle (progress p g) g.lead.drive a.laid;
   }
 
   events_ends : (g : Whole) (ends : Ends) (ws : List ℕ) (i x : ℕ) → IsSound p → IsBufferWord p i → Activations p g ws → Events p g ws

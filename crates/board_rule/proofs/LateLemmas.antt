@@ -16,12 +16,12 @@ use Rattle.pw_base.specs.EventWords.{event_cycle, event_node, event_word_of}
 use Rattle.pw_base.specs.History.{is_start, is_finish, is_tick, IsLate}
 use Rattle.pw_base.specs.Words.{finished_word}
 use Rattle.board_rule.specs.declared.view.Found.{Found}
-use Rattle.board_rule.specs.Layout.{Lay, nodes, first}
+use Rattle.board_rule.specs.Layout.{BoardLayout, nodes, first}
 use Rattle.board_rule.specs.View.{put}
 use Rattle.board_rule.specs.Bits.{with_bit}
 use Rattle.board_rule.specs.EventSteps.{late_of}
 use Rattle.board_rule.specs.Logged.{IsSoFar, IsHeld, Tickets, Earlier, Inside}
-use Rattle.board_rule.specs.Records.{Records, Tally, Marks}
+use Rattle.board_rule.specs.Records.{Records, Counts, Marks}
 use Rattle.board_rule.proofs.SeatLemmas.{put_here, put_else}
 use Rattle.board_rule.proofs.GrowthLemmas.{count_mapped, first_mapped}
 
@@ -82,7 +82,7 @@ word_same set (Finish k m) = refl
 word_same set (Tick k late) = refl
 word_same set (End k) = refl
 
--- what a list gives at a place when its end is changed
+-- what a list gives at an index when its end is changed
 found_late : (set : ℕ) (past xs : List Event) (k : ℕ) (y : Event) → slice_get (past ++ map (told_late set) xs) k ≡ Some y → (x : Event)
     × (slice_get (past ++ xs) k ≡ Some x) × (event_word_of x ≡ event_word_of y)
 found_late set [] [] k y h = cc
@@ -99,12 +99,12 @@ keeps_late set [] (x ∷ xs) (suc k) y l h = keeps_late set [] xs k y (omega ari
 keeps_late set (z ∷ past) xs zero y l h = absurd (omega arith)
 keeps_late set (z ∷ past) xs (suc k) y l h = keeps_late set past xs k y (omega arith) h
 
-module _ (p : Lay) (c : ℕ) where
+module _ (p : BoardLayout) (c : ℕ) where
   -- the events so far, with the late set of the Tick
   pub tickets_late : (set : ℕ) (s t : Marks) (past xs : List Event) (r : Records) (late : ℕ → ℕ)
       → Tickets p c (length past) s (past ++ xs) r → ((k : ℕ) → IsHeld p s k → IsHeld p t k)
-      → ((n : ℕ) → n < nodes p → t.tally.started n ≡ 1 → (s.tally.started n ≡ 1) × (t.start n ≡ s.start n))
-      → ((n : ℕ) → n < nodes p → t.tally.finished n ≡ 1 → (s.tally.finished n ≡ 1) × (t.finish n ≡ s.finish n))
+      → ((n : ℕ) → n < nodes p → t.counts.started n ≡ 1 → (s.counts.started n ≡ 1) × (t.start n ≡ s.start n))
+      → ((n : ℕ) → n < nodes p → t.counts.finished n ≡ 1 → (s.counts.finished n ≡ 1) × (t.finish n ≡ s.finish n))
       → ((k : ℕ) (y : Event) → Contains t.tells (k, y) → (x : Event) × Contains s.tells (k, x) × (told_late set x ≡ y))
       → Tickets p c (length past) t (past ++ map (told_late set) xs) (record r { late = late })
   tickets_late set s t past xs r late a held starts finishes tells =
@@ -165,7 +165,7 @@ module _ (p : Lay) (c : ℕ) where
         )) h.2,
   )
 
-  pub inside_late : (late set : ℕ) (k l : Tally) (xs : List Event) → Inside p c late k xs → ((n : ℕ) → l.started n ≡ k.started n)
+  pub inside_late : (late set : ℕ) (k l : Counts) (xs : List Event) → Inside p c late k xs → ((n : ℕ) → l.started n ≡ k.started n)
       → ((n : ℕ) → l.finished n ≡ k.finished n) → l.checked ≡ k.checked → l.sees ≡ []
       → ((n : ℕ) → IsBitSet set n → IsLate p.shape xs c n) → Inside p c set l (map (told_late set) xs)
   inside_late late set k l xs a started finished checked sees bits = let h : Event → Event = told_late set in record {
@@ -194,7 +194,7 @@ module _ (p : Lay) (c : ℕ) where
   }
 
   -- a status is loaded
-  pub inside_looks : (late : ℕ) (k : Tally) (xs : List Event) (f : Found) → Inside p c late k xs
+  pub inside_looks : (late : ℕ) (k : Counts) (xs : List Event) (f : Found) → Inside p c late k xs
       → (¬ (f.word ≡ finished_word c) → IsLate p.shape xs c f.node) → Inside p c late (record k { sees = f ∷ k.sees }) xs
   inside_looks late k xs f a h = record {
     only = a.only;

@@ -1,61 +1,39 @@
 -- The words that a board begins with: how many there are at least, and what those of the activation records hold.
-use Rattle.std.proofs.Common.{◌≡◌, ℕ, suc, ◌+◌, ◌-◌, ◌*◌, ◌<◌, ◌≤◌, Bool, true, false, true≢false, cond, List, [], ◌∷◌}
+use Rattle.std.proofs.Common.{◌≡◌, ℕ, suc, ◌+◌, ◌*◌, ◌%◌, ◌<◌, ◌≤◌, ◌==◌, ◌&&◌, ◌||◌, Bool, true, false, cond, List, [], ◌∷◌}
 use Rattle.std.proofs.Common.{◌++◌, length, get_or, replicate, refl, ap, ◌∙◌, arith, length-append}
-use Rattle.std.specs.Prelude.{All, count_by}
-use Rattle.std.specs.List.{flat_map}
+use Rattle.std.specs.Prelude.{count_by, filter}
+use Rattle.std.specs.List.{flat_map, list_any}
 use Rattle.std.proofs.lemmas.List.{get_or-replicate, get_or-append-add, length-replicate}
 use Rattle.std.proofs.lemmas.List.Sums.{sum_by-cons}
 use Rattle.std.proofs.Math.ListN.{get_or-append}
-use Rattle.std.proofs.lemmas.List.Elements.{All-filter, All-head, All-tail}
 use Rattle.pw_base.specs.declared.shape.Shape.{Shape}
 use Rattle.pw_base.specs.declared.shape.ShapeLink.{ShapeLink}
-use Rattle.pw_base.specs.declared.ids.PortId.{PortId}
-use Rattle.pw_base.specs.declared.pools.PoolShape.{PoolShape}
 use Rattle.pw_base.specs.Words.{not_triggered_word}
-use Rattle.pw_base.specs.Pools.{is_same_port, links_from, pools_of}
+use Rattle.pw_base.specs.Pools.{pools_of}
 use Rattle.pw_base.specs.Layout.{node_count, areas_of, area_count, event_count, event_place, late_place, pending_place, status_place}
-use Rattle.pw_base.specs.Layout.{io_start, pool_words, pool_start, start_words}
-use Rattle.board_rule.specs.Layout.{IsUndelayed, word_count}
+use Rattle.pw_base.specs.Layout.{io_start, pool_start, start_words}
+use Rattle.board_rule.specs.Layout.{word_count}
 
 repeated : (k a : ℕ) → length (replicate k a) ≡ k
 repeated k a = length-replicate k a
 
--- no delayed link, so none that reads a pool
-none_delayed : (xs : List ShapeLink) → All (λ l. l.delayed ≡ false) xs → count_by (λ l. l.delayed) xs ≡ 0
-none_delayed [] h = refl
-none_delayed (x ∷ xs) h = let a = none_delayed xs (All-tail (λ l. l.delayed ≡ false) x xs h) in
-    let b = All-head (λ l. l.delayed ≡ false) x xs h in let c : cond {A = ℕ} x.delayed 1 0 ≡ 0 = ap (λ k. cond {A = ℕ} k 1 0) b in
-    sum_by-cons (λ l. cond l.delayed 1 0) x xs ∙ (omega arith)
+-- a link has as many words as areas
+pub two_or_one : (delayed even : Bool) (a b c d e : ℕ) → length (cond delayed (cond even (a ∷ b ∷ []) (c ∷ d ∷ [])) (e ∷ [])) ≡ cond delayed 2 1
+two_or_one true true a b c d e = refl
+two_or_one true false a b c d e = refl
+two_or_one false even a b c d e = refl
 
-pub undelayed_pool : (shape : Shape) (port : PortId) → IsUndelayed shape → count_by (λ l. l.delayed) (links_from shape port) ≡ 0
-undelayed_pool shape port h = none_delayed (links_from shape port)
-    (All-filter (λ l. is_same_port l.from port) (λ l. l.delayed ≡ false) shape.links h)
-
-pub undelayed_start : (shape : Shape) (pool : PoolShape) → IsUndelayed shape → pool_start shape pool ≡ 0 ∷ replicate (pool_words pool - 1) 0
-undelayed_start shape pool h = ap (λ k. k ∷ replicate (pool_words pool - 1) 0) (undelayed_pool shape pool.port h)
-
--- an undelayed link has one area
-areas_start : (first : ℕ) (xs : List ShapeLink) → All (λ l. l.delayed ≡ false) xs → length (flat_map (io_start first) xs) ≡ area_count xs
-areas_start first [] h = refl
-areas_start first (x ∷ xs) h = let a = areas_start first xs (All-tail (λ l. l.delayed ≡ false) x xs h) in
-    let b = All-head (λ l. l.delayed ≡ false) x xs h in
-    length-append (io_start first x) (flat_map (io_start first) xs)
-    ∙ (let c : length (io_start first x) ≡ 1 = one x b in let d : areas_of x ≡ 1 = ap (λ k. cond {A = ℕ} k 2 1) b in
-    let e = sum_by-cons areas_of x xs in omega arith)
-  where
-    one : (l : ShapeLink) → l.delayed ≡ false → length (io_start first l) ≡ 1
-    one l e = by l.delayed e
-      where
-        by : (k : Bool) → k ≡ false → length (cond k (io_start first (record l { delayed = true }))
-            (io_start first (record l { delayed = false }))) ≡ 1
-        by true q = absurd (true≢false q)
-        by false q = refl
+pub areas_start : (first : ℕ) (xs : List ShapeLink) → length (flat_map (io_start first) xs) ≡ area_count xs
+areas_start first [] = refl
+areas_start first (x ∷ xs) = let a = areas_start first xs in let e = sum_by-cons areas_of x xs in
+    let c : length (io_start first x) ≡ areas_of x = two_or_one x.delayed (first % 2 == 0) _ _ _ _ _ in
+    length-append (io_start first x) (flat_map (io_start first) xs) ∙ (omega arith)
 
 pub count_is : (shape : Shape) → word_count shape ≡ length (start_words shape)
 unfolding word_count
 count_is shape = refl
 
-module _ (shape : Shape) (h : IsUndelayed shape) where
+module _ (shape : Shape) where
   abbrev n : ℕ
   n = node_count shape
 
@@ -71,7 +49,7 @@ module _ (shape : Shape) (h : IsUndelayed shape) where
       let c = length-append (flat_map (io_start shape.first) shape.links) rest in
       let d = length-append (replicate (shape.cycles + event_count shape) 0) (flat_map (pool_start shape) (pools_of shape)) in
       let e = repeated n 0 in let f = repeated n (not_triggered_word shape.first) in let g = repeated (shape.cycles + event_count shape) 0 in
-      let k = areas_start shape.first shape.links h in omega arith
+      let k = areas_start shape.first shape.links in omega arith
 
   pub pending_start : (i : ℕ) → i < n → get_or (start_words shape) (pending_place shape i) 0 ≡ 0
   pending_start i l = let e = repeated n 0 in let one : 1 + i ≡ suc i = omega arith in ap (λ k. get_or (start_words shape) k 0) one
@@ -91,7 +69,7 @@ module _ (shape : Shape) (h : IsUndelayed shape) where
   zero_start i l = let areas : List ℕ = flat_map (io_start shape.first) shape.links in
       let zeros : List ℕ = replicate (shape.cycles + event_count shape) 0 in
       let pools : List ℕ = flat_map (pool_start shape) (pools_of shape) in
-      let a = repeated n 0 in let b = repeated n (not_triggered_word shape.first) in let c = areas_start shape.first shape.links h in
+      let a = repeated n 0 in let b = repeated n (not_triggered_word shape.first) in let c = areas_start shape.first shape.links in
       let d = repeated (shape.cycles + event_count shape) 0 in
       let e : 1 + 2 * n + area_count shape.links + i ≡ suc
       (length (replicate n 0) + (length (replicate n (not_triggered_word shape.first)) + (length areas + i))) = omega arith in
@@ -107,3 +85,36 @@ module _ (shape : Shape) (h : IsUndelayed shape) where
   pub event_start : (t : ℕ) → t < event_count shape → get_or (start_words shape) (event_place shape t) 0 ≡ 0
   event_start t l = let e : event_place shape t ≡ 1 + 2 * n + area_count shape.links + (shape.cycles + t) = omega arith in
       ap (λ k. get_or (start_words shape) k 0) e ∙ zero_start (shape.cycles + t) (omega arith)
+
+-- the elements that pass both tests
+pub counted_both : {X : Type 0} (p t : X → Bool) (xs : List X) → count_by p (filter t xs) ≡ count_by (λ x. p x && t x) xs
+counted_both p t [] = refl
+counted_both p t (x ∷ xs) = by (p x) (t x) refl refl (counted_both p t xs)
+  where
+    and_true : (b : Bool) → cond {A = ℕ} (b && true) 1 0 ≡ cond {A = ℕ} b 1 0
+    and_true true = refl
+    and_true false = refl
+
+    and_false : (b : Bool) → cond {A = ℕ} (b && false) 1 0 ≡ 0
+    and_false true = refl
+    and_false false = refl
+
+    by : (b c : Bool) → p x ≡ b → t x ≡ c → count_by p (filter t xs) ≡ count_by (λ y. p y && t y) xs
+        → count_by p (cond c (x ∷ filter t xs) (filter t xs)) ≡ count_by (λ y. p y && t y) (x ∷ xs)
+    by b true e f r = let u = sum_by-cons (λ y. cond (p y) 1 0) x (filter t xs) in let v = sum_by-cons (λ y. cond (p y && t y) 1 0) x xs in
+        let w : cond {A = ℕ} (p x && t x) 1 0 ≡ cond {A = ℕ} (p x) 1 0 = ap (λ z. cond {A = ℕ} (p x && z) 1 0) f ∙ and_true (p x) in omega arith
+    by b false e f r = let v = sum_by-cons (λ y. cond (p y && t y) 1 0) x xs in
+        let w : cond {A = ℕ} (p x && t x) 1 0 ≡ 0 = ap (λ z. cond {A = ℕ} (p x && z) 1 0) f ∙ and_false (p x) in omega arith
+
+-- one passes where some are counted
+pub any_counted : {X : Type 0} (p : X → Bool) (xs : List X) → (count_by p xs ≡ 0 → list_any p xs ≡ false)
+    × (0 < count_by p xs → list_any p xs ≡ true)
+any_counted p [] = ((λ _. refl), (λ h. absurd (omega arith)))
+any_counted p (x ∷ xs) = by (p x) refl (any_counted p xs)
+  where
+    by : (b : Bool) → p x ≡ b → (count_by p xs ≡ 0 → list_any p xs ≡ false) × (0 < count_by p xs → list_any p xs ≡ true)
+        → (count_by p (x ∷ xs) ≡ 0 → (b || list_any p xs) ≡ false) × (0 < count_by p (x ∷ xs) → (b || list_any p xs) ≡ true)
+    by true e r = let s = sum_by-cons (λ y. cond (p y) 1 0) x xs in let o : cond {A = ℕ} (p x) 1 0 ≡ 1 = ap (λ z. cond {A = ℕ} z 1 0) e in
+        ((λ h. absurd (omega arith)), (λ _. refl))
+    by false e r = let s = sum_by-cons (λ y. cond (p y) 1 0) x xs in let o : cond {A = ℕ} (p x) 1 0 ≡ 0 = ap (λ z. cond {A = ℕ} z 1 0) e in
+        ((λ h. r.0 (omega arith)), (λ h. r.1 (omega arith)))

@@ -1,26 +1,26 @@
--- Laws of `specs/LeadProgress.antt`: what the driver's seat keeps goes along with its view.
+-- Laws of `specs/DriverProgress.antt`: what the driver's seat keeps goes along with its view.
 use Rattle.std.proofs.Common.{◌≡◌, ℕ, true, cond, List, refl, sym, ◌∙◌, subst}
-use Rattle.board_rule.specs.declared.view.Drive.{Drive}
-use Rattle.board_rule.specs.declared.view.Drive.TheVariants as drives
-use Rattle.board_rule.specs.declared.view.LeadView.{LeadView}
+use Rattle.board_rule.specs.declared.view.DriverPhase.{DriverPhase}
+use Rattle.board_rule.specs.declared.view.DriverPhase.TheVariants as drives
+use Rattle.board_rule.specs.declared.view.DriverView.{DriverView}
 use Rattle.board_rule.specs.declared.view.ReadView.{ReadView}
 use Rattle.board_rule.specs.declared.view.Trail.{Trail}
 use Rattle.board_rule.specs.declared.view.View.{View}
-use Rattle.board_rule.specs.declared.lead.LeadProgress.{LeadProgress}
+use Rattle.board_rule.specs.declared.lead.DriverProgress.{DriverProgress}
 use Rattle.board_rule.specs.View.{view_lead}
 use Rattle.board_rule.specs.Bits.{woke_of}
 use Rattle.board_rule.specs.EventSteps.{CanDrawLead, lead_draws, draw_trail, draws}
-use Rattle.board_rule.specs.LeadProgress.{done_of, due_of, lead_progress_of, lead_drawn, is_begin}
+use Rattle.board_rule.specs.DriverProgress.{done_of, due_of, lead_progress_of, lead_drawn, is_begin}
 use Rattle.board_rule.specs.Known.{IsDriverSeat}
 
-module _ (v w : View) (x : LeadView) (t : Trail) (l k : LeadProgress) (rs : List ReadView) (o o' : ℕ) (is : w ≡ view_lead v x t)
+module _ (v w : View) (x : DriverView) (t : Trail) (l k : DriverProgress) (rs : List ReadView) (o o' : ℕ) (is : w ≡ view_lead v x t)
     (s : IsDriverSeat v l rs o) (woke : woke_of t.told ≡ o') where
   -- the seat after one of its steps
   pub lead_set : lead_progress_of x ≡ k → IsDriverSeat w k rs o'
   lead_set e = subst (λ (u : View). IsDriverSeat u k rs o') (sym is) record { lead_is = e; reads_are = s.reads_are; woke_is = woke }
 
-module _ (v w : View) (m : ℕ) (l k : LeadProgress) (rs : List ReadView) (o : ℕ) (s : IsDriverSeat v l rs o) where
-  drawn_by : (ticket : ℕ) (d : Drive) → v.lead.drive ≡ d → CanDrawLead v.lead.checked d
+module _ (v w : View) (m : ℕ) (l k : DriverProgress) (rs : List ReadView) (o : ℕ) (s : IsDriverSeat v l rs o) where
+  drawn_by : (ticket : ℕ) (d : DriverPhase) → v.lead.drive ≡ d → CanDrawLead v.lead.checked d
       → (lead_progress_of (lead_draws v.lead ticket d) ≡ lead_drawn (lead_progress_of v.lead) (due_of v.lead.drive) ticket)
       × (woke_of (draw_trail v.trail d).told ≡ cond (is_begin (due_of v.lead.drive)) 0 (woke_of v.trail.told))
   drawn_by ticket drives.Between e can = (

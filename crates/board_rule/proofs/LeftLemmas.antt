@@ -5,21 +5,21 @@ use mathlib.Core.Logic.{dite}
 use native.Mathlib.Decide.{ℕ_discrete}
 use Rattle.board_rule.specs.declared.view.Phase.{Phase}
 use Rattle.board_rule.specs.declared.view.Phase.TheVariants.{Idle, Awake, StartDrawn, Running, Done, FinishDrawn, Telling}
-use Rattle.board_rule.specs.declared.view.Drive.{Drive}
-use Rattle.board_rule.specs.declared.view.Drive.TheVariants as drives
+use Rattle.board_rule.specs.declared.view.DriverPhase.{DriverPhase}
+use Rattle.board_rule.specs.declared.view.DriverPhase.TheVariants as drives
 use Rattle.board_rule.specs.Sums.{total, times}
-use Rattle.board_rule.specs.Layout.{Lay, nodes}
+use Rattle.board_rule.specs.Layout.{BoardLayout, nodes}
 use Rattle.board_rule.specs.Phases.{phase_rest, drive_rest}
 use Rattle.board_rule.specs.Left.{dependencies_below, left_of}
 use Rattle.board_rule.specs.View.{Whole}
-use Rattle.board_rule.specs.ActivationRule.{posts, left, Runs}
+use Rattle.board_rule.specs.ActivationRule.{progress, left, Runs}
 use Rattle.board_rule.proofs.RunLemmas.{sum_left, Sums}
 
 pub left_of-append : (t : ℕ → ℕ) (xs ys : List ℕ) → left_of t (xs ++ ys) ≡ left_of t xs + left_of t ys
 left_of-append t [] ys = omega arith
 left_of-append t (x ∷ xs) ys = let e = left_of-append t xs ys in omega arith
 
-below_is : (p : Lay) (n : ℕ) (t : ℕ → ℕ) (k : ℕ) → ((m : ℕ) → m < k → t m ≤ times n (p.targets m))
+below_is : (p : BoardLayout) (n : ℕ) (t : ℕ → ℕ) (k : ℕ) → ((m : ℕ) → m < k → t m ≤ times n (p.targets m))
     → left_of t (dependencies_below p n k) ≡ total t k
 below_is p n t zero h = refl
 below_is p n t (suc k) h = let ih = below_is p n t k (λ m l. h m (omega arith)) in let here = h k (omega arith) in
@@ -30,7 +30,7 @@ below_is p n t (suc k) h = let ih = below_is p n t k (λ m l. h m (omega arith))
     (λ q. let b : left_of t (cond (eqb (times n (p.targets k)) 0) [] (k ∷ [])) ≡ t k + 0 =
     ap (λ b. left_of t (cond b [] (k ∷ []))) (ne_eqb (times n (p.targets k)) 0 q) in omega arith)
 
--- what a node has yet to take down is a part of its targets
+-- what a node has yet to lower is a part of its targets
 times_cond : (n x : ℕ) (b : Bool) (k : ℕ) → k ≤ cond b 1 0 + k
 times_cond n x true k = omega arith
 times_cond n x false k = omega arith
@@ -53,7 +53,7 @@ phase_part n ts now Done = times_none n now ts
 phase_part n ts now FinishDrawn = times_none n now ts
 phase_part n ts now (Telling i o) = times_drop n i ts
 
-drive_part : (n : ℕ) (ts : List ℕ) (d : Drive) → times n (drive_rest ts d) ≤ times n ts
+drive_part : (n : ℕ) (ts : List ℕ) (d : DriverPhase) → times n (drive_rest ts d) ≤ times n ts
 drive_part n ts drives.Between = omega arith
 drive_part n ts drives.BeginDrawn = omega arith
 drive_part n ts (drives.Reset i) = omega arith
@@ -74,15 +74,15 @@ both_part : (n : ℕ) (ts xs ys : List ℕ) (b : Bool) → times n xs ≤ times 
 both_part n ts xs ys true h k = h
 both_part n ts xs ys false h k = k
 
-module _ (p : Lay) where
-  pub left_is : (g : Whole) (n : ℕ) → left p (posts p g) n ≡ sum_left (nodes p) (posts p g) n
-  left_is g n = below_is p n (λ m. times n ((posts p g).rest m)) (nodes p)
+module _ (p : BoardLayout) where
+  pub left_is : (g : Whole) (n : ℕ) → left p (progress p g) n ≡ sum_left (nodes p) (progress p g) n
+  left_is g n = below_is p n (λ m. times n ((progress p g).rest m)) (nodes p)
       (λ m _. both_part n (p.targets m) (drive_rest (p.targets m) g.lead.drive)
       (phase_rest (p.targets m) (eqb (g.nodes m).next g.lead.cycle) (g.nodes m).phase) (eqb m p.driver)
       (drive_part n (p.targets m) g.lead.drive) (phase_part n (p.targets m) (eqb (g.nodes m).next g.lead.cycle) (g.nodes m).phase))
 
   -- from the rule's form to the form of the lemmas on runs, and back
-  pub to_sums : (g : Whole) (c : ℕ) (ws : List ℕ) → Runs p c (posts p g) ws → Sums p.shape c (posts p g) ws
+  pub to_sums : (g : Whole) (c : ℕ) (ws : List ℕ) → Runs p c (progress p g) ws → Sums p.shape c (progress p g) ws
   to_sums g c ws r = record {
     node = λ n h. let o = r.node n h in record {
       kind = o.kind;
@@ -98,7 +98,7 @@ module _ (p : Lay) where
     };
   }
 
-  pub from_sums : (g : Whole) (c : ℕ) (ws : List ℕ) → Sums p.shape c (posts p g) ws → Runs p c (posts p g) ws
+  pub from_sums : (g : Whole) (c : ℕ) (ws : List ℕ) → Sums p.shape c (progress p g) ws → Runs p c (progress p g) ws
   from_sums g c ws r = record {
     node = λ n h. let o = r.node n h in record {
       kind = o.kind;

@@ -17,9 +17,9 @@ use Rattle.pw_base.specs.Dependencies.{Precedes}
 use Rattle.pw_base.specs.EventWords.{event_cycle, event_node}
 use Rattle.pw_base.specs.History.{is_tick, tick_place, start_place, finish_place, IsOfCycle, RunsOnce, IsLegalInside, IsLegalCycle}
 use Rattle.pw_base.specs.History.{AreJoined, epoch_cycles}
-use Rattle.board_rule.specs.Layout.{Lay, IsSound, nodes, first, last}
+use Rattle.board_rule.specs.Layout.{BoardLayout, IsSound, nodes, first, last}
 use Rattle.board_rule.specs.Logged.{IsSoFar, Earlier, Inside}
-use Rattle.board_rule.specs.Records.{Records, Tally}
+use Rattle.board_rule.specs.Records.{Records, Counts}
 
 some_pass : {X : Type 0} (f : X → Bool) (xs : List X) (i : ℕ) (d : X) → i < length xs → f (get_or xs i d) ≡ true → 0 < count_by f xs
 some_pass f [] i d h t = absurd (omega arith)
@@ -36,7 +36,7 @@ at_most_one : (b : Bool) → cond b 1 0 ≤ 1
 at_most_one true = omega arith
 at_most_one false = omega arith
 
-module _ (p : Lay) (sound : IsSound p) (c late : ℕ) (k : Tally) (xs : List Event) (a : Inside p c late k xs) where
+module _ (p : BoardLayout) (sound : IsSound p) (c late : ℕ) (k : Counts) (xs : List Event) (a : Inside p c late k xs) where
   module _ (started : (n : ℕ) → n < nodes p → k.started n ≡ 1) (finished : (n : ℕ) → n < nodes p → k.finished n ≡ 1) where
     of_cycle : (e : Event) → IsSoFar p c late e → (is_tick e ≡ true → k.checked ≡ true) → IsOfCycle p.shape xs c e
     of_cycle (Begin j) h t = absurd h
@@ -63,8 +63,8 @@ module _ (p : Lay) (sound : IsSound p) (c late : ℕ) (k : Tally) (xs : List Eve
             let hm = sound.named m before.depends.from_active in let hn = sound.named n before.depends.to_active in
             let em = sound.known m hm in let en = sound.known n hn in
             subst (λ (z : ℕ × ℕ). finish_place xs c z.0 < start_place xs c z.1) (λ i. (em i, en i))
-            (a.waits (p.place m) (p.place n) hm hn (subst (λ (z : ℕ × ℕ). Precedes p.shape z.0 z.1) (λ i. (sym em i, sym en i)) before)
-            (started (p.place n) hn));
+            (a.waits (p.index m) (p.index n) hm hn (subst (λ (z : ℕ × ℕ). Precedes p.shape z.0 z.1) (λ i. (sym em i, sym en i)) before)
+            (started (p.index n) hn));
       };
       ticks = let z = a.ticks in let y = at_most_one k.checked in omega arith;
     }
@@ -81,8 +81,8 @@ module _ (p : Lay) (sound : IsSound p) (c late : ℕ) (k : Tally) (xs : List Eve
 
     cycle_of : (e : Event) → IsSoFar p c late e → (event_cycle e ≡ c) × (event_node e ≤ 63)
     cycle_of (Begin j) h = absurd h
-    cycle_of (Start j n) h = (h.0, sound.places n (sound.named n h.1))
-    cycle_of (Finish j n) h = (h.0, sound.places n (sound.named n h.1))
+    cycle_of (Start j n) h = (h.0, sound.indexes n (sound.named n h.1))
+    cycle_of (Finish j n) h = (h.0, sound.indexes n (sound.named n h.1))
     cycle_of (Tick j set) h = (h.0, omega arith)
     cycle_of (End j) h = absurd h
 

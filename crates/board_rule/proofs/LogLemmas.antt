@@ -13,10 +13,10 @@ use Rattle.pw_base.specs.EventWords.{event_word_of}
 use Rattle.pw_base.specs.History.{is_start, is_finish, is_tick, IsLate}
 use Rattle.pw_base.specs.Layout.{event_count}
 use Rattle.pw_base.specs.Words.{finished_word}
-use Rattle.board_rule.specs.Layout.{Lay, nodes}
+use Rattle.board_rule.specs.Layout.{BoardLayout, nodes}
 use Rattle.board_rule.specs.View.{put}
 use Rattle.board_rule.specs.Logged.{IsSoFar, IsHeld, Tickets, Inside}
-use Rattle.board_rule.specs.Records.{Records, Tally, Marks}
+use Rattle.board_rule.specs.Records.{Records, Counts, Marks}
 use Rattle.board_rule.proofs.SeatLemmas.{put_here, put_else}
 use Rattle.board_rule.proofs.GrowthLemmas.{count_more, first_within, first_at_end, first_stays, first_here, first_rises, get_front, get_end}
 use Rattle.board_rule.proofs.GrowthLemmas.{get_cases}
@@ -25,13 +25,13 @@ one_only : {X : Type 0} (P : X → Type 0) (x : X) → P x → All P (x ∷ [])
 one_only P x h zero d l = h
 one_only P x h (suc k) d l = absurd (omega arith)
 
-module _ (p : Lay) (c base : ℕ) (s t : Marks) (log : List Event) (r : Records) (a : Tickets p c base s log r) where
+module _ (p : BoardLayout) (c base : ℕ) (s t : Marks) (log : List Event) (r : Records) (a : Tickets p c base s log r) where
   -- a ticket is drawn for the event e
   pub tickets_drawn : (e : Event) → length log < event_count p.shape → base ≤ length log → ((k : ℕ) → IsHeld p s k → IsHeld p t k)
       → IsHeld p t (length log)
-      → ((n : ℕ) → n < nodes p → t.tally.started n ≡ 1 → ((s.tally.started n ≡ 1) × (t.start n ≡ s.start n))
+      → ((n : ℕ) → n < nodes p → t.counts.started n ≡ 1 → ((s.counts.started n ≡ 1) × (t.start n ≡ s.start n))
       ⊎ ((base < length log) × (t.start n ≡ length log) × (e ≡ Start c (p.number n))))
-      → ((n : ℕ) → n < nodes p → t.tally.finished n ≡ 1 → ((s.tally.finished n ≡ 1) × (t.finish n ≡ s.finish n))
+      → ((n : ℕ) → n < nodes p → t.counts.finished n ≡ 1 → ((s.counts.finished n ≡ 1) × (t.finish n ≡ s.finish n))
       ⊎ ((base < length log) × (t.finish n ≡ length log) × (e ≡ Finish c (p.number n))))
       → ((k : ℕ) (x : Event) → Contains t.tells (k, x) → (Contains s.tells (k, x)) ⊎ ((k ≡ length log) × (e ≡ x)))
       → Tickets p c base t (log ++ e ∷ []) (record r { ticket = suc r.ticket })
@@ -44,12 +44,12 @@ module _ (p : Lay) (c base : ℕ) (s t : Marks) (log : List Event) (r : Records)
           subst (IsHeld p t) (sym o.0) new,
         )) (get_cases log e k x h);
     unused = λ k h l. a.unused k (let z = length-append log (e ∷ []) in omega arith) l;
-    starts_kept = λ n h one. ⊎_elim (λ (z : (s.tally.started n ≡ 1) × (t.start n ≡ s.start n)). let o = a.starts_kept n h z.0 in
+    starts_kept = λ n h one. ⊎_elim (λ (z : (s.counts.started n ≡ 1) × (t.start n ≡ s.start n)). let o = a.starts_kept n h z.0 in
         (subst (λ k. base < k) (sym z.1) o.0, get_front log (e ∷ []) (t.start n) (Start c (p.number n)) (ap (slice_get log) z.1 ∙ o.1)))
         (λ (z : (base < length log) × (t.start n ≡ length log) × (e ≡ Start c (p.number n))).
         (subst (λ k. base < k) (sym z.1) z.0, (λ i. slice_get (log ++ z.2 i ∷ []) (z.1 i)) ∙ get_end log (Start c (p.number n))))
         (starts n h one);
-    finishes_kept = λ n h one. ⊎_elim (λ (z : (s.tally.finished n ≡ 1) × (t.finish n ≡ s.finish n)). let o = a.finishes_kept n h z.0 in
+    finishes_kept = λ n h one. ⊎_elim (λ (z : (s.counts.finished n ≡ 1) × (t.finish n ≡ s.finish n)). let o = a.finishes_kept n h z.0 in
         (subst (λ k. base < k) (sym z.1) o.0, get_front log (e ∷ []) (t.finish n) (Finish c (p.number n)) (ap (slice_get log) z.1 ∙ o.1)))
         (λ (z : (base < length log) × (t.finish n ≡ length log) × (e ≡ Finish c (p.number n))).
         (subst (λ k. base < k) (sym z.1) z.0, (λ i. slice_get (log ++ z.2 i ∷ []) (z.1 i)) ∙ get_end log (Finish c (p.number n))))
@@ -61,8 +61,8 @@ module _ (p : Lay) (c base : ℕ) (s t : Marks) (log : List Event) (r : Records)
 
   -- the event x of the ticket k is stored
   pub tickets_stored : (k : ℕ) (x : Event) → slice_get log k ≡ Some x → k < length log → ((j : ℕ) → IsHeld p s j → j ≢ k → IsHeld p t j)
-      → ((n : ℕ) → n < nodes p → t.tally.started n ≡ 1 → (s.tally.started n ≡ 1) × (t.start n ≡ s.start n))
-      → ((n : ℕ) → n < nodes p → t.tally.finished n ≡ 1 → (s.tally.finished n ≡ 1) × (t.finish n ≡ s.finish n))
+      → ((n : ℕ) → n < nodes p → t.counts.started n ≡ 1 → (s.counts.started n ≡ 1) × (t.start n ≡ s.start n))
+      → ((n : ℕ) → n < nodes p → t.counts.finished n ≡ 1 → (s.counts.finished n ≡ 1) × (t.finish n ≡ s.finish n))
       → ((j : ℕ) (y : Event) → Contains t.tells (j, y) → Contains s.tells (j, y))
       → Tickets p c base t log (record r { event = put r.event k (event_word_of x) })
   tickets_stored k x at near held starts finishes tells = record {
@@ -80,7 +80,7 @@ module _ (p : Lay) (c base : ℕ) (s t : Marks) (log : List Event) (r : Records)
     told_kept = λ j y h. a.told_kept j y (tells j y h);
   }
 
-module _ (p : Lay) (c late : ℕ) (k l : Tally) (xs : List Event) (a : Inside p c late k xs) where
+module _ (p : BoardLayout) (c late : ℕ) (k l : Counts) (xs : List Event) (a : Inside p c late k xs) where
   late_more : (e : Event) (n : ℕ) → IsLate p.shape xs c n → IsLate p.shape (xs ++ e ∷ []) c n
   late_more e n h = let less = h.2 in let most = within is_tick xs in let most' = within (is_finish c n) xs in
       let same = first_stays is_tick xs e (omega arith) in let more = first_rises (is_finish c n) xs e in (h.0, h.1, omega arith)

@@ -9,12 +9,12 @@ use Rattle.pw_base.specs.declared.event.Event.TheVariants.{Tick}
 use Rattle.pw_base.specs.EventWords.{event_cycle, event_node, event_word_of}
 use Rattle.pw_base.specs.Layout.{event_place, late_place}
 use Rattle.board_rule.specs.declared.view.Phase.{Phase}
-use Rattle.board_rule.specs.declared.view.Drive.{Drive}
-use Rattle.board_rule.specs.declared.view.Drive.TheVariants as drives
+use Rattle.board_rule.specs.declared.view.DriverPhase.{DriverPhase}
+use Rattle.board_rule.specs.declared.view.DriverPhase.TheVariants as drives
 use Rattle.board_rule.specs.declared.view.NodeView.{NodeView}
-use Rattle.board_rule.specs.declared.view.LeadView.{LeadView}
+use Rattle.board_rule.specs.declared.view.DriverView.{DriverView}
 use Rattle.board_rule.specs.declared.view.Found.{Found}
-use Rattle.board_rule.specs.Layout.{Lay, nodes, first, last}
+use Rattle.board_rule.specs.Layout.{BoardLayout, nodes, first, last}
 use Rattle.board_rule.specs.View.{Whole, put, with_node, with_lead}
 use Rattle.board_rule.specs.Marks.{phase_started, phase_finished, phase_holds, drive_started, drive_finished, drive_holds, drive_tells}
 use Rattle.board_rule.specs.Marks.{drive_sees, is_begun, is_ending, is_checking}
@@ -23,7 +23,7 @@ use Rattle.board_rule.proofs.SeatLemmas.{put_here, put_else}
 use Rattle.board_rule.proofs.DrawLemmas.{Logs}
 
 -- only what the rule reads of the words counts
-module _ (p : Lay) where
+module _ (p : BoardLayout) where
   pub logs_from : (c late : ℕ) (past xs : List Event) (s : Marks) (r q : Records) → first p ≤ c → c ≤ last p → r.ticket ≡ q.ticket
       → r.event ≡ q.event → ((k : ℕ) → k < p.shape.cycles → q.late k ≡ r.late k) → Logs p c late past xs s r → Logs p c late past xs s q
   logs_from c late past xs s r q low high ticket event lates a = let k = a.tickets in let e = a.earlier in record {
@@ -114,7 +114,7 @@ quiet_phase c x f h is started finished holds = record {
 }
 
 -- and one of the driver's seat
-pub record QuietLead (l x : LeadView) : Type 0 where
+pub record QuietLead (l x : DriverView) : Type 0 where
   pub cycle : x.cycle ≡ l.cycle
   pub checked : x.checked ≡ l.checked
   pub checks : x.checks ≡ l.checks
@@ -130,20 +130,20 @@ pub record QuietLead (l x : LeadView) : Type 0 where
   pub checking : is_checking x.drive ≡ is_checking l.drive
 
 -- two phases of the driver's seat that hold no ticket and are at the same events
-pub record QuietDrives (d e : Drive) : Type 0 where
+pub record QuietDrives (d e : DriverPhase) : Type 0 where
   pub started : drive_started e ≡ drive_started d
   pub finished : drive_finished e ≡ drive_finished d
-  pub holds : (l : LeadView) → drive_holds l e ≡ drive_holds l d
-  pub tells : (l : LeadView) (late : ℕ) → drive_tells l late e ≡ drive_tells l late d
+  pub holds : (l : DriverView) → drive_holds l e ≡ drive_holds l d
+  pub tells : (l : DriverView) (late : ℕ) → drive_tells l late e ≡ drive_tells l late d
   pub sees : (looks : List Found) → drive_sees looks e ≡ drive_sees looks d
   pub begun : is_begun e ≡ is_begun d
   pub ending : is_ending e ≡ is_ending d
   pub checking : is_checking e ≡ is_checking d
 
-abbrev at_drive : LeadView → Drive → LeadView
+abbrev at_drive : DriverView → DriverPhase → DriverView
 at_drive l e = record l { drive = e }
 
-holds_by : (l : LeadView) (d e : Drive) → drive_holds (at_drive l e) d ≡ drive_holds l d
+holds_by : (l : DriverView) (d e : DriverPhase) → drive_holds (at_drive l e) d ≡ drive_holds l d
 holds_by l drives.Between e = refl
 holds_by l drives.BeginDrawn e = refl
 holds_by l (drives.Reset i) e = refl
@@ -160,7 +160,7 @@ holds_by l drives.FinishDrawn e = refl
 holds_by l drives.FinishStored e = refl
 holds_by l drives.EndDrawn e = refl
 
-tells_by : (l : LeadView) (late : ℕ) (d e : Drive) → drive_tells (at_drive l e) late d ≡ drive_tells l late d
+tells_by : (l : DriverView) (late : ℕ) (d e : DriverPhase) → drive_tells (at_drive l e) late d ≡ drive_tells l late d
 tells_by l late drives.Between e = refl
 tells_by l late drives.BeginDrawn e = refl
 tells_by l late (drives.Reset i) e = refl
@@ -177,7 +177,7 @@ tells_by l late drives.FinishDrawn e = refl
 tells_by l late drives.FinishStored e = refl
 tells_by l late drives.EndDrawn e = refl
 
-pub quiet_drive : (l : LeadView) (d e : Drive) → l.drive ≡ d → QuietDrives d e → QuietLead l (record l { drive = e })
+pub quiet_drive : (l : DriverView) (d e : DriverPhase) → l.drive ≡ d → QuietDrives d e → QuietLead l (record l { drive = e })
 quiet_drive l d e is q = record {
   cycle = refl;
   checked = refl;
@@ -194,8 +194,8 @@ quiet_drive l d e is q = record {
   checking = q.checking ∙ sym (ap is_checking is);
 }
 
-module _ (p : Lay) (g : Whole) where
-  -- what is read at each place, when a follower or the driver's seat changes
+module _ (p : BoardLayout) (g : Whole) where
+  -- what is read at each index, when a follower or the driver's seat changes
   pub node_else : {A : Type 0} (F : NodeView → A) (D : A) (m n : ℕ) (y : NodeView) → n ≢ m
       → cond (eqb n p.driver) D (F (put g.nodes m y n)) ≡ cond (eqb n p.driver) D (F (g.nodes n))
   node_else F D m n y o = ap (λ z. cond (eqb n p.driver) D (F z)) (put_else g.nodes m n y o)
@@ -216,7 +216,7 @@ module _ (p : Lay) (g : Whole) where
 
   pub marks_node : (m : ℕ) (x y : NodeView) → g.nodes m ≡ x → QuietNode g.lead.cycle x y → marks p (with_node g m y) ≡ marks p g
   marks_node m x y is q = λ i. record {
-    tally = record {
+    counts = record {
       started = λ n. node_same (λ (z : NodeView). cond (eqb z.next g.lead.cycle) (phase_started z.phase) 1)
           (drive_started g.lead.drive) m x y is q.started n i;
       finished = λ n. node_same (λ (z : NodeView). cond (eqb z.next g.lead.cycle) (phase_finished z.phase) 1)
@@ -232,9 +232,9 @@ module _ (p : Lay) (g : Whole) where
     ending = is_ending g.lead.drive;
   }
 
-  pub marks_lead : (x : LeadView) → QuietLead g.lead x → marks p (with_lead g x) ≡ marks p g
+  pub marks_lead : (x : DriverView) → QuietLead g.lead x → marks p (with_lead g x) ≡ marks p g
   marks_lead x q = λ i. record {
-    tally = record {
+    counts = record {
       started = λ n. cond (eqb n p.driver) (q.started i) (cond (eqb (g.nodes n).next (q.cycle i)) (phase_started (g.nodes n).phase) 1);
       finished = λ n. cond (eqb n p.driver) (q.finished i) (cond (eqb (g.nodes n).next (q.cycle i)) (phase_finished (g.nodes n).phase) 1);
       checked = q.checked i;

@@ -6,7 +6,7 @@ use native.Mathlib.Decide.{ℕ_discrete}
 use Rattle.board_rule.specs.declared.view.BlockView.{BlockView}
 use Rattle.board_rule.specs.declared.view.BlockView.TheVariants.{Free, Filling, Out}
 use Rattle.board_rule.specs.declared.view.View.{View}
-use Rattle.board_rule.specs.Layout.{Lay}
+use Rattle.board_rule.specs.Layout.{BoardLayout}
 use Rattle.board_rule.specs.BlockReadings.{is_busy, stamp}
 use Rattle.board_rule.specs.EndViews.{pool_at, block_of}
 use Rattle.board_rule.specs.BufferReads.{is_filled, older, IsOldestOut}
@@ -19,12 +19,12 @@ filled_yes words stamp (Filling i) h = inl (ap (λ k. let z : BlockView = Fillin
 filled_yes words stamp (Out n) h = inr (ap (λ k. let z : BlockView = Out k in z) (eqb-true n stamp h))
 
 -- the block that is out longest among the first k
-abbrev pub IsOldest : Lay → View → ℕ → ℕ → Option (ℕ × ℕ) → Type 0
+abbrev pub IsOldest : BoardLayout → View → ℕ → ℕ → Option (ℕ × ℕ) → Type 0
 IsOldest p v q k None = (a m : ℕ) → a < k → block_of p v q a ≡ Out m → ⊥
 IsOldest p v q k (Some o) = (o.0 < k) × (block_of p v q o.0 ≡ Out o.1) × ((a m : ℕ) → a < k → block_of p v q a ≡ Out m → o.1 ≤ m)
     × ((a : ℕ) → a < o.0 → block_of p v q a ≡ Out o.1 → ⊥)
 
-module _ (p : Lay) (v : View) (q k : ℕ) where
+module _ (p : BoardLayout) (v : View) (q k : ℕ) where
   -- the next block is not out
   same_oldest : (before : Option (ℕ × ℕ)) → ((m : ℕ) → block_of p v q k ≡ Out m → ⊥) → IsOldest p v q k before
       → IsOldest p v q (k + 1) before
@@ -73,5 +73,5 @@ module _ (p : Lay) (v : View) (q k : ℕ) where
   older_next (Some b) (Out n) e h = chosen b n e h (leb b.1 n) refl
 
 -- the answer
-pub oldest_is : (p : Lay) (v : View) (q : ℕ) (b : ℕ × ℕ) → IsOldest p v q (pool_at p q).blocks (Some b) → IsOldestOut p v q b.0 b.1
+pub oldest_is : (p : BoardLayout) (v : View) (q : ℕ) (b : ℕ × ℕ) → IsOldest p v q (pool_at p q).blocks (Some b) → IsOldestOut p v q b.0 b.1
 oldest_is p v q b h = record { inside = h.0; is = h.1; oldest = h.2; before = h.3 }

@@ -8,11 +8,11 @@ use Rattle.board_rule.specs.declared.view.NodeView.{NodeView}
 use Rattle.board_rule.specs.Phases.{owed_of, phase_rest, phase_owing, phase_stage, PhaseOk, phase_drawn}
 use Rattle.board_rule.specs.EventRule.{node_drawn}
 use Rattle.board_rule.specs.Marks.{phase_started, phase_finished, phase_holds}
-use Rattle.board_rule.specs.Steps.{settled, told_of, CanTell, Indebted}
+use Rattle.board_rule.specs.Steps.{settled, lowered_of, CanTell, Indebted}
 use Rattle.board_rule.proofs.MarkLemmas.{QuietNode}
 
-abbrev over : NodeView → NodeView
-over x = record x { next = x.next + 1; phase = Idle }
+abbrev ended : NodeView → NodeView
+ended x = record x { next = x.next + 1; phase = Idle }
 
 abbrev goes_on : NodeView → ℕ → NodeView
 goes_on x i = record x { phase = Telling i false }
@@ -22,23 +22,23 @@ not_next x c e = ne_eqb (x + 1) c (λ z. omega arith)
 
 module _ (ts : List ℕ) (c : ℕ) (x : NodeView) (i : ℕ) (now : x.next ≡ c) where
   rest_by : (b : Bool) → (b ≡ true → drop i ts ≡ [])
-      → phase_rest ts (eqb (cond b (over x) (goes_on x i)).next c) (cond b (over x) (goes_on x i)).phase ≡ drop i ts
+      → phase_rest ts (eqb (cond b (ended x) (goes_on x i)).next c) (cond b (ended x) (goes_on x i)).phase ≡ drop i ts
   rest_by true h = ap (λ b. cond b ts []) (not_next x.next c now) ∙ sym (h refl)
   rest_by false h = refl
 
-  owing_by : (b : Bool) → phase_owing ts (cond b (over x) (goes_on x i)).phase ≡ []
+  owing_by : (b : Bool) → phase_owing ts (cond b (ended x) (goes_on x i)).phase ≡ []
   owing_by true = refl
   owing_by false = refl
 
-  stage_by : (b : Bool) → phase_stage (eqb (cond b (over x) (goes_on x i)).next c) (cond b (over x) (goes_on x i)).phase ≡ 2
+  stage_by : (b : Bool) → phase_stage (eqb (cond b (ended x) (goes_on x i)).next c) (cond b (ended x) (goes_on x i)).phase ≡ 2
   stage_by true = ap (λ b. cond b 0 2) (not_next x.next c now)
   stage_by false = refl
 
-  drawn_by : (b : Bool) → node_drawn (cond b (over x) (goes_on x i)) ≡ 2 * x.next + 2
+  drawn_by : (b : Bool) → node_drawn (cond b (ended x) (goes_on x i)) ≡ 2 * x.next + 2
   drawn_by true = omega arith
   drawn_by false = refl
 
-  ok_by : (n : ℕ) (b : Bool) → (b ≡ false → i < n) → PhaseOk n c (cond b (over x) (goes_on x i)).next (cond b (over x) (goes_on x i)).phase
+  ok_by : (n : ℕ) (b : Bool) → (b ≡ false → i < n) → PhaseOk n c (cond b (ended x) (goes_on x i)).next (cond b (ended x) (goes_on x i)).phase
   ok_by n true h = (omega arith, omega arith)
   ok_by n false h = (now, h refl)
 
@@ -83,7 +83,7 @@ module _ (c : ℕ) (x : NodeView) (i j : ℕ) (o : Bool) (now : x.next ≡ c) (w
     holds = sym (ap (phase_holds x) was);
   }
 
-  quiet_by : (b : Bool) → QuietNode c x (cond b (over x) (goes_on x i))
+  quiet_by : (b : Bool) → QuietNode c x (cond b (ended x) (goes_on x i))
   quiet_by true = record {
     started = ap (λ b. cond {A = ℕ} b 0 1) (not_next x.next c now) ∙ sym was_started;
     finished = ap (λ b. cond {A = ℕ} b 0 1) (not_next x.next c now) ∙ sym was_finished;
@@ -103,7 +103,7 @@ owed_is ts i n h e = let k : suc i - 1 ≡ i = omega arith in ap (λ j. take 1 (
     ∙ ap (λ x. x ∷ []) e
 
 -- a node that can tell its next target, or owes its last one
-pub can_tell : (n : ℕ) (f : Phase) → CanTell n f → (f ≡ Telling (told_of f) false) × told_of f < n
+pub can_tell : (n : ℕ) (f : Phase) → CanTell n f → (f ≡ Telling (lowered_of f) false) × lowered_of f < n
 can_tell n Idle h = absurd h
 can_tell n Awake h = absurd h
 can_tell n StartDrawn h = absurd h
@@ -113,8 +113,8 @@ can_tell n FinishDrawn h = absurd h
 can_tell n (Telling j true) h = absurd h
 can_tell n (Telling j false) h = (refl, h)
 
-pub in_debt : (n : ℕ) (f : Phase) → Indebted n f → (f ≡ Telling (suc (told_of f - 1)) true) × (suc (told_of f - 1) ≡ told_of f)
-    × (told_of f - 1 < n)
+pub in_debt : (n : ℕ) (f : Phase) → Indebted n f → (f ≡ Telling (suc (lowered_of f - 1)) true) × (suc (lowered_of f - 1) ≡ lowered_of f)
+    × (lowered_of f - 1 < n)
 in_debt n Idle h = absurd h
 in_debt n Awake h = absurd h
 in_debt n StartDrawn h = absurd h

@@ -10,7 +10,7 @@ use Rattle.pw_base.specs.declared.pools.PoolShape.{PoolShape}
 use Rattle.pw_base.specs.Pools.{is_same_port, links_from, channels_of, IsPooledShape}
 use Rattle.pw_base.proofs.PoolLemmas.{port_same}
 use Rattle.pw_base.proofs.PrecedenceLemmas.{holds_at}
-use Rattle.board_rule.specs.Layout.{Lay, IsSound, IsUndelayed}
+use Rattle.board_rule.specs.Layout.{BoardLayout, IsSound}
 use Rattle.board_rule.proofs.WiringLemmas.{PoolAt, wired, pool_source}
 
 most_from : (a : ℕ) (xs : List ShapeLink) → a ≤ fold (λ top l. max top l.channels) a xs
@@ -27,10 +27,10 @@ most_has a (x ∷ xs) (suc k) d h = most_has (max a x.channels) xs k d (omega ar
 some_quarter : (n : ℕ) → 1 ≤ n → 0 < (n + 3) / 4
 some_quarter n h = omega arith
 
-pub pools_have_words : (p : Lay) → IsSound p → IsPooledShape p.shape → IsUndelayed p.shape → (q : ℕ) (x : PoolShape) → PoolAt p q x
+pub pools_have_words : (p : BoardLayout) → IsSound p → IsPooledShape p.shape → (q : ℕ) (x : PoolShape) → PoolAt p q x
     → 0 < x.words
-pools_have_words p sound pooled plain q x at =
-    let w = wired p sound pooled plain in let l = w.linked q x at in let k = w.there q l.0 x at l.1 in
+pools_have_words p sound pooled q x at =
+    let w = wired p sound pooled in let l = w.linked q x at in let k = w.there q l.0 x at l.1 in
     let port = pool_source p.shape q x at in
     let here : get_or p.shape.links l.0 k.0 ≡ k.0 = get_or_from_slice_get p.shape.links l.0 k.0 k.0 k.1 in
     let from : is_same_port k.0.from x.port ≡ true = port_same k.0.from x.port k.2 in

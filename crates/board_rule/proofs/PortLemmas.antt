@@ -39,7 +39,7 @@ module _ {X : Type 0} where
     differ_append xs ys h.1 g (All-tail (λ z. All (λ y. z ≢ y) ys) x xs apart),
   )
 
-  -- so an element has one place
+  -- so an element has one index
   pub differ_at : (xs : List X) (d : X) (i j : ℕ) → Differ xs → i < length xs → j < length xs → get_or xs i d ≡ get_or xs j d → i ≡ j
   differ_at [] d i j h a b e = absurd (omega arith)
   differ_at (x ∷ xs) d zero zero h a b e = refl
@@ -149,55 +149,55 @@ few_ports ports (l ∷ ls) = let a = few_ports (with_port ports l.from) ls in
     let c = parts_fit (λ q. is_before q l.from) (λ q. is_before l.from q)
     (λ q f g. one_way q l.from (before_is q l.from f) (before_is l.from q g)) ports in omega arith
 
--- the places at which a test passes, counted from n
+-- the indexes at which a test passes, counted from n
 module _ {X : Type 0} (test : X → Bool) where
-  abbrev places : ℕ → List X → List ℕ
-  places n xs = map (λ e. e.0) (filter (λ e. test e.1) (enumerate_from n xs))
+  abbrev indexes : ℕ → List X → List ℕ
+  indexes n xs = map (λ e. e.0) (filter (λ e. test e.1) (enumerate_from n xs))
 
   -- one of them: an element passes there
   abbrev Passes : ℕ → List X → ℕ → Type 0
   Passes n xs i = (n ≤ i) × (i - n < length xs) × ((d : X) → test (get_or xs (i - n) d) ≡ true)
 
-  pub places_pass : (n : ℕ) (xs : List X) → All (Passes n xs) (places n xs)
-  places_pass n [] = λ k d lt. absurd (omega arith)
-  places_pass n (x ∷ xs) = by (test x) refl (all_map (Passes (n + 1) xs) (Passes n (x ∷ xs)) (places (n + 1) xs) later
-      (places_pass (n + 1) xs))
+  pub indexes_pass : (n : ℕ) (xs : List X) → All (Passes n xs) (indexes n xs)
+  indexes_pass n [] = λ k d lt. absurd (omega arith)
+  indexes_pass n (x ∷ xs) = by (test x) refl (all_map (Passes (n + 1) xs) (Passes n (x ∷ xs)) (indexes (n + 1) xs) later
+      (indexes_pass (n + 1) xs))
     where
       later : (i : ℕ) → Passes (n + 1) xs i → Passes n (x ∷ xs) i
       later i h = let a = h.0 in let b = h.1 in let e : i - n ≡ suc (i - (n + 1)) = omega arith in
           (omega arith, omega arith, (λ d. ap (λ j. test (get_or (x ∷ xs) j d)) e ∙ h.2 d))
 
-      by : (b : Bool) → test x ≡ b → All (Passes n (x ∷ xs)) (places (n + 1) xs)
+      by : (b : Bool) → test x ≡ b → All (Passes n (x ∷ xs)) (indexes (n + 1) xs)
           → All (Passes n (x ∷ xs)) (map (λ e. e.0) (cond b ((n, x) ∷ filter (λ e. test e.1) (enumerate_from (n + 1) xs))
           (filter (λ e. test e.1) (enumerate_from (n + 1) xs))))
-      by true t h = All-cons (Passes n (x ∷ xs)) n (places (n + 1) xs)
+      by true t h = All-cons (Passes n (x ∷ xs)) n (indexes (n + 1) xs)
           (omega arith, omega arith, (λ d. let e : n - n ≡ 0 = omega arith in ap (λ j. test (get_or (x ∷ xs) j d)) e ∙ t)) h
       by false t h = h
 
-  pub has_place : (n : ℕ) (xs : List X) (i : ℕ) (d : X) → i < length xs → test (get_or xs i d) ≡ true → Contains (places n xs) (n + i)
-  has_place n [] i d h t = absurd (omega arith)
-  has_place n (x ∷ xs) zero d h t = by (test x) t
+  pub has_index : (n : ℕ) (xs : List X) (i : ℕ) (d : X) → i < length xs → test (get_or xs i d) ≡ true → Contains (indexes n xs) (n + i)
+  has_index n [] i d h t = absurd (omega arith)
+  has_index n (x ∷ xs) zero d h t = by (test x) t
     where
       by : (b : Bool) → b ≡ true → Contains (map (λ e. e.0)
           (cond b ((n, x) ∷ filter (λ e. test e.1) (enumerate_from (n + 1) xs)) (filter (λ e. test e.1) (enumerate_from (n + 1) xs))))
           (n + 0)
       by true e = (0, omega arith, omega arith)
       by false e = absurd (true≢false (sym e))
-  has_place n (x ∷ xs) (suc i) d h t = let e : (n + 1) + i ≡ n + suc i = omega arith in
-      by (test x) (subst (Contains (places (n + 1) xs)) e (has_place (n + 1) xs i d (omega arith) t))
+  has_index n (x ∷ xs) (suc i) d h t = let e : (n + 1) + i ≡ n + suc i = omega arith in
+      by (test x) (subst (Contains (indexes (n + 1) xs)) e (has_index (n + 1) xs i d (omega arith) t))
     where
-      by : (b : Bool) → Contains (places (n + 1) xs) (n + suc i)
+      by : (b : Bool) → Contains (indexes (n + 1) xs) (n + suc i)
           → Contains (map (λ e. e.0) (cond b ((n, x) ∷ filter (λ e. test e.1) (enumerate_from (n + 1) xs))
           (filter (λ e. test e.1) (enumerate_from (n + 1) xs)))) (n + suc i)
-      by true c = Contains-append_right (n ∷ []) (places (n + 1) xs) (n + suc i) c
+      by true c = Contains-append_right (n ∷ []) (indexes (n + 1) xs) (n + suc i) c
       by false c = c
 
-  pub differ_places : (n : ℕ) (xs : List X) → Differ (places n xs)
-  differ_places n [] = _
-  differ_places n (x ∷ xs) = by (test x) (all_map (Passes (n + 1) xs) (λ i. n ≢ i) (places (n + 1) xs) (λ i h e. let a = h.0 in omega arith)
-      (places_pass (n + 1) xs)) (differ_places (n + 1) xs)
+  pub differ_indexes : (n : ℕ) (xs : List X) → Differ (indexes n xs)
+  differ_indexes n [] = _
+  differ_indexes n (x ∷ xs) = by (test x) (all_map (Passes (n + 1) xs) (λ i. n ≢ i) (indexes (n + 1) xs) (λ i h e. let a = h.0 in omega arith)
+      (indexes_pass (n + 1) xs)) (differ_indexes (n + 1) xs)
     where
-      by : (b : Bool) → All (λ i. n ≢ i) (places (n + 1) xs) → Differ (places (n + 1) xs)
+      by : (b : Bool) → All (λ i. n ≢ i) (indexes (n + 1) xs) → Differ (indexes (n + 1) xs)
           → Differ (map (λ e. e.0) (cond b ((n, x) ∷ filter (λ e. test e.1) (enumerate_from (n + 1) xs))
           (filter (λ e. test e.1) (enumerate_from (n + 1) xs))))
       by true a d = (a, d)
@@ -207,14 +207,14 @@ module _ (links : List ShapeLink) (port : PortId) where
   -- the links of a pool start at its port, and no other link does
   pub id_from : (l : ℕ) (d : ShapeLink) → Contains (link_ids_from links port) l → (l < length links) × ((get_or links l d).from ≡ port)
   id_from l d c = let h = All-contains (Passes (λ k. is_same_port k.from port) 0 links) (link_ids_from links port) l
-      (places_pass (λ k. is_same_port k.from port) 0 links) c in
+      (indexes_pass (λ k. is_same_port k.from port) 0 links) c in
       let e : l - 0 ≡ l = omega arith in let in_range = h.1 in
       (omega arith, same_port (get_or links l d).from port (ap (λ i. is_same_port (get_or links i d).from port) (sym e) ∙ h.2 d))
 
   pub has_id : (l : ℕ) (d : ShapeLink) → l < length links → (get_or links l d).from ≡ port → Contains (link_ids_from links port) l
   has_id l d lt e = let zero_more : 0 + l ≡ l = omega arith in
       subst (Contains (link_ids_from links port)) zero_more
-      (has_place (λ k. is_same_port k.from port) 0 links l d lt (port_same (get_or links l d).from port e))
+      (has_index (λ k. is_same_port k.from port) 0 links l d lt (port_same (get_or links l d).from port e))
 
   pub differ_ids : Differ (link_ids_from links port)
-  differ_ids = differ_places (λ k. is_same_port k.from port) 0 links
+  differ_ids = differ_indexes (λ k. is_same_port k.from port) 0 links

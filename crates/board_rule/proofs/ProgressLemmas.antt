@@ -12,10 +12,10 @@ use Rattle.board_rule.specs.declared.view.BlockView.{BlockView}
 use Rattle.board_rule.specs.declared.view.Trail.{Trail}
 use Rattle.board_rule.specs.declared.view.View.{View}
 use Rattle.pw_base.specs.Words.{triggered_word}
-use Rattle.board_rule.specs.Layout.{Lay}
+use Rattle.board_rule.specs.Layout.{BoardLayout}
 use Rattle.board_rule.specs.View.{node_of, view_node, idle}
 use Rattle.board_rule.specs.Bits.{with_bit, woke_of}
-use Rattle.board_rule.specs.Steps.{settled, told_of, told_trail, target_of, lowered, triggered, claimed, woken, tried, finished, untold}
+use Rattle.board_rule.specs.Steps.{settled, lowered_of, told_trail, target_of, lowered, triggered, claimed, woken, tried, finished, untold}
 use Rattle.board_rule.specs.EventSteps.{CanDraw, node_draws, draws, CanStore, stored_phase, event_stored}
 use Rattle.board_rule.specs.Progress.{ends_of, progress_of, progress_settled}
 use Rattle.board_rule.specs.Known.{IsLoopSeat}
@@ -63,7 +63,7 @@ module _ (v w : View) (m : ℕ) (y : NodeView) (t : Trail) (ns : List NodeProgre
   }
 
 -- a claim changes nothing that is kept
-pub seat_claims : (p : Lay) (v w : View) (m found : ℕ) (ns : List NodeProgress) (ws : List WriteView) (rs : List ReadView)
+pub seat_claims : (p : BoardLayout) (v w : View) (m found : ℕ) (ns : List NodeProgress) (ws : List WriteView) (rs : List ReadView)
     (bs : List BlockView) (o : ℕ) → w ≡ claimed false p v m found → (node_of v m).phase ≡ Idle → IsLoopSeat v ns ws rs bs o
     → IsLoopSeat w ns ws rs bs o
 seat_claims p v w m found ns ws rs bs o is idle s =
@@ -71,7 +71,7 @@ seat_claims p v w m found ns ws rs bs o is idle s =
   where
     by : (b : Bool) → IsLoopSeat (cond b (woken false v m) (tried p v m found)) ns ws rs bs o
     by true = seat_stays v (woken false v m) m (record (node_of v m) { phase = Awake }) v.trail ns ws rs bs o o refl s s.woke_is
-        (λ i. record (progress_of (node_of v m)) { told = told_of (sym idle i); ends = ends_of (sym idle i) })
+        (λ i. record (progress_of (node_of v m)) { told = lowered_of (sym idle i); ends = ends_of (sym idle i) })
     by false = record {
       nodes_are = s.nodes_are;
       writes_are = s.writes_are;
@@ -80,37 +80,37 @@ seat_claims p v w m found ns ws rs bs o is idle s =
       woke_is = s.woke_is;
     }
 
-module _ (p : Lay) (v w : View) (m : ℕ) (ns : List NodeProgress) (ws : List WriteView) (rs : List ReadView) (bs : List BlockView) (o : ℕ)
+module _ (p : BoardLayout) (v w : View) (m : ℕ) (ns : List NodeProgress) (ws : List WriteView) (rs : List ReadView) (bs : List BlockView) (o : ℕ)
     (d k : NodeProgress) (s : IsLoopSeat v ns ws rs bs o) (there : m < length v.nodes) (at : d ≡ get_or ns m d) where
   -- what was kept of the follower
   kept_is : d ≡ progress_of (node_of v m)
   kept_is = at ∙ kept_at v.nodes ns m (idle 0) d s.nodes_are there
 
-  -- a target is taken down
-  pub seat_lowers : (found n i o' : ℕ) → w ≡ lowered false p v m found → n ≡ length (p.targets m) → i ≡ told_of (node_of v m).phase
+  -- a target is lowered
+  pub seat_lowers : (found n i o' : ℕ) → w ≡ lowered false p v m found → n ≡ length (p.targets m) → i ≡ lowered_of (node_of v m).phase
       → k ≡ progress_settled n d (i + 1) (eqb found 1) → o' ≡ cond (eqb found 1) (with_bit o (p.number (get_or (p.targets m) i 0))) o
       → IsLoopSeat w (set ns m k) ws rs bs o'
   seat_lowers found n i o' is n_is i_is k_is woke =
-      seat_set v w m (settled (length (p.targets m)) (node_of v m) (told_of (node_of v m).phase + 1) (eqb found 1))
+      seat_set v w m (settled (length (p.targets m)) (node_of v m) (lowered_of (node_of v m).phase + 1) (eqb found 1))
       (told_trail v.trail (target_of false p v m) found) ns ws rs bs o o' is s
       ((λ j. cond (eqb found 1) (with_bit (s.woke_is j) (p.number (get_or (p.targets m) (sym i_is j) 0))) (s.woke_is j)) ∙ sym woke) k
-      (settled_progress (length (p.targets m)) (node_of v m) (told_of (node_of v m).phase + 1) (eqb found 1)
+      (settled_progress (length (p.targets m)) (node_of v m) (lowered_of (node_of v m).phase + 1) (eqb found 1)
       ∙ (λ j. progress_settled (sym n_is j) (sym kept_is j) (sym i_is j + 1) (eqb found 1)) ∙ sym k_is)
 
   -- the target that is owed is triggered
-  pub seat_triggers : (n i : ℕ) → w ≡ triggered false p v m → n ≡ length (p.targets m) → i ≡ told_of (node_of v m).phase
+  pub seat_triggers : (n i : ℕ) → w ≡ triggered false p v m → n ≡ length (p.targets m) → i ≡ lowered_of (node_of v m).phase
       → k ≡ progress_settled n d i false → IsLoopSeat w (set ns m k) ws rs bs o
   seat_triggers n i is n_is i_is k_is =
-      seat_set v w m (settled (length (p.targets m)) (node_of v m) (told_of (node_of v m).phase) false)
+      seat_set v w m (settled (length (p.targets m)) (node_of v m) (lowered_of (node_of v m).phase) false)
       v.trail ns ws rs bs o o is s s.woke_is k
-      (settled_progress (length (p.targets m)) (node_of v m) (told_of (node_of v m).phase) false
+      (settled_progress (length (p.targets m)) (node_of v m) (lowered_of (node_of v m).phase) false
       ∙ (λ j. progress_settled (sym n_is j) (sym kept_is j) (sym i_is j) false) ∙ sym k_is)
 
   -- FINISHED is stored
   pub seat_finishes : w ≡ finished false v m → (node_of v m).phase ≡ Running → k ≡ record d { ends = true }
       → IsLoopSeat w (set ns m k) ws rs bs 0
   seat_finishes is runs k_is = seat_set v w m (record (node_of v m) { phase = Done }) (untold v.trail) ns ws rs bs o 0 is s refl k
-      ((λ j. record (progress_of (node_of v m)) { told = told_of (sym runs j); ends = true })
+      ((λ j. record (progress_of (node_of v m)) { told = lowered_of (sym runs j); ends = true })
       ∙ (λ j. record (sym kept_is j) { ends = true }) ∙ sym k_is)
 
   -- a ticket is drawn
@@ -127,13 +127,13 @@ module _ (p : Lay) (v w : View) (m : ℕ) (ns : List NodeProgress) (ws : List Wr
           (record (progress_of (node_of v m)) { start = ticket })
       by Idle e can = absurd can
       by Awake e can = λ j. cond (ends_of (sym e j)) (record (progress_of (node_of v m))
-          { told = told_of (sym e j); ends = ends_of (sym e j); finish = ticket })
-          (record (progress_of (node_of v m)) { told = told_of (sym e j); ends = ends_of (sym e j); start = ticket })
+          { told = lowered_of (sym e j); ends = ends_of (sym e j); finish = ticket })
+          (record (progress_of (node_of v m)) { told = lowered_of (sym e j); ends = ends_of (sym e j); start = ticket })
       by StartDrawn e can = absurd can
       by Running e can = absurd can
       by Done e can = λ j. cond (ends_of (sym e j)) (record (progress_of (node_of v m))
-          { told = told_of (sym e j); ends = ends_of (sym e j); finish = ticket })
-          (record (progress_of (node_of v m)) { told = told_of (sym e j); ends = ends_of (sym e j); start = ticket })
+          { told = lowered_of (sym e j); ends = ends_of (sym e j); finish = ticket })
+          (record (progress_of (node_of v m)) { told = lowered_of (sym e j); ends = ends_of (sym e j); start = ticket })
       by FinishDrawn e can = absurd can
       by (Telling i owes) e can = absurd can
 
@@ -148,8 +148,8 @@ seat_stores v w m ns ws rs bs o is can s = seat_stays v w m
         → progress_of (record (node_of v m) { phase = stored_phase f }) ≡ progress_of (node_of v m)
     by Idle e can = absurd can
     by Awake e can = absurd can
-    by StartDrawn e can = λ j. record (progress_of (node_of v m)) { told = told_of (sym e j); ends = ends_of (sym e j) }
+    by StartDrawn e can = λ j. record (progress_of (node_of v m)) { told = lowered_of (sym e j); ends = ends_of (sym e j) }
     by Running e can = absurd can
     by Done e can = absurd can
-    by FinishDrawn e can = λ j. record (progress_of (node_of v m)) { told = told_of (sym e j); ends = ends_of (sym e j) }
+    by FinishDrawn e can = λ j. record (progress_of (node_of v m)) { told = lowered_of (sym e j); ends = ends_of (sym e j) }
     by (Telling i owes) e can = absurd can

@@ -1,4 +1,4 @@
--- The place of a node, as a search over the nodes of a shape finds it; lists of rows, and sums over the first of them.
+-- The index of a node, as a search over the nodes of a shape finds it; lists of rows, and sums over the first of them.
 use Rattle.std.proofs.Common.{◌≡◌, ℕ, zero, suc, ◌+◌, ◌<◌, ◌≤◌, ◌==◌, Bool, true, false, not, cond, List, [], ◌∷◌, ◌++◌}
 use Rattle.std.proofs.Common.{map, take, length, get_or, set, get_or-set_same, get_or-set_other, refl, sym, ap, ◌∙◌, subst, arith}
 use mathlib.Core.Logic.{dite}
@@ -11,7 +11,7 @@ use Rattle.std.specs.List.{position, position_or_len}
 use Rattle.pw_base.proofs.HistoryLemmas.{place_or_end as or_end}
 use Rattle.pw_base.specs.declared.shape.Shape.{Shape}
 use Rattle.pw_base.specs.declared.shape.ShapeNode.{ShapeNode}
-use Rattle.board_rule.specs.Layout.{place_in}
+use Rattle.board_rule.specs.Layout.{index_in}
 
 position-map : (n : ℕ) (xs : List ShapeNode) → position_or_len (λ x. x.node == n) xs ≡ position_or_len (λ k. k == n) (map (λ x. x.node) xs)
 position-map n [] = refl
@@ -21,7 +21,7 @@ position-map n (x ∷ xs) = by (x.node == n) (position-map n xs)
     by true e = refl
     by false e = ap (λ k. 1 + k) e
 
-pub place_or_end : (shape : Shape) (n : ℕ) → unwrap_or (position (λ x. x.node == n) shape.nodes) (length shape.nodes) ≡ place_in shape n
+pub place_or_end : (shape : Shape) (n : ℕ) → unwrap_or (position (λ x. x.node == n) shape.nodes) (length shape.nodes) ≡ index_in shape n
 place_or_end shape n = or_end (λ x. x.node == n) shape.nodes ∙ position-map n shape.nodes
 
 -- one more entry of a row is written

@@ -1,4 +1,4 @@
--- Each kind of step on an activation word keeps the rule of a cycle. `left` is a sum over all nodes here; the posts after a step are given
+-- Each kind of step on an activation word keeps the rule of a cycle. `left` is a sum over all nodes here; the progress after a step is given
 -- by what they are at each node.
 use Rattle.std.proofs.Common.{◌≡◌, ◌≢◌, ℕ, suc, ◌+◌, ◌<◌, List, [], ◌∷◌, length, set, get_or, sym, ap, ◌∙◌, subst, arith}
 use Rattle.std.proofs.Common.{get_or-set_other, get_or-set_same}
@@ -8,24 +8,24 @@ use Rattle.board_rule.specs.Sums.{total, times}
 use Rattle.pw_base.specs.declared.shape.Shape.{Shape}
 use Rattle.pw_base.specs.Layout.{node_count, pending_place, status_place}
 use Rattle.pw_base.specs.Words.{status_word_of, awake_word, finished_word, triggered_word}
-use Rattle.board_rule.specs.ActivationRule.{Posts, NodeOk}
+use Rattle.board_rule.specs.ActivationRule.{Progress, NodeOk}
 use Rattle.board_rule.proofs.SumLemmas.{total_same, total_change, total_at, times_here, times_else}
 
--- the posts differ at m alone
-pub record Elsewhere (m : ℕ) (s t : Posts) : Type 0 where
+-- the progress differs at m alone
+pub record Elsewhere (m : ℕ) (s t : Progress) : Type 0 where
   pub rest : (i : ℕ) → i ≢ m → t.rest i ≡ s.rest i
   pub owing : (i : ℕ) → i ≢ m → t.owing i ≡ s.owing i
   pub stage : (i : ℕ) → i ≢ m → t.stage i ≡ s.stage i
 
 -- the sums over all nodes
-abbrev pub sum_left : ℕ → Posts → ℕ → ℕ
+abbrev pub sum_left : ℕ → Progress → ℕ → ℕ
 sum_left count s n = total (λ m. times n (s.rest m)) count
 
-abbrev pub sum_debts : ℕ → Posts → ℕ → ℕ
+abbrev pub sum_debts : ℕ → Progress → ℕ → ℕ
 sum_debts count s n = total (λ m. times n (s.owing m)) count
 
 -- each node of a cycle that runs
-pub record Sums (shape : Shape) (c : ℕ) (s : Posts) (words : List ℕ) : Type 0 where
+pub record Sums (shape : Shape) (c : ℕ) (s : Progress) (words : List ℕ) : Type 0 where
   pub node : (n : ℕ) → n < node_count shape → NodeOk c (get_or words (pending_place shape n) 0) (get_or words (status_place shape n) 0)
       (s.stage n) (sum_left (node_count shape) s n) (sum_debts (node_count shape) s n)
 
@@ -34,11 +34,11 @@ module _ (shape : Shape) where
   count = node_count shape
 
   -- one change of m, seen at n
-  pub left_change : (m n : ℕ) (s t : Posts) → m < count → Elsewhere m s t
+  pub left_change : (m n : ℕ) (s t : Progress) → m < count → Elsewhere m s t
       → sum_left count t n + times n (s.rest m) ≡ sum_left count s n + times n (t.rest m)
   left_change m n s t h e = total_change (λ i. times n (s.rest i)) (λ i. times n (t.rest i)) m count h (λ i o. ap (times n) (e.rest i o))
 
-  pub debts_change : (m n : ℕ) (s t : Posts) → m < count → Elsewhere m s t
+  pub debts_change : (m n : ℕ) (s t : Progress) → m < count → Elsewhere m s t
       → sum_debts count t n + times n (s.owing m) ≡ sum_debts count s n + times n (t.owing m)
   debts_change m n s t h e = total_change (λ i. times n (s.owing i)) (λ i. times n (t.owing i)) m count h
       (λ i o. ap (times n) (e.owing i o))
@@ -59,16 +59,16 @@ module _ (shape : Shape) where
   }
 
   -- a target that is left is counted in its pending word
-  pub positive : (m n : ℕ) (s : Posts) (xs : List ℕ) → m < count → s.rest m ≡ n ∷ xs → 0 < sum_left count s n
+  pub positive : (m n : ℕ) (s : Progress) (xs : List ℕ) → m < count → s.rest m ≡ n ∷ xs → 0 < sum_left count s n
   positive m n s xs h e = let t = total_at (λ i. times n (s.rest i)) m count h in
       let a : times n (s.rest m) ≡ 1 + times n xs = ap (times n) e ∙ times_here n xs in omega arith
 
-  pub indebted : (m n : ℕ) (s : Posts) (xs : List ℕ) → m < count → s.owing m ≡ n ∷ xs → 0 < sum_debts count s n
+  pub indebted : (m n : ℕ) (s : Progress) (xs : List ℕ) → m < count → s.owing m ≡ n ∷ xs → 0 < sum_debts count s n
   indebted m n s xs h e = let t = total_at (λ i. times n (s.owing i)) m count h in
       let a : times n (s.owing m) ≡ 1 + times n xs = ap (times n) e ∙ times_here n xs in omega arith
 
   -- a step by which no word changes in value and no post changes
-  pub keeps : (c : ℕ) (s t : Posts) (words after : List ℕ) → ((i : ℕ) → i < count → t.rest i ≡ s.rest i)
+  pub keeps : (c : ℕ) (s t : Progress) (words after : List ℕ) → ((i : ℕ) → i < count → t.rest i ≡ s.rest i)
       → ((i : ℕ) → i < count → t.owing i ≡ s.owing i) → ((i : ℕ) → i < count → t.stage i ≡ s.stage i)
       → ((n : ℕ) → n < count → get_or after (pending_place shape n) 0 ≡ get_or words (pending_place shape n) 0)
       → ((n : ℕ) → n < count → get_or after (status_place shape n) 0 ≡ get_or words (status_place shape n) 0) → Sums shape c s words
@@ -79,8 +79,8 @@ module _ (shape : Shape) where
         (total_same (λ i. times n (s.owing i)) (λ i. times n (t.owing i)) count (λ i l. ap (times n) (owing i l))) (r.node n h);
   }
 
-  -- m takes its next target n down
-  pub lowers : (c m n x : ℕ) (s t : Posts) (words : List ℕ) → m < count → n < count → count + count < length words → Elsewhere m s t
+  -- m lowers its next target n
+  pub lowers : (c m n x : ℕ) (s t : Progress) (words : List ℕ) → m < count → n < count → count + count < length words → Elsewhere m s t
       → t.stage m ≡ s.stage m → s.rest m ≡ n ∷ t.rest m → s.owing m ≡ []
       → (get_or words (pending_place shape n) 0 ≡ 1 → t.owing m ≡ n ∷ []) → (get_or words (pending_place shape n) 0 ≢ 1 → t.owing m ≡ [])
       → get_or words (pending_place shape n) 0 ≡ suc x → Sums shape c s words → Sums shape c t (set words (pending_place shape n) x)
@@ -131,7 +131,7 @@ module _ (shape : Shape) where
               }
 
   -- m triggers the target that it owes
-  pub triggers : (c m n : ℕ) (s t : Posts) (words : List ℕ) → m < count → n < count → count + count < length words → Elsewhere m s t
+  pub triggers : (c m n : ℕ) (s t : Progress) (words : List ℕ) → m < count → n < count → count + count < length words → Elsewhere m s t
       → t.stage m ≡ s.stage m → t.rest m ≡ s.rest m → s.owing m ≡ n ∷ [] → t.owing m ≡ []
       → Sums shape c s words → Sums shape c t (set words (status_place shape n) (triggered_word c))
   triggers c m n s t words hm hn wide e stage rest owes pays r = record { node = one }
@@ -191,7 +191,7 @@ module _ (shape : Shape) where
               }
 
   -- a node n goes from the kind k to the next one, by a change of its stage
-  moves : (c n k u : ℕ) (s t : Posts) (words : List ℕ) → n < count → count + count < length words → Elsewhere n s t → t.rest n ≡ s.rest n
+  moves : (c n k u : ℕ) (s t : Progress) (words : List ℕ) → n < count → count + count < length words → Elsewhere n s t → t.rest n ≡ s.rest n
       → t.owing n ≡ s.owing n → get_or words (status_place shape n) 0 ≡ status_word_of k c → 0 < k → k < 3 → t.stage n ≡ k
       → Sums shape c s words → Sums shape c t (set words (status_place shape n) (status_word_of (suc k) c))
   moves c n k u s t words hn wide e rest owing found low high now r = record { node = one }
@@ -244,14 +244,14 @@ module _ (shape : Shape) where
               }
 
   -- the claim of a node that was found triggered
-  pub wakes : (c n : ℕ) (s t : Posts) (words : List ℕ) → n < count → count + count < length words → Elsewhere n s t → t.rest n ≡ s.rest n
+  pub wakes : (c n : ℕ) (s t : Progress) (words : List ℕ) → n < count → count + count < length words → Elsewhere n s t → t.rest n ≡ s.rest n
       → t.owing n ≡ s.owing n → get_or words (status_place shape n) 0 ≡ triggered_word c → t.stage n ≡ 1
       → Sums shape c s words → Sums shape c t (set words (status_place shape n) (awake_word c))
   wakes c n s t words hn wide e rest owing found now r =
       moves c n 1 0 s t words hn wide e rest owing found (omega arith) (omega arith) now r
 
   -- the store of FINISHED by a node that runs
-  pub finishes : (c n : ℕ) (s t : Posts) (words : List ℕ) → n < count → count + count < length words → Elsewhere n s t → t.rest n ≡ s.rest n
+  pub finishes : (c n : ℕ) (s t : Progress) (words : List ℕ) → n < count → count + count < length words → Elsewhere n s t → t.rest n ≡ s.rest n
       → t.owing n ≡ s.owing n → s.stage n ≡ 1 → t.stage n ≡ 2
       → Sums shape c s words → Sums shape c t (set words (status_place shape n) (finished_word c))
   finishes c n s t words hn wide e rest owing was now r =
@@ -261,7 +261,7 @@ module _ (shape : Shape) where
       in let is = o.status_is in omega arith) (omega arith) (omega arith) now r
 
   -- what a node that runs shows of the others: all that it depends on have told it
-  pub woken_told : (c n m : ℕ) (s : Posts) (words : List ℕ) → n < count → m < count → s.stage n ≡ 1 → Sums shape c s words
+  pub woken_told : (c n m : ℕ) (s : Progress) (words : List ℕ) → n < count → m < count → s.stage n ≡ 1 → Sums shape c s words
       → times n (s.rest m) ≡ 0
   woken_told c n m s words hn hm runs r = let o = r.node n hn in let k = o.kinds in
       let high : 0 < o.kind = dite (dec_le o.kind 0) (λ z. absurd (let w = o.asleep (omega arith) in omega arith)) (λ z. omega arith) in
@@ -271,7 +271,7 @@ module _ (shape : Shape) where
       let counts = o.counts in let t = total_at (λ i. times n (s.rest i)) m count hm in omega arith
 
   -- the same of a node that has woken in this cycle
-  pub begun_told : (c n m : ℕ) (s : Posts) (words : List ℕ) → n < count → m < count → 0 < s.stage n → Sums shape c s words
+  pub begun_told : (c n m : ℕ) (s : Progress) (words : List ℕ) → n < count → m < count → 0 < s.stage n → Sums shape c s words
       → times n (s.rest m) ≡ 0
   begun_told c n m s words hn hm runs r = let o = r.node n hn in let k = o.kinds in
       let high : 0 < o.kind = dite (dec_le o.kind 0) (λ z. absurd (let w = o.asleep (omega arith) in omega arith)) (λ z. omega arith) in

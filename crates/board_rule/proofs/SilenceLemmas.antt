@@ -8,7 +8,7 @@ use Rattle.std.proofs.lemmas.List.{get_or-map, get_or-replicate, get_or_past, le
 use Rattle.std.proofs.lemmas.List.Elements.{All-replicate}
 use Rattle.pw_base.specs.declared.pools.PoolShape.{PoolShape}
 use Rattle.pw_base.specs.Pools.{pools_of}
-use Rattle.board_rule.specs.Layout.{Lay, first}
+use Rattle.board_rule.specs.Layout.{BoardLayout, first}
 use Rattle.board_rule.specs.SampleWords.{IsTable, silence}
 
 abbrev is_sample : ℤ → Type 0
@@ -17,7 +17,7 @@ is_sample s = (neg_ℤ (pos 32768) ≤ℤ s) × (s ≤ℤ pos 32767)
 none : All is_sample []
 none = λ k d lt. absurd (omega arith)
 
-module _ (p : Lay) where
+module _ (p : BoardLayout) where
   abbrev quiet : PoolShape → List ℤ
   quiet x = replicate (p.shape.quantum * x.channels) (pos 0)
 

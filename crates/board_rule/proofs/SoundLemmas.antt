@@ -1,4 +1,4 @@
--- A sound shape has a sound layout: required counts are sums over the targets, by places.
+-- A sound shape has a sound layout: required counts are sums over the targets, by indexes.
 use Rattle.std.proofs.Common.{◌≡◌, ◌≢◌, ℕ, zero, suc, ◌+◌, ◌<◌, ◌≤◌, ◌==◌, ◌&&◌, ◌||◌, Bool, true, false, true≢false}
 use Rattle.std.proofs.Common.{not, cond, eqb, List, [], ◌∷◌, ◌++◌, map, drop, length, get_or, refl, sym, ap, ◌∙◌, subst, arith, eq-eqb}
 use Rattle.std.proofs.Common.{ne_eqb, eqb-true}
@@ -15,9 +15,9 @@ use Rattle.pw_base.specs.declared.shape.ShapeNode.{ShapeNode}
 use Rattle.pw_base.specs.Dependencies.{nodes_of, are_linked, waits, required_of, targets_of}
 use Rattle.pw_base.specs.Layout.{node_count}
 use Rattle.pw_base.specs.SoundShape.{IsSoundShape, IsCounted}
-use Rattle.board_rule.specs.declared.plot.Plot.{Plot}
+use Rattle.board_rule.specs.declared.board_shape.BoardShape.{BoardShape}
 use Rattle.board_rule.specs.Sums.{total, times}
-use Rattle.board_rule.specs.Layout.{lay, place_in, target_rows, required_row, HasSeats, IsSound}
+use Rattle.board_rule.specs.Layout.{layout_of, index_in, target_rows, required_row, HasSeats, IsSound}
 use Rattle.board_rule.proofs.SumLemmas.{total_same, total_at, times_here}
 
 -- strictly increasing numbers: a later one is greater
@@ -28,7 +28,7 @@ rises xs up k (suc i) h l = let one : i + 1 ≡ suc i = omega arith in
     dite (ℕ_discrete k i) (λ q. subst (λ j. get_or xs j 0 < get_or xs (suc i) 0) (sym q) s)
     (λ q. let b = rises xs up k i (omega arith) (omega arith) in omega arith)
 
--- the sum over a list, by places, is the length of what passes
+-- the sum over a list, by indexes, is the length of what passes
 total_shift : (f : ℕ → ℕ) (k : ℕ) → total f (suc k) ≡ f 0 + total (λ i. f (suc i)) k
 total_shift f zero = omega arith
 total_shift f (suc k) = let a = total_shift f k in omega arith
@@ -55,7 +55,7 @@ times_append n [] ys = omega arith
 times_append n (x ∷ xs) ys = let a = times_append n xs ys in omega arith
 
 module _ (pl : ℕ → ℕ) (f : ℕ → Bool) (j : ℕ) where
-  -- how often a place stands among those of the elements that pass: none of them has it, or one has
+  -- how often an index stands among those of the elements that pass: none of them has it, or one has
   times_absent : (xs : List ℕ) → ((k : ℕ) → k < length xs → pl (get_or xs k 0) ≢ j) → times j (map pl (filter f xs)) ≡ 0
   times_absent [] o = refl
   times_absent (x ∷ xs) o = let a = times_absent xs (λ k h. o (suc k) (omega arith)) in ap (times j) (map_by pl (f x) x (filter f xs))
@@ -114,38 +114,38 @@ module _ (shape : Shape) (s : IsSoundShape shape) where
   abbrev ns : List ℕ
   ns = nodes_of shape
 
-  abbrev place : ℕ → ℕ
-  place = place_in shape
+  abbrev index : ℕ → ℕ
+  index = index_in shape
 
   long : length ns ≡ node_count shape
   long = length-map shape.nodes (λ n. n.node)
 
-  pub place_at : (i : ℕ) → i < node_count shape → place (get_or ns i 0) ≡ i
-  place_at i h = let l = long in position_or_len_is (λ k. k == get_or ns i 0) ns i 0 (omega arith)
+  pub index_at : (i : ℕ) → i < node_count shape → index (get_or ns i 0) ≡ i
+  index_at i h = let l = long in position_or_len_is (λ k. k == get_or ns i 0) ns i 0 (omega arith)
       (λ k q. ne_eqb (get_or ns k 0) (get_or ns i 0) (λ e. let r = rises ns s.nodes.ascend k i q (omega arith) in omega arith))
       (λ _. eq-eqb (get_or ns i 0) (get_or ns i 0) refl)
 
-  -- a node that is there has the number that stands at its place
-  pub at_place : (n : ℕ) → place n < node_count shape → get_or ns (place n) 0 ≡ n
-  at_place n h = let l = long in eqb-true (get_or ns (place n) 0) n (passes_at_first (λ k. k == n) ns 0 (omega arith))
+  -- a node that is there has the number that stands at its index
+  pub at_index : (n : ℕ) → index n < node_count shape → get_or ns (index n) 0 ≡ n
+  at_index n h = let l = long in eqb-true (get_or ns (index n) 0) n (passes_at_first (λ k. k == n) ns 0 (omega arith))
 
-  contained : (n : ℕ) → Contains ns n → (place n < node_count shape) × (get_or ns (place n) 0 ≡ n)
+  contained : (n : ℕ) → Contains ns n → (index n < node_count shape) × (get_or ns (index n) 0 ≡ n)
   contained n c = let l = long in let h = c.1 in let e : get_or ns c.0 0 ≡ n = get_or_default ns c.0 0 n h ∙ c.2 in
-      let p : place n ≡ c.0 = ap place (sym e) ∙ place_at c.0 (omega arith) in (omega arith, at_place n (omega arith))
+      let p : index n ≡ c.0 = ap index (sym e) ∙ index_at c.0 (omega arith) in (omega arith, at_index n (omega arith))
 
-  driver_in : place shape.driver < node_count shape
+  driver_in : index shape.driver < node_count shape
   driver_in = (contained shape.driver s.nodes.driver).0
 
-  -- the node at a place
+  -- the node at an index
   node_at : (i : ℕ) → i < node_count shape → (get_or shape.nodes i no_node).node ≡ get_or ns i 0
   node_at i h = sym (get_or-map (λ n. n.node) shape.nodes i no_node 0 h)
 
   counted : (i : ℕ) → i < node_count shape → IsCounted shape (get_or shape.nodes i no_node)
   counted i h = s.counts i no_node h
 
-  targets_at : (m : ℕ) → m < node_count shape → get_or (target_rows shape) m [] ≡ map place (targets_of shape (get_or ns m 0))
-  targets_at m h = get_or-map (λ n. map place n.targets) shape.nodes m no_node [] h
-      ∙ ap (map place) ((counted m h).1 ∙ ap (targets_of shape) (node_at m h))
+  targets_at : (m : ℕ) → m < node_count shape → get_or (target_rows shape) m [] ≡ map index (targets_of shape (get_or ns m 0))
+  targets_at m h = get_or-map (λ n. map index n.targets) shape.nodes m no_node [] h
+      ∙ ap (map index) ((counted m h).1 ∙ ap (targets_of shape) (node_at m h))
 
   required_at : (n : ℕ) → n < node_count shape → get_or (required_row shape) n 0 ≡ required_of shape (get_or ns n 0)
   required_at n h = get_or-map (λ n. n.required) shape.nodes n no_node 0 h ∙ (counted n h).0 ∙ ap (required_of shape) (node_at n h)
@@ -154,28 +154,28 @@ module _ (shape : Shape) (s : IsSoundShape shape) where
   followers_of m = filter (λ n. not (n == shape.driver) && waits shape n m) ns
 
   targets_split : (m : ℕ) → m < node_count shape → get_or (target_rows shape) m []
-      ≡ map place (followers_of (get_or ns m 0)) ++ place shape.driver ∷ []
-  targets_split m h = targets_at m h ∙ map-append place (followers_of (get_or ns m 0)) (shape.driver ∷ [])
+      ≡ map index (followers_of (get_or ns m 0)) ++ index shape.driver ∷ []
+  targets_split m h = targets_at m h ∙ map-append index (followers_of (get_or ns m 0)) (shape.driver ∷ [])
 
   -- each node is told once by those that it depends on
   told : (j m : ℕ) → j < node_count shape → m < node_count shape
       → times j (get_or (target_rows shape) m []) ≡ cond {A = ℕ} (waits shape (get_or ns j 0) (get_or ns m 0)) 1 0
   told j m hj hm =
-      let l = long in let x : ℕ = get_or ns j 0 in let y : ℕ = get_or ns m 0 in let d : ℕ = place shape.driver in
-      let a = times_present place (λ n. not (n == shape.driver) && waits shape n y) j ns j (omega arith) (place_at j hj)
-      (λ k h o e. o (sym (place_at k (omega arith)) ∙ e)) in
-      let b = times_append j (map place (followers_of y)) (d ∷ []) in
-      let c : times j (get_or (target_rows shape) m []) ≡ times j (map place (followers_of y) ++ d ∷ []) =
+      let l = long in let x : ℕ = get_or ns j 0 in let y : ℕ = get_or ns m 0 in let d : ℕ = index shape.driver in
+      let a = times_present index (λ n. not (n == shape.driver) && waits shape n y) j ns j (omega arith) (index_at j hj)
+      (λ k h o e. o (sym (index_at k (omega arith)) ∙ e)) in
+      let b = times_append j (map index (followers_of y)) (d ∷ []) in
+      let c : times j (get_or (target_rows shape) m []) ≡ times j (map index (followers_of y) ++ d ∷ []) =
       ap (times j) (targets_split m hm) in
       dite (ℕ_discrete x shape.driver)
-      (λ q. let same : d ≡ j = ap place (sym q) ∙ place_at j hj in
+      (λ q. let same : d ≡ j = ap index (sym q) ∙ index_at j hj in
       let t : cond {A = ℕ} (eqb d j) 1 0 ≡ 1 = ap (λ b. cond {A = ℕ} b 1 0) (eq-eqb d j same) in
       let n : cond {A = ℕ} (not (x == shape.driver) && waits shape x y) 1 0 ≡ 0 =
       ap (λ b. cond {A = ℕ} b 1 0) (drop_tests (x == shape.driver) (waits shape x y) (eq-eqb x shape.driver q)) in
       let w : cond {A = ℕ} (waits shape x y) 1 0 ≡ 1 =
       ap (λ b. cond {A = ℕ} b 1 0) (or_right (y == shape.driver) _
       (or_left (x == shape.driver) (are_linked shape y x) (eq-eqb x shape.driver q))) in omega arith)
-      (λ q. let other : d ≢ j = λ e. q (sym (ap (λ k. get_or ns k 0) e) ∙ at_place shape.driver driver_in) in
+      (λ q. let other : d ≢ j = λ e. q (sym (ap (λ k. get_or ns k 0) e) ∙ at_index shape.driver driver_in) in
       let t : cond {A = ℕ} (eqb d j) 1 0 ≡ 0 = ap (λ b. cond {A = ℕ} b 1 0) (ne_eqb d j other) in
       let n : cond {A = ℕ} (not (x == shape.driver) && waits shape x y) 1 0 ≡ cond {A = ℕ} (waits shape x y) 1 0 =
       ap (λ b. cond {A = ℕ} b 1 0) (both_tests (x == shape.driver) (waits shape x y) (ne_eqb x shape.driver q)) in omega arith)
@@ -188,23 +188,23 @@ module _ (shape : Shape) (s : IsSoundShape shape) where
       (node_count shape) (λ m q. sym (told n m h q))
 
   required_some : (n : ℕ) → n < node_count shape → 0 < get_or (required_row shape) n 0
-  required_some n h = let d : ℕ = place shape.driver in let a = required_is n h in
+  required_some n h = let d : ℕ = index shape.driver in let a = required_is n h in
       let b = total_at (λ m. times n (get_or (target_rows shape) m [])) d (node_count shape) driver_in in
       let c : times n (get_or (target_rows shape) d []) ≡ 1 = told n d h driver_in
       ∙ ap (λ b. cond {A = ℕ} b 1 0) (or_left (get_or ns d 0 == shape.driver)
       (get_or ns n 0 == shape.driver || are_linked shape (get_or ns d 0) (get_or ns n 0))
-      (eq-eqb (get_or ns d 0) shape.driver (at_place shape.driver driver_in))) in omega arith
+      (eq-eqb (get_or ns d 0) shape.driver (at_index shape.driver driver_in))) in omega arith
 
   targets_in : (m i : ℕ) → m < node_count shape → i < length (get_or (target_rows shape) m [])
       → get_or (get_or (target_rows shape) m []) i 0 < node_count shape
   targets_in m i hm h = let y : ℕ = get_or ns m 0 in
-      let there : All (λ n. place n < node_count shape) ns = λ k d q. let e = get_or_default ns k d 0 q in let l = long in
-      subst (λ n. place n < node_count shape) (sym e) (let p = place_at k (omega arith) in omega arith) in
-      let all : All (λ k. k < node_count shape) (map place (targets_of shape y)) =
-      All-map (λ k. k < node_count shape) place (targets_of shape y)
-      (All-append (λ n. place n < node_count shape) (followers_of y) (shape.driver ∷ [])
-      (All-filter (λ n. not (n == shape.driver) && waits shape n y) (λ n. place n < node_count shape) ns there)
-      (only (λ n. place n < node_count shape) shape.driver driver_in)) in
+      let there : All (λ n. index n < node_count shape) ns = λ k d q. let e = get_or_default ns k d 0 q in let l = long in
+      subst (λ n. index n < node_count shape) (sym e) (let p = index_at k (omega arith) in omega arith) in
+      let all : All (λ k. k < node_count shape) (map index (targets_of shape y)) =
+      All-map (λ k. k < node_count shape) index (targets_of shape y)
+      (All-append (λ n. index n < node_count shape) (followers_of y) (shape.driver ∷ [])
+      (All-filter (λ n. not (n == shape.driver) && waits shape n y) (λ n. index n < node_count shape) ns there)
+      (only (λ n. index n < node_count shape) shape.driver driver_in)) in
       subst (λ (ts : List ℕ). i < length ts → get_or ts i 0 < node_count shape) (sym (targets_at m hm)) (λ q. all i 0 q) h
     where
       only : (P : ℕ → Type 0) (d : ℕ) → P d → All P (d ∷ [])
@@ -212,44 +212,44 @@ module _ (shape : Shape) (s : IsSoundShape shape) where
       only P d h (suc k) e q = absurd (omega arith)
 
   tells_driver : (m i : ℕ) → m < node_count shape → i < length (get_or (target_rows shape) m [])
-      → 0 < times (place shape.driver) (drop i (get_or (target_rows shape) m []))
-  tells_driver m i hm h = subst (λ (ts : List ℕ). i < length ts → 0 < times (place shape.driver) (drop i ts)) (sym (targets_split m hm))
-      (λ q. last_stands (place shape.driver) i (map place (followers_of (get_or ns m 0))) q) h
+      → 0 < times (index shape.driver) (drop i (get_or (target_rows shape) m []))
+  tells_driver m i hm h = subst (λ (ts : List ℕ). i < length ts → 0 < times (index shape.driver) (drop i ts)) (sym (targets_split m hm))
+      (λ q. last_stands (index shape.driver) i (map index (followers_of (get_or ns m 0))) q) h
 
   tells : (m : ℕ) → m < node_count shape → 0 < length (get_or (target_rows shape) m [])
-  tells m hm = subst (λ (ts : List ℕ). 0 < length ts) (sym (targets_split m hm)) (more (map place (followers_of (get_or ns m 0))))
+  tells m hm = subst (λ (ts : List ℕ). 0 < length ts) (sym (targets_split m hm)) (more (map index (followers_of (get_or ns m 0))))
     where
-      more : (ys : List ℕ) → 0 < length (ys ++ place shape.driver ∷ [])
+      more : (ys : List ℕ) → 0 < length (ys ++ index shape.driver ∷ [])
       more [] = omega arith
       more (y ∷ ys) = omega arith
 
-  numbers : (n : ℕ) → place n < node_count shape → n ≤ 63
-  numbers n h = let a : (get_or shape.nodes (place n) no_node).node ≤ 63 = s.nodes.numbers (place n) no_node h in
-      let b = node_at (place n) h in let c = at_place n h in omega arith
+  numbers : (n : ℕ) → index n < node_count shape → n ≤ 63
+  numbers n h = let a : (get_or shape.nodes (index n) no_node).node ≤ 63 = s.nodes.numbers (index n) no_node h in
+      let b = node_at (index n) h in let c = at_index n h in omega arith
 
   pub number_most : (i : ℕ) → i < node_count shape → get_or ns i 0 ≤ 63
   number_most i h = let a : (get_or shape.nodes i no_node).node ≤ 63 = s.nodes.numbers i no_node h in let b = node_at i h in omega arith
 
-pub sound_layout : (plot : Plot) → IsSoundShape plot.shape → HasSeats plot → IsSound (lay plot)
-sound_layout plot s h = record {
+pub sound_layout : (board_shape : BoardShape) → IsSoundShape board_shape.shape → HasSeats board_shape → IsSound (layout_of board_shape)
+sound_layout board_shape s h = record {
   some_cycles = s.cycles.some;
   early = s.cycles.numbers;
   events = s.cycles.events;
-  driver_in = driver_in plot.shape s;
+  driver_in = driver_in board_shape.shape s;
   seats_in = h.each;
-  places = numbers plot.shape s;
-  numbers = number_most plot.shape s;
-  at = place_at plot.shape s;
-  known = at_place plot.shape s;
-  targets_in = targets_in plot.shape s;
-  required_is = required_is plot.shape s;
-  required_some = required_some plot.shape s;
-  tells_driver = tells_driver plot.shape s;
-  tells = tells plot.shape s;
+  indexes = numbers board_shape.shape s;
+  numbers = number_most board_shape.shape s;
+  at = index_at board_shape.shape s;
+  known = at_index board_shape.shape s;
+  targets_in = targets_in board_shape.shape s;
+  required_is = required_is board_shape.shape s;
+  required_some = required_some board_shape.shape s;
+  tells_driver = tells_driver board_shape.shape s;
+  tells = tells board_shape.shape s;
   names = λ n h. refl;
-  named = λ n c. (contained plot.shape s n c).0;
-  names_driver = at_place plot.shape s plot.shape.driver (driver_in plot.shape s);
-  follows = λ m n hm hn e. let a = told plot.shape s n m hn hm in
-      let b : cond {A = ℕ} (waits plot.shape (get_or (nodes_of plot.shape) n 0) (get_or (nodes_of plot.shape) m 0)) 1 0 ≡ 1 =
+  named = λ n c. (contained board_shape.shape s n c).0;
+  names_driver = at_index board_shape.shape s board_shape.shape.driver (driver_in board_shape.shape s);
+  follows = λ m n hm hn e. let a = told board_shape.shape s n m hn hm in
+      let b : cond {A = ℕ} (waits board_shape.shape (get_or (nodes_of board_shape.shape) n 0) (get_or (nodes_of board_shape.shape) m 0)) 1 0 ≡ 1 =
       ap (λ b. cond {A = ℕ} b 1 0) e.depends.waits in omega arith;
 }

@@ -7,12 +7,12 @@ use native.Mathlib.Decide.{ℕ_discrete}
 use Rattle.pw_base.specs.Layout.{late_place, event_place, event_count}
 use Rattle.board_rule.specs.declared.view.Phase.{Phase}
 use Rattle.board_rule.specs.declared.view.Phase.TheVariants.{Idle, Telling}
-use Rattle.board_rule.specs.declared.view.Drive.{Drive}
-use Rattle.board_rule.specs.declared.view.Drive.TheVariants as drives
+use Rattle.board_rule.specs.declared.view.DriverPhase.{DriverPhase}
+use Rattle.board_rule.specs.declared.view.DriverPhase.TheVariants as drives
 use Rattle.board_rule.specs.declared.view.NodeView.{NodeView}
-use Rattle.board_rule.specs.declared.view.LeadView.{LeadView}
+use Rattle.board_rule.specs.declared.view.DriverView.{DriverView}
 use Rattle.board_rule.specs.declared.view.View.{View}
-use Rattle.board_rule.specs.Layout.{Lay, nodes}
+use Rattle.board_rule.specs.Layout.{BoardLayout, nodes}
 use Rattle.board_rule.specs.View.{Whole, put, with_node, with_lead}
 use Rattle.board_rule.specs.TellingSteps.{settled, kicked}
 use Rattle.board_rule.specs.Steps.{reset_to}
@@ -31,17 +31,17 @@ node_over x = x.next + phase_over x.phase
 abbrev pub node_begun : NodeView → ℕ
 node_begun x = x.next + phase_begun x.phase
 
-abbrev pub lead_over : LeadView → ℕ
+abbrev pub lead_over : DriverView → ℕ
 lead_over x = x.cycle + drive_over x.drive
 
-abbrev pub lead_begun : LeadView → ℕ
+abbrev pub lead_begun : DriverView → ℕ
 lead_begun x = x.cycle + drive_begun x.drive
 
 -- from x to y a node ends no cycle
 abbrev pub IsPaced : NodeView → NodeView → Type 0
 IsPaced x y = (node_over y ≡ node_over x) × (node_begun x ≤ node_begun y)
 
-abbrev pub IsLeadPaced : LeadView → LeadView → Type 0
+abbrev pub IsLeadPaced : DriverView → DriverView → Type 0
 IsLeadPaced x y = (lead_over y ≡ lead_over x) × (lead_begun x ≤ lead_begun y)
 
 cond_more : (b : Bool) (a x y : ℕ) → x ≤ y → cond b a x ≤ cond b a y
@@ -52,17 +52,17 @@ cond_first : (b : Bool) (a x y : ℕ) → x ≤ y → cond b x a ≤ cond b y a
 cond_first true a x y h = h
 cond_first false a x y h = omega arith
 
-module _ (p : Lay) where
+module _ (p : BoardLayout) where
   pub wired_in : (g : Whole) (ws : List ℕ) (views : List View) → Seated p g ws views → Wired p
-  wired_in g ws views s = wired p s.sound s.pooled s.undelayed
+  wired_in g ws views s = wired p s.sound s.pooled
 
-  pub over_at : (g : Whole) (n : ℕ) → n ≢ p.driver → (spans p g n).over ≡ node_over (g.nodes n)
+  pub over_at : (g : Whole) (n : ℕ) → n ≢ p.driver → (spans p g n).ended ≡ node_over (g.nodes n)
   over_at g n o = ap (λ b. cond b (lead_over g.lead) (node_over (g.nodes n))) (ne_eqb n p.driver o)
 
   pub begun_at : (g : Whole) (n : ℕ) → n ≢ p.driver → (spans p g n).begun ≡ node_begun (g.nodes n)
   begun_at g n o = ap (λ b. cond b (lead_begun g.lead) (node_begun (g.nodes n))) (ne_eqb n p.driver o)
 
-  pub over_lead : (g : Whole) (n : ℕ) → n ≡ p.driver → (spans p g n).over ≡ lead_over g.lead
+  pub over_lead : (g : Whole) (n : ℕ) → n ≡ p.driver → (spans p g n).ended ≡ lead_over g.lead
   over_lead g n e = ap (λ b. cond b (lead_over g.lead) (node_over (g.nodes n))) (eq-eqb n p.driver e)
 
   pub begun_lead : (g : Whole) (n : ℕ) → n ≡ p.driver → (spans p g n).begun ≡ lead_begun g.lead
@@ -80,10 +80,10 @@ module _ (p : Lay) where
       get_or-set_other ws i j x 0 (λ e. ⊎_elim (λ z. let c = z.1 in omega arith) (λ z. omega arith) h)
 
   -- the follower m goes on from x to y
-  pub over_else : (g : Whole) (m n : ℕ) (y : NodeView) → n ≢ m → (spans p (with_node g m y) n).over ≡ (spans p g n).over
+  pub over_else : (g : Whole) (m n : ℕ) (y : NodeView) → n ≢ m → (spans p (with_node g m y) n).ended ≡ (spans p g n).ended
   over_else g m n y o = ap (λ z. cond (eqb n p.driver) (lead_over g.lead) (node_over z)) (put_else g.nodes m n y o)
 
-  pub over_put : (g : Whole) (m : ℕ) (y : NodeView) → m ≢ p.driver → (spans p (with_node g m y) m).over ≡ node_over y
+  pub over_put : (g : Whole) (m : ℕ) (y : NodeView) → m ≢ p.driver → (spans p (with_node g m y) m).ended ≡ node_over y
   over_put g m y o = over_at (with_node g m y) m o ∙ ap node_over (put_here g.nodes m y)
 
   pub begun_put : (g : Whole) (m n : ℕ) (x y : NodeView) → g.nodes m ≡ x → node_begun x ≤ node_begun y
@@ -106,11 +106,11 @@ module _ (p : Lay) where
       (λ n h. begun_put g m n x y is paced.1) same b
 
   -- the driver's seat goes on to y
-  pub begun_lead_put : (g : Whole) (n : ℕ) (y : LeadView) → lead_begun g.lead ≤ lead_begun y
+  pub begun_lead_put : (g : Whole) (n : ℕ) (y : DriverView) → lead_begun g.lead ≤ lead_begun y
       → (spans p g n).begun ≤ (spans p (with_lead g y) n).begun
   begun_lead_put g n y more = cond_first (eqb n p.driver) (node_begun (g.nodes n)) (lead_begun g.lead) (lead_begun y) more
 
-  pub buffers_lead : (g : Whole) (ws after : List ℕ) (y : LeadView) → Wired p → IsLeadPaced g.lead y → SameBuffers p ws after
+  pub buffers_lead : (g : Whole) (ws after : List ℕ) (y : DriverView) → Wired p → IsLeadPaced g.lead y → SameBuffers p ws after
       → Buffers p (spans p g) g.ends g.expect ws → Buffers p (spans p (with_lead g y)) g.ends g.expect after
   buffers_lead g ws after y wired paced same b = buffers_stay p (spans p g) (spans p (with_lead g y)) g.ends g.expect ws after wired
       (λ n h. ap (λ k. cond (eqb n p.driver) k (node_over (g.nodes n))) paced.0)
@@ -134,13 +134,13 @@ settled_paced n i j o owes x is = let a : node_over x ≡ x.next + 1 = ap (λ f.
 -- a follower from the phase f to the phase h
 pub phase_paced : (x : NodeView) (f : Phase) (y : NodeView) → x.phase ≡ f → y.next ≡ x.next → phase_over y.phase ≡ phase_over f
     → phase_begun f ≤ phase_begun y.phase → IsPaced x y
-phase_paced x f y is next over begun = let a : phase_over x.phase ≡ phase_over f = ap phase_over is in
+phase_paced x f y is next ended begun = let a : phase_over x.phase ≡ phase_over f = ap phase_over is in
     let b : phase_begun x.phase ≡ phase_begun f = ap phase_begun is in (omega arith, omega arith)
 
 -- the driver's seat from the phase d to the phase of y
-pub drive_paced : (x : LeadView) (d : Drive) (y : LeadView) → x.drive ≡ d → y.cycle ≡ x.cycle → drive_over y.drive ≡ drive_over d
+pub drive_paced : (x : DriverView) (d : DriverPhase) (y : DriverView) → x.drive ≡ d → y.cycle ≡ x.cycle → drive_over y.drive ≡ drive_over d
     → drive_begun d ≤ drive_begun y.drive → IsLeadPaced x y
-drive_paced x d y is cycle over begun = let a : drive_over x.drive ≡ drive_over d = ap drive_over is in
+drive_paced x d y is cycle ended begun = let a : drive_over x.drive ≡ drive_over d = ap drive_over is in
     let b : drive_begun x.drive ≡ drive_begun d = ap drive_begun is in (omega arith, omega arith)
 
 kicked_by : (i : ℕ) (b : Bool) → (drive_over (cond b drives.Waiting (drives.Kick i false)) ≡ 0)
@@ -161,7 +161,7 @@ pub reset_paced : (n i : ℕ) → (drive_over (reset_to n i) ≡ 0) × (drive_be
 reset_paced n i = reset_by i (eqb i n)
 
 -- drawing a ticket and storing an event
-pub draws_paced : (l : LeadView) (d : Drive) (k : ℕ) → l.drive ≡ d → CanDrawLead l.checked d → IsLeadPaced l (lead_draws l k d)
+pub draws_paced : (l : DriverView) (d : DriverPhase) (k : ℕ) → l.drive ≡ d → CanDrawLead l.checked d → IsLeadPaced l (lead_draws l k d)
 draws_paced l drives.Between k e can = drive_paced l drives.Between (lead_draws l k drives.Between) e refl refl (omega arith)
 draws_paced l drives.BeginDrawn k e can = absurd can
 draws_paced l (drives.Reset i) k e can = absurd can
@@ -178,7 +178,7 @@ draws_paced l drives.FinishDrawn k e can = absurd can
 draws_paced l drives.FinishStored k e can = drive_paced l drives.FinishStored (lead_draws l k drives.FinishStored) e refl refl (omega arith)
 draws_paced l drives.EndDrawn k e can = absurd can
 
-pub stores_paced : (l : LeadView) (d : Drive) → l.drive ≡ d → CanStoreLead d → IsLeadPaced l (lead_stores l d)
+pub stores_paced : (l : DriverView) (d : DriverPhase) → l.drive ≡ d → CanStoreLead d → IsLeadPaced l (lead_stores l d)
 stores_paced l drives.Between e can = absurd can
 stores_paced l drives.BeginDrawn e can = drive_paced l drives.BeginDrawn (lead_stores l drives.BeginDrawn) e refl refl (omega arith)
 stores_paced l (drives.Reset i) e can = absurd can

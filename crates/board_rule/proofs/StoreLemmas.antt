@@ -11,7 +11,7 @@ use Rattle.pw_base.specs.EventWords.{event_word_of}
 use Rattle.pw_base.specs.History.{IsLate}
 use Rattle.pw_base.specs.Layout.{event_count}
 use Rattle.pw_base.specs.Words.{finished_word}
-use Rattle.board_rule.specs.Layout.{Lay, IsSound, nodes, first, last}
+use Rattle.board_rule.specs.Layout.{BoardLayout, IsSound, nodes, first, last}
 use Rattle.board_rule.specs.View.{put}
 use Rattle.board_rule.specs.EventSteps.{late_of}
 use Rattle.board_rule.specs.Logged.{IsHeld, Tickets, Earlier, Inside}
@@ -24,8 +24,8 @@ use Rattle.board_rule.proofs.DrawLemmas.{Logs, none_in, first_in, only_in}
 
 -- what stays of the nodes in a step of the driver's seat, or in a store
 pub record SameNodes (s u : Marks) : Type 0 where
-  pub started : (n : ℕ) → u.tally.started n ≡ s.tally.started n
-  pub finished : (n : ℕ) → u.tally.finished n ≡ s.tally.finished n
+  pub started : (n : ℕ) → u.counts.started n ≡ s.counts.started n
+  pub finished : (n : ℕ) → u.counts.finished n ≡ s.counts.finished n
   pub start : (n : ℕ) → u.start n ≡ s.start n
   pub finish : (n : ℕ) → u.finish n ≡ s.finish n
 
@@ -33,7 +33,7 @@ pub record SameNodes (s u : Marks) : Type 0 where
 abbrev pub FrameOf : Marks → Bool → Bool → Type 0
 FrameOf s b e = (s.begun ≡ b) × (s.ending ≡ e)
 
-module _ (p : Lay) (c late : ℕ) (past xs : List Event) (s u : Marks) (r : Records) (a : Logs p c late past xs s r)
+module _ (p : BoardLayout) (c late : ℕ) (past xs : List Event) (s u : Marks) (r : Records) (a : Logs p c late past xs s r)
     (nodes_same : SameNodes s u) where
   abbrev log : List Event
   log = past ++ so_far s c xs
@@ -44,8 +44,8 @@ module _ (p : Lay) (c late : ℕ) (past xs : List Event) (s u : Marks) (r : Reco
   low : length past ≤ length log
   low = let z = length-append past (so_far s c xs) in omega arith
 
-  abbrev tally_is : s.tally.checked ≡ u.tally.checked → s.tally.sees ≡ u.tally.sees → s.tally ≡ u.tally
-  tally_is checked sees = λ i. record {
+  abbrev counts_is : s.counts.checked ≡ u.counts.checked → s.counts.sees ≡ u.counts.sees → s.counts ≡ u.counts
+  counts_is checked sees = λ i. record {
     started = λ n. sym (nodes_same.started n) i;
     finished = λ n. sym (nodes_same.finished n) i;
     checked = checked i;
@@ -58,7 +58,7 @@ module _ (p : Lay) (c late : ℕ) (past xs : List Event) (s u : Marks) (r : Reco
 
   -- the event x of the ticket k is stored, which nobody holds from now on
   pub event_stored : (k : ℕ) (x : Event) → slice_get log k ≡ Some x → (b e : Bool) → FrameOf s b e → FrameOf u b e
-      → u.tally.checked ≡ s.tally.checked → u.tally.sees ≡ s.tally.sees
+      → u.counts.checked ≡ s.counts.checked → u.counts.sees ≡ s.counts.sees
       → ((j : ℕ) → IsHeld p s j → j ≢ k → IsHeld p u j) → ((j : ℕ) (y : Event) → Contains u.tells (j, y) → Contains s.tells (j, y))
       → Logs p c late past xs u (record r { event = put r.event k (event_word_of x) })
   event_stored k x at b e was is checked sees held tells = record {
@@ -68,7 +68,7 @@ module _ (p : Lay) (c late : ℕ) (past xs : List Event) (s u : Marks) (r : Reco
         (λ n h one. (sym (nodes_same.started n) ∙ one, nodes_same.start n))
         (λ n h one. (sym (nodes_same.finished n) ∙ one, nodes_same.finish n)) tells);
     earlier = earlier_same r.ticket (put r.event k (event_word_of x));
-    inside = subst (λ k. Inside p c late k xs) (tally_is (sym checked) (sym sees)) a.inside;
+    inside = subst (λ k. Inside p c late k xs) (counts_is (sym checked) (sym sees)) a.inside;
   }
 
   held_on : (t : ℕ) (x : Event) → ((n : ℕ) → u.holds n ≡ s.holds n) → s.tells ≡ [] → (j : ℕ) → IsHeld p s j → IsHeld p u j
@@ -87,8 +87,8 @@ module _ (p : Lay) (c late : ℕ) (past xs : List Event) (s u : Marks) (r : Reco
       (λ k y h. let e = only_in (t, x) (k, y) (subst (λ ks. Contains ks (k, y)) tells h) in
       inr (sym (ap (λ (z : ℕ × Event). z.0) e) ∙ at_end, ap (λ (z : ℕ × Event). z.1) e))
 
-  pub begin_drawn : (t : ℕ) → FrameOf s false false → FrameOf u true false → xs ≡ [] → u.tally.checked ≡ s.tally.checked
-      → u.tally.sees ≡ s.tally.sees → ((n : ℕ) → u.holds n ≡ s.holds n) → s.tells ≡ [] → u.tells ≡ (t, Begin c) ∷ [] → t ≡ r.ticket
+  pub begin_drawn : (t : ℕ) → FrameOf s false false → FrameOf u true false → xs ≡ [] → u.counts.checked ≡ s.counts.checked
+      → u.counts.sees ≡ s.counts.sees → ((n : ℕ) → u.holds n ≡ s.holds n) → s.tells ≡ [] → u.tells ≡ (t, Begin c) ∷ [] → t ≡ r.ticket
       → length log < event_count p.shape
       → Logs p c late past xs u (record r { ticket = suc r.ticket })
   begin_drawn t was is empty checked sees holds none tells at room = record {
@@ -97,10 +97,10 @@ module _ (p : Lay) (c late : ℕ) (past xs : List Event) (s u : Marks) (r : Reco
         ∙ ap (λ ys. past ++ Begin c ∷ ys) (sym empty) ∙ ap (λ ys. past ++ ys) (sym (frame u true false is)))
         (frame_drawn t (Begin c) holds none tells at room);
     earlier = earlier_same (suc r.ticket) r.event;
-    inside = subst (λ k. Inside p c late k xs) (tally_is (sym checked) (sym sees)) a.inside;
+    inside = subst (λ k. Inside p c late k xs) (counts_is (sym checked) (sym sees)) a.inside;
   }
 
-  pub end_drawn : (t : ℕ) → FrameOf s true false → FrameOf u true true → u.tally.checked ≡ s.tally.checked → u.tally.sees ≡ s.tally.sees
+  pub end_drawn : (t : ℕ) → FrameOf s true false → FrameOf u true true → u.counts.checked ≡ s.counts.checked → u.counts.sees ≡ s.counts.sees
       → ((n : ℕ) → u.holds n ≡ s.holds n) → s.tells ≡ [] → u.tells ≡ (t, End c) ∷ [] → t ≡ r.ticket → length log < event_count p.shape
       → Logs p c late past xs u (record r { ticket = suc r.ticket })
   end_drawn t was is checked sees holds none tells at room = record {
@@ -109,11 +109,11 @@ module _ (p : Lay) (c late : ℕ) (past xs : List Event) (s u : Marks) (r : Reco
         ∙ ap (λ ys. past ++ ys) (sym (frame u true true is)))
         (frame_drawn t (End c) holds none tells at room);
     earlier = earlier_same (suc r.ticket) r.event;
-    inside = subst (λ k. Inside p c late k xs) (tally_is (sym checked) (sym sees)) a.inside;
+    inside = subst (λ k. Inside p c late k xs) (counts_is (sym checked) (sym sees)) a.inside;
   }
 
-  pub tick_drawn : IsSound p → (t : ℕ) → FrameOf s true false → FrameOf u true false → s.tally.checked ≡ false → u.tally.checked ≡ true
-      → u.tally.sees ≡ [] → s.tally.started p.driver ≡ 0 → ((n : ℕ) → u.holds n ≡ s.holds n) → s.tells ≡ []
+  pub tick_drawn : IsSound p → (t : ℕ) → FrameOf s true false → FrameOf u true false → s.counts.checked ≡ false → u.counts.checked ≡ true
+      → u.counts.sees ≡ [] → s.counts.started p.driver ≡ 0 → ((n : ℕ) → u.holds n ≡ s.holds n) → s.tells ≡ []
       → u.tells ≡ (t, Tick c late) ∷ [] → t ≡ r.ticket → length log < event_count p.shape
       → Logs p c late past (xs ++ Tick c late ∷ []) u (record r { ticket = suc r.ticket })
   tick_drawn sound t was is unchecked checked sees idle holds none tells at room = record {
@@ -123,7 +123,7 @@ module _ (p : Lay) (c late : ℕ) (past xs : List Event) (s u : Marks) (r : Reco
         (cond (is.1 i) (Begin c ∷ ((xs ++ Tick c late ∷ []) ++ End c ∷ [])) (Begin c ∷ (xs ++ Tick c late ∷ []))) [])))
         (frame_drawn t (Tick c late) holds none tells at room);
     earlier = earlier_same (suc r.ticket) r.event;
-    inside = inside_more p c late s.tally u.tally xs a.inside (Tick c late) (refl, refl) (λ n h. nodes_same.started n ∙ (omega arith))
+    inside = inside_more p c late s.counts u.counts xs a.inside (Tick c late) (refl, refl) (λ n h. nodes_same.started n ∙ (omega arith))
         (λ n h. nodes_same.finished n ∙ (omega arith))
         (ap (λ b. cond {A = ℕ} b 1 0) checked ∙ sym (ap (λ b. cond {A = ℕ} b 1 0 + 1) unchecked))
         (λ n h one. inl (sym (nodes_same.finished n) ∙ one)) (λ n h one. inl (sym (nodes_same.started n) ∙ one))
@@ -131,9 +131,9 @@ module _ (p : Lay) (c late : ℕ) (past xs : List Event) (s u : Marks) (r : Reco
   }
 
   -- the late set of the check is stored
-  pub late_set : (set t : ℕ) → first p ≤ c → FrameOf s true false → FrameOf u true false → u.tally.checked ≡ s.tally.checked
-      → u.tally.sees ≡ [] → ((n : ℕ) → u.holds n ≡ s.holds n) → s.tells ≡ (t, Tick c late) ∷ [] → u.tells ≡ (t, Tick c set) ∷ []
-      → set ≡ late_of c s.tally.sees
+  pub late_set : (set t : ℕ) → first p ≤ c → FrameOf s true false → FrameOf u true false → u.counts.checked ≡ s.counts.checked
+      → u.counts.sees ≡ [] → ((n : ℕ) → u.holds n ≡ s.holds n) → s.tells ≡ (t, Tick c late) ∷ [] → u.tells ≡ (t, Tick c set) ∷ []
+      → set ≡ late_of c s.counts.sees
       → Logs p c set past (map (told_late set) xs) u (record r { late = put r.late (c - first p) set })
   late_set set t low' was is checked sees holds told tells bits = record {
     tickets = subst (λ l. Tickets p c (length past) u l (record r { late = put r.late (c - first p) set }))
@@ -150,8 +150,8 @@ module _ (p : Lay) (c late : ℕ) (past xs : List Event) (s u : Marks) (r : Reco
           ap (λ (z : ℕ × Event). z.1) e,
         )));
     earlier = earlier_late p c late set past r low' a.earlier;
-    inside = inside_late p c late set s.tally u.tally xs a.inside nodes_same.started nodes_same.finished checked sees
-        (λ n h. late_bits c (IsLate p.shape xs c) s.tally.sees a.inside.seen n (subst (λ z. IsBitSet z n) bits h));
+    inside = inside_late p c late set s.counts u.counts xs a.inside nodes_same.started nodes_same.finished checked sees
+        (λ n h. late_bits c (IsLate p.shape xs c) s.counts.sees a.inside.seen n (subst (λ z. IsBitSet z n) bits h));
   }
     where
       held : (k : ℕ) → IsHeld p s k → IsHeld p u k
@@ -166,12 +166,12 @@ module _ (p : Lay) (c late : ℕ) (past xs : List Event) (s u : Marks) (r : Reco
           )) h
 
 -- the End of a cycle is stored, in which all nodes have run: the next one begins with nothing drawn
-pub ended : (p : Lay) (c late : ℕ) (past xs : List Event) (s u : Marks) (r : Records) → Logs p c late past xs s r → IsSound p → first p ≤ c
+pub ended : (p : BoardLayout) (c late : ℕ) (past xs : List Event) (s u : Marks) (r : Records) → Logs p c late past xs s r → IsSound p → first p ≤ c
     → c < last p → FrameOf s true true → u.begun ≡ false → (t : ℕ) → s.tells ≡ (t, End c) ∷ []
-    → ((n : ℕ) → n < nodes p → s.holds n ≡ []) → ((n : ℕ) → n < nodes p → s.tally.started n ≡ 1)
-    → ((n : ℕ) → n < nodes p → s.tally.finished n ≡ 1)
-    → ((n : ℕ) → n < nodes p → u.tally.started n ≡ 0) → ((n : ℕ) → n < nodes p → u.tally.finished n ≡ 0) → u.tally.checked ≡ false
-    → u.tally.sees ≡ [] → u.tells ≡ []
+    → ((n : ℕ) → n < nodes p → s.holds n ≡ []) → ((n : ℕ) → n < nodes p → s.counts.started n ≡ 1)
+    → ((n : ℕ) → n < nodes p → s.counts.finished n ≡ 1)
+    → ((n : ℕ) → n < nodes p → u.counts.started n ≡ 0) → ((n : ℕ) → n < nodes p → u.counts.finished n ≡ 0) → u.counts.checked ≡ false
+    → u.counts.sees ≡ [] → u.tells ≡ []
     → Logs p (c + 1) 0 (past ++ so_far s c xs) [] u (record r { event = put r.event t (event_word_of (End c)) })
 ended p c late past xs s u r a sound low high was is t tells idle started finished none none' unchecked unseen silent =
     let log : List Event = past ++ so_far s c xs in
@@ -184,7 +184,7 @@ ended p c late past xs s u r a sound low high was is t tells idle started finish
       tickets = subst (λ l. Tickets p (c + 1) (length log) u l (record r { event = put r.event t (event_word_of (End c)) })) (sym empty)
           (next log k (slice_get_within log t (End c) there.1) there.1);
       earlier = subst (λ ys. Earlier p (c + 1) 0 (past ++ ys) (record r { event = put r.event t (event_word_of (End c)) })) (sym full)
-          (earlier_ends p sound c late s.tally xs a.inside started finished past r
+          (earlier_ends p sound c late s.counts xs a.inside started finished past r
           (put r.event t (event_word_of (End c))) low high a.earlier);
       inside = record {
         only = λ i d h. absurd (omega arith);

@@ -4,13 +4,13 @@ use Rattle.std.proofs.Common.{length, set, get_or, refl, sym, ap, ◌∙◌, sub
 use mathlib.Core.Logic.{dite}
 use native.Mathlib.Decide.{ℕ_discrete}
 use Rattle.board_rule.specs.declared.view.NodeView.{NodeView}
-use Rattle.board_rule.specs.declared.view.LeadView.{LeadView}
-use Rattle.board_rule.specs.declared.view.Drive.{Drive}
-use Rattle.board_rule.specs.declared.view.Drive.TheVariants as drives
+use Rattle.board_rule.specs.declared.view.DriverView.{DriverView}
+use Rattle.board_rule.specs.declared.view.DriverPhase.{DriverPhase}
+use Rattle.board_rule.specs.declared.view.DriverPhase.TheVariants as drives
 use Rattle.board_rule.specs.declared.view.Phase.{Phase}
 use Rattle.board_rule.specs.declared.view.Phase.TheVariants.{Idle, Awake, StartDrawn, Running, Done, FinishDrawn, Telling}
 use Rattle.pw_base.specs.Layout.{event_count}
-use Rattle.board_rule.specs.Layout.{Lay, IsSound, nodes, first, last}
+use Rattle.board_rule.specs.Layout.{BoardLayout, IsSound, nodes, first, last}
 use Rattle.board_rule.specs.Sums.{total}
 use Rattle.board_rule.specs.Phases.{is_between, is_resetting, phase_drawn, drive_drawn, PhaseOk}
 use Rattle.board_rule.specs.View.{Whole, with_node, with_lead}
@@ -35,12 +35,12 @@ total_all : (b k : ℕ) → total (λ n. b) k ≡ k * b
 total_all b zero = omega arith
 total_all b (suc k) = let a = total_all b k in let e : suc k * b ≡ k * b + b = suc-mul k b in omega arith
 
--- the same number at all places but one
+-- the same number at all indexes but one
 total_but : (b m k : ℕ) → m < k → total (λ n. cond (eqb n m) 0 b) k + b ≡ k * b
 total_but b m k h = let a = total_change (λ n. b) (λ n. cond (eqb n m) 0 b) m k h (λ i o. ap (λ c. cond c 0 b) (ne_eqb i m o)) in
     let c : cond (eqb m m) 0 b ≡ 0 = ap (λ c. cond c 0 b) (eq-eqb m m refl) in let d = total_all b k in omega arith
 
-drive_most : (d : Drive) → drive_drawn d ≤ 4
+drive_most : (d : DriverPhase) → drive_drawn d ≤ 4
 drive_most drives.Between = omega arith
 drive_most drives.BeginDrawn = omega arith
 drive_most (drives.Reset i) = omega arith
@@ -71,7 +71,7 @@ phase_most n c next l Done ok i o = let a = o (λ e. (cc)) in omega arith
 phase_most n c next l FinishDrawn ok i o = let a = o (λ e. (cc)) in omega arith
 phase_most n c next l (Telling j d) ok i o = let a = o (λ e. (cc)) in let b = ok.0 in omega arith
 
-pub between_resets : (d : Drive) → is_between d ≡ true → is_resetting d ≡ true
+pub between_resets : (d : DriverPhase) → is_between d ≡ true → is_resetting d ≡ true
 between_resets drives.Between t = refl
 between_resets drives.BeginDrawn t = refl
 between_resets (drives.Reset i) t = refl
@@ -91,7 +91,7 @@ between_resets drives.EndDrawn t = absurd (true≢false (sym t))
 product : (n c : ℕ) → c * (2 * n + 3) ≡ n * (2 * c) + 3 * c
 product n c = grind arith
 
-module _ (p : Lay) where
+module _ (p : BoardLayout) where
   drawn_here : (g : Whole) (m : ℕ) (y : NodeView) → m ≢ p.driver → drawn p (with_node g m y) m ≡ node_drawn y
   drawn_here g m y o = ap (λ (z : NodeView). cond (eqb m p.driver) 0 (node_drawn z)) (put_here g.nodes m y)
       ∙ ap (λ b. cond b 0 (node_drawn y)) (ne_eqb m p.driver o)
@@ -117,7 +117,7 @@ module _ (p : Lay) where
       → Counted g w → Counted (with_node g m y) (w + k)
   count_node g w k m x y inside follows same more a = let b = change g m x y inside follows same in omega arith
 
-  pub count_lead : (g : Whole) (w k : ℕ) (x : LeadView) → lead_drawn g.lead + k ≤ lead_drawn x → Counted g w
+  pub count_lead : (g : Whole) (w k : ℕ) (x : DriverView) → lead_drawn g.lead + k ≤ lead_drawn x → Counted g w
       → Counted (with_lead g x) (w + k)
   count_lead g w k x more a = omega arith
 
@@ -139,7 +139,7 @@ module _ (p : Lay) where
         inside = logs.inside;
       }
 
-  pub events_lead : (g : Whole) (ws : List ℕ) (i v : ℕ) (x : LeadView) → lead_drawn g.lead ≤ lead_drawn x → QuietLead g.lead x → 0 < i
+  pub events_lead : (g : Whole) (ws : List ℕ) (i v : ℕ) (x : DriverView) → lead_drawn g.lead ≤ lead_drawn x → QuietLead g.lead x → 0 < i
       → i ≤ nodes p + nodes p → Events p g ws → Events p (with_lead g x) (set ws i v)
   events_lead g ws i v x more quiet low high e =
       let word = words_quiet p ws v i low high in let mark = marks_lead p g x quiet in
@@ -168,14 +168,14 @@ module _ (p : Lay) where
       let prod = product n c in
       omega arith
     where
-      in_cycle : (d : Drive) → g.lead.drive ≡ d → (is_between d ≡ true → ⊥) → g.lead.cycle < last p
+      in_cycle : (d : DriverPhase) → g.lead.drive ≡ d → (is_between d ≡ true → ⊥) → g.lead.cycle < last p
       in_cycle d e o = a.within (not_true (is_between g.lead.drive) (λ t. o (sym (ap is_between e) ∙ t)))
         where
           not_true : (b : Bool) → (b ≡ true → ⊥) → b ≡ false
           not_true true h = absurd (h refl)
           not_true false h = refl
 
-      lead_most : (d : Drive) → g.lead.drive ≡ d → lead_drawn g.lead ≤ 5 * last p
+      lead_most : (d : DriverPhase) → g.lead.drive ≡ d → lead_drawn g.lead ≤ 5 * last p
       lead_most d e = by (is_between g.lead.drive) refl
         where
           by : (b : Bool) → is_between g.lead.drive ≡ b → 5 * g.lead.cycle + cond b 0

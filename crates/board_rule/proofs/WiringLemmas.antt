@@ -1,23 +1,37 @@
--- What the laws of buffers use of a pooled shape without delayed links: the ends of links, pools and their links, and places of words.
-use Rattle.std.proofs.Common.{◌≡◌, ◌≢◌, ℕ, ◌+◌, ◌*◌, ◌<◌, ◌≤◌, ◌==◌, ◌&&◌, ◌||◌, Bool, true, false, true≢false}
+-- What the laws of buffers use of a pooled shape: the ends of links, pools and their links, and indexes of words.
+use Rattle.std.proofs.Common.{◌≡◌, ◌≢◌, ℕ, ◌+◌, ◌*◌, ◌<◌, ◌≤◌, ◌==◌, ◌&&◌, ◌||◌, Bool, true, false, true≢false, cond}
 use Rattle.std.proofs.Common.{not, [], get_or, ◌⊎◌, refl, sym, ap, ◌∙◌, subst, arith, eq-eqb}
-use Rattle.std.specs.Prelude.{Contains, Some, None, slice_get, option_map}
+use Rattle.std.specs.Prelude.{Contains, Any, Some, None, slice_get, option_map, unwrap_or}
 use Rattle.std.proofs.lemmas.Option.{get_or_from_slice_get, slice_get-get_or, slice_get-map, slice_get_within}
-use Rattle.std.proofs.lemmas.List.Folds.{list_any_at}
+use Rattle.std.proofs.lemmas.List.Elements.{All-contains, All-contains_itself, All-filter, filter_passes}
+use Rattle.std.proofs.lemmas.List.Folds.{Any-from_list_any, list_any_at}
 use Rattle.pw_base.specs.declared.ids.PortId.{PortId}
 use Rattle.pw_base.specs.declared.shape.Shape.{Shape}
 use Rattle.pw_base.specs.declared.shape.ShapeLink.{ShapeLink}
 use Rattle.pw_base.specs.declared.pools.PoolShape.{PoolShape}
 use Rattle.pw_base.specs.Dependencies.{joins, are_linked, waits}
 use Rattle.pw_base.specs.SoundShape.{IsSoundLink}
-use Rattle.pw_base.specs.Pools.{sources_of, link_ids_from, pool_of, pools_of, IsPooledShape}
+use Rattle.pw_base.specs.Pools.{is_same_port, links_from, sources_of, link_ids_from, pool_of, pools_of, IsPooledShape}
 use Rattle.pw_base.specs.Layout.{event_count, io_place, late_place, event_place, readers_place, word_count}
 use Rattle.board_rule.specs.Sums.{times}
-use Rattle.board_rule.specs.Layout.{Lay, IsSound, IsUndelayed, nodes}
+use Rattle.board_rule.specs.Layout.{BoardLayout, IsSound, nodes}
+use Rattle.board_rule.specs.Areas.{delay_by}
+use Rattle.board_rule.specs.BlockReadings.{delay_at, busy_cycles}
+use Rattle.pw_base.proofs.PoolLemmas.{port_same, same_port}
+use Rattle.pw_base.proofs.PrecedenceLemmas.{holds_at}
+use Rattle.std.specs.List.{list_any}
 use Rattle.board_rule.proofs.PortLemmas.{Differ, differ_at, differ_ports, has_port, all_ports, id_from, has_id, differ_ids}
-use Rattle.board_rule.proofs.PlaceLemmas as places
+use Rattle.board_rule.proofs.IndexLemmas as indexes
 
-module _ (p : Lay) where
+-- a pool is late by one cycle at least
+pub busy_cycles_some : (p : BoardLayout) (x : PoolShape) → 0 < busy_cycles p x
+busy_cycles_some p x = by (list_any (λ k. k.delayed) (links_from p.shape x.port))
+  where
+    by : (b : Bool) → 0 < cond {A = ℕ} b 2 1
+    by true = omega arith
+    by false = omega arith
+
+module _ (p : BoardLayout) where
   -- the link and the pool of a number
   abbrev pub LinkAt : ℕ → ShapeLink → Type 0
   LinkAt l k = slice_get p.shape.links l ≡ Some k
@@ -26,18 +40,22 @@ module _ (p : Lay) where
   PoolAt q x = slice_get (pools_of p.shape) q ≡ Some x
 
   pub record Wired : Type 0 where
-    pub undelayed : (l : ℕ) (k : ShapeLink) → LinkAt l k → k.delayed ≡ false
-    pub from_in : (l : ℕ) (k : ShapeLink) → LinkAt l k → p.place k.from.node < nodes p
-    pub from_follows : (l : ℕ) (k : ShapeLink) → LinkAt l k → p.place k.from.node ≢ p.driver
-    pub to_in : (l : ℕ) (k : ShapeLink) → LinkAt l k → p.place k.to.node < nodes p
-    pub depends : (l : ℕ) (k : ShapeLink) → LinkAt l k → 0 < times (p.place k.to.node) (p.targets (p.place k.from.node))
+    pub from_in : (l : ℕ) (k : ShapeLink) → LinkAt l k → p.index k.from.node < nodes p
+    pub from_follows : (l : ℕ) (k : ShapeLink) → LinkAt l k → p.index k.from.node ≢ p.driver
+    pub to_in : (l : ℕ) (k : ShapeLink) → LinkAt l k → p.index k.to.node < nodes p
+    pub depends : (l : ℕ) (k : ShapeLink) → LinkAt l k → k.delayed ≡ false → 0 < times (p.index k.to.node) (p.targets (p.index k.from.node))
     pub there : (q l : ℕ) (x : PoolShape) → PoolAt q x → Contains x.links l → (k : ShapeLink) × LinkAt l k × (k.from ≡ x.port)
     pub linked : (q : ℕ) (x : PoolShape) → PoolAt q x → (l : ℕ) × Contains x.links l
     pub pool : (l : ℕ) (k : ShapeLink) → LinkAt l k → (q : ℕ) × (x : PoolShape) × PoolAt q x × Contains x.links l
     pub one_pool : (q r l : ℕ) (x y : PoolShape) → PoolAt q x → PoolAt r y → Contains x.links l → Contains y.links l → q ≡ r
     pub once : (q : ℕ) (x : PoolShape) → PoolAt q x → Differ x.links
-    pub io_in : (l : ℕ) (k : ShapeLink) → LinkAt l k → (2 * nodes p < io_place p.shape l 0) × (io_place p.shape l 0 < late_place p.shape 0)
-    pub io_apart : (l m : ℕ) (k j : ShapeLink) → LinkAt l k → LinkAt m j → l ≢ m → io_place p.shape l 0 ≢ io_place p.shape m 0
+    pub driver_in : p.driver < nodes p
+    pub tells_driver : (n : ℕ) → n < nodes p → 0 < times p.driver (p.targets n)
+    pub delay_in : (q l : ℕ) (x : PoolShape) → PoolAt q x → Contains x.links l → delay_at p l < busy_cycles p x
+    pub io_in : (l a : ℕ) (k : ShapeLink) → LinkAt l k → a ≤ delay_by k
+        → (2 * nodes p < io_place p.shape l a) × (io_place p.shape l a < late_place p.shape 0)
+    pub io_apart : (l m a b : ℕ) (k j : ShapeLink) → LinkAt l k → LinkAt m j → a ≤ delay_by k → b ≤ delay_by j → l ≢ m
+        → io_place p.shape l a ≢ io_place p.shape m b
     pub readers_in : (q b : ℕ) (x : PoolShape) → PoolAt q x → b < x.blocks
         → (event_place p.shape (event_count p.shape) ≤ readers_place p.shape q b)
         × (readers_place p.shape q b + x.words < word_count p.shape)
@@ -46,10 +64,14 @@ module _ (p : Lay) where
         ⊎ (readers_place p.shape r d + y.words < readers_place p.shape q b)
 
   -- so the node of a pool's port is there, and is no driver
-  pub made : Wired → (q : ℕ) (x : PoolShape) → PoolAt q x → (p.place x.port.node < nodes p) × (p.place x.port.node ≢ p.driver)
+  pub made : Wired → (q : ℕ) (x : PoolShape) → PoolAt q x → (p.index x.port.node < nodes p) × (p.index x.port.node ≢ p.driver)
   made w q x at = let l = w.linked q x at in let k = w.there q l.0 x at l.1 in
-      subst (λ (z : PortId). (p.place z.node < nodes p) × (p.place z.node ≢ p.driver)) k.2
+      subst (λ (z : PortId). (p.index z.node < nodes p) × (p.index z.node ≢ p.driver)) k.2
       (w.from_in l.0 k.0 k.1, w.from_follows l.0 k.0 k.1)
+
+  -- the link of a number is late by so much
+  pub late_is : (l : ℕ) (k : ShapeLink) → LinkAt l k → delay_at p l ≡ delay_by k
+  late_is l k at = ap (λ o. unwrap_or (option_map delay_by o) 0) at
 
 -- a pool and its port
 pub pool_source : (shape : Shape) (q : ℕ) (x : PoolShape) → slice_get (pools_of shape) q ≡ Some x → (port : PortId)
@@ -75,20 +97,19 @@ third_true true b c e = refl
 third_true false true c e = refl
 third_true false false c e = e
 
-pub wired : (p : Lay) → IsSound p → IsPooledShape p.shape → IsUndelayed p.shape → Wired p
-wired p sound pooled plain = record {
-  undelayed = late;
+pub wired : (p : BoardLayout) → IsSound p → IsPooledShape p.shape → Wired p
+wired p sound pooled = record {
   from_in = λ l k at. sound.named k.from.node (each l k at).from_active;
   from_follows = λ l k at e. (each l k at).from_follower
       (sym (sound.known k.from.node (sound.named k.from.node (each l k at).from_active)) ∙ ap p.number e ∙ sound.names_driver);
   to_in = λ l k at. sound.named k.to.node (each l k at).to_active;
-  depends = λ l k at. let from = sound.named k.from.node (each l k at).from_active in
+  depends = λ l k at plain. let from = sound.named k.from.node (each l k at).from_active in
       let to = sound.named k.to.node (each l k at).to_active in
-      sound.follows (p.place k.from.node) (p.place k.to.node) from to record {
+      sound.follows (p.index k.from.node) (p.index k.to.node) from to record {
         depends = record {
           from_active = subst (Contains _) (sym (sound.known k.from.node from)) (each l k at).from_active;
           to_active = subst (Contains _) (sym (sound.known k.to.node to)) (each l k at).to_active;
-          waits = (λ i. waits p.shape (sound.known k.to.node to i) (sound.known k.from.node from i)) ∙ waits_for l k at;
+          waits = (λ i. waits p.shape (sound.known k.to.node to i) (sound.known k.from.node from i)) ∙ waits_for l k at plain;
         };
         follower = λ e. (each l k at).from_follower (sym (sound.known k.from.node from) ∙ e);
       };
@@ -104,26 +125,29 @@ wired p sound pooled plain = record {
       (get_or_from_slice_get (sources_of p.shape) q a.0 a.0 a.1 ∙ sym (ap (λ (z : PoolShape). z.port) a.2) ∙ port
       ∙ ap (λ (z : PoolShape). z.port) b.2 ∙ sym (get_or_from_slice_get (sources_of p.shape) r b.0 a.0 b.1));
   once = λ q x at. let a = pool_source p.shape q x at in subst (λ (z : PoolShape). Differ z.links) (sym a.2) (differ_ids p.shape.links a.0);
-  io_in = λ l k at. places.io_in p.shape plain l k (slice_get_within p.shape.links l k at);
-  io_apart = λ l m k j at to o. places.io_apart p.shape plain l m k (slice_get_within p.shape.links l k at)
-      (slice_get_within p.shape.links m j to) o;
-  readers_in = places.readers_in p.shape;
-  apart = places.blocks_apart p.shape;
+  driver_in = sound.driver_in;
+  tells_driver = λ n h. sound.tells_driver n 0 h (sound.tells n h);
+  delay_in = delay_below;
+  io_in = λ l a k at h. let e = delay_here l k k at in indexes.io_in p.shape l a k (slice_get_within p.shape.links l k at) (omega arith);
+  io_apart = λ l m a b k j at to ha hb o. let e = delay_here l k k at in let f = delay_here m j k to in
+      indexes.io_apart p.shape l m a b k (slice_get_within p.shape.links l k at) (slice_get_within p.shape.links m j to) (omega arith)
+      (omega arith) o;
+  readers_in = indexes.readers_in p.shape;
+  apart = indexes.blocks_apart p.shape;
 }
   where
     each : (l : ℕ) (k : ShapeLink) → LinkAt p l k → IsSoundLink p.shape k
     each l k at = subst (IsSoundLink p.shape) (get_or_from_slice_get p.shape.links l k k at)
         (pooled.sound.links.each l k (slice_get_within p.shape.links l k at))
 
-    late : (l : ℕ) (k : ShapeLink) → LinkAt p l k → k.delayed ≡ false
-    late l k at = sym (ap (λ (j : ShapeLink). j.delayed) (get_or_from_slice_get p.shape.links l k k at))
-        ∙ plain l k (slice_get_within p.shape.links l k at)
+    delay_here : (l : ℕ) (k d : ShapeLink) → LinkAt p l k → delay_by (get_or p.shape.links l d) ≡ delay_by k
+    delay_here l k d at = ap delay_by (get_or_from_slice_get p.shape.links l k d at)
 
-    waits_for : (l : ℕ) (k : ShapeLink) → LinkAt p l k → waits p.shape k.to.node k.from.node ≡ true
-    waits_for l k at = third_true (k.from.node == p.shape.driver) (k.to.node == p.shape.driver) (are_linked p.shape k.from.node k.to.node)
+    waits_for : (l : ℕ) (k : ShapeLink) → LinkAt p l k → k.delayed ≡ false → waits p.shape k.to.node k.from.node ≡ true
+    waits_for l k at plain = third_true (k.from.node == p.shape.driver) (k.to.node == p.shape.driver) (are_linked p.shape k.from.node k.to.node)
         (list_any_at (joins k.from.node k.to.node) p.shape.links l k (slice_get_within p.shape.links l k at)
         (ap (joins k.from.node k.to.node) (get_or_from_slice_get p.shape.links l k k at)
-        ∙ both_true (not k.delayed) (k.from.node == k.from.node) (k.to.node == k.to.node) (not_false k.delayed (late l k at))
+        ∙ both_true (not k.delayed) (k.from.node == k.from.node) (k.to.node == k.to.node) (not_false k.delayed plain)
         (eq-eqb k.from.node k.from.node refl) (eq-eqb k.to.node k.to.node refl)))
 
     from_port : (q l : ℕ) (x : PoolShape) → PoolAt p q x → Contains x.links l → (k : ShapeLink) × LinkAt p l k × (k.from ≡ x.port)
@@ -133,6 +157,31 @@ wired p sound pooled plain = record {
       where
         first_link : ShapeLink
         first_link = record { from = x.port; to = x.port; channels = 0; buffers = 0; delayed = false }
+
+    -- a delayed link makes its pool late
+    delay_below : (q l : ℕ) (x : PoolShape) → PoolAt p q x → Contains x.links l → delay_at p l < busy_cycles p x
+    delay_below q l x at c = by k.0.delayed refl
+      where
+        k : (k : ShapeLink) × LinkAt p l k × (k.from ≡ x.port)
+        k = from_port q l x at c
+
+        here : get_or p.shape.links l k.0 ≡ k.0
+        here = get_or_from_slice_get p.shape.links l k.0 k.0 k.1
+
+        in_pool : Contains (links_from p.shape x.port) k.0
+        in_pool = holds_at (λ j. is_same_port j.from x.port) p.shape.links k.0 l (port_same k.0.from x.port k.2)
+            (slice_get_within p.shape.links l k.0 k.1) here
+
+        by : (b : Bool) → k.0.delayed ≡ b → delay_at p l < busy_cycles p x
+        by true e = let some : list_any (λ (j : ShapeLink). j.delayed) (links_from p.shape x.port) ≡ true =
+            list_any_at (λ (j : ShapeLink). j.delayed) (links_from p.shape x.port) in_pool.0 k.0 in_pool.1
+            (ap (λ (j : ShapeLink). j.delayed) in_pool.2 ∙ e) in
+            let two : busy_cycles p x ≡ 2 = ap (λ b. cond {A = ℕ} b 2 1) some in
+            let a : delay_at p l ≡ delay_by k.0 = ap (λ o. unwrap_or (option_map delay_by o) 0) k.1 in
+            let one : delay_by k.0 ≡ 1 = ap (λ b. cond {A = ℕ} b 1 0) e in omega arith
+        by false e = let a : delay_at p l ≡ delay_by k.0 = ap (λ o. unwrap_or (option_map delay_by o) 0) k.1 in
+            let none : delay_by k.0 ≡ 0 = ap (λ b. cond {A = ℕ} b 1 0) e in
+            let some = busy_cycles_some p x in omega arith
 
     has_link : (q : ℕ) (x : PoolShape) → PoolAt p q x → (l : ℕ) × Contains x.links l
     has_link q x at = let a = pool_source p.shape q x at in
@@ -155,3 +204,43 @@ wired p sound pooled plain = record {
           slice_get-map (pool_of p.shape) (sources_of p.shape) c.0 ∙ ap (option_map (pool_of p.shape)) e,
           has_id p.shape.links k.from l k lt (ap (λ (j : ShapeLink). j.from) here),
         )
+
+is_two : (b : Bool) → 1 < cond {A = ℕ} b 2 1 → b ≡ true
+is_two true h = refl
+is_two false h = absurd (omega arith)
+
+-- a pool that is late has a delayed link
+pub delayed_link : (p : BoardLayout) (q : ℕ) (x : PoolShape) → PoolAt p q x → 1 < busy_cycles p x → (l : ℕ) × Contains x.links l × (delay_at p l ≡ 1)
+delayed_link p q x at two = (l, subst (λ (z : PoolShape). Contains z.links l) (sym source.2) has, late)
+  where
+    delayed : Any (λ (k : ShapeLink). k.delayed ≡ true) (links_from p.shape x.port)
+    delayed = Any-from_list_any (λ (k : ShapeLink). k.delayed) (links_from p.shape x.port)
+        (is_two (list_any (λ (k : ShapeLink). k.delayed) (links_from p.shape x.port)) two)
+
+    k : ShapeLink
+    k = delayed.1
+
+    from_port : Contains (links_from p.shape x.port) k
+    from_port = (delayed.0, delayed.2, delayed.3)
+
+    in_shape : Contains p.shape.links k
+    in_shape = All-contains (Contains p.shape.links) (links_from p.shape x.port) k
+        (All-filter (λ (j : ShapeLink). is_same_port j.from x.port) (Contains p.shape.links) p.shape.links (All-contains_itself p.shape.links)) from_port
+
+    of_port : k.from ≡ x.port
+    of_port = same_port k.from x.port (All-contains (λ (j : ShapeLink). is_same_port j.from x.port ≡ true) (links_from p.shape x.port) k
+        (filter_passes (λ (j : ShapeLink). is_same_port j.from x.port) p.shape.links) from_port)
+
+    l : ℕ
+    l = in_shape.0
+
+    source : (port : PortId) × (slice_get (sources_of p.shape) q ≡ Some port) × (x ≡ pool_of p.shape port)
+    source = pool_source p.shape q x at
+
+    has : Contains (link_ids_from p.shape.links source.0) l
+    has = has_id p.shape.links source.0 l k in_shape.1
+        (ap (λ (j : ShapeLink). j.from) in_shape.2 ∙ of_port ∙ ap (λ (z : PoolShape). z.port) source.2)
+
+    late : delay_at p l ≡ 1
+    late = late_is p l k (slice_get-get_or p.shape.links l k in_shape.1 ∙ ap (λ (j : ShapeLink). Some j) in_shape.2)
+        ∙ ap (λ b. cond {A = ℕ} b 1 0) delayed.4

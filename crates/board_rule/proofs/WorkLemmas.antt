@@ -13,15 +13,15 @@ use Rattle.board_rule.specs.declared.view.Trail.{Trail}
 use Rattle.board_rule.specs.declared.view.View.{View}
 use Rattle.pw_base.specs.Layout.{pending_place, status_place}
 use Rattle.pw_base.specs.Words.{finished_word}
-use Rattle.board_rule.specs.Layout.{Lay, nodes}
+use Rattle.board_rule.specs.Layout.{BoardLayout, nodes}
 use Rattle.board_rule.specs.Phases.{phase_rest, phase_owing, phase_stage, PhaseOk, phase_drawn}
 use Rattle.board_rule.specs.View.{Whole, node_of, with_node, view_node}
-use Rattle.board_rule.specs.ActivationRule.{Activations, posts}
+use Rattle.board_rule.specs.ActivationRule.{Activations, progress}
 use Rattle.board_rule.specs.EventRule.{node_drawn}
 use Rattle.board_rule.specs.BoardRule.{Holds}
 use Rattle.board_rule.specs.Spans.{spans, phase_over, phase_begun}
 use Rattle.board_rule.specs.Steps.{Has, IsGivenOn}
-use Rattle.board_rule.specs.Plays.{Turns}
+use Rattle.board_rule.specs.Plays.{Leaves}
 use Rattle.board_rule.proofs.RunLemmas.{Sums, keeps as stays, finishes}
 use Rattle.board_rule.proofs.MarkLemmas.{quiet_phase}
 use Rattle.board_rule.proofs.FollowerLemmas.{rest_at, owing_at, stage_at, rest_put, owing_put, stage_put, elsewhere, words_run}
@@ -60,16 +60,16 @@ stores_finish = record {
 }
 
 -- a word of another part is no activation word
-abbrev pub IsOther : Lay → ℕ → Type 0
+abbrev pub IsOther : BoardLayout → ℕ → Type 0
 IsOther p i = (n : ℕ) → n < nodes p → (pending_place p.shape n ≢ i) × (status_place p.shape n ≢ i)
 
-pub ticket_is_other : (p : Lay) → IsOther p 0
+pub ticket_is_other : (p : BoardLayout) → IsOther p 0
 ticket_is_other p n h = ((λ z. omega arith), (λ z. omega arith))
 
-pub later_is_other : (p : Lay) (i : ℕ) → nodes p + nodes p < i → IsOther p i
+pub later_is_other : (p : BoardLayout) (i : ℕ) → nodes p + nodes p < i → IsOther p i
 later_is_other p i l n h = ((λ z. omega arith), (λ z. omega arith))
 
-module _ (p : Lay) {S : Type 0} where
+module _ (p : BoardLayout) {S : Type 0} where
   -- the activation rule after a step of the follower m to a phase that means the same
   pub active_alike : (s : State S View) (r : Holds p s) (id m : ℕ) (v : View) (f h : Phase) (y : NodeView) (i x : ℕ)
       → get_elem? s.views id ≡ some v → Has p v m → Alike f h → (node_of v m).phase ≡ f → y.next ≡ (node_of v m).next → y.phase ≡ h
@@ -91,16 +91,16 @@ module _ (p : Lay) {S : Type 0} where
       let whole : Whole = with_node g m y in
       let ws : List ℕ = set s.words i x in
       let away = elsewhere p g m y in
-      let rest : (posts p whole).rest m ≡ (posts p g).rest m = rest_put p g m y has.follows ∙ (λ j. phase_rest ts (now' j) (is j))
+      let rest : (progress p whole).rest m ≡ (progress p g).rest m = rest_put p g m y has.follows ∙ (λ j. phase_rest ts (now' j) (is j))
       ∙ like.rest ts ∙ sym (rest_at p g m has.follows ∙ (λ j. phase_rest ts (now j) (was' j))) in
-      let owing : (posts p whole).owing m ≡ (posts p g).owing m = owing_put p g m y has.follows ∙ ap (phase_owing ts) is ∙ like.owing ts
+      let owing : (progress p whole).owing m ≡ (progress p g).owing m = owing_put p g m y has.follows ∙ ap (phase_owing ts) is ∙ like.owing ts
       ∙ sym (owing_at p g m has.follows ∙ ap (phase_owing ts) was') in
-      let stage : (posts p whole).stage m ≡ (posts p g).stage m = stage_put p g m y has.follows ∙ (λ j. phase_stage (now' j) (is j))
+      let stage : (progress p whole).stage m ≡ (progress p g).stage m = stage_put p g m y has.follows ∙ (λ j. phase_stage (now' j) (is j))
       ∙ like.stage ∙ sym (stage_at p g m has.follows ∙ (λ j. phase_stage (now j) (was' j))) in
-      let after : Sums p.shape c (posts p whole) ws = stays p.shape c (posts p g) (posts p whole) s.words ws
-      (λ k l. dite (ℕ_discrete k m) (λ q. ap (posts p whole).rest q ∙ rest ∙ ap (posts p g).rest (sym q)) (λ q. away.rest k q))
-      (λ k l. dite (ℕ_discrete k m) (λ q. ap (posts p whole).owing q ∙ owing ∙ ap (posts p g).owing (sym q)) (λ q. away.owing k q))
-      (λ k l. dite (ℕ_discrete k m) (λ q. ap (posts p whole).stage q ∙ stage ∙ ap (posts p g).stage (sym q)) (λ q. away.stage k q))
+      let after : Sums p.shape c (progress p whole) ws = stays p.shape c (progress p g) (progress p whole) s.words ws
+      (λ k l. dite (ℕ_discrete k m) (λ q. ap (progress p whole).rest q ∙ rest ∙ ap (progress p g).rest (sym q)) (λ q. away.rest k q))
+      (λ k l. dite (ℕ_discrete k m) (λ q. ap (progress p whole).owing q ∙ owing ∙ ap (progress p g).owing (sym q)) (λ q. away.owing k q))
+      (λ k l. dite (ℕ_discrete k m) (λ q. ap (progress p whole).stage q ∙ stage ∙ ap (progress p g).stage (sym q)) (λ q. away.stage k q))
       (λ n l. get_or-set_other s.words i (pending_place p.shape n) x 0 (other n l).0)
       (λ n l. get_or-set_other s.words i (status_place p.shape n) x 0 (other n l).1) runs in
       active_node p g s.words ws m y has.follows runs_on
@@ -112,7 +112,7 @@ module _ (p : Lay) {S : Type 0} where
       → IsGivenOn p me.0 m (node_of me.0 m).next → ((found : ℕ)
       → after found ≡ view_node me.0 m (record (node_of me.0 m) { phase = Done }) t)
       → Allows (Holds p) slots id me (status_place p.shape m) (λ _. finished_word (node_of me.0 m).next)
-      (λ _. Turns after me (finished_word (node_of me.0 m).next))
+      (λ _. Leaves after me (finished_word (node_of me.0 m).next))
   finish_allowed slots id m me t after h phase given is_after s r _ at fits =
       let g = r.whole in let a = r.activations in let wide = r.seated.wide in
       let x : NodeView = node_of me.0 m in
@@ -128,20 +128,20 @@ module _ (p : Lay) {S : Type 0} where
       let new : NodeView = record x { phase = Done } in
       let now = eq-eqb (g.nodes m).next c ok in
       let whole : Whole = with_node g m new in
-      let rest : (posts p g).rest m ≡ ts = rest_at p g m h.follows ∙ (λ j. phase_rest ts (now j) (phase' j)) in
-      let owing : (posts p g).owing m ≡ [] = owing_at p g m h.follows ∙ ap (phase_owing ts) phase' in
-      let stage : (posts p g).stage m ≡ 1 = stage_at p g m h.follows ∙ ap (phase_stage (eqb (g.nodes m).next c)) phase' in
-      let rest' : (posts p whole).rest m ≡ ts = rest_put p g m new h.follows ∙ ap (λ b. cond b ts []) (eq-eqb x.next c cycle) in
-      let owing' : (posts p whole).owing m ≡ [] = owing_put p g m new h.follows in
-      let stage' : (posts p whole).stage m ≡ 2 = stage_put p g m new h.follows in
-      let finished = finishes p.shape c m (posts p g) (posts p whole) s.words h.inside wide (elsewhere p g m new) (rest' ∙ sym rest)
+      let rest : (progress p g).rest m ≡ ts = rest_at p g m h.follows ∙ (λ j. phase_rest ts (now j) (phase' j)) in
+      let owing : (progress p g).owing m ≡ [] = owing_at p g m h.follows ∙ ap (phase_owing ts) phase' in
+      let stage : (progress p g).stage m ≡ 1 = stage_at p g m h.follows ∙ ap (phase_stage (eqb (g.nodes m).next c)) phase' in
+      let rest' : (progress p whole).rest m ≡ ts = rest_put p g m new h.follows ∙ ap (λ b. cond b ts []) (eq-eqb x.next c cycle) in
+      let owing' : (progress p whole).owing m ≡ [] = owing_put p g m new h.follows in
+      let stage' : (progress p whole).stage m ≡ 2 = stage_put p g m new h.follows in
+      let finished = finishes p.shape c m (progress p g) (progress p whole) s.words h.inside wide (elsewhere p g m new) (rest' ∙ sym rest)
       (owing' ∙ sym owing) stage stage' runs in
       let ws : List ℕ = set s.words (status_place p.shape m) (finished_word c) in
       let w = wired_in p g s.words s.views r.seated in
       let now_begun : node_begun x ≡ x.next + 1 = ap (λ f. x.next + phase_begun f) phase in
       let begun : (spans p g m).begun ≡ x.next + 1 = begun_at p g m h.follows ∙ ap node_begun same ∙ now_begun in
-      let over : (spans p g m).over ≡ x.next + 0 = over_at p g m h.follows ∙ ap node_over same ∙ ap (λ f. x.next + phase_over f) phase in
-      let later : (spans p whole m).over ≡ x.next + 1 = over_put p g m new h.follows in
+      let ended : (spans p g m).ended ≡ x.next + 0 = over_at p g m h.follows ∙ ap node_over same ∙ ap (λ f. x.next + phase_over f) phase in
+      let later : (spans p whole m).ended ≡ x.next + 1 = over_put p g m new h.follows in
       let ready = is_ready p g s.words s.views id me.0 m x.next r.seated at (holder_follows p m h.follows ∙ h.owned) begun given in
       let more : node_drawn x ≡ node_drawn new = ap (λ f. 2 * x.next + phase_drawn f) phase in (
         view_node me.0 m new t,

@@ -1,5 +1,6 @@
 -- What each step of a writer on buffers allows.
 use Rattle.std.proofs.Common.{◌≡◌, ℕ, ◌+◌, ◌-◌, ◌*◌, ◌/◌, ◌<◌, ◌≤◌, inl, inr, ⊎_elim, true, false, cond, ltb, List, []}
+use Rattle.std.specs.Prelude.{Contains}
 use Rattle.std.proofs.Common.{length, set, get_or, refl, sym, ap, ◌∙◌, subst, arith, length-set}
 use lib.Seq.{set-get_or}
 use Rattle.atomic_table.specs.Table.{Me, keeps, Allows}
@@ -12,45 +13,47 @@ use Rattle.board_rule.specs.declared.view.WriteView.{WriteView}
 use Rattle.board_rule.specs.declared.view.BlockView.{BlockView}
 use Rattle.board_rule.specs.declared.view.BlockView.TheVariants.{Free, Filling, Out}
 use Rattle.board_rule.specs.declared.view.View.{View}
-use Rattle.board_rule.specs.Layout.{Lay, first}
+use Rattle.board_rule.specs.Layout.{BoardLayout, first}
 use Rattle.board_rule.specs.View.{Whole, Samples, unwritten}
 use Rattle.board_rule.specs.SampleWords.{packed, samples_in, samples_of}
-use Rattle.board_rule.specs.Areas.{stored_id}
+use Rattle.board_rule.specs.Areas.{delay_by, area_of, stored_id}
 use Rattle.board_rule.specs.BufferRule.{Buffers}
-use Rattle.board_rule.specs.BlockReadings.{lag, is_busy, stamp}
+use Rattle.pw_base.specs.declared.ids.PortId.{PortId}
+use Rattle.board_rule.specs.BlockReadings.{delay_at, busy_cycles, is_busy, stamp}
 use Rattle.board_rule.specs.Spans.{spans, holder, block_at}
 use Rattle.board_rule.specs.BoardRule.{Seated, Holds}
 use Rattle.board_rule.specs.EndViews.{link_at, pool_at, pool_of, writer_of, filler_of, write_of, block_of}
-use Rattle.board_rule.specs.WriterSteps.{write_cycle, LoadsAsWriter, loaded_as_writer, IsGivenBack, StoresHave, have_stored}
-use Rattle.board_rule.specs.BlockSteps.{fill_cycle, LoadsReaders, readers_loaded, StoresSample, sample_stored, StoresReaders}
+use Rattle.board_rule.specs.WriterSteps.{write_cycle, write_area, LoadsAsWriter, loaded_as_writer, IsGivenBack, StoresHave, have_stored}
+use Rattle.board_rule.specs.BlockSteps.{fill_cycle, LoadsReaders, IsReturned, IsZeroAtSecond, readers_loaded, StoresSample, sample_stored, StoresReaders}
 use Rattle.board_rule.specs.BlockSteps.{readers_stored}
-use Rattle.board_rule.specs.Plays.{Turns, Learns}
+use Rattle.board_rule.specs.Plays.{Leaves, Learns}
 use Rattle.board_rule.proofs.LayoutLemmas.{count_is}
-use Rattle.board_rule.proofs.PlainLemmas.{no_late, one_lag}
+use Rattle.board_rule.proofs.WiringLemmas.{late_is}
+use Rattle.board_rule.proofs.DelayLemmas.{area_most}
 use Rattle.board_rule.proofs.PaceLemmas.{paces}
 use Rattle.board_rule.proofs.SpanLemmas.{wired_in}
 use Rattle.board_rule.proofs.HolderLemmas.{got, link_there, pool_there, pool_here, now_running, new_write, new_block, write_step}
 use Rattle.board_rule.proofs.HolderLemmas.{block_step}
 use Rattle.board_rule.proofs.KeepLemmas.{holds_ends}
-use Rattle.board_rule.proofs.AreaLemmas.{link_is as area_is, finds_need, wrote_late, loads_as_writer, stores_have}
-use Rattle.board_rule.proofs.FillingLemmas.{finds_none, frees, CanFill, fills, announces}
+use Rattle.board_rule.proofs.AreaLemmas.{link_is as area_is, finds_need, loads_as_writer, stores_have}
+use Rattle.board_rule.proofs.FillingLemmas.{IsDue, due_named, due_zero, finds_none, frees, CanFill, fills, announces}
 
 -- a load leaves the words
 pub unread_word : (ws : List ℕ) (i : ℕ) (f : List ℕ → Type 0) → f ws → f (set ws i (get_or ws i 0))
 unread_word ws i f h = subst f (sym (set-get_or ws i 0)) h
 
 -- the words are as many as the shape says
-pub room_in : (p : Lay) (g : Whole) (ws : List ℕ) (views : List View) → Seated p g ws views → word_count p.shape ≤ length ws
+pub room_in : (p : BoardLayout) (g : Whole) (ws : List ℕ) (views : List View) → Seated p g ws views → word_count p.shape ≤ length ws
 room_in p g ws views s = let a = s.room in let b = count_is p.shape in let c = length-start_words p.shape s.pooled in omega arith
 
 -- the number in the word of an area
 pub id_of : (status id : ℕ) → status < 4294967296 → io_id_in (io_word_of status id) ≡ id
 id_of status id h = let z : (status + 4294967296 * id) / 4294967296 ≡ id = omega arith in z
 
-module _ (p : Lay) {S : Type 0} (slots id : ℕ) (me : Me S View) (after : ℕ → View) (says : ℕ → Type 0) where
+module _ (p : BoardLayout) {S : Type 0} (slots id : ℕ) (me : Me S View) (after : ℕ → View) (says : ℕ → Type 0) where
   pub load_writer_allowed : (l : ℕ) → LoadsAsWriter p me.0 l → ((found : ℕ) → after found ≡ loaded_as_writer p me.0 l)
       → ((found : ℕ) → found ≡ need_data_word (io_id_in found) → IsGivenBack p me.0 l (io_id_in found) → says found)
-      → Allows (Holds p) slots id me (io_place p.shape l 0) (λ n. n) (Learns after says me)
+      → Allows (Holds p) slots id me (io_place p.shape l (write_area p me.0 l)) (λ n. n) (Learns after says me)
   load_writer_allowed l h is_after it s r _ at fits =
       let g = r.whole in let w = wired_in p g s.words s.views r.seated in let k : ShapeLink = link_at p l in
       let there = link_there p l h.0.0 in let m : ℕ = writer_of p l in
@@ -59,19 +62,21 @@ module _ (p : Lay) {S : Type 0} (slots id : ℕ) (me : Me S View) (after : ℕ �
       (got me.0.writes l (g.ends.writes l) (unwritten 0) ((r.seated.knows id me.0 at).ends.of_write l k there now.2)) in
       let paced = paces p g s.words w r.activations in let b = r.buffers in let sp = spans p g in
       let o = area_is p sp g.ends g.expect s.words w paced b l k there in let wt = o.writer_turn in let w₀ = wt.0 in let w₁ = wt.1 in
-      let loaded : (g.ends.writes l).loaded ≡ (sp m).over = ap (λ (y : WriteView). y.loaded) is ∙ h.1 ∙ sym c in
+      let loaded : (g.ends.writes l).loaded ≡ (sp m).ended = ap (λ (y : WriteView). y.loaded) is ∙ h.1 ∙ sym c in
       let new = loads_as_writer p sp g.ends g.expect s.words w paced b l k there run loaded in
-      let i : ℕ = io_place p.shape l 0 in let found : ℕ = get_or s.words i 0 in
-      let word : found ≡ need_data_word (g.ends.writes l).id =
-      finds_need p sp g.ends g.expect s.words w paced b l k there run (omega arith) in
-      let number : io_id_in found ≡ (g.ends.writes l).id = ap io_id_in word ∙ id_of 1 (g.ends.writes l).id (omega arith) in
+      let i : ℕ = io_place p.shape l (write_area p me.0 l) in let found : ℕ = get_or s.words i 0 in
+      let given : ℕ = stored_id (g.ends.writes l) (delay_by k) in let late = late_is p l k there in
+      let word : found ≡ need_data_word given = ap (λ n. get_or s.words (io_place p.shape l (area_of k (n + 1))) 0) (sym c)
+      ∙ finds_need p sp g.ends g.expect s.words w paced b l k there run (omega arith) in
+      let number : io_id_in found ≡ given = ap io_id_in word ∙ id_of 1 given (omega arith) in
       let first_low = paced.first m (w.from_in l k there) in
       let pool = pool_here p w l k there in
       let y : WriteView = record (write_of me.0 l) { loaded = write_cycle p me.0 l + 1 } in (
         loaded_as_writer p me.0 l,
         keeps,
         tt,
-        holds_ends p s r id i found (loaded_as_writer p me.0 l) me.1 (new_write p g.ends l y) (inl (w.io_in l k there))
+        holds_ends p s r id i found (loaded_as_writer p me.0 l) me.1 (new_write p g.ends l y)
+            (inl (w.io_in l (write_area p me.0 l) k there (area_most k (write_cycle p me.0 l + 1))))
             (write_step p g s.words (set s.words i found) s.views id l k me.0 y at (length-set s.words i found) there now.2
             (now.4 refl) r.seated)
             (unread_word s.words i (λ ws. Buffers p sp (new_write p g.ends l y) g.expect ws)
@@ -81,16 +86,17 @@ module _ (p : Lay) {S : Type 0} (slots id : ℕ) (me : Me S View) (after : ℕ �
           sym (is_after found),
           refl,
           it found (word ∙ ap (need_data_word) (sym number)) (
-            number ∙ ap (λ (z : WriteView). z.id) is ∙ ap (stored_id (write_of me.0 l)) (sym (no_late p w l)),
-            (λ e. number ∙ o.unnamed (omega arith)),
-            (λ e. let z = wrote_late p sp g.ends g.expect s.words w paced b l k there (omega arith) (pool_of p l)
-                (pool_at p (pool_of p l)) pool.0 pool.1 in omega arith),
+            number ∙ ap (λ (z : WriteView). stored_id z (delay_by k)) is ∙ ap (stored_id (write_of me.0 l)) (sym late),
+            (λ e. number ∙ o.unnamed (delay_by k) (omega arith) (omega arith)),
+            (λ e. let z = (b.links (pool_of p l) l (pool_at p (pool_of p l)) k pool.0 pool.1 there).named (delay_by k) (omega arith)
+                (omega arith) in omega arith),
           ),
         ),
       )
 
   pub store_have_allowed : (l num : ℕ) → StoresHave p me.0 l num → ((found : ℕ) → after found ≡ have_stored p me.0 l num)
-      → Allows (Holds p) slots id me (io_place p.shape l 0) (λ _. have_data_word num) (λ _. Turns after me (have_data_word num))
+      → Allows (Holds p) slots id me (io_place p.shape l (write_area p me.0 l)) (λ _. have_data_word num)
+      (λ _. Leaves after me (have_data_word num))
   store_have_allowed l num h is_after s r _ at fits =
       let g = r.whole in let w = wired_in p g s.words s.views r.seated in let k : ShapeLink = link_at p l in
       let there = link_there p l h.0.0 in let m : ℕ = writer_of p l in
@@ -101,7 +107,7 @@ module _ (p : Lay) {S : Type 0} (slots id : ℕ) (me : Me S View) (after : ℕ �
       let blk : g.ends.blocks q num ≡ (let z : BlockView = Out (write_cycle p me.0 l + 1) in z) =
       sym (got me.0.blocks (block_at p q num) (g.ends.blocks q num) Free
       (ks.of_block q num x pool.0 h.3 (ap (holder p) pool.2 ∙ now.2))) ∙ h.4 in
-      let paced = paces p g s.words w r.activations in let sp = spans p g in let i : ℕ = io_place p.shape l 0 in
+      let paced = paces p g s.words w r.activations in let sp = spans p g in let i : ℕ = io_place p.shape l (write_area p me.0 l) in
       let word : ℕ = have_data_word num in
       let new = stores_have p sp g.ends g.expect s.words w paced r.buffers l k there num q x pool.0 pool.1
       (room_in p g s.words s.views r.seated) run (ap (λ (z : WriteView). z.loaded) is ∙ h.1 ∙ ap (λ n. n + 1) (sym c))
@@ -111,29 +117,38 @@ module _ (p : Lay) {S : Type 0} (slots id : ℕ) (me : Me S View) (after : ℕ �
         have_stored p me.0 l num,
         keeps,
         tt,
-        holds_ends p s r id i word (have_stored p me.0 l num) me.1 (new_write p g.ends l y) (inl (w.io_in l k there))
+        holds_ends p s r id i word (have_stored p me.0 l num) me.1 (new_write p g.ends l y)
+            (inl (w.io_in l (write_area p me.0 l) k there (area_most k (write_cycle p me.0 l + 1))))
             (write_step p g s.words (set s.words i word) s.views id l k me.0 y at (length-set s.words i word) there now.2
             (now.4 refl) r.seated)
-            (subst (λ (z : WriteView). Buffers p sp (new_write p g.ends l z) g.expect (set s.words i word))
-            (λ j. record { loaded = (is j).loaded; stored = c j + 1; id = num; last = (is j).id }) new),
+            (subst (λ (z : WriteView × ℕ). Buffers p sp (new_write p g.ends l z.0) g.expect
+            (set s.words (io_place p.shape l (area_of k (z.1 + 1))) word))
+            (λ j. (record { loaded = (is j).loaded; stored = c j + 1; id = num; last = (is j).id }, c j)) new),
         (sym (is_after word), refl),
       )
 
   pub load_readers_allowed : (q n : ℕ) → LoadsReaders p me.0 q n → ((found : ℕ) → after found ≡ readers_loaded p me.0 q n found)
-      → ((found : ℕ) → found ≡ 0 → says found)
+      → ((found : ℕ) → found ≡ 0 → IsReturned p me.0 q n → IsZeroAtSecond p me.0 q n → says found)
       → Allows (Holds p) slots id me (readers_place p.shape q n) (λ k. k) (Learns after says me)
   load_readers_allowed q n h is_after it s r _ at fits =
       let g = r.whole in let w = wired_in p g s.words s.views r.seated in let x : PoolShape = pool_at p q in
       let there = pool_there p q h.0.0 in let m : ℕ = filler_of p q in
       let now = now_running p s r id false me.0 m at h.0.3 h.0.4 in let run = now.1 in let c = now.0 in
-      let one = one_lag p w x in let due : fill_cycle p me.0 q + 1 - lag p x ≡ (spans p g m).over = omega arith in
-      let is : g.ends.blocks q n ≡ (let z : BlockView = Out (spans p g m).over in z) =
-      sym (got me.0.blocks (block_at p q n) (g.ends.blocks q n) Free
-      ((r.seated.knows id me.0 at).ends.of_block q n x there h.0.1 now.2)) ∙ h.2 ∙ ap (λ k. let z : BlockView = Out k in z) due in
+      let stamp : ℕ = fill_cycle p me.0 q + 1 - busy_cycles p x in let soon = h.3 in
+      let is : IsDue p (spans p g) g.ends g.expect s.words w (paces p g s.words w r.activations) r.buffers q n x there h.0.1 stamp = (
+        sym (got me.0.blocks (block_at p q n) (g.ends.blocks q n) Free
+            ((r.seated.knows id me.0 at).ends.of_block q n x there h.0.1 now.2)) ∙ h.2,
+        omega arith,
+      ) in
       let paced = paces p g s.words w r.activations in let sp = spans p g in
       let i : ℕ = readers_place p.shape q n in let found : ℕ = get_or s.words i 0 in
-      let none = finds_none p sp g.ends g.expect s.words w paced r.buffers q n x there h.0.1 is run in
-      let new = frees p sp g.ends g.expect s.words w paced r.buffers q n x there h.0.1 is run in
+      let none = finds_none p sp g.ends g.expect s.words w paced r.buffers q n x there h.0.1 stamp is run in
+      let written : (l : ℕ) → Contains x.links l → g.ends.writes l ≡ write_of me.0 l = λ l in_pool. let k = w.there q l x there in_pool in
+      sym (got me.0.writes l (g.ends.writes l) (unwritten 0) ((r.seated.knows id me.0 at).ends.of_write l k.0 k.1
+      (ap (λ (z : PortId). holder p (p.index z.node)) k.2 ∙ now.2))) in
+      let loaded : (l : ℕ) → Contains x.links l → (g.ends.writes l).loaded ≡ (sp m).ended + 1 = λ l in_pool.
+      ap (λ (z : WriteView). z.loaded) (written l in_pool) ∙ h.1 l in_pool ∙ ap (λ z. z + 1) (sym c) in
+      let new = frees p sp g.ends g.expect s.words w paced r.buffers q n x there h.0.1 stamp is run loaded in
       let freed : View = readers_loaded p me.0 q n 0 in
       let same : readers_loaded p me.0 q n found ≡ freed = ap (readers_loaded p me.0 q n) none in (
         freed,
@@ -143,7 +158,15 @@ module _ (p : Lay) {S : Type 0} (slots id : ℕ) (me : Me S View) (after : ℕ �
             (block_step p g s.words (set s.words i found) s.views id q n x me.0 Free at (length-set s.words i found) there h.0.1 now.2
             (now.4 refl) r.seated)
             (unread_word s.words i (λ ws. Buffers p sp (new_block p g.ends q n Free) g.expect ws) new),
-        (sym (is_after found ∙ same), refl, it found none),
+        (
+          sym (is_after found ∙ same),
+          refl,
+          it found none (λ l in_pool late stored new_cycle. let wr = written l in_pool in
+              let st : (g.ends.writes l).stored ≡ (sp m).ended = ap (λ (z : WriteView). z.stored) wr ∙ stored ∙ sym c in
+              ap (λ (z : WriteView). stored_id z (delay_at p l)) (sym wr)
+              ∙ due_named p sp g.ends g.expect s.words w paced r.buffers q n x there h.0.1 stamp is (omega arith) l in_pool late st)
+              (λ two second. due_zero p sp g.ends g.expect s.words w paced r.buffers q n x there h.0.1 stamp is loaded two (c ∙ second)),
+        ),
       )
 
   -- the samples of this cycle
@@ -152,7 +175,7 @@ module _ (p : Lay) {S : Type 0} (slots id : ℕ) (me : Me S View) (after : ℕ �
       (λ i. cond (a i) (samples_in p e (b i) q) [])
 
   pub store_sample_allowed : (q n i word : ℕ) → StoresSample p me.0 q n i word → ((found : ℕ) → after found ≡ sample_stored p me.0 q n i)
-      → Allows (Holds p) slots id me (sample_place p.shape q n i) (λ _. word) (λ _. Turns after me word)
+      → Allows (Holds p) slots id me (sample_place p.shape q n i) (λ _. word) (λ _. Leaves after me word)
   store_sample_allowed q n i word h is_after s r _ at fits =
       let g = r.whole in let w = wired_in p g s.words s.views r.seated in let x : PoolShape = pool_at p q in
       let there = pool_there p q h.0.0 in let m : ℕ = filler_of p q in
@@ -165,13 +188,13 @@ module _ (p : Lay) {S : Type 0} (slots id : ℕ) (me : Me S View) (after : ℕ �
         is n h.0.1 ∙ z.0,
         z.1,
         λ a l busy. subst
-            (λ (y : ℕ × BlockView). (stamp y.0 y.1 < y.0 + 1) × (y.0 + 1 < stamp y.0 y.1 + lag p x)) (λ j. (sym c j, sym (is a l) j))
+            (λ (y : ℕ × BlockView). (stamp y.0 y.1 < y.0 + 1) × (y.0 + 1 < stamp y.0 y.1 + busy_cycles p x)) (λ j. (sym c j, sym (is a l) j))
             (z.2 a l (ap is_busy (sym (is a l)) ∙ busy)),
       )) h.4 in
       let new = fills p sp g.ends g.expect s.words w paced r.buffers q n x there h.0.1 i
       (room_in p g s.words s.views r.seated) run h.2 can in
       let low = paced.first m (let z = (w.readers_in q n x there h.0.1).0 in h.0.3.2) in
-      let text : packed (samples_of p g.expect ((sp m).over + 1) q) i ≡ word = ap (λ z. packed (samples_of p g.expect (z + 1) q) i) c
+      let text : packed (samples_of p g.expect ((sp m).ended + 1) q) i ≡ word = ap (λ z. packed (samples_of p g.expect (z + 1) q) i) c
       ∙ ap (λ z. packed z i) (samples_now g.expect (fill_cycle p me.0 q) q (omega arith))
       ∙ ap (λ (z : Samples). packed (samples_in p z (fill_cycle p me.0 q) q) i) (sym k.expects) ∙ sym h.3 in
       let y : BlockView = Filling (i + 1) in let r₁ = (w.readers_in q n x there h.0.1).0 in (
@@ -187,7 +210,7 @@ module _ (p : Lay) {S : Type 0} (slots id : ℕ) (me : Me S View) (after : ℕ �
 
   pub store_readers_allowed : (q n : ℕ) → StoresReaders p me.0 q n → ((found : ℕ) → after found ≡ readers_stored p me.0 q n)
       → Allows (Holds p) slots id me (readers_place p.shape q n) (λ _. length (pool_at p q).links)
-      (λ _. Turns after me (length (pool_at p q).links))
+      (λ _. Leaves after me (length (pool_at p q).links))
   store_readers_allowed q n h is_after s r _ at fits =
       let g = r.whole in let w = wired_in p g s.words s.views r.seated in let x : PoolShape = pool_at p q in
       let there = pool_there p q h.0.0 in let m : ℕ = filler_of p q in

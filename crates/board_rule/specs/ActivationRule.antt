@@ -3,22 +3,22 @@
 -- project's.
 use Rattle.std.specs.Prelude.{◌≡◌, ◌≢◌, ℕ, suc, ◌-◌, ◌<◌, ◌≤◌, true, false, cond, eqb, List, length, slice_index}
 use Rattle.board_rule.specs.declared.view.Phase.TheVariants.{Idle}
-use Rattle.board_rule.specs.declared.view.Drive.{Drive}
-use Rattle.board_rule.specs.declared.view.Drive.TheVariants.{Between, BeginDrawn, Reset, Half, Kick}
+use Rattle.board_rule.specs.declared.view.DriverPhase.{DriverPhase}
+use Rattle.board_rule.specs.declared.view.DriverPhase.TheVariants.{Between, BeginDrawn, Reset, Half, Kick}
 use Rattle.board_rule.specs.declared.view.NodeView.{NodeView}
 use Rattle.pw_base.specs.Words.{finished_word, not_triggered_word}
 use Rattle.pw_base.specs.Layout.{pending_place, status_place}
-use Rattle.board_rule.specs.Layout.{Lay, nodes, first, last}
+use Rattle.board_rule.specs.Layout.{BoardLayout, nodes, first, last}
 use Rattle.board_rule.specs.Left.{dependencies, left_of}
 use Rattle.board_rule.specs.Sums.{total, times}
-use Rattle.board_rule.specs.Phases.{phase_rest, phase_owing, phase_stage, PhaseOk, IsTold, drive_rest, drive_owing, drive_stage}
+use Rattle.board_rule.specs.Phases.{phase_rest, phase_owing, phase_stage, PhaseOk, IsLowered, drive_rest, drive_owing, drive_stage}
 use Rattle.board_rule.specs.Phases.{is_resetting, is_between}
 use Rattle.board_rule.specs.View.{Whole}
-pub use Rattle.board_rule.specs.NodeRow.{Posts, NodeOk}
+pub use Rattle.board_rule.specs.NodeRow.{Progress, NodeOk}
 
-module _ (p : Lay) where
-  abbrev pub posts : Whole → Posts
-  posts g = record {
+module _ (p : BoardLayout) where
+  abbrev pub progress : Whole → Progress
+  progress g = record {
     rest = λ m. cond (eqb m p.driver) (drive_rest (p.targets m) g.lead.drive)
         (phase_rest (p.targets m) (eqb (g.nodes m).next g.lead.cycle) (g.nodes m).phase);
     owing = λ m. cond (eqb m p.driver) (drive_owing (p.targets m) g.lead.drive) (phase_owing (p.targets m) (g.nodes m).phase);
@@ -26,14 +26,14 @@ module _ (p : Lay) where
         (phase_stage (eqb (g.nodes m).next g.lead.cycle) (g.nodes m).phase);
   }
 
-  -- the dependencies of n that have yet to take it down, and the phases that owe it
-  abbrev pub left : Posts → ℕ → ℕ
+  -- the dependencies of n that have yet to lower it, and the phases that owe it
+  abbrev pub left : Progress → ℕ → ℕ
   left s n = left_of (λ m. times n (s.rest m)) (dependencies p n)
 
-  abbrev pub debts : Posts → ℕ → ℕ
+  abbrev pub debts : Progress → ℕ → ℕ
   debts s n = total (λ m. times n (s.owing m)) (nodes p)
 
-  pub record Runs (c : ℕ) (s : Posts) (words : List ℕ) : Type 0 where
+  pub record Runs (c : ℕ) (s : Progress) (words : List ℕ) : Type 0 where
     pub node : (n : ℕ) → n < nodes p → NodeOk c (slice_index words (pending_place p.shape n))
         (slice_index words (status_place p.shape n)) (s.stage n) (left s n) (debts s n)
 
@@ -49,7 +49,7 @@ module _ (p : Lay) where
     pub status_old : (n : ℕ) → n < nodes p → k ≤ n → slice_index words (status_place p.shape n) ≡ old_status c
 
   -- the activation words in the cycle c, by the driver's phase
-  abbrev pub Words : ℕ → Posts → Drive → List ℕ → Type 0
+  abbrev pub Words : ℕ → Progress → DriverPhase → List ℕ → Type 0
   Words c s Between words = Resets c 0 0 words
   Words c s BeginDrawn words = Resets c 0 0 words
   Words c s (Reset i) words = Resets c i i words
@@ -57,11 +57,11 @@ module _ (p : Lay) where
   Words c s _ words = Runs c s words
 
   -- the driver's phase names nodes and targets that there are
-  abbrev pub DriveOk : Drive → Type 0
-  DriveOk (Reset i) = i < nodes p
-  DriveOk (Half i) = i < nodes p
-  DriveOk (Kick i owes) = IsTold (length (p.targets p.driver)) i owes
-  DriveOk _ = Unit {0}
+  abbrev pub DriverPhaseOk : DriverPhase → Type 0
+  DriverPhaseOk (Reset i) = i < nodes p
+  DriverPhaseOk (Half i) = i < nodes p
+  DriverPhaseOk (Kick i owes) = IsLowered (length (p.targets p.driver)) i owes
+  DriverPhaseOk _ = Unit {0}
 
   abbrev pub IsIdle : ℕ → NodeView → Type 0
   IsIdle c x = (x.next ≡ c) × (x.phase ≡ Idle)
@@ -71,8 +71,8 @@ module _ (p : Lay) where
     pub later : first p ≤ g.lead.cycle
     pub early : g.lead.cycle ≤ last p
     pub within : is_between g.lead.drive ≡ false → g.lead.cycle < last p
-    pub drive : DriveOk g.lead.drive
+    pub drive : DriverPhaseOk g.lead.drive
     pub followers : (n : ℕ) → n < nodes p → n ≢ p.driver
         → PhaseOk (length (p.targets n)) g.lead.cycle (g.nodes n).next (g.nodes n).phase
     pub resting : is_resetting g.lead.drive ≡ true → (n : ℕ) → n < nodes p → n ≢ p.driver → IsIdle g.lead.cycle (g.nodes n)
-    pub laid : Words g.lead.cycle (posts g) g.lead.drive words
+    pub laid : Words g.lead.cycle (progress g) g.lead.drive words

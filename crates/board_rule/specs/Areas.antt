@@ -8,12 +8,12 @@ use Rattle.board_rule.specs.declared.view.WriteView.{WriteView}
 use Rattle.board_rule.specs.declared.view.ReadView.{ReadView}
 
 -- 1 where the reader is one cycle late
-abbrev pub late_by : ShapeLink → ℕ
-late_by k = cond k.delayed 1 0
+abbrev pub delay_by : ShapeLink → ℕ
+delay_by k = cond k.delayed 1 0
 
 -- READING CYCLE: in which the reader of a link has a block that was announced in a cycle
 abbrev pub reading_cycle : ShapeLink → ℕ → ℕ
-reading_cycle k cycle = cycle + late_by k
+reading_cycle k cycle = cycle + delay_by k
 
 -- the area that has the block of a stamp, which is one more than the cycle in which the block was announced
 abbrev pub area_of : ShapeLink → ℕ → ℕ
@@ -25,23 +25,23 @@ stored_id w a = cond (eqb a 0) w.id w.last
 
 -- the cycles, from the first, in which a node has stored FINISHED, and those in which it has stored its Start
 pub record Span : Type 0 where
-  pub over : ℕ
+  pub ended : ℕ
   pub begun : ℕ
 
--- A LINK of a pool of so many blocks, in an epoch from the cycle `first`. `turns`: a turn is inside the node's
+-- A LINK of a pool of `n` blocks, in an epoch from the cycle `first`. `turns`: a turn is inside the node's
 -- Running. Of the stores `a` ago, 0 or 1:
 -- `have` and `need` say what the area holds, `unnamed` and `named` whether a block was ever stored there. `found`: the
 -- reader has the block that its area names
 pub record LinkOk (first blocks : ℕ) (k : ShapeLink) (writer reader : Span) (w : WriteView) (r : ReadView)
     (area : ℕ → ℕ) : Type 0 where
-  pub writer_turn : (writer.over ≤ w.stored) × (w.stored ≤ w.loaded) × (w.loaded ≤ writer.begun)
-  pub reader_turn : (reader.over ≤ r.stored) × (r.stored ≤ r.lowered) × (r.lowered ≤ r.loaded)
+  pub writer_turn : (writer.ended ≤ w.stored) × (w.stored ≤ w.loaded) × (w.loaded ≤ writer.begun)
+  pub reader_turn : (reader.ended ≤ r.stored) × (r.stored ≤ r.lowered) × (r.lowered ≤ r.loaded)
       × (r.loaded ≤ reader.begun)
   pub later : (first ≤ w.stored) × (first ≤ r.stored)
-  pub have : (a : ℕ) → a ≤ late_by k → r.stored + a < w.stored + late_by k
+  pub have : (a : ℕ) → a ≤ delay_by k → r.stored + a < w.stored + delay_by k
       → area (area_of k (w.stored + a)) ≡ have_data_word (stored_id w a)
-  pub need : (a : ℕ) → a ≤ late_by k → w.stored + late_by k ≤ r.stored + a
+  pub need : (a : ℕ) → a ≤ delay_by k → w.stored + delay_by k ≤ r.stored + a
       → area (area_of k (w.stored + a)) ≡ need_data_word (stored_id w a)
-  pub unnamed : (a : ℕ) → a ≤ late_by k → w.stored + late_by k ≤ first + a → stored_id w a ≡ no_block
-  pub named : (a : ℕ) → a ≤ late_by k → first + a < w.stored + late_by k → stored_id w a < blocks
-  pub found : (a : ℕ) → a ≤ late_by k → r.stored < r.loaded → w.stored + late_by k ≡ r.loaded + a → r.id ≡ stored_id w a
+  pub unnamed : (a : ℕ) → a ≤ delay_by k → w.stored + delay_by k ≤ first + a → stored_id w a ≡ no_block
+  pub named : (a : ℕ) → a ≤ delay_by k → first + a < w.stored + delay_by k → stored_id w a < blocks
+  pub found : (a : ℕ) → a ≤ delay_by k → r.stored < r.loaded → w.stored + delay_by k ≡ r.loaded + a → r.id ≡ stored_id w a

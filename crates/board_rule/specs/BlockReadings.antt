@@ -9,8 +9,8 @@ use Rattle.board_rule.specs.declared.view.WriteView.{WriteView}
 use Rattle.board_rule.specs.declared.view.ReadView.{ReadView}
 use Rattle.board_rule.specs.declared.view.BlockView.{BlockView}
 use Rattle.board_rule.specs.declared.view.BlockView.TheVariants.{Free, Filling, Out}
-use Rattle.board_rule.specs.Layout.{Lay}
-use Rattle.board_rule.specs.Areas.{late_by}
+use Rattle.board_rule.specs.Layout.{BoardLayout}
+use Rattle.board_rule.specs.Areas.{delay_by}
 
 -- what all seats know of the links, by number, and of the blocks, by pool and number
 pub record Ends : Type 0 where
@@ -22,11 +22,11 @@ abbrev pub is_busy : BlockView → Bool
 is_busy Free = false
 is_busy _ = true
 
--- one more than the cycle whose samples a block has, where its writer has ended `over` cycles
+-- one more than the cycle whose samples a block has, where its writer has ended `ended` cycles
 abbrev pub stamp : ℕ → BlockView → ℕ
-stamp over Free = 0
-stamp over (Filling i) = over + 1
-stamp over (Out n) = n
+stamp ended Free = 0
+stamp ended (Filling i) = ended + 1
+stamp ended (Out n) = n
 
 -- how many of its words have their samples
 abbrev pub filled : ℕ → BlockView → ℕ
@@ -34,18 +34,18 @@ filled words Free = 0
 filled words (Filling i) = i
 filled words (Out n) = words
 
-module _ (p : Lay) where
+module _ (p : BoardLayout) where
   -- a link by its number
-  abbrev pub late_at : ℕ → ℕ
-  late_at l = unwrap_or (option_map late_by (slice_get p.shape.links l)) 0
+  abbrev pub delay_at : ℕ → ℕ
+  delay_at l = unwrap_or (option_map delay_by (slice_get p.shape.links l)) 0
 
-  -- for how many cycles a block of the pool is busy: until its writer has ended so many after the one before its stamp
-  abbrev pub lag : PoolShape → ℕ
-  lag x = cond (list_any (λ k. k.delayed) (links_from p.shape x.port)) 2 1
+  -- for how many cycles a block of the pool is busy: until its writer has ended `n` after the one before its stamp
+  abbrev pub busy_cycles : PoolShape → ℕ
+  busy_cycles x = cond (list_any (λ k. k.delayed) (links_from p.shape x.port)) 2 1
 
-  -- how many readers of the pool have not yet taken down the block of the stamp n
+  -- how many readers of the pool have not yet lowered the block of the stamp n
   abbrev pub waiting : (ℕ → ReadView) → PoolShape → ℕ → ℕ
-  waiting reads x n = sum_by (λ l. cond (ltb (reads l).lowered (n + late_at l)) 1 0) x.links
+  waiting reads x n = sum_by (λ l. cond (ltb (reads l).lowered (n + delay_at l)) 1 0) x.links
 
   abbrev pub readers_of : (ℕ → ReadView) → PoolShape → BlockView → ℕ
   readers_of reads x (Out n) = waiting reads x n

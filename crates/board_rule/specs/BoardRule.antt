@@ -6,7 +6,7 @@ use mathlib.Core.Option.{some}
 use lib.ListN.{get_elem?}
 use Rattle.atomic_table.specs.Table.{State}
 use Rattle.board_rule.specs.declared.view.View.{View}
-use Rattle.board_rule.specs.Layout.{Lay, IsSound, IsUndelayed, nodes, first, word_count}
+use Rattle.board_rule.specs.Layout.{BoardLayout, IsSound, nodes, first, word_count}
 use Rattle.pw_base.specs.Layout.{event_place, event_count}
 use Rattle.pw_base.specs.Pools.{IsPooledShape}
 use Rattle.board_rule.specs.View.{Whole, idle}
@@ -16,16 +16,15 @@ use Rattle.board_rule.specs.SampleWords.{IsTable}
 use Rattle.board_rule.specs.BufferRule.{Buffers}
 use Rattle.board_rule.specs.Spans.{spans, KnowsEnds, AreStill}
 
-module _ (p : Lay) where
-  -- what the view at the place j among all views says of the whole: no two views of seats have the same number. A view
+module _ (p : BoardLayout) where
+  -- what the view at the index j among all views says of the whole: no two views of seats have the same number. A view
   -- with a greater number is
   -- kept of a board that is closed, and then no seat is split off any more
   pub record Knows (g : Whole) (j : ℕ) (v : View) : Type 0 where
     pub kept : p.seats < v.number → p.seats < g.split
     pub here : v.number ≤ p.seats → g.seat_at v.number ≡ j
-    pub leads : v.number ≡ p.seats → (v.lead ≡ g.lead) × (v.split ≡ g.split) × (v.trail.looks ≡ g.looks)
+    pub is_driver : v.number ≡ p.seats → (v.lead ≡ g.lead) × (v.split ≡ g.split) × (v.trail.looks ≡ g.looks)
     pub expects : v.expect ≡ g.expect
-    pub table : v.number < p.seats → IsTable p g.expect
     pub is_split : v.number < p.seats → v.number < g.split
     pub owns : (n : ℕ) → n < nodes p → n ≢ p.driver → p.seat_of n ≡ v.number → get_elem? v.nodes n ≡ some (g.nodes n)
     pub ends : KnowsEnds p g.ends v.number v.writes v.reads v.blocks
@@ -35,14 +34,16 @@ module _ (p : Lay) where
   pub record Seated (g : Whole) (words : List ℕ) (views : List View) : Type 0 where
     pub sound : IsSound p
     pub pooled : IsPooledShape p.shape
-    pub undelayed : IsUndelayed p.shape
     pub room : word_count p.shape ≡ length words
     pub wide : nodes p + nodes p < length words
     pub long : event_place p.shape (event_count p.shape) ≤ length words
     pub knows : (j : ℕ) (v : View) → get_elem? views j ≡ some v → Knows g j v
+    pub most : g.split ≤ p.seats + 1
+    pub present : g.split ≤ p.seats → (i : ℕ) → i ≤ p.seats → (i < p.seats → i < g.split)
+        → (v : View) × (get_elem? views (g.seat_at i) ≡ some v) × (v.number ≡ i)
     pub unsplit : (n : ℕ) → n < nodes p → n ≢ p.driver → g.split ≤ p.seat_of n → g.nodes n ≡ idle (first p)
     pub still : AreStill p g.ends g.split
-    pub table : (l : ℕ) → first p < (g.ends.writes l).stored → IsTable p g.expect
+    pub table : (n : ℕ) → n < nodes p → n ≢ p.driver → p.seat_of n < g.split → IsTable p g.expect
 
   -- THE RULE
   pub record Holds {S : Type 0} (s : State S View) : Type 0 where

@@ -6,13 +6,13 @@ use Rattle.pw_base.specs.Pools.{pools_of}
 use Rattle.board_rule.specs.declared.view.BlockView.{BlockView}
 use Rattle.board_rule.specs.declared.view.BlockView.TheVariants.{Free, Filling, Out}
 use Rattle.board_rule.specs.declared.view.View.{View}
-use Rattle.board_rule.specs.Layout.{Lay}
+use Rattle.board_rule.specs.Layout.{BoardLayout}
 use Rattle.board_rule.specs.Spans.{block_at}
 use Rattle.board_rule.specs.EndViews.{pool_at, filler_of, block_of}
 use Rattle.board_rule.specs.SeatNodes.{HasNode}
 use Rattle.board_rule.specs.BlockSteps.{fill_cycle}
 
--- a block is filled with so many words, or was announced in the cycle before the stamp
+-- a block is filled with `n` words, or was announced in the cycle before the stamp
 abbrev pub is_filled : ℕ → ℕ → BlockView → Bool
 is_filled words stamp Free = false
 is_filled words stamp (Filling i) = eqb i words
@@ -23,7 +23,7 @@ abbrev pub older : Option (ℕ × ℕ) → ℕ → BlockView → Option (ℕ × 
 older before b (Out n) = unwrap_or (option_map (λ o. cond (leb o.1 n) before (Some (b, n))) before) (Some (b, n))
 older before b _ = before
 
-module _ (p : Lay) where
+module _ (p : BoardLayout) where
   -- the pool is filled by a node of the seat
   abbrev pub HasPool : View → ℕ → Type 0
   HasPool v q = (q < length (pools_of p.shape)) × HasNode false p v (filler_of p q)

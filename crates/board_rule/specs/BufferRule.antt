@@ -5,44 +5,56 @@ use Rattle.pw_base.specs.declared.shape.ShapeLink.{ShapeLink}
 use Rattle.pw_base.specs.declared.pools.PoolShape.{PoolShape}
 use Rattle.pw_base.specs.Layout.{io_place, readers_place, sample_place}
 use Rattle.pw_base.specs.Pools.{pools_of}
+use Rattle.board_rule.specs.declared.view.WriteView.{WriteView}
 use Rattle.board_rule.specs.declared.view.ReadView.{ReadView}
 use Rattle.board_rule.specs.declared.view.BlockView.{BlockView}
 use Rattle.board_rule.specs.declared.view.BlockView.TheVariants.{Out}
-use Rattle.board_rule.specs.Layout.{Lay, first}
+use Rattle.board_rule.specs.Layout.{BoardLayout, first}
 use Rattle.board_rule.specs.StartViews.{Samples}
 use Rattle.board_rule.specs.SampleWords.{packed, samples_of}
 use Rattle.board_rule.specs.Areas.{stored_id, Span, LinkOk}
-use Rattle.board_rule.specs.BlockReadings.{Ends, is_busy, stamp, filled, late_at, lag, readers_of}
+use Rattle.board_rule.specs.BlockReadings.{Ends, is_busy, stamp, filled, delay_at, busy_cycles, readers_of}
 
-module _ (p : Lay) where
+module _ (p : BoardLayout) where
   -- A BLOCK b of the pool x, whose number is q. `low` and `high`: from its filling until its writer finds all readers
   -- gone
-  pub record BlockOk (q b : ℕ) (x : PoolShape) (writer : Span) (reads : ℕ → ReadView) (e : Samples) (block : BlockView)
+  pub record BlockOk (q b : ℕ) (x : PoolShape) (filler : Span) (reads : ℕ → ReadView) (e : Samples) (block : BlockView)
       (words : List ℕ) : Type 0 where
-    pub low : is_busy block ≡ true → writer.over < stamp writer.over block + lag p x
-    pub high : is_busy block ≡ true → stamp writer.over block ≤ writer.begun
+    pub low : is_busy block ≡ true → filler.ended < stamp filler.ended block + busy_cycles p x
+    pub high : is_busy block ≡ true → stamp filler.ended block ≤ filler.begun
     pub full : filled x.words block ≤ x.words
     pub readers : slice_index words (readers_place p.shape q b) ≡ readers_of p reads x block
     pub samples : (i : ℕ) → i < filled x.words block
-        → slice_index words (sample_place p.shape q b i) ≡ packed (samples_of p e (stamp writer.over block) q) i
+        → slice_index words (sample_place p.shape q b i) ≡ packed (samples_of p e (stamp filler.ended block) q) i
 
-  -- A POOL x, whose number is q. `out`: a block that a reader has yet to take down is out. `apart` and `near`: busy
-  -- blocks have stamps that differ, by less than the lag
-  pub record PoolOk (q : ℕ) (x : PoolShape) (over : ℕ) (ends : Ends) : Type 0 where
-    pub out : (l a n : ℕ) → Contains x.links l → a ≤ late_at p l → first p + a < (ends.writes l).stored + late_at p l
-        → (ends.reads l).lowered + a < (ends.writes l).stored + late_at p l → n + a ≡ (ends.writes l).stored
-        → ends.blocks q (stored_id (ends.writes l) a) ≡ Out n
-    pub apart : (a b : ℕ) → a < x.blocks → b < x.blocks → is_busy (ends.blocks q a) ≡ true
-        → is_busy (ends.blocks q b) ≡ true → stamp over (ends.blocks q a) ≡ stamp over (ends.blocks q b) → a ≡ b
-    pub near : (a b : ℕ) → a < x.blocks → b < x.blocks → is_busy (ends.blocks q a) ≡ true
-        → is_busy (ends.blocks q b) ≡ true → stamp over (ends.blocks q a) < stamp over (ends.blocks q b) + lag p x
+  -- THE BLOCKS THAT A LINK NAMES, where it is so late and its writer has loaded a link of the pool x, this one or another,
+  -- in `n` cycles. Of the stores `a` ago, 0 or 1, whose stamp is n: `out`: the block is out until that load in the
+  -- cycle in which it is reclaimed. `names`: no other block with the stamp is out. `zero`: the block that a delayed link
+  -- names from the start on is number 0
+  pub record NamesBlocks (x : PoolShape) (late loaded : ℕ) (w : WriteView) (blocks : ℕ → BlockView) : Type 0 where
+    pub out : (a n : ℕ) → a ≤ late → n + a ≡ w.stored → first p < n + late → loaded < n + busy_cycles p x
+        → blocks (stored_id w a) ≡ Out n
+    pub zero : late ≡ 1 → (a : ℕ) → a ≤ 1 → first p + a ≡ w.stored → stored_id w a ≡ 0
+    pub names : (a n b : ℕ) → a ≤ late → n + a ≡ w.stored → first p < n + late → b < x.blocks → blocks b ≡ Out n
+        → stored_id w a ≡ b
 
-  -- BUFFER RULE: each link of each pool, each block and each pool, where `spans` has what each place has done
+  -- A POOL x. `named`: what one of its links names is out until the writer has loaded all of them. `apart` and `near`: busy
+  -- blocks have stamps that differ, by less than its busy cycles
+  pub record PoolOk (x : PoolShape) (filler : Span) (writes : ℕ → WriteView) (blocks : ℕ → BlockView)
+      : Type 0 where
+    pub named : (l m : ℕ) → Contains x.links l → Contains x.links m
+        → NamesBlocks x (delay_at p l) (writes m).loaded (writes l) blocks
+    pub apart : (a b : ℕ) → a < x.blocks → b < x.blocks → is_busy (blocks a) ≡ true → is_busy (blocks b) ≡ true
+        → stamp filler.ended (blocks a) ≡ stamp filler.ended (blocks b) → a ≡ b
+    pub near : (a b : ℕ) → a < x.blocks → b < x.blocks → is_busy (blocks a) ≡ true → is_busy (blocks b) ≡ true
+        → stamp filler.ended (blocks a) < stamp filler.ended (blocks b) + busy_cycles p x
+
+  -- BUFFER RULE: each link of each pool, each block and each pool, where `spans` has what each index has done
   pub record Buffers (spans : ℕ → Span) (ends : Ends) (e : Samples) (words : List ℕ) : Type 0 where
     pub links : (q l : ℕ) (x : PoolShape) (k : ShapeLink) → slice_get (pools_of p.shape) q ≡ Some x → Contains x.links l
-        → slice_get p.shape.links l ≡ Some k → LinkOk (first p) x.blocks k (spans (p.place k.from.node))
-        (spans (p.place k.to.node)) (ends.writes l) (ends.reads l) (λ a. slice_index words (io_place p.shape l a))
+        → slice_get p.shape.links l ≡ Some k → LinkOk (first p) x.blocks k (spans (p.index k.from.node))
+        (spans (p.index k.to.node)) (ends.writes l) (ends.reads l) (λ a. slice_index words (io_place p.shape l a))
     pub blocks : (q b : ℕ) (x : PoolShape) → slice_get (pools_of p.shape) q ≡ Some x → b < x.blocks
-        → BlockOk q b x (spans (p.place x.port.node)) ends.reads e (ends.blocks q b) words
+        → BlockOk q b x (spans (p.index x.port.node)) ends.reads e (ends.blocks q b) words
     pub pools : (q : ℕ) (x : PoolShape) → slice_get (pools_of p.shape) q ≡ Some x
-        → PoolOk q x (spans (p.place x.port.node)).over ends
+        → PoolOk x (spans (p.index x.port.node)) ends.writes (ends.blocks q)

@@ -1,12 +1,12 @@
 -- A late check: what its loads and its store ask of the view of the driver's seat, and the view after them. Nodes are
--- places.
+-- indexes.
 -- Source: this project's own.
 use Rattle.std.specs.Prelude.{◌≡◌, ◌≢◌, ℕ, ◌<◌, true, cond, eqb, List, [], ◌∷◌, map, Contains}
-use Rattle.board_rule.specs.declared.view.Drive.TheVariants as drives
+use Rattle.board_rule.specs.declared.view.DriverPhase.TheVariants as drives
 use Rattle.board_rule.specs.declared.view.Found.{Found}
 use Rattle.board_rule.specs.declared.view.View.{View}
 use Rattle.pw_base.specs.Words.{finished_word}
-use Rattle.board_rule.specs.Layout.{Lay, nodes}
+use Rattle.board_rule.specs.Layout.{BoardLayout, nodes}
 use Rattle.board_rule.specs.View.{view_trail}
 use Rattle.board_rule.specs.Steps.{HasNode, driven}
 use Rattle.board_rule.specs.Bits.{with_bit}
@@ -16,11 +16,11 @@ use Rattle.board_rule.specs.Bits.{with_bit}
 abbrev pub looked_at : List Found → List ℕ
 looked_at looks = map (λ f. f.node) looks
 
-abbrev pub Looks : Lay → View → ℕ → Type 0
+abbrev pub Looks : BoardLayout → View → ℕ → Type 0
 Looks p v n = HasNode true p v p.driver × (v.lead.drive ≡ drives.Checking) × (n < nodes p) × (n ≢ p.driver)
     × (Contains (looked_at v.trail.looks) (p.number n) → ⊥)
 
-abbrev pub looked : Lay → View → ℕ → ℕ → View
+abbrev pub looked : BoardLayout → View → ℕ → ℕ → View
 looked p v n found = view_trail v (record v.trail
     { looks = record { node = p.number n; word = found } ∷ v.trail.looks })
 
@@ -29,7 +29,7 @@ late_of cycle [] = 0
 late_of cycle (f ∷ fs) = cond (eqb f.word (finished_word cycle)) (late_of cycle fs)
     (with_bit (late_of cycle fs) f.node)
 
-abbrev pub StoresLate : Lay → View → ℕ → Type 0
+abbrev pub StoresLate : BoardLayout → View → ℕ → Type 0
 StoresLate p v late = HasNode true p v p.driver × (v.lead.drive ≡ drives.Checking)
     × (late ≡ late_of v.lead.cycle v.trail.looks)
     × ((n : ℕ) → n < nodes p → n ≢ p.driver → Contains (looked_at v.trail.looks) (p.number n))

@@ -6,20 +6,20 @@ use Rattle.pw_base.specs.declared.event.Event.TheVariants.{Tick}
 use Rattle.pw_base.specs.EventWords.{event_cycle, event_node, event_word_of}
 use Rattle.board_rule.specs.declared.view.View.{View}
 use Rattle.board_rule.specs.declared.closed.Closed.{Closed}
-use Rattle.board_rule.specs.Layout.{Lay, last}
+use Rattle.board_rule.specs.Layout.{BoardLayout, last}
 use Rattle.board_rule.specs.SeatNodes.{Owns}
 use Rattle.board_rule.specs.View.{Samples, resting, no_trail}
 
 -- the driver's seat, when it has ended all cycles
-abbrev pub HasEndedAll : Lay → View → Type 0
+abbrev pub HasEndedAll : BoardLayout → View → Type 0
 HasEndedAll p v = Owns true p v p.driver × (v.lead.cycle ≡ last p)
 
 -- the driver's view when no more seats are split off, and the view that is kept of a board: it is of no seat that
 -- steps, and knows the samples alone
-abbrev pub last_view : Lay → View → View
+abbrev pub last_view : BoardLayout → View → View
 last_view p v = record v { split = suc p.seats }
 
-abbrev pub kept_view : Lay → View → View
+abbrev pub kept_view : BoardLayout → View → View
 kept_view p v = record {
   number = suc p.seats;
   split = 0;

@@ -3,8 +3,8 @@
 use Rattle.std.specs.Prelude.{ℕ}
 use Rattle.board_rule.specs.declared.view.Phase.{Phase}
 use Rattle.board_rule.specs.declared.view.Phase.TheVariants.{Idle, Awake, StartDrawn, Running, Done, FinishDrawn, Telling}
-use Rattle.board_rule.specs.declared.view.Drive.{Drive}
-use Rattle.board_rule.specs.declared.view.Drive.TheVariants as drives
+use Rattle.board_rule.specs.declared.view.DriverPhase.{DriverPhase}
+use Rattle.board_rule.specs.declared.view.DriverPhase.TheVariants as drives
 
 -- how many tickets a follower has drawn in its cycle
 abbrev pub phase_drawn : Phase → ℕ
@@ -17,7 +17,7 @@ phase_drawn FinishDrawn = 2
 phase_drawn (Telling i owes) = 2
 
 -- how many the driver's seat has drawn in its cycle, but for that of a Tick
-abbrev pub drive_drawn : Drive → ℕ
+abbrev pub drive_drawn : DriverPhase → ℕ
 drive_drawn drives.Between = 0
 drive_drawn drives.StartDrawn = 2
 drive_drawn drives.Running = 2

@@ -11,7 +11,7 @@ use Rattle.board_rule.specs.declared.view.ReadView.{ReadView}
 use Rattle.board_rule.specs.declared.view.BlockView.{BlockView}
 use Rattle.board_rule.specs.declared.view.BlockView.TheVariants.{Free}
 use Rattle.board_rule.specs.declared.view.View.{View}
-use Rattle.board_rule.specs.Layout.{Lay}
+use Rattle.board_rule.specs.Layout.{BoardLayout}
 use Rattle.board_rule.specs.View.{unwritten, unread}
 use Rattle.board_rule.specs.Spans.{block_at}
 
@@ -51,7 +51,7 @@ view_write v l y = record v { writes = set v.writes l y }
 abbrev pub view_read : View → ℕ → ReadView → View
 view_read v l y = record v { reads = set v.reads l y }
 
-module _ (p : Lay) where
+module _ (p : BoardLayout) where
   -- a link and a pool by their numbers
   abbrev pub link_at : ℕ → ShapeLink
   link_at l = link_in p.shape l
@@ -59,15 +59,15 @@ module _ (p : Lay) where
   abbrev pub pool_at : ℕ → PoolShape
   pool_at q = pool_in p.shape q
 
-  -- the places of a link's nodes, the place of the node that fills a pool, and the number of the pool that a link reads
+  -- the indexes of a link's nodes, the index of the node that fills a pool, and the number of the pool that a link reads
   abbrev pub writer_of : ℕ → ℕ
-  writer_of l = p.place (link_at l).from.node
+  writer_of l = p.index (link_at l).from.node
 
   abbrev pub reader_of : ℕ → ℕ
-  reader_of l = p.place (link_at l).to.node
+  reader_of l = p.index (link_at l).to.node
 
   abbrev pub filler_of : ℕ → ℕ
-  filler_of q = p.place (pool_at q).port.node
+  filler_of q = p.index (pool_at q).port.node
 
   abbrev pub pool_of : ℕ → ℕ
   pool_of l = pool_number p.shape l

@@ -3,26 +3,26 @@
 -- Source: this project's own.
 use Rattle.std.specs.Prelude.{◌≡◌, ℕ, ◌+◌, ◌*◌, ◌≤◌, true, false, cond, eqb, List, [], ◌++◌, length, slice_index, count_by}
 use Rattle.board_rule.specs.declared.view.NodeView.{NodeView}
-use Rattle.board_rule.specs.declared.view.LeadView.{LeadView}
+use Rattle.board_rule.specs.declared.view.DriverView.{DriverView}
 use Rattle.pw_base.specs.History.{is_tick}
 use Rattle.pw_base.specs.Layout.{ticket_place, event_place, late_place}
-use Rattle.board_rule.specs.Layout.{Lay, nodes, first}
+use Rattle.board_rule.specs.Layout.{BoardLayout, nodes, first}
 use Rattle.board_rule.specs.Phases.{is_between, phase_drawn, drive_drawn}
 use Rattle.board_rule.specs.Sums.{total}
 use Rattle.board_rule.specs.View.{Whole}
 use Rattle.board_rule.specs.Marks.{phase_started, phase_finished, phase_holds, drive_started, drive_finished, drive_holds, drive_tells}
 use Rattle.board_rule.specs.Marks.{drive_sees, is_begun, is_ending, is_checking}
 pub use Rattle.board_rule.specs.Logged.{IsSoFar, IsHeld, Tickets, Earlier, Inside}
-pub use Rattle.board_rule.specs.Records.{Records, Tally, Marks, so_far}
+pub use Rattle.board_rule.specs.Records.{Records, Counts, Marks, so_far}
 
 -- two tickets for each cycle of a follower, and at most five for each of the driver's seat, counted from the cycle 0
 abbrev pub node_drawn : NodeView → ℕ
 node_drawn x = 2 * x.next + phase_drawn x.phase
 
-abbrev pub lead_drawn : LeadView → ℕ
+abbrev pub lead_drawn : DriverView → ℕ
 lead_drawn x = 5 * x.cycle + cond (is_between x.drive) 0 (drive_drawn x.drive + cond x.checked 1 0)
 
-module _ (p : Lay) where
+module _ (p : BoardLayout) where
   abbrev pub drawn : Whole → ℕ → ℕ
   drawn g n = cond (eqb n p.driver) 0 (node_drawn (g.nodes n))
 
@@ -30,8 +30,8 @@ module _ (p : Lay) where
   drawn_before n = cond (eqb n p.driver) 0 (2 * first p)
 
   -- what the phases say of the driver's cycle; a follower that has ended it has drawn both
-  abbrev pub tally : Whole → Tally
-  tally g = record {
+  abbrev pub counts : Whole → Counts
+  counts g = record {
     started = λ n. cond (eqb n p.driver) (drive_started g.lead.drive)
         (cond (eqb (g.nodes n).next g.lead.cycle) (phase_started (g.nodes n).phase) 1);
     finished = λ n. cond (eqb n p.driver) (drive_finished g.lead.drive)
@@ -42,7 +42,7 @@ module _ (p : Lay) where
 
   abbrev pub marks : Whole → Marks
   marks g = record {
-    tally = tally g;
+    counts = counts g;
     start = λ n. cond (eqb n p.driver) g.lead.start (g.nodes n).start;
     finish = λ n. cond (eqb n p.driver) g.lead.finish (g.nodes n).finish;
     holds = λ n. cond (eqb n p.driver) (drive_holds g.lead g.lead.drive) (phase_holds (g.nodes n) (g.nodes n).phase);
@@ -69,4 +69,4 @@ module _ (p : Lay) where
     pub tickets : Tickets p g.lead.cycle (length g.past) (marks g) (g.past ++ so_far (marks g) g.lead.cycle g.inside)
         (records words)
     pub earlier : Earlier p g.lead.cycle g.late g.past (records words)
-    pub inside : Inside p g.lead.cycle g.late (tally g) g.inside
+    pub inside : Inside p g.lead.cycle g.late (counts g) g.inside

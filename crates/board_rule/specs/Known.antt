@@ -4,14 +4,14 @@
 use Rattle.std.specs.Prelude.{◌≡◌, ℕ, List, map}
 use Rattle.atomic_table.specs.Seated.{TableId}
 use Rattle.board_rule.specs.declared.progress.NodeProgress.{NodeProgress}
-use Rattle.board_rule.specs.declared.lead.LeadProgress.{LeadProgress}
+use Rattle.board_rule.specs.declared.lead.DriverProgress.{DriverProgress}
 use Rattle.board_rule.specs.declared.view.WriteView.{WriteView}
 use Rattle.board_rule.specs.declared.view.ReadView.{ReadView}
 use Rattle.board_rule.specs.declared.view.BlockView.{BlockView}
 use Rattle.board_rule.specs.declared.view.View.{View}
 use Rattle.board_rule.specs.Bits.{woke_of}
 use Rattle.board_rule.specs.Progress.{progress_of}
-use Rattle.board_rule.specs.LeadProgress.{lead_progress_of}
+use Rattle.board_rule.specs.DriverProgress.{lead_progress_of}
 
 pub record Known : Type 0 where
   pub table : TableId
@@ -25,7 +25,7 @@ pub record IsLoopSeat (v : View) (nodes : List NodeProgress) (writes : List Writ
   pub blocks_are : v.blocks ≡ blocks
   pub woke_is : woke_of v.trail.told ≡ woke
 
-pub record IsDriverSeat (v : View) (lead : LeadProgress) (reads : List ReadView) (woke : ℕ) : Type 0 where
+pub record IsDriverSeat (v : View) (lead : DriverProgress) (reads : List ReadView) (woke : ℕ) : Type 0 where
   pub lead_is : lead_progress_of v.lead ≡ lead
   pub reads_are : v.reads ≡ reads
   pub woke_is : woke_of v.trail.told ≡ woke

@@ -1,5 +1,5 @@
 pub mod Sums
-pub mod Places
+pub mod Indexes
 pub mod Layout
 pub mod Left
 pub mod Drawn
@@ -34,6 +34,8 @@ pub mod CheckSteps
 pub mod EventSteps
 pub mod Plays
 pub mod Progress
-pub mod LeadProgress
+pub mod DriverProgress
 pub mod Known
 pub mod Closing
+pub mod BufferSafety
+pub mod OnBoard

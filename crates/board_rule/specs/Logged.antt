@@ -10,10 +10,10 @@ use Rattle.pw_base.specs.EventWords.{event_cycle, event_node, event_word_of}
 use Rattle.pw_base.specs.History.{is_start, is_finish, is_tick, start_place, finish_place, tick_place, IsLate, epoch_cycles, AreJoined}
 use Rattle.pw_base.specs.Layout.{event_count}
 use Rattle.pw_base.specs.Words.{finished_word}
-use Rattle.board_rule.specs.Layout.{Lay, nodes, first, last}
-use Rattle.board_rule.specs.Records.{Records, Tally, Marks}
+use Rattle.board_rule.specs.Layout.{BoardLayout, nodes, first, last}
+use Rattle.board_rule.specs.Records.{Records, Counts, Marks}
 
-module _ (p : Lay) where
+module _ (p : BoardLayout) where
   -- an event between Begin and End, where a Tick of the cycle has the late set `late`
   abbrev pub IsSoFar : ℕ → ℕ → Event → Type 0
   IsSoFar c late (Start k n) = (k ≡ c) × Contains (nodes_of p.shape) n
@@ -31,9 +31,9 @@ module _ (p : Lay) where
     pub stored : (t : ℕ) (e : Event) → slice_get log t ≡ Some e → (r.event t ≡ event_word_of e)
         ⊎ ((r.event t ≡ 0) × IsHeld s t)
     pub unused : (t : ℕ) → length log ≤ t → t < event_count p.shape → r.event t ≡ 0
-    pub starts_kept : (n : ℕ) → n < nodes p → s.tally.started n ≡ 1 → (base < s.start n)
+    pub starts_kept : (n : ℕ) → n < nodes p → s.counts.started n ≡ 1 → (base < s.start n)
         × (slice_get log (s.start n) ≡ Some (Start c (p.number n)))
-    pub finishes_kept : (n : ℕ) → n < nodes p → s.tally.finished n ≡ 1 → (base < s.finish n)
+    pub finishes_kept : (n : ℕ) → n < nodes p → s.counts.finished n ≡ 1 → (base < s.finish n)
         × (slice_get log (s.finish n) ≡ Some (Finish c (p.number n)))
     pub told_kept : (t : ℕ) (e : Event) → Contains s.tells (t, e) → (base ≤ t) × (slice_get log t ≡ Some e)
 
@@ -46,7 +46,7 @@ module _ (p : Lay) where
     pub late_later : (k : ℕ) → c < k → k < last p → r.late (k - first p) ≡ 0
 
   -- THE CYCLE: the events between Begin and End, by the phases, each after those that come before it
-  pub record Inside (c late : ℕ) (k : Tally) (inside : List Event) : Type 0 where
+  pub record Inside (c late : ℕ) (k : Counts) (inside : List Event) : Type 0 where
     pub only : All (IsSoFar c late) inside
     pub starts : (n : ℕ) → n < nodes p → count_by (is_start c (p.number n)) inside ≡ k.started n
     pub finishes : (n : ℕ) → n < nodes p → count_by (is_finish c (p.number n)) inside ≡ k.finished n

@@ -4,16 +4,16 @@
 use Rattle.std.specs.Prelude.{◌≡◌, ℕ, ◌<◌, List}
 use Rattle.pw_base.specs.Words.{status_word_of}
 
--- all that the rule reads of the phases: of each place m the targets that m has yet to take down in the driver's
+-- all that the rule reads of the phases: of each index m the targets that m has yet to lower in the driver's
 -- cycle, the one
--- that it owes (at most one, the one that it took down last), and how far it is
-pub record Posts : Type 0 where
+-- that it owes (at most one, the one that it lowered last), and how far it is
+pub record Progress : Type 0 where
   pub rest : ℕ → List ℕ
   pub owing : ℕ → List ℕ
   pub stage : ℕ → ℕ
 
--- a node outside the reset. Its status word is that of `kind` in the cycle c; `left` dependencies have yet to take it
--- down, and `debts` phases owe it
+-- a node outside the reset. Its status word is that of `kind` in the cycle c; `left` dependencies have yet to lower it,
+-- and `debts` phases owe it
 pub record NodeOk (c pending status stage left debts : ℕ) : Type 0 where
   pub kind : ℕ
   pub status_is : status ≡ status_word_of kind c

@@ -5,8 +5,8 @@ use Rattle.atomic_table.specs.Table.{Me}
 use Rattle.board_rule.specs.declared.view.View.{View}
 use Rattle.board_rule.specs.View.{resting, no_trail}
 
-abbrev pub Turns : {S : Type 0} → (ℕ → View) → Me S View → ℕ → Me S View → Type 0
-Turns after me found m = (m.0 ≡ after found) × (m.1 ≡ me.1)
+abbrev pub Leaves : {S : Type 0} → (ℕ → View) → Me S View → ℕ → Me S View → Type 0
+Leaves after me found m = (m.0 ≡ after found) × (m.1 ≡ me.1)
 
 abbrev pub Learns : {S : Type 0} → (ℕ → View) → (ℕ → Type 0) → Me S View → ℕ → Me S View → Type 0
 Learns after says me found m = (m.0 ≡ after found) × (m.1 ≡ me.1) × says found

@@ -12,18 +12,18 @@ pub record Records : Type 0 where
   pub event : ℕ → ℕ
   pub late : ℕ → ℕ
 
--- and of the phases. Of the driver's cycle: how many Starts and Finishes each place has drawn, whether a Tick is
+-- and of the phases. Of the driver's cycle: how many Starts and Finishes each index has drawn, whether a Tick is
 -- drawn, and what the check under way has loaded
-pub record Tally : Type 0 where
+pub record Counts : Type 0 where
   pub started : ℕ → ℕ
   pub finished : ℕ → ℕ
   pub checked : Bool
   pub sees : List Found
 
--- the tickets that each place drew last and holds, those of a Begin, a Tick or an End that are held, and whether Begin
+-- the tickets that each index drew last and holds, those of a Begin, a Tick or an End that are held, and whether Begin
 -- and End are drawn
 pub record Marks : Type 0 where
-  pub tally : Tally
+  pub counts : Counts
   pub start : ℕ → ℕ
   pub finish : ℕ → ℕ
   pub holds : ℕ → List ℕ

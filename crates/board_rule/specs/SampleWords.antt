@@ -6,7 +6,7 @@ use Rattle.std.specs.Int.{w16, cast_unsigned}
 use Rattle.pw_base.specs.declared.shape.Shape.{Shape}
 use Rattle.pw_base.specs.declared.pools.PoolShape.{PoolShape}
 use Rattle.pw_base.specs.Pools.{pools_of}
-use Rattle.board_rule.specs.Layout.{Lay, first}
+use Rattle.board_rule.specs.Layout.{BoardLayout, first}
 use Rattle.board_rule.specs.StartViews.{Samples}
 
 -- a sample as a number below 2 ^ 16; 0 past the last
@@ -22,7 +22,7 @@ packed xs i = bits_at xs (4 * i) + 65536 *
 abbrev pub silence : Shape → Samples
 silence shape = replicate shape.cycles (map (λ x. replicate (shape.quantum * x.channels) (pos 0)) (pools_of shape))
 
-module _ (p : Lay) where
+module _ (p : BoardLayout) where
   -- what the pool q gives in a cycle
   abbrev pub samples_in : Samples → ℕ → ℕ → List ℤ
   samples_in e cycle q = slice_index_or (slice_index_or e (cycle - first p) []) q []

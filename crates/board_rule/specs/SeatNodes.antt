@@ -1,18 +1,18 @@
 -- Whose node it is: what a seat must be for a step on a node, and the view with the node in another phase. Nodes are
--- places.
--- Source: this project's own. `leads` is true for the driver's seat.
+-- indexes.
+-- Source: this project's own. `is_driver` is true for the driver's seat.
 use Rattle.std.specs.Prelude.{◌≡◌, ◌≢◌, ℕ, ◌<◌, ◌≤◌, Bool, true, false, length}
 use mathlib.Core.Option.{some}
 use lib.ListN.{get_elem?}
 use Rattle.board_rule.specs.declared.view.Phase.{Phase}
-use Rattle.board_rule.specs.declared.view.Drive.{Drive}
+use Rattle.board_rule.specs.declared.view.DriverPhase.{DriverPhase}
 use Rattle.board_rule.specs.declared.view.Trail.{Trail}
 use Rattle.board_rule.specs.declared.view.View.{View}
-use Rattle.board_rule.specs.Layout.{Lay, nodes, first, last}
+use Rattle.board_rule.specs.Layout.{BoardLayout, nodes, first, last}
 use Rattle.board_rule.specs.View.{node_of, view_node, view_lead}
 
 -- the seat's own node m: for a loop's a follower that it has, for the driver's the driver's node
-pub record Has (p : Lay) (v : View) (m : ℕ) : Type 0 where
+pub record Has (p : BoardLayout) (v : View) (m : ℕ) : Type 0 where
   pub inside : m < nodes p
   pub follows : m ≢ p.driver
   pub loops : v.number < p.seats
@@ -20,7 +20,7 @@ pub record Has (p : Lay) (v : View) (m : ℕ) : Type 0 where
   pub there : m < length v.nodes
   pub knows : get_elem? v.nodes m ≡ some (node_of v m)
 
-abbrev pub Owns : Bool → Lay → View → ℕ → Type 0
+abbrev pub Owns : Bool → BoardLayout → View → ℕ → Type 0
 Owns true p v m = (m ≡ p.driver) × (v.number ≡ p.seats)
 Owns false p v m = Has p v m
 
@@ -30,21 +30,21 @@ cycle_of true v m = v.lead.cycle
 cycle_of false v m = (node_of v m).next
 
 -- a cycle of the epoch
-abbrev pub IsCycle : Lay → ℕ → Type 0
+abbrev pub IsCycle : BoardLayout → ℕ → Type 0
 IsCycle p c = (first p ≤ c) × (c < last p)
 
 -- and it has cycles left
-abbrev pub HasNode : Bool → Lay → View → ℕ → Type 0
-HasNode leads p v m = Owns leads p v m × IsCycle p (cycle_of leads v m) × (m < nodes p)
+abbrev pub HasNode : Bool → BoardLayout → View → ℕ → Type 0
+HasNode is_driver p v m = Owns is_driver p v m × IsCycle p (cycle_of is_driver v m) × (m < nodes p)
 
 -- or has ended them all
-abbrev pub IsMember : Bool → Lay → View → ℕ → Type 0
-IsMember leads p v m = Owns leads p v m × ((first p ≤ cycle_of leads v m) × (cycle_of leads v m ≤ last p))
+abbrev pub IsMember : Bool → BoardLayout → View → ℕ → Type 0
+IsMember is_driver p v m = Owns is_driver p v m × ((first p ≤ cycle_of is_driver v m) × (cycle_of is_driver v m ≤ last p))
     × (m < nodes p)
 
 -- the view with a follower, or the driver's seat, in another phase
 abbrev pub phased : View → ℕ → Phase → Trail → View
 phased v m f t = view_node v m (record (node_of v m) { phase = f }) t
 
-abbrev pub driven : View → Drive → Trail → View
+abbrev pub driven : View → DriverPhase → Trail → View
 driven v d t = view_lead v (record v.lead { drive = d }) t

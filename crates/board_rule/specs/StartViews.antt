@@ -1,23 +1,25 @@
 -- The views that a board begins with: of the driver's seat, and of each seat that is split off it.
 -- Source: this project's own; the phases are those of src/view.rt.
-use Rattle.std.specs.Prelude.{ℕ, ℤ, false, cond, eqb, List, [], length, replicate}
-use Rattle.std.specs.List.{flat_map}
+use Rattle.std.specs.Prelude.{ℕ, ℤ, ◌-◌, ◌&&◌, Bool, false, cond, eqb, List, [], ◌∷◌, length, map, replicate}
+use Rattle.std.specs.List.{flat_map, list_any}
 use Rattle.board_rule.specs.declared.view.Phase.TheVariants.{Idle}
-use Rattle.board_rule.specs.declared.view.Drive.TheVariants.{Between}
+use Rattle.board_rule.specs.declared.view.DriverPhase.TheVariants.{Between}
 use Rattle.board_rule.specs.declared.view.NodeView.{NodeView}
-use Rattle.board_rule.specs.declared.view.LeadView.{LeadView}
+use Rattle.board_rule.specs.declared.view.DriverView.{DriverView}
 use Rattle.board_rule.specs.declared.view.WriteView.{WriteView}
 use Rattle.board_rule.specs.declared.view.ReadView.{ReadView}
 use Rattle.board_rule.specs.declared.view.BlockView.{BlockView}
-use Rattle.board_rule.specs.declared.view.BlockView.TheVariants.{Free}
+use Rattle.board_rule.specs.declared.view.BlockView.TheVariants.{Free, Out}
 use Rattle.board_rule.specs.declared.view.Trail.{Trail}
 use Rattle.board_rule.specs.declared.view.View.{View}
 use Rattle.pw_base.specs.declared.shape.Shape.{Shape}
-use Rattle.pw_base.specs.Pools.{pools_of}
+use Rattle.pw_base.specs.declared.shape.ShapeLink.{ShapeLink}
+use Rattle.pw_base.specs.declared.pools.PoolShape.{PoolShape}
+use Rattle.pw_base.specs.Pools.{links_from, pools_of}
 use Rattle.pw_base.specs.Words.{no_block}
-use Rattle.board_rule.specs.Layout.{Lay, nodes, first}
+use Rattle.board_rule.specs.Layout.{BoardLayout, nodes, first}
 
--- the samples that are expected: by cycle of the epoch, by pool, by place in the quantum
+-- the samples that are expected: by cycle of the epoch, by pool, by index in the quantum
 abbrev pub Samples : Type 0
 Samples = List (List (List ℤ))
 
@@ -25,11 +27,16 @@ Samples = List (List (List ℤ))
 abbrev pub idle : ℕ → NodeView
 idle c = record { next = c; phase = Idle; start = 0; finish = 0 }
 
-abbrev pub resting : ℕ → LeadView
+abbrev pub resting : ℕ → DriverView
 resting c = record { cycle = c; drive = Between; checked = false; checks = 0; ticket = 0; start = 0; finish = 0 }
 
 abbrev pub unwritten : ℕ → WriteView
 unwritten c = record { loaded = c; stored = c; id = no_block; last = no_block }
+
+-- the writer's end of a link at the start: the area of a delayed link that is read in the first cycle names block 0, as if it
+-- had been stored there in the cycle before
+abbrev pub first_write : ℕ → ShapeLink → WriteView
+first_write c k = record { loaded = c; stored = c; id = cond k.delayed 0 no_block; last = no_block }
 
 abbrev pub unread : ℕ → ReadView
 unread c = record { loaded = c; lowered = c; stored = c; id = no_block }
@@ -37,11 +44,22 @@ unread c = record { loaded = c; lowered = c; stored = c; id = no_block }
 abbrev pub no_trail : Trail
 no_trail = record { tries = []; told = []; looks = [] }
 
--- the blocks of all pools of a shape
-abbrev pub free_blocks : Shape → List BlockView
-free_blocks shape = flat_map (λ q. replicate q.blocks Free) (pools_of shape)
+-- a delayed link reads the pool
+abbrev pub is_delayed : Shape → PoolShape → Bool
+is_delayed shape x = list_any (λ k. k.delayed) (links_from shape x.port)
 
-module _ (p : Lay) where
+-- block 0 of such a pool is out at the start, as if it had been announced in the cycle before the first; the others are free
+abbrev pub first_block : Shape → PoolShape → ℕ → BlockView
+first_block shape x b = cond (is_delayed shape x && eqb b 0) (Out shape.first) Free
+
+abbrev pub blocks_at_first : Shape → PoolShape → List BlockView
+blocks_at_first shape x = cond (is_delayed shape x) (Out shape.first ∷ replicate (x.blocks - 1) Free) (replicate x.blocks Free)
+
+-- the blocks of all pools of a shape
+abbrev pub first_blocks : Shape → List BlockView
+first_blocks shape = flat_map (blocks_at_first shape) (pools_of shape)
+
+module _ (p : BoardLayout) where
   -- the driver's view before any seat is split off: no table of samples is named yet
   abbrev pub first_view : View
   first_view = record {
@@ -67,9 +85,9 @@ module _ (p : Lay) where
     split = 0;
     lead = resting 0;
     nodes = replicate (nodes p) (idle (first p));
-    writes = replicate (length p.shape.links) (unwritten (first p));
+    writes = map (first_write (first p)) p.shape.links;
     reads = replicate (length p.shape.links) (unread (first p));
-    blocks = free_blocks p.shape;
+    blocks = first_blocks p.shape;
     trail = no_trail;
     expect = e;
   }

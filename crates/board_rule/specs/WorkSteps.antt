@@ -1,13 +1,13 @@
 -- Claiming a node, and ending its work: what each asks of the view of its seat, and the view after it. Nodes are
--- places.
+-- indexes.
 -- Source: PipeWire's documentation, "Graph Scheduling"; the kinds are this project's.
 use Rattle.std.specs.Prelude.{◌≡◌, ℕ, ◌+◌, ◌<◌, Bool, true, false, cond, eqb, [], ◌∷◌, length}
 use Rattle.board_rule.specs.declared.view.Phase.TheVariants.{Idle, Awake, Running, Done}
-use Rattle.board_rule.specs.declared.view.Drive.TheVariants as drives
+use Rattle.board_rule.specs.declared.view.DriverPhase.TheVariants as drives
 use Rattle.board_rule.specs.declared.view.Trail.{Trail}
 use Rattle.board_rule.specs.declared.view.View.{View}
 use Rattle.pw_base.specs.Words.{triggered_word}
-use Rattle.board_rule.specs.Layout.{Lay}
+use Rattle.board_rule.specs.Layout.{BoardLayout}
 use Rattle.board_rule.specs.View.{node_of, view_trail}
 use Rattle.board_rule.specs.EndViews.{write_of, read_of, writer_of, reader_of}
 use Rattle.board_rule.specs.SeatNodes.{cycle_of, HasNode, phased, driven}
@@ -18,18 +18,18 @@ abbrev pub IsAsleep : Bool → View → ℕ → Type 0
 IsAsleep true v m = v.lead.drive ≡ drives.Waiting
 IsAsleep false v m = (node_of v m).phase ≡ Idle
 
-abbrev pub Claims : Bool → Lay → View → ℕ → Type 0
-Claims leads p v m = HasNode leads p v m × IsAsleep leads v m
+abbrev pub Claims : Bool → BoardLayout → View → ℕ → Type 0
+Claims is_driver p v m = HasNode is_driver p v m × IsAsleep is_driver v m
 
 abbrev pub woken : Bool → View → ℕ → View
 woken true v m = driven v drives.Awake v.trail
 woken false v m = phased v m Awake v.trail
 
-abbrev pub tried : Lay → View → ℕ → ℕ → View
+abbrev pub tried : BoardLayout → View → ℕ → ℕ → View
 tried p v m found = view_trail v (record v.trail { tries = record { node = p.number m; word = found } ∷ v.trail.tries })
 
-abbrev pub claimed : Bool → Lay → View → ℕ → ℕ → View
-claimed leads p v m found = cond (eqb found (triggered_word (cycle_of leads v m))) (woken leads v m)
+abbrev pub claimed : Bool → BoardLayout → View → ℕ → ℕ → View
+claimed is_driver p v m found = cond (eqb found (triggered_word (cycle_of is_driver v m))) (woken is_driver v m)
     (tried p v m found)
 
 -- ENDING A NODE: it works, and all its buffers are given on: in its cycle each link from it is published, and each
@@ -38,12 +38,12 @@ abbrev pub IsRunning : Bool → View → ℕ → Type 0
 IsRunning true v m = v.lead.drive ≡ drives.Running
 IsRunning false v m = (node_of v m).phase ≡ Running
 
-abbrev pub IsGivenOn : Lay → View → ℕ → ℕ → Type 0
+abbrev pub IsGivenOn : BoardLayout → View → ℕ → ℕ → Type 0
 IsGivenOn p v m c = ((l : ℕ) → l < length p.shape.links → writer_of p l ≡ m → (write_of v l).stored ≡ c + 1)
     × ((l : ℕ) → l < length p.shape.links → reader_of p l ≡ m → (read_of v l).stored ≡ c + 1)
 
-abbrev pub IsReadyToFinish : Bool → Lay → View → ℕ → Type 0
-IsReadyToFinish leads p v m = HasNode leads p v m × IsRunning leads v m × IsGivenOn p v m (cycle_of leads v m)
+abbrev pub IsReadyToFinish : Bool → BoardLayout → View → ℕ → Type 0
+IsReadyToFinish is_driver p v m = HasNode is_driver p v m × IsRunning is_driver v m × IsGivenOn p v m (cycle_of is_driver v m)
 
 -- the seat forgets what its last begin or finish found
 abbrev pub untold : Trail → Trail

@@ -6,14 +6,14 @@ use Rattle.std.specs.Prelude.{◌≡◌, ℕ, ◌+◌, ◌<◌, false, length}
 use Rattle.pw_base.specs.Words.{no_block}
 use Rattle.board_rule.specs.declared.view.BlockView.TheVariants.{Out}
 use Rattle.board_rule.specs.declared.view.View.{View}
-use Rattle.board_rule.specs.Layout.{Lay, first}
-use Rattle.board_rule.specs.Areas.{stored_id}
-use Rattle.board_rule.specs.BlockReadings.{late_at}
-use Rattle.board_rule.specs.EndViews.{write_of, view_write, pool_at, writer_of, pool_of, block_of}
+use Rattle.board_rule.specs.Layout.{BoardLayout, first}
+use Rattle.board_rule.specs.Areas.{area_of, stored_id}
+use Rattle.board_rule.specs.BlockReadings.{delay_at}
+use Rattle.board_rule.specs.EndViews.{write_of, view_write, link_at, pool_at, writer_of, pool_of, block_of}
 use Rattle.board_rule.specs.SeatNodes.{cycle_of, HasNode}
 use Rattle.board_rule.specs.WorkSteps.{IsRunning}
 
-module _ (p : Lay) where
+module _ (p : BoardLayout) where
   -- the cycle that a link's writer is in
   abbrev pub write_cycle : View → ℕ → ℕ
   write_cycle v l = cycle_of false v (writer_of p l)
@@ -22,6 +22,10 @@ module _ (p : Lay) where
   abbrev pub IsWriter : View → ℕ → Type 0
   IsWriter v l = (l < length p.shape.links) × (l < length v.writes) × HasNode false p v (writer_of p l)
       × IsRunning false v (writer_of p l)
+
+  -- the area that it uses in this cycle
+  abbrev pub write_area : View → ℕ → ℕ
+  write_area v l = area_of (link_at p l) (write_cycle v l + 1)
 
   -- LOADING AN AREA AS WRITER: not yet done in this cycle. It asks for data, and gives the number back that the writer
   -- stored there last: none exactly in the first cycle
@@ -32,7 +36,7 @@ module _ (p : Lay) where
   loaded_as_writer v l = view_write v l (record (write_of v l) { loaded = write_cycle v l + 1 })
 
   abbrev pub IsGivenBack : View → ℕ → ℕ → Type 0
-  IsGivenBack v l id = (id ≡ stored_id (write_of v l) (late_at p l)) × (write_cycle v l ≡ first p → id ≡ no_block)
+  IsGivenBack v l id = (id ≡ stored_id (write_of v l) (delay_at p l)) × (write_cycle v l ≡ first p → id ≡ no_block)
       × (first p < write_cycle v l → id < (pool_at p (pool_of p l)).blocks)
 
   -- STORING HAVE_DATA: the writer's turn, with the number of the block that was announced in this cycle

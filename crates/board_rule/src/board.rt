@@ -1,10 +1,10 @@
 //! A board: the words of one epoch that all threads share.
 ghost use Rattle.std.specs.Prelude.{◌≡◌, ◌+◌, ◌<◌, ◌≤◌, ◌^◌, [], length, slice_index};
 ghost use Rattle.pw_base.specs.Layout.{pending_place, status_place, late_place, event_place, event_count, area_count};
-ghost use Rattle.board_rule.specs.Layout.{lay, IsSound, nodes, first, last, word_count};
-ghost use Rattle.board_rule.specs.Rows.{HasRows, HasPlaces};
+ghost use Rattle.board_rule.specs.Layout.{layout_of, IsSound, nodes, first, last, word_count};
+ghost use Rattle.board_rule.specs.Rows.{HasRows, HasIndexes};
 
-use crate::plot::Plot;
+use crate::board_shape::BoardShape;
 use crate::rows::Rows;
 use crate::rule::BoardTable;
 use pw_base::{Event, Room, Shape};
@@ -14,41 +14,41 @@ use pw_base::{Event, Room, Shape};
 #[derive(Drop)]
 pub struct Board {
     pub(crate) table: BoardTable,
-    pub(crate) plot: Plot,
+    pub(crate) board_shape: BoardShape,
     pub(crate) rows: Rows,
     /// For the events, when the board is closed.
     pub(crate) spare: Room<Event>,
-    ghost sound: { IsSound (lay plot) },
-    ghost placed: { HasPlaces plot.shape },
-    ghost about: { table.shared.key ≡ plot },
-    ghost words: { table.shared.table_id.words ≡ word_count plot.shape },
-    ghost room: { event_place plot.shape (event_count plot.shape) ≤ word_count plot.shape },
-    ghost fits: { word_count plot.shape < 2 ^ 64 },
+    ghost sound: { IsSound (layout_of board_shape) },
+    ghost placed: { HasIndexes board_shape.shape },
+    ghost about: { table.shared.key ≡ board_shape },
+    ghost words: { table.shared.table_id.words ≡ word_count board_shape.shape },
+    ghost room: { event_place board_shape.shape (event_count board_shape.shape) ≤ word_count board_shape.shape },
+    ghost fits: { word_count board_shape.shape < 2 ^ 64 },
     ghost slots: { table.shared.table_id.slots ≡ 0 },
-    ghost tied: { HasRows plot.shape rows },
+    ghost tied: { HasRows board_shape.shape rows },
     ghost unused: { spare.list ≡ [] },
-    ghost enough: { event_count plot.shape ≤ spare.spare },
+    ghost enough: { event_count board_shape.shape ≤ spare.spare },
 }
 
 impl Board {
     /// The shape that the board was made for.
     pub fn shape(&self) -> &Shape
-        ensures { result.now ≡ self.now.plot.shape }
+        ensures { result.now ≡ self.now.board_shape.shape }
     {
-        &self.plot.shape
+        &self.board_shape.shape
     }
 
     /// How many targets a node of the shape has.
     pub fn target_count(&self, node: u32) -> usize
-        requires { (lay self.now.plot).place node < nodes (lay self.now.plot) }
-        ensures { let p = lay self.now.plot in result ≡ length (p.targets (p.place node)) }
+        requires { (layout_of self.now.board_shape).index node < nodes (layout_of self.now.board_shape) }
+        ensures { let p = layout_of self.now.board_shape in result ≡ length (p.targets (p.index node)) }
     {
-        self.targets_at(self.place(node))
+        self.targets_at(self.index_of(node))
     }
 
     /// A word, for tests and pictures. It needs no seat and tells nothing.
     pub fn peek(&self, word: usize) -> u64
-        requires { word < word_count self.now.plot.shape }
+        requires { word < word_count self.now.board_shape.shape }
     {
         self.table.shared.peek(word)
     }
@@ -57,76 +57,76 @@ impl Board {
 impl Board {
     /// How many nodes there are.
     pub(crate) fn nodes(&self) -> usize
-        ensures { result ≡ nodes (lay self.now.plot) }
+        ensures { result ≡ nodes (layout_of self.now.board_shape) }
     {
-        self.plot.shape.nodes.len()
+        self.board_shape.shape.nodes.len()
     }
 
-    /// The place of the driver.
+    /// The index of the driver.
     pub(crate) fn driver(&self) -> usize
-        ensures is { result ≡ (lay self.now.plot).driver }
-        ensures inside { result < nodes (lay self.now.plot) }
+        ensures is { result ≡ (layout_of self.now.board_shape).driver }
+        ensures inside { result < nodes (layout_of self.now.board_shape) }
     {
         self.rows.driver
     }
 
-    /// The place of a node.
-    pub(crate) fn place(&self, node: u32) -> usize
-        requires { (lay self.now.plot).place node < nodes (lay self.now.plot) }
-        ensures { result ≡ (lay self.now.plot).place node }
+    /// The index of a node.
+    pub(crate) fn index_of(&self, node: u32) -> usize
+        requires { (layout_of self.now.board_shape).index node < nodes (layout_of self.now.board_shape) }
+        ensures { result ≡ (layout_of self.now.board_shape).index node }
     {
-        self.rows.places[node as usize]
+        self.rows.indexes[node as usize]
     }
 
-    /// The required count at a place.
+    /// The required count at an index.
     pub(crate) fn required(&self, at: usize) -> u64
-        requires { at < nodes (lay self.now.plot) }
-        ensures { result ≡ (lay self.now.plot).required at }
+        requires { at < nodes (layout_of self.now.board_shape) }
+        ensures { result ≡ (layout_of self.now.board_shape).required at }
     {
         self.rows.required[at]
     }
 
-    /// How many targets the node at a place has.
+    /// How many targets the node at an index has.
     pub(crate) fn targets_at(&self, at: usize) -> usize
-        requires { at < nodes (lay self.now.plot) }
-        ensures { result ≡ length ((lay self.now.plot).targets at) }
+        requires { at < nodes (layout_of self.now.board_shape) }
+        ensures { result ≡ length ((layout_of self.now.board_shape).targets at) }
     {
         self.rows.targets[at].len()
     }
 
-    /// One of the targets, by place.
+    /// One of the targets, by index.
     pub(crate) fn target(&self, at: usize, i: usize) -> usize
-        requires inside { at < nodes (lay self.now.plot) }
-        requires near { i < length ((lay self.now.plot).targets at) }
-        ensures is { result ≡ slice_index ((lay self.now.plot).targets at) i }
-        ensures inside { result < nodes (lay self.now.plot) }
+        requires inside { at < nodes (layout_of self.now.board_shape) }
+        requires near { i < length ((layout_of self.now.board_shape).targets at) }
+        ensures is { result ≡ slice_index ((layout_of self.now.board_shape).targets at) i }
+        ensures inside { result < nodes (layout_of self.now.board_shape) }
     {
         self.rows.targets[at][i]
     }
 
-    /// The number of the node at a place.
+    /// The number of the node at an index.
     pub(crate) fn number(&self, at: usize) -> u32
-        requires { at < nodes (lay self.now.plot) }
-        ensures is { result ≡ (lay self.now.plot).number at }
+        requires { at < nodes (layout_of self.now.board_shape) }
+        ensures is { result ≡ (layout_of self.now.board_shape).number at }
         ensures most { result ≤ 63 }
     {
-        self.plot.shape.nodes.as_slice()[at].node
+        self.board_shape.shape.nodes.as_slice()[at].node
     }
 }
 
 impl Board {
-    /// Where the words of the activation record at a place stand.
+    /// Where the words of the activation record at an index stand.
     pub(crate) fn pending_word(&self, at: usize) -> usize
-        requires { at < nodes (lay self.now.plot) }
-        ensures is { result ≡ pending_place self.now.plot.shape at }
+        requires { at < nodes (layout_of self.now.board_shape) }
+        ensures is { result ≡ pending_place self.now.board_shape.shape at }
         ensures there { result < self.now.table.shared.table_id.words }
     {
         1 + at
     }
 
     pub(crate) fn status_word(&self, at: usize) -> usize
-        requires { at < nodes (lay self.now.plot) }
-        ensures is { result ≡ status_place self.now.plot.shape at }
+        requires { at < nodes (layout_of self.now.board_shape) }
+        ensures is { result ≡ status_place self.now.board_shape.shape at }
         ensures there { result < self.now.table.shared.table_id.words }
     {
         1 + self.nodes() + at
@@ -144,49 +144,52 @@ impl Board {
 
     // How many io areas the links before the late sets have.
     fn areas(&self) -> usize
-        ensures { result ≡ area_count self.now.plot.shape.links }
+        ensures { result ≡ area_count self.now.board_shape.shape.links }
     {
         self.rows.areas
     }
 
     /// Where the late set of a cycle stands, counted from the first.
     pub(crate) fn late_word(&self, past: usize) -> usize
-        requires { past < self.now.plot.shape.cycles }
-        ensures is { result ≡ late_place self.now.plot.shape past }
+        requires { past < self.now.board_shape.shape.cycles }
+        ensures is { result ≡ late_place self.now.board_shape.shape past }
         ensures there { result < self.now.table.shared.table_id.words }
-        ensures later { nodes (lay self.now.plot) + nodes (lay self.now.plot) < result }
+        ensures later { nodes (layout_of self.now.board_shape) + nodes (layout_of self.now.board_shape) < result }
     {
         1 + 2 * self.nodes() + self.areas() + past
     }
 
     /// Where the late sets and the events begin.
     pub(crate) fn first_late(&self) -> usize
-        ensures { result ≡ late_place self.now.plot.shape 0 }
+        ensures { result ≡ late_place self.now.board_shape.shape 0 }
     {
         1 + 2 * self.nodes() + self.areas()
     }
 
     pub(crate) fn first_event(&self) -> usize
-        ensures { result ≡ event_place self.now.plot.shape 0 }
+        ensures { result ≡ event_place self.now.board_shape.shape 0 }
     {
-        self.first_late() + self.plot.shape.cycles as usize
+        self.first_late() + self.board_shape.shape.cycles as usize
     }
 
     /// Where the event of a ticket stands.
     pub(crate) fn event_word(&self, ticket: u64) -> usize
-        requires { ticket < event_count self.now.plot.shape }
-        ensures is { result ≡ event_place self.now.plot.shape ticket }
+        requires { ticket < event_count self.now.board_shape.shape }
+        ensures is { result ≡ event_place self.now.board_shape.shape ticket }
         ensures there { result < self.now.table.shared.table_id.words }
-        ensures later { nodes (lay self.now.plot) + nodes (lay self.now.plot) < result }
+        ensures later { nodes (layout_of self.now.board_shape) + nodes (layout_of self.now.board_shape) < result }
     {
-        1 + 2 * self.nodes() + self.areas() + self.plot.shape.cycles as usize + ticket as usize
+        1 + 2 * self.nodes()
+            + self.areas()
+            + self.board_shape.shape.cycles as usize
+            + ticket as usize
     }
 }
 
 impl Board {
     /// A cycle of the epoch, as its number.
     pub(crate) fn cycle(&self, cycle: u64) -> u32
-        requires { cycle < last (lay self.now.plot) }
+        requires { cycle < last (layout_of self.now.board_shape) }
         ensures { result ≡ cycle }
     {
         cycle as u32
@@ -194,9 +197,9 @@ impl Board {
 
     /// How many cycles of the epoch come before one.
     pub(crate) fn past(&self, cycle: u64) -> u32
-        requires { (first (lay self.now.plot) ≤ cycle) × (cycle ≤ last (lay self.now.plot)) }
-        ensures { first (lay self.now.plot) + result ≡ cycle }
+        requires { (first (layout_of self.now.board_shape) ≤ cycle) × (cycle ≤ last (layout_of self.now.board_shape)) }
+        ensures { first (layout_of self.now.board_shape) + result ≡ cycle }
     {
-        (cycle - u64::from(self.plot.shape.first)) as u32
+        (cycle - u64::from(self.board_shape.shape.first)) as u32
     }
 }

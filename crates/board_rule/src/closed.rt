@@ -1,7 +1,7 @@
 //! What is left of a board when its last step is made.
 ghost use Rattle.std.specs.Prelude.{◌≡◌};
 
-use crate::plot::Plot;
+use crate::board_shape::BoardShape;
 use crate::rule::BoardToken;
 use pw_base::{Event, Items};
 
@@ -9,7 +9,7 @@ use pw_base::{Event, Items};
 /// order of their tickets. Only `Board::close` makes one.
 #[derive(Drop)]
 pub struct Closed {
-    pub(crate) plot: Plot,
+    pub(crate) board_shape: BoardShape,
     pub(crate) events: Items<Event>,
     pub(crate) kept: BoardToken,
 }

@@ -1,11 +1,12 @@
 //! The end of a board.
+ghost use Rattle.board_rule.specs.OnBoard.{IsOn, layout};
 ghost use Rattle.std.specs.Prelude.{◌≡◌, ℕ, ◌+◌, ◌<◌, ◌≤◌, [], ◌∷◌, ◌++◌, List, length, true, false, slice_index};
 ghost use Rattle.std.specs.Prelude.{slice_index_or, count_by};
 ghost use Rattle.pw_base.specs.declared.event.Event.{Event};
 ghost use Rattle.pw_base.specs.EventWords.{event_word_of};
 ghost use Rattle.pw_base.specs.History.{is_tick, IsLegalHistory};
-ghost use Rattle.pw_base.specs.Layout.{late_place, event_place};
-ghost use Rattle.board_rule.specs.Layout.{lay};
+ghost use Rattle.pw_base.specs.Layout.{late_place, event_place, event_count};
+ghost use Rattle.board_rule.specs.Layout.{layout_of};
 ghost use Rattle.board_rule.specs.Closing.{HasEndedAll, last_view, kept_view, expected, IsInRange, LateOf, AreRecorded};
 
 use crate::board::Board;
@@ -21,10 +22,11 @@ type Words = atomic_table::Closed<Option<u64>, Global>;
 
 // Splits the view off that is kept of the board. After it no seat is split off any more.
 fn keep<C: Cut>(board: &Board, token: &mut BoardToken) -> BoardToken
-    requires table { token.old.table_id ≡ board.now.table.shared.table_id }
-    requires leads { token.old.me.0.number ≡ (lay board.now.plot).seats }
-    requires left { C.left ≡ last_view (lay board.now.plot) token.old.me.0 }
-    requires right { C.right ≡ kept_view (lay board.now.plot) token.old.me.0 }
+    requires table { IsOn board.now token.old.table_id }
+    requires is_driver { token.old.me.0.number ≡ (layout board.now).seats }
+    requires ended { HasEndedAll (layout board.now) token.old.me.0 }
+    requires left { C.left ≡ last_view (layout board.now) token.old.me.0 }
+    requires right { C.right ≡ kept_view (layout board.now) token.old.me.0 }
     ensures left { (token.new.table_id ≡ token.old.table_id) × (token.new.me.0 ≡ C.left) }
     ensures right { result.me.0 ≡ C.right }
 {
@@ -76,14 +78,15 @@ impl Board {
     /// Ends the board: its words become the list of its events, in memory that `new` took. Condition: the seat is the
     /// board's driver's, and has ended all cycles.
     pub fn close(self, seat: DriverSeat) -> Closed
-        requires table { seat.table ≡ self.table.shared.table_id }
-        requires ended { HasEndedAll (lay self.plot) seat.knows }
+        requires table { IsOn self seat.table }
+        requires ended { HasEndedAll (layout_of self.board_shape) seat.knows }
 
-        ensures plot { result.plot ≡ self.plot }
+        ensures board_shape { result.board_shape ≡ self.board_shape }
         ensures expect { expected result ≡ seat.knows.expect }
         // The events are a legal history of the epoch, with one Tick for each check that the seat made.
-        ensures legal { IsLegalHistory (self.plot.shape ∷ []) result.events }
+        ensures legal { IsLegalHistory (self.board_shape.shape ∷ []) result.events }
         ensures ticks { count_by is_tick result.events ≡ seat.knows.lead.checks }
+        ensures count { length result.events ≤ event_count self.board_shape.shape }
     {
         let DriverSeat {
             token,
@@ -97,13 +100,17 @@ impl Board {
         let events = self.first_event();
         let Board {
             table,
-            plot,
+            board_shape,
             rows: _,
             spare,
         } = self;
         let words = table.close_with(token);
-        let events = history(&words, lates, events, plot.shape.first, spare);
+        let events = history(&words, lates, events, board_shape.shape.first, spare);
         words.free();
-        Closed { plot, events, kept }
+        Closed {
+            board_shape,
+            events,
+            kept,
+        }
     }
 }

@@ -1,13 +1,13 @@
 //! The driver's seat. Contracts see the table that it belongs to and what it knows.
+ghost use Rattle.board_rule.specs.OnBoard.{IsOn, layout};
 ghost use Rattle.std.specs.Prelude.{◌≡◌, ◌<◌, length};
-ghost use Rattle.board_rule.specs.Layout.{lay};
 ghost use Rattle.board_rule.specs.EndViews.{read_of};
 ghost use Rattle.board_rule.specs.Steps.{StoresPending, pending_stored, StoresStatus, status_stored};
 ghost use Rattle.board_rule.specs.EventSteps.{Looks, looked, StoresLate, late_stored};
 
 use crate::board::Board;
 use crate::lead::{
-    Due, LeadProgress, lead_draw, lead_event, lead_store, lead_ticket, reset_so_far, told_so_far,
+    DriverProgress, Due, lead_draw, lead_event, lead_store, lead_ticket, reset_so_far, told_so_far,
     woke_at_draw,
 };
 use crate::progress::wake;
@@ -23,7 +23,7 @@ use std::marker::{Brand, Model};
 #[derive(Drop)]
 pub struct DriverSeat {
     pub(crate) token: BoardToken,
-    pub(crate) lead: LeadProgress,
+    pub(crate) lead: DriverProgress,
     pub(crate) reads: Vec<ReadView>,
     pub(crate) woke: u64,
 }
@@ -51,7 +51,7 @@ impl DriverSeat {
 impl BoardSeat for DriverSeat {
     ghost use Rattle.std.specs.Prelude.{true};
 
-    ghost leads = { true };
+    ghost is_driver = { true };
 
     ghost table = { λ s. s.table };
 
@@ -66,7 +66,7 @@ impl BoardSeat for DriverSeat {
     }
 
     fn lower_pending(&mut self, board: &Board, node: u32) -> u64 {
-        let at = board.place(node);
+        let at = board.index_of(node);
         let done = self.lead.done;
         let target = board.target(at, done);
         let found = activation::lower::<Brand>(board, &mut self.token, at, target);
@@ -76,7 +76,7 @@ impl BoardSeat for DriverSeat {
     }
 
     fn store_triggered(&mut self, board: &Board, node: u32) {
-        let at = board.place(node);
+        let at = board.index_of(node);
         let done = self.lead.done;
         let target = board.target(at, done - 1);
         let cycle = board.cycle(self.lead.cycle);
@@ -85,7 +85,7 @@ impl BoardSeat for DriverSeat {
     }
 
     fn exchange_awake(&mut self, board: &Board, node: u32) -> u64 {
-        let at = board.place(node);
+        let at = board.index_of(node);
         let cycle = board.cycle(self.lead.cycle);
         let found = activation::claim::<Brand>(board, &mut self.token, at, cycle);
         if found == triggered(cycle) {
@@ -95,14 +95,14 @@ impl BoardSeat for DriverSeat {
     }
 
     fn store_finished(&mut self, board: &Board, node: u32) {
-        let at = board.place(node);
+        let at = board.index_of(node);
         let cycle = board.cycle(self.lead.cycle);
         activation::finish::<Brand>(board, &mut self.token, at, cycle);
         self.woke = 0;
     }
 
     fn draw_ticket(&mut self, board: &Board, node: u32) -> u64 {
-        let at = board.place(node);
+        let at = board.index_of(node);
         let ticket = event::draw::<Brand>(board, &mut self.token, at);
         self.woke = woke_at_draw(self.lead.due, self.woke);
         lead_draw(&mut self.lead, ticket);
@@ -110,7 +110,7 @@ impl BoardSeat for DriverSeat {
     }
 
     fn store_event(&mut self, board: &Board, node: u32) {
-        let at = board.place(node);
+        let at = board.index_of(node);
         let cycle = board.cycle(self.lead.cycle);
         let new = lead_event(self.lead.due, cycle, node);
         let ticket = lead_ticket(self.lead);
@@ -126,7 +126,7 @@ impl BoardSeat for DriverSeat {
     fn load_io_as_reader(&mut self, board: &Board, link: u32) -> u64 {
         let end = self.read_at(link);
         let cycle = self.lead.cycle;
-        let found = reading::load_area::<Brand>(board, &mut self.token, link);
+        let found = reading::load_area::<Brand>(board, &mut self.token, link, cycle);
         self.reads[link as usize] = ReadView {
             loaded: cycle + 1,
             lowered: end.lowered,
@@ -134,12 +134,6 @@ impl BoardSeat for DriverSeat {
             id: io_id_of(found),
         };
         found
-    }
-
-    #[inline]
-    fn load_sample(&mut self, board: &Board, link: u32, id: u32, place: u32) -> u64 {
-        let word = board.link_sample_word(link, id, place);
-        reading::load_sample::<Brand>(board, &mut self.token, link, id, place, word)
     }
 
     #[inline]
@@ -173,7 +167,7 @@ impl BoardSeat for DriverSeat {
     fn store_need_data(&mut self, board: &Board, link: u32, id: u32) {
         let end = self.read_at(link);
         let cycle = self.lead.cycle;
-        reading::store_need::<Brand>(board, &mut self.token, link, id);
+        reading::store_need::<Brand>(board, &mut self.token, link, cycle, id);
         self.reads[link as usize] = ReadView {
             loaded: end.loaded,
             lowered: end.lowered,
@@ -186,8 +180,8 @@ impl BoardSeat for DriverSeat {
 impl DriverSeat {
     /// Stores the required count of the node that is reset next in its pending word. No memory, no wait, no failure.
     pub fn store_pending(&mut self, board: &Board)
-        requires table { self.old.table ≡ board.now.table.shared.table_id }
-        requires phase { StoresPending (lay board.now.plot) self.old.knows }
+        requires table { IsOn board.now self.old.table }
+        requires phase { StoresPending (layout board.now) self.old.knows }
         ensures table { self.new.table ≡ self.old.table }
         ensures knows { self.new.knows ≡ pending_stored self.old.knows }
     {
@@ -197,10 +191,10 @@ impl DriverSeat {
 
     /// Stores NOT_TRIGGERED of its cycle in the status word of the node whose pending word is reset.
     pub fn store_not_triggered(&mut self, board: &Board)
-        requires table { self.old.table ≡ board.now.table.shared.table_id }
-        requires phase { StoresStatus (lay board.now.plot) self.old.knows }
+        requires table { IsOn board.now self.old.table }
+        requires phase { StoresStatus (layout board.now) self.old.knows }
         ensures table { self.new.table ≡ self.old.table }
-        ensures knows { self.new.knows ≡ status_stored (lay board.now.plot) self.old.knows }
+        ensures knows { self.new.knows ≡ status_stored (layout board.now) self.old.knows }
     {
         let at = self.lead.done;
         let cycle = board.cycle(self.lead.cycle);
@@ -210,20 +204,20 @@ impl DriverSeat {
 
     /// Loads the status word of a follower in a check, which has not yet loaded it.
     pub fn load_status(&mut self, board: &Board, node: u32) -> u64
-        requires table { self.old.table ≡ board.now.table.shared.table_id }
-        requires phase { let p = lay board.now.plot in Looks p self.old.knows (p.place node) }
+        requires table { IsOn board.now self.old.table }
+        requires phase { let p = layout board.now in Looks p self.old.knows (p.index node) }
         ensures table { self.new.table ≡ self.old.table }
-        ensures knows { let p = lay board.now.plot in
-            self.new.knows ≡ looked p self.old.knows (p.place node) result }
+        ensures knows { let p = layout board.now in
+            self.new.knows ≡ looked p self.old.knows (p.index node) result }
     {
-        let at = board.place(node);
+        let at = board.index_of(node);
         event::look::<Brand>(board, &mut self.token, at)
     }
 
     /// Stores the late set of a check: the followers whose status word was not FINISHED of its cycle. Bit n is node n.
     pub fn store_late(&mut self, board: &Board, late: u64)
-        requires table { self.old.table ≡ board.now.table.shared.table_id }
-        requires phase { StoresLate (lay board.now.plot) self.old.knows late }
+        requires table { IsOn board.now self.old.table }
+        requires phase { StoresLate (layout board.now) self.old.knows late }
         ensures table { self.new.table ≡ self.old.table }
         ensures knows { self.new.knows ≡ late_stored self.old.knows }
     {

@@ -1,28 +1,43 @@
 //! The words that a board begins with.
-ghost use Rattle.std.specs.Prelude.{◌≡◌, ◌+◌, ◌-◌, ◌∷◌, ◌++◌, false, OnOk, IfOk, All, replicate};
+ghost use Rattle.std.specs.Prelude.{◌≡◌, ◌+◌, ◌-◌, ◌&&◌, ◌∷◌, ◌++◌, [], count_by, OnOk, IfOk, replicate};
 ghost use Rattle.std.specs.List.{flat_map};
-ghost use Rattle.pw_base.specs.Pools.{IsPooledShape, pools_of};
+ghost use Rattle.pw_base.specs.Pools.{IsPooledShape, is_same_port, pools_of};
 ghost use Rattle.pw_base.specs.Words.{not_triggered_word};
 ghost use Rattle.pw_base.specs.Layout.{start_words, io_start, pool_words, pool_start};
-ghost use Rattle.board_rule.specs.Layout.{IsUndelayed};
 
 use crate::steps::statuses::not_triggered;
 use pw_base::{
-    AreaStatus, Items, Memory, NO_BLOCK, PoolShape, Shape, ShapeLink, io_word, pools_of,
+    AreaStatus, Items, Memory, NO_BLOCK, PoolShape, PortId, Shape, ShapeLink, io_word, is_same_port,
+    pools_of,
 };
 use std::alloc::Global;
 
-// The io area of a link that asks for data and names no block, at its place behind the words.
+// Two words behind the others.
+fn push_two(words: &mut Items<u64>, one: u64, two: u64) -> Result<(), Memory>
+    ensures { OnOk result (words.new ≡ words.old ++ one ∷ two ∷ []) }
+{
+    words.push(one)?;
+    words.push(two)
+}
+
+// The io areas of a link, behind the words. An area asks for data and names no block, but that of a delayed link that is
+// read in the first cycle has data and names block 0.
 fn push_area(words: &mut Items<u64>, link: &ShapeLink, first: u32) -> Result<(), Memory>
-    requires { link.now.delayed ≡ false }
     ensures { OnOk result (words.new ≡ words.old ++ io_start first link.now) }
 {
-    words.push(io_word(AreaStatus::NeedData.number(), NO_BLOCK))
+    let need = io_word(AreaStatus::NeedData.number(), NO_BLOCK);
+    let have = io_word(AreaStatus::HaveData.number(), 0);
+    if !link.delayed {
+        words.push(need)
+    } else if first % 2 == 0 {
+        push_two(words, have, need)
+    } else {
+        push_two(words, need, have)
+    }
 }
 
 // The io areas of all links.
 fn push_areas(words: &mut Items<u64>, links: &[ShapeLink], first: u32) -> Result<(), Memory>
-    requires { All (λ l. l.delayed ≡ false) links.now }
     ensures { OnOk result (words.new ≡ words.old ++ flat_map (io_start first) links.now) }
 {
     for link in links {
@@ -31,28 +46,42 @@ fn push_areas(words: &mut Items<u64>, links: &[ShapeLink], first: u32) -> Result
     Ok(())
 }
 
-// As many zeros as a pool has words.
-fn push_zeros(words: &mut Items<u64>, pool: &PoolShape) -> Result<(), Memory>
-    ensures { OnOk result (words.new ≡ words.old ++ 0 ∷ replicate (pool_words pool.now - 1) 0) }
+/// How many delayed links go from a port.
+pub(crate) fn delayed_readers(links: &[ShapeLink], port: PortId) -> u64
+    ensures { result ≡ count_by (λ l. l.delayed && is_same_port l.from port) links.now }
+{
+    let mut late = 0;
+    for link in links {
+        if link.delayed && is_same_port(link.from, port) {
+            late += 1;
+        }
+    }
+    late
+}
+
+// A readers word, and as many zeros as the pool has further words.
+fn push_zeros(words: &mut Items<u64>, pool: &PoolShape, readers: u64) -> Result<(), Memory>
+    ensures { OnOk result (words.new ≡ words.old ++ readers ∷ replicate (pool_words pool.now - 1) 0) }
 {
     let count = pool.blocks as usize * (1 + pool.words as usize);
-    words.push(0)?;
+    words.push(readers)?;
     words.extend_filled(count.saturating_sub(1), 0)
 }
 
-// The words of a pool that no delayed link reads.
-#[tactic(auto, using(crate::proofs::LayoutLemmas::undelayed_start))]
+// The words of a pool: all 0, but that the readers word of block 0 counts the pool's delayed links.
 fn push_pool(words: &mut Items<u64>, shape: &Shape, pool: &PoolShape) -> Result<(), Memory>
-    requires { IsUndelayed shape.now }
     ensures { OnOk result (words.new ≡ words.old ++ pool_start shape.now pool.now) }
 {
-    push_zeros(words, pool)
+    push_zeros(
+        words,
+        pool,
+        delayed_readers(shape.links.as_slice(), pool.port),
+    )
 }
 
 // The words of all pools.
 fn push_pools(alloc: Global, words: &mut Items<u64>, shape: &Shape) -> Result<(), Memory>
     requires pooled { IsPooledShape shape.now }
-    requires undelayed { IsUndelayed shape.now }
     ensures { OnOk result (words.new ≡ words.old ++ flat_map (pool_start shape.now) (pools_of shape.now)) }
 {
     let pools = pools_of(alloc, shape)?;
@@ -76,7 +105,6 @@ fn node_words(alloc: Global, nodes: usize, first: u32) -> Result<Items<u64>, Mem
 /// The words of a board at its start.
 pub(crate) fn start_words(alloc: Global, shape: &Shape) -> Result<Items<u64>, Memory>
     requires pooled { IsPooledShape shape.now }
-    requires undelayed { IsUndelayed shape.now }
     ensures { IfOk result (λ words. words ≡ start_words shape.now) }
 {
     let nodes = shape.nodes.len();

@@ -1,7 +1,7 @@
 //! What the driver's seat keeps to step by. Its phase stands in contracts alone.
 ghost use Rattle.std.specs.Prelude.{◌≡◌, ◌<◌, ◌≤◌, ◌^◌, cond};
 ghost use Rattle.pw_base.specs.EventWords.{event_node};
-ghost use Rattle.board_rule.specs.LeadProgress.{told_so_far, reset_so_far, due_ticket, due_event, lead_drawn, lead_stored, is_begin};
+ghost use Rattle.board_rule.specs.DriverProgress.{told_so_far, reset_so_far, due_ticket, due_event, lead_drawn, lead_stored, is_begin};
 
 use pw_base::Event;
 
@@ -15,10 +15,10 @@ pub enum Due {
     End,
 }
 
-/// The driver's seat in its cycle: how many nodes it has reset, or targets taken down; the event that is due; and the
+/// The driver's seat in its cycle: how many nodes it has reset, or targets lowered; the event that is due; and the
 /// tickets that it drew last, `start` and `finish` for its own node.
 #[derive(Clone, Copy, Drop)]
-pub struct LeadProgress {
+pub struct DriverProgress {
     pub(crate) cycle: u64,
     pub(crate) done: usize,
     pub(crate) due: Due,
@@ -27,14 +27,14 @@ pub struct LeadProgress {
     pub(crate) finish: u64,
 }
 
-/// So many targets are taken down, and the last of these may be owed its trigger.
+/// `n` targets are lowered, and the last of these may be owed its trigger.
 pub(crate) fn told_so_far(targets: usize, told: usize, owes: bool) -> usize
     ensures { result ≡ told_so_far targets told owes }
 {
     if !owes && told == targets { 0 } else { told }
 }
 
-/// The first so many nodes are reset.
+/// The first `n` nodes are reset.
 pub(crate) fn reset_so_far(nodes: usize, done: usize) -> usize
     ensures { result ≡ reset_so_far nodes done }
 {
@@ -42,7 +42,7 @@ pub(crate) fn reset_so_far(nodes: usize, done: usize) -> usize
 }
 
 /// The driver's seat has drawn the ticket of the event that is due.
-pub(crate) fn lead_draw(lead: &mut LeadProgress, ticket: u64)
+pub(crate) fn lead_draw(lead: &mut DriverProgress, ticket: u64)
     ensures { lead.new ≡ lead_drawn lead.old lead.old.due ticket }
 {
     match lead.due {
@@ -53,7 +53,7 @@ pub(crate) fn lead_draw(lead: &mut LeadProgress, ticket: u64)
 }
 
 /// The ticket that the driver's seat holds.
-pub(crate) fn lead_ticket(lead: LeadProgress) -> u64
+pub(crate) fn lead_ticket(lead: DriverProgress) -> u64
     ensures { result ≡ due_ticket lead lead.due }
 {
     match lead.due {
@@ -64,7 +64,7 @@ pub(crate) fn lead_ticket(lead: LeadProgress) -> u64
 }
 
 /// The driver's seat has stored the event that was due.
-pub(crate) fn lead_store(lead: &mut LeadProgress)
+pub(crate) fn lead_store(lead: &mut DriverProgress)
     requires { lead.old.cycle < 2 ^ 63 }
     ensures { lead.new ≡ lead_stored lead.old lead.old.due }
 {

@@ -1,9 +1,9 @@
-//! How many dependencies of a node have yet to take it down: the count that its pending word holds in a cycle.
+//! How many dependencies of a node have yet to lower it: the count that its pending word holds in a cycle.
 ghost use Rattle.std.specs.Prelude.{◌≡◌, ◌+◌, ◌<◌, ◌≤◌, false, true, length, All, Contains, slice_index_or, slice_set};
 ghost use Rattle.std.specs.List.Sorted.{IsStrictlyIncreasing};
 ghost use Rattle.board_rule.specs.Left.{left_of, untold};
 
-// 1 where the node at a place has yet to tell.
+// 1 where the node at an index has yet to tell.
 fn untold_at(told: &[bool], m: usize) -> usize
     requires { m < length told.now }
     ensures is { result ≡ untold told.now m }
@@ -12,7 +12,7 @@ fn untold_at(told: &[bool], m: usize) -> usize
     if told[m] { 0 } else { 1 }
 }
 
-/// The count for a list of dependencies, of which `told` says by place which have told. Takes no memory.
+/// The count for a list of dependencies, of which `told` says by index which have told. Takes no memory.
 pub fn left_of(dependencies: &[usize], told: &[bool]) -> usize
     requires { All (λ m. m < length told.now) dependencies.now }
     ensures { result ≡ left_of (untold told.now) dependencies.now }

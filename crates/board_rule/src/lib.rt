@@ -2,35 +2,38 @@
 #![tactic(auto)]
 
 mod board;
+mod board_shape;
 mod closed;
 mod closing;
 mod copying;
 mod driver_seat;
 mod expect;
+mod indexes;
 mod layout;
 mod lead;
 mod left;
 mod loop_seat;
 mod opening;
-mod places;
-mod plot;
 mod progress;
 mod rows;
 mod rule;
+mod safety;
 mod seat;
 mod steps;
 mod view;
 mod writing;
 
 pub use board::Board;
+pub use board_shape::BoardShape;
 pub use closed::Closed;
 pub use driver_seat::DriverSeat;
 pub use expect::Expect;
 pub use left::{left_at_start, left_of, tell};
 pub use loop_seat::LoopSeat;
-pub use plot::Plot;
+pub use rows::index_in;
 pub use rule::BoardRule;
+pub use safety::buffers_are_safe;
 pub use seat::BoardSeat;
 pub use view::{
-    BlockView, Drive, Found, LeadView, NodeView, Phase, ReadView, Trail, View, WriteView,
+    BlockView, DriverPhase, DriverView, Found, NodeView, Phase, ReadView, Trail, View, WriteView,
 };

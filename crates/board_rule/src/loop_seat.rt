@@ -37,7 +37,7 @@ impl Model for LoopSeat {
 }
 
 impl LoopSeat {
-    // What is kept of the follower at a place.
+    // What is kept of the follower at an index.
     pub(crate) fn node_at(&self, at: usize) -> NodeProgress
         requires { at < length self.now.knows.nodes }
         ensures { result ≡ progress_of (node_of self.now.knows at) }
@@ -57,14 +57,14 @@ impl LoopSeat {
 impl BoardSeat for LoopSeat {
     ghost use Rattle.std.specs.Prelude.{false};
 
-    ghost leads = { false };
+    ghost is_driver = { false };
 
     ghost table = { λ s. s.table };
 
     ghost knows = { λ s. s.knows };
 
     fn ended(&self, board: &Board, node: u32) -> u32 {
-        let at = board.place(node);
+        let at = board.index_of(node);
         board.past(self.node_at(at).next)
     }
 
@@ -73,7 +73,7 @@ impl BoardSeat for LoopSeat {
     }
 
     fn lower_pending(&mut self, board: &Board, node: u32) -> u64 {
-        let at = board.place(node);
+        let at = board.index_of(node);
         let told = self.node_at(at).told;
         let target = board.target(at, told);
         let found = activation::lower::<Brand>(board, &mut self.token, at, target);
@@ -84,7 +84,7 @@ impl BoardSeat for LoopSeat {
     }
 
     fn store_triggered(&mut self, board: &Board, node: u32) {
-        let at = board.place(node);
+        let at = board.index_of(node);
         let before = self.node_at(at);
         let target = board.target(at, before.told - 1);
         let cycle = board.cycle(before.next);
@@ -94,13 +94,13 @@ impl BoardSeat for LoopSeat {
     }
 
     fn exchange_awake(&mut self, board: &Board, node: u32) -> u64 {
-        let at = board.place(node);
+        let at = board.index_of(node);
         let cycle = board.cycle(self.node_at(at).next);
         activation::claim::<Brand>(board, &mut self.token, at, cycle)
     }
 
     fn store_finished(&mut self, board: &Board, node: u32) {
-        let at = board.place(node);
+        let at = board.index_of(node);
         let cycle = board.cycle(self.node_at(at).next);
         activation::finish::<Brand>(board, &mut self.token, at, cycle);
         let kept = &mut self.nodes[at];
@@ -109,7 +109,7 @@ impl BoardSeat for LoopSeat {
     }
 
     fn draw_ticket(&mut self, board: &Board, node: u32) -> u64 {
-        let at = board.place(node);
+        let at = board.index_of(node);
         let ticket = event::draw::<Brand>(board, &mut self.token, at);
         let kept = &mut self.nodes[at];
         draw(kept, ticket);
@@ -117,7 +117,7 @@ impl BoardSeat for LoopSeat {
     }
 
     fn store_event(&mut self, board: &Board, node: u32) {
-        let at = board.place(node);
+        let at = board.index_of(node);
         let before = self.node_at(at);
         let new = node_event(before.ends, board.cycle(before.next), node);
         event::store::<Brand>(board, &mut self.token, at, ticket_held(before), &new);
@@ -131,7 +131,7 @@ impl BoardSeat for LoopSeat {
     fn load_io_as_reader(&mut self, board: &Board, link: u32) -> u64 {
         let end = self.read_at(link);
         let cycle = self.node_at(board.reader(link)).next;
-        let found = reading::load_area::<Brand>(board, &mut self.token, link);
+        let found = reading::load_area::<Brand>(board, &mut self.token, link, cycle);
         self.reads[link as usize] = ReadView {
             loaded: cycle + 1,
             lowered: end.lowered,
@@ -139,12 +139,6 @@ impl BoardSeat for LoopSeat {
             id: io_id_of(found),
         };
         found
-    }
-
-    #[inline]
-    fn load_sample(&mut self, board: &Board, link: u32, id: u32, place: u32) -> u64 {
-        let word = board.link_sample_word(link, id, place);
-        reading::load_sample::<Brand>(board, &mut self.token, link, id, place, word)
     }
 
     #[inline]
@@ -178,7 +172,7 @@ impl BoardSeat for LoopSeat {
     fn store_need_data(&mut self, board: &Board, link: u32, id: u32) {
         let end = self.read_at(link);
         let cycle = self.node_at(board.reader(link)).next;
-        reading::store_need::<Brand>(board, &mut self.token, link, id);
+        reading::store_need::<Brand>(board, &mut self.token, link, cycle, id);
         self.reads[link as usize] = ReadView {
             loaded: end.loaded,
             lowered: end.lowered,

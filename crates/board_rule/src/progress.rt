@@ -1,15 +1,16 @@
 //! What the seat of a loop keeps of a follower to step by. The phases themselves stand in contracts alone.
+ghost use Rattle.board_rule.specs.OnBoard.{layout};
 ghost use Rattle.std.specs.Prelude.{◌≡◌, ◌<◌, ◌≤◌, ◌^◌, true, cond, eqb};
 ghost use Rattle.pw_base.specs.declared.event.Event.TheVariants.{Start, Finish};
 ghost use Rattle.pw_base.specs.EventWords.{event_node};
 ghost use Rattle.board_rule.specs.Bits.{with_bit};
-ghost use Rattle.board_rule.specs.Layout.{lay, nodes};
+ghost use Rattle.board_rule.specs.Layout.{nodes};
 ghost use Rattle.board_rule.specs.Progress.{progress_settled};
 
 use crate::board::Board;
 use pw_base::Event;
 
-/// A follower in its cycle `next`: how many targets it has taken down, whether FINISHED is stored, and the tickets that it
+/// A follower in its cycle `next`: how many targets it has lowered, whether FINISHED is stored, and the tickets that it
 /// drew last.
 #[derive(Clone, Copy, Drop)]
 pub struct NodeProgress {
@@ -20,7 +21,7 @@ pub struct NodeProgress {
     pub(crate) finish: u64,
 }
 
-/// The node has taken down the first so many of its targets.
+/// The node has lowered the first `n` of its targets.
 pub(crate) fn settle(node: &mut NodeProgress, targets: usize, told: usize, owes: bool)
     requires { node.old.next < 2 ^ 63 }
     ensures { node.new ≡ progress_settled targets node.old told owes }
@@ -76,8 +77,8 @@ pub(crate) fn node_event(ends: bool, cycle: u32, node: u32) -> Event
 
 /// The nodes that are woken, with a target more where its pending word was found at 1.
 pub(crate) fn wake(board: &Board, woke: u64, target: usize, found: u64) -> u64
-    requires { target < nodes (lay board.now.plot) }
-    ensures { result ≡ cond (eqb found 1) (with_bit woke ((lay board.now.plot).number target)) woke }
+    requires { target < nodes (layout board.now) }
+    ensures { result ≡ cond (eqb found 1) (with_bit woke ((layout board.now).number target)) woke }
 {
     if found == 1 {
         woke | 1 << board.number(target)

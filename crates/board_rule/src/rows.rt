@@ -1,16 +1,16 @@
-//! What the steps read of a shape, in rows by place.
+//! What the steps read of a shape, in rows by index.
 ghost use Rattle.std.specs.Prelude.{◌≡◌, ℕ, ◌+◌, ◌^◌, ◌<◌, ◌≤◌, ◌==◌, map, length, slice_index, IfOk};
 ghost use Rattle.std.specs.List.{position, position_or_len};
-ghost use Rattle.board_rule.specs.Layout.{place_in, required_row, target_rows};
+ghost use Rattle.board_rule.specs.Layout.{index_in, required_row, target_rows};
 ghost use Rattle.pw_base.specs.Layout.{area_count, areas_of, event_place, event_count, word_count};
 ghost use Rattle.pw_base.specs.Pools.{IsPooledShape, is_same_port, pools_of};
 ghost use Rattle.board_rule.specs.EndViews.{pool_in};
-ghost use Rattle.board_rule.specs.Rows.{IsLinkRow, HasLinkRows, IsPoolRow, HasPoolRows, HasRows, HasPlaces, base_of};
+ghost use Rattle.board_rule.specs.Rows.{IsLinkRow, HasLinkRows, IsPoolRow, HasPoolRows, HasRows, HasIndexes, base_of};
 
 use pw_base::{Memory, PoolShape, PortId, Shape, ShapeLink, is_same_port, pools_of};
 use std::alloc::{AllocError, Global};
 
-/// A link: the places of its writer and of its reader, the number of the pool that it reads, and where its area stands;
+/// A link: the indexes of its writer and of its reader, the number of the pool that it reads, where its first area stands, and whether it has a second;
 /// where the words of its pool begin, and how many each block has with its readers word.
 #[derive(Clone, Copy, Drop)]
 pub struct LinkRow {
@@ -18,11 +18,12 @@ pub struct LinkRow {
     pub(crate) reader: usize,
     pub(crate) pool: usize,
     pub(crate) area: usize,
+    pub(crate) delayed: bool,
     pub(crate) base: usize,
     pub(crate) stride: usize,
 }
 
-/// A pool: the node that fills it, by place and by number; how many blocks it has, how many words each has, and how many links read
+/// A pool: the node that fills it, by index and by number; how many blocks it has, how many words each has, and how many links read
 /// it; where a view has its first block, and where its words stand.
 #[derive(Clone, Copy, Drop)]
 pub struct PoolRow {
@@ -35,53 +36,53 @@ pub struct PoolRow {
     pub(crate) base: usize,
 }
 
-/// The driver's place; the place of each number below 64, or the number of nodes where the shape has no such node;
-/// of each place the required count and the places of the targets; each link, and each pool.
+/// The driver's index; the index of each number below 64, or the number of nodes where the shape has no such node;
+/// of each index the required count and the indexes of the targets; each link, and each pool.
 #[derive(Drop)]
 pub struct Rows {
     pub(crate) driver: usize,
     /// How many io areas the links have.
     pub(crate) areas: usize,
-    pub(crate) places: [usize; 64],
+    pub(crate) indexes: [usize; 64],
     pub(crate) required: Vec<u64>,
     pub(crate) targets: Vec<Vec<usize>>,
     pub(crate) links: Vec<LinkRow>,
     pub(crate) pools: Vec<PoolRow>,
 }
 
-// The place of a node, if the shape has it.
-fn find_place(shape: &Shape, node: u32) -> Option<usize>
+// The index of a node, if the shape has it.
+fn find_index(shape: &Shape, node: u32) -> Option<usize>
     ensures { result ≡ position (λ n. n.node == node) shape.now.nodes }
 {
     shape.nodes.as_slice().iter().position(|n| n.node == node)
 }
 
-// The place of a node, or the number of nodes.
+/// The index of a node of a shape, or the number of its nodes. Cost: a look at each node.
 #[tactic(auto, using(crate::proofs::RowLemmas::place_or_end))]
-fn place_in(shape: &Shape, node: u32) -> usize
-    ensures { result ≡ place_in shape.now node }
+pub fn index_in(shape: &Shape, node: u32) -> usize
+    ensures { result ≡ index_in shape.now node }
 {
-    find_place(shape, node).unwrap_or(shape.nodes.len())
+    find_index(shape, node).unwrap_or(shape.nodes.len())
 }
 
-// The places of the numbers below 64.
-fn places_of(shape: &Shape) -> [usize; 64]
-    ensures { (n : ℕ) → n < 64 → slice_index result n ≡ place_in shape.now n }
+// The indexes of the numbers below 64.
+fn indexes_of(shape: &Shape) -> [usize; 64]
+    ensures { (n : ℕ) → n < 64 → slice_index result n ≡ index_in shape.now n }
 {
-    let mut places = [0usize; 64];
+    let mut indexes = [0usize; 64];
     for n in 0..64 {
-        places[n as usize] = place_in(shape, n);
+        indexes[n as usize] = index_in(shape, n);
     }
-    places
+    indexes
 }
 
-// The places of nodes.
-fn places(alloc: Global, shape: &Shape, nodes: &[u32]) -> Result<Vec<usize>, AllocError>
-    ensures { IfOk result (λ v. v.items ≡ map (place_in shape.now) nodes.now) }
+// The indexes of nodes.
+fn indexes(alloc: Global, shape: &Shape, nodes: &[u32]) -> Result<Vec<usize>, AllocError>
+    ensures { IfOk result (λ v. v.items ≡ map (index_in shape.now) nodes.now) }
 {
     let mut found = Vec::new(alloc);
     for n in nodes {
-        found.push(place_in(shape, *n))?;
+        found.push(index_in(shape, *n))?;
     }
     Ok(found)
 }
@@ -97,13 +98,13 @@ fn required_of(alloc: Global, shape: &Shape) -> Result<Vec<u64>, AllocError>
     Ok(row)
 }
 
-// The targets of each node, by places.
+// The targets of each node, by indexes.
 fn targets_of(alloc: Global, shape: &Shape) -> Result<Vec<Vec<usize>>, AllocError>
     ensures { IfOk result (λ v. map (λ row. row.items) v.items ≡ target_rows shape.now) }
 {
     let mut rows = Vec::new(alloc);
     for n in shape.nodes.as_slice() {
-        rows.push(places(alloc, shape, n.targets.as_slice())?)?;
+        rows.push(indexes(alloc, shape, n.targets.as_slice())?)?;
     }
     Ok(rows)
 }
@@ -153,7 +154,7 @@ fn row_at(shape: &Shape, rows: &[PoolRow], pool: usize) -> PoolRow
     rows[pool]
 }
 
-// The row of a link whose area stands at a place.
+// The row of a link whose area stands at an index.
 fn link_row(
     shape: &Shape,
     pools: &[PoolShape],
@@ -171,10 +172,11 @@ fn link_row(
     let pool = pool_of(pools, link.from);
     let row = row_at(shape, rows, pool);
     LinkRow {
-        writer: place_in(shape, link.from.node),
-        reader: place_in(shape, link.to.node),
+        writer: index_in(shape, link.from.node),
+        reader: index_in(shape, link.to.node),
         pool,
         area,
+        delayed: link.delayed,
         base: row.base,
         stride: 1 + row.words,
     }
@@ -198,7 +200,7 @@ fn links_of(
     requires pooled { IsPooledShape shape.now }
     requires pools { pools.now ≡ pools_of shape.now }
     requires rows { HasPoolRows shape.now pool_rows.now }
-    requires placed { HasPlaces shape.now }
+    requires placed { HasIndexes shape.now }
     ensures { IfOk result (λ rows. HasLinkRows shape.now rows.items) }
 {
     let mut rows = Vec::new(alloc);
@@ -210,12 +212,12 @@ fn links_of(
     Ok(rows)
 }
 
-// The row of a pool whose first block and whose words stand at places.
+// The row of a pool whose first block and whose words stand at indexes.
 fn pool_row(shape: &Shape, pool: &PoolShape, first: usize, base: usize) -> PoolRow
     ensures { IsPoolRow shape.now pool.now first base result }
 {
     PoolRow {
-        filler: place_in(shape, pool.port.node),
+        filler: index_in(shape, pool.port.node),
         node: pool.port.node,
         blocks: pool.blocks,
         words: pool.words as usize,
@@ -249,11 +251,11 @@ fn pools_rows(
     Ok(rows)
 }
 
-/// The rows of a shape whose board has so many words. Cost: a look at each node for each target, each link and each
+/// The rows of a shape whose board has `n` words. Cost: a look at each node for each target, each link and each
 /// number below 64, and at each pool for each link.
 pub(crate) fn rows_of(alloc: Global, shape: &Shape, words: usize) -> Result<Rows, Memory>
     requires pooled { IsPooledShape shape.now }
-    requires placed { HasPlaces shape.now }
+    requires placed { HasIndexes shape.now }
     requires room { word_count shape.now ≤ words }
     ensures { IfOk result (λ rows. HasRows shape.now rows) }
 {
@@ -263,9 +265,9 @@ pub(crate) fn rows_of(alloc: Global, shape: &Shape, words: usize) -> Result<Rows
     let pool_rows = pools_rows(alloc, shape, pools.as_slice(), base, words)?;
     let links = links_of(alloc, shape, pools.as_slice(), pool_rows.as_slice())?;
     Ok(Rows {
-        driver: place_in(shape, shape.driver),
+        driver: index_in(shape, shape.driver),
         areas,
-        places: places_of(shape),
+        indexes: indexes_of(shape),
         required: required_of(alloc, shape)?,
         targets: targets_of(alloc, shape)?,
         links,

@@ -15,7 +15,7 @@ pub enum Phase {
     Done,
     /// The ticket of its Finish is drawn.
     FinishDrawn,
-    /// Its Finish is stored, and the first so many targets are taken down. The last of these may be owed its trigger.
+    /// Its Finish is stored, and the first `n` targets are lowered. The last of these may be owed its trigger.
     Telling { told: usize, owes: bool },
 }
 
@@ -30,17 +30,17 @@ pub struct NodeView {
 
 /// Where the driver's seat stands in its cycle.
 #[derive(Clone, Copy, Drop)]
-pub enum Drive {
+pub enum DriverPhase {
     /// The cycle is not yet begun.
     Between,
     BeginDrawn,
-    /// The first so many nodes are reset.
+    /// The first `n` nodes are reset.
     Reset { done: usize },
     /// And the pending word of the next one.
     Half { done: usize },
-    /// All are reset, and the first so many targets are taken down. The last of these may be owed its trigger.
+    /// All are reset, and the first `n` targets are lowered. The last of these may be owed its trigger.
     Kick { told: usize, owes: bool },
-    /// All targets are taken down, and the driver's node waits to be triggered.
+    /// All targets are lowered, and the driver's node waits to be triggered.
     Waiting,
     /// The ticket of a Tick is drawn, and statuses are loaded.
     Checking,
@@ -59,9 +59,9 @@ pub enum Drive {
 /// one was. `ticket` is the one that it drew last for a Begin, a Tick or an End, `start` and `finish` those for its own
 /// node.
 #[derive(Clone, Copy, Drop)]
-pub struct LeadView {
+pub struct DriverView {
     pub cycle: u64,
-    pub drive: Drive,
+    pub drive: DriverPhase,
     pub checked: bool,
     pub checks: u64,
     pub ticket: u64,
@@ -93,7 +93,7 @@ pub struct ReadView {
 #[derive(Clone, Copy, Drop)]
 pub enum BlockView {
     Free,
-    /// So many of its words are filled.
+    /// `n` of its words are filled.
     Filling { words: u64 },
     /// It was announced in the cycle before this one.
     Out { stamp: u64 },
@@ -110,7 +110,7 @@ pub struct Found {
 pub struct Trail {
     /// The status words of claims that were too early.
     pub tries: LinkedList<Found>,
-    /// The pending words of the targets that the last begin or finish has taken down.
+    /// The pending words of the targets that the last begin or finish has lowered.
     pub told: LinkedList<Found>,
     /// The status words that the last check has loaded.
     pub looks: LinkedList<Found>,
@@ -123,8 +123,8 @@ pub struct View {
     /// The driver's: how many loops' seats are split off.
     pub split: usize,
     /// The driver's.
-    pub lead: LeadView,
-    /// A loop's: by place in the shape. Those of the seat alone count.
+    pub lead: DriverView,
+    /// A loop's: by index in the shape. Those of the seat alone count.
     pub nodes: LinkedList<NodeView>,
     /// By number of the link. Those that the seat writes or reads count.
     pub writes: LinkedList<WriteView>,

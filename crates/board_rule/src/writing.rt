@@ -1,14 +1,14 @@
 //! The steps on buffers of a loop's seat whose node writes. Each is one sequentially consistent operation on one word; it
 //! takes no memory, does not wait and does not fail. Links, pools and blocks are given by number.
+ghost use Rattle.board_rule.specs.OnBoard.{IsOn, layout};
 ghost use Rattle.std.specs.Prelude.{◌≡◌, ℕ, ◌<◌, length};
 ghost use Rattle.pw_base.specs.Words.{io_id_in, need_data_word};
 ghost use Rattle.pw_base.specs.Layout.{sample_place};
-ghost use Rattle.board_rule.specs.Layout.{lay};
 ghost use Rattle.board_rule.specs.declared.view.BlockView.TheVariants.{Out};
 ghost use Rattle.board_rule.specs.EndViews.{write_of, pool_at, block_of};
 ghost use Rattle.board_rule.specs.BufferReads.{HasPool, IsFilled, is_filled, IsFirstFilled, older, IsOldestOut};
 ghost use Rattle.board_rule.specs.WriterSteps.{LoadsAsWriter, loaded_as_writer, IsGivenBack, StoresHave, have_stored};
-ghost use Rattle.board_rule.specs.BlockSteps.{LoadsReaders, readers_loaded, StoresSample, sample_stored, StoresReaders, readers_stored};
+ghost use Rattle.board_rule.specs.BlockSteps.{LoadsReaders, IsReturned, IsZeroAtSecond, readers_loaded, StoresSample, sample_stored, StoresReaders, readers_stored};
 
 use crate::board::Board;
 use crate::loop_seat::LoopSeat;
@@ -31,16 +31,16 @@ impl LoopSeat {
     /// the reader gave back, and `NO_BLOCK` exactly in the first cycle of the epoch.
     #[inline]
     pub fn load_io_as_writer(&mut self, board: &Board, link: u32) -> u64
-        requires table { self.old.table ≡ board.now.table.shared.table_id }
-        requires phase { LoadsAsWriter (lay board.now.plot) self.old.knows link }
+        requires table { IsOn board.now self.old.table }
+        requires phase { LoadsAsWriter (layout board.now) self.old.knows link }
         ensures table { self.new.table ≡ self.old.table }
-        ensures knows { self.new.knows ≡ loaded_as_writer (lay board.now.plot) self.old.knows link }
+        ensures knows { self.new.knows ≡ loaded_as_writer (layout board.now) self.old.knows link }
         ensures word { result ≡ need_data_word (io_id_in result) }
-        ensures given { IsGivenBack (lay board.now.plot) self.old.knows link (io_id_in result) }
+        ensures given { IsGivenBack (layout board.now) self.old.knows link (io_id_in result) }
     {
         let end = self.write_at(link);
         let cycle = self.node_at(board.writer(link)).next;
-        let found = writing::load_area::<Brand>(board, &mut self.token, link);
+        let found = writing::load_area::<Brand>(board, &mut self.token, link, cycle + 1);
         self.writes[link as usize] = WriteView {
             loaded: cycle + 1,
             stored: end.stored,
@@ -53,14 +53,14 @@ impl LoopSeat {
     /// Stores HAVE_DATA with the number of the block that was announced in this cycle, which ends the writer's turn.
     #[inline]
     pub fn store_have_data(&mut self, board: &Board, link: u32, id: u32)
-        requires table { self.old.table ≡ board.now.table.shared.table_id }
-        requires phase { StoresHave (lay board.now.plot) self.old.knows link id }
+        requires table { IsOn board.now self.old.table }
+        requires phase { StoresHave (layout board.now) self.old.knows link id }
         ensures table { self.new.table ≡ self.old.table }
-        ensures knows { self.new.knows ≡ have_stored (lay board.now.plot) self.old.knows link id }
+        ensures knows { self.new.knows ≡ have_stored (layout board.now) self.old.knows link id }
     {
         let end = self.write_at(link);
         let cycle = self.node_at(board.writer(link)).next;
-        writing::store_have::<Brand>(board, &mut self.token, link, id);
+        writing::store_have::<Brand>(board, &mut self.token, link, cycle + 1, id);
         self.writes[link as usize] = WriteView {
             loaded: end.loaded,
             stored: cycle + 1,
@@ -69,14 +69,17 @@ impl LoopSeat {
         };
     }
 
-    /// Loads the readers word of the block that was announced a cycle ago. It is 0, and the block is free then.
+    /// Loads the readers word of the block that was announced a cycle ago, or two in a pool with a delayed link. It is 0, and the
+    /// block is free then; it is the one whose number the readers gave back.
     #[inline]
     pub fn load_readers(&mut self, board: &Board, pool: u32, id: u32) -> u64
-        requires table { self.old.table ≡ board.now.table.shared.table_id }
-        requires phase { LoadsReaders (lay board.now.plot) self.old.knows pool id }
+        requires table { IsOn board.now self.old.table }
+        requires phase { LoadsReaders (layout board.now) self.old.knows pool id }
         ensures table { self.new.table ≡ self.old.table }
-        ensures knows { self.new.knows ≡ readers_loaded (lay board.now.plot) self.old.knows pool id result }
+        ensures knows { self.new.knows ≡ readers_loaded (layout board.now) self.old.knows pool id result }
         ensures word { result ≡ 0 }
+        ensures returned { IsReturned (layout board.now) self.old.knows pool id }
+        ensures second { IsZeroAtSecond (layout board.now) self.old.knows pool id }
     {
         let at = board.block(pool as usize, id);
         let found = writing::load_readers::<Brand>(board, &mut self.token, pool as usize, id);
@@ -84,23 +87,8 @@ impl LoopSeat {
         found
     }
 
-    /// Stores the next sample word of a block, four samples of this cycle.
-    #[inline]
-    pub fn store_sample(&mut self, board: &Board, pool: u32, id: u32, place: u32, word: u64)
-        requires table { self.old.table ≡ board.now.table.shared.table_id }
-        requires phase { StoresSample (lay board.now.plot) self.old.knows pool id place word }
-        ensures table { self.new.table ≡ self.old.table }
-        ensures knows { self.new.knows ≡ sample_stored (lay board.now.plot) self.old.knows pool id place }
-    {
-        let at = board.block(pool as usize, id);
-        let to = board.sample_word(pool as usize, id, place);
-        writing::store_sample::<Brand>(board, &mut self.token, pool as usize, id, place, to, word);
-        self.blocks[at] = BlockView::Filling {
-            words: u64::from(place) + 1,
-        };
-    }
-
-    /// The same, where it is known at which place the first sample word of the block stands (`Board::first_sample`).
+    /// Stores the next sample word of a block, four samples of this cycle. `first` is where the first sample word of the
+    /// block stands (`Board::first_sample`).
     #[inline]
     pub fn store_sample_at(
         &mut self,
@@ -111,11 +99,11 @@ impl LoopSeat {
         first: usize,
         word: u64,
     )
-        requires table { self.old.table ≡ board.now.table.shared.table_id }
-        requires phase { StoresSample (lay board.now.plot) self.old.knows pool id place word }
-        requires first { first ≡ sample_place board.now.plot.shape pool id 0 }
+        requires table { IsOn board.now self.old.table }
+        requires phase { StoresSample (layout board.now) self.old.knows pool id place word }
+        requires first { first ≡ sample_place board.now.board_shape.shape pool id 0 }
         ensures table { self.new.table ≡ self.old.table }
-        ensures knows { self.new.knows ≡ sample_stored (lay board.now.plot) self.old.knows pool id place }
+        ensures knows { self.new.knows ≡ sample_stored (layout board.now) self.old.knows pool id place }
     {
         let at = board.block(pool as usize, id);
         let to = board.sample_word_at(pool as usize, id, place, first);
@@ -128,10 +116,10 @@ impl LoopSeat {
     /// Stores the number of the pool's links in the readers word of a block that is filled whole: it is announced.
     #[inline]
     pub fn store_readers(&mut self, board: &Board, pool: u32, id: u32)
-        requires table { self.old.table ≡ board.now.table.shared.table_id }
-        requires phase { StoresReaders (lay board.now.plot) self.old.knows pool id }
+        requires table { IsOn board.now self.old.table }
+        requires phase { StoresReaders (layout board.now) self.old.knows pool id }
         ensures table { self.new.table ≡ self.old.table }
-        ensures knows { self.new.knows ≡ readers_stored (lay board.now.plot) self.old.knows pool id }
+        ensures knows { self.new.knows ≡ readers_stored (layout board.now) self.old.knows pool id }
     {
         let at = board.block(pool as usize, id);
         let cycle = self.node_at(board.filler(pool as usize)).next;
@@ -143,19 +131,19 @@ impl LoopSeat {
 impl LoopSeat {
     // A block of a pool.
     fn view_of(&self, board: &Board, pool: u32, id: u32) -> BlockView
-        requires pool { HasPool (lay board.now.plot) self.now.knows pool }
-        requires block { id < (pool_at (lay board.now.plot) pool).blocks }
-        ensures { result ≡ block_of (lay board.now.plot) self.now.knows pool id }
+        requires pool { HasPool (layout board.now) self.now.knows pool }
+        requires block { id < (pool_at (layout board.now) pool).blocks }
+        ensures { result ≡ block_of (layout board.now) self.now.knows pool id }
     {
         self.blocks[board.block(pool as usize, id)]
     }
 
     /// The number of the block that was filled whole in this cycle, announced or not. Condition: there is one.
     pub fn filled(&self, board: &Board, pool: u32) -> u32
-        requires pool { HasPool (lay board.now.plot) self.now.knows pool }
-        requires some { let p = lay board.now.plot in
+        requires pool { HasPool (layout board.now) self.now.knows pool }
+        requires some { let p = layout board.now in
             ((b : ℕ) × (b < (pool_at p pool).blocks) × IsFilled p self.now.knows pool b) }
-        ensures { IsFirstFilled (lay board.now.plot) self.now.knows pool result }
+        ensures { IsFirstFilled (layout board.now) self.now.knows pool result }
     {
         let words = board.block_words(pool);
         let stamp = self.node_at(board.filler(pool as usize)).next + 1;
@@ -169,10 +157,10 @@ impl LoopSeat {
 
     /// The number of the block that has been out longest. Condition: one is out.
     pub fn oldest_out(&self, board: &Board, pool: u32) -> u32
-        requires pool { HasPool (lay board.now.plot) self.now.knows pool }
-        requires some { let p = lay board.now.plot in
+        requires pool { HasPool (layout board.now) self.now.knows pool }
+        requires some { let p = layout board.now in
             ((b n : ℕ) × (b < (pool_at p pool).blocks) × (block_of p self.now.knows pool b ≡ Out n)) }
-        ensures { ((n : ℕ) × IsOldestOut (lay board.now.plot) self.now.knows pool result n) }
+        ensures { ((n : ℕ) × IsOldestOut (layout board.now) self.now.knows pool result n) }
     {
         let mut oldest = None;
         for id in 0..board.block_count(pool) {
@@ -185,7 +173,7 @@ impl LoopSeat {
     }
 }
 
-// Whether a block is filled with so many words, or was announced in the cycle before the stamp.
+// Whether a block is filled with `n` words, or was announced in the cycle before the stamp.
 fn is_filled(block: BlockView, words: u32, stamp: u64) -> bool
     ensures { result ≡ is_filled words stamp block }
 {

@@ -4,7 +4,7 @@ use Rattle.std.proofs.Common.{get_or-set_same, set-set}
 use Rattle.board_rule.specs.declared.view.BlockView.{BlockView}
 use Rattle.board_rule.specs.declared.view.BlockView.TheVariants.{Free, Filling}
 use Rattle.board_rule.specs.declared.view.View.{View}
-use Rattle.board_rule.specs.Layout.{Lay}
+use Rattle.board_rule.specs.Layout.{BoardLayout}
 use Rattle.board_rule.specs.SampleWords.{packed}
 use Rattle.board_rule.specs.Spans.{block_at}
 use Rattle.board_rule.specs.EndViews.{pool_at, filler_of, view_block}
@@ -13,15 +13,15 @@ use Rattle.board_rule.specs.BlockSteps.{StoresSample, sample_stored}
 use Rattle.io_areas.specs.Writing.{Fills}
 
 -- the first k words of the block have their samples
-abbrev pub filling : Lay → View → ℕ → ℕ → ℕ → View
+abbrev pub filling : BoardLayout → View → ℕ → ℕ → ℕ → View
 filling p v q b zero = v
 filling p v q b (suc k) = view_block p v q b (Filling (suc k))
 
-pub filling_some : (p : Lay) (v : View) (q b k : ℕ) → 0 < k → filling p v q b k ≡ view_block p v q b (Filling k)
+pub filling_some : (p : BoardLayout) (v : View) (q b k : ℕ) → 0 < k → filling p v q b k ≡ view_block p v q b (Filling k)
 filling_some p v q b zero h = absurd (omega arith)
 filling_some p v q b (suc k) h = refl
 
-module _ (p : Lay) (v : View) (q b : ℕ) (xs : List ℤ) (h : Fills p v q b xs) where
+module _ (p : BoardLayout) (v : View) (q b : ℕ) (xs : List ℤ) (h : Fills p v q b xs) where
   place : ℕ
   place = block_at p q b
 

@@ -5,20 +5,21 @@
 use Rattle.std.specs.Prelude.{◌≡◌, ℕ, ℤ, ◌+◌, ◌-◌, ◌<◌, true, false, cond, eqb, List, Option, Some, None}
 use Rattle.board_rule.specs.declared.view.BlockView.TheVariants.{Free, Filling, Out}
 use Rattle.board_rule.specs.declared.view.View.{View}
-use Rattle.board_rule.specs.Layout.{Lay, first}
+use Rattle.board_rule.specs.Layout.{BoardLayout, first}
 use Rattle.board_rule.specs.SampleWords.{samples_in}
 use Rattle.board_rule.specs.Areas.{stored_id}
-use Rattle.board_rule.specs.BlockReadings.{late_at, lag, is_busy, stamp}
+use Rattle.board_rule.specs.BlockReadings.{delay_at, busy_cycles, is_busy, stamp}
 use Rattle.board_rule.specs.EndViews.{write_of, pool_at, filler_of, pool_of, block_of, view_block}
 use Rattle.board_rule.specs.WorkSteps.{IsRunning}
 use Rattle.board_rule.specs.WriterSteps.{write_cycle, IsWriter, have_stored}
-use Rattle.board_rule.specs.BlockSteps.{fill_cycle, IsLoaded, IsWriting, HasBlock, readers_stored}
+use Rattle.board_rule.specs.BlockSteps.{fill_cycle, IsLoaded, IsWriting, HasBlock, IsReturned, IsZeroAtSecond}
+use Rattle.board_rule.specs.BlockSteps.{readers_stored}
 use Rattle.board_rule.specs.BufferReads.{HasPool, IsFirstFilled, IsOldestOut}
 
-module _ (p : Lay) where
+module _ (p : BoardLayout) where
   -- LOADING FOR WRITING answers the number that the reader gave back: none exactly in the first cycle
   abbrev pub number_given : View → ℕ → Option ℕ
-  number_given v l = cond (eqb (write_cycle p v l) (first p)) None (Some (stored_id (write_of v l) (late_at p l)))
+  number_given v l = cond (eqb (write_cycle p v l) (first p)) None (Some (stored_id (write_of v l) (delay_at p l)))
 
   -- the node that fills the pool is one of the seat, and works
   abbrev pub IsAtPool : View → ℕ → Type 0
@@ -27,22 +28,24 @@ module _ (p : Lay) where
   -- the block that is due in this cycle: of those that are out it was announced first, one cycle ago, or two where a
   -- link of the pool is delayed
   abbrev pub IsDue : View → ℕ → ℕ → Type 0
-  IsDue v q b = IsOldestOut p v q b (fill_cycle p v q + 1 - lag p (pool_at p q))
+  IsDue v q b = IsOldestOut p v q b (fill_cycle p v q + 1 - busy_cycles p (pool_at p q))
 
   -- RECLAIMING: all links of the pool are loaded in this cycle. In each cycle but the first a block is due, and it
-  -- becomes free
+  -- becomes free. It is the one whose number the readers of the latest links gave back, and block 0 in the second cycle
+  -- of a pool with a delayed link
   abbrev pub Reclaims : View → ℕ → Type 0
   Reclaims v q = IsAtPool v q × IsLoaded p v q × (first p < fill_cycle p v q → (b : ℕ) × IsDue v q b)
 
   abbrev pub HasReclaimed : View → ℕ → Option ℕ → View → Type 0
   HasReclaimed v q None w = (fill_cycle p v q ≡ first p) × (w ≡ v)
   HasReclaimed v q (Some b) w = (first p < fill_cycle p v q) × IsDue v q b × (w ≡ view_block p v q b Free)
+      × IsReturned p v q b × IsZeroAtSecond p v q b
 
   -- FILLING: the block is free, no block of the pool is due or filled in this cycle, and the samples are those that
   -- the pool gives in it
   abbrev pub IsUnfilled : View → ℕ → ℕ → Type 0
   IsUnfilled v q c = (a : ℕ) → a < (pool_at p q).blocks → is_busy (block_of p v q a) ≡ true
-      → (stamp c (block_of p v q a) < c + 1) × (c + 1 < stamp c (block_of p v q a) + lag p (pool_at p q))
+      → (stamp c (block_of p v q a) < c + 1) × (c + 1 < stamp c (block_of p v q a) + busy_cycles p (pool_at p q))
 
   abbrev pub Fills : View → ℕ → ℕ → List ℤ → Type 0
   Fills v q b samples = HasBlock p v q b × IsWriting p v q × (block_of p v q b ≡ Free)

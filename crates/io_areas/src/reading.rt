@@ -1,37 +1,38 @@
 //! The calls of a node that reads.
+ghost use Rattle.board_rule.specs.OnBoard.{IsOn, layout};
 ghost use Rattle.std.specs.Prelude.{◌≡◌, ℕ, ◌+◌, ◌/◌, ◌<◌, length};
 ghost use Rattle.pw_base.specs.Pools.{pools_of};
 ghost use Rattle.pw_base.specs.Layout.{sample_place};
-ghost use Rattle.board_rule.specs.Layout.{lay};
 ghost use Rattle.board_rule.specs.EndViews.{pool_at, pool_of};
-ghost use Rattle.board_rule.specs.ReaderSteps.{LoadsAsReader};
+ghost use Rattle.board_rule.specs.ReaderSteps.{LoadsAsReader, IsZeroAtFirst};
 ghost use Rattle.io_areas.specs.Quanta.{quantum_of};
-ghost use Rattle.io_areas.specs.Reading.{taken, IsHolding, heard, GivesBack, given_back};
+ghost use Rattle.io_areas.specs.Reading.{taken, IsHolding, brought, GivesBack, given_back};
 
 use crate::sample_words::spread;
 use board_rule::{Board, BoardSeat};
 use pw_base::io_id_of;
 
 /// The link's reader takes its turn in this cycle, which it has not yet done: one load of the io area. Answers the number of
-/// the block that is published there for this cycle.
+/// the block that is published there for this cycle; over a delayed link that is 0 in the epoch's first cycle.
 #[inline]
 pub fn take<S: BoardSeat>(board: &Board, seat: &mut S, link: u32) -> u32
-    requires table { S.table seat.old ≡ board.now.table.shared.table_id }
-    requires phase { LoadsAsReader S.leads (lay board.now.plot) (S.knows seat.old) link }
+    requires table { IsOn board.now (S.table seat.old) }
+    requires phase { LoadsAsReader S.is_driver (layout board.now) (S.knows seat.old) link }
     ensures table { S.table seat.new ≡ S.table seat.old }
-    ensures knows { S.knows seat.new ≡ taken S.leads (lay board.now.plot) (S.knows seat.old) link result }
-    ensures inside { let p = lay board.now.plot in result < (pool_at p (pool_of p link)).blocks }
+    ensures knows { S.knows seat.new ≡ taken S.is_driver (layout board.now) (S.knows seat.old) link result }
+    ensures inside { let p = layout board.now in result < (pool_at p (pool_of p link)).blocks }
+    ensures first { IsZeroAtFirst S.is_driver (layout board.now) (S.knows seat.old) link result }
 {
     io_id_of(seat.load_io_as_reader(board, link))
 }
 
 // How many words a block of the link's pool has: four samples a word.
 fn words_of(board: &Board, link: u32) -> u32
-    requires { link < length board.now.plot.shape.links }
-    ensures is { let p = lay board.now.plot in result ≡ (pool_at p (pool_of p link)).words }
-    ensures quantum { let p = lay board.now.plot in result ≡ (quantum_of p (pool_of p link) + 3) / 4 }
+    requires { link < length board.now.board_shape.shape.links }
+    ensures is { let p = layout board.now in result ≡ (pool_at p (pool_of p link)).words }
+    ensures quantum { let p = layout board.now in result ≡ (quantum_of p (pool_of p link) + 3) / 4 }
     ensures some { 0 < result }
-    ensures inside { let p = lay board.now.plot in pool_of p link < length (pools_of p.shape) }
+    ensures inside { let p = layout board.now in pool_of p link < length (pools_of p.shape) }
 {
     let pool = board.link_pool(link);
     board.block_words(pool)
@@ -39,9 +40,9 @@ fn words_of(board: &Board, link: u32) -> u32
 
 // Where the first sample word of a block of the link's pool stands.
 fn first_of(board: &Board, link: u32, id: u32) -> usize
-    requires inside { link < length board.now.plot.shape.links }
-    requires block { let p = lay board.now.plot in id < (pool_at p (pool_of p link)).blocks }
-    ensures { let p = lay board.now.plot in result ≡ sample_place p.shape (pool_of p link) id 0 }
+    requires inside { link < length board.now.board_shape.shape.links }
+    requires block { let p = layout board.now in id < (pool_at p (pool_of p link)).blocks }
+    ensures { let p = layout board.now in result ≡ sample_place p.shape (pool_of p link) id 0 }
 {
     let pool = board.link_pool(link);
     board.first_sample(pool, id)
@@ -51,12 +52,12 @@ fn first_of(board: &Board, link: u32, id: u32) -> usize
 /// One load a word of four samples, in their order.
 #[inline]
 pub fn read<S: BoardSeat>(board: &Board, seat: &mut S, link: u32, to: &mut [i16])
-    requires table { S.table seat.old ≡ board.now.table.shared.table_id }
-    requires phase { IsHolding S.leads (lay board.now.plot) (S.knows seat.old) link }
-    requires long { let p = lay board.now.plot in length to.old ≡ quantum_of p (pool_of p link) }
+    requires table { IsOn board.now (S.table seat.old) }
+    requires phase { IsHolding S.is_driver (layout board.now) (S.knows seat.old) link }
+    requires long { let p = layout board.now in length to.old ≡ quantum_of p (pool_of p link) }
     ensures table { S.table seat.new ≡ S.table seat.old }
     ensures knows { S.knows seat.new ≡ S.knows seat.old }
-    ensures samples { to.new ≡ heard S.leads (lay board.now.plot) (S.knows seat.old) link }
+    ensures samples { to.new ≡ brought S.is_driver (layout board.now) (S.knows seat.old) link }
 {
     let id = seat.loaded(board, link);
     let first = first_of(board, link, id);
@@ -66,13 +67,13 @@ pub fn read<S: BoardSeat>(board: &Board, seat: &mut S, link: u32, to: &mut [i16]
     }
 }
 
-/// Gives the block back: the readers word is taken down by one, and then NEED_DATA is stored with the block's number.
+/// Gives the block back: the readers word is lowered by one, and then NEED_DATA is stored with the block's number.
 #[inline]
 pub fn give_back<S: BoardSeat>(board: &Board, seat: &mut S, link: u32)
-    requires table { S.table seat.old ≡ board.now.table.shared.table_id }
-    requires phase { GivesBack S.leads (lay board.now.plot) (S.knows seat.old) link }
+    requires table { IsOn board.now (S.table seat.old) }
+    requires phase { GivesBack S.is_driver (layout board.now) (S.knows seat.old) link }
     ensures table { S.table seat.new ≡ S.table seat.old }
-    ensures knows { S.knows seat.new ≡ given_back S.leads (lay board.now.plot) (S.knows seat.old) link }
+    ensures knows { S.knows seat.new ≡ given_back S.is_driver (layout board.now) (S.knows seat.old) link }
 {
     let id = seat.loaded(board, link);
     seat.lower_readers(board, link, id);

@@ -12,7 +12,7 @@ fn bits(sample: i16) -> u64
     u64::from(sample.cast_unsigned())
 }
 
-// The same of the sample at a place, or 0 past the last.
+// The same of the sample at an index, or 0 past the last.
 fn bits_or_zero(samples: &[i16], at: usize) -> u64
     ensures is { result ≡ bits_at samples.now at }
     ensures low { result < 65536 }
@@ -86,7 +86,7 @@ pub(crate) fn unpack(word: u64) -> [i16; 4]
     ]
 }
 
-// Writes a sample to a place, if there is one.
+// Writes a sample to an index, if there is one.
 fn put(to: &mut [i16], at: usize, sample: i16)
     ensures { to.new ≡ slice_set to.old at sample }
 {
@@ -95,7 +95,7 @@ fn put(to: &mut [i16], at: usize, sample: i16)
     }
 }
 
-// Writes the four samples of a word from `at` on, as far as there are places.
+// Writes the four samples of a word from `at` on, as far as there are indexes.
 fn put_rest(to: &mut [i16], at: usize, word: u64)
     requires { at < 2 ^ 35 }
     ensures { to.new ≡ spread to.old at word }
@@ -107,7 +107,7 @@ fn put_rest(to: &mut [i16], at: usize, word: u64)
     put(to, at + 3, fourth);
 }
 
-/// Writes the four samples of a word of a list to their places, as far as these are there.
+/// Writes the four samples of a word of a list to their indexes, as far as these are there.
 #[inline]
 pub(crate) fn spread(word: u64, place: u32, to: &mut [i16])
     ensures { to.new ≡ spread to.old (4 * place) word }

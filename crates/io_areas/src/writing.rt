@@ -1,6 +1,6 @@
 //! The calls of a node that writes: it fills one block of each of its pools in a cycle, for all links of the pool.
+ghost use Rattle.board_rule.specs.OnBoard.{IsOn, layout};
 ghost use Rattle.std.specs.Prelude.{◌≡◌, ℕ, ◌<◌, IfSome, length};
-ghost use Rattle.board_rule.specs.Layout.{lay};
 ghost use Rattle.board_rule.specs.EndViews.{link_at, pool_at, pool_of};
 ghost use Rattle.board_rule.specs.WriterSteps.{LoadsAsWriter, loaded_as_writer};
 ghost use Rattle.io_areas.specs.Writing.{number_given, Reclaims, HasReclaimed, Fills, filled_whole, Announces, HasAnnounced, Publishes};
@@ -12,8 +12,8 @@ use pw_base::io_id_of;
 
 // The node that a link comes from.
 fn writer(board: &Board, link: u32) -> u32
-    requires { link < length board.now.plot.shape.links }
-    ensures { result ≡ (link_at (lay board.now.plot) link).from.node }
+    requires { link < length board.now.board_shape.shape.links }
+    ensures { result ≡ (link_at (layout board.now) link).from.node }
 {
     board.shape().links.as_slice()[link as usize].from.node
 }
@@ -22,12 +22,12 @@ fn writer(board: &Board, link: u32) -> u32
 /// the first cycle of the epoch, else the number of the block that the reader gave back.
 #[inline]
 pub fn load_for_write(board: &Board, seat: &mut LoopSeat, link: u32) -> Option<u32>
-    requires table { seat.old.table ≡ board.now.table.shared.table_id }
-    requires phase { LoadsAsWriter (lay board.now.plot) seat.old.knows link }
+    requires table { IsOn board.now seat.old.table }
+    requires phase { LoadsAsWriter (layout board.now) seat.old.knows link }
     ensures table { seat.new.table ≡ seat.old.table }
-    ensures knows { seat.new.knows ≡ loaded_as_writer (lay board.now.plot) seat.old.knows link }
-    ensures given { result ≡ number_given (lay board.now.plot) seat.old.knows link }
-    ensures inside { let p = lay board.now.plot in
+    ensures knows { seat.new.knows ≡ loaded_as_writer (layout board.now) seat.old.knows link }
+    ensures given { result ≡ number_given (layout board.now) seat.old.knows link }
+    ensures inside { let p = layout board.now in
         IfSome result (λ id. id < (pool_at p (pool_of p link)).blocks) }
 {
     let node = writer(board, link);
@@ -42,13 +42,13 @@ pub fn load_for_write(board: &Board, seat: &mut LoopSeat, link: u32) -> Option<u
 
 /// The pool has a free block again: one load of the readers word of the block that is due, which is 0. None exactly in
 /// the first cycle of the epoch, where no word is loaded, else the number of that block, which was announced in the cycle before,
-/// in a pool with a delayed link two cycles before.
+/// in a pool with a delayed link two cycles before; in the second cycle of such a pool it is 0.
 #[inline]
 pub fn reclaim(board: &Board, seat: &mut LoopSeat, pool: u32) -> Option<u32>
-    requires table { seat.old.table ≡ board.now.table.shared.table_id }
-    requires phase { Reclaims (lay board.now.plot) seat.old.knows pool }
+    requires table { IsOn board.now seat.old.table }
+    requires phase { Reclaims (layout board.now) seat.old.knows pool }
     ensures table { seat.new.table ≡ seat.old.table }
-    ensures reclaimed { HasReclaimed (lay board.now.plot) seat.old.knows pool result seat.new.knows }
+    ensures reclaimed { HasReclaimed (layout board.now) seat.old.knows pool result seat.new.knows }
 {
     let node = board.pool_node(pool);
     let past = seat.ended(board, node);
@@ -64,10 +64,10 @@ pub fn reclaim(board: &Board, seat: &mut LoopSeat, pool: u32) -> Option<u32>
 /// of four samples, in their order.
 #[inline]
 pub fn fill(board: &Board, seat: &mut LoopSeat, pool: u32, id: u32, samples: &[i16])
-    requires table { seat.old.table ≡ board.now.table.shared.table_id }
-    requires phase { Fills (lay board.now.plot) seat.old.knows pool id samples.now }
+    requires table { IsOn board.now seat.old.table }
+    requires phase { Fills (layout board.now) seat.old.knows pool id samples.now }
     ensures table { seat.new.table ≡ seat.old.table }
-    ensures knows { seat.new.knows ≡ filled_whole (lay board.now.plot) seat.old.knows pool id }
+    ensures knows { seat.new.knows ≡ filled_whole (layout board.now) seat.old.knows pool id }
 {
     let first = board.first_sample(pool, id);
     for place in 0..board.block_words(pool) {
@@ -79,10 +79,10 @@ pub fn fill(board: &Board, seat: &mut LoopSeat, pool: u32, id: u32, samples: &[i
 /// Announces the block that was filled in this cycle: one store of the number of the pool's links in its readers word.
 #[inline]
 pub fn announce(board: &Board, seat: &mut LoopSeat, pool: u32)
-    requires table { seat.old.table ≡ board.now.table.shared.table_id }
-    requires phase { Announces (lay board.now.plot) seat.old.knows pool }
+    requires table { IsOn board.now seat.old.table }
+    requires phase { Announces (layout board.now) seat.old.knows pool }
     ensures table { seat.new.table ≡ seat.old.table }
-    ensures announced { HasAnnounced (lay board.now.plot) seat.old.knows pool seat.new.knows }
+    ensures announced { HasAnnounced (layout board.now) seat.old.knows pool seat.new.knows }
 {
     let id = seat.filled(board, pool);
     seat.store_readers(board, pool, id);
@@ -91,10 +91,10 @@ pub fn announce(board: &Board, seat: &mut LoopSeat, pool: u32)
 /// Publishes the block that was announced in this cycle on a link of its pool: one store of HAVE_DATA with its number.
 #[inline]
 pub fn publish(board: &Board, seat: &mut LoopSeat, link: u32)
-    requires table { seat.old.table ≡ board.now.table.shared.table_id }
-    requires phase { Publishes (lay board.now.plot) seat.old.knows link }
+    requires table { IsOn board.now seat.old.table }
+    requires phase { Publishes (layout board.now) seat.old.knows link }
     ensures table { seat.new.table ≡ seat.old.table }
-    ensures published { HasPublished (lay board.now.plot) seat.old.knows link seat.new.knows }
+    ensures published { HasPublished (layout board.now) seat.old.knows link seat.new.knows }
 {
     let pool = board.link_pool(link);
     let id = seat.filled(board, pool);

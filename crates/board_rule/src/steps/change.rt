@@ -8,7 +8,7 @@ pub(crate) trait Change {
     ghost use Rattle.std.specs.Prelude.{ℕ, Bool};
     ghost use Rattle.board_rule.specs.declared.view.View.{View};
 
-    ghost leads: { Bool };
+    ghost is_driver: { Bool };
 
     ghost after: { ℕ → View };
 
@@ -19,7 +19,7 @@ impl Change for Brand {
     ghost use Rattle.std.specs.Prelude.{◌≡◌, false};
     ghost use Rattle.board_rule.specs.Plays.{no_view};
 
-    ghost leads = { false };
+    ghost is_driver = { false };
 
     ghost after = { λ _. no_view };
 
@@ -32,9 +32,9 @@ pub(crate) struct Becomes<C> {
 }
 
 impl<C: Change> Play<Option<u64>, View> for Becomes<C> {
-    ghost use Rattle.board_rule.specs.Plays.{Turns};
+    ghost use Rattle.board_rule.specs.Plays.{Leaves};
 
-    ghost then = { λ _. Turns C.after };
+    ghost then = { λ _. Leaves C.after };
 }
 
 /// A step that also tells what `C` says of the number found.

@@ -1,9 +1,10 @@
-//! The atomic steps on tickets, events and late sets. Nodes are places; `C` is what the step gives its seat to know.
+//! The atomic steps on tickets, events and late sets. Nodes are indexes; `C` is what the step gives its seat to know.
+ghost use Rattle.board_rule.specs.OnBoard.{IsOn, layout};
 ghost use Rattle.std.specs.Prelude.{◌≡◌, ℕ, ◌+◌, ◌<◌, ◌≤◌};
 ghost use Rattle.pw_base.specs.Layout.{event_count};
 ghost use Rattle.pw_base.specs.EventWords.{event_node, event_word_of};
-ghost use Rattle.board_rule.specs.Layout.{lay, nodes, first};
-ghost use Rattle.board_rule.specs.EventSteps.{Draws, draws, ticket_of, told_event, StoresEvent, event_stored, Looks, looked, StoresLate};
+ghost use Rattle.board_rule.specs.Layout.{nodes, first};
+ghost use Rattle.board_rule.specs.EventSteps.{Draws, draws, ticket_of, event_due, StoresEvent, event_stored, Looks, looked, StoresLate};
 ghost use Rattle.board_rule.specs.EventSteps.{late_stored};
 
 use crate::board::Board;
@@ -13,10 +14,10 @@ use pw_base::{Event, event_word};
 
 /// Draws a ticket: one `fetch_add` of the ticket word.
 pub(crate) fn draw<C: Change>(board: &Board, token: &mut BoardToken, at: usize) -> u64
-    requires table { token.old.table_id ≡ board.now.table.shared.table_id }
-    requires phase { Draws C.leads (lay board.now.plot) token.old.me.0 at }
-    requires after { (found : ℕ) → C.after found ≡ draws C.leads token.old.me.0 at found }
-    requires says { (found : ℕ) → found < event_count board.now.plot.shape → C.says found }
+    requires table { IsOn board.now token.old.table_id }
+    requires phase { Draws C.is_driver (layout board.now) token.old.me.0 at }
+    requires after { (found : ℕ) → C.after found ≡ draws C.is_driver token.old.me.0 at found }
+    requires says { (found : ℕ) → found < event_count board.now.board_shape.shape → C.says found }
     ensures same { (token.new.table_id ≡ token.old.table_id) × (token.new.id ≡ token.old.id)
         × (token.new.me.1 ≡ token.old.me.1) }
     ensures after { token.new.me.0 ≡ C.after result }
@@ -34,13 +35,13 @@ pub(crate) fn store<C: Change>(
     ticket: u64,
     event: &Event,
 )
-    requires table { token.old.table_id ≡ board.now.table.shared.table_id }
-    requires phase { StoresEvent C.leads (lay board.now.plot) token.old.me.0 at }
-    requires ticket { ticket ≡ ticket_of C.leads token.old.me.0 at }
-    requires drawn { ticket < event_count board.now.plot.shape }
-    requires event { event.now ≡ told_event C.leads (lay board.now.plot) token.old.me.0 at }
+    requires table { IsOn board.now token.old.table_id }
+    requires phase { StoresEvent C.is_driver (layout board.now) token.old.me.0 at }
+    requires ticket { ticket ≡ ticket_of C.is_driver token.old.me.0 at }
+    requires drawn { ticket < event_count board.now.board_shape.shape }
+    requires event { event.now ≡ event_due C.is_driver (layout board.now) token.old.me.0 at }
     requires node { event_node event.now ≤ 63 }
-    requires after { (found : ℕ) → C.after found ≡ event_stored C.leads token.old.me.0 at }
+    requires after { (found : ℕ) → C.after found ≡ event_stored C.is_driver token.old.me.0 at }
     ensures same { (token.new.table_id ≡ token.old.table_id) × (token.new.id ≡ token.old.id)
         × (token.new.me.1 ≡ token.old.me.1) }
     ensures after { token.new.me.0 ≡ C.after (event_word_of event.now) }
@@ -52,10 +53,10 @@ pub(crate) fn store<C: Change>(
 
 /// Loads the status word of a follower in a check.
 pub(crate) fn look<C: Change>(board: &Board, token: &mut BoardToken, at: usize) -> u64
-    requires table { token.old.table_id ≡ board.now.table.shared.table_id }
-    requires phase { Looks (lay board.now.plot) token.old.me.0 at }
-    requires inside { at < nodes (lay board.now.plot) }
-    requires after { (found : ℕ) → C.after found ≡ looked (lay board.now.plot) token.old.me.0 at found }
+    requires table { IsOn board.now token.old.table_id }
+    requires phase { Looks (layout board.now) token.old.me.0 at }
+    requires inside { at < nodes (layout board.now) }
+    requires after { (found : ℕ) → C.after found ≡ looked (layout board.now) token.old.me.0 at found }
     ensures same { (token.new.table_id ≡ token.old.table_id) × (token.new.id ≡ token.old.id)
         × (token.new.me.1 ≡ token.old.me.1) }
     ensures after { token.new.me.0 ≡ C.after result }
@@ -66,10 +67,10 @@ pub(crate) fn look<C: Change>(board: &Board, token: &mut BoardToken, at: usize) 
 
 /// Stores the late set of a cycle, counted from the first.
 pub(crate) fn store_late<C: Change>(board: &Board, token: &mut BoardToken, past: usize, late: u64)
-    requires table { token.old.table_id ≡ board.now.table.shared.table_id }
-    requires phase { StoresLate (lay board.now.plot) token.old.me.0 late }
-    requires cycle { first (lay board.now.plot) + past ≡ token.old.me.0.lead.cycle }
-    requires within { past < board.now.plot.shape.cycles }
+    requires table { IsOn board.now token.old.table_id }
+    requires phase { StoresLate (layout board.now) token.old.me.0 late }
+    requires cycle { first (layout board.now) + past ≡ token.old.me.0.lead.cycle }
+    requires within { past < board.now.board_shape.shape.cycles }
     requires after { (found : ℕ) → C.after found ≡ late_stored token.old.me.0 }
     ensures same { (token.new.table_id ≡ token.old.table_id) × (token.new.id ≡ token.old.id)
         × (token.new.me.1 ≡ token.old.me.1) }

@@ -1,13 +1,13 @@
 //! The atomic steps of a reader on areas and blocks. Links, pools and blocks are given by number; `C` is what the step gives
 //! its seat to know.
+ghost use Rattle.board_rule.specs.OnBoard.{IsOn, layout};
 ghost use Rattle.std.specs.Prelude.{◌≡◌, ℕ, ◌<◌, length};
 ghost use Rattle.pw_base.specs.Pools.{pools_of};
 ghost use Rattle.pw_base.specs.Words.{need_data_word};
 ghost use Rattle.pw_base.specs.Layout.{sample_place};
-ghost use Rattle.board_rule.specs.Layout.{lay};
 ghost use Rattle.board_rule.specs.SampleWords.{IsTable, packed};
 ghost use Rattle.board_rule.specs.EndViews.{pool_at, pool_of};
-ghost use Rattle.board_rule.specs.ReaderSteps.{LoadsAsReader, loaded_as_reader, IsPublished, ReadsBlock, readers_lowered, samples_read};
+ghost use Rattle.board_rule.specs.ReaderSteps.{read_cycle, LoadsAsReader, loaded_as_reader, IsPublished, ReadsBlock, readers_lowered, samples_read};
 ghost use Rattle.board_rule.specs.ReaderSteps.{StoresNeed, need_stored};
 
 use crate::board::Board;
@@ -17,19 +17,26 @@ use pw_base::{AreaStatus, io_word};
 
 /// Loads the area of a link as its reader.
 #[inline]
-pub(crate) fn load_area<C: Change>(board: &Board, token: &mut BoardToken, link: u32) -> u64
-    requires table { token.old.table_id ≡ board.now.table.shared.table_id }
-    requires phase { LoadsAsReader C.leads (lay board.now.plot) token.old.me.0 link }
-    requires inside { link < length board.now.plot.shape.links }
+pub(crate) fn load_area<C: Change>(
+    board: &Board,
+    token: &mut BoardToken,
+    link: u32,
+    stamp: u64,
+) -> u64
+    requires table { IsOn board.now token.old.table_id }
+    requires phase { LoadsAsReader C.is_driver (layout board.now) token.old.me.0 link }
+    requires stamp { stamp ≡ read_cycle C.is_driver (layout board.now) token.old.me.0 link }
+    requires inside { link < length board.now.board_shape.shape.links }
     requires after { (found : ℕ) → C.after found
-        ≡ loaded_as_reader C.leads (lay board.now.plot) token.old.me.0 link found }
-    requires says { (found : ℕ) → IsPublished C.leads (lay board.now.plot) link found → C.says found }
+        ≡ loaded_as_reader C.is_driver (layout board.now) token.old.me.0 link found }
+    requires says { (found : ℕ) → IsPublished C.is_driver (layout board.now) token.old.me.0 link found
+        → C.says found }
     ensures same { (token.new.table_id ≡ token.old.table_id) × (token.new.id ≡ token.old.id)
         × (token.new.me.1 ≡ token.old.me.1) }
     ensures after { token.new.me.0 ≡ C.after result }
     ensures says { C.says result }
 {
-    let word = board.area_word(link);
+    let word = board.area_word(link, stamp);
     board.table.shared.load::<Learned<C>>(token, word)
 }
 
@@ -43,17 +50,17 @@ pub(crate) fn load_sample<C: Change>(
     place: u32,
     word: usize,
 ) -> u64
-    requires table { token.old.table_id ≡ board.now.table.shared.table_id }
-    requires phase { ReadsBlock C.leads (lay board.now.plot) token.old.me.0 link id }
-    requires inside { link < length board.now.plot.shape.links }
-    requires block { id < (pool_at (lay board.now.plot) (pool_of (lay board.now.plot) link)).blocks }
-    requires place { place < (pool_at (lay board.now.plot) (pool_of (lay board.now.plot) link)).words }
-    requires word { word ≡ sample_place board.now.plot.shape (pool_of (lay board.now.plot) link) id place }
+    requires table { IsOn board.now token.old.table_id }
+    requires phase { ReadsBlock C.is_driver (layout board.now) token.old.me.0 link id }
+    requires inside { link < length board.now.board_shape.shape.links }
+    requires block { id < (pool_at (layout board.now) (pool_of (layout board.now) link)).blocks }
+    requires place { place < (pool_at (layout board.now) (pool_of (layout board.now) link)).words }
+    requires word { word ≡ sample_place board.now.board_shape.shape (pool_of (layout board.now) link) id place }
     requires there { word < board.now.table.shared.table_id.words }
     requires after { (found : ℕ) → C.after found ≡ token.old.me.0 }
     requires says { (found : ℕ) → found ≡ packed
-        (samples_read C.leads (lay board.now.plot) token.old.me.0 link) place
-        → IsTable (lay board.now.plot) token.old.me.0.expect → C.says found }
+        (samples_read C.is_driver (layout board.now) token.old.me.0 link) place
+        → IsTable (layout board.now) token.old.me.0.expect → C.says found }
     ensures same { (token.new.table_id ≡ token.old.table_id) × (token.new.id ≡ token.old.id)
         × (token.new.me.1 ≡ token.old.me.1) }
     ensures after { token.new.me.0 ≡ C.after result }
@@ -62,7 +69,7 @@ pub(crate) fn load_sample<C: Change>(
     board.table.shared.load::<Learned<C>>(token, word)
 }
 
-/// Takes the readers word of that block down.
+/// Lowers the readers word of that block.
 #[inline]
 pub(crate) fn lower_readers<C: Change>(
     board: &Board,
@@ -70,12 +77,12 @@ pub(crate) fn lower_readers<C: Change>(
     link: u32,
     id: u32,
 ) -> u64
-    requires table { token.old.table_id ≡ board.now.table.shared.table_id }
-    requires phase { ReadsBlock C.leads (lay board.now.plot) token.old.me.0 link id }
-    requires inside { link < length board.now.plot.shape.links }
-    requires block { id < (pool_at (lay board.now.plot) (pool_of (lay board.now.plot) link)).blocks }
+    requires table { IsOn board.now token.old.table_id }
+    requires phase { ReadsBlock C.is_driver (layout board.now) token.old.me.0 link id }
+    requires inside { link < length board.now.board_shape.shape.links }
+    requires block { id < (pool_at (layout board.now) (pool_of (layout board.now) link)).blocks }
     requires after { (found : ℕ) → C.after found
-        ≡ readers_lowered C.leads (lay board.now.plot) token.old.me.0 link }
+        ≡ readers_lowered C.is_driver (layout board.now) token.old.me.0 link }
     requires says { (found : ℕ) → 0 < found → C.says found }
     ensures same { (token.new.table_id ≡ token.old.table_id) × (token.new.id ≡ token.old.id)
         × (token.new.me.1 ≡ token.old.me.1) }
@@ -88,17 +95,24 @@ pub(crate) fn lower_readers<C: Change>(
 
 /// Stores NEED_DATA with the number of a block in the area of a link.
 #[inline]
-pub(crate) fn store_need<C: Change>(board: &Board, token: &mut BoardToken, link: u32, id: u32)
-    requires table { token.old.table_id ≡ board.now.table.shared.table_id }
-    requires phase { StoresNeed C.leads (lay board.now.plot) token.old.me.0 link id }
-    requires inside { link < length board.now.plot.shape.links }
+pub(crate) fn store_need<C: Change>(
+    board: &Board,
+    token: &mut BoardToken,
+    link: u32,
+    stamp: u64,
+    id: u32,
+)
+    requires table { IsOn board.now token.old.table_id }
+    requires phase { StoresNeed C.is_driver (layout board.now) token.old.me.0 link id }
+    requires stamp { stamp ≡ read_cycle C.is_driver (layout board.now) token.old.me.0 link }
+    requires inside { link < length board.now.board_shape.shape.links }
     requires after { (found : ℕ) → C.after found
-        ≡ need_stored C.leads (lay board.now.plot) token.old.me.0 link }
+        ≡ need_stored C.is_driver (layout board.now) token.old.me.0 link }
     ensures same { (token.new.table_id ≡ token.old.table_id) × (token.new.id ≡ token.old.id)
         × (token.new.me.1 ≡ token.old.me.1) }
     ensures after { token.new.me.0 ≡ C.after (need_data_word id) }
 {
-    let word = board.area_word(link);
+    let word = board.area_word(link, stamp);
     let new = io_word(AreaStatus::NeedData.number(), id);
     board.table.shared.store::<Becomes<C>>(token, word, new);
 }

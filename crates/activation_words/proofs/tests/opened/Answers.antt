@@ -1,8 +1,8 @@
 use Rattle.std.proofs.Common.{arith, rules, ◌≡◌, ◌∙◌, ℕ, zero, suc, ◌<◌, length, List, [], ◌∷◌, get_or, sym, ap, subst}
 use Rattle.std.specs.Prelude.{unwrap_or}
 use Rattle.board_rule.specs.declared.view.View.{View}
-use Rattle.board_rule.specs.declared.plot.Plot.{Plot}
-use Rattle.board_rule.specs.Layout.{lay}
+use Rattle.board_rule.specs.declared.board_shape.BoardShape.{BoardShape}
+use Rattle.board_rule.specs.Layout.{layout_of}
 use Rattle.board_rule.specs.Known.{Known}
 use Rattle.board_rule.specs.View.{Samples, loop_view}
 use Rattle.board_rule.specs.SampleWords.{silence}
@@ -26,19 +26,19 @@ new-requires-clause-seats c = let e = c.in_ok-seat_of.ensures in let four : leng
 }
 
 pub returns-in-Some : goal.returns-in-Some
-returns-in-Some c = let b = c.in_ok-board.board in let p = lay b.plot in let e : Samples = silence c.args.shape.now in
-    let d = c.in_ok-board.ensures.driver in let plot = c.in_ok-board.ensures.plot in
+returns-in-Some c = let b = c.in_ok-board.board in let p = layout_of b.board_shape in let e : Samples = silence c.args.shape.now in
+    let d = c.in_ok-board.ensures.driver in let board_shape = c.in_ok-board.ensures.board_shape in
     let seat : ℕ → Known = λ k. record { table = b.table.shared.table_id; knows = loop_view p e k } in
     let s₁ : c.in-Some.one ≡ seat 0 = ap (λ o. unwrap_or o (seat 0))
     (sym c.in-Some.ensures.0 ∙ c.in_ok-board.ensures.loops 0 (omega arith)) in
     let s₂ : c.in-Some.two ≡ seat 1 = ap (λ o. unwrap_or o (seat 1))
     (sym c.in-Some.ensures.1 ∙ c.in_ok-board.ensures.loops 1 (omega arith)) in
-    let count : p.seats ≡ 2 = ap (λ (q : Plot). q.seats) plot in (
-      ap (λ (q : Plot). q.shape) plot,
+    let count : p.seats ≡ 2 = ap (λ (q : BoardShape). q.seats) board_shape in (
+      ap (λ (q : BoardShape). q.shape) board_shape,
       ap (λ (k : Known). k.table) d,
       ap (λ (k : Known). k.table) s₁,
       ap (λ (k : Known). k.table) s₂,
-      ap (λ (q : Plot). q.seat_of) plot ∙ c.in_ok-seat_of.ensures,
+      ap (λ (q : BoardShape). q.seat_of) board_shape ∙ c.in_ok-seat_of.ensures,
       (
         subst (λ (v : View). IsBetween p v) (sym (ap (λ (k : Known). k.knows) d)) (new_between p e 2 b.sound),
         (λ m h o own. subst (λ (v : View). IsResting p v m) (sym (ap (λ (k : Known). k.knows) s₁))
@@ -49,4 +49,4 @@ returns-in-Some c = let b = c.in_ok-board.board in let p = lay b.plot in let e :
     )
 
 pub new-requires-clause-samples : goal.new-requires-clause-samples
-new-requires-clause-samples c = silence_is_table (lay record { shape = c.args.shape.now; seat_of = c.in_ok-seat_of.seat_of; seats = 2 })
+new-requires-clause-samples c = silence_is_table (layout_of record { shape = c.args.shape.now; seat_of = c.in_ok-seat_of.seat_of; seats = 2 })

@@ -11,7 +11,7 @@ pub loop-m-preserved : goal.loop-m-preserved
 loop-m-preserved c = let shape = c.args.shape.now in let seat_of = c.args.seat_of.now in let k = c.args.k in let m = c.loop-m.m in
     let old = c.loop-m.nodes in
     let i = c.loop-m.invariant in
-    let driver = c.place_of-driver.ensures in let low = c.loop-m-test.true in let long = c.requires.seats in
+    let driver = c.index_of-driver.ensures in let low = c.loop-m-test.true in let long = c.requires.seats in
     let both : Only shape seat_of k c.if-is_of_seat.nodes
     × Every shape seat_of k (m + 1) c.if-is_of_seat.nodes = elim c.if-is_of_seat.branch [
       | then-is_of_seat+in_ok-ends_of+in_ok-push w ↦ (let e : NodeEnds = w.in_ok-ends_of.field-0 in

@@ -1,6 +1,6 @@
 use Rattle.std.proofs.Common.{◌≡◌, ◌<◌, refl, sym, subst}
 use Rattle.pw_base.specs.declared.shape.Shape.{Shape}
-use Rattle.board_rule.specs.Places.{word_count}
+use Rattle.board_rule.specs.Indexes.{word_count}
 use Rattle.area_runs.specs.Shapes.{fan}
 use Rattle.area_runs.proofs.tests.word.Goals as goal
 

@@ -1,5 +1,6 @@
 use Rattle.board_rule.proofs.TellingLemmas.{all_left}
+use Rattle.board_rule.proofs.AreaLemmas.{finds_need}
 use Rattle.board_rule.proofs.left.left_at_start.Goals as goal
 
 pub returns : goal.returns
-returns c = all_left c.args.dependencies.now
+returns c = let z = finds_need in all_left c.args.dependencies.now

@@ -41,3 +41,12 @@ link_row-requires-clause-has c = let n : ℕ = c.loop-link.link-index in let sha
     ap (λ (l : List ShapeLink). slice_index_or l n no_link) now in
     subst (λ (k : ShapeLink). position_or_len (λ x. is_same_port x.port k.from) (pools_of shape) < length (pools_of shape)) (sym same)
     (c.requires.placed.pools n inside)
+
+pub returns : goal.returns
+returns c = let i = c.loop-link.invariant in let long = i.0 in let now = c.as_slice-link-items.ensures in
+    let count : length c.as_slice-link-items.result.now ≡ length c.args.shape.now.links = ap (λ (l : List ShapeLink). length l) now in
+    let end : c.loop-link.link-index ≡ length c.args.shape.now.links =
+    (let t = c.loop-link-test.false in let u = c.loop-link.auto.link-index-end in omega arith) in record {
+      count = long ∙ end;
+      each = λ l d h. i.3 l d (omega arith);
+    }

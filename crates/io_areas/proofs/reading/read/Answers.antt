@@ -1,14 +1,14 @@
 use Rattle.std.proofs.Common.{◌≡◌, ◌+◌, ◌*◌, length, sym, ap, ◌∙◌, subst, arith}
 use Rattle.board_rule.specs.declared.view.View.{View}
-use Rattle.board_rule.specs.Layout.{lay}
+use Rattle.board_rule.specs.Layout.{layout_of}
 use Rattle.board_rule.specs.SampleWords.{packed, IsTable}
 use Rattle.board_rule.specs.ReaderSteps.{samples_read}
 use Rattle.io_areas.proofs.SampleLemmas.{IsReadTo, length-spread, spread_more}
-use Rattle.io_areas.proofs.HeardLemmas.{all_short, heard_whole}
+use Rattle.io_areas.proofs.BroughtLemmas.{all_short, brought_whole}
 use Rattle.io_areas.proofs.reading.read.Goals as goal
 
 pub loop-place-preserved : goal.loop-place-preserved
-loop-place-preserved g c = let b = g.S.BoardSeat.leads in let p = lay c.args.board.now.plot in
+loop-place-preserved g c = let b = g.S.BoardSeat.is_driver in let p = layout_of c.args.board.now.board_shape in
     let v : View = g.S.BoardSeat.knows c.args.seat.now in let l = c.args.link in let i = c.loop-place.invariant in
     let e = c.load_sample_at-word.ensures in let k = c.loop-place.place in
     let word : c.load_sample_at-word.result ≡ packed (samples_read b p v l) k = e.word
@@ -25,8 +25,8 @@ loop-place-preserved g c = let b = g.S.BoardSeat.leads in let p = lay c.args.boa
     }
 
 pub returns-clause-samples : goal.returns-clause-samples
-returns-clause-samples g c = let b = g.S.BoardSeat.leads in let p = lay c.args.board.now.plot in
+returns-clause-samples g c = let b = g.S.BoardSeat.is_driver in let p = layout_of c.args.board.now.board_shape in
     let v : View = g.S.BoardSeat.knows c.args.seat.now in let l = c.args.link in let i = c.loop-place.invariant in
     let is = i.long in let w = c.words_of-place-end.ensures in let all = i.so_far in let q = c.requires.long in let some = w.some in
     let end = c.loop-place-test.false in
-    heard_whole b p v l (i.fits (omega arith)) c.requires.phase w.inside c.loop-place.to (is ∙ q) (λ j lt near. all j (omega arith) near)
+    brought_whole b p v l (i.fits (omega arith)) c.requires.phase w.inside c.loop-place.to (is ∙ q) (λ j lt near. all j (omega arith) near)

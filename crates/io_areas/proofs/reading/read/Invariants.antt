@@ -1,5 +1,5 @@
 use Rattle.std.proofs.Common.{◌≡◌, ◌*◌, ◌<◌, length}
-use Rattle.board_rule.specs.Layout.{lay}
+use Rattle.board_rule.specs.Layout.{layout_of}
 use Rattle.board_rule.specs.SampleWords.{IsTable}
 use Rattle.board_rule.specs.ReaderSteps.{samples_read}
 use Rattle.io_areas.proofs.SampleLemmas.{IsReadTo}
@@ -10,6 +10,6 @@ invariant-loop-place g l = record {
   table : g.S.BoardSeat.table l.seat ≡ g.S.BoardSeat.table l.fn.seat;
   knows : g.S.BoardSeat.knows l.seat ≡ g.S.BoardSeat.knows l.fn.seat;
   long : length l.to ≡ length l.fn.to;
-  so_far : IsReadTo (samples_read g.S.BoardSeat.leads (lay l.board.plot) (g.S.BoardSeat.knows l.fn.seat) l.link) (4 * l.place) l.to;
-  fits : 0 < l.place → IsTable (lay l.board.plot) (g.S.BoardSeat.knows l.fn.seat).expect;
+  so_far : IsReadTo (samples_read g.S.BoardSeat.is_driver (layout_of l.board.board_shape) (g.S.BoardSeat.knows l.fn.seat) l.link) (4 * l.place) l.to;
+  fits : 0 < l.place → IsTable (layout_of l.board.board_shape) (g.S.BoardSeat.knows l.fn.seat).expect;
 }

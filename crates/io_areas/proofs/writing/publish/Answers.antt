@@ -1,6 +1,6 @@
 use Rattle.std.proofs.Common.{ℕ, subst}
 use Rattle.board_rule.specs.declared.view.View.{View}
-use Rattle.board_rule.specs.Layout.{lay}
+use Rattle.board_rule.specs.Layout.{layout_of}
 use Rattle.board_rule.specs.EndViews.{pool_of}
 use Rattle.board_rule.specs.BufferReads.{IsFirstFilled}
 use Rattle.io_areas.specs.Writing.{IsNew}
@@ -8,7 +8,7 @@ use Rattle.io_areas.proofs.PoolLemmas.{one_first}
 use Rattle.io_areas.proofs.writing.publish.Goals as goal
 
 pub returns-clause-published : goal.returns-clause-published
-returns-clause-published c = let p = lay c.args.board.now.plot in let v : View = c.args.seat.now.knows in let l = c.args.link in
+returns-clause-published c = let p = layout_of c.args.board.now.board_shape in let v : View = c.args.seat.now.knows in let l = c.args.link in
     let n = c.requires.phase.4 in
     let f : IsFirstFilled p v (pool_of p l) c.filled-id.result =
     subst (λ (q : ℕ). IsFirstFilled p v q c.filled-id.result) c.link_pool-pool.ensures.is c.filled-id.ensures in (

@@ -8,7 +8,7 @@ use Rattle.board_rule.proofs.WordLemmas.{row_fits}
 use Rattle.board_rule.proofs.board.Board.block.Goals as goal
 
 pub overflow_add-result : goal.overflow_add-result
-overflow_add-result c = let b = c.args.self.now in let q : ℕ = c.args.pool in let shape = b.plot.shape in
+overflow_add-result c = let b = c.args.self.now in let q : ℕ = c.args.pool in let shape = b.board_shape.shape in
     let row : PoolRow = c.index.result.now in
     let is : IsPoolRow shape (pool_in shape q) (sum_by (λ x. x.blocks) (take q (pools_of shape))) (base_of shape q) row =
     subst (IsPoolRow shape (pool_in shape q) _ _) (sym c.index.ensures) (b.tied.pools.each q row c.requires.inside) in

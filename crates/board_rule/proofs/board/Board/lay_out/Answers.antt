@@ -1,5 +1,5 @@
 use Rattle.std.proofs.Common.{arith, ap, ◌∙◌, refl, ◌≡◌, ◌<◌, ◌≤◌, ◌+◌, ℕ, List, [], length, sym, subst}
-use Rattle.board_rule.specs.Layout.{lay, nodes, word_count}
+use Rattle.board_rule.specs.Layout.{layout_of, nodes, word_count}
 use Rattle.board_rule.specs.View.{first_view}
 use Rattle.board_rule.specs.BoardRule.{Holds}
 use Rattle.atomic_table.specs.Table.{opening}
@@ -12,37 +12,37 @@ use Rattle.pw_base.specs.Layout.{start_words, event_place, event_count}
 use Rattle.board_rule.proofs.board.Board.lay_out.Goals as goal
 
 pub of_words-requires : goal.of_words-requires
-of_words-requires c = let plot = c.args.plot in let p = lay plot in let shape = plot.shape in let u = c.requires.undelayed in
-    let long = long_enough shape u in let wide : nodes p + nodes p < word_count shape = omega arith in
+of_words-requires c = let board_shape = c.args.board_shape in let p = layout_of board_shape in let shape = board_shape.shape in
+    let long = long_enough shape in let wide : nodes p + nodes p < word_count shape = omega arith in
     subst (λ (w : List ℕ). Holds p (opening w [] (first_view p))) (sym (c.as_slice.ensures ∙ c.in_ok-words.ensures))
-    (opens p (start_words shape) [] (sound_layout plot c.requires.pooled.sound c.requires.seats) c.requires.pooled u refl (count_is shape)
+    (opens p (start_words shape) [] (sound_layout board_shape c.requires.pooled.sound c.requires.seats) c.requires.pooled refl (count_is shape)
     (subst (λ k. nodes p + nodes p < k) (count_is shape) wide)
-    (subst (λ k. event_place shape (event_count shape) ≤ k) (count_is shape) long) refl (late_start shape u) (event_start shape u)
-    (pending_start shape u) (status_start shape u))
+    (subst (λ k. event_place shape (event_count shape) ≤ k) (count_is shape) long) refl (late_start shape) (event_start shape)
+    (pending_start shape) (status_start shape))
 
 pub invariant_of-result-2-clause-sound : goal.invariant_of-result-2-clause-sound
-invariant_of-result-2-clause-sound c = sound_layout c.args.plot c.requires.pooled.sound c.requires.seats
+invariant_of-result-2-clause-sound c = sound_layout c.args.board_shape c.requires.pooled.sound c.requires.seats
 
 pub invariant_of-result-2-clause-room : goal.invariant_of-result-2-clause-room
-invariant_of-result-2-clause-room c = long_enough c.args.plot.shape c.requires.undelayed
+invariant_of-result-2-clause-room c = long_enough c.args.board_shape.shape
 
 pub invariant_of-result-2-clause-fits : goal.invariant_of-result-2-clause-fits
 invariant_of-result-2-clause-fits c = let a = c.words.inside.inner.small in let b = c.words.inside.inner.ok in let len = b.0 in
     let cap = b.1 in
     let v : length c.words.inside.inner.items ≡ length c.in_ok-words.words = ap (λ (l : List ℕ). length l) c.words.view_is in
-    let w : length c.in_ok-words.words ≡ length (start_words c.args.plot.shape) = ap (λ (l : List ℕ). length l) c.in_ok-words.ensures in
-    let z = count_is c.args.plot.shape in omega arith
+    let w : length c.in_ok-words.words ≡ length (start_words c.args.board_shape.shape) = ap (λ (l : List ℕ). length l) c.in_ok-words.ensures in
+    let z = count_is c.args.board_shape.shape in omega arith
 
 pub invariant_of-result-2-clause-words : goal.invariant_of-result-2-clause-words
 invariant_of-result-2-clause-words c = c.in_ok-table.ensures.0 ∙ ap (λ (l : List ℕ). length l) (c.as_slice.ensures ∙ c.in_ok-words.ensures)
-    ∙ sym (count_is c.args.plot.shape)
+    ∙ sym (count_is c.args.board_shape.shape)
 
 pub invariant_of-result-2-clause-placed : goal.invariant_of-result-2-clause-placed
-invariant_of-result-2-clause-placed c = placed c.args.plot c.requires.pooled c.requires.undelayed c.requires.seats
+invariant_of-result-2-clause-placed c = placed c.args.board_shape c.requires.pooled c.requires.seats
 
 pub rows_of-requires-clause-room : goal.rows_of-requires-clause-room
-rows_of-requires-clause-room c = let a : c.len.result ≡ length (start_words c.args.plot.shape) = c.len.ensures
-    ∙ ap (λ (l : List ℕ). length l) c.in_ok-words.ensures in let b = length-start_words c.args.plot.shape c.requires.pooled in omega arith
+rows_of-requires-clause-room c = let a : c.len.result ≡ length (start_words c.args.board_shape.shape) = c.len.ensures
+    ∙ ap (λ (l : List ℕ). length l) c.in_ok-words.ensures in let b = length-start_words c.args.board_shape.shape c.requires.pooled in omega arith
 
 pub rows_of-requires-clause-placed : goal.rows_of-requires-clause-placed
-rows_of-requires-clause-placed c = placed c.args.plot c.requires.pooled c.requires.undelayed c.requires.seats
+rows_of-requires-clause-placed c = placed c.args.board_shape c.requires.pooled c.requires.seats

@@ -8,7 +8,7 @@ use Rattle.board_rule.proofs.board.Board.link_readers_word.Goals as goal
 
 pub overflow_mul-result : goal.overflow_mul-result
 overflow_mul-result c =
-    let b = c.args.self.now in let l : ℕ = c.args.link in let shape = b.plot.shape in let row : LinkRow = c.index-row.result.now in
+    let b = c.args.self.now in let l : ℕ = c.args.link in let shape = b.board_shape.shape in let row : LinkRow = c.index-row.result.now in
     let q : ℕ = pool_number shape l in let inside = b.placed.pools l c.requires.inside in
     let is : IsLinkRow shape (link_in shape l) (io_place shape l 0) row =
     subst (IsLinkRow shape (link_in shape l) (io_place shape l 0)) (sym c.index-row.ensures)
@@ -20,7 +20,7 @@ overflow_mul-result c =
 
 pub overflow_add-result : goal.overflow_add-result
 overflow_add-result c =
-    let b = c.args.self.now in let l : ℕ = c.args.link in let shape = b.plot.shape in let row : LinkRow = c.index-row.result.now in
+    let b = c.args.self.now in let l : ℕ = c.args.link in let shape = b.board_shape.shape in let row : LinkRow = c.index-row.result.now in
     let q : ℕ = pool_number shape l in let inside = b.placed.pools l c.requires.inside in
     let is : IsLinkRow shape (link_in shape l) (io_place shape l 0) row =
     subst (IsLinkRow shape (link_in shape l) (io_place shape l 0)) (sym c.index-row.ensures)
@@ -32,7 +32,7 @@ overflow_add-result c =
 
 pub returns-clause-is : goal.returns-clause-is
 returns-clause-is c =
-    let b = c.args.self.now in let l : ℕ = c.args.link in let shape = b.plot.shape in let row : LinkRow = c.index-row.result.now in
+    let b = c.args.self.now in let l : ℕ = c.args.link in let shape = b.board_shape.shape in let row : LinkRow = c.index-row.result.now in
     let q : ℕ = pool_number shape l in let inside = b.placed.pools l c.requires.inside in
     let is : IsLinkRow shape (link_in shape l) (io_place shape l 0) row =
     subst (IsLinkRow shape (link_in shape l) (io_place shape l 0)) (sym c.index-row.ensures)
@@ -41,7 +41,7 @@ returns-clause-is c =
 
 pub returns-clause-there : goal.returns-clause-there
 returns-clause-there c =
-    let b = c.args.self.now in let l : ℕ = c.args.link in let shape = b.plot.shape in let row : LinkRow = c.index-row.result.now in
+    let b = c.args.self.now in let l : ℕ = c.args.link in let shape = b.board_shape.shape in let row : LinkRow = c.index-row.result.now in
     let q : ℕ = pool_number shape l in let inside = b.placed.pools l c.requires.inside in
     let is : IsLinkRow shape (link_in shape l) (io_place shape l 0) row =
     subst (IsLinkRow shape (link_in shape l) (io_place shape l 0)) (sym c.index-row.ensures)

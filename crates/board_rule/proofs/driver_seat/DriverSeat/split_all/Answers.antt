@@ -5,7 +5,7 @@ use native.Mathlib.Decide.{ℕ_discrete}
 use Rattle.std.specs.Prelude.{slice_get}
 use Rattle.atomic_table.specs.Seated.{TableId}
 use Rattle.board_rule.specs.declared.view.View.{View}
-use Rattle.board_rule.specs.Layout.{Lay, lay}
+use Rattle.board_rule.specs.Layout.{BoardLayout, layout_of}
 use Rattle.board_rule.specs.Known.{Known}
 use Rattle.board_rule.specs.View.{Samples, first_view, driver_view, loop_view, split_off}
 use Rattle.board_rule.proofs.driver_seat.DriverSeat.split_all.Goals as goal
@@ -25,13 +25,13 @@ grown xs x n f e h is i l = dite (ℕ_discrete i n)
     (λ (q : i ≡ n). ap (slice_get (xs ++ x ∷ [])) (q ∙ sym e) ∙ last xs x ∙ ap (λ y. Some y) (is ∙ ap f (sym q)))
     (λ (q : i ≢ n). front xs (x ∷ []) i (omega arith) ∙ h i (omega arith))
 
-named : (p : Lay) (x : Samples) (k : ℕ) → split_off x (driver_view p x k) ≡ driver_view p x (suc k)
+named : (p : BoardLayout) (x : Samples) (k : ℕ) → split_off x (driver_view p x k) ≡ driver_view p x (suc k)
 named p x k = ap (λ b. let w : View = record (first_view p) { split = suc k; expect = cond b [] x } in w)
     (sym (ne_eqb (suc k) 0 (λ e. omega arith)))
 
 pub loop-k-preserved : goal.loop-k-preserved
 loop-k-preserved g c = let x : Samples = g.E.Expect.expect in let i = c.loop-k.invariant in let b = c.args.board.now in
-    let p = lay b.plot in let e = c.in_ok-split_off.ensures in let w = c.in_ok-push.ensures.ok in
+    let p = layout_of b.board_shape in let e = c.in_ok-split_off.ensures in let w = c.in_ok-push.ensures.ok in
     let t : TableId = b.table.shared.table_id in
     let table = ap (λ (z : Known). z.table) i.0 in let knows = ap (λ (z : Known). z.knows) i.0 in
     let one : c.loop-k.k + 1 ≡ suc c.loop-k.k = omega arith in

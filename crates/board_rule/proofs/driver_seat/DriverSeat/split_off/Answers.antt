@@ -12,11 +12,11 @@ all_idle x (suc n) = ap (λ xs. progress_of x ∷ xs) (all_idle x n)
 
 pub invariant_of-result : goal.invariant_of-result
 invariant_of-result g c = let r = c.split-token.ensures.right.1 in let shape = c.shape-shape.ensures in
-    let count : c.len.result ≡ length c.args.board.now.plot.shape.nodes = c.len.ensures ∙ ap (λ (s : Shape). length s.nodes) shape in
-    let first : c.from-first.result ≡ c.args.board.now.plot.shape.first = c.from-first.ensures ∙ ap (λ (s : Shape). s.first) shape in
+    let count : c.len.result ≡ length c.args.board.now.board_shape.shape.nodes = c.len.ensures ∙ ap (λ (s : Shape). length s.nodes) shape in
+    let first : c.from-first.result ≡ c.args.board.now.board_shape.shape.first = c.from-first.ensures ∙ ap (λ (s : Shape). s.first) shape in
     record {
       nodes_are = ap (λ (v : View). map progress_of v.nodes) r
-          ∙ all_idle (idle c.args.board.now.plot.shape.first) (length c.args.board.now.plot.shape.nodes)
+          ∙ all_idle (idle c.args.board.now.board_shape.shape.first) (length c.args.board.now.board_shape.shape.nodes)
           ∙ sym (c.in_ok-nodes.ensures ∙ (λ j. replicate (count j) (progress_of (idle (first j)))));
       writes_are = search rules;
       reads_are = search rules;

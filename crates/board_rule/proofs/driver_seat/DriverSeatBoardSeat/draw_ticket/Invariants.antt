@@ -4,4 +4,4 @@ use Rattle.board_rule.specs.EventSteps.{draws}
 use Rattle.board_rule.proofs.driver_seat.DriverSeatBoardSeat.draw_ticket.Given as goal
 
 abbrev pub ghosts-draw : goal.ghosts-draw
-ghosts-draw a = record { leads = true; after = draws true a.token.now.me.0 a.at; says = λ n. n < event_count a.board.now.plot.shape }
+ghosts-draw a = record { is_driver = true; after = draws true a.token.now.me.0 a.at; says = λ n. n < event_count a.board.now.board_shape.shape }

@@ -1,13 +1,13 @@
 use Rattle.std.proofs.Common.{true, ◌≡◌}
 use Rattle.board_rule.specs.SampleWords.{IsTable, packed}
-use Rattle.board_rule.specs.Layout.{lay}
+use Rattle.board_rule.specs.Layout.{layout_of}
 use Rattle.board_rule.specs.ReaderSteps.{samples_read}
 use Rattle.board_rule.proofs.driver_seat.DriverSeatBoardSeat.load_sample_at.Given as goal
 
 abbrev pub ghosts-load_sample : goal.ghosts-load_sample
 ghosts-load_sample a = record {
-  leads = true;
+  is_driver = true;
   after = λ _. a.token.now.me.0;
-  says = λ found. (found ≡ packed (samples_read true (lay a.board.now.plot) a.token.now.me.0 a.link) a.place)
-      × IsTable (lay a.board.now.plot) a.token.now.me.0.expect;
+  says = λ found. (found ≡ packed (samples_read true (layout_of a.board.now.board_shape) a.token.now.me.0 a.link) a.place)
+      × IsTable (layout_of a.board.now.board_shape) a.token.now.me.0.expect;
 }

@@ -1,11 +1,11 @@
 use Rattle.std.proofs.Common.{false, ◌≡◌}
-use Rattle.board_rule.specs.Layout.{lay}
+use Rattle.board_rule.specs.Layout.{layout_of}
 use Rattle.board_rule.specs.BlockSteps.{readers_stored}
 use Rattle.board_rule.proofs.loop_seat.LoopSeat.store_readers.Given as goal
 
 abbrev pub ghosts-store_readers : goal.ghosts-store_readers
 ghosts-store_readers a = record {
-  leads = false;
-  after = λ _. readers_stored (lay a.board.now.plot) a.token.now.me.0 a.pool a.id;
+  is_driver = false;
+  after = λ _. readers_stored (layout_of a.board.now.board_shape) a.token.now.me.0 a.pool a.id;
   says = λ n. n ≡ n;
 }

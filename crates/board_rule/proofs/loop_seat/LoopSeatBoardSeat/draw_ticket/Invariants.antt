@@ -4,4 +4,4 @@ use Rattle.board_rule.specs.EventSteps.{draws}
 use Rattle.board_rule.proofs.loop_seat.LoopSeatBoardSeat.draw_ticket.Given as goal
 
 abbrev pub ghosts-draw : goal.ghosts-draw
-ghosts-draw a = record { leads = false; after = draws false a.token.now.me.0 a.at; says = λ n. n < event_count a.board.now.plot.shape }
+ghosts-draw a = record { is_driver = false; after = draws false a.token.now.me.0 a.at; says = λ n. n < event_count a.board.now.board_shape.shape }

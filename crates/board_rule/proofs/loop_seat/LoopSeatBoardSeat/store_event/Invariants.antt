@@ -3,4 +3,4 @@ use Rattle.board_rule.specs.EventSteps.{event_stored}
 use Rattle.board_rule.proofs.loop_seat.LoopSeatBoardSeat.store_event.Given as goal
 
 abbrev pub ghosts-store : goal.ghosts-store
-ghosts-store a = record { leads = false; after = λ _. event_stored false a.token.now.me.0 a.at; says = λ n. n ≡ n }
+ghosts-store a = record { is_driver = false; after = λ _. event_stored false a.token.now.me.0 a.at; says = λ n. n ≡ n }

@@ -1,19 +1,19 @@
 use Rattle.std.proofs.Common.{◌∙◌, ℕ, sym, subst}
 use Rattle.atomic_table.specs.Table.{Allows}
 use Rattle.pw_base.specs.Words.{not_triggered_word}
-use Rattle.board_rule.specs.declared.plot.Plot.{Plot}
-use Rattle.board_rule.specs.Layout.{lay}
+use Rattle.board_rule.specs.declared.board_shape.BoardShape.{BoardShape}
+use Rattle.board_rule.specs.Layout.{layout_of}
 use Rattle.board_rule.specs.BoardRule.{Holds}
-use Rattle.board_rule.specs.Plays.{Turns}
+use Rattle.board_rule.specs.Plays.{Leaves}
 use Rattle.board_rule.proofs.StepLemmas.{stores_status}
 use Rattle.board_rule.proofs.steps.activation.reset_status.Goals as goal
 
 pub store-requires : goal.store-requires
-store-requires g c = let b = c.args.board.now in let p = lay b.plot in let t = c.args.token.now in
+store-requires g c = let b = c.args.board.now in let p = layout_of b.board_shape in let t = c.args.token.now in
     let slots : ℕ = b.table.shared.table_id.slots in let after = g.C.Change.after in (
       c.requires.table,
       c.status_word-word.ensures.there,
-      subst (λ (k : Plot × ℕ × ℕ). Allows (Holds (lay k.0)) slots t.id t.me k.1 (λ _. k.2) (λ _. Turns after t.me k.2))
+      subst (λ (k : BoardShape × ℕ × ℕ). Allows (Holds (layout_of k.0)) slots t.id t.me k.1 (λ _. k.2) (λ _. Leaves after t.me k.2))
           (λ i. (
             sym b.about i,
             sym c.status_word-word.ensures.is i,

@@ -1,18 +1,18 @@
 use Rattle.std.proofs.Common.{ℕ, sym, subst}
 use Rattle.atomic_table.specs.Table.{Allows}
-use Rattle.board_rule.specs.declared.plot.Plot.{Plot}
-use Rattle.board_rule.specs.Layout.{lay}
+use Rattle.board_rule.specs.declared.board_shape.BoardShape.{BoardShape}
+use Rattle.board_rule.specs.Layout.{layout_of}
 use Rattle.board_rule.specs.BoardRule.{Holds}
-use Rattle.board_rule.specs.Plays.{Turns}
+use Rattle.board_rule.specs.Plays.{Leaves}
 use Rattle.board_rule.proofs.StepLemmas.{looks_at}
 use Rattle.board_rule.proofs.steps.event.look.Goals as goal
 
 pub load-requires : goal.load-requires
-load-requires g c = let b = c.args.board.now in let p = lay b.plot in let t = c.args.token.now in
+load-requires g c = let b = c.args.board.now in let p = layout_of b.board_shape in let t = c.args.token.now in
     let slots : ℕ = b.table.shared.table_id.slots in let after = g.C.Change.after in (
       c.requires.table,
       c.status_word-word.ensures.there,
-      subst (λ (k : Plot × ℕ). Allows (Holds (lay k.0)) slots t.id t.me k.1 (λ n. n) (Turns after t.me))
+      subst (λ (k : BoardShape × ℕ). Allows (Holds (layout_of k.0)) slots t.id t.me k.1 (λ n. n) (Leaves after t.me))
           (λ i. (sym b.about i, sym c.status_word-word.ensures.is i))
           (looks_at p slots t.id t.me after c.args.at c.requires.phase c.requires.after),
     )

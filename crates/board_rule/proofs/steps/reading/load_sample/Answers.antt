@@ -1,19 +1,19 @@
 use Rattle.std.proofs.Common.{ℕ, sym, subst}
 use Rattle.atomic_table.specs.Table.{Allows}
-use Rattle.board_rule.specs.declared.plot.Plot.{Plot}
-use Rattle.board_rule.specs.Layout.{lay}
+use Rattle.board_rule.specs.declared.board_shape.BoardShape.{BoardShape}
+use Rattle.board_rule.specs.Layout.{layout_of}
 use Rattle.board_rule.specs.BoardRule.{Holds}
 use Rattle.board_rule.specs.Plays.{Learns}
 use Rattle.board_rule.proofs.ReaderStepLemmas.{load_sample_allowed}
 use Rattle.board_rule.proofs.steps.reading.load_sample.Goals as goal
 
 pub load-requires : goal.load-requires
-load-requires g c = let b = c.args.board.now in let p = lay b.plot in let t = c.args.token.now in
+load-requires g c = let b = c.args.board.now in let p = layout_of b.board_shape in let t = c.args.token.now in
     let slots : ℕ = b.table.shared.table_id.slots in let after = g.C.Change.after in let says = g.C.Change.says in (
       c.requires.table,
       c.requires.there,
-      subst (λ (k : Plot × ℕ). Allows (Holds (lay k.0)) slots t.id t.me k.1 (λ n. n) (Learns after says t.me))
+      subst (λ (k : BoardShape × ℕ). Allows (Holds (layout_of k.0)) slots t.id t.me k.1 (λ n. n) (Learns after says t.me))
           (λ i. (sym b.about i, sym c.requires.word i))
-          (load_sample_allowed p slots t.id t.me after says g.C.Change.leads c.args.link c.args.id c.args.place c.requires.phase
+          (load_sample_allowed p slots t.id t.me after says g.C.Change.is_driver c.args.link c.args.id c.args.place c.requires.phase
           c.requires.place c.requires.after c.requires.says),
     )

@@ -1,19 +1,19 @@
 use Rattle.std.proofs.Common.{ℕ, sym, subst, ◌+◌, ◌-◌, ◌%◌, ◌^◌}
 use Rattle.atomic_table.specs.Table.{Allows}
-use Rattle.board_rule.specs.declared.plot.Plot.{Plot}
-use Rattle.board_rule.specs.Layout.{lay}
+use Rattle.board_rule.specs.declared.board_shape.BoardShape.{BoardShape}
+use Rattle.board_rule.specs.Layout.{layout_of}
 use Rattle.board_rule.specs.BoardRule.{Holds}
 use Rattle.board_rule.specs.Plays.{Learns}
 use Rattle.board_rule.proofs.ReaderStepLemmas.{lower_readers_allowed}
 use Rattle.board_rule.proofs.steps.reading.lower_readers.Goals as goal
 
 pub fetch_sub-requires : goal.fetch_sub-requires
-fetch_sub-requires g c = let b = c.args.board.now in let p = lay b.plot in let t = c.args.token.now in
+fetch_sub-requires g c = let b = c.args.board.now in let p = layout_of b.board_shape in let t = c.args.token.now in
     let slots : ℕ = b.table.shared.table_id.slots in let after = g.C.Change.after in let says = g.C.Change.says in (
       c.requires.table,
       c.link_readers_word-word.ensures.there,
-      subst (λ (k : Plot × ℕ). Allows (Holds (lay k.0)) slots t.id t.me k.1 (λ n. (n + (2 ^ 64 - 1)) % 2 ^ 64) (Learns after says t.me))
+      subst (λ (k : BoardShape × ℕ). Allows (Holds (layout_of k.0)) slots t.id t.me k.1 (λ n. (n + (2 ^ 64 - 1)) % 2 ^ 64) (Learns after says t.me))
           (λ i. (sym b.about i, sym c.link_readers_word-word.ensures.is i))
-          (lower_readers_allowed p slots t.id t.me after says g.C.Change.leads c.args.link c.args.id c.requires.phase c.requires.after
+          (lower_readers_allowed p slots t.id t.me after says g.C.Change.is_driver c.args.link c.args.id c.requires.phase c.requires.after
           c.requires.says),
     )

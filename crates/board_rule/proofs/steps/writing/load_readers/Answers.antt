@@ -1,18 +1,18 @@
 use Rattle.std.proofs.Common.{ℕ, sym, subst}
 use Rattle.atomic_table.specs.Table.{Allows}
-use Rattle.board_rule.specs.declared.plot.Plot.{Plot}
-use Rattle.board_rule.specs.Layout.{lay}
+use Rattle.board_rule.specs.declared.board_shape.BoardShape.{BoardShape}
+use Rattle.board_rule.specs.Layout.{layout_of}
 use Rattle.board_rule.specs.BoardRule.{Holds}
 use Rattle.board_rule.specs.Plays.{Learns}
 use Rattle.board_rule.proofs.WriterStepLemmas.{load_readers_allowed}
 use Rattle.board_rule.proofs.steps.writing.load_readers.Goals as goal
 
 pub load-requires : goal.load-requires
-load-requires g c = let b = c.args.board.now in let p = lay b.plot in let t = c.args.token.now in
+load-requires g c = let b = c.args.board.now in let p = layout_of b.board_shape in let t = c.args.token.now in
     let slots : ℕ = b.table.shared.table_id.slots in let after = g.C.Change.after in let says = g.C.Change.says in (
       c.requires.table,
       c.readers_word-word.ensures.there,
-      subst (λ (k : Plot × ℕ). Allows (Holds (lay k.0)) slots t.id t.me k.1 (λ n. n) (Learns after says t.me))
+      subst (λ (k : BoardShape × ℕ). Allows (Holds (layout_of k.0)) slots t.id t.me k.1 (λ n. n) (Learns after says t.me))
           (λ i. (sym b.about i, sym c.readers_word-word.ensures.is i))
           (load_readers_allowed p slots t.id t.me after says c.args.pool c.args.id c.requires.phase c.requires.after c.requires.says),
     )

@@ -1,22 +1,25 @@
 use Rattle.std.proofs.Common.{ℕ, sym, ap, ◌∙◌, subst}
 use Rattle.pw_base.specs.Words.{io_word_of}
+use Rattle.pw_base.specs.Layout.{io_place}
+use Rattle.board_rule.specs.Areas.{area_of}
+use Rattle.board_rule.specs.EndViews.{link_at}
 use Rattle.atomic_table.specs.Table.{Allows}
-use Rattle.board_rule.specs.declared.plot.Plot.{Plot}
-use Rattle.board_rule.specs.Layout.{lay}
+use Rattle.board_rule.specs.declared.board_shape.BoardShape.{BoardShape}
+use Rattle.board_rule.specs.Layout.{layout_of}
 use Rattle.board_rule.specs.BoardRule.{Holds}
-use Rattle.board_rule.specs.Plays.{Turns}
+use Rattle.board_rule.specs.Plays.{Leaves}
 use Rattle.board_rule.proofs.WriterStepLemmas.{store_have_allowed}
 use Rattle.board_rule.proofs.steps.writing.store_have.Goals as goal
 
 pub store-requires : goal.store-requires
-store-requires g c = let b = c.args.board.now in let p = lay b.plot in let t = c.args.token.now in
+store-requires g c = let b = c.args.board.now in let p = layout_of b.board_shape in let t = c.args.token.now in
     let slots : ℕ = b.table.shared.table_id.slots in let after = g.C.Change.after in let says = g.C.Change.says in (
       c.requires.table,
       c.area_word-word.ensures.there,
-      subst (λ (k : Plot × ℕ × ℕ). Allows (Holds (lay k.0)) slots t.id t.me k.1 (λ _. k.2) (λ _. Turns after t.me k.2))
+      subst (λ (k : BoardShape × ℕ × ℕ). Allows (Holds (layout_of k.0)) slots t.id t.me k.1 (λ _. k.2) (λ _. Leaves after t.me k.2))
           (λ i. (
             sym b.about i,
-            sym c.area_word-word.ensures.is i,
+            sym (c.area_word-word.ensures.is ∙ ap (λ n. io_place b.board_shape.shape c.args.link (area_of (link_at p c.args.link) n)) c.requires.stamp) i,
             sym (c.io_word-new.ensures.word ∙ ap (λ n. io_word_of n c.args.id) c.number.ensures) i,
           ))
           (store_have_allowed p slots t.id t.me after says c.args.link c.args.id c.requires.phase c.requires.after),

@@ -1,6 +1,0 @@
-use Rattle.std.proofs.Common.{◌≡◌, map, take}
-use Rattle.board_rule.specs.Layout.{place_in}
-use Rattle.board_rule.proofs.rows.places.Given as goal
-
-abbrev pub invariant-loop-n : goal.invariant-loop-n
-invariant-loop-n l = l.found.items ≡ map (place_in l.shape) (take l.n-index l.nodes)

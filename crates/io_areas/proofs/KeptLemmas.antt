@@ -1,0 +1,29 @@
+-- Other ends of links and other blocks leave what else is asked of a view.
+use Rattle.std.proofs.Common.{◌≡◌, ℕ, false, length, subst, sym, arith}
+use Rattle.board_rule.specs.declared.view.View.{View}
+use Rattle.board_rule.specs.Layout.{BoardLayout}
+use Rattle.board_rule.specs.BufferReads.{HasPool}
+use Rattle.board_rule.specs.EndViews.{filler_of}
+use Rattle.board_rule.specs.SeatNodes.{HasNode}
+use Rattle.board_rule.specs.WorkSteps.{IsRunning}
+use Rattle.io_areas.specs.Writing.{IsAtPool}
+
+-- the view w is v but for its writers' ends and its blocks
+pub record IsKept (v w : View) : Type 0 where
+  pub same : w ≡ record v { writes = w.writes; blocks = w.blocks }
+  pub ends : length w.writes ≡ length v.writes
+  pub room : length w.blocks ≡ length v.blocks
+
+module _ (p : BoardLayout) (v w : View) (k : IsKept v w) where
+  pub has_again : (m : ℕ) → HasNode false p v m → HasNode false p w m
+  has_again m h = let o = h.0 in subst (λ (x : View). HasNode false p x m) (sym k.same)
+      (record { inside = o.inside; follows = o.follows; loops = o.loops; owned = o.owned; there = o.there; knows = o.knows }, h.1, h.2)
+
+  pub runs_again : (m : ℕ) → IsRunning false v m → IsRunning false w m
+  runs_again m h = subst (λ (x : View). IsRunning false x m) (sym k.same) h
+
+  pub pool_again : (q : ℕ) → HasPool p v q → HasPool p w q
+  pool_again q h = let room = h.2 in let same = k.room in (h.0, has_again (filler_of p q) h.1, omega arith)
+
+  pub at_again : (q : ℕ) → IsAtPool p v q → IsAtPool p w q
+  at_again q h = (pool_again q h.0, runs_again (filler_of p q) h.1)
