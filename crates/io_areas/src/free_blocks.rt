@@ -13,7 +13,9 @@ use std::alloc::Global;
 fn has_delayed(links: &[ShapeLink], port: PortId) -> bool
     ensures { result ≡ list_any (λ l. is_same_port l.from port && l.delayed) links.now }
 {
-    links.iter().any(|l| is_same_port(l.from, port) && l.delayed)
+    links
+        .iter()
+        .any(|l| is_same_port(l.from, port) && l.delayed)
 }
 
 // Whether a link of the pool is delayed.
