@@ -7,7 +7,7 @@ use native.Mathlib.Decide.{ℕ_discrete}
 use Rattle.board_rule.specs.declared.view.DriverPhase.TheVariants as drives
 use Rattle.board_rule.specs.declared.view.Found.{Found}
 use Rattle.board_rule.specs.declared.view.View.{View}
-use Rattle.pw_base.specs.Words.{status_word_of}
+use Rattle.pw_base.specs.Words.{finished_word}
 use Rattle.pw_base.specs.declared.event.Event.TheVariants.{Tick}
 use Rattle.pw_base.specs.Layout.{event_count}
 use Rattle.board_rule.specs.Layout.{BoardLayout, IsSound, nodes}
@@ -83,7 +83,7 @@ module _ (p : BoardLayout) (sound : IsSound p) where
         let looks : u.trail.looks ≡ s = ap (λ (z : View). z.trail.looks) a.1 in record {
           looks = ap (λ l. map (λ (f : Found). f.node) l) looks ∙ ap (λ l. p.number k ∷ l) r.looks
               ∙ sym (ap (λ b. cond b (followers p k) (p.number k ∷ followers p k)) (ne_eqb k p.driver o));
-          late_is = a.2 ∙ ap (λ j. cond (eqb found (status_word_of 3 v.lead.cycle)) j (with_bit j (p.number k))) r.late_is
+          late_is = a.2 ∙ ap (λ j. cond (eqb found (finished_word v.lead.cycle)) j (with_bit j (p.number k))) r.late_is
               ∙ sym (ap (late_of v.lead.cycle) looks);
           is = a.1 ∙ ap (λ (z : View). view_trail z (record z.trail { looks = record { node = p.number k; word = found } ∷ z.trail.looks }))
               r.is ∙ sym (ap (λ l. view_trail v (record v.trail { looks = l })) looks);

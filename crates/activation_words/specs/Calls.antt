@@ -5,7 +5,7 @@ use Rattle.std.specs.Prelude.{◌≡◌, ◌≢◌, ℕ, ◌+◌, ◌<◌, Bool,
 use Rattle.board_rule.specs.declared.view.Phase.TheVariants.{Idle, Awake, Running, Telling}
 use Rattle.board_rule.specs.declared.view.DriverPhase.TheVariants as drives
 use Rattle.board_rule.specs.declared.view.View.{View}
-use Rattle.pw_base.specs.Words.{status_word_of}
+use Rattle.pw_base.specs.Words.{triggered_word}
 use Rattle.pw_base.specs.Layout.{event_count}
 use Rattle.board_rule.specs.Layout.{BoardLayout}
 use Rattle.board_rule.specs.View.{node_of, view_node, view_lead}
@@ -17,7 +17,7 @@ use Rattle.activation_words.specs.declared.answer.Claim.TheVariants as claims
 -- remembers
 abbrev pub IsClaim : Bool → BoardLayout → View → ℕ → Claim → View → Type 0
 IsClaim is_driver p v m (claims.Awake cycle) w = (cycle ≡ cycle_of is_driver v m) × (w ≡ woken is_driver v m)
-IsClaim is_driver p v m (claims.NotYet found) w = (found ≢ status_word_of 1 (cycle_of is_driver v m)) × (w ≡ tried p v m found)
+IsClaim is_driver p v m (claims.NotYet found) w = (found ≢ triggered_word (cycle_of is_driver v m)) × (w ≡ tried p v m found)
 
 -- START: the node is awake; then it works
 abbrev pub IsAwake : Bool → View → ℕ → Type 0

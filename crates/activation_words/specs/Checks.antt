@@ -3,7 +3,7 @@
 use Rattle.std.specs.Prelude.{◌≡◌, ◌≢◌, ℕ, ◌+◌, true, cond, eqb, [], map}
 use Rattle.board_rule.specs.declared.view.DriverPhase.TheVariants.{Checking}
 use Rattle.board_rule.specs.declared.view.View.{View}
-use Rattle.pw_base.specs.Words.{status_word_of}
+use Rattle.pw_base.specs.Words.{finished_word}
 use Rattle.board_rule.specs.Layout.{BoardLayout}
 use Rattle.board_rule.specs.View.{view_lead, view_trail}
 use Rattle.board_rule.specs.Bits.{with_bit}
@@ -18,7 +18,7 @@ tick_drawn v ticket = view_lead v (record v.lead
 abbrev pub LooksAt : BoardLayout → View → ℕ → ℕ → ℕ → View → ℕ → Type 0
 LooksAt p v at late cycle w now = (at ≡ p.driver → (w ≡ v) × (now ≡ late))
     × (at ≢ p.driver → (found : ℕ) × (w ≡ looked p v at found)
-    × (now ≡ cond (eqb found (status_word_of 3 cycle)) late (with_bit late (p.number at))))
+    × (now ≡ cond (eqb found (finished_word cycle)) late (with_bit late (p.number at))))
 
 -- from the view v to the view w, the followers among the first k indexes are looked at
 pub record IsLooking (p : BoardLayout) (v : View) (k late : ℕ) (w : View) : Type 0 where

@@ -6,7 +6,7 @@ ghost use Rattle.activation_words.specs.Calls.{IsClaim};
 
 use crate::answer::Claim;
 use board_rule::{Board, BoardSeat, DriverSeat, LoopSeat};
-use pw_base::{Status, status_word};
+use pw_base::{ActivationStatus, status_word};
 
 // One exchange of TRIGGERED of the node's next cycle for AWAKE.
 fn try_once<S: BoardSeat>(board: &Board, seat: &mut S, node: u32) -> Claim
@@ -18,7 +18,7 @@ fn try_once<S: BoardSeat>(board: &Board, seat: &mut S, node: u32) -> Claim
 {
     let cycle = board.shape().first + seat.ended(board, node);
     let found = seat.exchange_awake(board, node);
-    if found == status_word(Status::Triggered.number(), cycle) {
+    if found == status_word(ActivationStatus::Triggered.number(), cycle) {
         Claim::Awake { cycle }
     } else {
         Claim::NotYet { found }

@@ -2,7 +2,7 @@
 ghost use Rattle.board_rule.specs.OnBoard.{IsOn, layout};
 ghost use Rattle.std.specs.Prelude.{◌≡◌, ◌≢◌, true, false, ℕ, ◌+◌, ◌<◌, ◌≤◌, cond, eqb, slice_index};
 ghost use Rattle.pw_base.specs.Layout.{event_count};
-ghost use Rattle.pw_base.specs.Words.{status_word_of};
+ghost use Rattle.pw_base.specs.Words.{finished_word};
 ghost use Rattle.pw_base.specs.Dependencies.{nodes_of};
 ghost use Rattle.board_rule.specs.declared.view.DriverPhase.TheVariants.{Waiting, Checking};
 ghost use Rattle.board_rule.specs.Bits.{with_bit};
@@ -13,14 +13,14 @@ ghost use Rattle.activation_words.specs.CycleCalls.{HasChecked};
 ghost use Rattle.activation_words.specs.Checks.{tick_drawn, LooksAt, IsLooking};
 
 use board_rule::{Board, BoardSeat, DriverSeat};
-use pw_base::{Status, status_word};
+use pw_base::{ActivationStatus, status_word};
 
 // The late set with one node more where its word was not FINISHED of the cycle.
 fn late_with(late: u64, node: u32, found: u64, cycle: u32) -> u64
     requires { node ≤ 63 }
-    ensures { result ≡ cond (eqb found (status_word_of 3 cycle)) late (with_bit late node) }
+    ensures { result ≡ cond (eqb found (finished_word cycle)) late (with_bit late node) }
 {
-    if found == status_word(Status::Finished.number(), cycle) {
+    if found == status_word(ActivationStatus::Finished.number(), cycle) {
         late
     } else {
         late | 1 << node

@@ -14,7 +14,7 @@ use Rattle.std.proofs.lemmas.List.Quantifiers.{all_pairs_push}
 use Rattle.atomic_table.specs.Seated.{TableId}
 use Rattle.pw_base.specs.declared.shape.ShapeLink.{ShapeLink}
 use Rattle.pw_base.specs.declared.pools.PoolShape.{PoolShape}
-use Rattle.pw_base.specs.Pools.{is_port, links_from, pools_of}
+use Rattle.pw_base.specs.Pools.{is_same_port, links_from, pools_of}
 use Rattle.board_rule.specs.declared.board_shape.BoardShape.{BoardShape}
 use Rattle.board_rule.specs.declared.view.BlockView.{BlockView}
 use Rattle.board_rule.specs.declared.view.BlockView.TheVariants.{Free, Out}
@@ -120,7 +120,7 @@ module _ (p : BoardLayout) (e : Samples) (k : ℕ) (undelayed : IsUndelayed p.sh
   -- no delayed link reads a pool, so its blocks are free
   never_late : (x : PoolShape) → is_delayed p.shape x ≡ false
   never_late x = list_any_none (λ (l : ShapeLink). l.delayed) (links_from p.shape x.port)
-      (All-filter (λ (l : ShapeLink). is_port l.from x.port) (λ l. l.delayed ≡ false) p.shape.links undelayed)
+      (All-filter (λ (l : ShapeLink). is_same_port l.from x.port) (λ l. l.delayed ≡ false) p.shape.links undelayed)
 
   blocks_are : v.blocks ≡ flat_map (λ x. replicate x.blocks Free) (pools_of p.shape)
   blocks_are = ap (λ (f : PoolShape → List BlockView). flat_map f (pools_of p.shape))

@@ -2,7 +2,7 @@
 -- Source: PipeWire's documentation, "Graph Scheduling"; the calls are this project's own.
 use Rattle.std.specs.Prelude.{◌≡◌, ◌≢◌, ℕ, Bool, true, false, All, map, length, slice_index}
 use Rattle.atomic_table.specs.Seated.{TableId}
-use Rattle.pw_base.specs.Words.{status_word_of}
+use Rattle.pw_base.specs.Words.{triggered_word}
 use Rattle.board_rule.specs.declared.board.Board.{Board}
 use Rattle.board_rule.specs.Layout.{BoardLayout, layout_of, last}
 use Rattle.board_rule.specs.View.{node_of}
@@ -36,7 +36,7 @@ node_at w at = slice_index (map (λ e. e.node) w.nodes) at
 abbrev pub HasTried : BoardLayout → Worker → ℕ → Tried → Worker → Type 0
 HasTried p old m Ended new = ((node_of old.seat.knows m).next ≡ last p) × (new.seat.knows ≡ old.seat.knows)
 HasTried p old m (NotYet found) new =
-    (found ≢ status_word_of 1 (node_of old.seat.knows m).next) × (new.seat.knows ≡ tried p old.seat.knows m found)
+    (found ≢ triggered_word (node_of old.seat.knows m).next) × (new.seat.knows ≡ tried p old.seat.knows m found)
 HasTried p old m (Ran heard) new =
     (heard ≡ true) × HasTurned p old.seat.knows old.free.items m new.seat.knows new.free.items
 
@@ -56,7 +56,7 @@ BeginsNext p old false new = (old.seat.knows.lead.cycle ≡ last p) × (new.seat
 abbrev pub HasLed : BoardLayout → DriverLoop → Tried → DriverLoop → Type 0
 HasLed p old Ended new = ⊥
 HasLed p old (NotYet found) new =
-    (found ≢ status_word_of 1 old.seat.knows.lead.cycle) × (new.seat.knows ≡ tried p old.seat.knows p.driver found)
+    (found ≢ triggered_word old.seat.knows.lead.cycle) × (new.seat.knows ≡ tried p old.seat.knows p.driver found)
 HasLed p old (Ran heard) new = (heard ≡ true) × HasConcluded old new
 
 -- whether the driver's node waits after it

@@ -5,7 +5,7 @@ use Rattle.pw_base.specs.declared.ids.PortId.{PortId}
 use Rattle.pw_base.specs.declared.shape.ShapeLink.{ShapeLink}
 use Rattle.std.proofs.lemmas.List.Folds.{list_any_none}
 use Rattle.std.proofs.lemmas.List.Elements.{All-filter}
-use Rattle.pw_base.specs.Pools.{is_port, links_from, pools_of}
+use Rattle.pw_base.specs.Pools.{is_same_port, links_from, pools_of}
 use Rattle.board_rule.specs.Layout.{BoardLayout}
 use Rattle.board_rule.specs.BlockReadings.{busy_cycles}
 use Rattle.board_rule.specs.EndViews.{pool_at, pool_of, writer_of, filler_of}
@@ -21,7 +21,7 @@ module _ (p : BoardLayout) (plain : IsPlain p) (q : ℕ) where
   -- a block is busy for one cycle
   pub busy_cycles_is : busy_cycles p (pool_at p q) ≡ 1
   busy_cycles_is = let port : PortId = (pool_at p q).port in ap (λ b. cond {A = ℕ} b 2 1) (list_any_none (λ (k : ShapeLink). k.delayed)
-      (links_from p.shape port) (All-filter (λ (k : ShapeLink). is_port k.from port) (λ k. k.delayed ≡ false) p.shape.links plain.undelayed))
+      (links_from p.shape port) (All-filter (λ (k : ShapeLink). is_same_port k.from port) (λ k. k.delayed ≡ false) p.shape.links plain.undelayed))
 
   module _ (inside : q < length (pools_of p.shape)) where
     there : PoolAt p q (pool_at p q)

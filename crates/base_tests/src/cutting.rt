@@ -1,7 +1,7 @@
 //! Pieces of a text, a name among names, the next node of an order, and ports and sinks.
 
 use crate::worked::link;
-use pw_base::{Items, Kind, NODES, PortId, find_free, is_port, is_sink, next_piece, place_of_name};
+use pw_base::{Items, Kind, NODES, PortId, find_free, is_same_port, is_sink, next_piece, place_of_name};
 use std::test::Fail;
 
 #[test]
@@ -58,8 +58,8 @@ fn a_node_is_free_once_its_sources_are_gone(rt: HostRuntime) {
 #[test]
 fn a_port_is_its_node_and_its_number(rt: HostRuntime) {
     let port = PortId { node: 3, port: 1 };
-    assert!(rt; is_port(port, PortId { node: 3, port: 1 }));
-    assert!(rt; !is_port(port, PortId { node: 1, port: 3 }));
-    assert!(rt; !is_port(port, PortId { node: 3, port: 0 }));
+    assert!(rt; is_same_port(port, PortId { node: 3, port: 1 }));
+    assert!(rt; !is_same_port(port, PortId { node: 1, port: 3 }));
+    assert!(rt; !is_same_port(port, PortId { node: 3, port: 0 }));
     assert!(rt; is_sink(&Kind::Sink) && !is_sink(&Kind::Meter));
 }

@@ -3,7 +3,7 @@
 use pw_base::{
     AreaStatus, DUMMY, Epoch, Event, Every, FileFail, Files, Gate, Items, Kind, Loaded, Meet,
     MemFiles, MemSink, Memory, NO_BLOCK, Never, Open, PortId, Shape, ShapeLink, ShapeNode, Sink,
-    Status, SureFiles, SureSink, Ticker, Which, append_decimal, cycle_of, event_of, event_word,
+    ActivationStatus, SureFiles, SureSink, Ticker, Which, append_decimal, cycle_of, event_of, event_word,
     io_id_of, io_status_of, io_word, is_legal_history, is_pooled_shape, is_sound_shape, pools_of,
     status_of, status_word,
 };
@@ -346,10 +346,10 @@ fn the_word_of_a_start(rt: HostRuntime) {
     let have = io_word(AreaStatus::HaveData.number(), 1);
     assert_eq!(rt; have, 4_294_967_298);
     assert!(rt; io_status_of(have) == 2 && io_id_of(have) == 1);
-    let word = status_word(Status::Finished.number(), 8);
+    let word = status_word(ActivationStatus::Finished.number(), 8);
     assert!(rt; word == 35 && status_of(word) == 3 && cycle_of(word) == 8);
     assert!(rt;
-        Status::from_number(1) == Some(Status::Triggered) && Status::from_number(4) == None
+        ActivationStatus::from_number(1) == Some(ActivationStatus::Triggered) && ActivationStatus::from_number(4) == None
     );
     assert!(rt;
         AreaStatus::from_number(2) == Some(AreaStatus::HaveData)

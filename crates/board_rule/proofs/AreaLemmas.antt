@@ -7,7 +7,7 @@ use native.Mathlib.Decide.{ℕ_discrete}
 use Rattle.pw_base.specs.declared.shape.ShapeLink.{ShapeLink}
 use Rattle.pw_base.specs.declared.pools.PoolShape.{PoolShape}
 use Rattle.pw_base.specs.declared.ids.PortId.{PortId}
-use Rattle.pw_base.specs.Words.{io_word_of, io_id_in}
+use Rattle.pw_base.specs.Words.{io_id_in, have_data_word, need_data_word}
 use Rattle.pw_base.specs.Layout.{io_place, word_count}
 use Rattle.board_rule.specs.declared.view.WriteView.{WriteView}
 use Rattle.board_rule.specs.declared.view.ReadView.{ReadView}
@@ -64,7 +64,7 @@ module _ (p : BoardLayout) (s : ℕ → Span) (ends : Ends) (e : Samples) (ws : 
 
     -- what the writer finds: the number that the reader gave back
     pub finds_need : from.begun ≡ from.ended + 1 → writer.stored ≡ from.ended
-        → get_or ws writing_place 0 ≡ io_word_of 1 (stored_id writer late)
+        → get_or ws writing_place 0 ≡ need_data_word (stored_id writer late)
     finds_need run stored = let o = link_is in let n : from.begun ≤ to.ended + 1 =
         paced.near (p.index k.from.node) (p.index k.to.node) (w.from_in l k at) (w.to_in l k at) in let r = o.reader_turn.0 in
         ap (λ a. get_or ws (io_place p.shape l a) 0) (same_area k (from.ended + 1) (writer.stored + late)
@@ -100,12 +100,12 @@ module _ (p : BoardLayout) (s : ℕ → Span) (ends : Ends) (e : Samples) (ws : 
         → from.begun ≡ from.ended + 1 → writer.loaded ≡ from.ended + 1 → writer.stored ≡ from.ended → id < x.blocks
         → ends.blocks q id ≡ Out (from.ended + 1)
         → Buffers p s (with_write ends l record { loaded = writer.loaded; stored = from.ended + 1; id = id; last = writer.id }) e
-        (set ws writing_place (io_word_of 2 id))
+        (set ws writing_place (have_data_word id))
     stores_have id q x is c room run loaded stored small out =
         let d : to.begun ≤ from.ended + late = paced.ordered l k at in
         let f : first p ≤ from.ended = paced.first (p.index k.from.node) (w.from_in l k at) in
         let most = delay_most k in
-        buffers_write p s ends e ws (set ws writing_place (io_word_of 2 id)) w l k at b y
+        buffers_write p s ends e ws (set ws writing_place (have_data_word id)) w l k at b y
         (λ r z ir cr. let o = b.links r l z k ir cr at in let rt = o.reader_turn in let r₁ = rt.1 in let r₂ = rt.2 in let r₃ = rt.3 in
         let la = o.later in let same : q ≡ r = w.one_pool q r l x z is ir c cr in let pool : x ≡ z = cc in
         let one : x.blocks ≡ z.blocks = ap (λ (v : PoolShape). v.blocks) pool in record {
@@ -113,12 +113,12 @@ module _ (p : BoardLayout) (s : ℕ → Span) (ends : Ends) (e : Samples) (ws : 
           reader_turn = rt;
           later = (omega arith, la.1);
           have = λ a h g. dite (ℕ_discrete a 0)
-              (λ v. new_word a v ∙ ap (λ j. io_word_of 2 (stored_id y j)) (sym v))
+              (λ v. new_word a v ∙ ap (λ j. have_data_word (stored_id y j)) (sym v))
               (λ v. old_word a h v ∙ o.have 0 (omega arith) (omega arith)
-              ∙ ap (io_word_of 2) (sym (one_ago writer.loaded (from.ended + 1) id writer a (omega arith))));
+              ∙ ap (have_data_word) (sym (one_ago writer.loaded (from.ended + 1) id writer a (omega arith))));
           need = λ a h g. dite (ℕ_discrete a 0) (λ v. absurd (omega arith))
               (λ v. old_word a h v ∙ o.need 0 (omega arith) (omega arith)
-              ∙ ap (io_word_of 1) (sym (one_ago writer.loaded (from.ended + 1) id writer a (omega arith))));
+              ∙ ap (need_data_word) (sym (one_ago writer.loaded (from.ended + 1) id writer a (omega arith))));
           unnamed = λ a h g. absurd (omega arith);
           named = λ a h g. dite (ℕ_discrete a 0)
               (λ v. let i : stored_id y a ≡ id = ap (stored_id y) v in omega arith)
@@ -131,13 +131,13 @@ module _ (p : BoardLayout) (s : ℕ → Span) (ends : Ends) (e : Samples) (ws : 
         (λ r z ir cr m d. let same : q ≡ r = w.one_pool q r l x z is ir c cr in let pool : x ≡ z = cc in
         subst (λ (v : ℕ × PoolShape). NamesBlocks p v.1 (delay_at p l) (put ends.writes l y m).loaded y (ends.blocks v.0))
         (λ i. (same i, pool i)) (names m (subst (λ (v : PoolShape). Contains v.links m) (sym pool) d)))
-        (λ i o. get_or-set_other ws writing_place i (io_word_of 2 id) 0 (o (area_of k (from.ended + 1)) (area_most k (from.ended + 1))))
+        (λ i o. get_or-set_other ws writing_place i (have_data_word id) 0 (o (area_of k (from.ended + 1)) (area_most k (from.ended + 1))))
       where
         y : WriteView
         y = record { loaded = (ends.writes l).loaded; stored = (s (p.index k.from.node)).ended + 1; id = id; last = (ends.writes l).id }
 
         new : ℕ
-        new = io_word_of 2 id
+        new = have_data_word id
 
         new_word : (a : ℕ) → a ≡ 0
             → get_or (set ws writing_place new) (io_place p.shape l (area_of k ((s (p.index k.from.node)).ended + 1 + a))) 0 ≡ new
@@ -189,7 +189,7 @@ module _ (p : BoardLayout) (s : ℕ → Span) (ends : Ends) (e : Samples) (ws : 
     here a h is = same_area k to.ended (writer.stored + a) (λ one. let z : writer.stored + a ≡ to.ended + (a + a) = omega arith in omega arith)
 
     pub finds_have : (run : to.begun ≡ to.ended + 1) → reader.stored ≡ to.ended
-        → get_or ws reading_place 0 ≡ io_word_of 2 (stored_id writer (wrote_now run).0)
+        → get_or ws reading_place 0 ≡ have_data_word (stored_id writer (wrote_now run).0)
     finds_have run stored = let o = link_is in let n = wrote_now run in let n₁ = n.1 in let n₂ = n.2 in
         ap (λ j. get_or ws (io_place p.shape l j) 0) (here n.0 n.1 n.2) ∙ o.have n.0 n.1 (omega arith)
 
@@ -207,7 +207,7 @@ module _ (p : BoardLayout) (s : ℕ → Span) (ends : Ends) (e : Samples) (ws : 
     pub found_id : (run : to.begun ≡ to.ended + 1) → reader.stored ≡ to.ended
         → io_id_in (get_or ws reading_place 0) ≡ stored_id writer (wrote_now run).0
     found_id run stored = let h = finds_have run stored in let id : ℕ = stored_id writer (wrote_now run).0 in
-        let f : io_id_in (get_or ws reading_place 0) ≡ io_id_in (io_word_of 2 id) = ap io_id_in h in
+        let f : io_id_in (get_or ws reading_place 0) ≡ io_id_in (have_data_word id) = ap io_id_in h in
         let g : (2 + 4294967296 * id) / 4294967296 ≡ id = omega arith in f ∙ g
 
     pub loads_as_reader : to.begun ≡ to.ended + 1 → reader.loaded ≡ to.ended
@@ -229,10 +229,10 @@ module _ (p : BoardLayout) (s : ℕ → Span) (ends : Ends) (e : Samples) (ws : 
 
     pub stores_need : (id : ℕ) → word_count p.shape ≤ length ws → to.begun ≡ to.ended + 1 → reader.lowered ≡ to.ended + 1
         → reader.stored ≡ to.ended → id ≡ reader.id
-        → Buffers p s (with_read ends l record reader { stored = to.ended + 1 }) e (set ws reading_place (io_word_of 1 id))
+        → Buffers p s (with_read ends l record reader { stored = to.ended + 1 }) e (set ws reading_place (need_data_word id))
     stores_need id room run lowered stored is = let y : ReadView = record reader { stored = to.ended + 1 } in let n = wrote_now run in
         let n₁ = n.1 in let n₂ = n.2 in let most = delay_most k in
-        buffers_turn p s ends e ws (set ws reading_place (io_word_of 1 id)) w l k at b y
+        buffers_turn p s ends e ws (set ws reading_place (need_data_word id)) w l k at b y
         (λ q x iq c. let o = b.links q l x k iq c at in let rt = o.reader_turn in let r₂ = rt.2 in let r₃ = rt.3 in let la = o.later in
         let la₁ = la.1 in let same : reader.id ≡ stored_id writer n.0 = o.found n.0 n.1 (omega arith) (omega arith) in record {
           writer_turn = o.writer_turn;
@@ -240,15 +240,15 @@ module _ (p : BoardLayout) (s : ℕ → Span) (ends : Ends) (e : Samples) (ws : 
           later = (la.0, omega arith);
           have = λ a h g. other a n.0 h n.1 n.2 (omega arith) ∙ o.have a h (omega arith);
           need = λ a h g. dite (ℕ_discrete a n.0)
-              (λ v. mine a v ∙ ap (io_word_of 1) (is ∙ same ∙ ap (stored_id writer) (sym v)))
+              (λ v. mine a v ∙ ap (need_data_word) (is ∙ same ∙ ap (stored_id writer) (sym v)))
               (λ v. other a n.0 h n.1 n.2 v ∙ o.need a h (omega arith));
           unnamed = o.unnamed;
           named = o.named;
           found = λ a h z. absurd (omega arith);
-        }) refl (λ i o. get_or-set_other ws reading_place i (io_word_of 1 id) 0 (o (area_of k to.ended) (area_most k to.ended)))
+        }) refl (λ i o. get_or-set_other ws reading_place i (need_data_word id) 0 (o (area_of k to.ended) (area_most k to.ended)))
       where
         new : ℕ
-        new = io_word_of 1 id
+        new = need_data_word id
 
         mine : (a : ℕ) → a ≡ (wrote_now run).0
             → get_or (set ws reading_place new) (io_place p.shape l (area_of k ((ends.writes l).stored + a))) 0 ≡ new

@@ -10,7 +10,7 @@ use Rattle.std.proofs.lemmas.Bool.{and_parts}
 use Rattle.pw_base.specs.declared.shape.ShapeLink.{ShapeLink}
 use Rattle.pw_base.specs.declared.pools.PoolShape.{PoolShape}
 use Rattle.pw_base.specs.Pools.{pools_of}
-use Rattle.pw_base.specs.Words.{io_word_of, no_block}
+use Rattle.pw_base.specs.Words.{no_block, have_data_word, need_data_word}
 use Rattle.pw_base.specs.Layout.{io_start, io_place}
 use Rattle.pw_base.specs.Layout.{readers_place, sample_place}
 use Rattle.board_rule.specs.declared.view.BlockView.{BlockView}
@@ -44,23 +44,23 @@ module _ (f blocks : ℕ) (k : ShapeLink) (some : 0 < blocks) (area : ℕ → �
       by : (d : Bool) → k.delayed ≡ d → LinkOk f blocks k s t (first_write f k) (unread f) area
       by true e = let one : delay_by k ≡ 1 = ap (λ b. cond {A = ℕ} b 1 0) e in
           let id : (first_write f k).id ≡ 0 = ap (λ b. cond b 0 no_block) e in
-          let two = pick f (io_word_of 2 0) (io_word_of 1 no_block) in
+          let two = pick f (have_data_word 0) (need_data_word no_block) in
           let here : (a : ℕ) → a ≤ 1 → area (area_of k (f + a))
-          ≡ get_or (cond (f % 2 == 0) (io_word_of 2 0 ∷ io_word_of 1 no_block ∷ []) (io_word_of 1 no_block ∷ io_word_of 2 0 ∷ [])) ((f + a) % 2) 0 =
+          ≡ get_or (cond (f % 2 == 0) (have_data_word 0 ∷ need_data_word no_block ∷ []) (need_data_word no_block ∷ have_data_word 0 ∷ [])) ((f + a) % 2) 0 =
           λ a h. let j : area_of k (f + a) ≡ (f + a) % 2 = ap (λ b. cond b ((f + a) % 2) 0) e in
           is (area_of k (f + a)) (let z : (f + a) % 2 < 2 = omega arith in omega arith)
-          ∙ (λ i. get_or (cond (e i) (cond (f % 2 == 0) (io_word_of 2 0 ∷ io_word_of 1 no_block ∷ [])
-          (io_word_of 1 no_block ∷ io_word_of 2 0 ∷ [])) (io_word_of 1 no_block ∷ [])) (j i) 0) in record {
+          ∙ (λ i. get_or (cond (e i) (cond (f % 2 == 0) (have_data_word 0 ∷ need_data_word no_block ∷ [])
+          (need_data_word no_block ∷ have_data_word 0 ∷ [])) (need_data_word no_block ∷ [])) (j i) 0) in record {
             writer_turn = (omega arith, omega arith, omega arith);
             reader_turn = (omega arith, omega arith, omega arith, omega arith);
             later = (omega arith, omega arith);
             have = λ a h g. let z : a ≡ 0 = omega arith in
-                subst (λ i. area (area_of k (f + i)) ≡ io_word_of 2 (stored_id (first_write f k) i)) (sym z)
+                subst (λ i. area (area_of k (f + i)) ≡ have_data_word (stored_id (first_write f k) i)) (sym z)
                 (here 0 (omega arith) ∙ (let y : f + 0 ≡ f = omega arith in
-                ap (λ n. get_or (cond (f % 2 == 0) (io_word_of 2 0 ∷ io_word_of 1 no_block ∷ [])
-                (io_word_of 1 no_block ∷ io_word_of 2 0 ∷ [])) (n % 2) 0) y) ∙ two.0 ∙ ap (io_word_of 2) (sym id));
+                ap (λ n. get_or (cond (f % 2 == 0) (have_data_word 0 ∷ need_data_word no_block ∷ [])
+                (need_data_word no_block ∷ have_data_word 0 ∷ [])) (n % 2) 0) y) ∙ two.0 ∙ ap (have_data_word) (sym id));
             need = λ a h g. let z : a ≡ 1 = omega arith in
-                subst (λ i. area (area_of k (f + i)) ≡ io_word_of 1 (stored_id (first_write f k) i)) (sym z)
+                subst (λ i. area (area_of k (f + i)) ≡ need_data_word (stored_id (first_write f k) i)) (sym z)
                 (here 1 (omega arith) ∙ two.1);
             unnamed = λ a h g. let z : a ≡ 1 = omega arith in ap (stored_id (first_write f k)) z;
             named = λ a h g. let z : a ≡ 0 = omega arith in
@@ -74,11 +74,11 @@ module _ (f blocks : ℕ) (k : ShapeLink) (some : 0 < blocks) (area : ℕ → �
             later = (omega arith, omega arith);
             have = λ a h g. absurd (omega arith);
             need = λ a h g. let z : a ≡ 0 = omega arith in
-                subst (λ i. area (area_of k (f + i)) ≡ io_word_of 1 (stored_id (first_write f k) i)) (sym z)
+                subst (λ i. area (area_of k (f + i)) ≡ need_data_word (stored_id (first_write f k) i)) (sym z)
                 (let j : area_of k (f + 0) ≡ 0 = ap (λ b. cond b ((f + 0) % 2) 0) e in
                 ap area j ∙ is 0 (omega arith)
-                ∙ ap (λ b. get_or (cond b (cond (f % 2 == 0) (io_word_of 2 0 ∷ io_word_of 1 no_block ∷ [])
-                (io_word_of 1 no_block ∷ io_word_of 2 0 ∷ [])) (io_word_of 1 no_block ∷ [])) 0 0) e ∙ ap (io_word_of 1) (sym id));
+                ∙ ap (λ b. get_or (cond b (cond (f % 2 == 0) (have_data_word 0 ∷ need_data_word no_block ∷ [])
+                (need_data_word no_block ∷ have_data_word 0 ∷ [])) (need_data_word no_block ∷ [])) 0 0) e ∙ ap (need_data_word) (sym id));
             unnamed = λ a h g. let z : a ≡ 0 = omega arith in ap (stored_id (first_write f k)) z ∙ id;
             named = λ a h g. absurd (omega arith);
             found = λ a h g. absurd (omega arith);

@@ -11,7 +11,7 @@ use Rattle.pw_base.specs.declared.event.Event.TheVariants.{Begin, Tick, End}
 use Rattle.pw_base.specs.EventWords.{event_word_of}
 use Rattle.pw_base.specs.History.{is_tick, is_finish, IsLate}
 use Rattle.pw_base.specs.Layout.{event_place, late_place, status_place}
-use Rattle.pw_base.specs.Words.{status_word_of}
+use Rattle.pw_base.specs.Words.{status_word_of, finished_word}
 use Rattle.board_rule.specs.declared.view.Phase.{Phase}
 use Rattle.board_rule.specs.declared.view.Phase.TheVariants.{Idle, Awake, StartDrawn, Running, Done, FinishDrawn, Telling}
 use Rattle.board_rule.specs.declared.view.DriverPhase.{DriverPhase}
@@ -133,7 +133,7 @@ module _ (p : BoardLayout) where
         (record g { looks = record { node = p.number n; word = found } ∷ g.looks }) ws
     events_looked n found d runs_on inside follows is = let c : ℕ = g.lead.cycle in let i = e.inside in
         let run = words_run p g g.lead.drive ws runs_on a.laid in let o = run.node n inside in
-        let late : ¬ (found ≡ status_word_of 3 c) → IsLate p.shape g.inside c (p.number n) = λ other.
+        let late : ¬ (found ≡ finished_word c) → IsLate p.shape g.inside c (p.number n) = λ other.
         let z : (counts p g).finished n ≡ 0 = node_was p g (λ (z : NodeView). cond (eqb z.next c) (phase_finished z.phase) 1)
         (drive_finished g.lead.drive) n follows
         ∙ unfinished (length (p.targets n)) c (g.nodes n).next (g.nodes n).phase (a.followers n inside follows)

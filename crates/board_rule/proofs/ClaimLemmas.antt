@@ -15,7 +15,7 @@ use Rattle.board_rule.specs.declared.view.NodeView.{NodeView}
 use Rattle.board_rule.specs.declared.view.Trail.{Trail}
 use Rattle.board_rule.specs.declared.view.View.{View}
 use Rattle.pw_base.specs.Layout.{status_place}
-use Rattle.pw_base.specs.Words.{status_word_of}
+use Rattle.pw_base.specs.Words.{awake_word, finished_word, not_triggered_word, triggered_word}
 use Rattle.board_rule.specs.Layout.{BoardLayout, nodes, first}
 use Rattle.board_rule.specs.Phases.{phase_rest, phase_owing, phase_drawn, is_resetting}
 use Rattle.board_rule.specs.View.{Whole, node_of, with_node, view_node, view_trail}
@@ -32,28 +32,28 @@ use Rattle.board_rule.proofs.FollowerLemmas.{rest_at, owing_at, rest_put, owing_
 use Rattle.board_rule.proofs.FollowerLemmas.{same_node, holds_node}
 
 module _ (p : BoardLayout) where
-  old_cases : (c : ℕ) → (old_status p c ≡ status_word_of 0 c) ⊎ (old_status p c ≡ status_word_of 3 (c - 1))
+  old_cases : (c : ℕ) → (old_status p c ≡ not_triggered_word c) ⊎ (old_status p c ≡ finished_word (c - 1))
   old_cases c = dite (ℕ_discrete c (first p)) (λ e. inl
-      (ap (λ b. cond b (status_word_of 0 c) (status_word_of 3 (c - 1))) (eq-eqb c (first p) e)))
-      (λ e. inr (ap (λ b. cond b (status_word_of 0 c) (status_word_of 3 (c - 1))) (ne_eqb c (first p) e)))
+      (ap (λ b. cond b (not_triggered_word c) (finished_word (c - 1))) (eq-eqb c (first p) e)))
+      (λ e. inr (ap (λ b. cond b (not_triggered_word c) (finished_word (c - 1))) (ne_eqb c (first p) e)))
 
-  resting_not : (c i k n x : ℕ) (ws : List ℕ) → Resets p c i k ws → n < nodes p → get_or ws (status_place p.shape n) 0 ≡ status_word_of 1 x
+  resting_not : (c i k n x : ℕ) (ws : List ℕ) → Resets p c i k ws → n < nodes p → get_or ws (status_place p.shape n) 0 ≡ triggered_word x
       → ⊥
   resting_not c i k n x ws r h e = dite (dec_le k n)
-      (λ l. let o = r.status_old n h l in ⊎_elim (λ (z : old_status p c ≡ status_word_of 0 c). let q : get_or ws (status_place p.shape n) 0
-      ≡ status_word_of 0 c = o ∙ z in omega arith)
-      (λ (z : old_status p c ≡ status_word_of 3 (c - 1)). let q : get_or ws (status_place p.shape n) 0 ≡ status_word_of 3 (c - 1) = o ∙ z in
+      (λ l. let o = r.status_old n h l in ⊎_elim (λ (z : old_status p c ≡ not_triggered_word c). let q : get_or ws (status_place p.shape n) 0
+      ≡ not_triggered_word c = o ∙ z in omega arith)
+      (λ (z : old_status p c ≡ finished_word (c - 1)). let q : get_or ws (status_place p.shape n) 0 ≡ finished_word (c - 1) = o ∙ z in
       omega arith) (old_cases c))
       (λ l. let q = r.status_new n h (omega arith) in omega arith)
 
   running_is : (g : Whole) (d : DriverPhase) (n x : ℕ) (ws : List ℕ) → (is_resetting d ≡ true → ⊥) → Words p g.lead.cycle (progress p g) d ws
-      → n < nodes p → get_or ws (status_place p.shape n) 0 ≡ status_word_of 1 x → (is_resetting d ≡ true → ⊥) × x ≡ g.lead.cycle
+      → n < nodes p → get_or ws (status_place p.shape n) 0 ≡ triggered_word x → (is_resetting d ≡ true → ⊥) × x ≡ g.lead.cycle
   running_is g d n x ws runs_on w h e = let r = words_run p g d ws runs_on w in let o = r.node n h in let k = o.kinds in
       let q = o.status_is in (runs_on, omega arith)
 
   -- a node that is triggered in x shows that the driver has begun x and not ended it
   pub triggered_is : (g : Whole) (d : DriverPhase) (n x : ℕ) (ws : List ℕ) → Words p g.lead.cycle (progress p g) d ws → n < nodes p
-      → get_or ws (status_place p.shape n) 0 ≡ status_word_of 1 x → (is_resetting d ≡ true → ⊥) × x ≡ g.lead.cycle
+      → get_or ws (status_place p.shape n) 0 ≡ triggered_word x → (is_resetting d ≡ true → ⊥) × x ≡ g.lead.cycle
   triggered_is g drives.Between n x ws w h e = absurd (resting_not g.lead.cycle 0 0 n x ws w h e)
   triggered_is g drives.BeginDrawn n x ws w h e = absurd (resting_not g.lead.cycle 0 0 n x ws w h e)
   triggered_is g (drives.Reset i) n x ws w h e = absurd (resting_not g.lead.cycle i i n x ws w h e)
@@ -85,17 +85,17 @@ module _ (p : BoardLayout) where
   module _ {S : Type 0} where
     pub claim_allowed : (slots id m : ℕ) (me : Me S View) (after : ℕ → View) (t : Trail) (seen : ℕ → Trail) → Has p me.0 m
         → (node_of me.0 m).phase ≡ Idle
-        → (after (status_word_of 1 (node_of me.0 m).next) ≡ view_node me.0 m (record (node_of me.0 m) { phase = Awake }) t)
-        → ((found : ℕ) → found ≢ status_word_of 1 (node_of me.0 m).next → after found ≡ view_trail me.0 (seen found))
+        → (after (triggered_word (node_of me.0 m).next) ≡ view_node me.0 m (record (node_of me.0 m) { phase = Awake }) t)
+        → ((found : ℕ) → found ≢ triggered_word (node_of me.0 m).next → after found ≡ view_trail me.0 (seen found))
         → ((found : ℕ) → (seen found).looks ≡ me.0.trail.looks)
         → Allows (Holds p) slots id me (status_place p.shape m)
-        (λ w. either (eqb w (status_word_of 1 (node_of me.0 m).next)) (status_word_of 2 (node_of me.0 m).next) w) (Leaves after me)
+        (λ w. either (eqb w (triggered_word (node_of me.0 m).next)) (awake_word (node_of me.0 m).next) w) (Leaves after me)
     claim_allowed slots id m me after t seen h phase hit miss looks s r _ at fits =
         let g = r.whole in let a = r.activations in let wide = r.seated.wide in
         let x : NodeView = node_of me.0 m in
         let c : ℕ = g.lead.cycle in
         let found : ℕ = get_or s.words (status_place p.shape m) 0 in
-        dite (ℕ_discrete found (status_word_of 1 x.next))
+        dite (ℕ_discrete found (triggered_word x.next))
         (λ e. let is = triggered_is g g.lead.drive m x.next s.words a.laid h.inside e in
         let cycle = is.1 in
         let same = same_node p s r id m me.0 at h in
@@ -112,26 +112,26 @@ module _ (p : BoardLayout) where
         let owing' : (progress p whole).owing m ≡ [] = owing_put p g m new h.follows in
         let stage' : (progress p whole).stage m ≡ 1 = stage_put p g m new h.follows in
         let woken = wakes p.shape c m (progress p g) (progress p whole) s.words h.inside wide (elsewhere p g m new) (rest' ∙ sym rest)
-        (owing' ∙ sym owing) (e ∙ ap (status_word_of 1) cycle) stage' runs in
+        (owing' ∙ sym owing) (e ∙ ap (triggered_word) cycle) stage' runs in
         let more : node_drawn x ≡ node_drawn new = ap (λ f. 2 * x.next + phase_drawn f) phase in (
           view_node me.0 m new t,
           keeps,
           tt,
-          subst (λ b. Holds p (stepped s (status_place p.shape m) (either b (status_word_of 2 x.next) found) id me.1
-              (view_node me.0 m new t) keeps)) (sym (eq-eqb found (status_word_of 1 x.next) e))
-              (subst (λ k. Holds p (stepped s (status_place p.shape m) (status_word_of 2 k) id me.1 (view_node me.0 m new t) keeps))
-              (sym cycle) (holds_node p s r id m (status_place p.shape m) (status_word_of 2 c) me.0 me.1 new t at h (omega arith)
+          subst (λ b. Holds p (stepped s (status_place p.shape m) (either b (awake_word x.next) found) id me.1
+              (view_node me.0 m new t) keeps)) (sym (eq-eqb found (triggered_word x.next) e))
+              (subst (λ k. Holds p (stepped s (status_place p.shape m) (awake_word k) id me.1 (view_node me.0 m new t) keeps))
+              (sym cycle) (holds_node p s r id m (status_place p.shape m) (awake_word c) me.0 me.1 new t at h (omega arith)
               (omega arith) (omega arith) (quiet_phase c x Idle Awake phase refl refl refl)
               (phase_paced x Idle new phase refl refl (omega arith))
-              (active_node p g s.words (set s.words (status_place p.shape m) (status_word_of 2 c)) m new h.follows is.0 cycle woken a))),
+              (active_node p g s.words (set s.words (status_place p.shape m) (awake_word c)) m new h.follows is.0 cycle woken a))),
           (sym (ap after e ∙ hit), refl),
         ))
         (λ e. (
           view_trail me.0 (seen found),
           keeps,
           tt,
-          subst (λ b. Holds p (stepped s (status_place p.shape m) (either b (status_word_of 2 x.next) found) id me.1
-              (view_trail me.0 (seen found)) keeps)) (sym (ne_eqb found (status_word_of 1 x.next) e))
+          subst (λ b. Holds p (stepped s (status_place p.shape m) (either b (awake_word x.next) found) id me.1
+              (view_trail me.0 (seen found)) keeps)) (sym (ne_eqb found (triggered_word x.next) e))
               (remembers s r id (status_place p.shape m) me (seen found) at (looks found)),
           (sym (miss found e), refl),
         ))

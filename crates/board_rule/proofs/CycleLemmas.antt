@@ -14,7 +14,7 @@ use Rattle.board_rule.specs.declared.view.DriverView.{DriverView}
 use Rattle.board_rule.specs.declared.view.Trail.{Trail}
 use Rattle.board_rule.specs.declared.view.View.{View}
 use Rattle.pw_base.specs.Layout.{pending_place, status_place}
-use Rattle.pw_base.specs.Words.{status_word_of}
+use Rattle.pw_base.specs.Words.{status_word_of, awake_word, finished_word, not_triggered_word, triggered_word}
 use Rattle.board_rule.specs.Layout.{BoardLayout, IsSound, nodes, first, last}
 use Rattle.board_rule.specs.Sums.{times}
 use Rattle.board_rule.specs.Phases.{owed_of, phase_rest, phase_owing, phase_stage, PhaseOk, drive_rest, drive_owing, drive_stage}
@@ -120,9 +120,9 @@ module _ (p : BoardLayout) where
       (λ e. stage_at p g m e ∙ (let d = done m h e in λ j. phase_stage (eqb (d.0 j) c) (d.1 j))
       ∙ ap (λ b. cond b 0 2) (ne_eqb (c + 1) c (λ z. omega arith))) in
       let one : c + 1 - 1 ≡ c = omega arith in
-      let old : old_status p (c + 1) ≡ status_word_of 3 c = let l = a.later in
-      ap (λ b. cond b (status_word_of 0 (c + 1)) (status_word_of 3 (c + 1 - 1))) (ne_eqb (c + 1) (first p) (λ z. omega arith))
-      ∙ ap (status_word_of 3) one in record {
+      let old : old_status p (c + 1) ≡ finished_word c = let l = a.later in
+      ap (λ b. cond b (not_triggered_word (c + 1)) (finished_word (c + 1 - 1))) (ne_eqb (c + 1) (first p) (λ z. omega arith))
+      ∙ ap (finished_word) one in record {
         pending_new = λ n h l. absurd (omega arith);
         pending_old = λ n h _. get_or-set_other ws i (pending_place p.shape n) x 0 (other n h).0 ∙ (runs.node n h).counts
             ∙ total_zero (λ m. times n ((progress p g).rest m)) (nodes p) (λ m l. ap (times n) (none m l));
@@ -216,8 +216,8 @@ module _ (p : BoardLayout) where
     pub finish_lead_allowed : (slots id : ℕ) (me : Me S View) (t : Trail) (after : ℕ → View) → me.0.number ≡ p.seats
         → t.looks ≡ me.0.trail.looks → me.0.lead.drive ≡ drives.Running → IsGivenOn p me.0 p.driver me.0.lead.cycle
         → ((found : ℕ) → after found ≡ view_lead me.0 (record me.0.lead { drive = drives.Done }) t)
-        → Allows (Holds p) slots id me (status_place p.shape p.driver) (λ _. status_word_of 3 me.0.lead.cycle)
-        (λ _. Leaves after me (status_word_of 3 me.0.lead.cycle))
+        → Allows (Holds p) slots id me (status_place p.shape p.driver) (λ _. finished_word me.0.lead.cycle)
+        (λ _. Leaves after me (finished_word me.0.lead.cycle))
     finish_lead_allowed slots id me t after number looks phase given is_after s r _ at fits =
         let g = r.whole in let a = r.activations in let sound = r.seated.sound in let wide = r.seated.wide in let hm = sound.driver_in in
         let is = lead_is p s r id me.0 at number in
@@ -227,7 +227,7 @@ module _ (p : BoardLayout) where
         let runs_on : is_resetting g.lead.drive ≡ true → ⊥ = λ z. true≢false (sym z ∙ ap is_resetting drive) in
         let runs = words_run p g g.lead.drive s.words runs_on a.laid in
         let whole : Whole = with_lead g (lead_to g drives.Done g.lead) in
-        let ws : List ℕ = set s.words (status_place p.shape p.driver) (status_word_of 3 c) in
+        let ws : List ℕ = set s.words (status_place p.shape p.driver) (finished_word c) in
         let rest : (progress p g).rest p.driver ≡ [] = rest_driver p g ∙ ap (drive_rest ts) drive in
         let owing : (progress p g).owing p.driver ≡ [] = owing_driver p g ∙ ap (drive_owing ts) drive in
         let stage : (progress p g).stage p.driver ≡ 1 = stage_driver p g ∙ ap drive_stage drive in
@@ -245,9 +245,9 @@ module _ (p : BoardLayout) where
           view_lead me.0 (record me.0.lead { drive = drives.Done }) t,
           keeps,
           tt,
-          subst (λ (l : DriverView). Holds p (stepped s (status_place p.shape p.driver) (status_word_of 3 l.cycle) id me.1
+          subst (λ (l : DriverView). Holds p (stepped s (status_place p.shape p.driver) (finished_word l.cycle) id me.1
               (view_lead me.0 (record l { drive = drives.Done }) t) keeps)) (sym is)
-              (holds_lead_by p s r id (status_place p.shape p.driver) (status_word_of 3 c) me.0 me.1
+              (holds_lead_by p s r id (status_place p.shape p.driver) (finished_word c) me.0 me.1
               (lead_to g drives.Done g.lead) t at number looks (omega arith) (omega arith) (omega arith)
               (quiet_drive g.lead drives.Running drives.Done drive record {
                 started = refl;
@@ -265,16 +265,16 @@ module _ (p : BoardLayout) where
               (buffers_finish p (spans p g) (spans p whole) g.ends g.expect s.words ws p.driver w hm (paces p g s.words w a) ready
               (omega arith) (omega arith) (λ n l o. over_at p whole n o ∙ sym (over_at p g n o))
               (λ n l. begun_lead_put p g n (lead_to g drives.Done g.lead) (omega arith))
-              (early_word p s.words (status_place p.shape p.driver) (status_word_of 3 c) (omega arith)) r.buffers)),
-          (sym (is_after (status_word_of 3 me.0.lead.cycle)), refl),
+              (early_word p s.words (status_place p.shape p.driver) (finished_word c) (omega arith)) r.buffers)),
+          (sym (is_after (finished_word me.0.lead.cycle)), refl),
         )
 
     pub claim_lead_allowed : (slots id : ℕ) (me : Me S View) (after : ℕ → View) (t : Trail) (seen : ℕ → Trail) → me.0.number ≡ p.seats
         → t.looks ≡ me.0.trail.looks → ((found : ℕ) → (seen found).looks ≡ me.0.trail.looks) → me.0.lead.drive ≡ drives.Waiting
-        → (after (status_word_of 1 me.0.lead.cycle) ≡ view_lead me.0 (record me.0.lead { drive = drives.Awake }) t)
-        → ((found : ℕ) → found ≢ status_word_of 1 me.0.lead.cycle → after found ≡ view_trail me.0 (seen found))
+        → (after (triggered_word me.0.lead.cycle) ≡ view_lead me.0 (record me.0.lead { drive = drives.Awake }) t)
+        → ((found : ℕ) → found ≢ triggered_word me.0.lead.cycle → after found ≡ view_trail me.0 (seen found))
         → Allows (Holds p) slots id me (status_place p.shape p.driver)
-        (λ w. either (eqb w (status_word_of 1 me.0.lead.cycle)) (status_word_of 2 me.0.lead.cycle) w) (Leaves after me)
+        (λ w. either (eqb w (triggered_word me.0.lead.cycle)) (awake_word me.0.lead.cycle) w) (Leaves after me)
     claim_lead_allowed slots id me after t seen number looks looks_on phase hit miss s r _ at fits =
         let g = r.whole in let a = r.activations in let sound = r.seated.sound in let wide = r.seated.wide in let hm = sound.driver_in in
         let is = lead_is p s r id me.0 at number in
@@ -283,27 +283,27 @@ module _ (p : BoardLayout) where
         let c : ℕ = g.lead.cycle in
         let found : ℕ = get_or s.words (status_place p.shape p.driver) 0 in
         let ts : List ℕ = p.targets p.driver in
-        dite (ℕ_discrete found (status_word_of 1 me.0.lead.cycle))
+        dite (ℕ_discrete found (triggered_word me.0.lead.cycle))
         (λ e. let runs_on : is_resetting g.lead.drive ≡ true → ⊥ = λ z. true≢false (sym z ∙ ap is_resetting drive) in
         let runs = words_run p g g.lead.drive s.words runs_on a.laid in
         let whole : Whole = with_lead g (lead_to g drives.Awake g.lead) in
-        let ws : List ℕ = set s.words (status_place p.shape p.driver) (status_word_of 2 c) in
+        let ws : List ℕ = set s.words (status_place p.shape p.driver) (awake_word c) in
         let rest : (progress p g).rest p.driver ≡ [] = rest_driver p g ∙ ap (drive_rest ts) drive in
         let owing : (progress p g).owing p.driver ≡ [] = owing_driver p g ∙ ap (drive_owing ts) drive in
         let woken = wakes p.shape c p.driver (progress p g) (progress p whole) s.words hm wide (beside p g drives.Awake g.lead)
-        (rest_driver p whole ∙ sym rest) (owing_driver p whole ∙ sym owing) (e ∙ ap (status_word_of 1) cycle)
+        (rest_driver p whole ∙ sym rest) (owing_driver p whole ∙ sym owing) (e ∙ ap (triggered_word) cycle)
         (stage_driver p whole) runs in
         let same : lead_drawn g.lead ≡ 5 * c + (1 + cond g.lead.checked 1 0) =
         ap (λ d. 5 * c + cond (is_between d) 0 (drive_drawn d + cond g.lead.checked 1 0)) drive in (
           view_lead me.0 (record me.0.lead { drive = drives.Awake }) t,
           keeps,
           tt,
-          subst (λ b. Holds p (stepped s (status_place p.shape p.driver) (either b (status_word_of 2 me.0.lead.cycle) found) id me.1
+          subst (λ b. Holds p (stepped s (status_place p.shape p.driver) (either b (awake_word me.0.lead.cycle) found) id me.1
               (view_lead me.0 (record me.0.lead { drive = drives.Awake }) t) keeps))
-              (sym (eq-eqb found (status_word_of 1 me.0.lead.cycle) e))
-              (subst (λ (l : DriverView). Holds p (stepped s (status_place p.shape p.driver) (status_word_of 2 l.cycle) id me.1
+              (sym (eq-eqb found (triggered_word me.0.lead.cycle) e))
+              (subst (λ (l : DriverView). Holds p (stepped s (status_place p.shape p.driver) (awake_word l.cycle) id me.1
               (view_lead me.0 (record l { drive = drives.Awake }) t) keeps)) (sym is)
-              (holds_lead p s r id (status_place p.shape p.driver) (status_word_of 2 c) me.0 me.1
+              (holds_lead p s r id (status_place p.shape p.driver) (awake_word c) me.0 me.1
               (lead_to g drives.Awake g.lead) t at number looks (omega arith) (omega arith) (omega arith)
               (quiet_drive g.lead drives.Waiting drives.Awake drive record {
                 started = refl;
@@ -324,8 +324,8 @@ module _ (p : BoardLayout) where
           view_trail me.0 (seen found),
           keeps,
           tt,
-          subst (λ b. Holds p (stepped s (status_place p.shape p.driver) (either b (status_word_of 2 me.0.lead.cycle) found) id me.1
-              (view_trail me.0 (seen found)) keeps)) (sym (ne_eqb found (status_word_of 1 me.0.lead.cycle) e))
+          subst (λ b. Holds p (stepped s (status_place p.shape p.driver) (either b (awake_word me.0.lead.cycle) found) id me.1
+              (view_trail me.0 (seen found)) keeps)) (sym (ne_eqb found (triggered_word me.0.lead.cycle) e))
               (remembers p s r id (status_place p.shape p.driver) me (seen found) at (looks_on found)),
           (sym (miss found e), refl),
         ))

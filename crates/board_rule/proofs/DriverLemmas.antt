@@ -12,7 +12,7 @@ use Rattle.board_rule.specs.declared.view.DriverView.{DriverView}
 use Rattle.board_rule.specs.declared.view.Trail.{Trail}
 use Rattle.board_rule.specs.declared.view.View.{View}
 use Rattle.pw_base.specs.Layout.{pending_place, status_place}
-use Rattle.pw_base.specs.Words.{status_word_of}
+use Rattle.pw_base.specs.Words.{triggered_word}
 use Rattle.board_rule.specs.Layout.{BoardLayout, nodes, last}
 use Rattle.board_rule.specs.Phases.{owed_of, phase_rest, phase_owing, phase_stage, drive_rest, drive_owing, drive_stage, drive_drawn}
 use Rattle.board_rule.specs.Phases.{is_resetting, is_between}
@@ -271,8 +271,8 @@ module _ (p : BoardLayout) where
     pub kick_trigger_allowed : (slots id i n : ℕ) (me : Me S View) (t : Trail) (after : ℕ → View) → me.0.number ≡ p.seats
         → t.looks ≡ me.0.trail.looks → me.0.lead.drive ≡ drives.Kick (suc i) true → get_or (p.targets p.driver) i 0 ≡ n
         → ((found : ℕ) → after found ≡ view_lead me.0 (record me.0.lead { drive = kicked (length (p.targets p.driver)) (suc i) false }) t)
-        → Allows (Holds p) slots id me (status_place p.shape n) (λ _. status_word_of 1 me.0.lead.cycle)
-        (λ _. Leaves after me (status_word_of 1 me.0.lead.cycle))
+        → Allows (Holds p) slots id me (status_place p.shape n) (λ _. triggered_word me.0.lead.cycle)
+        (λ _. Leaves after me (triggered_word me.0.lead.cycle))
     kick_trigger_allowed slots id i n me t after number looks phase target is_after s r _ at fits =
         let g = r.whole in let a = r.activations in let sound = r.seated.sound in let wide = r.seated.wide in let m = p.driver in
         let hm = sound.driver_in in
@@ -300,17 +300,17 @@ module _ (p : BoardLayout) where
           view_lead me.0 (record me.0.lead { drive = new }) t,
           keeps,
           tt,
-          subst (λ (l : DriverView). Holds p (stepped s (status_place p.shape n) (status_word_of 1 l.cycle) id me.1
+          subst (λ (l : DriverView). Holds p (stepped s (status_place p.shape n) (triggered_word l.cycle) id me.1
               (view_lead me.0 (record l { drive = new }) t) keeps)) (sym is)
-              (holds_lead s r id (status_place p.shape n) (status_word_of 1 c) me.0 me.1 (lead_to g new g.lead) t at number looks
+              (holds_lead s r id (status_place p.shape n) (triggered_word c) me.0 me.1 (lead_to g new g.lead) t at number looks
               (omega arith) (omega arith) (omega arith) (quiet_drive g.lead (drives.Kick (suc i) true) new drive
               (kicked_quiet (suc i) (length ts) (suc i) true false))
               (let z = kicked_paced (length ts) (suc i) false in
               drive_paced g.lead (drives.Kick (suc i) true) (lead_to g new g.lead) drive refl z.0 (omega arith))
-              (active_lead g s.words (set s.words (status_place p.shape n) (status_word_of 1 c)) new g.lead
+              (active_lead g s.words (set s.words (status_place p.shape n) (triggered_word c)) new g.lead
               (kicked_ok (suc i) false (omega arith) (omega arith)) (kicked_runs (length ts) (suc i) false)
               (a.within (runs_within g.lead.drive runs_on)) triggered a)),
-          (sym (is_after (status_word_of 1 me.0.lead.cycle)), refl),
+          (sym (is_after (triggered_word me.0.lead.cycle)), refl),
         )
 
 -- the driver's seat can lower its next target, or owes its last one

@@ -15,7 +15,7 @@ use Rattle.board_rule.specs.declared.view.NodeView.{NodeView}
 use Rattle.board_rule.specs.declared.view.Trail.{Trail}
 use Rattle.board_rule.specs.declared.view.View.{View}
 use Rattle.pw_base.specs.Layout.{pending_place, status_place}
-use Rattle.pw_base.specs.Words.{status_word_of}
+use Rattle.pw_base.specs.Words.{triggered_word}
 use Rattle.board_rule.specs.Layout.{BoardLayout, nodes}
 use Rattle.board_rule.specs.Phases.{owed_of, phase_rest, phase_owing, phase_stage, PhaseOk, phase_drawn, drive_rest, drive_owing}
 use Rattle.board_rule.specs.Phases.{drive_stage, is_resetting}
@@ -229,8 +229,8 @@ module _ (p : BoardLayout) where
     pub trigger_allowed : (slots id m i n : ℕ) (me : Me S View) (t : Trail) (after : ℕ → View) → Has p me.0 m
         → (node_of me.0 m).phase ≡ Telling (suc i) true → get_or (p.targets m) i 0 ≡ n
         → ((found : ℕ) → after found ≡ view_node me.0 m (settled (length (p.targets m)) (node_of me.0 m) (suc i) false) t)
-        → Allows (Holds p) slots id me (status_place p.shape n) (λ _. status_word_of 1 (node_of me.0 m).next)
-        (λ _. Leaves after me (status_word_of 1 (node_of me.0 m).next))
+        → Allows (Holds p) slots id me (status_place p.shape n) (λ _. triggered_word (node_of me.0 m).next)
+        (λ _. Leaves after me (triggered_word (node_of me.0 m).next))
     trigger_allowed slots id m i n me t after h phase target is_after s r _ at fits =
         let g = r.whole in let a = r.activations in let sound = r.seated.sound in let wide = r.seated.wide in
         let x : NodeView = node_of me.0 m in
@@ -261,13 +261,13 @@ module _ (p : BoardLayout) where
           view_node me.0 m new t,
           keeps,
           tt,
-          subst (λ k. Holds p (stepped s (status_place p.shape n) (status_word_of 1 k) id me.1 (view_node me.0 m new t) keeps)) (sym now)
-              (holds_node s r id m (status_place p.shape n) (status_word_of 1 c) me.0 me.1 new t at h (omega arith) (omega arith)
+          subst (λ k. Holds p (stepped s (status_place p.shape n) (triggered_word k) id me.1 (view_node me.0 m new t) keeps)) (sym now)
+              (holds_node s r id m (status_place p.shape n) (triggered_word c) me.0 me.1 new t at h (omega arith) (omega arith)
               (omega arith) (settled_quiet c x (suc i) (suc i) true now phase (length ts) false)
               (settled_paced (length ts) (suc i) (suc i) true false x phase)
-              (active_node g s.words (set s.words (status_place p.shape n) (status_word_of 1 c)) m new h.follows runs_on
+              (active_node g s.words (set s.words (status_place p.shape n) (triggered_word c)) m new h.follows runs_on
               (settled_ok ts c x (suc i) now (length ts) false (omega arith) (omega arith)) triggered a)),
-          (sym (is_after (status_word_of 1 x.next)), refl),
+          (sym (is_after (triggered_word x.next)), refl),
         )
       where
         idle_not : (let a : Phase = Idle in a) ≡ Telling (suc i) true → ⊥

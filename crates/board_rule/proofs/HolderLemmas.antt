@@ -14,7 +14,7 @@ use Rattle.atomic_table.proofs.Lists.{set_else}
 use Rattle.pw_base.specs.declared.shape.ShapeLink.{ShapeLink}
 use Rattle.pw_base.specs.declared.pools.PoolShape.{PoolShape}
 use Rattle.pw_base.specs.declared.ids.PortId.{PortId}
-use Rattle.pw_base.specs.Pools.{is_port, pools_of}
+use Rattle.pw_base.specs.Pools.{is_same_port, pools_of}
 use Rattle.board_rule.specs.declared.view.DriverPhase.TheVariants as drives
 use Rattle.board_rule.specs.declared.view.NodeView.{NodeView}
 use Rattle.board_rule.specs.declared.view.DriverView.{DriverView}
@@ -98,7 +98,7 @@ module _ (p : BoardLayout) where
       × Contains (pool_at p (pool_of p l)).links l × (p.index (pool_at p (pool_of p l)).port.node ≡ p.index k.from.node)
   pool_here w l k at =
       let c = w.pool l k at in let q : ℕ = c.0 in let x : PoolShape = c.1 in let f : PoolShape
-      → Bool = λ z. is_port z.port (link_at p l).from in
+      → Bool = λ z. is_same_port z.port (link_at p l).from in
       let from : (link_at p l).from ≡ k.from = ap (λ (z : ShapeLink). z.from) (link_is l k at) in
       let made = w.there q l x c.2 c.3 in let same : made.0 ≡ k = cc in let port : x.port ≡ k.from = sym made.2
       ∙ ap (λ (z : ShapeLink). z.from) same in

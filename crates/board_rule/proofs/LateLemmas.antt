@@ -14,7 +14,7 @@ use Rattle.pw_base.specs.declared.event.Event.{Event}
 use Rattle.pw_base.specs.declared.event.Event.TheVariants.{Begin, Start, Finish, Tick, End}
 use Rattle.pw_base.specs.EventWords.{event_cycle, event_node, event_word_of}
 use Rattle.pw_base.specs.History.{is_start, is_finish, is_tick, IsLate}
-use Rattle.pw_base.specs.Words.{status_word_of}
+use Rattle.pw_base.specs.Words.{finished_word}
 use Rattle.board_rule.specs.declared.view.Found.{Found}
 use Rattle.board_rule.specs.Layout.{BoardLayout, nodes, first}
 use Rattle.board_rule.specs.View.{put}
@@ -35,18 +35,18 @@ other_bit set k n o h z = h (and_pow (with_bit set k) n ∙ ap (λ b. b * 2 ^ n)
 no_bit : (n : ℕ) → IsBitSet 0 n → ⊥
 no_bit n h = h (and_pow 0 n ∙ ap (λ b. b * 2 ^ n) (bit_at-zero n) ∙ (omega arith))
 
-pub late_bits : (c : ℕ) (P : ℕ → Type 0) (fs : List Found) → All (λ f. ¬ (f.word ≡ status_word_of 3 c) → P f.node) fs → (n : ℕ)
+pub late_bits : (c : ℕ) (P : ℕ → Type 0) (fs : List Found) → All (λ f. ¬ (f.word ≡ finished_word c) → P f.node) fs → (n : ℕ)
     → IsBitSet (late_of c fs) n → P n
 late_bits c P [] all n h = absurd (no_bit n h)
-late_bits c P (f ∷ fs) all n h = by (eqb f.word (status_word_of 3 c)) refl
-    (late_bits c P fs (All-tail (λ f. ¬ (f.word ≡ status_word_of 3 c) → P f.node) f fs all)) h
+late_bits c P (f ∷ fs) all n h = by (eqb f.word (finished_word c)) refl
+    (late_bits c P fs (All-tail (λ f. ¬ (f.word ≡ finished_word c) → P f.node) f fs all)) h
   where
-    by : (b : Bool) → eqb f.word (status_word_of 3 c) ≡ b → ((n : ℕ) → IsBitSet (late_of c fs) n → P n)
+    by : (b : Bool) → eqb f.word (finished_word c) ≡ b → ((n : ℕ) → IsBitSet (late_of c fs) n → P n)
         → IsBitSet (cond b (late_of c fs) (with_bit (late_of c fs) f.node)) n → P n
     by true e rest h = rest n h
     by false e rest h = dite (ℕ_discrete n f.node) (λ q. subst P (sym q)
-        (All-head (λ f. ¬ (f.word ≡ status_word_of 3 c) → P f.node) f fs all
-        (λ z. true≢false (sym (eq-eqb f.word (status_word_of 3 c) z) ∙ e))))
+        (All-head (λ f. ¬ (f.word ≡ finished_word c) → P f.node) f fs all
+        (λ z. true≢false (sym (eq-eqb f.word (finished_word c) z) ∙ e))))
         (λ q. rest n (other_bit (late_of c fs) f.node n q h))
 
 -- a Tick is given its late set
@@ -189,13 +189,13 @@ module _ (p : BoardLayout) (c : ℕ) where
       sym (first_mapped (is_start c (p.number p.driver)) h (start_same set c (p.number p.driver)) xs) i,
     )) (a.tick (sym checked ∙ one));
     late_ones = λ n _ b. is_late_told set xs n (bits n b);
-    seen = subst (All (λ f. ¬ (f.word ≡ status_word_of 3 c) → IsLate p.shape (map h xs) c f.node)) (sym sees)
+    seen = subst (All (λ f. ¬ (f.word ≡ finished_word c) → IsLate p.shape (map h xs) c f.node)) (sym sees)
         (λ i d q. absurd (omega arith));
   }
 
   -- a status is loaded
   pub inside_looks : (late : ℕ) (k : Counts) (xs : List Event) (f : Found) → Inside p c late k xs
-      → (¬ (f.word ≡ status_word_of 3 c) → IsLate p.shape xs c f.node) → Inside p c late (record k { sees = f ∷ k.sees }) xs
+      → (¬ (f.word ≡ finished_word c) → IsLate p.shape xs c f.node) → Inside p c late (record k { sees = f ∷ k.sees }) xs
   inside_looks late k xs f a h = record {
     only = a.only;
     starts = a.starts;
@@ -205,7 +205,7 @@ module _ (p : BoardLayout) (c : ℕ) where
     waits = a.waits;
     tick = a.tick;
     late_ones = a.late_ones;
-    seen = cons (λ f. ¬ (f.word ≡ status_word_of 3 c) → IsLate p.shape xs c f.node) f k.sees h a.seen;
+    seen = cons (λ f. ¬ (f.word ≡ finished_word c) → IsLate p.shape xs c f.node) f k.sees h a.seen;
   }
     where
       cons : (P : Found → Type 0) (f : Found) (fs : List Found) → P f → All P fs → All P (f ∷ fs)

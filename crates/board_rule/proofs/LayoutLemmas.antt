@@ -8,7 +8,7 @@ use Rattle.std.proofs.lemmas.List.Sums.{sum_by-cons}
 use Rattle.std.proofs.Math.ListN.{get_or-append}
 use Rattle.pw_base.specs.declared.shape.Shape.{Shape}
 use Rattle.pw_base.specs.declared.shape.ShapeLink.{ShapeLink}
-use Rattle.pw_base.specs.Words.{status_word_of}
+use Rattle.pw_base.specs.Words.{not_triggered_word}
 use Rattle.pw_base.specs.Pools.{pools_of}
 use Rattle.pw_base.specs.Layout.{node_count, areas_of, area_count, event_count, event_place, late_place, pending_place, status_place}
 use Rattle.pw_base.specs.Layout.{io_start, pool_start, start_words}
@@ -41,27 +41,27 @@ module _ (shape : Shape) where
   rest = replicate (shape.cycles + event_count shape) 0 ++ flat_map (pool_start shape) (pools_of shape)
 
   abbrev statuses : List ℕ
-  statuses = replicate n (status_word_of 0 shape.first) ++ (flat_map (io_start shape.first) shape.links ++ rest)
+  statuses = replicate n (not_triggered_word shape.first) ++ (flat_map (io_start shape.first) shape.links ++ rest)
 
   pub long_enough : event_place shape (event_count shape) ≤ word_count shape
   long_enough = let z = count_is shape in let a = length-append (replicate n 0) statuses in
-      let b = length-append (replicate n (status_word_of 0 shape.first)) (flat_map (io_start shape.first) shape.links ++ rest) in
+      let b = length-append (replicate n (not_triggered_word shape.first)) (flat_map (io_start shape.first) shape.links ++ rest) in
       let c = length-append (flat_map (io_start shape.first) shape.links) rest in
       let d = length-append (replicate (shape.cycles + event_count shape) 0) (flat_map (pool_start shape) (pools_of shape)) in
-      let e = repeated n 0 in let f = repeated n (status_word_of 0 shape.first) in let g = repeated (shape.cycles + event_count shape) 0 in
+      let e = repeated n 0 in let f = repeated n (not_triggered_word shape.first) in let g = repeated (shape.cycles + event_count shape) 0 in
       let k = areas_start shape.first shape.links in omega arith
 
   pub pending_start : (i : ℕ) → i < n → get_or (start_words shape) (pending_place shape i) 0 ≡ 0
   pending_start i l = let e = repeated n 0 in let one : 1 + i ≡ suc i = omega arith in ap (λ k. get_or (start_words shape) k 0) one
       ∙ get_or-append (replicate n 0) statuses 0 i (omega arith) ∙ get_or-replicate n i 0 0 l
 
-  pub status_start : (i : ℕ) → i < n → get_or (start_words shape) (status_place shape i) 0 ≡ status_word_of 0 shape.first
-  status_start i l = let e = repeated n 0 in let f = repeated n (status_word_of 0 shape.first) in
+  pub status_start : (i : ℕ) → i < n → get_or (start_words shape) (status_place shape i) 0 ≡ not_triggered_word shape.first
+  status_start i l = let e = repeated n 0 in let f = repeated n (not_triggered_word shape.first) in
       let one : 1 + n + i ≡ suc (length (replicate n 0) + i) = omega arith in
       ap (λ k. get_or (start_words shape) k 0) one ∙ get_or-append-add (replicate n 0) statuses i 0
-      ∙ get_or-append (replicate n (status_word_of 0 shape.first)) (flat_map (io_start shape.first) shape.links ++ rest) 0 i
+      ∙ get_or-append (replicate n (not_triggered_word shape.first)) (flat_map (io_start shape.first) shape.links ++ rest) 0 i
       (omega arith)
-      ∙ get_or-replicate n i (status_word_of 0 shape.first) 0 l
+      ∙ get_or-replicate n i (not_triggered_word shape.first) 0 l
 
   -- late sets and events begin with 0
   pub zero_start : (i : ℕ) → i < shape.cycles + event_count shape
@@ -69,13 +69,13 @@ module _ (shape : Shape) where
   zero_start i l = let areas : List ℕ = flat_map (io_start shape.first) shape.links in
       let zeros : List ℕ = replicate (shape.cycles + event_count shape) 0 in
       let pools : List ℕ = flat_map (pool_start shape) (pools_of shape) in
-      let a = repeated n 0 in let b = repeated n (status_word_of 0 shape.first) in let c = areas_start shape.first shape.links in
+      let a = repeated n 0 in let b = repeated n (not_triggered_word shape.first) in let c = areas_start shape.first shape.links in
       let d = repeated (shape.cycles + event_count shape) 0 in
       let e : 1 + 2 * n + area_count shape.links + i ≡ suc
-      (length (replicate n 0) + (length (replicate n (status_word_of 0 shape.first)) + (length areas + i))) = omega arith in
+      (length (replicate n 0) + (length (replicate n (not_triggered_word shape.first)) + (length areas + i))) = omega arith in
       ap (λ k. get_or (start_words shape) k 0) e ∙ get_or-append-add (replicate n 0) statuses
-      (length (replicate n (status_word_of 0 shape.first)) + (length areas + i)) 0
-      ∙ get_or-append-add (replicate n (status_word_of 0 shape.first)) (areas ++ rest) (length areas + i) 0
+      (length (replicate n (not_triggered_word shape.first)) + (length areas + i)) 0
+      ∙ get_or-append-add (replicate n (not_triggered_word shape.first)) (areas ++ rest) (length areas + i) 0
       ∙ get_or-append-add areas rest i 0 ∙ get_or-append zeros pools 0 i (omega arith)
       ∙ get_or-replicate (shape.cycles + event_count shape) i 0 0 l
 

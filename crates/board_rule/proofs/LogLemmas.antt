@@ -12,7 +12,7 @@ use Rattle.pw_base.specs.Dependencies.{Precedes}
 use Rattle.pw_base.specs.EventWords.{event_word_of}
 use Rattle.pw_base.specs.History.{is_start, is_finish, is_tick, IsLate}
 use Rattle.pw_base.specs.Layout.{event_count}
-use Rattle.pw_base.specs.Words.{status_word_of}
+use Rattle.pw_base.specs.Words.{finished_word}
 use Rattle.board_rule.specs.Layout.{BoardLayout, nodes}
 use Rattle.board_rule.specs.View.{put}
 use Rattle.board_rule.specs.Logged.{IsSoFar, IsHeld, Tickets, Inside}
@@ -135,8 +135,8 @@ module _ (p : BoardLayout) (c late : ℕ) (k l : Counts) (xs : List Event) (a : 
         let count : count_by g (xs ++ e ∷ []) ≡ 0 = count_more g xs e ∙ (λ i. (a.starts p.driver hd ∙ z.2) i + cond (z.3 i) 1 0) in
         let end = first_at_end g (xs ++ e ∷ []) count in let long = length-append xs (e ∷ []) in omega arith) (checks one);
     late_ones = λ n h b. late_more e n (a.late_ones n h b);
-    seen = ⊎_elim (λ (z : l.sees ≡ k.sees). subst (All (λ f. ¬ (f.word ≡ status_word_of 3 c) → IsLate p.shape (xs ++ e ∷ []) c f.node))
+    seen = ⊎_elim (λ (z : l.sees ≡ k.sees). subst (All (λ f. ¬ (f.word ≡ finished_word c) → IsLate p.shape (xs ++ e ∷ []) c f.node))
         (sym z) (λ i d h o. late_more e (get_or k.sees i d).node (a.seen i d h o)))
-        (λ (z : l.sees ≡ []). subst (All (λ f. ¬ (f.word ≡ status_word_of 3 c) → IsLate p.shape (xs ++ e ∷ []) c f.node)) (sym z)
+        (λ (z : l.sees ≡ []). subst (All (λ f. ¬ (f.word ≡ finished_word c) → IsLate p.shape (xs ++ e ∷ []) c f.node)) (sym z)
         (λ i d h o. absurd (omega arith))) sees;
   }

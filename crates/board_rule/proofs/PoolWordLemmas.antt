@@ -7,7 +7,7 @@ use Rattle.std.proofs.lemmas.Option.{get_or_from_slice_get, slice_get_within}
 use Rattle.pw_base.specs.declared.ids.PortId.{PortId}
 use Rattle.pw_base.specs.declared.shape.ShapeLink.{ShapeLink}
 use Rattle.pw_base.specs.declared.pools.PoolShape.{PoolShape}
-use Rattle.pw_base.specs.Pools.{is_port, links_from, channels_of, IsPooledShape}
+use Rattle.pw_base.specs.Pools.{is_same_port, links_from, channels_of, IsPooledShape}
 use Rattle.pw_base.proofs.PoolLemmas.{port_same}
 use Rattle.pw_base.proofs.PrecedenceLemmas.{holds_at}
 use Rattle.board_rule.specs.Layout.{BoardLayout, IsSound}
@@ -33,9 +33,9 @@ pools_have_words p sound pooled q x at =
     let w = wired p sound pooled in let l = w.linked q x at in let k = w.there q l.0 x at l.1 in
     let port = pool_source p.shape q x at in
     let here : get_or p.shape.links l.0 k.0 ≡ k.0 = get_or_from_slice_get p.shape.links l.0 k.0 k.0 k.1 in
-    let from : is_port k.0.from x.port ≡ true = port_same k.0.from x.port k.2 in
+    let from : is_same_port k.0.from x.port ≡ true = port_same k.0.from x.port k.2 in
     let c : Contains (links_from p.shape x.port) k.0 =
-    holds_at (λ j. is_port j.from x.port) p.shape.links k.0 l.0 from (slice_get_within p.shape.links l.0 k.0 k.1) here in
+    holds_at (λ j. is_same_port j.from x.port) p.shape.links k.0 l.0 from (slice_get_within p.shape.links l.0 k.0 k.1) here in
     let link = pooled.sound.links.each l.0 k.0 (slice_get_within p.shape.links l.0 k.0 k.1) in
     let one : 1 ≤ k.0.channels = subst (λ (j : ShapeLink). 1 ≤ j.channels) here link.channels.0 in
     let most = most_has 0 (links_from p.shape x.port) c.0 k.0 c.1 in

@@ -10,7 +10,7 @@ use Rattle.std.proofs.lemmas.List.Elements.{All-head, All-tail, All-cons, All-fi
 use Rattle.std.proofs.lemmas.List.Elements.{Contains-append_right, filter_passes}
 use Rattle.pw_base.specs.declared.ids.PortId.{PortId}
 use Rattle.pw_base.specs.declared.shape.ShapeLink.{ShapeLink}
-use Rattle.pw_base.specs.Pools.{is_port, is_before, with_port, link_ids_from}
+use Rattle.pw_base.specs.Pools.{is_same_port, is_before, with_port, link_ids_from}
 use Rattle.std.proofs.lemmas.Bool.{and_parts, and_from, or_cases, or_left, or_right}
 use Rattle.pw_base.proofs.PoolLemmas.{port_is, same_port, port_same}
 use Rattle.pw_base.proofs.PrecedenceLemmas.{holds_at}
@@ -206,15 +206,15 @@ module _ {X : Type 0} (test : X → Bool) where
 module _ (links : List ShapeLink) (port : PortId) where
   -- the links of a pool start at its port, and no other link does
   pub id_from : (l : ℕ) (d : ShapeLink) → Contains (link_ids_from links port) l → (l < length links) × ((get_or links l d).from ≡ port)
-  id_from l d c = let h = All-contains (Passes (λ k. is_port k.from port) 0 links) (link_ids_from links port) l
-      (indexes_pass (λ k. is_port k.from port) 0 links) c in
+  id_from l d c = let h = All-contains (Passes (λ k. is_same_port k.from port) 0 links) (link_ids_from links port) l
+      (indexes_pass (λ k. is_same_port k.from port) 0 links) c in
       let e : l - 0 ≡ l = omega arith in let in_range = h.1 in
-      (omega arith, same_port (get_or links l d).from port (ap (λ i. is_port (get_or links i d).from port) (sym e) ∙ h.2 d))
+      (omega arith, same_port (get_or links l d).from port (ap (λ i. is_same_port (get_or links i d).from port) (sym e) ∙ h.2 d))
 
   pub has_id : (l : ℕ) (d : ShapeLink) → l < length links → (get_or links l d).from ≡ port → Contains (link_ids_from links port) l
   has_id l d lt e = let zero_more : 0 + l ≡ l = omega arith in
       subst (Contains (link_ids_from links port)) zero_more
-      (has_index (λ k. is_port k.from port) 0 links l d lt (port_same (get_or links l d).from port e))
+      (has_index (λ k. is_same_port k.from port) 0 links l d lt (port_same (get_or links l d).from port e))
 
   pub differ_ids : Differ (link_ids_from links port)
-  differ_ids = differ_indexes (λ k. is_port k.from port) 0 links
+  differ_ids = differ_indexes (λ k. is_same_port k.from port) 0 links

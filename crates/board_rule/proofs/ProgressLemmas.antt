@@ -11,7 +11,7 @@ use Rattle.board_rule.specs.declared.view.ReadView.{ReadView}
 use Rattle.board_rule.specs.declared.view.BlockView.{BlockView}
 use Rattle.board_rule.specs.declared.view.Trail.{Trail}
 use Rattle.board_rule.specs.declared.view.View.{View}
-use Rattle.pw_base.specs.Words.{status_word_of}
+use Rattle.pw_base.specs.Words.{triggered_word}
 use Rattle.board_rule.specs.Layout.{BoardLayout}
 use Rattle.board_rule.specs.View.{node_of, view_node, idle}
 use Rattle.board_rule.specs.Bits.{with_bit, woke_of}
@@ -67,7 +67,7 @@ pub seat_claims : (p : BoardLayout) (v w : View) (m found : ℕ) (ns : List Node
     (bs : List BlockView) (o : ℕ) → w ≡ claimed false p v m found → (node_of v m).phase ≡ Idle → IsLoopSeat v ns ws rs bs o
     → IsLoopSeat w ns ws rs bs o
 seat_claims p v w m found ns ws rs bs o is idle s =
-    subst (λ (u : View). IsLoopSeat u ns ws rs bs o) (sym is) (by (eqb found (status_word_of 1 (node_of v m).next)))
+    subst (λ (u : View). IsLoopSeat u ns ws rs bs o) (sym is) (by (eqb found (triggered_word (node_of v m).next)))
   where
     by : (b : Bool) → IsLoopSeat (cond b (woken false v m) (tried p v m found)) ns ws rs bs o
     by true = seat_stays v (woken false v m) m (record (node_of v m) { phase = Awake }) v.trail ns ws rs bs o o refl s s.woke_is

@@ -7,7 +7,7 @@ use Rattle.atomic_table.specs.Table.{Me, keeps, stepped, Allows}
 use Rattle.pw_base.specs.declared.shape.ShapeLink.{ShapeLink}
 use Rattle.pw_base.specs.declared.pools.PoolShape.{PoolShape}
 use Rattle.pw_base.specs.Layout.{io_place, event_place, event_count, readers_place, sample_place}
-use Rattle.pw_base.specs.Words.{io_word_of, io_id_in}
+use Rattle.pw_base.specs.Words.{io_id_in, have_data_word, need_data_word}
 use Rattle.board_rule.specs.declared.view.ReadView.{ReadView}
 use Rattle.board_rule.specs.declared.view.View.{View}
 use Rattle.board_rule.specs.Layout.{BoardLayout, nodes, first}
@@ -68,7 +68,7 @@ module _ (p : BoardLayout) {S : Type 0} (slots id : ℕ) (me : Me S View) (after
       let i : ℕ = io_place p.shape l (read_area b p me.0 l) in let found : ℕ = get_or s.words i 0 in
       let here : i ≡ io_place p.shape l (area_of k (sp m).ended) = ap (λ n. io_place p.shape l (area_of k n)) (sym c) in
       let wrote : ℕ = stored_id (g.ends.writes l) (wrote_now p sp g.ends g.expect s.words w paced bs l k there run).0 in
-      let word : found ≡ io_word_of 2 wrote = ap (λ n. get_or s.words n 0) here
+      let word : found ≡ have_data_word wrote = ap (λ n. get_or s.words n 0) here
       ∙ finds_have p sp g.ends g.expect s.words w paced bs l k there run (omega arith) in
       let number : io_id_in found ≡ wrote = ap io_id_in word ∙ id_of 2 wrote (omega arith) in
       let pool = pool_here p w l k there in
@@ -88,7 +88,7 @@ module _ (p : BoardLayout) {S : Type 0} (slots id : ℕ) (me : Me S View) (after
           sym (is_after found),
           refl,
           it found (
-            word ∙ ap (io_word_of 2) (sym number),
+            word ∙ ap (have_data_word) (sym number),
             (omega arith),
             (λ late start. number ∙ finds_zero p sp g.ends g.expect s.words w paced bs l k there run (pool_of p l)
                 (pool_at p (pool_of p l)) pool.0 pool.1 (sym (late_is p l k there) ∙ late) (c ∙ start)),
@@ -97,8 +97,8 @@ module _ (p : BoardLayout) {S : Type 0} (slots id : ℕ) (me : Me S View) (after
       )
 
   pub store_need_allowed : (b : Bool) (l num : ℕ) → StoresNeed b p me.0 l num → ((found : ℕ) → after found ≡ need_stored b p me.0 l)
-      → Allows (Holds p) slots id me (io_place p.shape l (read_area b p me.0 l)) (λ _. io_word_of 1 num)
-      (λ _. Leaves after me (io_word_of 1 num))
+      → Allows (Holds p) slots id me (io_place p.shape l (read_area b p me.0 l)) (λ _. need_data_word num)
+      (λ _. Leaves after me (need_data_word num))
   store_need_allowed b l num h is_after s r _ at fits =
       let g = r.whole in let w = wired_in p g s.words s.views r.seated in let k : ShapeLink = link_at p l in
       let there = link_there p l h.0.0.0 in let m : ℕ = reader_of p l in
@@ -106,7 +106,7 @@ module _ (p : BoardLayout) {S : Type 0} (slots id : ℕ) (me : Me S View) (after
       let is : g.ends.reads l ≡ read_of me.0 l = sym (got me.0.reads l (g.ends.reads l) (unread 0)
       ((r.seated.knows id me.0 at).ends.of_read l k there now.2)) in
       let paced = paces p g s.words w r.activations in let sp = spans p g in let i : ℕ = io_place p.shape l (read_area b p me.0 l) in
-      let word : ℕ = io_word_of 1 num in
+      let word : ℕ = need_data_word num in
       let new = stores_need p sp g.ends g.expect s.words w paced r.buffers l k there num (room_in p g s.words s.views r.seated) run
       (ap (λ (z : ReadView). z.lowered) is ∙ h.1 ∙ ap (λ n. n + 1) (sym c)) (ap (λ (z : ReadView). z.stored) is ∙ h.2 ∙ sym c)
       (h.0.3 ∙ ap (λ (z : ReadView). z.id) (sym is)) in

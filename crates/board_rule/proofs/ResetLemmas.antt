@@ -10,7 +10,7 @@ use Rattle.board_rule.specs.declared.view.DriverView.{DriverView}
 use Rattle.board_rule.specs.declared.view.Trail.{Trail}
 use Rattle.board_rule.specs.declared.view.View.{View}
 use Rattle.pw_base.specs.Layout.{pending_place, status_place}
-use Rattle.pw_base.specs.Words.{status_word_of}
+use Rattle.pw_base.specs.Words.{not_triggered_word}
 use Rattle.board_rule.specs.Layout.{BoardLayout, IsSound, nodes}
 use Rattle.board_rule.specs.Sums.{total, times}
 use Rattle.board_rule.specs.Phases.{phase_rest, phase_owing, phase_stage, drive_drawn, is_resetting, is_between}
@@ -67,8 +67,8 @@ module _ (p : BoardLayout) where
 
   -- and its status word
   resets_status : (c i : ℕ) (ws : List ℕ) → i < nodes p → nodes p + nodes p < length ws → Resets p c (suc i) i ws
-      → Resets p c (suc i) (suc i) (set ws (status_place p.shape i) (status_word_of 0 c))
-  resets_status c i ws h wide r = let x : ℕ = status_word_of 0 c in let at : ℕ = status_place p.shape i in record {
+      → Resets p c (suc i) (suc i) (set ws (status_place p.shape i) (not_triggered_word c))
+  resets_status c i ws h wide r = let x : ℕ = not_triggered_word c in let at : ℕ = status_place p.shape i in record {
     pending_new = λ n hn l. get_or-set_other ws at (pending_place p.shape n) x 0 (λ z. omega arith) ∙ r.pending_new n hn l;
     pending_old = λ n hn l. get_or-set_other ws at (pending_place p.shape n) x 0 (λ z. omega arith) ∙ r.pending_old n hn l;
     status_new = λ n hn l. dite (ℕ_discrete n i) (λ e. ap (λ k. get_or (set ws at x) (status_place p.shape k) 0) e
@@ -158,8 +158,8 @@ module _ (p : BoardLayout) where
     pub store_not_triggered_allowed : (slots id i : ℕ) (me : Me S View) (t : Trail) (after : ℕ → View) → me.0.number ≡ p.seats
         → t.looks ≡ me.0.trail.looks → me.0.lead.drive ≡ drives.Half i
         → ((found : ℕ) → after found ≡ view_lead me.0 (record me.0.lead { drive = reset_to (nodes p) (suc i) }) t)
-        → Allows (Holds p) slots id me (status_place p.shape i) (λ _. status_word_of 0 me.0.lead.cycle)
-        (λ _. Leaves after me (status_word_of 0 me.0.lead.cycle))
+        → Allows (Holds p) slots id me (status_place p.shape i) (λ _. not_triggered_word me.0.lead.cycle)
+        (λ _. Leaves after me (not_triggered_word me.0.lead.cycle))
     store_not_triggered_allowed slots id i me t after number looks phase is_after s r _ at fits =
         let g = r.whole in let a = r.activations in let sound = r.seated.sound in let wide = r.seated.wide in
         let is = lead_is p s r id me.0 at number in
@@ -169,7 +169,7 @@ module _ (p : BoardLayout) where
         let resting = a.resting (ap is_resetting drive) in
         let within = a.within (ap is_between drive) in
         let old : Words p c (progress p g) (drives.Half i) s.words = subst (λ d. Words p c (progress p g) d s.words) drive a.laid in
-        let ws : List ℕ = set s.words (status_place p.shape i) (status_word_of 0 c) in
+        let ws : List ℕ = set s.words (status_place p.shape i) (not_triggered_word c) in
         let new = resets_status c i s.words h wide old in
         let goal : DriverPhase → Type 0 = λ d. Activations p (with_lead g (lead_to g d g.lead)) ws
         × (lead_drawn (lead_to g d g.lead) ≡ 5 * c + (1 + cond g.lead.checked 1 0)) in
@@ -205,12 +205,12 @@ module _ (p : BoardLayout) where
           view_lead me.0 (record me.0.lead { drive = reset_to (nodes p) (suc i) }) t,
           keeps,
           tt,
-          subst (λ (l : DriverView). Holds p (stepped s (status_place p.shape i) (status_word_of 0 l.cycle) id me.1
+          subst (λ (l : DriverView). Holds p (stepped s (status_place p.shape i) (not_triggered_word l.cycle) id me.1
               (view_lead me.0 (record l { drive = reset_to (nodes p) (suc i) }) t) keeps)) (sym is)
-              (holds_lead p s r id (status_place p.shape i) (status_word_of 0 c) me.0 me.1
+              (holds_lead p s r id (status_place p.shape i) (not_triggered_word c) me.0 me.1
               (lead_to g (reset_to (nodes p) (suc i)) g.lead) t at number looks (omega arith) (omega arith) (omega arith)
               (quiet_drive g.lead (drives.Half i) (reset_to (nodes p) (suc i)) drive (reset_quiet i (suc i) (eqb (suc i) (nodes p))))
               (let z = reset_paced (nodes p) (suc i) in drive_paced g.lead (drives.Half i)
               (lead_to g (reset_to (nodes p) (suc i)) g.lead) drive refl z.0 (omega arith)) act.0),
-          (sym (is_after (status_word_of 0 me.0.lead.cycle)), refl),
+          (sym (is_after (not_triggered_word me.0.lead.cycle)), refl),
         )

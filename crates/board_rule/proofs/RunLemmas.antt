@@ -7,7 +7,7 @@ use native.Mathlib.Decide.{ℕ_discrete, dec_le}
 use Rattle.board_rule.specs.Sums.{total, times}
 use Rattle.pw_base.specs.declared.shape.Shape.{Shape}
 use Rattle.pw_base.specs.Layout.{node_count, pending_place, status_place}
-use Rattle.pw_base.specs.Words.{status_word_of}
+use Rattle.pw_base.specs.Words.{status_word_of, awake_word, finished_word, triggered_word}
 use Rattle.board_rule.specs.ActivationRule.{Progress, NodeOk}
 use Rattle.board_rule.proofs.SumLemmas.{total_same, total_change, total_at, times_here, times_else}
 
@@ -133,19 +133,19 @@ module _ (shape : Shape) where
   -- m triggers the target that it owes
   pub triggers : (c m n : ℕ) (s t : Progress) (words : List ℕ) → m < count → n < count → count + count < length words → Elsewhere m s t
       → t.stage m ≡ s.stage m → t.rest m ≡ s.rest m → s.owing m ≡ n ∷ [] → t.owing m ≡ []
-      → Sums shape c s words → Sums shape c t (set words (status_place shape n) (status_word_of 1 c))
+      → Sums shape c s words → Sums shape c t (set words (status_place shape n) (triggered_word c))
   triggers c m n s t words hm hn wide e stage rest owes pays r = record { node = one }
     where
-      one : (i : ℕ) → i < count → NodeOk c (get_or (set words (status_place shape n) (status_word_of 1 c)) (pending_place shape i) 0)
-          (get_or (set words (status_place shape n) (status_word_of 1 c)) (status_place shape i) 0) (t.stage i) (sum_left count t i)
+      one : (i : ℕ) → i < count → NodeOk c (get_or (set words (status_place shape n) (triggered_word c)) (pending_place shape i) 0)
+          (get_or (set words (status_place shape n) (triggered_word c)) (status_place shape i) 0) (t.stage i) (sum_left count t i)
           (sum_debts count t i)
       one i hi = dite (ℕ_discrete i n)
-          (λ (q : i ≡ n). subst (λ j. NodeOk c (get_or (set words (status_place shape n) (status_word_of 1 c)) (pending_place shape j) 0)
-          (get_or (set words (status_place shape n) (status_word_of 1 c)) (status_place shape j) 0) (t.stage j) (sum_left count t j)
+          (λ (q : i ≡ n). subst (λ j. NodeOk c (get_or (set words (status_place shape n) (triggered_word c)) (pending_place shape j) 0)
+          (get_or (set words (status_place shape n) (triggered_word c)) (status_place shape j) 0) (t.stage j) (sum_left count t j)
           (sum_debts count t j)) (sym q) here)
           (λ (q : i ≢ n). node_same c _ _ _ _ _ _ _ _ _ _
-          (get_or-set_other words (status_place shape n) (pending_place shape i) (status_word_of 1 c) 0 (λ z. omega arith))
-          (get_or-set_other words (status_place shape n) (status_place shape i) (status_word_of 1 c) 0 (λ z. q (omega arith)))
+          (get_or-set_other words (status_place shape n) (pending_place shape i) (triggered_word c) 0 (λ z. omega arith))
+          (get_or-set_other words (status_place shape n) (status_place shape i) (triggered_word c) 0 (λ z. q (omega arith)))
           (stages i)
           (lefts i)
           (let a = debts_change m i s t hm e in let b : times i (s.owing m) ≡ 0 = ap (times i) owes ∙ times_else n i [] q in
@@ -158,12 +158,12 @@ module _ (shape : Shape) where
           lefts : (i : ℕ) → sum_left count t i ≡ sum_left count s i
           lefts i = let a = left_change m i s t hm e in let b : times i (t.rest m) ≡ times i (s.rest m) = ap (times i) rest in omega arith
 
-          here : NodeOk c (get_or (set words (status_place shape n) (status_word_of 1 c)) (pending_place shape n) 0)
-              (get_or (set words (status_place shape n) (status_word_of 1 c)) (status_place shape n) 0) (t.stage n) (sum_left count t n)
+          here : NodeOk c (get_or (set words (status_place shape n) (triggered_word c)) (pending_place shape n) 0)
+              (get_or (set words (status_place shape n) (triggered_word c)) (status_place shape n) 0) (t.stage n) (sum_left count t n)
               (sum_debts count t n)
           here = let o = r.node n hn in
-              let p = get_or-set_other words (status_place shape n) (pending_place shape n) (status_word_of 1 c) 0 (λ z. omega arith) in
-              let w = get_or-set_same words (status_place shape n) (status_word_of 1 c) 0 (omega arith) in
+              let p = get_or-set_other words (status_place shape n) (pending_place shape n) (triggered_word c) 0 (λ z. omega arith) in
+              let w = get_or-set_same words (status_place shape n) (triggered_word c) 0 (omega arith) in
               let l = lefts n in
               let d = debts_change m n s t hm e in
               let d₀ : times n (s.owing m) ≡ 1 = ap (times n) owes ∙ times_here n [] in
@@ -245,15 +245,15 @@ module _ (shape : Shape) where
 
   -- the claim of a node that was found triggered
   pub wakes : (c n : ℕ) (s t : Progress) (words : List ℕ) → n < count → count + count < length words → Elsewhere n s t → t.rest n ≡ s.rest n
-      → t.owing n ≡ s.owing n → get_or words (status_place shape n) 0 ≡ status_word_of 1 c → t.stage n ≡ 1
-      → Sums shape c s words → Sums shape c t (set words (status_place shape n) (status_word_of 2 c))
+      → t.owing n ≡ s.owing n → get_or words (status_place shape n) 0 ≡ triggered_word c → t.stage n ≡ 1
+      → Sums shape c s words → Sums shape c t (set words (status_place shape n) (awake_word c))
   wakes c n s t words hn wide e rest owing found now r =
       moves c n 1 0 s t words hn wide e rest owing found (omega arith) (omega arith) now r
 
   -- the store of FINISHED by a node that runs
   pub finishes : (c n : ℕ) (s t : Progress) (words : List ℕ) → n < count → count + count < length words → Elsewhere n s t → t.rest n ≡ s.rest n
       → t.owing n ≡ s.owing n → s.stage n ≡ 1 → t.stage n ≡ 2
-      → Sums shape c s words → Sums shape c t (set words (status_place shape n) (status_word_of 3 c))
+      → Sums shape c s words → Sums shape c t (set words (status_place shape n) (finished_word c))
   finishes c n s t words hn wide e rest owing was now r =
       moves c n 2 0 s t words hn wide e rest owing (let o = r.node n hn in let a = o.asleep in let d = o.done in let k = o.kinds in
       let kind : o.kind ≡ 2 = dite (ℕ_discrete o.kind 2) (λ z. z)

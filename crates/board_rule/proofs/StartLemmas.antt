@@ -25,7 +25,7 @@ use Rattle.pw_base.specs.Pools.{IsPooledShape, pools_of}
 use Rattle.pw_base.specs.declared.pools.PoolShape.{PoolShape}
 use Rattle.board_rule.specs.declared.view.BlockView.{BlockView}
 use Rattle.board_rule.specs.declared.view.BlockView.TheVariants.{Free, Out}
-use Rattle.pw_base.specs.Words.{status_word_of}
+use Rattle.pw_base.specs.Words.{finished_word, not_triggered_word}
 use Rattle.board_rule.specs.Layout.{BoardLayout, IsSound, nodes, first, word_count}
 use Rattle.board_rule.specs.View.{Whole, Samples, idle, resting, unread, first_write, first_block, blocks_at_first, is_delayed, first_view, loop_view, split_off}
 use Rattle.board_rule.specs.SampleWords.{IsTable}
@@ -206,7 +206,7 @@ module _ (p : BoardLayout) {S : Type 0} where
       → ((k : ℕ) → k < p.shape.cycles → get_or words (late_place p.shape k) 0 ≡ 0)
       → ((t : ℕ) → t < event_count p.shape → get_or words (event_place p.shape t) 0 ≡ 0)
       → ((n : ℕ) → n < nodes p → get_or words (pending_place p.shape n) 0 ≡ 0)
-      → ((n : ℕ) → n < nodes p → get_or words (status_place p.shape n) 0 ≡ status_word_of 0 (first p))
+      → ((n : ℕ) → n < nodes p → get_or words (status_place p.shape n) 0 ≡ not_triggered_word (first p))
       → Holds p (opening words slots (first_view p))
   opens words slots sound pooled is room wide long ticket lates unused pending status = record {
     whole = start p;
@@ -238,7 +238,7 @@ module _ (p : BoardLayout) {S : Type 0} where
         pending_new = λ n h l. absurd (omega arith);
         pending_old = λ n h l. pending n h;
         status_new = λ n h l. absurd (omega arith);
-        status_old = λ n h l. status n h ∙ sym (ap (λ b. cond b (status_word_of 0 (first p)) (status_word_of 3 (first p - 1)))
+        status_old = λ n h l. status n h ∙ sym (ap (λ b. cond b (not_triggered_word (first p)) (finished_word (first p - 1)))
             (eq-eqb (first p) (first p) refl));
       };
     };

@@ -15,8 +15,8 @@ use Rattle.std.proofs.Math.Nat.{mul-le-mul_right}
 use Rattle.pw_base.specs.declared.shape.Shape.{Shape}
 use Rattle.pw_base.specs.declared.shape.ShapeLink.{ShapeLink}
 use Rattle.pw_base.specs.declared.pools.PoolShape.{PoolShape}
-use Rattle.pw_base.specs.Pools.{is_port, links_from, pools_of, IsPooledShape}
-use Rattle.pw_base.specs.Words.{status_word_of}
+use Rattle.pw_base.specs.Pools.{is_same_port, links_from, pools_of, IsPooledShape}
+use Rattle.pw_base.specs.Words.{not_triggered_word}
 use Rattle.pw_base.specs.Layout.{node_count, area_count, event_count, io_start, pool_words, pool_start, start_words, io_place}
 use Rattle.pw_base.specs.Layout.{event_place, readers_place, sample_place, block_words}
 use Rattle.pw_base.proofs.LayoutLemmas.{pools_have_blocks}
@@ -62,7 +62,7 @@ module _ (shape : Shape) where
   pending = replicate n 0
 
   abbrev status : List ℕ
-  status = replicate n (status_word_of 0 shape.first)
+  status = replicate n (not_triggered_word shape.first)
 
   abbrev areas : List ℕ
   areas = flat_map (io_start shape.first) shape.links
@@ -89,7 +89,7 @@ module _ (shape : Shape) where
       let before : length (flat_map (io_start shape.first) (take l shape.links)) ≡ area_count (take l shape.links) =
       areas_start shape.first (take l shape.links) in
       let fits = length-flat_map-take (io_start shape.first) shape.links l k lt in
-      let p : length pending ≡ n = length-replicate n 0 in let s : length status ≡ n = length-replicate n (status_word_of 0 shape.first) in
+      let p : length pending ≡ n = length-replicate n 0 in let s : length status ≡ n = length-replicate n (not_triggered_word shape.first) in
       let i : ℕ = length (flat_map (io_start shape.first) (take l shape.links)) + a in
       let e : io_place shape l a ≡ suc (length pending + (length status + i)) = omega arith in
       ap (λ j. get_or (start_words shape) j 0) e ∙ get_or-append-add pending (status ++ (areas ++ (unused ++ blocks))) (length status + i) 0
@@ -128,7 +128,7 @@ module _ (shape : Shape) where
         let long : length (pool_start shape (get_or (pools_of shape) q x)) ≡ pool_words x = ap (λ y. length (pool_start shape y)) here
         ∙ pool_long x (some_blocks q x at) in
         let before = pools_long (pools_of shape) q (pools_have_blocks shape pooled.sound.links.each) in
-        let p : length pending ≡ n = length-replicate n 0 in let s : length status ≡ n = length-replicate n (status_word_of 0 shape.first) in
+        let p : length pending ≡ n = length-replicate n 0 in let s : length status ≡ n = length-replicate n (not_triggered_word shape.first) in
         let a : length areas ≡ area_count shape.links = areas_start shape.first shape.links in
         let u : length unused ≡ shape.cycles + event_count shape = length-replicate (shape.cycles + event_count shape) 0 in
         let i : ℕ = length (flat_map (pool_start shape) (take q (pools_of shape))) + j in
@@ -184,7 +184,7 @@ module _ (p : BoardLayout) where
       → waiting p (λ _. unread (first p)) x (first p) ≡ count_by (λ l. l.delayed) (links_from p.shape x.port)
   waits_late q x at = let s = pool_source p.shape q x at in
       subst (λ (y : PoolShape). waiting p (λ _. unread (first p)) y (first p) ≡ count_by (λ l. l.delayed) (links_from p.shape y.port)) (sym s.2)
-      (ids_sum (λ l. is_port l.from s.0) (λ l. cond (ltb (first p) (first p + delay_at p l)) 1 0) delay_by 0 p.shape.links
+      (ids_sum (λ l. is_same_port l.from s.0) (λ l. cond (ltb (first p) (first p + delay_at p l)) 1 0) delay_by 0 p.shape.links
       (λ i d h. let z : 0 + i ≡ i = omega arith in
       ap (λ j. cond {A = ℕ} (ltb (first p) (first p + delay_at p j)) 1 0) z
       ∙ ap (λ k. cond {A = ℕ} (ltb (first p) (first p + k)) 1 0)

@@ -10,7 +10,7 @@ use Rattle.board_rule.specs.declared.view.View.{View}
 use Rattle.pw_base.specs.declared.event.Event.TheVariants.{Start, Finish}
 use Rattle.pw_base.specs.EventWords.{event_word_of}
 use Rattle.pw_base.specs.Layout.{pending_place, status_place, late_place, event_place, event_count}
-use Rattle.pw_base.specs.Words.{status_word_of}
+use Rattle.pw_base.specs.Words.{awake_word, finished_word, not_triggered_word, triggered_word}
 use Rattle.board_rule.specs.Layout.{BoardLayout, first}
 use Rattle.board_rule.specs.View.{node_of, view_node, view_lead}
 use Rattle.board_rule.specs.BoardRule.{Holds}
@@ -52,8 +52,8 @@ module _ (p : BoardLayout) {S : Type 0} (slots id : ℕ) (me : Me S View) (after
 
   pub triggers : (b : Bool) (m n : ℕ) → Triggers b p me.0 m → get_or (p.targets m) (taken b me.0 m - 1) 0 ≡ n
       → ((found : ℕ) → after found ≡ triggered b p me.0 m)
-      → Allows (Holds p) slots id me (status_place p.shape n) (λ _. status_word_of 1 (cycle_of b me.0 m))
-      (λ _. Leaves after me (status_word_of 1 (cycle_of b me.0 m)))
+      → Allows (Holds p) slots id me (status_place p.shape n) (λ _. triggered_word (cycle_of b me.0 m))
+      (λ _. Leaves after me (triggered_word (cycle_of b me.0 m)))
   triggers true m n h target tells = let e = h.0.0.0 in let debt = kick_in_debt (length (p.targets m)) me.0.lead.drive h.1 in
       kick_trigger_allowed p slots id (taken_of me.0.lead.drive - 1) n me me.0.trail after h.0.0.1 refl debt.0
       (sym (ap (λ k. get_or (p.targets k) (taken_of me.0.lead.drive - 1) 0) e) ∙ target)
@@ -71,23 +71,23 @@ module _ (p : BoardLayout) {S : Type 0} (slots id : ℕ) (me : Me S View) (after
 
   pub claims : (b : Bool) (m : ℕ) → Claims b p me.0 m → ((found : ℕ) → after found ≡ claimed b p me.0 m found)
       → Allows (Holds p) slots id me (status_place p.shape m)
-      (λ w. either (eqb w (status_word_of 1 (cycle_of b me.0 m))) (status_word_of 2 (cycle_of b me.0 m)) w) (Leaves after me)
+      (λ w. either (eqb w (triggered_word (cycle_of b me.0 m))) (awake_word (cycle_of b me.0 m)) w) (Leaves after me)
   claims true m h tells = let c = me.0.lead.cycle in
-      subst (λ k. Allows (Holds p) slots id me (status_place p.shape k) (λ w. either (eqb w (status_word_of 1 c)) (status_word_of 2 c) w)
+      subst (λ k. Allows (Holds p) slots id me (status_place p.shape k) (λ w. either (eqb w (triggered_word c)) (awake_word c) w)
       (Leaves after me)) (sym h.0.0.0)
       (claim_lead_allowed p slots id me after me.0.trail (λ found. (tried p me.0 m found).trail) h.0.0.1 refl (λ found. refl) h.1
-      (tells (status_word_of 1 c) ∙ hit true m (status_word_of 1 c))
-      (λ found o. tells found ∙ miss true m (status_word_of 1 c) found o))
+      (tells (triggered_word c) ∙ hit true m (triggered_word c))
+      (λ found o. tells found ∙ miss true m (triggered_word c) found o))
   claims false m h tells = let c = (node_of me.0 m).next in
       claim_allowed p slots id m me after me.0.trail (λ found. (tried p me.0 m found).trail) h.0.0 h.1
-      (tells (status_word_of 1 c) ∙ hit false m (status_word_of 1 c))
-      (λ found o. tells found ∙ miss false m (status_word_of 1 c) found o) (λ found. refl)
+      (tells (triggered_word c) ∙ hit false m (triggered_word c))
+      (λ found o. tells found ∙ miss false m (triggered_word c) found o) (λ found. refl)
 
   pub finishes : (b : Bool) (m : ℕ) → IsReadyToFinish b p me.0 m → ((found : ℕ) → after found ≡ finished b me.0 m)
-      → Allows (Holds p) slots id me (status_place p.shape m) (λ _. status_word_of 3 (cycle_of b me.0 m))
-      (λ _. Leaves after me (status_word_of 3 (cycle_of b me.0 m)))
-  finishes true m h tells = subst (λ k. Allows (Holds p) slots id me (status_place p.shape k) (λ _. status_word_of 3 me.0.lead.cycle)
-      (λ _. Leaves after me (status_word_of 3 me.0.lead.cycle))) (sym h.0.0.0)
+      → Allows (Holds p) slots id me (status_place p.shape m) (λ _. finished_word (cycle_of b me.0 m))
+      (λ _. Leaves after me (finished_word (cycle_of b me.0 m)))
+  finishes true m h tells = subst (λ k. Allows (Holds p) slots id me (status_place p.shape k) (λ _. finished_word me.0.lead.cycle)
+      (λ _. Leaves after me (finished_word me.0.lead.cycle))) (sym h.0.0.0)
       (finish_lead_allowed p slots id me (untold me.0.trail) after h.0.0.1 refl h.1
       (subst (λ k. IsGivenOn p me.0 k me.0.lead.cycle) h.0.0.0 h.2) tells)
   finishes false m h tells = finish_allowed p slots id m me (untold me.0.trail) after h.0.0 h.1 h.2 tells
@@ -99,10 +99,10 @@ module _ (p : BoardLayout) {S : Type 0} (slots id : ℕ) (me : Me S View) (after
       (store_pending_allowed p slots id (reset_of me.0.lead.drive) me me.0.trail after h.0.0.1 refl h.1 tells)
 
   pub stores_status : (n : ℕ) → StoresStatus p me.0 → n ≡ reset_of me.0.lead.drive → ((found : ℕ) → after found ≡ status_stored p me.0)
-      → Allows (Holds p) slots id me (status_place p.shape n) (λ _. status_word_of 0 me.0.lead.cycle)
-      (λ _. Leaves after me (status_word_of 0 me.0.lead.cycle))
-  stores_status n h is tells = subst (λ k. Allows (Holds p) slots id me (status_place p.shape k) (λ _. status_word_of 0 me.0.lead.cycle)
-      (λ _. Leaves after me (status_word_of 0 me.0.lead.cycle))) (sym is)
+      → Allows (Holds p) slots id me (status_place p.shape n) (λ _. not_triggered_word me.0.lead.cycle)
+      (λ _. Leaves after me (not_triggered_word me.0.lead.cycle))
+  stores_status n h is tells = subst (λ k. Allows (Holds p) slots id me (status_place p.shape k) (λ _. not_triggered_word me.0.lead.cycle)
+      (λ _. Leaves after me (not_triggered_word me.0.lead.cycle))) (sym is)
       (store_not_triggered_allowed p slots id (reset_of me.0.lead.drive) me me.0.trail after h.0.0.1 refl h.1 tells)
 
   draws_by : (m : ℕ) (f : Phase) (says : ℕ → Type 0) → Has p me.0 m → (node_of me.0 m).phase ≡ f → CanDraw f

@@ -10,7 +10,7 @@ use Rattle.pw_base.specs.declared.event.Event.TheVariants.{Begin, Tick, End}
 use Rattle.pw_base.specs.EventWords.{event_word_of}
 use Rattle.pw_base.specs.History.{IsLate}
 use Rattle.pw_base.specs.Layout.{event_count}
-use Rattle.pw_base.specs.Words.{status_word_of}
+use Rattle.pw_base.specs.Words.{finished_word}
 use Rattle.board_rule.specs.Layout.{BoardLayout, IsSound, nodes, first, last}
 use Rattle.board_rule.specs.View.{put}
 use Rattle.board_rule.specs.EventSteps.{late_of}
@@ -195,7 +195,7 @@ ended p c late past xs s u r a sound low high was is t tells idle started finish
         waits = λ m n hm hn before one. absurd (let z = none n hn in omega arith);
         tick = λ one. absurd (true≢false (sym one ∙ unchecked));
         late_ones = λ n h b. absurd (nothing n b);
-        seen = subst (All (λ f. ¬ (f.word ≡ status_word_of 3 (c + 1)) → IsLate p.shape [] (c + 1) f.node)) (sym unseen)
+        seen = subst (All (λ f. ¬ (f.word ≡ finished_word (c + 1)) → IsLate p.shape [] (c + 1) f.node)) (sym unseen)
             (λ i d h. absurd (omega arith));
       };
     }

@@ -11,7 +11,7 @@ use Rattle.pw_base.specs.declared.shape.ShapeLink.{ShapeLink}
 use Rattle.pw_base.specs.declared.pools.PoolShape.{PoolShape}
 use Rattle.pw_base.specs.Dependencies.{joins, are_linked, waits}
 use Rattle.pw_base.specs.SoundShape.{IsSoundLink}
-use Rattle.pw_base.specs.Pools.{is_port, links_from, sources_of, link_ids_from, pool_of, pools_of, IsPooledShape}
+use Rattle.pw_base.specs.Pools.{is_same_port, links_from, sources_of, link_ids_from, pool_of, pools_of, IsPooledShape}
 use Rattle.pw_base.specs.Layout.{event_count, io_place, late_place, event_place, readers_place, word_count}
 use Rattle.board_rule.specs.Sums.{times}
 use Rattle.board_rule.specs.Layout.{BoardLayout, IsSound, nodes}
@@ -169,7 +169,7 @@ wired p sound pooled = record {
         here = get_or_from_slice_get p.shape.links l k.0 k.0 k.1
 
         in_pool : Contains (links_from p.shape x.port) k.0
-        in_pool = holds_at (λ j. is_port j.from x.port) p.shape.links k.0 l (port_same k.0.from x.port k.2)
+        in_pool = holds_at (λ j. is_same_port j.from x.port) p.shape.links k.0 l (port_same k.0.from x.port k.2)
             (slice_get_within p.shape.links l k.0 k.1) here
 
         by : (b : Bool) → k.0.delayed ≡ b → delay_at p l < busy_cycles p x
@@ -225,11 +225,11 @@ delayed_link p q x at two = (l, subst (λ (z : PoolShape). Contains z.links l) (
 
     in_shape : Contains p.shape.links k
     in_shape = All-contains (Contains p.shape.links) (links_from p.shape x.port) k
-        (All-filter (λ (j : ShapeLink). is_port j.from x.port) (Contains p.shape.links) p.shape.links (All-contains_itself p.shape.links)) from_port
+        (All-filter (λ (j : ShapeLink). is_same_port j.from x.port) (Contains p.shape.links) p.shape.links (All-contains_itself p.shape.links)) from_port
 
     of_port : k.from ≡ x.port
-    of_port = same_port k.from x.port (All-contains (λ (j : ShapeLink). is_port j.from x.port ≡ true) (links_from p.shape x.port) k
-        (filter_passes (λ (j : ShapeLink). is_port j.from x.port) p.shape.links) from_port)
+    of_port = same_port k.from x.port (All-contains (λ (j : ShapeLink). is_same_port j.from x.port ≡ true) (links_from p.shape x.port) k
+        (filter_passes (λ (j : ShapeLink). is_same_port j.from x.port) p.shape.links) from_port)
 
     l : ℕ
     l = in_shape.0

@@ -12,7 +12,7 @@ use Rattle.board_rule.specs.declared.view.NodeView.{NodeView}
 use Rattle.board_rule.specs.declared.view.Trail.{Trail}
 use Rattle.board_rule.specs.declared.view.View.{View}
 use Rattle.pw_base.specs.Layout.{pending_place, status_place}
-use Rattle.pw_base.specs.Words.{status_word_of}
+use Rattle.pw_base.specs.Words.{finished_word}
 use Rattle.board_rule.specs.Layout.{BoardLayout, nodes}
 use Rattle.board_rule.specs.Phases.{phase_rest, phase_owing, phase_stage, PhaseOk, phase_drawn}
 use Rattle.board_rule.specs.View.{Whole, node_of, with_node, view_node}
@@ -111,8 +111,8 @@ module _ (p : BoardLayout) {S : Type 0} where
   pub finish_allowed : (slots id m : ℕ) (me : Me S View) (t : Trail) (after : ℕ → View) → Has p me.0 m → (node_of me.0 m).phase ≡ Running
       → IsGivenOn p me.0 m (node_of me.0 m).next → ((found : ℕ)
       → after found ≡ view_node me.0 m (record (node_of me.0 m) { phase = Done }) t)
-      → Allows (Holds p) slots id me (status_place p.shape m) (λ _. status_word_of 3 (node_of me.0 m).next)
-      (λ _. Leaves after me (status_word_of 3 (node_of me.0 m).next))
+      → Allows (Holds p) slots id me (status_place p.shape m) (λ _. finished_word (node_of me.0 m).next)
+      (λ _. Leaves after me (finished_word (node_of me.0 m).next))
   finish_allowed slots id m me t after h phase given is_after s r _ at fits =
       let g = r.whole in let a = r.activations in let wide = r.seated.wide in
       let x : NodeView = node_of me.0 m in
@@ -136,7 +136,7 @@ module _ (p : BoardLayout) {S : Type 0} where
       let stage' : (progress p whole).stage m ≡ 2 = stage_put p g m new h.follows in
       let finished = finishes p.shape c m (progress p g) (progress p whole) s.words h.inside wide (elsewhere p g m new) (rest' ∙ sym rest)
       (owing' ∙ sym owing) stage stage' runs in
-      let ws : List ℕ = set s.words (status_place p.shape m) (status_word_of 3 c) in
+      let ws : List ℕ = set s.words (status_place p.shape m) (finished_word c) in
       let w = wired_in p g s.words s.views r.seated in
       let now_begun : node_begun x ≡ x.next + 1 = ap (λ f. x.next + phase_begun f) phase in
       let begun : (spans p g m).begun ≡ x.next + 1 = begun_at p g m h.follows ∙ ap node_begun same ∙ now_begun in
@@ -147,14 +147,14 @@ module _ (p : BoardLayout) {S : Type 0} where
         view_node me.0 m new t,
         keeps,
         tt,
-        subst (λ k. Holds p (stepped s (status_place p.shape m) (status_word_of 3 k) id me.1 (view_node me.0 m new t) keeps)) (sym cycle)
-            (holds_node_by p s r id m (status_place p.shape m) (status_word_of 3 c) me.0 me.1 new t at h (omega arith) (omega arith)
+        subst (λ k. Holds p (stepped s (status_place p.shape m) (finished_word k) id me.1 (view_node me.0 m new t) keeps)) (sym cycle)
+            (holds_node_by p s r id m (status_place p.shape m) (finished_word c) me.0 me.1 new t at h (omega arith) (omega arith)
             (omega arith) (quiet_phase c x Running Done phase refl refl refl)
             (active_node p g s.words ws m new h.follows runs_on cycle finished a)
             (buffers_finish p (spans p g) (spans p whole) g.ends g.expect s.words ws m w h.inside (paces p g s.words w a) ready
             (omega arith) (omega arith) (λ n l o. over_else p g m n new o) (λ n l. begun_put p g m n x new same (omega arith))
-            (early_word p s.words (status_place p.shape m) (status_word_of 3 c) (omega arith)) r.buffers)),
-        (sym (is_after (status_word_of 3 x.next)), refl),
+            (early_word p s.words (status_place p.shape m) (finished_word c) (omega arith)) r.buffers)),
+        (sym (is_after (finished_word x.next)), refl),
       )
     where
       idle_not : (let a : Phase = Idle in a) ≡ Running → ⊥

@@ -7,7 +7,7 @@ use Rattle.atomic_table.specs.Table.{Me, keeps, Allows}
 use Rattle.pw_base.specs.declared.shape.ShapeLink.{ShapeLink}
 use Rattle.pw_base.specs.declared.pools.PoolShape.{PoolShape}
 use Rattle.pw_base.specs.Layout.{io_place, readers_place, sample_place, word_count}
-use Rattle.pw_base.specs.Words.{io_word_of, io_id_in}
+use Rattle.pw_base.specs.Words.{io_word_of, io_id_in, have_data_word, need_data_word}
 use Rattle.pw_base.proofs.LayoutLemmas.{length-start_words}
 use Rattle.board_rule.specs.declared.view.WriteView.{WriteView}
 use Rattle.board_rule.specs.declared.view.BlockView.{BlockView}
@@ -52,7 +52,7 @@ id_of status id h = let z : (status + 4294967296 * id) / 4294967296 ≡ id = ome
 
 module _ (p : BoardLayout) {S : Type 0} (slots id : ℕ) (me : Me S View) (after : ℕ → View) (says : ℕ → Type 0) where
   pub load_writer_allowed : (l : ℕ) → LoadsAsWriter p me.0 l → ((found : ℕ) → after found ≡ loaded_as_writer p me.0 l)
-      → ((found : ℕ) → found ≡ io_word_of 1 (io_id_in found) → IsGivenBack p me.0 l (io_id_in found) → says found)
+      → ((found : ℕ) → found ≡ need_data_word (io_id_in found) → IsGivenBack p me.0 l (io_id_in found) → says found)
       → Allows (Holds p) slots id me (io_place p.shape l (write_area p me.0 l)) (λ n. n) (Learns after says me)
   load_writer_allowed l h is_after it s r _ at fits =
       let g = r.whole in let w = wired_in p g s.words s.views r.seated in let k : ShapeLink = link_at p l in
@@ -66,7 +66,7 @@ module _ (p : BoardLayout) {S : Type 0} (slots id : ℕ) (me : Me S View) (after
       let new = loads_as_writer p sp g.ends g.expect s.words w paced b l k there run loaded in
       let i : ℕ = io_place p.shape l (write_area p me.0 l) in let found : ℕ = get_or s.words i 0 in
       let given : ℕ = stored_id (g.ends.writes l) (delay_by k) in let late = late_is p l k there in
-      let word : found ≡ io_word_of 1 given = ap (λ n. get_or s.words (io_place p.shape l (area_of k (n + 1))) 0) (sym c)
+      let word : found ≡ need_data_word given = ap (λ n. get_or s.words (io_place p.shape l (area_of k (n + 1))) 0) (sym c)
       ∙ finds_need p sp g.ends g.expect s.words w paced b l k there run (omega arith) in
       let number : io_id_in found ≡ given = ap io_id_in word ∙ id_of 1 given (omega arith) in
       let first_low = paced.first m (w.from_in l k there) in
@@ -85,7 +85,7 @@ module _ (p : BoardLayout) {S : Type 0} (slots id : ℕ) (me : Me S View) (after
         (
           sym (is_after found),
           refl,
-          it found (word ∙ ap (io_word_of 1) (sym number)) (
+          it found (word ∙ ap (need_data_word) (sym number)) (
             number ∙ ap (λ (z : WriteView). stored_id z (delay_by k)) is ∙ ap (stored_id (write_of me.0 l)) (sym late),
             (λ e. number ∙ o.unnamed (delay_by k) (omega arith) (omega arith)),
             (λ e. let z = (b.links (pool_of p l) l (pool_at p (pool_of p l)) k pool.0 pool.1 there).named (delay_by k) (omega arith)
@@ -95,8 +95,8 @@ module _ (p : BoardLayout) {S : Type 0} (slots id : ℕ) (me : Me S View) (after
       )
 
   pub store_have_allowed : (l num : ℕ) → StoresHave p me.0 l num → ((found : ℕ) → after found ≡ have_stored p me.0 l num)
-      → Allows (Holds p) slots id me (io_place p.shape l (write_area p me.0 l)) (λ _. io_word_of 2 num)
-      (λ _. Leaves after me (io_word_of 2 num))
+      → Allows (Holds p) slots id me (io_place p.shape l (write_area p me.0 l)) (λ _. have_data_word num)
+      (λ _. Leaves after me (have_data_word num))
   store_have_allowed l num h is_after s r _ at fits =
       let g = r.whole in let w = wired_in p g s.words s.views r.seated in let k : ShapeLink = link_at p l in
       let there = link_there p l h.0.0 in let m : ℕ = writer_of p l in
@@ -108,7 +108,7 @@ module _ (p : BoardLayout) {S : Type 0} (slots id : ℕ) (me : Me S View) (after
       sym (got me.0.blocks (block_at p q num) (g.ends.blocks q num) Free
       (ks.of_block q num x pool.0 h.3 (ap (holder p) pool.2 ∙ now.2))) ∙ h.4 in
       let paced = paces p g s.words w r.activations in let sp = spans p g in let i : ℕ = io_place p.shape l (write_area p me.0 l) in
-      let word : ℕ = io_word_of 2 num in
+      let word : ℕ = have_data_word num in
       let new = stores_have p sp g.ends g.expect s.words w paced r.buffers l k there num q x pool.0 pool.1
       (room_in p g s.words s.views r.seated) run (ap (λ (z : WriteView). z.loaded) is ∙ h.1 ∙ ap (λ n. n + 1) (sym c))
       (ap (λ (z : WriteView). z.stored) is ∙ h.2 ∙ sym c) h.3

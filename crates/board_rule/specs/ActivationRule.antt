@@ -6,7 +6,7 @@ use Rattle.board_rule.specs.declared.view.Phase.TheVariants.{Idle}
 use Rattle.board_rule.specs.declared.view.DriverPhase.{DriverPhase}
 use Rattle.board_rule.specs.declared.view.DriverPhase.TheVariants.{Between, BeginDrawn, Reset, Half, Kick}
 use Rattle.board_rule.specs.declared.view.NodeView.{NodeView}
-use Rattle.pw_base.specs.Words.{status_word_of}
+use Rattle.pw_base.specs.Words.{finished_word, not_triggered_word}
 use Rattle.pw_base.specs.Layout.{pending_place, status_place}
 use Rattle.board_rule.specs.Layout.{BoardLayout, nodes, first, last}
 use Rattle.board_rule.specs.Left.{dependencies, left_of}
@@ -39,13 +39,13 @@ module _ (p : BoardLayout) where
 
   -- the status word before the reset for the cycle c: FINISHED of the cycle before, at first NOT_TRIGGERED
   abbrev pub old_status : ℕ → ℕ
-  old_status c = cond (eqb c (first p)) (status_word_of 0 c) (status_word_of 3 (c - 1))
+  old_status c = cond (eqb c (first p)) (not_triggered_word c) (finished_word (c - 1))
 
   -- the first i pending words and the first k status words are reset for the cycle c
   pub record Resets (c i k : ℕ) (words : List ℕ) : Type 0 where
     pub pending_new : (n : ℕ) → n < nodes p → n < i → slice_index words (pending_place p.shape n) ≡ p.required n
     pub pending_old : (n : ℕ) → n < nodes p → i ≤ n → slice_index words (pending_place p.shape n) ≡ 0
-    pub status_new : (n : ℕ) → n < nodes p → n < k → slice_index words (status_place p.shape n) ≡ status_word_of 0 c
+    pub status_new : (n : ℕ) → n < nodes p → n < k → slice_index words (status_place p.shape n) ≡ not_triggered_word c
     pub status_old : (n : ℕ) → n < nodes p → k ≤ n → slice_index words (status_place p.shape n) ≡ old_status c
 
   -- the activation words in the cycle c, by the driver's phase

@@ -3,7 +3,7 @@
 -- Source: spa/node/io.h, spa_io_buffers and spa_io_async_buffers; the stamps are this project's own.
 use Rattle.std.specs.Prelude.{◌≡◌, ℕ, ◌+◌, ◌%◌, ◌<◌, ◌≤◌, cond, eqb}
 use Rattle.pw_base.specs.declared.shape.ShapeLink.{ShapeLink}
-use Rattle.pw_base.specs.Words.{io_word_of, no_block}
+use Rattle.pw_base.specs.Words.{no_block, have_data_word, need_data_word}
 use Rattle.board_rule.specs.declared.view.WriteView.{WriteView}
 use Rattle.board_rule.specs.declared.view.ReadView.{ReadView}
 
@@ -39,9 +39,9 @@ pub record LinkOk (first blocks : ℕ) (k : ShapeLink) (writer reader : Span) (w
       × (r.loaded ≤ reader.begun)
   pub later : (first ≤ w.stored) × (first ≤ r.stored)
   pub have : (a : ℕ) → a ≤ delay_by k → r.stored + a < w.stored + delay_by k
-      → area (area_of k (w.stored + a)) ≡ io_word_of 2 (stored_id w a)
+      → area (area_of k (w.stored + a)) ≡ have_data_word (stored_id w a)
   pub need : (a : ℕ) → a ≤ delay_by k → w.stored + delay_by k ≤ r.stored + a
-      → area (area_of k (w.stored + a)) ≡ io_word_of 1 (stored_id w a)
+      → area (area_of k (w.stored + a)) ≡ need_data_word (stored_id w a)
   pub unnamed : (a : ℕ) → a ≤ delay_by k → w.stored + delay_by k ≤ first + a → stored_id w a ≡ no_block
   pub named : (a : ℕ) → a ≤ delay_by k → first + a < w.stored + delay_by k → stored_id w a < blocks
   pub found : (a : ℕ) → a ≤ delay_by k → r.stored < r.loaded → w.stored + delay_by k ≡ r.loaded + a → r.id ≡ stored_id w a

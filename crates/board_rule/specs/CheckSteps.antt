@@ -7,7 +7,7 @@ use Rattle.board_rule.specs.declared.view.DriverView.{DriverView}
 use Rattle.board_rule.specs.declared.view.Found.{Found}
 use Rattle.pw_base.specs.declared.event.Event.TheVariants.{Tick}
 use Rattle.board_rule.specs.declared.view.View.{View}
-use Rattle.pw_base.specs.Words.{status_word_of}
+use Rattle.pw_base.specs.Words.{finished_word}
 use Rattle.board_rule.specs.Layout.{BoardLayout, nodes}
 use Rattle.board_rule.specs.View.{view_lead, view_trail}
 use Rattle.board_rule.specs.Steps.{HasNode}
@@ -28,7 +28,7 @@ looked p v n found = view_trail v (record v.trail
 
 abbrev pub late_of : ℕ → List Found → ℕ
 late_of cycle [] = 0
-late_of cycle (f ∷ fs) = cond (eqb f.word (status_word_of 3 cycle)) (late_of cycle fs)
+late_of cycle (f ∷ fs) = cond (eqb f.word (finished_word cycle)) (late_of cycle fs)
     (with_bit (late_of cycle fs) f.node)
 
 abbrev pub StoresLate : BoardLayout → View → ℕ → Type 0

@@ -5,7 +5,7 @@ use Rattle.std.specs.List.{position_or_len}
 use Rattle.pw_base.specs.declared.shape.Shape.{Shape}
 use Rattle.pw_base.specs.declared.shape.ShapeLink.{ShapeLink}
 use Rattle.pw_base.specs.declared.pools.PoolShape.{PoolShape}
-use Rattle.pw_base.specs.Pools.{is_port, pools_of}
+use Rattle.pw_base.specs.Pools.{is_same_port, pools_of}
 use Rattle.board_rule.specs.declared.view.WriteView.{WriteView}
 use Rattle.board_rule.specs.declared.view.ReadView.{ReadView}
 use Rattle.board_rule.specs.declared.view.BlockView.{BlockView}
@@ -36,7 +36,7 @@ abbrev pub pool_in : Shape → ℕ → PoolShape
 pool_in shape q = slice_index_or (pools_of shape) q no_pool
 
 abbrev pub pool_number : Shape → ℕ → ℕ
-pool_number shape l = position_or_len (λ x. is_port x.port (link_in shape l).from) (pools_of shape)
+pool_number shape l = position_or_len (λ x. is_same_port x.port (link_in shape l).from) (pools_of shape)
 
 -- the writer's end of a link, and the reader's, as a view has them
 abbrev pub write_of : View → ℕ → WriteView

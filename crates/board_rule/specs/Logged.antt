@@ -9,7 +9,7 @@ use Rattle.pw_base.specs.Dependencies.{nodes_of, Precedes}
 use Rattle.pw_base.specs.EventWords.{event_cycle, event_node, event_word_of}
 use Rattle.pw_base.specs.History.{is_start, is_finish, is_tick, start_place, finish_place, tick_place, IsLate, epoch_cycles, AreJoined}
 use Rattle.pw_base.specs.Layout.{event_count}
-use Rattle.pw_base.specs.Words.{status_word_of}
+use Rattle.pw_base.specs.Words.{finished_word}
 use Rattle.board_rule.specs.Layout.{BoardLayout, nodes, first, last}
 use Rattle.board_rule.specs.Records.{Records, Counts, Marks}
 
@@ -57,4 +57,4 @@ module _ (p : BoardLayout) where
         → finish_place inside c (p.number m) < start_place inside c (p.number n)
     pub tick : k.checked ≡ true → tick_place inside < start_place inside c (p.number p.driver)
     pub late_ones : (n : ℕ) → n < 64 → IsBitSet late n → IsLate p.shape inside c n
-    pub seen : All (λ f. ¬ (f.word ≡ status_word_of 3 c) → IsLate p.shape inside c f.node) k.sees
+    pub seen : All (λ f. ¬ (f.word ≡ finished_word c) → IsLate p.shape inside c f.node) k.sees

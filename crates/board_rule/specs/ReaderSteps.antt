@@ -3,7 +3,7 @@
 -- Source: PipeWire's documentation, "SPA Buffers"; spa/node/io.h, spa_io_buffers; the words of pools are this
 -- project's own.
 use Rattle.std.specs.Prelude.{◌≡◌, ℕ, ℤ, ◌+◌, ◌-◌, ◌<◌, Bool, List, length}
-use Rattle.pw_base.specs.Words.{io_word_of, io_id_in}
+use Rattle.pw_base.specs.Words.{io_id_in, have_data_word}
 use Rattle.board_rule.specs.declared.view.View.{View}
 use Rattle.board_rule.specs.Layout.{BoardLayout, first}
 use Rattle.board_rule.specs.SampleWords.{samples_of}
@@ -39,7 +39,7 @@ module _ (is_driver : Bool) (p : BoardLayout) where
   IsZeroAtFirst v l id = delay_at p l ≡ 1 → read_cycle v l ≡ first p → id ≡ 0
 
   abbrev pub IsPublished : View → ℕ → ℕ → Type 0
-  IsPublished v l found = (found ≡ io_word_of 2 (io_id_in found)) × (io_id_in found < (pool_at p (pool_of p l)).blocks)
+  IsPublished v l found = (found ≡ have_data_word (io_id_in found)) × (io_id_in found < (pool_at p (pool_of p l)).blocks)
       × IsZeroAtFirst v l (io_id_in found)
 
   -- THE READER'S TURN: it has loaded the number of a block in this cycle

@@ -6,7 +6,7 @@ use Rattle.pw_base.specs.declared.shape.Shape.{Shape}
 use Rattle.pw_base.specs.declared.shape.ShapeLink.{ShapeLink}
 use Rattle.pw_base.specs.declared.pools.PoolShape.{PoolShape}
 use Rattle.pw_base.specs.Layout.{area_count, io_place, event_place, event_count, pool_words, readers_place}
-use Rattle.pw_base.specs.Pools.{is_port, pools_of}
+use Rattle.pw_base.specs.Pools.{is_same_port, pools_of}
 use Rattle.board_rule.specs.declared.rows.Rows.{Rows}
 use Rattle.board_rule.specs.declared.rows.LinkRow.{LinkRow}
 use Rattle.board_rule.specs.declared.rows.PoolRow.{PoolRow}
@@ -23,7 +23,7 @@ base_of shape q = event_place shape (event_count shape) + sum_by pool_words (tak
 pub record IsLinkRow (shape : Shape) (link : ShapeLink) (area : ℕ) (row : LinkRow) : Type 0 where
   pub writer : row.writer ≡ index_in shape link.from.node
   pub reader : row.reader ≡ index_in shape link.to.node
-  pub pool : row.pool ≡ position_or_len (λ x. is_port x.port link.from) (pools_of shape)
+  pub pool : row.pool ≡ position_or_len (λ x. is_same_port x.port link.from) (pools_of shape)
   pub area_is : row.area ≡ area
   pub delayed : row.delayed ≡ link.delayed
   pub base : row.base ≡ base_of shape row.pool

@@ -6,7 +6,7 @@ use Rattle.board_rule.specs.declared.view.Phase.TheVariants.{Idle, Awake, Runnin
 use Rattle.board_rule.specs.declared.view.DriverPhase.TheVariants as drives
 use Rattle.board_rule.specs.declared.view.Trail.{Trail}
 use Rattle.board_rule.specs.declared.view.View.{View}
-use Rattle.pw_base.specs.Words.{status_word_of}
+use Rattle.pw_base.specs.Words.{triggered_word}
 use Rattle.board_rule.specs.Layout.{BoardLayout}
 use Rattle.board_rule.specs.View.{node_of, view_trail}
 use Rattle.board_rule.specs.EndViews.{write_of, read_of, writer_of, reader_of}
@@ -29,7 +29,7 @@ abbrev pub tried : BoardLayout → View → ℕ → ℕ → View
 tried p v m found = view_trail v (record v.trail { tries = record { node = p.number m; word = found } ∷ v.trail.tries })
 
 abbrev pub claimed : Bool → BoardLayout → View → ℕ → ℕ → View
-claimed is_driver p v m found = cond (eqb found (status_word_of 1 (cycle_of is_driver v m))) (woken is_driver v m)
+claimed is_driver p v m found = cond (eqb found (triggered_word (cycle_of is_driver v m))) (woken is_driver v m)
     (tried p v m found)
 
 -- ENDING A NODE: it works, and all its buffers are given on: in its cycle each link from it is published, and each

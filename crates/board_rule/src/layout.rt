@@ -1,13 +1,13 @@
 //! The words that a board begins with.
 ghost use Rattle.std.specs.Prelude.{◌≡◌, ◌+◌, ◌-◌, ◌&&◌, ◌∷◌, ◌++◌, [], count_by, OnOk, IfOk, replicate};
 ghost use Rattle.std.specs.List.{flat_map};
-ghost use Rattle.pw_base.specs.Pools.{IsPooledShape, is_port, pools_of};
-ghost use Rattle.pw_base.specs.Words.{status_word_of};
+ghost use Rattle.pw_base.specs.Pools.{IsPooledShape, is_same_port, pools_of};
+ghost use Rattle.pw_base.specs.Words.{not_triggered_word};
 ghost use Rattle.pw_base.specs.Layout.{start_words, io_start, pool_words, pool_start};
 
 use crate::steps::statuses::not_triggered;
 use pw_base::{
-    AreaStatus, Items, Memory, NO_BLOCK, PoolShape, PortId, Shape, ShapeLink, io_word, is_port,
+    AreaStatus, Items, Memory, NO_BLOCK, PoolShape, PortId, Shape, ShapeLink, io_word, is_same_port,
     pools_of,
 };
 use std::alloc::Global;
@@ -48,11 +48,11 @@ fn push_areas(words: &mut Items<u64>, links: &[ShapeLink], first: u32) -> Result
 
 /// How many delayed links go from a port.
 pub(crate) fn delayed_readers(links: &[ShapeLink], port: PortId) -> u64
-    ensures { result ≡ count_by (λ l. l.delayed && is_port l.from port) links.now }
+    ensures { result ≡ count_by (λ l. l.delayed && is_same_port l.from port) links.now }
 {
     let mut late = 0;
     for link in links {
-        if link.delayed && is_port(link.from, port) {
+        if link.delayed && is_same_port(link.from, port) {
             late += 1;
         }
     }
@@ -94,7 +94,7 @@ fn push_pools(alloc: Global, words: &mut Items<u64>, shape: &Shape) -> Result<()
 // The words before the io areas: no ticket, pending 0, and NOT_TRIGGERED of the first cycle.
 fn node_words(alloc: Global, nodes: usize, first: u32) -> Result<Items<u64>, Memory>
     ensures { IfOk result (λ words. words ≡ 0 ∷
-        (replicate nodes 0 ++ replicate nodes (status_word_of 0 first))) }
+        (replicate nodes 0 ++ replicate nodes (not_triggered_word first))) }
 {
     let mut words = Items::filled(alloc, 1, 0)?;
     words.extend_filled(nodes, 0)?;

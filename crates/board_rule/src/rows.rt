@@ -3,11 +3,11 @@ ghost use Rattle.std.specs.Prelude.{◌≡◌, ℕ, ◌+◌, ◌^◌, ◌<◌, �
 ghost use Rattle.std.specs.List.{position, position_or_len};
 ghost use Rattle.board_rule.specs.Layout.{index_in, required_row, target_rows};
 ghost use Rattle.pw_base.specs.Layout.{area_count, areas_of, event_place, event_count, word_count};
-ghost use Rattle.pw_base.specs.Pools.{IsPooledShape, is_port, pools_of};
+ghost use Rattle.pw_base.specs.Pools.{IsPooledShape, is_same_port, pools_of};
 ghost use Rattle.board_rule.specs.EndViews.{pool_in};
 ghost use Rattle.board_rule.specs.Rows.{IsLinkRow, HasLinkRows, IsPoolRow, HasPoolRows, HasRows, HasIndexes, base_of};
 
-use pw_base::{Memory, PoolShape, PortId, Shape, ShapeLink, is_port, pools_of};
+use pw_base::{Memory, PoolShape, PortId, Shape, ShapeLink, is_same_port, pools_of};
 use std::alloc::{AllocError, Global};
 
 /// A link: the indexes of its writer and of its reader, the number of the pool that it reads, where its first area stands, and whether it has a second;
@@ -130,14 +130,14 @@ fn areas_of(links: &[ShapeLink]) -> usize
 
 // The pool that a port fills, if it fills one.
 fn find_pool(pools: &[PoolShape], port: PortId) -> Option<usize>
-    ensures { result ≡ position (λ x. is_port x.port port) pools.now }
+    ensures { result ≡ position (λ x. is_same_port x.port port) pools.now }
 {
-    pools.iter().position(|p| is_port(p.port, port))
+    pools.iter().position(|p| is_same_port(p.port, port))
 }
 
 // The pool that a port fills, or the number of pools.
 fn pool_of(pools: &[PoolShape], port: PortId) -> usize
-    ensures { result ≡ position_or_len (λ x. is_port x.port port) pools.now }
+    ensures { result ≡ position_or_len (λ x. is_same_port x.port port) pools.now }
 {
     find_pool(pools, port).unwrap_or(pools.len())
 }
@@ -165,7 +165,7 @@ fn link_row(
     requires pools { pools.now ≡ pools_of shape.now }
     requires rows { HasPoolRows shape.now rows.now }
     requires small { (q : ℕ) → q < length (pools_of shape.now) → (pool_in shape.now q).words < 2 ^ 32 }
-    requires has { position_or_len (λ x. is_port x.port link.from) (pools_of shape.now) < length
+    requires has { position_or_len (λ x. is_same_port x.port link.from) (pools_of shape.now) < length
         (pools_of shape.now) }
     ensures { IsLinkRow shape.now link area result }
 {

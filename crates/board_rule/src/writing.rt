@@ -2,7 +2,7 @@
 //! takes no memory, does not wait and does not fail. Links, pools and blocks are given by number.
 ghost use Rattle.board_rule.specs.OnBoard.{IsOn, layout};
 ghost use Rattle.std.specs.Prelude.{◌≡◌, ℕ, ◌<◌, length};
-ghost use Rattle.pw_base.specs.Words.{io_word_of, io_id_in};
+ghost use Rattle.pw_base.specs.Words.{io_id_in, need_data_word};
 ghost use Rattle.pw_base.specs.Layout.{sample_place};
 ghost use Rattle.board_rule.specs.declared.view.BlockView.TheVariants.{Out};
 ghost use Rattle.board_rule.specs.EndViews.{write_of, pool_at, block_of};
@@ -35,7 +35,7 @@ impl LoopSeat {
         requires phase { LoadsAsWriter (layout board.now) self.old.knows link }
         ensures table { self.new.table ≡ self.old.table }
         ensures knows { self.new.knows ≡ loaded_as_writer (layout board.now) self.old.knows link }
-        ensures word { result ≡ io_word_of 1 (io_id_in result) }
+        ensures word { result ≡ need_data_word (io_id_in result) }
         ensures given { IsGivenBack (layout board.now) self.old.knows link (io_id_in result) }
     {
         let end = self.write_at(link);

@@ -22,7 +22,7 @@ use Rattle.pw_base.specs.SoundPlan.{FollowFrom}
 use Rattle.wav_files.specs.declared.wav.WavIn.{WavIn}
 use Rattle.cycle_model.specs.declared.received.Received.{Received}
 use Rattle.cycle_model.specs.declared.received.Given.{Given}
-use Rattle.pw_base.specs.Pools.{is_port}
+use Rattle.pw_base.specs.Pools.{is_same_port}
 use Rattle.cycle_model.specs.Epochs.{is_within, epoch_at, listed, first_at, is_active, links_into, channels_of, channels_at, active_cycles}
 use Rattle.cycle_model.specs.Cycle.{wave_of, last_of, brought, input_of, stream_of, heard, outputs}
 use Rattle.cycle_model.specs.Mixing.{takes_part}
@@ -44,37 +44,37 @@ active_in plan c e node at = ap (λ o. list_any (λ n. n == node) (listed (λ e.
     ∙ any_map (λ n. n.node) node e.shape.nodes
 
 -- what is told of a port, one entry at a time
-given_first : (g : Given) (gs : List Given) (port : PortId) → is_port g.port port ≡ true → given_at (g ∷ gs) port ≡ g.samples
+given_first : (g : Given) (gs : List Given) (port : PortId) → is_same_port g.port port ≡ true → given_at (g ∷ gs) port ≡ g.samples
 given_first g gs port t = rw t refl
 
-given_next : (g : Given) (gs : List Given) (port : PortId) → is_port g.port port ≡ false → given_at (g ∷ gs) port ≡ given_at gs port
+given_next : (g : Given) (gs : List Given) (port : PortId) → is_same_port g.port port ≡ false → given_at (g ∷ gs) port ≡ given_at gs port
 given_next g gs port f = rw f refl
 
 -- entries of other ports
-given_skip : (xs ys : List Given) (port : PortId) → All (λ g. is_port g.port port ≡ false) xs → given_at (xs ++ ys) port ≡ given_at ys port
+given_skip : (xs ys : List Given) (port : PortId) → All (λ g. is_same_port g.port port ≡ false) xs → given_at (xs ++ ys) port ≡ given_at ys port
 given_skip [] ys port h = refl
-given_skip (x ∷ xs) ys port h = given_next x (xs ++ ys) port (All-head (λ g. is_port g.port port ≡ false) x xs h)
-    ∙ given_skip xs ys port (All-tail (λ g. is_port g.port port ≡ false) x xs h)
+given_skip (x ∷ xs) ys port h = given_next x (xs ++ ys) port (All-head (λ g. is_same_port g.port port ≡ false) x xs h)
+    ∙ given_skip xs ys port (All-tail (λ g. is_same_port g.port port ≡ false) x xs h)
 
-given_none : (ys : List Given) (port : PortId) → All (λ g. is_port g.port port ≡ false) ys → given_at ys port ≡ []
+given_none : (ys : List Given) (port : PortId) → All (λ g. is_same_port g.port port ≡ false) ys → given_at ys port ≡ []
 given_none [] port h = refl
-given_none (y ∷ ys) port h = given_next y ys port (All-head (λ g. is_port g.port port ≡ false) y ys h)
-    ∙ given_none ys port (All-tail (λ g. is_port g.port port ≡ false) y ys h)
+given_none (y ∷ ys) port h = given_next y ys port (All-head (λ g. is_same_port g.port port ≡ false) y ys h)
+    ∙ given_none ys port (All-tail (λ g. is_same_port g.port port ≡ false) y ys h)
 
-given_front : (xs ys : List Given) (port : PortId) → All (λ g. is_port g.port port ≡ false) ys → given_at (xs ++ ys) port ≡ given_at xs port
+given_front : (xs ys : List Given) (port : PortId) → All (λ g. is_same_port g.port port ≡ false) ys → given_at (xs ++ ys) port ≡ given_at xs port
 given_front [] ys port h = given_none ys port h
 given_front (x ∷ xs) ys port h = ⊎_elim
     (λ t. given_first x (xs ++ ys) port t ∙ sym (given_first x xs port t))
     (λ f. given_next x (xs ++ ys) port f ∙ given_front xs ys port h ∙ sym (given_next x xs port f))
-    (cases_Bool (is_port x.port port))
+    (cases_Bool (is_same_port x.port port))
 
-other_node : (a b : PortId) → a.node ≢ b.node → is_port a b ≡ false
+other_node : (a b : PortId) → a.node ≢ b.node → is_same_port a b ≡ false
 other_node a b ne = rw (ne_eqb a.node b.node ne) refl
 
-other_port : (a b : PortId) → a.port ≢ b.port → is_port a b ≡ false
+other_port : (a b : PortId) → a.port ≢ b.port → is_same_port a b ≡ false
 other_port a b ne = rw (ne_eqb a.port b.port ne) (⊎_elim (λ t. rw t refl) (λ f. rw f refl) (cases_Bool (a.node == b.node)))
 
-same_port : (a b : PortId) → a.node ≡ b.node → a.port ≡ b.port → is_port a b ≡ true
+same_port : (a b : PortId) → a.node ≡ b.node → a.port ≡ b.port → is_same_port a b ≡ true
 same_port a b n p = rw (eq-eqb a.node b.node n, eq-eqb a.port b.port p) refl
 
 -- what a node tells
@@ -88,10 +88,10 @@ module _ (q : ℕ) (e : Epoch) (k : Kind) (wave : List ℤ) (node : ℕ) (r : Re
       (map (given_by q e k wave node r) (range_with_len (a + 1) n)) p (theirs (a + 1) n P p)
 
   pub not_theirs : (a n : ℕ) (port : PortId) → port.node ≢ node
-      → All (λ g. is_port g.port port ≡ false) (map (given_by q e k wave node r) (range_with_len a n))
-  not_theirs a zero port ne = All-nil (λ g. is_port g.port port ≡ false)
+      → All (λ g. is_same_port g.port port ≡ false) (map (given_by q e k wave node r) (range_with_len a n))
+  not_theirs a zero port ne = All-nil (λ g. is_same_port g.port port ≡ false)
   not_theirs a (suc n) port ne =
-      All-cons (λ g. is_port g.port port ≡ false) (given_by q e k wave node r a)
+      All-cons (λ g. is_same_port g.port port ≡ false) (given_by q e k wave node r a)
       (map (given_by q e k wave node r) (range_with_len (a + 1) n))
       (other_node (given_by q e k wave node r a).port port (λ s. ne (sym s))) (not_theirs (a + 1) n port ne)
 
@@ -146,7 +146,7 @@ is_node plan port out high =
 record IsFeed (plan : Plan) (e : Epoch) (done : List ℕ) (node : ℕ) (port : PortId) (l : ShapeLink) : Type 0 where
   fits : IsFitting plan e l
   ready : l.delayed ≡ false → l.to.node ≡ node → is_among done l.from.node ≡ true
-  into : is_port l.to port ≡ true
+  into : is_same_port l.to port ≡ true
 
 module _ (plan : Plan) (waves : List WavIn) (c : ℕ) (e : Epoch) (first : Bool) (starts : first ≡ (c == e.shape.first))
     (earlier : List Given) (at : IsCycle plan waves c e earlier) where
@@ -154,12 +154,12 @@ module _ (plan : Plan) (waves : List WavIn) (c : ℕ) (e : Epoch) (first : Bool)
   epoch = known_epoch plan waves at.renderable c e at.here
 
   feeds : (done : List ℕ) (node : ℕ) (port : PortId) → MayFollow e done node
-      → All (IsFeed plan e done node port) (filter (λ l. is_port l.to port) e.shape.links)
+      → All (IsFeed plan e done node port) (filter (λ l. is_same_port l.to port) e.shape.links)
   feeds done node port may k d lt = record {
-    fits = All-filter (λ l. is_port l.to port) (IsFitting plan e) e.shape.links epoch.0.links k d lt;
-    ready = All-filter (λ l. is_port l.to port) (λ l. l.delayed ≡ false → l.to.node ≡ node → is_among done l.from.node ≡ true)
+    fits = All-filter (λ l. is_same_port l.to port) (IsFitting plan e) e.shape.links epoch.0.links k d lt;
+    ready = All-filter (λ l. is_same_port l.to port) (λ l. l.delayed ≡ false → l.to.node ≡ node → is_among done l.from.node ≡ true)
         e.shape.links may.ready k d lt;
-    into = filter_passes (λ l. is_port l.to port) e.shape.links k d lt;
+    into = filter_passes (λ l. is_same_port l.to port) e.shape.links k d lt;
   }
 
   -- a late link brings what was told of the cycle before
@@ -201,8 +201,8 @@ module _ (plan : Plan) (waves : List WavIn) (c : ℕ) (e : Epoch) (first : Bool)
   input_is done received now way node may i =
       let port : PortId = record { node = node; port = i } in
       let out = outputs plan waves in
-      let ls = filter (λ l. is_port l.to port) e.shape.links in
-      let links : links_into plan c port ≡ ls = ap (λ o. filter (λ l. is_port l.to port) (listed (λ e. e.shape.links) o)) at.here in
+      let ls = filter (λ l. is_same_port l.to port) e.shape.links in
+      let links : links_into plan c port ≡ ls = ap (λ o. filter (λ l. is_same_port l.to port) (listed (λ e. e.shape.links) o)) at.here in
       let channels : channels_at plan c port ≡ channels_of e.forms port = ap (λ o. channels_of (listed (λ e. e.forms) o) port) at.here in
       let all : All (λ l. brought_by plan.quantum first earlier now l ≡ brought plan out c l) ls =
       λ k d lt. brought_is done received now way node i (get_or ls k d) (feeds done node port may k d lt) in

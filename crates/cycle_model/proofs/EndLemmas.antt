@@ -13,7 +13,7 @@ use Rattle.pw_base.specs.declared.plan.Epoch.{Epoch}
 use Rattle.pw_base.specs.declared.plan.Plan.{Plan}
 use Rattle.pw_base.specs.Samples.{clamped}
 use Rattle.wav_files.specs.declared.wav.WavIn.{WavIn}
-use Rattle.pw_base.specs.Pools.{is_port}
+use Rattle.pw_base.specs.Pools.{is_same_port}
 use Rattle.cycle_model.specs.Epochs.{channels_of, all_cycles}
 use Rattle.cycle_model.specs.Cycle.{stream_of, outputs}
 use Rattle.cycle_model.specs.Rendering.{end_stream}
@@ -61,9 +61,9 @@ cycles_are plan e one = ap (λ es. sum_by (λ e. e.shape.cycles) es) one ∙ ome
 
 -- the row of an epoch, by whether the port's node takes part
 row_with : (e : Epoch) (waves : List WavIn) (port : PortId) → takes_part e port.node ≡ true
-    → epoch_row e waves port ≡ map (mixed_at waves (filter (λ l. is_port l.to port) e.shape.links))
+    → epoch_row e waves port ≡ map (mixed_at waves (filter (λ l. is_same_port l.to port) e.shape.links))
     (range_with_len 0 (e.shape.cycles * (e.shape.quantum * channels_of e.forms port)))
-row_with e waves port t = rw t (sym (row_is waves (filter (λ l. is_port l.to port) e.shape.links)
+row_with e waves port t = rw t (sym (row_is waves (filter (λ l. is_same_port l.to port) e.shape.links)
     (e.shape.cycles * (e.shape.quantum * channels_of e.forms port))))
 
 row_without : (e : Epoch) (waves : List WavIn) (port : PortId) → takes_part e port.node ≡ false → epoch_row e waves port ≡ []
@@ -73,7 +73,7 @@ no_cycles : (e : Epoch) (waves : List WavIn) (port : PortId) → e.shape.cycles 
 no_cycles e waves port z = ⊎_elim
     (λ t. let n : e.shape.cycles * (e.shape.quantum * channels_of e.forms port) ≡ 0 =
     ap (λ k. k * (e.shape.quantum * channels_of e.forms port)) z ∙ omega arith in
-    row_with e waves port t ∙ ap (λ k. map (mixed_at waves (filter (λ l. is_port l.to port) e.shape.links)) (range_with_len 0 k)) n)
+    row_with e waves port t ∙ ap (λ k. map (mixed_at waves (filter (λ l. is_same_port l.to port) e.shape.links)) (range_with_len 0 k)) n)
     (λ f. row_without e waves port f)
     (cases_Bool (takes_part e port.node))
 
@@ -83,9 +83,9 @@ some_cycles plan e s waves c port h =
     let lt : c < e.shape.cycles = omega arith in
     ⊎_elim
     (λ t. stream_row plan e s waves c port lt t
-    ∙ ap (λ n. map (mixed_at waves (filter (λ l. is_port l.to port) e.shape.links))
+    ∙ ap (λ n. map (mixed_at waves (filter (λ l. is_same_port l.to port) e.shape.links))
     (range_with_len 0 (n * (plan.quantum * channels_of e.forms port)))) h
-    ∙ ap (λ q. map (mixed_at waves (filter (λ l. is_port l.to port) e.shape.links))
+    ∙ ap (λ q. map (mixed_at waves (filter (λ l. is_same_port l.to port) e.shape.links))
     (range_with_len 0 (e.shape.cycles * (q * channels_of e.forms port)))) (sym s.quantum)
     ∙ sym (row_with e waves port t))
     (λ f. no_stream plan e s waves c port lt f ∙ sym (row_without e waves port f))

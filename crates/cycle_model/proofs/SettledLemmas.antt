@@ -13,7 +13,7 @@ use Rattle.pw_base.specs.Samples.{clamped, silence, summed}
 use Rattle.pw_base.specs.KindFunction.{kind_output}
 use Rattle.pw_base.specs.KindPorts.{input_count}
 use Rattle.wav_files.specs.declared.wav.WavIn.{WavIn}
-use Rattle.pw_base.specs.Pools.{is_port}
+use Rattle.pw_base.specs.Pools.{is_same_port}
 use Rattle.cycle_model.specs.Epochs.{is_within, epoch_at, listed, first_at, is_active, links_into, channels_at, active_cycles, stream_start}
 use Rattle.cycle_model.specs.Epochs.{all_cycles}
 use Rattle.cycle_model.specs.Cycle.{Outputs, kind_at, wave_of, last_of, brought, input_of, stream_of, output_of, outputs_after, outputs}
@@ -46,14 +46,14 @@ Rises rank l = l.delayed ≡ false → rank l.from.node < rank l.to.node
 record IsFeed (plan : Plan) (e : Epoch) (rank : ℕ → ℕ) (port : PortId) (l : ShapeLink) : Type 0 where
   fits : IsFitting plan e l
   rises : Rises rank l
-  into : is_port l.to port ≡ true
+  into : is_same_port l.to port ≡ true
 
 feeds_all : (plan : Plan) (e : Epoch) (rank : ℕ → ℕ) (port : PortId) → All (IsFitting plan e) e.shape.links → All (Rises rank) e.shape.links
-    → All (IsFeed plan e rank port) (filter (λ l. is_port l.to port) e.shape.links)
+    → All (IsFeed plan e rank port) (filter (λ l. is_same_port l.to port) e.shape.links)
 feeds_all plan e rank port f g k d lt = record {
-  fits = All-filter (λ l. is_port l.to port) (IsFitting plan e) e.shape.links f k d lt;
-  rises = All-filter (λ l. is_port l.to port) (Rises rank) e.shape.links g k d lt;
-  into = filter_passes (λ l. is_port l.to port) e.shape.links k d lt;
+  fits = All-filter (λ l. is_same_port l.to port) (IsFitting plan e) e.shape.links f k d lt;
+  rises = All-filter (λ l. is_same_port l.to port) (Rises rank) e.shape.links g k d lt;
+  into = filter_passes (λ l. is_same_port l.to port) e.shape.links k d lt;
 }
 
 -- two tables of outputs agree below a bound
@@ -121,11 +121,11 @@ input_agree : (plan : Plan) (waves : List WavIn) → IsRenderable plan waves →
     → input_of plan out1 k port ≡ input_of plan out2 k port
 input_agree plan waves r size is out1 out2 m agree k e rank h g port bound =
     let q = (known_epoch plan waves r k e h).0 in
-    let links : links_into plan k port ≡ filter (λ l. is_port l.to port) e.shape.links =
-    ap (λ o. filter (λ l. is_port l.to port) (listed (λ e. e.shape.links) o)) h in
-    let all : All (λ l. brought plan out1 k l ≡ brought plan out2 k l) (filter (λ l. is_port l.to port) e.shape.links) =
+    let links : links_into plan k port ≡ filter (λ l. is_same_port l.to port) e.shape.links =
+    ap (λ o. filter (λ l. is_same_port l.to port) (listed (λ e. e.shape.links) o)) h in
+    let all : All (λ l. brought plan out1 k l ≡ brought plan out2 k l) (filter (λ l. is_same_port l.to port) e.shape.links) =
     λ i d lt. brought_agree plan waves r size is out1 out2 m agree k e rank h g port bound
-    (get_or (filter (λ l. is_port l.to port) e.shape.links) i d)
+    (get_or (filter (λ l. is_same_port l.to port) e.shape.links) i d)
     (feeds_all plan e rank port q.links g i d lt) in
     let same : All (λ l. brought plan out1 k l ≡ brought plan out2 k l) (links_into plan k port) =
     subst (λ ls. All (λ l. brought plan out1 k l ≡ brought plan out2 k l) ls) (sym links) all in

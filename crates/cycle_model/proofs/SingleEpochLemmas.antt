@@ -19,7 +19,7 @@ use Rattle.pw_base.specs.Samples.{clamped, silence, summed}
 use Rattle.pw_base.specs.KindFunction.{kind_output}
 use Rattle.pw_base.specs.KindPorts.{input_count, port_count}
 use Rattle.wav_files.specs.declared.wav.WavIn.{WavIn}
-use Rattle.pw_base.specs.Pools.{is_port}
+use Rattle.pw_base.specs.Pools.{is_same_port}
 use Rattle.cycle_model.specs.Epochs.{is_within, is_fresh, epoch_at, listed, is_active, links_into, channels_of, channels_at, active_cycles}
 use Rattle.cycle_model.specs.Epochs.{stream_start, all_cycles}
 use Rattle.cycle_model.specs.Cycle.{Outputs, kind_at, wave_of, brought, input_of, stream_of, heard, last_of, output_of, outputs_after}
@@ -68,8 +68,8 @@ pub channels_are : (plan : Plan) (e : Epoch) → IsSingle plan e → (c : ℕ) (
 channels_are plan e s c port h = ap (λ o. channels_of (listed (λ e. e.forms) o) port) (epoch_is plan e s c h)
 
 pub links_are : (plan : Plan) (e : Epoch) → IsSingle plan e → (c : ℕ) (port : PortId) → c < e.shape.cycles
-    → links_into plan c port ≡ filter (λ l. is_port l.to port) e.shape.links
-links_are plan e s c port h = ap (λ o. filter (λ l. is_port l.to port) (listed (λ e. e.shape.links) o)) (epoch_is plan e s c h)
+    → links_into plan c port ≡ filter (λ l. is_same_port l.to port) e.shape.links
+links_are plan e s c port h = ap (λ o. filter (λ l. is_same_port l.to port) (listed (λ e. e.shape.links) o)) (epoch_is plan e s c h)
 
 pub start_is : (plan : Plan) (e : Epoch) → IsSingle plan e → (c node : ℕ) → stream_start plan c node ≡ 0
 start_is plan e s c node =
@@ -154,17 +154,17 @@ giver Meter port known low high = ⊎_elim (λ n. absurd n) (λ e. absurd (cc)) 
 record IsFeed (plan : Plan) (e : Epoch) (port : PortId) (l : ShapeLink) : Type 0 where
   fits : IsFitting plan e l
   prompt : l.delayed ≡ false
-  into : is_port l.to port ≡ true
+  into : is_same_port l.to port ≡ true
 
 feeds_all : (plan : Plan) (e : Epoch) → IsSingle plan e → (port : PortId)
-    → All (IsFeed plan e port) (filter (λ l. is_port l.to port) e.shape.links)
+    → All (IsFeed plan e port) (filter (λ l. is_same_port l.to port) e.shape.links)
 feeds_all plan e s port k d lt = record {
-  fits = All-filter (λ l. is_port l.to port) (IsFitting plan e) e.shape.links s.links k d lt;
-  prompt = All-filter (λ l. is_port l.to port) (λ l. l.delayed ≡ false) e.shape.links s.prompt k d lt;
-  into = filter_passes (λ l. is_port l.to port) e.shape.links k d lt;
+  fits = All-filter (λ l. is_same_port l.to port) (IsFitting plan e) e.shape.links s.links k d lt;
+  prompt = All-filter (λ l. is_same_port l.to port) (λ l. l.delayed ≡ false) e.shape.links s.prompt k d lt;
+  into = filter_passes (λ l. is_same_port l.to port) e.shape.links k d lt;
 }
 
-same_port : (forms : List PortForm) (a b : PortId) → is_port a b ≡ true → channels_of forms a ≡ channels_of forms b
+same_port : (forms : List PortForm) (a b : PortId) → is_same_port a b ≡ true → channels_of forms a ≡ channels_of forms b
 same_port forms a b h =
     let parts = and_parts (a.node == b.node) (a.port == b.port) h in
     ap₂ (λ n p. channels_of forms (record { node = n; port = p })) (eqb-true a.node b.node parts.0) (eqb-true a.port b.port parts.1)
@@ -193,11 +193,11 @@ brought_row plan e s waves c port l h feed q is_q =
 -- what a port gets in a cycle
 input_row : (plan : Plan) (e : Epoch) → IsSingle plan e → (waves : List WavIn) (c : ℕ) (port : PortId) → c < e.shape.cycles → (q : ℕ)
     → q ≡ plan.quantum * channels_of e.forms port
-    → input_of plan (outputs plan waves) c port ≡ map (λ r. mixed_at waves (filter (λ l. is_port l.to port) e.shape.links) (c * q + r))
+    → input_of plan (outputs plan waves) c port ≡ map (λ r. mixed_at waves (filter (λ l. is_same_port l.to port) e.shape.links) (c * q + r))
     (range_with_len 0 q)
 input_row plan e s waves c port h q is_q =
     let out = outputs plan waves in
-    let feeds = filter (λ l. is_port l.to port) e.shape.links in
+    let feeds = filter (λ l. is_same_port l.to port) e.shape.links in
     let size : plan.quantum * channels_at plan c port ≡ q = ap (λ n. plan.quantum * n) (channels_are plan e s c port h) ∙ sym is_q in
     let rows : All (λ l. brought plan out c l ≡ map (λ r. wave_at waves (c * q + r) l.from.node) (range_with_len 0 q)) feeds =
     λ k d lt. brought_row plan e s waves c port (get_or feeds k d) h (feeds_all plan e s port k d lt) q is_q in
@@ -211,12 +211,12 @@ input_row plan e s waves c port h q is_q =
 pub stream_row : (plan : Plan) (e : Epoch) → IsSingle plan e → (waves : List WavIn) (c : ℕ) (port : PortId) → c < e.shape.cycles
     → takes_part e port.node ≡ true
     → stream_of plan (outputs plan waves) c port
-    ≡ map (mixed_at waves (filter (λ l. is_port l.to port) e.shape.links))
+    ≡ map (mixed_at waves (filter (λ l. is_same_port l.to port) e.shape.links))
     (range_with_len 0 ((c + 1) * (plan.quantum * channels_of e.forms port)))
 stream_row plan e s waves c port h t =
     let out = outputs plan waves in
     let q = plan.quantum * channels_of e.forms port in
-    let g = mixed_at waves (filter (λ l. is_port l.to port) e.shape.links) in
+    let g = mixed_at waves (filter (λ l. is_same_port l.to port) e.shape.links) in
     let z : 0 * q ≡ 0 = omega arith in
     ap (λ start. flat_map (λ k. input_of plan out k port) (active_cycles plan start c port.node)) (start_is plan e s c port.node)
     ∙ ap (λ ks. flat_map (λ k. input_of plan out k port) ks) (cycles_all plan e s c port.node h t)

@@ -11,7 +11,7 @@ use Rattle.pw_base.specs.declared.plan.Epoch.{Epoch}
 use Rattle.pw_base.specs.declared.plan.Plan.{Plan}
 use Rattle.pw_base.specs.declared.plan.PortForm.{PortForm}
 use Rattle.pw_base.specs.declared.shape.ShapeLink.{ShapeLink}
-use Rattle.pw_base.specs.Pools.{is_port, is_before}
+use Rattle.pw_base.specs.Pools.{is_same_port, is_before}
 use Rattle.pw_base.specs.PlanForms.{IsFormed}
 use Rattle.pw_base.specs.SoundShape.{IsSoundLink}
 use Rattle.pw_base.specs.SoundPlan.{IsSoundEpoch, IsSoundPlan}
@@ -35,11 +35,11 @@ found_at : (forms : List PortForm) (a : PortForm) (k : ℕ) → AllPairs (λ f g
     → get_or forms k a ≡ a → channels_of forms a.port ≡ a.channels
 found_at [] a k ascend lt e = absurd (omega arith)
 found_at (f ∷ fs) a zero ascend lt e =
-    let t : is_port f.port a.port ≡ true = port_same f.port a.port (ap (λ g. g.port) e) in
+    let t : is_same_port f.port a.port ≡ true = port_same f.port a.port (ap (λ g. g.port) e) in
     rw t (ap (λ g. g.channels) e)
 found_at (f ∷ fs) a (suc k) ascend lt e =
     let here : IsTrue (is_before f.port a.port) = subst (λ g. IsTrue (is_before f.port g.port)) e (ascend 0 (suc k) a (omega arith) lt) in
-    let other : is_port f.port a.port ≡ false = false_from_ne_true (is_port f.port a.port)
+    let other : is_same_port f.port a.port ≡ false = false_from_ne_true (is_same_port f.port a.port)
     (λ t. not_before_itself a.port (subst (λ p. IsTrue (is_before p a.port)) (same_port f.port a.port t) here)) in
     rw other (found_at fs a k (λ i j d ij jl. ascend (suc i) (suc j) d (omega arith) (omega arith)) (omega arith) e)
 

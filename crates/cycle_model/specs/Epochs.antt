@@ -7,7 +7,7 @@ use Rattle.pw_base.specs.declared.shape.ShapeLink.{ShapeLink}
 use Rattle.pw_base.specs.declared.plan.Epoch.{Epoch}
 use Rattle.pw_base.specs.declared.plan.PortForm.{PortForm}
 use Rattle.pw_base.specs.declared.plan.Plan.{Plan}
-use Rattle.pw_base.specs.Pools.{is_port}
+use Rattle.pw_base.specs.Pools.{is_same_port}
 
 -- a cycle lies in an epoch; the first epoch in which it lies
 abbrev pub is_within : Epoch → ℕ → Bool
@@ -39,11 +39,11 @@ abbrev pub is_active : Plan → ℕ → ℕ → Bool
 is_active plan cycle node = list_any (λ n. n == node) (nodes_at plan cycle)
 
 abbrev pub links_into : Plan → ℕ → PortId → List ShapeLink
-links_into plan cycle port = filter (λ l. is_port l.to port) (links_at plan cycle)
+links_into plan cycle port = filter (λ l. is_same_port l.to port) (links_at plan cycle)
 
 -- the channels of a port, 0 without a form
 abbrev pub channels_of : List PortForm → PortId → ℕ
-channels_of forms port = unwrap_or (option_map (λ f. f.channels) (find (λ f. is_port f.port port) forms)) 0
+channels_of forms port = unwrap_or (option_map (λ f. f.channels) (find (λ f. is_same_port f.port port) forms)) 0
 
 abbrev pub channels_at : Plan → ℕ → PortId → ℕ
 channels_at plan cycle port = channels_of (forms_at plan cycle) port

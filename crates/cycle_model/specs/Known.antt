@@ -12,7 +12,7 @@ use Rattle.pw_base.specs.Samples.{clamped, silence, summed, peak_of}
 use Rattle.pw_base.specs.KindFunction.{kind_output}
 use Rattle.pw_base.specs.KindPorts.{input_count, output_count}
 use Rattle.pw_base.specs.PlanSums.{is_sink}
-use Rattle.pw_base.specs.Pools.{is_port}
+use Rattle.pw_base.specs.Pools.{is_same_port}
 use Rattle.wav_files.specs.declared.outcome.Kept.{Kept}
 use Rattle.wav_files.specs.declared.outcome.Peak.{Peak}
 use Rattle.cycle_model.specs.declared.received.Received.{Received}
@@ -24,7 +24,7 @@ use Rattle.cycle_model.specs.KindSamples.{heard_of}
 
 -- what a port gave, nothing if it is not told
 abbrev pub given_at : List Given → PortId → List ℤ
-given_at given port = unwrap_or (option_map (λ g. g.samples) (find (λ g. is_port g.port port) given)) []
+given_at given port = unwrap_or (option_map (λ g. g.samples) (find (λ g. is_same_port g.port port) given)) []
 
 -- what a link brings, in an epoch's first cycle or in a later one, by what ports gave before and now
 abbrev pub brought_by : ℕ → Bool → List Given → List Given → ShapeLink → List ℤ
@@ -36,7 +36,7 @@ brought_by quantum first before now link =
 abbrev pub input_by : ℕ → Bool → List Given → List Given → Epoch → PortId → List ℤ
 input_by quantum first before now epoch port =
     map clamped (fold summed (silence (quantum * channels_of epoch.forms port))
-    (map (brought_by quantum first before now) (filter (λ l. is_port l.to port) epoch.shape.links)))
+    (map (brought_by quantum first before now) (filter (λ l. is_same_port l.to port) epoch.shape.links)))
 
 -- what a node has received after one cycle more
 abbrev pub received_more : ℕ → Bool → List Given → List Given → Epoch → Kind → ℕ → Received → Received

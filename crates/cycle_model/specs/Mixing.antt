@@ -11,7 +11,7 @@ use Rattle.pw_base.specs.declared.plan.Epoch.{Epoch}
 use Rattle.pw_base.specs.declared.plan.Plan.{Plan}
 use Rattle.pw_base.specs.Samples.{clamped}
 use Rattle.wav_files.specs.declared.wav.WavIn.{WavIn}
-use Rattle.pw_base.specs.Pools.{is_port}
+use Rattle.pw_base.specs.Pools.{is_same_port}
 use Rattle.cycle_model.specs.Epochs.{channels_of}
 
 -- the place of a node's wave among the waves, or their number where it has none
@@ -29,7 +29,7 @@ sum_at waves places j = fold (λ sum place. sum +ℤ sample_at_place waves j pla
 
 -- the places of the waves that the links bring to a port
 abbrev pub places_into : List WavIn → List ShapeLink → PortId → List ℕ
-places_into waves links port = map (λ l. place_of waves l.from.node) (filter (λ l. is_port l.to port) links)
+places_into waves links port = map (λ l. place_of waves l.from.node) (filter (λ l. is_same_port l.to port) links)
 
 -- so many samples, each the clamped sum of those of the waves at the places
 abbrev pub mixed_row : List WavIn → List ℕ → ℕ → List ℤ

@@ -5,7 +5,7 @@ ghost use Rattle.cycle_model.specs.Known.{given_at, brought_by, input_by};
 
 use crate::epochs::channels_of;
 use crate::received::{Given, Setting};
-use pw_base::{Items, Memory, PortId, ShapeLink, is_port};
+use pw_base::{Items, Memory, PortId, ShapeLink, is_same_port};
 use std::alloc::Global;
 
 /// What a port gave, nothing if it is not told.
@@ -13,7 +13,7 @@ fn given_at(given: &[Given], port: PortId) -> &[i16]
     ensures { result.now ≡ given_at given.now port }
 {
     for one in given {
-        if is_port(one.port, port) {
+        if is_same_port(one.port, port) {
             return one.samples.as_slice();
         }
     }
@@ -95,7 +95,7 @@ pub(crate) fn input_of(
     let channels = channels_of(epoch.forms.as_slice(), port);
     let mut sums = Items::filled(alloc, samples_in(at.quantum, channels), 0)?;
     for link in epoch.shape.links.as_slice() {
-        if is_port(link.to, port) {
+        if is_same_port(link.to, port) {
             sums = with_link(alloc, at, now, link, sums.as_slice())?;
         }
     }

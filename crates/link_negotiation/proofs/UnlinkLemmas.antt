@@ -12,7 +12,7 @@ use Rattle.std.proofs.lemmas.List.Folds.{Any-from_list_any}
 use Rattle.std.proofs.lemmas.List.Sums.{length-filter, count_by-le-length}
 use Rattle.pw_base.specs.KindPorts.{port_count, input_count}
 use Rattle.pw_base.specs.declared.ids.PortId.{PortId}
-use Rattle.pw_base.specs.Pools.{is_port}
+use Rattle.pw_base.specs.Pools.{is_same_port}
 use Rattle.pw_base.proofs.PoolLemmas.{same_port}
 use Rattle.port_model.specs.declared.port_state.Node.{Node}
 use Rattle.port_model.specs.PortState.{IsPort, IsInput, with_released, released}
@@ -35,7 +35,7 @@ pub linked_below : (made : List Link) (from to : PortId) → All (λ l. (l.from.
     → are_linked made from to ≡ true → (from.node < 64) × (to.node < 64)
 linked_below made from to h e =
     let w = Any-from_list_any (joins from to) made e in
-    let two = and_parts (is_port w.1.from from) (is_port w.1.to to) w.4 in
+    let two = and_parts (is_same_port w.1.from from) (is_same_port w.1.to to) w.4 in
     let one : w.1.from.node ≡ from.node = ap (λ p. p.node) (same_port w.1.from from two.0) in
     let other : w.1.to.node ≡ to.node = ap (λ p. p.node) (same_port w.1.to to two.1) in
     let bound = subst (λ (l : Link). (l.from.node < 64) × (l.to.node < 64)) w.3 (h w.0 w.1 w.2) in

@@ -3,7 +3,7 @@
 use Rattle.std.specs.Prelude.{◌≡◌, ℕ, ◌==◌, ◌&&◌, ◌||◌, Bool, true, false, not, List, [], ◌∷◌, slice_index_or}
 use Rattle.std.specs.List.{Contains, filter, list_any}
 use Rattle.pw_base.specs.declared.ids.PortId.{PortId}
-use Rattle.pw_base.specs.Pools.{is_port}
+use Rattle.pw_base.specs.Pools.{is_same_port}
 use Rattle.link_negotiation.specs.declared.link.Link.{Link}
 
 pub record LinkState : Type 0 where
@@ -15,7 +15,7 @@ link_of from to = record { from = from; to = to }
 
 -- whether a link joins these two ports, and whether one is there that does
 abbrev pub joins : PortId → PortId → Link → Bool
-joins from to link = is_port link.from from && is_port link.to to
+joins from to link = is_same_port link.from from && is_same_port link.to to
 
 abbrev pub are_linked : List Link → PortId → PortId → Bool
 are_linked made from to = list_any (joins from to) made

@@ -4,7 +4,7 @@ ghost use Rattle.link_negotiation.specs.Links.{joins, are_linked, has_link, is_s
 ghost use Rattle.link_negotiation.specs.Searching.{is_reached};
 
 use crate::link::Link;
-use pw_base::{Memory, NODES, PortId, is_port};
+use pw_base::{Memory, NODES, PortId, is_same_port};
 use std::alloc::Global;
 use std::marker::Model;
 
@@ -34,7 +34,7 @@ impl Model for Links {
 pub fn joins(link: &Link, from: PortId, to: PortId) -> bool
     ensures { result ≡ joins from to link.now }
 {
-    is_port(link.from, from) && is_port(link.to, to)
+    is_same_port(link.from, from) && is_same_port(link.to, to)
 }
 
 /// Whether a link joins two ports among these.

@@ -1,7 +1,7 @@
 //! The atomic steps on activation words. Nodes are indexes; `C` is what the step gives its seat to know.
 ghost use Rattle.board_rule.specs.OnBoard.{IsOn, layout};
 ghost use Rattle.std.specs.Prelude.{◌≡◌, ℕ, ◌-◌, ◌<◌, ◌^◌, slice_index};
-ghost use Rattle.pw_base.specs.Words.{status_word_of};
+ghost use Rattle.pw_base.specs.Words.{finished_word, not_triggered_word, triggered_word};
 ghost use Rattle.board_rule.specs.Layout.{nodes};
 ghost use Rattle.board_rule.specs.Steps.{taken, cycle_of, reset_of, Lowers, lowered, Triggers, triggered, Claims, claimed, IsReadyToFinish};
 ghost use Rattle.board_rule.specs.Steps.{finished, StoresPending, pending_stored, StoresStatus, status_stored};
@@ -52,7 +52,7 @@ pub(crate) fn trigger<C: Change>(
     requires after { (found : ℕ) → C.after found ≡ triggered C.is_driver (layout board.now) token.old.me.0 at }
     ensures same { (token.new.table_id ≡ token.old.table_id) × (token.new.id ≡ token.old.id)
         × (token.new.me.1 ≡ token.old.me.1) }
-    ensures after { token.new.me.0 ≡ C.after (status_word_of 1 cycle) }
+    ensures after { token.new.me.0 ≡ C.after (triggered_word cycle) }
 {
     let word = board.status_word(target);
     let new = triggered(cycle);
@@ -89,7 +89,7 @@ pub(crate) fn finish<C: Change>(board: &Board, token: &mut BoardToken, at: usize
     requires after { (found : ℕ) → C.after found ≡ finished C.is_driver token.old.me.0 at }
     ensures same { (token.new.table_id ≡ token.old.table_id) × (token.new.id ≡ token.old.id)
         × (token.new.me.1 ≡ token.old.me.1) }
-    ensures after { token.new.me.0 ≡ C.after (status_word_of 3 cycle) }
+    ensures after { token.new.me.0 ≡ C.after (finished_word cycle) }
 {
     let word = board.status_word(at);
     let new = finished(cycle);
@@ -122,7 +122,7 @@ pub(crate) fn reset_status<C: Change>(board: &Board, token: &mut BoardToken, at:
     requires after { (found : ℕ) → C.after found ≡ status_stored (layout board.now) token.old.me.0 }
     ensures same { (token.new.table_id ≡ token.old.table_id) × (token.new.id ≡ token.old.id)
         × (token.new.me.1 ≡ token.old.me.1) }
-    ensures after { token.new.me.0 ≡ C.after (status_word_of 0 cycle) }
+    ensures after { token.new.me.0 ≡ C.after (not_triggered_word cycle) }
 {
     let word = board.status_word(at);
     let new = not_triggered(cycle);

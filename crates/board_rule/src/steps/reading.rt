@@ -3,7 +3,7 @@
 ghost use Rattle.board_rule.specs.OnBoard.{IsOn, layout};
 ghost use Rattle.std.specs.Prelude.{◌≡◌, ℕ, ◌<◌, length};
 ghost use Rattle.pw_base.specs.Pools.{pools_of};
-ghost use Rattle.pw_base.specs.Words.{io_word_of};
+ghost use Rattle.pw_base.specs.Words.{need_data_word};
 ghost use Rattle.pw_base.specs.Layout.{sample_place};
 ghost use Rattle.board_rule.specs.SampleWords.{IsTable, packed};
 ghost use Rattle.board_rule.specs.EndViews.{pool_at, pool_of};
@@ -110,7 +110,7 @@ pub(crate) fn store_need<C: Change>(
         ≡ need_stored C.is_driver (layout board.now) token.old.me.0 link }
     ensures same { (token.new.table_id ≡ token.old.table_id) × (token.new.id ≡ token.old.id)
         × (token.new.me.1 ≡ token.old.me.1) }
-    ensures after { token.new.me.0 ≡ C.after (io_word_of 1 id) }
+    ensures after { token.new.me.0 ≡ C.after (need_data_word id) }
 {
     let word = board.area_word(link, stamp);
     let new = io_word(AreaStatus::NeedData.number(), id);

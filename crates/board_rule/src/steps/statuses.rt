@@ -1,29 +1,29 @@
 //! The status words of a cycle.
 ghost use Rattle.std.specs.Prelude.{◌≡◌};
-ghost use Rattle.pw_base.specs.Words.{status_word_of};
+ghost use Rattle.pw_base.specs.Words.{awake_word, finished_word, not_triggered_word, triggered_word};
 
-use pw_base::{Status, status_word};
+use pw_base::{ActivationStatus, status_word};
 
 pub(crate) fn not_triggered(cycle: u32) -> u64
-    ensures { result ≡ status_word_of 0 cycle }
+    ensures { result ≡ not_triggered_word cycle }
 {
-    status_word(Status::NotTriggered.number(), cycle)
+    status_word(ActivationStatus::NotTriggered.number(), cycle)
 }
 
 pub(crate) fn triggered(cycle: u32) -> u64
-    ensures { result ≡ status_word_of 1 cycle }
+    ensures { result ≡ triggered_word cycle }
 {
-    status_word(Status::Triggered.number(), cycle)
+    status_word(ActivationStatus::Triggered.number(), cycle)
 }
 
 pub(crate) fn awake(cycle: u32) -> u64
-    ensures { result ≡ status_word_of 2 cycle }
+    ensures { result ≡ awake_word cycle }
 {
-    status_word(Status::Awake.number(), cycle)
+    status_word(ActivationStatus::Awake.number(), cycle)
 }
 
 pub(crate) fn finished(cycle: u32) -> u64
-    ensures { result ≡ status_word_of 3 cycle }
+    ensures { result ≡ finished_word cycle }
 {
-    status_word(Status::Finished.number(), cycle)
+    status_word(ActivationStatus::Finished.number(), cycle)
 }

@@ -3,7 +3,7 @@
 ghost use Rattle.board_rule.specs.OnBoard.{IsOn, layout};
 ghost use Rattle.std.specs.Prelude.{◌≡◌, ℕ, ◌+◌, ◌<◌, length};
 ghost use Rattle.pw_base.specs.Pools.{pools_of};
-ghost use Rattle.pw_base.specs.Words.{io_word_of, io_id_in};
+ghost use Rattle.pw_base.specs.Words.{io_id_in, have_data_word, need_data_word};
 ghost use Rattle.pw_base.specs.Layout.{sample_place};
 ghost use Rattle.board_rule.specs.EndViews.{pool_at};
 ghost use Rattle.board_rule.specs.WriterSteps.{write_cycle, LoadsAsWriter, loaded_as_writer, IsGivenBack, StoresHave, have_stored};
@@ -27,7 +27,7 @@ pub(crate) fn load_area<C: Change>(
     requires stamp { stamp ≡ write_cycle (layout board.now) token.old.me.0 link + 1 }
     requires inside { link < length board.now.board_shape.shape.links }
     requires after { (found : ℕ) → C.after found ≡ loaded_as_writer (layout board.now) token.old.me.0 link }
-    requires says { (found : ℕ) → found ≡ io_word_of 1 (io_id_in found)
+    requires says { (found : ℕ) → found ≡ need_data_word (io_id_in found)
         → IsGivenBack (layout board.now) token.old.me.0 link (io_id_in found) → C.says found }
     ensures same { (token.new.table_id ≡ token.old.table_id) × (token.new.id ≡ token.old.id)
         × (token.new.me.1 ≡ token.old.me.1) }
@@ -54,7 +54,7 @@ pub(crate) fn store_have<C: Change>(
     requires after { (found : ℕ) → C.after found ≡ have_stored (layout board.now) token.old.me.0 link id }
     ensures same { (token.new.table_id ≡ token.old.table_id) × (token.new.id ≡ token.old.id)
         × (token.new.me.1 ≡ token.old.me.1) }
-    ensures after { token.new.me.0 ≡ C.after (io_word_of 2 id) }
+    ensures after { token.new.me.0 ≡ C.after (have_data_word id) }
 {
     let word = board.area_word(link, stamp);
     let new = io_word(AreaStatus::HaveData.number(), id);

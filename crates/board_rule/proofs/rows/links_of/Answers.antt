@@ -1,7 +1,7 @@
 use Rattle.std.proofs.Common.{arith, ◌≡◌, ◌∙◌, ℕ, ◌+◌, ◌<◌, ◌∷◌, [], List, length, sym, ap, subst, length-append}
 use Rattle.std.specs.Prelude.{slice_index_or}
 use Rattle.std.specs.List.{position_or_len}
-use Rattle.pw_base.specs.Pools.{is_port, pools_of}
+use Rattle.pw_base.specs.Pools.{is_same_port, pools_of}
 use Rattle.pw_base.specs.declared.shape.ShapeLink.{ShapeLink}
 use Rattle.pw_base.specs.Layout.{areas_of, io_place}
 use Rattle.board_rule.specs.declared.rows.LinkRow.{LinkRow}
@@ -39,7 +39,7 @@ link_row-requires-clause-has c = let n : ℕ = c.loop-link.link-index in let sha
     let inside : n < length shape.links = (let t = c.loop-link-test.true in omega arith) in
     let same : slice_index_or c.as_slice-link-items.result.now n no_link ≡ link_in shape n =
     ap (λ (l : List ShapeLink). slice_index_or l n no_link) now in
-    subst (λ (k : ShapeLink). position_or_len (λ x. is_port x.port k.from) (pools_of shape) < length (pools_of shape)) (sym same)
+    subst (λ (k : ShapeLink). position_or_len (λ x. is_same_port x.port k.from) (pools_of shape) < length (pools_of shape)) (sym same)
     (c.requires.placed.pools n inside)
 
 pub returns : goal.returns

@@ -1,6 +1,6 @@
 use Rattle.std.proofs.Common.{◌≡◌, ◌*◌, map, filter, fold, drop}
 use Rattle.pw_base.specs.Samples.{silence, summed}
-use Rattle.pw_base.specs.Pools.{is_port}
+use Rattle.pw_base.specs.Pools.{is_same_port}
 use Rattle.cycle_model.specs.Epochs.{channels_of}
 use Rattle.cycle_model.specs.Known.{brought_by}
 use Rattle.cycle_model.proofs.inputs.input_of.Given as goal
@@ -9,6 +9,6 @@ use Rattle.cycle_model.proofs.inputs.input_of.Given as goal
 abbrev pub invariant-loop-link : goal.invariant-loop-link
 invariant-loop-link l =
     fold summed l.sums (map (brought_by l.at.quantum l.at.first l.at.before.now l.now)
-    (filter (λ k. is_port k.to l.port) (drop l.link-index l.at.epoch.now.shape.links)))
+    (filter (λ k. is_same_port k.to l.port) (drop l.link-index l.at.epoch.now.shape.links)))
     ≡ fold summed (silence (l.at.quantum * channels_of l.at.epoch.now.forms l.port))
-    (map (brought_by l.at.quantum l.at.first l.at.before.now l.now) (filter (λ k. is_port k.to l.port) l.at.epoch.now.shape.links))
+    (map (brought_by l.at.quantum l.at.first l.at.before.now l.now) (filter (λ k. is_same_port k.to l.port) l.at.epoch.now.shape.links))

@@ -1,7 +1,7 @@
 use Rattle.std.proofs.Common.{◌∙◌, ℕ, eqb, sym, subst}
 use prog.Atomic.{either}
 use Rattle.atomic_table.specs.Table.{Allows}
-use Rattle.pw_base.specs.Words.{status_word_of}
+use Rattle.pw_base.specs.Words.{awake_word, triggered_word}
 use Rattle.board_rule.specs.declared.board_shape.BoardShape.{BoardShape}
 use Rattle.board_rule.specs.Layout.{layout_of}
 use Rattle.board_rule.specs.BoardRule.{Holds}
@@ -18,8 +18,8 @@ compare_exchange-requires g c = let b = c.args.board.now in let p = layout_of b.
           (λ i. (
             sym b.about i,
             sym c.status_word-word.ensures.is i,
-            sym (c.triggered-old.ensures ∙ (λ j. status_word_of 1 (c.requires.cycle j))) i,
-            sym (c.awake-new.ensures ∙ (λ j. status_word_of 2 (c.requires.cycle j))) i,
+            sym (c.triggered-old.ensures ∙ (λ j. triggered_word (c.requires.cycle j))) i,
+            sym (c.awake-new.ensures ∙ (λ j. awake_word (c.requires.cycle j))) i,
           ))
           (claims p slots t.id t.me after g.C.Change.is_driver c.args.at c.requires.phase c.requires.after),
     )

@@ -1,6 +1,6 @@
 use Rattle.std.proofs.Common.{◌∙◌, ℕ, sym, subst}
 use Rattle.atomic_table.specs.Table.{Allows}
-use Rattle.pw_base.specs.Words.{status_word_of}
+use Rattle.pw_base.specs.Words.{not_triggered_word}
 use Rattle.board_rule.specs.declared.board_shape.BoardShape.{BoardShape}
 use Rattle.board_rule.specs.Layout.{layout_of}
 use Rattle.board_rule.specs.BoardRule.{Holds}
@@ -17,7 +17,7 @@ store-requires g c = let b = c.args.board.now in let p = layout_of b.board_shape
           (λ i. (
             sym b.about i,
             sym c.status_word-word.ensures.is i,
-            sym (c.not_triggered-new.ensures ∙ (λ j. status_word_of 0 (c.requires.cycle j))) i,
+            sym (c.not_triggered-new.ensures ∙ (λ j. not_triggered_word (c.requires.cycle j))) i,
           ))
           (stores_status p slots t.id t.me after c.args.at c.requires.phase c.requires.at c.requires.after),
     )
