@@ -15,7 +15,7 @@ use Rattle.board_rule.specs.EndViews.{no_link, no_pool, link_at, pool_at, writer
 use Rattle.board_rule.proofs.PortLemmas.{Differ, differ_at, indexes_pass, has_index, differ_indexes}
 use Rattle.board_rule.proofs.WiringLemmas.{Wired, wired, made}
 use Rattle.board_rule.proofs.HolderLemmas.{link_is, link_there, pool_there, pool_here}
-use Rattle.area_turns.specs.Plain.{IsPlain}
+use Rattle.io_areas.specs.PooledBoard.{IsPooledBoard}
 use Rattle.area_runs.specs.Ends.{reads_of, fills_of}
 
 pairs_differ : (xs : List ℕ) → Differ xs → AllPairs (λ x y. x ≢ y) xs
@@ -40,7 +40,7 @@ module _ {X : Type 0} (node : X → ℕ) (n : ℕ) (xs : List X) where
   has_it l d low e = let z : 0 + l ≡ l = omega arith in
       subst (Contains indexes) z (has_index test 0 xs l d low (eq-eqb (node (get_or xs l d)) n e))
 
-module _ (p : BoardLayout) (plain : IsPlain p) where
+module _ (p : BoardLayout) (plain : IsPooledBoard p) where
   all_wired : Wired p
   all_wired = wired p plain.sound plain.pooled
 

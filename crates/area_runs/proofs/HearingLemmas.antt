@@ -1,5 +1,5 @@
 -- From link to link of a node that reads.
-use Rattle.std.proofs.Common.{◌≡◌, ◌≢◌, ℕ, ◌+◌, ◌<◌, Bool, true, false, List, length, get_or, take, refl, sym, ap, ◌∙◌, subst}
+use Rattle.std.proofs.Common.{◌≡◌, ◌≢◌, ℕ, ℤ, ◌+◌, ◌<◌, Bool, true, false, cond, List, length, get_or, take, refl, sym, ap, ◌∙◌, subst}
 use Rattle.std.proofs.Common.{arith, ⊎_elim}
 use Rattle.std.proofs.Common.{length-set, get_or-set_other}
 use Rattle.std.specs.Prelude.{Contains}
@@ -9,14 +9,14 @@ use Rattle.board_rule.specs.declared.view.ReadView.{ReadView}
 use Rattle.board_rule.specs.declared.view.View.{View}
 use Rattle.board_rule.specs.Layout.{BoardLayout}
 use Rattle.board_rule.specs.View.{unread}
-use Rattle.board_rule.specs.EndViews.{read_of, reader_of}
+use Rattle.board_rule.specs.EndViews.{read_of, link_at, reader_of}
 use Rattle.board_rule.specs.SeatNodes.{HasNode}
 use Rattle.board_rule.specs.WorkSteps.{IsRunning}
 use Rattle.board_rule.specs.ReaderSteps.{read_cycle}
-use Rattle.area_turns.specs.Ends.{IsReadUpTo}
-use Rattle.area_turns.specs.Hearing.{MayHear, HasHeard}
-use Rattle.area_turns.proofs.HearingLemmas.{heard_even}
-use Rattle.area_runs.specs.Hearing.{MayHearAll, Gives, AreHeard}
+use Rattle.io_areas.specs.Ends.{IsReadUpTo}
+use Rattle.io_areas.specs.InputTurn.{MayReadInput, HasReadInput}
+use Rattle.io_areas.proofs.InputTurnLemmas.{read_even}
+use Rattle.area_runs.specs.Hearing.{MayHearAll, expected_of, Gives, AreHeard}
 use Rattle.area_runs.proofs.ListLemmas.{take_cases, early_differs, last_taken, still_taken}
 
 module _ (p : BoardLayout) (v : View) (rs : List ReadView) where
@@ -45,6 +45,13 @@ read_moves v w l c long same e = record {
   stored = ap (λ (r : ReadView). r.stored) same ∙ e.stored;
 }
 
+pub expected_long : (p : BoardLayout) (now before : List ℤ) (l : ℕ) → length before ≡ length now → length (expected_of p now before l) ≡ length now
+expected_long p now before l same = by (link_at p l).delayed
+  where
+    by : (d : Bool) → length (cond d before now) ≡ length now
+    by true = same
+    by false = refl
+
 module _ (b : Bool) (p : BoardLayout) (v : View) (links : List ℕ) (may : MayHearAll b p v links) where
   pub none_heard : AreHeard b p v (take 0 links) v
   none_heard = record { same = refl; ends = refl; heard = λ l c. absurd (omega (arith, c.1)); others = λ l o. refl }
@@ -56,7 +63,7 @@ module _ (b : Bool) (p : BoardLayout) (v : View) (links : List ℕ) (may : MayHe
     abbrev cycle : ℕ
     cycle = read_cycle b p v link
 
-    was : MayHear b p v link
+    was : MayReadInput b p v link
     was = may.0 k 0 low
 
     same_cycle : (l : ℕ) → read_cycle b p w l ≡ read_cycle b p v l
@@ -65,7 +72,7 @@ module _ (b : Bool) (p : BoardLayout) (v : View) (links : List ℕ) (may : MayHe
     untouched : read_of w link ≡ read_of v link
     untouched = so_far.others link (early_differs links k may.1 low)
 
-    pub may_hear : MayHear b p w link
+    pub may_hear : MayReadInput b p w link
     may_hear = record {
       inside = was.inside;
       has = subst (λ (x : View). HasNode b p x (reader_of p link)) (sym so_far.same) (reads_have p v w.reads b (reader_of p link) was.has);
@@ -73,14 +80,14 @@ module _ (b : Bool) (p : BoardLayout) (v : View) (links : List ℕ) (may : MayHe
       even = subst (IsReadUpTo w link) (sym (same_cycle link)) (read_moves v w link cycle so_far.ends untouched was.even);
     }
 
-    pub still_gives : (samples : List _) → Gives b p v samples link → Gives b p w samples link
-    still_gives samples g = subst (λ (x : View). Gives b p x samples link) (sym so_far.same) (by b g)
+    pub still_gives : (now before : List ℤ) → Gives b p v now before link → Gives b p w now before link
+    still_gives now before g = subst (λ (x : View). Gives b p x now before link) (sym so_far.same) (by b g)
       where
-        by : (d : Bool) → Gives d p v samples link → Gives d p (record v { reads = w.reads }) samples link
+        by : (d : Bool) → Gives d p v now before link → Gives d p (record v { reads = w.reads }) now before link
         by true h = h
         by false h = h
 
-    module _ (u : View) (heard : HasHeard b p w link u) where
+    module _ (u : View) (heard : HasReadInput b p w link u) where
       longer : length u.reads ≡ length w.reads
       longer = ap (λ (x : View). length x.reads) heard.1 ∙ length-set w.reads link _
 
@@ -94,7 +101,7 @@ module _ (b : Bool) (p : BoardLayout) (v : View) (links : List ℕ) (may : MayHe
         ends = longer ∙ so_far.ends;
         heard = λ l c. dite (ℕ_discrete l link)
             (λ e. subst (λ i. IsReadUpTo u i (read_cycle b p v i + 1)) (sym e)
-            (subst (λ n. IsReadUpTo u link (n + 1)) (same_cycle link) (heard_even b p w link may_hear u heard)))
+            (subst (λ n. IsReadUpTo u link (n + 1)) (same_cycle link) (read_even b p w link may_hear u heard)))
             (λ e. read_moves w u l (read_cycle b p v l + 1) longer (other l e)
             (so_far.heard l (⊎_elim (λ old. old) (λ new. absurd (e (sym new))) (take_cases links k l low c))));
         others = λ l o. other l (λ e. o (subst (Contains (take (k + 1) links)) (sym e) (last_taken links k low)))

@@ -6,7 +6,7 @@ use Rattle.board_rule.specs.declared.board_shape.BoardShape.{BoardShape}
 use Rattle.board_rule.specs.declared.view.DriverPhase.TheVariants.{Running}
 use Rattle.board_rule.specs.declared.view.ReadView.{ReadView}
 use Rattle.board_rule.specs.declared.view.View.{View}
-use Rattle.board_rule.specs.Layout.{BoardLayout, layout_of, nodes, last}
+use Rattle.board_rule.specs.Layout.{BoardLayout, layout_of, nodes, first, last}
 use Rattle.board_rule.specs.View.{unread}
 use Rattle.board_rule.specs.EndViews.{reader_of, pool_of, link_at}
 use Rattle.board_rule.specs.Steps.{HasNode, IsReadyToFinish}
@@ -15,10 +15,12 @@ use Rattle.board_rule.proofs.HolderLemmas.{link_there}
 use Rattle.activation_words.specs.Calls.{HasFinished}
 use Rattle.activation_words.specs.CycleCalls.{HasBegun, HasChecked, HasEnded}
 use Rattle.activation_words.specs.Members.{IsBetween, IsWaiting}
-use Rattle.area_turns.specs.Plain.{IsPlain}
-use Rattle.area_turns.specs.Ends.{IsReadUpTo}
+use Rattle.io_areas.specs.PooledBoard.{IsPooledBoard}
+use Rattle.io_areas.specs.Ends.{IsReadUpTo}
 use Rattle.area_runs.specs.Ends.{reads_of}
-use Rattle.area_runs.specs.Steady.{IsSteady}
+use Rattle.area_runs.specs.declared.quanta.Quanta.{Quanta}
+use Rattle.area_runs.specs.Steady.{given_in, given_before, IsSteady}
+use Rattle.area_runs.proofs.SteadyLemmas.{gives_at}
 use Rattle.area_runs.specs.Hearing.{MayHearAll, Gives, AreHeard}
 use Rattle.area_runs.proofs.EndsLemmas.{of_pool, read_by, reads_it, reads_once}
 use Rattle.area_runs.proofs.HearingLemmas.{read_moves}
@@ -50,7 +52,7 @@ module _ (p : BoardLayout) (v w : View) where
 pub may_begin : (p : BoardLayout) (v : View) → IsBetween p v → v.lead.cycle ≢ last p → HasNode true p v p.driver
 may_begin p v b o = let m = b.member in let low = m.1.0 in let high = m.1.1 in (m.0, (low, omega arith), m.2)
 
-module _ (board_shape : BoardShape) (plain : IsPlain (layout_of board_shape)) (v : View) (has : HasNode true (layout_of board_shape) v (layout_of board_shape).driver)
+module _ (board_shape : BoardShape) (plain : IsPooledBoard (layout_of board_shape)) (v : View) (has : HasNode true (layout_of board_shape) v (layout_of board_shape).driver)
     (runs : v.lead.drive ≡ Running)
     (even : IsLeadEven (layout_of board_shape) v v.lead.cycle) where
   abbrev p : BoardLayout
@@ -74,10 +76,11 @@ module _ (board_shape : BoardShape) (plain : IsPlain (layout_of board_shape)) (v
     reads_once p plain p.shape.driver inside,
   )
 
-  pub lead_gives : (samples : List ℤ) → IsSteady p v.expect samples → All (Gives true p v samples) links
-  lead_gives samples steady k d low = let l : ℕ = slice_index_or links k d in
-      let h = read_by p plain p.shape.driver inside l (k, low, get_or_default links k l d low) in let q = of_pool p plain l h.0 in
-      (steady.quanta (pool_of p l) q.0, steady.gives v.lead.cycle (pool_of p l) has.1.0 has.1.1 q.0)
+  pub lead_gives : (s : Quanta) (k : ℕ) → first p + k ≡ v.lead.cycle → IsSteady p v.expect s
+      → All (Gives true p v (given_in s k) (given_before s k)) links
+  lead_gives s k at steady j d low = let l : ℕ = slice_index_or links j d in
+      let h = read_by p plain p.shape.driver inside l (j, low, get_or_default links j l d low) in let q = of_pool p plain l h.0 in
+      gives_at p v.expect s steady l v.lead.cycle k h.0 q.0 at has.1.1
 
   module _ (w : View) (heard : AreHeard true p v links w) where
     heard_even : IsLeadEven p w (v.lead.cycle + 1)

@@ -6,4 +6,5 @@ pub mod TurningLemmas
 pub mod LeadLemmas
 pub mod WorkerLemmas
 pub mod MakingLemmas
+pub mod SteadyLemmas
 pub mod OpeningLemmas

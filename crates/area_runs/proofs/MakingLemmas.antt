@@ -15,6 +15,7 @@ use Rattle.board_rule.specs.Known.{Known}
 use Rattle.board_rule.specs.Layout.{index_in}
 use Rattle.board_rule.proofs.PortLemmas.{few_ports}
 use Rattle.area_runs.specs.declared.node_ends.NodeEnds.{NodeEnds}
+use Rattle.area_runs.specs.declared.quanta.Quanta.{Quanta}
 use Rattle.area_runs.specs.declared.worker.Worker.{Worker}
 use Rattle.area_runs.specs.Ends.{ends_of}
 use Rattle.area_runs.specs.Making.{IsOfSeat, IsMade, AreMade}
@@ -61,7 +62,7 @@ module _ (shape : Shape) (seat_of : List ℕ) (k : ℕ) where
         (λ other. every j (omega arith) follows mine)
 
 -- one loop more
-pub one_made : (board_shape : BoardShape) (samples : List ℤ) (loops : List Known) (workers : List Worker) (seat : Known) (w : Worker)
+pub one_made : (board_shape : BoardShape) (samples : Quanta) (loops : List Known) (workers : List Worker) (seat : Known) (w : Worker)
     → AreMade board_shape samples loops workers
     → IsMade board_shape samples (length loops) seat w → AreMade board_shape samples (loops ++ seat ∷ []) (workers ++ w ∷ [])
 one_made board_shape samples loops workers seat w a is = let x = length-append loops (seat ∷ []) in let y = length-append workers (w ∷ []) in

@@ -13,7 +13,7 @@ use Rattle.board_rule.specs.declared.view.WriteView.{WriteView}
 use Rattle.board_rule.specs.declared.view.ReadView.{ReadView}
 use Rattle.board_rule.specs.declared.view.Trail.{Trail}
 use Rattle.board_rule.specs.declared.view.View.{View}
-use Rattle.board_rule.specs.Layout.{BoardLayout, nodes}
+use Rattle.board_rule.specs.Layout.{BoardLayout, nodes, first}
 use Rattle.board_rule.specs.View.{Samples, node_of, view_node, idle, unread, unwritten}
 use Rattle.board_rule.specs.SampleWords.{samples_in}
 use Rattle.board_rule.specs.Spans.{block_at}
@@ -26,11 +26,13 @@ use Rattle.activation_words.specs.Calls.{started, HasRested}
 use Rattle.activation_words.specs.Members.{IsResting}
 use Rattle.activation_words.proofs.ViewLemmas.{again, has_again}
 use Rattle.activation_words.proofs.MemberLemmas.{else_rests, rested_rests}
-use Rattle.area_turns.specs.Plain.{IsPlain}
-use Rattle.area_turns.specs.Ends.{IsWrittenUpTo, IsReadUpTo}
-use Rattle.area_turns.specs.Stock.{Stock}
+use Rattle.io_areas.specs.PooledBoard.{IsPooledBoard}
+use Rattle.io_areas.specs.Ends.{IsWrittenUpTo, IsReadUpTo}
+use Rattle.io_areas.specs.FreeBlocks.{FreeBlocks}
 use Rattle.area_runs.specs.Ends.{reads_of, fills_of}
-use Rattle.area_runs.specs.Steady.{IsSteady}
+use Rattle.area_runs.specs.declared.quanta.Quanta.{Quanta}
+use Rattle.area_runs.specs.Steady.{given_in, given_before, IsSteady}
+use Rattle.area_runs.proofs.SteadyLemmas.{gives_at}
 use Rattle.area_runs.specs.Hearing.{MayHearAll, Gives, AreHeard}
 use Rattle.area_runs.specs.Writing.{queue_of, MayFillAll, Puts, AreWritten}
 use Rattle.area_runs.specs.Turning.{IsEquipped, AreEven, HasTurned}
@@ -73,7 +75,7 @@ module _ (p : BoardLayout) (v x : View) (same : x ≡ record v { reads = x.reads
     idle = r.idle;
   }
 
-module _ (p : BoardLayout) (plain : IsPlain p) (n : ℕ) where
+module _ (p : BoardLayout) (plain : IsPooledBoard p) (n : ℕ) where
   abbrev m : ℕ
   m = p.index n
 
@@ -101,13 +103,12 @@ module _ (p : BoardLayout) (plain : IsPlain p) (n : ℕ) where
       reads_once p plain n inside,
     )
 
-    pub all_give : (samples : List ℤ) → IsSteady p v.expect samples → All (Gives false p v samples) (reads_of p.shape n)
-    all_give samples steady k d low = let l : ℕ = slice_index_or (reads_of p.shape n) k d in
-        let h = read_by p plain n inside l (k, low, get_or_default (reads_of p.shape n) k l d low) in let q = of_pool p plain l h.0 in
-        let c = has.1 in let e = reader_cycle l h.1 in (
-          steady.quanta (pool_of p l) q.0,
-          steady.gives (read_cycle false p v l) (pool_of p l) (omega arith) (omega arith) q.0,
-        )
+    pub all_give : (s : Quanta) (k : ℕ) → first p + k ≡ cycle → IsSteady p v.expect s
+        → All (Gives false p v (given_in s k) (given_before s k)) (reads_of p.shape n)
+    all_give s k at steady j d low = let l : ℕ = slice_index_or (reads_of p.shape n) j d in
+        let h = read_by p plain n inside l (j, low, get_or_default (reads_of p.shape n) j l d low) in let q = of_pool p plain l h.0 in
+        let c = has.1.1 in let e = reader_cycle l h.1 in
+        gives_at p v.expect s steady l (read_cycle false p v l) k h.0 q.0 (omega arith) (omega arith)
 
     -- it has heard all
     module _ (w : View) (heard : AreHeard false p v (reads_of p.shape n) w) where
@@ -142,7 +143,7 @@ module _ (p : BoardLayout) (plain : IsPlain p) (n : ℕ) where
                     (ap (λ (y : List WriteView). slice_index_or y l (unwritten 0)) ws)
                     (even.writes l (pool_link p plain q l h.0 c) (pool_writer p plain q l h.0 c ∙ h.1)));
               },
-              subst (λ c. Stock p w q c (queue_of old q)) (sym now)
+              subst (λ c. FreeBlocks p w q c (queue_of old q)) (sym now)
                   (stock_moves p v w q cycle (queue_of old q)
                   (λ b lt. ap (λ (y : List BlockView). slice_index_or y (block_at p q b) Free) bs)
                   (even.stocks q h.0 h.1)),
@@ -150,11 +151,11 @@ module _ (p : BoardLayout) (plain : IsPlain p) (n : ℕ) where
         fills_once p plain n inside,
       )
 
-      pub all_put : (samples : List ℤ) → IsSteady p v.expect samples → All (Puts p w samples) (fills_of p.shape n)
-      all_put samples steady k d low = let q : ℕ = slice_index_or (fills_of p.shape n) k d in
-          let h = filled_by p plain n inside q (k, low, get_or_default (fills_of p.shape n) k q d low) in
-          let c = has.1 in let now = filler_cycle q h.1 in
-          steady.gives (fill_cycle p w q) q (omega arith) (omega arith) h.0
+      pub all_put : (s : Quanta) (k : ℕ) → first p + k ≡ cycle → IsSteady p v.expect s → All (Puts p w (given_in s k)) (fills_of p.shape n)
+      all_put s k at steady j d low = let q : ℕ = slice_index_or (fills_of p.shape n) j d in
+          let h = filled_by p plain n inside q (j, low, get_or_default (fills_of p.shape n) j q d low) in
+          let c = has.1.1 in let now = filler_cycle q h.1 in let same : first p + k ≡ fill_cycle p w q = omega arith in
+          sym (steady.gives k q (omega arith) h.0) ∙ ap (λ i. samples_in p v.expect i q) same
           ∙ ap (λ (y : View). samples_in p y.expect (fill_cycle p w q) q) (sym heard.same)
 
       -- it has filled all
@@ -179,7 +180,7 @@ module _ (p : BoardLayout) (plain : IsPlain p) (n : ℕ) where
           writes = λ l low e. let q = of_pool p plain l low in let f = q.2 ∙ e in
               subst (λ c. IsWrittenUpTo x l (c + 1)) (filler_cycle (pool_of p l) f)
               (written.even (pool_of p l) l (fills_it p plain n inside (pool_of p l) q.0 f) q.1);
-          stocks = λ q low e. subst (λ c. Stock p x q (c + 1) (queue_of new q)) (filler_cycle q e)
+          stocks = λ q low e. subst (λ c. FreeBlocks p x q (c + 1) (queue_of new q)) (filler_cycle q e)
               (written.stocks q (fills_it p plain n inside q low e));
         }
 
@@ -192,7 +193,7 @@ module _ (p : BoardLayout) (plain : IsPlain p) (n : ℕ) where
               o (sym e ∙ pool_writer p plain q l f.0 of_q ∙ f.1))
               ∙ ap (λ (y : List WriteView). slice_index_or y l (unwritten 0)) ws) (h.writes l low e);
           stocks = λ q low e. let left = written.other_pools q low (λ i. o (sym e ∙ (filled_by p plain n inside q i).1)) in
-              subst (Stock p x q c) (sym left.0) (stock_moves p v x q c (queue_of old q)
+              subst (FreeBlocks p x q c) (sym left.0) (stock_moves p v x q c (queue_of old q)
               (λ b lt. left.1 b lt ∙ ap (λ (y : List BlockView). slice_index_or y (block_at p q b) Free) bs) (h.stocks q low e));
         }
 
@@ -262,11 +263,11 @@ module _ (p : BoardLayout) (v : View) (m t : ℕ) (has : HasNode false p v m) wh
   pub begun_runs : IsRunning false at_work m
   begun_runs = ap (λ (x : NodeView). x.phase) begun_is
 
-  same_next : (node_of at_work m).next ≡ (node_of v m).next
-  same_next = ap (λ (x : NodeView). x.next) begun_is
+  pub begun_next : (node_of at_work m).next ≡ (node_of v m).next
+  begun_next = ap (λ (x : NodeView). x.next) begun_is
 
   pub begun_even : (free : List Queue) → AreEven p v free m (node_of v m).next → AreEven p at_work free m (node_of at_work m).next
-  begun_even free even = even_moves p v at_work free m (node_of v m).next (node_of at_work m).next refl refl refl same_next even
+  begun_even free even = even_moves p v at_work free m (node_of v m).next (node_of at_work m).next refl refl refl begun_next even
 
 -- what is so of a turn after a step of its node is so before it
 pub turned_whole : (p : BoardLayout) (v : View) (m : ℕ) (y : NodeView) (t : Trail) → m < length v.nodes → y.next ≡ (node_of v m).next
@@ -285,7 +286,7 @@ turned_whole p v m y t there next old w new h = record {
   lists = h.lists;
 }
 
-module _ (p : BoardLayout) (shapes : List PoolShape) (samples : List ℤ) (v : View) (free : List Queue) (w : View) (new : List Queue) where
+module _ (p : BoardLayout) (shapes : List PoolShape) (samples : Quanta) (v : View) (free : List Queue) (w : View) (new : List Queue) where
   -- a turn leaves the loop what it works with
   pub equipped_moves : w.expect ≡ v.expect → length w.blocks ≡ length v.blocks → length new ≡ length free
       → IsEquipped p v shapes free samples

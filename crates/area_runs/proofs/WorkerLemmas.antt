@@ -16,6 +16,7 @@ use Rattle.buffer_pool.specs.Queue.{Queue}
 use Rattle.activation_words.proofs.ViewLemmas.{again}
 use Rattle.activation_words.proofs.MemberLemmas.{may_claim, woken_has, woken_awake, tried_rests}
 use Rattle.area_runs.specs.declared.node_ends.NodeEnds.{NodeEnds}
+use Rattle.area_runs.specs.declared.quanta.Quanta.{Quanta}
 use Rattle.area_runs.specs.declared.worker.Worker.{Worker}
 use Rattle.area_runs.specs.Ends.{ends_of}
 use Rattle.area_runs.specs.Turning.{IsEquipped, IsAtRest, MayTurn, HasTurned}
@@ -67,7 +68,7 @@ module _ (p : BoardLayout) (t : TableId) (old : Worker) (ready : IsReady p t old
     pub turned_ready : HasTurned p v free m w new.free.items → IsReady p t new
     turned_ready h = record {
       table = table;
-      equipped = subst (λ (x : List PoolShape × List ℤ). IsEquipped p w x.0 new.free.items x.1) (λ i. (sym shapes i, sym samples i))
+      equipped = subst (λ (x : List PoolShape × Quanta). IsEquipped p w x.0 new.free.items x.1) (λ i. (sym shapes i, sym samples i))
           (equipped_moves p old.shapes old.samples v free w new.free.items h.expect h.room h.lists ready.equipped);
       rests = subst (All (λ e. (e ≡ ends_of p.shape e.node) × IsAtRest p w new.free.items (p.index e.node))) (sym nodes)
           (λ k d lt. let e : NodeEnds = get_or old.nodes k d in let r = ready.rests k d lt in (
@@ -75,13 +76,13 @@ module _ (p : BoardLayout) (t : TableId) (old : Worker) (ready : IsReady p t old
             dite (ℕ_discrete (p.index e.node) m) (λ same. subst (IsAtRest p w new.free.items) (sym same) h.rests)
                 (λ other. (h.others (p.index e.node) other r.1).0),
           ));
-      long = long ∙ ready.long ∙ sym (ap (λ (l : List ℤ). length l) samples);
+      long = long ∙ ready.long ∙ sym (ap (λ (q : Quanta). length q.even) samples);
     }
 
     pub tried_ready : (found : ℕ) → new.free.items ≡ free → w ≡ tried p v m found → IsReady p t new
     tried_ready found lists e = record {
       table = table;
-      equipped = subst (λ (x : List PoolShape × List ℤ). IsEquipped p w x.0 new.free.items x.1) (λ i. (sym shapes i, sym samples i))
+      equipped = subst (λ (x : List PoolShape × Quanta). IsEquipped p w x.0 new.free.items x.1) (λ i. (sym shapes i, sym samples i))
           (equipped_moves p old.shapes old.samples v free w new.free.items (ap (λ (x : View). x.expect) e)
           (ap (λ (x : View). length x.blocks) e)
           (ap (λ (l : List Queue). length l) lists) ready.equipped);
@@ -94,5 +95,5 @@ module _ (p : BoardLayout) (t : TableId) (old : Worker) (ready : IsReady p t old
                   (node_of v n).next refl refl refl refl r.1.1,
             ),
           ));
-      long = long ∙ ready.long ∙ sym (ap (λ (l : List ℤ). length l) samples);
+      long = long ∙ ready.long ∙ sym (ap (λ (q : Quanta). length q.even) samples);
     }

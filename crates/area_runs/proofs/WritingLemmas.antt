@@ -1,7 +1,7 @@
 -- From pool to pool of a node that writes.
 use Rattle.std.proofs.Common.{◌≡◌, ◌≢◌, ℕ, ℤ, ◌+◌, ◌<◌, ◌≤◌, false, List, [], length, get_or, set, take, refl, sym, ap, ◌∙◌}
 use Rattle.std.proofs.Common.{subst, arith}
-use Rattle.std.proofs.Common.{⊎_elim, length-set, get_or-set_same, get_or-set_other}
+use Rattle.std.proofs.Common.{inl, inr, ⊎_elim, length-set, get_or-set_same, get_or-set_other}
 use Rattle.std.specs.Prelude.{Contains}
 use Rattle.std.proofs.lemmas.Option.{slice_get-get_or}
 use Rattle.std.proofs.lemmas.List.{get_or_default}
@@ -16,12 +16,13 @@ use Rattle.board_rule.specs.Spans.{block_at}
 use Rattle.board_rule.specs.EndViews.{no_pool, pool_at, filler_of, write_of, block_of}
 use Rattle.board_rule.specs.SeatNodes.{HasNode}
 use Rattle.board_rule.specs.BlockSteps.{fill_cycle}
-use Rattle.board_rule.proofs.WiringLemmas.{wired}
+use Rattle.board_rule.specs.BlockReadings.{busy_cycles}
+use Rattle.board_rule.proofs.WiringLemmas.{wired, busy_cycles_some}
 use Rattle.buffer_pool.specs.Queue.{Queue}
-use Rattle.area_turns.specs.Plain.{IsPlain}
-use Rattle.area_turns.specs.Ends.{IsWrittenUpTo}
-use Rattle.area_turns.specs.Stock.{Stock}
-use Rattle.area_turns.specs.Writing.{MayWrite, HasWritten}
+use Rattle.io_areas.specs.PooledBoard.{IsPooledBoard}
+use Rattle.io_areas.specs.Ends.{IsWrittenUpTo}
+use Rattle.io_areas.specs.FreeBlocks.{FreeBlocks}
+use Rattle.io_areas.specs.OutputTurn.{MayWriteOutput, HasWrittenOutput}
 use Rattle.area_runs.specs.Writing.{queue_of, MayFillAll, Puts, IsLeft, AreWritten}
 use Rattle.area_runs.proofs.ListLemmas.{taken, take_cases, early_differs, last_taken, still_taken}
 
@@ -35,16 +36,17 @@ write_moves v w l c long same e = record {
 
 pub stock_moves : (p : BoardLayout) (v w : View) (q c : ℕ) (pool : Queue)
     → ((b : ℕ) → b < (pool_at p q).blocks → block_of p w q b ≡ block_of p v q b)
-    → Stock p v q c pool → Stock p w q c pool
+    → FreeBlocks p v q c pool → FreeBlocks p w q c pool
 stock_moves p v w q c pool same s = record {
   size = s.size;
-  some = s.some;
+  enough = s.enough;
   listed = λ b here. let h = s.listed b here in (h.0, same b h.0 ∙ h.1);
   once = s.once;
-  full = s.full;
-  fresh = λ e b low. same b low ∙ s.fresh e b low;
-  short = s.short;
-  out = λ later. let o = s.out later in let is = o.1 in (o.0, (is.0, same o.0 is.0 ∙ is.1, (λ a low other. same a low ∙ is.2 a low other)));
+  long = s.long;
+  out = λ n r. let o = s.out n r in (o.0, o.1, same o.0 o.1 ∙ o.2);
+  one = λ a b n i j e f. s.one a b n i j (sym (same a i) ∙ e) (sym (same b j) ∙ f);
+  else = λ b low. ⊎_elim (λ f. inl (same b low ∙ f)) (λ r. inr (r.0, r.1, same b low ∙ r.2)) (s.else b low);
+  zero = λ r. same 0 (let some = busy_cycles_some p (pool_at p q) in let e = s.enough in omega arith) ∙ s.zero r;
 }
 
 module _ (p : BoardLayout) (v : View) (ws : List WriteView) (bs : List BlockView) where
@@ -56,7 +58,7 @@ module _ (p : BoardLayout) (v : View) (ws : List WriteView) (bs : List BlockView
     h.2,
   )
 
-module _ (p : BoardLayout) (plain : IsPlain p) where
+module _ (p : BoardLayout) (plain : IsPooledBoard p) where
   -- a link is of one pool
   pub one_pool : (q r l : ℕ) → q < length (pools_of p.shape) → r < length (pools_of p.shape) → Contains (pool_at p q).links l
       → Contains (pool_at p r).links l
@@ -84,7 +86,7 @@ module _ (p : BoardLayout) (plain : IsPlain p) where
       abbrev pool : ℕ
       pool = get_or pools k 0
 
-      was : MayWrite p v pool
+      was : MayWriteOutput p v pool
       was = (may.0 k 0 low).0
 
       pub pool_in : pool < length (pools_of p.shape)
@@ -96,7 +98,7 @@ module _ (p : BoardLayout) (plain : IsPlain p) where
       same_cycle : (q : ℕ) → fill_cycle p w q ≡ fill_cycle p v q
       same_cycle q = ap (λ (x : View). fill_cycle p x q) so_far.same
 
-      pub may_write : MayWrite p w pool
+      pub may_write : MayWriteOutput p w pool
       may_write = record {
         has = (
           pool_in,
@@ -113,8 +115,8 @@ module _ (p : BoardLayout) (plain : IsPlain p) where
       left : IsLeft p v old pool w new
       left = so_far.other_pools pool pool_in (early_differs pools k may.1 low)
 
-      pub has_stock : Stock p w pool (fill_cycle p w pool) (queue_of new pool)
-      has_stock = subst (λ (x : ℕ × Queue). Stock p w pool x.0 x.1) (λ i. (sym (same_cycle pool) i, sym left.0 i))
+      pub has_stock : FreeBlocks p w pool (fill_cycle p w pool) (queue_of new pool)
+      has_stock = subst (λ (x : ℕ × Queue). FreeBlocks p w pool x.0 x.1) (λ i. (sym (same_cycle pool) i, sym left.0 i))
           (stock_moves p v w pool (fill_cycle p v pool) (queue_of old pool) left.1 (may.0 k 0 low).1)
 
       pub free_at : length new ≡ length (pools_of p.shape) → (x : Queue) → get_or new pool x ≡ queue_of new pool
@@ -123,7 +125,7 @@ module _ (p : BoardLayout) (plain : IsPlain p) where
       pub still_puts : (samples : List ℤ) → Puts p v samples pool → Puts p w samples pool
       still_puts samples g = g ∙ sym (ap (λ (x : View). samples_in p x.expect (fill_cycle p x pool) pool) so_far.same)
 
-      module _ (u : View) (x : Queue) (written : HasWritten p w pool u) (stock : Stock p u pool (fill_cycle p w pool + 1) x)
+      module _ (u : View) (x : Queue) (written : HasWrittenOutput p w pool u) (stock : FreeBlocks p u pool (fill_cycle p w pool + 1) x)
           (long : length new ≡ length (pools_of p.shape)) where
         abbrev newer : List Queue
         newer = set new pool x
@@ -145,11 +147,11 @@ module _ (p : BoardLayout) (plain : IsPlain p) where
               (written.even l (subst (λ i. Contains (pool_at p i).links l) (sym e) of_q))))
               (take_cases pools k q low c);
           stocks = λ q c. ⊎_elim
-              (λ done. let h = early q done in subst (Stock p u q (fill_cycle p v q + 1)) (sym (other q h.1))
+              (λ done. let h = early q done in subst (FreeBlocks p u q (fill_cycle p v q + 1)) (sym (other q h.1))
               (stock_moves p w u q (fill_cycle p v q + 1) (queue_of new q) (λ b lt. written.other_pools q b h.0 lt h.1)
               (so_far.stocks q done)))
-              (λ (e : pool ≡ q). subst (λ i. Stock p u i (fill_cycle p v i + 1) (queue_of newer i)) e
-              (subst (λ (y : ℕ × Queue). Stock p u pool (y.0 + 1) y.1)
+              (λ (e : pool ≡ q). subst (λ i. FreeBlocks p u i (fill_cycle p v i + 1) (queue_of newer i)) e
+              (subst (λ (y : ℕ × Queue). FreeBlocks p u pool (y.0 + 1) y.1)
               (λ i. (
                 same_cycle pool i,
                 sym (get_or-set_same new pool x (record { free = []; blocks = 0 })

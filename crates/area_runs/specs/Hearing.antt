@@ -1,23 +1,26 @@
 -- The turn of a node on the links that it reads. `is_driver` is true for the driver's seat.
 -- Source: PipeWire's documentation, "SPA Buffers"; the calls are this project's own.
-use Rattle.std.specs.Prelude.{◌≡◌, ◌≢◌, ℕ, ℤ, ◌+◌, Bool, List, All, AllPairs, Contains, length}
+use Rattle.std.specs.Prelude.{◌≡◌, ◌≢◌, ℕ, ℤ, ◌+◌, Bool, cond, List, All, AllPairs, Contains, length}
 use Rattle.board_rule.specs.declared.view.View.{View}
 use Rattle.board_rule.specs.Layout.{BoardLayout}
-use Rattle.board_rule.specs.SampleWords.{samples_in}
-use Rattle.board_rule.specs.EndViews.{read_of, pool_of}
+use Rattle.board_rule.specs.EndViews.{read_of, link_at, pool_of}
 use Rattle.board_rule.specs.ReaderSteps.{read_cycle}
 use Rattle.io_areas.specs.Quanta.{quantum_of}
-use Rattle.area_turns.specs.Ends.{IsReadUpTo}
-use Rattle.area_turns.specs.Hearing.{MayHear}
+use Rattle.io_areas.specs.Ends.{IsReadUpTo}
+use Rattle.io_areas.specs.Reading.{brought}
+use Rattle.io_areas.specs.InputTurn.{MayReadInput}
 
 -- none of the links is touched in this cycle, and none stands there twice
 abbrev pub MayHearAll : Bool → BoardLayout → View → List ℕ → Type 0
-MayHearAll is_driver p v links = All (MayHear is_driver p v) links × AllPairs (λ k l. k ≢ l) links
+MayHearAll is_driver p v links = All (MayReadInput is_driver p v) links × AllPairs (λ k l. k ≢ l) links
 
--- the pool of each link gives these samples, one quantum, in this cycle
-abbrev pub Gives : Bool → BoardLayout → View → List ℤ → ℕ → Type 0
-Gives is_driver p v samples l = (length samples ≡ quantum_of p (pool_of p l))
-    × (samples ≡ samples_in p v.expect (read_cycle is_driver p v l) (pool_of p l))
+-- a link brings `now`, what pools give in this cycle, or `before`, what they gave in the cycle before, if it is delayed
+abbrev pub expected_of : BoardLayout → List ℤ → List ℤ → ℕ → List ℤ
+expected_of p now before l = cond (link_at p l).delayed before now
+
+abbrev pub Gives : Bool → BoardLayout → View → List ℤ → List ℤ → ℕ → Type 0
+Gives is_driver p v now before l = (length now ≡ quantum_of p (pool_of p l)) × (length before ≡ length now)
+    × (brought is_driver p v l ≡ expected_of p now before l)
 
 -- from the view v to the view w, each of the links is taken, read and given back; no other is touched
 pub record AreHeard (is_driver : Bool) (p : BoardLayout) (v : View) (links : List ℕ) (w : View) : Type 0 where

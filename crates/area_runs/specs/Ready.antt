@@ -22,7 +22,7 @@ pub record IsReady (p : BoardLayout) (t : TableId) (w : Worker) : Type 0 where
   pub table : w.seat.table ≡ t
   pub equipped : IsEquipped p w.seat.knows w.shapes w.free.items w.samples
   pub rests : All (λ e. (e ≡ ends_of p.shape e.node) × IsAtRest p w.seat.knows w.free.items (p.index e.node)) w.nodes
-  pub long : length w.room.items ≡ length w.samples
+  pub long : length w.room.items ≡ length w.samples.even
 
 -- the same by its board
 abbrev pub IsReadyOn : Board → Worker → Type 0
@@ -57,7 +57,7 @@ abbrev pub HasLed : BoardLayout → DriverLoop → Tried → DriverLoop → Type
 HasLed p old Ended new = ⊥
 HasLed p old (NotYet found) new =
     (found ≢ triggered_word old.seat.knows.lead.cycle) × (new.seat.knows ≡ tried p old.seat.knows p.driver found)
-HasLed p old (Ran heard) new = (heard ≡ true) × HasConcluded old new
+HasLed p old (Ran heard) new = (heard ≡ true) × HasConcluded p old new
 
 -- whether the driver's node waits after it
 abbrev pub still_waits : Tried → Bool

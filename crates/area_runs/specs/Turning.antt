@@ -12,18 +12,19 @@ use Rattle.board_rule.specs.SeatNodes.{HasNode}
 use Rattle.buffer_pool.specs.Queue.{Queue}
 use Rattle.activation_words.specs.Calls.{IsAwake}
 use Rattle.activation_words.specs.Members.{IsResting}
-use Rattle.area_turns.specs.Plain.{IsPlain}
-use Rattle.area_turns.specs.Ends.{IsWrittenUpTo, IsReadUpTo}
-use Rattle.area_turns.specs.Stock.{Stock}
+use Rattle.io_areas.specs.PooledBoard.{IsPooledBoard}
+use Rattle.io_areas.specs.Ends.{IsWrittenUpTo, IsReadUpTo}
+use Rattle.io_areas.specs.FreeBlocks.{FreeBlocks}
 use Rattle.area_runs.specs.declared.node_ends.NodeEnds.{NodeEnds}
+use Rattle.area_runs.specs.declared.quanta.Quanta.{Quanta}
 use Rattle.area_runs.specs.Ends.{ends_of}
 use Rattle.area_runs.specs.Steady.{IsSteady}
 use Rattle.area_runs.specs.Writing.{queue_of}
 
 -- what a loop has beside its nodes: the pools of the shape, room for their blocks, the free ones of each, the samples
 pub record IsEquipped (p : BoardLayout) (v : View) (shapes : List PoolShape) (free : List Queue)
-    (samples : List ℤ) : Type 0 where
-  pub plain : IsPlain p
+    (samples : Quanta) : Type 0 where
+  pub plain : IsPooledBoard p
   pub shapes_are : shapes ≡ pools_of p.shape
   pub lists : length free ≡ length shapes
   pub blocks : (q : ℕ) → q < length (pools_of p.shape) → block_at p q (pool_at p q).blocks ≤ length v.blocks
@@ -34,7 +35,7 @@ pub record IsEquipped (p : BoardLayout) (v : View) (shapes : List PoolShape) (fr
 pub record AreEven (p : BoardLayout) (v : View) (free : List Queue) (m c : ℕ) : Type 0 where
   pub reads : (l : ℕ) → l < length p.shape.links → reader_of p l ≡ m → IsReadUpTo v l c
   pub writes : (l : ℕ) → l < length p.shape.links → writer_of p l ≡ m → IsWrittenUpTo v l c
-  pub stocks : (q : ℕ) → q < length (pools_of p.shape) → filler_of p q ≡ m → Stock p v q c (queue_of free q)
+  pub stocks : (q : ℕ) → q < length (pools_of p.shape) → filler_of p q ≡ m → FreeBlocks p v q c (queue_of free q)
 
 -- the node waits for its next cycle
 abbrev pub IsAtRest : BoardLayout → View → List Queue → ℕ → Type 0

@@ -8,9 +8,9 @@ use Rattle.board_rule.specs.SampleWords.{samples_in}
 use Rattle.board_rule.specs.EndViews.{pool_at, write_of, block_of}
 use Rattle.board_rule.specs.BlockSteps.{fill_cycle}
 use Rattle.buffer_pool.specs.Queue.{Queue}
-use Rattle.area_turns.specs.Ends.{IsWrittenUpTo}
-use Rattle.area_turns.specs.Stock.{Stock}
-use Rattle.area_turns.specs.Writing.{MayWrite}
+use Rattle.io_areas.specs.Ends.{IsWrittenUpTo}
+use Rattle.io_areas.specs.FreeBlocks.{FreeBlocks}
+use Rattle.io_areas.specs.OutputTurn.{MayWriteOutput}
 
 -- the list of the free blocks of a pool, by the pool's number
 abbrev pub queue_of : List Queue → ℕ → Queue
@@ -18,7 +18,7 @@ queue_of free q = slice_index_or free q (record { free = []; blocks = 0 })
 
 -- the node works, has touched no link of the pool in this cycle, and its blocks are at rest
 abbrev pub MayFill : BoardLayout → View → List Queue → ℕ → Type 0
-MayFill p v free q = MayWrite p v q × Stock p v q (fill_cycle p v q) (queue_of free q)
+MayFill p v free q = MayWriteOutput p v q × FreeBlocks p v q (fill_cycle p v q) (queue_of free q)
 
 abbrev pub MayFillAll : BoardLayout → View → List Queue → List ℕ → Type 0
 MayFillAll p v free pools = All (MayFill p v free) pools × AllPairs (λ q r. q ≢ r) pools
@@ -42,7 +42,7 @@ pub record AreWritten (p : BoardLayout) (v : View) (old : List Queue) (pools : L
   pub lists : length new ≡ length old
   pub even : (q l : ℕ) → Contains pools q → Contains (pool_at p q).links l
       → IsWrittenUpTo w l (fill_cycle p v q + 1)
-  pub stocks : (q : ℕ) → Contains pools q → Stock p w q (fill_cycle p v q + 1) (queue_of new q)
+  pub stocks : (q : ℕ) → Contains pools q → FreeBlocks p w q (fill_cycle p v q + 1) (queue_of new q)
   pub other_links : (l : ℕ) → ((q : ℕ) → Contains pools q → Contains (pool_at p q).links l → ⊥)
       → write_of w l ≡ write_of v l
   pub other_pools : (r : ℕ) → r < length (pools_of p.shape) → (Contains pools r → ⊥)

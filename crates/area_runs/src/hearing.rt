@@ -1,12 +1,12 @@
 //! The turn of a node on all links that it reads.
 ghost use Rattle.board_rule.specs.OnBoard.{IsOn, layout};
 ghost use Rattle.std.specs.Prelude.{◌≡◌, ◌<◌, ◌↔◌, All, length, IsTrue};
-ghost use Rattle.area_turns.specs.Plain.{IsPlain};
-ghost use Rattle.area_turns.specs.Hearing.{MayHear, HasHeard};
-ghost use Rattle.area_runs.specs.Hearing.{MayHearAll, Gives, AreHeard};
+ghost use Rattle.io_areas.specs.InputTurn.{MayReadInput, HasReadInput};
+ghost use Rattle.io_areas.specs.OutputAnswer.{last_of};
+ghost use Rattle.area_runs.specs.Hearing.{MayHearAll, expected_of, Gives, AreHeard};
 
-use area_turns::hear;
 use board_rule::{Board, BoardSeat};
+use io_areas::read_input;
 
 // Whether two quanta are the same. It looks at all samples, so that many are compared at once.
 fn are_same(a: &[i16], b: &[i16]) -> bool
@@ -20,52 +20,66 @@ fn are_same(a: &[i16], b: &[i16]) -> bool
     same
 }
 
-// One link is heard: whether it gave the samples.
+// What a link brings: `before` if it is delayed.
+fn expected<'a>(board: &Board, link: u32, now: &'a [i16], before: &'a [i16]) -> &'a [i16]
+    requires { link < length board.now.board_shape.shape.links }
+    ensures { result.now ≡ expected_of (layout board.now) now.now before.now link }
+{
+    if board.shape().links.as_slice()[link as usize].delayed {
+        before
+    } else {
+        now
+    }
+}
+
+// One link is heard: whether it brought what it should.
 fn hears<S: BoardSeat>(
     board: &Board,
     seat: &mut S,
     link: u32,
-    samples: &[i16],
+    now: &[i16],
+    before: &[i16],
     room: &mut [i16],
 ) -> bool
-    requires plain { IsPlain (layout board.now) }
     requires table { IsOn board.now (S.table seat.old) }
-    requires phase { MayHear S.is_driver (layout board.now) (S.knows seat.old) link }
-    requires gives { Gives S.is_driver (layout board.now) (S.knows seat.old) samples.now link }
-    requires long { length room.old ≡ length samples.now }
+    requires phase { MayReadInput S.is_driver (layout board.now) (S.knows seat.old) link }
+    requires gives { Gives S.is_driver (layout board.now) (S.knows seat.old) now.now before.now link }
+    requires long { length room.old ≡ length now.now }
     ensures table { S.table seat.new ≡ S.table seat.old }
     ensures knows { let p = layout board.now in
-        HasHeard S.is_driver p (S.knows seat.old) link (S.knows seat.new) }
-    ensures room { room.new ≡ samples.now }
+        HasReadInput S.is_driver p (S.knows seat.old) link (S.knows seat.new) }
+    ensures room { room.new ≡ expected_of (layout board.now) now.now before.now link }
     ensures samples { IsTrue result }
 {
-    hear(board, seat, link, room);
-    are_same(room, samples)
+    read_input(board, seat, link, room);
+    are_same(room, expected(board, link, now, before))
 }
 
-/// The node that works hears each of its links, in `room` for one quantum: whether all gave the samples.
+/// The node that works hears each of its links, in `room` for one quantum: whether all brought what they should. `now` is
+/// what pools give in this cycle, `before` what they gave in the cycle before.
 pub(crate) fn hear_all<S: BoardSeat>(
     board: &Board,
     seat: &mut S,
     links: &[u32],
-    samples: &[i16],
+    now: &[i16],
+    before: &[i16],
     room: &mut [i16],
 ) -> bool
-    requires plain { IsPlain (layout board.now) }
     requires table { IsOn board.now (S.table seat.old) }
     requires phase { MayHearAll S.is_driver (layout board.now) (S.knows seat.old) links.now }
     requires gives { let p = layout board.now in
-        All (Gives S.is_driver p (S.knows seat.old) samples.now) links.now }
-    requires long { length room.old ≡ length samples.now }
+        All (Gives S.is_driver p (S.knows seat.old) now.now before.now) links.now }
+    requires long { (length room.old ≡ length now.now) × (length before.now ≡ length now.now) }
     ensures table { S.table seat.new ≡ S.table seat.old }
     ensures knows { let p = layout board.now in
         AreHeard S.is_driver p (S.knows seat.old) links.now (S.knows seat.new) }
-    ensures room { 0 < length links.now → room.new ≡ samples.now }
+    ensures room { 0 < length links.now
+        → room.new ≡ expected_of (layout board.now) now.now before.now (last_of links.now) }
     ensures samples { IsTrue result }
 {
     let mut heard = true;
     for link in links {
-        heard = hears(board, seat, *link, samples, room) && heard;
+        heard = hears(board, seat, *link, now, before, room) && heard;
     }
     heard
 }

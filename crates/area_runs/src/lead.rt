@@ -8,18 +8,19 @@ ghost use Rattle.area_runs.specs.Leading.{MayLead, HasConcluded};
 ghost use Rattle.area_runs.specs.Closing.{IsClosed};
 
 use crate::hearing::hear_all;
+use crate::quanta::Quanta;
 use crate::tried::Tried;
 use activation_words::{Claim, begin, check_late, claim_driver, end, finish, start};
 use board_rule::{Board, BoardSeat, Closed, DriverSeat};
 use pw_base::Items;
 
-/// The driver's loop of a board: its seat, the links that the driver's node reads, the samples that every pool gives in
-/// every cycle, and room for one quantum.
+/// The driver's loop of a board: its seat, the links that the driver's node reads, what every pool gives in every
+/// cycle, and room for one quantum.
 #[derive(Drop)]
 pub struct DriverLoop {
     pub(crate) seat: DriverSeat,
     pub(crate) reads: Items<u32>,
-    pub(crate) samples: Items<i16>,
+    pub(crate) samples: Quanta,
     pub(crate) room: Vec<i16>,
 }
 
@@ -64,15 +65,17 @@ impl DriverLoop {
             MayLead (layout board.now) id self.old }
         ensures ready { IsLeadReadyOn board.now self.new false }
         ensures heard { result ≡ true }
-        ensures concluded { HasConcluded self.old self.new }
+        ensures concluded { HasConcluded (layout board.now) self.old self.new }
     {
         let driver = board.shape().driver;
+        let past = self.seat.ended(board, driver);
         start(board, &mut self.seat, driver);
         let heard = hear_all(
             board,
             &mut self.seat,
             self.reads.as_slice(),
-            self.samples.as_slice(),
+            self.samples.given_in(past),
+            self.samples.given_before(past),
             self.room.as_mut_slice(),
         );
         finish(board, &mut self.seat, driver);

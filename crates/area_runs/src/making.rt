@@ -3,25 +3,29 @@ ghost use Rattle.std.specs.Prelude.{◌≡◌, ◌≢◌, ◌↔◌, ℕ, ◌≤
 ghost use Rattle.pw_base.specs.Dependencies.{nodes_of};
 ghost use Rattle.pw_base.specs.Pools.{pools_of, IsPooledShape};
 ghost use Rattle.board_rule.specs.Layout.{layout_of, HasSeats};
-ghost use Rattle.area_runs.specs.Making.{fresh_queue, HasNodesOf, IsMade, AreMade};
+ghost use Rattle.io_areas.specs.FreeBlocks.{free_at_start};
+ghost use Rattle.area_runs.specs.Steady.{quanta_of};
+ghost use Rattle.area_runs.specs.Making.{HasNodesOf, IsMade, AreMade};
 ghost use Rattle.area_runs.specs.Opening.{board_shape_of};
 
 use crate::node_ends::{NodeEnds, ends_of};
 use crate::openable::index_of;
+use crate::quanta::quanta_of;
 use crate::worker::Worker;
 use board_rule::LoopSeat;
 use buffer_pool::Pool;
+use io_areas::free_at_start;
 use pw_base::{Items, Memory, PoolShape, Shape, pools_of};
 use std::alloc::Global;
 
 // The free blocks of each pool.
-fn free_of(alloc: Global, pools: &[PoolShape]) -> Result<Items<Pool>, Memory>
+fn free_of(alloc: Global, shape: &Shape, pools: &[PoolShape]) -> Result<Items<Pool>, Memory>
     requires { All (λ x. (1 ≤ x.blocks) × (x.blocks ≤ 8)) pools.now }
-    ensures { IfOk result (λ free. free ≡ map fresh_queue pools.now) }
+    ensures { IfOk result (λ free. free ≡ map (free_at_start shape.now) pools.now) }
 {
     let mut free = Items::new(alloc);
     for pool in pools {
-        free.push(Pool::new(alloc, pool.blocks)?)?;
+        free.push(free_at_start(alloc, shape, pool)?)?;
     }
     Ok(free)
 }
@@ -73,24 +77,25 @@ fn worker_of(
     seat_of: &[u32],
     k: u32,
     seat: LoopSeat,
-    samples: &[i16],
+    even: &[i16],
+    odd: &[i16],
 ) -> Result<Worker, Memory>
     requires pooled { IsPooledShape shape.now }
     requires seats { length seat_of.now ≡ length shape.now.nodes }
     requires blocks { All (λ x. (1 ≤ x.blocks) × (x.blocks ≤ 8)) (pools_of shape.now) }
     ensures { IfOk result (λ w. (seats : ℕ) →
-        IsMade (board_shape_of shape.now seat_of.now seats) samples.now k seat w) }
+        IsMade (board_shape_of shape.now seat_of.now seats) (quanta_of even.now odd.now) k seat w) }
 {
     let shapes = pools_of(alloc, shape)?;
     let nodes = nodes_of(alloc, shape, shapes.as_slice(), seat_of, k)?;
-    let free = free_of(alloc, shapes.as_slice())?.into_vec();
+    let free = free_of(alloc, shape, shapes.as_slice())?.into_vec();
     Ok(Worker {
         seat,
         nodes,
         shapes,
         free,
-        samples: Items::from_slice(alloc, samples)?,
-        room: Items::filled(alloc, samples.len(), 0)?.into_vec(),
+        samples: quanta_of(alloc, even, odd)?,
+        room: Items::filled(alloc, even.len(), 0)?.into_vec(),
     })
 }
 
@@ -100,19 +105,20 @@ pub(crate) fn workers_of(
     shape: &Shape,
     seat_of: &[u32],
     loops: Items<LoopSeat>,
-    samples: &[i16],
+    even: &[i16],
+    odd: &[i16],
 ) -> Result<Items<Worker>, Memory>
     requires pooled { IsPooledShape shape.now }
     requires seats { length seat_of.now ≡ length shape.now.nodes }
     requires blocks { All (λ x. (1 ≤ x.blocks) × (x.blocks ≤ 8)) (pools_of shape.now) }
     requires few { length loops < 4294967296 }
     ensures { IfOk result (λ workers. (seats : ℕ) →
-        AreMade (board_shape_of shape.now seat_of.now seats) samples.now loops workers) }
+        AreMade (board_shape_of shape.now seat_of.now seats) (quanta_of even.now odd.now) loops workers) }
 {
     let mut workers = Items::new(alloc);
     let mut k = 0;
     for seat in loops.into_vec() {
-        workers.push(worker_of(alloc, shape, seat_of, k, seat, samples)?)?;
+        workers.push(worker_of(alloc, shape, seat_of, k, seat, even, odd)?)?;
         k += 1;
     }
     Ok(workers)

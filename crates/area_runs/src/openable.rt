@@ -2,17 +2,10 @@
 ghost use Rattle.std.specs.Prelude.{◌≡◌, ◌==◌, ◌≤◌, ◌<◌, IsTrue, ◌↔◌, All, length};
 ghost use Rattle.std.specs.List.{position};
 ghost use Rattle.pw_base.specs.Pools.{pools_of};
-ghost use Rattle.board_rule.specs.Layout.{IsUndelayed, HasSeats, index_in};
+ghost use Rattle.board_rule.specs.Layout.{HasSeats, index_in};
 ghost use Rattle.area_runs.specs.Opening.{board_shape_of, IsFit};
 
 use pw_base::{PoolShape, Shape};
-
-/// Whether no link is delayed.
-pub(crate) fn is_undelayed(shape: &Shape) -> bool
-    ensures { IsTrue result ↔ IsUndelayed shape.now }
-{
-    shape.links.as_slice().iter().all(|l| !l.delayed)
-}
 
 // The index of a node, if the shape has it.
 fn find_index(shape: &Shape, node: u32) -> Option<usize>

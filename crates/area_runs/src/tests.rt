@@ -1,17 +1,19 @@
 //! The words of a cycle and the events of an epoch by one thread, and a thousand cycles by three and by four.
-ghost use Rattle.std.specs.Prelude.{◌≡◌, ◌<◌, ◌≤◌, true, false, IfOk, IfSome, IsNone, Some, length, slice_get};
+ghost use Rattle.std.specs.Prelude.{◌≡◌, ◌<◌, ◌≤◌, true, false, IfOk, IfSome, IsNone, IsTrue, Some, length, slice_get};
 ghost use Rattle.area_runs.specs.Ready.{IsReadyOn, IsLeadReadyOn};
-ghost use Rattle.area_runs.specs.Shapes.{fan, row};
+ghost use Rattle.area_runs.specs.Shapes.{fan, late_fan, row};
 
-use crate::{DriverLoop, Run, Tried, Worker, fan, opened, row};
+use crate::{DriverLoop, Run, Tried, Worker, fan, late_fan, opened, row};
 use board_rule::Board;
-use pw_base::{Epoch, Event, Items, Memory, is_legal_history};
+use pw_base::{Epoch, Event, Items, Memory, Shape, is_legal_history};
 use std::alloc::Global;
 use std::sync::Wait;
 use std::test::Fail;
 use std::thread::{Threads, join};
 
-const SAMPLES: [i16; 4] = [1, -1, 2, -2];
+const EVEN: [i16; 4] = [1, -1, 2, -2];
+
+const ODD: [i16; 4] = [3, -3, 4, -4];
 
 // Three loops, in their order.
 fn three(workers: Items<Worker>) -> Option<(Worker, Worker, Worker)>
@@ -39,20 +41,19 @@ fn both(workers: Items<Worker>) -> Option<(Worker, Worker)>
     Some((first, second))
 }
 
-// A fan, whose three followers have a loop each, in their order.
-fn open_fan(
+// A board whose followers have a loop each, in their order.
+fn open_three(
     alloc: Global,
-    cycles: u32,
+    shape: &Shape,
 ) -> Result<Option<(Board, DriverLoop, (Worker, Worker, Worker))>, Memory>
-    ensures shape { IfOk result (λ o. IfSome o (λ t. t.0.board_shape.shape ≡ fan 4 1 cycles)) }
+    ensures shape { IfOk result (λ o. IfSome o (λ t. t.0.board_shape.shape ≡ shape.now)) }
     ensures lead { IfOk result (λ o. IfSome o (λ t. IsLeadReadyOn t.0 t.1 false)) }
     ensures first { IfOk result (λ o. IfSome o (λ t. IsReadyOn t.0 t.2.0)) }
     ensures second { IfOk result (λ o. IfSome o (λ t. IsReadyOn t.0 t.2.1)) }
     ensures third { IfOk result (λ o. IfSome o (λ t. IsReadyOn t.0 t.2.2)) }
 {
-    let shape = fan(alloc, 4, 1, cycles)?;
     let seat_of = Items::from_slice(alloc, &[0, 1, 2, 0])?;
-    let Some(run) = opened(alloc, &shape, &seat_of, 3, &SAMPLES)? else {
+    let Some(run) = opened(alloc, shape, &seat_of, 3, &EVEN, &ODD)? else {
         return Ok(None);
     };
     let Run {
@@ -78,7 +79,7 @@ fn open_row(
 {
     let shape = row(alloc, cycles)?;
     let seat_of = Items::from_slice(alloc, &[0, 1, 0, 0])?;
-    let Some(run) = opened(alloc, &shape, &seat_of, 2, &SAMPLES)? else {
+    let Some(run) = opened(alloc, &shape, &seat_of, 2, &EVEN, &ODD)? else {
         return Ok(None);
     };
     let Run {
@@ -136,7 +137,11 @@ fn try_at(board: &Board, worker: &mut Worker, at: usize) -> Tried
 
 #[test]
 fn nodes_with_links_take_each_other_down(rt: HostRuntime) -> Result<(), Fail> {
-    let Some((board, mut lead, (mut source, mut one, mut two))) = open_fan(rt.alloc(), 2)? else {
+    let Some((board, mut lead, (mut source, mut one, mut two))) = open_three(
+        rt.alloc(),
+        &fan(rt.alloc(), 4, 1, 2)?,
+    )?
+    else {
         panic!(rt; "the fan is not sound")
     };
     if !lead.begin_next(&board) {
@@ -171,7 +176,11 @@ fn begin_and_write(board: &Board, lead: &mut DriverLoop, source: &mut Worker) ->
 
 #[test]
 fn three_readers_count_down(rt: HostRuntime) -> Result<(), Fail> {
-    let Some((board, mut lead, (mut source, mut one, mut two))) = open_fan(rt.alloc(), 2)? else {
+    let Some((board, mut lead, (mut source, mut one, mut two))) = open_three(
+        rt.alloc(),
+        &fan(rt.alloc(), 4, 1, 2)?,
+    )?
+    else {
         panic!(rt; "the fan is not sound")
     };
     assert!(rt; is_at(&board, 18446744069414584321, 0, 0));
@@ -187,13 +196,105 @@ fn three_readers_count_down(rt: HostRuntime) -> Result<(), Fail> {
     let Tried::Ran { heard: true } = lead.try_node(&board) else {
         panic!(rt; "the driver did not hear the samples")
     };
-    assert_eq!(rt; lead.last_read(), SAMPLES.as_slice());
+    assert_eq!(rt; lead.last_read(), EVEN.as_slice());
     assert!(rt; is_at(&board, 1, 0, 18446181136640966657));
     let Some(second) = begin_and_write(&board, &mut lead, &mut source) else {
         panic!(rt; "no cycle began")
     };
     assert!(rt; second == Tried::Ran { heard: true });
     assert!(rt; is_at(&board, 4294967298, 0, 18446181136640966657));
+    Ok(())
+}
+
+// A word of a board for a late fan of three cycles.
+fn late_word(board: &Board, at: usize) -> u64
+    requires shape { board.now.board_shape.shape ≡ late_fan 3 }
+    requires inside { at < 53 }
+{
+    board.peek(at)
+}
+
+// The two areas of the delayed link, and the readers and the sample word of block 0.
+fn is_late_at(board: &Board, areas: [u64; 2], readers: u64, samples: u64) -> bool
+    requires shape { board.now.board_shape.shape ≡ late_fan 3 }
+{
+    late_word(board, 10) == areas[0]
+        && late_word(board, 11) == areas[1]
+        && late_word(board, 49) == readers
+        && late_word(board, 50) == samples
+}
+
+// The words after the source ran in a cycle, and after node 2 ran.
+#[derive(Drop)]
+struct LateCycle {
+    written: ([u64; 2], u64, u64),
+    read: ([u64; 2], u64, u64),
+}
+
+// NEED_DATA without a block; NEED_DATA and HAVE_DATA with block 1. With block 0 they are 1 and 2.
+const NO_BLOCK: u64 = 18446744069414584321;
+
+const NEED_1: u64 = 4294967297;
+
+const HAVE_1: u64 = 4294967298;
+// The samples of the odd cycles in a word.
+const ODD_WORD: u64 = 18445618195277348867;
+
+// One cycle: the source, node 2, node 1 and the driver, with the words on the way.
+fn has_late_cycle(
+    board: &Board,
+    lead: &mut DriverLoop,
+    loops: &mut (Worker, Worker, Worker),
+    words: &LateCycle,
+) -> bool
+    requires shape { board.now.board_shape.shape ≡ late_fan 3 }
+    requires lead { IsLeadReadyOn board.now lead.old false }
+    requires first { IsReadyOn board.now loops.old.0 }
+    requires second { IsReadyOn board.now loops.old.1 }
+    requires third { IsReadyOn board.now loops.old.2 }
+    ensures lead { IsTrue result → IsLeadReadyOn board.now lead.new false }
+    ensures first { IsReadyOn board.now loops.new.0 }
+    ensures second { IsReadyOn board.now loops.new.1 }
+    ensures third { IsReadyOn board.now loops.new.2 }
+{
+    if !lead.begin_next(board) {
+        return false;
+    }
+    let wrote = try_at(board, &mut loops.0, 0) == Tried::Ran { heard: true };
+    let written = is_late_at(board, words.written.0, words.written.1, words.written.2);
+    let took = try_at(board, &mut loops.2, 0) == Tried::Ran { heard: true };
+    let read = is_late_at(board, words.read.0, words.read.1, words.read.2);
+    let other = try_at(board, &mut loops.1, 0) == Tried::Ran { heard: true };
+    match lead.try_node(board) {
+        Tried::Ran { heard } => heard && wrote && written && took && read && other,
+        _ => false,
+    }
+}
+
+#[test]
+fn a_delayed_link_has_two_areas(rt: HostRuntime) -> Result<(), Fail> {
+    let shape = late_fan(rt.alloc(), 3)?;
+    let Some((board, mut lead, mut loops)) = open_three(rt.alloc(), &shape)? else {
+        panic!(rt; "the late fan is not sound")
+    };
+    assert!(rt; is_late_at(&board, [2, NO_BLOCK], 1, 0));
+    let cycles = [
+        LateCycle {
+            written: ([2, HAVE_1], 1, 0),
+            read: ([1, HAVE_1], 0, 0),
+        },
+        LateCycle {
+            written: ([2, HAVE_1], 3, ODD_WORD),
+            read: ([2, NEED_1], 3, ODD_WORD),
+        },
+        LateCycle {
+            written: ([2, HAVE_1], 1, ODD_WORD),
+            read: ([1, HAVE_1], 0, ODD_WORD),
+        },
+    ];
+    assert!(rt; has_late_cycle(&board, &mut lead, &mut loops, &cycles[0]));
+    assert!(rt; has_late_cycle(&board, &mut lead, &mut loops, &cycles[1]));
+    assert!(rt; has_late_cycle(&board, &mut lead, &mut loops, &cycles[2]));
     Ok(())
 }
 
@@ -437,8 +538,21 @@ fn drive_beside<R: Threads + Wait + Sync>(
 
 #[test]
 fn three_threads_read_one_block(rt: HostRuntime) -> Result<(), Fail> {
-    let Some((board, lead, loops)) = open_fan(rt.alloc(), 1000)? else {
+    let Some((board, lead, loops)) = open_three(rt.alloc(), &fan(rt.alloc(), 4, 1, 1000)?)? else {
         panic!(rt; "the fan is not sound")
+    };
+    let (driver_and_source, readers) = run_fan(&rt, &board, lead, loops);
+    assert_eq!(rt; driver_and_source, (1000, (1000, 0)));
+    assert_eq!(rt; readers, ((1000, 0), (1000, 0)));
+    Ok(())
+}
+
+// Node 2 hears zeros, and then what was given in the cycle before; the others hear what is given in their cycle.
+#[test]
+fn a_late_reader_runs_a_thousand_cycles(rt: HostRuntime) -> Result<(), Fail> {
+    let shape = late_fan(rt.alloc(), 1000)?;
+    let Some((board, lead, loops)) = open_three(rt.alloc(), &shape)? else {
+        panic!(rt; "the late fan is not sound")
     };
     let (driver_and_source, readers) = run_fan(&rt, &board, lead, loops);
     assert_eq!(rt; driver_and_source, (1000, (1000, 0)));

@@ -5,36 +5,40 @@ ghost use Rattle.area_runs.specs.Turning.{IsEquipped, MayTurn, HasTurned};
 
 use crate::hearing::hear_all;
 use crate::node_ends::NodeEnds;
+use crate::quanta::Quanta;
 use crate::writing::write_all;
 use activation_words::{finish, start};
-use board_rule::{Board, LoopSeat};
+use board_rule::{Board, BoardSeat, LoopSeat};
 use buffer_pool::Pool;
 use pw_base::PoolShape;
 
 /// The node starts, hears each link that it reads, gives the samples in each pool that it fills, and finishes: whether
-/// each link gave the samples. `shapes` and `free` have all pools of the board, and `room` is one quantum.
+/// each link brought what it should. `shapes` and `free` have all pools of the board, and `room` is one quantum.
 pub(crate) fn take_turn(
     board: &Board,
     seat: &mut LoopSeat,
     ends: &NodeEnds,
     shapes: &[PoolShape],
     free: &mut [Pool],
-    samples: &[i16],
+    samples: &Quanta,
     room: &mut [i16],
 ) -> bool
     requires table { IsOn board.now seat.old.table }
     requires equipped { let p = layout board.now in
         IsEquipped p seat.old.knows shapes.now free.old samples.now }
     requires awake { MayTurn (layout board.now) seat.old.knows free.old ends.now }
-    requires long { length room.old ≡ length samples.now }
+    requires long { length room.old ≡ length samples.now.even }
     ensures table { seat.new.table ≡ seat.old.table }
     ensures turned { let p = layout board.now in
         HasTurned p seat.old.knows free.old (p.index ends.now.node) seat.new.knows free.new }
     ensures heard { IsTrue result }
 {
+    let past = seat.ended(board, ends.node);
+    let now = samples.given_in(past);
     start(board, seat, ends.node);
-    let heard = hear_all(board, seat, ends.reads.as_slice(), samples, room);
-    write_all(board, seat, ends.pools.as_slice(), shapes, free, samples);
+    let before = samples.given_before(past);
+    let heard = hear_all(board, seat, ends.reads.as_slice(), now, before, room);
+    write_all(board, seat, ends.pools.as_slice(), shapes, free, now);
     finish(board, seat, ends.node);
     heard
 }

@@ -4,6 +4,7 @@ ghost use Rattle.std.specs.Prelude.{◌≡◌, ◌<◌, length, slice_index};
 ghost use Rattle.area_runs.specs.Ready.{IsReadyOn, HasTried, node_at};
 
 use crate::node_ends::NodeEnds;
+use crate::quanta::Quanta;
 use crate::tried::Tried;
 use crate::turning::take_turn;
 use activation_words::{Claim, claim};
@@ -11,15 +12,15 @@ use board_rule::{Board, BoardSeat, LoopSeat};
 use buffer_pool::Pool;
 use pw_base::{Items, PoolShape};
 
-/// A loop of a board: its seat and its nodes, the pools of the shape with the free blocks of each, the samples that
-/// every pool gives in every cycle, and room for one quantum.
+/// A loop of a board: its seat and its nodes, the pools of the shape with the free blocks of each, what every pool
+/// gives in every cycle, and room for one quantum.
 #[derive(Drop)]
 pub struct Worker {
     pub(crate) seat: LoopSeat,
     pub(crate) nodes: Items<NodeEnds>,
     pub(crate) shapes: Items<PoolShape>,
     pub(crate) free: Vec<Pool>,
-    pub(crate) samples: Items<i16>,
+    pub(crate) samples: Quanta,
     pub(crate) room: Vec<i16>,
 }
 
@@ -54,7 +55,7 @@ impl Worker {
                     ends,
                     self.shapes.as_slice(),
                     self.free.as_mut_slice(),
-                    self.samples.as_slice(),
+                    &self.samples,
                     self.room.as_mut_slice(),
                 );
                 Tried::Ran { heard }

@@ -2,12 +2,12 @@
 ghost use Rattle.board_rule.specs.OnBoard.{IsOn, layout};
 ghost use Rattle.std.specs.Prelude.{◌≡◌, All, length};
 ghost use Rattle.pw_base.specs.Pools.{pools_of};
-ghost use Rattle.area_turns.specs.Plain.{IsPlain};
+ghost use Rattle.io_areas.specs.PooledBoard.{IsPooledBoard};
 ghost use Rattle.area_runs.specs.Writing.{MayFillAll, Puts, AreWritten};
 
-use area_turns::write;
 use board_rule::{Board, LoopSeat};
 use buffer_pool::Pool;
+use io_areas::write_output;
 use pw_base::PoolShape;
 
 /// The node that works gives the samples in each of its pools. `shapes` and `free` have all pools of the board's shape,
@@ -20,7 +20,7 @@ pub(crate) fn write_all(
     free: &mut [Pool],
     samples: &[i16],
 )
-    requires plain { IsPlain (layout board.now) }
+    requires plain { IsPooledBoard (layout board.now) }
     requires table { IsOn board.now seat.old.table }
     requires shapes { shapes.now ≡ pools_of board.now.board_shape.shape }
     requires lists { length free.old ≡ length shapes.now }
@@ -32,7 +32,7 @@ pub(crate) fn write_all(
 {
     for pool in pools {
         let links = shapes[*pool as usize].links.as_slice();
-        write(
+        write_output(
             board,
             seat,
             *pool,

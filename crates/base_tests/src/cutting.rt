@@ -1,7 +1,9 @@
 //! Pieces of a text, a name among names, the next node of an order, and ports and sinks.
 
 use crate::worked::link;
-use pw_base::{Items, Kind, NODES, PortId, find_free, is_same_port, is_sink, next_piece, place_of_name};
+use pw_base::{
+    Items, Kind, NODES, PortId, find_free, is_same_port, is_sink, next_piece, place_of_name,
+};
 use std::test::Fail;
 
 #[test]

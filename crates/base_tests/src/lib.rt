@@ -6,6 +6,8 @@
 #[cfg(test)]
 mod cutting;
 #[cfg(test)]
+mod meeting;
+#[cfg(test)]
 mod plans;
 #[cfg(test)]
 mod worked;

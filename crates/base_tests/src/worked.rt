@@ -1,9 +1,9 @@
 //! Worked shapes and histories, words, lists, and the objects in memory.
 
 use pw_base::{
-    AreaStatus, DUMMY, Epoch, Event, Every, FileFail, Files, Gate, Items, Kind, Loaded, Meet,
-    MemFiles, MemSink, Memory, NO_BLOCK, Never, Open, PortId, Shape, ShapeLink, ShapeNode, Sink,
-    ActivationStatus, SureFiles, SureSink, Ticker, Which, append_decimal, cycle_of, event_of, event_word,
+    ActivationStatus, AreaStatus, DUMMY, Epoch, Event, Every, FileFail, Files, Gate, Items, Kind,
+    Loaded, MemFiles, MemSink, Memory, NO_BLOCK, Never, Open, PortId, Shape, ShapeLink, ShapeNode,
+    Sink, SureFiles, SureSink, Ticker, Which, append_decimal, cycle_of, event_of, event_word,
     io_id_of, io_status_of, io_word, is_legal_history, is_pooled_shape, is_sound_shape, pools_of,
     status_of, status_word,
 };
@@ -167,6 +167,13 @@ fn unsound(alloc: Global, reason: u32) -> Result<Shape, Memory> {
         16 => more_link(alloc, link((2, 2), (3, 0))),
         17 => a_loop(alloc),
         18 => falling(alloc),
+        19 => more_link(
+            alloc,
+            ShapeLink {
+                delayed: true,
+                ..link((1, 1), (1, 2))
+            },
+        ),
         _ => more_link(alloc, link((9, 0), (1, 3))),
     }
 }
@@ -188,7 +195,7 @@ fn two_links_make_one_dependency(rt: HostRuntime) -> Result<(), Fail> {
             }
         )?)
     );
-    for reason in 0..20 {
+    for reason in 0..21 {
         assert!(rt;
             !is_sound_shape(&unsound(alloc, reason)?),
             "reason {reason}"
@@ -349,7 +356,8 @@ fn the_word_of_a_start(rt: HostRuntime) {
     let word = status_word(ActivationStatus::Finished.number(), 8);
     assert!(rt; word == 35 && status_of(word) == 3 && cycle_of(word) == 8);
     assert!(rt;
-        ActivationStatus::from_number(1) == Some(ActivationStatus::Triggered) && ActivationStatus::from_number(4) == None
+        ActivationStatus::from_number(1) == Some(ActivationStatus::Triggered)
+            && ActivationStatus::from_number(4) == None
     );
     assert!(rt;
         AreaStatus::from_number(2) == Some(AreaStatus::HaveData)
@@ -380,6 +388,7 @@ fn lists_grow_and_shrink(rt: HostRuntime) -> Result<(), Fail> {
     room.push_spare(3);
     assert!(rt; room.as_slice() == [1, 2, 3].as_slice() && room.spare() >= 2);
     assert!(rt; room.into_items().len() == 3 && numbers.len() == 2);
+    assert!(rt; Items::from_vec(numbers.into_vec()).as_slice() == [1, 2].as_slice());
     Ok(())
 }
 
@@ -412,6 +421,7 @@ fn files_in_memory_fail_where_told(rt: HostRuntime) -> Result<(), Fail> {
     files.add_file(alloc, &a, b"12")?;
     files.fail_load(alloc, 4)?;
     files.fail_store(alloc, 2, 1)?;
+    files.fail_store(alloc, 3, 9)?;
     assert!(rt;
         whole(files.load(alloc, &a, 2)).is_some_and(|bytes| bytes.as_slice() == b"12".as_slice())
     );
@@ -429,6 +439,13 @@ fn files_in_memory_fail_where_told(rt: HostRuntime) -> Result<(), Fail> {
         files
             .file(&b)
             .is_some_and(|bytes| bytes.as_slice() == b"345".as_slice())
+    );
+    // More than there is to keep is all of it.
+    assert!(rt; files.store(alloc, &a, b"90") == Err(FileFail::Failed));
+    assert!(rt;
+        files
+            .file(&a)
+            .is_some_and(|bytes| bytes.as_slice() == b"90".as_slice())
     );
     let mut sure = SureFiles::new(alloc)?;
     sure.add_file(alloc, &a, b"1")?;
@@ -448,19 +465,18 @@ fn outputs_in_memory_fail_where_told(rt: HostRuntime) -> Result<(), Fail> {
     let alloc = rt.alloc();
     let mut out = MemSink::new(alloc)?;
     out.fail_put(alloc, 2, 1)?;
+    out.fail_put(alloc, 4, 9)?;
     assert!(rt; out.put(alloc, b"ab") == Ok(()));
     assert!(rt; out.put(alloc, b"cd") == Err(FileFail::Failed));
     assert!(rt; out.put(alloc, b"e") == Ok(()));
-    assert!(rt; out.bytes().as_slice() == b"abce".as_slice());
+    assert!(rt; out.put(alloc, b"fg") == Err(FileFail::Failed));
+    assert!(rt; out.bytes().as_slice() == b"abcefg".as_slice());
     let mut sure = SureSink::new(alloc)?;
     assert!(rt; sure.put(alloc, b"f") == Ok(()) && sure.bytes().as_slice() == b"f".as_slice());
     assert!(rt; !Never::new().due());
     let mut every = Every::new(2);
     assert!(rt; !every.due() && every.due() && !every.due() && every.due());
     Open::new().enter(0, 0);
-    let meet = Meet::new(0, 1);
-    meet.enter(2, 0);
-    assert!(rt; !meet.met());
     let kind = Kind::Mix2 { ga: 1, gb: 1 };
     assert!(rt; kind.inputs() == 2 && kind.outputs() == 1 && kind.port_name(1) == b"b".as_slice());
     assert!(rt; Kind::Split.port_name(2) == b"right".as_slice() && Kind::Dummy.inputs() == 0);

@@ -71,7 +71,7 @@ fn run_all(board: &Board, mut lead: DriverLoop, mut worker: Worker) -> (u64, u64
 // there may be events.
 fn run_shape(alloc: Global, shape: &Shape) -> Result<Option<(u64, u64)>, Memory> {
     let seat_of = Items::filled(alloc, shape.nodes.len(), 0)?;
-    let Some(run) = opened(alloc, shape, &seat_of, 1, &[-12345])? else {
+    let Some(run) = opened(alloc, shape, &seat_of, 1, &[-12345], &[-12345])? else {
         return Ok(None);
     };
     let Run {

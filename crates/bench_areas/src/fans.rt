@@ -109,7 +109,15 @@ pub fn run_fan(
     let samples = Items::filled(alloc, count as usize, -12345)?;
     let shape = fan(alloc, quantum, channels, cycles)?;
     let seat_of = Items::from_slice(alloc, &[0, 1, 2, 0])?;
-    let Some(run) = opened(alloc, &shape, &seat_of, 3, samples.as_slice())? else {
+    let Some(run) = opened(
+        alloc,
+        &shape,
+        &seat_of,
+        3,
+        samples.as_slice(),
+        samples.as_slice(),
+    )?
+    else {
         return Ok(None);
     };
     let Run {

@@ -7,8 +7,8 @@ ghost use Rattle.pw_base.specs.Layout.{start_words, io_start, pool_words, pool_s
 
 use crate::steps::statuses::not_triggered;
 use pw_base::{
-    AreaStatus, Items, Memory, NO_BLOCK, PoolShape, PortId, Shape, ShapeLink, io_word, is_same_port,
-    pools_of,
+    AreaStatus, Items, Memory, NO_BLOCK, PoolShape, PortId, Shape, ShapeLink, io_word,
+    is_same_port, pools_of,
 };
 use std::alloc::Global;
 

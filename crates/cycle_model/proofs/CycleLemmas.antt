@@ -111,7 +111,7 @@ module _ (q : ℕ) (e : Epoch) (k : Kind) (wave : List ℤ) (node : ℕ) (r : Re
       (cases_eq a o)
 
 -- the kind function reads no stream of an input that the kind has not
-heard_same : (k : Kind) (wave : List ℤ) (frames channels : ℕ) (a b : List ℤ) (o : ℕ)
+pub heard_same : (k : Kind) (wave : List ℤ) (frames channels : ℕ) (a b : List ℤ) (o : ℕ)
     → kind_output k (record {
       wave = wave;
       frames = frames;
@@ -142,6 +142,40 @@ is_node plan port out high =
     let kind : kind_at plan port.node ≡ Dummy = no_node plan.nodes port.node high in
     let none : port.port < port_count Dummy = subst (λ k. port.port < port_count k) kind out.1 in
     absurd (omega (arith, none))
+
+-- the last quantum of the kind's function of all that an active node has received is what its output gives
+pub given_is : (plan : Plan) (waves : List WavIn) (c : ℕ) (e : Epoch) → IsRenderable plan waves → epoch_at plan c ≡ Some e → (node o : ℕ)
+    → takes_part e node ≡ true
+    → (given_by plan.quantum e (kind_at plan node) (wave_of waves node) node
+    (received_until plan (outputs plan waves) (suc c) node) o).samples
+    ≡ outputs plan waves c (record { node = node; port = input_count (kind_at plan node) + o })
+given_is plan waves c e renderable here node o on =
+    let out = outputs plan waves in
+    let k = kind_at plan node in
+    let port : PortId = record { node = node; port = input_count k + o } in
+    let channels : channels_at plan c port ≡ channels_of e.forms port = ap (λ o. channels_of (listed (λ e. e.forms) o) port) here in
+    let active : is_active plan c node ≡ true = active_in plan c e node here ∙ on in
+    let which : port.port - input_count k ≡ o = omega arith in
+    let cycles : suc c ≡ c + 1 - 0 = omega arith in
+    let ch = channels_of e.forms port in
+    let a = stream_of plan out c (record { node = node; port = 0 }) in
+    let b = stream_of plan out c (record { node = node; port = 1 }) in
+    let frames : plan.quantum * length (filter (λ k. is_active plan k node) (range_with_len 0 (suc c)))
+    ≡ plan.quantum * length (active_cycles plan 0 c node) =
+    ap (λ n. plan.quantum * length (filter (λ k. is_active plan k node) (range_with_len 0 n))) cycles in
+    ap (last_of (plan.quantum * ch))
+    (heard_same k (wave_of waves node) (plan.quantum * length (filter (λ k. is_active plan k node) (range_with_len 0 (suc c)))) ch a b o
+    ∙ ap (λ n. kind_output k (let h : Heard = record { wave = wave_of waves node; frames = n; channels = ch; a = a; b = b } in h) o) frames)
+    ∙ ap (λ n. last_of (plan.quantum * n) (kind_output k
+    (let h : Heard = record {
+      wave = wave_of waves node;
+      frames = plan.quantum * length (active_cycles plan 0 c node);
+      channels = n;
+      a = a;
+      b = b;
+    } in h) o)) (sym channels)
+    ∙ ap (λ m. last_of (plan.quantum * channels_at plan c port) (kind_output k (heard plan waves out c port) m)) (sym which)
+    ∙ sym (outputs_solve plan waves renderable c port active)
 
 record IsFeed (plan : Plan) (e : Epoch) (done : List ℕ) (node : ℕ) (port : PortId) (l : ShapeLink) : Type 0 where
   fits : IsFitting plan e l
@@ -220,40 +254,6 @@ module _ (plan : Plan) (waves : List WavIn) (c : ℕ) (e : Epoch) (first : Bool)
       ∙ received_active plan (outputs plan waves) c node first earlier now e (active_in plan c e node at.here ∙ may.active)
       (input_is done received now way node may)
 
-  -- what it gives
-  given_is : (node o : ℕ) → takes_part e node ≡ true
-      → (given_by plan.quantum e (kind_at plan node) (wave_of waves node) node
-      (received_until plan (outputs plan waves) (suc c) node) o).samples
-      ≡ outputs plan waves c (record { node = node; port = input_count (kind_at plan node) + o })
-  given_is node o on =
-      let out = outputs plan waves in
-      let k = kind_at plan node in
-      let port : PortId = record { node = node; port = input_count k + o } in
-      let channels : channels_at plan c port ≡ channels_of e.forms port = ap (λ o. channels_of (listed (λ e. e.forms) o) port) at.here in
-      let active : is_active plan c node ≡ true = active_in plan c e node at.here ∙ on in
-      let which : port.port - input_count k ≡ o = omega arith in
-      let cycles : suc c ≡ c + 1 - 0 = omega arith in
-      let ch = channels_of e.forms port in
-      let a = stream_of plan out c (record { node = node; port = 0 }) in
-      let b = stream_of plan out c (record { node = node; port = 1 }) in
-      let frames : plan.quantum * length (filter (λ k. is_active plan k node) (range_with_len 0 (suc c)))
-      ≡ plan.quantum * length (active_cycles plan 0 c node) =
-      ap (λ n. plan.quantum * length (filter (λ k. is_active plan k node) (range_with_len 0 n))) cycles in
-      ap (last_of (plan.quantum * ch))
-      (heard_same k (wave_of waves node) (plan.quantum * length (filter (λ k. is_active plan k node) (range_with_len 0 (suc c)))) ch a b o
-      ∙ ap (λ n. kind_output k (let h : Heard = record { wave = wave_of waves node; frames = n; channels = ch; a = a; b = b } in h) o)
-      frames)
-      ∙ ap (λ n. last_of (plan.quantum * n) (kind_output k
-      (let h : Heard = record {
-        wave = wave_of waves node;
-        frames = plan.quantum * length (active_cycles plan 0 c node);
-        channels = n;
-        a = a;
-        b = b;
-      } in h) o)) (sym channels)
-      ∙ ap (λ m. last_of (plan.quantum * channels_at plan c port) (kind_output k (heard plan waves out c port) m)) (sym which)
-      ∙ sym (outputs_solve plan waves at.renderable c port active)
-
   -- one node more is done
   pub one_more : (done : List ℕ) (received later : List Received) (now more : List Given) (node : ℕ)
       → IsUnderWay plan waves c done received now → node < length plan.nodes → MayFollow e done node
@@ -302,7 +302,7 @@ module _ (plan : Plan) (waves : List WavIn) (c : ℕ) (e : Epoch) (first : Bool)
             (λ i d small. other_node (get_or now i d).port port
             (λ s. false≢true (sym may.other ∙ ap (is_among done) (sym same ∙ sym s) ∙ way.only i d small)))
             ∙ theirs_at plan.quantum e k (wave_of waves node) node r 0 n o port same apart (omega arith) (omega (arith, low, high))
-            ∙ given_is node o may.active
+            ∙ given_is plan waves c e at.renderable at.here node o may.active
             ∙ ap₂ (λ a b. outputs plan waves c (record { node = a; port = b })) (sym same) (sym apart))
             (λ (ne : port.node ≢ node).
             ap (λ gs. given_at gs port) lists

@@ -2,6 +2,9 @@ pub mod CycleLemmas
 pub mod DepthLemmas
 pub mod EndLemmas
 pub mod EpochLemmas
+pub mod ExpectedLemmas
+pub mod FullRowLemmas
+pub mod KeptLemmas
 pub mod KindLemmas
 pub mod NodeOrderLemmas
 pub mod OutcomeLemmas
@@ -9,5 +12,6 @@ pub mod ProgressLemmas
 pub mod RowLemmas
 pub mod SettledLemmas
 pub mod SingleEpochLemmas
+pub mod SoundFormLemmas
 pub mod SoundPlanLemmas
 pub mod WorkedRows

@@ -102,7 +102,7 @@ range_more : (a n m : ℕ) → a + n ≡ m → range_with_len a (n + 1) ≡ rang
 range_more a n m e = sym (map-id (range_with_len a (n + 1))) ∙ map-range_with_len_more (λ (k : ℕ). k) a n m e
     ∙ ap (λ (r : List ℕ). r ++ m ∷ []) (map-id (range_with_len a n))
 
-filter_more : (p : ℕ → Bool) (a n m : ℕ) → a + n ≡ m
+pub filter_more : (p : ℕ → Bool) (a n m : ℕ) → a + n ≡ m
     → filter p (range_with_len a (n + 1)) ≡ filter p (range_with_len a n) ++ cond (p m) (m ∷ []) []
 filter_more p a n m e = ap (filter p) (range_more a n m e) ∙ filter-append p (range_with_len a n) (m ∷ [])
 

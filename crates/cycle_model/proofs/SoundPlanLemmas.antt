@@ -43,7 +43,7 @@ found_at (f ∷ fs) a (suc k) ascend lt e =
     (λ t. not_before_itself a.port (subst (λ p. IsTrue (is_before p a.port)) (same_port f.port a.port t) here)) in
     rw other (found_at fs a k (λ i j d ij jl. ascend (suc i) (suc j) d (omega arith) (omega arith)) (omega arith) e)
 
-channels_are : (forms : List PortForm) (port : PortId) (rate channels : ℕ) → AllPairs (λ f g. IsTrue (is_before f.port g.port)) forms
+pub channels_are : (forms : List PortForm) (port : PortId) (rate channels : ℕ) → AllPairs (λ f g. IsTrue (is_before f.port g.port)) forms
     → Contains forms (record { port = port; rate = rate; channels = channels })
     → channels_of forms port ≡ channels
 channels_are forms port rate channels ascend c = found_at forms

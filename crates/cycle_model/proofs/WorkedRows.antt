@@ -12,6 +12,7 @@ use Rattle.pw_base.specs.declared.plan.Plan.{Plan}
 use Rattle.wav_files.specs.declared.wav.WavIn.{WavIn}
 use Rattle.cycle_model.specs.Cycle.{outputs_after}
 use Rattle.cycle_model.specs.Rendering.{rendered_sinks}
+use Rattle.cycle_model.specs.Expected.{expected_samples}
 
 abbrev port : ℕ → ℕ → PortId
 port n p = record { node = n; port = p }
@@ -68,6 +69,16 @@ one_source = plan 2 (node Source ∷ sink ∷ []) (epoch 0 2 2 (0 ∷ 1 ∷ 63 �
 pub one_source_is_kept : Keeps one_source (wave 0 1 (pos 7 ∷ pos 8 ∷ pos 9 ∷ []) ∷ []) 1 (pos 7 ∷ pos 8 ∷ pos 9 ∷ pos 0 ∷ [])
 unfolding outputs_after rendered_sinks
 one_source_is_kept = refl
+
+-- its pool gives one row of two samples in each of the two cycles, and no epoch comes after
+pub one_pool_is_expected : expected_samples one_source (wave 0 1 (pos 7 ∷ pos 8 ∷ pos 9 ∷ []) ∷ []) 0
+    ≡ ((pos 7 ∷ pos 8 ∷ []) ∷ []) ∷ ((pos 9 ∷ pos 0 ∷ []) ∷ []) ∷ []
+unfolding outputs_after expected_samples
+one_pool_is_expected = refl
+
+pub no_later_epoch_is_expected : expected_samples one_source (wave 0 1 (pos 7 ∷ pos 8 ∷ pos 9 ∷ []) ∷ []) 1 ≡ []
+unfolding expected_samples
+no_later_epoch_is_expected = refl
 
 -- three sources into one port are clamped once, after the sum
 abbrev three_sources : Plan

@@ -1,5 +1,7 @@
 pub mod Cycle
 pub mod Epochs
+pub mod Expected
+pub mod FullRows
 pub mod KindSamples
 pub mod Known
 pub mod Mixing

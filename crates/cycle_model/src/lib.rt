@@ -12,5 +12,6 @@ mod reference;
 mod waves;
 mod working;
 
+pub use received::Received;
 pub use reference::render;
 pub use waves::waves_fit;

@@ -8,10 +8,13 @@ pub(crate) struct Given {
     pub samples: Items<i16>,
 }
 
-/// For how many frames a node was active, and what its inputs received: `a` is the stream of its first
-/// input, `b` that of its second. Without such an input the list is empty.
+/// What a node has received: for how many frames it was active, and what its inputs got.
+///
+/// `a` is the stream of its first input and `b` that of its second, frames interleaved, from where
+/// its streams began; without such an input the list is empty. Contracts of other crates speak of
+/// it: `specs/Progress.antt` has what a node has received after so many cycles.
 #[derive(Debug, Drop)]
-pub(crate) struct Received {
+pub struct Received {
     pub frames: u64,
     pub a: Items<i16>,
     pub b: Items<i16>,

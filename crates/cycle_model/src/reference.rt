@@ -1,6 +1,8 @@
 //! The reference program: a plan and its waves rendered in one thread, by index into whole streams.
-ghost use Rattle.std.specs.Prelude.{◌≡◌, [], ◌++◌, length, option_to_list, OnOk, IfOk};
+ghost use Rattle.std.specs.Prelude.{◌≡◌, [], ◌++◌, All, length, option_to_list, OnOk, IfOk};
 ghost use Rattle.pw_base.specs.Samples.{peak_of};
+ghost use Rattle.pw_base.specs.SoundPlan.{IsSoundPlan};
+ghost use Rattle.wav_files.specs.WavWriting.{IsWave};
 ghost use Rattle.cycle_model.specs.Known.{kept_by, peak_by};
 ghost use Rattle.cycle_model.specs.Progress.{received_until, AreReceived};
 ghost use Rattle.cycle_model.specs.Cycle.{outputs};
@@ -132,6 +134,10 @@ pub fn render(alloc: Global, plan: &Plan, waves: &Items<WavIn>) -> Result<Outcom
     ensures sinks { IfOk result (λ outcome. outcome.sinks ≡ rendered_sinks plan.now waves.now) }
     ensures peaks { IfOk result (λ outcome. outcome.peaks ≡ rendered_peaks plan.now waves.now) }
     ensures history { IfOk result (λ outcome. outcome.history ≡ []) }
+
+    // What the sinks of a sound plan keep can be written as WAV files.
+    ensures waves { IsSoundPlan plan.now
+        → IfOk result (λ outcome. All (λ kept. IsWave kept.wav) outcome.sinks) }
 {
     let waves = waves.as_slice();
     let received = all_received(alloc, plan, waves)?;

@@ -1,9 +1,10 @@
 -- An object has one first fault at most, and an answer that is right is the only one.
-use Rattle.std.proofs.Common.{◌≡◌, ℕ, ◌<◌, ◌⊎◌, inl, inr, List, [], ◌∷◌, ◌++◌, length, get_or, take, Result, Ok, Err, sym, ap}
+use Rattle.std.proofs.Common.{◌≡◌, ℕ, ◌<◌, ◌⊎◌, inl, inr, List, [], ◌∷◌, ◌++◌, length, get_or, take, Option, Result, Ok, Err, sym, ap}
 use Rattle.std.proofs.Common.{◌∙◌, subst, arith}
 use Rattle.std.specs.Prelude.{IfOk, IfErr}
 use Rattle.std.proofs.lemmas.List.{get_or_append_left, get_or_default}
 use Rattle.std.proofs.Math.Seq.{get_or-append_seam, take-append_seam}
+use Rattle.pw_base.specs.declared.memory.Memory.{Memory}
 use Rattle.pod_codec.specs.declared.pod.Pod.{Pod}
 use Rattle.pod_codec.specs.declared.pod.Prop.{Prop}
 use Rattle.pod_codec.specs.declared.pod.Control.{Control}
@@ -11,13 +12,18 @@ use Rattle.pod_codec.specs.declared.pod.Pod.TheOpen.{Pod-F}
 use Rattle.pod_codec.specs.declared.pod.Pod.TheViews.{out-Pod, out-Prop}
 use Rattle.pod_codec.specs.declared.pod.ChoiceKind.{ChoiceKind}
 use Rattle.pod_codec.specs.declared.pod.ChoiceKind.TheVariants as k
+use Rattle.format_filter.specs.declared.choice.Choice.{Choice}
+use Rattle.format_filter.specs.declared.common.Filtered.{Filtered}
 use Rattle.format_filter.specs.declared.fault.FormatFault.{FormatFault}
 use Rattle.format_filter.specs.declared.fault.FormatFault.TheVariants as f
 use Rattle.format_filter.specs.declared.format.Format.{Format}
 use Rattle.format_filter.specs.ChoiceReading.{FaultsValues, Faults}
 use Rattle.format_filter.specs.FormatReading.{key_of, ReadsChoice, FaultsProp, FaultsProps, FaultsObject, IsFormatOf, IsFirstFault}
 use Rattle.format_filter.specs.FormatAnswer.{IsGiven, IsRefusedAs}
-use Rattle.format_filter.proofs.UniqueLemmas.{reads_faultless, formats_one, object_faultless}
+use Rattle.format_filter.specs.Intersection.{Meets}
+use Rattle.format_filter.specs.CommonFormat.{Filters}
+use Rattle.format_filter.proofs.IntersectionOneLemmas.{meets_one}
+use Rattle.format_filter.proofs.UniqueLemmas.{reads_faultless, formats_one, object_faultless, filters_one}
 
 -- values have one fault
 values_fault : (kind : ChoiceKind) (values : List Pod) (key : ℕ) (a b : FormatFault) → FaultsValues kind values key a
@@ -85,7 +91,7 @@ props_fault props a b x y =
     prop_fault x.before x.prop a b x.at_fault other
 
 -- an object has one first fault
-object_fault : (o : Pod-F Pod Control Prop) (a b : FormatFault) → FaultsObject o a → FaultsObject o b → a ≡ b
+pub object_fault : (o : Pod-F Pod Control Prop) (a b : FormatFault) → FaultsObject o a → FaultsObject o b → a ≡ b
 object_fault (Pod-F.Object object id props) a b x y = props_fault props a b x y
 object_fault other a b x y = x ∙ sym y
 
@@ -104,3 +110,14 @@ module _ (pod : Pod) where
   only_refused (Ok x) found fault first h = object_faultless (out-Pod pod) x first found h
   only_refused (Err g) found (inl memory) first h = inl memory
   only_refused (Err g) found (inr own) first h = inr (object_fault (out-Pod pod) g first own h)
+
+-- an intersection, and a common format or why there is none, are the only ones
+pub only_meeting : (a b : Choice) (r : Result (Option Choice) Memory) → IfOk r (Meets a b) → (other : Option Choice) → Meets a b other
+    → IfOk r (λ common. common ≡ other)
+only_meeting a b (Ok common) h other g = meets_one a b common other h g
+only_meeting a b (Err e) h other g = tt
+
+pub only_common : (a b : Format) (r : Result Filtered Memory) → IfOk r (Filters a b) → (other : Filtered) → Filters a b other
+    → IfOk r (λ filtered. filtered ≡ other)
+only_common a b (Ok filtered) h other g = filters_one a b filtered other h g
+only_common a b (Err e) h other g = tt

@@ -13,5 +13,6 @@ pub mod FixationLemmas
 pub mod ReadingLemmas
 pub mod PropLemmas
 pub mod LawLemmas
+pub mod IntersectionOneLemmas
 pub mod UniqueLemmas
 pub mod AnswerLemmas

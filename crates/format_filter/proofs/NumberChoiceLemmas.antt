@@ -20,7 +20,7 @@ use Rattle.format_filter.proofs.TypeLemmas.{int_type, long_type}
 use Rattle.format_filter.specs.Intersection.{IsCommon, IsProgression, HasForm, IsPicked, IsCommonIn}
 
 -- which values a pair contains
-contains_pair : (v w x : Pod) (k : ℕ) → k < length (v ∷ w ∷ []) → get_or (v ∷ w ∷ []) k x ≡ x → (x ≡ v) ⊎ (x ≡ w)
+pub contains_pair : (v w x : Pod) (k : ℕ) → k < length (v ∷ w ∷ []) → get_or (v ∷ w ∷ []) k x ≡ x → (x ≡ v) ⊎ (x ≡ w)
 contains_pair v w x zero l e = inl (sym e)
 contains_pair v w x (suc zero) l e = inr (sym e)
 contains_pair v w x (suc (suc k)) l e = absurd (omega arith)

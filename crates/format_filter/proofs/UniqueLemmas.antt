@@ -1,7 +1,9 @@
--- An object is read as one format at most, and has no fault then.
+-- An object is read as one format at most, and has no fault then; two formats have one common format at most, and one object
+-- spells a format.
 use Rattle.std.proofs.Common.{◌≡◌, ◌≢◌, ℕ, ℤ, suc, ◌<◌, ◌≤◌, ◌⊎◌, inl, inr, List, [], ◌∷◌, ◌++◌, length, get_or, Some}
-use Rattle.std.proofs.Common.{None, refl, sym, ap, ◌∙◌, subst, length-append, arith}
-use Rattle.std.specs.List.{All, AllPairs, Any}
+use Rattle.std.proofs.Common.{Option, None, refl, sym, ap, ◌∙◌, subst, length-append, arith}
+use Rattle.std.specs.List.{All, AllPairs, AllZip, Any}
+use Rattle.std.proofs.lemmas.Bool.{cases_lt}
 use Rattle.std.proofs.lemmas.Bool.Decides.{eqb_tells}
 use Rattle.std.proofs.lemmas.List.{get_or_append_left, get_or_default}
 use Rattle.std.proofs.lemmas.List.Elements.{All-nil, All-cons}
@@ -10,7 +12,7 @@ use Rattle.pod_codec.specs.declared.pod.Pod.{Pod}
 use Rattle.pod_codec.specs.declared.pod.Prop.{Prop}
 use Rattle.pod_codec.specs.declared.pod.Control.{Control}
 use Rattle.pod_codec.specs.declared.pod.Pod.TheOpen.{Pod-F}
-use Rattle.pod_codec.specs.declared.pod.Pod.TheViews.{out-Pod, out-Prop}
+use Rattle.pod_codec.specs.declared.pod.Pod.TheViews.{out-Pod, out-Prop, roll-Pod, roll-Prop, roll-out-Pod, roll-out-Prop}
 use Rattle.pod_codec.specs.declared.pod.ChoiceKind.{ChoiceKind}
 use Rattle.pod_codec.specs.declared.pod.ChoiceKind.TheVariants as k
 use Rattle.format_filter.specs.declared.choice.Choice.{Choice}
@@ -19,10 +21,13 @@ use Rattle.format_filter.specs.declared.choice.Wide.{Wide}
 use Rattle.format_filter.specs.declared.fault.FormatFault.{FormatFault}
 use Rattle.format_filter.specs.declared.format.Field.{Field}
 use Rattle.format_filter.specs.declared.format.Format.{Format}
-use Rattle.format_filter.specs.CommonFormat.{IsSoundFormat, field_of}
+use Rattle.format_filter.specs.declared.common.Filtered.{Filtered}
+use Rattle.format_filter.specs.declared.common.Filtered.TheVariants.{Common, Clash, Types}
+use Rattle.format_filter.specs.CommonFormat.{IsSoundFormat, field_of, IsCommonField, IsCommonFormat, Filters}
 use Rattle.format_filter.specs.ChoiceReading.{Prefers, ReadsRange, ReadsStep, ReadsEnum, ReadsValues, FaultsValues, Reads, Faults}
 use Rattle.format_filter.specs.FormatReading.{key_of, ReadsField, AreFieldsOf, FaultsProps, ReadsObject, FaultsObject, IsReadAs}
-use Rattle.format_filter.specs.FormatWriting.{IsWritten}
+use Rattle.format_filter.specs.FormatWriting.{IsChoice, Writes, WritesField, WritesObject, IsWritten}
+use Rattle.format_filter.proofs.IntersectionOneLemmas.{intersection_one}
 use Rattle.format_filter.proofs.OverlapLemmas.{number_injective}
 use Rattle.format_filter.proofs.ReadingLemmas.{same_number, wide_same}
 use Rattle.format_filter.proofs.FieldLemmas.{field_none}
@@ -234,3 +239,95 @@ written_law format pod sound w =
       only = λ other h. formats_one (out-Pod pod) other format h reads;
       faultless = λ fault h. object_faultless (out-Pod pod) format fault reads h;
     }
+
+-- COMMON FORMATS: two formats have one at most, and one outcome
+
+field_is : (f g : Field) → f.key ≡ g.key → f.flags ≡ g.flags → f.choice ≡ g.choice → f ≡ g
+field_is f g a b c = λ i. record { key = a i; flags = b i; choice = c i }
+
+format_is : (f g : Format) → f.object ≡ g.object → f.id ≡ g.id → f.fields ≡ g.fields → f ≡ g
+format_is f g a b c = λ i. record { object = a i; id = b i; fields = c i }
+
+common_fields_one : (f g h k : Option Field) → IsCommonField f g h → IsCommonField f g k → h ≡ k
+common_fields_one (Some f) (Some g) (Some h) (Some k) a b = ap Some (field_is h k (a.0 ∙ sym b.0) (a.1 ∙ sym b.1)
+    (intersection_one f.choice g.choice h.choice k.choice a.2 b.2))
+common_fields_one (Some f) (Some g) (Some h) None a b = absurd b
+common_fields_one (Some f) (Some g) None k a b = absurd a
+common_fields_one (Some f) None h k a b = a ∙ sym b
+common_fields_one None g h k a b = a ∙ sym b
+
+commons_one : (a b x y : Format) → IsCommonFormat a b x → IsCommonFormat a b y → x ≡ y
+commons_one a b x y h g = format_is x y (h.object ∙ sym g.object) (h.id ∙ sym g.id)
+    (lists_one x.fields y.fields h.sound.ascending g.sound.ascending (λ key. common_fields_one (field_of a.fields key)
+    (field_of b.fields key) (field_of x.fields key) (field_of y.fields key) (h.fields key) (g.fields key)))
+
+-- of two keys neither is less
+neither : (j k : ℕ) → (j < k → ⊥) → (k < j → ⊥) → j ≡ k
+neither j k low high = elim (cases_lt j k) [
+  | inl lt ↦ absurd (low lt)
+  | inr ge ↦ elim (cases_lt k j) [ inl lt ↦ absurd (high lt) | inr le ↦ omega (arith, ge, le) ]
+]
+
+pub filters_one : (a b : Format) (x y : Filtered) → Filters a b x → Filters a b y → x ≡ y
+filters_one a b Types Types h g = refl
+filters_one a b Types (Clash k) h g = absurd (h g.0)
+filters_one a b Types (Common d) h g = absurd (h g.0.types)
+filters_one a b (Clash j) Types h g = absurd (g h.0)
+filters_one a b (Clash j) (Clash k) h g = ap (λ (n : ℕ). Clash n) (neither j k (λ lt. g.2 j lt h.1) (λ lt. h.2 k lt g.1))
+filters_one a b (Clash j) (Common d) h g = absurd (g.0.clashless j h.1)
+filters_one a b (Common c) Types h g = absurd (g h.0.types)
+filters_one a b (Common c) (Clash k) h g = absurd (h.0.clashless k g.1)
+filters_one a b (Common c) (Common d) h g = ap (λ (f : Format). Common f) (commons_one a b c d h.1 g.1)
+
+-- WRITING: one value spells a choice, one object a format
+
+pod_is : (p q : Pod) → out-Pod p ≡ out-Pod q → p ≡ q
+pod_is p q e = sym (roll-out-Pod p) ∙ ap roll-Pod e ∙ roll-out-Pod q
+
+prop_is : (p q : Prop) → (out-Prop p).key ≡ (out-Prop q).key → (out-Prop p).flags ≡ (out-Prop q).flags
+    → (out-Prop p).value ≡ (out-Prop q).value → p ≡ q
+prop_is p q a b c = sym (roll-out-Prop p) ∙ (λ i. roll-Prop (record { key = a i; flags = b i; value = c i })) ∙ roll-out-Prop q
+
+choices_one : (kind : ChoiceKind) (child : ℕ) (values : List Pod) (o p : Pod-F Pod Control Prop) → IsChoice kind child values o
+    → IsChoice kind child values p → o ≡ p
+choices_one kind child values (Pod-F.Choice a f c vs) (Pod-F.Choice b g d ws) h k =
+    let kinds : a ≡ b = h.0 ∙ sym k.0 in
+    let flags : f ≡ g = h.1 ∙ sym k.1 in
+    let children : c ≡ d = h.2 ∙ sym k.2 in
+    let all : vs ≡ ws = h.3 ∙ sym k.3 in
+    λ i. Pod-F.Choice (kinds i) (flags i) (children i) (all i)
+choices_one kind child values (Pod-F.Choice a f c vs) other h k = absurd k
+choices_one kind child values other p h k = absurd h
+
+values_written_one : (c : Choice) (v w : Pod) → Writes c v → Writes c w → v ≡ w
+values_written_one (Only value) v w a b = a ∙ sym b
+values_written_one (Enum pick alts) v w a b =
+    let child : b.0 ≡ a.0 = sym b.1 ∙ a.1 in
+    pod_is v w (choices_one k.Enum a.0 (pick ∷ alts) (out-Pod v) (out-Pod w) a.2
+    (subst (λ (n : ℕ). IsChoice k.Enum n (pick ∷ alts) (out-Pod w)) child b.2))
+values_written_one (Range wide pick min max) v w a b = pod_is v w (choices_one k.Range _ _ (out-Pod v) (out-Pod w) a b)
+values_written_one (Step wide pick min max step) v w a b = pod_is v w (choices_one k.Step _ _ (out-Pod v) (out-Pod w) a b)
+
+props_one : (fields : List Field) (ps qs : List Prop) → AllZip WritesField fields ps → AllZip WritesField fields qs → ps ≡ qs
+props_one [] [] [] a b = refl
+props_one [] [] (q ∷ qs) a b = absurd b
+props_one [] (p ∷ ps) qs a b = absurd a
+props_one (f ∷ fs) [] qs a b = absurd a
+props_one (f ∷ fs) (p ∷ ps) [] a b = absurd b
+props_one (f ∷ fs) (p ∷ ps) (q ∷ qs) a b =
+    let first : p ≡ q = prop_is p q (a.0.0 ∙ sym b.0.0) (a.0.1 ∙ sym b.0.1)
+    (values_written_one f.choice (out-Prop p).value (out-Prop q).value a.0.2 b.0.2) in
+    let rest : ps ≡ qs = props_one fs ps qs a.1 b.1 in
+    λ i. first i ∷ rest i
+
+objects_one : (format : Format) (o p : Pod-F Pod Control Prop) → WritesObject format o → WritesObject format p → o ≡ p
+objects_one format (Pod-F.Object a n ps) (Pod-F.Object b m qs) h g =
+    let objects : a ≡ b = h.0 ∙ sym g.0 in
+    let ids : n ≡ m = h.1 ∙ sym g.1 in
+    let props : ps ≡ qs = props_one format.fields ps qs h.2 g.2 in
+    λ i. Pod-F.Object (objects i) (ids i) (props i)
+objects_one format (Pod-F.Object a n ps) other h g = absurd g
+objects_one format other p h g = absurd h
+
+pub written_one : (format : Format) (p q : Pod) → IsWritten format p → IsWritten format q → p ≡ q
+written_one format p q h g = pod_is p q (objects_one format (out-Pod p) (out-Pod q) h g)

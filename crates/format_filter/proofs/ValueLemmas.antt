@@ -76,7 +76,7 @@ those_of_one_type : (xs : List Pod) (P : Pod → Type 0) (those : List Pod) → 
 those_of_one_type xs P those h t =
     (t.0, t.1, λ k d l. All-contains (IsOfType t.0) xs (get_or those k d) t.2 (h.only (get_or those k d) (Contains-get_or those k d l)).0)
 
-first_is : (pick : Pod) (alts : List Pod) (d : Pod) → 0 < length alts → first_of (Enum pick alts) ≡ get_or alts 0 d
+pub first_is : (pick : Pod) (alts : List Pod) (d : Pod) → 0 < length alts → first_of (Enum pick alts) ≡ get_or alts 0 d
 first_is pick [] d l = absurd (omega arith)
 first_is pick (x ∷ xs) d l = refl
 

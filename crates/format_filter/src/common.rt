@@ -1,5 +1,6 @@
 //! The common format of two formats.
-ghost use Rattle.std.specs.Prelude.{IfOk};
+ghost use Rattle.std.specs.Prelude.{◌≡◌, IfOk};
+ghost use Rattle.format_filter.specs.declared.common.Filtered.{Filtered};
 ghost use Rattle.format_filter.specs.CommonFormat.{IsSoundFormat, Filters};
 
 use crate::format::Format;
@@ -28,6 +29,18 @@ pub enum Filtered {
 /// Public source: PipeWire's documentation, "SPA POD"; `spa/pod/filter.h`, `spa_pod_filter`. What a key that
 /// one side lacks does is this project's.
 pub fn filter(alloc: Global, a: &Format, b: &Format) -> Result<Filtered, Memory>
+    requires a { IsSoundFormat a.now }
+    requires b { IsSoundFormat b.now }
+    ensures filters { IfOk result (Filters a.now b.now) }
+
+    // No other answer is right.
+    ensures only { (other : Filtered) → Filters a.now b.now other → IfOk result (λ filtered. filtered ≡ other) }
+{
+    common_of(alloc, a, b)
+}
+
+/// What two formats have in common, by their object types and then by their keys.
+fn common_of(alloc: Global, a: &Format, b: &Format) -> Result<Filtered, Memory>
     requires a { IsSoundFormat a.now }
     requires b { IsSoundFormat b.now }
     ensures { IfOk result (Filters a.now b.now) }

@@ -1,5 +1,6 @@
 //! The intersection of two choices, by their kinds.
-ghost use Rattle.std.specs.Prelude.{◌≡◌, IfOk, IsOk};
+ghost use Rattle.std.specs.Prelude.{◌≡◌, Option, IfOk, IsOk};
+ghost use Rattle.format_filter.specs.declared.choice.Choice.{Choice};
 ghost use Rattle.format_filter.specs.Soundness.{IsSound};
 ghost use Rattle.format_filter.specs.Intersection.{Meets};
 ghost use Rattle.format_filter.specs.Members.{AreRanges};
@@ -47,6 +48,19 @@ fn steps(wide: Wide, pick: i64, min: i64, max: i64, step: i64) -> Ranged
 /// Public source: PipeWire's documentation, "SPA POD", Choice; `spa/pod/filter.h`, `spa_pod_filter_prop`. The
 /// form and the pick are this project's.
 pub fn meet(alloc: Global, a: &Choice, b: &Choice) -> Result<Option<Choice>, Memory>
+    requires a { IsSound a.now }
+    requires b { IsSound b.now }
+    ensures meets { IfOk result (Meets a.now b.now) }
+    ensures no_memory { AreRanges a.now b.now → IsOk result }
+
+    // No other answer is right.
+    ensures only { (other : Option Choice) → Meets a.now b.now other → IfOk result (λ common. common ≡ other) }
+{
+    intersection_of(alloc, a, b)
+}
+
+/// The intersection of two choices, by the kind of the first.
+fn intersection_of(alloc: Global, a: &Choice, b: &Choice) -> Result<Option<Choice>, Memory>
     requires a { IsSound a.now }
     requires b { IsSound b.now }
     ensures meets { IfOk result (Meets a.now b.now) }

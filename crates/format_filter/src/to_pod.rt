@@ -1,6 +1,7 @@
 //! The object that spells a format.
 ghost use Rattle.std.specs.Prelude.{◌≡◌, [], ◌∷◌, ◌++◌, length, IfOk};
 ghost use Rattle.std.specs.List.{AllZip};
+ghost use Rattle.pod_codec.specs.declared.pod.Pod.{Pod};
 ghost use Rattle.pod_codec.specs.declared.pod.Pod.TheViews.{out-Pod};
 ghost use Rattle.pod_codec.specs.declared.pod.ChoiceKind.TheVariants as k;
 ghost use Rattle.pod_codec.specs.SoundChoices.{HasSoundChoices};
@@ -151,6 +152,7 @@ fn object_of(format: &Format, props: Items<Prop>) -> Pod
 pub fn pod_of(alloc: Global, format: &Format) -> Result<Pod, Memory>
     requires { IsSoundFormat format.now }
     ensures written { IfOk result (IsWritten format.now) }
+    ensures only { (other : Pod) → IsWritten format.now other → IfOk result (λ pod. pod ≡ other) }
     ensures law { IfOk result (λ pod. IsReadAs pod format.now) }
     ensures sound { IfOk result HasSoundChoices }
 {

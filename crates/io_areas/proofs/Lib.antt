@@ -2,4 +2,13 @@ pub mod PoolLemmas
 pub mod FillLemmas
 pub mod EndLemmas
 pub mod SampleLemmas
-pub mod HeardLemmas
+pub mod BroughtLemmas
+pub mod InputTurnLemmas
+pub mod KeptLemmas
+pub mod WriterEndsLemmas
+pub mod BlockLemmas
+pub mod RefillLemmas
+pub mod PoolLinkLemmas
+pub mod FreeBlocksLemmas
+pub mod OutputTurnLemmas
+pub mod StartLemmas

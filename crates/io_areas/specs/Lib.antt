@@ -2,3 +2,10 @@ pub mod Unpacking
 pub mod Quanta
 pub mod Writing
 pub mod Reading
+pub mod PooledBoard
+pub mod Ends
+pub mod InputTurn
+pub mod FreeBlocks
+pub mod OutputTurn
+pub mod OutputSteps
+pub mod OutputAnswer

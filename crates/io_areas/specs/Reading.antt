@@ -5,29 +5,34 @@
 use Rattle.std.specs.Prelude.{◌≡◌, ℕ, ℤ, pos, ◌+◌, ◌-◌, Bool, cond, ltb, List, replicate}
 use Rattle.board_rule.specs.declared.view.View.{View}
 use Rattle.board_rule.specs.Layout.{BoardLayout, first}
+use Rattle.board_rule.specs.View.{Samples}
 use Rattle.board_rule.specs.SampleWords.{samples_in}
 use Rattle.board_rule.specs.BlockReadings.{delay_at}
 use Rattle.board_rule.specs.EndViews.{read_of, view_read, pool_of}
 use Rattle.board_rule.specs.ReaderSteps.{read_cycle, ReadsBlock}
 use Rattle.io_areas.specs.Quanta.{quantum_of}
 
+module _ (p : BoardLayout) where
+  -- one more than the cycle whose block a link brings its reader in the cycle c: of a delayed link the cycle before
+  abbrev pub stamp_brought : ℕ → ℕ → ℕ
+  stamp_brought l c = c + 1 - delay_at p l
+
+  -- WHAT A LINK BRINGS in the cycle c: what its pool gives in that cycle, and zeros where that is before the first
+  abbrev pub brought_in : Samples → ℕ → ℕ → List ℤ
+  brought_in e l c = cond (ltb (first p) (stamp_brought l c)) (samples_in p e (stamp_brought l c - 1) (pool_of p l))
+      (replicate (quantum_of p (pool_of p l)) (pos 0))
+
 module _ (is_driver : Bool) (p : BoardLayout) where
   -- TAKING: the link's reader has the number of a block, from now on in this cycle
   abbrev pub taken : View → ℕ → ℕ → View
   taken v l id = view_read v l (record (read_of v l) { loaded = read_cycle is_driver p v l + 1; id = id })
 
-  -- READING: the block is taken in this cycle and not yet given back. One more than the cycle in which it was
-  -- announced:
+  -- READING: the block is taken in this cycle and not yet given back. It has what the link brings in this cycle
   abbrev pub IsHolding : View → ℕ → Type 0
   IsHolding v l = ReadsBlock is_driver p v l (read_of v l).id
 
-  abbrev pub held_stamp : View → ℕ → ℕ
-  held_stamp v l = read_cycle is_driver p v l + 1 - delay_at p l
-
-  -- what the pool gives in the cycle in which the block was announced; zeros where that is before the first
-  abbrev pub heard : View → ℕ → List ℤ
-  heard v l = cond (ltb (first p) (held_stamp v l)) (samples_in p v.expect (held_stamp v l - 1) (pool_of p l))
-      (replicate (quantum_of p (pool_of p l)) (pos 0))
+  abbrev pub brought : View → ℕ → List ℤ
+  brought v l = brought_in p v.expect l (read_cycle is_driver p v l)
 
   -- GIVING BACK: the readers of the block are one fewer, and then the link's area asks for data
   abbrev pub GivesBack : View → ℕ → Type 0

@@ -6,7 +6,7 @@ ghost use Rattle.pw_base.specs.Layout.{sample_place};
 ghost use Rattle.board_rule.specs.EndViews.{pool_at, pool_of};
 ghost use Rattle.board_rule.specs.ReaderSteps.{LoadsAsReader, IsZeroAtFirst};
 ghost use Rattle.io_areas.specs.Quanta.{quantum_of};
-ghost use Rattle.io_areas.specs.Reading.{taken, IsHolding, heard, GivesBack, given_back};
+ghost use Rattle.io_areas.specs.Reading.{taken, IsHolding, brought, GivesBack, given_back};
 
 use crate::sample_words::spread;
 use board_rule::{Board, BoardSeat};
@@ -57,7 +57,7 @@ pub fn read<S: BoardSeat>(board: &Board, seat: &mut S, link: u32, to: &mut [i16]
     requires long { let p = layout board.now in length to.old ≡ quantum_of p (pool_of p link) }
     ensures table { S.table seat.new ≡ S.table seat.old }
     ensures knows { S.knows seat.new ≡ S.knows seat.old }
-    ensures samples { to.new ≡ heard S.is_driver (layout board.now) (S.knows seat.old) link }
+    ensures samples { to.new ≡ brought S.is_driver (layout board.now) (S.knows seat.old) link }
 {
     let id = seat.loaded(board, link);
     let first = first_of(board, link, id);

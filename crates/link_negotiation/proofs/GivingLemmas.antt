@@ -23,6 +23,7 @@ use Rattle.port_model.specs.Forms.{only_of, value_at, shared_value, shared_field
 use Rattle.port_model.specs.SoundPorts.{IsSoundPort}
 use Rattle.port_model.proofs.TakingLemmas.{shared_key}
 use Rattle.port_model.proofs.SharingLemmas.{field_place, shared_origin}
+use Rattle.port_model.proofs.ValueLemmas.{only_member, field_with, value_of_field}
 use Rattle.port_model.specs.PortState.{IsPort, AtPort, with_port, changed, taking}
 use Rattle.port_model.specs.SoundPorts.{AreSoundNodes, IsSoundNode}
 use Rattle.port_model.specs.declared.sharing.Offered.{Offered}
@@ -30,7 +31,7 @@ use Rattle.port_model.proofs.NodeLemmas.{has_place, at_place, at_port, port_at}
 use Rattle.port_model.proofs.ChangedLemmas.{changed_elsewhere, changed_same}
 use Rattle.pw_base.specs.declared.ids.PortId.{PortId}
 use Rattle.link_negotiation.specs.declared.common_formats.Negotiated.TheVariants as negotiated
-use Rattle.link_negotiation.specs.Negotiation.{MeetsIn, SharesBuffers, OffersAt, Settles, SettlesFrom, Negotiates}
+use Rattle.link_negotiation.specs.Negotiation.{MeetsIn, SharesBuffers, OffersAt, Settles, SettlesFrom, Negotiates, Agrees}
 use Rattle.link_negotiation.specs.LinkOutcome.{MayBeGiven, given}
 
 -- one field more
@@ -225,6 +226,64 @@ settles_other nodes from to format sound port (Offer f) settles = go settles.0 s
 pub gives_other : (nodes : List Node) (from to : PortId) (format : Format) → AreSoundNodes nodes → IsPort nodes to
     → Negotiates nodes from to (negotiated.Format format) → AtPort nodes to (MayBeGiven format)
 gives_other nodes from to format sound port w = settles_other nodes from to format sound port w.0 w.2
+
+-- what is kept of a format that has a value, fixed, has it too
+kept_value : (own c : Format) (key : ℕ) (v : Pod) → Keeps own c → value_at own.fields key ≡ Some v → value_at (fixated c).fields key ≡ Some v
+kept_value own c key v keeps e =
+    let has = field_with own.fields key v e in
+    let kept = keeps.fields key has.field has.at in
+    let h = kept.0 in
+    let at = field_place c.fields key h kept.1 in
+    let sound : IsSound h.choice = subst (λ (f : Field). IsSound f.choice) (at.here h) (keeps.sound.choices at.place h at.within) in
+    let same : pick_of h.choice ≡ v = only_member has.field.choice v (pick_of h.choice) has.only (kept.2 (pick_of h.choice) sound.pick) in
+    value_of_field (fixated c).fields key (fixed h) v (field_map fixed key (λ f. refl) c.fields h kept.1) (ap (λ (x : Pod). Some x) same)
+
+-- a port with a format offers it alone, so it agrees with what is settled on
+agrees_with : (node : Node) (s : PortState) (f c : Format) → Offers node s (Offer f) → Keeps f c → Agrees (fixated c) node s
+agrees_with node s f c offers keeps own key v e has =
+    let alone : f ≡ own = offers.0 ∙ ap (λ (o : Option Format). unwrap_or o
+    (record s.own { fields = map (shared_field node) s.own.fields })) e in
+    kept_value own c key v (subst (λ (x : Format). Keeps x c) alone keeps) has
+
+-- both ports of a negotiation agree with the format
+output_settles : (nodes : List Node) (from to : PortId) (format : Format) → AreSoundNodes nodes → IsPort nodes from → (o : Offered)
+    → OffersAt nodes from o → SettlesFrom nodes to o (negotiated.Format format) → AtPort nodes from (Agrees format)
+output_settles nodes from to format sound port (Nothing key) offers settles = absurd settles
+output_settles nodes from to format sound port (Offer f) offers settles = go settles.0 settles.2 where
+  t : IsThere nodes from
+  t = there nodes from sound port
+
+  own : Offers t.node t.state (Offer f)
+  own = at_port (λ node s. Offers node s (Offer f)) nodes from t.node t.state t.node_is t.state_is offers
+
+  go : (p : Offered) → Settles f p (negotiated.Format format) → AtPort nodes from (Agrees format)
+  go (Nothing key) w = absurd w
+  go (Offer g) w = port_at (Agrees format) nodes from t.node t.state t.node_is t.state_is
+      (subst (λ (x : Format). Agrees x t.node t.state) (sym w.2)
+      (agrees_with t.node t.state f w.0 own (keeps_own f g w.0 w.1.1)))
+
+pub output_agrees : (nodes : List Node) (from to : PortId) (format : Format) → AreSoundNodes nodes → IsPort nodes from
+    → Negotiates nodes from to (negotiated.Format format) → AtPort nodes from (Agrees format)
+output_agrees nodes from to format sound port w = output_settles nodes from to format sound port w.0 w.1 w.2
+
+input_settles : (nodes : List Node) (from to : PortId) (format : Format) → AreSoundNodes nodes → IsPort nodes to → (o : Offered)
+    → SettlesFrom nodes to o (negotiated.Format format) → AtPort nodes to (Agrees format)
+input_settles nodes from to format sound port (Nothing key) settles = absurd settles
+input_settles nodes from to format sound port (Offer f) settles = go settles.0 settles.1 settles.2 where
+  t : IsThere nodes to
+  t = there nodes to sound port
+
+  go : (p : Offered) → OffersAt nodes to p → Settles f p (negotiated.Format format) → AtPort nodes to (Agrees format)
+  go (Nothing key) offers w = absurd w
+  go (Offer g) offers w =
+      let own = at_port (λ (node : Node) (s : PortState). Offers node s (Offer g)) nodes to t.node t.state t.node_is t.state_is offers in
+      port_at (Agrees format) nodes to t.node t.state t.node_is t.state_is
+      (subst (λ (x : Format). Agrees x t.node t.state) (sym w.2)
+      (agrees_with t.node t.state g w.0 own (keeps_other f g w.0 w.1.0.types w.1.1)))
+
+pub input_agrees : (nodes : List Node) (from to : PortId) (format : Format) → AreSoundNodes nodes → IsPort nodes to
+    → Negotiates nodes from to (negotiated.Format format) → AtPort nodes to (Agrees format)
+input_agrees nodes from to format sound port w = input_settles nodes from to format sound port w.0 w.2
 
 -- a port of another node is as it was
 pub elsewhere : (P : Node → PortState → Type 0) (nodes : List Node) (port other : PortId) (f : PortState → PortState)

@@ -3,4 +3,5 @@ pub mod ReachedLemmas
 pub mod SearchLemmas
 pub mod OutgoingLemmas
 pub mod GivingLemmas
+pub mod OnceLemmas
 pub mod UnlinkLemmas

@@ -3,6 +3,7 @@
 -- Source: PipeWire's documentation, "Objects Design", Link; spa/pod/filter.h, spa/pod/iter.h; spa/param/buffers.h.
 use Rattle.std.specs.Prelude.{◌≡◌, ℕ, List, Option, Some, None}
 use Rattle.pw_base.specs.declared.ids.PortId.{PortId}
+use Rattle.pod_codec.specs.declared.pod.Pod.{Pod}
 use Rattle.format_filter.specs.declared.choice.Choice.{Choice}
 use Rattle.format_filter.specs.declared.common.Filtered.TheVariants.{Common, Clash}
 use Rattle.format_filter.specs.declared.format.Format.{Format}
@@ -10,12 +11,13 @@ use Rattle.format_filter.specs.Members.{pick_of}
 use Rattle.format_filter.specs.Intersection.{Meets}
 use Rattle.format_filter.specs.CommonFormat.{Filters}
 use Rattle.format_filter.specs.Fixation.{fixated}
+use Rattle.port_model.specs.declared.port_state.PortState.{PortState}
 use Rattle.port_model.specs.declared.port_state.Node.{Node}
 use Rattle.port_model.specs.declared.sharing.Offered.{Offered}
 use Rattle.port_model.specs.declared.sharing.Offered.TheVariants.{Offer, Nothing}
 use Rattle.port_model.specs.PortState.{AtPort}
 use Rattle.port_model.specs.Offers.{int_of}
-use Rattle.port_model.specs.Forms.{Offers, buffers_of}
+use Rattle.port_model.specs.Forms.{Offers, buffers_of, value_at}
 use Rattle.link_negotiation.specs.declared.common_formats.Negotiated.{Negotiated}
 use Rattle.link_negotiation.specs.declared.common_formats.Negotiated.TheVariants as negotiated
 
@@ -39,6 +41,11 @@ SettlesFrom nodes to (Offer f) outcome = (p : Offered) × OffersAt nodes to p ×
 -- NEGOTIATION of a format
 abbrev pub Negotiates : List Node → PortId → PortId → Negotiated → Type 0
 Negotiates nodes from to outcome = (o : Offered) × OffersAt nodes from o × SettlesFrom nodes to o outcome
+
+-- a port that has its format agrees with another format at each key of its own
+abbrev pub Agrees : Format → Node → PortState → Type 0
+Agrees format node s = (own : Format) (key : ℕ) (v : Pod) → s.format ≡ Some own
+    → value_at own.fields key ≡ Some v → value_at format.fields key ≡ Some v
 
 -- the number of buffers is the pick of what both counts have in common, the output's first
 abbrev pub IsCount : Option Choice → Option ℕ → Type 0

@@ -3,6 +3,7 @@ ghost use Rattle.std.specs.Prelude.{◌≡◌, ◌⊎◌, ◌↔◌, ◌<◌, �
 ghost use Rattle.pw_base.specs.SoundShape.{IsBetween};
 ghost use Rattle.port_model.specs.PortState.{IsPort, IsInput, IsOutput, AtPort, with_port};
 ghost use Rattle.port_model.specs.SoundPorts.{AreSoundNodes};
+ghost use Rattle.link_negotiation.specs.declared.negotiation.Linked.{Linked};
 ghost use Rattle.link_negotiation.specs.Links.{IsSynchronousLoop};
 ghost use Rattle.link_negotiation.specs.declared.common_formats.Negotiated.TheVariants as negotiated;
 ghost use Rattle.link_negotiation.specs.Negotiation.{Negotiates, SharesBuffers};
@@ -139,6 +140,7 @@ impl Links {
         ensures outcome { IfOk result (IsLinkOutcome self.now ports.now from to) }
         ensures count { IfOk result HasFewBuffers }
         ensures below { (from.node < 64) × (to.node < 64) }
+        ensures nodes { AreSoundNodes ports.now }
     {
         let count = count_of(self.alloc, ports, from, to)?;
         if are_linked(self.made.as_slice(), from, to) {
@@ -167,6 +169,10 @@ impl Links {
         requires from { IsOutput ports.old from }
         requires to { IsInput ports.old to }
         ensures outcome { IfOk result (IsLinkOutcome self.old ports.old from to) }
+
+        // No other outcome is right.
+        ensures only { (other : Linked) → IsLinkOutcome self.old ports.old from to other
+            → IfOk result (λ linked. linked ≡ other) }
         ensures leaves { IfOk result (λ linked. LeavesLink self.old ports.old from to linked self.new
             ports.new) }
         ensures count { IfOk result HasFewBuffers }

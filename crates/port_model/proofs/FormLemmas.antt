@@ -1,34 +1,27 @@
 -- The form of a port is one that its kind may have.
 use Rattle.std.proofs.Common.{◌≡◌, ℕ, List, Option, Some, None, true, refl, sym, ap, ◌∙◌, subst}
-use Rattle.std.specs.Prelude.{IfSome, option_and_then}
+use Rattle.std.specs.Prelude.{IfSome, IsSome, option_and_then}
 use Rattle.std.specs.Option.{option_map_or, option_or}
-use Rattle.std.proofs.lemmas.Option.{same_Some, none-some}
 use Rattle.pod_codec.specs.declared.pod.Pod.{Pod}
 use Rattle.pw_base.specs.declared.kind.Kind.{Kind}
 use Rattle.pw_base.specs.declared.kind.Kind.TheVariants.{Source, Square, Gain, Mix2, Delay, Map, Split, Sink, Meter, Dummy}
 use Rattle.pw_base.specs.KindRanges.{MayHaveRate, MayHaveChannels}
 use Rattle.format_filter.specs.declared.choice.Choice.{Choice}
-use Rattle.format_filter.specs.declared.choice.Choice.TheVariants.{Only, Enum, Range, Step}
 use Rattle.format_filter.specs.declared.format.Field.{Field}
 use Rattle.format_filter.specs.declared.format.Format.{Format}
 use Rattle.format_filter.specs.Members.{IsMember}
 use Rattle.port_model.specs.declared.port_state.PortState.{PortState}
 use Rattle.port_model.specs.declared.port_state.Node.{Node}
 use Rattle.port_model.specs.Offers.{int_of, is_shared_key}
-use Rattle.port_model.specs.Forms.{only_of, value_at, shared_value, value_of}
+use Rattle.port_model.specs.Forms.{only_of, value_at, shared_value, value_of, HasForm, IsForm}
 use Rattle.port_model.specs.SoundPorts.{IsNumber, Admits, IsTaken, IsSoundPort, IsSoundNode}
 use Rattle.port_model.proofs.TakingLemmas.{first_stands}
 use Rattle.port_model.proofs.SharingLemmas.{shared_origin, within_number}
+use Rattle.port_model.proofs.ValueLemmas.{some_of, only_value, own_value}
 
 -- an Int of n is a number of n alone
 same_number : (P : ℕ → Type 0) (n : ℕ) → IsNumber P (int_of n) → P n
 same_number P n w = let same : n ≡ w.0 = cc (w.1) in subst P (sym same) w.2
-
-only_value : (c : Choice) (v : Pod) → only_of c ≡ Some v → c ≡ Only v
-only_value (Only w) v e = ap Only (same_Some w v e)
-only_value (Enum pick alts) v e = absurd (none-some v e)
-only_value (Range wide pick min max) v e = absurd (none-some v e)
-only_value (Step wide pick min max step) v e = absurd (none-some v e)
 
 -- the one value of an own offer is a number that it admits
 own_number : (fields : List Field) (key : ℕ) (P : ℕ → Type 0) (v : Pod) → Admits fields key P → value_at fields key ≡ Some v → IsNumber P v
@@ -96,3 +89,26 @@ channels_in_range node port s n whole sound e =
     (subst (λ (f : Option Format). IfSome f (IsTaken first.state.own)) first.has other.format).channels other.own.channels o.2)))
     (λ v. same_number (MayHaveChannels node.kind port) n
     (own_number s.own.fields 65540 (MayHaveChannels node.kind port) (int_of n) sound.own.channels v))
+
+-- a port with its format has a form
+pub has_form : (node : Node) (port : ℕ) (s : PortState) → IsSoundPort node.kind port s → IsSome s.format
+    → (rate : ℕ) × (channels : ℕ) × HasForm node s rate channels
+has_form node port s sound h =
+    let f = some_of s.format h in
+    let taken : IsTaken s.own f.0 = subst (λ (o : Option Format). IfSome o (IsTaken s.own)) f.1 sound.format in
+    let rate = within_number s.own f.0 65539 (MayHaveRate node.kind) taken.rate.value taken.rate sound.own.rate taken.rate.format_value in
+    let channels = within_number s.own f.0 65540 (MayHaveChannels node.kind port) taken.channels.value taken.channels sound.own.channels
+    taken.channels.format_value in (
+      rate.0,
+      channels.0,
+      (
+        own_value node s 65539 f.0 f.1 ∙ taken.rate.format_value ∙ ap (λ (x : Pod). Some x) rate.1,
+        own_value node s 65540 f.0 f.1 ∙ taken.channels.format_value ∙ ap (λ (x : Pod). Some x) channels.1,
+      ),
+    )
+
+-- so what tells the form of a port with its format tells one
+pub form_told : (node : Node) (port : ℕ) (s : PortState) (o : Option (ℕ × ℕ)) → IsSoundPort node.kind port s → IsForm node s o
+    → IsSome s.format → IsSome o
+form_told node port s (Some form) sound is h = refl
+form_told node port s None sound is h = let w = has_form node port s sound h in absurd (is w.0 w.1 w.2)

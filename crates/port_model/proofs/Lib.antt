@@ -1,5 +1,6 @@
 pub mod ChangedLemmas
 pub mod NodeLemmas
+pub mod ValueLemmas
 pub mod NarrowingLemmas
 pub mod TakingLemmas
 pub mod OfferLemmas

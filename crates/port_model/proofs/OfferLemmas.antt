@@ -2,7 +2,7 @@
 use Rattle.std.proofs.Common.{◌≡◌, ℕ, zero, suc, ℤ, pos, negsuc, ◌<◌, ◌≤◌, ◌≤ℤ◌, List, [], ◌∷◌, ◌++◌, length, map, Some}
 use Rattle.std.proofs.Common.{refl, sym, ap, ◌∙◌, subst, arith, rules, FitsSigned, w32}
 use Rattle.std.specs.List.{All, AllPairs, range_with_len}
-use Rattle.std.specs.Prelude.{slice_get, Result, Ok, Err, OnOk, OnErr}
+use Rattle.std.specs.Prelude.{slice_get, Result, Ok, Err, OnOk, OnErr, IsSome}
 use Rattle.std.proofs.lemmas.Int.{ints}
 use Rattle.std.proofs.lemmas.Option.{none-some, slice_get_within, get_or_from_slice_get}
 use Rattle.std.proofs.lemmas.List.{length-append}
@@ -29,6 +29,8 @@ use Rattle.format_filter.proofs.OverlapLemmas.{number_plain}
 use Rattle.port_model.specs.declared.port_state.PortState.{PortState}
 use Rattle.port_model.specs.declared.port_state.Node.{Node}
 use Rattle.port_model.specs.Offers.{int_of, HasFileNumbers, rate_choice, channels_choice, plain_field, kind_offer, new_port, new_node}
+use Rattle.port_model.specs.Offers.{FixesChannels}
+use Rattle.port_model.specs.Forms.{only_of}
 use Rattle.port_model.specs.SoundPorts.{IsNumber, IsOwnOffer, IsSoundPort, IsSoundNode, AreSoundNodes}
 
 pub fits_int : (n : ℕ) → n ≤ 384000 → FitsSigned w32 (pos n)
@@ -111,6 +113,20 @@ channels_numbers Sink port rate channels r f x w = range_number 2 1 8 x w
 channels_numbers Meter port rate channels r f x w = range_number 2 1 8 x w
 channels_numbers Dummy port rate channels r f x w = absurd r
 
+fixed_channels : (kind : Kind) (port channels : ℕ) → FixesChannels kind → IsSome (only_of (channels_choice kind port channels))
+fixed_channels (Square rate own period amp) port channels f = refl
+fixed_channels (Map own list) zero channels f = refl
+fixed_channels (Map own list) (suc port) channels f = refl
+fixed_channels Split zero channels f = refl
+fixed_channels Split (suc port) channels f = refl
+fixed_channels Source port channels f = absurd f
+fixed_channels (Gain g) port channels f = absurd f
+fixed_channels (Mix2 ga gb) port channels f = absurd f
+fixed_channels (Delay frames) port channels f = absurd f
+fixed_channels Sink port channels f = absurd f
+fixed_channels Meter port channels f = absurd f
+fixed_channels Dummy port channels f = absurd f
+
 -- five fields of these keys ascend
 five_sound : (a b c d e : Choice) → IsSound a → IsSound b → IsSound c → IsSound d → IsSound e
     → AreSoundFields (plain_field 1 a ∷ plain_field 2 b ∷ plain_field 65537 c ∷ plain_field 65539 d ∷ plain_field 65540 e ∷ [])
@@ -164,6 +180,7 @@ own_new kind rate channels port r f = record {
     own = refl;
     numbers = channels_numbers kind port rate channels r f;
   };
+  single = fixed_channels kind port channels;
 }
 
 -- the ports of a new node

@@ -61,6 +61,13 @@ abbrev pub new_node : Kind → ℕ → ℕ → Node
 new_node kind rate channels =
     record { kind = kind; ports = map (new_port kind rate channels) (range_with_len 0 (port_count kind)) }
 
+-- whether the kind fixes the channels of its ports
+abbrev pub FixesChannels : Kind → Type 0
+FixesChannels (Square rate channels period amp) = Unit {0}
+FixesChannels (Map channels list) = Unit {0}
+FixesChannels Split = Unit {0}
+FixesChannels _ = ⊥
+
 -- which keys all ports of a node share: the rate, and of some kinds the channels
 abbrev pub is_shared_key : Kind → ℕ → Bool
 is_shared_key (Gain g) key = (key == 65539) || (key == 65540)

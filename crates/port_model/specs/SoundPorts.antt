@@ -1,6 +1,6 @@
 -- Sound ports: what holds of the ports that a script has made, whatever it said.
 -- Source: this project's own.
-use Rattle.std.specs.Prelude.{◌≡◌, ℕ, ◌≤◌, List, Some, None, true, length, slice_get, IfSome}
+use Rattle.std.specs.Prelude.{◌≡◌, ℕ, ◌≤◌, List, Some, None, true, length, slice_get, IfSome, IsSome}
 use Rattle.std.specs.List.{All}
 use Rattle.pod_codec.specs.declared.pod.Pod.{Pod}
 use Rattle.pw_base.specs.declared.kind.Kind.{Kind}
@@ -13,7 +13,7 @@ use Rattle.format_filter.specs.Members.{IsMember}
 use Rattle.format_filter.specs.CommonFormat.{field_of, IsSoundFormat}
 use Rattle.port_model.specs.declared.port_state.PortState.{PortState}
 use Rattle.port_model.specs.declared.port_state.Node.{Node}
-use Rattle.port_model.specs.Offers.{int_of, is_shared_key}
+use Rattle.port_model.specs.Offers.{int_of, is_shared_key, FixesChannels}
 use Rattle.port_model.specs.Forms.{value_at, shared_value}
 
 -- an Int of a number for which P holds
@@ -26,13 +26,15 @@ pub record Admits (fields : List Field) (key : ℕ) (P : ℕ → Type 0) : Type 
   pub own : field_of fields key ≡ Some field
   pub numbers : (x : Pod) → IsMember field.choice x → IsNumber P x
 
--- an own offer has a rate and channels that its kind may have
+-- an own offer has a rate and channels that its kind may have; where the kind fixes the channels, they are
+-- one value
 pub record IsOwnOffer (kind : Kind) (port : ℕ) (own : Format) : Type 0 where
   pub sound : IsSoundFormat own
   pub object : own.object ≡ 262147
   pub id : own.id ≡ 3
   pub rate : Admits own.fields 65539 (MayHaveRate kind)
   pub channels : Admits own.fields 65540 (MayHaveChannels kind port)
+  pub single : FixesChannels kind → IsSome (value_at own.fields 65540)
 
 -- the value of a format at a key is one that an own offer admits
 pub record IsWithin (own format : Format) (key : ℕ) : Type 0 where

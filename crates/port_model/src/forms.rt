@@ -1,10 +1,11 @@
 //! The form of a port: its rate and its channels.
-ghost use Rattle.std.specs.Prelude.{◌≡◌, ℕ, MatchOption, IfSome, Some};
+ghost use Rattle.std.specs.Prelude.{◌≡◌, ℕ, MatchOption, IfSome, IsSome, Some};
 ghost use Rattle.std.specs.Option.{option_copied};
 ghost use Rattle.pw_base.specs.KindRanges.{MayHaveRate, MayHaveChannels};
 ghost use Rattle.port_model.specs.PortState.{IsPort, AtPort};
 ghost use Rattle.port_model.specs.Offers.{int_of};
 ghost use Rattle.port_model.specs.Forms.{value_of, IsForm};
+ghost use Rattle.port_model.specs.SoundPorts.{AreSoundNodes};
 
 use crate::kind_offers::{CHANNELS, RATE};
 use crate::places::{node_at, state_at};
@@ -41,13 +42,15 @@ fn number_of(node: &Node, state: &PortState, key: u32) -> Option<u32>
 
 impl Ports {
     /// The rate of a port in frames a second and its number of channels: those of its format, else the values that
-    /// its node shares, else the one value that its own offer has. `None` exactly where these do not fix both.
-    /// Takes no memory.
+    /// its node shares, else the one value that its own offer has. `None` exactly where these do not fix both; a
+    /// port with its format has both. Takes no memory.
     pub fn sound(&self, port: PortId) -> Option<(u32, u32)>
         requires { IsPort self.now port }
         ensures form { AtPort self.now port (λ node s. IsForm node s result) }
+        ensures has { AtPort self.now port (λ node s. IsSome s.format → IsSome result) }
         ensures range { IfSome result (λ form. AtPort self.now port
             (λ node s. MayHaveRate node.kind form.0 × MayHaveChannels node.kind port.port form.1)) }
+        ensures nodes { AreSoundNodes self.now }
     {
         let node = node_at(self.nodes.as_slice(), port);
         let state = state_at(node, port.port);

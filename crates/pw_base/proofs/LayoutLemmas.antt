@@ -14,8 +14,8 @@ use Rattle.pw_base.specs.declared.pools.PoolShape.{PoolShape}
 use Rattle.pw_base.specs.declared.shape.Shape.{Shape}
 use Rattle.pw_base.specs.declared.shape.ShapeLink.{ShapeLink}
 use Rattle.pw_base.specs.SoundShape.{IsSoundLink}
-use Rattle.pw_base.specs.Pools.{is_port, is_before, with_port, sources_of, links_from, asked, blocks_of, pool_of, pools_of, IsPooledShape}
-use Rattle.pw_base.specs.Words.{status_word_of}
+use Rattle.pw_base.specs.Pools.{is_same_port, is_before, with_port, sources_of, links_from, asked, blocks_of, pool_of, pools_of, IsPooledShape}
+use Rattle.pw_base.specs.Words.{not_triggered_word}
 use Rattle.pw_base.specs.Layout.{node_count, areas_of, area_count, event_count, pool_words, io_start, pool_start, start_words, word_count}
 use Rattle.pw_base.proofs.PrecedenceLemmas.{holds_at}
 
@@ -52,7 +52,7 @@ some_asked : (b : Bool) (n : ℕ) → 1 ≤ n → 1 ≤ cond b (max 2 n) n
 some_asked true n h = omega arith
 some_asked false n h = h
 
-same_port : (p : PortId) → is_port p p ≡ true
+same_port : (p : PortId) → is_same_port p p ≡ true
 same_port p = rw ((Decides-eqb p.node p.node).1 refl, (Decides-eqb p.port p.port).1 refl) refl
 
 module _ (shape : Shape) (links : All (IsSoundLink shape) shape.links) where
@@ -63,7 +63,7 @@ module _ (shape : Shape) (links : All (IsSoundLink shape) shape.links) where
   of_link k d lt =
       let l : ShapeLink = get_or shape.links k d in
       let at : Contains (links_from shape l.from) l =
-      holds_at (λ m. is_port m.from l.from) shape.links l k (same_port l.from) lt (get_or_default shape.links k l d lt) in
+      holds_at (λ m. is_same_port m.from l.from) shape.links l k (same_port l.from) lt (get_or_default shape.links k l d lt) in
       let most : asked (get_or (links_from shape l.from) at.0 l) ≤ blocks_of shape l.from =
       fold_max_has asked 0 (links_from shape l.from) at.0 l at.1 in
       let same : asked (get_or (links_from shape l.from) at.0 l) ≡ asked l = ap asked at.2 in
@@ -108,7 +108,7 @@ areas_start first links = length-flat_map (io_start first) links
 pub length-start_words : (shape : Shape) → IsPooledShape shape → length (start_words shape) ≡ word_count shape
 length-start_words shape h =
     let pending : List ℕ = replicate (node_count shape) 0 in
-    let status : List ℕ = replicate (node_count shape) (status_word_of 0 shape.first) in
+    let status : List ℕ = replicate (node_count shape) (not_triggered_word shape.first) in
     let areas : List ℕ = flat_map (io_start shape.first) shape.links in
     let events : List ℕ = replicate (shape.cycles + event_count shape) 0 in
     let pools : List ℕ = flat_map (pool_start shape) (pools_of shape) in
@@ -120,7 +120,7 @@ length-start_words shape h =
     let l3 : length (areas ++ (events ++ pools)) ≡ length areas + length (events ++ pools) = length-append areas (events ++ pools) in
     let l4 : length (events ++ pools) ≡ length events + length pools = length-append events pools in
     let n1 : length pending ≡ node_count shape = length-replicate (node_count shape) 0 in
-    let n2 : length status ≡ node_count shape = length-replicate (node_count shape) (status_word_of 0 shape.first) in
+    let n2 : length status ≡ node_count shape = length-replicate (node_count shape) (not_triggered_word shape.first) in
     let n3 : length areas ≡ area_count shape.links = areas_start shape.first shape.links in
     let n4 : length events ≡ shape.cycles + event_count shape = length-replicate (shape.cycles + event_count shape) 0 in
     let n5 : length pools ≡ sum_by pool_words (pools_of shape) = pools_start shape h.sound.links.each in

@@ -11,3 +11,4 @@ pub mod PlanSumsLemmas
 pub mod PoolLemmas
 pub mod PrecedenceLemmas
 pub mod ShapeLemmas
+pub mod WorkedRows

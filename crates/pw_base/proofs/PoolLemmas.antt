@@ -8,17 +8,17 @@ use Rattle.std.proofs.lemmas.Bool.{and_parts, and_from}
 use Rattle.std.proofs.lemmas.List.Elements.{All-head, All-tail, All-filter}
 use Rattle.pw_base.specs.declared.ids.PortId.{PortId}
 use Rattle.pw_base.specs.declared.shape.Shape.{Shape}
-use Rattle.pw_base.specs.Pools.{IsPooledShape, channels_of, is_port}
+use Rattle.pw_base.specs.Pools.{IsPooledShape, channels_of, is_same_port}
 
 -- ports that are the same are one
 pub port_is : (p q : PortId) → p.node ≡ q.node → p.port ≡ q.port → p ≡ q
 port_is p q e f = λ i. record { node = e i; port = f i }
 
-pub same_port : (p q : PortId) → is_port p q ≡ true → p ≡ q
+pub same_port : (p q : PortId) → is_same_port p q ≡ true → p ≡ q
 same_port p q e = let h = and_parts (p.node == q.node) (p.port == q.port) e in
     port_is p q (eqb-true p.node q.node h.0) (eqb-true p.port q.port h.1)
 
-pub port_same : (p q : PortId) → p ≡ q → is_port p q ≡ true
+pub port_same : (p q : PortId) → p ≡ q → is_same_port p q ≡ true
 port_same p q e =
     and_from (p.node == q.node) (p.port == q.port) (eq-eqb p.node q.node (ap (λ x. x.node) e)) (eq-eqb p.port q.port (ap (λ x. x.port) e))
 
@@ -33,7 +33,7 @@ fold_max_le f m a (x ∷ xs) low each =
 pub channels_le : (shape : Shape) (port : PortId) → IsPooledShape shape → channels_of shape port ≤ 8
 channels_le shape port h =
     fold_max_le (λ l. l.channels) 8 0 _ (omega arith)
-    (All-filter (λ l. is_port l.from port) (λ l. l.channels ≤ 8) shape.links (λ k d lt. (h.sound.links.each k d lt).channels.1))
+    (All-filter (λ l. is_same_port l.from port) (λ l. l.channels ≤ 8) shape.links (λ k d lt. (h.sound.links.each k d lt).channels.1))
 
 module _ {X : Type 0} (test : X → Bool) where
   abbrev places : ℕ → List X → List ℕ

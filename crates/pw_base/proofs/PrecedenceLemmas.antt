@@ -15,7 +15,7 @@ use Rattle.std.proofs.lemmas.List.Elements.{Contains-append_right, Contains-appe
 use Rattle.pw_base.specs.declared.shape.Shape.{Shape}
 use Rattle.pw_base.specs.LinkOrder.{HasOrder}
 use Rattle.pw_base.specs.SoundShape.{HasSoundNodes, IsSoundShape}
-use Rattle.pw_base.specs.Dependencies.{nodes_of, joins, are_linked, waits, DependsOn, dependencies_of, targets_of, Precedes}
+use Rattle.pw_base.specs.Dependencies.{nodes_of, joins, are_linked, waits, IsDependency, dependencies_of, targets_of, Precedes}
 
 -- what a filter holds
 held : {X : Type 0} (p : X → Bool) (xs : List X) (x : X) → Contains (filter p xs) x → Contains xs x × (p x ≡ true)
@@ -39,7 +39,7 @@ holds_at p (y ∷ ys) x zero t lt e = in_front (p y) y x (filter p ys) (ap p e �
 holds_at p (y ∷ ys) x (suc k) t lt e = behind (p y) y x (filter p ys) (holds_at p ys x k t (omega arith) e)
 
 -- the dependencies of a node are what it depends on
-pub dependencies_are : (shape : Shape) (m n : ℕ) → Contains (nodes_of shape) n → Contains (dependencies_of shape n) m ↔ DependsOn shape m n
+pub dependencies_are : (shape : Shape) (m n : ℕ) → Contains (nodes_of shape) n → Contains (dependencies_of shape n) m ↔ IsDependency shape m n
 dependencies_are shape m n here = (
   λ c. let h = held (waits shape n) (nodes_of shape) m c in record { from_active = h.0; to_active = here; waits = h.1 },
   λ d. holds_at (waits shape n) (nodes_of shape) m d.from_active.0 d.waits d.from_active.1 d.from_active.2,
@@ -137,7 +137,7 @@ driver_waits_for shape m n e = or_here (m == shape.driver) (n == shape.driver) (
 
 -- the targets of a node are those that depend on it
 module _ (shape : Shape) (m n : ℕ) (nodes : HasSoundNodes shape) (from : Contains (nodes_of shape) m) where
-  pub targets_depend : Contains (targets_of shape m) n → DependsOn shape m n
+  pub targets_depend : Contains (targets_of shape m) n → IsDependency shape m n
   targets_depend c = elim (Contains-append_cases _ (shape.driver ∷ []) n c) [
     | inl f ↦ (let h = held (λ k. not (k == shape.driver) && waits shape k m) (nodes_of shape) n f in
         record { from_active = from; to_active = h.0; waits = (and_parts _ _ h.1).1 })
@@ -145,7 +145,7 @@ module _ (shape : Shape) (m n : ℕ) (nodes : HasSoundNodes shape) (from : Conta
         record { from_active = from; to_active = subst (Contains (nodes_of shape)) e nodes.driver; waits = driver_waits_for shape m n e })
   ]
 
-  pub dependents_are_targets : DependsOn shape m n → Contains (targets_of shape m) n
+  pub dependents_are_targets : IsDependency shape m n → Contains (targets_of shape m) n
   dependents_are_targets d = dite (ℕ_discrete n shape.driver)
       (λ e. Contains-append_right _ (shape.driver ∷ []) n (0, omega arith, sym e))
       (λ ne. Contains-append_left _ (shape.driver ∷ []) n

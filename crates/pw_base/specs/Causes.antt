@@ -1,5 +1,5 @@
 -- Causes: a count of faults that only its object's own failures raise.
-use Rattle.std.specs.Prelude.{ℕ, ◌+◌, ◌-◌, ◌^◌, ◌≤◌, min, Result, Ok, Err}
+use Rattle.std.specs.Prelude.{◌≡◌, ℕ, ◌+◌, ◌-◌, ◌^◌, ◌≤◌, min, Result, Ok, Err}
 use Rattle.pw_base.specs.declared.files.FileFail.{FileFail}
 use Rattle.pw_base.specs.declared.files.FileFail.TheVariants.{Failed, Memory}
 
@@ -7,8 +7,8 @@ use Rattle.pw_base.specs.declared.files.FileFail.TheVariants.{Failed, Memory}
 abbrev pub Rose : ℕ → ℕ → Type 0
 Rose before now = min (before + 1) (2 ^ 64 - 1) ≤ now
 
--- a failure comes only where the count rose; want of memory is free
+-- the count rises with a failure, and only then; want of memory is free
 abbrev pub HasCause : {T : Type 0} → ℕ → ℕ → Result T FileFail → Type 0
-HasCause before now (Ok x) = Unit {0}
+HasCause before now (Ok x) = now ≡ before
 HasCause before now (Err Failed) = Rose before now
-HasCause before now (Err Memory) = Unit {0}
+HasCause before now (Err Memory) = now ≡ before

@@ -22,7 +22,7 @@ abbrev pub waits : Shape → ℕ → ℕ → Bool
 waits shape n m = (m == shape.driver) || ((n == shape.driver) || are_linked shape m n)
 
 -- DEPENDENCY: of two active nodes, m is a dependency of n
-pub record DependsOn (shape : Shape) (m n : ℕ) : Type 0 where
+pub record IsDependency (shape : Shape) (m n : ℕ) : Type 0 where
   pub from_active : Contains (nodes_of shape) m
   pub to_active : Contains (nodes_of shape) n
   pub waits : IsTrue (waits shape n m)
@@ -41,5 +41,5 @@ targets_of shape m = filter (λ n. not (n == shape.driver) && waits shape n m) (
 
 -- PRECEDES: in each cycle, the Finish of m comes before the Start of n; so no node waits for the driver's own work
 pub record Precedes (shape : Shape) (m n : ℕ) : Type 0 where
-  pub depends : DependsOn shape m n
+  pub depends : IsDependency shape m n
   pub follower : ¬ (m ≡ shape.driver)

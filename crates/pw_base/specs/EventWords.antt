@@ -1,6 +1,7 @@
 -- Event words: how an event stands in one word of 64 bits, 0 where none is stored yet, and what is read back from one.
 -- Source: this project's own numbers; no public standard has them.
 use Rattle.std.specs.Prelude.{◌≡◌, ℕ, ◌+◌, ◌*◌, ◌/◌, ◌%◌, ◌^◌, ◌<◌, ◌≤◌, ◌==◌, if◌then◌else◌}
+use Rattle.pw_base.specs.Limits.{dummy_node}
 use Rattle.pw_base.specs.declared.event.Event.{Event}
 use Rattle.pw_base.specs.declared.event.Event.TheVariants.{Begin, Start, Finish, Tick, End}
 
@@ -38,7 +39,7 @@ abbrev pub event_word_of : Event → ℕ
 event_word_of event = event_kind event + 1 + 8 * event_node event + 512 * event_cycle event
 
 abbrev pub IsEventWord : ℕ → Type 0
-IsEventWord word = (event : Event) × (event_node event ≤ 63) × (event_cycle event < 2 ^ 32)
+IsEventWord word = (event : Event) × (event_node event ≤ dummy_node) × (event_cycle event < 2 ^ 32)
     × (word ≡ event_word_of event)
 
 -- the event of a word, with the late set where it is a Tick

@@ -9,6 +9,7 @@ use Rattle.pw_base.specs.declared.plan.Plan.{Plan}
 use Rattle.pw_base.specs.declared.plan.PlanNode.{PlanNode}
 use Rattle.pw_base.specs.declared.plan.PortForm.{PortForm}
 use Rattle.pw_base.specs.declared.kind.Kind.TheVariants.{Sink}
+use Rattle.pw_base.specs.Limits.{dummy_node}
 use Rattle.pw_base.specs.Dependencies.{nodes_of}
 use Rattle.pw_base.specs.KindPorts.{port_count}
 use Rattle.pw_base.specs.KindRanges.{IsSinkOrMeter}
@@ -31,17 +32,17 @@ pub record HasAllForms (plan : Plan) (epoch : Epoch) (node : ℕ) : Type 0 where
 pub record IsWhole (plan : Plan) (epoch : Epoch) (n : ShapeNode) : Type 0 where
   pub follower : ¬ (n.node ≡ epoch.shape.driver) → HasAllForms plan epoch n.node
 
--- a node is a place of the plan's, or 63
+-- a node is one of the plan's, or the dummy
 pub record IsPlace (plan : Plan) (n : ShapeNode) : Type 0 where
-  pub place : ¬ (n.node ≡ 63) → n.node < length plan.nodes
+  pub place : ¬ (n.node ≡ dummy_node) → n.node < length plan.nodes
 
--- 63 drives where it is there
+-- the dummy drives where it is there
 pub record HasSoundDummy (epoch : Epoch) : Type 0 where
-  pub drives : Contains (nodes_of epoch.shape) 63 → epoch.shape.driver ≡ 63
+  pub drives : Contains (nodes_of epoch.shape) dummy_node → epoch.shape.driver ≡ dummy_node
 
--- 63 drives, or a sink or meter
+-- the dummy drives, or a sink or meter
 pub record HasSoundDriver (plan : Plan) (epoch : Epoch) : Type 0 where
-  pub either : (epoch.shape.driver ≡ 63) ⊎ IsSinkOrMeter (kind_at plan epoch.shape.driver)
+  pub either : (epoch.shape.driver ≡ dummy_node) ⊎ IsSinkOrMeter (kind_at plan epoch.shape.driver)
 
 -- a form, if of a sink, is the rate and channels that its node ends with
 pub record IsEnded (plan : Plan) (form : PortForm) : Type 0 where

@@ -3,13 +3,14 @@
 use Rattle.std.specs.Prelude.{◌≡◌, ℕ, zero, suc, ◌<◌, ◌≤◌, length, All, ℤ, pos, neg_ℤ, ◌≤ℤ◌}
 use Rattle.pw_base.specs.declared.kind.Kind.{Kind}
 use Rattle.pw_base.specs.declared.kind.Kind.TheVariants.{Source, Square, Gain, Mix2, Delay, Map, Split, Sink, Meter, Dummy}
+use Rattle.pw_base.specs.Limits.{rate_limit, channels_limit}
 use Rattle.pw_base.specs.SoundShape.{IsBetween}
 
 abbrev pub IsRate : ℕ → Type 0
-IsRate rate = IsBetween 1 384000 rate
+IsRate rate = IsBetween 1 rate_limit rate
 
 abbrev pub IsChannels : ℕ → Type 0
-IsChannels channels = IsBetween 1 8 channels
+IsChannels channels = IsBetween 1 channels_limit channels
 
 -- a gain in 1/256
 abbrev pub IsGain : ℤ → Type 0

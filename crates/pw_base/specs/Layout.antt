@@ -8,7 +8,7 @@ use Rattle.pw_base.specs.declared.pools.PoolShape.{PoolShape}
 use Rattle.pw_base.specs.declared.shape.Shape.{Shape}
 use Rattle.pw_base.specs.declared.shape.ShapeLink.{ShapeLink}
 use Rattle.pw_base.specs.Pools.{pools_of, links_from}
-use Rattle.pw_base.specs.Words.{status_word_of, io_word_of, no_block}
+use Rattle.pw_base.specs.Words.{no_block, have_data_word, need_data_word, not_triggered_word}
 
 -- nodes, io areas of one link and of links, and events of all cycles
 abbrev pub node_count : Shape → ℕ
@@ -64,15 +64,15 @@ word_count shape = event_place shape (event_count shape) + sum_by pool_words (po
 -- AT THE START: area 0 first; the area of a delayed link that is read in the first cycle names block 0
 abbrev pub io_start : ℕ → ShapeLink → List ℕ
 io_start first link =
-    if link.delayed then (if first % 2 == 0 then io_word_of 2 0 ∷ io_word_of 1 no_block ∷ []
-    else io_word_of 1 no_block ∷ io_word_of 2 0 ∷ [])
-    else io_word_of 1 no_block ∷ []
+    if link.delayed then (if first % 2 == 0 then have_data_word 0 ∷ need_data_word no_block ∷ []
+    else need_data_word no_block ∷ have_data_word 0 ∷ [])
+    else need_data_word no_block ∷ []
 
 -- block 0 begins out, read by the pool's delayed links
 abbrev pub pool_start : Shape → PoolShape → List ℕ
 pool_start shape pool = count_by (λ l. l.delayed) (links_from shape pool.port) ∷ replicate (pool_words pool - 1) 0
 
 abbrev pub start_words : Shape → List ℕ
-start_words shape = 0 ∷ (replicate (node_count shape) 0 ++ (replicate (node_count shape) (status_word_of 0 shape.first)
+start_words shape = 0 ∷ (replicate (node_count shape) 0 ++ (replicate (node_count shape) (not_triggered_word shape.first)
     ++ (flat_map (io_start shape.first) shape.links ++
     (replicate (shape.cycles + event_count shape) 0 ++ flat_map (pool_start shape) (pools_of shape)))))

@@ -2,6 +2,7 @@ pub mod Causes
 pub mod Dependencies
 pub mod EventWords
 pub mod Every
+pub mod FailingCalls
 pub mod Files
 pub mod FormChecks
 pub mod FreshChecks

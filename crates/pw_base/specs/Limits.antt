@@ -16,9 +16,32 @@ which_number W.SinkSamples = 9
 which_number W.BlockBytes = 10
 which_number W.TraceBytes = 11
 
--- a script, a WAV file and all WAV files of a run, in bytes
+-- the number of the built-in node, which drives where no other does; the nodes of a script are those below
+abbrev pub dummy_node : ℕ
+dummy_node = 63
+
+-- the links of a graph, the frames of a quantum, the frames a second, the channels of a port, the buffers of a link
+abbrev pub links_limit : ℕ
+links_limit = 256
+
+abbrev pub quantum_limit : ℕ
+quantum_limit = 8192
+
+abbrev pub rate_limit : ℕ
+rate_limit = 384000
+
+abbrev pub channels_limit : ℕ
+channels_limit = 8
+
+abbrev pub buffers_limit : ℕ
+buffers_limit = 8
+
+-- a script, the body of a POD, a WAV file and all WAV files of a run, in bytes
 abbrev pub script_bytes_limit : ℕ
 script_bytes_limit = 1048576
+
+abbrev pub pod_bytes_limit : ℕ
+pod_bytes_limit = 1048576
 
 abbrev pub wav_bytes_limit : ℕ
 wav_bytes_limit = 268435456

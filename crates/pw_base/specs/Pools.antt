@@ -10,8 +10,8 @@ use Rattle.pw_base.specs.declared.shape.ShapeLink.{ShapeLink}
 use Rattle.pw_base.specs.declared.pools.PoolShape.{PoolShape}
 use Rattle.pw_base.specs.SoundShape.{IsSoundShape}
 
-abbrev pub is_port : PortId → PortId → Bool
-is_port p q = (p.node == q.node) && (p.port == q.port)
+abbrev pub is_same_port : PortId → PortId → Bool
+is_same_port p q = (p.node == q.node) && (p.port == q.port)
 
 -- ports are ordered by node, then by port
 abbrev pub is_before : PortId → PortId → Bool
@@ -27,10 +27,10 @@ sources_of shape = fold (λ ports l. with_port ports l.from) [] shape.links
 
 -- the links from a port, and their numbers
 abbrev pub links_from : Shape → PortId → List ShapeLink
-links_from shape port = filter (λ l. is_port l.from port) shape.links
+links_from shape port = filter (λ l. is_same_port l.from port) shape.links
 
 abbrev pub link_ids_from : List ShapeLink → PortId → List ℕ
-link_ids_from links port = map (λ e. e.0) (filter (λ e. is_port e.1.from port) (enumerate_from 0 links))
+link_ids_from links port = map (λ e. e.0) (filter (λ e. is_same_port e.1.from port) (enumerate_from 0 links))
 
 -- the blocks that a link asks for: its buffers, and at least 2 where it is delayed
 abbrev pub asked : ShapeLink → ℕ

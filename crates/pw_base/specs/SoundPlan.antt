@@ -7,7 +7,7 @@ use Rattle.pw_base.specs.declared.ids.PortId.{PortId}
 use Rattle.pw_base.specs.declared.plan.Epoch.{Epoch}
 use Rattle.pw_base.specs.declared.plan.PlanNode.{PlanNode}
 use Rattle.pw_base.specs.declared.plan.Plan.{Plan}
-use Rattle.pw_base.specs.Limits.{events_limit, sink_samples_limit, block_bytes_limit}
+use Rattle.pw_base.specs.Limits.{dummy_node, events_limit, sink_samples_limit, block_bytes_limit}
 use Rattle.pw_base.specs.Dependencies.{nodes_of}
 use Rattle.pw_base.specs.Pools.{IsPooledShape}
 use Rattle.pw_base.specs.KindRanges.{IsInRange, IsRate, IsChannels, IsSinkOrMeter}
@@ -26,12 +26,12 @@ pub record IsSoundNode (node : PlanNode) : Type 0 where
   pub kept : ((node.rate ≡ 0) × (node.channels ≡ 0))
       ⊎ (IsSinkOrMeter node.kind × IsRate node.rate × IsChannels node.channels)
 
--- an epoch's nodes are places of the plan's, but for 63, which is there exactly where it drives; else a sink or meter
--- drives
+-- an epoch's nodes are those of the plan, but for the dummy, which is there exactly where it drives; else a sink or
+-- meter drives
 pub record HasSoundPlaces (plan : Plan) (epoch : Epoch) : Type 0 where
-  pub places : (n : ℕ) → Contains (nodes_of epoch.shape) n → ¬ (n ≡ 63) → n < length plan.nodes
-  pub dummy : Contains (nodes_of epoch.shape) 63 → epoch.shape.driver ≡ 63
-  pub driver : (epoch.shape.driver ≡ 63) ⊎ IsSinkOrMeter (kind_at plan epoch.shape.driver)
+  pub places : (n : ℕ) → Contains (nodes_of epoch.shape) n → ¬ (n ≡ dummy_node) → n < length plan.nodes
+  pub dummy : Contains (nodes_of epoch.shape) dummy_node → epoch.shape.driver ≡ dummy_node
+  pub driver : (epoch.shape.driver ≡ dummy_node) ⊎ IsSinkOrMeter (kind_at plan epoch.shape.driver)
 
 -- a sink's form is the rate and channels that its node ends with
 abbrev pub EndsWith : Plan → Epoch → Type 0
@@ -49,7 +49,7 @@ pub record IsSoundEpoch (plan : Plan) (epoch : Epoch) : Type 0 where
 -- SOUND PLAN
 pub record IsSoundPlan (plan : Plan) : Type 0 where
   pub follow : FollowFrom 0 plan.epochs
-  pub few : length plan.nodes ≤ 63
+  pub few : length plan.nodes ≤ dummy_node
   pub nodes : All IsSoundNode plan.nodes
   pub epochs : All (IsSoundEpoch plan) plan.epochs
   pub fresh : HasSoundFresh plan

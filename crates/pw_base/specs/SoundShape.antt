@@ -5,7 +5,7 @@ use Rattle.std.specs.List.Sorted.{IsStrictlyIncreasing}
 use Rattle.pw_base.specs.declared.shape.Shape.{Shape}
 use Rattle.pw_base.specs.declared.shape.ShapeNode.{ShapeNode}
 use Rattle.pw_base.specs.declared.shape.ShapeLink.{ShapeLink}
-use Rattle.pw_base.specs.Limits.{events_limit}
+use Rattle.pw_base.specs.Limits.{dummy_node, links_limit, quantum_limit, channels_limit, buffers_limit, events_limit}
 use Rattle.pw_base.specs.LinkOrder.{HasOrder}
 use Rattle.pw_base.specs.Dependencies.{nodes_of, required_of, targets_of}
 
@@ -13,38 +13,39 @@ use Rattle.pw_base.specs.Dependencies.{nodes_of, required_of, targets_of}
 abbrev pub IsBetween : ℕ → ℕ → ℕ → Type 0
 IsBetween low high n = (low ≤ n) × (n ≤ high)
 
--- the nodes ascend, are numbers up to 63, and hold the driver
+-- the nodes ascend, are numbers up to that of the dummy, and hold the driver
 pub record HasSoundNodes (shape : Shape) : Type 0 where
   pub ascend : IsStrictlyIncreasing (nodes_of shape)
-  pub numbers : All (λ n. n.node ≤ 63) shape.nodes
+  pub numbers : All (λ n. n.node ≤ dummy_node) shape.nodes
   pub driver : Contains (nodes_of shape) shape.driver
 
 -- a node's required count and targets are those of its dependencies
 abbrev pub IsCounted : Shape → ShapeNode → Type 0
 IsCounted shape n = (n.required ≡ required_of shape n.node) × (n.targets ≡ targets_of shape n.node)
 
--- a link joins two active nodes, does not start at the driver, and has 1 to 8 channels and buffers
+-- a link joins two different active nodes, does not start at the driver, and has 1 to 8 channels and buffers
 pub record IsSoundLink (shape : Shape) (link : ShapeLink) : Type 0 where
   pub from_active : Contains (nodes_of shape) link.from.node
   pub to_active : Contains (nodes_of shape) link.to.node
   pub from_follower : ¬ (link.from.node ≡ shape.driver)
-  pub channels : IsBetween 1 8 link.channels
-  pub buffers : IsBetween 1 8 link.buffers
+  pub ends : ¬ (link.from.node ≡ link.to.node)
+  pub channels : IsBetween 1 channels_limit link.channels
+  pub buffers : IsBetween 1 buffers_limit link.buffers
 
 -- two links do not have the same two ports
 abbrev pub AreApart : ShapeLink → ShapeLink → Type 0
 AreApart k l = ¬ ((k.from ≡ l.from) × (k.to ≡ l.to))
 
--- at most 256 links, each sound, no two with the same two ports, and no loop
+-- not too many links, each sound, no two with the same two ports, and no loop
 pub record HasSoundLinks (shape : Shape) : Type 0 where
-  pub few : length shape.links ≤ 256
+  pub few : length shape.links ≤ links_limit
   pub each : All (IsSoundLink shape) shape.links
   pub apart : AllPairs AreApart shape.links
   pub order : HasOrder shape.links
 
 -- an epoch of at least one cycle has a number of 32 bits for each cycle and a ticket for each of its events
 pub record HasSoundCycles (shape : Shape) : Type 0 where
-  pub quantum : IsBetween 1 8192 shape.quantum
+  pub quantum : IsBetween 1 quantum_limit shape.quantum
   pub some : 1 ≤ shape.cycles
   pub events : shape.cycles * (2 * length shape.nodes + 3) ≤ events_limit
   pub numbers : shape.first + shape.cycles ≤ 2 ^ 32

@@ -2,12 +2,12 @@
 -- Source: spa/node/io.h, spa_io_buffers (SPA_STATUS_NEED_DATA, SPA_STATUS_HAVE_DATA, SPA_ID_INVALID); the rest is this
 -- project's.
 use Rattle.std.specs.Prelude.{◌≡◌, ℕ, ◌+◌, ◌-◌, ◌*◌, ◌/◌, ◌%◌, ◌^◌, ◌<◌, ◌≤◌}
-use Rattle.pw_base.specs.declared.status.Status.{Status}
-use Rattle.pw_base.specs.declared.status.Status.TheVariants.{NotTriggered, Triggered, Awake, Finished}
+use Rattle.pw_base.specs.declared.status.ActivationStatus.{ActivationStatus}
+use Rattle.pw_base.specs.declared.status.ActivationStatus.TheVariants.{NotTriggered, Triggered, Awake, Finished}
 use Rattle.pw_base.specs.declared.status.AreaStatus.{AreaStatus}
 use Rattle.pw_base.specs.declared.status.AreaStatus.TheVariants.{NeedData, HaveData}
 
-abbrev pub status_number : Status → ℕ
+abbrev pub status_number : ActivationStatus → ℕ
 status_number NotTriggered = 0
 status_number Triggered = 1
 status_number Awake = 2
@@ -21,6 +21,18 @@ area_status_number HaveData = 2
 abbrev pub status_word_of : ℕ → ℕ → ℕ
 status_word_of status cycle = status + 4 * cycle
 
+abbrev pub not_triggered_word : ℕ → ℕ
+not_triggered_word cycle = status_word_of (status_number NotTriggered) cycle
+
+abbrev pub triggered_word : ℕ → ℕ
+triggered_word cycle = status_word_of (status_number Triggered) cycle
+
+abbrev pub awake_word : ℕ → ℕ
+awake_word cycle = status_word_of (status_number Awake) cycle
+
+abbrev pub finished_word : ℕ → ℕ
+finished_word cycle = status_word_of (status_number Finished) cycle
+
 abbrev pub status_in : ℕ → ℕ
 status_in word = word % 4
 
@@ -33,6 +45,12 @@ IsStatusWord word = (status cycle : ℕ) × (status ≤ 3) × (cycle < 2 ^ 32) �
 -- a status of an io area and the number of a block
 abbrev pub io_word_of : ℕ → ℕ → ℕ
 io_word_of status id = status + 2 ^ 32 * id
+
+abbrev pub need_data_word : ℕ → ℕ
+need_data_word id = io_word_of (area_status_number NeedData) id
+
+abbrev pub have_data_word : ℕ → ℕ
+have_data_word id = io_word_of (area_status_number HaveData) id
 
 abbrev pub io_status_in : ℕ → ℕ
 io_status_in word = word % 2 ^ 32

@@ -1,6 +1,6 @@
 //! Numbers of nodes, links and ports.
 ghost use Rattle.std.specs.Prelude.{◌≡◌};
-ghost use Rattle.pw_base.specs.Pools.{is_port};
+ghost use Rattle.pw_base.specs.Pools.{is_same_port};
 
 /// A node's number: its place among the script's nodes, from 0 to 62, or `DUMMY`.
 pub type NodeId = u32;
@@ -22,8 +22,8 @@ pub struct PortId {
 }
 
 /// Whether two ports are the same. Takes no memory.
-pub fn is_port(p: PortId, q: PortId) -> bool
-    ensures { result ≡ is_port p q }
+pub fn is_same_port(p: PortId, q: PortId) -> bool
+    ensures { result ≡ is_same_port p q }
 {
     p.node == q.node && p.port == q.port
 }

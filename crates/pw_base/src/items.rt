@@ -51,6 +51,13 @@ impl<T> Items<T> {
         self.inner.as_slice()
     }
 
+    /// The values of a vector, in its memory. Takes none.
+    pub fn from_vec(values: Vec<T>) -> Items<T>
+        ensures { result ≡ values.items }
+    {
+        Items { inner: values }
+    }
+
     /// The values as a vector, to be moved out one by one. Takes no memory.
     pub fn into_vec(self) -> Vec<T>
         ensures { result.items ≡ self }

@@ -5,20 +5,21 @@ ghost use Rattle.pw_base.specs.KindRanges.{IsSinkOrMeter};
 ghost use Rattle.pw_base.specs.PlanSums.{is_sink};
 
 use crate::kind::Kind;
+use crate::limit::{CHANNELS_LIMIT, RATE_LIMIT};
 use crate::soundness::is_between;
 
 /// Whether it is a rate.
 pub(crate) fn is_rate(rate: u32) -> bool
     ensures { IsTrue result ↔ IsRate rate }
 {
-    is_between(1, 384_000, rate)
+    is_between(1, RATE_LIMIT, rate)
 }
 
 /// Whether it is a number of channels.
 pub(crate) fn is_channels(channels: u32) -> bool
     ensures { IsTrue result ↔ IsChannels channels }
 {
-    is_between(1, 8, channels)
+    is_between(1, CHANNELS_LIMIT, channels)
 }
 
 // Whether it is a gain.

@@ -52,7 +52,7 @@ pub use files::{FileFail, Files, Loaded};
 pub use free_node::find_free;
 pub use gate::{Gate, Open};
 pub use history::is_legal_history;
-pub use ids::{DUMMY, LinkId, NODES, NodeId, PortId, is_port};
+pub use ids::{DUMMY, LinkId, NODES, NodeId, PortId, is_same_port};
 pub use in_memory::mem_files::MemFiles;
 pub use in_memory::mem_sink::MemSink;
 pub use in_memory::sure_files::SureFiles;
@@ -60,7 +60,11 @@ pub use in_memory::sure_sink::SureSink;
 pub use items::{Items, Text};
 pub use kind::Kind;
 pub use kind_ranges::is_sink;
-pub use limit::Which;
+pub use limit::{
+    ALL_WAV_BYTES_LIMIT, BLOCK_BYTES_LIMIT, BUFFERS_LIMIT, CHANNELS_LIMIT, EVENTS_LIMIT,
+    LINKS_LIMIT, POD_BYTES_LIMIT, QUANTUM_LIMIT, RATE_LIMIT, SCRIPT_BYTES_LIMIT,
+    SINK_SAMPLES_LIMIT, WAV_BYTES_LIMIT, Which,
+};
 pub use meet::Meet;
 pub use memory::Memory;
 pub use names::place_of_name;
@@ -74,7 +78,7 @@ pub use pools::PoolShape;
 pub use room::Room;
 pub use shape::{Shape, ShapeLink, ShapeNode};
 pub use soundness::is_sound_shape;
-pub use status::{AreaStatus, Status};
+pub use status::{ActivationStatus, AreaStatus};
 pub use ticker::{Never, Ticker};
 pub use words::{
     NO_BLOCK, cycle_of, event_of, event_word, io_id_of, io_status_of, io_word, status_of,

@@ -2,6 +2,42 @@
 ghost use Rattle.std.specs.Prelude.{◌≡◌};
 ghost use Rattle.pw_base.specs.Limits.{which_number};
 
+/// The most links of a graph.
+pub const LINKS_LIMIT: usize = 256;
+
+/// The most frames of a quantum.
+pub const QUANTUM_LIMIT: u32 = 8192;
+
+/// The most frames a second.
+pub const RATE_LIMIT: u32 = 384_000;
+
+/// The most channels of a port.
+pub const CHANNELS_LIMIT: u32 = 8;
+
+/// The most buffers of a link.
+pub const BUFFERS_LIMIT: u32 = 8;
+
+/// The most bytes of a script.
+pub const SCRIPT_BYTES_LIMIT: u64 = 1_048_576;
+
+/// The most bytes of the body of a POD.
+pub const POD_BYTES_LIMIT: u64 = 1_048_576;
+
+/// The most bytes of a WAV file.
+pub const WAV_BYTES_LIMIT: u64 = 268_435_456;
+
+/// The most bytes of all WAV files of a run.
+pub const ALL_WAV_BYTES_LIMIT: u64 = 536_870_912;
+
+/// The most events of a run: in each cycle two of each active node and three more.
+pub const EVENTS_LIMIT: u64 = 4_194_304;
+
+/// The most samples of all sinks of a run.
+pub const SINK_SAMPLES_LIMIT: u64 = 134_217_728;
+
+/// The most bytes of all blocks of all epochs.
+pub const BLOCK_BYTES_LIMIT: u64 = 268_435_456;
+
 /// A quantity that passed its limit.
 #[derive(Clone, Copy, Debug, PartialEq, Eq, Drop)]
 pub enum Which {

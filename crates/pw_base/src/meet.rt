@@ -39,7 +39,8 @@ impl Meet {
         self.met.load(Ordering::SeqCst) == 1
     }
 
-    // One of the two enters: it says so, looks for the other, and says where it found it.
+    // One of the two enters. Only its first entry into a cycle counts: it says so, looks for the other, and says where
+    // it found it.
     fn look(
         &self,
         mark: u64,
@@ -48,7 +49,7 @@ impl Meet {
         found: &AtomicU64,
         found_by_other: &AtomicU64,
     ) {
-        if own.load(Ordering::SeqCst) == mark {
+        if own.load(Ordering::SeqCst) >= mark {
             return;
         }
         own.store(mark, Ordering::SeqCst);
@@ -62,10 +63,10 @@ impl Meet {
     }
 }
 
-// Looks until the word is the mark, or often enough.
-fn waits_for(word: &AtomicU64, mark: u64) -> bool {
+// Looks until the other has entered the cycle, which it may have left since, or often enough.
+fn waits_for(other: &AtomicU64, mark: u64) -> bool {
     for _look in 0..LOOKS {
-        if word.load(Ordering::SeqCst) == mark {
+        if other.load(Ordering::SeqCst) >= mark {
             return true;
         }
     }

@@ -48,14 +48,14 @@ fn are_sound_nodes(nodes: &[PlanNode]) -> bool
     true
 }
 
-// Whether a node is a place of the plan's, or 63.
+// Whether a node is one of the plan's, or the dummy.
 fn is_place(plan: &Plan, n: &ShapeNode) -> bool
     ensures { IsTrue result ↔ IsPlace plan.now n.now }
 {
     n.node == DUMMY || (n.node as usize) < plan.nodes.len()
 }
 
-// Whether each of these nodes is a place of the plan's, or 63.
+// Whether each of these nodes is one of the plan's, or the dummy.
 fn are_places(plan: &Plan, nodes: &[ShapeNode]) -> bool
     ensures { IsTrue result ↔ All (IsPlace plan.now) nodes.now }
 {
@@ -81,7 +81,7 @@ fn has_sound_driver(plan: &Plan, epoch: &Epoch) -> bool
     epoch.shape.driver == DUMMY || is_sink_or_meter_at(plan, epoch.shape.driver)
 }
 
-// Whether an epoch's nodes are places of the plan's, but for 63, which drives; else a sink or meter drives.
+// Whether an epoch's nodes are those of the plan, but for the dummy, which drives; else a sink or meter drives.
 fn has_sound_places(plan: &Plan, epoch: &Epoch) -> bool
     ensures { IsTrue result ↔ HasSoundPlaces plan.now epoch.now }
 {
@@ -155,7 +155,7 @@ fn are_sound_epochs(plan: &Plan, epochs: &[Epoch]) -> bool
 pub fn is_sound_plan(plan: &Plan) -> bool
     ensures { IsTrue result ↔ IsSoundPlan plan.now }
 {
-    if !follow(plan.epochs.as_slice()) || plan.nodes.len() > 63 {
+    if !follow(plan.epochs.as_slice()) || plan.nodes.len() > DUMMY as usize {
         return false;
     }
     if !are_sound_nodes(plan.nodes.as_slice()) {

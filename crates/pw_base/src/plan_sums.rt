@@ -5,19 +5,11 @@ ghost use Rattle.pw_base.specs.PlanForms.{kind_at};
 ghost use Rattle.pw_base.specs.PlanSums.{is_sink, epoch_events, form_samples, epoch_samples, link_bytes, epoch_bytes, events_of};
 ghost use Rattle.pw_base.specs.PlanSums.{sink_samples_of, block_bytes_of, capped};
 
+use crate::limit::{BLOCK_BYTES_LIMIT, EVENTS_LIMIT, SINK_SAMPLES_LIMIT};
 use crate::plan::{Epoch, Plan, PortForm};
 use crate::plan_forms::is_sink_at;
 use crate::pooling::asked;
 use crate::shape::ShapeLink;
-
-/// The most events of a run.
-const EVENTS_LIMIT: u64 = 4_194_304;
-
-/// The most samples of all sinks of a run.
-const SINK_SAMPLES_LIMIT: u64 = 134_217_728;
-
-/// The most bytes of all blocks of all epochs.
-const BLOCK_BYTES_LIMIT: u64 = 268_435_456;
 
 // The sum of two numbers, or the greatest number.
 #[tactic(auto, unfolding(crate::specs::PlanSums::capped))]

@@ -1,10 +1,11 @@
 //! How the pools of a shape are found.
 ghost use Rattle.std.specs.Prelude.{◌≡◌, ℕ, ◌≤◌, max, [], filter, fold, map, IsTrue, ◌↔◌, All, AllPairs, IfOk, length};
-ghost use Rattle.pw_base.specs.Pools.{is_port, is_before, with_port, sources_of, links_from, link_ids_from, asked, blocks_of, channels_of};
+ghost use Rattle.pw_base.specs.Pools.{is_same_port, is_before, with_port, sources_of, links_from, link_ids_from, asked, blocks_of, channels_of};
+ghost use Rattle.pw_base.specs.Limits.{links_limit};
 ghost use Rattle.pw_base.specs.Pools.{words_of};
 ghost use Rattle.pw_base.specs.Pools.{pool_of, pools_of, AreAlike, IsPooledShape};
 
-use crate::ids::{PortId, is_port};
+use crate::ids::{PortId, is_same_port};
 use crate::items::Items;
 use crate::memory::Memory;
 use crate::pools::PoolShape;
@@ -51,12 +52,12 @@ fn sources_of(alloc: Global, shape: &Shape) -> Result<Items<PortId>, Memory>
 
 // The numbers of the links from a port.
 fn link_ids_from(alloc: Global, links: &[ShapeLink], port: PortId) -> Result<Items<u32>, Memory>
-    requires { length links.now ≤ 256 }
+    requires { length links.now ≤ links_limit }
     ensures { IfOk result (λ list. list ≡ link_ids_from links.now port) }
 {
     let mut ids = Items::new(alloc);
     for i in 0..links.len() {
-        if is_port(links[i].from, port) {
+        if is_same_port(links[i].from, port) {
             ids.push(i as u32)?;
         }
     }
@@ -80,7 +81,7 @@ fn blocks_of(shape: &Shape, port: PortId) -> u32
 {
     let mut top = 0;
     for link in shape.links.as_slice() {
-        if is_port(link.from, port) {
+        if is_same_port(link.from, port) {
             top = asked(link).max(top);
         }
     }
@@ -93,7 +94,7 @@ fn channels_of(shape: &Shape, port: PortId) -> u32
 {
     let mut top = 0;
     for link in shape.links.as_slice() {
-        if is_port(link.from, port) {
+        if is_same_port(link.from, port) {
             top = link.channels.max(top);
         }
     }

@@ -6,6 +6,8 @@ ghost use Rattle.pw_base.specs.SoundShape.{IsSoundShape};
 ghost use Rattle.pw_base.specs.Dependencies.{nodes_of};
 
 use crate::dependencies::{has_node, is_counted};
+use crate::ids::DUMMY;
+use crate::limit::{BUFFERS_LIMIT, CHANNELS_LIMIT, EVENTS_LIMIT, LINKS_LIMIT, QUANTUM_LIMIT};
 use crate::link_order::has_order;
 use crate::shape::{Shape, ShapeLink, ShapeNode};
 
@@ -21,10 +23,10 @@ fn has_sound_cycles(shape: &Shape) -> bool
     ensures { IsTrue result ↔ HasSoundCycles shape.now }
 {
     let nodes = shape.nodes.len();
-    is_between(1, 8192, shape.quantum)
+    is_between(1, QUANTUM_LIMIT, shape.quantum)
         && 1 <= shape.cycles
-        && nodes <= 4_194_304
-        && u64::from(shape.cycles) * (2 * nodes as u64 + 3) <= 4_194_304
+        && nodes as u64 <= EVENTS_LIMIT
+        && u64::from(shape.cycles) * (2 * nodes as u64 + 3) <= EVENTS_LIMIT
         && u64::from(shape.first) + u64::from(shape.cycles) <= 0x1_0000_0000
 }
 
@@ -48,23 +50,24 @@ fn ascends(nodes: &[ShapeNode]) -> bool
     true
 }
 
-// Whether the nodes ascend, are numbers up to 63, and hold the driver.
+// Whether the nodes ascend, are numbers up to that of the dummy, and hold the driver.
 fn has_sound_nodes(shape: &Shape) -> bool
     ensures { IsTrue result ↔ HasSoundNodes shape.now }
 {
     let nodes = shape.nodes.as_slice();
-    ascends(nodes) && nodes.iter().all(|n| n.node <= 63) && has_node(shape, shape.driver)
+    ascends(nodes) && nodes.iter().all(|n| n.node <= DUMMY) && has_node(shape, shape.driver)
 }
 
-// Whether a link joins two active nodes, does not start at the driver, and has channels and buffers.
+// Whether a link joins two different active nodes, does not start at the driver, and has channels and buffers.
 fn is_sound_link(shape: &Shape, link: &ShapeLink) -> bool
     ensures { IsTrue result ↔ IsSoundLink shape.now link.now }
 {
     has_node(shape, link.from.node)
         && has_node(shape, link.to.node)
         && link.from.node != shape.driver
-        && is_between(1, 8, link.channels)
-        && is_between(1, 8, link.buffers)
+        && link.from.node != link.to.node
+        && is_between(1, CHANNELS_LIMIT, link.channels)
+        && is_between(1, BUFFERS_LIMIT, link.buffers)
 }
 
 // Whether two links do not have the same two ports.
@@ -105,7 +108,7 @@ fn all_sound(shape: &Shape) -> bool
 }
 
 #[tactic(auto, using(crate::proofs::ShapeLemmas::links_within))]
-// Whether there are at most 256 links, each sound, no two with the same two ports, and no loop.
+// Whether there are not too many links, each sound, no two with the same two ports, and no loop.
 fn has_sound_links(shape: &Shape) -> bool
     requires { HasSoundNodes shape.now }
     ensures { IsTrue result ↔ HasSoundLinks shape.now }
@@ -114,7 +117,7 @@ fn has_sound_links(shape: &Shape) -> bool
         return false;
     }
     let links = shape.links.as_slice();
-    links.len() <= 256 && all_apart(links) && has_order(links)
+    links.len() <= LINKS_LIMIT && all_apart(links) && has_order(links)
 }
 
 // Whether each node has its required count and targets.

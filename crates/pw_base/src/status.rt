@@ -3,7 +3,7 @@ ghost use Rattle.std.specs.Prelude.{◌≡◌, ℕ, ◌<◌, ◌≢◌, MatchOpt
 
 /// Where a node stands in a cycle.
 #[derive(Clone, Copy, Debug, PartialEq, Eq, Drop)]
-pub enum Status {
+pub enum ActivationStatus {
     /// It waits for its dependencies.
     NotTriggered,
     /// All its dependencies are done.
@@ -13,7 +13,7 @@ pub enum Status {
     Finished,
 }
 
-impl Status {
+impl ActivationStatus {
     ghost use Rattle.pw_base.specs.Words.{status_number};
 
     /// Its number in a status word, from 0 to 3.
@@ -21,22 +21,22 @@ impl Status {
         ensures { result ≡ status_number self }
     {
         match self {
-            Status::NotTriggered => 0,
-            Status::Triggered => 1,
-            Status::Awake => 2,
-            Status::Finished => 3,
+            ActivationStatus::NotTriggered => 0,
+            ActivationStatus::Triggered => 1,
+            ActivationStatus::Awake => 2,
+            ActivationStatus::Finished => 3,
         }
     }
 
     /// The status of this number, if there is one.
-    pub fn from_number(number: u32) -> Option<Status>
+    pub fn from_number(number: u32) -> Option<ActivationStatus>
         ensures { MatchOption result (3 < number) (λ status. status_number status ≡ number) }
     {
         match number {
-            0 => Some(Status::NotTriggered),
-            1 => Some(Status::Triggered),
-            2 => Some(Status::Awake),
-            3 => Some(Status::Finished),
+            0 => Some(ActivationStatus::NotTriggered),
+            1 => Some(ActivationStatus::Triggered),
+            2 => Some(ActivationStatus::Awake),
+            3 => Some(ActivationStatus::Finished),
             _ => None,
         }
     }

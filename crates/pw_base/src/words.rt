@@ -1,5 +1,6 @@
 //! How statuses, io areas and events are packed into words. None of these calls takes memory.
 ghost use Rattle.std.specs.Prelude.{◌≡◌, ℕ, ◌<◌, ◌≤◌, ◌^◌};
+ghost use Rattle.pw_base.specs.Limits.{dummy_node};
 ghost use Rattle.pw_base.specs.Words.{status_word_of, status_in, cycle_in, IsStatusWord, io_word_of, io_status_in, io_id_in};
 ghost use Rattle.pw_base.specs.EventWords.{event_kind, event_node, event_cycle, event_late, event_word_of, event_in, IsEventWord};
 
@@ -74,7 +75,7 @@ fn parts_of(event: &Event) -> (u64, u32, u32)
 
 /// The word of an event, without the late set of a Tick. The node is at most 63.
 pub fn event_word(event: &Event) -> u64
-    requires { event_node event.now ≤ 63 }
+    requires { event_node event.now ≤ dummy_node }
     ensures word { result ≡ event_word_of event.now }
     ensures read { event_in result (event_late event.now) ≡ event.now }
 {

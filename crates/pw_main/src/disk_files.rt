@@ -1,6 +1,8 @@
 //! The files of the system. They tell nothing of what they hold; a call that fails raises its count.
-ghost use Rattle.std.specs.Prelude.{◌≡◌, ℕ, ◌+◌, ◌≤◌, ◌<◌, ◌^◌, length, OnOk, IfOk};
+ghost use Rattle.std.specs.Prelude.{◌≡◌, ℕ, ◌+◌, ◌≤◌, ◌<◌, ◌^◌, ◌++◌, [], take, length, IfOk};
+ghost use Rattle.std.specs.Io.KnownBytes.{Consumes, IsAtEnd};
 ghost use Rattle.pw_base.specs.Files.{IsWithin};
+ghost use Rattle.pw_main.specs.KnownFiles.{ReadsFile, WritesWhole};
 
 use pw_base::{FileFail, Files, Items, Loaded, Memory, Text};
 use std::alloc::Global;
@@ -53,8 +55,11 @@ fn read_more<F: Read>(
     chunk: &mut [u8],
     bytes: &mut Items<u8>,
 ) -> Result<usize, FileFail>
-    ensures more { IfOk result (λ n. length bytes.new ≡ length bytes.old + n) }
     ensures bound { IfOk result (λ n. n ≤ length chunk.old) }
+    // What is appended comes from the front of what the file has left; nothing comes only at its end.
+    ensures more { IfOk result (λ n. (length chunk.new ≡ length chunk.old) × (bytes.new ≡ bytes.old ++ take n chunk.new)) }
+    ensures taken { IfOk result (λ n. Consumes (F.remaining file.old) (F.remaining file.new) (take n chunk.new)) }
+    ensures end { IfOk result (λ n. n ≡ 0 → 0 < length chunk.old → IsAtEnd (F.remaining file.new)) }
 {
     match file.read(chunk) {
         Ok(n) => match bytes.extend(&chunk[..n]) {
@@ -73,8 +78,9 @@ fn read_within<F: Read>(
     limit: u64,
 ) -> Result<Loaded, FileFail>
     requires chunk { length chunk.old ≡ 65536 }
-    requires start { length bytes ≡ 0 }
-    ensures { IsWithin limit result }
+    requires start { bytes ≡ [] }
+    ensures within { IsWithin limit result }
+    ensures whole { ReadsFile (F.remaining file.old) limit result }
 {
     let mut bytes = bytes;
     while bytes.len() as u64 <= limit {
@@ -89,7 +95,7 @@ fn read_within<F: Read>(
 
 // Room for a file of this size, within the limit, so that it is read without growing.
 fn room_for(alloc: Global, size: u64, limit: u64) -> Result<Items<u8>, Memory>
-    ensures { IfOk result (λ bytes. length bytes ≡ 0) }
+    ensures { IfOk result (λ bytes. bytes ≡ []) }
 {
     let size = if size < limit { size } else { limit };
     let mut bytes = Items::new(alloc);
@@ -105,7 +111,7 @@ fn read_file<F: Read + OpenFile>(
     file: &mut F,
     limit: u64,
 ) -> Result<Loaded, FileFail>
-    ensures { IsWithin limit result }
+    ensures within { IsWithin limit result }
 {
     let size = match file.metadata() {
         Ok(about) => about.len(),
@@ -144,8 +150,10 @@ fn load_file<R: rt::Files>(
     }
 }
 
-/// Writes all bytes. A write that takes nothing is a failure.
-pub(crate) fn write_whole<W: Write>(to: &mut W, bytes: &[u8]) -> Result<(), FileFail> {
+/// Writes all bytes, in order. A write that takes nothing is a failure.
+pub(crate) fn write_whole<W: Write>(to: &mut W, bytes: &[u8]) -> Result<(), FileFail>
+    ensures { WritesWhole (W.contents to.old) (W.contents to.new) bytes.now result }
+{
     let mut done = 0;
     while done < bytes.len() {
         match to.write(&bytes[done..]) {

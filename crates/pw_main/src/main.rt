@@ -1,13 +1,16 @@
 //! `pipegraph`: the top call over real files and standard output.
 #![tactic(auto)]
 
+ghost use Rattle.std.specs.Prelude.{◌≡◌};
+ghost use Rattle.pw_top.specs.StatusLine.{status_number};
+
 mod disk_files;
 mod std_sink;
 
 use crate::disk_files::DiskFiles;
 use crate::std_sink::StdSink;
 use pw_base::{Items, Never, Open};
-use pw_top::run_words;
+use pw_top::{Report, run_words};
 use std::alloc::Global;
 use std::env;
 use std::io::ErrorKind;
@@ -41,6 +44,13 @@ fn words_of<R: Env + Alloc<A = Global>>(rt: &R) -> Result<Items<String>, u8> {
     }
 }
 
+// The number of the status that a call ended with.
+fn exit_of(report: &Report) -> u8
+    ensures { result ≡ status_number report.now.status }
+{
+    report.status.number()
+}
+
 fn main(rt: HostRuntime) -> ExitCode {
     let words = match words_of(&rt) {
         Ok(words) => words,
@@ -57,5 +67,5 @@ fn main(rt: HostRuntime) -> ExitCode {
         &Open::new(),
         &mut Never::new(),
     );
-    ExitCode::from(report.status.number())
+    ExitCode::from(exit_of(&report))
 }

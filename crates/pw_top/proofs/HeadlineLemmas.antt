@@ -9,8 +9,8 @@ use Rattle.pw_base.specs.Files.{Held}
 use Rattle.pw_base.specs.Output.{Given, Gave, GavePart}
 use Rattle.pw_base.specs.Causes.{Rose}
 use Rattle.pw_top.specs.Answer.{Answer}
-use Rattle.pw_top.specs.Ending.{Ends, IsEnd, IsRefusal, PrepareCause, IsDeliverable}
-use Rattle.pw_top.specs.Ending.Ends.{ends}
+use Rattle.pw_top.specs.Ending.{IsEndOf, IsEnd, IsRefusal, PrepareCause, IsDeliverable}
+use Rattle.pw_top.specs.Ending.IsEndOf.{is_end}
 use Rattle.pw_top.specs.StatusLine.{line_of, has_line}
 use Rattle.pw_top.specs.Following.{status_of, stores_of, text_of, GaveLine, CutAt, AllStored, StatusFollows, FilesFollow, TextFollows}
 use Rattle.pw_top.specs.Delivery.{Delivered, WorkDelivered, LineEnds}
@@ -35,16 +35,16 @@ module _ (a : Answer) (s s' p p' : ℕ) (h h' : Held) (g g' : Given) where
     text = (g, gave_nothing (text_of a.outcome) g, inl f);
   }
 
-  refusal_line : (f f' : ℕ) (e : Status) → Ends a (Err e) → IsRefusal f f' e → h' ≡ h → GaveLine (line_of e) p p' g g'
+  refusal_line : (f f' : ℕ) (e : Status) → IsEndOf a (Err e) → IsRefusal f f' e → h' ≡ h → GaveLine (line_of e) p p' g g'
       → Follows a s s' p p' h h' g g' e
   refusal_line f f' S.Ok m c e l = absurd c
-  refusal_line f f' (S.Usage n) (ends m) c e l = record { stop = ap status_of m; files = e; text = l }
-  refusal_line f f' (S.Absent n) (ends m) c e l = record { stop = ap status_of m; files = e; text = l }
-  refusal_line f f' (S.Script n v) (ends m) c e l = record { stop = ap status_of m; files = e; text = l }
-  refusal_line f f' (S.Wav n v) (ends m) c e l = record { stop = ap status_of m; files = e; text = l }
-  refusal_line f f' (S.Pod n v) (ends m) c e l = record { stop = ap status_of m; files = e; text = l }
-  refusal_line f f' (S.Limit n w) (ends m) c e l = record { stop = ap status_of m; files = e; text = l }
-  refusal_line f f' (S.ReadFault n) (ends m) c e l = record { stop = m; files = e; text = l }
+  refusal_line f f' (S.Usage n) (is_end m) c e l = record { stop = ap status_of m; files = e; text = l }
+  refusal_line f f' (S.Absent n) (is_end m) c e l = record { stop = ap status_of m; files = e; text = l }
+  refusal_line f f' (S.Script n v) (is_end m) c e l = record { stop = ap status_of m; files = e; text = l }
+  refusal_line f f' (S.Wav n v) (is_end m) c e l = record { stop = ap status_of m; files = e; text = l }
+  refusal_line f f' (S.Pod n v) (is_end m) c e l = record { stop = ap status_of m; files = e; text = l }
+  refusal_line f f' (S.Limit n w) (is_end m) c e l = record { stop = ap status_of m; files = e; text = l }
+  refusal_line f f' (S.ReadFault n) (is_end m) c e l = record { stop = m; files = e; text = l }
   refusal_line f f' (S.WriteFault n) m c e l = absurd c
   refusal_line f f' S.Memory m c e l = record {
     stop = tt;
@@ -74,7 +74,7 @@ ends_lined status before now old new result e l =
 
 -- a refusal, and its line
 refused_ends : (a : Answer) (f f' s s' p p1 p' : ℕ) (h h' : Held) (g g1 g' : Given) (e status : Status) → p ≤ p1
-    → Ends a (Err e) → IsRefusal f f' e → h' ≡ h → g1 ≡ g
+    → IsEndOf a (Err e) → IsRefusal f f' e → h' ≡ h → g1 ≡ g
     → ((status ≡ e) × GaveLine (line_of e) p1 p' g1 g') ⊎ ((status ≡ S.Memory) × (g' ≡ g1))
     → Follows a s s' p p' h h' g g' status
 refused_ends a f f' s s' p p1 p' h h' g g1 g' e status l m c he ge (inl x) =
@@ -141,9 +141,9 @@ module _ (a : Answer) (w : Work) (m : IsEnd a (Ok w)) (s s' p p1 p' : ℕ) (l : 
   work_ends (S.ReadFault n) status d e = absurd d
 
 pub run_follows : (a : Answer) (made : Result Work Status) (f f' s s' p p1 p' : ℕ) (h h' : Held) (g g1 g' : Given) (mid status : Status)
-    → p ≤ p1 → PrepareCause IsDeliverable f f' made → Ends a made → Delivered made s s' p p1 h h' g g1 mid → LineEnds mid p1 p' g1 g' status
+    → p ≤ p1 → PrepareCause IsDeliverable f f' made → IsEndOf a made → Delivered made s s' p p1 h h' g g1 mid → LineEnds mid p1 p' g1 g' status
     → Follows a s s' p p' h h' g g' status
-run_follows a (Ok w) f f' s s' p p1 p' h h' g g1 g' mid status l c (ends m) d e = work_ends a w m s s' p p1 p' l h h' g g1 g' mid status d e
+run_follows a (Ok w) f f' s s' p p1 p' h h' g g1 g' mid status l c (is_end m) d e = work_ends a w m s s' p p1 p' l h h' g g1 g' mid status d e
 run_follows a (Err r) f f' s s' p p1 p' h h' g g1 g' mid status l c m d e =
     refused_ends a f f' s s' p p1 p' h h' g g1 g' r status l m c d.1 d.2
     (ends_lined r p1 p' g1 g' status (refusal_lined f f' r c) (subst (λ x. LineEnds x p1 p' g1 g' status) d.0 e))

@@ -1,12 +1,12 @@
 pub mod AllowedLemmas
 pub mod CommandLineLemmas
-pub mod EndingLemmas
 pub mod FirstPlanLemmas
 pub mod FirstStoresLemmas
 pub mod FirstTextLemmas
+pub mod FormatFileLemmas
 pub mod HeadlineLemmas
+pub mod OneAnswerLemmas
 pub mod PieceLemmas
 pub mod PodFileLemmas
-pub mod RunLemmas
 pub mod StatusLineLemmas
 pub mod StoppingLemmas

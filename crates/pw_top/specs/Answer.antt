@@ -1,5 +1,5 @@
 -- The expected answer of a command: the steps outside that it makes where nothing fails.
-use Rattle.std.specs.Prelude.{ℕ, List, [], ◌∷◌, ◌++◌, length, Option, Some, None, Result, Ok, Err, nat_le, if◌then◌else◌}
+use Rattle.std.specs.Prelude.{ℕ, List, [], ◌++◌, length, Option, Some, None, Result, Ok, Err, nat_le, if◌then◌else◌}
 use Rattle.pw_base.specs.declared.limit.Which.{Which}
 use Rattle.pw_base.specs.Files.{Names}
 use Rattle.pw_top.specs.declared.status.Status.{Status}
@@ -18,16 +18,12 @@ Answer = Expected Work
 abbrev pub refused : {T : Type 0} → Status → Expected T
 refused status = record { loads = []; outcome = Err status }
 
-abbrev pub given : {T : Type 0} → T → Expected T
-given x = record { loads = []; outcome = Ok x }
+-- a part that ends after these loads, and one that goes on
+abbrev pub ended : {T : Type 0} → List ℕ → Status → Expected T
+ended loads status = record { loads = loads; outcome = Err status }
 
--- loads with an outcome, and what comes next
-unfoldable pub chain : {T U : Type 0} → List ℕ → Result T Status → (T → Expected U) → Expected U
-chain loads (Ok x) next = record { loads = loads ++ (next x).loads; outcome = (next x).outcome }
-chain loads (Err status) next = record { loads = loads; outcome = Err status }
-
-abbrev pub after : {T U : Type 0} → Expected T → (T → Expected U) → Expected U
-after first next = chain first.loads first.outcome next
+abbrev pub gone_on : {T : Type 0} → List ℕ → Expected T → Expected T
+gone_on loads rest = record { loads = loads ++ rest.loads; outcome = rest.outcome }
 
 -- what a load gives where it does not fail
 abbrev pub whole_or_long : List ℕ → ℕ → ℕ → Which → Result (List ℕ) Status
@@ -39,11 +35,3 @@ load_of_some (Some bytes) limit place which = whole_or_long bytes limit place wh
 
 unfoldable pub load_outcome : Names → ℕ → List ℕ → ℕ → Which → Result (List ℕ) Status
 load_outcome names place name limit which = load_of_some (names name) limit place which
-
--- THE STEP of a command's definition: a load at a place, by a limit
-abbrev pub load_of : Names → ℕ → List ℕ → ℕ → Which → Expected (List ℕ)
-load_of names place name limit which = record
-    { loads = place ∷ []; outcome = load_outcome names place name limit which }
-
-abbrev pub loading : {U : Type 0} → Names → ℕ → List ℕ → ℕ → Which → (List ℕ → Expected U) → Expected U
-loading names place name limit which next = after (load_of names place name limit which) next

@@ -3,21 +3,21 @@ use Rattle.std.specs.Prelude.{◌≡◌, List, Result, Ok, Err}
 use Rattle.pw_base.specs.declared.event.Event.{Event}
 use Rattle.pw_base.specs.Files.{Names}
 use Rattle.pw_top.specs.declared.status.Status.{Status}
-use Rattle.pw_top.specs.declared.usage.Command.{Command}
-use Rattle.pw_top.specs.declared.usage.Command.TheVariants as C
+use Rattle.pw_top.specs.declared.usage.CommandLine.{CommandLine}
+use Rattle.pw_top.specs.declared.usage.CommandLine.TheVariants as C
 use Rattle.pw_top.specs.Answer.{Answer, refused}
 use Rattle.pw_top.specs.Usage.{Words, command_of}
-use Rattle.pw_top.specs.Run.{run_answer}
-use Rattle.pw_top.specs.Dump.{dump_answer}
+use Rattle.pw_top.specs.Run.{IsRunAnswer}
+use Rattle.pw_top.specs.Dump.{IsDumpAnswer}
 use Rattle.pw_top.specs.Filter.{IsFilterAnswer}
 
--- what is an answer to a command: of `run` and `dump` there is one
-abbrev pub IsAnswerTo : Command → List Event → Names → Answer → Type 0
-IsAnswerTo (C.Run c) history names a = a ≡ run_answer names c.script
-IsAnswerTo (C.Dump c) history names a = a ≡ dump_answer names c.file
-IsAnswerTo (C.Filter c) history names a = IsFilterAnswer names c.a c.b c.out a
+-- what is an answer to a command
+abbrev pub IsAnswerTo : CommandLine → List Event → Names → Answer → Type 0
+IsAnswerTo (C.Run c) history names = IsRunAnswer names c.script
+IsAnswerTo (C.Dump c) history names = IsDumpAnswer names c.file
+IsAnswerTo (C.Filter c) history names = IsFilterAnswer names c.a c.b c.out
 
-abbrev pub IsReadAnswer : Result Command Status → List Event → Names → Answer → Type 0
+abbrev pub IsReadAnswer : Result CommandLine Status → List Event → Names → Answer → Type 0
 IsReadAnswer (Ok command) history names a = IsAnswerTo command history names a
 IsReadAnswer (Err status) history names a = a ≡ refused status
 

@@ -1,5 +1,6 @@
--- How a part of a command ends: as expected, at a load of it that failed, or for want of memory; and with which cause.
-use Rattle.std.specs.Prelude.{◌≡◌, ◌⊎◌, ℕ, Bool, true, false, ◌<◌, List, Result, Ok, Err, All, Contains}
+-- How a part of a command ends: as an answer that is allowed, at a load of it that failed, or for want of memory; and
+-- with which cause.
+use Rattle.std.specs.Prelude.{◌≡◌, ℕ, Bool, true, false, ◌<◌, Result, Ok, Err, All, Contains}
 use Rattle.pw_base.specs.Causes.{Rose}
 use Rattle.wav_files.specs.WavWriting.{IsWave}
 use Rattle.pw_top.specs.declared.status.Status.{Status}
@@ -17,25 +18,19 @@ IsEnd e (Err (S.ReadFault place)) = Contains e.loads place
 IsEnd e (Err S.Memory) = Unit {0}
 IsEnd e (Err status) = e.outcome ≡ Err status
 
-pub data Ends {T : Type 0} (e : Expected T) (r : Result T Status) : Type 0 where
-  ends : IsEnd e r → Ends e r
+pub data IsEndOf {T : Type 0} (e : Expected T) (r : Result T Status) : Type 0 where
+  is_end : IsEnd e r → IsEndOf e r
+
+-- THE RESULT of a part is the end of an answer that is allowed
+pub record Ends {T : Type 0} (P : Expected T → Type 0) (r : Result T Status) : Type 0 where
+  pub answer : Expected T
+  pub allowed : P answer
+  pub ends : IsEndOf answer r
 
 -- a refusal, which is no fault
 abbrev pub is_plain : Status → Bool
 is_plain (S.ReadFault place) = false
 is_plain _ = true
-
--- a fault of one of these loads
-pub record IsReadAt (loads : List ℕ) (status : Status) : Type 0 where
-  pub place : ℕ
-  pub fault : status ≡ S.ReadFault place
-  pub there : Contains loads place
-
--- the same as Ends, in the form that a `match` on the result wants
-abbrev pub Came : {T : Type 0} → Expected T → Result T Status → Type 0
-Came e (Ok x) = e.outcome ≡ Ok x
-Came e (Err status) = ((e.outcome ≡ Err status) × (is_plain status ≡ true)) ⊎ IsReadAt e.loads status
-    ⊎ (status ≡ S.Memory)
 
 -- of all that can end a command before its stores, only a fault of a load has a cause outside
 abbrev pub IsRefusal : ℕ → ℕ → Status → Type 0

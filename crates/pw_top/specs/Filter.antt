@@ -1,6 +1,5 @@
--- The expected answer of `filter A B OUT`: two objects are loaded and read as formats, one after the other; what they
--- have in
--- common is stored as an object in its one spelling. PipeWire's documentation, "SPA POD"; spa/pod/filter.h.
+-- The expected answer of `filter A B OUT`: two objects are loaded and read as formats, one after the other; what
+-- they have in common is stored as an object in its one spelling. PipeWire's documentation, "SPA POD"; spa/pod/filter.h.
 use Rattle.std.specs.Prelude.{◌≡◌, ℕ, List, [], ◌∷◌, ◌++◌, codes, Result, Ok, Err}
 use Rattle.pw_base.specs.Files.{Names}
 use Rattle.pw_base.specs.declared.limit.Which.TheVariants as W
@@ -18,8 +17,8 @@ use Rattle.pw_top.specs.declared.work.Content.TheVariants.{Bytes}
 use Rattle.pw_top.specs.declared.work.Work.{Work}
 use Rattle.pw_top.specs.StatusLine.{numbers_line}
 use Rattle.pw_top.specs.Answer.{Answer}
-use Rattle.pw_top.specs.Allowed.{Loads, Reads, Gives}
-use Rattle.pw_top.specs.PodFile.{pod_bytes_limit}
+use Rattle.pw_top.specs.Allowed.{Binds, Reads, IsLoad}
+use Rattle.pw_top.specs.PodFile.{pod_file_limit}
 use Rattle.pw_top.specs.FormatFile.{HoldsFormat}
 
 -- the object is stored in OUT
@@ -51,11 +50,17 @@ abbrev pub FiltersTo : List ℕ → Format → Format → Result Work Status →
 FiltersTo out a b outcome = (filtered : Filtered) × Filters a b filtered × GivesFiltered out filtered outcome
 
 -- THE ANSWER: a second file is loaded only where the first is a format
-abbrev pub IsSecondAnswer : Names → List ℕ → List ℕ → Format → Answer → Type 0
-IsSecondAnswer names b out first =
-    Loads names 2 b pod_bytes_limit W.PodBytes
-    (λ bytes. Reads (HoldsFormat 2 bytes) (λ second. Gives (FiltersTo out first second)))
+abbrev pub FiltersSecond : List ℕ → Format → Format → Answer → Type 0
+FiltersSecond out first second = Reads (FiltersTo out first second)
+
+abbrev pub ReadsSecond : List ℕ → Format → List ℕ → Answer → Type 0
+ReadsSecond out first bytes = Binds (Reads (HoldsFormat 2 bytes)) (FiltersSecond out first)
+
+abbrev pub LoadsSecond : Names → List ℕ → List ℕ → Format → Answer → Type 0
+LoadsSecond names b out first = Binds (IsLoad names 2 b pod_file_limit W.PodBytes) (ReadsSecond out first)
+
+abbrev pub ReadsFirst : Names → List ℕ → List ℕ → List ℕ → Answer → Type 0
+ReadsFirst names b out bytes = Binds (Reads (HoldsFormat 1 bytes)) (LoadsSecond names b out)
 
 abbrev pub IsFilterAnswer : Names → List ℕ → List ℕ → List ℕ → Answer → Type 0
-IsFilterAnswer names a b out =
-    Loads names 1 a pod_bytes_limit W.PodBytes (λ bytes. Reads (HoldsFormat 1 bytes) (IsSecondAnswer names b out))
+IsFilterAnswer names a b out = Binds (IsLoad names 1 a pod_file_limit W.PodBytes) (ReadsFirst names b out)

@@ -8,7 +8,7 @@ use Rattle.format_filter.specs.FormatReading.{IsFormatOf, IsFirstFault}
 use Rattle.pw_top.specs.declared.status.Status.{Status}
 use Rattle.pw_top.specs.declared.status.Status.TheVariants as S
 use Rattle.pw_top.specs.declared.status.PodWhy.TheVariants as P
-use Rattle.pw_top.specs.PodFile.{pod_in}
+use Rattle.pw_top.specs.PodFile.{HoldsPod}
 
 -- the refusal of a value that is no format
 abbrev pub format_refusal : ℕ → FormatFault → Status
@@ -33,4 +33,5 @@ IsFormatOfFile place (Err status) outcome = outcome ≡ Err status
 
 -- THE FORMAT in a file's bytes
 abbrev pub HoldsFormat : ℕ → List ℕ → Result Format Status → Type 0
-HoldsFormat place bytes = IsFormatOfFile place (pod_in place bytes)
+HoldsFormat place bytes outcome = (read : Result Pod Status) × HoldsPod place bytes read
+    × IsFormatOfFile place read outcome

@@ -5,7 +5,7 @@ use Rattle.pw_base.specs.Output.{Given}
 use Rattle.pw_base.specs.Causes.{Rose}
 use Rattle.pw_top.specs.declared.status.Status.{Status}
 use Rattle.pw_top.specs.declared.status.Status.TheVariants as S
-use Rattle.pw_top.specs.declared.usage.Command.{Command}
+use Rattle.pw_top.specs.declared.usage.CommandLine.{CommandLine}
 use Rattle.pw_top.specs.Answer.{Answer}
 use Rattle.pw_top.specs.Following.{stores_of, text_of, StatusFollows, FilesFollow, TextFollows}
 
@@ -25,6 +25,6 @@ Caused loads loads' stores stores' puts puts' (S.WriteFault place) = (place ≡ 
 Caused loads loads' stores stores' puts puts' _ = Unit {0}
 
 -- Usage comes exactly where the words are not in the grammar, with the same word; or memory was short
-pub record IsUsage (expected : Result Command Status) (status : Status) : Type 0 where
+pub record IsUsage (expected : Result CommandLine Status) (status : Status) : Type 0 where
   pub only : (word : ℕ) → status ≡ S.Usage word → expected ≡ Err (S.Usage word)
   pub always : (word : ℕ) → expected ≡ Err (S.Usage word) → (status ≡ S.Usage word) ⊎ (status ≡ S.Memory)

@@ -13,6 +13,7 @@ pub mod Following
 pub mod FormatFile
 pub mod Headline
 pub mod PodFile
+pub mod Preparing
 pub mod Run
 pub mod StatusLine
 pub mod Usage

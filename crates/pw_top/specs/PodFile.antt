@@ -1,16 +1,17 @@
 -- A file that holds one POD: its value, or why it is refused at a place. A file may not go on behind its POD.
-use Rattle.std.specs.Prelude.{ℕ, ◌==◌, List, length, Result, Ok, Err, if◌then◌else◌}
+use Rattle.std.specs.Prelude.{◌≡◌, ◌⊎◌, ℕ, ◌<◌, List, length, Result, Ok, Err}
 use Rattle.pod_codec.specs.declared.pod.Pod.{Pod}
 use Rattle.pod_codec.specs.declared.fault.PodFault.{PodFault}
 use Rattle.pod_codec.specs.declared.fault.PodFault.TheVariants as F
-use Rattle.pod_codec.proofs.PodReadings.{reading_of}
+use Rattle.pod_codec.specs.Spelling.{FrontSpells}
+use Rattle.pod_codec.specs.FirstFault.{IsFirstFault}
 use Rattle.pw_top.specs.declared.status.Status.{Status}
 use Rattle.pw_top.specs.declared.status.Status.TheVariants as S
 use Rattle.pw_top.specs.declared.status.PodWhy.TheVariants as P
 
 -- the bytes of a file with one POD, at most
-abbrev pub pod_bytes_limit : ℕ
-pod_bytes_limit = 1048584
+abbrev pub pod_file_limit : ℕ
+pod_file_limit = 1048584
 
 -- the refusal of bytes that are no POD
 abbrev pub pod_refusal : ℕ → PodFault → Status
@@ -23,14 +24,16 @@ pod_refusal place (F.Large size) = S.Pod place (P.Large size)
 pod_refusal place (F.Nul offset) = S.Pod place (P.Nul offset)
 pod_refusal place F.Memory = S.Memory
 
--- a value whose spelling has so many bytes of the file's
-abbrev pub whole_pod : ℕ → ℕ → Pod → ℕ → Result Pod Status
-whole_pod place length pod size = if size == length then Ok pod else Err (S.Pod place (P.Rest size))
+-- the bytes spell no POD, and this is their first fault
+abbrev pub IsNoPod : ℕ → List ℕ → Status → Type 0
+IsNoPod place bytes status = (fault : PodFault) × IsFirstFault bytes fault × (status ≡ pod_refusal place fault)
 
-abbrev pub read_pod_file : ℕ → List ℕ → Result (Pod × ℕ) PodFault → Result Pod Status
-read_pod_file place bytes (Ok x) = whole_pod place (length bytes) x.0 x.1
-read_pod_file place bytes (Err fault) = Err (pod_refusal place fault)
+-- their front spells a POD, and bytes stand behind it
+abbrev pub HasRest : ℕ → List ℕ → Status → Type 0
+HasRest place bytes status = (pod : Pod) × (size : ℕ) × FrontSpells bytes pod size × (size < length bytes)
+    × (status ≡ S.Pod place (P.Rest size))
 
--- THE VALUE of a file that is one POD
-unfoldable pub pod_in : ℕ → List ℕ → Result Pod Status
-pod_in place bytes = read_pod_file place bytes (reading_of bytes)
+-- THE VALUE of a file that is one POD: all its bytes spell it; else why it is refused
+abbrev pub HoldsPod : ℕ → List ℕ → Result Pod Status → Type 0
+HoldsPod place bytes (Ok pod) = FrontSpells bytes pod (length bytes)
+HoldsPod place bytes (Err status) = IsNoPod place bytes status ⊎ HasRest place bytes status

@@ -1,5 +1,5 @@
 -- The expected answer of `run SCRIPT`: the script, its source's wave, and what its sink and its text are then.
-use Rattle.std.specs.Prelude.{ℕ, List, [], ◌∷◌, Option, Some, None, Result, Ok, Err, nat_lt, if◌then◌else◌}
+use Rattle.std.specs.Prelude.{◌≡◌, ℕ, List, [], ◌∷◌, Option, Some, None, Result, Ok, Err, nat_lt, if◌then◌else◌}
 use Rattle.pw_base.specs.Files.{Names}
 use Rattle.pw_base.specs.Limits.{script_bytes_limit, wav_bytes_limit, sink_samples_limit}
 use Rattle.pw_base.specs.declared.limit.Which.TheVariants as W
@@ -17,9 +17,11 @@ use Rattle.graph_script.specs.declared.fault.ScriptFault.TheVariants as G
 use Rattle.graph_script.specs.Grammar.{script_of}
 use Rattle.cycle_model.specs.Rendering.{rendered_sinks, rendered_peaks}
 use Rattle.cycle_trace.specs.RunText.{run_text_of}
+use Rattle.pw_top.specs.declared.status.Status.{Status}
 use Rattle.pw_top.specs.declared.status.Status.TheVariants as S
 use Rattle.pw_top.specs.declared.work.Work.{Work}
-use Rattle.pw_top.specs.Answer.{Answer, refused, given, loading}
+use Rattle.pw_top.specs.Answer.{Answer}
+use Rattle.pw_top.specs.Allowed.{Binds, Reads, IsLoad}
 use Rattle.pw_top.specs.FirstLines.{source_line, cycles_line, number_of, file_in}
 use Rattle.pw_top.specs.FirstEpoch.{plan_of, sink_samples}
 use Rattle.pw_top.specs.FirstStores.{first_stores}
@@ -35,32 +37,46 @@ work_of script waves = record {
 }
 
 -- a sink of too many samples is refused at the line that asks for its cycles
-abbrev pub run_plan : Script → List WavIn → Answer
-run_plan script waves =
+abbrev pub run_outcome : Script → List WavIn → Result Work Status
+run_outcome script waves =
     if nat_lt sink_samples_limit (sink_samples script waves)
-    then refused (S.Limit (number_of (cycles_line script.lines)) W.SinkSamples)
-    else given (work_of script waves)
+    then Err (S.Limit (number_of (cycles_line script.lines)) W.SinkSamples)
+    else Ok (work_of script waves)
+
+abbrev pub RunsWaves : Script → List WavIn → Answer → Type 0
+RunsWaves script waves = Reads (λ outcome. outcome ≡ run_outcome script waves)
 
 -- the source's file is a wave, or refused at its line
-abbrev pub run_wave : Script → ℕ → Result Wav WavFault → Answer
-run_wave script place (Ok wav) = run_plan script (record { node = 0; wav = wav } ∷ [])
-run_wave script place (Err F.Memory) = refused S.Memory
-run_wave script place (Err fault) = refused (S.Wav place fault)
+abbrev pub wave_outcome : ℕ → Result Wav WavFault → Result Wav Status
+wave_outcome place (Ok wav) = Ok wav
+wave_outcome place (Err F.Memory) = Err S.Memory
+wave_outcome place (Err fault) = Err (S.Wav place fault)
 
-abbrev pub run_source : Names → Script → ℕ → List ℕ → Answer
-run_source names script place file =
-    loading names place file wav_bytes_limit W.WavBytes (λ bytes. run_wave script place (wav_of bytes))
+abbrev pub RunsWave : Script → Wav → Answer → Type 0
+RunsWave script wav = RunsWaves script (record { node = 0; wav = wav } ∷ [])
 
-abbrev pub run_lines : Names → Script → Option Line → Answer
-run_lines names script None = run_plan script []
-run_lines names script (Some source) = run_source names script source.line (file_in source.command)
+abbrev pub RunsBytes : Script → ℕ → List ℕ → Answer → Type 0
+RunsBytes script place bytes = Binds (Reads (λ outcome. outcome ≡ wave_outcome place (wav_of bytes))) (RunsWave script)
 
-abbrev pub run_script : Names → Result Script ScriptFault → Answer
-run_script names (Ok script) = run_lines names script (source_line script.lines)
-run_script names (Err (G.At line why)) = refused (S.Script line why)
-run_script names (Err G.Memory) = refused S.Memory
+abbrev pub RunsSource : Names → Script → ℕ → List ℕ → Answer → Type 0
+RunsSource names script place file = Binds (IsLoad names place file wav_bytes_limit W.WavBytes) (RunsBytes script place)
+
+abbrev pub RunsLines : Names → Script → Option Line → Answer → Type 0
+RunsLines names script None = RunsWaves script []
+RunsLines names script (Some source) = RunsSource names script source.line (file_in source.command)
+
+-- the script, or its first fault
+abbrev pub script_outcome : Result Script ScriptFault → Result Script Status
+script_outcome (Ok script) = Ok script
+script_outcome (Err (G.At line why)) = Err (S.Script line why)
+script_outcome (Err G.Memory) = Err S.Memory
+
+abbrev pub RunsScript : Names → Script → Answer → Type 0
+RunsScript names script = RunsLines names script (source_line script.lines)
+
+abbrev pub ReadsScript : Names → List ℕ → Answer → Type 0
+ReadsScript names bytes = Binds (Reads (λ outcome. outcome ≡ script_outcome (script_of bytes))) (RunsScript names)
 
 -- THE ANSWER: the script is loaded and read, then what it asks for
-abbrev pub run_answer : Names → List ℕ → Answer
-run_answer names word =
-    loading names 0 word script_bytes_limit W.ScriptBytes (λ bytes. run_script names (script_of bytes))
+abbrev pub IsRunAnswer : Names → List ℕ → Answer → Type 0
+IsRunAnswer names word = Binds (IsLoad names 0 word script_bytes_limit W.ScriptBytes) (ReadsScript names)

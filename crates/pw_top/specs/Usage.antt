@@ -5,8 +5,8 @@ use Rattle.std.specs.Prelude.{◌≡◌, ℕ, ◌==◌, ◌&&◌, Bool, false, n
 use Rattle.std.specs.Prelude.{Result, Ok, Err}
 use Rattle.pw_top.specs.declared.status.Status.{Status}
 use Rattle.pw_top.specs.declared.status.Status.TheVariants as S
-use Rattle.pw_top.specs.declared.usage.Command.{Command}
-use Rattle.pw_top.specs.declared.usage.Command.TheVariants as C
+use Rattle.pw_top.specs.declared.usage.CommandLine.{CommandLine}
+use Rattle.pw_top.specs.declared.usage.CommandLine.TheVariants as C
 use Rattle.pw_top.specs.declared.commands.filter_files.FilterFiles.{FilterFiles}
 
 -- the words of a command line, as bytes
@@ -36,20 +36,20 @@ unfoldable pub three_files : Words → Result FilterFiles Status
 three_files words = then_file 1 words (λ a bs. then_file 2 bs
     (λ b outs. then_file 3 outs (λ out rest. then_nothing 4 rest (record { a = a; b = b; out = out }))))
 
-abbrev pub run_of : Result (List ℕ) Status → Result Command Status
+abbrev pub run_of : Result (List ℕ) Status → Result CommandLine Status
 run_of (Ok script) = Ok (C.Run (record { script = script }))
 run_of (Err status) = Err status
 
-abbrev pub dump_of : Result (List ℕ) Status → Result Command Status
+abbrev pub dump_of : Result (List ℕ) Status → Result CommandLine Status
 dump_of (Ok file) = Ok (C.Dump (record { file = file }))
 dump_of (Err status) = Err status
 
-abbrev pub filter_of : Result FilterFiles Status → Result Command Status
+abbrev pub filter_of : Result FilterFiles Status → Result CommandLine Status
 filter_of (Ok files) = Ok (C.Filter files)
 filter_of (Err status) = Err status
 
 -- THE MEANING of the words
-unfoldable pub command_of : Words → Result Command Status
+unfoldable pub command_of : Words → Result CommandLine Status
 command_of [] = Err (S.Usage 0)
 command_of (name ∷ rest) =
     if bytes_eq name (codes "run") then run_of (one_file rest)

@@ -1,12 +1,13 @@
 //! What a script of the first path gives, once its wave is there.
-#![tactic(auto, using(crate::proofs::EndingLemmas::following))]
+#![tactic(auto, using(crate::proofs::AllowedLemmas::parts))]
 
 ghost use Rattle.std.specs.Prelude.{◌≡◌, ℕ, ◌<◌, ◌≤◌, ◌∷◌, ◌++◌, map, [], length, IfOk, IsTrue, ◌↔◌, option_copied};
+ghost use Rattle.pw_base.specs.Limits.{sink_samples_limit};
 ghost use Rattle.pw_top.specs.Ending.{Ends, CommandCause, IsDeliverable, IsStorable};
 ghost use Rattle.pw_top.specs.FirstLines.{number_of, file_of, sink_line};
 ghost use Rattle.pw_top.specs.FirstEpoch.{sink_samples, AreFirstWaves, AreNumbered};
 ghost use Rattle.pw_top.specs.FirstStores.{store_of, first_stores};
-ghost use Rattle.pw_top.specs.Run.{work_of, run_plan};
+ghost use Rattle.pw_top.specs.Run.{work_of, RunsWaves};
 
 use crate::first_lines::{cycles_of, cycles_place, file_of, quantum_of, sink_line};
 use crate::first_plan::{channels_in, form_of, plan_of};
@@ -15,20 +16,18 @@ use crate::work::{Content, Store, Work};
 use cycle_model::render;
 use cycle_trace::run_text;
 use graph_script::{Line, Script};
-use pw_base::{Items, Memory, Which};
+use pw_base::{Items, Memory, SINK_SAMPLES_LIMIT, Which};
 use std::alloc::Global;
 use wav_files::{Kept, WavIn};
 
-const SINK_SAMPLES: u64 = 134_217_728;
-
 // Whether the sink would have more samples than there may be.
 fn has_too_many(script: &Script, waves: &[WavIn]) -> bool
-    ensures { IsTrue result ↔ (134217728 < sink_samples script.now waves.now) }
+    ensures { IsTrue result ↔ (sink_samples_limit < sink_samples script.now waves.now) }
 {
     let lines = script.lines.as_slice();
     let frames = u64::from(cycles_of(lines)) * u64::from(quantum_of(lines));
     match frames.checked_mul(u64::from(channels_in(form_of(script, waves)))) {
-        Some(samples) => samples > SINK_SAMPLES,
+        Some(samples) => samples > SINK_SAMPLES_LIMIT,
         None => true,
     }
 }
@@ -82,7 +81,7 @@ fn work_of(alloc: Global, script: &Script, waves: &Items<WavIn>) -> Result<Work,
 pub fn run_first(alloc: Global, script: &Script, waves: &Items<WavIn>) -> Result<Work, Status>
     requires numbered { AreNumbered script.now }
     requires waves { AreFirstWaves waves.now }
-    ensures done { Ends (run_plan script.now waves.now) result }
+    ensures done { Ends (RunsWaves script.now waves.now) result }
     ensures cause { CommandCause IsDeliverable 0 0 result }
 {
     if has_too_many(script, waves.as_slice()) {

@@ -3,8 +3,8 @@ ghost use Rattle.std.specs.Prelude.{◌≡◌, IfOk};
 ghost use Rattle.pod_codec.specs.SoundChoices.{HasSoundChoices};
 ghost use Rattle.format_filter.specs.CommonFormat.{IsSoundFormat};
 ghost use Rattle.pw_top.specs.FormatFile.{format_refusal, IsFormatIn, HoldsFormat};
-ghost use Rattle.pw_top.specs.Allowed.{CameAs};
-ghost use Rattle.pw_top.specs.Ending.{CommandCause};
+ghost use Rattle.pw_top.specs.Allowed.{Reads};
+ghost use Rattle.pw_top.specs.Ending.{Ends, CommandCause};
 
 use crate::pod_file::pod_step;
 use crate::status::{PodWhy, Status};
@@ -31,7 +31,7 @@ fn refusal_of(place: u32, fault: FormatFault) -> Status
 // The format of a value.
 fn format_in(alloc: Global, place: u32, pod: &Pod) -> Result<Format, Status>
     requires sound { HasSoundChoices pod.now }
-    ensures told { CameAs (IsFormatIn place pod.now) result }
+    ensures told { Ends (Reads (IsFormatIn place pod.now)) result }
     ensures cause { CommandCause (λ format. Unit {0}) 0 0 result }
     ensures sound { IfOk result IsSoundFormat }
 {
@@ -43,7 +43,7 @@ fn format_in(alloc: Global, place: u32, pod: &Pod) -> Result<Format, Status>
 
 /// The format of a file that is one object, or why it is refused at this place.
 pub fn format_step(alloc: Global, place: u32, bytes: &[u8]) -> Result<Format, Status>
-    ensures told { CameAs (HoldsFormat place bytes.now) result }
+    ensures told { Ends (Reads (HoldsFormat place bytes.now)) result }
     ensures cause { CommandCause (λ format. Unit {0}) 0 0 result }
     ensures sound { IfOk result IsSoundFormat }
 {

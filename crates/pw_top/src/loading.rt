@@ -1,8 +1,8 @@
 //! A load, as the commands make it.
-ghost use Rattle.std.specs.Prelude.{◌≡◌, ℕ, ◌≤◌, length, IsSome};
-ghost use Rattle.pw_base.specs.Files.{names_in};
-ghost use Rattle.pw_top.specs.Answer.{load_of};
-ghost use Rattle.pw_top.specs.Ending.{Came, CommandCause};
+ghost use Rattle.std.specs.Prelude.{◌≤◌, length};
+ghost use Rattle.pw_top.specs.Allowed.{IsLoad};
+ghost use Rattle.pw_top.specs.Ending.{CommandCause};
+ghost use Rattle.pw_top.specs.Preparing.{LoadsOnly, Tells};
 
 use crate::status::Status;
 use pw_base::{FileFail, Files, Items, Loaded, Text, Which};
@@ -17,13 +17,11 @@ pub fn load_step<F: Files>(
     limit: u64,
     which: Which,
 ) -> Result<Items<u8>, Status>
-    ensures held { F.held files.new ≡ F.held files.old }
-    ensures told { IsSome (F.held files.old)
-        → Came (load_of (names_in (F.held files.old)) place name.now limit which) result }
-    ensures later { F.load_faults files.old ≤ F.load_faults files.new }
+    ensures files { LoadsOnly (F.held files.old) (F.held files.new) (F.load_faults files.old)
+        (F.load_faults files.new) (F.store_faults files.old) (F.store_faults files.new) }
+    ensures told { Tells (F.held files.old) (λ names. IsLoad names place name.now limit which) result }
     ensures cause { CommandCause (λ bytes. length bytes ≤ limit) (F.load_faults files.old)
         (F.load_faults files.new) result }
-    ensures stores { F.store_faults files.new ≡ F.store_faults files.old }
 {
     match files.load(alloc, name, limit) {
         Ok(Loaded::Whole(bytes)) => Ok(bytes),

@@ -1,15 +1,17 @@
 //! A file that holds one POD.
-ghost use Rattle.std.specs.Prelude.{◌≡◌, [], length, IfOk};
+ghost use Rattle.std.specs.Prelude.{◌≡◌, length, IfOk};
 ghost use Rattle.pod_codec.specs.SoundChoices.{HasSoundChoices};
-ghost use Rattle.pw_top.specs.PodFile.{pod_refusal, pod_in};
-ghost use Rattle.pw_top.specs.Ending.{Came, CommandCause};
+ghost use Rattle.pw_top.specs.PodFile.{pod_refusal, HoldsPod};
+ghost use Rattle.pw_top.specs.Allowed.{Reads};
+ghost use Rattle.pw_top.specs.Ending.{Ends, CommandCause};
 
 use crate::status::{PodWhy, Status};
 use pod_codec::{Pod, PodFault, read_pod};
+use pw_base::POD_BYTES_LIMIT;
 use std::alloc::Global;
 
 /// The bytes of a file with one POD, at most.
-pub const POD_BYTES: u64 = 1_048_584;
+pub const POD_BYTES: u64 = POD_BYTES_LIMIT + 8;
 
 // The refusal of bytes that are no POD.
 fn refusal_of(place: u32, fault: PodFault) -> Status
@@ -30,7 +32,7 @@ fn refusal_of(place: u32, fault: PodFault) -> Status
 
 /// The value of a file that is one POD, or why it is refused at this place.
 pub fn pod_step(alloc: Global, place: u32, bytes: &[u8]) -> Result<Pod, Status>
-    ensures told { Came (record { loads = []; outcome = pod_in place bytes.now }) result }
+    ensures told { Ends (Reads (HoldsPod place bytes.now)) result }
     ensures cause { CommandCause (λ pod. Unit {0}) 0 0 result }
     ensures sound { IfOk result HasSoundChoices }
 {

@@ -3,7 +3,7 @@ ghost use Rattle.std.specs.Prelude.{◌≡◌, ℕ, ◌≤◌, ◌⊎◌, ◌++�
 ghost use Rattle.pw_base.specs.Files.{names_in};
 ghost use Rattle.pw_base.specs.Causes.{Rose};
 ghost use Rattle.pw_top.specs.Ending.{CommandCause, PrepareCause, IsDeliverable};
-ghost use Rattle.pw_top.specs.Allowed.{EndsAs};
+ghost use Rattle.pw_top.specs.Preparing.{LoadsOnly, Tells};
 ghost use Rattle.pw_top.specs.Usage.{command_of};
 ghost use Rattle.pw_top.specs.Answer.{Answer};
 ghost use Rattle.pw_top.specs.CommandLine.{IsAnswerTo, IsAnswer};
@@ -13,14 +13,14 @@ ghost use Rattle.pw_top.specs.Headline.{Follows, Caused, IsUsage};
 use crate::delivering::{deliver, end_line};
 use crate::preparing::Prepare;
 use crate::status::Status;
-use crate::usage::{Command, read_words};
+use crate::usage::{CommandLine, read_words};
 use crate::work::Work;
 use pw_base::{Event, Files, Gate, Items, Sink, Ticker};
 use std::alloc::Global;
 use std::sync::Wait;
 use std::thread::Threads;
 
-impl Command {
+impl CommandLine {
     // Makes the loads of the command in order; what happened in a run is left in `history`.
     fn prepare<R: Threads + Wait + Sync, F: Files, G: Gate + Sync, K: Ticker>(
         self,
@@ -31,18 +31,18 @@ impl Command {
         ticker: &mut K,
         history: &mut Items<Event>,
     ) -> Result<Work, Status>
-        ensures held { F.held files.new ≡ F.held files.old }
-        ensures told { IsSome (F.held files.old)
-            → EndsAs (IsAnswerTo self history.new (names_in (F.held files.old))) result }
-        ensures later { F.load_faults files.old ≤ F.load_faults files.new }
+        ensures files { LoadsOnly (F.held files.old) (F.held files.new) (F.load_faults files.old)
+            (F.load_faults files.new) (F.store_faults files.old) (F.store_faults files.new) }
+        ensures told { Tells (F.held files.old) (IsAnswerTo self history.new) result }
         ensures cause { CommandCause IsDeliverable (F.load_faults files.old)
             (F.load_faults files.new) result }
-        ensures stores { F.store_faults files.new ≡ F.store_faults files.old }
     {
         match self {
-            Command::Run(command) => command.prepare(rt, alloc, files, gate, ticker, history),
-            Command::Dump(command) => command.prepare(rt, alloc, files, gate, ticker, history),
-            Command::Filter(command) => command.prepare(alloc, files),
+            CommandLine::Run(command) => command.prepare(rt, alloc, files, gate, ticker, history),
+            CommandLine::Dump(command) => command.prepare(rt, alloc, files, gate, ticker, history),
+            CommandLine::Filter(command) => command.prepare(
+                rt, alloc, files, gate, ticker, history,
+            ),
         }
     }
 }
@@ -57,12 +57,10 @@ fn prepare_words<R: Threads + Wait + Sync, F: Files, G: Gate + Sync, K: Ticker>(
     ticker: &mut K,
     history: &mut Items<Event>,
 ) -> Result<Work, Status>
-    ensures held { F.held files.new ≡ F.held files.old }
-    ensures told { IsSome (F.held files.old)
-        → EndsAs (IsAnswer (map string_bytes words.now) history.new (names_in (F.held files.old))) result }
-    ensures later { F.load_faults files.old ≤ F.load_faults files.new }
+    ensures files { LoadsOnly (F.held files.old) (F.held files.new) (F.load_faults files.old)
+        (F.load_faults files.new) (F.store_faults files.old) (F.store_faults files.new) }
+    ensures told { Tells (F.held files.old) (IsAnswer (map string_bytes words.now) history.new) result }
     ensures cause { PrepareCause IsDeliverable (F.load_faults files.old) (F.load_faults files.new) result }
-    ensures stores { F.store_faults files.new ≡ F.store_faults files.old }
     ensures usage { IsUsage (command_of (map string_bytes words.now)) (status_of result) }
 {
     match read_words(alloc, words) {

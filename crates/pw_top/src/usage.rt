@@ -12,7 +12,7 @@ use std::alloc::Global;
 
 /// What a command line asks for.
 #[derive(Drop)]
-pub enum Command {
+pub enum CommandLine {
     Run(RunScript),
     Dump(DumpFile),
     Filter(FilterFiles),
@@ -127,38 +127,38 @@ fn three_files(alloc: Global, rest: &[String]) -> Result<FilterFiles, Status>
 }
 
 // `run SCRIPT`, behind its first word.
-fn read_run(alloc: Global, rest: &[String]) -> Result<Command, Status>
+fn read_run(alloc: Global, rest: &[String]) -> Result<CommandLine, Status>
     ensures { IsRead (run_of (one_file (map string_bytes rest.now))) result }
 {
     match one_file(alloc, rest) {
-        Ok(script) => Ok(Command::Run(RunScript { script })),
+        Ok(script) => Ok(CommandLine::Run(RunScript { script })),
         Err(status) => Err(status),
     }
 }
 
 // `dump FILE`, behind its first word.
-fn read_dump(alloc: Global, rest: &[String]) -> Result<Command, Status>
+fn read_dump(alloc: Global, rest: &[String]) -> Result<CommandLine, Status>
     ensures { IsRead (dump_of (one_file (map string_bytes rest.now))) result }
 {
     match one_file(alloc, rest) {
-        Ok(file) => Ok(Command::Dump(DumpFile { file })),
+        Ok(file) => Ok(CommandLine::Dump(DumpFile { file })),
         Err(status) => Err(status),
     }
 }
 
 // `filter A B OUT`, behind its first word.
-fn read_filter(alloc: Global, rest: &[String]) -> Result<Command, Status>
+fn read_filter(alloc: Global, rest: &[String]) -> Result<CommandLine, Status>
     ensures { IsRead (filter_of (three_files (map string_bytes rest.now))) result }
 {
     match three_files(alloc, rest) {
-        Ok(files) => Ok(Command::Filter(files)),
+        Ok(files) => Ok(CommandLine::Filter(files)),
         Err(status) => Err(status),
     }
 }
 
 /// What the words ask for, or the first word at fault.
 #[tactic(auto, unfolding(crate::specs::Usage::command_of))]
-pub fn read_words(alloc: Global, words: &[String]) -> Result<Command, Status>
+pub fn read_words(alloc: Global, words: &[String]) -> Result<CommandLine, Status>
     ensures { IsRead (command_of (map string_bytes words.now)) result }
 {
     match words {

@@ -8,7 +8,7 @@ use crate::memory::Memory;
 use std::alloc::Global;
 use std::collections::BTreeMap;
 
-/// Files in memory. Calls are counted from 1, loads and stores apart.
+/// Files in memory. Calls are counted from 1, loads and stores apart; one that answers `Memory` is not counted.
 #[derive(Drop)]
 pub struct MemFiles {
     map: NameMap,
@@ -73,8 +73,11 @@ impl MemFiles {
 }
 
 impl Files for MemFiles {
-    ghost use Rattle.std.specs.Prelude.{Some};
+    ghost use Rattle.std.specs.Prelude.{Some, ◌≤◌};
+    ghost use Rattle.pw_base.specs.Files.{IsLoaded, IsWithin, IsStored};
+    ghost use Rattle.pw_base.specs.Causes.{HasCause};
     ghost use Rattle.pw_base.specs.InMemory.{mem_names};
+    ghost use Rattle.pw_base.specs.FailingCalls.{HasLoaded, HasStored};
 
     ghost held = { λ files. Some (mem_names files) };
 
@@ -82,26 +85,53 @@ impl Files for MemFiles {
 
     ghost store_faults = { λ files. files.store_faults };
 
-    fn load(&mut self, alloc: Global, name: &Text, limit: u64) -> Result<Loaded, FileFail> {
-        self.loads = self.loads.saturating_add(1);
-        if self.failing_loads.as_slice().contains(&self.loads) {
+    fn load(&mut self, alloc: Global, name: &Text, limit: u64) -> Result<Loaded, FileFail>
+        ensures held { Some (mem_names self.new) ≡ Some (mem_names self.old) }
+        ensures told { IsLoaded (mem_names self.old name.now) limit result }
+        ensures within { IsWithin limit result }
+        ensures later { self.old.load_faults ≤ self.new.load_faults }
+        ensures cause { HasCause self.old.load_faults self.new.load_faults result }
+        ensures stores { self.new.store_faults ≡ self.old.store_faults }
+        // It fails exactly where this was said of its number.
+        ensures call { HasLoaded self.old self.new result }
+    {
+        let number = self.loads.saturating_add(1);
+        if self.failing_loads.as_slice().contains(&number) {
+            self.loads = number;
             self.load_faults = self.load_faults.saturating_add(1);
             return Err(FileFail::Failed);
         }
-        get(&self.map, alloc, name, limit)
+        match get(&self.map, alloc, name, limit) {
+            Ok(loaded) => {
+                self.loads = number;
+                Ok(loaded)
+            }
+            Err(_refused) => Err(FileFail::Memory),
+        }
     }
 
-    fn store(&mut self, alloc: Global, name: &Text, bytes: &[u8]) -> Result<(), FileFail> {
-        self.stores = self.stores.saturating_add(1);
-        let Some(kept) = kept_at(self.failing_stores.as_slice(), self.stores) else {
+    fn store(&mut self, alloc: Global, name: &Text, bytes: &[u8]) -> Result<(), FileFail>
+        ensures held { IsStored name.now bytes.now (Some (mem_names self.old)) (Some (mem_names self.new)) result }
+        ensures later { self.old.store_faults ≤ self.new.store_faults }
+        ensures cause { HasCause self.old.store_faults self.new.store_faults result }
+        ensures loads { self.new.load_faults ≡ self.old.load_faults }
+        // It fails exactly where this was said of its number, after as many bytes as were said.
+        ensures call { HasStored name.now bytes.now self.old self.new result }
+    {
+        let number = self.stores.saturating_add(1);
+        let Some(kept) = kept_at(self.failing_stores.as_slice(), number) else {
             return match put(&mut self.map, alloc, name.as_slice(), bytes) {
-                Ok(()) => Ok(()),
+                Ok(()) => {
+                    self.stores = number;
+                    Ok(())
+                }
                 Err(_refused) => Err(FileFail::Memory),
             };
         };
         let count = kept_of(kept, bytes.len());
         match put(&mut self.map, alloc, name.as_slice(), &bytes[..count]) {
             Ok(()) => {
+                self.stores = number;
                 self.store_faults = self.store_faults.saturating_add(1);
                 Err(FileFail::Failed)
             }

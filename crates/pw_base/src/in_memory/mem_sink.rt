@@ -8,7 +8,7 @@ use crate::memory::Memory;
 use crate::output::Sink;
 use std::alloc::Global;
 
-/// An output in memory. Calls of `put` are counted from 1.
+/// An output in memory. Calls of `put` are counted from 1; one that answers `Memory` is not counted.
 #[derive(Drop)]
 pub struct MemSink {
     bytes: Items<u8>,
@@ -49,24 +49,37 @@ impl MemSink {
 }
 
 impl Sink for MemSink {
-    ghost use Rattle.std.specs.Prelude.{Some};
+    ghost use Rattle.std.specs.Prelude.{Some, ◌≤◌};
+    ghost use Rattle.pw_base.specs.Output.{IsPut};
+    ghost use Rattle.pw_base.specs.Causes.{HasCause};
     ghost use Rattle.pw_base.specs.InMemory.{mem_given};
+    ghost use Rattle.pw_base.specs.FailingCalls.{HasPut};
 
     ghost given = { λ sink. Some (mem_given sink) };
 
     ghost faults = { λ sink. sink.faults };
 
-    fn put(&mut self, _alloc: Global, bytes: &[u8]) -> Result<(), FileFail> {
-        self.puts = self.puts.saturating_add(1);
-        let Some(kept) = kept_at(self.failing_puts.as_slice(), self.puts) else {
+    fn put(&mut self, _alloc: Global, bytes: &[u8]) -> Result<(), FileFail>
+        ensures given { IsPut bytes.now (Some (mem_given self.old)) (Some (mem_given self.new)) result }
+        ensures later { self.old.faults ≤ self.new.faults }
+        ensures cause { HasCause self.old.faults self.new.faults result }
+        // It fails exactly where this was said of its number, after as many bytes as were said.
+        ensures call { HasPut bytes.now self.old self.new result }
+    {
+        let number = self.puts.saturating_add(1);
+        let Some(kept) = kept_at(self.failing_puts.as_slice(), number) else {
             return match self.bytes.extend(bytes) {
-                Ok(()) => Ok(()),
+                Ok(()) => {
+                    self.puts = number;
+                    Ok(())
+                }
                 Err(_refused) => Err(FileFail::Memory),
             };
         };
         let count = kept_of(kept, bytes.len());
         match self.bytes.extend(&bytes[..count]) {
             Ok(()) => {
+                self.puts = number;
                 self.faults = self.faults.saturating_add(1);
                 Err(FileFail::Failed)
             }

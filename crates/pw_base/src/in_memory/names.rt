@@ -1,8 +1,9 @@
 //! Bytes by name, as both kinds of files in memory keep them.
-ghost use Rattle.std.specs.Prelude.{◌≡◌, ℕ, ◌≤◌, Some, OnOk, OnErr};
+ghost use Rattle.std.specs.Prelude.{◌≡◌, ℕ, ◌≤◌, min, Some, OnOk, OnErr};
 ghost use Rattle.pw_base.specs.Files.{stored, OthersSame, SameNames, IsLoaded, IsWithin};
 ghost use Rattle.pw_base.specs.Causes.{HasCause};
 ghost use Rattle.pw_base.specs.InMemory.{names_of};
+ghost use Rattle.pw_base.specs.FailingCalls.{kept_by};
 
 use crate::files::{FileFail, Loaded};
 use crate::items::{Items, Text};
@@ -59,7 +60,7 @@ pub(crate) fn get(map: &NameMap, alloc: Global, name: &Text, limit: u64) -> Resu
 
 /// How many of `len` bytes a failing call keeps.
 pub(crate) fn kept_of(kept: u64, len: usize) -> usize
-    ensures { result ≤ len }
+    ensures { result ≡ min kept len }
 {
     if kept < len as u64 {
         kept as usize
@@ -69,6 +70,8 @@ pub(crate) fn kept_of(kept: u64, len: usize) -> usize
 }
 
 /// How many bytes the call of this number keeps, where it is to fail.
-pub(crate) fn kept_at(failing: &[(u64, u64)], number: u64) -> Option<u64> {
+pub(crate) fn kept_at(failing: &[(u64, u64)], number: u64) -> Option<u64>
+    ensures { result ≡ kept_by failing.now number }
+{
     failing.iter().find(|f| f.0 == number).map(|f| f.1)
 }

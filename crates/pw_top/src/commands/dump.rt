@@ -1,10 +1,8 @@
 //! `dump FILE`: the file is loaded and read, and its value is put as text.
-#![tactic(auto, using(crate::proofs::EndingLemmas::following))]
+#![tactic(auto, using(crate::proofs::AllowedLemmas::parts))]
 
-ghost use Rattle.std.specs.Prelude.{◌≡◌, [], length};
-ghost use Rattle.pw_top.specs.Answer.{given};
-ghost use Rattle.pw_top.specs.Dump.{dump_work, dump_loaded};
 ghost use Rattle.pw_top.specs.Ending.{Ends, CommandCause, IsDeliverable};
+ghost use Rattle.pw_top.specs.Dump.{DumpsPod, DumpsBytes};
 
 use crate::loading::load_step;
 use crate::pod_file::{POD_BYTES, pod_step};
@@ -24,9 +22,9 @@ pub struct DumpFile {
 }
 
 impl Prepare for DumpFile {
-    ghost use Rattle.pw_top.specs.Dump.{dump_answer};
+    ghost use Rattle.pw_top.specs.Dump.{IsDumpAnswer};
 
-    ghost answer = { λ c history names. dump_answer names c.file };
+    ghost answers = { λ c history names. IsDumpAnswer names c.file };
 
     fn prepare<R: Threads + Wait + Sync, F: Files, G: Gate + Sync, K: Ticker>(
         self,
@@ -46,7 +44,7 @@ impl Prepare for DumpFile {
 
 // The text of a value, and nothing to store.
 fn dump_of(alloc: Global, pod: &Pod) -> Result<Work, Status>
-    ensures done { Ends (given (dump_work pod.now)) result }
+    ensures done { Ends (DumpsPod pod.now) result }
     ensures cause { CommandCause IsDeliverable 0 0 result }
 {
     match dump_text(alloc, pod) {
@@ -60,7 +58,7 @@ fn dump_of(alloc: Global, pod: &Pod) -> Result<Work, Status>
 
 // What a file gives that was loaded.
 fn dump_bytes(alloc: Global, bytes: &Items<u8>) -> Result<Work, Status>
-    ensures done { Ends (dump_loaded bytes.now) result }
+    ensures done { Ends (DumpsBytes bytes.now) result }
     ensures cause { CommandCause IsDeliverable 0 0 result }
 {
     match pod_step(alloc, 1, bytes.as_slice()) {

@@ -1,25 +1,29 @@
 //! `filter A B OUT`: two objects are read as formats, and what they have in common is stored as an object.
+#![tactic(auto, using(crate::proofs::AllowedLemmas::parts))]
 
-ghost use Rattle.std.specs.Prelude.{◌≡◌, ℕ, ◌≤◌, [], ◌∷◌, ◌++◌, codes, Ok, IsSome, IfOk};
-ghost use Rattle.pw_base.specs.Files.{names_in};
+ghost use Rattle.std.specs.Prelude.{◌≡◌, [], ◌∷◌, ◌++◌, codes, Ok, IfOk};
 ghost use Rattle.format_filter.specs.declared.common.Filtered.TheVariants.{Common};
 ghost use Rattle.format_filter.specs.CommonFormat.{IsSoundFormat};
 ghost use Rattle.pw_top.specs.declared.work.Content.TheVariants as C;
 ghost use Rattle.pw_top.specs.StatusLine.{numbers_line};
-ghost use Rattle.pw_top.specs.Ending.{CommandCause, IsDeliverable};
-ghost use Rattle.pw_top.specs.Allowed.{Reads, Gives, EndsAs, CameAs};
-ghost use Rattle.pw_top.specs.FormatFile.{HoldsFormat};
-ghost use Rattle.pw_top.specs.Filter.{clash_work, types_work, StoresObject, GivesFiltered, FiltersTo, IsSecondAnswer, IsFilterAnswer};
+ghost use Rattle.pw_top.specs.Ending.{Ends, CommandCause, IsDeliverable};
+ghost use Rattle.pw_top.specs.Preparing.{LoadsOnly, Tells};
+ghost use Rattle.pw_top.specs.Allowed.{Reads};
+ghost use Rattle.pw_top.specs.Filter.{clash_work, types_work, StoresObject, GivesFiltered, FiltersTo};
+ghost use Rattle.pw_top.specs.Filter.{ReadsSecond, LoadsSecond, ReadsFirst};
 
 use crate::format_file::format_step;
 use crate::loading::load_step;
 use crate::pod_file::POD_BYTES;
+use crate::preparing::Prepare;
 use crate::status::Status;
 use crate::work::{Content, Store, Work};
 use format_filter::{Filtered, Format, filter, pod_of};
 use pod_codec::{Pod, WriteFault, write_pod};
-use pw_base::{Files, Items, Memory, Text, Which, append_decimal};
+use pw_base::{Event, Files, Gate, Items, Memory, Text, Ticker, Which, append_decimal};
 use std::alloc::Global;
+use std::sync::Wait;
+use std::thread::Threads;
 
 /// Filters the objects of two files, A as output, and stores what they have in common under a third name.
 #[derive(Drop)]
@@ -29,17 +33,20 @@ pub struct FilterFiles {
     pub out: Text,
 }
 
-impl FilterFiles {
-    /// Loads A, then B, and makes the object to store and the line; it stores and puts nothing.
-    pub fn prepare<F: Files>(self, alloc: Global, files: &mut F) -> Result<Work, Status>
-        ensures held { F.held files.new ≡ F.held files.old }
-        ensures told { IsSome (F.held files.old)
-            → EndsAs (IsFilterAnswer (names_in (F.held files.old)) self.a self.b self.out) result }
-        ensures later { F.load_faults files.old ≤ F.load_faults files.new }
-        ensures cause { CommandCause IsDeliverable (F.load_faults files.old)
-            (F.load_faults files.new) result }
-        ensures stores { F.store_faults files.new ≡ F.store_faults files.old }
-    {
+impl Prepare for FilterFiles {
+    ghost use Rattle.pw_top.specs.Filter.{IsFilterAnswer};
+
+    ghost answers = { λ c history names. IsFilterAnswer names c.a c.b c.out };
+
+    fn prepare<R: Threads + Wait + Sync, F: Files, G: Gate + Sync, K: Ticker>(
+        self,
+        _rt: &R,
+        alloc: Global,
+        files: &mut F,
+        _gate: &G,
+        _ticker: &mut K,
+        _history: &mut Items<Event>,
+    ) -> Result<Work, Status> {
         let FilterFiles { a, b, out } = self;
         match load_step(alloc, files, 1, &a, POD_BYTES, Which::PodBytes) {
             Err(status) => Err(status),
@@ -56,13 +63,10 @@ fn first_loaded<F: Files>(
     b: &Text,
     out: Text,
 ) -> Result<Work, Status>
-    ensures held { F.held files.new ≡ F.held files.old }
-    ensures told { IsSome (F.held files.old)
-        → EndsAs (Reads (HoldsFormat 1 bytes.now) (IsSecondAnswer (names_in (F.held files.old)) b.now out))
-        result }
-    ensures later { F.load_faults files.old ≤ F.load_faults files.new }
+    ensures files { LoadsOnly (F.held files.old) (F.held files.new) (F.load_faults files.old)
+        (F.load_faults files.new) (F.store_faults files.old) (F.store_faults files.new) }
+    ensures told { Tells (F.held files.old) (λ names. ReadsFirst names b.now out bytes.now) result }
     ensures cause { CommandCause IsDeliverable (F.load_faults files.old) (F.load_faults files.new) result }
-    ensures stores { F.store_faults files.new ≡ F.store_faults files.old }
 {
     match format_step(alloc, 1, bytes.as_slice()) {
         Err(status) => Err(status),
@@ -79,12 +83,10 @@ fn load_second<F: Files>(
     out: Text,
 ) -> Result<Work, Status>
     requires { IsSoundFormat first.now }
-    ensures held { F.held files.new ≡ F.held files.old }
-    ensures told { IsSome (F.held files.old)
-        → EndsAs (IsSecondAnswer (names_in (F.held files.old)) b.now out first.now) result }
-    ensures later { F.load_faults files.old ≤ F.load_faults files.new }
+    ensures files { LoadsOnly (F.held files.old) (F.held files.new) (F.load_faults files.old)
+        (F.load_faults files.new) (F.store_faults files.old) (F.store_faults files.new) }
+    ensures told { Tells (F.held files.old) (λ names. LoadsSecond names b.now out first.now) result }
     ensures cause { CommandCause IsDeliverable (F.load_faults files.old) (F.load_faults files.new) result }
-    ensures stores { F.store_faults files.new ≡ F.store_faults files.old }
 {
     match load_step(alloc, files, 2, b, POD_BYTES, Which::PodBytes) {
         Err(status) => Err(status),
@@ -100,8 +102,7 @@ fn second_loaded(
     out: Text,
 ) -> Result<Work, Status>
     requires { IsSoundFormat first.now }
-    ensures done { EndsAs (Reads (HoldsFormat 2 bytes.now) (λ second. Gives (FiltersTo out first.now second)))
-        result }
+    ensures done { Ends (ReadsSecond out first.now bytes.now) result }
     ensures cause { CommandCause IsDeliverable 0 0 result }
 {
     match format_step(alloc, 2, bytes.as_slice()) {
@@ -114,7 +115,7 @@ fn second_loaded(
 fn filter_both(alloc: Global, a: &Format, b: &Format, out: Text) -> Result<Work, Status>
     requires a { IsSoundFormat a.now }
     requires b { IsSoundFormat b.now }
-    ensures done { CameAs (FiltersTo out a.now b.now) result }
+    ensures done { Ends (Reads (FiltersTo out a.now b.now)) result }
     ensures cause { CommandCause IsDeliverable 0 0 result }
 {
     match filter(alloc, a, b) {
@@ -128,7 +129,7 @@ fn filter_both(alloc: Global, a: &Format, b: &Format, out: Text) -> Result<Work,
 // The object of the common format, to be stored.
 fn common_object(alloc: Global, format: &Format, out: Text) -> Result<Work, Status>
     requires { IsSoundFormat format.now }
-    ensures done { CameAs (GivesFiltered out (Common format.now)) result }
+    ensures done { Ends (Reads (GivesFiltered out (Common format.now))) result }
     ensures cause { CommandCause IsDeliverable 0 0 result }
 {
     match pod_of(alloc, format) {
@@ -139,7 +140,7 @@ fn common_object(alloc: Global, format: &Format, out: Text) -> Result<Work, Stat
 
 // The store of an object, and its line; or its limit, where it cannot be written.
 fn store_object(alloc: Global, pod: &Pod, out: Text) -> Result<Work, Status>
-    ensures done { CameAs (StoresObject out pod.now) result }
+    ensures done { Ends (Reads (StoresObject out pod.now)) result }
     ensures cause { CommandCause IsDeliverable 0 0 result }
 {
     let mut bytes = Items::new(alloc);
@@ -183,7 +184,7 @@ fn clash_line(alloc: Global, key: u32) -> Result<Text, Memory>
 
 // Nothing is stored where a key clashes.
 fn clash_at(alloc: Global, key: u32) -> Result<Work, Status>
-    ensures done { CameAs (λ outcome. outcome ≡ Ok (clash_work key)) result }
+    ensures done { Ends (Reads (λ outcome. outcome ≡ Ok (clash_work key))) result }
     ensures cause { CommandCause IsDeliverable 0 0 result }
 {
     match clash_line(alloc, key) {
@@ -197,7 +198,7 @@ fn clash_at(alloc: Global, key: u32) -> Result<Work, Status>
 
 // Nor where the object types do.
 fn clash_of_types(alloc: Global) -> Result<Work, Status>
-    ensures done { CameAs (λ outcome. outcome ≡ Ok types_work) result }
+    ensures done { Ends (Reads (λ outcome. outcome ≡ Ok types_work)) result }
     ensures cause { CommandCause IsDeliverable 0 0 result }
 {
     match Items::from_slice(alloc, b"clash type\n".as_slice()) {

@@ -1,13 +1,16 @@
 //! `run SCRIPT`: the script is loaded and read, then its source, then what it asks for is rendered.
-#![tactic(auto, using(crate::proofs::EndingLemmas::following))]
+#![tactic(auto, using(crate::proofs::AllowedLemmas::parts))]
 
-ghost use Rattle.std.specs.Prelude.{◌≡◌, ℕ, ◌≤◌, ◌∷◌, [], length, IfOk};
-ghost use Rattle.pw_base.specs.Limits.{wav_bytes_limit};
-ghost use Rattle.wav_files.specs.WavWriting.{IsWave};
-ghost use Rattle.pw_top.specs.FirstEpoch.{AreNumbered};
+ghost use Rattle.std.specs.Prelude.{◌≡◌, ◌≤◌, length, IfOk};
+ghost use Rattle.pw_base.specs.Limits.{script_bytes_limit, wav_bytes_limit};
 ghost use Rattle.wav_files.specs.WavReading.{wav_of};
+ghost use Rattle.wav_files.specs.WavWriting.{IsWave};
+ghost use Rattle.graph_script.specs.Grammar.{script_of};
+ghost use Rattle.pw_top.specs.FirstEpoch.{AreNumbered};
+ghost use Rattle.pw_top.specs.Allowed.{Reads};
 ghost use Rattle.pw_top.specs.Ending.{Ends, CommandCause, IsDeliverable};
-ghost use Rattle.pw_top.specs.Run.{run_plan, run_wave};
+ghost use Rattle.pw_top.specs.Preparing.{LoadsOnly, Tells};
+ghost use Rattle.pw_top.specs.Run.{wave_outcome, script_outcome, RunsWave, RunsBytes, RunsSource, RunsScript, ReadsScript};
 
 use crate::first_lines::{file_of, source_line};
 use crate::first_run::run_first;
@@ -16,15 +19,13 @@ use crate::preparing::Prepare;
 use crate::status::Status;
 use crate::work::Work;
 use graph_script::{Script, ScriptFault, parse};
-use pw_base::{Event, Files, Gate, Items, Text, Ticker, Which};
+use pw_base::{
+    Event, Files, Gate, Items, SCRIPT_BYTES_LIMIT, Text, Ticker, WAV_BYTES_LIMIT, Which,
+};
 use std::alloc::Global;
 use std::sync::Wait;
 use std::thread::Threads;
 use wav_files::{Wav, WavFault, WavIn, read_wav};
-
-const SCRIPT_BYTES: u64 = 1_048_576;
-
-const WAV_BYTES: u64 = 268_435_456;
 
 /// Runs the script of this file.
 #[derive(Drop)]
@@ -33,117 +34,9 @@ pub struct RunScript {
 }
 
 impl Prepare for RunScript {
-    ghost use Rattle.pw_top.specs.Run.{run_answer};
+    ghost use Rattle.pw_top.specs.Run.{IsRunAnswer};
 
-    ghost answer = { λ c history names. run_answer names c.script };
-
-    fn prepare<R: Threads + Wait + Sync, F: Files, G: Gate + Sync, K: Ticker>(
-        self,
-        rt: &R,
-        alloc: Global,
-        files: &mut F,
-        gate: &G,
-        ticker: &mut K,
-        history: &mut Items<Event>,
-    ) -> Result<Work, Status> {
-        match load_step(
-            alloc,
-            files,
-            0,
-            &self.script,
-            SCRIPT_BYTES,
-            Which::ScriptBytes,
-        ) {
-            Err(status) => Err(status),
-            Ok(bytes) => ScriptBytes { bytes }.prepare(rt, alloc, files, gate, ticker, history),
-        }
-    }
-}
-
-// A script that was loaded, within its limit.
-#[derive(Drop)]
-struct ScriptBytes {
-    bytes: Items<u8>,
-    ghost small: { length bytes ≤ 1048576 },
-}
-
-impl Prepare for ScriptBytes {
-    ghost use Rattle.graph_script.specs.Grammar.{script_of};
-    ghost use Rattle.pw_top.specs.Run.{run_script};
-
-    ghost answer = { λ c history names. run_script names (script_of c.bytes) };
-
-    fn prepare<R: Threads + Wait + Sync, F: Files, G: Gate + Sync, K: Ticker>(
-        self,
-        rt: &R,
-        alloc: Global,
-        files: &mut F,
-        gate: &G,
-        ticker: &mut K,
-        history: &mut Items<Event>,
-    ) -> Result<Work, Status> {
-        match parse(alloc, self.bytes.as_slice()) {
-            Err(ScriptFault::Memory) => Err(Status::Memory),
-            Err(ScriptFault::At { line, why }) => Err(Status::Script { line, why }),
-            Ok(script) => Parsed { script }.prepare(rt, alloc, files, gate, ticker, history),
-        }
-    }
-}
-
-// A script that was read.
-#[derive(Drop)]
-struct Parsed {
-    script: Script,
-    ghost numbered: { AreNumbered script },
-}
-
-impl Prepare for Parsed {
-    ghost use Rattle.pw_top.specs.FirstLines.{source_line};
-    ghost use Rattle.pw_top.specs.Run.{run_lines};
-
-    ghost answer = { λ c history names. run_lines names c.script (source_line c.script.lines) };
-
-    fn prepare<R: Threads + Wait + Sync, F: Files, G: Gate + Sync, K: Ticker>(
-        self,
-        rt: &R,
-        alloc: Global,
-        files: &mut F,
-        gate: &G,
-        ticker: &mut K,
-        history: &mut Items<Event>,
-    ) -> Result<Work, Status> {
-        let Parsed { script } = self;
-        match source_line(script.lines.as_slice()) {
-            None => run_first(alloc, &script, &Items::new(alloc)),
-            Some(line) => match file_of(alloc, &line.command) {
-                Err(_memory) => Err(Status::Memory),
-                Ok(file) => {
-                    let place = line.line;
-                    Sourced {
-                        script,
-                        place,
-                        file,
-                    }
-                    .prepare(rt, alloc, files, gate, ticker, history)
-                }
-            },
-        }
-    }
-}
-
-// A script with a source, whose file is to be loaded.
-#[derive(Drop)]
-struct Sourced {
-    script: Script,
-    place: u32,
-    file: Text,
-    ghost numbered: { AreNumbered script },
-}
-
-impl Prepare for Sourced {
-    ghost use Rattle.pw_top.specs.Run.{run_source};
-
-    ghost answer = { λ c history names. run_source names c.script c.place c.file };
+    ghost answers = { λ c history names. IsRunAnswer names c.script };
 
     fn prepare<R: Threads + Wait + Sync, F: Files, G: Gate + Sync, K: Ticker>(
         self,
@@ -154,29 +47,86 @@ impl Prepare for Sourced {
         _ticker: &mut K,
         _history: &mut Items<Event>,
     ) -> Result<Work, Status> {
-        let Sourced {
-            script,
-            place,
-            file,
-        } = self;
-        match load_step(alloc, files, place, &file, WAV_BYTES, Which::WavBytes) {
+        match load_step(
+            alloc,
+            files,
+            0,
+            &self.script,
+            SCRIPT_BYTES_LIMIT,
+            Which::ScriptBytes,
+        ) {
             Err(status) => Err(status),
-            Ok(bytes) => run_bytes(alloc, &script, place, &bytes),
+            Ok(bytes) => run_script_bytes(alloc, files, &bytes),
         }
     }
 }
 
-// What the script gives from its source's wave.
-fn run_wave(alloc: Global, script: &Script, wav: Wav) -> Result<Work, Status>
-    requires numbered { AreNumbered script.now }
-    requires wave { IsWave wav }
-    ensures done { Ends (run_plan script.now (record { node = 0; wav = wav } ∷ [])) result }
-    ensures cause { CommandCause IsDeliverable 0 0 result }
+// What the bytes of a script give.
+fn run_script_bytes<F: Files>(
+    alloc: Global,
+    files: &mut F,
+    bytes: &Items<u8>,
+) -> Result<Work, Status>
+    requires small { length bytes.now ≤ script_bytes_limit }
+    ensures files { LoadsOnly (F.held files.old) (F.held files.new) (F.load_faults files.old)
+        (F.load_faults files.new) (F.store_faults files.old) (F.store_faults files.new) }
+    ensures told { Tells (F.held files.old) (λ names. ReadsScript names bytes.now) result }
+    ensures cause { CommandCause IsDeliverable (F.load_faults files.old) (F.load_faults files.new) result }
 {
-    let mut waves = Items::new(alloc);
-    match waves.push(WavIn { node: 0, wav }) {
-        Err(_memory) => Err(Status::Memory),
-        Ok(()) => run_first(alloc, script, &waves),
+    match read_script(alloc, bytes) {
+        Err(status) => Err(status),
+        Ok(script) => run_lines(alloc, files, &script),
+    }
+}
+
+// The script that the bytes are, or its first fault.
+fn read_script(alloc: Global, bytes: &Items<u8>) -> Result<Script, Status>
+    requires small { length bytes.now ≤ script_bytes_limit }
+    ensures told { Ends (Reads (λ outcome. outcome ≡ script_outcome (script_of bytes.now))) result }
+    ensures cause { CommandCause (λ script. Unit {0}) 0 0 result }
+    ensures numbered { IfOk result AreNumbered }
+{
+    match parse(alloc, bytes.as_slice()) {
+        Err(ScriptFault::Memory) => Err(Status::Memory),
+        Err(ScriptFault::At { line, why }) => Err(Status::Script { line, why }),
+        Ok(script) => Ok(script),
+    }
+}
+
+// What a script gives: with its source's file, if it has a source.
+fn run_lines<F: Files>(alloc: Global, files: &mut F, script: &Script) -> Result<Work, Status>
+    requires numbered { AreNumbered script.now }
+    ensures files { LoadsOnly (F.held files.old) (F.held files.new) (F.load_faults files.old)
+        (F.load_faults files.new) (F.store_faults files.old) (F.store_faults files.new) }
+    ensures told { Tells (F.held files.old) (λ names. RunsScript names script.now) result }
+    ensures cause { CommandCause IsDeliverable (F.load_faults files.old) (F.load_faults files.new) result }
+{
+    match source_line(script.lines.as_slice()) {
+        None => run_first(alloc, script, &Items::new(alloc)),
+        Some(line) => match file_of(alloc, &line.command) {
+            Err(_memory) => Err(Status::Memory),
+            Ok(file) => run_source(alloc, files, script, line.line, &file),
+        },
+    }
+}
+
+// What a script with a source at this line gives, whose file is to be loaded.
+fn run_source<F: Files>(
+    alloc: Global,
+    files: &mut F,
+    script: &Script,
+    place: u32,
+    file: &Text,
+) -> Result<Work, Status>
+    requires numbered { AreNumbered script.now }
+    ensures files { LoadsOnly (F.held files.old) (F.held files.new) (F.load_faults files.old)
+        (F.load_faults files.new) (F.store_faults files.old) (F.store_faults files.new) }
+    ensures told { Tells (F.held files.old) (λ names. RunsSource names script.now place file.now) result }
+    ensures cause { CommandCause IsDeliverable (F.load_faults files.old) (F.load_faults files.new) result }
+{
+    match load_step(alloc, files, place, file, WAV_BYTES_LIMIT, Which::WavBytes) {
+        Err(status) => Err(status),
+        Ok(bytes) => run_bytes(alloc, script, place, &bytes),
     }
 }
 
@@ -184,12 +134,39 @@ fn run_wave(alloc: Global, script: &Script, wav: Wav) -> Result<Work, Status>
 fn run_bytes(alloc: Global, script: &Script, place: u32, bytes: &Items<u8>) -> Result<Work, Status>
     requires numbered { AreNumbered script.now }
     requires small { length bytes.now ≤ wav_bytes_limit }
-    ensures done { Ends (run_wave script.now place (wav_of bytes.now)) result }
+    ensures done { Ends (RunsBytes script.now place bytes.now) result }
     ensures cause { CommandCause IsDeliverable 0 0 result }
+{
+    match read_wave(alloc, place, bytes) {
+        Err(status) => Err(status),
+        Ok(wav) => run_wave(alloc, script, wav),
+    }
+}
+
+// The wave of a source's file, or why it is refused at this line.
+fn read_wave(alloc: Global, place: u32, bytes: &Items<u8>) -> Result<Wav, Status>
+    requires small { length bytes.now ≤ wav_bytes_limit }
+    ensures told { Ends (Reads (λ outcome. outcome ≡ wave_outcome place (wav_of bytes.now))) result }
+    ensures cause { CommandCause (λ wav. Unit {0}) 0 0 result }
+    ensures wave { IfOk result IsWave }
 {
     match read_wav(alloc, bytes.as_slice()) {
         Err(WavFault::Memory) => Err(Status::Memory),
         Err(why) => Err(Status::Wav { place, why }),
-        Ok(wav) => run_wave(alloc, script, wav),
+        Ok(wav) => Ok(wav),
+    }
+}
+
+// What the script gives from its source's wave.
+fn run_wave(alloc: Global, script: &Script, wav: Wav) -> Result<Work, Status>
+    requires numbered { AreNumbered script.now }
+    requires wave { IsWave wav }
+    ensures done { Ends (RunsWave script.now wav) result }
+    ensures cause { CommandCause IsDeliverable 0 0 result }
+{
+    let mut waves = Items::new(alloc);
+    match waves.push(WavIn { node: 0, wav }) {
+        Err(_memory) => Err(Status::Memory),
+        Ok(()) => run_first(alloc, script, &waves),
     }
 }

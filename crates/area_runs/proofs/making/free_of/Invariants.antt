@@ -1,6 +1,6 @@
 use Rattle.std.proofs.Common.{◌≡◌, map, take}
-use Rattle.area_runs.specs.Making.{fresh_queue}
+use Rattle.io_areas.specs.FreeBlocks.{free_at_start}
 use Rattle.area_runs.proofs.making.free_of.Given as goal
 
 abbrev pub invariant-loop-pool : goal.invariant-loop-pool
-invariant-loop-pool l = l.free ≡ map fresh_queue (take l.pool-index l.pools)
+invariant-loop-pool l = l.free ≡ map (free_at_start l.shape) (take l.pool-index l.pools)

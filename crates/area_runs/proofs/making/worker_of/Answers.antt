@@ -1,7 +1,8 @@
 use Rattle.std.proofs.Common.{ℤ, ◌∙◌, ◌≤◌, List, map, length, sym, ap, subst}
 use Rattle.pw_base.specs.declared.pools.PoolShape.{PoolShape}
 use Rattle.std.proofs.lemmas.List.{length-replicate}
-use Rattle.area_runs.specs.Making.{fresh_queue, HasNodesOf}
+use Rattle.io_areas.specs.FreeBlocks.{free_at_start}
+use Rattle.area_runs.specs.Making.{HasNodesOf}
 use Rattle.area_runs.proofs.MakingLemmas.{few_pools}
 use Rattle.area_runs.proofs.making.worker_of.Goals as goal
 
@@ -16,7 +17,7 @@ returns c = λ seats. record {
       (sym c.nodes.view_is)
       (c.in_ok-nodes.ensures seats);
   shapes_are = c.shapes.view_is ∙ c.in_ok-shapes.ensures;
-  free_are = c.into_vec-free.ensures ∙ c.in_ok-free_of.ensures ∙ ap (map fresh_queue) (c.as_slice-2.ensures ∙ c.in_ok-shapes.ensures);
-  samples_are = c.in_ok-from_slice.ensures;
+  free_are = c.into_vec-free.ensures ∙ c.in_ok-free_of.ensures ∙ ap (map (free_at_start c.args.shape.now)) (c.as_slice-2.ensures ∙ c.in_ok-shapes.ensures);
+  samples_are = c.in_ok-quanta_of.ensures;
   long = ap (λ (l : List ℤ). length l) (c.into_vec.ensures ∙ c.in_ok-filled.ensures) ∙ length-replicate _ _;
 }

@@ -1,17 +1,6 @@
--- A Range and a Step as rows.
-use Rattle.std.proofs.Common.{◌≡◌, rules}
-use Rattle.format_filter.specs.Making.{range_of, step_of}
-use Rattle.format_filter.proofs.RowLemmas.{range_row, step_row}
+-- An intersection is the only one.
+use Rattle.format_filter.proofs.AnswerLemmas.{only_meeting}
 use Rattle.format_filter.proofs.intersection.meet.Goals as goal
 
-pub meet_range-requires-clause-row : goal.meet_range-requires-clause-row
-meet_range-requires-clause-row c =
-    let v = c.in-Range in
-    let is : c.range.result ≡ range_of v.wide v.pick v.min v.max = search rules in
-    range_row c.args.a.now c.range.result v.wide v.pick v.min v.max v.is is c.requires.a
-
-pub meet_step-requires-clause-row : goal.meet_step-requires-clause-row
-meet_step-requires-clause-row c =
-    let v = c.in-Step in
-    let is : c.steps.result ≡ step_of v.wide v.pick v.min v.max v.step = search rules in
-    step_row c.args.a.now c.steps.result v.wide v.pick v.min v.max v.step v.is is c.requires.a
+pub returns-clause-only : goal.returns-clause-only
+returns-clause-only c = λ other h. only_meeting c.args.a.now c.args.b.now c.intersection_of.result c.intersection_of.ensures.meets other h

@@ -1,6 +1,6 @@
--- The object is read as the format alone.
+-- The object is read as the format alone, and is the only one that spells it.
 use Rattle.format_filter.proofs.LawLemmas.{format_sound}
-use Rattle.format_filter.proofs.UniqueLemmas.{written_law}
+use Rattle.format_filter.proofs.UniqueLemmas.{written_law, written_one}
 use Rattle.format_filter.proofs.to_pod.pod_of.Goals as goal
 
 pub returns-clause-law : goal.returns-clause-law
@@ -8,3 +8,6 @@ returns-clause-law c = written_law c.args.format.now c.object_of.result c.requir
 
 pub returns-clause-sound : goal.returns-clause-sound
 returns-clause-sound c = format_sound c.args.format.now c.object_of.result c.requires c.object_of.ensures
+
+pub returns-clause-only : goal.returns-clause-only
+returns-clause-only c = λ other h. written_one c.args.format.now c.object_of.result other c.object_of.ensures h

@@ -4,7 +4,7 @@ use Rattle.board_rule.specs.Layout.{layout_of}
 use Rattle.board_rule.specs.SampleWords.{packed, IsTable}
 use Rattle.board_rule.specs.ReaderSteps.{samples_read}
 use Rattle.io_areas.proofs.SampleLemmas.{IsReadTo, length-spread, spread_more}
-use Rattle.io_areas.proofs.HeardLemmas.{all_short, heard_whole}
+use Rattle.io_areas.proofs.BroughtLemmas.{all_short, brought_whole}
 use Rattle.io_areas.proofs.reading.read.Goals as goal
 
 pub loop-place-preserved : goal.loop-place-preserved
@@ -29,4 +29,4 @@ returns-clause-samples g c = let b = g.S.BoardSeat.is_driver in let p = layout_o
     let v : View = g.S.BoardSeat.knows c.args.seat.now in let l = c.args.link in let i = c.loop-place.invariant in
     let is = i.long in let w = c.words_of-place-end.ensures in let all = i.so_far in let q = c.requires.long in let some = w.some in
     let end = c.loop-place-test.false in
-    heard_whole b p v l (i.fits (omega arith)) c.requires.phase w.inside c.loop-place.to (is ∙ q) (λ j lt near. all j (omega arith) near)
+    brought_whole b p v l (i.fits (omega arith)) c.requires.phase w.inside c.loop-place.to (is ∙ q) (λ j lt near. all j (omega arith) near)

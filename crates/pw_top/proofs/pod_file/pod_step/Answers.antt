@@ -1,5 +1,4 @@
--- What was read is the file's value, or the refusal of its bytes.
-use Rattle.std.proofs.Common.{refl, inl, arith}
+use Rattle.std.proofs.Common.{arith}
 use Rattle.pod_codec.proofs.PodReadings.{front_fits}
 use Rattle.pw_top.proofs.PodFileLemmas.{refused, read_whole, read_rest}
 use Rattle.pw_top.proofs.pod_file.pod_step.Goals as goal
@@ -16,5 +15,5 @@ returns-then-length-bytes-clause-told c =
     read_whole c.args.place c.args.bytes.now c.in-Ok.pod c.in-Ok.length c.in-Ok.ensures.found c.if-length-bytes.true
 
 pub returns-else-length-bytes-clause-told : goal.returns-else-length-bytes-clause-told
-returns-else-length-bytes-clause-told c = inl
-    (read_rest c.args.place c.args.bytes.now c.in-Ok.pod c.in-Ok.length c.in-Ok.ensures.found c.if-length-bytes.false, refl)
+returns-else-length-bytes-clause-told c =
+    read_rest c.args.place c.args.bytes.now c.in-Ok.pod c.in-Ok.length c.in-Ok.ensures.found c.if-length-bytes.false

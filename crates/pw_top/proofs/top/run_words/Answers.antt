@@ -11,10 +11,10 @@ returns-clause-told g c = λ h.
     let d1 = subst (λ y. Delivered made (g.F.Files.store_faults c.prepare_words-made.new.files)
     (g.F.Files.store_faults c.deliver-delivered.new.files) (g.O.Sink.faults c.args.out.now)
     (g.O.Sink.faults c.deliver-delivered.new.out) y (g.F.Files.held c.deliver-delivered.new.files) (g.O.Sink.given c.args.out.now)
-    (g.O.Sink.given c.deliver-delivered.new.out) c.deliver-delivered.result) p.held d0 in
+    (g.O.Sink.given c.deliver-delivered.new.out) c.deliver-delivered.result) p.files.held d0 in
     let d2 = subst (λ x. Delivered made x (g.F.Files.store_faults c.deliver-delivered.new.files) (g.O.Sink.faults c.args.out.now)
     (g.O.Sink.faults c.deliver-delivered.new.out) (g.F.Files.held c.args.files.now) (g.F.Files.held c.deliver-delivered.new.files)
-    (g.O.Sink.given c.args.out.now) (g.O.Sink.given c.deliver-delivered.new.out) c.deliver-delivered.result) p.stores d1 in
+    (g.O.Sink.given c.args.out.now) (g.O.Sink.given c.deliver-delivered.new.out) c.deliver-delivered.result) p.files.stores d1 in
     let e = p.told h in (
       e.answer,
       e.allowed,

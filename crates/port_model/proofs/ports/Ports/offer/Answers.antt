@@ -21,7 +21,7 @@ invariant_of-self c =
     ∙ c.node_at-node.ensures.node in
     let free = at_port (λ (node : Node) s. IsUnformatted node) nodes port n s here c.state_at-state.ensures.state
     (subst (λ (ns : List Node). AtPort ns port (λ node s. IsUnformatted node)) (sym c.self.view_is) c.requires.free) in
-    let filters = subst (λ (f : Filtered). Filters s.own c.args.format.now f) c.in-Common.is c.in_ok-own.ensures in
+    let filters = subst (λ (f : Filtered). Filters s.own c.args.format.now f) c.in-Common.is c.in_ok-own.ensures.filters in
     subst AreSoundNodes (sym c.put_own.ensures)
     (nodes_narrowed nodes port n s c.args.format.now c.in-Common.own c.self.invariant here c.state_at-state.ensures.state free filters)
 
@@ -31,5 +31,5 @@ put_own-requires c = has_place c.self.inside.nodes c.args.port c.self.invariant
 
 pub returns-in-Types-clause-ok : goal.returns-in-Types-clause-ok
 returns-in-Types-clause-ok c =
-    let differ = subst (λ (f : Filtered). Filters c.state_at-state.result.now.own c.args.format.now f) c.in-Types.is c.in_ok-own.ensures in
+    let differ = subst (λ (f : Filtered). Filters c.state_at-state.result.now.own c.args.format.now f) c.in-Types.is c.in_ok-own.ensures.filters in
     ((λ e. differ (c.state_at-state.ensures.sound.own.object ∙ sym e)), refl)

@@ -1,0 +1,10 @@
+pub mod Activity
+pub mod Searching
+pub mod Sums
+pub mod LinkLines
+pub mod UnlinkLines
+pub mod Lines
+pub mod Conditions
+pub mod Draining
+pub mod Forms
+pub mod Start

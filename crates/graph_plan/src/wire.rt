@@ -1,0 +1,11 @@
+//! A link that is there.
+
+use pw_base::PortId;
+
+/// A link that is there, and how many buffers it has.
+#[derive(Clone, Copy, Debug, PartialEq, Eq, Drop)]
+pub struct Wire {
+    pub from: PortId,
+    pub to: PortId,
+    pub buffers: u32,
+}

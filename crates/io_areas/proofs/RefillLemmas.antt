@@ -1,0 +1,47 @@
+-- From view to view where only blocks of one pool are others.
+use Rattle.std.proofs.Common.{◌≡◌, ◌≢◌, ℕ, ◌<◌, Option, Some, None, length, refl, sym, ap, ◌∙◌, subst, length-set}
+use Rattle.pw_base.specs.Pools.{pools_of}
+use Rattle.board_rule.specs.declared.view.BlockView.{BlockView}
+use Rattle.board_rule.specs.declared.view.BlockView.TheVariants.{Free}
+use Rattle.board_rule.specs.declared.view.View.{View}
+use Rattle.board_rule.specs.Layout.{BoardLayout}
+use Rattle.board_rule.specs.Spans.{block_at}
+use Rattle.board_rule.specs.EndViews.{pool_at, block_of, view_block}
+use Rattle.board_rule.specs.BufferReads.{HasPool}
+use Rattle.io_areas.specs.Writing.{HasReclaimed}
+use Rattle.io_areas.proofs.KeptLemmas.{IsKept}
+use Rattle.io_areas.proofs.BlockLemmas.{elsewhere}
+
+-- from v to w only blocks of the pool q are others
+pub record IsRefilled (p : BoardLayout) (q : ℕ) (v w : View) : Type 0 where
+  pub same : w ≡ record v { blocks = w.blocks }
+  pub room : length w.blocks ≡ length v.blocks
+  pub others : (r a : ℕ) → r < length (pools_of p.shape) → a < (pool_at p r).blocks → r ≢ q → block_of p w r a ≡ block_of p v r a
+
+module _ (p : BoardLayout) (q : ℕ) where
+  pub refilled : (v w : View) (b : ℕ) (y : BlockView) → HasPool p v q → b < (pool_at p q).blocks → w ≡ view_block p v q b y
+      → IsRefilled p q v w
+  refilled v w b y h low e = subst (IsRefilled p q v) (sym e) record
+      { same = refl; room = length-set v.blocks (block_at p q b) y; others = elsewhere p v q b y h low }
+
+  pub refill_kept : (v w : View) → IsRefilled p q v w → IsKept v w
+  refill_kept v w f = record {
+    same = f.same ∙ ap (λ (x : View). record v { writes = x.writes; blocks = w.blocks }) (sym f.same);
+    ends = ap (λ (x : View). length x.writes) f.same;
+    room = f.room;
+  }
+
+  pub refill_more : (v w x : View) → IsRefilled p q v w → IsRefilled p q w x → IsRefilled p q v x
+  refill_more v w x f g = record {
+    same = g.same ∙ ap (λ (y : View). record y { blocks = x.blocks }) f.same;
+    room = g.room ∙ f.room;
+    others = λ r a h l o. g.others r a h l o ∙ f.others r a h l o;
+  }
+
+  none_refilled : (v w : View) → w ≡ v → IsRefilled p q v w
+  none_refilled v w e = subst (IsRefilled p q v) (sym e) record { same = refl; room = refl; others = λ r a h l o. refl }
+
+  -- a block that came back
+  pub reclaim_refills : (v : View) (r : Option ℕ) (w : View) → HasPool p v q → HasReclaimed p v q r w → IsRefilled p q v w
+  reclaim_refills v None w at h = none_refilled v w h.1
+  reclaim_refills v (Some b) w at h = refilled v w b Free at h.1.inside h.2
