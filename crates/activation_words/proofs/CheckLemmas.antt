@@ -1,5 +1,5 @@
 -- What the driver's seat knows from load to load of a check.
-use Rattle.std.proofs.Common.{◌≡◌, ◌+◌, ◌≢◌, ℕ, zero, suc, ◌<◌, ◌≤◌, Bool, true, false, cond, eqb, List, ◌∷◌, map, refl, sym}
+use Rattle.std.proofs.Common.{◌≡◌, ◌+◌, ◌≢◌, ℕ, zero, suc, ◌<◌, ◌≤◌, Bool, true, false, cond, eqb, List, [], ◌∷◌, ◌++◌, map, refl, sym}
 use Rattle.std.proofs.Common.{ap, ◌∙◌, subst, arith, eq-eqb, ne_eqb}
 use Rattle.std.specs.Prelude.{Contains}
 use mathlib.Core.Logic.{dite}
@@ -8,6 +8,7 @@ use Rattle.board_rule.specs.declared.view.DriverPhase.TheVariants as drives
 use Rattle.board_rule.specs.declared.view.Found.{Found}
 use Rattle.board_rule.specs.declared.view.View.{View}
 use Rattle.pw_base.specs.Words.{finished_word}
+use Rattle.pw_base.specs.declared.event.Event.TheVariants.{Tick}
 use Rattle.pw_base.specs.Layout.{event_count}
 use Rattle.board_rule.specs.Layout.{BoardLayout, IsSound, nodes}
 use Rattle.board_rule.specs.View.{view_trail, view_lead}
@@ -107,13 +108,23 @@ module _ (p : BoardLayout) (sound : IsSound p) where
     pub checked : (late : ℕ) (w u : View) → v.lead.drive ≡ drives.Waiting → IsLooking p (tick_drawn v t) (nodes p) late w
         → u ≡ event_stored true (late_stored w) p.driver → HasChecked p v late u
     checked late w u waits r is =
-        let whole : u ≡ view_lead v (record v.lead { checked = true; checks = v.lead.checks + 1; drive = drives.Waiting; ticket = t })
-        (record v.trail { looks = w.trail.looks }) = is ∙ ap (λ (z : View). event_stored true (late_stored z) p.driver) r.is in
+        let whole : u ≡ view_lead v (record v.lead {
+          checked = true;
+          checks = v.lead.checks + 1;
+          drive = drives.Waiting;
+          lates = v.lead.lates ++ Tick v.lead.cycle (late_of v.lead.cycle w.trail.looks) ∷ [];
+          ticket = t;
+        }) (record v.trail { looks = w.trail.looks }) = is ∙ ap (λ (z : View). event_stored true (late_stored z) p.driver) r.is in
         let looks : u.trail.looks ≡ w.trail.looks = ap (λ (z : View). z.trail.looks) whole in record {
           ticket = t;
           drawn = low;
           looks = ap (λ l. map (λ (f : Found). f.node) l) looks ∙ r.looks;
           late_is = r.late_is ∙ sym (ap (late_of v.lead.cycle) looks);
-          is = whole ∙ (λ j. view_lead v (record v.lead { checked = true; checks = v.lead.checks + 1; drive = sym waits j; ticket = t })
-              (record v.trail { looks = sym looks j }));
+          is = whole ∙ (λ j. view_lead v (record v.lead {
+            checked = true;
+            checks = v.lead.checks + 1;
+            drive = sym waits j;
+            lates = v.lead.lates ++ Tick v.lead.cycle (sym r.late_is j) ∷ [];
+            ticket = t;
+          }) (record v.trail { looks = sym looks j }));
         }

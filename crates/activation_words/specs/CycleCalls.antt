@@ -1,8 +1,9 @@
 -- What the calls of the driver's seat on a whole cycle ask of its view, and the view after them. Nodes are indexes.
 -- Source: PipeWire's documentation, "Graph Scheduling"; the calls are this project's.
-use Rattle.std.specs.Prelude.{◌≡◌, ℕ, zero, suc, ◌+◌, ◌<◌, true, false, cond, eqb, List, [], ◌∷◌, map, reverse}
+use Rattle.std.specs.Prelude.{◌≡◌, ℕ, zero, suc, ◌+◌, ◌<◌, true, false, cond, eqb, List, [], ◌∷◌, ◌++◌, map, reverse}
 use Rattle.board_rule.specs.declared.view.DriverPhase.TheVariants as drives
 use Rattle.board_rule.specs.declared.view.View.{View}
+use Rattle.pw_base.specs.declared.event.Event.TheVariants.{Tick}
 use Rattle.pw_base.specs.Layout.{event_count}
 use Rattle.board_rule.specs.Layout.{BoardLayout, nodes}
 use Rattle.board_rule.specs.View.{view_lead}
@@ -46,5 +47,9 @@ pub record HasChecked (p : BoardLayout) (v : View) (late : ℕ) (w : View) : Typ
   pub drawn : ticket < event_count p.shape
   pub looks : map (λ f. f.node) w.trail.looks ≡ followers p (nodes p)
   pub late_is : late ≡ late_of v.lead.cycle w.trail.looks
-  pub is : w ≡ view_lead v (record v.lead { checked = true; checks = v.lead.checks + 1; ticket = ticket })
-      (record v.trail { looks = w.trail.looks })
+  pub is : w ≡ view_lead v (record v.lead {
+    checked = true;
+    checks = v.lead.checks + 1;
+    lates = v.lead.lates ++ Tick v.lead.cycle late ∷ [];
+    ticket = ticket;
+  }) (record v.trail { looks = w.trail.looks })

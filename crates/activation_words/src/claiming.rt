@@ -37,7 +37,7 @@ pub fn claim(board: &Board, seat: &mut LoopSeat, node: u32) -> Claim
     try_once(board, seat, node)
 }
 
-/// The same of the driver's node, when the driver's seat waits.
+/// As `claim`, for the driver's node, when the driver's seat waits.
 pub fn claim_driver(board: &Board, seat: &mut DriverSeat) -> Claim
     requires table { IsOn board.now seat.old.table }
     requires phase { let p = layout board.now in Claims true p seat.old.knows p.driver }

@@ -79,8 +79,8 @@ fn opened(
     shape: &Shape,
 ) -> Result<Option<(Board, DriverSeat, LoopSeat, LoopSeat)>, Memory>
     ensures { IfOk result (λ o. IfSome o (λ t. (t.0.board_shape.shape ≡ shape.now)
-        × (t.1.table ≡ t.0.table.shared.table_id) × (t.2.table ≡ t.0.table.shared.table_id)
-        × (t.3.table ≡ t.0.table.shared.table_id) × (t.0.board_shape.seat_of ≡ 0 ∷ 1 ∷ 0 ∷ 0 ∷ [])
+        × IsOn t.0 t.1.table × IsOn t.0 t.2.table
+        × IsOn t.0 t.3.table × (t.0.board_shape.seat_of ≡ 0 ∷ 1 ∷ 0 ∷ 0 ∷ [])
         × (let p = layout_of t.0.board_shape in IsBetween p t.1.knows × AllRest p 0 t.2.knows × AllRest p 1 t.3.knows))) }
 {
     if !is_pooled_shape(shape) || shape.nodes.len() != 4 {

@@ -17,7 +17,7 @@ use Rattle.area_runs.specs.Ready.{IsReadyOn, IsLeadReadyOn}
 abbrev pub board_shape_of : Shape → List ℕ → ℕ → BoardShape
 board_shape_of shape seat_of seats = record { shape = shape; seat_of = seat_of; seats = seats }
 
--- a pool of 1 to 8 blocks, whose quantum has `n` samples
+-- a pool of 1 to 8 blocks, whose quantum has `count` samples
 abbrev pub IsFit : ℕ → ℕ → PoolShape → Type 0
 IsFit quantum count pool = (1 ≤ pool.blocks) × (pool.blocks ≤ 8) × (quantum * pool.channels ≡ count)
 

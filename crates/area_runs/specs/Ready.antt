@@ -4,7 +4,8 @@ use Rattle.std.specs.Prelude.{◌≡◌, ◌≢◌, ℕ, Bool, true, false, All,
 use Rattle.atomic_table.specs.Seated.{TableId}
 use Rattle.pw_base.specs.Words.{triggered_word}
 use Rattle.board_rule.specs.declared.board.Board.{Board}
-use Rattle.board_rule.specs.Layout.{BoardLayout, layout_of, last}
+use Rattle.board_rule.specs.Layout.{BoardLayout, last}
+use Rattle.board_rule.specs.OnBoard.{layout, table_of}
 use Rattle.board_rule.specs.View.{node_of}
 use Rattle.board_rule.specs.Steps.{tried}
 use Rattle.activation_words.specs.CycleCalls.{HasBegun}
@@ -26,7 +27,7 @@ pub record IsReady (p : BoardLayout) (t : TableId) (w : Worker) : Type 0 where
 
 -- the same by its board
 abbrev pub IsReadyOn : Board → Worker → Type 0
-IsReadyOn board w = IsReady (layout_of board.board_shape) board.table.shared.table_id w
+IsReadyOn board w = IsReady (layout board) (table_of board) w
 
 -- the node at an index of its list
 abbrev pub node_at : Worker → ℕ → ℕ
@@ -45,7 +46,7 @@ abbrev pub IsLeadReady : BoardLayout → TableId → DriverLoop → Bool → Typ
 IsLeadReady p t l waits = IsOutfitted p t l × IsDriving p l.seat.knows waits
 
 abbrev pub IsLeadReadyOn : Board → DriverLoop → Bool → Type 0
-IsLeadReadyOn board l waits = IsLeadReady (layout_of board.board_shape) board.table.shared.table_id l waits
+IsLeadReadyOn board l waits = IsLeadReady (layout board) (table_of board) l waits
 
 -- the next cycle is begun, where there is one
 abbrev pub BeginsNext : BoardLayout → DriverLoop → Bool → DriverLoop → Type 0

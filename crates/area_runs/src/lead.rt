@@ -1,5 +1,5 @@
 //! The driver's loop.
-ghost use Rattle.board_rule.specs.OnBoard.{layout};
+ghost use Rattle.board_rule.specs.OnBoard.{layout, table_of};
 ghost use Rattle.std.specs.Prelude.{◌≡◌, ◌≢◌, true, false, IfSome, IsNone, ◌↔◌};
 ghost use Rattle.board_rule.specs.Layout.{layout_of, last};
 ghost use Rattle.activation_words.specs.CycleCalls.{HasChecked};
@@ -61,8 +61,7 @@ impl DriverLoop {
 
     // The driver's node is awake: it hears its links, and the cycle ends.
     fn conclude(&mut self, board: &Board) -> bool
-        requires awake { let id = board.now.table.shared.table_id in
-            MayLead (layout board.now) id self.old }
+        requires awake { MayLead (layout board.now) (table_of board.now) self.old }
         ensures ready { IsLeadReadyOn board.now self.new false }
         ensures heard { result ≡ true }
         ensures concluded { HasConcluded (layout board.now) self.old self.new }

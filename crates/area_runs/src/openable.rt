@@ -21,7 +21,7 @@ pub(crate) fn index_of(shape: &Shape, node: u32) -> usize
     find_index(shape, node).unwrap_or(shape.nodes.len())
 }
 
-/// Whether each follower has one of `n` seats. The driver's entry is not looked at.
+/// Whether each follower has one of `seats` seats. The driver's entry is not looked at.
 pub(crate) fn has_seats(shape: &Shape, seat_of: &[u32], seats: u32) -> bool
     ensures { IsTrue result ↔ HasSeats (board_shape_of shape.now seat_of.now seats) }
 {
@@ -37,7 +37,7 @@ pub(crate) fn has_seats(shape: &Shape, seat_of: &[u32], seats: u32) -> bool
     true
 }
 
-// Whether a pool has 1 to 8 blocks and `n` samples in a quantum.
+// Whether a pool has 1 to 8 blocks and `count` samples in a quantum.
 fn is_fit(quantum: u32, count: u64, pool: &PoolShape) -> bool
     ensures { IsTrue result ↔ IsFit quantum count pool.now }
 {

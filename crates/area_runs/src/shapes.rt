@@ -5,7 +5,7 @@ ghost use Rattle.area_runs.specs.Shapes.{joined, waits_for, fan, late_fan, row};
 use pw_base::{Items, Memory, PortId, Shape, ShapeLink, ShapeNode};
 use std::alloc::Global;
 
-// A node that waits for `n`, and has these wait for it.
+// A node that waits for `required` others, and has these wait for it.
 fn node(alloc: Global, node: u32, required: u32, targets: &[u32]) -> Result<ShapeNode, Memory>
     ensures { IfOk result (λ n. n ≡ waits_for node required targets.now) }
 {

@@ -1,5 +1,5 @@
 -- Laws of `specs/EventRule.antt`: the driver's seat stores an event or a late set, ends a cycle, and looks at a status.
-use Rattle.std.proofs.Common.{◌≡◌, ◌≢◌, ℕ, ◌+◌, ◌-◌, ◌<◌, ◌≤◌, inl, ⊎_elim, Bool, true, false, true≢false, cond, eqb, List}
+use Rattle.std.proofs.Common.{◌≡◌, ◌≢◌, ℕ, ◌+◌, ◌-◌, ◌<◌, ◌≤◌, ◌&&◌, inl, ⊎_elim, Bool, true, false, true≢false, cond, eqb, List}
 use Rattle.std.proofs.Common.{[], ◌∷◌, ◌++◌, map, length, set, get_or, Some, refl, sym, ap, ◌∙◌, subst, arith, eq-eqb, ne_eqb}
 use Rattle.std.proofs.Common.{get_or-set_other}
 use mathlib.Core.Logic.{dite}
@@ -7,7 +7,7 @@ use native.Mathlib.Decide.{ℕ_discrete}
 use Rattle.std.specs.Prelude.{slice_get, Contains, count_by}
 use Rattle.std.proofs.lemmas.List.Sums.{sum_by-append, sum_by-cons}
 use Rattle.pw_base.specs.declared.event.Event.{Event}
-use Rattle.pw_base.specs.declared.event.Event.TheVariants.{Begin, End}
+use Rattle.pw_base.specs.declared.event.Event.TheVariants.{Begin, Tick, End}
 use Rattle.pw_base.specs.EventWords.{event_word_of}
 use Rattle.pw_base.specs.History.{is_tick, is_finish, IsLate}
 use Rattle.pw_base.specs.Layout.{event_place, late_place, status_place}
@@ -24,9 +24,11 @@ use Rattle.board_rule.specs.Phases.{phase_stage, is_resetting, drive_stage, Phas
 use Rattle.board_rule.specs.View.{Whole, with_lead}
 use Rattle.board_rule.specs.Marks.{phase_started, phase_finished, phase_holds, drive_started, drive_finished, drive_holds, drive_tells}
 use Rattle.board_rule.specs.Marks.{drive_sees, is_begun, is_ending, is_checking}
+use Rattle.board_rule.specs.LateSets.{is_looking}
 use Rattle.board_rule.specs.ActivationRule.{Activations, progress}
-use Rattle.board_rule.specs.EventSteps.{late_of}
+use Rattle.board_rule.specs.EventSteps.{late_of, late_kept}
 use Rattle.board_rule.specs.EventRule.{Events, Marks, Inside, so_far, marks, counts, records, lead_drawn}
+use Rattle.board_rule.proofs.TickLemmas.{ticks_stay, ticks_past, none_looking, ticks_end}
 use Rattle.board_rule.proofs.DrawLemmas.{Logs, none_in, member}
 use Rattle.board_rule.proofs.StoreLemmas.{event_stored, late_set, ended}
 use Rattle.board_rule.proofs.LateLemmas.{told_late, inside_looks}
@@ -58,13 +60,13 @@ module _ (p : BoardLayout) where
     pub events_lead_stored : (d h : DriverPhase) (k : ℕ) (x : Event) → g.lead.drive ≡ d → event_place p.shape k < length ws
         → slice_get (g.past ++ so_far (marks p g) g.lead.cycle g.inside) k ≡ Some x
         → drive_started h ≡ drive_started d → drive_finished h ≡ drive_finished d → is_begun d ≡ true → is_ending d ≡ false
-        → is_begun h ≡ true → is_ending h ≡ false → is_checking h ≡ false → drive_sees g.looks h ≡ drive_sees g.looks d
+        → is_begun h ≡ true → is_ending h ≡ false → is_checking h ≡ false → is_looking h ≡ is_looking d → drive_sees g.looks h ≡ drive_sees g.looks d
         → ((j : ℕ) → Contains (drive_holds g.lead d) j → j ≡ k)
         → ((j : ℕ) (y : Event) → Contains (drive_tells g.lead g.late d) (j, y) → j ≡ k)
         → drive_tells (record g.lead { drive = h }) g.late h ≡ [] → lead_drawn g.lead ≤ lead_drawn (record g.lead { drive = h })
         → Events p (record (with_lead g (record g.lead { drive = h })) { inside = g.inside; looks = g.looks })
         (set ws (event_place p.shape k) (event_word_of x))
-    events_lead_stored d h k x is room at started finished begun unended goes_on stays unchecking sees holds tells silent more =
+    events_lead_stored d h k x is room at started finished begun unended goes_on stays unchecking looking sees holds tells silent more =
         let u : Marks = marks p (after p g (record g.lead { drive = h }) g.looks g.inside g.late) in
         let logs = words_stored p ws (event_word_of x) g.lead.cycle g.late g.past g.inside u k a.later a.early room
         (event_stored p g.lead.cycle g.late g.past g.inside (marks p g) u (records p ws) (logs_of p g ws e)
@@ -88,6 +90,7 @@ module _ (p : BoardLayout) where
           count = let b = count_lead p g (get_or ws 0 0) 0 (record g.lead { drive = h }) (omega arith) e.count in
               let w = get_or-set_other ws (event_place p.shape k) 0 (event_word_of x) 0 (λ z. omega arith) in omega arith;
           checks = e.checks;
+          lates = ticks_stay p g e.lates d (record g.lead { drive = h }) is looking refl refl refl;
           checking = λ z. absurd (true≢false (sym z ∙ unchecking));
           fresh = λ z. absurd (true≢false (sym goes_on ∙ z));
           tickets = logs.tickets;
@@ -96,7 +99,7 @@ module _ (p : BoardLayout) where
         }
 
     abbrev stored : DriverView
-    stored = record g.lead { drive = drives.LateStored }
+    stored = late_kept g.lead g.looks
 
     -- the late set of a check is stored
     pub events_late : (x : ℕ) → g.lead.drive ≡ drives.Checking → g.lead.cycle < last p
@@ -115,6 +118,8 @@ module _ (p : BoardLayout) where
           count = let b = count_lead p g (get_or ws 0 0) 0 stored (omega arith) e.count in
               let w = get_or-set_other ws (late_place p.shape (c - first p)) 0 x 0 (λ z. omega arith) in omega arith;
           checks = e.checks;
+          lates = (λ j. ticks_past p g e.lates (none_looking p g e.lates (ap is_looking d)) j
+              ++ cond (e.checking (ap is_checking d) j && true) (Tick c (bits j) ∷ []) []);
           checking = λ _. e.checking (ap is_checking d);
           fresh = λ z. absurd (true≢false z);
           tickets = logs.tickets;
@@ -145,6 +150,7 @@ module _ (p : BoardLayout) where
         let more = inside_looks p c g.late (counts p g) g.inside (record { node = p.number n; word = found }) i late in record {
           count = e.count;
           checks = e.checks;
+          lates = e.lates;
           checking = e.checking;
           fresh = e.fresh;
           tickets = let k = e.tickets in record {
@@ -225,6 +231,7 @@ module _ (p : BoardLayout) where
               let w = sum_by-append (λ z. cond (is_tick z) 1 0) g.past (so_far (marks p g) c g.inside) in
               let v : count_by is_tick (so_far (marks p g) c g.inside) ≡ count_by is_tick g.inside = ap (count_by is_tick) full
               ∙ count_cycle c g.inside in omega arith;
+          lates = ticks_end p g e.lates (so_far (marks p g) c g.inside) (ap is_looking d) e.inside.only e.inside.ticks full;
           checking = λ z. absurd (true≢false (sym z));
           fresh = λ _. refl;
           tickets = logs.tickets;

@@ -5,7 +5,7 @@ use mathlib.Core.Option.{some, some-injective, some-ne-none}
 use mathlib.Core.Logic.{dite}
 use native.Mathlib.Decide.{ℕ_discrete}
 use lib.ListN.{get_elem?}
-use Rattle.std.specs.Prelude.{Contains, count_by, slice_get}
+use Rattle.std.specs.Prelude.{Contains, count_by, filter, slice_get}
 use Rattle.std.proofs.lemmas.List.{get_or_default}
 use Rattle.pw_base.specs.declared.event.Event.{Event}
 use Rattle.pw_base.specs.declared.event.Event.TheVariants.{Begin, Start, Finish, Tick, End}
@@ -26,6 +26,7 @@ use Rattle.board_rule.specs.Marks.{phase_holds, drive_holds, drive_tells, is_beg
 use Rattle.board_rule.specs.ActivationRule.{Activations}
 use Rattle.board_rule.specs.EventRule.{Events, IsHeld, so_far, marks}
 use Rattle.board_rule.specs.Closing.{HasEndedAll, last_view, LateOf, AreRecorded}
+use Rattle.board_rule.proofs.TickLemmas.{ticks_past, none_checked}
 use Rattle.board_rule.proofs.DrawLemmas.{none_in}
 use Rattle.board_rule.proofs.MarkLemmas.{node_was, lead_here}
 use Rattle.board_rule.proofs.LateLemmas.{told_late}
@@ -35,6 +36,10 @@ pub word_at : (xs : List ℕ) (i x : ℕ) → get_elem? xs i ≡ some x → get_
 word_at [] i x e = absurd (some-ne-none x (sym e))
 word_at (y ∷ xs) zero x e = some-injective y x e
 word_at (y ∷ xs) (suc i) x e = word_at xs i x e
+
+unchecked : (b : Bool) → cond {A = ℕ} b 1 0 ≡ 0 → b ≡ false
+unchecked true e = absurd (omega arith)
+unchecked false e = refl
 
 -- an event is read back from its word, but for its late set
 pub event_read : (e : Event) → event_node e ≤ 63 → event_in (event_word_of e) 0 ≡ told_late 0 e
@@ -132,20 +137,25 @@ module _ (p : BoardLayout) (g : Whole) (ws : List ℕ) (sound : IsSound p) (a : 
       subst (λ cs. AreJoined cs g.past) (ap (epoch_cycles p.shape) n ∙ sym (append-nil (epoch_cycles p.shape p.shape.cycles)))
       e.earlier.legal
 
+  pub lates : filter is_tick g.past ≡ g.lead.lates
+  lates = let y = e.inside.ticks in let x : count_by is_tick g.inside ≡ 0 = ap (count_by is_tick) (e.fresh (ap is_begun drive)) in
+      ticks_past p g e.lates (none_checked p g e.lates (unchecked g.lead.checked (omega arith)))
+
   pub ticks : count_by is_tick g.past ≡ g.lead.checks
   ticks = let z = e.checks in let y = e.inside.ticks in
       let x : count_by is_tick g.inside ≡ 0 = ap (count_by is_tick) (e.fresh (ap is_begun drive)) in omega arith
 
 -- what is left of a board whose driver's seat, with the view v, has ended all cycles
-pub record Leaves (board_shape : BoardShape) (v : View) (words : List ℕ) : Type 0 where
+pub record LeavesEvents (board_shape : BoardShape) (v : View) (words : List ℕ) : Type 0 where
   pub history : List Event
   pub stands : AreRecorded board_shape.shape.first (late_place board_shape.shape 0) (event_place board_shape.shape 0) history words
   pub is_legal : IsLegalHistory (board_shape.shape ∷ []) history
   pub has_ticks : count_by is_tick history ≡ v.lead.checks
+  pub has_lates : filter is_tick history ≡ v.lead.lates
   pub fits : length history ≤ event_count board_shape.shape
 
 leaves : {S : Type 0} (board_shape : BoardShape) (v w : View) (words : List ℕ) (id : ℕ) (s : State S View) → Holds (layout_of board_shape) s → s.words ≡ words
-    → get_elem? s.views id ≡ some w → w ≡ last_view (layout_of board_shape) v → HasEndedAll (layout_of board_shape) v → Leaves board_shape v words
+    → get_elem? s.views id ≡ some w → w ≡ last_view (layout_of board_shape) v → HasEndedAll (layout_of board_shape) v → LeavesEvents board_shape v words
 leaves board_shape v w words id s r are at is has = let p = layout_of board_shape in let g = r.whole in
     let number : w.number ≡ p.seats = ap (λ (u : View). u.number) is ∙ has.0.1 in
     let lead : v.lead ≡ g.lead = sym (ap (λ (u : View). u.lead) is) ∙ ((r.seated.knows id w at).is_driver number).0 in
@@ -155,10 +165,11 @@ leaves board_shape v w words id s r are at is has = let p = layout_of board_shap
           (recorded p g s.words r.seated.sound r.activations r.events r.seated.long ended);
       is_legal = legal p g s.words r.seated.sound r.activations r.events r.seated.long ended;
       has_ticks = ticks p g s.words r.seated.sound r.activations r.events r.seated.long ended ∙ ap (λ (l : DriverView). l.checks) (sym lead);
+      has_lates = lates p g s.words r.seated.sound r.activations r.events r.seated.long ended ∙ ap (λ (l : DriverView). l.lates) (sym lead);
       fits = few p g s.words r.seated.sound r.activations r.events r.seated.long ended;
     }
 
 pub closed_leaves : {S : Type 0} (board_shape key : BoardShape) (v w : View) (words : List ℕ) (slots : List S) (id : ℕ) → key ≡ board_shape
-    → Final (Seen (Holds (layout_of key)) id w) words slots → w ≡ last_view (layout_of board_shape) v → HasEndedAll (layout_of board_shape) v → Leaves board_shape v words
+    → Final (Seen (Holds (layout_of key)) id w) words slots → w ≡ last_view (layout_of board_shape) v → HasEndedAll (layout_of board_shape) v → LeavesEvents board_shape v words
 closed_leaves board_shape key v w words slots id about f is has = let s = f.0 in
     leaves board_shape v w words id s (subst (λ k. Holds (layout_of k) s) about f.1.0) f.2 f.1.1 is has

@@ -258,6 +258,7 @@ module _ (p : BoardLayout) where
                 begun = refl;
                 ending = refl;
                 checking = refl;
+                looking = refl;
               })
               (active_lead p g s.words ws drives.Done g.lead tt (λ z. true≢false (sym z))
               (a.within (runs_within g.lead.drive runs_on)) done a)
@@ -313,6 +314,7 @@ module _ (p : BoardLayout) where
                 begun = refl;
                 ending = refl;
                 checking = refl;
+                looking = refl;
               }) (drive_paced g.lead drives.Waiting (lead_to g drives.Awake g.lead) drive refl refl (omega arith))
               (active_lead p g s.words ws drives.Awake g.lead tt (λ z. true≢false (sym z))
               (a.within (runs_within g.lead.drive runs_on)) woken a))),

@@ -18,6 +18,7 @@ use Rattle.board_rule.specs.Marks.{phase_started, phase_finished, drive_started,
 use Rattle.board_rule.specs.ActivationRule.{Activations}
 use Rattle.board_rule.specs.EventRule.{Events, so_far, marks, lead_drawn}
 use Rattle.board_rule.specs.EventSteps.{CanDrawLead, lead_draws, draw_trail, CanStoreLead, lead_stores, held_lead, lead_tells, late_of}
+use Rattle.board_rule.specs.EventSteps.{late_kept}
 use Rattle.board_rule.proofs.WorkLemmas.{IsOther, ticket_is_other}
 use Rattle.board_rule.proofs.DrawLemmas.{first_in, only_in, none_in}
 use Rattle.board_rule.proofs.LateLemmas.{told_late}
@@ -166,11 +167,10 @@ module _ (p : BoardLayout) (g : Whole) (ws : List ℕ) (l : DriverView) (is : l 
       subst (λ (z : DriverView). Activations p (with_lead g (lead_stores z drives.EndDrawn)) (set ws i x)) (sym is)
       (active_end p g ws (lead_stores g.lead drives.EndDrawn) i x sound (at_whole drives.EndDrawn e) other a)
 
-  pub late_goes : (i x : ℕ) → l.drive ≡ drives.Checking → IsOther p i
-      → Activations p (with_lead g (record l { drive = drives.LateStored })) (set ws i x)
-  late_goes i x e other = subst (λ (z : DriverView). Activations p (with_lead g (record z { drive = drives.LateStored })) (set ws i x))
-      (sym is)
-      (active_alike p g ws drives.Checking drives.LateStored g.lead i x (at_whole drives.Checking e) late_stored other a)
+  pub late_goes : (i x : ℕ) (fs : List Found) → l.drive ≡ drives.Checking → IsOther p i
+      → Activations p (with_lead g (late_kept l fs)) (set ws i x)
+  late_goes i x fs e other = subst (λ (z : DriverView). Activations p (with_lead g (late_kept z fs)) (set ws i x)) (sym is)
+      (active_alike p g ws drives.Checking drives.LateStored (late_kept g.lead fs) i x (at_whole drives.Checking e) late_stored other a)
 
 pub late_more : (l : DriverView) → l.drive ≡ drives.Checking → lead_drawn l ≤ lead_drawn (record l { drive = drives.LateStored })
 late_more l e = let s = same l drives.Checking e in omega arith
@@ -271,7 +271,7 @@ module _ (p : BoardLayout) (g : Whole) (ws : List ℕ) (l : DriverView) (fs : Li
           (e.tickets.told_kept g.lead.ticket (Begin g.lead.cycle)
           (subst (λ ks. Contains ks (g.lead.ticket, Begin g.lead.cycle)) (sym (ap (drive_tells g.lead g.late) w))
           (first_in (g.lead.ticket, Begin g.lead.cycle)))).1
-          refl refl refl refl refl refl refl refl (none_own g.lead.ticket)
+          refl refl refl refl refl refl refl refl refl (none_own g.lead.ticket)
           (λ j y h. only_told g.lead.ticket j (Begin g.lead.cycle) y h) refl (stores_more g.lead drives.BeginDrawn w tt)) near,
     )
     stores_logs (drives.Reset j) q can near within = absurd can
@@ -291,7 +291,7 @@ module _ (p : BoardLayout) (g : Whole) (ws : List ℕ) (l : DriverView) (fs : Li
           (e.tickets.told_kept g.lead.ticket (Tick g.lead.cycle g.late)
           (subst (λ ks. Contains ks (g.lead.ticket, Tick g.lead.cycle g.late)) (sym (ap (drive_tells g.lead g.late) w))
           (first_in (g.lead.ticket, Tick g.lead.cycle g.late)))).1
-          refl refl refl refl refl refl refl refl (none_own g.lead.ticket)
+          refl refl refl refl refl refl refl refl refl (none_own g.lead.ticket)
           (λ j y h. only_told g.lead.ticket j (Tick g.lead.cycle g.late) y h) refl (stores_more g.lead drives.LateStored w tt)) near,
     )
     stores_logs drives.Awake q can near within = absurd can
@@ -308,7 +308,7 @@ module _ (p : BoardLayout) (g : Whole) (ws : List ℕ) (l : DriverView) (fs : Li
           ∙ (e.tickets.starts_kept p.driver sound.driver_in
           (lead_here p g (drive_started g.lead.drive) (λ z. cond (eqb z.next g.lead.cycle) (phase_started z.phase) 1)
           ∙ ap drive_started w)).1)
-          refl refl refl refl refl refl refl refl (only_own g.lead.start) (λ j y h. none_told g.lead.start j y h) refl
+          refl refl refl refl refl refl refl refl refl (only_own g.lead.start) (λ j y h. none_told g.lead.start j y h) refl
           (stores_more g.lead drives.StartDrawn w tt)) near,
     )
     stores_logs drives.Running q can near within = absurd can
@@ -326,7 +326,7 @@ module _ (p : BoardLayout) (g : Whole) (ws : List ℕ) (l : DriverView) (fs : Li
           ∙ (e.tickets.finishes_kept p.driver sound.driver_in
           (lead_here p g (drive_finished g.lead.drive) (λ z. cond (eqb z.next g.lead.cycle) (phase_finished z.phase) 1)
           ∙ ap drive_finished w)).1)
-          refl refl refl refl refl refl refl refl (only_own g.lead.finish) (λ j y h. none_told g.lead.finish j y h) refl
+          refl refl refl refl refl refl refl refl refl (only_own g.lead.finish) (λ j y h. none_told g.lead.finish j y h) refl
           (stores_more g.lead drives.FinishDrawn w tt)) near,
     )
     stores_logs drives.FinishStored q can near within = absurd can
@@ -344,15 +344,17 @@ module _ (p : BoardLayout) (g : Whole) (ws : List ℕ) (l : DriverView) (fs : Li
 
     pub late_logs : (x : ℕ) → l.drive ≡ drives.Checking → l.cycle < last p → x ≡ late_of l.cycle fs
         → (past inside : List Event) × (late : ℕ) × Events p
-        (record (with_lead g (record l { drive = drives.LateStored })) { past = past; inside = inside; late = late; looks = g.looks })
+        (record (with_lead g (late_kept l fs)) { past = past; inside = inside; late = late; looks = g.looks })
         (set ws (late_place p.shape (l.cycle - first p)) x)
     late_logs x q within bits = let w = at_lead drives.Checking q in let low = a.later in (
       g.past,
       map (told_late x) g.inside,
       x,
       subst (λ (z : DriverView). z.cycle < last p → x ≡ late_of z.cycle fs
-          → Events p (record (with_lead g (record z { drive = drives.LateStored }))
+          → Events p (record (with_lead g (late_kept z fs))
           { inside = map (told_late x) g.inside; late = x; looks = g.looks }) (set ws (late_place p.shape (z.cycle - first p)) x)) (sym is)
-          (λ within bits. events_late p g ws sound a e x w within (omega arith) (bits ∙ ap (late_of g.lead.cycle) looks)
-          (let m = late_more g.lead w in m)) within bits,
+          (λ within bits. subst (λ (ys : List Found). Events p (record (with_lead g (late_kept g.lead ys))
+          { inside = map (told_late x) g.inside; late = x; looks = g.looks }) (set ws (late_place p.shape (g.lead.cycle - first p)) x))
+          (sym looks) (events_late p g ws sound a e x w within (omega arith) (bits ∙ ap (late_of g.lead.cycle) looks)
+          (let m = late_more g.lead w in m))) within bits,
     )

@@ -151,6 +151,7 @@ module _ (p : BoardLayout) where
     begun = refl;
     ending = refl;
     checking = refl;
+    looking = refl;
   }
   kicked_quiet_by j i o false = record {
     started = refl;
@@ -161,6 +162,7 @@ module _ (p : BoardLayout) where
     begun = refl;
     ending = refl;
     checking = refl;
+    looking = refl;
   }
 
   kicked_quiet : (j n i : ℕ) (o owes : Bool) → QuietDrives (drives.Kick j o) (kicked n i owes)
@@ -173,6 +175,7 @@ module _ (p : BoardLayout) where
     begun = refl;
     ending = refl;
     checking = refl;
+    looking = refl;
   }
   kicked_quiet j n i o false = kicked_quiet_by j i o (eqb i n)
 

@@ -212,6 +212,7 @@ module _ (p : BoardLayout) where
             (let z = ap (λ f. node_drawn (record x { phase = f })) phase in omega arith) e.count in
             let w = get_or-set_same ws 0 (suc t) 0 wide in omega arith;
         checks = e.checks;
+        lates = e.lates;
         checking = e.checking;
         fresh = λ z. absurd (true≢false (sym (begun_of g.lead.drive runs_on) ∙ z));
         tickets = logs.tickets;
@@ -241,6 +242,7 @@ module _ (p : BoardLayout) where
             (let z = ap (λ f. node_drawn (record x { phase = f })) phase in omega arith) e.count in
             let w = get_or-set_same ws 0 (suc t) 0 wide in omega arith;
         checks = e.checks;
+        lates = e.lates;
         checking = e.checking;
         fresh = λ z. absurd (true≢false (sym (begun_of g.lead.drive runs_on) ∙ z));
         tickets = logs.tickets;
@@ -269,6 +271,7 @@ module _ (p : BoardLayout) where
         count = let c = count_node p g (get_or ws 0 0) 0 m x y inside follows is (omega arith) ev.count in
             let w = get_or-set_other ws (event_place p.shape k) 0 (event_word_of e) 0 (λ z. omega arith) in omega arith;
         checks = ev.checks;
+        lates = ev.lates;
         checking = ev.checking;
         fresh = ev.fresh;
         tickets = logs.tickets;

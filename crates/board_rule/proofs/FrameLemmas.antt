@@ -1,6 +1,8 @@
 -- Laws of `specs/EventRule.antt`: the tickets and events of the driver's seat, and its checks.
 use Rattle.std.proofs.Common.{◌≡◌, ℕ, suc, ◌+◌, ◌<◌, ◌≤◌, true, false, true≢false, cond, eqb, List, [], ◌∷◌, ◌++◌, length}
-use Rattle.std.proofs.Common.{set, get_or, refl, sym, ap, ◌∙◌, subst, arith, get_or-set_same}
+use Rattle.std.proofs.Common.{set, get_or, refl, sym, ap, ◌∙◌, subst, arith, get_or-set_same, append-nil}
+use Rattle.std.specs.Prelude.{filter}
+use Rattle.pw_base.specs.History.{is_tick}
 use Rattle.pw_base.specs.declared.event.Event.{Event}
 use Rattle.pw_base.specs.declared.event.Event.TheVariants.{Start, Finish, Tick}
 use Rattle.pw_base.specs.Layout.{event_count}
@@ -15,6 +17,7 @@ use Rattle.board_rule.specs.Marks.{phase_started, phase_finished, phase_holds, d
 use Rattle.board_rule.specs.Marks.{drive_sees, is_begun, is_ending}
 use Rattle.board_rule.specs.ActivationRule.{Activations, progress}
 use Rattle.board_rule.specs.EventRule.{Events, marks, records, lead_drawn}
+use Rattle.board_rule.proofs.TickLemmas.{ticks_stay, ticks_past, none_checked}
 use Rattle.board_rule.proofs.DrawLemmas.{Logs, StartsAt, FinishesAt, starts_drawn, finishes_drawn}
 use Rattle.board_rule.proofs.StoreLemmas.{SameNodes, begin_drawn, end_drawn, tick_drawn}
 use Rattle.board_rule.proofs.MarkLemmas.{words_drawn, lead_here, lead_else}
@@ -65,6 +68,7 @@ module _ (p : BoardLayout) where
         (omega arith)) in record {
           count = counted began more;
           checks = e.checks;
+          lates = ticks_stay p g e.lates drives.Between began d refl refl refl refl;
           checking = λ z. absurd (true≢false (sym z));
           fresh = λ z. absurd (true≢false z);
           tickets = logs.tickets;
@@ -88,6 +92,7 @@ module _ (p : BoardLayout) where
         (omega arith)) in record {
           count = counted ended more;
           checks = e.checks;
+          lates = ticks_stay p g e.lates drives.FinishStored ended d refl refl refl refl;
           checking = λ z. absurd (true≢false (sym z));
           fresh = λ z. absurd (true≢false z);
           tickets = logs.tickets;
@@ -113,6 +118,7 @@ module _ (p : BoardLayout) where
         in record {
           count = counted ticked more;
           checks = let z = e.checks in let y : cond {A = ℕ} g.lead.checked 1 0 ≡ 0 = ap (λ b. cond {A = ℕ} b 1 0) unchecked in omega arith;
+          lates = append-nil (filter is_tick g.past) ∙ ticks_past p g e.lates (none_checked p g e.lates unchecked);
           checking = λ _. refl;
           fresh = λ z. absurd (true≢false z);
           tickets = logs.tickets;
@@ -159,6 +165,7 @@ module _ (p : BoardLayout) where
         (done_before p g ws p.driver sound a runs_on sound.driver_in stage)) in record {
           count = counted starting more;
           checks = e.checks;
+          lates = ticks_stay p g e.lates drives.Awake starting d refl refl refl refl;
           checking = λ z. absurd (true≢false (sym z));
           fresh = λ z. absurd (true≢false z);
           tickets = logs.tickets;
@@ -204,6 +211,7 @@ module _ (p : BoardLayout) where
         (records p ws) (logs_of p g ws e) p.driver t sound.driver_in at refl (omega arith)) in record {
           count = counted finishing more;
           checks = e.checks;
+          lates = ticks_stay p g e.lates drives.Done finishing d refl refl refl refl;
           checking = λ z. absurd (true≢false (sym z));
           fresh = λ z. absurd (true≢false z);
           tickets = logs.tickets;

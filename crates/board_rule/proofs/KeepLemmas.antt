@@ -87,6 +87,7 @@ module _ (p : BoardLayout) where
       let few = few_tickets p g (get_or ws 0 0) ws sound a e.count in let low = a.later in let high = a.early in record {
         count = let c = e.count in omega arith;
         checks = e.checks;
+        lates = e.lates;
         checking = e.checking;
         fresh = e.fresh;
         tickets = record {

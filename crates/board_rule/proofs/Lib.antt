@@ -11,6 +11,7 @@ pub mod StoreLemmas
 pub mod MarkLemmas
 pub mod PhaseLemmas
 pub mod ProgressLemmas
+pub mod TickLemmas
 pub mod TicketLemmas
 pub mod FollowerLemmas
 pub mod WorkLemmas

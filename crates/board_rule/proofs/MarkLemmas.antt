@@ -18,6 +18,7 @@ use Rattle.board_rule.specs.Layout.{BoardLayout, nodes, first, last}
 use Rattle.board_rule.specs.View.{Whole, put, with_node, with_lead}
 use Rattle.board_rule.specs.Marks.{phase_started, phase_finished, phase_holds, drive_started, drive_finished, drive_holds, drive_tells}
 use Rattle.board_rule.specs.Marks.{drive_sees, is_begun, is_ending, is_checking}
+use Rattle.board_rule.specs.LateSets.{is_looking}
 use Rattle.board_rule.specs.EventRule.{Records, Marks, IsHeld, marks, records}
 use Rattle.board_rule.proofs.SeatLemmas.{put_here, put_else}
 use Rattle.board_rule.proofs.DrawLemmas.{Logs}
@@ -118,6 +119,7 @@ pub record QuietLead (l x : DriverView) : Type 0 where
   pub cycle : x.cycle ≡ l.cycle
   pub checked : x.checked ≡ l.checked
   pub checks : x.checks ≡ l.checks
+  pub lates : x.lates ≡ l.lates
   pub start : x.start ≡ l.start
   pub finish : x.finish ≡ l.finish
   pub started : drive_started x.drive ≡ drive_started l.drive
@@ -128,6 +130,7 @@ pub record QuietLead (l x : DriverView) : Type 0 where
   pub begun : is_begun x.drive ≡ is_begun l.drive
   pub ending : is_ending x.drive ≡ is_ending l.drive
   pub checking : is_checking x.drive ≡ is_checking l.drive
+  pub looking : is_looking x.drive ≡ is_looking l.drive
 
 -- two phases of the driver's seat that hold no ticket and are at the same events
 pub record QuietDrives (d e : DriverPhase) : Type 0 where
@@ -139,6 +142,7 @@ pub record QuietDrives (d e : DriverPhase) : Type 0 where
   pub begun : is_begun e ≡ is_begun d
   pub ending : is_ending e ≡ is_ending d
   pub checking : is_checking e ≡ is_checking d
+  pub looking : is_looking e ≡ is_looking d
 
 abbrev at_drive : DriverView → DriverPhase → DriverView
 at_drive l e = record l { drive = e }
@@ -182,6 +186,7 @@ quiet_drive l d e is q = record {
   cycle = refl;
   checked = refl;
   checks = refl;
+  lates = refl;
   start = refl;
   finish = refl;
   started = q.started ∙ sym (ap drive_started is);
@@ -192,6 +197,7 @@ quiet_drive l d e is q = record {
   begun = q.begun ∙ sym (ap is_begun is);
   ending = q.ending ∙ sym (ap is_ending is);
   checking = q.checking ∙ sym (ap is_checking is);
+  looking = q.looking ∙ sym (ap is_looking is);
 }
 
 module _ (p : BoardLayout) (g : Whole) where

@@ -38,6 +38,7 @@ reset_quiet i k true = record {
   begun = refl;
   ending = refl;
   checking = refl;
+  looking = refl;
 }
 reset_quiet i k false = record {
   started = refl;
@@ -48,6 +49,7 @@ reset_quiet i k false = record {
   begun = refl;
   ending = refl;
   checking = refl;
+  looking = refl;
 }
 
 module _ (p : BoardLayout) where
@@ -139,6 +141,7 @@ module _ (p : BoardLayout) where
                 begun = refl;
                 ending = refl;
                 checking = refl;
+                looking = refl;
               }) (drive_paced g.lead (drives.Reset i) (lead_to g (drives.Half i) g.lead) drive refl refl (omega arith))
               record {
                 later = a.later;

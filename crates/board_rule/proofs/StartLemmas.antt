@@ -247,6 +247,7 @@ module _ (p : BoardLayout) {S : Type 0} where
           let same = total_same (drawn_before p) (λ n. cond (eqb n p.driver) 0 (2 * first p + 0)) (nodes p)
           (λ n l. ap (λ k. cond (eqb n p.driver) 0 k) none) in omega arith;
       checks = refl;
+      lates = refl;
       checking = λ z. absurd (true≢false (sym z));
       fresh = λ _. refl;
       tickets = record {
@@ -411,6 +412,7 @@ module _ (p : BoardLayout) {S : Type 0} where
         events = let v = r.events in let t = v.tickets in record {
           count = v.count;
           checks = v.checks;
+          lates = v.lates;
           checking = v.checking;
           fresh = v.fresh;
           tickets = record {
@@ -500,6 +502,7 @@ module _ (p : BoardLayout) {S : Type 0} where
         events = let v = r.events in let t = v.tickets in record {
           count = v.count;
           checks = v.checks;
+          lates = v.lates;
           checking = v.checking;
           fresh = v.fresh;
           tickets = record {

@@ -19,7 +19,7 @@ use Rattle.board_rule.specs.Steps.{triggered, Claims, claimed, woken, tried, cyc
 use Rattle.board_rule.specs.Steps.{StoresPending, pending_stored, StoresStatus, status_stored, reset_of}
 use Rattle.board_rule.specs.EventSteps.{Draws, draws, CanDraw, node_draws, lead_draws, draw_trail, StoresEvent, event_stored, CanStore}
 use Rattle.board_rule.specs.EventSteps.{stored_phase, lead_stores, held, held_lead, ticket_of, node_tells, lead_tells, event_due, Looks}
-use Rattle.board_rule.specs.EventSteps.{looked, StoresLate, late_stored}
+use Rattle.board_rule.specs.EventSteps.{looked, StoresLate, late_kept, late_stored}
 use Rattle.board_rule.specs.Plays.{Leaves, Learns}
 use Rattle.board_rule.proofs.PhaseLemmas.{can_tell, in_debt}
 use Rattle.board_rule.proofs.FollowerLemmas.{lower_allowed, trigger_allowed}
@@ -175,9 +175,9 @@ module _ (p : BoardLayout) {S : Type 0} (slots id : ℕ) (me : Me S View) (after
   stores_late late past h is tells = let k : me.0.lead.cycle - first p ≡ past = omega arith in
       subst (λ n. Allows (Holds p) slots id me (late_place p.shape n) (λ _. late) (λ _. Leaves after me late)) k
       (store_lead_allowed p slots id (late_place p.shape (me.0.lead.cycle - first p)) late me
-      (record me.0.lead { drive = drives.LateStored }) me.0.trail after h.0.0.1 refl
+      (late_kept me.0.lead me.0.trail.looks) me.0.trail after h.0.0.1 refl
       (let near = h.0.1.1 in let z : IsLogWord p (late_place p.shape (me.0.lead.cycle - first p)) = (omega arith, omega arith) in z)
-      (drive_paced me.0.lead drives.Checking (record me.0.lead { drive = drives.LateStored }) h.1 refl refl (omega arith))
-      (λ g ws sound is a. late_goes p g ws me.0.lead is a (late_place p.shape (me.0.lead.cycle - first p)) late h.1
+      (drive_paced me.0.lead drives.Checking (late_kept me.0.lead me.0.trail.looks) h.1 refl refl (omega arith))
+      (λ g ws sound is a. late_goes p g ws me.0.lead is a (late_place p.shape (me.0.lead.cycle - first p)) late me.0.trail.looks h.1
       (later_is_other p (late_place p.shape (me.0.lead.cycle - first p)) (omega arith)))
       (λ g ws is looks sound a e long. late_logs p g ws me.0.lead me.0.trail.looks is looks sound a e long late h.1 h.0.1.1 h.2) tells)

@@ -19,6 +19,7 @@ use Rattle.std.specs.Prelude.{count_by}
 use Rattle.pw_base.specs.History.{is_tick}
 use Rattle.board_rule.specs.EventRule.{Events, node_drawn, lead_drawn, drawn, drawn_before, Marks, Records, marks, records}
 use Rattle.board_rule.proofs.DrawLemmas.{Logs}
+use Rattle.board_rule.proofs.TickLemmas.{ticks_stay}
 use Rattle.board_rule.proofs.MarkLemmas.{words_quiet, QuietNode, QuietLead, marks_node, marks_lead}
 use Rattle.board_rule.proofs.SumLemmas.{total_change}
 use Rattle.board_rule.proofs.SeatLemmas.{put_here, put_else}
@@ -132,6 +133,7 @@ module _ (p : BoardLayout) where
         count = let a = count_node g (get_or ws 0 0) 0 m x y inside follows same (omega arith) e.count in
             let b = get_or-set_other ws i 0 v 0 (λ z. omega arith) in omega arith;
         checks = e.checks;
+        lates = e.lates;
         checking = e.checking;
         fresh = e.fresh;
         tickets = logs.tickets;
@@ -148,6 +150,7 @@ module _ (p : BoardLayout) where
         count = let a = count_lead g (get_or ws 0 0) 0 x (omega arith) e.count in let b = get_or-set_other ws i 0 v 0 (λ z. omega arith) in
             omega arith;
         checks = (λ j. count_by is_tick g.past + cond (quiet.checked j) 1 0) ∙ e.checks ∙ sym quiet.checks;
+        lates = ticks_stay p g e.lates g.lead.drive x refl quiet.looking quiet.checked quiet.cycle quiet.lates;
         checking = λ z. quiet.checked ∙ e.checking (sym quiet.checking ∙ z);
         fresh = λ z. e.fresh (sym quiet.begun ∙ z);
         tickets = logs.tickets;

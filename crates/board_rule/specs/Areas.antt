@@ -28,7 +28,7 @@ pub record Span : Type 0 where
   pub ended : ℕ
   pub begun : ℕ
 
--- A LINK of a pool of `n` blocks, in an epoch from the cycle `first`. `turns`: a turn is inside the node's
+-- A LINK of a pool with `n` `blocks`, in an epoch from the cycle `first`. `turns`: a turn is inside the node's
 -- Running. Of the stores `a` ago, 0 or 1:
 -- `have` and `need` say what the area holds, `unnamed` and `named` whether a block was ever stored there. `found`: the
 -- reader has the block that its area names

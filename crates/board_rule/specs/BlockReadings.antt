@@ -39,7 +39,7 @@ module _ (p : BoardLayout) where
   abbrev pub delay_at : ℕ → ℕ
   delay_at l = unwrap_or (option_map delay_by (slice_get p.shape.links l)) 0
 
-  -- for how many cycles a block of the pool is busy: until its writer has ended `n` after the one before its stamp
+  -- for how many cycles a block of the pool is busy: until its writer has ended as many after the one before its stamp
   abbrev pub busy_cycles : PoolShape → ℕ
   busy_cycles x = cond (list_any (λ k. k.delayed) (links_from p.shape x.port)) 2 1
 

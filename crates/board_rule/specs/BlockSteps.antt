@@ -32,7 +32,7 @@ module _ (p : BoardLayout) where
   HasBlock v q b = (q < length (pools_of p.shape)) × (b < (pool_at p q).blocks) × (block_at p q b < length v.blocks)
       × HasNode false p v (filler_of p q) × IsRunning false v (filler_of p q)
 
-  -- LOADING THE READERS of the block that was announced `n` cycles before; found 0, it is free
+  -- LOADING THE READERS of the block that was announced as many cycles before as a block of the pool is busy; found 0, it is free
   abbrev pub LoadsReaders : View → ℕ → ℕ → Type 0
   LoadsReaders v q b = HasBlock v q b × IsLoaded v q
       × (block_of p v q b ≡ Out (fill_cycle v q + 1 - busy_cycles p (pool_at p q)))

@@ -12,7 +12,7 @@ use Rattle.board_rule.specs.EndViews.{pool_at, filler_of, block_of}
 use Rattle.board_rule.specs.SeatNodes.{HasNode}
 use Rattle.board_rule.specs.BlockSteps.{fill_cycle}
 
--- a block is filled with `n` words, or was announced in the cycle before the stamp
+-- a block is filled with all its `words`, or was announced in the cycle before the stamp
 abbrev pub is_filled : ℕ → ℕ → BlockView → Bool
 is_filled words stamp Free = false
 is_filled words stamp (Filling i) = eqb i words

@@ -27,8 +27,8 @@ module _ (p : BoardLayout) where
     pub samples : (i : ℕ) → i < filled x.words block
         → slice_index words (sample_place p.shape q b i) ≡ packed (samples_of p e (stamp filler.ended block) q) i
 
-  -- THE BLOCKS THAT A LINK NAMES, where it is so late and its writer has loaded a link of the pool x, this one or another,
-  -- in `n` cycles. Of the stores `a` ago, 0 or 1, whose stamp is n: `out`: the block is out until that load in the
+  -- THE BLOCKS THAT A LINK NAMES, which is `late` by 0 or 1, where its writer has `loaded` a link of the pool x, this one
+  -- or another, in all cycles before that one. Of the stores `a` ago, 0 or 1, whose stamp is n: `out`: the block is out until that load in the
   -- cycle in which it is reclaimed. `names`: no other block with the stamp is out. `zero`: the block that a delayed link
   -- names from the start on is number 0
   pub record NamesBlocks (x : PoolShape) (late loaded : ℕ) (w : WriteView) (blocks : ℕ → BlockView) : Type 0 where

@@ -1,14 +1,16 @@
 -- A late check: what its loads and its store ask of the view of the driver's seat, and the view after them. Nodes are
 -- indexes.
 -- Source: this project's own.
-use Rattle.std.specs.Prelude.{◌≡◌, ◌≢◌, ℕ, ◌<◌, true, cond, eqb, List, [], ◌∷◌, map, Contains}
+use Rattle.std.specs.Prelude.{◌≡◌, ◌≢◌, ℕ, ◌<◌, true, cond, eqb, List, [], ◌∷◌, ◌++◌, map, Contains}
 use Rattle.board_rule.specs.declared.view.DriverPhase.TheVariants as drives
+use Rattle.board_rule.specs.declared.view.DriverView.{DriverView}
 use Rattle.board_rule.specs.declared.view.Found.{Found}
+use Rattle.pw_base.specs.declared.event.Event.TheVariants.{Tick}
 use Rattle.board_rule.specs.declared.view.View.{View}
 use Rattle.pw_base.specs.Words.{finished_word}
 use Rattle.board_rule.specs.Layout.{BoardLayout, nodes}
-use Rattle.board_rule.specs.View.{view_trail}
-use Rattle.board_rule.specs.Steps.{HasNode, driven}
+use Rattle.board_rule.specs.View.{view_lead, view_trail}
+use Rattle.board_rule.specs.Steps.{HasNode}
 use Rattle.board_rule.specs.Bits.{with_bit}
 
 -- A CHECK loads the status of each follower once, in any order, and stores the set of those whose word was not
@@ -34,5 +36,9 @@ StoresLate p v late = HasNode true p v p.driver × (v.lead.drive ≡ drives.Chec
     × (late ≡ late_of v.lead.cycle v.trail.looks)
     × ((n : ℕ) → n < nodes p → n ≢ p.driver → Contains (looked_at v.trail.looks) (p.number n))
 
+-- the driver's seat keeps a Tick with the late set
+abbrev pub late_kept : DriverView → List Found → DriverView
+late_kept l looks = record l { drive = drives.LateStored; lates = l.lates ++ Tick l.cycle (late_of l.cycle looks) ∷ [] }
+
 abbrev pub late_stored : View → View
-late_stored v = driven v drives.LateStored v.trail
+late_stored v = view_lead v (late_kept v.lead v.trail.looks) v.trail

@@ -12,6 +12,7 @@ use Rattle.board_rule.specs.Sums.{total}
 use Rattle.board_rule.specs.View.{Whole}
 use Rattle.board_rule.specs.Marks.{phase_started, phase_finished, phase_holds, drive_started, drive_finished, drive_holds, drive_tells}
 use Rattle.board_rule.specs.Marks.{drive_sees, is_begun, is_ending, is_checking}
+use Rattle.board_rule.specs.LateSets.{stored_ticks}
 pub use Rattle.board_rule.specs.Logged.{IsSoFar, IsHeld, Tickets, Earlier, Inside}
 pub use Rattle.board_rule.specs.Records.{Records, Counts, Marks, so_far}
 
@@ -59,11 +60,12 @@ module _ (p : BoardLayout) where
   }
 
   -- EVENT RULE. `count`: there are no more tickets than the phases say; `checks`: a Tick for each check that was
-  -- begun; `fresh`: nothing before Begin
+  -- begun; `lates`: the driver's seat keeps those whose late set is stored; `fresh`: nothing before Begin
   pub record Events (g : Whole) (words : List ℕ) : Type 0 where
     pub count : slice_index words ticket_place + (total drawn_before (nodes p) + 5 * first p) ≤ total (drawn g)
         (nodes p) + lead_drawn g.lead
     pub checks : count_by is_tick g.past + cond g.lead.checked 1 0 ≡ g.lead.checks
+    pub lates : stored_ticks g.past g.lead g.late ≡ g.lead.lates
     pub checking : is_checking g.lead.drive ≡ true → g.lead.checked ≡ true
     pub fresh : is_begun g.lead.drive ≡ false → g.inside ≡ []
     pub tickets : Tickets p g.lead.cycle (length g.past) (marks g) (g.past ++ so_far (marks g) g.lead.cycle g.inside)

@@ -15,7 +15,7 @@ use Rattle.board_rule.specs.Layout.{BoardLayout}
 use Rattle.board_rule.specs.View.{node_of, view_node, view_lead}
 use Rattle.board_rule.specs.Steps.{HasNode}
 pub use Rattle.board_rule.specs.TicketSteps.{CanStore, CanStoreLead, CanDraw, CanDrawLead, Draws, node_draws, lead_draws, draw_trail, draws}
-pub use Rattle.board_rule.specs.CheckSteps.{looked_at, Looks, looked, late_of, StoresLate, late_stored}
+pub use Rattle.board_rule.specs.CheckSteps.{looked_at, Looks, looked, late_of, StoresLate, late_kept, late_stored}
 
 -- STORING AN EVENT: the ticket that is held, and what `CanStore` and `CanStoreLead` ask
 abbrev pub held : NodeView → Phase → ℕ

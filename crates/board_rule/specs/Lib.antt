@@ -39,3 +39,5 @@ pub mod Known
 pub mod Closing
 pub mod BufferSafety
 pub mod OnBoard
+pub mod LateSets
+pub mod FirstEnds

@@ -1,7 +1,7 @@
 //! The end of a board.
 ghost use Rattle.board_rule.specs.OnBoard.{IsOn, layout};
 ghost use Rattle.std.specs.Prelude.{◌≡◌, ℕ, ◌+◌, ◌<◌, ◌≤◌, [], ◌∷◌, ◌++◌, List, length, true, false, slice_index};
-ghost use Rattle.std.specs.Prelude.{slice_index_or, count_by};
+ghost use Rattle.std.specs.Prelude.{slice_index_or, count_by, filter};
 ghost use Rattle.pw_base.specs.declared.event.Event.{Event};
 ghost use Rattle.pw_base.specs.EventWords.{event_word_of};
 ghost use Rattle.pw_base.specs.History.{is_tick, IsLegalHistory};
@@ -86,6 +86,8 @@ impl Board {
         // The events are a legal history of the epoch, with one Tick for each check that the seat made.
         ensures legal { IsLegalHistory (self.board_shape.shape ∷ []) result.events }
         ensures ticks { count_by is_tick result.events ≡ seat.knows.lead.checks }
+        // Those Ticks have exactly the late sets that the seat stored, in their order.
+        ensures lates { filter is_tick result.events ≡ seat.knows.lead.lates }
         ensures count { length result.events ≤ event_count self.board_shape.shape }
     {
         let DriverSeat {

@@ -251,7 +251,7 @@ fn pools_rows(
     Ok(rows)
 }
 
-/// The rows of a shape whose board has `n` words. Cost: a look at each node for each target, each link and each
+/// The rows of a shape whose board has `words` words. Cost: a look at each node for each target, each link and each
 /// number below 64, and at each pool for each link.
 pub(crate) fn rows_of(alloc: Global, shape: &Shape, words: usize) -> Result<Rows, Memory>
     requires pooled { IsPooledShape shape.now }

@@ -1,4 +1,5 @@
 //! What a seat knows of its board. The views themselves stand in contracts alone: no value of `View` is made.
+use pw_base::Event;
 use std::collections::LinkedList;
 
 /// Where a follower stands in its cycle.
@@ -56,14 +57,14 @@ pub enum DriverPhase {
 }
 
 /// The driver's seat, in its cycle. `checked` says that a check was begun in it, `checks` in how many cycles of the epoch
-/// one was. `ticket` is the one that it drew last for a Begin, a Tick or an End, `start` and `finish` those for its own
-/// node.
-#[derive(Clone, Copy, Drop)]
+/// one was, and `lates` has a Tick for each late set that was stored, in their order. `ticket` is the one that it drew last
+/// for a Begin, a Tick or an End, `start` and `finish` those for its own node.
 pub struct DriverView {
     pub cycle: u64,
     pub drive: DriverPhase,
     pub checked: bool,
     pub checks: u64,
+    pub lates: LinkedList<Event>,
     pub ticket: u64,
     pub start: u64,
     pub finish: u64,

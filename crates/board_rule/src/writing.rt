@@ -173,7 +173,7 @@ impl LoopSeat {
     }
 }
 
-// Whether a block is filled with `n` words, or was announced in the cycle before the stamp.
+// Whether a block is filled with all its words, or was announced in the cycle before the stamp.
 fn is_filled(block: BlockView, words: u32, stamp: u64) -> bool
     ensures { result ≡ is_filled words stamp block }
 {

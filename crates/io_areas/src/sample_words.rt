@@ -12,7 +12,7 @@ fn bits(sample: i16) -> u64
     u64::from(sample.cast_unsigned())
 }
 
-// The same of the sample at an index, or 0 past the last.
+// The bits of the sample at an index, or 0 past the last.
 fn bits_or_zero(samples: &[i16], at: usize) -> u64
     ensures is { result ≡ bits_at samples.now at }
     ensures low { result < 65536 }

@@ -1,4 +1,4 @@
-use Rattle.std.specs.Prelude.{count_by}
+use Rattle.std.specs.Prelude.{count_by, filter}
 use Rattle.pw_base.specs.History.{is_tick, IsLegalHistory}
 use Rattle.pw_base.specs.Layout.{event_count}
 use Rattle.std.proofs.Common.{arith, ◌≡◌, ◌≤◌, ◌∙◌, ℕ, List, [], ◌∷◌, length, sym, ap, subst}
@@ -42,5 +42,6 @@ returns c = let b = c.args.self in let v = c.seat.inside.token.me.0 in let is = 
       expect = ap (λ (u : View). u.expect) c.keep-kept.ensures.right ∙ ap (λ (u : View). u.expect) is;
       legal = subst (λ (es : List Event). IsLegalHistory (b.board_shape.shape ∷ []) es) (sym events) l.is_legal;
       ticks = ap (count_by is_tick) events ∙ l.has_ticks ∙ ap (λ (u : View). u.lead.checks) is;
+      lates = ap (filter is_tick) events ∙ l.has_lates ∙ ap (λ (u : View). u.lead.lates) is;
       count = subst (λ (es : List Event). length es ≤ event_count b.board_shape.shape) (sym events) l.fits;
     }
