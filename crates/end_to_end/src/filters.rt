@@ -150,6 +150,7 @@ fn a_file_to_filter_is_not_there(rt: HostRuntime) -> Result<(), Fail> {
         let mut out = MemSink::new(rt.alloc())?;
         let status = Status::Absent { place };
         expect(&rt, line, &mut files, &mut out, status, wanted)?;
+        assert!(rt; files.file(&text(rt.alloc(), "o.pod")?).is_none());
     }
     Ok(())
 }
@@ -165,5 +166,12 @@ fn a_load_and_a_store_fail(rt: HostRuntime) -> Result<(), Fail> {
     files.fail_store(rt.alloc(), 1, 3)?;
     let mut out = MemSink::new(rt.alloc())?;
     let status = Status::WriteFault { place: 3 };
-    expect(&rt, line, &mut files, &mut out, status, "write 3\n")
+    expect(&rt, line, &mut files, &mut out, status, "write 3\n")?;
+    // The first three bytes of the object stand.
+    assert!(rt;
+        files
+            .file(&text(rt.alloc(), "o.pod")?)
+            .is_some_and(|bytes| bytes.as_slice() == b"\x20\x00\x00".as_slice())
+    );
+    Ok(())
 }

@@ -1,8 +1,8 @@
 //! What is refused, and by which cause.
 
-use crate::support::{SCRIPT, blanks, expect, expect_of, expect_sink, files_of, text};
+use crate::support::{SCRIPT, SOURCE, blanks, expect, expect_of, expect_sink, files_of, text};
 use graph_script::ScriptWhy;
-use pw_base::{FileFail, Files, Items, Loaded, MemSink, Text, Which};
+use pw_base::{FileFail, Files, Items, Loaded, MemSink, Memory, Text, Which};
 use pw_top::Status;
 use std::alloc::Global;
 use std::test::Fail;
@@ -64,6 +64,44 @@ fn scripts_and_files_are_refused_by_cause(rt: HostRuntime) -> Result<(), Fail> {
     };
     let script = "quantum 8192\nsource s s.wav\nsink o o.wav\nlink s.out o.in\ncycles 16385\n";
     expect_of(&rt, script, limit, "limit 5 9\n")
+}
+
+// The worked file, spoilt: no byte, 8 bits a sample, a byte less, half a sample.
+fn spoilt(alloc: Global, row: u32) -> Result<Items<u8>, Memory> {
+    let mut bytes = Items::from_slice(alloc, SOURCE.as_slice())?;
+    match row {
+        0 => return Ok(Items::new(alloc)),
+        1 => bytes.as_mut_slice()[34] = 8,
+        2 => {
+            bytes.pop();
+        }
+        _ => bytes.as_mut_slice()[40] = 5,
+    }
+    Ok(bytes)
+}
+
+#[test]
+fn waves_are_refused_by_cause(rt: HostRuntime) -> Result<(), Fail> {
+    let alloc = rt.alloc();
+    let rows = [
+        (0, WavFault::NotRiff, "wav 2 1\n"),
+        (1, WavFault::NotPcm16, "wav 2 4\n"),
+        (2, WavFault::Truncated, "wav 2 6\n"),
+        (3, WavFault::Uneven, "wav 2 7\n"),
+    ];
+    for (row, why, wanted) in rows {
+        let mut files = files_of(alloc, SCRIPT)?;
+        files.add_file(
+            alloc,
+            &text(alloc, "s.wav")?,
+            spoilt(alloc, row)?.as_slice(),
+        )?;
+        let mut out = MemSink::new(alloc)?;
+        let status = Status::Wav { place: 2, why };
+        expect(&rt, "run s.graph", &mut files, &mut out, status, wanted)?;
+        expect_sink(&rt, &files, None)?;
+    }
+    Ok(())
 }
 
 #[test]
