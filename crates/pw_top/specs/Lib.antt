@@ -14,6 +14,7 @@ pub mod FormatFile
 pub mod Headline
 pub mod PodFile
 pub mod Preparing
+pub mod Refusals
 pub mod Run
 pub mod StatusLine
 pub mod Usage

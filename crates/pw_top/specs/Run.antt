@@ -6,14 +6,10 @@ use Rattle.pw_base.specs.declared.limit.Which.TheVariants as W
 use Rattle.pw_base.specs.declared.plan.Plan.{Plan}
 use Rattle.wav_files.specs.declared.wav.Wav.{Wav}
 use Rattle.wav_files.specs.declared.wav.WavIn.{WavIn}
-use Rattle.wav_files.specs.declared.fault.WavFault.{WavFault}
-use Rattle.wav_files.specs.declared.fault.WavFault.TheVariants as F
 use Rattle.wav_files.specs.declared.outcome.Outcome.{Outcome}
 use Rattle.wav_files.specs.WavReading.{wav_of}
 use Rattle.graph_script.specs.declared.script.Line.{Line}
 use Rattle.graph_script.specs.declared.script.Script.{Script}
-use Rattle.graph_script.specs.declared.fault.ScriptFault.{ScriptFault}
-use Rattle.graph_script.specs.declared.fault.ScriptFault.TheVariants as G
 use Rattle.graph_script.specs.Grammar.{script_of}
 use Rattle.cycle_model.specs.Rendering.{rendered_sinks, rendered_peaks}
 use Rattle.cycle_trace.specs.RunText.{run_text_of}
@@ -22,6 +18,7 @@ use Rattle.pw_top.specs.declared.status.Status.TheVariants as S
 use Rattle.pw_top.specs.declared.work.Work.{Work}
 use Rattle.pw_top.specs.Answer.{Answer}
 use Rattle.pw_top.specs.Allowed.{Binds, Reads, IsLoad}
+use Rattle.pw_top.specs.Refusals.{wave_outcome, script_outcome}
 use Rattle.pw_top.specs.FirstLines.{source_line, cycles_line, number_of, file_in}
 use Rattle.pw_top.specs.FirstEpoch.{plan_of, sink_samples}
 use Rattle.pw_top.specs.FirstStores.{first_stores}
@@ -46,12 +43,7 @@ run_outcome script waves =
 abbrev pub RunsWaves : Script → List WavIn → Answer → Type 0
 RunsWaves script waves = Reads (λ outcome. outcome ≡ run_outcome script waves)
 
--- the source's file is a wave, or refused at its line
-abbrev pub wave_outcome : ℕ → Result Wav WavFault → Result Wav Status
-wave_outcome place (Ok wav) = Ok wav
-wave_outcome place (Err F.Memory) = Err S.Memory
-wave_outcome place (Err fault) = Err (S.Wav place fault)
-
+-- the source's wave
 abbrev pub RunsWave : Script → Wav → Answer → Type 0
 RunsWave script wav = RunsWaves script (record { node = 0; wav = wav } ∷ [])
 
@@ -64,12 +56,6 @@ RunsSource names script place file = Binds (IsLoad names place file wav_bytes_li
 abbrev pub RunsLines : Names → Script → Option Line → Answer → Type 0
 RunsLines names script None = RunsWaves script []
 RunsLines names script (Some source) = RunsSource names script source.line (file_in source.command)
-
--- the script, or its first fault
-abbrev pub script_outcome : Result Script ScriptFault → Result Script Status
-script_outcome (Ok script) = Ok script
-script_outcome (Err (G.At line why)) = Err (S.Script line why)
-script_outcome (Err G.Memory) = Err S.Memory
 
 abbrev pub RunsScript : Names → Script → Answer → Type 0
 RunsScript names script = RunsLines names script (source_line script.lines)

@@ -10,7 +10,8 @@ ghost use Rattle.pw_top.specs.FirstEpoch.{AreNumbered};
 ghost use Rattle.pw_top.specs.Allowed.{Reads};
 ghost use Rattle.pw_top.specs.Ending.{Ends, CommandCause, IsDeliverable};
 ghost use Rattle.pw_top.specs.Preparing.{LoadsOnly, Tells};
-ghost use Rattle.pw_top.specs.Run.{wave_outcome, script_outcome, RunsWave, RunsBytes, RunsSource, RunsScript, ReadsScript};
+ghost use Rattle.pw_top.specs.Refusals.{wave_outcome, script_outcome};
+ghost use Rattle.pw_top.specs.Run.{RunsWave, RunsBytes, RunsSource, RunsScript, ReadsScript};
 
 use crate::first_lines::{file_of, source_line};
 use crate::first_run::run_first;

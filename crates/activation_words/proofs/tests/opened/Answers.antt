@@ -6,6 +6,7 @@ use Rattle.board_rule.specs.Layout.{layout_of}
 use Rattle.board_rule.specs.Known.{Known}
 use Rattle.board_rule.specs.View.{Samples, loop_view}
 use Rattle.board_rule.specs.SampleWords.{silence}
+use Rattle.board_rule.specs.OnBoard.{table_of}
 use Rattle.board_rule.proofs.SilenceLemmas.{silence_is_table}
 use Rattle.activation_words.specs.Members.{IsResting, IsBetween}
 use Rattle.activation_words.proofs.MemberLemmas.{new_rests, new_between}
@@ -28,7 +29,7 @@ new-requires-clause-seats c = let e = c.in_ok-seat_of.ensures in let four : leng
 pub returns-in-Some : goal.returns-in-Some
 returns-in-Some c = let b = c.in_ok-board.board in let p = layout_of b.board_shape in let e : Samples = silence c.args.shape.now in
     let d = c.in_ok-board.ensures.driver in let board_shape = c.in_ok-board.ensures.board_shape in
-    let seat : ℕ → Known = λ k. record { table = b.table.shared.table_id; knows = loop_view p e k } in
+    let seat : ℕ → Known = λ k. record { table = table_of b; knows = loop_view p e k } in
     let s₁ : c.in-Some.one ≡ seat 0 = ap (λ o. unwrap_or o (seat 0))
     (sym c.in-Some.ensures.0 ∙ c.in_ok-board.ensures.loops 0 (omega arith)) in
     let s₂ : c.in-Some.two ≡ seat 1 = ap (λ o. unwrap_or o (seat 1))

@@ -6,6 +6,7 @@ use Rattle.board_rule.specs.Known.{Known}
 use Rattle.board_rule.specs.Layout.{layout_of, IsSound}
 use Rattle.board_rule.specs.View.{Samples, loop_view, driver_view}
 use Rattle.board_rule.specs.SampleWords.{IsTable}
+use Rattle.board_rule.specs.OnBoard.{table_of}
 use Rattle.area_runs.specs.declared.quanta.Quanta.{Quanta}
 use Rattle.area_runs.specs.declared.worker.Worker.{Worker}
 use Rattle.area_runs.specs.Steady.{quanta_of, steady}
@@ -25,7 +26,7 @@ pub returns : goal.returns
 returns g c = let board_shape : BoardShape = record { shape = c.args.shape.now; seat_of = c.args.seat_of.now; seats = c.args.seats } in
     let a : List ℤ = c.args.even.now in let bs : List ℤ = c.args.odd.now in let xs : Quanta = quanta_of a bs in
     let ok = c.requires.openable in
-    let b = c.in_ok-board.board in let t : TableId = b.table.shared.table_id in let e = c.in_ok-board.ensures in
+    let b = c.in_ok-board.board in let t : TableId = table_of b in let e = c.in_ok-board.ensures in
     let some = ok.seats.some_seats in
     let sound : IsSound (layout_of board_shape) = subst (λ (q : BoardShape). IsSound (layout_of q)) e.board_shape b.sound in
     let driver : c.in_ok-board.driver ≡ record { table = t; knows = driver_view (layout_of board_shape) (steady board_shape.shape xs) board_shape.seats } = e.driver

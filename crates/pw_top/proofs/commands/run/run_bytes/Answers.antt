@@ -1,7 +1,8 @@
 use Rattle.std.proofs.Common.{◌≡◌}
 use Rattle.wav_files.specs.WavReading.{wav_of}
 use Rattle.pw_top.specs.Allowed.{Reads}
-use Rattle.pw_top.specs.Run.{wave_outcome, RunsWave}
+use Rattle.pw_top.specs.Refusals.{wave_outcome}
+use Rattle.pw_top.specs.Run.{RunsWave}
 use Rattle.pw_top.proofs.AllowedLemmas.{binds_goes}
 use Rattle.pw_top.proofs.commands.run.run_bytes.Goals as goal
 

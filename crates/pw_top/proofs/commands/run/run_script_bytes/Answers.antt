@@ -2,7 +2,8 @@ use Rattle.std.proofs.Common.{◌≡◌}
 use Rattle.pw_base.specs.Files.{names_in}
 use Rattle.graph_script.specs.Grammar.{script_of}
 use Rattle.pw_top.specs.Allowed.{Reads}
-use Rattle.pw_top.specs.Run.{script_outcome, RunsScript}
+use Rattle.pw_top.specs.Refusals.{script_outcome}
+use Rattle.pw_top.specs.Run.{RunsScript}
 use Rattle.pw_top.proofs.AllowedLemmas.{binds_goes}
 use Rattle.pw_top.proofs.commands.run.run_script_bytes.Goals as goal
 
