@@ -7,16 +7,16 @@ use Rattle.std.specs.Prelude.{slice_index, slice_range}
 use Rattle.pod_codec.specs.declared.pod.Pod.{Pod}
 use Rattle.pod_codec.specs.declared.pod.Prop.{Prop}
 use Rattle.pod_codec.specs.declared.pod.Control.{Control}
-use Rattle.pod_codec.specs.declared.pod.Pod.TheOpen.{Pod-F, Prop-F}
-use Rattle.pod_codec.specs.declared.pod.Pod.TheViews.{out-roll-Prop}
+use Rattle.pod_codec.specs.declared.pod.Pod.TheOpen.{Pod-F, Prop-F, Control-F}
+use Rattle.pod_codec.specs.declared.pod.Pod.TheViews.{out-roll-Prop, out-roll-Control}
 use Rattle.pod_codec.specs.declared.fault.PodFault.{PodFault}
 use Rattle.pod_codec.specs.declared.fault.PodFault.TheVariants.{Short, TypeUnknown, Size, Nul}
 use Rattle.pod_codec.specs.PodType.{is_known_type, choice_number}
 use Rattle.pod_codec.specs.Places.{u32_at}
-use Rattle.pod_codec.specs.Spelling.{IsPropAt, IsBodyAt}
+use Rattle.pod_codec.specs.Spelling.{IsPropAt, IsControlAt, IsBodyAt}
 use Rattle.pod_codec.specs.Checks.{first_failed, body_checks, text_checks, array_checks, choice_checks, children_checks}
-use Rattle.pod_codec.specs.FirstFault.{IsHeldFault}
-use Rattle.pod_codec.proofs.Decoder.{mapped, run, child_of, values_of, kind_of, prop_of, prop_step, body_of}
+use Rattle.pod_codec.specs.FirstFault.{IsKeyedFault, IsHeldFault}
+use Rattle.pod_codec.proofs.Decoder.{mapped, run, child_of, values_of, kind_of, prop_of, control_of, keyed_step, body_of}
 use Rattle.pod_codec.proofs.Decoder.{leaf_of}
 use Rattle.pod_codec.proofs.AnswerLemmas.{StepRight, RunRight, run_right}
 use Rattle.pod_codec.proofs.LeafAnswerLemmas.{passed, same_number, children_right}
@@ -33,41 +33,68 @@ struct_right : (Held : ℕ → Pod → ℕ → Type 0) (Faults : ℕ → PodFaul
 struct_right Held Faults bytes b e (Ok xs) h = (refl, h)
 struct_right Held Faults bytes b e (Err f) h = inl (refl, h)
 
--- a property's fault
-abbrev pub PropFaults : (ℕ → PodFault → Type 0) → ℕ → ℕ → PodFault → Type 0
-PropFaults Faults e q f = ((e < q + 8) × (f ≡ Short q)) ⊎ ((q + 8 ≤ e) × Faults (q + 8) f)
-
 object_right : (Held : ℕ → Pod → ℕ → Type 0) (Faults : ℕ → PodFault → Type 0) (bytes : List ℕ) (b e : ℕ) (r : Result (List Prop) PodFault)
-    → RunRight (IsPropAt Held bytes) (PropFaults Faults e) e (b + 8) r
+    → RunRight (IsPropAt Held bytes) (IsKeyedFault Faults e) e (b + 8) r
     → BodyRight Held Faults bytes 15 b e (mapped (Pod-F.Object (u32_at bytes b) (u32_at bytes (b + 4))) r)
 object_right Held Faults bytes b e (Ok xs) h = (refl, refl, refl, h)
-object_right Held Faults bytes b e (Err f) h = inr (refl, h)
+object_right Held Faults bytes b e (Err f) h = inr (inl (refl, h))
 
-made_prop : (Held : ℕ → Pod → ℕ → Type 0) (Faults : ℕ → PodFault → Type 0) (bytes : List ℕ) (e q : ℕ) → q + 8 ≤ e
-    → (r : Result (Pod × ℕ) PodFault) → StepRight Held Faults (λ m. Unit {0}) e (q + 8) r
-    → StepRight (IsPropAt Held bytes) (PropFaults Faults e) (λ m. Unit {0}) e q (mapped (prop_of bytes q) r)
-made_prop Held Faults bytes e q l (Ok x) h =
-    let made : Prop-F Pod Control Prop = record { key = u32_at bytes q; flags = u32_at bytes (q + 4); value = x.0 } in
-    let is = sym (out-roll-Prop made) in (
-      subst (λ (p : Prop-F Pod Control Prop). (p.key ≡ u32_at bytes q) × (p.flags ≡ u32_at bytes (q + 4)) × Held (q + 8) p.value x.1) is
-          (refl, refl, h.0),
-      omega (arith, h.1),
-      h.2,
-      tt,
+sequence_right : (Held : ℕ → Pod → ℕ → Type 0) (Faults : ℕ → PodFault → Type 0) (bytes : List ℕ) (b e : ℕ)
+    (r : Result (List Control) PodFault) → RunRight (IsControlAt Held bytes) (IsKeyedFault Faults e) e (b + 8) r
+    → BodyRight Held Faults bytes 16 b e (mapped (Pod-F.Sequence (u32_at bytes b)) r)
+sequence_right Held Faults bytes b e (Ok xs) h = (refl, refl, h)
+sequence_right Held Faults bytes b e (Err f) h = inr (inr (refl, h))
+
+-- what is made of a POD that is held stands where the POD ends
+abbrev pub MakesAt : {X : Type 0} → (ℕ → Pod → ℕ → Type 0) → (ℕ → X → ℕ → Type 0) → (ℕ → Pod × ℕ → X × ℕ) → Type 0
+MakesAt Held At made = (q : ℕ) (pod : Pod) (m : ℕ) → Held (q + 8) pod m → At q (made q (pod, m)).0 m × ((made q (pod, m)).1 ≡ m)
+
+makes_prop : (Held : ℕ → Pod → ℕ → Type 0) (bytes : List ℕ) → MakesAt Held (IsPropAt Held bytes) (prop_of bytes)
+makes_prop Held bytes q pod m h =
+    let made : Prop-F Pod Control Prop = record { key = u32_at bytes q; flags = u32_at bytes (q + 4); value = pod } in (
+      subst (λ (p : Prop-F Pod Control Prop). (p.key ≡ u32_at bytes q) × (p.flags ≡ u32_at bytes (q + 4)) × Held (q + 8) p.value m)
+          (sym (out-roll-Prop made)) (refl, refl, h),
+      refl,
     )
-made_prop Held Faults bytes e q l (Err f) h = inr (l, h)
 
-prop_right : (Held : ℕ → Pod → ℕ → Type 0) (Faults : ℕ → PodFault → Type 0) (step : ℕ → Result (Pod × ℕ) PodFault) (bytes : List ℕ)
-    (e : ℕ) → ((q : ℕ) → StepRight Held Faults (λ m. Unit {0}) e q (step q))
-    → (q : ℕ) → StepRight (IsPropAt Held bytes) (PropFaults Faults e) (λ m. Unit {0}) e q (prop_step step bytes e q)
-prop_right Held Faults step bytes e right q =
-    let P = StepRight (IsPropAt Held bytes) (PropFaults Faults e) (λ (m : ℕ). Unit {0}) e q in
-    elim (cases_lt e (q + 8)) [
-      | inl less ↦ subst P (sym (cond-true (nat_lt e (q + 8)) (Err (Short q)) (mapped (prop_of bytes q) (step (q + 8)))
-          (lt-ltb e (q + 8) less))) (inl (less, refl))
-      | inr more ↦ subst P (sym (cond-false (nat_lt e (q + 8)) (Err (Short q)) (mapped (prop_of bytes q) (step (q + 8)))
-          (le-ltb e (q + 8) more))) (made_prop Held Faults bytes e q more (step (q + 8)) (right (q + 8)))
-    ]
+makes_control : (Held : ℕ → Pod → ℕ → Type 0) (bytes : List ℕ) → MakesAt Held (IsControlAt Held bytes) (control_of bytes)
+makes_control Held bytes q pod m h =
+    let made : Control-F Pod Control Prop = record { offset = u32_at bytes q; kind = u32_at bytes (q + 4); value = pod } in (
+      subst (λ (c : Control-F Pod Control Prop).
+          (c.offset ≡ u32_at bytes q) × (c.kind ≡ u32_at bytes (q + 4)) × Held (q + 8) c.value m)
+          (sym (out-roll-Control made)) (refl, refl, h),
+      refl,
+    )
+
+module _ {X : Type 0} (Held : ℕ → Pod → ℕ → Type 0) (Faults : ℕ → PodFault → Type 0) (At : ℕ → X → ℕ → Type 0)
+    (made : ℕ → Pod × ℕ → X × ℕ) (makes : MakesAt Held At made) where
+  made_right : (e q : ℕ) → q + 8 ≤ e → (r : Result (Pod × ℕ) PodFault) → StepRight Held Faults (λ m. Unit {0}) e (q + 8) r
+      → StepRight At (IsKeyedFault Faults e) (λ m. Unit {0}) e q (mapped (made q) r)
+  made_right e q l (Ok x) h =
+      let k = makes q x.0 x.1 h.0 in (
+        subst (At q (made q x).0) (sym k.1) k.0,
+        omega (arith, h.1, k.1),
+        omega (arith, h.2, k.1),
+        tt,
+      )
+  made_right e q l (Err f) h = inr (l, h)
+
+  keyed_right : (step : ℕ → Result (Pod × ℕ) PodFault) (e : ℕ) → ((q : ℕ) → StepRight Held Faults (λ m. Unit {0}) e q (step q))
+      → (q : ℕ) → StepRight At (IsKeyedFault Faults e) (λ m. Unit {0}) e q (keyed_step made step e q)
+  keyed_right step e right q =
+      let P = StepRight At (IsKeyedFault Faults e) (λ (m : ℕ). Unit {0}) e q in
+      elim (cases_lt e (q + 8)) [
+        | inl less ↦ subst P (sym (cond-true (nat_lt e (q + 8)) (Err (Short q)) (mapped (made q) (step (q + 8)))
+            (lt-ltb e (q + 8) less))) (inl (less, refl))
+        | inr more ↦ subst P (sym (cond-false (nat_lt e (q + 8)) (Err (Short q)) (mapped (made q) (step (q + 8)))
+            (le-ltb e (q + 8) more))) (made_right e q more (step (q + 8)) (right (q + 8)))
+      ]
+
+  -- such things one after the other
+  all_right : (step : ℕ → Result (Pod × ℕ) PodFault) (e b : ℕ) → ((q : ℕ) → StepRight Held Faults (λ m. Unit {0}) e q (step q))
+      → b ≤ e → RunRight At (IsKeyedFault Faults e) e b (run (keyed_step made step e) e b e)
+  all_right step e b right l = run_right At (IsKeyedFault Faults e) (λ m. Unit {0}) (keyed_step made step e) e
+      (λ q l i. keyed_right step e right q) e b l (omega arith) tt
 
 kind_right : (n : ℕ) → n ≤ 4 → choice_number (kind_of n) ≡ n
 kind_right n l =
@@ -157,9 +184,13 @@ body_right Held Faults step bytes p size right =
     (run_right Held Faults (λ m. Unit {0}) step e (λ q l i. right q) e b (omega arith) (omega arith) tt))
     (λ h.
     let long = ltb-false size 8 (passed (nat_lt size 8) (Size p) [] h).0 in
-    object_right Held Faults bytes b e (run (prop_step step bytes e) e (b + 8) e)
-    (run_right (IsPropAt Held bytes) (PropFaults Faults e) (λ m. Unit {0}) (prop_step step bytes e) e
-    (λ q l i. prop_right Held Faults step bytes e right q) e (b + 8) (omega (arith, long)) (omega arith) tt))
+    object_right Held Faults bytes b e (run (keyed_step (prop_of bytes) step e) e (b + 8) e)
+    (all_right Held Faults (IsPropAt Held bytes) (prop_of bytes) (makes_prop Held bytes) step e (b + 8) right (omega (arith, long))))
+    (λ h.
+    let long = ltb-false size 8 (passed (nat_lt size 8) (Size p) [] h).0 in
+    sequence_right Held Faults bytes b e (run (keyed_step (control_of bytes) step e) e (b + 8) e)
+    (all_right Held Faults (IsControlAt Held bytes) (control_of bytes) (makes_control Held bytes) step e (b + 8) right
+    (omega (arith, long))))
     (λ h. (exact 8 h, (refl, refl)))
     (λ h. choice_right Held bytes p size h)
     (λ t unknown h. absurd (none_unknown bytes p size t unknown h))

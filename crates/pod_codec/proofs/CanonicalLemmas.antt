@@ -4,7 +4,6 @@ use Rattle.std.proofs.Common.{map, refl, sym, ap, subst, ◌∙◌, arith, lengt
 use Rattle.std.specs.List.{flat_map}
 use Rattle.std.specs.Prelude.{slice_index}
 use Rattle.std.proofs.lemmas.List.{length-replicate}
-use Rattle.std.proofs.lemmas.Bool.{false≢true}
 use Rattle.pod_codec.specs.declared.pod.Pod.{Pod}
 use Rattle.pod_codec.specs.declared.pod.Prop.{Prop}
 use Rattle.pod_codec.specs.declared.pod.Control.{Control}
@@ -14,7 +13,7 @@ use Rattle.pod_codec.specs.declared.pod.Pod.TheOpen.{Pod-F}
 use Rattle.pod_codec.specs.declared.pod.Pod.TheViews.{out-Pod}
 use Rattle.pod_codec.specs.PodType.{choice_number}
 use Rattle.pod_codec.specs.Framing.{Form, framed, keyed_bytes, pad8, u32_bytes, child_bytes}
-use Rattle.pod_codec.specs.PodValue.{form_of, keyed_of, canonical}
+use Rattle.pod_codec.specs.PodValue.{form_of, keyed_of, control_keyed, canonical}
 use Rattle.pod_codec.specs.Writable.{Fits, IsWritable}
 use Rattle.pod_codec.specs.Numbers.{ValueFits, NumbersFit}
 use Rattle.pod_codec.specs.Places.{u32_at}
@@ -24,7 +23,7 @@ use Rattle.pod_codec.proofs.PlaceLemmas.{StandsAt, stands_left, stands_right, fi
 use Rattle.pod_codec.proofs.ScalarSpelledLemmas.{scalar_spells, pair_stands, pair_length}
 use Rattle.pod_codec.proofs.ElementLemmas.{children_spell}
 use Rattle.pod_codec.proofs.WritingLemmas.{parts_fit, parts_fit_keyed}
-use Rattle.pod_codec.proofs.HeldSpelledLemmas.{IsSpelled, fields_spell, props_spell}
+use Rattle.pod_codec.proofs.HeldSpelledLemmas.{IsSpelled, fields_spell, props_spell, controls_spell}
 
 pub framed_length : (f : Form) → length (framed f) ≡ 8 + pad8 (length f.body)
 framed_length f =
@@ -102,7 +101,18 @@ body_spells left bytes b e held (Pod-F.Choice kind flags child values) h =
       children_spell bytes (b + 8) e child values h.fits.sound h.numbers.1 behind
           (omega (arith, h.end, length-append head rest, pair_length n flags)),
     )
-body_spells left bytes b e held (Pod-F.Sequence unit controls) h = absurd (false≢true h.fits.sound)
+body_spells left bytes b e held (Pod-F.Sequence unit controls) h =
+    let head = u32_bytes unit ++ u32_bytes 0 in
+    let rest = flat_map keyed_bytes (map control_keyed controls) in
+    let long : length (head ++ rest) ≡ 8 + length rest = omega (arith, length-append head rest, pair_length unit 0) in
+    let pair = pair_stands bytes b unit 0 h.numbers.0 (omega arith) (stands_left bytes b head rest h.stands) in
+    let behind = stands_right bytes b (b + 8) head rest (omega (arith, pair_length unit 0)) h.stands in (
+      refl,
+      pair.0,
+      controls_spell left bytes e held (b + 8) controls
+          (parts_fit_keyed left (map control_keyed controls) h.fits.sound (omega (arith, h.fits.depth)) (omega (arith, h.fits.size, long)))
+          h.numbers.1 behind (omega (arith, h.end, long)),
+    )
 body_spells left bytes b e held scalar h = let s =
     scalar_spells bytes (form_at scalar).number b scalar refl (omega arith) h.numbers h.stands in (omega (arith, h.end, s.1), s.0)
 

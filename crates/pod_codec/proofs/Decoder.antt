@@ -10,7 +10,7 @@ use Rattle.pod_codec.specs.declared.pod.Control.{Control}
 use Rattle.pod_codec.specs.declared.pod.ChoiceKind.{ChoiceKind}
 use Rattle.pod_codec.specs.declared.pod.ChoiceKind.TheVariants as k
 use Rattle.pod_codec.specs.declared.pod.Pod.TheOpen.{Pod-F}
-use Rattle.pod_codec.specs.declared.pod.Pod.TheViews.{roll-Pod, roll-Prop}
+use Rattle.pod_codec.specs.declared.pod.Pod.TheViews.{roll-Pod, roll-Prop, roll-Control}
 use Rattle.pod_codec.specs.declared.fault.PodFault.{PodFault}
 use Rattle.pod_codec.specs.declared.fault.PodFault.TheVariants.{Short, Deep}
 use Rattle.pod_codec.specs.PodType.{child_size}
@@ -84,17 +84,22 @@ leaf_of bytes t b e =
 abbrev pub prop_of : List ℕ → ℕ → Pod × ℕ → Prop × ℕ
 prop_of bytes q x = (roll-Prop (record { key = u32_at bytes q; flags = u32_at bytes (q + 4); value = x.0 }), x.1)
 
-abbrev pub prop_step : (ℕ → Result (Pod × ℕ) PodFault) → List ℕ → ℕ → ℕ → Result (Prop × ℕ) PodFault
-prop_step step bytes e q =
-    cond (nat_lt e (q + 8)) (Err (Short q))
-    (mapped (prop_of bytes q) (step (q + 8)))
+-- a control at q: its offset, its kind and, by the step, its POD
+abbrev pub control_of : List ℕ → ℕ → Pod × ℕ → Control × ℕ
+control_of bytes q x = (roll-Control (record { offset = u32_at bytes q; kind = u32_at bytes (q + 4); value = x.0 }), x.1)
+
+-- two numbers and a POD, made into one thing
+abbrev pub keyed_step : {X : Type 0} → (ℕ → Pod × ℕ → X × ℕ) → (ℕ → Result (Pod × ℕ) PodFault) → ℕ → ℕ
+    → Result (X × ℕ) PodFault
+keyed_step made step e q = cond (nat_lt e (q + 8)) (Err (Short q)) (mapped (made q) (step (q + 8)))
 
 -- a body, with the PODs that it holds by the step
 abbrev pub body_of : (ℕ → Result (Pod × ℕ) PodFault) → List ℕ → ℕ → ℕ → ℕ → Result (Pod-F Pod Control Prop) PodFault
 body_of step bytes t b e =
     cond (t == 14) (mapped Pod-F.Struct (run step e b e))
-    (cond (t == 15) (mapped (Pod-F.Object (u32_at bytes b) (u32_at bytes (b + 4))) (run (prop_step step bytes e) e (b + 8) e))
-    (Ok (leaf_of bytes t b e)))
+    (cond (t == 15) (mapped (Pod-F.Object (u32_at bytes b) (u32_at bytes (b + 4))) (run (keyed_step (prop_of bytes) step e) e (b + 8) e))
+    (cond (t == 16) (mapped (Pod-F.Sequence (u32_at bytes b)) (run (keyed_step (control_of bytes) step e) e (b + 8) e))
+    (Ok (leaf_of bytes t b e))))
 
 -- the POD at p within e, with so many levels left, and where it ends; or its first fault
 unfoldable pub decoded : ℕ → List ℕ → ℕ → ℕ → Result (Pod × ℕ) PodFault

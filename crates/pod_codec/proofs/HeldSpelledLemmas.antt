@@ -1,18 +1,19 @@
--- What is written of fields and properties spells them.
-use Rattle.std.proofs.Common.{◌≡◌, ℕ, ◌+◌, ◌≤◌, List, [], ◌∷◌, ◌++◌, length, map, refl, sym, ap, subst, ◌∙◌, arith}
+-- What is written of fields, properties and controls spells them.
+use Rattle.std.proofs.Common.{◌≡◌, ℕ, ◌+◌, ◌≤◌, ◌<◌, ◌^◌, List, [], ◌∷◌, ◌++◌, length, map, refl, sym, ap, subst, ◌∙◌, arith}
 use Rattle.std.proofs.Common.{length-append}
 use Rattle.std.specs.List.{flat_map, AllByRecursion}
 use Rattle.std.proofs.lemmas.List.Concat.{flat_map-cons}
 use Rattle.pod_codec.specs.declared.pod.Pod.{Pod}
 use Rattle.pod_codec.specs.declared.pod.Prop.{Prop}
-use Rattle.pod_codec.specs.declared.pod.Pod.TheViews.{out-Prop}
+use Rattle.pod_codec.specs.declared.pod.Control.{Control}
+use Rattle.pod_codec.specs.declared.pod.Pod.TheViews.{out-Prop, out-Control}
 use Rattle.pod_codec.specs.Framing.{Form, Keyed, framed, keyed_bytes, u32_bytes}
-use Rattle.pod_codec.specs.PodValue.{form_of, keyed_of}
+use Rattle.pod_codec.specs.PodValue.{form_of, keyed_of, control_keyed}
 use Rattle.pod_codec.specs.Writable.{Fits}
-use Rattle.pod_codec.specs.Numbers.{PropFits, NumbersFit}
-use Rattle.pod_codec.specs.Places.{AreAfter}
-use Rattle.pod_codec.specs.Spelling.{IsPropAt, SpellsAt}
-use Rattle.pod_codec.proofs.FormLemmas.{keyed_out}
+use Rattle.pod_codec.specs.Numbers.{PropFits, ControlFits, NumbersFit}
+use Rattle.pod_codec.specs.Places.{u32_at, AreAfter}
+use Rattle.pod_codec.specs.Spelling.{IsPropAt, IsControlAt, SpellsAt}
+use Rattle.pod_codec.proofs.FormLemmas.{keyed_out, control_out}
 use Rattle.pod_codec.proofs.PlaceLemmas.{StandsAt, stands_left, stands_right}
 use Rattle.pod_codec.proofs.ScalarSpelledLemmas.{pair_stands, pair_length}
 
@@ -41,40 +42,63 @@ fields_spell left bytes e held b (x ∷ xs) fits numbers s end =
 keyed_length : (k : Keyed) → length (keyed_bytes k) ≡ 8 + length (framed k.value)
 keyed_length k = omega (arith, length-append (u32_bytes k.first ++ u32_bytes k.second) (framed k.value), pair_length k.first k.second)
 
-prop_spells : (left : ℕ) (bytes : List ℕ) (e : ℕ) → IsSpelled left bytes e → (q : ℕ) (prop : Prop) (k : Keyed)
-    → k ≡ record { first = (out-Prop prop).key; second = (out-Prop prop).flags; value = form_of (out-Prop prop).value }
-    → Fits left k.value → PropFits (NumbersFit left) prop → StandsAt bytes q (keyed_bytes k) → q + length (keyed_bytes k) ≤ e
-    → IsPropAt (λ a x m. SpellsAt left bytes a e x m) bytes q prop (q + length (keyed_bytes k))
-prop_spells left bytes e held q prop k is fits numbers s within =
+-- two numbers and a POD stand where they are written
+keyed_spells : (left : ℕ) (bytes : List ℕ) (e : ℕ) → IsSpelled left bytes e → (q a b : ℕ) (pod : Pod) (k : Keyed)
+    → k ≡ record { first = a; second = b; value = form_of pod }
+    → Fits left k.value → (a < 2 ^ 32) × (b < 2 ^ 32) × NumbersFit left pod → StandsAt bytes q (keyed_bytes k)
+    → q + length (keyed_bytes k) ≤ e
+    → (a ≡ u32_at bytes q) × (b ≡ u32_at bytes (q + 4)) × SpellsAt left bytes (q + 8) e pod (q + length (keyed_bytes k))
+keyed_spells left bytes e held q a b pod k is fits numbers s within =
     let head = u32_bytes k.first ++ u32_bytes k.second in
-    let first : k.first ≡ (out-Prop prop).key = ap (λ (x : Keyed). x.first) is in
-    let second : k.second ≡ (out-Prop prop).flags = ap (λ (x : Keyed). x.second) is in
-    let value : k.value ≡ form_of (out-Prop prop).value = ap (λ (x : Keyed). x.value) is in
+    let first : k.first ≡ a = ap (λ (x : Keyed). x.first) is in
+    let second : k.second ≡ b = ap (λ (x : Keyed). x.second) is in
+    let value : k.value ≡ form_of pod = ap (λ (x : Keyed). x.value) is in
     let pair = pair_stands bytes q k.first k.second (omega (arith, first, numbers.0)) (omega (arith, second, numbers.1))
     (stands_left bytes q head (framed k.value) s) in
     let behind = stands_right bytes q (q + 8) head (framed k.value) (omega (arith, pair_length k.first k.second)) s in
-    let same : q + 8 + length (framed (form_of (out-Prop prop).value)) ≡ q + length (keyed_bytes k) =
+    let same : q + 8 + length (framed (form_of pod)) ≡ q + length (keyed_bytes k) =
     omega (arith, keyed_length k, ap (λ (f : Form). length (framed f)) value) in (
       sym first ∙ pair.0,
       sym second ∙ pair.1,
-      subst (λ (m : ℕ). SpellsAt left bytes (q + 8) e (out-Prop prop).value m) same
-          (held (out-Prop prop).value (q + 8) (subst (Fits left) value fits) numbers.2
+      subst (λ (m : ℕ). SpellsAt left bytes (q + 8) e pod m) same
+          (held pod (q + 8) (subst (Fits left) value fits) numbers.2
           (subst (λ (f : Form). StandsAt bytes (q + 8) (framed f)) value behind) (omega (arith, same, within))),
     )
+
+-- such things one after the other
+module _ {X : Type 0} (keyed : X → Keyed) (Good : X → Type 0) (At : ℕ → X → ℕ → Type 0) (left : ℕ) (bytes : List ℕ) (e : ℕ)
+    (each : (q : ℕ) (x : X) → Fits left (keyed x).value → Good x → StandsAt bytes q (keyed_bytes (keyed x))
+    → q + length (keyed_bytes (keyed x)) ≤ e → At q x (q + length (keyed_bytes (keyed x)))) where
+  all_spell : (b : ℕ) (xs : List X) → AllByRecursion (λ k. Fits left k.value) (map keyed xs) → AllByRecursion Good xs
+      → StandsAt bytes b (flat_map keyed_bytes (map keyed xs)) → e ≡ b + length (flat_map keyed_bytes (map keyed xs))
+      → AreAfter At b xs e
+  all_spell b [] fits numbers s end = omega (arith, end)
+  all_spell b (x ∷ xs) fits numbers s end =
+      let k = keyed x in
+      let rest = flat_map keyed_bytes (map keyed xs) in
+      let split : StandsAt bytes b (keyed_bytes k ++ rest) = subst (StandsAt bytes b) (flat_map-cons keyed_bytes k (map keyed xs)) s in
+      let long : e ≡ b + (length (keyed_bytes k) + length rest) =
+      omega (arith, end, ap length (flat_map-cons keyed_bytes k (map keyed xs)), length-append (keyed_bytes k) rest) in
+      let next = b + length (keyed_bytes k) in (
+        next,
+        each b x fits.0 numbers.0 (stands_left bytes b (keyed_bytes k) rest split) (omega arith),
+        all_spell next xs fits.1 numbers.1 (stands_right bytes b next (keyed_bytes k) rest refl split) (omega arith),
+      )
 
 pub props_spell : (left : ℕ) (bytes : List ℕ) (e : ℕ) → IsSpelled left bytes e → (b : ℕ) (props : List Prop)
     → AllByRecursion (λ k. Fits left k.value) (map keyed_of props) → AllByRecursion (PropFits (NumbersFit left)) props
     → StandsAt bytes b (flat_map keyed_bytes (map keyed_of props)) → e ≡ b + length (flat_map keyed_bytes (map keyed_of props))
     → AreAfter (IsPropAt (λ a x m. SpellsAt left bytes a e x m) bytes) b props e
-props_spell left bytes e held b [] fits numbers s end = omega (arith, end)
-props_spell left bytes e held b (x ∷ xs) fits numbers s end =
-    let k = keyed_of x in
-    let rest = flat_map keyed_bytes (map keyed_of xs) in
-    let split : StandsAt bytes b (keyed_bytes k ++ rest) = subst (StandsAt bytes b) (flat_map-cons keyed_bytes k (map keyed_of xs)) s in
-    let long : e ≡ b + (length (keyed_bytes k) + length rest) =
-    omega (arith, end, ap length (flat_map-cons keyed_bytes k (map keyed_of xs)), length-append (keyed_bytes k) rest) in
-    let next = b + length (keyed_bytes k) in (
-      next,
-      prop_spells left bytes e held b x k (keyed_out x) fits.0 numbers.0 (stands_left bytes b (keyed_bytes k) rest split) (omega arith),
-      props_spell left bytes e held next xs fits.1 numbers.1 (stands_right bytes b next (keyed_bytes k) rest refl split) (omega arith),
-    )
+props_spell left bytes e held = all_spell keyed_of (PropFits (NumbersFit left)) (IsPropAt (λ a x m. SpellsAt left bytes a e x m) bytes)
+    left bytes e (λ q x fits good s within. keyed_spells left bytes e held q (out-Prop x).key (out-Prop x).flags (out-Prop x).value
+    (keyed_of x) (keyed_out x) fits good s within)
+
+pub controls_spell : (left : ℕ) (bytes : List ℕ) (e : ℕ) → IsSpelled left bytes e → (b : ℕ) (controls : List Control)
+    → AllByRecursion (λ k. Fits left k.value) (map control_keyed controls) → AllByRecursion (ControlFits (NumbersFit left)) controls
+    → StandsAt bytes b (flat_map keyed_bytes (map control_keyed controls))
+    → e ≡ b + length (flat_map keyed_bytes (map control_keyed controls))
+    → AreAfter (IsControlAt (λ a x m. SpellsAt left bytes a e x m) bytes) b controls e
+controls_spell left bytes e held = all_spell control_keyed (ControlFits (NumbersFit left))
+    (IsControlAt (λ a x m. SpellsAt left bytes a e x m) bytes) left bytes e
+    (λ q x fits good s within. keyed_spells left bytes e held q (out-Control x).offset (out-Control x).kind (out-Control x).value
+    (control_keyed x) (control_out x) fits good s within)

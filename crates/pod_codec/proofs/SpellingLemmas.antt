@@ -10,13 +10,13 @@ use Rattle.pod_codec.specs.declared.fault.PodFault.{PodFault}
 use Rattle.pod_codec.specs.declared.fault.PodFault.TheVariants.{Short}
 use Rattle.pod_codec.specs.Framing.{pad8}
 use Rattle.pod_codec.specs.Places.{u32_at}
-use Rattle.pod_codec.specs.Spelling.{IsPropAt, SpellsAt, FrontSpells}
+use Rattle.pod_codec.specs.Spelling.{IsPropAt, IsControlAt, SpellsAt, FrontSpells}
 use Rattle.pod_codec.specs.Checks.{first_failed, header_checks}
-use Rattle.pod_codec.specs.FirstFault.{IsHeldFault, FaultsAt, Fails, IsFirstFault}
+use Rattle.pod_codec.specs.FirstFault.{IsKeyedFault, IsHeldFault, FaultsAt, Fails, IsFirstFault}
 use Rattle.pod_codec.specs.ReadAnswer.{IsReadAs, IsRefusedAs}
-use Rattle.pod_codec.proofs.Decoder.{mapped, prop_of, prop_step, body_of, decoded, decoded_front}
+use Rattle.pod_codec.proofs.Decoder.{mapped, prop_of, control_of, keyed_step, body_of, decoded, decoded_front}
 use Rattle.pod_codec.proofs.DecoderLemmas.{run_fault}
-use Rattle.pod_codec.proofs.BodyLemmas.{IsFixed, pod_fixed, prop_fixed, body_found, checks_found}
+use Rattle.pod_codec.proofs.BodyLemmas.{IsFixed, pod_fixed, prop_made, control_made, keyed_fixed, body_found, checks_found}
 use Rattle.pod_codec.proofs.ReadingLemmas.{outer_good}
 use Rattle.pod_codec.specs.SoundChoices.{HasSoundChoices}
 use Rattle.pod_codec.proofs.ChoiceLemmas.{sound_front}
@@ -42,15 +42,15 @@ spelled_decoded (suc left) bytes p e pod q h =
     let body = body_found held step bytes t (p + 8) end fixed (out-Pod pod) h.2 in
     (rw (head, checks, body, roll-out-Pod pod) (ap (λ (n : ℕ). Ok (pod, n)) (sym h.1)), omega (arith, h.1), h.0)
 
--- a property that is not there, or whose value is at fault
-prop_fails : (Faults : ℕ → PodFault → Type 0) (step : ℕ → Result (Pod × ℕ) PodFault) (bytes : List ℕ) (e q : ℕ) (f : PodFault)
-    → ((a : ℕ) (g : PodFault) → Faults a g → step a ≡ Err g)
-    → ((e < q + 8) × (f ≡ Short q)) ⊎ ((q + 8 ≤ e) × Faults (q + 8) f) → prop_step step bytes e q ≡ Err f
-prop_fails Faults step bytes e q f fails (inl x) =
-    cond-true (nat_lt e (q + 8)) (Err (Short q)) (mapped (prop_of bytes q) (step (q + 8))) (lt-ltb e (q + 8) x.0) ∙ ap Err (sym x.1)
-prop_fails Faults step bytes e q f fails (inr y) =
-    cond-false (nat_lt e (q + 8)) (Err (Short q)) (mapped (prop_of bytes q) (step (q + 8))) (le-ltb e (q + 8) y.0)
-    ∙ ap (mapped (prop_of bytes q)) (fails (q + 8) f y.1)
+-- a property or a control that is not there, or whose value is at fault
+keyed_fails : {X : Type 0} (made : ℕ → Pod × ℕ → X × ℕ) (Faults : ℕ → PodFault → Type 0) (step : ℕ → Result (Pod × ℕ) PodFault)
+    (e q : ℕ) (f : PodFault) → ((a : ℕ) (g : PodFault) → Faults a g → step a ≡ Err g)
+    → IsKeyedFault Faults e q f → keyed_step made step e q ≡ Err f
+keyed_fails made Faults step e q f fails (inl x) =
+    cond-true (nat_lt e (q + 8)) (Err (Short q)) (mapped (made q) (step (q + 8))) (lt-ltb e (q + 8) x.0) ∙ ap Err (sym x.1)
+keyed_fails made Faults step e q f fails (inr y) =
+    cond-false (nat_lt e (q + 8)) (Err (Short q)) (mapped (made q) (step (q + 8))) (le-ltb e (q + 8) y.0)
+    ∙ ap (mapped (made q)) (fails (q + 8) f y.1)
 
 -- a fault of what is held is the decoder's
 held_fault : (Held : ℕ → Pod → ℕ → Type 0) (Faults : ℕ → PodFault → Type 0) (step : ℕ → Result (Pod × ℕ) PodFault) (bytes : List ℕ)
@@ -60,11 +60,18 @@ held_fault Held Faults step bytes t b e f fixed fails (inl x) =
     let h = x.1 in
     rw x.0 (ap (mapped Pod-F.Struct) (run_fault Held step (pod_fixed Held step e fixed) e b e h.0 h.1 f h.2 h.3 (fails h.1 f h.4)
     (omega arith)))
-held_fault Held Faults step bytes t b e f fixed fails (inr y) =
+held_fault Held Faults step bytes t b e f fixed fails (inr (inl y)) =
     let h = y.1 in
     rw y.0 (ap (mapped (Pod-F.Object (u32_at bytes b) (u32_at bytes (b + 4))))
-    (run_fault (IsPropAt Held bytes) (prop_step step bytes e) (prop_fixed Held step bytes e fixed) e (b + 8) e h.0 h.1 f h.2 h.3
-    (prop_fails Faults step bytes e h.1 f fails h.4) (omega arith)))
+    (run_fault (IsPropAt Held bytes) (keyed_step (prop_of bytes) step e)
+    (keyed_fixed Held (IsPropAt Held bytes) (prop_of bytes) step e (prop_made Held bytes) fixed) e (b + 8) e h.0 h.1 f h.2 h.3
+    (keyed_fails (prop_of bytes) Faults step e h.1 f fails h.4) (omega arith)))
+held_fault Held Faults step bytes t b e f fixed fails (inr (inr y)) =
+    let h = y.1 in
+    rw y.0 (ap (mapped (Pod-F.Sequence (u32_at bytes b)))
+    (run_fault (IsControlAt Held bytes) (keyed_step (control_of bytes) step e)
+    (keyed_fixed Held (IsControlAt Held bytes) (control_of bytes) step e (control_made Held bytes) fixed) e (b + 8) e h.0 h.1 f h.2 h.3
+    (keyed_fails (control_of bytes) Faults step e h.1 f fails h.4) (omega arith)))
 
 -- a first fault is what the decoder answers
 pub faulty_decoded : (left : ℕ) (bytes : List ℕ) (p e : ℕ) (f : PodFault) → FaultsAt left bytes p e f → decoded left bytes p e ≡ Err f

@@ -10,7 +10,7 @@ use Rattle.pod_codec.specs.declared.pod.Pod.{Pod}
 use Rattle.pod_codec.specs.declared.pod.Pod.TheViews.{out-Pod}
 use Rattle.pod_codec.specs.Numbers.{ValueFits, NumbersFit}
 use Rattle.pod_codec.specs.Framing.{Form, Keyed, framed, keyed_bytes, deepest, deepest_keyed, u32_bytes, pad8}
-use Rattle.pod_codec.specs.PodValue.{struct_form, object_form}
+use Rattle.pod_codec.specs.PodValue.{struct_form, object_form, sequence_form}
 use Rattle.pod_codec.specs.Writable.{Fits, FitsBody, Tells, IsOpen}
 use Rattle.pod_codec.specs.declared.fault.WriteFault.{WriteFault}
 use Rattle.pod_codec.specs.declared.fault.WriteFault.TheVariants.{Unwritable, Memory}
@@ -76,13 +76,25 @@ struct_told (Ok done) left fs h = let k = fit_is_sound left fs h in (k.0, omega 
 struct_told (Err Unwritable) left fs h = λ w. h (parts_fit left fs w.sound (omega (arith, w.depth)) w.size)
 struct_told (Err Memory) left fs h = tt
 
+-- a form whose body is two numbers and things that hold a value each
+keyed_told : (r : Result (Unit {0}) WriteFault) (left a b : ℕ) (f : Form) (ks : List Keyed)
+    → f.sound ≡ list_all (λ k. k.value.sound) ks → f.depth ≡ suc (deepest_keyed ks)
+    → f.body ≡ (u32_bytes a ++ u32_bytes b) ++ flat_map keyed_bytes ks
+    → Tells r (AllByRecursion (λ k. Fits left k.value) ks) → FitsBody r left f
+keyed_told (Ok done) left a b f ks sound depth body h =
+    let k = fit_is_sound_keyed left ks h in (subst IsTrue (sym sound) k.0, omega (arith, depth, k.1))
+keyed_told (Err Unwritable) left a b f ks sound depth body h =
+    λ w. h (parts_fit_keyed left ks (subst IsTrue sound w.sound) (omega (arith, depth, w.depth))
+    (omega (arith, w.size, ap length body, length-append (u32_bytes a ++ u32_bytes b) (flat_map keyed_bytes ks))))
+keyed_told (Err Memory) left a b f ks sound depth body h = tt
+
 pub object_told : (r : Result (Unit {0}) WriteFault) (left object id : ℕ) (ks : List Keyed)
     → Tells r (AllByRecursion (λ k. Fits left k.value) ks) → FitsBody r left (object_form object id ks)
-object_told (Ok done) left object id ks h = let k = fit_is_sound_keyed left ks h in (k.0, omega (arith, k.1))
-object_told (Err Unwritable) left object id ks h =
-    λ w. h (parts_fit_keyed left ks w.sound (omega (arith, w.depth))
-    (omega (arith, w.size, length-append (u32_bytes object ++ u32_bytes id) (flat_map keyed_bytes ks))))
-object_told (Err Memory) left object id ks h = tt
+object_told r left object id ks h = keyed_told r left object id (object_form object id ks) ks refl refl refl h
+
+pub sequence_told : (r : Result (Unit {0}) WriteFault) (left unit : ℕ) (ks : List Keyed)
+    → Tells r (AllByRecursion (λ k. Fits left k.value) ks) → FitsBody r left (sequence_form unit ks)
+sequence_told r left unit ks h = keyed_told r left unit 0 (sequence_form unit ks) ks refl refl refl h
 
 pub whole_told : (r : Result (Unit {0}) WriteFault) (left n : ℕ) (f : Form) → n ≡ length f.body → IsTrue f.sound → f.depth ≤ left
     → Tells r (n ≤ 1048576) → Tells r (Fits left f)

@@ -63,8 +63,9 @@ body_checks bytes p size t =
     else (if t == 8 then text_checks bytes p size
     else (if t == 13 then array_checks bytes p size
     else (if t == 15 then (nat_lt size 8, Size p) ∷ []
+    else (if t == 16 then (nat_lt size 8, Size p) ∷ []
     else (if t == 19 then choice_checks bytes p size
-    else []))))))
+    else [])))))))
 
 -- of all bytes: a header is there, and its size is not too great
 abbrev pub outer_checks : List ℕ → List Check

@@ -4,24 +4,36 @@ use Rattle.std.specs.Prelude.{◌≡◌, ℕ, zero, suc, ◌+◌, ◌≤◌, ◌
 use Rattle.pod_codec.specs.declared.fault.PodFault.{PodFault}
 use Rattle.pod_codec.specs.declared.fault.PodFault.TheVariants.{Short, Deep, Memory}
 use Rattle.pod_codec.specs.Places.{u32_at, AreAfter}
-use Rattle.pod_codec.specs.Spelling.{IsPropAt, SpellsAt}
+use Rattle.pod_codec.specs.Spelling.{IsPropAt, IsControlAt, SpellsAt}
 use Rattle.pod_codec.specs.declared.pod.Pod.{Pod}
 use Rattle.pod_codec.specs.declared.pod.Prop.{Prop}
+use Rattle.pod_codec.specs.declared.pod.Control.{Control}
 use Rattle.pod_codec.specs.Checks.{first_failed, header_checks, body_checks, outer_checks}
 
--- a field of the struct, or a value of the object, from b to e is at fault, and those before it are spelled
+-- a field of the struct from b to e is at fault, and those before it are spelled
 abbrev pub IsFieldFault : (ℕ → Pod → ℕ → Type 0) → (ℕ → PodFault → Type 0) → ℕ → ℕ → PodFault → Type 0
 IsFieldFault Held Faults b e f = (fields : List Pod) × (q : ℕ) × AreAfter Held b fields q × (q < e) × Faults q f
 
+-- the two numbers in front of a POD at q are not there, or the POD behind them is at fault
+abbrev pub IsKeyedFault : (ℕ → PodFault → Type 0) → ℕ → ℕ → PodFault → Type 0
+IsKeyedFault Faults e q f = ((e < q + 8) × (f ≡ Short q)) ⊎ ((q + 8 ≤ e) × Faults (q + 8) f)
+
+-- so of a property of the object, and of a control of the sequence, from b to e
 abbrev pub IsPropFault : (ℕ → Pod → ℕ → Type 0) → (ℕ → PodFault → Type 0) → List ℕ → ℕ → ℕ → PodFault
     → Type 0
 IsPropFault Held Faults bytes b e f = (props : List Prop) × (q : ℕ) × AreAfter (IsPropAt Held bytes) b props q × (q < e)
-    × (((e < q + 8) × (f ≡ Short q)) ⊎ ((q + 8 ≤ e) × Faults (q + 8) f))
+    × IsKeyedFault Faults e q f
+
+abbrev pub IsControlFault : (ℕ → Pod → ℕ → Type 0) → (ℕ → PodFault → Type 0) → List ℕ → ℕ → ℕ → PodFault
+    → Type 0
+IsControlFault Held Faults bytes b e f = (controls : List Control) × (q : ℕ)
+    × AreAfter (IsControlAt Held bytes) b controls q × (q < e) × IsKeyedFault Faults e q f
 
 abbrev pub IsHeldFault : (ℕ → Pod → ℕ → Type 0) → (ℕ → PodFault → Type 0) → List ℕ → ℕ → ℕ → ℕ
     → PodFault → Type 0
 IsHeldFault Held Faults bytes t b e f = ((t ≡ 14) × IsFieldFault Held Faults b e f)
-    ⊎ ((t ≡ 15) × IsPropFault Held Faults bytes (b + 8) e f)
+    ⊎ (((t ≡ 15) × IsPropFault Held Faults bytes (b + 8) e f)
+    ⊎ ((t ≡ 16) × IsControlFault Held Faults bytes (b + 8) e f))
 
 -- the body's first check that fails, or, where none does, a fault of what is held
 abbrev pub IsBodyFault : (ℕ → Pod → ℕ → Type 0) → (ℕ → PodFault → Type 0) → List ℕ → ℕ → ℕ → ℕ

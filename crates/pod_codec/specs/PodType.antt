@@ -3,9 +3,9 @@ use Rattle.std.specs.Prelude.{◌≡◌, ◌⊎◌, ℕ, ◌==◌, ◌&&◌, ◌
 use Rattle.pod_codec.specs.declared.pod.ChoiceKind.{ChoiceKind}
 use Rattle.pod_codec.specs.declared.pod.ChoiceKind.TheVariants as k
 
--- KNOWN TYPE: None to Object, Fd and Choice; a Sequence, 16, is not known
+-- KNOWN TYPE: None to Sequence, Fd and Choice; a Pointer, 17, is not known
 abbrev pub is_known_type : ℕ → Bool
-is_known_type n = (nat_le 1 n && nat_le n 15) || ((n == 18) || (n == 19))
+is_known_type n = (nat_le 1 n && nat_le n 16) || ((n == 18) || (n == 19))
 
 -- types of 4 bytes: Bool, Id, Int, Float
 abbrev pub has_four_bytes : ℕ → Bool
@@ -21,7 +21,7 @@ child_size n = if has_four_bytes n then 4 else (if has_eight_bytes n then 8 else
 
 -- a known type without a size of its own
 abbrev pub IsOther : ℕ → Type 0
-IsOther n = (n ≡ 1) ⊎ ((n ≡ 8) ⊎ ((n ≡ 9) ⊎ ((n ≡ 12) ⊎ ((n ≡ 13) ⊎ ((n ≡ 14) ⊎ ((n ≡ 15) ⊎ (n ≡ 19)))))))
+IsOther n = (n ≡ 1) ⊎ ((n ≡ 8) ⊎ ((n ≡ 9) ⊎ ((n ≡ 12) ⊎ ((n ≡ 13) ⊎ ((n ≡ 14) ⊎ ((n ≡ 15) ⊎ ((n ≡ 16) ⊎ (n ≡ 19))))))))
 
 -- the number of a choice's kind
 abbrev pub choice_number : ChoiceKind → ℕ

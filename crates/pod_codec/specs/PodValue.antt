@@ -1,13 +1,14 @@
 -- The written form of a value: its type, the body that it is written with, how deep it is, and whether it can
 -- be written at all. SPA POD, "Types"; spa/pod/pod.h. Numbers are little-endian.
-use Rattle.std.specs.Prelude.{ℕ, suc, ◌&&◌, List, [], ◌∷◌, ◌++◌, if◌then◌else◌}
+use Rattle.std.specs.Prelude.{ℕ, suc, List, [], ◌∷◌, ◌++◌, if◌then◌else◌}
 use Rattle.std.specs.List.{flat_map, list_all}
 use Rattle.std.specs.Int.{w32, w64, cast_unsigned}
 use Rattle.pod_codec.specs.declared.pod.Pod.{Pod}
 use Rattle.pod_codec.specs.declared.pod.Prop.{Prop}
+use Rattle.pod_codec.specs.declared.pod.Control.{Control}
 use Rattle.pod_codec.specs.declared.pod.Pod.TheOpen.{Pod-F, Prop-F, Control-F}
-use Rattle.pod_codec.specs.declared.pod.Pod.TheFolds.{fold-Pod, fold-Prop}
-use Rattle.pod_codec.specs.PodType.{is_known_type, choice_number}
+use Rattle.pod_codec.specs.declared.pod.Pod.TheFolds.{fold-Pod, fold-Prop, fold-Control}
+use Rattle.pod_codec.specs.PodType.{choice_number}
 use Rattle.pod_codec.specs.Framing.{Form, Keyed, u32_bytes, u64_bytes, framed, keyed_bytes, deepest, deepest_keyed, child_bytes}
 use Rattle.pod_codec.specs.Framing.{are_children, leaf}
 
@@ -38,7 +39,7 @@ sequence_form unit controls = record {
   number = 16;
   body = (u32_bytes unit ++ u32_bytes 0) ++ flat_map keyed_bytes controls;
   depth = suc (deepest_keyed controls);
-  sound = is_known_type 16 && list_all (λ k. k.value.sound) controls;
+  sound = list_all (λ k. k.value.sound) controls;
 }
 
 -- a value, with the forms of what it holds in their places
@@ -64,16 +65,16 @@ pod_form (Pod-F.Sequence unit controls) = sequence_form unit controls
 
 abbrev pub prop_form : Prop-F Form Keyed Keyed → Keyed
 prop_form p = record { first = p.key; second = p.flags; value = p.value }
-
 abbrev pub control_form : Control-F Form Keyed Keyed → Keyed
 control_form c = record { first = c.offset; second = c.kind; value = c.value }
 
--- WRITTEN FORM of a value, and of a property
+-- WRITTEN FORM of a value, of a property and of a control
 abbrev pub form_of : Pod → Form
 form_of = fold-Pod Form Keyed Keyed pod_form control_form prop_form
-
 abbrev pub keyed_of : Prop → Keyed
 keyed_of = fold-Prop Form Keyed Keyed pod_form control_form prop_form
+abbrev pub control_keyed : Control → Keyed
+control_keyed = fold-Control Form Keyed Keyed pod_form control_form prop_form
 
 -- CANONICAL SPELLING: the one spelling that is written
 abbrev pub canonical : Pod → List ℕ

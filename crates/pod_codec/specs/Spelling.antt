@@ -1,12 +1,12 @@
 -- Spelling of PODs: which bytes spell which value, with free padding and any nonzero Bool. SPA POD, "Types";
 -- spa/pod/pod.h. Places count from the first byte; a body goes from b to e.
-use Rattle.std.specs.Prelude.{◌≡◌, ℕ, zero, suc, ◌+◌, ◌-◌, ◌≤◌, ◌<◌, ◌⊎◌, List, [], length, slice_index, slice_range, IsTrue}
+use Rattle.std.specs.Prelude.{◌≡◌, ℕ, zero, suc, ◌+◌, ◌-◌, ◌≤◌, ◌<◌, ◌⊎◌, List, [], length, slice_index, slice_range}
 use Rattle.pod_codec.specs.declared.pod.Pod.{Pod}
 use Rattle.pod_codec.specs.declared.pod.Prop.{Prop}
 use Rattle.pod_codec.specs.declared.pod.Control.{Control}
 use Rattle.pod_codec.specs.declared.pod.Pod.TheOpen.{Pod-F}
 use Rattle.pod_codec.specs.declared.pod.Pod.TheViews.{out-Pod, out-Prop, out-Control}
-use Rattle.pod_codec.specs.PodType.{is_known_type, child_size, choice_number}
+use Rattle.pod_codec.specs.PodType.{child_size, choice_number}
 use Rattle.pod_codec.specs.Framing.{pad8}
 use Rattle.pod_codec.specs.Places.{u32_at, AreAfter, IsScalarAt, HasChildren}
 
@@ -33,8 +33,8 @@ IsBodyAt Held bytes t b e (Pod-F.Object object id props) = (t ≡ 15) × (object
     × (id ≡ u32_at bytes (b + 4)) × AreAfter (IsPropAt Held bytes) (b + 8) props e
 IsBodyAt Held bytes t b e (Pod-F.Choice kind flags child values) = (t ≡ 19) × (choice_number kind ≡ u32_at bytes b)
     × (flags ≡ u32_at bytes (b + 4)) × HasChildren bytes (b + 8) e child values
-IsBodyAt Held bytes t b e (Pod-F.Sequence unit controls) = (t ≡ 16) × IsTrue (is_known_type 16)
-    × (unit ≡ u32_at bytes b) × AreAfter (IsControlAt Held bytes) (b + 8) controls e
+IsBodyAt Held bytes t b e (Pod-F.Sequence unit controls) = (t ≡ 16) × (unit ≡ u32_at bytes b)
+    × AreAfter (IsControlAt Held bytes) (b + 8) controls e
 IsBodyAt Held bytes t b e scalar = (e ≡ b + child_size t) × IsScalarAt bytes t b scalar
 
 -- SPELLING: with so many levels left, the bytes from p to q, within the end e, are a POD of the value

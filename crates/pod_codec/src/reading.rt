@@ -1,15 +1,15 @@
 //! The value that bytes spell, or their first fault.
 ghost use Rattle.std.specs.Prelude.{◌≡◌, ℕ, List, ◌+◌, ◌++◌, ◌-◌, ◌≤◌, ◌<◌, ◌⊎◌, [], length, slice_index, slice_range};
 ghost use Rattle.std.specs.Prelude.{IfOk, IfSome, IsNone};
-ghost use Rattle.pod_codec.specs.declared.pod.Pod.TheViews.{out-Pod, out-Prop};
+ghost use Rattle.pod_codec.specs.declared.pod.Pod.TheViews.{out-Pod, out-Prop, out-Control};
 ghost use Rattle.pod_codec.specs.declared.pod.Pod.{Pod};
 ghost use Rattle.pod_codec.specs.declared.fault.PodFault.{PodFault};
 ghost use Rattle.pod_codec.specs.PodType.{child_size, choice_number, IsOther};
 ghost use Rattle.pod_codec.specs.Framing.{pad8};
 ghost use Rattle.pod_codec.specs.Places.{u32_at, AreAfter, IsScalarAt, HasChildren};
-ghost use Rattle.pod_codec.specs.Spelling.{IsPropAt, IsBodyAt, SpellsAt, FrontSpells};
+ghost use Rattle.pod_codec.specs.Spelling.{IsPropAt, IsControlAt, IsBodyAt, SpellsAt, FrontSpells};
 ghost use Rattle.pod_codec.specs.Checks.{header_checks, body_checks, text_checks, array_checks, choice_checks, first_failed, Answers};
-ghost use Rattle.pod_codec.specs.FirstFault.{IsFieldFault, IsPropFault, IsBodyFault, FaultsAt, IsFirstFault, Fails};
+ghost use Rattle.pod_codec.specs.FirstFault.{IsFieldFault, IsPropFault, IsControlFault, IsBodyFault, FaultsAt, IsFirstFault, Fails};
 ghost use Rattle.pod_codec.specs.ReadAnswer.{HasAnswer, IsReadAs, IsRefusedAs};
 ghost use Rattle.pod_codec.specs.PodValue.{canonical};
 ghost use Rattle.pod_codec.specs.Writable.{IsWritable};
@@ -20,7 +20,7 @@ use crate::children::{children_at, scalar_at};
 use crate::containers::{MAX_BODY, MAX_DEPTH};
 use crate::cursor::number_at;
 use crate::fault::PodFault;
-use crate::pod::{ChoiceKind, Pod, Prop};
+use crate::pod::{ChoiceKind, Control, Pod, Prop};
 use crate::pod_type::size_of_child;
 use pw_base::{Items, Text};
 use std::alloc::Global;
@@ -216,6 +216,16 @@ fn body_at(
                 props,
             })
         }
+        16 => {
+            if size < 8 {
+                return Err(PodFault::Size { offset });
+            }
+            let controls = controls_at(alloc, bytes, begin + 8, end, left)?;
+            Ok(Pod::Sequence {
+                unit: number_at(bytes, begin),
+                controls,
+            })
+        }
         19 => {
             let choice = choice_at(alloc, bytes, at, size)?;
             Ok(Pod::Choice {
@@ -302,6 +312,52 @@ fn props_at(
     Ok(props)
 }
 
+/// The control of a value, whose offset and kind stand at `at`.
+fn control_at(bytes: &[u8], at: usize, value: Pod) -> Control
+    requires { at + 8 ≤ length bytes.now }
+    ensures offset { (out-Control result).offset ≡ u32_at bytes.now at }
+    ensures kind { (out-Control result).kind ≡ u32_at bytes.now (at + 4) }
+    ensures value { (out-Control result).value ≡ value }
+{
+    Control {
+        offset: number_at(bytes, at),
+        kind: number_at(bytes, at + 4),
+        value,
+    }
+}
+
+/// The controls from a place to another.
+#[cycle(read)]
+fn controls_at(
+    alloc: Global,
+    bytes: &[u8],
+    begin: usize,
+    end: usize,
+    left: u32,
+) -> Result<Items<Control>, PodFault>
+    requires order { begin ≤ end }
+    requires within { end ≤ length bytes.now }
+    requires small { end ≤ 1048584 }
+    ensures found { IfOk result (λ controls. AreAfter
+        (IsControlAt (λ a x m. SpellsAt left bytes.now a end x m) bytes.now) begin controls end) }
+    ensures fault { Fails result (IsControlFault (λ a x m. SpellsAt left bytes.now a end x m)
+        (λ a g. FaultsAt left bytes.now a end g) bytes.now begin end) }
+{
+    let mut controls = Items::new(alloc);
+    let mut next = begin;
+    while next < end {
+        if end - next < 8 {
+            return Err(PodFault::Short {
+                offset: next as u32,
+            });
+        }
+        let (value, after) = pod_at(alloc, bytes, next + 8, end, left)?;
+        controls.push(control_at(bytes, next, value))?;
+        next = after;
+    }
+    Ok(controls)
+}
+
 /// The value of a type with a size of its own; of another type, its fault.
 fn scalar_or_fault(bytes: &[u8], at: usize, size: usize, kind: u32) -> Result<Pod, PodFault>
     requires within { at + 8 + size ≤ length bytes.now }
@@ -349,8 +405,8 @@ fn front_of(alloc: Global, bytes: &[u8]) -> Result<(Pod, usize), PodFault>
 /// Numbers are little-endian, padding may be anything, and any nonzero Bool is true. The outermost body has
 /// at most 1,048,576 bytes, and values stand at most 16 deep. A fault is the first one: a POD is checked for
 /// its depth, its header, its size (the outermost alone), its body, its type and then its contents, and what
-/// it holds is read in order. A Sequence is refused as a type that is not known. What stands behind the
-/// front is not looked at. Takes memory for the value alone, and time linear in the front.
+/// it holds is read in order. What stands behind the front is not looked at. Takes memory for the value alone,
+/// and time linear in the front.
 ///
 /// Public source: PipeWire's documentation, "SPA POD"; `spa/pod/pod.h`.
 pub fn read_pod(alloc: Global, bytes: &[u8]) -> Result<(Pod, usize), PodFault>

@@ -2,14 +2,14 @@
 ghost use Rattle.std.specs.Prelude.{◌≡◌, ◌+◌, ◌≤◌, ◌++◌, length, map, OnOk, OnErr, IsTrue};
 ghost use Rattle.std.specs.List.{flat_map, AllByRecursion};
 ghost use Rattle.pod_codec.specs.Framing.{are_children, framed, keyed_bytes};
-ghost use Rattle.pod_codec.specs.PodValue.{form_of, keyed_of, struct_form, object_form, choice_form, canonical};
+ghost use Rattle.pod_codec.specs.PodValue.{form_of, keyed_of, control_keyed, struct_form, object_form, sequence_form, choice_form, canonical};
 ghost use Rattle.pod_codec.specs.declared.pod.Pod.TheViews.{out-Pod};
-ghost use Rattle.pod_codec.specs.Numbers.{ElementsFit, PropFits, ValueFits, NumbersFit};
+ghost use Rattle.pod_codec.specs.Numbers.{ElementsFit, PropFits, ControlFits, ValueFits, NumbersFit};
 ghost use Rattle.pod_codec.specs.Writable.{Fits, IsWritable, FitsBody, Tells};
 
 use crate::containers::{MAX_DEPTH, end_frame, put_children};
 use crate::fault::WriteFault;
-use crate::pod::{Pod, Prop};
+use crate::pod::{Control, Pod, Prop};
 use crate::pod_type::{number_of_kind, type_number};
 use crate::scalars::{put_pair, put_text, put_u32, put_u64};
 use pw_base::Items;
@@ -61,7 +61,7 @@ fn put_body(pod: &Pod, left: u32, to: &mut Items<u8>) -> Result<(), WriteFault>
             child,
             values,
         } => put_choice(number_of_kind(*kind), *flags, *child, values.as_slice(), to),
-        Pod::Sequence { .. } => Err(WriteFault::Unwritable),
+        Pod::Sequence { unit, controls } => put_sequence(*unit, controls.as_slice(), left, to),
     }
 }
 
@@ -108,6 +108,22 @@ fn put_object(
     put_props(props, left, to)
 }
 
+/// Appends the body of a sequence.
+#[cycle(write)]
+fn put_sequence(
+    unit: u32,
+    controls: &[Control],
+    left: u32,
+    to: &mut Items<u8>,
+) -> Result<(), WriteFault>
+    ensures ok { OnOk result (to.new ≡ to.old ++ (sequence_form unit (map control_keyed controls.now)).body) }
+    ensures told { FitsBody result left (sequence_form unit (map control_keyed controls.now)) }
+    ensures numbers { OnOk result (AllByRecursion (ControlFits (NumbersFit left)) controls.now) }
+{
+    put_pair(unit, 0, to)?;
+    put_controls(controls, left, to)
+}
+
 /// Appends whole PODs, one after the other.
 #[cycle(write)]
 fn put_pods(pods: &[Pod], left: u32, to: &mut Items<u8>) -> Result<(), WriteFault>
@@ -141,6 +157,30 @@ fn put_props(props: &[Prop], left: u32, to: &mut Items<u8>) -> Result<(), WriteF
 {
     for prop in props {
         put_prop(prop, left, to)?;
+    }
+    Ok(())
+}
+
+/// Appends one control: offset, kind and a whole POD.
+#[cycle(write)]
+fn put_control(control: &Control, left: u32, to: &mut Items<u8>) -> Result<(), WriteFault>
+    ensures ok { OnOk result (to.new ≡ to.old ++ keyed_bytes (control_keyed control.now)) }
+    ensures told { Tells result (Fits left (control_keyed control.now).value) }
+    ensures numbers { OnOk result (ControlFits (NumbersFit left) control.now) }
+{
+    put_pair(control.offset, control.kind, to)?;
+    put_pod(&control.value, left, to)
+}
+
+/// Appends controls, one after the other.
+#[cycle(write)]
+fn put_controls(controls: &[Control], left: u32, to: &mut Items<u8>) -> Result<(), WriteFault>
+    ensures ok { OnOk result (to.new ≡ to.old ++ flat_map keyed_bytes (map control_keyed controls.now)) }
+    ensures told { Tells result (AllByRecursion (λ k. Fits left k.value) (map control_keyed controls.now)) }
+    ensures numbers { OnOk result (AllByRecursion (ControlFits (NumbersFit left)) controls.now) }
+{
+    for control in controls {
+        put_control(control, left, to)?;
     }
     Ok(())
 }

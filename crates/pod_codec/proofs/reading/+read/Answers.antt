@@ -1,10 +1,10 @@
 -- What is read is spelled, and what is at fault is so by the definition.
 use Rattle.std.proofs.Common.{◌≡◌, ℕ, suc, ◌+◌, ◌-◌, ◌*◌, ◌/◌, ◌⊎◌, sym, subst, arith}
 use Rattle.pod_codec.specs.declared.pod.Pod.{Pod}
-use Rattle.pod_codec.specs.declared.pod.Pod.TheViews.{out-Prop}
+use Rattle.pod_codec.specs.declared.pod.Pod.TheViews.{out-Prop, out-Control}
 use Rattle.pod_codec.specs.declared.fault.PodFault.TheVariants.{Memory}
 use Rattle.pod_codec.specs.Places.{AreAfter}
-use Rattle.pod_codec.specs.Spelling.{IsPropAt, SpellsAt}
+use Rattle.pod_codec.specs.Spelling.{IsPropAt, IsControlAt, SpellsAt}
 use Rattle.pod_codec.specs.FirstFault.{FaultsAt}
 use Rattle.pod_codec.proofs.ReadingLemmas.{after_more, spelled, faulty}
 use Rattle.pod_codec.proofs.reading.+read.Goals as goal
@@ -20,6 +20,12 @@ props_at-returns-clause-found t c =
     let end : c.loop-next.next ≡ c.args.end = omega (arith, c.loop-next.invariant.order, c.loop-next-test.false) in
     subst (λ (k : ℕ). AreAfter (IsPropAt (λ a x m. SpellsAt c.args.left c.args.bytes.now a c.args.end x m) c.args.bytes.now)
     c.args.begin c.loop-next.props k) end c.loop-next.invariant.so_far
+
+pub controls_at-returns-clause-found : goal.controls_at-returns-clause-found
+controls_at-returns-clause-found t c =
+    let end : c.loop-next.next ≡ c.args.end = omega (arith, c.loop-next.invariant.order, c.loop-next-test.false) in
+    subst (λ (k : ℕ). AreAfter (IsControlAt (λ a x m. SpellsAt c.args.left c.args.bytes.now a c.args.end x m) c.args.bytes.now)
+    c.args.begin c.loop-next.controls k) end c.loop-next.invariant.so_far
 
 pub fields_at-loop-next-preserved : goal.fields_at-loop-next-preserved
 fields_at-loop-next-preserved t c =
@@ -41,6 +47,20 @@ props_at-loop-next-preserved t c =
     (c.prop_at.ensures.key, c.prop_at.ensures.flags, value) in
     record {
       so_far = subst (λ xs. AreAfter (IsPropAt held c.args.bytes.now) c.args.begin xs c.in_ok-value.after)
+          (sym c.in_ok-push.ensures.ok) more;
+      order = omega (arith, c.in_ok-value.ensures.next);
+    }
+
+pub controls_at-loop-next-preserved : goal.controls_at-loop-next-preserved
+controls_at-loop-next-preserved t c =
+    let held = λ (a : ℕ) (x : Pod) (m : ℕ). SpellsAt c.args.left c.args.bytes.now a c.args.end x m in
+    let value : held (c.loop-next.next + 8) (out-Control c.control_at.result).value c.in_ok-value.after =
+    subst (λ (x : Pod). held (c.loop-next.next + 8) x c.in_ok-value.after) (sym c.control_at.ensures.value)
+    c.in_ok-value.ensures.found in
+    let more = after_more (IsControlAt held c.args.bytes.now) c.args.begin c.loop-next.controls c.loop-next.next c.in_ok-value.after
+    c.control_at.result c.loop-next.invariant.so_far (c.control_at.ensures.offset, c.control_at.ensures.kind, value) in
+    record {
+      so_far = subst (λ xs. AreAfter (IsControlAt held c.args.bytes.now) c.args.begin xs c.in_ok-value.after)
           (sym c.in_ok-push.ensures.ok) more;
       order = omega (arith, c.in_ok-value.ensures.next);
     }

@@ -1,8 +1,8 @@
 -- Where what is inside fits the whole does, and where it does not the whole does not.
 use Rattle.std.proofs.Common.{◌+◌, ◌-◌, length, map, arith, rules}
-use Rattle.pod_codec.specs.PodValue.{form_of, keyed_of}
+use Rattle.pod_codec.specs.PodValue.{form_of, keyed_of, control_keyed}
 use Rattle.pod_codec.specs.Writable.{IsOpen}
-use Rattle.pod_codec.proofs.WritingLemmas.{struct_told, object_told, whole_told, open_size, numbers_told}
+use Rattle.pod_codec.proofs.WritingLemmas.{struct_told, object_told, sequence_told, whole_told, open_size, numbers_told}
 use Rattle.pod_codec.proofs.writing.+write.Goals as goal
 
 pub put_struct-returns-clause-told : goal.put_struct-returns-clause-told
@@ -11,6 +11,10 @@ put_struct-returns-clause-told t c = struct_told c.put_pods.result c.args.left (
 pub put_object-returns-clause-told : goal.put_object-returns-clause-told
 put_object-returns-clause-told t c = object_told c.put_props.result c.args.left c.args.object c.args.id
     (map keyed_of c.args.props.now) c.put_props.ensures.told
+
+pub put_sequence-returns-clause-told : goal.put_sequence-returns-clause-told
+put_sequence-returns-clause-told t c = sequence_told c.put_controls.result c.args.left c.args.unit
+    (map control_keyed c.args.controls.now) c.put_controls.ensures.told
 
 pub put_pod-returns-clause-ok : goal.put_pod-returns-clause-ok
 put_pod-returns-clause-ok t c = c.end_frame.ensures.ok c.args.to.now (form_of c.args.pod.now)
