@@ -1,5 +1,5 @@
 -- Where the checks of a body hold, the decoder's answer is right.
-use Rattle.std.proofs.Common.{◌≡◌, ℕ, ◌+◌, ◌-◌, ◌≤◌, ◌<◌, ◌==◌, ◌&&◌, not, nat_lt, false, cond, ◌⊎◌, inl, inr, List, []}
+use Rattle.std.proofs.Common.{◌≡◌, ℕ, ◌+◌, ◌-◌, ◌≤◌, ◌==◌, ◌&&◌, not, nat_lt, false, cond, inl, inr, List, []}
 use Rattle.std.proofs.Common.{◌∷◌, Some, None, Result, Ok, Err, refl, sym, subst, arith}
 use Rattle.std.proofs.lemmas.Bool.{lt-ltb, le-ltb, ltb-false, eqb-false, eq-eqb, ne_eqb, cases_lt, cases_eq, and_cases, cond-true}
 use Rattle.std.proofs.lemmas.Bool.{cond-false}

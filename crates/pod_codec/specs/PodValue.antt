@@ -65,14 +65,17 @@ pod_form (Pod-F.Sequence unit controls) = sequence_form unit controls
 
 abbrev pub prop_form : Prop-F Form Keyed Keyed → Keyed
 prop_form p = record { first = p.key; second = p.flags; value = p.value }
+
 abbrev pub control_form : Control-F Form Keyed Keyed → Keyed
 control_form c = record { first = c.offset; second = c.kind; value = c.value }
 
 -- WRITTEN FORM of a value, of a property and of a control
 abbrev pub form_of : Pod → Form
 form_of = fold-Pod Form Keyed Keyed pod_form control_form prop_form
+
 abbrev pub keyed_of : Prop → Keyed
 keyed_of = fold-Prop Form Keyed Keyed pod_form control_form prop_form
+
 abbrev pub control_keyed : Control → Keyed
 control_keyed = fold-Control Form Keyed Keyed pod_form control_form prop_form
 

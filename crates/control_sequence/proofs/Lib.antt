@@ -1,0 +1,2 @@
+pub mod AutomationLemmas
+pub mod PointLemmas
