@@ -11,11 +11,11 @@ pub enum ControlFault {
     /// The value is no Sequence.
     NotSequence,
     /// Its offset is below that of the control before it.
-    OffsetFalls { index: usize },
+    OffsetFalls { index: u32 },
     /// It is of kind Properties (1), and its value is no Object of type Props (0x40002).
-    NotProps { index: usize },
+    NotProps { index: u32 },
     /// The first gain (custom key 0x1000001) of its properties is no Int from -32767 to 32767.
-    GainForm { index: usize },
+    GainForm { index: u32 },
     /// No memory was left.
     Memory,
 }

@@ -66,7 +66,7 @@ fn gain_of(value: &Pod) -> Option<i32>
 }
 
 // The point of a control at this place, the one before which has this offset; or its fault.
-fn point_at(control: &Control, index: usize, before: u32) -> Result<Option<Point>, ControlFault>
+fn point_at(control: &Control, index: u32, before: u32) -> Result<Option<Point>, ControlFault>
     ensures ok { IfOk result (λ point. (point ≡ point_in control.now) × (fault_in index before control.now ≡ None)
         × (before ≤ (out-Control control.now).offset)) }
     ensures err { IfErr result (λ fault. fault_in index before control.now ≡ Some fault) }
@@ -102,7 +102,10 @@ fn add_point(
         × (before ≤ (out-Control control.now).offset)) }
     ensures err { IfErr result (λ fault. (fault ≡ Memory) ⊎ (fault_in index before control.now ≡ Some fault)) }
 {
-    match point_at(control, index, before) {
+    let Ok(place) = u32::try_from(index) else {
+        return Err(ControlFault::Memory);
+    };
+    match point_at(control, place, before) {
         Ok(Some(point)) => Ok(items.push(point)?),
         Ok(None) => Ok(()),
         Err(fault) => Err(fault),
@@ -128,7 +131,7 @@ fn points_of(alloc: Global, controls: &[Control]) -> Result<Points, ControlFault
 /// control's offset in frames and the gain, in their order. Other controls give none.
 ///
 /// The controls are looked at in order, and of each first its offset, then its value, then the gain: a fault is the
-/// first one. Takes memory for the points; cost: one look at each control, and at the properties of those that carry
+/// first one. More than 2^32 controls are out of memory. Takes memory for the points; cost: one look at each control, and at the properties of those that carry
 /// any. Source: PipeWire's documentation, "SPA POD"; `spa/control/control.h`.
 pub fn controls_of(alloc: Global, pod: &Pod) -> Result<Points, ControlFault>
     ensures points { IsPointsOf pod.now result }
