@@ -102,8 +102,8 @@ pub still_behind : (points : List Point) (frame later next : ℕ) (g : ℤ) → 
     → AreBehind points later next g
 still_behind points frame later next g l behind = (behind.0, behind.1, λ i m. behind.2 i (omega arith))
 
-automated_length : (points : List Point) (channels first : ℕ) (xs : List ℤ) → length (automated points channels first xs) ≡ length xs
-automated_length points channels first xs = grind (arith, common_steps, length-enumerate_from 0 xs)
+pub length-automated : (points : List Point) (channels first : ℕ) (xs : List ℤ) → length (automated points channels first xs) ≡ length xs
+length-automated points channels first xs = grind (arith, common_steps, length-enumerate_from 0 xs)
 
 -- a stretch of frames with one gain, written behind those before it
 pub stretch_written : (points : List Point) (channels first done n : ℕ) (g : ℤ) (xs ys to new : List ℤ) (from w end : ℕ)
@@ -116,13 +116,13 @@ stretch_written points channels first done n g xs ys to new from w end some a b 
     let wide : end ≡ from + n * channels = b ∙ add-mul done n channels ∙ ap (λ m. m + n * channels) (sym a) in
     let width : w ≡ n * channels = omega (arith, wide, e) in
     let here = automated points channels first (take from xs) in
-    let long : length here ≡ from = automated_length points channels first (take from xs)
+    let long : length here ≡ from = length-automated points channels first (take from xs)
     ∙ grind (arith, common_steps, l, wide) in
     let piece = take w (drop from xs) in
     let size : length piece ≡ w = piece_length xs from w (omega (arith, wide, width, l)) in
     let last : new ≡ automated points channels (first + done) piece =
     v ∙ sym (steady points channels (first + done) n g some same 0 piece (omega (arith, size, width))) in
-    let whole : length (take from xs) ≡ done * channels = sym (automated_length points channels first (take from xs)) ∙ long ∙ a in
+    let whole : length (take from xs) ≡ done * channels = sym (length-automated points channels first (take from xs)) ∙ long ∙ a in
     let joined : here ++ new ≡ automated points channels first (take end xs) =
     ap (λ zs. here ++ zs) last ∙ sym (automated-append points channels first done (take from xs) piece some whole)
     ∙ ap (automated points channels first) (sym (take-add from w xs) ∙ ap (λ m. take m xs) (omega (arith, wide, width))) in

@@ -2,6 +2,8 @@
 #![tactic(auto)]
 
 #[cfg(test)]
+mod automation;
+#[cfg(test)]
 mod faults;
 #[cfg(test)]
 mod filters;

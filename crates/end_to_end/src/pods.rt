@@ -35,8 +35,8 @@ const UNEVEN: [u8; 24] = [
 /// A struct whose body would have 1,048,577 bytes.
 const LARGE: [u8; 8] = [1, 0, 0x10, 0, 8, 0, 0, 0];
 
-/// An Int of type 16, which is not known.
-const SEQUENCE: [u8; 16] = [8, 0, 0, 0, 0x10, 0, 0, 0, 0, 0, 0, 0, 0, 0, 0, 0];
+/// A Pointer, whose type 17 is not read.
+const POINTER: [u8; 16] = [8, 0, 0, 0, 0x11, 0, 0, 0, 0, 0, 0, 0, 0, 0, 0, 0];
 
 // Files that hold these bytes as f.pod.
 fn files_of(alloc: Global, bytes: &[u8]) -> Result<MemFiles, Memory> {
@@ -100,9 +100,9 @@ fn faults_carry_their_numbers(rt: HostRuntime) -> Result<(), Fail> {
     dumped(&rt, UNEVEN.as_slice(), uneven, "pod 1 4 0\n")?;
     let unknown = refused(PodWhy::TypeUnknown {
         offset: 4,
-        number: 16,
+        number: 17,
     });
-    dumped(&rt, SEQUENCE.as_slice(), unknown, "pod 1 2 4 16\n")
+    dumped(&rt, POINTER.as_slice(), unknown, "pod 1 2 4 17\n")
 }
 
 #[test]

@@ -1,8 +1,6 @@
 //! What is read, written and dumped of values of each type, and each fault at its place.
 
-use pod_codec::{
-    ChoiceKind, Control, Pod, PodFault, Prop, WriteFault, dump_text, read_pod, write_pod,
-};
+use pod_codec::{ChoiceKind, Pod, PodFault, WriteFault, dump_text, read_pod, write_pod};
 use pw_base::Items;
 use std::process::Abort;
 use std::test::Fail;
@@ -82,7 +80,11 @@ fn the_first_fault_is_told(rt: HostRuntime) -> Result<(), Fail> {
     choice[4] = 19;
     choice[8] = 3;
     choice[20] = 4;
+    let pointer = [0, 0, 0, 0, 17, 0, 0, 0];
     let sequence = [0, 0, 0, 0, 16, 0, 0, 0];
+    let mut control = [0; 24];
+    control[0] = 12;
+    control[4] = 16;
     let empty_text = [0, 0, 0, 0, 8, 0, 0, 0];
     let open_text = [2, 0, 0, 0, 8, 0, 0, 0, 0, 97, 0, 0, 0, 0, 0, 0];
     for (bytes, fault) in [
@@ -95,12 +97,14 @@ fn the_first_fault_is_told(rt: HostRuntime) -> Result<(), Fail> {
         (empty_text.as_slice(), PodFault::Nul { offset: 0 }),
         (open_text.as_slice(), PodFault::Nul { offset: 0 }),
         (
-            sequence.as_slice(),
+            pointer.as_slice(),
             PodFault::TypeUnknown {
                 offset: 4,
-                number: 16,
+                number: 17,
             },
         ),
+        (sequence.as_slice(), PodFault::Size { offset: 0 }),
+        (control.as_slice(), PodFault::Short { offset: 16 }),
     ] {
         let Err(found) = read_pod(alloc, bytes) else {
             panic!(rt; "bytes at fault were read");
@@ -111,37 +115,36 @@ fn the_first_fault_is_told(rt: HostRuntime) -> Result<(), Fail> {
     Ok(())
 }
 
+/// From frame 2 on, a gain of 128/256.
+const SEQUENCE: [u8; 64] = [
+    0x38, 0, 0, 0, 0x10, 0, 0, 0, 0, 0, 0, 0, 0, 0, 0, 0, 2, 0, 0, 0, 1, 0, 0, 0, 0x20, 0, 0, 0,
+    0x0f, 0, 0, 0, 2, 0, 4, 0, 2, 0, 0, 0, 1, 0, 0, 1, 0, 0, 0, 0, 4, 0, 0, 0, 4, 0, 0, 0, 0x80, 0,
+    0, 0, 0, 0, 0, 0,
+];
+
 #[test]
-fn a_sequence_has_a_text_and_no_bytes(rt: HostRuntime) -> Result<(), Fail> {
+fn a_sequence_is_read_dumped_and_written_back(rt: HostRuntime) -> Result<(), Fail> {
     let alloc = rt.alloc();
-    let mut props = Items::new(alloc);
-    props.push(Prop {
-        key: 7,
-        flags: 1,
-        value: Pod::Bool(true),
-    })?;
-    let mut controls = Items::new(alloc);
-    controls.push(Control {
-        offset: 2,
-        kind: 1,
-        value: Pod::Object {
-            object: 5,
-            id: 6,
-            props,
-        },
-    })?;
-    let sequence = Pod::Sequence { unit: 0, controls };
-    let text = dump_text(alloc, &sequence)?;
-    assert!(rt;
-        text.as_slice()
-            == b"sequence 0 1\n  control 2 1\n    object 5 6 1\n      prop 7 1\n        bool true\n".as_slice()
-    );
+    let mut padded = SEQUENCE;
+    padded[12] = 9;
+    for bytes in [SEQUENCE, padded] {
+        let (pod, length) = read_pod(alloc, bytes.as_slice())?;
+        assert_eq!(rt; length, 64);
+        assert!(rt;
+            dump_text(alloc, &pod)?.as_slice()
+                == b"sequence 0 1\n  control 2 1\n    object 262146 2 1\n      prop 16777217 0\n        int 128\n".as_slice()
+        );
+        let mut written = Items::new(alloc);
+        write_pod(alloc, &pod, &mut written)?;
+        assert!(rt; written.as_slice() == SEQUENCE.as_slice());
+    }
+    Ok(())
+}
+
+#[test]
+fn a_choice_without_values_is_written(rt: HostRuntime) -> Result<(), Fail> {
+    let alloc = rt.alloc();
     let mut bytes = Items::new(alloc);
-    let Err(fault) = write_pod(alloc, &sequence, &mut bytes) else {
-        panic!(rt; "a sequence was written");
-    };
-    assert_eq!(rt; fault.number(), WriteFault::Unwritable.number());
-    assert_eq!(rt; bytes.len(), 0);
     let none = Pod::Choice {
         kind: ChoiceKind::None,
         flags: 0,
@@ -149,6 +152,14 @@ fn a_sequence_has_a_text_and_no_bytes(rt: HostRuntime) -> Result<(), Fail> {
         values: Items::new(alloc),
     };
     write_pod(alloc, &none, &mut bytes)?;
+    assert_eq!(rt; bytes.len(), 24);
+    let mut values = Items::new(alloc);
+    values.push(Pod::Bool(true))?;
+    let other = Pod::Array { child: 4, values };
+    let Err(fault) = write_pod(alloc, &other, &mut bytes) else {
+        panic!(rt; "an array with a value of another type was written");
+    };
+    assert_eq!(rt; fault.number(), WriteFault::Unwritable.number());
     assert_eq!(rt; bytes.len(), 24);
     Ok(())
 }

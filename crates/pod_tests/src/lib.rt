@@ -1,4 +1,4 @@
-//! Tests of pod_codec and format_filter over their public calls. They stand apart, since a crate that has tests is
+//! Tests of pod_codec, control_sequence and format_filter over their public calls. They stand apart, since a crate that has tests is
 //! proved twice. There is nothing else here.
 #![tactic(auto)]
 
@@ -6,3 +6,5 @@
 mod codec;
 #[cfg(test)]
 mod formats;
+#[cfg(test)]
+mod sequences;

@@ -1,5 +1,5 @@
 -- Laws of `specs/CommandLine.antt`: from the words to the answer of their command.
-use Rattle.std.proofs.Common.{◌≡◌, ℕ, refl, inr, List, [], ◌∷◌}
+use Rattle.std.proofs.Common.{◌≡◌, refl, inr, List, [], ◌∷◌}
 use Rattle.std.specs.Prelude.{Result, Ok, Err}
 use Rattle.pw_top.specs.declared.status.Status.{Status}
 use Rattle.pw_top.specs.declared.status.Status.TheVariants as S
@@ -26,6 +26,7 @@ some_answer : (c : Result CommandLine Status) (history : List Event) (names : Na
 some_answer (Ok (C.Run c)) history names = (ended (0 ∷ []) S.Memory, short (ended (0 ∷ []) S.Memory) (refl, inr refl) refl)
 some_answer (Ok (C.Dump c)) history names = (ended (1 ∷ []) S.Memory, short (ended (1 ∷ []) S.Memory) (refl, inr refl) refl)
 some_answer (Ok (C.Filter c)) history names = (ended (1 ∷ []) S.Memory, short (ended (1 ∷ []) S.Memory) (refl, inr refl) refl)
+some_answer (Ok (C.Automate c)) history names = (ended (1 ∷ []) S.Memory, short (ended (1 ∷ []) S.Memory) (refl, inr refl) refl)
 some_answer (Err status) history names = (refused status, refl)
 
 pub answer_stop : (words : Words) (history : List Event) (names : Names) (status : Status) → IsRead (command_of words) (Err status)

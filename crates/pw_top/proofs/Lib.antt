@@ -1,4 +1,5 @@
 pub mod AllowedLemmas
+pub mod AutomateLemmas
 pub mod CommandLineLemmas
 pub mod FirstPlanLemmas
 pub mod FirstStoresLemmas

@@ -1,35 +1,33 @@
 -- ONE ANSWER: two answers of a command line that are allowed, neither out of memory, are the same.
-use Rattle.std.proofs.Common.{◌≡◌, ℕ, ◌<◌, ◌≤◌, List, [], ◌∷◌, ◌++◌, length, refl, sym, ap, subst, ◌∙◌, inl, inr, ⊎_elim, arith}
-use Rattle.std.specs.Prelude.{◌⊎◌, Option, Some, None, Result, Ok, Err}
+use Rattle.std.proofs.Common.{◌≡◌, ℕ, List, [], ◌∷◌, length, sym, ap, subst, ◌∙◌, inl, inr, ⊎_elim, arith}
+use Rattle.std.specs.Prelude.{Option, Some, None, Result, Ok, Err}
 use Rattle.pw_base.specs.declared.event.Event.{Event}
 use Rattle.pw_base.specs.declared.limit.Which.{Which}
 use Rattle.pw_base.specs.Files.{Names}
 use Rattle.pod_codec.specs.declared.pod.Pod.{Pod}
 use Rattle.pod_codec.specs.declared.pod.Pod.TheViews.{out-Pod}
-use Rattle.pod_codec.specs.declared.fault.PodFault.{PodFault}
 use Rattle.pod_codec.specs.Spelling.{FrontSpells}
 use Rattle.pod_codec.proofs.PodReadings.{reading_of, only_reading}
 use Rattle.format_filter.specs.declared.format.Format.{Format}
-use Rattle.format_filter.specs.declared.fault.FormatFault.{FormatFault}
 use Rattle.format_filter.specs.declared.common.Filtered.{Filtered}
 use Rattle.format_filter.specs.declared.common.Filtered.TheVariants.{Common, Clash, Types}
-use Rattle.format_filter.specs.CommonFormat.{Filters}
 use Rattle.format_filter.proofs.AnswerLemmas.{object_fault}
 use Rattle.format_filter.proofs.UniqueLemmas.{formats_one, object_faultless, filters_one, written_one}
+use Rattle.wav_files.specs.declared.wav.Wav.{Wav}
 use Rattle.graph_script.specs.declared.script.Line.{Line}
 use Rattle.graph_script.specs.declared.script.Script.{Script}
 use Rattle.pw_top.specs.declared.status.Status.{Status}
 use Rattle.pw_top.specs.declared.status.Status.TheVariants as S
 use Rattle.pw_top.specs.declared.status.PodWhy.TheVariants as P
-use Rattle.pw_top.specs.declared.work.Work.{Work}
 use Rattle.pw_top.specs.declared.usage.CommandLine.{CommandLine}
 use Rattle.pw_top.specs.declared.usage.CommandLine.TheVariants as C
 use Rattle.pw_top.specs.Answer.{Answer, Expected, ended, gone_on, load_outcome}
 use Rattle.pw_top.specs.Allowed.{Part, Reads, IsLoad, Binds}
 use Rattle.pw_top.specs.Allowed.Binds.{short, stops, goes}
-use Rattle.pw_top.specs.PodFile.{pod_refusal, HoldsPod}
-use Rattle.pw_top.specs.FormatFile.{IsFormatIn, IsFormatOfFile, HoldsFormat}
+use Rattle.pw_top.specs.PodFile.{pod_refusal, HoldsPod, IsReadFrom, HoldsAs}
+use Rattle.pw_top.specs.FormatFile.{IsFormatIn, HoldsFormat}
 use Rattle.pw_top.specs.Filter.{StoresObject, GivesFiltered, FiltersTo, FiltersSecond, ReadsSecond, LoadsSecond, ReadsFirst}
+use Rattle.pw_top.specs.Automate.{GivesPoints, HoldsPoints, AutomatesWave, ReadsPoints, LoadsPoints, ReadsWave}
 use Rattle.pw_top.specs.Dump.{DumpsPod, DumpsBytes}
 use Rattle.pw_top.specs.Run.{RunsBytes, RunsLines, RunsScript, ReadsScript}
 use Rattle.pw_top.specs.Usage.{Words, command_of}
@@ -151,14 +149,18 @@ module _ (place : ℕ) (bytes : List ℕ) where
   format_in_one pod (Err s) (Err t) h k =
       let fault = object_fault (out-Pod pod) h.0 k.0 h.1 k.1 in cc
 
-  format_of_file_one : (read : Result Pod Status) → OneOutcome (IsFormatOfFile place read)
-  format_of_file_one (Ok pod) x y h k = format_in_one pod x y h k
-  format_of_file_one (Err status) x y h k = h ∙ sym k
+  read_from_one : {T : Type 0} (As : Pod → Result T Status → Type 0) → ((pod : Pod) → OneOutcome (As pod)) → (read : Result Pod Status)
+      → OneOutcome (IsReadFrom As read)
+  read_from_one As one (Ok pod) x y h k = one pod x y h k
+  read_from_one As one (Err status) x y h k = h ∙ sym k
+
+  held_one : {T : Type 0} (As : Pod → Result T Status → Type 0) → ((pod : Pod) → OneOutcome (As pod)) → OneOutcome (HoldsAs As place bytes)
+  held_one As one x y h k =
+      let same = pod_one h.0 k.0 h.1 k.1 in
+      read_from_one As one k.0 x y (subst (λ r. IsReadFrom As r x) same h.2) k.2
 
   format_one : OneOutcome (HoldsFormat place bytes)
-  format_one x y h k =
-      let same = pod_one h.0 k.0 h.1 k.1 in
-      format_of_file_one k.0 x y (subst (λ r. IsFormatOfFile place r x) same h.2) k.2
+  format_one = held_one (IsFormatIn place) format_in_one
 
 -- what a filter gives
 stores_one : (out : List ℕ) (pod : Pod) → OneOutcome (StoresObject out pod)
@@ -194,6 +196,15 @@ first_one names b out bytes = binds_one (Reads (HoldsFormat 1 bytes)) (LoadsSeco
     (part_one [] (HoldsFormat 1 bytes) (format_one 1 bytes))
     (λ first. binds_one _ (ReadsSecond out first) (load_one names 2 b _ _) (second_one out first))
 
+points_one : (out : List ℕ) (wav : Wav) (bytes : List ℕ) → HasOne (ReadsPoints out wav bytes)
+points_one out wav bytes = binds_one (Reads (HoldsPoints 2 bytes)) (AutomatesWave out wav)
+    (part_one [] (HoldsPoints 2 bytes) (held_one 2 bytes (GivesPoints 2) (λ pod. outcomes_equal _)))
+    (λ points. part_one [] _ (outcomes_equal _))
+
+wave_one : (names : Names) (seq out bytes : List ℕ) → HasOne (ReadsWave names seq out bytes)
+wave_one names seq out bytes = binds_one _ (LoadsPoints names seq out) (part_one [] _ (outcomes_equal _))
+    (λ wav. binds_one _ (ReadsPoints out wav) (load_one names 2 seq _ _) (points_one out wav))
+
 run_bytes_one : (script : Script) (place : ℕ) (bytes : List ℕ) → HasOne (RunsBytes script place bytes)
 run_bytes_one script place bytes = binds_one _ _ (part_one [] _ (outcomes_equal _)) (λ wav. part_one [] _ (outcomes_equal _))
 
@@ -210,6 +221,8 @@ command_one (C.Run c) history names = binds_one _ (ReadsScript names) (load_one 
 command_one (C.Dump c) history names = binds_one _ DumpsBytes (load_one names 1 c.file _ _) dump_bytes_one
 command_one (C.Filter c) history names = binds_one _ (ReadsFirst names c.b c.out) (load_one names 1 c.a _ _)
     (first_one names c.b c.out)
+command_one (C.Automate c) history names = binds_one _ (ReadsWave names c.seq c.out) (load_one names 1 c.input _ _)
+    (wave_one names c.seq c.out)
 
 read_one : (r : Result CommandLine Status) (history : List Event) (names : Names) → HasOne (IsReadAnswer r history names)
 read_one (Ok c) history names = command_one c history names

@@ -1,6 +1,6 @@
 -- Laws of `specs/PodFile.antt`: what a read POD says of the file that held it.
-use Rattle.std.proofs.Common.{◌≡◌, ℕ, ◌≤◌, ◌<◌, List, length, true, [], refl, sym, ap, subst, inl, inr, arith, ◌∙◌}
-use Rattle.std.specs.Prelude.{◌⊎◌, Ok, Err}
+use Rattle.std.proofs.Common.{◌≡◌, ℕ, ◌≤◌, ◌<◌, List, length, true, [], refl, sym, ap, subst, inl, inr, ⊎_elim, arith, ◌∙◌}
+use Rattle.std.specs.Prelude.{◌⊎◌, Result, Ok, Err}
 use Rattle.pod_codec.specs.declared.pod.Pod.{Pod}
 use Rattle.pod_codec.specs.declared.fault.PodFault.{PodFault}
 use Rattle.pod_codec.specs.declared.fault.PodFault.TheVariants as F
@@ -12,8 +12,8 @@ use Rattle.pw_top.specs.declared.status.Status.TheVariants as S
 use Rattle.pw_top.specs.declared.status.PodWhy.TheVariants as P
 use Rattle.pw_top.specs.Ending.{Ends, is_plain}
 use Rattle.pw_top.specs.Allowed.{Reads}
-use Rattle.pw_top.specs.PodFile.{pod_refusal, HoldsPod}
-use Rattle.pw_top.proofs.AllowedLemmas.{part_gives, part_refuses, part_memory}
+use Rattle.pw_top.specs.PodFile.{pod_refusal, HoldsPod, HoldsAs}
+use Rattle.pw_top.proofs.AllowedLemmas.{part_gives, part_refuses, part_memory, part_more, reads_gives, reads_refuses}
 
 -- the file ends with its POD
 pub read_whole : (place : ℕ) (bytes : List ℕ) (pod : Pod) (size : ℕ) → FrontSpells bytes pod size → size ≡ length bytes
@@ -46,3 +46,18 @@ refused place bytes fault status e (inl memory) =
     (part_memory [] (HoldsPod place bytes))
 refused place bytes fault status e (inr h) =
     part_refuses [] (HoldsPod place bytes) status (inl (fault, h, e)) (ap is_plain e ∙ plain place fault)
+
+-- the file holds a value, which is read
+module _ {T : Type 0} (As : Pod → Result T Status → Type 0) (place : ℕ) (bytes : List ℕ) where
+  pub holds : (pod : Pod) (r : Result T Status) → Ends (Reads (HoldsPod place bytes)) (Ok pod) → Ends (Reads (As pod)) r
+      → Ends (Reads (HoldsAs As place bytes)) r
+  holds pod r held read =
+      let value = reads_gives (HoldsPod place bytes) pod held in
+      part_more [] (As pod) (HoldsAs As place bytes) r (λ outcome p. (Ok pod, value, p)) read
+
+  -- it holds none
+  pub holds_none : (status : Status) → Ends (Reads (HoldsPod place bytes)) (Err status) → Ends (Reads (HoldsAs As place bytes)) (Err status)
+  holds_none status h = ⊎_elim
+      (λ refusal. part_refuses [] (HoldsAs As place bytes) status (Err status, refusal.0, refl) refusal.1)
+      (λ memory. subst (λ s. Ends (Reads (HoldsAs As place bytes)) (Err s)) (sym memory) (part_memory [] (HoldsAs As place bytes)))
+      (reads_refuses (HoldsPod place bytes) status h)

@@ -10,12 +10,14 @@ use Rattle.pw_top.specs.Usage.{Words, command_of}
 use Rattle.pw_top.specs.Run.{IsRunAnswer}
 use Rattle.pw_top.specs.Dump.{IsDumpAnswer}
 use Rattle.pw_top.specs.Filter.{IsFilterAnswer}
+use Rattle.pw_top.specs.Automate.{IsAutomateAnswer}
 
 -- what is an answer to a command
 abbrev pub IsAnswerTo : CommandLine → List Event → Names → Answer → Type 0
 IsAnswerTo (C.Run c) history names = IsRunAnswer names c.script
 IsAnswerTo (C.Dump c) history names = IsDumpAnswer names c.file
 IsAnswerTo (C.Filter c) history names = IsFilterAnswer names c.a c.b c.out
+IsAnswerTo (C.Automate c) history names = IsAutomateAnswer names c.input c.seq c.out
 
 abbrev pub IsReadAnswer : Result CommandLine Status → List Event → Names → Answer → Type 0
 IsReadAnswer (Ok command) history names a = IsAnswerTo command history names a

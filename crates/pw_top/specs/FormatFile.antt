@@ -8,7 +8,7 @@ use Rattle.format_filter.specs.FormatReading.{IsFormatOf, IsFirstFault}
 use Rattle.pw_top.specs.declared.status.Status.{Status}
 use Rattle.pw_top.specs.declared.status.Status.TheVariants as S
 use Rattle.pw_top.specs.declared.status.PodWhy.TheVariants as P
-use Rattle.pw_top.specs.PodFile.{HoldsPod}
+use Rattle.pw_top.specs.PodFile.{HoldsAs}
 
 -- the refusal of a value that is no format
 abbrev pub format_refusal : ℕ → FormatFault → Status
@@ -26,12 +26,6 @@ IsFormatIn place pod (Ok format) = IsFormatOf pod format
 IsFormatIn place pod (Err status) = (fault : FormatFault) × IsFirstFault pod fault
     × (status ≡ format_refusal place fault)
 
--- what a file's one value is read as, where it has one
-abbrev pub IsFormatOfFile : ℕ → Result Pod Status → Result Format Status → Type 0
-IsFormatOfFile place (Ok pod) outcome = IsFormatIn place pod outcome
-IsFormatOfFile place (Err status) outcome = outcome ≡ Err status
-
 -- THE FORMAT in a file's bytes
 abbrev pub HoldsFormat : ℕ → List ℕ → Result Format Status → Type 0
-HoldsFormat place bytes outcome = (read : Result Pod Status) × HoldsPod place bytes read
-    × IsFormatOfFile place read outcome
+HoldsFormat place bytes = HoldsAs (IsFormatIn place) place bytes

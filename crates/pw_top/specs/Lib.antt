@@ -4,6 +4,7 @@ pub mod CommandLine
 pub mod Delivery
 pub mod Dump
 pub mod Ending
+pub mod Automate
 pub mod Filter
 pub mod FirstEpoch
 pub mod FirstLines

@@ -37,3 +37,12 @@ HasRest place bytes status = (pod : Pod) × (size : ℕ) × FrontSpells bytes po
 abbrev pub HoldsPod : ℕ → List ℕ → Result Pod Status → Type 0
 HoldsPod place bytes (Ok pod) = FrontSpells bytes pod (length bytes)
 HoldsPod place bytes (Err status) = IsNoPod place bytes status ⊎ HasRest place bytes status
+
+-- what a file's one value is read as, where it has one
+abbrev pub IsReadFrom : {T : Type 0} → (Pod → Result T Status → Type 0) → Result Pod Status → Result T Status → Type 0
+IsReadFrom As (Ok pod) outcome = As pod outcome
+IsReadFrom As (Err status) outcome = outcome ≡ Err status
+
+-- WHAT A FILE HOLDS, by what its one value is read as
+abbrev pub HoldsAs : {T : Type 0} → (Pod → Result T Status → Type 0) → ℕ → List ℕ → Result T Status → Type 0
+HoldsAs As place bytes outcome = (read : Result Pod Status) × HoldsPod place bytes read × IsReadFrom As read outcome

@@ -1,13 +1,12 @@
--- The grammar of command lines: so far `run SCRIPT`, `dump FILE` and `filter A B OUT`. Of words outside it, the first
--- at
--- fault; where more are wanted, their number.
+-- The grammar of command lines: so far `run SCRIPT`, `dump FILE`, `filter A B OUT` and `automate IN SEQ OUT`. Of words
+-- outside it, the first at fault; where more are wanted, their number.
 use Rattle.std.specs.Prelude.{◌≡◌, ℕ, ◌==◌, ◌&&◌, Bool, false, not, nat_le, if◌then◌else◌, List, [], ◌∷◌, length, codes, bytes_eq}
 use Rattle.std.specs.Prelude.{Result, Ok, Err}
 use Rattle.pw_top.specs.declared.status.Status.{Status}
 use Rattle.pw_top.specs.declared.status.Status.TheVariants as S
 use Rattle.pw_top.specs.declared.usage.CommandLine.{CommandLine}
 use Rattle.pw_top.specs.declared.usage.CommandLine.TheVariants as C
-use Rattle.pw_top.specs.declared.commands.filter_files.FilterFiles.{FilterFiles}
+use Rattle.pw_top.specs.declared.usage.FileWords.{FileWords}
 
 -- the words of a command line, as bytes
 abbrev pub Words : Type 0
@@ -32,9 +31,9 @@ then_nothing index (more ∷ rest) x = Err (S.Usage index)
 unfoldable pub one_file : Words → Result (List ℕ) Status
 one_file words = then_file 1 words (λ file rest. then_nothing 2 rest file)
 
-unfoldable pub three_files : Words → Result FilterFiles Status
+unfoldable pub three_files : Words → Result FileWords Status
 three_files words = then_file 1 words (λ a bs. then_file 2 bs
-    (λ b outs. then_file 3 outs (λ out rest. then_nothing 4 rest (record { a = a; b = b; out = out }))))
+    (λ b outs. then_file 3 outs (λ c rest. then_nothing 4 rest (record { first = a; second = b; third = c }))))
 
 abbrev pub run_of : Result (List ℕ) Status → Result CommandLine Status
 run_of (Ok script) = Ok (C.Run (record { script = script }))
@@ -44,9 +43,13 @@ abbrev pub dump_of : Result (List ℕ) Status → Result CommandLine Status
 dump_of (Ok file) = Ok (C.Dump (record { file = file }))
 dump_of (Err status) = Err status
 
-abbrev pub filter_of : Result FilterFiles Status → Result CommandLine Status
-filter_of (Ok files) = Ok (C.Filter files)
+abbrev pub filter_of : Result FileWords Status → Result CommandLine Status
+filter_of (Ok w) = Ok (C.Filter (record { a = w.first; b = w.second; out = w.third }))
 filter_of (Err status) = Err status
+
+abbrev pub automate_of : Result FileWords Status → Result CommandLine Status
+automate_of (Ok w) = Ok (C.Automate (record { input = w.first; seq = w.second; out = w.third }))
+automate_of (Err status) = Err status
 
 -- THE MEANING of the words
 unfoldable pub command_of : Words → Result CommandLine Status
@@ -54,7 +57,8 @@ command_of [] = Err (S.Usage 0)
 command_of (name ∷ rest) =
     if bytes_eq name (codes "run") then run_of (one_file rest)
     else (if bytes_eq name (codes "dump") then dump_of (one_file rest)
-    else (if bytes_eq name (codes "filter") then filter_of (three_files rest) else Err (S.Usage 0)))
+    else (if bytes_eq name (codes "filter") then filter_of (three_files rest)
+    else (if bytes_eq name (codes "automate") then automate_of (three_files rest) else Err (S.Usage 0))))
 
 -- the words were read as they should, or memory was short
 abbrev pub IsRead : {T : Type 0} → Result T Status → Result T Status → Type 0

@@ -1,5 +1,6 @@
 //! The commands.
 
+pub mod automate;
 pub mod dump;
 pub mod filter_files;
 pub mod run;

@@ -9,11 +9,13 @@ mod first_run;
 mod format_file;
 mod loading;
 mod pod_file;
+mod points_file;
 mod preparing;
 mod status;
 mod status_line;
 mod top;
 mod usage;
+mod wave_file;
 mod work;
 
 pub use status::{PodWhy, Status};

@@ -43,6 +43,9 @@ impl CommandLine {
             CommandLine::Filter(command) => command.prepare(
                 rt, alloc, files, gate, ticker, history,
             ),
+            CommandLine::Automate(command) => command.prepare(
+                rt, alloc, files, gate, ticker, history,
+            ),
         }
     }
 }

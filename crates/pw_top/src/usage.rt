@@ -1,8 +1,9 @@
 //! The words of a command line.
 ghost use Rattle.std.specs.Prelude.{◌≡◌, ℕ, ◌<◌, map, string_bytes, length, IfOk, Ok};
-ghost use Rattle.pw_top.specs.Usage.{is_file_word, then_file, then_nothing, one_file, three_files, run_of, dump_of, filter_of, command_of};
+ghost use Rattle.pw_top.specs.Usage.{is_file_word, then_file, then_nothing, one_file, three_files, run_of, dump_of, filter_of, automate_of, command_of};
 ghost use Rattle.pw_top.specs.Usage.{IsRead};
 
+use crate::commands::automate::AutomateFile;
 use crate::commands::dump::DumpFile;
 use crate::commands::filter_files::FilterFiles;
 use crate::commands::run::RunScript;
@@ -16,6 +17,15 @@ pub enum CommandLine {
     Run(RunScript),
     Dump(DumpFile),
     Filter(FilterFiles),
+    Automate(AutomateFile),
+}
+
+/// Three words that name files.
+#[derive(Drop)]
+struct FileWords {
+    first: Text,
+    second: Text,
+    third: Text,
 }
 
 fn is_file_word(word: &String) -> bool
@@ -58,44 +68,48 @@ fn one_file(alloc: Global, rest: &[String]) -> Result<Text, Status>
 }
 
 // Three words as the names of files.
-fn names_of(alloc: Global, a: &String, b: &String, out: &String) -> Result<FilterFiles, Status>
+fn names_of(alloc: Global, a: &String, b: &String, c: &String) -> Result<FileWords, Status>
     ensures { IsRead (Ok (record {
-      a = string_bytes a.now;
-      b = string_bytes b.now;
-      out = string_bytes out.now;
+      first = string_bytes a.now;
+      second = string_bytes b.now;
+      third = string_bytes c.now;
     })) result }
 {
-    match (name_of(alloc, a), name_of(alloc, b), name_of(alloc, out)) {
-        (Ok(a), Ok(b), Ok(out)) => Ok(FilterFiles { a, b, out }),
+    match (name_of(alloc, a), name_of(alloc, b), name_of(alloc, c)) {
+        (Ok(first), Ok(second), Ok(third)) => Ok(FileWords {
+            first,
+            second,
+            third,
+        }),
         _ => Err(Status::Memory),
     }
 }
 
 // The third file, and nothing behind it.
-fn third_file(alloc: Global, a: &String, b: &String, rest: &[String]) -> Result<FilterFiles, Status>
+fn third_file(alloc: Global, a: &String, b: &String, rest: &[String]) -> Result<FileWords, Status>
     ensures { IsRead (then_file 3 (map string_bytes rest.now)
-        (λ out rest. then_nothing 4 rest (record
-        { a = string_bytes a.now; b = string_bytes b.now; out = out }))) result }
+        (λ c rest. then_nothing 4 rest (record
+        { first = string_bytes a.now; second = string_bytes b.now; third = c }))) result }
 {
     match rest {
         [] => Err(Status::Usage { word: 3 }),
-        [out, more @ ..] => {
-            if !is_file_word(out) {
+        [c, more @ ..] => {
+            if !is_file_word(c) {
                 return Err(Status::Usage { word: 3 });
             }
             if !more.is_empty() {
                 return Err(Status::Usage { word: 4 });
             }
-            names_of(alloc, a, b, out)
+            names_of(alloc, a, b, c)
         }
     }
 }
 
 // The second file and what stands behind it.
-fn second_file(alloc: Global, a: &String, rest: &[String]) -> Result<FilterFiles, Status>
+fn second_file(alloc: Global, a: &String, rest: &[String]) -> Result<FileWords, Status>
     ensures { IsRead (then_file 2 (map string_bytes rest.now)
-        (λ b outs. then_file 3 outs (λ out rest. then_nothing 4 rest
-        (record { a = string_bytes a.now; b = b; out = out })))) result }
+        (λ b outs. then_file 3 outs (λ c rest. then_nothing 4 rest
+        (record { first = string_bytes a.now; second = b; third = c })))) result }
 {
     match rest {
         [] => Err(Status::Usage { word: 2 }),
@@ -111,7 +125,7 @@ fn second_file(alloc: Global, a: &String, rest: &[String]) -> Result<FilterFiles
 
 // The three files behind a command.
 #[tactic(auto, unfolding(crate::specs::Usage::three_files))]
-fn three_files(alloc: Global, rest: &[String]) -> Result<FilterFiles, Status>
+fn three_files(alloc: Global, rest: &[String]) -> Result<FileWords, Status>
     ensures { IsRead (three_files (map string_bytes rest.now)) result }
 {
     match rest {
@@ -151,7 +165,37 @@ fn read_filter(alloc: Global, rest: &[String]) -> Result<CommandLine, Status>
     ensures { IsRead (filter_of (three_files (map string_bytes rest.now))) result }
 {
     match three_files(alloc, rest) {
-        Ok(files) => Ok(CommandLine::Filter(files)),
+        Ok(
+            FileWords {
+                first,
+                second,
+                third,
+            },
+        ) => Ok(CommandLine::Filter(FilterFiles {
+            a: first,
+            b: second,
+            out: third,
+        })),
+        Err(status) => Err(status),
+    }
+}
+
+// `automate IN SEQ OUT`, behind its first word.
+fn read_automate(alloc: Global, rest: &[String]) -> Result<CommandLine, Status>
+    ensures { IsRead (automate_of (three_files (map string_bytes rest.now))) result }
+{
+    match three_files(alloc, rest) {
+        Ok(
+            FileWords {
+                first,
+                second,
+                third,
+            },
+        ) => Ok(CommandLine::Automate(AutomateFile {
+            input: first,
+            seq: second,
+            out: third,
+        })),
         Err(status) => Err(status),
     }
 }
@@ -170,6 +214,8 @@ pub fn read_words(alloc: Global, words: &[String]) -> Result<CommandLine, Status
                 read_dump(alloc, rest)
             } else if name.as_bytes() == b"filter".as_slice() {
                 read_filter(alloc, rest)
+            } else if name.as_bytes() == b"automate".as_slice() {
+                read_automate(alloc, rest)
             } else {
                 Err(Status::Usage { word: 0 })
             }

@@ -3,14 +3,13 @@
 
 ghost use Rattle.std.specs.Prelude.{◌≡◌, ◌≤◌, length, IfOk};
 ghost use Rattle.pw_base.specs.Limits.{script_bytes_limit, wav_bytes_limit};
-ghost use Rattle.wav_files.specs.WavReading.{wav_of};
 ghost use Rattle.wav_files.specs.WavWriting.{IsWave};
 ghost use Rattle.graph_script.specs.Grammar.{script_of};
 ghost use Rattle.pw_top.specs.FirstEpoch.{AreNumbered};
 ghost use Rattle.pw_top.specs.Allowed.{Reads};
 ghost use Rattle.pw_top.specs.Ending.{Ends, CommandCause, IsDeliverable};
 ghost use Rattle.pw_top.specs.Preparing.{LoadsOnly, Tells};
-ghost use Rattle.pw_top.specs.Refusals.{wave_outcome, script_outcome};
+ghost use Rattle.pw_top.specs.Refusals.{script_outcome};
 ghost use Rattle.pw_top.specs.Run.{RunsWave, RunsBytes, RunsSource, RunsScript, ReadsScript};
 
 use crate::first_lines::{file_of, source_line};
@@ -18,6 +17,7 @@ use crate::first_run::run_first;
 use crate::loading::load_step;
 use crate::preparing::Prepare;
 use crate::status::Status;
+use crate::wave_file::wave_step;
 use crate::work::Work;
 use graph_script::{Script, ScriptFault, parse};
 use pw_base::{
@@ -26,7 +26,7 @@ use pw_base::{
 use std::alloc::Global;
 use std::sync::Wait;
 use std::thread::Threads;
-use wav_files::{Wav, WavFault, WavIn, read_wav};
+use wav_files::{Wav, WavIn};
 
 /// Runs the script of this file.
 #[derive(Drop)]
@@ -138,23 +138,9 @@ fn run_bytes(alloc: Global, script: &Script, place: u32, bytes: &Items<u8>) -> R
     ensures done { Ends (RunsBytes script.now place bytes.now) result }
     ensures cause { CommandCause IsDeliverable 0 0 result }
 {
-    match read_wave(alloc, place, bytes) {
+    match wave_step(alloc, place, bytes) {
         Err(status) => Err(status),
         Ok(wav) => run_wave(alloc, script, wav),
-    }
-}
-
-// The wave of a source's file, or why it is refused at this line.
-fn read_wave(alloc: Global, place: u32, bytes: &Items<u8>) -> Result<Wav, Status>
-    requires small { length bytes.now ≤ wav_bytes_limit }
-    ensures told { Ends (Reads (λ outcome. outcome ≡ wave_outcome place (wav_of bytes.now))) result }
-    ensures cause { CommandCause (λ wav. Unit {0}) 0 0 result }
-    ensures wave { IfOk result IsWave }
-{
-    match read_wav(alloc, bytes.as_slice()) {
-        Err(WavFault::Memory) => Err(Status::Memory),
-        Err(why) => Err(Status::Wav { place, why }),
-        Ok(wav) => Ok(wav),
     }
 }
 

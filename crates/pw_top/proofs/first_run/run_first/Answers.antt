@@ -4,7 +4,7 @@ use Rattle.pw_base.specs.Limits.{sink_samples_limit}
 use Rattle.pw_top.specs.declared.work.Store.{Store}
 use Rattle.pw_top.specs.Ending.{IsStorable}
 use Rattle.pw_top.specs.FirstEpoch.{sink_samples}
-use Rattle.pw_top.specs.Run.{work_of, run_outcome}
+use Rattle.pw_top.specs.Run.{run_outcome}
 use Rattle.pw_top.proofs.AllowedLemmas.{part_gives}
 use Rattle.pw_top.proofs.FirstStoresLemmas.{stores_deliverable}
 use Rattle.pw_top.proofs.first_run.run_first.Goals as goal

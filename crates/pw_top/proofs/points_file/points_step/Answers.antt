@@ -1,0 +1,12 @@
+-- What the one value gives, the file gives; and it gives none where it holds none.
+use Rattle.pw_top.specs.Automate.{GivesPoints}
+use Rattle.pw_top.proofs.PodFileLemmas.{holds, holds_none}
+use Rattle.pw_top.proofs.points_file.points_step.Goals as goal
+
+pub returns-in-Ok-clause-told : goal.returns-in-Ok-clause-told
+returns-in-Ok-clause-told c = holds (GivesPoints c.args.place) c.args.place c.args.bytes.now c.in-Ok.pod c.points_of.result
+    c.in-Ok.ensures.told c.points_of.ensures.told
+
+pub returns-in-Err-clause-told : goal.returns-in-Err-clause-told
+returns-in-Err-clause-told c =
+    holds_none (GivesPoints c.args.place) c.args.place c.args.bytes.now c.in-Err.status c.in-Err.ensures.told
