@@ -10,6 +10,7 @@ mod format_file;
 mod loading;
 mod pod_file;
 mod preparing;
+mod stages;
 mod status;
 mod status_line;
 mod top;
