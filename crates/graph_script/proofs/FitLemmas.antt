@@ -1,27 +1,38 @@
 -- What a line says fits the lines before it: its numbers are in range, and its nodes and ports are there.
-use Rattle.std.proofs.Common.{◌≡◌, ℕ, ◌+◌, ◌<◌, ◌≤◌, Bool, true, false, cond, not, ◌&&◌, List, [], ◌∷◌, ◌++◌, length, refl}
-use Rattle.std.proofs.Common.{sym, subst, arith, append-nil}
-use Rattle.std.specs.Prelude.{Option, Some, None, option_map, option_to_list, IsTrue, IfSome, bytes_eq, position, nat_le, nat_lt, codes}
-use Rattle.std.specs.Prelude.{is_some, if◌then◌else◌}
-use Rattle.std.proofs.lemmas.Bool.{and_parts, leb-true, ltb-true}
-use Rattle.std.proofs.lemmas.List.Quantifiers.{position-Some}
+use Rattle.std.proofs.Common.{◌≡◌, ℕ, ◌+◌, ◌<◌, ◌≤◌, true, false, List, [], ◌∷◌, ◌++◌, length, refl, subst, arith, append-nil}
+use Rattle.std.specs.Prelude.{Option, Some, None, option_map, option_to_list, IfSome, nat_lt, ok_or, Ok, pos}
+use Rattle.std.proofs.lemmas.Bool.{ltb-true}
+use Rattle.std.proofs.lemmas.Int.{ints}
 use Rattle.pw_base.specs.declared.ids.PortId.{PortId}
 use Rattle.pw_base.specs.declared.kind.Kind.{Kind}
 use Rattle.pw_base.specs.declared.kind.Kind.TheVariants as K
-use Rattle.pw_base.specs.SoundShape.{IsBetween}
-use Rattle.pw_base.specs.KindPorts.{input_names, output_names, input_count, port_count}
+use Rattle.pw_base.specs.declared.limit.Which.TheVariants as L
+use Rattle.pw_base.specs.Limits.{rate_limit, channels_limit, quantum_limit, buffers_limit}
+use Rattle.graph_script.specs.declared.fault.ScriptWhy.TheVariants as W
+use Rattle.graph_script.specs.declared.command.Command.{Command}
 use Rattle.graph_script.specs.declared.command.Command.TheVariants as C
+use Rattle.graph_script.specs.declared.name.Name.{Name}
+use Rattle.graph_script.specs.declared.name.Name.TheVariants as N
+use Rattle.graph_script.specs.declared.script.Line.{Line}
 use Rattle.graph_script.specs.declared.reading.Made.{Made}
 use Rattle.graph_script.specs.declared.reading.Said.{Said}
 use Rattle.graph_script.specs.declared.reading.Reading.{Reading}
-use Rattle.graph_script.specs.Arguments.{◌>>=◌, number_of, is_within, is_numeral, digits_number, is_node_name, one_of, two_of, file_of}
-use Rattle.graph_script.specs.Arguments.{endpoint_parts}
-use Rattle.graph_script.specs.Nodes.{node_called, new_node, endpoint_of, kind_at, output_called, input_called}
-use Rattle.graph_script.specs.Commands.{node_and_file, quantum_of, source_of, sink_of, link_of, cycles_of, meaning_of_command}
-use Rattle.graph_script.specs.Commands.{meaning_of_words}
-use Rattle.graph_script.specs.Stages.{stage_of}
+use Rattle.graph_script.specs.Limits.{nodes_limit, epochs_limit, period_limit, amp_limit, gain_limit, delay_limit, priority_limit, loop_limit}
+use Rattle.graph_script.specs.Limits.{cycles_limit}
+use Rattle.graph_script.specs.Checked.{no_args, one_arg, two_args, three_args, five_args, number_arg, integer_arg, list_arg, file_arg}
+use Rattle.graph_script.specs.Nodes.{new_arg, node_arg, port_arg, kind_at, port_called, output_called, input_called, endpoint_arg, may_drive}
+use Rattle.graph_script.specs.Earlier.{is_linked, is_epoch, epochs_so_far, saying, making_epoch, making}
+use Rattle.graph_script.specs.NodeCommands as nodes
+use Rattle.graph_script.specs.PortCommands as ports
+use Rattle.graph_script.specs.GraphCommands as graph
+use Rattle.graph_script.specs.CommandNames.{command_called}
+use Rattle.graph_script.specs.Commands.{meaning_of_command, meaning_of_words}
 use Rattle.graph_script.specs.Ranges.{IsInRange, HasNodes}
 use Rattle.graph_script.specs.Kinds.{made_by, HasPorts}
+use Rattle.graph_script.proofs.CheckedLemmas.{from_bind, from_test, from_refusal}
+use Rattle.graph_script.proofs.RangeLemmas.{number-within, integer-within, list-within}
+use Rattle.graph_script.proofs.NodeLemmas.{IsNew, new_arg-IsNew, node_arg-there, IsPortOf, endpoint_arg-IsPortOf, port_arg-IsPortOf}
+use Rattle.graph_script.proofs.NodeLemmas.{output-found, input-found, port-found}
 
 -- how many nodes a line adds
 abbrev pub added : Option Made → ℕ
@@ -32,178 +43,302 @@ added (Some m) = 1
 pub record IsFit (reading : Reading) (said : Said) : Type 0 where
   pub range : IsInRange said.command
   pub nodes : HasNodes (length reading.script.names + added said.made) said.command
-  pub form : IfSome said.made (λ m. IsTrue (is_node_name m.name) × (length reading.script.names < 63))
+  pub form : IfSome said.made (λ m. IsNew reading m.name (length reading.script.names) × (length reading.script.names < nodes_limit))
   pub made : made_by said.command ≡ option_map (λ m. (length reading.script.names, m.kind)) said.made
   pub ports : HasPorts (reading.kinds ++ option_to_list (option_map (λ m. m.kind) said.made)) said.command
-  pub stage : 1 ≤ stage_of said.command
+  pub epochs : is_epoch said.command ≡ true → epochs_so_far reading < epochs_limit
 
-from_bind : {A B : Type 0} (o : Option A) (f : A → Option B) (y : B) → (o >>= f) ≡ Some y → (x : A) × (o ≡ Some x) × (f x ≡ Some y)
-from_bind None f y e = cc
-from_bind (Some x) f y e = (x, refl, e)
-
-from_test : {A : Type 0} (b : Bool) (x y : A) → cond b (Some x) None ≡ Some y → (b ≡ true) × (x ≡ y)
-from_test true x y e = (refl, cc)
-from_test false x y e = cc
-
-number-within : (low high n : ℕ) (word : List ℕ) → number_of low high word ≡ Some n → IsBetween low high n
-number-within low high n word e =
-    let t = from_test (is_numeral word && is_within low high (digits_number word)) (digits_number word) n e in
-    let p = and_parts (is_numeral word) (is_within low high (digits_number word)) t.0 in
-    let q = and_parts (nat_le low (digits_number word)) (nat_le (digits_number word) high) p.1 in
-    (subst (λ m. low ≤ m) t.1 (leb-true _ _ q.0), subst (λ m. m ≤ high) t.1 (leb-true _ _ q.1))
-
--- a new node has a well-formed name and the next number
-pub record IsNew (reading : Reading) (name : List ℕ) (node : ℕ) : Type 0 where
-  pub form : IsTrue (is_node_name name)
-  pub room : length reading.script.names < 63
-  pub number : node ≡ length reading.script.names
-
-new_node-IsNew : (reading : Reading) (name : List ℕ) (node : ℕ) → new_node reading name ≡ Some node → IsNew reading name node
-new_node-IsNew reading name node e =
-    let form = is_node_name name in
-    let free = not (bytes_eq name (codes "dummy")) in
-    let alone = not (is_some (node_called reading name)) in
-    let room = nat_lt (length reading.script.names) 63 in
-    let t = from_test (form && free && alone && room) (length reading.script.names) node e in
-    let p = and_parts (form && free && alone) room t.0 in
-    let q = and_parts (form && free) alone p.0 in
-    let r = and_parts form free q.0 in
-    record { form = r.0; room = ltb-true _ _ p.1; number = sym t.1 }
-
-node_and_file-IsNew : (reading : Reading) (words : List (List ℕ)) (new : ℕ × List ℕ × List ℕ) → node_and_file reading words ≡ Some new
-    → IsNew reading new.1 new.0
-node_and_file-IsNew reading words new e =
-    let args = from_bind (two_of words) _ new e in
-    let node = from_bind (new_node reading args.0.0) _ new args.2 in
-    let file = from_bind (file_of args.0.1) _ new node.2 in
-    let same : (node.0, args.0.0, file.0) ≡ new = cc in
-    subst (λ (n : ℕ × List ℕ × List ℕ). IsNew reading n.1 n.0) same (new_node-IsNew reading args.0.0 node.0 node.1)
-
-from_map : {A B : Type 0} (f : A → B) (o : Option A) (y : B) → option_map f o ≡ Some y → (x : A) × (o ≡ Some x) × (f x ≡ y)
-from_map f None y e = cc
-from_map f (Some x) y e = (x, refl, cc)
-
--- an endpoint's node is there, and its port was looked up in the node's kind
-pub record IsEndpoint (port_called : Kind → List ℕ → Option ℕ) (reading : Reading) (port : PortId) : Type 0 where
-  pub there : port.node < length reading.script.names
-  pub name : List ℕ
-  pub found : port_called (kind_at reading port.node) name ≡ Some port.port
-
-endpoint_of-IsEndpoint : (port_called : Kind → List ℕ → Option ℕ) (reading : Reading) (word : List ℕ) (port : PortId)
-    → endpoint_of port_called reading word ≡ Some port
-    → IsEndpoint port_called reading port
-endpoint_of-IsEndpoint port_called reading word port e =
-    let parts = from_bind (endpoint_parts word) _ port e in
-    let node = from_bind (node_called reading parts.0.0) _ port parts.2 in
-    let place = from_bind (port_called (kind_at reading node.0) parts.0.1) _ port node.2 in
-    let same : record { node = node.0; port = place.0 } ≡ port = cc in
-    let there = position-Some (bytes_eq parts.0.0) reading.script.names node.0 [] node.1 in
-    subst (IsEndpoint port_called reading) same (record { there = there.0; name = parts.0.1; found = place.1 })
-
-output-found : (kind : Kind) (name : List ℕ) (port : ℕ) → output_called kind name ≡ Some port → (input_count kind ≤ port)
-    × (port < port_count kind)
-output-found kind name port e =
-    let place = from_map (λ place. input_count kind + place) (position (bytes_eq name) (output_names kind)) port e in
-    let within = position-Some (bytes_eq name) (output_names kind) place.0 [] place.1 in
-    (omega (arith, place.2), omega (arith, place.2, within.0))
-
-input-found : (kind : Kind) (name : List ℕ) (port : ℕ) → input_called kind name ≡ Some port → port < input_count kind
-input-found kind name port e = (position-Some (bytes_eq name) (input_names kind) port [] e).0
-
--- each command fits
-quantum-fits : (reading : Reading) (words : List (List ℕ)) (said : Said) → quantum_of words ≡ Some said → IsFit reading said
-quantum-fits reading words said e =
-    let word = from_bind (one_of words) _ said e in
-    let n = from_bind (number_of 1 8192 word.0) _ said word.2 in
-    let same : record { command = C.Quantum n.0; made = None } ≡ said = cc in
+-- a command that makes a node
+making-fits : (reading : Reading) (command : Command) (name : List ℕ) (kind : Kind) (said : Said) (node : ℕ)
+    → new_arg reading name ≡ Ok node → making reading command name kind ≡ Ok said
+    → IsInRange command → made_by command ≡ Some (node, kind) → HasNodes (node + 1) command
+    → ((kinds : List Kind) → HasPorts kinds command) → is_epoch command ≡ false → IsFit reading said
+making-fits reading command name kind said node new e range made there ports none =
+    let is_new = new_arg-IsNew reading name node new in
+    let room = from_test (nat_lt (length reading.script.names) nodes_limit) (W.TooMany L.Nodes) _ said e in
+    let same : record { command = command; made = Some (record { name = name; kind = kind }) } ≡ said = cc (room.1) in
+    let number : node ≡ length reading.script.names = is_new.number in
     subst (IsFit reading) same (record {
-      range = number-within 1 8192 n.0 word.0 n.1;
-      nodes = tt;
-      form = tt;
-      made = refl;
-      ports = tt;
-      stage = omega arith;
+      range = range;
+      nodes = subst (λ n. HasNodes (n + 1) command) number there;
+      form = (subst (IsNew reading name) number is_new, ltb-true _ _ room.0);
+      made = subst (λ n. made_by command ≡ Some (n, kind)) number made;
+      ports = ports _;
+      epochs = λ yes. cc;
     })
 
-cycles-fits : (reading : Reading) (words : List (List ℕ)) (said : Said) → cycles_of words ≡ Some said → IsFit reading said
-cycles-fits reading words said e =
-    let word = from_bind (one_of words) _ said e in
-    let n = from_bind (number_of 1 1000000 word.0) _ said word.2 in
-    let same : record { command = C.Cycles n.0; made = None } ≡ said = cc in
+-- a command that makes none
+saying-fits : (reading : Reading) (command : Command) (said : Said) → saying command ≡ Ok said
+    → IsInRange command → HasNodes (length reading.script.names) command → made_by command ≡ None
+    → HasPorts reading.kinds command → (is_epoch command ≡ true → epochs_so_far reading < epochs_limit) → IsFit reading said
+saying-fits reading command said e range there none ports epochs =
+    let same : record { command = command; made = None } ≡ said = cc in
+    let count : length reading.script.names ≡ length reading.script.names + 0 = omega arith in
     subst (IsFit reading) same (record {
-      range = number-within 1 1000000 n.0 word.0 n.1;
-      nodes = tt;
+      range = range;
+      nodes = subst (λ n. HasNodes n command) count there;
       form = tt;
-      made = refl;
-      ports = tt;
-      stage = omega arith;
+      made = none;
+      ports = rw append-nil ports;
+      epochs = epochs;
     })
 
-source-fits : (reading : Reading) (words : List (List ℕ)) (said : Said) → source_of reading words ≡ Some said → IsFit reading said
+making_epoch-fits : (reading : Reading) (command : Command) (said : Said) → making_epoch reading command ≡ Ok said
+    → IsInRange command → HasNodes (length reading.script.names) command → made_by command ≡ None → HasPorts reading.kinds command
+    → IsFit reading said
+making_epoch-fits reading command said e range there none ports =
+    let room = from_test (nat_lt (epochs_so_far reading) epochs_limit) (W.TooMany L.Epochs) (saying command) said e in
+    saying-fits reading command said room.1 range there none ports (λ yes. ltb-true _ _ room.0)
+
+-- each command that makes a node
+source-fits : (reading : Reading) (words : List (List ℕ)) (said : Said) → nodes.source_of reading words ≡ Ok said → IsFit reading said
 source-fits reading words said e =
-    let new = from_bind (node_and_file reading words) _ said e in
-    let is_new = node_and_file-IsNew reading words new.0 new.1 in
-    let same : record { command = C.Source new.0.0 new.0.2; made = Some (record { name = new.0.1; kind = K.Source }) } ≡ said = cc in
-    subst (IsFit reading) same (record {
-      range = tt;
-      nodes = omega (arith, is_new.number);
-      form = (is_new.form, is_new.room);
-      made = rw is_new.number refl;
-      ports = tt;
-      stage = omega arith;
-    })
+    let new = from_bind (nodes.node_and_file reading words) _ said e in
+    let args = from_bind (two_args words) _ new.0 new.1 in
+    let node = from_bind (new_arg reading args.0.0) _ new.0 args.2 in
+    let file = from_bind (file_arg args.0.1) _ new.0 node.2 in
+    let same : (node.0, args.0.0, file.0) ≡ new.0 = cc (file.2) in
+    let is_new : new_arg reading new.0.1 ≡ Ok new.0.0 =
+    subst (λ (n : ℕ × List ℕ × List ℕ). new_arg reading n.1 ≡ Ok n.0) same node.1 in
+    making-fits reading (C.Source new.0.0 new.0.2) new.0.1 K.Source said new.0.0 is_new new.2 tt refl (omega arith) (λ ks. tt) refl
 
-sink-fits : (reading : Reading) (words : List (List ℕ)) (said : Said) → sink_of reading words ≡ Some said → IsFit reading said
+sink-fits : (reading : Reading) (words : List (List ℕ)) (said : Said) → nodes.sink_of reading words ≡ Ok said → IsFit reading said
 sink-fits reading words said e =
-    let new = from_bind (node_and_file reading words) _ said e in
-    let is_new = node_and_file-IsNew reading words new.0 new.1 in
-    let same : record { command = C.Sink new.0.0 new.0.2; made = Some (record { name = new.0.1; kind = K.Sink }) } ≡ said = cc in
-    subst (IsFit reading) same (record {
-      range = tt;
-      nodes = omega (arith, is_new.number);
-      form = (is_new.form, is_new.room);
-      made = rw is_new.number refl;
-      ports = tt;
-      stage = omega arith;
+    let new = from_bind (nodes.node_and_file reading words) _ said e in
+    let args = from_bind (two_args words) _ new.0 new.1 in
+    let node = from_bind (new_arg reading args.0.0) _ new.0 args.2 in
+    let file = from_bind (file_arg args.0.1) _ new.0 node.2 in
+    let same : (node.0, args.0.0, file.0) ≡ new.0 = cc (file.2) in
+    let is_new : new_arg reading new.0.1 ≡ Ok new.0.0 =
+    subst (λ (n : ℕ × List ℕ × List ℕ). new_arg reading n.1 ≡ Ok n.0) same node.1 in
+    making-fits reading (C.Sink new.0.0 new.0.2) new.0.1 K.Sink said new.0.0 is_new new.2 tt refl (omega arith) (λ ks. tt) refl
+
+square-fits : (reading : Reading) (words : List (List ℕ)) (said : Said) → nodes.square_of reading words ≡ Ok said → IsFit reading said
+square-fits reading words said e =
+    let args = from_bind (five_args words) _ said e in
+    let node = from_bind (new_arg reading args.0.0) _ said args.2 in
+    let rate = from_bind (number_arg 1 rate_limit args.0.1) _ said node.2 in
+    let channels = from_bind (number_arg 1 channels_limit args.0.2) _ said rate.2 in
+    let period = from_bind (number_arg 1 period_limit args.0.3) _ said channels.2 in
+    let amp = from_bind (number_arg 0 amp_limit args.0.4) _ said period.2 in
+    let within = number-within 0 amp_limit amp.0 args.0.4 amp.1 in
+    making-fits reading (C.Square node.0 rate.0 channels.0 period.0 (pos amp.0)) args.0.0
+    (K.Square rate.0 channels.0 period.0 (pos amp.0)) said node.0 node.1 amp.2 (
+      number-within 1 rate_limit rate.0 args.0.1 rate.1,
+      number-within 1 channels_limit channels.0 args.0.2 channels.1,
+      number-within 1 period_limit period.0 args.0.3 period.1,
+      omega (arith, ints),
+      omega (arith, ints, within.1),
+    )
+    refl (omega arith) (λ ks. tt) refl
+
+gain-fits : (reading : Reading) (words : List (List ℕ)) (said : Said) → nodes.gain_of reading words ≡ Ok said → IsFit reading said
+gain-fits reading words said e =
+    let args = from_bind (two_args words) _ said e in
+    let node = from_bind (new_arg reading args.0.0) _ said args.2 in
+    let g = from_bind (integer_arg gain_limit args.0.1) _ said node.2 in
+    making-fits reading (C.Gain node.0 g.0) args.0.0 (K.Gain g.0) said node.0 node.1 g.2
+    (integer-within gain_limit g.0 args.0.1 g.1) refl (omega arith) (λ ks. tt) refl
+
+mix2-fits : (reading : Reading) (words : List (List ℕ)) (said : Said) → nodes.mix2_of reading words ≡ Ok said → IsFit reading said
+mix2-fits reading words said e =
+    let args = from_bind (three_args words) _ said e in
+    let node = from_bind (new_arg reading args.0.0) _ said args.2 in
+    let ga = from_bind (integer_arg gain_limit args.0.1) _ said node.2 in
+    let gb = from_bind (integer_arg gain_limit args.0.2) _ said ga.2 in
+    making-fits reading (C.Mix2 node.0 ga.0 gb.0) args.0.0 (K.Mix2 ga.0 gb.0) said node.0 node.1 gb.2
+    (integer-within gain_limit ga.0 args.0.1 ga.1, integer-within gain_limit gb.0 args.0.2 gb.1)
+    refl (omega arith) (λ ks. tt) refl
+
+delay-fits : (reading : Reading) (words : List (List ℕ)) (said : Said) → nodes.delay_of reading words ≡ Ok said → IsFit reading said
+delay-fits reading words said e =
+    let args = from_bind (two_args words) _ said e in
+    let node = from_bind (new_arg reading args.0.0) _ said args.2 in
+    let frames = from_bind (number_arg 0 delay_limit args.0.1) _ said node.2 in
+    making-fits reading (C.Delay node.0 frames.0) args.0.0 (K.Delay frames.0) said node.0 node.1 frames.2
+    (number-within 0 delay_limit frames.0 args.0.1 frames.1).1 refl (omega arith) (λ ks. tt) refl
+
+map-fits : (reading : Reading) (words : List (List ℕ)) (said : Said) → nodes.map_of reading words ≡ Ok said → IsFit reading said
+map-fits reading words said e =
+    let new = from_bind (nodes.node_and_channels reading words) _ said e in
+    let args = from_bind (three_args words) _ new.0 new.1 in
+    let node = from_bind (new_arg reading args.0.0) _ new.0 args.2 in
+    let channels = from_bind (number_arg 1 channels_limit args.0.1) _ new.0 node.2 in
+    let list = from_bind (list_arg new.0.2 new.0.3) _ said new.2 in
+    let same : (node.0, args.0.0, channels.0, args.0.2) ≡ new.0 = cc (channels.2) in
+    let is_new : new_arg reading new.0.1 ≡ Ok new.0.0 =
+    subst (λ (n : ℕ × List ℕ × ℕ × List ℕ). new_arg reading n.1 ≡ Ok n.0) same node.1 in
+    let within : (1 ≤ new.0.2) × (new.0.2 ≤ channels_limit) =
+    subst (λ (n : ℕ × List ℕ × ℕ × List ℕ). (1 ≤ n.2) × (n.2 ≤ channels_limit)) same
+    (number-within 1 channels_limit channels.0 args.0.1 channels.1) in
+    let listed = list-within new.0.2 list.0 new.0.3 within.0 list.1 in
+    making-fits reading (C.Map new.0.0 new.0.2 list.0) new.0.1 (K.Map new.0.2 list.0) said new.0.0 is_new list.2
+    (within, listed.0, listed.1) refl (omega arith) (λ ks. tt) refl
+
+split-fits : (reading : Reading) (words : List (List ℕ)) (said : Said) → nodes.split_of reading words ≡ Ok said → IsFit reading said
+split-fits reading words said e =
+    let name = from_bind (one_arg words) _ said e in
+    let node = from_bind (new_arg reading name.0) _ said name.2 in
+    making-fits reading (C.Split node.0) name.0 K.Split said node.0 node.1 node.2 tt refl (omega arith) (λ ks. tt) refl
+
+meter-fits : (reading : Reading) (words : List (List ℕ)) (said : Said) → nodes.meter_of reading words ≡ Ok said → IsFit reading said
+meter-fits reading words said e =
+    let name = from_bind (one_arg words) _ said e in
+    let node = from_bind (new_arg reading name.0) _ said name.2 in
+    making-fits reading (C.Meter node.0) name.0 K.Meter said node.0 node.1 node.2 tt refl (omega arith) (λ ks. tt) refl
+
+-- each command for a port or a link
+offer-fits : (reading : Reading) (words : List (List ℕ)) (said : Said) → ports.offer_of reading words ≡ Ok said → IsFit reading said
+offer-fits reading words said e =
+    let offer = from_bind (ports.port_and_file reading words) _ said e in
+    let args = from_bind (three_args words) _ offer.0 offer.1 in
+    let port = from_bind (port_arg reading args.0.0 args.0.1) _ offer.0 args.2 in
+    let file = from_bind (file_arg args.0.2) _ offer.0 port.2 in
+    let late = from_refusal (is_linked reading port.0.node) W.OfferLate _ offer.0 file.2 in
+    let same : (port.0, file.0) ≡ offer.0 = cc (late.1) in
+    let is_port = port_arg-IsPortOf reading args.0.0 args.0.1 port.0 port.1 in
+    let there : IsPortOf port_called reading offer.0.0 =
+    subst (λ (o : PortId × List ℕ). IsPortOf port_called reading o.0) same is_port in
+    saying-fits reading (C.Offer offer.0.0 offer.0.1) said offer.2 tt (omega (arith, there.there)) refl
+    (port-found (kind_at reading offer.0.0.node) there.name offer.0.0.port there.found) (λ yes. cc)
+
+buffers-fits : (reading : Reading) (words : List (List ℕ)) (said : Said) → ports.buffers_of reading words ≡ Ok said → IsFit reading said
+buffers-fits reading words said e =
+    let args = from_bind (three_args words) _ said e in
+    let port = from_bind (port_arg reading args.0.0 args.0.1) _ said args.2 in
+    let n = from_bind (number_arg 1 buffers_limit args.0.2) _ said port.2 in
+    let there = port_arg-IsPortOf reading args.0.0 args.0.1 port.0 port.1 in
+    saying-fits reading (C.Buffers port.0 n.0) said n.2 (number-within 1 buffers_limit n.0 args.0.2 n.1) (omega (arith, there.there)) refl
+    (port-found (kind_at reading port.0.node) there.name port.0.port there.found) (λ yes. cc)
+
+-- the ends of a link are ports that are there
+pub record AreEnds (reading : Reading) (ends : PortId × PortId) : Type 0 where
+  pub from : IsPortOf output_called reading ends.0
+  pub to : IsPortOf input_called reading ends.1
+
+ends_of-AreEnds : (reading : Reading) (words : List (List ℕ)) (ends : PortId × PortId) → ports.ends_of reading words ≡ Ok ends
+    → AreEnds reading ends
+ends_of-AreEnds reading words ends e =
+    let args = from_bind (two_args words) _ ends e in
+    let from = from_bind (endpoint_arg output_called reading args.0.0) _ ends args.2 in
+    let to = from_bind (endpoint_arg input_called reading args.0.1) _ ends from.2 in
+    let same : (from.0, to.0) ≡ ends = cc (to.2) in
+    subst (AreEnds reading) same (record {
+      from = endpoint_arg-IsPortOf output_called reading args.0.0 from.0 from.1;
+      to = endpoint_arg-IsPortOf input_called reading args.0.1 to.0 to.1;
     })
 
-link-fits : (reading : Reading) (words : List (List ℕ)) (said : Said) → link_of reading words ≡ Some said → IsFit reading said
+link-fits : (reading : Reading) (words : List (List ℕ)) (said : Said) → ports.link_of reading words ≡ Ok said → IsFit reading said
 link-fits reading words said e =
-    let args = from_bind (two_of words) _ said e in
-    let from = from_bind (endpoint_of output_called reading args.0.0) _ said args.2 in
-    let to = from_bind (endpoint_of input_called reading args.0.1) _ said from.2 in
-    let same : record { command = C.Link from.0 to.0; made = None } ≡ said = cc in
-    let out = endpoint_of-IsEndpoint output_called reading args.0.0 from.0 from.1 in
-    let in_ = endpoint_of-IsEndpoint input_called reading args.0.1 to.0 to.1 in
-    subst (IsFit reading) same (record {
-      range = tt;
-      nodes = (omega (arith, out.there), omega (arith, in_.there));
-      form = tt;
-      made = refl;
-      ports = rw append-nil (
-        output-found (kind_at reading from.0.node) out.name from.0.port out.found,
-        input-found (kind_at reading to.0.node) in_.name to.0.port in_.found,
-      );
-      stage = omega arith;
-    })
+    let ends = from_bind (ports.ends_of reading words) _ said e in
+    let are = ends_of-AreEnds reading words ends.0 ends.1 in
+    saying-fits reading (C.Link ends.0.0 ends.0.1) said ends.2 tt
+    (omega (arith, are.from.there), omega (arith, are.to.there)) refl (
+      output-found (kind_at reading ends.0.0.node) are.from.name ends.0.0.port are.from.found,
+      input-found (kind_at reading ends.0.1.node) are.to.name ends.0.1.port are.to.found,
+    ) (λ yes. cc)
 
-choose : {A : Type 0} (b : Bool) (x y : Option A) (P : Option A → Type 0) → P x → P y → P (if b then x else y)
-choose true x y P h k = h
-choose false x y P h k = k
+unlink-fits : (reading : Reading) (words : List (List ℕ)) (said : Said) → ports.unlink_of reading words ≡ Ok said → IsFit reading said
+unlink-fits reading words said e =
+    let ends = from_bind (ports.ends_of reading words) _ said e in
+    let are = ends_of-AreEnds reading words ends.0 ends.1 in
+    saying-fits reading (C.Unlink ends.0.0 ends.0.1) said ends.2 tt
+    (omega (arith, are.from.there), omega (arith, are.to.there)) refl (
+      output-found (kind_at reading ends.0.0.node) are.from.name ends.0.0.port are.from.found,
+      input-found (kind_at reading ends.0.1.node) are.to.name ends.0.1.port are.to.found,
+    ) (λ yes. cc)
 
-meaning_of_command-fits : (reading : Reading) (name : List ℕ) (words : List (List ℕ)) (said : Said)
-    → meaning_of_command reading name words ≡ Some said → IsFit reading said
+-- each other command
+first_only-saying : (lines : List Line) (command : Command) (said : Said) → graph.first_only lines command ≡ Ok said
+    → saying command ≡ Ok said
+first_only-saying [] command said e = e
+first_only-saying (line ∷ lines) command said e = cc
+
+quantum-fits : (reading : Reading) (words : List (List ℕ)) (said : Said) → graph.quantum_of reading words ≡ Ok said → IsFit reading said
+quantum-fits reading words said e =
+    let word = from_bind (one_arg words) _ said e in
+    let n = from_bind (number_arg 1 quantum_limit word.0) _ said word.2 in
+    saying-fits reading (C.Quantum n.0) said (first_only-saying reading.script.lines (C.Quantum n.0) said n.2)
+    (number-within 1 quantum_limit n.0 word.0 n.1) tt refl tt (λ yes. cc)
+
+driver-fits : (reading : Reading) (words : List (List ℕ)) (said : Said) → graph.driver_of reading words ≡ Ok said → IsFit reading said
+driver-fits reading words said e =
+    let args = from_bind (two_args words) _ said e in
+    let node = from_bind (node_arg reading args.0.0) _ said args.2 in
+    let priority = from_bind (number_arg 0 priority_limit args.0.1) _ said node.2 in
+    let may = from_test (may_drive (kind_at reading node.0)) W.NotDriverKind (saying (C.Driver node.0 priority.0)) said priority.2 in
+    saying-fits reading (C.Driver node.0 priority.0) said may.1
+    (number-within 0 priority_limit priority.0 args.0.1 priority.1).1 (node_arg-there reading args.0.0 node.0 node.1) refl tt (λ yes. cc)
+
+loop-fits : (reading : Reading) (words : List (List ℕ)) (said : Said) → graph.loop_of reading words ≡ Ok said → IsFit reading said
+loop-fits reading words said e =
+    let args = from_bind (two_args words) _ said e in
+    let node = from_bind (node_arg reading args.0.0) _ said args.2 in
+    let k = from_bind (number_arg 0 loop_limit args.0.1) _ said node.2 in
+    saying-fits reading (C.Loop node.0 k.0) said k.2
+    (number-within 0 loop_limit k.0 args.0.1 k.1).1 (node_arg-there reading args.0.0 node.0 node.1) refl tt (λ yes. cc)
+
+node_of-there : (reading : Reading) (words : List (List ℕ)) (node : ℕ) → graph.node_of reading words ≡ Ok node
+    → node < length reading.script.names
+node_of-there reading words node e =
+    let name = from_bind (one_arg words) _ node e in
+    node_arg-there reading name.0 node name.2
+
+on-fits : (reading : Reading) (words : List (List ℕ)) (said : Said) → graph.on_of reading words ≡ Ok said → IsFit reading said
+on-fits reading words said e =
+    let node = from_bind (graph.node_of reading words) _ said e in
+    saying-fits reading (C.On node.0) said node.2 tt (node_of-there reading words node.0 node.1) refl tt (λ yes. cc)
+
+off-fits : (reading : Reading) (words : List (List ℕ)) (said : Said) → graph.off_of reading words ≡ Ok said → IsFit reading said
+off-fits reading words said e =
+    let node = from_bind (graph.node_of reading words) _ said e in
+    saying-fits reading (C.Off node.0) said node.2 tt (node_of-there reading words node.0 node.1) refl tt (λ yes. cc)
+
+async-fits : (reading : Reading) (words : List (List ℕ)) (said : Said) → graph.async_of reading words ≡ Ok said → IsFit reading said
+async-fits reading words said e =
+    let node = from_bind (graph.node_of reading words) _ said e in
+    let late = from_refusal (is_linked reading node.0) W.AsyncLate (saying (C.Async node.0)) said node.2 in
+    saying-fits reading (C.Async node.0) said late.1 tt (node_of-there reading words node.0 node.1) refl tt (λ yes. cc)
+
+cycles-fits : (reading : Reading) (words : List (List ℕ)) (said : Said) → graph.cycles_of reading words ≡ Ok said → IsFit reading said
+cycles-fits reading words said e =
+    let word = from_bind (one_arg words) _ said e in
+    let n = from_bind (number_arg 1 cycles_limit word.0) _ said word.2 in
+    making_epoch-fits reading (C.Cycles n.0) said n.2 (number-within 1 cycles_limit n.0 word.0 n.1) tt refl tt
+
+drain-fits : (reading : Reading) (words : List (List ℕ)) (said : Said) → graph.drain_of reading words ≡ Ok said → IsFit reading said
+drain-fits reading words said e =
+    let none = from_bind (no_args words) _ said e in
+    making_epoch-fits reading C.Drain said none.2 tt tt refl tt
+
+meaning_of_command-fits : (reading : Reading) (name : Name) (words : List (List ℕ)) (said : Said)
+    → meaning_of_command reading name words ≡ Ok said → IsFit reading said
 unfolding meaning_of_command
-meaning_of_command-fits reading name words said =
-    let P : Option Said → Type 0 = λ o. o ≡ Some said → IsFit reading said in
-    choose (bytes_eq name (codes "quantum")) _ _ P (quantum-fits reading words said)
-    (choose (bytes_eq name (codes "source")) _ _ P (source-fits reading words said)
-    (choose (bytes_eq name (codes "sink")) _ _ P (sink-fits reading words said)
-    (choose (bytes_eq name (codes "link")) _ _ P (link-fits reading words said)
-    (choose (bytes_eq name (codes "cycles")) _ None P (cycles-fits reading words said)
-    (λ e. cc)))))
+meaning_of_command-fits reading N.Quantum words said e = quantum-fits reading words said e
+meaning_of_command-fits reading N.Source words said e = source-fits reading words said e
+meaning_of_command-fits reading N.Square words said e = square-fits reading words said e
+meaning_of_command-fits reading N.Gain words said e = gain-fits reading words said e
+meaning_of_command-fits reading N.Mix2 words said e = mix2-fits reading words said e
+meaning_of_command-fits reading N.Delay words said e = delay-fits reading words said e
+meaning_of_command-fits reading N.Map words said e = map-fits reading words said e
+meaning_of_command-fits reading N.Split words said e = split-fits reading words said e
+meaning_of_command-fits reading N.Sink words said e = sink-fits reading words said e
+meaning_of_command-fits reading N.Meter words said e = meter-fits reading words said e
+meaning_of_command-fits reading N.Driver words said e = driver-fits reading words said e
+meaning_of_command-fits reading N.Loop words said e = loop-fits reading words said e
+meaning_of_command-fits reading N.Offer words said e = offer-fits reading words said e
+meaning_of_command-fits reading N.Buffers words said e = buffers-fits reading words said e
+meaning_of_command-fits reading N.Link words said e = link-fits reading words said e
+meaning_of_command-fits reading N.Unlink words said e = unlink-fits reading words said e
+meaning_of_command-fits reading N.On words said e = on-fits reading words said e
+meaning_of_command-fits reading N.Off words said e = off-fits reading words said e
+meaning_of_command-fits reading N.Async words said e = async-fits reading words said e
+meaning_of_command-fits reading N.Cycles words said e = cycles-fits reading words said e
+meaning_of_command-fits reading N.Drain words said e = drain-fits reading words said e
 
-pub meaning_of_words-fits : (reading : Reading) (words : List (List ℕ)) (said : Said) → meaning_of_words reading words ≡ Some said
+pub meaning_of_words-fits : (reading : Reading) (words : List (List ℕ)) (said : Said) → meaning_of_words reading words ≡ Ok said
     → IsFit reading said
 meaning_of_words-fits reading [] said e = cc
-meaning_of_words-fits reading (name ∷ words) said e = meaning_of_command-fits reading name words said e
+meaning_of_words-fits reading (name ∷ words) said e =
+    let command = from_bind (ok_or (command_called name) W.Command) _ said e in
+    meaning_of_command-fits reading command.0 words said command.2

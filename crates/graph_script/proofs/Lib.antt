@@ -1,5 +1,12 @@
 pub mod ArgumentLemmas
+pub mod CheckedLemmas
+pub mod CountLemmas
 pub mod FitLemmas
 pub mod GrammarLemmas
 pub mod LexicalLemmas
+pub mod ListLemmas
+pub mod MoreLemmas
+pub mod NodeLemmas
+pub mod RangeLemmas
 pub mod SoundLemmas
+pub mod TiedLemmas

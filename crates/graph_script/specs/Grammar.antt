@@ -10,15 +10,15 @@ use Rattle.graph_script.specs.declared.script.Script.{Script}
 use Rattle.graph_script.specs.declared.reading.Said.{Said}
 use Rattle.graph_script.specs.declared.reading.Reading.{Reading}
 use Rattle.graph_script.specs.Lexical.{is_allowed, lines_of, words_of, say_nothing}
+use Rattle.graph_script.specs.Checked.{checked_map}
 use Rattle.graph_script.specs.Commands.{meaning_of_words}
-use Rattle.graph_script.specs.Stages.{in_order}
 
 -- the meaning of a line by the lines before it: what it says, or nothing; or why it has none
 unfoldable pub meaning_of_line : Reading → List ℕ → Result (Option Said) ScriptWhy
 meaning_of_line reading line =
-    if not (list_all is_allowed line) then Err W.Command
+    if not (list_all is_allowed line) then Err W.Byte
     else (if say_nothing (words_of line) then Ok None
-    else in_order reading.script.lines (meaning_of_words reading (words_of line)))
+    else checked_map Some (meaning_of_words reading (words_of line)))
 
 -- what the lines have said after one more, of this number
 abbrev pub reading_after : ℕ → Reading → Option Said → Reading

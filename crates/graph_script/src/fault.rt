@@ -9,29 +9,29 @@ use pw_base::Which;
 pub enum ScriptWhy {
     /// A byte that is not allowed.
     Byte,
-    /// The first word is no command; so far, any fault of a line.
+    /// The first word is no command.
     Command,
     /// Too few words or too many.
     Arguments,
     /// A number's form or range is wrong.
     Number,
-    /// A name or a file word has the wrong form.
+    /// A name, a file word or an endpoint has the wrong form.
     NameForm,
-    /// A node has the name already.
+    /// A node has the name already, or it is `dummy`.
     NameTaken,
     /// No node has the name.
     NameUnknown,
-    /// The node has no such port.
+    /// The node's kind has no port of this name, or none on this side of a link.
     PortUnknown,
-    /// A command stands before the quantum.
+    /// A command stands on a line before the quantum.
     QuantumLate,
     /// The node is neither a sink nor a meter.
     NotDriverKind,
-    /// A link names the node already.
+    /// An earlier link line names the node.
     OfferLate,
-    /// A quantity passes its limit.
+    /// There are as many nodes, or lines `cycles` and `drain`, as there may be.
     TooMany(Which),
-    /// A link names the node already.
+    /// An earlier link line names the node.
     AsyncLate,
 }
 

@@ -1,118 +1,62 @@
 //! Lines, one after the other: what each says, by those before it.
-ghost use Rattle.std.specs.Prelude.{◌≡◌, IfOk, Ok, Some};
-ghost use Rattle.graph_script.specs.Stages.{stage_of, comes_after};
-ghost use Rattle.graph_script.specs.Grammar.{meaning_of_line, reading_after, reading_with, IsRead, start};
-ghost use Rattle.graph_script.specs.Sound.{IsSound};
+ghost use Rattle.std.specs.Prelude.{◌≡◌, ◌+◌, ◌≤◌, IfOk};
+ghost use Rattle.graph_script.specs.Grammar.{meaning_of_line, reading_with, IsRead};
+ghost use Rattle.graph_script.specs.Progress.{reading_in, AreBefore};
+ghost use Rattle.graph_script.specs.Sound.{IsTied};
 
-use crate::command::Command;
 use crate::fault::{ScriptFault, ScriptWhy};
 use crate::lexing::{is_plain, says_nothing};
-use crate::reading::{Reading, Said};
+use crate::progress::{Progress, advanced};
+use crate::reading::Said;
 use crate::saying::said_by;
-use crate::script::{Line, Script};
-use pw_base::{Items, Memory};
+use pw_base::Memory;
 use std::alloc::Global;
-
-/// What no line has said. Takes no memory.
-pub(crate) fn start(alloc: Global) -> Reading
-    ensures { result ≡ start }
-{
-    Reading {
-        script: Script {
-            lines: Items::new(alloc),
-            names: Items::new(alloc),
-        },
-        kinds: Items::new(alloc),
-    }
-}
-
-// The place of a command in the order of lines.
-fn stage_of(command: &Command) -> u8
-    ensures { result ≡ stage_of command.now }
-{
-    match command {
-        Command::Quantum { .. } => 1,
-        Command::Source { .. } => 2,
-        Command::Sink { .. } => 3,
-        Command::Link { .. } => 4,
-        Command::Cycles { .. } => 5,
-        _ => 0,
-    }
-}
-
-// Whether each line has a lower stage.
-fn comes_after(lines: &[Line], command: &Command) -> bool
-    ensures { result ≡ comes_after lines.now command.now }
-{
-    let stage = stage_of(command);
-    lines.iter().all(|l| stage_of(&l.command) < stage)
-}
 
 // What a line says, if anything, or why it has no meaning.
 #[tactic(auto, unfolding(crate::specs::Grammar::meaning_of_line))]
 fn meaning_of_line(
     alloc: Global,
-    reading: &Reading,
+    progress: &Progress,
     line: &[u8],
 ) -> Result<Result<Option<Said>, ScriptWhy>, Memory>
-    requires { IsSound reading.now }
-    ensures { IfOk result (λ meaning. meaning ≡ meaning_of_line reading.now line.now) }
+    requires { IsTied progress.now }
+    ensures { IfOk result (λ meaning. meaning ≡ meaning_of_line progress.now.reading line.now) }
 {
     if !is_plain(line) {
-        return Ok(Err(ScriptWhy::Command));
+        return Ok(Err(ScriptWhy::Byte));
     }
     if says_nothing(line) {
         return Ok(Ok(None));
     }
-    match said_by(alloc, reading, line) {
+    match said_by(alloc, progress, line) {
         Err(memory) => Err(memory),
-        Ok(None) => Ok(Err(ScriptWhy::Command)),
-        Ok(Some(said)) => {
-            if comes_after(reading.script.lines.as_slice(), &said.command) {
-                Ok(Ok(Some(said)))
-            } else {
-                Ok(Err(ScriptWhy::Command))
-            }
-        }
+        Ok(Err(why)) => Ok(Err(why)),
+        Ok(Ok(said)) => Ok(Ok(Some(said))),
     }
-}
-
-// What the lines have said with one more, of this number.
-fn extended(reading: Reading, number: u32, said: Said) -> Result<Reading, Memory>
-    ensures { IfOk result (λ after. after ≡ reading_after number reading (Some said)) }
-{
-    let mut after = reading;
-    after.script.lines.push(Line {
-        line: number,
-        command: said.command,
-    })?;
-    match said.made {
-        None => {}
-        Some(made) => {
-            after.script.names.push(made.name)?;
-            after.kinds.push(made.kind)?;
-        }
-    }
-    Ok(after)
 }
 
 /// What the lines have said after the next, or its fault.
 pub(crate) fn read_line(
     alloc: Global,
-    reading: Reading,
+    progress: Progress,
     number: u32,
     line: &[u8],
-) -> Result<Reading, ScriptFault>
-    requires { IsSound reading }
-    ensures { IsRead (reading_with number reading (meaning_of_line reading line.now)) result }
+) -> Result<Progress, ScriptFault>
+    requires tied { IsTied progress }
+    requires numbered { 1 ≤ number }
+    requires before { AreBefore number progress.reading }
+    ensures read { IsRead (reading_with number progress.reading
+        (meaning_of_line progress.reading line.now)) (reading_in result) }
+    ensures tied { IfOk result IsTied }
+    ensures before { IfOk result (λ after. AreBefore (number + 1) after.reading) }
 {
-    match meaning_of_line(alloc, &reading, line) {
+    match meaning_of_line(alloc, &progress, line) {
         Err(_memory) => Err(ScriptFault::Memory),
         Ok(Err(why)) => Err(ScriptFault::At { line: number, why }),
-        Ok(Ok(None)) => Ok(reading),
-        Ok(Ok(Some(said))) => match extended(reading, number, said) {
-            Ok(after) => Ok(after),
+        Ok(Ok(None)) => Ok(progress),
+        Ok(Ok(Some(said))) => match advanced(progress, number, said) {
             Err(_memory) => Err(ScriptFault::Memory),
+            Ok(after) => Ok(after),
         },
     }
 }

@@ -1,8 +1,11 @@
 //! Names of nodes, and file words.
 ghost use Rattle.std.specs.Prelude.{◌≡◌, ◌≤◌, length, position, bytes_eq};
 ghost use Rattle.std.specs.List.{list_all};
-ghost use Rattle.graph_script.specs.Arguments.{is_letter, is_name_byte, is_node_name, is_file_word};
+ghost use Rattle.graph_script.specs.Arguments.{is_letter, is_name_byte, is_node_name};
+ghost use Rattle.graph_script.specs.Checked.{checked_map, file_arg};
 
+use crate::fault::ScriptWhy;
+use crate::limits::{FILE_BYTES_LIMIT, NAME_REST_LIMIT};
 use crate::numbers::is_digit;
 use pw_base::{Text, place_of_name};
 
@@ -30,15 +33,21 @@ pub(crate) fn is_node_name(word: &[u8]) -> bool
 {
     match word {
         [] => false,
-        [first, rest @ ..] => is_letter(*first) && rest.len() <= 30 && all_name_bytes(rest),
+        [first, rest @ ..] => is_letter(*first)
+            && rest.len() <= NAME_REST_LIMIT
+            && all_name_bytes(rest),
     }
 }
 
-/// Whether the word may name a file.
-pub(crate) fn is_file_word(word: &[u8]) -> bool
-    ensures { result ≡ is_file_word word.now }
+/// The word, which may name a file.
+pub(crate) fn file_word(word: &[u8]) -> Result<&[u8], ScriptWhy>
+    ensures { checked_map (λ w. w.now) result ≡ file_arg word.now }
 {
-    1 <= word.len() && word.len() <= 255
+    if word.len() <= FILE_BYTES_LIMIT {
+        Ok(word)
+    } else {
+        Err(ScriptWhy::NameForm)
+    }
 }
 
 /// The place of a name among others.

@@ -1,7 +1,10 @@
 //! Numbers in decimal digits.
 ghost use Rattle.std.specs.Prelude.{◌≡◌, ℕ, ◌<◌, ◌≤◌, MatchOption};
 ghost use Rattle.std.specs.List.{list_all};
-ghost use Rattle.graph_script.specs.Arguments.{is_digit, is_numeral, digits_number, number_of};
+ghost use Rattle.graph_script.specs.Arguments.{is_digit, is_numeral, digits_number, number_of, integer_of};
+ghost use Rattle.graph_script.specs.Checked.{number_arg, integer_arg};
+
+use crate::fault::ScriptWhy;
 
 /// Whether the byte is one of 0 to 9.
 pub(crate) fn is_digit(b: u8) -> bool
@@ -54,5 +57,50 @@ pub(crate) fn number(word: &[u8], low: u32, high: u32) -> Option<u32>
     match digits_within(word, high) {
         None => None,
         Some(n) => { if low <= n { Some(n) } else { None } }
+    }
+}
+
+// A number up to `high`, or a minus sign and such a number that is not 0.
+fn integer(word: &[u8], high: u32) -> Option<i32>
+    requires { high ≤ 1000000 }
+    ensures { result ≡ integer_of high word.now }
+{
+    match word {
+        [] => None,
+        [first, digits @ ..] => {
+            if *first == b'-' {
+                match number(digits, 1, high) {
+                    None => None,
+                    Some(n) => Some(-(n as i32)),
+                }
+            } else {
+                match number(word, 0, high) {
+                    None => None,
+                    Some(n) => Some(n as i32),
+                }
+            }
+        }
+    }
+}
+
+/// The number from `low` to `high` that is meant.
+pub(crate) fn number_in(word: &[u8], low: u32, high: u32) -> Result<u32, ScriptWhy>
+    requires { high ≤ 1000000 }
+    ensures { result ≡ number_arg low high word.now }
+{
+    match number(word, low, high) {
+        None => Err(ScriptWhy::Number),
+        Some(n) => Ok(n),
+    }
+}
+
+/// The number that is meant, of at most `high` without its sign.
+pub(crate) fn integer_in(word: &[u8], high: u32) -> Result<i32, ScriptWhy>
+    requires { high ≤ 1000000 }
+    ensures { result ≡ integer_arg high word.now }
+{
+    match integer(word, high) {
+        None => Err(ScriptWhy::Number),
+        Some(n) => Ok(n),
     }
 }

@@ -1,7 +1,7 @@
 //! Ports of a kind, by name.
 ghost use Rattle.std.specs.Prelude.{◌≡◌, ℕ, ◌<◌, ◌≤◌, true, false, bytes_eq};
 ghost use Rattle.pw_base.specs.KindPorts.{port_name, port_count};
-ghost use Rattle.graph_script.specs.Nodes.{input_called, output_called};
+ghost use Rattle.graph_script.specs.Nodes.{input_called, output_called, port_called};
 
 use pw_base::Kind;
 
@@ -39,5 +39,14 @@ pub(crate) fn output_called(kind: &Kind, name: &[u8]) -> Option<u32>
     let first = kind.inputs();
     let end = first + kind.outputs();
     let port = port_from(kind, name, first, end);
+    if port < end { Some(port) } else { None }
+}
+
+/// The port of this name, an input or an output.
+pub(crate) fn port_called(kind: &Kind, name: &[u8]) -> Option<u32>
+    ensures { result ≡ port_called kind.now name.now }
+{
+    let end = kind.inputs() + kind.outputs();
+    let port = port_from(kind, name, 0, end);
     if port < end { Some(port) } else { None }
 }

@@ -18,6 +18,14 @@ pub(crate) struct Said {
     pub made: Option<Made>,
 }
 
+/// A node that a line makes, before memory is taken for its name.
+#[derive(Debug, Drop)]
+pub(crate) struct NewNode<'a> {
+    pub command: Command,
+    pub name: &'a [u8],
+    pub kind: Kind,
+}
+
 /// What the lines so far have said: their script, and the kinds of its nodes, by number.
 #[derive(Debug, Drop)]
 pub(crate) struct Reading {

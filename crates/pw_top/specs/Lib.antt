@@ -17,5 +17,6 @@ pub mod PodFile
 pub mod Preparing
 pub mod Refusals
 pub mod Run
+pub mod Stages
 pub mod StatusLine
 pub mod Usage

@@ -11,6 +11,7 @@ mod loading;
 mod pod_file;
 mod points_file;
 mod preparing;
+mod stages;
 mod status;
 mod status_line;
 mod top;

@@ -16,10 +16,11 @@ use crate::first_lines::{file_of, source_line};
 use crate::first_run::run_first;
 use crate::loading::load_step;
 use crate::preparing::Prepare;
+use crate::stages::out_of_order;
 use crate::status::Status;
 use crate::wave_file::wave_step;
 use crate::work::Work;
-use graph_script::{Script, ScriptFault, parse};
+use graph_script::{Script, ScriptFault, ScriptWhy, parse};
 use pw_base::{
     Event, Files, Gate, Items, SCRIPT_BYTES_LIMIT, Text, Ticker, WAV_BYTES_LIMIT, Which,
 };
@@ -80,7 +81,7 @@ fn run_script_bytes<F: Files>(
     }
 }
 
-// The script that the bytes are, or its first fault.
+// The script that the bytes are, where `run` takes its lines; or its first fault.
 fn read_script(alloc: Global, bytes: &Items<u8>) -> Result<Script, Status>
     requires small { length bytes.now ≤ script_bytes_limit }
     ensures told { Ends (Reads (λ outcome. outcome ≡ script_outcome (script_of bytes.now))) result }
@@ -90,7 +91,13 @@ fn read_script(alloc: Global, bytes: &Items<u8>) -> Result<Script, Status>
     match parse(alloc, bytes.as_slice()) {
         Err(ScriptFault::Memory) => Err(Status::Memory),
         Err(ScriptFault::At { line, why }) => Err(Status::Script { line, why }),
-        Ok(script) => Ok(script),
+        Ok(script) => match out_of_order(script.lines.as_slice()) {
+            None => Ok(script),
+            Some(line) => Err(Status::Script {
+                line,
+                why: ScriptWhy::Command,
+            }),
+        },
     }
 }
 

@@ -1,7 +1,7 @@
 use Rattle.std.proofs.Common.{sym}
 use Rattle.graph_script.specs.Arguments.{is_dot}
 use Rattle.graph_script.proofs.LexicalLemmas.{more_than_two}
-use Rattle.graph_script.proofs.arguments.endpoint_parts.Goals as goal
+use Rattle.graph_script.proofs.nodes.endpoint_parts.Goals as goal
 
 pub returns-in-Some-more : goal.returns-in-Some-more
 returns-in-Some-more c =

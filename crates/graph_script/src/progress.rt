@@ -1,0 +1,114 @@
+//! What the lines so far have said, and what is kept beside it so that no line looks at all lines before it.
+ghost use Rattle.std.specs.Prelude.{◌≡◌, ◌<◌, ◌≤◌, IfOk, Some};
+ghost use Rattle.graph_script.specs.Earlier.{is_linked, is_epoch};
+ghost use Rattle.graph_script.specs.Grammar.{start, reading_after};
+ghost use Rattle.graph_script.specs.Limits.{epochs_limit};
+ghost use Rattle.graph_script.specs.Progress.{marked, counted};
+ghost use Rattle.graph_script.specs.Ranges.{HasNodes};
+ghost use Rattle.graph_script.specs.Sound.{IsTied};
+
+use crate::command::Command;
+use crate::reading::{Reading, Said};
+use crate::script::{Line, Script};
+use pw_base::{Items, Memory, NODES};
+use std::alloc::Global;
+
+/// What the lines so far have said; which nodes a link line names; how many lines made an epoch.
+#[derive(Debug, Drop)]
+pub(crate) struct Progress {
+    pub reading: Reading,
+    pub linked: [bool; NODES],
+    pub epochs: u32,
+}
+
+/// What no line has said. Takes no memory.
+pub(crate) fn start(alloc: Global) -> Progress
+    ensures said { result.reading ≡ start }
+    ensures tied { IsTied result }
+{
+    let script = Script {
+        lines: Items::new(alloc),
+        names: Items::new(alloc),
+    };
+    Progress {
+        reading: Reading {
+            script,
+            kinds: Items::new(alloc),
+        },
+        linked: [false; NODES],
+        epochs: 0,
+    }
+}
+
+/// Whether an earlier link line names the node.
+pub(crate) fn is_linked(progress: &Progress, node: u32) -> bool
+    requires tied { IsTied progress.now }
+    requires there { node < 64 }
+    ensures { result ≡ is_linked progress.now.reading node }
+{
+    progress.linked[node as usize]
+}
+
+// Marks the nodes that a link line names.
+fn mark(linked: &mut [bool; NODES], command: &Command)
+    requires { HasNodes 64 command.now }
+    ensures { linked.new ≡ marked linked.old command.now }
+{
+    match command {
+        Command::Link { from, to } => {
+            linked[from.node as usize] = true;
+            linked[to.node as usize] = true;
+        }
+        _ => {}
+    }
+}
+
+// Whether a command makes an epoch.
+fn is_epoch(command: &Command) -> bool
+    ensures { result ≡ is_epoch command.now }
+{
+    matches!(command, Command::Cycles { .. } | Command::Drain)
+}
+
+// What the lines have said with one more, of this number.
+fn extended(reading: Reading, number: u32, said: Said) -> Result<Reading, Memory>
+    ensures { IfOk result (λ after. after ≡ reading_after number reading (Some said)) }
+{
+    let mut after = reading;
+    after.script.lines.push(Line {
+        line: number,
+        command: said.command,
+    })?;
+    match said.made {
+        None => {}
+        Some(made) => {
+            after.script.names.push(made.name)?;
+            after.kinds.push(made.kind)?;
+        }
+    }
+    Ok(after)
+}
+
+/// What the lines have said with one more, of this number.
+pub(crate) fn advanced(progress: Progress, number: u32, said: Said) -> Result<Progress, Memory>
+    requires there { HasNodes 64 said.command }
+    requires few { progress.epochs ≤ epochs_limit }
+    ensures said { IfOk result (λ after. after.reading ≡ reading_after number progress.reading (Some said)) }
+    ensures linked { IfOk result (λ after. after.linked ≡ marked progress.linked said.command) }
+    ensures epochs { IfOk result (λ after. after.epochs ≡ counted progress.epochs said.command) }
+{
+    let mut linked = progress.linked;
+    mark(&mut linked, &said.command);
+    let mut epochs = progress.epochs;
+    if is_epoch(&said.command) {
+        epochs += 1;
+    }
+    match extended(progress.reading, number, said) {
+        Err(memory) => Err(memory),
+        Ok(reading) => Ok(Progress {
+            reading,
+            linked,
+            epochs,
+        }),
+    }
+}
