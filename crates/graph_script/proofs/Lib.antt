@@ -5,6 +5,7 @@ pub mod FitLemmas
 pub mod GrammarLemmas
 pub mod LexicalLemmas
 pub mod ListLemmas
+pub mod MakingLemmas
 pub mod MoreLemmas
 pub mod NodeLemmas
 pub mod RangeLemmas

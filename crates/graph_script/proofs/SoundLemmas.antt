@@ -20,6 +20,7 @@ use Rattle.graph_script.specs.Commands.{meaning_of_words}
 use Rattle.graph_script.specs.Grammar.{meaning_of_line, reading_after, start}
 use Rattle.graph_script.specs.Progress.{AreBefore}
 use Rattle.graph_script.specs.Ranges.{IsInRange, HasNodes}
+use Rattle.graph_script.specs.Making.{grown, all_grown}
 use Rattle.graph_script.specs.Order.{HasOrder}
 use Rattle.graph_script.specs.Kinds.{HasKinds, HasPorts}
 use Rattle.graph_script.specs.Sound.{IsSound}
@@ -27,6 +28,7 @@ use Rattle.graph_script.proofs.NodeLemmas.{IsNew}
 use Rattle.graph_script.proofs.FitLemmas.{added, IsFit, meaning_of_words-fits}
 use Rattle.graph_script.proofs.MoreLemmas.{HasNodes-more, HasPorts-more, made-after}
 use Rattle.graph_script.proofs.CountLemmas.{epochs-push}
+use Rattle.graph_script.proofs.MakingLemmas.{names-push, all_grown-push, grown-added, fit-makes}
 
 -- the names and the kinds after a line: as many more as it adds
 length-added : {X : Type 0} (xs : List X) (f : Made → X) (made : Option Made)
@@ -63,14 +65,16 @@ count-after reading (Some m) le h = omega (arith, h.1)
 
 -- the order of lines and names after one more
 order-after : (number : ℕ) (reading : Reading) (said : Said) → AreBefore number reading → HasOrder reading.script → IsFit reading said
+    → all_grown 0 reading.script.lines ≡ length reading.script.names
     → HasOrder (reading_after number reading (Some said)).script
-order-after number reading said before order fit =
+order-after number reading said before order fit grown =
     let line : Line = record { line = number; command = said.command } in
     record {
       ascend = all_pairs_push (λ a b. a.line < b.line) reading.script.lines line order.ascend (λ k d lt. before k d lt);
       distinct = distinct-after reading said.made order.distinct fit.form;
       other = other-after reading said.made order.other fit.form;
       epochs = epochs-push reading.script.lines line order.epochs fit.epochs;
+      made = names-push 0 reading.script.lines line order.made (rw grown (fit-makes reading said fit));
     }
 
 pub reading_after-sound : (number : ℕ) (reading : Reading) (said : Said) → 1 ≤ number → AreBefore number reading → IsSound reading
@@ -79,20 +83,22 @@ reading_after-sound number reading said one before sound fit =
     let count = length reading.script.names in
     let line : Line = record { line = number; command = said.command } in
     let more = option_to_list (option_map (λ m. m.kind) said.made) in
-    let grown : length (reading.script.names ++ option_to_list (option_map (λ m. m.name) said.made)) ≡ count + added said.made =
+    let grown_names : length (reading.script.names ++ option_to_list (option_map (λ m. m.name) said.made)) ≡ count + added said.made =
     length-added reading.script.names (λ m. m.name) said.made in
     record {
       script = record {
         numbered = All-push (λ l. 1 ≤ l.line) reading.script.lines line sound.script.numbered one;
         ranges = All-push (λ l. IsInRange l.command) reading.script.lines line sound.script.ranges fit.range;
-        nodes = rw grown (All-push (λ l. HasNodes (count + added said.made) l.command) reading.script.lines line
+        nodes = rw grown_names (All-push (λ l. HasNodes (count + added said.made) l.command) reading.script.lines line
             (λ k d lt. HasNodes-more count (count + added said.made) _ (omega arith) (sound.script.nodes k d lt)) fit.nodes);
-        count = rw grown (count-after reading said.made sound.script.count fit.form);
+        count = rw grown_names (count-after reading said.made sound.script.count fit.form);
         names = names-after reading said.made sound.script.names fit.form;
       };
-      order = order-after number reading said before sound.order fit;
+      order = order-after number reading said before sound.order fit sound.grown;
       made = made-after reading.script.lines line reading.kinds said.made sound.made (rw sound.named fit.made);
-      named = length-added reading.kinds (λ m. m.kind) said.made ∙ ap (λ n. n + added said.made) sound.named ∙ sym grown;
+      grown = all_grown-push 0 reading.script.lines line ∙ ap (λ n. grown n said.command) sound.grown
+          ∙ grown-added reading said fit ∙ sym grown_names;
+      named = length-added reading.kinds (λ m. m.kind) said.made ∙ ap (λ n. n + added said.made) sound.named ∙ sym grown_names;
       ports = All-push (λ l. HasPorts (reading.kinds ++ more) l.command) reading.script.lines line
           (λ k d lt. HasPorts-more reading.kinds more _ (rw sound.named (sound.script.nodes k d lt)) (sound.ports k d lt))
           fit.ports;
@@ -139,8 +145,10 @@ start-sound = record {
     distinct = λ i j d l m. absurd (omega (arith, m));
     other = All-nil _;
     epochs = omega arith;
+    made = tt;
   };
   made = refl;
+  grown = refl;
   named = refl;
   ports = All-nil _;
 }

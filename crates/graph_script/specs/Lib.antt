@@ -9,6 +9,7 @@ pub mod GraphCommands
 pub mod Kinds
 pub mod Lexical
 pub mod Limits
+pub mod Making
 pub mod NodeCommands
 pub mod Nodes
 pub mod Order

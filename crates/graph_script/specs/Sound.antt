@@ -5,6 +5,7 @@ use Rattle.graph_script.specs.declared.reading.Reading.{Reading}
 use Rattle.graph_script.specs.declared.progress.Progress.{Progress}
 use Rattle.graph_script.specs.Earlier.{is_linked, epochs_so_far}
 use Rattle.graph_script.specs.Kinds.{made_of, HasPorts}
+use Rattle.graph_script.specs.Making.{all_grown}
 use Rattle.graph_script.specs.Order.{HasOrder}
 use Rattle.graph_script.specs.Ranges.{HasRanges}
 
@@ -13,6 +14,7 @@ pub record IsSound (reading : Reading) : Type 0 where
   pub script : HasRanges reading.script
   pub order : HasOrder reading.script
   pub made : made_of reading.script.lines ≡ enumerate_from 0 reading.kinds
+  pub grown : all_grown 0 reading.script.lines ≡ length reading.script.names
   pub named : length reading.kinds ≡ length reading.script.names
   pub ports : All (λ l. HasPorts reading.kinds l.command) reading.script.lines
 

@@ -1,0 +1,45 @@
+-- Laws of `specs/Making.antt`: one line more.
+use Rattle.std.proofs.Common.{◌≡◌, ℕ, ◌+◌, List, [], ◌∷◌, ◌++◌, length, refl, sym, ap, subst, ◌∙◌, arith}
+use Rattle.std.specs.Prelude.{Option, Some, None, IfSome, option_map}
+use Rattle.std.specs.Option.{option_map_or}
+use Rattle.pw_base.specs.declared.kind.Kind.{Kind}
+use Rattle.graph_script.specs.declared.script.Line.{Line}
+use Rattle.graph_script.specs.declared.reading.Made.{Made}
+use Rattle.graph_script.specs.declared.reading.Said.{Said}
+use Rattle.graph_script.specs.declared.reading.Reading.{Reading}
+use Rattle.graph_script.specs.Kinds.{made_by}
+use Rattle.graph_script.specs.Ranges.{HasNodes}
+use Rattle.graph_script.specs.Making.{grown, all_grown, MakesNext, NamesMade}
+use Rattle.graph_script.proofs.FitLemmas.{added, IsFit}
+
+pub all_grown-push : (count : ℕ) (ls : List Line) (l : Line) → all_grown count (ls ++ l ∷ []) ≡ grown (all_grown count ls) l.command
+all_grown-push count [] l = refl
+all_grown-push count (x ∷ xs) l = all_grown-push (grown count x.command) xs l
+
+pub names-push : (count : ℕ) (ls : List Line) (l : Line) → NamesMade count ls → MakesNext (all_grown count ls) l.command
+    → NamesMade count (ls ++ l ∷ [])
+names-push count [] l h more = (more, tt)
+names-push count (x ∷ xs) l h more = (h.0, names-push (grown count x.command) xs l h.1 more)
+
+-- as many more as a line adds
+grown_by : (count : ℕ) (made : Option Made)
+    → option_map_or {T = ℕ × Kind} (λ m. m.0 + 1) (option_map (λ (m : Made). (count, m.kind)) made) count ≡ count + added made
+grown_by count None = omega arith
+grown_by count (Some m) = refl
+
+next_by : (count : ℕ) (made : Option Made) → IfSome {T = ℕ × Kind} (option_map (λ (m : Made). (count, m.kind)) made) (λ m. m.0 ≡ count)
+next_by count None = tt
+next_by count (Some m) = refl
+
+pub grown-added : (reading : Reading) (said : Said) → IsFit reading said
+    → grown (length reading.script.names) said.command ≡ length reading.script.names + added said.made
+grown-added reading said fit =
+    ap (λ (m : Option (ℕ × Kind)). option_map_or (λ x. x.0 + 1) m (length reading.script.names)) fit.made
+    ∙ grown_by (length reading.script.names) said.made
+
+pub fit-makes : (reading : Reading) (said : Said) → IsFit reading said → MakesNext (length reading.script.names) said.command
+fit-makes reading said fit = (
+  subst (λ (m : Option (ℕ × Kind)). IfSome m (λ x. x.0 ≡ length reading.script.names)) (sym fit.made)
+      (next_by (length reading.script.names) said.made),
+  subst (λ n. HasNodes n said.command) (sym (grown-added reading said fit)) fit.nodes,
+)

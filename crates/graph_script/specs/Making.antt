@@ -1,0 +1,23 @@
+-- Making: each line makes the next node or none, and names only nodes that it or a line before it makes. This project's.
+use Rattle.std.specs.Prelude.{◌≡◌, ℕ, ◌+◌, List, [], ◌∷◌, IfSome, fold}
+use Rattle.std.specs.Option.{option_map_or}
+use Rattle.graph_script.specs.declared.command.Command.{Command}
+use Rattle.graph_script.specs.declared.script.Line.{Line}
+use Rattle.graph_script.specs.Kinds.{made_by}
+use Rattle.graph_script.specs.Ranges.{HasNodes}
+
+-- how many nodes there are after a line, and after lines
+abbrev pub grown : ℕ → Command → ℕ
+grown count command = option_map_or (λ m. m.0 + 1) (made_by command) count
+
+abbrev pub all_grown : ℕ → List Line → ℕ
+all_grown count lines = fold (λ n l. grown n l.command) count lines
+
+-- a line makes the next node or none, and its nodes are there then
+abbrev pub MakesNext : ℕ → Command → Type 0
+MakesNext count command = IfSome (made_by command) (λ m. m.0 ≡ count) × HasNodes (grown count command) command
+
+-- so does each line, where there are so many nodes before the first
+abbrev pub NamesMade : ℕ → List Line → Type 0
+NamesMade count [] = Unit {0}
+NamesMade count (l ∷ ls) = MakesNext count l.command × NamesMade (grown count l.command) ls
