@@ -1,0 +1,46 @@
+-- What a script, its ports and its waves meet before a plan is made of them.
+-- Source: this project's script grammar.
+use Rattle.std.specs.Prelude.{◌≡◌, ℕ, ◌+◌, ◌==◌, List, [], ◌∷◌, All, Some, None, IfSome, count_by}
+use Rattle.std.specs.Option.{option_map_or}
+use Rattle.pw_base.specs.declared.kind.Kind.TheVariants.{Source}
+use Rattle.wav_files.specs.declared.wav.WavIn.{WavIn}
+use Rattle.graph_script.specs.declared.command.Command.{Command}
+use Rattle.graph_script.specs.declared.script.Line.{Line}
+use Rattle.graph_script.specs.Kinds.{made_by}
+use Rattle.graph_script.specs.Ranges.{HasNodes}
+use Rattle.port_model.specs.declared.port_state.Node.{Node}
+use Rattle.port_model.specs.PortState.{AtPort, kind_of}
+use Rattle.port_model.specs.Offers.{int_of}
+use Rattle.port_model.specs.Forms.{value_at}
+use Rattle.port_model.specs.SoundPorts.{AreSoundNodes}
+use Rattle.graph_lines.specs.Forms.{HasKinds}
+use Rattle.graph_lines.specs.Start.{kinds_of}
+
+-- how many nodes there are after a line
+abbrev pub grown : ℕ → Command → ℕ
+grown count command = option_map_or (λ m. m.0 + 1) (made_by command) count
+
+-- from so many nodes on, a line makes the next node or none, and names only nodes that are there then
+abbrev pub NamesMade : ℕ → List Line → Type 0
+NamesMade count [] = Unit {0}
+NamesMade count (l ∷ ls) = IfSome (made_by l.command) (λ m. m.0 ≡ count)
+    × HasNodes (grown count l.command) l.command × NamesMade (grown count l.command) ls
+
+-- the nodes of the lines by number, whose ports have own offers of their kinds, no format and no count of buffers
+pub record AreScriptPorts (lines : List Line) (nodes : List Node) : Type 0 where
+  pub kinds : HasKinds nodes (kinds_of lines)
+  pub sound : AreSoundNodes nodes
+  pub unused : All (λ n. All (λ s. (s.format ≡ None) × (s.buffers ≡ None)) n.ports) nodes
+
+-- a wave is that of a source, with the one rate and the one number of channels of its port's own offer
+pub record IsWaveFor (nodes : List Node) (wave : WavIn) : Type 0 where
+  pub source : kind_of nodes wave.node ≡ Some Source
+  pub rate : AtPort nodes (record { node = wave.node; port = 0 })
+      (λ node s. value_at s.own.fields 65539 ≡ Some (int_of wave.wav.rate))
+  pub channels : AtPort nodes (record { node = wave.node; port = 0 })
+      (λ node s. value_at s.own.fields 65540 ≡ Some (int_of wave.wav.channels))
+
+-- one wave for each source, and no other
+pub record HaveWaves (nodes : List Node) (waves : List WavIn) : Type 0 where
+  pub each : All (IsWaveFor nodes) waves
+  pub one : (node : ℕ) → kind_of nodes node ≡ Some Source → count_by (λ w. w.node == node) waves ≡ 1

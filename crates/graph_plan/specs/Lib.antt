@@ -1,0 +1,11 @@
+pub mod Conditions
+pub mod Following
+pub mod PlanOf
+pub mod Planned
+pub mod Joining
+pub mod Reaching
+pub mod SoundWires
+pub mod Remembering
+pub mod SoundGraph
+pub mod NextEpoch
+pub mod Summing
