@@ -18,3 +18,5 @@ pub mod LinkLineLemmas
 pub mod NodeLineLemmas
 pub mod UnlinkLineLemmas
 pub mod StepLemmas
+pub mod StartLemmas
+pub mod SoundPlanLemmas
