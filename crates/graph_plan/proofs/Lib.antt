@@ -20,3 +20,4 @@ pub mod UnlinkLineLemmas
 pub mod StepLemmas
 pub mod StartLemmas
 pub mod SoundPlanLemmas
+pub mod OwnLemmas

@@ -39,7 +39,7 @@ shared_stays node j t format key sound after here free h = go (is_shared_key nod
   go false e = not_shared (taken node j format) key e ∙ sym (not_shared node key e)
 
 -- a value within an own offer that is one value
-within_value : (own format : Format) (key : ℕ) (v : Pod) → IsWithin own format key → value_at own.fields key ≡ Some v
+pub within_value : (own format : Format) (key : ℕ) (v : Pod) → IsWithin own format key → value_at own.fields key ≡ Some v
     → value_at format.fields key ≡ Some v
 within_value own format key v w e =
     let has = field_with own.fields key v e in

@@ -19,7 +19,7 @@ use Rattle.graph_lines.specs.declared.standing.Standing.{Standing}
 use Rattle.graph_lines.specs.Activity.{standing}
 use Rattle.graph_lines.specs.EpochLines.{RunsFor, Steps}
 use Rattle.graph_lines.specs.Lines.{with_node, made, prior, looped, switched_on, switched_off, Marks}
-use Rattle.graph_plan.specs.Conditions.{grown, NamesMade}
+use Rattle.graph_plan.specs.Conditions.{grown, NamesMade, AreLinesOf}
 use Rattle.graph_plan.specs.Following.{Follows}
 use Rattle.graph_plan.specs.SoundGraph.{IsSoundGraph}
 use Rattle.graph_plan.proofs.EpochLemmas.{runs_sound}
@@ -149,31 +149,32 @@ step_kinds waves g after C.Drain h = kinds_run g after h.0 h.2
 -- ALL LINES
 pub record AreGoodLines (count : ℕ) (kinds : List Kind) (lines : List Line) : Type 0 where
   pub named : NamesMade count lines
-  pub ranges : All (λ l. IsInRange l.command) lines
-  pub ports : All (λ l. HasPorts kinds l.command) lines
-  pub nodes : All (λ l. HasNodes (length kinds) l.command) lines
+  pub lines_of : AreLinesOf kinds lines
 
 pub good_first : (count : ℕ) (kinds : List Kind) (l : Line) (ls : List Line) → AreGoodLines count kinds (l ∷ ls) → IsGoodLine count kinds l.command
 good_first count kinds l ls h = record {
   next = h.named.0;
   named = h.named.1;
-  range = All-head (λ (x : Line). IsInRange x.command) l ls h.ranges;
-  ports = All-head (λ (x : Line). HasPorts kinds x.command) l ls h.ports;
-  nodes = All-head (λ (x : Line). HasNodes (length kinds) x.command) l ls h.nodes;
+  range = All-head (λ (x : Line). IsInRange x.command) l ls h.lines_of.ranges;
+  ports = All-head (λ (x : Line). HasPorts kinds x.command) l ls h.lines_of.ports;
+  nodes = All-head (λ (x : Line). HasNodes (length kinds) x.command) l ls h.lines_of.nodes;
 }
 
 pub good_rest : (count : ℕ) (kinds : List Kind) (l : Line) (ls : List Line) → AreGoodLines count kinds (l ∷ ls)
     → AreGoodLines (grown count l.command) kinds ls
 good_rest count kinds l ls h = record {
   named = h.named.2;
-  ranges = All-tail (λ (x : Line). IsInRange x.command) l ls h.ranges;
-  ports = All-tail (λ (x : Line). HasPorts kinds x.command) l ls h.ports;
-  nodes = All-tail (λ (x : Line). HasNodes (length kinds) x.command) l ls h.nodes;
+  lines_of = record {
+    ranges = All-tail (λ (x : Line). IsInRange x.command) l ls h.lines_of.ranges;
+    ports = All-tail (λ (x : Line). HasPorts kinds x.command) l ls h.lines_of.ports;
+    nodes = All-tail (λ (x : Line). HasNodes (length kinds) x.command) l ls h.lines_of.nodes;
+  };
 }
 
-pub record EndsSound (end : Graph) : Type 0 where
+pub record EndsSound (kinds : List Kind) (end : Graph) : Type 0 where
   pub count : ℕ
   pub sound : IsSoundGraph count end
+  pub kinds_are : end.kinds ≡ kinds
 
 -- one answer
 ok_same : {A E : Type 0} (x y : A) → ◌≡◌ {A = Result A E} (Ok x) (Ok y) → x ≡ y
@@ -188,12 +189,15 @@ follows_end g end e = ok_same {E = ℕ × Which} end g e
 pub no_stop : (end : Graph) (line : ℕ) (which : Which) → ◌≡◌ {A = Result Graph (ℕ × Which)} (Ok end) (Err (line, which)) → ⊥
 no_stop end line which e = ok_no_err {A = Graph} end (line, which) e
 
-pub follows_sound : (waves : List WavIn) (lines : List Line) (count : ℕ) (g end : Graph) → IsSoundGraph count g → AreGoodLines count g.kinds lines
-    → Follows waves g lines (Ok end) → EndsSound end
-follows_sound waves [] count g end sound good h =
-    record { count = count; sound = subst (IsSoundGraph count) (sym (follows_end g end h)) sound }
-follows_sound waves (l ∷ ls) count g end sound good (inl h) =
-    follows_sound waves ls (grown count l.command) h.0 end (step_sound waves count g h.0 l.command sound (good_first count g.kinds l ls good) h.1)
-    (subst (λ (ks : List Kind). AreGoodLines (grown count l.command) ks ls) (sym (step_kinds waves g h.0 l.command h.1))
-    (good_rest count g.kinds l ls good)) h.2
-follows_sound waves (l ∷ ls) count g end sound good (inr h) = absurd (no_stop end l.line h.0 h.3)
+pub follows_sound : (waves : List WavIn) (kinds : List Kind) (lines : List Line) (count : ℕ) (g end : Graph) → IsSoundGraph count g
+    → g.kinds ≡ kinds → AreGoodLines count kinds lines → Follows waves g lines (Ok end) → EndsSound kinds end
+follows_sound waves kinds [] count g end sound same good h = record {
+  count = count;
+  sound = subst (IsSoundGraph count) (sym (follows_end g end h)) sound;
+  kinds_are = ap (λ (x : Graph). x.kinds) (follows_end g end h) ∙ same;
+}
+follows_sound waves kinds (l ∷ ls) count g end sound same good (inl h) =
+    follows_sound waves kinds ls (grown count l.command) h.0 end (step_sound waves count g h.0 l.command sound
+    (subst (λ (ks : List Kind). IsGoodLine count ks l.command) (sym same) (good_first count kinds l ls good)) h.1)
+    (step_kinds waves g h.0 l.command h.1 ∙ same) (good_rest count kinds l ls good) h.2
+follows_sound waves kinds (l ∷ ls) count g end sound same good (inr h) = absurd (no_stop end l.line h.0 h.3)

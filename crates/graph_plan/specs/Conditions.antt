@@ -1,13 +1,14 @@
 -- What a script, its ports and its waves meet before a plan is made of them.
 -- Source: this project's script grammar.
-use Rattle.std.specs.Prelude.{◌≡◌, ℕ, ◌+◌, ◌==◌, List, [], ◌∷◌, All, Some, None, IfSome, count_by}
+use Rattle.std.specs.Prelude.{◌≡◌, ℕ, ◌+◌, ◌==◌, List, [], ◌∷◌, length, All, Some, None, IfSome, count_by}
 use Rattle.std.specs.Option.{option_map_or}
+use Rattle.pw_base.specs.declared.kind.Kind.{Kind}
 use Rattle.pw_base.specs.declared.kind.Kind.TheVariants.{Source}
 use Rattle.wav_files.specs.declared.wav.WavIn.{WavIn}
 use Rattle.graph_script.specs.declared.command.Command.{Command}
 use Rattle.graph_script.specs.declared.script.Line.{Line}
-use Rattle.graph_script.specs.Kinds.{made_by}
-use Rattle.graph_script.specs.Ranges.{HasNodes}
+use Rattle.graph_script.specs.Kinds.{made_by, HasPorts}
+use Rattle.graph_script.specs.Ranges.{IsInRange, HasNodes}
 use Rattle.port_model.specs.declared.port_state.Node.{Node}
 use Rattle.port_model.specs.PortState.{AtPort, kind_of}
 use Rattle.port_model.specs.Offers.{int_of}
@@ -25,6 +26,12 @@ abbrev pub NamesMade : ℕ → List Line → Type 0
 NamesMade count [] = Unit {0}
 NamesMade count (l ∷ ls) = IfSome (made_by l.command) (λ m. m.0 ≡ count)
     × HasNodes (grown count l.command) l.command × NamesMade (grown count l.command) ls
+
+-- the numbers, the nodes and the ports of each line are in range and there, where the nodes have these kinds
+pub record AreLinesOf (kinds : List Kind) (lines : List Line) : Type 0 where
+  pub ranges : All (λ l. IsInRange l.command) lines
+  pub ports : All (λ l. HasPorts kinds l.command) lines
+  pub nodes : All (λ l. HasNodes (length kinds) l.command) lines
 
 -- the nodes of the lines by number, whose ports have own offers of their kinds, no format and no count of buffers
 pub record AreScriptPorts (lines : List Line) (nodes : List Node) : Type 0 where
