@@ -1,4 +1,5 @@
--- What an epoch is put together from: the active nodes as a row, and the forms, links and fresh nodes so far.
+-- What an epoch is put together from: the active nodes as a row, and forms, links and fresh nodes
+-- so far.
 -- Source: this project's own.
 use Rattle.std.specs.Prelude.{◌≡◌, ◌↔◌, ◌⊎◌, ℕ, ◌+◌, ◌<◌, ◌&&◌, min, Bool, true, List, AllPairs, Contains, IsTrue, length, filter}
 use Rattle.std.specs.List.{AllZip}
@@ -44,7 +45,8 @@ abbrev pub IsEarlier : PortId → PortId → Type 0
 IsEarlier p q = (p.node < q.node) ⊎ ((p.node ≡ q.node) × (p.port < q.port))
 
 -- FORMS SO FAR: those of the ports before one, of the nodes that are in
-pub record HasFormsBefore (ports : List Node) (here : List Bool) (end : PortId) (forms : List PortForm) : Type 0 where
+pub record HasFormsBefore (ports : List Node) (here : List Bool) (end : PortId)
+    (forms : List PortForm) : Type 0 where
   pub ascend : AllPairs (λ f h. IsTrue (is_before f.port h.port)) forms
   pub each : (port : PortId) (rate channels : ℕ)
       → Contains forms (record { port = port; rate = rate; channels = channels })

@@ -42,7 +42,7 @@ newcomer n = record {
   ran = 0;
 }
 
--- the ports of the nodes that lines make are of their kinds and sound, and the quantum is in its range
+-- the ports are those of the nodes that lines make, and sound; the quantum is in its range
 pub record MayStart (script : List Line) (with_ports : List Node) : Type 0 where
   pub quantum : IsBetween 1 quantum_limit (quantum_of script)
   pub kinds : HasKinds with_ports (kinds_of script)

@@ -89,8 +89,8 @@ impl Graph {
         Stepped::Done
     }
 
-    // What a line does that makes no epoch. `quantum` and `offer` lines change nothing here: they were taken before the
-    // first line.
+    // What a line does that makes no epoch. `quantum` and `offer` lines change nothing here: they were
+    // taken before the first line.
     pub(crate) fn set_by(&mut self, command: &Command) -> Result<Stepped, Memory>
         requires line { MayDo self.old command.now }
         requires few { length self.old.nodes ≤ 63 }

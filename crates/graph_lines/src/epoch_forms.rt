@@ -39,7 +39,8 @@ impl Graph {
     fn add_forms(&self, here: &[bool], node: u32, forms: &mut Items<PortForm>) -> Result<(), Memory>
         requires sound { HasReadyNodes self.now.nodes self.now.kinds self.now.ports }
         requires active { is_in here.now node ≡ true }
-        requires forms { HasFormsBefore self.now.ports here.now (record { node = node; port = 0 }) forms.old }
+        requires forms { HasFormsBefore self.now.ports here.now
+            (record { node = node; port = 0 }) forms.old }
         ensures { OnOk result (HasFormsBefore self.now.ports here.now
             (record { node = node + 1; port = 0 }) forms.new) }
     {

@@ -33,7 +33,7 @@ impl Graph {
         }
     }
 
-    // The cycles of a `drain` line, of which those above the limit of events are left out: each cycle has three events.
+    // The cycles of a `drain` line, at most one more than there may be events: a cycle has three.
     fn cycles_left(&self, waves: &Items<WavIn>) -> Result<u32, Memory>
         requires sound { IsReady self.now }
         requires channels { All (λ w. 1 ≤ w.wav.channels) waves.now }
@@ -68,16 +68,21 @@ impl Graph {
         }
     }
 
-    /// What a line of a script does to the graph before it. `cycles` and `drain` lines make an epoch of what the graph is
-    /// then, unless they have no cycle; the other lines change the graph. `waves` are those of the sources.
+    /// What a line of a script does. `cycles` and `drain` lines make an epoch of what the graph is
+    /// then, unless they have no cycle; the other lines change the graph, and `quantum` and `offer`
+    /// lines do nothing, since they were taken before the first line. `waves` are those of the sources.
     ///
-    /// `Passed`: a `link` line where 256 links are there, or an epoch with which the events, the samples of sinks or the
-    /// bytes of blocks pass their limit, in this order. After it and after `Memory` the graph is to be dropped.
+    /// `Passed`: a `link` line that has no other outcome where 256 links are there, or an epoch with
+    /// which the events, the samples of sinks or the bytes of blocks pass their limit, looked at in
+    /// this order. After it and after `Memory` the graph is to be dropped.
+    ///
+    /// Public source: PipeWire's documentation, "Graph Scheduling"; the lines are this project's.
     pub fn step(&mut self, command: &Command, waves: &Items<WavIn>) -> Result<Stepped, Memory>
         requires sound { IsReady self.old }
         requires line { MayStep self.old command.now }
         requires channels { All (λ w. 1 ≤ w.wav.channels) waves.now }
-        ensures line { IfOk result (λ stepped. Steps waves.now self.old command.now stepped self.new) }
+        ensures line { IfOk result
+            (λ stepped. Steps waves.now self.old command.now stepped self.new) }
 
         // Where the line is done, the next one may follow.
         ensures sound { IfOk result (λ stepped. stepped ≡ Done → IsReady self.new) }
