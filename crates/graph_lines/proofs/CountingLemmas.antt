@@ -115,3 +115,8 @@ numbers_yes here n e = numbers_more here n ∙ ap (λ (b : Bool). numbers_in her
 
 pub numbers_no : (here : List Bool) (n : ℕ) → is_in here n ≡ false → numbers_in here (n + 1) ≡ numbers_in here n
 numbers_no here n e = numbers_more here n ∙ (ap (λ (b : Bool). numbers_in here n ++ cond b (n ∷ []) []) e ∙ append-nil (numbers_in here n))
+
+-- the numbers of nodes hold a number just where one of the nodes has it
+pub any_number : (nodes : List ShapeNode) (n : ℕ) → list_any (λ m. m.node == n) nodes ≡ list_any (λ m. m == n) (map (λ m. m.node) nodes)
+any_number [] n = refl
+any_number (m ∷ ms) n = ap (λ (b : Bool). (m.node == n) || b) (any_number ms n)

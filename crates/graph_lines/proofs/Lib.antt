@@ -7,3 +7,13 @@ pub mod BitLemmas
 pub mod WireLemmas
 pub mod DrainingLemmas
 pub mod StartLemmas
+pub mod PortLemmas
+pub mod GatheringLemmas
+pub mod FreshLemmas
+pub mod EpochLemmas
+pub mod StandingLemmas
+pub mod ReadyWireLemmas
+pub mod ReadyLinkLemmas
+pub mod ReadyUnlinkLemmas
+pub mod AfterLemmas
+pub mod StepLemmas

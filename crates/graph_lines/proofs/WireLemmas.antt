@@ -4,6 +4,7 @@ use Rattle.std.specs.Prelude.{Result, Ok, Err, IfOk}
 use Rattle.std.specs.List.{list_any}
 use Rattle.std.proofs.lemmas.List.{map-append}
 use Rattle.pw_base.specs.declared.ids.PortId.{PortId}
+use Rattle.pw_base.specs.declared.limit.Which.TheVariants as W
 use Rattle.pw_base.specs.declared.memory.Memory.{Memory}
 use Rattle.graph_script.specs.declared.command.Command.{Command}
 use Rattle.graph_script.specs.declared.command.Command.TheVariants as C
@@ -30,11 +31,11 @@ any_wire [] n = refl
 any_wire (w ∷ ws) n = ap (λ (b : Bool). ((w.from.node == n) || (w.to.node == n)) || b) (any_wire ws n)
 
 -- a graph with the same links
-same_wires : (g after : Graph) → after.wires ≡ g.wires → after.links.made ≡ g.links.made → AreWired g → AreWired after
+pub same_wires : (g after : Graph) → after.wires ≡ g.wires → after.links.made ≡ g.links.made → AreWired g → AreWired after
 same_wires g after e d w = ap (map (λ (x : Wire). link_of x.from x.to)) e ∙ (w ∙ sym d)
 
 -- a link taken away, on both sides
-without_map : (from to : PortId) (wires : List Wire) → map (λ w. link_of w.from w.to) (wires_without from to wires)
+pub without_map : (from to : PortId) (wires : List Wire) → map (λ w. link_of w.from w.to) (wires_without from to wires)
     ≡ without from to (map (λ w. link_of w.from w.to) wires)
 without_map from to [] = refl
 without_map from to (w ∷ ws) = go (not (joins from to (link_of w.from w.to))) (wires_without from to ws)
@@ -44,7 +45,7 @@ without_map from to (w ∷ ws) = go (not (joins from to (link_of w.from w.to))) 
       go true xs ys e = ap (λ (zs : List Link). link_of w.from w.to ∷ zs) e
       go false xs ys e = e
 
-links_wired : (g after : Graph) (from to : PortId) (linked : Linked) (stepped : Stepped)
+pub links_wired : (g after : Graph) (from to : PortId) (linked : Linked) (stepped : Stepped)
     → LeavesLink g.links g.ports from to linked after.links after.ports → IsRecorded g from to linked stepped after → stepped ≡ T.Done
     → AreWired g → AreWired after
 links_wired g after from to (L.Made format buffers) stepped l r e w =
@@ -55,9 +56,11 @@ links_wired g after from to (L.NoFormat key) stepped l r e w = same_wires g afte
 links_wired g after from to L.NoBuffers stepped l r e w = same_wires g after r.1 (ap (λ (s : LinkState). s.made) l.0) w
 links_wired g after from to L.Twice stepped l r e w = same_wires g after r.1 (ap (λ (s : LinkState). s.made) l.0) w
 links_wired g after from to L.Loop stepped l r e w = same_wires g after r.1 (ap (λ (s : LinkState). s.made) l.0) w
-links_wired g after from to L.Many stepped l r e w = cc
+links_wired g after from to L.Many stepped l r e w = absurd (passes_not (sym e ∙ r.0)) where
+  passes_not : T.Done ≡ T.Passed W.Links → ⊥
+  passes_not d = cc
 
-unlinks_wired : (g after : Graph) (from to : PortId) (keep : ℕ) (unlinked : Unlinked)
+pub unlinks_wired : (g after : Graph) (from to : PortId) (keep : ℕ) (unlinked : Unlinked)
     → HasUnlinked g.links g.ports from to keep unlinked after.links after.ports → IsTakenAway g from to unlinked after
     → AreWired g → AreWired after
 unlinks_wired g after from to keep U.NotThere h t w = same_wires g after t.0 (ap (λ (s : LinkState). s.made) h.1) w

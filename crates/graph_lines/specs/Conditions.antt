@@ -23,3 +23,9 @@ MayDo g (C.Unlink from to) = IsOutput g.ports from × IsInput g.ports to
 MayDo g (C.Cycles n) = ⊥
 MayDo g C.Drain = ⊥
 MayDo g command = HasNodes (length g.nodes) command
+
+-- any line may stand where one that makes no epoch may
+abbrev pub MayStep : Graph → Command → Type 0
+MayStep g (C.Cycles n) = Unit {0}
+MayStep g C.Drain = Unit {0}
+MayStep g command = MayDo g command

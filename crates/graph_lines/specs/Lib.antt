@@ -11,3 +11,5 @@ pub mod Start
 pub mod Fresh
 pub mod Epochs
 pub mod EpochLines
+pub mod Ready
+pub mod Gathering

@@ -34,7 +34,8 @@ IsRecorded g from to (L.NoFormat key) stepped after = NotesAlone g from to (O.No
 IsRecorded g from to L.NoBuffers stepped after = NotesAlone g from to O.NoBuffers stepped after
 IsRecorded g from to L.Twice stepped after = NotesAlone g from to O.Twice stepped after
 IsRecorded g from to L.Loop stepped after = NotesAlone g from to O.Looped stepped after
-IsRecorded g from to L.Many stepped after = stepped ≡ T.Passed W.Links
+IsRecorded g from to L.Many stepped after =
+    (stepped ≡ T.Passed W.Links) × (after.wires ≡ g.wires) × (after.lines ≡ g.lines)
 
 -- LINK LINE: the outcome of the link, what stands behind it, and what is noted; nodes and epochs stay
 pub record LinksLine (g : Graph) (from to : PortId) (stepped : Stepped) (after : Graph) : Type 0 where

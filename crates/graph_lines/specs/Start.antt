@@ -3,13 +3,17 @@
 use Rattle.std.specs.Prelude.{◌≡◌, ℕ, true, false, List, [], ◌∷◌, map, length, replicate, None}
 use Rattle.std.specs.List.{range_with_len}
 use Rattle.pw_base.specs.declared.kind.Kind.{Kind}
+use Rattle.pw_base.specs.Limits.{quantum_limit}
+use Rattle.pw_base.specs.SoundShape.{IsBetween}
 use Rattle.graph_script.specs.declared.command.Command.{Command}
 use Rattle.graph_script.specs.declared.command.Command.TheVariants as C
 use Rattle.graph_script.specs.declared.script.Line.{Line}
 use Rattle.graph_script.specs.Kinds.{made_of}
 use Rattle.port_model.specs.declared.port_state.Node.{Node}
+use Rattle.port_model.specs.SoundPorts.{AreSoundNodes}
 use Rattle.graph_lines.specs.declared.graph.Graph.{Graph}
 use Rattle.graph_lines.specs.declared.standing.Standing.{Standing}
+use Rattle.graph_lines.specs.Forms.{HasKinds}
 
 -- QUANTUM of a script: that of a `quantum` line, which stands first; 1024 without one
 abbrev pub quantum_in : Command → ℕ
@@ -37,6 +41,12 @@ newcomer n = record {
   kept = false;
   ran = 0;
 }
+
+-- the ports are those of the nodes that lines make, and sound; the quantum is in its range
+pub record MayStart (script : List Line) (with_ports : List Node) : Type 0 where
+  pub quantum : IsBetween 1 quantum_limit (quantum_of script)
+  pub kinds : HasKinds with_ports (kinds_of script)
+  pub ports : AreSoundNodes with_ports
 
 -- START: all nodes are there with their ports, and no link, no line and no epoch
 pub record IsStart (script : List Line) (with_ports : List Node) (g : Graph) : Type 0 where

@@ -40,14 +40,6 @@ fn has_wire(wires: &[Wire], node: u32) -> bool
 }
 
 impl Graph {
-    // What is said of a node.
-    fn standing(&self, node: u32) -> Standing
-        requires { node < length self.now.nodes }
-        ensures { result ≡ standing self.now.nodes node }
-    {
-        self.nodes.as_slice()[node as usize]
-    }
-
     // Puts what is said of a node.
     fn put_standing(&mut self, node: u32, standing: Standing) -> Stepped
         requires { node < length self.old.nodes }
@@ -97,8 +89,9 @@ impl Graph {
         Stepped::Done
     }
 
-    // What a line does that makes no epoch.
-    fn do_line(&mut self, command: &Command) -> Result<Stepped, Memory>
+    // What a line does that makes no epoch. `quantum` and `offer` lines change nothing here: they were
+    // taken before the first line.
+    pub(crate) fn set_by(&mut self, command: &Command) -> Result<Stepped, Memory>
         requires line { MayDo self.old command.now }
         requires few { length self.old.nodes ≤ 63 }
         requires wired { AreWired self.old }
@@ -140,18 +133,5 @@ impl Graph {
             Command::Unlink { from, to } => self.unlink_line(*from, *to),
             _ => Ok(Stepped::Done),
         }
-    }
-
-    /// What a line does that makes no epoch: one that makes a node, `driver`, `loop`, `on`, `off`, `async`, `buffers`,
-    /// `link` and `unlink`. `quantum` and `offer` lines change nothing here: they were taken before the first line. A
-    /// `link` line passes a limit where there are 256 links. After `Memory` or a limit the graph is to be dropped.
-    pub fn set_by(&mut self, command: &Command) -> Result<Stepped, Memory>
-        requires line { MayDo self.old command.now }
-        requires few { length self.old.nodes ≤ 63 }
-        requires wired { AreWired self.old }
-        ensures line { IfOk result (λ stepped. Does self.old command.now stepped self.new) }
-        ensures wired { IfOk result (λ stepped. stepped ≡ Done → AreWired self.new) }
-    {
-        self.do_line(command)
     }
 }

@@ -1,9 +1,9 @@
 //! How many cycles a `drain` line has.
 ghost use Rattle.std.specs.Prelude.{◌≡◌, ◌≤◌, max, All};
-ghost use Rattle.graph_lines.specs.Searching.{is_in};
 ghost use Rattle.graph_lines.specs.Activity.{standing};
 ghost use Rattle.graph_lines.specs.Draining.{frames_of, rest_cycles, drain_cycles};
 
+use crate::shaping::is_in;
 use crate::standing::Standing;
 use pw_base::Items;
 use wav_files::WavIn;
@@ -45,16 +45,6 @@ fn greater(a: u64, b: u64) -> u64
     a.max(b)
 }
 
-// Whether a node is active.
-fn is_active(active: &[bool], node: u32) -> bool
-    ensures { result ≡ is_in active.now node }
-{
-    match active.get(node as usize) {
-        Some(is_active) => *is_active,
-        None => false,
-    }
-}
-
 /// How many cycles it takes until each active source has given all its frames, a quantum in each cycle; 0 without one.
 /// Of each number `active` says whether that node is active. Takes no memory; cost: one look at each wave.
 pub fn drain_cycles(quantum: u32, nodes: &[Standing], active: &[bool], waves: &Items<WavIn>) -> u64
@@ -64,7 +54,7 @@ pub fn drain_cycles(quantum: u32, nodes: &[Standing], active: &[bool], waves: &I
 {
     let mut most = 0;
     for wave in waves.as_slice() {
-        if is_active(active, wave.node) {
+        if is_in(active, wave.node) {
             most = greater(most, rest_cycles(quantum, nodes, wave));
         }
     }

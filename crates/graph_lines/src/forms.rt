@@ -1,7 +1,7 @@
 //! The forms that ports have in an epoch.
 ghost use Rattle.std.specs.Prelude.{◌≡◌, ◌<◌, ℕ, MatchOption, slice_index_or};
 ghost use Rattle.pw_base.specs.declared.kind.Kind.TheVariants.{Dummy};
-ghost use Rattle.pw_base.specs.KindPorts.{input_count};
+ghost use Rattle.pw_base.specs.KindPorts.{input_count, port_count};
 ghost use Rattle.port_model.specs.PortState.{IsPort, AtPort};
 ghost use Rattle.graph_lines.specs.Activity.{may_drive};
 ghost use Rattle.graph_lines.specs.Forms.{HasKinds, FormIn, IsFormIn};
@@ -30,4 +30,24 @@ pub fn form_in(ports: &Ports, kinds: &[Kind], port: PortId) -> Option<(u32, u32)
         return None;
     }
     ports.sound(port)
+}
+
+// How many inputs a node has.
+pub(crate) fn input_count(kinds: &[Kind], node: u32) -> u32
+    ensures { result ≡ input_count (slice_index_or kinds.now node Dummy) }
+{
+    match kinds.get(node as usize) {
+        Some(kind) => kind.inputs(),
+        None => 0,
+    }
+}
+
+// How many ports a node has.
+pub(crate) fn port_count(kinds: &[Kind], node: u32) -> u32
+    ensures { result ≡ port_count (slice_index_or kinds.now node Dummy) }
+{
+    match kinds.get(node as usize) {
+        Some(kind) => kind.inputs() + kind.outputs(),
+        None => 0,
+    }
 }

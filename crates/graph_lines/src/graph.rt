@@ -1,5 +1,7 @@
 //! The graph as the lines so far have made it.
-ghost use Rattle.std.specs.Prelude.{◌≡◌, ◌++◌, ◌∷◌, [], OnOk};
+ghost use Rattle.std.specs.Prelude.{◌≡◌, ◌<◌, ◌≤◌, ◌++◌, ◌∷◌, [], length, OnOk};
+ghost use Rattle.graph_lines.specs.Activity.{standing};
+ghost use Rattle.graph_lines.specs.Ready.{HasReadyNodes};
 
 use crate::limits::Sums;
 use crate::standing::Standing;
@@ -49,4 +51,23 @@ pub(crate) fn note(
     ensures { OnOk result (lines.new ≡ lines.old ++ record { from = from; to = to; outcome = outcome } ∷ []) }
 {
     lines.push(LinkLine { from, to, outcome })
+}
+
+impl Graph {
+    // What is said of a node.
+    pub(crate) fn standing(&self, node: u32) -> Standing
+        requires { node < length self.now.nodes }
+        ensures { result ≡ standing self.now.nodes node }
+    {
+        self.nodes.as_slice()[node as usize]
+    }
+
+    // How many nodes there are.
+    pub(crate) fn node_count(&self) -> u32
+        requires { HasReadyNodes self.now.nodes self.now.kinds self.now.ports }
+        ensures count { result ≡ length self.now.nodes }
+        ensures few { result ≤ 63 }
+    {
+        self.nodes.len() as u32
+    }
 }

@@ -5,16 +5,10 @@ ghost use Rattle.pw_base.specs.Pools.{asked};
 ghost use Rattle.pw_base.specs.PlanSums.{capped, epoch_events};
 ghost use Rattle.graph_lines.specs.Sums.{form_samples, is_sink_form, sink_samples, link_bytes, block_bytes, IsJudged};
 
-use pw_base::{Epoch, Kind, PortForm, ShapeLink, Which, is_sink};
-
-/// The most events of a run.
-const EVENTS_LIMIT: u64 = 4_194_304;
-
-/// The most samples of all sinks of a run.
-const SINK_SAMPLES_LIMIT: u64 = 134_217_728;
-
-/// The most bytes of all blocks of all epochs.
-const BLOCK_BYTES_LIMIT: u64 = 268_435_456;
+use pw_base::{
+    BLOCK_BYTES_LIMIT, EVENTS_LIMIT, Epoch, Kind, PortForm, SINK_SAMPLES_LIMIT, ShapeLink, Which,
+    is_sink,
+};
 
 /// What the epochs so far add up to.
 #[derive(Clone, Copy, Debug, PartialEq, Eq, Drop)]

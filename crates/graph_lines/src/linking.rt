@@ -2,6 +2,8 @@
 ghost use Rattle.std.specs.Prelude.{◌≡◌, IfOk, IsSome};
 ghost use Rattle.port_model.specs.PortState.{IsPort, IsInput, IsOutput, AtPort};
 ghost use Rattle.port_model.specs.Forms.{HasForm};
+ghost use Rattle.port_model.specs.SoundPorts.{AreSoundNodes};
+ghost use Rattle.graph_lines.specs.Forms.{FormIn};
 ghost use Rattle.graph_lines.specs.LinkLines.{LinksLine};
 
 use crate::graph::{Graph, Stepped, note};
@@ -11,10 +13,12 @@ use port_model::Ports;
 use pw_base::{LineOutcome, Memory, PortId, Which};
 
 // The form of a port that has its format.
-fn form_at(ports: &Ports, port: PortId) -> (u32, u32)
+pub(crate) fn form_at(ports: &Ports, port: PortId) -> (u32, u32)
     requires port { IsPort ports.now port }
     requires format { AtPort ports.now port (λ node s. IsSome s.format) }
-    ensures { AtPort ports.now port (λ node s. HasForm node s result.0 result.1) }
+    ensures form { AtPort ports.now port (λ node s. HasForm node s result.0 result.1) }
+    ensures here { FormIn ports.now port result.0 result.1 }
+    ensures nodes { AreSoundNodes ports.now }
 {
     match ports.sound(port) {
         Some(form) => form,

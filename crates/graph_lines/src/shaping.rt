@@ -4,6 +4,8 @@ mod activity;
 mod counting;
 mod driving;
 
+pub(crate) use activity::is_live;
 pub use activity::{active_nodes, live_wires};
+pub(crate) use counting::is_in;
 pub use counting::{bare_nodes, counted};
 pub use driving::{Candidate, driver_of};

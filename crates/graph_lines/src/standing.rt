@@ -16,7 +16,7 @@ pub struct Standing {
     pub gave_up: bool,
     /// The channels of its first input in the epoch before, or 0.
     pub told: u32,
-    /// It was active in a cycle in which it had a form.
+    /// It is a sink that was active in a cycle in which it had a form.
     pub kept: bool,
     /// How many cycles it was active in.
     pub ran: u32,

@@ -2,8 +2,8 @@
 ghost use Rattle.std.specs.Prelude.{◌≡◌, ◌≤◌, map, length, option_map, IfOk};
 ghost use Rattle.std.specs.List.{range_with_len};
 ghost use Rattle.graph_script.specs.Kinds.{made_by};
-ghost use Rattle.graph_lines.specs.Conditions.{AreWired};
-ghost use Rattle.graph_lines.specs.Start.{quantum_of, kinds_of, newcomer, IsStart};
+ghost use Rattle.graph_lines.specs.Ready.{IsReady};
+ghost use Rattle.graph_lines.specs.Start.{quantum_of, kinds_of, newcomer, MayStart, IsStart};
 
 use crate::graph::Graph;
 use crate::limits::Sums;
@@ -106,12 +106,10 @@ fn newcomers(alloc: Global, count: usize) -> Result<Items<Standing>, Memory>
 }
 
 impl Graph {
-    /// The graph before the first of these lines, with the ports of all their nodes, which are at most 63. A node that
-    /// no line has made yet is on and has no link.
-    pub fn start(alloc: Global, lines: &[Line], ports: Ports) -> Result<Graph, Memory>
+    // The graph before the first of these lines.
+    fn before(alloc: Global, lines: &[Line], ports: Ports) -> Result<Graph, Memory>
         requires { length (kinds_of lines.now) ≤ 63 }
-        ensures start { IfOk result (IsStart lines.now ports) }
-        ensures wired { IfOk result AreWired }
+        ensures { IfOk result (IsStart lines.now ports) }
     {
         let kinds = kinds_of(alloc, lines)?;
         let nodes = newcomers(alloc, kinds.len())?;
@@ -133,5 +131,15 @@ impl Graph {
                 bytes: 0,
             },
         })
+    }
+
+    /// The graph before the first of these lines, with the ports of all their nodes, narrowed by their
+    /// offers. A node that no line has made yet is on and has no link.
+    pub fn start(alloc: Global, lines: &[Line], ports: Ports) -> Result<Graph, Memory>
+        requires { MayStart lines.now ports }
+        ensures start { IfOk result (IsStart lines.now ports) }
+        ensures sound { IfOk result IsReady }
+    {
+        Graph::before(alloc, lines, ports)
     }
 }

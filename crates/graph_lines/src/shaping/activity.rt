@@ -19,7 +19,7 @@ fn is_on(nodes: &[Standing], node: u32) -> bool
 }
 
 // Whether both nodes of a link are on.
-fn is_live(nodes: &[Standing], wire: &Wire) -> bool
+pub(crate) fn is_live(nodes: &[Standing], wire: &Wire) -> bool
     ensures { result ≡ is_live nodes.now wire.now }
 {
     is_on(nodes, wire.from.node) && is_on(nodes, wire.to.node)

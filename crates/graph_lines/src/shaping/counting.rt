@@ -11,7 +11,7 @@ use pw_base::{Items, Memory, NODES, Shape, ShapeLink, ShapeNode};
 use std::alloc::Global;
 
 // Whether a node is in.
-fn is_in(here: &[bool], node: u32) -> bool
+pub(crate) fn is_in(here: &[bool], node: u32) -> bool
     ensures { result ≡ is_in here.now node }
 {
     match here.get(node as usize) {
