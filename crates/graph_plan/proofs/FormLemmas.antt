@@ -72,8 +72,7 @@ pub formatted_form : (nodes : List Node) → AreSoundNodes nodes → (port : Por
     → IsFormatted nodes port rate channels → FormIn nodes port rate channels
 formatted_form nodes sound port rate channels is has =
     let t = there nodes port sound is in
-    let f = at_port (λ (node : Node) (s : PortState). HasFormat rate channels s) nodes port t.node t.state t.node_is t.state_is has in
-    (
+    let f = at_port (λ (node : Node) (s : PortState). HasFormat rate channels s) nodes port t.node t.state t.node_is t.state_is has in (
       is,
       port_at (IsFormOf rate channels) nodes port t.node t.state t.node_is t.state_is (
         (own_value t.node t.state 65539 f.format f.has ∙ f.rate_is, own_value t.node t.state 65540 f.format f.has ∙ f.channels_is),

@@ -21,3 +21,8 @@ pub mod StepLemmas
 pub mod StartLemmas
 pub mod SoundPlanLemmas
 pub mod OwnLemmas
+pub mod FollowingLemmas
+pub mod EndLemmas
+pub mod FitLemmas
+pub mod ScriptLemmas
+pub mod NodesLemmas

@@ -2,7 +2,7 @@
 use Rattle.std.proofs.Common.{◌≡◌, ◌⊎◌, inl, inr, ℕ, zero, suc, ◌<◌, ◌≤◌, List, [], ◌∷◌, length, get_or, map, Bool, true, false}
 use Rattle.std.proofs.Common.{Option, Some, None, refl, sym, ap, ◌∙◌, subst, arith}
 use Rattle.std.specs.Prelude.{slice_get, IfSome, option_map, if◌then◌else◌}
-use Rattle.std.specs.Option.{option_or}
+use Rattle.std.specs.Option.{option_or, option_map_or}
 use Rattle.std.proofs.lemmas.Option.{same_Some, none-some, slice_get_within}
 use Rattle.pod_codec.specs.declared.pod.Pod.{Pod}
 use Rattle.pw_base.specs.declared.ids.PortId.{PortId}
@@ -18,6 +18,7 @@ use Rattle.port_model.specs.Offers.{int_of}
 use Rattle.port_model.specs.Forms.{value_at, shared_value, value_of}
 use Rattle.port_model.specs.SoundPorts.{IsWithin, IsTaken, IsSoundPort, IsSoundNode, AreSoundNodes}
 use Rattle.port_model.proofs.NodeLemmas.{at_place, at_port}
+use Rattle.port_model.proofs.FormLemmas.{channels_in_range}
 use Rattle.port_model.proofs.SharingLemmas.{shared_origin}
 use Rattle.port_model.proofs.TakingLemmas.{first_stands}
 use Rattle.port_model.proofs.ValueLemmas.{own_value, free_value}
@@ -28,6 +29,7 @@ use Rattle.graph_lines.specs.Forms.{HasKinds, IsFormOf, FormIn}
 use Rattle.graph_plan.specs.Conditions.{IsWaveFor}
 use Rattle.graph_plan.proofs.FormLemmas.{one_number, port_count_is, kind_at_is}
 use Rattle.graph_plan.proofs.ListLemmas.{map_changed}
+use Rattle.graph_plan.proofs.RangeLemmas.{few_channels}
 use Rattle.graph_plan.proofs.StayingLemmas.{within_value}
 
 -- the own offers of all ports
@@ -104,8 +106,7 @@ form_fits nodes before kinds wave sound own_kinds old_kinds same is port rate ch
     let node_sound = at_place IsSoundNode nodes port.node t.node sound.each t.node_is in
     let mine = at_port (IsFormOf rate channels) nodes port t.node t.state t.node_is t.state_is form.1 in
     let few : port_count t.node.kind ≤ 1 = subst (λ (k : Kind). port_count k ≤ 1) (sym kind) (omega arith) in
-    let state = ap (slice_get t.node.ports) (sym zero_port) ∙ t.state_is in
-    (
+    let state = ap (slice_get t.node.ports) (sym zero_port) ∙ t.state_is in (
       one_number (value_of t.node t.state 65539) rate wave.wav.rate mine.0.0
           (only_value_of t.node t.state 65539 (int_of wave.wav.rate) node_sound few state (λ f e. (taken f e).rate)
           (own 65539 (int_of wave.wav.rate) is.rate)),
@@ -147,3 +148,36 @@ form_fits nodes before kinds wave sound own_kinds old_kinds same is port rate ch
 
     taken : (f : Format) → t.state.format ≡ Some f → IsTaken t.state.own f
     taken f e = subst (λ (o : Option Format). IfSome o (IsTaken t.state.own)) e t.sound.format
+
+-- the channels of a wave are 1 to 8
+pub wave_channels : (nodes : List Node) (wave : WavIn) → AreSoundNodes nodes → IsWaveFor nodes wave → 1 ≤ wave.wav.channels
+wave_channels nodes wave sound is =
+    (few_channels t.node.kind 0 wave.wav.channels node_sound.kind (channels_in_range t.node 0 t.state wave.wav.channels node_sound t.sound value)).0
+  where
+    source : (o : Option Node) → option_map (λ (n : Node). n.kind) o ≡ Some Source → (m : Node) × (o ≡ Some m) × (m.kind ≡ Source)
+    source (Some m) e = (m, refl, same_Some m.kind Source e)
+    source None e = absurd (none-some Source e)
+
+    m : (m : Node) × (slice_get nodes wave.node ≡ Some m) × (m.kind ≡ Source)
+    m = source (slice_get nodes wave.node) is.source
+
+    here : IsPort nodes (record { node = wave.node; port = 0 })
+    here = subst (λ (o : Option Node). 0 < option_map_or (λ n. port_count n.kind) o 0) (sym m.1)
+        (subst (λ (k : Kind). 0 < port_count k) (sym m.2) (omega arith))
+
+    t : IsThere nodes (record { node = wave.node; port = 0 })
+    t = there nodes (record { node = wave.node; port = 0 }) sound here
+
+    node_sound : IsSoundNode t.node
+    node_sound = at_place IsSoundNode nodes wave.node t.node sound.each t.node_is
+
+    few : port_count t.node.kind ≤ 1
+    few = subst (λ (k : Kind). port_count k ≤ 1) (sym (ap (λ (n : Node). n.kind) (same_Some t.node m.0 (sym t.node_is ∙ m.1)) ∙ m.2)) (omega arith)
+
+    taken : (f : Format) → t.state.format ≡ Some f → IsTaken t.state.own f
+    taken f e = subst (λ (o : Option Format). IfSome o (IsTaken t.state.own)) e t.sound.format
+
+    value : value_of t.node t.state 65540 ≡ Some (int_of wave.wav.channels)
+    value = only_value_of t.node t.state 65540 (int_of wave.wav.channels) node_sound few t.state_is (λ f e. (taken f e).channels)
+        (at_port (λ (node : Node) (s : PortState). value_at s.own.fields 65540 ≡ Some (int_of wave.wav.channels)) nodes
+        (record { node = wave.node; port = 0 }) t.node t.state t.node_is t.state_is is.channels)

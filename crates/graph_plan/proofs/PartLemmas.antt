@@ -260,8 +260,7 @@ module _ (count : ℕ) (g : Graph) (sound : IsSoundGraph count g) (n : ℕ) (e :
         let t = there g.ports f.port sound.ports a.1.0 in
         let other : FormIn g.ports (record { node = f.port.node; port = h.port.port }) h.rate h.channels =
         subst (λ (m : ℕ). FormIn g.ports (record { node = m; port = h.port.port }) h.rate h.channels) (sym same) b.1 in
-        let r = shared_in g.ports sound.ports f.port.node some f.port.port h.port.port f.rate f.channels h.rate h.channels a.1 other t.node t.node_is in
-        (
+        let r = shared_in g.ports sound.ports f.port.node some f.port.port h.port.port f.rate f.channels h.rate h.channels a.1 other t.node t.node_is in (
           r.0,
           λ shares. r.1 (channels_shared t.node.kind (subst SharesChannels
               (like.kind f.port.node ∙ sym (kind_at_is g.ports g.kinds sound.kinds f.port.node t.node t.node_is)) shares)),

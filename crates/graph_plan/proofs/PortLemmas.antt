@@ -68,8 +68,7 @@ module _ (nodes : List Node) (q : PortId) (f : PortState → PortState) (sound :
       let state = subst (λ (m : Node). slice_get m.ports port.port ≡ Some u.state) same u.state_is in
       let own = at_port (IsFormOf rate channels) nodes port t.node t.state t.node_is t.state_is h.form.1 in
       let form = keeps t.node at_q port.port t.state u.state rate channels t.state_is state
-      (formatted_node nodes port.node sound h.some t.node t.node_is) own in
-      (
+      (formatted_node nodes port.node sound h.some t.node t.node_is) own in (
         is,
         port_at (IsFormOf rate channels) (with_port nodes q f) port u.node u.state u.node_is u.state_is
             (subst (λ (m : Node). IsFormOf rate channels m u.state) (sym same) form),

@@ -60,8 +60,7 @@ walk_of (l ∷ ls) a b e = elim (or_cases (leads ls a b) (leads ls a l.from.node
   | inr through ↦
       let both = and_parts (leads ls a l.from.node) (leads ls l.to.node b) through in
       let w = walk_of ls a l.from.node both.0 in
-      let v = walk_of ls l.to.node b both.1 in
-      (
+      let v = walk_of ls l.to.node b both.1 in (
         w.0 ++ l ∷ v.0,
         joined (l ∷ ls) w.0 (l ∷ v.0) a l.from.node b (wider l ls w.0 a l.from.node w.1)
             ((0, omega arith, refl), refl, wider l ls v.0 l.to.node b v.1),

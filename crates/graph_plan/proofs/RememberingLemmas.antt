@@ -105,8 +105,7 @@ module _ (plan : Plan) (nodes : List Node) (said after : List Standing) (e : Epo
   new_told j f node rate channels at inputs has = elim (parted plan.epochs e f j at) [
     | inl h ↦
         let l = slice_get_within plan.epochs j f h in
-        let was = old.told j f node rate channels h inputs has in
-        (
+        let was = old.told j f node rate channels h inputs has in (
           was.0,
           was.1,
           lifted plan e was.0 node channels was.2,
@@ -119,8 +118,7 @@ module _ (plan : Plan) (nodes : List Node) (said after : List Standing) (e : Epo
         let first = next.first node rate channels inputs
         (subst (λ (x : Epoch). HasForm x (record { node = node; port = 0 }) rate channels) (sym h.1) has) in
         let last = new_last node (subst (λ (c : ℕ). 0 < c) (sym first.0) first.1) in
-        let m = slice_get_within (plan.epochs ++ e ∷ []) last.epoch last.names.epoch last.names.at in
-        (
+        let m = slice_get_within (plan.epochs ++ e ∷ []) last.epoch last.names.epoch last.names.at in (
           last.epoch,
           within last.epoch m h.0,
           subst (Names (with_epoch plan e) last.epoch node) first.0 last.names,

@@ -190,8 +190,7 @@ module _ (count : ℕ) (g : Graph) (sound : IsSoundGraph count g) (names : List 
       let d = same_sums (epoch_samples plan) (sink_samples g.kinds) g.epochs
       (All-weaker (λ (e : Epoch). e.shape.quantum ≡ g.quantum) (λ (e : Epoch). epoch_samples plan e ≡ sink_samples g.kinds e) samples_of g.epochs s.quanta) in
       let f = same_sums (epoch_bytes plan) block_bytes g.epochs
-      (All-weaker (λ (e : Epoch). e.shape.quantum ≡ g.quantum) (λ (e : Epoch). epoch_bytes plan e ≡ block_bytes e) bytes_of g.epochs s.quanta) in
-      (
+      (All-weaker (λ (e : Epoch). e.shape.quantum ≡ g.quantum) (λ (e : Epoch). epoch_bytes plan e ≡ block_bytes e) bytes_of g.epochs s.quanta) in (
         subst (λ (k : ℕ). k ≤ 4194304) (sym (a ∙ sym s.events)) w.0,
         subst (λ (k : ℕ). k ≤ 134217728) (sym (b ∙ (d ∙ sym s.samples))) w.1,
         subst (λ (k : ℕ). k ≤ 268435456) (sym (c ∙ (f ∙ sym s.bytes))) w.2,

@@ -57,7 +57,7 @@ in_range (C.Offer port file) h = (omega arith, omega arith)
 in_range (C.Cycles n) h = (omega arith, omega arith)
 in_range C.Drain h = (omega arith, omega arith)
 
-quantum_ok : (lines : List Line) → All (λ l. IsInRange l.command) lines → IsBetween 1 8192 (quantum_of lines)
+pub quantum_ok : (lines : List Line) → All (λ l. IsInRange l.command) lines → IsBetween 1 8192 (quantum_of lines)
 quantum_ok [] h = (omega arith, omega arith)
 quantum_ok (l ∷ ls) h = in_range l.command (All-head (λ (x : Line). IsInRange x.command) l ls h)
 

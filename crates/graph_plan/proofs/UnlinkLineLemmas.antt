@@ -106,8 +106,11 @@ module _ (gave n : ℕ) (said : List Standing) (within : n < length said) where
   pub giving_at : (m : ℕ) → ((m ≡ n) × (standing (giving gave n said) m ≡ given_up (standing said m)))
       ⊎ ((m ≢ n) × (standing (giving gave n said) m ≡ standing said m))
   giving_at m = elim (cases_eq m n) [
-    | inl e ↦ inl (e, ap (standing (giving gave n said)) e
-        ∙ (get_or-set_same said n (given_up (standing said n)) nobody within ∙ ap (λ (k : ℕ). given_up (standing said k)) (sym e)))
+    | inl e ↦ inl (
+      e,
+      ap (standing (giving gave n said)) e
+          ∙ (get_or-set_same said n (given_up (standing said n)) nobody within ∙ ap (λ (k : ℕ). given_up (standing said k)) (sym e)),
+    )
     | inr ne ↦ inr (ne, get_or-set_other said n m (given_up (standing said n)) nobody ne)
   ]
 

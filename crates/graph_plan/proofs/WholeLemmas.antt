@@ -91,9 +91,11 @@ module _ (node : Node) (sound : IsSoundNode node) (h : IsFormattedNode node) (i 
 
   rate_of : (rate : ℕ) × (value_of node s 65539 ≡ Some (int_of rate))
   rate_of =
-      let f = has_form node h.place h.state (sound.ports h.place h.state h.there) (some_is h.state.format h.format h.has) in
-      (f.0, value_shared node sound h 65539 (rate_shared node.kind) i s (int_of f.0) at
-      (sym (own_value node h.state 65539 h.format h.has) ∙ f.2.0))
+      let f = has_form node h.place h.state (sound.ports h.place h.state h.there) (some_is h.state.format h.format h.has) in (
+        f.0,
+        value_shared node sound h 65539 (rate_shared node.kind) i s (int_of f.0) at
+            (sym (own_value node h.state 65539 h.format h.has) ∙ f.2.0),
+      )
 
   free_channels : s.format ≡ None → (channels : ℕ) × (value_of node s 65540 ≡ Some (int_of channels))
   free_channels free = go (fixed node.kind) where
@@ -102,9 +104,11 @@ module _ (node : Node) (sound : IsSoundNode node) (h : IsFormattedNode node) (i 
         let f = has_form node h.place h.state (sound.ports h.place h.state h.there) (some_is h.state.format h.format h.has) in
         (f.1, value_shared node sound h 65540 e i s (int_of f.1) at (sym (own_value node h.state 65540 h.format h.has) ∙ f.2.1))
     go (single e fixes) =
-        let c = own_number s (MayHaveChannels node.kind i) port.own.channels (port.own.single fixes) in
-        (c.0, free_value node s 65540 free
-        ∙ (ap (λ (o : Option Pod). option_or o (value_at s.own.fields 65540)) (not_shared node 65540 e) ∙ c.1))
+        let c = own_number s (MayHaveChannels node.kind i) port.own.channels (port.own.single fixes) in (
+          c.0,
+          free_value node s 65540 free
+              ∙ (ap (λ (o : Option Pod). option_or o (value_at s.own.fields 65540)) (not_shared node 65540 e) ∙ c.1),
+        )
     go (alone one) = let f = some_of s.format (is_it one) in absurd (none-some f.0 (sym free ∙ f.1))
 
   -- EVERY PORT HAS A FORM
