@@ -1,25 +1,53 @@
--- What stands before a line: the nodes and ports that it names are there, and the links of the graph are those of its
--- wires.
+-- What a script, its ports and its waves meet before a plan is made of them.
 -- Source: this project's script grammar.
-use Rattle.std.specs.Prelude.{◌≡◌, ◌<◌, length, map}
-use Rattle.pw_base.specs.SoundShape.{IsBetween}
+use Rattle.std.specs.Prelude.{◌≡◌, ℕ, ◌+◌, ◌==◌, List, [], ◌∷◌, length, All, Some, None, IfSome, count_by}
+use Rattle.std.specs.Option.{option_map_or}
+use Rattle.pw_base.specs.declared.kind.Kind.{Kind}
+use Rattle.pw_base.specs.declared.kind.Kind.TheVariants.{Source}
+use Rattle.wav_files.specs.declared.wav.WavIn.{WavIn}
 use Rattle.graph_script.specs.declared.command.Command.{Command}
-use Rattle.graph_script.specs.declared.command.Command.TheVariants as C
-use Rattle.graph_script.specs.Ranges.{HasNodes}
-use Rattle.port_model.specs.PortState.{IsPort, IsInput, IsOutput}
-use Rattle.link_negotiation.specs.Links.{link_of}
-use Rattle.graph_plan.specs.declared.graph.Graph.{Graph}
+use Rattle.graph_script.specs.declared.script.Line.{Line}
+use Rattle.graph_script.specs.Kinds.{made_by, HasPorts}
+use Rattle.graph_script.specs.Ranges.{IsInRange, HasNodes}
+use Rattle.port_model.specs.declared.port_state.Node.{Node}
+use Rattle.port_model.specs.PortState.{AtPort, kind_of}
+use Rattle.port_model.specs.Offers.{int_of}
+use Rattle.port_model.specs.Forms.{value_at}
+use Rattle.port_model.specs.SoundPorts.{AreSoundNodes}
+use Rattle.graph_lines.specs.Forms.{HasKinds}
+use Rattle.graph_lines.specs.Start.{kinds_of}
 
--- the links of a graph are those of its wires
-abbrev pub AreWired : Graph → Type 0
-AreWired g = map (λ w. link_of w.from w.to) g.wires ≡ g.links.made
+-- how many nodes there are after a line
+abbrev pub grown : ℕ → Command → ℕ
+grown count command = option_map_or (λ m. m.0 + 1) (made_by command) count
 
--- a line may stand here: its nodes and ports are there, and it makes no epoch
-abbrev pub MayDo : Graph → Command → Type 0
-MayDo g (C.Buffers port n) = IsPort g.ports port × IsBetween 1 8 n
-MayDo g (C.Link from to) = IsOutput g.ports from × IsInput g.ports to
-MayDo g (C.Unlink from to) = IsOutput g.ports from × IsInput g.ports to
-    × (from.node < length g.nodes) × (to.node < length g.nodes)
-MayDo g (C.Cycles n) = ⊥
-MayDo g C.Drain = ⊥
-MayDo g command = HasNodes (length g.nodes) command
+-- from so many nodes on, a line makes the next node or none, and names only nodes that are there then
+abbrev pub NamesMade : ℕ → List Line → Type 0
+NamesMade count [] = Unit {0}
+NamesMade count (l ∷ ls) = IfSome (made_by l.command) (λ m. m.0 ≡ count)
+    × HasNodes (grown count l.command) l.command × NamesMade (grown count l.command) ls
+
+-- the numbers, the nodes and the ports of each line are in range and there, where the nodes have these kinds
+pub record AreLinesOf (kinds : List Kind) (lines : List Line) : Type 0 where
+  pub ranges : All (λ l. IsInRange l.command) lines
+  pub ports : All (λ l. HasPorts kinds l.command) lines
+  pub nodes : All (λ l. HasNodes (length kinds) l.command) lines
+
+-- the nodes of the lines by number, whose ports have own offers of their kinds, no format and no count of buffers
+pub record AreScriptPorts (lines : List Line) (nodes : List Node) : Type 0 where
+  pub kinds : HasKinds nodes (kinds_of lines)
+  pub sound : AreSoundNodes nodes
+  pub unused : All (λ n. All (λ s. (s.format ≡ None) × (s.buffers ≡ None)) n.ports) nodes
+
+-- a wave is that of a source, with the one rate and the one number of channels of its port's own offer
+pub record IsWaveFor (nodes : List Node) (wave : WavIn) : Type 0 where
+  pub source : kind_of nodes wave.node ≡ Some Source
+  pub rate : AtPort nodes (record { node = wave.node; port = 0 })
+      (λ node s. value_at s.own.fields 65539 ≡ Some (int_of wave.wav.rate))
+  pub channels : AtPort nodes (record { node = wave.node; port = 0 })
+      (λ node s. value_at s.own.fields 65540 ≡ Some (int_of wave.wav.channels))
+
+-- one wave for each source, and no other
+pub record HaveWaves (nodes : List Node) (waves : List WavIn) : Type 0 where
+  pub each : All (IsWaveFor nodes) waves
+  pub one : (node : ℕ) → kind_of nodes node ≡ Some Source → count_by (λ w. w.node == node) waves ≡ 1

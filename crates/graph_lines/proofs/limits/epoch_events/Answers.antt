@@ -1,0 +1,13 @@
+use Rattle.std.proofs.Common.{◌≡◌, ◌+◌, ◌*◌, length, ap, ◌∙◌}
+use Rattle.pw_base.specs.PlanSums.{capped}
+use Rattle.pw_base.proofs.PlanSumsLemmas.{capped-mul, capped-add_left}
+use Rattle.graph_lines.proofs.limits.epoch_events.Goals as goal
+
+pub returns : goal.returns
+returns c =
+    let cycles = c.args.epoch.now.shape.cycles in let n = length c.args.epoch.now.shape.nodes in
+    let two : c.product_of.result ≡ capped (2 * n) = c.product_of.ensures ∙ ap (λ k. capped (2 * k)) c.len-nodes.ensures in
+    let three : c.sum_of.result ≡ capped (2 * n + 3) = c.sum_of.ensures ∙ ap (λ k. capped (k + 3)) two
+    ∙ capped-add_left (2 * n) 3 in
+    c.product_of-2.ensures ∙ ap (λ k. capped (k * c.sum_of.result)) c.from.ensures ∙ ap (λ k. capped (cycles * k)) three
+    ∙ capped-mul cycles (2 * n + 3)

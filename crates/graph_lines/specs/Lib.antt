@@ -1,0 +1,15 @@
+pub mod Activity
+pub mod Searching
+pub mod Sums
+pub mod LinkLines
+pub mod UnlinkLines
+pub mod Lines
+pub mod Conditions
+pub mod Draining
+pub mod Forms
+pub mod Start
+pub mod Fresh
+pub mod Epochs
+pub mod EpochLines
+pub mod Ready
+pub mod Gathering

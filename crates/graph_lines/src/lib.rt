@@ -1,0 +1,34 @@
+//! The graph after each line of a script, and the epochs that its lines make.
+//!
+//! `Graph` is the graph as the lines so far have made it: `start` before the first line, `step` for
+//! any line. A line that makes an epoch goes three steps: `epoch_of` reads the epoch off the graph,
+//! `judge` says whether it passes a limit, and `take` takes it. The pieces of an epoch stand beside:
+//! `driver_of` and `active_nodes` by live links, `counted` for required counts and target lists,
+//! `form_in`, and `drain_cycles` for the cycles of a drain.
+#![tactic(auto)]
+
+mod commands;
+mod draining;
+mod epoch_forms;
+mod epoch_links;
+mod epochs;
+mod forms;
+mod fresh;
+mod graph;
+mod limits;
+mod linking;
+mod shaping;
+mod standing;
+mod starting;
+mod stepping;
+mod taking;
+mod unlinking;
+mod wire;
+
+pub use draining::drain_cycles;
+pub use forms::form_in;
+pub use graph::{Graph, Stepped};
+pub use limits::{Sums, judge};
+pub use shaping::{Candidate, active_nodes, bare_nodes, counted, driver_of, live_wires};
+pub use standing::Standing;
+pub use wire::Wire;

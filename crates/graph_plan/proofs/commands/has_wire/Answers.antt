@@ -1,6 +1,0 @@
-use Rattle.std.proofs.Common.{◌∙◌}
-use Rattle.graph_plan.proofs.WireLemmas.{any_wire}
-use Rattle.graph_plan.proofs.commands.has_wire.Goals as goal
-
-pub returns : goal.returns
-returns c = c.any_at.ensures ∙ any_wire c.args.wires.now c.args.node

@@ -1,0 +1,14 @@
+-- A node more.
+use Rattle.std.proofs.Common.{◌∙◌, ap, length, List, refl, sym, subst, arith}
+use Rattle.std.specs.Prelude.{slice_get, Some}
+use Rattle.std.proofs.lemmas.List.{length_push}
+use Rattle.pw_base.specs.declared.plan.PlanNode.{PlanNode}
+use Rattle.graph_plan.specs.PlanOf.{IsNodeOf}
+use Rattle.graph_plan.proofs.NodesLemmas.{nodes_more}
+use Rattle.graph_plan.proofs.plan_nodes.nodes_of.Goals as goal
+
+pub loop-node-preserved : goal.loop-node-preserved
+loop-node-preserved c =
+    let more = nodes_more c.args.names.now c.args.graph.now c.loop-node.nodes c.push.new.self c.in_ok-node_of.field-0 c.loop-node.node
+    c.loop-node.invariant.count c.loop-node.invariant.each c.in_ok-node_of.ensures c.in_ok-push.ensures.ok in
+    record { count = more.0; each = more.1 }

@@ -1,7 +1,0 @@
--- The kinds of the nodes that the lines so far make.
-use Rattle.std.proofs.Common.{◌≡◌, take}
-use Rattle.graph_plan.specs.Start.{kinds_of}
-use Rattle.graph_plan.proofs.starting.kinds_of.Given as goal
-
-abbrev pub invariant-loop-line : goal.invariant-loop-line
-invariant-loop-line l = l.kinds ≡ kinds_of (take l.line-index l.lines)

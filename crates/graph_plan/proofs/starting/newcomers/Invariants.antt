@@ -1,8 +1,0 @@
--- The nodes so far.
-use Rattle.std.proofs.Common.{◌≡◌, map}
-use Rattle.std.specs.List.{range_with_len}
-use Rattle.graph_plan.specs.Start.{newcomer}
-use Rattle.graph_plan.proofs.starting.newcomers.Given as goal
-
-abbrev pub invariant-loop-node : goal.invariant-loop-node
-invariant-loop-node l = l.nodes ≡ map newcomer (range_with_len 0 l.node)

@@ -1,0 +1,11 @@
+//! Why there is no plan.
+
+use pw_base::Which;
+
+/// Why there is no plan.
+#[derive(Clone, Copy, Debug, PartialEq, Eq, Drop)]
+pub enum PlanFault {
+    /// The first line that passes a limit, by its number, and which limit it is.
+    Limit { line: u32, which: Which },
+    Memory,
+}
