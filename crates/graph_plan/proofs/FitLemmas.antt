@@ -27,7 +27,8 @@ use Rattle.graph_lines.specs.Epochs.{IsEpochOf}
 use Rattle.graph_lines.specs.EpochLines.{RunsFor, Steps}
 use Rattle.graph_lines.specs.Forms.{HasKinds}
 use Rattle.graph_lines.specs.Lines.{Marks}
-use Rattle.graph_plan.specs.Conditions.{grown, IsWaveFor}
+use Rattle.graph_script.specs.Making.{grown}
+use Rattle.graph_plan.specs.Conditions.{IsWaveFor}
 use Rattle.graph_plan.specs.Following.{Follows}
 use Rattle.graph_plan.specs.SoundGraph.{IsSoundGraph}
 use Rattle.graph_plan.proofs.ListLemmas.{all_of}

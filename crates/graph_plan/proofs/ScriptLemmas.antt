@@ -25,7 +25,8 @@ use Rattle.graph_lines.specs.declared.graph.Graph.{Graph}
 use Rattle.graph_lines.specs.Start.{kinds_of, MayStart, IsStart}
 use Rattle.graph_plan.specs.declared.fault.PlanFault.{PlanFault}
 use Rattle.graph_plan.specs.declared.fault.PlanFault.TheVariants as F
-use Rattle.graph_plan.specs.Conditions.{NamesMade, AreLinesOf, AreScriptPorts, HaveWaves, IsWaveFor}
+use Rattle.graph_script.specs.Making.{NamesMade}
+use Rattle.graph_plan.specs.Conditions.{AreLinesOf, AreScriptPorts, HaveWaves, IsWaveFor}
 use Rattle.graph_plan.specs.Following.{Follows}
 use Rattle.graph_plan.specs.Joining.{JoinsKinds}
 use Rattle.graph_plan.specs.PlanOf.{IsPlanOf}

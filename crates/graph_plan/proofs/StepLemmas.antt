@@ -19,7 +19,8 @@ use Rattle.graph_lines.specs.declared.standing.Standing.{Standing}
 use Rattle.graph_lines.specs.Activity.{standing}
 use Rattle.graph_lines.specs.EpochLines.{RunsFor, Steps}
 use Rattle.graph_lines.specs.Lines.{with_node, made, prior, looped, switched_on, switched_off, Marks}
-use Rattle.graph_plan.specs.Conditions.{grown, NamesMade, AreLinesOf}
+use Rattle.graph_script.specs.Making.{grown, NamesMade}
+use Rattle.graph_plan.specs.Conditions.{AreLinesOf}
 use Rattle.graph_plan.specs.Following.{Follows}
 use Rattle.graph_plan.specs.SoundGraph.{IsSoundGraph}
 use Rattle.graph_plan.proofs.EpochLemmas.{runs_sound}

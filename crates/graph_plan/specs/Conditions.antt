@@ -1,13 +1,11 @@
 -- What a script, its ports and its waves meet before a plan is made of them.
 -- Source: this project's script grammar.
-use Rattle.std.specs.Prelude.{◌≡◌, ℕ, ◌+◌, ◌==◌, List, [], ◌∷◌, length, All, Some, None, IfSome, count_by}
-use Rattle.std.specs.Option.{option_map_or}
+use Rattle.std.specs.Prelude.{◌≡◌, ℕ, ◌==◌, List, length, All, Some, None, count_by}
 use Rattle.pw_base.specs.declared.kind.Kind.{Kind}
 use Rattle.pw_base.specs.declared.kind.Kind.TheVariants.{Source}
 use Rattle.wav_files.specs.declared.wav.WavIn.{WavIn}
-use Rattle.graph_script.specs.declared.command.Command.{Command}
 use Rattle.graph_script.specs.declared.script.Line.{Line}
-use Rattle.graph_script.specs.Kinds.{made_by, HasPorts}
+use Rattle.graph_script.specs.Kinds.{HasPorts}
 use Rattle.graph_script.specs.Ranges.{IsInRange, HasNodes}
 use Rattle.port_model.specs.declared.port_state.Node.{Node}
 use Rattle.port_model.specs.PortState.{AtPort, kind_of}
@@ -16,16 +14,6 @@ use Rattle.port_model.specs.Forms.{value_at}
 use Rattle.port_model.specs.SoundPorts.{AreSoundNodes}
 use Rattle.graph_lines.specs.Forms.{HasKinds}
 use Rattle.graph_lines.specs.Start.{kinds_of}
-
--- how many nodes there are after a line
-abbrev pub grown : ℕ → Command → ℕ
-grown count command = option_map_or (λ m. m.0 + 1) (made_by command) count
-
--- from so many nodes on, a line makes the next node or none, and names only nodes that are there then
-abbrev pub NamesMade : ℕ → List Line → Type 0
-NamesMade count [] = Unit {0}
-NamesMade count (l ∷ ls) = IfSome (made_by l.command) (λ m. m.0 ≡ count)
-    × HasNodes (grown count l.command) l.command × NamesMade (grown count l.command) ls
 
 -- the numbers, the nodes and the ports of each line are in range and there, where the nodes have these kinds
 pub record AreLinesOf (kinds : List Kind) (lines : List Line) : Type 0 where

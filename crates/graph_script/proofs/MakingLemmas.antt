@@ -3,14 +3,19 @@ use Rattle.std.proofs.Common.{◌≡◌, ℕ, ◌+◌, List, [], ◌∷◌, ◌+
 use Rattle.std.specs.Prelude.{Option, Some, None, IfSome, option_map}
 use Rattle.std.specs.Option.{option_map_or}
 use Rattle.pw_base.specs.declared.kind.Kind.{Kind}
+use Rattle.graph_script.specs.declared.command.Command.{Command}
 use Rattle.graph_script.specs.declared.script.Line.{Line}
 use Rattle.graph_script.specs.declared.reading.Made.{Made}
 use Rattle.graph_script.specs.declared.reading.Said.{Said}
 use Rattle.graph_script.specs.declared.reading.Reading.{Reading}
 use Rattle.graph_script.specs.Kinds.{made_by}
 use Rattle.graph_script.specs.Ranges.{HasNodes}
-use Rattle.graph_script.specs.Making.{grown, all_grown, MakesNext, NamesMade}
+use Rattle.graph_script.specs.Making.{grown, all_grown, NamesMade}
 use Rattle.graph_script.proofs.FitLemmas.{added, IsFit}
+
+-- a line makes the next node or none, and its nodes are there then
+abbrev pub MakesNext : ℕ → Command → Type 0
+MakesNext count command = IfSome (made_by command) (λ m. m.0 ≡ count) × HasNodes (grown count command) command
 
 pub all_grown-push : (count : ℕ) (ls : List Line) (l : Line) → all_grown count (ls ++ l ∷ []) ≡ grown (all_grown count ls) l.command
 all_grown-push count [] l = refl
@@ -18,8 +23,8 @@ all_grown-push count (x ∷ xs) l = all_grown-push (grown count x.command) xs l
 
 pub names-push : (count : ℕ) (ls : List Line) (l : Line) → NamesMade count ls → MakesNext (all_grown count ls) l.command
     → NamesMade count (ls ++ l ∷ [])
-names-push count [] l h more = (more, tt)
-names-push count (x ∷ xs) l h more = (h.0, names-push (grown count x.command) xs l h.1 more)
+names-push count [] l h more = (more.0, more.1, tt)
+names-push count (x ∷ xs) l h more = (h.0, h.1, names-push (grown count x.command) xs l h.2 more)
 
 -- as many more as a line adds
 grown_by : (count : ℕ) (made : Option Made)

@@ -13,11 +13,8 @@ grown count command = option_map_or (λ m. m.0 + 1) (made_by command) count
 abbrev pub all_grown : ℕ → List Line → ℕ
 all_grown count lines = fold (λ n l. grown n l.command) count lines
 
--- a line makes the next node or none, and its nodes are there then
-abbrev pub MakesNext : ℕ → Command → Type 0
-MakesNext count command = IfSome (made_by command) (λ m. m.0 ≡ count) × HasNodes (grown count command) command
-
--- so does each line, where there are so many nodes before the first
+-- from so many nodes on, a line makes the next node or none, and names only nodes that are there then
 abbrev pub NamesMade : ℕ → List Line → Type 0
 NamesMade count [] = Unit {0}
-NamesMade count (l ∷ ls) = MakesNext count l.command × NamesMade (grown count l.command) ls
+NamesMade count (l ∷ ls) = IfSome (made_by l.command) (λ m. m.0 ≡ count)
+    × HasNodes (grown count l.command) l.command × NamesMade (grown count l.command) ls
