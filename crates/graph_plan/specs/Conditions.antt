@@ -14,6 +14,7 @@ use Rattle.port_model.specs.Forms.{value_at}
 use Rattle.port_model.specs.SoundPorts.{AreSoundNodes}
 use Rattle.graph_lines.specs.Forms.{HasKinds}
 use Rattle.graph_lines.specs.Start.{kinds_of}
+use Rattle.port_model.specs.Keys.{rate_key, channels_key}
 
 -- the numbers, the nodes and the ports of each line are in range and there, where the nodes have these kinds
 pub record AreLinesOf (kinds : List Kind) (lines : List Line) : Type 0 where
@@ -31,9 +32,9 @@ pub record AreScriptPorts (lines : List Line) (nodes : List Node) : Type 0 where
 pub record IsWaveFor (nodes : List Node) (wave : WavIn) : Type 0 where
   pub source : kind_of nodes wave.node ≡ Some Source
   pub rate : AtPort nodes (record { node = wave.node; port = 0 })
-      (λ node s. value_at s.own.fields 65539 ≡ Some (int_of wave.wav.rate))
+      (λ node s. value_at s.own.fields rate_key ≡ Some (int_of wave.wav.rate))
   pub channels : AtPort nodes (record { node = wave.node; port = 0 })
-      (λ node s. value_at s.own.fields 65540 ≡ Some (int_of wave.wav.channels))
+      (λ node s. value_at s.own.fields channels_key ≡ Some (int_of wave.wav.channels))
 
 -- one wave for each source, and no other
 pub record HaveWaves (nodes : List Node) (waves : List WavIn) : Type 0 where

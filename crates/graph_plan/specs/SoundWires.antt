@@ -12,13 +12,14 @@ use Rattle.port_model.specs.PortState.{AtPort}
 use Rattle.port_model.specs.Offers.{int_of}
 use Rattle.port_model.specs.Forms.{value_at}
 use Rattle.graph_lines.specs.declared.wire.Wire.{Wire}
+use Rattle.port_model.specs.Keys.{rate_key, channels_key}
 
 -- a port has a format of this rate and these channels
 pub record HasFormat (rate channels : ℕ) (s : PortState) : Type 0 where
   pub format : Format
   pub has : s.format ≡ Some format
-  pub rate_is : value_at format.fields 65539 ≡ Some (int_of rate)
-  pub channels_is : value_at format.fields 65540 ≡ Some (int_of channels)
+  pub rate_is : value_at format.fields rate_key ≡ Some (int_of rate)
+  pub channels_is : value_at format.fields channels_key ≡ Some (int_of channels)
 
 abbrev pub IsFormatted : List Node → PortId → ℕ → ℕ → Type 0
 IsFormatted nodes port rate channels = AtPort nodes port (λ node s. HasFormat rate channels s)

@@ -1,22 +1,31 @@
-//! A stream by points, in pieces of any size.
+//! The points of controls, and a stream by them in pieces.
 
-use control_sequence::{Automation, ControlFault, Point, Points, controls_of};
+use control_sequence::{Automation, ControlFault, Point, controls_of};
 use pod_codec::{Control, Pod, Prop};
 use pw_base::{Items, Memory};
 use std::alloc::Global;
 use std::process::Abort;
 use std::test::Fail;
 
-// A control with these properties' keys, each with the Int 64.
-fn control_of(alloc: Global, offset: u32, kind: u32, keys: &[u32]) -> Result<Control, Memory> {
+// A control whose object has two properties: the Int 64 under this key, and a gain.
+fn two_props(
+    alloc: Global,
+    offset: u32,
+    kind: u32,
+    key: u32,
+    gain: i32,
+) -> Result<Control, Memory> {
     let mut props = Items::new(alloc);
-    for key in keys {
-        props.push(Prop {
-            key: *key,
-            flags: 0,
-            value: Pod::Int(64),
-        })?;
-    }
+    props.push(Prop {
+        key,
+        flags: 0,
+        value: Pod::Int(64),
+    })?;
+    props.push(Prop {
+        key: 0x1000001,
+        flags: 0,
+        value: Pod::Int(gain),
+    })?;
     Ok(Control {
         offset,
         kind,
@@ -28,14 +37,31 @@ fn control_of(alloc: Global, offset: u32, kind: u32, keys: &[u32]) -> Result<Con
     })
 }
 
+// A control with a gain.
+fn control_of(alloc: Global, offset: u32, kind: u32, gain: i32) -> Result<Control, Memory> {
+    two_props(alloc, offset, kind, 3, gain)
+}
+
+// A control without a property.
+fn bare_control(alloc: Global, offset: u32) -> Control {
+    Control {
+        offset,
+        kind: 1,
+        value: Pod::Object {
+            object: 0x40002,
+            id: 2,
+            props: Items::new(alloc),
+        },
+    }
+}
+
 #[test]
 fn controls_without_a_gain_give_no_point(rt: HostRuntime) -> Result<(), Fail> {
     let alloc = rt.alloc();
     let mut controls = Items::new(alloc);
-    controls.push(control_of(alloc, 0, 2, [0x1000001].as_slice())?)?;
-    controls.push(control_of(alloc, 1, 1, [3, 4].as_slice())?)?;
-    controls.push(control_of(alloc, 1, 1, [3, 0x1000001].as_slice())?)?;
-    controls.push(control_of(alloc, 7, 1, [].as_slice())?)?;
+    controls.push(control_of(alloc, 0, 2, 9)?)?;
+    controls.push(two_props(alloc, 1, 1, 0x1000001, 70000)?)?;
+    controls.push(bare_control(alloc, 7))?;
     let points = controls_of(alloc, &Pod::Sequence { unit: 0, controls })?;
     assert_eq!(rt; points.items.len(), 1);
     let point = points.items.as_slice()[0];
@@ -48,30 +74,35 @@ fn controls_without_a_gain_give_no_point(rt: HostRuntime) -> Result<(), Fail> {
     Ok(())
 }
 
+// A stereo stream by gains of 128/256 from frame 1 on and -2 from frame 3 on.
+fn stream_of(alloc: Global) -> Result<Automation, ControlFault> {
+    let mut controls = Items::new(alloc);
+    controls.push(control_of(alloc, 1, 1, 7)?)?;
+    controls.push(control_of(alloc, 1, 1, 128)?)?;
+    controls.push(control_of(alloc, 3, 1, -512)?)?;
+    let points = controls_of(alloc, &Pod::Sequence { unit: 0, controls })?;
+    Ok(Automation::new(points, 2))
+}
+
+/// Six frames.
+const SAMPLES: [i16; 12] = [
+    100, -100, 100, -100, 100, -100, 100, -100, 32767, -32768, 3, -3,
+];
+
+/// The same by their gains.
+const WANTED: [i16; 12] = [100, -100, 50, -50, 50, -50, -200, 200, -32768, 32767, -6, 6];
+
 #[test]
-fn pieces_of_any_size_join(rt: HostRuntime) -> Result<(), Fail> {
-    let alloc = rt.alloc();
-    let samples = [
-        100i16, -100, 100, -100, 100, -100, 100, -100, 32767, -32768, 3, -3,
-    ];
-    let wanted = [
-        100i16, -100, 50, -50, 50, -50, -200, 200, -32768, 32767, -6, 6,
-    ];
-    for step in [2usize, 4, 6, 12] {
-        let mut items = Items::new(alloc);
-        for (offset, g) in [(1, 7), (1, 128), (3, -512)] {
-            items.push(Point { offset, g })?;
-        }
-        let mut automation = Automation::new(Points { items }, 2);
-        let mut at = 0;
-        while at < samples.len() {
-            let mut piece = [0i16; 12];
-            automation.apply(&samples[at..at + step], &mut piece[..step]);
-            for k in 0..step {
-                assert_eq!(rt; piece[k], wanted[at + k]);
-            }
-            at += step;
-        }
-    }
+fn pieces_join(rt: HostRuntime) -> Result<(), Fail> {
+    let mut whole = stream_of(rt.alloc())?;
+    let mut to = [0i16; 12];
+    whole.apply(SAMPLES.as_slice(), to.as_mut_slice());
+    assert!(rt; to == WANTED);
+    let mut parts = stream_of(rt.alloc())?;
+    let mut to = [0i16; 12];
+    parts.apply(&SAMPLES[..2], &mut to[..2]);
+    parts.apply(&SAMPLES[2..6], &mut to[2..6]);
+    parts.apply(&SAMPLES[6..], &mut to[6..]);
+    assert!(rt; to == WANTED);
     Ok(())
 }

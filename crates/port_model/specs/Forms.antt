@@ -15,6 +15,7 @@ use Rattle.port_model.specs.declared.port_state.Node.{Node}
 use Rattle.port_model.specs.declared.sharing.Offered.{Offered}
 use Rattle.port_model.specs.declared.sharing.Offered.TheVariants.{Offer, Nothing}
 use Rattle.port_model.specs.Offers.{int_of, is_shared_key}
+use Rattle.port_model.specs.Keys.{rate_key, channels_key}
 
 -- the one value that a choice is
 abbrev pub only_of : Choice → Option Pod
@@ -68,13 +69,12 @@ value_of node s key = option_map_or (λ f. value_at f.fields key) s.format (opti
 
 -- FORM of a port: its rate and its channels
 abbrev pub HasForm : Node → PortState → ℕ → ℕ → Type 0
-HasForm node s rate channels = (value_of node s 65539 ≡ Some (int_of rate)) × (value_of node s 65540 ≡ Some (int_of channels))
+HasForm node s rate channels = (value_of node s rate_key ≡ Some (int_of rate)) × (value_of node s channels_key ≡ Some (int_of channels))
 
 -- the form of a port, if there is one
 abbrev pub IsForm : Node → PortState → Option (ℕ × ℕ) → Type 0
 IsForm node s None = (rate channels : ℕ) → HasForm node s rate channels → ⊥
 IsForm node s (Some form) = HasForm node s form.0 form.1
-
 -- COUNT OF BUFFERS of a port: 1 to 8, or just the number that was set
 abbrev pub buffers_of : PortState → Choice
 buffers_of s = option_map_or (λ n. Range wide.Int (pos n) (pos n) (pos n)) s.buffers (Range wide.Int (pos 2) (pos 1) (pos 8))

@@ -1,3 +1,4 @@
+pub mod Keys
 pub mod PortState
 pub mod Offers
 pub mod Forms

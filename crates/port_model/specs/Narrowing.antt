@@ -11,6 +11,7 @@ use Rattle.port_model.specs.declared.narrowing.Narrowed.{Narrowed}
 use Rattle.port_model.specs.declared.narrowing.Narrowed.TheVariants.{Done, NotFormat, Clash}
 use Rattle.port_model.specs.declared.port_state.Node.{Node}
 use Rattle.port_model.specs.PortState.{AtPort, with_port, offering}
+use Rattle.port_model.specs.Keys.{format_object}
 
 -- no port of the node has a format
 abbrev pub IsUnformatted : Node → Type 0
@@ -19,7 +20,7 @@ IsUnformatted node = All (λ s. s.format ≡ None) node.ports
 -- NARROWING: the file is no Format (0x40003), or clashes with the port's own offer, first at this key, and nothing
 -- changes; else the own offer becomes the common format of both
 abbrev pub Narrows : List Node → PortId → Format → Narrowed → List Node → Type 0
-Narrows nodes port file NotFormat later = (file.object ≢ 262147) × (later ≡ nodes)
+Narrows nodes port file NotFormat later = (file.object ≢ format_object) × (later ≡ nodes)
 Narrows nodes port file (Clash key) later =
     AtPort nodes port (λ node s. Filters s.own file (filtered.Clash key)) × (later ≡ nodes)
 Narrows nodes port file Done later = AtPort nodes port

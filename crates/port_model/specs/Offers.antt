@@ -15,6 +15,7 @@ use Rattle.format_filter.specs.declared.format.Field.{Field}
 use Rattle.format_filter.specs.declared.format.Format.{Format}
 use Rattle.port_model.specs.declared.port_state.PortState.{PortState}
 use Rattle.port_model.specs.declared.port_state.Node.{Node}
+use Rattle.port_model.specs.Keys.{format_object, enum_format_id, media_type_key, media_subtype_key, audio_type, raw_subtype, audio_format_key, s16_le_format, rate_key, channels_key}
 
 -- a number as an Int
 abbrev pub int_of : ℕ → Pod
@@ -48,10 +49,12 @@ plain_field key choice = record { key = key; flags = 0; choice = choice }
 -- object type Format (0x40003) and id EnumFormat (3)
 abbrev pub kind_offer : Kind → ℕ → ℕ → ℕ → Format
 kind_offer kind rate channels port = record {
-  object = 262147;
-  id = 3;
-  fields = plain_field 1 (Only (pod.Id 1)) ∷ plain_field 2 (Only (pod.Id 1)) ∷ plain_field 65537 (Only (pod.Id 259))
-      ∷ plain_field 65539 (rate_choice kind rate) ∷ plain_field 65540 (channels_choice kind port channels) ∷ [];
+  object = format_object;
+  id = enum_format_id;
+  fields = plain_field media_type_key (Only (pod.Id audio_type))
+      ∷ plain_field media_subtype_key (Only (pod.Id raw_subtype))
+      ∷ plain_field audio_format_key (Only (pod.Id s16_le_format))
+      ∷ plain_field rate_key (rate_choice kind rate) ∷ plain_field channels_key (channels_choice kind port channels) ∷ [];
 }
 
 abbrev pub new_port : Kind → ℕ → ℕ → ℕ → PortState
@@ -70,7 +73,7 @@ FixesChannels _ = ⊥
 
 -- which keys all ports of a node share: the rate, and of some kinds the channels
 abbrev pub is_shared_key : Kind → ℕ → Bool
-is_shared_key (Gain g) key = (key == 65539) || (key == 65540)
-is_shared_key (Mix2 ga gb) key = (key == 65539) || (key == 65540)
-is_shared_key (Delay frames) key = (key == 65539) || (key == 65540)
-is_shared_key kind key = key == 65539
+is_shared_key (Gain g) key = (key == rate_key) || (key == channels_key)
+is_shared_key (Mix2 ga gb) key = (key == rate_key) || (key == channels_key)
+is_shared_key (Delay frames) key = (key == rate_key) || (key == channels_key)
+is_shared_key kind key = key == rate_key

@@ -14,6 +14,7 @@ use Rattle.port_model.specs.declared.sharing.Offered.TheVariants.{Offer, Nothing
 use Rattle.port_model.specs.declared.sharing.Shared.{Shared}
 use Rattle.port_model.specs.declared.sharing.Shared.TheVariants.{Fields, Outside}
 use Rattle.port_model.specs.Forms.{shared_value, shared_field}
+use Rattle.port_model.specs.Keys.{format_object}
 
 -- no shared value is a Choice (19)
 abbrev pub SharesPlain : Node → Type 0
@@ -44,5 +45,5 @@ SharesAll node fields (Outside key) = (f : Field) × (field_of fields key ≡ So
 
 -- what is offered is a Format (0x40003), and sound
 abbrev pub IsSoundOffer : Offered → Type 0
-IsSoundOffer (Offer format) = IsSoundFormat format × (format.object ≡ 262147)
+IsSoundOffer (Offer format) = IsSoundFormat format × (format.object ≡ format_object)
 IsSoundOffer (Nothing key) = Unit {0}

@@ -15,6 +15,7 @@ use Rattle.port_model.specs.declared.port_state.PortState.{PortState}
 use Rattle.port_model.specs.declared.port_state.Node.{Node}
 use Rattle.port_model.specs.Offers.{int_of, is_shared_key, FixesChannels}
 use Rattle.port_model.specs.Forms.{value_at, shared_value}
+use Rattle.port_model.specs.Keys.{format_object, rate_key, channels_key}
 
 -- an Int of a number for which P holds
 abbrev pub IsNumber : (ℕ → Type 0) → Pod → Type 0
@@ -30,11 +31,11 @@ pub record Admits (fields : List Field) (key : ℕ) (P : ℕ → Type 0) : Type 
 -- one value
 pub record IsOwnOffer (kind : Kind) (port : ℕ) (own : Format) : Type 0 where
   pub sound : IsSoundFormat own
-  pub object : own.object ≡ 262147
+  pub object : own.object ≡ format_object
   pub id : own.id ≡ 3
-  pub rate : Admits own.fields 65539 (MayHaveRate kind)
-  pub channels : Admits own.fields 65540 (MayHaveChannels kind port)
-  pub single : FixesChannels kind → IsSome (value_at own.fields 65540)
+  pub rate : Admits own.fields rate_key (MayHaveRate kind)
+  pub channels : Admits own.fields channels_key (MayHaveChannels kind port)
+  pub single : FixesChannels kind → IsSome (value_at own.fields channels_key)
 
 -- the value of a format at a key is one that an own offer admits
 pub record IsWithin (own format : Format) (key : ℕ) : Type 0 where
@@ -47,9 +48,9 @@ pub record IsWithin (own format : Format) (key : ℕ) : Type 0 where
 -- a format that a port with this own offer may have
 pub record IsTaken (own format : Format) : Type 0 where
   pub sound : IsSoundFormat format
-  pub object : format.object ≡ 262147
-  pub rate : IsWithin own format 65539
-  pub channels : IsWithin own format 65540
+  pub object : format.object ≡ format_object
+  pub rate : IsWithin own format rate_key
+  pub channels : IsWithin own format channels_key
 
 pub record IsSoundPort (kind : Kind) (port : ℕ) (s : PortState) : Type 0 where
   pub own : IsOwnOffer kind port s.own
@@ -72,7 +73,6 @@ pub record IsSoundNode (node : Node) : Type 0 where
 pub record AreSoundNodes (nodes : List Node) : Type 0 where
   pub few : length nodes ≤ 63
   pub each : All IsSoundNode nodes
-
 -- a port without a format may take one: it is within the own offer, and has the values that the node shares
 pub record MayTake (format : Format) (node : Node) (s : PortState) : Type 0 where
   pub free : s.format ≡ None

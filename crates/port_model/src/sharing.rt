@@ -8,6 +8,7 @@ ghost use Rattle.port_model.specs.PortState.{IsPort, AtPort};
 ghost use Rattle.port_model.specs.Offers.{is_shared_key};
 ghost use Rattle.port_model.specs.Forms.{first_format, shared_value, Offers};
 ghost use Rattle.port_model.specs.Sharing.{SharesPlain, IsNarrowedTo, Shares, SharesAll, IsSoundOffer};
+ghost use Rattle.port_model.specs.Keys.{format_object};
 
 use crate::kind_offers::{CHANNELS, RATE};
 use crate::places::{node_at, state_at};
@@ -120,7 +121,7 @@ fn shared_fields(alloc: Global, node: &Node, fields: &[Field]) -> Result<Shared,
 fn offered_freely(alloc: Global, node: &Node, state: &PortState) -> Result<Offered, Memory>
     requires free { state.now.format ≡ None }
     requires own { IsSoundFormat state.now.own }
-    requires object { state.now.own.object ≡ 262147 }
+    requires object { state.now.own.object ≡ format_object }
     requires plain { SharesPlain node.now }
     ensures offers { IfOk result (Offers node.now state.now) }
     ensures sound { IfOk result IsSoundOffer }
