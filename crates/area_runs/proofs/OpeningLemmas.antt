@@ -52,8 +52,9 @@ module _ (p : BoardLayout) (fit : All (λ x. (1 ≤ x.blocks) × (x.blocks ≤ 8
     reads = λ l low _. let at : read_of v l ≡ unread (first p) =
         get_or-replicate (length p.shape.links) l (unread (first p)) (unread 0) low in
         let long = length-replicate (length p.shape.links) (unread (first p)) in
-        record {
+        let hears : length v.heard ≡ length p.shape.links = length-replicate (length p.shape.links) 0 in record {
           there = omega arith;
+          hears = omega arith;
           loaded = ap (λ (r : ReadView). r.loaded) at;
           lowered = ap (λ (r : ReadView). r.lowered) at;
           stored = ap (λ (r : ReadView). r.stored) at;
@@ -119,8 +120,10 @@ module _ (board_shape : BoardShape) (sound : IsSound (layout_of board_shape)) (e
       even = λ i low _. let at : read_of (driver_view p expect k) i ≡ unread (first p) =
           get_or-replicate (length p.shape.links) i (unread (first p)) (unread 0) low in
           let long = length-replicate (length p.shape.links) (unread (first p)) in
+          let hears : length (driver_view p expect k).heard ≡ length p.shape.links = length-replicate (length p.shape.links) 0 in
           subst (λ (x : View). IsReadUpTo x i x.lead.cycle) (sym knows) record {
             there = omega arith;
+            hears = omega arith;
             loaded = ap (λ (r : ReadView). r.loaded) at;
             lowered = ap (λ (r : ReadView). r.lowered) at;
             stored = ap (λ (r : ReadView). r.stored) at;

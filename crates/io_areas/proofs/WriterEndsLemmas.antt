@@ -27,7 +27,7 @@ not_before xs k d once h c = let l : ℕ = get_or xs k d in let i = c.0 in let l
 module _ (Made : ℕ → WriteView → WriteView → Type 0) (v : View) where
   pub kept : (xs : List ℕ) (w : View) → AreMade Made v xs w → IsKept v w
   kept xs w a = record {
-    same = a.same ∙ ap (λ (x : View). record v { writes = w.writes; blocks = x.blocks }) (sym a.same);
+    same = a.same ∙ ap (λ (x : View). record v { writes = w.writes; blocks = x.blocks; reclaimed = x.reclaimed }) (sym a.same);
     ends = a.long;
     room = ap (λ (x : View). length x.blocks) a.same;
   }

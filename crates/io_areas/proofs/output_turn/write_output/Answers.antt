@@ -111,6 +111,7 @@ returns-clause-answer c = let p = layout_of c.args.board.now.board_shape in let 
     record {
       given = c.load_all-given.ensures.given ∙ ap (λ xs. number_given p v (last_of xs)) r.links;
       reclaimed = turn.reclaimed u;
+      returned = turn.returned u;
       used = turn.is_used d z ends;
       freed = turn.is_freed d z ends;
       others = turn.are_kept d z ends;
