@@ -11,13 +11,13 @@ use Rattle.board_rule.specs.Areas.{stored_id}
 use Rattle.board_rule.specs.BlockReadings.{delay_at, busy_cycles}
 use Rattle.board_rule.specs.ReclaimSteps.{reclaimed_of, IsUnreclaimed}
 use Rattle.board_rule.specs.EndViews.{pool_at, block_of, view_block, write_of}
-use Rattle.board_rule.specs.BufferReads.{HasPool, IsFirstFilled}
+use Rattle.board_rule.specs.BufferReads.{HasPool}
 use Rattle.board_rule.specs.SeatNodes.{cycle_of, HasNode}
 use Rattle.board_rule.specs.WorkSteps.{IsRunning}
-use Rattle.board_rule.specs.WriterSteps.{LoadsAsWriter, IsWriter, write_cycle}
+use Rattle.board_rule.specs.WriterSteps.{LoadsAsWriter, IsWriter, write_cycle, StoresHave}
 use Rattle.board_rule.specs.BlockSteps.{IsWriting, fill_cycle}
 use Rattle.buffer_pool.specs.Queue.{Queue}
-use Rattle.io_areas.specs.Writing.{number_given, IsAtPool, IsUnfilled, Reclaims, HasReclaimed, Publishes}
+use Rattle.io_areas.specs.Writing.{number_given, IsAtPool, IsUnfilled, Reclaims, HasReclaimed}
 use Rattle.io_areas.specs.PooledBoard.{IsPooledBoard}
 use Rattle.io_areas.specs.Ends.{IsWrittenUpTo}
 use Rattle.io_areas.specs.FreeBlocks.{FreeBlocks}
@@ -26,7 +26,7 @@ use Rattle.io_areas.specs.OutputSteps.{AreMade, IsLoadedNow, IsPublishedNow}
 use Rattle.io_areas.specs.OutputAnswer.{IsReclaimed}
 use Rattle.io_areas.proofs.KeptLemmas.{IsKept, at_again}
 use Rattle.io_areas.proofs.WriterEndsLemmas.{kept, same_cycle, writer_again}
-use Rattle.io_areas.proofs.BlockLemmas.{IsEarlierBut, here, else, first_filled, early_else}
+use Rattle.io_areas.proofs.BlockLemmas.{here, else}
 use Rattle.io_areas.proofs.RefillLemmas.{IsRefilled, refilled, refill_kept, refill_more, reclaim_refills, reclaimed_by}
 use Rattle.io_areas.proofs.PoolLinkLemmas.{of_pool}
 use Rattle.io_areas.proofs.FreeBlocksLemmas.{AreBack, AreListed, AreOthers, taken, unfilled, is_reclaimed, all_back, all_listed, refreed, free_out}
@@ -196,35 +196,26 @@ module _ {p : BoardLayout} {v : View} {q : ℕ} {pool : Queue} {w : View} {r : O
   others_emitted : (b : ℕ) → b ≢ used → block_of p y q b ≡ block_of p x q b
   others_emitted b o = ap (λ (u : View). block_of p u q b) emitted_is ∙ else p x q used (Out (fill_cycle p v q + 1)) b o
 
-  first_emitted : IsFirstFilled p y q used
-  first_emitted = first_filled p y q used (others t.before).inside (inr (used_emitted ∙ ap (λ n. Out (n + 1)) (sym cycle_emitted)))
-      (subst (λ (u : View). IsEarlierBut p u q used) (sym emitted_is)
-      (early_else p x q used (may_fill t.before).0 (is_unfilled t.before) (others t.before).inside (Out (fill_cycle p v q + 1))))
-
   turn_emitted : (l : ℕ) → Contains (links_of p q) l → write_cycle p y l ≡ fill_cycle p v q
   turn_emitted l d = same_cycle p w y kept_emitted l ∙ same_cycle p v w (kept_loaded first_step) l
       ∙ cycle_at p v q first_step.board first_step.may l d
 
-  pub may_publish_all : All (Publishes p y) (links_of p q)
+  pub may_publish_all : All (λ l. StoresHave p y l used) (links_of p q)
   may_publish_all k e h = let l : ℕ = get_or (links_of p q) k e in let d = Contains-get_or (links_of p q) k e h in let s = first_step in
-      let here = sym (of_pool p s.board q s.may.has.0 l d).2 in (
+      let here = sym (of_pool p s.board q s.may.has.0 l d).2 in
+      let block = subst (λ n. (used < (pool_at p n).blocks) × (block_of p y n used ≡ Out (write_cycle p y l + 1))) here
+      ((others t.before).inside, used_emitted ∙ ap (λ n. Out (n + 1)) (sym (turn_emitted l d))) in (
         writer_again p w y kept_emitted l (writer_again p v w (kept_loaded s) l (writes p v q s.board s.may l d)),
-        subst (λ n. HasPool p y n) here (at_again p w y kept_emitted q (at_loaded s)).0,
         ap (λ (u : WriteView). u.loaded) (ends_emitted l) ∙ loaded s l d ∙ ap (λ n. n + 1) (sym (turn_emitted l d)),
         ap (λ (u : WriteView). u.stored) (ends_emitted l) ∙ stored s l d ∙ sym (turn_emitted l d),
-        (
-          used,
-          subst (λ n. IsFirstFilled p y n used × (block_of p y n used ≡ Out (write_cycle p y l + 1))) here (
-            first_emitted,
-            used_emitted ∙ ap (λ n. Out (n + 1)) (sym (turn_emitted l d)),
-          ),
-        ),
+        block.0,
+        block.1,
       )
 
   -- the turn is over
-  module _ (z : View) (ends : AreMade (IsPublishedNow p y) y (links_of p q) z) where
+  module _ (z : View) (ends : AreMade (IsPublishedNow p y used) y (links_of p q) z) where
     kept_published : IsKept y z
-    kept_published = kept (IsPublishedNow p y) y (links_of p q) z ends
+    kept_published = kept (IsPublishedNow p y used) y (links_of p q) z ends
 
     same_published : (b : ℕ) → block_of p z q b ≡ block_of p y q b
     same_published b = ap (λ (u : View). block_of p u q b) ends.same
@@ -262,7 +253,7 @@ module _ {p : BoardLayout} {v : View} {q : ℕ} {pool : Queue} {w : View} {r : O
         is_used.1 kept_back
 
     published : (l : ℕ) → Contains (links_of p q) l → IsWrittenUpTo z l (fill_cycle p v q + 1)
-    published l d = let is = (ends.made l d).2 in record {
+    published l d = let is = ends.made l d in record {
       there = (let o = (first_step.may.even l d).there in let a = first_step.ends.long in let b = kept_emitted.ends in let e = ends.long in
           omega arith);
       loaded = ap (λ (u : WriteView). u.loaded) is ∙ ap (λ (u : WriteView). u.loaded) (ends_emitted l) ∙ loaded first_step l d;
