@@ -29,7 +29,7 @@ pub fn take<S: BoardSeat>(board: &Board, seat: &mut S, link: u32) -> u32
 
 // How many words a block of the link's pool has: four samples a word.
 fn words_of(board: &Board, link: u32) -> u32
-    requires { link < length board.now.board_shape.shape.links }
+    requires { link < length (layout board.now).shape.links }
     ensures is { let p = layout board.now in result ≡ (pool_at p (pool_of p link)).words }
     ensures quantum { let p = layout board.now in result ≡ (quantum_of p (pool_of p link) + 3) / 4 }
     ensures some { 0 < result }
@@ -41,7 +41,7 @@ fn words_of(board: &Board, link: u32) -> u32
 
 // Where the first sample word of a block of the link's pool stands.
 fn first_of(board: &Board, link: u32, id: u32) -> usize
-    requires inside { link < length board.now.board_shape.shape.links }
+    requires inside { link < length (layout board.now).shape.links }
     requires block { let p = layout board.now in id < (pool_at p (pool_of p link)).blocks }
     ensures { let p = layout board.now in result ≡ sample_place p.shape (pool_of p link) id 0 }
 {
