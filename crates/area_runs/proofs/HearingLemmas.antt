@@ -19,9 +19,9 @@ use Rattle.io_areas.proofs.InputTurnLemmas.{read_even}
 use Rattle.area_runs.specs.Hearing.{MayHearAll, expected_of, Gives, AreHeard}
 use Rattle.area_runs.proofs.ListLemmas.{take_cases, early_differs, last_taken, still_taken}
 
-module _ (p : BoardLayout) (v : View) (rs : List ReadView) where
+module _ (p : BoardLayout) (v : View) (rs : List ReadView) (hs : List ℕ) where
   -- other ends of links leave the nodes
-  pub reads_have : (b : Bool) (m : ℕ) → HasNode b p v m → HasNode b p (record v { reads = rs }) m
+  pub reads_have : (b : Bool) (m : ℕ) → HasNode b p v m → HasNode b p (record v { reads = rs; heard = hs }) m
   reads_have true m h = h
   reads_have false m h = let o = h.0 in (
     record { inside = o.inside; follows = o.follows; loops = o.loops; owned = o.owned; there = o.there; knows = o.knows },
@@ -29,17 +29,19 @@ module _ (p : BoardLayout) (v : View) (rs : List ReadView) where
     h.2,
   )
 
-  pub reads_run : (b : Bool) (m : ℕ) → IsRunning b v m → IsRunning b (record v { reads = rs }) m
+  pub reads_run : (b : Bool) (m : ℕ) → IsRunning b v m → IsRunning b (record v { reads = rs; heard = hs }) m
   reads_run true m r = r
   reads_run false m r = r
 
-  pub reads_cycle : (b : Bool) (l : ℕ) → read_cycle b p (record v { reads = rs }) l ≡ read_cycle b p v l
+  pub reads_cycle : (b : Bool) (l : ℕ) → read_cycle b p (record v { reads = rs; heard = hs }) l ≡ read_cycle b p v l
   reads_cycle true l = refl
   reads_cycle false l = refl
 
-pub read_moves : (v w : View) (l c : ℕ) → length w.reads ≡ length v.reads → read_of w l ≡ read_of v l → IsReadUpTo v l c → IsReadUpTo w l c
-read_moves v w l c long same e = record {
+pub read_moves : (v w : View) (l c : ℕ) → length w.reads ≡ length v.reads → length w.heard ≡ length v.heard → read_of w l ≡ read_of v l
+    → IsReadUpTo v l c → IsReadUpTo w l c
+read_moves v w l c long hears same e = record {
   there = subst (λ n. l < n) (sym long) e.there;
+  hears = subst (λ n. l < n) (sym hears) e.hears;
   loaded = ap (λ (r : ReadView). r.loaded) same ∙ e.loaded;
   lowered = ap (λ (r : ReadView). r.lowered) same ∙ e.lowered;
   stored = ap (λ (r : ReadView). r.stored) same ∙ e.stored;
@@ -54,7 +56,7 @@ expected_long p now before l same = by (link_at p l).delayed
 
 module _ (b : Bool) (p : BoardLayout) (v : View) (links : List ℕ) (may : MayHearAll b p v links) where
   pub none_heard : AreHeard b p v (take 0 links) v
-  none_heard = record { same = refl; ends = refl; heard = λ l c. absurd (omega (arith, c.1)); others = λ l o. refl }
+  none_heard = record { same = refl; ends = refl; hears = refl; heard = λ l c. absurd (omega (arith, c.1)); others = λ l o. refl }
 
   module _ (k : ℕ) (w : View) (low : k < length links) (so_far : AreHeard b p v (take k links) w) where
     abbrev link : ℕ
@@ -67,7 +69,7 @@ module _ (b : Bool) (p : BoardLayout) (v : View) (links : List ℕ) (may : MayHe
     was = may.0 k 0 low
 
     same_cycle : (l : ℕ) → read_cycle b p w l ≡ read_cycle b p v l
-    same_cycle l = ap (λ (x : View). read_cycle b p x l) so_far.same ∙ reads_cycle p v w.reads b l
+    same_cycle l = ap (λ (x : View). read_cycle b p x l) so_far.same ∙ reads_cycle p v w.reads w.heard b l
 
     untouched : read_of w link ≡ read_of v link
     untouched = so_far.others link (early_differs links k may.1 low)
@@ -75,15 +77,15 @@ module _ (b : Bool) (p : BoardLayout) (v : View) (links : List ℕ) (may : MayHe
     pub may_hear : MayReadInput b p w link
     may_hear = record {
       inside = was.inside;
-      has = subst (λ (x : View). HasNode b p x (reader_of p link)) (sym so_far.same) (reads_have p v w.reads b (reader_of p link) was.has);
-      runs = subst (λ (x : View). IsRunning b x (reader_of p link)) (sym so_far.same) (reads_run p v w.reads b (reader_of p link) was.runs);
-      even = subst (IsReadUpTo w link) (sym (same_cycle link)) (read_moves v w link cycle so_far.ends untouched was.even);
+      has = subst (λ (x : View). HasNode b p x (reader_of p link)) (sym so_far.same) (reads_have p v w.reads w.heard b (reader_of p link) was.has);
+      runs = subst (λ (x : View). IsRunning b x (reader_of p link)) (sym so_far.same) (reads_run p v w.reads w.heard b (reader_of p link) was.runs);
+      even = subst (IsReadUpTo w link) (sym (same_cycle link)) (read_moves v w link cycle so_far.ends so_far.hears untouched was.even);
     }
 
     pub still_gives : (now before : List ℤ) → Gives b p v now before link → Gives b p w now before link
     still_gives now before g = subst (λ (x : View). Gives b p x now before link) (sym so_far.same) (by b g)
       where
-        by : (d : Bool) → Gives d p v now before link → Gives d p (record v { reads = w.reads }) now before link
+        by : (d : Bool) → Gives d p v now before link → Gives d p (record v { reads = w.reads; heard = w.heard }) now before link
         by true h = h
         by false h = h
 
@@ -91,18 +93,23 @@ module _ (b : Bool) (p : BoardLayout) (v : View) (links : List ℕ) (may : MayHe
       longer : length u.reads ≡ length w.reads
       longer = ap (λ (x : View). length x.reads) heard.1 ∙ length-set w.reads link _
 
+      hears_on : length u.heard ≡ length w.heard
+      hears_on = ap (λ (x : View). length x.heard) heard.1 ∙ length-set w.heard link _
+
       other : (l : ℕ) → l ≢ link → read_of u l ≡ read_of w l
       other l o = ap (λ (x : View). read_of x l) heard.1 ∙ get_or-set_other w.reads link l _ (unread 0) o
 
       pub one_more : AreHeard b p v (take (k + 1) links) u
       one_more = record {
-        same = heard.1 ∙ ap (λ (rs : List ReadView). record w { reads = rs }) (sym (ap (λ (x : View). x.reads) heard.1))
-            ∙ ap (λ (x : View). record x { reads = u.reads }) so_far.same;
+        same = heard.1 ∙ ap (λ (k : List ReadView × List ℕ). record w { reads = k.0; heard = k.1 })
+            (λ i. (sym (ap (λ (x : View). x.reads) heard.1) i, sym (ap (λ (x : View). x.heard) heard.1) i))
+            ∙ ap (λ (x : View). record x { reads = u.reads; heard = u.heard }) so_far.same;
         ends = longer ∙ so_far.ends;
+        hears = hears_on ∙ so_far.hears;
         heard = λ l c. dite (ℕ_discrete l link)
             (λ e. subst (λ i. IsReadUpTo u i (read_cycle b p v i + 1)) (sym e)
             (subst (λ n. IsReadUpTo u link (n + 1)) (same_cycle link) (read_even b p w link may_hear u heard)))
-            (λ e. read_moves w u l (read_cycle b p v l + 1) longer (other l e)
+            (λ e. read_moves w u l (read_cycle b p v l + 1) longer hears_on (other l e)
             (so_far.heard l (⊎_elim (λ old. old) (λ new. absurd (e (sym new))) (take_cases links k l low c))));
         others = λ l o. other l (λ e. o (subst (Contains (take (k + 1) links)) (sym e) (last_taken links k low)))
             ∙ so_far.others l (λ c. o (still_taken links k l low c));

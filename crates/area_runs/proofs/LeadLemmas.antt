@@ -29,9 +29,10 @@ use Rattle.area_runs.proofs.HearingLemmas.{read_moves}
 abbrev pub IsLeadEven : BoardLayout → View → ℕ → Type 0
 IsLeadEven p v c = (k : ℕ) → k < length p.shape.links → reader_of p k ≡ p.driver → IsReadUpTo v k c
 
-pub lead_moves : (p : BoardLayout) (v w : View) (c d : ℕ) → w.reads ≡ v.reads → d ≡ c → IsLeadEven p v c → IsLeadEven p w d
-lead_moves p v w c d rs e h k low is = subst (IsReadUpTo w k) (sym e)
-    (read_moves v w k c (ap (λ (x : List ReadView). length x) rs) (ap (λ (x : List ReadView). slice_index_or x k (unread 0)) rs)
+pub lead_moves : (p : BoardLayout) (v w : View) (c d : ℕ) → w.reads ≡ v.reads → w.heard ≡ v.heard → d ≡ c → IsLeadEven p v c → IsLeadEven p w d
+lead_moves p v w c d rs hs e h k low is = subst (IsReadUpTo w k) (sym e)
+    (read_moves v w k c (ap (λ (x : List ReadView). length x) rs) (ap (λ (x : List ℕ). length x) hs)
+    (ap (λ (x : List ReadView). slice_index_or x k (unread 0)) rs)
     (h k low is))
 
 module _ (p : BoardLayout) (v w : View) where
@@ -108,10 +109,19 @@ module _ (board_shape : BoardShape) (plain : IsPooledBoard (layout_of board_shap
 
       pub ended_even : IsLeadEven p y y.lead.cycle
       ended_even = lead_moves p w y (v.lead.cycle + 1) y.lead.cycle
-          (ap (λ (z : View). z.reads) ended.2 ∙ ap (λ (z : View). z.reads) over.2) ended_later heard_even
+          (ap (λ (z : View). z.reads) ended.2 ∙ ap (λ (z : View). z.reads) over.2)
+          (ap (λ (z : View). z.heard) ended.2 ∙ ap (λ (z : View). z.heard) over.2) ended_later heard_even
 
       pub ended_expect : y.expect ≡ v.expect
       ended_expect = ap (λ (z : View). z.expect) ended.2 ∙ ap (λ (z : View). z.expect) over.2 ∙ ap (λ (z : View). z.expect) heard.same
+
+      pub ended_checks : y.lead.checks ≡ v.lead.checks
+      ended_checks = ap (λ (z : View). z.lead.checks) ended.2 ∙ ap (λ (z : View). z.lead.checks) over.2
+          ∙ ap (λ (z : View). z.lead.checks) heard.same
+
+      pub ended_lates : y.lead.lates ≡ v.lead.lates
+      ended_lates = ap (λ (z : View). z.lead.lates) ended.2 ∙ ap (λ (z : View). z.lead.lates) over.2
+          ∙ ap (λ (z : View). z.lead.lates) heard.same
 
       pub ended_between : IsBetween p y
       ended_between = let low = has.1.0 in let high = has.1.1 in let e = ended_later in record {

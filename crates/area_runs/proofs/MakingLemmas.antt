@@ -1,12 +1,15 @@
 -- How the loops of a board are made, one after the other.
-use Rattle.std.proofs.Common.{◌≡◌, ◌≢◌, ℕ, ℤ, ◌+◌, ◌<◌, ◌≤◌, List, [], ◌∷◌, ◌++◌, map, length, sym, ap, ◌∙◌}
-use Rattle.std.proofs.Common.{subst, arith}
-use Rattle.std.proofs.Common.{length-append}
-use Rattle.std.specs.Prelude.{All, Contains, slice_index}
+use Rattle.std.proofs.Common.{◌≡◌, ◌≢◌, ℕ, ℤ, ◌+◌, ◌<◌, ◌≤◌, ◌&&◌, Bool, true, false, true≢false, not, cond, eqb, List, [], ◌∷◌, ◌++◌}
+use Rattle.std.proofs.Common.{map, length, get_or, refl, sym, ap, ◌∙◌, subst, arith, eq-eqb, ne_eqb, eqb-true, append-nil, length-append}
+use Rattle.std.specs.Prelude.{All, filter, slice_index}
+use Rattle.std.specs.List.{range_with_len}
+use Rattle.std.proofs.lemmas.Bool.{and_parts}
+use Rattle.std.proofs.lemmas.List.{map-id}
+use Rattle.std.proofs.lemmas.List.FromFn.{length-range_with_len, get_or-range_with_len, filter_of_map_range_with_len_more}
 use mathlib.Core.Logic.{dite}
 use native.Mathlib.Decide.{ℕ_discrete}
 use Rattle.std.proofs.lemmas.List.{get_or_append_left, get_or_push, length-map, map-append}
-use Rattle.std.proofs.lemmas.List.Elements.{All-push, Contains-append_left, Contains-push}
+use Rattle.std.proofs.lemmas.List.Elements.{All-map, All-filter, filter_passes}
 use Rattle.pw_base.specs.declared.shape.Shape.{Shape}
 use Rattle.pw_base.specs.Dependencies.{nodes_of}
 use Rattle.pw_base.specs.Pools.{pools_of, sources_of, pool_of, IsPooledShape}
@@ -18,48 +21,76 @@ use Rattle.area_runs.specs.declared.node_ends.NodeEnds.{NodeEnds}
 use Rattle.area_runs.specs.declared.quanta.Quanta.{Quanta}
 use Rattle.area_runs.specs.declared.worker.Worker.{Worker}
 use Rattle.area_runs.specs.Ends.{ends_of}
-use Rattle.area_runs.specs.Making.{IsOfSeat, IsMade, AreMade}
+use Rattle.board_rule.specs.Layout.{layout_of, nodes}
+use Rattle.area_runs.specs.Making.{is_of_seat, nodes_among, HasNodesOf, IsMade, AreMade}
+
+-- the follower n is of the seat k
+abbrev pub IsOfSeat : BoardShape → ℕ → ℕ → Type 0
+IsOfSeat board_shape k n = let p = layout_of board_shape in (m : ℕ) × (m < nodes p) × (p.number m ≡ n) × (m ≢ p.driver) × (p.seat_of m ≡ k)
 
 pub few_pools : (shape : Shape) → IsPooledShape shape → (length shape.links ≤ 256) × (length (pools_of shape) ≤ 256)
 few_pools shape pooled = let links = pooled.sound.links.few in let ports = few_ports [] shape.links in
     let pools = length-map (sources_of shape) (pool_of shape) in (links, omega arith)
 
-module _ (shape : Shape) (seat_of : List ℕ) (k : ℕ) where
-  -- each listed node is a follower of the seat, with its links and pools; each one of the first m indexes is listed
-  abbrev pub Only : List NodeEnds → Type 0
-  Only list = (seats : ℕ) → All (λ e. (e ≡ ends_of shape e.node)
-      × IsOfSeat (record { shape = shape; seat_of = seat_of; seats = seats }) k e.node) list
+is_false : (b : Bool) → (b ≡ true → ⊥) → b ≡ false
+is_false true h = absurd (h refl)
+is_false false h = refl
 
-  abbrev pub Every : ℕ → List NodeEnds → Type 0
-  Every m list = (j : ℕ) → j < m → j ≢ index_in shape shape.driver → slice_index seat_of j ≡ k
-      → Contains (map (λ e. e.node) list) (slice_index (nodes_of shape) j)
+module _ (board_shape : BoardShape) (k : ℕ) where
+  abbrev test : ℕ → Bool
+  test = is_of_seat board_shape k
 
-  module _ (m : ℕ) (list : List NodeEnds) where
-    pub only_more : (e : NodeEnds) → e ≡ ends_of shape (slice_index (nodes_of shape) m) → m < length shape.nodes
-        → m ≢ index_in shape shape.driver
-        → slice_index seat_of m ≡ k → Only list → Only (list ++ e ∷ [])
-    only_more e is low follows mine only seats = let name = ap (λ (x : NodeEnds). x.node) is in
-        All-push (λ x. (x ≡ ends_of shape x.node) × IsOfSeat (record { shape = shape; seat_of = seat_of; seats = seats }) k x.node) list e
-        (only seats)
-        (is ∙ ap (ends_of shape) (sym name), (m, low, sym name, follows, mine))
+  abbrev driver : ℕ
+  driver = index_in board_shape.shape board_shape.shape.driver
 
-    pub every_more : (e : NodeEnds) → e ≡ ends_of shape (slice_index (nodes_of shape) m) → Every m list → Every (m + 1) (list ++ e ∷ [])
-    every_more e is every j low follows mine = let joined = map-append (λ (x : NodeEnds). x.node) list (e ∷ []) in
-        subst (λ (ns : List ℕ). Contains ns (slice_index (nodes_of shape) j)) (sym joined)
-        (dite (ℕ_discrete j m)
-        (λ same. subst (Contains (map (λ x. x.node) list ++ e.node ∷ []))
-        (ap (λ (x : NodeEnds). x.node) is ∙ ap (slice_index (nodes_of shape)) (sym same))
-        (Contains-push (map (λ x. x.node) list) e.node))
-        (λ other. Contains-append_left (map (λ x. x.node) list) (e.node ∷ []) (slice_index (nodes_of shape) j)
-        (every j (omega arith) follows mine)))
+  abbrev pub ends_at : ℕ → NodeEnds
+  ends_at m = ends_of board_shape.shape (slice_index (nodes_of board_shape.shape) m)
 
-    pub every_on : ((m ≢ index_in shape shape.driver) × (slice_index seat_of m ≡ k) → ⊥) → Every m list → Every (m + 1) list
-    every_on none every j low follows mine = dite (ℕ_discrete j m)
-        (λ same. absurd (none (
-          subst (λ i. i ≢ index_in shape shape.driver) same follows,
-          subst (λ i. slice_index seat_of i ≡ k) same mine,
-        )))
-        (λ other. every j (omega arith) follows mine)
+  -- the followers among one node more
+  more : (m : ℕ) → nodes_among board_shape k (m + 1) ≡ nodes_among board_shape k m ++ map ends_at (cond (test m) (m ∷ []) [])
+  more m = ap (λ (xs : List ℕ). map ends_at (filter test xs)) (sym (map-id (range_with_len 0 (m + 1))))
+      ∙ ap (map ends_at) (filter_of_map_range_with_len_more test (λ (j : ℕ). j) 0 m m (let z : 0 + m ≡ m = omega arith in z)
+      ∙ ap (λ (xs : List ℕ). filter test xs ++ cond (test m) (m ∷ []) []) (map-id (range_with_len 0 m)))
+      ∙ map-append ends_at (filter test (range_with_len 0 m)) (cond (test m) (m ∷ []) [])
+
+  pub one_more : (m : ℕ) → m ≢ driver → slice_index board_shape.seat_of m ≡ k
+      → nodes_among board_shape k (m + 1) ≡ nodes_among board_shape k m ++ ends_at m ∷ []
+  one_more m follows mine = more m ∙ ap (λ (b : Bool). nodes_among board_shape k m ++ map ends_at (cond b (m ∷ []) []))
+      (λ i. not (ne_eqb m driver follows i) && eq-eqb (slice_index board_shape.seat_of m) k mine i)
+
+  pub none_more : (m : ℕ) → ((m ≢ driver) × (slice_index board_shape.seat_of m ≡ k) → ⊥)
+      → nodes_among board_shape k (m + 1) ≡ nodes_among board_shape k m
+  none_more m no_one = more m ∙ ap (λ (b : Bool). nodes_among board_shape k m ++ map ends_at (cond b (m ∷ []) []))
+      (is_false (test m) (λ passed. no_one (passes m passed))) ∙ append-nil (nodes_among board_shape k m)
+    where
+      passes : (m : ℕ) → test m ≡ true → (m ≢ driver) × (slice_index board_shape.seat_of m ≡ k)
+      passes m passed = let b = and_parts (not (eqb m driver)) (eqb (slice_index board_shape.seat_of m) k) passed in
+          ((λ e. true≢false (sym b.0 ∙ ap not (eq-eqb m driver e))), eqb-true (slice_index board_shape.seat_of m) k b.1)
+
+  -- each is a follower of the seat, with its links and pools
+  pub only : (list : List NodeEnds) → length board_shape.seat_of ≡ length board_shape.shape.nodes → HasNodesOf board_shape k list
+      → All (λ e. (e ≡ ends_of board_shape.shape e.node) × IsOfSeat board_shape k e.node) list
+  only list long is = subst (All (λ e. (e ≡ ends_of board_shape.shape e.node) × IsOfSeat board_shape k e.node)) (sym is)
+      (All-map (λ e. (e ≡ ends_of board_shape.shape e.node) × IsOfSeat board_shape k e.node) ends_at (filter test all)
+      (λ i d lt. let m : ℕ = get_or (filter test all) i d in let yes = filter_passes test all i d lt in
+      let low = All-filter test (λ j. j < length board_shape.seat_of) all all_low i d lt in
+      let b = and_parts (not (eqb m driver)) (eqb (slice_index board_shape.seat_of m) k) yes in (
+        refl,
+        (
+          m,
+          omega arith,
+          refl,
+          (λ e. true≢false (sym b.0 ∙ ap not (eq-eqb m driver e))),
+          eqb-true (slice_index board_shape.seat_of m) k b.1,
+        ),
+      )))
+    where
+      all : List ℕ
+      all = range_with_len 0 (length board_shape.seat_of)
+
+      all_low : All (λ j. j < length board_shape.seat_of) all
+      all_low i d lt = let n : ℕ = length board_shape.seat_of in let long = length-range_with_len 0 n in
+          let at = get_or-range_with_len 0 n i d (omega arith) in omega arith
 
 -- one loop more
 pub one_made : (board_shape : BoardShape) (samples : Quanta) (loops : List Known) (workers : List Worker) (seat : Known) (w : Worker)

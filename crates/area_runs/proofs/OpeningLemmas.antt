@@ -32,6 +32,7 @@ use Rattle.area_runs.specs.Ready.{IsReady, IsLeadReady}
 use Rattle.area_runs.specs.Making.{IsMade, IsLeadMade}
 use Rattle.area_runs.specs.Opening.{IsOpenable, AreFirst}
 use Rattle.area_runs.proofs.SteadyLemmas.{is_steady}
+use Rattle.area_runs.proofs.MakingLemmas.{only}
 
 -- a seat of a loop at the start
 module _ (p : BoardLayout) (fit : All (λ x. (1 ≤ x.blocks) × (x.blocks ≤ 8)) (pools_of p.shape)) (e : Samples) (k : ℕ) where
@@ -52,8 +53,9 @@ module _ (p : BoardLayout) (fit : All (λ x. (1 ≤ x.blocks) × (x.blocks ≤ 8
     reads = λ l low _. let at : read_of v l ≡ unread (first p) =
         get_or-replicate (length p.shape.links) l (unread (first p)) (unread 0) low in
         let long = length-replicate (length p.shape.links) (unread (first p)) in
-        record {
+        let hears : length v.heard ≡ length p.shape.links = length-replicate (length p.shape.links) 0 in record {
           there = omega arith;
+          hears = omega arith;
           loaded = ap (λ (r : ReadView). r.loaded) at;
           lowered = ap (λ (r : ReadView). r.lowered) at;
           stored = ap (λ (r : ReadView). r.stored) at;
@@ -99,7 +101,7 @@ module _ (board_shape : BoardShape) (sound : IsSound (layout_of board_shape)) (e
           blocks = has_room p fits expect k;
           steady = runs_steady;
         };
-    rests = λ i d lt. let n : NodeEnds = get_or w.nodes i d in let h = made.nodes_are.only i d lt in let of = h.1 in let m = of.0 in
+    rests = λ i d lt. let n : NodeEnds = get_or w.nodes i d in let h = only board_shape k w.nodes ok.seats.all made.nodes_are i d lt in let of = h.1 in let m = of.0 in
         let at : p.index n.node ≡ m = ap p.index (sym of.2) ∙ sound.at m of.1 in (
           h.0,
           subst (λ (x : ℕ × View × List Queue). IsAtRest p x.1 x.2 x.0) (λ j. (sym at j, sym knows j, sym made.free_are j))
@@ -119,8 +121,10 @@ module _ (board_shape : BoardShape) (sound : IsSound (layout_of board_shape)) (e
       even = λ i low _. let at : read_of (driver_view p expect k) i ≡ unread (first p) =
           get_or-replicate (length p.shape.links) i (unread (first p)) (unread 0) low in
           let long = length-replicate (length p.shape.links) (unread (first p)) in
+          let hears : length (driver_view p expect k).heard ≡ length p.shape.links = length-replicate (length p.shape.links) 0 in
           subst (λ (x : View). IsReadUpTo x i x.lead.cycle) (sym knows) record {
             there = omega arith;
+            hears = omega arith;
             loaded = ap (λ (r : ReadView). r.loaded) at;
             lowered = ap (λ (r : ReadView). r.lowered) at;
             stored = ap (λ (r : ReadView). r.stored) at;
@@ -137,7 +141,7 @@ module _ (board_shape : BoardShape) (sound : IsSound (layout_of board_shape)) (e
       named = ap (λ b. cond b [] expect) (ne_eqb k 0 (λ z. omega arith))
 
   pub workers_first : (k : ℕ) (w : Worker) → IsMade board_shape samples k (record { table = table; knows = loop_view p expect k }) w → AreFirst p w
-  workers_first k w made i d lt = let n : NodeEnds = get_or w.nodes i d in let of = (made.nodes_are.only i d lt).1 in let m = of.0 in
+  workers_first k w made i d lt = let n : NodeEnds = get_or w.nodes i d in let of = (only board_shape k w.nodes ok.seats.all made.nodes_are i d lt).1 in let m = of.0 in
       let at : p.index n.node ≡ m = ap p.index (sym of.2) ∙ sound.at m of.1 in
       ap (λ (x : ℕ × View). (node_of x.1 x.0).next) (λ j. (at j, ap (λ (s : Known). s.knows) made.seat_is j)) ∙ next_is p fits expect k m of.1
 

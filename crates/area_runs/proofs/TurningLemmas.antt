@@ -2,7 +2,7 @@
 use Rattle.std.proofs.Common.{◌≡◌, ◌≢◌, ℕ, ℤ, ◌+◌, ◌<◌, ◌≤◌, false, List, length, refl, sym, ap, ◌∙◌, subst, arith}
 use Rattle.std.proofs.Common.{get_or-set_other}
 use Rattle.std.proofs.lemmas.List.{get_or_default}
-use Rattle.std.specs.Prelude.{All, slice_index_or}
+use Rattle.std.specs.Prelude.{All, slice_index, slice_index_or}
 use Rattle.pw_base.specs.declared.pools.PoolShape.{PoolShape}
 use Rattle.pw_base.specs.Pools.{pools_of}
 use Rattle.board_rule.specs.declared.view.Phase.TheVariants.{Idle, Running}
@@ -13,12 +13,12 @@ use Rattle.board_rule.specs.declared.view.WriteView.{WriteView}
 use Rattle.board_rule.specs.declared.view.ReadView.{ReadView}
 use Rattle.board_rule.specs.declared.view.Trail.{Trail}
 use Rattle.board_rule.specs.declared.view.View.{View}
-use Rattle.board_rule.specs.Layout.{BoardLayout, nodes, first}
+use Rattle.board_rule.specs.Layout.{BoardLayout, nodes, first, last}
 use Rattle.board_rule.specs.View.{Samples, node_of, view_node, idle, unread, unwritten}
 use Rattle.board_rule.specs.SampleWords.{samples_in}
 use Rattle.board_rule.specs.Spans.{block_at}
 use Rattle.board_rule.specs.EndViews.{pool_at, reader_of, filler_of, pool_of, read_of}
-use Rattle.board_rule.specs.Steps.{HasNode, IsRunning, IsReadyToFinish}
+use Rattle.board_rule.specs.Steps.{cycle_of, IsCycle, HasNode, IsMember, IsRunning, IsReadyToFinish}
 use Rattle.board_rule.specs.ReaderSteps.{read_cycle}
 use Rattle.board_rule.specs.BlockSteps.{fill_cycle}
 use Rattle.buffer_pool.specs.Queue.{Queue}
@@ -42,21 +42,22 @@ use Rattle.area_runs.proofs.WritingLemmas.{write_moves, stock_moves}
 
 -- a view with the same ends and blocks
 pub even_moves : (p : BoardLayout) (v w : View) (free : List Queue) (m c d : ℕ) → w.reads ≡ v.reads → w.writes ≡ v.writes → w.blocks ≡ v.blocks
-    → d ≡ c
+    → w.heard ≡ v.heard → w.reclaimed ≡ v.reclaimed → d ≡ c
     → AreEven p v free m c → AreEven p w free m d
-even_moves p v w free m c d rs ws bs e h = subst (AreEven p w free m) (sym e) record {
-  reads = λ l low is. read_moves v w l c (ap (λ (x : List ReadView). length x) rs)
+even_moves p v w free m c d rs ws bs hs rc e h = subst (AreEven p w free m) (sym e) record {
+  reads = λ l low is. read_moves v w l c (ap (λ (x : List ReadView). length x) rs) (ap (λ (x : List ℕ). length x) hs)
       (ap (λ (x : List ReadView). slice_index_or x l (unread 0)) rs)
       (h.reads l low is);
   writes = λ l low is. write_moves v w l c (ap (λ (x : List WriteView). length x) ws)
       (ap (λ (x : List WriteView). slice_index_or x l (unwritten 0)) ws)
       (h.writes l low is);
   stocks = λ q low is. stock_moves p v w q c (queue_of free q)
-      (λ b lt. ap (λ (x : List BlockView). slice_index_or x (block_at p q b) Free) bs)
+      (λ b lt. ap (λ (x : List BlockView). slice_index_or x (block_at p q b) Free) bs) (ap (λ (x : List ℕ). slice_index x q) rc)
       (h.stocks q low is);
 }
 
-module _ (p : BoardLayout) (v x : View) (same : x ≡ record v { reads = x.reads; writes = x.writes; blocks = x.blocks }) where
+module _ (p : BoardLayout) (v x : View) (same : x ≡ record v
+    { reads = x.reads; heard = x.heard; writes = x.writes; blocks = x.blocks; reclaimed = x.reclaimed }) where
   -- other ends and blocks leave the nodes
   node_left : (m : ℕ) → node_of x m ≡ node_of v m
   node_left m = ap (λ (y : View). node_of y m) same
@@ -115,17 +116,25 @@ module _ (p : BoardLayout) (plain : IsPooledBoard p) (n : ℕ) where
       filler_cycle : (q : ℕ) → filler_of p q ≡ m → fill_cycle p w q ≡ cycle
       filler_cycle q e = ap (λ k. (node_of w k).next) e ∙ ap (λ (y : View). (node_of y m).next) heard.same
 
-      w_same : w ≡ record v { reads = w.reads; writes = w.writes; blocks = w.blocks }
-      w_same = heard.same ∙ ap (λ (y : View). record v { reads = w.reads; writes = y.writes; blocks = y.blocks }) (sym heard.same)
+      w_same : w ≡ record v { reads = w.reads; heard = w.heard; writes = w.writes; blocks = w.blocks; reclaimed = w.reclaimed }
+      w_same = heard.same ∙ ap (λ (y : View). record v
+          { reads = w.reads; heard = w.heard; writes = y.writes; blocks = y.blocks; reclaimed = y.reclaimed }) (sym heard.same)
 
       w_has : HasNode false p w m
       w_has = has_left p v w w_same m has
+
+      w_bounds : (first p ≤ cycle_of false w m) × (cycle_of false w m ≤ last p)
+      w_bounds = let c = has.1 in let low = c.0 in let high = c.1 in let same = ap (λ (y : View). (node_of y m).next) heard.same in
+          (omega arith, omega arith)
 
       ws : w.writes ≡ v.writes
       ws = ap (λ (y : View). y.writes) heard.same
 
       bs : w.blocks ≡ v.blocks
       bs = ap (λ (y : View). y.blocks) heard.same
+
+      rc : w.reclaimed ≡ v.reclaimed
+      rc = ap (λ (y : View). y.reclaimed) heard.same
 
       pub may_fill_all : ((q : ℕ) → q < length (pools_of p.shape) → block_at p q (pool_at p q).blocks ≤ length v.blocks)
           → MayFillAll p w old (fills_of p.shape n)
@@ -135,17 +144,18 @@ module _ (p : BoardLayout) (plain : IsPooledBoard p) (n : ℕ) where
               record {
                 has = (
                   h.0,
-                  subst (HasNode false p w) (sym h.1) w_has,
+                  subst (IsMember false p w) (sym h.1) (w_has.0, w_bounds, w_has.2),
                   subst (λ (y : List BlockView). block_at p q (pool_at p q).blocks ≤ length y) (sym bs) (room q h.0),
                 );
                 runs = subst (IsRunning false w) (sym h.1) (ap (λ (y : View). (node_of y m).phase) heard.same ∙ runs);
+                cycle = subst (IsCycle p) (sym now) has.1;
                 even = λ l c. subst (IsWrittenUpTo w l) (sym now) (write_moves v w l cycle (ap (λ (y : List WriteView). length y) ws)
                     (ap (λ (y : List WriteView). slice_index_or y l (unwritten 0)) ws)
                     (even.writes l (pool_link p plain q l h.0 c) (pool_writer p plain q l h.0 c ∙ h.1)));
               },
               subst (λ c. FreeBlocks p w q c (queue_of old q)) (sym now)
                   (stock_moves p v w q cycle (queue_of old q)
-                  (λ b lt. ap (λ (y : List BlockView). slice_index_or y (block_at p q b) Free) bs)
+                  (λ b lt. ap (λ (y : List BlockView). slice_index_or y (block_at p q b) Free) bs) (ap (λ (y : List ℕ). slice_index y q) rc)
                   (even.stocks q h.0 h.1)),
             )),
         fills_once p plain n inside,
@@ -160,22 +170,24 @@ module _ (p : BoardLayout) (plain : IsPooledBoard p) (n : ℕ) where
 
       -- it has filled all
       module _ (x : View) (new : List Queue) (written : AreWritten p w old (fills_of p.shape n) x new) where
-        same : x ≡ record v { reads = x.reads; writes = x.writes; blocks = x.blocks }
-        same = written.same ∙ ap (λ (y : View). record y { writes = x.writes; blocks = x.blocks }) w_same
-            ∙ ap (λ (rs : List ReadView). record v { reads = rs; writes = x.writes; blocks = x.blocks }) (sym rs)
-          where
-            rs : x.reads ≡ w.reads
-            rs = ap (λ (y : View). y.reads) written.same
+        same : x ≡ record v { reads = x.reads; heard = x.heard; writes = x.writes; blocks = x.blocks; reclaimed = x.reclaimed }
+        same = written.same ∙ ap (λ (y : View). record y { writes = x.writes; blocks = x.blocks; reclaimed = x.reclaimed }) w_same
+            ∙ ap (λ (y : View). record v { reads = y.reads; heard = y.heard; writes = x.writes; blocks = x.blocks; reclaimed = x.reclaimed })
+            (sym written.same)
 
         rs : x.reads ≡ w.reads
         rs = ap (λ (y : View). y.reads) written.same
+
+        hs : x.heard ≡ w.heard
+        hs = ap (λ (y : View). y.heard) written.same
 
         read_same : (l : ℕ) → read_of x l ≡ read_of w l
         read_same l = ap (λ (y : List ReadView). slice_index_or y l (unread 0)) rs
 
         own_even : AreEven p x new m (cycle + 1)
         own_even = record {
-          reads = λ l low e. read_moves w x l (cycle + 1) (ap (λ (y : List ReadView). length y) rs) (read_same l)
+          reads = λ l low e. read_moves w x l (cycle + 1) (ap (λ (y : List ReadView). length y) rs) (ap (λ (y : List ℕ). length y) hs)
+              (read_same l)
               (subst (λ c. IsReadUpTo w l (c + 1)) (reader_cycle l e) (heard.heard l (reads_it p plain n inside l low e)));
           writes = λ l low e. let q = of_pool p plain l low in let f = q.2 ∙ e in
               subst (λ c. IsWrittenUpTo x l (c + 1)) (filler_cycle (pool_of p l) f)
@@ -186,7 +198,7 @@ module _ (p : BoardLayout) (plain : IsPooledBoard p) (n : ℕ) where
 
         other_even : (k c : ℕ) → k ≢ m → AreEven p v old k c → AreEven p x new k c
         other_even k c o h = record {
-          reads = λ l low e. read_moves v x l c (ap (λ (y : List ReadView). length y) rs ∙ heard.ends)
+          reads = λ l low e. read_moves v x l c (ap (λ (y : List ReadView). length y) rs ∙ heard.ends) (ap (λ (y : List ℕ). length y) hs ∙ heard.hears)
               (read_same l ∙ heard.others l (λ i. o (sym e ∙ (read_by p plain n inside l i).1))) (h.reads l low e);
           writes = λ l low e. write_moves v x l c (written.ends ∙ ap (λ (y : List WriteView). length y) ws)
               (written.other_links l (λ q i of_q. let f = filled_by p plain n inside q i in
@@ -194,7 +206,8 @@ module _ (p : BoardLayout) (plain : IsPooledBoard p) (n : ℕ) where
               ∙ ap (λ (y : List WriteView). slice_index_or y l (unwritten 0)) ws) (h.writes l low e);
           stocks = λ q low e. let left = written.other_pools q low (λ i. o (sym e ∙ (filled_by p plain n inside q i).1)) in
               subst (FreeBlocks p x q c) (sym left.0) (stock_moves p v x q c (queue_of old q)
-              (λ b lt. left.1 b lt ∙ ap (λ (y : List BlockView). slice_index_or y (block_at p q b) Free) bs) (h.stocks q low e));
+              (λ b lt. left.1 b lt ∙ ap (λ (y : List BlockView). slice_index_or y (block_at p q b) Free) bs)
+              (left.2 ∙ ap (λ (y : List ℕ). slice_index y q) rc) (h.stocks q low e));
         }
 
         x_has : HasNode false p x m
@@ -241,7 +254,7 @@ module _ (p : BoardLayout) (plain : IsPooledBoard p) (n : ℕ) where
 
             moved : (k c : ℕ) → (node_of y k).next ≡ c → AreEven p x new k c → AreEven p y new k (node_of y k).next
             moved k c e h = even_moves p x y new k c (node_of y k).next (ap (λ (u : View). u.reads) r.is) (ap (λ (u : View). u.writes) r.is)
-                (ap (λ (u : View). u.blocks) r.is) e h
+                (ap (λ (u : View). u.blocks) r.is) (ap (λ (u : View). u.heard) r.is) (ap (λ (u : View). u.reclaimed) r.is) e h
 
             other : (k : ℕ) → k ≢ m → node_of y k ≡ node_of v k
             other k o = ap (λ (u : View). node_of u k) r.is ∙ get_or-set_other x.nodes m k slept (idle 0) o ∙ node_left p v x same k
@@ -267,7 +280,7 @@ module _ (p : BoardLayout) (v : View) (m t : ℕ) (has : HasNode false p v m) wh
   begun_next = ap (λ (x : NodeView). x.next) begun_is
 
   pub begun_even : (free : List Queue) → AreEven p v free m (node_of v m).next → AreEven p at_work free m (node_of at_work m).next
-  begun_even free even = even_moves p v at_work free m (node_of v m).next (node_of at_work m).next refl refl refl begun_next even
+  begun_even free even = even_moves p v at_work free m (node_of v m).next (node_of at_work m).next refl refl refl refl refl begun_next even
 
 -- what is so of a turn after a step of its node is so before it
 pub turned_whole : (p : BoardLayout) (v : View) (m : ℕ) (y : NodeView) (t : Trail) → m < length v.nodes → y.next ≡ (node_of v m).next
@@ -279,7 +292,7 @@ turned_whole p v m y t there next old w new h = record {
       let k = h.others n o (
         else_rests p v m n y t o r.0,
         even_moves p v (view_node v m y t) old n (node_of v n).next
-            (node_of (view_node v m y t) n).next refl refl refl (ap (λ (x : NodeView). x.next) same) r.1,
+            (node_of (view_node v m y t) n).next refl refl refl refl refl (ap (λ (x : NodeView). x.next) same) r.1,
       ) in (k.0, k.1 ∙ same);
   expect = h.expect;
   room = h.room;

@@ -50,7 +50,7 @@ module _ (p : BoardLayout) (t : TableId) (old : Worker) (ready : IsReady p t old
       are = rest.0;
       has = woken_has p v m has;
       awake = woken_awake p v m has;
-      even = even_moves p v (woken false v m) free m (node_of v m).next (node_of (woken false v m) m).next refl refl refl
+      even = even_moves p v (woken false v m) free m (node_of v m).next (node_of (woken false v m) m).next refl refl refl refl refl
           (ap (λ (x : NodeView). x.next) (again p v m (record (node_of v m) { phase = Awake }) v.trail has.0.there)) rest.1.1;
     }
 
@@ -92,7 +92,7 @@ module _ (p : BoardLayout) (t : TableId) (old : Worker) (ready : IsReady p t old
             subst (λ (x : View × List Queue). IsAtRest p x.0 x.1 n) (λ i. (sym e i, sym lists i)) (
               tried_rests p v m n found r.1.0,
               even_moves p v (tried p v m found) free n (node_of v n).next
-                  (node_of v n).next refl refl refl refl r.1.1,
+                  (node_of v n).next refl refl refl refl refl refl r.1.1,
             ),
           ));
       long = long ∙ ready.long ∙ sym (ap (λ (q : Quanta). length q.even) samples);

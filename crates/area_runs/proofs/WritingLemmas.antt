@@ -9,13 +9,14 @@ use Rattle.pw_base.specs.Pools.{pools_of}
 use Rattle.board_rule.specs.declared.view.WriteView.{WriteView}
 use Rattle.board_rule.specs.declared.view.BlockView.{BlockView}
 use Rattle.board_rule.specs.declared.view.View.{View}
-use Rattle.board_rule.specs.Layout.{BoardLayout}
+use Rattle.board_rule.specs.Layout.{BoardLayout, first}
 use Rattle.board_rule.specs.View.{node_of}
 use Rattle.board_rule.specs.SampleWords.{samples_in}
 use Rattle.board_rule.specs.Spans.{block_at}
 use Rattle.board_rule.specs.EndViews.{no_pool, pool_at, filler_of, write_of, block_of}
-use Rattle.board_rule.specs.SeatNodes.{HasNode}
+use Rattle.board_rule.specs.SeatNodes.{IsCycle, IsMember}
 use Rattle.board_rule.specs.BlockSteps.{fill_cycle}
+use Rattle.board_rule.specs.ReclaimSteps.{reclaimed_of}
 use Rattle.board_rule.specs.BlockReadings.{busy_cycles}
 use Rattle.board_rule.proofs.WiringLemmas.{wired, busy_cycles_some}
 use Rattle.buffer_pool.specs.Queue.{Queue}
@@ -35,9 +36,9 @@ write_moves v w l c long same e = record {
 }
 
 pub stock_moves : (p : BoardLayout) (v w : View) (q c : ℕ) (pool : Queue)
-    → ((b : ℕ) → b < (pool_at p q).blocks → block_of p w q b ≡ block_of p v q b)
+    → ((b : ℕ) → b < (pool_at p q).blocks → block_of p w q b ≡ block_of p v q b) → reclaimed_of w q ≡ reclaimed_of v q
     → FreeBlocks p v q c pool → FreeBlocks p w q c pool
-stock_moves p v w q c pool same s = record {
+stock_moves p v w q c pool same back s = record {
   size = s.size;
   enough = s.enough;
   listed = λ b here. let h = s.listed b here in (h.0, same b h.0 ∙ h.1);
@@ -47,11 +48,12 @@ stock_moves p v w q c pool same s = record {
   one = λ a b n i j e f. s.one a b n i j (sym (same a i) ∙ e) (sym (same b j) ∙ f);
   else = λ b low. ⊎_elim (λ f. inl (same b low ∙ f)) (λ r. inr (r.0, r.1, same b low ∙ r.2)) (s.else b low);
   zero = λ r. same 0 (let some = busy_cycles_some p (pool_at p q) in let e = s.enough in omega arith) ∙ s.zero r;
+  unreclaimed = subst (λ n. first p + 1 < n → n ≤ c) (sym back) s.unreclaimed;
 }
 
-module _ (p : BoardLayout) (v : View) (ws : List WriteView) (bs : List BlockView) where
+module _ (p : BoardLayout) (v : View) (ws : List WriteView) (bs : List BlockView) (rc : List ℕ) where
   -- other ends of links and other blocks leave the nodes
-  pub writes_have : (m : ℕ) → HasNode false p v m → HasNode false p (record v { writes = ws; blocks = bs }) m
+  pub writes_have : (m : ℕ) → IsMember false p v m → IsMember false p (record v { writes = ws; blocks = bs; reclaimed = rc }) m
   writes_have m h = let o = h.0 in (
     record { inside = o.inside; follows = o.follows; loops = o.loops; owned = o.owned; there = o.there; knows = o.knows },
     h.1,
@@ -76,7 +78,7 @@ module _ (p : BoardLayout) (plain : IsPooledBoard p) where
       even = λ q l c _. absurd (omega (arith, c.1));
       stocks = λ q c. absurd (omega (arith, c.1));
       other_links = λ l o. refl;
-      other_pools = λ r low o. (refl, (λ b lt. refl));
+      other_pools = λ r low o. (refl, (λ b lt. refl), refl);
     }
 
     there : (q : ℕ) → Contains pools q → q < length (pools_of p.shape)
@@ -102,11 +104,12 @@ module _ (p : BoardLayout) (plain : IsPooledBoard p) where
       may_write = record {
         has = (
           pool_in,
-          subst (λ (x : View). HasNode false p x (filler_of p pool)) (sym so_far.same)
-              (writes_have p v w.writes w.blocks (filler_of p pool) was.has.1),
+          subst (λ (x : View). IsMember false p x (filler_of p pool)) (sym so_far.same)
+              (writes_have p v w.writes w.blocks w.reclaimed (filler_of p pool) was.has.1),
           subst (λ n. block_at p pool (pool_at p pool).blocks ≤ n) (sym so_far.room) was.has.2,
         );
         runs = ap (λ (x : View). (node_of x (filler_of p pool)).phase) so_far.same ∙ was.runs;
+        cycle = subst (IsCycle p) (sym (same_cycle pool)) was.cycle;
         even = λ l c. subst (IsWrittenUpTo w l) (sym (same_cycle pool))
             (write_moves v w l (fill_cycle p v pool) so_far.ends
             (so_far.other_links l (λ q done of_q. let h = early q done in h.1 (one_pool q pool l h.0 pool_in of_q c))) (was.even l c));
@@ -117,7 +120,7 @@ module _ (p : BoardLayout) (plain : IsPooledBoard p) where
 
       pub has_stock : FreeBlocks p w pool (fill_cycle p w pool) (queue_of new pool)
       has_stock = subst (λ (x : ℕ × Queue). FreeBlocks p w pool x.0 x.1) (λ i. (sym (same_cycle pool) i, sym left.0 i))
-          (stock_moves p v w pool (fill_cycle p v pool) (queue_of old pool) left.1 (may.0 k 0 low).1)
+          (stock_moves p v w pool (fill_cycle p v pool) (queue_of old pool) left.1 left.2 (may.0 k 0 low).1)
 
       pub free_at : length new ≡ length (pools_of p.shape) → (x : Queue) → get_or new pool x ≡ queue_of new pool
       free_at long x = get_or_default new pool x (record { free = []; blocks = 0 }) (subst (λ n. pool < n) (sym long) pool_in)
@@ -135,7 +138,7 @@ module _ (p : BoardLayout) (plain : IsPooledBoard p) where
 
         pub one_more : AreWritten p v old (take (k + 1) pools) u newer
         one_more = record {
-          same = written.same ∙ ap (λ (y : View). record y { writes = u.writes; blocks = u.blocks }) so_far.same;
+          same = written.same ∙ ap (λ (y : View). record y { writes = u.writes; blocks = u.blocks; reclaimed = u.reclaimed }) so_far.same;
           ends = written.ends ∙ so_far.ends;
           room = written.room ∙ so_far.room;
           lists = length-set new pool x ∙ so_far.lists;
@@ -149,6 +152,7 @@ module _ (p : BoardLayout) (plain : IsPooledBoard p) where
           stocks = λ q c. ⊎_elim
               (λ done. let h = early q done in subst (FreeBlocks p u q (fill_cycle p v q + 1)) (sym (other q h.1))
               (stock_moves p w u q (fill_cycle p v q + 1) (queue_of new q) (λ b lt. written.other_pools q b h.0 lt h.1)
+              (written.other_reclaims q h.1)
               (so_far.stocks q done)))
               (λ (e : pool ≡ q). subst (λ i. FreeBlocks p u i (fill_cycle p v i + 1) (queue_of newer i)) e
               (subst (λ (y : ℕ × Queue). FreeBlocks p u pool (y.0 + 1) y.1)
@@ -163,5 +167,5 @@ module _ (p : BoardLayout) (plain : IsPooledBoard p) where
               ∙ so_far.other_links l (λ q done. o q (still_taken pools k q low done));
           other_pools = λ r lt o. let n : r ≢ pool = λ e. o (subst (Contains (take (k + 1) pools)) (sym e) (last_taken pools k low)) in
               let h = so_far.other_pools r lt (λ done. o (still_taken pools k r low done)) in
-              (other r n ∙ h.0, (λ b less. written.other_pools r b lt less n ∙ h.1 b less));
+              (other r n ∙ h.0, (λ b less. written.other_pools r b lt less n ∙ h.1 b less), written.other_reclaims r n ∙ h.2);
         }

@@ -24,7 +24,8 @@ Gives is_driver p v now before l = (length now ≡ quantum_of p (pool_of p l)) �
 
 -- from the view v to the view w, each of the links is taken, read and given back; no other is touched
 pub record AreHeard (is_driver : Bool) (p : BoardLayout) (v : View) (links : List ℕ) (w : View) : Type 0 where
-  pub same : w ≡ record v { reads = w.reads }
+  pub same : w ≡ record v { reads = w.reads; heard = w.heard }
   pub ends : length w.reads ≡ length v.reads
+  pub hears : length w.heard ≡ length v.heard
   pub heard : (l : ℕ) → Contains links l → IsReadUpTo w l (read_cycle is_driver p v l + 1)
   pub others : (l : ℕ) → (Contains links l → ⊥) → read_of w l ≡ read_of v l

@@ -1,12 +1,14 @@
 -- How the loops of a board are made: which nodes a loop has, and what it begins with.
 -- Source: this project's own.
-use Rattle.std.specs.Prelude.{◌≡◌, ◌≢◌, ℕ, ℤ, ◌<◌, List, All, Contains, length, map, slice_index_or}
+use Rattle.std.specs.Prelude.{◌≡◌, ℕ, ℤ, ◌<◌, ◌&&◌, Bool, not, eqb, List, length, map, filter, slice_index, slice_index_or}
+use Rattle.std.specs.List.{range_with_len}
+use Rattle.pw_base.specs.Dependencies.{nodes_of}
 use Rattle.pw_base.specs.declared.shape.Shape.{Shape}
 use Rattle.pw_base.specs.declared.pools.PoolShape.{PoolShape}
 use Rattle.pw_base.specs.Pools.{pools_of}
 use Rattle.board_rule.specs.declared.board_shape.BoardShape.{BoardShape}
 use Rattle.board_rule.specs.Known.{Known}
-use Rattle.board_rule.specs.Layout.{layout_of, nodes}
+use Rattle.board_rule.specs.Layout.{index_in}
 use Rattle.io_areas.specs.FreeBlocks.{free_at_start}
 use Rattle.area_runs.specs.declared.node_ends.NodeEnds.{NodeEnds}
 use Rattle.area_runs.specs.declared.quanta.Quanta.{Quanta}
@@ -14,14 +16,19 @@ use Rattle.area_runs.specs.declared.worker.Worker.{Worker}
 use Rattle.area_runs.specs.declared.lead.DriverLoop.{DriverLoop}
 use Rattle.area_runs.specs.Ends.{reads_of, ends_of}
 
--- the follower n is of the seat k
-abbrev pub IsOfSeat : BoardShape → ℕ → ℕ → Type 0
-IsOfSeat board_shape k n = let p = layout_of board_shape in (m : ℕ) × (m < nodes p) × (p.number m ≡ n) × (m ≢ p.driver) × (p.seat_of m ≡ k)
+-- the node at the index m is a follower of the seat k
+abbrev pub is_of_seat : BoardShape → ℕ → ℕ → Bool
+is_of_seat board_shape k m = not (eqb m (index_in board_shape.shape board_shape.shape.driver))
+    && eqb (slice_index board_shape.seat_of m) k
 
--- the loop k has the followers of its seat and no others, each with its links and pools
-pub record HasNodesOf (board_shape : BoardShape) (k : ℕ) (list : List NodeEnds) : Type 0 where
-  pub only : All (λ e. (e ≡ ends_of board_shape.shape e.node) × IsOfSeat board_shape k e.node) list
-  pub every : (n : ℕ) → IsOfSeat board_shape k n → Contains (map (λ e. e.node) list) n
+-- of the first n nodes, those of the seat k, once each and in their order
+abbrev pub nodes_among : BoardShape → ℕ → ℕ → List NodeEnds
+nodes_among board_shape k n = map (λ m. ends_of board_shape.shape (slice_index (nodes_of board_shape.shape) m))
+    (filter (is_of_seat board_shape k) (range_with_len 0 n))
+
+-- the loop k has the followers of its seat, each with its links and pools
+abbrev pub HasNodesOf : BoardShape → ℕ → List NodeEnds → Type 0
+HasNodesOf board_shape k list = list ≡ nodes_among board_shape k (length board_shape.seat_of)
 
 -- the loop k, made of its seat
 pub record IsMade (board_shape : BoardShape) (samples : Quanta) (k : ℕ) (seat : Known) (w : Worker) : Type 0 where

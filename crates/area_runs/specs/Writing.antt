@@ -7,6 +7,7 @@ use Rattle.board_rule.specs.Layout.{BoardLayout}
 use Rattle.board_rule.specs.SampleWords.{samples_in}
 use Rattle.board_rule.specs.EndViews.{pool_at, write_of, block_of}
 use Rattle.board_rule.specs.BlockSteps.{fill_cycle}
+use Rattle.board_rule.specs.ReclaimSteps.{reclaimed_of}
 use Rattle.buffer_pool.specs.Queue.{Queue}
 use Rattle.io_areas.specs.Ends.{IsWrittenUpTo}
 use Rattle.io_areas.specs.FreeBlocks.{FreeBlocks}
@@ -27,16 +28,16 @@ MayFillAll p v free pools = All (MayFill p v free) pools × AllPairs (λ q r. q 
 abbrev pub Puts : BoardLayout → View → List ℤ → ℕ → Type 0
 Puts p v samples q = samples ≡ samples_in p v.expect (fill_cycle p v q) q
 
--- the blocks of a pool, and the list of its free ones, are as before
+-- the blocks of a pool, its reclaims and the list of its free ones are as before
 abbrev pub IsLeft : BoardLayout → View → List Queue → ℕ → View → List Queue → Type 0
 IsLeft p v old r w new = (queue_of new r ≡ queue_of old r)
-    × ((b : ℕ) → b < (pool_at p r).blocks → block_of p w r b ≡ block_of p v r b)
+    × ((b : ℕ) → b < (pool_at p r).blocks → block_of p w r b ≡ block_of p v r b) × (reclaimed_of w r ≡ reclaimed_of v r)
 
 -- from the view v to the view w, each of the pools is filled and published in this cycle; no other pool or link is
 -- touched. `old` and `new` have the free blocks before and after
 pub record AreWritten (p : BoardLayout) (v : View) (old : List Queue) (pools : List ℕ)
     (w : View) (new : List Queue) : Type 0 where
-  pub same : w ≡ record v { writes = w.writes; blocks = w.blocks }
+  pub same : w ≡ record v { writes = w.writes; blocks = w.blocks; reclaimed = w.reclaimed }
   pub ends : length w.writes ≡ length v.writes
   pub room : length w.blocks ≡ length v.blocks
   pub lists : length new ≡ length old

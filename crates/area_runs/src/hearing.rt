@@ -22,7 +22,7 @@ fn are_same(a: &[i16], b: &[i16]) -> bool
 
 // What a link brings: `before` if it is delayed.
 fn expected<'a>(board: &Board, link: u32, now: &'a [i16], before: &'a [i16]) -> &'a [i16]
-    requires { link < length board.now.board_shape.shape.links }
+    requires { link < length (layout board.now).shape.links }
     ensures { result.now ≡ expected_of (layout board.now) now.now before.now link }
 {
     if board.shape().links.as_slice()[link as usize].delayed {

@@ -1,7 +1,7 @@
 //! The driver's loop.
 ghost use Rattle.board_rule.specs.OnBoard.{layout, table_of};
 ghost use Rattle.std.specs.Prelude.{◌≡◌, ◌≢◌, true, false, IfSome, IsNone, ◌↔◌};
-ghost use Rattle.board_rule.specs.Layout.{layout_of, last};
+ghost use Rattle.board_rule.specs.Layout.{last};
 ghost use Rattle.activation_words.specs.CycleCalls.{HasChecked};
 ghost use Rattle.area_runs.specs.Ready.{IsLeadReadyOn, BeginsNext, HasLed, still_waits};
 ghost use Rattle.area_runs.specs.Leading.{MayLead, HasConcluded};
@@ -101,7 +101,7 @@ impl DriverLoop {
     pub fn close(self, board: Board) -> Option<Closed>
         requires ready { IsLeadReadyOn board self false }
         ensures closed { IfSome result (IsClosed board self) }
-        ensures none { IsNone result ↔ (self.seat.knows.lead.cycle ≢ last (layout_of board.board_shape)) }
+        ensures none { IsNone result ↔ (self.seat.knows.lead.cycle ≢ last (layout board)) }
     {
         let driver = board.shape().driver;
         if self.seat.ended(&board, driver) != board.shape().cycles {

@@ -22,7 +22,7 @@ pub(crate) fn write_all(
 )
     requires plain { IsPooledBoard (layout board.now) }
     requires table { IsOn board.now seat.old.table }
-    requires shapes { shapes.now ≡ pools_of board.now.board_shape.shape }
+    requires shapes { shapes.now ≡ pools_of (layout board.now).shape }
     requires lists { length free.old ≡ length shapes.now }
     requires phase { MayFillAll (layout board.now) seat.old.knows free.old pools.now }
     requires gives { All (Puts (layout board.now) seat.old.knows samples.now) pools.now }

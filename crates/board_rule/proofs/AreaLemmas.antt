@@ -22,7 +22,8 @@ use Rattle.board_rule.specs.BlockReadings.{Ends, is_busy, stamp, delay_at}
 use Rattle.board_rule.proofs.WiringLemmas.{LinkAt, PoolAt, Wired, late_is, busy_cycles_some}
 use Rattle.board_rule.proofs.DelayLemmas.{delay_most, same_area, area_most, areas_differ}
 use Rattle.board_rule.proofs.PaceLemmas.{Paced}
-use Rattle.board_rule.proofs.EndLemmas.{with_write, with_read, LinkIs, loads_more, buffers_write, buffers_turn}
+use Rattle.board_rule.proofs.ReclaimLemmas.{reclaimed_most, reclaimed_now}
+use Rattle.board_rule.proofs.EndLemmas.{with_write, with_read, LinkIs, buffers_write, buffers_turn}
 
 -- the store before the one that was made last
 one_ago : (loaded stored id : ℕ) (w : WriteView) (a : ℕ) → a ≡ 1
@@ -85,11 +86,14 @@ module _ (p : BoardLayout) (s : ℕ → Span) (ends : Ends) (e : Samples) (ws : 
           unnamed = o.unnamed;
           named = o.named;
           found = o.found;
-        }) more (λ q x is c m d. let o = (b.pools q x is).named l m c d in let mine = loads_more ends l y more m in record {
-          out = λ a n h i j z. o.out a n h i j (omega arith);
-          zero = o.zero;
-          names = o.names;
-        }) (λ i _. refl)
+        }) more (λ q x is c. let ok = b.pools q x is in let o = ok.named l c in (
+          (ok.reclaims.turn l c).0,
+          record {
+            out = o.out;
+            zero = o.zero;
+            names = o.names;
+          },
+        )) (λ i _. refl)
 
     -- the pool's node writes the link
     fills_from : (q : ℕ) (x : PoolShape) → PoolAt p q x → Contains x.links l → s (p.index x.port.node) ≡ from
@@ -128,9 +132,9 @@ module _ (p : BoardLayout) (s : ℕ → Span) (ends : Ends) (e : Samples) (ws : 
               (λ v. o.found 0 (omega arith) g (omega arith) ∙ sym (one_ago writer.loaded (from.ended + 1) id writer a (omega arith)));
         })
         (omega arith)
-        (λ r z ir cr m d. let same : q ≡ r = w.one_pool q r l x z is ir c cr in let pool : x ≡ z = cc in
-        subst (λ (v : ℕ × PoolShape). NamesBlocks p v.1 (delay_at p l) (put ends.writes l y m).loaded y (ends.blocks v.0))
-        (λ i. (same i, pool i)) (names m (subst (λ (v : PoolShape). Contains v.links m) (sym pool) d)))
+        (λ r z ir cr. let same : q ≡ r = w.one_pool q r l x z is ir c cr in let pool : x ≡ z = cc in
+        subst (λ (v : ℕ × PoolShape). (from.ended + 1 ≤ ends.reclaimed v.0)
+        × NamesBlocks p v.1 (delay_at p l) (ends.reclaimed v.0) y (ends.blocks v.0)) (λ i. (same i, pool i)) (now, names))
         (λ i o. get_or-set_other ws writing_place i (have_data_word id) 0 (o (area_of k (from.ended + 1)) (area_most k (from.ended + 1))))
       where
         y : WriteView
@@ -157,10 +161,14 @@ module _ (p : BoardLayout) (s : ℕ → Span) (ends : Ends) (e : Samples) (ws : 
             ∙ get_or-set_other ws writing_place (io_place p.shape l (area_of k (c + 0))) new 0 (λ z. d (omega arith))
             ∙ ap (λ j. get_or ws (io_place p.shape l (area_of k (j + 0))) 0) (sym stored)
 
+        -- the pool is reclaimed in this cycle
+        now : (s (p.index k.from.node)).ended + 1 ≤ ends.reclaimed q
+        now = let node : (s (p.index x.port.node)).ended ≡ (s (p.index k.from.node)).ended = ap (λ (z : Span). z.ended) (fills_from q x is c) in
+            let r = reclaimed_now p s ends e ws w b q x is id small (out ∙ ap (λ n. let u : BlockView = Out (n + 1) in u) (sym node)) in omega arith
+
         -- what the link names now
-        names : (m : ℕ) → Contains x.links m → NamesBlocks p x (delay_at p l) (put ends.writes l y m).loaded y (ends.blocks q)
-        names m d = let o = (b.pools q x is).named l m c d in let t = late_is p l k at in let most = delay_most k in
-            let mine = loads_more ends l y (omega arith) m in
+        names : NamesBlocks p x (delay_at p l) (ends.reclaimed q) y (ends.blocks q)
+        names = let o = (b.pools q x is).named l c in let t = late_is p l k at in let most = delay_most k in
             let f : first p ≤ from.ended = paced.first (p.index k.from.node) (w.from_in l k at) in
             record {
               out = λ a n h i j z. dite (ℕ_discrete a 0)
@@ -202,7 +210,18 @@ module _ (p : BoardLayout) (s : ℕ → Span) (ends : Ends) (e : Samples) (ws : 
     pub finds_zero : (run : to.begun ≡ to.ended + 1) → (q : ℕ) (x : PoolShape) → PoolAt p q x → Contains x.links l → late ≡ 1
         → to.ended ≡ first p → stored_id writer (wrote_now run).0 ≡ 0
     finds_zero run q x is c one start = let n = wrote_now run in let n₁ = n.1 in let n₂ = n.2 in let t = late_is p l k at in
-        ((b.pools q x is).named l l c c).zero (omega arith) n.0 (omega arith) (omega arith)
+        ((b.pools q x is).named l c).zero (omega arith) n.0 (omega arith) (omega arith)
+
+    -- and it is out
+    pub finds_out : (run : to.begun ≡ to.ended + 1) → (q : ℕ) (x : PoolShape) → PoolAt p q x → Contains x.links l
+        → ends.blocks q (stored_id writer (wrote_now run).0) ≡ Out (to.ended + 1 - late)
+    finds_out run q x is c = let n = wrote_now run in let n₁ = n.1 in let n₂ = n.2 in let most = delay_most k in let t = late_is p l k at in
+        let below = w.delay_in q l x is c in let ok = b.pools q x is in
+        let wt = (b.links q l x k is c at).writer_turn in let w₂ = wt.2 in
+        let near = paced.near (p.index k.from.node) (p.index k.to.node) (w.from_in l k at) (w.to_in l k at) in
+        let f : first p ≤ to.ended = paced.first (p.index k.to.node) (w.to_in l k at) in
+        let low = reclaimed_most p x (ends.reclaimed q) ends.writes (ends.blocks q) ok.reclaims l (to.ended + 1) c (omega arith) (omega arith) in
+        (ok.named l c).out n.0 (to.ended + 1 - late) (omega arith) (omega arith) (omega arith) (omega arith)
 
     pub found_id : (run : to.begun ≡ to.ended + 1) → reader.stored ≡ to.ended
         → io_id_in (get_or ws reading_place 0) ≡ stored_id writer (wrote_now run).0

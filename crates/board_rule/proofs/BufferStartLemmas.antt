@@ -91,6 +91,7 @@ module _ (p : BoardLayout) where
     writes = λ l. first_write (first p) (link_in p.shape l);
     reads = λ l. unread (first p);
     blocks = λ q b. first_block p.shape (pool_in p.shape q) b;
+    reclaimed = λ q. first p + 1;
   }
 
   -- the block that is out then
@@ -102,6 +103,14 @@ module _ (p : BoardLayout) where
           → (b ≡ 0) × (first_block p.shape x b ≡ Out (first p))
       by true e _ = let z = and_parts (is_delayed p.shape x) (eqb b 0) e in
           (eqb-true b 0 z.1, ap (λ d. let y : BlockView = cond d (Out (first p)) Free in y) e)
+      by false e g = absurd (true≢false (sym g))
+
+  -- only a pool with a delayed link has one
+  busy_two : (x : PoolShape) (b : ℕ) → is_busy (first_block p.shape x b) ≡ true → busy_cycles p x ≡ 2
+  busy_two x b h = by (is_delayed p.shape x && eqb b 0) refl h
+    where
+      by : (c : Bool) → (is_delayed p.shape x && eqb b 0) ≡ c → is_busy (cond c (Out (first p)) Free) ≡ true → busy_cycles p x ≡ 2
+      by true e _ = ap (λ d. cond {A = ℕ} d 2 1) (and_parts (is_delayed p.shape x) (eqb b 0) e).0
       by false e g = absurd (true≢false (sym g))
 
   delayed_first : (x : PoolShape) → 1 < busy_cycles p x → first_block p.shape x 0 ≡ (let y : BlockView = Out (first p) in y)
@@ -127,7 +136,7 @@ module _ (p : BoardLayout) where
         (s (p.index k.from.node)) (s (p.index k.to.node)) f.0 f.1 g.0 g.1);
     blocks = λ q b x to h. subst (λ j. BlockOk p q b x (s (p.index x.port.node)) (λ _. unread (first p)) e (first_block p.shape j b) ws)
         (sym (get_or_from_slice_get (pools_of p.shape) q x no_pool to)) (block q b x to h);
-    pools = λ q x to. subst (λ j. PoolOk p x (s (p.index x.port.node)) start_ends.writes (first_block p.shape j))
+    pools = λ q x to. subst (λ j. PoolOk p x (s (p.index x.port.node)) (first p + 1) start_ends.writes (first_block p.shape j))
         (sym (get_or_from_slice_get (pools_of p.shape) q x no_pool to)) (pool q x to);
   }
     where
@@ -169,13 +178,19 @@ module _ (p : BoardLayout) where
                   let none : ltb (first p) n ≡ false = le-ltb (first p) n (omega arith) in
                   samples q b i x to h short ∙ sym (ap (λ c. packed (cond c (samples_in p e (n - 1) q) []) i) none)
 
-      pool : (q : ℕ) (x : PoolShape) → PoolAt p q x → PoolOk p x (s (p.index x.port.node)) start_ends.writes (first_block p.shape x)
+      pool : (q : ℕ) (x : PoolShape) → PoolAt p q x → PoolOk p x (s (p.index x.port.node)) (first p + 1) start_ends.writes (first_block p.shape x)
       pool q x to = let busy_some = busy_cycles_some p x in record {
-        named = λ l m c _. let k = w.there q l x to c in let late = w.delay_in q l x to c in
+        reclaims = record {
+          begun = omega arith;
+          turn = λ l c. (omega arith, λ h. absurd (omega arith));
+          until = λ b n h is. let same : first p ≡ n = ap (stamp 0) (sym (busy_first x b (ap is_busy is)).1 ∙ is) in
+              let two = busy_two x b (ap is_busy is) in omega arith;
+        };
+        named = λ l c. let k = w.there q l x to c in let late = w.delay_in q l x to c in
             let y = ap (first_write (first p)) (get_or_from_slice_get p.shape.links l k.0 no_link k.1) in
             let t : delay_at p l ≡ delay_by k.0 = ap (λ o. unwrap_or (option_map delay_by o) 0) k.1 in
-            subst (λ v. NamesBlocks p x (delay_at p l) (start_ends.writes m).loaded v (first_block p.shape x)) (sym y)
-            (names k.0 x (delay_at p l) (start_ends.writes m).loaded t late);
+            subst (λ v. NamesBlocks p x (delay_at p l) (first p + 1) v (first_block p.shape x)) (sym y)
+            (names k.0 x (delay_at p l) t late);
         apart = λ a b ha hb ba bb _. let u = (busy_first x a ba).0 in let v = (busy_first x b bb).0 in omega arith;
         near = λ a b ha hb ba bb. let u : stamp (s (p.index x.port.node)).ended (first_block p.shape x a) ≡ first p =
             ap (stamp (s (p.index x.port.node)).ended) (busy_first x a ba).1 in
@@ -183,11 +198,11 @@ module _ (p : BoardLayout) where
             ap (stamp (s (p.index x.port.node)).ended) (busy_first x b bb).1 in omega arith;
       }
         where
-          names : (k : ShapeLink) (x : PoolShape) (late loaded : ℕ) → late ≡ delay_by k → late < busy_cycles p x
-              → NamesBlocks p x late loaded (first_write (first p) k) (first_block p.shape x)
-          names k x late loaded t small = by k.delayed refl
+          names : (k : ShapeLink) (x : PoolShape) (late : ℕ) → late ≡ delay_by k → late < busy_cycles p x
+              → NamesBlocks p x late (first p + 1) (first_write (first p) k) (first_block p.shape x)
+          names k x late t small = by k.delayed refl
             where
-              by : (d : Bool) → k.delayed ≡ d → NamesBlocks p x late loaded (first_write (first p) k) (first_block p.shape x)
+              by : (d : Bool) → k.delayed ≡ d → NamesBlocks p x late (first p + 1) (first_write (first p) k) (first_block p.shape x)
               by true d = let one : delay_by k ≡ 1 = ap (λ b. cond {A = ℕ} b 1 0) d in
                   let id : (first_write (first p) k).id ≡ 0 = ap (λ b. cond b 0 no_block) d in record {
                     out = λ a n h i j _. let z : a ≡ 0 = omega arith in let m : first p ≡ n = omega arith in

@@ -1,6 +1,6 @@
 -- Laws of `specs/Closing.antt`: at the end the words hold a legal history, and each event is read back.
 use Rattle.std.proofs.Common.{◌≡◌, ℕ, zero, suc, ◌+◌, ◌-◌, ◌<◌, ◌≤◌, ⊎_elim, Bool, true, false, true≢false, cond, List, []}
-use Rattle.std.proofs.Common.{◌∷◌, ◌++◌, length, get_or, Some, refl, sym, ap, ◌∙◌, subst, arith, append-nil}
+use Rattle.std.proofs.Common.{◌∷◌, ◌++◌, length, get_or, Some, Option, refl, sym, ap, ◌∙◌, subst, arith, append-nil}
 use mathlib.Core.Option.{some, some-injective, some-ne-none}
 use mathlib.Core.Logic.{dite}
 use native.Mathlib.Decide.{ℕ_discrete}
@@ -25,6 +25,7 @@ use Rattle.board_rule.specs.View.{Whole}
 use Rattle.board_rule.specs.Marks.{phase_holds, drive_holds, drive_tells, is_begun, is_ending}
 use Rattle.board_rule.specs.ActivationRule.{Activations}
 use Rattle.board_rule.specs.EventRule.{Events, IsHeld, so_far, marks}
+use Rattle.board_rule.specs.TicketOrder.{AreInTicketOrder}
 use Rattle.board_rule.specs.Closing.{HasEndedAll, last_view, LateOf, AreRecorded}
 use Rattle.board_rule.proofs.TickLemmas.{ticks_past, none_checked}
 use Rattle.board_rule.proofs.DrawLemmas.{none_in}
@@ -153,8 +154,9 @@ pub record LeavesEvents (board_shape : BoardShape) (v : View) (words : List ℕ)
   pub has_ticks : count_by is_tick history ≡ v.lead.checks
   pub has_lates : filter is_tick history ≡ v.lead.lates
   pub fits : length history ≤ event_count board_shape.shape
+  pub ordered : AreInTicketOrder (layout_of board_shape) v history
 
-leaves : {S : Type 0} (board_shape : BoardShape) (v w : View) (words : List ℕ) (id : ℕ) (s : State S View) → Holds (layout_of board_shape) s → s.words ≡ words
+leaves : (board_shape : BoardShape) (v w : View) (words : List ℕ) (id : ℕ) (s : State (Option ℕ) View) → Holds (layout_of board_shape) s → s.words ≡ words
     → get_elem? s.views id ≡ some w → w ≡ last_view (layout_of board_shape) v → HasEndedAll (layout_of board_shape) v → LeavesEvents board_shape v words
 leaves board_shape v w words id s r are at is has = let p = layout_of board_shape in let g = r.whole in
     let number : w.number ≡ p.seats = ap (λ (u : View). u.number) is ∙ has.0.1 in
@@ -167,9 +169,17 @@ leaves board_shape v w words id s r are at is has = let p = layout_of board_shap
       has_ticks = ticks p g s.words r.seated.sound r.activations r.events r.seated.long ended ∙ ap (λ (l : DriverView). l.checks) (sym lead);
       has_lates = lates p g s.words r.seated.sound r.activations r.events r.seated.long ended ∙ ap (λ (l : DriverView). l.lates) (sym lead);
       fits = few p g s.words r.seated.sound r.activations r.events r.seated.long ended;
+      ordered = let o = recorded p g s.words r.seated.sound r.activations r.events r.seated.long ended in record {
+        state = s;
+        allowed = r;
+        seat = (id, at ∙ ap some is);
+        count = o.count;
+        each = λ t e h. let same : event_place p.shape t ≡ event_place p.shape 0 + t = omega arith in
+            ap (λ j. get_or s.words j 0) same ∙ o.each t e h;
+      };
     }
 
-pub closed_leaves : {S : Type 0} (board_shape key : BoardShape) (v w : View) (words : List ℕ) (slots : List S) (id : ℕ) → key ≡ board_shape
+pub closed_leaves : (board_shape key : BoardShape) (v w : View) (words : List ℕ) (slots : List (Option ℕ)) (id : ℕ) → key ≡ board_shape
     → Final (Seen (Holds (layout_of key)) id w) words slots → w ≡ last_view (layout_of board_shape) v → HasEndedAll (layout_of board_shape) v → LeavesEvents board_shape v words
 closed_leaves board_shape key v w words slots id about f is has = let s = f.0 in
     leaves board_shape v w words id s (subst (λ k. Holds (layout_of k) s) about f.1.0) f.2 f.1.1 is has

@@ -1,5 +1,5 @@
 -- The buffer rule where one end of a link changes.
-use Rattle.std.proofs.Common.{◌≡◌, ◌≢◌, ℕ, ◌<◌, ◌≤◌, List, get_or, sym, ap, ◌∙◌, subst, arith}
+use Rattle.std.proofs.Common.{◌≡◌, ◌≢◌, ℕ, ◌+◌, ◌<◌, ◌≤◌, List, get_or, sym, ap, ◌∙◌, subst, arith}
 use Rattle.std.specs.Prelude.{Contains}
 use mathlib.Core.Logic.{dite}
 use native.Mathlib.Decide.{ℕ_discrete}
@@ -26,25 +26,6 @@ with_write ends l y = record ends { writes = put ends.writes l y }
 
 abbrev pub with_read : Ends → ℕ → ReadView → Ends
 with_read ends l y = record ends { reads = put ends.reads l y }
-
--- the writer's ends have loaded no less after a step of one
-pub loads_more : (ends : Ends) (l : ℕ) (y : WriteView) → (ends.writes l).loaded ≤ y.loaded → (n : ℕ)
-    → (ends.writes n).loaded ≤ (put ends.writes l y n).loaded
-loads_more ends l y later n = dite (ℕ_discrete n l)
-    (λ z. let now : (put ends.writes l y n).loaded ≡ y.loaded =
-    ap (λ (v : WriteView). v.loaded) (ap (put ends.writes l y) z ∙ put_here ends.writes l y) in
-    let was : (ends.writes n).loaded ≡ (ends.writes l).loaded = ap (λ v. (ends.writes v).loaded) z in omega arith)
-    (λ z. let now : (put ends.writes l y n).loaded ≡ (ends.writes n).loaded =
-    ap (λ (v : WriteView). v.loaded) (put_else ends.writes l n y z) in omega arith)
-
--- what a link names is out for no longer where more is loaded
-names_later : (p : BoardLayout) (x : PoolShape) (late before now : ℕ) (y : WriteView) (blocks : ℕ → BlockView) → before ≤ now
-    → NamesBlocks p x late before y blocks → NamesBlocks p x late now y blocks
-names_later p x late before now y blocks h o = record {
-  out = λ a n l e f z. o.out a n l e f (omega arith);
-  zero = o.zero;
-  names = o.names;
-}
 
 module _ (p : BoardLayout) where
   -- the link l, whose ends are y and r, as the rule says it of a pool
@@ -84,8 +65,8 @@ module _ (p : BoardLayout) where
     pub buffers_write : (y : WriteView) → ((q : ℕ) (x : PoolShape) → PoolAt p q x → Contains x.links l
         → LinkIs s l k y (ends.reads l) after x)
         → (ends.writes l).loaded ≤ y.loaded
-        → ((q : ℕ) (x : PoolShape) → PoolAt p q x → Contains x.links l → (m : ℕ) → Contains x.links m
-        → NamesBlocks p x (delay_at p l) (put ends.writes l y m).loaded y (ends.blocks q))
+        → ((q : ℕ) (x : PoolShape) → PoolAt p q x → Contains x.links l → (y.stored ≤ ends.reclaimed q)
+        × NamesBlocks p x (delay_at p l) (ends.reclaimed q) y (ends.blocks q))
         → OnlyAreas → Buffers p s (with_write ends l y) e after
     buffers_write y ok later names same = record {
       links = λ q m x j to c is. dite (ℕ_discrete m l)
@@ -102,14 +83,22 @@ module _ (p : BoardLayout) where
         samples = λ i g. samples_else same q n i x to h ∙ o.samples i g;
       };
       pools = λ q x to. let o = b.pools q x to in record {
-        named = λ m n c d. dite (ℕ_discrete m l)
-            (λ z. subst (λ v. NamesBlocks p x (delay_at p v) (put ends.writes l y n).loaded (put ends.writes l y v) (ends.blocks q)) (sym z)
-            (subst (λ v. NamesBlocks p x (delay_at p l) (put ends.writes l y n).loaded v (ends.blocks q)) (sym (put_here ends.writes l y))
-            (names q x to (subst (Contains x.links) z c) n d)))
-            (λ z. subst (λ v. NamesBlocks p x (delay_at p m) (put ends.writes l y n).loaded v (ends.blocks q))
-            (sym (put_else ends.writes l m y z))
-            (names_later p x (delay_at p m) (ends.writes n).loaded (put ends.writes l y n).loaded (ends.writes m) (ends.blocks q)
-            (loads_more ends l y later n) (o.named m n c d)));
+        reclaims = let r = o.reclaims in record {
+          begun = r.begun;
+          turn = λ m c. dite (ℕ_discrete m l)
+              (λ z. let mine : Contains x.links l = subst (Contains x.links) z c in let was = (r.turn l mine).1 in
+              subst (λ (v : WriteView). (v.stored ≤ ends.reclaimed q) × (first p + 1 < ends.reclaimed q → ends.reclaimed q ≤ v.loaded))
+              (sym (ap (put ends.writes l y) z ∙ put_here ends.writes l y)) ((names q x to mine).0, λ h. let t = was h in omega arith))
+              (λ z. subst (λ (v : WriteView). (v.stored ≤ ends.reclaimed q) × (first p + 1 < ends.reclaimed q → ends.reclaimed q ≤ v.loaded))
+              (sym (put_else ends.writes l m y z)) (r.turn m c));
+          until = r.until;
+        };
+        named = λ m c. dite (ℕ_discrete m l)
+            (λ z. subst (λ v. NamesBlocks p x (delay_at p v) (ends.reclaimed q) (put ends.writes l y v) (ends.blocks q)) (sym z)
+            (subst (λ v. NamesBlocks p x (delay_at p l) (ends.reclaimed q) v (ends.blocks q)) (sym (put_here ends.writes l y))
+            (names q x to (subst (Contains x.links) z c)).1))
+            (λ z. subst (λ v. NamesBlocks p x (delay_at p m) (ends.reclaimed q) v (ends.blocks q)) (sym (put_else ends.writes l m y z))
+            (o.named m c));
         apart = o.apart;
         near = o.near;
       };

@@ -1,6 +1,6 @@
 -- Each kind of step of a writer on the words of a pool keeps the buffer rule, and finds what the rule says.
 use Rattle.std.proofs.Common.{◌≡◌, ◌≢◌, ℕ, ◌+◌, ◌<◌, ◌≤◌, ◌⊎◌, ⊎_elim, true, true≢false, List, length, set, get_or, refl, sym, ap}
-use Rattle.std.proofs.Common.{◌∙◌, arith, get_or-set_other, get_or-set_same}
+use Rattle.std.proofs.Common.{◌∙◌, subst, arith, get_or-set_other, get_or-set_same}
 use Rattle.std.specs.Prelude.{Contains}
 use mathlib.Core.Logic.{dite}
 use native.Mathlib.Decide.{ℕ_discrete}
@@ -15,12 +15,15 @@ use Rattle.board_rule.specs.StartViews.{Samples}
 use Rattle.board_rule.specs.SampleWords.{packed, samples_of}
 use Rattle.board_rule.specs.Areas.{Span}
 use Rattle.board_rule.specs.Areas.{stored_id}
-use Rattle.board_rule.specs.BufferRule.{BlockOk, Buffers}
+use Rattle.board_rule.specs.View.{put}
+use Rattle.board_rule.specs.BufferRule.{NamesBlocks, BlockOk, Reclaims, Buffers}
 use Rattle.board_rule.specs.BlockReadings.{Ends, is_busy, stamp, filled, delay_at, busy_cycles, readers_of}
-use Rattle.board_rule.proofs.WiringLemmas.{LinkAt, PoolAt, Wired, late_is, busy_cycles_some, delayed_link}
+use Rattle.board_rule.proofs.WiringLemmas.{LinkAt, PoolAt, Wired, made, late_is, busy_cycles_some, delayed_link}
 use Rattle.board_rule.proofs.PaceLemmas.{Paced}
 use Rattle.board_rule.proofs.AwaitedLemmas.{none_waiting, all_waiting}
-use Rattle.board_rule.proofs.BlockLemmas.{with_block, names_put, AreNear, buffers_block}
+use Rattle.board_rule.proofs.ReclaimLemmas.{reclaimed_most}
+use Rattle.board_rule.proofs.SeatLemmas.{put_here, put_else}
+use Rattle.board_rule.proofs.BlockLemmas.{with_block, with_free, names_put, names_later, reclaims_put, AreNear, buffers_block}
 
 fill_out : (j n : ℕ) → (let z : BlockView = Filling j in z) ≡ Out n → ⊥
 fill_out j n z = (cc)
@@ -58,6 +61,13 @@ module _ (p : BoardLayout) (s : ℕ → Span) (ends : Ends) (e : Samples) (ws : 
         let d = paced.ordered l k.0 k.1 in let f : (s (p.index k.0.from.node)).ended ≡ filler.ended = ap (λ (z : Span). z.ended) k.2 in
         omega arith
 
+    -- the pool is reclaimed no further than its node has begun
+    reclaimed_soon : filler.begun ≡ filler.ended + 1 → ends.reclaimed q ≤ filler.ended + 1
+    reclaimed_soon run = let l = w.linked q x at in let k = spans_of l.0 l.1 in let wt = (b.links q l.0 x k.0 at l.1 k.1).writer_turn in
+        let w₂ = wt.2 in let f : (s (p.index k.0.from.node)).begun ≡ filler.begun = ap (λ (z : Span). z.begun) k.2 in
+        let first_low = paced.first (p.index x.port.node) (made p w q x at).0 in
+        reclaimed_most p x (ends.reclaimed q) ends.writes (ends.blocks q) (b.pools q x at).reclaims l.0 (filler.ended + 1) l.1 (omega arith) (omega arith)
+
     -- the block is due: it is busy for no longer than this cycle
     abbrev pub IsDue : ℕ → Type 0
     IsDue m = (ends.blocks q n ≡ Out m) × (m + busy_cycles p x ≡ filler.ended + 1)
@@ -66,17 +76,18 @@ module _ (p : BoardLayout) (s : ℕ → Span) (ends : Ends) (e : Samples) (ws : 
     pub due_named : (m : ℕ) → IsDue m → first p < filler.ended → (l : ℕ) → Contains x.links l → delay_at p l + 1 ≡ busy_cycles p x
         → (ends.writes l).stored ≡ filler.ended → stored_id (ends.writes l) (delay_at p l) ≡ n
     due_named m due new l c late stored = let soon = due.1 in
-        ((b.pools q x at).named l l c c).names (delay_at p l) m n (omega arith) (omega arith) (omega arith) inside due.0
+        ((b.pools q x at).named l c).names (delay_at p l) m n (omega arith) (omega arith) (omega arith) inside due.0
 
     -- it is block 0 in the second cycle where the pool has a delayed link
     pub due_zero : (m : ℕ) → IsDue m → ((l : ℕ) → Contains x.links l → (ends.writes l).loaded ≡ filler.ended + 1) → busy_cycles p x ≡ 2
         → filler.ended ≡ first p + 1 → n ≡ 0
     due_zero m due loaded two second = let late = delayed_link p q x at (omega arith) in let l : ℕ = late.0 in let k = spans_of l late.1 in
-        let o = b.links q l x k.0 at late.1 k.1 in let ok = b.pools q x at in let names = ok.named l l late.1 late.1 in
+        let o = b.links q l x k.0 at late.1 k.1 in let ok = b.pools q x at in let names = ok.named l late.1 in
         let wt = o.writer_turn in let w₀ = wt.0 in let w₁ = wt.1 in let now = loaded l late.1 in let soon = due.1 in let one = late.2 in
         let ended : (s (p.index k.0.from.node)).ended ≡ filler.ended = ap (λ (z : Span). z.ended) k.2 in
         let stored : (ends.writes l).stored ≡ filler.ended = dite (ℕ_discrete (ends.writes l).stored filler.ended) (λ z. z)
-        (λ z. let is = names.out 0 (filler.ended + 1) (omega arith) (omega arith) (omega arith) (omega arith) in
+        (λ z. let low = reclaimed_most p x (ends.reclaimed q) ends.writes (ends.blocks q) ok.reclaims l (filler.ended + 1) late.1 (omega arith) (omega arith) in
+        let is = names.out 0 (filler.ended + 1) (omega arith) (omega arith) (omega arith) (omega arith) in
         let st : stamp filler.ended (ends.blocks q (stored_id (ends.writes l) 0)) ≡ filler.ended + 1 = ap (stamp filler.ended) is in
         let sn : stamp filler.ended (ends.blocks q n) ≡ m = ap (stamp filler.ended) due.0 in
         let e = late_is p l k.0 k.1 in
@@ -92,8 +103,23 @@ module _ (p : BoardLayout) (s : ℕ → Span) (ends : Ends) (e : Samples) (ws : 
 
     -- and frees it, once all links of the pool are loaded in this cycle
     pub frees : (m : ℕ) → IsDue m → filler.begun ≡ filler.ended + 1
-        → ((l : ℕ) → Contains x.links l → (ends.writes l).loaded ≡ filler.ended + 1) → Buffers p s (with_block ends q n Free) e ws
-    frees m due run loaded = let late = due.1 in buffers_block p s ends e ws ws w q n x at inside b Free
+        → ((l : ℕ) → Contains x.links l → (ends.writes l).loaded ≡ filler.ended + 1)
+        → Buffers p s (with_free ends q n (filler.ended + 1)) e ws
+    frees m due run loaded = let late = due.1 in let first_low = paced.first (p.index x.port.node) (made p w q x at).0 in
+        let now = put_here ends.reclaimed q (filler.ended + 1) in let ok = b.pools q x at in let soon = reclaimed_soon run in
+        buffers_block p s ends e ws ws w q n x at inside b Free (put ends.reclaimed q (filler.ended + 1))
+        (λ i o. put_else ends.reclaimed q i (filler.ended + 1) o)
+        (subst (λ k. Reclaims p x k ends.writes (put (ends.blocks q) n Free)) (sym now) record {
+          begun = omega arith;
+          turn = λ l c. let k = spans_of l c in let wt = (b.links q l x k.0 at c k.1).writer_turn in let w₁ = wt.1 in let ld = loaded l c in
+              (omega arith, λ _. omega arith);
+          until = λ c k h is. dite (ℕ_discrete c n)
+              (λ u. absurd (free_out k (sym (put_here (ends.blocks q) n Free) ∙ ap (put (ends.blocks q) n Free) (sym u) ∙ is)))
+              (λ u. let out : ends.blocks q c ≡ (let z : BlockView = Out k in z) = sym (put_else (ends.blocks q) n c Free u) ∙ is in
+              let low = (b.blocks q c x at h).low (ap is_busy out) in let st = ap (stamp filler.ended) out in dite (ℕ_discrete k m)
+              (λ z. absurd (u (ok.apart c n h inside (ap is_busy out) (ap is_busy due.0) (st ∙ z ∙ sym (ap (stamp filler.ended) due.0)))))
+              (λ z. omega arith));
+        })
         record {
           low = λ z. absurd (true≢false (sym z));
           high = λ z. absurd (true≢false (sym z));
@@ -101,10 +127,11 @@ module _ (p : BoardLayout) (s : ℕ → Span) (ends : Ends) (e : Samples) (ws : 
           readers = finds_none m due run;
           samples = λ i l. absurd (omega arith);
         }
-        (λ l k c d. names_put p x (delay_at p l) (ends.writes k).loaded n (ends.writes l) (ends.blocks q) Free
-        ((b.pools q x at).named l k c d)
-        (λ t h is. let same : t ≡ m = ap (stamp 0) (sym is ∙ due.0) in let now = loaded k d in absurd (omega arith))
-        (λ a t h i j z. absurd (free_out t z)))
+        (λ l c. subst (λ k. NamesBlocks p x (delay_at p l) k (ends.writes l) (put (ends.blocks q) n Free)) (sym now)
+        (names_put p x (delay_at p l) (filler.ended + 1) n (ends.writes l) (ends.blocks q) Free
+        (names_later p x (delay_at p l) (ends.reclaimed q) (filler.ended + 1) (ends.writes l) (ends.blocks q) soon (ok.named l c))
+        (λ t h is. let same : t ≡ m = ap (stamp 0) (sym is ∙ due.0) in absurd (omega arith))
+        (λ a t h i j z. absurd (free_out t z))))
         (λ a ha o ba z. absurd (true≢false (sym z))) (λ j o. refl)
 
     -- nothing of the pool is of this cycle yet, or it is being filled up to the index i
@@ -130,7 +157,9 @@ module _ (p : BoardLayout) (s : ℕ → Span) (ends : Ends) (e : Samples) (ws : 
     pub fills : (i : ℕ) → word_count p.shape ≤ length ws → filler.begun ≡ filler.ended + 1 → i < x.words → CanFill i
         → Buffers p s (with_block ends q n (Filling (i + 1))) e (set ws (sample_place p.shape q n i) (word i))
     fills i room run short can = let r = (w.readers_in q n x at inside).1 in let some = busy_cycles_some p x in
-        buffers_block p s ends e ws (set ws (sample_place p.shape q n i) (word i)) w q n x at inside b (Filling (i + 1))
+        buffers_block p s ends e ws (set ws (sample_place p.shape q n i) (word i)) w q n x at inside b (Filling (i + 1)) ends.reclaimed
+        (λ j o. refl) (reclaims_put p x (ends.reclaimed q) n ends.writes (ends.blocks q) (Filling (i + 1)) (b.pools q x at).reclaims
+        (λ m z. absurd (fill_out (i + 1) m z)))
         record {
           low = λ z. omega arith;
           high = λ z. omega arith;
@@ -144,8 +173,8 @@ module _ (p : BoardLayout) (s : ℕ → Span) (ends : Ends) (e : Samples) (ws : 
               (λ z. get_or-set_other ws (sample_place p.shape q n i) (sample_place p.shape q n j) (word i) 0 (λ v. z (omega arith))
               ∙ early j (omega arith));
         }
-        (λ l k c d. names_put p x (delay_at p l) (ends.writes k).loaded n (ends.writes l) (ends.blocks q) (Filling (i + 1))
-        ((b.pools q x at).named l k c d)
+        (λ l c. names_put p x (delay_at p l) (ends.reclaimed q) n (ends.writes l) (ends.blocks q) (Filling (i + 1))
+        ((b.pools q x at).named l c)
         (λ t h is. ⊎_elim (λ (f : ends.blocks q n ≡ Filling i). fill_out i t (sym f ∙ is)) (λ f. free_out t (sym f.0 ∙ is)) can)
         (λ a t h u v z. absurd (fill_out (i + 1) t z)))
         (λ a ha o ba _. ⊎_elim (λ (f : ends.blocks q n ≡ Filling i). filling_near i f (Filling (i + 1)) refl a ha o ba)
@@ -163,7 +192,10 @@ module _ (p : BoardLayout) (s : ℕ → Span) (ends : Ends) (e : Samples) (ws : 
     pub announces : word_count p.shape ≤ length ws → filler.begun ≡ filler.ended + 1 → ends.blocks q n ≡ Filling x.words
         → Buffers p s (with_block ends q n (Out (filler.ended + 1))) e (set ws base (length x.links))
     announces room run full = let r = (w.readers_in q n x at inside).1 in let some = busy_cycles_some p x in
-        buffers_block p s ends e ws (set ws base (length x.links)) w q n x at inside b (Out (filler.ended + 1))
+        let soon = reclaimed_soon run in
+        buffers_block p s ends e ws (set ws base (length x.links)) w q n x at inside b (Out (filler.ended + 1)) ends.reclaimed
+        (λ j o. refl) (reclaims_put p x (ends.reclaimed q) n ends.writes (ends.blocks q) (Out (filler.ended + 1)) (b.pools q x at).reclaims
+        (λ m z. let now : filler.ended + 1 ≡ m = ap (stamp 0) z in omega arith))
         record {
           low = λ z. omega arith;
           high = λ z. omega arith;
@@ -174,8 +206,8 @@ module _ (p : BoardLayout) (s : ℕ → Span) (ends : Ends) (e : Samples) (ws : 
               ∙ block_is.samples j (let z : filled x.words (ends.blocks q n) ≡ x.words = ap (filled x.words) full in omega arith)
               ∙ ap (λ z. packed (samples_of p e (stamp filler.ended z) q) j) full;
         }
-        (λ l k c d. names_put p x (delay_at p l) (ends.writes k).loaded n (ends.writes l) (ends.blocks q) (Out (filler.ended + 1))
-        ((b.pools q x at).named l k c d)
+        (λ l c. names_put p x (delay_at p l) (ends.reclaimed q) n (ends.writes l) (ends.blocks q) (Out (filler.ended + 1))
+        ((b.pools q x at).named l c)
         (λ t h is. fill_out x.words t (sym full ∙ is))
         (λ a t h u v z. let now : filler.ended + 1 ≡ t = ap (stamp 0) z in named_now l c a t h u v now))
         (λ a ha o ba _. filling_near x.words full (Out (filler.ended + 1)) refl a ha o ba)
@@ -187,7 +219,8 @@ module _ (p : BoardLayout) (s : ℕ → Span) (ends : Ends) (e : Samples) (ws : 
         named_now l c a t h u v now = let some = busy_cycles_some p x in let k = spans_of l c in let o = b.links q l x k.0 at c k.1 in
             let wt = o.writer_turn in let w₂ = wt.2 in
             let f : (s (p.index k.0.from.node)).begun ≡ filler.begun = ap (λ (z : Span). z.begun) k.2 in
-            let ok = b.pools q x at in let is = (ok.named l l c c).out a t h u v (omega arith) in let e = late_is p l k.0 k.1 in
+            let ok = b.pools q x at in let soon = reclaimed_soon run in let is = (ok.named l c).out a t h u v (omega arith) in
+            let e = late_is p l k.0 k.1 in
             let st : stamp filler.ended (ends.blocks q n) ≡ filler.ended + 1 = ap (stamp filler.ended) full in
             let other : stamp filler.ended (ends.blocks q (stored_id (ends.writes l) a)) ≡ t = ap (stamp filler.ended) is in
             ok.apart (stored_id (ends.writes l) a) n (o.named a (omega arith) (omega arith)) inside (ap is_busy is) (ap is_busy full)

@@ -18,6 +18,7 @@ use Rattle.board_rule.proofs.WiringLemmas.{LinkAt, PoolAt, Wired, made, busy_cyc
 use Rattle.board_rule.proofs.DelayLemmas.{link_stays}
 use Rattle.board_rule.proofs.StayLemmas.{SameBuffers, io_same, readers_same, samples_same}
 use Rattle.board_rule.proofs.PaceLemmas.{Paced}
+use Rattle.board_rule.proofs.ReclaimLemmas.{reclaimed_most}
 
 fill_out : (j n : ℕ) → (let z : BlockView = Filling j in z) ≡ Out n → ⊥
 fill_out j n z = (cc)
@@ -44,8 +45,9 @@ module _ (p : BoardLayout) where
       let wt = o.writer_turn in let w₂ = wt.2 in
       let some = busy_cycles_some p x in let ok = b.pools q x at in
       let id : (ends.writes l).id < x.blocks = o.named 0 (omega arith) (omega arith) in
+      let low = reclaimed_most p x (ends.reclaimed q) ends.writes (ends.blocks q) ok.reclaims l ((s m).ended + 1) a.1 (omega arith) (omega arith) in
       let out : ends.blocks q (ends.writes l).id ≡ Out ((s m).ended + 1) =
-      (ok.named l l a.1 a.1).out 0 ((s m).ended + 1) (omega arith) (omega arith) (omega arith) (omega arith) in
+      (ok.named l a.1).out 0 ((s m).ended + 1) (omega arith) (omega arith) (omega arith) (omega arith) in
       let st : stamp (s (p.index x.port.node)).ended (ends.blocks q (ends.writes l).id) ≡ (s m).ended + 1 =
       ap (stamp (s (p.index x.port.node)).ended) out in
       let near = ok.near (ends.writes l).id n id h (ap is_busy out) busy in
@@ -86,6 +88,7 @@ module _ (p : BoardLayout) where
         (begun (p.index k.to.node) ht) (io_same p w ws after same l k to);
     blocks = λ q n x at h. dite (ℕ_discrete (p.index x.port.node) m) (λ z. mine q n x at h z) (λ z. others q n x at h z);
     pools = λ q x at. let o = b.pools q x at in record {
+      reclaims = o.reclaims;
       named = o.named;
       apart = λ a c ha hc ba bc z. o.apart a c ha hc ba bc (stays q x at a ha ba ∙ z ∙ sym (stays q x at c hc bc));
       near = λ a c ha hc ba bc. let z = o.near a c ha hc ba bc in let u = stays q x at a ha ba in let v = stays q x at c hc bc in

@@ -28,7 +28,7 @@ use Rattle.pw_base.specs.Pools.{IsPooledShape, channels_of, sources_of, words_of
 use Rattle.pw_base.specs.Pools as pools
 use Rattle.board_rule.proofs.PoolWordLemmas.{pools_have_words}
 use Rattle.pw_base.proofs.PoolLemmas.{channels_le, same_port, port_same}
-use Rattle.pw_base.proofs.LayoutLemmas.{length-start_words}
+use Rattle.pw_base.proofs.LayoutLemmas.{length-start_words, pools_have_blocks}
 use Rattle.board_rule.specs.declared.board_shape.BoardShape.{BoardShape}
 use Rattle.board_rule.specs.Layout.{BoardLayout, layout_of, HasSeats}
 use Rattle.board_rule.specs.Rows.{HasIndexes}
@@ -36,7 +36,8 @@ use Rattle.board_rule.proofs.SoundLemmas.{sound_layout}
 use Rattle.board_rule.proofs.LayoutLemmas.{count_is, long_enough}
 use Rattle.board_rule.specs.View.{Whole, put, node_of, unwritten, unread}
 use Rattle.board_rule.specs.BlockReadings.{Ends}
-use Rattle.board_rule.specs.Spans.{spans, phase_over, phase_begun, drive_over, drive_begun, holder, block_at, KnowsEnds, AreStill}
+use Rattle.board_rule.specs.Spans.{spans, phase_over, phase_begun, drive_over, drive_begun, holder, block_at}
+use Rattle.board_rule.specs.KnownEnds.{KnowsEnds, AreStill}
 use Rattle.board_rule.specs.BoardRule.{Knows, Seated, Holds}
 use Rattle.board_rule.specs.EndViews.{no_link, no_pool, link_at, pool_at, pool_of, view_write, view_read, view_block}
 use Rattle.board_rule.specs.SeatNodes.{cycle_of, HasNode}
@@ -154,8 +155,9 @@ module _ (p : BoardLayout) where
   -- one end or one block of the seat id changes
   ends_step : (g : Whole) (ends : Ends) (words after : List ℕ) (views : List View) (id : ℕ) (v w : View) → get_elem? views id ≡ some v
       → length after ≡ length words → v.number ≤ p.seats → Knows p (with_ends g ends) id w
-      → ((number : ℕ) (writes : List WriteView) (reads : List ReadView) (blocks : List BlockView) → (number ≡ v.number → ⊥)
-      → KnowsEnds p g.ends number writes reads blocks → KnowsEnds p ends number writes reads blocks)
+      → ((number : ℕ) (writes : List WriteView) (reads : List ReadView) (blocks : List BlockView) (reclaimed : List ℕ)
+      → (number ≡ v.number → ⊥) → KnowsEnds p g.ends number writes reads blocks reclaimed
+      → KnowsEnds p ends number writes reads blocks reclaimed)
       → AreStill p ends g.split → w.number ≡ v.number → Seated p g words views
       → Seated p (with_ends g ends) after (set views id w)
   ends_step g ends words after views id v w at same low mine others still number s = let k = s.knows id v at in
@@ -167,7 +169,7 @@ module _ (p : BoardLayout) where
         expects = r.expects;
         is_split = r.is_split;
         owns = r.owns;
-        ends = others u.number u.writes u.reads u.blocks (λ e. other (sym (r.here (omega arith)) ∙ ap g.seat_at e ∙ k.here low)) r.ends;
+        ends = others u.number u.writes u.reads u.blocks u.reclaimed (λ e. other (sym (r.here (omega arith)) ∙ ap g.seat_at e ∙ k.here low)) r.ends;
       }) s.unsplit still s.table (λ _. refl) refl number s
 
   pub write_step : (g : Whole) (words after : List ℕ) (views : List View) (id l : ℕ) (x : ShapeLink) (v : View) (y : WriteView)
@@ -190,17 +192,20 @@ module _ (p : BoardLayout) where
               (λ q. set_else v.writes l i y q ∙ k.ends.of_write i z h e ∙ ap some (sym (put_else g.ends.writes l i y q)));
           of_read = k.ends.of_read;
           of_block = k.ends.of_block;
+          of_pool = k.ends.of_pool;
         };
       }
-      (λ number writes reads blocks other r. record {
+      (λ number writes reads blocks reclaimed other r. record {
         of_write = λ i z h e. r.of_write i z h e ∙ ap some (sym (put_else g.ends.writes l i y (λ q. other (sym e ∙ seat_from i z h q))));
         of_read = r.of_read;
         of_block = r.of_block;
+        of_pool = r.of_pool;
       })
       record {
         writes = λ i z h low e. put_else g.ends.writes l i y (λ q. let a = seat_from i z h q in omega arith) ∙ s.still.writes i z h low e;
         reads = s.still.reads;
         blocks = s.still.blocks;
+        pools = s.still.pools;
       } refl s
     where
       seat_from : (i : ℕ) (z : ShapeLink) → LinkAt p i z → i ≡ l → holder p (p.index z.from.node) ≡ v.number
@@ -227,18 +232,21 @@ module _ (p : BoardLayout) where
               (set_there v.reads l y (g.ends.reads l) (k.ends.of_read l x there mine) ∙ ap some (sym (put_here g.ends.reads l y))))
               (λ q. set_else v.reads l i y q ∙ k.ends.of_read i z h e ∙ ap some (sym (put_else g.ends.reads l i y q)));
           of_block = k.ends.of_block;
+          of_pool = k.ends.of_pool;
         };
       }
-      (λ number writes reads blocks other r. record {
+      (λ number writes reads blocks reclaimed other r. record {
         of_write = r.of_write;
         of_read = λ i z h e. r.of_read i z h e ∙ ap some (sym (put_else g.ends.reads l i y (λ q. other (sym e ∙ seat_to i z h q))));
         of_block = r.of_block;
+        of_pool = r.of_pool;
       })
       record {
         writes = s.still.writes;
         reads = λ i z h far e. put_else g.ends.reads l i y
             (λ q. let a = seat_to i z h q in let split = k.is_split (omega arith) in omega arith) ∙ s.still.reads i z h far e;
         blocks = s.still.blocks;
+        pools = s.still.pools;
       } refl s
     where
       seat_to : (i : ℕ) (z : ShapeLink) → LinkAt p i z → i ≡ l → holder p (p.index z.to.node) ≡ v.number
@@ -268,17 +276,20 @@ module _ (p : BoardLayout) where
               (set_there v.blocks (block_at p q b) y (g.ends.blocks q b) (k.ends.of_block q b x there low mine) ∙ ap some (sym block_now)))
               (λ o. set_else v.blocks (block_at p q b) (block_at p r c) y (blocks_apart r c z h l o) ∙ k.ends.of_block r c z h l e
               ∙ ap some (sym (block_else r c o)));
+          of_pool = k.ends.of_pool;
         };
       }
-      (λ number writes reads blocks other r. record {
+      (λ number writes reads blocks reclaimed other r. record {
         of_write = r.of_write;
         of_read = r.of_read;
         of_block = λ i c z h l e. r.of_block i c z h l e ∙ ap some (sym (block_else i c (λ t. other (sym e ∙ seat_of_pool i z h t.0))));
+        of_pool = r.of_pool;
       })
       record {
         writes = s.still.writes;
         reads = s.still.reads;
         blocks = λ i c z h l far e. block_else i c (λ t. let a = seat_of_pool i z h t.0 in omega arith) ∙ s.still.blocks i c z h l far e;
+        pools = s.still.pools;
       } refl s
     where
       seat_of_pool : (i : ℕ) (z : PoolShape) → PoolAt p i z → i ≡ q → holder p (p.index z.port.node) ≡ v.number
@@ -307,6 +318,52 @@ module _ (p : BoardLayout) where
           (λ t. dite (dec_le i q)
           (λ le. let a = take_less (λ (k : PoolShape). k.blocks) (pools_of p.shape) i q z (omega arith) h in omega arith)
           (λ gt. let a = take_less (λ (k : PoolShape). k.blocks) (pools_of p.shape) q i x (omega arith) there in omega arith))
+
+  -- a pool is reclaimed in the cycle before r
+  abbrev pub new_reclaim : Ends → ℕ → ℕ → Ends
+  new_reclaim ends q r = record ends { reclaimed = put ends.reclaimed q r }
+
+  abbrev pub view_reclaim : View → ℕ → ℕ → View
+  view_reclaim v q r = record v { reclaimed = set v.reclaimed q r }
+
+  pub reclaim_step : (g : Whole) (words : List ℕ) (views : List View) (id q r : ℕ) (x : PoolShape) (v : View)
+      → get_elem? views id ≡ some v → PoolAt p q x → holder p (p.index x.port.node) ≡ v.number → v.number < p.seats
+      → Seated p g words views → Seated p (with_ends g (new_reclaim g.ends q r)) words (set views id (view_reclaim v q r))
+  reclaim_step g words views id q n x v at there mine loops s = let k = s.knows id v at in let split = k.is_split loops in
+      ends_step g (new_reclaim g.ends q n) words words views id v (view_reclaim v q n) at refl (omega arith)
+      record {
+        kept = k.kept;
+        here = k.here;
+        is_driver = k.is_driver;
+        expects = k.expects;
+        is_split = k.is_split;
+        owns = k.owns;
+        ends = record {
+          of_write = k.ends.of_write;
+          of_read = k.ends.of_read;
+          of_block = k.ends.of_block;
+          of_pool = λ i z h e. dite (ℕ_discrete i q)
+              (λ t. subst (λ j. get_elem? (set v.reclaimed q n) j ≡ some (put g.ends.reclaimed q n j)) (sym t)
+              (set_there v.reclaimed q n (g.ends.reclaimed q) (k.ends.of_pool q x there mine) ∙ ap some (sym (put_here g.ends.reclaimed q n))))
+              (λ t. set_else v.reclaimed q i n t ∙ k.ends.of_pool i z h e ∙ ap some (sym (put_else g.ends.reclaimed q i n t)));
+        };
+      }
+      (λ number writes reads blocks reclaimed other r. record {
+        of_write = r.of_write;
+        of_read = r.of_read;
+        of_block = r.of_block;
+        of_pool = λ i z h e. r.of_pool i z h e ∙ ap some (sym (put_else g.ends.reclaimed q i n (λ t. other (sym e ∙ seat_of_pool i z h t))));
+      })
+      record {
+        writes = s.still.writes;
+        reads = s.still.reads;
+        blocks = s.still.blocks;
+        pools = λ i z h far e. put_else g.ends.reclaimed q i n (λ t. let a = seat_of_pool i z h t in omega arith) ∙ s.still.pools i z h far e;
+      } refl s
+    where
+      seat_of_pool : (i : ℕ) (z : PoolShape) → PoolAt p i z → i ≡ q → holder p (p.index z.port.node) ≡ v.number
+      seat_of_pool i z h t = ap (λ (j : PoolShape). holder p (p.index j.port.node))
+          (sym (pool_is i z h) ∙ ap (pool_at p) t ∙ pool_is q x there) ∙ mine
 
   module _ {S : Type 0} where
     -- a node of the seat that works has begun the cycle that the seat is in with it, and not ended it
@@ -337,7 +394,10 @@ placed board_shape pooled seats = let p = layout_of board_shape in let w = wired
           (pool_here p w l (link_at p l) (link_there p l h)).0;
       areas = λ l a h late. let b = (w.io_in l a (link_at p l) (link_there p l h) late).1 in let e = long_enough board_shape.shape in omega arith;
       blocks = λ q b h low. let r = (w.readers_in q b (pool_at p q) (pool_there p q h) low).1 in omega arith;
-      some = λ q h. pools_have_words p (sound_layout board_shape pooled.sound seats) pooled q (pool_at p q) (pool_there p q h);
+      some = λ q h. (
+        pools_have_words p (sound_layout board_shape pooled.sound seats) pooled q (pool_at p q) (pool_there p q h),
+        pools_have_blocks board_shape.shape pooled.sound.links.each q no_pool h,
+      );
       count = let a = few_ports [] board_shape.shape.links in let b = length-map (sources_of board_shape.shape) (pools.pool_of board_shape.shape) in
           let few = pooled.sound.links.few in omega arith;
       few = λ q h. let s = pool_source board_shape.shape q (pool_at p q) (pool_there p q h) in

@@ -46,6 +46,7 @@ pub mod KeepLemmas
 pub mod StartWordLemmas
 pub mod BufferStartLemmas
 pub mod AwaitedLemmas
+pub mod ReclaimLemmas
 pub mod EndLemmas
 pub mod AreaLemmas
 pub mod BlockLemmas

@@ -9,7 +9,8 @@ use Rattle.board_rule.specs.declared.view.View.{View}
 use Rattle.board_rule.specs.Layout.{BoardLayout}
 use Rattle.board_rule.specs.BlockReadings.{is_busy, stamp}
 use Rattle.board_rule.specs.EndViews.{pool_at, block_of}
-use Rattle.board_rule.specs.BufferReads.{is_filled, older, IsOldestOut}
+use Rattle.board_rule.specs.BufferReads.{is_filled, older}
+use Rattle.board_rule.specs.ReclaimSteps.{IsOldestOut}
 
 -- a block that is filled, and one that is not
 pub filled_yes : (words stamp : ℕ) (x : BlockView) → is_filled words stamp x ≡ true → (x ≡ (let z : BlockView = Filling words in z))

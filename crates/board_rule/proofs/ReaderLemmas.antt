@@ -21,6 +21,7 @@ use Rattle.board_rule.proofs.SeatLemmas.{put_here, put_else}
 use Rattle.board_rule.proofs.WiringLemmas.{LinkAt, PoolAt, Wired, late_is}
 use Rattle.board_rule.proofs.DelayLemmas.{delay_most, area_most}
 use Rattle.board_rule.proofs.PaceLemmas.{Paced}
+use Rattle.board_rule.proofs.ReclaimLemmas.{reclaimed_most}
 use Rattle.board_rule.proofs.AwaitedLemmas.{waits, waits_one, waits_none, waits_same, readers_same, waiting_change, waiting_has}
 use Rattle.board_rule.proofs.EndLemmas.{with_read, LinkIs, buffers_read}
 use Rattle.board_rule.proofs.AreaLemmas.{wrote_now}
@@ -55,10 +56,11 @@ module _ (p : BoardLayout) (s : ℕ → Span) (ends : Ends) (e : Samples) (ws : 
         let same : reader.id ≡ stored_id (ends.writes l) n.0 = o.found n.0 n.1 (omega arith) (omega arith) in
         let id : stored_id (ends.writes l) n.0 < x.blocks = o.named n.0 n.1 (omega arith) in
         let near = paced.near (p.index k.from.node) (p.index k.to.node) (w.from_in l k at) (w.to_in l k at) in
-        let wt = o.writer_turn in let w₂ = wt.2 in (
+        let wt = o.writer_turn in let w₂ = wt.2 in let ok = b.pools q x is in
+        let low = reclaimed_most p x (ends.reclaimed q) ends.writes (ends.blocks q) ok.reclaims l (to.ended + 1) c (omega arith) (omega arith) in (
           omega arith,
           ap (ends.blocks q) same
-              ∙ ((b.pools q x is).named l l c c).out n.0 stamp_read (omega arith) (omega arith) (omega arith) (omega arith),
+              ∙ (ok.named l c).out n.0 stamp_read (omega arith) (omega arith) (omega arith) (omega arith),
         )
 
     block_is : BlockOk p q reader.id x (s (p.index x.port.node)) ends.reads e (ends.blocks q reader.id) ws

@@ -1,6 +1,6 @@
 -- What each step of a reader on buffers allows. `b` is true for the driver's seat.
-use Rattle.std.proofs.Common.{◌≡◌, ◌≢◌, ℕ, ◌+◌, ◌-◌, ◌%◌, ◌^◌, ◌<◌, ◌≤◌, inl, inr, Bool, List, set, get_or, refl, sym, ap, ◌∙◌}
-use Rattle.std.proofs.Common.{subst, arith, length-set}
+use Rattle.std.proofs.Common.{◌≡◌, ◌≢◌, ℕ, ◌+◌, ◌-◌, ◌%◌, ◌^◌, ◌<◌, ◌≤◌, inl, inr, Bool, List, Option, set, get_or, refl, sym, ap, ◌∙◌}
+use Rattle.std.proofs.Common.{subst, arith, length-set, set-set}
 use mathlib.Core.Logic.{dite}
 use native.Mathlib.Decide.{ℕ_discrete, dec_le}
 use Rattle.atomic_table.specs.Table.{Me, keeps, stepped, Allows}
@@ -18,19 +18,23 @@ use Rattle.board_rule.specs.Areas.{delay_by, area_of, stored_id}
 use Rattle.board_rule.specs.BlockReadings.{delay_at}
 use Rattle.board_rule.specs.Spans.{spans}
 use Rattle.board_rule.specs.BoardRule.{Seated, Holds}
-use Rattle.board_rule.specs.EndViews.{link_at, pool_at, pool_of, reader_of, read_of}
-use Rattle.board_rule.specs.ReaderSteps.{read_cycle, read_area, LoadsAsReader, loaded_as_reader, IsPublished, ReadsBlock, readers_lowered}
+use Rattle.board_rule.specs.declared.view.BlockView.{BlockView}
+use Rattle.board_rule.specs.declared.view.BlockView.TheVariants.{Out}
+use Rattle.board_rule.specs.EndViews.{link_at, pool_at, pool_of, reader_of, read_of, view_read}
+use Rattle.board_rule.specs.ReaderSteps.{read_cycle, read_area, LoadsAsReader, loaded_as_reader, IsPublished, LoadsSample, sample_loaded}
+use Rattle.board_rule.specs.ReaderSteps.{LowersReaders, readers_lowered}
 use Rattle.board_rule.specs.ReaderSteps.{samples_read, StoresNeed, need_stored}
 use Rattle.board_rule.specs.Plays.{Leaves, Learns}
 use Rattle.board_rule.proofs.WiringLemmas.{LinkAt, Wired, late_is}
 use Rattle.board_rule.proofs.DelayLemmas.{area_most}
 use Rattle.board_rule.proofs.PaceLemmas.{Paced, paces}
 use Rattle.board_rule.proofs.SpanLemmas.{node_over, node_begun, over_at, begun_at, wired_in}
-use Rattle.board_rule.proofs.SeatLemmas.{stay_step}
-use Rattle.board_rule.proofs.HolderLemmas.{got, link_there, pool_here, now_running, new_read, read_step}
+use Rattle.board_rule.proofs.SeatLemmas.{set_there, hear_step}
+use Rattle.board_rule.proofs.HolderLemmas.{got, link_there, pool_here, now_running, with_ends, new_read, read_step}
 use Rattle.board_rule.proofs.KeepLemmas.{holds_ends}
 use Rattle.board_rule.proofs.WriterStepLemmas.{unread_word, room_in, id_of}
-use Rattle.board_rule.proofs.AreaLemmas.{link_is as area_is, wrote_now, finds_have, finds_number, finds_zero, loads_as_reader, stores_need}
+use Rattle.board_rule.proofs.AreaLemmas.{link_is as area_is, wrote_now, finds_have, finds_number, finds_zero, finds_out, loads_as_reader}
+use Rattle.board_rule.proofs.AreaLemmas.{stores_need}
 use Rattle.board_rule.proofs.ReaderLemmas.{reads_block, finds_sample, finds_some, lowers_block}
 
 -- where a link's reader works, the seat of a follower is split off, and with it the samples are named
@@ -50,7 +54,7 @@ has_table p g words views s paced l k at w run = let n : ℕ = p.index k.to.node
     by m h o busy = dite (dec_le (p.seat_of m + 1) g.split) (λ z. s.table m h o (omega arith))
         (λ z. absurd (busy (s.unsplit m h o (omega arith))))
 
-module _ (p : BoardLayout) {S : Type 0} (slots id : ℕ) (me : Me S View) (after : ℕ → View) (says : ℕ → Type 0) where
+module _ (p : BoardLayout) (slots id : ℕ) (me : Me (Option ℕ) View) (after : ℕ → View) (says : ℕ → Type 0) where
   pub load_reader_allowed : (b : Bool) (l : ℕ) → LoadsAsReader b p me.0 l → ((found : ℕ) → after found ≡ loaded_as_reader b p me.0 l found)
       → ((found : ℕ) → IsPublished b p me.0 l found → says found)
       → Allows (Holds p) slots id me (io_place p.shape l (read_area b p me.0 l)) (λ n. n) (Learns after says me)
@@ -80,7 +84,12 @@ module _ (p : BoardLayout) {S : Type 0} (slots id : ℕ) (me : Me S View) (after
         tt,
         holds_ends p s r id i found (loaded_as_reader b p me.0 l found) me.1 (new_read p g.ends l y)
             (inl (w.io_in l (read_area b p me.0 l) k there (area_most k (read_cycle b p me.0 l))))
-            (read_step p g s.words (set s.words i found) s.views id l k me.0 y at (length-set s.words i found) there now.2 now.3 r.seated)
+            (subst (Seated p (with_ends p g (new_read p g.ends l y)) (set s.words i found))
+            (set-set s.views id (view_read me.0 l y) (loaded_as_reader b p me.0 l found))
+            (hear_step p (with_ends p g (new_read p g.ends l y)) (set s.words i found) (set s.words i found)
+            (set s.views id (view_read me.0 l y)) id (view_read me.0 l y) (set me.0.heard l 0)
+            (set_there s.views id (view_read me.0 l y) me.0 at) refl
+            (read_step p g s.words (set s.words i found) s.views id l k me.0 y at (length-set s.words i found) there now.2 now.3 r.seated)))
             (unread_word s.words i (λ ws. Buffers p sp (new_read p g.ends l y) g.expect ws)
             (subst (λ (z : ReadView). Buffers p sp (new_read p g.ends l z) g.expect s.words)
             (λ j. record (is j) { loaded = c j + 1; id = io_id_in (get_or s.words (sym here j) 0) }) new)),
@@ -92,6 +101,15 @@ module _ (p : BoardLayout) {S : Type 0} (slots id : ℕ) (me : Me S View) (after
             (omega arith),
             (λ late start. number ∙ finds_zero p sp g.ends g.expect s.words w paced bs l k there run (pool_of p l)
                 (pool_at p (pool_of p l)) pool.0 pool.1 (sym (late_is p l k there) ∙ late) (c ∙ start)),
+            (
+              s,
+              r,
+              (id, at),
+              ap (g.ends.blocks (pool_of p l)) number
+                  ∙ finds_out p sp g.ends g.expect s.words w paced bs l k there run (pool_of p l) (pool_at p (pool_of p l)) pool.0 pool.1
+                  ∙ ap (λ n. let z : BlockView = Out n in z) (let late = late_is p l k there in
+                  let z : (sp m).ended + 1 - delay_by k ≡ read_cycle b p me.0 l + 1 - delay_at p l = omega arith in z),
+            ),
           ),
         ),
       )
@@ -123,11 +141,12 @@ module _ (p : BoardLayout) {S : Type 0} (slots id : ℕ) (me : Me S View) (after
         (sym (is_after word), refl),
       )
 
-  pub load_sample_allowed : (b : Bool) (l num i : ℕ) → ReadsBlock b p me.0 l num → i < (pool_at p (pool_of p l)).words
-      → ((found : ℕ) → after found ≡ me.0) → ((found : ℕ) → found ≡ packed (samples_read b p me.0 l) i → IsTable p me.0.expect → says found)
+  pub load_sample_allowed : (b : Bool) (l num i : ℕ) → LoadsSample b p me.0 l num i → i < (pool_at p (pool_of p l)).words
+      → ((found : ℕ) → after found ≡ sample_loaded b p me.0 l i)
+      → ((found : ℕ) → found ≡ packed (samples_read b p me.0 l) i → IsTable p me.0.expect → says found)
       → Allows (Holds p) slots id me (sample_place p.shape (pool_of p l) num i) (λ n. n) (Learns after says me)
-  load_sample_allowed b l num i h short is_after it s r _ at fits =
-      let g = r.whole in let w = wired_in p g s.words s.views r.seated in let k : ShapeLink = link_at p l in
+  load_sample_allowed b l num i hear short is_after it s r _ at fits =
+      let h = hear.0 in let g = r.whole in let w = wired_in p g s.words s.views r.seated in let k : ShapeLink = link_at p l in
       let there = link_there p l h.0.0.0 in let m : ℕ = reader_of p l in
       let now = now_running p s r id b me.0 m at h.0.0.2 h.0.0.3 in let run = now.1 in let c = now.0 in
       let ks = r.seated.knows id me.0 at in
@@ -142,12 +161,12 @@ module _ (p : BoardLayout) {S : Type 0} (slots id : ℕ) (me : Me S View) (after
       let word : found ≡ packed (samples_read b p me.0 l) i = ap (λ n. get_or s.words (sample_place p.shape q n i) 0) number
       ∙ finds_sample p sp g.ends g.expect s.words w paced r.buffers l k there q x pool.0 pool.1 run loaded here i short
       ∙ (λ j. packed (samples_of p (sym ks.expects j) (on_time j) q) i) in (
-        me.0,
+        sample_loaded b p me.0 l i,
         keeps,
         tt,
-        unread_word s.words place (λ ws. Holds p record { words = ws; homes = s.homes; views = set s.views id me.0 }) record {
+        unread_word s.words place (λ ws. Holds p record { words = ws; homes = s.homes; views = set s.views id (sample_loaded b p me.0 l i) }) record {
           whole = g;
-          seated = stay_step p g s.words s.words s.views id me.0 me.0.trail at refl refl r.seated;
+          seated = hear_step p g s.words s.words s.views id me.0 (set me.0.heard l (i + 1)) at refl r.seated;
           activations = r.activations;
           events = r.events;
           buffers = r.buffers;
@@ -155,11 +174,11 @@ module _ (p : BoardLayout) {S : Type 0} (slots id : ℕ) (me : Me S View) (after
         (sym (is_after found), refl, it found word (subst (IsTable p) (sym ks.expects) (has_table p g s.words s.views r.seated paced l k there w run))),
       )
 
-  pub lower_readers_allowed : (b : Bool) (l num : ℕ) → ReadsBlock b p me.0 l num → ((found : ℕ) → after found ≡ readers_lowered b p me.0 l)
+  pub lower_readers_allowed : (b : Bool) (l num : ℕ) → LowersReaders b p me.0 l num → ((found : ℕ) → after found ≡ readers_lowered b p me.0 l)
       → ((found : ℕ) → 0 < found → says found)
       → Allows (Holds p) slots id me (readers_place p.shape (pool_of p l) num) (λ n. (n + (2 ^ 64 - 1)) % 2 ^ 64) (Learns after says me)
-  lower_readers_allowed b l num h is_after it s r _ at fits =
-      let g = r.whole in let w = wired_in p g s.words s.views r.seated in let k : ShapeLink = link_at p l in
+  lower_readers_allowed b l num all is_after it s r _ at fits =
+      let h = all.0 in let g = r.whole in let w = wired_in p g s.words s.views r.seated in let k : ShapeLink = link_at p l in
       let there = link_there p l h.0.0.0 in let m : ℕ = reader_of p l in
       let now = now_running p s r id b me.0 m at h.0.0.2 h.0.0.3 in let run = now.1 in let c = now.0 in
       let is : g.ends.reads l ≡ read_of me.0 l = sym (got me.0.reads l (g.ends.reads l) (unread 0)

@@ -1,5 +1,5 @@
 -- Buffer safety, from the rule between any two steps: no block has two writers, or a writer and a reader.
-use Rattle.std.proofs.Common.{◌≡◌, ◌≢◌, ℕ, ◌+◌, ◌<◌, ◌≤◌, Bool, true, cond, sym, ap, ◌∙◌, arith, ne_eqb}
+use Rattle.std.proofs.Common.{◌≡◌, ◌≢◌, ℕ, ◌+◌, ◌-◌, ◌<◌, ◌≤◌, Bool, true, cond, List, length, sym, ap, ◌∙◌, subst, arith, ne_eqb}
 use Rattle.std.specs.Prelude.{Contains, slice_index}
 use mathlib.Core.Option.{some}
 use lib.ListN.{get_elem?}
@@ -17,8 +17,11 @@ use Rattle.board_rule.specs.Spans.{spans, holder, block_at}
 use Rattle.board_rule.specs.BlockReadings.{Ends, is_busy, stamp, busy_cycles}
 use Rattle.board_rule.specs.BoardRule.{Holds}
 use Rattle.board_rule.specs.EndViews.{link_at, pool_at, pool_of, reader_of, filler_of, read_of, block_of}
+use Rattle.board_rule.specs.Areas.{delay_by}
+use Rattle.board_rule.specs.BufferReads.{HasPool}
+use Rattle.board_rule.specs.ReaderSteps.{stamp_read, ReadsBlock}
 use Rattle.board_rule.specs.BufferSafety.{AreSafe}
-use Rattle.board_rule.proofs.WiringLemmas.{LinkAt, PoolAt, Wired, wired}
+use Rattle.board_rule.proofs.WiringLemmas.{LinkAt, PoolAt, Wired, wired, late_is}
 use Rattle.board_rule.proofs.PaceLemmas.{paces}
 use Rattle.board_rule.proofs.HolderLemmas.{got, link_there, pool_here, now_running}
 use Rattle.board_rule.proofs.ReaderLemmas.{reads_block, finds_some}
@@ -82,44 +85,68 @@ module _ (p : BoardLayout) {S : Type 0} (s : State S View) (h : Holds p s) where
     block = (ends.reads l).id
 
     -- its block is one of the pool, and out
-    pub block_is_out : (block < x.blocks) × ((n : ℕ) × (ends.blocks q block ≡ Out n))
-    block_is_out = let o = reads_block p (spans p h.whole) ends h.whole.expect s.words wires
-        (paces p h.whole s.words wires h.activations) h.buffers l k at q x is c r.runs r.loaded r.here in (o.0, (_, o.1))
+    pub block_is_out : (block < x.blocks) × (ends.blocks q block ≡ Out ((spans p h.whole (p.index k.to.node)).ended + 1 - delay_by k))
+    block_is_out = reads_block p (spans p h.whole) ends h.whole.expect s.words wires
+        (paces p h.whole s.words wires h.activations) h.buffers l k at q x is c r.runs r.loaded r.here
 
     -- so no writer fills it
     pub no_writer : (i : ℕ) → ends.blocks q block ≡ Filling i → ⊥
-    no_writer i e = let o = block_is_out.1 in out_filling o.0 i (sym o.1 ∙ e)
+    no_writer i e = out_filling _ i (sym block_is_out.1 ∙ e)
 
     -- nor has it, for it is not free
     pub not_free : ends.blocks q block ≡ Free → ⊥
-    not_free e = let o = block_is_out.1 in out_free o.0 (sym o.1 ∙ e)
+    not_free e = out_free _ (sym block_is_out.1 ∙ e)
 
     -- and its readers word counts the reader, where the writer would have to find 0
     pub is_counted : 0 < slice_index s.words (readers_place p.shape q block)
     is_counted = finds_some p (spans p h.whole) ends h.whole.expect s.words wires
         (paces p h.whole s.words wires h.activations) h.buffers l k at q x is c r.runs r.loaded r.here
 
+-- what a seat that reads a block shows of it
+record Shows (p : BoardLayout) {S : Type 0} (s : State S View) (h : Holds p s) (l b stamp : ℕ) : Type 0 where
+  inside : b < (pool_at p (pool_of p l)).blocks
+  out : h.whole.ends.blocks (pool_of p l) b ≡ Out stamp
+  counted : 0 < slice_index s.words (readers_place p.shape (pool_of p l) b)
+
+shows : (p : BoardLayout) {S : Type 0} (s : State S View) (h : Holds p s) (i l b : ℕ) (is_driver : Bool) (v : View)
+    → get_elem? s.views i ≡ some v → ReadsBlock is_driver p v l b → Shows p s h l b (stamp_read is_driver p v l)
+shows p s h i l b is_driver v at r =
+    let g = h.whole in let w = wires p s h in let k : ShapeLink = link_at p l in let there = link_there p l r.0.0.0 in
+    let now = now_running p s h i is_driver v (reader_of p l) at r.0.0.2 r.0.0.3 in let c = now.0 in
+    let is : g.ends.reads l ≡ read_of v l = sym (got v.reads l (g.ends.reads l) (unread 0)
+    ((h.seated.knows i v at).ends.of_read l k there now.2)) in
+    let q : ℕ = pool_of p l in let pool = pool_here p w l k there in
+    let in_turn : IsAtBlock p s h l k = record {
+      runs = now.1;
+      loaded = ap (λ (z : ReadView). z.loaded) is ∙ r.0.1 ∙ ap (λ n. n + 1) (sym c);
+      here = ap (λ (z : ReadView). z.lowered) is ∙ r.1 ∙ sym c;
+    } in
+    let o = block_is_out p s h l q k (pool_at p q) there pool.0 pool.1 in_turn in
+    let number : b ≡ (g.ends.reads l).id = r.0.3 ∙ ap (λ (z : ReadView). z.id) (sym is) in
+    let late = late_is p l k there in
+    let same : (spans p g (reader_of p l)).ended + 1 - delay_by k ≡ stamp_read is_driver p v l = omega arith in record {
+      inside = let z = o.0 in omega arith;
+      out = ap (g.ends.blocks q) number ∙ o.1 ∙ ap (λ n. let z : BlockView = Out n in z) same;
+      counted = subst (λ n. 0 < slice_index s.words (readers_place p.shape q n)) (sym number)
+          (is_counted p s h l q k (pool_at p q) there pool.0 pool.1 in_turn);
+    }
+
 -- so buffers are safe, whatever the seats
-pub are_safe : (p : BoardLayout) {S : Type 0} (s : State S View) → Holds p s → AreSafe p s.views
+pub are_safe : (p : BoardLayout) {S : Type 0} (s : State S View) → Holds p s → AreSafe p s.words s.views
 are_safe p s h = record {
   one_writer = λ i j q b v u at to x y. let a = x.0.1.0 in let c = y.0.1.0 in let low = a.loops in let mine = a.owned in
       one_seat p s h i j v u at to (omega arith) (sym a.owned ∙ c.owned);
-  no_reader = λ i j l b is_driver v u at to r x.
-      let g = h.whole in let w = wires p s h in let k : ShapeLink = link_at p l in let there = link_there p l r.0.0.0 in
-      let now = now_running p s h i is_driver v (reader_of p l) at r.0.0.2 r.0.0.3 in let c = now.0 in
-      let is : g.ends.reads l ≡ read_of v l = sym (got v.reads l (g.ends.reads l) (unread 0)
-      ((h.seated.knows i v at).ends.of_read l k there now.2)) in
-      let q : ℕ = pool_of p l in let pool = pool_here p w l k there in
-      let in_turn : IsAtBlock p s h l k = record {
-        runs = now.1;
-        loaded = ap (λ (z : ReadView). z.loaded) is ∙ r.0.1 ∙ ap (λ n. n + 1) (sym c);
-        here = ap (λ (z : ReadView). z.lowered) is ∙ r.1 ∙ sym c;
-      } in
-      let out = (block_is_out p s h l q k (pool_at p q) there pool.0 pool.1 in_turn).1 in
-      let number : b ≡ (g.ends.reads l).id = r.0.3 ∙ ap (λ (z : ReadView). z.id) (sym is) in
-      let n : ℕ = filler_of p q in let has = x.0.1.0 in
-      let holds : holder p n ≡ u.number = ap (λ z. cond z p.seats (p.seat_of n)) (ne_eqb n p.driver has.follows) ∙ has.owned in
-      let mine : block_of p u q b ≡ g.ends.blocks q b = got u.blocks (block_at p q b) (g.ends.blocks q b) Free
-      ((h.seated.knows j u to).ends.of_block q b (pool_at p q) pool.0 x.1 holds) in
-      x.2 out.0 (mine ∙ ap (g.ends.blocks q) number ∙ out.1);
+  no_reader = λ i j l b is_driver v u at to r x. let o = shows p s h i l b is_driver v at r in
+      x.2 (stamp_read is_driver p v l) (as_known j l b (stamp_read is_driver p v l) u to r.0.0.0 x.0 o.inside o.out);
+  is_out = λ i j l b is_driver v u at to r x. let o = shows p s h i l b is_driver v at r in
+      (o.inside, as_known j l b (stamp_read is_driver p v l) u to r.0.0.0 x o.inside o.out);
+  is_counted = λ i l b is_driver v at r. (shows p s h i l b is_driver v at r).counted;
 }
+  where
+    -- the seat that fills the pool knows it
+    as_known : (j l b n : ℕ) (u : View) → get_elem? s.views j ≡ some u → l < length p.shape.links → HasPool p u (pool_of p l)
+        → b < (pool_at p (pool_of p l)).blocks → h.whole.ends.blocks (pool_of p l) b ≡ Out n → block_of p u (pool_of p l) b ≡ Out n
+    as_known j l b n u to inside x low out = let q : ℕ = pool_of p l in let m : ℕ = filler_of p q in let has = x.1.0 in
+        let pool = pool_here p (wires p s h) l (link_at p l) (link_there p l inside) in
+        let holds : holder p m ≡ u.number = ap (λ z. cond z p.seats (p.seat_of m)) (ne_eqb m p.driver has.follows) ∙ has.owned in
+        got u.blocks (block_at p q b) (h.whole.ends.blocks q b) Free ((h.seated.knows j u to).ends.of_block q b (pool_at p q) pool.0 low holds) ∙ out

@@ -16,7 +16,7 @@ use Rattle.board_rule.specs.Layout.{BoardLayout, nodes, first}
 use Rattle.board_rule.specs.View.{Whole, put, idle, with_node, view_node, with_lead, view_lead, view_trail}
 use Rattle.board_rule.specs.BoardRule.{Knows, Seated}
 use Rattle.board_rule.specs.SampleWords.{IsTable}
-use Rattle.board_rule.specs.Spans.{AreStill}
+use Rattle.board_rule.specs.KnownEnds.{AreStill}
 
 pub put_here : {A : Type 0} (f : ℕ → A) (m : ℕ) (x : A) → put f m x m ≡ x
 put_here f m x = ap (λ b. cond b x (f m)) (eq-eqb m m refl)
@@ -128,6 +128,22 @@ module _ (p : BoardLayout) where
         kept = k.kept;
         here = k.here;
         is_driver = λ e. let z = k.is_driver e in (z.0, z.1, seen ∙ z.2);
+        expects = k.expects;
+        is_split = k.is_split;
+        owns = k.owns;
+        ends = k.ends;
+      }
+      (λ j u _ r. r) s.unsplit s.still s.table (λ _. refl) refl refl s
+
+  -- a reader has loaded sample words
+  pub hear_step : (g : Whole) (words after : List ℕ) (views : List View) (id : ℕ) (v : View) (heard : List ℕ) → get_elem? views id ≡ some v
+      → length after ≡ length words → Seated p g words views → Seated p g after (set views id (record v { heard = heard }))
+  hear_step g words after views id v heard at same s = let k = s.knows id v at in
+      seat_step g g words after views id v (record v { heard = heard }) at same
+      record {
+        kept = k.kept;
+        here = k.here;
+        is_driver = k.is_driver;
         expects = k.expects;
         is_split = k.is_split;
         owns = k.owns;

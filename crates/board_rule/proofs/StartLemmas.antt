@@ -31,7 +31,8 @@ use Rattle.board_rule.specs.View.{Whole, Samples, idle, resting, unread, first_w
 use Rattle.board_rule.specs.SampleWords.{IsTable}
 use Rattle.board_rule.specs.BufferRule.{Buffers}
 use Rattle.board_rule.specs.BlockReadings.{Ends}
-use Rattle.board_rule.specs.Spans.{spans, holder, KnowsEnds, AreStill}
+use Rattle.board_rule.specs.Spans.{spans, holder}
+use Rattle.board_rule.specs.KnownEnds.{KnowsEnds, AreStill}
 use Rattle.board_rule.specs.EventRule.{drawn_before}
 use Rattle.board_rule.specs.Closing.{HasEndedAll, last_view, kept_view}
 use Rattle.board_rule.specs.Phases.{PhaseOk}
@@ -163,28 +164,32 @@ module _ (p : BoardLayout) where
 
   -- what the views know of links and blocks: the driver's before any split, one that is split off, and the one that is kept of a board
   first_knows : IsSound p → IsPooledShape p.shape
-      → KnowsEnds p (start_ends p) p.seats [] (replicate (length p.shape.links) (unread (first p))) []
+      → KnowsEnds p (start_ends p) p.seats [] (replicate (length p.shape.links) (unread (first p))) [] []
   first_knows sound pooled = let w = wired p sound pooled in record {
     of_write = λ l k at h. absurd (let z = holder_at sound (p.index k.from.node) (w.from_in l k at) (w.from_follows l k at) in omega arith);
     of_read = λ l k at h. all_same (length p.shape.links) l (unread (first p)) (slice_get_within p.shape.links l k at);
     of_block = λ q b x at low h. absurd (let m = made p w q x at in let z = holder_at sound (p.index x.port.node) m.0 m.1 in omega arith);
+    of_pool = λ q x at h. absurd (let m = made p w q x at in let z = holder_at sound (p.index x.port.node) m.0 m.1 in omega arith);
   }
 
-  kept_knows : IsSound p → Wired p → (ends : Ends) → KnowsEnds p ends (suc p.seats) [] [] []
+  kept_knows : IsSound p → Wired p → (ends : Ends) → KnowsEnds p ends (suc p.seats) [] [] [] []
   kept_knows sound w ends = record {
     of_write = λ l k at h. absurd (let z = holder_low sound (p.index k.from.node) (w.from_in l k at) in omega arith);
     of_read = λ l k at h. absurd (let z = holder_low sound (p.index k.to.node) (w.to_in l k at) in omega arith);
     of_block = λ q b x at low h. absurd (let m = made p w q x at in let z = holder_low sound (p.index x.port.node) m.0 in omega arith);
+    of_pool = λ q x at h. absurd (let m = made p w q x at in let z = holder_low sound (p.index x.port.node) m.0 in omega arith);
   }
 
   loop_knows : (e : Samples) (j : ℕ) (ends : Ends) → IsPooledShape p.shape → AreStill p ends j → j < p.seats
-      → KnowsEnds p ends j (loop_view p e j).writes (loop_view p e j).reads (loop_view p e j).blocks
+      → KnowsEnds p ends j (loop_view p e j).writes (loop_view p e j).reads (loop_view p e j).blocks (loop_view p e j).reclaimed
   loop_knows e j ends pooled s room = record {
     of_write = λ l k at h. map_there (first_write (first p)) p.shape.links l k at ∙ ap some (sym (s.writes l k at (omega arith) (omega arith)));
     of_read = λ l k at h. all_same (length p.shape.links) l (unread (first p)) (slice_get_within p.shape.links l k at)
         ∙ ap some (sym (s.reads l k at (omega arith) (omega arith)));
     of_block = λ q b x at low h. first_there p.shape (pools_of p.shape) q b x (pools_have_blocks p.shape pooled.sound.links.each) at low
         ∙ ap some (sym (s.blocks q b x at low (omega arith) (omega arith)));
+    of_pool = λ q x at h. all_same (length (pools_of p.shape)) q (first p + 1) (slice_get_within (pools_of p.shape) q x at)
+        ∙ ap some (sym (s.pools q x at (omega arith) (omega arith)));
   }
 
   still_later : (ends : Ends) (j : ℕ) → AreStill p ends j → AreStill p ends (suc j)
@@ -192,6 +197,7 @@ module _ (p : BoardLayout) where
     writes = λ l k at a b. s.writes l k at (omega arith) b;
     reads = λ l k at a b. s.reads l k at (omega arith) b;
     blocks = λ q b x at low a c. s.blocks q b x at low (omega arith) c;
+    pools = λ q x at a c. s.pools q x at (omega arith) c;
   }
 
   unsplit_free : IsSound p → Wired p → (ends : Ends) → AreStill p ends 0 → (q b : ℕ) (x : PoolShape)
@@ -224,6 +230,7 @@ module _ (p : BoardLayout) {S : Type 0} where
         writes = λ l k at _ _. ap (first_write (first p)) (get_or_from_slice_get p.shape.links l k no_link at);
         reads = λ _ _ _ _ _. refl;
         blocks = λ q b x at _ _ _. ap (λ y. first_block p.shape y b) (get_or_from_slice_get (pools_of p.shape) q x no_pool at);
+        pools = λ _ _ _ _ _. refl;
       };
       table = λ n h o l. absurd (omega arith);
     };
@@ -483,6 +490,7 @@ module _ (p : BoardLayout) {S : Type 0} where
             writes = λ l k at a b. absurd (omega arith);
             reads = λ l k at a b. absurd (omega arith);
             blocks = λ q n x at low a b. absurd (omega arith);
+            pools = λ q x at a b. absurd (omega arith);
           };
           table = λ n h o _. dite (dec_le (p.seat_of n + 1) g.split) (λ z. r.seated.table n h o (omega arith))
               (λ z. absurd (let i = r.seated.unsplit n h o (omega arith) in let f : (g.nodes n).next ≡ first p = ap (λ (y : NodeView). y.next) i in

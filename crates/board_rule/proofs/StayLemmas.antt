@@ -55,7 +55,8 @@ module _ (p : BoardLayout) where
           samples = λ i l. samples_same w ws after same q n i x at h ∙ o.samples i l ∙ ap (λ k. packed (samples_of p e k q) i) (sym st);
         };
     pools = λ q x at. let o = b.pools q x at in let m = (made p w q x at).0 in let up = ended (p.index x.port.node) m in
-        subst (λ k. PoolOk p x record { ended = k; begun = (t (p.index x.port.node)).begun } ends.writes (ends.blocks q)) (sym up) record {
+        subst (λ k. PoolOk p x record { ended = k; begun = (t (p.index x.port.node)).begun } (ends.reclaimed q) ends.writes (ends.blocks q)) (sym up) record {
+          reclaims = o.reclaims;
           named = o.named;
           apart = o.apart;
           near = o.near;

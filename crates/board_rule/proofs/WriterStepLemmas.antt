@@ -1,7 +1,9 @@
 -- What each step of a writer on buffers allows.
 use Rattle.std.proofs.Common.{◌≡◌, ℕ, ◌+◌, ◌-◌, ◌*◌, ◌/◌, ◌<◌, ◌≤◌, inl, inr, ⊎_elim, true, false, cond, ltb, List, []}
 use Rattle.std.specs.Prelude.{Contains}
-use Rattle.std.proofs.Common.{length, set, get_or, refl, sym, ap, ◌∙◌, subst, arith, length-set}
+use Rattle.std.proofs.Common.{length, set, get_or, refl, sym, ap, ◌∙◌, subst, arith, length-set, set-set}
+use mathlib.Core.Logic.{dite}
+use native.Mathlib.Decide.{dec_le}
 use lib.Seq.{set-get_or}
 use Rattle.atomic_table.specs.Table.{Me, keeps, Allows}
 use Rattle.pw_base.specs.declared.shape.ShapeLink.{ShapeLink}
@@ -22,10 +24,12 @@ use Rattle.pw_base.specs.declared.ids.PortId.{PortId}
 use Rattle.board_rule.specs.BlockReadings.{delay_at, busy_cycles, is_busy, stamp}
 use Rattle.board_rule.specs.Spans.{spans, holder, block_at}
 use Rattle.board_rule.specs.BoardRule.{Seated, Holds}
-use Rattle.board_rule.specs.EndViews.{link_at, pool_at, pool_of, writer_of, filler_of, write_of, block_of}
+use Rattle.board_rule.specs.BlockReadings.{Ends}
+use Rattle.board_rule.specs.EndViews.{link_at, pool_at, pool_of, writer_of, filler_of, write_of, block_of, view_block}
 use Rattle.board_rule.specs.WriterSteps.{write_cycle, write_area, LoadsAsWriter, loaded_as_writer, IsGivenBack, StoresHave, have_stored}
-use Rattle.board_rule.specs.BlockSteps.{fill_cycle, LoadsReaders, IsReturned, IsZeroAtSecond, readers_loaded, StoresSample, sample_stored, StoresReaders}
+use Rattle.board_rule.specs.BlockSteps.{fill_cycle, StoresSample, sample_stored, StoresReaders}
 use Rattle.board_rule.specs.BlockSteps.{readers_stored}
+use Rattle.board_rule.specs.ReclaimSteps.{reclaimed_of, due_stamp, IsOldestOut, LoadsReaders, FindsDue, readers_loaded}
 use Rattle.board_rule.specs.Plays.{Leaves, Learns}
 use Rattle.board_rule.proofs.LayoutLemmas.{count_is}
 use Rattle.board_rule.proofs.WiringLemmas.{late_is}
@@ -33,7 +37,9 @@ use Rattle.board_rule.proofs.DelayLemmas.{area_most}
 use Rattle.board_rule.proofs.PaceLemmas.{paces}
 use Rattle.board_rule.proofs.SpanLemmas.{wired_in}
 use Rattle.board_rule.proofs.HolderLemmas.{got, link_there, pool_there, pool_here, now_running, new_write, new_block, write_step}
-use Rattle.board_rule.proofs.HolderLemmas.{block_step}
+use Rattle.board_rule.proofs.HolderLemmas.{block_step, with_ends, new_reclaim, reclaim_step}
+use Rattle.board_rule.proofs.SeatLemmas.{set_there}
+use Rattle.board_rule.proofs.ReclaimLemmas.{busy_cycles_most, due_out}
 use Rattle.board_rule.proofs.KeepLemmas.{holds_ends}
 use Rattle.board_rule.proofs.AreaLemmas.{link_is as area_is, finds_need, loads_as_writer, stores_have}
 use Rattle.board_rule.proofs.FillingLemmas.{IsDue, due_named, due_zero, finds_none, frees, CanFill, fills, announces}
@@ -128,44 +134,72 @@ module _ (p : BoardLayout) {S : Type 0} (slots id : ℕ) (me : Me S View) (after
       )
 
   pub load_readers_allowed : (q n : ℕ) → LoadsReaders p me.0 q n → ((found : ℕ) → after found ≡ readers_loaded p me.0 q n found)
-      → ((found : ℕ) → found ≡ 0 → IsReturned p me.0 q n → IsZeroAtSecond p me.0 q n → says found)
+      → ((found : ℕ) → found ≡ 0 → FindsDue p me.0 q n → says found)
       → Allows (Holds p) slots id me (readers_place p.shape q n) (λ k. k) (Learns after says me)
   load_readers_allowed q n h is_after it s r _ at fits =
       let g = r.whole in let w = wired_in p g s.words s.views r.seated in let x : PoolShape = pool_at p q in
       let there = pool_there p q h.0.0 in let m : ℕ = filler_of p q in
       let now = now_running p s r id false me.0 m at h.0.3 h.0.4 in let run = now.1 in let c = now.0 in
-      let stamp : ℕ = fill_cycle p me.0 q + 1 - busy_cycles p x in let soon = h.3 in
-      let is : IsDue p (spans p g) g.ends g.expect s.words w (paces p g s.words w r.activations) r.buffers q n x there h.0.1 stamp = (
-        sym (got me.0.blocks (block_at p q n) (g.ends.blocks q n) Free
-            ((r.seated.knows id me.0 at).ends.of_block q n x there h.0.1 now.2)) ∙ h.2,
-        omega arith,
-      ) in
-      let paced = paces p g s.words w r.activations in let sp = spans p g in
+      let ks = (r.seated.knows id me.0 at).ends in let paced = paces p g s.words w r.activations in let sp = spans p g in
+      let stamp_due : ℕ = due_stamp p me.0 q in let most = busy_cycles_most p x in
+      let block_is : (a : ℕ) → a < x.blocks → g.ends.blocks q a ≡ block_of p me.0 q a =
+      λ a l. sym (got me.0.blocks (block_at p q a) (g.ends.blocks q a) Free (ks.of_block q a x there l now.2)) in
+      let busy_low : (a k : ℕ) → a < x.blocks → g.ends.blocks q a ≡ Out k → stamp_due ≤ k =
+      λ a k l o. let low = (r.buffers.blocks q a x there l).low (ap is_busy o) in let st = ap (stamp (sp m).ended) o in omega arith in
+      let due : (busy_cycles p x ≤ fill_cycle p me.0 q + 1) × (g.ends.blocks q n ≡ Out stamp_due) = ⊎_elim (λ z. (z.1, block_is n h.0.1 ∙ z.0))
+      (λ z. let later = z.2 in let begun = (r.buffers.pools q x there).reclaims.begun in
+      let count : g.ends.reclaimed q ≡ reclaimed_of me.0 q = sym (got me.0.reclaimed q (g.ends.reclaimed q) 0 (ks.of_pool q x there now.2)) in
+      let waits : g.ends.reclaimed q ≤ (sp m).ended = dite (dec_le (reclaimed_of me.0 q) (first p + 1)) (λ l. omega arith)
+      (λ l. let u = z.1 (omega arith) in omega arith) in
+      let out = due_out p sp g.ends g.expect s.words w r.buffers q x there waits in
+      let same : (sp m).ended + 1 - busy_cycles p x ≡ stamp_due = omega arith in
+      let there_out : block_of p me.0 q out.0 ≡ (let y : BlockView = Out stamp_due in y) = sym (block_is out.0 out.1) ∙ out.2
+      ∙ ap (λ k. let y : BlockView = Out k in y) same in
+      let oldest = z.0 out.0 stamp_due out.1 there_out in let o = oldest.1 in
+      let low = busy_low n oldest.0 h.0.1 (block_is n h.0.1 ∙ o.is) in let high = o.oldest out.0 stamp_due out.1 there_out in
+      (omega arith, block_is n h.0.1 ∙ o.is ∙ ap (λ k. let y : BlockView = Out k in y) (let y : oldest.0 ≡ stamp_due = omega arith in y))) h.2 in
+      let soon = due.0 in
+      let is : IsDue p sp g.ends g.expect s.words w paced r.buffers q n x there h.0.1 stamp_due = (due.1, omega arith) in
       let i : ℕ = readers_place p.shape q n in let found : ℕ = get_or s.words i 0 in
-      let none = finds_none p sp g.ends g.expect s.words w paced r.buffers q n x there h.0.1 stamp is run in
+      let none = finds_none p sp g.ends g.expect s.words w paced r.buffers q n x there h.0.1 stamp_due is run in
       let written : (l : ℕ) → Contains x.links l → g.ends.writes l ≡ write_of me.0 l = λ l in_pool. let k = w.there q l x there in_pool in
-      sym (got me.0.writes l (g.ends.writes l) (unwritten 0) ((r.seated.knows id me.0 at).ends.of_write l k.0 k.1
+      sym (got me.0.writes l (g.ends.writes l) (unwritten 0) (ks.of_write l k.0 k.1
       (ap (λ (z : PortId). holder p (p.index z.node)) k.2 ∙ now.2))) in
       let loaded : (l : ℕ) → Contains x.links l → (g.ends.writes l).loaded ≡ (sp m).ended + 1 = λ l in_pool.
       ap (λ (z : WriteView). z.loaded) (written l in_pool) ∙ h.1 l in_pool ∙ ap (λ z. z + 1) (sym c) in
-      let new = frees p sp g.ends g.expect s.words w paced r.buffers q n x there h.0.1 stamp is run loaded in
-      let freed : View = readers_loaded p me.0 q n 0 in
-      let same : readers_loaded p me.0 q n found ≡ freed = ap (readers_loaded p me.0 q n) none in (
+      let new = frees p sp g.ends g.expect s.words w paced r.buffers q n x there h.0.1 stamp_due is run loaded in
+      let freed : View = readers_loaded p me.0 q n 0 in let cycle : ℕ = fill_cycle p me.0 q + 1 in
+      let free_ends : Ends = new_reclaim p (new_block p g.ends q n Free) q cycle in let half : View = view_block p me.0 q n Free in
+      let same : readers_loaded p me.0 q n found ≡ freed = ap (readers_loaded p me.0 q n) none in
+      let ws : List ℕ = set s.words i found in (
         freed,
         keeps,
         tt,
-        holds_ends p s r id i found freed me.1 (new_block p g.ends q n Free) (inr (w.readers_in q n x there h.0.1).0)
-            (block_step p g s.words (set s.words i found) s.views id q n x me.0 Free at (length-set s.words i found) there h.0.1 now.2
-            (now.4 refl) r.seated)
-            (unread_word s.words i (λ ws. Buffers p sp (new_block p g.ends q n Free) g.expect ws) new),
+        holds_ends p s r id i found freed me.1 free_ends (inr (w.readers_in q n x there h.0.1).0)
+            (subst (Seated p (with_ends p g free_ends) ws) (set-set s.views id half freed)
+            (reclaim_step p (with_ends p g (new_block p g.ends q n Free)) ws (set s.views id half) id q cycle x half
+            (set_there s.views id half me.0 at) there now.2 (now.4 refl)
+            (block_step p g s.words ws s.views id q n x me.0 Free at (length-set s.words i found) there h.0.1 now.2 (now.4 refl) r.seated)))
+            (unread_word s.words i (λ ws. Buffers p sp free_ends g.expect ws)
+            (subst (λ k. Buffers p sp (new_reclaim p (new_block p g.ends q n Free) q (k + 1)) g.expect s.words) c new)),
         (
           sym (is_after found ∙ same),
           refl,
-          it found none (λ l in_pool late stored new_cycle. let wr = written l in_pool in
-              let st : (g.ends.writes l).stored ≡ (sp m).ended = ap (λ (z : WriteView). z.stored) wr ∙ stored ∙ sym c in
-              ap (λ (z : WriteView). stored_id z (delay_at p l)) (sym wr)
-              ∙ due_named p sp g.ends g.expect s.words w paced r.buffers q n x there h.0.1 stamp is (omega arith) l in_pool late st)
-              (λ two second. due_zero p sp g.ends g.expect s.words w paced r.buffers q n x there h.0.1 stamp is loaded two (c ∙ second)),
+          it found none (
+            record {
+              inside = h.0.1;
+              is = sym (block_is n h.0.1) ∙ due.1;
+              oldest = λ a k l o. busy_low a k l (block_is a l ∙ o);
+              before = λ a l o. let inside = h.0.1 in let low : a < x.blocks = omega arith in let mine = block_is a low ∙ o in
+                  let e = (r.buffers.pools q x there).apart a n low inside (ap is_busy mine) (ap is_busy due.1)
+                  (ap (stamp (sp m).ended) mine ∙ sym (ap (stamp (sp m).ended) due.1)) in absurd (omega arith);
+            },
+            (λ l in_pool late stored new_cycle. let wr = written l in_pool in
+                let st : (g.ends.writes l).stored ≡ (sp m).ended = ap (λ (z : WriteView). z.stored) wr ∙ stored ∙ sym c in
+                ap (λ (z : WriteView). stored_id z (delay_at p l)) (sym wr)
+                ∙ due_named p sp g.ends g.expect s.words w paced r.buffers q n x there h.0.1 stamp_due is (omega arith) l in_pool late st),
+            (λ two second. due_zero p sp g.ends g.expect s.words w paced r.buffers q n x there h.0.1 stamp_due is loaded two (c ∙ second)),
+          ),
         ),
       )
 

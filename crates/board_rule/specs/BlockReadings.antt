@@ -12,11 +12,13 @@ use Rattle.board_rule.specs.declared.view.BlockView.TheVariants.{Free, Filling, 
 use Rattle.board_rule.specs.Layout.{BoardLayout}
 use Rattle.board_rule.specs.Areas.{delay_by}
 
--- what all seats know of the links, by number, and of the blocks, by pool and number
+-- what all seats know of the links, by number, of the blocks, by pool and number, and of the reclaims of each pool:
+-- one more than the cycle of the last one
 pub record Ends : Type 0 where
   pub writes : ℕ → WriteView
   pub reads : ℕ → ReadView
   pub blocks : ℕ → ℕ → BlockView
+  pub reclaimed : ℕ → ℕ
 
 abbrev pub is_busy : BlockView → Bool
 is_busy Free = false

@@ -1,14 +1,13 @@
 -- The steps of the node that fills a pool on its blocks: what each asks of the view of its seat, and the view after
 -- it. Pools and blocks are given by number.
 -- Source: PipeWire's documentation, "SPA Buffers"; the words of pools are this project's own.
-use Rattle.std.specs.Prelude.{◌≡◌, ℕ, ◌+◌, ◌-◌, ◌<◌, ◌≤◌, ◌⊎◌, true, false, cond, eqb, length, Contains}
+use Rattle.std.specs.Prelude.{◌≡◌, ℕ, ◌+◌, ◌<◌, ◌⊎◌, true, false, length, Contains}
 use Rattle.pw_base.specs.Pools.{pools_of}
 use Rattle.board_rule.specs.declared.view.BlockView.TheVariants.{Free, Filling, Out}
 use Rattle.board_rule.specs.declared.view.View.{View}
-use Rattle.board_rule.specs.Layout.{BoardLayout, first}
-use Rattle.board_rule.specs.Areas.{stored_id}
+use Rattle.board_rule.specs.Layout.{BoardLayout}
 use Rattle.board_rule.specs.SampleWords.{packed, samples_in}
-use Rattle.board_rule.specs.BlockReadings.{delay_at, busy_cycles, is_busy, stamp}
+use Rattle.board_rule.specs.BlockReadings.{busy_cycles, is_busy, stamp}
 use Rattle.board_rule.specs.Spans.{block_at}
 use Rattle.board_rule.specs.EndViews.{write_of, pool_at, filler_of, block_of, view_block}
 use Rattle.board_rule.specs.SeatNodes.{cycle_of, HasNode}
@@ -31,24 +30,6 @@ module _ (p : BoardLayout) where
   abbrev pub HasBlock : View → ℕ → ℕ → Type 0
   HasBlock v q b = (q < length (pools_of p.shape)) × (b < (pool_at p q).blocks) × (block_at p q b < length v.blocks)
       × HasNode false p v (filler_of p q) × IsRunning false v (filler_of p q)
-
-  -- LOADING THE READERS of the block that was announced as many cycles before as a block of the pool is busy; found 0, it is free
-  abbrev pub LoadsReaders : View → ℕ → ℕ → Type 0
-  LoadsReaders v q b = HasBlock v q b × IsLoaded v q
-      × (block_of p v q b ≡ Out (fill_cycle v q + 1 - busy_cycles p (pool_at p q)))
-      × (busy_cycles p (pool_at p q) ≤ fill_cycle v q + 1)
-
-  -- it is the block whose number the readers gave back on each link of the pool that is as late as the pool
-  abbrev pub IsReturned : View → ℕ → ℕ → Type 0
-  IsReturned v q b = (l : ℕ) → Contains (pool_at p q).links l → delay_at p l + 1 ≡ busy_cycles p (pool_at p q)
-      → (write_of v l).stored ≡ fill_cycle v q → first p < fill_cycle v q → stored_id (write_of v l) (delay_at p l) ≡ b
-
-  -- in the second cycle it is block 0 where the pool has a delayed link
-  abbrev pub IsZeroAtSecond : View → ℕ → ℕ → Type 0
-  IsZeroAtSecond v q b = busy_cycles p (pool_at p q) ≡ 2 → fill_cycle v q ≡ first p + 1 → b ≡ 0
-
-  abbrev pub readers_loaded : View → ℕ → ℕ → ℕ → View
-  readers_loaded v q b found = cond (eqb found 0) (view_block p v q b Free) v
 
   -- STORING A SAMPLE WORD of this cycle: the block is filled up to the word, or it is free and none of its pool is due
   -- or of this cycle

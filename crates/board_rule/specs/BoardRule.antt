@@ -14,7 +14,8 @@ use Rattle.board_rule.specs.ActivationRule.{Activations}
 use Rattle.board_rule.specs.EventRule.{Events}
 use Rattle.board_rule.specs.SampleWords.{IsTable}
 use Rattle.board_rule.specs.BufferRule.{Buffers}
-use Rattle.board_rule.specs.Spans.{spans, KnowsEnds, AreStill}
+use Rattle.board_rule.specs.Spans.{spans}
+use Rattle.board_rule.specs.KnownEnds.{KnowsEnds, AreStill}
 
 module _ (p : BoardLayout) where
   -- what the view at the index j among all views says of the whole: no two views of seats have the same number. A view
@@ -27,7 +28,7 @@ module _ (p : BoardLayout) where
     pub expects : v.expect ≡ g.expect
     pub is_split : v.number < p.seats → v.number < g.split
     pub owns : (n : ℕ) → n < nodes p → n ≢ p.driver → p.seat_of n ≡ v.number → get_elem? v.nodes n ≡ some (g.nodes n)
-    pub ends : KnowsEnds p g.ends v.number v.writes v.reads v.blocks
+    pub ends : KnowsEnds p g.ends v.number v.writes v.reads v.blocks v.reclaimed
 
   -- the seats and their views; a follower whose seat is not yet split off is idle in the first cycle. `table`: the
   -- first split names the samples

@@ -9,7 +9,7 @@ use Rattle.board_rule.specs.declared.view.View.{View}
 use Rattle.board_rule.specs.Layout.{BoardLayout}
 use Rattle.board_rule.specs.Spans.{block_at}
 use Rattle.board_rule.specs.EndViews.{pool_at, filler_of, block_of}
-use Rattle.board_rule.specs.SeatNodes.{HasNode}
+use Rattle.board_rule.specs.SeatNodes.{IsMember}
 use Rattle.board_rule.specs.BlockSteps.{fill_cycle}
 
 -- a block is filled with all its `words`, or was announced in the cycle before the stamp
@@ -24,9 +24,9 @@ older before b (Out n) = unwrap_or (option_map (λ o. cond (leb o.1 n) before (S
 older before b _ = before
 
 module _ (p : BoardLayout) where
-  -- the pool is filled by a node of the seat
+  -- the pool is filled by a node of the seat, which may have ended its last cycle
   abbrev pub HasPool : View → ℕ → Type 0
-  HasPool v q = (q < length (pools_of p.shape)) × HasNode false p v (filler_of p q)
+  HasPool v q = (q < length (pools_of p.shape)) × IsMember false p v (filler_of p q)
       × (block_at p q (pool_at p q).blocks ≤ length v.blocks)
 
   -- the block b was filled whole in this cycle, whether it is announced or not
@@ -38,10 +38,3 @@ module _ (p : BoardLayout) where
     pub inside : b < (pool_at p q).blocks
     pub is : IsFilled v q b
     pub before : (a : ℕ) → a < b → IsFilled v q a → ⊥
-
-  -- of the blocks that are out it has the least stamp, and is the first such one
-  pub record IsOldestOut (v : View) (q b n : ℕ) : Type 0 where
-    pub inside : b < (pool_at p q).blocks
-    pub is : block_of p v q b ≡ Out n
-    pub oldest : (a m : ℕ) → a < (pool_at p q).blocks → block_of p v q a ≡ Out m → n ≤ m
-    pub before : (a : ℕ) → a < b → block_of p v q a ≡ Out n → ⊥

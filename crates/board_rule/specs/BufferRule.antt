@@ -27,23 +27,30 @@ module _ (p : BoardLayout) where
     pub samples : (i : ℕ) → i < filled x.words block
         → slice_index words (sample_place p.shape q b i) ≡ packed (samples_of p e (stamp filler.ended block) q) i
 
-  -- THE BLOCKS THAT A LINK NAMES, which is `late` by 0 or 1, where its writer has `loaded` a link of the pool x, this one
-  -- or another, in all cycles before that one. Of the stores `a` ago, 0 or 1, whose stamp is n: `out`: the block is out until that load in the
-  -- cycle in which it is reclaimed. `names`: no other block with the stamp is out. `zero`: the block that a delayed link
-  -- names from the start on is number 0
-  pub record NamesBlocks (x : PoolShape) (late loaded : ℕ) (w : WriteView) (blocks : ℕ → BlockView) : Type 0 where
-    pub out : (a n : ℕ) → a ≤ late → n + a ≡ w.stored → first p < n + late → loaded < n + busy_cycles p x
+  -- THE BLOCKS THAT A LINK NAMES, which is `late` by 0 or 1 and whose pool x is `reclaimed` in all cycles before that
+  -- one. Of the stores `a` ago, 0 or 1, whose stamp is n: `out`: the block is out until it is reclaimed. `names`: no
+  -- other block with the stamp is out. `zero`: the block that a delayed link names from the start on is number 0
+  pub record NamesBlocks (x : PoolShape) (late reclaimed : ℕ) (w : WriteView) (blocks : ℕ → BlockView) : Type 0 where
+    pub out : (a n : ℕ) → a ≤ late → n + a ≡ w.stored → first p < n + late → reclaimed < n + busy_cycles p x
         → blocks (stored_id w a) ≡ Out n
     pub zero : late ≡ 1 → (a : ℕ) → a ≤ 1 → first p + a ≡ w.stored → stored_id w a ≡ 0
     pub names : (a n b : ℕ) → a ≤ late → n + a ≡ w.stored → first p < n + late → b < x.blocks → blocks b ≡ Out n
         → stored_id w a ≡ b
 
-  -- A POOL x. `named`: what one of its links names is out until the writer has loaded all of them. `apart` and `near`: busy
-  -- blocks have stamps that differ, by less than its busy cycles
-  pub record PoolOk (x : PoolShape) (filler : Span) (writes : ℕ → WriteView) (blocks : ℕ → BlockView)
+  -- THE RECLAIMS of a pool x, a load of a readers word in each cycle but the first, where nothing is to be reclaimed.
+  -- `turn`: it comes after the loads of all links of the pool and before the stores. `until`: no block is out longer
+  pub record Reclaims (x : PoolShape) (reclaimed : ℕ) (writes : ℕ → WriteView) (blocks : ℕ → BlockView) : Type 0 where
+    pub begun : first p + 1 ≤ reclaimed
+    pub turn : (l : ℕ) → Contains x.links l
+        → ((writes l).stored ≤ reclaimed) × (first p + 1 < reclaimed → reclaimed ≤ (writes l).loaded)
+    pub until : (b n : ℕ) → b < x.blocks → blocks b ≡ Out n → reclaimed < n + busy_cycles p x
+
+  -- A POOL x. `named`: what each of its links names. `apart` and `near`: busy blocks have stamps that differ, by less than
+  -- its busy cycles
+  pub record PoolOk (x : PoolShape) (filler : Span) (reclaimed : ℕ) (writes : ℕ → WriteView) (blocks : ℕ → BlockView)
       : Type 0 where
-    pub named : (l m : ℕ) → Contains x.links l → Contains x.links m
-        → NamesBlocks x (delay_at p l) (writes m).loaded (writes l) blocks
+    pub reclaims : Reclaims x reclaimed writes blocks
+    pub named : (l : ℕ) → Contains x.links l → NamesBlocks x (delay_at p l) reclaimed (writes l) blocks
     pub apart : (a b : ℕ) → a < x.blocks → b < x.blocks → is_busy (blocks a) ≡ true → is_busy (blocks b) ≡ true
         → stamp filler.ended (blocks a) ≡ stamp filler.ended (blocks b) → a ≡ b
     pub near : (a b : ℕ) → a < x.blocks → b < x.blocks → is_busy (blocks a) ≡ true → is_busy (blocks b) ≡ true
@@ -57,4 +64,4 @@ module _ (p : BoardLayout) where
     pub blocks : (q b : ℕ) (x : PoolShape) → slice_get (pools_of p.shape) q ≡ Some x → b < x.blocks
         → BlockOk q b x (spans (p.index x.port.node)) ends.reads e (ends.blocks q b) words
     pub pools : (q : ℕ) (x : PoolShape) → slice_get (pools_of p.shape) q ≡ Some x
-        → PoolOk x (spans (p.index x.port.node)) ends.writes (ends.blocks q)
+        → PoolOk x (spans (p.index x.port.node)) (ends.reclaimed q) ends.writes (ends.blocks q)

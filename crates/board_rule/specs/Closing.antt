@@ -27,7 +27,9 @@ kept_view p v = record {
   nodes = [];
   writes = [];
   reads = [];
+  heard = [];
   blocks = [];
+  reclaimed = [];
   trail = no_trail;
   expect = v.expect;
 }

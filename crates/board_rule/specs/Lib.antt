@@ -18,6 +18,7 @@ pub mod Records
 pub mod Logged
 pub mod EventRule
 pub mod Spans
+pub mod KnownEnds
 pub mod BoardRule
 pub mod SeatNodes
 pub mod EndViews
@@ -26,6 +27,7 @@ pub mod TellingSteps
 pub mod WorkSteps
 pub mod Steps
 pub mod BlockSteps
+pub mod ReclaimSteps
 pub mod WriterSteps
 pub mod ReaderSteps
 pub mod BufferReads
@@ -37,6 +39,7 @@ pub mod Progress
 pub mod DriverProgress
 pub mod Known
 pub mod Closing
+pub mod TicketOrder
 pub mod BufferSafety
 pub mod OnBoard
 pub mod LateSets

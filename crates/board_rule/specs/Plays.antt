@@ -20,7 +20,9 @@ no_view = record {
   nodes = [];
   writes = [];
   reads = [];
+  heard = [];
   blocks = [];
+  reclaimed = [];
   trail = no_trail;
   expect = [];
 }

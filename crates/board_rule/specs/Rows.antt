@@ -68,6 +68,6 @@ pub record HasIndexes (shape : Shape) : Type 0 where
   pub areas : (l a : ℕ) → l < length shape.links → a ≤ delay_by (link_in shape l) → io_place shape l a < word_count shape
   pub blocks : (q b : ℕ) → q < length (pools_of shape) → b < (pool_in shape q).blocks
       → readers_place shape q b + (pool_in shape q).words < word_count shape
-  pub some : (q : ℕ) → q < length (pools_of shape) → 0 < (pool_in shape q).words
+  pub some : (q : ℕ) → q < length (pools_of shape) → (0 < (pool_in shape q).words) × (0 < (pool_in shape q).blocks)
   pub few : (q : ℕ) → q < length (pools_of shape) → (pool_in shape q).words < 2 ^ 32
   pub count : length (pools_of shape) < 2 ^ 32

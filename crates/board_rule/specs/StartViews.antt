@@ -1,12 +1,13 @@
 -- The views that a board begins with: of the driver's seat, and of each seat that is split off it.
 -- Source: this project's own; the phases are those of src/view.rt.
-use Rattle.std.specs.Prelude.{ℕ, ℤ, false, cond, eqb, List, [], length, map, replicate}
+use Rattle.std.specs.Prelude.{ℕ, ℤ, ◌+◌, false, cond, eqb, List, [], length, map, replicate}
 use Rattle.board_rule.specs.declared.view.Phase.TheVariants.{Idle}
 use Rattle.board_rule.specs.declared.view.DriverPhase.TheVariants.{Between}
 use Rattle.board_rule.specs.declared.view.NodeView.{NodeView}
 use Rattle.board_rule.specs.declared.view.DriverView.{DriverView}
 use Rattle.board_rule.specs.declared.view.Trail.{Trail}
 use Rattle.board_rule.specs.declared.view.View.{View}
+use Rattle.pw_base.specs.Pools.{pools_of}
 use Rattle.board_rule.specs.Layout.{BoardLayout, nodes, first}
 pub use Rattle.board_rule.specs.FirstEnds.{unwritten, first_write, unread, is_delayed, first_block, blocks_at_first, first_blocks}
 
@@ -34,7 +35,9 @@ module _ (p : BoardLayout) where
     nodes = [];
     writes = [];
     reads = replicate (length p.shape.links) (unread (first p));
+    heard = replicate (length p.shape.links) 0;
     blocks = [];
+    reclaimed = [];
     trail = no_trail;
     expect = [];
   }
@@ -52,7 +55,9 @@ module _ (p : BoardLayout) where
     nodes = replicate (nodes p) (idle (first p));
     writes = map (first_write (first p)) p.shape.links;
     reads = replicate (length p.shape.links) (unread (first p));
+    heard = replicate (length p.shape.links) 0;
     blocks = first_blocks p.shape;
+    reclaimed = replicate (length (pools_of p.shape)) (first p + 1);
     trail = no_trail;
     expect = e;
   }

@@ -7,6 +7,7 @@ ghost use Rattle.pw_base.specs.EventWords.{event_word_of};
 ghost use Rattle.pw_base.specs.History.{is_tick, IsLegalHistory};
 ghost use Rattle.pw_base.specs.Layout.{late_place, event_place, event_count};
 ghost use Rattle.board_rule.specs.Layout.{layout_of};
+ghost use Rattle.board_rule.specs.TicketOrder.{AreInTicketOrder};
 ghost use Rattle.board_rule.specs.Closing.{HasEndedAll, last_view, kept_view, expected, IsInRange, LateOf, AreRecorded};
 
 use crate::board::Board;
@@ -83,7 +84,9 @@ impl Board {
 
         ensures board_shape { result.board_shape ≡ self.board_shape }
         ensures expect { expected result ≡ seat.knows.expect }
-        // The events are a legal history of the epoch, with one Tick for each check that the seat made.
+        // The events are those of the tickets, in their order, and a legal history of the epoch, with one Tick for each check
+        // that the seat made.
+        ensures order { AreInTicketOrder (layout_of self.board_shape) seat.knows result.events }
         ensures legal { IsLegalHistory (self.board_shape.shape ∷ []) result.events }
         ensures ticks { count_by is_tick result.events ≡ seat.knows.lead.checks }
         // Those Ticks have exactly the late sets that the seat stored, in their order.

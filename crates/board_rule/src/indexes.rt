@@ -35,7 +35,8 @@ impl Board {
     #[inline]
     pub fn block_count(&self, pool: u32) -> u32
         requires { pool < length (pools_of self.now.board_shape.shape) }
-        ensures { result ≡ (pool_at (layout self.now) pool).blocks }
+        ensures is { result ≡ (pool_at (layout self.now) pool).blocks }
+        ensures some { 0 < result }
     {
         self.rows.pools[pool as usize].blocks
     }

@@ -11,8 +11,8 @@ ghost use Rattle.board_rule.specs.Steps.{finished};
 ghost use Rattle.board_rule.specs.EventSteps.{Draws, draws, StoresEvent, event_stored};
 ghost use Rattle.board_rule.specs.SampleWords.{IsTable, packed};
 ghost use Rattle.board_rule.specs.EndViews.{read_of, pool_at, pool_of};
-ghost use Rattle.board_rule.specs.ReaderSteps.{LoadsAsReader, loaded_as_reader, IsPublished, IsReading, ReadsBlock, readers_lowered};
-ghost use Rattle.board_rule.specs.ReaderSteps.{samples_read, StoresNeed, need_stored};
+ghost use Rattle.board_rule.specs.ReaderSteps.{LoadsAsReader, loaded_as_reader, IsPublished, IsReading, LoadsSample, sample_loaded};
+ghost use Rattle.board_rule.specs.ReaderSteps.{LowersReaders, readers_lowered, samples_read, StoresNeed, need_stored};
 
 use crate::board::Board;
 
@@ -94,8 +94,8 @@ pub trait BoardSeat {
             (read_of (knows self.now) link).id }
         ensures { result ≡ (read_of (knows self.now) link).id };
 
-    /// Loads the area of a link whose reader works, once in its cycle. The word has data; its number is one of the blocks
-    /// of the link's pool.
+    /// Loads the area of a link whose reader works, once in its cycle. The word has data; its number is that of the block of
+    /// the link's pool whose reading cycle this is.
     fn load_io_as_reader(&mut self, board: &Board, link: u32) -> u64
         requires table { IsOn board.now (table self.old) }
         requires phase { LoadsAsReader is_driver (layout board.now) (knows self.old) link }
@@ -105,22 +105,22 @@ pub trait BoardSeat {
         ensures word { IsPublished is_driver (layout board.now) (knows self.old) link result };
 
     /// Loads a sample word of the block that the reader has in its turn and has not lowered: four of the samples that
-    /// are expected. `first` is where the first sample word of the block stands (`Board::first_sample`). The seat's table
+    /// are expected. The words before it are loaded already. `first` is where the first sample word of the block stands (`Board::first_sample`). The seat's table
     /// of samples has one quantum of 16-bit samples for each cycle and pool.
     fn load_sample_at(&mut self, board: &Board, link: u32, id: u32, place: u32, first: usize) -> u64
         requires table { IsOn board.now (table self.old) }
-        requires phase { ReadsBlock is_driver (layout board.now) (knows self.old) link id }
+        requires phase { LoadsSample is_driver (layout board.now) (knows self.old) link id place }
         requires place { let p = layout board.now in place < (pool_at p (pool_of p link)).words }
         requires first { first ≡ sample_place board.now.board_shape.shape (pool_of (layout board.now) link) id 0 }
         ensures table { table self.new ≡ table self.old }
-        ensures knows { knows self.new ≡ knows self.old }
+        ensures knows { knows self.new ≡ sample_loaded is_driver (layout board.now) (knows self.old) link place }
         ensures word { result ≡ packed (samples_read is_driver (layout board.now) (knows self.old) link) place }
         ensures samples { IsTable (layout board.now) (knows self.old).expect };
 
-    /// Lowers the readers word of that block by one, and answers what it found.
+    /// Lowers the readers word of that block, all of whose sample words are loaded, by one, and answers what it found.
     fn lower_readers(&mut self, board: &Board, link: u32, id: u32) -> u64
         requires table { IsOn board.now (table self.old) }
-        requires phase { ReadsBlock is_driver (layout board.now) (knows self.old) link id }
+        requires phase { LowersReaders is_driver (layout board.now) (knows self.old) link id }
         ensures table { table self.new ≡ table self.old }
         ensures knows { knows self.new ≡ readers_lowered is_driver (layout board.now) (knows self.old) link }
         ensures word { 0 < result };

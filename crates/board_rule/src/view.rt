@@ -130,8 +130,13 @@ pub struct View {
     /// By number of the link. Those that the seat writes or reads count.
     pub writes: LinkedList<WriteView>,
     pub reads: LinkedList<ReadView>,
+    /// By link: how many sample words of the block that it took last the reader has loaded, in their order.
+    pub heard: LinkedList<u64>,
     /// By pool and number. Those that the seat fills count.
     pub blocks: LinkedList<BlockView>,
+    /// By pool: one more than the cycle of its last reclaim, where the first cycle counts as one. Those that the seat
+    /// fills count.
+    pub reclaimed: LinkedList<u64>,
     pub trail: Trail,
     /// The samples that are expected, by cycle of the epoch and pool. All seats of a board have the same.
     pub expect: LinkedList<LinkedList<LinkedList<i16>>>,

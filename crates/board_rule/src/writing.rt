@@ -4,11 +4,11 @@ ghost use Rattle.board_rule.specs.OnBoard.{IsOn, layout};
 ghost use Rattle.std.specs.Prelude.{◌≡◌, ℕ, ◌<◌, length};
 ghost use Rattle.pw_base.specs.Words.{io_id_in, need_data_word};
 ghost use Rattle.pw_base.specs.Layout.{sample_place};
-ghost use Rattle.board_rule.specs.declared.view.BlockView.TheVariants.{Out};
 ghost use Rattle.board_rule.specs.EndViews.{write_of, pool_at, block_of};
-ghost use Rattle.board_rule.specs.BufferReads.{HasPool, IsFilled, is_filled, IsFirstFilled, older, IsOldestOut};
+ghost use Rattle.board_rule.specs.BufferReads.{HasPool, IsFilled, is_filled, IsFirstFilled, older};
 ghost use Rattle.board_rule.specs.WriterSteps.{LoadsAsWriter, loaded_as_writer, IsGivenBack, StoresHave, have_stored};
-ghost use Rattle.board_rule.specs.BlockSteps.{LoadsReaders, IsReturned, IsZeroAtSecond, readers_loaded, StoresSample, sample_stored, StoresReaders, readers_stored};
+ghost use Rattle.board_rule.specs.BlockSteps.{StoresSample, sample_stored, StoresReaders, readers_stored};
+ghost use Rattle.board_rule.specs.ReclaimSteps.{LoadsReaders, FindsDue, readers_loaded, IsOldestOfAny};
 
 use crate::board::Board;
 use crate::loop_seat::LoopSeat;
@@ -69,8 +69,9 @@ impl LoopSeat {
         };
     }
 
-    /// Loads the readers word of the block that was announced a cycle ago, or two in a pool with a delayed link. It is 0, and the
-    /// block is free then; it is the one whose number the readers gave back.
+    /// Reclaims a pool, once in each cycle of its node but the first, when all its links are loaded: loads the readers word of
+    /// the block that has been out longest (`oldest_out`). It was announced a cycle ago, in a pool with a delayed link two, and
+    /// the readers gave its number back. The word is 0, and the block is free then.
     #[inline]
     pub fn load_readers(&mut self, board: &Board, pool: u32, id: u32) -> u64
         requires table { IsOn board.now self.old.table }
@@ -78,8 +79,7 @@ impl LoopSeat {
         ensures table { self.new.table ≡ self.old.table }
         ensures knows { self.new.knows ≡ readers_loaded (layout board.now) self.old.knows pool id result }
         ensures word { result ≡ 0 }
-        ensures returned { IsReturned (layout board.now) self.old.knows pool id }
-        ensures second { IsZeroAtSecond (layout board.now) self.old.knows pool id }
+        ensures due { FindsDue (layout board.now) self.old.knows pool id }
     {
         let at = board.block(pool as usize, id);
         let found = writing::load_readers::<Brand>(board, &mut self.token, pool as usize, id);
@@ -155,12 +155,11 @@ impl LoopSeat {
         0
     }
 
-    /// The number of the block that has been out longest. Condition: one is out.
+    /// The number of the block that has been out longest; 0 where none is out.
     pub fn oldest_out(&self, board: &Board, pool: u32) -> u32
         requires pool { HasPool (layout board.now) self.now.knows pool }
-        requires some { let p = layout board.now in
-            ((b n : ℕ) × (b < (pool_at p pool).blocks) × (block_of p self.now.knows pool b ≡ Out n)) }
-        ensures { ((n : ℕ) × IsOldestOut (layout board.now) self.now.knows pool result n) }
+        ensures inside { result < (pool_at (layout board.now) pool).blocks }
+        ensures oldest { IsOldestOfAny (layout board.now) self.now.knows pool result }
     {
         let mut oldest = None;
         for id in 0..board.block_count(pool) {

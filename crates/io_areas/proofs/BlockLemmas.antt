@@ -1,5 +1,5 @@
--- The blocks of a pool: where a view has them, and the one that is filled and announced.
-use Rattle.std.proofs.Common.{◌≡◌, ◌≢◌, ℕ, ◌+◌, ◌<◌, inl, ⊎_elim, true, List, length, refl, sym, ap, ◌∙◌, subst, arith, length-set}
+-- The blocks of a pool: where a view has them, and the one that is announced.
+use Rattle.std.proofs.Common.{◌≡◌, ◌≢◌, ℕ, ◌+◌, ◌<◌, List, length, refl, ap, arith, length-set}
 use Rattle.std.proofs.Common.{get_or-set_same, get_or-set_other}
 use Rattle.std.proofs.Common.{set-set}
 use mathlib.Core.Logic.{dite}
@@ -10,14 +10,13 @@ use Rattle.board_rule.specs.declared.view.BlockView.{BlockView}
 use Rattle.board_rule.specs.declared.view.BlockView.TheVariants.{Free, Filling, Out}
 use Rattle.board_rule.specs.declared.view.View.{View}
 use Rattle.board_rule.specs.Layout.{BoardLayout}
-use Rattle.board_rule.specs.BlockReadings.{is_busy, stamp}
 use Rattle.board_rule.specs.Spans.{block_at}
 use Rattle.board_rule.specs.EndViews.{pool_at, block_of, view_block}
-use Rattle.board_rule.specs.BufferReads.{HasPool, IsFilled, IsFirstFilled}
-use Rattle.board_rule.specs.BlockSteps.{fill_cycle}
+use Rattle.board_rule.specs.BufferReads.{HasPool}
+use Rattle.board_rule.specs.BlockSteps.{fill_cycle, StoresReaders, readers_stored}
 use Rattle.board_rule.proofs.HolderLemmas.{take_less, pool_there}
-use Rattle.io_areas.specs.Writing.{IsAtPool, IsUnfilled, IsFull, Announces, HasAnnounced}
-use Rattle.io_areas.proofs.PoolLemmas.{one_first}
+use Rattle.io_areas.specs.Writing.{IsAtPool}
+use Rattle.io_areas.proofs.PoolLemmas.{has_block}
 use Rattle.io_areas.proofs.KeptLemmas.{IsKept, at_again}
 
 module _ (p : BoardLayout) where
@@ -50,41 +49,17 @@ module _ (p : BoardLayout) where
     elsewhere h low r a there under o = get_or-set_other v.blocks (block_at p q b) (block_at p r a) y Free
         (indexes_apart q r b a h.0 there low under o)
 
-  -- the busy blocks of the pool but that one are of earlier cycles
-  abbrev pub IsEarlierBut : View → ℕ → ℕ → Type 0
-  IsEarlierBut v q b = (a : ℕ) → a < (pool_at p q).blocks → a ≢ b → is_busy (block_of p v q a) ≡ true
-      → stamp (fill_cycle p v q) (block_of p v q a) < fill_cycle p v q + 1
-
-  -- so a block that is filled in this cycle, or out since this cycle, is the one
-  pub first_filled : (v : View) (q b : ℕ) → b < (pool_at p q).blocks → IsFilled p v q b → IsEarlierBut v q b → IsFirstFilled p v q b
-  first_filled v q b low is early = record {
-    inside = low;
-    is = is;
-    before = λ a h f. ⊎_elim
-        (λ (g : block_of p v q a ≡ Filling (pool_at p q).words). not_new a h (ap is_busy g) (ap (stamp (fill_cycle p v q)) g))
-        (λ (g : block_of p v q a ≡ Out (fill_cycle p v q + 1)). not_new a h (ap is_busy g) (ap (stamp (fill_cycle p v q)) g)) f;
-  }
-    where
-      not_new : (a : ℕ) → a < b → is_busy (block_of p v q a) ≡ true
-          → stamp (fill_cycle p v q) (block_of p v q a) ≡ fill_cycle p v q + 1 → ⊥
-      not_new a h busy new = let e = early a (omega arith) (λ z. omega arith) busy in omega arith
-
-  module _ (v : View) (q b : ℕ) (at : IsAtPool p v q) (unfilled : IsUnfilled p v q (fill_cycle p v q)) (low : b < (pool_at p q).blocks) where
-    pub early_else : (y : BlockView) → IsEarlierBut (view_block p v q b y) q b
-    early_else y a l o busy = let e = else v q b y a o in
-        subst (λ x. stamp (fill_cycle p v q) x < fill_cycle p v q + 1) (sym e) (unfilled a l (ap is_busy (sym e) ∙ busy)).0
-
+  -- a free block that is filled whole is announced
+  module _ (v : View) (q b : ℕ) (at : IsAtPool p v q) (low : b < (pool_at p q).blocks) where
     abbrev filled : View
     filled = view_block p v q b (Filling (pool_at p q).words)
 
-    is_full : IsFull p filled q b
-    is_full = let is = here v q b (Filling (pool_at p q).words) at.0 low in
-        (first_filled filled q b low (inl is) (early_else (Filling (pool_at p q).words)), is)
+    pub may_announce : StoresReaders p filled q b
+    may_announce = (
+      has_block p filled q b (at_again p v filled (block_kept v q b (Filling (pool_at p q).words)) q at) low,
+      here v q b (Filling (pool_at p q).words) at.0 low,
+    )
 
-    pub may_announce : Announces p filled q
-    may_announce = (at_again p v filled (block_kept v q b (Filling (pool_at p q).words)) q at, (b, is_full))
-
-    pub announced : (w : View) → HasAnnounced p filled q w → w ≡ view_block p v q b (Out (fill_cycle p v q + 1))
-    announced w h = h.2 ∙ ap (λ (a : ℕ). view_block p filled q a (Out (fill_cycle p v q + 1))) (one_first p filled q h.0 b h.1.0 is_full.0)
-        ∙ ap (λ (bs : List BlockView). record v { blocks = bs })
+    pub announced : readers_stored p filled q b ≡ view_block p v q b (Out (fill_cycle p v q + 1))
+    announced = ap (λ (bs : List BlockView). record v { blocks = bs })
         (set-set v.blocks (block_at p q b) (Filling (pool_at p q).words) (Out (fill_cycle p v q + 1)))

@@ -11,15 +11,16 @@ use Rattle.board_rule.specs.declared.view.BlockView.TheVariants.{Free, Out}
 use Rattle.board_rule.specs.declared.view.View.{View}
 use Rattle.board_rule.specs.Layout.{BoardLayout, first}
 use Rattle.board_rule.specs.BlockReadings.{busy_cycles, is_busy, stamp}
-use Rattle.board_rule.specs.EndViews.{pool_at, block_of, view_block}
+use Rattle.board_rule.specs.EndViews.{pool_at, block_of}
 use Rattle.board_rule.specs.BufferReads.{HasPool}
 use Rattle.board_rule.specs.BlockSteps.{fill_cycle}
+use Rattle.board_rule.specs.ReclaimSteps.{IsUnreclaimed, IsDue, readers_loaded}
 use Rattle.board_rule.proofs.WiringLemmas.{busy_cycles_some}
 use Rattle.buffer_pool.specs.Queue.{Queue}
-use Rattle.io_areas.specs.Writing.{IsDue, HasReclaimed, IsUnfilled}
+use Rattle.io_areas.specs.Writing.{HasReclaimed, IsUnfilled}
 use Rattle.io_areas.specs.FreeBlocks.{IsRecent, FreeBlocks, recent_count}
 use Rattle.io_areas.specs.OutputAnswer.{IsReclaimed}
-use Rattle.io_areas.proofs.PoolLemmas.{busy_cycles_most}
+use Rattle.board_rule.proofs.ReclaimLemmas.{busy_cycles_most}
 use Rattle.io_areas.proofs.BlockLemmas.{here, else}
 
 pub free_out : (x : BlockView) (n : ℕ) → x ≡ Free → x ≡ Out n → ⊥
@@ -78,23 +79,6 @@ module _ (p : BoardLayout) (q : ℕ) where
     abbrev due_stamp : ℕ
     due_stamp = now + 1 - busy_cycles p (pool_at p q)
 
-    recent_stamp : (a m : ℕ) → a < (pool_at p q).blocks → block_of p v q a ≡ Out m → IsRecent p q now m
-    recent_stamp a m l e = ⊎_elim (λ f. absurd (free_out (block_of p v q a) m f e))
-        (λ r. subst (IsRecent p q now) (out_same r.0 m (sym r.2 ∙ e)) r.1) (s.else a l)
-
-    -- of the blocks that are out one is due
-    pub due : first p < now → (b : ℕ) × IsDue p v q b
-    due later = let some = busy_cycles_some p (pool_at p q) in let most = busy_cycles_most p (pool_at p q) in
-        let o = s.out due_stamp (omega arith, omega arith, omega arith) in let low = o.1 in (
-          o.0,
-          record {
-            inside = o.1;
-            is = o.2;
-            oldest = λ a m l e. let r = recent_stamp a m l e in let r₁ = r.1 in omega arith;
-            before = λ a l e. let z = s.one a o.0 due_stamp (omega arith) o.1 e o.2 in omega arith;
-          },
-        )
-
     pub is_reclaimed : (r : Option ℕ) (w : View) → HasReclaimed p v q r w → IsReclaimed p v q r
     is_reclaimed None w h = h.0
     is_reclaimed (Some b) w h = let later = h.0 in let d = h.1 in (
@@ -115,7 +99,7 @@ module _ (p : BoardLayout) (q : ℕ) where
 
     module _ (b : ℕ) (later : first p < now) (d : IsDue p v q b) (has : HasPool p v q) where
       abbrev w : View
-      w = view_block p v q b Free
+      w = readers_loaded p v q b 0
 
       freed : block_of p w q b ≡ Free
       freed = here p v q b Free has d.inside
@@ -185,7 +169,7 @@ module _ (p : BoardLayout) (q : ℕ) where
     has_next r w has h = let l = (all_listed r w has h).long in let low = s.enough in omega arith
 
   -- the blocks in the next cycle, where `used` is out since this one
-  module _ (x z : View) (c used : ℕ) (left : Queue) (begun : first p ≤ c) (enough : busy_cycles p (pool_at p q) ≤ (pool_at p q).blocks)
+  module _ (x z : View) (c used : ℕ) (left : Queue) (begun : first p ≤ c) (reclaimed : IsUnreclaimed p z q (c + 1)) (enough : busy_cycles p (pool_at p q) ≤ (pool_at p q).blocks)
       (back : AreBack p x q c) (a : AreOthers p x q used left.free) (size : left.blocks ≡ (pool_at p q).blocks)
       (new : block_of p z q used ≡ Out (c + 1)) (same : (b : ℕ) → b ≢ used → block_of p z q b ≡ block_of p x q b) where
     not_used : (b n : ℕ) → block_of p x q b ≡ Out n → b ≢ used
@@ -215,4 +199,5 @@ module _ (p : BoardLayout) (q : ℕ) where
           (λ i. ⊎_elim (λ f. inl (same b i ∙ f))
           (λ r. let le = r.1 in let near = r.2 in inr (r.0, (omega arith, omega arith, omega arith), same b i ∙ r.3)) (back.else b l));
       zero = λ r. let near = r.1 in let is = back.zero begun near in same 0 (not_used 0 (first p) is) ∙ is;
+      unreclaimed = reclaimed;
     }

@@ -1,20 +1,23 @@
 -- From step to step of the turn of a node on a pool: its views are v, w when the links are loaded, x when a block is taken from
 -- the free ones, y when it is announced, and z when it is published.
 use Rattle.std.proofs.Common.{◌≡◌, ◌≢◌, ℕ, ◌+◌, ◌<◌, inr, false, List, ◌∷◌, ◌++◌, Option, Some, None, All, Contains, get_or, option_to_list, sym}
-use Rattle.std.proofs.Common.{ap, ◌∙◌, subst, arith}
+use Rattle.std.proofs.Common.{ap, ◌∙◌, subst, arith, cond, eq-eqb, ne_eqb}
 use Rattle.std.proofs.lemmas.List.Elements.{Contains-get_or}
 use Rattle.board_rule.specs.declared.view.WriteView.{WriteView}
 use Rattle.board_rule.specs.declared.view.BlockView.TheVariants.{Free, Out}
 use Rattle.board_rule.specs.declared.view.View.{View}
-use Rattle.board_rule.specs.Layout.{BoardLayout}
+use Rattle.board_rule.specs.Layout.{BoardLayout, first}
+use Rattle.board_rule.specs.Areas.{stored_id}
+use Rattle.board_rule.specs.BlockReadings.{delay_at, busy_cycles}
+use Rattle.board_rule.specs.ReclaimSteps.{reclaimed_of, IsUnreclaimed}
 use Rattle.board_rule.specs.EndViews.{pool_at, block_of, view_block, write_of}
-use Rattle.board_rule.specs.BufferReads.{HasPool, IsFirstFilled}
+use Rattle.board_rule.specs.BufferReads.{HasPool}
 use Rattle.board_rule.specs.SeatNodes.{cycle_of, HasNode}
 use Rattle.board_rule.specs.WorkSteps.{IsRunning}
-use Rattle.board_rule.specs.WriterSteps.{LoadsAsWriter, IsWriter, write_cycle}
+use Rattle.board_rule.specs.WriterSteps.{LoadsAsWriter, IsWriter, write_cycle, StoresHave}
 use Rattle.board_rule.specs.BlockSteps.{IsWriting, fill_cycle}
 use Rattle.buffer_pool.specs.Queue.{Queue}
-use Rattle.io_areas.specs.Writing.{IsAtPool, IsUnfilled, Reclaims, HasReclaimed, Publishes}
+use Rattle.io_areas.specs.Writing.{number_given, IsAtPool, IsUnfilled, Reclaims, HasReclaimed}
 use Rattle.io_areas.specs.PooledBoard.{IsPooledBoard}
 use Rattle.io_areas.specs.Ends.{IsWrittenUpTo}
 use Rattle.io_areas.specs.FreeBlocks.{FreeBlocks}
@@ -23,10 +26,10 @@ use Rattle.io_areas.specs.OutputSteps.{AreMade, IsLoadedNow, IsPublishedNow}
 use Rattle.io_areas.specs.OutputAnswer.{IsReclaimed}
 use Rattle.io_areas.proofs.KeptLemmas.{IsKept, at_again}
 use Rattle.io_areas.proofs.WriterEndsLemmas.{kept, same_cycle, writer_again}
-use Rattle.io_areas.proofs.BlockLemmas.{IsEarlierBut, here, else, first_filled, early_else}
-use Rattle.io_areas.proofs.RefillLemmas.{IsRefilled, refilled, refill_kept, refill_more, reclaim_refills}
+use Rattle.io_areas.proofs.BlockLemmas.{here, else}
+use Rattle.io_areas.proofs.RefillLemmas.{IsRefilled, refilled, refill_kept, refill_more, reclaim_refills, reclaimed_by}
 use Rattle.io_areas.proofs.PoolLinkLemmas.{of_pool}
-use Rattle.io_areas.proofs.FreeBlocksLemmas.{AreBack, AreListed, AreOthers, taken, unfilled, due, is_reclaimed, all_back, all_listed, refreed, free_out}
+use Rattle.io_areas.proofs.FreeBlocksLemmas.{AreBack, AreListed, AreOthers, taken, unfilled, is_reclaimed, all_back, all_listed, refreed, free_out}
 
 abbrev links_of : BoardLayout → ℕ → List ℕ
 links_of p q = (pool_at p q).links
@@ -37,7 +40,7 @@ module _ (p : BoardLayout) (v : View) (q : ℕ) (board : IsPooledBoard p) (may :
 
   writes : (l : ℕ) → Contains (links_of p q) l → IsWriter p v l
   writes l d = let o = of_pool p board q may.has.0 l d in let n = sym o.1 in
-      (o.0, (may.even l d).there, subst (λ k. HasNode false p v k) n may.has.1, subst (λ k. IsRunning false v k) n may.runs)
+      (o.0, (may.even l d).there, subst (λ k. HasNode false p v k) n (may.has.1.0, may.cycle, may.has.1.2), subst (λ k. IsRunning false v k) n may.runs)
 
   pub may_load_all : All (LoadsAsWriter p v) (links_of p q)
   may_load_all k e h = let l : ℕ = get_or (links_of p q) k e in let d = Contains-get_or (links_of p q) k e h in
@@ -61,7 +64,7 @@ module _ {p : BoardLayout} {v : View} {q : ℕ} {pool : Queue} {w : View} (t : H
   kept_loaded = kept (IsLoadedNow p v) v (links_of p q) w t.ends
 
   at_loaded : IsAtPool p w q
-  at_loaded = at_again p v w kept_loaded q (t.may.has, t.may.runs)
+  at_loaded = at_again p v w kept_loaded q (t.may.has, t.may.runs, t.may.cycle)
 
   cycle_loaded : fill_cycle p w q ≡ fill_cycle p v q
   cycle_loaded = ap (λ (u : View). fill_cycle p u q) kept_loaded.same
@@ -87,10 +90,11 @@ module _ {p : BoardLayout} {v : View} {q : ℕ} {pool : Queue} {w : View} (t : H
         one = s.one;
         else = s.else;
         zero = s.zero;
+        unreclaimed = s.unreclaimed;
       }
 
   pub may_reclaim : Reclaims p w q
-  may_reclaim = (at_loaded, (λ l d. (turn_loaded l d).0), due p q w pool blocks_again)
+  may_reclaim = (at_loaded, (λ l d. (turn_loaded l d).0), blocks_again.unreclaimed)
 
 -- OBTAINED: what came back, and the block that is taken from the free ones
 pub record HasObtained (p : BoardLayout) (v : View) (q : ℕ) (pool : Queue) (w : View) (r : Option ℕ) (x : View) (used : ℕ)
@@ -117,6 +121,22 @@ module _ {p : BoardLayout} {v : View} {q : ℕ} {pool : Queue} {w : View} {r : O
       by : (o : Option ℕ) → IsReclaimed p w q o → IsReclaimed p v q o
       by None e = sym (cycle_loaded t.before) ∙ e
       by (Some b) e = let is = subst (λ (u : View). IsReclaimed p u q (Some b)) t.before.ends.same e in is
+
+  -- the readers gave its number back
+  pub returned : (l : ℕ) → Contains (links_of p q) l → delay_at p l + 1 ≡ busy_cycles p (pool_at p q) → number_given p v l ≡ r
+  returned l d late = by r t.back
+    where
+      now : write_cycle p v l ≡ fill_cycle p v q
+      now = cycle_at p v q t.before.board t.before.may l d
+
+      by : (o : Option ℕ) → HasReclaimed p w q o x → number_given p v l ≡ o
+      by None h = let e : write_cycle p v l ≡ first p = now ∙ sym (cycle_loaded t.before) ∙ h.0 in
+          ap (λ c. cond c None (Some (stored_id (write_of v l) (delay_at p l)))) (eq-eqb (write_cycle p v l) (first p) e)
+      by (Some b) h = let later = h.0 in let same = cycle_loaded t.before in
+          let o : write_cycle p v l ≢ first p = (λ e. let n = now in absurd (omega arith)) in
+          ap (λ c. cond c None (Some (stored_id (write_of v l) (delay_at p l)))) (ne_eqb (write_cycle p v l) (first p) o)
+          ∙ ap (λ n. Some n) (ap (λ (e : WriteView). stored_id e (delay_at p l)) (sym (t.before.ends.made l d))
+          ∙ h.3 l d late (stored t.before l d ∙ sym same) h.0)
 
   back : AreBack p x q (fill_cycle p w q)
   back = all_back p q w pool (blocks_again t.before) r x (at_loaded t.before).0 t.back
@@ -176,35 +196,26 @@ module _ {p : BoardLayout} {v : View} {q : ℕ} {pool : Queue} {w : View} {r : O
   others_emitted : (b : ℕ) → b ≢ used → block_of p y q b ≡ block_of p x q b
   others_emitted b o = ap (λ (u : View). block_of p u q b) emitted_is ∙ else p x q used (Out (fill_cycle p v q + 1)) b o
 
-  first_emitted : IsFirstFilled p y q used
-  first_emitted = first_filled p y q used (others t.before).inside (inr (used_emitted ∙ ap (λ n. Out (n + 1)) (sym cycle_emitted)))
-      (subst (λ (u : View). IsEarlierBut p u q used) (sym emitted_is)
-      (early_else p x q used (may_fill t.before).0 (is_unfilled t.before) (others t.before).inside (Out (fill_cycle p v q + 1))))
-
   turn_emitted : (l : ℕ) → Contains (links_of p q) l → write_cycle p y l ≡ fill_cycle p v q
   turn_emitted l d = same_cycle p w y kept_emitted l ∙ same_cycle p v w (kept_loaded first_step) l
       ∙ cycle_at p v q first_step.board first_step.may l d
 
-  pub may_publish_all : All (Publishes p y) (links_of p q)
+  pub may_publish_all : All (λ l. StoresHave p y l used) (links_of p q)
   may_publish_all k e h = let l : ℕ = get_or (links_of p q) k e in let d = Contains-get_or (links_of p q) k e h in let s = first_step in
-      let here = sym (of_pool p s.board q s.may.has.0 l d).2 in (
+      let here = sym (of_pool p s.board q s.may.has.0 l d).2 in
+      let block = subst (λ n. (used < (pool_at p n).blocks) × (block_of p y n used ≡ Out (write_cycle p y l + 1))) here
+      ((others t.before).inside, used_emitted ∙ ap (λ n. Out (n + 1)) (sym (turn_emitted l d))) in (
         writer_again p w y kept_emitted l (writer_again p v w (kept_loaded s) l (writes p v q s.board s.may l d)),
-        subst (λ n. HasPool p y n) here (at_again p w y kept_emitted q (at_loaded s)).0,
         ap (λ (u : WriteView). u.loaded) (ends_emitted l) ∙ loaded s l d ∙ ap (λ n. n + 1) (sym (turn_emitted l d)),
         ap (λ (u : WriteView). u.stored) (ends_emitted l) ∙ stored s l d ∙ sym (turn_emitted l d),
-        (
-          used,
-          subst (λ n. IsFirstFilled p y n used × (block_of p y n used ≡ Out (write_cycle p y l + 1))) here (
-            first_emitted,
-            used_emitted ∙ ap (λ n. Out (n + 1)) (sym (turn_emitted l d)),
-          ),
-        ),
+        block.0,
+        block.1,
       )
 
   -- the turn is over
-  module _ (z : View) (ends : AreMade (IsPublishedNow p y) y (links_of p q) z) where
+  module _ (z : View) (ends : AreMade (IsPublishedNow p y used) y (links_of p q) z) where
     kept_published : IsKept y z
-    kept_published = kept (IsPublishedNow p y) y (links_of p q) z ends
+    kept_published = kept (IsPublishedNow p y used) y (links_of p q) z ends
 
     same_published : (b : ℕ) → block_of p z q b ≡ block_of p y q b
     same_published b = ap (λ (u : View). block_of p u q b) ends.same
@@ -230,13 +241,19 @@ module _ {p : BoardLayout} {v : View} {q : ℕ} {pool : Queue} {w : View} {r : O
         kept_by None m h = ap (λ (u : View). block_of p u q b) h.1
         kept_by (Some a) m h = ap (λ (u : View). block_of p u q b) h.2 ∙ else p w q a Free b (λ i. m (ap (λ k. Some k) (sym i)))
 
+    unreclaimed : IsUnreclaimed p z q (fill_cycle p v q + 1)
+    unreclaimed = subst (λ (u : View). IsUnreclaimed p u q (fill_cycle p v q + 1))
+        (sym (ends.same ∙ ap (λ (u : View). record u { writes = z.writes }) emitted_is))
+        (subst (λ n. IsUnreclaimed p x q (n + 1)) (cycle_loaded first_step)
+        (reclaimed_by p q w r x (blocks_again first_step).unreclaimed t.before.back))
+
     pub new_blocks : FreeBlocks p z q (fill_cycle p v q + 1) left
-    new_blocks = refreed p q x z (fill_cycle p v q) used left first_step.may.has.1.1.0 first_step.blocks.enough
+    new_blocks = refreed p q x z (fill_cycle p v q) used left first_step.may.has.1.1.0 unreclaimed first_step.blocks.enough
         (subst (AreBack p x q) (cycle_loaded first_step) (back t.before)) (others t.before) (t.before.size ∙ first_step.blocks.size)
         is_used.1 kept_back
 
     published : (l : ℕ) → Contains (links_of p q) l → IsWrittenUpTo z l (fill_cycle p v q + 1)
-    published l d = let is = (ends.made l d).2 in record {
+    published l d = let is = ends.made l d in record {
       there = (let o = (first_step.may.even l d).there in let a = first_step.ends.long in let b = kept_emitted.ends in let e = ends.long in
           omega arith);
       loaded = ap (λ (u : WriteView). u.loaded) is ∙ ap (λ (u : WriteView). u.loaded) (ends_emitted l) ∙ loaded first_step l d;
@@ -245,12 +262,14 @@ module _ {p : BoardLayout} {v : View} {q : ℕ} {pool : Queue} {w : View} {r : O
 
     pub has_written : HasWrittenOutput p v q z
     has_written = let a = kept_loaded first_step in let b = kept_emitted in let e = kept_published in record {
-      same = e.same ∙ ap (λ (u : View). record u { writes = z.writes; blocks = z.blocks })
-          (b.same ∙ ap (λ (u : View). record u { writes = y.writes; blocks = y.blocks }) a.same);
+      same = e.same ∙ ap (λ (u : View). record u { writes = z.writes; blocks = z.blocks; reclaimed = z.reclaimed })
+          (b.same ∙ ap (λ (u : View). record u { writes = y.writes; blocks = y.blocks; reclaimed = y.reclaimed }) a.same);
       ends = e.ends ∙ b.ends ∙ a.ends;
       room = e.room ∙ b.room ∙ a.room;
       even = published;
       other_links = λ l o. ends.left l o ∙ ends_emitted l ∙ first_step.ends.left l o;
       other_pools = λ n b h low o. ap (λ (u : View). block_of p u n b) ends.same ∙ refill_emitted.others n b h low o
           ∙ ap (λ (u : View). block_of p u n b) first_step.ends.same;
+      other_reclaims = λ n o. ap (λ (u : View). reclaimed_of u n) ends.same ∙ refill_emitted.rest n o
+          ∙ ap (λ (u : View). reclaimed_of u n) first_step.ends.same;
     }

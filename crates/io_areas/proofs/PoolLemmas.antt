@@ -1,31 +1,21 @@
 -- What the calls use of a pool: its words by its quantum, and that the block a seat is asked for is one alone.
-use Rattle.std.proofs.Common.{◌≡◌, ℕ, ◌+◌, ◌-◌, ◌*◌, ◌/◌, ◌<◌, ◌≤◌, ⊎_elim, Bool, true, false, cond, length, get_or, sym, ap, ◌∙◌, subst}
+use Rattle.std.proofs.Common.{◌≡◌, ℕ, ◌+◌, ◌*◌, ◌/◌, ◌<◌, ◌≤◌, ⊎_elim, length, get_or, sym, ap, ◌∙◌, subst}
 use Rattle.std.proofs.Common.{arith}
 use Rattle.std.proofs.Math.Nat.{le_antisymm}
 use Rattle.std.proofs.lemmas.Bool.{cases_lt}
 use Rattle.std.proofs.lemmas.List.{get_or-map, length-map}
 use Rattle.pw_base.specs.declared.ids.PortId.{PortId}
 use Rattle.pw_base.specs.declared.pools.PoolShape.{PoolShape}
-use Rattle.std.specs.List.{list_any}
-use Rattle.pw_base.specs.Pools.{links_from, sources_of, pool_of, pools_of}
+use Rattle.pw_base.specs.Pools.{sources_of, pool_of, pools_of}
 use Rattle.board_rule.specs.declared.view.View.{View}
 use Rattle.board_rule.specs.Layout.{BoardLayout}
-use Rattle.board_rule.specs.BlockReadings.{busy_cycles}
 use Rattle.board_rule.specs.EndViews.{no_pool, pool_at}
-use Rattle.board_rule.specs.BlockSteps.{HasBlock, fill_cycle}
-use Rattle.board_rule.specs.BufferReads.{IsFirstFilled, IsOldestOut}
+use Rattle.board_rule.specs.BlockSteps.{HasBlock}
+use Rattle.board_rule.specs.BufferReads.{IsFirstFilled}
 use Rattle.io_areas.specs.Quanta.{quantum_of}
-use Rattle.io_areas.specs.Writing.{IsAtPool, IsDue}
+use Rattle.io_areas.specs.Writing.{IsAtPool}
 
 module _ (p : BoardLayout) where
-  -- a pool is late by two cycles at most
-  pub busy_cycles_most : (x : PoolShape) → busy_cycles p x ≤ 2
-  busy_cycles_most x = by (list_any (λ k. k.delayed) (links_from p.shape x.port))
-    where
-      by : (b : Bool) → cond {A = ℕ} b 2 1 ≤ 2
-      by true = omega arith
-      by false = omega arith
-
   -- a word has four samples
   pub words_of_quantum : (q : ℕ) → q < length (pools_of p.shape) → (pool_at p q).words ≡ (quantum_of p q + 3) / 4
   words_of_quantum q h = let port : PortId = get_or (sources_of p.shape) q no_pool.port in
@@ -36,15 +26,10 @@ module _ (p : BoardLayout) where
   module _ (v : View) (q : ℕ) where
     -- the seat has each block of its pool
     pub has_block : (b : ℕ) → IsAtPool p v q → b < (pool_at p q).blocks → HasBlock p v q b
-    has_block b h inside = let room = h.0.2 in (h.0.0, inside, omega arith, h.0.1, h.1)
+    has_block b h inside = let room = h.0.2 in (h.0.0, inside, omega arith, (h.0.1.0, h.2, h.0.1.2), h.1)
 
     pub one_first : (a b : ℕ) → IsFirstFilled p v q a → IsFirstFilled p v q b → a ≡ b
     one_first a b f g = le_antisymm (least a b f g) (least b a g f)
       where
         least : (a b : ℕ) → IsFirstFilled p v q a → IsFirstFilled p v q b → a ≤ b
         least a b f g = ⊎_elim (λ l. absurd (f.before b l g.is)) (λ le. le) (cases_lt b a)
-
-    -- what has been out longest is due where something due has
-    pub oldest_due : (a n b : ℕ) → IsOldestOut p v q a n → IsDue p v q b → IsDue p v q a
-    oldest_due a n b f g = let e : n ≡ fill_cycle p v q + 1 - busy_cycles p (pool_at p q) =
-        le_antisymm (f.oldest b _ g.inside g.is) (g.oldest a n f.inside f.is) in subst (λ k. IsOldestOut p v q a k) e f

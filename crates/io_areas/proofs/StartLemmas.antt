@@ -22,6 +22,7 @@ use Rattle.board_rule.specs.Layout.{BoardLayout, first}
 use Rattle.board_rule.specs.View.{Samples, is_delayed, first_block, blocks_at_first, loop_view}
 use Rattle.board_rule.specs.BlockReadings.{busy_cycles, stamp}
 use Rattle.board_rule.specs.Spans.{block_at}
+use Rattle.board_rule.specs.ReclaimSteps.{reclaimed_of, IsUnreclaimed}
 use Rattle.board_rule.specs.EndViews.{no_pool, pool_at, block_of}
 use Rattle.buffer_pool.specs.Queue.{numbers_below}
 use Rattle.io_areas.specs.FreeBlocks.{IsRecent, FreeBlocks, free_at_start, recent_count}
@@ -149,6 +150,10 @@ module _ (p : BoardLayout) (have : All (λ x. 1 ≤ x.blocks) (pools_of p.shape)
           let same : x.blocks ≡ fold (λ top l. max top (asked l)) 0 (links_from p.shape port) = ap (λ (y : PoolShape). y.blocks) is in omega arith
       by false late = have q no_pool low
 
+  begins_unreclaimed : IsUnreclaimed p v q (first p)
+  begins_unreclaimed h = let same : reclaimed_of v q ≡ first p + 1 = get_or-replicate (length (pools_of p.shape)) q (first p + 1) 0 low in
+      absurd (omega arith)
+
   pub begins_free : FreeBlocks p v q (first p) (free_at_start p.shape x)
   begins_free = by (is_delayed p.shape x) refl
     where
@@ -177,6 +182,7 @@ module _ (p : BoardLayout) (have : All (λ x. 1 ≤ x.blocks) (pools_of p.shape)
                 inr (first p, (omega arith, omega arith, omega arith), ap (block_of p v q) o ∙ zero_out))
                 (λ (z : 1 ≤ b). inl (others b h (λ i. omega arith))) (cases_lt b 1);
             zero = λ _. zero_out;
+            unreclaimed = begins_unreclaimed;
           }
       by false late = let one : busy_cycles p x ≡ 1 = ap (λ b. cond {A = ℕ} b 2 1) late in let fits = enough in
           let free : (b : ℕ) → b < x.blocks → block_of p v q b ≡ Free = (λ b h. is_first b h
@@ -191,4 +197,5 @@ module _ (p : BoardLayout) (have : All (λ x. 1 ≤ x.blocks) (pools_of p.shape)
             one = λ a b n ha hb ea eb. absurd (let w : Free ≡ Out n = sym (free a ha) ∙ ea in absurd (cc));
             else = λ b h. inl (free b h);
             zero = λ r. let r₂ = r.2 in absurd (omega arith);
+            unreclaimed = begins_unreclaimed;
           }

@@ -12,11 +12,10 @@ use Rattle.board_rule.specs.View.{unwritten}
 use Rattle.board_rule.specs.Areas.{stored_id}
 use Rattle.board_rule.specs.BlockReadings.{delay_at}
 use Rattle.board_rule.specs.EndViews.{write_of, view_write, pool_of, writer_of, block_of}
-use Rattle.board_rule.specs.BufferReads.{IsFirstFilled}
-use Rattle.board_rule.specs.WriterSteps.{LoadsAsWriter, IsWriter, write_cycle}
-use Rattle.io_areas.specs.Writing.{number_given, IsNew, Publishes}
+use Rattle.board_rule.specs.WriterSteps.{LoadsAsWriter, IsWriter, write_cycle, StoresHave}
+use Rattle.io_areas.specs.Writing.{number_given}
 use Rattle.io_areas.specs.OutputSteps.{AreMade, IsLoadedNow, IsPublishedNow}
-use Rattle.io_areas.proofs.KeptLemmas.{IsKept, has_again, runs_again, pool_again}
+use Rattle.io_areas.proofs.KeptLemmas.{IsKept, has_again, runs_again}
 
 -- an element does not stand before itself
 pub not_before : (xs : List ℕ) (k d : ℕ) → AllPairs (λ a b. a ≢ b) xs → k < length xs → Contains (take k xs) (get_or xs k d) → ⊥
@@ -27,7 +26,7 @@ not_before xs k d once h c = let l : ℕ = get_or xs k d in let i = c.0 in let l
 module _ (Made : ℕ → WriteView → WriteView → Type 0) (v : View) where
   pub kept : (xs : List ℕ) (w : View) → AreMade Made v xs w → IsKept v w
   kept xs w a = record {
-    same = a.same ∙ ap (λ (x : View). record v { writes = w.writes; blocks = x.blocks }) (sym a.same);
+    same = a.same ∙ ap (λ (x : View). record v { writes = w.writes; blocks = x.blocks; reclaimed = x.reclaimed }) (sym a.same);
     ends = a.long;
     room = ap (λ (x : View). length x.blocks) a.same;
   }
@@ -93,38 +92,20 @@ module _ (p : BoardLayout) (v : View) (xs : List ℕ) (w : View) (l : ℕ) (fres
     same_given = ap (λ (k : WriteView × ℕ). cond (eqb k.1 (first p)) None (Some (stored_id k.0 (delay_at p l))))
         (λ i. (a.left l fresh i, same_cycle p v w loaded_kept l i))
 
-  module _ (a : AreMade (IsPublishedNow p v) v xs w) where
+  module _ (b : ℕ) (a : AreMade (IsPublishedNow p v b) v xs w) where
     abbrev published_kept : IsKept v w
-    published_kept = kept (IsPublishedNow p v) v xs w a
+    published_kept = kept (IsPublishedNow p v b) v xs w a
 
-    same_first : (q b : ℕ) → IsFirstFilled p v q b → IsFirstFilled p w q b
-    same_first q b f = subst (λ (x : View). IsFirstFilled p x q b) (sym a.same) record { inside = f.inside; is = f.is; before = f.before }
-
-    first_same : (q b : ℕ) → IsFirstFilled p w q b → IsFirstFilled p v q b
-    first_same q b f = let g : IsFirstFilled p (record v { writes = w.writes }) q b =
-        subst (λ (x : View). IsFirstFilled p x q b) a.same f in
-        record { inside = g.inside; is = g.is; before = g.before }
-
-    same_block : (q b : ℕ) → block_of p w q b ≡ block_of p v q b
-    same_block q b = ap (λ (x : View). block_of p x q b) a.same
-
-    same_out : Out (write_cycle p w l + 1) ≡ Out (write_cycle p v l + 1)
-    same_out = ap (λ n. Out (n + 1)) (same_cycle p v w published_kept l)
-
-    pub may_publish : Publishes p v l → Publishes p w l
-    may_publish h = let n = h.4 in let cycle = same_cycle p v w published_kept l in (
+    pub may_publish : StoresHave p v l b → StoresHave p w l b
+    may_publish h = let cycle = same_cycle p v w published_kept l in (
       writer_again p v w published_kept l h.0,
-      pool_again p v w published_kept (pool_of p l) h.1,
-      ap (λ (y : WriteView). y.loaded) (a.left l fresh) ∙ h.2 ∙ ap (λ k. k + 1) (sym cycle),
-      ap (λ (y : WriteView). y.stored) (a.left l fresh) ∙ h.3 ∙ sym cycle,
-      (n.0, (same_first (pool_of p l) n.0 n.1.0, same_block (pool_of p l) n.0 ∙ n.1.1 ∙ sym same_out)),
+      ap (λ (y : WriteView). y.loaded) (a.left l fresh) ∙ h.1 ∙ ap (λ k. k + 1) (sym cycle),
+      ap (λ (y : WriteView). y.stored) (a.left l fresh) ∙ h.2 ∙ sym cycle,
+      h.3,
+      ap (λ (x : View). block_of p x (pool_of p l) b) a.same ∙ h.4 ∙ ap (λ n. Out (n + 1)) (sym cycle),
     )
 
-    pub published_is : (b : ℕ) → IsNew p w l b → IsPublishedNow p v l (write_of v l)
+    pub published_is : IsPublishedNow p v b l (write_of v l)
         (record (write_of w l) { stored = write_cycle p w l + 1; id = b; last = (write_of w l).id })
-    published_is b n = (
-      b,
-      (first_same (pool_of p l) b n.0, sym (same_block (pool_of p l) b) ∙ n.1 ∙ same_out),
-      ap (λ (k : WriteView × ℕ). record k.0 { stored = k.1 + 1; id = b; last = k.0.id })
-          (λ i. (a.left l fresh i, same_cycle p v w published_kept l i)),
-    )
+    published_is = ap (λ (k : WriteView × ℕ). record k.0 { stored = k.1 + 1; id = b; last = k.0.id })
+        (λ i. (a.left l fresh i, same_cycle p v w published_kept l i))

@@ -8,6 +8,7 @@ use Rattle.board_rule.specs.declared.view.View.{View}
 use Rattle.board_rule.specs.Layout.{BoardLayout, first}
 use Rattle.board_rule.specs.BlockReadings.{busy_cycles}
 use Rattle.board_rule.specs.EndViews.{pool_at, block_of}
+use Rattle.board_rule.specs.ReclaimSteps.{IsUnreclaimed}
 use Rattle.board_rule.specs.View.{is_delayed}
 use Rattle.buffer_pool.specs.Queue.{Queue, numbers_below}
 
@@ -30,7 +31,7 @@ module _ (p : BoardLayout) where
   recent_count q c = cond (eqb c (first p)) (busy_cycles p (pool_at p q) - 1) (busy_cycles p (pool_at p q))
 
   -- one block of each of those stamps is out, and all others are free; `zero`: that of the cycle before the first is
-  -- block 0. The list has free blocks, each once, and as many as there are
+  -- block 0. The list has free blocks, each once, and as many as there are. The pool is reclaimed in no later cycle
   pub record FreeBlocks (v : View) (q c : ℕ) (pool : Queue) : Type 0 where
     pub size : pool.blocks ≡ (pool_at p q).blocks
     pub enough : busy_cycles p (pool_at p q) ≤ (pool_at p q).blocks
@@ -43,3 +44,4 @@ module _ (p : BoardLayout) where
     pub else : (b : ℕ) → b < (pool_at p q).blocks → (block_of p v q b ≡ Free)
         ⊎ ((n : ℕ) × IsRecent q c n × (block_of p v q b ≡ Out n))
     pub zero : IsRecent q c (first p) → block_of p v q 0 ≡ Out (first p)
+    pub unreclaimed : IsUnreclaimed p v q c

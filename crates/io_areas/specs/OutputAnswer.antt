@@ -1,13 +1,14 @@
 -- What a turn on a pool answers.
 -- Source: PipeWire's documentation, "SPA Buffers"; one pool an output port is this project's own.
-use Rattle.std.specs.Prelude.{◌≡◌, ◌≢◌, ℕ, ◌+◌, ◌-◌, ◌<◌, List, ◌∷◌, ◌++◌, Option, Some, None, length, slice_index}
+use Rattle.std.specs.Prelude.{◌≡◌, ◌≢◌, ℕ, ◌+◌, ◌-◌, ◌<◌, List, ◌∷◌, ◌++◌, Option, Some, None, Contains, length, slice_index}
 use Rattle.std.specs.Prelude.{option_to_list}
 use Rattle.board_rule.specs.declared.view.BlockView.TheVariants.{Free, Out}
 use Rattle.board_rule.specs.declared.view.View.{View}
 use Rattle.board_rule.specs.Layout.{BoardLayout, first}
-use Rattle.board_rule.specs.BlockReadings.{busy_cycles}
+use Rattle.board_rule.specs.BlockReadings.{delay_at, busy_cycles}
 use Rattle.board_rule.specs.EndViews.{pool_at, block_of}
-use Rattle.board_rule.specs.BlockSteps.{fill_cycle, IsZeroAtSecond}
+use Rattle.board_rule.specs.BlockSteps.{fill_cycle}
+use Rattle.board_rule.specs.ReclaimSteps.{IsZeroAtSecond}
 use Rattle.io_areas.specs.Writing.{number_given}
 use Rattle.io_areas.specs.declared.output_turn.OutputWritten.{OutputWritten}
 
@@ -23,11 +24,14 @@ IsReclaimed p v q (Some b) = (first p < fill_cycle p v q) × (b < (pool_at p q).
     × IsZeroAtSecond p v q b
 
 -- from the view v and the free blocks `free` to the view w and the free blocks `left`: the one that is out since this
--- cycle was free longest, the one that came back is used after all others, and each other block is as before
+-- cycle was free longest, the one that came back is used after all others, and each other block is as before. The
+-- readers of the links that are as late as the pool gave back the one that came back
 pub record AnswersTurn (p : BoardLayout) (v : View) (q : ℕ) (free : List ℕ) (w : View) (left : List ℕ) (answer : OutputWritten)
     : Type 0 where
   pub given : answer.given ≡ number_given p v (last_of (pool_at p q).links)
   pub reclaimed : IsReclaimed p v q answer.reclaimed
+  pub returned : (l : ℕ) → Contains (pool_at p q).links l → delay_at p l + 1 ≡ busy_cycles p (pool_at p q)
+      → number_given p v l ≡ answer.reclaimed
   pub used : (answer.used < (pool_at p q).blocks) × (block_of p w q answer.used ≡ Out (fill_cycle p v q + 1))
   pub freed : (b : ℕ) → answer.reclaimed ≡ Some b → b ≢ answer.used → block_of p w q b ≡ Free
   pub others : (b : ℕ) → b < (pool_at p q).blocks → b ≢ answer.used → answer.reclaimed ≢ Some b

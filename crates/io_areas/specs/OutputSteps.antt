@@ -6,7 +6,6 @@ use Rattle.board_rule.specs.declared.view.View.{View}
 use Rattle.board_rule.specs.Layout.{BoardLayout}
 use Rattle.board_rule.specs.EndViews.{write_of}
 use Rattle.board_rule.specs.WriterSteps.{write_cycle}
-use Rattle.io_areas.specs.Writing.{IsNew}
 
 -- the ends of these links are others, each as `Made` says, and nothing else is
 pub record AreMade (Made : ℕ → WriteView → WriteView → Type 0) (v : View) (links : List ℕ) (w : View) : Type 0 where
@@ -20,7 +19,6 @@ module _ (p : BoardLayout) (v : View) where
   abbrev pub IsLoadedNow : ℕ → WriteView → WriteView → Type 0
   IsLoadedNow l y z = z ≡ record y { loaded = write_cycle p v l + 1 }
 
-  -- the block that was announced in this cycle is published on a link
-  abbrev pub IsPublishedNow : ℕ → WriteView → WriteView → Type 0
-  IsPublishedNow l y z = (b : ℕ) × IsNew p v l b
-      × (z ≡ record y { stored = write_cycle p v l + 1; id = b; last = y.id })
+  -- the block b is published on a link in its writer's cycle
+  abbrev pub IsPublishedNow : ℕ → ℕ → WriteView → WriteView → Type 0
+  IsPublishedNow b l y z = z ≡ record y { stored = write_cycle p v l + 1; id = b; last = y.id }

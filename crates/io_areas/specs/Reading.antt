@@ -2,14 +2,14 @@
 -- given by number; `is_driver` is true for the driver's seat.
 -- Source: PipeWire's documentation, "SPA Buffers"; spa/node/io.h, spa_io_buffers; the words of pools are this
 -- project's own.
-use Rattle.std.specs.Prelude.{◌≡◌, ℕ, ℤ, pos, ◌+◌, ◌-◌, Bool, cond, ltb, List, replicate}
+use Rattle.std.specs.Prelude.{◌≡◌, ℕ, ℤ, pos, ◌+◌, ◌-◌, Bool, cond, ltb, List, replicate, slice_set as set}
 use Rattle.board_rule.specs.declared.view.View.{View}
 use Rattle.board_rule.specs.Layout.{BoardLayout, first}
 use Rattle.board_rule.specs.View.{Samples}
 use Rattle.board_rule.specs.SampleWords.{samples_in}
 use Rattle.board_rule.specs.BlockReadings.{delay_at}
-use Rattle.board_rule.specs.EndViews.{read_of, view_read, pool_of}
-use Rattle.board_rule.specs.ReaderSteps.{read_cycle, ReadsBlock}
+use Rattle.board_rule.specs.EndViews.{read_of, view_read, pool_at, pool_of}
+use Rattle.board_rule.specs.ReaderSteps.{read_cycle, heard_of, ReadsBlock}
 use Rattle.io_areas.specs.Quanta.{quantum_of}
 
 module _ (p : BoardLayout) where
@@ -25,18 +25,24 @@ module _ (p : BoardLayout) where
 module _ (is_driver : Bool) (p : BoardLayout) where
   -- TAKING: the link's reader has the number of a block, from now on in this cycle
   abbrev pub taken : View → ℕ → ℕ → View
-  taken v l id = view_read v l (record (read_of v l) { loaded = read_cycle is_driver p v l + 1; id = id })
+  taken v l id = record (view_read v l (record (read_of v l) { loaded = read_cycle is_driver p v l + 1; id = id }))
+      { heard = set v.heard l 0 }
 
-  -- READING: the block is taken in this cycle and not yet given back. It has what the link brings in this cycle
+  -- READING: the block is taken in this cycle and not yet given back. It has what the link brings in this cycle, and
+  -- all its words are loaded then
   abbrev pub IsHolding : View → ℕ → Type 0
   IsHolding v l = ReadsBlock is_driver p v l (read_of v l).id
+
+  abbrev pub all_heard : View → ℕ → View
+  all_heard v l = record v { heard = set v.heard l (pool_at p (pool_of p l)).words }
 
   abbrev pub brought : View → ℕ → List ℤ
   brought v l = brought_in p v.expect l (read_cycle is_driver p v l)
 
-  -- GIVING BACK: the readers of the block are one fewer, and then the link's area asks for data
+  -- GIVING BACK, when all words are loaded: the readers of the block are one fewer, and then the link's area asks for data
   abbrev pub GivesBack : View → ℕ → Type 0
   GivesBack v l = IsHolding v l × ((read_of v l).stored ≡ read_cycle is_driver p v l)
+      × (heard_of v l ≡ (pool_at p (pool_of p l)).words)
 
   abbrev pub given_back : View → ℕ → View
   given_back v l = view_read v l (record (read_of v l)

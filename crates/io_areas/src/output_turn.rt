@@ -4,16 +4,16 @@ ghost use Rattle.std.specs.Prelude.{◌≡◌, ◌≢◌, ◌+◌, ◌<◌, All,
 ghost use Rattle.board_rule.specs.declared.view.BlockView.TheVariants.{Free, Out};
 ghost use Rattle.board_rule.specs.EndViews.{pool_at, block_of, view_block};
 ghost use Rattle.board_rule.specs.SampleWords.{samples_in};
-ghost use Rattle.board_rule.specs.WriterSteps.{LoadsAsWriter};
+ghost use Rattle.board_rule.specs.WriterSteps.{LoadsAsWriter, StoresHave};
 ghost use Rattle.board_rule.specs.BlockSteps.{IsWriting, fill_cycle};
-ghost use Rattle.io_areas.specs.Writing.{number_given, IsAtPool, IsUnfilled, Reclaims, HasReclaimed, Publishes};
+ghost use Rattle.io_areas.specs.Writing.{number_given, IsAtPool, IsUnfilled, Reclaims, HasReclaimed};
 ghost use Rattle.io_areas.specs.PooledBoard.{IsPooledBoard};
 ghost use Rattle.io_areas.specs.FreeBlocks.{FreeBlocks};
 ghost use Rattle.io_areas.specs.OutputTurn.{MayWriteOutput, HasWrittenOutput};
 ghost use Rattle.io_areas.specs.OutputSteps.{AreMade, IsLoadedNow, IsPublishedNow};
 ghost use Rattle.io_areas.specs.OutputAnswer.{last_of, AnswersTurn};
 
-use crate::writing::{announce, fill, load_for_write, publish, reclaim};
+use crate::writing::{fill, load_for_write, reclaim};
 use board_rule::{Board, LoopSeat};
 use buffer_pool::Pool;
 
@@ -83,20 +83,20 @@ fn emit(board: &Board, seat: &mut LoopSeat, pool: u32, id: u32, samples: &[i16])
         seat.new.knows ≡ view_block p seat.old.knows pool id (Out n) }
 {
     fill(board, seat, pool, id, samples);
-    announce(board, seat, pool);
+    seat.store_readers(board, pool, id);
 }
 
-// The block that was announced is published on each of the links.
-fn publish_all(board: &Board, seat: &mut LoopSeat, links: &[u32])
+// The block that was announced is published on each of the links: one store of HAVE_DATA with its number.
+fn publish_all(board: &Board, seat: &mut LoopSeat, links: &[u32], id: u32)
     requires table { IsOn board.now seat.old.table }
     requires once { AllPairs (λ k l. k ≢ l) links.now }
-    requires phase { All (Publishes (layout board.now) seat.old.knows) links.now }
+    requires phase { All (λ l. StoresHave (layout board.now) seat.old.knows l id) links.now }
     ensures table { seat.new.table ≡ seat.old.table }
     ensures ends { let p = layout board.now in
-        AreMade (IsPublishedNow p seat.old.knows) seat.old.knows links.now seat.new.knows }
+        AreMade (IsPublishedNow p seat.old.knows id) seat.old.knows links.now seat.new.knows }
 {
     for link in links {
-        publish(board, seat, *link);
+        seat.store_have_data(board, *link, id);
     }
 }
 
@@ -130,7 +130,7 @@ pub fn write_output(
     let given = load_all(board, seat, links);
     let (reclaimed, used) = obtain(board, seat, pool, free);
     emit(board, seat, pool, used, samples);
-    publish_all(board, seat, links);
+    publish_all(board, seat, links, used);
     OutputWritten {
         given,
         reclaimed,

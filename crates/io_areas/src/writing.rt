@@ -12,7 +12,7 @@ use pw_base::io_id_of;
 
 // The node that a link comes from.
 fn writer(board: &Board, link: u32) -> u32
-    requires { link < length board.now.board_shape.shape.links }
+    requires { link < length (layout board.now).shape.links }
     ensures { result ≡ (link_at (layout board.now) link).from.node }
 {
     board.shape().links.as_slice()[link as usize].from.node

@@ -7,7 +7,8 @@ ghost use Rattle.pw_base.specs.Words.{need_data_word};
 ghost use Rattle.pw_base.specs.Layout.{sample_place};
 ghost use Rattle.board_rule.specs.SampleWords.{IsTable, packed};
 ghost use Rattle.board_rule.specs.EndViews.{pool_at, pool_of};
-ghost use Rattle.board_rule.specs.ReaderSteps.{read_cycle, LoadsAsReader, loaded_as_reader, IsPublished, ReadsBlock, readers_lowered, samples_read};
+ghost use Rattle.board_rule.specs.ReaderSteps.{read_cycle, LoadsAsReader, loaded_as_reader, IsPublished, LoadsSample, sample_loaded, LowersReaders};
+ghost use Rattle.board_rule.specs.ReaderSteps.{readers_lowered, samples_read};
 ghost use Rattle.board_rule.specs.ReaderSteps.{StoresNeed, need_stored};
 
 use crate::board::Board;
@@ -51,13 +52,13 @@ pub(crate) fn load_sample<C: Change>(
     word: usize,
 ) -> u64
     requires table { IsOn board.now token.old.table_id }
-    requires phase { ReadsBlock C.is_driver (layout board.now) token.old.me.0 link id }
+    requires phase { LoadsSample C.is_driver (layout board.now) token.old.me.0 link id place }
     requires inside { link < length board.now.board_shape.shape.links }
     requires block { id < (pool_at (layout board.now) (pool_of (layout board.now) link)).blocks }
     requires place { place < (pool_at (layout board.now) (pool_of (layout board.now) link)).words }
     requires word { word ≡ sample_place board.now.board_shape.shape (pool_of (layout board.now) link) id place }
     requires there { word < board.now.table.shared.table_id.words }
-    requires after { (found : ℕ) → C.after found ≡ token.old.me.0 }
+    requires after { (found : ℕ) → C.after found ≡ sample_loaded C.is_driver (layout board.now) token.old.me.0 link place }
     requires says { (found : ℕ) → found ≡ packed
         (samples_read C.is_driver (layout board.now) token.old.me.0 link) place
         → IsTable (layout board.now) token.old.me.0.expect → C.says found }
@@ -78,7 +79,7 @@ pub(crate) fn lower_readers<C: Change>(
     id: u32,
 ) -> u64
     requires table { IsOn board.now token.old.table_id }
-    requires phase { ReadsBlock C.is_driver (layout board.now) token.old.me.0 link id }
+    requires phase { LowersReaders C.is_driver (layout board.now) token.old.me.0 link id }
     requires inside { link < length board.now.board_shape.shape.links }
     requires block { id < (pool_at (layout board.now) (pool_of (layout board.now) link)).blocks }
     requires after { (found : ℕ) → C.after found

@@ -7,7 +7,8 @@ ghost use Rattle.pw_base.specs.Words.{io_id_in, have_data_word, need_data_word};
 ghost use Rattle.pw_base.specs.Layout.{sample_place};
 ghost use Rattle.board_rule.specs.EndViews.{pool_at};
 ghost use Rattle.board_rule.specs.WriterSteps.{write_cycle, LoadsAsWriter, loaded_as_writer, IsGivenBack, StoresHave, have_stored};
-ghost use Rattle.board_rule.specs.BlockSteps.{LoadsReaders, IsReturned, IsZeroAtSecond, readers_loaded, StoresSample, sample_stored, StoresReaders, readers_stored};
+ghost use Rattle.board_rule.specs.BlockSteps.{StoresSample, sample_stored, StoresReaders, readers_stored};
+ghost use Rattle.board_rule.specs.ReclaimSteps.{LoadsReaders, FindsDue, readers_loaded};
 
 use crate::board::Board;
 use crate::rule::BoardToken;
@@ -75,9 +76,7 @@ pub(crate) fn load_readers<C: Change>(
     requires block { id < (pool_at (layout board.now) pool).blocks }
     requires after { (found : ℕ) → C.after found
         ≡ readers_loaded (layout board.now) token.old.me.0 pool id found }
-    requires says { (found : ℕ) → found ≡ 0
-        → IsReturned (layout board.now) token.old.me.0 pool id
-        → IsZeroAtSecond (layout board.now) token.old.me.0 pool id → C.says found }
+    requires says { (found : ℕ) → found ≡ 0 → FindsDue (layout board.now) token.old.me.0 pool id → C.says found }
     ensures same { (token.new.table_id ≡ token.old.table_id) × (token.new.id ≡ token.old.id)
         × (token.new.me.1 ≡ token.old.me.1) }
     ensures after { token.new.me.0 ≡ C.after result }

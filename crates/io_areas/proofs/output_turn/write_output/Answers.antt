@@ -1,8 +1,8 @@
 use Rattle.std.proofs.Common.{◌≢◌, ◌<◌, ◌∙◌, All, AllPairs, length, ap, sym, subst}
 use Rattle.board_rule.specs.declared.view.View.{View}
 use Rattle.board_rule.specs.Layout.{layout_of}
-use Rattle.board_rule.specs.WriterSteps.{LoadsAsWriter}
-use Rattle.io_areas.specs.Writing.{number_given, Publishes}
+use Rattle.board_rule.specs.WriterSteps.{LoadsAsWriter, StoresHave}
+use Rattle.io_areas.specs.Writing.{number_given}
 use Rattle.io_areas.specs.OutputAnswer.{last_of}
 use Rattle.io_areas.specs.OutputSteps.{AreMade, IsPublishedNow}
 use Rattle.io_areas.proofs.PoolLinkLemmas.{some_link, once}
@@ -72,7 +72,7 @@ publish_all-requires-clause-phase c = let p = layout_of c.args.board.now.board_s
     let o = c.obtain-reclaimed in let e = o.ensures in
     let u = obtained t o.result o.new.seat.knows o.new.free e.reclaimed e.queue e.size in
     let y : View = c.emit.new.seat.knows in let d = emitted u y c.emit.ensures.knows in
-    subst (All (Publishes p y)) (sym r.links) (turn.may_publish_all d)
+    subst (All (λ l. StoresHave p y l o.result.1)) (sym r.links) (turn.may_publish_all d)
 
 pub returns-clause-knows : goal.returns-clause-knows
 returns-clause-knows c = let p = layout_of c.args.board.now.board_shape in let v : View = c.args.seat.now.knows in
@@ -83,7 +83,7 @@ returns-clause-knows c = let p = layout_of c.args.board.now.board_shape in let v
     let u = obtained t o.result o.new.seat.knows o.new.free e.reclaimed e.queue e.size in
     let y : View = c.emit.new.seat.knows in let d = emitted u y c.emit.ensures.knows in
     let z : View = c.publish_all.new.seat.knows in let ends =
-    subst (λ xs. AreMade (IsPublishedNow p y) y xs z) r.links c.publish_all.ensures.ends in
+    subst (λ xs. AreMade (IsPublishedNow p y o.result.1) y xs z) r.links c.publish_all.ensures.ends in
     turn.has_written d z ends
 
 pub returns-clause-blocks : goal.returns-clause-blocks
@@ -95,7 +95,7 @@ returns-clause-blocks c = let p = layout_of c.args.board.now.board_shape in let 
     let u = obtained t o.result o.new.seat.knows o.new.free e.reclaimed e.queue e.size in
     let y : View = c.emit.new.seat.knows in let d = emitted u y c.emit.ensures.knows in
     let z : View = c.publish_all.new.seat.knows in let ends =
-    subst (λ xs. AreMade (IsPublishedNow p y) y xs z) r.links c.publish_all.ensures.ends in
+    subst (λ xs. AreMade (IsPublishedNow p y o.result.1) y xs z) r.links c.publish_all.ensures.ends in
     turn.new_blocks d z ends
 
 pub returns-clause-answer : goal.returns-clause-answer
@@ -107,10 +107,11 @@ returns-clause-answer c = let p = layout_of c.args.board.now.board_shape in let 
     let u = obtained t o.result o.new.seat.knows o.new.free e.reclaimed e.queue e.size in
     let y : View = c.emit.new.seat.knows in let d = emitted u y c.emit.ensures.knows in
     let z : View = c.publish_all.new.seat.knows in let ends =
-    subst (λ xs. AreMade (IsPublishedNow p y) y xs z) r.links c.publish_all.ensures.ends in
+    subst (λ xs. AreMade (IsPublishedNow p y o.result.1) y xs z) r.links c.publish_all.ensures.ends in
     record {
       given = c.load_all-given.ensures.given ∙ ap (λ xs. number_given p v (last_of xs)) r.links;
       reclaimed = turn.reclaimed u;
+      returned = turn.returned u;
       used = turn.is_used d z ends;
       freed = turn.is_freed d z ends;
       others = turn.are_kept d z ends;

@@ -1,28 +1,47 @@
-use Rattle.std.proofs.Common.{◌≡◌, ◌+◌, ◌*◌, length, sym, ap, ◌∙◌, subst, arith}
+use Rattle.std.proofs.Common.{◌≡◌, ◌+◌, ◌*◌, ℕ, ℤ, List, length, sym, ap, ◌∙◌, subst, arith}
 use Rattle.board_rule.specs.declared.view.View.{View}
 use Rattle.board_rule.specs.Layout.{layout_of}
 use Rattle.board_rule.specs.SampleWords.{packed, IsTable}
-use Rattle.board_rule.specs.ReaderSteps.{samples_read}
+use Rattle.board_rule.specs.EndViews.{pool_at, pool_of}
+use Rattle.board_rule.specs.ReaderSteps.{ReadsBlock, LoadsSample, sample_loaded, samples_read}
 use Rattle.io_areas.proofs.SampleLemmas.{IsReadTo, length-spread, spread_more}
 use Rattle.io_areas.proofs.BroughtLemmas.{all_short, brought_whole}
+use Rattle.io_areas.proofs.HearLemmas.{heard_to, may_hear, hears_more, samples_same, expect_same, all_is}
 use Rattle.io_areas.proofs.reading.read.Goals as goal
+
+pub load_sample_at-word-requires-clause-phase : goal.load_sample_at-word-requires-clause-phase
+load_sample_at-word-requires-clause-phase g c = let b = g.S.BoardSeat.is_driver in let p = layout_of c.args.board.now.board_shape in
+    let v : View = g.S.BoardSeat.knows c.args.seat.now in let l = c.args.link in let id = c.loaded-id.result in
+    subst (λ (x : View). LoadsSample b p x l id c.loop-place.place) (sym c.loop-place.invariant.knows)
+    (may_hear b p v l id (subst (ReadsBlock b p v l) (sym c.loaded-id.ensures) c.requires.phase) c.loop-place.place)
 
 pub loop-place-preserved : goal.loop-place-preserved
 loop-place-preserved g c = let b = g.S.BoardSeat.is_driver in let p = layout_of c.args.board.now.board_shape in
     let v : View = g.S.BoardSeat.knows c.args.seat.now in let l = c.args.link in let i = c.loop-place.invariant in
-    let e = c.load_sample_at-word.ensures in let k = c.loop-place.place in
+    let e = c.load_sample_at-word.ensures in let k = c.loop-place.place in let id = c.loaded-id.result in
+    let h = subst (ReadsBlock b p v l) (sym c.loaded-id.ensures) c.requires.phase in
     let word : c.load_sample_at-word.result ≡ packed (samples_read b p v l) k = e.word
-    ∙ ap (λ (x : View). packed (samples_read b p x l) k) i.knows in
-    let table : IsTable p v.expect = subst (λ (x : View). IsTable p x.expect) i.knows e.samples in
+    ∙ ap (λ (x : View). packed (samples_read b p x l) k) i.knows ∙ ap (λ (xs : List ℤ). packed xs k) (samples_same b p v l id h k) in
+    let table : IsTable p v.expect = subst (IsTable p) (expect_same b p v l id h k)
+    (subst (λ (x : View). IsTable p x.expect) i.knows e.samples) in
     record {
       table = e.table ∙ i.table;
-      knows = e.knows ∙ i.knows;
+      knows = e.knows ∙ ap (λ (x : View). sample_loaded b p x l k) i.knows ∙ hears_more b p v l id h k;
       long = ap length c.spread.ensures ∙ length-spread (samples_read b p v l) (all_short b p v l table) c.loop-place.to
           (4 * k) c.load_sample_at-word.result ∙ i.long;
       so_far = subst (IsReadTo (samples_read b p v l) (4 * (k + 1))) (sym c.spread.ensures)
           (spread_more (samples_read b p v l) (all_short b p v l table) c.loop-place.to k c.load_sample_at-word.result word i.so_far);
       fits = λ _. table;
     }
+
+pub returns-clause-knows : goal.returns-clause-knows
+returns-clause-knows g c = let b = g.S.BoardSeat.is_driver in let p = layout_of c.args.board.now.board_shape in
+    let v : View = g.S.BoardSeat.knows c.args.seat.now in let l = c.args.link in let id = c.loaded-id.result in
+    let h = subst (ReadsBlock b p v l) (sym c.loaded-id.ensures) c.requires.phase in
+    let w = c.words_of-place-end.ensures in let is = w.is in let some = w.some in
+    let low = c.loop-place-test.false in let high = c.loop-place.auto.place-end in
+    let end : c.loop-place.place ≡ (pool_at p (pool_of p l)).words = omega arith in
+    c.loop-place.invariant.knows ∙ ap (heard_to v l) end ∙ all_is b p v l id h (pool_at p (pool_of p l)).words (omega arith)
 
 pub returns-clause-samples : goal.returns-clause-samples
 returns-clause-samples g c = let b = g.S.BoardSeat.is_driver in let p = layout_of c.args.board.now.board_shape in

@@ -15,7 +15,8 @@ returns-clause-ready c = let p = layout_of c.args.board.now.board_shape in let r
         table = c.begin.ensures.table ∙ o.table;
         plain = o.plain;
         reads_are = o.reads_are;
-        even = lead_moves p v w v.lead.cycle w.lead.cycle (ap (λ (x : View). x.reads) e.is) (ap (λ (x : View). x.lead.cycle) e.is) o.even;
+        even = lead_moves p v w v.lead.cycle w.lead.cycle (ap (λ (x : View). x.reads) e.is) (ap (λ (x : View). x.heard) e.is)
+            (ap (λ (x : View). x.lead.cycle) e.is) o.even;
         steady = subst (λ (x : Samples). IsSteady p x c.args.self.now.samples) (sym (ap (λ (x : View). x.expect) e.is)) o.steady;
         long = o.long;
       },

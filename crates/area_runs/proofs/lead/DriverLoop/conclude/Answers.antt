@@ -13,21 +13,21 @@ use Rattle.area_runs.specs.Steady.{given_in, given_before, IsSteady}
 use Rattle.area_runs.proofs.SteadyLemmas.{given_long, before_long}
 use Rattle.area_runs.specs.Hearing.{MayHearAll, expected_of, Gives, AreHeard}
 use Rattle.area_runs.proofs.LeadLemmas.{lead_moves, lead_may_hear, lead_gives, lead_ready, ended_later, ended_even, ended_expect}
-use Rattle.area_runs.proofs.LeadLemmas.{ended_between}
+use Rattle.area_runs.proofs.LeadLemmas.{ended_checks, ended_lates, ended_between}
 use Rattle.area_runs.proofs.lead.DriverLoop.conclude.Goals as goal
 
 pub hear_all-heard-requires-clause-phase : goal.hear_all-heard-requires-clause-phase
 hear_all-heard-requires-clause-phase c = let board_shape = c.args.board.now.board_shape in let p = layout_of board_shape in let a = c.requires.awake in let o = a.0 in
     let s = c.start.ensures.knows in let v : View = c.args.self.now.seat.knows in let u : View = started true v p.driver s.0 in
     subst (λ (x : View × List ℕ). MayHearAll true p x.0 x.1) (λ i. (sym s.2 i, sym (c.as_slice.ensures ∙ o.reads_are) i))
-    (lead_may_hear board_shape o.plain u a.1 refl (lead_moves p v u v.lead.cycle v.lead.cycle refl refl o.even))
+    (lead_may_hear board_shape o.plain u a.1 refl (lead_moves p v u v.lead.cycle v.lead.cycle refl refl refl o.even))
 
 pub hear_all-heard-requires-clause-gives : goal.hear_all-heard-requires-clause-gives
 hear_all-heard-requires-clause-gives c = let board_shape = c.args.board.now.board_shape in let p = layout_of board_shape in let a = c.requires.awake in let o = a.0 in
     let s = c.start.ensures.knows in let v : View = c.args.self.now.seat.knows in let u : View = started true v p.driver s.0 in
     subst (λ (x : View × List ℕ × List ℤ × List ℤ). All (Gives true p x.0 x.2 x.3) x.1)
     (λ i. (sym s.2 i, sym (c.as_slice.ensures ∙ o.reads_are) i, sym c.given_in.ensures i, sym c.given_before.ensures i))
-    (lead_gives board_shape o.plain u a.1 refl (lead_moves p v u v.lead.cycle v.lead.cycle refl refl o.even) c.args.self.now.samples
+    (lead_gives board_shape o.plain u a.1 refl (lead_moves p v u v.lead.cycle v.lead.cycle refl refl refl o.even) c.args.self.now.samples
     c.ended-past.result c.ended-past.ensures o.steady)
 
 pub hear_all-heard-requires-clause-long : goal.hear_all-heard-requires-clause-long
@@ -44,7 +44,7 @@ finish-requires-clause-ready c = let board_shape = c.args.board.now.board_shape 
     let s = c.start.ensures.knows in let v : View = c.args.self.now.seat.knows in let u : View = started true v p.driver s.0 in
     let w : View = c.hear_all-heard.new.seat.knows in
     subst (IsReadyToFinish true p w) (sym (ap (λ (x : Shape). index_in board_shape.shape x.driver) c.shape.ensures))
-    (lead_ready board_shape o.plain u a.1 refl (lead_moves p v u v.lead.cycle v.lead.cycle refl refl o.even) w
+    (lead_ready board_shape o.plain u a.1 refl (lead_moves p v u v.lead.cycle v.lead.cycle refl refl refl o.even) w
     (subst (λ (x : View × List ℕ). AreHeard true p x.0 x.1 w)
     (λ i. (s.2 i, (c.as_slice.ensures ∙ o.reads_are) i)) c.hear_all-heard.ensures.knows))
 
@@ -54,7 +54,7 @@ returns-clause-ready c = let board_shape = c.args.board.now.board_shape in let p
     let v : View = c.args.self.now.seat.knows in let u : View = started true v p.driver s.0 in
     let w : View = c.hear_all-heard.new.seat.knows in
     let x : View = c.finish.new.seat.knows in let y : View = c.end.new.seat.knows in
-    let even = lead_moves p v u v.lead.cycle v.lead.cycle refl refl o.even in
+    let even = lead_moves p v u v.lead.cycle v.lead.cycle refl refl refl o.even in
     let heard : AreHeard true p u _ w = subst (λ (z : View × List ℕ). AreHeard true p z.0 z.1 w)
     (λ i. (s.2 i, (c.as_slice.ensures ∙ o.reads_are) i)) c.hear_all-heard.ensures.knows in (
       record {
@@ -77,7 +77,7 @@ returns-clause-concluded c = let board_shape = c.args.board.now.board_shape in l
     let s = c.start.ensures.knows in
     let v : View = c.args.self.now.seat.knows in let u : View = started true v p.driver s.0 in
     let w : View = c.hear_all-heard.new.seat.knows in
-    let even = lead_moves p v u v.lead.cycle v.lead.cycle refl refl o.even in
+    let even = lead_moves p v u v.lead.cycle v.lead.cycle refl refl refl o.even in
     let heard : AreHeard true p u _ w = subst (λ (z : View × List ℕ). AreHeard true p z.0 z.1 w)
     (λ i. (s.2 i, (c.as_slice.ensures ∙ o.reads_are) i)) c.hear_all-heard.ensures.knows in record {
       later = ended_later board_shape o.plain u a.1 refl even w heard c.finish.new.seat.knows c.end.new.seat.knows c.finish.ensures.knows
@@ -90,4 +90,10 @@ returns-clause-concluded c = let board_shape = c.args.board.now.board_shape in l
           (last_of c.args.self.now.reads)) (let past = c.ended-past.ensures in
           let is : c.ended-past.result ≡ v.lead.cycle - first p = omega arith in is);
       same = refl;
+      checks = ended_checks board_shape o.plain u a.1 refl even w heard c.finish.new.seat.knows c.end.new.seat.knows c.finish.ensures.knows
+          c.end.ensures.knows;
+      lates = ended_lates board_shape o.plain u a.1 refl even w heard c.finish.new.seat.knows c.end.new.seat.knows c.finish.ensures.knows
+          c.end.ensures.knows;
+      expect = ended_expect board_shape o.plain u a.1 refl even w heard c.finish.new.seat.knows c.end.new.seat.knows c.finish.ensures.knows
+          c.end.ensures.knows;
     }

@@ -16,7 +16,8 @@ conclude-requires c = let p = layout_of c.args.board.now.board_shape in let e = 
           table = c.claim_driver.ensures.table ∙ o.table;
           plain = o.plain;
           reads_are = o.reads_are;
-          even = lead_moves p v w v.lead.cycle w.lead.cycle (ap (λ (x : View). x.reads) e) (ap (λ (x : View). x.lead.cycle) e) o.even;
+          even = lead_moves p v w v.lead.cycle w.lead.cycle (ap (λ (x : View). x.reads) e) (ap (λ (x : View). x.heard) e)
+              (ap (λ (x : View). x.lead.cycle) e) o.even;
           steady = subst (λ (x : Samples). IsSteady p x c.args.self.now.samples) (sym (ap (λ (x : View). x.expect) e)) o.steady;
           long = o.long;
         },
@@ -33,7 +34,8 @@ returns-in-NotYet-clause-ready c = let p = layout_of c.args.board.now.board_shap
         table = c.claim_driver.ensures.table ∙ o.table;
         plain = o.plain;
         reads_are = o.reads_are;
-        even = lead_moves p v w v.lead.cycle w.lead.cycle (ap (λ (x : View). x.reads) e) (ap (λ (x : View). x.lead.cycle) e) o.even;
+        even = lead_moves p v w v.lead.cycle w.lead.cycle (ap (λ (x : View). x.reads) e) (ap (λ (x : View). x.heard) e)
+            (ap (λ (x : View). x.lead.cycle) e) o.even;
         steady = subst (λ (x : Samples). IsSteady p x c.args.self.now.samples) (sym (ap (λ (x : View). x.expect) e)) o.steady;
         long = o.long;
       },

@@ -6,6 +6,7 @@ use Rattle.pw_base.specs.declared.event.Event.{Event}
 use Rattle.board_rule.specs.declared.view.View.{View}
 use Rattle.board_rule.specs.Known.{Known}
 use Rattle.board_rule.specs.Layout.{layout_of}
+use Rattle.board_rule.specs.TicketOrder.{AreInTicketOrder}
 use Rattle.board_rule.specs.Closing.{HasEndedAll, AreRecorded}
 use Rattle.board_rule.proofs.ClosingLemmas.{closed_leaves}
 use Rattle.board_rule.proofs.board.Board.close.Goals as goal
@@ -40,6 +41,7 @@ returns c = let b = c.args.self in let v = c.seat.inside.token.me.0 in let is = 
     (λ i. (sym c.first_late-lates.ensures i, sym c.first_event-events.ensures i)) l.stands) in record {
       board_shape = λ _. b.board_shape;
       expect = ap (λ (u : View). u.expect) c.keep-kept.ensures.right ∙ ap (λ (u : View). u.expect) is;
+      order = subst (λ (k : View × List Event). AreInTicketOrder (layout_of b.board_shape) k.0 k.1) (λ i. (is i, sym events i)) l.ordered;
       legal = subst (λ (es : List Event). IsLegalHistory (b.board_shape.shape ∷ []) es) (sym events) l.is_legal;
       ticks = ap (count_by is_tick) events ∙ l.has_ticks ∙ ap (λ (u : View). u.lead.checks) is;
       lates = ap (filter is_tick) events ∙ l.has_lates ∙ ap (λ (u : View). u.lead.lates) is;
