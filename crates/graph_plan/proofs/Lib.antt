@@ -26,3 +26,6 @@ pub mod EndLemmas
 pub mod FitLemmas
 pub mod ScriptLemmas
 pub mod NodesLemmas
+pub mod SortedLemmas
+pub mod EpochOneLemmas
+pub mod StepOneLemmas
