@@ -1,8 +1,9 @@
 //! Runs a piece of work again and again, and prints a checksum of what it leaves: `WORK SAMPLES REPEATS
-//! GAIN..`, where the work is a sample kernel, a fill, a WAV file written or read, or bytes scanned or read as a POD, and
-//! `all` names each. It tells no time: a script does.
+//! GAIN..`, where the work is a sample kernel, a fill, a WAV file written or read, bytes scanned or read as a POD, the points of a control
+//! sequence or a stream by them, and `all` names each. It tells no time: a script does.
 #![tactic(auto)]
 
+mod automation;
 mod factors;
 mod kernels;
 mod pods;
@@ -13,6 +14,7 @@ mod waves;
 ghost use Rattle.std.specs.Prelude.{All};
 ghost use Rattle.s16_mixer.specs.Ranges.{IsGain};
 
+use crate::automation::{automate_rounds, control_rounds};
 use crate::factors::factors_of;
 use crate::pods::{array_rounds, flat_rounds, nested_rounds, scan_rounds};
 use crate::rounds::{
@@ -49,6 +51,9 @@ const PLAIN: [&str; 7] = [
 
 /// Those on files.
 const FILES: [&str; 3] = ["fill", "write_wav", "read_wav"];
+
+/// Those on control sequences.
+const SEQUENCES: [&str; 2] = ["controls", "automate"];
 
 /// Those on PODs.
 const PODS: [&str; 4] = ["scan", "read_nested", "read_flat", "read_array"];
@@ -105,6 +110,8 @@ fn checksum_of(
         "fill" => fill_rounds(alloc, n, repeats),
         "write_wav" => write_rounds(alloc, n, repeats),
         "read_wav" => read_rounds(alloc, n, repeats),
+        "controls" => control_rounds(alloc, n, repeats),
+        "automate" => automate_rounds(alloc, n, repeats),
         "scan" => scan_rounds(alloc, n, repeats),
         "read_nested" => nested_rounds(alloc, n, repeats),
         "read_flat" => flat_rounds(alloc, n, repeats),
@@ -141,6 +148,7 @@ fn run<R: Print + Alloc<A = Global>>(rt: &R, words: &[String]) -> bool {
         && run_some(rt, PLAIN.as_slice(), words)
         && run_some(rt, FILES.as_slice(), words)
         && run_some(rt, PODS.as_slice(), words)
+        && run_some(rt, SEQUENCES.as_slice(), words)
 }
 
 fn main(rt: HostRuntime) -> ExitCode {

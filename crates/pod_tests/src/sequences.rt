@@ -1,6 +1,6 @@
-//! The points of controls, and a stream by them in pieces.
+//! The points of controls.
 
-use control_sequence::{Automation, ControlFault, Point, controls_of};
+use control_sequence::{ControlFault, Point, controls_of};
 use pod_codec::{Control, Pod, Prop};
 use pw_base::{Items, Memory};
 use std::alloc::Global;
@@ -71,38 +71,5 @@ fn controls_without_a_gain_give_no_point(rt: HostRuntime) -> Result<(), Fail> {
     };
     assert!(rt; fault == ControlFault::NotSequence);
     assert_eq!(rt; fault.number(), 1);
-    Ok(())
-}
-
-// A stereo stream by gains of 128/256 from frame 1 on and -2 from frame 3 on.
-fn stream_of(alloc: Global) -> Result<Automation, ControlFault> {
-    let mut controls = Items::new(alloc);
-    controls.push(control_of(alloc, 1, 1, 7)?)?;
-    controls.push(control_of(alloc, 1, 1, 128)?)?;
-    controls.push(control_of(alloc, 3, 1, -512)?)?;
-    let points = controls_of(alloc, &Pod::Sequence { unit: 0, controls })?;
-    Ok(Automation::new(points, 2))
-}
-
-/// Six frames.
-const SAMPLES: [i16; 12] = [
-    100, -100, 100, -100, 100, -100, 100, -100, 32767, -32768, 3, -3,
-];
-
-/// The same by their gains.
-const WANTED: [i16; 12] = [100, -100, 50, -50, 50, -50, -200, 200, -32768, 32767, -6, 6];
-
-#[test]
-fn pieces_join(rt: HostRuntime) -> Result<(), Fail> {
-    let mut whole = stream_of(rt.alloc())?;
-    let mut to = [0i16; 12];
-    whole.apply(SAMPLES.as_slice(), to.as_mut_slice());
-    assert!(rt; to == WANTED);
-    let mut parts = stream_of(rt.alloc())?;
-    let mut to = [0i16; 12];
-    parts.apply(&SAMPLES[..2], &mut to[..2]);
-    parts.apply(&SAMPLES[2..6], &mut to[2..6]);
-    parts.apply(&SAMPLES[6..], &mut to[6..]);
-    assert!(rt; to == WANTED);
     Ok(())
 }
