@@ -249,7 +249,7 @@ unlink-fits reading words said e =
     ) (λ yes. cc)
 
 -- each other command
-first_only-saying : (lines : List Line) (command : Command) (said : Said) → graph.first_only lines command ≡ Ok said
+pub first_only-saying : (lines : List Line) (command : Command) (said : Said) → graph.first_only lines command ≡ Ok said
     → saying command ≡ Ok said
 first_only-saying [] command said e = e
 first_only-saying (line ∷ lines) command said e = cc

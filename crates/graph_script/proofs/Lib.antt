@@ -1,3 +1,4 @@
+pub mod AgainLemmas
 pub mod ArgumentLemmas
 pub mod CheckedLemmas
 pub mod CountLemmas
@@ -8,6 +9,12 @@ pub mod ListLemmas
 pub mod MakingLemmas
 pub mod MoreLemmas
 pub mod NodeLemmas
+pub mod NumeralLemmas
 pub mod RangeLemmas
 pub mod SoundLemmas
+pub mod SpacedLemmas
+pub mod SpellingLemmas
+pub mod TextLemmas
 pub mod TiedLemmas
+pub mod WordLemmas
+pub mod WorkedRows

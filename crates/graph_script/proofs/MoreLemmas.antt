@@ -39,7 +39,7 @@ HasNodes-more m n C.Drain le h = tt
 HasNodes-more m n (C.Async node) le h = omega arith
 
 -- with more kinds, the ports of a command are still there
-kind_in-more : (kinds more : List Kind) (node : ℕ) → node < length kinds → kind_in (kinds ++ more) node ≡ kind_in kinds node
+pub kind_in-more : (kinds more : List Kind) (node : ℕ) → node < length kinds → kind_in (kinds ++ more) node ≡ kind_in kinds node
 kind_in-more kinds more node lt = get_or_append_left kinds more K.Dummy node lt
 
 pub HasPorts-more : (kinds more : List Kind) (command : Command) → HasNodes (length kinds) command → HasPorts kinds command

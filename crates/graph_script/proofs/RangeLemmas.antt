@@ -13,7 +13,7 @@ use Rattle.graph_script.specs.Arguments.{number_of, integer_of, is_within, is_nu
 use Rattle.graph_script.specs.Checked.{number_arg, integer_arg, list_arg}
 use Rattle.graph_script.proofs.CheckedLemmas.{from_some, from_choice, from_map}
 
-number_of-within : (low high n : ℕ) (word : List ℕ) → number_of low high word ≡ Some n → IsBetween low high n
+pub number_of-within : (low high n : ℕ) (word : List ℕ) → number_of low high word ≡ Some n → IsBetween low high n
 number_of-within low high n word e =
     let t = from_choice (is_numeral word && is_within low high (digits_number word)) (digits_number word) n e in
     let p = and_parts (is_numeral word) (is_within low high (digits_number word)) t.0 in

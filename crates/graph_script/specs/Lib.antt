@@ -1,6 +1,7 @@
 pub mod Arguments
 pub mod Checked
 pub mod CommandNames
+pub mod CommandWords
 pub mod Commands
 pub mod Earlier
 pub mod Faults
@@ -14,6 +15,8 @@ pub mod NodeCommands
 pub mod Nodes
 pub mod Order
 pub mod PortCommands
+pub mod Printable
+pub mod Printing
 pub mod Progress
 pub mod Ranges
 pub mod Sound

@@ -3,26 +3,34 @@
 
 mod arguments;
 mod command;
+mod command_text;
 mod fault;
+mod file_nodes;
 mod graph_commands;
 mod lexing;
 mod limits;
 mod lines;
 mod lists;
+mod map_command;
 mod name;
 mod names;
+mod new_nodes;
 mod node_commands;
 mod nodes;
 mod numbers;
 mod parsing;
 mod port_commands;
 mod ports;
+mod printing;
 mod progress;
 mod reading;
 mod saying;
 mod script;
+mod text;
+mod word_text;
 
 pub use command::Command;
 pub use fault::{ScriptFault, ScriptWhy};
 pub use parsing::parse;
+pub use printing::text_of;
 pub use script::{Line, Script};

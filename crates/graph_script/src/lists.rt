@@ -1,5 +1,6 @@
 //! Lists of channels.
 ghost use Rattle.std.specs.Prelude.{◌≡◌, ◌≤◌, IfOk};
+ghost use Rattle.pw_base.specs.Limits.{channels_limit};
 ghost use Rattle.graph_script.specs.Arguments.{channel_list};
 ghost use Rattle.graph_script.specs.Checked.{list_arg};
 
@@ -11,7 +12,7 @@ use std::alloc::Global;
 // The numbers of a list, each below `channels`, parted by single commas: at most as many as a port has channels.
 fn channel_list(alloc: Global, word: &[u8], channels: u32) -> Result<Option<Items<u32>>, Memory>
     requires some { 1 ≤ channels }
-    requires few { channels ≤ 8 }
+    requires few { channels ≤ channels_limit }
     ensures { IfOk result (λ list. list ≡ channel_list channels word.now) }
 {
     let mut list = Items::new(alloc);
@@ -42,7 +43,7 @@ pub(crate) fn channels_in(
     channels: u32,
 ) -> Result<Result<Items<u32>, ScriptWhy>, Memory>
     requires some { 1 ≤ channels }
-    requires few { channels ≤ 8 }
+    requires few { channels ≤ channels_limit }
     ensures { IfOk result (λ list. list ≡ list_arg channels word.now) }
 {
     match channel_list(alloc, word, channels) {

@@ -5,10 +5,13 @@ ghost use Rattle.graph_script.specs.Commands as commands;
 ghost use Rattle.graph_script.specs.Sound.{IsTied};
 
 use crate::fault::ScriptWhy;
+use crate::file_nodes::{sink, source};
 use crate::graph_commands::{asynchronous, cycles, data_loop, drain, driver, off, on, quantum};
 use crate::lexing::next_word;
+use crate::map_command::map;
 use crate::name::{Name, command_called};
-use crate::node_commands::{delay, gain, map, meter, mix2, said_of, sink, source, split, square};
+use crate::new_nodes::said_of;
+use crate::node_commands::{delay, gain, meter, mix2, split, square};
 use crate::port_commands::{buffers, link, offer, unlink};
 use crate::progress::Progress;
 use crate::reading::Said;
