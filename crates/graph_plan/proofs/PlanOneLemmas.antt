@@ -9,13 +9,26 @@ use Rattle.pw_base.specs.declared.plan.Plan.{Plan}
 use Rattle.pw_base.specs.declared.plan.PlanNode.{PlanNode}
 use Rattle.wav_files.specs.declared.wav.WavIn.{WavIn}
 use Rattle.graph_script.specs.declared.script.Line.{Line}
+use Rattle.std.specs.Global.{Global}
+use Rattle.port_model.specs.declared.port_state.Node.{Node}
+use Rattle.link_negotiation.specs.Links.{LinkState}
+use Rattle.graph_lines.specs.declared.limits.Sums.{Sums}
+use Rattle.graph_lines.specs.declared.standing.Standing.{Standing}
+use Rattle.graph_lines.specs.declared.wire.Wire.{Wire}
+use Rattle.graph_script.specs.declared.script.Script.{Script}
+use Rattle.graph_script.specs.Kinds.{HasKinds}
+use Rattle.graph_script.specs.Ranges.{HasRanges}
+use Rattle.graph_lines.specs.Start.{kinds_of, IsStart}
 use Rattle.graph_lines.specs.declared.graph.Graph.{Graph}
 use Rattle.graph_lines.specs.Forms.{FormIn}
 use Rattle.graph_plan.specs.declared.fault.PlanFault.{PlanFault}
 use Rattle.graph_plan.specs.declared.fault.PlanFault.TheVariants as F
+use Rattle.graph_plan.specs.Conditions.{NamesMade, AreScriptPorts}
 use Rattle.graph_plan.specs.Following.{Follows}
+use Rattle.graph_plan.proofs.ScriptLemmas.{lines_are}
+use Rattle.graph_plan.proofs.StartLemmas.{first_sound}
 use Rattle.graph_plan.specs.PlanOf.{IsEndOf, IsNodeOf, IsPlanOf}
-use Rattle.graph_plan.specs.Planned.{IsAnswer}
+use Rattle.graph_plan.specs.Planned.{IsAnswer, IsPlanned}
 use Rattle.graph_plan.specs.SoundGraph.{IsSoundGraph}
 use Rattle.graph_plan.proofs.FormLemmas.{one_form}
 use Rattle.graph_plan.proofs.SortedLemmas.{same_places}
@@ -84,3 +97,43 @@ module _ (names : List (List ℕ)) (waves : List WavIn) (kinds : List Kind) (lin
       ap (λ (n : ℕ). Err (F.Limit n v)) e.0 ∙ ap (λ (x : Which). Err (F.Limit m x)) e.1
   answer_one (Err (F.Limit l v)) (Err F.Memory) a b h k = absurd b
   answer_one (Err F.Memory) s a b h k = absurd a
+
+-- ONE START: an allocator has no parts that differ
+one_alloc : (a b : Global) → a ≡ b
+one_alloc a b = refl
+
+pub start_one : (lines : List Line) (ports : List Node) (a b : Graph) → IsStart lines ports a → IsStart lines ports b → a ≡ b
+start_one lines ports a b h k =
+    ap (λ (x : Global). record a { alloc = x }) (one_alloc a.alloc b.alloc)
+    ∙ (ap (λ (x : ℕ). record a { alloc = b.alloc; quantum = x }) (h.quantum ∙ sym k.quantum)
+    ∙ (ap (λ (x : List Kind). record a { alloc = b.alloc; quantum = b.quantum; kinds = x }) (h.kinds ∙ sym k.kinds)
+    ∙ (ap (λ (x : List Node). record a { alloc = b.alloc; quantum = b.quantum; kinds = b.kinds; ports = x }) (h.ports ∙ sym k.ports)
+    ∙ (ap (λ (x : LinkState). record b { links = x; wires = a.wires; nodes = a.nodes; lines = a.lines; epochs = a.epochs; first = a.first; sums = a.sums })
+    (h.links ∙ sym k.links)
+    ∙ (ap (λ (x : List Wire). record b { wires = x; nodes = a.nodes; lines = a.lines; epochs = a.epochs; first = a.first; sums = a.sums })
+    (h.wires ∙ sym k.wires)
+    ∙ (ap (λ (x : List Standing). record b { nodes = x; lines = a.lines; epochs = a.epochs; first = a.first; sums = a.sums }) (h.nodes ∙ sym k.nodes)
+    ∙ (ap (λ (x : List LinkLine). record b { lines = x; epochs = a.epochs; first = a.first; sums = a.sums }) (h.lines ∙ sym k.lines)
+    ∙ (ap (λ (x : List Epoch). record b { epochs = x; first = a.first; sums = a.sums }) (h.epochs ∙ sym k.epochs)
+    ∙ (ap (λ (x : ℕ). record b { first = x; sums = a.sums }) (h.first ∙ sym k.first)
+    ∙ ap (λ (x : Sums). record b { sums = x }) (h.sums ∙ sym k.sums))))))))))
+
+-- what is planned from a start, if it is told
+from_start : (lines : List Line) (names : List (List ℕ)) (waves : List WavIn) (ports : List Node) (r : Result Plan PlanFault) → IsAnswered r
+    → IsPlanned lines names waves ports r → (start : Graph) × IsStart lines ports start × IsAnswer names waves start lines r
+from_start lines names waves ports (Ok plan) a h = h
+from_start lines names waves ports (Err (F.Limit line which)) a h = h
+from_start lines names waves ports (Err F.Memory) a h = absurd a
+
+-- A SCRIPT HAS ONE PLAN
+pub planned_one : (script : Script) → HasRanges script → HasKinds script → NamesMade 0 script.lines → (ports : List Node)
+    → AreScriptPorts script.lines ports → (waves : List WavIn) (r s : Result Plan PlanFault) → IsAnswered r → IsAnswered s
+    → IsPlanned script.lines script.names waves ports r → IsPlanned script.lines script.names waves ports s → r ≡ s
+planned_one script ranges has made ports script_ports waves r s a b h k =
+    let p = from_start script.lines script.names waves ports r a h in
+    let q = from_start script.lines script.names waves ports s b k in
+    let same = start_one script.lines ports q.0 p.0 q.1 p.1 in
+    answer_one script.names waves (kinds_of script.lines) script.lines 0 p.0
+    (first_sound script.lines ports p.0 ranges.ranges script_ports p.1) p.1.kinds
+    (record { named = made; lines_of = lines_are script ranges has }) r s a b p.2
+    (subst (λ (g : Graph). IsAnswer script.names waves g script.lines s) same q.2)
