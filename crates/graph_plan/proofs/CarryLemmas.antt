@@ -14,8 +14,8 @@ use Rattle.graph_lines.specs.Activity.{standing}
 use Rattle.graph_lines.specs.Forms.{HasKinds}
 use Rattle.graph_plan.specs.Reaching.{IsOrdered}
 use Rattle.graph_plan.specs.SoundWires.{AreSoundWires}
-use Rattle.graph_plan.specs.Remembering.{IsLike, IsLast, Remembers, KeepsIt, RemembersSinks, CarriesOn}
-use Rattle.graph_plan.specs.SoundGraph.{AreMade, IsPast, Joins, IsSoundGraph}
+use Rattle.graph_plan.specs.Remembering.{IsLike, IsLastNaming, Remembers, KeepsIt, RemembersSinks, CarriesOn}
+use Rattle.graph_plan.specs.SoundGraph.{AreMade, IsPast, IsJoining, IsSoundGraph}
 
 module _ (nodes : List Node) (said : List Standing) (nodes' : List Node) (said' : List Standing)
     (on : (n : ℕ) → CarriesOn nodes said nodes' said' n) (plan : Plan) where
@@ -26,7 +26,7 @@ module _ (nodes : List Node) (said : List Standing) (nodes' : List Node) (said' 
         c.stands quiet port.port rate channels (h.kept i e port rate channels at has none (c.quiet quiet));
     last = λ n some.
         let same = (on n).told in
-        subst (IsLast plan n) (sym same) (h.last n (subst (λ (k : ℕ). 0 < k) same some));
+        subst (IsLastNaming plan n) (sym same) (h.last n (subst (λ (k : ℕ). 0 < k) same some));
     forms = h.forms;
     told = h.told;
   }
@@ -63,7 +63,7 @@ pub record IsRebuilt (count : ℕ) (g : Graph) (ports : List Node) (links : Link
   pub marked : (n : ℕ) → is_marked links n ≡ (standing said n).marked
   pub order : IsOrdered links
   pub on : (n : ℕ) → CarriesOn g.ports g.nodes ports said n
-  pub joins : All (Joins g.kinds) lines
+  pub joins : All (IsJoining g.kinds) lines
 
 pub rebuilt_sound : (count more : ℕ) (g after : Graph) (ports : List Node) (links : LinkState) (wires : List Wire) (said : List Standing)
     (lines : List LinkLine) → IsSoundGraph count g → IsRebuilt more g ports links wires said lines

@@ -9,7 +9,7 @@ use Rattle.port_model.specs.PortState.{IsPort}
 use Rattle.graph_lines.specs.declared.graph.Graph.{Graph}
 use Rattle.graph_lines.specs.Activity.{may_drive}
 use Rattle.graph_lines.specs.Forms.{HasKinds, IsFormIn}
-use Rattle.graph_plan.specs.PlanOf.{Ends, EndsWith}
+use Rattle.graph_plan.specs.PlanOf.{HasEnd, IsEndOf}
 use Rattle.graph_plan.proofs.ActiveLemmas.{end_drives}
 use Rattle.graph_plan.proofs.FormLemmas.{port_count_is}
 
@@ -41,12 +41,12 @@ pub end_port : (nodes : List Node) (kinds : List Kind) (n : ℕ) → HasKinds no
     → IsPort nodes (record { node = n; port = 0 })
 end_port nodes kinds n same e = subst (λ (c : ℕ). 0 < c) (sym (port_count_is nodes kinds same n)) (has_port (get_or kinds n Dummy) e)
 
-pub ends_no : (g : Graph) (n : ℕ) → may_drive (get_or g.kinds n Dummy) ≡ false → EndsWith g n (get_or g.kinds n Dummy) 0 0
+pub ends_no : (g : Graph) (n : ℕ) → may_drive (get_or g.kinds n Dummy) ≡ false → IsEndOf g n (get_or g.kinds n Dummy) 0 0
 ends_no g n e = inr (refl, refl, λ r c h. no_end (get_or g.kinds n Dummy) e h.0)
 
 pub ends_form : (g : Graph) (n : ℕ) (form : ℕ × ℕ) → may_drive (get_or g.kinds n Dummy) ≡ true
-    → IsFormIn g.ports (record { node = n; port = 0 }) (Some form) → EndsWith g n (get_or g.kinds n Dummy) form.0 form.1
+    → IsFormIn g.ports (record { node = n; port = 0 }) (Some form) → IsEndOf g n (get_or g.kinds n Dummy) form.0 form.1
 ends_form g n form e h = inl (end_drives (get_or g.kinds n Dummy) e, h)
 
-pub ends_none : (g : Graph) (n : ℕ) → IsFormIn g.ports (record { node = n; port = 0 }) None → EndsWith g n (get_or g.kinds n Dummy) 0 0
+pub ends_none : (g : Graph) (n : ℕ) → IsFormIn g.ports (record { node = n; port = 0 }) None → IsEndOf g n (get_or g.kinds n Dummy) 0 0
 ends_none g n h = inr (refl, refl, λ r c w. h r c w.1)

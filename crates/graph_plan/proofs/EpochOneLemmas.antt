@@ -137,9 +137,9 @@ module _ (count : ℕ) (g : Graph) (sound : IsSoundGraph count g) where
     forms = same_sorted (λ (x y : PortForm). IsTrue (is_before x.port y.port)) (λ x y a b. before_apart x.port y.port a b) e.forms f.forms
         h.forms.ascend k.forms.ascend
         (λ z w. let o = (h.forms.each z.port z.rate z.channels).0 w in
-            (k.forms.each z.port z.rate z.channels).1 (subst (λ (ns : List ℕ). Contains ns z.port.node) numbers o.0, o.1))
+        (k.forms.each z.port z.rate z.channels).1 (subst (λ (ns : List ℕ). Contains ns z.port.node) numbers o.0, o.1))
         (λ z w. let o = (k.forms.each z.port z.rate z.channels).0 w in
-            (h.forms.each z.port z.rate z.channels).1 (subst (λ (ns : List ℕ). Contains ns z.port.node) (sym numbers) o.0, o.1))
+        (h.forms.each z.port z.rate z.channels).1 (subst (λ (ns : List ℕ). Contains ns z.port.node) (sym numbers) o.0, o.1))
 
     fresh : e.fresh ≡ f.fresh
     fresh = same_sorted (λ (x y : Fresh). x.node < y.node) (λ x y a b. omega (arith, a, b)) e.fresh f.fresh h.fresh.ascend k.fresh.ascend
@@ -170,11 +170,11 @@ module _ (count : ℕ) (g : Graph) (sound : IsSoundGraph count g) where
         sums = sums_with g.kinds g.sums e;
         nodes = ns;
       }) nodes ∙ sym k.same) where
-    nodes : a.nodes ≡ b.nodes
-    nodes = same_lists a.nodes b.nodes (h.many ∙ sym k.many) (λ m d l.
-        let in' : m < length g.nodes = (let e' = h.many in omega (arith, l, e')) in
-        get_or_default a.nodes m d nobody l ∙ (said_one e m (standing a.nodes m) (standing b.nodes m) (h.nodes m in') (k.nodes m in')
-        ∙ get_or_default b.nodes m nobody d (let e' = k.many in omega (arith, in', e'))))
+        nodes : a.nodes ≡ b.nodes
+        nodes = same_lists a.nodes b.nodes (h.many ∙ sym k.many) (λ m d l.
+            let in' : m < length g.nodes = (let e' = h.many in omega (arith, l, e')) in
+            get_or_default a.nodes m d nobody l ∙ (said_one e m (standing a.nodes m) (standing b.nodes m) (h.nodes m in') (k.nodes m in')
+            ∙ get_or_default b.nodes m nobody d (let e' = k.many in omega (arith, in', e'))))
 
   -- one graph after a line that runs for some cycles
   pub runs_one : (n : ℕ) (s t : Stepped) (a b : Graph) → RunsFor g n s a → RunsFor g n t b → (s ≡ t) × (s ≡ T.Done → a ≡ b)

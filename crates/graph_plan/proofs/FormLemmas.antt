@@ -22,7 +22,7 @@ use Rattle.port_model.proofs.ValueLemmas.{own_value, free_value, some_is}
 use Rattle.port_model.proofs.TakingLemmas.{shared_at}
 use Rattle.link_negotiation.proofs.GivingLemmas.{IsThere, there}
 use Rattle.graph_lines.specs.Forms.{IsFormOf, FormIn}
-use Rattle.graph_plan.specs.SoundWires.{HasFormat, IsFormatted}
+use Rattle.graph_plan.specs.SoundWires.{HasFormatOf, IsFormatted}
 use Rattle.graph_plan.specs.Remembering.{HasSomeFormat}
 
 -- a value is one number
@@ -72,7 +72,7 @@ pub formatted_form : (nodes : List Node) → AreSoundNodes nodes → (port : Por
     → IsFormatted nodes port rate channels → FormIn nodes port rate channels
 formatted_form nodes sound port rate channels is has =
     let t = there nodes port sound is in
-    let f = at_port (λ (node : Node) (s : PortState). HasFormat rate channels s) nodes port t.node t.state t.node_is t.state_is has in (
+    let f = at_port (λ (node : Node) (s : PortState). HasFormatOf rate channels s) nodes port t.node t.state t.node_is t.state_is has in (
       is,
       port_at (IsFormOf rate channels) nodes port t.node t.state t.node_is t.state_is (
         (own_value t.node t.state 65539 f.format f.has ∙ f.rate_is, own_value t.node t.state 65540 f.format f.has ∙ f.channels_is),
@@ -84,7 +84,7 @@ pub formatted_some : (nodes : List Node) → AreSoundNodes nodes → (port : Por
     → IsFormatted nodes port rate channels → HasSomeFormat nodes port.node
 formatted_some nodes sound port rate channels is has =
     let t = there nodes port sound is in
-    let f = at_port (λ (node : Node) (s : PortState). HasFormat rate channels s) nodes port t.node t.state t.node_is t.state_is has in
+    let f = at_port (λ (node : Node) (s : PortState). HasFormatOf rate channels s) nodes port t.node t.state t.node_is t.state_is has in
     record {
       port = port.port;
       there = is;

@@ -29,3 +29,4 @@ pub mod NodesLemmas
 pub mod SortedLemmas
 pub mod EpochOneLemmas
 pub mod StepOneLemmas
+pub mod PlanOneLemmas

@@ -45,7 +45,7 @@ use Rattle.graph_lines.specs.LinkLines.{IsRecorded, NotesAlone, LinksLine}
 use Rattle.graph_plan.specs.Reaching.{IsOrdered}
 use Rattle.graph_plan.specs.SoundWires.{IsSoundWire, AreApart, AreSoundWires}
 use Rattle.graph_plan.specs.Remembering.{Stands, CarriesOn}
-use Rattle.graph_plan.specs.SoundGraph.{AreMade, Joins, IsSoundGraph}
+use Rattle.graph_plan.specs.SoundGraph.{AreMade, IsJoining, IsSoundGraph}
 use Rattle.graph_plan.proofs.ListLemmas.{any_of, map_changed, stands_for}
 use Rattle.graph_plan.proofs.RankLemmas.{filtered_rank}
 use Rattle.graph_plan.proofs.SoundGraphLemmas.{port_there}
@@ -67,7 +67,7 @@ carries nodes nodes' said stands n = record {
 
 -- a line that only notes itself
 pub noted_sound : (count : ℕ) (g after : Graph) (ports : List Node) (links : LinkState) (wires : List Wire) (lines : List LinkLine) (l : LinkLine)
-    → IsSoundGraph count g → Joins g.kinds l → ports ≡ g.ports → links ≡ g.links → wires ≡ g.wires → lines ≡ g.lines ++ l ∷ []
+    → IsSoundGraph count g → IsJoining g.kinds l → ports ≡ g.ports → links ≡ g.links → wires ≡ g.wires → lines ≡ g.lines ++ l ∷ []
     → after ≡ record g { ports = ports; links = links; wires = wires; lines = lines } → IsSoundGraph count after
 noted_sound count g after ports links wires lines l sound joins p k w n same =
     rebuilt_sound count count g after g.ports g.links g.wires g.nodes lines sound (record {
@@ -81,7 +81,7 @@ noted_sound count g after ports links wires lines l sound joins p k w n same =
       marked = sound.marked;
       order = sound.order;
       on = carries g.ports g.ports g.nodes (λ port rate channels h. h);
-      joins = subst (All (Joins g.kinds)) (sym n) (All-push (Joins g.kinds) g.lines l sound.lines joins);
+      joins = subst (All (IsJoining g.kinds)) (sym n) (All-push (IsJoining g.kinds) g.lines l sound.lines joins);
     }) (same ∙ parts)
   where
     parts : record g { ports = ports; links = links; wires = wires; lines = lines } ≡ record g { lines = lines }
@@ -145,7 +145,7 @@ module _ (count : ℕ) (g : Graph) (sound : IsSoundGraph count g) (from to : Por
       same_port p q e = and_from _ _ (eq-eqb p.node q.node (ap (λ (x : PortId). x.node) e)) (eq-eqb p.port q.port (ap (λ (x : PortId). x.port) e))
 
   module _ (format : Format) (buffers : ℕ) (made : IsMade g.ports (formatted g.ports from to format) from to) (new : IsNewLink g.links from to)
-      (range : IsBetween 1 8 buffers) (few : length g.links.made < 256) (l : LinkLine) (joins_l : Joins g.kinds l) where
+      (range : IsBetween 1 8 buffers) (few : length g.links.made < 256) (l : LinkLine) (joins_l : IsJoining g.kinds l) where
     wires_ok : AreSoundWires g.kinds (formatted g.ports from to format) (g.wires ++ wire_of buffers ∷ [])
     wires_ok = record {
       few = (let a = length-append g.wires (wire_of buffers ∷ []) in let b = ap length sound.wired in
@@ -209,7 +209,7 @@ module _ (count : ℕ) (g : Graph) (sound : IsSoundGraph count g) (from to : Por
           marked = sound.marked;
           order = order_ok;
           on = carries g.ports (formatted g.ports from to format) g.nodes made.stands;
-          joins = subst (All (Joins g.kinds)) (sym n) (All-push (Joins g.kinds) g.lines l sound.lines joins_l);
+          joins = subst (All (IsJoining g.kinds)) (sym n) (All-push (IsJoining g.kinds) g.lines l sound.lines joins_l);
         }) (same ∙ parts)
       where
         parts : record g { ports = ports; links = links; wires = wires; lines = lines }

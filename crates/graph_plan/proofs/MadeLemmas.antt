@@ -20,7 +20,7 @@ use Rattle.link_negotiation.specs.declared.common_formats.Negotiated.TheVariants
 use Rattle.link_negotiation.specs.Negotiation.{Negotiates, Agrees}
 use Rattle.link_negotiation.specs.LinkOutcome.{given, formatted, MayBeGiven}
 use Rattle.link_negotiation.proofs.GivingLemmas.{IsThere, there, elsewhere, gives_own, gives_other, output_agrees, input_agrees}
-use Rattle.graph_plan.specs.SoundWires.{HasFormat, IsFormatted}
+use Rattle.graph_plan.specs.SoundWires.{HasFormatOf, IsFormatted}
 use Rattle.graph_plan.specs.Remembering.{Stands}
 use Rattle.graph_plan.proofs.PortLemmas.{with_port_keeps, port_stays, IsGiven, port_given}
 
@@ -62,9 +62,9 @@ given_numbers node port s format sound agrees may = go s.format refl where
       )
 
 given_format : (node : Node) (port : ℕ) (s : PortState) (format : Format) (rate channels : ℕ) → IsSoundPort node.kind port s → Agrees format node s
-    → HasNumbers rate channels format → HasFormat rate channels (given format s)
+    → HasNumbers rate channels format → HasFormatOf rate channels (given format s)
 given_format node port s format rate channels sound agrees numbers = go s.format refl where
-  go : (o : Option Format) → s.format ≡ o → HasFormat rate channels (given format s)
+  go : (o : Option Format) → s.format ≡ o → HasFormatOf rate channels (given format s)
   go None e = record {
     format = format;
     has = ap (λ (o : Option Format). option_or o (Some format)) e;
@@ -89,12 +89,12 @@ given_at nodes q format rate channels sound is agrees numbers =
     let whole : slice_get (with_port nodes q (given format)) q.node ≡ Some (record t.node { ports = changed t.node.ports q.port (given format) }) =
     changed_here nodes q.node (λ node. record node { ports = changed node.ports q.port (given format) }) t.node t.node_is in
     let state = changed_here t.node.ports q.port (given format) t.state t.state_is in
-    port_at (λ (node : Node) (s : PortState). HasFormat rate channels s) (with_port nodes q (given format)) q
+    port_at (λ (node : Node) (s : PortState). HasFormatOf rate channels s) (with_port nodes q (given format)) q
     (record t.node { ports = changed t.node.ports q.port (given format) }) (given format t.state) whole state
     (given_format t.node q.port t.state format rate channels t.sound own numbers)
 
 -- a format that a port has stays
-pub given_keeps : (format : Format) (rate channels : ℕ) (s : PortState) → HasFormat rate channels s → HasFormat rate channels (given format s)
+pub given_keeps : (format : Format) (rate channels : ℕ) (s : PortState) → HasFormatOf rate channels s → HasFormatOf rate channels (given format s)
 given_keeps format rate channels s h = record {
   format = h.format;
   has = ap (λ (o : Option Format). option_or o (Some format)) h.has;
@@ -131,11 +131,11 @@ link_made nodes from to format sound is_from is_to apart settles =
       sound = two.sound;
       stands = λ port rate channels h. two.stands port rate channels (one.stands port rate channels h);
       formats = λ port rate channels h.
-          with_port_keeps (HasFormat rate channels) first to port (given format) (given_keeps format rate channels)
-          (with_port_keeps (HasFormat rate channels) nodes from port (given format) (given_keeps format rate channels) h);
+          with_port_keeps (HasFormatOf rate channels) first to port (given format) (given_keeps format rate channels)
+          (with_port_keeps (HasFormatOf rate channels) nodes from port (given format) (given_keeps format rate channels) h);
       rate = n.0;
       channels = n.1;
-      from_format = with_port_keeps (HasFormat n.0 n.1) first to from (given format) (given_keeps format n.0 n.1)
+      from_format = with_port_keeps (HasFormatOf n.0 n.1) first to from (given format) (given_keeps format n.0 n.1)
           (given_at nodes from format n.0 n.1 sound is_from from_agrees n.2);
       to_format = given_at first to format n.0 n.1 one.sound is_to_after
           (elsewhere (Agrees format) nodes from to (given format) apart to_agrees) n.2;

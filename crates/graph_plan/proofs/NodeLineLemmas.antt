@@ -21,7 +21,7 @@ use Rattle.graph_lines.specs.declared.wire.Wire.{Wire}
 use Rattle.graph_lines.specs.Activity.{standing, nobody}
 use Rattle.graph_lines.specs.Lines.{with_node, mark, Marks}
 use Rattle.graph_plan.specs.Reaching.{HasRank, IsOrdered}
-use Rattle.graph_plan.specs.SoundWires.{HasFormat, IsSoundWire, AreSoundWires}
+use Rattle.graph_plan.specs.SoundWires.{HasFormatOf, IsSoundWire, AreSoundWires}
 use Rattle.graph_plan.specs.Remembering.{Stands, CarriesOn}
 use Rattle.graph_plan.specs.SoundGraph.{AreMade, IsSoundGraph}
 use Rattle.graph_plan.proofs.ListLemmas.{origin, kept, any_of, map_changed}
@@ -199,8 +199,8 @@ buffers_sound count g after port n sound range same =
           buffers = s.buffers;
           rate = s.rate;
           channels = s.channels;
-          from_format = with_port_keeps (HasFormat s.rate s.channels) g.ports port w.from (buffered n) (keeps s.rate s.channels) s.from_format;
-          to_format = with_port_keeps (HasFormat s.rate s.channels) g.ports port w.to (buffered n) (keeps s.rate s.channels) s.to_format;
+          from_format = with_port_keeps (HasFormatOf s.rate s.channels) g.ports port w.from (buffered n) (keeps s.rate s.channels) s.from_format;
+          to_format = with_port_keeps (HasFormatOf s.rate s.channels) g.ports port w.to (buffered n) (keeps s.rate s.channels) s.to_format;
         }) g.wires sound.wires.each;
         apart = sound.wires.apart;
       };
@@ -212,5 +212,5 @@ buffers_sound count g after port n sound range same =
       joins = sound.lines;
     }) same
   where
-    keeps : (rate channels : ℕ) (s : PortState) → HasFormat rate channels s → HasFormat rate channels (buffered n s)
+    keeps : (rate channels : ℕ) (s : PortState) → HasFormatOf rate channels s → HasFormatOf rate channels (buffered n s)
     keeps rate channels s h = record { format = h.format; has = h.has; rate_is = h.rate_is; channels_is = h.channels_is }

@@ -14,7 +14,7 @@ use Rattle.port_model.specs.declared.port_state.Node.{Node}
 use Rattle.port_model.specs.SoundPorts.{AreSoundNodes}
 use Rattle.graph_lines.specs.declared.standing.Standing.{Standing}
 use Rattle.graph_lines.specs.Activity.{standing}
-use Rattle.graph_plan.specs.Remembering.{IsQuietFrom, Stands, IsLast, Remembers, KeepsIt, RemembersSinks}
+use Rattle.graph_plan.specs.Remembering.{IsQuietFrom, Stands, IsLastNaming, Remembers, KeepsIt, RemembersSinks}
 use Rattle.graph_plan.specs.NextEpoch.{with_epoch, Changes, IsNext, KeepsSinksOn}
 use Rattle.graph_plan.proofs.PlaceLemmas.{parted, lifted, at_last, named_by}
 use Rattle.graph_plan.proofs.FormLemmas.{one_form}
@@ -69,12 +69,12 @@ module _ (plan : Plan) (nodes : List Node) (said after : List Standing) (e : Epo
       ]
 
   -- the last naming of a node's channels
-  new_last : (n : ℕ) → 0 < (standing after n).told → IsLast (with_epoch plan e) n (standing after n).told
+  new_last : (n : ℕ) → 0 < (standing after n).told → IsLastNaming (with_epoch plan e) n (standing after n).told
   new_last n some = elim (cases_eq (standing after n).told (standing said n).told) [
     | inl w ↦ go (standing said n).gave_up refl w
     | inr w ↦ ended (inr w)
   ] where
-    ended : Changes said after n → IsLast (with_epoch plan e) n (standing after n).told
+    ended : Changes said after n → IsLastNaming (with_epoch plan e) n (standing after n).told
     ended h = record {
       epoch = length plan.epochs;
       names = at_last plan e n (standing after n).told (next.named n h);
@@ -85,7 +85,7 @@ module _ (plan : Plan) (nodes : List Node) (said after : List Standing) (e : Epo
     }
 
     go : (b : Bool) → (standing said n).gave_up ≡ b → (standing after n).told ≡ (standing said n).told
-        → IsLast (with_epoch plan e) n (standing after n).told
+        → IsLastNaming (with_epoch plan e) n (standing after n).told
     go true d same = ended (inl d)
     go false d same =
         let was = old.last n (subst (λ (c : ℕ). 0 < c) same some) in

@@ -30,10 +30,9 @@ use Rattle.graph_lines.specs.declared.graph.Graph.{Graph}
 use Rattle.graph_lines.specs.Forms.{FormIn}
 use Rattle.graph_lines.specs.Sums.{is_sink_form, sink_samples, block_bytes, form_samples, link_bytes}
 use Rattle.graph_plan.specs.Joining.{JoinsKinds}
-use Rattle.graph_plan.specs.PlanOf.{Ends, IsNodeOf, IsPlanOf}
-use Rattle.graph_plan.specs.PlanOf.{EndsWith as EndsIn}
+use Rattle.graph_plan.specs.PlanOf.{IsEndOf, IsNodeOf, IsPlanOf}
 use Rattle.graph_plan.specs.Remembering.{IsLike}
-use Rattle.graph_plan.specs.SoundGraph.{IsSoundPart, Joins, IsSoundGraph}
+use Rattle.graph_plan.specs.SoundGraph.{IsSoundPart, IsJoining, IsSoundGraph}
 use Rattle.graph_plan.specs.Summing.{FollowTo}
 use Rattle.graph_plan.proofs.FormLemmas.{one_form, port_count_is, kind_at_is}
 use Rattle.graph_plan.proofs.ListLemmas.{all_of, contains_at}
@@ -103,7 +102,7 @@ module _ (count : ℕ) (g : Graph) (sound : IsSoundGraph count g) (names : List 
       let c = is.count in
       record { kind = subst IsInRange (sym o.kind) (kinds_in_range n (omega (arith, l, c))); kept = kept o o.ends }
     where
-      kept : IsNodeOf names g n node → EndsIn g n node.kind node.rate node.channels
+      kept : IsNodeOf names g n node → IsEndOf g n node.kind node.rate node.channels
           → ((node.rate ≡ 0) × (node.channels ≡ 0)) ⊎ (IsSinkOrMeter node.kind × IsRate node.rate × IsChannels node.channels)
       kept o (inr h) = inl (h.0, h.1)
       kept o (inl h) =
@@ -135,7 +134,7 @@ module _ (count : ℕ) (g : Graph) (sound : IsSoundGraph count g) (names : List 
     is_end : IsSinkOrMeter node.kind
     is_end = subst IsSinkOrMeter (sym kind) tt
 
-    go : EndsIn g port.node node.kind node.rate node.channels → (rate ≡ node.rate) × (channels ≡ node.channels)
+    go : IsEndOf g port.node node.kind node.rate node.channels → (rate ≡ node.rate) × (channels ≡ node.channels)
     go (inl h) = one_form g.ports sound.ports (record { node = port.node; port = 0 }) rate channels node.rate node.channels own h.1
     go (inr h) = absurd (h.2 rate channels (is_end, own))
 
@@ -211,7 +210,7 @@ module _ (count : ℕ) (g : Graph) (sound : IsSoundGraph count g) (names : List 
 
   -- and its lines join outputs to inputs
   pub plan_joins : All (JoinsKinds plan) plan.lines
-  plan_joins = subst (All (JoinsKinds plan)) (sym is.lines) (All-weaker (Joins g.kinds) (JoinsKinds plan) (λ l h. record {
+  plan_joins = subst (All (JoinsKinds plan)) (sym is.lines) (All-weaker (IsJoining g.kinds) (JoinsKinds plan) (λ l h. record {
     behind = subst (λ (k : Kind). input_count k ≤ l.from.port) (sym (kind_ok l.from.node)) h.0.0;
     from = subst (λ (k : Kind). l.from.port < port_count k) (sym (kind_ok l.from.node)) h.0.1;
     to = subst (λ (k : Kind). l.to.port < input_count k) (sym (kind_ok l.to.node)) h.1;

@@ -31,7 +31,7 @@ use Rattle.graph_plan.specs.Reaching.{IsOrdered}
 use Rattle.graph_plan.specs.SoundWires.{IsSoundWire, AreSoundWires}
 use Rattle.graph_plan.specs.Summing.{AreSummed}
 use Rattle.graph_plan.specs.Remembering.{Remembers, RemembersSinks}
-use Rattle.graph_plan.specs.SoundGraph.{AreMade, IsSoundPart, IsPast, Joins, IsSoundGraph}
+use Rattle.graph_plan.specs.SoundGraph.{AreMade, IsSoundPart, IsPast, IsJoining, IsSoundGraph}
 
 -- the quantum is in range
 in_range : (command : Command) → IsInRange command → IsBetween 1 8192 (quantum_in command)
@@ -134,7 +134,7 @@ first_sound lines ports g ranges script start = record {
   parts = λ plan like. subst (All (IsSoundPart plan)) (sym start.epochs) (All-nil (IsSoundPart plan));
   past = λ plan like epochs. subst (IsPast plan g.ports) (sym start.nodes)
       (past_first plan g.ports (length (kinds_of lines)) (epochs ∙ start.epochs));
-  lines = subst (All (Joins g.kinds)) (sym start.lines) (All-nil (Joins g.kinds));
+  lines = subst (All (IsJoining g.kinds)) (sym start.lines) (All-nil (IsJoining g.kinds));
 } where
   said : {X : Type 0} (f : Standing → X) (x : X) → ((m : ℕ) → f (newcomer m) ≡ x) → f nobody ≡ x → (m : ℕ) → f (standing g.nodes m) ≡ x
   said f x new none m = ap (λ (ns : List Standing). f (standing ns m)) start.nodes ∙ first_is f x new none (length (kinds_of lines)) m

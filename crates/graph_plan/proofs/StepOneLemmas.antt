@@ -131,10 +131,10 @@ module _ (count : ℕ) (g : Graph) (sound : IsSoundGraph count g) where
   bit_one : (keep keep' n : ℕ) → n < 64 → HasKept g.nodes keep → HasKept g.nodes keep' → bit_at keep n ≡ bit_at keep' n
   bit_one keep keep' n l h k = go (bit_at keep n) (bit_at keep' n) (bit_at-lt keep n) (bit_at-lt keep' n)
       (λ e. (k n l).1 ((h n l).0 e)) (λ e. (h n l).1 ((k n l).0 e)) where
-    go : (x y : ℕ) → x < 2 → y < 2 → (x ≡ 1 → y ≡ 1) → (y ≡ 1 → x ≡ 1) → x ≡ y
-    go zero zero p q f b = refl
-    go zero (suc y) p q f b = (let z : 0 ≡ 1 = b (omega (arith, q)) in absurd (omega (arith, z)))
-    go (suc x) y p q f b = let one : suc x ≡ 1 = omega (arith, p) in one ∙ sym (f one)
+        go : (x y : ℕ) → x < 2 → y < 2 → (x ≡ 1 → y ≡ 1) → (y ≡ 1 → x ≡ 1) → x ≡ y
+        go zero zero p q f b = refl
+        go zero (suc y) p q f b = (let z : 0 ≡ 1 = b (omega (arith, q)) in absurd (omega (arith, z)))
+        go (suc x) y p q f b = let one : suc x ≡ 1 = omega (arith, p) in one ∙ sym (f one)
 
   released_one : (made : List Link) (keep keep' n : ℕ) → n < 64 → HasKept g.nodes keep → HasKept g.nodes keep'
       → is_released made keep n ≡ is_released made keep' n

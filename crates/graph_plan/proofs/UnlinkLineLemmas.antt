@@ -39,9 +39,9 @@ use Rattle.graph_lines.specs.Forms.{IsFormOf}
 use Rattle.graph_lines.specs.UnlinkLines.{HasKept, giving, wires_without, IsTakenAway, UnlinksLine}
 use Rattle.graph_lines.proofs.WireLemmas.{set_wired}
 use Rattle.graph_plan.specs.Reaching.{IsOrdered}
-use Rattle.graph_plan.specs.SoundWires.{HasFormat, IsFormatted, IsSoundWire, AreApart, AreSoundWires}
+use Rattle.graph_plan.specs.SoundWires.{HasFormatOf, IsFormatted, IsSoundWire, AreApart, AreSoundWires}
 use Rattle.graph_plan.specs.Remembering.{HasSomeFormat, Stands, CarriesOn}
-use Rattle.graph_plan.specs.SoundGraph.{AreMade, Joins, IsSoundGraph}
+use Rattle.graph_plan.specs.SoundGraph.{AreMade, IsJoining, IsSoundGraph}
 use Rattle.graph_plan.proofs.ListLemmas.{origin, kept, any_of, map_changed, stands_for, all_of}
 use Rattle.graph_plan.proofs.RankLemmas.{fewer_rank}
 use Rattle.graph_plan.proofs.SoundGraphLemmas.{wire_at}
@@ -140,7 +140,7 @@ module _ (nodes nodes' : List Node) (n : ℕ) (same : slice_get nodes' n ≡ sli
   pub formats_stay : (port rate channels : ℕ) → IsFormatted nodes (record { node = n; port = port }) rate channels
       → IsFormatted nodes' (record { node = n; port = port }) rate channels
   formats_stay port rate channels h =
-      subst (λ (o : Option Node). IfSome o (λ node. IfSome (slice_get node.ports port) (λ s. HasFormat rate channels s))) (sym same) h
+      subst (λ (o : Option Node). IfSome o (λ node. IfSome (slice_get node.ports port) (λ s. HasFormatOf rate channels s))) (sym same) h
 
   there_stays : (port : ℕ) → IsPort nodes (record { node = n; port = port }) → IsPort nodes' (record { node = n; port = port })
   there_stays port h = subst (λ (o : Option Node). port < option_map_or (λ node. port_count node.kind) o 0) (sym same) h
@@ -284,7 +284,7 @@ module _ (count : ℕ) (g : Graph) (sound : IsSoundGraph count g) (from to : Por
       kept (is_synchronous g.links) g.links.made l p.0 o.1) sound.order
 
   pub gone_sound : (after : Graph) (ports : List Node) (links : LinkState) (wires : List Wire) (said : List Standing) (lines : List LinkLine)
-      (l : LinkLine) → Joins g.kinds l → map (λ w. link_of w.from w.to) (wires_without from to g.wires) ≡ left
+      (l : LinkLine) → IsJoining g.kinds l → map (λ w. link_of w.from w.to) (wires_without from to g.wires) ≡ left
       → links ≡ record g.links { made = left } → ports ≡ released_ports → wires ≡ wires_without from to g.wires → said ≡ said_after
       → lines ≡ g.lines ++ l ∷ []
       → after ≡ record g { ports = ports; links = links; wires = wires; nodes = said; lines = lines } → IsSoundGraph count after
@@ -307,7 +307,7 @@ module _ (count : ℕ) (g : Graph) (sound : IsSoundGraph count g) (from to : Por
         marked = λ m. sound.marked m ∙ sym (said_same (λ (s : Standing). s.marked) (λ s b. refl) m);
         order = order_ok;
         on = on;
-        joins = subst (All (Joins g.kinds)) (sym n) (All-push (Joins g.kinds) g.lines l sound.lines joins_l);
+        joins = subst (All (IsJoining g.kinds)) (sym n) (All-push (IsJoining g.kinds) g.lines l sound.lines joins_l);
       }) (same ∙ parts)
     where
       parts : record g { ports = ports; links = links; wires = wires; nodes = said; lines = lines }

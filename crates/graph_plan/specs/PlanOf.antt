@@ -11,20 +11,20 @@ use Rattle.graph_lines.specs.Activity.{standing}
 use Rattle.graph_lines.specs.Forms.{FormIn}
 
 -- a sink or meter whose one input has a format, and so a form
-abbrev pub Ends : Graph → ℕ → Kind → ℕ → ℕ → Type 0
-Ends g n kind rate channels = IsSinkOrMeter kind × FormIn g.ports (record { node = n; port = 0 }) rate channels
+abbrev pub HasEnd : Graph → ℕ → Kind → ℕ → ℕ → Type 0
+HasEnd g n kind rate channels = IsSinkOrMeter kind × FormIn g.ports (record { node = n; port = 0 }) rate channels
 
 -- the rate and channels that a node ends with; both 0 without a format, and for other kinds
-abbrev pub EndsWith : Graph → ℕ → Kind → ℕ → ℕ → Type 0
-EndsWith g n kind rate channels = Ends g n kind rate channels
-    ⊎ ((rate ≡ 0) × (channels ≡ 0) × ((r c : ℕ) → Ends g n kind r c → ⊥))
+abbrev pub IsEndOf : Graph → ℕ → Kind → ℕ → ℕ → Type 0
+IsEndOf g n kind rate channels = HasEnd g n kind rate channels
+    ⊎ ((rate ≡ 0) × (channels ≡ 0) × ((r c : ℕ) → HasEnd g n kind r c → ⊥))
 
 -- node n of the plan: its name, its kind, the loop that it asks for, and how it ends
 pub record IsNodeOf (names : List (List ℕ)) (g : Graph) (n : ℕ) (node : PlanNode) : Type 0 where
   pub name : node.name ≡ slice_index_or names n []
   pub kind : node.kind ≡ slice_index_or g.kinds n Dummy
   pub k : node.k ≡ (standing g.nodes n).k
-  pub ends : EndsWith g n node.kind node.rate node.channels
+  pub ends : IsEndOf g n node.kind node.rate node.channels
 
 -- PLAN: all that the lines have made
 pub record IsPlanOf (names : List (List ℕ)) (g : Graph) (plan : Plan) : Type 0 where

@@ -36,7 +36,7 @@ pub record Stands (nodes : List Node) (port : PortId) (rate channels : ℕ) : Ty
   pub some : HasSomeFormat nodes port.node
 
 -- the last epoch that names a node has what was told of it last
-pub record IsLast (plan : Plan) (node told : ℕ) : Type 0 where
+pub record IsLastNaming (plan : Plan) (node told : ℕ) : Type 0 where
   pub epoch : ℕ
   pub names : Names plan epoch node told
   pub last : IsQuietFrom plan epoch node
@@ -45,7 +45,7 @@ pub record IsLast (plan : Plan) (node told : ℕ) : Type 0 where
 pub record Remembers (plan : Plan) (nodes : List Node) (said : List Standing) : Type 0 where
   pub kept : (i : ℕ) (e : Epoch) (port : PortId) (rate channels : ℕ) → IsEpoch plan i e → HasForm e port rate channels
       → IsQuietFrom plan i port.node → (standing said port.node).gave_up ≡ false → Stands nodes port rate channels
-  pub last : (n : ℕ) → 0 < (standing said n).told → IsLast plan n (standing said n).told
+  pub last : (n : ℕ) → 0 < (standing said n).told → IsLastNaming plan n (standing said n).told
   pub forms : KeepsForms plan
   pub told : IsTold plan
 

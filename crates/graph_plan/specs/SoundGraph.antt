@@ -47,8 +47,8 @@ pub record IsPast (plan : Plan) (nodes : List Node) (said : List Standing) : Typ
   pub sinks : RemembersSinks plan nodes said
 
 -- a line joins an output to an input
-abbrev pub Joins : List Kind → LinkLine → Type 0
-Joins kinds l = IsOutput kinds l.from × IsInput kinds l.to
+abbrev pub IsJoining : List Kind → LinkLine → Type 0
+IsJoining kinds l = IsOutput kinds l.from × IsInput kinds l.to
 
 -- SOUND GRAPH, of so many nodes that lines have made
 pub record IsSoundGraph (count : ℕ) (g : Graph) : Type 0 where
@@ -65,4 +65,4 @@ pub record IsSoundGraph (count : ℕ) (g : Graph) : Type 0 where
   pub sums : AreSummed g.quantum g.kinds g.epochs g.first g.sums
   pub parts : (plan : Plan) → IsLike g.quantum g.kinds plan → All (IsSoundPart plan) g.epochs
   pub past : (plan : Plan) → IsLike g.quantum g.kinds plan → plan.epochs ≡ g.epochs → IsPast plan g.ports g.nodes
-  pub lines : All (Joins g.kinds) g.lines
+  pub lines : All (IsJoining g.kinds) g.lines

@@ -15,14 +15,14 @@ use Rattle.graph_lines.specs.declared.wire.Wire.{Wire}
 use Rattle.port_model.specs.Keys.{rate_key, channels_key}
 
 -- a port has a format of this rate and these channels
-pub record HasFormat (rate channels : ℕ) (s : PortState) : Type 0 where
+pub record HasFormatOf (rate channels : ℕ) (s : PortState) : Type 0 where
   pub format : Format
   pub has : s.format ≡ Some format
   pub rate_is : value_at format.fields rate_key ≡ Some (int_of rate)
   pub channels_is : value_at format.fields channels_key ≡ Some (int_of channels)
 
 abbrev pub IsFormatted : List Node → PortId → ℕ → ℕ → Type 0
-IsFormatted nodes port rate channels = AtPort nodes port (λ node s. HasFormat rate channels s)
+IsFormatted nodes port rate channels = AtPort nodes port (λ node s. HasFormatOf rate channels s)
 
 -- a link from an output to an input of another node, which both have a format of one rate and of one number of channels
 pub record IsSoundWire (kinds : List Kind) (nodes : List Node) (w : Wire) : Type 0 where

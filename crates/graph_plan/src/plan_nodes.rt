@@ -4,7 +4,7 @@ ghost use Rattle.pw_base.specs.declared.kind.Kind.TheVariants.{Dummy};
 ghost use Rattle.pw_base.specs.declared.plan.PlanNode.{PlanNode};
 ghost use Rattle.graph_lines.specs.Activity.{may_drive};
 ghost use Rattle.graph_lines.specs.Forms.{HasKinds};
-ghost use Rattle.graph_plan.specs.PlanOf.{EndsWith, IsNodeOf};
+ghost use Rattle.graph_plan.specs.PlanOf.{IsEndOf, IsNodeOf};
 
 use graph_lines::{Graph, form_in};
 use pw_base::{Items, Kind, Memory, PlanNode, PortId, Text};
@@ -54,7 +54,7 @@ fn is_end(kinds: &[Kind], node: u32) -> bool
 // The rate and channels of the one input of a sink or meter that has a format; 0 without one and for other kinds.
 fn end_of(graph: &Graph, node: u32) -> (u32, u32)
     requires { HasKinds graph.now.ports graph.now.kinds }
-    ensures { EndsWith graph.now node (slice_index_or graph.now.kinds node Dummy) result.0 result.1 }
+    ensures { IsEndOf graph.now node (slice_index_or graph.now.kinds node Dummy) result.0 result.1 }
 {
     if !is_end(graph.kinds.as_slice(), node) {
         return (0, 0);
