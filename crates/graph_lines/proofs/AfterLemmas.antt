@@ -1,9 +1,8 @@
 -- A sound graph after an epoch, and the drain that passes the limit of events.
-use Rattle.std.proofs.Common.{◌≡◌, ◌⊎◌, inl, inr, ℕ, zero, suc, ◌+◌, ◌*◌, ◌^◌, ◌<◌, ◌≤◌, min, Bool, true, false, cond, List, [], ◌∷◌, ◌++◌, length, Option, Some, None, refl, sym, ap, ◌∙◌, subst, arith}
+use Rattle.std.proofs.Common.{◌≡◌, ◌⊎◌, inl, inr, ℕ, zero, suc, ◌+◌, ◌*◌, ◌^◌, ◌<◌, ◌≤◌, min, Bool, true, false, List, [], ◌∷◌, ◌++◌, length, Some, None, refl, sym, ap, ◌∙◌, subst, arith}
 use Rattle.std.specs.Prelude.{if◌then◌else◌, Result, Ok, Err, IfOk}
-use Rattle.std.proofs.lemmas.Bool.{cases_lt, lt-ltb, ltb-false}
+use Rattle.std.proofs.lemmas.Bool.{cases_lt}
 use Rattle.std.proofs.lemmas.List.{get_or_past, get_or_append_left, get_or_push}
-use Rattle.pw_base.specs.declared.kind.Kind.{Kind}
 use Rattle.pw_base.specs.declared.limit.Which.{Which}
 use Rattle.pw_base.specs.declared.limit.Which.TheVariants as W
 use Rattle.pw_base.specs.declared.plan.Epoch.{Epoch}
@@ -21,7 +20,7 @@ use Rattle.graph_lines.specs.Activity.{nobody, standing}
 use Rattle.graph_lines.specs.Epochs.{has_node, IsEpochOf}
 use Rattle.graph_lines.specs.EpochLines.{cycles_in, StandsAfter, IsAfter, IsTaken, RunsFor, Steps}
 use Rattle.graph_lines.specs.Sums.{sums_with, passed}
-use Rattle.graph_lines.specs.Ready.{HasReadyCounts, IsReady}
+use Rattle.graph_lines.specs.Ready.{IsReady}
 use Rattle.graph_lines.proofs.SumLemmas.{passes_events}
 
 -- each cycle has at least three events

@@ -1,8 +1,8 @@
 -- An epoch from its parts.
-use Rattle.std.proofs.Common.{◌≡◌, ◌⊎◌, inl, inr, ℕ, ◌+◌, ◌<◌, ◌≤◌, ◌==◌, ◌&&◌, Bool, true, false, List, [], ◌∷◌, ◌++◌, map, length, get_or, take, append-nil}
+use Rattle.std.proofs.Common.{◌≡◌, inl, inr, ℕ, ◌+◌, ◌<◌, ◌≤◌, ◌==◌, ◌&&◌, Bool, true, false, List, [], ◌∷◌, ◌++◌, map, length, get_or, take, append-nil}
 use Rattle.std.proofs.Common.{refl, sym, ap, ◌∙◌, subst, arith, cond, suc, ne_eqb, eq-eqb}
-use Rattle.std.specs.Prelude.{All, Contains, filter, ◌↔◌, Option, Some, None, Result, Ok, Err, IfOk, slice_index_or, if◌then◌else◌}
-use Rattle.std.specs.List.{list_any, AllZip, range_with_len, count_by}
+use Rattle.std.specs.Prelude.{All, Contains, filter, None, Result, Ok, Err, IfOk, slice_index_or, if◌then◌else◌}
+use Rattle.std.specs.List.{list_any, AllZip, range_with_len}
 use Rattle.std.specs.List.Sorted.{IsStrictlyIncreasing}
 use Rattle.std.proofs.lemmas.Bool.{cases_lt}
 use Rattle.std.proofs.lemmas.Option.{none-some}
@@ -11,11 +11,9 @@ use Rattle.std.proofs.lemmas.List.Elements.{All-nil, All-cons, All-head, All-tai
 use Rattle.std.proofs.lemmas.Slice.Zip.{all_zipped_more}
 use Rattle.std.proofs.lemmas.List.Folds.{list_any_none, list_any_at}
 use Rattle.std.proofs.lemmas.List.FromFn.{length-range_with_len}
-use Rattle.std.proofs.lemmas.List.Filters.{length-filter_both}
 use Rattle.pw_base.specs.declared.memory.Memory.{Memory}
 use Rattle.pw_base.specs.declared.kind.Kind.{Kind}
 use Rattle.pw_base.specs.declared.kind.Kind.TheVariants.{Dummy}
-use Rattle.pw_base.specs.declared.plan.Epoch.{Epoch}
 use Rattle.pw_base.specs.declared.plan.Fresh.{Fresh}
 use Rattle.pw_base.specs.declared.plan.PortForm.{PortForm}
 use Rattle.pw_base.specs.declared.shape.Shape.{Shape}
@@ -34,7 +32,7 @@ use Rattle.graph_lines.specs.declared.wire.Wire.{Wire}
 use Rattle.graph_lines.specs.Activity.{nobody, standing, is_live, live_wires, may_drive, IsDriver, IsActive}
 use Rattle.graph_lines.specs.Epochs.{has_node, is_used, IsLinkOf, IsEpochOf}
 use Rattle.graph_lines.specs.Searching.{is_in, numbers_in, IsWithin}
-use Rattle.graph_lines.specs.Ready.{IsReadyWire, HasReadyWires, IsReady}
+use Rattle.graph_lines.specs.Ready.{IsReadyWire, IsReady}
 use Rattle.graph_lines.specs.Gathering.{IsActivityOf, is_used_in, IsShapeOf, HasFormsOf, HasFreshBelow}
 use Rattle.graph_lines.proofs.CountingLemmas.{numbers_ascend, contains_numbers, numbers_contain}
 use Rattle.graph_lines.proofs.FreshLemmas.{fresh_below}

@@ -1,7 +1,7 @@
 -- The nodes that begin anew, one after the other.
-use Rattle.std.proofs.Common.{◌≡◌, ◌⊎◌, inl, inr, ℕ, ◌+◌, ◌<◌, ◌≤◌, Bool, true, false, List, [], ◌∷◌, ◌++◌, length, get_or}
-use Rattle.std.proofs.Common.{refl, sym, ap, ◌∙◌, subst, arith}
-use Rattle.std.specs.Prelude.{AllPairs, Contains}
+use Rattle.std.proofs.Common.{◌≡◌, inl, inr, ℕ, ◌+◌, ◌<◌, Bool, true, false, List, [], ◌∷◌, ◌++◌, length, get_or}
+use Rattle.std.proofs.Common.{sym, ap, ◌∙◌, subst, arith}
+use Rattle.std.specs.Prelude.{Contains}
 use Rattle.std.proofs.lemmas.Bool.{cases_eq, cases_lt}
 use Rattle.std.proofs.lemmas.List.{get_or_past}
 use Rattle.std.proofs.lemmas.List.Elements.{Contains-get_or, Contains-push, Contains-push_cases, Contains-append_left}
@@ -10,7 +10,7 @@ use Rattle.pw_base.specs.declared.plan.Fresh.{Fresh}
 use Rattle.graph_lines.specs.declared.graph.Graph.{Graph}
 use Rattle.graph_lines.specs.declared.standing.Standing.{Standing}
 use Rattle.graph_lines.specs.Activity.{nobody, standing}
-use Rattle.graph_lines.specs.Fresh.{HasFirstInput, ChannelsIn, IsFresh}
+use Rattle.graph_lines.specs.Fresh.{ChannelsIn, IsFresh}
 use Rattle.port_model.specs.PortState.{IsInput}
 use Rattle.port_model.specs.SoundPorts.{AreSoundNodes}
 use Rattle.graph_lines.specs.Forms.{FormIn}

@@ -1,23 +1,20 @@
 -- The ports of a node by its kind, and what holds of a port.
-use Rattle.std.proofs.Common.{◌≡◌, ℕ, zero, suc, ◌+◌, ◌<◌, ◌≤◌, List, [], ◌∷◌, map, length, Option, Some, None, refl, sym, ap, ◌∙◌, subst, arith}
+use Rattle.std.proofs.Common.{◌≡◌, ℕ, zero, suc, ◌<◌, ◌≤◌, List, [], ◌∷◌, map, length, Option, Some, None, refl, sym, ap, ◌∙◌, arith}
 use Rattle.std.specs.Prelude.{slice_get, slice_index_or, IfSome, IsSome}
-use Rattle.std.specs.Option.{option_map_or}
 use Rattle.std.proofs.lemmas.Option.{same_Some}
 use Rattle.std.proofs.lemmas.List.{length-map}
 use Rattle.pw_base.specs.declared.ids.PortId.{PortId}
 use Rattle.pw_base.specs.declared.kind.Kind.{Kind}
 use Rattle.pw_base.specs.declared.kind.Kind.TheVariants.{Dummy}
-use Rattle.pw_base.specs.KindPorts.{input_count, output_count, port_count}
-use Rattle.pw_base.specs.KindRanges.{IsSinkOrMeter}
-use Rattle.pod_codec.specs.declared.pod.Pod.{Pod}
+use Rattle.pw_base.specs.KindPorts.{input_count, port_count}
 use Rattle.port_model.specs.declared.port_state.PortState.{PortState}
 use Rattle.port_model.specs.declared.port_state.Node.{Node}
 use Rattle.port_model.specs.Offers.{int_of}
-use Rattle.port_model.specs.Forms.{HasForm, value_of}
-use Rattle.port_model.specs.PortState.{IsPort, IsInput, IsOutput, AtPort, input_count_of, port_count_of}
+use Rattle.port_model.specs.Forms.{HasForm}
+use Rattle.port_model.specs.PortState.{IsPort, IsInput, AtPort, input_count_of, port_count_of}
 use Rattle.port_model.specs.SoundPorts.{AreSoundNodes}
 use Rattle.port_model.proofs.NodeLemmas.{at_port, has_place}
-use Rattle.link_negotiation.proofs.GivingLemmas.{IsThere, there}
+use Rattle.link_negotiation.proofs.GivingLemmas.{there}
 use Rattle.graph_lines.specs.declared.standing.Standing.{Standing}
 use Rattle.graph_lines.specs.Forms.{HasKinds, IsFormOf, FormIn}
 use Rattle.graph_lines.specs.Ready.{HasFormat, HasReadyNodes}

@@ -1,5 +1,5 @@
 -- A sound graph after a `link` line.
-use Rattle.std.proofs.Common.{◌≡◌, ℕ, ◌+◌, ◌<◌, ◌≤◌, pos, List, [], ◌∷◌, ◌++◌, map, Option, Some, None, refl, sym, ap, ◌∙◌, subst, arith}
+use Rattle.std.proofs.Common.{◌≡◌, ℕ, pos, List, [], ◌∷◌, ◌++◌, Option, Some, None, refl, sym, ap, subst, arith}
 use Rattle.std.specs.Prelude.{All, IfSome, IsSome}
 use Rattle.std.specs.Option.{option_map_or}
 use Rattle.std.proofs.lemmas.List.Elements.{All-push, All-weaker}
@@ -7,7 +7,6 @@ use Rattle.pw_base.specs.declared.ids.PortId.{PortId}
 use Rattle.pw_base.specs.declared.kind.Kind.{Kind}
 use Rattle.pw_base.specs.declared.limit.Which.TheVariants as W
 use Rattle.pw_base.specs.SoundShape.{IsBetween}
-use Rattle.pod_codec.specs.declared.pod.Pod.{Pod}
 use Rattle.format_filter.specs.declared.choice.Choice.{Choice}
 use Rattle.format_filter.specs.declared.choice.Choice.TheVariants.{Range}
 use Rattle.format_filter.specs.declared.choice.Wide.TheVariants as wide
@@ -31,12 +30,11 @@ use Rattle.link_negotiation.specs.Negotiation.{Negotiates, IsCount, MeetsIn, Sha
 use Rattle.link_negotiation.specs.LinkOutcome.{given, formatted, MayBeGiven, IsLinkOutcome, LeavesLink}
 use Rattle.link_negotiation.proofs.GivingLemmas.{IsThere, there, gives_own, gives_other, elsewhere, taken_given, kept_given}
 use Rattle.graph_lines.specs.declared.graph.Graph.{Graph}
-use Rattle.graph_lines.specs.declared.graph.Stepped.{Stepped}
 use Rattle.graph_lines.specs.declared.graph.Stepped.TheVariants as T
 use Rattle.graph_lines.specs.declared.wire.Wire.{Wire}
 use Rattle.graph_lines.specs.Forms.{HasKinds}
-use Rattle.graph_lines.specs.LinkLines.{IsRecorded, LinksLine}
-use Rattle.graph_lines.specs.Ready.{HasFormat, IsReadyWire, HasReadyMarks, IsReady}
+use Rattle.graph_lines.specs.LinkLines.{IsRecorded}
+use Rattle.graph_lines.specs.Ready.{IsReadyWire, HasReadyMarks, IsReady}
 use Rattle.graph_lines.proofs.PortLemmas.{input_is_port, int_one}
 use Rattle.graph_lines.proofs.ReadyWireLemmas.{kinds_kept, output_kept, input_kept, given_kept, given_there, wire_kept}
 use Rattle.graph_lines.proofs.WireLemmas.{same_wires, links_wired}

@@ -1,6 +1,6 @@
 -- Nodes that begin anew with an epoch: what was told of each before, and what an epoch names.
 -- Source: this project's: a node whose last link went gives up its formats, and its stream starts anew.
-use Rattle.std.specs.Prelude.{◌≡◌, ◌↔◌, ◌⊎◌, ℕ, ◌<◌, true, List, AllPairs, Contains}
+use Rattle.std.specs.Prelude.{◌≡◌, ◌↔◌, ◌⊎◌, ℕ, ◌<◌, true, AllPairs, Contains}
 use Rattle.pw_base.specs.declared.plan.Epoch.{Epoch}
 use Rattle.port_model.specs.PortState.{IsInput}
 use Rattle.graph_lines.specs.declared.graph.Graph.{Graph}

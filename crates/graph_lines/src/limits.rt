@@ -11,7 +11,7 @@ use pw_base::{
 };
 
 /// What the epochs so far add up to.
-#[derive(Clone, Copy, Debug, PartialEq, Eq, Drop)]
+#[derive(Clone, Copy, Debug, Drop)]
 pub struct Sums {
     /// Events: in each cycle two of each active node and three more.
     pub events: u64,

@@ -1,7 +1,7 @@
 //! What lines have said of a node, beside its ports.
 
 /// What lines have said of a node so far, and what epochs have done with it.
-#[derive(Clone, Copy, Debug, PartialEq, Eq, Drop)]
+#[derive(Clone, Copy, Drop)]
 pub struct Standing {
     /// A line has made it.
     pub there: bool,

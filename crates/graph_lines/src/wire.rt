@@ -3,7 +3,7 @@
 use pw_base::PortId;
 
 /// A link that is there, and how many buffers it has.
-#[derive(Clone, Copy, Debug, PartialEq, Eq, Drop)]
+#[derive(Clone, Copy, Debug, Drop)]
 pub struct Wire {
     pub from: PortId,
     pub to: PortId,

@@ -8,7 +8,7 @@ use crate::standing::Standing;
 use pw_base::{DUMMY, Kind};
 
 /// A node that may drive, and its priority.
-#[derive(Clone, Copy, Debug, PartialEq, Eq, Drop)]
+#[derive(Clone, Copy, Drop)]
 pub struct Candidate {
     pub node: u32,
     pub priority: u32,
