@@ -48,7 +48,7 @@ pub fn control_rounds(alloc: Global, n: usize, repeats: u32) -> Result<u32, Memo
     let mut sum: u32 = 0;
     for _ in 0..repeats {
         match controls_of(alloc, &sequence) {
-            Ok(points) => sum = sum.wrapping_add(points.items.len() as u32),
+            Ok(points) => sum = sum.wrapping_add((points.items.len() % 4096) as u32),
             Err(ControlFault::Memory) => return Err(Memory),
             Err(_fault) => {}
         }
@@ -72,15 +72,36 @@ fn automate(alloc: Global, sequence: &Pod, s: &[i16], to: &mut [i16]) -> Result<
     }
 }
 
+// The same stream again and again, each time another one.
+fn automate_again(
+    alloc: Global,
+    sequence: &Pod,
+    repeats: u32,
+    s: &mut [i16],
+    to: &mut [i16],
+) -> Result<(), Memory>
+    requires lengths { length s.old ≡ length to.old }
+    requires whole { length s.old % 2 ≡ 0 }
+{
+    for _ in 0..repeats {
+        automate(alloc, sequence, s, to)?;
+        stir(s);
+    }
+    Ok(())
+}
+
 /// Takes a stereo row of `n` samples through 10,000 points.
 pub fn automate_rounds(alloc: Global, n: usize, repeats: u32) -> Result<u32, Memory> {
     let frames = n / 2;
     let sequence = sequence_of(alloc, POINTS, frames)?;
     let mut s = row_of(alloc, frames * 2)?;
     let mut to = Items::filled(alloc, frames * 2, 0)?;
-    for _ in 0..repeats {
-        automate(alloc, &sequence, s.as_slice(), to.as_mut_slice())?;
-        stir(s.as_mut_slice());
-    }
+    automate_again(
+        alloc,
+        &sequence,
+        repeats,
+        s.as_mut_slice(),
+        to.as_mut_slice(),
+    )?;
     Ok(checksum(to.as_slice()))
 }
