@@ -22,6 +22,7 @@ use Rattle.graph_script.specs.Limits.{cycles_limit}
 use Rattle.graph_script.specs.Checked.{no_args, one_arg, two_args, three_args, five_args, number_arg, integer_arg, list_arg, file_arg}
 use Rattle.graph_script.specs.Nodes.{new_arg, node_arg, port_arg, kind_at, port_called, output_called, input_called, endpoint_arg, may_drive}
 use Rattle.graph_script.specs.Earlier.{is_linked, is_epoch, epochs_so_far, saying, making_epoch, making}
+use Rattle.graph_script.specs.FileNodes as files
 use Rattle.graph_script.specs.NodeCommands as nodes
 use Rattle.graph_script.specs.PortCommands as ports
 use Rattle.graph_script.specs.GraphCommands as graph
@@ -91,9 +92,9 @@ making_epoch-fits reading command said e range there none ports =
     saying-fits reading command said room.1 range there none ports (λ yes. ltb-true _ _ room.0)
 
 -- each command that makes a node
-source-fits : (reading : Reading) (words : List (List ℕ)) (said : Said) → nodes.source_of reading words ≡ Ok said → IsFit reading said
+source-fits : (reading : Reading) (words : List (List ℕ)) (said : Said) → files.source_of reading words ≡ Ok said → IsFit reading said
 source-fits reading words said e =
-    let new = from_bind (nodes.node_and_file reading words) _ said e in
+    let new = from_bind (files.node_and_file reading words) _ said e in
     let args = from_bind (two_args words) _ new.0 new.1 in
     let node = from_bind (new_arg reading args.0.0) _ new.0 args.2 in
     let file = from_bind (file_arg args.0.1) _ new.0 node.2 in
@@ -102,9 +103,9 @@ source-fits reading words said e =
     subst (λ (n : ℕ × List ℕ × List ℕ). new_arg reading n.1 ≡ Ok n.0) same node.1 in
     making-fits reading (C.Source new.0.0 new.0.2) new.0.1 K.Source said new.0.0 is_new new.2 tt refl (omega arith) (λ ks. tt) refl
 
-sink-fits : (reading : Reading) (words : List (List ℕ)) (said : Said) → nodes.sink_of reading words ≡ Ok said → IsFit reading said
+sink-fits : (reading : Reading) (words : List (List ℕ)) (said : Said) → files.sink_of reading words ≡ Ok said → IsFit reading said
 sink-fits reading words said e =
-    let new = from_bind (nodes.node_and_file reading words) _ said e in
+    let new = from_bind (files.node_and_file reading words) _ said e in
     let args = from_bind (two_args words) _ new.0 new.1 in
     let node = from_bind (new_arg reading args.0.0) _ new.0 args.2 in
     let file = from_bind (file_arg args.0.1) _ new.0 node.2 in

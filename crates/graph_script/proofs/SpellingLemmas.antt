@@ -22,6 +22,7 @@ use Rattle.graph_script.specs.Limits.{cycles_limit, file_bytes_limit}
 use Rattle.graph_script.specs.Checked.{no_args, one_arg, two_args, three_args, five_args, number_arg, integer_arg, list_arg, file_arg}
 use Rattle.graph_script.specs.Nodes.{new_arg, node_arg, port_arg, kind_at, output_called, input_called, endpoint_arg, may_drive}
 use Rattle.graph_script.specs.Earlier.{is_linked, epochs_so_far, saying, making_epoch, making}
+use Rattle.graph_script.specs.FileNodes as files
 use Rattle.graph_script.specs.NodeCommands as nodes
 use Rattle.graph_script.specs.PortCommands as ports
 use Rattle.graph_script.specs.GraphCommands as graph
@@ -180,7 +181,7 @@ pub record IsFiled (reading : Reading) (words : List (List ℕ)) (new : ℕ × L
   pub words_are : words ≡ new.1 ∷ new.2 ∷ []
 
 node_and_file-IsFiled : (reading : Reading) (words : List (List ℕ)) (new : ℕ × List ℕ × List ℕ)
-    → nodes.node_and_file reading words ≡ Ok new → IsFiled reading words new
+    → files.node_and_file reading words ≡ Ok new → IsFiled reading words new
 node_and_file-IsFiled reading words new e =
     let args = from_bind (two_args words) _ new e in
     let node = from_bind (new_arg reading args.0.0) _ new args.2 in
@@ -192,17 +193,17 @@ node_and_file-IsFiled reading words new e =
     })
 
 source-spelled : (reading : Reading) (names : List (List ℕ)) (kinds : List Kind) (words : List (List ℕ)) (said : Said)
-    → nodes.source_of reading words ≡ Ok said → IsFrontAfter reading said names kinds → IsSpelled names kinds N.Source words said
+    → files.source_of reading words ≡ Ok said → IsFrontAfter reading said names kinds → IsSpelled names kinds N.Source words said
 source-spelled reading names kinds words said e front =
-    let new = from_bind (nodes.node_and_file reading words) _ said e in
+    let new = from_bind (files.node_and_file reading words) _ said e in
     let filed = node_and_file-IsFiled reading words new.0 new.1 in
     making-spelled reading names kinds (C.Source new.0.0 new.0.2) new.0.1 K.Source words said new.0.0 N.Source filed.node new.2 front refl
     (λ named. (λ i. named i ∷ new.0.2 ∷ []) ∙ sym filed.words_are)
 
 sink-spelled : (reading : Reading) (names : List (List ℕ)) (kinds : List Kind) (words : List (List ℕ)) (said : Said)
-    → nodes.sink_of reading words ≡ Ok said → IsFrontAfter reading said names kinds → IsSpelled names kinds N.Sink words said
+    → files.sink_of reading words ≡ Ok said → IsFrontAfter reading said names kinds → IsSpelled names kinds N.Sink words said
 sink-spelled reading names kinds words said e front =
-    let new = from_bind (nodes.node_and_file reading words) _ said e in
+    let new = from_bind (files.node_and_file reading words) _ said e in
     let filed = node_and_file-IsFiled reading words new.0 new.1 in
     making-spelled reading names kinds (C.Sink new.0.0 new.0.2) new.0.1 K.Sink words said new.0.0 N.Sink filed.node new.2 front refl
     (λ named. (λ i. named i ∷ new.0.2 ∷ []) ∙ sym filed.words_are)

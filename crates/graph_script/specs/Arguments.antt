@@ -1,4 +1,5 @@
--- Arguments of commands: numbers, lists, names and endpoints, each one word. The forms are this project's.
+-- Arguments of commands: numbers, lists, names and endpoints, each one word. The forms are this
+-- project's.
 use Rattle.std.specs.Prelude.{ℕ, ◌+◌, ◌-◌, ◌*◌, ◌==◌, ◌&&◌, ◌||◌, Bool, false, not, List, [], ◌∷◌, length, fold, Option, Some}
 use Rattle.std.specs.Prelude.{None, option_map, is_some, nat_le, ℤ, pos, neg_ℤ, map, if◌then◌else◌}
 use Rattle.std.specs.List.{list_all, slice_split}
@@ -18,7 +19,8 @@ is_letter b = is_within 0x61 0x7A b
 -- digits, at least one, the first not 0 unless it is alone
 abbrev pub is_numeral : List ℕ → Bool
 is_numeral [] = false
-is_numeral (first ∷ rest) = list_all is_digit (first ∷ rest) && (not (first == 0x30) || length rest == 0)
+is_numeral (first ∷ rest) =
+    list_all is_digit (first ∷ rest) && (not (first == 0x30) || length rest == 0)
 
 -- the number that digits name, in base 10
 abbrev pub digits_number : List ℕ → ℕ
@@ -27,7 +29,8 @@ digits_number digits = fold (λ n b. n * 10 + (b - 0x30)) 0 digits
 -- a number without sign, from low to high
 abbrev pub number_of : ℕ → ℕ → List ℕ → Option ℕ
 number_of low high word =
-    if is_numeral word && is_within low high (digits_number word) then Some (digits_number word) else None
+    if is_numeral word && is_within low high (digits_number word)
+    then Some (digits_number word) else None
 
 -- a number up to high, or a minus sign and such a number that is not 0
 abbrev pub integer_of : ℕ → List ℕ → Option ℤ
@@ -55,7 +58,8 @@ is_name_byte b = is_letter b || is_digit b || b == 0x5F
 
 abbrev pub is_node_name : List ℕ → Bool
 is_node_name [] = false
-is_node_name (first ∷ rest) = is_letter first && nat_le (length rest) name_rest_limit && list_all is_name_byte rest
+is_node_name (first ∷ rest) =
+    is_letter first && nat_le (length rest) name_rest_limit && list_all is_name_byte rest
 
 -- an endpoint is parted by one dot: what stands before it and after it
 abbrev pub is_dot : ℕ → Bool

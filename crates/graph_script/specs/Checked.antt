@@ -1,4 +1,5 @@
--- Checked values: a value, or why its line is at fault, found step by step. The whys are this project's.
+-- Checked values: a value, or why its line is at fault, found step by step. The whys are this
+-- project's.
 use Rattle.std.specs.Prelude.{ℕ, List, [], ◌∷◌, length, ok_or, Result, Ok, Err, nat_le, ℤ}
 use Rattle.std.specs.Prelude.{if◌then◌else◌}
 use Rattle.graph_script.specs.declared.fault.ScriptWhy.{ScriptWhy}
@@ -11,7 +12,8 @@ Checked A = Result A ScriptWhy
 
 -- one step, and then what follows from it; the first why stays
 infixl 10 ◌>>=◌
-abbrev pub ◌>>=◌ : {A B : Type 0} → Result A ScriptWhy → (A → Result B ScriptWhy) → Result B ScriptWhy
+abbrev pub ◌>>=◌ : {A B : Type 0} → Result A ScriptWhy → (A → Result B ScriptWhy)
+    → Result B ScriptWhy
 (Ok x) >>= f = f x
 (Err why) >>= f = Err why
 
@@ -46,7 +48,8 @@ abbrev pub five_args : List (List ℕ) → Checked (List ℕ × List ℕ × List
 five_args [] = Err W.Arguments
 five_args (a ∷ more) = checked_map (λ rest. (a, rest.0, rest.1, rest.2, rest.3)) (four_args more)
 
--- a number from low to high, one that may have a sign, and a list of channels: its form or its range may be wrong
+-- a number from low to high, one that may have a sign, and a list of channels: its form or its
+-- range may be wrong
 abbrev pub number_arg : ℕ → ℕ → List ℕ → Checked ℕ
 number_arg low high word = ok_or (number_of low high word) W.Number
 

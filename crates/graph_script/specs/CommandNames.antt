@@ -43,4 +43,5 @@ time_command_called word =
 -- the command of this name, if there is one
 abbrev pub command_called : List ℕ → Option Name
 command_called word =
-    option_or (node_command_called word) (option_or (graph_command_called word) (time_command_called word))
+    option_or (node_command_called word)
+    (option_or (graph_command_called word) (time_command_called word))

@@ -1,4 +1,5 @@
--- The word that names a command. The words are this project's; `driver`, `link` and `node` are PipeWire's.
+-- The word that names a command. The words are this project's; `driver`, `link` and `node` are
+-- PipeWire's.
 use Rattle.std.specs.Prelude.{ℕ, List, codes}
 use Rattle.graph_script.specs.declared.name.Name.{Name}
 use Rattle.graph_script.specs.declared.name.Name.TheVariants as N

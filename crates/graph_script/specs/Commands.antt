@@ -1,4 +1,5 @@
--- The meaning of a line's words, by what the lines before it have said. The commands are this project's.
+-- The meaning of a line's words, by what the lines before it have said. The commands are this
+-- project's.
 use Rattle.std.specs.Prelude.{ℕ, List, [], ◌∷◌, ok_or, Err}
 use Rattle.graph_script.specs.declared.fault.ScriptWhy.TheVariants as W
 use Rattle.graph_script.specs.declared.name.Name.{Name}
@@ -7,6 +8,7 @@ use Rattle.graph_script.specs.declared.reading.Said.{Said}
 use Rattle.graph_script.specs.declared.reading.Reading.{Reading}
 use Rattle.graph_script.specs.Checked.{Checked, ◌>>=◌}
 use Rattle.graph_script.specs.CommandNames.{command_called}
+use Rattle.graph_script.specs.FileNodes as files
 use Rattle.graph_script.specs.NodeCommands as nodes
 use Rattle.graph_script.specs.PortCommands as ports
 use Rattle.graph_script.specs.GraphCommands as graph
@@ -14,14 +16,14 @@ use Rattle.graph_script.specs.GraphCommands as graph
 -- the meaning of a command with these arguments
 unfoldable pub meaning_of_command : Reading → Name → List (List ℕ) → Checked Said
 meaning_of_command reading N.Quantum words = graph.quantum_of reading words
-meaning_of_command reading N.Source words = nodes.source_of reading words
+meaning_of_command reading N.Source words = files.source_of reading words
 meaning_of_command reading N.Square words = nodes.square_of reading words
 meaning_of_command reading N.Gain words = nodes.gain_of reading words
 meaning_of_command reading N.Mix2 words = nodes.mix2_of reading words
 meaning_of_command reading N.Delay words = nodes.delay_of reading words
 meaning_of_command reading N.Map words = nodes.map_of reading words
 meaning_of_command reading N.Split words = nodes.split_of reading words
-meaning_of_command reading N.Sink words = nodes.sink_of reading words
+meaning_of_command reading N.Sink words = files.sink_of reading words
 meaning_of_command reading N.Meter words = nodes.meter_of reading words
 meaning_of_command reading N.Driver words = graph.driver_of reading words
 meaning_of_command reading N.Loop words = graph.loop_of reading words

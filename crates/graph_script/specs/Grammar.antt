@@ -1,4 +1,5 @@
--- The grammar of a script: the meaning of each line by the lines before it, and the first line at fault.
+-- The grammar of a script: the meaning of each line by the lines before it, and the first line at
+-- fault.
 use Rattle.std.specs.Prelude.{◌≡◌, ℕ, ◌+◌, not, List, [], ◌∷◌, ◌++◌, Option, Some, None, option_map, option_to_list, Result, Ok, Err}
 use Rattle.std.specs.Prelude.{if◌then◌else◌}
 use Rattle.std.specs.List.{list_all}
@@ -37,7 +38,8 @@ reading_with number reading (Ok said) = Ok (reading_after number reading said)
 reading_with number reading (Err why) = Err (F.At number why)
 
 -- what comes after lines that were read; a fault stays
-abbrev pub and_then : Result Reading ScriptFault → (Reading → Result Script ScriptFault) → Result Script ScriptFault
+abbrev pub and_then : Result Reading ScriptFault → (Reading → Result Script ScriptFault)
+    → Result Script ScriptFault
 and_then (Ok reading) next = next reading
 and_then (Err fault) next = Err fault
 
@@ -45,7 +47,8 @@ and_then (Err fault) next = Err fault
 unfoldable pub script_from : ℕ → Reading → List (List ℕ) → Result Script ScriptFault
 script_from number reading [] = Ok reading.script
 script_from number reading (line ∷ lines) =
-    and_then (reading_with number reading (meaning_of_line reading line)) (λ next. script_from (number + 1) next lines)
+    and_then (reading_with number reading (meaning_of_line reading line))
+    (λ next. script_from (number + 1) next lines)
 
 abbrev pub start : Reading
 start = record { script = record { lines = []; names = [] }; kinds = [] }

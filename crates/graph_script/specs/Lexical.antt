@@ -1,4 +1,5 @@
--- Lexical form of a script: lines, and words parted by blanks. The bytes are ASCII; the form is this project's.
+-- Lexical form of a script: lines, and words parted by blanks. The bytes are ASCII; the form is
+-- this project's.
 use Rattle.std.specs.Prelude.{ℕ, ◌==◌, ◌||◌, ◌&&◌, Bool, true, List, [], ◌∷◌, length, filter, nat_lt, nat_le, slice_index}
 use Rattle.std.specs.List.{slice_split}
 
@@ -14,7 +15,8 @@ is_line_feed b = b == 0x0A
 abbrev pub is_blank : ℕ → Bool
 is_blank b = (b == 0x09) || (b == 0x0D) || (b == 0x20)
 
--- the lines, each ended by a line feed or by the end; what stands after a last line feed is an empty line
+-- the lines, each ended by a line feed or by the end; what stands after a last line feed is an
+-- empty line
 abbrev pub lines_of : List ℕ → List (List ℕ)
 lines_of bytes = slice_split is_line_feed bytes
 

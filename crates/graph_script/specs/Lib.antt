@@ -5,6 +5,7 @@ pub mod CommandWords
 pub mod Commands
 pub mod Earlier
 pub mod Faults
+pub mod FileNodes
 pub mod Grammar
 pub mod GraphCommands
 pub mod Kinds

@@ -1,4 +1,5 @@
--- The commands that make a node, each by its arguments. The ranges of the numbers are this project's.
+-- The commands that make a node, each by its arguments. The ranges of the numbers are this
+-- project's.
 use Rattle.std.specs.Prelude.{ℕ, List, Ok, pos}
 use Rattle.pw_base.specs.Limits.{rate_limit, channels_limit}
 use Rattle.pw_base.specs.declared.kind.Kind.TheVariants as K
@@ -6,22 +7,9 @@ use Rattle.graph_script.specs.declared.command.Command.TheVariants as C
 use Rattle.graph_script.specs.declared.reading.Said.{Said}
 use Rattle.graph_script.specs.declared.reading.Reading.{Reading}
 use Rattle.graph_script.specs.Limits.{period_limit, amp_limit, gain_limit, delay_limit}
-use Rattle.graph_script.specs.Checked.{Checked, ◌>>=◌, one_arg, two_args, three_args, five_args, number_arg, integer_arg, list_arg, file_arg}
+use Rattle.graph_script.specs.Checked.{Checked, ◌>>=◌, one_arg, two_args, three_args, five_args, number_arg, integer_arg, list_arg}
 use Rattle.graph_script.specs.Nodes.{new_arg}
 use Rattle.graph_script.specs.Earlier.{making}
-
--- a new node with a file: its number, its name and the file
-abbrev pub node_and_file : Reading → List (List ℕ) → Checked (ℕ × List ℕ × List ℕ)
-node_and_file reading words = do
-  args ← two_args words
-  node ← new_arg reading args.0
-  file ← file_arg args.1
-  Ok (node, args.0, file)
-
-abbrev pub source_of : Reading → List (List ℕ) → Checked Said
-source_of reading words = do
-  new ← node_and_file reading words
-  making reading (C.Source new.0 new.2) new.1 K.Source
 
 abbrev pub square_of : Reading → List (List ℕ) → Checked Said
 square_of reading words = do
@@ -31,7 +19,8 @@ square_of reading words = do
   channels ← number_arg 1 channels_limit args.2
   period ← number_arg 1 period_limit args.3
   amp ← number_arg 0 amp_limit args.4
-  making reading (C.Square node rate channels period (pos amp)) args.0 (K.Square rate channels period (pos amp))
+  making reading (C.Square node rate channels period (pos amp)) args.0
+      (K.Square rate channels period (pos amp))
 
 abbrev pub gain_of : Reading → List (List ℕ) → Checked Said
 gain_of reading words = do
@@ -74,11 +63,6 @@ split_of reading words = do
   name ← one_arg words
   node ← new_arg reading name
   making reading (C.Split node) name K.Split
-
-abbrev pub sink_of : Reading → List (List ℕ) → Checked Said
-sink_of reading words = do
-  new ← node_and_file reading words
-  making reading (C.Sink new.0 new.2) new.1 K.Sink
 
 abbrev pub meter_of : Reading → List (List ℕ) → Checked Said
 meter_of reading words = do

@@ -1,4 +1,5 @@
--- Nodes and ports that the lines so far have made, by name. The order of the whys is this project's.
+-- Nodes and ports that the lines so far have made, by name. The order of the whys is this
+-- project's.
 use Rattle.std.specs.Prelude.{ℕ, ◌+◌, ◌||◌, Bool, true, false, not, List, ◌++◌, length, Option, option_map, is_some, ok_or, Ok, Err}
 use Rattle.std.specs.Prelude.{position, slice_index_or, bytes_eq, codes, if◌then◌else◌}
 use Rattle.pw_base.specs.declared.ids.PortId.{PortId}
@@ -30,7 +31,8 @@ new_arg reading word =
 -- the name of a node that is there: its form, then the node
 abbrev pub node_arg : Reading → List ℕ → Checked ℕ
 node_arg reading word =
-    if not (is_node_name word) then Err W.NameForm else ok_or (node_called reading word) W.NameUnknown
+    if not (is_node_name word) then Err W.NameForm
+    else ok_or (node_called reading word) W.NameUnknown
 
 -- the number of a port of this name, of an output, and of an input
 abbrev pub port_called : Kind → List ℕ → Option ℕ

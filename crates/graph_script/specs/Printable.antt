@@ -23,4 +23,5 @@ AreFrom number (line ∷ lines) = (number ≤ line.line) × AreFrom line.line li
 abbrev pub AreWritable : List (List ℕ) → List Kind → List Line → Type 0
 AreWritable names kinds [] = Unit {0}
 AreWritable names kinds (line ∷ lines) =
-    HasNodes (length names) line.command × HasPorts kinds line.command × AreWritable names kinds lines
+    HasNodes (length names) line.command × HasPorts kinds line.command
+    × AreWritable names kinds lines

@@ -1,4 +1,4 @@
--- The text of a script: each command on the line of its number, words parted by one space. The form is this project's.
+-- The text of a script: each command on the line of its number. The form is this project's.
 use Rattle.std.specs.Prelude.{ℕ, ◌-◌, List, [], ◌∷◌, ◌++◌, map, decimal, slice_index_or, replicate}
 use Rattle.std.specs.Fmt.{signed_decimal}
 use Rattle.std.specs.List.{join_with_byte}
@@ -30,20 +30,27 @@ abbrev pub args_of : List (List ℕ) → List Kind → Command → List (List �
 args_of names kinds (C.Quantum n) = decimal n ∷ []
 args_of names kinds (C.Source node file) = node_word names node ∷ file ∷ []
 args_of names kinds (C.Square node rate channels period amp) =
-    node_word names node ∷ decimal rate ∷ decimal channels ∷ decimal period ∷ signed_decimal amp ∷ []
+    node_word names node ∷ decimal rate ∷ decimal channels ∷ decimal period
+    ∷ signed_decimal amp ∷ []
 args_of names kinds (C.Gain node g) = node_word names node ∷ signed_decimal g ∷ []
-args_of names kinds (C.Mix2 node ga gb) = node_word names node ∷ signed_decimal ga ∷ signed_decimal gb ∷ []
+args_of names kinds (C.Mix2 node ga gb) =
+    node_word names node ∷ signed_decimal ga ∷ signed_decimal gb ∷ []
 args_of names kinds (C.Delay node frames) = node_word names node ∷ decimal frames ∷ []
-args_of names kinds (C.Map node channels list) = node_word names node ∷ decimal channels ∷ list_word list ∷ []
+args_of names kinds (C.Map node channels list) =
+    node_word names node ∷ decimal channels ∷ list_word list ∷ []
 args_of names kinds (C.Split node) = node_word names node ∷ []
 args_of names kinds (C.Sink node file) = node_word names node ∷ file ∷ []
 args_of names kinds (C.Meter node) = node_word names node ∷ []
 args_of names kinds (C.Driver node priority) = node_word names node ∷ decimal priority ∷ []
 args_of names kinds (C.Loop node k) = node_word names node ∷ decimal k ∷ []
-args_of names kinds (C.Offer port file) = node_word names port.node ∷ port_word kinds port ∷ file ∷ []
-args_of names kinds (C.Buffers port n) = node_word names port.node ∷ port_word kinds port ∷ decimal n ∷ []
-args_of names kinds (C.Link from to) = endpoint_word names kinds from ∷ endpoint_word names kinds to ∷ []
-args_of names kinds (C.Unlink from to) = endpoint_word names kinds from ∷ endpoint_word names kinds to ∷ []
+args_of names kinds (C.Offer port file) =
+    node_word names port.node ∷ port_word kinds port ∷ file ∷ []
+args_of names kinds (C.Buffers port n) =
+    node_word names port.node ∷ port_word kinds port ∷ decimal n ∷ []
+args_of names kinds (C.Link from to) =
+    endpoint_word names kinds from ∷ endpoint_word names kinds to ∷ []
+args_of names kinds (C.Unlink from to) =
+    endpoint_word names kinds from ∷ endpoint_word names kinds to ∷ []
 args_of names kinds (C.On node) = node_word names node ∷ []
 args_of names kinds (C.Off node) = node_word names node ∷ []
 args_of names kinds (C.Cycles n) = decimal n ∷ []
@@ -62,9 +69,9 @@ line_text names kinds command = command_word command ++ spaced (args_of names ki
 abbrev pub text_from : List (List ℕ) → List Kind → ℕ → List Line → List ℕ
 text_from names kinds number [] = []
 text_from names kinds number (line ∷ lines) =
-    replicate (line.line - number) 0x0A ++ line_text names kinds line.command ++ text_from names kinds line.line lines
+    replicate (line.line - number) 0x0A ++ line_text names kinds line.command
+    ++ text_from names kinds line.line lines
 
--- the kinds of the nodes that lines make, by number
 abbrev pub kinds_of : List Line → List Kind
 kinds_of lines = map (λ m. m.1) (made_of lines)
 

@@ -1,4 +1,5 @@
--- What is kept beside the lines so far, and a new node before memory is taken for its name. This project's.
+-- What is kept beside the lines so far, and a new node before memory is taken for its name. This
+-- project's.
 use Rattle.std.specs.Prelude.{ℕ, ◌+◌, ◌<◌, Bool, true, List, All, Some, Result, Ok, Err, set, if◌then◌else◌}
 use Rattle.graph_script.specs.declared.fault.ScriptFault.{ScriptFault}
 use Rattle.graph_script.specs.declared.command.Command.{Command}
@@ -11,7 +12,8 @@ use Rattle.graph_script.specs.Earlier.{is_epoch}
 
 -- what a line says that makes this node
 abbrev pub said_of : NewNode → Said
-said_of new = record { command = new.command; made = Some (record { name = new.name.now; kind = new.kind }) }
+said_of new =
+    record { command = new.command; made = Some (record { name = new.name.now; kind = new.kind }) }
 
 -- the nodes that are linked after a command
 abbrev pub marked : List Bool → Command → List Bool

@@ -1,26 +1,28 @@
 -- Ranges: what holds of the numbers, the names and the nodes of every script that is read.
-use Rattle.std.specs.Prelude.{ℕ, ◌<◌, ◌≤◌, length, All, IsTrue, pos, ◌≤ℤ◌}
+use Rattle.std.specs.Prelude.{ℕ, ◌<◌, ◌≤◌, length, All, IsTrue}
 use Rattle.pw_base.specs.SoundShape.{IsBetween}
-use Rattle.pw_base.specs.KindRanges.{IsGain}
+use Rattle.pw_base.specs.Limits.{dummy_node, quantum_limit, buffers_limit}
+use Rattle.pw_base.specs.declared.kind.Kind.TheVariants as K
+use Rattle.pw_base.specs.KindRanges as kinds
 use Rattle.graph_script.specs.declared.command.Command.{Command}
 use Rattle.graph_script.specs.declared.command.Command.TheVariants as C
 use Rattle.graph_script.specs.declared.script.Script.{Script}
 use Rattle.graph_script.specs.Arguments.{is_node_name}
+use Rattle.graph_script.specs.Limits.{priority_limit, loop_limit, cycles_limit}
 
--- the numbers of a command
+-- the numbers of a command: those of a new node are in the ranges of its kind
 abbrev pub IsInRange : Command → Type 0
-IsInRange (C.Quantum n) = IsBetween 1 8192 n
+IsInRange (C.Quantum n) = IsBetween 1 quantum_limit n
 IsInRange (C.Square node rate channels period amp) =
-    IsBetween 1 384000 rate × IsBetween 1 8 channels × IsBetween 1 1000000 period × (pos 0 ≤ℤ amp) × (amp ≤ℤ pos 32767)
-IsInRange (C.Gain node g) = IsGain g
-IsInRange (C.Mix2 node ga gb) = IsGain ga × IsGain gb
-IsInRange (C.Delay node frames) = frames ≤ 65536
-IsInRange (C.Map node channels list) = IsBetween 1 8 channels × IsBetween 1 8 (length list)
-    × All (λ n. n < channels) list
-IsInRange (C.Driver node priority) = priority ≤ 1000000
-IsInRange (C.Loop node k) = k ≤ 15
-IsInRange (C.Buffers port n) = IsBetween 1 8 n
-IsInRange (C.Cycles n) = IsBetween 1 1000000 n
+    kinds.IsInRange (K.Square rate channels period amp)
+IsInRange (C.Gain node g) = kinds.IsInRange (K.Gain g)
+IsInRange (C.Mix2 node ga gb) = kinds.IsInRange (K.Mix2 ga gb)
+IsInRange (C.Delay node frames) = kinds.IsInRange (K.Delay frames)
+IsInRange (C.Map node channels list) = kinds.IsInRange (K.Map channels list)
+IsInRange (C.Driver node priority) = priority ≤ priority_limit
+IsInRange (C.Loop node k) = k ≤ loop_limit
+IsInRange (C.Buffers port n) = IsBetween 1 buffers_limit n
+IsInRange (C.Cycles n) = IsBetween 1 cycles_limit n
 IsInRange _ = Unit {0}
 
 -- the nodes of a command are among so many
@@ -45,10 +47,11 @@ HasNodes count (C.Off node) = node < count
 HasNodes count (C.Async node) = node < count
 HasNodes count _ = Unit {0}
 
--- lines are numbered from 1, their numbers are in range and their nodes are there; at most 63 names, each well formed
+-- lines are numbered from 1, their numbers are in range and their nodes are there;
+-- at most 63 names, each well formed
 pub record HasRanges (script : Script) : Type 0 where
   pub numbered : All (λ l. 1 ≤ l.line) script.lines
   pub ranges : All (λ l. IsInRange l.command) script.lines
   pub nodes : All (λ l. HasNodes (length script.names) l.command) script.lines
-  pub count : length script.names ≤ 63
+  pub count : length script.names ≤ dummy_node
   pub names : All (λ name. IsTrue (is_node_name name)) script.names

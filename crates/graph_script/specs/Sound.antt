@@ -18,7 +18,8 @@ pub record IsSound (reading : Reading) : Type 0 where
   pub named : length reading.kinds ≡ length reading.script.names
   pub ports : All (λ l. HasPorts reading.kinds l.command) reading.script.lines
 
--- and what is kept beside them is read off them: which nodes a link line names, and the number of epochs
+-- and what is kept beside them is read off them: which nodes a link line names, and the number of
+-- epochs
 pub record IsTied (progress : Progress) : Type 0 where
   pub sound : IsSound progress.reading
   pub length : length progress.linked ≡ 64

@@ -2,8 +2,9 @@
 
 use pw_base::{Items, PortId, Text};
 
-/// A command. A node is its number, which for a command that makes one is the new node's; a port is numbered within
-/// its node, inputs first. The ranges of the numbers are those that the grammar allows.
+/// A command. A node is its number, which for a command that makes one is the new node's; a port is
+/// numbered within its node, inputs first. The ranges of the numbers are those that the grammar
+/// allows.
 #[derive(Debug, Drop)]
 pub enum Command {
     /// Frames in a cycle, 1 to 8192.
@@ -15,8 +16,8 @@ pub enum Command {
         node: u32,
         file: Text,
     },
-    /// A square wave: frames a second, 1 to 384000; channels, 1 to 8; frames in a period, 1 to 1000000;
-    /// amplitude, 0 to 32767.
+    /// A square wave: frames a second, 1 to 384000; channels, 1 to 8; frames in a period, 1 to
+    /// 1000000; amplitude, 0 to 32767.
     Square {
         node: u32,
         rate: u32,
@@ -40,7 +41,8 @@ pub enum Command {
         node: u32,
         frames: u32,
     },
-    /// Output channel j is the input channel at place j of the list: 1 to 8 numbers below `channels`, which is 1 to 8.
+    /// Output channel j is the input channel at place j of the list: 1 to 8 numbers below
+    /// `channels`, which is 1 to 8.
     Map {
         node: u32,
         channels: u32,

@@ -2,7 +2,7 @@
 ghost use Rattle.std.specs.Prelude.{◌≡◌, IfOk};
 ghost use Rattle.graph_script.specs.Lexical.{words_of};
 ghost use Rattle.graph_script.specs.Checked.{checked_map};
-ghost use Rattle.graph_script.specs.NodeCommands as commands;
+ghost use Rattle.graph_script.specs.FileNodes as commands;
 ghost use Rattle.graph_script.specs.Sound.{IsSound};
 
 use crate::arguments::two_words;

@@ -16,6 +16,7 @@ mod name;
 mod names;
 mod new_nodes;
 mod node_commands;
+mod node_text;
 mod nodes;
 mod numbers;
 mod parsing;

@@ -9,7 +9,8 @@ use crate::numbers::number;
 use pw_base::{CHANNELS_LIMIT, Items, Memory, next_piece};
 use std::alloc::Global;
 
-// The numbers of a list, each below `channels`, parted by single commas: at most as many as a port has channels.
+// The numbers of a list, each below `channels`, parted by single commas: at most as many as a port
+// has channels.
 fn channel_list(alloc: Global, word: &[u8], channels: u32) -> Result<Option<Items<u32>>, Memory>
     requires some { 1 ≤ channels }
     requires few { channels ≤ channels_limit }

@@ -1,4 +1,5 @@
-//! The commands that make a node without a file and without a list: their meaning takes no memory but for the name.
+//! The commands that make a node without a file and without a list: their meaning takes no memory
+//! but for the name.
 ghost use Rattle.std.specs.Prelude.{◌≡◌};
 ghost use Rattle.graph_script.specs.Lexical.{words_of};
 ghost use Rattle.graph_script.specs.Checked.{checked_map};

@@ -13,15 +13,17 @@ use crate::script::Script;
 use pw_base::next_piece;
 use std::alloc::Global;
 
-/// The script that the bytes are, or the first line at fault with its why, at most 1048576 bytes. Lines end at a line
-/// feed or at the end; a line whose first word begins with `#`, or that has no word, says nothing. What each command
-/// takes, and in which order a line's faults are found, stands in docs/FORMATS.md. Takes memory for what is read, and
-/// time in proportion to the bytes: a line looks at the names of at most 63 nodes, and at no line before it.
+/// The script that the bytes are, or the first line at fault with its why, at most 1048576 bytes.
+/// Lines end at a line feed or at the end; a line whose first word begins with `#`, or that has no
+/// word, says nothing. What each command takes, and in which order a line's faults are found,
+/// stands in docs/FORMATS.md. Takes memory for what is read, and time in proportion to the bytes: a
+/// line looks at the names of at most 63 nodes, and at no line before it.
 #[tactic(auto, unfolding(crate::specs::Grammar::script_of))]
 pub fn parse(alloc: Global, bytes: &[u8]) -> Result<Script, ScriptFault>
     requires { length bytes.now ≤ script_bytes_limit }
     ensures parsed { IsRead (script_of bytes.now) result }
-    // What holds of every script: its numbers, names and nodes; its ports; its lines and names together.
+    // What holds of every script: its numbers, names and nodes; its ports; its lines and names
+    // together.
     ensures ranges { IfOk result HasRanges }
     ensures kinds { IfOk result HasKinds }
     ensures order { IfOk result HasOrder }

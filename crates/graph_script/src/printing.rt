@@ -108,9 +108,10 @@ fn put_lines(text: &mut Text, names: &[Text], kinds: &[Kind], lines: &[Line]) ->
     }
 }
 
-/// The text of a script: each command on the line of its number, words parted by one space, empty lines between, and no
-/// line feed after the last. It is read as the same script, line numbers included, and no text that is read as this
-/// script is shorter. The script is one that `parse` answered. Takes memory for the text, and time in proportion to it.
+/// The text of a script: each command on the line of its number, words parted by one space, empty
+/// lines between, and no line feed after the last. It is read as the same script, line numbers
+/// included, and no text that is read as this script is shorter. The script is one that `parse`
+/// answered. Takes memory for the text, and time in proportion to it.
 pub fn text_of(alloc: Global, script: &Script) -> Result<Text, Memory>
     requires { IsParsed script.now }
     ensures text { IfOk result (λ text. text ≡ text_of_script script.now) }

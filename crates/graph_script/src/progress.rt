@@ -1,4 +1,5 @@
-//! What the lines so far have said, and what is kept beside it so that no line looks at all lines before it.
+//! What the lines so far have said, and what is kept beside it so that no line looks at all lines
+//! before it.
 ghost use Rattle.std.specs.Prelude.{◌≡◌, ◌<◌, ◌≤◌, IfOk, Some};
 ghost use Rattle.graph_script.specs.Earlier.{is_linked, is_epoch};
 ghost use Rattle.graph_script.specs.Grammar.{start, reading_after};
@@ -93,7 +94,8 @@ fn extended(reading: Reading, number: u32, said: Said) -> Result<Reading, Memory
 pub(crate) fn advanced(progress: Progress, number: u32, said: Said) -> Result<Progress, Memory>
     requires there { HasNodes 64 said.command }
     requires few { progress.epochs ≤ epochs_limit }
-    ensures said { IfOk result (λ after. after.reading ≡ reading_after number progress.reading (Some said)) }
+    ensures said { IfOk result (λ after.
+        after.reading ≡ reading_after number progress.reading (Some said)) }
     ensures linked { IfOk result (λ after. after.linked ≡ marked progress.linked said.command) }
     ensures epochs { IfOk result (λ after. after.epochs ≡ counted progress.epochs said.command) }
 {

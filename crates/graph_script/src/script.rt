@@ -4,7 +4,8 @@ ghost use Rattle.std.specs.Prelude.{◌≡◌};
 use crate::command::Command;
 use pw_base::{Items, Text};
 
-/// A line of a script that says a command. Lines are numbered from 1; those that say nothing count too.
+/// A line of a script that says a command. Lines are numbered from 1; those that say nothing count
+/// too.
 #[derive(Debug, Drop)]
 pub struct Line {
     pub line: u32,

@@ -1,4 +1,5 @@
-//! One word of a line at the end of a text, with a space before it. After `Memory` the text has a part of it.
+//! One word of a line at the end of a text, with a space before it. After `Memory` the text has a
+//! part of it.
 #![tactic(auto, using(crate::proofs::SpacedLemmas::spaces))]
 
 ghost use Rattle.std.specs.Prelude.{◌≡◌, ◌<◌, ◌≤◌, ◌++◌, ◌∷◌, [], decimal, length, OnOk};
@@ -63,7 +64,8 @@ pub(crate) fn put_endpoint(
     requires there { port.node < length kinds.now }
     requires named { port.node < length names.now }
     requires port { port.port < port_count (kind_in kinds.now port.node) }
-    ensures { OnOk result (text.new ≡ text.old ++ spaced (endpoint_word names.now kinds.now port ∷ [])) }
+    ensures { OnOk result (text.new ≡ text.old
+        ++ spaced (endpoint_word names.now kinds.now port ∷ [])) }
 {
     put_node(text, names, port.node)?;
     text.extend(b".")?;

@@ -1,0 +1,27 @@
+-- The commands that make a node with a file, each by its arguments. The form is this project's.
+use Rattle.std.specs.Prelude.{ℕ, List, Ok}
+use Rattle.pw_base.specs.declared.kind.Kind.TheVariants as K
+use Rattle.graph_script.specs.declared.command.Command.TheVariants as C
+use Rattle.graph_script.specs.declared.reading.Said.{Said}
+use Rattle.graph_script.specs.declared.reading.Reading.{Reading}
+use Rattle.graph_script.specs.Checked.{Checked, ◌>>=◌, two_args, file_arg}
+use Rattle.graph_script.specs.Nodes.{new_arg}
+use Rattle.graph_script.specs.Earlier.{making}
+
+-- a new node with a file: its number, its name and the file
+abbrev pub node_and_file : Reading → List (List ℕ) → Checked (ℕ × List ℕ × List ℕ)
+node_and_file reading words = do
+  args ← two_args words
+  node ← new_arg reading args.0
+  file ← file_arg args.1
+  Ok (node, args.0, file)
+
+abbrev pub source_of : Reading → List (List ℕ) → Checked Said
+source_of reading words = do
+  new ← node_and_file reading words
+  making reading (C.Source new.0 new.2) new.1 K.Source
+
+abbrev pub sink_of : Reading → List (List ℕ) → Checked Said
+sink_of reading words = do
+  new ← node_and_file reading words
+  making reading (C.Sink new.0 new.2) new.1 K.Sink
