@@ -21,25 +21,25 @@ use Rattle.graph_lines.specs.Start.{kinds_of}
 abbrev pub grown : ℕ → Command → ℕ
 grown count command = option_map_or (λ m. m.0 + 1) (made_by command) count
 
--- from so many nodes on, a line makes the next node or none, and names only nodes that are there then
+-- from so many nodes on, each line makes the next node or none, and names nodes that are there then
 abbrev pub NamesMade : ℕ → List Line → Type 0
 NamesMade count [] = Unit {0}
 NamesMade count (l ∷ ls) = IfSome (made_by l.command) (λ m. m.0 ≡ count)
     × HasNodes (grown count l.command) l.command × NamesMade (grown count l.command) ls
 
--- the numbers, the nodes and the ports of each line are in range and there, where the nodes have these kinds
+-- the numbers of each line are in range, and its nodes and ports are there, of these kinds
 pub record AreLinesOf (kinds : List Kind) (lines : List Line) : Type 0 where
   pub ranges : All (λ l. IsInRange l.command) lines
   pub ports : All (λ l. HasPorts kinds l.command) lines
   pub nodes : All (λ l. HasNodes (length kinds) l.command) lines
 
--- the nodes of the lines by number, whose ports have own offers of their kinds, no format and no count of buffers
+-- the nodes of the lines by number; their ports have own offers, no format and no count of buffers
 pub record AreScriptPorts (lines : List Line) (nodes : List Node) : Type 0 where
   pub kinds : HasKinds nodes (kinds_of lines)
   pub sound : AreSoundNodes nodes
   pub unused : All (λ n. All (λ s. (s.format ≡ None) × (s.buffers ≡ None)) n.ports) nodes
 
--- a wave is that of a source, with the one rate and the one number of channels of its port's own offer
+-- a wave is that of a source, with the one rate and the one number of channels that its port offers
 pub record IsWaveFor (nodes : List Node) (wave : WavIn) : Type 0 where
   pub source : kind_of nodes wave.node ≡ Some Source
   pub rate : AtPort nodes (record { node = wave.node; port = 0 })
