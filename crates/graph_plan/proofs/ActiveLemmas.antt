@@ -1,18 +1,17 @@
 -- Which nodes are active in an epoch: the driver, and nodes with a live link.
 use Rattle.std.proofs.Common.{◌≡◌, ◌⊎◌, inl, inr, ℕ, ◌<◌, ◌≤◌, List, [], ◌∷◌, length, get_or, Bool, true, false, Option, Some, None}
-use Rattle.std.proofs.Common.{◌&&◌, refl, sym, ap, ◌∙◌, subst, arith}
-use Rattle.std.specs.Prelude.{Contains, if◌then◌else◌}
+use Rattle.std.proofs.Common.{◌&&◌, refl, sym, ◌∙◌, subst, arith}
+use Rattle.std.specs.Prelude.{if◌then◌else◌}
 use Rattle.std.proofs.lemmas.Bool.{and_parts, cases_lt, cases_eq}
 use Rattle.std.proofs.lemmas.Option.{none-some}
 use Rattle.std.proofs.lemmas.List.{get_or_past}
-use Rattle.std.proofs.lemmas.List.Elements.{All-contains}
 use Rattle.pw_base.specs.declared.kind.Kind.{Kind}
 use Rattle.pw_base.specs.declared.kind.Kind.TheVariants.{Source, Square, Gain, Mix2, Delay, Map, Split, Sink, Meter, Dummy}
 use Rattle.pw_base.specs.KindPorts.{input_count, port_count}
 use Rattle.pw_base.specs.KindRanges.{IsSinkOrMeter}
 use Rattle.graph_lines.specs.declared.standing.Standing.{Standing}
 use Rattle.graph_lines.specs.declared.wire.Wire.{Wire}
-use Rattle.graph_lines.specs.Activity.{standing, is_live, live_wires, Joins, IsWalk, HasWire, may_drive, candidacy, IsDriver, IsActive}
+use Rattle.graph_lines.specs.Activity.{standing, is_live, live_wires, IsWalk, HasWire, may_drive, IsDriver, IsActive}
 use Rattle.graph_plan.proofs.ListLemmas.{origin}
 
 -- an active node is the driver, or has a live link

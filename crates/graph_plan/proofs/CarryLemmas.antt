@@ -1,7 +1,6 @@
 -- A line that makes no epoch keeps a sound graph sound, where its nodes carry on.
-use Rattle.std.proofs.Common.{◌≡◌, ℕ, ◌<◌, List, length, map, sym, ap, ◌∙◌, subst}
+use Rattle.std.proofs.Common.{◌≡◌, ℕ, ◌<◌, List, length, map, sym, ◌∙◌, subst}
 use Rattle.std.specs.List.{All}
-use Rattle.pw_base.specs.declared.ids.PortId.{PortId}
 use Rattle.pw_base.specs.declared.plan.LinkLine.{LinkLine}
 use Rattle.pw_base.specs.declared.plan.Plan.{Plan}
 use Rattle.port_model.specs.declared.port_state.Node.{Node}
@@ -14,7 +13,7 @@ use Rattle.graph_lines.specs.Activity.{standing}
 use Rattle.graph_lines.specs.Forms.{HasKinds}
 use Rattle.graph_plan.specs.Reaching.{IsOrdered}
 use Rattle.graph_plan.specs.SoundWires.{AreSoundWires}
-use Rattle.graph_plan.specs.Remembering.{IsLike, IsLastNaming, Remembers, KeepsIt, RemembersSinks, CarriesOn}
+use Rattle.graph_plan.specs.Remembering.{IsLastNaming, Remembers, RemembersSinks, CarriesOn}
 use Rattle.graph_plan.specs.SoundGraph.{AreMade, IsPast, IsJoining, IsSoundGraph}
 
 module _ (nodes : List Node) (said : List Standing) (nodes' : List Node) (said' : List Standing)

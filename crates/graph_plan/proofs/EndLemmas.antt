@@ -1,5 +1,5 @@
 -- How a node ends: a sink or meter has an input, and other kinds end without a form.
-use Rattle.std.proofs.Common.{◌≡◌, inl, inr, ℕ, ◌<◌, List, length, get_or, map, Option, Some, None, true, false, refl, sym, subst, arith}
+use Rattle.std.proofs.Common.{◌≡◌, inl, inr, ℕ, ◌<◌, List, get_or, Some, None, true, false, refl, sym, subst, arith}
 use Rattle.pw_base.specs.declared.kind.Kind.{Kind}
 use Rattle.pw_base.specs.declared.kind.Kind.TheVariants.{Source, Square, Gain, Mix2, Delay, Map, Split, Sink, Meter, Dummy}
 use Rattle.pw_base.specs.KindPorts.{port_count}
@@ -9,7 +9,7 @@ use Rattle.port_model.specs.PortState.{IsPort}
 use Rattle.graph_lines.specs.declared.graph.Graph.{Graph}
 use Rattle.graph_lines.specs.Activity.{may_drive}
 use Rattle.graph_lines.specs.Forms.{HasKinds, IsFormIn}
-use Rattle.graph_plan.specs.PlanOf.{HasEnd, IsEndOf}
+use Rattle.graph_plan.specs.PlanOf.{IsEndOf}
 use Rattle.graph_plan.proofs.ActiveLemmas.{end_drives}
 use Rattle.graph_plan.proofs.FormLemmas.{port_count_is}
 

@@ -1,8 +1,6 @@
 -- A line that makes an epoch keeps a sound graph sound.
-use Rattle.std.proofs.Common.{◌≡◌, inl, inr, ℕ, zero, suc, ◌+◌, ◌*◌, ◌<◌, ◌≤◌, List, [], ◌∷◌, ◌++◌, length, Option, Some, None}
+use Rattle.std.proofs.Common.{◌≡◌, inl, inr, ℕ, zero, suc, ◌+◌, ◌≤◌, List, [], ◌∷◌, ◌++◌, length, None}
 use Rattle.std.proofs.Common.{refl, sym, ap, ◌∙◌, subst, arith}
-use Rattle.std.specs.Prelude.{sum_by}
-use Rattle.std.specs.List.{All}
 use Rattle.std.proofs.lemmas.Bool.{cases_lt}
 use Rattle.std.proofs.lemmas.Option.{none-some}
 use Rattle.std.proofs.lemmas.List.Elements.{All-push}
@@ -10,12 +8,11 @@ use Rattle.std.proofs.lemmas.List.Sums.{sum_by_push}
 use Rattle.pw_base.specs.declared.plan.Epoch.{Epoch}
 use Rattle.pw_base.specs.declared.plan.Plan.{Plan}
 use Rattle.pw_base.specs.PlanSums.{epoch_events}
-use Rattle.wav_files.specs.declared.wav.WavIn.{WavIn}
 use Rattle.link_negotiation.specs.Links.{is_marked}
 use Rattle.graph_lines.specs.declared.graph.Graph.{Graph}
 use Rattle.graph_lines.specs.declared.graph.Stepped.TheVariants as T
 use Rattle.graph_lines.specs.declared.standing.Standing.{Standing}
-use Rattle.graph_lines.specs.Activity.{standing, nobody}
+use Rattle.graph_lines.specs.Activity.{standing}
 use Rattle.graph_lines.specs.Epochs.{IsEpochOf}
 use Rattle.graph_lines.specs.EpochLines.{IsAfter, RunsFor}
 use Rattle.graph_lines.specs.Sums.{sink_samples, block_bytes, sums_with, passed}

@@ -1,9 +1,9 @@
 -- A sound graph has one epoch of a number of cycles, and one graph after it.
-use Rattle.std.proofs.Common.{◌≡◌, ◌⊎◌, inl, inr, ℕ, zero, suc, ◌+◌, ◌<◌, ◌≤◌, max, List, [], ◌∷◌, ◌++◌, length, get_or, map, filter, Bool, true, false}
-use Rattle.std.proofs.Common.{not, ◌&&◌, ◌||◌, ◌==◌, Option, Some, None, refl, sym, ap, ap₂, ◌∙◌, subst, arith}
-use Rattle.std.specs.Prelude.{Contains, IsTrue, ◌↔◌, nat_lt, fold}
-use Rattle.std.specs.List.{All, AllPairs, AllZip, list_any}
-use Rattle.std.proofs.lemmas.Bool.{or_cases, and_parts, ltb-true, eqb-true, cases_lt, false_from_ne_true, both_ways}
+use Rattle.std.proofs.Common.{◌≡◌, ◌⊎◌, inl, inr, ℕ, zero, suc, ◌+◌, ◌<◌, max, List, [], ◌∷◌, ◌++◌, length, filter, Bool, true, false}
+use Rattle.std.proofs.Common.{not, ◌&&◌, ◌||◌, ◌==◌, Some, refl, sym, ap, ◌∙◌, subst, arith}
+use Rattle.std.specs.Prelude.{Contains, IsTrue, nat_lt, fold}
+use Rattle.std.specs.List.{AllZip, list_any}
+use Rattle.std.proofs.lemmas.Bool.{or_cases, and_parts, ltb-true, eqb-true, both_ways}
 use Rattle.std.proofs.lemmas.Option.{none-some, same_Some}
 use Rattle.std.proofs.lemmas.List.{same_lists, get_or_default}
 use Rattle.std.proofs.lemmas.List.Elements.{filter_agree}
@@ -20,19 +20,18 @@ use Rattle.pw_base.specs.declared.limit.Which.{Which}
 use Rattle.pw_base.specs.Dependencies.{nodes_of, joins}
 use Rattle.pw_base.specs.Pools.{is_before}
 use Rattle.pw_base.specs.SoundShape.{IsCounted}
-use Rattle.pw_base.specs.PlanForms.{HasForm}
 use Rattle.wav_files.specs.declared.wav.WavIn.{WavIn}
 use Rattle.graph_lines.specs.declared.graph.Graph.{Graph}
 use Rattle.graph_lines.specs.declared.graph.Stepped.{Stepped}
 use Rattle.graph_lines.specs.declared.graph.Stepped.TheVariants as T
 use Rattle.graph_lines.specs.declared.standing.Standing.{Standing}
 use Rattle.graph_lines.specs.declared.wire.Wire.{Wire}
-use Rattle.graph_lines.specs.Activity.{standing, nobody, is_live, live_wires, candidacy, IsFirst, IsDriver, IsActive}
-use Rattle.graph_lines.specs.Draining.{rest_cycles, drain_cycles}
-use Rattle.graph_lines.specs.Epochs.{is_asynchronous, has_node, is_used, IsLinkOf, IsEpochOf}
+use Rattle.graph_lines.specs.Activity.{standing, nobody, is_live, live_wires, IsDriver, IsActive}
+use Rattle.graph_lines.specs.Draining.{rest_cycles}
+use Rattle.graph_lines.specs.Epochs.{is_used, IsLinkOf, IsEpochOf}
 use Rattle.graph_lines.specs.EpochLines.{cycles_in, is_heard, StandsAfter, IsAfter, IsTaken, RunsFor, DrainsFor}
 use Rattle.graph_lines.specs.Searching.{is_in}
-use Rattle.graph_lines.specs.Sums.{sums_with, passed}
+use Rattle.graph_lines.specs.Sums.{sums_with}
 use Rattle.graph_plan.specs.SoundGraph.{IsSoundGraph}
 use Rattle.graph_plan.proofs.FormLemmas.{one_form}
 use Rattle.graph_plan.proofs.SoundGraphLemmas.{one_channels}

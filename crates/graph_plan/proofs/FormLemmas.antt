@@ -1,26 +1,26 @@
 -- Forms of ports: a port has one at most; ports of a node that has a format share what their kind shares.
-use Rattle.std.proofs.Common.{◌≡◌, ◌⊎◌, inl, inr, ℕ, zero, suc, ◌+◌, ◌<◌, List, [], ◌∷◌, length, get_or, map, Option, Some, None, Bool, true, false}
-use Rattle.std.proofs.Common.{refl, sym, ap, ◌∙◌, subst, arith}
-use Rattle.std.specs.Prelude.{slice_get, IfSome, IsSome}
-use Rattle.std.specs.Option.{option_map_or, option_or}
-use Rattle.std.proofs.lemmas.Option.{same_Some, none-some, slice_get_within}
+use Rattle.std.proofs.Common.{◌≡◌, ℕ, zero, suc, List, [], ◌∷◌, get_or, map, Option, Some, None, true}
+use Rattle.std.proofs.Common.{refl, sym, ap, ◌∙◌}
+use Rattle.std.specs.Prelude.{slice_get, IsSome}
+use Rattle.std.specs.Option.{option_or}
+use Rattle.std.proofs.lemmas.Option.{same_Some, none-some}
 use Rattle.pod_codec.specs.declared.pod.Pod.{Pod}
 use Rattle.pw_base.specs.declared.ids.PortId.{PortId}
 use Rattle.pw_base.specs.declared.kind.Kind.{Kind}
 use Rattle.pw_base.specs.declared.kind.Kind.TheVariants.{Source, Square, Gain, Mix2, Delay, Map, Split, Sink, Meter, Dummy}
 use Rattle.pw_base.specs.KindPorts.{port_count, input_count}
-use Rattle.pw_base.specs.KindRanges.{IsInRange, IsSinkOrMeter, SharesChannels, MayHaveRate, MayHaveChannels, IsChannels}
+use Rattle.pw_base.specs.KindRanges.{SharesChannels}
 use Rattle.format_filter.specs.declared.format.Format.{Format}
 use Rattle.port_model.specs.declared.port_state.PortState.{PortState}
 use Rattle.port_model.specs.declared.port_state.Node.{Node}
-use Rattle.port_model.specs.PortState.{IsPort, IsInput, IsOutput, AtPort, port_count_of, input_count_of}
-use Rattle.port_model.specs.Offers.{int_of, is_shared_key, FixesChannels}
-use Rattle.port_model.specs.Forms.{value_at, shared_value, value_of, HasForm}
-use Rattle.port_model.specs.SoundPorts.{IsNumber, IsTaken, IsSoundPort, IsSoundNode, AreSoundNodes}
-use Rattle.port_model.proofs.NodeLemmas.{at_place, at_port, port_at}
+use Rattle.port_model.specs.PortState.{IsPort, port_count_of, input_count_of}
+use Rattle.port_model.specs.Offers.{int_of, is_shared_key}
+use Rattle.port_model.specs.Forms.{value_at, shared_value, value_of}
+use Rattle.port_model.specs.SoundPorts.{IsSoundNode, AreSoundNodes}
+use Rattle.port_model.proofs.NodeLemmas.{at_port, port_at}
 use Rattle.port_model.proofs.ValueLemmas.{own_value, free_value, some_is}
 use Rattle.port_model.proofs.TakingLemmas.{shared_at}
-use Rattle.link_negotiation.proofs.GivingLemmas.{IsThere, there}
+use Rattle.link_negotiation.proofs.GivingLemmas.{there}
 use Rattle.graph_lines.specs.Forms.{IsFormOf, FormIn}
 use Rattle.graph_plan.specs.SoundWires.{HasFormatOf, IsFormatted}
 use Rattle.graph_plan.specs.Remembering.{HasSomeFormat}

@@ -1,8 +1,8 @@
 -- A `link` line keeps a sound graph sound.
-use Rattle.std.proofs.Common.{◌≡◌, ◌⊎◌, inl, inr, ℕ, ◌<◌, ◌≤◌, List, [], ◌∷◌, ◌++◌, length, get_or, map, Option, Some, None, Bool, true, false}
-use Rattle.std.proofs.Common.{refl, sym, ap, ◌∙◌, subst, arith, length-append, pos}
-use Rattle.std.specs.Prelude.{slice_get, IfSome, Contains}
-use Rattle.std.specs.List.{All, AllPairs, list_any}
+use Rattle.std.proofs.Common.{◌≡◌, ℕ, ◌<◌, List, [], ◌∷◌, ◌++◌, length, get_or, Option, Some, None, true, false}
+use Rattle.std.proofs.Common.{refl, sym, ap, ◌∙◌, subst, arith, length-append}
+use Rattle.std.specs.Prelude.{IfSome, Contains}
+use Rattle.std.specs.List.{All}
 use Rattle.std.proofs.lemmas.Bool.{both_ways, and_from, eq-eqb}
 use Rattle.std.proofs.lemmas.List.{map-append, length-map}
 use Rattle.std.proofs.lemmas.List.Elements.{All-push, All-weaker, Contains-get_or}
@@ -11,8 +11,6 @@ use Rattle.pod_codec.specs.declared.pod.Pod.{Pod}
 use Rattle.pw_base.specs.declared.ids.PortId.{PortId}
 use Rattle.pw_base.specs.declared.plan.LinkLine.{LinkLine}
 use Rattle.pw_base.specs.declared.plan.LineOutcome.{LineOutcome}
-use Rattle.pw_base.specs.declared.kind.Kind.TheVariants.{Dummy}
-use Rattle.pw_base.specs.KindPorts.{input_count, port_count}
 use Rattle.pw_base.specs.SoundShape.{IsBetween}
 use Rattle.pw_base.specs.Pools.{is_same_port}
 use Rattle.format_filter.specs.declared.choice.Choice.{Choice}
@@ -31,26 +29,25 @@ use Rattle.port_model.proofs.OfferLemmas.{between_number}
 use Rattle.link_negotiation.specs.declared.link.Link.{Link}
 use Rattle.link_negotiation.specs.declared.negotiation.Linked.{Linked}
 use Rattle.link_negotiation.specs.declared.negotiation.Linked.TheVariants as L
-use Rattle.link_negotiation.specs.Links.{LinkState, joins, link_of, is_synchronous, synchronous_links, IsReachable, are_linked}
+use Rattle.link_negotiation.specs.Links.{LinkState, joins, link_of, is_synchronous, are_linked}
 use Rattle.link_negotiation.specs.LinkOutcome.{given, formatted, IsNewLink, IsLinkOutcome, LeavesLink}
 use Rattle.link_negotiation.specs.Negotiation.{IsCount, MeetsIn, SharesBuffers}
-use Rattle.link_negotiation.proofs.GivingLemmas.{IsThere, there}
+use Rattle.link_negotiation.proofs.GivingLemmas.{there}
 use Rattle.graph_lines.specs.declared.graph.Graph.{Graph}
 use Rattle.graph_lines.specs.declared.graph.Stepped.TheVariants as T
 use Rattle.graph_lines.specs.declared.standing.Standing.{Standing}
 use Rattle.graph_lines.specs.declared.wire.Wire.{Wire}
-use Rattle.graph_lines.specs.Activity.{standing}
 use Rattle.graph_lines.specs.Forms.{HasKinds}
 use Rattle.graph_lines.specs.LinkLines.{IsRecorded, NotesAlone, LinksLine}
 use Rattle.graph_plan.specs.Reaching.{IsOrdered}
 use Rattle.graph_plan.specs.SoundWires.{IsSoundWire, AreApart, AreSoundWires}
 use Rattle.graph_plan.specs.Remembering.{Stands, CarriesOn}
-use Rattle.graph_plan.specs.SoundGraph.{AreMade, IsJoining, IsSoundGraph}
+use Rattle.graph_plan.specs.SoundGraph.{IsJoining, IsSoundGraph}
 use Rattle.graph_plan.proofs.ListLemmas.{any_of, map_changed, stands_for}
 use Rattle.graph_plan.proofs.RankLemmas.{filtered_rank}
 use Rattle.graph_plan.proofs.SoundGraphLemmas.{port_there}
 use Rattle.graph_plan.proofs.MadeLemmas.{IsMade, link_made}
-use Rattle.graph_plan.proofs.CarryLemmas.{IsRebuilt, rebuilt_sound}
+use Rattle.graph_plan.proofs.CarryLemmas.{rebuilt_sound}
 
 -- nodes that stay as they are carry on
 pub carries : (nodes nodes' : List Node) (said : List Standing)

@@ -1,8 +1,7 @@
 -- Both ports of a link that is made have a format, of one rate and one number of channels.
-use Rattle.std.proofs.Common.{◌≡◌, ℕ, List, Option, Some, None, refl, sym, ap, ◌∙◌, subst, arith}
-use Rattle.std.specs.Prelude.{slice_get, IfSome, IsSome}
+use Rattle.std.proofs.Common.{◌≡◌, ℕ, List, Option, Some, None, refl, sym, ap, ◌∙◌, subst}
+use Rattle.std.specs.Prelude.{slice_get, IfSome}
 use Rattle.std.specs.Option.{option_or}
-use Rattle.std.proofs.lemmas.Option.{same_Some, none-some}
 use Rattle.pod_codec.specs.declared.pod.Pod.{Pod}
 use Rattle.pw_base.specs.declared.ids.PortId.{PortId}
 use Rattle.pw_base.specs.KindRanges.{MayHaveRate, MayHaveChannels}
@@ -19,10 +18,10 @@ use Rattle.port_model.proofs.SharingLemmas.{within_number}
 use Rattle.link_negotiation.specs.declared.common_formats.Negotiated.TheVariants as negotiated
 use Rattle.link_negotiation.specs.Negotiation.{Negotiates, Agrees}
 use Rattle.link_negotiation.specs.LinkOutcome.{given, formatted, MayBeGiven}
-use Rattle.link_negotiation.proofs.GivingLemmas.{IsThere, there, elsewhere, gives_own, gives_other, output_agrees, input_agrees}
+use Rattle.link_negotiation.proofs.GivingLemmas.{there, elsewhere, gives_own, gives_other, output_agrees, input_agrees}
 use Rattle.graph_plan.specs.SoundWires.{HasFormatOf, IsFormatted}
 use Rattle.graph_plan.specs.Remembering.{Stands}
-use Rattle.graph_plan.proofs.PortLemmas.{with_port_keeps, port_stays, IsGiven, port_given}
+use Rattle.graph_plan.proofs.PortLemmas.{with_port_keeps, port_stays, port_given}
 
 -- the numbers of a format
 pub record HasNumbers (rate channels : ℕ) (format : Format) : Type 0 where

@@ -1,5 +1,5 @@
 -- What later epochs need of the epoch that a line makes of a sound graph, and of what is said after it.
-use Rattle.std.proofs.Common.{◌≡◌, inl, inr, ℕ, zero, suc, ◌<◌, ◌≤◌, List, [], ◌∷◌, length, get_or, Bool, true, false, ◌&&◌, ◌||◌, ◌==◌}
+use Rattle.std.proofs.Common.{◌≡◌, inl, inr, ℕ, ◌<◌, ◌≤◌, length, get_or, true, false, ◌||◌, ◌==◌}
 use Rattle.std.proofs.Common.{refl, sym, ap, ◌∙◌, subst, arith}
 use Rattle.std.specs.Prelude.{Contains}
 use Rattle.std.specs.List.{list_any}
@@ -14,14 +14,13 @@ use Rattle.pw_base.specs.declared.plan.PortForm.{PortForm}
 use Rattle.pw_base.specs.KindPorts.{input_count, port_count}
 use Rattle.pw_base.specs.PlanForms.{kind_at, HasForm}
 use Rattle.pw_base.specs.PlanSums.{is_sink}
-use Rattle.port_model.specs.PortState.{IsInput}
 use Rattle.graph_lines.specs.declared.graph.Graph.{Graph}
 use Rattle.graph_lines.specs.declared.standing.Standing.{Standing}
 use Rattle.graph_lines.specs.Activity.{standing, nobody}
 use Rattle.graph_lines.specs.Epochs.{IsEpochOf}
-use Rattle.graph_lines.specs.EpochLines.{is_heard, StandsAfter, IsAfter}
+use Rattle.graph_lines.specs.EpochLines.{is_heard, IsAfter}
 use Rattle.graph_lines.specs.Forms.{FormIn}
-use Rattle.graph_lines.specs.Fresh.{HasFirstInput, ChannelsIn, IsFresh}
+use Rattle.graph_lines.specs.Fresh.{ChannelsIn}
 use Rattle.graph_plan.specs.Remembering.{IsLike, Stands, KeepsIt}
 use Rattle.graph_plan.specs.NextEpoch.{Changes, IsNext, KeepsSinksOn}
 use Rattle.graph_plan.specs.SoundGraph.{IsSoundGraph}

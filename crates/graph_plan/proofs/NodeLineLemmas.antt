@@ -1,10 +1,9 @@
 -- Lines that change what is said of one node, `async` lines and `buffers` lines keep a sound graph sound.
-use Rattle.std.proofs.Common.{◌≡◌, ◌≢◌, ◌⊎◌, inl, inr, ℕ, zero, suc, ◌+◌, ◌<◌, ◌≤◌, List, [], ◌∷◌, length, get_or, map, Bool, true, false, not, ◌&&◌, ◌||◌, ◌==◌}
-use Rattle.std.proofs.Common.{Option, Some, None, refl, sym, ap, ◌∙◌, subst, arith}
+use Rattle.std.proofs.Common.{◌≡◌, ◌≢◌, ◌⊎◌, inl, inr, ℕ, ◌<◌, ◌≤◌, List, length, Bool, true, false, not, ◌&&◌, ◌||◌, ◌==◌}
+use Rattle.std.proofs.Common.{refl, sym, ap, ◌∙◌, subst, arith}
 use Rattle.std.proofs.Math.ListN.{set, length-set}
 use Rattle.std.specs.Prelude.{Contains}
-use Rattle.std.specs.List.{All, list_any}
-use Rattle.std.proofs.lemmas.Bool.{cases_eq, cases_lt, both_ways, or_left, or_right, eq-eqb, and_parts, not-true, and_from, not_from_false}
+use Rattle.std.proofs.lemmas.Bool.{cases_eq, cases_lt, both_ways, or_left, or_right, eq-eqb}
 use Rattle.std.proofs.lemmas.List.{length-map, get_or-set_same, get_or-set_other}
 use Rattle.std.proofs.lemmas.List.Elements.{All-weaker}
 use Rattle.pw_base.specs.declared.ids.PortId.{PortId}
@@ -19,15 +18,14 @@ use Rattle.graph_lines.specs.declared.graph.Graph.{Graph}
 use Rattle.graph_lines.specs.declared.standing.Standing.{Standing}
 use Rattle.graph_lines.specs.declared.wire.Wire.{Wire}
 use Rattle.graph_lines.specs.Activity.{standing, nobody}
-use Rattle.graph_lines.specs.Lines.{with_node, mark, Marks}
-use Rattle.graph_plan.specs.Reaching.{HasRank, IsOrdered}
-use Rattle.graph_plan.specs.SoundWires.{HasFormatOf, IsSoundWire, AreSoundWires}
-use Rattle.graph_plan.specs.Remembering.{Stands, CarriesOn}
+use Rattle.graph_lines.specs.Lines.{mark, Marks}
+use Rattle.graph_plan.specs.Reaching.{IsOrdered}
+use Rattle.graph_plan.specs.SoundWires.{HasFormatOf, IsSoundWire}
+use Rattle.graph_plan.specs.Remembering.{CarriesOn}
 use Rattle.graph_plan.specs.SoundGraph.{AreMade, IsSoundGraph}
 use Rattle.graph_plan.proofs.ListLemmas.{origin, kept, any_of, map_changed}
-use Rattle.graph_plan.proofs.RankLemmas.{fewer_rank}
 use Rattle.graph_plan.proofs.PortLemmas.{with_port_keeps, buffered_stands}
-use Rattle.graph_plan.proofs.CarryLemmas.{IsRebuilt, rebuilt_sound}
+use Rattle.graph_plan.proofs.CarryLemmas.{rebuilt_sound}
 use Rattle.graph_plan.proofs.LinkLineLemmas.{carries}
 
 -- what a line says of a node: nothing of its epochs, and nothing less

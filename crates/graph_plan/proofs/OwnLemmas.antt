@@ -1,5 +1,5 @@
 -- No line changes what a port offers by itself; so the form of a source is that of its wave.
-use Rattle.std.proofs.Common.{◌≡◌, ◌⊎◌, inl, inr, ℕ, zero, suc, ◌<◌, ◌≤◌, List, [], ◌∷◌, length, get_or, map, Bool, true, false}
+use Rattle.std.proofs.Common.{◌≡◌, ℕ, zero, suc, ◌<◌, ◌≤◌, List, [], ◌∷◌, get_or, map, Bool, true, false}
 use Rattle.std.proofs.Common.{Option, Some, None, refl, sym, ap, ◌∙◌, subst, arith}
 use Rattle.std.specs.Prelude.{slice_get, IfSome, option_map, if◌then◌else◌}
 use Rattle.std.specs.Option.{option_or, option_map_or}
@@ -13,10 +13,10 @@ use Rattle.format_filter.specs.declared.format.Format.{Format}
 use Rattle.wav_files.specs.declared.wav.WavIn.{WavIn}
 use Rattle.port_model.specs.declared.port_state.PortState.{PortState}
 use Rattle.port_model.specs.declared.port_state.Node.{Node}
-use Rattle.port_model.specs.PortState.{IsPort, AtPort, kind_of, changed, with_port, released, with_released}
+use Rattle.port_model.specs.PortState.{IsPort, AtPort, changed, with_port, released, with_released}
 use Rattle.port_model.specs.Offers.{int_of}
 use Rattle.port_model.specs.Forms.{value_at, shared_value, value_of}
-use Rattle.port_model.specs.SoundPorts.{IsWithin, IsTaken, IsSoundPort, IsSoundNode, AreSoundNodes}
+use Rattle.port_model.specs.SoundPorts.{IsWithin, IsTaken, IsSoundNode, AreSoundNodes}
 use Rattle.port_model.proofs.NodeLemmas.{at_place, at_port}
 use Rattle.port_model.proofs.FormLemmas.{channels_in_range}
 use Rattle.port_model.proofs.SharingLemmas.{shared_origin}

@@ -1,10 +1,9 @@
 -- The epoch that a line makes of a sound graph is sound by itself.
-use Rattle.std.proofs.Common.{◌≡◌, ◌⊎◌, inl, inr, ℕ, ◌+◌, ◌*◌, ◌^◌, ◌<◌, ◌≤◌, List, [], ◌∷◌, length, get_or, map, filter}
-use Rattle.std.proofs.Common.{Bool, true, false, not, ◌&&◌, ◌||◌, Option, Some, None, refl, sym, ap, ◌∙◌, subst, arith}
-use Rattle.std.specs.Prelude.{slice_get, Contains, IsSome}
-use Rattle.std.specs.List.{All, AllPairs, AllZip}
-use Rattle.std.proofs.lemmas.Bool.{and_parts, and_from, or_parts, not_from_false, cases_eq}
-use Rattle.std.proofs.lemmas.List.Elements.{All-contains, Contains-get_or, All-filter}
+use Rattle.std.proofs.Common.{◌≡◌, ◌⊎◌, inl, inr, ℕ, ◌<◌, ◌≤◌, List, length, get_or, filter}
+use Rattle.std.proofs.Common.{false, ◌&&◌, None, sym, ap, ◌∙◌, subst, arith}
+use Rattle.std.specs.Prelude.{Contains, IsSome}
+use Rattle.std.specs.List.{AllPairs}
+use Rattle.std.proofs.lemmas.Bool.{and_parts, and_from, or_parts, not_from_false}
 use Rattle.std.proofs.lemmas.List.Kept.{AllPairs-filter}
 use Rattle.std.proofs.lemmas.List.Sums.{length-filter, count_by-le-length}
 use Rattle.pw_base.specs.declared.ids.PortId.{PortId}
@@ -22,26 +21,21 @@ use Rattle.pw_base.specs.KindRanges.{IsSinkOrMeter, MayHaveRate, MayHaveChannels
 use Rattle.pw_base.specs.LinkOrder.{HasOrder}
 use Rattle.pw_base.specs.PlanForms.{kind_at, HasForm, IsSoundForm, AreShared, IsFormed, HasSoundForms}
 use Rattle.pw_base.specs.PlanFresh.{IsSoundFresh}
-use Rattle.pw_base.specs.PlanSums.{epoch_events}
 use Rattle.pw_base.specs.Pools.{AreAlike, IsPooledShape}
 use Rattle.pw_base.specs.SoundPlan.{HasSoundPlaces}
-use Rattle.pw_base.specs.SoundShape.{IsBetween, IsSoundLink, HasSoundLinks, HasSoundNodes, HasSoundCycles, IsSoundShape}
-use Rattle.pw_base.specs.SoundShape.{AreApart as LinksApart}
+use Rattle.pw_base.specs.SoundShape.{IsBetween, IsSoundLink, HasSoundLinks, HasSoundNodes, HasSoundCycles}
 use Rattle.port_model.specs.declared.port_state.PortState.{PortState}
 use Rattle.port_model.specs.declared.port_state.Node.{Node}
-use Rattle.port_model.specs.PortState.{IsPort, IsInput, AtPort}
-use Rattle.port_model.specs.SoundPorts.{IsSoundNode, IsSoundPort}
+use Rattle.port_model.specs.PortState.{IsPort}
 use Rattle.port_model.proofs.NodeLemmas.{at_port, port_at}
 use Rattle.link_negotiation.specs.declared.link.Link.{Link}
-use Rattle.link_negotiation.specs.Links.{LinkState, link_of, is_synchronous, synchronous_links}
+use Rattle.link_negotiation.specs.Links.{link_of, is_synchronous}
 use Rattle.link_negotiation.proofs.GivingLemmas.{there}
 use Rattle.graph_lines.specs.declared.graph.Graph.{Graph}
-use Rattle.graph_lines.specs.declared.standing.Standing.{Standing}
 use Rattle.graph_lines.specs.declared.wire.Wire.{Wire}
-use Rattle.graph_lines.specs.Activity.{standing, nobody, is_live, live_wires, HasWire}
-use Rattle.graph_lines.specs.Epochs.{is_asynchronous, has_node, is_used, IsLinkOf, IsEpochOf}
+use Rattle.graph_lines.specs.Activity.{standing, is_live, live_wires, HasWire}
+use Rattle.graph_lines.specs.Epochs.{has_node, is_used, IsLinkOf, IsEpochOf}
 use Rattle.graph_lines.specs.Forms.{IsFormOf, FormIn}
-use Rattle.graph_lines.specs.Fresh.{ChannelsIn, IsFresh}
 use Rattle.graph_lines.specs.Sums.{sums_with, passed}
 use Rattle.graph_plan.specs.SoundWires.{IsSoundWire, AreApart}
 use Rattle.graph_plan.specs.Remembering.{IsLike, HasSomeFormat, Stands}
@@ -49,7 +43,7 @@ use Rattle.graph_plan.specs.SoundGraph.{IsSoundPart, IsSoundGraph}
 use Rattle.graph_plan.proofs.ListLemmas.{origin, kept, stands_for, number_found, all_of, pairs_of, zip_length, zip_at, zip_all}
 use Rattle.graph_plan.proofs.FormLemmas.{one_form, port_count_is, input_count_is, kind_at_is, formatted_form, channels_shared}
 use Rattle.graph_plan.proofs.WholeLemmas.{whole_in, shared_in}
-use Rattle.graph_plan.proofs.ActiveLemmas.{active_cases, driver_active, live_is, IsCandidate, driver_cases, end_drives, no_output, there_below}
+use Rattle.graph_plan.proofs.ActiveLemmas.{active_cases, driver_active, live_is, IsCandidate, driver_cases, end_drives, no_output}
 use Rattle.graph_plan.proofs.RangeLemmas.{within_limits}
 use Rattle.graph_plan.proofs.SoundGraphLemmas.{few_nodes, count_within, wire_at, from_there, to_there, wire_format, wire_made, port_there, port_below, form_ranges, fresh_below}
 

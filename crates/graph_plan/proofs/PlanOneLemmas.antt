@@ -1,6 +1,6 @@
 -- One plan is read off a graph, so two answers to a script from one graph are the same.
-use Rattle.std.proofs.Common.{◌≡◌, ◌⊎◌, inl, inr, ℕ, zero, suc, ◌+◌, ◌<◌, List, [], ◌∷◌, length, refl, sym, ap, ◌∙◌, subst, arith}
-use Rattle.std.specs.Prelude.{slice_get, Some, Result, Ok, Err}
+use Rattle.std.proofs.Common.{◌≡◌, inl, inr, ℕ, List, refl, sym, ap, ◌∙◌, subst, arith}
+use Rattle.std.specs.Prelude.{Result, Ok, Err}
 use Rattle.pw_base.specs.declared.kind.Kind.{Kind}
 use Rattle.pw_base.specs.declared.limit.Which.{Which}
 use Rattle.pw_base.specs.declared.plan.Epoch.{Epoch}
@@ -20,7 +20,6 @@ use Rattle.graph_script.specs.Kinds.{HasKinds}
 use Rattle.graph_script.specs.Ranges.{HasRanges}
 use Rattle.graph_lines.specs.Start.{kinds_of, IsStart}
 use Rattle.graph_lines.specs.declared.graph.Graph.{Graph}
-use Rattle.graph_lines.specs.Forms.{FormIn}
 use Rattle.graph_plan.specs.declared.fault.PlanFault.{PlanFault}
 use Rattle.graph_plan.specs.declared.fault.PlanFault.TheVariants as F
 use Rattle.graph_plan.specs.Conditions.{NamesMade, AreScriptPorts}
@@ -32,7 +31,7 @@ use Rattle.graph_plan.specs.Planned.{IsAnswer, IsPlanned}
 use Rattle.graph_plan.specs.SoundGraph.{IsSoundGraph}
 use Rattle.graph_plan.proofs.FormLemmas.{one_form}
 use Rattle.graph_plan.proofs.SortedLemmas.{same_places}
-use Rattle.graph_plan.proofs.StepLemmas.{AreGoodLines, EndsSound, follows_sound}
+use Rattle.graph_plan.proofs.StepLemmas.{AreGoodLines, follows_sound}
 use Rattle.graph_plan.proofs.StepOneLemmas.{follows_one}
 
 module _ (count : ℕ) (g : Graph) (sound : IsSoundGraph count g) (names : List (List ℕ)) where

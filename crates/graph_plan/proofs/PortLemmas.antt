@@ -1,11 +1,9 @@
 -- Forms that stand where one port of a node is changed, and where a node is released that is not theirs.
-use Rattle.std.proofs.Common.{◌≡◌, ◌⊎◌, inl, inr, ℕ, ◌<◌, List, Option, Some, None, Bool, true, false, map, refl, sym, ap, ◌∙◌, subst, arith}
+use Rattle.std.proofs.Common.{◌≡◌, inl, inr, ℕ, List, Option, Some, None, refl, sym, ap, ◌∙◌, subst, arith}
 use Rattle.std.specs.Prelude.{slice_get, IfSome, IsSome}
-use Rattle.std.specs.Option.{option_or}
 use Rattle.std.proofs.lemmas.Option.{same_Some}
 use Rattle.std.proofs.lemmas.Bool.{cases_eq}
 use Rattle.pw_base.specs.declared.ids.PortId.{PortId}
-use Rattle.pw_base.specs.KindRanges.{IsSinkOrMeter}
 use Rattle.pw_base.specs.SoundShape.{IsBetween}
 use Rattle.format_filter.specs.declared.format.Format.{Format}
 use Rattle.port_model.specs.declared.port_state.PortState.{PortState}
@@ -13,14 +11,13 @@ use Rattle.port_model.specs.declared.port_state.Node.{Node}
 use Rattle.port_model.specs.PortState.{IsPort, AtPort, changed, with_port, taking, buffered}
 use Rattle.port_model.specs.SoundPorts.{IsSoundNode, AreSoundNodes, MayTake}
 use Rattle.port_model.proofs.NodeLemmas.{at_place, at_port, port_at, count_kept}
-use Rattle.port_model.proofs.ChangedLemmas.{changed_here, changed_elsewhere, changed_origin}
+use Rattle.port_model.proofs.ChangedLemmas.{changed_here, changed_origin}
 use Rattle.port_model.proofs.ReleaseLemmas.{nodes_buffered}
 use Rattle.port_model.proofs.TakingLemmas.{nodes_taken}
-use Rattle.port_model.proofs.ValueLemmas.{some_of, some_is}
+use Rattle.port_model.proofs.ValueLemmas.{some_is}
 use Rattle.link_negotiation.specs.LinkOutcome.{given, MayBeGiven}
 use Rattle.link_negotiation.proofs.GivingLemmas.{IsThere, there, elsewhere, taken_given, kept_given}
 use Rattle.graph_lines.specs.Forms.{IsFormOf, FormIn}
-use Rattle.graph_plan.specs.SoundWires.{HasFormatOf, IsFormatted}
 use Rattle.graph_plan.specs.Remembering.{HasSomeFormat, Stands}
 use Rattle.graph_plan.proofs.ListLemmas.{changed_keeps}
 use Rattle.graph_plan.proofs.FormLemmas.{IsFormattedNode}

@@ -1,20 +1,18 @@
 -- What is remembered of the epochs so far is kept by one epoch more of the graph that stands.
-use Rattle.std.proofs.Common.{◌≡◌, ◌⊎◌, inl, inr, ℕ, ◌<◌, ◌≤◌, List, [], ◌∷◌, ◌++◌, length, Bool, true, false}
-use Rattle.std.proofs.Common.{refl, sym, ap, ◌∙◌, subst, arith, length-append}
-use Rattle.std.specs.Prelude.{Contains}
+use Rattle.std.proofs.Common.{◌≡◌, inl, inr, ℕ, ◌<◌, ◌≤◌, List, [], ◌∷◌, ◌++◌, length, Bool, true, false}
+use Rattle.std.proofs.Common.{refl, sym, ◌∙◌, subst, arith, length-append}
 use Rattle.std.proofs.lemmas.Option.{slice_get_within}
 use Rattle.std.proofs.lemmas.Bool.{cases_eq, both_ways}
 use Rattle.pw_base.specs.declared.ids.PortId.{PortId}
-use Rattle.pw_base.specs.declared.kind.Kind.TheVariants.{Sink}
 use Rattle.pw_base.specs.declared.plan.Epoch.{Epoch}
 use Rattle.pw_base.specs.declared.plan.Plan.{Plan}
-use Rattle.pw_base.specs.PlanForms.{kind_at, HasForm}
+use Rattle.pw_base.specs.PlanForms.{HasForm}
 use Rattle.pw_base.specs.PlanFresh.{IsEpoch, Names, KeepsForms, KeepsSinks, IsTold}
 use Rattle.port_model.specs.declared.port_state.Node.{Node}
 use Rattle.port_model.specs.SoundPorts.{AreSoundNodes}
 use Rattle.graph_lines.specs.declared.standing.Standing.{Standing}
 use Rattle.graph_lines.specs.Activity.{standing}
-use Rattle.graph_plan.specs.Remembering.{IsQuietFrom, Stands, IsLastNaming, Remembers, KeepsIt, RemembersSinks}
+use Rattle.graph_plan.specs.Remembering.{IsQuietFrom, Stands, IsLastNaming, Remembers, RemembersSinks}
 use Rattle.graph_plan.specs.NextEpoch.{with_epoch, Changes, IsNext, KeepsSinksOn}
 use Rattle.graph_plan.proofs.PlaceLemmas.{parted, lifted, at_last, named_by}
 use Rattle.graph_plan.proofs.FormLemmas.{one_form}

@@ -1,7 +1,7 @@
 -- What a whole script means is sound.
-use Rattle.std.proofs.Common.{◌≡◌, inl, inr, ℕ, zero, suc, ◌+◌, ◌<◌, ◌≤◌, List, [], ◌∷◌, length, get_or, map, Option, Some, None}
-use Rattle.std.proofs.Common.{refl, sym, ap, ◌∙◌, subst, arith, ◌==◌}
-use Rattle.std.specs.Prelude.{slice_get, Result, Ok, Err, IfOk, option_map, count_by}
+use Rattle.std.proofs.Common.{◌≡◌, inl, inr, ℕ, ◌+◌, ◌≤◌, List, [], ◌∷◌, length, get_or, map, Option, Some, None}
+use Rattle.std.proofs.Common.{refl, sym, ap, ◌∙◌, subst, arith}
+use Rattle.std.specs.Prelude.{slice_get, Result, Ok, Err, IfOk, option_map}
 use Rattle.std.specs.List.{All, enumerate_from}
 use Rattle.std.proofs.lemmas.Bool.{cases_lt}
 use Rattle.std.proofs.lemmas.Option.{slice_get-get_or, same_Some, none-some}
@@ -32,9 +32,8 @@ use Rattle.graph_plan.specs.Joining.{JoinsKinds}
 use Rattle.graph_plan.specs.PlanOf.{IsPlanOf}
 use Rattle.graph_plan.specs.Planned.{IsAnswer, IsPlanned}
 use Rattle.graph_plan.specs.SoundGraph.{IsSoundGraph}
-use Rattle.graph_plan.proofs.FitLemmas.{Fits, follows_fit}
+use Rattle.graph_plan.proofs.FitLemmas.{follows_fit}
 use Rattle.graph_plan.proofs.FormLemmas.{kind_at_is}
-use Rattle.graph_plan.proofs.ListLemmas.{all_of}
 use Rattle.graph_plan.proofs.OwnLemmas.{owns, wave_channels}
 use Rattle.graph_plan.proofs.SoundPlanLemmas.{like, plan_sound, plan_joins}
 use Rattle.graph_plan.proofs.StartLemmas.{quantum_ok, first_sound}

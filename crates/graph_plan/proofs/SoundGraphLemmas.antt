@@ -1,6 +1,6 @@
 -- Nodes and links of a sound graph: how many there are, and which have formats.
-use Rattle.std.proofs.Common.{◌≡◌, inl, inr, ℕ, ◌<◌, ◌≤◌, List, length, get_or, map, refl, sym, ap, ◌∙◌, subst, arith}
-use Rattle.std.specs.Prelude.{Contains, slice_get}
+use Rattle.std.proofs.Common.{◌≡◌, inl, inr, ℕ, ◌<◌, ◌≤◌, length, get_or, sym, ap, ◌∙◌, subst, arith}
+use Rattle.std.specs.Prelude.{Contains}
 use Rattle.std.proofs.lemmas.List.{length-map, get_or_past}
 use Rattle.std.proofs.lemmas.Bool.{cases_lt, both_ways}
 use Rattle.std.proofs.lemmas.List.Elements.{All-contains}
@@ -9,9 +9,8 @@ use Rattle.pw_base.specs.declared.kind.Kind.{Kind}
 use Rattle.pw_base.specs.declared.kind.Kind.TheVariants.{Dummy}
 use Rattle.pw_base.specs.KindPorts.{input_count, port_count}
 use Rattle.pw_base.specs.KindRanges.{IsChannels, MayHaveRate, MayHaveChannels}
-use Rattle.port_model.specs.declared.port_state.PortState.{PortState}
 use Rattle.port_model.specs.declared.port_state.Node.{Node}
-use Rattle.port_model.specs.PortState.{IsPort, IsInput}
+use Rattle.port_model.specs.PortState.{IsPort}
 use Rattle.port_model.specs.SoundPorts.{IsSoundNode}
 use Rattle.port_model.proofs.NodeLemmas.{at_place, at_port}
 use Rattle.port_model.proofs.FormLemmas.{rate_in_range, channels_in_range}
@@ -20,11 +19,11 @@ use Rattle.graph_lines.specs.declared.graph.Graph.{Graph}
 use Rattle.graph_lines.specs.declared.wire.Wire.{Wire}
 use Rattle.graph_lines.specs.Activity.{standing, nobody, HasWire}
 use Rattle.graph_lines.specs.Forms.{IsFormOf, FormIn}
-use Rattle.graph_lines.specs.Fresh.{HasFirstInput, ChannelsIn, IsFresh}
+use Rattle.graph_lines.specs.Fresh.{ChannelsIn, IsFresh}
 use Rattle.graph_plan.specs.SoundWires.{IsSoundWire}
 use Rattle.graph_plan.specs.Remembering.{HasSomeFormat}
 use Rattle.graph_plan.specs.SoundGraph.{IsSoundGraph}
-use Rattle.graph_plan.proofs.FormLemmas.{one_form, port_count_is, input_count_is, kind_at_is, formatted_some}
+use Rattle.graph_plan.proofs.FormLemmas.{one_form, port_count_is, kind_at_is, formatted_some}
 use Rattle.graph_plan.proofs.ActiveLemmas.{there_below}
 use Rattle.graph_plan.proofs.RangeLemmas.{few_channels}
 

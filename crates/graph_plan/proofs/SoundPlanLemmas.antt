@@ -1,7 +1,7 @@
 -- The plan that is read off a sound graph is sound.
-use Rattle.std.proofs.Common.{◌≡◌, ◌⊎◌, inl, inr, ℕ, zero, suc, ◌+◌, ◌*◌, ◌<◌, ◌≤◌, List, [], ◌∷◌, length, get_or, map, Bool, true, false}
+use Rattle.std.proofs.Common.{◌≡◌, ◌⊎◌, inl, inr, ℕ, zero, suc, ◌+◌, ◌*◌, ◌<◌, ◌≤◌, List, [], ◌∷◌, length, get_or}
 use Rattle.std.proofs.Common.{Option, Some, None, refl, sym, ap, ◌∙◌, subst, arith}
-use Rattle.std.specs.Prelude.{slice_get, Contains, option_map, unwrap_or, sum_by}
+use Rattle.std.specs.Prelude.{slice_get, option_map, unwrap_or, sum_by}
 use Rattle.std.specs.List.{All, filter}
 use Rattle.std.proofs.lemmas.Option.{none-some, slice_get-get_or, slice_get_within}
 use Rattle.std.proofs.lemmas.List.{get_or_past, length-map}
@@ -11,15 +11,14 @@ use Rattle.pw_base.specs.declared.ids.PortId.{PortId}
 use Rattle.pw_base.specs.declared.kind.Kind.{Kind}
 use Rattle.pw_base.specs.declared.kind.Kind.TheVariants.{Source, Square, Gain, Mix2, Delay, Map, Split, Sink, Meter, Dummy}
 use Rattle.pw_base.specs.declared.plan.Epoch.{Epoch}
-use Rattle.pw_base.specs.declared.plan.LinkLine.{LinkLine}
 use Rattle.pw_base.specs.declared.plan.Plan.{Plan}
 use Rattle.pw_base.specs.declared.plan.PlanNode.{PlanNode}
 use Rattle.pw_base.specs.declared.plan.PortForm.{PortForm}
 use Rattle.pw_base.specs.declared.shape.ShapeLink.{ShapeLink}
 use Rattle.pw_base.specs.KindPorts.{input_count, port_count}
 use Rattle.pw_base.specs.KindRanges.{IsInRange, IsRate, IsChannels, IsSinkOrMeter, MayHaveRate}
-use Rattle.pw_base.specs.PlanForms.{kind_at, HasForm}
-use Rattle.pw_base.specs.PlanFresh.{IsSoundFresh, HasSoundFresh}
+use Rattle.pw_base.specs.PlanForms.{kind_at}
+use Rattle.pw_base.specs.PlanFresh.{HasSoundFresh}
 use Rattle.pw_base.specs.PlanSums.{is_sink, epoch_events, epoch_samples, epoch_bytes}
 use Rattle.pw_base.specs.Pools.{asked}
 use Rattle.pw_base.specs.SoundPlan.{FollowFrom, IsSoundNode, EndsWith, IsSoundEpoch, IsSoundPlan}
@@ -28,14 +27,13 @@ use Rattle.port_model.specs.SoundPorts.{IsSoundNode as IsSoundPorts}
 use Rattle.port_model.proofs.NodeLemmas.{at_place}
 use Rattle.graph_lines.specs.declared.graph.Graph.{Graph}
 use Rattle.graph_lines.specs.Forms.{FormIn}
-use Rattle.graph_lines.specs.Sums.{is_sink_form, sink_samples, block_bytes, form_samples, link_bytes}
+use Rattle.graph_lines.specs.Sums.{is_sink_form, sink_samples, block_bytes, form_samples}
 use Rattle.graph_plan.specs.Joining.{JoinsKinds}
 use Rattle.graph_plan.specs.PlanOf.{IsEndOf, IsNodeOf, IsPlanOf}
 use Rattle.graph_plan.specs.Remembering.{IsLike}
 use Rattle.graph_plan.specs.SoundGraph.{IsSoundPart, IsJoining, IsSoundGraph}
 use Rattle.graph_plan.specs.Summing.{FollowTo}
 use Rattle.graph_plan.proofs.FormLemmas.{one_form, port_count_is, kind_at_is}
-use Rattle.graph_plan.proofs.ListLemmas.{all_of, contains_at}
 use Rattle.graph_plan.proofs.RangeLemmas.{within_limits}
 use Rattle.graph_plan.proofs.SoundGraphLemmas.{few_nodes, form_ranges}
 

@@ -1,16 +1,15 @@
 -- The graph before the first line is sound.
-use Rattle.std.proofs.Common.{◌≡◌, ◌⊎◌, inl, inr, ℕ, zero, suc, ◌+◌, ◌<◌, ◌≤◌, List, [], ◌∷◌, length, get_or, map, replicate, Bool, true, false}
-use Rattle.std.proofs.Common.{Option, Some, None, refl, sym, ap, ◌∙◌, subst, arith}
-use Rattle.std.specs.Prelude.{slice_get, Contains}
+use Rattle.std.proofs.Common.{◌≡◌, ◌⊎◌, inl, inr, ℕ, ◌<◌, List, [], ◌∷◌, length, get_or, map, replicate, false}
+use Rattle.std.proofs.Common.{None, refl, sym, ap, ◌∙◌, subst, arith}
+use Rattle.std.specs.Prelude.{slice_get}
 use Rattle.std.specs.List.{All, range_with_len}
 use Rattle.std.proofs.lemmas.Bool.{cases_lt}
 use Rattle.std.proofs.lemmas.Option.{none-some}
-use Rattle.std.proofs.lemmas.List.{get_or_past, get_or-replicate, length-map, length-replicate}
+use Rattle.std.proofs.lemmas.List.{get_or_past, get_or-replicate, length-replicate}
 use Rattle.std.proofs.lemmas.List.FromFn.{length-map-range_with_len, get_or-map-range_with_len}
 use Rattle.std.proofs.lemmas.List.Elements.{All-nil, All-head}
 use Rattle.pw_base.specs.declared.plan.Epoch.{Epoch}
 use Rattle.pw_base.specs.declared.plan.Plan.{Plan}
-use Rattle.pw_base.specs.declared.plan.LinkLine.{LinkLine}
 use Rattle.pw_base.specs.PlanFresh.{IsEpoch}
 use Rattle.pw_base.specs.SoundShape.{IsBetween}
 use Rattle.graph_script.specs.declared.command.Command.{Command}
@@ -21,7 +20,6 @@ use Rattle.port_model.specs.declared.port_state.Node.{Node}
 use Rattle.port_model.specs.SoundPorts.{AreSoundNodes}
 use Rattle.link_negotiation.specs.Links.{LinkState, link_of, is_marked}
 use Rattle.graph_lines.specs.declared.graph.Graph.{Graph}
-use Rattle.graph_lines.specs.declared.limits.Sums.{Sums}
 use Rattle.graph_lines.specs.declared.standing.Standing.{Standing}
 use Rattle.graph_lines.specs.declared.wire.Wire.{Wire}
 use Rattle.graph_lines.specs.Activity.{standing, nobody}
@@ -30,8 +28,7 @@ use Rattle.graph_plan.specs.Conditions.{AreScriptPorts}
 use Rattle.graph_plan.specs.Reaching.{IsOrdered}
 use Rattle.graph_plan.specs.SoundWires.{IsSoundWire, AreSoundWires}
 use Rattle.graph_plan.specs.Summing.{AreSummed}
-use Rattle.graph_plan.specs.Remembering.{Remembers, RemembersSinks}
-use Rattle.graph_plan.specs.SoundGraph.{AreMade, IsSoundPart, IsPast, IsJoining, IsSoundGraph}
+use Rattle.graph_plan.specs.SoundGraph.{IsSoundPart, IsPast, IsJoining, IsSoundGraph}
 
 -- the quantum is in range
 in_range : (command : Command) → IsInRange command → IsBetween 1 8192 (quantum_in command)

@@ -1,10 +1,10 @@
 -- An `unlink` line keeps a sound graph sound.
-use Rattle.std.proofs.Common.{◌≡◌, ◌≢◌, ◌⊎◌, inl, inr, ℕ, zero, suc, ◌+◌, ◌^◌, ◌<◌, ◌≤◌, max, List, [], ◌∷◌, ◌++◌, length, get_or, map, Bool, true, false, not}
-use Rattle.std.proofs.Common.{◌&&◌, ◌||◌, ◌==◌, Option, Some, None, refl, sym, ap, ◌∙◌, subst, arith}
-use Rattle.std.proofs.Math.ListN.{set, length-set}
-use Rattle.std.specs.Prelude.{Contains, slice_get, IfSome, IsSome, Result, Ok, if◌then◌else◌}
+use Rattle.std.proofs.Common.{◌≡◌, ◌≢◌, ◌⊎◌, inl, inr, ℕ, ◌^◌, ◌<◌, max, List, [], ◌∷◌, ◌++◌, length, map, Bool, true, false, not}
+use Rattle.std.proofs.Common.{◌||◌, ◌==◌, Option, refl, sym, ap, ◌∙◌, subst, arith}
+use Rattle.std.proofs.Math.ListN.{length-set}
+use Rattle.std.specs.Prelude.{Contains, slice_get, IfSome, IsSome, Ok, if◌then◌else◌}
 use Rattle.std.specs.Option.{option_map_or}
-use Rattle.std.specs.List.{All, filter, list_any}
+use Rattle.std.specs.List.{All, filter}
 use Rattle.std.specs.Int.{bit_at}
 use Rattle.std.specs.Int.Bits.{bit_or}
 use Rattle.std.proofs.lemmas.Nat.Bits.{bit_at-zero, bit_at_or, bit_at-pow_same, bit_at-pow_other, bit_at-lt}
@@ -20,7 +20,7 @@ use Rattle.pw_base.specs.KindPorts.{port_count}
 use Rattle.graph_script.specs.declared.command.Command.TheVariants as C
 use Rattle.graph_script.specs.Kinds.{IsInput, IsOutput}
 use Rattle.port_model.specs.declared.port_state.Node.{Node}
-use Rattle.port_model.specs.PortState.{IsPort, AtPort, port_count_of, changed, released, with_released}
+use Rattle.port_model.specs.PortState.{IsPort, released, with_released}
 use Rattle.port_model.specs.SoundPorts.{AreSoundNodes}
 use Rattle.port_model.proofs.ChangedLemmas.{changed_elsewhere}
 use Rattle.port_model.proofs.ReleaseLemmas.{nodes_released}
@@ -40,13 +40,13 @@ use Rattle.graph_lines.specs.UnlinkLines.{HasKept, giving, wires_without, IsTake
 use Rattle.graph_lines.proofs.WireLemmas.{set_wired}
 use Rattle.graph_plan.specs.Reaching.{IsOrdered}
 use Rattle.graph_plan.specs.SoundWires.{HasFormatOf, IsFormatted, IsSoundWire, AreApart, AreSoundWires}
-use Rattle.graph_plan.specs.Remembering.{HasSomeFormat, Stands, CarriesOn}
-use Rattle.graph_plan.specs.SoundGraph.{AreMade, IsJoining, IsSoundGraph}
+use Rattle.graph_plan.specs.Remembering.{Stands, CarriesOn}
+use Rattle.graph_plan.specs.SoundGraph.{IsJoining, IsSoundGraph}
 use Rattle.graph_plan.proofs.ListLemmas.{origin, kept, any_of, map_changed, stands_for, all_of}
 use Rattle.graph_plan.proofs.RankLemmas.{fewer_rank}
 use Rattle.graph_plan.proofs.SoundGraphLemmas.{wire_at}
 use Rattle.graph_plan.proofs.LinkLineLemmas.{noted_sound}
-use Rattle.graph_plan.proofs.CarryLemmas.{IsRebuilt, rebuilt_sound}
+use Rattle.graph_plan.proofs.CarryLemmas.{rebuilt_sound}
 
 -- A RELEASE, if there is one: other nodes stay as they are
 module _ (made : List Link) (keep n : ℕ) (nodes : List Node) where

@@ -1,28 +1,28 @@
 -- All ports of a node that has a link have forms, and share what their kind shares.
-use Rattle.std.proofs.Common.{◌≡◌, ◌⊎◌, inl, inr, ℕ, zero, suc, ◌<◌, ◌≤◌, List, Option, Some, None, true, false, refl, sym, ap, ◌∙◌, subst, arith}
-use Rattle.std.specs.Prelude.{slice_get, IfSome, IsSome, option_and_then, if◌then◌else◌}
-use Rattle.std.specs.Option.{option_map_or, option_or}
+use Rattle.std.proofs.Common.{◌≡◌, ℕ, ◌<◌, ◌≤◌, List, Option, Some, None, true, false, refl, sym, ap, ◌∙◌, subst, arith}
+use Rattle.std.specs.Prelude.{slice_get, IsSome, option_and_then, if◌then◌else◌}
+use Rattle.std.specs.Option.{option_or}
 use Rattle.std.proofs.lemmas.Option.{same_Some, none-some, slice_get_within}
 use Rattle.pod_codec.specs.declared.pod.Pod.{Pod}
 use Rattle.pw_base.specs.declared.ids.PortId.{PortId}
 use Rattle.pw_base.specs.declared.kind.Kind.{Kind}
 use Rattle.pw_base.specs.declared.kind.Kind.TheVariants.{Source, Square, Gain, Mix2, Delay, Map, Split, Sink, Meter, Dummy}
 use Rattle.pw_base.specs.KindPorts.{port_count}
-use Rattle.pw_base.specs.KindRanges.{IsInRange, IsSinkOrMeter, SharesChannels, MayHaveChannels}
+use Rattle.pw_base.specs.KindRanges.{IsSinkOrMeter, MayHaveChannels}
 use Rattle.format_filter.specs.declared.choice.Choice.{Choice}
 use Rattle.format_filter.specs.declared.format.Field.{Field}
 use Rattle.format_filter.specs.declared.format.Format.{Format}
 use Rattle.format_filter.specs.Members.{IsMember}
 use Rattle.port_model.specs.declared.port_state.PortState.{PortState}
 use Rattle.port_model.specs.declared.port_state.Node.{Node}
-use Rattle.port_model.specs.PortState.{IsPort, AtPort}
+use Rattle.port_model.specs.PortState.{IsPort}
 use Rattle.port_model.specs.Offers.{int_of, is_shared_key, FixesChannels}
 use Rattle.port_model.specs.Forms.{only_of, value_at, first_format, shared_value, value_of, HasForm}
-use Rattle.port_model.specs.SoundPorts.{IsNumber, Admits, IsTaken, IsSoundPort, IsSoundNode, AreSoundNodes}
+use Rattle.port_model.specs.SoundPorts.{Admits, IsSoundPort, IsSoundNode, AreSoundNodes}
 use Rattle.port_model.proofs.NodeLemmas.{at_place, at_port, port_at}
 use Rattle.port_model.proofs.ValueLemmas.{own_value, free_value, some_of, some_is, only_value}
 use Rattle.port_model.proofs.FormLemmas.{has_form}
-use Rattle.link_negotiation.proofs.GivingLemmas.{IsThere, there}
+use Rattle.link_negotiation.proofs.GivingLemmas.{there}
 use Rattle.graph_lines.specs.Forms.{IsFormOf, FormIn}
 use Rattle.graph_plan.specs.Remembering.{HasSomeFormat}
 use Rattle.graph_plan.proofs.FormLemmas.{one_number, rate_shared, IsFormattedNode, value_shared}

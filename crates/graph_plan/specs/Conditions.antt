@@ -16,19 +16,19 @@ use Rattle.graph_lines.specs.Forms.{HasKinds}
 use Rattle.graph_lines.specs.Start.{kinds_of}
 use Rattle.port_model.specs.Keys.{rate_key, channels_key}
 
--- the numbers, the nodes and the ports of each line are in range and there, where the nodes have these kinds
+-- the numbers of each line are in range, and its nodes and ports are there, of these kinds
 pub record AreLinesOf (kinds : List Kind) (lines : List Line) : Type 0 where
   pub ranges : All (λ l. IsInRange l.command) lines
   pub ports : All (λ l. HasPorts kinds l.command) lines
   pub nodes : All (λ l. HasNodes (length kinds) l.command) lines
 
--- the nodes of the lines by number, whose ports have own offers of their kinds, no format and no count of buffers
+-- the nodes of the lines by number; their ports have own offers, no format and no count of buffers
 pub record AreScriptPorts (lines : List Line) (nodes : List Node) : Type 0 where
   pub kinds : HasKinds nodes (kinds_of lines)
   pub sound : AreSoundNodes nodes
   pub unused : All (λ n. All (λ s. (s.format ≡ None) × (s.buffers ≡ None)) n.ports) nodes
 
--- a wave is that of a source, with the one rate and the one number of channels of its port's own offer
+-- a wave is that of a source, with the one rate and the one number of channels that its port offers
 pub record IsWaveFor (nodes : List Node) (wave : WavIn) : Type 0 where
   pub source : kind_of nodes wave.node ≡ Some Source
   pub rate : AtPort nodes (record { node = wave.node; port = 0 })

@@ -15,7 +15,8 @@ GoesOn waves g l Rest = (next : Graph) × Steps waves g l.command T.Done next ×
 -- a line passes a limit, and its number is told
 abbrev pub StopsAt : List WavIn → Graph → Line → Result Graph (ℕ × Which) → Type 0
 StopsAt waves g l outcome =
-    (which : Which) × (after : Graph) × Steps waves g l.command (T.Passed which) after × (outcome ≡ Err (l.line, which))
+    (which : Which) × (after : Graph) × Steps waves g l.command (T.Passed which) after
+    × (outcome ≡ Err (l.line, which))
 
 -- FOLLOWS: the graph after all lines, or the first line that passes a limit, and which
 abbrev pub Follows : List WavIn → Graph → List Line → Result Graph (ℕ × Which) → Type 0

@@ -1,4 +1,4 @@
--- An epoch of the graph that stands, and what is said of the nodes after it, by what later epochs need of it.
+-- An epoch of the graph that stands, and what is said of the nodes after it, for later epochs.
 -- Source: this project's own.
 use Rattle.std.specs.Prelude.{◌≡◌, ◌⊎◌, ℕ, ◌<◌, ◌++◌, [], ◌∷◌, true, false, List, Contains}
 use Rattle.pw_base.specs.declared.ids.PortId.{PortId}
@@ -17,11 +17,14 @@ with_epoch plan e = record plan { epochs = plan.epochs ++ e ∷ [] }
 
 -- a node gave up since the epoch before, or its channels are others
 abbrev pub Changes : List Standing → List Standing → ℕ → Type 0
-Changes said after n = ((standing said n).gave_up ≡ true) ⊎ (¬ ((standing after n).told ≡ (standing said n).told))
+Changes said after n = ((standing said n).gave_up ≡ true)
+    ⊎ (¬ ((standing after n).told ≡ (standing said n).told))
 
 -- its forms are those that stand; it names just the nodes that change, with their channels
-pub record IsNext (plan : Plan) (nodes : List Node) (said after : List Standing) (e : Epoch) : Type 0 where
-  pub forms : (port : PortId) (rate channels : ℕ) → HasForm e port rate channels → Stands nodes port rate channels
+pub record IsNext (plan : Plan) (nodes : List Node) (said after : List Standing) (e : Epoch)
+    : Type 0 where
+  pub forms : (port : PortId) (rate channels : ℕ) → HasForm e port rate channels
+      → Stands nodes port rate channels
   pub first : (node rate channels : ℕ) → 0 < input_count (kind_at plan node)
       → HasForm e (record { node = node; port = 0 }) rate channels
       → ((standing after node).told ≡ channels) × (0 < channels)
@@ -32,8 +35,10 @@ pub record IsNext (plan : Plan) (nodes : List Node) (said after : List Standing)
   pub quiet : (node : ℕ) → (standing after node).gave_up ≡ false
 
 -- sinks that had a form keep it, and so do those that have one now
-pub record KeepsSinksOn (plan : Plan) (nodes : List Node) (said after : List Standing) (e : Epoch) : Type 0 where
+pub record KeepsSinksOn (plan : Plan) (nodes : List Node) (said after : List Standing) (e : Epoch)
+    : Type 0 where
   pub still : (port : PortId) (rate channels : ℕ) → kind_at plan port.node ≡ Sink
       → KeepsIt nodes said port rate channels → KeepsIt nodes after port rate channels
-  pub heard : (port : PortId) (rate channels : ℕ) → kind_at plan port.node ≡ Sink → HasForm e port rate channels
+  pub heard : (port : PortId) (rate channels : ℕ) → kind_at plan port.node ≡ Sink
+      → HasForm e port rate channels
       → KeepsIt nodes after port rate channels

@@ -12,7 +12,8 @@ use Rattle.graph_lines.specs.Forms.{FormIn}
 
 -- a sink or meter whose one input has a format, and so a form
 abbrev pub HasEnd : Graph → ℕ → Kind → ℕ → ℕ → Type 0
-HasEnd g n kind rate channels = IsSinkOrMeter kind × FormIn g.ports (record { node = n; port = 0 }) rate channels
+HasEnd g n kind rate channels =
+    IsSinkOrMeter kind × FormIn g.ports (record { node = n; port = 0 }) rate channels
 
 -- the rate and channels that a node ends with; both 0 without a format, and for other kinds
 abbrev pub IsEndOf : Graph → ℕ → Kind → ℕ → ℕ → Type 0
@@ -30,6 +31,7 @@ pub record IsNodeOf (names : List (List ℕ)) (g : Graph) (n : ℕ) (node : Plan
 pub record IsPlanOf (names : List (List ℕ)) (g : Graph) (plan : Plan) : Type 0 where
   pub quantum : plan.quantum ≡ g.quantum
   pub count : length plan.nodes ≡ length g.kinds
-  pub nodes : (n : ℕ) (node : PlanNode) → slice_get plan.nodes n ≡ Some node → IsNodeOf names g n node
+  pub nodes : (n : ℕ) (node : PlanNode) → slice_get plan.nodes n ≡ Some node
+      → IsNodeOf names g n node
   pub epochs : plan.epochs ≡ g.epochs
   pub lines : plan.lines ≡ g.lines

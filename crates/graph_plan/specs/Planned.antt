@@ -19,13 +19,16 @@ IsFollowed waves g lines (Err (F.Limit line which)) = Follows waves g lines (Err
 IsFollowed waves g lines (Err F.Memory) = Unit {0}
 
 -- what is answered of the lines from a graph on; out of memory is free
-abbrev pub IsAnswer : List (List ℕ) → List WavIn → Graph → List Line → Result Plan PlanFault → Type 0
-IsAnswer names waves g lines (Ok plan) = (end : Graph) × Follows waves g lines (Ok end) × IsPlanOf names end plan
+abbrev pub IsAnswer : List (List ℕ) → List WavIn → Graph → List Line → Result Plan PlanFault
+    → Type 0
+IsAnswer names waves g lines (Ok plan) =
+    (end : Graph) × Follows waves g lines (Ok end) × IsPlanOf names end plan
 IsAnswer names waves g lines (Err (F.Limit line which)) = Follows waves g lines (Err (line, which))
 IsAnswer names waves g lines (Err F.Memory) = Unit {0}
 
 -- PLANNED: so from the graph before the first line, with these ports
-abbrev pub IsPlanned : List Line → List (List ℕ) → List WavIn → List Node → Result Plan PlanFault → Type 0
+abbrev pub IsPlanned : List Line → List (List ℕ) → List WavIn → List Node
+    → Result Plan PlanFault → Type 0
 IsPlanned lines names waves ports (Err F.Memory) = Unit {0}
 IsPlanned lines names waves ports outcome =
     (start : Graph) × IsStart lines ports start × IsAnswer names waves start lines outcome

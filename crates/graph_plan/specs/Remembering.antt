@@ -1,4 +1,4 @@
--- What a graph remembers of the epochs so far: which forms stand, what was told of each node last, and of each sink.
+-- What a graph remembers of the epochs so far: forms that stand, what was told last, and sinks.
 -- Source: this project's own.
 use Rattle.std.specs.Prelude.{◌≡◌, ℕ, ◌<◌, true, false, List, length, IsSome, slice_index_or}
 use Rattle.pw_base.specs.declared.ids.PortId.{PortId}
@@ -41,16 +41,18 @@ pub record IsLastNaming (plan : Plan) (node told : ℕ) : Type 0 where
   pub names : Names plan epoch node told
   pub last : IsQuietFrom plan epoch node
 
--- REMEMBERS: forms stand until their node is named or gives up; the laws on forms and on what is told are kept
+-- REMEMBERS: forms stand until their node is named or gives up; the laws on forms are kept
 pub record Remembers (plan : Plan) (nodes : List Node) (said : List Standing) : Type 0 where
-  pub kept : (i : ℕ) (e : Epoch) (port : PortId) (rate channels : ℕ) → IsEpoch plan i e → HasForm e port rate channels
-      → IsQuietFrom plan i port.node → (standing said port.node).gave_up ≡ false → Stands nodes port rate channels
+  pub kept : (i : ℕ) (e : Epoch) (port : PortId) (rate channels : ℕ) → IsEpoch plan i e
+      → HasForm e port rate channels → IsQuietFrom plan i port.node
+      → (standing said port.node).gave_up ≡ false → Stands nodes port rate channels
   pub last : (n : ℕ) → 0 < (standing said n).told → IsLastNaming plan n (standing said n).told
   pub forms : KeepsForms plan
   pub told : IsTold plan
 
 -- a sink that had a form keeps it
-pub record KeepsIt (nodes : List Node) (said : List Standing) (port : PortId) (rate channels : ℕ) : Type 0 where
+pub record KeepsIt (nodes : List Node) (said : List Standing) (port : PortId) (rate channels : ℕ)
+    : Type 0 where
   pub there : (standing said port.node).there ≡ true
   pub kept : (standing said port.node).kept ≡ true
   pub quiet : (standing said port.node).gave_up ≡ false
@@ -59,11 +61,13 @@ pub record KeepsIt (nodes : List Node) (said : List Standing) (port : PortId) (r
 
 pub record RemembersSinks (plan : Plan) (nodes : List Node) (said : List Standing) : Type 0 where
   pub forms : (i : ℕ) (e : Epoch) (port : PortId) (rate channels : ℕ) → IsEpoch plan i e
-      → kind_at plan port.node ≡ Sink → HasForm e port rate channels → KeepsIt nodes said port rate channels
+      → kind_at plan port.node ≡ Sink → HasForm e port rate channels
+      → KeepsIt nodes said port rate channels
   pub sinks : KeepsSinks plan
 
--- what a line that makes no epoch leaves of a node: unless it gives up, its forms stand; a sink that keeps them does not
-pub record CarriesOn (nodes : List Node) (said : List Standing) (nodes' : List Node) (said' : List Standing) (n : ℕ)
+-- what a line without an epoch leaves of a node: its forms, unless it gives up; kept sinks do not
+pub record CarriesOn (nodes : List Node) (said : List Standing) (nodes' : List Node)
+    (said' : List Standing) (n : ℕ)
     : Type 0 where
   pub told : (standing said' n).told ≡ (standing said n).told
   pub there : (standing said n).there ≡ true → (standing said' n).there ≡ true
@@ -72,4 +76,5 @@ pub record CarriesOn (nodes : List Node) (said : List Standing) (nodes' : List N
   pub stands : (standing said' n).gave_up ≡ false → (port rate channels : ℕ)
       → Stands nodes (record { node = n; port = port }) rate channels
       → Stands nodes' (record { node = n; port = port }) rate channels
-  pub held : (standing said n).kept ≡ true → (standing said n).gave_up ≡ false → (standing said' n).gave_up ≡ false
+  pub held : (standing said n).kept ≡ true → (standing said n).gave_up ≡ false
+      → (standing said' n).gave_up ≡ false

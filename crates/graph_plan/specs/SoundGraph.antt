@@ -64,5 +64,6 @@ pub record IsSoundGraph (count : ℕ) (g : Graph) : Type 0 where
   pub order : IsOrdered g.links
   pub sums : AreSummed g.quantum g.kinds g.epochs g.first g.sums
   pub parts : (plan : Plan) → IsLike g.quantum g.kinds plan → All (IsSoundPart plan) g.epochs
-  pub past : (plan : Plan) → IsLike g.quantum g.kinds plan → plan.epochs ≡ g.epochs → IsPast plan g.ports g.nodes
+  pub past : (plan : Plan) → IsLike g.quantum g.kinds plan → plan.epochs ≡ g.epochs
+      → IsPast plan g.ports g.nodes
   pub lines : All (IsJoining g.kinds) g.lines

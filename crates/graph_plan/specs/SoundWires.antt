@@ -24,7 +24,7 @@ pub record HasFormatOf (rate channels : ℕ) (s : PortState) : Type 0 where
 abbrev pub IsFormatted : List Node → PortId → ℕ → ℕ → Type 0
 IsFormatted nodes port rate channels = AtPort nodes port (λ node s. HasFormatOf rate channels s)
 
--- a link from an output to an input of another node, which both have a format of one rate and of one number of channels
+-- a link from an output to an input of another node; both have a format, of one rate and channels
 pub record IsSoundWire (kinds : List Kind) (nodes : List Node) (w : Wire) : Type 0 where
   pub from : IsOutput kinds w.from
   pub to : IsInput kinds w.to

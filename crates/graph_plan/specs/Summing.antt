@@ -13,7 +13,8 @@ FollowTo first [] next = first ≡ next
 FollowTo first (e ∷ es) next = (e.shape.first ≡ first) × FollowTo (first + e.shape.cycles) es next
 
 -- the sums are those of the epochs, and pass no limit
-pub record AreSummed (quantum : ℕ) (kinds : List Kind) (epochs : List Epoch) (first : ℕ) (sums : Sums) : Type 0 where
+pub record AreSummed (quantum : ℕ) (kinds : List Kind) (epochs : List Epoch) (first : ℕ)
+    (sums : Sums) : Type 0 where
   pub follow : FollowTo 0 epochs first
   pub cycles : 3 * first ≤ sums.events
   pub quanta : All (λ e. e.shape.quantum ≡ quantum) epochs

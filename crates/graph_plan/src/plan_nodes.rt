@@ -51,7 +51,8 @@ fn is_end(kinds: &[Kind], node: u32) -> bool
     }
 }
 
-// The rate and channels of the one input of a sink or meter that has a format; 0 without one and for other kinds.
+// The rate and channels of the one input of a sink or meter that has a format; 0 without one and
+// for other kinds.
 fn end_of(graph: &Graph, node: u32) -> (u32, u32)
     requires { HasKinds graph.now.ports graph.now.kinds }
     ensures { IsEndOf graph.now node (slice_index_or graph.now.kinds node Dummy) result.0 result.1 }

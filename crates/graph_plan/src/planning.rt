@@ -72,13 +72,15 @@ fn whole_plan(
     }
 }
 
-/// The plan of a script: its quantum, its nodes as they stand at its end, its epochs, and what its link lines did.
+/// The plan of a script: its quantum, its nodes as they stand at its end, its epochs, and what its
+/// link lines did.
 ///
-/// `Limit`: the first line that passes a limit: a `link` line that could be made but for 256 links that are there; a
-/// `cycles` or `drain` line with whose epoch the events, the samples of all sinks or the bytes of all blocks pass their
-/// limit, looked at in this order. `ports` has the nodes of the script with their offers, and `waves` one wave for each
-/// of its sources. Cost: one step a line, and for each epoch one look at each node, port and link, and at most 64 at
-/// each link for the nodes that are active.
+/// `Limit`: the first line that passes a limit: a `link` line that could be made but for 256 links
+/// that are there; a `cycles` or `drain` line with whose epoch the events, the samples of all sinks
+/// or the bytes of all blocks pass their limit, looked at in this order. `ports` has the nodes of
+/// the script with their offers, and `waves` one wave for each of its sources. Cost: one step a
+/// line, and for each epoch one look at each node, port and link, and at most 64 at each link for
+/// the nodes that are active.
 ///
 /// Public source: PipeWire's documentation, "Graph Scheduling"; the script is this project's.
 pub fn plan(

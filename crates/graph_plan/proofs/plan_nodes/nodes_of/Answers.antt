@@ -1,9 +1,4 @@
 -- A node more.
-use Rattle.std.proofs.Common.{◌∙◌, ap, length, List, refl, sym, subst, arith}
-use Rattle.std.specs.Prelude.{slice_get, Some}
-use Rattle.std.proofs.lemmas.List.{length_push}
-use Rattle.pw_base.specs.declared.plan.PlanNode.{PlanNode}
-use Rattle.graph_plan.specs.PlanOf.{IsNodeOf}
 use Rattle.graph_plan.proofs.NodesLemmas.{nodes_more}
 use Rattle.graph_plan.proofs.plan_nodes.nodes_of.Goals as goal
 
