@@ -6,8 +6,11 @@ pub mod FirstStoresLemmas
 pub mod FirstTextLemmas
 pub mod FormatFileLemmas
 pub mod HeadlineLemmas
+pub mod LoadsLemmas
+pub mod NarrowLemmas
 pub mod OneAnswerLemmas
 pub mod PieceLemmas
 pub mod PodFileLemmas
 pub mod StatusLineLemmas
+pub mod StockLemmas
 pub mod StoppingLemmas

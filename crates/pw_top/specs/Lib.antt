@@ -13,6 +13,8 @@ pub mod FirstStores
 pub mod Following
 pub mod FormatFile
 pub mod Headline
+pub mod Loads
+pub mod Stocking
 pub mod PodFile
 pub mod Preparing
 pub mod Refusals

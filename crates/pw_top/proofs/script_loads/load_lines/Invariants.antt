@@ -1,0 +1,24 @@
+use Rattle.std.proofs.Common.{◌≡◌, IsSome, drop}
+use Rattle.std.specs.Prelude.{Result}
+use Rattle.pw_base.specs.Files.{names_in}
+use Rattle.graph_lines.specs.Start.{kinds_of}
+use Rattle.pw_top.specs.declared.status.Status.{Status}
+use Rattle.pw_top.specs.declared.stock.Stock.{Stock}
+use Rattle.pw_top.specs.Ending.{Ends}
+use Rattle.pw_top.specs.Preparing.{LoadsOnly}
+use Rattle.pw_top.specs.Loads.{LoadsAll}
+use Rattle.pw_top.specs.Stocking.{nothing_loaded, IsSoundStock}
+use Rattle.pw_top.proofs.LoadsLemmas.{IsUnderWay}
+use Rattle.pw_top.proofs.script_loads.load_lines.Given as goal
+
+-- whatever the lines that are left load next, all lines load; what is held stays
+abbrev pub invariant-loop-line : goal.invariant-loop-line
+invariant-loop-line g l = record {
+  files : LoadsOnly (g.F.Files.held l.initial.files) (g.F.Files.held l.files) (g.F.Files.load_faults l.initial.files)
+      (g.F.Files.load_faults l.files) (g.F.Files.store_faults l.initial.files) (g.F.Files.store_faults l.files);
+  sound : IsSoundStock l.stock;
+  way : IsUnderWay (kinds_of l.lines) (drop l.line-index l.lines) l.stock.ports;
+  rest : IsSome (g.F.Files.held l.initial.files) → (r : Result Stock Status)
+      → Ends (LoadsAll (names_in (g.F.Files.held l.initial.files)) (drop l.line-index l.lines) l.stock) r
+      → Ends (LoadsAll (names_in (g.F.Files.held l.initial.files)) l.lines nothing_loaded) r;
+}

@@ -1,0 +1,76 @@
+-- What the lines of a script load, in order: each file at its line, by a limit that the loads before it leave.
+-- Source: this project's script grammar and limits.
+use Rattle.std.specs.Prelude.{◌≡◌, ℕ, ◌-◌, List, [], ◌∷◌, length, Result, Ok, Err, nat_lt, if◌then◌else◌}
+use Rattle.pw_base.specs.declared.ids.PortId.{PortId}
+use Rattle.pw_base.specs.declared.limit.Which.{Which}
+use Rattle.pw_base.specs.declared.limit.Which.TheVariants as W
+use Rattle.pw_base.specs.Files.{Names}
+use Rattle.pw_base.specs.Limits.{wav_bytes_limit, all_wav_bytes_limit}
+use Rattle.format_filter.specs.declared.format.Format.{Format}
+use Rattle.wav_files.specs.declared.wav.Wav.{Wav}
+use Rattle.wav_files.specs.WavReading.{wav_of}
+use Rattle.graph_script.specs.declared.command.Command.{Command}
+use Rattle.graph_script.specs.declared.command.Command.TheVariants as C
+use Rattle.graph_script.specs.declared.script.Line.{Line}
+use Rattle.port_model.specs.declared.narrowing.Narrowed.{Narrowed}
+use Rattle.port_model.specs.declared.narrowing.Narrowed.TheVariants as N
+use Rattle.port_model.specs.declared.port_state.Node.{Node}
+use Rattle.port_model.specs.Narrowing.{Narrows}
+use Rattle.pw_top.specs.declared.status.Status.{Status}
+use Rattle.pw_top.specs.declared.status.Status.TheVariants as S
+use Rattle.pw_top.specs.declared.status.PodWhy.TheVariants as P
+use Rattle.pw_top.specs.declared.stock.Stock.{Stock}
+use Rattle.pw_top.specs.Answer.{Expected}
+use Rattle.pw_top.specs.Allowed.{Binds, Reads, IsLoad}
+use Rattle.pw_top.specs.FormatFile.{HoldsFormat}
+use Rattle.pw_top.specs.PodFile.{pod_file_limit}
+use Rattle.pw_top.specs.Refusals.{wave_outcome}
+use Rattle.pw_top.specs.Stocking.{with_wave, plain_kind, with_plain}
+
+-- the limit of a WAV file after so many bytes of others: its own, or what all of them leave
+abbrev pub wav_limit : ℕ → ℕ
+wav_limit used = if nat_lt (all_wav_bytes_limit - used) wav_bytes_limit then all_wav_bytes_limit - used else wav_bytes_limit
+
+abbrev pub wav_which : ℕ → Which
+wav_which used = if nat_lt (all_wav_bytes_limit - used) wav_bytes_limit then W.AllWavBytes else W.WavBytes
+
+-- a `source` line: its file is a wave, with which the node is made
+abbrev pub TakesWave : ℕ → Stock → ℕ → Wav → Expected Stock → Type 0
+TakesWave node stock size wav = Reads (λ outcome. outcome ≡ Ok (with_wave stock node size wav))
+
+abbrev pub ReadsSource : ℕ → ℕ → Stock → List ℕ → Expected Stock → Type 0
+ReadsSource place node stock bytes =
+    Binds (Reads (λ outcome. outcome ≡ wave_outcome place (wav_of bytes))) (TakesWave node stock (length bytes))
+
+abbrev pub LoadsSource : Names → ℕ → ℕ → List ℕ → Stock → Expected Stock → Type 0
+LoadsSource names place node file stock =
+    Binds (IsLoad names place file (wav_limit stock.used) (wav_which stock.used)) (ReadsSource place node stock)
+
+-- an `offer` line: its file is an object, by which the port's own offer is narrowed
+abbrev pub narrowed_outcome : ℕ → Stock → Narrowed → List Node → Result Stock Status
+narrowed_outcome place stock N.Done later = Ok (record stock { ports = later })
+narrowed_outcome place stock N.NotFormat later = Err (S.Pod place P.NotFormat)
+narrowed_outcome place stock (N.Clash key) later = Err (S.Pod place (P.Clash key))
+
+abbrev pub NarrowsTo : ℕ → PortId → Stock → Format → Result Stock Status → Type 0
+NarrowsTo place port stock format outcome = (narrowed : Narrowed) × (later : List Node)
+    × Narrows stock.ports port format narrowed later × (outcome ≡ narrowed_outcome place stock narrowed later)
+
+abbrev pub ReadsOffer : ℕ → PortId → Stock → List ℕ → Expected Stock → Type 0
+ReadsOffer place port stock bytes =
+    Binds (Reads (HoldsFormat place bytes)) (λ format. Reads (NarrowsTo place port stock format))
+
+abbrev pub LoadsOffer : Names → ℕ → PortId → List ℕ → Stock → Expected Stock → Type 0
+LoadsOffer names place port file stock =
+    Binds (IsLoad names place file pod_file_limit W.PodBytes) (ReadsOffer place port stock)
+
+-- what one line loads; the others only make their nodes
+abbrev pub LoadsLine : Names → ℕ → Command → Stock → Expected Stock → Type 0
+LoadsLine names place (C.Source node file) stock = LoadsSource names place node file stock
+LoadsLine names place (C.Offer port file) stock = LoadsOffer names place port file stock
+LoadsLine names place command stock = Reads (λ outcome. outcome ≡ Ok (with_plain stock (plain_kind command)))
+
+-- ALL LOADS of a script
+abbrev pub LoadsAll : Names → List Line → Stock → Expected Stock → Type 0
+LoadsAll names [] stock = Reads (λ outcome. outcome ≡ Ok stock)
+LoadsAll names (l ∷ ls) stock = Binds (LoadsLine names l.line l.command stock) (LoadsAll names ls)

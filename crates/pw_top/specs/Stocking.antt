@@ -1,0 +1,68 @@
+-- Stock: the nodes that the lines of a script have made so far, with what their ports offer, and the waves of their
+-- sources. Source: this project's script grammar.
+use Rattle.std.specs.Prelude.{◌≡◌, ℕ, ◌+◌, ◌<◌, ◌≤◌, List, [], ◌∷◌, ◌++◌, map, Option, Some, None, All, length, IfSome, option_map, option_to_list}
+use Rattle.pw_base.specs.declared.kind.Kind.{Kind}
+use Rattle.pw_base.specs.declared.kind.Kind.TheVariants as K
+use Rattle.pw_base.specs.KindRanges.{IsInRange}
+use Rattle.pw_base.specs.Limits.{all_wav_bytes_limit}
+use Rattle.wav_files.specs.declared.wav.Wav.{Wav}
+use Rattle.graph_script.specs.declared.command.Command.{Command}
+use Rattle.graph_script.specs.declared.command.Command.TheVariants as C
+use Rattle.graph_script.specs.declared.script.Line.{Line}
+use Rattle.graph_script.specs.Kinds.{made_by}
+use Rattle.port_model.specs.declared.port_state.Node.{Node}
+use Rattle.port_model.specs.Offers.{new_node, HasFileNumbers}
+use Rattle.port_model.specs.PortState.{IsPort}
+use Rattle.port_model.specs.SoundPorts.{AreSoundNodes}
+use Rattle.graph_plan.specs.Conditions.{AreScriptPorts, HaveWaves}
+use Rattle.pw_top.specs.declared.stock.Stock.{Stock}
+
+-- before the first line
+abbrev pub nothing_loaded : Stock
+nothing_loaded = record { ports = []; waves = []; used = 0 }
+
+-- a node more, that of a source with its wave from a file of so many bytes
+abbrev pub with_wave : Stock → ℕ → ℕ → Wav → Stock
+with_wave stock node size wav = record {
+  ports = stock.ports ++ new_node K.Source wav.rate wav.channels ∷ [];
+  waves = stock.waves ++ (record { node = node; wav = wav }) ∷ [];
+  used = stock.used + size;
+}
+
+-- the kind of a node that needs no file to offer what it does
+abbrev pub plain_kind : Command → Option Kind
+plain_kind (C.Source node file) = None
+plain_kind command = option_map (λ m. m.1) (made_by command)
+
+-- a node more of such a kind, if a line makes one
+abbrev pub with_plain : Stock → Option Kind → Stock
+with_plain stock None = stock
+with_plain stock (Some kind) = record stock { ports = stock.ports ++ new_node kind 0 0 ∷ [] }
+
+-- what a line asks of the nodes before it: it makes the next one, and names a port that is there
+abbrev pub MayLoad : List Node → Command → Type 0
+MayLoad nodes (C.Source node file) = (node ≡ length nodes) × (length nodes < 63)
+MayLoad nodes (C.Offer port file) = IsPort nodes port
+MayLoad nodes command = IfSome (plain_kind command)
+    (λ kind. (length nodes < 63) × IsInRange kind × HasFileNumbers kind 0 0)
+
+-- no port has a format or a count of buffers yet
+abbrev pub AreUnused : List Node → Type 0
+AreUnused nodes = All (λ n. All (λ s. (s.format ≡ None) × (s.buffers ≡ None)) n.ports) nodes
+
+-- SOUND: as lines leave it, one after the other
+pub record IsSoundStock (stock : Stock) : Type 0 where
+  pub ports : AreSoundNodes stock.ports
+  pub unused : AreUnused stock.ports
+  pub waves : HaveWaves stock.ports stock.waves
+  pub used : stock.used ≤ all_wav_bytes_limit
+
+-- sound after a line too, with the node that it made behind the others
+pub record IsStockAfter (stock : Stock) (made : Option Kind) (after : Stock) : Type 0 where
+  pub sound : IsSoundStock after
+  pub kinds : map (λ n. n.kind) after.ports ≡ map (λ n. n.kind) stock.ports ++ option_to_list made
+
+-- what all lines of a script leave: what a plan asks of ports and waves
+pub record IsStockOf (lines : List Line) (stock : Stock) : Type 0 where
+  pub ports : AreScriptPorts lines stock.ports
+  pub waves : HaveWaves stock.ports stock.waves

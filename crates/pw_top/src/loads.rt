@@ -1,0 +1,291 @@
+//! The files that the lines of a script name, loaded one after the other.
+#![tactic(auto, using(crate::proofs::AllowedLemmas::parts))]
+
+ghost use Rattle.std.specs.Prelude.{◌≡◌, ◌≤◌, ◌<◌, ◌-◌, length, Ok, IfOk, IfSome, Some, None, option_map};
+ghost use Rattle.pw_base.specs.declared.kind.Kind.TheVariants as K;
+ghost use Rattle.pw_base.specs.KindRanges.{IsInRange};
+ghost use Rattle.pw_base.specs.Limits.{all_wav_bytes_limit};
+ghost use Rattle.format_filter.specs.CommonFormat.{IsSoundFormat};
+ghost use Rattle.wav_files.specs.WavWriting.{IsWave};
+ghost use Rattle.graph_script.specs.Kinds.{made_by};
+ghost use Rattle.port_model.specs.Narrowing.{Narrows};
+ghost use Rattle.port_model.specs.Offers.{HasFileNumbers};
+ghost use Rattle.port_model.specs.PortState.{IsPort};
+ghost use Rattle.pw_top.specs.Allowed.{Reads};
+ghost use Rattle.pw_top.specs.Ending.{Ends, CommandCause};
+ghost use Rattle.pw_top.specs.Preparing.{LoadsOnly, Tells};
+ghost use Rattle.pw_top.specs.Stocking.{with_wave, plain_kind, with_plain, MayLoad, IsSoundStock, IsStockAfter};
+ghost use Rattle.pw_top.specs.Loads.{wav_limit, wav_which, TakesWave, ReadsSource, LoadsSource, NarrowsTo};
+ghost use Rattle.pw_top.specs.Loads.{ReadsOffer, LoadsOffer, LoadsLine};
+
+use crate::format_file::format_step;
+use crate::loading::load_step;
+use crate::pod_file::POD_BYTES;
+use crate::status::{PodWhy, Status};
+use crate::stock::Stock;
+use crate::wave_file::wave_step;
+use format_filter::Format;
+use graph_script::{Command, Line};
+use port_model::Narrowed;
+use pw_base::{
+    ALL_WAV_BYTES_LIMIT, Files, Items, Kind, Memory, PortId, Text, WAV_BYTES_LIMIT, Which,
+};
+use std::alloc::Global;
+use wav_files::{Wav, WavIn};
+
+// The bytes of the next WAV file, at most.
+fn wav_limit(used: u64) -> u64
+    requires { used ≤ all_wav_bytes_limit }
+    ensures { result ≡ wav_limit used }
+{
+    if ALL_WAV_BYTES_LIMIT - used < WAV_BYTES_LIMIT {
+        ALL_WAV_BYTES_LIMIT - used
+    } else {
+        WAV_BYTES_LIMIT
+    }
+}
+
+// Which limit that is.
+fn wav_which(used: u64) -> Which
+    requires { used ≤ all_wav_bytes_limit }
+    ensures { result ≡ wav_which used }
+{
+    if ALL_WAV_BYTES_LIMIT - used < WAV_BYTES_LIMIT {
+        Which::AllWavBytes
+    } else {
+        Which::WavBytes
+    }
+}
+
+// The node of a source, with its wave.
+fn with_wave(stock: Stock, node: u32, size: u64, wav: Wav) -> Result<Stock, Memory>
+    requires wave { IsWave wav }
+    requires room { length stock.ports < 63 }
+    requires used { stock.used ≤ all_wav_bytes_limit }
+    requires size { size ≤ all_wav_bytes_limit - stock.used }
+    ensures { IfOk result (λ after. after ≡ with_wave stock node size wav) }
+{
+    let Stock {
+        mut ports,
+        mut waves,
+        used,
+    } = stock;
+    ports.add(&Kind::Source, wav.rate, u32::from(wav.channels))?;
+    waves.push(WavIn { node, wav })?;
+    Ok(Stock {
+        ports,
+        waves,
+        used: used + size,
+    })
+}
+
+// A `source` line, once its file is a wave.
+fn take_wave(node: u32, stock: Stock, size: u64, wav: Wav) -> Result<Stock, Status>
+    requires sound { IsSoundStock stock }
+    requires node { node ≡ length stock.ports }
+    requires room { length stock.ports < 63 }
+    requires wave { IsWave wav }
+    requires size { size ≤ all_wav_bytes_limit - stock.used }
+    ensures done { Ends (TakesWave node stock size wav) result }
+    ensures cause { CommandCause (IsStockAfter stock (Some K.Source)) 0 0 result }
+{
+    match with_wave(stock, node, size, wav) {
+        Ok(after) => Ok(after),
+        Err(_memory) => Err(Status::Memory),
+    }
+}
+
+// A `source` line, once its file is loaded.
+fn source_loaded(
+    alloc: Global,
+    place: u32,
+    node: u32,
+    bytes: &Items<u8>,
+    stock: Stock,
+) -> Result<Stock, Status>
+    requires sound { IsSoundStock stock }
+    requires node { node ≡ length stock.ports }
+    requires room { length stock.ports < 63 }
+    requires small { length bytes.now ≤ wav_limit stock.used }
+    ensures done { Ends (ReadsSource place node stock bytes.now) result }
+    ensures cause { CommandCause (IsStockAfter stock (Some K.Source)) 0 0 result }
+{
+    match wave_step(alloc, place, bytes) {
+        Err(status) => Err(status),
+        Ok(wav) => take_wave(node, stock, bytes.len() as u64, wav),
+    }
+}
+
+// A `source` line.
+fn load_source<F: Files>(
+    alloc: Global,
+    files: &mut F,
+    place: u32,
+    node: u32,
+    file: &Text,
+    stock: Stock,
+) -> Result<Stock, Status>
+    requires sound { IsSoundStock stock }
+    requires node { node ≡ length stock.ports }
+    requires room { length stock.ports < 63 }
+    ensures files { LoadsOnly (F.held files.old) (F.held files.new) (F.load_faults files.old)
+        (F.load_faults files.new) (F.store_faults files.old) (F.store_faults files.new) }
+    ensures told { Tells (F.held files.old) (λ names. LoadsSource names place node file.now stock) result }
+    ensures cause { CommandCause (IsStockAfter stock (Some K.Source)) (F.load_faults files.old)
+        (F.load_faults files.new) result }
+{
+    let limit = wav_limit(stock.used);
+    let which = wav_which(stock.used);
+    match load_step(alloc, files, place, file, limit, which) {
+        Err(status) => Err(status),
+        Ok(bytes) => source_loaded(alloc, place, node, &bytes, stock),
+    }
+}
+
+// An `offer` line, once its file is an object.
+fn narrow(place: u32, port: PortId, stock: Stock, format: &Format) -> Result<Stock, Status>
+    requires sound { IsSoundStock stock }
+    requires port { IsPort stock.ports port }
+    requires format { IsSoundFormat format.now }
+    ensures done { Ends (Reads (NarrowsTo place port stock format.now)) result }
+    ensures cause { CommandCause (IsStockAfter stock None) 0 0 result }
+{
+    let mut after = stock;
+    match after.ports.offer(port, format) {
+        Ok(Narrowed::Done) => Ok(after),
+        Ok(Narrowed::NotFormat) => Err(Status::Pod {
+            place,
+            why: PodWhy::NotFormat,
+        }),
+        Ok(Narrowed::Clash { key }) => Err(Status::Pod {
+            place,
+            why: PodWhy::Clash { key },
+        }),
+        Err(_memory) => Err(Status::Memory),
+    }
+}
+
+// An `offer` line, once its file is loaded.
+fn offer_loaded(
+    alloc: Global,
+    place: u32,
+    port: PortId,
+    bytes: &Items<u8>,
+    stock: Stock,
+) -> Result<Stock, Status>
+    requires sound { IsSoundStock stock }
+    requires port { IsPort stock.ports port }
+    ensures done { Ends (ReadsOffer place port stock bytes.now) result }
+    ensures cause { CommandCause (IsStockAfter stock None) 0 0 result }
+{
+    match format_step(alloc, place, bytes.as_slice()) {
+        Err(status) => Err(status),
+        Ok(format) => narrow(place, port, stock, &format),
+    }
+}
+
+// An `offer` line.
+fn load_offer<F: Files>(
+    alloc: Global,
+    files: &mut F,
+    place: u32,
+    port: PortId,
+    file: &Text,
+    stock: Stock,
+) -> Result<Stock, Status>
+    requires sound { IsSoundStock stock }
+    requires port { IsPort stock.ports port }
+    ensures files { LoadsOnly (F.held files.old) (F.held files.new) (F.load_faults files.old)
+        (F.load_faults files.new) (F.store_faults files.old) (F.store_faults files.new) }
+    ensures told { Tells (F.held files.old) (λ names. LoadsOffer names place port file.now stock) result }
+    ensures cause { CommandCause (IsStockAfter stock None) (F.load_faults files.old)
+        (F.load_faults files.new) result }
+{
+    match load_step(alloc, files, place, file, POD_BYTES, Which::PodBytes) {
+        Err(status) => Err(status),
+        Ok(bytes) => offer_loaded(alloc, place, port, &bytes, stock),
+    }
+}
+
+// The kind of a node that needs no file.
+fn plain_kind(alloc: Global, command: &Command) -> Result<Option<Kind>, Memory>
+    ensures { IfOk result (λ kind. kind ≡ plain_kind command.now) }
+{
+    Ok(match command {
+        Command::Square {
+            rate,
+            channels,
+            period,
+            amp,
+            ..
+        } => Some(Kind::Square {
+            rate: *rate,
+            channels: *channels,
+            period: *period,
+            amp: *amp,
+        }),
+        Command::Gain { g, .. } => Some(Kind::Gain { g: *g }),
+        Command::Mix2 { ga, gb, .. } => Some(Kind::Mix2 { ga: *ga, gb: *gb }),
+        Command::Delay { frames, .. } => Some(Kind::Delay { frames: *frames }),
+        Command::Map { channels, list, .. } => Some(Kind::Map {
+            channels: *channels,
+            list: list.copy(alloc)?,
+        }),
+        Command::Split { .. } => Some(Kind::Split),
+        Command::Sink { .. } => Some(Kind::Sink),
+        Command::Meter { .. } => Some(Kind::Meter),
+        _ => None,
+    })
+}
+
+// A node more, if there is a kind.
+fn with_plain(stock: Stock, made: Option<Kind>) -> Result<Stock, Memory>
+    requires { IfSome made (λ kind. (length stock.ports < 63) × IsInRange kind × HasFileNumbers kind 0 0) }
+    ensures { IfOk result (λ after. after ≡ with_plain stock made) }
+{
+    let mut after = stock;
+    if let Some(kind) = made {
+        after.ports.add(&kind, 0, 0)?;
+    }
+    Ok(after)
+}
+
+// A line that loads nothing.
+fn keep_line(alloc: Global, command: &Command, stock: Stock) -> Result<Stock, Status>
+    requires sound { IsSoundStock stock }
+    requires line { IfSome (plain_kind command.now)
+        (λ kind. (length stock.ports < 63) × IsInRange kind × HasFileNumbers kind 0 0) }
+    ensures done { Ends (Reads (λ outcome. outcome ≡ Ok (with_plain stock (plain_kind command.now)))) result }
+    ensures cause { CommandCause (IsStockAfter stock (plain_kind command.now)) 0 0 result }
+{
+    match plain_kind(alloc, command) {
+        Err(_memory) => Err(Status::Memory),
+        Ok(made) => match with_plain(stock, made) {
+            Ok(after) => Ok(after),
+            Err(_memory) => Err(Status::Memory),
+        },
+    }
+}
+
+/// What a line loads, and the node that it makes.
+pub fn load_line<F: Files>(
+    alloc: Global,
+    files: &mut F,
+    line: &Line,
+    stock: Stock,
+) -> Result<Stock, Status>
+    requires sound { IsSoundStock stock }
+    requires line { MayLoad stock.ports line.now.command }
+    ensures files { LoadsOnly (F.held files.old) (F.held files.new) (F.load_faults files.old)
+        (F.load_faults files.new) (F.store_faults files.old) (F.store_faults files.new) }
+    ensures told { Tells (F.held files.old)
+        (λ names. LoadsLine names line.now.line line.now.command stock) result }
+    ensures cause { CommandCause (IsStockAfter stock (option_map (λ m. m.1) (made_by line.now.command)))
+        (F.load_faults files.old) (F.load_faults files.new) result }
+{
+    match &line.command {
+        Command::Source { node, file } => load_source(alloc, files, line.line, *node, file, stock),
+        Command::Offer { port, file } => load_offer(alloc, files, line.line, *port, file, stock),
+        other => keep_line(alloc, other, stock),
+    }
+}

@@ -1,0 +1,70 @@
+//! All loads of a script.
+#![tactic(auto, using(crate::proofs::AllowedLemmas::parts))]
+
+ghost use Rattle.std.specs.Prelude.{◌≡◌, ◌≤◌, length};
+ghost use Rattle.graph_script.specs.Making.{NamesMade};
+ghost use Rattle.graph_lines.specs.Start.{kinds_of};
+ghost use Rattle.graph_plan.specs.Conditions.{AreLinesOf};
+ghost use Rattle.pw_top.specs.Ending.{CommandCause};
+ghost use Rattle.pw_top.specs.Preparing.{LoadsOnly, Tells};
+ghost use Rattle.pw_top.specs.Stocking.{nothing_loaded, IsStockOf};
+ghost use Rattle.pw_top.specs.Loads.{LoadsAll};
+
+use crate::loads::load_line;
+use crate::status::Status;
+use crate::stock::Stock;
+use graph_script::Line;
+use port_model::Ports;
+use pw_base::{Files, Items};
+use std::alloc::Global;
+
+// What lines load, from the first on.
+fn load_lines<F: Files>(
+    alloc: Global,
+    files: &mut F,
+    lines: &[Line],
+    nothing: Stock,
+) -> Result<Stock, Status>
+    requires lines { AreLinesOf (kinds_of lines.now) lines.now }
+    requires made { NamesMade 0 lines.now }
+    requires few { length (kinds_of lines.now) ≤ 63 }
+    requires nothing { nothing ≡ nothing_loaded }
+    ensures files { LoadsOnly (F.held files.old) (F.held files.new) (F.load_faults files.old)
+        (F.load_faults files.new) (F.store_faults files.old) (F.store_faults files.new) }
+    ensures told { Tells (F.held files.old) (λ names. LoadsAll names lines.now nothing_loaded) result }
+    ensures cause { CommandCause (IsStockOf lines.now) (F.load_faults files.old) (F.load_faults files.new) result }
+{
+    let mut stock = nothing;
+    for line in lines {
+        match load_line(alloc, files, line, stock) {
+            Err(status) => return Err(status),
+            Ok(after) => stock = after,
+        }
+    }
+    Ok(stock)
+}
+
+/// What the lines of a script load, in order, up to the first that is refused or fails.
+pub fn load_all<F: Files>(alloc: Global, files: &mut F, lines: &[Line]) -> Result<Stock, Status>
+    requires lines { AreLinesOf (kinds_of lines.now) lines.now }
+    requires made { NamesMade 0 lines.now }
+    requires few { length (kinds_of lines.now) ≤ 63 }
+    ensures files { LoadsOnly (F.held files.old) (F.held files.new) (F.load_faults files.old)
+        (F.load_faults files.new) (F.store_faults files.old) (F.store_faults files.new) }
+    ensures told { Tells (F.held files.old) (λ names. LoadsAll names lines.now nothing_loaded) result }
+    ensures cause { CommandCause (IsStockOf lines.now) (F.load_faults files.old) (F.load_faults files.new) result }
+{
+    match Ports::new(alloc) {
+        Err(_memory) => Err(Status::Memory),
+        Ok(ports) => load_lines(
+            alloc,
+            files,
+            lines,
+            Stock {
+                ports,
+                waves: Items::new(alloc),
+                used: 0,
+            },
+        ),
+    }
+}

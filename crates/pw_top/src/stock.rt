@@ -1,0 +1,14 @@
+//! What the lines of a script have loaded so far.
+
+use port_model::Ports;
+use pw_base::Items;
+use wav_files::WavIn;
+
+/// The nodes that lines have made, with what their ports offer, and the waves of their sources, which came from files
+/// of `used` bytes together.
+#[derive(Drop)]
+pub struct Stock {
+    pub ports: Ports,
+    pub waves: Items<WavIn>,
+    pub used: u64,
+}
