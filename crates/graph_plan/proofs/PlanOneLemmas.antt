@@ -22,7 +22,8 @@ use Rattle.graph_lines.specs.Start.{kinds_of, IsStart}
 use Rattle.graph_lines.specs.declared.graph.Graph.{Graph}
 use Rattle.graph_plan.specs.declared.fault.PlanFault.{PlanFault}
 use Rattle.graph_plan.specs.declared.fault.PlanFault.TheVariants as F
-use Rattle.graph_plan.specs.Conditions.{NamesMade, AreScriptPorts}
+use Rattle.graph_script.specs.Making.{NamesMade}
+use Rattle.graph_plan.specs.Conditions.{AreScriptPorts}
 use Rattle.graph_plan.specs.Following.{Follows}
 use Rattle.graph_plan.proofs.ScriptLemmas.{lines_are}
 use Rattle.graph_plan.proofs.StartLemmas.{first_sound}

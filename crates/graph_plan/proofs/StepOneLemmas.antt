@@ -43,7 +43,7 @@ use Rattle.graph_lines.specs.EpochLines.{RunsFor, Steps}
 use Rattle.graph_lines.specs.LinkLines.{NotesAlone, IsRecorded, LinksLine}
 use Rattle.graph_lines.specs.Lines.{Marks}
 use Rattle.graph_lines.specs.UnlinkLines.{HasKept, giving, IsTakenAway, UnlinksLine}
-use Rattle.graph_plan.specs.Conditions.{grown}
+use Rattle.graph_script.specs.Making.{grown}
 use Rattle.graph_plan.specs.Following.{Follows}
 use Rattle.graph_plan.specs.SoundGraph.{IsSoundGraph}
 use Rattle.graph_plan.proofs.EpochOneLemmas.{runs_one, drain_one}
