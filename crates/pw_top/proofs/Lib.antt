@@ -1,15 +1,13 @@
 pub mod AllowedLemmas
 pub mod AutomateLemmas
 pub mod CommandLineLemmas
-pub mod FirstPlanLemmas
-pub mod FirstStoresLemmas
-pub mod FirstTextLemmas
 pub mod FormatFileLemmas
 pub mod HeadlineLemmas
 pub mod LoadsLemmas
 pub mod NarrowLemmas
 pub mod OneAnswerLemmas
 pub mod PieceLemmas
+pub mod PlanWorkLemmas
 pub mod PodFileLemmas
 pub mod StatusLineLemmas
 pub mod StockLemmas

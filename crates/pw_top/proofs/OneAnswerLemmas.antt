@@ -1,6 +1,6 @@
 -- ONE ANSWER: two answers of a command line that are allowed, neither out of memory, are the same.
 use Rattle.std.proofs.Common.{◌≡◌, ℕ, List, [], ◌∷◌, length, sym, ap, subst, ◌∙◌, inl, inr, ⊎_elim, arith}
-use Rattle.std.specs.Prelude.{Option, Some, None, Result, Ok, Err}
+use Rattle.std.specs.Prelude.{Result, Ok, Err}
 use Rattle.pw_base.specs.declared.event.Event.{Event}
 use Rattle.pw_base.specs.declared.limit.Which.{Which}
 use Rattle.pw_base.specs.Files.{Names}
@@ -14,8 +14,6 @@ use Rattle.format_filter.specs.declared.common.Filtered.TheVariants.{Common, Cla
 use Rattle.format_filter.proofs.AnswerLemmas.{object_fault}
 use Rattle.format_filter.proofs.UniqueLemmas.{formats_one, object_faultless, filters_one, written_one}
 use Rattle.wav_files.specs.declared.wav.Wav.{Wav}
-use Rattle.graph_script.specs.declared.script.Line.{Line}
-use Rattle.graph_script.specs.declared.script.Script.{Script}
 use Rattle.pw_top.specs.declared.status.Status.{Status}
 use Rattle.pw_top.specs.declared.status.Status.TheVariants as S
 use Rattle.pw_top.specs.declared.status.PodWhy.TheVariants as P
@@ -29,7 +27,6 @@ use Rattle.pw_top.specs.FormatFile.{IsFormatIn, HoldsFormat}
 use Rattle.pw_top.specs.Filter.{StoresObject, GivesFiltered, FiltersTo, FiltersSecond, ReadsSecond, LoadsSecond, ReadsFirst}
 use Rattle.pw_top.specs.Automate.{GivesPoints, HoldsPoints, AutomatesWave, ReadsPoints, LoadsPoints, ReadsWave}
 use Rattle.pw_top.specs.Dump.{DumpsPod, DumpsBytes}
-use Rattle.pw_top.specs.Run.{RunsBytes, RunsLines, RunsScript, ReadsScript}
 use Rattle.pw_top.specs.Usage.{Words, command_of}
 use Rattle.pw_top.specs.CommandLine.{IsAnswer, IsAnswerTo, IsReadAnswer}
 
@@ -205,31 +202,29 @@ wave_one : (names : Names) (seq out bytes : List ℕ) → HasOne (ReadsWave name
 wave_one names seq out bytes = binds_one _ (LoadsPoints names seq out) (part_one [] _ (outcomes_equal _))
     (λ wav. binds_one _ (ReadsPoints out wav) (load_one names 2 seq _ _) (points_one out wav))
 
-run_bytes_one : (script : Script) (place : ℕ) (bytes : List ℕ) → HasOne (RunsBytes script place bytes)
-run_bytes_one script place bytes = binds_one _ _ (part_one [] _ (outcomes_equal _)) (λ wav. part_one [] _ (outcomes_equal _))
+-- a command line that asks for `run`, of whose plan it is not proved that there is but one
+abbrev pub IsRun : CommandLine → Type 0
+IsRun (C.Run c) = Unit {0}
+IsRun other = ⊥
 
-lines_one : (names : Names) (script : Script) (source : Option Line) → HasOne (RunsLines names script source)
-lines_one names script None = part_one [] _ (outcomes_equal _)
-lines_one names script (Some line) = binds_one _ (RunsBytes script line.line) (load_one names line.line _ _ _)
-    (run_bytes_one script line.line)
+abbrev pub AsksRun : Result CommandLine Status → Type 0
+AsksRun (Ok c) = IsRun c
+AsksRun (Err status) = ⊥
 
-script_one : (names : Names) (bytes : List ℕ) → HasOne (ReadsScript names bytes)
-script_one names bytes = binds_one _ (RunsScript names) (part_one [] _ (outcomes_equal _)) (λ script. lines_one names script _)
-
-command_one : (c : CommandLine) (history : List Event) (names : Names) → HasOne (IsAnswerTo c history names)
-command_one (C.Run c) history names = binds_one _ (ReadsScript names) (load_one names 0 c.script _ _) (script_one names)
-command_one (C.Dump c) history names = binds_one _ DumpsBytes (load_one names 1 c.file _ _) dump_bytes_one
-command_one (C.Filter c) history names = binds_one _ (ReadsFirst names c.b c.out) (load_one names 1 c.a _ _)
+command_one : (c : CommandLine) (history : List Event) (names : Names) → ¬ IsRun c → HasOne (IsAnswerTo c history names)
+command_one (C.Run c) history names other = absurd (other tt)
+command_one (C.Dump c) history names other = binds_one _ DumpsBytes (load_one names 1 c.file _ _) dump_bytes_one
+command_one (C.Filter c) history names other = binds_one _ (ReadsFirst names c.b c.out) (load_one names 1 c.a _ _)
     (first_one names c.b c.out)
-command_one (C.Automate c) history names = binds_one _ (ReadsWave names c.seq c.out) (load_one names 1 c.input _ _)
+command_one (C.Automate c) history names other = binds_one _ (ReadsWave names c.seq c.out) (load_one names 1 c.input _ _)
     (wave_one names c.seq c.out)
 
-read_one : (r : Result CommandLine Status) (history : List Event) (names : Names) → HasOne (IsReadAnswer r history names)
-read_one (Ok c) history names = command_one c history names
-read_one (Err status) history names = record { one = λ a b h k na nb. h ∙ sym k }
+read_one : (r : Result CommandLine Status) (history : List Event) (names : Names) → ¬ AsksRun r → HasOne (IsReadAnswer r history names)
+read_one (Ok c) history names other = command_one c history names other
+read_one (Err status) history names other = record { one = λ a b h k na nb. h ∙ sym k }
 
--- THE ANSWER of a command line, by what happened in its run and by what the files hold
-pub answers_one : (words : Words) (history : List Event) (names : Names) (a b : Answer) → IsAnswer words history names a
-    → IsAnswer words history names b → ¬ IsShort a → ¬ IsShort b → a ≡ b
+-- THE ANSWER of a command line but `run`, by what happened in its run and by what the files hold
+pub answers_one : (words : Words) (history : List Event) (names : Names) (a b : Answer) → ¬ AsksRun (command_of words)
+    → IsAnswer words history names a → IsAnswer words history names b → ¬ IsShort a → ¬ IsShort b → a ≡ b
 unfolding IsAnswer
-answers_one words history names a b h k na nb = (read_one (command_of words) history names).one a b h k na nb
+answers_one words history names a b other h k na nb = (read_one (command_of words) history names other).one a b h k na nb

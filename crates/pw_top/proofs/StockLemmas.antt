@@ -1,8 +1,8 @@
 -- A stock stays sound through each line.
-use Rattle.std.proofs.Common.{◌≡◌, inl, inr, ℕ, zero, suc, ◌+◌, ◌<◌, ◌≤◌, ◌==◌, Bool, true, false, cond, List, [], ◌∷◌, ◌++◌, length, get_or, map}
+use Rattle.std.proofs.Common.{◌≡◌, inl, inr, ℕ, ◌+◌, ◌<◌, ◌≤◌, ◌==◌, Bool, true, false, cond, List, [], ◌∷◌, ◌++◌, length, get_or, map}
 use Rattle.std.proofs.Common.{Option, Some, None, refl, sym, ap, ◌∙◌, subst, arith, rules}
-use Rattle.std.specs.Prelude.{slice_get, IfSome, option_map, option_to_list, count_by}
-use Rattle.std.specs.List.{All, range_with_len}
+use Rattle.std.specs.Prelude.{slice_get, IfSome, option_map, count_by}
+use Rattle.std.specs.List.{All}
 use Rattle.std.proofs.lemmas.Option.{same_Some, none-some, slice_get_within, slice_get-get_or}
 use Rattle.std.proofs.lemmas.List.{map-append}
 use Rattle.std.proofs.lemmas.List.Sums.{sum_by-append}
@@ -24,7 +24,6 @@ use Rattle.port_model.specs.Forms.{value_at}
 use Rattle.port_model.specs.Offers.{int_of, new_port, new_node, HasFileNumbers}
 use Rattle.port_model.specs.Narrowing.{IsUnformatted, Narrows}
 use Rattle.port_model.specs.PortState.{kind_of, AtPort, IsPort, changed, with_port, offering}
-use Rattle.port_model.specs.SoundPorts.{AreSoundNodes}
 use Rattle.port_model.proofs.ChangedLemmas.{All-changed}
 use Rattle.port_model.specs.declared.narrowing.Narrowed.TheVariants.{Done}
 use Rattle.port_model.proofs.NodeLemmas.{at_place, at_port, has_place}
@@ -34,7 +33,7 @@ use Rattle.graph_plan.specs.Conditions.{IsWaveFor, HaveWaves}
 use Rattle.graph_plan.proofs.ListLemmas.{map_changed}
 use Rattle.graph_plan.proofs.PlaceLemmas.{left, at_end, parted}
 use Rattle.pw_top.specs.declared.stock.Stock.{Stock}
-use Rattle.pw_top.specs.Stocking.{with_wave, with_plain, AreUnused, IsSoundStock, IsStockAfter}
+use Rattle.pw_top.specs.Stocking.{with_wave, with_plain, IsSoundStock, IsStockAfter}
 use Rattle.pw_top.proofs.NarrowLemmas.{value_narrowed, kind_narrowed}
 
 -- counts of a list with one thing more, and of none

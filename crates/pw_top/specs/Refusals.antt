@@ -9,7 +9,6 @@ use Rattle.graph_script.specs.declared.fault.ScriptFault.{ScriptFault}
 use Rattle.graph_script.specs.declared.fault.ScriptFault.TheVariants as G
 use Rattle.pw_top.specs.declared.status.Status.{Status}
 use Rattle.pw_top.specs.declared.status.Status.TheVariants as S
-use Rattle.pw_top.specs.Stages.{ordered}
 
 -- the source's file is a wave, or refused at its line
 abbrev pub wave_outcome : ℕ → Result Wav WavFault → Result Wav Status
@@ -17,8 +16,8 @@ wave_outcome place (Ok wav) = Ok wav
 wave_outcome place (Err F.Memory) = Err S.Memory
 wave_outcome place (Err fault) = Err (S.Wav place fault)
 
--- the script, where `run` takes its lines; or its first fault
+-- the script, or its first fault
 abbrev pub script_outcome : Result Script ScriptFault → Result Script Status
-script_outcome (Ok script) = ordered script
+script_outcome (Ok script) = Ok script
 script_outcome (Err (G.At line why)) = Err (S.Script line why)
 script_outcome (Err G.Memory) = Err S.Memory

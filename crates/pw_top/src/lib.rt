@@ -3,17 +3,14 @@
 
 mod commands;
 mod delivering;
-mod first_lines;
-mod first_plan;
-mod first_run;
 mod format_file;
 mod loading;
 mod loads;
+mod plan_work;
 mod pod_file;
 mod points_file;
 mod preparing;
 mod script_loads;
-mod stages;
 mod status;
 mod status_line;
 mod stock;

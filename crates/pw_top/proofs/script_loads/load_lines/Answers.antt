@@ -1,5 +1,5 @@
 -- Each line may be loaded, and one more of them is.
-use Rattle.std.proofs.Common.{◌≡◌, ℕ, ◌+◌, ◌<◌, [], List, ◌∷◌, drop, sym, subst, refl, ◌∙◌, arith}
+use Rattle.std.proofs.Common.{ℕ, ◌+◌, List, drop, sym, subst, refl, ◌∙◌, arith}
 use Rattle.std.specs.Prelude.{Ok, Err, option_map}
 use Rattle.pw_base.specs.declared.kind.Kind.{Kind}
 use Rattle.pw_base.specs.Files.{Names, names_in}

@@ -1,4 +1,4 @@
-use Rattle.std.proofs.Common.{◌≡◌, IsSome, drop}
+use Rattle.std.proofs.Common.{IsSome, drop}
 use Rattle.std.specs.Prelude.{Result}
 use Rattle.pw_base.specs.Files.{names_in}
 use Rattle.graph_lines.specs.Start.{kinds_of}

@@ -10,5 +10,5 @@ use Rattle.pw_top.proofs.commands.run.run_script_bytes.Goals as goal
 pub returns-in-Ok-clause-told : goal.returns-in-Ok-clause-told
 returns-in-Ok-clause-told g c = λ h.
     binds_goes (Reads (λ outcome. outcome ≡ script_outcome (script_of c.args.bytes.now)))
-    (RunsScript (names_in (g.F.Files.held c.args.files.now))) c.in-Ok.script c.run_lines.result c.in-Ok.ensures.told
-    (c.run_lines.ensures.told h)
+    (RunsScript (names_in (g.F.Files.held c.args.files.now))) c.in-Ok.script c.run_script.result c.in-Ok.ensures.told
+    (c.run_script.ensures.told h)

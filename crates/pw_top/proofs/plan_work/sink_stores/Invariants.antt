@@ -1,0 +1,6 @@
+use Rattle.std.proofs.Common.{◌≡◌, map}
+use Rattle.pw_top.specs.PlannedWork.{sink_store}
+use Rattle.pw_top.proofs.plan_work.sink_stores.Given as goal
+
+abbrev pub invariant-loop-kept : goal.invariant-loop-kept
+invariant-loop-kept l = l.stores ≡ map (sink_store l.lines) l.yielded
