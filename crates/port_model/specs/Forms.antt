@@ -14,8 +14,7 @@ use Rattle.port_model.specs.declared.port_state.PortState.{PortState}
 use Rattle.port_model.specs.declared.port_state.Node.{Node}
 use Rattle.port_model.specs.declared.sharing.Offered.{Offered}
 use Rattle.port_model.specs.declared.sharing.Offered.TheVariants.{Offer, Nothing}
-use Rattle.port_model.specs.Offers.{int_of, is_shared_key}
-use Rattle.port_model.specs.Keys.{rate_key, channels_key}
+use Rattle.port_model.specs.Offers.{int_of, is_shared_key, rate_key, channels_key}
 
 -- the one value that a choice is
 abbrev pub only_of : Choice → Option Pod
@@ -75,6 +74,7 @@ HasForm node s rate channels = (value_of node s rate_key ≡ Some (int_of rate))
 abbrev pub IsForm : Node → PortState → Option (ℕ × ℕ) → Type 0
 IsForm node s None = (rate channels : ℕ) → HasForm node s rate channels → ⊥
 IsForm node s (Some form) = HasForm node s form.0 form.1
+
 -- COUNT OF BUFFERS of a port: 1 to 8, or just the number that was set
 abbrev pub buffers_of : PortState → Choice
 buffers_of s = option_map_or (λ n. Range wide.Int (pos n) (pos n) (pos n)) s.buffers (Range wide.Int (pos 2) (pos 1) (pos 8))

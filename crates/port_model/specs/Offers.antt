@@ -15,7 +15,7 @@ use Rattle.format_filter.specs.declared.format.Field.{Field}
 use Rattle.format_filter.specs.declared.format.Format.{Format}
 use Rattle.port_model.specs.declared.port_state.PortState.{PortState}
 use Rattle.port_model.specs.declared.port_state.Node.{Node}
-use Rattle.port_model.specs.Keys.{format_object, enum_format_id, media_type_key, media_subtype_key, audio_type, raw_subtype, audio_format_key, s16_le_format, rate_key, channels_key}
+pub use Rattle.port_model.specs.Keys.{format_object, enum_format_id, media_type_key, media_subtype_key, audio_type, raw_subtype, audio_format_key, s16_le_format, rate_key, channels_key}
 
 -- a number as an Int
 abbrev pub int_of : ℕ → Pod

@@ -13,9 +13,8 @@ use Rattle.format_filter.specs.Members.{IsMember}
 use Rattle.format_filter.specs.CommonFormat.{field_of, IsSoundFormat}
 use Rattle.port_model.specs.declared.port_state.PortState.{PortState}
 use Rattle.port_model.specs.declared.port_state.Node.{Node}
-use Rattle.port_model.specs.Offers.{int_of, is_shared_key, FixesChannels}
+use Rattle.port_model.specs.Offers.{int_of, is_shared_key, FixesChannels, format_object, rate_key, channels_key}
 use Rattle.port_model.specs.Forms.{value_at, shared_value}
-use Rattle.port_model.specs.Keys.{format_object, rate_key, channels_key}
 
 -- an Int of a number for which P holds
 abbrev pub IsNumber : (ℕ → Type 0) → Pod → Type 0
@@ -73,6 +72,7 @@ pub record IsSoundNode (node : Node) : Type 0 where
 pub record AreSoundNodes (nodes : List Node) : Type 0 where
   pub few : length nodes ≤ 63
   pub each : All IsSoundNode nodes
+
 -- a port without a format may take one: it is within the own offer, and has the values that the node shares
 pub record MayTake (format : Format) (node : Node) (s : PortState) : Type 0 where
   pub free : s.format ≡ None
