@@ -33,6 +33,7 @@ const OUT: [u8; 52] = [
 const INT: [u8; 16] = [4, 0, 0, 0, 4, 0, 0, 0, 5, 0, 0, 0, 0, 0, 0, 0];
 
 /// A control: its offset, its kind, the type of its object, and the number under the gain's key.
+#[derive(Drop)]
 struct Row {
     offset: u32,
     kind: u32,
@@ -43,7 +44,10 @@ struct Row {
 // The bytes of a sequence of these controls.
 fn sequence_of(alloc: Global, rows: &[Row]) -> Result<Items<u8>, Memory> {
     let mut bytes = Items::new(alloc);
-    let size = 8 + 48 * rows.len() as u32;
+    let Ok(count) = u32::try_from(rows.len()) else {
+        return Err(Memory);
+    };
+    let size = count.wrapping_mul(48).wrapping_add(8);
     for number in [size, 16, 0, 0] {
         bytes.extend(number.to_le_bytes().as_slice())?;
     }

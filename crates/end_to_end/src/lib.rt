@@ -8,6 +8,8 @@ mod faults;
 #[cfg(test)]
 mod filters;
 #[cfg(test)]
+mod graphs;
+#[cfg(test)]
 mod pods;
 #[cfg(test)]
 mod refusals;
@@ -15,3 +17,5 @@ mod refusals;
 mod rendering;
 #[cfg(test)]
 mod support;
+#[cfg(test)]
+mod waves;

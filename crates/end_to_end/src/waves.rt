@@ -1,0 +1,107 @@
+//! Waves in the files of a test, and what a script makes of them.
+
+use crate::support::{expect, text};
+use pw_base::{Items, MemFiles, MemSink, Memory};
+use pw_top::Status;
+use std::alloc::Global;
+use std::process::Abort;
+use std::sync::Wait;
+use std::test::Fail;
+use std::thread::Threads;
+
+/// Frames a second of every wave here.
+const RATE: u32 = 48_000;
+
+// What stands before the format of a WAV file with so many bytes of samples.
+fn riff_of(alloc: Global, data: u32) -> Result<Items<u8>, Memory> {
+    let mut bytes = Items::from_slice(alloc, b"RIFF".as_slice())?;
+    bytes.extend(data.wrapping_add(36).to_le_bytes().as_slice())?;
+    bytes.extend(b"WAVEfmt \x10\x00\x00\x00\x01\x00".as_slice())?;
+    Ok(bytes)
+}
+
+// The rest of the format, of 16-bit samples at 48000 frames a second.
+fn append_format(bytes: &mut Items<u8>, channels: u16) -> Result<(), Memory> {
+    let frame = channels.wrapping_mul(2);
+    bytes.extend(channels.to_le_bytes().as_slice())?;
+    bytes.extend(RATE.to_le_bytes().as_slice())?;
+    bytes.extend(RATE.wrapping_mul(u32::from(frame)).to_le_bytes().as_slice())?;
+    bytes.extend(frame.to_le_bytes().as_slice())?;
+    bytes.extend(b"\x10\x00data".as_slice())
+}
+
+fn append_samples(bytes: &mut Items<u8>, samples: &[i16]) -> Result<(), Memory> {
+    for sample in samples {
+        bytes.extend(sample.to_le_bytes().as_slice())?;
+    }
+    Ok(())
+}
+
+// The bytes of a WAV file of these samples at 48000 frames a second.
+fn wav_bytes(alloc: Global, channels: u16, samples: &[i16]) -> Result<Items<u8>, Memory> {
+    let Ok(count) = u32::try_from(samples.len()) else {
+        return Err(Memory);
+    };
+    let data = count.wrapping_mul(2);
+    let mut bytes = riff_of(alloc, data)?;
+    append_format(&mut bytes, channels)?;
+    bytes.extend(data.to_le_bytes().as_slice())?;
+    append_samples(&mut bytes, samples)?;
+    Ok(bytes)
+}
+
+/// Adds a wave of these samples.
+pub fn add_wave(
+    alloc: Global,
+    files: &mut MemFiles,
+    name: &str,
+    channels: u16,
+    samples: &[i16],
+) -> Result<(), Memory> {
+    let bytes = wav_bytes(alloc, channels, samples)?;
+    files.add_file(alloc, &text(alloc, name)?, bytes.as_slice())
+}
+
+/// Runs a script that is accepted, and compares its text.
+pub fn expect_run<R: Threads + Wait + Sync + AllocGlobal + Abort>(
+    rt: &R,
+    files: &mut MemFiles,
+    script: &str,
+    wanted: &str,
+) -> Result<(), Fail> {
+    let alloc = rt.alloc();
+    files.add_file(alloc, &text(alloc, "s.graph")?, script.as_bytes())?;
+    let mut out = MemSink::new(alloc)?;
+    expect(rt, "run s.graph", files, &mut out, Status::Ok, wanted)
+}
+
+/// Compares a stored wave.
+pub fn expect_wave<R: AllocGlobal + Abort>(
+    rt: &R,
+    files: &MemFiles,
+    name: &str,
+    channels: u16,
+    samples: &[i16],
+) -> Result<(), Fail> {
+    let wanted = wav_bytes(rt.alloc(), channels, samples)?;
+    let name = text(rt.alloc(), name)?;
+    match files.file(&name) {
+        Some(bytes) => assert!(rt; bytes.as_slice() == wanted.as_slice()),
+        None => assert!(rt; false, "not stored"),
+    }
+    Ok(())
+}
+
+/// Runs a script over a mono s.wav, and compares its text and a mono o.wav.
+pub fn expect_mono<R: Threads + Wait + Sync + AllocGlobal + Abort>(
+    rt: &R,
+    source: &[i16],
+    script: &str,
+    wanted: &str,
+    sink: &[i16],
+) -> Result<(), Fail> {
+    let mut files = MemFiles::new(rt.alloc())?;
+    add_wave(rt.alloc(), &mut files, "s.wav", 1, source)?;
+    expect_run(rt, &mut files, script, wanted)?;
+    expect_wave(rt, &files, "o.wav", 1, sink)
+}
