@@ -6,6 +6,7 @@ pub mod HeadlineLemmas
 pub mod LoadsLemmas
 pub mod NarrowLemmas
 pub mod OneAnswerLemmas
+pub mod WaveFormLemmas
 pub mod PieceLemmas
 pub mod PlanWorkLemmas
 pub mod PodFileLemmas
