@@ -6,9 +6,14 @@ pub mod HeadlineLemmas
 pub mod LoadsLemmas
 pub mod NarrowLemmas
 pub mod OneAnswerLemmas
+pub mod OneLoadsLemmas
+pub mod OneNarrowLemmas
+pub mod OnePartLemmas
+pub mod OneRunLemmas
 pub mod PieceLemmas
 pub mod PlanWorkLemmas
 pub mod PodFileLemmas
 pub mod StatusLineLemmas
 pub mod StockLemmas
 pub mod StoppingLemmas
+pub mod WaveFormLemmas

@@ -1,0 +1,105 @@
+-- ONE RUN: two answers of a script that are allowed, neither out of memory, are the same. What its lines load is one, and
+-- it has one plan of that.
+use Rattle.std.proofs.Common.{◌≡◌, ℕ, ◌<◌, ◌≤◌, List, [], length, refl, ap, subst, ◌∙◌, arith}
+use Rattle.std.specs.Prelude.{Result, Ok, Err}
+use Rattle.std.proofs.lemmas.List.Elements.{All-nil}
+use Rattle.pw_base.specs.declared.limit.Which.{Which}
+use Rattle.pw_base.specs.declared.plan.Plan.{Plan}
+use Rattle.pw_base.specs.Files.{Names}
+use Rattle.wav_files.specs.declared.wav.WavIn.{WavIn}
+use Rattle.graph_script.specs.declared.script.Script.{Script}
+use Rattle.graph_script.specs.declared.fault.ScriptFault.{ScriptFault}
+use Rattle.graph_script.specs.declared.fault.ScriptFault.TheVariants as G
+use Rattle.graph_script.specs.Grammar.{script_of, start}
+use Rattle.graph_script.specs.Lexical.{lines_of}
+use Rattle.graph_script.specs.Kinds.{HasKinds}
+use Rattle.graph_script.specs.Making.{NamesMade}
+use Rattle.graph_script.specs.Ranges.{HasRanges}
+use Rattle.graph_script.proofs.AgainLemmas.{has_run, good_final}
+use Rattle.graph_script.proofs.SoundLemmas.{start-sound, sound-kinds}
+use Rattle.port_model.specs.declared.port_state.Node.{Node}
+use Rattle.graph_lines.specs.Start.{kinds_of}
+use Rattle.graph_plan.specs.declared.fault.PlanFault.TheVariants as F
+use Rattle.graph_plan.specs.Conditions.{AreScriptPorts}
+use Rattle.graph_plan.proofs.PlanOneLemmas.{planned_one}
+use Rattle.graph_plan.proofs.ScriptLemmas.{lines_are, named_are}
+use Rattle.pw_top.specs.declared.status.Status.TheVariants as S
+use Rattle.pw_top.specs.declared.stock.Stock.{Stock}
+use Rattle.pw_top.specs.Allowed.{Reads}
+use Rattle.pw_top.specs.Refusals.{script_outcome}
+use Rattle.pw_top.specs.Loads.{LoadsAll}
+use Rattle.pw_top.specs.PlannedWork.{plan_work, PlansTo, WorksPlan, PlansStock}
+use Rattle.pw_top.specs.Run.{RunsScript, ReadsScript, IsRunAnswer}
+use Rattle.pw_top.specs.Stocking.{nothing_loaded}
+use Rattle.pw_top.proofs.LoadsLemmas.{IsUnderWay, sound_start, way_start, stock_of}
+use Rattle.pw_top.proofs.OnePartLemmas.{HasOne, OneOutcome, part_one, outcomes_equal, binds_given, binds_one, part_gave, load_one}
+use Rattle.pw_top.proofs.OneLoadsLemmas.{IsFresh, all_one, all_after}
+
+-- what holds of a script that was read
+record IsWhole (script : Script) : Type 0 where
+  ranges : HasRanges script
+  kinds : HasKinds script
+  made : NamesMade 0 script.lines
+
+whole : (bytes : List ℕ) (script : Script) → script_of bytes ≡ Ok script → IsWhole script
+unfolding script_of
+whole bytes script e =
+    let run = has_run 1 start (lines_of bytes) script e in
+    let sound = good_final 1 start (lines_of bytes) run.final
+    (record { one = omega arith; before = All-nil (λ l. l.line < 1); sound = start-sound }) run.ran in
+    subst IsWhole run.is (record { ranges = sound.script; kinds = sound-kinds run.final sound; made = sound.order.made })
+
+-- its plan of what its lines load
+module _ (script : Script) (known : IsWhole script) where
+  planned_same : (ports : List Node) → AreScriptPorts script.lines ports → (waves : List WavIn) → OneOutcome (PlansTo script ports waves)
+  planned_same ports fit waves (Ok p) (Ok q) h k =
+      let same = planned_one script known.ranges known.kinds known.made ports fit waves (Ok p) (Ok q) tt tt h k in
+      let plans : p ≡ q = cc in
+      ap (λ (x : Plan). Ok x) plans
+  planned_same ports fit waves (Ok p) (Err (S.Limit line which)) h k =
+      let same = planned_one script known.ranges known.kinds known.made ports fit waves (Ok p) (Err (F.Limit line which)) tt tt h k in cc
+  planned_same ports fit waves (Err (S.Limit line which)) (Ok q) h k =
+      let same = planned_one script known.ranges known.kinds known.made ports fit waves (Err (F.Limit line which)) (Ok q) tt tt h k in cc
+  planned_same ports fit waves (Err (S.Limit l v)) (Err (S.Limit m w)) h k =
+      let same = planned_one script known.ranges known.kinds known.made ports fit waves (Err (F.Limit l v)) (Err (F.Limit m w)) tt tt h k in
+      let lines : l ≡ m = cc in
+      let limits : v ≡ w = cc in
+      ap (λ (n : ℕ). Err (S.Limit n v)) lines ∙ ap (λ (x : Which). Err (S.Limit m x)) limits
+  planned_same ports fit waves (Ok p) (Err status) h k = absurd k
+  planned_same ports fit waves (Err (S.Limit line which)) (Err status) h k = absurd k
+  planned_same ports fit waves (Err status) y h k = absurd h
+
+  plans_one : (stock : Stock) → AreScriptPorts script.lines stock.ports → HasOne (PlansStock script stock)
+  plans_one stock fit = binds_one (Reads (PlansTo script stock.ports stock.waves)) (WorksPlan script stock.waves)
+      (part_one [] (PlansTo script stock.ports stock.waves) (planned_same stock.ports fit stock.waves))
+      (λ plan. part_one [] (λ outcome. outcome ≡ Ok (plan_work script stock.waves plan)) (outcomes_equal (Ok (plan_work script stock.waves plan))))
+
+  few : length (kinds_of script.lines) ≤ 63
+  few = let count = known.ranges.count in let same = named_are script known.ranges known.kinds in omega (arith, count, same)
+
+  fresh_start : IsFresh nothing_loaded.ports
+  fresh_start = ([], sound_start nothing_loaded refl)
+
+  under_way : IsUnderWay (kinds_of script.lines) script.lines nothing_loaded.ports
+  under_way = way_start script.lines nothing_loaded (lines_are script known.ranges known.kinds) known.made refl
+
+  script_one : (names : Names) → HasOne (RunsScript names script)
+  script_one names = binds_given (LoadsAll names script.lines nothing_loaded) (PlansStock script)
+      (all_one names (kinds_of script.lines) few script.lines nothing_loaded fresh_start under_way) (λ e x p is.
+      let a = all_after names (kinds_of script.lines) few script.lines nothing_loaded fresh_start under_way e x p is in
+      plans_one x (stock_of script.lines [] (record { ports = x.ports; waves = a.0.0; used = 0 }) a.0.1 a.1 refl).ports)
+
+-- THE RUN of a script's file
+script_is : (r : Result Script ScriptFault) (script : Script) → Ok script ≡ script_outcome r → r ≡ Ok script
+script_is (Ok s) script e = cc
+script_is (Err (G.At line why)) script e = cc
+script_is (Err G.Memory) script e = cc
+
+bytes_one : (names : Names) (bytes : List ℕ) → HasOne (ReadsScript names bytes)
+bytes_one names bytes = binds_given (Reads (λ outcome. outcome ≡ script_outcome (script_of bytes))) (RunsScript names)
+    (part_one [] (λ outcome. outcome ≡ script_outcome (script_of bytes)) (outcomes_equal (script_outcome (script_of bytes))))
+    (λ e script p is. script_one script (whole bytes script (script_is (script_of bytes) script
+    (part_gave [] (λ outcome. outcome ≡ script_outcome (script_of bytes)) e script p is))) names)
+
+pub run_one : (names : Names) (word : List ℕ) → HasOne (IsRunAnswer names word)
+run_one names word = binds_one _ (ReadsScript names) (load_one names 0 word _ _) (bytes_one names)
