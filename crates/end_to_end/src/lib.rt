@@ -10,11 +10,21 @@ mod filters;
 #[cfg(test)]
 mod graphs;
 #[cfg(test)]
+mod limits;
+#[cfg(test)]
+mod linking;
+#[cfg(test)]
+mod offers;
+#[cfg(test)]
 mod pods;
 #[cfg(test)]
 mod refusals;
 #[cfg(test)]
 mod rendering;
+#[cfg(test)]
+mod scripts;
+#[cfg(test)]
+mod storing;
 #[cfg(test)]
 mod support;
 #[cfg(test)]

@@ -9,7 +9,7 @@ use std::sync::Wait;
 use std::test::Fail;
 use std::thread::Threads;
 
-/// Frames a second of every wave here.
+/// Frames a second of a wave whose rate is not given.
 const RATE: u32 = 48_000;
 
 // What stands before the format of a WAV file with so many bytes of samples.
@@ -20,12 +20,12 @@ fn riff_of(alloc: Global, data: u32) -> Result<Items<u8>, Memory> {
     Ok(bytes)
 }
 
-// The rest of the format, of 16-bit samples at 48000 frames a second.
-fn append_format(bytes: &mut Items<u8>, channels: u16) -> Result<(), Memory> {
+// The rest of the format, of 16-bit samples.
+fn append_format(bytes: &mut Items<u8>, rate: u32, channels: u16) -> Result<(), Memory> {
     let frame = channels.wrapping_mul(2);
     bytes.extend(channels.to_le_bytes().as_slice())?;
-    bytes.extend(RATE.to_le_bytes().as_slice())?;
-    bytes.extend(RATE.wrapping_mul(u32::from(frame)).to_le_bytes().as_slice())?;
+    bytes.extend(rate.to_le_bytes().as_slice())?;
+    bytes.extend(rate.wrapping_mul(u32::from(frame)).to_le_bytes().as_slice())?;
     bytes.extend(frame.to_le_bytes().as_slice())?;
     bytes.extend(b"\x10\x00data".as_slice())
 }
@@ -37,20 +37,38 @@ fn append_samples(bytes: &mut Items<u8>, samples: &[i16]) -> Result<(), Memory> 
     Ok(())
 }
 
-// The bytes of a WAV file of these samples at 48000 frames a second.
-fn wav_bytes(alloc: Global, channels: u16, samples: &[i16]) -> Result<Items<u8>, Memory> {
+// The bytes of a WAV file of these samples.
+fn wav_bytes(
+    alloc: Global,
+    rate: u32,
+    channels: u16,
+    samples: &[i16],
+) -> Result<Items<u8>, Memory> {
     let Ok(count) = u32::try_from(samples.len()) else {
         return Err(Memory);
     };
     let data = count.wrapping_mul(2);
     let mut bytes = riff_of(alloc, data)?;
-    append_format(&mut bytes, channels)?;
+    append_format(&mut bytes, rate, channels)?;
     bytes.extend(data.to_le_bytes().as_slice())?;
     append_samples(&mut bytes, samples)?;
     Ok(bytes)
 }
 
-/// Adds a wave of these samples.
+/// Adds a wave of these samples at so many frames a second.
+pub fn add_wave_at(
+    alloc: Global,
+    files: &mut MemFiles,
+    name: &str,
+    rate: u32,
+    channels: u16,
+    samples: &[i16],
+) -> Result<(), Memory> {
+    let bytes = wav_bytes(alloc, rate, channels, samples)?;
+    files.add_file(alloc, &text(alloc, name)?, bytes.as_slice())
+}
+
+/// Adds a wave of these samples at 48000 frames a second.
 pub fn add_wave(
     alloc: Global,
     files: &mut MemFiles,
@@ -58,8 +76,21 @@ pub fn add_wave(
     channels: u16,
     samples: &[i16],
 ) -> Result<(), Memory> {
-    let bytes = wav_bytes(alloc, channels, samples)?;
-    files.add_file(alloc, &text(alloc, name)?, bytes.as_slice())
+    add_wave_at(alloc, files, name, RATE, channels, samples)
+}
+
+/// Runs a script over these files, and compares its status and its text.
+pub fn expect_end<R: Threads + Wait + Sync + AllocGlobal + Abort>(
+    rt: &R,
+    files: &mut MemFiles,
+    script: &str,
+    status: Status,
+    wanted: &str,
+) -> Result<(), Fail> {
+    let alloc = rt.alloc();
+    files.add_file(alloc, &text(alloc, "s.graph")?, script.as_bytes())?;
+    let mut out = MemSink::new(alloc)?;
+    expect(rt, "run s.graph", files, &mut out, status, wanted)
 }
 
 /// Runs a script that is accepted, and compares its text.
@@ -69,10 +100,7 @@ pub fn expect_run<R: Threads + Wait + Sync + AllocGlobal + Abort>(
     script: &str,
     wanted: &str,
 ) -> Result<(), Fail> {
-    let alloc = rt.alloc();
-    files.add_file(alloc, &text(alloc, "s.graph")?, script.as_bytes())?;
-    let mut out = MemSink::new(alloc)?;
-    expect(rt, "run s.graph", files, &mut out, Status::Ok, wanted)
+    expect_end(rt, files, script, Status::Ok, wanted)
 }
 
 /// Compares a stored wave.
@@ -83,7 +111,7 @@ pub fn expect_wave<R: AllocGlobal + Abort>(
     channels: u16,
     samples: &[i16],
 ) -> Result<(), Fail> {
-    let wanted = wav_bytes(rt.alloc(), channels, samples)?;
+    let wanted = wav_bytes(rt.alloc(), RATE, channels, samples)?;
     let name = text(rt.alloc(), name)?;
     match files.file(&name) {
         Some(bytes) => assert!(rt; bytes.as_slice() == wanted.as_slice()),
