@@ -1,6 +1,5 @@
--- Points of a control sequence: which controls give one, and which are at fault.
--- Source: PipeWire's documentation, "SPA POD" (Sequence, Props); spa/control/control.h, spa/param/props.h; that a gain
--- is an Int in 1/256 under a custom key, and the order of the faults, are this project's.
+-- Points of a control sequence, and its faults. Source: PipeWire's documentation, "SPA POD" (Sequence, Props);
+-- spa/control/control.h, spa/param/props.h. The key and the scale of a gain, and the order of faults, are this project's.
 use Rattle.std.specs.Prelude.{◌≡◌, ℕ, ◌==◌, ◌&&◌, Bool, List, [], ◌∷◌, map, Option, Some, None, is_some, is_none, Result}
 use Rattle.std.specs.Prelude.{Ok, Err, ℤ, unsigned_abs, nat_lt, nat_le, filter_map, option_map, option_and_then}
 use Rattle.std.specs.Prelude.{if◌then◌else◌}

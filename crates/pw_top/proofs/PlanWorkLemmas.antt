@@ -1,4 +1,4 @@
--- Laws of `specs/PlannedWork.antt`: each kept wave has the line of its sink, its stores can be made, and the text printed.
+-- Laws of `specs/SinkStores.antt`: each kept wave has the line of its sink, its stores can be made, and the text printed.
 use Rattle.std.proofs.Common.{◌≡◌, inl, inr, ◌⊎◌, ℕ, zero, suc, ◌+◌, ◌<◌, ◌≤◌, ◌==◌, Bool, true, false, cond, ◌&&◌, List, [], ◌∷◌, length, get_or, map}
 use Rattle.std.proofs.Common.{Option, Some, None, refl, sym, ap, ◌∙◌, subst, arith, rules}
 use Rattle.std.specs.Prelude.{slice_get, find, filter_map, option_map, unwrap_or, nat_lt, Ok}
@@ -35,7 +35,7 @@ use Rattle.cycle_model.specs.WavesFit.{WavesFit}
 use Rattle.cycle_model.proofs.KeptLemmas.{kept_is_wave}
 use Rattle.cycle_trace.specs.Printable.{IsPrintable, JoinsPorts, NamesNodes}
 use Rattle.pw_top.specs.Ending.{IsStorable}
-use Rattle.pw_top.specs.PlannedWork.{makes_sink, sink_line_of, place_of, sink_store, AllPlaced}
+use Rattle.pw_top.specs.SinkStores.{makes_sink, sink_line_of, place_of, sink_store, AllPlaced}
 
 -- THE TEXT can be printed
 same_kinds : (nodes : List PlanNode) (n : ℕ)

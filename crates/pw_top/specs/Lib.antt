@@ -16,5 +16,6 @@ pub mod PodFile
 pub mod Preparing
 pub mod Refusals
 pub mod Run
+pub mod SinkStores
 pub mod StatusLine
 pub mod Usage

@@ -12,8 +12,8 @@ ghost use Rattle.graph_plan.specs.Joining.{JoinsKinds};
 ghost use Rattle.pw_top.specs.Allowed.{Reads};
 ghost use Rattle.pw_top.specs.Ending.{Ends, CommandCause, IsDeliverable};
 ghost use Rattle.pw_top.specs.Stocking.{IsStockOf};
-ghost use Rattle.pw_top.specs.PlannedWork.{makes_sink, sink_line_of, sink_file, sink_store, plan_work};
-ghost use Rattle.pw_top.specs.PlannedWork.{AllPlaced, WorksPlan, PlansPorts, PlansStock};
+ghost use Rattle.pw_top.specs.PlannedWork.{plan_work, WorksPlan, PlansPorts, PlansStock};
+ghost use Rattle.pw_top.specs.SinkStores.{makes_sink, sink_line_of, sink_file, sink_store, AllPlaced};
 
 use crate::status::Status;
 use crate::stock::Stock;

@@ -1,5 +1,5 @@
 use Rattle.std.proofs.Common.{◌≡◌, map}
-use Rattle.pw_top.specs.PlannedWork.{sink_store}
+use Rattle.pw_top.specs.SinkStores.{sink_store}
 use Rattle.pw_top.proofs.plan_work.sink_stores.Given as goal
 
 abbrev pub invariant-loop-kept : goal.invariant-loop-kept
