@@ -6,6 +6,7 @@ pub mod HeadlineLemmas
 pub mod LoadsLemmas
 pub mod NarrowLemmas
 pub mod OneAnswerLemmas
+pub mod OneLineLemmas
 pub mod OneLoadsLemmas
 pub mod OneNarrowLemmas
 pub mod OnePartLemmas

@@ -1,5 +1,5 @@
 -- ONE NARROWING: a file narrows a port of sound nodes in one way, as each own offer is a Format.
-use Rattle.std.proofs.Common.{◌≡◌, ℕ, List, [], get_or, Some, refl, sym, ap, ◌∙◌}
+use Rattle.std.proofs.Common.{◌≡◌, ℕ, List, get_or, Some, refl, sym, ap, ◌∙◌}
 use Rattle.std.specs.Prelude.{slice_get}
 use Rattle.std.proofs.lemmas.Option.{slice_get-get_or}
 use Rattle.pw_base.specs.declared.ids.PortId.{PortId}
@@ -21,6 +21,7 @@ use Rattle.port_model.proofs.NodeLemmas.{at_place, at_port, has_place}
 use Rattle.pw_top.specs.declared.stock.Stock.{Stock}
 use Rattle.pw_top.specs.Loads.{narrowed_outcome, NarrowsTo}
 use Rattle.pw_top.proofs.OnePartLemmas.{OneOutcome}
+use Rattle.pw_top.proofs.StockLemmas.{nowhere}
 
 -- a file narrows a port in one way: its own offer is a Format
 module _ (place : ℕ) (stock : Stock) (port : PortId) (file : Format) (n : Node) (s : PortState) (at_node : slice_get stock.ports port.node ≡ Some n)
@@ -59,9 +60,6 @@ module _ (place : ℕ) (stock : Stock) (port : PortId) (file : Format) (n : Node
       let commons : d.0 ≡ e.0 = cc in
       let ports : a ≡ b = d.2 ∙ ap (λ (c : Format). with_port stock.ports port (offering c)) commons ∙ sym e.2 in
       ap (λ (ps : List Node). narrowed_outcome place stock N.Done ps) ports
-
-nowhere : Node
-nowhere = record { kind = K.Source; ports = [] }
 
 pub narrows_one : (place : ℕ) (port : PortId) (stock : Stock) (file : Format) → AreSoundNodes stock.ports → IsPort stock.ports port
     → OneOutcome (NarrowsTo place port stock file)

@@ -33,7 +33,8 @@ use Rattle.pw_top.specs.Run.{RunsScript, ReadsScript, IsRunAnswer}
 use Rattle.pw_top.specs.Stocking.{nothing_loaded}
 use Rattle.pw_top.proofs.LoadsLemmas.{IsUnderWay, sound_start, way_start, stock_of}
 use Rattle.pw_top.proofs.OnePartLemmas.{HasOne, OneOutcome, part_one, outcomes_equal, binds_given, binds_one, part_gave, load_one}
-use Rattle.pw_top.proofs.OneLoadsLemmas.{IsFresh, all_one, all_after}
+use Rattle.pw_top.proofs.OneLineLemmas.{IsFresh}
+use Rattle.pw_top.proofs.OneLoadsLemmas.{all_one, all_after}
 
 -- what holds of a script that was read
 record IsWhole (script : Script) : Type 0 where

@@ -207,7 +207,7 @@ module _ (stock : Stock) (port : PortId) (n : Node) (s : PortState) (file c : Fo
         (λ node. refl) ∙ no_more (map (λ (m : Node). m.kind) stock.ports);
   }
 
-nowhere : Node
+pub nowhere : Node
 nowhere = record { kind = K.Source; ports = [] }
 
 pub narrow_done : (stock : Stock) (port : PortId) (file : Format) (after : List Node) → IsSoundStock stock → IsPort stock.ports port

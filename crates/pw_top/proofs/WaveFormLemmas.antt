@@ -1,21 +1,17 @@
 -- The wave of a file has a rate and channels in their ranges.
-use Rattle.std.proofs.Common.{◌≡◌, ℕ, ◌≤◌, ◌==◌, ◌*◌, ◌%◌, ◌&&◌, Bool, true, false, cond, List, [], ◌∷◌, drop, take, Option, Some, None, refl, sym, ap}
-use Rattle.std.proofs.Common.{subst, arith, rules}
+use Rattle.std.proofs.Common.{◌≡◌, ℕ, ◌≤◌, ◌==◌, ◌*◌, ◌%◌, ◌&&◌, Bool, true, false, List, [], ◌∷◌, drop, take, Option, Some, None, refl}
+use Rattle.std.proofs.Common.{subst, rules}
 use Rattle.std.specs.Prelude.{Result, Ok, Err, IfSome, not, nat_le, nat_lt, if◌then◌else◌}
-use Rattle.std.proofs.lemmas.Bool.{and_parts}
+use Rattle.std.proofs.lemmas.Bool.{and_parts, not-false}
 use Rattle.wav_files.specs.declared.wav.Wav.{Wav}
 use Rattle.wav_files.specs.declared.fault.WavFault.{WavFault}
 use Rattle.wav_files.specs.declared.fault.WavFault.TheVariants as F
 use Rattle.wav_files.specs.Chunks.{Chunk, chunks_of, is_whole, is_format, is_data, is_riff}
 use Rattle.wav_files.specs.FormatChunk.{IsForm, is_form, form_of, is_extensible, is_pcm16, named_form, block_align, whole_frames}
-use Rattle.wav_files.specs.WavReading.{Parts, data_of, passed, known_form, form_after, missing, go_on, parts_from, parts_of, wave_of, wav_of}
+use Rattle.wav_files.specs.WavReading.{Parts, data_of, passed, known_form, form_after, go_on, parts_from, parts_of, wave_of, wav_of}
 
 within : (a b : ℕ) → nat_le a b ≡ true → a ≤ b
 within a b e = search (rules, e)
-
-is_true : (b : Bool) → not b ≡ false → b ≡ true
-is_true true e = refl
-is_true false e = cc
 
 ranges : (form : _) → is_form form ≡ true → IsForm form
 ranges form e =
@@ -29,7 +25,7 @@ unfolding form_of
 form_known chunk form e =
     at (nat_lt chunk.size 16) (not (is_whole chunk)) (is_extensible chunk && nat_lt chunk.size 40) (not (is_pcm16 chunk))
     (not (is_form (named_form chunk))) (not (block_align chunk == 2 * (named_form chunk).channels))
-    (λ in_range. ranges (named_form chunk) (is_true (is_form (named_form chunk)) in_range)) e
+    (λ in_range. ranges (named_form chunk) (not-false (is_form (named_form chunk)) in_range)) e
   where
     at : (a b c d f g : Bool) → (f ≡ false → IsForm (named_form chunk))
         → (if a then Err F.BadFmt else if b then Err F.Truncated else if c then Err F.BadFmt else if d then Err F.NotPcm16
