@@ -29,6 +29,7 @@ module _ (p : BoardLayout) where
             owned = owned;
             there = subst (λ j. m < j) (sym (length-replicate (nodes p) (idle (first p)))) inside;
             knows = all_same (nodes p) m (idle (first p)) inside ∙ ap some (sym at);
+            owners = refl;
           },
           subst (λ (x : NodeView). (first p ≤ x.next) × (x.next ≤ last p)) (sym at) (omega arith, omega arith),
           inside,
@@ -43,7 +44,7 @@ module _ (p : BoardLayout) where
   pub tried_rests : (v : View) (m n found : ℕ) → IsResting p v n → IsResting p (tried p v m found) n
   tried_rests v m n found r = let h = r.member.0 in record {
     member = (
-      record { inside = h.inside; follows = h.follows; loops = h.loops; owned = h.owned; there = h.there; knows = h.knows },
+      record { inside = h.inside; follows = h.follows; loops = h.loops; owned = h.owned; there = h.there; knows = h.knows; owners = h.owners },
       r.member.1,
       r.member.2,
     );
@@ -62,6 +63,7 @@ module _ (p : BoardLayout) where
             owned = h.owned;
             there = subst (λ j. n < j) (sym (length-set v.nodes m y)) h.there;
             knows = set_else v.nodes m n y o ∙ h.knows ∙ ap some (sym at);
+            owners = h.owners;
           },
           subst (λ (x : NodeView). (first p ≤ x.next) × (x.next ≤ last p)) (sym at) r.member.1,
           r.member.2,
@@ -103,6 +105,7 @@ module _ (p : BoardLayout) where
               owned = o.owned;
               there = subst (λ k. m < k) (sym (length-set v.nodes m y)) o.there;
               knows = there_set v.nodes m y o.there ∙ ap some (sym at);
+              owners = o.owners;
             },
             subst (λ (z : NodeView). (first p ≤ z.next) × (z.next ≤ last p)) (sym at)
                 (let a = h.1.0 in let b = h.1.1 in (omega arith, omega arith)),

@@ -39,6 +39,7 @@ module _ (p : BoardLayout) (v : View) (m : ℕ) where
       owned = o.owned;
       there = subst (λ k. m < k) (sym (length-set v.nodes m y)) o.there;
       knows = set_there v.nodes m y (node_of v m) o.knows ∙ ap some (sym e);
+      owners = o.owners;
     },
     subst (λ (c : ℕ). IsCycle p c) (sym next ∙ sym (ap (λ (z : NodeView). z.next) e)) h.1,
     h.2,

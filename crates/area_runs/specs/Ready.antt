@@ -63,6 +63,7 @@ HasLed p old Ended new = ⊥
 HasLed p old (NotYet found) new =
     (found ≢ triggered_word old.seat.knows.lead.cycle)
     × (new.seat.knows ≡ tried p old.seat.knows p.driver found)
+    × (new.samples ≡ old.samples) × (new.room ≡ old.room)
 HasLed p old (Ran heard) new = (heard ≡ true) × HasConcluded p old new
 
 -- whether the driver's node waits after it

@@ -77,6 +77,7 @@ pub(crate) fn hear_all<S: BoardSeat>(
         AreHeard S.is_driver p (S.knows seat.old) links.now (S.knows seat.new) }
     ensures room { 0 < length links.now
         → room.new ≡ expected_of (layout board.now) now.now before.now (last_of links.now) }
+    ensures kept { length links.now ≡ 0 → room.new ≡ room.old }
     ensures samples { IsTrue result }
 {
     let mut heard = true;

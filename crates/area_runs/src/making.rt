@@ -96,6 +96,7 @@ fn worker_of(
         free,
         samples: quanta_of(alloc, even, odd)?,
         room: Items::filled(alloc, even.len(), 0)?.into_vec(),
+        written: None,
     })
 }
 

@@ -5,6 +5,7 @@ ghost use Rattle.area_runs.specs.Shapes.{fan, late_fan, row};
 
 use crate::{DriverLoop, Run, Tried, Worker, fan, late_fan, opened, row};
 use board_rule::Board;
+use io_areas::OutputWritten;
 use pw_base::{Epoch, Event, Items, Memory, Shape, is_legal_history};
 use std::alloc::Global;
 use std::sync::Wait;
@@ -160,6 +161,17 @@ fn nodes_with_links_take_each_other_down(rt: HostRuntime) -> Result<(), Fail> {
     Ok(())
 }
 
+// What a loop's last turn on a pool answered: the number given back, the block that was reclaimed, and the one that was
+// free longest.
+fn has_written(worker: &Worker, given: Option<u32>, reclaimed: Option<u32>, used: u32) -> bool {
+    worker.written()
+        == Some(OutputWritten {
+            given,
+            reclaimed,
+            used,
+        })
+}
+
 // Begins a cycle, and the source does its work in it.
 fn begin_and_write(board: &Board, lead: &mut DriverLoop, source: &mut Worker) -> Option<Tried>
     requires lead { IsLeadReadyOn board.now lead.old false }
@@ -188,6 +200,7 @@ fn three_readers_count_down(rt: HostRuntime) -> Result<(), Fail> {
         panic!(rt; "no cycle began")
     };
     assert!(rt; first == Tried::Ran { heard: true });
+    assert!(rt; has_written(&source, None, None, 0));
     assert!(rt; is_at(&board, 2, 3, 18446181136640966657));
     assert!(rt; try_at(&board, &mut one, 0) == Tried::Ran { heard: true });
     assert!(rt; is_at(&board, 1, 2, 18446181136640966657));
@@ -202,6 +215,7 @@ fn three_readers_count_down(rt: HostRuntime) -> Result<(), Fail> {
         panic!(rt; "no cycle began")
     };
     assert!(rt; second == Tried::Ran { heard: true });
+    assert!(rt; has_written(&source, Some(0), Some(0), 1));
     assert!(rt; is_at(&board, 4294967298, 0, 18446181136640966657));
     Ok(())
 }
@@ -224,9 +238,11 @@ fn is_late_at(board: &Board, areas: [u64; 2], readers: u64, samples: u64) -> boo
         && late_word(board, 50) == samples
 }
 
-// The words after the source ran in a cycle, and after node 2 ran.
+// The block that the source's turn reclaimed and the one that it used, the words after it ran in a cycle, and after node 2
+// ran.
 #[derive(Drop)]
 struct LateCycle {
+    answer: (Option<u32>, u32),
     written: ([u64; 2], u64, u64),
     read: ([u64; 2], u64, u64),
 }
@@ -239,6 +255,14 @@ const NEED_1: u64 = 4294967297;
 const HAVE_1: u64 = 4294967298;
 // The samples of the odd cycles in a word.
 const ODD_WORD: u64 = 18445618195277348867;
+
+// Whether a loop's last turn on a pool reclaimed and used these blocks.
+fn has_used(worker: &Worker, answer: (Option<u32>, u32)) -> bool {
+    match worker.written() {
+        Some(written) => written.reclaimed == answer.0 && written.used == answer.1,
+        None => false,
+    }
+}
 
 // One cycle: the source, node 2, node 1 and the driver, with the words on the way.
 fn has_late_cycle(
@@ -261,7 +285,8 @@ fn has_late_cycle(
         return false;
     }
     let wrote = try_at(board, &mut loops.0, 0) == Tried::Ran { heard: true };
-    let written = is_late_at(board, words.written.0, words.written.1, words.written.2);
+    let written = is_late_at(board, words.written.0, words.written.1, words.written.2)
+        && has_used(&loops.0, words.answer);
     let took = try_at(board, &mut loops.2, 0) == Tried::Ran { heard: true };
     let read = is_late_at(board, words.read.0, words.read.1, words.read.2);
     let other = try_at(board, &mut loops.1, 0) == Tried::Ran { heard: true };
@@ -280,14 +305,17 @@ fn a_delayed_link_has_two_areas(rt: HostRuntime) -> Result<(), Fail> {
     assert!(rt; is_late_at(&board, [2, NO_BLOCK], 1, 0));
     let cycles = [
         LateCycle {
+            answer: (None, 1),
             written: ([2, HAVE_1], 1, 0),
             read: ([1, HAVE_1], 0, 0),
         },
         LateCycle {
+            answer: (Some(0), 0),
             written: ([2, HAVE_1], 3, ODD_WORD),
             read: ([2, NEED_1], 3, ODD_WORD),
         },
         LateCycle {
+            answer: (Some(1), 1),
             written: ([2, HAVE_1], 1, ODD_WORD),
             read: ([1, HAVE_1], 0, ODD_WORD),
         },

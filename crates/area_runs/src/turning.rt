@@ -10,11 +10,12 @@ use crate::writing::write_all;
 use activation_words::{finish, start};
 use board_rule::{Board, BoardSeat, LoopSeat};
 use buffer_pool::Pool;
+use io_areas::OutputWritten;
 use pw_base::PoolShape;
 
 /// The node starts, hears each link that it reads, gives the samples in each pool that it fills,
 /// and finishes: whether each link brought what it should. `shapes` and `free` have all pools of
-/// the board, and `room` is one quantum.
+/// the board, `room` is one quantum, and `written` becomes the answer of the last pool.
 pub(crate) fn take_turn(
     board: &Board,
     seat: &mut LoopSeat,
@@ -23,6 +24,7 @@ pub(crate) fn take_turn(
     free: &mut [Pool],
     samples: &Quanta,
     room: &mut [i16],
+    written: &mut Option<OutputWritten>,
 ) -> bool
     requires table { IsOn board.now seat.old.table }
     requires equipped { let p = layout board.now in
@@ -39,7 +41,7 @@ pub(crate) fn take_turn(
     start(board, seat, ends.node);
     let before = samples.given_before(past);
     let heard = hear_all(board, seat, ends.reads.as_slice(), now, before, room);
-    write_all(board, seat, ends.pools.as_slice(), shapes, free, now);
+    write_all(board, seat, ends.pools.as_slice(), shapes, free, now, written);
     finish(board, seat, ends.node);
     heard
 }

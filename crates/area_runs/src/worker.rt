@@ -10,10 +10,12 @@ use crate::turning::take_turn;
 use activation_words::{Claim, claim};
 use board_rule::{Board, BoardSeat, LoopSeat};
 use buffer_pool::Pool;
+use io_areas::OutputWritten;
 use pw_base::{Items, PoolShape};
 
 /// A loop of a board: its seat and its nodes, the pools of the shape with the free blocks of each,
-/// what every pool gives in every cycle, and room for one quantum.
+/// what every pool gives in every cycle, room for one quantum, and what the turn on the pool that it
+/// filled last answered.
 #[derive(Drop)]
 pub struct Worker {
     pub(crate) seat: LoopSeat,
@@ -22,6 +24,7 @@ pub struct Worker {
     pub(crate) free: Vec<Pool>,
     pub(crate) samples: Quanta,
     pub(crate) room: Vec<i16>,
+    pub(crate) written: Option<OutputWritten>,
 }
 
 impl Worker {
@@ -30,6 +33,13 @@ impl Worker {
         ensures { result.now ≡ self.now.nodes }
     {
         &self.nodes
+    }
+
+    /// What the turn on the pool that it filled last answered.
+    pub fn written(&self) -> Option<OutputWritten>
+        ensures { result ≡ self.now.written }
+    {
+        self.written
     }
 
     /// One try of the node at an index of the loop's own list, and where it is awake its turn: it
@@ -59,6 +69,7 @@ impl Worker {
                     self.free.as_mut_slice(),
                     &self.samples,
                     self.room.as_mut_slice(),
+                    &mut self.written,
                 );
                 Tried::Ran { heard }
             }

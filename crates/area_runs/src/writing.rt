@@ -7,11 +7,11 @@ ghost use Rattle.area_runs.specs.Writing.{MayFillAll, Puts, AreWritten};
 
 use board_rule::{Board, LoopSeat};
 use buffer_pool::Pool;
-use io_areas::write_output;
+use io_areas::{OutputWritten, write_output};
 use pw_base::PoolShape;
 
 /// The node that works gives the samples in each of its pools. `shapes` and `free` have all pools
-/// of the board's shape, and the free blocks of each.
+/// of the board's shape, and the free blocks of each; `written` becomes the answer of the last pool.
 pub(crate) fn write_all(
     board: &Board,
     seat: &mut LoopSeat,
@@ -19,6 +19,7 @@ pub(crate) fn write_all(
     shapes: &[PoolShape],
     free: &mut [Pool],
     samples: &[i16],
+    written: &mut Option<OutputWritten>,
 )
     requires plain { IsPooledBoard (layout board.now) }
     requires table { IsOn board.now seat.old.table }
@@ -32,7 +33,7 @@ pub(crate) fn write_all(
 {
     for pool in pools {
         let links = shapes[*pool as usize].links.as_slice();
-        write_output(
+        let answer = write_output(
             board,
             seat,
             *pool,
@@ -40,5 +41,6 @@ pub(crate) fn write_all(
             &mut free[*pool as usize],
             samples,
         );
+        *written = Some(answer);
     }
 }

@@ -58,3 +58,6 @@ pub mod ReaderStepLemmas
 pub mod PoolWordLemmas
 pub mod SafetyLemmas
 pub mod SilenceLemmas
+pub mod OwnerLemmas
+pub mod SlotLemmas
+pub mod EntryLemmas

@@ -1,6 +1,6 @@
 -- Laws of `specs/Progress.antt`: what a seat keeps goes along with its view.
-use Rattle.std.proofs.Common.{◌≡◌, ℕ, ◌+◌, ◌<◌, Bool, true, false, cond, eqb, List, map, length, set, get_or, refl, sym, ap, ◌∙◌, subst}
-use Rattle.std.proofs.lemmas.List.{map-set, get_or-map}
+use Rattle.std.proofs.Common.{◌≡◌, ℕ, ◌+◌, ◌<◌, Bool, true, false, cond, eqb, List, map, length, set, get_or, refl, sym, ap, ◌∙◌, subst, arith}
+use Rattle.std.proofs.lemmas.List.{map-set, length-map}
 use Rattle.std.proofs.Math.Seq.{map-set_same}
 use Rattle.board_rule.specs.declared.view.Phase.{Phase}
 use Rattle.board_rule.specs.declared.view.Phase.TheVariants.{Idle, Awake, StartDrawn, Running, Done, FinishDrawn, Telling}
@@ -18,16 +18,10 @@ use Rattle.board_rule.specs.Bits.{with_bit, woke_of}
 use Rattle.board_rule.specs.Steps.{settled, lowered_of, told_trail, target_of, lowered, triggered, claimed, woken, tried, finished, untold}
 use Rattle.board_rule.specs.EventSteps.{CanDraw, node_draws, draws, CanStore, stored_phase, event_stored}
 use Rattle.board_rule.specs.Progress.{ends_of, progress_of, progress_settled}
+use Rattle.board_rule.specs.Owners.{own}
 use Rattle.board_rule.specs.Known.{IsLoopSeat}
-
--- one follower has another phase
-pub kept_set : (xs : List NodeView) (ks : List NodeProgress) (m : ℕ) (y : NodeView) (k : NodeProgress) → map progress_of xs ≡ ks
-    → progress_of y ≡ k → map progress_of (set xs m y) ≡ set ks m k
-kept_set xs ks m y k h e = map-set progress_of xs m y ∙ (λ i. set (h i) m (e i))
-
-pub kept_at : (xs : List NodeView) (ks : List NodeProgress) (m : ℕ) (d : NodeView) (k : NodeProgress) → map progress_of xs ≡ ks
-    → m < length xs → get_or ks m k ≡ progress_of (get_or xs m d)
-kept_at xs ks m d k h l = ap (λ zs. get_or zs m k) (sym h) ∙ get_or-map progress_of xs m d k l
+use Rattle.board_rule.proofs.OwnerLemmas.{SitsAt, sits_set}
+use Rattle.board_rule.proofs.EntryLemmas.{node_kept}
 
 settled_by : (b : Bool) (x : NodeView) (i : ℕ) → progress_of
     (cond b (record x { next = x.next + 1; phase = Idle }) (record x { phase = Telling i false }))
@@ -43,9 +37,12 @@ settled_progress n x i false = settled_by (eqb i n) x i
 module _ (v w : View) (m : ℕ) (y : NodeView) (t : Trail) (ns : List NodeProgress) (ws : List WriteView) (rs : List ReadView)
     (bs : List BlockView) (o o' : ℕ) (is : w ≡ view_node v m y t) (s : IsLoopSeat v ns ws rs bs o) (woke : woke_of t.told ≡ o') where
   -- the seat after a step of one of its followers
-  pub seat_set : (k : NodeProgress) → progress_of y ≡ k → IsLoopSeat w (set ns m k) ws rs bs o'
-  seat_set k e = subst (λ (u : View). IsLoopSeat u (set ns m k) ws rs bs o') (sym is) record {
-    nodes_are = kept_set v.nodes ns m y k s.nodes_are e;
+  pub seat_set : (at : ℕ) → SitsAt v.number v.owners.nodes m at → m < length v.nodes → (k : NodeProgress) → progress_of y ≡ k
+      → IsLoopSeat w (set ns at k) ws rs bs o'
+  seat_set at sits low k e = subst (λ (u : View). IsLoopSeat u (set ns at k) ws rs bs o') (sym is) record {
+    nodes_are = let l = length-map v.nodes progress_of in ap (own v.number v.owners.nodes) (map-set progress_of v.nodes m y)
+        ∙ sits_set v.number v.owners.nodes (map progress_of v.nodes) m at (progress_of y) sits (omega arith)
+        ∙ (λ j. set (s.nodes_are j) at (e j));
     writes_are = s.writes_are;
     reads_are = s.reads_are;
     blocks_are = s.blocks_are;
@@ -55,7 +52,7 @@ module _ (v w : View) (m : ℕ) (y : NodeView) (t : Trail) (ns : List NodeProgre
   -- the same where it keeps what it had of that follower
   pub seat_stays : progress_of y ≡ progress_of (node_of v m) → IsLoopSeat w ns ws rs bs o'
   seat_stays e = subst (λ (u : View). IsLoopSeat u ns ws rs bs o') (sym is) record {
-    nodes_are = map-set_same progress_of v.nodes m y (idle 0) e ∙ s.nodes_are;
+    nodes_are = ap (own v.number v.owners.nodes) (map-set_same progress_of v.nodes m y (idle 0) e) ∙ s.nodes_are;
     writes_are = s.writes_are;
     reads_are = s.reads_are;
     blocks_are = s.blocks_are;
@@ -81,43 +78,44 @@ seat_claims p v w m found ns ws rs bs o is idle s =
     }
 
 module _ (p : BoardLayout) (v w : View) (m : ℕ) (ns : List NodeProgress) (ws : List WriteView) (rs : List ReadView) (bs : List BlockView) (o : ℕ)
-    (d k : NodeProgress) (s : IsLoopSeat v ns ws rs bs o) (there : m < length v.nodes) (at : d ≡ get_or ns m d) where
+    (d k : NodeProgress) (s : IsLoopSeat v ns ws rs bs o) (there : m < length v.nodes) (at : ℕ)
+    (sits : SitsAt v.number v.owners.nodes m at) (here : d ≡ get_or ns at d) where
   -- what was kept of the follower
   kept_is : d ≡ progress_of (node_of v m)
-  kept_is = at ∙ kept_at v.nodes ns m (idle 0) d s.nodes_are there
+  kept_is = here ∙ node_kept v ns ws rs bs o s m at sits there d
 
   -- a target is lowered
   pub seat_lowers : (found n i o' : ℕ) → w ≡ lowered false p v m found → n ≡ length (p.targets m) → i ≡ lowered_of (node_of v m).phase
       → k ≡ progress_settled n d (i + 1) (eqb found 1) → o' ≡ cond (eqb found 1) (with_bit o (p.number (get_or (p.targets m) i 0))) o
-      → IsLoopSeat w (set ns m k) ws rs bs o'
+      → IsLoopSeat w (set ns at k) ws rs bs o'
   seat_lowers found n i o' is n_is i_is k_is woke =
       seat_set v w m (settled (length (p.targets m)) (node_of v m) (lowered_of (node_of v m).phase + 1) (eqb found 1))
       (told_trail v.trail (target_of false p v m) found) ns ws rs bs o o' is s
-      ((λ j. cond (eqb found 1) (with_bit (s.woke_is j) (p.number (get_or (p.targets m) (sym i_is j) 0))) (s.woke_is j)) ∙ sym woke) k
+      ((λ j. cond (eqb found 1) (with_bit (s.woke_is j) (p.number (get_or (p.targets m) (sym i_is j) 0))) (s.woke_is j)) ∙ sym woke) at sits there k
       (settled_progress (length (p.targets m)) (node_of v m) (lowered_of (node_of v m).phase + 1) (eqb found 1)
       ∙ (λ j. progress_settled (sym n_is j) (sym kept_is j) (sym i_is j + 1) (eqb found 1)) ∙ sym k_is)
 
   -- the target that is owed is triggered
   pub seat_triggers : (n i : ℕ) → w ≡ triggered false p v m → n ≡ length (p.targets m) → i ≡ lowered_of (node_of v m).phase
-      → k ≡ progress_settled n d i false → IsLoopSeat w (set ns m k) ws rs bs o
+      → k ≡ progress_settled n d i false → IsLoopSeat w (set ns at k) ws rs bs o
   seat_triggers n i is n_is i_is k_is =
       seat_set v w m (settled (length (p.targets m)) (node_of v m) (lowered_of (node_of v m).phase) false)
-      v.trail ns ws rs bs o o is s s.woke_is k
+      v.trail ns ws rs bs o o is s s.woke_is at sits there k
       (settled_progress (length (p.targets m)) (node_of v m) (lowered_of (node_of v m).phase) false
       ∙ (λ j. progress_settled (sym n_is j) (sym kept_is j) (sym i_is j) false) ∙ sym k_is)
 
   -- FINISHED is stored
   pub seat_finishes : w ≡ finished false v m → (node_of v m).phase ≡ Running → k ≡ record d { ends = true }
-      → IsLoopSeat w (set ns m k) ws rs bs 0
-  seat_finishes is runs k_is = seat_set v w m (record (node_of v m) { phase = Done }) (untold v.trail) ns ws rs bs o 0 is s refl k
+      → IsLoopSeat w (set ns at k) ws rs bs 0
+  seat_finishes is runs k_is = seat_set v w m (record (node_of v m) { phase = Done }) (untold v.trail) ns ws rs bs o 0 is s refl at sits there k
       ((λ j. record (progress_of (node_of v m)) { told = lowered_of (sym runs j); ends = true })
       ∙ (λ j. record (sym kept_is j) { ends = true }) ∙ sym k_is)
 
   -- a ticket is drawn
   pub seat_draws : (ticket : ℕ) → w ≡ draws false v m ticket → CanDraw (node_of v m).phase
-      → k ≡ cond d.ends (record d { finish = ticket }) (record d { start = ticket }) → IsLoopSeat w (set ns m k) ws rs bs o
+      → k ≡ cond d.ends (record d { finish = ticket }) (record d { start = ticket }) → IsLoopSeat w (set ns at k) ws rs bs o
   seat_draws ticket is can k_is = seat_set v w m (node_draws (node_of v m) ticket (node_of v m).phase)
-      v.trail ns ws rs bs o o is s s.woke_is k
+      v.trail ns ws rs bs o o is s s.woke_is at sits there k
       (by (node_of v m).phase refl can ∙ (λ j. let x = sym kept_is j in
       cond x.ends (record x { finish = ticket }) (record x { start = ticket })) ∙ sym k_is)
     where

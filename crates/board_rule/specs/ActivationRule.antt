@@ -10,34 +10,15 @@ use Rattle.board_rule.specs.declared.view.NodeView.{NodeView}
 use Rattle.pw_base.specs.Words.{finished_word, not_triggered_word}
 use Rattle.pw_base.specs.Layout.{pending_place, status_place}
 use Rattle.board_rule.specs.Layout.{BoardLayout, nodes, first, last}
-use Rattle.board_rule.specs.Left.{dependencies, left_of}
-use Rattle.board_rule.specs.Sums.{total, times}
-use Rattle.board_rule.specs.Phases.{phase_rest, phase_owing, phase_stage, PhaseOk, IsLowered, drive_rest, drive_owing, drive_stage}
-use Rattle.board_rule.specs.Phases.{is_resetting, is_between}
+use Rattle.board_rule.specs.Phases.{PhaseOk, IsLowered, is_resetting, is_between}
 use Rattle.board_rule.specs.View.{Whole}
 pub use Rattle.board_rule.specs.NodeRow.{Progress, NodeOk}
+pub use Rattle.board_rule.specs.ActivationReadings.{progress, left, debts}
 
 module _ (p : BoardLayout) where
-  abbrev pub progress : Whole → Progress
-  progress g = record {
-    rest = λ m. cond (eqb m p.driver) (drive_rest (p.targets m) g.lead.drive)
-        (phase_rest (p.targets m) (eqb (g.nodes m).next g.lead.cycle) (g.nodes m).phase);
-    owing = λ m. cond (eqb m p.driver) (drive_owing (p.targets m) g.lead.drive)
-        (phase_owing (p.targets m) (g.nodes m).phase);
-    stage = λ m. cond (eqb m p.driver) (drive_stage g.lead.drive)
-        (phase_stage (eqb (g.nodes m).next g.lead.cycle) (g.nodes m).phase);
-  }
-
-  -- the dependencies of n that have yet to lower it, and the phases that owe it
-  abbrev pub left : Progress → ℕ → ℕ
-  left s n = left_of (λ m. times n (s.rest m)) (dependencies p n)
-
-  abbrev pub debts : Progress → ℕ → ℕ
-  debts s n = total (λ m. times n (s.owing m)) (nodes p)
-
   pub record Runs (c : ℕ) (s : Progress) (words : List ℕ) : Type 0 where
     pub node : (n : ℕ) → n < nodes p → NodeOk c (slice_index words (pending_place p.shape n))
-        (slice_index words (status_place p.shape n)) (s.stage n) (left s n) (debts s n)
+        (slice_index words (status_place p.shape n)) (s.stage n) (left p s n) (debts p s n)
 
   -- the status word before the reset for the cycle c: FINISHED of the cycle before, at first
   -- NOT_TRIGGERED
@@ -83,4 +64,4 @@ module _ (p : BoardLayout) where
         → PhaseOk (length (p.targets n)) g.lead.cycle (g.nodes n).next (g.nodes n).phase
     pub resting : is_resetting g.lead.drive ≡ true → (n : ℕ) → n < nodes p
         → n ≢ p.driver → IsIdle g.lead.cycle (g.nodes n)
-    pub laid : Words g.lead.cycle (progress g) g.lead.drive words
+    pub laid : Words g.lead.cycle (progress p g) g.lead.drive words

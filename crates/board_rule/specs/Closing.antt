@@ -30,6 +30,7 @@ kept_view p v = record {
   heard = [];
   blocks = [];
   reclaimed = [];
+  owners = v.owners;
   trail = no_trail;
   expect = v.expect;
 }

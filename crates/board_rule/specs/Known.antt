@@ -10,6 +10,7 @@ use Rattle.board_rule.specs.declared.view.ReadView.{ReadView}
 use Rattle.board_rule.specs.declared.view.BlockView.{BlockView}
 use Rattle.board_rule.specs.declared.view.View.{View}
 use Rattle.board_rule.specs.Bits.{woke_of}
+use Rattle.board_rule.specs.Owners.{own}
 use Rattle.board_rule.specs.Progress.{progress_of}
 use Rattle.board_rule.specs.DriverProgress.{lead_progress_of}
 
@@ -17,13 +18,14 @@ pub record Known : Type 0 where
   pub table : TableId
   pub knows : View
 
+-- a loop's keeps its own nodes, ends of links and blocks alone
 pub record IsLoopSeat (v : View) (nodes : List NodeProgress) (writes : List WriteView)
     (reads : List ReadView)
     (blocks : List BlockView) (woke : ℕ) : Type 0 where
-  pub nodes_are : map progress_of v.nodes ≡ nodes
-  pub writes_are : v.writes ≡ writes
-  pub reads_are : v.reads ≡ reads
-  pub blocks_are : v.blocks ≡ blocks
+  pub nodes_are : own v.number v.owners.nodes (map progress_of v.nodes) ≡ nodes
+  pub writes_are : own v.number v.owners.writes v.writes ≡ writes
+  pub reads_are : own v.number v.owners.reads v.reads ≡ reads
+  pub blocks_are : own v.number v.owners.blocks v.blocks ≡ blocks
   pub woke_is : woke_of v.trail.told ≡ woke
 
 pub record IsDriverSeat (v : View) (lead : DriverProgress) (reads : List ReadView)

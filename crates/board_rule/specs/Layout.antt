@@ -10,6 +10,7 @@ use Rattle.pw_base.specs.Layout.{node_count, event_count}
 use Rattle.board_rule.specs.declared.board_shape.BoardShape.{BoardShape}
 use Rattle.board_rule.specs.Sums.{total, times}
 pub use Rattle.board_rule.specs.Indexes.{index_in, target_rows, required_row}
+pub use Rattle.board_rule.specs.Seats.{HasSeats}
 unfoldable pub use Rattle.board_rule.specs.Indexes.{word_count}
 
 -- no link is delayed
@@ -27,14 +28,6 @@ pub record BoardLayout : Type 0 where
   pub index : ℕ → ℕ
   pub required : ℕ → ℕ
   pub targets : ℕ → List ℕ
-
--- each follower has one of the seats of loops, and there is one
-pub record HasSeats (board_shape : BoardShape) : Type 0 where
-  pub some_seats : 1 ≤ board_shape.seats
-  pub all : length board_shape.seat_of ≡ node_count board_shape.shape
-  pub each : (n : ℕ) → n < node_count board_shape.shape
-      → n ≢ index_in board_shape.shape board_shape.shape.driver
-      → slice_index board_shape.seat_of n < board_shape.seats
 
 abbrev pub layout_of : BoardShape → BoardLayout
 layout_of board_shape = record {

@@ -2,6 +2,7 @@
 -- Source: this project's own.
 use Rattle.std.specs.Prelude.{◌≡◌, ℕ, []}
 use Rattle.atomic_table.specs.Table.{Me}
+use Rattle.board_rule.specs.declared.view.Owners.{Owners}
 use Rattle.board_rule.specs.declared.view.View.{View}
 use Rattle.board_rule.specs.View.{resting, no_trail}
 
@@ -13,6 +14,9 @@ abbrev pub Learns : {S : Type 0} → (ℕ → View) → (ℕ → Type 0) → Me 
 Learns after says me found m = (m.0 ≡ after found) × (m.1 ≡ me.1) × says found
 
 -- no seat has it: the view of a step that is not picked
+abbrev no_owners : Owners
+no_owners = record { nodes = []; writes = []; reads = []; blocks = [] }
+
 abbrev pub no_view : View
 no_view = record {
   number = 0;
@@ -24,6 +28,7 @@ no_view = record {
   heard = [];
   blocks = [];
   reclaimed = [];
+  owners = no_owners;
   trail = no_trail;
   expect = [];
 }

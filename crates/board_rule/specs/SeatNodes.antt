@@ -9,6 +9,7 @@ use Rattle.board_rule.specs.declared.view.DriverPhase.{DriverPhase}
 use Rattle.board_rule.specs.declared.view.Trail.{Trail}
 use Rattle.board_rule.specs.declared.view.View.{View}
 use Rattle.board_rule.specs.Layout.{BoardLayout, nodes, first, last}
+use Rattle.board_rule.specs.Owners.{owners_of}
 use Rattle.board_rule.specs.View.{node_of, view_node, view_lead}
 
 -- the seat's own node m: for a loop's a follower that it has, for the driver's the driver's node
@@ -19,6 +20,7 @@ pub record Has (p : BoardLayout) (v : View) (m : ℕ) : Type 0 where
   pub owned : p.seat_of m ≡ v.number
   pub there : m < length v.nodes
   pub knows : get_elem? v.nodes m ≡ some (node_of v m)
+  pub owners : v.owners ≡ owners_of p
 
 abbrev pub Owns : Bool → BoardLayout → View → ℕ → Type 0
 Owns true p v m = (m ≡ p.driver) × (v.number ≡ p.seats)

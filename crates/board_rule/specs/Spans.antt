@@ -9,6 +9,7 @@ use Rattle.board_rule.specs.declared.view.DriverPhase.{DriverPhase}
 use Rattle.board_rule.specs.declared.view.DriverPhase.TheVariants as drives
 use Rattle.board_rule.specs.Layout.{BoardLayout}
 use Rattle.board_rule.specs.View.{Whole}
+pub use Rattle.board_rule.specs.Owners.{holder}
 use Rattle.board_rule.specs.Areas.{Span}
 
 -- 1 from the store of FINISHED on, and 1 from the store of Start on
@@ -41,10 +42,6 @@ module _ (p : BoardLayout) where
     begun = cond (eqb n p.driver) (g.lead.cycle + drive_begun g.lead.drive)
         ((g.nodes n).next + phase_begun (g.nodes n).phase);
   }
-
-  -- the number of the seat that has the index n
-  abbrev pub holder : ℕ → ℕ
-  holder n = cond (eqb n p.driver) p.seats (p.seat_of n)
 
   -- where a view has the block b of the pool q
   abbrev pub block_at : ℕ → ℕ → ℕ

@@ -9,6 +9,7 @@ use Rattle.board_rule.specs.declared.view.Trail.{Trail}
 use Rattle.board_rule.specs.declared.view.View.{View}
 use Rattle.pw_base.specs.Pools.{pools_of}
 use Rattle.board_rule.specs.Layout.{BoardLayout, nodes, first}
+use Rattle.board_rule.specs.Owners.{owners_of}
 pub use Rattle.board_rule.specs.FirstEnds.{unwritten, first_write, unread, is_delayed, first_block, blocks_at_first, first_blocks}
 
 -- the samples that are expected: by cycle of the epoch, by pool, by index in the quantum
@@ -47,6 +48,7 @@ module _ (p : BoardLayout) where
     heard = replicate (length p.shape.links) 0;
     blocks = [];
     reclaimed = [];
+    owners = owners_of p;
     trail = no_trail;
     expect = [];
   }
@@ -67,6 +69,7 @@ module _ (p : BoardLayout) where
     heard = replicate (length p.shape.links) 0;
     blocks = first_blocks p.shape;
     reclaimed = replicate (length (pools_of p.shape)) (first p + 1);
+    owners = owners_of p;
     trail = no_trail;
     expect = e;
   }

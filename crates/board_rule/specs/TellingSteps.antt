@@ -12,6 +12,7 @@ use Rattle.board_rule.specs.declared.view.View.{View}
 use Rattle.board_rule.specs.Layout.{BoardLayout}
 use Rattle.board_rule.specs.View.{node_of, view_node}
 use Rattle.board_rule.specs.SeatNodes.{HasNode, driven}
+pub use Rattle.board_rule.specs.Taken.{lowered_of, taken_of, taken}
 
 -- LOWERING A TARGET: one is left, and none is owed
 abbrev pub CanTell : ℕ → Phase → Type 0
@@ -21,19 +22,6 @@ CanTell n _ = ⊥
 abbrev pub CanKick : ℕ → DriverPhase → Type 0
 CanKick n (drives.Kick i false) = i < n
 CanKick n _ = ⊥
-
-abbrev pub lowered_of : Phase → ℕ
-lowered_of (Telling i owes) = i
-lowered_of _ = 0
-
-abbrev pub taken_of : DriverPhase → ℕ
-taken_of (drives.Kick i owes) = i
-taken_of _ = 0
-
--- how many targets are lowered
-abbrev pub taken : Bool → View → ℕ → ℕ
-taken true v m = taken_of v.lead.drive
-taken false v m = lowered_of (node_of v m).phase
 
 abbrev pub Lowers : Bool → BoardLayout → View → ℕ → Type 0
 Lowers true p v m = HasNode true p v m × CanKick (length (p.targets m)) v.lead.drive

@@ -3,10 +3,12 @@ ghost use Rattle.std.specs.Prelude.{◌≡◌, ◌+◌, ◌<◌, ◌≤◌, ◌^
 ghost use Rattle.pw_base.specs.Layout.{pending_place, status_place, late_place, event_place, event_count, area_count};
 ghost use Rattle.board_rule.specs.Layout.{layout_of, IsSound, nodes, first, last, word_count};
 ghost use Rattle.board_rule.specs.Rows.{HasRows, HasIndexes};
+ghost use Rattle.board_rule.specs.Slots.{HasSlots};
 
 use crate::board_shape::BoardShape;
 use crate::rows::Rows;
 use crate::rule::BoardTable;
+use crate::slots::Slots;
 use pw_base::{Event, Room, Shape};
 
 /// The words of one epoch, in one table of atomic words with no lock round it. Threads share it by
@@ -16,6 +18,7 @@ pub struct Board {
     pub(crate) table: BoardTable,
     pub(crate) board_shape: BoardShape,
     pub(crate) rows: Rows,
+    pub(crate) slot_rows: Slots,
     /// For the events, when the board is closed.
     pub(crate) spare: Room<Event>,
     ghost sound: { IsSound (layout_of board_shape) },
@@ -27,6 +30,7 @@ pub struct Board {
     ghost fits: { word_count board_shape.shape < 2 ^ 64 },
     ghost slots: { table.shared.table_id.slots ≡ 0 },
     ghost tied: { HasRows board_shape.shape rows },
+    ghost slotted: { HasSlots (layout_of board_shape) slot_rows },
     ghost unused: { spare.list ≡ [] },
     ghost enough: { event_count board_shape.shape ≤ spare.spare },
 }

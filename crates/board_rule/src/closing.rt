@@ -109,6 +109,7 @@ impl Board {
             table,
             board_shape,
             rows: _,
+            slot_rows: _,
             spare,
         } = self;
         let words = table.close_with(token);

@@ -129,15 +129,6 @@ impl Board {
         self.rows.pools[pool].readers
     }
 
-    /// Where a view has a block.
-    pub(crate) fn block(&self, pool: usize, id: u32) -> usize
-        requires inside { pool < length (pools_of self.now.board_shape.shape) }
-        requires block { id < (pool_at (layout self.now) pool).blocks }
-        ensures { result ≡ block_at (layout self.now) pool id }
-    {
-        self.rows.pools[pool].first + id as usize
-    }
-
     /// Where the readers word of a block stands.
     pub(crate) fn readers_word(&self, pool: usize, id: u32) -> usize
         requires inside { pool < length (pools_of self.now.board_shape.shape) }

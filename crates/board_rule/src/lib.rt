@@ -14,11 +14,14 @@ mod lead;
 mod left;
 mod loop_seat;
 mod opening;
+mod owners;
 mod progress;
 mod rows;
 mod rule;
 mod safety;
 mod seat;
+mod slots;
+mod starts;
 mod steps;
 mod view;
 mod writing;
@@ -35,5 +38,6 @@ pub use rule::BoardRule;
 pub use safety::buffers_are_safe;
 pub use seat::BoardSeat;
 pub use view::{
-    BlockView, DriverPhase, DriverView, Found, NodeView, Phase, ReadView, Trail, View, WriteView,
+    BlockView, DriverPhase, DriverView, Found, NodeView, Owners, Phase, ReadView, Trail, View,
+    WriteView,
 };

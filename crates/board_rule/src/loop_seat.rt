@@ -1,5 +1,8 @@
 //! The seat of a loop. Contracts see the table that it belongs to and what it knows.
-ghost use Rattle.std.specs.Prelude.{◌≡◌, ◌<◌, length};
+ghost use Rattle.std.specs.Prelude.{◌≡◌};
+ghost use Rattle.board_rule.specs.OnBoard.{layout};
+ghost use Rattle.board_rule.specs.SeatNodes.{Has};
+ghost use Rattle.board_rule.specs.Slots.{HasReader};
 ghost use Rattle.board_rule.specs.View.{node_of};
 ghost use Rattle.board_rule.specs.EndViews.{read_of};
 ghost use Rattle.board_rule.specs.Progress.{progress_of};
@@ -14,7 +17,8 @@ use crate::view::{BlockView, ReadView, WriteView};
 use pw_base::io_id_of;
 use std::marker::{Brand, Model};
 
-/// The right of one loop to step on a board, for the followers that are its own.
+/// The right of one loop to step on a board, for the followers that are its own. It keeps these, the
+/// ends of their links and the blocks that they fill alone, each at its slot.
 #[derive(Drop)]
 pub struct LoopSeat {
     pub(crate) token: BoardToken,
@@ -38,20 +42,20 @@ impl Model for LoopSeat {
 }
 
 impl LoopSeat {
-    // What is kept of the follower at an index.
-    pub(crate) fn node_at(&self, at: usize) -> NodeProgress
-        requires { at < length self.now.knows.nodes }
+    // What is kept of one of the seat's followers, by index.
+    pub(crate) fn node_at(&self, board: &Board, at: usize) -> NodeProgress
+        requires { Has (layout board.now) self.now.knows at }
         ensures { result ≡ progress_of (node_of self.now.knows at) }
     {
-        self.nodes[at]
+        self.nodes[board.node_slot(at)]
     }
 
-    // The reader's end of a link.
-    fn read_at(&self, link: u32) -> ReadView
-        requires { link < length self.now.knows.reads }
+    // The reader's end of a link into one of them.
+    fn read_at(&self, board: &Board, link: u32) -> ReadView
+        requires { HasReader (layout board.now) self.now.knows link }
         ensures { result ≡ read_of self.now.knows link }
     {
-        self.reads[link as usize]
+        self.reads[board.read_slot(link)]
     }
 }
 
@@ -66,7 +70,7 @@ impl BoardSeat for LoopSeat {
 
     fn ended(&self, board: &Board, node: u32) -> u32 {
         let at = board.index_of(node);
-        board.past(self.node_at(at).next)
+        board.past(self.node_at(board, at).next)
     }
 
     fn woke(&self) -> u64 {
@@ -75,10 +79,11 @@ impl BoardSeat for LoopSeat {
 
     fn lower_pending(&mut self, board: &Board, node: u32) -> u64 {
         let at = board.index_of(node);
-        let told = self.node_at(at).told;
+        let slot = board.node_slot(at);
+        let told = self.node_at(board, at).told;
         let target = board.target(at, told);
         let found = activation::lower::<Brand>(board, &mut self.token, at, target);
-        let kept = &mut self.nodes[at];
+        let kept = &mut self.nodes[slot];
         settle(kept, board.targets_at(at), told + 1, found == 1);
         self.woke = wake(board, self.woke, target, found);
         found
@@ -86,54 +91,58 @@ impl BoardSeat for LoopSeat {
 
     fn store_triggered(&mut self, board: &Board, node: u32) {
         let at = board.index_of(node);
-        let before = self.node_at(at);
+        let slot = board.node_slot(at);
+        let before = self.node_at(board, at);
         let target = board.target(at, before.told - 1);
         let cycle = board.cycle(before.next);
         activation::trigger::<Brand>(board, &mut self.token, at, target, cycle);
-        let kept = &mut self.nodes[at];
+        let kept = &mut self.nodes[slot];
         settle(kept, board.targets_at(at), before.told, false);
     }
 
     fn exchange_awake(&mut self, board: &Board, node: u32) -> u64 {
         let at = board.index_of(node);
-        let cycle = board.cycle(self.node_at(at).next);
+        let cycle = board.cycle(self.node_at(board, at).next);
         activation::claim::<Brand>(board, &mut self.token, at, cycle)
     }
 
     fn store_finished(&mut self, board: &Board, node: u32) {
         let at = board.index_of(node);
-        let cycle = board.cycle(self.node_at(at).next);
+        let slot = board.node_slot(at);
+        let cycle = board.cycle(self.node_at(board, at).next);
         activation::finish::<Brand>(board, &mut self.token, at, cycle);
-        let kept = &mut self.nodes[at];
+        let kept = &mut self.nodes[slot];
         finish(kept);
         self.woke = 0;
     }
 
     fn draw_ticket(&mut self, board: &Board, node: u32) -> u64 {
         let at = board.index_of(node);
+        let slot = board.node_slot(at);
         let ticket = event::draw::<Brand>(board, &mut self.token, at);
-        let kept = &mut self.nodes[at];
+        let kept = &mut self.nodes[slot];
         draw(kept, ticket);
         ticket
     }
 
     fn store_event(&mut self, board: &Board, node: u32) {
         let at = board.index_of(node);
-        let before = self.node_at(at);
+        let before = self.node_at(board, at);
         let new = node_event(before.ends, board.cycle(before.next), node);
         event::store::<Brand>(board, &mut self.token, at, ticket_held(before), &new);
     }
 
-    fn loaded(&self, _board: &Board, link: u32) -> u32 {
-        self.read_at(link).id
+    fn loaded(&self, board: &Board, link: u32) -> u32 {
+        self.read_at(board, link).id
     }
 
     #[inline]
     fn load_io_as_reader(&mut self, board: &Board, link: u32) -> u64 {
-        let end = self.read_at(link);
-        let cycle = self.node_at(board.reader(link)).next;
+        let slot = board.read_slot(link);
+        let end = self.read_at(board, link);
+        let cycle = self.node_at(board, board.reader(link)).next;
         let found = reading::load_area::<Brand>(board, &mut self.token, link, cycle);
-        self.reads[link as usize] = ReadView {
+        self.reads[slot] = ReadView {
             loaded: cycle + 1,
             lowered: end.lowered,
             stored: end.stored,
@@ -157,10 +166,11 @@ impl BoardSeat for LoopSeat {
 
     #[inline]
     fn lower_readers(&mut self, board: &Board, link: u32, id: u32) -> u64 {
-        let end = self.read_at(link);
-        let cycle = self.node_at(board.reader(link)).next;
+        let slot = board.read_slot(link);
+        let end = self.read_at(board, link);
+        let cycle = self.node_at(board, board.reader(link)).next;
         let found = reading::lower_readers::<Brand>(board, &mut self.token, link, id);
-        self.reads[link as usize] = ReadView {
+        self.reads[slot] = ReadView {
             loaded: end.loaded,
             lowered: cycle + 1,
             stored: end.stored,
@@ -171,10 +181,11 @@ impl BoardSeat for LoopSeat {
 
     #[inline]
     fn store_need_data(&mut self, board: &Board, link: u32, id: u32) {
-        let end = self.read_at(link);
-        let cycle = self.node_at(board.reader(link)).next;
+        let slot = board.read_slot(link);
+        let end = self.read_at(board, link);
+        let cycle = self.node_at(board, board.reader(link)).next;
         reading::store_need::<Brand>(board, &mut self.token, link, cycle, id);
-        self.reads[link as usize] = ReadView {
+        self.reads[slot] = ReadView {
             loaded: end.loaded,
             lowered: end.lowered,
             stored: cycle + 1,

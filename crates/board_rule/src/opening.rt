@@ -1,29 +1,31 @@
 //! How a board begins: its words at the start, and its seats split off the first one.
 ghost use Rattle.board_rule.specs.OnBoard.{IsOn, layout};
-ghost use Rattle.std.specs.Prelude.{◌≡◌, ◌++◌, ℕ, ◌<◌, length, map, slice_get, replicate, Some, IfOk, OnOk};
+ghost use Rattle.std.specs.Prelude.{◌≡◌, ℕ, ◌<◌, length, slice_get, Some, IfOk};
 ghost use Rattle.pw_base.specs.Layout.{event_count};
 ghost use Rattle.pw_base.specs.Pools.{IsPooledShape};
 ghost use Rattle.board_rule.specs.Known.{Known};
 ghost use Rattle.board_rule.specs.Layout.{layout_of, HasSeats};
-ghost use Rattle.board_rule.specs.Progress.{progress_of};
 ghost use Rattle.board_rule.specs.SampleWords.{IsTable};
-ghost use Rattle.board_rule.specs.View.{Samples, first_view, driver_view, loop_view, split_off, blocks_at_first, first_blocks, idle, unread, first_write};
+ghost use Rattle.board_rule.specs.Slots.{AreOwners, IsStart};
+ghost use Rattle.board_rule.specs.View.{Samples, first_view, driver_view, loop_view, split_off};
 
 use crate::board::Board;
 use crate::board_shape::BoardShape;
 use crate::copying::copy_shape;
 use crate::driver_seat::DriverSeat;
 use crate::expect::Expect;
-use crate::layout::{delayed_readers, start_words};
+use crate::layout::start_words;
 use crate::lead::{DriverProgress, Due};
 use crate::loop_seat::LoopSeat;
-use crate::progress::NodeProgress;
+use crate::owners::OwnerRows;
 use crate::rows::rows_of;
 use crate::rule::{BoardTable, BoardToken};
-use crate::view::{BlockView, ReadView, View, WriteView};
+use crate::slots::slots_in;
+use crate::starts::{Starts, own, starts_of, unread};
+use crate::view::View;
 use atomic_table::{Split, Table};
-use pw_base::{Items, Memory, NO_BLOCK, PoolShape, Shape, ShapeLink, pools_of};
-use std::alloc::{AllocError, Global};
+use pw_base::{Items, Memory, Shape};
+use std::alloc::Global;
 use std::marker::{Brand, PhantomData};
 
 /// The views of a seat and of the one that is split off it.
@@ -69,111 +71,51 @@ fn split<C: Cut>(board: &Board, token: &mut BoardToken) -> BoardToken
     board.table.shared.split_seat::<Parts<C>>(token)
 }
 
-// The blocks of a pool at the start, behind those of the pools before it.
-fn push_blocks(blocks: &mut Items<BlockView>, shape: &Shape, pool: &PoolShape) -> Result<(), Memory>
-    ensures { OnOk result (blocks.new ≡ blocks.old ++ blocks_at_first shape.now pool.now) }
-{
-    if delayed_readers(shape.links.as_slice(), pool.port) == 0 {
-        return blocks.extend_filled(pool.blocks as usize, BlockView::Free);
-    }
-    blocks.push(BlockView::Out {
-        stamp: u64::from(shape.first),
-    })?;
-    blocks.extend_filled((pool.blocks as usize).saturating_sub(1), BlockView::Free)
-}
-
-// The blocks of all pools of a shape at the start.
-fn first_blocks(alloc: Global, shape: &Shape) -> Result<Items<BlockView>, Memory>
-    requires { IsPooledShape shape.now }
-    ensures { IfOk result (λ blocks. blocks ≡ first_blocks shape.now) }
-{
-    let pools = pools_of(alloc, shape)?;
-    let mut blocks = Items::new(alloc);
-    for pool in pools.as_slice() {
-        push_blocks(&mut blocks, shape, pool)?;
-    }
-    Ok(blocks)
-}
-
-// The reader's ends of links, of which nothing is read before the cycle.
-fn unread(alloc: Global, links: usize, cycle: u64) -> Result<Vec<ReadView>, AllocError>
-    ensures { IfOk result (λ reads. reads.items ≡ replicate links (unread cycle)) }
-{
-    let end = ReadView {
-        loaded: cycle,
-        lowered: cycle,
-        stored: cycle,
-        id: NO_BLOCK,
-    };
-    Vec::from_elem(alloc, end, links)
-}
-
-// The writer's end of a link at the start.
-fn first_write(cycle: u64, link: ShapeLink) -> WriteView
-    ensures { result ≡ first_write cycle link }
-{
-    WriteView {
-        loaded: cycle,
-        stored: cycle,
-        id: if link.delayed { 0 } else { NO_BLOCK },
-        last: NO_BLOCK,
-    }
-}
-
-// The writer's ends of all links.
-fn first_writes(
-    alloc: Global,
-    links: &[ShapeLink],
-    cycle: u64,
-) -> Result<Vec<WriteView>, AllocError>
-    ensures { IfOk result (λ writes. writes.items ≡ map (first_write cycle) links.now) }
-{
-    let mut writes = Vec::new(alloc);
-    for link in links {
-        writes.push(first_write(cycle, *link))?;
-    }
-    Ok(writes)
-}
-
-// Followers that wait in the cycle.
-fn idle(alloc: Global, nodes: usize, cycle: u64) -> Result<Vec<NodeProgress>, AllocError>
-    ensures { IfOk result (λ kept. kept.items ≡ replicate nodes (progress_of (idle cycle))) }
-{
-    let node = NodeProgress {
-        next: cycle,
-        told: 0,
-        ends: false,
-        start: 0,
-        finish: 0,
-    };
-    Vec::from_elem(alloc, node, nodes)
-}
-
 impl DriverSeat {
-    // Splits the next loop's seat off the driver's.
+    // Splits the next loop's seat off the driver's, which begins with what is its own.
     fn split_off<E: Expect>(
         &mut self,
         alloc: Global,
         board: &Board,
-        free: &Items<BlockView>,
+        starts: &Starts,
+        seat: u32,
     ) -> Result<LoopSeat, Memory>
         requires table { IsOn board.now self.old.table }
         requires is_driver { self.old.knows.number ≡ (layout board.now).seats }
         requires room { self.old.knows.split < (layout board.now).seats }
-        requires free { free.now ≡ first_blocks board.now.board_shape.shape }
+        requires seat { seat ≡ self.old.knows.split }
+        requires starts { IsStart (layout board.now) starts.now }
         requires expect { 0 < self.old.knows.split → E.expect ≡ self.old.knows.expect }
         requires samples { IsTable (layout board.now) E.expect }
         ensures { IfOk result (λ s. (self.new.table ≡ self.old.table)
-            × (self.new.knows ≡ split_off E.expect self.old.knows)
-            × (s.table ≡ self.old.table)
+            × (self.new.knows ≡ split_off E.expect self.old.knows) × (s.table ≡ self.old.table)
             × (s.knows ≡ loop_view (layout board.now) E.expect self.old.knows.split)) }
     {
-        let shape = board.shape();
-        let first = u64::from(shape.first);
-        let nodes = idle(alloc, shape.nodes.len(), first)?;
-        let writes = first_writes(alloc, shape.links.as_slice(), first)?;
-        let reads = unread(alloc, shape.links.len(), first)?;
-        let blocks = free.copy(alloc)?.into_vec();
+        let owners = &starts.owners;
+        let nodes = own(
+            alloc,
+            owners.nodes.as_slice(),
+            seat,
+            starts.nodes.as_slice(),
+        )?;
+        let writes = own(
+            alloc,
+            owners.writes.as_slice(),
+            seat,
+            starts.writes.as_slice(),
+        )?;
+        let reads = own(
+            alloc,
+            owners.reads.as_slice(),
+            seat,
+            starts.reads.as_slice(),
+        )?;
+        let blocks = own(
+            alloc,
+            owners.blocks.as_slice(),
+            seat,
+            starts.blocks.as_slice(),
+        )?;
         let token = split::<Brand>(board, &mut self.token);
         Ok(LoopSeat {
             token,
@@ -192,11 +134,11 @@ impl DriverSeat {
         &mut self,
         alloc: Global,
         board: &Board,
-        free: &Items<BlockView>,
+        starts: &Starts,
     ) -> Result<Items<LoopSeat>, Memory>
         requires table { IsOn board.now self.old.table }
         requires knows { self.old.knows ≡ first_view (layout board.now) }
-        requires free { free.now ≡ first_blocks board.now.board_shape.shape }
+        requires starts { IsStart (layout board.now) starts.now }
         requires samples { IsTable (layout board.now) E.expect }
         ensures driver { IfOk result (λ _. self.new
             ≡ record {
@@ -212,7 +154,7 @@ impl DriverSeat {
     {
         let mut loops = Items::new(alloc);
         for k in 0..board.board_shape.seats {
-            loops.push(self.split_off::<E>(alloc, board, free)?)?;
+            loops.push(self.split_off::<E>(alloc, board, starts, k)?)?;
         }
         Ok(loops)
     }
@@ -245,7 +187,12 @@ fn event_count(shape: &Shape) -> usize
 
 impl Board {
     // The board of a shape with its seats, with the driver's seat before any split.
-    fn lay_out(alloc: Global, board_shape: BoardShape) -> Result<(Board, DriverSeat), Memory>
+    fn lay_out(
+        alloc: Global,
+        board_shape: BoardShape,
+        owners: &OwnerRows,
+    ) -> Result<(Board, DriverSeat), Memory>
+        requires owners { AreOwners (layout_of board_shape) owners.now }
         requires pooled { IsPooledShape board_shape.shape }
         requires seats { HasSeats board_shape }
         ensures { IfOk result (λ t. (t.0.board_shape ≡ board_shape)
@@ -255,6 +202,7 @@ impl Board {
         let spare = Items::new(alloc).into_room(event_count(&board_shape.shape))?;
         let words = start_words(alloc, &board_shape.shape)?;
         let rows = rows_of(alloc, &board_shape.shape, words.len())?;
+        let slot_rows = slots_in(alloc, &board_shape, owners, rows.pools.as_slice())?;
         let first = u64::from(board_shape.shape.first);
         let reads = unread(alloc, board_shape.shape.links.len(), first)?;
         let (table, token): (BoardTable, BoardToken) = Table::of_words(
@@ -275,6 +223,7 @@ impl Board {
                 table,
                 board_shape,
                 rows,
+                slot_rows,
                 spare,
             },
             DriverSeat {
@@ -320,9 +269,9 @@ impl Board {
             }) }
     {
         let board_shape = board_shape_of(alloc, shape, seat_of, seats)?;
-        let free = first_blocks(alloc, shape)?;
-        let (board, mut driver) = Board::lay_out(alloc, board_shape)?;
-        let loops = driver.split_all::<E>(alloc, &board, &free)?;
+        let starts = starts_of(alloc, &board_shape)?;
+        let (board, mut driver) = Board::lay_out(alloc, board_shape, &starts.owners)?;
+        let loops = driver.split_all::<E>(alloc, &board, &starts)?;
         Ok((board, driver, loops))
     }
 }

@@ -121,6 +121,15 @@ pub struct Trail {
     pub looks: LinkedList<Found>,
 }
 
+/// Which seat has each node by index, the writer's and the reader's end of each link by number, and
+/// each block by pool and number. All seats of a board have the same.
+pub struct Owners {
+    pub nodes: LinkedList<u32>,
+    pub writes: LinkedList<u32>,
+    pub reads: LinkedList<u32>,
+    pub blocks: LinkedList<u32>,
+}
+
 /// What one seat knows. A loop's seat has a number below the number of loops' seats, and the
 /// driver's seat has that number itself; which fields count is told by it.
 pub struct View {
@@ -142,6 +151,7 @@ pub struct View {
     /// By pool: one more than the cycle of its last reclaim, where the first cycle counts as one.
     /// Those that the seat fills count.
     pub reclaimed: LinkedList<u64>,
+    pub owners: Owners,
     pub trail: Trail,
     /// The samples that are expected, by cycle of the epoch and pool. All seats of a board have the
     /// same.

@@ -2,11 +2,12 @@
 //! operation on one word; it takes no memory, does not wait and does not fail. Links, pools and
 //! blocks are given by number.
 ghost use Rattle.board_rule.specs.OnBoard.{IsOn, layout};
-ghost use Rattle.std.specs.Prelude.{◌≡◌, ℕ, ◌<◌, length};
+ghost use Rattle.std.specs.Prelude.{◌≡◌, ℕ, ◌<◌};
 ghost use Rattle.pw_base.specs.Words.{io_id_in, need_data_word};
 ghost use Rattle.pw_base.specs.Layout.{sample_place};
 ghost use Rattle.board_rule.specs.EndViews.{write_of, pool_at, block_of};
 ghost use Rattle.board_rule.specs.BufferReads.{HasPool, IsFilled, is_filled, IsFirstFilled, older};
+ghost use Rattle.board_rule.specs.Slots.{HasWriter};
 ghost use Rattle.board_rule.specs.WriterSteps.{LoadsAsWriter, loaded_as_writer, IsGivenBack, StoresHave, have_stored};
 ghost use Rattle.board_rule.specs.BlockSteps.{StoresSample, sample_stored, StoresReaders, readers_stored};
 ghost use Rattle.board_rule.specs.ReclaimSteps.{LoadsReaders, FindsDue, readers_loaded, IsOldestOfAny};
@@ -18,12 +19,12 @@ use crate::view::{BlockView, WriteView};
 use std::marker::Brand;
 
 impl LoopSeat {
-    // The writer's end of a link.
-    fn write_at(&self, link: u32) -> WriteView
-        requires { link < length self.now.knows.writes }
+    // The writer's end of a link from one of the seat's followers.
+    fn write_at(&self, board: &Board, link: u32) -> WriteView
+        requires { HasWriter (layout board.now) self.now.knows link }
         ensures { result ≡ write_of self.now.knows link }
     {
-        self.writes[link as usize]
+        self.writes[board.write_slot(link)]
     }
 }
 
@@ -40,10 +41,11 @@ impl LoopSeat {
         ensures word { result ≡ need_data_word (io_id_in result) }
         ensures given { IsGivenBack (layout board.now) self.old.knows link (io_id_in result) }
     {
-        let end = self.write_at(link);
-        let cycle = self.node_at(board.writer(link)).next;
+        let slot = board.write_slot(link);
+        let end = self.write_at(board, link);
+        let cycle = self.node_at(board, board.writer(link)).next;
         let found = writing::load_area::<Brand>(board, &mut self.token, link, cycle + 1);
-        self.writes[link as usize] = WriteView {
+        self.writes[slot] = WriteView {
             loaded: cycle + 1,
             stored: end.stored,
             id: end.id,
@@ -61,10 +63,11 @@ impl LoopSeat {
         ensures table { self.new.table ≡ self.old.table }
         ensures knows { self.new.knows ≡ have_stored (layout board.now) self.old.knows link id }
     {
-        let end = self.write_at(link);
-        let cycle = self.node_at(board.writer(link)).next;
+        let slot = board.write_slot(link);
+        let end = self.write_at(board, link);
+        let cycle = self.node_at(board, board.writer(link)).next;
         writing::store_have::<Brand>(board, &mut self.token, link, cycle + 1, id);
-        self.writes[link as usize] = WriteView {
+        self.writes[slot] = WriteView {
             loaded: end.loaded,
             stored: cycle + 1,
             id,
@@ -86,7 +89,7 @@ impl LoopSeat {
         ensures word { result ≡ 0 }
         ensures due { FindsDue (layout board.now) self.old.knows pool id }
     {
-        let at = board.block(pool as usize, id);
+        let at = board.block_slot(pool as usize, id);
         let found = writing::load_readers::<Brand>(board, &mut self.token, pool as usize, id);
         self.blocks[at] = BlockView::Free;
         found
@@ -111,7 +114,7 @@ impl LoopSeat {
         ensures knows { self.new.knows
             ≡ sample_stored (layout board.now) self.old.knows pool id place }
     {
-        let at = board.block(pool as usize, id);
+        let at = board.block_slot(pool as usize, id);
         let to = board.sample_word_at(pool as usize, id, place, first);
         writing::store_sample::<Brand>(board, &mut self.token, pool as usize, id, place, to, word);
         self.blocks[at] = BlockView::Filling {
@@ -129,8 +132,8 @@ impl LoopSeat {
         ensures knows { self.new.knows
             ≡ readers_stored (layout board.now) self.old.knows pool id }
     {
-        let at = board.block(pool as usize, id);
-        let cycle = self.node_at(board.filler(pool as usize)).next;
+        let at = board.block_slot(pool as usize, id);
+        let cycle = self.node_at(board, board.filler(pool as usize)).next;
         writing::store_readers::<Brand>(board, &mut self.token, pool as usize, id);
         self.blocks[at] = BlockView::Out { stamp: cycle + 1 };
     }
@@ -143,7 +146,7 @@ impl LoopSeat {
         requires block { id < (pool_at (layout board.now) pool).blocks }
         ensures { result ≡ block_of (layout board.now) self.now.knows pool id }
     {
-        self.blocks[board.block(pool as usize, id)]
+        self.blocks[board.block_slot(pool as usize, id)]
     }
 
     /// The number of the block that was filled whole in this cycle, announced or not. Condition:
@@ -155,7 +158,7 @@ impl LoopSeat {
         ensures { IsFirstFilled (layout board.now) self.now.knows pool result }
     {
         let words = board.block_words(pool);
-        let stamp = self.node_at(board.filler(pool as usize)).next + 1;
+        let stamp = self.node_at(board, board.filler(pool as usize)).next + 1;
         for id in 0..board.block_count(pool) {
             if is_filled(self.view_of(board, pool, id), words, stamp) {
                 return id;

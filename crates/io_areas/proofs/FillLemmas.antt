@@ -35,6 +35,7 @@ module _ (p : BoardLayout) (v : View) (q b : ℕ) (xs : List ℤ) (h : Fills p v
       owned = a.owned;
       there = a.there;
       knows = a.knows;
+      owners = a.owners;
     },
     r.1,
     r.2,

@@ -20,7 +20,7 @@ module _ (p : BoardLayout) (v : View) (heard : List ℕ) where
   pub has_hears : (b : Bool) (m : ℕ) → HasNode b p v m → HasNode b p hears m
   has_hears true m h = h
   has_hears false m h = let o = h.0 in (
-    record { inside = o.inside; follows = o.follows; loops = o.loops; owned = o.owned; there = o.there; knows = o.knows },
+    record { inside = o.inside; follows = o.follows; loops = o.loops; owned = o.owned; there = o.there; knows = o.knows; owners = o.owners },
     h.1,
     h.2,
   )

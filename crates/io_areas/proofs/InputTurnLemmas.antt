@@ -20,7 +20,7 @@ module _ (p : BoardLayout) (v : View) (l : ℕ) (y : ReadView) where
   pub has_again : (b : Bool) (m : ℕ) → HasNode b p v m → HasNode b p (view_read v l y) m
   has_again true m h = h
   has_again false m h = let o = h.0 in (
-    record { inside = o.inside; follows = o.follows; loops = o.loops; owned = o.owned; there = o.there; knows = o.knows },
+    record { inside = o.inside; follows = o.follows; loops = o.loops; owned = o.owned; there = o.there; knows = o.knows; owners = o.owners },
     h.1,
     h.2,
   )

@@ -18,14 +18,14 @@ pub record IsKept (v w : View) : Type 0 where
 module _ (p : BoardLayout) (v w : View) (k : IsKept v w) where
   pub has_again : (m : ℕ) → HasNode false p v m → HasNode false p w m
   has_again m h = let o = h.0 in subst (λ (x : View). HasNode false p x m) (sym k.same)
-      (record { inside = o.inside; follows = o.follows; loops = o.loops; owned = o.owned; there = o.there; knows = o.knows }, h.1, h.2)
+      (record { inside = o.inside; follows = o.follows; loops = o.loops; owned = o.owned; there = o.there; knows = o.knows; owners = o.owners }, h.1, h.2)
 
   pub runs_again : (m : ℕ) → IsRunning false v m → IsRunning false w m
   runs_again m h = subst (λ (x : View). IsRunning false x m) (sym k.same) h
 
   member_again : (m : ℕ) → IsMember false p v m → IsMember false p w m
   member_again m h = let o = h.0 in subst (λ (x : View). IsMember false p x m) (sym k.same)
-      (record { inside = o.inside; follows = o.follows; loops = o.loops; owned = o.owned; there = o.there; knows = o.knows }, h.1, h.2)
+      (record { inside = o.inside; follows = o.follows; loops = o.loops; owned = o.owned; there = o.there; knows = o.knows; owners = o.owners }, h.1, h.2)
 
   pub pool_again : (q : ℕ) → HasPool p v q → HasPool p w q
   pool_again q h = let room = h.2 in let same = k.room in (h.0, member_again (filler_of p q) h.1, omega arith)

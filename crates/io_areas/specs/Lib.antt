@@ -1,5 +1,6 @@
 pub mod Unpacking
 pub mod Quanta
+pub mod Reclaiming
 pub mod Writing
 pub mod Reading
 pub mod PooledBoard

@@ -9,13 +9,11 @@ use Rattle.board_rule.specs.Layout.{BoardLayout, first}
 use Rattle.board_rule.specs.SampleWords.{samples_in}
 use Rattle.board_rule.specs.Areas.{stored_id}
 use Rattle.board_rule.specs.BlockReadings.{delay_at, busy_cycles, is_busy, stamp}
-use Rattle.board_rule.specs.EndViews.{write_of, pool_at, filler_of, pool_of, block_of, view_block}
-use Rattle.board_rule.specs.WorkSteps.{IsRunning}
+use Rattle.board_rule.specs.EndViews.{write_of, pool_at, pool_of, block_of, view_block}
 use Rattle.board_rule.specs.WriterSteps.{write_cycle, IsWriter, have_stored}
-use Rattle.board_rule.specs.SeatNodes.{IsCycle}
-use Rattle.board_rule.specs.BlockSteps.{fill_cycle, IsLoaded, IsWriting, HasBlock, readers_stored}
-use Rattle.board_rule.specs.ReclaimSteps.{IsUnreclaimed, readers_loaded, IsDue, IsReturned, IsZeroAtSecond}
+use Rattle.board_rule.specs.BlockSteps.{fill_cycle, IsWriting, HasBlock, readers_stored}
 use Rattle.board_rule.specs.BufferReads.{HasPool, IsFirstFilled}
+pub use Rattle.io_areas.specs.Reclaiming.{IsAtPool, Reclaims, HasReclaimed}
 
 module _ (p : BoardLayout) where
   -- LOADING FOR WRITING answers the number that the reader gave back: none exactly in the first
@@ -23,23 +21,6 @@ module _ (p : BoardLayout) where
   abbrev pub number_given : View → ℕ → Option ℕ
   number_given v l = cond (eqb (write_cycle p v l) (first p)) None
       (Some (stored_id (write_of v l) (delay_at p l)))
-
-  -- the node that fills the pool is one of the seat, with cycles left, and works
-  abbrev pub IsAtPool : View → ℕ → Type 0
-  IsAtPool v q = HasPool p v q × IsRunning false v (filler_of p q) × IsCycle p (fill_cycle p v q)
-
-  -- RECLAIMING: all links of the pool are loaded in this cycle, and the pool is not yet reclaimed
-  -- in it. In each cycle but the first the block that is due becomes free. It is the one whose
-  -- number the readers of the latest links gave back, and block 0 in the second cycle of a pool
-  -- with a delayed link
-  abbrev pub Reclaims : View → ℕ → Type 0
-  Reclaims v q = IsAtPool v q × IsLoaded p v q × IsUnreclaimed p v q (fill_cycle p v q)
-
-  abbrev pub HasReclaimed : View → ℕ → Option ℕ → View → Type 0
-  HasReclaimed v q None w = (fill_cycle p v q ≡ first p) × (w ≡ v)
-  HasReclaimed v q (Some b) w = (first p < fill_cycle p v q) × IsDue p v q b
-      × (w ≡ readers_loaded p v q b 0)
-      × IsReturned p v q b × IsZeroAtSecond p v q b
 
   -- FILLING: the block is free, no block of the pool is due or filled in this cycle, and the
   -- samples are those that the pool gives in it
@@ -63,7 +44,7 @@ module _ (p : BoardLayout) where
   IsFull v q b = IsFirstFilled p v q b × (block_of p v q b ≡ Filling (pool_at p q).words)
 
   abbrev pub Announces : View → ℕ → Type 0
-  Announces v q = IsAtPool v q × ((b : ℕ) × IsFull v q b)
+  Announces v q = IsAtPool p v q × ((b : ℕ) × IsFull v q b)
 
   abbrev pub HasAnnounced : View → ℕ → View → Type 0
   HasAnnounced v q w = (b : ℕ) × IsFull v q b × (w ≡ readers_stored p v q b)

@@ -21,6 +21,7 @@ loop-link-preserved g c = let i = c.loop-link.invariant in let e = c.hears.ensur
       table = e.table ∙ i.table;
       heard = one_more _ _ _ c.args.links.now c.requires.phase c.loop-link.link-index _ c.loop-link-test.true i.heard _ e.knows;
       room = λ some. e.room ∙ ap (λ (j : ℕ). expected_of p c.args.now.now c.args.before.now (get_or c.args.links.now j 0)) back;
+      kept = λ none. absurd (omega arith);
       long = ap (λ (l : List ℤ). length l) e.room
           ∙ expected_long p c.args.now.now c.args.before.now (get_or c.args.links.now k 0) c.requires.long.1;
       all = elim c.if-hears.branch [

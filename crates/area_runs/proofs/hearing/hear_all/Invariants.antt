@@ -9,6 +9,7 @@ invariant-loop-link g l = record {
   heard : AreHeard g.S.BoardSeat.is_driver (layout_of l.board.board_shape) (g.S.BoardSeat.knows l.fn.seat) (take l.link-index l.links)
       (g.S.BoardSeat.knows l.seat);
   room : 0 < l.link-index → l.room ≡ expected_of (layout_of l.board.board_shape) l.now l.before (slice_index l.links (l.link-index - 1));
+  kept : l.link-index ≡ 0 → l.room ≡ l.fn.room;
   long : length l.room ≡ length l.now;
   all : l.heard ≡ true;
 }

@@ -89,6 +89,8 @@ returns-clause-concluded c = let board_shape = c.args.board.now.board_shape in l
           ∙ ap (λ (k : ℕ). expected_of p (given_in c.args.self.now.samples k) (given_before c.args.self.now.samples k)
           (last_of c.args.self.now.reads)) (let past = c.ended-past.ensures in
           let is : c.ended-past.result ≡ v.lead.cycle - first p = omega arith in is);
+      kept = λ none. with_items_is c.args.self.now.room c.hear_all-heard.new.room (c.hear_all-heard.auto.room ∙ c.as_mut_slice.ensures.len)
+          ∙ c.hear_all-heard.ensures.kept (ap (λ (l : List ℕ). length l) c.as_slice.ensures ∙ none) ∙ c.as_mut_slice.ensures.value;
       same = refl;
       checks = ended_checks board_shape o.plain u a.1 refl even w heard c.finish.new.seat.knows c.end.new.seat.knows c.finish.ensures.knows
           c.end.ensures.knows;

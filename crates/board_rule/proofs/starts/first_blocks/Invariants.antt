@@ -2,7 +2,7 @@ use Rattle.std.proofs.Common.{◌≡◌, take}
 use Rattle.std.specs.List.{flat_map}
 use Rattle.pw_base.specs.Pools.{pools_of}
 use Rattle.board_rule.specs.View.{blocks_at_first}
-use Rattle.board_rule.proofs.opening.first_blocks.Given as goal
+use Rattle.board_rule.proofs.starts.first_blocks.Given as goal
 
 abbrev pub invariant-loop-pool : goal.invariant-loop-pool
 invariant-loop-pool l = l.blocks ≡ flat_map (blocks_at_first l.shape) (take l.pool-index (pools_of l.shape))

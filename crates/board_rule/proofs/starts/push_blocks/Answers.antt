@@ -7,7 +7,7 @@ use Rattle.board_rule.specs.declared.view.BlockView.{BlockView}
 use Rattle.board_rule.specs.declared.view.BlockView.TheVariants.{Free, Out}
 use Rattle.board_rule.proofs.LayoutLemmas.{counted_both, any_counted}
 use Rattle.std.proofs.lemmas.List.{append_assoc}
-use Rattle.board_rule.proofs.opening.push_blocks.Goals as goal
+use Rattle.board_rule.proofs.starts.push_blocks.Goals as goal
 
 pub returns-then-delayed_readers-eq0 : goal.returns-then-delayed_readers-eq0
 returns-then-delayed_readers-eq0 c = let x = c.args.pool.now in let shape = c.args.shape.now in

@@ -1,0 +1,7 @@
+use Rattle.std.proofs.Common.{◌≡◌, map, take}
+use Rattle.board_rule.specs.Layout.{layout_of}
+use Rattle.board_rule.specs.Owners.{seat_with}
+use Rattle.board_rule.proofs.owners.of_readers.Given as goal
+
+abbrev pub invariant-loop-link : goal.invariant-loop-link
+invariant-loop-link l = l.row ≡ map (λ x. seat_with (layout_of l.board_shape) x.to.node) (take l.link-index l.link-items)
