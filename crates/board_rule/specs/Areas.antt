@@ -31,10 +31,10 @@ pub record Span : Type 0 where
   pub ended : ℕ
   pub begun : ℕ
 
--- A LINK of a pool with `n` `blocks`, in an epoch from the cycle `first`. `turns`: a turn is inside
--- the node's Running. Of the stores `a` ago, 0 or 1:
--- `have` and `need` say what the area holds, `unnamed` and `named` whether a block was ever stored
--- there. `found`: the reader has the block that its area names
+-- A LINK, whose pool has `blocks` blocks, in an epoch that begins with the cycle `first`.
+-- `writer_turn`, `reader_turn`: a turn is inside the node's Running. Of the stores `a` ago, 0 or 1,
+-- `have` and `need` say what the area holds, and `unnamed` and `named` whether a block was ever
+-- stored there. `found`: in its turn the reader has the block that its area names
 pub record LinkOk (first blocks : ℕ) (k : ShapeLink) (writer reader : Span) (w : WriteView)
     (r : ReadView)
     (area : ℕ → ℕ) : Type 0 where
