@@ -15,11 +15,10 @@ use Rattle.board_rule.specs.declared.view.BlockView.{BlockView}
 use Rattle.board_rule.specs.declared.view.BlockView.TheVariants.{Out}
 use Rattle.board_rule.specs.Layout.{BoardLayout, first}
 use Rattle.board_rule.specs.StartViews.{Samples}
-use Rattle.board_rule.specs.View.{put}
 use Rattle.board_rule.specs.Areas.{delay_by, area_of, stored_id, Span}
 use Rattle.board_rule.specs.BufferRule.{NamesBlocks, Buffers}
 use Rattle.board_rule.specs.BlockReadings.{Ends, is_busy, stamp, delay_at}
-use Rattle.board_rule.proofs.WiringLemmas.{LinkAt, PoolAt, Wired, late_is, busy_cycles_some}
+use Rattle.board_rule.proofs.WiringLemmas.{LinkAt, PoolAt, Wired, late_is}
 use Rattle.board_rule.proofs.DelayLemmas.{delay_most, same_area, area_most, areas_differ}
 use Rattle.board_rule.proofs.PaceLemmas.{Paced}
 use Rattle.board_rule.proofs.ReclaimLemmas.{reclaimed_most, reclaimed_now}

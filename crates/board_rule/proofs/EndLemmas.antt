@@ -8,7 +8,6 @@ use Rattle.pw_base.specs.declared.pools.PoolShape.{PoolShape}
 use Rattle.pw_base.specs.Layout.{io_place, readers_place, sample_place}
 use Rattle.board_rule.specs.declared.view.WriteView.{WriteView}
 use Rattle.board_rule.specs.declared.view.ReadView.{ReadView}
-use Rattle.board_rule.specs.declared.view.BlockView.{BlockView}
 use Rattle.board_rule.specs.Layout.{BoardLayout, first}
 use Rattle.board_rule.specs.StartViews.{Samples}
 use Rattle.board_rule.specs.View.{put}

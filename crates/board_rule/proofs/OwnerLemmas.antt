@@ -1,7 +1,7 @@
 -- Laws of `specs/Owners.antt`: an entry stands among its owner's at its slot, and is set there.
 use Rattle.std.proofs.Common.{◌≡◌, ℕ, zero, suc, ◌+◌, ◌-◌, ◌<◌, ◌≤◌, Bool, true, false, cond, eqb, List, [], ◌∷◌, ◌++◌, map, take}
 use Rattle.std.proofs.Common.{length, get_or, set, replicate, refl, sym, ap, ◌∙◌, subst, arith, eq-eqb, slice_index}
-use Rattle.std.specs.Prelude.{count_by, sum_by}
+use Rattle.std.specs.Prelude.{sum_by}
 use Rattle.std.specs.List.{flat_map}
 use Rattle.std.proofs.lemmas.List.{length-append, length-replicate, get_or-replicate}
 use Rattle.std.proofs.lemmas.List.Sums.{sum_by-cons, count_by_more_yes}
@@ -12,7 +12,7 @@ use Rattle.pw_base.specs.declared.pools.PoolShape.{PoolShape}
 use Rattle.board_rule.specs.declared.view.BlockView.TheVariants.{Free, Out}
 use Rattle.board_rule.specs.ByNumber.{no_pool}
 use Rattle.board_rule.specs.StartViews.{is_delayed, blocks_at_first}
-use Rattle.board_rule.specs.Owners.{own, own_before, slot_in}
+use Rattle.board_rule.specs.Owners.{own, own_before}
 
 -- the entry at i is the seat's, and s is its slot
 pub record SitsAt (k : ℕ) (os : List ℕ) (i s : ℕ) : Type 0 where

@@ -13,7 +13,6 @@ use Rattle.board_rule.specs.Layout.{BoardLayout, first}
 use Rattle.board_rule.specs.StartViews.{Samples}
 use Rattle.board_rule.specs.View.{put}
 use Rattle.board_rule.specs.SampleWords.{packed, samples_of}
-use Rattle.pw_base.specs.declared.ids.PortId.{PortId}
 use Rattle.board_rule.specs.Areas.{delay_by, area_of, stored_id, Span}
 use Rattle.board_rule.specs.BufferRule.{BlockOk, Buffers}
 use Rattle.board_rule.specs.BlockReadings.{Ends, is_busy, stamp, filled, delay_at, waiting, readers_of}

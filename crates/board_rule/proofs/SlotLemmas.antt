@@ -1,5 +1,5 @@
 -- Laws of `specs/Slots.antt`: a seat's own node, links and blocks sit at their slots.
-use Rattle.std.proofs.Common.{◌≡◌, ℕ, ◌+◌, ◌<◌, ◌≤◌, List, [], map, take, length, cond, slice_index, refl, sym, ap, ◌∙◌, subst, arith, ne_eqb, eqb}
+use Rattle.std.proofs.Common.{◌≡◌, ℕ, ◌+◌, ◌<◌, ◌≤◌, List, [], take, length, cond, slice_index, sym, ap, ◌∙◌, subst, arith, ne_eqb, eqb}
 use Rattle.std.specs.Prelude.{sum_by, slice_index_or}
 use Rattle.std.proofs.lemmas.List.{length-map, get_or-map, length-take}
 use Rattle.std.proofs.lemmas.List.Sums.{count_by-le-length}
@@ -7,12 +7,12 @@ use Rattle.pw_base.specs.declared.shape.ShapeNode.{ShapeNode}
 use Rattle.pw_base.specs.declared.pools.PoolShape.{PoolShape}
 use Rattle.pw_base.specs.Pools.{pools_of}
 use Rattle.board_rule.specs.declared.view.View.{View}
-use Rattle.board_rule.specs.Layout.{BoardLayout, IsSound, nodes}
+use Rattle.board_rule.specs.Layout.{BoardLayout, IsSound}
 use Rattle.board_rule.specs.Owners.{own_before, slot_in, holder, seat_with, owners_of}
 use Rattle.board_rule.specs.Spans.{block_at}
 use Rattle.board_rule.specs.SeatNodes.{Has}
 use Rattle.board_rule.specs.EndViews.{no_link, no_pool, pool_at, writer_of, reader_of, filler_of}
-use Rattle.board_rule.proofs.OwnerLemmas.{SitsAt, own_run, rows, row_inside, row_owner}
+use Rattle.board_rule.proofs.OwnerLemmas.{SitsAt, own_run, row_inside, row_owner}
 
 no_node : ShapeNode
 no_node = record { node = 0; required = 0; targets = [] }

@@ -29,7 +29,7 @@ use Rattle.board_rule.specs.EndViews.{link_at, pool_at, pool_of, writer_of, fill
 use Rattle.board_rule.specs.WriterSteps.{write_cycle, write_area, LoadsAsWriter, loaded_as_writer, IsGivenBack, StoresHave, have_stored}
 use Rattle.board_rule.specs.BlockSteps.{fill_cycle, StoresSample, sample_stored, StoresReaders}
 use Rattle.board_rule.specs.BlockSteps.{readers_stored}
-use Rattle.board_rule.specs.ReclaimSteps.{reclaimed_of, due_stamp, IsOldestOut, LoadsReaders, FindsDue, readers_loaded}
+use Rattle.board_rule.specs.ReclaimSteps.{reclaimed_of, due_stamp, LoadsReaders, FindsDue, readers_loaded}
 use Rattle.board_rule.specs.Plays.{Leaves, Learns}
 use Rattle.board_rule.proofs.LayoutLemmas.{count_is}
 use Rattle.board_rule.proofs.WiringLemmas.{late_is}

@@ -1,4 +1,4 @@
-use Rattle.std.proofs.Common.{◌≡◌, ◌∙◌, ◌+◌, ◌<◌, ℕ, List, take, length, ap, arith}
+use Rattle.std.proofs.Common.{◌≡◌, ◌<◌, ℕ, List, take, length, ap, arith}
 use Rattle.std.specs.Prelude.{sum_by, slice_index_or}
 use Rattle.pw_base.specs.Pools.{pools_of}
 use Rattle.pw_base.specs.declared.pools.PoolShape.{PoolShape}

@@ -1,4 +1,4 @@
-use Rattle.std.proofs.Common.{ℕ, ◌<◌, take, sym, subst, arith}
+use Rattle.std.proofs.Common.{ℕ, take, sym, subst, arith}
 use Rattle.std.specs.Prelude.{sum_by}
 use Rattle.pw_base.specs.Pools.{pools_of}
 use Rattle.board_rule.specs.declared.rows.PoolRow.{PoolRow}

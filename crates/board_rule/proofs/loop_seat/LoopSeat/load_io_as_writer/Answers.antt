@@ -1,11 +1,10 @@
 use Rattle.std.proofs.Common.{◌≡◌, ◌∙◌, ◌+◌, ℕ, ap, sym, subst, arith}
-use Rattle.board_rule.specs.declared.view.WriteView.{WriteView}
 use Rattle.board_rule.specs.declared.view.View.{View}
 use Rattle.board_rule.specs.Known.{Known}
 use Rattle.board_rule.specs.Layout.{layout_of}
 use Rattle.board_rule.specs.Slots.{HasWriter}
 use Rattle.board_rule.specs.View.{node_of}
-use Rattle.board_rule.specs.EndViews.{write_of, writer_of}
+use Rattle.board_rule.specs.EndViews.{write_of}
 use Rattle.board_rule.specs.WriterSteps.{write_cycle, IsWriter}
 use Rattle.board_rule.proofs.SlotLemmas.{write_sits}
 use Rattle.board_rule.proofs.EntryLemmas.{write_set, write_in}

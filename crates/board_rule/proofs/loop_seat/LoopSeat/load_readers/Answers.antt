@@ -1,12 +1,10 @@
 use Rattle.std.proofs.Common.{◌≡◌, ◌∙◌, ◌+◌, ℕ, cond, eqb, refl, ap, sym, subst, arith}
 use Rattle.std.specs.Prelude.{slice_set as set}
-use Rattle.board_rule.specs.declared.view.BlockView.{BlockView}
-use Rattle.board_rule.specs.declared.view.BlockView.TheVariants.{Free, Filling, Out}
+use Rattle.board_rule.specs.declared.view.BlockView.TheVariants.{Free}
 use Rattle.board_rule.specs.declared.view.View.{View}
 use Rattle.board_rule.specs.Known.{Known}
 use Rattle.board_rule.specs.Layout.{layout_of}
 use Rattle.board_rule.specs.Spans.{block_at}
-use Rattle.board_rule.specs.View.{node_of}
 use Rattle.board_rule.specs.BlockSteps.{fill_cycle, HasBlock}
 use Rattle.board_rule.specs.ReclaimSteps.{LoadsReaders}
 use Rattle.board_rule.proofs.SlotLemmas.{block_sits}

@@ -1,4 +1,4 @@
-use Rattle.std.proofs.Common.{◌≡◌, ◌∙◌, ℕ, ap, sym, subst, arith}
+use Rattle.std.proofs.Common.{◌≡◌, ◌∙◌, ap, sym, subst, arith}
 use Rattle.board_rule.specs.declared.view.View.{View}
 use Rattle.board_rule.specs.Known.{Known}
 use Rattle.board_rule.specs.Layout.{layout_of}

@@ -1,7 +1,5 @@
-use Rattle.std.proofs.Common.{◌≡◌, ◌∙◌, ◌+◌, ℕ, cond, eqb, refl, ap, sym, subst, arith}
-use Rattle.std.specs.Prelude.{slice_set as set}
-use Rattle.board_rule.specs.declared.view.BlockView.{BlockView}
-use Rattle.board_rule.specs.declared.view.BlockView.TheVariants.{Free, Filling, Out}
+use Rattle.std.proofs.Common.{◌≡◌, ◌∙◌, ◌+◌, ℕ, ap, sym, subst, arith}
+use Rattle.board_rule.specs.declared.view.BlockView.TheVariants.{Out}
 use Rattle.board_rule.specs.declared.view.View.{View}
 use Rattle.board_rule.specs.Known.{Known}
 use Rattle.board_rule.specs.Layout.{layout_of}

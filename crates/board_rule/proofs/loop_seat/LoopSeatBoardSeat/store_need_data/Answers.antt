@@ -1,11 +1,10 @@
 use Rattle.std.proofs.Common.{◌≡◌, ◌∙◌, ◌+◌, ℕ, false, ap, sym, subst, arith}
-use Rattle.board_rule.specs.declared.view.ReadView.{ReadView}
 use Rattle.board_rule.specs.declared.view.View.{View}
 use Rattle.board_rule.specs.Known.{Known}
 use Rattle.board_rule.specs.Layout.{layout_of}
 use Rattle.board_rule.specs.Slots.{HasReader}
 use Rattle.board_rule.specs.View.{node_of}
-use Rattle.board_rule.specs.EndViews.{read_of, reader_of}
+use Rattle.board_rule.specs.EndViews.{read_of}
 use Rattle.board_rule.specs.ReaderSteps.{read_cycle, IsReader}
 use Rattle.board_rule.proofs.SlotLemmas.{read_sits}
 use Rattle.board_rule.proofs.EntryLemmas.{read_set, read_in}
