@@ -15,12 +15,14 @@ loop-i-preserved c =
     (pos 0) here c.requires.lengths refl) in
     let v : to_z w32 (of_z w32 c.plus.result) ≡ get_or c.args.sum.now c.loop-i.i (pos 0) +ℤ get_or c.args.s.now c.loop-i.i (pos 0) =
     omega (arith, ints, c.plus.ensures.sum) in
+    let fits = c.plus.ensures.short in
+    let short : IsWithin 1 (get_or c.args.s.now c.loop-i.i (pos 0)) = (omega (arith, ints, fits.0), omega (arith, ints, fits.1)) in
     record {
       sum = rw (v, c.loop-i.invariant.sum, add-one) (zip_over (λ (p : ℤ × ℤ). p.0 +ℤ p.1) c.args.sum.now c.args.s.now c.args.sum.now c.loop-i.i (pos 0) (pos 0) here c.requires.lengths refl);
       short = λ j d low inside. ⊎_elim
           (λ early. c.loop-i.invariant.short j d early inside)
           (λ late. let e : c.loop-i.i ≡ j = omega (arith, low, late) in
           subst (IsWithin 1) (get_or_default c.args.s.now c.loop-i.i (pos 0) d c.loop-i-test.true
-          ∙ ap (λ k. get_or c.args.s.now k d) e) c.plus.ensures.short)
+          ∙ ap (λ k. get_or c.args.s.now k d) e) short)
           (cases_lt j c.loop-i.i);
     }
