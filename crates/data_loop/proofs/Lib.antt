@@ -9,3 +9,4 @@ pub mod InputLemmas
 pub mod TurnLemmas
 pub mod PlayLemmas
 pub mod StageLemmas
+pub mod TryLemmas

@@ -12,3 +12,4 @@ pub mod Rooms
 pub mod Standings
 pub mod Stages
 pub mod Tries
+pub mod LoopTurn

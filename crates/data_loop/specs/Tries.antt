@@ -33,7 +33,8 @@ abbrev pub HasTried : BoardLayout → Stage → ℕ → Tried → Stage → Type
 HasTried p old n Ended new =
     ((node_of old.seat.knows (p.index n)).next ≡ last p) × (new.seat.knows ≡ old.seat.knows)
 HasTried p old n (NotYet found) new =
-    (found ≢ triggered_word (node_of old.seat.knows (p.index n)).next)
+    ((node_of old.seat.knows (p.index n)).next ≢ last p)
+    × (found ≢ triggered_word (node_of old.seat.knows (p.index n)).next)
     × (new.seat.knows ≡ tried p old.seat.knows (p.index n) found)
 HasTried p old n Ran new =
     HasTurned p old.seat.knows old.free.items (p.index n) new.seat.knows new.free.items

@@ -4,6 +4,7 @@
 //! and gives in its pools what its outputs give in that cycle.
 #![tactic(auto)]
 
+mod did;
 mod frames;
 mod gathering;
 mod giving;
@@ -18,6 +19,7 @@ mod tried;
 mod turning;
 mod working;
 
+pub use did::Did;
 pub use frames::worked_cycles;
 pub use gathering::gather;
 pub use inputs::{Input, hear_all};

@@ -1,10 +1,12 @@
 //! What a loop has in one epoch.
-ghost use Rattle.std.specs.Prelude.{◌≡◌, ◌≢◌, ◌<◌, ℕ, length, slice_index_or};
+ghost use Rattle.std.specs.Prelude.{◌≡◌, ◌≢◌, ◌<◌, ◌≤◌, ℕ, [], length, slice_index_or, vec_capacity};
 ghost use Rattle.node_state.specs.declared.node_state.NodeState.{NodeState};
 ghost use Rattle.board_rule.specs.OnBoard.{layout, table_of};
 ghost use Rattle.data_loop.specs.Stages.{IsStanding};
 ghost use Rattle.data_loop.specs.Tries.{HasTried, member_at};
+ghost use Rattle.data_loop.specs.LoopTurn.{IsDid};
 
+use crate::did::Did;
 use crate::member::Member;
 use crate::playing::play;
 use crate::rows::Rows;
@@ -73,5 +75,38 @@ impl Stage {
                 Tried::Ran
             }
         }
+    }
+    /// One turn: tries the members in their order, and ends with the first that has run. `found` is
+    /// empty before; then it has the node and the word of each try that was too early. Takes no
+    /// memory, does not wait.
+    pub fn turn<G: Gate>(
+        &mut self,
+        board: &Board,
+        score: &Score,
+        epoch: u32,
+        states: &mut [NodeState],
+        rows: &mut Rows,
+        found: &mut Vec<(u32, u64)>,
+        gate: &G,
+    ) -> Did
+        requires stands { IsStanding score.now epoch (layout board.now) (table_of board.now)
+            self.old states.old rows.old }
+        requires empty { found.old.items ≡ [] }
+        requires room { length self.old.members ≤ vec_capacity found.old }
+        ensures stands { IsStanding score.now epoch (layout board.now) (table_of board.now)
+            self.new states.new rows.new }
+        ensures did { IsDid (layout board.now) self.old result found.new.items self.new }
+        ensures members { self.new.members ≡ self.old.members }
+        ensures capacity { vec_capacity found.new ≡ vec_capacity found.old }
+    {
+        for index in 0..self.members.len() {
+            let node = self.members.as_slice()[index].node;
+            match self.try_member(board, score, epoch, index, states, rows, gate) {
+                Tried::Ended => (),
+                Tried::NotYet { found: word } => found.push_reserved((node, word)),
+                Tried::Ran => return Did::Ran { node },
+            }
+        }
+        Did::Idle
     }
 }

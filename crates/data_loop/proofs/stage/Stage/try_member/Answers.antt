@@ -76,7 +76,11 @@ returns-in-NotYet-clause-tried g' c = let board_shape = c.args.board.now.board_s
     let m : Member = c.index-as_slice-index.result in
     let is : m ≡ member_at g c.args.index = c.index-as_slice-index.is ∙ ap (λ (l : List Member). get_or l c.args.index m) c.as_slice.ensures
     ∙ get_or_default g.members c.args.index m no_member c.requires.inside in
-    subst (λ (x : Member). HasTried p g x.node (NotYet c.in-NotYet.found) (record g { seat = c.claim.new.seat })) is c.in-NotYet.ensures.claim
+    let some_left : c.ended.result ≢ board_shape.shape.cycles = search rules in
+    let ended : first p + c.ended.result ≡ (node_of v (p.index m.node)).next = c.ended.ensures in
+    let tried_it = c.in-NotYet.ensures.claim in
+    subst (λ (x : Member). HasTried p g x.node (NotYet c.in-NotYet.found) (record g { seat = c.claim.new.seat })) is
+    ((λ e. some_left (omega (arith, e, ended))), tried_it.0, tried_it.1)
 
 pub returns-in-Awake-clause-stands : goal.returns-in-Awake-clause-stands
 returns-in-Awake-clause-stands g' c = let board_shape = c.args.board.now.board_shape in let p = layout_of board_shape in
