@@ -8,7 +8,7 @@ use Rattle.node_state.specs.declared.kind_state.KindState.{KindState}
 use Rattle.node_state.specs.declared.kind_state.KindState.TheVariants.{Source, Square, Gain, Mix2, Delay, Map, Split, Sink, Meter}
 use Rattle.node_state.specs.declared.node_state.NodeState.{NodeState}
 use Rattle.node_state.specs.Slices.{HaveFrames}
-pub use Rattle.node_state.specs.StateReadings.{node_kind, node_wave_channels, kept_stream, node_quantum, frames_so_far, node_channels, most_channels, HasFramesLeft}
+pub use Rattle.node_state.specs.StateReadings.{node_kind, node_wave_channels, kept_stream, node_quantum, frames_so_far, prepared_frames, node_channels, most_channels, HasFramesLeft}
 
 -- by the channels at the first input and the frames prepared: the file's front and the place in it;
 -- the place in the period; the samples not yet given; the stream; the peak. The other kinds keep

@@ -15,13 +15,16 @@ node_wave_channels s = wave_channels s.state
 abbrev pub kept_stream : NodeState → List ℤ
 kept_stream s = stream_of s.state
 
--- the frames of a quantum, the frames so far, and the channels at the first input: now, and the
--- most
+-- the frames of a quantum, the frames so far and those prepared for, and the channels at the first
+-- input: now, and the most
 abbrev pub node_quantum : NodeState → ℕ
 node_quantum s = s.quantum
 
 abbrev pub frames_so_far : NodeState → ℕ
 frames_so_far s = s.frames
+
+abbrev pub prepared_frames : NodeState → ℕ
+prepared_frames s = s.prepared
 
 abbrev pub node_channels : NodeState → ℕ
 node_channels s = s.channels

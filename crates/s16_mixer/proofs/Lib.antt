@@ -3,3 +3,4 @@ pub mod RowLemmas
 pub mod FrameLemmas
 pub mod LaneLemmas
 pub mod PeakLemmas
+pub mod WithinLemmas

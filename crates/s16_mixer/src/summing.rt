@@ -1,7 +1,7 @@
 //! Samples added to sums, a lane at a time.
-ghost use Rattle.std.specs.Prelude.{◌≡◌, length, All};
+ghost use Rattle.std.specs.Prelude.{◌≡◌, ℕ, ◌+◌, length, All};
 ghost use Rattle.pw_base.specs.Samples.{summed};
-ghost use Rattle.s16_mixer.specs.Ranges.{HasRoom};
+ghost use Rattle.s16_mixer.specs.Ranges.{HasRoom, IsWithin};
 
 use crate::plain;
 
@@ -12,7 +12,9 @@ const LANE: usize = 128;
 pub fn mix_into(sum: &mut [i32], s: &[i16])
     requires lengths { length sum.old ≡ length s.now }
     requires room { All HasRoom sum.old }
-    ensures { sum.new ≡ summed sum.old s.now }
+    ensures sum { sum.new ≡ summed sum.old s.now }
+    // Sums of n samples each are then sums of n + 1.
+    ensures within { (n : ℕ) → All (IsWithin n) sum.old → All (IsWithin (n + 1)) sum.new }
 {
     let (lanes, rest) = s.as_chunks::<LANE>();
     for k in 0..lanes.len() {

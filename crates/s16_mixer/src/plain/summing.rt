@@ -1,12 +1,13 @@
 //! Samples added to sums.
 ghost use Rattle.std.specs.Prelude.{◌≡◌, length, All, ◌+ℤ◌};
 ghost use Rattle.pw_base.specs.Samples.{summed};
-ghost use Rattle.s16_mixer.specs.Ranges.{HasRoom};
+ghost use Rattle.s16_mixer.specs.Ranges.{HasRoom, IsWithin};
 
 /// The sum with one sample more.
 fn plus(sum: i32, x: i16) -> i32
     requires { HasRoom sum }
-    ensures { result ≡ sum +ℤ x }
+    ensures sum { result ≡ sum +ℤ x }
+    ensures short { IsWithin 1 x }
 {
     sum + i32::from(x)
 }
@@ -17,7 +18,8 @@ fn plus(sum: i32, x: i16) -> i32
 pub fn mix_into(sum: &mut [i32], s: &[i16])
     requires lengths { length sum.old ≡ length s.now }
     requires room { All HasRoom sum.old }
-    ensures { sum.new ≡ summed sum.old s.now }
+    ensures sum { sum.new ≡ summed sum.old s.now }
+    ensures short { All (IsWithin 1) s.now }
 {
     for i in 0..s.len() {
         sum[i] = plus(sum[i], s[i]);

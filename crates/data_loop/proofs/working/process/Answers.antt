@@ -1,0 +1,33 @@
+use Rattle.std.proofs.Common.{ℕ, suc, sym, ◌∙◌, subst, inl, inr, ⊎_elim}
+use Rattle.pw_base.specs.KindFunction.{Heard}
+use Rattle.cycle_model.specs.Cycle.{wave_of, outputs}
+use Rattle.cycle_model.specs.KindSamples.{heard_of}
+use Rattle.cycle_model.specs.Progress.{received_until}
+use Rattle.node_state.specs.Slices.{left_channels}
+use Rattle.node_state.specs.StandsFor.{StandsFor, frames_so_far, node_quantum}
+use Rattle.data_loop.specs.Standing.{out_channels}
+use Rattle.data_loop.proofs.NodeLemmas.{joined, output_is}
+use Rattle.data_loop.proofs.working.process.Goals as goal
+
+pub returns-clause-left : goal.returns-clause-left
+returns-clause-left c = let may = c.requires.may in let r = may.ready in ⊎_elim (λ none. inl none)
+    (λ fits. inr (c.process.ensures.left _ r.before
+    ∙ output_is _ _ _ _ r.here r.active r.renderable _ r.kind _ r.quantum _ r.frames _ _ may.a_is may.b_is 0 _ _ fits.1 fits.0))
+    may.left_fits
+
+pub returns-clause-right : goal.returns-clause-right
+returns-clause-right c = let may = c.requires.may in let r = may.ready in ⊎_elim (λ none. inl none)
+    (λ fits. inr (c.process.ensures.right _ r.before
+    ∙ output_is _ _ _ _ r.here r.active r.renderable _ r.kind _ r.quantum _ r.frames _ _ may.a_is may.b_is 1 _ _ fits.1 fits.0))
+    may.right_fits
+
+pub returns-clause-received : goal.returns-clause-received
+returns-clause-received c = let may = c.requires.may in let r = may.ready in let same = c.process.ensures.same in
+    let score = c.args.score.now in let plan = score.plan.value in let waves = score.waves.value in
+    let n = c.args.node in let past = received_until plan (outputs plan waves) (suc c.args.cycle) n in
+    subst (λ (k : ℕ × ℕ). StandsFor c.process.new.self (record (heard_of (wave_of waves n) k.0 past) { frames = k.1 }))
+    (λ i. (left_channels (sym same.0 i) (sym same.1 i) (sym same.3 i), sym c.process.ensures.frames i))
+    (subst (λ (h : Heard). StandsFor c.process.new.self h)
+    (joined score c.args.cycle n r.epoch r.here r.active (wave_of waves n) (out_channels c.args.state.now) (frames_so_far c.args.state.now)
+    (node_quantum c.args.state.now) _ _ may.a_is may.b_is)
+    (c.process.ensures.stands _ r.before))

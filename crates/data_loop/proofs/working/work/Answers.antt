@@ -1,0 +1,33 @@
+use Rattle.data_loop.proofs.StateLemmas.{here, part, renderable, before, has_frames, some_left, state_on}
+use Rattle.data_loop.proofs.FitLemmas.{came_long, slices, left_fits, right_fits}
+use Rattle.data_loop.proofs.working.work.Goals as goal
+
+pub process-requires : goal.process-requires
+process-requires c = let may = c.requires.may in let score = c.args.score.now in let k = c.args.epoch in let t = c.args.cycle in
+    let n = c.args.node in let s = c.args.state.now in let w = may.works in
+    let a = came_long score k t n w 0 c.args.a.now may.a_is in let b = came_long score k t n w 1 c.args.b.now may.b_is in
+    record {
+      may = record {
+        ready = record {
+          renderable = renderable score k t n w;
+          epoch = w.epoch;
+          here = here score k t n w;
+          active = part score k t n w;
+          kind = may.state.kind;
+          quantum = may.state.quantum;
+          before = before score k t n w s may.state;
+          frames = has_frames score k t n w s may.state;
+          some = some_left score k t n w s may.state;
+        };
+        slices = slices score k t n w s may.state _ _ _ _ a b may.left_fits may.right_fits;
+        a_is = may.a_is;
+        b_is = may.b_is;
+        left_fits = left_fits score k t n w s may.state _ _ _ _ a b may.left_fits may.right_fits;
+        right_fits = right_fits score k t n w s may.state _ _ _ _ a b may.left_fits may.right_fits;
+      };
+    }
+
+pub returns-clause-state : goal.returns-clause-state
+returns-clause-state c = let may = c.requires.may in
+    state_on c.args.score.now c.args.epoch c.args.cycle c.args.node may.works c.args.state.now may.state c.process.new.state
+    c.process.ensures.same c.process.ensures.frames c.process.ensures.received

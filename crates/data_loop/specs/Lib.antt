@@ -1,0 +1,15 @@
+pub mod turns
+pub mod Standing
+pub mod Working
+pub mod NodeStates
+pub mod Restarts
+pub mod Inputs
+pub mod Gathering
+pub mod Giving
+pub mod Members
+pub mod Playing
+pub mod Rooms
+pub mod Standings
+pub mod Stages
+pub mod Tries
+pub mod LoopTurn

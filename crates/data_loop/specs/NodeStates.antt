@@ -1,0 +1,72 @@
+-- The state of a node in a run, before a cycle of an epoch, and what one cycle more asks for.
+-- Source: PipeWire's documentation, "Graph Scheduling": a node runs after those it depends on.
+use Rattle.std.specs.Prelude.{◌≡◌, ◌≢◌, ℕ, ◌+◌, ◌*◌, ◌==◌, ◌<◌, ◌≤◌, ◌⊎◌, List, ℤ, length, true, find, slice_get}
+use Rattle.std.specs.Prelude.{option_map, unwrap_or}
+use Rattle.pw_base.specs.declared.plan.Epoch.{Epoch}
+use Rattle.pw_base.specs.declared.plan.Plan.{Plan}
+use Rattle.pw_base.specs.KindPorts.{input_count, output_count}
+use Rattle.pw_base.specs.PlanForms.{kind_at}
+use Rattle.pw_base.specs.PlanFresh.{IsEpoch, Names, StaysFrom}
+use Rattle.pw_base.specs.SoundPlan.{IsSoundPlan}
+use Rattle.wav_files.specs.declared.wav.WavIn.{WavIn}
+use Rattle.cycle_model.specs.Epochs.{all_cycles}
+use Rattle.cycle_model.specs.WavesFit.{WavesFit}
+use Rattle.node_state.specs.declared.node_state.NodeState.{NodeState}
+use Rattle.node_state.specs.StandsFor.{node_kind, node_wave_channels, node_quantum, frames_so_far, prepared_frames, node_channels, most_channels}
+use Rattle.data_loop.specs.declared.score.Score.{Score}
+use Rattle.data_loop.specs.Standing.{HasReceivedBefore, HasReceivedUntil, comes_in, works_in, worked}
+use Rattle.data_loop.specs.Working.{output_channels}
+
+-- the first cycle of epoch k; past the last one all cycles
+abbrev pub first_of : Plan → ℕ → ℕ
+first_of plan k = unwrap_or (option_map (λ e. e.shape.first) (slice_get plan.epochs k))
+    (all_cycles plan)
+
+-- the channels of a node's wave, 0 without one
+abbrev pub wave_channels_of : List WavIn → ℕ → ℕ
+wave_channels_of waves n = unwrap_or
+    (option_map (λ w. w.wav.channels) (find (λ w. w.node == n) waves)) 0
+
+-- THE STATE OF A NODE n in epoch k, before the cycle c: it is made for all cycles that the node
+-- works in the run, has the channels that the epoch gives its first input, and stands for what the
+-- node has received. A cycle that begins an epoch begins after the node was released, if it is
+pub record IsNodeState (score : Score) (k c n : ℕ) (s : NodeState) : Type 0 where
+  pub kind : node_kind s ≡ kind_at score.plan.value n
+  pub wave : node_wave_channels s ≡ wave_channels_of score.waves.value n
+  pub quantum : node_quantum s ≡ score.plan.value.quantum
+  pub frames : frames_so_far s ≡ score.plan.value.quantum * worked score.plan.value n c
+  pub prepared : prepared_frames s
+      ≡ score.plan.value.quantum * worked score.plan.value n (all_cycles score.plan.value)
+  pub most : (j channels : ℕ) → Names score.plan.value j n channels
+      → channels ≤ most_channels s
+  pub channels : (j channels : ℕ) → j ≤ k → Names score.plan.value j n channels
+      → StaysFrom score.plan.value j k n → 0 < input_count (kind_at score.plan.value n)
+      → node_channels s ≡ channels
+  pub begun : c ≡ first_of score.plan.value k → HasReceivedBefore score c n s
+  pub done : c ≢ first_of score.plan.value k → HasReceivedUntil score c n s
+
+-- the node n works in the cycle c, which lies in epoch k
+pub record IsWorkedIn (score : Score) (k c n : ℕ) : Type 0 where
+  pub sound : IsSoundPlan score.plan.value
+  pub waves : WavesFit score.plan.value score.waves.value
+  pub place : n < length score.plan.value.nodes
+  pub epoch : Epoch
+  pub at : IsEpoch score.plan.value k epoch
+  pub from : epoch.shape.first ≤ c
+  pub to : c < epoch.shape.first + epoch.shape.cycles
+  pub works : works_in epoch n ≡ true
+
+-- a row for an output that the kind has, one quantum in the channels of its form; or an empty one
+abbrev pub IsOutputRow : Plan → Epoch → ℕ → ℕ → List ℤ → Type 0
+IsOutputRow plan e n o row = (length row ≡ 0) ⊎ ((o < output_count (kind_at plan n))
+    × (length row ≡ plan.quantum * output_channels plan e n o))
+
+-- ONE CYCLE of the node asks for its state, for what its inputs get, and for rows for its outputs
+pub record MayWork (score : Score) (k c n : ℕ) (s : NodeState)
+    (a b left right : List ℤ) : Type 0 where
+  pub works : IsWorkedIn score k c n
+  pub state : IsNodeState score k c n s
+  pub a_is : a ≡ comes_in score c n 0
+  pub b_is : b ≡ comes_in score c n 1
+  pub left_fits : IsOutputRow score.plan.value works.epoch n 0 left
+  pub right_fits : IsOutputRow score.plan.value works.epoch n 1 right

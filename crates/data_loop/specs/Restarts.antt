@@ -1,0 +1,25 @@
+-- From epoch to epoch: which nodes begin their streams anew, and with how many channels.
+-- Source: this project's: a node whose last link went gives up its formats, and its stream starts
+-- anew.
+use Rattle.std.specs.Prelude.{◌≡◌, ℕ, ◌+◌, ◌<◌, ◌==◌, Option, option_map, find, length, slice_get}
+use Rattle.pw_base.specs.declared.plan.Epoch.{Epoch}
+use Rattle.pw_base.specs.declared.plan.Plan.{Plan}
+use Rattle.pw_base.specs.PlanFresh.{IsEpoch}
+use Rattle.pw_base.specs.SoundPlan.{IsSoundPlan}
+use Rattle.cycle_model.specs.Epochs.{listed}
+use Rattle.cycle_model.specs.WavesFit.{WavesFit}
+use Rattle.data_loop.specs.declared.score.Score.{Score}
+
+-- the channels with which epoch k names the node as fresh; none where it does not
+abbrev pub restart_of : Plan → ℕ → ℕ → Option ℕ
+restart_of plan k n = option_map (λ f. f.channels)
+    (find (λ f. f.node == n) (listed (λ e. e.fresh) (slice_get plan.epochs k)))
+
+-- epoch k ends before the cycle c
+pub record IsEndOf (score : Score) (k c n : ℕ) : Type 0 where
+  pub sound : IsSoundPlan score.plan.value
+  pub waves : WavesFit score.plan.value score.waves.value
+  pub place : n < length score.plan.value.nodes
+  pub epoch : Epoch
+  pub at : IsEpoch score.plan.value k epoch
+  pub end : c ≡ epoch.shape.first + epoch.shape.cycles

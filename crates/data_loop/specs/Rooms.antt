@@ -1,0 +1,25 @@
+-- Rows of a loop, and how long they are.
+-- Source: PipeWire's documentation, "Graph Scheduling" (quantum).
+use Rattle.std.specs.Prelude.{◌≡◌, ◌≤◌, length}
+use Rattle.data_loop.specs.declared.member.Member.{Member}
+use Rattle.data_loop.specs.declared.rows.Rows.{Rows}
+
+-- a quantum at each port of the member has room
+pub record HasRowsFor (rows : Rows) (m : Member) : Type 0 where
+  pub row : m.first_width ≤ length rows.row.items
+  pub sum_a : m.first_width ≤ length rows.sum_a.items
+  pub sum_b : m.second_width ≤ length rows.sum_b.items
+  pub a : m.first_width ≤ length rows.a.items
+  pub b : m.second_width ≤ length rows.b.items
+  pub left : m.left_width ≤ length rows.left.items
+  pub right : m.right_width ≤ length rows.right.items
+
+-- each row is as long as before
+pub record IsSameRoom (old new : Rows) : Type 0 where
+  pub row : length new.row.items ≡ length old.row.items
+  pub sum_a : length new.sum_a.items ≡ length old.sum_a.items
+  pub sum_b : length new.sum_b.items ≡ length old.sum_b.items
+  pub a : length new.a.items ≡ length old.a.items
+  pub b : length new.b.items ≡ length old.b.items
+  pub left : length new.left.items ≡ length old.left.items
+  pub right : length new.right.items ≡ length old.right.items

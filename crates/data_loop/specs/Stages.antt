@@ -1,0 +1,57 @@
+-- A loop on the board of an epoch, between two tries: its members rest, and their states stand at
+-- their cycles. And what a try does.
+-- Source: PipeWire's documentation, "Graph Scheduling"; which loop has a node is this project's
+-- own.
+use Rattle.std.specs.Prelude.{◌≡◌, ◌≢◌, ℕ, ◌<◌, List, All, AllPairs, length, true, slice_index_or}
+use Rattle.atomic_table.specs.Seated.{TableId}
+use Rattle.pw_base.specs.declared.plan.Epoch.{Epoch}
+use Rattle.pw_base.specs.PlanFresh.{IsEpoch}
+use Rattle.pw_base.specs.SoundPlan.{IsSoundPlan}
+use Rattle.cycle_model.specs.Expected.{epoch_rows}
+use Rattle.cycle_model.specs.WavesFit.{WavesFit}
+use Rattle.node_state.specs.declared.node_state.NodeState.{NodeState}
+use Rattle.board_rule.specs.declared.view.View.{View}
+use Rattle.board_rule.specs.Layout.{BoardLayout}
+use Rattle.board_rule.specs.View.{node_of}
+use Rattle.data_loop.specs.declared.member.Member.{Member}
+use Rattle.data_loop.specs.declared.rows.Rows.{Rows}
+use Rattle.data_loop.specs.declared.score.Score.{Score}
+use Rattle.data_loop.specs.declared.stage.Stage.{Stage}
+use Rattle.data_loop.specs.turns.Turning.{IsEquipped, IsAtRest}
+use Rattle.data_loop.specs.Standing.{works_in}
+use Rattle.data_loop.specs.NodeStates.{IsNodeState}
+use Rattle.data_loop.specs.Members.{member_of}
+use Rattle.data_loop.specs.Rooms.{HasRowsFor}
+
+-- a member of the epoch: a node of the plan that works in it
+pub record IsMemberIn (score : Score) (e : Epoch) (m : Member) : Type 0 where
+  pub place : m.node < length score.plan.value.nodes
+  pub works : works_in e m.node ≡ true
+  pub is : m ≡ member_of score.plan.value e m.node m.at
+
+-- its state is among those of the loop, and stands at its next cycle
+abbrev pub StandsAt : Score → ℕ → BoardLayout → View → List NodeState → Member
+    → Type 0
+StandsAt score k p v states m = (m.at < length states)
+    × ((d : NodeState) → IsNodeState score k (node_of v (p.index m.node)).next m.node
+    (slice_index_or states m.at d))
+
+abbrev pub AreApart : Member → Member → Type 0
+AreApart x y = (x.at ≢ y.at) × (x.node ≢ y.node)
+
+-- A LOOP on the board of epoch k, whose table is t
+pub record IsStanding (score : Score) (k : ℕ) (p : BoardLayout) (t : TableId) (g : Stage)
+    (states : List NodeState) (rows : Rows) : Type 0 where
+  pub sound : IsSoundPlan score.plan.value
+  pub waves : WavesFit score.plan.value score.waves.value
+  pub epoch : Epoch
+  pub at : IsEpoch score.plan.value k epoch
+  pub shape : p.shape ≡ epoch.shape
+  pub table : g.seat.table ≡ t
+  pub expect : g.seat.knows.expect ≡ epoch_rows score.plan.value score.waves.value epoch
+  pub equipped : IsEquipped p g.seat.knows g.shapes g.free.items
+  pub members : All (IsMemberIn score epoch) g.members
+  pub apart : AllPairs AreApart g.members
+  pub rests : All (λ m. IsAtRest p g.seat.knows g.free.items (p.index m.node)) g.members
+  pub each : All (StandsAt score k p g.seat.knows states) g.members
+  pub room : All (HasRowsFor rows) g.members

@@ -1,0 +1,34 @@
+//! One loop of a run: its nodes, what they keep, and what it knows of the boards that they run on.
+//!
+//! A turn of a node on a board is one cycle of the cycle function: it takes what its links bring,
+//! and gives in its pools what its outputs give in that cycle.
+#![tactic(auto)]
+
+mod did;
+mod frames;
+mod gathering;
+mod giving;
+mod inputs;
+mod member;
+mod playing;
+mod restarting;
+mod rows;
+mod score;
+mod stage;
+mod tried;
+mod turning;
+mod working;
+
+pub use did::Did;
+pub use frames::worked_cycles;
+pub use gathering::gather;
+pub use inputs::{Input, hear_all};
+pub use member::Member;
+pub use playing::play;
+pub use restarting::enter_next;
+pub use rows::Rows;
+pub use score::Score;
+pub use stage::Stage;
+pub use tried::Tried;
+pub use turning::take_turn;
+pub use working::work;

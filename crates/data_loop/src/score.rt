@@ -1,0 +1,26 @@
+//! What a run is of.
+ghost use Rattle.std.specs.Prelude.{◌≡◌};
+
+use pw_base::{Items, Plan};
+use std::snapshot::Snapshot;
+use wav_files::WavIn;
+
+/// The plan and the waves that a loop runs, as contracts know it by. It has no bytes.
+#[derive(Drop)]
+pub struct Score {
+    pub plan: Snapshot<Plan>,
+    pub waves: Snapshot<Items<WavIn>>,
+}
+
+impl Score {
+    /// The score of a plan and its waves.
+    pub fn of(plan: &Plan, waves: &Items<WavIn>) -> Score
+        ensures plan { result.plan.value ≡ plan.now }
+        ensures waves { result.waves.value ≡ waves.now }
+    {
+        Score {
+            plan: Snapshot::of(plan),
+            waves: Snapshot::of(waves),
+        }
+    }
+}

@@ -1,0 +1,112 @@
+//! What a loop has in one epoch.
+ghost use Rattle.std.specs.Prelude.{◌≡◌, ◌≢◌, ◌<◌, ◌≤◌, ℕ, [], length, slice_index_or, vec_capacity};
+ghost use Rattle.node_state.specs.declared.node_state.NodeState.{NodeState};
+ghost use Rattle.board_rule.specs.OnBoard.{layout, table_of};
+ghost use Rattle.data_loop.specs.Stages.{IsStanding};
+ghost use Rattle.data_loop.specs.Tries.{HasTried, member_at};
+ghost use Rattle.data_loop.specs.LoopTurn.{IsDid};
+
+use crate::did::Did;
+use crate::member::Member;
+use crate::playing::play;
+use crate::rows::Rows;
+use crate::score::Score;
+use crate::tried::Tried;
+use activation_words::{Claim, claim};
+use board_rule::{Board, BoardSeat, LoopSeat};
+use buffer_pool::Pool;
+use node_state::NodeState;
+use pw_base::{Gate, Items, PoolShape};
+
+/// A seat on the board of an epoch, the loop's followers there, and the pools of the shape with the
+/// free blocks of each.
+#[derive(Drop)]
+pub struct Stage {
+    pub seat: LoopSeat,
+    pub members: Items<Member>,
+    pub shapes: Items<PoolShape>,
+    pub free: Vec<Pool>,
+}
+
+impl Stage {
+    /// One try of the member at an index, and where it is awake its turn: one cycle of the cycle
+    /// function. `states` has the states of all nodes of the loop. Takes no memory, does not wait.
+    pub fn try_member<G: Gate>(
+        &mut self,
+        board: &Board,
+        score: &Score,
+        epoch: u32,
+        index: usize,
+        states: &mut [NodeState],
+        rows: &mut Rows,
+        gate: &G,
+    ) -> Tried
+        requires stands { IsStanding score.now epoch (layout board.now) (table_of board.now)
+            self.old states.old rows.old }
+        requires inside { index < length self.old.members }
+        ensures stands { IsStanding score.now epoch (layout board.now) (table_of board.now)
+            self.new states.new rows.new }
+        ensures tried { HasTried (layout board.now) self.old
+            (member_at self.old index).node result self.new }
+        ensures members { self.new.members ≡ self.old.members }
+        ensures states { (at : ℕ) (d : NodeState) → at ≢ (member_at self.old index).at
+            → slice_index_or states.new at d ≡ slice_index_or states.old at d }
+    {
+        let member = &self.members.as_slice()[index];
+        if self.seat.ended(board, member.node) == board.shape().cycles {
+            return Tried::Ended;
+        }
+        match claim(board, &mut self.seat, member.node) {
+            Claim::NotYet { found } => Tried::NotYet { found },
+            Claim::Awake { cycle } => {
+                play(
+                    score,
+                    board,
+                    &mut self.seat,
+                    member,
+                    epoch,
+                    cycle,
+                    self.shapes.as_slice(),
+                    self.free.as_mut_slice(),
+                    &mut states[member.at as usize],
+                    rows,
+                    gate,
+                );
+                Tried::Ran
+            }
+        }
+    }
+    /// One turn: tries the members in their order, and ends with the first that has run. `found` is
+    /// empty before; then it has the node and the word of each try that was too early. Takes no
+    /// memory, does not wait.
+    pub fn turn<G: Gate>(
+        &mut self,
+        board: &Board,
+        score: &Score,
+        epoch: u32,
+        states: &mut [NodeState],
+        rows: &mut Rows,
+        found: &mut Vec<(u32, u64)>,
+        gate: &G,
+    ) -> Did
+        requires stands { IsStanding score.now epoch (layout board.now) (table_of board.now)
+            self.old states.old rows.old }
+        requires empty { found.old.items ≡ [] }
+        requires room { length self.old.members ≤ vec_capacity found.old }
+        ensures stands { IsStanding score.now epoch (layout board.now) (table_of board.now)
+            self.new states.new rows.new }
+        ensures did { IsDid (layout board.now) self.old result found.new.items self.new }
+        ensures members { self.new.members ≡ self.old.members }
+        ensures capacity { vec_capacity found.new ≡ vec_capacity found.old }
+    {
+        for index in 0..self.members.len() {
+            let node = self.members.as_slice()[index].node;
+            match self.try_member(board, score, epoch, index, states, rows, gate) {
+                Tried::Ended => (),
+                Tried::NotYet { found: word } => found.push_reserved((node, word)),
+                Tried::Ran => return Did::Ran { node },
+            }
+        }
+        Did::Idle
+    }
+}
