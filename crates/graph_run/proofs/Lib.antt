@@ -1,0 +1,4 @@
+pub mod AssignmentLemmas
+pub mod BoardLemmas
+pub mod DealLemmas
+pub mod RowLemmas
