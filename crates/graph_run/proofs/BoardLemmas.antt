@@ -1,5 +1,5 @@
 -- The samples of the cycle function are a table of samples for the board of an epoch.
-use Rattle.std.proofs.Common.{◌≡◌, ℕ, ◌+◌, ◌-◌, ◌<◌, List, [], ℤ, length, get_or, sym, ap, ◌∙◌, arith}
+use Rattle.std.proofs.Common.{◌≡◌, ℕ, ◌+◌, ◌-◌, List, [], length, get_or, ap, ◌∙◌, arith}
 use Rattle.std.specs.Prelude.{Some, slice_get}
 use Rattle.pw_base.specs.declared.plan.Epoch.{Epoch}
 use Rattle.pw_base.specs.declared.plan.Plan.{Plan}
@@ -8,7 +8,7 @@ use Rattle.wav_files.specs.declared.wav.WavIn.{WavIn}
 use Rattle.cycle_model.specs.WavesFit.{WavesFit}
 use Rattle.cycle_model.specs.Expected.{AreShort, expected_samples}
 use Rattle.cycle_model.proofs.ExpectedLemmas.{expected_long, expected_short}
-use Rattle.board_rule.specs.Layout.{layout_of, first}
+use Rattle.board_rule.specs.Layout.{layout_of}
 use Rattle.board_rule.specs.SampleWords.{IsTable}
 use Rattle.graph_run.specs.Assignment.{epoch_board}
 

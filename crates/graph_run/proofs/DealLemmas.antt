@@ -1,5 +1,5 @@
 -- Lists of which the first are changed one after the other, each with an element of another list.
-use Rattle.std.proofs.Common.{◌≡◌, ℕ, zero, suc, ◌+◌, ◌<◌, ◌≤◌, List, [], ◌∷◌, ◌++◌, length, map, get_or, set, take, drop, refl, ap, arith}
+use Rattle.std.proofs.Common.{◌≡◌, suc, ◌<◌, ◌≤◌, List, [], ◌∷◌, ◌++◌, length, map, get_or, set, take, drop, refl, ap, arith}
 use Rattle.std.specs.Prelude.{zip}
 
 module _ {A B : Type 0} (f : A × B → A) where

@@ -2,3 +2,4 @@ pub mod AssignmentLemmas
 pub mod BoardLemmas
 pub mod DealLemmas
 pub mod RowLemmas
+pub mod ClosingLemmas

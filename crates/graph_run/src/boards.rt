@@ -14,8 +14,8 @@ use std::alloc::Global;
 use std::marker::Brand;
 use wav_files::WavIn;
 
-/// The boards of all epochs in order, the driver's seat of each, and by loop its seats, one a board.
-/// The last loop is the driver's own.
+/// The boards of all epochs in order, the driver's seat of each, and by loop its seats, one a
+/// board. The last loop is the driver's own.
 #[derive(Drop)]
 pub struct Boards {
     pub boards: Items<Board>,

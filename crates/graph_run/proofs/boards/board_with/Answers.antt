@@ -1,18 +1,15 @@
-use Rattle.std.proofs.Common.{◌≡◌, ℕ, ◌+◌, ◌<◌, List, Option, Some, length, map, get_or, slice_get, refl, sym, ap, ◌∙◌, subst}
+use Rattle.std.proofs.Common.{◌≡◌, ℕ, ◌+◌, List, Some, get_or, sym, ap, ◌∙◌, subst}
 use Rattle.std.specs.Prelude.{option_map}
 use Rattle.std.proofs.lemmas.Option.{slice_get-get_or, get_or_from_slice_get}
 use Rattle.std.proofs.lemmas.List.FromFn.{fill_by_all}
 use Rattle.pw_base.specs.declared.plan.Epoch.{Epoch}
-use Rattle.cycle_model.specs.Expected.{expected_samples}
 use Rattle.board_rule.specs.declared.board.Board.{Board}
-use Rattle.board_rule.specs.declared.board_shape.BoardShape.{BoardShape}
-use Rattle.board_rule.specs.Known.{Known}
 use Rattle.board_rule.specs.Layout.{HasSeats, layout_of}
 use Rattle.board_rule.specs.SampleWords.{IsTable}
 use Rattle.board_rule.specs.View.{Samples, loop_view, driver_view}
 use Rattle.board_rule.specs.OnBoard.{table_of, layout}
-use Rattle.graph_run.specs.Assignment.{seat_row, epoch_board}
-use Rattle.graph_run.specs.Boards.{driver_of, seat_of}
+use Rattle.graph_run.specs.Assignment.{epoch_board}
+use Rattle.graph_run.specs.Boards.{seat_of}
 use Rattle.graph_run.proofs.AssignmentLemmas.{has_seats}
 use Rattle.graph_run.proofs.BoardLemmas.{is_table}
 use Rattle.graph_run.proofs.boards.board_with.Goals as goal

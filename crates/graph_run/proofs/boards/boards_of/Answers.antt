@@ -1,14 +1,9 @@
-use Rattle.std.proofs.Common.{◌≡◌, ◌≤◌, ◌∙◌, ℕ, ◌+◌, ◌<◌, List, [], ◌∷◌, ◌++◌, length, map, take, get_or, slice_get, Some, sym, ap, subst, arith, length-append}
-use Rattle.std.specs.Prelude.{All, option_map}
+use Rattle.std.proofs.Common.{◌≡◌, ◌≤◌, ◌∙◌, ◌+◌, List, [], ◌∷◌, ◌++◌, length, map, sym, ap, subst, arith, length-append}
+use Rattle.std.specs.Prelude.{All}
 use Rattle.std.specs.List.{enumerate_from}
-use Rattle.std.proofs.lemmas.List.{map-append, take_more}
-use Rattle.std.proofs.lemmas.Option.{slice_get-get_or, get_or_from_slice_get, slice_get-map}
-use Rattle.std.proofs.lemmas.List.FromFn.{map-range_with_len_more}
 use Rattle.pw_base.specs.Listed.{Listed}
 use Rattle.board_rule.specs.declared.board.Board.{Board}
-use Rattle.board_rule.specs.declared.board_shape.BoardShape.{BoardShape}
 use Rattle.board_rule.specs.Known.{Known}
-use Rattle.graph_run.specs.Assignment.{epoch_board}
 use Rattle.graph_run.specs.Boards.{driver_of, all_seats}
 use Rattle.graph_run.proofs.RowLemmas.{drivers_more, seats_more, same_count, dealt_spare, shapes_more}
 use Rattle.graph_run.proofs.boards.boards_of.Goals as goal

@@ -1,5 +1,5 @@
-use Rattle.std.proofs.Common.{◌≡◌, ◌<◌, ◌+◌, ◌-◌, ◌∙◌, List, [], ◌∷◌, ◌++◌, ℕ, length, map, get_or, set, take, drop, refl, sym, ap, subst, arith, length-append}
-use Rattle.std.specs.Prelude.{All, zip}
+use Rattle.std.proofs.Common.{◌≡◌, ◌<◌, ◌+◌, ◌-◌, ◌∙◌, List, [], ◌∷◌, ◌++◌, ℕ, length, map, get_or, set, take, drop, sym, ap, subst, arith, length-append}
+use Rattle.std.specs.Prelude.{zip}
 use Rattle.std.proofs.lemmas.List.{append_assoc}
 use Rattle.pw_base.specs.Listed.{Listed}
 use Rattle.board_rule.specs.Known.{Known}
