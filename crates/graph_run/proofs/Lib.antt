@@ -1,0 +1,5 @@
+pub mod AssignmentLemmas
+pub mod BoardLemmas
+pub mod DealLemmas
+pub mod RowLemmas
+pub mod ClosingLemmas

@@ -1,0 +1,147 @@
+//! The boards of all epochs.
+ghost use Rattle.std.specs.Prelude.{◌≡◌, ◌<◌, ◌≤◌, [], All, IfOk, length, map, zip};
+ghost use Rattle.pw_base.specs.SoundPlan.{IsSoundPlan};
+ghost use Rattle.cycle_model.specs.WavesFit.{WavesFit};
+ghost use Rattle.cycle_model.specs.Expected.{IsShort, AreShort, expected_samples};
+ghost use Rattle.std.specs.List.{enumerate_from, range_with_len};
+ghost use Rattle.graph_run.specs.Assignment.{epoch_board};
+ghost use Rattle.graph_run.specs.Boards.{IsBoardMade, dealt, driver_of, all_seats};
+
+use crate::assignment::seat_row;
+use board_rule::{Board, DriverSeat, Expect, LoopSeat};
+use pw_base::{Items, Memory, Plan, Room};
+use std::alloc::Global;
+use std::marker::Brand;
+use wav_files::WavIn;
+
+/// The boards of all epochs in order, the driver's seat of each, and by loop its seats, one a
+/// board. The last loop is the driver's own.
+#[derive(Drop)]
+pub struct Boards {
+    pub boards: Items<Board>,
+    pub drivers: Items<DriverSeat>,
+    pub seats: Vec<Room<LoopSeat>>,
+}
+
+// Looks at each sample, so that contracts know its range.
+fn look_over(samples: &[i16])
+    ensures { All IsShort samples.now }
+{
+    for k in 0..samples.len() {
+        let _sample = samples[k];
+    }
+}
+
+// Looks over all waves.
+fn look_over_all(waves: &[WavIn])
+    ensures { AreShort waves.now }
+{
+    for wave in waves {
+        look_over(wave.wav.samples.as_slice());
+    }
+}
+
+// The board of an epoch whose table is that of `E`.
+fn board_with<E: Expect>(
+    alloc: Global,
+    plan: &Plan,
+    waves: &Items<WavIn>,
+    loops: u32,
+    epoch: usize,
+) -> Result<(Board, DriverSeat, Items<LoopSeat>), Memory>
+    requires sound { IsSoundPlan plan.now }
+    requires fit { WavesFit plan.now waves.now }
+    requires short { AreShort waves.now }
+    requires few { loops ≤ 16 }
+    requires inside { epoch < length plan.now.epochs }
+    requires table { E.expect ≡ expected_samples plan.now waves.now epoch }
+    ensures { IfOk result (IsBoardMade plan.now waves.now loops epoch) }
+{
+    let shape = &plan.epochs.as_slice()[epoch].shape;
+    let seat_of = seat_row(alloc, plan, loops, shape)?;
+    let _ = waves;
+    let made = Board::new::<E>(alloc, shape, &seat_of, loops + 1)?;
+    Ok(made)
+}
+
+// The board of an epoch: what a call names can depend on the arguments of that call alone.
+fn board_of(
+    alloc: Global,
+    plan: &Plan,
+    waves: &Items<WavIn>,
+    loops: u32,
+    epoch: usize,
+) -> Result<(Board, DriverSeat, Items<LoopSeat>), Memory>
+    requires sound { IsSoundPlan plan.now }
+    requires fit { WavesFit plan.now waves.now }
+    requires short { AreShort waves.now }
+    requires few { loops ≤ 16 }
+    requires inside { epoch < length plan.now.epochs }
+    ensures { IfOk result (IsBoardMade plan.now waves.now loops epoch) }
+{
+    board_with::<Brand>(alloc, plan, waves, loops, epoch)
+}
+
+// Hands the seats of one board to the loops, in their order.
+fn deal(rows: &mut Vec<Room<LoopSeat>>, seats: Items<LoopSeat>)
+    requires count { length seats ≡ length rows.old.items }
+    requires spare { All (λ row. 0 < row.spare) rows.old.items }
+    ensures { rows.new.items ≡ map dealt (zip rows.old.items seats) }
+{
+    let mut i = 0;
+    for seat in seats.into_vec() {
+        rows[i].push_spare(seat);
+        i += 1;
+    }
+}
+
+// A list with room for so many seats, for each of so many loops.
+fn seat_rows(alloc: Global, loops: usize, count: usize) -> Result<Vec<Room<LoopSeat>>, Memory>
+    ensures lists { IfOk result (λ rows. map (λ row. row.list) rows.items
+        ≡ map (λ _. []) (range_with_len 0 loops)) }
+    ensures spare { IfOk result (λ rows. All (λ row. count ≤ row.spare) rows.items) }
+{
+    let mut rows = Items::new(alloc);
+    for _ in 0..loops {
+        rows.push(Items::new(alloc).into_room(count)?)?;
+    }
+    Ok(rows.into_vec())
+}
+
+/// The boards of all epochs of a plan for `loops` loops beside the driver's own. Each node has the
+/// seat of its loop, and what each board has to give are the samples of the cycle function.
+///
+/// Memory: a board an epoch, with a seat for each loop.
+pub fn boards_of(
+    alloc: Global,
+    plan: &Plan,
+    waves: &Items<WavIn>,
+    loops: u32,
+) -> Result<Boards, Memory>
+    requires sound { IsSoundPlan plan.now }
+    requires fit { WavesFit plan.now waves.now }
+    requires few { loops ≤ 16 }
+    ensures shapes { IfOk result (λ all. map (λ b. b.board_shape) all.boards
+        ≡ map (epoch_board plan.now loops) plan.now.epochs) }
+    ensures drivers { IfOk result (λ all. all.drivers
+        ≡ map (driver_of plan.now waves.now loops) (enumerate_from 0 all.boards)) }
+    ensures seats { IfOk result (λ all. map (λ row. row.list) all.seats.items
+        ≡ all_seats plan.now waves.now loops all.boards) }
+{
+    look_over_all(waves.as_slice());
+    let count = plan.epochs.len();
+    let mut boards = Items::new(alloc);
+    let mut drivers = Items::new(alloc);
+    let mut seats = seat_rows(alloc, loops as usize + 1, count)?;
+    for epoch in 0..count {
+        let (board, driver, row) = board_of(alloc, plan, waves, loops, epoch)?;
+        boards.push(board)?;
+        drivers.push(driver)?;
+        deal(&mut seats, row);
+    }
+    Ok(Boards {
+        boards,
+        drivers,
+        seats,
+    })
+}

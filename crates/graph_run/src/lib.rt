@@ -1,0 +1,17 @@
+//! The parts of a run by threads that no loop is needed for: which loop each node belongs to, the
+//! boards of all epochs with their seats by loop, and the end of all boards.
+//!
+//! A plan of epochs is run on one board an epoch. `boards_of` makes them all before the first
+//! cycle, each with the samples of the cycle function as what it has to give; `close_all` ends them
+//! and answers one legal history.
+#![tactic(auto)]
+
+mod assignment;
+mod boards;
+mod closing;
+#[cfg(test)]
+mod tests;
+
+pub use assignment::{loop_of, nodes_of_loop};
+pub use boards::{Boards, boards_of};
+pub use closing::{ClosedBoards, close_all};

@@ -1,0 +1,152 @@
+//! Two squares into a sink that drives, over two epochs.
+use crate::assignment::{loop_of, nodes_of_loop};
+use crate::boards::boards_of;
+use cycle_model::waves_fit;
+use pw_base::{
+    Epoch, Fresh, Items, Kind, Memory, Plan, PlanNode, PortForm, PortId, Shape, ShapeLink,
+    ShapeNode, is_sound_plan,
+};
+use std::alloc::Global;
+use std::test::Fail;
+
+// A node of a loop number.
+fn node(alloc: Global, kind: Kind, k: u32, channels: u32) -> PlanNode {
+    PlanNode {
+        name: Items::new(alloc),
+        kind,
+        k,
+        rate: if channels > 0 { 48000 } else { 0 },
+        channels,
+    }
+}
+
+// A square of one channel.
+fn square() -> Kind {
+    Kind::Square {
+        rate: 48000,
+        channels: 1,
+        period: 4,
+        amp: 100,
+    }
+}
+
+// A link from a square to the sink.
+fn link(node: u32) -> ShapeLink {
+    ShapeLink {
+        from: PortId { node, port: 0 },
+        to: PortId { node: 2, port: 0 },
+        channels: 1,
+        buffers: 2,
+        delayed: false,
+    }
+}
+
+// An active node with its required count and its targets.
+fn active(alloc: Global, node: u32, required: u32, targets: &[u32]) -> Result<ShapeNode, Memory> {
+    Ok(ShapeNode {
+        node,
+        required,
+        targets: Items::from_slice(alloc, targets)?,
+    })
+}
+
+// An epoch of so many cycles.
+fn epoch(alloc: Global, first: u32, cycles: u32, fresh: &[Fresh]) -> Result<Epoch, Memory> {
+    let mut nodes = Items::new(alloc);
+    nodes.push(active(alloc, 0, 1, &[2])?)?;
+    nodes.push(active(alloc, 1, 1, &[2])?)?;
+    nodes.push(active(alloc, 2, 3, &[0, 1, 2])?)?;
+    let mut forms = Items::new(alloc);
+    for node in 0..3 {
+        forms.push(PortForm {
+            port: PortId { node, port: 0 },
+            rate: 48000,
+            channels: 1,
+        })?;
+    }
+    Ok(Epoch {
+        shape: Shape {
+            quantum: 4,
+            first,
+            cycles,
+            driver: 2,
+            nodes,
+            links: Items::from_slice(alloc, &[link(0), link(1)])?,
+        },
+        forms,
+        fresh: Items::from_slice(alloc, fresh)?,
+    })
+}
+
+// The plan.
+fn plan(alloc: Global) -> Result<Plan, Memory> {
+    let mut nodes = Items::new(alloc);
+    nodes.push(node(alloc, square(), 0, 0))?;
+    nodes.push(node(alloc, square(), 5, 0))?;
+    nodes.push(node(alloc, Kind::Sink, 2, 1))?;
+    let mut epochs = Items::new(alloc);
+    epochs.push(epoch(
+        alloc,
+        0,
+        3,
+        &[Fresh {
+            node: 2,
+            channels: 1,
+        }],
+    )?)?;
+    epochs.push(epoch(alloc, 3, 2, &[])?)?;
+    Ok(Plan {
+        quantum: 4,
+        nodes,
+        epochs,
+        lines: Items::new(alloc),
+    })
+}
+
+#[test]
+fn a_node_has_the_loop_of_its_number(rt: HostRuntime) -> Result<(), Fail> {
+    let alloc = rt.alloc();
+    let plan = plan(alloc)?;
+    // node, loops, its loop: a driver is in the driver's own, and every node where there is no other
+    let rows = [
+        (0, 2, 0),
+        (1, 2, 1),
+        (1, 3, 2),
+        (2, 2, 2),
+        (0, 0, 0),
+        (1, 0, 0),
+        (1, 16, 5),
+        (2, 16, 16),
+    ];
+    for (node, loops, which) in rows {
+        assert!(rt; loop_of(&plan, loops, node) == which);
+    }
+    if plan.nodes.len() > 63 {
+        panic!(rt; "three nodes");
+    }
+    assert!(rt; nodes_of_loop(alloc, &plan, 2, 1)?.as_slice() == [1].as_slice());
+    assert!(rt; nodes_of_loop(alloc, &plan, 2, 2)?.as_slice() == [2].as_slice());
+    assert!(rt; nodes_of_loop(alloc, &plan, 0, 0)?.as_slice() == [0, 1, 2].as_slice());
+    Ok(())
+}
+
+#[test]
+fn each_loop_has_a_seat_on_each_board(rt: HostRuntime) -> Result<(), Fail> {
+    let alloc = rt.alloc();
+    let plan = plan(alloc)?;
+    let waves = Items::new(alloc);
+    if !is_sound_plan(&plan) {
+        panic!(rt; "the plan is sound");
+    }
+    if !waves_fit(&plan, &waves) {
+        panic!(rt; "there is no source");
+    }
+    let all = boards_of(alloc, &plan, &waves, 2)?;
+    assert!(rt; all.boards.len() == 2);
+    assert!(rt; all.drivers.len() == 2);
+    assert!(rt; all.seats.len() == 3);
+    for row in all.seats.iter() {
+        assert!(rt; row.as_slice().len() == 2);
+    }
+    Ok(())
+}
