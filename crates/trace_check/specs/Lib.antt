@@ -1,0 +1,2 @@
+pub mod FirstIllegal
+pub mod working

@@ -1,0 +1,4 @@
+pub mod Admitting
+pub mod Fronts
+pub mod NextEvent
+pub mod NodeSets
