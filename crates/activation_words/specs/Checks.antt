@@ -12,7 +12,8 @@ use Rattle.activation_words.specs.CycleCalls.{followers}
 
 abbrev pub tick_drawn : View → ℕ → View
 tick_drawn v ticket = view_lead v (record v.lead
-    { drive = Checking; checked = true; checks = v.lead.checks + 1; ticket = ticket }) (record v.trail { looks = [] })
+    { drive = Checking; checked = true; checks = v.lead.checks + 1; ticket = ticket })
+    (record v.trail { looks = [] })
 
 -- the node at an index is looked at, or is the driver
 abbrev pub LooksAt : BoardLayout → View → ℕ → ℕ → ℕ → View → ℕ → Type 0

@@ -1,4 +1,5 @@
--- What the calls of the driver's seat on a whole cycle ask of its view, and the view after them. Nodes are indexes.
+-- What the calls of the driver's seat on a whole cycle ask of its view, and the view after them.
+-- Nodes are indexes.
 -- Source: PipeWire's documentation, "Graph Scheduling"; the calls are this project's.
 use Rattle.std.specs.Prelude.{◌≡◌, ℕ, zero, suc, ◌+◌, ◌<◌, true, false, cond, eqb, List, [], ◌∷◌, ◌++◌, map, reverse}
 use Rattle.board_rule.specs.declared.view.DriverPhase.TheVariants as drives
@@ -12,7 +13,8 @@ use Rattle.board_rule.specs.EventSteps.{late_of}
 
 -- BEGIN: the event is stored, all nodes are reset, all targets are lowered
 abbrev pub begin_stored : View → ℕ → View
-begin_stored v ticket = view_lead v (record v.lead { drive = drives.Reset 0; ticket = ticket }) (untold v.trail)
+begin_stored v ticket = view_lead v (record v.lead { drive = drives.Reset 0; ticket = ticket })
+    (untold v.trail)
 
 abbrev pub reset_one : BoardLayout → View → View
 reset_one p v = driven v (reset_to (nodes p) (reset_of v.lead.drive + 1)) v.trail
@@ -37,7 +39,8 @@ HasEnded p v w = (ticket : ℕ) × (ticket < event_count p.shape)
       ticket = ticket;
     }) v.trail)
 
--- A CHECK: the status word of each follower is loaded once, ascending, and the seat remembers each, newest first
+-- A CHECK: the status word of each follower is loaded once, ascending, and the seat remembers each,
+-- newest first
 abbrev pub followers : BoardLayout → ℕ → List ℕ
 followers p zero = []
 followers p (suc k) = cond (eqb k p.driver) (followers p k) (p.number k ∷ followers p k)

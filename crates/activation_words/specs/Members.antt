@@ -1,5 +1,5 @@
--- A seat between two calls: a follower that waits for its next cycle, and the driver's seat between cycles or waiting
--- for its node.
+-- A seat between two calls: a follower that waits for its next cycle, and the driver's seat between
+-- cycles or waiting for its node.
 -- Source: this project's own.
 use Rattle.std.specs.Prelude.{◌≡◌, ◌≢◌, ℕ, ◌<◌, Bool, true, false}
 use Rattle.board_rule.specs.declared.view.Phase.TheVariants.{Idle}
@@ -16,7 +16,8 @@ pub record IsResting (p : BoardLayout) (v : View) (m : ℕ) : Type 0 where
 
 -- each follower of the loop k waits
 abbrev pub AllRest : BoardLayout → ℕ → View → Type 0
-AllRest p k v = (m : ℕ) → m < nodes p → m ≢ p.driver → p.seat_of m ≡ k → IsResting p v m
+AllRest p k v = (m : ℕ) → m < nodes p → m ≢ p.driver → p.seat_of m ≡ k
+    → IsResting p v m
 
 -- the driver's seat is between two cycles, or has ended them all
 pub record IsBetween (p : BoardLayout) (v : View) : Type 0 where

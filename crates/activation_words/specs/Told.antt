@@ -1,14 +1,15 @@
 -- A node that lowers its targets, one after the other.
--- Source: PipeWire's documentation, "Graph Scheduling" (a node that is done decrements the pending count of its
--- targets).
+-- Source: PipeWire's documentation, "Graph Scheduling" (a node that is done decrements the pending
+-- count of its targets).
 use Rattle.std.specs.Prelude.{◌≡◌, ℕ, Bool, false, map, take, length, reverse}
 use Rattle.board_rule.specs.declared.view.View.{View}
 use Rattle.board_rule.specs.Layout.{BoardLayout}
 use Rattle.board_rule.specs.Steps.{settles}
 
--- from the view v to the view w, the first i targets of m are lowered, and none is owed. The seat remembers the
--- word of each, newest first
-pub record IsTelling (is_driver : Bool) (p : BoardLayout) (v : View) (m i : ℕ) (w : View) : Type 0 where
+-- from the view v to the view w, the first i targets of m are lowered, and none is owed. The seat
+-- remembers the word of each, newest first
+pub record IsTelling (is_driver : Bool) (p : BoardLayout) (v : View) (m i : ℕ)
+    (w : View) : Type 0 where
   pub told : map (λ f. f.node) w.trail.told ≡ reverse (map p.number (take i (p.targets m)))
   pub is : w ≡ settles is_driver p v m i false (record v.trail { told = w.trail.told })
 

@@ -55,17 +55,21 @@ fn reset_all(board: &Board, seat: &mut DriverSeat)
 fn kick_all(board: &Board, seat: &mut DriverSeat)
     requires table { IsOn board.now seat.old.table }
     requires node { let p = layout board.now in HasNode true p seat.old.knows p.driver }
-    requires phase { let p = layout board.now in IsTelling true p seat.old.knows p.driver 0 seat.old.knows }
+    requires phase { let p = layout board.now in
+        IsTelling true p seat.old.knows p.driver 0 seat.old.knows }
     ensures table { seat.new.table ≡ seat.old.table }
-    ensures knows { let p = layout board.now in HasTold true p seat.old.knows p.driver seat.new.knows }
+    ensures knows { let p = layout board.now in
+        HasTold true p seat.old.knows p.driver seat.new.knows }
 {
     let driver = board.shape().driver;
     tell_all(board, seat, driver);
 }
 
-/// Begins a cycle: the event Begin is stored, then each node is reset to its required count and NOT_TRIGGERED of this
-/// cycle, and only then the driver lowers each of its targets, and triggers each that nobody else has to lower.
-/// Condition: the seat is between two cycles, with cycles left. The seat then waits for its own node.
+/// Begins a cycle: the event Begin is stored, then each node is reset to its required count and
+/// NOT_TRIGGERED of this cycle, and only then the driver lowers each of its targets, and triggers
+/// each that nobody else has to lower.
+/// Condition: the seat is between two cycles, with cycles left. The seat then waits for its own
+/// node.
 pub fn begin(board: &Board, seat: &mut DriverSeat)
     requires table { IsOn board.now seat.old.table }
     requires node { let p = layout board.now in HasNode true p seat.old.knows p.driver }

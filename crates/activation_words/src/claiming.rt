@@ -11,7 +11,8 @@ use pw_base::{ActivationStatus, status_word};
 // One exchange of TRIGGERED of the node's next cycle for AWAKE.
 fn try_once<S: BoardSeat>(board: &Board, seat: &mut S, node: u32) -> Claim
     requires table { IsOn board.now (S.table seat.old) }
-    requires phase { let p = layout board.now in Claims S.is_driver p (S.knows seat.old) (p.index node) }
+    requires phase { let p = layout board.now in
+        Claims S.is_driver p (S.knows seat.old) (p.index node) }
     ensures table { S.table seat.new ≡ S.table seat.old }
     ensures claim { let p = layout board.now in
         IsClaim S.is_driver p (S.knows seat.old) (p.index node) result (S.knows seat.new) }
@@ -25,8 +26,8 @@ fn try_once<S: BoardSeat>(board: &Board, seat: &mut S, node: u32) -> Claim
     }
 }
 
-/// One try to wake a follower of the seat that waits with cycles left. `NotYet` carries the word that the one exchange
-/// of this call found, and the seat then remembers one more try with it.
+/// One try to wake a follower of the seat that waits with cycles left. `NotYet` carries the word
+/// that the one exchange of this call found, and the seat then remembers one more try with it.
 pub fn claim(board: &Board, seat: &mut LoopSeat, node: u32) -> Claim
     requires table { IsOn board.now seat.old.table }
     requires phase { let p = layout board.now in Claims false p seat.old.knows (p.index node) }

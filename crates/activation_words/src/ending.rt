@@ -7,8 +7,8 @@ ghost use Rattle.activation_words.specs.CycleCalls.{HasEnded};
 
 use board_rule::{Board, BoardSeat, DriverSeat};
 
-/// Ends the cycle after the driver's Finish: the ticket of End is drawn, and the event stored. The seat is then between
-/// this cycle and the next.
+/// Ends the cycle after the driver's Finish: the ticket of End is drawn, and the event stored. The
+/// seat is then between this cycle and the next.
 pub fn end(board: &Board, seat: &mut DriverSeat)
     requires table { IsOn board.now seat.old.table }
     requires node { let p = layout board.now in HasNode true p seat.old.knows p.driver }

@@ -35,7 +35,8 @@ fn draw_tick(board: &Board, seat: &mut DriverSeat)
     requires unchecked { seat.old.knows.lead.checked ≡ false }
     ensures table { seat.new.table ≡ seat.old.table }
     ensures knows { let p = layout board.now in
-        ((ticket : ℕ) × (ticket < event_count p.shape) × (seat.new.knows ≡ tick_drawn seat.old.knows ticket)) }
+        ((ticket : ℕ) × (ticket < event_count p.shape)
+        × (seat.new.knows ≡ tick_drawn seat.old.knows ticket)) }
 {
     let driver = board.shape().driver;
     seat.draw_ticket(board, driver);
@@ -53,7 +54,8 @@ fn node_at(board: &Board, at: usize) -> u32
 fn look_at(board: &Board, seat: &mut DriverSeat, at: usize, late: u64, cycle: u32) -> u64
     requires table { IsOn board.now seat.old.table }
     requires inside { at < nodes (layout board.now) }
-    requires phase { at ≢ (layout board.now).driver → Looks (layout board.now) seat.old.knows at }
+    requires phase { at ≢ (layout board.now).driver
+        → Looks (layout board.now) seat.old.knows at }
     requires cycle { cycle ≡ seat.old.knows.lead.cycle }
     ensures table { seat.new.table ≡ seat.old.table }
     ensures knows { let p = layout board.now in
@@ -74,7 +76,8 @@ fn look_at_all(board: &Board, seat: &mut DriverSeat) -> u64
     requires phase { IsLooking (layout board.now) seat.old.knows 0 0 seat.old.knows }
     requires checking { seat.old.knows.lead.drive ≡ Checking }
     ensures table { seat.new.table ≡ seat.old.table }
-    ensures knows { let p = layout board.now in IsLooking p seat.old.knows (nodes p) result seat.new.knows }
+    ensures knows { let p = layout board.now in
+        IsLooking p seat.old.knows (nodes p) result seat.new.knows }
 {
     let driver = board.shape().driver;
     let cycle = board.shape().first + seat.ended(board, driver);
@@ -85,9 +88,11 @@ fn look_at_all(board: &Board, seat: &mut DriverSeat) -> u64
     late
 }
 
-/// Looks which followers have not finished this cycle, and stores them as a Tick. A bit of the answer is set exactly where
-/// this call's load of that follower's status word found another word than FINISHED of this cycle; bit n is node n.
-/// Condition: the seat waits for its own node, and has made no check in this cycle. It starts no cycle and wakes nobody.
+/// Looks which followers have not finished this cycle, and stores them as a Tick. A bit of the
+/// answer is set exactly where this call's load of that follower's status word found another word
+/// than FINISHED of this cycle; bit n is node n.
+/// Condition: the seat waits for its own node, and has made no check in this cycle. It starts no
+/// cycle and wakes nobody.
 pub fn check_late(board: &Board, seat: &mut DriverSeat) -> u64
     requires table { IsOn board.now seat.old.table }
     requires node { let p = layout board.now in HasNode true p seat.old.knows p.driver }

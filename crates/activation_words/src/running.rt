@@ -8,11 +8,14 @@ ghost use Rattle.activation_words.specs.Calls.{IsAwake, started, worked, HasStar
 use crate::telling::tell_all;
 use board_rule::{Board, BoardSeat};
 
-/// The node begins its work in the cycle that it is awake in: the ticket of its Start is drawn, and the event stored.
+/// The node begins its work in the cycle that it is awake in: the ticket of its Start is drawn, and
+/// the event stored.
 pub fn start<S: BoardSeat>(board: &Board, seat: &mut S, node: u32)
     requires table { IsOn board.now (S.table seat.old) }
-    requires node { let p = layout board.now in HasNode S.is_driver p (S.knows seat.old) (p.index node) }
-    requires awake { let p = layout board.now in IsAwake S.is_driver (S.knows seat.old) (p.index node) }
+    requires node { let p = layout board.now in
+        HasNode S.is_driver p (S.knows seat.old) (p.index node) }
+    requires awake { let p = layout board.now in
+        IsAwake S.is_driver (S.knows seat.old) (p.index node) }
     ensures table { S.table seat.new ≡ S.table seat.old }
     ensures knows { let p = layout board.now in
         HasStarted S.is_driver p (S.knows seat.old) (p.index node) (S.knows seat.new) }
@@ -36,8 +39,9 @@ fn end_work<S: BoardSeat>(board: &Board, seat: &mut S, node: u32)
     seat.store_event(board, node);
 }
 
-/// The node has done its work, with all its outputs published and inputs returned. FINISHED is stored, then its Finish, and then a follower
-/// lowers each of its targets, and triggers each that it was the last to lower. The driver's node tells nobody:
+/// The node has done its work, with all its outputs published and inputs returned. FINISHED is
+/// stored, then its Finish, and then a follower lowers each of its targets, and triggers each that
+/// it was the last to lower. The driver's node tells nobody:
 /// `begin` did so for the driver.
 pub fn finish<S: BoardSeat>(board: &Board, seat: &mut S, node: u32)
     requires table { IsOn board.now (S.table seat.old) }

@@ -1,5 +1,6 @@
 -- What is left of a board whose driver's loop has ended all cycles.
--- Source: PipeWire's documentation, "Graph Scheduling" (a node runs once a cycle, after what it depends on).
+-- Source: PipeWire's documentation, "Graph Scheduling" (a node runs once a cycle, after what it
+-- depends on).
 use Rattle.std.specs.Prelude.{◌≡◌, ◌≤◌, [], ◌∷◌, count_by, filter, length}
 use Rattle.pw_base.specs.History.{is_tick, IsLegalHistory}
 use Rattle.pw_base.specs.Layout.{event_count}
@@ -10,8 +11,9 @@ use Rattle.board_rule.specs.OnBoard.{layout}
 use Rattle.board_rule.specs.TicketOrder.{AreInTicketOrder}
 use Rattle.area_runs.specs.declared.lead.DriverLoop.{DriverLoop}
 
--- its events are those of the tickets, in their order, and a legal history of its one epoch, with a Tick for each look and
--- the late sets that these found; all seats agreed on the samples that the driver's loop knows
+-- its events are those of the tickets, in their order, and a legal history of its one epoch, with a
+-- Tick for each look and the late sets that these found; all seats agreed on the samples that the
+-- driver's loop knows
 pub record IsClosed (board : Board) (lead : DriverLoop) (closed : Closed) : Type 0 where
   pub board_shape : closed.board_shape ≡ board.board_shape
   pub expect : expected closed ≡ lead.seat.knows.expect

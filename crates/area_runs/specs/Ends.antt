@@ -1,5 +1,6 @@
 -- The links that a node reads and the pools that it fills, by number.
--- Source: PipeWire's documentation, "Graph Scheduling" (a link joins an output port to an input port).
+-- Source: PipeWire's documentation, "Graph Scheduling" (a link joins an output port to an input
+-- port).
 use Rattle.std.specs.Prelude.{ℕ, ◌==◌, List, filter, map}
 use Rattle.std.specs.List.{enumerate_from}
 use Rattle.pw_base.specs.declared.shape.Shape.{Shape}
@@ -12,7 +13,8 @@ reads_of shape n = map (λ e. e.0) (filter (λ e. e.1.to.node == n) (enumerate_f
 
 -- the pools of its output ports
 abbrev pub fills_of : Shape → ℕ → List ℕ
-fills_of shape n = map (λ e. e.0) (filter (λ e. e.1.port.node == n) (enumerate_from 0 (pools_of shape)))
+fills_of shape n = map (λ e. e.0)
+    (filter (λ e. e.1.port.node == n) (enumerate_from 0 (pools_of shape)))
 
 abbrev pub ends_of : Shape → ℕ → NodeEnds
 ends_of shape n = record { node = n; reads = reads_of shape n; pools = fills_of shape n }

@@ -12,18 +12,23 @@ use Rattle.io_areas.specs.InputTurn.{MayReadInput}
 
 -- none of the links is touched in this cycle, and none stands there twice
 abbrev pub MayHearAll : Bool → BoardLayout → View → List ℕ → Type 0
-MayHearAll is_driver p v links = All (MayReadInput is_driver p v) links × AllPairs (λ k l. k ≢ l) links
+MayHearAll is_driver p v links = All (MayReadInput is_driver p v) links
+    × AllPairs (λ k l. k ≢ l) links
 
--- a link brings `now`, what pools give in this cycle, or `before`, what they gave in the cycle before, if it is delayed
+-- a link brings `now`, what pools give in this cycle, or `before`, what they gave in the cycle
+-- before, if it is delayed
 abbrev pub expected_of : BoardLayout → List ℤ → List ℤ → ℕ → List ℤ
 expected_of p now before l = cond (link_at p l).delayed before now
 
 abbrev pub Gives : Bool → BoardLayout → View → List ℤ → List ℤ → ℕ → Type 0
-Gives is_driver p v now before l = (length now ≡ quantum_of p (pool_of p l)) × (length before ≡ length now)
+Gives is_driver p v now before l = (length now ≡ quantum_of p (pool_of p l))
+    × (length before ≡ length now)
     × (brought is_driver p v l ≡ expected_of p now before l)
 
--- from the view v to the view w, each of the links is taken, read and given back; no other is touched
-pub record AreHeard (is_driver : Bool) (p : BoardLayout) (v : View) (links : List ℕ) (w : View) : Type 0 where
+-- from the view v to the view w, each of the links is taken, read and given back; no other is
+-- touched
+pub record AreHeard (is_driver : Bool) (p : BoardLayout) (v : View) (links : List ℕ)
+    (w : View) : Type 0 where
   pub same : w ≡ record v { reads = w.reads; heard = w.heard }
   pub ends : length w.reads ≡ length v.reads
   pub hears : length w.heard ≡ length v.heard

@@ -26,14 +26,16 @@ pub record IsOutfitted (p : BoardLayout) (t : TableId) (l : DriverLoop) : Type 0
 
 -- and its node is awake
 abbrev pub MayLead : BoardLayout → TableId → DriverLoop → Type 0
-MayLead p t l = IsOutfitted p t l × HasNode true p l.seat.knows p.driver × (l.seat.knows.lead.drive ≡ Awake)
+MayLead p t l = IsOutfitted p t l × HasNode true p l.seat.knows p.driver
+    × (l.seat.knows.lead.drive ≡ Awake)
 
--- the cycle is ended, and where the node reads a link the room has what the last one brought; all checks and their late
--- sets are kept
+-- the cycle is ended, and where the node reads a link the room has what the last one brought; all
+-- checks and their late sets are kept
 pub record HasConcluded (p : BoardLayout) (old new : DriverLoop) : Type 0 where
   pub later : new.seat.knows.lead.cycle ≡ old.seat.knows.lead.cycle + 1
   pub read : 0 < length old.reads → let k : ℕ = old.seat.knows.lead.cycle - first p in
-      new.room.items ≡ expected_of p (given_in old.samples k) (given_before old.samples k) (last_of old.reads)
+      new.room.items ≡ expected_of p (given_in old.samples k) (given_before old.samples k)
+      (last_of old.reads)
   pub same : new.samples ≡ old.samples
   pub checks : new.seat.knows.lead.checks ≡ old.seat.knows.lead.checks
   pub lates : new.seat.knows.lead.lates ≡ old.seat.knows.lead.lates

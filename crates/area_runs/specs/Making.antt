@@ -23,7 +23,8 @@ is_of_seat board_shape k m = not (eqb m (index_in board_shape.shape board_shape.
 
 -- of the first n nodes, those of the seat k, once each and in their order
 abbrev pub nodes_among : BoardShape → ℕ → ℕ → List NodeEnds
-nodes_among board_shape k n = map (λ m. ends_of board_shape.shape (slice_index (nodes_of board_shape.shape) m))
+nodes_among board_shape k n = map
+    (λ m. ends_of board_shape.shape (slice_index (nodes_of board_shape.shape) m))
     (filter (is_of_seat board_shape k) (range_with_len 0 n))
 
 -- the loop k has the followers of its seat, each with its links and pools
@@ -31,7 +32,8 @@ abbrev pub HasNodesOf : BoardShape → ℕ → List NodeEnds → Type 0
 HasNodesOf board_shape k list = list ≡ nodes_among board_shape k (length board_shape.seat_of)
 
 -- the loop k, made of its seat
-pub record IsMade (board_shape : BoardShape) (samples : Quanta) (k : ℕ) (seat : Known) (w : Worker) : Type 0 where
+pub record IsMade (board_shape : BoardShape) (samples : Quanta) (k : ℕ) (seat : Known)
+    (w : Worker) : Type 0 where
   pub seat_is : w.seat ≡ seat
   pub nodes_are : HasNodesOf board_shape k w.nodes
   pub shapes_are : w.shapes ≡ pools_of board_shape.shape
@@ -40,14 +42,16 @@ pub record IsMade (board_shape : BoardShape) (samples : Quanta) (k : ℕ) (seat 
   pub long : length w.room.items ≡ length samples.even
 
 -- the driver's loop, made of its seat
-pub record IsLeadMade (shape : Shape) (samples : Quanta) (seat : Known) (l : DriverLoop) : Type 0 where
+pub record IsLeadMade (shape : Shape) (samples : Quanta) (seat : Known)
+    (l : DriverLoop) : Type 0 where
   pub seat_is : l.seat ≡ seat
   pub reads_are : l.reads ≡ reads_of shape shape.driver
   pub samples_are : l.samples ≡ samples
   pub long : length l.room.items ≡ length samples.even
 
 -- a loop for each seat, in their order
-pub record AreMade (board_shape : BoardShape) (samples : Quanta) (loops : List Known) (workers : List Worker) : Type 0 where
+pub record AreMade (board_shape : BoardShape) (samples : Quanta) (loops : List Known)
+    (workers : List Worker) : Type 0 where
   pub count : length workers ≡ length loops
   pub each : (k : ℕ) (d : Known) (e : Worker) → k < length loops
       → IsMade board_shape samples k (slice_index_or loops k d) (slice_index_or workers k e)

@@ -1,5 +1,6 @@
 -- What a board may be opened for, and the loops that it begins with.
--- Source: PipeWire's documentation, "Graph Scheduling"; which loop has a node is this project's own.
+-- Source: PipeWire's documentation, "Graph Scheduling"; which loop has a node is this project's
+-- own.
 use Rattle.std.specs.Prelude.{◌≡◌, ℕ, ℤ, ◌*◌, ◌≤◌, false, List, All, Some, length, slice_get}
 use Rattle.pw_base.specs.declared.shape.Shape.{Shape}
 use Rattle.pw_base.specs.declared.pools.PoolShape.{PoolShape}
@@ -19,7 +20,8 @@ board_shape_of shape seat_of seats = record { shape = shape; seat_of = seat_of; 
 
 -- a pool of 1 to 8 blocks, whose quantum has `count` samples
 abbrev pub IsFit : ℕ → ℕ → PoolShape → Type 0
-IsFit quantum count pool = (1 ≤ pool.blocks) × (pool.blocks ≤ 8) × (quantum * pool.channels ≡ count)
+IsFit quantum count pool = (1 ≤ pool.blocks) × (pool.blocks ≤ 8)
+    × (quantum * pool.channels ≡ count)
 
 -- the shape is pooled, each follower has one of the seats, and each pool is fit for the samples
 pub record IsOpenable (board_shape : BoardShape) (samples : Quanta) : Type 0 where
@@ -32,8 +34,8 @@ pub record IsOpenable (board_shape : BoardShape) (samples : Quanta) : Type 0 whe
 abbrev pub AreFirst : BoardLayout → Worker → Type 0
 AreFirst p w = All (λ e. (node_of w.seat.knows (p.index e.node)).next ≡ first p) w.nodes
 
--- the board of the shape, with a loop for each seat, which rests, and the driver's loop, between two cycles: no cycle is
--- begun, nobody has looked who is late, and all seats agree on the samples
+-- the board of the shape, with a loop for each seat, which rests, and the driver's loop, between
+-- two cycles: no cycle is begun, nobody has looked who is late, and all seats agree on the samples
 pub record IsOpened (board_shape : BoardShape) (samples : Quanta) (o : Run) : Type 0 where
   pub board_shape_is : o.board.board_shape ≡ board_shape
   pub lead : IsLeadReadyOn o.board o.lead false
@@ -42,4 +44,5 @@ pub record IsOpened (board_shape : BoardShape) (samples : Quanta) (o : Run) : Ty
   pub expect_is : o.lead.seat.knows.expect ≡ steady board_shape.shape samples
   pub count : length o.workers ≡ board_shape.seats
   pub workers : (k : ℕ) (w : Worker) → slice_get o.workers k ≡ Some w
-      → IsReadyOn o.board w × HasNodesOf board_shape k w.nodes × AreFirst (layout_of board_shape) w
+      → IsReadyOn o.board w × HasNodesOf board_shape k w.nodes
+      × AreFirst (layout_of board_shape) w

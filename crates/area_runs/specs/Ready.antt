@@ -22,7 +22,8 @@ use Rattle.area_runs.specs.Leading.{IsOutfitted, HasConcluded}
 pub record IsReady (p : BoardLayout) (t : TableId) (w : Worker) : Type 0 where
   pub table : w.seat.table ≡ t
   pub equipped : IsEquipped p w.seat.knows w.shapes w.free.items w.samples
-  pub rests : All (λ e. (e ≡ ends_of p.shape e.node) × IsAtRest p w.seat.knows w.free.items (p.index e.node)) w.nodes
+  pub rests : All (λ e. (e ≡ ends_of p.shape e.node)
+      × IsAtRest p w.seat.knows w.free.items (p.index e.node)) w.nodes
   pub long : length w.room.items ≡ length w.samples.even
 
 -- the same by its board
@@ -35,9 +36,11 @@ node_at w at = slice_index (map (λ e. e.node) w.nodes) at
 
 -- a try of its node m
 abbrev pub HasTried : BoardLayout → Worker → ℕ → Tried → Worker → Type 0
-HasTried p old m Ended new = ((node_of old.seat.knows m).next ≡ last p) × (new.seat.knows ≡ old.seat.knows)
+HasTried p old m Ended new = ((node_of old.seat.knows m).next ≡ last p)
+    × (new.seat.knows ≡ old.seat.knows)
 HasTried p old m (NotYet found) new =
-    (found ≢ triggered_word (node_of old.seat.knows m).next) × (new.seat.knows ≡ tried p old.seat.knows m found)
+    (found ≢ triggered_word (node_of old.seat.knows m).next)
+    × (new.seat.knows ≡ tried p old.seat.knows m found)
 HasTried p old m (Ran heard) new =
     (heard ≡ true) × HasTurned p old.seat.knows old.free.items m new.seat.knows new.free.items
 
@@ -51,13 +54,15 @@ IsLeadReadyOn board l waits = IsLeadReady (layout board) (table_of board) l wait
 -- the next cycle is begun, where there is one
 abbrev pub BeginsNext : BoardLayout → DriverLoop → Bool → DriverLoop → Type 0
 BeginsNext p old true new = HasBegun p old.seat.knows new.seat.knows
-BeginsNext p old false new = (old.seat.knows.lead.cycle ≡ last p) × (new.seat.knows ≡ old.seat.knows)
+BeginsNext p old false new = (old.seat.knows.lead.cycle ≡ last p)
+    × (new.seat.knows ≡ old.seat.knows)
 
 -- a try of the driver's node, and the end of the cycle where it ran
 abbrev pub HasLed : BoardLayout → DriverLoop → Tried → DriverLoop → Type 0
 HasLed p old Ended new = ⊥
 HasLed p old (NotYet found) new =
-    (found ≢ triggered_word old.seat.knows.lead.cycle) × (new.seat.knows ≡ tried p old.seat.knows p.driver found)
+    (found ≢ triggered_word old.seat.knows.lead.cycle)
+    × (new.seat.knows ≡ tried p old.seat.knows p.driver found)
 HasLed p old (Ran heard) new = (heard ≡ true) × HasConcluded p old new
 
 -- whether the driver's node waits after it

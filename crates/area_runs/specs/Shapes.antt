@@ -1,5 +1,5 @@
--- Shapes that run on boards: a source that three nodes read, one of them a cycle late or none; a source, a split, a mixer
--- and a sink in a row. Node 3 drives.
+-- Shapes that run on boards: a source that three nodes read, one of them a cycle late or none; a
+-- source, a split, a mixer and a sink in a row. Node 3 drives.
 -- Source: this project's own.
 use Rattle.std.specs.Prelude.{ℕ, Bool, true, false, List, [], ◌∷◌}
 use Rattle.pw_base.specs.declared.shape.Shape.{Shape}
@@ -26,12 +26,15 @@ fan quantum channels cycles = record {
   first = 0;
   cycles = cycles;
   driver = 3;
-  nodes = waits_for 0 1 (1 ∷ 2 ∷ 3 ∷ []) ∷ waits_for 1 2 (3 ∷ []) ∷ waits_for 2 2 (3 ∷ [])
+  nodes = waits_for 0 1 (1 ∷ 2 ∷ 3 ∷ []) ∷ waits_for 1 2 (3 ∷ [])
+      ∷ waits_for 2 2 (3 ∷ [])
       ∷ waits_for 3 4 (0 ∷ 1 ∷ 2 ∷ 3 ∷ []) ∷ [];
-  links = joined false channels 0 0 1 0 ∷ joined false channels 0 0 2 0 ∷ joined false channels 0 0 3 0 ∷ [];
+  links = joined false channels 0 0 1 0 ∷ joined false channels 0 0 2 0
+      ∷ joined false channels 0 0 3 0 ∷ [];
 }
 
--- the same nodes, node 2 over a delayed link, so that it does not wait for node 0. Mono, four frames a quantum
+-- the same nodes, node 2 over a delayed link, so that it does not wait for node 0. Mono, four
+-- frames a quantum
 abbrev pub late_fan : ℕ → Shape
 late_fan cycles = record {
   quantum = 4;
@@ -43,14 +46,17 @@ late_fan cycles = record {
   links = joined false 1 0 0 1 0 ∷ joined true 1 0 0 2 0 ∷ joined false 1 0 0 3 0 ∷ [];
 }
 
--- node 0 to node 1, which gives two ports to node 2, and that one to node 3. Mono, four frames a quantum
+-- node 0 to node 1, which gives two ports to node 2, and that one to node 3. Mono, four frames a
+-- quantum
 abbrev pub row : ℕ → Shape
 row cycles = record {
   quantum = 4;
   first = 0;
   cycles = cycles;
   driver = 3;
-  nodes = waits_for 0 1 (1 ∷ 3 ∷ []) ∷ waits_for 1 2 (2 ∷ 3 ∷ []) ∷ waits_for 2 2 (3 ∷ [])
+  nodes = waits_for 0 1 (1 ∷ 3 ∷ []) ∷ waits_for 1 2 (2 ∷ 3 ∷ [])
+      ∷ waits_for 2 2 (3 ∷ [])
       ∷ waits_for 3 4 (0 ∷ 1 ∷ 2 ∷ 3 ∷ []) ∷ [];
-  links = joined false 1 0 0 1 0 ∷ joined false 1 1 1 2 0 ∷ joined false 1 1 2 2 1 ∷ joined false 1 2 2 3 0 ∷ [];
+  links = joined false 1 0 0 1 0 ∷ joined false 1 1 1 2 0 ∷ joined false 1 1 2 2 1
+      ∷ joined false 1 2 2 3 0 ∷ [];
 }

@@ -1,4 +1,5 @@
--- Samples that each pool gives in each cycle: one quantum in the even cycles of an epoch, another in the odd ones.
+-- Samples that each pool gives in each cycle: one quantum in the even cycles of an epoch, another
+-- in the odd ones.
 -- Source: this project's own. k is how many cycles a cycle is after the first.
 use Rattle.std.specs.Prelude.{◌≡◌, ℕ, ℤ, pos, neg_ℤ, ◌+◌, ◌-◌, ◌%◌, ◌≤ℤ◌, ◌<◌, ◌≤◌, cond, eqb, List, length, map, replicate}
 use Rattle.std.specs.List.{range_with_len}
@@ -26,7 +27,8 @@ given_before s k = cond (eqb k 0) s.zeros (given_in s (k - 1))
 
 -- the table that has them for each cycle and pool
 abbrev pub steady : Shape → Quanta → Samples
-steady shape s = map (λ k. map (λ x. given_in s k) (pools_of shape)) (range_with_len 0 shape.cycles)
+steady shape s = map (λ k. map (λ x. given_in s k) (pools_of shape))
+    (range_with_len 0 shape.cycles)
 
 -- each pool gives them, and they are one quantum of it
 pub record IsSteady (p : BoardLayout) (e : Samples) (s : Quanta) : Type 0 where

@@ -1,5 +1,7 @@
--- The turn of a follower, from its waking to its rest: its links, its pools, what it leaves alone. Nodes are indexes.
--- Source: PipeWire's documentation, "Graph Scheduling" and "SPA Buffers"; the calls are this project's own.
+-- The turn of a follower, from its waking to its rest: its links, its pools, what it leaves alone.
+-- Nodes are indexes.
+-- Source: PipeWire's documentation, "Graph Scheduling" and "SPA Buffers"; the calls are this
+-- project's own.
 use Rattle.std.specs.Prelude.{◌≡◌, ◌≢◌, ℕ, ℤ, ◌+◌, ◌<◌, ◌≤◌, false, List, length}
 use Rattle.pw_base.specs.declared.pools.PoolShape.{PoolShape}
 use Rattle.pw_base.specs.Pools.{pools_of}
@@ -21,21 +23,25 @@ use Rattle.area_runs.specs.Ends.{ends_of}
 use Rattle.area_runs.specs.Steady.{IsSteady}
 use Rattle.area_runs.specs.Writing.{queue_of}
 
--- what a loop has beside its nodes: the pools of the shape, room for their blocks, the free ones of each, the samples
+-- what a loop has beside its nodes: the pools of the shape, room for their blocks, the free ones of
+-- each, the samples
 pub record IsEquipped (p : BoardLayout) (v : View) (shapes : List PoolShape) (free : List Queue)
     (samples : Quanta) : Type 0 where
   pub plain : IsPooledBoard p
   pub shapes_are : shapes ≡ pools_of p.shape
   pub lists : length free ≡ length shapes
-  pub blocks : (q : ℕ) → q < length (pools_of p.shape) → block_at p q (pool_at p q).blocks ≤ length v.blocks
+  pub blocks : (q : ℕ) → q < length (pools_of p.shape)
+      → block_at p q (pool_at p q).blocks ≤ length v.blocks
   pub steady : IsSteady p v.expect samples
 
--- the node m has done the cycles before c, and nothing of c, on all links that it reads or writes and on all pools that
--- it fills
+-- the node m has done the cycles before c, and nothing of c, on all links that it reads or writes
+-- and on all pools that it fills
 pub record AreEven (p : BoardLayout) (v : View) (free : List Queue) (m c : ℕ) : Type 0 where
   pub reads : (l : ℕ) → l < length p.shape.links → reader_of p l ≡ m → IsReadUpTo v l c
-  pub writes : (l : ℕ) → l < length p.shape.links → writer_of p l ≡ m → IsWrittenUpTo v l c
-  pub stocks : (q : ℕ) → q < length (pools_of p.shape) → filler_of p q ≡ m → FreeBlocks p v q c (queue_of free q)
+  pub writes : (l : ℕ) → l < length p.shape.links → writer_of p l ≡ m
+      → IsWrittenUpTo v l c
+  pub stocks : (q : ℕ) → q < length (pools_of p.shape) → filler_of p q ≡ m
+      → FreeBlocks p v q c (queue_of free q)
 
 -- the node waits for its next cycle
 abbrev pub IsAtRest : BoardLayout → View → List Queue → ℕ → Type 0
@@ -49,10 +55,12 @@ pub record MayTurn (p : BoardLayout) (v : View) (free : List Queue) (ends : Node
   pub even : AreEven p v free (p.index ends.node) (node_of v (p.index ends.node)).next
 
 -- it rests again, a cycle later; each other node that rested still does, in its own cycle
-pub record HasTurned (p : BoardLayout) (v : View) (old : List Queue) (m : ℕ) (w : View) (new : List Queue) : Type 0 where
+pub record HasTurned (p : BoardLayout) (v : View) (old : List Queue) (m : ℕ) (w : View)
+    (new : List Queue) : Type 0 where
   pub rests : IsAtRest p w new m
   pub later : (node_of w m).next ≡ (node_of v m).next + 1
-  pub others : (n : ℕ) → n ≢ m → IsAtRest p v old n → IsAtRest p w new n × (node_of w n ≡ node_of v n)
+  pub others : (n : ℕ) → n ≢ m → IsAtRest p v old n
+      → IsAtRest p w new n × (node_of w n ≡ node_of v n)
   pub expect : w.expect ≡ v.expect
   pub room : length w.blocks ≡ length v.blocks
   pub lists : length new ≡ length old

@@ -31,10 +31,11 @@ Puts p v samples q = samples ≡ samples_in p v.expect (fill_cycle p v q) q
 -- the blocks of a pool, its reclaims and the list of its free ones are as before
 abbrev pub IsLeft : BoardLayout → View → List Queue → ℕ → View → List Queue → Type 0
 IsLeft p v old r w new = (queue_of new r ≡ queue_of old r)
-    × ((b : ℕ) → b < (pool_at p r).blocks → block_of p w r b ≡ block_of p v r b) × (reclaimed_of w r ≡ reclaimed_of v r)
+    × ((b : ℕ) → b < (pool_at p r).blocks → block_of p w r b ≡ block_of p v r b)
+    × (reclaimed_of w r ≡ reclaimed_of v r)
 
--- from the view v to the view w, each of the pools is filled and published in this cycle; no other pool or link is
--- touched. `old` and `new` have the free blocks before and after
+-- from the view v to the view w, each of the pools is filled and published in this cycle; no other
+-- pool or link is touched. `old` and `new` have the free blocks before and after
 pub record AreWritten (p : BoardLayout) (v : View) (old : List Queue) (pools : List ℕ)
     (w : View) (new : List Queue) : Type 0 where
   pub same : w ≡ record v { writes = w.writes; blocks = w.blocks; reclaimed = w.reclaimed }
@@ -43,8 +44,10 @@ pub record AreWritten (p : BoardLayout) (v : View) (old : List Queue) (pools : L
   pub lists : length new ≡ length old
   pub even : (q l : ℕ) → Contains pools q → Contains (pool_at p q).links l
       → IsWrittenUpTo w l (fill_cycle p v q + 1)
-  pub stocks : (q : ℕ) → Contains pools q → FreeBlocks p w q (fill_cycle p v q + 1) (queue_of new q)
-  pub other_links : (l : ℕ) → ((q : ℕ) → Contains pools q → Contains (pool_at p q).links l → ⊥)
+  pub stocks : (q : ℕ) → Contains pools q
+      → FreeBlocks p w q (fill_cycle p v q + 1) (queue_of new q)
+  pub other_links : (l : ℕ) → ((q : ℕ) → Contains pools q
+      → Contains (pool_at p q).links l → ⊥)
       → write_of w l ≡ write_of v l
   pub other_pools : (r : ℕ) → r < length (pools_of p.shape) → (Contains pools r → ⊥)
       → IsLeft p v old r w new

@@ -43,7 +43,8 @@ fn hears<S: BoardSeat>(
 ) -> bool
     requires table { IsOn board.now (S.table seat.old) }
     requires phase { MayReadInput S.is_driver (layout board.now) (S.knows seat.old) link }
-    requires gives { Gives S.is_driver (layout board.now) (S.knows seat.old) now.now before.now link }
+    requires gives { Gives S.is_driver (layout board.now)
+        (S.knows seat.old) now.now before.now link }
     requires long { length room.old ≡ length now.now }
     ensures table { S.table seat.new ≡ S.table seat.old }
     ensures knows { let p = layout board.now in
@@ -55,8 +56,9 @@ fn hears<S: BoardSeat>(
     are_same(room, expected(board, link, now, before))
 }
 
-/// The node that works hears each of its links, in `room` for one quantum: whether all brought what they should. `now` is
-/// what pools give in this cycle, `before` what they gave in the cycle before.
+/// The node that works hears each of its links, in `room` for one quantum: whether all brought what
+/// they should. `now` is what pools give in this cycle, `before` what they gave in the cycle
+/// before.
 pub(crate) fn hear_all<S: BoardSeat>(
     board: &Board,
     seat: &mut S,

@@ -14,8 +14,8 @@ use activation_words::{Claim, begin, check_late, claim_driver, end, finish, star
 use board_rule::{Board, BoardSeat, Closed, DriverSeat};
 use pw_base::Items;
 
-/// The driver's loop of a board: its seat, the links that the driver's node reads, what every pool gives in every
-/// cycle, and room for one quantum.
+/// The driver's loop of a board: its seat, the links that the driver's node reads, what every pool
+/// gives in every cycle, and room for one quantum.
 #[derive(Drop)]
 pub struct DriverLoop {
     pub(crate) seat: DriverSeat,
@@ -47,8 +47,8 @@ impl DriverLoop {
         true
     }
 
-    /// One look at who has not finished the cycle: bit n for node n. Condition: the cycle is begun, and there was no
-    /// look in it yet.
+    /// One look at who has not finished the cycle: bit n for node n. Condition: the cycle is begun,
+    /// and there was no look in it yet.
     pub fn check(&mut self, board: &Board) -> u64
         requires ready { IsLeadReadyOn board.now self.old true }
         requires unchecked { self.old.seat.knows.lead.checked ≡ false }
@@ -82,7 +82,8 @@ impl DriverLoop {
         heard
     }
 
-    /// One try of the driver's node, and where it is awake its turn and the end of the cycle. It answers no `Ended`.
+    /// One try of the driver's node, and where it is awake its turn and the end of the cycle. It
+    /// answers no `Ended`.
     pub fn try_node(&mut self, board: &Board) -> Tried
         requires ready { IsLeadReadyOn board.now self.old true }
         ensures ready { IsLeadReadyOn board.now self.new (still_waits result) }
@@ -96,8 +97,8 @@ impl DriverLoop {
         }
     }
 
-    /// Ends the board, whose words become the list of its events. None where a cycle is left. Condition: the seat is
-    /// between two cycles.
+    /// Ends the board, whose words become the list of its events. None where a cycle is left.
+    /// Condition: the seat is between two cycles.
     pub fn close(self, board: Board) -> Option<Closed>
         requires ready { IsLeadReadyOn board self false }
         ensures closed { IfSome result (IsClosed board self) }

@@ -1,10 +1,10 @@
 //! Boards that run: for any pooled shape whose pools all have quanta of one length, a board, the
 //! driver's loop and a loop for each seat.
 //!
-//! `opened` makes them. The driver's thread calls `begin_next` of its `DriverLoop`, then `try_node` until it ran, and so on,
-//! and last `close`. Each other thread calls `try_node` of its `Worker` for each of its nodes, again and again, until
-//! all have ended. All pools give one quantum in the even
-//! cycles and another in the odd ones, and whoever reads a link compares.
+//! `opened` makes them. The driver's thread calls `begin_next` of its `DriverLoop`, then `try_node`
+//! until it ran, and so on, and last `close`. Each other thread calls `try_node` of its `Worker`
+//! for each of its nodes, again and again, until all have ended. All pools give one quantum in the
+//! even cycles and another in the odd ones, and whoever reads a link compares.
 #![tactic(auto)]
 
 mod hearing;

@@ -113,7 +113,8 @@ pub(crate) fn workers_of(
     requires blocks { All (λ x. (1 ≤ x.blocks) × (x.blocks ≤ 8)) (pools_of shape.now) }
     requires few { length loops < 4294967296 }
     ensures { IfOk result (λ workers. (seats : ℕ) →
-        AreMade (board_shape_of shape.now seat_of.now seats) (quanta_of even.now odd.now) loops workers) }
+        AreMade (board_shape_of shape.now seat_of.now seats)
+        (quanta_of even.now odd.now) loops workers) }
 {
     let mut workers = Items::new(alloc);
     let mut k = 0;

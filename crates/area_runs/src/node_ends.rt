@@ -49,7 +49,8 @@ fn fills_of(
     Ok(fills)
 }
 
-/// What a node reads and fills. `pools` are the pools of the shape. Cost: a look at each link and each pool.
+/// What a node reads and fills. `pools` are the pools of the shape. Cost: a look at each link and
+/// each pool.
 pub(crate) fn ends_of(
     alloc: Global,
     shape: &Shape,

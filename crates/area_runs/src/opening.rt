@@ -61,7 +61,8 @@ fn open<E: Expect>(
     even: &[i16],
     odd: &[i16],
 ) -> Result<Run, Memory>
-    requires openable { IsOpenable (board_shape_of shape.now seat_of.now seats) (quanta_of even.now odd.now) }
+    requires openable { IsOpenable (board_shape_of shape.now seat_of.now seats)
+        (quanta_of even.now odd.now) }
     requires table { E.expect ≡ steady shape.now (quanta_of even.now odd.now) }
     ensures { let board_shape = board_shape_of shape.now seat_of.now seats in
         IfOk result (IsOpened board_shape (quanta_of even.now odd.now)) }
@@ -102,12 +103,14 @@ fn is_openable(
     )
 }
 
-/// A board whose pools all give the same samples, one quantum with the frames interleaved: `even` in the even cycles,
-/// counted from the first, and `odd` in the odd ones. `seat_of` has the seat of each node by index in the shape, below
-/// `seats`; the driver's entry is not looked at. None where the shape is not sound and pooled, where a follower has none
-/// of the seats, where the two quanta differ in length, and where a pool has not 1 to 8 blocks or a quantum of that length.
+/// A board whose pools all give the same samples, one quantum with the frames interleaved: `even`
+/// in the even cycles, counted from the first, and `odd` in the odd ones. `seat_of` has the seat of
+/// each node by index in the shape, below `seats`; the driver's entry is not looked at. None where
+/// the shape is not sound and pooled, where a follower has none of the seats, where the two quanta
+/// differ in length, and where a pool has not 1 to 8 blocks or a quantum of that length.
 ///
-/// Memory: that of `Board::new`, and for each seat the pools of the shape, the numbers of their blocks, four quanta.
+/// Memory: that of `Board::new`, and for each seat the pools of the shape, the numbers of their
+/// blocks, four quanta.
 pub fn opened(
     alloc: Global,
     shape: &Shape,

@@ -1,4 +1,5 @@
-//! What every pool gives: one quantum in the even cycles of an epoch, counted from the first, another in the odd ones.
+//! What every pool gives: one quantum in the even cycles of an epoch, counted from the first,
+//! another in the odd ones.
 ghost use Rattle.std.specs.Prelude.{◌≡◌, IfOk};
 ghost use Rattle.area_runs.specs.Steady.{quanta_of, given_in, given_before};
 

@@ -55,7 +55,8 @@ pub fn fan(alloc: Global, quantum: u32, channels: u32, cycles: u32) -> Result<Sh
     })
 }
 
-/// Node 0 is read by the nodes 1 and 3, and by node 2 over a delayed link: mono, four frames a quantum.
+/// Node 0 is read by the nodes 1 and 3, and by node 2 over a delayed link: mono, four frames a
+/// quantum.
 pub fn late_fan(alloc: Global, cycles: u32) -> Result<Shape, Memory>
     ensures { IfOk result (λ shape. shape ≡ late_fan cycles) }
 {
@@ -78,7 +79,8 @@ pub fn late_fan(alloc: Global, cycles: u32) -> Result<Shape, Memory>
     })
 }
 
-/// A source 0, a split 1 of two ports, a mixer 2 and a sink 3 in a row: mono, four frames a quantum.
+/// A source 0, a split 1 of two ports, a mixer 2 and a sink 3 in a row: mono, four frames a
+/// quantum.
 pub fn row(alloc: Global, cycles: u32) -> Result<Shape, Memory>
     ensures { IfOk result (λ shape. shape ≡ row cycles) }
 {

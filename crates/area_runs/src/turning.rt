@@ -12,8 +12,9 @@ use board_rule::{Board, BoardSeat, LoopSeat};
 use buffer_pool::Pool;
 use pw_base::PoolShape;
 
-/// The node starts, hears each link that it reads, gives the samples in each pool that it fills, and finishes: whether
-/// each link brought what it should. `shapes` and `free` have all pools of the board, and `room` is one quantum.
+/// The node starts, hears each link that it reads, gives the samples in each pool that it fills,
+/// and finishes: whether each link brought what it should. `shapes` and `free` have all pools of
+/// the board, and `room` is one quantum.
 pub(crate) fn take_turn(
     board: &Board,
     seat: &mut LoopSeat,

@@ -12,8 +12,8 @@ use board_rule::{Board, BoardSeat, LoopSeat};
 use buffer_pool::Pool;
 use pw_base::{Items, PoolShape};
 
-/// A loop of a board: its seat and its nodes, the pools of the shape with the free blocks of each, what every pool
-/// gives in every cycle, and room for one quantum.
+/// A loop of a board: its seat and its nodes, the pools of the shape with the free blocks of each,
+/// what every pool gives in every cycle, and room for one quantum.
 #[derive(Drop)]
 pub struct Worker {
     pub(crate) seat: LoopSeat,
@@ -32,15 +32,17 @@ impl Worker {
         &self.nodes
     }
 
-    /// One try of the node at an index of the loop's own list, and where it is awake its turn: it starts, hears each
-    /// link that it reads, gives the samples in each pool that it fills, and finishes. Takes no memory, does not wait.
+    /// One try of the node at an index of the loop's own list, and where it is awake its turn: it
+    /// starts, hears each link that it reads, gives the samples in each pool that it fills, and
+    /// finishes. Takes no memory, does not wait.
     pub fn try_node(&mut self, board: &Board, at: usize) -> Tried
         requires ready { IsReadyOn board.now self.old }
         requires inside { at < length self.old.nodes }
         ensures ready { IsReadyOn board.now self.new }
         ensures tried { let p = layout board.now in
             HasTried p self.old (p.index (node_at self.old at)) result self.new }
-        ensures same { (self.new.nodes ≡ self.old.nodes) × (self.new.samples ≡ self.old.samples) }
+        ensures same { (self.new.nodes ≡ self.old.nodes)
+            × (self.new.samples ≡ self.old.samples) }
     {
         let ends = &self.nodes.as_slice()[at];
         if self.seat.ended(board, ends.node) == board.shape().cycles {

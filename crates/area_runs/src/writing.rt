@@ -10,8 +10,8 @@ use buffer_pool::Pool;
 use io_areas::write_output;
 use pw_base::PoolShape;
 
-/// The node that works gives the samples in each of its pools. `shapes` and `free` have all pools of the board's shape,
-/// and the free blocks of each.
+/// The node that works gives the samples in each of its pools. `shapes` and `free` have all pools
+/// of the board's shape, and the free blocks of each.
 pub(crate) fn write_all(
     board: &Board,
     seat: &mut LoopSeat,

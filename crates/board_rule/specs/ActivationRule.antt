@@ -1,6 +1,7 @@
--- The activation rule: between any two steps, the pending and status words of all nodes agree with the phases of all seats.
--- Source: PipeWire's documentation, "Graph Scheduling"; spa/graph/graph.h, spa_graph_state; the statuses' numbers are this
--- project's.
+-- The activation rule: between any two steps, the pending and status words of all nodes agree with
+-- the phases of all seats.
+-- Source: PipeWire's documentation, "Graph Scheduling"; spa/graph/graph.h, spa_graph_state; the
+-- statuses' numbers are this project's.
 use Rattle.std.specs.Prelude.{◌≡◌, ◌≢◌, ℕ, suc, ◌-◌, ◌<◌, ◌≤◌, true, false, cond, eqb, List, length, slice_index}
 use Rattle.board_rule.specs.declared.view.Phase.TheVariants.{Idle}
 use Rattle.board_rule.specs.declared.view.DriverPhase.{DriverPhase}
@@ -21,7 +22,8 @@ module _ (p : BoardLayout) where
   progress g = record {
     rest = λ m. cond (eqb m p.driver) (drive_rest (p.targets m) g.lead.drive)
         (phase_rest (p.targets m) (eqb (g.nodes m).next g.lead.cycle) (g.nodes m).phase);
-    owing = λ m. cond (eqb m p.driver) (drive_owing (p.targets m) g.lead.drive) (phase_owing (p.targets m) (g.nodes m).phase);
+    owing = λ m. cond (eqb m p.driver) (drive_owing (p.targets m) g.lead.drive)
+        (phase_owing (p.targets m) (g.nodes m).phase);
     stage = λ m. cond (eqb m p.driver) (drive_stage g.lead.drive)
         (phase_stage (eqb (g.nodes m).next g.lead.cycle) (g.nodes m).phase);
   }
@@ -37,16 +39,21 @@ module _ (p : BoardLayout) where
     pub node : (n : ℕ) → n < nodes p → NodeOk c (slice_index words (pending_place p.shape n))
         (slice_index words (status_place p.shape n)) (s.stage n) (left s n) (debts s n)
 
-  -- the status word before the reset for the cycle c: FINISHED of the cycle before, at first NOT_TRIGGERED
+  -- the status word before the reset for the cycle c: FINISHED of the cycle before, at first
+  -- NOT_TRIGGERED
   abbrev pub old_status : ℕ → ℕ
   old_status c = cond (eqb c (first p)) (not_triggered_word c) (finished_word (c - 1))
 
   -- the first i pending words and the first k status words are reset for the cycle c
   pub record Resets (c i k : ℕ) (words : List ℕ) : Type 0 where
-    pub pending_new : (n : ℕ) → n < nodes p → n < i → slice_index words (pending_place p.shape n) ≡ p.required n
-    pub pending_old : (n : ℕ) → n < nodes p → i ≤ n → slice_index words (pending_place p.shape n) ≡ 0
-    pub status_new : (n : ℕ) → n < nodes p → n < k → slice_index words (status_place p.shape n) ≡ not_triggered_word c
-    pub status_old : (n : ℕ) → n < nodes p → k ≤ n → slice_index words (status_place p.shape n) ≡ old_status c
+    pub pending_new : (n : ℕ) → n < nodes p → n < i
+        → slice_index words (pending_place p.shape n) ≡ p.required n
+    pub pending_old : (n : ℕ) → n < nodes p → i ≤ n
+        → slice_index words (pending_place p.shape n) ≡ 0
+    pub status_new : (n : ℕ) → n < nodes p → n < k
+        → slice_index words (status_place p.shape n) ≡ not_triggered_word c
+    pub status_old : (n : ℕ) → n < nodes p → k ≤ n
+        → slice_index words (status_place p.shape n) ≡ old_status c
 
   -- the activation words in the cycle c, by the driver's phase
   abbrev pub Words : ℕ → Progress → DriverPhase → List ℕ → Type 0
@@ -74,5 +81,6 @@ module _ (p : BoardLayout) where
     pub drive : DriverPhaseOk g.lead.drive
     pub followers : (n : ℕ) → n < nodes p → n ≢ p.driver
         → PhaseOk (length (p.targets n)) g.lead.cycle (g.nodes n).next (g.nodes n).phase
-    pub resting : is_resetting g.lead.drive ≡ true → (n : ℕ) → n < nodes p → n ≢ p.driver → IsIdle g.lead.cycle (g.nodes n)
+    pub resting : is_resetting g.lead.drive ≡ true → (n : ℕ) → n < nodes p
+        → n ≢ p.driver → IsIdle g.lead.cycle (g.nodes n)
     pub laid : Words g.lead.cycle (progress g) g.lead.drive words

@@ -1,5 +1,6 @@
 -- What the buffer rule reads of blocks, of the links of a pool and of their ends.
--- Source: PipeWire's documentation, "SPA Buffers"; one pool that all links of a port read is this project's own.
+-- Source: PipeWire's documentation, "SPA Buffers"; one pool that all links of a port read is this
+-- project's own.
 use Rattle.std.specs.Prelude.{ℕ, ◌+◌, Bool, true, false, cond, ltb, sum_by, slice_get}
 use Rattle.std.specs.Prelude.{option_map, unwrap_or}
 use Rattle.std.specs.List.{list_any}
@@ -12,7 +13,8 @@ use Rattle.board_rule.specs.declared.view.BlockView.TheVariants.{Free, Filling, 
 use Rattle.board_rule.specs.Layout.{BoardLayout}
 use Rattle.board_rule.specs.Areas.{delay_by}
 
--- what all seats know of the links, by number, of the blocks, by pool and number, and of the reclaims of each pool:
+-- what all seats know of the links, by number, of the blocks, by pool and number, and of the
+-- reclaims of each pool:
 -- one more than the cycle of the last one
 pub record Ends : Type 0 where
   pub writes : ℕ → WriteView
@@ -41,7 +43,8 @@ module _ (p : BoardLayout) where
   abbrev pub delay_at : ℕ → ℕ
   delay_at l = unwrap_or (option_map delay_by (slice_get p.shape.links l)) 0
 
-  -- for how many cycles a block of the pool is busy: until its writer has ended as many after the one before its stamp
+  -- for how many cycles a block of the pool is busy: until its writer has ended as many after the
+  -- one before its stamp
   abbrev pub busy_cycles : PoolShape → ℕ
   busy_cycles x = cond (list_any (λ k. k.delayed) (links_from p.shape x.port)) 2 1
 

@@ -1,5 +1,5 @@
--- The rule of a board: one whole that every seat's view agrees with, whose words obey the activation rule, the event
--- rule and the buffer rule.
+-- The rule of a board: one whole that every seat's view agrees with, whose words obey the
+-- activation rule, the event rule and the buffer rule.
 -- Source: this project's own.
 use Rattle.std.specs.Prelude.{◌≡◌, ◌≢◌, ℕ, ◌+◌, ◌<◌, ◌≤◌, List, length}
 use mathlib.Core.Option.{some}
@@ -18,20 +18,22 @@ use Rattle.board_rule.specs.Spans.{spans}
 use Rattle.board_rule.specs.KnownEnds.{KnowsEnds, AreStill}
 
 module _ (p : BoardLayout) where
-  -- what the view at the index j among all views says of the whole: no two views of seats have the same number. A view
-  -- with a greater number is
+  -- what the view at the index j among all views says of the whole: no two views of seats have the
+  -- same number. A view with a greater number is
   -- kept of a board that is closed, and then no seat is split off any more
   pub record Knows (g : Whole) (j : ℕ) (v : View) : Type 0 where
     pub kept : p.seats < v.number → p.seats < g.split
     pub here : v.number ≤ p.seats → g.seat_at v.number ≡ j
-    pub is_driver : v.number ≡ p.seats → (v.lead ≡ g.lead) × (v.split ≡ g.split) × (v.trail.looks ≡ g.looks)
+    pub is_driver : v.number ≡ p.seats
+        → (v.lead ≡ g.lead) × (v.split ≡ g.split) × (v.trail.looks ≡ g.looks)
     pub expects : v.expect ≡ g.expect
     pub is_split : v.number < p.seats → v.number < g.split
-    pub owns : (n : ℕ) → n < nodes p → n ≢ p.driver → p.seat_of n ≡ v.number → get_elem? v.nodes n ≡ some (g.nodes n)
+    pub owns : (n : ℕ) → n < nodes p → n ≢ p.driver → p.seat_of n ≡ v.number
+        → get_elem? v.nodes n ≡ some (g.nodes n)
     pub ends : KnowsEnds p g.ends v.number v.writes v.reads v.blocks v.reclaimed
 
-  -- the seats and their views; a follower whose seat is not yet split off is idle in the first cycle. `table`: the
-  -- first split names the samples
+  -- the seats and their views; a follower whose seat is not yet split off is idle in the first
+  -- cycle. `table`: the first split names the samples
   pub record Seated (g : Whole) (words : List ℕ) (views : List View) : Type 0 where
     pub sound : IsSound p
     pub pooled : IsPooledShape p.shape
@@ -40,11 +42,14 @@ module _ (p : BoardLayout) where
     pub long : event_place p.shape (event_count p.shape) ≤ length words
     pub knows : (j : ℕ) (v : View) → get_elem? views j ≡ some v → Knows g j v
     pub most : g.split ≤ p.seats + 1
-    pub present : g.split ≤ p.seats → (i : ℕ) → i ≤ p.seats → (i < p.seats → i < g.split)
+    pub present : g.split ≤ p.seats → (i : ℕ) → i ≤ p.seats
+        → (i < p.seats → i < g.split)
         → (v : View) × (get_elem? views (g.seat_at i) ≡ some v) × (v.number ≡ i)
-    pub unsplit : (n : ℕ) → n < nodes p → n ≢ p.driver → g.split ≤ p.seat_of n → g.nodes n ≡ idle (first p)
+    pub unsplit : (n : ℕ) → n < nodes p → n ≢ p.driver → g.split ≤ p.seat_of n
+        → g.nodes n ≡ idle (first p)
     pub still : AreStill p g.ends g.split
-    pub table : (n : ℕ) → n < nodes p → n ≢ p.driver → p.seat_of n < g.split → IsTable p g.expect
+    pub table : (n : ℕ) → n < nodes p → n ≢ p.driver → p.seat_of n < g.split
+        → IsTable p g.expect
 
   -- THE RULE
   pub record Holds {S : Type 0} (s : State S View) : Type 0 where

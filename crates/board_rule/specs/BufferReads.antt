@@ -1,5 +1,5 @@
--- What a seat is asked of the blocks of a pool: the one that is filled in this cycle, and the one that has been out
--- longest.
+-- What a seat is asked of the blocks of a pool: the one that is filled in this cycle, and the one
+-- that has been out longest.
 -- Source: this project's own.
 use Rattle.std.specs.Prelude.{◌≡◌, ℕ, ◌+◌, ◌<◌, ◌≤◌, ◌⊎◌, Bool, false, cond, eqb, leb, Option, Some, option_map, unwrap_or, length}
 use Rattle.pw_base.specs.Pools.{pools_of}
@@ -18,9 +18,11 @@ is_filled words stamp Free = false
 is_filled words stamp (Filling i) = eqb i words
 is_filled words stamp (Out n) = eqb n stamp
 
--- the block that is out longest, with its stamp, where `before` is that of the blocks before the number b
+-- the block that is out longest, with its stamp, where `before` is that of the blocks before the
+-- number b
 abbrev pub older : Option (ℕ × ℕ) → ℕ → BlockView → Option (ℕ × ℕ)
-older before b (Out n) = unwrap_or (option_map (λ o. cond (leb o.1 n) before (Some (b, n))) before) (Some (b, n))
+older before b (Out n) = unwrap_or (option_map (λ o. cond (leb o.1 n) before (Some (b, n))) before)
+    (Some (b, n))
 older before b _ = before
 
 module _ (p : BoardLayout) where
@@ -31,7 +33,8 @@ module _ (p : BoardLayout) where
 
   -- the block b was filled whole in this cycle, whether it is announced or not
   abbrev pub IsFilled : View → ℕ → ℕ → Type 0
-  IsFilled v q b = (block_of p v q b ≡ Filling (pool_at p q).words) ⊎ (block_of p v q b ≡ Out (fill_cycle p v q + 1))
+  IsFilled v q b = (block_of p v q b ≡ Filling (pool_at p q).words)
+      ⊎ (block_of p v q b ≡ Out (fill_cycle p v q + 1))
 
   -- it is the first such block
   pub record IsFirstFilled (v : View) (q b : ℕ) : Type 0 where

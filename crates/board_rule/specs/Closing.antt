@@ -14,8 +14,8 @@ use Rattle.board_rule.specs.View.{Samples, resting, no_trail}
 abbrev pub HasEndedAll : BoardLayout → View → Type 0
 HasEndedAll p v = Owns true p v p.driver × (v.lead.cycle ≡ last p)
 
--- the driver's view when no more seats are split off, and the view that is kept of a board: it is of no seat that
--- steps, and knows the samples alone
+-- the driver's view when no more seats are split off, and the view that is kept of a board: it is
+-- of no seat that steps, and knows the samples alone
 abbrev pub last_view : BoardLayout → View → View
 last_view p v = record v { split = suc p.seats }
 
@@ -42,18 +42,21 @@ expected closed = closed.kept.me.0.expect
 abbrev pub IsInRange : ℕ → Event → Type 0
 IsInRange first e = (first ≤ event_cycle e) × (event_cycle e < 2 ^ 32) × (event_node e ≤ 63)
 
--- the late set of a Tick stands in the word of its cycle, counted from `first`, behind those before `lates`
+-- the late set of a Tick stands in the word of its cycle, counted from `first`, behind those before
+-- `lates`
 abbrev pub LateOf : ℕ → ℕ → Event → List ℕ → Type 0
 LateOf first lates (Tick k set) words = (lates + (k - first) < length words)
     × (slice_index words (lates + (k - first)) ≡ set)
 LateOf first lates _ words = Unit {0}
 
--- the words of a table hold the events: the ticket word, the word of each event from `events` on, and the late set of
--- each Tick from `lates` on
-pub record AreRecorded (first lates events : ℕ) (history : List Event) (words : List ℕ) : Type 0 where
+-- the words of a table hold the events: the ticket word, the word of each event from `events` on,
+-- and the late set of each Tick from `lates` on
+pub record AreRecorded (first lates events : ℕ) (history : List Event)
+    (words : List ℕ) : Type 0 where
   pub count : slice_index words 0 ≡ length history
   pub room : events + length history ≤ length words
   pub some : 0 < length words
-  pub each : (t : ℕ) (e : Event) → slice_get history t ≡ Some e → slice_index words (events + t) ≡ event_word_of e
+  pub each : (t : ℕ) (e : Event) → slice_get history t ≡ Some e
+      → slice_index words (events + t) ≡ event_word_of e
   pub late : All (λ e. LateOf first lates e words) history
   pub ranges : All (IsInRange first) history

@@ -40,7 +40,8 @@ lead_progress_of x = record {
   finish = x.finish;
 }
 
--- the first i of n targets are lowered, and the last of these may be owed; the first i of n nodes are reset
+-- the first i of n targets are lowered, and the last of these may be owed; the first i of n nodes
+-- are reset
 abbrev pub told_so_far : ℕ → ℕ → Bool → ℕ
 told_so_far n i owes = cond owes i (cond (eqb i n) 0 i)
 

@@ -26,7 +26,13 @@ no_link = record {
 }
 
 abbrev pub no_pool : PoolShape
-no_pool = record { port = record { node = 0; port = 0 }; channels = 0; blocks = 0; words = 0; links = [] }
+no_pool = record {
+  port = record { node = 0; port = 0 };
+  channels = 0;
+  blocks = 0;
+  words = 0;
+  links = [];
+}
 
 -- a link and a pool of a shape by their numbers, and the number of the pool that a link reads
 abbrev pub link_in : Shape → ℕ → ShapeLink
@@ -36,7 +42,8 @@ abbrev pub pool_in : Shape → ℕ → PoolShape
 pool_in shape q = slice_index_or (pools_of shape) q no_pool
 
 abbrev pub pool_number : Shape → ℕ → ℕ
-pool_number shape l = position_or_len (λ x. is_same_port x.port (link_in shape l).from) (pools_of shape)
+pool_number shape l = position_or_len (λ x. is_same_port x.port (link_in shape l).from)
+    (pools_of shape)
 
 -- the writer's end of a link, and the reader's, as a view has them
 abbrev pub write_of : View → ℕ → WriteView
@@ -59,7 +66,8 @@ module _ (p : BoardLayout) where
   abbrev pub pool_at : ℕ → PoolShape
   pool_at q = pool_in p.shape q
 
-  -- the indexes of a link's nodes, the index of the node that fills a pool, and the number of the pool that a link reads
+  -- the indexes of a link's nodes, the index of the node that fills a pool, and the number of the
+  -- pool that a link reads
   abbrev pub writer_of : ℕ → ℕ
   writer_of l = p.index (link_at l).from.node
 

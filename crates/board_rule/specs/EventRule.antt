@@ -1,5 +1,5 @@
--- The event rule: between any two steps each drawn ticket is held by a phase or its event is stored, and the events so
--- far, in the order of their tickets, are legal.
+-- The event rule: between any two steps each drawn ticket is held by a phase or its event is
+-- stored, and the events so far, in the order of their tickets, are legal.
 -- Source: this project's own.
 use Rattle.std.specs.Prelude.{◌≡◌, ℕ, ◌+◌, ◌*◌, ◌≤◌, true, false, cond, eqb, List, [], ◌++◌, length, slice_index, count_by}
 use Rattle.board_rule.specs.declared.view.NodeView.{NodeView}
@@ -16,7 +16,8 @@ use Rattle.board_rule.specs.LateSets.{stored_ticks}
 pub use Rattle.board_rule.specs.Logged.{IsSoFar, IsHeld, Tickets, Earlier, Inside}
 pub use Rattle.board_rule.specs.Records.{Records, Counts, Marks, so_far}
 
--- two tickets for each cycle of a follower, and at most five for each of the driver's seat, counted from the cycle 0
+-- two tickets for each cycle of a follower, and at most five for each of the driver's seat, counted
+-- from the cycle 0
 abbrev pub node_drawn : NodeView → ℕ
 node_drawn x = 2 * x.next + phase_drawn x.phase
 
@@ -46,7 +47,8 @@ module _ (p : BoardLayout) where
     counts = counts g;
     start = λ n. cond (eqb n p.driver) g.lead.start (g.nodes n).start;
     finish = λ n. cond (eqb n p.driver) g.lead.finish (g.nodes n).finish;
-    holds = λ n. cond (eqb n p.driver) (drive_holds g.lead g.lead.drive) (phase_holds (g.nodes n) (g.nodes n).phase);
+    holds = λ n. cond (eqb n p.driver) (drive_holds g.lead g.lead.drive)
+        (phase_holds (g.nodes n) (g.nodes n).phase);
     tells = drive_tells g.lead g.late g.lead.drive;
     begun = is_begun g.lead.drive;
     ending = is_ending g.lead.drive;
@@ -59,16 +61,19 @@ module _ (p : BoardLayout) where
     late = λ k. slice_index words (late_place p.shape k);
   }
 
-  -- EVENT RULE. `count`: there are no more tickets than the phases say; `checks`: a Tick for each check that was
-  -- begun; `lates`: the driver's seat keeps those whose late set is stored; `fresh`: nothing before Begin
+  -- EVENT RULE. `count`: there are no more tickets than the phases say; `checks`: a Tick for each
+  -- check that was begun; `lates`: the driver's seat keeps those whose late set is stored; `fresh`:
+  -- nothing before Begin
   pub record Events (g : Whole) (words : List ℕ) : Type 0 where
-    pub count : slice_index words ticket_place + (total drawn_before (nodes p) + 5 * first p) ≤ total (drawn g)
+    pub count : slice_index words ticket_place + (total drawn_before (nodes p) + 5 * first p)
+        ≤ total (drawn g)
         (nodes p) + lead_drawn g.lead
     pub checks : count_by is_tick g.past + cond g.lead.checked 1 0 ≡ g.lead.checks
     pub lates : stored_ticks g.past g.lead g.late ≡ g.lead.lates
     pub checking : is_checking g.lead.drive ≡ true → g.lead.checked ≡ true
     pub fresh : is_begun g.lead.drive ≡ false → g.inside ≡ []
-    pub tickets : Tickets p g.lead.cycle (length g.past) (marks g) (g.past ++ so_far (marks g) g.lead.cycle g.inside)
+    pub tickets : Tickets p g.lead.cycle (length g.past) (marks g)
+        (g.past ++ so_far (marks g) g.lead.cycle g.inside)
         (records words)
     pub earlier : Earlier p g.lead.cycle g.late g.past (records words)
     pub inside : Inside p g.lead.cycle g.late (counts g) g.inside

@@ -1,4 +1,5 @@
--- The kinds of step on events: what each asks of the view of its seat, and the view after it. Nodes are indexes.
+-- The kinds of step on events: what each asks of the view of its seat, and the view after it. Nodes
+-- are indexes.
 -- Source: this project's own.
 use Rattle.std.specs.Prelude.{ℕ, ◌+◌, ◌<◌, Bool, true, false}
 use Rattle.board_rule.specs.declared.view.Phase.{Phase}
@@ -32,7 +33,8 @@ ticket_of true v m = held_lead v.lead v.lead.drive
 ticket_of false v m = held (node_of v m) (node_of v m).phase
 
 abbrev pub StoresEvent : Bool → BoardLayout → View → ℕ → Type 0
-StoresEvent true p v m = HasNode true p v m × CanStoreLead v.lead.drive × (ticket_of true v m < event_count p.shape)
+StoresEvent true p v m = HasNode true p v m × CanStoreLead v.lead.drive
+    × (ticket_of true v m < event_count p.shape)
 StoresEvent false p v m = HasNode false p v m × CanStore (node_of v m).phase
     × (ticket_of false v m < event_count p.shape)
 
@@ -62,9 +64,14 @@ lead_stores x drives.BeginDrawn = record x { drive = drives.Reset 0 }
 lead_stores x drives.LateStored = record x { drive = drives.Waiting }
 lead_stores x drives.StartDrawn = record x { drive = drives.Running }
 lead_stores x drives.FinishDrawn = record x { drive = drives.FinishStored }
-lead_stores x drives.EndDrawn = record x { cycle = x.cycle + 1; drive = drives.Between; checked = false }
+lead_stores x drives.EndDrawn = record x {
+  cycle = x.cycle + 1;
+  drive = drives.Between;
+  checked = false;
+}
 lead_stores x _ = x
 
 abbrev pub event_stored : Bool → View → ℕ → View
 event_stored true v m = view_lead v (lead_stores v.lead v.lead.drive) v.trail
-event_stored false v m = view_node v m (record (node_of v m) { phase = stored_phase (node_of v m).phase }) v.trail
+event_stored false v m = view_node v m
+    (record (node_of v m) { phase = stored_phase (node_of v m).phase }) v.trail

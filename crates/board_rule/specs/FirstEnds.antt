@@ -16,8 +16,8 @@ use Rattle.board_rule.specs.declared.view.BlockView.TheVariants.{Free, Out}
 abbrev pub unwritten : ℕ → WriteView
 unwritten c = record { loaded = c; stored = c; id = no_block; last = no_block }
 
--- the writer's end of a link at the start: the area of a delayed link that is read in the first cycle names block 0, as if it
--- had been stored there in the cycle before
+-- the writer's end of a link at the start: the area of a delayed link that is read in the first
+-- cycle names block 0, as if it had been stored there in the cycle before
 abbrev pub first_write : ℕ → ShapeLink → WriteView
 first_write c k = record { loaded = c; stored = c; id = cond k.delayed 0 no_block; last = no_block }
 
@@ -29,12 +29,14 @@ unread c = record { loaded = c; lowered = c; stored = c; id = no_block }
 abbrev pub is_delayed : Shape → PoolShape → Bool
 is_delayed shape x = list_any (λ k. k.delayed) (links_from shape x.port)
 
--- block 0 of such a pool is out at the start, as if it had been announced in the cycle before the first; the others are free
+-- block 0 of such a pool is out at the start, as if it had been announced in the cycle before the
+-- first; the others are free
 abbrev pub first_block : Shape → PoolShape → ℕ → BlockView
 first_block shape x b = cond (is_delayed shape x && eqb b 0) (Out shape.first) Free
 
 abbrev pub blocks_at_first : Shape → PoolShape → List BlockView
-blocks_at_first shape x = cond (is_delayed shape x) (Out shape.first ∷ replicate (x.blocks - 1) Free) (replicate x.blocks Free)
+blocks_at_first shape x = cond (is_delayed shape x)
+    (Out shape.first ∷ replicate (x.blocks - 1) Free) (replicate x.blocks Free)
 
 -- the blocks of all pools of a shape
 abbrev pub first_blocks : Shape → List BlockView

@@ -1,5 +1,6 @@
 -- The nodes of a shape by their indexes, and how many words a board has.
--- Source: PipeWire's documentation, "Graph Scheduling" (required, target list); the words are this project's.
+-- Source: PipeWire's documentation, "Graph Scheduling" (required, target list); the words are this
+-- project's.
 use Rattle.std.specs.Prelude.{ℕ, ◌==◌, List, map, length}
 use Rattle.std.specs.List.{position_or_len}
 use Rattle.pw_base.specs.declared.shape.Shape.{Shape}

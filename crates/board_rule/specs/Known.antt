@@ -1,5 +1,5 @@
--- A seat, as contracts see it: the table that it belongs to, and what it knows. What it keeps to step by is part of
--- that.
+-- A seat, as contracts see it: the table that it belongs to, and what it knows. What it keeps to
+-- step by is part of that.
 -- Source: this project's own.
 use Rattle.std.specs.Prelude.{◌≡◌, ℕ, List, map}
 use Rattle.atomic_table.specs.Seated.{TableId}
@@ -17,7 +17,8 @@ pub record Known : Type 0 where
   pub table : TableId
   pub knows : View
 
-pub record IsLoopSeat (v : View) (nodes : List NodeProgress) (writes : List WriteView) (reads : List ReadView)
+pub record IsLoopSeat (v : View) (nodes : List NodeProgress) (writes : List WriteView)
+    (reads : List ReadView)
     (blocks : List BlockView) (woke : ℕ) : Type 0 where
   pub nodes_are : map progress_of v.nodes ≡ nodes
   pub writes_are : v.writes ≡ writes
@@ -25,7 +26,8 @@ pub record IsLoopSeat (v : View) (nodes : List NodeProgress) (writes : List Writ
   pub blocks_are : v.blocks ≡ blocks
   pub woke_is : woke_of v.trail.told ≡ woke
 
-pub record IsDriverSeat (v : View) (lead : DriverProgress) (reads : List ReadView) (woke : ℕ) : Type 0 where
+pub record IsDriverSeat (v : View) (lead : DriverProgress) (reads : List ReadView)
+    (woke : ℕ) : Type 0 where
   pub lead_is : lead_progress_of v.lead ≡ lead
   pub reads_are : v.reads ≡ reads
   pub woke_is : woke_of v.trail.told ≡ woke

@@ -15,25 +15,38 @@ use Rattle.board_rule.specs.BlockReadings.{Ends}
 use Rattle.board_rule.specs.Spans.{holder, block_at}
 
 module _ (p : BoardLayout) where
-  -- a seat, by its number, knows the ends of its own nodes, and the blocks and reclaims of the pools that they fill
-  pub record KnowsEnds (ends : Ends) (number : ℕ) (writes : List WriteView) (reads : List ReadView)
+  -- a seat, by its number, knows the ends of its own nodes, and the blocks and reclaims of the
+  -- pools that they fill
+  pub record KnowsEnds (ends : Ends) (number : ℕ) (writes : List WriteView)
+      (reads : List ReadView)
       (blocks : List BlockView) (reclaimed : List ℕ) : Type 0 where
-    pub of_write : (l : ℕ) (k : ShapeLink) → slice_get p.shape.links l ≡ Some k → holder p (p.index k.from.node) ≡ number
+    pub of_write : (l : ℕ) (k : ShapeLink) → slice_get p.shape.links l ≡ Some k
+        → holder p (p.index k.from.node) ≡ number
         → get_elem? writes l ≡ some (ends.writes l)
-    pub of_read : (l : ℕ) (k : ShapeLink) → slice_get p.shape.links l ≡ Some k → holder p (p.index k.to.node) ≡ number
+    pub of_read : (l : ℕ) (k : ShapeLink) → slice_get p.shape.links l ≡ Some k
+        → holder p (p.index k.to.node) ≡ number
         → get_elem? reads l ≡ some (ends.reads l)
-    pub of_block : (q b : ℕ) (x : PoolShape) → slice_get (pools_of p.shape) q ≡ Some x → b < x.blocks
-        → holder p (p.index x.port.node) ≡ number → get_elem? blocks (block_at p q b) ≡ some (ends.blocks q b)
+    pub of_block : (q b : ℕ) (x : PoolShape) → slice_get (pools_of p.shape) q ≡ Some x
+        → b < x.blocks
+        → holder p (p.index x.port.node) ≡ number
+        → get_elem? blocks (block_at p q b) ≡ some (ends.blocks q b)
     pub of_pool : (q : ℕ) (x : PoolShape) → slice_get (pools_of p.shape) q ≡ Some x
-        → holder p (p.index x.port.node) ≡ number → get_elem? reclaimed q ≡ some (ends.reclaimed q)
+        → holder p (p.index x.port.node) ≡ number
+        → get_elem? reclaimed q ≡ some (ends.reclaimed q)
 
-  -- the ends, the blocks and the reclaims of a loop's seat that is not yet split off are as at the start
+  -- the ends, the blocks and the reclaims of a loop's seat that is not yet split off are as at the
+  -- start
   pub record AreStill (ends : Ends) (split : ℕ) : Type 0 where
-    pub writes : (l : ℕ) (k : ShapeLink) → slice_get p.shape.links l ≡ Some k → split ≤ holder p (p.index k.from.node)
+    pub writes : (l : ℕ) (k : ShapeLink) → slice_get p.shape.links l ≡ Some k
+        → split ≤ holder p (p.index k.from.node)
         → holder p (p.index k.from.node) < p.seats → ends.writes l ≡ first_write (first p) k
-    pub reads : (l : ℕ) (k : ShapeLink) → slice_get p.shape.links l ≡ Some k → split ≤ holder p (p.index k.to.node)
+    pub reads : (l : ℕ) (k : ShapeLink) → slice_get p.shape.links l ≡ Some k
+        → split ≤ holder p (p.index k.to.node)
         → holder p (p.index k.to.node) < p.seats → ends.reads l ≡ unread (first p)
-    pub blocks : (q b : ℕ) (x : PoolShape) → slice_get (pools_of p.shape) q ≡ Some x → b < x.blocks
-        → split ≤ holder p (p.index x.port.node) → holder p (p.index x.port.node) < p.seats → ends.blocks q b ≡ first_block p.shape x b
-    pub pools : (q : ℕ) (x : PoolShape) → slice_get (pools_of p.shape) q ≡ Some x → split ≤ holder p (p.index x.port.node)
+    pub blocks : (q b : ℕ) (x : PoolShape) → slice_get (pools_of p.shape) q ≡ Some x
+        → b < x.blocks
+        → split ≤ holder p (p.index x.port.node) → holder p (p.index x.port.node) < p.seats
+        → ends.blocks q b ≡ first_block p.shape x b
+    pub pools : (q : ℕ) (x : PoolShape) → slice_get (pools_of p.shape) q ≡ Some x
+        → split ≤ holder p (p.index x.port.node)
         → holder p (p.index x.port.node) < p.seats → ends.reclaimed q ≡ first p + 1

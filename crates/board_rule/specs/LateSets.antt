@@ -13,6 +13,8 @@ abbrev pub is_looking : DriverPhase → Bool
 is_looking drives.Checking = true
 is_looking _ = false
 
--- THE TICKS whose late sets are stored, by the events of earlier cycles and the late set of this one
+-- THE TICKS whose late sets are stored, by the events of earlier cycles and the late set of this
+-- one
 abbrev pub stored_ticks : List Event → DriverView → ℕ → List Event
-stored_ticks past l late = filter is_tick past ++ cond (l.checked && not (is_looking l.drive)) (Tick l.cycle late ∷ []) []
+stored_ticks past l late = filter is_tick past
+    ++ cond (l.checked && not (is_looking l.drive)) (Tick l.cycle late ∷ []) []

@@ -1,5 +1,6 @@
 -- The shape of a board as the rule reads it: nodes by their indexes in the shape.
--- Source: PipeWire's documentation, "Graph Scheduling" (required, target list); the words are this project's.
+-- Source: PipeWire's documentation, "Graph Scheduling" (required, target list); the words are this
+-- project's.
 use Rattle.std.specs.Prelude.{◌≡◌, ◌≢◌, ℕ, ◌+◌, ◌^◌, ◌<◌, ◌≤◌, List, [], drop, length, false, All, Contains, slice_index}
 use Rattle.std.specs.Prelude.{slice_index_or}
 use Rattle.pw_base.specs.declared.shape.Shape.{Shape}
@@ -15,7 +16,8 @@ unfoldable pub use Rattle.board_rule.specs.Indexes.{word_count}
 abbrev pub IsUndelayed : Shape → Type 0
 IsUndelayed shape = All (λ l. l.delayed ≡ false) shape.links
 
--- what a rule reads: the driver's index; of each index its seat, its node's number, its required count and its targets
+-- what a rule reads: the driver's index; of each index its seat, its node's number, its required
+-- count and its targets
 pub record BoardLayout : Type 0 where
   pub shape : Shape
   pub seats : ℕ
@@ -30,7 +32,8 @@ pub record BoardLayout : Type 0 where
 pub record HasSeats (board_shape : BoardShape) : Type 0 where
   pub some_seats : 1 ≤ board_shape.seats
   pub all : length board_shape.seat_of ≡ node_count board_shape.shape
-  pub each : (n : ℕ) → n < node_count board_shape.shape → n ≢ index_in board_shape.shape board_shape.shape.driver
+  pub each : (n : ℕ) → n < node_count board_shape.shape
+      → n ≢ index_in board_shape.shape board_shape.shape.driver
       → slice_index board_shape.seat_of n < board_shape.seats
 
 abbrev pub layout_of : BoardShape → BoardLayout
@@ -66,13 +69,17 @@ pub record IsSound (p : BoardLayout) : Type 0 where
   pub numbers : (n : ℕ) → n < nodes p → p.number n ≤ 63
   pub at : (n : ℕ) → n < nodes p → p.index (p.number n) ≡ n
   pub known : (n : ℕ) → p.index n < nodes p → p.number (p.index n) ≡ n
-  pub targets_in : (m i : ℕ) → m < nodes p → i < length (p.targets m) → slice_index (p.targets m) i < nodes p
-  pub required_is : (n : ℕ) → n < nodes p → p.required n ≡ total (λ m. times n (p.targets m)) (nodes p)
+  pub targets_in : (m i : ℕ) → m < nodes p → i < length (p.targets m)
+      → slice_index (p.targets m) i < nodes p
+  pub required_is : (n : ℕ) → n < nodes p
+      → p.required n ≡ total (λ m. times n (p.targets m)) (nodes p)
   pub required_some : (n : ℕ) → n < nodes p → 0 < p.required n
-  pub tells_driver : (m i : ℕ) → m < nodes p → i < length (p.targets m) → 0 < times p.driver (drop i (p.targets m))
+  pub tells_driver : (m i : ℕ) → m < nodes p → i < length (p.targets m)
+      → 0 < times p.driver (drop i (p.targets m))
   pub tells : (m : ℕ) → m < nodes p → 0 < length (p.targets m)
   pub names : (n : ℕ) → n < nodes p → slice_index (nodes_of p.shape) n ≡ p.number n
   pub named : (n : ℕ) → Contains (nodes_of p.shape) n → p.index n < nodes p
   pub names_driver : p.number p.driver ≡ p.shape.driver
-  pub follows : (m n : ℕ) → m < nodes p → n < nodes p → Precedes p.shape (p.number m) (p.number n)
+  pub follows : (m n : ℕ) → m < nodes p → n < nodes p
+      → Precedes p.shape (p.number m) (p.number n)
       → 0 < times n (p.targets m)

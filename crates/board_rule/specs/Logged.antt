@@ -1,6 +1,7 @@
--- The events of a board in the order of their tickets, against its words and the tickets that the phases keep.
--- Source: PipeWire's documentation, "Graph Scheduling": a node runs once a cycle, after what it depends on; tickets
--- and events are this project's.
+-- The events of a board in the order of their tickets, against its words and the tickets that the
+-- phases keep.
+-- Source: PipeWire's documentation, "Graph Scheduling": a node runs once a cycle, after what it
+-- depends on; tickets and events are this project's.
 use Rattle.std.specs.Prelude.{◌≡◌, ℕ, ◌-◌, ◌<◌, ◌≤◌, ◌⊎◌, true, cond, List, length, slice_get, Some}
 use Rattle.std.specs.Prelude.{count_by, All, Contains, IsBitSet}
 use Rattle.pw_base.specs.declared.event.Event.{Event}
@@ -23,37 +24,47 @@ module _ (p : BoardLayout) where
 
   -- a phase has drawn the ticket and not yet stored its event
   abbrev pub IsHeld : Marks → ℕ → Type 0
-  IsHeld s t = ((n : ℕ) × (n < nodes p) × Contains (s.holds n) t) ⊎ ((e : Event) × Contains s.tells (t, e))
+  IsHeld s t = ((n : ℕ) × (n < nodes p) × Contains (s.holds n) t)
+      ⊎ ((e : Event) × Contains s.tells (t, e))
 
-  -- TICKETS: `log` has the events of all tickets drawn so far, of which those below `base` are of earlier cycles
+  -- TICKETS: `log` has the events of all tickets drawn so far, of which those below `base` are of
+  -- earlier cycles
   pub record Tickets (c base : ℕ) (s : Marks) (log : List Event) (r : Records) : Type 0 where
     pub drawn : r.ticket ≡ length log
-    pub stored : (t : ℕ) (e : Event) → slice_get log t ≡ Some e → (r.event t ≡ event_word_of e)
+    pub stored : (t : ℕ) (e : Event) → slice_get log t ≡ Some e
+        → (r.event t ≡ event_word_of e)
         ⊎ ((r.event t ≡ 0) × IsHeld s t)
     pub unused : (t : ℕ) → length log ≤ t → t < event_count p.shape → r.event t ≡ 0
     pub starts_kept : (n : ℕ) → n < nodes p → s.counts.started n ≡ 1 → (base < s.start n)
         × (slice_get log (s.start n) ≡ Some (Start c (p.number n)))
-    pub finishes_kept : (n : ℕ) → n < nodes p → s.counts.finished n ≡ 1 → (base < s.finish n)
+    pub finishes_kept : (n : ℕ) → n < nodes p → s.counts.finished n ≡ 1
+        → (base < s.finish n)
         × (slice_get log (s.finish n) ≡ Some (Finish c (p.number n)))
-    pub told_kept : (t : ℕ) (e : Event) → Contains s.tells (t, e) → (base ≤ t) × (slice_get log t ≡ Some e)
+    pub told_kept : (t : ℕ) (e : Event) → Contains s.tells (t, e)
+        → (base ≤ t) × (slice_get log t ≡ Some e)
 
   -- EARLIER CYCLES are a legal history, and each late set stands in its word
   pub record Earlier (c late : ℕ) (past : List Event) (r : Records) : Type 0 where
     pub legal : AreJoined (epoch_cycles p.shape (c - first p)) past
-    pub before : All (λ e. (first p ≤ event_cycle e) × (event_cycle e < c) × (event_node e ≤ 63)) past
+    pub before : All (λ e. (first p ≤ event_cycle e) × (event_cycle e < c)
+        × (event_node e ≤ 63)) past
     pub lates : (k set : ℕ) → Contains past (Tick k set) → r.late (k - first p) ≡ set
     pub late_now : c < last p → r.late (c - first p) ≡ late
     pub late_later : (k : ℕ) → c < k → k < last p → r.late (k - first p) ≡ 0
 
-  -- THE CYCLE: the events between Begin and End, by the phases, each after those that come before it
+  -- THE CYCLE: the events between Begin and End, by the phases, each after those that come before
+  -- it
   pub record Inside (c late : ℕ) (k : Counts) (inside : List Event) : Type 0 where
     pub only : All (IsSoFar c late) inside
-    pub starts : (n : ℕ) → n < nodes p → count_by (is_start c (p.number n)) inside ≡ k.started n
-    pub finishes : (n : ℕ) → n < nodes p → count_by (is_finish c (p.number n)) inside ≡ k.finished n
+    pub starts : (n : ℕ) → n < nodes p
+        → count_by (is_start c (p.number n)) inside ≡ k.started n
+    pub finishes : (n : ℕ) → n < nodes p
+        → count_by (is_finish c (p.number n)) inside ≡ k.finished n
     pub ticks : count_by is_tick inside ≡ cond k.checked 1 0
     pub order : (n : ℕ) → n < nodes p → k.finished n ≡ 1
         → start_place inside c (p.number n) < finish_place inside c (p.number n)
-    pub waits : (m n : ℕ) → m < nodes p → n < nodes p → Precedes p.shape (p.number m) (p.number n) → k.started n ≡ 1
+    pub waits : (m n : ℕ) → m < nodes p → n < nodes p
+        → Precedes p.shape (p.number m) (p.number n) → k.started n ≡ 1
         → finish_place inside c (p.number m) < start_place inside c (p.number n)
     pub tick : k.checked ≡ true → tick_place inside < start_place inside c (p.number p.driver)
     pub late_ones : (n : ℕ) → n < 64 → IsBitSet late n → IsLate p.shape inside c n

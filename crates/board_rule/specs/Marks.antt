@@ -1,5 +1,5 @@
--- What the event rule reads of the phases: which tickets of the driver's cycle are drawn, and which are held: drawn,
--- and their events not yet stored.
+-- What the event rule reads of the phases: which tickets of the driver's cycle are drawn, and which
+-- are held: drawn, and their events not yet stored.
 -- Source: this project's own; the phases are those of src/view.rt.
 use Rattle.std.specs.Prelude.{ℕ, Bool, true, false, List, [], ◌∷◌}
 use Rattle.pw_base.specs.declared.event.Event.{Event}

@@ -1,5 +1,5 @@
--- What the phases of a node mean for the activation words: the targets it has yet to lower, the one that it owes,
--- and how far it is.
+-- What the phases of a node mean for the activation words: the targets it has yet to lower, the one
+-- that it owes, and how far it is.
 -- Source: PipeWire's documentation, "Graph Scheduling"; the phases are this project's.
 use Rattle.std.specs.Prelude.{◌≡◌, ℕ, ◌+◌, ◌-◌, ◌<◌, ◌≤◌, Bool, true, false, cond, List, [], take, drop}
 use Rattle.board_rule.specs.declared.view.Phase.{Phase}

@@ -8,7 +8,8 @@ use Rattle.board_rule.specs.View.{resting, no_trail}
 abbrev pub Leaves : {S : Type 0} → (ℕ → View) → Me S View → ℕ → Me S View → Type 0
 Leaves after me found m = (m.0 ≡ after found) × (m.1 ≡ me.1)
 
-abbrev pub Learns : {S : Type 0} → (ℕ → View) → (ℕ → Type 0) → Me S View → ℕ → Me S View → Type 0
+abbrev pub Learns : {S : Type 0} → (ℕ → View) → (ℕ → Type 0) → Me S View → ℕ
+    → Me S View → Type 0
 Learns after says me found m = (m.0 ≡ after found) × (m.1 ≡ me.1) × says found
 
 -- no seat has it: the view of a step that is not picked

@@ -26,7 +26,9 @@ progress_of x = record {
   finish = x.finish;
 }
 
--- the first i of n targets are lowered; after the last without a debt the cycle is over for the node
+-- the first i of n targets are lowered; after the last without a debt the cycle is over for the
+-- node
 abbrev pub progress_settled : ℕ → NodeProgress → ℕ → Bool → NodeProgress
 progress_settled n x i owes = cond owes (record x { told = i; ends = true })
-    (cond (eqb i n) (record x { next = x.next + 1; told = 0; ends = false }) (record x { told = i; ends = true }))
+    (cond (eqb i n) (record x { next = x.next + 1; told = 0; ends = false })
+    (record x { told = i; ends = true }))

@@ -1,7 +1,7 @@
--- The steps on buffers of a node that reads: what each asks of the view of its seat, and the view after it. Links are
--- given by number; `is_driver` is true for the driver's seat.
--- Source: PipeWire's documentation, "SPA Buffers"; spa/node/io.h, spa_io_buffers; the words of pools are this
--- project's own.
+-- The steps on buffers of a node that reads: what each asks of the view of its seat, and the view
+-- after it. Links are given by number; `is_driver` is true for the driver's seat.
+-- Source: PipeWire's documentation, "SPA Buffers"; spa/node/io.h, spa_io_buffers; the words of
+-- pools are this project's own.
 use Rattle.std.specs.Prelude.{◌≡◌, ℕ, ℤ, ◌+◌, ◌-◌, ◌<◌, ◌≤◌, Bool, List, length, Option, slice_index, slice_set as set}
 use mathlib.Core.Option.{some}
 use lib.ListN.{get_elem?}
@@ -29,14 +29,16 @@ module _ (is_driver : Bool) (p : BoardLayout) where
 
   -- the link's reader is a node of the seat, and works
   abbrev pub IsReader : View → ℕ → Type 0
-  IsReader v l = (l < length p.shape.links) × (l < length v.reads) × HasNode is_driver p v (reader_of p l)
+  IsReader v l = (l < length p.shape.links) × (l < length v.reads)
+      × HasNode is_driver p v (reader_of p l)
       × IsRunning is_driver v (reader_of p l) × (l < length v.heard)
 
   -- the area that it uses in this cycle
   abbrev pub read_area : View → ℕ → ℕ
   read_area v l = area_of (link_at p l) (read_cycle v l)
 
-  -- LOADING AN AREA AS READER: not yet done in this cycle. It has data, with the number of a block of the link's pool
+  -- LOADING AN AREA AS READER: not yet done in this cycle. It has data, with the number of a block
+  -- of the link's pool
   abbrev pub LoadsAsReader : View → ℕ → Type 0
   LoadsAsReader v l = IsReader v l × ((read_of v l).loaded ≡ read_cycle v l)
 
@@ -48,9 +50,11 @@ module _ (is_driver : Bool) (p : BoardLayout) where
   abbrev pub stamp_read : View → ℕ → ℕ
   stamp_read v l = read_cycle v l + 1 - delay_at p l
 
-  -- it is that block: in a state of the board in which the seat knew this, it was out with that stamp
+  -- it is that block: in a state of the board in which the seat knew this, it was out with that
+  -- stamp
   abbrev pub IsOfThisCycle : View → ℕ → ℕ → Type 0
-  IsOfThisCycle v l id = (s : State (Option ℕ) View) × (h : Holds p s) × ((i : ℕ) × (get_elem? s.views i ≡ some v))
+  IsOfThisCycle v l id = (s : State (Option ℕ) View) × (h : Holds p s)
+      × ((i : ℕ) × (get_elem? s.views i ≡ some v))
       × (h.whole.ends.blocks (pool_of p l) id ≡ Out (stamp_read v l))
 
   -- over a delayed link the block of the first cycle is number 0
@@ -58,7 +62,8 @@ module _ (is_driver : Bool) (p : BoardLayout) where
   IsZeroAtFirst v l id = delay_at p l ≡ 1 → read_cycle v l ≡ first p → id ≡ 0
 
   abbrev pub IsPublished : View → ℕ → ℕ → Type 0
-  IsPublished v l found = (found ≡ have_data_word (io_id_in found)) × (io_id_in found < (pool_at p (pool_of p l)).blocks)
+  IsPublished v l found = (found ≡ have_data_word (io_id_in found))
+      × (io_id_in found < (pool_at p (pool_of p l)).blocks)
       × IsZeroAtFirst v l (io_id_in found) × IsOfThisCycle v l (io_id_in found)
 
   -- THE READER'S TURN: it has loaded the number of a block in this cycle

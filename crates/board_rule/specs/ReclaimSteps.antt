@@ -1,5 +1,5 @@
--- The step of the node that fills a pool by which it has a block of the pool again: what it asks of the view of its
--- seat, and the view after it. Pools and blocks are given by number.
+-- The step of the node that fills a pool by which it has a block of the pool again: what it asks of
+-- the view of its seat, and the view after it. Pools and blocks are given by number.
 -- Source: PipeWire's documentation, "SPA Buffers"; the words of pools are this project's own.
 use Rattle.std.specs.Prelude.{◌≡◌, ℕ, ◌+◌, ◌-◌, ◌<◌, ◌≤◌, ◌⊎◌, cond, eqb, Contains, slice_index, slice_set as set}
 use Rattle.board_rule.specs.declared.view.BlockView.TheVariants.{Free, Out}
@@ -16,8 +16,8 @@ abbrev pub reclaimed_of : View → ℕ → ℕ
 reclaimed_of v q = slice_index v.reclaimed q
 
 module _ (p : BoardLayout) where
-  -- the stamp of the block that is due in this cycle: it was announced one cycle ago, or two where a link of the pool is
-  -- delayed
+  -- the stamp of the block that is due in this cycle: it was announced one cycle ago, or two where
+  -- a link of the pool is delayed
   abbrev pub due_stamp : View → ℕ → ℕ
   due_stamp v q = fill_cycle p v q + 1 - busy_cycles p (pool_at p q)
 
@@ -37,11 +37,14 @@ module _ (p : BoardLayout) where
   abbrev pub IsUnreclaimed : View → ℕ → ℕ → Type 0
   IsUnreclaimed v q c = first p + 1 < reclaimed_of v q → reclaimed_of v q ≤ c
 
-  -- LOADING THE READERS, where all links of the pool are loaded in this cycle, of the block that is due: it is known to
-  -- be out since then, or it is the one that is out longest, and the pool not yet reclaimed in a cycle that is not the first
+  -- LOADING THE READERS, where all links of the pool are loaded in this cycle, of the block that is
+  -- due: it is known to be out since then, or it is the one that is out longest, and the pool not
+  -- yet reclaimed in a cycle that is not the first
   abbrev pub IsNext : View → ℕ → ℕ → Type 0
-  IsNext v q b = ((block_of p v q b ≡ Out (due_stamp v q)) × (busy_cycles p (pool_at p q) ≤ fill_cycle p v q + 1))
-      ⊎ (IsOldestOfAny v q b × IsUnreclaimed v q (fill_cycle p v q) × (first p < fill_cycle p v q))
+  IsNext v q b = ((block_of p v q b ≡ Out (due_stamp v q))
+      × (busy_cycles p (pool_at p q) ≤ fill_cycle p v q + 1))
+      ⊎ (IsOldestOfAny v q b × IsUnreclaimed v q (fill_cycle p v q)
+      × (first p < fill_cycle p v q))
 
   abbrev pub LoadsReaders : View → ℕ → ℕ → Type 0
   LoadsReaders v q b = HasBlock p v q b × IsLoaded p v q × IsNext v q b
@@ -57,15 +60,18 @@ module _ (p : BoardLayout) where
   abbrev pub IsDue : View → ℕ → ℕ → Type 0
   IsDue v q b = IsOldestOut v q b (due_stamp v q)
 
-  -- it is the block whose number the readers gave back on each link of the pool that is as late as the pool
+  -- it is the block whose number the readers gave back on each link of the pool that is as late as
+  -- the pool
   abbrev pub IsReturned : View → ℕ → ℕ → Type 0
-  IsReturned v q b = (l : ℕ) → Contains (pool_at p q).links l → delay_at p l + 1 ≡ busy_cycles p (pool_at p q)
+  IsReturned v q b = (l : ℕ) → Contains (pool_at p q).links l
+      → delay_at p l + 1 ≡ busy_cycles p (pool_at p q)
       → (write_of v l).stored ≡ fill_cycle p v q → first p < fill_cycle p v q
       → stored_id (write_of v l) (delay_at p l) ≡ b
 
   -- in the second cycle it is block 0 where the pool has a delayed link
   abbrev pub IsZeroAtSecond : View → ℕ → ℕ → Type 0
-  IsZeroAtSecond v q b = busy_cycles p (pool_at p q) ≡ 2 → fill_cycle p v q ≡ first p + 1 → b ≡ 0
+  IsZeroAtSecond v q b = busy_cycles p (pool_at p q) ≡ 2 → fill_cycle p v q ≡ first p + 1
+      → b ≡ 0
 
   abbrev pub FindsDue : View → ℕ → ℕ → Type 0
   FindsDue v q b = IsDue v q b × IsReturned v q b × IsZeroAtSecond v q b

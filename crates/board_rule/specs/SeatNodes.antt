@@ -1,5 +1,5 @@
--- Whose node it is: what a seat must be for a step on a node, and the view with the node in another phase. Nodes are
--- indexes.
+-- Whose node it is: what a seat must be for a step on a node, and the view with the node in another
+-- phase. Nodes are indexes.
 -- Source: this project's own. `is_driver` is true for the driver's seat.
 use Rattle.std.specs.Prelude.{◌≡◌, ◌≢◌, ℕ, ◌<◌, ◌≤◌, Bool, true, false, length}
 use mathlib.Core.Option.{some}
@@ -35,11 +35,13 @@ IsCycle p c = (first p ≤ c) × (c < last p)
 
 -- and it has cycles left
 abbrev pub HasNode : Bool → BoardLayout → View → ℕ → Type 0
-HasNode is_driver p v m = Owns is_driver p v m × IsCycle p (cycle_of is_driver v m) × (m < nodes p)
+HasNode is_driver p v m = Owns is_driver p v m × IsCycle p (cycle_of is_driver v m)
+    × (m < nodes p)
 
 -- or has ended them all
 abbrev pub IsMember : Bool → BoardLayout → View → ℕ → Type 0
-IsMember is_driver p v m = Owns is_driver p v m × ((first p ≤ cycle_of is_driver v m) × (cycle_of is_driver v m ≤ last p))
+IsMember is_driver p v m = Owns is_driver p v m
+    × ((first p ≤ cycle_of is_driver v m) × (cycle_of is_driver v m ≤ last p))
     × (m < nodes p)
 
 -- the view with a follower, or the driver's seat, in another phase

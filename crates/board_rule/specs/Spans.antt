@@ -1,4 +1,5 @@
--- What the buffer rule reads of the phases of nodes, and whose seat knows the ends of a node and its blocks.
+-- What the buffer rule reads of the phases of nodes, and whose seat knows the ends of a node and
+-- its blocks.
 -- Source: this project's own; the phases are those of src/view.rt.
 use Rattle.std.specs.Prelude.{ℕ, ◌+◌, cond, eqb, sum_by, take}
 use Rattle.pw_base.specs.Pools.{pools_of}

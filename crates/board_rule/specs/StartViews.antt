@@ -20,7 +20,16 @@ abbrev pub idle : ℕ → NodeView
 idle c = record { next = c; phase = Idle; start = 0; finish = 0 }
 
 abbrev pub resting : ℕ → DriverView
-resting c = record { cycle = c; drive = Between; checked = false; checks = 0; lates = []; ticket = 0; start = 0; finish = 0 }
+resting c = record {
+  cycle = c;
+  drive = Between;
+  checked = false;
+  checks = 0;
+  lates = [];
+  ticket = 0;
+  start = 0;
+  finish = 0;
+}
 
 abbrev pub no_trail : Trail
 no_trail = record { tries = []; told = []; looks = [] }

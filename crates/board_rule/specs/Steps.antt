@@ -1,5 +1,5 @@
--- The kinds of step: what each asks of the view of its seat, and the view after it. Nodes are indexes; `is_driver` is true
--- for the driver's seat.
+-- The kinds of step: what each asks of the view of its seat, and the view after it. Nodes are
+-- indexes; `is_driver` is true for the driver's seat.
 -- Source: PipeWire's documentation, "Graph Scheduling"; the kinds are this project's.
 use Rattle.std.specs.Prelude.{◌≡◌, ℕ, suc, ◌<◌, true, false, cond, eqb}
 use Rattle.board_rule.specs.declared.view.DriverPhase.{DriverPhase}
@@ -21,14 +21,16 @@ abbrev pub reset_to : ℕ → ℕ → DriverPhase
 reset_to n i = cond (eqb i n) (drives.Kick 0 false) (drives.Reset i)
 
 abbrev pub StoresPending : BoardLayout → View → Type 0
-StoresPending p v = HasNode true p v p.driver × (v.lead.drive ≡ drives.Reset (reset_of v.lead.drive))
+StoresPending p v = HasNode true p v p.driver
+    × (v.lead.drive ≡ drives.Reset (reset_of v.lead.drive))
     × (reset_of v.lead.drive < nodes p)
 
 abbrev pub pending_stored : View → View
 pending_stored v = driven v (drives.Half (reset_of v.lead.drive)) v.trail
 
 abbrev pub StoresStatus : BoardLayout → View → Type 0
-StoresStatus p v = HasNode true p v p.driver × (v.lead.drive ≡ drives.Half (reset_of v.lead.drive))
+StoresStatus p v = HasNode true p v p.driver
+    × (v.lead.drive ≡ drives.Half (reset_of v.lead.drive))
     × (reset_of v.lead.drive < nodes p)
 
 abbrev pub status_stored : BoardLayout → View → View

@@ -1,4 +1,5 @@
--- Lowering a target, and triggering it: what each asks of the view of its seat, and the view after it. Nodes are indexes.
+-- Lowering a target, and triggering it: what each asks of the view of its seat, and the view after
+-- it. Nodes are indexes.
 -- Source: PipeWire's documentation, "Graph Scheduling"; spa/graph/graph.h, spa_graph_link_trigger.
 use Rattle.std.specs.Prelude.{ℕ, suc, ◌+◌, ◌<◌, Bool, true, false, cond, eqb, ◌∷◌, length, slice_index}
 use Rattle.board_rule.specs.declared.view.Phase.{Phase}
@@ -38,14 +39,16 @@ abbrev pub Lowers : Bool → BoardLayout → View → ℕ → Type 0
 Lowers true p v m = HasNode true p v m × CanKick (length (p.targets m)) v.lead.drive
 Lowers false p v m = HasNode false p v m × CanTell (length (p.targets m)) (node_of v m).phase
 
--- the first i of n targets are lowered, and the last of these may be owed; after the last without a debt the cycle is over
--- for the node
+-- the first i of n targets are lowered, and the last of these may be owed; after the last without a
+-- debt the cycle is over for the node
 abbrev pub settled : ℕ → NodeView → ℕ → Bool → NodeView
 settled n x i owes = cond owes (record x { phase = Telling i true })
-    (cond (eqb i n) (record x { next = x.next + 1; phase = Idle }) (record x { phase = Telling i false }))
+    (cond (eqb i n) (record x { next = x.next + 1; phase = Idle })
+    (record x { phase = Telling i false }))
 
 abbrev pub kicked : ℕ → ℕ → Bool → DriverPhase
-kicked n i owes = cond owes (drives.Kick i true) (cond (eqb i n) drives.Waiting (drives.Kick i false))
+kicked n i owes = cond owes (drives.Kick i true)
+    (cond (eqb i n) drives.Waiting (drives.Kick i false))
 
 abbrev pub settles : Bool → BoardLayout → View → ℕ → ℕ → Bool → Trail → View
 settles true p v m i owes t = driven v (kicked (length (p.targets m)) i owes) t

@@ -1,5 +1,5 @@
--- Drawing a ticket: what it asks of the view of its seat, and the view after it; and what storing its event asks of
--- the phase. Nodes are indexes.
+-- Drawing a ticket: what it asks of the view of its seat, and the view after it; and what storing
+-- its event asks of the phase. Nodes are indexes.
 -- Source: this project's own.
 use Rattle.std.specs.Prelude.{◌≡◌, ℕ, ◌+◌, Bool, true, false, []}
 use Rattle.board_rule.specs.declared.view.Phase.{Phase}
@@ -14,8 +14,8 @@ use Rattle.board_rule.specs.Layout.{BoardLayout}
 use Rattle.board_rule.specs.View.{node_of, view_node, view_lead}
 use Rattle.board_rule.specs.Steps.{HasNode, untold}
 
--- DRAWING A TICKET: for a Start or a Finish of the node; the driver's seat also for a Begin, an End, and a Tick where
--- the cycle has had no check
+-- DRAWING A TICKET: for a Start or a Finish of the node; the driver's seat also for a Begin, an
+-- End, and a Tick where the cycle has had no check
 abbrev pub CanDraw : Phase → Type 0
 CanDraw Awake = Unit {0}
 CanDraw Done = Unit {0}
@@ -54,7 +54,8 @@ draw_trail t drives.Waiting = record t { looks = [] }
 draw_trail t _ = t
 
 abbrev pub draws : Bool → View → ℕ → ℕ → View
-draws true v m ticket = view_lead v (lead_draws v.lead ticket v.lead.drive) (draw_trail v.trail v.lead.drive)
+draws true v m ticket = view_lead v (lead_draws v.lead ticket v.lead.drive)
+    (draw_trail v.trail v.lead.drive)
 draws false v m ticket = view_node v m (node_draws (node_of v m) ticket (node_of v m).phase) v.trail
 
 -- STORING AN EVENT: its ticket is drawn, and for a Tick the late set is stored

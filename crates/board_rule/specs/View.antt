@@ -12,10 +12,10 @@ pub use Rattle.board_rule.specs.StartViews.{Samples, idle, resting, unwritten, u
 pub use Rattle.board_rule.specs.StartViews.{first_write, is_delayed, first_block, blocks_at_first, first_blocks}
 pub use Rattle.board_rule.specs.StartViews.{loop_view}
 
--- what all seats know together; seat_at gives for a number the index of its view among the table's views. The ends of
--- links and the blocks, the events of
--- earlier cycles, those between Begin and End of the driver's cycle so far, the late set that is stored in it, and
--- what its last check has loaded
+-- what all seats know together; seat_at gives for a number the index of its view among the table's
+-- views. The ends of links and the blocks, the events of
+-- earlier cycles, those between Begin and End of the driver's cycle so far, the late set that is
+-- stored in it, and what its last check has loaded
 pub record Whole : Type 0 where
   pub lead : DriverView
   pub split : ℕ
@@ -40,7 +40,8 @@ split_off e v = record v { split = suc v.split; expect = e }
 abbrev pub node_of : View → ℕ → NodeView
 node_of v m = slice_index_or v.nodes m (idle 0)
 
--- the whole after a step of a follower or of the driver's seat, and the view of the seat that made it
+-- the whole after a step of a follower or of the driver's seat, and the view of the seat that made
+-- it
 abbrev pub with_node : Whole → ℕ → NodeView → Whole
 with_node g m x = record g { nodes = put g.nodes m x }
 

@@ -9,8 +9,8 @@ use crate::rows::Rows;
 use crate::rule::BoardTable;
 use pw_base::{Event, Room, Shape};
 
-/// The words of one epoch, in one table of atomic words with no lock round it. Threads share it by reference, and each
-/// steps on it with a seat of its own.
+/// The words of one epoch, in one table of atomic words with no lock round it. Threads share it by
+/// reference, and each steps on it with a seat of its own.
 #[derive(Drop)]
 pub struct Board {
     pub(crate) table: BoardTable,
@@ -22,7 +22,8 @@ pub struct Board {
     ghost placed: { HasIndexes board_shape.shape },
     ghost about: { table.shared.key ≡ board_shape },
     ghost words: { table.shared.table_id.words ≡ word_count board_shape.shape },
-    ghost room: { event_place board_shape.shape (event_count board_shape.shape) ≤ word_count board_shape.shape },
+    ghost room: { event_place board_shape.shape (event_count board_shape.shape)
+        ≤ word_count board_shape.shape },
     ghost fits: { word_count board_shape.shape < 2 ^ 64 },
     ghost slots: { table.shared.table_id.slots ≡ 0 },
     ghost tied: { HasRows board_shape.shape rows },
@@ -40,8 +41,10 @@ impl Board {
 
     /// How many targets a node of the shape has.
     pub fn target_count(&self, node: u32) -> usize
-        requires { (layout_of self.now.board_shape).index node < nodes (layout_of self.now.board_shape) }
-        ensures { let p = layout_of self.now.board_shape in result ≡ length (p.targets (p.index node)) }
+        requires { (layout_of self.now.board_shape).index node
+            < nodes (layout_of self.now.board_shape) }
+        ensures { let p = layout_of self.now.board_shape in
+            result ≡ length (p.targets (p.index node)) }
     {
         self.targets_at(self.index_of(node))
     }
@@ -72,7 +75,8 @@ impl Board {
 
     /// The index of a node.
     pub(crate) fn index_of(&self, node: u32) -> usize
-        requires { (layout_of self.now.board_shape).index node < nodes (layout_of self.now.board_shape) }
+        requires { (layout_of self.now.board_shape).index node
+            < nodes (layout_of self.now.board_shape) }
         ensures { result ≡ (layout_of self.now.board_shape).index node }
     {
         self.rows.indexes[node as usize]
@@ -154,7 +158,8 @@ impl Board {
         requires { past < self.now.board_shape.shape.cycles }
         ensures is { result ≡ late_place self.now.board_shape.shape past }
         ensures there { result < self.now.table.shared.table_id.words }
-        ensures later { nodes (layout_of self.now.board_shape) + nodes (layout_of self.now.board_shape) < result }
+        ensures later { nodes (layout_of self.now.board_shape) + nodes
+            (layout_of self.now.board_shape) < result }
     {
         1 + 2 * self.nodes() + self.areas() + past
     }
@@ -177,7 +182,8 @@ impl Board {
         requires { ticket < event_count self.now.board_shape.shape }
         ensures is { result ≡ event_place self.now.board_shape.shape ticket }
         ensures there { result < self.now.table.shared.table_id.words }
-        ensures later { nodes (layout_of self.now.board_shape) + nodes (layout_of self.now.board_shape) < result }
+        ensures later { nodes (layout_of self.now.board_shape) + nodes
+            (layout_of self.now.board_shape) < result }
     {
         1 + 2 * self.nodes()
             + self.areas()
@@ -197,7 +203,8 @@ impl Board {
 
     /// How many cycles of the epoch come before one.
     pub(crate) fn past(&self, cycle: u64) -> u32
-        requires { (first (layout_of self.now.board_shape) ≤ cycle) × (cycle ≤ last (layout_of self.now.board_shape)) }
+        requires { (first (layout_of self.now.board_shape) ≤ cycle)
+            × (cycle ≤ last (layout_of self.now.board_shape)) }
         ensures { first (layout_of self.now.board_shape) + result ≡ cycle }
     {
         (cycle - u64::from(self.board_shape.shape.first)) as u32

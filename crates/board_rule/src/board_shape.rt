@@ -1,8 +1,8 @@
 //! What a board is made for.
 use pw_base::{Items, Shape};
 
-/// A shape, and the number of the loop's seat that has each node, by index in the shape. The driver's entry is not
-/// looked at. Loops' seats have the numbers below `seats`.
+/// A shape, and the number of the loop's seat that has each node, by index in the shape. The
+/// driver's entry is not looked at. Loops' seats have the numbers below `seats`.
 #[derive(Drop)]
 pub struct BoardShape {
     pub shape: Shape,

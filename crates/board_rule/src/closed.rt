@@ -5,8 +5,8 @@ use crate::board_shape::BoardShape;
 use crate::rule::BoardToken;
 use pw_base::{Event, Items};
 
-/// A closed board: what it was made for, the samples that its seats agreed on, and the events of its whole epoch in the
-/// order of their tickets. Only `Board::close` makes one.
+/// A closed board: what it was made for, the samples that its seats agreed on, and the events of
+/// its whole epoch in the order of their tickets. Only `Board::close` makes one.
 #[derive(Drop)]
 pub struct Closed {
     pub(crate) board_shape: BoardShape,

@@ -62,10 +62,12 @@ fn history(
 ) -> Items<Event>
     requires full { (k : ℕ) → 0 ≤ k → k < words.now.words.len
         → slice_index_or words.now.words.filled k false ≡ true }
-    requires recorded { ((all : List Event) × AreRecorded first lates events all words.now.words.items) }
+    requires recorded { ((all : List Event)
+        × AreRecorded first lates events all words.now.words.items) }
     requires empty { room.list ≡ [] }
     requires spare { slice_index words.now.words.items 0 ≤ room.spare }
-    ensures { (all : List Event) → AreRecorded first lates events all words.now.words.items → result ≡ all }
+    ensures { (all : List Event) → AreRecorded first lates events all words.now.words.items
+        → result ≡ all }
 {
     let mut room = room;
     for t in 0..words.word(0) {
@@ -76,16 +78,16 @@ fn history(
 }
 
 impl Board {
-    /// Ends the board: its words become the list of its events, in memory that `new` took. Condition: the seat is the
-    /// board's driver's, and has ended all cycles.
+    /// Ends the board: its words become the list of its events, in memory that `new` took.
+    /// Condition: the seat is the board's driver's, and has ended all cycles.
     pub fn close(self, seat: DriverSeat) -> Closed
         requires table { IsOn self seat.table }
         requires ended { HasEndedAll (layout_of self.board_shape) seat.knows }
 
         ensures board_shape { result.board_shape ≡ self.board_shape }
         ensures expect { expected result ≡ seat.knows.expect }
-        // The events are those of the tickets, in their order, and a legal history of the epoch, with one Tick for each check
-        // that the seat made.
+        // The events are those of the tickets, in their order, and a legal history of the epoch,
+        // with one Tick for each check that the seat made.
         ensures order { AreInTicketOrder (layout_of self.board_shape) seat.knows result.events }
         ensures legal { IsLegalHistory (self.board_shape.shape ∷ []) result.events }
         ensures ticks { count_by is_tick result.events ≡ seat.knows.lead.checks }

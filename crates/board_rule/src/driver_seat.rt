@@ -19,7 +19,8 @@ use crate::view::ReadView;
 use pw_base::io_id_of;
 use std::marker::{Brand, Model};
 
-/// The right of the driver's thread to step on a board: it begins, checks and ends each cycle and runs the driver's node.
+/// The right of the driver's thread to step on a board: it begins, checks and ends each cycle and
+/// runs the driver's node.
 #[derive(Drop)]
 pub struct DriverSeat {
     pub(crate) token: BoardToken,
@@ -178,7 +179,8 @@ impl BoardSeat for DriverSeat {
 }
 
 impl DriverSeat {
-    /// Stores the required count of the node that is reset next in its pending word. No memory, no wait, no failure.
+    /// Stores the required count of the node that is reset next in its pending word. No memory, no
+    /// wait, no failure.
     pub fn store_pending(&mut self, board: &Board)
         requires table { IsOn board.now self.old.table }
         requires phase { StoresPending (layout board.now) self.old.knows }
@@ -189,7 +191,8 @@ impl DriverSeat {
         activation::reset_pending::<Brand>(board, &mut self.token, at);
     }
 
-    /// Stores NOT_TRIGGERED of its cycle in the status word of the node whose pending word is reset.
+    /// Stores NOT_TRIGGERED of its cycle in the status word of the node whose pending word is
+    /// reset.
     pub fn store_not_triggered(&mut self, board: &Board)
         requires table { IsOn board.now self.old.table }
         requires phase { StoresStatus (layout board.now) self.old.knows }
@@ -214,7 +217,8 @@ impl DriverSeat {
         event::look::<Brand>(board, &mut self.token, at)
     }
 
-    /// Stores the late set of a check: the followers whose status word was not FINISHED of its cycle. Bit n is node n.
+    /// Stores the late set of a check: the followers whose status word was not FINISHED of its
+    /// cycle. Bit n is node n.
     pub fn store_late(&mut self, board: &Board, late: u64)
         requires table { IsOn board.now self.old.table }
         requires phase { StoresLate (layout board.now) self.old.knows late }

@@ -1,4 +1,5 @@
-//! Where the words of links and pools stand, and what their rows say. Links and pools are given by number, nodes by index.
+//! Where the words of links and pools stand, and what their rows say. Links and pools are given by
+//! number, nodes by index.
 ghost use Rattle.board_rule.specs.OnBoard.{layout};
 ghost use Rattle.std.specs.Prelude.{◌≡◌, ◌<◌, length};
 ghost use Rattle.pw_base.specs.Layout.{io_place, readers_place, sample_place};
@@ -91,7 +92,8 @@ impl Board {
     /// Where the area of a link stands that has the block of a stamp.
     pub(crate) fn area_word(&self, link: u32, stamp: u64) -> usize
         requires { link < length self.now.board_shape.shape.links }
-        ensures is { result ≡ io_place self.now.board_shape.shape link (area_of (link_at (layout self.now) link) stamp) }
+        ensures is { result ≡ io_place self.now.board_shape.shape link
+            (area_of (link_at (layout self.now) link) stamp) }
         ensures there { result < self.now.table.shared.table_id.words }
     {
         let row = self.rows.links[link as usize];
@@ -163,8 +165,10 @@ impl Board {
         requires inside { link < length self.now.board_shape.shape.links }
         requires block { let p = layout self.now in id < (pool_at p (pool_of p link)).blocks }
         requires place { let p = layout self.now in place < (pool_at p (pool_of p link)).words }
-        requires first { first ≡ sample_place self.now.board_shape.shape (pool_of (layout self.now) link) id 0 }
-        ensures is { result ≡ sample_place self.now.board_shape.shape (pool_of (layout self.now) link) id place }
+        requires first { first ≡ sample_place self.now.board_shape.shape
+            (pool_of (layout self.now) link) id 0 }
+        ensures is { result ≡ sample_place self.now.board_shape.shape
+            (pool_of (layout self.now) link) id place }
         ensures there { result < self.now.table.shared.table_id.words }
     {
         first + place as usize
@@ -174,7 +178,8 @@ impl Board {
     pub(crate) fn link_readers_word(&self, link: u32, id: u32) -> usize
         requires inside { link < length self.now.board_shape.shape.links }
         requires block { let p = layout self.now in id < (pool_at p (pool_of p link)).blocks }
-        ensures is { result ≡ readers_place self.now.board_shape.shape (pool_of (layout self.now) link) id }
+        ensures is { result ≡ readers_place self.now.board_shape.shape
+            (pool_of (layout self.now) link) id }
         ensures there { result < self.now.table.shared.table_id.words }
     {
         let row = self.rows.links[link as usize];

@@ -20,8 +20,8 @@ fn push_two(words: &mut Items<u64>, one: u64, two: u64) -> Result<(), Memory>
     words.push(two)
 }
 
-// The io areas of a link, behind the words. An area asks for data and names no block, but that of a delayed link that is
-// read in the first cycle has data and names block 0.
+// The io areas of a link, behind the words. An area asks for data and names no block, but that of a
+// delayed link that is read in the first cycle has data and names block 0.
 fn push_area(words: &mut Items<u64>, link: &ShapeLink, first: u32) -> Result<(), Memory>
     ensures { OnOk result (words.new ≡ words.old ++ io_start first link.now) }
 {
@@ -61,7 +61,8 @@ pub(crate) fn delayed_readers(links: &[ShapeLink], port: PortId) -> u64
 
 // A readers word, and as many zeros as the pool has further words.
 fn push_zeros(words: &mut Items<u64>, pool: &PoolShape, readers: u64) -> Result<(), Memory>
-    ensures { OnOk result (words.new ≡ words.old ++ readers ∷ replicate (pool_words pool.now - 1) 0) }
+    ensures { OnOk result (words.new
+        ≡ words.old ++ readers ∷ replicate (pool_words pool.now - 1) 0) }
 {
     let count = pool.blocks as usize * (1 + pool.words as usize);
     words.push(readers)?;
@@ -82,7 +83,8 @@ fn push_pool(words: &mut Items<u64>, shape: &Shape, pool: &PoolShape) -> Result<
 // The words of all pools.
 fn push_pools(alloc: Global, words: &mut Items<u64>, shape: &Shape) -> Result<(), Memory>
     requires pooled { IsPooledShape shape.now }
-    ensures { OnOk result (words.new ≡ words.old ++ flat_map (pool_start shape.now) (pools_of shape.now)) }
+    ensures { OnOk result (words.new
+        ≡ words.old ++ flat_map (pool_start shape.now) (pools_of shape.now)) }
 {
     let pools = pools_of(alloc, shape)?;
     for pool in pools.as_slice() {

@@ -15,8 +15,8 @@ pub enum Due {
     End,
 }
 
-/// The driver's seat in its cycle: how many nodes it has reset, or targets lowered; the event that is due; and the
-/// tickets that it drew last, `start` and `finish` for its own node.
+/// The driver's seat in its cycle: how many nodes it has reset, or targets lowered; the event that
+/// is due; and the tickets that it drew last, `start` and `finish` for its own node.
 #[derive(Clone, Copy, Drop)]
 pub struct DriverProgress {
     pub(crate) cycle: u64,

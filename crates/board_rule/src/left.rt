@@ -1,4 +1,5 @@
-//! How many dependencies of a node have yet to lower it: the count that its pending word holds in a cycle.
+//! How many dependencies of a node have yet to lower it: the count that its pending word holds in a
+//! cycle.
 ghost use Rattle.std.specs.Prelude.{◌≡◌, ◌+◌, ◌<◌, ◌≤◌, false, true, length, All, Contains, slice_index_or, slice_set};
 ghost use Rattle.std.specs.List.Sorted.{IsStrictlyIncreasing};
 ghost use Rattle.board_rule.specs.Left.{left_of, untold};
@@ -12,7 +13,8 @@ fn untold_at(told: &[bool], m: usize) -> usize
     if told[m] { 0 } else { 1 }
 }
 
-/// The count for a list of dependencies, of which `told` says by index which have told. Takes no memory.
+/// The count for a list of dependencies, of which `told` says by index which have told. Takes no
+/// memory.
 pub fn left_of(dependencies: &[usize], told: &[bool]) -> usize
     requires { All (λ m. m < length told.now) dependencies.now }
     ensures { result ≡ left_of (untold told.now) dependencies.now }
@@ -31,16 +33,19 @@ pub fn left_at_start(dependencies: &[usize]) -> usize
     dependencies.len()
 }
 
-/// The node `m` tells. Of each node that depends on it the count falls by one, of all others it stays.
+/// The node `m` tells. Of each node that depends on it the count falls by one, of all others it
+/// stays.
 pub fn tell(_dependencies: &[usize], told: &mut [bool], m: usize)
     requires ascend { IsStrictlyIncreasing _dependencies.now }
     requires inside { m < length told.old }
     requires first { slice_index_or told.old m false ≡ false }
     ensures told { told.new ≡ slice_set told.old m true }
     ensures falls { Contains _dependencies.now m
-        → left_of (untold told.old) _dependencies.now ≡ left_of (untold told.new) _dependencies.now + 1 }
+        → left_of (untold told.old) _dependencies.now
+        ≡ left_of (untold told.new) _dependencies.now + 1 }
     ensures stays { (Contains _dependencies.now m → ⊥)
-        → left_of (untold told.new) _dependencies.now ≡ left_of (untold told.old) _dependencies.now }
+        → left_of (untold told.new) _dependencies.now
+        ≡ left_of (untold told.old) _dependencies.now }
 {
     told[m] = true;
 }

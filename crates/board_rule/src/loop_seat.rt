@@ -32,7 +32,8 @@ impl Model for LoopSeat {
 
     ghost view = { λ s. record { table = s.token.table_id; knows = s.token.me.0 } };
 
-    ghost invariant = { λ s. IsLoopSeat s.token.me.0 s.nodes.items s.writes.items s.reads.items s.blocks.items
+    ghost invariant = { λ s. IsLoopSeat s.token.me.0 s.nodes.items s.writes.items s.reads.items
+        s.blocks.items
         s.woke };
 }
 

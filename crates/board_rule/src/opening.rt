@@ -164,7 +164,8 @@ impl DriverSeat {
         requires expect { 0 < self.old.knows.split → E.expect ≡ self.old.knows.expect }
         requires samples { IsTable (layout board.now) E.expect }
         ensures { IfOk result (λ s. (self.new.table ≡ self.old.table)
-            × (self.new.knows ≡ split_off E.expect self.old.knows) × (s.table ≡ self.old.table)
+            × (self.new.knows ≡ split_off E.expect self.old.knows)
+            × (s.table ≡ self.old.table)
             × (s.knows ≡ loop_view (layout board.now) E.expect self.old.knows.split)) }
     {
         let shape = board.shape();
@@ -224,7 +225,8 @@ fn board_shape_of(
     seat_of: &Items<u32>,
     seats: u32,
 ) -> Result<BoardShape, Memory>
-    ensures { IfOk result (λ board_shape. board_shape ≡ record { shape = shape.now; seat_of = seat_of.now; seats = seats }) }
+    ensures { IfOk result (λ board_shape. board_shape
+        ≡ record { shape = shape.now; seat_of = seat_of.now; seats = seats }) }
 {
     Ok(BoardShape {
         shape: copy_shape(alloc, shape)?,
@@ -246,7 +248,8 @@ impl Board {
     fn lay_out(alloc: Global, board_shape: BoardShape) -> Result<(Board, DriverSeat), Memory>
         requires pooled { IsPooledShape board_shape.shape }
         requires seats { HasSeats board_shape }
-        ensures { IfOk result (λ t. (t.0.board_shape ≡ board_shape) × (t.1.table ≡ t.0.table.shared.table_id)
+        ensures { IfOk result (λ t. (t.0.board_shape ≡ board_shape)
+            × (t.1.table ≡ t.0.table.shared.table_id)
             × (t.1.knows ≡ first_view (layout_of board_shape))) }
     {
         let spare = Items::new(alloc).into_room(event_count(&board_shape.shape))?;
@@ -284,9 +287,9 @@ impl Board {
     }
 
     /// A board for a shape, the driver's seat and the loops' seats in the order of their numbers.
-    /// `seat_of` gives the loop's seat of each node by index in the shape, below `seats`; the driver's entry is not
-    /// looked at. All seats agree on the samples of `E`, which the caller names at the call: for each cycle and pool one
-    /// quantum of 16-bit samples.
+    /// `seat_of` gives the loop's seat of each node by index in the shape, below `seats`; the
+    /// driver's entry is not looked at. All seats agree on the samples of `E`, which the caller
+    /// names at the call: for each cycle and pool one quantum of 16-bit samples.
     ///
     /// Memory: the words of the shape once, and for each seat a view of each node, link and block.
     pub fn new<E: Expect>(
@@ -296,14 +299,19 @@ impl Board {
         seats: u32,
     ) -> Result<(Board, DriverSeat, Items<LoopSeat>), Memory>
         requires pooled { IsPooledShape shape.now }
-        requires seats { HasSeats record { shape = shape.now; seat_of = seat_of.now; seats = seats } }
-        requires samples { IsTable (layout_of record { shape = shape.now; seat_of = seat_of.now; seats = seats })
+        requires seats { HasSeats
+            record { shape = shape.now; seat_of = seat_of.now; seats = seats } }
+        requires samples { IsTable
+            (layout_of record { shape = shape.now; seat_of = seat_of.now; seats = seats })
             E.expect }
 
         ensures board_shape { IfOk result (λ t. t.0.board_shape
             ≡ record { shape = shape.now; seat_of = seat_of.now; seats = seats }) }
         ensures driver { IfOk result (λ t. t.1
-            ≡ record { table = t.0.table.shared.table_id; knows = driver_view (layout_of t.0.board_shape) E.expect seats }) }
+            ≡ record {
+              table = t.0.table.shared.table_id;
+              knows = driver_view (layout_of t.0.board_shape) E.expect seats;
+            }) }
         ensures count { IfOk result (λ t. length t.2 ≡ seats) }
         ensures loops { IfOk result (λ t. (k : ℕ) → k < seats
             → slice_get t.2 k ≡ Some record {

@@ -1,4 +1,5 @@
-//! What the seat of a loop keeps of a follower to step by. The phases themselves stand in contracts alone.
+//! What the seat of a loop keeps of a follower to step by. The phases themselves stand in contracts
+//! alone.
 ghost use Rattle.board_rule.specs.OnBoard.{layout};
 ghost use Rattle.std.specs.Prelude.{◌≡◌, ◌<◌, ◌≤◌, ◌^◌, true, cond, eqb};
 ghost use Rattle.pw_base.specs.declared.event.Event.TheVariants.{Start, Finish};
@@ -10,8 +11,8 @@ ghost use Rattle.board_rule.specs.Progress.{progress_settled};
 use crate::board::Board;
 use pw_base::Event;
 
-/// A follower in its cycle `next`: how many targets it has lowered, whether FINISHED is stored, and the tickets that it
-/// drew last.
+/// A follower in its cycle `next`: how many targets it has lowered, whether FINISHED is stored, and
+/// the tickets that it drew last.
 #[derive(Clone, Copy, Drop)]
 pub struct NodeProgress {
     pub(crate) next: u64,
@@ -78,7 +79,8 @@ pub(crate) fn node_event(ends: bool, cycle: u32, node: u32) -> Event
 /// The nodes that are woken, with a target more where its pending word was found at 1.
 pub(crate) fn wake(board: &Board, woke: u64, target: usize, found: u64) -> u64
     requires { target < nodes (layout board.now) }
-    ensures { result ≡ cond (eqb found 1) (with_bit woke ((layout board.now).number target)) woke }
+    ensures { result ≡ cond (eqb found 1)
+        (with_bit woke ((layout board.now).number target)) woke }
 {
     if found == 1 {
         woke | 1 << board.number(target)

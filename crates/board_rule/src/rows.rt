@@ -10,8 +10,9 @@ ghost use Rattle.board_rule.specs.Rows.{IsLinkRow, HasLinkRows, IsPoolRow, HasPo
 use pw_base::{Memory, PoolShape, PortId, Shape, ShapeLink, is_same_port, pools_of};
 use std::alloc::{AllocError, Global};
 
-/// A link: the indexes of its writer and of its reader, the number of the pool that it reads, where its first area stands, and whether it has a second;
-/// where the words of its pool begin, and how many each block has with its readers word.
+/// A link: the indexes of its writer and of its reader, the number of the pool that it reads, where
+/// its first area stands, and whether it has a second; where the words of its pool begin, and how
+/// many each block has with its readers word.
 #[derive(Clone, Copy, Drop)]
 pub struct LinkRow {
     pub(crate) writer: usize,
@@ -23,8 +24,9 @@ pub struct LinkRow {
     pub(crate) stride: usize,
 }
 
-/// A pool: the node that fills it, by index and by number; how many blocks it has, how many words each has, and how many links read
-/// it; where a view has its first block, and where its words stand.
+/// A pool: the node that fills it, by index and by number; how many blocks it has, how many words
+/// each has, and how many links read it; where a view has its first block, and where its words
+/// stand.
 #[derive(Clone, Copy, Drop)]
 pub struct PoolRow {
     pub(crate) filler: usize,
@@ -36,8 +38,9 @@ pub struct PoolRow {
     pub(crate) base: usize,
 }
 
-/// The driver's index; the index of each number below 64, or the number of nodes where the shape has no such node;
-/// of each index the required count and the indexes of the targets; each link, and each pool.
+/// The driver's index; the index of each number below 64, or the number of nodes where the shape
+/// has no such node; of each index the required count and the indexes of the targets; each link,
+/// and each pool.
 #[derive(Drop)]
 pub struct Rows {
     pub(crate) driver: usize,
@@ -145,7 +148,8 @@ fn pool_of(pools: &[PoolShape], port: PortId) -> usize
 // The row of a pool, by its number.
 fn row_at(shape: &Shape, rows: &[PoolRow], pool: usize) -> PoolRow
     requires rows { HasPoolRows shape.now rows.now }
-    requires small { (q : ℕ) → q < length (pools_of shape.now) → (pool_in shape.now q).words < 2 ^ 32 }
+    requires small { (q : ℕ) → q < length (pools_of shape.now)
+        → (pool_in shape.now q).words < 2 ^ 32 }
     requires inside { pool < length (pools_of shape.now) }
     ensures base { result.base ≡ base_of shape.now pool }
     ensures words { result.words ≡ (pool_in shape.now pool).words }
@@ -164,8 +168,10 @@ fn link_row(
 ) -> LinkRow
     requires pools { pools.now ≡ pools_of shape.now }
     requires rows { HasPoolRows shape.now rows.now }
-    requires small { (q : ℕ) → q < length (pools_of shape.now) → (pool_in shape.now q).words < 2 ^ 32 }
-    requires has { position_or_len (λ x. is_same_port x.port link.from) (pools_of shape.now) < length
+    requires small { (q : ℕ) → q < length (pools_of shape.now)
+        → (pool_in shape.now q).words < 2 ^ 32 }
+    requires has { position_or_len (λ x. is_same_port x.port link.from) (pools_of shape.now)
+        < length
         (pools_of shape.now) }
     ensures { IsLinkRow shape.now link area result }
 {
@@ -227,7 +233,8 @@ fn pool_row(shape: &Shape, pool: &PoolShape, first: usize, base: usize) -> PoolR
     }
 }
 
-// The rows of all pools, whose words stand from `base` on. All words of the shape are fewer than `words`.
+// The rows of all pools, whose words stand from `base` on. All words of the shape are fewer than
+// `words`.
 fn pools_rows(
     alloc: Global,
     shape: &Shape,
@@ -251,8 +258,8 @@ fn pools_rows(
     Ok(rows)
 }
 
-/// The rows of a shape whose board has `words` words. Cost: a look at each node for each target, each link and each
-/// number below 64, and at each pool for each link.
+/// The rows of a shape whose board has `words` words. Cost: a look at each node for each target,
+/// each link and each number below 64, and at each pool for each link.
 pub(crate) fn rows_of(alloc: Global, shape: &Shape, words: usize) -> Result<Rows, Memory>
     requires pooled { IsPooledShape shape.now }
     requires placed { HasIndexes shape.now }

@@ -16,9 +16,10 @@ ghost use Rattle.board_rule.specs.ReaderSteps.{LowersReaders, readers_lowered, s
 
 use crate::board::Board;
 
-/// A seat at a board. `is_driver` is true for the driver's, whose node is the driver's alone; `table` is the board that the
-/// seat belongs to, and `knows` what it knows, its number among other things. Each step is one sequentially consistent
-/// operation on one word; it takes no memory, does not wait and does not fail. Nodes are given by their numbers.
+/// A seat at a board. `is_driver` is true for the driver's, whose node is the driver's alone;
+/// `table` is the board that the seat belongs to, and `knows` what it knows, its number among other
+/// things. Each step is one sequentially consistent operation on one word; it takes no memory, does
+/// not wait and does not fail. Nodes are given by their numbers.
 pub trait BoardSeat {
     ghost is_driver: { Bool };
 
@@ -26,9 +27,11 @@ pub trait BoardSeat {
 
     ghost knows: { Self → View };
 
-    /// How many cycles of the epoch the node has ended; on the driver's seat, how many the seat has ended.
+    /// How many cycles of the epoch the node has ended; on the driver's seat, how many the seat has
+    /// ended.
     fn ended(&self, board: &Board, node: u32) -> u32
-        requires node { let p = layout board.now in IsMember is_driver p (knows self.now) (p.index node) }
+        requires node { let p = layout board.now in
+            IsMember is_driver p (knows self.now) (p.index node) }
         ensures { let p = layout board.now in
             first p + result ≡ cycle_of is_driver (knows self.now) (p.index node) };
 
@@ -36,11 +39,12 @@ pub trait BoardSeat {
     fn woke(&self) -> u64
         ensures { result ≡ woke_of (knows self.now).trail.told };
 
-    /// Lowers the next target of the node, and answers the pending word that it found. Where that was 1, the seat owes
-    /// the target its trigger.
+    /// Lowers the next target of the node, and answers the pending word that it found. Where that
+    /// was 1, the seat owes the target its trigger.
     fn lower_pending(&mut self, board: &Board, node: u32) -> u64
         requires table { IsOn board.now (table self.old) }
-        requires phase { let p = layout board.now in Lowers is_driver p (knows self.old) (p.index node) }
+        requires phase { let p = layout board.now in
+            Lowers is_driver p (knows self.old) (p.index node) }
         ensures table { table self.new ≡ table self.old }
         ensures knows { let p = layout board.now in
             knows self.new ≡ lowered is_driver p (knows self.old) (p.index node) result }
@@ -49,15 +53,18 @@ pub trait BoardSeat {
     /// Stores TRIGGERED of its cycle in the status word of the target that is owed.
     fn store_triggered(&mut self, board: &Board, node: u32)
         requires table { IsOn board.now (table self.old) }
-        requires phase { let p = layout board.now in Triggers is_driver p (knows self.old) (p.index node) }
+        requires phase { let p = layout board.now in
+            Triggers is_driver p (knows self.old) (p.index node) }
         ensures table { table self.new ≡ table self.old }
         ensures knows { let p = layout board.now in
             knows self.new ≡ triggered is_driver p (knows self.old) (p.index node) };
 
-    /// Exchanges TRIGGERED of the node's cycle for AWAKE, and answers the status word that it found.
+    /// Exchanges TRIGGERED of the node's cycle for AWAKE, and answers the status word that it
+    /// found.
     fn exchange_awake(&mut self, board: &Board, node: u32) -> u64
         requires table { IsOn board.now (table self.old) }
-        requires phase { let p = layout board.now in Claims is_driver p (knows self.old) (p.index node) }
+        requires phase { let p = layout board.now in
+            Claims is_driver p (knows self.old) (p.index node) }
         ensures table { table self.new ≡ table self.old }
         ensures knows { let p = layout board.now in
             knows self.new ≡ claimed is_driver p (knows self.old) (p.index node) result };
@@ -71,10 +78,12 @@ pub trait BoardSeat {
         ensures knows { let p = layout board.now in
             knows self.new ≡ finished is_driver (knows self.old) (p.index node) };
 
-    /// Draws the ticket of the node's Start or Finish; on the driver's seat also of a Begin, a Tick or an End.
+    /// Draws the ticket of the node's Start or Finish; on the driver's seat also of a Begin, a Tick
+    /// or an End.
     fn draw_ticket(&mut self, board: &Board, node: u32) -> u64
         requires table { IsOn board.now (table self.old) }
-        requires phase { let p = layout board.now in Draws is_driver p (knows self.old) (p.index node) }
+        requires phase { let p = layout board.now in
+            Draws is_driver p (knows self.old) (p.index node) }
         ensures table { table self.new ≡ table self.old }
         ensures knows { let p = layout board.now in
             knows self.new ≡ draws is_driver (knows self.old) (p.index node) result }
@@ -83,19 +92,21 @@ pub trait BoardSeat {
     /// Stores the event whose ticket is held in the word of that ticket.
     fn store_event(&mut self, board: &Board, node: u32)
         requires table { IsOn board.now (table self.old) }
-        requires phase { let p = layout board.now in StoresEvent is_driver p (knows self.old) (p.index node) }
+        requires phase { let p = layout board.now in
+            StoresEvent is_driver p (knows self.old) (p.index node) }
         ensures table { table self.new ≡ table self.old }
         ensures knows { let p = layout board.now in
             knows self.new ≡ event_stored is_driver (knows self.old) (p.index node) };
 
-    /// The number of the block that the reader's load of this cycle found in the area of a link. Takes no memory.
+    /// The number of the block that the reader's load of this cycle found in the area of a link.
+    /// Takes no memory.
     fn loaded(&self, board: &Board, link: u32) -> u32
         requires turn { IsReading is_driver (layout board.now) (knows self.now) link
             (read_of (knows self.now) link).id }
         ensures { result ≡ (read_of (knows self.now) link).id };
 
-    /// Loads the area of a link whose reader works, once in its cycle. The word has data; its number is that of the block of
-    /// the link's pool whose reading cycle this is.
+    /// Loads the area of a link whose reader works, once in its cycle. The word has data; its
+    /// number is that of the block of the link's pool whose reading cycle this is.
     fn load_io_as_reader(&mut self, board: &Board, link: u32) -> u64
         requires table { IsOn board.now (table self.old) }
         requires phase { LoadsAsReader is_driver (layout board.now) (knows self.old) link }
@@ -104,31 +115,39 @@ pub trait BoardSeat {
             (knows self.old) link result }
         ensures word { IsPublished is_driver (layout board.now) (knows self.old) link result };
 
-    /// Loads a sample word of the block that the reader has in its turn and has not lowered: four of the samples that
-    /// are expected. The words before it are loaded already. `first` is where the first sample word of the block stands (`Board::first_sample`). The seat's table
-    /// of samples has one quantum of 16-bit samples for each cycle and pool.
+    /// Loads a sample word of the block that the reader has in its turn and has not lowered: four
+    /// of the samples that are expected. The words before it are loaded already. `first` is where
+    /// the first sample word of the block stands (`Board::first_sample`). The seat's table of
+    /// samples has one quantum of 16-bit samples for each cycle and pool.
     fn load_sample_at(&mut self, board: &Board, link: u32, id: u32, place: u32, first: usize) -> u64
         requires table { IsOn board.now (table self.old) }
         requires phase { LoadsSample is_driver (layout board.now) (knows self.old) link id place }
         requires place { let p = layout board.now in place < (pool_at p (pool_of p link)).words }
-        requires first { first ≡ sample_place board.now.board_shape.shape (pool_of (layout board.now) link) id 0 }
+        requires first { first ≡ sample_place board.now.board_shape.shape
+            (pool_of (layout board.now) link) id 0 }
         ensures table { table self.new ≡ table self.old }
-        ensures knows { knows self.new ≡ sample_loaded is_driver (layout board.now) (knows self.old) link place }
-        ensures word { result ≡ packed (samples_read is_driver (layout board.now) (knows self.old) link) place }
+        ensures knows { knows self.new
+            ≡ sample_loaded is_driver (layout board.now) (knows self.old) link place }
+        ensures word { result ≡ packed
+            (samples_read is_driver (layout board.now) (knows self.old) link) place }
         ensures samples { IsTable (layout board.now) (knows self.old).expect };
 
-    /// Lowers the readers word of that block, all of whose sample words are loaded, by one, and answers what it found.
+    /// Lowers the readers word of that block, all of whose sample words are loaded, by one, and
+    /// answers what it found.
     fn lower_readers(&mut self, board: &Board, link: u32, id: u32) -> u64
         requires table { IsOn board.now (table self.old) }
         requires phase { LowersReaders is_driver (layout board.now) (knows self.old) link id }
         ensures table { table self.new ≡ table self.old }
-        ensures knows { knows self.new ≡ readers_lowered is_driver (layout board.now) (knows self.old) link }
+        ensures knows { knows self.new
+            ≡ readers_lowered is_driver (layout board.now) (knows self.old) link }
         ensures word { 0 < result };
 
-    /// Stores NEED_DATA with the number of that block once it is lowered, which ends the reader's turn.
+    /// Stores NEED_DATA with the number of that block once it is lowered, which ends the reader's
+    /// turn.
     fn store_need_data(&mut self, board: &Board, link: u32, id: u32)
         requires table { IsOn board.now (table self.old) }
         requires phase { StoresNeed is_driver (layout board.now) (knows self.old) link id }
         ensures table { table self.new ≡ table self.old }
-        ensures knows { knows self.new ≡ need_stored is_driver (layout board.now) (knows self.old) link };
+        ensures knows { knows self.new
+            ≡ need_stored is_driver (layout board.now) (knows self.old) link };
 }

@@ -1,4 +1,5 @@
-//! What a seat knows of its board. The views themselves stand in contracts alone: no value of `View` is made.
+//! What a seat knows of its board. The views themselves stand in contracts alone: no value of
+//! `View` is made.
 use pw_base::Event;
 use std::collections::LinkedList;
 
@@ -16,7 +17,8 @@ pub enum Phase {
     Done,
     /// The ticket of its Finish is drawn.
     FinishDrawn,
-    /// Its Finish is stored, and the first `n` targets are lowered. The last of these may be owed its trigger.
+    /// Its Finish is stored, and the first `n` targets are lowered. The last of these may be owed
+    /// its trigger.
     Telling { told: usize, owes: bool },
 }
 
@@ -39,7 +41,8 @@ pub enum DriverPhase {
     Reset { done: usize },
     /// And the pending word of the next one.
     Half { done: usize },
-    /// All are reset, and the first `n` targets are lowered. The last of these may be owed its trigger.
+    /// All are reset, and the first `n` targets are lowered. The last of these may be owed its
+    /// trigger.
     Kick { told: usize, owes: bool },
     /// All targets are lowered, and the driver's node waits to be triggered.
     Waiting,
@@ -56,9 +59,10 @@ pub enum DriverPhase {
     EndDrawn,
 }
 
-/// The driver's seat, in its cycle. `checked` says that a check was begun in it, `checks` in how many cycles of the epoch
-/// one was, and `lates` has a Tick for each late set that was stored, in their order. `ticket` is the one that it drew last
-/// for a Begin, a Tick or an End, `start` and `finish` those for its own node.
+/// The driver's seat, in its cycle. `checked` says that a check was begun in it, `checks` in how
+/// many cycles of the epoch one was, and `lates` has a Tick for each late set that was stored, in
+/// their order. `ticket` is the one that it drew last for a Begin, a Tick or an End, `start` and
+/// `finish` those for its own node.
 pub struct DriverView {
     pub cycle: u64,
     pub drive: DriverPhase,
@@ -70,8 +74,8 @@ pub struct DriverView {
     pub finish: u64,
 }
 
-/// The writer's end of a link: one more than the cycle of its last load and of its last store, and the numbers of the
-/// blocks that it stored last and before that.
+/// The writer's end of a link: one more than the cycle of its last load and of its last store, and
+/// the numbers of the blocks that it stored last and before that.
 #[derive(Clone, Copy, Drop)]
 pub struct WriteView {
     pub loaded: u64,
@@ -80,8 +84,8 @@ pub struct WriteView {
     pub last: u32,
 }
 
-/// The reader's end of a link: one more than the cycle of its last load, of its last decrement and of its last store,
-/// and the number of the block that it loaded last.
+/// The reader's end of a link: one more than the cycle of its last load, of its last decrement and
+/// of its last store, and the number of the block that it loaded last.
 #[derive(Clone, Copy, Drop)]
 pub struct ReadView {
     pub loaded: u64,
@@ -117,8 +121,8 @@ pub struct Trail {
     pub looks: LinkedList<Found>,
 }
 
-/// What one seat knows. A loop's seat has a number below the number of loops' seats, and the driver's seat has that
-/// number itself; which fields count is told by it.
+/// What one seat knows. A loop's seat has a number below the number of loops' seats, and the
+/// driver's seat has that number itself; which fields count is told by it.
 pub struct View {
     pub number: usize,
     /// The driver's: how many loops' seats are split off.
@@ -130,14 +134,16 @@ pub struct View {
     /// By number of the link. Those that the seat writes or reads count.
     pub writes: LinkedList<WriteView>,
     pub reads: LinkedList<ReadView>,
-    /// By link: how many sample words of the block that it took last the reader has loaded, in their order.
+    /// By link: how many sample words of the block that it took last the reader has loaded, in
+    /// their order.
     pub heard: LinkedList<u64>,
     /// By pool and number. Those that the seat fills count.
     pub blocks: LinkedList<BlockView>,
-    /// By pool: one more than the cycle of its last reclaim, where the first cycle counts as one. Those that the seat
-    /// fills count.
+    /// By pool: one more than the cycle of its last reclaim, where the first cycle counts as one.
+    /// Those that the seat fills count.
     pub reclaimed: LinkedList<u64>,
     pub trail: Trail,
-    /// The samples that are expected, by cycle of the epoch and pool. All seats of a board have the same.
+    /// The samples that are expected, by cycle of the epoch and pool. All seats of a board have the
+    /// same.
     pub expect: LinkedList<LinkedList<LinkedList<i16>>>,
 }

@@ -1,5 +1,6 @@
-//! The steps on buffers of a loop's seat whose node writes. Each is one sequentially consistent operation on one word; it
-//! takes no memory, does not wait and does not fail. Links, pools and blocks are given by number.
+//! The steps on buffers of a loop's seat whose node writes. Each is one sequentially consistent
+//! operation on one word; it takes no memory, does not wait and does not fail. Links, pools and
+//! blocks are given by number.
 ghost use Rattle.board_rule.specs.OnBoard.{IsOn, layout};
 ghost use Rattle.std.specs.Prelude.{◌≡◌, ℕ, ◌<◌, length};
 ghost use Rattle.pw_base.specs.Words.{io_id_in, need_data_word};
@@ -27,8 +28,9 @@ impl LoopSeat {
 }
 
 impl LoopSeat {
-    /// Loads the area of a link whose writer works, once in its cycle. The word asks for data; its number is the one that
-    /// the reader gave back, and `NO_BLOCK` exactly in the first cycle of the epoch.
+    /// Loads the area of a link whose writer works, once in its cycle. The word asks for data; its
+    /// number is the one that the reader gave back, and `NO_BLOCK` exactly in the first cycle of
+    /// the epoch.
     #[inline]
     pub fn load_io_as_writer(&mut self, board: &Board, link: u32) -> u64
         requires table { IsOn board.now self.old.table }
@@ -50,7 +52,8 @@ impl LoopSeat {
         found
     }
 
-    /// Stores HAVE_DATA with the number of the block that was announced in this cycle, which ends the writer's turn.
+    /// Stores HAVE_DATA with the number of the block that was announced in this cycle, which ends
+    /// the writer's turn.
     #[inline]
     pub fn store_have_data(&mut self, board: &Board, link: u32, id: u32)
         requires table { IsOn board.now self.old.table }
@@ -69,15 +72,17 @@ impl LoopSeat {
         };
     }
 
-    /// Reclaims a pool, once in each cycle of its node but the first, when all its links are loaded: loads the readers word of
-    /// the block that has been out longest (`oldest_out`). It was announced a cycle ago, in a pool with a delayed link two, and
-    /// the readers gave its number back. The word is 0, and the block is free then.
+    /// Reclaims a pool, once in each cycle of its node but the first, when all its links are
+    /// loaded: loads the readers word of the block that has been out longest (`oldest_out`). It was
+    /// announced a cycle ago, in a pool with a delayed link two, and the readers gave its number
+    /// back. The word is 0, and the block is free then.
     #[inline]
     pub fn load_readers(&mut self, board: &Board, pool: u32, id: u32) -> u64
         requires table { IsOn board.now self.old.table }
         requires phase { LoadsReaders (layout board.now) self.old.knows pool id }
         ensures table { self.new.table ≡ self.old.table }
-        ensures knows { self.new.knows ≡ readers_loaded (layout board.now) self.old.knows pool id result }
+        ensures knows { self.new.knows
+            ≡ readers_loaded (layout board.now) self.old.knows pool id result }
         ensures word { result ≡ 0 }
         ensures due { FindsDue (layout board.now) self.old.knows pool id }
     {
@@ -87,8 +92,8 @@ impl LoopSeat {
         found
     }
 
-    /// Stores the next sample word of a block, four samples of this cycle. `first` is where the first sample word of the
-    /// block stands (`Board::first_sample`).
+    /// Stores the next sample word of a block, four samples of this cycle. `first` is where the
+    /// first sample word of the block stands (`Board::first_sample`).
     #[inline]
     pub fn store_sample_at(
         &mut self,
@@ -103,7 +108,8 @@ impl LoopSeat {
         requires phase { StoresSample (layout board.now) self.old.knows pool id place word }
         requires first { first ≡ sample_place board.now.board_shape.shape pool id 0 }
         ensures table { self.new.table ≡ self.old.table }
-        ensures knows { self.new.knows ≡ sample_stored (layout board.now) self.old.knows pool id place }
+        ensures knows { self.new.knows
+            ≡ sample_stored (layout board.now) self.old.knows pool id place }
     {
         let at = board.block(pool as usize, id);
         let to = board.sample_word_at(pool as usize, id, place, first);
@@ -113,13 +119,15 @@ impl LoopSeat {
         };
     }
 
-    /// Stores the number of the pool's links in the readers word of a block that is filled whole: it is announced.
+    /// Stores the number of the pool's links in the readers word of a block that is filled whole:
+    /// it is announced.
     #[inline]
     pub fn store_readers(&mut self, board: &Board, pool: u32, id: u32)
         requires table { IsOn board.now self.old.table }
         requires phase { StoresReaders (layout board.now) self.old.knows pool id }
         ensures table { self.new.table ≡ self.old.table }
-        ensures knows { self.new.knows ≡ readers_stored (layout board.now) self.old.knows pool id }
+        ensures knows { self.new.knows
+            ≡ readers_stored (layout board.now) self.old.knows pool id }
     {
         let at = board.block(pool as usize, id);
         let cycle = self.node_at(board.filler(pool as usize)).next;
@@ -138,7 +146,8 @@ impl LoopSeat {
         self.blocks[board.block(pool as usize, id)]
     }
 
-    /// The number of the block that was filled whole in this cycle, announced or not. Condition: there is one.
+    /// The number of the block that was filled whole in this cycle, announced or not. Condition:
+    /// there is one.
     pub fn filled(&self, board: &Board, pool: u32) -> u32
         requires pool { HasPool (layout board.now) self.now.knows pool }
         requires some { let p = layout board.now in

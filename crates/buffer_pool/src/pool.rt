@@ -7,8 +7,8 @@ use pw_base::Memory;
 use std::alloc::Global;
 use std::marker::Model;
 
-/// The numbers of the blocks of a pool that are free, in the order in which they became free. Contracts see this list
-/// and how many blocks the pool has.
+/// The numbers of the blocks of a pool that are free, in the order in which they became free.
+/// Contracts see this list and how many blocks the pool has.
 ///
 /// Public source: PipeWire's documentation, "SPA Buffers".
 #[derive(Drop)]
@@ -25,10 +25,12 @@ impl Model for Pool {
 }
 
 impl Pool {
-    /// A pool of 1 to 8 blocks, all of them free, ascending. All memory that it ever needs is taken here.
+    /// A pool of 1 to 8 blocks, all of them free, ascending. All memory that it ever needs is taken
+    /// here.
     pub fn new(alloc: Global, blocks: u32) -> Result<Pool, Memory>
         requires { (1 ≤ blocks) × (blocks ≤ 8) }
-        ensures { IfOk result (λ pool. (pool.free ≡ numbers_below blocks) × (pool.blocks ≡ blocks)) }
+        ensures { IfOk result (λ pool. (pool.free ≡ numbers_below blocks)
+            × (pool.blocks ≡ blocks)) }
     {
         let Ok(mut free) = HeapCircularBuffer::with_capacity(alloc, blocks as usize) else {
             return Err(Memory);
@@ -39,7 +41,8 @@ impl Pool {
         Ok(Pool { free })
     }
 
-    /// Puts a block's number at the back: it is used again after all that are free. Takes no memory.
+    /// Puts a block's number at the back: it is used again after all that are free. Takes no
+    /// memory.
     pub fn recycle(&mut self, id: u32)
         requires room { length self.old.free < self.old.blocks }
         requires taken { ¬ Contains self.old.free id }

@@ -1,3 +1,4 @@
 pub mod Points
+pub mod Gains
 pub mod ControlFaults
 pub mod Automation

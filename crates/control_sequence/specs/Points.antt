@@ -1,35 +1,20 @@
--- Points of a control sequence, and its faults. Source: PipeWire's documentation, "SPA POD" (Sequence, Props);
--- spa/control/control.h, spa/param/props.h. The key and the scale of a gain, and the order of faults, are this project's.
+-- Points of a control sequence, and its faults. Source: PipeWire's documentation, "SPA POD"
+-- (Sequence, Props); spa/control/control.h, spa/param/props.h. The key and the scale of a gain, and
+-- the order of faults, are this project's.
 use Rattle.std.specs.Prelude.{◌≡◌, ℕ, ◌==◌, ◌&&◌, Bool, List, [], ◌∷◌, map, Option, Some, None, is_some, is_none, Result}
-use Rattle.std.specs.Prelude.{Ok, Err, ℤ, unsigned_abs, nat_lt, nat_le, filter_map, option_map, option_and_then}
+use Rattle.std.specs.Prelude.{Ok, Err, nat_lt, filter_map, option_map, option_and_then}
 use Rattle.std.specs.Prelude.{if◌then◌else◌}
-use Rattle.std.specs.List.{find, zip, enumerate_from}
+use Rattle.std.specs.List.{zip, enumerate_from}
 use Rattle.pod_codec.specs.declared.pod.Pod.{Pod}
 use Rattle.pod_codec.specs.declared.pod.Prop.{Prop}
 use Rattle.pod_codec.specs.declared.pod.Control.{Control}
 use Rattle.pod_codec.specs.declared.pod.Pod.TheOpen.{Pod-F}
-use Rattle.pod_codec.specs.declared.pod.Pod.TheViews.{out-Pod, out-Prop, out-Control}
+use Rattle.pod_codec.specs.declared.pod.Pod.TheViews.{out-Pod, out-Control}
 use Rattle.control_sequence.specs.declared.points.Point.{Point}
 use Rattle.control_sequence.specs.declared.points.Points.{Points}
 use Rattle.control_sequence.specs.declared.fault.ControlFault.{ControlFault}
 use Rattle.control_sequence.specs.declared.fault.ControlFault.TheVariants as f
-
--- the properties of an object of type Props (0x40002)
-abbrev pub props_of : Pod-F Pod Control Prop → Option (List Prop)
-props_of (Pod-F.Object object id props) = if object == 262146 then Some props else None
-props_of other = None
-
--- the value of the first gain (custom key 0x1000001) among properties
-abbrev pub held_gain : List Prop → Option Pod
-held_gain props = option_map (λ p. (out-Prop p).value) (find (λ p. (out-Prop p).key == 16777217) props)
-
--- a gain: an Int from -32767 to 32767
-abbrev pub gain_in : Pod-F Pod Control Prop → Option ℤ
-gain_in (Pod-F.Int g) = if nat_le (unsigned_abs g) 32767 then Some g else None
-gain_in other = None
-
-abbrev pub gain_of : Pod → Option ℤ
-gain_of pod = gain_in (out-Pod pod)
+pub use Rattle.control_sequence.specs.Gains.{props_of, held_gain, gain_in, gain_of}
 
 -- a control of kind Properties (1), and what it carries
 abbrev pub has_props : Control → Bool
@@ -43,7 +28,8 @@ gain_value c = option_and_then held_gain (carried c)
 
 -- POINT of a control: its offset and its gain
 abbrev pub point_in : Control → Option Point
-point_in c = option_map (λ g. record { offset = (out-Control c).offset; g = g }) (option_and_then gain_of (gain_value c))
+point_in c = option_map (λ g. record { offset = (out-Control c).offset; g = g })
+    (option_and_then gain_of (gain_value c))
 
 -- FAULT of a control at this place, the one before which has this offset
 abbrev pub fault_in : ℕ → ℕ → Control → Option ControlFault
@@ -70,10 +56,12 @@ IsAnswer meaning (Err f.Memory) = Unit {0}
 IsAnswer meaning (Err fault) = meaning ≡ Err fault
 
 abbrev pub AnswersPoints : List Control → Result Points ControlFault → Type 0
-AnswersPoints controls result = IsAnswer (points_or (filter_map point_in controls) (faults_of controls)) result
+AnswersPoints controls result = IsAnswer
+    (points_or (filter_map point_in controls) (faults_of controls)) result
 
 abbrev pub points_in : Pod-F Pod Control Prop → Result (List Point) ControlFault
-points_in (Pod-F.Sequence unit controls) = points_or (filter_map point_in controls) (faults_of controls)
+points_in (Pod-F.Sequence unit controls) = points_or (filter_map point_in controls)
+    (faults_of controls)
 points_in other = Err f.NotSequence
 
 abbrev pub IsPointsOf : Pod → Result Points ControlFault → Type 0

@@ -6,7 +6,8 @@ ghost use Rattle.control_sequence.specs.Automation.{ArePoints, AreBehind, IsBefo
 use crate::points::Point;
 use s16_mixer::gain;
 
-/// How far a stream has come along its points: those before `next` are behind it, and it has this gain.
+/// How far a stream has come along its points: those before `next` are behind it, and it has this
+/// gain.
 #[derive(Clone, Copy, Drop)]
 pub(crate) struct Reached {
     pub next: usize,
@@ -44,7 +45,8 @@ fn stretch(points: &[Point], next: usize, frame: u64, left: usize) -> usize
     }
 }
 
-/// Writes the samples of a stream, whose first frame has the number `first`, to `to`, each by its frame's gain.
+/// Writes the samples of a stream, whose first frame has the number `first`, to `to`, each by its
+/// frame's gain.
 pub(crate) fn apply_from(
     points: &[Point],
     channels: u32,
@@ -59,7 +61,8 @@ pub(crate) fn apply_from(
     requires whole { length s.now % channels ≡ 0 }
     requires room { first + length s.now / channels < 2 ^ 64 }
     ensures samples { to.new ≡ automated points.now channels first s.now }
-    ensures behind { AreBehind points.now (first + length s.now / channels) result.next result.gain }
+    ensures behind { AreBehind points.now
+        (first + length s.now / channels) result.next result.gain }
 {
     let width = channels as usize;
     let frames = s.len() / width;

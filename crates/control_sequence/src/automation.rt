@@ -7,8 +7,8 @@ use crate::applying::{Reached, apply_from};
 use crate::points::Points;
 use std::marker::Model;
 
-/// A stream of S16 samples, each frame of which gets the gain of the last point at or before it; before the first
-/// point it stays as it is.
+/// A stream of S16 samples, each frame of which gets the gain of the last point at or before it;
+/// before the first point it stays as it is.
 #[derive(Drop)]
 pub struct Automation {
     points: Points,
@@ -25,7 +25,11 @@ impl Model for Automation {
 
     ghost coded = { coded_stream };
 
-    ghost view = { λ a. record { points = a.points.items; channels = a.channels; frames = a.frames } };
+    ghost view = { λ a. record {
+      points = a.points.items;
+      channels = a.channels;
+      frames = a.frames;
+    } };
 
     ghost invariant = { λ a. ArePoints a.points.items × IsChannels a.channels
         × AreBehind a.points.items a.frames a.reached.next a.reached.gain };
@@ -46,15 +50,17 @@ impl Automation {
         }
     }
 
-    /// Writes the next samples of the stream to `to`, each by its frame's gain: `s * g / 256`, rounded towards minus
-    /// infinity and clamped. Frames are interleaved. Takes no memory; one pass over the samples, and over the points
-    /// once in all calls.
+    /// Writes the next samples of the stream to `to`, each by its frame's gain: `s * g / 256`,
+    /// rounded towards minus infinity and clamped. Frames are interleaved. Takes no memory; one
+    /// pass over the samples, and over the points once in all calls.
     pub fn apply(&mut self, s: &[i16], to: &mut [i16])
         requires lengths { length s.now ≡ length to.old }
         requires whole { length s.now % self.old.channels ≡ 0 }
         requires room { self.old.frames + length s.now / self.old.channels < 2 ^ 64 }
-        ensures samples { to.new ≡ automated self.old.points self.old.channels self.old.frames s.now }
-        ensures moved { self.new ≡ record self.old { frames = self.old.frames + length s.now / self.old.channels } }
+        ensures samples { to.new ≡ automated self.old.points self.old.channels self.old.frames
+            s.now }
+        ensures moved { self.new
+            ≡ record self.old { frames = self.old.frames + length s.now / self.old.channels } }
     {
         let frames = (s.len() / self.channels as usize) as u64;
         let points = self.points.items.as_slice();

@@ -5,7 +5,8 @@ ghost use Rattle.control_sequence.specs.declared.fault.ControlFault.TheVariants 
 
 use pw_base::Memory;
 
-/// Why a POD gives no points: the first control at fault, by its place in the sequence, counted from 0.
+/// Why a POD gives no points: the first control at fault, by its place in the sequence, counted
+/// from 0.
 #[derive(Clone, Copy, Debug, PartialEq, Eq, Drop)]
 pub enum ControlFault {
     /// The value is no Sequence.

@@ -8,7 +8,7 @@ ghost use Rattle.control_sequence.specs.Automation.{ArePoints};
 use crate::fault::ControlFault;
 use crate::points::{Point, Points};
 use pod_codec::{Control, Pod, Prop};
-use pw_base::Items;
+use pw_base::{GAIN_LIMIT, Items};
 use std::alloc::Global;
 
 /// The object type Props. Source: `spa/utils/type.h`.
@@ -19,9 +19,6 @@ const PROPERTIES: u32 = 1;
 
 /// The key of a gain; one of the custom keys of `spa/param/props.h`.
 const GAIN: u32 = 0x1000001;
-
-/// The greatest absolute value of a gain in 1/256.
-const GAIN_LIMIT: u32 = 32767;
 
 // The properties of an object of type Props.
 fn props_of(value: &Pod) -> Option<&[Prop]>
@@ -67,7 +64,8 @@ fn gain_of(value: &Pod) -> Option<i32>
 
 // The point of a control at this place, the one before which has this offset; or its fault.
 fn point_at(control: &Control, index: u32, before: u32) -> Result<Option<Point>, ControlFault>
-    ensures ok { IfOk result (λ point. (point ≡ point_in control.now) × (fault_in index before control.now ≡ None)
+    ensures ok { IfOk result (λ point. (point ≡ point_in control.now)
+        × (fault_in index before control.now ≡ None)
         × (before ≤ (out-Control control.now).offset)) }
     ensures err { IfErr result (λ fault. fault_in index before control.now ≡ Some fault) }
 {
@@ -100,7 +98,8 @@ fn add_point(
     ensures ok { OnOk result (items.new ≡ items.old ++ option_to_list (point_in control.now)) }
     ensures passed { OnOk result ((fault_in index before control.now ≡ None)
         × (before ≤ (out-Control control.now).offset)) }
-    ensures err { IfErr result (λ fault. (fault ≡ Memory) ⊎ (fault_in index before control.now ≡ Some fault)) }
+    ensures err { IfErr result
+        (λ fault. (fault ≡ Memory) ⊎ (fault_in index before control.now ≡ Some fault)) }
 {
     let Ok(place) = u32::try_from(index) else {
         return Err(ControlFault::Memory);
@@ -127,12 +126,14 @@ fn points_of(alloc: Global, controls: &[Control]) -> Result<Points, ControlFault
     Ok(Points { items })
 }
 
-/// The points of a Sequence: of each control of kind Properties whose value is an Object of type Props with a gain, the
-/// control's offset in frames and the gain, in their order. Other controls give none.
+/// The points of a Sequence: of each control of kind Properties whose value is an Object of type
+/// Props with a gain, the control's offset in frames and the gain, in their order. Other controls
+/// give none.
 ///
-/// The controls are looked at in order, and of each first its offset, then its value, then the gain: a fault is the
-/// first one. More than 2^32 controls are out of memory. Takes memory for the points; cost: one look at each control, and at the properties of those that carry
-/// any. Source: PipeWire's documentation, "SPA POD"; `spa/control/control.h`.
+/// The controls are looked at in order, and of each first its offset, then its value, then the
+/// gain: a fault is the first one. More than 2^32 controls are out of memory. Takes memory for the
+/// points; cost: one look at each control, and at the properties of those that carry any. Source:
+/// PipeWire's documentation, "SPA POD"; `spa/control/control.h`.
 pub fn controls_of(alloc: Global, pod: &Pod) -> Result<Points, ControlFault>
     ensures points { IsPointsOf pod.now result }
     ensures sound { IfOk result (λ points. ArePoints points.items) }

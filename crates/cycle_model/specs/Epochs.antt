@@ -11,7 +11,8 @@ use Rattle.pw_base.specs.Pools.{is_same_port}
 
 -- a cycle lies in an epoch; the first epoch in which it lies
 abbrev pub is_within : Epoch → ℕ → Bool
-is_within epoch cycle = nat_le epoch.shape.first cycle && nat_lt cycle (epoch.shape.first + epoch.shape.cycles)
+is_within epoch cycle = nat_le epoch.shape.first cycle
+    && nat_lt cycle (epoch.shape.first + epoch.shape.cycles)
 
 abbrev pub epoch_at : Plan → ℕ → Option Epoch
 epoch_at plan cycle = find (λ e. is_within e cycle) plan.epochs
@@ -43,14 +44,16 @@ links_into plan cycle port = filter (λ l. is_same_port l.to port) (links_at pla
 
 -- the channels of a port, 0 without a form
 abbrev pub channels_of : List PortForm → PortId → ℕ
-channels_of forms port = unwrap_or (option_map (λ f. f.channels) (find (λ f. is_same_port f.port port) forms)) 0
+channels_of forms port = unwrap_or
+    (option_map (λ f. f.channels) (find (λ f. is_same_port f.port port) forms)) 0
 
 abbrev pub channels_at : Plan → ℕ → PortId → ℕ
 channels_at plan cycle port = channels_of (forms_at plan cycle) port
 
 -- the cycles from one to another, both included, in which a node is active
 abbrev pub active_cycles : Plan → ℕ → ℕ → ℕ → List ℕ
-active_cycles plan from to node = filter (λ k. is_active plan k node) (range_with_len from (to + 1 - from))
+active_cycles plan from to node = filter (λ k. is_active plan k node)
+    (range_with_len from (to + 1 - from))
 
 -- where a node's stream begins: with the last epoch, up to the cycle, for which it is fresh
 abbrev pub is_fresh : Epoch → ℕ → Bool
@@ -58,7 +61,8 @@ is_fresh epoch node = list_any (λ f. f.node == node) epoch.fresh
 
 abbrev pub stream_start : Plan → ℕ → ℕ → ℕ
 stream_start plan cycle node =
-    fold (λ start e. if nat_le e.shape.first cycle && is_fresh e node then e.shape.first else start) 0 plan.epochs
+    fold (λ start e. if nat_le e.shape.first cycle && is_fresh e node then e.shape.first
+    else start) 0 plan.epochs
 
 -- the cycles of all epochs
 abbrev pub all_cycles : Plan → ℕ

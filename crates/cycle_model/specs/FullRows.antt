@@ -1,5 +1,7 @@
--- Full rows: what an output of an active node gives in a cycle is one quantum in the channels of its form.
--- Source: PipeWire's documentation, "Graph Scheduling": one quantum for all; the kinds are this project's.
+-- Full rows: what an output of an active node gives in a cycle is one quantum in the channels of
+-- its form.
+-- Source: PipeWire's documentation, "Graph Scheduling": one quantum for all; the kinds are this
+-- project's.
 use Rattle.std.specs.Prelude.{◌≡◌, ℕ, ◌*◌, ◌<◌, true, List, Some, length}
 use Rattle.pw_base.specs.declared.ids.PortId.{PortId}
 use Rattle.pw_base.specs.declared.kind.Kind.{Kind}
@@ -25,11 +27,13 @@ AgreesIn _ a b n = Unit {0}
 -- in each epoch the channels of a node's ports agree
 abbrev pub AreFormed : Plan → Type 0
 AreFormed plan = (c : ℕ) (e : Epoch) (port : PortId) → epoch_at plan c ≡ Some e
-    → takes_part e port.node ≡ true → IsOutputOf plan port → AgreesIn (kind_at plan port.node)
+    → takes_part e port.node ≡ true → IsOutputOf plan port
+    → AgreesIn (kind_at plan port.node)
     (channels_of e.forms (record { node = port.node; port = 0 }))
     (channels_of e.forms (record { node = port.node; port = 1 })) (channels_of e.forms port)
 
 -- FULL ROWS: one quantum of each output of each active node
 abbrev pub AreFull : Plan → List WavIn → Type 0
 AreFull plan waves = (c : ℕ) (port : PortId) → is_active plan c port.node ≡ true
-    → IsOutputOf plan port → length (outputs plan waves c port) ≡ plan.quantum * channels_at plan c port
+    → IsOutputOf plan port → length (outputs plan waves c port)
+    ≡ plan.quantum * channels_at plan c port

@@ -1,4 +1,5 @@
--- The kind function by index: one sample of the whole stream at an output, and how long that stream is.
+-- The kind function by index: one sample of the whole stream at an output, and how long that stream
+-- is.
 -- Source: this project's table of nodes; pw_base's kind function says the same by whole streams.
 use Rattle.std.specs.Prelude.{ℕ, ◌-◌, ◌*◌, ◌/◌, ◌%◌, min, List, length, ℤ, pos, nat_lt, slice_index, slice_index_or, if◌then◌else◌}
 use Rattle.pw_base.specs.declared.kind.Kind.{Kind}
@@ -9,14 +10,21 @@ use Rattle.cycle_model.specs.declared.received.Received.{Received}
 
 -- what a node has heard: its wave, and what it has received
 abbrev pub heard_of : List ℤ → ℕ → Received → Heard
-heard_of wave channels r = record { wave = wave; frames = r.frames; channels = channels; a = r.a; b = r.b }
+heard_of wave channels r = record {
+  wave = wave;
+  frames = r.frames;
+  channels = channels;
+  a = r.a;
+  b = r.b;
+}
 
 -- sample i at an output, outputs counted from 0
 abbrev pub kind_sample : Kind → Heard → ℕ → ℕ → ℤ
 kind_sample Source h output i = slice_index_or h.wave i (pos 0)
 kind_sample (Square rate channels period amp) h output i = square_at period amp (i / h.channels)
 kind_sample (Gain g) h output i = scaled g (slice_index_or h.a i (pos 0))
-kind_sample (Mix2 ga gb) h output i = mixed ga gb (slice_index_or h.a i (pos 0)) (slice_index_or h.b i (pos 0))
+kind_sample (Mix2 ga gb) h output i = mixed ga gb (slice_index_or h.a i (pos 0))
+    (slice_index_or h.b i (pos 0))
 kind_sample (Delay frames) h output i = if nat_lt i (frames * h.channels) then pos 0
     else slice_index_or h.a (i - frames * h.channels) (pos 0)
 kind_sample (Map channels list) h output i =

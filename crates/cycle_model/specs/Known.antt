@@ -1,18 +1,17 @@
--- What the reference program knows: what ports gave in a cycle, and what nodes have received; and what follows.
+-- What the reference program knows: what ports gave in a cycle, and what nodes have received; and
+-- what follows.
 -- Source: PipeWire's documentation, "Graph Scheduling": a node runs after those it depends on.
-use Rattle.std.specs.Prelude.{ℕ, ◌+◌, ◌*◌, ◌==◌, ◌&&◌, nat_lt, Bool, List, [], ◌++◌, Option, Some, None, map, filter, find, fold}
-use Rattle.std.specs.Prelude.{option_map, unwrap_or, ℤ, if◌then◌else◌}
+use Rattle.std.specs.Prelude.{ℕ, ◌+◌, ◌*◌, ◌==◌, ◌&&◌, nat_lt, Bool, List, [], ◌++◌, Option, Some, None, map}
+use Rattle.std.specs.Prelude.{ℤ, if◌then◌else◌}
 use Rattle.std.specs.List.{list_any, range_with_len}
 use Rattle.pw_base.specs.declared.ids.PortId.{PortId}
 use Rattle.pw_base.specs.declared.kind.Kind.{Kind}
-use Rattle.pw_base.specs.declared.shape.ShapeLink.{ShapeLink}
 use Rattle.pw_base.specs.declared.plan.Epoch.{Epoch}
 use Rattle.pw_base.specs.declared.plan.PlanNode.{PlanNode}
-use Rattle.pw_base.specs.Samples.{clamped, silence, summed, peak_of}
+use Rattle.pw_base.specs.Samples.{peak_of}
 use Rattle.pw_base.specs.KindFunction.{kind_output}
 use Rattle.pw_base.specs.KindPorts.{input_count, output_count}
 use Rattle.pw_base.specs.PlanSums.{is_sink}
-use Rattle.pw_base.specs.Pools.{is_same_port}
 use Rattle.wav_files.specs.declared.outcome.Kept.{Kept}
 use Rattle.wav_files.specs.declared.outcome.Peak.{Peak}
 use Rattle.cycle_model.specs.declared.received.Received.{Received}
@@ -21,29 +20,19 @@ use Rattle.cycle_model.specs.Epochs.{is_fresh, channels_of}
 use Rattle.cycle_model.specs.Cycle.{last_of}
 use Rattle.cycle_model.specs.Rendering.{is_meter}
 use Rattle.cycle_model.specs.KindSamples.{heard_of}
-
--- what a port gave, nothing if it is not told
-abbrev pub given_at : List Given → PortId → List ℤ
-given_at given port = unwrap_or (option_map (λ g. g.samples) (find (λ g. is_same_port g.port port) given)) []
-
--- what a link brings, in an epoch's first cycle or in a later one, by what ports gave before and now
-abbrev pub brought_by : ℕ → Bool → List Given → List Given → ShapeLink → List ℤ
-brought_by quantum first before now link =
-    if link.delayed then (if first then silence (quantum * link.channels) else given_at before link.from)
-    else given_at now link.from
-
--- the input of a port
-abbrev pub input_by : ℕ → Bool → List Given → List Given → Epoch → PortId → List ℤ
-input_by quantum first before now epoch port =
-    map clamped (fold summed (silence (quantum * channels_of epoch.forms port))
-    (map (brought_by quantum first before now) (filter (λ l. is_same_port l.to port) epoch.shape.links)))
+pub use Rattle.cycle_model.specs.KnownSamples.{given_at, brought_by, input_by}
 
 -- what a node has received after one cycle more
-abbrev pub received_more : ℕ → Bool → List Given → List Given → Epoch → Kind → ℕ → Received → Received
+abbrev pub received_more : ℕ → Bool → List Given → List Given → Epoch → Kind → ℕ
+    → Received → Received
 received_more quantum first before now epoch kind node r = record {
   frames = r.frames + quantum;
-  a = if nat_lt 0 (input_count kind) then r.a ++ input_by quantum first before now epoch (record { node = node; port = 0 }) else r.a;
-  b = if nat_lt 1 (input_count kind) then r.b ++ input_by quantum first before now epoch (record { node = node; port = 1 }) else r.b;
+  a = if nat_lt 0 (input_count kind)
+      then r.a ++ input_by quantum first before now epoch (record { node = node; port = 0 })
+      else r.a;
+  b = if nat_lt 1 (input_count kind)
+      then r.b ++ input_by quantum first before now epoch (record { node = node; port = 1 })
+      else r.b;
 }
 
 -- what a node gives at one of its outputs, counted from 0
@@ -58,7 +47,8 @@ given_by quantum epoch kind wave node r output =
 
 -- what it gives at all of them
 abbrev pub all_given_by : ℕ → Epoch → Kind → List ℤ → ℕ → Received → List Given
-all_given_by quantum epoch kind wave node r = map (given_by quantum epoch kind wave node r) (range_with_len 0 (output_count kind))
+all_given_by quantum epoch kind wave node r = map (given_by quantum epoch kind wave node r)
+    (range_with_len 0 (output_count kind))
 
 -- a node's streams begin anew with a cycle: that of an epoch for which it is fresh
 abbrev pub is_released : List Epoch → ℕ → ℕ → Bool
@@ -71,8 +61,12 @@ released r = record { frames = r.frames; a = []; b = [] }
 abbrev pub kept_by : ℕ → PlanNode → Received → Option Kept
 kept_by place node r =
     if is_sink node.kind && nat_lt 0 node.rate
-    then Some (record { node = place; wav = record { rate = node.rate; channels = node.channels; samples = r.a } })
+    then Some (record {
+      node = place;
+      wav = record { rate = node.rate; channels = node.channels; samples = r.a };
+    })
     else None
 
 abbrev pub peak_by : ℕ → PlanNode → Received → Option Peak
-peak_by place node r = if is_meter node.kind && nat_lt 0 node.rate then Some (record { node = place; value = peak_of r.a }) else None
+peak_by place node r = if is_meter node.kind && nat_lt 0 node.rate
+    then Some (record { node = place; value = peak_of r.a }) else None

@@ -4,6 +4,7 @@ pub mod Expected
 pub mod FullRows
 pub mod KindSamples
 pub mod Known
+pub mod KnownSamples
 pub mod Mixing
 pub mod NodeOrder
 pub mod Progress

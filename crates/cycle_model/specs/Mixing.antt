@@ -1,5 +1,7 @@
--- Mixing by the sample, where sources play into sinks: what waves have at one place, added and then clamped once.
--- Samples past the end of a wave are silence. Source: RIFF WAVE PCM of 16 bits; clamping is this project's.
+-- Mixing by the sample, where sources play into sinks: what waves have at one place, added and then
+-- clamped once.
+-- Samples past the end of a wave are silence. Source: RIFF WAVE PCM of 16 bits; clamping is this
+-- project's.
 use Rattle.std.specs.Prelude.{◌≡◌, ℕ, ◌*◌, ◌≤◌, false, List, [], All, length, map, fold, filter, ℤ, pos, ◌+ℤ◌, slice_get}
 use Rattle.std.specs.Prelude.{slice_index_or, option_map, unwrap_or, ◌==◌, Bool, if◌then◌else◌}
 use Rattle.std.specs.List.{list_any, range_with_len, position_or_len}
@@ -29,7 +31,8 @@ sum_at waves places j = fold (λ sum place. sum +ℤ sample_at_place waves j pla
 
 -- the places of the waves that the links bring to a port
 abbrev pub places_into : List WavIn → List ShapeLink → PortId → List ℕ
-places_into waves links port = map (λ l. place_of waves l.from.node) (filter (λ l. is_same_port l.to port) links)
+places_into waves links port = map (λ l. place_of waves l.from.node)
+    (filter (λ l. is_same_port l.to port) links)
 
 -- so many samples, each the clamped sum of those of the waves at the places
 abbrev pub mixed_row : List WavIn → List ℕ → ℕ → List ℤ
@@ -39,7 +42,8 @@ mixed_row waves places n = map (λ j. clamped (sum_at waves places j)) (range_wi
 abbrev pub takes_part : Epoch → ℕ → Bool
 takes_part epoch node = list_any (λ n. n.node == node) epoch.shape.nodes
 
--- what a port gets in all cycles of an epoch, if its links come from sources that began with the epoch
+-- what a port gets in all cycles of an epoch, if its links come from sources that began with the
+-- epoch
 abbrev pub epoch_row : Epoch → List WavIn → PortId → List ℤ
 epoch_row epoch waves port =
     if takes_part epoch port.node
@@ -52,8 +56,8 @@ IsSourceOrSink Source = Unit {0}
 IsSourceOrSink Sink = Unit {0}
 IsSourceOrSink _ = ⊥
 
--- PLAIN MIX: sources and sinks alone, in at most one epoch, and no delayed link. There a sink gets the epoch's mixed
--- row
+-- PLAIN MIX: sources and sinks alone, in at most one epoch, and no delayed link. There a sink gets
+-- the epoch's mixed row
 pub record IsPlainMix (plan : Plan) : Type 0 where
   pub kinds : All (λ n. IsSourceOrSink n.kind) plan.nodes
   pub one : length plan.epochs ≤ 1

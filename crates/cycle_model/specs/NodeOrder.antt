@@ -9,17 +9,20 @@ use Rattle.cycle_model.specs.Mixing.{takes_part}
 abbrev pub is_among : List ℕ → ℕ → Bool
 is_among nodes node = list_any (λ n. n == node) nodes
 
--- an active node that may come after these: it is none of them, and each link into it that is not delayed comes from
--- one of them
+-- an active node that may come after these: it is none of them, and each link into it that is not
+-- delayed comes from one of them
 pub record MayFollow (epoch : Epoch) (done : List ℕ) (node : ℕ) : Type 0 where
   pub active : takes_part epoch node ≡ true
   pub other : is_among done node ≡ false
-  pub ready : All (λ l. l.delayed ≡ false → l.to.node ≡ node → is_among done l.from.node ≡ true) epoch.shape.links
+  pub ready : All (λ l. l.delayed ≡ false → l.to.node ≡ node
+      → is_among done l.from.node ≡ true) epoch.shape.links
 
 -- each node of the list may follow those before it
 abbrev pub IsOrder : Epoch → List ℕ → Type 0
-IsOrder epoch order = (i : ℕ) → i < length order → MayFollow epoch (take i order) (slice_index order i)
+IsOrder epoch order = (i : ℕ) → i < length order
+    → MayFollow epoch (take i order) (slice_index order i)
 
 -- each active node is in the list
 abbrev pub IsWhole : Epoch → List ℕ → Type 0
-IsWhole epoch order = (node : ℕ) → takes_part epoch node ≡ true → is_among order node ≡ true
+IsWhole epoch order = (node : ℕ) → takes_part epoch node ≡ true
+    → is_among order node ≡ true

@@ -1,4 +1,5 @@
--- How far the cycle function has come: what each node has received before and after a cycle, and what ports gave in it.
+-- How far the cycle function has come: what each node has received before and after a cycle, and
+-- what ports gave in it.
 -- Source: PipeWire's documentation, "Graph Scheduling": a node runs after those it depends on.
 use Rattle.std.specs.Prelude.{◌≡◌, ℕ, zero, suc, ◌-◌, ◌*◌, ◌<◌, ◌≤◌, nat_lt, true, List, [], filter, flat_map, length, slice_index_or}
 use Rattle.std.specs.Prelude.{ℤ, if◌then◌else◌}
@@ -23,14 +24,17 @@ abbrev pub begun : Plan → Outputs → ℕ → PortId → List ℤ
 begun plan out cycle port =
     flat_map (λ k. input_of plan out k port)
     (filter (λ k. is_active plan k port.node)
-    (range_with_len (stream_start plan cycle port.node) (cycle - stream_start plan cycle port.node)))
+    (range_with_len (stream_start plan cycle port.node)
+    (cycle - stream_start plan cycle port.node)))
 
 -- what a node has received in so many cycles, by the streams of its ports
 abbrev pub received_with : Plan → ℕ → (PortId → List ℤ) → ℕ → Received
 received_with plan cycles stream node = record {
   frames = plan.quantum * length (filter (λ k. is_active plan k node) (range_with_len 0 cycles));
-  a = if nat_lt 0 (input_count (kind_at plan node)) then stream (record { node = node; port = 0 }) else [];
-  b = if nat_lt 1 (input_count (kind_at plan node)) then stream (record { node = node; port = 1 }) else [];
+  a = if nat_lt 0 (input_count (kind_at plan node)) then stream (record { node = node; port = 0 })
+      else [];
+  b = if nat_lt 1 (input_count (kind_at plan node)) then stream (record { node = node; port = 1 })
+      else [];
 }
 
 -- after so many cycles, and as the next one begins
@@ -45,7 +49,8 @@ abbrev pub nothing : Received
 nothing = record { frames = 0; a = []; b = [] }
 
 -- a list has what each of so many nodes has received
-pub record AreReceived (count : ℕ) (f : ℕ → Received) (received : List Received) : Type 0 where
+pub record AreReceived (count : ℕ) (f : ℕ → Received)
+    (received : List Received) : Type 0 where
   pub counted : length received ≡ count
   pub each : (node : ℕ) → node < count → slice_index_or received node nothing ≡ f node
 
@@ -56,7 +61,8 @@ IsOutputOf plan port = (input_count (kind_at plan port.node) ≤ port.port)
 
 -- a list tells what each output of an active node gave in a cycle; in the cycle before one
 abbrev pub TellsCycle : Plan → Outputs → ℕ → List Given → Type 0
-TellsCycle plan out cycle given = (port : PortId) → is_active plan cycle port.node ≡ true → IsOutputOf plan port
+TellsCycle plan out cycle given = (port : PortId) → is_active plan cycle port.node ≡ true
+    → IsOutputOf plan port
     → given_at given port ≡ out cycle port
 
 abbrev pub TellsBefore : Plan → Outputs → ℕ → List Given → Type 0

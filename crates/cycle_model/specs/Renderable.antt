@@ -34,8 +34,8 @@ pub record IsRenderableEpoch (plan : Plan) (epoch : Epoch) : Type 0 where
   pub links : All (IsFitting plan epoch) epoch.shape.links
   pub order : HasOrder epoch.shape.links
 
--- few enough nodes with numbers in range, epochs that follow one another from cycle 0 on and can each be rendered, and
--- a wave for each source
+-- few enough nodes with numbers in range, epochs that follow one another from cycle 0 on and can
+-- each be rendered, and a wave for each source
 pub record IsRenderable (plan : Plan) (waves : List WavIn) : Type 0 where
   pub few : length plan.nodes ≤ 63
   pub ranges : All (λ n. IsInRange n.kind) plan.nodes

@@ -15,7 +15,8 @@ use Rattle.cycle_model.specs.Known.{given_at}
 use Rattle.cycle_model.specs.Progress.{received_until, received_before, nothing, IsOutputOf, TellsBefore}
 
 -- how far a cycle has come: these nodes are done
-pub record IsUnderWay (plan : Plan) (waves : List WavIn) (c : ℕ) (done : List ℕ) (received : List Received)
+pub record IsUnderWay (plan : Plan) (waves : List WavIn) (c : ℕ) (done : List ℕ)
+    (received : List Received)
     (now : List Given) : Type 0 where
   pub counted : length received ≡ length plan.nodes
   pub heard : (n : ℕ) → n < length plan.nodes → is_among done n ≡ true
@@ -27,7 +28,8 @@ pub record IsUnderWay (plan : Plan) (waves : List WavIn) (c : ℕ) (done : List 
       → given_at now port ≡ outputs plan waves c port
 
 -- what is known of a cycle
-pub record IsCycle (plan : Plan) (waves : List WavIn) (c : ℕ) (e : Epoch) (earlier : List Given) : Type 0 where
+pub record IsCycle (plan : Plan) (waves : List WavIn) (c : ℕ) (e : Epoch)
+    (earlier : List Given) : Type 0 where
   pub renderable : IsRenderable plan waves
   pub here : epoch_at plan c ≡ Some e
   pub told : TellsBefore plan (outputs plan waves) c earlier

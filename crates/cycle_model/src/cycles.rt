@@ -45,8 +45,8 @@ fn all_cycles(epochs: &[Epoch]) -> Option<u64>
     Some(sum)
 }
 
-/// One cycle: each active node receives its inputs and gives its outputs, after those whose output it gets. The answer
-/// is what the ports gave.
+/// One cycle: each active node receives its inputs and gives its outputs, after those whose output
+/// it gets. The answer is what the ports gave.
 fn work_cycle(
     alloc: Global,
     plan: &Plan,

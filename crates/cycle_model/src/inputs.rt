@@ -27,7 +27,8 @@ pub(crate) fn samples_in(quantum: u32, channels: u32) -> usize
     (u64::from(quantum) * u64::from(channels)) as usize
 }
 
-/// Writes the sum of each two samples; `Memory` where one does not fit, which takes more rows than memory can hold.
+/// Writes the sum of each two samples; `Memory` where one does not fit, which takes more rows than
+/// memory can hold.
 fn add(sums: &[i64], row: &[i16], to: &mut [i64]) -> Result<(), Memory>
     requires { length to.old ≡ min (length sums.now) (length row.now) }
     ensures { OnOk result (to.new ≡ summed sums.now row.now) }

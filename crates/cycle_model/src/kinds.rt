@@ -82,7 +82,8 @@ fn square_at(period: u32, amp: i32, frame: usize) -> i16
 
 /// A sample of a delayed row.
 fn delayed(zeros: u64, row: &[i16], i: usize) -> i16
-    ensures { result ≡ (if nat_lt i zeros then pos 0 else slice_index_or row.now (i - zeros) (pos 0)) }
+    ensures { result ≡ (if nat_lt i zeros then pos 0
+        else slice_index_or row.now (i - zeros) (pos 0)) }
 {
     if (i as u64) < zeros {
         0
@@ -157,9 +158,11 @@ fn fill(
     to: &mut [i16],
 )
     requires range { IsInRange kind.now }
-    requires within { from + length to.old ≤ kind_length kind.now (heard_of wave.now channels received.now) }
+    requires within { from + length to.old
+        ≤ kind_length kind.now (heard_of wave.now channels received.now) }
     requires fits { from + length to.old < 2 ^ 64 }
-    ensures { to.new ≡ map (λ r. kind_sample kind.now (heard_of wave.now channels received.now) output
+    ensures { to.new
+        ≡ map (λ r. kind_sample kind.now (heard_of wave.now channels received.now) output
         (from + r)) (range_with_len 0 (length to.old)) }
 {
     for r in 0..to.len() {
@@ -167,7 +170,8 @@ fn fill(
     }
 }
 
-/// The last `n` samples, or all if there are fewer, that a node gives at an output, outputs counted from 0.
+/// The last `n` samples, or all if there are fewer, that a node gives at an output, outputs counted
+/// from 0.
 pub(crate) fn last_given(
     alloc: Global,
     kind: &Kind,

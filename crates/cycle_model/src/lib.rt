@@ -1,5 +1,5 @@
-//! The cycle function: the samples of every port in every cycle, as recursion over whole streams, and a
-//! plain program that computes it from a plan and its waves.
+//! The cycle function: the samples of every port in every cycle, as recursion over whole streams,
+//! and a plain program that computes it from a plan and its waves.
 #![tactic(auto)]
 
 mod cycles;

@@ -20,8 +20,8 @@ pub struct Received {
     pub b: Items<i16>,
 }
 
-/// The cycle that is worked: its quantum in frames, whether it is its epoch's first, its epoch, and what ports gave in
-/// the cycle before.
+/// The cycle that is worked: its quantum in frames, whether it is its epoch's first, its epoch, and
+/// what ports gave in the cycle before.
 #[derive(Clone, Copy, Drop)]
 pub(crate) struct Setting<'a> {
     pub quantum: u32,

@@ -59,7 +59,8 @@ fn kept_by(
     }))
 }
 
-/// The peak of a node: that of the stream that a meter with a format received; any other node has none.
+/// The peak of a node: that of the stream that a meter with a format received; any other node has
+/// none.
 fn peak_by(place: u32, node: &PlanNode, received: &Received) -> Option<Peak>
     ensures { result ≡ peak_by place node.now received.now }
 {
@@ -123,12 +124,14 @@ fn all_peaks(
     Ok(peaks)
 }
 
-/// Renders a plan from its waves: what each sink keeps, and the peak of each meter, with no history of a run.
+/// Renders a plan from its waves: what each sink keeps, and the peak of each meter, with no history
+/// of a run.
 ///
-/// It goes cycle by cycle, and in a cycle from node to node in an order of the links that are not delayed; what each
-/// input received is kept whole, and each sample of an output is worked out by index into it. `Memory` where there
-/// is not enough, or where a number of samples or a sum of them is more than memory can hold. It takes memory for all
-/// that the inputs receive, and time for each sample of each output and of each link.
+/// It goes cycle by cycle, and in a cycle from node to node in an order of the links that are not
+/// delayed; what each input received is kept whole, and each sample of an output is worked out by
+/// index into it. `Memory` where there is not enough, or where a number of samples or a sum of them
+/// is more than memory can hold. It takes memory for all that the inputs receive, and time for each
+/// sample of each output and of each link.
 pub fn render(alloc: Global, plan: &Plan, waves: &Items<WavIn>) -> Result<Outcome, Memory>
     requires renderable { IsRenderable plan.now waves.now }
     ensures sinks { IfOk result (λ outcome. outcome.sinks ≡ rendered_sinks plan.now waves.now) }

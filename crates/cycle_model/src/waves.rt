@@ -76,8 +76,8 @@ fn have_one(plan: &Plan, waves: &[WavIn]) -> bool
     true
 }
 
-/// Whether there is one wave for each source of the plan and no other, each with the rate and channels of its source's
-/// port. Takes no memory.
+/// Whether there is one wave for each source of the plan and no other, each with the rate and
+/// channels of its source's port. Takes no memory.
 pub fn waves_fit(plan: &Plan, waves: &Items<WavIn>) -> bool
     requires { length plan.now.nodes ≤ 63 }
     ensures { IsTrue result ↔ WavesFit plan.now waves.now }

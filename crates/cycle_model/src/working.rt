@@ -50,7 +50,8 @@ pub(crate) fn release(alloc: Global, epochs: &[Epoch], cycle: u64, received: &mu
     requires { length received.old ≤ 63 }
     ensures long { length received.new ≡ length received.old }
     ensures each { (n : ℕ) → n < length received.old → slice_index_or received.new n nothing
-        ≡ (if is_released epochs.now cycle n then released (slice_index_or received.old n nothing) else slice_index_or received.old n nothing) }
+        ≡ (if is_released epochs.now cycle n then released (slice_index_or received.old n nothing)
+        else slice_index_or received.old n nothing) }
 {
     for n in 0..received.len() {
         if is_released(epochs, cycle, n as u32) {
@@ -70,7 +71,8 @@ fn receive(
     received: &mut Received,
 ) -> Result<(), Memory>
     ensures { OnOk result (received.new
-        ≡ received_more at.now.quantum at.now.first at.now.before.now now.now at.now.epoch.now kind.now node
+        ≡ received_more at.now.quantum at.now.first at.now.before.now now.now at.now.epoch.now
+        kind.now node
         received.old) }
 {
     let Some(frames) = received.frames.checked_add(u64::from(at.quantum)) else {
@@ -101,7 +103,8 @@ fn give(
 ) -> Result<(), Memory>
     requires { IsInRange kind.now }
     ensures { OnOk result (now.new
-        ≡ now.old ++ all_given_by at.now.quantum at.now.epoch.now kind.now wave.now node received.now) }
+        ≡ now.old ++ all_given_by at.now.quantum at.now.epoch.now kind.now wave.now node
+        received.now) }
 {
     let inputs = kind.inputs();
     for output in 0..kind.outputs() {
@@ -130,10 +133,13 @@ pub(crate) fn work(
     requires range { IsInRange kind.now }
     requires there { node < length received.old }
     ensures received { OnOk result (received.new ≡ slice_set received.old node
-        (received_more at.now.quantum at.now.first at.now.before.now now.old at.now.epoch.now kind.now node (slice_index_or received.old node nothing))) }
-    ensures now { OnOk result (now.new ≡ now.old ++ all_given_by at.now.quantum at.now.epoch.now kind.now
+        (received_more at.now.quantum at.now.first at.now.before.now now.old at.now.epoch.now
+        kind.now node (slice_index_or received.old node nothing))) }
+    ensures now { OnOk result (now.new
+        ≡ now.old ++ all_given_by at.now.quantum at.now.epoch.now kind.now
         (wave_of waves.now node) node
-        (received_more at.now.quantum at.now.first at.now.before.now now.old at.now.epoch.now kind.now node (slice_index_or received.old node nothing))) }
+        (received_more at.now.quantum at.now.first at.now.before.now now.old at.now.epoch.now
+        kind.now node (slice_index_or received.old node nothing))) }
 {
     let here = &mut received[node as usize];
     receive(alloc, at, now.as_slice(), kind, node, here)?;

@@ -13,7 +13,10 @@ late_nodes late = filter (λ n. late / 2 ^ n % 2 == 1) (range_with_len 0 64)
 -- the line: what happened, in which cycle, and to which nodes, by their names
 abbrev pub event_line : List (List ℕ) → Event → List ℕ
 event_line names (Begin cycle) = line (codes "begin") (decimal cycle ∷ [])
-event_line names (Start cycle node) = line (codes "start") (decimal cycle ∷ node_name names node ∷ [])
-event_line names (Finish cycle node) = line (codes "finish") (decimal cycle ∷ node_name names node ∷ [])
-event_line names (Tick cycle late) = line (codes "tick") (decimal cycle ∷ map (node_name names) (late_nodes late))
+event_line names (Start cycle node) = line (codes "start")
+    (decimal cycle ∷ node_name names node ∷ [])
+event_line names (Finish cycle node) = line (codes "finish")
+    (decimal cycle ∷ node_name names node ∷ [])
+event_line names (Tick cycle late) = line (codes "tick")
+    (decimal cycle ∷ map (node_name names) (late_nodes late))
 event_line names (End cycle) = line (codes "end") (decimal cycle ∷ [])

@@ -8,7 +8,8 @@ use Rattle.pw_base.specs.declared.event.Event.TheVariants.{Begin, Start, Finish,
 
 -- the node that a word names
 abbrev pub node_said : List (List ℕ) → List ℕ → Option ℕ
-node_said names word = if bytes_eq word (codes "dummy") then Some DUMMY else position (bytes_eq word) names
+node_said names word = if bytes_eq word (codes "dummy") then Some DUMMY
+    else position (bytes_eq word) names
 
 -- the node that the words name, if they are one word
 abbrev pub one_node_said : List (List ℕ) → List (List ℕ) → Option ℕ
@@ -20,7 +21,8 @@ one_node_said names (word ∷ (next ∷ rest)) = None
 abbrev pub late_said : List (List ℕ) → List (List ℕ) → ℕ → Option ℕ
 late_said names [] late = Some late
 late_said names (word ∷ words) late =
-    option_map_or (λ n. if nat_lt (late + 2 ^ n) (2 ^ 64) then late_said names words (late + 2 ^ n) else None)
+    option_map_or (λ n. if nat_lt (late + 2 ^ n) (2 ^ 64) then late_said names words (late + 2 ^ n)
+    else None)
     (node_said names word) None
 
 -- an event that no word follows
@@ -34,6 +36,7 @@ event_said names first cycle words =
     if bytes_eq first (codes "begin") then alone (Begin cycle) words
     else if bytes_eq first (codes "end") then alone (End cycle) words
     else if bytes_eq first (codes "start") then option_map (Start cycle) (one_node_said names words)
-    else if bytes_eq first (codes "finish") then option_map (Finish cycle) (one_node_said names words)
+    else if bytes_eq first (codes "finish")
+    then option_map (Finish cycle) (one_node_said names words)
     else if bytes_eq first (codes "tick") then option_map (Tick cycle) (late_said names words 0)
     else None

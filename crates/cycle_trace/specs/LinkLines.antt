@@ -19,7 +19,8 @@ link_word NotThere = codes "nounlink"
 
 -- the words after its two ports
 abbrev pub link_details : LineOutcome → List (List ℕ)
-link_details (Linked rate channels buffers) = decimal rate ∷ decimal channels ∷ decimal buffers ∷ []
+link_details (Linked rate channels buffers) = decimal rate ∷ decimal channels
+    ∷ decimal buffers ∷ []
 link_details (NoFormat key) = decimal key ∷ []
 link_details NoBuffers = codes "buffers" ∷ []
 link_details Looped = codes "loop" ∷ []
@@ -29,4 +30,5 @@ link_details NotThere = []
 
 -- the whole line
 abbrev pub link_line : List PlanNode → LinkLine → List ℕ
-link_line nodes l = line (link_word l.outcome) (endpoint nodes l.from ∷ endpoint nodes l.to ∷ link_details l.outcome)
+link_line nodes l = line (link_word l.outcome)
+    (endpoint nodes l.from ∷ endpoint nodes l.to ∷ link_details l.outcome)

@@ -29,7 +29,8 @@ abbrev pub NamesNodes : {X : Type 0} → List X → Event → Type 0
 NamesNodes nodes (Begin cycle) = ⊤
 NamesNodes nodes (Start cycle node) = IsNode nodes node
 NamesNodes nodes (Finish cycle node) = IsNode nodes node
-NamesNodes nodes (Tick cycle late) = (n : ℕ) → n < 64 → late / 2 ^ n % 2 ≡ 1 → IsNode nodes n
+NamesNodes nodes (Tick cycle late) = (n : ℕ) → n < 64 → late / 2 ^ n % 2 ≡ 1
+    → IsNode nodes n
 NamesNodes nodes (End cycle) = ⊤
 
 -- so it is with the lines of the plan, and with the events if a history is told

@@ -14,11 +14,13 @@ sink_frames outcome place = option_map_or (λ k. length k.wav.samples / k.wav.ch
 
 -- the greatest absolute value that a meter has heard
 abbrev pub meter_peak : Outcome → ℕ → ℕ
-meter_peak outcome place = option_map_or (λ p. p.value) (find (λ p. p.node == place) outcome.peaks) 0
+meter_peak outcome place = option_map_or (λ p. p.value)
+    (find (λ p. p.node == place) outcome.peaks) 0
 
 -- the line wanted, unless the node has no format, which its rate of 0 says
 abbrev pub unless_unused : PlanNode → List ℕ → List ℕ
-unless_unused node wanted = if node.rate == 0 then line (codes "unused") (node.name ∷ []) else wanted
+unless_unused node wanted = if node.rate == 0 then line (codes "unused") (node.name ∷ [])
+    else wanted
 
 -- the line of the node at a place if it were of a kind; only sinks and meters have one
 abbrev pub kept_line : Outcome → ℕ → PlanNode → Kind → List ℕ

@@ -1,5 +1,5 @@
--- Reading a trace: which events its lines are the lines of, and its first line that is none. The form is this
--- project's own.
+-- Reading a trace: which events its lines are the lines of, and its first line that is none. The
+-- form is this project's own.
 use Rattle.std.specs.Prelude.{Bool, false, ◌≡◌, ◌≢◌, ℕ, ◌-◌, ◌^◌, ◌<◌, ◌≤◌, ◌==◌, if◌then◌else◌, List, [], ◌∷◌}
 use Rattle.std.specs.Prelude.{◌++◌, length, take, All, AllPairs, codes, slice_index_or}
 use Rattle.std.specs.List.{slice_split, AllZip}
@@ -14,7 +14,8 @@ use Rattle.cycle_trace.specs.EventLines.{event_line}
 abbrev pub is_line_feed : ℕ → Bool
 is_line_feed b = b == 10
 
--- the pieces without the last, if that is empty: after a last line feed, or of no bytes, there is no line
+-- the pieces without the last, if that is empty: after a last line feed, or of no bytes, there is
+-- no line
 abbrev pub without_empty_last : List (List ℕ) → List (List ℕ)
 without_empty_last [] = []
 without_empty_last (piece ∷ []) = if length piece == 0 then [] else piece ∷ []
@@ -42,8 +43,10 @@ pub record IsLineOf (names : List (List ℕ)) (line : List ℕ) (event : Event) 
 abbrev pub IsNoLine : List (List ℕ) → List ℕ → Type 0
 IsNoLine names line = (event : Event) → ¬ IsLineOf names line event
 
--- the lines before the one of this number, counted from 1, are those of events, and that one is of none
-pub record IsFirstFault (names : List (List ℕ)) (lines : List (List ℕ)) (number : ℕ) : Type 0 where
+-- the lines before the one of this number, counted from 1, are those of events, and that one is of
+-- none
+pub record IsFirstFault (names : List (List ℕ)) (lines : List (List ℕ))
+    (number : ℕ) : Type 0 where
   pub counted : 1 ≤ number
   pub there : number ≤ length lines
   pub before : List Event

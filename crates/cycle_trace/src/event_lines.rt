@@ -31,7 +31,8 @@ fn append_mark(word: &[u8], cycle: u32, text: &mut Text) -> Result<(), Memory>
 /// Appends the names of a set of nodes, ascending by number.
 fn append_late_nodes(names: &[Text], late: u64, text: &mut Text) -> Result<(), Memory>
     requires { (n : ℕ) → n < 64 → late / 2 ^ n % 2 ≡ 1 → IsNode names.now n }
-    ensures { OnOk result (text.new ≡ text.old ++ spaced (map (node_name names.now) (late_nodes late))) }
+    ensures { OnOk result (text.new
+        ≡ text.old ++ spaced (map (node_name names.now) (late_nodes late))) }
 {
     for n in 0..64u32 {
         if (late >> n) % 2 == 1 {

@@ -68,7 +68,8 @@ fn is_node(names: &[Text], node: u32) -> bool
 
 /// Whether each node of a set is one.
 fn are_nodes(names: &[Text], late: u64) -> bool
-    ensures { IsTrue result ↔ ((n : ℕ) → n < 64 → late / 2 ^ n % 2 ≡ 1 → IsNode names.now n) }
+    ensures { IsTrue result ↔ ((n : ℕ) → n < 64 → late / 2 ^ n % 2 ≡ 1
+        → IsNode names.now n) }
 {
     for n in 0..64u32 {
         if (late >> n) % 2 == 1 && !is_node(names, n) {
@@ -92,7 +93,8 @@ fn names_nodes(names: &[Text], event: Event) -> bool
 /// Whether the line, without its line feed, is that of the event.
 fn is_line_of(alloc: Global, names: &[Text], event: Event, line: &[u8]) -> Result<bool, Memory>
     requires { NamesNodes names.now event }
-    ensures { IfOk result (λ same. IsTrue same ↔ (line.now ++ 10 ∷ [] ≡ event_line names.now event)) }
+    ensures { IfOk result (λ same. IsTrue same
+        ↔ (line.now ++ 10 ∷ [] ≡ event_line names.now event)) }
 {
     let mut told = Items::new(alloc);
     append_event_line(names, event, &mut told)?;
@@ -141,16 +143,18 @@ fn next_line(text: &[u8]) -> Option<(&[u8], &[u8])>
 
 /// The events whose lines the bytes are, or the first line that is no event line.
 ///
-/// An event line is what `run_text` prints for an event whose cycle fits 32 bits and whose nodes are in `names`, by
-/// their numbers, or are the built-in driver. Lines are numbered from 1; the last may lack its line feed, and no
-/// bytes are no line. Takes memory for the events, and time in proportion to the bytes and the names.
+/// An event line is what `run_text` prints for an event whose cycle fits 32 bits and whose nodes
+/// are in `names`, by their numbers, or are the built-in driver. Lines are numbered from 1; the
+/// last may lack its line feed, and no bytes are no line. Takes memory for the events, and time in
+/// proportion to the bytes and the names.
 pub fn read_events(
     alloc: Global,
     names: &Items<Text>,
     bytes: &[u8],
 ) -> Result<Items<Event>, TraceFault>
     requires { AreNames names.now }
-    ensures events { IfOk result (λ events. AllZip (IsLineOf names.now) (trace_lines bytes.now) events) }
+    ensures events { IfOk result
+        (λ events. AllZip (IsLineOf names.now) (trace_lines bytes.now) events) }
     ensures fault { IfErr result (IsFaultOf names.now (trace_lines bytes.now)) }
 {
     let names = names.as_slice();

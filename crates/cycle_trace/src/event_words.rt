@@ -71,7 +71,8 @@ fn late_said(names: &[Text], words: Option<&[u8]>) -> Option<u64>
 
 /// The event, unless words follow it.
 fn alone(event: Event, words: Option<&[u8]>) -> Option<Event>
-    ensures { result ≡ alone event (option_map_or (λ text. slice_split is_space text.now) words.entry []) }
+    ensures { result ≡ alone event
+        (option_map_or (λ text. slice_split is_space text.now) words.entry []) }
 {
     match words {
         None => Some(event),

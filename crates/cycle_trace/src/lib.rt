@@ -1,5 +1,5 @@
-//! The text of a run: what its link lines did, its events, and what its sinks and meters have; and the events of a
-//! trace, read back from their lines.
+//! The text of a run: what its link lines did, its events, and what its sinks and meters have; and
+//! the events of a trace, read back from their lines.
 #![tactic(auto)]
 
 mod event_lines;

@@ -21,10 +21,12 @@ fn names_of(alloc: Global, nodes: &[PlanNode]) -> Result<Items<Text>, Memory>
     Ok(names)
 }
 
-/// The text of a run: a line for each `link` and `unlink`, in the order of the script; a line for each event
-/// of a history, where one is handed in; and a line for each sink and meter, ascending by number.
+/// The text of a run: a line for each `link` and `unlink`, in the order of the script; a line for
+/// each event of a history, where one is handed in; and a line for each sink and meter, ascending
+/// by number.
 ///
-/// The ports of the plan's lines are there, and so are the nodes of the events, where 63 is the built-in driver.
+/// The ports of the plan's lines are there, and so are the nodes of the events, where 63 is the
+/// built-in driver.
 /// A sink with a rate that has kept no wave counts as one of 0 frames.
 pub fn run_text(
     alloc: Global,
@@ -33,7 +35,8 @@ pub fn run_text(
     outcome: &Outcome,
 ) -> Result<Text, Memory>
     requires { IsPrintable plan.now (option_copied history) }
-    ensures { IfOk result (λ text. text ≡ run_text_of plan.now (option_copied history.entry) outcome.now) }
+    ensures { IfOk result (λ text. text
+        ≡ run_text_of plan.now (option_copied history.entry) outcome.now) }
 {
     let nodes = plan.nodes.as_slice();
     let mut text = Items::new(alloc);

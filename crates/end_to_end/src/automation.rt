@@ -1,4 +1,5 @@
-//! A wave by the gains of a control sequence: what `automate` stores and prints, and why its files are refused.
+//! A wave by the gains of a control sequence: what `automate` stores and prints, and why its files
+//! are refused.
 
 use crate::support::{expect, text};
 use pw_base::{Items, MemFiles, MemSink, Memory};
@@ -83,8 +84,8 @@ fn a_gain_from_the_third_frame_on(rt: HostRuntime) -> Result<(), Fail> {
     };
     assert!(rt; bytes.as_slice() == OUT.as_slice());
     let mut lines = MemSink::new(alloc)?;
-    let wanted =
-        "sequence 0 1\n  control 2 1\n    object 262146 2 1\n      prop 16777217 0\n        int 128\n";
+    let wanted = "sequence 0 1\n  control 2 1\n    object 262146 2 1\n      prop 16777217 0\n\
+        \x20       int 128\n";
     expect(
         &rt,
         "dump s.pod",

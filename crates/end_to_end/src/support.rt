@@ -38,7 +38,8 @@ pub fn files_of(alloc: Global, script: &str) -> Result<MemFiles, Memory> {
     Ok(files)
 }
 
-/// So many blanks. Nothing is ensured of them, since a list that long is not to be computed in a proof.
+/// So many blanks. Nothing is ensured of them, since a list that long is not to be computed in a
+/// proof.
 pub fn blanks(alloc: Global, len: usize) -> Result<Items<u8>, Memory> {
     Items::filled(alloc, len, b' ')
 }

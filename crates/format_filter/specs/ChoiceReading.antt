@@ -1,5 +1,5 @@
--- What a property's value is read as: the choice of its values, or its fault. SPA POD, "Choice"; spa/pod/pod.h,
--- spa_choice_type; which of them is at fault is this project's.
+-- What a property's value is read as: the choice of its values, or its fault. SPA POD, "Choice";
+-- spa/pod/pod.h, spa_choice_type; which of them is at fault is this project's.
 use Rattle.std.specs.Prelude.{◌≡◌, ◌⊎◌, ℕ, ℤ, pos, ◌<ℤ◌, ◌≤ℤ◌, List, [], ◌∷◌}
 use Rattle.pod_codec.specs.declared.pod.Pod.{Pod}
 use Rattle.pod_codec.specs.declared.pod.Prop.{Prop}
@@ -14,9 +14,11 @@ use Rattle.format_filter.specs.declared.fault.FormatFault.{FormatFault}
 use Rattle.format_filter.specs.declared.fault.FormatFault.TheVariants as f
 use Rattle.format_filter.specs.Members.{number_of, IsMember, pick_of, first_of}
 
--- the default is the pick where it is a member; else the min of a Range or Step, or the first alternative, is
+-- the default is the pick where it is a member; else the min of a Range or Step, or the first
+-- alternative, is
 abbrev pub Prefers : Pod → Choice → Type 0
-Prefers wish c = (IsMember c wish × (pick_of c ≡ wish)) ⊎ ((IsMember c wish → ⊥) × (pick_of c ≡ first_of c))
+Prefers wish c = (IsMember c wish × (pick_of c ≡ wish))
+    ⊎ ((IsMember c wish → ⊥) × (pick_of c ≡ first_of c))
 
 -- a number of a type
 abbrev pub IsNumber : Wide → Pod → Type 0
@@ -24,13 +26,15 @@ IsNumber wide v = (n : ℤ) × (v ≡ number_of wide n)
 
 -- default, min and max
 abbrev pub ReadsRange : Pod → Pod → Pod → Choice → Type 0
-ReadsRange wish low high (Range wide pick min max) = IsNumber wide wish × (low ≡ number_of wide min)
+ReadsRange wish low high (Range wide pick min max) = IsNumber wide wish
+    × (low ≡ number_of wide min)
     × (high ≡ number_of wide max) × (min ≤ℤ max) × Prefers wish (Range wide pick min max)
 ReadsRange wish low high other = ⊥
 
 -- default, min, max and step
 abbrev pub ReadsStep : Pod → Pod → Pod → Pod → Choice → Type 0
-ReadsStep wish low high by (Step wide pick min max step) = IsNumber wide wish × (low ≡ number_of wide min)
+ReadsStep wish low high by (Step wide pick min max step) = IsNumber wide wish
+    × (low ≡ number_of wide min)
     × (high ≡ number_of wide max) × (by ≡ number_of wide step) × (min ≤ℤ max)
     × (pos 0 <ℤ step) × Prefers wish (Step wide pick min max step)
 ReadsStep wish low high by other = ⊥

@@ -1,5 +1,5 @@
--- The common format of two formats, and the keys at which they clash. SPA POD, "Object"; spa/pod/filter.h,
--- spa_pod_filter; what a key that one side lacks does is this project's.
+-- The common format of two formats, and the keys at which they clash. SPA POD, "Object";
+-- spa/pod/filter.h, spa_pod_filter; what a key that one side lacks does is this project's.
 use Rattle.std.specs.Prelude.{◌≡◌, ◌≢◌, ℕ, ◌<◌, ◌==◌, List, Option, Some, None, bit_and}
 use Rattle.std.specs.List.{All, AllPairs, find}
 use Rattle.pod_codec.specs.declared.pod.Pod.{Pod}
@@ -27,7 +27,8 @@ field_of fields key = find (λ f. f.key == key) fields
 abbrev pub IsMandatory : ℕ → Type 0
 IsMandatory flags = bit_and flags 8 ≡ 8
 
--- what two formats have at a key clashes: two choices without a common member, or a mandatory one alone
+-- what two formats have at a key clashes: two choices without a common member, or a mandatory one
+-- alone
 abbrev pub AreClashing : Option Field → Option Field → Type 0
 AreClashing (Some f) (Some g) = (x : Pod) → IsCommon f.choice g.choice x → ⊥
 AreClashing (Some f) None = IsMandatory f.flags
@@ -43,9 +44,11 @@ pub record HasCommonFormat (a b : Format) : Type 0 where
   pub types : a.object ≡ b.object
   pub clashless : (key : ℕ) → Clashes a.fields b.fields key → ⊥
 
--- what the common format has at a key: what one has alone, or the intersection and the flags that both have
+-- what the common format has at a key: what one has alone, or the intersection and the flags that
+-- both have
 abbrev pub IsCommonField : Option Field → Option Field → Option Field → Type 0
-IsCommonField (Some f) (Some g) (Some h) = (h.key ≡ f.key) × (h.flags ≡ bit_and f.flags g.flags)
+IsCommonField (Some f) (Some g) (Some h) = (h.key ≡ f.key)
+    × (h.flags ≡ bit_and f.flags g.flags)
     × IsIntersection f.choice g.choice h.choice
 IsCommonField (Some f) (Some g) None = ⊥
 IsCommonField (Some f) None h = h ≡ Some f
@@ -56,7 +59,8 @@ pub record IsCommonFormat (a b c : Format) : Type 0 where
   pub sound : IsSoundFormat c
   pub object : c.object ≡ a.object
   pub id : c.id ≡ a.id
-  pub fields : (key : ℕ) → IsCommonField (field_of a.fields key) (field_of b.fields key) (field_of c.fields key)
+  pub fields : (key : ℕ) → IsCommonField (field_of a.fields key) (field_of b.fields key)
+      (field_of c.fields key)
 
 -- other object types, else the least clashing key, else the common format
 abbrev pub Filters : Format → Format → Filtered → Type 0

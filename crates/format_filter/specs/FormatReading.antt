@@ -1,5 +1,4 @@
--- What an object is read as: the format of its properties, or the first fault. SPA POD, "Object"; spa/pod/pod.h;
--- the order of the faults is this project's.
+-- What an object is read as: a format, or its first fault. SPA POD, "Object"; spa/pod/pod.h.
 use Rattle.std.specs.Prelude.{◌≡◌, ◌≢◌, ◌⊎◌, ℕ, List, ◌∷◌, ◌++◌, Some, None}
 use Rattle.std.specs.List.{All, AllPairs, Any}
 use Rattle.pod_codec.specs.declared.pod.Pod.{Pod}
@@ -35,8 +34,10 @@ pub record AreReadable (props : List Prop) : Type 0 where
 pub record AreFieldsOf (props : List Prop) (fields : List Field) : Type 0 where
   pub distinct : AllPairs (λ p q. key_of p ≢ key_of q) props
   pub sound : AreSoundFields fields
-  pub each : All (λ prop. (field : Field) × (field_of fields (key_of prop) ≡ Some field) × ReadsField prop field) props
-  pub only : (key : ℕ) → All (λ prop. key_of prop ≢ key) props → field_of fields key ≡ None
+  pub each : All (λ prop. (field : Field) × (field_of fields (key_of prop) ≡ Some field)
+      × ReadsField prop field) props
+  pub only : (key : ℕ) → All (λ prop. key_of prop ≢ key) props
+      → field_of fields key ≡ None
 
 -- a property behind others is at fault: one of them has its key, else its value is
 abbrev pub IsTwice : List Prop → Prop → Type 0
@@ -44,7 +45,8 @@ IsTwice before prop = Any (λ other. key_of other ≡ key_of prop) before
 
 abbrev pub FaultsProp : List Prop → Prop → FormatFault → Type 0
 FaultsProp before prop fault = (IsTwice before prop × (fault ≡ f.KeyTwice (key_of prop)))
-    ⊎ ((IsTwice before prop → ⊥) × Faults (out-Pod (out-Prop prop).value) (key_of prop) fault)
+    ⊎ ((IsTwice before prop → ⊥)
+    × Faults (out-Pod (out-Prop prop).value) (key_of prop) fault)
 
 -- FORMAT of an object
 abbrev pub ReadsObject : Pod-F Pod Control Prop → Format → Type 0

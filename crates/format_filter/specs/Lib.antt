@@ -1,6 +1,7 @@
 pub mod Members
 pub mod Soundness
 pub mod Intersection
+pub mod IntersectionForm
 pub mod Progression
 pub mod Picking
 pub mod Making

@@ -1,4 +1,5 @@
--- The members of a choice, the values that it admits, and its pick. SPA POD, "Choice"; spa/pod/pod.h.
+-- The members of a choice, the values that it admits, and its pick. SPA POD, "Choice";
+-- spa/pod/pod.h.
 -- Values of different types are different, and floats are compared by their bits.
 use Rattle.std.specs.Prelude.{◌≡◌, ℕ, ℤ, pos, ◌+ℤ◌, ◌*ℤ◌, ◌≤ℤ◌, [], ◌∷◌}
 use Rattle.std.specs.List.{Contains}
@@ -18,13 +19,15 @@ number_of Long n = pod.Long n
 abbrev pub IsReached : ℤ → ℤ → ℤ → Type 0
 IsReached min step n = (k : ℕ) × (n ≡ min +ℤ (pos k *ℤ step))
 
--- MEMBERS: the value of an Only, the alternatives of an Enum, the numbers from min to max of a Range, and of
--- a Step those that are min + k * step, up to max
+-- MEMBERS: the value of an Only, the alternatives of an Enum, the numbers from min to max of a
+-- Range, and of a Step those that are min + k * step, up to max
 abbrev pub IsMember : Choice → Pod → Type 0
 IsMember (Only value) x = x ≡ value
 IsMember (Enum pick alts) x = Contains alts x
-IsMember (Range wide pick min max) x = (n : ℤ) × (x ≡ number_of wide n) × (min ≤ℤ n) × (n ≤ℤ max)
-IsMember (Step wide pick min max step) x = (n : ℤ) × (x ≡ number_of wide n) × IsReached min step n × (n ≤ℤ max)
+IsMember (Range wide pick min max) x = (n : ℤ) × (x ≡ number_of wide n) × (min ≤ℤ n)
+    × (n ≤ℤ max)
+IsMember (Step wide pick min max step) x = (n : ℤ) × (x ≡ number_of wide n)
+    × IsReached min step n × (n ≤ℤ max)
 
 -- the value that a choice prefers
 abbrev pub pick_of : Choice → Pod

@@ -9,7 +9,8 @@ use Rattle.format_filter.specs.Soundness.{IsSound}
 
 -- at a place stands a field of a key
 abbrev pub IsKeyAt : List Field → ℕ → ℕ → Type 0
-IsKeyAt fields at key = (at < length fields) × ((d : Field) → (slice_index_or fields at d).key ≡ key)
+IsKeyAt fields at key = (at < length fields)
+    × ((d : Field) → (slice_index_or fields at d).key ≡ key)
 
 -- the place behind what stands at a place under a key, which is one field or none
 pub record IsBehind (fields : List Field) (at key next : ℕ) : Type 0 where

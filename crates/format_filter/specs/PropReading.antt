@@ -16,6 +16,9 @@ field_at fields key = get nat_cmp fields key
 pub record AreRead (props : List Prop) (fields : BTreeMap ℕ Field) : Type 0 where
   pub ordered : IsOrdered nat_cmp fields
   pub distinct : AllPairs (λ p q. key_of p ≢ key_of q) props
-  pub each : All (λ prop. (field : Field) × (field_at fields (key_of prop) ≡ Some field) × ReadsField prop field) props
-  pub origin : (key : ℕ) (field : Field) → field_at fields key ≡ Some field → Any (λ prop. key_of prop ≡ key) props
-  pub sound : (key : ℕ) (field : Field) → field_at fields key ≡ Some field → (field.key ≡ key) × IsSound field.choice
+  pub each : All (λ prop. (field : Field) × (field_at fields (key_of prop) ≡ Some field)
+      × ReadsField prop field) props
+  pub origin : (key : ℕ) (field : Field) → field_at fields key ≡ Some field
+      → Any (λ prop. key_of prop ≡ key) props
+  pub sound : (key : ℕ) (field : Field) → field_at fields key ≡ Some field
+      → (field.key ≡ key) × IsSound field.choice

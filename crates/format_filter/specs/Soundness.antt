@@ -20,13 +20,15 @@ FitsWide Long n = FitsSigned w64 n
 abbrev pub AreOfOneType : List Pod → Type 0
 AreOfOneType values = (child : ℕ) × (0 < child_size child) × All (IsOfType child) values
 
--- the value of an Only is no Choice (19), the alternatives of an Enum are of one type that a Choice may hold,
--- numbers fit their type, and a step is above 0
+-- the value of an Only is no Choice (19), the alternatives of an Enum are of one type that a Choice
+-- may hold, numbers fit their type, and a step is above 0
 abbrev pub HasSoundParts : Choice → Type 0
 HasSoundParts (Only value) = IsOfType 19 value → ⊥
 HasSoundParts (Enum pick alts) = AreOfOneType alts
-HasSoundParts (Range wide pick min max) = FitsWide wide pick × FitsWide wide min × FitsWide wide max
-HasSoundParts (Step wide pick min max step) = FitsWide wide pick × FitsWide wide min × FitsWide wide max
+HasSoundParts (Range wide pick min max) = FitsWide wide pick × FitsWide wide min
+    × FitsWide wide max
+HasSoundParts (Step wide pick min max step) = FitsWide wide pick × FitsWide wide min
+    × FitsWide wide max
     × FitsWide wide step × (pos 0 <ℤ step)
 
 -- SOUND CHOICE

@@ -21,20 +21,21 @@ pub enum Filtered {
 
 /// The common format of two formats, or why there is none.
 ///
-/// A key clashes where both have it and no value is a member of both, or where one has it with the flag
-/// MANDATORY and the other lacks it; the answer is the least such key. The common format has the object type and
-/// the id of a; a key that both have has the intersection of their choices and the flags that both have, and a
-/// key that one has alone is as it is there.
+/// A key clashes where both have it and no value is a member of both, or where one has it with the
+/// flag MANDATORY and the other lacks it; the answer is the least such key. The common format has
+/// the object type and the id of a; a key that both have has the intersection of their choices and
+/// the flags that both have, and a key that one has alone is as it is there.
 ///
-/// Public source: PipeWire's documentation, "SPA POD"; `spa/pod/filter.h`, `spa_pod_filter`. What a key that
-/// one side lacks does is this project's.
+/// Public source: PipeWire's documentation, "SPA POD"; `spa/pod/filter.h`, `spa_pod_filter`. What a
+/// key that one side lacks does is this project's.
 pub fn filter(alloc: Global, a: &Format, b: &Format) -> Result<Filtered, Memory>
     requires a { IsSoundFormat a.now }
     requires b { IsSoundFormat b.now }
     ensures filters { IfOk result (Filters a.now b.now) }
 
     // No other answer is right.
-    ensures only { (other : Filtered) → Filters a.now b.now other → IfOk result (λ filtered. filtered ≡ other) }
+    ensures only { (other : Filtered) → Filters a.now b.now other
+        → IfOk result (λ filtered. filtered ≡ other) }
 {
     common_of(alloc, a, b)
 }

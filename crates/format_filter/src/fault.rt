@@ -14,7 +14,8 @@ pub enum FormatFault {
     KeyTwice { key: u32 },
     /// The choice under this key is of kind Flags.
     FlagsChoice { key: u32 },
-    /// The Range under this key lacks a value, is of other values than numbers, or has its min above its max.
+    /// The Range under this key lacks a value, is of other values than numbers, or has its min
+    /// above its max.
     BadRange { key: u32 },
     /// The Step under this key does so, or its step is not above 0.
     BadStep { key: u32 },

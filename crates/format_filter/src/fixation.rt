@@ -28,10 +28,11 @@ fn fixed_fields(alloc: Global, fields: &[Field]) -> Result<Items<Field>, Memory>
     Ok(all)
 }
 
-/// The format in which each choice is its pick alone: its id is that of Format, 4, and its flags are 0.
+/// The format in which each choice is its pick alone: its id is that of Format, 4, and its flags
+/// are 0.
 ///
-/// Public source: PipeWire's documentation, "SPA POD"; `spa/pod/iter.h`, `spa_pod_fixate`. DONT_FIXATE is not
-/// obeyed.
+/// Public source: PipeWire's documentation, "SPA POD"; `spa/pod/iter.h`, `spa_pod_fixate`.
+/// DONT_FIXATE is not obeyed.
 pub fn fixate(alloc: Global, format: &Format) -> Result<Format, Memory>
     requires { IsSoundFormat format.now }
     ensures value { IfOk result (λ fixed. fixed ≡ fixated format.now) }

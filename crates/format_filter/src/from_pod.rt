@@ -94,11 +94,12 @@ fn object_format(alloc: Global, pod: &Pod) -> Result<Format, FormatFault>
 
 /// The format of an object, or its first fault.
 ///
-/// A value that is no Choice is the only one; a Choice becomes one of its kind, whose further values are
-/// ignored, and whose pick, where it is no member, is replaced by the min or the first alternative. The
-/// properties are looked at in their order; the first at fault decides, and for one property `KeyTwice` comes
-/// first, then `EmptyChoice`. After a fault nothing is made. Takes memory for the format and a map of its fields,
-/// and time linear in the values and in the fields times the logarithm of their number.
+/// A value that is no Choice is the only one; a Choice becomes one of its kind, whose further
+/// values are ignored, and whose pick, where it is no member, is replaced by the min or the first
+/// alternative. The properties are looked at in their order; the first at fault decides, and for
+/// one property `KeyTwice` comes first, then `EmptyChoice`. After a fault nothing is made. Takes
+/// memory for the format and a map of its fields, and time linear in the values and in the fields
+/// times the logarithm of their number.
 ///
 /// Public source: PipeWire's documentation, "SPA POD", Object and Choice; `spa/pod/pod.h`.
 pub fn format_of(alloc: Global, pod: &Pod) -> Result<Format, FormatFault>
@@ -108,7 +109,8 @@ pub fn format_of(alloc: Global, pod: &Pod) -> Result<Format, FormatFault>
 
     // No other answer is right.
     ensures only { (format : Format) → IsFormatOf pod.now format → IsGiven result format }
-    ensures only_fault { (first : FormatFault) → IsFirstFault pod.now first → IsRefusedAs result first }
+    ensures only_fault { (first : FormatFault) → IsFirstFault pod.now first
+        → IsRefusedAs result first }
 {
     object_format(alloc, pod)
 }

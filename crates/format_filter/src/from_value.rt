@@ -54,7 +54,8 @@ fn kept_in_step(min: i64, max: i64, step: i64, n: i64) -> i64
 /// A Range from its default, its min and its max, if they are that.
 fn read_range(wish: &Pod, low: &Pod, high: &Pod) -> Option<Choice>
     ensures some { IfSome result (λ c. ReadsRange wish.now low.now high.now c × IsSound c) }
-    ensures none { IsNone result → (c : Choice) → ReadsRange wish.now low.now high.now c → ⊥ }
+    ensures none { IsNone result → (c : Choice) → ReadsRange wish.now low.now high.now c
+        → ⊥ }
 {
     let wide = match wide_of(wish) {
         Some(wide) => wide,
@@ -77,7 +78,8 @@ fn read_range(wish: &Pod, low: &Pod, high: &Pod) -> Option<Choice>
 /// A Step from its default, its min, its max and its step, if they are that.
 fn read_step(wish: &Pod, low: &Pod, high: &Pod, by: &Pod) -> Option<Choice>
     ensures some { IfSome result (λ c. ReadsStep wish.now low.now high.now by.now c × IsSound c) }
-    ensures none { IsNone result → (c : Choice) → ReadsStep wish.now low.now high.now by.now c → ⊥ }
+    ensures none { IsNone result → (c : Choice) → ReadsStep wish.now low.now high.now by.now c
+        → ⊥ }
 {
     let wide = match wide_of(wish) {
         Some(wide) => wide,
@@ -164,7 +166,8 @@ fn choice_from(
     requires types { AreOfOneType values.now }
     requires some { 0 < length values.now }
     ensures found { IfOk result (λ c. ReadsValues kind values.now c × IsSound c) }
-    ensures fault { IfErr result (λ fault. (fault ≡ f.Memory) ⊎ FaultsValues kind values.now key fault) }
+    ensures fault { IfErr result
+        (λ fault. (fault ≡ f.Memory) ⊎ FaultsValues kind values.now key fault) }
 {
     match kind {
         ChoiceKind::None => Ok(Choice::Only(values[0].copy(alloc)?)),
@@ -185,7 +188,8 @@ fn choice_from(
 pub fn choice_of(alloc: Global, key: u32, value: &Pod) -> Result<Choice, FormatFault>
     requires { IsSoundChoice (out-Pod value.now) }
     ensures found { IfOk result (λ c. Reads (out-Pod value.now) value.now c × IsSound c) }
-    ensures fault { IfErr result (λ fault. (fault ≡ f.Memory) ⊎ Faults (out-Pod value.now) key fault) }
+    ensures fault { IfErr result
+        (λ fault. (fault ≡ f.Memory) ⊎ Faults (out-Pod value.now) key fault) }
 {
     match value {
         Pod::Choice { kind, values, .. } => {

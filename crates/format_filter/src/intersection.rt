@@ -35,18 +35,19 @@ fn steps(wide: Wide, pick: i64, min: i64, max: i64, step: i64) -> Ranged
     }
 }
 
-/// The intersection of two choices: a choice of just their common members, or `None` where there is none.
+/// The intersection of two choices: a choice of just their common members, or `None` where there is
+/// none.
 ///
-/// The common members of an Only or Enum and another choice come in the order of the first's values, those
-/// of two Ranges are a Range, and those of other choices of numbers are a Step; one member alone is an Only, and
-/// two numbers are an Enum. The pick is a's where it is common, else b's where it is common, else the first
-/// alternative or the least member.
+/// The common members of an Only or Enum and another choice come in the order of the first's
+/// values, those of two Ranges are a Range, and those of other choices of numbers are a Step; one
+/// member alone is an Only, and two numbers are an Enum. The pick is a's where it is common, else
+/// b's where it is common, else the first alternative or the least member.
 ///
-/// Two Ranges take no memory, and never give `Memory`. Enums of n and m values take time proportional to n
-/// times m, a Range and a Step constant time, and two Steps logarithmic time.
+/// Two Ranges take no memory, and never give `Memory`. Enums of n and m values take time
+/// proportional to n times m, a Range and a Step constant time, and two Steps logarithmic time.
 ///
-/// Public source: PipeWire's documentation, "SPA POD", Choice; `spa/pod/filter.h`, `spa_pod_filter_prop`. The
-/// form and the pick are this project's.
+/// Public source: PipeWire's documentation, "SPA POD", Choice; `spa/pod/filter.h`,
+/// `spa_pod_filter_prop`. The form and the pick are this project's.
 pub fn meet(alloc: Global, a: &Choice, b: &Choice) -> Result<Option<Choice>, Memory>
     requires a { IsSound a.now }
     requires b { IsSound b.now }
@@ -54,7 +55,8 @@ pub fn meet(alloc: Global, a: &Choice, b: &Choice) -> Result<Option<Choice>, Mem
     ensures no_memory { AreRanges a.now b.now → IsOk result }
 
     // No other answer is right.
-    ensures only { (other : Option Choice) → Meets a.now b.now other → IfOk result (λ common. common ≡ other) }
+    ensures only { (other : Option Choice) → Meets a.now b.now other
+        → IfOk result (λ common. common ≡ other) }
 {
     intersection_of(alloc, a, b)
 }

@@ -1,8 +1,8 @@
 //! Formats with choices: what they admit, and what two of them have in common.
 //!
-//! A choice is the set of its members. `meet` computes the common members of two choices, `filter` the common
-//! format of two offers, and `fixate` takes each pick. `format_of` and `pod_of` go between formats and the
-//! objects that spell them.
+//! A choice is the set of its members. `meet` computes the common members of two choices, `filter`
+//! the common format of two offers, and `fixate` takes each pick. `format_of` and `pod_of` go
+//! between formats and the objects that spell them.
 #![tactic(auto)]
 
 mod choice;

@@ -105,8 +105,8 @@ fn join(alloc: Global, own: &[Field], other: &[Field]) -> Result<Option<Field>, 
     join_both(alloc, &own[0], &other[0])
 }
 
-/// The common fields of two rows, or the least key at which they clash. Takes time linear in the fields, and
-/// that of the intersections.
+/// The common fields of two rows, or the least key at which they clash. Takes time linear in the
+/// fields, and that of the intersections.
 pub fn merge(alloc: Global, a: &[Field], b: &[Field]) -> Result<Merged, Memory>
     requires a { AreSoundFields a.now }
     requires b { AreSoundFields b.now }

@@ -36,8 +36,10 @@ fn choice_of_numbers(
     requires b { IsSound b.now }
     requires own { (pick_of a.now ≡ number_of wide picks.0) × FitsWide wide picks.0 }
     requires other { (pick_of b.now ≡ number_of wide picks.1) × FitsWide wide picks.1 }
-    requires only { (n : ℤ) → IsOneOf found n → IsCommon a.now b.now (number_of wide n) × FitsWide wide n }
-    requires all { (x : Pod) → IsCommon a.now b.now x → (n : ℤ) × (x ≡ number_of wide n) × IsOneOf found n }
+    requires only { (n : ℤ) → IsOneOf found n
+        → IsCommon a.now b.now (number_of wide n) × FitsWide wide n }
+    requires all { (x : Pod) → IsCommon a.now b.now x
+        → (n : ℤ) × (x ≡ number_of wide n) × IsOneOf found n }
     requires ordered { AreOrdered found }
     requires form { (c : Choice) → IsProgression c → HasForm a.now b.now c }
     ensures { IfOk result (Meets a.now b.now) }

@@ -40,8 +40,9 @@ fn complement(n: u64, by: u64) -> u64
     if rest == 0 { 0 } else { by - rest }
 }
 
-/// The `k` for which `k * step` has the rest `rest` when it is divided by `other`, by the extended Euclid: as
-/// `k * step = rest + j * other`, the `j` are those of a lesser congruence. Its depth is logarithmic.
+/// The `k` for which `k * step` has the rest `rest` when it is divided by `other`, by the extended
+/// Euclid: as `k * step = rest + j * other`, the `j` are those of a lesser congruence. Its depth is
+/// logarithmic.
 fn solve(step: u64, other: u64, rest: u64) -> Option<Solutions>
     requires { rest < other }
     ensures some { IfSome result (AreSolutions step other rest) }

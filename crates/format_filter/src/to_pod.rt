@@ -144,15 +144,16 @@ fn object_of(format: &Format, props: Items<Prop>) -> Pod
     }
 }
 
-/// The object that spells a format: its properties ascend by key, an Only is its value, and the values of another
-/// choice begin with its pick; an Enum has its pick and then all its alternatives. `format_of` of it is the
-/// same format.
+/// The object that spells a format: its properties ascend by key, an Only is its value, and the
+/// values of another choice begin with its pick; an Enum has its pick and then all its
+/// alternatives. `format_of` of it is the same format.
 ///
 /// Public source: PipeWire's documentation, "SPA POD", Object and Choice; `spa/pod/pod.h`.
 pub fn pod_of(alloc: Global, format: &Format) -> Result<Pod, Memory>
     requires { IsSoundFormat format.now }
     ensures written { IfOk result (IsWritten format.now) }
-    ensures only { (other : Pod) → IsWritten format.now other → IfOk result (λ pod. pod ≡ other) }
+    ensures only { (other : Pod) → IsWritten format.now other
+        → IfOk result (λ pod. pod ≡ other) }
     ensures law { IfOk result (λ pod. IsReadAs pod format.now) }
     ensures sound { IfOk result HasSoundChoices }
 {

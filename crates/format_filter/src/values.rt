@@ -49,8 +49,8 @@ pub fn meet_value(
     }
 }
 
-/// The intersection of two choices, of which one has the values and `other` is the other one. Takes time
-/// proportional to the number of values times that of the alternatives of `other`.
+/// The intersection of two choices, of which one has the values and `other` is the other one. Takes
+/// time proportional to the number of values times that of the alternatives of `other`.
 pub fn meet_values(
     alloc: Global,
     values: &[Pod],

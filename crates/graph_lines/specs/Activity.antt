@@ -1,6 +1,6 @@
 -- Activity: which links are live, which node drives an epoch, and which nodes are active in it.
--- Source: PipeWire's documentation, "Graph Scheduling" (driver, followers); priorities and the built-in driver 63 are
--- this project's.
+-- Source: PipeWire's documentation, "Graph Scheduling" (driver, followers); priorities and the
+-- built-in driver 63 are this project's.
 use Rattle.std.specs.Prelude.{◌≡◌, ◌⊎◌, ℕ, ◌<◌, ◌≤◌, ◌&&◌, Bool, true, false, List, [], ◌∷◌, Option, Some, None}
 use Rattle.std.specs.Prelude.{Contains, filter, slice_index_or, if◌then◌else◌}
 use Rattle.pw_base.specs.declared.kind.Kind.{Kind}
@@ -34,12 +34,14 @@ live_wires nodes wires = filter (is_live nodes) wires
 
 -- a link has these two nodes, in either direction
 abbrev pub Joins : Wire → ℕ → ℕ → Type 0
-Joins w a b = ((w.from.node ≡ a) × (w.to.node ≡ b)) ⊎ ((w.to.node ≡ a) × (w.from.node ≡ b))
+Joins w a b = ((w.from.node ≡ a) × (w.to.node ≡ b))
+    ⊎ ((w.to.node ≡ a) × (w.from.node ≡ b))
 
 -- a walk from a node to another, each link of it taken in either direction
 abbrev pub IsWalk : List Wire → ℕ → List Wire → ℕ → Type 0
 IsWalk wires a [] b = a ≡ b
-IsWalk wires a (w ∷ walk) b = Contains wires w × ((m : ℕ) × Joins w a m × IsWalk wires m walk b)
+IsWalk wires a (w ∷ walk) b = Contains wires w
+    × ((m : ℕ) × Joins w a m × IsWalk wires m walk b)
 
 -- JOINED: there is a walk
 abbrev pub AreJoined : List Wire → ℕ → ℕ → Type 0
@@ -57,7 +59,8 @@ may_drive _ = false
 
 abbrev pub candidacy : List Kind → List Standing → ℕ → Option ℕ
 candidacy kinds nodes n =
-    if may_drive (slice_index_or kinds n Dummy) && (standing nodes n).on then (standing nodes n).priority else None
+    if may_drive (slice_index_or kinds n Dummy) && (standing nodes n).on
+    then (standing nodes n).priority else None
 
 -- a node with the greatest priority of all candidates, and the lowest number of these
 abbrev pub IsFirst : List Kind → List Standing → ℕ → ℕ → Type 0
@@ -69,7 +72,8 @@ abbrev pub IsDriver : List Kind → List Standing → ℕ → Type 0
 IsDriver kinds nodes d = (((m : ℕ) → candidacy kinds nodes m ≡ None) × (d ≡ 63))
     ⊎ ((p : ℕ) × IsFirst kinds nodes d p)
 
--- ACTIVE NODES: those that are joined to the driver by live links; under 63, it and all nodes that have a live link
+-- ACTIVE NODES: those that are joined to the driver by live links; under 63, it and all nodes that
+-- have a live link
 abbrev pub IsActive : List Wire → ℕ → ℕ → Type 0
 IsActive live driver n = ((driver ≡ 63) × ((n ≡ 63) ⊎ HasWire live n))
     ⊎ ((driver ≡ 63 → ⊥) × AreJoined live n driver)

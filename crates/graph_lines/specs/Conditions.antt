@@ -1,5 +1,5 @@
--- What stands before a line: the nodes and ports that it names are there, and the links of the graph are those of its
--- wires.
+-- What stands before a line: the nodes and ports that it names are there, and the links of the
+-- graph are those of its wires.
 -- Source: this project's script grammar.
 use Rattle.std.specs.Prelude.{◌≡◌, ◌<◌, length, map}
 use Rattle.pw_base.specs.SoundShape.{IsBetween}

@@ -26,9 +26,11 @@ abbrev pub cycles_in : Epoch → ℕ → ℕ
 cycles_in e n = if has_node e.shape n then e.shape.cycles else 0
 
 abbrev pub is_heard : Graph → Epoch → ℕ → Bool
-is_heard g e n = is_sink (slice_index_or g.kinds n Dummy) && list_any (λ f. f.port.node == n) e.forms
+is_heard g e n = is_sink (slice_index_or g.kinds n Dummy)
+    && list_any (λ f. f.port.node == n) e.forms
 
--- what is said of a node after an epoch: its channels were told, it ran, and a sink that was heard keeps its format
+-- what is said of a node after an epoch: its channels were told, it ran, and a sink that was heard
+-- keeps its format
 pub record StandsAfter (g : Graph) (e : Epoch) (n : ℕ) (after : Standing) : Type 0 where
   pub told : ChannelsIn g n after.told
   pub rest : after ≡ record (standing g.nodes n) {
@@ -38,7 +40,8 @@ pub record StandsAfter (g : Graph) (e : Epoch) (n : ℕ) (after : Standing) : Ty
     ran = (standing g.nodes n).ran + cycles_in e n;
   }
 
--- AFTER AN EPOCH: one epoch more, the next cycle's number, the new sums, and what is said of the nodes
+-- AFTER AN EPOCH: one epoch more, the next cycle's number, the new sums, and what is said of the
+-- nodes
 pub record IsAfter (g : Graph) (e : Epoch) (after : Graph) : Type 0 where
   pub many : length after.nodes ≡ length g.nodes
   pub nodes : (n : ℕ) → n < length g.nodes → StandsAfter g e n (standing after.nodes n)
@@ -54,7 +57,8 @@ abbrev pub IsTaken : Graph → Epoch → Stepped → Graph → Type 0
 IsTaken g e T.Done after = (passed (sums_with g.kinds g.sums e) ≡ None) × IsAfter g e after
 IsTaken g e (T.Passed which) after = passed (sums_with g.kinds g.sums e) ≡ Some which
 
--- RUN for some cycles: an epoch of them; none makes no epoch, passes no limit, and nothing is forgotten
+-- RUN for some cycles: an epoch of them; none makes no epoch, passes no limit, and nothing is
+-- forgotten
 abbrev pub RunsFor : Graph → ℕ → Stepped → Graph → Type 0
 RunsFor g zero stepped after = (stepped ≡ T.Done) × (after ≡ g)
 RunsFor g (suc n) stepped after = (e : Epoch) × IsEpochOf g (suc n) e × IsTaken g e stepped after
@@ -64,7 +68,8 @@ pub record DrainsFor (waves : List WavIn) (g : Graph) (cycles : ℕ) : Type 0 wh
   pub driver : ℕ
   pub drives : IsDriver g.kinds g.nodes driver
   pub active : List Bool
-  pub actives : (n : ℕ) → (is_in active n ≡ true) ↔ IsActive (live_wires g.nodes g.wires) driver n
+  pub actives : (n : ℕ) → (is_in active n ≡ true)
+      ↔ IsActive (live_wires g.nodes g.wires) driver n
   pub enough : cycles ≡ drain_cycles g.quantum g.nodes active waves
 
 -- ANY LINE

@@ -1,5 +1,6 @@
 -- The epoch that a `cycles` or `drain` line makes, read off the graph before that line.
--- Source: PipeWire's documentation, "Graph Scheduling"; the order of an epoch's links is this project's.
+-- Source: PipeWire's documentation, "Graph Scheduling"; the order of an epoch's links is this
+-- project's.
 use Rattle.std.specs.Prelude.{◌≡◌, ◌↔◌, ℕ, ◌==◌, ◌||◌, ◌&&◌, Bool, List, filter, All, AllPairs, Contains, IsTrue}
 use Rattle.std.specs.List.{list_any, AllZip}
 use Rattle.std.specs.List.Sorted.{IsStrictlyIncreasing}
@@ -29,7 +30,8 @@ has_node shape n = list_any (λ m. m == n) (nodes_of shape)
 abbrev pub is_used : Graph → Shape → Wire → Bool
 is_used g shape w = is_live g.nodes w && (has_node shape w.from.node && has_node shape w.to.node)
 
--- a link of the graph as a link of the epoch: delayed just where it is asynchronous, with the channels of its output
+-- a link of the graph as a link of the epoch: delayed just where it is asynchronous, with the
+-- channels of its output
 pub record IsLinkOf (g : Graph) (w : Wire) (l : ShapeLink) : Type 0 where
   pub from : l.from ≡ w.from
   pub to : l.to ≡ w.to
@@ -42,7 +44,8 @@ pub record IsLinkOf (g : Graph) (w : Wire) (l : ShapeLink) : Type 0 where
 pub record HasActiveNodes (g : Graph) (shape : Shape) : Type 0 where
   pub driver : IsDriver g.kinds g.nodes shape.driver
   pub ascend : IsStrictlyIncreasing (nodes_of shape)
-  pub active : (n : ℕ) → Contains (nodes_of shape) n ↔ IsActive (live_wires g.nodes g.wires) shape.driver n
+  pub active : (n : ℕ) → Contains (nodes_of shape) n
+      ↔ IsActive (live_wires g.nodes g.wires) shape.driver n
   pub counts : All (IsCounted shape) shape.nodes
 
 -- every form of a port of an active node, once each, ascending

@@ -15,7 +15,8 @@ HasKinds nodes kinds = map (λ n. n.kind) nodes ≡ kinds
 
 -- a form; of a sink or meter only where it has a format
 abbrev pub IsFormOf : ℕ → ℕ → Node → PortState → Type 0
-IsFormOf rate channels node s = HasForm node s rate channels × (IsSinkOrMeter node.kind → IsSome s.format)
+IsFormOf rate channels node s = HasForm node s rate channels
+    × (IsSinkOrMeter node.kind → IsSome s.format)
 
 -- FORM of a port
 abbrev pub FormIn : List Node → PortId → ℕ → ℕ → Type 0

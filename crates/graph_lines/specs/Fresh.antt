@@ -1,5 +1,6 @@
 -- Nodes that begin anew with an epoch: what was told of each before, and what an epoch names.
--- Source: this project's: a node whose last link went gives up its formats, and its stream starts anew.
+-- Source: this project's: a node whose last link went gives up its formats, and its stream starts
+-- anew.
 use Rattle.std.specs.Prelude.{◌≡◌, ◌↔◌, ◌⊎◌, ℕ, ◌<◌, true, AllPairs, Contains}
 use Rattle.pw_base.specs.declared.plan.Epoch.{Epoch}
 use Rattle.port_model.specs.PortState.{IsInput}
@@ -19,9 +20,11 @@ abbrev pub ChannelsIn : Graph → ℕ → ℕ → Type 0
 ChannelsIn g n channels = HasFirstInput g n channels
     ⊎ ((channels ≡ 0) × ((k : ℕ) → HasFirstInput g n k → ⊥))
 
--- FRESH: it gave up its formats since the epoch before, or its channels are not those of the epoch before
+-- FRESH: it gave up its formats since the epoch before, or its channels are not those of the epoch
+-- before
 abbrev pub IsFresh : Graph → ℕ → ℕ → Type 0
-IsFresh g n channels = ((standing g.nodes n).gave_up ≡ true) ⊎ (channels ≡ (standing g.nodes n).told → ⊥)
+IsFresh g n channels = ((standing g.nodes n).gave_up ≡ true)
+    ⊎ (channels ≡ (standing g.nodes n).told → ⊥)
 
 -- the fresh nodes, active or not, ascending, each with its channels
 pub record HasFresh (g : Graph) (e : Epoch) : Type 0 where

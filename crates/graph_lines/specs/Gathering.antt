@@ -26,7 +26,8 @@ use Rattle.graph_lines.specs.Searching.{is_in}
 pub record IsActivityOf (g : Graph) (a : ActiveNodes) : Type 0 where
   pub long : length a.here ≡ 64
   pub driver : IsDriver g.kinds g.nodes a.driver
-  pub active : (n : ℕ) → (is_in a.here n ≡ true) ↔ IsActive (live_wires g.nodes g.wires) a.driver n
+  pub active : (n : ℕ) → (is_in a.here n ≡ true)
+      ↔ IsActive (live_wires g.nodes g.wires) a.driver n
 
 -- a link is live, and both its nodes are in
 abbrev pub is_used_in : List Standing → List Bool → Wire → Bool
@@ -67,4 +68,5 @@ pub record HasFreshBelow (g : Graph) (count : ℕ) (fresh : List Fresh) : Type 0
 
 -- the cycles of a `drain` line, of which those above the limit of events are left out
 abbrev pub DrainsUpTo : List WavIn → Graph → ℕ → Type 0
-DrainsUpTo waves g cycles = (n : ℕ) × DrainsFor waves g n × (cycles ≡ min n (events_limit + 1))
+DrainsUpTo waves g cycles = (n : ℕ) × DrainsFor waves g n
+    × (cycles ≡ min n (events_limit + 1))

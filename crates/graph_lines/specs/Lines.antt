@@ -1,5 +1,6 @@
 -- What a line of a script does to the graph, but for the lines that make epochs.
--- Source: this project's script grammar; PipeWire's documentation, "Graph Scheduling" (asynchronous nodes).
+-- Source: this project's script grammar; PipeWire's documentation, "Graph Scheduling" (asynchronous
+-- nodes).
 use Rattle.std.specs.Prelude.{◌≡◌, ◌⊎◌, ℕ, true, false, Some, slice_set}
 use Rattle.graph_script.specs.declared.command.Command.{Command}
 use Rattle.graph_script.specs.declared.command.Command.TheVariants as C
@@ -37,17 +38,23 @@ mark s = record s { marked = true }
 
 -- a node is marked, with its links, if it has none yet
 abbrev pub Marks : Graph → ℕ → Graph → Type 0
-Marks g n after = ((has_link g.links.made n ≡ true) × (after ≡ g)) ⊎ ((has_link g.links.made n ≡ false)
-    × (after ≡ record (with_node g n mark) { links = record g.links { marks = slice_set g.links.marks n true } }))
+Marks g n after = ((has_link g.links.made n ≡ true) × (after ≡ g))
+    ⊎ ((has_link g.links.made n ≡ false)
+    × (after ≡ record (with_node g n mark) {
+      links = record g.links { marks = slice_set g.links.marks n true };
+    }))
 
--- LINE: what a command leaves; a `quantum` line and an `offer` line were taken before the first line
+-- LINE: what a command leaves; a `quantum` line and an `offer` line were taken before the first
+-- line
 abbrev pub Does : Graph → Command → Stepped → Graph → Type 0
 Does g (C.Source n file) stepped after = (stepped ≡ T.Done) × (after ≡ with_node g n made)
-Does g (C.Square n rate channels period amp) stepped after = (stepped ≡ T.Done) × (after ≡ with_node g n made)
+Does g (C.Square n rate channels period amp) stepped after = (stepped ≡ T.Done)
+    × (after ≡ with_node g n made)
 Does g (C.Gain n gain) stepped after = (stepped ≡ T.Done) × (after ≡ with_node g n made)
 Does g (C.Mix2 n ga gb) stepped after = (stepped ≡ T.Done) × (after ≡ with_node g n made)
 Does g (C.Delay n frames) stepped after = (stepped ≡ T.Done) × (after ≡ with_node g n made)
-Does g (C.Map n channels list) stepped after = (stepped ≡ T.Done) × (after ≡ with_node g n made)
+Does g (C.Map n channels list) stepped after = (stepped ≡ T.Done)
+    × (after ≡ with_node g n made)
 Does g (C.Split n) stepped after = (stepped ≡ T.Done) × (after ≡ with_node g n made)
 Does g (C.Sink n file) stepped after = (stepped ≡ T.Done) × (after ≡ with_node g n made)
 Does g (C.Meter n) stepped after = (stepped ≡ T.Done) × (after ≡ with_node g n made)

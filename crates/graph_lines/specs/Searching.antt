@@ -50,7 +50,8 @@ pub record HasMore (live : List Wire) (old new : List Bool) (more : Bool) : Type
 -- BEST of the first nodes: the first of the candidates among them, if there is one
 abbrev pub IsBest : List Kind → List Standing → ℕ → Option Candidate → Type 0
 IsBest kinds nodes count None = (m : ℕ) → m < count → candidacy kinds nodes m ≡ None
-IsBest kinds nodes count (Some b) = (candidacy kinds nodes b.node ≡ Some b.priority) × (b.node < count)
+IsBest kinds nodes count (Some b) = (candidacy kinds nodes b.node ≡ Some b.priority)
+    × (b.node < count)
     × ((m q : ℕ) → m < count → candidacy kinds nodes m ≡ Some q
     → (q < b.priority) ⊎ ((q ≡ b.priority) × (b.node ≤ m)))
 

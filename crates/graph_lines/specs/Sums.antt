@@ -24,7 +24,8 @@ is_sink_form kinds form = is_sink (slice_index_or kinds form.port.node Dummy)
 abbrev pub sink_samples : List Kind → Epoch → ℕ
 sink_samples kinds epoch = sum_by (form_samples epoch) (filter (is_sink_form kinds) epoch.forms)
 
--- the bytes of the blocks that a link asks for, where a delayed link counts at least 2 buffers, and those of all links
+-- the bytes of the blocks that a link asks for, where a delayed link counts at least 2 buffers, and
+-- those of all links
 abbrev pub link_bytes : Epoch → ShapeLink → ℕ
 link_bytes epoch link = asked link * (epoch.shape.quantum * (link.channels * 2))
 
@@ -47,5 +48,6 @@ passed sums = if nat_lt events_limit sums.events then Some W.Events
 
 -- an epoch more: the new sums where they pass no limit, else the limit
 abbrev pub IsJudged : List Kind → Sums → Epoch → Result Sums Which → Type 0
-IsJudged kinds sums epoch (Ok new) = (new ≡ sums_with kinds sums epoch) × (passed (sums_with kinds sums epoch) ≡ None)
+IsJudged kinds sums epoch (Ok new) = (new ≡ sums_with kinds sums epoch)
+    × (passed (sums_with kinds sums epoch) ≡ None)
 IsJudged kinds sums epoch (Err which) = passed (sums_with kinds sums epoch) ≡ Some which

@@ -1,6 +1,6 @@
 -- What an `unlink` line does to a graph.
--- Source: PipeWire's documentation, "Objects Design", Link; that a node without a link gives up its formats is this
--- project's.
+-- Source: PipeWire's documentation, "Objects Design", Link; that a node without a link gives up its
+-- formats is this project's.
 use Rattle.std.specs.Prelude.{◌≡◌, ◌↔◌, ℕ, ◌<◌, ◌||◌, ◌==◌, true, not, List, filter, slice_set}
 use Rattle.std.specs.Int.{bit_at}
 use Rattle.pw_base.specs.declared.ids.PortId.{PortId}
@@ -15,14 +15,17 @@ use Rattle.graph_lines.specs.declared.wire.Wire.{Wire}
 use Rattle.graph_lines.specs.Activity.{standing}
 use Rattle.graph_lines.specs.LinkLines.{Notes}
 
--- the bits of the nodes that keep their formats: of a sink that was active in a cycle in which it had a form
+-- the bits of the nodes that keep their formats: of a sink that was active in a cycle in which it
+-- had a form
 abbrev pub HasKept : List Standing → ℕ → Type 0
-HasKept nodes keep = (n : ℕ) → n < 64 → (bit_at keep n ≡ 1) ↔ ((standing nodes n).kept ≡ true)
+HasKept nodes keep = (n : ℕ) → n < 64
+    → (bit_at keep n ≡ 1) ↔ ((standing nodes n).kept ≡ true)
 
 -- a node gave up its formats where its bit is set
 abbrev pub giving : ℕ → ℕ → List Standing → List Standing
 giving set n nodes =
-    let s = standing nodes n in slice_set nodes n (record s { gave_up = s.gave_up || (bit_at set n == 1) })
+    let s = standing nodes n in
+    slice_set nodes n (record s { gave_up = s.gave_up || (bit_at set n == 1) })
 
 -- the links without one
 abbrev pub wires_without : PortId → PortId → List Wire → List Wire
@@ -34,9 +37,11 @@ IsTakenAway g from to U.NotThere after = (after.wires ≡ g.wires) × (after.nod
     × Notes g from to O.NotThere after
 IsTakenAway g from to (U.Gone gave_up) after =
     (after.wires ≡ wires_without from to g.wires)
-    × (after.nodes ≡ giving gave_up to.node (giving gave_up from.node g.nodes)) × Notes g from to O.Gone after
+    × (after.nodes ≡ giving gave_up to.node (giving gave_up from.node g.nodes))
+    × Notes g from to O.Gone after
 
--- UNLINK LINE: the link goes, and each of its two nodes that has none left gives up its formats, but for those kept
+-- UNLINK LINE: the link goes, and each of its two nodes that has none left gives up its formats,
+-- but for those kept
 pub record UnlinksLine (g : Graph) (from to : PortId) (after : Graph) : Type 0 where
   pub keep : ℕ
   pub kept : HasKept g.nodes keep

@@ -43,7 +43,8 @@ impl Graph {
     // Puts what is said of a node.
     fn put_standing(&mut self, node: u32, standing: Standing) -> Stepped
         requires { node < length self.old.nodes }
-        ensures graph { self.new ≡ record self.old { nodes = slice_set self.old.nodes node standing } }
+        ensures graph { self.new
+            ≡ record self.old { nodes = slice_set self.old.nodes node standing } }
         ensures done { result ≡ Done }
     {
         put(&mut self.nodes, node, standing);
@@ -82,15 +83,16 @@ impl Graph {
     fn set_buffers(&mut self, port: PortId, n: u32) -> Stepped
         requires port { IsPort self.old.ports port }
         requires range { IsBetween 1 8 n }
-        ensures graph { self.new ≡ record self.old { ports = with_port self.old.ports port (buffered n) } }
+        ensures graph { self.new
+            ≡ record self.old { ports = with_port self.old.ports port (buffered n) } }
         ensures done { result ≡ Done }
     {
         self.ports.set_buffers(port, n);
         Stepped::Done
     }
 
-    // What a line does that makes no epoch. `quantum` and `offer` lines change nothing here: they were
-    // taken before the first line.
+    // What a line does that makes no epoch. `quantum` and `offer` lines change nothing here: they
+    // were taken before the first line.
     pub(crate) fn set_by(&mut self, command: &Command) -> Result<Stepped, Memory>
         requires line { MayDo self.old command.now }
         requires few { length self.old.nodes ≤ 63 }

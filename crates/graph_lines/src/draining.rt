@@ -45,8 +45,10 @@ fn greater(a: u64, b: u64) -> u64
     a.max(b)
 }
 
-/// How many cycles it takes until each active source has given all its frames, a quantum in each cycle; 0 without one.
-/// Of each number `active` says whether that node is active. Takes no memory; cost: one look at each wave.
+/// How many cycles it takes until each active source has given all its frames, a quantum in each
+/// cycle; 0 without one.
+/// Of each number `active` says whether that node is active. Takes no memory; cost: one look at
+/// each wave.
 pub fn drain_cycles(quantum: u32, nodes: &[Standing], active: &[bool], waves: &Items<WavIn>) -> u64
     requires quantum { 1 ≤ quantum }
     requires channels { All (λ w. 1 ≤ w.wav.channels) waves.now }

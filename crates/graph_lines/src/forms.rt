@@ -19,8 +19,8 @@ fn is_end(kinds: &[Kind], node: u32) -> bool
     }
 }
 
-/// The rate of a port in frames a second and its channels, where it has a form; a sink or meter without a format has
-/// none. Takes no memory.
+/// The rate of a port in frames a second and its channels, where it has a form; a sink or meter
+/// without a format has none. Takes no memory.
 pub fn form_in(ports: &Ports, kinds: &[Kind], port: PortId) -> Option<(u32, u32)>
     requires port { IsPort ports.now port }
     requires kinds { HasKinds ports.now kinds.now }

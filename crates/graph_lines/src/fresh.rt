@@ -26,7 +26,8 @@ impl Graph {
         requires sound { HasReadyNodes self.now.nodes self.now.kinds self.now.ports }
         requires node { node < length self.now.nodes }
         ensures channels { ChannelsIn self.now node result }
-        ensures only { (channels : ℕ) → ChannelsIn self.now node channels → channels ≡ result }
+        ensures only { (channels : ℕ) → ChannelsIn self.now node channels
+            → channels ≡ result }
     {
         if !self.has_first_input(node) {
             return 0;

@@ -48,7 +48,8 @@ pub(crate) fn note(
     to: PortId,
     outcome: LineOutcome,
 ) -> Result<(), Memory>
-    ensures { OnOk result (lines.new ≡ lines.old ++ record { from = from; to = to; outcome = outcome } ∷ []) }
+    ensures { OnOk result (lines.new
+        ≡ lines.old ++ record { from = from; to = to; outcome = outcome } ∷ []) }
 {
     lines.push(LinkLine { from, to, outcome })
 }

@@ -2,7 +2,8 @@
 //!
 //! `Graph` is the graph as the lines so far have made it: `start` before the first line, `step` for
 //! any line. A line that makes an epoch goes three steps: `epoch_of` reads the epoch off the graph,
-//! `judge` says whether it passes a limit, and `take` takes it. The pieces of an epoch stand beside:
+//! `judge` says whether it passes a limit, and `take` takes it. The pieces of an epoch stand
+//! beside:
 //! `driver_of` and `active_nodes` by live links, `counted` for required counts and target lists,
 //! `form_in`, and `drain_cycles` for the cycles of a drain.
 #![tactic(auto)]

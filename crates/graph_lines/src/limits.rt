@@ -113,8 +113,8 @@ fn block_bytes(epoch: &Epoch) -> u64
     total
 }
 
-/// The sums with an epoch more, or the first limit that they pass: events, then samples of sinks, then bytes of
-/// blocks. Takes no memory; cost: one look at each form and each link of the epoch.
+/// The sums with an epoch more, or the first limit that they pass: events, then samples of sinks,
+/// then bytes of blocks. Takes no memory; cost: one look at each form and each link of the epoch.
 pub fn judge(kinds: &[Kind], sums: Sums, epoch: &Epoch) -> Result<Sums, Which>
     ensures { IsJudged kinds.now sums epoch.now result }
 {

@@ -27,7 +27,8 @@ pub(crate) fn form_at(ports: &Ports, port: PortId) -> (u32, u32)
 }
 
 impl Graph {
-    /// A `link` line: the first of its conditions that holds decides, and only a link that is made changes the ports.
+    /// A `link` line: the first of its conditions that holds decides, and only a link that is made
+    /// changes the ports.
     pub(crate) fn link_line(&mut self, from: PortId, to: PortId) -> Result<Stepped, Memory>
         requires from { IsOutput self.old.ports from }
         requires to { IsInput self.old.ports to }

@@ -133,8 +133,8 @@ impl Graph {
         })
     }
 
-    /// The graph before the first of these lines, with the ports of all their nodes, narrowed by their
-    /// offers. A node that no line has made yet is on and has no link.
+    /// The graph before the first of these lines, with the ports of all their nodes, narrowed by
+    /// their offers. A node that no line has made yet is on and has no link.
     pub fn start(alloc: Global, lines: &[Line], ports: Ports) -> Result<Graph, Memory>
         requires { MayStart lines.now ports }
         ensures start { IfOk result (IsStart lines.now ports) }

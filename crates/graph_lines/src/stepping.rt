@@ -70,11 +70,12 @@ impl Graph {
 
     /// What a line of a script does. `cycles` and `drain` lines make an epoch of what the graph is
     /// then, unless they have no cycle; the other lines change the graph, and `quantum` and `offer`
-    /// lines do nothing, since they were taken before the first line. `waves` are those of the sources.
+    /// lines do nothing, since they were taken before the first line. `waves` are those of the
+    /// sources.
     ///
-    /// `Passed`: a `link` line that has no other outcome where 256 links are there, or an epoch with
-    /// which the events, the samples of sinks or the bytes of blocks pass their limit, looked at in
-    /// this order. After it and after `Memory` the graph is to be dropped.
+    /// `Passed`: a `link` line that has no other outcome where 256 links are there, or an epoch
+    /// with which the events, the samples of sinks or the bytes of blocks pass their limit, looked
+    /// at in this order. After it and after `Memory` the graph is to be dropped.
     ///
     /// Public source: PipeWire's documentation, "Graph Scheduling"; the lines are this project's.
     pub fn step(&mut self, command: &Command, waves: &Items<WavIn>) -> Result<Stepped, Memory>

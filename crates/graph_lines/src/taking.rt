@@ -97,9 +97,9 @@ impl Graph {
         Ok(nodes)
     }
 
-    /// Takes an epoch whose sums pass no limit: it is one of the epochs, its cycles are counted, and
-    /// each node is told the channels of its first input. A sink that has a form in it keeps its
-    /// format from then on. After `Memory` the graph is to be dropped.
+    /// Takes an epoch whose sums pass no limit: it is one of the epochs, its cycles are counted,
+    /// and each node is told the channels of its first input. A sink that has a form in it keeps
+    /// its format from then on. After `Memory` the graph is to be dropped.
     pub fn take(&mut self, epoch: Epoch, sums: Sums) -> Result<Stepped, Memory>
         requires sound { IsReady self.old }
         requires sums { sums ≡ sums_with self.old.kinds self.old.sums epoch }

@@ -39,4 +39,5 @@ pub record IsWaveFor (nodes : List Node) (wave : WavIn) : Type 0 where
 -- one wave for each source, and no other
 pub record HaveWaves (nodes : List Node) (waves : List WavIn) : Type 0 where
   pub each : All (IsWaveFor nodes) waves
-  pub one : (node : ℕ) → kind_of nodes node ≡ Some Source → count_by (λ w. w.node == node) waves ≡ 1
+  pub one : (node : ℕ) → kind_of nodes node ≡ Some Source
+      → count_by (λ w. w.node == node) waves ≡ 1

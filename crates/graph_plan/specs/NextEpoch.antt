@@ -28,7 +28,8 @@ pub record IsNext (plan : Plan) (nodes : List Node) (said after : List Standing)
   pub first : (node rate channels : ℕ) → 0 < input_count (kind_at plan node)
       → HasForm e (record { node = node; port = 0 }) rate channels
       → ((standing after node).told ≡ channels) × (0 < channels)
-  pub only : (node channels : ℕ) → Contains e.fresh (record { node = node; channels = channels })
+  pub only : (node channels : ℕ)
+      → Contains e.fresh (record { node = node; channels = channels })
       → (channels ≡ (standing after node).told) × Changes said after node
   pub named : (node : ℕ) → Changes said after node
       → Contains e.fresh (record { node = node; channels = (standing after node).told })

@@ -19,7 +19,8 @@ IsFollowed waves g lines (Err (F.Limit line which)) = Follows waves g lines (Err
 IsFollowed waves g lines (Err F.Memory) = Unit {0}
 
 -- what is answered of the lines from a graph on; out of memory is free
-abbrev pub IsAnswer : List (List ℕ) → List WavIn → Graph → List Line → Result Plan PlanFault
+abbrev pub IsAnswer : List (List ℕ) → List WavIn → Graph → List Line
+    → Result Plan PlanFault
     → Type 0
 IsAnswer names waves g lines (Ok plan) =
     (end : Graph) × Follows waves g lines (Ok end) × IsPlanOf names end plan

@@ -10,7 +10,8 @@ use Rattle.graph_lines.specs.Sums.{sink_samples, block_bytes, passed}
 -- epochs that follow one another from a cycle up to another
 abbrev pub FollowTo : ℕ → List Epoch → ℕ → Type 0
 FollowTo first [] next = first ≡ next
-FollowTo first (e ∷ es) next = (e.shape.first ≡ first) × FollowTo (first + e.shape.cycles) es next
+FollowTo first (e ∷ es) next = (e.shape.first ≡ first)
+    × FollowTo (first + e.shape.cycles) es next
 
 -- the sums are those of the epochs, and pass no limit
 pub record AreSummed (quantum : ℕ) (kinds : List Kind) (epochs : List Epoch) (first : ℕ)

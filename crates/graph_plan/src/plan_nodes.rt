@@ -99,7 +99,8 @@ pub(crate) fn nodes_of(graph: &Graph, names: &[Text]) -> Result<Items<PlanNode>,
     requires few { length graph.now.kinds ≤ 63 }
     requires kinds { HasKinds graph.now.ports graph.now.kinds }
     ensures count { IfOk result (λ nodes. length nodes ≡ length graph.now.kinds) }
-    ensures each { IfOk result (λ nodes. (n : ℕ) (node : PlanNode) → slice_get nodes n ≡ Some node
+    ensures each { IfOk result
+        (λ nodes. (n : ℕ) (node : PlanNode) → slice_get nodes n ≡ Some node
         → IsNodeOf names.now graph.now n node) }
 {
     let mut nodes = Items::new(graph.alloc);

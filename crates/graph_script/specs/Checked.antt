@@ -44,7 +44,8 @@ abbrev pub four_args : List (List ℕ) → Checked (List ℕ × List ℕ × List
 four_args [] = Err W.Arguments
 four_args (a ∷ more) = checked_map (λ rest. (a, rest.0, rest.1, rest.2)) (three_args more)
 
-abbrev pub five_args : List (List ℕ) → Checked (List ℕ × List ℕ × List ℕ × List ℕ × List ℕ)
+abbrev pub five_args : List (List ℕ)
+    → Checked (List ℕ × List ℕ × List ℕ × List ℕ × List ℕ)
 five_args [] = Err W.Arguments
 five_args (a ∷ more) = checked_map (λ rest. (a, rest.0, rest.1, rest.2, rest.3)) (four_args more)
 

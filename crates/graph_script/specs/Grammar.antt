@@ -33,7 +33,8 @@ reading_after number reading (Some said) = record {
 }
 
 -- the same, with the line's fault at its number
-abbrev pub reading_with : ℕ → Reading → Result (Option Said) ScriptWhy → Result Reading ScriptFault
+abbrev pub reading_with : ℕ → Reading → Result (Option Said) ScriptWhy
+    → Result Reading ScriptFault
 reading_with number reading (Ok said) = Ok (reading_after number reading said)
 reading_with number reading (Err why) = Err (F.At number why)
 

@@ -45,7 +45,8 @@ delay_of reading words = do
   making reading (C.Delay node frames) args.0 (K.Delay frames)
 
 -- a new map before its list: its number, its name, the channels and the word of the list
-abbrev pub node_and_channels : Reading → List (List ℕ) → Checked (ℕ × List ℕ × ℕ × List ℕ)
+abbrev pub node_and_channels : Reading → List (List ℕ)
+    → Checked (ℕ × List ℕ × ℕ × List ℕ)
 node_and_channels reading words = do
   args ← three_args words
   node ← new_arg reading args.0

@@ -53,7 +53,8 @@ port_arg reading name port_name = do
   Ok (record { node = node; port = port })
 
 -- an endpoint, whose port is looked up by the function: its form, then the node, then the port
-abbrev pub endpoint_arg : (Kind → List ℕ → Option ℕ) → Reading → List ℕ → Checked PortId
+abbrev pub endpoint_arg : (Kind → List ℕ → Option ℕ) → Reading → List ℕ
+    → Checked PortId
 endpoint_arg called reading word = do
   parts ← ok_or (endpoint_parts word) W.NameForm
   node ← node_arg reading parts.0

@@ -23,5 +23,6 @@ pub record IsSound (reading : Reading) : Type 0 where
 pub record IsTied (progress : Progress) : Type 0 where
   pub sound : IsSound progress.reading
   pub length : length progress.linked ≡ 64
-  pub linked : (n : ℕ) → n < 64 → get_or progress.linked n false ≡ is_linked progress.reading n
+  pub linked : (n : ℕ) → n < 64
+      → get_or progress.linked n false ≡ is_linked progress.reading n
   pub epochs : progress.epochs ≡ epochs_so_far progress.reading

@@ -66,7 +66,8 @@ fn put_offer(
     requires there { port.node < length kinds.now }
     requires port { IsPort kinds.now port }
     ensures { OnOk result (text.new ≡ text.old
-        ++ spaced (node_word names.now port.node ∷ port_word kinds.now port ∷ file.now ∷ [])) }
+        ++ spaced (node_word names.now port.node ∷ port_word kinds.now port ∷ file.now
+        ∷ [])) }
 {
     put_node(text, names, port.node)?;
     put_port(text, kinds, port)?;
@@ -85,7 +86,8 @@ fn put_buffers(
     requires there { port.node < length kinds.now }
     requires port { IsPort kinds.now port }
     ensures { OnOk result (text.new ≡ text.old
-        ++ spaced (node_word names.now port.node ∷ port_word kinds.now port ∷ decimal n ∷ [])) }
+        ++ spaced (node_word names.now port.node ∷ port_word kinds.now port ∷ decimal n
+        ∷ [])) }
 {
     put_node(text, names, port.node)?;
     put_port(text, kinds, port)?;

@@ -10,18 +10,6 @@ pub(crate) const EPOCHS_LIMIT: u32 = 1024;
 /// The cycles of a line.
 pub(crate) const CYCLES_LIMIT: u32 = 1_000_000;
 
-/// The frames of a square's period.
-pub(crate) const PERIOD_LIMIT: u32 = 1_000_000;
-
-/// The frames of a delay.
-pub(crate) const DELAY_LIMIT: u32 = 65_536;
-
-/// An amplitude.
-pub(crate) const AMP_LIMIT: u32 = 32_767;
-
-/// A gain without its sign.
-pub(crate) const GAIN_LIMIT: u32 = 32_767;
-
 /// A driver's priority.
 pub(crate) const PRIORITY_LIMIT: u32 = 1_000_000;
 

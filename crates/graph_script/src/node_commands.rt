@@ -10,12 +10,11 @@ ghost use Rattle.graph_script.specs.Sound.{IsSound};
 use crate::arguments::{five_words, one_word, three_words, two_words};
 use crate::command::Command;
 use crate::fault::ScriptWhy;
-use crate::limits::{AMP_LIMIT, DELAY_LIMIT, GAIN_LIMIT, PERIOD_LIMIT};
 use crate::new_nodes::making;
 use crate::nodes::new_node;
 use crate::numbers::{integer_in, number_in};
 use crate::reading::{NewNode, Reading};
-use pw_base::{CHANNELS_LIMIT, Kind, RATE_LIMIT};
+use pw_base::{AMP_LIMIT, CHANNELS_LIMIT, DELAY_LIMIT, GAIN_LIMIT, Kind, PERIOD_LIMIT, RATE_LIMIT};
 
 /// `square NAME RATE CHANNELS PERIOD AMP`
 pub(crate) fn square<'a>(reading: &Reading, args: &'a [u8]) -> Result<NewNode<'a>, ScriptWhy>

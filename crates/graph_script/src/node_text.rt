@@ -106,7 +106,8 @@ fn put_numbers(
     amp: i32,
 ) -> Result<(), Memory>
     ensures { OnOk result (text.new ≡ text.old
-        ++ spaced (decimal rate ∷ decimal channels ∷ decimal period ∷ signed_decimal amp ∷ [])) }
+        ++ spaced (decimal rate ∷ decimal channels ∷ decimal period ∷ signed_decimal amp
+        ∷ [])) }
 {
     put_number(text, rate)?;
     put_shape(text, channels, period, amp)

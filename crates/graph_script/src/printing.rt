@@ -116,7 +116,8 @@ pub fn text_of(alloc: Global, script: &Script) -> Result<Text, Memory>
     requires { IsParsed script.now }
     ensures text { IfOk result (λ text. text ≡ text_of_script script.now) }
     ensures again { IfOk result (λ text. script_of text ≡ Ok script.now) }
-    ensures shortest { IfOk result (λ text. (bytes : List ℕ) → script_of bytes ≡ Ok script.now
+    ensures shortest { IfOk result
+        (λ text. (bytes : List ℕ) → script_of bytes ≡ Ok script.now
         → length text ≤ length bytes) }
 {
     let names = script.names.as_slice();

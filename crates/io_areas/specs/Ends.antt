@@ -1,4 +1,5 @@
--- The ends of a link that a seat knows, where the writer, or the reader, has done the cycles before c and nothing of c.
+-- The ends of a link that a seat knows, where the writer, or the reader, has done the cycles before
+-- c and nothing of c.
 -- Source: this project's own.
 use Rattle.std.specs.Prelude.{◌≡◌, ℕ, ◌<◌, length}
 use Rattle.board_rule.specs.declared.view.View.{View}

@@ -19,5 +19,7 @@ pub record MayReadInput (is_driver : Bool) (p : BoardLayout) (v : View) (l : ℕ
 -- it has taken a block, read it whole and given it back: only this end of the link is another
 abbrev pub HasReadInput : Bool → BoardLayout → View → ℕ → View → Type 0
 HasReadInput is_driver p v l w = let c : ℕ = read_cycle is_driver p v l in
-    (id : ℕ) × (w ≡ record (view_read v l (record { loaded = c + 1; lowered = c + 1; stored = c + 1; id = id }))
+    (id : ℕ) × (w
+    ≡ record (view_read v l
+    (record { loaded = c + 1; lowered = c + 1; stored = c + 1; id = id }))
     { heard = set v.heard l (pool_at p (pool_of p l)).words })

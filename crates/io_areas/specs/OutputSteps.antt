@@ -1,4 +1,5 @@
--- From step to step of the turn of a node on a pool: the writer's ends of its links, and its blocks.
+-- From step to step of the turn of a node on a pool: the writer's ends of its links, and its
+-- blocks.
 -- Source: PipeWire's documentation, "SPA Buffers"; one pool an output port is this project's own.
 use Rattle.std.specs.Prelude.{◌≡◌, ℕ, ◌+◌, List, Contains, length}
 use Rattle.board_rule.specs.declared.view.WriteView.{WriteView}
@@ -8,7 +9,8 @@ use Rattle.board_rule.specs.EndViews.{write_of}
 use Rattle.board_rule.specs.WriterSteps.{write_cycle}
 
 -- the ends of these links are others, each as `Made` says, and nothing else is
-pub record AreMade (Made : ℕ → WriteView → WriteView → Type 0) (v : View) (links : List ℕ) (w : View) : Type 0 where
+pub record AreMade (Made : ℕ → WriteView → WriteView → Type 0) (v : View) (links : List ℕ)
+    (w : View) : Type 0 where
   pub same : w ≡ record v { writes = w.writes }
   pub long : length w.writes ≡ length v.writes
   pub made : (l : ℕ) → Contains links l → Made l (write_of v l) (write_of w l)

@@ -11,9 +11,11 @@ sample_in word (suc (suc zero)) = cast_signed w16 (word / 4294967296 % 65536)
 sample_in word (suc (suc (suc k))) = cast_signed w16 (word / 281474976710656)
 
 abbrev pub unpacked : ℕ → List ℤ
-unpacked word = sample_in word 0 ∷ sample_in word 1 ∷ sample_in word 2 ∷ sample_in word 3 ∷ []
+unpacked word = sample_in word 0 ∷ sample_in word 1 ∷ sample_in word 2
+    ∷ sample_in word 3 ∷ []
 
 -- the list with the four samples from an index on, as far as there are indexes
 abbrev pub spread : List ℤ → ℕ → ℕ → List ℤ
-spread xs at word = set (set (set (set xs at (sample_in word 0)) (at + 1) (sample_in word 1)) (at + 2)
+spread xs at word = set (set (set (set xs at (sample_in word 0)) (at + 1) (sample_in word 1))
+    (at + 2)
     (sample_in word 2)) (at + 3) (sample_in word 3)

@@ -1,7 +1,7 @@
--- The calls of a node that writes: what each asks of the view of its seat, its answer, and the view after it. Links,
--- pools and blocks are given by number.
--- Source: PipeWire's documentation, "SPA Buffers"; spa/node/io.h, spa_io_buffers; the words of pools are this
--- project's own.
+-- The calls of a node that writes: what each asks of the view of its seat, its answer, and the view
+-- after it. Links, pools and blocks are given by number.
+-- Source: PipeWire's documentation, "SPA Buffers"; spa/node/io.h, spa_io_buffers; the words of
+-- pools are this project's own.
 use Rattle.std.specs.Prelude.{◌≡◌, ℕ, ℤ, ◌+◌, ◌-◌, ◌<◌, true, false, cond, eqb, List, Option, Some, None}
 use Rattle.board_rule.specs.declared.view.BlockView.TheVariants.{Free, Filling, Out}
 use Rattle.board_rule.specs.declared.view.View.{View}
@@ -18,40 +18,47 @@ use Rattle.board_rule.specs.ReclaimSteps.{IsUnreclaimed, readers_loaded, IsDue, 
 use Rattle.board_rule.specs.BufferReads.{HasPool, IsFirstFilled}
 
 module _ (p : BoardLayout) where
-  -- LOADING FOR WRITING answers the number that the reader gave back: none exactly in the first cycle
+  -- LOADING FOR WRITING answers the number that the reader gave back: none exactly in the first
+  -- cycle
   abbrev pub number_given : View → ℕ → Option ℕ
-  number_given v l = cond (eqb (write_cycle p v l) (first p)) None (Some (stored_id (write_of v l) (delay_at p l)))
+  number_given v l = cond (eqb (write_cycle p v l) (first p)) None
+      (Some (stored_id (write_of v l) (delay_at p l)))
 
   -- the node that fills the pool is one of the seat, with cycles left, and works
   abbrev pub IsAtPool : View → ℕ → Type 0
   IsAtPool v q = HasPool p v q × IsRunning false v (filler_of p q) × IsCycle p (fill_cycle p v q)
 
-  -- RECLAIMING: all links of the pool are loaded in this cycle, and the pool is not yet reclaimed in it. In each cycle
-  -- but the first the block that is due becomes free. It is the one whose number the readers of the latest links gave back,
-  -- and block 0 in the second cycle of a pool with a delayed link
+  -- RECLAIMING: all links of the pool are loaded in this cycle, and the pool is not yet reclaimed
+  -- in it. In each cycle but the first the block that is due becomes free. It is the one whose
+  -- number the readers of the latest links gave back, and block 0 in the second cycle of a pool
+  -- with a delayed link
   abbrev pub Reclaims : View → ℕ → Type 0
   Reclaims v q = IsAtPool v q × IsLoaded p v q × IsUnreclaimed p v q (fill_cycle p v q)
 
   abbrev pub HasReclaimed : View → ℕ → Option ℕ → View → Type 0
   HasReclaimed v q None w = (fill_cycle p v q ≡ first p) × (w ≡ v)
-  HasReclaimed v q (Some b) w = (first p < fill_cycle p v q) × IsDue p v q b × (w ≡ readers_loaded p v q b 0)
+  HasReclaimed v q (Some b) w = (first p < fill_cycle p v q) × IsDue p v q b
+      × (w ≡ readers_loaded p v q b 0)
       × IsReturned p v q b × IsZeroAtSecond p v q b
 
-  -- FILLING: the block is free, no block of the pool is due or filled in this cycle, and the samples are those that
-  -- the pool gives in it
+  -- FILLING: the block is free, no block of the pool is due or filled in this cycle, and the
+  -- samples are those that the pool gives in it
   abbrev pub IsUnfilled : View → ℕ → ℕ → Type 0
   IsUnfilled v q c = (a : ℕ) → a < (pool_at p q).blocks → is_busy (block_of p v q a) ≡ true
-      → (stamp c (block_of p v q a) < c + 1) × (c + 1 < stamp c (block_of p v q a) + busy_cycles p (pool_at p q))
+      → (stamp c (block_of p v q a) < c + 1)
+      × (c + 1 < stamp c (block_of p v q a) + busy_cycles p (pool_at p q))
 
   abbrev pub Fills : View → ℕ → ℕ → List ℤ → Type 0
   Fills v q b samples = HasBlock p v q b × IsWriting p v q × (block_of p v q b ≡ Free)
-      × IsUnfilled v q (fill_cycle p v q) × (samples ≡ samples_in p v.expect (fill_cycle p v q) q)
+      × IsUnfilled v q (fill_cycle p v q)
+      × (samples ≡ samples_in p v.expect (fill_cycle p v q) q)
 
   -- all words of the block have their samples
   abbrev pub filled_whole : View → ℕ → ℕ → View
   filled_whole v q b = view_block p v q b (Filling (pool_at p q).words)
 
-  -- ANNOUNCING: the block that was filled in this cycle is out, with all readers of the pool to come
+  -- ANNOUNCING: the block that was filled in this cycle is out, with all readers of the pool to
+  -- come
   abbrev pub IsFull : View → ℕ → ℕ → Type 0
   IsFull v q b = IsFirstFilled p v q b × (block_of p v q b ≡ Filling (pool_at p q).words)
 
@@ -61,12 +68,15 @@ module _ (p : BoardLayout) where
   abbrev pub HasAnnounced : View → ℕ → View → Type 0
   HasAnnounced v q w = (b : ℕ) × IsFull v q b × (w ≡ readers_stored p v q b)
 
-  -- PUBLISHING: the block of the link's pool that was announced in this cycle has its number stored in the link's area
+  -- PUBLISHING: the block of the link's pool that was announced in this cycle has its number stored
+  -- in the link's area
   abbrev pub IsNew : View → ℕ → ℕ → Type 0
-  IsNew v l b = IsFirstFilled p v (pool_of p l) b × (block_of p v (pool_of p l) b ≡ Out (write_cycle p v l + 1))
+  IsNew v l b = IsFirstFilled p v (pool_of p l) b
+      × (block_of p v (pool_of p l) b ≡ Out (write_cycle p v l + 1))
 
   abbrev pub Publishes : View → ℕ → Type 0
-  Publishes v l = IsWriter p v l × HasPool p v (pool_of p l) × ((write_of v l).loaded ≡ write_cycle p v l + 1)
+  Publishes v l = IsWriter p v l × HasPool p v (pool_of p l)
+      × ((write_of v l).loaded ≡ write_cycle p v l + 1)
       × ((write_of v l).stored ≡ write_cycle p v l) × ((b : ℕ) × IsNew v l b)
 
   abbrev pub HasPublished : View → ℕ → View → Type 0

@@ -25,9 +25,9 @@ fn is_delayed(shape: &Shape, pool: &PoolShape) -> bool
     has_delayed(shape.links.as_slice(), pool.port)
 }
 
-/// The free blocks of a pool of the shape before the first cycle of an epoch: all, ascending. Block 0 of a pool with a
-/// delayed link is not among them: it is out, as if it had been announced in the cycle before. All memory that the list
-/// ever needs is taken here.
+/// The free blocks of a pool of the shape before the first cycle of an epoch: all, ascending. Block
+/// 0 of a pool with a delayed link is not among them: it is out, as if it had been announced in the
+/// cycle before. All memory that the list ever needs is taken here.
 pub fn free_at_start(alloc: Global, shape: &Shape, pool: &PoolShape) -> Result<Pool, Memory>
     requires { (1 ≤ pool.now.blocks) × (pool.now.blocks ≤ 8) }
     ensures { IfOk result (λ free. free ≡ free_at_start shape.now pool.now) }

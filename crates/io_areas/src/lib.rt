@@ -1,9 +1,12 @@
-//! The calls of a cycle on io areas and blocks, over the steps of a board, and the turns of a node that they make up.
+//! The calls of a cycle on io areas and blocks, over the steps of a board, and the turns of a node
+//! that they make up.
 //!
-//! A node that works, its Start stored, writes so: `load_for_write` for each link of a pool, then `reclaim`, whose block is free
-//! again, then `fill` of a free block, `announce`, and `publish` for each link: `write_output` does all of it. It reads so:
-//! `take`, `read` as often as it likes, and `give_back`: `read_input` does each once. When all links from it are published and
-//! all links into it are given back it may finish. None of these calls takes memory, waits or fails.
+//! A node that works, its Start stored, writes so: `load_for_write` for each link of a pool, then
+//! `reclaim`, whose block is free again, then `fill` of a free block, `announce`, and `publish` for
+//! each link: `write_output` does all of it. It reads so:
+//! `take`, `read` as often as it likes, and `give_back`: `read_input` does each once. When all
+//! links from it are published and all links into it are given back it may finish. None of these
+//! calls takes memory, waits or fails.
 #![tactic(auto)]
 
 mod free_blocks;

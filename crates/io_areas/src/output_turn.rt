@@ -22,8 +22,8 @@ use buffer_pool::Pool;
 pub struct OutputWritten {
     /// The number that the reader of the last link gave back. None exactly in the first cycle.
     pub given: Option<u32>,
-    /// The block that came back and is free again: the one of the cycle before, in a pool with a delayed link of two
-    /// cycles before. None exactly in the first cycle of the epoch.
+    /// The block that came back and is free again: the one of the cycle before, in a pool with a
+    /// delayed link of two cycles before. None exactly in the first cycle of the epoch.
     pub reclaimed: Option<u32>,
     /// The block that was filled, announced and published.
     pub used: u32,
@@ -47,8 +47,8 @@ fn load_all(board: &Board, seat: &mut LoopSeat, links: &[u32]) -> Option<u32>
     given
 }
 
-// The block that is due comes back to the list of free ones. Answers it, and the one that was free longest, which
-// leaves the list.
+// The block that is due comes back to the list of free ones. Answers it, and the one that was free
+// longest, which leaves the list.
 fn obtain(board: &Board, seat: &mut LoopSeat, pool: u32, free: &mut Pool) -> (Option<u32>, u32)
     requires table { IsOn board.now seat.old.table }
     requires phase { Reclaims (layout board.now) seat.old.knows pool }
@@ -86,7 +86,8 @@ fn emit(board: &Board, seat: &mut LoopSeat, pool: u32, id: u32, samples: &[i16])
     seat.store_readers(board, pool, id);
 }
 
-// The block that was announced is published on each of the links: one store of HAVE_DATA with its number.
+// The block that was announced is published on each of the links: one store of HAVE_DATA with its
+// number.
 fn publish_all(board: &Board, seat: &mut LoopSeat, links: &[u32], id: u32)
     requires table { IsOn board.now seat.old.table }
     requires once { AllPairs (λ k l. k ≢ l) links.now }
@@ -100,10 +101,11 @@ fn publish_all(board: &Board, seat: &mut LoopSeat, links: &[u32], id: u32)
     }
 }
 
-/// The node of a pool, which works, takes its turn on it: `links`, all links of the pool in the order of the shape,
-/// are loaded; the block that is due comes back to the list of free ones; and the one that was free longest is filled
-/// with `samples`, one quantum, frames interleaved, announced, and published on all links. The links are gone over
-/// twice, and the samples once. Takes no memory.
+/// The node of a pool, which works, takes its turn on it: `links`, all links of the pool in the
+/// order of the shape, are loaded; the block that is due comes back to the list of free ones; and
+/// the one that was free longest is filled with `samples`, one quantum, frames interleaved,
+/// announced, and published on all links. The links are gone over twice, and the samples once.
+/// Takes no memory.
 pub fn write_output(
     board: &Board,
     seat: &mut LoopSeat,

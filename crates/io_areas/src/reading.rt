@@ -12,14 +12,16 @@ use crate::sample_words::spread;
 use board_rule::{Board, BoardSeat};
 use pw_base::io_id_of;
 
-/// The link's reader takes its turn in this cycle, which it has not yet done: one load of the io area. Answers the number of
-/// the block whose reading cycle this is; over a delayed link that is 0 in the epoch's first cycle.
+/// The link's reader takes its turn in this cycle, which it has not yet done: one load of the io
+/// area. Answers the number of the block whose reading cycle this is; over a delayed link that is 0
+/// in the epoch's first cycle.
 #[inline]
 pub fn take<S: BoardSeat>(board: &Board, seat: &mut S, link: u32) -> u32
     requires table { IsOn board.now (S.table seat.old) }
     requires phase { LoadsAsReader S.is_driver (layout board.now) (S.knows seat.old) link }
     ensures table { S.table seat.new ≡ S.table seat.old }
-    ensures knows { S.knows seat.new ≡ taken S.is_driver (layout board.now) (S.knows seat.old) link result }
+    ensures knows { S.knows seat.new
+        ≡ taken S.is_driver (layout board.now) (S.knows seat.old) link result }
     ensures inside { let p = layout board.now in result < (pool_at p (pool_of p link)).blocks }
     ensures first { IsZeroAtFirst S.is_driver (layout board.now) (S.knows seat.old) link result }
     ensures cycle { IsOfThisCycle S.is_driver (layout board.now) (S.knows seat.old) link result }
@@ -31,7 +33,8 @@ pub fn take<S: BoardSeat>(board: &Board, seat: &mut S, link: u32) -> u32
 fn words_of(board: &Board, link: u32) -> u32
     requires { link < length (layout board.now).shape.links }
     ensures is { let p = layout board.now in result ≡ (pool_at p (pool_of p link)).words }
-    ensures quantum { let p = layout board.now in result ≡ (quantum_of p (pool_of p link) + 3) / 4 }
+    ensures quantum { let p = layout board.now in
+        result ≡ (quantum_of p (pool_of p link) + 3) / 4 }
     ensures some { 0 < result }
     ensures inside { let p = layout board.now in pool_of p link < length (pools_of p.shape) }
 {
@@ -49,7 +52,8 @@ fn first_of(board: &Board, link: u32, id: u32) -> usize
     board.first_sample(pool, id)
 }
 
-/// Reads the block that is taken: `to`, which is one quantum of the link's pool long, becomes its samples, frames interleaved.
+/// Reads the block that is taken: `to`, which is one quantum of the link's pool long, becomes its
+/// samples, frames interleaved.
 /// One load a word of four samples, in their order.
 #[inline]
 pub fn read<S: BoardSeat>(board: &Board, seat: &mut S, link: u32, to: &mut [i16])
@@ -57,7 +61,8 @@ pub fn read<S: BoardSeat>(board: &Board, seat: &mut S, link: u32, to: &mut [i16]
     requires phase { IsHolding S.is_driver (layout board.now) (S.knows seat.old) link }
     requires long { let p = layout board.now in length to.old ≡ quantum_of p (pool_of p link) }
     ensures table { S.table seat.new ≡ S.table seat.old }
-    ensures knows { S.knows seat.new ≡ all_heard S.is_driver (layout board.now) (S.knows seat.old) link }
+    ensures knows { S.knows seat.new
+        ≡ all_heard S.is_driver (layout board.now) (S.knows seat.old) link }
     ensures samples { to.new ≡ brought S.is_driver (layout board.now) (S.knows seat.old) link }
 {
     let id = seat.loaded(board, link);
@@ -68,13 +73,15 @@ pub fn read<S: BoardSeat>(board: &Board, seat: &mut S, link: u32, to: &mut [i16]
     }
 }
 
-/// Gives the block back, which was read whole: the readers word is lowered by one, and then NEED_DATA is stored with the block's number.
+/// Gives the block back, which was read whole: the readers word is lowered by one, and then
+/// NEED_DATA is stored with the block's number.
 #[inline]
 pub fn give_back<S: BoardSeat>(board: &Board, seat: &mut S, link: u32)
     requires table { IsOn board.now (S.table seat.old) }
     requires phase { GivesBack S.is_driver (layout board.now) (S.knows seat.old) link }
     ensures table { S.table seat.new ≡ S.table seat.old }
-    ensures knows { S.knows seat.new ≡ given_back S.is_driver (layout board.now) (S.knows seat.old) link }
+    ensures knows { S.knows seat.new
+        ≡ given_back S.is_driver (layout board.now) (S.knows seat.old) link }
 {
     let id = seat.loaded(board, link);
     seat.lower_readers(board, link, id);

@@ -1,4 +1,5 @@
-//! The calls of a node that writes: it fills one block of each of its pools in a cycle, for all links of the pool.
+//! The calls of a node that writes: it fills one block of each of its pools in a cycle, for all
+//! links of the pool.
 ghost use Rattle.board_rule.specs.OnBoard.{IsOn, layout};
 ghost use Rattle.std.specs.Prelude.{◌≡◌, ℕ, ◌<◌, IfSome, length};
 ghost use Rattle.board_rule.specs.EndViews.{link_at, pool_at, pool_of};
@@ -18,8 +19,9 @@ fn writer(board: &Board, link: u32) -> u32
     board.shape().links.as_slice()[link as usize].from.node
 }
 
-/// The link's writer takes its turn in this cycle, which it has not yet done: one load of the io area. None exactly in
-/// the first cycle of the epoch, else the number of the block that the reader gave back.
+/// The link's writer takes its turn in this cycle, which it has not yet done: one load of the io
+/// area. None exactly in the first cycle of the epoch, else the number of the block that the reader
+/// gave back.
 #[inline]
 pub fn load_for_write(board: &Board, seat: &mut LoopSeat, link: u32) -> Option<u32>
     requires table { IsOn board.now seat.old.table }
@@ -40,9 +42,10 @@ pub fn load_for_write(board: &Board, seat: &mut LoopSeat, link: u32) -> Option<u
     }
 }
 
-/// The pool has a free block again: one load of the readers word of the block that is due, which is 0. None exactly in
-/// the first cycle of the epoch, where no word is loaded, else the number of that block, which was announced in the cycle before,
-/// in a pool with a delayed link two cycles before; in the second cycle of such a pool it is 0.
+/// The pool has a free block again: one load of the readers word of the block that is due, which is
+/// 0. None exactly in the first cycle of the epoch, where no word is loaded, else the number of
+/// that block, which was announced in the cycle before, in a pool with a delayed link two cycles
+/// before; in the second cycle of such a pool it is 0.
 #[inline]
 pub fn reclaim(board: &Board, seat: &mut LoopSeat, pool: u32) -> Option<u32>
     requires table { IsOn board.now seat.old.table }
@@ -60,8 +63,8 @@ pub fn reclaim(board: &Board, seat: &mut LoopSeat, pool: u32) -> Option<u32>
     Some(id)
 }
 
-/// Fills a free block with the samples that the pool gives in this cycle, one quantum, frames interleaved: one store a word
-/// of four samples, in their order.
+/// Fills a free block with the samples that the pool gives in this cycle, one quantum, frames
+/// interleaved: one store a word of four samples, in their order.
 #[inline]
 pub fn fill(board: &Board, seat: &mut LoopSeat, pool: u32, id: u32, samples: &[i16])
     requires table { IsOn board.now seat.old.table }
@@ -76,7 +79,8 @@ pub fn fill(board: &Board, seat: &mut LoopSeat, pool: u32, id: u32, samples: &[i
     }
 }
 
-/// Announces the block that was filled in this cycle: one store of the number of the pool's links in its readers word.
+/// Announces the block that was filled in this cycle: one store of the number of the pool's links
+/// in its readers word.
 #[inline]
 pub fn announce(board: &Board, seat: &mut LoopSeat, pool: u32)
     requires table { IsOn board.now seat.old.table }
@@ -88,7 +92,8 @@ pub fn announce(board: &Board, seat: &mut LoopSeat, pool: u32)
     seat.store_readers(board, pool, id);
 }
 
-/// Publishes the block that was announced in this cycle on a link of its pool: one store of HAVE_DATA with its number.
+/// Publishes the block that was announced in this cycle on a link of its pool: one store of
+/// HAVE_DATA with its number.
 #[inline]
 pub fn publish(board: &Board, seat: &mut LoopSeat, link: u32)
     requires table { IsOn board.now seat.old.table }

@@ -1,5 +1,5 @@
--- What a link line does: the first of its conditions that holds decides, and only a link that is made changes anything.
--- Source: PipeWire's documentation, "Objects Design", Link; the order of the conditions is this project's.
+-- What a link line does: the first condition that holds decides, and only a link changes anything.
+-- Source: PipeWire's documentation, "Objects Design", Link; the order of conditions is ours.
 use Rattle.std.specs.Prelude.{◌≡◌, ◌⊎◌, ℕ, ◌<◌, ◌≤◌, true, false, List, [], ◌∷◌, ◌++◌, length, Option, Some, None}
 use Rattle.std.specs.Option.{option_or}
 use Rattle.pw_base.specs.SoundShape.{IsBetween}
@@ -32,9 +32,11 @@ HasCount nodes from to = (n : ℕ) × SharesBuffers nodes from to (Some n)
 abbrev pub IsSettled : LinkState → List Node → PortId → PortId → Linked → Type 0
 IsSettled s nodes from to (NoFormat key) = Negotiates nodes from to (negotiated.NoFormat key)
 IsSettled s nodes from to NoBuffers = HasFormat nodes from to × SharesBuffers nodes from to None
-IsSettled s nodes from to Many = HasFormat nodes from to × HasCount nodes from to × (256 ≤ length s.made)
+IsSettled s nodes from to Many = HasFormat nodes from to × HasCount nodes from to
+    × (256 ≤ length s.made)
 IsSettled s nodes from to (Made format buffers) =
-    Negotiates nodes from to (negotiated.Format format) × SharesBuffers nodes from to (Some buffers)
+    Negotiates nodes from to (negotiated.Format format)
+    × SharesBuffers nodes from to (Some buffers)
     × (length s.made < 256)
 IsSettled s nodes from to other = ⊥
 
@@ -42,13 +44,15 @@ IsSettled s nodes from to other = ⊥
 abbrev pub IsCounted : LinkState → Format → Option ℕ → Linked → Type 0
 IsCounted s format None linked = linked ≡ NoBuffers
 IsCounted s format (Some n) linked =
-    ((256 ≤ length s.made) × (linked ≡ Many)) ⊎ ((length s.made < 256) × (linked ≡ Made format n))
+    ((256 ≤ length s.made) × (linked ≡ Many))
+    ⊎ ((length s.made < 256) × (linked ≡ Made format n))
 
 -- LINK OUTCOME: twice; a loop; else as a new link is settled
 abbrev pub IsLinkOutcome : LinkState → List Node → PortId → PortId → Linked → Type 0
 IsLinkOutcome s nodes from to Twice = are_linked s.made from to ≡ true
 IsLinkOutcome s nodes from to Loop =
-    (are_linked s.made from to ≡ false) × ((from.node ≡ to.node) ⊎ IsSynchronousLoop s from to)
+    (are_linked s.made from to ≡ false)
+    × ((from.node ≡ to.node) ⊎ IsSynchronousLoop s from to)
 IsLinkOutcome s nodes from to linked = IsNewLink s from to × IsSettled s nodes from to linked
 
 -- a port takes a format where it has none, if it may
@@ -63,9 +67,11 @@ abbrev pub formatted : List Node → PortId → PortId → Format → List Node
 formatted nodes from to format = with_port (with_port nodes from (given format)) to (given format)
 
 -- WHAT STANDS BEHIND a link line
-abbrev pub LeavesLink : LinkState → List Node → PortId → PortId → Linked → LinkState → List Node → Type 0
+abbrev pub LeavesLink : LinkState → List Node → PortId → PortId → Linked → LinkState
+    → List Node → Type 0
 LeavesLink s nodes from to (Made format buffers) t after =
-    (t ≡ record s { made = s.made ++ link_of from to ∷ [] }) × (after ≡ formatted nodes from to format)
+    (t ≡ record s { made = s.made ++ link_of from to ∷ [] })
+    × (after ≡ formatted nodes from to format)
 LeavesLink s nodes from to other t after = (t ≡ s) × (after ≡ nodes)
 
 -- a link that is made has 1 to 8 buffers

@@ -1,5 +1,7 @@
--- The links that are there, in the order in which they were made, and the nodes that are asynchronous.
--- Source: PipeWire's documentation, "Objects Design", Link, and "Graph Scheduling"; a script marks asynchronous nodes.
+-- The links that are there, in the order in which they were made, and the nodes that are
+-- asynchronous.
+-- Source: PipeWire's documentation, "Objects Design", Link, and "Graph Scheduling"; a script marks
+-- asynchronous nodes.
 use Rattle.std.specs.Prelude.{◌≡◌, ℕ, ◌==◌, ◌&&◌, ◌||◌, Bool, true, false, not, List, [], ◌∷◌, slice_index_or}
 use Rattle.std.specs.List.{Contains, filter, list_any}
 use Rattle.pw_base.specs.declared.ids.PortId.{PortId}
@@ -37,13 +39,16 @@ synchronous_links s = filter (is_synchronous s) s.made
 -- a walk from a node along links, one after the other, to another
 abbrev pub IsWalk : List Link → ℕ → List Link → ℕ → Type 0
 IsWalk links a [] b = a ≡ b
-IsWalk links a (l ∷ walk) b = Contains links l × (l.from.node ≡ a) × IsWalk links l.to.node walk b
+IsWalk links a (l ∷ walk) b = Contains links l × (l.from.node ≡ a)
+    × IsWalk links l.to.node walk b
 
 -- REACHABLE: there is a walk
 abbrev pub IsReachable : List Link → ℕ → ℕ → Type 0
 IsReachable links a b = (walk : List Link) × IsWalk links a walk b
 
--- LOOP: both ports are of one node; or the link would be synchronous, and a walk along synchronous links leads back
+-- LOOP: both ports are of one node; or the link would be synchronous, and a walk along synchronous
+-- links leads back
 abbrev pub IsSynchronousLoop : LinkState → PortId → PortId → Type 0
 IsSynchronousLoop s from to =
-    (is_synchronous s (link_of from to) ≡ true) × IsReachable (synchronous_links s) to.node from.node
+    (is_synchronous s (link_of from to) ≡ true)
+    × IsReachable (synchronous_links s) to.node from.node

@@ -1,6 +1,7 @@
--- What an output and an input port settle on: the fixation of the common format of what they offer, and a number of
--- buffers.
--- Source: PipeWire's documentation, "Objects Design", Link; spa/pod/filter.h, spa/pod/iter.h; spa/param/buffers.h.
+-- What an output and an input port settle on: the fixation of the common format of what they offer,
+-- and a number of buffers.
+-- Source: PipeWire's documentation, "Objects Design", Link; spa/pod/filter.h, spa/pod/iter.h;
+-- spa/param/buffers.h.
 use Rattle.std.specs.Prelude.{◌≡◌, ℕ, List, Option, Some, None}
 use Rattle.pw_base.specs.declared.ids.PortId.{PortId}
 use Rattle.pod_codec.specs.declared.pod.Pod.{Pod}
@@ -25,14 +26,17 @@ use Rattle.link_negotiation.specs.declared.common_formats.Negotiated.TheVariants
 abbrev pub OffersAt : List Node → PortId → Offered → Type 0
 OffersAt nodes port offered = AtPort nodes port (λ node s. Offers node s offered)
 
--- what the input's offer leaves of the output's: the fixation of their common format, or the key without one
+-- what the input's offer leaves of the output's: the fixation of their common format, or the key
+-- without one
 abbrev pub Settles : Format → Offered → Negotiated → Type 0
 Settles f (Nothing k) (negotiated.NoFormat key) = k ≡ key
 Settles f (Nothing k) (negotiated.Format format) = ⊥
 Settles f (Offer g) (negotiated.NoFormat key) = Filters f g (Clash key)
-Settles f (Offer g) (negotiated.Format format) = (c : Format) × Filters f g (Common c) × (format ≡ fixated c)
+Settles f (Offer g) (negotiated.Format format) = (c : Format) × Filters f g (Common c)
+    × (format ≡ fixated c)
 
--- the output port offers nothing, else the input port does, else both clash; else their common format, fixed
+-- the output port offers nothing, else the input port does, else both clash; else their common
+-- format, fixed
 abbrev pub SettlesFrom : List Node → PortId → Offered → Negotiated → Type 0
 SettlesFrom nodes to (Nothing k) (negotiated.NoFormat key) = k ≡ key
 SettlesFrom nodes to (Nothing k) (negotiated.Format format) = ⊥
@@ -40,7 +44,8 @@ SettlesFrom nodes to (Offer f) outcome = (p : Offered) × OffersAt nodes to p ×
 
 -- NEGOTIATION of a format
 abbrev pub Negotiates : List Node → PortId → PortId → Negotiated → Type 0
-Negotiates nodes from to outcome = (o : Offered) × OffersAt nodes from o × SettlesFrom nodes to o outcome
+Negotiates nodes from to outcome = (o : Offered) × OffersAt nodes from o
+    × SettlesFrom nodes to o outcome
 
 -- a port that has its format agrees with another format at each key of its own
 abbrev pub Agrees : Format → Node → PortState → Type 0
@@ -58,4 +63,5 @@ MeetsIn own other count = (c : Option Choice) × Meets own other c × IsCount c 
 
 abbrev pub SharesBuffers : List Node → PortId → PortId → Option ℕ → Type 0
 SharesBuffers nodes from to count =
-    AtPort nodes from (λ node s. AtPort nodes to (λ other t. MeetsIn (buffers_of s) (buffers_of t) count))
+    AtPort nodes from (λ node s. AtPort nodes to
+    (λ other t. MeetsIn (buffers_of s) (buffers_of t) count))

@@ -18,18 +18,22 @@ pub record IsBounded (s : LinkState) : Type 0 where
 abbrev pub leaves : LinkState → ℕ → Link → Bool
 leaves s n l = is_synchronous s l && (l.from.node == n)
 
--- LAST: so many links stand up to the last of the first `count` that leaves a node; none where none does
+-- LAST: so many links stand up to the last of the first `count` that leaves a node; none where none
+-- does
 pub record IsLast (s : LinkState) (n count i : ℕ) : Type 0 where
   pub within : i ≤ count
   pub there : (d : Link) → 0 < i → leaves s n (slice_index_or s.made (i - 1) d) ≡ true
-  pub none : (k : ℕ) (d : Link) → i ≤ k → k < count → leaves s n (slice_index_or s.made k d) ≡ false
+  pub none : (k : ℕ) (d : Link) → i ≤ k → k < count
+      → leaves s n (slice_index_or s.made k d) ≡ false
 
--- OUTGOING: of the first `count` links the last that leaves each node, and the one before each from the same node
+-- OUTGOING: of the first `count` links the last that leaves each node, and the one before each from
+-- the same node
 pub record IsOutgoing (s : LinkState) (count : ℕ) (o : Outgoing) : Type 0 where
   pub nodes : length o.last ≡ 64
   pub links : length o.earlier ≡ 256
   pub last : (n : ℕ) → n < 64 → IsLast s n count (slice_index o.last n)
-  pub earlier : (k n : ℕ) (d : Link) → k < count → leaves s n (slice_index_or s.made k d) ≡ true
+  pub earlier : (k n : ℕ) (d : Link) → k < count
+      → leaves s n (slice_index_or s.made k d) ≡ true
       → IsLast s n k (slice_index o.earlier k)
 
 abbrev pub is_reached : List Bool → ℕ → Bool
@@ -40,13 +44,15 @@ pub record IsQueue (r : Reached) : Type 0 where
   pub nodes : length r.here ≡ 64
   pub room : length r.order ≡ 64
   pub here : (k : ℕ) → k < r.count → is_reached r.here (slice_index r.order k) ≡ true
-  pub places : (n : ℕ) → is_reached r.here n ≡ true → (k : ℕ) × (k < r.count) × (slice_index r.order k ≡ n)
+  pub places : (n : ℕ) → is_reached r.here n ≡ true
+      → (k : ℕ) × (k < r.count) × (slice_index r.order k ≡ n)
   pub once : r.count + count_by not r.here ≡ 64
 
 -- what is reached stays, in its order
 pub record IsLonger (before after : Reached) : Type 0 where
   pub count : before.count ≤ after.count
-  pub order : (k : ℕ) → k < before.count → slice_index after.order k ≡ slice_index before.order k
+  pub order : (k : ℕ) → k < before.count
+      → slice_index after.order k ≡ slice_index before.order k
   pub here : (n : ℕ) → is_reached before.here n ≡ true → is_reached after.here n ≡ true
 
 -- a synchronous link leads from a node to another
@@ -64,5 +70,6 @@ IsExpanded s n here = (m : ℕ) → IsLed s n m → is_reached here m ≡ true
 pub record Expands (s : LinkState) (n : ℕ) (before after : Reached) : Type 0 where
   pub queue : IsQueue after
   pub longer : IsLonger before after
-  pub led : (m : ℕ) → is_reached after.here m ≡ true → (is_reached before.here m ≡ true) ⊎ IsLed s n m
+  pub led : (m : ℕ) → is_reached after.here m ≡ true
+      → (is_reached before.here m ≡ true) ⊎ IsLed s n m
   pub all : IsExpanded s n after.here

@@ -16,7 +16,8 @@ use Rattle.link_negotiation.specs.Links.{LinkState, joins, are_linked, has_link}
 abbrev pub without : PortId → PortId → List Link → List Link
 without from to made = filter (λ l. not (joins from to l)) made
 
--- RELEASE by the last link: a node without a link gives its formats up, unless its bit is among those that keep them
+-- RELEASE by the last link: a node without a link gives its formats up, unless its bit is among
+-- those that keep them
 abbrev pub is_released : List Link → ℕ → ℕ → Bool
 is_released made keep n = not (has_link made n) && (bit_at keep n == 0)
 
@@ -27,8 +28,10 @@ abbrev pub giving_up : List Link → ℕ → ℕ → ℕ → ℕ
 giving_up made keep n set = if is_released made keep n then bit_or set (2 ^ n) else set
 
 -- UNLINK OUTCOME, and what stands behind it
-abbrev pub HasUnlinked : LinkState → List Node → PortId → PortId → ℕ → Unlinked → LinkState → List Node → Type 0
-HasUnlinked s nodes from to keep NotThere t after = (are_linked s.made from to ≡ false) × (t ≡ s) × (after ≡ nodes)
+abbrev pub HasUnlinked : LinkState → List Node → PortId → PortId → ℕ → Unlinked
+    → LinkState → List Node → Type 0
+HasUnlinked s nodes from to keep NotThere t after = (are_linked s.made from to ≡ false)
+    × (t ≡ s) × (after ≡ nodes)
 HasUnlinked s nodes from to keep (Gone gave_up) t after = let left = without from to s.made in
     (are_linked s.made from to ≡ true) × (t ≡ record s { made = left })
     × (gave_up ≡ giving_up left keep to.node (giving_up left keep from.node 0))

@@ -41,7 +41,8 @@ fn settle(alloc: Global, own: &Format, other: &Format) -> Result<Negotiated, Mem
     }
 }
 
-/// The format that an output and an input port settle on: the common format of what both offer, fixed.
+/// The format that an output and an input port settle on: the common format of what both offer,
+/// fixed.
 pub fn negotiate(
     alloc: Global,
     ports: &Ports,
@@ -85,8 +86,8 @@ fn pick_in(choice: &Choice) -> u32
     }
 }
 
-/// The number of buffers that two counts have in common, fixed: the first count's pick where the second one admits
-/// it. Two Ranges take no memory.
+/// The number of buffers that two counts have in common, fixed: the first count's pick where the
+/// second one admits it. Two Ranges take no memory.
 pub fn common_count(alloc: Global, own: &Choice, other: &Choice) -> Result<Option<u32>, Memory>
     requires own { IsSound own.now }
     requires other { IsSound other.now }

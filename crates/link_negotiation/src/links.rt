@@ -65,7 +65,8 @@ pub fn is_in(nodes: &[bool], node: u32) -> bool
 impl Links {
     /// No link, and no mark. They keep the allocator, and `link` uses it.
     pub fn new(alloc: Global) -> Result<Links, Memory>
-        ensures { IfOk result (λ links. links ≡ record { made = []; marks = replicate 64 false }) }
+        ensures { IfOk result (λ links. links
+            ≡ record { made = []; marks = replicate 64 false }) }
     {
         Ok(Links {
             alloc,

@@ -60,11 +60,12 @@ fn count_of(alloc: Global, ports: &Ports, from: PortId, to: PortId) -> Result<Op
 }
 
 impl Links {
-    /// Whether a link would close a loop: both ports are of one node, or it would be synchronous and a walk along
-    /// synchronous links leads back.
+    /// Whether a link would close a loop: both ports are of one node, or it would be synchronous
+    /// and a walk along synchronous links leads back.
     fn closes_loop(&self, from: PortId, to: PortId) -> bool
         requires { to.node < 64 }
-        ensures { IsTrue result ↔ ((from.node ≡ to.node) ⊎ IsSynchronousLoop self.now from to) }
+        ensures { IsTrue result ↔
+            ((from.node ≡ to.node) ⊎ IsSynchronousLoop self.now from to) }
     {
         if from.node == to.node {
             return true;
@@ -72,8 +73,8 @@ impl Links {
         self.is_synchronous(&Link { from, to }) && is_reachable(self, to.node, from.node)
     }
 
-    /// Makes a link, and gives its format to each of its ports that has none. The copies and the room for the link
-    /// are taken before the first change.
+    /// Makes a link, and gives its format to each of its ports that has none. The copies and the
+    /// room for the link are taken before the first change.
     fn make(&mut self, ports: &mut Ports, link: Link, format: &Format) -> Result<(), Memory>
         requires few { length self.old.made < 256 }
         requires from { IsPort ports.old link.from }
@@ -81,8 +82,10 @@ impl Links {
         requires other { link.from.node ≡ link.to.node → ⊥ }
         requires below { (link.from.node < 64) × (link.to.node < 64) }
         requires format { Negotiates ports.old link.from link.to (negotiated.Format format.now) }
-        ensures links { OnOk result (self.new ≡ record self.old { made = self.old.made ++ link ∷ [] }) }
-        ensures ports { OnOk result (ports.new ≡ formatted ports.old link.from link.to format.now) }
+        ensures links { OnOk result
+            (self.new ≡ record self.old { made = self.old.made ++ link ∷ [] }) }
+        ensures ports { OnOk result
+            (ports.new ≡ formatted ports.old link.from link.to format.now) }
         ensures err { OnErr result ((self.new ≡ self.old) × (ports.new ≡ ports.old)) }
     {
         let own = format.copy(self.alloc)?;
@@ -152,19 +155,22 @@ impl Links {
         self.settle_link(ports, from, to, count)
     }
 
-    /// Makes a link from an output port to an input port, or says why not: the first of these that holds decides.
+    /// Makes a link from an output port to an input port, or says why not: the first of these that
+    /// holds decides.
     ///
-    /// `Twice`: it is there. `Loop`: both ports are of one node; or the link would be synchronous, none of its nodes
-    /// being marked, and a walk along synchronous links leads from the input's node to the output's. `NoFormat`: the
-    /// output port offers nothing, else the input port does, else their offers clash, first at this key. `NoBuffers`:
-    /// their counts of buffers have no number in common. `Many`: 256 links are there. `Made`: the format is the
-    /// common one, fixed, and each of the two ports that has none takes it; the number of buffers is the pick of what
-    /// both counts have in common, the output's first.
+    /// `Twice`: it is there. `Loop`: both ports are of one node; or the link would be synchronous,
+    /// none of its nodes being marked, and a walk along synchronous links leads from the input's
+    /// node to the output's. `NoFormat`: the output port offers nothing, else the input port does,
+    /// else their offers clash, first at this key. `NoBuffers`:
+    /// their counts of buffers have no number in common. `Many`: 256 links are there. `Made`: the
+    /// format is the common one, fixed, and each of the two ports that has none takes it; the
+    /// number of buffers is the pick of what both counts have in common, the output's first.
     ///
-    /// After `Memory` and any answer but `Made` all is as before. Takes time linear in the nodes and the links, and
-    /// that of the common format.
+    /// After `Memory` and any answer but `Made` all is as before. Takes time linear in the nodes
+    /// and the links, and that of the common format.
     ///
-    /// Public source: PipeWire's documentation, "Objects Design", Link; `spa/pod/filter.h`, `spa/pod/iter.h`.
+    /// Public source: PipeWire's documentation, "Objects Design", Link; `spa/pod/filter.h`,
+    /// `spa/pod/iter.h`.
     pub fn link(&mut self, ports: &mut Ports, from: PortId, to: PortId) -> Result<Linked, Memory>
         requires from { IsOutput ports.old from }
         requires to { IsInput ports.old to }
@@ -173,7 +179,8 @@ impl Links {
         // No other outcome is right.
         ensures only { (other : Linked) → IsLinkOutcome self.old ports.old from to other
             → IfOk result (λ linked. linked ≡ other) }
-        ensures leaves { IfOk result (λ linked. LeavesLink self.old ports.old from to linked self.new
+        ensures leaves { IfOk result
+            (λ linked. LeavesLink self.old ports.old from to linked self.new
             ports.new) }
         ensures count { IfOk result HasFewBuffers }
         ensures err { OnErr result ((self.new ≡ self.old) × (ports.new ≡ ports.old)) }

@@ -21,8 +21,9 @@ fn expand(links: &Links, outgoing: &Outgoing, reached: &mut Reached, node: u32)
     }
 }
 
-/// Whether a walk along synchronous links leads from one node to another. The nodes are reached breadth first, each
-/// is taken once and each link looked at once. Takes no memory, and time linear in the nodes and the links.
+/// Whether a walk along synchronous links leads from one node to another. The nodes are reached
+/// breadth first, each is taken once and each link looked at once. Takes no memory, and time linear
+/// in the nodes and the links.
 pub fn is_reachable(links: &Links, from: u32, to: u32) -> bool
     requires { from < 64 }
     ensures { IsTrue result ↔ IsReachable (synchronous_links links.now) from to }

@@ -31,7 +31,8 @@ fn remove(made: &mut Vec<Link>, from: PortId, to: PortId)
     }
 }
 
-/// A node without a link gives its formats up, unless it is to keep them; the set of those that did.
+/// A node without a link gives its formats up, unless it is to keep them; the set of those that
+/// did.
 fn release(made: &[Link], ports: &mut Ports, node: u32, keep: u64, gave_up: u64) -> u64
     requires node { node < length ports.old }
     requires below { node < 64 }
@@ -46,10 +47,12 @@ fn release(made: &[Link], ports: &mut Ports, node: u32, keep: u64, gave_up: u64)
 }
 
 impl Links {
-    /// Takes a link away. Each of its two nodes that has no link left gives up the formats of all its ports, but for
-    /// the sinks whose bits are in `keep`. Takes no memory, and time linear in the links.
+    /// Takes a link away. Each of its two nodes that has no link left gives up the formats of all
+    /// its ports, but for the sinks whose bits are in `keep`. Takes no memory, and time linear in
+    /// the links.
     ///
-    /// Public source: PipeWire's documentation, "Objects Design", Link. What is given up is this project's.
+    /// Public source: PipeWire's documentation, "Objects Design", Link. What is given up is this
+    /// project's.
     pub fn unlink(&mut self, ports: &mut Ports, from: PortId, to: PortId, keep: u64) -> Unlinked
         requires from { IsOutput ports.old from }
         requires to { IsInput ports.old to }

@@ -4,3 +4,4 @@ pub mod States
 pub mod Steps
 pub mod Streams
 pub mod StandsFor
+pub mod StateReadings

@@ -1,4 +1,5 @@
--- Slices: how many samples each port of a node brings or takes in one quantum. Interleaved, first channel first.
+-- Slices: how many samples each port of a node brings or takes in one quantum. Interleaved, first
+-- channel first.
 -- Source: this project's table of nodes and ports; a port without a form has an empty slice.
 use Rattle.std.specs.Prelude.{◌≡◌, ℕ, ◌<◌, ◌*◌, List, ℤ, length, ◌⊎◌}
 use Rattle.pw_base.specs.declared.kind.Kind.{Kind}
@@ -47,11 +48,14 @@ abbrev pub IsNoneOr : ℕ → List ℤ → Type 0
 IsNoneOr n row = (length row ≡ 0) ⊎ (length row ≡ n)
 
 -- so many frames at each input, and at each output so many or, without a form, none
-abbrev pub HaveFrames : ℕ → Kind → ℕ → ℕ → List ℤ → List ℤ → List ℤ → List ℤ → Type 0
+abbrev pub HaveFrames : ℕ → Kind → ℕ → ℕ → List ℤ → List ℤ → List ℤ
+    → List ℤ → Type 0
 HaveFrames frames kind w n a b left right =
     (length a ≡ frames * first_channels kind n) × (length b ≡ frames * second_channels kind n)
-    × IsNoneOr (frames * left_channels kind w n) left × IsNoneOr (frames * right_channels kind) right
+    × IsNoneOr (frames * left_channels kind w n) left
+    × IsNoneOr (frames * right_channels kind) right
 
--- the channels that a node may have at its first input: none, or what the kind allows there; none without an input
+-- the channels that a node may have at its first input: none, or what the kind allows there; none
+-- without an input
 abbrev pub AllowsChannels : Kind → ℕ → Type 0
 AllowsChannels kind n = (n ≡ 0) ⊎ ((0 < input_count kind) × MayHaveChannels kind 0 n)

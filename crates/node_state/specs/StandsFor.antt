@@ -1,56 +1,32 @@
 -- Stands for: what a state keeps between quanta, and what its node has heard so far.
--- Source: the graph's nodes of PipeWire's documentation, "Graph Scheduling"; the kinds are this project's.
-use Rattle.std.specs.Prelude.{◌≡◌, ℕ, ◌+◌, ◌*◌, ◌%◌, ◌≤◌, min, List, [], ◌++◌, length, take, drop, ℤ, ◌⊎◌}
-use Rattle.pw_base.specs.declared.kind.Kind.{Kind}
+-- Source: the graph's nodes of PipeWire's documentation, "Graph Scheduling"; the kinds are this
+-- project's.
+use Rattle.std.specs.Prelude.{◌≡◌, ℕ, ◌+◌, ◌*◌, ◌%◌, min, List, [], ◌++◌, length, take, drop, ℤ, ◌⊎◌}
 use Rattle.pw_base.specs.Samples.{silence, peak_of}
 use Rattle.pw_base.specs.KindFunction.{Heard}
 use Rattle.node_state.specs.declared.kind_state.KindState.{KindState}
 use Rattle.node_state.specs.declared.kind_state.KindState.TheVariants.{Source, Square, Gain, Mix2, Delay, Map, Split, Sink, Meter}
 use Rattle.node_state.specs.declared.node_state.NodeState.{NodeState}
 use Rattle.node_state.specs.Slices.{HaveFrames}
-use Rattle.node_state.specs.States.{kind_of, wave_channels, stream_of}
+pub use Rattle.node_state.specs.StateReadings.{node_kind, node_wave_channels, kept_stream, node_quantum, frames_so_far, node_channels, most_channels, HasFramesLeft}
 
--- by the channels at the first input and the frames prepared: the file's front and the place in it; the place in the
--- period; the samples not yet given; the stream; the peak. The other kinds keep nothing, of inputs in whole frames
+-- by the channels at the first input and the frames prepared: the file's front and the place in it;
+-- the place in the period; the samples not yet given; the stream; the peak. The other kinds keep
+-- nothing, of inputs in whole frames
 abbrev pub Keeps : KindState → ℕ → ℕ → Heard → Type 0
 Keeps (Source s) channels prepared h =
     (s.channels ≡ h.channels) × (s.samples ≡ take (prepared * s.channels) h.wave)
     × (s.given ≡ min (h.frames * s.channels) (length s.samples))
-Keeps (Square s) channels prepared h = (s.wave.channels ≡ h.channels) × (s.phase ≡ h.frames % s.wave.period)
+Keeps (Square s) channels prepared h = (s.wave.channels ≡ h.channels)
+    × (s.phase ≡ h.frames % s.wave.period)
 Keeps (Gain s) channels prepared h = Unit {0}
 Keeps (Mix2 s) channels prepared h = length h.a ≡ length h.b
-Keeps (Delay s) channels prepared h = (channels ≡ h.channels) × (s.samples ≡ drop (length h.a) (silence (s.frames * channels) ++ h.a))
+Keeps (Delay s) channels prepared h = (channels ≡ h.channels)
+    × (s.samples ≡ drop (length h.a) (silence (s.frames * channels) ++ h.a))
 Keeps (Map s) channels prepared h = length h.a % s.channels ≡ 0
 Keeps (Split s) channels prepared h = length h.a % 2 ≡ 0
 Keeps (Sink s) channels prepared h = s.list ≡ h.a
 Keeps (Meter s) channels prepared h = s.peak ≡ peak_of h.a
-
--- the kind of a node, the channels of its wave, and the stream that it keeps
-abbrev pub node_kind : NodeState → Kind
-node_kind s = kind_of s.state
-
-abbrev pub node_wave_channels : NodeState → ℕ
-node_wave_channels s = wave_channels s.state
-
-abbrev pub kept_stream : NodeState → List ℤ
-kept_stream s = stream_of s.state
-
--- the frames of a quantum, the frames so far, and the channels at the first input: now, and the most
-abbrev pub node_quantum : NodeState → ℕ
-node_quantum s = s.quantum
-
-abbrev pub frames_so_far : NodeState → ℕ
-frames_so_far s = s.frames
-
-abbrev pub node_channels : NodeState → ℕ
-node_channels s = s.channels
-
-abbrev pub most_channels : NodeState → ℕ
-most_channels s = s.most
-
--- one quantum more stays within the frames prepared
-abbrev pub HasFramesLeft : NodeState → Type 0
-HasFramesLeft s = s.frames + s.quantum ≤ s.prepared
 
 -- STANDS FOR
 abbrev pub StandsFor : NodeState → Heard → Type 0
@@ -65,16 +41,20 @@ IsQuantum s a b left right =
 -- what a new state was prepared for
 abbrev pub IsPrepared : ℕ → ℕ → ℕ → NodeState → Type 0
 IsPrepared channels quantum frames s =
-    (s.channels ≡ channels) × (s.most ≡ channels) × (s.quantum ≡ quantum) × (s.frames ≡ 0) × (s.prepared ≡ frames)
+    (s.channels ≡ channels) × (s.most ≡ channels) × (s.quantum ≡ quantum)
+    × (s.frames ≡ 0) × (s.prepared ≡ frames)
 
 -- what no quantum changes
 abbrev pub IsSameNode : NodeState → NodeState → Type 0
 IsSameNode s t =
     (node_kind t ≡ node_kind s) × (node_wave_channels t ≡ node_wave_channels s)
-    × (t.quantum ≡ s.quantum) × (t.channels ≡ s.channels) × (t.most ≡ s.most) × (t.prepared ≡ s.prepared)
+    × (t.quantum ≡ s.quantum) × (t.channels ≡ s.channels) × (t.most ≡ s.most)
+    × (t.prepared ≡ s.prepared)
 
 -- nor a stream begun anew
 abbrev pub IsRestarted : NodeState → NodeState → Type 0
 IsRestarted s t =
-    (node_kind t ≡ node_kind s) × (node_wave_channels t ≡ node_wave_channels s) × (kept_stream t ≡ [])
-    × (t.quantum ≡ s.quantum) × (t.most ≡ s.most) × (t.frames ≡ s.frames) × (t.prepared ≡ s.prepared)
+    (node_kind t ≡ node_kind s) × (node_wave_channels t ≡ node_wave_channels s)
+    × (kept_stream t ≡ [])
+    × (t.quantum ≡ s.quantum) × (t.most ≡ s.most) × (t.frames ≡ s.frames)
+    × (t.prepared ≡ s.prepared)

@@ -9,17 +9,21 @@ use Rattle.node_state.specs.declared.kind_state.KindState.TheVariants.{Source, S
 use Rattle.node_state.specs.Slices.{IsNoneOr}
 
 -- the lengths of the slices fit together
-abbrev pub CanStep : KindState → ℕ → List ℤ → List ℤ → List ℤ → List ℤ → Type 0
+abbrev pub CanStep : KindState → ℕ → List ℤ → List ℤ → List ℤ → List ℤ
+    → Type 0
 CanStep (Source s) quantum a b left right = IsNoneOr (quantum * s.channels) left × IsNoneOr 0 right
-CanStep (Square s) quantum a b left right = IsNoneOr (quantum * s.wave.channels) left × IsNoneOr 0 right
+CanStep (Square s) quantum a b left right = IsNoneOr (quantum * s.wave.channels) left
+    × IsNoneOr 0 right
 CanStep (Gain s) quantum a b left right = IsNoneOr (length a) left × IsNoneOr 0 right
-CanStep (Mix2 s) quantum a b left right = (length b ≡ length a) × IsNoneOr (length a) left × IsNoneOr 0 right
+CanStep (Mix2 s) quantum a b left right = (length b ≡ length a) × IsNoneOr (length a) left
+    × IsNoneOr 0 right
 CanStep (Delay s) quantum a b left right = IsNoneOr (length a) left × IsNoneOr 0 right
 CanStep (Map s) quantum a b left right = (length a % s.channels ≡ 0)
     × IsNoneOr (length a / s.channels * length s.list) left × IsNoneOr 0 right
 CanStep (Split s) quantum a b left right = (length a % 2 ≡ 0) × IsNoneOr (length a / 2) left
     × IsNoneOr (length a / 2) right
-CanStep (Sink s) quantum a b left right = (length a ≤ s.spare) × IsNoneOr 0 left × IsNoneOr 0 right
+CanStep (Sink s) quantum a b left right = (length a ≤ s.spare) × IsNoneOr 0 left
+    × IsNoneOr 0 right
 CanStep (Meter s) quantum a b left right = IsNoneOr 0 left × IsNoneOr 0 right
 
 -- the samples of one quantum at an output, outputs counted from 0
@@ -41,7 +45,8 @@ abbrev pub IsStep : ℕ → List ℤ → KindState → KindState → Type 0
 IsStep quantum a (Source s) (Source t) =
     (t.channels ≡ s.channels) × (t.samples ≡ s.samples)
     × (t.given ≡ min (s.given + quantum * s.channels) (length s.samples))
-IsStep quantum a (Square s) (Square t) = (t.wave ≡ s.wave) × (t.phase ≡ (s.phase + quantum) % s.wave.period)
+IsStep quantum a (Square s) (Square t) = (t.wave ≡ s.wave)
+    × (t.phase ≡ (s.phase + quantum) % s.wave.period)
 IsStep quantum a (Gain s) (Gain t) = t ≡ s
 IsStep quantum a (Mix2 s) (Mix2 t) = t ≡ s
 IsStep quantum a (Delay s) (Delay t) = t ≡ record s { samples = drop (length a) (s.samples ++ a) }

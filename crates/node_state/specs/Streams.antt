@@ -1,5 +1,7 @@
--- Streams: what a node has heard before and after a quantum, what it gives, and what it keeps of it.
--- Source: the graph's nodes of PipeWire's documentation, "Graph Scheduling"; the kinds are this project's.
+-- Streams: what a node has heard before and after a quantum, what it gives, and what it keeps of
+-- it.
+-- Source: the graph's nodes of PipeWire's documentation, "Graph Scheduling"; the kinds are this
+-- project's.
 use Rattle.std.specs.Prelude.{◌≡◌, ℕ, ◌-◌, ◌+◌, List, [], ◌++◌, length, drop, ℤ, ◌⊎◌, Option, Some, None}
 use Rattle.pw_base.specs.declared.kind.Kind.{Kind}
 use Rattle.pw_base.specs.declared.kind.Kind.TheVariants as K
@@ -44,9 +46,11 @@ restarted kind n h = record h { channels = left_channels kind h.channels n; a = 
 
 -- the last n samples of the kind's function of all that was heard
 abbrev pub output_now : Kind → Heard → ℕ → ℕ → List ℤ
-output_now kind h output n = drop (length (kind_output kind h output) - n) (kind_output kind h output)
+output_now kind h output n = drop (length (kind_output kind h output) - n)
+    (kind_output kind h output)
 
--- what is given behind what was given: the outputs of all quanta join to the kind's function of whole streams
+-- what is given behind what was given: the outputs of all quanta join to the kind's function of
+-- whole streams
 abbrev pub Joins : Kind → Heard → Heard → ℕ → List ℤ → Type 0
 Joins kind before after output new = (length new ≡ 0)
     ⊎ (kind_output kind after output ≡ kind_output kind before output ++ new)

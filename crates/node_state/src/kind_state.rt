@@ -43,8 +43,10 @@ impl KindState {
     )
         requires quantum { quantum ≤ 8192 }
         requires slices { CanStep self.old quantum a.now b.now left.old right.old }
-        ensures left { left.new ≡ take (length left.old) (given_by self.old quantum a.now b.now 0) }
-        ensures right { right.new ≡ take (length right.old) (given_by self.old quantum a.now b.now 1) }
+        ensures left { left.new ≡ take (length left.old)
+            (given_by self.old quantum a.now b.now 0) }
+        ensures right { right.new
+            ≡ take (length right.old) (given_by self.old quantum a.now b.now 1) }
         ensures state { IsStep quantum a.now self.old self.new }
     {
         match self {
@@ -60,7 +62,8 @@ impl KindState {
         }
     }
 
-    /// The state of a node that has heard nothing, with room for so many frames of so many channels at the first input.
+    /// The state of a node that has heard nothing, with room for so many frames of so many channels
+    /// at the first input.
     pub(crate) fn new(
         alloc: Global,
         kind: &Kind,
@@ -72,7 +75,8 @@ impl KindState {
         requires wave { HasItsWave kind.now (option_copied wav) }
         requires channels { channels ≤ 8 }
         ensures kind { IfOk result (λ s. kind_of s ≡ kind.now) }
-        ensures wave { IfOk result (λ s. wave_channels s ≡ channels_of (option_copied wav.entry)) }
+        ensures wave { IfOk result
+            (λ s. wave_channels s ≡ channels_of (option_copied wav.entry)) }
         ensures keeps { IfOk result (λ s. Keeps s channels frames
             (unheard kind.now (option_copied wav.entry) channels)) }
         ensures empty { IfOk result (λ s. stream_of s ≡ []) }

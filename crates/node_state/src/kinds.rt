@@ -1,7 +1,8 @@
 //! One state for each kind of node, with what it does in a quantum.
 //!
-//! A quantum of a source, a delay or a sink is a few copies, and a call of its own: within the choice between the kinds
-//! it would save and load the registers that other kinds need. The rare ends of a file and of a ring are apart as well.
+//! A quantum of a source, a delay or a sink is a few copies, and a call of its own: within the
+//! choice between the kinds it would save and load the registers that other kinds need. The rare
+//! ends of a file and of a ring are apart as well.
 
 mod delay;
 mod gain;

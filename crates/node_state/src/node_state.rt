@@ -5,7 +5,8 @@ ghost use Rattle.node_state.specs.States.{stream_of, room_in, wanted_room};
 
 use crate::kind_state::KindState;
 
-/// The state of a node: what its kind keeps, and how many frames it was active for. It borrows nothing.
+/// The state of a node: what its kind keeps, and how many frames it was active for. It borrows
+/// nothing.
 #[derive(Drop)]
 pub struct NodeState {
     pub(crate) state: KindState,
@@ -33,7 +34,8 @@ impl NodeState {
     ghost use Rattle.node_state.specs.StandsFor.{StandsFor, node_kind, kept_stream};
     ghost use Rattle.node_state.specs.Streams.{stream_heard, peak_heard};
 
-    /// A sink's stream so far: all that came to its input. Of every other kind nothing. Takes no memory.
+    /// A sink's stream so far: all that came to its input. Of every other kind nothing. Takes no
+    /// memory.
     pub fn kept(&self) -> &[i16]
         ensures value { result.now ≡ kept_stream self.now }
         ensures stream { (h : Heard) → StandsFor self.now h
@@ -42,10 +44,11 @@ impl NodeState {
         self.state.stream()
     }
 
-    /// The greatest absolute value that came to a meter's input so far, 0 to 32768. Of every other kind 0. Takes no
-    /// memory.
+    /// The greatest absolute value that came to a meter's input so far, 0 to 32768. Of every other
+    /// kind 0. Takes no memory.
     pub fn greatest(&self) -> u32
-        ensures { (h : Heard) → StandsFor self.now h → result ≡ peak_heard (node_kind self.now) h }
+        ensures { (h : Heard) → StandsFor self.now h
+            → result ≡ peak_heard (node_kind self.now) h }
     {
         match &self.state {
             KindState::Meter(s) => s.peak,

@@ -16,12 +16,13 @@ use std::alloc::Global;
 use wav_files::Wav;
 
 impl NodeState {
-    /// The state of a node that has heard nothing, with all the memory that it needs for `frames` frames in all, in
-    /// quanta of `quantum` frames.
+    /// The state of a node that has heard nothing, with all the memory that it needs for `frames`
+    /// frames in all, in quanta of `quantum` frames.
     ///
-    /// `channels` are those at the first input, the most that it may have in the run, 0 where it has none. `wav` is a
-    /// source's file; the state has a copy of at most the frames prepared. A delay takes `frames * channels` samples
-    /// of its line, a sink `frames * channels` of its stream.
+    /// `channels` are those at the first input, the most that it may have in the run, 0 where it
+    /// has none. `wav` is a source's file; the state has a copy of at most the frames prepared. A
+    /// delay takes `frames * channels` samples of its line, a sink `frames * channels` of its
+    /// stream.
     pub fn prepare(
         alloc: Global,
         kind: &Kind,
@@ -35,9 +36,11 @@ impl NodeState {
         requires channels { AllowsChannels kind.now channels }
         requires quantum { IsBetween 1 8192 quantum }
         ensures kind { IfOk result (λ s. node_kind s ≡ kind.now) }
-        ensures wave { IfOk result (λ s. node_wave_channels s ≡ channels_of (option_copied wav.entry)) }
+        ensures wave { IfOk result
+            (λ s. node_wave_channels s ≡ channels_of (option_copied wav.entry)) }
         ensures numbers { IfOk result (λ s. IsPrepared channels quantum frames s) }
-        ensures stands { IfOk result (λ s. StandsFor s (unheard kind.now (option_copied wav.entry) channels)) }
+        ensures stands { IfOk result
+            (λ s. StandsFor s (unheard kind.now (option_copied wav.entry) channels)) }
     {
         match KindState::new(alloc, kind, wav, channels, frames) {
             Ok(state) => Ok(NodeState {
@@ -52,16 +55,17 @@ impl NodeState {
         }
     }
 
-    /// Begins the node's stream anew, of `channels` at the first input, at most as many as it was prepared for. A
-    /// source and a square go on where they were. A sink has no frames yet. Takes no memory; a delay writes its line
-    /// over with zeros.
+    /// Begins the node's stream anew, of `channels` at the first input, at most as many as it was
+    /// prepared for. A source and a square go on where they were. A sink has no frames yet. Takes
+    /// no memory; a delay writes its line over with zeros.
     pub fn restart(&mut self, channels: u32)
         requires allowed { AllowsChannels (node_kind self.old) channels }
         requires room { channels ≤ most_channels self.old }
         requires empty { kept_stream self.old ≡ [] }
         ensures stands { (h : Heard) → StandsFor self.old h
             → StandsFor self.new (restarted (node_kind self.old) channels h) }
-        ensures channels { 0 < input_count (node_kind self.old) → node_channels self.new ≡ channels }
+        ensures channels { 0 < input_count (node_kind self.old)
+            → node_channels self.new ≡ channels }
         ensures same { IsRestarted self.old self.new }
         ensures goes_on { input_count (node_kind self.old) ≡ 0 → self.new ≡ self.old }
     {

@@ -1,5 +1,5 @@
--- The checks of a POD in their order, each with its fault. SPA POD, "Types"; spa/pod/pod.h; the order of the
--- checks is this project's.
+-- The checks of a POD in their order, each with its fault. SPA POD, "Types"; spa/pod/pod.h; the
+-- order of the checks is this project's.
 use Rattle.std.specs.Prelude.{◌≡◌, ℕ, ◌+◌, ◌-◌, ◌%◌, ◌==◌, ◌&&◌, not, nat_lt, nat_le, Bool, true, List, [], ◌∷◌, length}
 use Rattle.std.specs.Prelude.{slice_index, Option, Some, None, Result, Ok, Err, if◌then◌else◌}
 use Rattle.pod_codec.specs.declared.fault.PodFault.{PodFault}
@@ -36,7 +36,8 @@ children_checks bytes p c e =
     let child = u32_at bytes (c + 4) in
     if (size == 0) && nat_le child 1
     then (not (e == c + 8), Uneven p) ∷ []
-    else (child_size child == 0, TypeUnknown (c + 4) child) ∷ (not (size == child_size child), Size c) ∷
+    else (child_size child == 0, TypeUnknown (c + 4) child)
+    ∷ (not (size == child_size child), Size c) ∷
     (not ((e - (c + 8)) % child_size child == 0), Uneven p) ∷ []
 
 -- of an array and of a choice at p, whose body is so long
@@ -47,12 +48,14 @@ array_checks bytes p size = (nat_lt 0 size && nat_lt size 8, Size p) ∷
 abbrev pub choice_checks : List ℕ → ℕ → ℕ → List Check
 choice_checks bytes p size =
     let kind = u32_at bytes (p + 8) in
-    (nat_lt size 16, Size p) ∷ (nat_lt 4 kind, TypeUnknown (p + 8) kind) ∷ children_checks bytes p (p + 16)
+    (nat_lt size 16, Size p) ∷ (nat_lt 4 kind, TypeUnknown (p + 8) kind)
+    ∷ children_checks bytes p (p + 16)
     (p + 8 + size)
 
 -- of a string: it has a nul, and ends in one
 abbrev pub text_checks : List ℕ → ℕ → ℕ → List Check
-text_checks bytes p size = (size == 0, Nul p) ∷ (not (slice_index bytes (p + 8 + size - 1) == 0), Nul p) ∷ []
+text_checks bytes p size = (size == 0, Nul p)
+    ∷ (not (slice_index bytes (p + 8 + size - 1) == 0), Nul p) ∷ []
 
 -- of a POD at p, whose header is there, by its type t
 abbrev pub body_checks : List ℕ → ℕ → ℕ → ℕ → List Check
@@ -69,4 +72,5 @@ body_checks bytes p size t =
 
 -- of all bytes: a header is there, and its size is not too great
 abbrev pub outer_checks : List ℕ → List Check
-outer_checks bytes = (nat_lt (length bytes) 8, Short 0) ∷ (nat_lt 1048576 (u32_at bytes 0), Large (u32_at bytes 0)) ∷ []
+outer_checks bytes = (nat_lt (length bytes) 8, Short 0)
+    ∷ (nat_lt 1048576 (u32_at bytes 0), Large (u32_at bytes 0)) ∷ []

@@ -1,4 +1,5 @@
--- The text of a value: one value a line, two spaces of indent a level, what it holds one level deeper.
+-- The text of a value: one value a line, two spaces of indent a level, what it holds one level
+-- deeper.
 -- The lines are this project's own.
 use Rattle.std.specs.Prelude.{ℕ, List, ◌++◌, length, codes, if◌then◌else◌}
 use Rattle.std.specs.List.{flat_map}
@@ -22,17 +23,22 @@ pod_lines (Pod-F.FloatBits n) = alone (codes "float " ++ hex (to_be_bytes w32 n)
 pod_lines (Pod-F.DoubleBits n) = alone (codes "double " ++ hex (to_be_bytes w64 n))
 pod_lines (Pod-F.Text text) = alone (quoted (codes "string \"") (flat_map escaped text))
 pod_lines (Pod-F.Bytes bytes) = alone (quoted (codes "bytes \"") (hex bytes))
-pod_lines (Pod-F.Rectangle width height) = alone (two_numbered (codes "rectangle ") width (codes "x") height)
-pod_lines (Pod-F.Fraction num denom) = alone (two_numbered (codes "fraction ") num (codes "/") denom)
+pod_lines (Pod-F.Rectangle width height) = alone
+    (two_numbered (codes "rectangle ") width (codes "x") height)
+pod_lines (Pod-F.Fraction num denom) = alone
+    (two_numbered (codes "fraction ") num (codes "/") denom)
 pod_lines (Pod-F.Bitmap bytes) = alone (quoted (codes "bitmap \"") (hex bytes))
 pod_lines (Pod-F.Fd n) = alone (codes "fd " ++ signed_decimal n)
-pod_lines (Pod-F.Array child values) = over (two_numbered (codes "array ") child (codes " ") (length values)) values
+pod_lines (Pod-F.Array child values) = over
+    (two_numbered (codes "array ") child (codes " ") (length values)) values
 pod_lines (Pod-F.Struct fields) = over (numbered (codes "struct ") (length fields)) fields
 pod_lines (Pod-F.Object object id props) =
-    over (two_numbered (codes "object ") object (codes " ") id ++ numbered (codes " ") (length props)) props
+    over (two_numbered (codes "object ") object (codes " ") id
+    ++ numbered (codes " ") (length props)) props
 pod_lines (Pod-F.Choice kind flags child values) =
     over ((codes "choice " ++ kind_word kind) ++
-    (two_numbered (codes " ") flags (codes " ") child ++ numbered (codes " ") (length values))) values
+    (two_numbered (codes " ") flags (codes " ") child ++ numbered (codes " ") (length values)))
+    values
 pod_lines (Pod-F.Sequence unit controls) =
     over (two_numbered (codes "sequence ") unit (codes " ") (length controls)) controls
 

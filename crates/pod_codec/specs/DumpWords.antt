@@ -1,4 +1,5 @@
--- The words and the lines of a dump, two spaces of indent a level. The lines are this project's own.
+-- The words and the lines of a dump, two spaces of indent a level. The lines are this project's
+-- own.
 use Rattle.std.specs.Prelude.{ℕ, ◌+◌, ◌*◌, ◌/◌, ◌%◌, ◌==◌, ◌&&◌, not, nat_le, Bool, List, [], ◌∷◌, ◌++◌, replicate}
 use Rattle.std.specs.Prelude.{slice_index, codes, decimal, if◌then◌else◌}
 use Rattle.std.specs.List.{flat_map}
@@ -12,11 +13,13 @@ pub record Lines : Type 0 where
 
 -- at a level: the indent, the words, the end of the line, and the lines under it one level deeper
 abbrev pub text_at : ℕ → Lines → List ℕ
-text_at level lines = (replicate (2 * level) 32 ++ (lines.head ++ 10 ∷ [])) ++ lines.held (level + 1)
+text_at level lines = (replicate (2 * level) 32 ++ (lines.head ++ 10 ∷ []))
+    ++ lines.held (level + 1)
 
 -- two lower-case digits a byte
 unfoldable pub hex_digits : ℕ → List ℕ
-hex_digits b = slice_index (codes "0123456789abcdef") (b / 16) ∷ slice_index (codes "0123456789abcdef") (b % 16) ∷ []
+hex_digits b = slice_index (codes "0123456789abcdef") (b / 16)
+    ∷ slice_index (codes "0123456789abcdef") (b % 16) ∷ []
 
 abbrev pub hex : List ℕ → List ℕ
 hex bytes = flat_map hex_digits bytes

@@ -1,4 +1,5 @@
--- The parts of a written POD: size, type, body and zeros up to a multiple of 8, and elements without padding.
+-- The parts of a written POD: size, type, body and zeros up to a multiple of 8, and elements
+-- without padding.
 -- SPA POD, "Types"; spa/pod/pod.h. Numbers are little-endian.
 use Rattle.std.specs.Prelude.{ℕ, ◌+◌, ◌*◌, ◌-◌, ◌/◌, ◌==◌, ◌&&◌, ◌||◌, max, nat_lt, Bool, true, List, [], ◌∷◌, ◌++◌}
 use Rattle.std.specs.Prelude.{length, replicate}
@@ -6,7 +7,8 @@ use Rattle.std.specs.List.{flat_map, list_all}
 use Rattle.std.specs.Int.{w32, w64, to_le_bytes}
 use Rattle.pod_codec.specs.PodType.{child_size}
 
--- the number of a type, the bytes of the body, the levels of values, and whether all inside is allowed
+-- the number of a type, the bytes of the body, the levels of values, and whether all inside is
+-- allowed
 pub record Form : Type 0 where
   pub number : ℕ
   pub body : List ℕ
@@ -49,12 +51,14 @@ deepest_keyed (k ∷ ks) = max k.value.depth (deepest_keyed ks)
 
 -- size and type of the children, then their bodies without padding
 abbrev pub child_bytes : ℕ → List Form → List ℕ
-child_bytes child values = (u32_bytes (child_size child) ++ u32_bytes child) ++ flat_map (λ v. v.body) values
+child_bytes child values = (u32_bytes (child_size child) ++ u32_bytes child)
+    ++ flat_map (λ v. v.body) values
 
 -- each value is of the child type; without one, the child type may be 1
 abbrev pub are_children : ℕ → List Form → Bool
 are_children child [] = nat_lt 0 (child_size child) || (child == 1)
-are_children child (v ∷ vs) = nat_lt 0 (child_size child) && list_all (λ f. f.number == child) (v ∷ vs)
+are_children child (v ∷ vs) = nat_lt 0 (child_size child)
+    && list_all (λ f. f.number == child) (v ∷ vs)
 
 abbrev pub leaf : ℕ → List ℕ → Form
 leaf number body = record { number = number; body = body; depth = 1; sound = true }

@@ -2,6 +2,7 @@ pub mod PodFaults
 pub mod PodType
 pub mod Framing
 pub mod PodValue
+pub mod ContainerForms
 pub mod Writable
 pub mod DumpWords
 pub mod DumpText

@@ -26,19 +26,23 @@ ElementsFit values = AllByRecursion (λ pod. ScalarFits (out-Pod pod)) values
 
 -- a property, and a control, by what is held
 abbrev pub PropFits : (Pod → Type 0) → Prop → Type 0
-PropFits Held prop = ((out-Prop prop).key < 2 ^ 32) × ((out-Prop prop).flags < 2 ^ 32) × Held (out-Prop prop).value
+PropFits Held prop = ((out-Prop prop).key < 2 ^ 32) × ((out-Prop prop).flags < 2 ^ 32)
+    × Held (out-Prop prop).value
 
 abbrev pub ControlFits : (Pod → Type 0) → Control → Type 0
-ControlFits Held control = ((out-Control control).offset < 2 ^ 32) × ((out-Control control).kind < 2 ^ 32)
+ControlFits Held control = ((out-Control control).offset < 2 ^ 32)
+    × ((out-Control control).kind < 2 ^ 32)
     × Held (out-Control control).value
 
 -- a value, by what is held
 abbrev pub ValueFits : (Pod → Type 0) → Pod-F Pod Control Prop → Type 0
 ValueFits Held (Pod-F.Array child values) = ElementsFit values
 ValueFits Held (Pod-F.Struct fields) = AllByRecursion Held fields
-ValueFits Held (Pod-F.Object object id props) = (object < 2 ^ 32) × (id < 2 ^ 32) × AllByRecursion (PropFits Held) props
+ValueFits Held (Pod-F.Object object id props) = (object < 2 ^ 32) × (id < 2 ^ 32)
+    × AllByRecursion (PropFits Held) props
 ValueFits Held (Pod-F.Choice kind flags child values) = (flags < 2 ^ 32) × ElementsFit values
-ValueFits Held (Pod-F.Sequence unit controls) = (unit < 2 ^ 32) × AllByRecursion (ControlFits Held) controls
+ValueFits Held (Pod-F.Sequence unit controls) = (unit < 2 ^ 32)
+    × AllByRecursion (ControlFits Held) controls
 ValueFits Held scalar = ScalarFits scalar
 
 -- NUMBERS FIT, in so many levels of a value

@@ -1,4 +1,5 @@
--- What stands at a place of bytes: numbers, values of a stated size, and the elements of arrays and choices.
+-- What stands at a place of bytes: numbers, values of a stated size, and the elements of arrays and
+-- choices.
 -- SPA POD, "Types"; spa/pod/pod.h. Places count from the first byte.
 use Rattle.std.specs.Prelude.{◌≡◌, ℕ, ◌+◌, ◌≤◌, ◌<◌, ◌==◌, not, ◌⊎◌, List, [], ◌∷◌, slice_index}
 use Rattle.std.specs.Int.{w32, w64, from_le_bytes, cast_signed}
@@ -11,17 +12,21 @@ use Rattle.pod_codec.specs.PodType.{child_size}
 
 -- the number in four bytes, and in eight, the lowest first
 unfoldable pub u32_at : List ℕ → ℕ → ℕ
-u32_at bytes p = from_le_bytes w32 (slice_index bytes p ∷ slice_index bytes (p + 1) ∷ slice_index bytes
+u32_at bytes p = from_le_bytes w32
+    (slice_index bytes p ∷ slice_index bytes (p + 1) ∷ slice_index bytes
     (p + 2) ∷ slice_index bytes (p + 3) ∷ [])
 
 unfoldable pub u64_at : List ℕ → ℕ → ℕ
-u64_at bytes p = from_le_bytes w64 (slice_index bytes p ∷ slice_index bytes (p + 1) ∷ slice_index bytes
+u64_at bytes p = from_le_bytes w64
+    (slice_index bytes p ∷ slice_index bytes (p + 1) ∷ slice_index bytes
     (p + 2) ∷ slice_index bytes (p + 3)
-    ∷ slice_index bytes (p + 4) ∷ slice_index bytes (p + 5) ∷ slice_index bytes (p + 6) ∷ slice_index bytes (p + 7) ∷
+    ∷ slice_index bytes (p + 4) ∷ slice_index bytes (p + 5) ∷ slice_index bytes (p + 6)
+    ∷ slice_index bytes (p + 7) ∷
     [])
 
 -- things one after the other: each from where the one before ends, the first from p, the last to e
-abbrev pub AreAfter : {X : Type 0} → (ℕ → X → ℕ → Type 0) → ℕ → List X → ℕ → Type 0
+abbrev pub AreAfter : {X : Type 0} → (ℕ → X → ℕ → Type 0) → ℕ → List X → ℕ
+    → Type 0
 AreAfter R p [] e = p ≡ e
 AreAfter R p (x ∷ xs) e = (m : ℕ) × R p x m × AreAfter R m xs e
 
@@ -35,13 +40,15 @@ IsScalarAt bytes t b (Pod-F.FloatBits n) = (t ≡ 6) × (n ≡ u32_at bytes b)
 IsScalarAt bytes t b (Pod-F.DoubleBits n) = (t ≡ 7) × (n ≡ u64_at bytes b)
 IsScalarAt bytes t b (Pod-F.Rectangle width height) = (t ≡ 10) × (width ≡ u32_at bytes b)
     × (height ≡ u32_at bytes (b + 4))
-IsScalarAt bytes t b (Pod-F.Fraction num denom) = (t ≡ 11) × (num ≡ u32_at bytes b) × (denom ≡ u32_at bytes (b + 4))
+IsScalarAt bytes t b (Pod-F.Fraction num denom) = (t ≡ 11) × (num ≡ u32_at bytes b)
+    × (denom ≡ u32_at bytes (b + 4))
 IsScalarAt bytes t b (Pod-F.Fd n) = (t ≡ 18) × (n ≡ cast_signed w64 (u64_at bytes b))
 IsScalarAt bytes t b _ = ⊥
 
 -- an element of a child type, from p to m
 abbrev pub IsElementAt : List ℕ → ℕ → ℕ → Pod → ℕ → Type 0
-IsElementAt bytes child p pod m = (m ≡ p + child_size child) × IsScalarAt bytes child p (out-Pod pod)
+IsElementAt bytes child p pod m = (m ≡ p + child_size child)
+    × IsScalarAt bytes child p (out-Pod pod)
 
 -- size and type of the children at c, both 0 or the type 1, and nothing behind them
 pub record HasNone (bytes : List ℕ) (c e child : ℕ) (values : List Pod) : Type 0 where
@@ -57,4 +64,5 @@ pub record HasSome (bytes : List ℕ) (c e child : ℕ) (values : List Pod) : Ty
   pub elements : AreAfter (IsElementAt bytes child) (c + 8) values e
 
 abbrev pub HasChildren : List ℕ → ℕ → ℕ → ℕ → List Pod → Type 0
-HasChildren bytes c e child values = HasNone bytes c e child values ⊎ HasSome bytes c e child values
+HasChildren bytes c e child values = HasNone bytes c e child values
+    ⊎ HasSome bytes c e child values

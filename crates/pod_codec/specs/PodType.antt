@@ -1,4 +1,5 @@
--- Type numbers of PODs, and which types arrays and choices may hold. SPA POD, "Types"; spa/utils/type.h.
+-- Type numbers of PODs, and which types arrays and choices may hold. SPA POD, "Types";
+-- spa/utils/type.h.
 use Rattle.std.specs.Prelude.{◌≡◌, ◌⊎◌, ℕ, ◌==◌, ◌&&◌, ◌||◌, Bool, nat_le, if◌then◌else◌}
 use Rattle.pod_codec.specs.declared.pod.ChoiceKind.{ChoiceKind}
 use Rattle.pod_codec.specs.declared.pod.ChoiceKind.TheVariants as k
@@ -21,7 +22,9 @@ child_size n = if has_four_bytes n then 4 else (if has_eight_bytes n then 8 else
 
 -- a known type without a size of its own
 abbrev pub IsOther : ℕ → Type 0
-IsOther n = (n ≡ 1) ⊎ ((n ≡ 8) ⊎ ((n ≡ 9) ⊎ ((n ≡ 12) ⊎ ((n ≡ 13) ⊎ ((n ≡ 14) ⊎ ((n ≡ 15) ⊎ ((n ≡ 16) ⊎ (n ≡ 19))))))))
+IsOther n = (n ≡ 1) ⊎ ((n ≡ 8)
+    ⊎ ((n ≡ 9) ⊎ ((n ≡ 12) ⊎ ((n ≡ 13)
+    ⊎ ((n ≡ 14) ⊎ ((n ≡ 15) ⊎ ((n ≡ 16) ⊎ (n ≡ 19))))))))
 
 -- the number of a choice's kind
 abbrev pub choice_number : ChoiceKind → ℕ

@@ -1,7 +1,6 @@
--- The written form of a value: its type, the body that it is written with, how deep it is, and whether it can
--- be written at all. SPA POD, "Types"; spa/pod/pod.h. Numbers are little-endian.
-use Rattle.std.specs.Prelude.{ℕ, suc, List, [], ◌∷◌, ◌++◌, if◌then◌else◌}
-use Rattle.std.specs.List.{flat_map, list_all}
+-- The written form of a value: its type, the body that it is written with, how deep it is, and
+-- whether it can be written at all. SPA POD, "Types"; spa/pod/pod.h. Numbers are little-endian.
+use Rattle.std.specs.Prelude.{ℕ, List, [], ◌∷◌, ◌++◌, if◌then◌else◌}
 use Rattle.std.specs.Int.{w32, w64, cast_unsigned}
 use Rattle.pod_codec.specs.declared.pod.Pod.{Pod}
 use Rattle.pod_codec.specs.declared.pod.Prop.{Prop}
@@ -9,38 +8,9 @@ use Rattle.pod_codec.specs.declared.pod.Control.{Control}
 use Rattle.pod_codec.specs.declared.pod.Pod.TheOpen.{Pod-F, Prop-F, Control-F}
 use Rattle.pod_codec.specs.declared.pod.Pod.TheFolds.{fold-Pod, fold-Prop, fold-Control}
 use Rattle.pod_codec.specs.PodType.{choice_number}
-use Rattle.pod_codec.specs.Framing.{Form, Keyed, u32_bytes, u64_bytes, framed, keyed_bytes, deepest, deepest_keyed, child_bytes}
-use Rattle.pod_codec.specs.Framing.{are_children, leaf}
-
-abbrev pub array_form : ℕ → List Form → Form
-array_form child values = record { number = 13; body = child_bytes child values; depth = 1; sound = are_children child values }
-
-abbrev pub struct_form : List Form → Form
-struct_form fields = record { number = 14; body = flat_map framed fields; depth = suc (deepest fields); sound = list_all (λ f. f.sound) fields }
-
-abbrev pub object_form : ℕ → ℕ → List Keyed → Form
-object_form object id props = record {
-  number = 15;
-  body = (u32_bytes object ++ u32_bytes id) ++ flat_map keyed_bytes props;
-  depth = suc (deepest_keyed props);
-  sound = list_all (λ k. k.value.sound) props;
-}
-
-abbrev pub choice_form : ℕ → ℕ → ℕ → List Form → Form
-choice_form kind flags child values = record {
-  number = 19;
-  body = (u32_bytes kind ++ u32_bytes flags) ++ child_bytes child values;
-  depth = 1;
-  sound = are_children child values;
-}
-
-abbrev pub sequence_form : ℕ → List Keyed → Form
-sequence_form unit controls = record {
-  number = 16;
-  body = (u32_bytes unit ++ u32_bytes 0) ++ flat_map keyed_bytes controls;
-  depth = suc (deepest_keyed controls);
-  sound = list_all (λ k. k.value.sound) controls;
-}
+use Rattle.pod_codec.specs.Framing.{Form, Keyed, u32_bytes, u64_bytes, framed}
+use Rattle.pod_codec.specs.Framing.{leaf}
+pub use Rattle.pod_codec.specs.ContainerForms.{array_form, struct_form, object_form, choice_form, sequence_form}
 
 -- a value, with the forms of what it holds in their places
 abbrev pub pod_form : Pod-F Form Keyed Keyed → Form
@@ -60,7 +30,8 @@ pod_form (Pod-F.Fd n) = leaf 18 (u64_bytes (cast_unsigned w64 n))
 pod_form (Pod-F.Array child values) = array_form child values
 pod_form (Pod-F.Struct fields) = struct_form fields
 pod_form (Pod-F.Object object id props) = object_form object id props
-pod_form (Pod-F.Choice kind flags child values) = choice_form (choice_number kind) flags child values
+pod_form (Pod-F.Choice kind flags child values) = choice_form
+    (choice_number kind) flags child values
 pod_form (Pod-F.Sequence unit controls) = sequence_form unit controls
 
 abbrev pub prop_form : Prop-F Form Keyed Keyed → Keyed

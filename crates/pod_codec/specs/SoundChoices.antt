@@ -14,7 +14,8 @@ use Rattle.pod_codec.specs.PodValue.{form_of}
 abbrev pub IsOfType : ℕ → Pod → Type 0
 IsOfType number pod = (form_of pod).number ≡ number
 
--- a choice that has values: its child type is allowed, and each value is of that type; any other value is free
+-- a choice that has values: its child type is allowed, and each value is of that type; any other
+-- value is free
 abbrev pub IsSoundChoice : Pod-F Pod Control Prop → Type 0
 IsSoundChoice (Pod-F.Choice kind flags child values) = 0 < length values → (0 < child_size child)
     × All (IsOfType child) values
@@ -22,7 +23,8 @@ IsSoundChoice other = Unit {0}
 
 -- of an object: each property's value
 abbrev pub HoldsSoundChoices : Pod-F Pod Control Prop → Type 0
-HoldsSoundChoices (Pod-F.Object object id props) = All (λ prop. IsSoundChoice (out-Pod (out-Prop prop).value)) props
+HoldsSoundChoices (Pod-F.Object object id props) = All
+    (λ prop. IsSoundChoice (out-Pod (out-Prop prop).value)) props
 HoldsSoundChoices other = Unit {0}
 
 -- SOUND CHOICES: each choice that is a property's value is sound

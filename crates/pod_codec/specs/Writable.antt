@@ -12,7 +12,8 @@ pub record Fits (left : ℕ) (f : Form) : Type 0 where
   pub depth : f.depth ≤ left
   pub size : length f.body ≤ 1048576
 
--- WRITABLE: at most 16 deep, a body of at most 1,048,576 bytes, and in arrays and choices what they may hold
+-- WRITABLE: at most 16 deep, a body of at most 1,048,576 bytes, and in arrays and choices what they
+-- may hold
 abbrev pub IsWritable : Pod → Type 0
 IsWritable pod = Fits 16 (form_of pod)
 

@@ -61,8 +61,8 @@ fn elements_at(
     Ok(values)
 }
 
-/// The child type and the values of the array or choice that begins at `parent`, whose children's size
-/// and type stand at `at`, and whose body ends at `end`.
+/// The child type and the values of the array or choice that begins at `parent`, whose children's
+/// size and type stand at `at`, and whose body ends at `end`.
 pub fn children_at(
     alloc: Global,
     bytes: &[u8],

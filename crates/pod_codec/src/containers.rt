@@ -45,8 +45,8 @@ pub fn padding(size: usize) -> usize
     (size + 7) / 8 * 8 - size
 }
 
-/// Ends the POD whose header begins at `at`: sets its size and pads it with zeros. A body that is too
-/// long is refused.
+/// Ends the POD whose header begins at `at`: sets its size and pads it with zeros. A body that is
+/// too long is refused.
 pub fn end_frame(at: usize, to: &mut Items<u8>) -> Result<(), WriteFault>
     requires { at + 8 ≤ length to.old }
     ensures ok { (front : List ℕ) (f : Form) → IsOpen front f at to.old
@@ -65,8 +65,10 @@ pub fn end_frame(at: usize, to: &mut Items<u8>) -> Result<(), WriteFault>
 /// Appends the elements of an array or choice, each of the child type, which is allowed.
 fn put_elements(values: &[Pod], child: u32, to: &mut Items<u8>) -> Result<(), WriteFault>
     requires allowed { 0 < child_size child }
-    ensures ok { OnOk result (to.new ≡ to.old ++ flat_map (λ v. v.body) (map form_of values.now)) }
-    ensures told { Tells result (IsTrue (list_all (λ f. f.number == child) (map form_of values.now))) }
+    ensures ok { OnOk result (to.new
+        ≡ to.old ++ flat_map (λ v. v.body) (map form_of values.now)) }
+    ensures told { Tells result
+        (IsTrue (list_all (λ f. f.number == child) (map form_of values.now))) }
     ensures numbers { OnOk result (ElementsFit values.now) }
 {
     for pod in values {

@@ -33,7 +33,8 @@ fn put_counted(word: &[u8], n: u32, m: u32, count: usize, text: &mut Text) -> Re
 
 /// Appends the words of a rectangle.
 fn put_rectangle(width: u32, height: u32, text: &mut Text) -> Result<(), Memory>
-    ensures { OnOk result (text.new ≡ text.old ++ two_numbered (codes "rectangle ") width (codes "x") height) }
+    ensures { OnOk result (text.new
+        ≡ text.old ++ two_numbered (codes "rectangle ") width (codes "x") height) }
 {
     put_numbers(
         b"rectangle ".as_slice(),
@@ -95,7 +96,8 @@ fn put_choice(
 
 /// Appends the words of a sequence.
 fn put_sequence(unit: u32, controls: &[Control], text: &mut Text) -> Result<(), Memory>
-    ensures { OnOk result (text.new ≡ text.old ++ two_numbered (codes "sequence ") unit (codes " ")
+    ensures { OnOk result (text.new
+        ≡ text.old ++ two_numbered (codes "sequence ") unit (codes " ")
         (length (map control_lines_of controls.now))) }
 {
     put_numbers(
@@ -179,7 +181,8 @@ fn put_pod(pod: &Pod, level: usize, text: &mut Text) -> Result<(), Memory>
 /// Appends the lines of values.
 #[cycle(dump)]
 fn put_pods(pods: &[Pod], level: usize, text: &mut Text) -> Result<(), Memory>
-    ensures { OnOk result (text.new ≡ text.old ++ flat_map (text_at level) (map lines_of pods.now)) }
+    ensures { OnOk result (text.new
+        ≡ text.old ++ flat_map (text_at level) (map lines_of pods.now)) }
 {
     for pod in pods {
         put_pod(pod, level, text)?;
@@ -210,7 +213,8 @@ fn put_prop(prop: &Prop, level: usize, text: &mut Text) -> Result<(), Memory>
 /// Appends the lines of properties.
 #[cycle(dump)]
 fn put_props(props: &[Prop], level: usize, text: &mut Text) -> Result<(), Memory>
-    ensures { OnOk result (text.new ≡ text.old ++ flat_map (text_at level) (map prop_lines_of props.now)) }
+    ensures { OnOk result (text.new
+        ≡ text.old ++ flat_map (text_at level) (map prop_lines_of props.now)) }
 {
     for prop in props {
         put_prop(prop, level, text)?;
@@ -250,9 +254,11 @@ fn put_controls(controls: &[Control], level: usize, text: &mut Text) -> Result<(
     Ok(())
 }
 
-/// The text of a value: one value a line, two spaces of indent a level, each line ended by byte 0x0A.
-/// What a container holds stands one level deeper; a property or control has a line of its own, and its
-/// value stands under it. Numbers are plain decimal, and bits and bytes lower-case hexadecimal digits.
+/// The text of a value: one value a line, two spaces of indent a level, each line ended by byte
+/// 0x0A.
+/// What a container holds stands one level deeper; a property or control has a line of its own, and
+/// its value stands under it. Numbers are plain decimal, and bits and bytes lower-case hexadecimal
+/// digits.
 pub fn dump_text(alloc: Global, pod: &Pod) -> Result<Text, Memory>
     ensures { IfOk result (λ text. text ≡ dump_text_of pod.now) }
 {

@@ -30,7 +30,8 @@ fn header_at(bytes: &[u8], at: usize, end: usize) -> Result<(usize, u32), PodFau
     requires order { at ≤ end }
     requires within { end ≤ length bytes.now }
     requires small { end ≤ 1048584 }
-    ensures found { IfOk result (λ h. (h.0 ≡ u32_at bytes.now at) × (h.1 ≡ u32_at bytes.now (at + 4))
+    ensures found { IfOk result
+        (λ h. (h.0 ≡ u32_at bytes.now at) × (h.1 ≡ u32_at bytes.now (at + 4))
         × (at + 8 + pad8 h.0 ≤ end)) }
     ensures fault { Answers result (first_failed (header_checks bytes.now at end)) }
 {
@@ -182,7 +183,8 @@ fn body_at(
     requires within { at + 8 + size ≤ length bytes.now }
     requires small { at + 8 + size ≤ 1048584 }
     ensures found { let e = at + 8 + size in
-        IfOk result (λ pod. IsBodyAt (λ a x m. SpellsAt left bytes.now a e x m) bytes.now kind (at + 8) e
+        IfOk result (λ pod. IsBodyAt (λ a x m. SpellsAt left bytes.now a e x m) bytes.now kind
+        (at + 8) e
         (out-Pod pod)) }
     ensures fault { let e = at + 8 + size in
         Fails result (IsBodyFault (λ a x m. SpellsAt left bytes.now a e x m)
@@ -402,11 +404,11 @@ fn front_of(alloc: Global, bytes: &[u8]) -> Result<(Pod, usize), PodFault>
 
 /// The value that the front of the bytes spells, and how long that front is with its padding.
 ///
-/// Numbers are little-endian, padding may be anything, and any nonzero Bool is true. The outermost body has
-/// at most 1,048,576 bytes, and values stand at most 16 deep. A fault is the first one: a POD is checked for
-/// its depth, its header, its size (the outermost alone), its body, its type and then its contents, and what
-/// it holds is read in order. What stands behind the front is not looked at. Takes memory for the value alone,
-/// and time linear in the front.
+/// Numbers are little-endian, padding may be anything, and any nonzero Bool is true. The outermost
+/// body has at most 1,048,576 bytes, and values stand at most 16 deep. A fault is the first one: a
+/// POD is checked for its depth, its header, its size (the outermost alone), its body, its type and
+/// then its contents, and what it holds is read in order. What stands behind the front is not
+/// looked at. Takes memory for the value alone, and time linear in the front.
 ///
 /// Public source: PipeWire's documentation, "SPA POD"; `spa/pod/pod.h`.
 pub fn read_pod(alloc: Global, bytes: &[u8]) -> Result<(Pod, usize), PodFault>
@@ -415,10 +417,13 @@ pub fn read_pod(alloc: Global, bytes: &[u8]) -> Result<(Pod, usize), PodFault>
 
     // Each input has one of both, and no other answer is right.
     ensures one { HasAnswer bytes.now }
-    ensures only_found { (pod : Pod) (size : ℕ) → FrontSpells bytes.now pod size → IsReadAs result pod size }
-    ensures only_fault { (first : PodFault) → IsFirstFault bytes.now first → IsRefusedAs result first }
+    ensures only_found { (pod : Pod) (size : ℕ) → FrontSpells bytes.now pod size
+        → IsReadAs result pod size }
+    ensures only_fault { (first : PodFault) → IsFirstFault bytes.now first
+        → IsRefusedAs result first }
 
-    // What was written is read back, whatever stands behind; and each choice can be read by its child type.
+    // What was written is read back, whatever stands behind; and each choice can be read by its
+    // child type.
     ensures back { (pod : Pod) (rest : List ℕ) → IsWritable pod → NumbersFit 16 pod
         → bytes.now ≡ canonical pod ++ rest → IsReadAs result pod (length (canonical pod)) }
     ensures sound { IfOk result (λ x. HasSoundChoices x.0) }

@@ -73,7 +73,8 @@ fn put_choice(
     values: &[Pod],
     to: &mut Items<u8>,
 ) -> Result<(), WriteFault>
-    ensures ok { OnOk result (to.new ≡ to.old ++ (choice_form kind flags child (map form_of values.now)).body) }
+    ensures ok { OnOk result (to.new
+        ≡ to.old ++ (choice_form kind flags child (map form_of values.now)).body) }
     ensures told { Tells result (IsTrue (are_children child (map form_of values.now))) }
     ensures numbers { OnOk result (ElementsFit values.now) }
 {
@@ -100,7 +101,8 @@ fn put_object(
     left: u32,
     to: &mut Items<u8>,
 ) -> Result<(), WriteFault>
-    ensures ok { OnOk result (to.new ≡ to.old ++ (object_form object id (map keyed_of props.now)).body) }
+    ensures ok { OnOk result (to.new
+        ≡ to.old ++ (object_form object id (map keyed_of props.now)).body) }
     ensures told { FitsBody result left (object_form object id (map keyed_of props.now)) }
     ensures numbers { OnOk result (AllByRecursion (PropFits (NumbersFit left)) props.now) }
 {
@@ -116,7 +118,8 @@ fn put_sequence(
     left: u32,
     to: &mut Items<u8>,
 ) -> Result<(), WriteFault>
-    ensures ok { OnOk result (to.new ≡ to.old ++ (sequence_form unit (map control_keyed controls.now)).body) }
+    ensures ok { OnOk result (to.new
+        ≡ to.old ++ (sequence_form unit (map control_keyed controls.now)).body) }
     ensures told { FitsBody result left (sequence_form unit (map control_keyed controls.now)) }
     ensures numbers { OnOk result (AllByRecursion (ControlFits (NumbersFit left)) controls.now) }
 {
@@ -152,7 +155,8 @@ fn put_prop(prop: &Prop, left: u32, to: &mut Items<u8>) -> Result<(), WriteFault
 #[cycle(write)]
 fn put_props(props: &[Prop], left: u32, to: &mut Items<u8>) -> Result<(), WriteFault>
     ensures ok { OnOk result (to.new ≡ to.old ++ flat_map keyed_bytes (map keyed_of props.now)) }
-    ensures told { Tells result (AllByRecursion (λ k. Fits left k.value) (map keyed_of props.now)) }
+    ensures told { Tells result
+        (AllByRecursion (λ k. Fits left k.value) (map keyed_of props.now)) }
     ensures numbers { OnOk result (AllByRecursion (PropFits (NumbersFit left)) props.now) }
 {
     for prop in props {
@@ -175,8 +179,10 @@ fn put_control(control: &Control, left: u32, to: &mut Items<u8>) -> Result<(), W
 /// Appends controls, one after the other.
 #[cycle(write)]
 fn put_controls(controls: &[Control], left: u32, to: &mut Items<u8>) -> Result<(), WriteFault>
-    ensures ok { OnOk result (to.new ≡ to.old ++ flat_map keyed_bytes (map control_keyed controls.now)) }
-    ensures told { Tells result (AllByRecursion (λ k. Fits left k.value) (map control_keyed controls.now)) }
+    ensures ok { OnOk result (to.new
+        ≡ to.old ++ flat_map keyed_bytes (map control_keyed controls.now)) }
+    ensures told { Tells result
+        (AllByRecursion (λ k. Fits left k.value) (map control_keyed controls.now)) }
     ensures numbers { OnOk result (AllByRecursion (ControlFits (NumbersFit left)) controls.now) }
 {
     for control in controls {
@@ -185,12 +191,14 @@ fn put_controls(controls: &[Control], left: u32, to: &mut Items<u8>) -> Result<(
     Ok(())
 }
 
-/// Appends the canonical spelling of a value: zeros as padding, Bool 0 or 1, the sizes of the table for
-/// children, and type 1 with size 0 where there are none of a type. Public source: `spa/pod/pod.h`.
+/// Appends the canonical spelling of a value: zeros as padding, Bool 0 or 1, the sizes of the table
+/// for children, and type 1 with size 0 where there are none of a type. Public source:
+/// `spa/pod/pod.h`.
 ///
 /// `Unwritable` comes just where a value stands deeper than 16, the outermost body is longer than
-/// 1,048,576 bytes, or an array or choice has a child type that is not allowed there or a value of another
-/// type. After a fault `to` is as before. Takes memory for the bytes twice; time linear in them.
+/// 1,048,576 bytes, or an array or choice has a child type that is not allowed there or a value of
+/// another type. After a fault `to` is as before. Takes memory for the bytes twice; time linear in
+/// them.
 pub fn write_pod(alloc: Global, pod: &Pod, to: &mut Items<u8>) -> Result<(), WriteFault>
     ensures ok { OnOk result (to.new ≡ to.old ++ canonical pod.now) }
     ensures told { Tells result (IsWritable pod.now) }

@@ -1,7 +1,10 @@
 pub mod Keys
 pub mod PortState
 pub mod Offers
+pub mod KindOffers
 pub mod Forms
+pub mod SharedValues
 pub mod Narrowing
 pub mod SoundPorts
+pub mod SoundOffers
 pub mod Sharing

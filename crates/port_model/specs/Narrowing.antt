@@ -17,11 +17,12 @@ use Rattle.port_model.specs.Keys.{format_object}
 abbrev pub IsUnformatted : Node → Type 0
 IsUnformatted node = All (λ s. s.format ≡ None) node.ports
 
--- NARROWING: the file is no Format (0x40003), or clashes with the port's own offer, first at this key, and nothing
--- changes; else the own offer becomes the common format of both
+-- NARROWING: the file is no Format (0x40003), or clashes with the port's own offer, first at this
+-- key, and nothing changes; else the own offer becomes the common format of both
 abbrev pub Narrows : List Node → PortId → Format → Narrowed → List Node → Type 0
 Narrows nodes port file NotFormat later = (file.object ≢ format_object) × (later ≡ nodes)
 Narrows nodes port file (Clash key) later =
     AtPort nodes port (λ node s. Filters s.own file (filtered.Clash key)) × (later ≡ nodes)
 Narrows nodes port file Done later = AtPort nodes port
-    (λ node s. (own : Format) × Filters s.own file (Common own) × (later ≡ with_port nodes port (offering own)))
+    (λ node s. (own : Format) × Filters s.own file (Common own)
+    × (later ≡ with_port nodes port (offering own)))

@@ -1,5 +1,6 @@
--- Ports as a script has made them so far: each node's kind, and of each port its own offer, its format and its
--- number of buffers. Source: PipeWire's documentation, "Objects Design", Port; what of it is kept is this project's.
+-- Ports as a script has made them so far: each node's kind, and of each port its own offer, its
+-- format and its number of buffers. Source: PipeWire's documentation, "Objects Design", Port; what
+-- of it is kept is this project's.
 use Rattle.std.specs.Prelude.{◌≡◌, ℕ, zero, suc, ◌<◌, ◌≤◌, List, [], ◌∷◌, length, map, slice_get}
 use Rattle.std.specs.Prelude.{Option, Some, None, IfSome, option_map}
 use Rattle.std.specs.Option.{option_map_or}
@@ -38,7 +39,8 @@ HasPlace nodes port = (port.node < length nodes)
 
 -- what holds of a port that is there, and of its node
 abbrev pub AtPort : List Node → PortId → (Node → PortState → Type 0) → Type 0
-AtPort nodes port P = IfSome (slice_get nodes port.node) (λ node. IfSome (slice_get node.ports port.port) (P node))
+AtPort nodes port P = IfSome (slice_get nodes port.node)
+    (λ node. IfSome (slice_get node.ports port.port) (P node))
 
 -- a list with one of its things changed
 abbrev pub changed : {X : Type 0} → List X → ℕ → (X → X) → List X
@@ -48,7 +50,8 @@ changed (x ∷ xs) (suc i) f = x ∷ changed xs i f
 
 -- the same ports, of which one is changed
 abbrev pub with_port : List Node → PortId → (PortState → PortState) → List Node
-with_port nodes port f = changed nodes port.node (λ node. record node { ports = changed node.ports port.port f })
+with_port nodes port f = changed nodes port.node
+    (λ node. record node { ports = changed node.ports port.port f })
 
 -- a port with another own offer, with a number of buffers, with a format, and without one
 abbrev pub offering : Format → PortState → PortState

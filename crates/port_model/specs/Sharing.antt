@@ -18,14 +18,16 @@ use Rattle.port_model.specs.Keys.{format_object}
 
 -- no shared value is a Choice (19)
 abbrev pub SharesPlain : Node → Type 0
-SharesPlain node = (key : ℕ) (v : Pod) → shared_value node key ≡ Some v → IsOfType 19 v → ⊥
+SharesPlain node = (key : ℕ) (v : Pod) → shared_value node key ≡ Some v
+    → IsOfType 19 v → ⊥
 
 -- a field's choice admits the value that is shared at its key, and does not
 abbrev pub IsInside : Node → Field → Type 0
 IsInside node f = (v : Pod) → shared_value node f.key ≡ Some v → IsMember f.choice v
 
 abbrev pub IsOutside : Node → Field → Type 0
-IsOutside node f = (v : Pod) × (shared_value node f.key ≡ Some v) × (IsMember f.choice v → ⊥)
+IsOutside node f = (v : Pod) × (shared_value node f.key ≡ Some v)
+    × (IsMember f.choice v → ⊥)
 
 -- a field with this value alone, where its choice admits it
 abbrev pub IsNarrowedTo : Field → Pod → Option Field → Type 0
@@ -39,8 +41,10 @@ Shares node f (Some g) = IsInside node f × (g ≡ shared_field node f)
 
 -- fields with the shared values alone, or the least key at which such a value is not admitted
 abbrev pub SharesAll : Node → List Field → Shared → Type 0
-SharesAll node fields (Fields shared) = All (IsInside node) fields × (shared ≡ map (shared_field node) fields)
-SharesAll node fields (Outside key) = (f : Field) × (field_of fields key ≡ Some f) × IsOutside node f
+SharesAll node fields (Fields shared) = All (IsInside node) fields
+    × (shared ≡ map (shared_field node) fields)
+SharesAll node fields (Outside key) = (f : Field) × (field_of fields key ≡ Some f)
+    × IsOutside node f
     × ((k : ℕ) (g : Field) → k < key → field_of fields k ≡ Some g → IsInside node g)
 
 -- what is offered is a Format (0x40003), and sound

@@ -54,9 +54,11 @@ impl Ports {
         put_buffers(&mut self.nodes, port, n);
     }
 
-    /// How many buffers a port takes: just the number that was set, else 1 to 8, of which it prefers 2. Takes no memory.
+    /// How many buffers a port takes: just the number that was set, else 1 to 8, of which it
+    /// prefers 2. Takes no memory.
     ///
-    /// Public source: PipeWire's documentation, "SPA Buffers"; `spa/param/buffers.h`, `SPA_PARAM_BUFFERS_buffers`.
+    /// Public source: PipeWire's documentation, "SPA Buffers"; `spa/param/buffers.h`,
+    /// `SPA_PARAM_BUFFERS_buffers`.
     pub fn buffers(&self, port: PortId) -> Choice
         requires { IsPort self.now port }
         ensures count { AtPort self.now port (λ node s. result ≡ buffers_of s) }

@@ -92,7 +92,8 @@ fn copy_nodes(alloc: Global, nodes: &[Node]) -> Result<Items<Node>, Memory>
 }
 
 impl Ports {
-    /// Equal ports, which keep this allocator. Takes memory and time proportional to all that they hold.
+    /// Equal ports, which keep this allocator. Takes memory and time proportional to all that they
+    /// hold.
     pub fn copy(&self, alloc: Global) -> Result<Ports, Memory>
         ensures { IfOk result (λ ports. ports ≡ self.now) }
     {

@@ -31,7 +31,8 @@ fn value_of<'a>(node: &'a Node, state: &'a PortState, key: u32) -> Option<&'a Po
 
 /// The number of a port at a key.
 fn number_of(node: &Node, state: &PortState, key: u32) -> Option<u32>
-    ensures { MatchOption result ((n : ℕ) → value_of node.now state.now key ≡ Some (int_of n) → ⊥)
+    ensures { MatchOption result
+        ((n : ℕ) → value_of node.now state.now key ≡ Some (int_of n) → ⊥)
         (λ n. value_of node.now state.now key ≡ Some (int_of n)) }
 {
     match value_of(node, state, key) {
@@ -41,15 +42,16 @@ fn number_of(node: &Node, state: &PortState, key: u32) -> Option<u32>
 }
 
 impl Ports {
-    /// The rate of a port in frames a second and its number of channels: those of its format, else the values that
-    /// its node shares, else the one value that its own offer has. `None` exactly where these do not fix both; a
-    /// port with its format has both. Takes no memory.
+    /// The rate of a port in frames a second and its number of channels: those of its format, else
+    /// the values that its node shares, else the one value that its own offer has. `None` exactly
+    /// where these do not fix both; a port with its format has both. Takes no memory.
     pub fn sound(&self, port: PortId) -> Option<(u32, u32)>
         requires { IsPort self.now port }
         ensures form { AtPort self.now port (λ node s. IsForm node s result) }
         ensures has { AtPort self.now port (λ node s. IsSome s.format → IsSome result) }
         ensures range { IfSome result (λ form. AtPort self.now port
-            (λ node s. MayHaveRate node.kind form.0 × MayHaveChannels node.kind port.port form.1)) }
+            (λ node s. MayHaveRate node.kind form.0
+            × MayHaveChannels node.kind port.port form.1)) }
         ensures nodes { AreSoundNodes self.now }
     {
         let node = node_at(self.nodes.as_slice(), port);

@@ -25,7 +25,8 @@ const AUDIO_FORMAT: u32 = 0x10001;
 pub const RATE: u32 = 0x10003;
 /// The key of the number of channels; `SPA_FORMAT_AUDIO_channels`.
 pub const CHANNELS: u32 = 0x10004;
-/// Audio, raw, as 16-bit samples; `SPA_MEDIA_TYPE_audio`, `SPA_MEDIA_SUBTYPE_raw`, `SPA_AUDIO_FORMAT_S16_LE`.
+/// Audio, raw, as 16-bit samples; `SPA_MEDIA_TYPE_audio`, `SPA_MEDIA_SUBTYPE_raw`,
+/// `SPA_AUDIO_FORMAT_S16_LE`.
 const AUDIO: u32 = 1;
 
 const RAW: u32 = 1;

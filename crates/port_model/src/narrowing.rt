@@ -34,9 +34,9 @@ fn put_own(nodes: &mut Items<Node>, port: PortId, own: Format)
 impl Ports {
     /// Narrows what a port offers to what it has in common with the object of a file.
     ///
-    /// The object type of a Format is 0x40003; the file's id is not looked at. A key that the offer lacks is added,
-    /// or with the flag MANDATORY it clashes. Takes time linear in the fields, and that of the intersections. After
-    /// any answer but `Done` all is as before.
+    /// The object type of a Format is 0x40003; the file's id is not looked at. A key that the offer
+    /// lacks is added, or with the flag MANDATORY it clashes. Takes time linear in the fields, and
+    /// that of the intersections. After any answer but `Done` all is as before.
     ///
     /// Public source: PipeWire's documentation, "SPA POD"; `spa/pod/filter.h`, `spa_pod_filter`.
     pub fn offer(&mut self, port: PortId, format: &Format) -> Result<Narrowed, Memory>

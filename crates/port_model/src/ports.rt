@@ -15,8 +15,8 @@ use std::marker::Model;
 
 /// The ports of all nodes: of each port what it offers, its format and its number of buffers.
 ///
-/// Nodes are numbered from 0 in the order in which they are added; the ports of a node are numbered from 0, inputs
-/// first. Contracts see a list of nodes, each with its kind and a list of its ports.
+/// Nodes are numbered from 0 in the order in which they are added; the ports of a node are numbered
+/// from 0, inputs first. Contracts see a list of nodes, each with its kind and a list of its ports.
 #[derive(Drop)]
 pub struct Ports {
     pub(crate) alloc: Global,
@@ -60,8 +60,9 @@ impl Ports {
         })
     }
 
-    /// Adds the next node, whose ports offer what its kind does. `rate` and `channels` are those of a source's file,
-    /// 1 to 384000 and 1 to 8, and 0 for the other kinds. After `Memory` all is as before.
+    /// Adds the next node, whose ports offer what its kind does. `rate` and `channels` are those of
+    /// a source's file, 1 to 384000 and 1 to 8, and 0 for the other kinds. After `Memory` all is as
+    /// before.
     pub fn add(&mut self, kind: &Kind, rate: u32, channels: u32) -> Result<(), Memory>
         requires room { length self.old < 63 }
         requires kind { IsInRange kind.now }

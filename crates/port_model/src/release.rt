@@ -24,7 +24,8 @@ fn release_node(nodes: &mut Items<Node>, node: u32)
 }
 
 impl Ports {
-    /// The ports of a node give up their formats; what they offer and their counts of buffers stay. Takes no memory.
+    /// The ports of a node give up their formats; what they offer and their counts of buffers stay.
+    /// Takes no memory.
     pub fn give_up(&mut self, node: u32)
         requires { node < length self.old }
         ensures { self.new ≡ with_released self.old node }

@@ -94,7 +94,8 @@ fn shared_field(alloc: Global, node: &Node, field: &Field) -> Result<Option<Fiel
     }
 }
 
-/// Fields with the values alone that a node shares, or the least key of such a value that is not admitted.
+/// Fields with the values alone that a node shares, or the least key of such a value that is not
+/// admitted.
 #[derive(Drop)]
 pub enum Shared {
     Fields(Items<Field>),
@@ -137,17 +138,19 @@ fn offered_freely(alloc: Global, node: &Node, state: &PortState) -> Result<Offer
 }
 
 impl Ports {
-    /// What a port offers: its format alone, once it has one; else its own offer, in which the keys that its node
-    /// shares have the value alone that a port of the node has in its format. Nothing where such a value is not in
-    /// its own offer; the key is the least such one.
+    /// What a port offers: its format alone, once it has one; else its own offer, in which the keys
+    /// that its node shares have the value alone that a port of the node has in its format. Nothing
+    /// where such a value is not in its own offer; the key is the least such one.
     ///
-    /// All ports of a node share their rate; those of a gain, mix2 or delay share their channels too. Takes time
-    /// linear in the fields, and that of two intersections.
+    /// All ports of a node share their rate; those of a gain, mix2 or delay share their channels
+    /// too. Takes time linear in the fields, and that of two intersections.
     ///
-    /// Public source: PipeWire's documentation, "Objects Design", Port; `spa/param/param.h`. The sharing is this project's.
+    /// Public source: PipeWire's documentation, "Objects Design", Port; `spa/param/param.h`. The
+    /// sharing is this project's.
     pub fn offered(&self, alloc: Global, port: PortId) -> Result<Offered, Memory>
         requires { IsPort self.now port }
-        ensures offers { IfOk result (λ offered. AtPort self.now port (λ node s. Offers node s offered)) }
+        ensures offers { IfOk result
+            (λ offered. AtPort self.now port (λ node s. Offers node s offered)) }
         ensures sound { IfOk result IsSoundOffer }
     {
         let node = node_at(self.nodes.as_slice(), port);

@@ -37,7 +37,8 @@ pub fn value_at(fields: &[Field], key: u32) -> Option<&Pod>
 
 /// The number of an Int that is not negative.
 pub fn number_in(value: &Pod) -> Option<u32>
-    ensures { MatchOption result ((n : ℕ) → value.now ≡ int_of n → ⊥) (λ n. value.now ≡ int_of n) }
+    ensures { MatchOption result ((n : ℕ) → value.now ≡ int_of n → ⊥)
+        (λ n. value.now ≡ int_of n) }
 {
     match value {
         Pod::Int(n) => u32::try_from(*n).ok(),

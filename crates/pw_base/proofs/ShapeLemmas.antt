@@ -54,12 +54,12 @@ module _ {X : Type 0} (R : X → X → Type 0) (xs : List X) (i : ℕ) (e : X) (
 
 -- one more element of a filtered list of numbers, from the front
 module _ {X : Type 0} (p : ℕ → Bool) (f : X → ℕ) (xs : List X) (i : ℕ) (d : X) (end : List ℕ) (lt : i < length xs) where
-  pub front_passes : p (f (get_or xs i d)) ≡ true → filter p (map f (drop i xs)) ++ end
+  pub front_on : p (f (get_or xs i d)) ≡ true → filter p (map f (drop i xs)) ++ end
       ≡ f (get_or xs i d) ∷ (filter p (map f (drop (i + 1) xs)) ++ end)
-  front_passes e = rw (add-one, drop-cons xs i d) (rw e refl)
+  front_on e = rw (add-one, drop-cons xs i d) (rw e refl)
 
-  pub front_fails : p (f (get_or xs i d)) ≡ false → filter p (map f (drop i xs)) ++ end ≡ filter p (map f (drop (i + 1) xs)) ++ end
-  front_fails e = rw (add-one, drop-cons xs i d) (rw e refl)
+  pub front_off : p (f (get_or xs i d)) ≡ false → filter p (map f (drop i xs)) ++ end ≡ filter p (map f (drop (i + 1) xs)) ++ end
+  front_off e = rw (add-one, drop-cons xs i d) (rw e refl)
 
 -- the links of sound nodes are between numbers below 64
 pub links_within : (shape : Shape) → HasSoundNodes shape → All (IsSoundLink shape) shape.links → All IsWithinNodes shape.links

@@ -1,6 +1,6 @@
 -- Dependencies: which nodes of a shape wait for which in a cycle; links that are not delayed count.
--- Source: PipeWire's documentation, "Graph Scheduling" (required, target list); the driver's own place is this
--- project's.
+-- Source: PipeWire's documentation, "Graph Scheduling" (required, target list); the driver's own
+-- place is this project's.
 use Rattle.std.specs.Prelude.{◌≡◌, ℕ, ◌==◌, ◌&&◌, ◌||◌, Bool, not, List, [], ◌∷◌, ◌++◌, map, filter, length, IsTrue, Contains}
 use Rattle.std.specs.List.{list_any}
 use Rattle.pw_base.specs.declared.shape.Shape.{Shape}
@@ -37,9 +37,11 @@ required_of shape n = length (dependencies_of shape n)
 
 -- TARGET LIST: the followers of which m is a dependency, then the driver
 abbrev pub targets_of : Shape → ℕ → List ℕ
-targets_of shape m = filter (λ n. not (n == shape.driver) && waits shape n m) (nodes_of shape) ++ shape.driver ∷ []
+targets_of shape m = filter (λ n. not (n == shape.driver) && waits shape n m) (nodes_of shape)
+    ++ shape.driver ∷ []
 
--- PRECEDES: in each cycle, the Finish of m comes before the Start of n; so no node waits for the driver's own work
+-- PRECEDES: in each cycle, the Finish of m comes before the Start of n; so no node waits for the
+-- driver's own work
 pub record Precedes (shape : Shape) (m n : ℕ) : Type 0 where
   pub depends : IsDependency shape m n
   pub follower : ¬ (m ≡ shape.driver)

@@ -1,4 +1,5 @@
--- Event words: how an event stands in one word of 64 bits, 0 where none is stored yet, and what is read back from one.
+-- Event words: how an event stands in one word of 64 bits, 0 where none is stored yet, and what is
+-- read back from one.
 -- Source: this project's own numbers; no public standard has them.
 use Rattle.std.specs.Prelude.{◌≡◌, ℕ, ◌+◌, ◌*◌, ◌/◌, ◌%◌, ◌^◌, ◌<◌, ◌≤◌, ◌==◌, if◌then◌else◌}
 use Rattle.pw_base.specs.Limits.{dummy_node}
@@ -39,7 +40,8 @@ abbrev pub event_word_of : Event → ℕ
 event_word_of event = event_kind event + 1 + 8 * event_node event + 512 * event_cycle event
 
 abbrev pub IsEventWord : ℕ → Type 0
-IsEventWord word = (event : Event) × (event_node event ≤ dummy_node) × (event_cycle event < 2 ^ 32)
+IsEventWord word = (event : Event) × (event_node event ≤ dummy_node)
+    × (event_cycle event < 2 ^ 32)
     × (word ≡ event_word_of event)
 
 -- the event of a word, with the late set where it is a Tick

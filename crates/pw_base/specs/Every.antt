@@ -8,7 +8,8 @@ pub record IsNewEvery (n : ℕ) (every : Every) : Type 0 where
   pub left : every.left ≡ n
   pub ticks : every.ticks ≡ 0
 
--- after an ask: at the end of its count it stays; else one ask less is left, or it is due and begins anew
+-- after an ask: at the end of its count it stays; else one ask less is left, or it is due and
+-- begins anew
 abbrev pub asked : Every → Every
 asked every =
     if every.ticks == 2 ^ 64 - 1 then every

@@ -19,23 +19,31 @@ one_more count = min (count + 1) (2 ^ 64 - 1)
 abbrev pub kept_by : List (ℕ × ℕ) → ℕ → Option ℕ
 kept_by failing number = option_map (λ f. f.1) (find (λ f. f.0 == number) failing)
 
--- A LOAD fails exactly where its number is one of those that are to fail; out of memory it is no call
+-- A LOAD fails exactly where its number is one of those that are to fail; out of memory it is no
+-- call
 abbrev pub HasLoaded : MemFiles → MemFiles → Result Loaded FileFail → Type 0
 HasLoaded old new (Ok loaded) = (¬ (Contains old.failing_loads (one_more old.loads)))
     × SameFiles (record old { loads = one_more old.loads }) new
 HasLoaded old new (Err Failed) = Contains old.failing_loads (one_more old.loads)
-    × SameFiles (record old { loads = one_more old.loads; load_faults = one_more old.load_faults }) new
+    × SameFiles (record old {
+      loads = one_more old.loads;
+      load_faults = one_more old.load_faults;
+    }) new
 HasLoaded old new (Err Memory) = SameFiles old new
 
 -- A STORE that is to fail leaves as many first bytes as were told
-abbrev pub HasStored : List ℕ → List ℕ → MemFiles → MemFiles → Result (Unit {0}) FileFail → Type 0
+abbrev pub HasStored : List ℕ → List ℕ → MemFiles → MemFiles
+    → Result (Unit {0}) FileFail → Type 0
 HasStored name bytes old new (Ok done) = (kept_by old.failing_stores (one_more old.stores) ≡ None)
     × (mem_names new ≡ stored name bytes (mem_names old))
     × SameFaults (record old { stores = one_more old.stores }) new
 HasStored name bytes old new (Err Failed) = (kept : ℕ)
     × (kept_by old.failing_stores (one_more old.stores) ≡ Some kept)
     × (mem_names new ≡ stored name (take kept bytes) (mem_names old))
-    × SameFaults (record old { stores = one_more old.stores; store_faults = one_more old.store_faults }) new
+    × SameFaults (record old {
+      stores = one_more old.stores;
+      store_faults = one_more old.store_faults;
+    }) new
 HasStored name bytes old new (Err Memory) = SameFiles old new
 
 -- A PUT likewise

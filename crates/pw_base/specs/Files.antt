@@ -31,7 +31,8 @@ stored name bytes names = λ other. if bytes_eq other name then Some bytes else 
 abbrev pub IsLoaded : Option (List ℕ) → ℕ → Result Loaded FileFail → Type 0
 IsLoaded stands limit (Ok (Whole bytes)) = stands ≡ Some bytes
 IsLoaded stands limit (Ok Absent) = stands ≡ None
-IsLoaded stands limit (Ok TooLong) = (bytes : List ℕ) × (stands ≡ Some bytes) × (limit < length bytes)
+IsLoaded stands limit (Ok TooLong) = (bytes : List ℕ) × (stands ≡ Some bytes)
+    × (limit < length bytes)
 IsLoaded stands limit (Err fail) = Unit {0}
 
 -- what was loaded is within the limit, told or not
@@ -41,10 +42,13 @@ IsWithin limit (Ok Absent) = Unit {0}
 IsWithin limit (Ok TooLong) = Unit {0}
 IsWithin limit (Err fail) = Unit {0}
 
--- after a store: all bytes under the name, a prefix of them, or all as before; where nothing was told, nothing is
-abbrev pub IsStored : List ℕ → List ℕ → Held → Held → Result (Unit {0}) FileFail → Type 0
+-- after a store: all bytes under the name, a prefix of them, or all as before; where nothing was
+-- told, nothing is
+abbrev pub IsStored : List ℕ → List ℕ → Held → Held → Result (Unit {0}) FileFail
+    → Type 0
 IsStored name bytes old new (Ok done) = new ≡ option_map (stored name bytes) old
-IsStored name bytes old new (Err Failed) = (kept : ℕ) × (new ≡ option_map (stored name (take kept bytes)) old)
+IsStored name bytes old new (Err Failed) = (kept : ℕ)
+    × (new ≡ option_map (stored name (take kept bytes)) old)
 IsStored name bytes old new (Err Memory) = new ≡ old
 
 -- the same at every name

@@ -1,5 +1,5 @@
--- Nodes and forms one by one, as a checker goes through an epoch; `PlanForms` and `SoundPlan` say the same of the
--- whole.
+-- Nodes and forms one by one, as a checker goes through an epoch; `PlanForms` and `SoundPlan` say
+-- the same of the whole.
 -- Source: this project's.
 use Rattle.std.specs.Prelude.{◌≡◌, ℕ, ◌<◌, ◌⊎◌, length, Contains, Some, slice_get}
 use Rattle.pw_base.specs.declared.ids.PortId.{PortId}
@@ -21,7 +21,8 @@ HasSomeForm epoch port = (rate : ℕ) × (channels : ℕ) × HasForm epoch port 
 
 -- two ports have forms of one rate, with these channels
 abbrev pub HasBothForms : Epoch → PortId → PortId → ℕ → Type 0
-HasBothForms epoch from to channels = (rate : ℕ) × HasForm epoch from rate channels × HasForm epoch to rate channels
+HasBothForms epoch from to channels = (rate : ℕ) × HasForm epoch from rate channels
+    × HasForm epoch to rate channels
 
 -- a node has forms for all its ports
 pub record HasAllForms (plan : Plan) (epoch : Epoch) (node : ℕ) : Type 0 where
@@ -42,9 +43,11 @@ pub record HasSoundDummy (epoch : Epoch) : Type 0 where
 
 -- the dummy drives, or a sink or meter
 pub record HasSoundDriver (plan : Plan) (epoch : Epoch) : Type 0 where
-  pub either : (epoch.shape.driver ≡ dummy_node) ⊎ IsSinkOrMeter (kind_at plan epoch.shape.driver)
+  pub either : (epoch.shape.driver ≡ dummy_node)
+      ⊎ IsSinkOrMeter (kind_at plan epoch.shape.driver)
 
 -- a form, if of a sink, is the rate and channels that its node ends with
 pub record IsEnded (plan : Plan) (form : PortForm) : Type 0 where
-  pub ends : (node : PlanNode) → slice_get plan.nodes form.port.node ≡ Some node → node.kind ≡ Sink
+  pub ends : (node : PlanNode) → slice_get plan.nodes form.port.node ≡ Some node
+      → node.kind ≡ Sink
       → (form.rate ≡ node.rate) × (form.channels ≡ node.channels)

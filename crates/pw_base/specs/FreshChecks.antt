@@ -1,4 +1,5 @@
--- Fresh nodes and kept forms epoch by epoch, as a checker goes through a plan; `PlanFresh` says the same of the whole.
+-- Fresh nodes and kept forms epoch by epoch, as a checker goes through a plan; `PlanFresh` says the
+-- same of the whole.
 -- Source: this project's.
 use Rattle.std.specs.Prelude.{◌≡◌, ℕ, ◌<◌, ◌≤◌, length, All, AllPairs, Contains}
 use Rattle.pw_base.specs.declared.kind.Kind.TheVariants.{Sink}
@@ -41,7 +42,8 @@ pub record AgreesIn (plan : Plan) (j : ℕ) (a : PortForm) : Type 0 where
 
 -- a form of epoch i is that of its port in each later epoch up to which its node stays
 pub record KeepsForm (plan : Plan) (i : ℕ) (a : PortForm) : Type 0 where
-  pub later : (j : ℕ) → i < j → j < length plan.epochs → StaysFrom plan i j a.port.node → AgreesIn plan j a
+  pub later : (j : ℕ) → i < j → j < length plan.epochs → StaysFrom plan i j a.port.node
+      → AgreesIn plan j a
 
 -- after epoch i, none names the node
 pub record IsKeptFrom (plan : Plan) (i node : ℕ) : Type 0 where
@@ -53,11 +55,13 @@ pub record KeepsSink (plan : Plan) (i : ℕ) (a : PortForm) : Type 0 where
 
 -- the last epoch up to j that names the node has these channels
 abbrev pub IsLastNamed : Plan → ℕ → ℕ → ℕ → Type 0
-IsLastNamed plan j node channels = (k : ℕ) × (k ≤ j) × Names plan k node channels × StaysFrom plan k j node
+IsLastNamed plan j node channels = (k : ℕ) × (k ≤ j) × Names plan k node channels
+    × StaysFrom plan k j node
 
 -- so for the form of a node's first input
 pub record IsToldIn (plan : Plan) (j : ℕ) (a : PortForm) : Type 0 where
-  pub last : a.port.port ≡ 0 → 0 < input_count (kind_at plan a.port.node) → IsLastNamed plan j a.port.node a.channels
+  pub last : a.port.port ≡ 0 → 0 < input_count (kind_at plan a.port.node)
+      → IsLastNamed plan j a.port.node a.channels
 
 -- all this of a form of epoch i
 pub record IsKeptForm (plan : Plan) (i : ℕ) (a : PortForm) : Type 0 where

@@ -1,43 +1,26 @@
--- Legal histories: events, cycle by cycle, in the order of their tickets. PipeWire's documentation, "Graph Scheduling".
-use Rattle.std.specs.Prelude.{◌≡◌, ℕ, ◌<◌, ◌≤◌, ◌==◌, ◌&&◌, Bool, true, false, List, [], ◌∷◌, ◌++◌, map, count_by, All}
+-- Legal histories: events, cycle by cycle, in the order of their tickets. PipeWire's documentation,
+-- "Graph Scheduling".
+use Rattle.std.specs.Prelude.{◌≡◌, ℕ, ◌<◌, ◌≤◌, List, [], ◌∷◌, ◌++◌, map, count_by, All}
 use Rattle.std.specs.Prelude.{Contains, IsBitSet}
-use Rattle.std.specs.List.{position_or_len, flat_map, range_with_len, AllZip}
+use Rattle.std.specs.List.{flat_map, range_with_len, AllZip}
 use Rattle.pw_base.specs.declared.event.Event.{Event}
 use Rattle.pw_base.specs.declared.event.Event.TheVariants.{Begin, Start, Finish, Tick, End}
 use Rattle.pw_base.specs.declared.shape.Shape.{Shape}
 use Rattle.pw_base.specs.Dependencies.{nodes_of, Precedes}
-
-abbrev pub is_start : ℕ → ℕ → Event → Bool
-is_start cycle node (Start c n) = (c == cycle) && (n == node)
-is_start cycle node _ = false
-
-abbrev pub is_finish : ℕ → ℕ → Event → Bool
-is_finish cycle node (Finish c n) = (c == cycle) && (n == node)
-is_finish cycle node _ = false
-
-abbrev pub is_tick : Event → Bool
-is_tick (Tick c late) = true
-is_tick _ = false
-
--- where a node's Start, its Finish, and the Tick stand; past the end, where they do not
-abbrev pub start_place : List Event → ℕ → ℕ → ℕ
-start_place events cycle node = position_or_len (is_start cycle node) events
-
-abbrev pub finish_place : List Event → ℕ → ℕ → ℕ
-finish_place events cycle node = position_or_len (is_finish cycle node) events
-
-abbrev pub tick_place : List Event → ℕ
-tick_place events = position_or_len is_tick events
+pub use Rattle.pw_base.specs.EventPlaces.{is_start, is_finish, is_tick, start_place, finish_place, tick_place}
 
 -- a late node is a follower, and finishes after the Tick
 abbrev pub IsLate : Shape → List Event → ℕ → ℕ → Type 0
-IsLate shape events cycle n = Contains (nodes_of shape) n × ¬ (n ≡ shape.driver) × (tick_place events < finish_place events cycle n)
+IsLate shape events cycle n = Contains (nodes_of shape) n × ¬ (n ≡ shape.driver)
+    × (tick_place events < finish_place events cycle n)
 
--- an event between Begin and End: a Start or Finish of an active node, or a Tick of late nodes before the driver's Start
+-- an event between Begin and End: a Start or Finish of an active node, or a Tick of late nodes
+-- before the driver's Start
 abbrev pub IsOfCycle : Shape → List Event → ℕ → Event → Type 0
 IsOfCycle shape events cycle (Start c n) = (c ≡ cycle) × Contains (nodes_of shape) n
 IsOfCycle shape events cycle (Finish c n) = (c ≡ cycle) × Contains (nodes_of shape) n
-IsOfCycle shape events cycle (Tick c late) = (c ≡ cycle) × (tick_place events < start_place events cycle shape.driver)
+IsOfCycle shape events cycle (Tick c late) = (c ≡ cycle)
+    × (tick_place events < start_place events cycle shape.driver)
     × ((n : ℕ) → n < 64 → IsBitSet late n → IsLate shape events cycle n)
 IsOfCycle shape events cycle _ = ⊥
 
@@ -49,9 +32,11 @@ pub record RunsOnce (events : List Event) (cycle node : ℕ) : Type 0 where
 
 -- where m precedes n, the Finish of m stands before the Start of n
 pub record KeepsOrder (shape : Shape) (events : List Event) (cycle : ℕ) : Type 0 where
-  pub waits : (m n : ℕ) → Precedes shape m n → finish_place events cycle m < start_place events cycle n
+  pub waits : (m n : ℕ) → Precedes shape m n
+      → finish_place events cycle m < start_place events cycle n
 
--- the events between Begin and End: each node runs once, after all that precede it; at most one Tick; nothing else
+-- the events between Begin and End: each node runs once, after all that precede it; at most one
+-- Tick; nothing else
 pub record IsLegalInside (shape : Shape) (events : List Event) (cycle : ℕ) : Type 0 where
   pub only : All (IsOfCycle shape events cycle) events
   pub nodes : All (λ n. RunsOnce events cycle n.node) shape.nodes
@@ -60,7 +45,8 @@ pub record IsLegalInside (shape : Shape) (events : List Event) (cycle : ℕ) : T
 
 -- LEGAL CYCLE: Begin, what is legal inside, End
 abbrev pub IsLegalCycle : Shape → ℕ → List Event → Type 0
-IsLegalCycle shape cycle part = (events : List Event) × (part ≡ Begin cycle ∷ (events ++ End cycle ∷ [])) × IsLegalInside shape events cycle
+IsLegalCycle shape cycle part = (events : List Event)
+    × (part ≡ Begin cycle ∷ (events ++ End cycle ∷ [])) × IsLegalInside shape events cycle
 
 -- the cycles of an epoch, and of epochs in order, each with its shape
 abbrev pub epoch_cycles : Shape → ℕ → List (Shape × ℕ)

@@ -38,14 +38,16 @@ pub record IsNewFiles (files : MemFiles) : Type 0 where
 pub record SameFaults (old new : MemFiles) : Type 0 where
   pub faults : (new.load_faults ≡ old.load_faults) × (new.store_faults ≡ old.store_faults)
   pub calls : (new.loads ≡ old.loads) × (new.stores ≡ old.stores)
-  pub failing : (new.failing_loads ≡ old.failing_loads) × (new.failing_stores ≡ old.failing_stores)
+  pub failing : (new.failing_loads ≡ old.failing_loads)
+      × (new.failing_stores ≡ old.failing_stores)
 
 abbrev pub SameFiles : MemFiles → MemFiles → Type 0
 SameFiles old new = (mem_names new ≡ mem_names old) × SameFaults old new
 
 -- one more load, or store, is to fail; all else is as before
 abbrev pub WithLoadFault : MemFiles → MemFiles → ℕ → Type 0
-WithLoadFault old new number = SameFiles (record old { failing_loads = old.failing_loads ++ number ∷ [] }) new
+WithLoadFault old new number = SameFiles
+    (record old { failing_loads = old.failing_loads ++ number ∷ [] }) new
 
 abbrev pub WithStoreFault : MemFiles → MemFiles → ℕ → ℕ → Type 0
 WithStoreFault old new number kept = SameFiles
@@ -63,4 +65,5 @@ pub record SameSink (old new : MemSink) : Type 0 where
   pub failing : new.failing_puts ≡ old.failing_puts
 
 abbrev pub WithPutFault : MemSink → MemSink → ℕ → ℕ → Type 0
-WithPutFault old new number kept = SameSink (record old { failing_puts = old.failing_puts ++ (number, kept) ∷ [] }) new
+WithPutFault old new number kept = SameSink
+    (record old { failing_puts = old.failing_puts ++ (number, kept) ∷ [] }) new

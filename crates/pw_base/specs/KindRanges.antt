@@ -3,7 +3,7 @@
 use Rattle.std.specs.Prelude.{◌≡◌, ℕ, zero, suc, ◌<◌, ◌≤◌, length, All, ℤ, pos, neg_ℤ, ◌≤ℤ◌}
 use Rattle.pw_base.specs.declared.kind.Kind.{Kind}
 use Rattle.pw_base.specs.declared.kind.Kind.TheVariants.{Source, Square, Gain, Mix2, Delay, Map, Split, Sink, Meter, Dummy}
-use Rattle.pw_base.specs.Limits.{rate_limit, channels_limit}
+use Rattle.pw_base.specs.Limits.{rate_limit, channels_limit, period_limit, delay_limit, amp_limit, gain_limit}
 use Rattle.pw_base.specs.SoundShape.{IsBetween}
 
 abbrev pub IsRate : ℕ → Type 0
@@ -14,17 +14,19 @@ IsChannels channels = IsBetween 1 channels_limit channels
 
 -- a gain in 1/256
 abbrev pub IsGain : ℤ → Type 0
-IsGain g = (neg_ℤ (pos 32767) ≤ℤ g) × (g ≤ℤ pos 32767)
+IsGain g = (neg_ℤ (pos gain_limit) ≤ℤ g) × (g ≤ℤ pos gain_limit)
 
 -- the numbers of a kind are in the ranges of the script; the dummy is no node of a script
 abbrev pub IsInRange : Kind → Type 0
 IsInRange Source = Unit {0}
-IsInRange (Square rate channels period amp) = IsRate rate × IsChannels channels × IsBetween 1 1000000 period
-    × (pos 0 ≤ℤ amp) × (amp ≤ℤ pos 32767)
+IsInRange (Square rate channels period amp) = IsRate rate × IsChannels channels
+    × IsBetween 1 period_limit period
+    × (pos 0 ≤ℤ amp) × (amp ≤ℤ pos amp_limit)
 IsInRange (Gain g) = IsGain g
 IsInRange (Mix2 ga gb) = IsGain ga × IsGain gb
-IsInRange (Delay frames) = frames ≤ 65536
-IsInRange (Map channels list) = IsChannels channels × IsBetween 1 8 (length list) × All (λ c. c < channels) list
+IsInRange (Delay frames) = frames ≤ delay_limit
+IsInRange (Map channels list) = IsChannels channels × IsBetween 1 channels_limit (length list)
+    × All (λ c. c < channels) list
 IsInRange Split = Unit {0}
 IsInRange Sink = Unit {0}
 IsInRange Meter = Unit {0}

@@ -1,6 +1,5 @@
 -- The words of a board: where each stands in the table of a shape, and what it holds at the start.
--- Source: spa/node/io.h, spa_io_buffers (one area a link; two for a delayed one, as spa_io_async_buffers); the rest is
--- this project's.
+-- Source: spa/node/io.h, spa_io_buffers, and of a delayed link spa_io_async_buffers; else ours.
 use Rattle.std.specs.Prelude.{ℕ, ◌+◌, ◌-◌, ◌*◌, ◌%◌, ◌==◌, List, [], ◌∷◌, ◌++◌, length, take, replicate, sum_by, count_by}
 use Rattle.std.specs.Prelude.{unwrap_or, option_map, slice_get, if◌then◌else◌}
 use Rattle.std.specs.List.{flat_map}
@@ -27,7 +26,7 @@ event_count shape = shape.cycles * (2 * node_count shape + 3)
 abbrev pub pool_words : PoolShape → ℕ
 pool_words pool = pool.blocks * (1 + pool.words)
 
--- WHERE EACH STANDS: nodes, links and pools by place, areas 0 and 1, cycles counted from the epoch's first
+-- WHERE EACH STANDS: nodes, links and pools by place, areas 0 and 1, cycles from the first
 abbrev pub ticket_place : ℕ
 ticket_place = 0
 
@@ -61,7 +60,7 @@ sample_place shape pool block word = readers_place shape pool block + 1 + word
 abbrev pub word_count : Shape → ℕ
 word_count shape = event_place shape (event_count shape) + sum_by pool_words (pools_of shape)
 
--- AT THE START: area 0 first; the area of a delayed link that is read in the first cycle names block 0
+-- AT THE START: area 0 first; of a delayed link the area that is read first names block 0
 abbrev pub io_start : ℕ → ShapeLink → List ℕ
 io_start first link =
     if link.delayed then (if first % 2 == 0 then have_data_word 0 ∷ need_data_word no_block ∷ []
@@ -70,9 +69,12 @@ io_start first link =
 
 -- block 0 begins out, read by the pool's delayed links
 abbrev pub pool_start : Shape → PoolShape → List ℕ
-pool_start shape pool = count_by (λ l. l.delayed) (links_from shape pool.port) ∷ replicate (pool_words pool - 1) 0
+pool_start shape pool = count_by (λ l. l.delayed) (links_from shape pool.port)
+    ∷ replicate (pool_words pool - 1) 0
 
 abbrev pub start_words : Shape → List ℕ
-start_words shape = 0 ∷ (replicate (node_count shape) 0 ++ (replicate (node_count shape) (not_triggered_word shape.first)
+start_words shape = 0 ∷ (replicate (node_count shape) 0
+    ++ (replicate (node_count shape) (not_triggered_word shape.first)
     ++ (flat_map (io_start shape.first) shape.links ++
-    (replicate (shape.cycles + event_count shape) 0 ++ flat_map (pool_start shape) (pools_of shape)))))
+    (replicate (shape.cycles + event_count shape) 0
+    ++ flat_map (pool_start shape) (pools_of shape)))))

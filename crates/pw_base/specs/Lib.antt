@@ -7,6 +7,7 @@ pub mod Files
 pub mod FormChecks
 pub mod FreshChecks
 pub mod History
+pub mod EventPlaces
 pub mod HistoryFronts
 pub mod InMemory
 pub mod KindFunction

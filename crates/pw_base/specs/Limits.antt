@@ -16,11 +16,13 @@ which_number W.SinkSamples = 9
 which_number W.BlockBytes = 10
 which_number W.TraceBytes = 11
 
--- the number of the built-in node, which drives where no other does; the nodes of a script are those below
+-- the number of the built-in node, which drives where no other does; the nodes of a script are
+-- those below
 abbrev pub dummy_node : ℕ
 dummy_node = 63
 
--- the links of a graph, the frames of a quantum, the frames a second, the channels of a port, the buffers of a link
+-- the links of a graph, the frames of a quantum, the frames a second, the channels of a port, the
+-- buffers of a link
 abbrev pub links_limit : ℕ
 links_limit = 256
 
@@ -35,6 +37,19 @@ channels_limit = 8
 
 abbrev pub buffers_limit : ℕ
 buffers_limit = 8
+
+-- the frames of a square's period and of a delay, an amplitude, a gain in 1/256 without its sign
+abbrev pub period_limit : ℕ
+period_limit = 1000000
+
+abbrev pub delay_limit : ℕ
+delay_limit = 65536
+
+abbrev pub amp_limit : ℕ
+amp_limit = 32767
+
+abbrev pub gain_limit : ℕ
+gain_limit = 32767
 
 -- a script, the body of a POD, a WAV file and all WAV files of a run, in bytes
 abbrev pub script_bytes_limit : ℕ

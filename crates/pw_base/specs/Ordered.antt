@@ -1,5 +1,5 @@
--- Order in a cycle by the places of nodes in a shape, as a checker goes through them; `KeepsOrder` says the same by
--- their numbers.
+-- Order in a cycle by the places of nodes in a shape, as a checker goes through them; `KeepsOrder`
+-- says the same by their numbers.
 -- Source: PipeWire's documentation, "Graph Scheduling".
 use Rattle.std.specs.Prelude.{◌≡◌, ℕ, ◌<◌, List, All, IsTrue}
 use Rattle.pw_base.specs.declared.event.Event.{Event}
@@ -10,7 +10,8 @@ use Rattle.pw_base.specs.History.{start_place, finish_place, RunsOnce}
 
 -- where n waits for the work of m, the Finish of m stands before the Start of n
 unfoldable pub IsOrdered : Shape → List Event → ℕ → ShapeNode → ShapeNode → Type 0
-IsOrdered shape events cycle n m = IsTrue (waits shape n.node m.node) → ¬ (m.node ≡ shape.driver)
+IsOrdered shape events cycle n m = IsTrue (waits shape n.node m.node)
+    → ¬ (m.node ≡ shape.driver)
     → finish_place events cycle m.node < start_place events cycle n.node
 
 -- so for each m

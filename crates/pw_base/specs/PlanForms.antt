@@ -1,5 +1,7 @@
--- Forms in a plan: the rate and channels of each port of an active node, and the two forms of a link.
--- Source: PipeWire's documentation, "SPA POD" (a port's Format); the sharing of rates and channels is this project's.
+-- Forms in a plan: the rate and channels of each port of an active node, and the two forms of a
+-- link.
+-- Source: PipeWire's documentation, "SPA POD" (a port's Format); the sharing of rates and channels
+-- is this project's.
 use Rattle.std.specs.Prelude.{◌≡◌, ℕ, ◌<◌, ◌≤◌, option_map, unwrap_or, All, AllPairs, Contains, IsTrue, slice_get}
 use Rattle.pw_base.specs.declared.ids.PortId.{PortId}
 use Rattle.pw_base.specs.declared.kind.Kind.{Kind}
@@ -19,7 +21,8 @@ kind_at plan node = unwrap_or (option_map (λ n. n.kind) (slice_get plan.nodes n
 
 -- the epoch has this form of the port
 abbrev pub HasForm : Epoch → PortId → ℕ → ℕ → Type 0
-HasForm epoch port rate channels = Contains epoch.forms (record { port = port; rate = rate; channels = channels })
+HasForm epoch port rate channels = Contains epoch.forms
+    (record { port = port; rate = rate; channels = channels })
 
 -- a form belongs to a port of an active node, with a rate and channels that the kind may have there
 pub record IsSoundForm (plan : Plan) (epoch : Epoch) (form : PortForm) : Type 0 where
@@ -33,7 +36,8 @@ abbrev pub AreShared : Plan → PortForm → PortForm → Type 0
 AreShared plan f g = f.port.node ≡ g.port.node → (f.rate ≡ g.rate)
     × (SharesChannels (kind_at plan f.port.node) → f.channels ≡ g.channels)
 
--- a link goes from an output to an input, and both have forms of one rate and of the link's channels
+-- a link goes from an output to an input, and both have forms of one rate and of the link's
+-- channels
 pub record IsFormed (plan : Plan) (epoch : Epoch) (link : ShapeLink) : Type 0 where
   pub output : (input_count (kind_at plan link.from.node) ≤ link.from.port)
       × (link.from.port < port_count (kind_at plan link.from.node))
@@ -47,7 +51,8 @@ pub record HasSoundForms (plan : Plan) (epoch : Epoch) : Type 0 where
   pub ascend : AllPairs (λ f g. IsTrue (is_before f.port g.port)) epoch.forms
   pub each : All (IsSoundForm plan epoch) epoch.forms
   pub shared : AllPairs (AreShared plan) epoch.forms
-  pub whole : (port : PortId) → Contains (nodes_of epoch.shape) port.node → ¬ (port.node ≡ epoch.shape.driver)
+  pub whole : (port : PortId) → Contains (nodes_of epoch.shape) port.node
+      → ¬ (port.node ≡ epoch.shape.driver)
       → port.port < port_count (kind_at plan port.node)
       → (rate : ℕ) × (channels : ℕ) × HasForm epoch port rate channels
   pub links : All (IsFormed plan epoch) epoch.shape.links

@@ -1,5 +1,6 @@
 -- Nodes that begin anew: which epochs name a node as fresh, and what that says of its forms.
--- Source: this project's: a node whose last link went gives up its formats, and its stream starts anew.
+-- Source: this project's: a node whose last link went gives up its formats, and its stream starts
+-- anew.
 use Rattle.std.specs.Prelude.{◌≡◌, ℕ, ◌<◌, ◌≤◌, ◌⊎◌, length, Some, All, AllPairs, Contains, slice_get}
 use Rattle.pw_base.specs.declared.ids.PortId.{PortId}
 use Rattle.pw_base.specs.declared.kind.Kind.TheVariants.{Sink}
@@ -32,19 +33,24 @@ pub record IsSoundFresh (plan : Plan) (fresh : Fresh) : Type 0 where
 
 -- a port has the same form in two epochs between which its node stays
 abbrev pub KeepsForms : Plan → Type 0
-KeepsForms plan = (i j : ℕ) (e f : Epoch) (port : PortId) (rate channels rate' channels' : ℕ) → i < j → IsEpoch plan i e
+KeepsForms plan = (i j : ℕ) (e f : Epoch) (port : PortId) (rate channels rate' channels' : ℕ)
+    → i < j → IsEpoch plan i e
     → IsEpoch plan j f → StaysFrom plan i j port.node
-    → HasForm e port rate channels → HasForm f port rate' channels' → (rate ≡ rate') × (channels ≡ channels')
+    → HasForm e port rate channels → HasForm f port rate' channels'
+    → (rate ≡ rate') × (channels ≡ channels')
 
 -- a sink is not named after an epoch in which it has a form
 abbrev pub KeepsSinks : Plan → Type 0
-KeepsSinks plan = (i j : ℕ) (e : Epoch) (port : PortId) (rate channels more : ℕ) → i < j → IsEpoch plan i e
+KeepsSinks plan = (i j : ℕ) (e : Epoch) (port : PortId) (rate channels more : ℕ) → i < j
+    → IsEpoch plan i e
     → kind_at plan port.node ≡ Sink → HasForm e port rate channels
     → ¬ Names plan j port.node more
 
--- where a node's first input has a form, the last epoch so far that names the node has the form's channels
+-- where a node's first input has a form, the last epoch so far that names the node has the form's
+-- channels
 abbrev pub IsTold : Plan → Type 0
-IsTold plan = (j : ℕ) (e : Epoch) (node rate channels : ℕ) → IsEpoch plan j e → 0 < input_count (kind_at plan node)
+IsTold plan = (j : ℕ) (e : Epoch) (node rate channels : ℕ) → IsEpoch plan j e
+    → 0 < input_count (kind_at plan node)
     → HasForm e (record { node = node; port = 0 }) rate channels
     → (k : ℕ) × (k ≤ j) × Names plan k node channels × StaysFrom plan k j node
 

@@ -1,4 +1,5 @@
--- Sums of a plan that have a limit: its events, the samples of its sinks, and the bytes of its blocks.
+-- Sums of a plan that have a limit: its events, the samples of its sinks, and the bytes of its
+-- blocks.
 -- Source: this project's.
 use Rattle.std.specs.Prelude.{ℕ, ◌+◌, ◌-◌, ◌*◌, ◌^◌, min, length, filter, sum_by, Bool, true, false}
 use Rattle.pw_base.specs.declared.kind.Kind.{Kind}
@@ -26,7 +27,8 @@ abbrev pub epoch_samples : Plan → Epoch → ℕ
 epoch_samples plan epoch = sum_by (form_samples plan epoch)
     (filter (λ f. is_sink (kind_at plan f.port.node)) epoch.forms)
 
--- the bytes of the blocks that a link asks for, where a delayed link counts at least 2 buffers, and those of all links
+-- the bytes of the blocks that a link asks for, where a delayed link counts at least 2 buffers, and
+-- those of all links
 abbrev pub link_bytes : Plan → ShapeLink → ℕ
 link_bytes plan link = asked link * (plan.quantum * (link.channels * 2))
 

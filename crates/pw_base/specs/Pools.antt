@@ -1,6 +1,7 @@
--- Pools: the output ports of a shape that have a link, each with the blocks that hold what it gives in a cycle.
--- Source: PipeWire's documentation, "SPA Buffers": the buffers of a port are shared by number; one pool an output port
--- is this project's.
+-- Pools: the output ports of a shape that have a link, each with the blocks that hold what it gives
+-- in a cycle.
+-- Source: PipeWire's documentation, "SPA Buffers": the buffers of a port are shared by number; one
+-- pool an output port is this project's.
 use Rattle.std.specs.Prelude.{◌≡◌, ℕ, ◌+◌, ◌*◌, ◌/◌, ◌==◌, ◌&&◌, ◌||◌, max, Bool, List, [], ◌∷◌, ◌++◌, map, filter}
 use Rattle.std.specs.Prelude.{fold, AllPairs, nat_lt, if◌then◌else◌}
 use Rattle.std.specs.List.{enumerate_from}
@@ -30,7 +31,8 @@ abbrev pub links_from : Shape → PortId → List ShapeLink
 links_from shape port = filter (λ l. is_same_port l.from port) shape.links
 
 abbrev pub link_ids_from : List ShapeLink → PortId → List ℕ
-link_ids_from links port = map (λ e. e.0) (filter (λ e. is_same_port e.1.from port) (enumerate_from 0 links))
+link_ids_from links port = map (λ e. e.0)
+    (filter (λ e. is_same_port e.1.from port) (enumerate_from 0 links))
 
 -- the blocks that a link asks for: its buffers, and at least 2 where it is delayed
 abbrev pub asked : ShapeLink → ℕ

@@ -1,5 +1,7 @@
--- Samples: what is done to one sample, and rows of samples. S16 PCM, interleaved; gains are factors in 1/256.
--- Source: RIFF WAVE PCM of 16 bits; SPA_AUDIO_FORMAT_S16_LE; rounding and clamping are this project's.
+-- Samples: what is done to one sample, and rows of samples. S16 PCM, interleaved; gains are factors
+-- in 1/256.
+-- Source: RIFF WAVE PCM of 16 bits; SPA_AUDIO_FORMAT_S16_LE; rounding and clamping are this
+-- project's.
 use Rattle.std.specs.Prelude.{ℕ, ◌+◌, ◌*◌, ◌/◌, ◌%◌, max, List, map, fold, length, replicate, zip, ℤ, pos, neg_ℤ, ◌+ℤ◌, ◌*ℤ◌}
 use Rattle.std.specs.Prelude.{unsigned_abs, slice_index, slice_index_or}
 use Rattle.std.specs.Int.{int_max, int_min, int_shr}
@@ -31,7 +33,8 @@ sample_at channels row frame channel = slice_index_or row (frame * channels + ch
 
 -- so many frames, each channel of each by the function
 abbrev pub of_frames : ℕ → ℕ → (ℕ → ℕ → ℤ) → List ℤ
-of_frames frames channels f = map (λ i. f (i / channels) (i % channels)) (range_with_len 0 (frames * channels))
+of_frames frames channels f = map (λ i. f (i / channels) (i % channels))
+    (range_with_len 0 (frames * channels))
 
 -- of each whole frame, the channels that the list names
 abbrev pub picked : ℕ → List ℕ → List ℤ → List ℤ

@@ -1,5 +1,5 @@
--- A sound plan: its epochs follow one another, its shapes, nodes, links and forms agree, and the sums of the limits
--- are kept.
+-- A sound plan: its epochs follow one another, its shapes, nodes, links and forms agree, and the
+-- sums of the limits are kept.
 -- Source: this project's. What it says of the waves of sources stands with the cycle function.
 use Rattle.std.specs.Prelude.{◌≡◌, ℕ, ◌+◌, ◌<◌, ◌≤◌, ◌⊎◌, List, [], ◌∷◌, length, All, Contains, slice_get, Some}
 use Rattle.pw_base.specs.declared.kind.Kind.TheVariants.{Sink}
@@ -20,22 +20,26 @@ abbrev pub FollowFrom : ℕ → List Epoch → Type 0
 FollowFrom first [] = Unit {0}
 FollowFrom first (e ∷ es) = (e.shape.first ≡ first) × FollowFrom (first + e.shape.cycles) es
 
--- a node's numbers are in range; its rate and channels are 0, or those that a sink or meter may end with
+-- a node's numbers are in range; its rate and channels are 0, or those that a sink or meter may end
+-- with
 pub record IsSoundNode (node : PlanNode) : Type 0 where
   pub kind : IsInRange node.kind
   pub kept : ((node.rate ≡ 0) × (node.channels ≡ 0))
       ⊎ (IsSinkOrMeter node.kind × IsRate node.rate × IsChannels node.channels)
 
--- an epoch's nodes are those of the plan, but for the dummy, which is there exactly where it drives; else a sink or
--- meter drives
+-- an epoch's nodes are those of the plan, but for the dummy, which is there exactly where it
+-- drives; else a sink or meter drives
 pub record HasSoundPlaces (plan : Plan) (epoch : Epoch) : Type 0 where
-  pub places : (n : ℕ) → Contains (nodes_of epoch.shape) n → ¬ (n ≡ dummy_node) → n < length plan.nodes
+  pub places : (n : ℕ) → Contains (nodes_of epoch.shape) n → ¬ (n ≡ dummy_node)
+      → n < length plan.nodes
   pub dummy : Contains (nodes_of epoch.shape) dummy_node → epoch.shape.driver ≡ dummy_node
-  pub driver : (epoch.shape.driver ≡ dummy_node) ⊎ IsSinkOrMeter (kind_at plan epoch.shape.driver)
+  pub driver : (epoch.shape.driver ≡ dummy_node)
+      ⊎ IsSinkOrMeter (kind_at plan epoch.shape.driver)
 
 -- a sink's form is the rate and channels that its node ends with
 abbrev pub EndsWith : Plan → Epoch → Type 0
-EndsWith plan epoch = (port : PortId) (rate channels : ℕ) (node : PlanNode) → HasForm epoch port rate channels
+EndsWith plan epoch = (port : PortId) (rate channels : ℕ) (node : PlanNode)
+    → HasForm epoch port rate channels
     → slice_get plan.nodes port.node ≡ Some node → node.kind ≡ Sink
     → (rate ≡ node.rate) × (channels ≡ node.channels)
 

@@ -21,9 +21,11 @@ pub record HasSoundNodes (shape : Shape) : Type 0 where
 
 -- a node's required count and targets are those of its dependencies
 abbrev pub IsCounted : Shape → ShapeNode → Type 0
-IsCounted shape n = (n.required ≡ required_of shape n.node) × (n.targets ≡ targets_of shape n.node)
+IsCounted shape n = (n.required ≡ required_of shape n.node)
+    × (n.targets ≡ targets_of shape n.node)
 
--- a link joins two different active nodes, does not start at the driver, and has 1 to 8 channels and buffers
+-- a link joins two different active nodes, does not start at the driver, and has 1 to 8 channels
+-- and buffers
 pub record IsSoundLink (shape : Shape) (link : ShapeLink) : Type 0 where
   pub from_active : Contains (nodes_of shape) link.from.node
   pub to_active : Contains (nodes_of shape) link.to.node
@@ -43,7 +45,8 @@ pub record HasSoundLinks (shape : Shape) : Type 0 where
   pub apart : AllPairs AreApart shape.links
   pub order : HasOrder shape.links
 
--- an epoch of at least one cycle has a number of 32 bits for each cycle and a ticket for each of its events
+-- an epoch of at least one cycle has a number of 32 bits for each cycle and a ticket for each of
+-- its events
 pub record HasSoundCycles (shape : Shape) : Type 0 where
   pub quantum : IsBetween 1 quantum_limit shape.quantum
   pub some : 1 ≤ shape.cycles

@@ -1,6 +1,7 @@
--- Words: how the status of a node and an io area stand in one word of 64 bits, and what is read back from one.
--- Source: spa/node/io.h, spa_io_buffers (SPA_STATUS_NEED_DATA, SPA_STATUS_HAVE_DATA, SPA_ID_INVALID); the rest is this
--- project's.
+-- Words: how the status of a node and an io area stand in one word of 64 bits, and what is read
+-- back from one.
+-- Source: spa/node/io.h, spa_io_buffers (SPA_STATUS_NEED_DATA, SPA_STATUS_HAVE_DATA,
+-- SPA_ID_INVALID); the rest is this project's.
 use Rattle.std.specs.Prelude.{◌≡◌, ℕ, ◌+◌, ◌-◌, ◌*◌, ◌/◌, ◌%◌, ◌^◌, ◌<◌, ◌≤◌}
 use Rattle.pw_base.specs.declared.status.ActivationStatus.{ActivationStatus}
 use Rattle.pw_base.specs.declared.status.ActivationStatus.TheVariants.{NotTriggered, Triggered, Awake, Finished}
@@ -40,7 +41,8 @@ abbrev pub cycle_in : ℕ → ℕ
 cycle_in word = word / 4
 
 abbrev pub IsStatusWord : ℕ → Type 0
-IsStatusWord word = (status cycle : ℕ) × (status ≤ 3) × (cycle < 2 ^ 32) × (word ≡ status_word_of status cycle)
+IsStatusWord word = (status cycle : ℕ) × (status ≤ 3) × (cycle < 2 ^ 32)
+    × (word ≡ status_word_of status cycle)
 
 -- a status of an io area and the number of a block
 abbrev pub io_word_of : ℕ → ℕ → ℕ

@@ -100,7 +100,8 @@ fn has_bit(set: u64, bit: u32) -> bool
 
 // Whether each node of the set is late.
 fn all_late(shape: &Shape, events: &[Event], cycle: u64, late: u64) -> bool
-    ensures { IsTrue result ↔ ((n : ℕ) → n < 64 → IsBitSet late n → IsLate shape.now events.now cycle n) }
+    ensures { IsTrue result ↔ ((n : ℕ) → n < 64 → IsBitSet late n
+        → IsLate shape.now events.now cycle n) }
 {
     for n in 0..64 {
         if has_bit(late, n) && !is_late(shape, events, cycle, n) {

@@ -22,7 +22,8 @@ pub enum FileFail {
     Memory,
 }
 
-/// Files by name. Contracts see what is held, where that is told, and two counts of faults that never fall.
+/// Files by name. Contracts see what is held, where that is told, and two counts of faults that
+/// never fall.
 pub trait Files {
     ghost use Rattle.pw_base.specs.Files.{Held};
 
@@ -35,13 +36,15 @@ pub trait Files {
     /// Reads the file of this name, of at most `limit` bytes. Nothing that is held changes.
     fn load(&mut self, alloc: Global, name: &Text, limit: u64) -> Result<Loaded, FileFail>
         ensures held { held self.new ≡ held self.old }
-        ensures told { IsSome (held self.old) → IsLoaded (names_in (held self.old) name.now) limit result }
+        ensures told { IsSome (held self.old)
+            → IsLoaded (names_in (held self.old) name.now) limit result }
         ensures within { IsWithin limit result }
         ensures later { load_faults self.old ≤ load_faults self.new }
         ensures cause { HasCause (load_faults self.old) (load_faults self.new) result }
         ensures stores { store_faults self.new ≡ store_faults self.old };
 
-    /// Writes the bytes under the name. After `Failed` a prefix of them stands there, after `Memory` all is as before.
+    /// Writes the bytes under the name. After `Failed` a prefix of them stands there, after
+    /// `Memory` all is as before.
     fn store(&mut self, alloc: Global, name: &Text, bytes: &[u8]) -> Result<(), FileFail>
         ensures held { IsStored name.now bytes.now (held self.old) (held self.new) result }
         ensures later { store_faults self.old ≤ store_faults self.new }

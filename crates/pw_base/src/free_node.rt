@@ -1,4 +1,5 @@
-//! The node that may come next in an order: one that is left, and that no other of those that are left comes before.
+//! The node that may come next in an order: one that is left, and that no other of those that are
+//! left comes before.
 ghost use Rattle.std.specs.Prelude.{◌≡◌, ℕ, false, MatchOption, IfSome, slice_index_or, length};
 ghost use Rattle.pw_base.specs.LinkOrder.{is_blocked, IsStuck, IsFree, AreBlocked};
 
@@ -22,9 +23,10 @@ fn is_blocked(links: &[ShapeLink], left: &[bool], node: u32) -> bool
     links.iter().any(|link| !link.delayed && link.to.node == node && is_left(left, link.from.node))
 }
 
-/// The first node that is left and to which no link that is not delayed comes from one that is left, if there is one.
-/// `left` says of each of the 64 numbers whether that node is left. Takes no memory; cost: for each node that is left
-/// one look at each link.
+/// The first node that is left and to which no link that is not delayed comes from one that is
+/// left, if there is one.
+/// `left` says of each of the 64 numbers whether that node is left. Takes no memory; cost: for each
+/// node that is left one look at each link.
 pub fn find_free(links: &[ShapeLink], left: &[bool]) -> Option<usize>
     requires { length left.now ≡ 64 }
     ensures free { MatchOption result (IsStuck links.now left.now) (IsFree links.now left.now) }

@@ -81,9 +81,11 @@ fn after_epoch<'a>(shape: &Shape, events: &'a [Event]) -> Option<&'a [Event]>
     Some(rest)
 }
 
-/// Whether events are a legal history of epochs: cycle by cycle Begin, one Start and one Finish of each active node,
-/// each Start after the Finish of all that precede the node, at most one Tick before the driver's Start, and End.
-/// Takes no memory; cost: for each cycle and each pair of its nodes some looks at each of its events.
+/// Whether events are a legal history of epochs: cycle by cycle Begin, one Start and one Finish of
+/// each active node, each Start after the Finish of all that precede the node, at most one Tick
+/// before the driver's Start, and End.
+/// Takes no memory; cost: for each cycle and each pair of its nodes some looks at each of its
+/// events.
 pub fn is_legal_history(epochs: &[Epoch], events: &[Event]) -> bool
     ensures { IsTrue result ↔ IsLegalHistory (map (λ e. e.shape) epochs.now) events.now }
 {

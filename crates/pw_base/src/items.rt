@@ -153,7 +153,8 @@ impl<T: Copy> Items<T> {
         }
     }
 
-    /// Appends `more` times the same value, to be written over. After `Memory` the list is as before.
+    /// Appends `more` times the same value, to be written over. After `Memory` the list is as
+    /// before.
     pub fn extend_filled(&mut self, more: usize, item: T) -> Result<(), Memory>
         ensures ok { OnOk result (self.new ≡ self.old ++ replicate more item) }
         ensures err { OnErr result (self.new ≡ self.old) }

@@ -5,7 +5,7 @@ ghost use Rattle.pw_base.specs.KindRanges.{IsSinkOrMeter};
 ghost use Rattle.pw_base.specs.PlanSums.{is_sink};
 
 use crate::kind::Kind;
-use crate::limit::{CHANNELS_LIMIT, RATE_LIMIT};
+use crate::limit::{AMP_LIMIT, CHANNELS_LIMIT, DELAY_LIMIT, GAIN_LIMIT, PERIOD_LIMIT, RATE_LIMIT};
 use crate::soundness::is_between;
 
 /// Whether it is a rate.
@@ -26,7 +26,7 @@ pub(crate) fn is_channels(channels: u32) -> bool
 fn is_gain(g: i32) -> bool
     ensures { IsTrue result ↔ IsGain g }
 {
-    -32767 <= g && g <= 32767
+    g.unsigned_abs() <= GAIN_LIMIT
 }
 
 // Whether each number is that of a channel.
@@ -38,7 +38,8 @@ fn are_below(channels: u32, list: &[u32]) -> bool
 
 // Whether it is a list of a map of so many channels.
 fn is_map(channels: u32, list: &[u32]) -> bool
-    ensures { IsTrue result ↔ (IsChannels channels × ((1 ≤ length list.now) × (length list.now ≤ 8))
+    ensures { IsTrue result ↔ (IsChannels channels
+        × ((1 ≤ length list.now) × (length list.now ≤ 8))
         × All (λ c. c < channels) list.now) }
 {
     is_channels(channels) && 1 <= list.len() && list.len() <= 8 && are_below(channels, list)
@@ -56,12 +57,12 @@ pub(crate) fn is_in_range(kind: &Kind) -> bool
             amp,
         } => is_rate(*rate)
             && is_channels(*channels)
-            && is_between(1, 1_000_000, *period)
+            && is_between(1, PERIOD_LIMIT, *period)
             && 0 <= *amp
-            && *amp <= 32767,
+            && *amp <= AMP_LIMIT as i32,
         Kind::Gain { g } => is_gain(*g),
         Kind::Mix2 { ga, gb } => is_gain(*ga) && is_gain(*gb),
-        Kind::Delay { frames } => *frames <= 65536,
+        Kind::Delay { frames } => *frames <= DELAY_LIMIT,
         Kind::Map { channels, list } => is_map(*channels, list.as_slice()),
         Kind::Dummy => false,
         _ => true,

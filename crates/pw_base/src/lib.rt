@@ -1,10 +1,11 @@
 //! The types, definitions and traits that every crate of the engine stands on.
 //!
-//! `Items` and `Room` are lists that contracts see as lists. `Plan`, `Shape` and `Event` say what a script
-//! asks for, what one epoch is, and what happened; `is_sound_shape`, `is_pooled_shape` and `is_legal_history`
-//! check them against their definitions. `Files`, `Sink`, `Ticker` and `Gate` are the outside;
-//! the objects of `in_memory` stand in for it in tests. The definitions of one sample and of the kinds of
-//! node, in `specs/`, are the words that kernels, node states and the cycle function share.
+//! `Items` and `Room` are lists that contracts see as lists. `Plan`, `Shape` and `Event` say what a
+//! script asks for, what one epoch is, and what happened; `is_sound_shape`, `is_pooled_shape` and
+//! `is_legal_history` check them against their definitions. `Files`, `Sink`, `Ticker` and `Gate`
+//! are the outside; the objects of `in_memory` stand in for it in tests. The definitions of one
+//! sample and of the kinds of node, in `specs/`, are the words that kernels, node states and the
+//! cycle function share.
 #![tactic(auto)]
 
 mod cycle_history;
@@ -61,9 +62,9 @@ pub use items::{Items, Text};
 pub use kind::Kind;
 pub use kind_ranges::is_sink;
 pub use limit::{
-    ALL_WAV_BYTES_LIMIT, BLOCK_BYTES_LIMIT, BUFFERS_LIMIT, CHANNELS_LIMIT, EVENTS_LIMIT,
-    LINKS_LIMIT, POD_BYTES_LIMIT, QUANTUM_LIMIT, RATE_LIMIT, SCRIPT_BYTES_LIMIT,
-    SINK_SAMPLES_LIMIT, WAV_BYTES_LIMIT, Which,
+    ALL_WAV_BYTES_LIMIT, AMP_LIMIT, BLOCK_BYTES_LIMIT, BUFFERS_LIMIT, CHANNELS_LIMIT, DELAY_LIMIT,
+    EVENTS_LIMIT, GAIN_LIMIT, LINKS_LIMIT, PERIOD_LIMIT, POD_BYTES_LIMIT, QUANTUM_LIMIT,
+    RATE_LIMIT, SCRIPT_BYTES_LIMIT, SINK_SAMPLES_LIMIT, WAV_BYTES_LIMIT, Which,
 };
 pub use meet::Meet;
 pub use memory::Memory;

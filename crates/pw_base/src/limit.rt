@@ -17,6 +17,18 @@ pub const CHANNELS_LIMIT: u32 = 8;
 /// The most buffers of a link.
 pub const BUFFERS_LIMIT: u32 = 8;
 
+/// The most frames of a square's period.
+pub const PERIOD_LIMIT: u32 = 1_000_000;
+
+/// The most frames of a delay.
+pub const DELAY_LIMIT: u32 = 65_536;
+
+/// The greatest amplitude.
+pub const AMP_LIMIT: u32 = 32_767;
+
+/// The greatest gain without its sign, in 1/256.
+pub const GAIN_LIMIT: u32 = 32_767;
+
 /// The most bytes of a script.
 pub const SCRIPT_BYTES_LIMIT: u64 = 1_048_576;
 

@@ -1,4 +1,5 @@
-//! A gate that shows that two nodes run beside each other. A tool of tests: no clause speaks of its flags.
+//! A gate that shows that two nodes run beside each other. A tool of tests: no clause speaks of its
+//! flags.
 
 use crate::gate::Gate;
 use std::sync::atomic::{AtomicU64, Ordering};
@@ -39,8 +40,8 @@ impl Meet {
         self.met.load(Ordering::SeqCst) == 1
     }
 
-    // One of the two enters. Only its first entry into a cycle counts: it says so, looks for the other, and says where
-    // it found it.
+    // One of the two enters. Only its first entry into a cycle counts: it says so, looks for the
+    // other, and says where it found it.
     fn look(
         &self,
         mark: u64,

@@ -6,7 +6,8 @@ ghost use Rattle.pw_base.specs.Causes.{HasCause};
 use crate::files::FileFail;
 use std::alloc::Global;
 
-/// An output. Contracts see the bytes that were given, where that is told, and a count of faults that never falls.
+/// An output. Contracts see the bytes that were given, where that is told, and a count of faults
+/// that never falls.
 pub trait Sink {
     ghost use Rattle.pw_base.specs.Output.{Given};
 

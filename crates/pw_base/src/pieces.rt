@@ -11,11 +11,13 @@ fn piece_len(text: &[u8], mark: u8) -> usize
     text.iter().take_while(|b| **b != mark).count()
 }
 
-/// The first piece of a text, without the mark, and what follows the mark that ends it, if one does: a text has one
-/// piece more than marks. Takes no memory; cost: one look at each byte of the piece.
+/// The first piece of a text, without the mark, and what follows the mark that ends it, if one
+/// does: a text has one piece more than marks. Takes no memory; cost: one look at each byte of the
+/// piece.
 pub fn next_piece(text: &[u8], mark: u8) -> (&[u8], Option<&[u8]>)
     ensures pieces { slice_split (λ b. b == mark) text.now
-        ≡ result.0.now ∷ option_map_or (λ rest. slice_split (λ b. b == mark) rest.now) result.1 [] }
+        ≡ result.0.now ∷ option_map_or
+        (λ rest. slice_split (λ b. b == mark) rest.now) result.1 [] }
     ensures shorter { IfSome result.1 (λ rest. length rest.now < length text.now) }
 {
     let (piece, rest) = text.split_at(piece_len(text, mark));

@@ -12,7 +12,8 @@ pub struct PlanNode {
     pub kind: Kind,
     /// The number of the loop that it asks for.
     pub k: u32,
-    /// The rate in frames a second of the one input of a sink or meter at the script's end; 0 without a format and for other kinds.
+    /// The rate in frames a second of the one input of a sink or meter at the script's end; 0
+    /// without a format and for other kinds.
     pub rate: u32,
     /// The channels of that input, or 0.
     pub channels: u32,
@@ -26,7 +27,8 @@ pub struct PortForm {
     pub channels: u32,
 }
 
-/// A node that begins anew with an epoch: it gave up its formats, or the channels of its first input changed.
+/// A node that begins anew with an epoch: it gave up its formats, or the channels of its first
+/// input changed.
 #[derive(Clone, Copy, Debug, PartialEq, Eq, Drop)]
 pub struct Fresh {
     pub node: u32,
@@ -35,13 +37,23 @@ pub struct Fresh {
 }
 
 /// A run of cycles between which nothing in the graph changes.
-#[derive(Debug, Drop)]
+#[derive(Debug)]
 pub struct Epoch {
     pub shape: Shape,
     /// Every port of an active node that has a rate, ascending.
     pub forms: Items<PortForm>,
     /// Ascending.
     pub fresh: Items<Fresh>,
+}
+
+impl Drop for Epoch {
+    fn drop(self) {
+        let Epoch {
+            shape: _,
+            forms: _,
+            fresh: _,
+        } = self;
+    }
 }
 
 /// What a `link` or `unlink` line did.
@@ -73,10 +85,21 @@ pub struct LinkLine {
 }
 
 /// What a script asks for. A node's number is its place in `nodes`.
-#[derive(Debug, Drop)]
+#[derive(Debug)]
 pub struct Plan {
     pub quantum: u32,
     pub nodes: Items<PlanNode>,
     pub epochs: Items<Epoch>,
     pub lines: Items<LinkLine>,
+}
+
+impl Drop for Plan {
+    fn drop(self) {
+        let Plan {
+            quantum: _,
+            nodes: _,
+            epochs: _,
+            lines: _,
+        } = self;
+    }
 }

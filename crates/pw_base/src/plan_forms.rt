@@ -80,7 +80,8 @@ pub(crate) fn is_sink_at(plan: &Plan, node: u32) -> bool
 
 // Whether it is this form of the port.
 fn is_form(form: &PortForm, port: PortId, rate: u32, channels: u32) -> bool
-    ensures { IsTrue result ↔ (form.now ≡ record { port = port; rate = rate; channels = channels }) }
+    ensures { IsTrue result ↔ (form.now
+        ≡ record { port = port; rate = rate; channels = channels }) }
 {
     form.port == port && form.rate == rate && form.channels == channels
 }
@@ -103,7 +104,8 @@ fn has_some_form(epoch: &Epoch, port: PortId) -> bool
     epoch.forms.as_slice().iter().any(|form| form.port == port)
 }
 
-// Whether a form belongs to a port of an active node, with a rate and channels that the kind may have there.
+// Whether a form belongs to a port of an active node, with a rate and channels that the kind may
+// have there.
 fn is_sound_form(plan: &Plan, epoch: &Epoch, form: &PortForm) -> bool
     ensures { IsTrue result ↔ IsSoundForm plan.now epoch.now form.now }
 {
@@ -183,7 +185,8 @@ fn has_both_forms(epoch: &Epoch, from: PortId, to: PortId, channels: u32) -> boo
     })
 }
 
-// Whether a link goes from an output to an input, and both have forms of one rate and of the link's channels.
+// Whether a link goes from an output to an input, and both have forms of one rate and of the link's
+// channels.
 fn is_formed(plan: &Plan, epoch: &Epoch, link: &ShapeLink) -> bool
     ensures { IsTrue result ↔ IsFormed plan.now epoch.now link.now }
 {
@@ -236,8 +239,9 @@ fn are_whole(plan: &Plan, epoch: &Epoch, nodes: &[ShapeNode]) -> bool
     true
 }
 
-/// Whether the forms of an epoch are of ports once each, ascending, agree with one another and with their nodes' kinds,
-/// and are there for all ports of followers and both ends of links. Takes no memory.
+/// Whether the forms of an epoch are of ports once each, ascending, agree with one another and with
+/// their nodes' kinds, and are there for all ports of followers and both ends of links. Takes no
+/// memory.
 pub(crate) fn has_sound_forms(plan: &Plan, epoch: &Epoch) -> bool
     ensures { IsTrue result ↔ HasSoundForms plan.now epoch.now }
 {

@@ -77,8 +77,9 @@ fn all_name_well(plan: &Plan, epochs: &[Epoch]) -> bool
     true
 }
 
-/// Whether the epochs name nodes as fresh in order, and forms are kept in between. Takes no memory; cost: for each form
-/// and each later epoch up to the one that names its node, one look at each form and entry there.
+/// Whether the epochs name nodes as fresh in order, and forms are kept in between. Takes no memory;
+/// cost: for each form and each later epoch up to the one that names its node, one look at each
+/// form and entry there.
 pub(crate) fn has_sound_fresh(plan: &Plan) -> bool
     ensures { IsTrue result ↔ HasSoundFresh plan.now }
 {

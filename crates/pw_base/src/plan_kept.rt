@@ -120,7 +120,8 @@ fn keeps_epoch(plan: &Plan, i: usize) -> bool
 
 /// Whether each form of each epoch is kept and told.
 pub(crate) fn keeps_all(plan: &Plan) -> bool
-    ensures { IsTrue result ↔ ((i : ℕ) → i < length plan.now.epochs → KeepsEpoch plan.now i) }
+    ensures { IsTrue result ↔ ((i : ℕ) → i < length plan.now.epochs
+        → KeepsEpoch plan.now i) }
 {
     for i in 0..plan.epochs.len() {
         if !keeps_epoch(plan, i) {

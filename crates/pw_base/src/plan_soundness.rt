@@ -27,7 +27,8 @@ fn follow(epochs: &[Epoch]) -> bool
     true
 }
 
-// Whether a node's numbers are in range, and its rate and channels are 0 or those that a sink or meter may end with.
+// Whether a node's numbers are in range, and its rate and channels are 0 or those that a sink or
+// meter may end with.
 fn is_sound_node(node: &PlanNode) -> bool
     ensures { IsTrue result ↔ IsSoundNode node.now }
 {
@@ -81,7 +82,8 @@ fn has_sound_driver(plan: &Plan, epoch: &Epoch) -> bool
     epoch.shape.driver == DUMMY || is_sink_or_meter_at(plan, epoch.shape.driver)
 }
 
-// Whether an epoch's nodes are those of the plan, but for the dummy, which drives; else a sink or meter drives.
+// Whether an epoch's nodes are those of the plan, but for the dummy, which drives; else a sink or
+// meter drives.
 fn has_sound_places(plan: &Plan, epoch: &Epoch) -> bool
     ensures { IsTrue result ↔ HasSoundPlaces plan.now epoch.now }
 {
@@ -149,9 +151,10 @@ fn are_sound_epochs(plan: &Plan, epochs: &[Epoch]) -> bool
     true
 }
 
-/// Whether a plan is sound: its epochs follow one another, its shapes are pooled, its nodes, links and forms agree, nodes
-/// that begin anew are named, and the sums of the limits are kept. Takes no memory; cost: for each form and each later
-/// epoch up to the one that names its node, one look at each form and entry there; for each epoch that of `is_pooled_shape`.
+/// Whether a plan is sound: its epochs follow one another, its shapes are pooled, its nodes, links
+/// and forms agree, nodes that begin anew are named, and the sums of the limits are kept. Takes no
+/// memory; cost: for each form and each later epoch up to the one that names its node, one look at
+/// each form and entry there; for each epoch that of `is_pooled_shape`.
 pub fn is_sound_plan(plan: &Plan) -> bool
     ensures { IsTrue result ↔ IsSoundPlan plan.now }
 {

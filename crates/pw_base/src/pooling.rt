@@ -124,8 +124,8 @@ fn pool_of(alloc: Global, shape: &Shape, port: PortId) -> Result<PoolShape, Memo
     })
 }
 
-/// The pools of a shape, in the order of their numbers: ascending by node and port of the output. Cost: for each
-/// link one look at each port, and for each port one look at each link.
+/// The pools of a shape, in the order of their numbers: ascending by node and port of the output.
+/// Cost: for each link one look at each port, and for each port one look at each link.
 pub fn pools_of(alloc: Global, shape: &Shape) -> Result<Items<PoolShape>, Memory>
     requires { IsPooledShape shape.now }
     ensures { IfOk result (λ pools. pools ≡ pools_of shape.now) }
@@ -164,7 +164,8 @@ fn all_alike(links: &[ShapeLink]) -> bool
     true
 }
 
-/// Whether a shape is pooled: sound, and all links from one output port have the same channels. Takes no memory.
+/// Whether a shape is pooled: sound, and all links from one output port have the same channels.
+/// Takes no memory.
 pub fn is_pooled_shape(shape: &Shape) -> bool
     ensures { IsTrue result ↔ IsPooledShape shape.now }
 {

@@ -19,7 +19,10 @@ impl<T> Model for Room<T> {
 
     ghost coded = { listed_code T.code };
 
-    ghost view = { λ it. record { list = it.inner.items; spare = vec_capacity it.inner - vec_len it.inner } };
+    ghost view = { λ it. record {
+      list = it.inner.items;
+      spare = vec_capacity it.inner - vec_len it.inner;
+    } };
 }
 
 impl<T> Room<T> {

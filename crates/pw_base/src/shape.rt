@@ -22,8 +22,9 @@ pub struct ShapeLink {
     pub delayed: bool,
 }
 
-/// An epoch of `cycles` cycles, the first of which has the number `first`, with `quantum` frames each.
-#[derive(Debug, Drop)]
+/// An epoch of `cycles` cycles, the first of which has the number `first`, with `quantum` frames
+/// each.
+#[derive(Debug)]
 pub struct Shape {
     pub quantum: u32,
     pub first: u32,
@@ -33,4 +34,17 @@ pub struct Shape {
     pub nodes: Items<ShapeNode>,
     /// Numbered by place.
     pub links: Items<ShapeLink>,
+}
+
+impl Drop for Shape {
+    fn drop(self) {
+        let Shape {
+            quantum: _,
+            first: _,
+            cycles: _,
+            driver: _,
+            nodes: _,
+            links: _,
+        } = self;
+    }
 }

@@ -58,7 +58,8 @@ fn has_sound_nodes(shape: &Shape) -> bool
     ascends(nodes) && nodes.iter().all(|n| n.node <= DUMMY) && has_node(shape, shape.driver)
 }
 
-// Whether a link joins two different active nodes, does not start at the driver, and has channels and buffers.
+// Whether a link joins two different active nodes, does not start at the driver, and has channels
+// and buffers.
 fn is_sound_link(shape: &Shape, link: &ShapeLink) -> bool
     ensures { IsTrue result ↔ IsSoundLink shape.now link.now }
 {
@@ -127,9 +128,10 @@ fn all_counted(shape: &Shape) -> bool
     shape.nodes.as_slice().iter().all(|n| is_counted(shape, n))
 }
 
-/// Whether a shape is sound: its numbers are in range, its nodes ascend and hold the driver, required counts and
-/// targets are those of its links that are not delayed, and these have no loop. Takes no memory; cost: for each pair
-/// of nodes and each pair of links one look, and for each pair of nodes one look at each link.
+/// Whether a shape is sound: its numbers are in range, its nodes ascend and hold the driver,
+/// required counts and targets are those of its links that are not delayed, and these have no loop.
+/// Takes no memory; cost: for each pair of nodes and each pair of links one look, and for each pair
+/// of nodes one look at each link.
 pub fn is_sound_shape(shape: &Shape) -> bool
     ensures { IsTrue result ↔ IsSoundShape shape.now }
 {

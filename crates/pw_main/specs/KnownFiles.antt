@@ -1,4 +1,5 @@
--- What a load reads from a file, and a store or a put writes, where the bytes of the one or the other are known.
+-- What a load reads from a file, and a store or a put writes, where the bytes of the one or the
+-- other are known.
 -- Source: POSIX, read() and write(): each may take fewer bytes than it is asked for.
 use Rattle.std.specs.Prelude.{◌≡◌, ℕ, ◌<◌, List, length, take, Option, Some, None, Result, Ok, Err}
 use Rattle.std.specs.Io.KnownBytes.{Appends}
@@ -18,6 +19,7 @@ ReadsFile None limit result = Unit {0}
 ReadsFile (Some held) limit result = IsWholeOrLong held limit result
 
 -- all bytes are written, in order; after a failure, the first of them
-abbrev pub WritesWhole : Option (List ℕ) → Option (List ℕ) → List ℕ → Result (Unit {0}) FileFail → Type 0
+abbrev pub WritesWhole : Option (List ℕ) → Option (List ℕ) → List ℕ
+    → Result (Unit {0}) FileFail → Type 0
 WritesWhole old new bytes (Ok done) = Appends old new bytes
 WritesWhole old new bytes (Err fail) = (kept : ℕ) × Appends old new (take kept bytes)

@@ -1,4 +1,5 @@
-//! The files of the system. They tell nothing of what they hold; a call that fails raises its count.
+//! The files of the system. They tell nothing of what they hold; a call that fails raises its
+//! count.
 ghost use Rattle.std.specs.Prelude.{◌≡◌, ℕ, ◌+◌, ◌≤◌, ◌<◌, ◌^◌, ◌++◌, [], take, length, IfOk};
 ghost use Rattle.std.specs.Io.KnownBytes.{Consumes, IsAtEnd};
 ghost use Rattle.pw_base.specs.Files.{IsWithin};
@@ -56,10 +57,15 @@ fn read_more<F: Read>(
     bytes: &mut Items<u8>,
 ) -> Result<usize, FileFail>
     ensures bound { IfOk result (λ n. n ≤ length chunk.old) }
-    // What is appended comes from the front of what the file has left; nothing comes only at its end.
-    ensures more { IfOk result (λ n. (length chunk.new ≡ length chunk.old) × (bytes.new ≡ bytes.old ++ take n chunk.new)) }
-    ensures taken { IfOk result (λ n. Consumes (F.remaining file.old) (F.remaining file.new) (take n chunk.new)) }
-    ensures end { IfOk result (λ n. n ≡ 0 → 0 < length chunk.old → IsAtEnd (F.remaining file.new)) }
+    // What is appended comes from the front of what the file has left; nothing comes only at its
+    // end.
+    ensures more { IfOk result
+        (λ n. (length chunk.new ≡ length chunk.old)
+        × (bytes.new ≡ bytes.old ++ take n chunk.new)) }
+    ensures taken { IfOk result
+        (λ n. Consumes (F.remaining file.old) (F.remaining file.new) (take n chunk.new)) }
+    ensures end { IfOk result (λ n. n ≡ 0 → 0 < length chunk.old
+        → IsAtEnd (F.remaining file.new)) }
 {
     match file.read(chunk) {
         Ok(n) => match bytes.extend(&chunk[..n]) {

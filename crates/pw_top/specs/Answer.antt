@@ -6,7 +6,8 @@ use Rattle.pw_top.specs.declared.status.Status.{Status}
 use Rattle.pw_top.specs.declared.status.Status.TheVariants as S
 use Rattle.pw_top.specs.declared.work.Work.{Work}
 
--- what a part of a command does up to its end: the places of its loads, in order, and what it gives or how it refuses
+-- what a part of a command does up to its end: the places of its loads, in order, and what it gives
+-- or how it refuses
 pub record Expected (T : Type 0) : Type 0 where
   pub loads : List ℕ
   pub outcome : Result T Status
@@ -27,11 +28,13 @@ gone_on loads rest = record { loads = loads ++ rest.loads; outcome = rest.outcom
 
 -- what a load gives where it does not fail
 abbrev pub whole_or_long : List ℕ → ℕ → ℕ → Which → Result (List ℕ) Status
-whole_or_long bytes limit place which = if nat_le (length bytes) limit then Ok bytes else Err (S.Limit place which)
+whole_or_long bytes limit place which = if nat_le (length bytes) limit then Ok bytes
+    else Err (S.Limit place which)
 
 abbrev pub load_of_some : Option (List ℕ) → ℕ → ℕ → Which → Result (List ℕ) Status
 load_of_some None limit place which = Err (S.Absent place)
 load_of_some (Some bytes) limit place which = whole_or_long bytes limit place which
 
-unfoldable pub load_outcome : Names → ℕ → List ℕ → ℕ → Which → Result (List ℕ) Status
+unfoldable pub load_outcome : Names → ℕ → List ℕ → ℕ → Which
+    → Result (List ℕ) Status
 load_outcome names place name limit which = load_of_some (names name) limit place which

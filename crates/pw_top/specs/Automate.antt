@@ -1,5 +1,6 @@
--- The expected answer of `automate IN SEQ OUT`: a wave and a control sequence are loaded and read, one after the other;
--- the wave by the sequence's gains is stored. Source: this project's; PipeWire's documentation, "SPA POD".
+-- The expected answer of `automate IN SEQ OUT`: a wave and a control sequence are loaded and read,
+-- one after the other; the wave by the sequence's gains is stored. Source: this project's;
+-- PipeWire's documentation, "SPA POD".
 use Rattle.std.specs.Prelude.{◌≡◌, ℕ, ◌/◌, List, [], ◌∷◌, ◌++◌, length, codes, Result, Ok, Err}
 use Rattle.pw_base.specs.Files.{Names}
 use Rattle.pw_base.specs.Limits.{wav_bytes_limit}
@@ -56,17 +57,21 @@ automate_work out wav points = record {
 
 -- THE ANSWER: the sequence is loaded only where the first file is a wave
 abbrev pub AutomatesWave : List ℕ → Wav → Points → Answer → Type 0
-AutomatesWave out wav points = Reads (λ outcome. outcome ≡ Ok (automate_work out wav points.items))
+AutomatesWave out wav points = Reads
+    (λ outcome. outcome ≡ Ok (automate_work out wav points.items))
 
 abbrev pub ReadsPoints : List ℕ → Wav → List ℕ → Answer → Type 0
 ReadsPoints out wav bytes = Binds (Reads (HoldsPoints 2 bytes)) (AutomatesWave out wav)
 
 abbrev pub LoadsPoints : Names → List ℕ → List ℕ → Wav → Answer → Type 0
-LoadsPoints names seq out wav = Binds (IsLoad names 2 seq pod_file_limit W.PodBytes) (ReadsPoints out wav)
+LoadsPoints names seq out wav = Binds (IsLoad names 2 seq pod_file_limit W.PodBytes)
+    (ReadsPoints out wav)
 
 abbrev pub ReadsWave : Names → List ℕ → List ℕ → List ℕ → Answer → Type 0
 ReadsWave names seq out bytes =
-    Binds (Reads (λ outcome. outcome ≡ wave_outcome 1 (wav_of bytes))) (LoadsPoints names seq out)
+    Binds (Reads (λ outcome. outcome ≡ wave_outcome 1 (wav_of bytes)))
+    (LoadsPoints names seq out)
 
 abbrev pub IsAutomateAnswer : Names → List ℕ → List ℕ → List ℕ → Answer → Type 0
-IsAutomateAnswer names input seq out = Binds (IsLoad names 1 input wav_bytes_limit W.WavBytes) (ReadsWave names seq out)
+IsAutomateAnswer names input seq out = Binds (IsLoad names 1 input wav_bytes_limit W.WavBytes)
+    (ReadsWave names seq out)

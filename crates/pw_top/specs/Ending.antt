@@ -1,5 +1,5 @@
--- How a part of a command ends: as an answer that is allowed, at a load of it that failed, or for want of memory; and
--- with which cause.
+-- How a part of a command ends: as an answer that is allowed, at a load of it that failed, or for
+-- want of memory; and with which cause.
 use Rattle.std.specs.Prelude.{◌≡◌, ℕ, Bool, true, false, ◌<◌, Result, Ok, Err, All, Contains}
 use Rattle.pw_base.specs.Causes.{Rose}
 use Rattle.wav_files.specs.WavWriting.{IsWave}
@@ -39,12 +39,14 @@ IsRefusal before now (S.ReadFault place) = Rose before now
 IsRefusal before now (S.WriteFault place) = ⊥
 IsRefusal before now _ = Unit {0}
 
-abbrev pub PrepareCause : {T : Type 0} → (T → Type 0) → ℕ → ℕ → Result T Status → Type 0
+abbrev pub PrepareCause : {T : Type 0} → (T → Type 0) → ℕ → ℕ → Result T Status
+    → Type 0
 PrepareCause P before now (Ok x) = P x
 PrepareCause P before now (Err status) = IsRefusal before now status
 
 -- the same of a command, whose words were right
-abbrev pub CommandCause : {T : Type 0} → (T → Type 0) → ℕ → ℕ → Result T Status → Type 0
+abbrev pub CommandCause : {T : Type 0} → (T → Type 0) → ℕ → ℕ → Result T Status
+    → Type 0
 CommandCause P before now (Ok x) = P x
 CommandCause P before now (Err (S.Usage word)) = ⊥
 CommandCause P before now (Err status) = IsRefusal before now status

@@ -1,5 +1,6 @@
--- The expected answer of `filter A B OUT`: two objects are loaded and read as formats, one after the other; what
--- they have in common is stored as an object in its one spelling. PipeWire's documentation, "SPA POD"; spa/pod/filter.h.
+-- The expected answer of `filter A B OUT`: two objects are loaded and read as formats, one after
+-- the other; what they have in common is stored as an object in its one spelling. PipeWire's
+-- documentation, "SPA POD"; spa/pod/filter.h.
 use Rattle.std.specs.Prelude.{◌≡◌, ℕ, List, [], ◌∷◌, ◌++◌, codes, Result, Ok, Err}
 use Rattle.pw_base.specs.Files.{Names}
 use Rattle.pw_base.specs.declared.limit.Which.TheVariants as W
@@ -42,12 +43,14 @@ StoresObject out pod (Err status) = (IsWritable pod → ⊥) × (status ≡ S.Li
 
 -- what the filter of two formats gives
 abbrev pub GivesFiltered : List ℕ → Filtered → Result Work Status → Type 0
-GivesFiltered out (Common format) outcome = (pod : Pod) × IsWritten format pod × StoresObject out pod outcome
+GivesFiltered out (Common format) outcome = (pod : Pod) × IsWritten format pod
+    × StoresObject out pod outcome
 GivesFiltered out (Clash key) outcome = outcome ≡ Ok (clash_work key)
 GivesFiltered out Types outcome = outcome ≡ Ok types_work
 
 abbrev pub FiltersTo : List ℕ → Format → Format → Result Work Status → Type 0
-FiltersTo out a b outcome = (filtered : Filtered) × Filters a b filtered × GivesFiltered out filtered outcome
+FiltersTo out a b outcome = (filtered : Filtered) × Filters a b filtered
+    × GivesFiltered out filtered outcome
 
 -- THE ANSWER: a second file is loaded only where the first is a format
 abbrev pub FiltersSecond : List ℕ → Format → Format → Answer → Type 0
@@ -57,10 +60,12 @@ abbrev pub ReadsSecond : List ℕ → Format → List ℕ → Answer → Type 0
 ReadsSecond out first bytes = Binds (Reads (HoldsFormat 2 bytes)) (FiltersSecond out first)
 
 abbrev pub LoadsSecond : Names → List ℕ → List ℕ → Format → Answer → Type 0
-LoadsSecond names b out first = Binds (IsLoad names 2 b pod_file_limit W.PodBytes) (ReadsSecond out first)
+LoadsSecond names b out first = Binds (IsLoad names 2 b pod_file_limit W.PodBytes)
+    (ReadsSecond out first)
 
 abbrev pub ReadsFirst : Names → List ℕ → List ℕ → List ℕ → Answer → Type 0
 ReadsFirst names b out bytes = Binds (Reads (HoldsFormat 1 bytes)) (LoadsSecond names b out)
 
 abbrev pub IsFilterAnswer : Names → List ℕ → List ℕ → List ℕ → Answer → Type 0
-IsFilterAnswer names a b out = Binds (IsLoad names 1 a pod_file_limit W.PodBytes) (ReadsFirst names b out)
+IsFilterAnswer names a b out = Binds (IsLoad names 1 a pod_file_limit W.PodBytes)
+    (ReadsFirst names b out)

@@ -27,7 +27,7 @@ stored_all stores names = fold stored_one names stores
 abbrev pub AllStored : List Store → Held → Held → Type 0
 AllStored stores old new = new ≡ option_map (stored_all stores) old
 
--- the stores before one are whole, that one has this place and a prefix of its bytes, the later ones are not made
+-- the stores before one are whole, it has this place and a prefix of its bytes, none is later
 pub record CutAt (stores : List Store) (place : ℕ) (old new : Held) : Type 0 where
   pub before : ℕ
   pub store : Store
@@ -64,7 +64,8 @@ StatusFollows a status = status_of a.outcome ≡ status
 
 abbrev pub FilesFollow : List Store → ℕ → ℕ → Held → Held → Status → Type 0
 FilesFollow stores before now old new S.Ok = AllStored stores old new
-FilesFollow stores before now old new (S.WriteFault place) = (place ≡ 0 → AllStored stores old new)
+FilesFollow stores before now old new (S.WriteFault place) =
+    (place ≡ 0 → AllStored stores old new)
     × (place ≢ 0 → CutAt stores place old new)
 FilesFollow stores before now old new S.Memory = ((i : ℕ) × AllStored (take i stores) old new)
     ⊎ ((place : ℕ) × CutAt stores place old new × Rose before now)

@@ -1,5 +1,4 @@
--- What the lines of a script load, in order: each file at its line, by a limit that the loads before it leave.
--- Source: this project's script grammar and limits.
+-- The loads of a script's lines, each by the limit that earlier ones leave: this project's grammar.
 use Rattle.std.specs.Prelude.{◌≡◌, ℕ, ◌-◌, List, [], ◌∷◌, length, Result, Ok, Err, nat_lt, if◌then◌else◌}
 use Rattle.pw_base.specs.declared.ids.PortId.{PortId}
 use Rattle.pw_base.specs.declared.limit.Which.{Which}
@@ -29,10 +28,12 @@ use Rattle.pw_top.specs.Stocking.{with_wave, plain_kind, with_plain}
 
 -- the limit of a WAV file after so many bytes of others: its own, or what all of them leave
 abbrev pub wav_limit : ℕ → ℕ
-wav_limit used = if nat_lt (all_wav_bytes_limit - used) wav_bytes_limit then all_wav_bytes_limit - used else wav_bytes_limit
+wav_limit used = if nat_lt (all_wav_bytes_limit - used) wav_bytes_limit
+    then all_wav_bytes_limit - used else wav_bytes_limit
 
 abbrev pub wav_which : ℕ → Which
-wav_which used = if nat_lt (all_wav_bytes_limit - used) wav_bytes_limit then W.AllWavBytes else W.WavBytes
+wav_which used = if nat_lt (all_wav_bytes_limit - used) wav_bytes_limit then W.AllWavBytes
+    else W.WavBytes
 
 -- a `source` line: its file is a wave, with which the node is made
 abbrev pub TakesWave : ℕ → Stock → ℕ → Wav → Expected Stock → Type 0
@@ -40,11 +41,13 @@ TakesWave node stock size wav = Reads (λ outcome. outcome ≡ Ok (with_wave sto
 
 abbrev pub ReadsSource : ℕ → ℕ → Stock → List ℕ → Expected Stock → Type 0
 ReadsSource place node stock bytes =
-    Binds (Reads (λ outcome. outcome ≡ wave_outcome place (wav_of bytes))) (TakesWave node stock (length bytes))
+    Binds (Reads (λ outcome. outcome ≡ wave_outcome place (wav_of bytes)))
+    (TakesWave node stock (length bytes))
 
 abbrev pub LoadsSource : Names → ℕ → ℕ → List ℕ → Stock → Expected Stock → Type 0
 LoadsSource names place node file stock =
-    Binds (IsLoad names place file (wav_limit stock.used) (wav_which stock.used)) (ReadsSource place node stock)
+    Binds (IsLoad names place file (wav_limit stock.used) (wav_which stock.used))
+    (ReadsSource place node stock)
 
 -- an `offer` line: its file is an object, by which the port's own offer is narrowed
 abbrev pub narrowed_outcome : ℕ → Stock → Narrowed → List Node → Result Stock Status
@@ -53,14 +56,16 @@ narrowed_outcome place stock N.NotFormat later = Err (S.Pod place P.NotFormat)
 narrowed_outcome place stock (N.Clash key) later = Err (S.Pod place (P.Clash key))
 
 abbrev pub NarrowsTo : ℕ → PortId → Stock → Format → Result Stock Status → Type 0
-NarrowsTo place port stock format outcome = (narrowed : Narrowed) × (later : List Node)
-    × Narrows stock.ports port format narrowed later × (outcome ≡ narrowed_outcome place stock narrowed later)
+NarrowsTo place port stock format outcome = (did : Narrowed) × (later : List Node)
+    × Narrows stock.ports port format did later
+    × (outcome ≡ narrowed_outcome place stock did later)
 
 abbrev pub ReadsOffer : ℕ → PortId → Stock → List ℕ → Expected Stock → Type 0
 ReadsOffer place port stock bytes =
     Binds (Reads (HoldsFormat place bytes)) (λ format. Reads (NarrowsTo place port stock format))
 
-abbrev pub LoadsOffer : Names → ℕ → PortId → List ℕ → Stock → Expected Stock → Type 0
+abbrev pub LoadsOffer : Names → ℕ → PortId → List ℕ → Stock → Expected Stock
+    → Type 0
 LoadsOffer names place port file stock =
     Binds (IsLoad names place file pod_file_limit W.PodBytes) (ReadsOffer place port stock)
 
@@ -68,7 +73,7 @@ LoadsOffer names place port file stock =
 abbrev pub LoadsLine : Names → ℕ → Command → Stock → Expected Stock → Type 0
 LoadsLine names place (C.Source node file) stock = LoadsSource names place node file stock
 LoadsLine names place (C.Offer port file) stock = LoadsOffer names place port file stock
-LoadsLine names place command stock = Reads (λ outcome. outcome ≡ Ok (with_plain stock (plain_kind command)))
+LoadsLine names place other stock = Reads (λ o. o ≡ Ok (with_plain stock (plain_kind other)))
 
 -- ALL LOADS of a script
 abbrev pub LoadsAll : Names → List Line → Stock → Expected Stock → Type 0

@@ -20,7 +20,11 @@ use Rattle.pw_top.specs.SinkStores.{sink_store}
 
 -- what a plan gives from its waves, without a history
 abbrev pub rendered : Plan → List WavIn → Outcome
-rendered plan waves = record { history = []; sinks = rendered_sinks plan waves; peaks = rendered_peaks plan waves }
+rendered plan waves = record {
+  history = [];
+  sinks = rendered_sinks plan waves;
+  peaks = rendered_peaks plan waves;
+}
 
 -- THE WORK of a plan
 abbrev pub plan_work : Script → List WavIn → Plan → Work

@@ -1,4 +1,5 @@
--- A file that holds one POD: its value, or why it is refused at a place. A file may not go on behind its POD.
+-- A file that holds one POD: its value, or why it is refused at a place. A file may not go on
+-- behind its POD.
 use Rattle.std.specs.Prelude.{◌≡◌, ◌⊎◌, ℕ, ◌<◌, List, length, Result, Ok, Err}
 use Rattle.pod_codec.specs.declared.pod.Pod.{Pod}
 use Rattle.pod_codec.specs.declared.fault.PodFault.{PodFault}
@@ -26,11 +27,13 @@ pod_refusal place F.Memory = S.Memory
 
 -- the bytes spell no POD, and this is their first fault
 abbrev pub IsNoPod : ℕ → List ℕ → Status → Type 0
-IsNoPod place bytes status = (fault : PodFault) × IsFirstFault bytes fault × (status ≡ pod_refusal place fault)
+IsNoPod place bytes status = (fault : PodFault) × IsFirstFault bytes fault
+    × (status ≡ pod_refusal place fault)
 
 -- their front spells a POD, and bytes stand behind it
 abbrev pub HasRest : ℕ → List ℕ → Status → Type 0
-HasRest place bytes status = (pod : Pod) × (size : ℕ) × FrontSpells bytes pod size × (size < length bytes)
+HasRest place bytes status = (pod : Pod) × (size : ℕ) × FrontSpells bytes pod size
+    × (size < length bytes)
     × (status ≡ S.Pod place (P.Rest size))
 
 -- THE VALUE of a file that is one POD: all its bytes spell it; else why it is refused
@@ -39,10 +42,13 @@ HoldsPod place bytes (Ok pod) = FrontSpells bytes pod (length bytes)
 HoldsPod place bytes (Err status) = IsNoPod place bytes status ⊎ HasRest place bytes status
 
 -- what a file's one value is read as, where it has one
-abbrev pub IsReadFrom : {T : Type 0} → (Pod → Result T Status → Type 0) → Result Pod Status → Result T Status → Type 0
+abbrev pub IsReadFrom : {T : Type 0} → (Pod → Result T Status → Type 0) → Result Pod Status
+    → Result T Status → Type 0
 IsReadFrom As (Ok pod) outcome = As pod outcome
 IsReadFrom As (Err status) outcome = outcome ≡ Err status
 
 -- WHAT A FILE HOLDS, by what its one value is read as
-abbrev pub HoldsAs : {T : Type 0} → (Pod → Result T Status → Type 0) → ℕ → List ℕ → Result T Status → Type 0
-HoldsAs As place bytes outcome = (read : Result Pod Status) × HoldsPod place bytes read × IsReadFrom As read outcome
+abbrev pub HoldsAs : {T : Type 0} → (Pod → Result T Status → Type 0) → ℕ → List ℕ
+    → Result T Status → Type 0
+HoldsAs As place bytes outcome = (read : Result Pod Status) × HoldsPod place bytes read
+    × IsReadFrom As read outcome

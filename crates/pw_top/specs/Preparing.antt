@@ -5,12 +5,14 @@ use Rattle.pw_top.specs.declared.status.Status.{Status}
 use Rattle.pw_top.specs.Answer.{Expected}
 use Rattle.pw_top.specs.Ending.{Ends}
 
--- what is held stays, the count of failed loads did not fall, and no store failed; each before and after
+-- what is held stays, the count of failed loads did not fall, and no store failed; each before and
+-- after
 pub record LoadsOnly (names names' : Held) (faults faults' made made' : ℕ) : Type 0 where
   pub held : names' ≡ names
   pub later : faults ≤ faults'
   pub stores : made' ≡ made
 
 -- where it is told what the files hold, the result is the end of an answer that this allows
-abbrev pub Tells : {T : Type 0} → Held → (Names → Expected T → Type 0) → Result T Status → Type 0
+abbrev pub Tells : {T : Type 0} → Held → (Names → Expected T → Type 0) → Result T Status
+    → Type 0
 Tells held P result = IsSome held → Ends (P (names_in held)) result

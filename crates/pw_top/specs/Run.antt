@@ -1,4 +1,5 @@
--- The expected answer of `run SCRIPT`: the script, what its lines load, its plan, and what that is rendered to.
+-- The expected answer of `run SCRIPT`: the script, what its lines load, its plan, and what that is
+-- rendered to.
 -- Source: this project's.
 use Rattle.std.specs.Prelude.{◌≡◌, ℕ, List}
 use Rattle.pw_base.specs.Files.{Names}
@@ -18,8 +19,10 @@ abbrev pub RunsScript : Names → Script → Answer → Type 0
 RunsScript names script = Binds (LoadsAll names script.lines nothing_loaded) (PlansStock script)
 
 abbrev pub ReadsScript : Names → List ℕ → Answer → Type 0
-ReadsScript names bytes = Binds (Reads (λ outcome. outcome ≡ script_outcome (script_of bytes))) (RunsScript names)
+ReadsScript names bytes = Binds (Reads (λ outcome. outcome ≡ script_outcome (script_of bytes)))
+    (RunsScript names)
 
 -- THE ANSWER: the script is loaded and read, then what it asks for
 abbrev pub IsRunAnswer : Names → List ℕ → Answer → Type 0
-IsRunAnswer names word = Binds (IsLoad names 0 word script_bytes_limit W.ScriptBytes) (ReadsScript names)
+IsRunAnswer names word = Binds (IsLoad names 0 word script_bytes_limit W.ScriptBytes)
+    (ReadsScript names)

@@ -1,4 +1,5 @@
--- The stores of a script's sinks: each kept wave at the line and under the file name of its `sink` command.
+-- The stores of a script's sinks: each kept wave at the line and under the file name of its `sink`
+-- command.
 -- Source: this project's script grammar.
 use Rattle.std.specs.Prelude.{ℕ, ◌<◌, ◌==◌, All, Bool, false, List, [], find, Option, Some, None}
 use Rattle.pw_base.specs.declared.kind.Kind.{Kind}
@@ -44,4 +45,5 @@ sink_store lines kept = record {
 
 -- what is kept has a line, whose number is never that of the text
 abbrev pub AllPlaced : List Line → Plan → List WavIn → Type 0
-AllPlaced lines plan waves = All (λ kept. 0 < place_of (sink_line_of lines kept.node)) (rendered_sinks plan waves)
+AllPlaced lines plan waves = All (λ kept. 0 < place_of (sink_line_of lines kept.node))
+    (rendered_sinks plan waves)

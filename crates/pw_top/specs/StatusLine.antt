@@ -1,4 +1,5 @@
--- The line of a status: its word, its place and its numbers, plain decimal, words parted by one space.
+-- The line of a status: its word, its place and its numbers, plain decimal, words parted by one
+-- space.
 use Rattle.std.specs.Prelude.{ℕ, ◌==◌, Bool, true, false, not, List, [], ◌∷◌, ◌++◌, codes, decimal}
 use Rattle.pw_base.specs.Limits.{which_number}
 use Rattle.graph_script.specs.declared.fault.ScriptWhy.{ScriptWhy}

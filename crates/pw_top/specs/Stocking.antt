@@ -1,5 +1,5 @@
--- Stock: the nodes that the lines of a script have made so far, with what their ports offer, and the waves of their
--- sources. Source: this project's script grammar.
+-- Stock: the nodes that the lines of a script have made so far, with what their ports offer, and
+-- the waves of their sources. Source: this project's script grammar.
 use Rattle.std.specs.Prelude.{◌≡◌, ℕ, ◌+◌, ◌<◌, ◌≤◌, List, [], ◌∷◌, ◌++◌, map, Option, Some, None, All, length, IfSome, option_map, option_to_list}
 use Rattle.pw_base.specs.declared.kind.Kind.{Kind}
 use Rattle.pw_base.specs.declared.kind.Kind.TheVariants as K
@@ -60,7 +60,8 @@ pub record IsSoundStock (stock : Stock) : Type 0 where
 -- sound after a line too, with the node that it made behind the others
 pub record IsStockAfter (stock : Stock) (made : Option Kind) (after : Stock) : Type 0 where
   pub sound : IsSoundStock after
-  pub kinds : map (λ n. n.kind) after.ports ≡ map (λ n. n.kind) stock.ports ++ option_to_list made
+  pub kinds : map (λ n. n.kind) after.ports
+      ≡ map (λ n. n.kind) stock.ports ++ option_to_list made
 
 -- what all lines of a script leave: what a plan asks of ports and waves
 pub record IsStockOf (lines : List Line) (stock : Stock) : Type 0 where

@@ -1,5 +1,5 @@
--- The grammar of command lines: so far `run SCRIPT`, `dump FILE`, `filter A B OUT` and `automate IN SEQ OUT`. Of words
--- outside it, the first at fault; where more are wanted, their number.
+-- The grammar of command lines: so far `run SCRIPT`, `dump FILE`, `filter A B OUT` and `automate IN
+-- SEQ OUT`. Of words outside it, the first at fault; where more are wanted, their number.
 use Rattle.std.specs.Prelude.{◌≡◌, ℕ, ◌==◌, ◌&&◌, Bool, false, not, nat_le, if◌then◌else◌, List, [], ◌∷◌, length, codes, bytes_eq}
 use Rattle.std.specs.Prelude.{Result, Ok, Err}
 use Rattle.pw_top.specs.declared.status.Status.{Status}
@@ -18,9 +18,11 @@ is_file_word [] = false
 is_file_word (c ∷ cs) = not (c == 45) && nat_le (length (c ∷ cs)) 255
 
 -- the word at an index names a file, and what comes next
-abbrev pub then_file : {T : Type 0} → ℕ → Words → (List ℕ → Words → Result T Status) → Result T Status
+abbrev pub then_file : {T : Type 0} → ℕ → Words → (List ℕ → Words → Result T Status)
+    → Result T Status
 then_file index [] next = Err (S.Usage index)
-then_file index (file ∷ rest) next = if is_file_word file then next file rest else Err (S.Usage index)
+then_file index (file ∷ rest) next = if is_file_word file then next file rest
+    else Err (S.Usage index)
 
 -- nothing stands from an index on
 abbrev pub then_nothing : {T : Type 0} → ℕ → Words → T → Result T Status
@@ -33,7 +35,8 @@ one_file words = then_file 1 words (λ file rest. then_nothing 2 rest file)
 
 unfoldable pub three_files : Words → Result FileWords Status
 three_files words = then_file 1 words (λ a bs. then_file 2 bs
-    (λ b outs. then_file 3 outs (λ c rest. then_nothing 4 rest (record { first = a; second = b; third = c }))))
+    (λ b outs. then_file 3 outs
+    (λ c rest. then_nothing 4 rest (record { first = a; second = b; third = c }))))
 
 abbrev pub run_of : Result (List ℕ) Status → Result CommandLine Status
 run_of (Ok script) = Ok (C.Run (record { script = script }))
@@ -58,7 +61,8 @@ command_of (name ∷ rest) =
     if bytes_eq name (codes "run") then run_of (one_file rest)
     else (if bytes_eq name (codes "dump") then dump_of (one_file rest)
     else (if bytes_eq name (codes "filter") then filter_of (three_files rest)
-    else (if bytes_eq name (codes "automate") then automate_of (three_files rest) else Err (S.Usage 0))))
+    else (if bytes_eq name (codes "automate") then automate_of (three_files rest)
+    else Err (S.Usage 0))))
 
 -- the words were read as they should, or memory was short
 abbrev pub IsRead : {T : Type 0} → Result T Status → Result T Status → Type 0

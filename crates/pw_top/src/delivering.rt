@@ -38,7 +38,8 @@ fn store_one<F: Files>(
     content: &Content,
 ) -> Result<(), FileFail>
     requires { CanBeWritten content.now }
-    ensures held { IsStored name.now (bytes_of content.now) (F.held files.old) (F.held files.new) result }
+    ensures held { IsStored name.now (bytes_of content.now) (F.held files.old)
+        (F.held files.new) result }
     ensures later { F.store_faults files.old ≤ F.store_faults files.new }
     ensures cause { HasCause (F.store_faults files.old) (F.store_faults files.new) result }
     ensures loads { F.load_faults files.new ≡ F.load_faults files.old }
@@ -102,7 +103,8 @@ pub fn put_text<O: Sink>(alloc: Global, out: &mut O, text: &[u8]) -> Result<(), 
     Ok(())
 }
 
-/// Puts the line of a status that has one. A put that fails leaves the status, and want of memory is the status then.
+/// Puts the line of a status that has one. A put that fails leaves the status, and want of memory
+/// is the status then.
 pub fn end_line<O: Sink>(alloc: Global, out: &mut O, status: Status) -> Status
     ensures ends { LineEnds status (O.faults out.old) (O.faults out.new) (O.given out.old)
         (O.given out.new) result }

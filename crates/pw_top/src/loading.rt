@@ -19,7 +19,8 @@ pub fn load_step<F: Files>(
 ) -> Result<Items<u8>, Status>
     ensures files { LoadsOnly (F.held files.old) (F.held files.new) (F.load_faults files.old)
         (F.load_faults files.new) (F.store_faults files.old) (F.store_faults files.new) }
-    ensures told { Tells (F.held files.old) (λ names. IsLoad names place name.now limit which) result }
+    ensures told { Tells (F.held files.old)
+        (λ names. IsLoad names place name.now limit which) result }
     ensures cause { CommandCause (λ bytes. length bytes ≤ limit) (F.load_faults files.old)
         (F.load_faults files.new) result }
 {

@@ -130,7 +130,8 @@ fn load_source<F: Files>(
     requires room { length stock.ports < 63 }
     ensures files { LoadsOnly (F.held files.old) (F.held files.new) (F.load_faults files.old)
         (F.load_faults files.new) (F.store_faults files.old) (F.store_faults files.new) }
-    ensures told { Tells (F.held files.old) (λ names. LoadsSource names place node file.now stock) result }
+    ensures told { Tells (F.held files.old)
+        (λ names. LoadsSource names place node file.now stock) result }
     ensures cause { CommandCause (IsStockAfter stock (Some K.Source)) (F.load_faults files.old)
         (F.load_faults files.new) result }
 {
@@ -197,7 +198,8 @@ fn load_offer<F: Files>(
     requires port { IsPort stock.ports port }
     ensures files { LoadsOnly (F.held files.old) (F.held files.new) (F.load_faults files.old)
         (F.load_faults files.new) (F.store_faults files.old) (F.store_faults files.new) }
-    ensures told { Tells (F.held files.old) (λ names. LoadsOffer names place port file.now stock) result }
+    ensures told { Tells (F.held files.old)
+        (λ names. LoadsOffer names place port file.now stock) result }
     ensures cause { CommandCause (IsStockAfter stock None) (F.load_faults files.old)
         (F.load_faults files.new) result }
 {
@@ -240,7 +242,8 @@ fn plain_kind(alloc: Global, command: &Command) -> Result<Option<Kind>, Memory>
 
 // A node more, if there is a kind.
 fn with_plain(stock: Stock, made: Option<Kind>) -> Result<Stock, Memory>
-    requires { IfSome made (λ kind. (length stock.ports < 63) × IsInRange kind × HasFileNumbers kind 0 0) }
+    requires { IfSome made (λ kind. (length stock.ports < 63) × IsInRange kind
+        × HasFileNumbers kind 0 0) }
     ensures { IfOk result (λ after. after ≡ with_plain stock made) }
 {
     let mut after = stock;
@@ -255,7 +258,8 @@ fn keep_line(alloc: Global, command: &Command, stock: Stock) -> Result<Stock, St
     requires sound { IsSoundStock stock }
     requires line { IfSome (plain_kind command.now)
         (λ kind. (length stock.ports < 63) × IsInRange kind × HasFileNumbers kind 0 0) }
-    ensures done { Ends (Reads (λ outcome. outcome ≡ Ok (with_plain stock (plain_kind command.now)))) result }
+    ensures done { Ends (Reads
+        (λ outcome. outcome ≡ Ok (with_plain stock (plain_kind command.now)))) result }
     ensures cause { CommandCause (IsStockAfter stock (plain_kind command.now)) 0 0 result }
 {
     match plain_kind(alloc, command) {
@@ -280,7 +284,8 @@ pub fn load_line<F: Files>(
         (F.load_faults files.new) (F.store_faults files.old) (F.store_faults files.new) }
     ensures told { Tells (F.held files.old)
         (λ names. LoadsLine names line.now.line line.now.command stock) result }
-    ensures cause { CommandCause (IsStockAfter stock (option_map (λ m. m.1) (made_by line.now.command)))
+    ensures cause { CommandCause
+        (IsStockAfter stock (option_map (λ m. m.1) (made_by line.now.command)))
         (F.load_faults files.old) (F.load_faults files.new) result }
 {
     match &line.command {

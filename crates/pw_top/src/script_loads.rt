@@ -31,8 +31,10 @@ fn load_lines<F: Files>(
     requires nothing { nothing ≡ nothing_loaded }
     ensures files { LoadsOnly (F.held files.old) (F.held files.new) (F.load_faults files.old)
         (F.load_faults files.new) (F.store_faults files.old) (F.store_faults files.new) }
-    ensures told { Tells (F.held files.old) (λ names. LoadsAll names lines.now nothing_loaded) result }
-    ensures cause { CommandCause (IsStockOf lines.now) (F.load_faults files.old) (F.load_faults files.new) result }
+    ensures told { Tells (F.held files.old)
+        (λ names. LoadsAll names lines.now nothing_loaded) result }
+    ensures cause { CommandCause (IsStockOf lines.now) (F.load_faults files.old)
+        (F.load_faults files.new) result }
 {
     let mut stock = nothing;
     for line in lines {
@@ -51,8 +53,10 @@ pub fn load_all<F: Files>(alloc: Global, files: &mut F, lines: &[Line]) -> Resul
     requires few { length (kinds_of lines.now) ≤ 63 }
     ensures files { LoadsOnly (F.held files.old) (F.held files.new) (F.load_faults files.old)
         (F.load_faults files.new) (F.store_faults files.old) (F.store_faults files.new) }
-    ensures told { Tells (F.held files.old) (λ names. LoadsAll names lines.now nothing_loaded) result }
-    ensures cause { CommandCause (IsStockOf lines.now) (F.load_faults files.old) (F.load_faults files.new) result }
+    ensures told { Tells (F.held files.old)
+        (λ names. LoadsAll names lines.now nothing_loaded) result }
+    ensures cause { CommandCause (IsStockOf lines.now) (F.load_faults files.old)
+        (F.load_faults files.new) result }
 {
     match Ports::new(alloc) {
         Err(_memory) => Err(Status::Memory),

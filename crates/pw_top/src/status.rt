@@ -5,8 +5,8 @@ use graph_script::ScriptWhy;
 use pw_base::Which;
 use wav_files::WavFault;
 
-/// Why a POD is refused, or what it says does not fit. Offsets count bytes of the file; a key is a property's,
-/// an index counts controls from 0.
+/// Why a POD is refused, or what it says does not fit. Offsets count bytes of the file; a key is a
+/// property's, an index counts controls from 0.
 #[derive(Clone, Copy, Debug, PartialEq, Eq, Drop)]
 pub enum PodWhy {
     Short { offset: u32 },
@@ -39,7 +39,8 @@ pub enum PodWhy {
 pub enum Status {
     /// Everything was done.
     Ok,
-    /// The words are no command line; `word` is the first at fault, or their number where more were wanted.
+    /// The words are no command line; `word` is the first at fault, or their number where more were
+    /// wanted.
     Usage { word: u32 },
     /// The script's first line at fault.
     Script { line: u32, why: ScriptWhy },

@@ -4,8 +4,8 @@ use port_model::Ports;
 use pw_base::Items;
 use wav_files::WavIn;
 
-/// The nodes that lines have made, with what their ports offer, and the waves of their sources, which came from files
-/// of `used` bytes together.
+/// The nodes that lines have made, with what their ports offer, and the waves of their sources,
+/// which came from files of `used` bytes together.
 #[derive(Drop)]
 pub struct Stock {
     pub ports: Ports,

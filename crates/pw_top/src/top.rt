@@ -62,8 +62,10 @@ fn prepare_words<R: Threads + Wait + Sync, F: Files, G: Gate + Sync, K: Ticker>(
 ) -> Result<Work, Status>
     ensures files { LoadsOnly (F.held files.old) (F.held files.new) (F.load_faults files.old)
         (F.load_faults files.new) (F.store_faults files.old) (F.store_faults files.new) }
-    ensures told { Tells (F.held files.old) (IsAnswer (map string_bytes words.now) history.new) result }
-    ensures cause { PrepareCause IsDeliverable (F.load_faults files.old) (F.load_faults files.new) result }
+    ensures told { Tells (F.held files.old)
+        (IsAnswer (map string_bytes words.now) history.new) result }
+    ensures cause { PrepareCause IsDeliverable (F.load_faults files.old)
+        (F.load_faults files.new) result }
     ensures usage { IsUsage (command_of (map string_bytes words.now)) (status_of result) }
 {
     match read_words(alloc, words) {
@@ -80,12 +82,14 @@ pub struct Report {
     pub history: Items<Event>,
 }
 
-/// Does what the words of a command line ask for: loads, then stores, then the text, or the line of a status.
+/// Does what the words of a command line ask for: loads, then stores, then the text, or the line of
+/// a status.
 ///
-/// The words are those behind the program's own name. An accepted command leaves exactly the files and the text of
-/// its expected answer. Every other status says how far that answer was followed and why it stopped: a refusal is
-/// the answer's own; `ReadFault`, and `WriteFault` with its place, come only where the outside counted a fault in
-/// this call; `Memory` may come at any step. The line of a status is put last, and nothing is put after a failed put.
+/// The words are those behind the program's own name. An accepted command leaves exactly the files
+/// and the text of its expected answer. Every other status says how far that answer was followed
+/// and why it stopped: a refusal is the answer's own; `ReadFault`, and `WriteFault` with its place,
+/// come only where the outside counted a fault in this call; `Memory` may come at any step. The
+/// line of a status is put last, and nothing is put after a failed put.
 pub fn run_words<R: Threads + Wait + Sync, F: Files, O: Sink, G: Gate + Sync, K: Ticker>(
     rt: &R,
     alloc: Global,
@@ -95,22 +99,27 @@ pub fn run_words<R: Threads + Wait + Sync, F: Files, O: Sink, G: Gate + Sync, K:
     gate: &G,
     ticker: &mut K,
 ) -> Report
-    // What the status says of the expected answer, of the files and of the text, where these are told.
+    // What the status says of the expected answer, of the files and of the text, where these are
+    // told.
     ensures told { IsSome (F.held files.old) →
-        (a : Answer) × IsAnswer (map string_bytes words.now) result.history (names_in (F.held files.old)) a × Follows a
+        (a : Answer) × IsAnswer (map string_bytes words.now) result.history
+        (names_in (F.held files.old)) a × Follows a
         (F.store_faults files.old) (F.store_faults files.new) (O.faults out.old) (O.faults out.new)
         (F.held files.old) (F.held files.new) (O.given out.old) (O.given out.new) result.status }
 
     // Each fault has its cause outside, whether the files are told or not.
     ensures cause { Caused (F.load_faults files.old) (F.load_faults files.new)
-        (F.store_faults files.old) (F.store_faults files.new) (O.faults out.old) (O.faults out.new) result.status }
+        (F.store_faults files.old) (F.store_faults files.new) (O.faults out.old)
+        (O.faults out.new) result.status }
     ensures usage { IsUsage (command_of (map string_bytes words.now)) result.status }
 
     // Where no count of faults rose, the status is an expected answer's, or memory was short.
     ensures complete { IsSome (F.held files.old)
         → ¬ Rose (F.load_faults files.old) (F.load_faults files.new) →
-        ¬ Rose (F.store_faults files.old) (F.store_faults files.new) → ¬ Rose (O.faults out.old) (O.faults out.new) →
-        (a : Answer) × IsAnswer (map string_bytes words.now) result.history (names_in (F.held files.old)) a ×
+        ¬ Rose (F.store_faults files.old) (F.store_faults files.new)
+        → ¬ Rose (O.faults out.old) (O.faults out.new) →
+        (a : Answer) × IsAnswer (map string_bytes words.now) result.history
+        (names_in (F.held files.old)) a ×
         ((result.status ≡ status_of a.outcome) ⊎ (result.status ≡ Status.Memory)) }
 {
     let mut history = Items::new(alloc);

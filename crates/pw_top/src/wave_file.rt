@@ -17,7 +17,8 @@ use wav_files::{Wav, WavFault, read_wav};
 /// The wave of a file, or why it is refused at this place.
 pub fn wave_step(alloc: Global, place: u32, bytes: &Items<u8>) -> Result<Wav, Status>
     requires small { length bytes.now ≤ wav_bytes_limit }
-    ensures told { Ends (Reads (λ outcome. outcome ≡ wave_outcome place (wav_of bytes.now))) result }
+    ensures told { Ends (Reads (λ outcome. outcome ≡ wave_outcome place (wav_of bytes.now)))
+        result }
     ensures cause { CommandCause (λ wav. Unit {0}) 0 0 result }
     ensures wave { IfOk result IsWave }
 {

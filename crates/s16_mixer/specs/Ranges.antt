@@ -1,4 +1,5 @@
--- Ranges: the numbers that the kernels take. S16 PCM, interleaved; gains are factors in 1/256, of -32767 to 32767.
+-- Ranges: the numbers that the kernels take. S16 PCM, interleaved; gains are factors in 1/256, of
+-- -32767 to 32767.
 -- Source: SPA_AUDIO_FORMAT_S16_LE; the ranges are this project's.
 use Rattle.std.specs.Prelude.{ℤ, pos, neg_ℤ, ◌≤ℤ◌}
 pub use Rattle.pw_base.specs.KindRanges.{IsGain}

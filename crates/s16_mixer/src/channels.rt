@@ -10,8 +10,8 @@ const FRAMES: usize = 64;
 /// Samples in a lane.
 const LANE: usize = 128;
 
-/// Writes channel 0 of each stereo frame of `s` to `left` and channel 1 to `right`. Takes no memory;
-/// one pass.
+/// Writes channel 0 of each stereo frame of `s` to `left` and channel 1 to `right`. Takes no
+/// memory; one pass.
 pub fn split(s: &[i16], left: &mut [i16], right: &mut [i16])
     requires length_left { length s.now ≡ 2 * length left.old }
     requires length_right { length s.now ≡ 2 * length right.old }
@@ -51,9 +51,9 @@ fn map_pairs(list: &[u32], s: &[i16], to: &mut [i16])
     plain::map_channels(2, list, rest, &mut to[lanes.len() * LANE..]);
 }
 
-/// Writes, of each whole frame of `s`, the channels that the list names, in the list's order. Frames are
-/// interleaved: `s` has `channels` samples a frame and `to` as many as the list is long. Takes no
-/// memory; one pass, over lanes from stereo to stereo.
+/// Writes, of each whole frame of `s`, the channels that the list names, in the list's order.
+/// Frames are interleaved: `s` has `channels` samples a frame and `to` as many as the list is long.
+/// Takes no memory; one pass, over lanes from stereo to stereo.
 pub fn map_channels(channels: usize, list: &[u32], s: &[i16], to: &mut [i16])
     requires within { All (λ c. c < channels) list.now }
     requires whole { length s.now % channels ≡ 0 }

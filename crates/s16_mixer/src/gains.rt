@@ -7,8 +7,8 @@ use crate::plain;
 
 const LANE: usize = 128;
 
-/// Writes each sample by the gain `g` / 256, rounded towards minus infinity and clamped, to its place in
-/// `to`. Takes no memory; one pass.
+/// Writes each sample by the gain `g` / 256, rounded towards minus infinity and clamped, to its
+/// place in `to`. Takes no memory; one pass.
 pub fn gain(g: i32, s: &[i16], to: &mut [i16])
     requires lengths { length s.now ≡ length to.old }
     requires gain { IsGain g }
@@ -21,8 +21,8 @@ pub fn gain(g: i32, s: &[i16], to: &mut [i16])
     plain::gain(g, rest, &mut to[lanes.len() * LANE..]);
 }
 
-/// Writes each pair of samples, `a` by `ga` / 256 and `b` by `gb` / 256, added, rounded towards minus
-/// infinity and clamped once, to its place in `to`. Takes no memory; one pass.
+/// Writes each pair of samples, `a` by `ga` / 256 and `b` by `gb` / 256, added, rounded towards
+/// minus infinity and clamped once, to its place in `to`. Takes no memory; one pass.
 pub fn mix2(ga: i32, gb: i32, a: &[i16], b: &[i16], to: &mut [i16])
     requires length_a { length a.now ≡ length to.old }
     requires length_b { length b.now ≡ length to.old }

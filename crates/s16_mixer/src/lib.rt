@@ -1,7 +1,7 @@
 //! Sample kernels: what the engine does to rows of 16-bit samples.
 //!
-//! Each call works over whole slices, takes no memory and does not fail. What it leaves is its plain
-//! 32 bits wide until `clamp_out` limits them once.
+//! Each call works over whole slices, takes no memory and does not fail. What it leaves is its
+//! plain 32 bits wide until `clamp_out` limits them once.
 #![tactic(auto)]
 
 mod channels;

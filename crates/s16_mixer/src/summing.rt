@@ -7,8 +7,8 @@ use crate::plain;
 
 const LANE: usize = 128;
 
-/// Adds each sample to the sum in its place, with no clamp. Sums of up to 255 samples have room for one
-/// more. Takes no memory; one pass.
+/// Adds each sample to the sum in its place, with no clamp. Sums of up to 255 samples have room for
+/// one more. Takes no memory; one pass.
 pub fn mix_into(sum: &mut [i32], s: &[i16])
     requires lengths { length sum.old ≡ length s.now }
     requires room { All HasRoom sum.old }

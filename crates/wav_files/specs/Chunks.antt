@@ -1,14 +1,17 @@
--- Chunks of a RIFF WAVE file: a name of four bytes, a size of 32 bits, and so many bytes; numbers little-endian.
+-- Chunks of a RIFF WAVE file: a name of four bytes, a size of 32 bits, and so many bytes; numbers
+-- little-endian.
 use Rattle.std.specs.Prelude.{ℕ, zero, suc, ◌+◌, ◌%◌, ◌&&◌, Bool, nat_lt, nat_le, if◌then◌else◌, List, [], ◌∷◌, length, take, drop}
 use Rattle.std.specs.Prelude.{codes, bytes_eq}
 use Rattle.byteorder.specs.Endian.{little_number}
 
 -- the bytes of a file begin as they have to
 abbrev pub is_riff : List ℕ → Bool
-is_riff bytes = nat_le 12 (length bytes) && bytes_eq (take 4 bytes) (codes "RIFF") && bytes_eq (take 4 (drop 8 bytes))
+is_riff bytes = nat_le 12 (length bytes) && bytes_eq (take 4 bytes) (codes "RIFF")
+    && bytes_eq (take 4 (drop 8 bytes))
     (codes "WAVE")
 
--- a chunk: its name, its size as it is written, and the bytes from the end of its head to the end of the file
+-- a chunk: its name, its size as it is written, and the bytes from the end of its head to the end
+-- of the file
 pub record Chunk : Type 0 where
   pub name : List ℕ
   pub size : ℕ
@@ -16,7 +19,11 @@ pub record Chunk : Type 0 where
 
 -- the chunk whose head, of eight bytes, is at the front
 abbrev pub chunk_at : List ℕ → Chunk
-chunk_at bytes = record { name = take 4 bytes; size = little_number 4 (drop 4 bytes); body = drop 8 bytes }
+chunk_at bytes = record {
+  name = take 4 bytes;
+  size = little_number 4 (drop 4 bytes);
+  body = drop 8 bytes;
+}
 
 -- the file has all the bytes of the chunk's size
 abbrev pub is_whole : Chunk → Bool

@@ -1,4 +1,5 @@
--- The format chunk of a WAV file. RIFF WAVE, WAVEFORMATEX and WAVEFORMATEXTENSIBLE; numbers little-endian.
+-- The format chunk of a WAV file. RIFF WAVE, WAVEFORMATEX and WAVEFORMATEXTENSIBLE; numbers
+-- little-endian.
 use Rattle.std.specs.Prelude.{ℕ, ◌*◌, ◌-◌, ◌%◌, ◌≤◌, ◌==◌, ◌&&◌, ◌||◌, not, Bool, nat_lt, nat_le, if◌then◌else◌, List, []}
 use Rattle.std.specs.Prelude.{◌∷◌, length, take, drop, bytes_eq, Result, Ok, Err}
 use Rattle.byteorder.specs.Endian.{little_number}
@@ -13,7 +14,10 @@ tag chunk = little_number 2 chunk.body
 
 -- its frames a second, and its samples a frame
 abbrev pub named_form : Chunk → Form
-named_form chunk = record { rate = little_number 4 (drop 4 chunk.body); channels = little_number 2 (drop 2 chunk.body) }
+named_form chunk = record {
+  rate = little_number 4 (drop 4 chunk.body);
+  channels = little_number 2 (drop 2 chunk.body);
+}
 
 -- its bytes a frame
 abbrev pub block_align : Chunk → ℕ
@@ -29,7 +33,8 @@ subformat chunk = take 16 (drop 24 chunk.body)
 
 -- the subformat of PCM
 abbrev pub pcm : List ℕ
-pcm = 1 ∷ 0 ∷ 0 ∷ 0 ∷ 0 ∷ 0 ∷ 16 ∷ 0 ∷ 128 ∷ 0 ∷ 0 ∷ 170 ∷ 0 ∷ 56 ∷ 155 ∷ 113 ∷ []
+pcm = 1 ∷ 0 ∷ 0 ∷ 0 ∷ 0 ∷ 0 ∷ 16 ∷ 0 ∷ 128 ∷ 0 ∷ 0 ∷ 170 ∷ 0 ∷ 56 ∷ 155
+    ∷ 113 ∷ []
 
 -- the chunk says that it is extensible
 abbrev pub is_extensible : Chunk → Bool
@@ -37,15 +42,18 @@ is_extensible chunk = tag chunk == 65534
 
 -- the chunk says that samples are PCM of 16 bits
 abbrev pub is_pcm16 : Chunk → Bool
-is_pcm16 chunk = ((tag chunk == 1) || (is_extensible chunk && bytes_eq (subformat chunk) pcm)) && (bits chunk == 16)
+is_pcm16 chunk = ((tag chunk == 1) || (is_extensible chunk && bytes_eq (subformat chunk) pcm))
+    && (bits chunk == 16)
 
 -- a rate and channels in their ranges
 abbrev pub is_form : Form → Bool
-is_form form = nat_le 1 form.rate && nat_le form.rate 384000 && nat_le 1 form.channels && nat_le form.channels 8
+is_form form = nat_le 1 form.rate && nat_le form.rate 384000 && nat_le 1 form.channels
+    && nat_le form.channels 8
 
 -- the same as a fact
 abbrev pub IsForm : Form → Type 0
-IsForm form = (1 ≤ form.rate) × (form.rate ≤ 384000) × (1 ≤ form.channels) × (form.channels ≤ 8)
+IsForm form = (1 ≤ form.rate) × (form.rate ≤ 384000) × (1 ≤ form.channels)
+    × (form.channels ≤ 8)
 
 -- what a format chunk gives: the first that is wrong with it, or its form
 unfoldable pub form_of : Chunk → Result Form WavFault

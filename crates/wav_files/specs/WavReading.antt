@@ -1,26 +1,15 @@
 -- WAV reading: the list of a file's chunks, and the samples read off it. RIFF WAVE, PCM of 16 bits.
-use Rattle.std.specs.Prelude.{◌≡◌, ◌≢◌, ℕ, ◌*◌, ◌%◌, ◌==◌, not, List, [], ◌∷◌, take, drop, ℤ, if◌then◌else◌, Option}
+use Rattle.std.specs.Prelude.{◌≡◌, ◌≢◌, ℕ, ◌*◌, ◌%◌, ◌==◌, not, List, [], ◌∷◌, take, drop, if◌then◌else◌, Option}
 use Rattle.std.specs.Prelude.{Some, None, Result, Ok, Err}
-use Rattle.std.specs.Int.{w16, cast_signed}
-use Rattle.byteorder.specs.Endian.{little_number}
 use Rattle.wav_files.specs.declared.wav.Wav.{Wav}
 use Rattle.wav_files.specs.declared.form.Form.{Form}
 use Rattle.wav_files.specs.declared.fault.WavFault.{WavFault}
 use Rattle.wav_files.specs.declared.fault.WavFault.TheVariants as F
 use Rattle.wav_files.specs.Chunks.{Chunk, is_whole, is_format, is_data, is_riff, chunks_of}
 use Rattle.wav_files.specs.FormatChunk.{form_of, whole_frames}
+pub use Rattle.wav_files.specs.WavSamples.{samples_in, Parts}
 
--- the samples in a row of bytes; a single byte at the end is none
-abbrev pub samples_in : List ℕ → List ℤ
-samples_in [] = []
-samples_in (low ∷ []) = []
-samples_in (low ∷ high ∷ rest) = cast_signed w16 (little_number 2 (low ∷ high ∷ [])) ∷ samples_in rest
-
--- the form of the samples, and their bytes
-abbrev pub Parts : Type 0
-Parts = Form × List ℕ
-
--- what a chunk of samples gives. Behind the greatest size, which says that none was known, stands all that is left
+-- what a chunk of samples gives: all that is left where its size is the greatest (unknown)
 unfoldable pub data_of : Option Form → Chunk → Result Parts WavFault
 data_of None chunk = Err F.NoFmt
 data_of (Some form) chunk =
@@ -49,7 +38,8 @@ missing None = F.NoFmt
 missing (Some form) = F.NoData
 
 -- goes on with what is known, unless there was a fault
-abbrev pub go_on : Result (Option Form) WavFault → (Option Form → Result Parts WavFault) → Result Parts WavFault
+abbrev pub go_on : Result (Option Form) WavFault → (Option Form → Result Parts WavFault)
+    → Result Parts WavFault
 go_on (Ok known) f = f known
 go_on (Err fault) f = Err fault
 
@@ -57,15 +47,18 @@ go_on (Err fault) f = Err fault
 unfoldable pub parts_from : Option Form → List Chunk → Result Parts WavFault
 parts_from known [] = Err (missing known)
 parts_from known (chunk ∷ chunks) =
-    if is_data chunk then data_of known chunk else go_on (form_after known chunk) (λ next. parts_from next chunks)
+    if is_data chunk then data_of known chunk
+    else go_on (form_after known chunk) (λ next. parts_from next chunks)
 
 -- the form and the bytes of the samples of a file
 unfoldable pub parts_of : List ℕ → Result Parts WavFault
-parts_of bytes = if is_riff bytes then parts_from None (chunks_of (drop 12 bytes)) else Err F.NotRiff
+parts_of bytes = if is_riff bytes then parts_from None (chunks_of (drop 12 bytes))
+    else Err F.NotRiff
 
 -- the wave of these parts
 abbrev pub wave_of : Result Parts WavFault → Result Wav WavFault
-wave_of (Ok parts) = Ok (record { rate = parts.0.rate; channels = parts.0.channels; samples = samples_in parts.1 })
+wave_of (Ok parts) = Ok
+    (record { rate = parts.0.rate; channels = parts.0.channels; samples = samples_in parts.1 })
 wave_of (Err fault) = Err fault
 
 -- THE WAVE of a file, or the first that is wrong with it

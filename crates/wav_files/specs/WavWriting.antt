@@ -30,9 +30,11 @@ wav_header rate channels size =
 
 -- the whole file of a wave
 abbrev pub wav_bytes : Wav → List ℕ
-wav_bytes wav = wav_header wav.rate wav.channels (2 * length wav.samples) ++ sample_bytes wav.samples
+wav_bytes wav = wav_header wav.rate wav.channels (2 * length wav.samples)
+    ++ sample_bytes wav.samples
 
--- a wave that can be written: its rate and channels in range, whole frames, and not too many samples
+-- a wave that can be written: its rate and channels in range, whole frames, and not too many
+-- samples
 pub record IsWave (wav : Wav) : Type 0 where
   pub rate : (1 ≤ wav.rate) × (wav.rate ≤ 384000)
   pub channels : (1 ≤ wav.channels) × (wav.channels ≤ 8)

@@ -57,8 +57,9 @@ fn named_form(chunk: &[u8]) -> Option<Form>
     }
 }
 
-/// The form that a format chunk gives. Faults, in order: `BadFmt` for less than 16 bytes, `Truncated`, `BadFmt` for less than
-/// 40 bytes of an extensible chunk, `NotPcm16`, `ChannelsOrRate`, and `BadFmt` where a frame is not of two bytes a channel.
+/// The form that a format chunk gives. Faults, in order: `BadFmt` for less than 16 bytes,
+/// `Truncated`, `BadFmt` for less than 40 bytes of an extensible chunk, `NotPcm16`,
+/// `ChannelsOrRate`, and `BadFmt` where a frame is not of two bytes a channel.
 #[tactic(auto, unfolding(crate::specs::FormatChunk::form_of))]
 pub(crate) fn form_of(chunk: &[u8]) -> Result<Form, WavFault>
     requires { 8 ≤ length chunk.now }

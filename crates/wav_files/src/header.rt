@@ -5,7 +5,8 @@ ghost use Rattle.wav_files.specs.WavWriting.{wav_header};
 /// How many bytes stand before the samples of a plain file.
 pub(crate) const HEADER: usize = 44;
 
-/// The bytes before `size` bytes of samples: the chunk RIFF WAVE, its chunk "fmt " and the head of its chunk "data".
+/// The bytes before `size` bytes of samples: the chunk RIFF WAVE, its chunk "fmt " and the head of
+/// its chunk "data".
 pub(crate) fn header_of(rate: u32, channels: u32, size: u32) -> [u8; 44]
     requires rate { rate ≤ 384000 }
     requires channels { channels ≤ 8 }

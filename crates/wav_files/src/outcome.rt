@@ -17,7 +17,8 @@ pub struct Peak {
     pub value: u32,
 }
 
-/// What a run answers: each sink and each meter that has a format at the script's end, ascending by node.
+/// What a run answers: each sink and each meter that has a format at the script's end, ascending by
+/// node.
 #[derive(Debug, Drop)]
 pub struct Outcome {
     pub history: Items<Event>,

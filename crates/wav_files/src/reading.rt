@@ -129,18 +129,22 @@ fn samples_of(alloc: Global, bytes: &[u8]) -> Result<Items<i16>, Memory>
     Ok(samples)
 }
 
-/// The wave of a file: the format of its first chunk "fmt ", and the samples of its first chunk "data". Other chunks are passed
-/// over, and what follows the samples is not looked at; the size of the file in its head is not compared.
+/// The wave of a file: the format of its first chunk "fmt ", and the samples of its first chunk
+/// "data". Other chunks are passed over, and what follows the samples is not looked at; the size of
+/// the file in its head is not compared.
 ///
-/// A fault is the first from the left. `NotRiff`: the file does not begin as a RIFF WAVE file. `NoFmt`, `NoData`: it ends, or its
-/// samples begin, before a format; it ends before samples. `Truncated`: a chunk's size goes past the end. `Uneven`: the samples
-/// are not whole frames. A size of 2 ^ 32 - 1 of the samples means the whole frames of all that is there.
+/// A fault is the first from the left. `NotRiff`: the file does not begin as a RIFF WAVE file.
+/// `NoFmt`, `NoData`: it ends, or its samples begin, before a format; it ends before samples.
+/// `Truncated`: a chunk's size goes past the end. `Uneven`: the samples are not whole frames. A
+/// size of 2 ^ 32 - 1 of the samples means the whole frames of all that is there.
 ///
-/// A format is checked in this order: less than 16 bytes are `BadFmt`; `Truncated`; less than 40 bytes of an extensible one are
-/// `BadFmt`; `NotPcm16`, where it is not PCM of 16 bits; `ChannelsOrRate`, where there are not 1 to 8 channels and 1 to 384000
-/// frames a second; `BadFmt`, where a frame is not of two bytes a channel.
+/// A format is checked in this order: less than 16 bytes are `BadFmt`; `Truncated`; less than 40
+/// bytes of an extensible one are `BadFmt`; `NotPcm16`, where it is not PCM of 16 bits;
+/// `ChannelsOrRate`, where there are not 1 to 8 channels and 1 to 384000 frames a second; `BadFmt`,
+/// where a frame is not of two bytes a channel.
 ///
-/// Takes memory for the samples alone, once the file is known to have no fault; without it the answer is `Memory`.
+/// Takes memory for the samples alone, once the file is known to have no fault; without it the
+/// answer is `Memory`.
 #[tactic(auto, unfolding(crate::specs::WavReading::wav_of))]
 pub fn read_wav(alloc: Global, bytes: &[u8]) -> Result<Wav, WavFault>
     ensures cases { IsReading (wav_of bytes.now) result }

@@ -33,7 +33,8 @@ fn fill(wav: &Wav, to: &mut [u8])
     fill_samples(wav.samples.as_slice(), body);
 }
 
-/// Appends the file of a wave: 44 bytes, then two for each sample. `read_wav` reads this wave from it.
+/// Appends the file of a wave: 44 bytes, then two for each sample. `read_wav` reads this wave from
+/// it.
 /// After `Memory` the list is as before.
 ///
 /// The wave has a rate of 1 to 384000, 1 to 8 channels, whole frames and at most 134217728 samples.

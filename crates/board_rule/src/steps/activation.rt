@@ -1,4 +1,5 @@
-//! The atomic steps on activation words. Nodes are indexes; `C` is what the step gives its seat to know.
+//! The atomic steps on activation words. Nodes are indexes; `C` is what the step gives its seat to
+//! know.
 ghost use Rattle.board_rule.specs.OnBoard.{IsOn, layout};
 ghost use Rattle.std.specs.Prelude.{◌≡◌, ℕ, ◌-◌, ◌<◌, ◌^◌, slice_index};
 ghost use Rattle.pw_base.specs.Words.{finished_word, not_triggered_word, triggered_word};
@@ -20,7 +21,8 @@ pub(crate) fn lower<C: Change>(
 ) -> u64
     requires table { IsOn board.now token.old.table_id }
     requires phase { Lowers C.is_driver (layout board.now) token.old.me.0 at }
-    requires target { slice_index ((layout board.now).targets at) (taken C.is_driver token.old.me.0 at)
+    requires target { slice_index ((layout board.now).targets at)
+        (taken C.is_driver token.old.me.0 at)
         ≡ target }
     requires inside { target < nodes (layout board.now) }
     requires after { (found : ℕ) → C.after found
@@ -45,11 +47,13 @@ pub(crate) fn trigger<C: Change>(
 )
     requires table { IsOn board.now token.old.table_id }
     requires phase { Triggers C.is_driver (layout board.now) token.old.me.0 at }
-    requires target { slice_index ((layout board.now).targets at) (taken C.is_driver token.old.me.0 at - 1)
+    requires target { slice_index ((layout board.now).targets at)
+        (taken C.is_driver token.old.me.0 at - 1)
         ≡ target }
     requires inside { target < nodes (layout board.now) }
     requires cycle { cycle ≡ cycle_of C.is_driver token.old.me.0 at }
-    requires after { (found : ℕ) → C.after found ≡ triggered C.is_driver (layout board.now) token.old.me.0 at }
+    requires after { (found : ℕ)
+        → C.after found ≡ triggered C.is_driver (layout board.now) token.old.me.0 at }
     ensures same { (token.new.table_id ≡ token.old.table_id) × (token.new.id ≡ token.old.id)
         × (token.new.me.1 ≡ token.old.me.1) }
     ensures after { token.new.me.0 ≡ C.after (triggered_word cycle) }
@@ -119,7 +123,8 @@ pub(crate) fn reset_status<C: Change>(board: &Board, token: &mut BoardToken, at:
     requires at { at ≡ reset_of token.old.me.0.lead.drive }
     requires inside { at < nodes (layout board.now) }
     requires cycle { cycle ≡ token.old.me.0.lead.cycle }
-    requires after { (found : ℕ) → C.after found ≡ status_stored (layout board.now) token.old.me.0 }
+    requires after { (found : ℕ)
+        → C.after found ≡ status_stored (layout board.now) token.old.me.0 }
     ensures same { (token.new.table_id ≡ token.old.table_id) × (token.new.id ≡ token.old.id)
         × (token.new.me.1 ≡ token.old.me.1) }
     ensures after { token.new.me.0 ≡ C.after (not_triggered_word cycle) }

@@ -3,7 +3,8 @@ use crate::view::View;
 use atomic_table::Play;
 use std::marker::{Brand, PhantomData};
 
-/// Whether the seat is the driver's, the view after the step by the number found, and what the step tells of that number.
+/// Whether the seat is the driver's, the view after the step by the number found, and what the step
+/// tells of that number.
 pub(crate) trait Change {
     ghost use Rattle.std.specs.Prelude.{ℕ, Bool};
     ghost use Rattle.board_rule.specs.declared.view.View.{View};

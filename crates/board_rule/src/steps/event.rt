@@ -1,4 +1,5 @@
-//! The atomic steps on tickets, events and late sets. Nodes are indexes; `C` is what the step gives its seat to know.
+//! The atomic steps on tickets, events and late sets. Nodes are indexes; `C` is what the step gives
+//! its seat to know.
 ghost use Rattle.board_rule.specs.OnBoard.{IsOn, layout};
 ghost use Rattle.std.specs.Prelude.{◌≡◌, ℕ, ◌+◌, ◌<◌, ◌≤◌};
 ghost use Rattle.pw_base.specs.Layout.{event_count};
@@ -17,7 +18,8 @@ pub(crate) fn draw<C: Change>(board: &Board, token: &mut BoardToken, at: usize) 
     requires table { IsOn board.now token.old.table_id }
     requires phase { Draws C.is_driver (layout board.now) token.old.me.0 at }
     requires after { (found : ℕ) → C.after found ≡ draws C.is_driver token.old.me.0 at found }
-    requires says { (found : ℕ) → found < event_count board.now.board_shape.shape → C.says found }
+    requires says { (found : ℕ) → found < event_count board.now.board_shape.shape
+        → C.says found }
     ensures same { (token.new.table_id ≡ token.old.table_id) × (token.new.id ≡ token.old.id)
         × (token.new.me.1 ≡ token.old.me.1) }
     ensures after { token.new.me.0 ≡ C.after result }
@@ -41,7 +43,8 @@ pub(crate) fn store<C: Change>(
     requires drawn { ticket < event_count board.now.board_shape.shape }
     requires event { event.now ≡ event_due C.is_driver (layout board.now) token.old.me.0 at }
     requires node { event_node event.now ≤ 63 }
-    requires after { (found : ℕ) → C.after found ≡ event_stored C.is_driver token.old.me.0 at }
+    requires after { (found : ℕ)
+        → C.after found ≡ event_stored C.is_driver token.old.me.0 at }
     ensures same { (token.new.table_id ≡ token.old.table_id) × (token.new.id ≡ token.old.id)
         × (token.new.me.1 ≡ token.old.me.1) }
     ensures after { token.new.me.0 ≡ C.after (event_word_of event.now) }
@@ -56,7 +59,8 @@ pub(crate) fn look<C: Change>(board: &Board, token: &mut BoardToken, at: usize) 
     requires table { IsOn board.now token.old.table_id }
     requires phase { Looks (layout board.now) token.old.me.0 at }
     requires inside { at < nodes (layout board.now) }
-    requires after { (found : ℕ) → C.after found ≡ looked (layout board.now) token.old.me.0 at found }
+    requires after { (found : ℕ)
+        → C.after found ≡ looked (layout board.now) token.old.me.0 at found }
     ensures same { (token.new.table_id ≡ token.old.table_id) × (token.new.id ≡ token.old.id)
         × (token.new.me.1 ≡ token.old.me.1) }
     ensures after { token.new.me.0 ≡ C.after result }

@@ -1,5 +1,5 @@
-//! The atomic steps of a reader on areas and blocks. Links, pools and blocks are given by number; `C` is what the step gives
-//! its seat to know.
+//! The atomic steps of a reader on areas and blocks. Links, pools and blocks are given by number;
+//! `C` is what the step gives its seat to know.
 ghost use Rattle.board_rule.specs.OnBoard.{IsOn, layout};
 ghost use Rattle.std.specs.Prelude.{◌≡◌, ℕ, ◌<◌, length};
 ghost use Rattle.pw_base.specs.Pools.{pools_of};
@@ -30,7 +30,8 @@ pub(crate) fn load_area<C: Change>(
     requires inside { link < length board.now.board_shape.shape.links }
     requires after { (found : ℕ) → C.after found
         ≡ loaded_as_reader C.is_driver (layout board.now) token.old.me.0 link found }
-    requires says { (found : ℕ) → IsPublished C.is_driver (layout board.now) token.old.me.0 link found
+    requires says { (found : ℕ)
+        → IsPublished C.is_driver (layout board.now) token.old.me.0 link found
         → C.says found }
     ensures same { (token.new.table_id ≡ token.old.table_id) × (token.new.id ≡ token.old.id)
         × (token.new.me.1 ≡ token.old.me.1) }
@@ -56,9 +57,12 @@ pub(crate) fn load_sample<C: Change>(
     requires inside { link < length board.now.board_shape.shape.links }
     requires block { id < (pool_at (layout board.now) (pool_of (layout board.now) link)).blocks }
     requires place { place < (pool_at (layout board.now) (pool_of (layout board.now) link)).words }
-    requires word { word ≡ sample_place board.now.board_shape.shape (pool_of (layout board.now) link) id place }
+    requires word { word ≡ sample_place board.now.board_shape.shape
+        (pool_of (layout board.now) link) id place }
     requires there { word < board.now.table.shared.table_id.words }
-    requires after { (found : ℕ) → C.after found ≡ sample_loaded C.is_driver (layout board.now) token.old.me.0 link place }
+    requires after { (found : ℕ)
+        → C.after found ≡ sample_loaded C.is_driver
+        (layout board.now) token.old.me.0 link place }
     requires says { (found : ℕ) → found ≡ packed
         (samples_read C.is_driver (layout board.now) token.old.me.0 link) place
         → IsTable (layout board.now) token.old.me.0.expect → C.says found }

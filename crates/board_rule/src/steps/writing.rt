@@ -1,5 +1,5 @@
-//! The atomic steps of a writer on areas and blocks. Links, pools and blocks are given by number; `C` is what the step gives
-//! its seat to know.
+//! The atomic steps of a writer on areas and blocks. Links, pools and blocks are given by number;
+//! `C` is what the step gives its seat to know.
 ghost use Rattle.board_rule.specs.OnBoard.{IsOn, layout};
 ghost use Rattle.std.specs.Prelude.{◌≡◌, ℕ, ◌+◌, ◌<◌, length};
 ghost use Rattle.pw_base.specs.Pools.{pools_of};
@@ -27,7 +27,8 @@ pub(crate) fn load_area<C: Change>(
     requires phase { LoadsAsWriter (layout board.now) token.old.me.0 link }
     requires stamp { stamp ≡ write_cycle (layout board.now) token.old.me.0 link + 1 }
     requires inside { link < length board.now.board_shape.shape.links }
-    requires after { (found : ℕ) → C.after found ≡ loaded_as_writer (layout board.now) token.old.me.0 link }
+    requires after { (found : ℕ)
+        → C.after found ≡ loaded_as_writer (layout board.now) token.old.me.0 link }
     requires says { (found : ℕ) → found ≡ need_data_word (io_id_in found)
         → IsGivenBack (layout board.now) token.old.me.0 link (io_id_in found) → C.says found }
     ensures same { (token.new.table_id ≡ token.old.table_id) × (token.new.id ≡ token.old.id)
@@ -52,7 +53,8 @@ pub(crate) fn store_have<C: Change>(
     requires phase { StoresHave (layout board.now) token.old.me.0 link id }
     requires stamp { stamp ≡ write_cycle (layout board.now) token.old.me.0 link + 1 }
     requires inside { link < length board.now.board_shape.shape.links }
-    requires after { (found : ℕ) → C.after found ≡ have_stored (layout board.now) token.old.me.0 link id }
+    requires after { (found : ℕ)
+        → C.after found ≡ have_stored (layout board.now) token.old.me.0 link id }
     ensures same { (token.new.table_id ≡ token.old.table_id) × (token.new.id ≡ token.old.id)
         × (token.new.me.1 ≡ token.old.me.1) }
     ensures after { token.new.me.0 ≡ C.after (have_data_word id) }
@@ -76,7 +78,8 @@ pub(crate) fn load_readers<C: Change>(
     requires block { id < (pool_at (layout board.now) pool).blocks }
     requires after { (found : ℕ) → C.after found
         ≡ readers_loaded (layout board.now) token.old.me.0 pool id found }
-    requires says { (found : ℕ) → found ≡ 0 → FindsDue (layout board.now) token.old.me.0 pool id → C.says found }
+    requires says { (found : ℕ) → found ≡ 0
+        → FindsDue (layout board.now) token.old.me.0 pool id → C.says found }
     ensures same { (token.new.table_id ≡ token.old.table_id) × (token.new.id ≡ token.old.id)
         × (token.new.me.1 ≡ token.old.me.1) }
     ensures after { token.new.me.0 ≡ C.after result }

@@ -112,8 +112,9 @@ fn linked_nodes(live: &[Wire]) -> [bool; NODES]
     here
 }
 
-/// Of each of the 64 numbers whether that node is active under this driver: whether live links join it to the driver;
-/// under `DUMMY`, whether it has a live link. Takes no memory; cost: at most 64 looks at each link.
+/// Of each of the 64 numbers whether that node is active under this driver: whether live links join
+/// it to the driver; under `DUMMY`, whether it has a live link. Takes no memory; cost: at most 64
+/// looks at each link.
 pub fn active_nodes(live: &[Wire], driver: u32) -> [bool; NODES]
     requires driver { driver < 64 }
     requires within { All IsWithin live.now }

@@ -1,4 +1,5 @@
-//! Required counts and target lists: for each active node how many it waits for, and which wait for it.
+//! Required counts and target lists: for each active node how many it waits for, and which wait for
+//! it.
 ghost use Rattle.std.specs.Prelude.{◌≡◌, ℕ, ◌<◌, ◌≤◌, ◌==◌, ◌&&◌, true, false, not, All, map, replicate, length, IfOk};
 ghost use Rattle.std.specs.Prelude.{slice_set, if◌then◌else◌};
 ghost use Rattle.std.specs.List.{list_any};
@@ -161,8 +162,9 @@ fn counted_nodes(alloc: Global, shape: &Shape) -> Result<Items<ShapeNode>, Memor
     Ok(nodes)
 }
 
-/// The same shape, each of whose nodes has its required count and its targets: several links between two nodes make
-/// one dependency, and delayed links make none. Cost: for each node one look at each link and each node.
+/// The same shape, each of whose nodes has its required count and its targets: several links
+/// between two nodes make one dependency, and delayed links make none. Cost: for each node one look
+/// at each link and each node.
 pub fn counted(alloc: Global, shape: Shape) -> Result<Shape, Memory>
     requires links { All IsWithinNodes shape.links }
     requires few { length shape.nodes ≤ 64 }

@@ -61,8 +61,9 @@ fn better(
     }
 }
 
-/// The number of the node that drives: of the sinks and meters that are on and have a priority, the one with the
-/// greatest, and of these the lowest number; `DUMMY` where there is none. Takes no memory; cost: one look at each node.
+/// The number of the node that drives: of the sinks and meters that are on and have a priority, the
+/// one with the greatest, and of these the lowest number; `DUMMY` where there is none. Takes no
+/// memory; cost: one look at each node.
 pub fn driver_of(kinds: &[Kind], nodes: &[Standing]) -> u32
     requires { length nodes.now ≤ 63 }
     ensures { IsDriver kinds.now nodes.now result }

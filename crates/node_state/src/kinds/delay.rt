@@ -35,7 +35,8 @@ impl Model for DelayState {
     ghost invariant = { λ d. (d.size ≤ length d.ring) × (d.oldest ≤ d.size) };
 }
 
-// Writes the first samples of a ring, from the oldest on, and then those of the input, as many as there is place for.
+// Writes the first samples of a ring, from the oldest on, and then those of the input, as many as
+// there is place for.
 fn read_ring(ring: &[i16], oldest: usize, a: &[i16], to: &mut [i16])
     requires within { oldest ≤ length ring.now }
     requires lengths { length to.old ≡ length a.now }
@@ -46,13 +47,14 @@ fn read_ring(ring: &[i16], oldest: usize, a: &[i16], to: &mut [i16])
     copy_front(a, &mut to[first + second..]);
 }
 
-// Puts an input that reaches over the end of a ring behind its newest sample, over the oldest. Answers the place of
-// the oldest then.
+// Puts an input that reaches over the end of a ring behind its newest sample, over the oldest.
+// Answers the place of the oldest then.
 fn write_ring(ring: &mut [i16], oldest: usize, a: &[i16]) -> usize
     requires within { oldest ≤ length ring.old }
     requires over { length ring.old < oldest + length a.now }
     ensures within { result ≤ length ring.old }
-    ensures line { turned result ring.new ≡ drop (length a.now) (turned oldest ring.old ++ a.now) }
+    ensures line { turned result ring.new
+        ≡ drop (length a.now) (turned oldest ring.old ++ a.now) }
 {
     let size = ring.len();
     if a.len() >= size {
@@ -63,8 +65,8 @@ fn write_ring(ring: &mut [i16], oldest: usize, a: &[i16]) -> usize
     copy_front(&a[first..], &mut ring[..oldest])
 }
 
-// One quantum that reaches over the end of a ring: the oldest samples to the output where it has a form, then the input
-// into the ring. Answers the place of the oldest then.
+// One quantum that reaches over the end of a ring: the oldest samples to the output where it has a
+// form, then the input into the ring. Answers the place of the oldest then.
 #[inline(never)]
 fn pass_round(ring: &mut [i16], oldest: usize, a: &[i16], to: &mut [i16]) -> usize
     requires within { oldest ≤ length ring.old }
@@ -72,7 +74,8 @@ fn pass_round(ring: &mut [i16], oldest: usize, a: &[i16], to: &mut [i16]) -> usi
     requires output { IsNoneOr (length a.now) to.old }
     ensures within { result ≤ length ring.old }
     ensures output { to.new ≡ take (length to.old) (turned oldest ring.old ++ a.now) }
-    ensures line { turned result ring.new ≡ drop (length a.now) (turned oldest ring.old ++ a.now) }
+    ensures line { turned result ring.new
+        ≡ drop (length a.now) (turned oldest ring.old ++ a.now) }
 {
     if !to.is_empty() {
         read_ring(ring, oldest, a, to);
@@ -80,13 +83,15 @@ fn pass_round(ring: &mut [i16], oldest: usize, a: &[i16], to: &mut [i16]) -> usi
     write_ring(ring, oldest, a)
 }
 
-// One quantum that ends before the end of a ring or at it: the input comes in the place of the oldest samples.
+// One quantum that ends before the end of a ring or at it: the input comes in the place of the
+// oldest samples.
 fn pass(ring: &mut [i16], oldest: usize, a: &[i16], to: &mut [i16]) -> usize
     requires within { oldest + length a.now ≤ length ring.old }
     requires output { IsNoneOr (length a.now) to.old }
     ensures within { result ≤ length ring.old }
     ensures output { to.new ≡ take (length to.old) (turned oldest ring.old ++ a.now) }
-    ensures line { turned result ring.new ≡ drop (length a.now) (turned oldest ring.old ++ a.now) }
+    ensures line { turned result ring.new
+        ≡ drop (length a.now) (turned oldest ring.old ++ a.now) }
 {
     let end = oldest + a.len();
     let place = &mut ring[oldest..end];
@@ -142,7 +147,8 @@ impl DelayState {
         }
     }
 
-    /// The oldest samples, as many as the input has, to the output where it has a form; then the input behind the rest.
+    /// The oldest samples, as many as the input has, to the output where it has a form; then the
+    /// input behind the rest.
     #[inline(never)]
     pub(crate) fn process(&mut self, a: &[i16], left: &mut [i16])
         requires { IsNoneOr (length a.now) left.old }

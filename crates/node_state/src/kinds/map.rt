@@ -32,8 +32,10 @@ impl MapState {
     /// The channels that the list names, where the output has a form.
     pub(crate) fn process(&self, a: &[i16], left: &mut [i16])
         requires whole { length a.now % self.now.channels ≡ 0 }
-        requires output { IsNoneOr (length a.now / self.now.channels * length self.now.list) left.old }
-        ensures { left.new ≡ take (length left.old) (picked self.now.channels self.now.list a.now) }
+        requires output { IsNoneOr
+            (length a.now / self.now.channels * length self.now.list) left.old }
+        ensures { left.new ≡ take (length left.old)
+            (picked self.now.channels self.now.list a.now) }
     {
         if !left.is_empty() {
             s16_mixer::map_channels(self.channels as usize, self.list.as_slice(), a, left);

@@ -19,7 +19,8 @@ impl Mix2State {
         requires inputs { length b.now ≡ length a.now }
         requires output { IsNoneOr (length a.now) left.old }
         ensures { left.new
-            ≡ take (length left.old) (map (λ p. mixed self.now.ga self.now.gb p.0 p.1) (zip a.now b.now)) }
+            ≡ take (length left.old)
+            (map (λ p. mixed self.now.ga self.now.gb p.0 p.1) (zip a.now b.now)) }
     {
         if !left.is_empty() {
             s16_mixer::mix2(self.ga, self.gb, a, b, left);

@@ -20,7 +20,10 @@ impl Model for SinkState {
 
     ghost coded = { listed_code coded_ℤ };
 
-    ghost view = { λ s. record { list = s.stream.items; spare = vec_capacity s.stream - vec_len s.stream } };
+    ghost view = { λ s. record {
+      list = s.stream.items;
+      spare = vec_capacity s.stream - vec_len s.stream;
+    } };
 }
 
 impl SinkState {

@@ -42,7 +42,8 @@ impl SourceState {
     /// The front of a wave, of at most so many frames, in memory of its own.
     pub(crate) fn new(alloc: Global, wav: &Wav, frames: u64) -> Result<SourceState, Memory>
         ensures channels { IfOk result (λ s. s.channels ≡ wav.now.channels) }
-        ensures samples { IfOk result (λ s. s.samples ≡ take (frames * wav.now.channels) wav.now.samples) }
+        ensures samples { IfOk result
+            (λ s. s.samples ≡ take (frames * wav.now.channels) wav.now.samples) }
         ensures given { IfOk result (λ s. s.given ≡ 0) }
     {
         let samples = wav.samples.as_slice();
@@ -58,16 +59,18 @@ impl SourceState {
         }
     }
 
-    /// The next samples of the file, then zeros, where the output has a form. Those of one quantum are given in any
-    /// case.
+    /// The next samples of the file, then zeros, where the output has a form. Those of one quantum
+    /// are given in any case.
     #[inline(never)]
     pub(crate) fn process(&mut self, quantum: u32, left: &mut [i16])
         requires { IsNoneOr (quantum * self.old.channels) left.old }
         ensures left { left.new
-            ≡ take (length left.old) (drop self.old.given self.old.samples ++ silence (quantum * self.old.channels)) }
+            ≡ take (length left.old)
+            (drop self.old.given self.old.samples ++ silence (quantum * self.old.channels)) }
         ensures given { self.new.given ≡ min (self.old.given + quantum * self.old.channels)
             (length self.old.samples) }
-        ensures same { (self.new.channels ≡ self.old.channels) × (self.new.samples ≡ self.old.samples) }
+        ensures same { (self.new.channels ≡ self.old.channels)
+            × (self.new.samples ≡ self.old.samples) }
     {
         let samples = &self.samples.as_slice()[self.given..];
         self.given += samples.len().min(quantum as usize * self.channels as usize);

@@ -28,7 +28,8 @@ pub(crate) struct SquareState {
 }
 
 impl SquareWave {
-    // The sample of a frame by its place in the period, and the place at which the next run of equal samples begins.
+    // The sample of a frame by its place in the period, and the place at which the next run of
+    // equal samples begins.
     fn run_at(&self, phase: u32) -> (i16, u32)
         requires { phase < self.now.period }
         ensures value { (i : ℕ) → phase ≤ i → i < result.1
@@ -92,13 +93,15 @@ impl SquareState {
         SquareState { wave, phase: 0 }
     }
 
-    /// The next frames of the wave, where the output has a form. Those of one quantum pass in any case.
+    /// The next frames of the wave, where the output has a form. Those of one quantum pass in any
+    /// case.
     pub(crate) fn process(&mut self, quantum: u32, left: &mut [i16])
         requires quantum { quantum ≤ 8192 }
         requires output { IsNoneOr (quantum * self.old.wave.channels) left.old }
         ensures left { left.new
             ≡ take (length left.old)
-            (of_frames quantum self.old.wave.channels (λ i j. square_at self.old.wave.period self.old.wave.amp (self.old.phase + i))) }
+            (of_frames quantum self.old.wave.channels
+            (λ i j. square_at self.old.wave.period self.old.wave.amp (self.old.phase + i))) }
         ensures phase { self.new.phase ≡ (self.old.phase + quantum) % self.old.wave.period }
         ensures same { self.new.wave ≡ self.old.wave }
     {

@@ -8,7 +8,8 @@ use crate::memory::Memory;
 use std::alloc::Global;
 use std::collections::BTreeMap;
 
-/// Files in memory. Calls are counted from 1, loads and stores apart; one that answers `Memory` is not counted.
+/// Files in memory. Calls are counted from 1, loads and stores apart; one that answers `Memory` is
+/// not counted.
 #[derive(Drop)]
 pub struct MemFiles {
     map: NameMap,
@@ -41,7 +42,8 @@ impl MemFiles {
 
     /// Holds the bytes under the name, all other names as before.
     pub fn add_file(&mut self, alloc: Global, name: &Text, bytes: &[u8]) -> Result<(), Memory>
-        ensures ok { OnOk result (mem_names self.new ≡ stored name.now bytes.now (mem_names self.old)) }
+        ensures ok { OnOk result (mem_names self.new
+            ≡ stored name.now bytes.now (mem_names self.old)) }
         ensures err { OnErr result (mem_names self.new ≡ mem_names self.old) }
         ensures faults { SameFaults self.old self.new }
     {
@@ -111,7 +113,8 @@ impl Files for MemFiles {
     }
 
     fn store(&mut self, alloc: Global, name: &Text, bytes: &[u8]) -> Result<(), FileFail>
-        ensures held { IsStored name.now bytes.now (Some (mem_names self.old)) (Some (mem_names self.new)) result }
+        ensures held { IsStored name.now bytes.now (Some (mem_names self.old))
+            (Some (mem_names self.new)) result }
         ensures later { self.old.store_faults ≤ self.new.store_faults }
         ensures cause { HasCause self.old.store_faults self.new.store_faults result }
         ensures loads { self.new.load_faults ≡ self.old.load_faults }

@@ -8,7 +8,8 @@ use crate::memory::Memory;
 use crate::output::Sink;
 use std::alloc::Global;
 
-/// An output in memory. Calls of `put` are counted from 1; one that answers `Memory` is not counted.
+/// An output in memory. Calls of `put` are counted from 1; one that answers `Memory` is not
+/// counted.
 #[derive(Drop)]
 pub struct MemSink {
     bytes: Items<u8>,
@@ -60,7 +61,8 @@ impl Sink for MemSink {
     ghost faults = { λ sink. sink.faults };
 
     fn put(&mut self, _alloc: Global, bytes: &[u8]) -> Result<(), FileFail>
-        ensures given { IsPut bytes.now (Some (mem_given self.old)) (Some (mem_given self.new)) result }
+        ensures given { IsPut bytes.now (Some (mem_given self.old))
+            (Some (mem_given self.new)) result }
         ensures later { self.old.faults ≤ self.new.faults }
         ensures cause { HasCause self.old.faults self.new.faults result }
         // It fails exactly where this was said of its number, after as many bytes as were said.

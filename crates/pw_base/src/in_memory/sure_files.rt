@@ -29,7 +29,8 @@ impl SureFiles {
 
     /// Holds the bytes under the name, all other names as before.
     pub fn add_file(&mut self, alloc: Global, name: &Text, bytes: &[u8]) -> Result<(), Memory>
-        ensures ok { OnOk result (sure_names self.new ≡ stored name.now bytes.now (sure_names self.old)) }
+        ensures ok { OnOk result (sure_names self.new
+            ≡ stored name.now bytes.now (sure_names self.old)) }
         ensures err { OnErr result (sure_names self.new ≡ sure_names self.old) }
     {
         put(&mut self.map, alloc, name.as_slice(), bytes)

@@ -67,8 +67,10 @@ fn wave_loaded<F: Files>(
     requires small { length bytes.now ≤ wav_bytes_limit }
     ensures files { LoadsOnly (F.held files.old) (F.held files.new) (F.load_faults files.old)
         (F.load_faults files.new) (F.store_faults files.old) (F.store_faults files.new) }
-    ensures told { Tells (F.held files.old) (λ names. ReadsWave names seq.now out bytes.now) result }
-    ensures cause { CommandCause IsDeliverable (F.load_faults files.old) (F.load_faults files.new) result }
+    ensures told { Tells (F.held files.old)
+        (λ names. ReadsWave names seq.now out bytes.now) result }
+    ensures cause { CommandCause IsDeliverable (F.load_faults files.old)
+        (F.load_faults files.new) result }
 {
     match wave_step(alloc, 1, bytes) {
         Err(status) => Err(status),
@@ -88,7 +90,8 @@ fn load_points<F: Files>(
     ensures files { LoadsOnly (F.held files.old) (F.held files.new) (F.load_faults files.old)
         (F.load_faults files.new) (F.store_faults files.old) (F.store_faults files.new) }
     ensures told { Tells (F.held files.old) (λ names. LoadsPoints names seq.now out wav) result }
-    ensures cause { CommandCause IsDeliverable (F.load_faults files.old) (F.load_faults files.new) result }
+    ensures cause { CommandCause IsDeliverable (F.load_faults files.old)
+        (F.load_faults files.new) result }
 {
     match load_step(alloc, files, 2, seq, POD_BYTES, Which::PodBytes) {
         Err(status) => Err(status),

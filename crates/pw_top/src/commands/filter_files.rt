@@ -1,4 +1,5 @@
-//! `filter A B OUT`: two objects are read as formats, and what they have in common is stored as an object.
+//! `filter A B OUT`: two objects are read as formats, and what they have in common is stored as an
+//! object.
 #![tactic(auto, using(crate::proofs::AllowedLemmas::parts))]
 
 ghost use Rattle.std.specs.Prelude.{◌≡◌, [], ◌∷◌, ◌++◌, codes, Ok, IfOk};
@@ -25,7 +26,8 @@ use std::alloc::Global;
 use std::sync::Wait;
 use std::thread::Threads;
 
-/// Filters the objects of two files, A as output, and stores what they have in common under a third name.
+/// Filters the objects of two files, A as output, and stores what they have in common under a third
+/// name.
 #[derive(Drop)]
 pub struct FilterFiles {
     pub a: Text,
@@ -65,8 +67,10 @@ fn first_loaded<F: Files>(
 ) -> Result<Work, Status>
     ensures files { LoadsOnly (F.held files.old) (F.held files.new) (F.load_faults files.old)
         (F.load_faults files.new) (F.store_faults files.old) (F.store_faults files.new) }
-    ensures told { Tells (F.held files.old) (λ names. ReadsFirst names b.now out bytes.now) result }
-    ensures cause { CommandCause IsDeliverable (F.load_faults files.old) (F.load_faults files.new) result }
+    ensures told { Tells (F.held files.old)
+        (λ names. ReadsFirst names b.now out bytes.now) result }
+    ensures cause { CommandCause IsDeliverable (F.load_faults files.old)
+        (F.load_faults files.new) result }
 {
     match format_step(alloc, 1, bytes.as_slice()) {
         Err(status) => Err(status),
@@ -85,8 +89,10 @@ fn load_second<F: Files>(
     requires { IsSoundFormat first.now }
     ensures files { LoadsOnly (F.held files.old) (F.held files.new) (F.load_faults files.old)
         (F.load_faults files.new) (F.store_faults files.old) (F.store_faults files.new) }
-    ensures told { Tells (F.held files.old) (λ names. LoadsSecond names b.now out first.now) result }
-    ensures cause { CommandCause IsDeliverable (F.load_faults files.old) (F.load_faults files.new) result }
+    ensures told { Tells (F.held files.old)
+        (λ names. LoadsSecond names b.now out first.now) result }
+    ensures cause { CommandCause IsDeliverable (F.load_faults files.old)
+        (F.load_faults files.new) result }
 {
     match load_step(alloc, files, 2, b, POD_BYTES, Which::PodBytes) {
         Err(status) => Err(status),
@@ -159,8 +165,10 @@ fn store_object(alloc: Global, pod: &Pod, out: Text) -> Result<Work, Status>
 
 // The store of these bytes.
 fn store_bytes(alloc: Global, out: Text, bytes: Items<u8>) -> Result<Work, Memory>
-    ensures { IfOk result (λ work. work ≡ record
-        { stores = record { place = 3; name = out; content = C.Bytes bytes } ∷ []; text = codes "common\n" }) }
+    ensures { IfOk result (λ work. work ≡ record {
+      stores = record { place = 3; name = out; content = C.Bytes bytes } ∷ [];
+      text = codes "common\n";
+    }) }
 {
     let mut stores = Items::new(alloc);
     stores.push(Store {

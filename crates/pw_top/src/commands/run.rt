@@ -1,4 +1,5 @@
-//! `run SCRIPT`: the script is loaded and read, then the files that its lines name, then its plan is rendered.
+//! `run SCRIPT`: the script is loaded and read, then the files that its lines name, then its plan
+//! is rendered.
 #![tactic(auto, using(crate::proofs::AllowedLemmas::parts))]
 
 ghost use Rattle.std.specs.Prelude.{◌≡◌, ◌≤◌, length, IfOk};
@@ -69,7 +70,8 @@ fn run_script_bytes<F: Files>(
     ensures files { LoadsOnly (F.held files.old) (F.held files.new) (F.load_faults files.old)
         (F.load_faults files.new) (F.store_faults files.old) (F.store_faults files.new) }
     ensures told { Tells (F.held files.old) (λ names. ReadsScript names bytes.now) result }
-    ensures cause { CommandCause IsDeliverable (F.load_faults files.old) (F.load_faults files.new) result }
+    ensures cause { CommandCause IsDeliverable (F.load_faults files.old)
+        (F.load_faults files.new) result }
 {
     match read_script(alloc, bytes) {
         Err(status) => Err(status),
@@ -80,7 +82,8 @@ fn run_script_bytes<F: Files>(
 // The script that the bytes are, or its first fault.
 fn read_script(alloc: Global, bytes: &Items<u8>) -> Result<Script, Status>
     requires small { length bytes.now ≤ script_bytes_limit }
-    ensures told { Ends (Reads (λ outcome. outcome ≡ script_outcome (script_of bytes.now))) result }
+    ensures told { Ends (Reads (λ outcome. outcome ≡ script_outcome (script_of bytes.now)))
+        result }
     ensures cause { CommandCause (λ script. Unit {0}) 0 0 result }
     ensures ranges { IfOk result HasRanges }
     ensures kinds { IfOk result HasKinds }
@@ -101,7 +104,8 @@ fn run_script<F: Files>(alloc: Global, files: &mut F, script: &Script) -> Result
     ensures files { LoadsOnly (F.held files.old) (F.held files.new) (F.load_faults files.old)
         (F.load_faults files.new) (F.store_faults files.old) (F.store_faults files.new) }
     ensures told { Tells (F.held files.old) (λ names. RunsScript names script.now) result }
-    ensures cause { CommandCause IsDeliverable (F.load_faults files.old) (F.load_faults files.new) result }
+    ensures cause { CommandCause IsDeliverable (F.load_faults files.old)
+        (F.load_faults files.new) result }
 {
     match load_all(alloc, files, script.lines.as_slice()) {
         Err(status) => Err(status),

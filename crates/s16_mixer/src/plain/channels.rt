@@ -31,9 +31,9 @@ fn pick_pairs(channels: usize, first: u32, second: u32, s: &[i16], to: &mut [i16
     }
 }
 
-/// Writes, of each whole frame of `s`, the channels that the list names, in the list's order. Frames are
-/// interleaved: `s` has `channels` samples a frame and `to` as many as the list is long. Takes no
-/// memory; one pass.
+/// Writes, of each whole frame of `s`, the channels that the list names, in the list's order.
+/// Frames are interleaved: `s` has `channels` samples a frame and `to` as many as the list is long.
+/// Takes no memory; one pass.
 pub fn map_channels(channels: usize, list: &[u32], s: &[i16], to: &mut [i16])
     requires within { All (λ c. c < channels) list.now }
     requires whole { length s.now % channels ≡ 0 }
@@ -51,8 +51,8 @@ pub fn map_channels(channels: usize, list: &[u32], s: &[i16], to: &mut [i16])
     }
 }
 
-/// Writes channel 0 of each stereo frame of `s` to `left` and channel 1 to `right`. Takes no memory;
-/// one pass.
+/// Writes channel 0 of each stereo frame of `s` to `left` and channel 1 to `right`. Takes no
+/// memory; one pass.
 #[inline(always)]
 pub fn split(s: &[i16], left: &mut [i16], right: &mut [i16])
     requires length_left { length s.now ≡ 2 * length left.old }

@@ -37,8 +37,8 @@ fn mix(ga: i32, gb: i32, a: i16, b: i16) -> i16
     rounded(product(ga, a) + product(gb, b))
 }
 
-/// Writes each sample by the gain `g` / 256, rounded towards minus infinity and clamped, to its place in
-/// `to`. Takes no memory; one pass.
+/// Writes each sample by the gain `g` / 256, rounded towards minus infinity and clamped, to its
+/// place in `to`. Takes no memory; one pass.
 #[inline(always)]
 pub fn gain(g: i32, s: &[i16], to: &mut [i16])
     requires lengths { length s.now ≡ length to.old }
@@ -50,8 +50,8 @@ pub fn gain(g: i32, s: &[i16], to: &mut [i16])
     }
 }
 
-/// Writes each pair of samples, `a` by `ga` / 256 and `b` by `gb` / 256, added, rounded towards minus
-/// infinity and clamped once, to its place in `to`. Takes no memory; one pass.
+/// Writes each pair of samples, `a` by `ga` / 256 and `b` by `gb` / 256, added, rounded towards
+/// minus infinity and clamped once, to its place in `to`. Takes no memory; one pass.
 #[inline(always)]
 pub fn mix2(ga: i32, gb: i32, a: &[i16], b: &[i16], to: &mut [i16])
     requires length_a { length a.now ≡ length to.old }

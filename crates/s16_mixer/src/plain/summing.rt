@@ -11,8 +11,8 @@ fn plus(sum: i32, x: i16) -> i32
     sum + i32::from(x)
 }
 
-/// Adds each sample to the sum in its place, with no clamp. Sums of up to 255 samples have room for one
-/// more. Takes no memory; one pass.
+/// Adds each sample to the sum in its place, with no clamp. Sums of up to 255 samples have room for
+/// one more. Takes no memory; one pass.
 #[inline(always)]
 pub fn mix_into(sum: &mut [i32], s: &[i16])
     requires lengths { length sum.old ≡ length s.now }
