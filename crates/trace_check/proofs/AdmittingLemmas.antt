@@ -1,18 +1,18 @@
 -- Laws of `specs/working/Admitting.antt`: the sets tell which event may come next, and follow it.
-use Rattle.std.proofs.Common.{◌≡◌, ℕ, ◌+◌, ◌<◌, ◌≤◌, ◌==◌, ◌||◌, ◌⊎◌, ◌↔◌, inl, inr, Bool, true, false, List, [], ◌∷◌, ◌++◌, length, get_or, IsTrue}
-use Rattle.std.proofs.Common.{refl, sym, ap, ap₂, ◌∙◌, subst, arith}
-use Rattle.std.specs.Prelude.{All, Contains, IsBitSet}
+use Rattle.std.proofs.Common.{◌≡◌, ℕ, ◌<◌, ◌≤◌, ◌==◌, ◌||◌, ◌↔◌, inl, inr, Bool, true, false, List, [], ◌∷◌, ◌++◌, IsTrue}
+use Rattle.std.proofs.Common.{refl, sym, ◌∙◌, subst, arith}
+use Rattle.std.specs.Prelude.{Contains, IsBitSet}
 use Rattle.std.proofs.lemmas.Bool.{true≢false, false_from_ne_true}
 use Rattle.std.proofs.lemmas.Bool.Decides.{Decides-eqb}
 use Rattle.std.proofs.lemmas.List.Elements.{All-map, All-contains, Contains-append_left, Contains-push, Contains-push_cases}
 use Rattle.pw_base.specs.declared.event.Event.{Event}
 use Rattle.pw_base.specs.declared.event.Event.TheVariants.{Begin, Start, Finish, Tick, End}
 use Rattle.pw_base.specs.declared.shape.Shape.{Shape}
-use Rattle.pw_base.specs.Dependencies.{nodes_of, waits, are_linked, Precedes}
+use Rattle.pw_base.specs.Dependencies.{nodes_of, are_linked, Precedes}
 use Rattle.pw_base.specs.SoundShape.{IsSoundShape}
 use Rattle.trace_check.specs.declared.order.Order.{Order}
 use Rattle.trace_check.specs.declared.so_far.SoFar.{SoFar}
-use Rattle.trace_check.specs.working.NodeSets.{IsWithin, AreApart, Gains}
+use Rattle.trace_check.specs.working.NodeSets.{IsWithin, Gains}
 use Rattle.trace_check.specs.working.NextEvent.{MayFollow, AreAllowed, HaveFinished}
 use Rattle.trace_check.specs.working.Admitting.{IsSetOf, IsOrderOf, StandsFor, Admits, Becomes, HasSmallNode}
 use Rattle.trace_check.proofs.NodeSetsLemmas.{none_set}

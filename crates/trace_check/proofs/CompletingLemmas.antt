@@ -1,18 +1,18 @@
 -- What is allowed in a cycle goes on to a legal cycle: the nodes that are left run in an order that rises.
-use Rattle.std.proofs.Common.{◌≡◌, ℕ, zero, suc, ◌+◌, ◌<◌, ◌≤◌, ◌⊎◌, inl, inr, List, [], ◌∷◌, ◌++◌, length, get_or}
-use Rattle.std.proofs.Common.{refl, sym, ap, ◌∙◌, subst, arith, append_assoc, append-nil}
+use Rattle.std.proofs.Common.{◌≡◌, ℕ, zero, suc, ◌<◌, ◌⊎◌, inl, inr, List, [], ◌∷◌, ◌++◌, get_or}
+use Rattle.std.proofs.Common.{refl, sym, ap, subst, arith, append_assoc, append-nil}
 use Rattle.std.specs.Prelude.{All, Contains, sum_by}
 use Rattle.std.proofs.lemmas.Bool.{cases_lt}
 use Rattle.std.proofs.lemmas.List.Elements.{All-head, All-tail, All-contains_itself, Contains-append_left, Contains-push, Contains-push_cases}
 use Rattle.std.proofs.lemmas.List.Sums.{get_or-le-sum_by}
 use Rattle.pw_base.specs.declared.event.Event.{Event}
-use Rattle.pw_base.specs.declared.event.Event.TheVariants.{Begin, Start, Finish, Tick, End}
+use Rattle.pw_base.specs.declared.event.Event.TheVariants.{Start, Finish}
 use Rattle.pw_base.specs.declared.shape.Shape.{Shape}
 use Rattle.pw_base.specs.Dependencies.{nodes_of, Precedes}
 use Rattle.pw_base.specs.History.{is_start, is_finish, IsLegalInside}
 use Rattle.pw_base.specs.SoundShape.{IsSoundShape}
 use Rattle.pw_base.proofs.PrecedenceLemmas.{sound_order}
-use Rattle.trace_check.specs.working.NextEvent.{MayFollow, AreAllowed, HaveFinished}
+use Rattle.trace_check.specs.working.NextEvent.{MayFollow, AreAllowed}
 use Rattle.trace_check.proofs.PlaceLemmas.{is_there}
 use Rattle.trace_check.proofs.NextEventLemmas.{allowed_more}
 use Rattle.trace_check.proofs.LegalLemmas.{start_told, finish_told, start_is, finish_is, allowed_legal}
@@ -57,18 +57,24 @@ module _ (shape : Shape) (cycle : ℕ) where
       (λ m e. subst (λ k. Contains (xs ++ Finish cycle n ∷ []) (Finish cycle k)) e (Contains-push xs (Finish cycle n)))
 
   -- a node whose predecessors have finished runs
+  start_and_finish : (xs : List Event) (n : ℕ) → AreAllowed shape cycle xs → MayFollow shape cycle xs (Start cycle n)
+      → ¬ Contains xs (Finish cycle n) → RunsOn xs (λ m. n ≡ m)
+  unfolding one_more
+  start_and_finish xs n all may none =
+      let a : RunsOn xs (λ m. ⊥) = one_more xs (Start cycle n) (λ m. ⊥) all may (λ m w. absurd w) in
+      fewer xs (λ m. ⊥ ⊎ (n ≡ m)) (λ m. n ≡ m)
+      (then xs (λ m. ⊥) (λ m. n ≡ m) a (finish_started (xs ++ Start cycle n ∷ []) n (allowed_more shape cycle xs (Start cycle n) all may)
+      (Contains-push xs (Start cycle n))
+      (λ c. elim (Contains-push_cases xs (Start cycle n) (Finish cycle n) c) [ inl old ↦ none old | inr e ↦ (let z : ⊥ = cc in z) ])))
+      (λ m e. inr e)
+
   run_node : (xs : List Event) (n : ℕ) → AreAllowed shape cycle xs → Contains (nodes_of shape) n
       → ((m : ℕ) → Precedes shape m n → Contains xs (Finish cycle m)) → RunsOn xs (λ m. n ≡ m)
   run_node xs n all active ready = elim (is_there (is_finish cycle n) (Finish cycle n) (finish_told cycle n) (finish_is cycle n) xs) [
     | inl done ↦ stay xs (λ m. n ≡ m) all (λ m e. subst (λ k. Contains xs (Finish cycle k)) e done)
     | inr none ↦ elim (is_there (is_start cycle n) (Start cycle n) (start_told cycle n) (start_is cycle n) xs) [
       | inl started ↦ finish_started xs n all started none
-      | inr idle ↦ (let a : RunsOn xs (λ m. ⊥) = one_more xs (Start cycle n) (λ m. ⊥) all (refl, active, idle, ready) (λ m w. absurd w) in
-          fewer xs (λ m. ⊥ ⊎ (n ≡ m)) (λ m. n ≡ m)
-          (then xs (λ m. ⊥) (λ m. n ≡ m) a (finish_started (xs ++ Start cycle n ∷ []) n (allowed_more shape cycle xs (Start cycle n) all (refl, active, idle, ready))
-          (Contains-push xs (Start cycle n))
-          (λ c. elim (Contains-push_cases xs (Start cycle n) (Finish cycle n) c) [ inl old ↦ none old | inr e ↦ (let z : ⊥ = cc in z) ])))
-          (λ m e. inr e))
+      | inr idle ↦ start_and_finish xs n all (refl, active, idle, ready) none
     ]
   ]
 

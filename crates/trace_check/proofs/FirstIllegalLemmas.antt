@@ -1,11 +1,11 @@
 -- Laws of `specs/FirstIllegal.antt`.
-use Rattle.std.proofs.Common.{◌≡◌, ℕ, ◌+◌, ◌<◌, ◌≤◌, ◌⊎◌, inl, inr, List, ◌++◌, length, take, drop, refl, sym, ap, ◌∙◌, subst, arith}
+use Rattle.std.proofs.Common.{◌≡◌, ℕ, ◌+◌, ◌≤◌, inl, inr, List, ◌++◌, length, take, drop, sym, ap, ◌∙◌, subst, arith}
 use Rattle.std.proofs.lemmas.Bool.{cases_lt}
 use Rattle.std.proofs.lemmas.List.{take-append-drop, take-take}
 use Rattle.pw_base.specs.declared.event.Event.{Event}
 use Rattle.pw_base.specs.declared.shape.Shape.{Shape}
 use Rattle.pw_base.specs.History.{cycles_of}
-use Rattle.trace_check.specs.FirstIllegal.{CanGoOn, IsFirstIllegal}
+use Rattle.trace_check.specs.FirstIllegal.{IsFirstIllegal}
 use Rattle.trace_check.specs.working.Fronts.{GoOn, StopAfter}
 use Rattle.trace_check.proofs.FrontsLemmas.{front_goes_on}
 

@@ -1,21 +1,20 @@
 -- Laws of `specs/working/Fronts.antt`: how events are cut into cycles, and which fronts of them can go on.
-use Rattle.std.proofs.Common.{◌≡◌, ℕ, zero, suc, ◌+◌, ◌-◌, ◌<◌, ◌≤◌, ◌⊎◌, inl, inr, Bool, true, false, List, [], ◌∷◌, ◌++◌, length, get_or}
+use Rattle.std.proofs.Common.{◌≡◌, ℕ, zero, suc, ◌+◌, ◌<◌, ◌≤◌, ◌⊎◌, inl, inr, false, List, [], ◌∷◌, ◌++◌, length, get_or}
 use Rattle.std.proofs.Common.{take, drop, refl, sym, ap, ap₂, ◌∙◌, subst, arith, append_assoc, append-nil, length-append}
 use Rattle.std.specs.Prelude.{All}
 use Rattle.std.specs.List.{flat_map, AllZip}
 use Rattle.std.proofs.lemmas.Bool.{true≢false, cases_lt}
 use Rattle.std.proofs.lemmas.List.{take-append-drop, take_more, take_all}
-use Rattle.std.proofs.lemmas.List.Elements.{All-head, All-tail, All-append, All-nil}
+use Rattle.std.proofs.lemmas.List.Elements.{All-head, All-tail}
 use Rattle.pw_base.specs.declared.event.Event.{Event}
-use Rattle.pw_base.specs.declared.event.Event.TheVariants.{Begin, Start, Finish, Tick, End}
+use Rattle.pw_base.specs.declared.event.Event.TheVariants.{Begin, End}
 use Rattle.pw_base.specs.declared.shape.Shape.{Shape}
 use Rattle.pw_base.specs.History.{IsLegalInside, IsLegalCycle, AreJoined}
 use Rattle.pw_base.specs.HistoryFronts.{is_end}
 use Rattle.pw_base.specs.SoundShape.{IsSoundShape}
-use Rattle.trace_check.specs.declared.following.Front.{Front}
 use Rattle.trace_check.specs.declared.following.Front.TheVariants.{Whole, Part}
 use Rattle.trace_check.specs.working.NextEvent.{MayFollow, AreAllowed, HaveFinished}
-use Rattle.trace_check.specs.working.Fronts.{AreSound, GoOn, StopAfter, IsFrontOf, IsFrontInside}
+use Rattle.trace_check.specs.working.Fronts.{AreSound, GoOn, StopAfter, IsFrontInside}
 use Rattle.trace_check.proofs.NextEventLemmas.{none_allowed, allowed_next, endless}
 use Rattle.trace_check.proofs.LegalLemmas.{legal_allowed, legal_finished, allowed_legal}
 use Rattle.trace_check.proofs.CompletingLemmas.{completes}
@@ -34,7 +33,7 @@ module _ {X : Type 0} where
         | inr w ↦ inr (w.0, ap₂ (λ z zs. z ∷ zs) (sym h) w.1, w.2)
       ]
 
-  take_behind : (p r : List X) (n : ℕ) → take (length p + n) (p ++ r) ≡ p ++ take n r
+  pub take_behind : (p r : List X) (n : ℕ) → take (length p + n) (p ++ r) ≡ p ++ take n r
   take_behind [] r n = let e : 0 + n ≡ n = omega arith in ap (λ k. take k r) e
   take_behind (x ∷ p) r n = let e : suc (length p) + n ≡ suc (length p + n) = omega arith in
       ap (λ k. take k (x ∷ (p ++ r))) e ∙ ap (λ l. x ∷ l) (take_behind p r n)
@@ -110,8 +109,8 @@ rest_joined shape cycle more inside rest legal h =
     subst (AreJoined more) (sym (same_end inside c.inside rest c.rest cycle (endless shape cycle inside (legal_allowed shape cycle inside legal))
     (endless shape cycle c.inside (legal_allowed shape cycle c.inside c.legal)) tails)) c.others
   where
-  tail_of : {x : Event} {xs ys : List Event} → x ∷ xs ≡ x ∷ ys → xs ≡ ys
-  tail_of e = cc
+    tail_of : {x : Event} {xs ys : List Event} → x ∷ xs ≡ x ∷ ys → xs ≡ ys
+    tail_of e = cc
 
 -- cycles one after the other
 pub joined_more : (front more : List (Shape × ℕ)) (p r : List Event) → AreJoined front p → AreJoined more r → AreJoined (front ++ more) (p ++ r)
@@ -261,8 +260,11 @@ stop_behind front more p r n h s = record {
   stops = λ lt g. let a = length-append p r in
       let one : length p + n + 1 ≡ length p + (n + 1) = omega arith in
       let taken : take (length p + n + 1) (p ++ r) ≡ p ++ take (n + 1) r = ap (λ k. take k (p ++ r)) one ∙ take_behind p r (n + 1) in
-      s.stops (omega arith) (g.0, joined_rest front more p (take (n + 1) r ++ g.0) h
-      (subst (AreJoined (front ++ more)) (ap (λ l. l ++ g.0) taken ∙ append_assoc p (take (n + 1) r) g.0) g.1));
+      s.stops (omega arith) (
+        g.0,
+        joined_rest front more p (take (n + 1) r ++ g.0) h
+            (subst (AreJoined (front ++ more)) (ap (λ l. l ++ g.0) taken ∙ append_assoc p (take (n + 1) r) g.0) g.1),
+      );
   illegal = λ j. s.illegal (joined_rest front more p r h j);
 }
 

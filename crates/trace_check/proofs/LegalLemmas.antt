@@ -1,21 +1,21 @@
 -- What is legal inside a cycle is allowed event by event; what is allowed, and lets all nodes finish, is legal.
-use Rattle.std.proofs.Common.{◌≡◌, ℕ, ◌+◌, ◌<◌, ◌≤◌, ◌⊎◌, inl, inr, Bool, true, false, not, cond, ◌==◌, ◌&&◌, List, [], ◌∷◌, ◌++◌, length, get_or, take}
+use Rattle.std.proofs.Common.{◌≡◌, ℕ, ◌+◌, ◌<◌, ◌≤◌, Bool, true, false, ◌==◌, List, length, get_or, take}
 use Rattle.std.proofs.Common.{refl, sym, ap, ap₂, ◌∙◌, subst, arith, ◌≢◌}
 use Rattle.std.proofs.lemmas.List.{get_or_default}
-use Rattle.std.specs.Prelude.{count_by, All, Contains, IsBitSet}
+use Rattle.std.specs.Prelude.{count_by, Contains}
 use Rattle.std.specs.List.{position_or_len}
-use Rattle.std.proofs.lemmas.Bool.{true≢false, cases_lt, and_parts, and_from}
+use Rattle.std.proofs.lemmas.Bool.{true≢false, and_parts, and_from}
 use Rattle.std.proofs.lemmas.Bool.Decides.{Decides-eqb}
 use Rattle.std.proofs.lemmas.List.Elements.{All-map, All-contains}
-use Rattle.std.proofs.lemmas.List.Sums.{passes_at_first, prefix_len-le-length}
+use Rattle.std.proofs.lemmas.List.Sums.{passes_at_first}
 use Rattle.pw_base.specs.declared.event.Event.{Event}
 use Rattle.pw_base.specs.declared.event.Event.TheVariants.{Begin, Start, Finish, Tick, End}
 use Rattle.pw_base.specs.declared.shape.Shape.{Shape}
 use Rattle.pw_base.specs.Dependencies.{nodes_of, Precedes}
 use Rattle.pw_base.specs.History.{is_start, is_finish, is_tick, start_place, finish_place, tick_place, IsOfCycle, RunsOnce, IsLegalInside}
 use Rattle.pw_base.proofs.ShapeLemmas.{contains_mapped}
-use Rattle.trace_check.specs.working.NextEvent.{MayFollow, AreAllowed, HaveFinished, IsUnfinished}
-use Rattle.trace_check.proofs.PlaceLemmas.{in_front, from_front, front_within, first_from, first_below, first_in, first_within, some_pass, place_is, count_one}
+use Rattle.trace_check.specs.working.NextEvent.{MayFollow, AreAllowed, HaveFinished}
+use Rattle.trace_check.proofs.PlaceLemmas.{in_front, front_within, first_from, first_below, first_in, first_within, some_pass, place_is, count_one}
 use Rattle.trace_check.proofs.NextEventLemmas.{started_active}
 
 -- the tests tell their events
@@ -174,10 +174,10 @@ module _ (shape : Shape) (cycle : ℕ) (xs : List Event) where
           λ n small b. let u = may.3 n small b in (u.0, u.1, no_finish n u.2),
         )
       where
-      place_differs : (f : Event → Bool) (k : ℕ) (d e : Event) → k < length xs → get_or xs k d ≡ e → f e ≡ false → ¬ (position_or_len f xs ≡ k)
-      place_differs f k d e lt is no at =
-          let t : f (get_or xs (position_or_len f xs) d) ≡ true = passes_at_first f xs d (omega arith) in
-          true≢false (sym t ∙ ap (λ p. f (get_or xs p d)) at ∙ ap f is ∙ no)
+        place_differs : (f : Event → Bool) (k : ℕ) (d e : Event) → k < length xs → get_or xs k d ≡ e → f e ≡ false → ¬ (position_or_len f xs ≡ k)
+        place_differs f k d e lt is fails at =
+            let t : f (get_or xs (position_or_len f xs) d) ≡ true = passes_at_first f xs d (omega arith) in
+            true≢false (sym t ∙ ap (λ p. f (get_or xs p d)) at ∙ ap f is ∙ fails)
     of_cycle k d (End c) lt is may = absurd may
 
     -- ALLOWED, WITH ALL NODES FINISHED, IS LEGAL

@@ -7,3 +7,4 @@ pub mod AdmittingLemmas
 pub mod FrontsLemmas
 pub mod FirstIllegalLemmas
 pub mod OrderLemmas
+pub mod EpochLemmas

@@ -1,6 +1,6 @@
 -- Laws of `specs/working/NextEvent.antt`: fronts of what is allowed, and one event more.
-use Rattle.std.proofs.Common.{◌≡◌, ℕ, ◌+◌, ◌<◌, ◌≤◌, ◌⊎◌, inl, inr, Bool, true, false, not, List, [], ◌∷◌, ◌++◌, length, get_or, take}
-use Rattle.std.proofs.Common.{refl, sym, ap, ◌∙◌, subst, arith, length-append}
+use Rattle.std.proofs.Common.{◌≡◌, ℕ, ◌+◌, inl, inr, false, List, [], ◌∷◌, ◌++◌, length, get_or, take}
+use Rattle.std.proofs.Common.{refl, sym, subst, arith, length-append}
 use Rattle.std.specs.Prelude.{All, Contains}
 use Rattle.std.proofs.lemmas.Bool.{cases_lt}
 use Rattle.std.proofs.lemmas.List.{take-append-le, take_at, get_or_append_left, get_or_at}
@@ -10,7 +10,6 @@ use Rattle.pw_base.specs.declared.shape.Shape.{Shape}
 use Rattle.pw_base.specs.Dependencies.{nodes_of}
 use Rattle.pw_base.specs.HistoryFronts.{is_end}
 use Rattle.trace_check.specs.working.NextEvent.{MayFollow, AreAllowed}
-use Rattle.trace_check.proofs.PlaceLemmas.{from_front}
 
 module _ (shape : Shape) (cycle : ℕ) where
   pub none_allowed : AreAllowed shape cycle []
@@ -33,7 +32,7 @@ module _ (shape : Shape) (cycle : ℕ) where
   -- the event behind a front
   pub allowed_next : (xs ys : List Event) (e : Event) → AreAllowed shape cycle (xs ++ e ∷ ys) → MayFollow shape cycle xs e
   allowed_next xs ys e all =
-      let long : length (xs ++ e ∷ ys) ≡ length xs + (1 + length ys) = length-append xs (e ∷ ys) in
+      let long : length (xs ++ e ∷ ys) ≡ length xs + length (e ∷ ys) = length-append xs (e ∷ ys) in
       let front : take (length xs) (xs ++ e ∷ ys) ≡ xs = take_at xs (e ∷ ys) (length xs) refl in
       let here : get_or (xs ++ e ∷ ys) (length xs) e ≡ e = get_or_at xs e ys e (length xs) refl in
       subst (λ (p : List Event × Event). MayFollow shape cycle p.0 p.1) (λ i. (front i, here i)) (all (length xs) e (omega arith))

@@ -1,18 +1,17 @@
 -- The order of a shape's nodes, as sets of their numbers.
-use Rattle.std.proofs.Common.{◌≡◌, ℕ, ◌+◌, ◌<◌, ◌≤◌, ◌==◌, ◌&&◌, ◌||◌, ◌⊎◌, ◌↔◌, inl, inr, Bool, true, false, not, List, [], ◌∷◌, ◌++◌, map, length, get_or, take, IsTrue}
-use Rattle.std.proofs.Common.{refl, sym, ap, ap₂, ◌∙◌, subst, arith}
-use mathlib.Core.Logic.{dite}
-use Rattle.std.specs.Prelude.{All, Contains, IsBitSet}
+use Rattle.std.proofs.Common.{◌≡◌, ℕ, ◌+◌, ◌<◌, ◌==◌, ◌&&◌, ◌||◌, ◌↔◌, inl, inr, Bool, true, false, not, List, [], ◌∷◌, ◌++◌, map, length, get_or, take, IsTrue}
+use Rattle.std.proofs.Common.{refl, sym, ap, ◌∙◌, subst}
+use Rattle.std.specs.Prelude.{Contains, IsBitSet}
 use Rattle.std.specs.List.{list_any}
 use Rattle.std.proofs.lemmas.Bool.{true≢false, false_from_ne_true, and_parts, or_cases}
 use Rattle.std.proofs.lemmas.Bool.Decides.{Decides-eqb}
-use Rattle.std.proofs.lemmas.List.{map_more, take_more}
+use Rattle.std.proofs.lemmas.List.{map_more}
 use Rattle.std.proofs.lemmas.List.Elements.{Contains-append_left, Contains-push, Contains-push_cases}
 use Rattle.std.proofs.lemmas.List.Folds.{list_any_more, Any-from_list_any}
 use Rattle.pw_base.specs.declared.shape.Shape.{Shape}
 use Rattle.pw_base.specs.declared.shape.ShapeNode.{ShapeNode}
 use Rattle.pw_base.specs.declared.shape.ShapeLink.{ShapeLink}
-use Rattle.pw_base.specs.Dependencies.{nodes_of, joins, are_linked, waits, Precedes}
+use Rattle.pw_base.specs.Dependencies.{nodes_of, joins, are_linked, Precedes}
 use Rattle.pw_base.specs.SoundShape.{IsSoundShape, IsSoundLink}
 use Rattle.trace_check.specs.working.NodeSets.{Gains, Loses}
 use Rattle.trace_check.specs.working.Admitting.{IsSetOf}
@@ -45,9 +44,9 @@ joins_is m n l t =
     let b = and_parts (l.from.node == m) (l.to.node == n) a.1 in
     (not_true l.delayed a.0, (Decides-eqb _ _).0 b.0, (Decides-eqb _ _).0 b.1)
   where
-  not_true : (b : Bool) → not b ≡ true → b ≡ false
-  not_true true e = absurd (true≢false (sym e))
-  not_true false e = refl
+    not_true : (b : Bool) → not b ≡ true → b ≡ false
+    not_true true e = absurd (true≢false (sym e))
+    not_true false e = refl
 
 is_joins : (m n : ℕ) (l : ShapeLink) → l.delayed ≡ false → l.from.node ≡ m → l.to.node ≡ n → joins m n l ≡ true
 is_joins m n l d f t = rw (d, (Decides-eqb l.from.node m).1 f, (Decides-eqb l.to.node n).1 t) refl
@@ -71,9 +70,9 @@ module _ (links : List ShapeLink) (i : ℕ) (d : ShapeLink) (set node : ℕ) (lt
     or_second false b e = e
 
   pub link_other : ((m : ℕ) → joins m node (get_or links i d) ≡ false) → IsSetOf set (λ m. IsTrue (list_any (joins m node) (take (i + 1) links)))
-  link_other no m small = (
+  link_other none m small = (
     λ b. more m ∙ ap (λ x. x || joins m node (get_or links i d)) ((old m small).0 b),
-    λ t. elim (or_cases _ _ (sym (more m) ∙ t)) [ inl f ↦ (old m small).1 f | inr j ↦ absurd (true≢false (sym j ∙ no m)) ],
+    λ t. elim (or_cases _ _ (sym (more m) ∙ t)) [ inl f ↦ (old m small).1 f | inr j ↦ absurd (true≢false (sym j ∙ none m)) ],
   )
 
 pub delayed_joins_none : (l : ShapeLink) (node m : ℕ) → l.delayed ≡ true → joins m node l ≡ false
@@ -88,25 +87,19 @@ module _ (shape : Shape) (sound : IsSoundShape shape) (n : ℕ) (follows : ¬ (n
   linked_precedes m t =
       let a = Any-from_list_any (joins m n) shape.links t in
       let j = joins_is m n a.1 a.4 in
-      let link = subst (λ l. ends l) a.3 (ends_of (sound.links.each a.0 a.1 a.2)) in record {
+      let link = subst (IsSoundLink shape) a.3 (sound.links.each a.0 a.1 a.2) in record {
         depends = record {
-          from_active = subst (Contains (nodes_of shape)) j.1 link.0;
-          to_active = subst (Contains (nodes_of shape)) j.2 link.1;
+          from_active = subst (Contains (nodes_of shape)) j.1 link.from_active;
+          to_active = subst (Contains (nodes_of shape)) j.2 link.to_active;
           waits = linked_waits (m == shape.driver) (n == shape.driver) (are_linked shape m n) t;
         };
-        follower = λ e. link.2 (j.1 ∙ e);
+        follower = λ e. link.from_follower (j.1 ∙ e);
       }
     where
-    abbrev ends : ShapeLink → Type 0
-    ends l = Contains (nodes_of shape) l.from.node × Contains (nodes_of shape) l.to.node × ¬ (l.from.node ≡ shape.driver)
-
-    ends_of : {l : ShapeLink} → IsSoundLink shape l → ends l
-    ends_of k = (k.from_active, k.to_active, k.from_follower)
-
-    linked_waits : (a b c : Bool) → c ≡ true → (a || (b || c)) ≡ true
-    linked_waits true b c e = refl
-    linked_waits false true c e = refl
-    linked_waits false false c e = e
+      linked_waits : (a b c : Bool) → c ≡ true → (a || (b || c)) ≡ true
+      linked_waits true b c e = refl
+      linked_waits false true c e = refl
+      linked_waits false false c e = e
 
   precedes_linked : (m : ℕ) → Precedes shape m n → are_linked shape m n ≡ true
   precedes_linked m p = elim (or_cases (m == shape.driver) ((n == shape.driver) || are_linked shape m n) p.depends.waits) [

@@ -1,9 +1,13 @@
 //! The verdict on the events of a trace.
-ghost use Rattle.std.specs.Prelude.{◌<◌, ◌+◌, ◌^◌, map, length, IfOk};
+ghost use Rattle.std.specs.Prelude.{◌≡◌, ◌<◌, ◌≤◌, ◌+◌, ◌^◌, List, map, length, IfOk};
+ghost use Rattle.pw_base.specs.declared.event.Event.{Event};
+ghost use Rattle.pw_base.specs.declared.shape.Shape.{Shape};
+ghost use Rattle.pw_base.specs.History.{cycles_of};
 ghost use Rattle.pw_base.specs.SoundPlan.{IsSoundPlan};
 ghost use Rattle.trace_check.specs.FirstIllegal.{IsVerdictOn};
+ghost use Rattle.trace_check.specs.working.Fronts.{front_length, IsFrontOf};
 
-use crate::following::{Front, follow_epoch};
+use crate::following::{Front, follow_epochs};
 use pw_base::{Event, Items, Memory, Plan};
 use std::alloc::Global;
 
@@ -17,6 +21,25 @@ pub enum Verdict {
     Illegal { at: u32 },
 }
 
+// What a front of the events says of them all.
+fn verdict_of(front: Front, count: usize) -> Verdict
+    requires within { front_length front ≤ count }
+    requires few { count + 1 < 2 ^ 32 }
+    ensures { (shapes : List Shape) (events : List Event) → length events ≡ count
+        → IsFrontOf (cycles_of shapes) events front → IsVerdictOn shapes events result }
+{
+    match front {
+        Front::Whole(n) => {
+            if n == count {
+                Verdict::Legal
+            } else {
+                Verdict::Illegal { at: (n + 1) as u32 }
+            }
+        }
+        Front::Part(n) => Verdict::Illegal { at: (n + 1) as u32 },
+    }
+}
+
 /// Whether events are a legal history of the epochs of a plan: cycle by cycle Begin, one Start and one Finish of each
 /// active node, each Start after the Finish of all that precede the node, at most one Tick before the driver's Start,
 /// of followers that have not finished, and End. Takes memory for 64 sets of nodes at a time; cost: one look at each
@@ -27,22 +50,6 @@ pub fn check(alloc: Global, plan: &Plan, events: &Items<Event>) -> Result<Verdic
     ensures { IfOk result (IsVerdictOn (map (λ e. e.shape) plan.now.epochs) events.now) }
 {
     let events = events.as_slice();
-    let mut at: usize = 0;
-    for epoch in plan.epochs.as_slice() {
-        match follow_epoch(alloc, &epoch.shape, &events[at..])? {
-            Front::Whole(n) => at += n,
-            Front::Part(n) => {
-                return Ok(Verdict::Illegal {
-                    at: (at + n + 1) as u32,
-                });
-            }
-        }
-    }
-    if at == events.len() {
-        Ok(Verdict::Legal)
-    } else {
-        Ok(Verdict::Illegal {
-            at: (at + 1) as u32,
-        })
-    }
+    let front = follow_epochs(alloc, plan.epochs.as_slice(), events)?;
+    Ok(verdict_of(front, events.len()))
 }

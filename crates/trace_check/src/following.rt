@@ -1,8 +1,8 @@
 //! How far events go on as those of cycles.
-ghost use Rattle.std.specs.Prelude.{◌≡◌, ◌+◌, ◌<◌, ◌≤◌, ◌^◌, [], ◌∷◌, length, IsTrue, ◌↔◌, IfOk};
+ghost use Rattle.std.specs.Prelude.{◌≡◌, ◌+◌, ◌<◌, ◌≤◌, ◌^◌, [], ◌∷◌, length, map, All, IsTrue, ◌↔◌, IfOk};
 ghost use Rattle.pw_base.specs.declared.event.Event.TheVariants as E;
 ghost use Rattle.pw_base.specs.SoundShape.{IsSoundShape};
-ghost use Rattle.pw_base.specs.History.{epoch_cycles};
+ghost use Rattle.pw_base.specs.History.{epoch_cycles, cycles_of};
 ghost use Rattle.trace_check.specs.working.Admitting.{IsOrderOf};
 ghost use Rattle.trace_check.specs.working.Fronts.{front_length, IsFrontOf, IsFrontInside};
 
@@ -10,7 +10,7 @@ use crate::next_event::may_follow;
 use crate::node_sets::is_within;
 use crate::order::{Order, order_of};
 use crate::so_far::{after_event, nothing_yet};
-use pw_base::{Event, Memory, Shape};
+use pw_base::{Epoch, Event, Memory, Shape};
 use std::alloc::Global;
 
 /// A front of a row of events.
@@ -69,26 +69,20 @@ fn follow_cycle(order: &Order, shape: &Shape, cycle: u32, events: &[Event]) -> F
     ensures within { front_length result ≤ length events.now }
     ensures front { IsFrontOf ((shape.now, cycle) ∷ []) events.now result }
 {
-    match events {
-        [first, rest @ ..] => {
-            if !is_begin_of(first, cycle) {
-                return Front::Part(0);
-            }
-            match follow_inside(order, shape, cycle, rest) {
-                Front::Whole(n) => Front::Whole(n + 2),
-                Front::Part(n) => Front::Part(n + 1),
-            }
-        }
-        [] => Front::Part(0),
+    let Some((first, rest)) = events.split_first() else {
+        return Front::Part(0);
+    };
+    if !is_begin_of(first, cycle) {
+        return Front::Part(0);
+    }
+    match follow_inside(order, shape, cycle, rest) {
+        Front::Whole(n) => Front::Whole(n + 2),
+        Front::Part(n) => Front::Part(n + 1),
     }
 }
 
-/// How far events go on as those of the cycles of an epoch.
-pub(crate) fn follow_epoch(
-    alloc: Global,
-    shape: &Shape,
-    events: &[Event],
-) -> Result<Front, Memory>
+// How far events go on as those of the cycles of an epoch.
+fn follow_epoch(alloc: Global, shape: &Shape, events: &[Event]) -> Result<Front, Memory>
     requires { IsSoundShape shape.now }
     ensures within { IfOk result (λ front. front_length front ≤ length events.now) }
     ensures front { IfOk result (IsFrontOf (epoch_cycles shape.now shape.now.cycles) events.now) }
@@ -96,7 +90,30 @@ pub(crate) fn follow_epoch(
     let order = order_of(alloc, shape)?;
     let mut at: usize = 0;
     for k in 0..shape.cycles {
-        match follow_cycle(&order, shape, shape.first + k, &events[at..]) {
+        let (_before, rest) = events.split_at(at);
+        match follow_cycle(&order, shape, shape.first + k, rest) {
+            Front::Whole(n) => at += n,
+            Front::Part(n) => return Ok(Front::Part(at + n)),
+        }
+    }
+    Ok(Front::Whole(at))
+}
+
+/// How far events go on as those of the cycles of epochs. Takes memory for 64 sets of nodes at a time; cost: one look
+/// at each event, and for each epoch one look at each of its links for each of 64 numbers.
+pub(crate) fn follow_epochs(
+    alloc: Global,
+    epochs: &[Epoch],
+    events: &[Event],
+) -> Result<Front, Memory>
+    requires { All (λ e. IsSoundShape e.shape) epochs.now }
+    ensures within { IfOk result (λ front. front_length front ≤ length events.now) }
+    ensures front { IfOk result (IsFrontOf (cycles_of (map (λ e. e.shape) epochs.now)) events.now) }
+{
+    let mut at: usize = 0;
+    for epoch in epochs {
+        let (_before, rest) = events.split_at(at);
+        match follow_epoch(alloc, &epoch.shape, rest)? {
             Front::Whole(n) => at += n,
             Front::Part(n) => return Ok(Front::Part(at + n)),
         }

@@ -1,8 +1,8 @@
 -- Which event may come next in a cycle, between its Begin and its End, after those so far.
 -- Source: PipeWire's documentation, "Graph Scheduling". That these rules give the fronts of legal cycles is proved.
-use Rattle.std.specs.Prelude.{◌≡◌, ℕ, ◌<◌, List, length, take, All, Contains, IsBitSet, slice_index_or}
+use Rattle.std.specs.Prelude.{◌≡◌, ℕ, ◌<◌, List, length, take, Contains, IsBitSet, slice_index_or}
 use Rattle.pw_base.specs.declared.event.Event.{Event}
-use Rattle.pw_base.specs.declared.event.Event.TheVariants.{Begin, Start, Finish, Tick, End}
+use Rattle.pw_base.specs.declared.event.Event.TheVariants.{Start, Finish, Tick}
 use Rattle.pw_base.specs.declared.shape.Shape.{Shape}
 use Rattle.pw_base.specs.Dependencies.{nodes_of, Precedes}
 
