@@ -16,8 +16,8 @@ use std::alloc::Global;
 pub enum Verdict {
     /// A legal history of its epochs.
     Legal,
-    /// None; `at` is the number, from 1, of the first event after which none can follow, or one past the last where
-    /// events are missing alone.
+    /// None; `at` is the number, from 1, of the first event after which none can follow, or one
+    /// past the last where events are missing alone.
     Illegal { at: u32 },
 }
 
@@ -40,10 +40,11 @@ fn verdict_of(front: Front, count: usize) -> Verdict
     }
 }
 
-/// Whether events are a legal history of the epochs of a plan: cycle by cycle Begin, one Start and one Finish of each
-/// active node, each Start after the Finish of all that precede the node, at most one Tick before the driver's Start,
-/// of followers that have not finished, and End. Takes memory for 64 sets of nodes at a time; cost: one look at each
-/// event, and for each epoch one look at each of its links for each of 64 numbers.
+/// Whether events are a legal history of the epochs of a plan: cycle by cycle Begin, one Start and
+/// one Finish of each active node, each Start after the Finish of all that precede the node, at
+/// most one Tick before the driver's Start, of followers that have not finished, and End. Takes
+/// memory for 64 sets of nodes at a time; cost: one look at each event, and for each epoch one look
+/// at each of its links for each of 64 numbers.
 pub fn check(alloc: Global, plan: &Plan, events: &Items<Event>) -> Result<Verdict, Memory>
     requires sound { IsSoundPlan plan.now }
     requires few { length events.now + 1 < 2 ^ 32 }

@@ -99,8 +99,9 @@ fn follow_epoch(alloc: Global, shape: &Shape, events: &[Event]) -> Result<Front,
     Ok(Front::Whole(at))
 }
 
-/// How far events go on as those of the cycles of epochs. Takes memory for 64 sets of nodes at a time; cost: one look
-/// at each event, and for each epoch one look at each of its links for each of 64 numbers.
+/// How far events go on as those of the cycles of epochs. Takes memory for 64 sets of nodes at a
+/// time; cost: one look at each event, and for each epoch one look at each of its links for each of
+/// 64 numbers.
 pub(crate) fn follow_epochs(
     alloc: Global,
     epochs: &[Epoch],
@@ -108,7 +109,8 @@ pub(crate) fn follow_epochs(
 ) -> Result<Front, Memory>
     requires { All (λ e. IsSoundShape e.shape) epochs.now }
     ensures within { IfOk result (λ front. front_length front ≤ length events.now) }
-    ensures front { IfOk result (IsFrontOf (cycles_of (map (λ e. e.shape) epochs.now)) events.now) }
+    ensures front { IfOk result
+        (IsFrontOf (cycles_of (map (λ e. e.shape) epochs.now)) events.now) }
 {
     let mut at: usize = 0;
     for epoch in epochs {

@@ -12,7 +12,8 @@ use pw_base::Event;
 fn may_start(order: &Order, so_far: SoFar, node: u32) -> bool
     requires { length order.now.before ≡ 64 }
     ensures { IsTrue result ↔ ((node < 64) × IsBitSet order.now.active node
-        × ¬ IsBitSet so_far.started node × IsWithin (slice_index order.now.before node) so_far.finished) }
+        × ¬ IsBitSet so_far.started node
+        × IsWithin (slice_index order.now.before node) so_far.finished) }
 {
     node < 64
         && has(order.active, node)
@@ -22,13 +23,14 @@ fn may_start(order: &Order, so_far: SoFar, node: u32) -> bool
 
 // Whether a node may finish: it has started and not finished.
 fn may_finish(so_far: SoFar, node: u32) -> bool
-    ensures { IsTrue result ↔ ((node < 64) × IsBitSet so_far.started node × ¬ IsBitSet so_far.finished node) }
+    ensures { IsTrue result ↔ ((node < 64) × IsBitSet so_far.started node
+        × ¬ IsBitSet so_far.finished node) }
 {
     node < 64 && has(so_far.started, node) && !has(so_far.finished, node)
 }
 
-// Whether a Tick may come: it is the first, the driver has not started, and the late nodes are followers that have
-// not finished.
+// Whether a Tick may come: it is the first, the driver has not started, and the late nodes are
+// followers that have not finished.
 fn may_tick(order: &Order, driver: u32, so_far: SoFar, late: u64) -> bool
     requires numbers { length order.now.before ≡ 64 }
     requires driver { driver < 64 }

@@ -32,12 +32,18 @@ front_length (Part n) = n
 -- the first events are the cycles, whole; or they stop, whatever cycles come later
 abbrev pub IsFrontOf : List (Shape × ℕ) → List Event → Front → Type 0
 IsFrontOf cycles events (Whole n) = AreJoined cycles (take n events)
-IsFrontOf cycles events (Part n) = (later : List (Shape × ℕ)) → AreSound later → StopAfter (cycles ++ later) events n
+IsFrontOf cycles events (Part n) = (later : List (Shape × ℕ)) → AreSound later
+    → StopAfter (cycles ++ later) events n
 
--- behind a Begin: the events before the n-th may follow, and that is the End of the whole cycle; or they stop
+-- behind a Begin: the events before the n-th may follow, and that is the End of the whole cycle; or
+-- they stop
 abbrev pub IsFrontInside : Shape → ℕ → List Event → Front → Type 0
-IsFrontInside shape cycle events (Whole n) = (n < length events) × AreAllowed shape cycle (take n events)
-    × HaveFinished shape cycle (take n events) × ((d : Event) → slice_index_or events n d ≡ End cycle)
-IsFrontInside shape cycle events (Part n) = (n ≤ length events) × AreAllowed shape cycle (take n events)
-    × (n < length events → (d : Event) → ¬ MayFollow shape cycle (take n events) (slice_index_or events n d)
+IsFrontInside shape cycle events (Whole n) = (n < length events)
+    × AreAllowed shape cycle (take n events)
+    × HaveFinished shape cycle (take n events)
+    × ((d : Event) → slice_index_or events n d ≡ End cycle)
+IsFrontInside shape cycle events (Part n) = (n ≤ length events)
+    × AreAllowed shape cycle (take n events)
+    × (n < length events → (d : Event)
+    → ¬ MayFollow shape cycle (take n events) (slice_index_or events n d)
     × ((slice_index_or events n d ≡ End cycle) → ¬ HaveFinished shape cycle (take n events)))
