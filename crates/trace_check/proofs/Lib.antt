@@ -8,3 +8,4 @@ pub mod FrontsLemmas
 pub mod FirstIllegalLemmas
 pub mod OrderLemmas
 pub mod EpochLemmas
+pub mod FindingLemmas

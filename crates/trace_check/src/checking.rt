@@ -4,6 +4,7 @@ ghost use Rattle.pw_base.specs.declared.event.Event.{Event};
 ghost use Rattle.pw_base.specs.declared.shape.Shape.{Shape};
 ghost use Rattle.pw_base.specs.History.{cycles_of};
 ghost use Rattle.pw_base.specs.SoundPlan.{IsSoundPlan};
+ghost use Rattle.trace_check.specs.declared.checking.Verdict.{Verdict};
 ghost use Rattle.trace_check.specs.FirstIllegal.{IsVerdictOn};
 ghost use Rattle.trace_check.specs.working.Fronts.{front_length, IsFrontOf};
 
@@ -48,7 +49,13 @@ fn verdict_of(front: Front, count: usize) -> Verdict
 pub fn check(alloc: Global, plan: &Plan, events: &Items<Event>) -> Result<Verdict, Memory>
     requires sound { IsSoundPlan plan.now }
     requires few { length events.now + 1 < 2 ^ 32 }
-    ensures { IfOk result (IsVerdictOn (map (λ e. e.shape) plan.now.epochs) events.now) }
+    ensures verdict { IfOk result
+        (IsVerdictOn (map (λ e. e.shape) plan.now.epochs) events.now) }
+
+    // There is no other verdict.
+    ensures only { (v : Verdict)
+        → IsVerdictOn (map (λ e. e.shape) plan.now.epochs) events.now v
+        → IfOk result (λ verdict. verdict ≡ v) }
 {
     let events = events.as_slice();
     let front = follow_epochs(alloc, plan.epochs.as_slice(), events)?;

@@ -11,5 +11,7 @@ mod next_event;
 mod node_sets;
 mod order;
 mod so_far;
+mod trace;
 
 pub use checking::{Verdict, check};
+pub use trace::{Finding, check_trace};
