@@ -1,4 +1,5 @@
--- What is found of a trace: its first line that is no event line, or else the verdict on its events.
+-- What is found of a trace: its first line that is no event line, or else the verdict on its
+-- events.
 -- Source: this project's; event lines are those of `cycle_trace`.
 use Rattle.std.specs.Prelude.{◌≡◌, ℕ, false, List, All, flat_map}
 use Rattle.std.specs.List.{AllZip}
