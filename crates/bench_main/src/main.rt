@@ -9,6 +9,7 @@ mod kernels;
 mod pods;
 mod rounds;
 mod rows;
+mod traces;
 mod waves;
 
 ghost use Rattle.std.specs.Prelude.{All};
@@ -20,6 +21,7 @@ use crate::pods::{array_rounds, flat_rounds, nested_rounds, scan_rounds};
 use crate::rounds::{
     clamp_rounds, gain_rounds, map_rounds, mix_rounds, pair_rounds, peak_rounds, split_rounds,
 };
+use crate::traces::{check_rounds, event_rounds};
 use crate::waves::{fill_rounds, read_rounds, write_rounds};
 use pw_base::{Items, Memory};
 use std::alloc::Global;
@@ -54,6 +56,9 @@ const FILES: [&str; 3] = ["fill", "write_wav", "read_wav"];
 
 /// Those on control sequences.
 const SEQUENCES: [&str; 2] = ["controls", "automate"];
+
+/// Those on events.
+const TRACES: [&str; 2] = ["events", "check"];
 
 /// Those on PODs.
 const PODS: [&str; 4] = ["scan", "read_nested", "read_flat", "read_array"];
@@ -112,6 +117,8 @@ fn checksum_of(
         "read_wav" => read_rounds(alloc, n, repeats),
         "controls" => control_rounds(alloc, n, repeats),
         "automate" => automate_rounds(alloc, n, repeats),
+        "events" => event_rounds(alloc, n, repeats),
+        "check" => check_rounds(alloc, n, repeats),
         "scan" => scan_rounds(alloc, n, repeats),
         "read_nested" => nested_rounds(alloc, n, repeats),
         "read_flat" => flat_rounds(alloc, n, repeats),
@@ -149,6 +156,7 @@ fn run<R: Print + Alloc<A = Global>>(rt: &R, words: &[String]) -> bool {
         && run_some(rt, FILES.as_slice(), words)
         && run_some(rt, PODS.as_slice(), words)
         && run_some(rt, SEQUENCES.as_slice(), words)
+        && run_some(rt, TRACES.as_slice(), words)
 }
 
 fn main(rt: HostRuntime) -> ExitCode {

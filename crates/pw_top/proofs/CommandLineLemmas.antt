@@ -27,6 +27,7 @@ some_answer (Ok (C.Run c)) history names = (ended (0 ∷ []) S.Memory, short (en
 some_answer (Ok (C.Dump c)) history names = (ended (1 ∷ []) S.Memory, short (ended (1 ∷ []) S.Memory) (refl, inr refl) refl)
 some_answer (Ok (C.Filter c)) history names = (ended (1 ∷ []) S.Memory, short (ended (1 ∷ []) S.Memory) (refl, inr refl) refl)
 some_answer (Ok (C.Automate c)) history names = (ended (1 ∷ []) S.Memory, short (ended (1 ∷ []) S.Memory) (refl, inr refl) refl)
+some_answer (Ok (C.Check c)) history names = (ended (0 ∷ []) S.Memory, short (ended (0 ∷ []) S.Memory) (refl, inr refl) refl)
 some_answer (Err status) history names = (refused status, refl)
 
 pub answer_stop : (words : Words) (history : List Event) (names : Names) (status : Status) → IsRead (command_of words) (Err status)

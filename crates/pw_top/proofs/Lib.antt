@@ -18,3 +18,4 @@ pub mod StatusLineLemmas
 pub mod StockLemmas
 pub mod StoppingLemmas
 pub mod WaveFormLemmas
+pub mod CheckLemmas

@@ -23,6 +23,7 @@ use Rattle.pw_top.specs.Usage.{Words, command_of}
 use Rattle.pw_top.specs.CommandLine.{IsAnswer, IsAnswerTo, IsReadAnswer}
 use Rattle.pw_top.proofs.OnePartLemmas.{IsShort, HasOne, OneOutcome, part_one, outcomes_equal, binds_one, load_one, pod_one, held_one, format_one}
 use Rattle.pw_top.proofs.OneRunLemmas.{run_one}
+use Rattle.pw_top.proofs.CheckLemmas.{check_one}
 
 -- what a filter gives
 stores_one : (out : List ℕ) (pod : Pod) → OneOutcome (StoresObject out pod)
@@ -74,6 +75,7 @@ command_one (C.Filter c) history names = binds_one _ (ReadsFirst names c.b c.out
     (first_one names c.b c.out)
 command_one (C.Automate c) history names = binds_one _ (ReadsWave names c.seq c.out) (load_one names 1 c.input _ _)
     (wave_one names c.seq c.out)
+command_one (C.Check c) history names = check_one names c.script c.trace
 
 read_one : (r : Result CommandLine Status) (history : List Event) (names : Names) → HasOne (IsReadAnswer r history names)
 read_one (Ok c) history names = command_one c history names

@@ -14,6 +14,7 @@ use Rattle.graph_script.specs.Grammar.{script_of, start}
 use Rattle.graph_script.specs.Lexical.{lines_of}
 use Rattle.graph_script.specs.Kinds.{HasKinds}
 use Rattle.graph_script.specs.Making.{NamesMade}
+use Rattle.graph_script.specs.Order.{HasOrder}
 use Rattle.graph_script.specs.Ranges.{HasRanges}
 use Rattle.graph_script.proofs.AgainLemmas.{has_run, good_final}
 use Rattle.graph_script.proofs.SoundLemmas.{start-sound, sound-kinds}
@@ -37,22 +38,23 @@ use Rattle.pw_top.proofs.OneLineLemmas.{IsFresh}
 use Rattle.pw_top.proofs.OneLoadsLemmas.{all_one, all_after}
 
 -- what holds of a script that was read
-record IsWhole (script : Script) : Type 0 where
-  ranges : HasRanges script
-  kinds : HasKinds script
-  made : NamesMade 0 script.lines
+pub record IsWhole (script : Script) : Type 0 where
+  pub ranges : HasRanges script
+  pub kinds : HasKinds script
+  pub made : NamesMade 0 script.lines
+  pub order : HasOrder script
 
-whole : (bytes : List ℕ) (script : Script) → script_of bytes ≡ Ok script → IsWhole script
+pub whole : (bytes : List ℕ) (script : Script) → script_of bytes ≡ Ok script → IsWhole script
 unfolding script_of
 whole bytes script e =
     let run = has_run 1 start (lines_of bytes) script e in
     let sound = good_final 1 start (lines_of bytes) run.final
     (record { one = omega arith; before = All-nil (λ l. l.line < 1); sound = start-sound }) run.ran in
-    subst IsWhole run.is (record { ranges = sound.script; kinds = sound-kinds run.final sound; made = sound.order.made })
+    subst IsWhole run.is (record { ranges = sound.script; kinds = sound-kinds run.final sound; made = sound.order.made; order = sound.order })
 
 -- its plan of what its lines load
 module _ (script : Script) (known : IsWhole script) where
-  planned_same : (ports : List Node) → AreScriptPorts script.lines ports → (waves : List WavIn) → OneOutcome (PlansTo script ports waves)
+  pub planned_same : (ports : List Node) → AreScriptPorts script.lines ports → (waves : List WavIn) → OneOutcome (PlansTo script ports waves)
   planned_same ports fit waves (Ok p) (Ok q) h k =
       let same = planned_one script known.ranges known.kinds known.made ports fit waves (Ok p) (Ok q) tt tt h k in
       let plans : p ≡ q = cc in
@@ -75,13 +77,13 @@ module _ (script : Script) (known : IsWhole script) where
       (part_one [] (PlansTo script stock.ports stock.waves) (planned_same stock.ports fit stock.waves))
       (λ plan. part_one [] (λ outcome. outcome ≡ Ok (plan_work script stock.waves plan)) (outcomes_equal (Ok (plan_work script stock.waves plan))))
 
-  few : length (kinds_of script.lines) ≤ 63
+  pub few : length (kinds_of script.lines) ≤ 63
   few = let count = known.ranges.count in let same = named_are script known.ranges known.kinds in omega (arith, count, same)
 
-  fresh_start : IsFresh nothing_loaded.ports
+  pub fresh_start : IsFresh nothing_loaded.ports
   fresh_start = ([], sound_start nothing_loaded refl)
 
-  under_way : IsUnderWay (kinds_of script.lines) script.lines nothing_loaded.ports
+  pub under_way : IsUnderWay (kinds_of script.lines) script.lines nothing_loaded.ports
   under_way = way_start script.lines nothing_loaded (lines_are script known.ranges known.kinds) known.made refl
 
   script_one : (names : Names) → HasOne (RunsScript names script)
@@ -91,7 +93,7 @@ module _ (script : Script) (known : IsWhole script) where
       plans_one x (stock_of script.lines [] (record { ports = x.ports; waves = a.0.0; used = 0 }) a.0.1 a.1 refl).ports)
 
 -- THE RUN of a script's file
-script_is : (r : Result Script ScriptFault) (script : Script) → Ok script ≡ script_outcome r → r ≡ Ok script
+pub script_is : (r : Result Script ScriptFault) (script : Script) → Ok script ≡ script_outcome r → r ≡ Ok script
 script_is (Ok s) script e = cc
 script_is (Err (G.At line why)) script e = cc
 script_is (Err G.Memory) script e = cc

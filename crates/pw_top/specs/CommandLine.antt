@@ -11,6 +11,7 @@ use Rattle.pw_top.specs.Run.{IsRunAnswer}
 use Rattle.pw_top.specs.Dump.{IsDumpAnswer}
 use Rattle.pw_top.specs.Filter.{IsFilterAnswer}
 use Rattle.pw_top.specs.Automate.{IsAutomateAnswer}
+use Rattle.pw_top.specs.Check.{IsCheckAnswer}
 
 -- what is an answer to a command
 abbrev pub IsAnswerTo : CommandLine → List Event → Names → Answer → Type 0
@@ -18,6 +19,7 @@ IsAnswerTo (C.Run c) history names = IsRunAnswer names c.script
 IsAnswerTo (C.Dump c) history names = IsDumpAnswer names c.file
 IsAnswerTo (C.Filter c) history names = IsFilterAnswer names c.a c.b c.out
 IsAnswerTo (C.Automate c) history names = IsAutomateAnswer names c.input c.seq c.out
+IsAnswerTo (C.Check c) history names = IsCheckAnswer names c.script c.trace
 
 abbrev pub IsReadAnswer : Result CommandLine Status → List Event → Names → Answer → Type 0
 IsReadAnswer (Ok command) history names a = IsAnswerTo command history names a

@@ -5,6 +5,7 @@ pub mod Delivery
 pub mod Dump
 pub mod Ending
 pub mod Automate
+pub mod Check
 pub mod Filter
 pub mod Following
 pub mod FormatFile

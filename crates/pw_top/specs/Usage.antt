@@ -1,12 +1,12 @@
--- The grammar of command lines: so far `run SCRIPT`, `dump FILE`, `filter A B OUT` and `automate IN
--- SEQ OUT`. Of words outside it, the first at fault; where more are wanted, their number.
-use Rattle.std.specs.Prelude.{◌≡◌, ℕ, ◌==◌, ◌&&◌, Bool, false, not, nat_le, if◌then◌else◌, List, [], ◌∷◌, length, codes, bytes_eq}
-use Rattle.std.specs.Prelude.{Result, Ok, Err}
+-- The grammar of command lines: of words outside it, the first at fault, or their number where more
+-- are wanted. This project's.
+use Rattle.std.specs.Prelude.{◌≡◌, ℕ, ◌==◌, ◌&&◌, Bool, false, not, nat_le, if◌then◌else◌, List, [], ◌∷◌, length, codes, bytes_eq, Result, Ok, Err}
 use Rattle.pw_top.specs.declared.status.Status.{Status}
 use Rattle.pw_top.specs.declared.status.Status.TheVariants as S
 use Rattle.pw_top.specs.declared.usage.CommandLine.{CommandLine}
 use Rattle.pw_top.specs.declared.usage.CommandLine.TheVariants as C
 use Rattle.pw_top.specs.declared.usage.FileWords.{FileWords}
+use Rattle.pw_top.specs.declared.usage.FilePair.{FilePair}
 
 -- the words of a command line, as bytes
 abbrev pub Words : Type 0
@@ -29,13 +29,16 @@ abbrev pub then_nothing : {T : Type 0} → ℕ → Words → T → Result T Stat
 then_nothing index [] x = Ok x
 then_nothing index (more ∷ rest) x = Err (S.Usage index)
 
--- the words behind a command that has one file, and behind one that has three
+-- the words behind a command that has one file, two or three
 unfoldable pub one_file : Words → Result (List ℕ) Status
 one_file words = then_file 1 words (λ file rest. then_nothing 2 rest file)
 
+unfoldable pub two_files : Words → Result FilePair Status
+two_files words = then_file 1 words (λ a bs. then_file 2 bs
+    (λ b rest. then_nothing 3 rest (record { first = a; second = b })))
+
 unfoldable pub three_files : Words → Result FileWords Status
-three_files words = then_file 1 words (λ a bs. then_file 2 bs
-    (λ b outs. then_file 3 outs
+three_files words = then_file 1 words (λ a bs. then_file 2 bs (λ b outs. then_file 3 outs
     (λ c rest. then_nothing 4 rest (record { first = a; second = b; third = c }))))
 
 abbrev pub run_of : Result (List ℕ) Status → Result CommandLine Status
@@ -54,6 +57,10 @@ abbrev pub automate_of : Result FileWords Status → Result CommandLine Status
 automate_of (Ok w) = Ok (C.Automate (record { input = w.first; seq = w.second; out = w.third }))
 automate_of (Err status) = Err status
 
+abbrev pub check_of : Result FilePair Status → Result CommandLine Status
+check_of (Ok w) = Ok (C.Check (record { script = w.first; trace = w.second }))
+check_of (Err status) = Err status
+
 -- THE MEANING of the words
 unfoldable pub command_of : Words → Result CommandLine Status
 command_of [] = Err (S.Usage 0)
@@ -62,7 +69,8 @@ command_of (name ∷ rest) =
     else (if bytes_eq name (codes "dump") then dump_of (one_file rest)
     else (if bytes_eq name (codes "filter") then filter_of (three_files rest)
     else (if bytes_eq name (codes "automate") then automate_of (three_files rest)
-    else Err (S.Usage 0))))
+    else (if bytes_eq name (codes "check") then check_of (two_files rest)
+    else Err (S.Usage 0)))))
 
 -- the words were read as they should, or memory was short
 abbrev pub IsRead : {T : Type 0} → Result T Status → Result T Status → Type 0

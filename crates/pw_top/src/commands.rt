@@ -1,6 +1,7 @@
 //! The commands.
 
 pub mod automate;
+pub mod check_traces;
 pub mod dump;
 pub mod filter_files;
 pub mod run;

@@ -46,6 +46,7 @@ impl CommandLine {
             CommandLine::Automate(command) => command.prepare(
                 rt, alloc, files, gate, ticker, history,
             ),
+            CommandLine::Check(command) => command.prepare(rt, alloc, files, gate, ticker, history),
         }
     }
 }

@@ -1,9 +1,10 @@
 //! The words of a command line.
 ghost use Rattle.std.specs.Prelude.{◌≡◌, ℕ, ◌<◌, map, string_bytes, length, IfOk, Ok};
-ghost use Rattle.pw_top.specs.Usage.{is_file_word, then_file, then_nothing, one_file, three_files, run_of, dump_of, filter_of, automate_of, command_of};
+ghost use Rattle.pw_top.specs.Usage.{is_file_word, then_file, then_nothing, one_file, three_files, run_of, dump_of, filter_of, automate_of, two_files, check_of, command_of};
 ghost use Rattle.pw_top.specs.Usage.{IsRead};
 
 use crate::commands::automate::AutomateFile;
+use crate::commands::check_traces::CheckTrace;
 use crate::commands::dump::DumpFile;
 use crate::commands::filter_files::FilterFiles;
 use crate::commands::run::RunScript;
@@ -18,6 +19,14 @@ pub enum CommandLine {
     Dump(DumpFile),
     Filter(FilterFiles),
     Automate(AutomateFile),
+    Check(CheckTrace),
+}
+
+/// Two words that name files.
+#[derive(Drop)]
+struct FilePair {
+    first: Text,
+    second: Text,
 }
 
 /// Three words that name files.
@@ -140,6 +149,56 @@ fn three_files(alloc: Global, rest: &[String]) -> Result<FileWords, Status>
     }
 }
 
+// Two words as the names of files.
+fn pair_of(alloc: Global, a: &String, b: &String) -> Result<FilePair, Status>
+    ensures { IsRead (Ok (record {
+      first = string_bytes a.now;
+      second = string_bytes b.now;
+    })) result }
+{
+    match (name_of(alloc, a), name_of(alloc, b)) {
+        (Ok(first), Ok(second)) => Ok(FilePair { first, second }),
+        _ => Err(Status::Memory),
+    }
+}
+
+// The second of two files, and nothing behind it.
+fn last_file(alloc: Global, a: &String, rest: &[String]) -> Result<FilePair, Status>
+    ensures { IsRead (then_file 2 (map string_bytes rest.now)
+        (λ b rest. then_nothing 3 rest (record
+        { first = string_bytes a.now; second = b }))) result }
+{
+    match rest {
+        [] => Err(Status::Usage { word: 2 }),
+        [b, more @ ..] => {
+            if !is_file_word(b) {
+                Err(Status::Usage { word: 2 })
+            } else if more.is_empty() {
+                pair_of(alloc, a, b)
+            } else {
+                Err(Status::Usage { word: 3 })
+            }
+        }
+    }
+}
+
+// The two files behind a command.
+#[tactic(auto, unfolding(crate::specs::Usage::two_files))]
+fn two_files(alloc: Global, rest: &[String]) -> Result<FilePair, Status>
+    ensures { IsRead (two_files (map string_bytes rest.now)) result }
+{
+    match rest {
+        [] => Err(Status::Usage { word: 1 }),
+        [a, bs @ ..] => {
+            if is_file_word(a) {
+                last_file(alloc, a, bs)
+            } else {
+                Err(Status::Usage { word: 1 })
+            }
+        }
+    }
+}
+
 // `run SCRIPT`, behind its first word.
 fn read_run(alloc: Global, rest: &[String]) -> Result<CommandLine, Status>
     ensures { IsRead (run_of (one_file (map string_bytes rest.now))) result }
@@ -200,6 +259,19 @@ fn read_automate(alloc: Global, rest: &[String]) -> Result<CommandLine, Status>
     }
 }
 
+// `check SCRIPT TRACE`, behind its first word.
+fn read_check(alloc: Global, rest: &[String]) -> Result<CommandLine, Status>
+    ensures { IsRead (check_of (two_files (map string_bytes rest.now))) result }
+{
+    match two_files(alloc, rest) {
+        Ok(FilePair { first, second }) => Ok(CommandLine::Check(CheckTrace {
+            script: first,
+            trace: second,
+        })),
+        Err(status) => Err(status),
+    }
+}
+
 /// What the words ask for, or the first word at fault.
 #[tactic(auto, unfolding(crate::specs::Usage::command_of))]
 pub fn read_words(alloc: Global, words: &[String]) -> Result<CommandLine, Status>
@@ -216,6 +288,8 @@ pub fn read_words(alloc: Global, words: &[String]) -> Result<CommandLine, Status
                 read_filter(alloc, rest)
             } else if name.as_bytes() == b"automate".as_slice() {
                 read_automate(alloc, rest)
+            } else if name.as_bytes() == b"check".as_slice() {
+                read_check(alloc, rest)
             } else {
                 Err(Status::Usage { word: 0 })
             }

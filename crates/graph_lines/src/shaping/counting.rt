@@ -173,5 +173,7 @@ pub fn counted(alloc: Global, shape: Shape) -> Result<Shape, Memory>
     ensures counted { IfOk result (λ s. All (IsCounted s) s.nodes) }
 {
     let nodes = counted_nodes(alloc, &shape)?;
-    Ok(Shape { nodes, ..shape })
+    let mut counted = shape;
+    counted.nodes = nodes;
+    Ok(counted)
 }

@@ -79,8 +79,8 @@ fn run_script_bytes<F: Files>(
     }
 }
 
-// The script that the bytes are, or its first fault.
-fn read_script(alloc: Global, bytes: &Items<u8>) -> Result<Script, Status>
+/// The script that the bytes are, or its first fault.
+pub fn read_script(alloc: Global, bytes: &Items<u8>) -> Result<Script, Status>
     requires small { length bytes.now ≤ script_bytes_limit }
     ensures told { Ends (Reads (λ outcome. outcome ≡ script_outcome (script_of bytes.now)))
         result }

@@ -1,0 +1,11 @@
+pub mod PlaceLemmas
+pub mod NodeSetsLemmas
+pub mod NextEventLemmas
+pub mod LegalLemmas
+pub mod CompletingLemmas
+pub mod AdmittingLemmas
+pub mod FrontsLemmas
+pub mod FirstIllegalLemmas
+pub mod OrderLemmas
+pub mod EpochLemmas
+pub mod FindingLemmas

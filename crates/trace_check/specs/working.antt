@@ -1,0 +1,5 @@
+-- What the checker of traces works with: node sets, the rule for the next event, fronts of cycles.
+pub mod Admitting
+pub mod Fronts
+pub mod NextEvent
+pub mod NodeSets

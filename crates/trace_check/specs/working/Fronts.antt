@@ -1,0 +1,49 @@
+-- How far events go on as those of cycles, one cycle after the other.
+-- Source: this project's.
+use Rattle.std.specs.Prelude.{◌≡◌, ℕ, ◌+◌, ◌<◌, ◌≤◌, List, ◌++◌, length, take, All, slice_index_or}
+use Rattle.pw_base.specs.declared.event.Event.{Event}
+use Rattle.pw_base.specs.declared.event.Event.TheVariants.{End}
+use Rattle.pw_base.specs.declared.shape.Shape.{Shape}
+use Rattle.pw_base.specs.SoundShape.{IsSoundShape}
+use Rattle.pw_base.specs.History.{AreJoined}
+use Rattle.trace_check.specs.declared.following.Front.{Front}
+use Rattle.trace_check.specs.declared.following.Front.TheVariants.{Whole, Part}
+use Rattle.trace_check.specs.working.NextEvent.{MayFollow, AreAllowed, HaveFinished}
+
+abbrev pub AreSound : List (Shape × ℕ) → Type 0
+AreSound cycles = All (λ c. IsSoundShape c.0) cycles
+
+-- some events after these make the cycles
+abbrev pub GoOn : List (Shape × ℕ) → List Event → Type 0
+GoOn cycles events = (more : List Event) × AreJoined cycles (events ++ more)
+
+-- the events are not those of the cycles; n of them can go on, and not one more
+pub record StopAfter (cycles : List (Shape × ℕ)) (events : List Event) (n : ℕ) : Type 0 where
+  pub within : n ≤ length events
+  pub goes_on : GoOn cycles (take n events)
+  pub stops : n < length events → ¬ GoOn cycles (take (n + 1) events)
+  pub illegal : ¬ AreJoined cycles events
+
+-- how many events a front has
+abbrev pub front_length : Front → ℕ
+front_length (Whole n) = n
+front_length (Part n) = n
+
+-- the first events are the cycles, whole; or they stop, whatever cycles come later
+abbrev pub IsFrontOf : List (Shape × ℕ) → List Event → Front → Type 0
+IsFrontOf cycles events (Whole n) = AreJoined cycles (take n events)
+IsFrontOf cycles events (Part n) = (later : List (Shape × ℕ)) → AreSound later
+    → StopAfter (cycles ++ later) events n
+
+-- behind a Begin: the events before the n-th may follow, and that is the End of the whole cycle; or
+-- they stop
+abbrev pub IsFrontInside : Shape → ℕ → List Event → Front → Type 0
+IsFrontInside shape cycle events (Whole n) = (n < length events)
+    × AreAllowed shape cycle (take n events)
+    × HaveFinished shape cycle (take n events)
+    × ((d : Event) → slice_index_or events n d ≡ End cycle)
+IsFrontInside shape cycle events (Part n) = (n ≤ length events)
+    × AreAllowed shape cycle (take n events)
+    × (n < length events → (d : Event)
+    → ¬ MayFollow shape cycle (take n events) (slice_index_or events n d)
+    × ((slice_index_or events n d ≡ End cycle) → ¬ HaveFinished shape cycle (take n events)))

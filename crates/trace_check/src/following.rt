@@ -1,0 +1,124 @@
+//! How far events go on as those of cycles.
+ghost use Rattle.std.specs.Prelude.{◌≡◌, ◌+◌, ◌<◌, ◌≤◌, ◌^◌, [], ◌∷◌, length, map, All, IsTrue, ◌↔◌, IfOk};
+ghost use Rattle.pw_base.specs.declared.event.Event.TheVariants as E;
+ghost use Rattle.pw_base.specs.SoundShape.{IsSoundShape};
+ghost use Rattle.pw_base.specs.History.{epoch_cycles, cycles_of};
+ghost use Rattle.trace_check.specs.working.Admitting.{IsOrderOf};
+ghost use Rattle.trace_check.specs.working.Fronts.{front_length, IsFrontOf, IsFrontInside};
+
+use crate::next_event::may_follow;
+use crate::node_sets::is_within;
+use crate::order::{Order, order_of};
+use crate::so_far::{after_event, nothing_yet};
+use pw_base::{Epoch, Event, Memory, Shape};
+use std::alloc::Global;
+
+/// A front of a row of events.
+#[derive(Clone, Copy, Debug, Drop)]
+pub(crate) enum Front {
+    /// So many first events are all that was looked for.
+    Whole(usize),
+    /// So many first events can go on, and not one more, or no more are there.
+    Part(usize),
+}
+
+// Whether an event is the Begin of a cycle.
+fn is_begin_of(event: &Event, in_cycle: u32) -> bool
+    ensures { IsTrue result ↔ (event.now ≡ E.Begin in_cycle) }
+{
+    match event {
+        Event::Begin { cycle } => *cycle == in_cycle,
+        _ => false,
+    }
+}
+
+// Whether an event is the End of a cycle.
+fn is_end_of(event: &Event, in_cycle: u32) -> bool
+    ensures { IsTrue result ↔ (event.now ≡ E.End in_cycle) }
+{
+    match event {
+        Event::End { cycle } => *cycle == in_cycle,
+        _ => false,
+    }
+}
+
+// How far the events behind a Begin go on. Cost: one look at each event.
+fn follow_inside(order: &Order, shape: &Shape, cycle: u32, events: &[Event]) -> Front
+    requires sound { IsSoundShape shape.now }
+    requires order { IsOrderOf shape.now order.now }
+    ensures { IsFrontInside shape.now cycle events.now result }
+{
+    let mut so_far = nothing_yet(cycle);
+    for i in 0..events.len() {
+        let event = events[i];
+        if may_follow(order, shape.driver, cycle, so_far, &event) {
+            so_far = after_event(so_far, &event);
+        } else if is_end_of(&event, cycle) && is_within(order.active, so_far.finished) {
+            return Front::Whole(i);
+        } else {
+            return Front::Part(i);
+        }
+    }
+    Front::Part(events.len())
+}
+
+// How far events go on as those of one cycle.
+fn follow_cycle(order: &Order, shape: &Shape, cycle: u32, events: &[Event]) -> Front
+    requires sound { IsSoundShape shape.now }
+    requires order { IsOrderOf shape.now order.now }
+    ensures within { front_length result ≤ length events.now }
+    ensures front { IsFrontOf ((shape.now, cycle) ∷ []) events.now result }
+{
+    let Some((first, rest)) = events.split_first() else {
+        return Front::Part(0);
+    };
+    if !is_begin_of(first, cycle) {
+        return Front::Part(0);
+    }
+    match follow_inside(order, shape, cycle, rest) {
+        Front::Whole(n) => Front::Whole(n + 2),
+        Front::Part(n) => Front::Part(n + 1),
+    }
+}
+
+// How far events go on as those of the cycles of an epoch.
+fn follow_epoch(alloc: Global, shape: &Shape, events: &[Event]) -> Result<Front, Memory>
+    requires { IsSoundShape shape.now }
+    ensures within { IfOk result (λ front. front_length front ≤ length events.now) }
+    ensures front { IfOk result (IsFrontOf (epoch_cycles shape.now shape.now.cycles) events.now) }
+{
+    let order = order_of(alloc, shape)?;
+    let mut at: usize = 0;
+    for k in 0..shape.cycles {
+        let (_before, rest) = events.split_at(at);
+        match follow_cycle(&order, shape, shape.first + k, rest) {
+            Front::Whole(n) => at += n,
+            Front::Part(n) => return Ok(Front::Part(at + n)),
+        }
+    }
+    Ok(Front::Whole(at))
+}
+
+/// How far events go on as those of the cycles of epochs. Takes memory for 64 sets of nodes at a
+/// time; cost: one look at each event, and for each epoch one look at each of its links for each of
+/// 64 numbers.
+pub(crate) fn follow_epochs(
+    alloc: Global,
+    epochs: &[Epoch],
+    events: &[Event],
+) -> Result<Front, Memory>
+    requires { All (λ e. IsSoundShape e.shape) epochs.now }
+    ensures within { IfOk result (λ front. front_length front ≤ length events.now) }
+    ensures front { IfOk result
+        (IsFrontOf (cycles_of (map (λ e. e.shape) epochs.now)) events.now) }
+{
+    let mut at: usize = 0;
+    for epoch in epochs {
+        let (_before, rest) = events.split_at(at);
+        match follow_epoch(alloc, &epoch.shape, rest)? {
+            Front::Whole(n) => at += n,
+            Front::Part(n) => return Ok(Front::Part(at + n)),
+        }
+    }
+    Ok(Front::Whole(at))
+}
