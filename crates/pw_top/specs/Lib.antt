@@ -11,6 +11,7 @@ pub mod Following
 pub mod FormatFile
 pub mod Headline
 pub mod Loads
+pub mod Narrowing
 pub mod Stocking
 pub mod PlannedWork
 pub mod PodFile

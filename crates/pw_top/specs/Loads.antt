@@ -1,5 +1,5 @@
 -- The loads of a script's lines, each by the limit that earlier ones leave: this project's grammar.
-use Rattle.std.specs.Prelude.{◌≡◌, ℕ, ◌-◌, List, [], ◌∷◌, length, Result, Ok, Err, nat_lt, if◌then◌else◌}
+use Rattle.std.specs.Prelude.{◌≡◌, ℕ, ◌-◌, List, [], ◌∷◌, length, Result, Ok, nat_lt, if◌then◌else◌}
 use Rattle.pw_base.specs.declared.ids.PortId.{PortId}
 use Rattle.pw_base.specs.declared.limit.Which.{Which}
 use Rattle.pw_base.specs.declared.limit.Which.TheVariants as W
@@ -12,18 +12,16 @@ use Rattle.graph_script.specs.declared.command.Command.{Command}
 use Rattle.graph_script.specs.declared.command.Command.TheVariants as C
 use Rattle.graph_script.specs.declared.script.Line.{Line}
 use Rattle.port_model.specs.declared.narrowing.Narrowed.{Narrowed}
-use Rattle.port_model.specs.declared.narrowing.Narrowed.TheVariants as N
 use Rattle.port_model.specs.declared.port_state.Node.{Node}
 use Rattle.port_model.specs.Narrowing.{Narrows}
 use Rattle.pw_top.specs.declared.status.Status.{Status}
-use Rattle.pw_top.specs.declared.status.Status.TheVariants as S
-use Rattle.pw_top.specs.declared.status.PodWhy.TheVariants as P
 use Rattle.pw_top.specs.declared.stock.Stock.{Stock}
 use Rattle.pw_top.specs.Answer.{Expected}
 use Rattle.pw_top.specs.Allowed.{Binds, Reads, IsLoad}
 use Rattle.pw_top.specs.FormatFile.{HoldsFormat}
 use Rattle.pw_top.specs.PodFile.{pod_file_limit}
 use Rattle.pw_top.specs.Refusals.{wave_outcome}
+pub use Rattle.pw_top.specs.Narrowing.{narrowed_outcome}
 use Rattle.pw_top.specs.Stocking.{with_wave, plain_kind, with_plain}
 
 -- the limit of a WAV file after so many bytes of others: its own, or what all of them leave
@@ -50,11 +48,6 @@ LoadsSource names place node file stock =
     (ReadsSource place node stock)
 
 -- an `offer` line: its file is an object, by which the port's own offer is narrowed
-abbrev pub narrowed_outcome : ℕ → Stock → Narrowed → List Node → Result Stock Status
-narrowed_outcome place stock N.Done later = Ok (record stock { ports = later })
-narrowed_outcome place stock N.NotFormat later = Err (S.Pod place P.NotFormat)
-narrowed_outcome place stock (N.Clash key) later = Err (S.Pod place (P.Clash key))
-
 abbrev pub NarrowsTo : ℕ → PortId → Stock → Format → Result Stock Status → Type 0
 NarrowsTo place port stock format outcome = (did : Narrowed) × (later : List Node)
     × Narrows stock.ports port format did later

@@ -1,0 +1,15 @@
+-- What an `offer` line leaves of the stock, by what its narrowing did: this project's grammar.
+use Rattle.std.specs.Prelude.{ℕ, List, Result, Ok, Err}
+use Rattle.port_model.specs.declared.narrowing.Narrowed.{Narrowed}
+use Rattle.port_model.specs.declared.narrowing.Narrowed.TheVariants as N
+use Rattle.port_model.specs.declared.port_state.Node.{Node}
+use Rattle.pw_top.specs.declared.status.Status.{Status}
+use Rattle.pw_top.specs.declared.status.Status.TheVariants as S
+use Rattle.pw_top.specs.declared.status.PodWhy.TheVariants as P
+use Rattle.pw_top.specs.declared.stock.Stock.{Stock}
+
+-- the ports with the narrowed offer; or a refusal at the place of the object
+abbrev pub narrowed_outcome : ℕ → Stock → Narrowed → List Node → Result Stock Status
+narrowed_outcome place stock N.Done later = Ok (record stock { ports = later })
+narrowed_outcome place stock N.NotFormat later = Err (S.Pod place P.NotFormat)
+narrowed_outcome place stock (N.Clash key) later = Err (S.Pod place (P.Clash key))
