@@ -1,5 +1,5 @@
 -- The blocks of a pool and the list of the free ones, from step to step of a turn.
-use Rattle.std.proofs.Common.{◌≡◌, ◌≢◌, ℕ, suc, ◌+◌, ◌-◌, ◌<◌, ◌≤◌, ◌⊎◌, inl, inr, ⊎_elim, Bool, true, false, true≢false, cond}
+use Rattle.std.proofs.Common.{◌≡◌, ◌≢◌, ℕ, suc, ◌+◌, ◌-◌, ◌<◌, ◌≤◌, ◌⊎◌, inl, inr, ⊎_elim, true≢false, cond}
 use Rattle.std.proofs.Common.{eq-eqb, ne_eqb, List, [], ◌∷◌, ◌++◌, Option, Some, None, All, AllPairs, Contains, length, get_or}
 use Rattle.std.proofs.Common.{option_to_list, sym, ap, ◌∙◌, subst, arith, append-nil, length-append}
 use Rattle.std.proofs.lemmas.List.Elements.{All-head, All-push, Contains-get_or}
@@ -18,7 +18,7 @@ use Rattle.board_rule.specs.ReclaimSteps.{IsUnreclaimed, IsDue, readers_loaded}
 use Rattle.board_rule.proofs.WiringLemmas.{busy_cycles_some}
 use Rattle.buffer_pool.specs.Queue.{Queue}
 use Rattle.io_areas.specs.Writing.{HasReclaimed, IsUnfilled}
-use Rattle.io_areas.specs.FreeBlocks.{IsRecent, FreeBlocks, recent_count}
+use Rattle.io_areas.specs.FreeBlocks.{FreeBlocks, recent_count}
 use Rattle.io_areas.specs.OutputAnswer.{IsReclaimed}
 use Rattle.board_rule.proofs.ReclaimLemmas.{busy_cycles_most}
 use Rattle.io_areas.proofs.BlockLemmas.{here, else}

@@ -1,6 +1,6 @@
 -- From step to step of the turn of a node on a pool: its views are v, w when the links are loaded, x when a block is taken from
 -- the free ones, y when it is announced, and z when it is published.
-use Rattle.std.proofs.Common.{◌≡◌, ◌≢◌, ℕ, ◌+◌, ◌<◌, inr, false, List, ◌∷◌, ◌++◌, Option, Some, None, All, Contains, get_or, option_to_list, sym}
+use Rattle.std.proofs.Common.{◌≡◌, ◌≢◌, ℕ, ◌+◌, ◌<◌, false, List, ◌∷◌, ◌++◌, Option, Some, None, All, Contains, get_or, option_to_list, sym}
 use Rattle.std.proofs.Common.{ap, ◌∙◌, subst, arith, cond, eq-eqb, ne_eqb}
 use Rattle.std.proofs.lemmas.List.Elements.{Contains-get_or}
 use Rattle.board_rule.specs.declared.view.WriteView.{WriteView}
@@ -11,7 +11,6 @@ use Rattle.board_rule.specs.Areas.{stored_id}
 use Rattle.board_rule.specs.BlockReadings.{delay_at, busy_cycles}
 use Rattle.board_rule.specs.ReclaimSteps.{reclaimed_of, IsUnreclaimed}
 use Rattle.board_rule.specs.EndViews.{pool_at, block_of, view_block, write_of}
-use Rattle.board_rule.specs.BufferReads.{HasPool}
 use Rattle.board_rule.specs.SeatNodes.{cycle_of, HasNode}
 use Rattle.board_rule.specs.WorkSteps.{IsRunning}
 use Rattle.board_rule.specs.WriterSteps.{LoadsAsWriter, IsWriter, write_cycle, StoresHave}
@@ -29,7 +28,7 @@ use Rattle.io_areas.proofs.WriterEndsLemmas.{kept, same_cycle, writer_again}
 use Rattle.io_areas.proofs.BlockLemmas.{here, else}
 use Rattle.io_areas.proofs.RefillLemmas.{IsRefilled, refilled, refill_kept, refill_more, reclaim_refills, reclaimed_by}
 use Rattle.io_areas.proofs.PoolLinkLemmas.{of_pool}
-use Rattle.io_areas.proofs.FreeBlocksLemmas.{AreBack, AreListed, AreOthers, taken, unfilled, is_reclaimed, all_back, all_listed, refreed, free_out}
+use Rattle.io_areas.proofs.FreeBlocksLemmas.{AreBack, AreListed, AreOthers, taken, unfilled, is_reclaimed, all_back, all_listed, refreed}
 
 abbrev links_of : BoardLayout → ℕ → List ℕ
 links_of p q = (pool_at p q).links

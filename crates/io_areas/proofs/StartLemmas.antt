@@ -1,7 +1,7 @@
 -- The blocks of a pool at the start, as the seat of a loop has them, and the list of the free ones.
 use Rattle.std.proofs.Common.{◌≡◌, ◌≢◌, ℕ, zero, suc, ◌+◌, ◌-◌, ◌<◌, ◌≤◌, inl, inr, ⊎_elim, ◌&&◌, ◌||◌, Bool, true, false, true≢false}
 use Rattle.std.proofs.Common.{cond, eqb, eq-eqb, ne_eqb, List, [], ◌∷◌, ◌++◌, All, AllPairs, Contains, length, get_or, take, drop, replicate}
-use Rattle.std.proofs.Common.{refl, sym, ap, ◌∙◌, subst, arith, length-append}
+use Rattle.std.proofs.Common.{refl, sym, ap, ◌∙◌, arith, length-append}
 use Rattle.std.specs.Prelude.{sum_by, max}
 use Rattle.std.specs.List.{flat_map, list_any, filter, fold}
 use Rattle.std.proofs.lemmas.Bool.{cases_lt}
@@ -20,12 +20,12 @@ use Rattle.board_rule.specs.declared.view.BlockView.TheVariants.{Free, Out}
 use Rattle.board_rule.specs.declared.view.View.{View}
 use Rattle.board_rule.specs.Layout.{BoardLayout, first}
 use Rattle.board_rule.specs.View.{Samples, is_delayed, first_block, blocks_at_first, loop_view}
-use Rattle.board_rule.specs.BlockReadings.{busy_cycles, stamp}
+use Rattle.board_rule.specs.BlockReadings.{busy_cycles}
 use Rattle.board_rule.specs.Spans.{block_at}
 use Rattle.board_rule.specs.ReclaimSteps.{reclaimed_of, IsUnreclaimed}
 use Rattle.board_rule.specs.EndViews.{no_pool, pool_at, block_of}
 use Rattle.buffer_pool.specs.Queue.{numbers_below}
-use Rattle.io_areas.specs.FreeBlocks.{IsRecent, FreeBlocks, free_at_start, recent_count}
+use Rattle.io_areas.specs.FreeBlocks.{FreeBlocks, free_at_start, recent_count}
 
 -- a test of what a filter leaves
 pub any_filter : {X : Type 0} (p t : X → Bool) (xs : List X) → list_any p (filter t xs) ≡ list_any (λ x. t x && p x) xs
