@@ -10,7 +10,8 @@ use Rattle.pw_base.specs.PlanSums.{epoch_events}
 use Rattle.pw_base.specs.declared.memory.Memory.{Memory}
 use Rattle.wav_files.specs.declared.wav.WavIn.{WavIn}
 use Rattle.graph_script.specs.declared.command.Command.TheVariants as C
-use Rattle.graph_lines.specs.Gathering.{DrainsUpTo}
+use Rattle.graph_lines.specs.Gathering.{DrainsUpTo, IsActivityOf}
+use Rattle.graph_lines.specs.declared.epochs.ActiveNodes.{ActiveNodes}
 use Rattle.graph_lines.specs.declared.graph.Graph.{Graph}
 use Rattle.graph_lines.specs.declared.graph.Stepped.{Stepped}
 use Rattle.graph_lines.specs.declared.graph.Stepped.TheVariants as T
@@ -18,9 +19,12 @@ use Rattle.graph_lines.specs.declared.limits.Sums.{Sums}
 use Rattle.graph_lines.specs.declared.standing.Standing.{Standing}
 use Rattle.graph_lines.specs.Activity.{nobody, standing}
 use Rattle.graph_lines.specs.Epochs.{has_node, IsEpochOf}
+use Rattle.graph_lines.specs.Draining.{rest_cycles, drain_cycles, DrainsFor}
 use Rattle.graph_lines.specs.EpochLines.{cycles_in, StandsAfter, IsAfter, IsTaken, RunsFor, Steps}
+use Rattle.graph_lines.specs.Searching.{is_in}
 use Rattle.graph_lines.specs.Sums.{sums_with, passed}
 use Rattle.graph_lines.specs.Ready.{IsReady}
+use Rattle.graph_lines.proofs.DrainingLemmas.{most_enough, most_needed}
 use Rattle.graph_lines.proofs.SumLemmas.{passes_events}
 
 -- each cycle has at least three events
@@ -142,6 +146,22 @@ standings_more g e nodes count s many each here n l = elim (cases_lt n count) [
       subst (λ (k : ℕ). StandsAfter g e k (standing (nodes ++ s ∷ []) k)) (sym same)
       (subst (StandsAfter g e count) (sym (get_or_push nodes s nobody count many)) here)
 ]
+
+-- the cycles of a drain, of the nodes that are active now
+pub drains_for : (waves : List WavIn) (g : Graph) (a : ActiveNodes) (n : ℕ) → IsActivityOf g a
+    → n ≡ drain_cycles g.quantum g.nodes a.here waves → DrainsFor waves g n
+drains_for waves g a n h e = record {
+  driver = a.driver;
+  drives = h.driver;
+  enough = λ rest w.
+      let most = most_enough (λ (x : WavIn). is_in a.here x.node) (λ (x : WavIn). rest_cycles g.quantum g.nodes x) 0 waves w.0 w.1 ((h.active w.0.node).1 w.2) in
+      let same = w.3 in
+      omega (arith, most, same, e);
+  needed = λ some. elim (most_needed (λ (x : WavIn). is_in a.here x.node) (λ (x : WavIn). rest_cycles g.quantum g.nodes x) 0 waves) [
+    | inl none ↦ absurd (omega (arith, none, e, some))
+    | inr w ↦ (w.0, w.1, (h.active w.0.node).0 w.2, w.3 ∙ sym e)
+  ];
+}
 
 -- a drain runs for the cycles that are left
 pub drained : (waves : List WavIn) (g after : Graph) (cycles : ℕ) (r : Result Stepped Memory) → DrainsUpTo waves g cycles

@@ -16,7 +16,7 @@ use Rattle.port_model.specs.SoundPorts.{AreSoundNodes}
 use Rattle.port_model.proofs.NodeLemmas.{at_port, has_place}
 use Rattle.link_negotiation.proofs.GivingLemmas.{there}
 use Rattle.graph_lines.specs.declared.standing.Standing.{Standing}
-use Rattle.graph_lines.specs.Forms.{HasKinds, IsFormOf, FormIn}
+use Rattle.graph_lines.specs.Forms.{HasKinds, IsFormOfPort, FormIn}
 use Rattle.graph_lines.specs.Ready.{HasFormat, HasReadyNodes}
 
 -- counts of ports are those of the kind
@@ -72,7 +72,7 @@ pub formed : (nodes : List Node) (port : PortId) (rate channels : ℕ) → IsPor
 formed nodes port rate channels is has form = (
   is,
   at_both nodes port (λ node s. IsSome s.format) (λ node s. HasForm node s rate channels)
-      (IsFormOf rate channels) (λ node s a b. (b, λ end. a)) has form,
+      (IsFormOfPort rate channels) (λ node s a b. (b, λ end. a)) has form,
 )
 
 -- a port has one form
@@ -83,8 +83,8 @@ pub form_one : (nodes : List Node) (port : PortId) (r c rate channels : ℕ) →
     → FormIn nodes port rate channels → (r ≡ rate) × (c ≡ channels)
 form_one nodes port r c rate channels sound f g =
     let t = there nodes port sound f.0 in
-    let own = at_port (IsFormOf r c) nodes port t.node t.state t.node_is t.state_is f.1 in
-    let other = at_port (IsFormOf rate channels) nodes port t.node t.state t.node_is t.state_is g.1 in (
+    let own = at_port (IsFormOfPort r c) nodes port t.node t.state t.node_is t.state_is f.1 in
+    let other = at_port (IsFormOfPort rate channels) nodes port t.node t.state t.node_is t.state_is g.1 in (
       int_one r rate (same_Some (int_of r) (int_of rate) (sym own.0.0 ∙ other.0.0)),
       int_one c channels (same_Some (int_of c) (int_of channels) (sym own.0.1 ∙ other.0.1)),
     )

@@ -1,6 +1,6 @@
 -- What a line does that makes an epoch, and what any line does.
 -- Source: this project's script grammar and limits.
-use Rattle.std.specs.Prelude.{◌≡◌, ◌↔◌, ℕ, zero, suc, ◌+◌, ◌<◌, ◌==◌, ◌||◌, ◌&&◌, Bool, true, false, List, [], ◌∷◌, ◌++◌}
+use Rattle.std.specs.Prelude.{◌≡◌, ℕ, zero, suc, ◌+◌, ◌<◌, ◌==◌, ◌||◌, ◌&&◌, Bool, false, List, [], ◌∷◌, ◌++◌}
 use Rattle.std.specs.Prelude.{Some, None, length, slice_index_or, if◌then◌else◌}
 use Rattle.std.specs.List.{list_any}
 use Rattle.pw_base.specs.declared.kind.Kind.TheVariants.{Dummy}
@@ -13,9 +13,8 @@ use Rattle.graph_lines.specs.declared.graph.Graph.{Graph}
 use Rattle.graph_lines.specs.declared.graph.Stepped.{Stepped}
 use Rattle.graph_lines.specs.declared.graph.Stepped.TheVariants as T
 use Rattle.graph_lines.specs.declared.standing.Standing.{Standing}
-use Rattle.graph_lines.specs.Activity.{standing, live_wires, IsDriver, IsActive}
-use Rattle.graph_lines.specs.Searching.{is_in}
-use Rattle.graph_lines.specs.Draining.{drain_cycles}
+use Rattle.graph_lines.specs.Activity.{standing}
+use Rattle.graph_lines.specs.Draining.{DrainsFor}
 use Rattle.graph_lines.specs.Sums.{sums_with, passed}
 use Rattle.graph_lines.specs.Epochs.{has_node, IsEpochOf}
 use Rattle.graph_lines.specs.Fresh.{ChannelsIn}
@@ -62,15 +61,6 @@ IsTaken g e (T.Passed which) after = passed (sums_with g.kinds g.sums e) ≡ Som
 abbrev pub RunsFor : Graph → ℕ → Stepped → Graph → Type 0
 RunsFor g zero stepped after = (stepped ≡ T.Done) × (after ≡ g)
 RunsFor g (suc n) stepped after = (e : Epoch) × IsEpochOf g (suc n) e × IsTaken g e stepped after
-
--- DRAIN: the cycles until each source that is active now has given all its frames
-pub record DrainsFor (waves : List WavIn) (g : Graph) (cycles : ℕ) : Type 0 where
-  pub driver : ℕ
-  pub drives : IsDriver g.kinds g.nodes driver
-  pub active : List Bool
-  pub actives : (n : ℕ) → (is_in active n ≡ true)
-      ↔ IsActive (live_wires g.nodes g.wires) driver n
-  pub enough : cycles ≡ drain_cycles g.quantum g.nodes active waves
 
 -- ANY LINE
 abbrev pub Steps : List WavIn → Graph → Command → Stepped → Graph → Type 0

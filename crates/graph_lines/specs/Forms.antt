@@ -14,13 +14,14 @@ abbrev pub HasKinds : List Node → List Kind → Type 0
 HasKinds nodes kinds = map (λ n. n.kind) nodes ≡ kinds
 
 -- a form; of a sink or meter only where it has a format
-abbrev pub IsFormOf : ℕ → ℕ → Node → PortState → Type 0
-IsFormOf rate channels node s = HasForm node s rate channels
+abbrev pub IsFormOfPort : ℕ → ℕ → Node → PortState → Type 0
+IsFormOfPort rate channels node s = HasForm node s rate channels
     × (IsSinkOrMeter node.kind → IsSome s.format)
 
 -- FORM of a port
 abbrev pub FormIn : List Node → PortId → ℕ → ℕ → Type 0
-FormIn nodes port rate channels = IsPort nodes port × AtPort nodes port (IsFormOf rate channels)
+FormIn nodes port rate channels =
+    IsPort nodes port × AtPort nodes port (IsFormOfPort rate channels)
 
 abbrev pub IsFormIn : List Node → PortId → Option (ℕ × ℕ) → Type 0
 IsFormIn nodes port None = (rate channels : ℕ) → FormIn nodes port rate channels → ⊥

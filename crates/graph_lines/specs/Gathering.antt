@@ -16,7 +16,7 @@ use Rattle.graph_lines.specs.declared.graph.Graph.{Graph}
 use Rattle.graph_lines.specs.declared.standing.Standing.{Standing}
 use Rattle.graph_lines.specs.declared.wire.Wire.{Wire}
 use Rattle.graph_lines.specs.Activity.{is_live, live_wires, IsDriver, IsActive}
-use Rattle.graph_lines.specs.EpochLines.{DrainsFor}
+use Rattle.graph_lines.specs.Draining.{DrainsFor}
 use Rattle.graph_lines.specs.Epochs.{HasActiveNodes, IsLinkOf, is_used}
 use Rattle.graph_lines.specs.Forms.{FormIn}
 use Rattle.graph_lines.specs.Fresh.{ChannelsIn, IsFresh}

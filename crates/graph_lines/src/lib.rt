@@ -5,7 +5,7 @@
 //! `judge` says whether it passes a limit, and `take` takes it. The pieces of an epoch stand
 //! beside:
 //! `driver_of` and `active_nodes` by live links, `counted` for required counts and target lists,
-//! `form_in`, and `drain_cycles` for the cycles of a drain.
+//! `form_in`, and `drain_cycles` for the cycles of a drain. `kind_made` is the kind of a new node.
 #![tactic(auto)]
 
 mod commands;
@@ -16,6 +16,7 @@ mod epochs;
 mod forms;
 mod fresh;
 mod graph;
+mod kinds;
 mod limits;
 mod linking;
 mod shaping;
@@ -29,6 +30,7 @@ mod wire;
 pub use draining::drain_cycles;
 pub use forms::form_in;
 pub use graph::{Graph, Stepped};
+pub use kinds::kind_made;
 pub use limits::{Sums, judge};
 pub use shaping::{Candidate, active_nodes, bare_nodes, counted, driver_of, live_wires};
 pub use standing::Standing;

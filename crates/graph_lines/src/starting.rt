@@ -1,11 +1,11 @@
 //! The graph before the first line.
-ghost use Rattle.std.specs.Prelude.{◌≡◌, ◌≤◌, map, length, option_map, IfOk};
+ghost use Rattle.std.specs.Prelude.{◌≡◌, ◌≤◌, map, length, IfOk};
 ghost use Rattle.std.specs.List.{range_with_len};
-ghost use Rattle.graph_script.specs.Kinds.{made_by};
 ghost use Rattle.graph_lines.specs.Ready.{IsReady};
 ghost use Rattle.graph_lines.specs.Start.{quantum_of, kinds_of, newcomer, MayStart, IsStart};
 
 use crate::graph::Graph;
+use crate::kinds::kind_made;
 use crate::limits::Sums;
 use crate::standing::Standing;
 use graph_script::{Command, Line};
@@ -28,38 +28,6 @@ fn quantum_of(lines: &[Line]) -> u32
         },
         None => QUANTUM,
     }
-}
-
-// The kind of the node that a command makes.
-fn kind_made(alloc: Global, command: &Command) -> Result<Option<Kind>, Memory>
-    ensures { IfOk result (λ kind. kind ≡ option_map (λ m. m.1) (made_by command.now)) }
-{
-    Ok(match command {
-        Command::Source { .. } => Some(Kind::Source),
-        Command::Square {
-            rate,
-            channels,
-            period,
-            amp,
-            ..
-        } => Some(Kind::Square {
-            rate: *rate,
-            channels: *channels,
-            period: *period,
-            amp: *amp,
-        }),
-        Command::Gain { g, .. } => Some(Kind::Gain { g: *g }),
-        Command::Mix2 { ga, gb, .. } => Some(Kind::Mix2 { ga: *ga, gb: *gb }),
-        Command::Delay { frames, .. } => Some(Kind::Delay { frames: *frames }),
-        Command::Map { channels, list, .. } => Some(Kind::Map {
-            channels: *channels,
-            list: list.copy(alloc)?,
-        }),
-        Command::Split { .. } => Some(Kind::Split),
-        Command::Sink { .. } => Some(Kind::Sink),
-        Command::Meter { .. } => Some(Kind::Meter),
-        _ => None,
-    })
 }
 
 // The kinds of the nodes that lines make.

@@ -1,12 +1,11 @@
 -- A sound graph has one epoch of a number of cycles, and one graph after it.
-use Rattle.std.proofs.Common.{◌≡◌, ◌⊎◌, inl, inr, ℕ, zero, suc, ◌+◌, ◌<◌, max, List, [], ◌∷◌, ◌++◌, length, filter, Bool, true, false}
+use Rattle.std.proofs.Common.{◌≡◌, ◌⊎◌, inl, inr, ℕ, zero, suc, ◌+◌, ◌<◌, List, [], ◌∷◌, ◌++◌, length, filter, Bool, false}
 use Rattle.std.proofs.Common.{not, ◌&&◌, ◌||◌, ◌==◌, Some, refl, sym, ap, ◌∙◌, subst, arith}
-use Rattle.std.specs.Prelude.{Contains, IsTrue, nat_lt, fold}
+use Rattle.std.specs.Prelude.{Contains, IsTrue, nat_lt}
 use Rattle.std.specs.List.{AllZip, list_any}
-use Rattle.std.proofs.lemmas.Bool.{or_cases, and_parts, ltb-true, eqb-true, both_ways}
+use Rattle.std.proofs.lemmas.Bool.{or_cases, and_parts, cases_lt, ltb-true, eqb-true}
 use Rattle.std.proofs.lemmas.Option.{none-some, same_Some}
 use Rattle.std.proofs.lemmas.List.{same_lists, get_or_default}
-use Rattle.std.proofs.lemmas.List.Elements.{filter_agree}
 use Rattle.std.proofs.lemmas.List.Kept.{AllPairs-from_increasing}
 use Rattle.pw_base.specs.declared.ids.PortId.{PortId}
 use Rattle.pw_base.specs.declared.kind.Kind.{Kind}
@@ -27,10 +26,9 @@ use Rattle.graph_lines.specs.declared.graph.Stepped.TheVariants as T
 use Rattle.graph_lines.specs.declared.standing.Standing.{Standing}
 use Rattle.graph_lines.specs.declared.wire.Wire.{Wire}
 use Rattle.graph_lines.specs.Activity.{standing, nobody, is_live, live_wires, IsDriver, IsActive}
-use Rattle.graph_lines.specs.Draining.{rest_cycles}
+use Rattle.graph_lines.specs.Draining.{IsLeft, DrainsFor}
 use Rattle.graph_lines.specs.Epochs.{is_used, IsLinkOf, IsEpochOf}
-use Rattle.graph_lines.specs.EpochLines.{cycles_in, is_heard, StandsAfter, IsAfter, IsTaken, RunsFor, DrainsFor}
-use Rattle.graph_lines.specs.Searching.{is_in}
+use Rattle.graph_lines.specs.EpochLines.{cycles_in, is_heard, StandsAfter, IsAfter, IsTaken, RunsFor}
 use Rattle.graph_lines.specs.Sums.{sums_with}
 use Rattle.graph_plan.specs.SoundGraph.{IsSoundGraph}
 use Rattle.graph_plan.proofs.FormLemmas.{one_form}
@@ -193,18 +191,12 @@ module _ (count : ℕ) (g : Graph) (sound : IsSoundGraph count g) where
 
   -- the cycles of a drain
   pub drain_one : (waves : List WavIn) (m n : ℕ) → DrainsFor waves g m → DrainsFor waves g n → m ≡ n
-  drain_one waves m n h k = h.enough ∙ (ap (λ (ws : List WavIn). fold (λ most w. max most (rest_cycles g.quantum g.nodes w)) 0 ws)
-      (filter_agree (λ (w : WavIn). is_in h.active w.node) (λ (w : WavIn). is_in k.active w.node) (λ w. active w.node) waves) ∙ sym k.enough)
-    where
-      same : h.driver ≡ k.driver
-      same = driver_one g.kinds g.nodes h.driver k.driver h.drives k.drives
-
-      active : (i : ℕ) → is_in h.active i ≡ is_in k.active i
-      active i = go (is_in h.active i) refl (is_in k.active i) refl where
-        go : (x : Bool) → is_in h.active i ≡ x → (y : Bool) → is_in k.active i ≡ y → is_in h.active i ≡ is_in k.active i
-        go true a true b = a ∙ sym b
-        go false a false b = a ∙ sym b
-        go true a false b = absurd (both_ways (is_in k.active i) b ((k.actives i).1
-            (subst (λ (d : ℕ). IsActive (live_wires g.nodes g.wires) d i) same ((h.actives i).0 a))))
-        go false a true b = absurd (both_ways (is_in h.active i) a ((h.actives i).1
-            (subst (λ (d : ℕ). IsActive (live_wires g.nodes g.wires) d i) (sym same) ((k.actives i).0 b))))
+  drain_one waves m n h k = elim (cases_lt m n) [
+    | inl below ↦ absurd (fewer m n h k below)
+    | inr rest ↦ elim (cases_lt n m) [ inl below ↦ absurd (fewer n m k h below) | inr more ↦ omega (arith, rest, more) ]
+  ] where
+    fewer : (few many : ℕ) → DrainsFor waves g few → DrainsFor waves g many → few < many → ⊥
+    fewer few many h k l =
+        let same = driver_one g.kinds g.nodes k.driver h.driver k.drives h.drives in
+        let bound = h.enough many (subst (λ (d : ℕ). IsLeft waves g d many) same (k.needed (omega (arith, l)))) in
+        omega (arith, l, bound)

@@ -21,7 +21,7 @@ use Rattle.port_model.proofs.NodeLemmas.{at_port, port_at}
 use Rattle.port_model.proofs.ValueLemmas.{own_value, free_value, some_is}
 use Rattle.port_model.proofs.TakingLemmas.{shared_at}
 use Rattle.link_negotiation.proofs.GivingLemmas.{there}
-use Rattle.graph_lines.specs.Forms.{IsFormOf, FormIn}
+use Rattle.graph_lines.specs.Forms.{IsFormOfPort, FormIn}
 use Rattle.graph_plan.specs.SoundWires.{HasFormatOf, IsFormatted}
 use Rattle.graph_plan.specs.Remembering.{HasSomeFormat}
 
@@ -34,8 +34,8 @@ pub one_form : (nodes : List Node) → AreSoundNodes nodes → (port : PortId) (
     → FormIn nodes port rate channels → FormIn nodes port rate' channels' → (rate ≡ rate') × (channels ≡ channels')
 one_form nodes sound port rate channels rate' channels' f g =
     let t = there nodes port sound f.0 in
-    let mine = at_port (IsFormOf rate channels) nodes port t.node t.state t.node_is t.state_is f.1 in
-    let its = at_port (IsFormOf rate' channels') nodes port t.node t.state t.node_is t.state_is g.1 in (
+    let mine = at_port (IsFormOfPort rate channels) nodes port t.node t.state t.node_is t.state_is f.1 in
+    let its = at_port (IsFormOfPort rate' channels') nodes port t.node t.state t.node_is t.state_is g.1 in (
       one_number (value_of t.node t.state 65539) rate rate' mine.0.0 its.0.0,
       one_number (value_of t.node t.state 65540) channels channels' mine.0.1 its.0.1,
     )
@@ -74,7 +74,7 @@ formatted_form nodes sound port rate channels is has =
     let t = there nodes port sound is in
     let f = at_port (λ (node : Node) (s : PortState). HasFormatOf rate channels s) nodes port t.node t.state t.node_is t.state_is has in (
       is,
-      port_at (IsFormOf rate channels) nodes port t.node t.state t.node_is t.state_is (
+      port_at (IsFormOfPort rate channels) nodes port t.node t.state t.node_is t.state_is (
         (own_value t.node t.state 65539 f.format f.has ∙ f.rate_is, own_value t.node t.state 65540 f.format f.has ∙ f.channels_is),
         λ end. some_is t.state.format f.format f.has,
       ),

@@ -30,3 +30,5 @@ pub mod SortedLemmas
 pub mod EpochOneLemmas
 pub mod StepOneLemmas
 pub mod PlanOneLemmas
+pub mod MoreNodesLemmas
+pub mod ReadOffLemmas

@@ -25,7 +25,7 @@ use Rattle.port_model.proofs.ValueLemmas.{own_value, free_value}
 use Rattle.link_negotiation.specs.declared.link.Link.{Link}
 use Rattle.link_negotiation.specs.Unlinking.{is_released, releasing}
 use Rattle.link_negotiation.proofs.GivingLemmas.{IsThere, there}
-use Rattle.graph_lines.specs.Forms.{HasKinds, IsFormOf, FormIn}
+use Rattle.graph_lines.specs.Forms.{HasKinds, IsFormOfPort, FormIn}
 use Rattle.graph_plan.specs.Conditions.{IsWaveFor}
 use Rattle.graph_plan.proofs.FormLemmas.{one_number, port_count_is, kind_at_is}
 use Rattle.graph_plan.proofs.ListLemmas.{map_changed}
@@ -104,7 +104,7 @@ pub form_fits : (nodes before : List Node) (kinds : List Kind) (wave : WavIn) �
     → port.node ≡ wave.node → (rate ≡ wave.wav.rate) × (channels ≡ wave.wav.channels)
 form_fits nodes before kinds wave sound own_kinds old_kinds same is port rate channels form at =
     let node_sound = at_place IsSoundNode nodes port.node t.node sound.each t.node_is in
-    let mine = at_port (IsFormOf rate channels) nodes port t.node t.state t.node_is t.state_is form.1 in
+    let mine = at_port (IsFormOfPort rate channels) nodes port t.node t.state t.node_is t.state_is form.1 in
     let few : port_count t.node.kind ≤ 1 = subst (λ (k : Kind). port_count k ≤ 1) (sym kind) (omega arith) in
     let state = ap (slice_get t.node.ports) (sym zero_port) ∙ t.state_is in (
       one_number (value_of t.node t.state 65539) rate wave.wav.rate mine.0.0

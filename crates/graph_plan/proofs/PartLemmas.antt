@@ -35,7 +35,7 @@ use Rattle.graph_lines.specs.declared.graph.Graph.{Graph}
 use Rattle.graph_lines.specs.declared.wire.Wire.{Wire}
 use Rattle.graph_lines.specs.Activity.{standing, is_live, live_wires, HasWire}
 use Rattle.graph_lines.specs.Epochs.{has_node, is_used, IsLinkOf, IsEpochOf}
-use Rattle.graph_lines.specs.Forms.{IsFormOf, FormIn}
+use Rattle.graph_lines.specs.Forms.{IsFormOfPort, FormIn}
 use Rattle.graph_lines.specs.Sums.{sums_with, passed}
 use Rattle.graph_plan.specs.SoundWires.{IsSoundWire, AreApart}
 use Rattle.graph_plan.specs.Remembering.{IsLike, HasSomeFormat, Stands}
@@ -90,7 +90,7 @@ module _ (count : ℕ) (g : Graph) (sound : IsSoundGraph count g) (n : ℕ) (e :
       | inl d ↦ absurd (port_small port f.0 (same ∙ d))
       | inr k ↦
           let t = there g.ports port sound.ports f.0 in
-          let own = at_port (IsFormOf rate channels) g.ports port t.node t.state t.node_is t.state_is f.1 in
+          let own = at_port (IsFormOfPort rate channels) g.ports port t.node t.state t.node_is t.state_is f.1 in
           let kind = kind_at_is g.ports g.kinds sound.kinds port.node t.node t.node_is in
           let ends : IsSinkOrMeter t.node.kind = subst IsSinkOrMeter (sym (kind ∙ ap (λ (m : ℕ). get_or g.kinds m Dummy) same)) (driver_ends k) in
           record {

@@ -17,7 +17,7 @@ use Rattle.port_model.proofs.TakingLemmas.{nodes_taken}
 use Rattle.port_model.proofs.ValueLemmas.{some_is}
 use Rattle.link_negotiation.specs.LinkOutcome.{given, MayBeGiven}
 use Rattle.link_negotiation.proofs.GivingLemmas.{IsThere, there, elsewhere, taken_given, kept_given}
-use Rattle.graph_lines.specs.Forms.{IsFormOf, FormIn}
+use Rattle.graph_lines.specs.Forms.{IsFormOfPort, FormIn}
 use Rattle.graph_plan.specs.Remembering.{HasSomeFormat, Stands}
 use Rattle.graph_plan.proofs.ListLemmas.{changed_keeps}
 use Rattle.graph_plan.proofs.FormLemmas.{IsFormattedNode}
@@ -38,8 +38,8 @@ port_stays nodes q port f is = let same = count_kept nodes q f port.node in omeg
 -- a form after a change of one port of its node
 abbrev pub KeepsForm : (PortState → PortState) → ℕ → Node → Type 0
 KeepsForm f j node = (i : ℕ) (s later : PortState) (rate channels : ℕ) → slice_get node.ports i ≡ Some s
-    → slice_get (changed node.ports j f) i ≡ Some later → IsFormattedNode node → IsFormOf rate channels node s
-    → IsFormOf rate channels (record node { ports = changed node.ports j f }) later
+    → slice_get (changed node.ports j f) i ≡ Some later → IsFormattedNode node → IsFormOfPort rate channels node s
+    → IsFormOfPort rate channels (record node { ports = changed node.ports j f }) later
 
 module _ (nodes : List Node) (q : PortId) (f : PortState → PortState) (sound : AreSoundNodes nodes) (after : AreSoundNodes (with_port nodes q f))
     (some : (s : PortState) → IsSome s.format → IsSome (f s).format)
@@ -63,12 +63,12 @@ module _ (nodes : List Node) (q : PortId) (f : PortState → PortState) (sound :
       same_Some u.node (record t.node { ports = changed t.node.ports q.port f })
       (sym u.node_is ∙ (ap (slice_get (with_port nodes q f)) e ∙ whole)) in
       let state = subst (λ (m : Node). slice_get m.ports port.port ≡ Some u.state) same u.state_is in
-      let own = at_port (IsFormOf rate channels) nodes port t.node t.state t.node_is t.state_is h.form.1 in
+      let own = at_port (IsFormOfPort rate channels) nodes port t.node t.state t.node_is t.state_is h.form.1 in
       let form = keeps t.node at_q port.port t.state u.state rate channels t.state_is state
       (formatted_node nodes port.node sound h.some t.node t.node_is) own in (
         is,
-        port_at (IsFormOf rate channels) (with_port nodes q f) port u.node u.state u.node_is u.state_is
-            (subst (λ (m : Node). IsFormOf rate channels m u.state) (sym same) form),
+        port_at (IsFormOfPort rate channels) (with_port nodes q f) port u.node u.state u.node_is u.state_is
+            (subst (λ (m : Node). IsFormOfPort rate channels m u.state) (sym same) form),
       )
 
   pub with_port_stands : (port : PortId) (rate channels : ℕ) → Stands nodes port rate channels → Stands (with_port nodes q f) port rate channels
@@ -77,7 +77,7 @@ module _ (nodes : List Node) (q : PortId) (f : PortState → PortState) (sound :
     | inr ne ↦ record {
       form = (
         port_stays nodes q port f h.form.0,
-        elsewhere (IsFormOf rate channels) nodes q port f (λ d. ne (sym d)) h.form.1,
+        elsewhere (IsFormOfPort rate channels) nodes q port f (λ d. ne (sym d)) h.form.1,
       );
       some = some_stays port.node h.some;
     }

@@ -18,7 +18,7 @@ use Rattle.link_negotiation.proofs.GivingLemmas.{there}
 use Rattle.graph_lines.specs.declared.graph.Graph.{Graph}
 use Rattle.graph_lines.specs.declared.wire.Wire.{Wire}
 use Rattle.graph_lines.specs.Activity.{standing, nobody, HasWire}
-use Rattle.graph_lines.specs.Forms.{IsFormOf, FormIn}
+use Rattle.graph_lines.specs.Forms.{IsFormOfPort, FormIn}
 use Rattle.graph_lines.specs.Fresh.{ChannelsIn, IsFresh}
 use Rattle.graph_plan.specs.SoundWires.{IsSoundWire}
 use Rattle.graph_plan.specs.Remembering.{HasSomeFormat}
@@ -77,7 +77,7 @@ module _ (count : ℕ) (g : Graph) (sound : IsSoundGraph count g) where
   form_ranges port rate channels f =
       let t = there g.ports port sound.ports f.0 in
       let node = at_place IsSoundNode g.ports port.node t.node sound.ports.each t.node_is in
-      let own = at_port (IsFormOf rate channels) g.ports port t.node t.state t.node_is t.state_is f.1 in
+      let own = at_port (IsFormOfPort rate channels) g.ports port t.node t.state t.node_is t.state_is f.1 in
       let kind = kind_at_is g.ports g.kinds sound.kinds port.node t.node t.node_is in
       let c = channels_in_range t.node port.port t.state channels node t.sound own.0.1 in (
         subst (λ (k : Kind). MayHaveRate k rate) kind (rate_in_range t.node port.port t.state rate node t.sound own.0.0),

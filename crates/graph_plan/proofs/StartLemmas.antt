@@ -66,7 +66,7 @@ said_first n m = elim (cases_lt m n) [
       (omega (arith, past, length-map-range_with_len newcomer 0 n)))
 ]
 
-first_is : {X : Type 0} (f : Standing → X) (x : X) → ((m : ℕ) → f (newcomer m) ≡ x) → f nobody ≡ x → (n m : ℕ)
+pub first_is : {X : Type 0} (f : Standing → X) (x : X) → ((m : ℕ) → f (newcomer m) ≡ x) → f nobody ≡ x → (n m : ℕ)
     → f (standing (map newcomer (range_with_len 0 n)) m) ≡ x
 first_is f x new none n m = elim (said_first n m) [ inl e ↦ ap f e ∙ new m | inr e ↦ ap f e ∙ none ]
 

@@ -35,7 +35,7 @@ use Rattle.graph_lines.specs.declared.standing.Standing.{Standing}
 use Rattle.graph_lines.specs.declared.wire.Wire.{Wire}
 use Rattle.graph_lines.specs.Activity.{standing, nobody}
 use Rattle.graph_lines.specs.Conditions.{AreWired}
-use Rattle.graph_lines.specs.Forms.{IsFormOf}
+use Rattle.graph_lines.specs.Forms.{IsFormOfPort}
 use Rattle.graph_lines.specs.UnlinkLines.{HasKept, giving, wires_without, IsTakenAway, UnlinksLine}
 use Rattle.graph_lines.proofs.WireLemmas.{set_wired}
 use Rattle.graph_plan.specs.Reaching.{IsOrdered}
@@ -150,7 +150,7 @@ module _ (nodes nodes' : List Node) (n : ℕ) (same : slice_get nodes' n ≡ sli
   stands_still port rate channels h = record {
     form = (
       there_stays port h.form.0,
-      subst (λ (o : Option Node). IfSome o (λ node. IfSome (slice_get node.ports port) (IsFormOf rate channels node))) (sym same) h.form.1,
+      subst (λ (o : Option Node). IfSome o (λ node. IfSome (slice_get node.ports port) (IsFormOfPort rate channels node))) (sym same) h.form.1,
     );
     some = record {
       port = h.some.port;

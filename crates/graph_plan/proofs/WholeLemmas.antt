@@ -23,7 +23,7 @@ use Rattle.port_model.proofs.NodeLemmas.{at_place, at_port, port_at}
 use Rattle.port_model.proofs.ValueLemmas.{own_value, free_value, some_of, some_is, only_value}
 use Rattle.port_model.proofs.FormLemmas.{has_form}
 use Rattle.link_negotiation.proofs.GivingLemmas.{there}
-use Rattle.graph_lines.specs.Forms.{IsFormOf, FormIn}
+use Rattle.graph_lines.specs.Forms.{IsFormOfPort, FormIn}
 use Rattle.graph_plan.specs.Remembering.{HasSomeFormat}
 use Rattle.graph_plan.proofs.FormLemmas.{one_number, rate_shared, IsFormattedNode, value_shared}
 
@@ -112,9 +112,9 @@ module _ (node : Node) (sound : IsSoundNode node) (h : IsFormattedNode node) (i 
     go (alone one) = let f = some_of s.format (is_it one) in absurd (none-some f.0 (sym free ∙ f.1))
 
   -- EVERY PORT HAS A FORM
-  pub whole_form : (rate : ℕ) × (channels : ℕ) × IsFormOf rate channels node s
+  pub whole_form : (rate : ℕ) × (channels : ℕ) × IsFormOfPort rate channels node s
   whole_form = go s.format refl where
-    go : (o : Option Format) → s.format ≡ o → (rate : ℕ) × (channels : ℕ) × IsFormOf rate channels node s
+    go : (o : Option Format) → s.format ≡ o → (rate : ℕ) × (channels : ℕ) × IsFormOfPort rate channels node s
     go (Some f) e = let w = has_form node i s port (some_is s.format f e) in (w.0, w.1, (w.2, λ end. some_is s.format f e))
     go None e = (rate_of.0, (free_channels e).0, ((rate_of.1, (free_channels e).1), λ end. is_it (end_alone node.kind end)))
 
@@ -159,7 +159,7 @@ module _ (nodes : List Node) (sound : AreSoundNodes nodes) (n : ℕ) (has : HasS
       let t = there nodes p sound is in
       let node_sound = at_place IsSoundNode nodes n t.node sound.each t.node_is in
       let w = whole_form t.node node_sound (formatted_node nodes n sound has t.node t.node_is) port t.state t.state_is in
-      (w.0, w.1, (is, port_at (IsFormOf w.0 w.1) nodes p t.node t.state t.node_is t.state_is w.2))
+      (w.0, w.1, (is, port_at (IsFormOfPort w.0 w.1) nodes p t.node t.state t.node_is t.state_is w.2))
 
   pub shared_in : (p q : ℕ) (rate channels rate' channels' : ℕ) → FormIn nodes (record { node = n; port = p }) rate channels
       → FormIn nodes (record { node = n; port = q }) rate' channels' → (node : Node) → slice_get nodes n ≡ Some node
@@ -171,8 +171,8 @@ module _ (nodes : List Node) (sound : AreSoundNodes nodes) (n : ℕ) (has : HasS
       let u = there nodes b sound g.0 in
       let same : t.node ≡ node = same_Some t.node node (sym t.node_is ∙ e) in
       let other : u.node ≡ node = same_Some u.node node (sym u.node_is ∙ e) in
-      let mine = at_port (IsFormOf rate channels) nodes a t.node t.state t.node_is t.state_is f.1 in
-      let its = at_port (IsFormOf rate' channels') nodes b u.node u.state u.node_is u.state_is g.1 in
+      let mine = at_port (IsFormOfPort rate channels) nodes a t.node t.state t.node_is t.state_is f.1 in
+      let its = at_port (IsFormOfPort rate' channels') nodes b u.node u.state u.node_is u.state_is g.1 in
       shared_forms node (at_place IsSoundNode nodes n node sound.each e) (formatted_node nodes n sound has node e) p q t.state u.state
       (subst (λ (m : Node). slice_get m.ports p ≡ Some t.state) same t.state_is)
       (subst (λ (m : Node). slice_get m.ports q ≡ Some u.state) other u.state_is) rate channels rate' channels'

@@ -78,9 +78,13 @@ fn whole_plan(
 /// `Limit`: the first line that passes a limit: a `link` line that could be made but for 256 links
 /// that are there; a `cycles` or `drain` line with whose epoch the events, the samples of all sinks
 /// or the bytes of all blocks pass their limit, looked at in this order. `ports` has the nodes of
-/// the script with their offers, and `waves` one wave for each of its sources. Cost: one step a
-/// line, and for each epoch one look at each node, port and link, and at most 64 at each link for
-/// the nodes that are active.
+/// the script with their offers, and `waves` one wave for each of its sources.
+///
+/// Cost: a `link` line copies two offers and looks at each link for a loop. An epoch looks at most
+/// 64 times at each link for the nodes that are active, at each of these twice at each link and
+/// twice at each active node for its count and its targets, and at each node of the script at each
+/// active node and each form for what is said of it then. Memory: what the plan holds, the ports,
+/// and one epoch more.
 ///
 /// Public source: PipeWire's documentation, "Graph Scheduling"; the script is this project's.
 pub fn plan(

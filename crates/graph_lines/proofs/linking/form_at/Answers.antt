@@ -1,5 +1,5 @@
 use Rattle.port_model.specs.Forms.{HasForm}
-use Rattle.graph_lines.specs.Forms.{IsFormOf}
+use Rattle.graph_lines.specs.Forms.{IsFormOfPort}
 use Rattle.graph_lines.proofs.LinkingLemmas.{has_told}
 use Rattle.graph_lines.proofs.PortLemmas.{formed}
 use Rattle.graph_lines.proofs.linking.form_at.Goals as goal
@@ -11,7 +11,7 @@ returns-in-None-clause-form c = has_told c.args.ports.now c.args.port c.sound.re
 pub returns-in-None-clause-here : goal.returns-in-None-clause-here
 returns-in-None-clause-here c = (
   c.requires.port,
-  has_told c.args.ports.now c.args.port c.sound.result (IsFormOf 0 0) c.sound.ensures.nodes
+  has_told c.args.ports.now c.args.port c.sound.result (IsFormOfPort 0 0) c.sound.ensures.nodes
       c.requires.port c.requires.format c.in-None.is c.sound.ensures.has,
 )
 

@@ -1,0 +1,24 @@
+//! Tests of graph_plan over whole scripts. They stand apart, since a crate that has tests is proved twice.
+//!
+//! `plan_text` reads a script, makes the ports of its nodes and silent waves for its sources, and plans it.
+#![tactic(auto)]
+
+#[cfg(test)]
+mod counts;
+#[cfg(test)]
+mod drains;
+#[cfg(test)]
+mod epochs;
+#[cfg(test)]
+mod fresh;
+#[cfg(test)]
+mod limits;
+#[cfg(test)]
+mod showing;
+mod silence;
+mod stock;
+mod texts;
+
+pub use silence::Silence;
+pub use stock::{Stock, stock_of};
+pub use texts::{TextFault, plan_text};

@@ -1,0 +1,54 @@
+//! The plan of a script's text.
+ghost use Rattle.std.specs.Prelude.{IfOk};
+ghost use Rattle.pw_base.specs.SoundPlan.{IsSoundPlan};
+ghost use Rattle.graph_script.specs.Kinds.{HasKinds};
+ghost use Rattle.graph_script.specs.Order.{HasOrder};
+ghost use Rattle.graph_script.specs.Ranges.{HasRanges};
+
+use crate::silence::Silence;
+use crate::stock::{Stock, stock_of};
+use graph_plan::{PlanFault, plan};
+use graph_script::{Script, parse};
+use pw_base::{Plan, SCRIPT_BYTES_LIMIT};
+use std::alloc::Global;
+
+/// Why a text has no plan.
+#[derive(Clone, Copy, Debug, PartialEq, Eq, Drop)]
+pub enum TextFault {
+    /// It is no script, or longer than one may be.
+    NoScript,
+    Plan(PlanFault),
+}
+
+// The plan of a script with these waves.
+fn plan_script(alloc: Global, script: &Script, sources: &[Silence]) -> Result<Plan, PlanFault>
+    requires ranges { HasRanges script.now }
+    requires kinds { HasKinds script.now }
+    requires order { HasOrder script.now }
+    ensures { IfOk result IsSoundPlan }
+{
+    match stock_of(alloc, script.lines.as_slice(), sources) {
+        Err(_memory) => Err(PlanFault::Memory),
+        Ok(stock) => {
+            let Stock { ports, waves, .. } = stock;
+            plan(alloc, script, &waves, ports)
+        }
+    }
+}
+
+/// The plan of a text, whose sources have these waves in their order.
+pub fn plan_text(alloc: Global, text: &str, sources: &[Silence]) -> Result<Plan, TextFault>
+    ensures { IfOk result IsSoundPlan }
+{
+    let bytes = text.as_bytes();
+    if (bytes.len() as u64) > SCRIPT_BYTES_LIMIT {
+        return Err(TextFault::NoScript);
+    }
+    match parse(alloc, bytes) {
+        Err(_fault) => Err(TextFault::NoScript),
+        Ok(script) => match plan_script(alloc, &script, sources) {
+            Ok(plan) => Ok(plan),
+            Err(fault) => Err(TextFault::Plan(fault)),
+        },
+    }
+}
