@@ -24,7 +24,7 @@ module _ (p : BoardLayout) (v : View) (rs : List ReadView) (hs : List ℕ) where
   pub reads_have : (b : Bool) (m : ℕ) → HasNode b p v m → HasNode b p (record v { reads = rs; heard = hs }) m
   reads_have true m h = h
   reads_have false m h = let o = h.0 in (
-    record { inside = o.inside; follows = o.follows; loops = o.loops; owned = o.owned; there = o.there; knows = o.knows },
+    record { inside = o.inside; follows = o.follows; loops = o.loops; owned = o.owned; there = o.there; knows = o.knows; owners = o.owners },
     h.1,
     h.2,
   )

@@ -60,12 +60,12 @@ module _ (p : BoardLayout) (v x : View) (same : x ≡ record v
 
   has_left : (m : ℕ) → HasNode false p v m → HasNode false p x m
   has_left m h = let o = h.0 in subst (λ (y : View). HasNode false p y m) (sym same)
-      (record { inside = o.inside; follows = o.follows; loops = o.loops; owned = o.owned; there = o.there; knows = o.knows }, h.1, h.2)
+      (record { inside = o.inside; follows = o.follows; loops = o.loops; owned = o.owned; there = o.there; knows = o.knows; owners = o.owners }, h.1, h.2)
 
   rests_left : (m : ℕ) → IsResting p v m → IsResting p x m
   rests_left m r = let o = r.member.0 in subst (λ (y : View). IsResting p y m) (sym same) record {
     member = (
-      record { inside = o.inside; follows = o.follows; loops = o.loops; owned = o.owned; there = o.there; knows = o.knows },
+      record { inside = o.inside; follows = o.follows; loops = o.loops; owned = o.owned; there = o.there; knows = o.knows; owners = o.owners },
       r.member.1,
       r.member.2,
     );

@@ -54,7 +54,7 @@ module _ (p : BoardLayout) (v : View) (ws : List WriteView) (bs : List BlockView
   -- other ends of links and other blocks leave the nodes
   pub writes_have : (m : ℕ) → IsMember false p v m → IsMember false p (record v { writes = ws; blocks = bs; reclaimed = rc }) m
   writes_have m h = let o = h.0 in (
-    record { inside = o.inside; follows = o.follows; loops = o.loops; owned = o.owned; there = o.there; knows = o.knows },
+    record { inside = o.inside; follows = o.follows; loops = o.loops; owned = o.owned; there = o.there; knows = o.knows; owners = o.owners },
     h.1,
     h.2,
   )
