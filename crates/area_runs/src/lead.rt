@@ -38,7 +38,8 @@ impl DriverLoop {
         ensures ready { IsLeadReadyOn board.now self.new result }
         ensures begun { BeginsNext (layout board.now) self.old result self.new }
         ensures unchecked { self.new.seat.knows.lead.checked ≡ false }
-        ensures same { (self.new.samples ≡ self.old.samples) × (self.new.room ≡ self.old.room) }
+        ensures same { (self.new.samples ≡ self.old.samples)
+            × (self.new.room ≡ self.old.room) }
     {
         let driver = board.shape().driver;
         if self.seat.ended(board, driver) == board.shape().cycles {
@@ -56,7 +57,8 @@ impl DriverLoop {
         ensures ready { IsLeadReadyOn board.now self.new true }
         ensures late { let p = layout board.now in
             HasChecked p self.old.seat.knows result self.new.seat.knows }
-        ensures same { (self.new.samples ≡ self.old.samples) × (self.new.room ≡ self.old.room) }
+        ensures same { (self.new.samples ≡ self.old.samples)
+            × (self.new.room ≡ self.old.room) }
     {
         check_late(board, &mut self.seat)
     }

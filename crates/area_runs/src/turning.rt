@@ -41,7 +41,15 @@ pub(crate) fn take_turn(
     start(board, seat, ends.node);
     let before = samples.given_before(past);
     let heard = hear_all(board, seat, ends.reads.as_slice(), now, before, room);
-    write_all(board, seat, ends.pools.as_slice(), shapes, free, now, written);
+    write_all(
+        board,
+        seat,
+        ends.pools.as_slice(),
+        shapes,
+        free,
+        now,
+        written,
+    );
     finish(board, seat, ends.node);
     heard
 }

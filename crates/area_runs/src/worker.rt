@@ -14,8 +14,8 @@ use io_areas::OutputWritten;
 use pw_base::{Items, PoolShape};
 
 /// A loop of a board: its seat and its nodes, the pools of the shape with the free blocks of each,
-/// what every pool gives in every cycle, room for one quantum, and what the turn on the pool that it
-/// filled last answered.
+/// what every pool gives in every cycle, room for one quantum, and what the turn on the pool that
+/// it filled last answered.
 #[derive(Drop)]
 pub struct Worker {
     pub(crate) seat: LoopSeat,

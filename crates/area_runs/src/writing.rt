@@ -11,7 +11,8 @@ use io_areas::{OutputWritten, write_output};
 use pw_base::PoolShape;
 
 /// The node that works gives the samples in each of its pools. `shapes` and `free` have all pools
-/// of the board's shape, and the free blocks of each; `written` becomes the answer of the last pool.
+/// of the board's shape, and the free blocks of each; `written` becomes the answer of the last
+/// pool.
 pub(crate) fn write_all(
     board: &Board,
     seat: &mut LoopSeat,

@@ -13,7 +13,8 @@ pub use Rattle.board_rule.specs.ReaderLoads.{IsOfThisCycle, IsZeroAtFirst, IsPub
 module _ (is_driver : Bool) (p : BoardLayout) where
   -- THE READER'S TURN: it has loaded the number of a block in this cycle
   abbrev pub IsReading : View → ℕ → ℕ → Type 0
-  IsReading v l id = IsReader is_driver p v l × ((read_of v l).loaded ≡ read_cycle is_driver p v l + 1)
+  IsReading v l id = IsReader is_driver p v l
+      × ((read_of v l).loaded ≡ read_cycle is_driver p v l + 1)
       × ((read_of v l).id < (pool_at p (pool_of p l)).blocks) × (id ≡ (read_of v l).id)
 
   -- the block is not yet lowered
@@ -32,7 +33,8 @@ module _ (is_driver : Bool) (p : BoardLayout) where
   LowersReaders v l id = ReadsBlock v l id × (heard_of v l ≡ (pool_at p (pool_of p l)).words)
 
   abbrev pub readers_lowered : View → ℕ → View
-  readers_lowered v l = view_read v l (record (read_of v l) { lowered = read_cycle is_driver p v l + 1 })
+  readers_lowered v l = view_read v l (record (read_of v l)
+      { lowered = read_cycle is_driver p v l + 1 })
 
   -- what the link's pool gave in the cycle in which that block was announced
   abbrev pub samples_read : View → ℕ → List ℤ

@@ -88,7 +88,8 @@ impl DriverSeat {
         requires expect { 0 < self.old.knows.split → E.expect ≡ self.old.knows.expect }
         requires samples { IsTable (layout board.now) E.expect }
         ensures { IfOk result (λ s. (self.new.table ≡ self.old.table)
-            × (self.new.knows ≡ split_off E.expect self.old.knows) × (s.table ≡ self.old.table)
+            × (self.new.knows ≡ split_off E.expect self.old.knows)
+            × (s.table ≡ self.old.table)
             × (s.knows ≡ loop_view (layout board.now) E.expect self.old.knows.split)) }
     {
         let owners = &starts.owners;

@@ -49,7 +49,8 @@ fn of_nodes(alloc: Global, board_shape: &BoardShape) -> Result<Items<u32>, Memor
 // The seats of the writers of all links.
 fn of_writers(alloc: Global, board_shape: &BoardShape) -> Result<Items<u32>, Memory>
     ensures { IfOk result (λ row. row
-        ≡ map (λ l. seat_with (layout_of board_shape.now) l.from.node) board_shape.now.shape.links) }
+        ≡ map (λ l. seat_with (layout_of board_shape.now) l.from.node)
+        board_shape.now.shape.links) }
 {
     let mut row = Items::new(alloc);
     for link in board_shape.shape.links.as_slice() {
@@ -61,7 +62,8 @@ fn of_writers(alloc: Global, board_shape: &BoardShape) -> Result<Items<u32>, Mem
 // The seats of the readers of all links.
 fn of_readers(alloc: Global, board_shape: &BoardShape) -> Result<Items<u32>, Memory>
     ensures { IfOk result (λ row. row
-        ≡ map (λ l. seat_with (layout_of board_shape.now) l.to.node) board_shape.now.shape.links) }
+        ≡ map (λ l. seat_with (layout_of board_shape.now) l.to.node)
+        board_shape.now.shape.links) }
 {
     let mut row = Items::new(alloc);
     for link in board_shape.shape.links.as_slice() {
