@@ -33,8 +33,8 @@ module _ (is_driver : Bool) (p : BoardLayout) where
   LowersReaders v l id = ReadsBlock v l id × (heard_of v l ≡ (pool_at p (pool_of p l)).words)
 
   abbrev pub readers_lowered : View → ℕ → View
-  readers_lowered v l =
-      view_read v l (record (read_of v l) { lowered = read_cycle is_driver p v l + 1 })
+  readers_lowered v l = view_read v l (record (read_of v l)
+      { lowered = read_cycle is_driver p v l + 1 })
 
   -- what the link's pool gave in the cycle in which that block was announced
   abbrev pub samples_read : View → ℕ → List ℤ
