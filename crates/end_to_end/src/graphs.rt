@@ -1,7 +1,8 @@
 //! What graphs of every kind of node render.
 
-use crate::waves::{add_wave, expect_mono, expect_run, expect_wave};
+use crate::waves::{expect_mono, expect_run, expect_wave};
 use pw_base::MemFiles;
+use row_files::add_wave;
 use std::test::Fail;
 
 #[test]

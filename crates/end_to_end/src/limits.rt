@@ -1,9 +1,10 @@
 //! Runs above a limit, each refused at the line that passes it.
 
-use crate::support::{expect, expect_of, text};
+use crate::support::expect_of;
 use graph_script::ScriptWhy;
 use pw_base::{Items, MemFiles, MemSink, Memory, Which};
 use pw_top::Status;
+use row_files::{run_line, text};
 use std::alloc::Global;
 use std::process::Abort;
 use std::sync::Wait;
@@ -13,18 +14,24 @@ use std::thread::Threads;
 /// The letters that begin a name.
 const ALPHABET: [u8; 26] = *b"abcdefghijklmnopqrstuvwxyz";
 
+/// The digits that end a name.
+const DIGITS: [u8; 10] = *b"0123456789";
+
 // Runs a script of these bytes without any other file.
 fn expect_script<R: Threads + Wait + Sync + AllocGlobal + Abort>(
     rt: &R,
     script: &[u8],
     status: Status,
-    wanted: &str,
+    wanted: &[u8],
 ) -> Result<(), Fail> {
     let alloc = rt.alloc();
     let mut files = MemFiles::new(alloc)?;
     files.add_file(alloc, &text(alloc, "s.graph")?, script)?;
     let mut out = MemSink::new(alloc)?;
-    expect(rt, "run s.graph", &mut files, &mut out, status, wanted)
+    let answer = run_line(rt, "run s.graph", &mut files, &mut out)?;
+    assert!(rt; answer == status);
+    assert!(rt; out.bytes().as_slice() == wanted);
+    Ok(())
 }
 
 // A script of these lines, and then one line so many times.
@@ -36,25 +43,41 @@ fn repeated(alloc: Global, first: &str, line: &str, count: u32) -> Result<Items<
     Ok(script)
 }
 
-// Appends ten meters, whose names end in this letter and a digit.
-fn append_meters(script: &mut Items<u8>, letter: u8) -> Result<(), Memory> {
-    for digit in b"0123456789".as_slice() {
-        script.extend(b"meter ".as_slice())?;
-        script.extend([letter, *digit, b'\n'].as_slice())?;
+// Appends ten lines: a word, a letter and a digit, and an end.
+fn append_ten(lines: &mut Items<u8>, word: &[u8], letter: u8, end: &[u8]) -> Result<(), Memory> {
+    for digit in DIGITS.as_slice() {
+        lines.extend(word)?;
+        lines.push(letter)?;
+        lines.push(*digit)?;
+        lines.extend(end)?;
     }
     Ok(())
 }
 
-// Appends a link from the square of this letter to each of the ten meters of the letter m.
-fn append_links(script: &mut Items<u8>, letter: u8) -> Result<(), Memory> {
-    for digit in b"0123456789".as_slice() {
-        script.extend(b"link ".as_slice())?;
-        script.push(letter)?;
-        script.extend(b".out m".as_slice())?;
-        script.push(*digit)?;
-        script.extend(b".in\n".as_slice())?;
+// Appends a link from the square of this letter to the meter of each of these digits.
+fn append_links(
+    lines: &mut Items<u8>,
+    letter: u8,
+    digits: &[u8],
+    end: &[u8],
+) -> Result<(), Memory> {
+    for digit in digits {
+        lines.extend(b"link ".as_slice())?;
+        lines.push(letter)?;
+        lines.extend(b".out m".as_slice())?;
+        lines.push(*digit)?;
+        lines.extend(b".in".as_slice())?;
+        lines.extend(end)?;
     }
     Ok(())
+}
+
+// Appends 256 links: from 25 squares to ten meters, and from one to six.
+fn append_all_links(lines: &mut Items<u8>, end: &[u8]) -> Result<(), Memory> {
+    for letter in &ALPHABET.as_slice()[..25] {
+        append_links(lines, *letter, DIGITS.as_slice(), end)?;
+    }
+    append_links(lines, b'z', &DIGITS.as_slice()[..6], end)
 }
 
 // Appends a square of one channel of each of 26 letters.
@@ -84,44 +107,68 @@ fn events_above_the_limit(rt: HostRuntime) -> Result<(), Fail> {
 }
 
 #[test]
-fn a_node_too_many(rt: HostRuntime) -> Result<(), Fail> {
+fn nodes_up_to_the_limit(rt: HostRuntime) -> Result<(), Fail> {
     let mut script = Items::new(rt.alloc());
-    for letter in b"abcdefg".as_slice() {
-        append_meters(&mut script, *letter)?;
+    let mut wanted = Items::new(rt.alloc());
+    for letter in b"abcdef".as_slice() {
+        append_ten(&mut script, b"meter ".as_slice(), *letter, b"\n".as_slice())?;
+        append_ten(
+            &mut wanted,
+            b"unused ".as_slice(),
+            *letter,
+            b"\n".as_slice(),
+        )?;
     }
+    script.extend(b"meter g\nmeter h\nmeter i\n".as_slice())?;
+    wanted.extend(b"unused g\nunused h\nunused i\n".as_slice())?;
+    expect_script(&rt, script.as_slice(), Status::Ok, wanted.as_slice())?;
+    script.extend(b"meter j\n".as_slice())?;
     let status = Status::Script {
         line: 64,
         why: ScriptWhy::TooMany(Which::Nodes),
     };
-    expect_script(&rt, script.as_slice(), status, "script 64 12 5\n")
+    expect_script(
+        &rt,
+        script.as_slice(),
+        status,
+        b"script 64 12 5\n".as_slice(),
+    )
 }
 
 #[test]
-fn an_epoch_too_many(rt: HostRuntime) -> Result<(), Fail> {
+fn epochs_up_to_the_limit(rt: HostRuntime) -> Result<(), Fail> {
     let script = repeated(rt.alloc(), "", "drain\n", 1024)?;
-    expect_script(&rt, script.as_slice(), Status::Ok, "")?;
+    expect_script(&rt, script.as_slice(), Status::Ok, [].as_slice())?;
     let script = repeated(rt.alloc(), "", "drain\n", 1025)?;
     let status = Status::Script {
         line: 1025,
         why: ScriptWhy::TooMany(Which::Epochs),
     };
-    expect_script(&rt, script.as_slice(), status, "script 1025 12 6\n")
+    expect_script(
+        &rt,
+        script.as_slice(),
+        status,
+        b"script 1025 12 6\n".as_slice(),
+    )
 }
 
 #[test]
-fn a_link_too_many(rt: HostRuntime) -> Result<(), Fail> {
+fn links_up_to_the_limit(rt: HostRuntime) -> Result<(), Fail> {
     // Ten meters and 26 squares, and links from line 37 on.
     let mut script = Items::new(rt.alloc());
-    append_meters(&mut script, b'm')?;
+    append_ten(&mut script, b"meter ".as_slice(), b'm', b"\n".as_slice())?;
     append_squares(&mut script)?;
-    for letter in ALPHABET.as_slice() {
-        append_links(&mut script, *letter)?;
-    }
+    append_all_links(&mut script, b"\n".as_slice())?;
+    let mut wanted = Items::new(rt.alloc());
+    append_all_links(&mut wanted, b" 48000 1 2\n".as_slice())?;
+    append_ten(&mut wanted, b"peak ".as_slice(), b'm', b" 0\n".as_slice())?;
+    expect_script(&rt, script.as_slice(), Status::Ok, wanted.as_slice())?;
+    script.extend(b"link z.out m9.in\n".as_slice())?;
     let status = Status::Limit {
         place: 293,
         which: Which::Links,
     };
-    expect_script(&rt, script.as_slice(), status, "limit 293 7\n")
+    expect_script(&rt, script.as_slice(), status, b"limit 293 7\n".as_slice())
 }
 
 #[test]
@@ -133,5 +180,5 @@ fn a_byte_of_blocks_too_many(rt: HostRuntime) -> Result<(), Fail> {
         place: 262,
         which: Which::BlockBytes,
     };
-    expect_script(&rt, script.as_slice(), status, "limit 262 10\n")
+    expect_script(&rt, script.as_slice(), status, b"limit 262 10\n".as_slice())
 }

@@ -1,7 +1,8 @@
 //! What links, counts of buffers and drivers say.
 
-use crate::waves::{add_wave, expect_run, expect_wave};
+use crate::waves::{expect_run, expect_wave};
 use pw_base::MemFiles;
+use row_files::add_wave;
 use std::test::Fail;
 
 #[test]

@@ -1,9 +1,9 @@
 //! What offers make of links, and which offers are refused.
 
-use crate::support::text;
-use crate::waves::{add_wave_at, expect_end, expect_run};
+use crate::waves::{expect_end, expect_run};
 use pw_base::{Items, MemFiles, Memory};
 use pw_top::{PodWhy, Status};
+use row_files::{add_wave_at, text};
 use std::alloc::Global;
 use std::test::Fail;
 

@@ -1,8 +1,9 @@
 //! What accepted scripts write and print.
 
-use crate::support::{SCRIPT, SINK, expect, expect_of, expect_sink, files_of};
+use crate::support::{expect, expect_file, expect_of};
 use pw_base::MemSink;
 use pw_top::Status;
+use row_files::{SCRIPT, SINK, SOURCE, files_of};
 use std::test::Fail;
 
 #[test]
@@ -11,7 +12,7 @@ fn one_source_to_one_sink(rt: HostRuntime) -> Result<(), Fail> {
     let mut out = MemSink::new(rt.alloc())?;
     let wanted = "link s.out o.in 48000 1 2\nwrote o 4\n";
     expect(&rt, "run s.graph", &mut files, &mut out, Status::Ok, wanted)?;
-    expect_sink(&rt, &files, Some(SINK.as_slice()))
+    expect_file(&rt, &files, "o.wav", Some(SINK.as_slice()))
 }
 
 #[test]
@@ -32,6 +33,19 @@ fn scripts_that_say_less(rt: HostRuntime) -> Result<(), Fail> {
     ];
     for (script, wanted) in table {
         expect_of(&rt, script, Status::Ok, wanted)?;
+    }
+    Ok(())
+}
+
+#[test]
+fn an_empty_script_leaves_the_files(rt: HostRuntime) -> Result<(), Fail> {
+    for script in ["", "\n# nothing\n", "quantum 4"] {
+        let mut files = files_of(rt.alloc(), script)?;
+        let mut out = MemSink::new(rt.alloc())?;
+        expect(&rt, "run s.graph", &mut files, &mut out, Status::Ok, "")?;
+        expect_file(&rt, &files, "s.graph", Some(script.as_bytes()))?;
+        expect_file(&rt, &files, "s.wav", Some(SOURCE.as_slice()))?;
+        expect_file(&rt, &files, "o.wav", None)?;
     }
     Ok(())
 }

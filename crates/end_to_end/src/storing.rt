@@ -1,9 +1,10 @@
 //! Files that several lines name, and what stands of two files after a fault.
 
-use crate::support::{expect, text};
-use crate::waves::{add_wave, expect_mono, expect_run, expect_wave};
+use crate::support::expect;
+use crate::waves::{expect_mono, expect_run, expect_wave};
 use pw_base::{MemFiles, MemSink, Memory};
 use pw_top::Status;
+use row_files::{add_wave, text};
 use std::alloc::Global;
 use std::test::Fail;
 

@@ -25,6 +25,7 @@ use crate::status::{PodWhy, Status};
 use crate::stock::Stock;
 use crate::wave_file::wave_step;
 use format_filter::Format;
+use graph_lines::kind_made;
 use graph_script::{Command, Line};
 use port_model::Narrowed;
 use pw_base::{
@@ -213,31 +214,10 @@ fn load_offer<F: Files>(
 fn plain_kind(alloc: Global, command: &Command) -> Result<Option<Kind>, Memory>
     ensures { IfOk result (λ kind. kind ≡ plain_kind command.now) }
 {
-    Ok(match command {
-        Command::Square {
-            rate,
-            channels,
-            period,
-            amp,
-            ..
-        } => Some(Kind::Square {
-            rate: *rate,
-            channels: *channels,
-            period: *period,
-            amp: *amp,
-        }),
-        Command::Gain { g, .. } => Some(Kind::Gain { g: *g }),
-        Command::Mix2 { ga, gb, .. } => Some(Kind::Mix2 { ga: *ga, gb: *gb }),
-        Command::Delay { frames, .. } => Some(Kind::Delay { frames: *frames }),
-        Command::Map { channels, list, .. } => Some(Kind::Map {
-            channels: *channels,
-            list: list.copy(alloc)?,
-        }),
-        Command::Split { .. } => Some(Kind::Split),
-        Command::Sink { .. } => Some(Kind::Sink),
-        Command::Meter { .. } => Some(Kind::Meter),
-        _ => None,
-    })
+    match command {
+        Command::Source { .. } => Ok(None),
+        other => kind_made(alloc, other),
+    }
 }
 
 // A node more, if there is a kind.

@@ -1,9 +1,10 @@
 //! What is refused, and by which cause.
 
-use crate::support::{SCRIPT, SOURCE, blanks, expect, expect_of, expect_sink, files_of, text};
+use crate::support::{expect, expect_of, expect_sink};
 use graph_script::ScriptWhy;
 use pw_base::{FileFail, Files, Items, Loaded, MemSink, Memory, Text, Which};
 use pw_top::Status;
+use row_files::{SCRIPT, SOURCE, blanks, files_of, text};
 use std::alloc::Global;
 use std::test::Fail;
 use wav_files::WavFault;
@@ -175,5 +176,88 @@ fn a_wave_above_its_limit(rt: HostRuntime) -> Result<(), Fail> {
         &mut out,
         limit,
         "limit 2 2\n",
+    )
+}
+
+/// Three sources.
+const THREE: &str = "source a a.wav\nsource b b.wav\nsource c c.wav\n";
+
+// The blocks of 1 MiB of a chunk that is skipped.
+fn blocks() -> u32 {
+    129
+}
+
+// A wave of no frame, behind a chunk of 129 MiB.
+fn big_wave(alloc: Global) -> Result<Items<u8>, Memory> {
+    let block = zeros(alloc)?;
+    let mut bytes = Items::from_slice(alloc, b"RIFF\xff\xff\xff\xffWAVEfmt \x10\0\0\0".as_slice())?;
+    bytes.extend(b"\x01\0\x01\0\x80\xbb\0\0\0\x77\x01\0\x02\0\x10\0junk".as_slice())?;
+    bytes.extend(blocks().wrapping_mul(1_048_576).to_le_bytes().as_slice())?;
+    for _block in 0..blocks() {
+        bytes.extend(block.as_slice())?;
+    }
+    bytes.extend(b"data\0\0\0\0".as_slice())?;
+    Ok(bytes)
+}
+
+// A MiB of zeros. Nothing is ensured of them, since a list that long is not to be computed in a proof.
+fn zeros(alloc: Global) -> Result<Items<u8>, Memory> {
+    Items::filled(alloc, 1_048_576, 0)
+}
+
+// Files that hold a script of three sources, and of every other name the long wave.
+#[derive(Drop)]
+struct BigWaves;
+
+impl Files for BigWaves {
+    ghost use Rattle.std.specs.Prelude.{None};
+
+    ghost held = { λ _. None };
+
+    ghost load_faults = { λ _. 0 };
+
+    ghost store_faults = { λ _. 0 };
+
+    fn load(&mut self, alloc: Global, name: &Text, limit: u64) -> Result<Loaded, FileFail> {
+        if limit < 268_435_456 && name.as_slice() != b"s.graph".as_slice() {
+            return Ok(Loaded::TooLong);
+        }
+        let held = if name.as_slice() == b"s.graph".as_slice() {
+            text(alloc, THREE)
+        } else {
+            big_wave(alloc)
+        };
+        match held {
+            Err(_memory) => Err(FileFail::Memory),
+            Ok(bytes) => {
+                if limit < bytes.len() as u64 {
+                    Ok(Loaded::TooLong)
+                } else {
+                    Ok(Loaded::Whole(bytes))
+                }
+            }
+        }
+    }
+
+    fn store(&mut self, _alloc: Global, _name: &Text, _bytes: &[u8]) -> Result<(), FileFail> {
+        Ok(())
+    }
+}
+
+// Two of the waves leave less of 512 MiB than a file may have.
+#[test]
+fn all_waves_above_their_limit(rt: HostRuntime) -> Result<(), Fail> {
+    let mut out = MemSink::new(rt.alloc())?;
+    let limit = Status::Limit {
+        place: 3,
+        which: Which::AllWavBytes,
+    };
+    expect(
+        &rt,
+        "run s.graph",
+        &mut BigWaves,
+        &mut out,
+        limit,
+        "limit 3 3\n",
     )
 }

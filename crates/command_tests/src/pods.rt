@@ -1,8 +1,9 @@
 //! PODs in files: what `dump` prints, and why a file is refused.
 
-use crate::support::{expect, text};
+use crate::support::expect;
 use pw_base::{Items, MemFiles, MemSink, Memory, Which};
 use pw_top::{PodWhy, Status};
+use row_files::{blanks, text};
 use std::alloc::Global;
 use std::process::Abort;
 use std::sync::Wait;
@@ -118,7 +119,7 @@ fn a_file_to_dump_is_absent_or_long(rt: HostRuntime) -> Result<(), Fail> {
         absent,
         "absent 1\n",
     )?;
-    let bytes = crate::support::blanks(rt.alloc(), 1_048_585)?;
+    let bytes = blanks(rt.alloc(), 1_048_585)?;
     let limit = Status::Limit {
         place: 1,
         which: Which::PodBytes,

@@ -1,8 +1,9 @@
 //! Each call of the outside that fails, in its turn, and what stands then.
 
-use crate::support::{SCRIPT, SINK, expect, expect_sink, files_of};
+use crate::support::{expect, expect_sink};
 use pw_base::MemSink;
 use pw_top::Status;
+use row_files::{SCRIPT, SINK, files_of};
 use std::test::Fail;
 
 #[test]

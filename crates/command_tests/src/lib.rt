@@ -1,0 +1,18 @@
+//! Tests of whole command lines that are refused or fail, and of `dump`, `filter` and `automate`, over files and
+//! an output in memory. There is nothing else here.
+#![tactic(auto)]
+
+#[cfg(test)]
+mod automation;
+#[cfg(test)]
+mod faults;
+#[cfg(test)]
+mod filters;
+#[cfg(test)]
+mod pods;
+#[cfg(test)]
+mod refusals;
+#[cfg(test)]
+mod scripts;
+#[cfg(test)]
+mod support;
