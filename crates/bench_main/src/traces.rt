@@ -185,7 +185,7 @@ fn number_of(event: &Event) -> u32 {
         Event::Begin { cycle } => *cycle,
         Event::Start { cycle, node } => cycle.wrapping_add(*node),
         Event::Finish { cycle, node } => cycle.wrapping_sub(*node),
-        Event::Tick { cycle, late } => cycle.wrapping_add(*late as u32),
+        Event::Tick { cycle, late } => cycle.wrapping_add((*late % 65_536) as u32),
         Event::End { cycle } => !*cycle,
     }
 }

@@ -1,5 +1,5 @@
-//! Tests of whole command lines that are refused or fail, and of `dump`, `filter` and `automate`, over files and
-//! an output in memory. There is nothing else here.
+//! Tests of whole command lines that are refused or fail, and of `dump`, `filter`, `automate` and
+//! `check`, over files and an output in memory. There is nothing else here.
 #![tactic(auto)]
 
 #[cfg(test)]
@@ -16,3 +16,5 @@ mod refusals;
 mod scripts;
 #[cfg(test)]
 mod support;
+#[cfg(test)]
+mod traces;
