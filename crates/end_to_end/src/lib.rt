@@ -8,6 +8,8 @@ mod limits;
 #[cfg(test)]
 mod linking;
 #[cfg(test)]
+mod long_runs;
+#[cfg(test)]
 mod offers;
 #[cfg(test)]
 mod rendering;
