@@ -32,8 +32,8 @@ use Rattle.io_areas.specs.PooledBoard.{IsPooledBoard}
 use Rattle.io_areas.specs.Quanta.{quantum_of}
 use Rattle.io_areas.specs.Reading.{stamp_brought, brought_in}
 use Rattle.data_loop.specs.declared.inputs.Input.{Input}
-use Rattle.data_loop.specs.declared.score.Score.{Score}
-use Rattle.data_loop.specs.Standing.{port_at, comes_in, wide_at}
+use Rattle.node_progress.specs.declared.score.Score.{Score}
+use Rattle.node_progress.specs.Standing.{port_at, comes_in, wide_at}
 use Rattle.data_loop.specs.Inputs.{IsZero, row_of, first_rows, second_rows}
 use Rattle.data_loop.specs.Gathering.{input_from, IsHearing}
 use Rattle.data_loop.proofs.turns.EndsLemmas.{of_pool}

@@ -1,9 +1,4 @@
 pub mod turns
-pub mod NodeLemmas
-pub mod StateLemmas
-pub mod FitLemmas
-pub mod RestLemmas
-pub mod FrameLemmas
 pub mod SumLemmas
 pub mod InputLemmas
 pub mod TurnLemmas

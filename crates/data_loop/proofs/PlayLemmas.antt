@@ -34,19 +34,19 @@ use Rattle.board_rule.proofs.WiringLemmas.{wired}
 use Rattle.board_rule.proofs.HolderLemmas.{link_is, pool_there}
 use Rattle.io_areas.specs.PooledBoard.{IsPooledBoard}
 use Rattle.io_areas.specs.Quanta.{quantum_of}
-use Rattle.data_loop.specs.declared.score.Score.{Score}
+use Rattle.node_progress.specs.declared.score.Score.{Score}
 use Rattle.data_loop.specs.declared.inputs.Input.{Input}
 use Rattle.data_loop.specs.turns.Ends.{fills_of}
-use Rattle.data_loop.specs.Standing.{port_at, wide_at}
-use Rattle.data_loop.specs.Working.{output_channels}
-use Rattle.data_loop.specs.NodeStates.{IsNodeState, IsWorkedIn, IsOutputRow}
+use Rattle.node_progress.specs.Standing.{port_at, wide_at}
+use Rattle.node_progress.specs.Working.{output_channels}
+use Rattle.node_progress.specs.NodeStates.{IsNodeState, IsWorkedIn, IsOutputRow}
 use Rattle.data_loop.specs.Inputs.{AreLong, IsWide}
 use Rattle.data_loop.specs.Gathering.{input_from, inputs_of, IsBoardOf}
 use Rattle.data_loop.specs.Members.{input_width, is_read, output_width}
 use Rattle.data_loop.specs.Playing.{IsPoolFor, MayPlay}
 use Rattle.data_loop.proofs.turns.EndsLemmas.{of_pool, is_of}
-use Rattle.data_loop.proofs.StateLemmas.{epoch_sound}
-use Rattle.data_loop.proofs.FitLemmas.{inputs_alike, now_is}
+use Rattle.node_progress.proofs.StateLemmas.{epoch_sound}
+use Rattle.node_progress.proofs.FitLemmas.{inputs_alike, now_is}
 
 few_ports : (kd : Kind) → (input_count kd ≤ 2) × (output_count kd ≤ 2)
 few_ports Source = (omega arith, omega arith)

@@ -18,10 +18,10 @@ use Rattle.activation_words.proofs.MemberLemmas.{may_claim, woken_has, woken_awa
 use Rattle.node_state.specs.declared.node_state.NodeState.{NodeState}
 use Rattle.data_loop.specs.declared.member.Member.{Member}
 use Rattle.data_loop.specs.declared.rows.Rows.{Rows}
-use Rattle.data_loop.specs.declared.score.Score.{Score}
+use Rattle.node_progress.specs.declared.score.Score.{Score}
 use Rattle.data_loop.specs.declared.stage.Stage.{Stage}
 use Rattle.data_loop.specs.turns.Turning.{IsEquipped, IsAtRest, MayTurn, HasTurned}
-use Rattle.data_loop.specs.NodeStates.{IsNodeState}
+use Rattle.node_progress.specs.NodeStates.{IsNodeState}
 use Rattle.data_loop.specs.Rooms.{HasRowsFor, IsSameRoom}
 use Rattle.data_loop.specs.Standings.{IsPlayer}
 use Rattle.data_loop.specs.Stages.{IsMemberIn, StandsAt, AreApart, IsStanding}

@@ -19,9 +19,9 @@ use Rattle.board_rule.specs.Layout.{BoardLayout, first, last}
 use Rattle.board_rule.specs.SampleWords.{samples_in}
 use Rattle.board_rule.specs.EndViews.{pool_at}
 use Rattle.board_rule.specs.BlockSteps.{fill_cycle}
-use Rattle.data_loop.specs.declared.score.Score.{Score}
+use Rattle.node_progress.specs.declared.score.Score.{Score}
 use Rattle.data_loop.specs.turns.Ends.{reads_of}
-use Rattle.data_loop.specs.Standing.{Gives}
+use Rattle.node_progress.specs.Standing.{Gives}
 use Rattle.data_loop.specs.Inputs.{links_of}
 use Rattle.data_loop.specs.Gathering.{input_from, inputs_of}
 use Rattle.data_loop.specs.Giving.{AllPut}

@@ -12,8 +12,8 @@ use Rattle.board_rule.specs.Layout.{BoardLayout, first, last}
 use Rattle.board_rule.specs.EndViews.{link_at, pool_at, pool_of}
 use Rattle.board_rule.specs.ReaderSteps.{read_cycle}
 use Rattle.data_loop.specs.declared.inputs.Input.{Input}
-use Rattle.data_loop.specs.declared.score.Score.{Score}
-use Rattle.data_loop.specs.Standing.{wide_at}
+use Rattle.node_progress.specs.declared.score.Score.{Score}
+use Rattle.node_progress.specs.Standing.{wide_at}
 
 abbrev pub input_from : ℕ × ShapeLink → Input
 input_from e = record { link = e.0; second = e.1.to.port == 1 }

@@ -1,8 +1,4 @@
 pub mod turns
-pub mod Standing
-pub mod Working
-pub mod NodeStates
-pub mod Restarts
 pub mod Inputs
 pub mod Gathering
 pub mod Giving

@@ -13,8 +13,8 @@ use Rattle.cycle_model.specs.Epochs.{channels_of}
 use Rattle.cycle_model.specs.Mixing.{takes_part}
 use Rattle.data_loop.specs.declared.member.Member.{Member}
 use Rattle.data_loop.specs.turns.Ends.{fills_of}
-use Rattle.data_loop.specs.Standing.{port_at}
-use Rattle.data_loop.specs.Working.{output_channels}
+use Rattle.node_progress.specs.Standing.{port_at}
+use Rattle.node_progress.specs.Working.{output_channels}
 use Rattle.data_loop.specs.Gathering.{inputs_of}
 
 -- the samples of a quantum at an input, 0 where the kind has no such input

@@ -10,9 +10,9 @@ use Rattle.board_rule.specs.View.{node_of}
 use Rattle.board_rule.specs.EndViews.{pool_at}
 use Rattle.data_loop.specs.turns.Ends.{fills_of}
 use Rattle.data_loop.specs.declared.member.Member.{Member}
-use Rattle.data_loop.specs.declared.score.Score.{Score}
-use Rattle.data_loop.specs.Standing.{port_at, wide_at}
-use Rattle.data_loop.specs.NodeStates.{IsNodeState, IsWorkedIn, IsOutputRow}
+use Rattle.node_progress.specs.declared.score.Score.{Score}
+use Rattle.node_progress.specs.Standing.{port_at, wide_at}
+use Rattle.node_progress.specs.NodeStates.{IsNodeState, IsWorkedIn, IsOutputRow}
 use Rattle.data_loop.specs.Inputs.{AreLong, IsWide}
 use Rattle.data_loop.specs.Gathering.{inputs_of, IsBoardOf}
 

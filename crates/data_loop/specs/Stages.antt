@@ -15,11 +15,11 @@ use Rattle.board_rule.specs.Layout.{BoardLayout}
 use Rattle.board_rule.specs.View.{node_of}
 use Rattle.data_loop.specs.declared.member.Member.{Member}
 use Rattle.data_loop.specs.declared.rows.Rows.{Rows}
-use Rattle.data_loop.specs.declared.score.Score.{Score}
+use Rattle.node_progress.specs.declared.score.Score.{Score}
 use Rattle.data_loop.specs.declared.stage.Stage.{Stage}
 use Rattle.data_loop.specs.turns.Turning.{IsEquipped, IsAtRest}
-use Rattle.data_loop.specs.Standing.{works_in}
-use Rattle.data_loop.specs.NodeStates.{IsNodeState}
+use Rattle.node_progress.specs.Standing.{works_in}
+use Rattle.node_progress.specs.NodeStates.{IsNodeState}
 use Rattle.data_loop.specs.Members.{member_of}
 use Rattle.data_loop.specs.Rooms.{HasRowsFor}
 

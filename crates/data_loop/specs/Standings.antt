@@ -7,8 +7,8 @@ use Rattle.board_rule.specs.declared.view.View.{View}
 use Rattle.board_rule.specs.Layout.{BoardLayout}
 use Rattle.board_rule.specs.View.{node_of}
 use Rattle.data_loop.specs.declared.member.Member.{Member}
-use Rattle.data_loop.specs.declared.score.Score.{Score}
-use Rattle.data_loop.specs.NodeStates.{IsWorkedIn}
+use Rattle.node_progress.specs.declared.score.Score.{Score}
+use Rattle.node_progress.specs.NodeStates.{IsWorkedIn}
 use Rattle.data_loop.specs.Members.{member_of}
 
 -- the member is that of a node that works in the cycle c of epoch k, in which it is, on the epoch's

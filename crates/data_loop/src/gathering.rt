@@ -4,11 +4,11 @@ ghost use Rattle.board_rule.specs.OnBoard.{IsOn, layout};
 ghost use Rattle.io_areas.specs.PooledBoard.{IsPooledBoard};
 ghost use Rattle.data_loop.specs.turns.Hearing.{MayHearAll, AreHeard};
 ghost use Rattle.data_loop.specs.Inputs.{IsWide, links_of, AreLong};
-ghost use Rattle.data_loop.specs.Standing.{comes_in};
+ghost use Rattle.node_progress.specs.Standing.{comes_in};
 ghost use Rattle.data_loop.specs.Gathering.{IsHearing};
 
 use crate::inputs::{Input, hear_all};
-use crate::score::Score;
+use node_progress::Score;
 use board_rule::{Board, BoardSeat};
 use s16_mixer::clamp_out;
 

@@ -5,30 +5,22 @@
 #![tactic(auto)]
 
 mod did;
-mod frames;
 mod gathering;
 mod giving;
 mod inputs;
 mod member;
 mod playing;
-mod restarting;
 mod rows;
-mod score;
 mod stage;
 mod tried;
 mod turning;
-mod working;
 
 pub use did::Did;
-pub use frames::worked_cycles;
 pub use gathering::gather;
 pub use inputs::{Input, hear_all};
 pub use member::Member;
 pub use playing::play;
-pub use restarting::enter_next;
 pub use rows::Rows;
-pub use score::Score;
 pub use stage::Stage;
 pub use tried::Tried;
 pub use turning::take_turn;
-pub use working::work;

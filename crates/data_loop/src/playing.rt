@@ -2,13 +2,13 @@
 ghost use Rattle.std.specs.Prelude.{◌≡◌, ◌≤◌, suc, length};
 ghost use Rattle.board_rule.specs.OnBoard.{IsOn, layout};
 ghost use Rattle.data_loop.specs.turns.Turning.{IsEquipped, MayTurn, HasTurned};
-ghost use Rattle.data_loop.specs.NodeStates.{IsNodeState};
+ghost use Rattle.node_progress.specs.NodeStates.{IsNodeState};
 ghost use Rattle.data_loop.specs.Rooms.{HasRowsFor, IsSameRoom};
 ghost use Rattle.data_loop.specs.Standings.{IsPlayer};
 
 use crate::member::Member;
 use crate::rows::Rows;
-use crate::score::Score;
+use node_progress::Score;
 use crate::turning::take_turn;
 use board_rule::{Board, LoopSeat};
 use buffer_pool::Pool;

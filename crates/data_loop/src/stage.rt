@@ -10,7 +10,7 @@ use crate::did::Did;
 use crate::member::Member;
 use crate::playing::play;
 use crate::rows::Rows;
-use crate::score::Score;
+use node_progress::Score;
 use crate::tried::Tried;
 use activation_words::{Claim, claim};
 use board_rule::{Board, BoardSeat, LoopSeat};

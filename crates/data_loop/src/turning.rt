@@ -2,14 +2,14 @@
 ghost use Rattle.std.specs.Prelude.{◌≡◌, suc, length};
 ghost use Rattle.board_rule.specs.OnBoard.{IsOn, layout};
 ghost use Rattle.data_loop.specs.turns.Turning.{IsEquipped, MayTurn, HasTurned};
-ghost use Rattle.data_loop.specs.NodeStates.{IsNodeState};
+ghost use Rattle.node_progress.specs.NodeStates.{IsNodeState};
 ghost use Rattle.data_loop.specs.Playing.{IsMemberOf, MayPlay};
 
 use crate::gathering::gather;
 use crate::giving::give_all;
 use crate::member::Member;
-use crate::score::Score;
-use crate::working::work;
+use node_progress::Score;
+use node_progress::work;
 use activation_words::{finish, start};
 use board_rule::{Board, LoopSeat};
 use buffer_pool::Pool;

@@ -14,7 +14,7 @@ use Rattle.data_loop.specs.Inputs.{links_of}
 use Rattle.data_loop.specs.Giving.{AllPut}
 use Rattle.data_loop.proofs.turns.EndsLemmas.{filled_by}
 use Rattle.data_loop.proofs.turns.TurningLemmas.{may_hear_all, may_fill_all, ready, turned, begun_has, begun_runs, begun_even, turned_whole}
-use Rattle.data_loop.proofs.StateLemmas.{here}
+use Rattle.node_progress.proofs.StateLemmas.{here}
 use Rattle.data_loop.proofs.TurnLemmas.{links_are, all_put}
 use Rattle.data_loop.proofs.turning.take_turn.Goals as goal
 

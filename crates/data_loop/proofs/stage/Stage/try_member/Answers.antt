@@ -10,7 +10,7 @@ use Rattle.board_rule.specs.Steps.{woken, tried}
 use Rattle.data_loop.specs.declared.member.Member.{Member}
 use Rattle.data_loop.specs.declared.stage.Stage.{Stage}
 use Rattle.data_loop.specs.turns.Turning.{MayTurn, HasTurned}
-use Rattle.data_loop.specs.NodeStates.{IsNodeState}
+use Rattle.node_progress.specs.NodeStates.{IsNodeState}
 use Rattle.data_loop.specs.Standings.{IsPlayer}
 use Rattle.data_loop.specs.Tries.{no_member, member_at, HasTried}
 use Rattle.data_loop.specs.declared.tried.Tried.TheVariants.{NotYet}

@@ -27,11 +27,11 @@ use Rattle.cycle_model.proofs.ExpectedLemmas.{cycle_in}
 use Rattle.cycle_model.proofs.ProgressLemmas.{filter_more, released_is}
 use Rattle.node_state.specs.declared.node_state.NodeState.{NodeState}
 use Rattle.node_state.specs.StandsFor.{StandsFor, HasFramesLeft, IsSameNode, frames_so_far, node_quantum}
-use Rattle.data_loop.specs.declared.score.Score.{Score}
-use Rattle.data_loop.specs.Standing.{heard_by, HasReceivedBefore, HasReceivedUntil, works_in, works, worked}
-use Rattle.data_loop.specs.Working.{HasItsFrames}
-use Rattle.data_loop.specs.NodeStates.{first_of, IsNodeState, IsWorkedIn}
-use Rattle.data_loop.proofs.NodeLemmas.{one_more}
+use Rattle.node_progress.specs.declared.score.Score.{Score}
+use Rattle.node_progress.specs.Standing.{heard_by, HasReceivedBefore, HasReceivedUntil, works_in, works, worked}
+use Rattle.node_progress.specs.Working.{HasItsFrames}
+use Rattle.node_progress.specs.NodeStates.{first_of, IsNodeState, IsWorkedIn}
+use Rattle.node_progress.proofs.NodeLemmas.{one_more}
 
 -- RELEASES come with the first cycle of an epoch alone
 

@@ -29,11 +29,11 @@ use Rattle.cycle_model.proofs.SoundPlanLemmas.{channels_are}
 use Rattle.node_state.specs.declared.node_state.NodeState.{NodeState}
 use Rattle.node_state.specs.Slices.{first_channels, second_channels, left_channels, right_channels, HaveFrames}
 use Rattle.node_state.specs.StandsFor.{IsQuantum, node_channels}
-use Rattle.data_loop.specs.declared.score.Score.{Score}
-use Rattle.data_loop.specs.Standing.{port_at, out_channels, comes_in, wide_at}
-use Rattle.data_loop.specs.Working.{FitsOutput}
-use Rattle.data_loop.specs.NodeStates.{wave_channels_of, IsNodeState, IsWorkedIn, IsOutputRow}
-use Rattle.data_loop.proofs.StateLemmas.{here, epoch_sound, renderable, part}
+use Rattle.node_progress.specs.declared.score.Score.{Score}
+use Rattle.node_progress.specs.Standing.{port_at, out_channels, comes_in, wide_at}
+use Rattle.node_progress.specs.Working.{FitsOutput}
+use Rattle.node_progress.specs.NodeStates.{wave_channels_of, IsNodeState, IsWorkedIn, IsOutputRow}
+use Rattle.node_progress.proofs.StateLemmas.{here, epoch_sound, renderable, part}
 
 -- an element with a property, as a test of all found it
 any_is : (forms : List PortForm) (port : PortId) → list_any (λ f. is_same_port f.port port) forms ≡ true

@@ -1,9 +1,9 @@
 //! One cycle of a node's state.
 ghost use Rattle.std.specs.Prelude.{◌≡◌, suc, ◌+◌};
 ghost use Rattle.node_state.specs.StandsFor.{IsSameNode, frames_so_far, node_quantum};
-ghost use Rattle.data_loop.specs.Standing.{HasReceivedUntil, Gives};
-ghost use Rattle.data_loop.specs.Working.{MayProcess};
-ghost use Rattle.data_loop.specs.NodeStates.{IsNodeState, MayWork};
+ghost use Rattle.node_progress.specs.Standing.{HasReceivedUntil, Gives};
+ghost use Rattle.node_progress.specs.Working.{MayProcess};
+ghost use Rattle.node_progress.specs.NodeStates.{IsNodeState, MayWork};
 
 use crate::score::Score;
 use node_state::NodeState;

@@ -11,8 +11,8 @@ use Rattle.cycle_model.specs.Mixing.{takes_part}
 use Rattle.cycle_model.specs.Renderable.{IsRenderable}
 use Rattle.node_state.specs.declared.node_state.NodeState.{NodeState}
 use Rattle.node_state.specs.StandsFor.{IsQuantum, HasFramesLeft, node_kind, node_quantum, frames_so_far}
-use Rattle.data_loop.specs.declared.score.Score.{Score}
-use Rattle.data_loop.specs.Standing.{port_at, out_channels, HasReceivedBefore, comes_in}
+use Rattle.node_progress.specs.declared.score.Score.{Score}
+use Rattle.node_progress.specs.Standing.{port_at, out_channels, HasReceivedBefore, comes_in}
 
 -- the channels of an output of the node
 abbrev pub output_channels : Plan → Epoch → ℕ → ℕ → ℕ

@@ -5,9 +5,9 @@ use Rattle.cycle_model.specs.KindSamples.{heard_of}
 use Rattle.cycle_model.specs.Progress.{received_until}
 use Rattle.node_state.specs.Slices.{left_channels}
 use Rattle.node_state.specs.StandsFor.{StandsFor, frames_so_far, node_quantum}
-use Rattle.data_loop.specs.Standing.{out_channels}
-use Rattle.data_loop.proofs.NodeLemmas.{joined, output_is}
-use Rattle.data_loop.proofs.working.process.Goals as goal
+use Rattle.node_progress.specs.Standing.{out_channels}
+use Rattle.node_progress.proofs.NodeLemmas.{joined, output_is}
+use Rattle.node_progress.proofs.working.process.Goals as goal
 
 pub returns-clause-left : goal.returns-clause-left
 returns-clause-left c = let may = c.requires.may in let r = may.ready in ⊎_elim (λ none. inl none)

@@ -5,7 +5,7 @@ ghost use Rattle.pw_base.specs.Pools.{is_same_port};
 ghost use Rattle.pw_base.specs.SoundPlan.{IsSoundPlan};
 ghost use Rattle.cycle_model.specs.Epochs.{all_cycles};
 ghost use Rattle.cycle_model.specs.Mixing.{takes_part};
-ghost use Rattle.data_loop.specs.Standing.{port_at, works_in, worked};
+ghost use Rattle.node_progress.specs.Standing.{port_at, works_in, worked};
 
 use pw_base::{Epoch, Plan, PortId, is_same_port};
 

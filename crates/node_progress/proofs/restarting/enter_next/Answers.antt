@@ -1,6 +1,6 @@
 use Rattle.std.proofs.Common.{◌∙◌, sym}
-use Rattle.data_loop.proofs.RestLemmas.{stays_state, may_restart, stood, anew}
-use Rattle.data_loop.proofs.restarting.enter_next.Goals as goal
+use Rattle.node_progress.proofs.RestLemmas.{stays_state, may_restart, stood, anew}
+use Rattle.node_progress.proofs.restarting.enter_next.Goals as goal
 
 pub restart-requires-clause-allowed : goal.restart-requires-clause-allowed
 restart-requires-clause-allowed c = let r = c.requires in

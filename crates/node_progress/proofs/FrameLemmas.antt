@@ -11,7 +11,7 @@ use Rattle.pw_base.specs.declared.plan.Plan.{Plan}
 use Rattle.pw_base.specs.PlanSums.{epoch_events}
 use Rattle.pw_base.specs.SoundPlan.{FollowFrom, IsSoundPlan}
 use Rattle.cycle_model.specs.Epochs.{is_within, all_cycles}
-use Rattle.data_loop.specs.Standing.{works_in, worked}
+use Rattle.node_progress.specs.Standing.{works_in, worked}
 
 -- the cycles of an epoch, where the node works in it
 abbrev pub own_cycles : ℕ → Epoch → ℕ

@@ -2,9 +2,9 @@ use Rattle.std.proofs.Common.{◌≡◌, ◌∙◌, ◌≤◌, ◌<◌, List, le
 use Rattle.std.proofs.lemmas.Bool.{cond-true}
 use Rattle.std.proofs.lemmas.List.{take_all}
 use Rattle.pw_base.specs.declared.plan.Epoch.{Epoch}
-use Rattle.data_loop.specs.Standing.{works_in}
-use Rattle.data_loop.proofs.FrameLemmas.{own_cycles, worked_is, sum_within}
-use Rattle.data_loop.proofs.frames.worked_cycles.Goals as goal
+use Rattle.node_progress.specs.Standing.{works_in}
+use Rattle.node_progress.proofs.FrameLemmas.{own_cycles, worked_is, sum_within}
+use Rattle.node_progress.proofs.frames.worked_cycles.Goals as goal
 
 pub overflow_add-cycles : goal.overflow_add-cycles
 overflow_add-cycles c = let es = c.args.plan.now.epochs in let i = c.loop-epoch.epoch-index in let n = c.args.node in

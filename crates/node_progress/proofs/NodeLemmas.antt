@@ -25,8 +25,8 @@ use Rattle.cycle_model.proofs.CycleLemmas.{active_in, heard_same}
 use Rattle.cycle_model.proofs.ProgressLemmas.{stream_parts}
 use Rattle.cycle_model.proofs.SettledLemmas.{outputs_solve}
 use Rattle.node_state.specs.Streams.{followed, output_now}
-use Rattle.data_loop.specs.declared.score.Score.{Score}
-use Rattle.data_loop.specs.Standing.{port_at, comes_in, goes_out}
+use Rattle.node_progress.specs.declared.score.Score.{Score}
+use Rattle.node_progress.specs.Standing.{port_at, comes_in, goes_out}
 
 -- one number more of a range, filtered
 pub one_more : (p : ℕ → Bool) (c : ℕ) → p c ≡ true

@@ -1,6 +1,6 @@
-use Rattle.data_loop.proofs.StateLemmas.{here, part, renderable, before, has_frames, some_left, state_on}
-use Rattle.data_loop.proofs.FitLemmas.{came_long, slices, left_fits, right_fits}
-use Rattle.data_loop.proofs.working.work.Goals as goal
+use Rattle.node_progress.proofs.StateLemmas.{here, part, renderable, before, has_frames, some_left, state_on}
+use Rattle.node_progress.proofs.FitLemmas.{came_long, slices, left_fits, right_fits}
+use Rattle.node_progress.proofs.working.work.Goals as goal
 
 pub process-requires : goal.process-requires
 process-requires c = let may = c.requires.may in let score = c.args.score.now in let k = c.args.epoch in let t = c.args.cycle in

@@ -1,7 +1,7 @@
 //! A node's state from one epoch to the next.
 ghost use Rattle.std.specs.Prelude.{◌≡◌, suc};
-ghost use Rattle.data_loop.specs.NodeStates.{IsNodeState};
-ghost use Rattle.data_loop.specs.Restarts.{restart_of, IsEndOf};
+ghost use Rattle.node_progress.specs.NodeStates.{IsNodeState};
+ghost use Rattle.node_progress.specs.Restarts.{restart_of, IsEndOf};
 
 use crate::score::Score;
 use node_state::NodeState;

@@ -20,7 +20,7 @@ use Rattle.cycle_model.specs.Progress.{received_until, received_before}
 use Rattle.node_state.specs.declared.node_state.NodeState.{NodeState}
 use Rattle.node_state.specs.Slices.{left_channels}
 use Rattle.node_state.specs.StandsFor.{StandsFor, node_kind, node_wave_channels, node_channels, frames_so_far}
-use Rattle.data_loop.specs.declared.score.Score.{Score}
+use Rattle.node_progress.specs.declared.score.Score.{Score}
 
 -- a port of a node
 abbrev pub port_at : ℕ → ℕ → PortId

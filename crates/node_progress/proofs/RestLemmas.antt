@@ -38,12 +38,12 @@ use Rattle.node_state.specs.StandsFor.{StandsFor, IsRestarted, node_kind, node_w
 use Rattle.node_state.specs.Streams.{restarted, stream_heard}
 use Rattle.node_state.proofs.KeptLemmas.{kept_is_heard}
 use Rattle.pw_base.specs.KindFunction.{Heard}
-use Rattle.data_loop.specs.declared.score.Score.{Score}
-use Rattle.data_loop.specs.Standing.{port_at, out_channels, heard_by}
-use Rattle.data_loop.specs.NodeStates.{IsNodeState}
-use Rattle.data_loop.specs.NodeStates.{first_of}
-use Rattle.data_loop.specs.Restarts.{restart_of, IsEndOf}
-use Rattle.data_loop.proofs.StateLemmas.{none_later, begins_after}
+use Rattle.node_progress.specs.declared.score.Score.{Score}
+use Rattle.node_progress.specs.Standing.{port_at, out_channels, heard_by}
+use Rattle.node_progress.specs.NodeStates.{IsNodeState}
+use Rattle.node_progress.specs.NodeStates.{first_of}
+use Rattle.node_progress.specs.Restarts.{restart_of, IsEndOf}
+use Rattle.node_progress.proofs.StateLemmas.{none_later, begins_after}
 
 -- each epoch has a cycle
 abbrev HaveCycles : List Epoch → Type 0

@@ -8,7 +8,7 @@ use Rattle.pw_base.specs.PlanFresh.{IsEpoch}
 use Rattle.pw_base.specs.SoundPlan.{IsSoundPlan}
 use Rattle.cycle_model.specs.Epochs.{listed}
 use Rattle.cycle_model.specs.WavesFit.{WavesFit}
-use Rattle.data_loop.specs.declared.score.Score.{Score}
+use Rattle.node_progress.specs.declared.score.Score.{Score}
 
 -- the channels with which epoch k names the node as fresh; none where it does not
 abbrev pub restart_of : Plan → ℕ → ℕ → Option ℕ

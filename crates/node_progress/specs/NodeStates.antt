@@ -13,9 +13,9 @@ use Rattle.cycle_model.specs.Epochs.{all_cycles}
 use Rattle.cycle_model.specs.WavesFit.{WavesFit}
 use Rattle.node_state.specs.declared.node_state.NodeState.{NodeState}
 use Rattle.node_state.specs.StandsFor.{node_kind, node_wave_channels, node_quantum, frames_so_far, prepared_frames, node_channels, most_channels}
-use Rattle.data_loop.specs.declared.score.Score.{Score}
-use Rattle.data_loop.specs.Standing.{HasReceivedBefore, HasReceivedUntil, comes_in, works_in, worked}
-use Rattle.data_loop.specs.Working.{output_channels}
+use Rattle.node_progress.specs.declared.score.Score.{Score}
+use Rattle.node_progress.specs.Standing.{HasReceivedBefore, HasReceivedUntil, comes_in, works_in, worked}
+use Rattle.node_progress.specs.Working.{output_channels}
 
 -- the first cycle of epoch k; past the last one all cycles
 abbrev pub first_of : Plan → ℕ → ℕ

@@ -1,0 +1,5 @@
+pub mod NodeLemmas
+pub mod StateLemmas
+pub mod FitLemmas
+pub mod RestLemmas
+pub mod FrameLemmas

@@ -1,0 +1,16 @@
+//! The state of a node through a run: what it stands for from cycle to cycle and from epoch to
+//! epoch, by the cycle function, and what one cycle more asks for.
+//!
+//! Nothing here knows of boards or of threads: a loop that brings a node what its inputs get may
+//! rest on these contracts, whatever brings it.
+#![tactic(auto)]
+
+mod frames;
+mod restarting;
+mod score;
+mod working;
+
+pub use frames::worked_cycles;
+pub use restarting::enter_next;
+pub use score::Score;
+pub use working::work;
