@@ -5,3 +5,8 @@ pub mod TurnLemmas
 pub mod PlayLemmas
 pub mod StageLemmas
 pub mod TryLemmas
+pub mod PairLemmas
+pub mod SameLemmas
+pub mod MemberLemmas
+pub mod RoomLemmas
+pub mod LoopLemmas

@@ -30,7 +30,7 @@ use Rattle.data_loop.proofs.turns.EndsLemmas.{same_node}
 use Rattle.data_loop.proofs.turns.TurningLemmas.{even_moves, turned_whole, equipped_moves}
 
 -- rows as long as before have room for the same
-rows_stay : (old new : Rows) (m : Member) → IsSameRoom old new → HasRowsFor old m → HasRowsFor new m
+pub rows_stay : (old new : Rows) (m : Member) → IsSameRoom old new → HasRowsFor old m → HasRowsFor new m
 rows_stay old new m same h = record {
   row = subst (λ n. m.first_width ≤ n) (sym same.row) h.row;
   sum_a = subst (λ n. m.first_width ≤ n) (sym same.sum_a) h.sum_a;

@@ -80,11 +80,13 @@ module _ (p : BoardLayout) (v : View) (members : List Member) (i : ℕ) (low : i
   -- one that ran
   pub one_ran : (plain : IsPooledBoard p) → p.index m.node < nodes p → (g h : Stage) → g.members ≡ members → g.seat.knows ≡ v
       → (free new : List Queue) → All (λ x. IsAtRest p w free (p.index x.node)) members
-      → HasTurned p w free (p.index m.node) h.seat.knows new → HasRun p g m.node h
+      → HasTurned p w free (p.index m.node) h.seat.knows new → HasRun p g m.node found h
   one_ran plain inside g h same knows free new rests turned = record {
-    member = m;
-    own = (i, subst (λ l. i < length l) (sym same) low, ap (λ l. get_or l i m) same ∙ get_or_default members i m no_member low);
-    node = refl;
+    index = i;
+    inside = subst (λ l. i < length l) (sym same) low;
+    node = ap (λ l. (get_or l i no_member).node) same;
+    before = w;
+    tried = subst (λ (x : View × List Member). HaveTried p x.0 (take i x.1) found w) (λ j. (sym knows j, sym same j)) so_far;
     later = turned.later ∙ ap (λ n. n + 1) (still_next m.node) ∙ ap (λ (x : View). next_in p x m.node + 1) (sym knows);
     others = λ x own other.
         let c = subst (λ l. Contains l x) same own in

@@ -1,6 +1,6 @@
 -- A turn of a loop: its followers are tried in order, until one has run.
 -- Source: PipeWire's documentation, "Graph Scheduling"; the order is this project's own.
-use Rattle.std.specs.Prelude.{◌≡◌, ◌≢◌, ℕ, ◌+◌, Bool, not, eqb, List, ◌∷◌, All, Contains, fold, map, filter}
+use Rattle.std.specs.Prelude.{◌≡◌, ◌≢◌, ℕ, ◌+◌, Bool, not, eqb, List, ◌∷◌, All, Contains, ◌<◌, fold, map, filter, length, take}
 use Rattle.pw_base.specs.Words.{triggered_word}
 use Rattle.board_rule.specs.declared.view.Found.{Found}
 use Rattle.board_rule.specs.declared.view.View.{View}
@@ -10,6 +10,7 @@ use Rattle.data_loop.specs.declared.did.Did.{Did}
 use Rattle.data_loop.specs.declared.did.Did.TheVariants.{Ran, Idle}
 use Rattle.data_loop.specs.declared.member.Member.{Member}
 use Rattle.data_loop.specs.declared.stage.Stage.{Stage}
+use Rattle.data_loop.specs.Tries.{member_at}
 
 -- the next cycle of a node, and whether it has cycles left
 abbrev pub next_in : BoardLayout → View → ℕ → ℕ
@@ -33,16 +34,20 @@ pub record HaveTried (p : BoardLayout) (v : View) (members : List Member)
   pub words : All (λ t. t.1 ≢ triggered_word (next_in p v t.0)) found
   pub still : w ≡ record v { trail = record v.trail { tries = tries_after v.trail.tries found } }
 
--- one member is a cycle later, and every other one as before
-pub record HasRun (p : BoardLayout) (g : Stage) (n : ℕ) (h : Stage) : Type 0 where
-  pub member : Member
-  pub own : Contains g.members member
-  pub node : member.node ≡ n
+-- those members before it that had cycles left were tried, and it is a cycle later; every other one
+-- is as before
+pub record HasRun (p : BoardLayout) (g : Stage) (n : ℕ) (found : List (ℕ × ℕ))
+    (h : Stage) : Type 0 where
+  pub index : ℕ
+  pub inside : index < length g.members
+  pub node : (member_at g index).node ≡ n
+  pub before : View
+  pub tried : HaveTried p g.seat.knows (take index g.members) found before
   pub later : next_in p h.seat.knows n ≡ next_in p g.seat.knows n + 1
   pub others : (x : Member) → Contains g.members x → x.node ≢ n
       → next_in p h.seat.knows x.node ≡ next_in p g.seat.knows x.node
 
 -- THE ANSWER of a turn, with the tries that it found to be too early
 abbrev pub IsDid : BoardLayout → Stage → Did → List (ℕ × ℕ) → Stage → Type 0
-IsDid p g (Ran node) found h = HasRun p g node h
+IsDid p g (Ran node) found h = HasRun p g node found h
 IsDid p g Idle found h = HaveTried p g.seat.knows g.members found h.seat.knows

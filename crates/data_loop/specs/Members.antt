@@ -2,7 +2,7 @@
 -- of its ports.
 -- Source: PipeWire's documentation, "Graph Scheduling" (quantum); which loop has a node is this
 -- project's own.
-use Rattle.std.specs.Prelude.{ℕ, ◌+◌, ◌*◌, ◌==◌, ◌&&◌, Bool, not, nat_lt, List, filter, map, if◌then◌else◌}
+use Rattle.std.specs.Prelude.{ℕ, ◌+◌, ◌*◌, ◌==◌, ◌&&◌, Bool, true, false, not, nat_lt, List, filter, map, if◌then◌else◌}
 use Rattle.std.specs.List.{list_any, enumerate_from}
 use Rattle.pw_base.specs.declared.plan.Epoch.{Epoch}
 use Rattle.pw_base.specs.declared.plan.Plan.{Plan}
@@ -13,7 +13,7 @@ use Rattle.cycle_model.specs.Epochs.{channels_of}
 use Rattle.cycle_model.specs.Mixing.{takes_part}
 use Rattle.data_loop.specs.declared.member.Member.{Member}
 use Rattle.data_loop.specs.turns.Ends.{fills_of}
-use Rattle.node_progress.specs.Standing.{port_at}
+use Rattle.node_progress.specs.Standing.{port_at, works_in}
 use Rattle.node_progress.specs.Working.{output_channels}
 use Rattle.data_loop.specs.Gathering.{inputs_of}
 
@@ -46,11 +46,24 @@ member_of plan e n at = record {
   right_width = output_width plan e n 1;
 }
 
--- the node is a follower in the epoch
+-- the node is a follower in the epoch; it drives it, and works in it
 abbrev pub follows : Epoch → ℕ → Bool
-follows e n = takes_part e n && not (e.shape.driver == n)
+follows e n = not (e.shape.driver == n) && takes_part e n
 
--- THE MEMBERS of an epoch, in the order of the loop's nodes
+abbrev pub leads : Epoch → ℕ → Bool
+leads e n = (e.shape.driver == n) && works_in e n
+
+abbrev pub has_role : Epoch → Bool → ℕ → Bool
+has_role e is_driver n = if is_driver then leads e n else follows e n
+
+abbrev pub members_by : Plan → List ℕ → Epoch → Bool → List Member
+members_by plan nodes e is_driver = map (λ x. member_of plan e x.1 x.0)
+    (filter (λ x. has_role e is_driver x.1) (enumerate_from 0 nodes))
+
+-- THE MEMBERS of an epoch, in the order of the loop's nodes, and its driver, where that is one of
+-- them and works
 abbrev pub members_of : Plan → List ℕ → Epoch → List Member
-members_of plan nodes e =
-    map (λ x. member_of plan e x.1 x.0) (filter (λ x. follows e x.1) (enumerate_from 0 nodes))
+members_of plan nodes e = members_by plan nodes e false
+
+abbrev pub drivers_of : Plan → List ℕ → Epoch → List Member
+drivers_of plan nodes e = members_by plan nodes e true

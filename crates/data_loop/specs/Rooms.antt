@@ -1,6 +1,6 @@
 -- Rows of a loop, and how long they are.
 -- Source: PipeWire's documentation, "Graph Scheduling" (quantum).
-use Rattle.std.specs.Prelude.{◌≡◌, ◌≤◌, length}
+use Rattle.std.specs.Prelude.{◌≡◌, ℕ, ◌≤◌, length}
 use Rattle.data_loop.specs.declared.member.Member.{Member}
 use Rattle.data_loop.specs.declared.rows.Rows.{Rows}
 
@@ -23,3 +23,20 @@ pub record IsSameRoom (old new : Rows) : Type 0 where
   pub b : length new.b.items ≡ length old.b.items
   pub left : length new.left.items ≡ length old.left.items
   pub right : length new.right.items ≡ length old.right.items
+
+-- the samples of a quantum at each of its ports are at most so many
+pub record IsWithin (width : ℕ) (m : Member) : Type 0 where
+  pub first : m.first_width ≤ width
+  pub second : m.second_width ≤ width
+  pub left : m.left_width ≤ width
+  pub right : m.right_width ≤ width
+
+-- each row is so long
+pub record AreAsLong (width : ℕ) (rows : Rows) : Type 0 where
+  pub row : length rows.row.items ≡ width
+  pub sum_a : length rows.sum_a.items ≡ width
+  pub sum_b : length rows.sum_b.items ≡ width
+  pub a : length rows.a.items ≡ width
+  pub b : length rows.b.items ≡ width
+  pub left : length rows.left.items ≡ width
+  pub right : length rows.right.items ≡ width

@@ -39,6 +39,11 @@ StandsAt score k p v states m = (m.at < length states)
 abbrev pub AreApart : Member → Member → Type 0
 AreApart x y = (x.at ≢ y.at) × (x.node ≢ y.node)
 
+-- the states of nodes that are no members are as before
+abbrev pub AreLeft : List Member → List NodeState → List NodeState → Type 0
+AreLeft members old new = (at : ℕ) (d : NodeState) → All (λ m. m.at ≢ at) members
+    → slice_index_or new at d ≡ slice_index_or old at d
+
 -- A LOOP on the board of epoch k, whose table is t
 pub record IsStanding (score : Score) (k : ℕ) (p : BoardLayout) (t : TableId) (g : Stage)
     (states : List NodeState) (rows : Rows) : Type 0 where

@@ -14,9 +14,9 @@ pub struct Member {
     /// The number of its first output: how many inputs its kind has.
     pub first_output: u32,
     /// Samples at its first and at its second input, 0 where the kind has none.
-    pub first_width: u32,
-    pub second_width: u32,
+    pub first_width: usize,
+    pub second_width: usize,
     /// Samples at its first and at its second output, 0 where no link reads it.
-    pub left_width: u32,
-    pub right_width: u32,
+    pub left_width: usize,
+    pub right_width: usize,
 }

@@ -53,8 +53,8 @@ fn play_in<G: Gate>(
         HasTurned p seat.old.knows free.old (p.index member.now.node) seat.new.knows free.new }
     ensures state { IsNodeState score.now epoch (suc cycle) member.now.node state.new }
 {
-    let first = member.first_width as usize;
-    let second = member.second_width as usize;
+    let first = member.first_width;
+    let second = member.second_width;
     take_turn(
         score,
         board,
@@ -70,8 +70,8 @@ fn play_in<G: Gate>(
         &mut sum_b[..second],
         &mut a[..first],
         &mut b[..second],
-        &mut left[..member.left_width as usize],
-        &mut right[..member.right_width as usize],
+        &mut left[..member.left_width],
+        &mut right[..member.right_width],
         gate,
     );
 }

@@ -5,6 +5,9 @@ ghost use Rattle.board_rule.specs.OnBoard.{layout, table_of};
 ghost use Rattle.data_loop.specs.Stages.{IsStanding};
 ghost use Rattle.data_loop.specs.Tries.{HasTried, member_at};
 ghost use Rattle.data_loop.specs.LoopTurn.{IsDid};
+ghost use Rattle.data_loop.specs.Rooms.{IsSameRoom};
+ghost use Rattle.data_loop.specs.StageParts.{IsSameStage};
+ghost use Rattle.data_loop.specs.Stages.{AreLeft};
 
 use crate::did::Did;
 use crate::member::Member;
@@ -18,12 +21,15 @@ use buffer_pool::Pool;
 use node_state::NodeState;
 use pw_base::{Gate, Items, PoolShape};
 
-/// A seat on the board of an epoch, the loop's followers there, and the pools of the shape with the
-/// free blocks of each.
+/// A seat on the board of an epoch, the loop's followers there, the driver where that is one of the
+/// loop's nodes and has a form, and the pools of the shape with the free blocks of each. `restarts`
+/// has for each of the loop's nodes with how many channels the epoch begins it anew.
 #[derive(Drop)]
 pub struct Stage {
     pub seat: LoopSeat,
     pub members: Items<Member>,
+    pub driver: Items<Member>,
+    pub restarts: Items<Option<u32>>,
     pub shapes: Items<PoolShape>,
     pub free: Vec<Pool>,
 }
@@ -48,9 +54,10 @@ impl Stage {
             self.new states.new rows.new }
         ensures tried { HasTried (layout board.now) self.old
             (member_at self.old index).node result self.new }
-        ensures members { self.new.members ≡ self.old.members }
+        ensures same { IsSameStage self.old self.new }
         ensures states { (at : ℕ) (d : NodeState) → at ≢ (member_at self.old index).at
             → slice_index_or states.new at d ≡ slice_index_or states.old at d }
+        ensures rows { IsSameRoom rows.old rows.new }
     {
         let member = &self.members.as_slice()[index];
         if self.seat.ended(board, member.node) == board.shape().cycles {
@@ -96,7 +103,10 @@ impl Stage {
         ensures stands { IsStanding score.now epoch (layout board.now) (table_of board.now)
             self.new states.new rows.new }
         ensures did { IsDid (layout board.now) self.old result found.new.items self.new }
-        ensures members { self.new.members ≡ self.old.members }
+        ensures same { IsSameStage self.old self.new }
+        ensures states { AreLeft self.old.members states.old states.new }
+        ensures rows { IsSameRoom rows.old rows.new }
+        ensures few { length found.new.items ≤ length self.old.members }
         ensures capacity { vec_capacity found.new ≡ vec_capacity found.old }
     {
         for index in 0..self.members.len() {

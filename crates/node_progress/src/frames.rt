@@ -9,8 +9,8 @@ ghost use Rattle.node_progress.specs.Standing.{port_at, works_in, worked};
 
 use pw_base::{Epoch, Plan, PortId, is_same_port};
 
-// Whether a node is one of the epoch's active nodes.
-fn takes_part(epoch: &Epoch, node: u32) -> bool
+/// Whether a node is one of the epoch's active nodes. Takes no memory.
+pub fn takes_part(epoch: &Epoch, node: u32) -> bool
     ensures { result ≡ takes_part epoch.now node }
 {
     let nodes = epoch.shape.nodes.as_slice();
@@ -26,8 +26,9 @@ fn has_form(epoch: &Epoch, node: u32) -> bool
     forms.iter().any(|form| is_same_port(form.port, port))
 }
 
-// Whether it works in the epoch: it is active, and where it drives, its input has a form.
-fn works_in(epoch: &Epoch, node: u32) -> bool
+/// Whether a node works in the epoch: it is active, and where it drives, its input has a form. Takes
+/// no memory; a look at the epoch's nodes and forms.
+pub fn works_in(epoch: &Epoch, node: u32) -> bool
     ensures { result ≡ works_in epoch.now node }
 {
     let formed = has_form(epoch, node);

@@ -10,7 +10,7 @@ mod restarting;
 mod score;
 mod working;
 
-pub use frames::worked_cycles;
+pub use frames::{takes_part, works_in, worked_cycles};
 pub use restarting::enter_next;
 pub use score::Score;
 pub use working::work;

@@ -1,0 +1,65 @@
+-- A loop of a run on the board of its epoch.
+-- Source: PipeWire's documentation, "Graph Scheduling" and "Data loops"; which loop has a node is
+-- this project's own.
+use Rattle.std.specs.Prelude.{◌≡◌, ◌≢◌, ℕ, ◌+◌, ◌<◌, ◌≤◌, suc, false, List, [], All, Contains, length, slice_get, if◌then◌else◌}
+use Rattle.atomic_table.specs.Seated.{TableId}
+use Rattle.pw_base.specs.declared.plan.Epoch.{Epoch}
+use Rattle.pw_base.specs.declared.plan.Plan.{Plan}
+use Rattle.wav_files.specs.declared.wav.WavIn.{WavIn}
+use Rattle.cycle_model.specs.Expected.{expected_samples}
+use Rattle.board_rule.specs.Known.{Known}
+use Rattle.board_rule.specs.Layout.{BoardLayout, nodes as nodes_in, last}
+use Rattle.board_rule.specs.View.{loop_view}
+use Rattle.io_areas.specs.PooledBoard.{IsPooledBoard}
+use Rattle.data_loop.specs.declared.loop_state.LoopState.{LoopState}
+use Rattle.data_loop.specs.declared.stage.Stage.{Stage}
+use Rattle.data_loop.specs.declared.did.Did.{Did}
+use Rattle.data_loop.specs.LoopTurn.{next_in, IsDid}
+use Rattle.data_loop.specs.Members.{follows, leads}
+use Rattle.data_loop.specs.Stages.{IsStanding}
+use Rattle.data_loop.specs.Loops.{plan_of, HasStage, IsLoop, AreUnbegun, node_at, StateIs}
+
+-- the cycle at which the state of a node stands that is no follower: the driver's after the cycles
+-- that it led
+abbrev pub stands_at : LoopState → Epoch → ℕ → ℕ
+stands_at s e j = e.shape.first + (if leads e (node_at s j) then s.led else 0)
+
+-- ON THE BOARD of its epoch, whose table is t: its followers rest at their cycles
+pub record IsOnBoard (p : BoardLayout) (t : TableId) (s : LoopState) : Type 0 where
+  pub loop : IsLoop s
+  pub stage : Stage
+  pub here : HasStage s s.epoch stage
+  pub stands : IsStanding s.score s.epoch p t stage s.states.items s.rows
+  pub later : AreUnbegun s (suc s.epoch)
+  pub led : s.led ≤ p.shape.cycles
+  pub others : (j : ℕ) → j < length s.nodes
+      → follows stands.epoch (node_at s j) ≡ false
+      → StateIs s (stands_at s stands.epoch j) j
+
+-- AT THE END of the epoch: no follower has cycles left, and the driver has led all
+pub record IsAtEnd (p : BoardLayout) (t : TableId) (s : LoopState) : Type 0 where
+  pub on : IsOnBoard p t s
+  pub ended : All (λ m. next_in p on.stage.seat.knows m.node ≡ last p) on.stage.members
+  pub led : on.stage.driver ≢ [] → s.led ≡ p.shape.cycles
+
+-- the seat is one of the board's, as the board gave it, and has the loop's followers
+pub record IsFirstSeat (plan : Plan) (waves : List WavIn) (k : ℕ) (nodes : List ℕ)
+    (p : BoardLayout) (t : TableId) (seat : Known) : Type 0 where
+  pub plain : IsPooledBoard p
+  pub number : ℕ
+  pub one : number < p.seats
+  pub is : seat ≡ record { table = t; knows = loop_view p (expected_samples plan waves k) number }
+  pub owned : (n : ℕ) → Contains nodes n → p.index n < nodes_in p → p.index n ≢ p.driver
+      → p.seat_of (p.index n) ≡ number
+
+-- what a call on the board leaves as it was
+pub record IsSameBut (s t : LoopState) : Type 0 where
+  pub score : t.score ≡ s.score
+  pub nodes : t.nodes ≡ s.nodes
+  pub epoch : t.epoch ≡ s.epoch
+  pub stages : (k : ℕ) → k ≢ s.epoch → slice_get t.stages.items k ≡ slice_get s.stages.items k
+
+-- a turn, with the tries that it found to be too early
+abbrev pub HasTurnedOnce : BoardLayout → LoopState → Did → LoopState → Type 0
+HasTurnedOnce p s did t = (g h : Stage) → HasStage s s.epoch g → HasStage t t.epoch h
+    → IsDid p g did t.found.items h

@@ -1,0 +1,50 @@
+-- What a loop has in an epoch: its followers there, the driver where that is one of its nodes, the
+-- nodes that begin anew, and the free blocks of the epoch's pools.
+-- Source: PipeWire's documentation, "Graph Scheduling"; which loop has a node is this project's
+-- own.
+use Rattle.std.specs.Prelude.{◌≡◌, ℕ, List, All, map}
+use Rattle.pw_base.specs.declared.plan.Epoch.{Epoch}
+use Rattle.pw_base.specs.declared.plan.Plan.{Plan}
+use Rattle.pw_base.specs.Pools.{pools_of}
+use Rattle.pw_base.specs.PlanFresh.{IsEpoch}
+use Rattle.io_areas.specs.FreeBlocks.{free_at_start}
+use Rattle.board_rule.specs.Known.{Known}
+use Rattle.node_progress.specs.Restarts.{restart_of}
+use Rattle.data_loop.specs.declared.rows.Rows.{Rows}
+use Rattle.data_loop.specs.declared.stage.Stage.{Stage}
+use Rattle.data_loop.specs.Members.{members_of, drivers_of}
+use Rattle.data_loop.specs.Rooms.{HasRowsFor, IsWithin}
+
+-- what stays in all turns of epoch k
+pub record IsStageOf (plan : Plan) (nodes : List ℕ) (k : ℕ) (e : Epoch)
+    (g : Stage) : Type 0 where
+  pub members : g.members ≡ members_of plan nodes e
+  pub driver : g.driver ≡ drivers_of plan nodes e
+  pub restarts : g.restarts ≡ map (restart_of plan k) nodes
+  pub shapes : g.shapes ≡ pools_of e.shape
+
+-- two stages have this alike
+pub record IsSameStage (g h : Stage) : Type 0 where
+  pub members : h.members ≡ g.members
+  pub driver : h.driver ≡ g.driver
+  pub restarts : h.restarts ≡ g.restarts
+  pub shapes : h.shapes ≡ g.shapes
+  pub table : h.seat.table ≡ g.seat.table
+
+-- no turn was made in the epoch
+abbrev pub IsUnbegun : Epoch → Stage → Type 0
+IsUnbegun e g = g.free.items ≡ map (free_at_start e.shape) (pools_of e.shape)
+
+-- THE STAGE of epoch k, as it is made of a seat
+pub record IsFirstStage (plan : Plan) (nodes : List ℕ) (k : ℕ) (seat : Known)
+    (g : Stage) : Type 0 where
+  pub seat_is : g.seat ≡ seat
+  pub parts : (e : Epoch) → IsEpoch plan k e → IsStageOf plan nodes k e g × IsUnbegun e g
+
+-- each of its nodes has room for its quanta
+abbrev pub HasRoomIn : Rows → Stage → Type 0
+HasRoomIn rows g = All (HasRowsFor rows) g.members × All (HasRowsFor rows) g.driver
+
+-- the samples of a quantum at each port of its nodes are at most so many
+abbrev pub IsStageWithin : ℕ → Stage → Type 0
+IsStageWithin width g = All (IsWithin width) g.members × All (IsWithin width) g.driver

@@ -1,0 +1,37 @@
+//! The tries of a loop's last turn, as a list that is lent.
+//!
+//! A vector that is filled anew in each turn is no `Items`, and an `Items` that grows may ask for
+//! memory: so of each length there is one list, made before.
+ghost use Rattle.std.specs.Prelude.{◌≡◌, ◌+◌, ◌<◌, ◌≤◌, [], IfOk, length, slice_index_or};
+ghost use Rattle.data_loop.specs.Tables.{AreTables};
+
+use pw_base::{Items, Memory};
+use std::alloc::Global;
+
+/// Lists of the lengths 0 to `most`.
+pub(crate) fn tables_of(
+    alloc: Global,
+    most: usize,
+) -> Result<Items<Items<(u32, u64)>>, Memory>
+    requires few { most ≤ 63 }
+    ensures tables { IfOk result AreTables }
+    ensures count { IfOk result (λ tables. length tables ≡ most + 1) }
+{
+    let mut tables = Items::new(alloc);
+    for n in 0..most + 1 {
+        tables.push(Items::filled(alloc, n, (0, 0))?)?;
+    }
+    Ok(tables)
+}
+
+/// Writes the tries into the list that is as long as they are many. Takes no memory.
+pub(crate) fn tell(tables: &mut Items<Items<(u32, u64)>>, found: &[(u32, u64)])
+    requires tables { AreTables tables.old }
+    requires inside { length found.now < length tables.old }
+    ensures tables { AreTables tables.new }
+    ensures count { length tables.new ≡ length tables.old }
+    ensures told { slice_index_or tables.new (length found.now) [] ≡ found.now }
+{
+    let table = &mut tables.as_mut_slice()[found.len()];
+    table.as_mut_slice().copy_from_slice(found);
+}
