@@ -1,3 +1,4 @@
+pub mod IdleLemmas
 pub mod NodeLemmas
 pub mod StateLemmas
 pub mod FitLemmas

@@ -49,7 +49,7 @@ use Rattle.node_progress.proofs.StateLemmas.{none_later, begins_after}
 abbrev HaveCycles : List Epoch → Type 0
 HaveCycles es = All (λ e. 1 ≤ e.shape.cycles) es
 
-have_cycles : (plan : Plan) → IsSoundPlan plan → HaveCycles plan.epochs
+pub have_cycles : (plan : Plan) → IsSoundPlan plan → HaveCycles plan.epochs
 have_cycles plan sound k d low = (sound.epochs k d low).shape.sound.cycles.some
 
 -- the next epoch begins where one ends, and after the last one all cycles are done
@@ -152,7 +152,7 @@ nothing_summed [] = refl
 nothing_summed (r ∷ rows) = nothing_summed rows
 
 -- so nothing comes to it
-nothing_in : (plan : Plan) (out : Outputs) (c : ℕ) (port : PortId) → channels_at plan c port ≡ 0 → input_of plan out c port ≡ []
+pub nothing_in : (plan : Plan) (out : Outputs) (c : ℕ) (port : PortId) → channels_at plan c port ≡ 0 → input_of plan out c port ≡ []
 nothing_in plan out c port none =
     let zero_samples : plan.quantum * channels_at plan c port ≡ 0 = ap (λ m. plan.quantum * m) none ∙ none_of plan.quantum in
     ap (λ m. map clamped (fold summed (silence m) (map (λ l. brought plan out c l) (links_into plan c port)))) zero_samples

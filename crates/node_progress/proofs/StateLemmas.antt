@@ -48,7 +48,7 @@ begins_after f [] k e h at = absurd (none-some e at)
 begins_after f (x ∷ xs) zero e h at = let is = ap (λ (y : Epoch). y.shape.first) (same_Some x e at) in omega (arith, h.0, is)
 begins_after f (x ∷ xs) (suc k) e h at = let more = begins_after (f + x.shape.cycles) xs k e h.1 at in omega (arith, more)
 
-not_released : (f : ℕ) (es : List Epoch) (k : ℕ) (e : Epoch) (c n : ℕ) → FollowFrom f es → slice_get es k ≡ Some e
+pub not_released : (f : ℕ) (es : List Epoch) (k : ℕ) (e : Epoch) (c n : ℕ) → FollowFrom f es → slice_get es k ≡ Some e
     → e.shape.first < c → c < e.shape.first + e.shape.cycles → is_released es c n ≡ false
 not_released f [] k e c n h at low high = absurd (none-some e at)
 not_released f (x ∷ xs) zero e c n h at low high =
