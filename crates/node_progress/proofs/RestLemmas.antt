@@ -375,7 +375,7 @@ module _ (score : Score) (k c n : ℕ) (w : IsEndOf score k c n) where
       anew t stands channels same = record {
         kind = same.0 ∙ st.kind;
         wave = same.1 ∙ st.wave;
-        quantum = same.3 ∙ st.quantum;
+        quantum = λ some. same.3 ∙ st.quantum some;
         frames = same.5 ∙ st.frames;
         prepared = same.6 ∙ st.prepared;
         most = λ j m other. subst (λ x. m ≤ x) (sym same.4) (st.most j m other);
