@@ -46,7 +46,7 @@ any_is (f ∷ fs) port t = ⊎_elim
     (cases_Bool (is_same_port f.port port))
 
 -- the wave of a source that is there
-wave_found : (P : WavIn → Type 0) (waves : List WavIn) (n : ℕ) → All P waves → count_by (λ w. w.node == n) waves ≡ 1
+pub wave_found : (P : WavIn → Type 0) (waves : List WavIn) (n : ℕ) → All P waves → count_by (λ w. w.node == n) waves ≡ 1
     → (w : WavIn) × P w × (w.node ≡ n) × (find (λ w. w.node == n) waves ≡ Some w)
 wave_found P [] n all one = absurd (omega (arith, one))
 wave_found P (w ∷ ws) n all one = ⊎_elim

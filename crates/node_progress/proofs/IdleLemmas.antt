@@ -36,7 +36,7 @@ use Rattle.node_progress.proofs.StateLemmas.{not_released}
 use Rattle.node_progress.proofs.RestLemmas.{nothing_in, have_cycles}
 
 -- a state stands for streams alone
-alike : (score : Score) (n : ℕ) (s : NodeState) (r q : Received) → r.a ≡ q.a → r.b ≡ q.b → StandsFor s (heard_by score n s r)
+pub alike : (score : Score) (n : ℕ) (s : NodeState) (r q : Received) → r.a ≡ q.a → r.b ≡ q.b → StandsFor s (heard_by score n s r)
     → StandsFor s (heard_by score n s q)
 alike score n s r q ea eb = subst (λ (ab : List ℤ × List ℤ).
     StandsFor s (heard_by score n s (record { frames = 0; a = ab.0; b = ab.1 }))) (λ i. (ea i, eb i))

@@ -1,6 +1,8 @@
-pub mod IdleLemmas
 pub mod NodeLemmas
 pub mod StateLemmas
 pub mod FitLemmas
+pub mod FreshLemmas
 pub mod RestLemmas
+pub mod IdleLemmas
 pub mod FrameLemmas
+pub mod PrepareLemmas

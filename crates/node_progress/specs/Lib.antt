@@ -2,3 +2,4 @@ pub mod Standing
 pub mod Working
 pub mod NodeStates
 pub mod Restarts
+pub mod Preparing

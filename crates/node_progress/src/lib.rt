@@ -6,11 +6,13 @@
 #![tactic(auto)]
 
 mod frames;
+mod preparing;
 mod restarting;
 mod score;
 mod working;
 
 pub use frames::worked_cycles;
-pub use restarting::enter_next;
+pub use preparing::prepare_node;
+pub use restarting::{enter_next, restart_in};
 pub use score::Score;
 pub use working::work;
