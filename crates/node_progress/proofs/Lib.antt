@@ -6,3 +6,4 @@ pub mod RestLemmas
 pub mod IdleLemmas
 pub mod FrameLemmas
 pub mod PrepareLemmas
+pub mod EndLemmas

@@ -95,7 +95,7 @@ released_by f (x ∷ xs) (suc k) e c n h some at first =
     rw other (released_by (f + x.shape.cycles) xs k e c n h.1 (All-tail (λ (y : Epoch). 1 ≤ y.shape.cycles) x xs some) at first)
 
 -- after all epochs nothing is released
-released_past : (f : ℕ) (es : List Epoch) (c n : ℕ) → FollowFrom f es → HaveCycles es → c ≡ f + sum_by (λ x. x.shape.cycles) es
+pub released_past : (f : ℕ) (es : List Epoch) (c n : ℕ) → FollowFrom f es → HaveCycles es → c ≡ f + sum_by (λ x. x.shape.cycles) es
     → is_released es c n ≡ false
 released_past f [] c n h some end = refl
 released_past f (x ∷ xs) c n h some end =

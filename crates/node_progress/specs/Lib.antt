@@ -3,3 +3,4 @@ pub mod Working
 pub mod NodeStates
 pub mod Restarts
 pub mod Preparing
+pub mod Ends
