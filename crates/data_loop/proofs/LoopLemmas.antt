@@ -21,7 +21,7 @@ use Rattle.data_loop.specs.declared.stage.Stage.{Stage}
 use Rattle.data_loop.specs.Members.{follows, members_of}
 use Rattle.data_loop.specs.Rooms.{HasRowsFor, IsSameRoom}
 use Rattle.data_loop.specs.StageParts.{IsStageOf, IsSameStage, IsUnbegun, HasRoomIn}
-use Rattle.data_loop.specs.Stages.{IsStanding, AreLeft}
+use Rattle.data_loop.specs.Stages.{IsStanding, StandsAt, AreLeft}
 use Rattle.data_loop.specs.Tables.{AreTables}
 use Rattle.data_loop.specs.Loops.{plan_of, HasStage, IsLoop, AreUnbegun, node_at, StateIs}
 use Rattle.data_loop.specs.LoopsOnBoards.{stands_at, IsOnBoard}
@@ -119,7 +119,7 @@ module _ (p : BoardLayout) (tb : TableId) (s : LoopState) (on : IsOnBoard p tb s
           → get_or (with_items s.states ss).items j d ≡ get_or s.states.items j d
       others_on j less none d = ap (λ (l : List NodeState). get_or l j d) items_are ∙ left j d (λ k m lt is.
           let x : Member = get_or g.members k m in
-          let f = from x (k, lt, get_or_default g.members k m x lt) in
+          let f = from x (k, lt, get_or_default g.members k x m lt) in
           let yes : follows on.stands.epoch (node_at s j) ≡ true = ap (λ i. follows on.stands.epoch (get_or s.nodes i 0)) (sym is)
           ∙ ap (follows on.stands.epoch) f.node ∙ f.role in
           true≢false (sym yes ∙ ap (λ e. follows e (node_at s j)) one_epoch ∙ none))
@@ -146,7 +146,21 @@ module _ (p : BoardLayout) (tb : TableId) (s : LoopState) (on : IsOnBoard p tb s
         };
         stage = h;
         here = get_same s.stages.items s.epoch h low;
-        stands = subst (λ (l : List NodeState). IsStanding s.score s.epoch p tb h l rows) (sym items_are) st;
+        stands = record {
+          sound = st.sound;
+          waves = st.waves;
+          epoch = st.epoch;
+          at = st.at;
+          shape = st.shape;
+          table = st.table;
+          expect = st.expect;
+          equipped = st.equipped;
+          members = st.members;
+          apart = st.apart;
+          rests = st.rests;
+          each = subst (λ (l : List NodeState). All (StandsAt s.score s.epoch p h.seat.knows l) h.members) (sym items_are) st.each;
+          room = st.room;
+        };
         later = later_on;
         led = on.led;
         others = λ j less none d.

@@ -33,7 +33,7 @@ use Rattle.node_progress.specs.declared.score.Score.{Score}
 use Rattle.node_progress.specs.Standing.{port_at, out_channels, comes_in, wide_at}
 use Rattle.node_progress.specs.Working.{FitsOutput}
 use Rattle.node_progress.specs.NodeStates.{wave_channels_of, IsNodeState, IsWorkedIn, IsOutputRow}
-use Rattle.node_progress.proofs.StateLemmas.{here, epoch_sound, renderable, part}
+use Rattle.node_progress.proofs.StateLemmas.{here, epoch_sound, renderable, part, quantum_is}
 
 -- an element with a property, as a test of all found it
 any_is : (forms : List PortForm) (port : PortId) → list_any (λ f. is_same_port f.port port) forms ≡ true
@@ -46,7 +46,7 @@ any_is (f ∷ fs) port t = ⊎_elim
     (cases_Bool (is_same_port f.port port))
 
 -- the wave of a source that is there
-wave_found : (P : WavIn → Type 0) (waves : List WavIn) (n : ℕ) → All P waves → count_by (λ w. w.node == n) waves ≡ 1
+pub wave_found : (P : WavIn → Type 0) (waves : List WavIn) (n : ℕ) → All P waves → count_by (λ w. w.node == n) waves ≡ 1
     → (w : WavIn) × P w × (w.node ≡ n) × (find (λ w. w.node == n) waves ≡ Some w)
 wave_found P [] n all one = absurd (omega (arith, one))
 wave_found P (w ∷ ws) n all one = ⊎_elim
@@ -243,7 +243,7 @@ module _ (score : Score) (k c n : ℕ) (w : IsWorkedIn score k c n) where
 
       pub slices : IsQuantum s a b left right
       slices = inl (subst (λ (x : ℕ × Kind × ℕ). HaveFrames x.0 x.1 x.2 nc a b left right)
-          (λ i. (sym st.quantum i, sym st.kind i, sym st.wave i)) frames)
+          (λ i. (sym (quantum_is score k c n w s st) i, sym st.kind i, sym st.wave i)) frames)
 
       pub left_fits : FitsOutput plan e n s 0 left
       left_fits = ⊎_elim (λ none. inl none) (λ some. inr (some.1, left_is (kind_at plan n) refl some.0 ∙ sym same_out)) l

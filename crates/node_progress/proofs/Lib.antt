@@ -1,5 +1,9 @@
 pub mod NodeLemmas
 pub mod StateLemmas
 pub mod FitLemmas
+pub mod FreshLemmas
 pub mod RestLemmas
+pub mod IdleLemmas
 pub mod FrameLemmas
+pub mod PrepareLemmas
+pub mod EndLemmas

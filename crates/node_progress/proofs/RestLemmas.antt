@@ -1,12 +1,11 @@
 -- Nodes between epochs: those that do not work, and those that begin anew.
 use Rattle.std.proofs.Common.{◌≡◌, ◌≢◌, ℕ, zero, suc, ◌+◌, ◌-◌, ◌*◌, ◌<◌, ◌≤◌, ◌==◌, ◌&&◌, ◌||◌, Bool, true, false, nat_lt, nat_le, cond}
 use Rattle.std.proofs.Common.{List, [], ◌∷◌, ◌++◌, map, filter, find, flat_map, fold, All, Option, Some, None, slice_get, option_map}
-use Rattle.std.proofs.Common.{unwrap_or, sum_by, ℤ, refl, sym, ap, ap₂, ◌∙◌, subst, arith, ⊎_elim, get_or}
-use Rattle.std.specs.Prelude.{Contains, AllPairs}
-use Rattle.std.specs.List.{list_any, range_with_len}
-use Rattle.std.proofs.lemmas.Bool.{cases_Bool, cases_eq, cases_lt, cond-true, cond-false, cond_both, ne_eqb, eq-eqb, eqb-true, true≢false, leb-true, and_parts}
-use Rattle.std.proofs.lemmas.List.{get_or_default}
-use Rattle.std.proofs.lemmas.List.Elements.{All-head, All-tail, All-contains}
+use Rattle.std.proofs.Common.{unwrap_or, sum_by, ℤ, refl, sym, ap, ap₂, ◌∙◌, subst, arith, ⊎_elim}
+use Rattle.std.specs.Prelude.{Contains}
+use Rattle.std.specs.List.{range_with_len}
+use Rattle.std.proofs.lemmas.Bool.{cases_Bool, cases_lt, cond-true, cond-false, cond_both, ne_eqb, eq-eqb, leb-true, and_parts}
+use Rattle.std.proofs.lemmas.List.Elements.{All-head, All-tail}
 use Rattle.std.proofs.lemmas.List.Sums.{sum_by-cons}
 use Rattle.std.proofs.lemmas.Option.{same_Some, none-some, slice_get_within, get_or_from_slice_get}
 use Rattle.pw_base.specs.declared.plan.Epoch.{Epoch}
@@ -14,7 +13,7 @@ use Rattle.pw_base.specs.declared.plan.Fresh.{Fresh}
 use Rattle.pw_base.specs.declared.plan.Plan.{Plan}
 use Rattle.pw_base.specs.KindPorts.{input_count}
 use Rattle.pw_base.specs.PlanForms.{kind_at}
-use Rattle.pw_base.specs.PlanFresh.{Names, IsSoundFresh}
+use Rattle.pw_base.specs.PlanFresh.{Names}
 use Rattle.pw_base.specs.SoundPlan.{FollowFrom, IsSoundPlan}
 use Rattle.cycle_model.specs.Epochs.{listed, is_fresh, all_cycles}
 use Rattle.cycle_model.specs.Known.{is_released}
@@ -43,13 +42,14 @@ use Rattle.node_progress.specs.Standing.{port_at, out_channels, heard_by}
 use Rattle.node_progress.specs.NodeStates.{IsNodeState}
 use Rattle.node_progress.specs.NodeStates.{first_of}
 use Rattle.node_progress.specs.Restarts.{restart_of, IsEndOf}
+use Rattle.node_progress.proofs.FreshLemmas.{entry_found, no_entry, named_of, restart_is, named_allowed}
 use Rattle.node_progress.proofs.StateLemmas.{none_later, begins_after}
 
 -- each epoch has a cycle
 abbrev HaveCycles : List Epoch → Type 0
 HaveCycles es = All (λ e. 1 ≤ e.shape.cycles) es
 
-have_cycles : (plan : Plan) → IsSoundPlan plan → HaveCycles plan.epochs
+pub have_cycles : (plan : Plan) → IsSoundPlan plan → HaveCycles plan.epochs
 have_cycles plan sound k d low = (sound.epochs k d low).shape.sound.cycles.some
 
 -- the next epoch begins where one ends, and after the last one all cycles are done
@@ -95,7 +95,7 @@ released_by f (x ∷ xs) (suc k) e c n h some at first =
     rw other (released_by (f + x.shape.cycles) xs k e c n h.1 (All-tail (λ (y : Epoch). 1 ≤ y.shape.cycles) x xs some) at first)
 
 -- after all epochs nothing is released
-released_past : (f : ℕ) (es : List Epoch) (c n : ℕ) → FollowFrom f es → HaveCycles es → c ≡ f + sum_by (λ x. x.shape.cycles) es
+pub released_past : (f : ℕ) (es : List Epoch) (c n : ℕ) → FollowFrom f es → HaveCycles es → c ≡ f + sum_by (λ x. x.shape.cycles) es
     → is_released es c n ≡ false
 released_past f [] c n h some end = refl
 released_past f (x ∷ xs) c n h some end =
@@ -104,36 +104,6 @@ released_past f (x ∷ xs) c n h some end =
     let begins = h.0 in
     let other : (x.shape.first == c) ≡ false = ne_eqb x.shape.first c (λ is. omega (arith, is, begins, end, sum, more)) in
     rw other (released_past (f + x.shape.cycles) xs c n h.1 (All-tail (λ (y : Epoch). 1 ≤ y.shape.cycles) x xs some) (omega (arith, end, sum)))
-
--- an entry found is one of the list, and the test of any says so
-entry_found : (fs : List Fresh) (n channels : ℕ) → option_map (λ f. f.channels) (find (λ f. f.node == n) fs) ≡ Some channels
-    → Contains fs (record { node = n; channels = channels }) × (list_any (λ f. f.node == n) fs ≡ true)
-entry_found [] n channels e = absurd (none-some channels e)
-entry_found (f ∷ fs) n channels e = ⊎_elim
-    (λ (yes : (f.node == n) ≡ true).
-    let is : f.channels ≡ channels = same_Some f.channels channels (rw yes at e) in
-    let node : f.node ≡ n = eqb-true f.node n yes in
-    ((0, omega arith, (λ i. record { node = node i; channels = is i })), rw yes refl))
-    (λ (no : (f.node == n) ≡ false).
-    let more = entry_found fs n channels (rw no at e) in let c = more.0 in let low = c.1 in
-    ((suc c.0, omega (arith, low), c.2), rw no more.1))
-    (cases_Bool (f.node == n))
-
-no_entry : (fs : List Fresh) (n : ℕ) → option_map (λ f. f.channels) (find (λ f. f.node == n) fs) ≡ None
-    → (list_any (λ f. f.node == n) fs ≡ false) × ((channels : ℕ) → Contains fs (record { node = n; channels = channels }) → ⊥)
-no_entry [] n e = (refl, λ channels c. omega (arith, c.1))
-no_entry (f ∷ fs) n e = ⊎_elim
-    (λ (yes : (f.node == n) ≡ true). absurd (none-some f.channels (sym (rw yes at e))))
-    (λ (no : (f.node == n) ≡ false).
-    let more = no_entry fs n (rw no at e) in
-    (rw no more.0, λ channels c. past f fs n channels no more.1 c))
-    (cases_Bool (f.node == n))
-  where
-    past : (f : Fresh) (fs : List Fresh) (n channels : ℕ) → (f.node == n) ≡ false
-        → ((channels : ℕ) → Contains fs (record { node = n; channels = channels }) → ⊥)
-        → Contains (f ∷ fs) (record { node = n; channels = channels }) → ⊥
-    past f fs n channels miss more (zero, low, is) = true≢false (sym (eq-eqb f.node n (ap (λ (x : Fresh). x.node) is)) ∙ miss)
-    past f fs n channels miss more (suc k, low, is) = more channels (k, omega (arith, low), is)
 
 -- a port that no form is of has no channels
 formless : (forms : List PortForm) (port : PortId) → ((rate channels : ℕ) → Contains forms (record { port = port; rate = rate; channels = channels }) → ⊥)
@@ -152,7 +122,7 @@ nothing_summed [] = refl
 nothing_summed (r ∷ rows) = nothing_summed rows
 
 -- so nothing comes to it
-nothing_in : (plan : Plan) (out : Outputs) (c : ℕ) (port : PortId) → channels_at plan c port ≡ 0 → input_of plan out c port ≡ []
+pub nothing_in : (plan : Plan) (out : Outputs) (c : ℕ) (port : PortId) → channels_at plan c port ≡ 0 → input_of plan out c port ≡ []
 nothing_in plan out c port none =
     let zero_samples : plan.quantum * channels_at plan c port ≡ 0 = ap (λ m. plan.quantum * m) none ∙ none_of plan.quantum in
     ap (λ m. map clamped (fold summed (silence m) (map (λ l. brought plan out c l) (links_into plan c port)))) zero_samples
@@ -209,6 +179,17 @@ keeps_none Split h none = refl
 keeps_none Sink h none = none refl
 keeps_none Meter h none = refl
 keeps_none Dummy h none = refl
+
+-- what a state has heard, begun anew
+pub restarted_heard : (score : Score) (n : ℕ) (s t : NodeState) (r : Received) (channels : ℕ)
+    → (0 < input_count (node_kind s) → node_channels t ≡ channels) → IsRestarted s t
+    → restarted (node_kind s) channels (heard_by score n s r) ≡ heard_by score n t (released r)
+restarted_heard score n s t r channels is same i =
+    record { wave = wave_of score.waves.value n; frames = sym same.5 i; channels = outs i; a = []; b = [] }
+  where
+    outs : left_channels (node_kind s) (out_channels s) channels ≡ out_channels t
+    outs = channels_anew (node_kind s) (node_wave_channels s) (node_channels s) (node_channels t) channels is
+        ∙ (λ i. left_channels (sym same.0 i) (sym same.1 i) (node_channels t))
 
 module _ (score : Score) (k c n : ℕ) (w : IsEndOf score k c n) where
   abbrev plan : Plan
@@ -281,17 +262,7 @@ module _ (score : Score) (k c n : ℕ) (w : IsEndOf score k c n) where
   -- an epoch that names it as fresh begins its streams anew
   module _ (n_channels : ℕ) (is : restart_of plan (suc k) n ≡ Some n_channels) where
     pub named : Names plan (suc k) n n_channels
-    named = by next refl
-      where
-        by : (o : Option Epoch) → next ≡ o → Names plan (suc k) n n_channels
-        by None at = absurd (none-some n_channels
-            (sym (ap (λ o. option_map (λ (f : Fresh). f.channels) (find (λ f. f.node == n) (listed (λ y. y.fresh) o))) at) ∙ is))
-        by (Some x) at = record {
-          epoch = x;
-          at = at;
-          entry = (entry_found x.fresh n n_channels
-              (sym (ap (λ o. option_map (λ (f : Fresh). f.channels) (find (λ f. f.node == n) (listed (λ y. y.fresh) o))) at) ∙ is)).0;
-        }
+    named = named_of plan (suc k) n n_channels is
 
     goes : is_released plan.epochs c n ≡ true
     goes = released_in named.epoch named.at ∙ (entry_found named.epoch.fresh n n_channels
@@ -299,34 +270,10 @@ module _ (score : Score) (k c n : ℕ) (w : IsEndOf score k c n) where
 
     -- an entry of the epoch is the one that it has
     same_entry : (channels : ℕ) → Names plan (suc k) n channels → channels ≡ n_channels
-    same_entry channels other =
-        let at : other.epoch ≡ named.epoch = same_Some other.epoch named.epoch (sym other.at ∙ named.at) in
-        let low = slice_get_within plan.epochs (suc k) named.epoch named.at in
-        let ascend : AllPairs (λ x y. x.node < y.node) named.epoch.fresh = subst (λ (x : Epoch). AllPairs (λ f g. f.node < g.node) x.fresh)
-        (get_or_from_slice_get plan.epochs (suc k) named.epoch named.epoch named.at) (w.sound.fresh.ascend (suc k) named.epoch low) in
-        one_entry named.epoch.fresh ascend channels n_channels
-        (subst (λ (x : Epoch). Contains x.fresh (record { node = n; channels = channels })) at other.entry) named.entry
-      where
-        one_entry : (fs : List Fresh) → AllPairs (λ x y. x.node < y.node) fs → (a b : ℕ) → Contains fs (record { node = n; channels = a })
-            → Contains fs (record { node = n; channels = b }) → a ≡ b
-        one_entry fs ascend a b x y =
-            let d : Fresh = record { node = n; channels = a } in
-            let ax : (get_or fs x.0 d).node ≡ n = ap (λ (f : Fresh). f.node) (get_or_default fs x.0 d d x.1 ∙ x.2) in
-            let by : (get_or fs y.0 d) ≡ (record { node = n; channels = b }) = get_or_default fs y.0 d (record { node = n; channels = b }) y.1 ∙ y.2 in
-            let bx : (get_or fs y.0 d).node ≡ n = ap (λ (f : Fresh). f.node) by in
-            ⊎_elim
-            (λ (at : x.0 ≡ y.0). ap (λ (f : Fresh). f.channels) (sym (get_or_default fs x.0 d d x.1 ∙ x.2) ∙ ap (λ i. get_or fs i d) at ∙ by))
-            (λ (ne : x.0 ≢ y.0). ⊎_elim
-            (λ (less : x.0 < y.0). let p = ascend x.0 y.0 d less y.1 in absurd (omega (arith, p, ax, bx)))
-            (λ (more : y.0 ≤ x.0). let p = ascend y.0 x.0 d (omega (arith, more, ne)) x.1 in absurd (omega (arith, p, ax, bx)))
-            (cases_lt x.0 y.0))
-            (cases_eq x.0 y.0)
+    same_entry channels other = same_Some channels n_channels (sym (restart_is plan w.sound (suc k) n channels other) ∙ is)
 
     pub allowed : AllowsChannels (kind_at plan n) n_channels
-    allowed = let low = slice_get_within plan.epochs (suc k) named.epoch named.at in
-        (All-contains (IsSoundFresh plan) named.epoch.fresh (record { node = n; channels = n_channels })
-        (subst (λ (x : Epoch). All (IsSoundFresh plan) x.fresh) (get_or_from_slice_get plan.epochs (suc k) named.epoch named.epoch named.at)
-        (w.sound.fresh.each (suc k) named.epoch low)) named.entry).channels
+    allowed = named_allowed plan w.sound (suc k) n n_channels named
 
     -- a sink that is named has had no form, so nothing came to it
     no_stream : kind_at plan n ≡ Sink → (received_until plan out c n).a ≡ []
@@ -375,7 +322,7 @@ module _ (score : Score) (k c n : ℕ) (w : IsEndOf score k c n) where
       anew t stands channels same = record {
         kind = same.0 ∙ st.kind;
         wave = same.1 ∙ st.wave;
-        quantum = same.3 ∙ st.quantum;
+        quantum = λ some. same.3 ∙ st.quantum some;
         frames = same.5 ∙ st.frames;
         prepared = same.6 ∙ st.prepared;
         most = λ j m other. subst (λ x. m ≤ x) (sym same.4) (st.most j m other);
@@ -393,10 +340,6 @@ module _ (score : Score) (k c n : ℕ) (w : IsEndOf score k c n) where
           gone = released_is plan out c n w.sound.follow
               ∙ cond-true (is_released plan.epochs c n) (released (received_until plan out c n)) (received_until plan out c n) goes
 
-          outs : left_channels (node_kind s) (out_channels s) n_channels ≡ out_channels t
-          outs = channels_anew (node_kind s) (node_wave_channels s) (node_channels s) (node_channels t) n_channels channels
-              ∙ (λ i. left_channels (sym same.0 i) (sym same.1 i) (node_channels t))
-
           heard : restarted (node_kind s) n_channels before ≡ heard_by score n t (received_before plan out c n)
-          heard = (λ i. record { wave = wave_of score.waves.value n; frames = sym same.5 i; channels = outs i; a = []; b = [] })
+          heard = restarted_heard score n s t (received_until plan out c n) n_channels channels same
               ∙ ap (λ r. heard_by score n t r) (sym gone)

@@ -4,7 +4,7 @@ use Rattle.std.proofs.Common.{List, [], ◌∷◌, length, map, filter, Option, 
 use Rattle.std.proofs.Common.{refl, sym, ap, ◌∙◌, subst, arith, ⊎_elim, length-append}
 use Rattle.std.specs.List.{list_any, range_with_len}
 use Rattle.std.proofs.lemmas.Bool.{cases_Bool, cases_eq, cond-false, ne_eqb, and_parts}
-use Rattle.std.proofs.lemmas.Option.{same_Some, none-some}
+use Rattle.std.proofs.lemmas.Option.{same_Some, none-some, slice_get_within}
 use Rattle.pw_base.specs.declared.kind.Kind.{Kind}
 use Rattle.pw_base.specs.declared.kind.Kind.TheVariants.{Sink, Meter}
 use Rattle.pw_base.specs.declared.plan.Epoch.{Epoch}
@@ -48,7 +48,7 @@ begins_after f [] k e h at = absurd (none-some e at)
 begins_after f (x ∷ xs) zero e h at = let is = ap (λ (y : Epoch). y.shape.first) (same_Some x e at) in omega (arith, h.0, is)
 begins_after f (x ∷ xs) (suc k) e h at = let more = begins_after (f + x.shape.cycles) xs k e h.1 at in omega (arith, more)
 
-not_released : (f : ℕ) (es : List Epoch) (k : ℕ) (e : Epoch) (c n : ℕ) → FollowFrom f es → slice_get es k ≡ Some e
+pub not_released : (f : ℕ) (es : List Epoch) (k : ℕ) (e : Epoch) (c n : ℕ) → FollowFrom f es → slice_get es k ≡ Some e
     → e.shape.first < c → c < e.shape.first + e.shape.cycles → is_released es c n ≡ false
 not_released f [] k e c n h at low high = absurd (none-some e at)
 not_released f (x ∷ xs) zero e c n h at low high =
@@ -124,6 +124,9 @@ module _ (score : Score) (k c n : ℕ) (w : IsWorkedIn score k c n) where
   worked_on = let one : suc c ≡ c + 1 = omega arith in ap (worked plan n) one ∙ one_more (works plan n) c works_now
 
   module _ (s : NodeState) (st : IsNodeState score k c n s) where
+    pub quantum_is : node_quantum s ≡ plan.quantum
+    quantum_is = st.quantum (let low = slice_get_within plan.epochs k e w.at in omega (arith, low))
+
     -- what it stands for as the cycle begins
     pub before : HasReceivedBefore score c n s
     before = ⊎_elim
@@ -150,7 +153,7 @@ module _ (score : Score) (k c n : ℕ) (w : IsWorkedIn score k c n) where
         let one : suc c ≡ c + 1 = omega arith in
         let on : worked plan n (c + 1) ≡ worked plan n c + 1 = ap (worked plan n) (sym one) ∙ worked_on in
         let enough = within_all plan.quantum (worked plan n c) (worked plan n (all_cycles plan)) (omega (arith, more, on)) in
-        let f = st.frames in let q = st.quantum in let p = st.prepared in
+        let f = st.frames in let q = quantum_is in let p = st.prepared in
         omega (arith, enough, f, q, p)
 
     -- a node without an input drives in no cycle
@@ -184,8 +187,8 @@ module _ (score : Score) (k c n : ℕ) (w : IsWorkedIn score k c n) where
     state_on t same on until = record {
       kind = same.0 ∙ st.kind;
       wave = same.1 ∙ st.wave;
-      quantum = same.2 ∙ st.quantum;
-      frames = on ∙ (λ i. st.frames i + st.quantum i) ∙ times plan.quantum (worked plan n c) ∙ ap (λ m. plan.quantum * m) (sym worked_on);
+      quantum = λ some. same.2 ∙ st.quantum some;
+      frames = on ∙ (λ i. st.frames i + quantum_is i) ∙ times plan.quantum (worked plan n c) ∙ ap (λ m. plan.quantum * m) (sym worked_on);
       prepared = same.5 ∙ st.prepared;
       most = λ j channels named. subst (λ m. channels ≤ m) (sym same.4) (st.most j channels named);
       channels = λ j channels low named stays some. same.3 ∙ st.channels j channels low named stays some;

@@ -29,11 +29,13 @@ wave_channels_of waves n = unwrap_or
 
 -- THE STATE OF A NODE n in epoch k, before the cycle c: it is made for all cycles that the node
 -- works in the run, has the channels that the epoch gives its first input, and stands for what the
--- node has received. A cycle that begins an epoch begins after the node was released, if it is
+-- node has received. A cycle that begins an epoch begins after the node was released, if it is. A
+-- plan without an epoch may have any quantum
 pub record IsNodeState (score : Score) (k c n : ℕ) (s : NodeState) : Type 0 where
   pub kind : node_kind s ≡ kind_at score.plan.value n
   pub wave : node_wave_channels s ≡ wave_channels_of score.waves.value n
-  pub quantum : node_quantum s ≡ score.plan.value.quantum
+  pub quantum : 0 < length score.plan.value.epochs
+      → node_quantum s ≡ score.plan.value.quantum
   pub frames : frames_so_far s ≡ score.plan.value.quantum * worked score.plan.value n c
   pub prepared : prepared_frames s
       ≡ score.plan.value.quantum * worked score.plan.value n (all_cycles score.plan.value)

@@ -1,7 +1,7 @@
 -- From epoch to epoch: which nodes begin their streams anew, and with how many channels.
 -- Source: this project's: a node whose last link went gives up its formats, and its stream starts
 -- anew.
-use Rattle.std.specs.Prelude.{◌≡◌, ℕ, ◌+◌, ◌<◌, ◌==◌, Option, option_map, find, length, slice_get}
+use Rattle.std.specs.Prelude.{◌≡◌, ℕ, suc, ◌+◌, ◌<◌, ◌==◌, Option, option_map, find, length, slice_get}
 use Rattle.pw_base.specs.declared.plan.Epoch.{Epoch}
 use Rattle.pw_base.specs.declared.plan.Plan.{Plan}
 use Rattle.pw_base.specs.PlanFresh.{IsEpoch}
@@ -9,11 +9,16 @@ use Rattle.pw_base.specs.SoundPlan.{IsSoundPlan}
 use Rattle.cycle_model.specs.Epochs.{listed}
 use Rattle.cycle_model.specs.WavesFit.{WavesFit}
 use Rattle.node_progress.specs.declared.score.Score.{Score}
+use Rattle.node_progress.specs.NodeStates.{first_of}
 
 -- the channels with which epoch k names the node as fresh; none where it does not
 abbrev pub restart_of : Plan → ℕ → ℕ → Option ℕ
 restart_of plan k n = option_map (λ f. f.channels)
     (find (λ f. f.node == n) (listed (λ e. e.fresh) (slice_get plan.epochs k)))
+
+-- the first cycle after epoch k
+abbrev pub next_first : Plan → ℕ → ℕ
+next_first plan k = first_of plan (suc k)
 
 -- epoch k ends before the cycle c
 pub record IsEndOf (score : Score) (k c n : ℕ) : Type 0 where

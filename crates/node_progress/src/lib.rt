@@ -6,11 +6,13 @@
 #![tactic(auto)]
 
 mod frames;
+mod preparing;
 mod restarting;
 mod score;
 mod working;
 
-pub use frames::{takes_part, works_in, worked_cycles};
-pub use restarting::enter_next;
+pub use frames::{takes_part, worked_cycles, works_in};
+pub use preparing::prepare_node;
+pub use restarting::{enter_next, restart_in};
 pub use score::Score;
 pub use working::work;

@@ -1,4 +1,4 @@
-use Rattle.node_progress.proofs.StateLemmas.{here, part, renderable, before, has_frames, some_left, state_on}
+use Rattle.node_progress.proofs.StateLemmas.{here, part, renderable, before, has_frames, some_left, state_on, quantum_is}
 use Rattle.node_progress.proofs.FitLemmas.{came_long, slices, left_fits, right_fits}
 use Rattle.node_progress.proofs.working.work.Goals as goal
 
@@ -14,7 +14,7 @@ process-requires c = let may = c.requires.may in let score = c.args.score.now in
           here = here score k t n w;
           active = part score k t n w;
           kind = may.state.kind;
-          quantum = may.state.quantum;
+          quantum = quantum_is score k t n w s may.state;
           before = before score k t n w s may.state;
           frames = has_frames score k t n w s may.state;
           some = some_left score k t n w s may.state;

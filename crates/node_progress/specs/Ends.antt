@@ -1,0 +1,22 @@
+-- What a node has received at any time of the run, and where the run ends.
+-- Source: PipeWire's documentation, "Graph Scheduling": a node runs after those it depends on.
+use Rattle.std.specs.Prelude.{ℕ, ◌==◌, length, if◌then◌else◌}
+use Rattle.cycle_model.specs.declared.received.Received.{Received}
+use Rattle.cycle_model.specs.Cycle.{outputs}
+use Rattle.cycle_model.specs.Epochs.{all_cycles}
+use Rattle.cycle_model.specs.Progress.{received_until, received_before}
+use Rattle.node_state.specs.declared.node_state.NodeState.{NodeState}
+use Rattle.node_progress.specs.declared.score.Score.{Score}
+use Rattle.node_progress.specs.NodeStates.{first_of, IsNodeState}
+
+-- what the node n has received before the cycle c of epoch k. A cycle that begins the epoch begins
+-- after the node was released, if it is
+abbrev pub received_now : Score → ℕ → ℕ → ℕ → Received
+received_now score k c n = if c == first_of score.plan.value k
+    then received_before score.plan.value (outputs score.plan.value score.waves.value) c n
+    else received_until score.plan.value (outputs score.plan.value score.waves.value) c n
+
+-- the state of the node n after all epochs
+abbrev pub IsNodeAtEnd : Score → ℕ → NodeState → Type 0
+IsNodeAtEnd score n s = IsNodeState score (length score.plan.value.epochs)
+    (all_cycles score.plan.value) n s
