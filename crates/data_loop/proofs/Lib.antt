@@ -10,3 +10,6 @@ pub mod SameLemmas
 pub mod MemberLemmas
 pub mod RoomLemmas
 pub mod LoopLemmas
+pub mod PoolCountLemmas
+pub mod StartLemmas
+pub mod EpochLemmas

@@ -13,3 +13,4 @@ pub mod StageParts
 pub mod Tables
 pub mod Loops
 pub mod LoopsOnBoards
+pub mod LoopStart

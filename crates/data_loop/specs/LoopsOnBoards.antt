@@ -63,3 +63,9 @@ pub record IsSameBut (s t : LoopState) : Type 0 where
 abbrev pub HasTurnedOnce : BoardLayout → LoopState → Did → LoopState → Type 0
 HasTurnedOnce p s did t = (g h : Stage) → HasStage s s.epoch g → HasStage t t.epoch h
     → IsDid p g did t.found.items h
+
+-- what the way into the next epoch leaves as it was
+pub record IsNextOf (s t : LoopState) : Type 0 where
+  pub score : t.score ≡ s.score
+  pub nodes : t.nodes ≡ s.nodes
+  pub stages : t.stages.items ≡ s.stages.items

@@ -2,7 +2,7 @@
 -- nodes that begin anew, and the free blocks of the epoch's pools.
 -- Source: PipeWire's documentation, "Graph Scheduling"; which loop has a node is this project's
 -- own.
-use Rattle.std.specs.Prelude.{◌≡◌, ℕ, List, All, map}
+use Rattle.std.specs.Prelude.{◌≡◌, ℕ, ◌<◌, List, [], All, Option, None, option_map, length, map, slice_get, slice_index_or, unwrap_or}
 use Rattle.pw_base.specs.declared.plan.Epoch.{Epoch}
 use Rattle.pw_base.specs.declared.plan.Plan.{Plan}
 use Rattle.pw_base.specs.Pools.{pools_of}
@@ -23,6 +23,14 @@ pub record IsStageOf (plan : Plan) (nodes : List ℕ) (k : ℕ) (e : Epoch)
   pub restarts : g.restarts ≡ map (restart_of plan k) nodes
   pub shapes : g.shapes ≡ pools_of e.shape
 
+-- the restart of the node at an index; none where the list has no such
+abbrev pub restart_at : List (Option ℕ) → ℕ → Option ℕ
+restart_at restarts j = unwrap_or (slice_get restarts j) None
+
+-- the restarts of epoch k; none after the last one
+abbrev pub restarts_in : List Stage → ℕ → List (Option ℕ)
+restarts_in stages k = unwrap_or (option_map (λ g. g.restarts) (slice_get stages k)) []
+
 -- two stages have this alike
 pub record IsSameStage (g h : Stage) : Type 0 where
   pub members : h.members ≡ g.members
@@ -40,6 +48,13 @@ pub record IsFirstStage (plan : Plan) (nodes : List ℕ) (k : ℕ) (seat : Known
     (g : Stage) : Type 0 where
   pub seat_is : g.seat ≡ seat
   pub parts : (e : Epoch) → IsEpoch plan k e → IsStageOf plan nodes k e g × IsUnbegun e g
+
+-- the stages of all epochs, of the loop's seats
+pub record AreFirstStages (plan : Plan) (nodes : List ℕ) (seats : List Known)
+    (stages : List Stage) : Type 0 where
+  pub count : length stages ≡ length seats
+  pub each : (k : ℕ) (d : Known) (g : Stage) → k < length seats
+      → IsFirstStage plan nodes k (slice_index_or seats k d) (slice_index_or stages k g)
 
 -- each of its nodes has room for its quanta
 abbrev pub HasRoomIn : Rows → Stage → Type 0

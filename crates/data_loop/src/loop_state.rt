@@ -1,10 +1,21 @@
 //! One loop of a run.
+ghost use Rattle.std.specs.Prelude.{◌≡◌, ◌<◌, AllPairs, All, IfOk, length};
+ghost use Rattle.pw_base.specs.SoundPlan.{IsSoundPlan};
+ghost use Rattle.cycle_model.specs.WavesFit.{WavesFit};
+ghost use Rattle.data_loop.specs.Loops.{IsBetweenEpochs};
+ghost use Rattle.data_loop.specs.LoopStart.{AreFirstStates, IsLoopOf};
 
+use crate::rooms::{rows_of, widest_of};
 use crate::rows::Rows;
 use crate::stage::Stage;
-use node_progress::Score;
+use crate::stages::stages_of;
+use crate::tables::{room_for, tables_of};
+use board_rule::LoopSeat;
+use node_progress::{Score, prepare_node};
 use node_state::NodeState;
-use pw_base::Items;
+use pw_base::{Items, Memory, Plan};
+use std::alloc::Global;
+use wav_files::WavIn;
 
 /// The nodes of one loop with their states, and what it has in each epoch of the plan: its seat on
 /// the epoch's board, its followers there, and the free blocks of the pools.
@@ -23,4 +34,66 @@ pub struct LoopState {
     pub(crate) epoch: u32,
     // In how many cycles of this epoch `run_driver` ran its driver.
     pub(crate) led: u32,
+}
+
+// The states of the nodes before the first cycle of the run.
+fn states_of(
+    alloc: Global,
+    score: &Score,
+    plan: &Plan,
+    waves: &Items<WavIn>,
+    nodes: &[u32],
+) -> Result<Items<NodeState>, Memory>
+    requires plan_is { score.now.plan.value ≡ plan.now }
+    requires waves_are { score.now.waves.value ≡ waves.now }
+    requires sound { IsSoundPlan plan.now }
+    requires fit { WavesFit plan.now waves.now }
+    requires places { All (λ n. n < length plan.now.nodes) nodes.now }
+    ensures { IfOk result (AreFirstStates score.now nodes.now) }
+{
+    let mut states = Items::new(alloc);
+    for node in nodes {
+        states.push(prepare_node(alloc, score, plan, waves, *node)?)?;
+    }
+    Ok(states)
+}
+
+impl LoopState {
+    /// The loop of these nodes, before the first epoch. `nodes` are places of the plan's nodes,
+    /// ascending, none twice. `seats` has one seat an epoch, in order; after `Memory` they are
+    /// dropped. From then on no call takes memory.
+    pub fn new(
+        alloc: Global,
+        plan: &Plan,
+        waves: &Items<WavIn>,
+        nodes: &Items<u32>,
+        seats: Items<LoopSeat>,
+    ) -> Result<LoopState, Memory>
+        requires sound { IsSoundPlan plan.now }
+        requires waves { WavesFit plan.now waves.now }
+        requires nodes { AllPairs (λ m n. m < n) nodes.now }
+        requires places { All (λ n. n < length plan.now.nodes) nodes.now }
+        requires seats { length seats ≡ length plan.now.epochs }
+        ensures between { IfOk result IsBetweenEpochs }
+        ensures of { IfOk result (IsLoopOf plan.now waves.now nodes.now seats) }
+    {
+        let score = Score::of(plan, waves);
+        let stages = stages_of(alloc, plan, nodes.as_slice(), seats)?;
+        let states = states_of(alloc, &score, plan, waves, nodes.as_slice())?;
+        let rows = rows_of(alloc, widest_of(stages.as_slice()))?;
+        let found = room_for(alloc, nodes.len())?;
+        let tables = tables_of(alloc, nodes.len())?;
+        let nodes = nodes.copy(alloc)?;
+        Ok(LoopState {
+            score,
+            nodes,
+            states: states.into_vec(),
+            stages: stages.into_vec(),
+            rows,
+            found,
+            tables,
+            epoch: 0,
+            led: 0,
+        })
+    }
 }

@@ -2,7 +2,7 @@
 //!
 //! A vector that is filled anew in each turn is no `Items`, and an `Items` that grows may ask for
 //! memory: so of each length there is one list, made before.
-ghost use Rattle.std.specs.Prelude.{◌≡◌, ◌+◌, ◌<◌, ◌≤◌, [], IfOk, length, slice_index_or};
+ghost use Rattle.std.specs.Prelude.{◌≡◌, ◌+◌, ◌<◌, ◌≤◌, [], IfOk, length, slice_index_or, vec_capacity};
 ghost use Rattle.data_loop.specs.Tables.{AreTables};
 
 use pw_base::{Items, Memory};
@@ -34,4 +34,15 @@ pub(crate) fn tell(tables: &mut Items<Items<(u32, u64)>>, found: &[(u32, u64)])
 {
     let table = &mut tables.as_mut_slice()[found.len()];
     table.as_mut_slice().copy_from_slice(found);
+}
+
+/// Room for so many tries.
+pub(crate) fn room_for(alloc: Global, most: usize) -> Result<Vec<(u32, u64)>, Memory>
+    ensures empty { IfOk result (λ found. found.items ≡ []) }
+    ensures room { IfOk result (λ found. most ≤ vec_capacity found) }
+{
+    match Vec::with_capacity(alloc, most) {
+        Ok(found) => Ok(found),
+        Err(_refused) => Err(Memory),
+    }
 }

@@ -1,0 +1,96 @@
+//! What a loop has in each epoch, made before the first one begins.
+ghost use Rattle.std.specs.Prelude.{◌≡◌, ◌<◌, ◌≤◌, ◌^◌, All, IfOk, length, map};
+ghost use Rattle.pw_base.specs.Pools.{pools_of, IsPooledShape};
+ghost use Rattle.pw_base.specs.SoundPlan.{IsSoundPlan};
+ghost use Rattle.node_progress.specs.Restarts.{restart_of};
+ghost use Rattle.io_areas.specs.FreeBlocks.{free_at_start};
+ghost use Rattle.data_loop.specs.StageParts.{IsFirstStage, AreFirstStages};
+
+use crate::members::members_by;
+use crate::stage::Stage;
+use board_rule::LoopSeat;
+use buffer_pool::Pool;
+use io_areas::free_at_start;
+use node_progress::restart_in;
+use pw_base::{Items, Memory, Plan, PoolShape, Shape, pools_of};
+use std::alloc::Global;
+
+// The free blocks of each pool.
+fn free_of(alloc: Global, shape: &Shape, pools: &[PoolShape]) -> Result<Items<Pool>, Memory>
+    requires { All (λ x. (1 ≤ x.blocks) × (x.blocks ≤ 8)) pools.now }
+    ensures { IfOk result (λ free. free ≡ map (free_at_start shape.now) pools.now) }
+{
+    let mut free = Items::new(alloc);
+    for pool in pools {
+        free.push(free_at_start(alloc, shape, pool)?)?;
+    }
+    Ok(free)
+}
+
+// With how many channels the epoch begins each of the nodes anew, none where it does not.
+fn restarts_of(
+    alloc: Global,
+    plan: &Plan,
+    epoch: usize,
+    nodes: &[u32],
+) -> Result<Items<Option<u32>>, Memory>
+    requires few { epoch < 2 ^ 32 }
+    ensures { IfOk result
+        (λ restarts. restarts ≡ map (restart_of plan.now epoch) nodes.now) }
+{
+    let mut restarts = Items::new(alloc);
+    for node in nodes {
+        restarts.push(restart_in(plan, epoch as u32, *node))?;
+    }
+    Ok(restarts)
+}
+
+// What the loop of these nodes has in an epoch, with its seat there.
+fn stage_of(
+    alloc: Global,
+    plan: &Plan,
+    nodes: &[u32],
+    epoch: usize,
+    seat: LoopSeat,
+) -> Result<Stage, Memory>
+    requires sound { IsSoundPlan plan.now }
+    requires inside { epoch < length plan.now.epochs }
+    requires few { length nodes.now ≤ 63 }
+    ensures { IfOk result (IsFirstStage plan.now nodes.now epoch seat) }
+{
+    let restarts = restarts_of(alloc, plan, epoch, nodes)?;
+    let epoch = &plan.epochs.as_slice()[epoch];
+    let shapes = pools_of(alloc, &epoch.shape)?;
+    let free = free_of(alloc, &epoch.shape, shapes.as_slice())?.into_vec();
+    let members = members_by(alloc, plan, epoch, shapes.as_slice(), nodes, false)?;
+    let driver = members_by(alloc, plan, epoch, shapes.as_slice(), nodes, true)?;
+    Ok(Stage {
+        seat,
+        members,
+        driver,
+        restarts,
+        shapes,
+        free,
+    })
+}
+
+/// What the loop of these nodes has in each epoch, with its seats, one an epoch.
+pub(crate) fn stages_of(
+    alloc: Global,
+    plan: &Plan,
+    nodes: &[u32],
+    seats: Items<LoopSeat>,
+) -> Result<Items<Stage>, Memory>
+    requires sound { IsSoundPlan plan.now }
+    requires few { length nodes.now ≤ 63 }
+    requires count { length seats ≡ length plan.now.epochs }
+    ensures { IfOk result (AreFirstStages plan.now nodes.now seats) }
+{
+    let mut stages = Items::new(alloc);
+    let mut epoch = 0;
+    for seat in seats.into_vec() {
+        stages.push(stage_of(alloc, plan, nodes, epoch, seat)?)?;
+        epoch += 1;
+    }
+    Ok(stages)
+}
