@@ -1,20 +1,18 @@
 -- From step to step of the driver's turn.
-use Rattle.std.proofs.Common.{◌≡◌, ◌≢◌, ℕ, ◌+◌, ◌*◌, ◌<◌, ◌≤◌, true, List, length, refl, sym, ap, ◌∙◌, subst, arith}
+use Rattle.std.proofs.Common.{◌≡◌, ℕ, ◌+◌, ◌*◌, ◌<◌, ◌≤◌, true, List, length, refl, sym, ap, ◌∙◌, subst}
 use Rattle.std.proofs.Common.{nat_lt, cond}
-use Rattle.std.specs.Prelude.{Contains, slice_index_or}
+use Rattle.std.specs.Prelude.{slice_index_or}
 use Rattle.std.proofs.lemmas.List.{get_or_default}
 use Rattle.pw_base.specs.declared.shape.Shape.{Shape}
-use Rattle.pw_base.specs.declared.plan.Epoch.{Epoch}
 use Rattle.pw_base.specs.Layout.{event_count}
 use Rattle.pw_base.specs.KindPorts.{input_count}
 use Rattle.pw_base.specs.PlanForms.{kind_at}
-use Rattle.cycle_model.specs.Epochs.{channels_of}
 use Rattle.board_rule.specs.declared.board_shape.BoardShape.{BoardShape}
 use Rattle.board_rule.specs.declared.view.DriverPhase.TheVariants.{FinishStored}
 use Rattle.board_rule.specs.declared.view.ReadView.{ReadView}
 use Rattle.board_rule.specs.declared.view.View.{View}
 use Rattle.board_rule.specs.Layout.{BoardLayout, layout_of, nodes}
-use Rattle.board_rule.specs.EndViews.{reader_of, read_of, link_at, pool_of}
+use Rattle.board_rule.specs.EndViews.{read_of, link_at}
 use Rattle.board_rule.specs.SeatNodes.{HasNode}
 use Rattle.board_rule.specs.WorkSteps.{untold, IsReadyToFinish}
 use Rattle.board_rule.proofs.WiringLemmas.{wired}
@@ -23,7 +21,7 @@ use Rattle.activation_words.specs.Calls.{started, worked, HasFinished}
 use Rattle.io_areas.specs.PooledBoard.{IsPooledBoard}
 use Rattle.io_areas.specs.Ends.{IsReadUpTo}
 use Rattle.node_progress.specs.declared.score.Score.{Score}
-use Rattle.node_progress.specs.Standing.{port_at, wide_at}
+use Rattle.node_progress.specs.Standing.{wide_at}
 use Rattle.node_progress.proofs.FitLemmas.{now_is}
 use Rattle.data_loop.specs.declared.inputs.Input.{Input}
 use Rattle.data_loop.specs.declared.member.Member.{Member}
@@ -31,7 +29,7 @@ use Rattle.data_loop.specs.turns.Ends.{reads_of}
 use Rattle.data_loop.specs.turns.Hearing.{MayHearAll, AreHeard}
 use Rattle.data_loop.specs.Inputs.{AreLong, IsWide}
 use Rattle.data_loop.specs.Gathering.{inputs_of}
-use Rattle.data_loop.specs.Members.{input_width, member_of}
+use Rattle.data_loop.specs.Members.{input_width}
 use Rattle.data_loop.proofs.turns.EndsLemmas.{read_by, reads_it, reads_once}
 use Rattle.data_loop.proofs.turns.HearingLemmas.{read_moves}
 use Rattle.data_loop.proofs.PlayLemmas.{few_inputs, all_long, all_wide}

@@ -1,1 +1,2 @@
 pub mod DrivingLemmas
+pub mod LeadingLemmas

@@ -60,7 +60,17 @@ fn drive_turn<G: Gate>(
         a,
         b,
     );
-    work(score, epoch, member.node, cycle, state, a, b, &mut [], &mut []);
+    work(
+        score,
+        epoch,
+        member.node,
+        cycle,
+        state,
+        a,
+        b,
+        &mut [],
+        &mut [],
+    );
     finish(board, seat, driver);
 }
 
@@ -169,8 +179,8 @@ pub fn pass_driver<G: Gate>(board: &Board, seat: &mut DriverSeat, cycle: u32, ga
     ensures table { seat.new.table ≡ seat.old.table }
     ensures driven { HasDriven (layout board.now) seat.old.knows cycle seat.new.knows }
 {
-    let driver = board.shape().driver;
-    start(board, seat, driver);
-    gate.enter(driver, cycle);
-    finish(board, seat, driver);
+    let node = board.shape().driver;
+    start(board, seat, node);
+    gate.enter(node, cycle);
+    finish(board, seat, node);
 }

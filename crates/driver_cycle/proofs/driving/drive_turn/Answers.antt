@@ -1,4 +1,4 @@
-use Rattle.std.proofs.Common.{◌≡◌, ◌∙◌, ℕ, true, List, length, refl, sym, ap, subst, arith, inl, ◌⊎◌, ◌≤◌}
+use Rattle.std.proofs.Common.{◌≡◌, ◌∙◌, ℕ, true, List, length, refl, sym, ap, subst, arith, inl, ◌≤◌}
 use Rattle.pw_base.specs.declared.shape.Shape.{Shape}
 use Rattle.board_rule.specs.declared.view.View.{View}
 use Rattle.board_rule.specs.Layout.{layout_of, index_in}
@@ -59,10 +59,10 @@ gather-requires-clause-hears g c = let p = layout_of c.args.board.now.board_shap
 
 pub gather-requires-clause-second : goal.gather-requires-clause-second
 gather-requires-clause-second g c = let p = layout_of c.args.board.now.board_shape in let r = c.requires in (
-    subst (λ (y : ℕ × ℕ × List Input). IsWide y.0 y.1 y.2) (λ i. (sym r.first.0 i, sym r.second.0 i, sym c.as_slice.ensures i))
-        (second_fits c.args.score.now p r.pooled c.args.seat.now.knows c.args.epoch c.args.cycle c.args.member.now r.player),
-    r.second.1 ∙ sym r.second.0,
-  )
+  subst (λ (y : ℕ × ℕ × List Input). IsWide y.0 y.1 y.2) (λ i. (sym r.first.0 i, sym r.second.0 i, sym c.as_slice.ensures i))
+      (second_fits c.args.score.now p r.pooled c.args.seat.now.knows c.args.epoch c.args.cycle c.args.member.now r.player),
+  r.second.1 ∙ sym r.second.0,
+)
 
 pub work-requires : goal.work-requires
 work-requires g c = record {
