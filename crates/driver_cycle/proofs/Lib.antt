@@ -1,0 +1,2 @@
+pub mod DrivingLemmas
+pub mod LeadingLemmas
