@@ -13,3 +13,4 @@ pub mod LoopLemmas
 pub mod PoolCountLemmas
 pub mod StartLemmas
 pub mod EpochLemmas
+pub mod DrivingLemmas

@@ -14,3 +14,5 @@ pub mod Tables
 pub mod Loops
 pub mod LoopsOnBoards
 pub mod LoopStart
+pub mod Driving
+pub mod LoopDriver

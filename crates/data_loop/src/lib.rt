@@ -5,9 +5,11 @@
 #![tactic(auto)]
 
 mod did;
+mod driving;
 mod gathering;
 mod giving;
 mod inputs;
+mod loop_driver;
 mod loop_epochs;
 mod loop_state;
 mod loop_turn;
@@ -23,6 +25,7 @@ mod tried;
 mod turning;
 
 pub use did::Did;
+pub use driving::{pass_driver, play_driver};
 pub use gathering::gather;
 pub use inputs::{Input, hear_all};
 pub use loop_state::LoopState;

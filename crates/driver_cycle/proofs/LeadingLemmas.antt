@@ -15,7 +15,7 @@ use Rattle.activation_words.specs.CycleCalls.{HasBegun, HasChecked, HasEnded}
 use Rattle.io_areas.specs.Ends.{IsReadUpTo}
 use Rattle.node_progress.specs.declared.score.Score.{Score}
 use Rattle.data_loop.proofs.turns.HearingLemmas.{read_moves}
-use Rattle.driver_cycle.specs.Driving.{IsDriverRead, MayDrive, HasDriven}
+use Rattle.data_loop.specs.Driving.{IsDriverRead, MayDrive, HasDriven}
 use Rattle.driver_cycle.specs.Leading.{IsLeading, IsBetween, IsWaiting, HasEndedAll}
 use Rattle.driver_cycle.specs.Rounds.{HasLooked}
 

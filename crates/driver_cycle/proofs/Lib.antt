@@ -1,2 +1,1 @@
-pub mod DrivingLemmas
 pub mod LeadingLemmas

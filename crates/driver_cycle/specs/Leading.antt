@@ -10,7 +10,7 @@ use Rattle.board_rule.specs.OnBoard.{IsOn, layout}
 use Rattle.board_rule.specs.Known.{Known}
 use Rattle.io_areas.specs.PooledBoard.{IsPooledBoard}
 use Rattle.node_progress.specs.declared.score.Score.{Score}
-use Rattle.driver_cycle.specs.Driving.{IsDriverRead}
+use Rattle.data_loop.specs.Driving.{IsDriverRead}
 
 -- between two cycles, waiting for the driver's node, and at the end: views of the seat
 pub use Rattle.activation_words.specs.Members.{IsBetween, IsWaiting, IsDriving}

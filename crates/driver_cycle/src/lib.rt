@@ -6,10 +6,8 @@
 //! Where the node is awake, it calls `play_driver` or `pass_driver`, and then `end`.
 #![tactic(auto)]
 
-mod driving;
 mod rounds;
 #[cfg(test)]
 mod tests;
 
-pub use driving::{pass_driver, play_driver};
 pub use rounds::{begin_next, look};

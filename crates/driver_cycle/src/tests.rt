@@ -4,7 +4,7 @@ ghost use Rattle.board_rule.specs.OnBoard.{IsOn, layout};
 ghost use Rattle.io_areas.specs.PooledBoard.{IsPooledBoard};
 ghost use Rattle.node_progress.specs.NodeStates.{IsNodeState};
 ghost use Rattle.data_loop.specs.Rooms.{HasRowsFor};
-ghost use Rattle.driver_cycle.specs.Driving.{HasNoLinkIn, MayDrive, IsDriverPlayer};
+ghost use Rattle.data_loop.specs.Driving.{HasNoLinkIn, MayDrive, IsDriverPlayer};
 ghost use Rattle.driver_cycle.specs.Leading.{IsBetween};
 
 use crate::{begin_next, look, pass_driver, play_driver};

@@ -1,6 +1,6 @@
 use Rattle.std.proofs.Common.{sym, subst}
 use Rattle.board_rule.specs.Layout.{layout_of}
-use Rattle.driver_cycle.specs.Driving.{MayDrive}
+use Rattle.data_loop.specs.Driving.{MayDrive}
 use Rattle.driver_cycle.proofs.LeadingLemmas.{woken_may}
 use Rattle.driver_cycle.proofs.tests.one_cycle.Goals as goal
 

@@ -11,8 +11,8 @@ use Rattle.data_loop.specs.Inputs.{links_of, AreLong, IsWide}
 use Rattle.data_loop.proofs.TurnLemmas.{links_are}
 use Rattle.data_loop.proofs.PlayLemmas.{board_is}
 use Rattle.node_progress.proofs.StateLemmas.{here}
-use Rattle.driver_cycle.proofs.DrivingLemmas.{may_hear, ready, driven, inputs_are, few, first_wide, second_wide, long, second_fits}
-use Rattle.driver_cycle.proofs.driving.drive_turn.Goals as goal
+use Rattle.data_loop.proofs.DrivingLemmas.{may_hear, ready, driven, inputs_are, few, first_wide, second_wide, long, second_fits}
+use Rattle.data_loop.proofs.driving.drive_turn.Goals as goal
 
 pub gather-requires-clause-phase : goal.gather-requires-clause-phase
 gather-requires-clause-phase g c = let shape = c.args.board.now.board_shape in let p = layout_of shape in let v : View = c.args.seat.now.knows in

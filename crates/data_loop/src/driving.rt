@@ -4,11 +4,13 @@ ghost use Rattle.board_rule.specs.OnBoard.{IsOn, layout};
 ghost use Rattle.io_areas.specs.PooledBoard.{IsPooledBoard};
 ghost use Rattle.node_progress.specs.NodeStates.{IsNodeState};
 ghost use Rattle.data_loop.specs.Rooms.{HasRowsFor, IsSameRoom};
-ghost use Rattle.driver_cycle.specs.Driving.{HasNoLinkIn, MayDrive, IsDriverPlayer, HasDriven};
+ghost use Rattle.data_loop.specs.Driving.{HasNoLinkIn, MayDrive, IsDriverPlayer, HasDriven};
 
+use crate::gathering::gather;
+use crate::member::Member;
+use crate::rows::Rows;
 use activation_words::{finish, start};
 use board_rule::{Board, DriverSeat};
-use data_loop::{Member, Rows, gather};
 use node_progress::{Score, work};
 use node_state::NodeState;
 use pw_base::Gate;
@@ -105,8 +107,8 @@ fn drive_in<G: Gate>(
     ensures driven { HasDriven (layout board.now) seat.old.knows cycle seat.new.knows }
     ensures state { IsNodeState score.now epoch (suc cycle) member.now.node state.new }
 {
-    let first = member.first_width as usize;
-    let second = member.second_width as usize;
+    let first = member.first_width;
+    let second = member.second_width;
     drive_turn(
         score,
         board,

@@ -33,7 +33,7 @@ use Rattle.data_loop.specs.Members.{input_width}
 use Rattle.data_loop.proofs.turns.EndsLemmas.{read_by, reads_it, reads_once}
 use Rattle.data_loop.proofs.turns.HearingLemmas.{read_moves}
 use Rattle.data_loop.proofs.PlayLemmas.{few_inputs, all_long, all_wide}
-use Rattle.driver_cycle.specs.Driving.{IsDriverRead, HasNoLinkIn, MayDrive, IsDriverPlayer, HasDriven}
+use Rattle.data_loop.specs.Driving.{IsDriverRead, HasNoLinkIn, MayDrive, IsDriverPlayer, HasDriven}
 
 module _ (board_shape : BoardShape) (plain : IsPooledBoard (layout_of board_shape)) (v : View) (c t : ℕ)
     (may : MayDrive (layout_of board_shape) v c) where

@@ -6,8 +6,8 @@ use Rattle.board_rule.specs.WorkSteps.{IsReadyToFinish}
 use Rattle.activation_words.specs.Calls.{started, HasFinished}
 use Rattle.data_loop.specs.turns.Ends.{reads_of}
 use Rattle.data_loop.specs.turns.Hearing.{AreHeard}
-use Rattle.driver_cycle.proofs.DrivingLemmas.{ready, driven, none_heard}
-use Rattle.driver_cycle.proofs.driving.pass_driver.Goals as goal
+use Rattle.data_loop.proofs.DrivingLemmas.{ready, driven, none_heard}
+use Rattle.data_loop.proofs.driving.pass_driver.Goals as goal
 
 pub finish-requires-clause-ready : goal.finish-requires-clause-ready
 finish-requires-clause-ready g c = let shape = c.args.board.now.board_shape in let p = layout_of shape in let v : View = c.args.seat.now.knows in

@@ -1,0 +1,55 @@
+//! The turn of the driver's node by the loop that it belongs to.
+ghost use Rattle.std.specs.Prelude.{◌≡◌, ◌⊎◌, ◌+◌, Contains};
+ghost use Rattle.board_rule.specs.OnBoard.{IsOn, layout, table_of};
+ghost use Rattle.data_loop.specs.Driving.{MayDrive, HasDriven};
+ghost use Rattle.data_loop.specs.LoopsOnBoards.{IsOnBoard, IsSameBut};
+ghost use Rattle.data_loop.specs.LoopDriver.{HasSamplesOf, DrivesFrom, IsTied, HasLed};
+
+use crate::driving::{pass_driver, play_driver};
+use crate::loop_state::LoopState;
+use board_rule::{Board, BoardSeat, DriverSeat};
+use pw_base::Gate;
+
+impl LoopState {
+    /// The turn of the driver's node, which was claimed, from its Start to its Finish, on the board
+    /// of the loop's epoch. Condition: the driver is 63, or a node of this loop that `run_driver`
+    /// has run in each earlier cycle of the epoch, once each. A driver without a form is not
+    /// processed, and node 63 has no state: then only the gate is called. Takes no memory, does not
+    /// wait.
+    pub fn run_driver<G: Gate>(&mut self, board: &Board, seat: &mut DriverSeat, gate: &G)
+        requires stands { IsOnBoard (layout board.now) (table_of board.now) self.old }
+        requires table { IsOn board.now seat.old.table }
+        requires samples { HasSamplesOf self.old seat.old.knows }
+        requires awake { MayDrive (layout board.now) seat.old.knows seat.old.knows.lead.cycle }
+        requires driver { DrivesFrom (layout board.now) self.old }
+        requires each { IsTied (layout board.now) self.old seat.old.knows }
+        ensures stands { IsOnBoard (layout board.now) (table_of board.now) self.new }
+        ensures table { seat.new.table ≡ seat.old.table }
+        ensures driven { let p = layout board.now in
+            HasDriven p seat.old.knows seat.old.knows.lead.cycle seat.new.knows }
+        ensures led { HasLed self.old self.new }
+        ensures same { IsSameBut self.old self.new }
+        ensures stages { self.new.stages.items ≡ self.old.stages.items }
+    {
+        let driver = board.shape().driver;
+        let cycle = board.shape().first + seat.ended(board, driver);
+        let stage = &self.stages[self.epoch as usize];
+        match stage.driver.as_slice().first() {
+            Some(member) => {
+                play_driver(
+                    &self.score,
+                    board,
+                    seat,
+                    member,
+                    self.epoch,
+                    cycle,
+                    &mut self.states[member.at as usize],
+                    &mut self.rows,
+                    gate,
+                );
+                self.led += 1;
+            }
+            None => pass_driver(board, seat, cycle, gate),
+        }
+    }
+}
