@@ -14,3 +14,4 @@ pub mod PoolCountLemmas
 pub mod StartLemmas
 pub mod EpochLemmas
 pub mod DrivingLemmas
+pub mod LoopDriverLemmas

@@ -34,22 +34,22 @@ impl LoopState {
         let driver = board.shape().driver;
         let cycle = board.shape().first + seat.ended(board, driver);
         let stage = &self.stages[self.epoch as usize];
-        match stage.driver.as_slice().first() {
-            Some(member) => {
-                play_driver(
-                    &self.score,
-                    board,
-                    seat,
-                    member,
-                    self.epoch,
-                    cycle,
-                    &mut self.states[member.at as usize],
-                    &mut self.rows,
-                    gate,
-                );
-                self.led += 1;
-            }
-            None => pass_driver(board, seat, cycle, gate),
+        if stage.driver.len() == 0 {
+            pass_driver(board, seat, cycle, gate);
+            return;
         }
+        let member = &stage.driver.as_slice()[0];
+        play_driver(
+            &self.score,
+            board,
+            seat,
+            member,
+            self.epoch,
+            cycle,
+            &mut self.states[member.at as usize],
+            &mut self.rows,
+            gate,
+        );
+        self.led += 1;
     }
 }

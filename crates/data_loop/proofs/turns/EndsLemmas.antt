@@ -41,7 +41,7 @@ module _ {X : Type 0} (node : X → ℕ) (n : ℕ) (xs : List X) where
       subst (Contains indexes) z (has_index test 0 xs l d low (eq-eqb (node (get_or xs l d)) n e))
 
 module _ (p : BoardLayout) (plain : IsPooledBoard p) where
-  all_wired : Wired p
+  pub all_wired : Wired p
   all_wired = wired p plain.sound plain.pooled
 
   -- the pool of a link is filled by the link's writer
