@@ -15,3 +15,4 @@ pub mod StartLemmas
 pub mod EpochLemmas
 pub mod DrivingLemmas
 pub mod LoopDriverLemmas
+pub mod BeginLemmas

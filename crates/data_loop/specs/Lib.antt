@@ -16,3 +16,4 @@ pub mod LoopsOnBoards
 pub mod LoopStart
 pub mod Driving
 pub mod LoopDriver
+pub mod LoopKept

@@ -11,6 +11,7 @@ mod giving;
 mod inputs;
 mod loop_driver;
 mod loop_epochs;
+mod loop_kept;
 mod loop_state;
 mod loop_turn;
 mod member;

@@ -1,0 +1,36 @@
+-- What the nodes of a loop keep, at any time and at the end of the run.
+-- Source: this project's own: sinks keep the streams that come to them, meters their peaks.
+use Rattle.std.specs.Prelude.{◌≡◌, ℕ, ℤ, ◌<◌, List, length, slice_index_or}
+use Rattle.pw_base.specs.KindFunction.{Heard}
+use Rattle.pw_base.specs.Samples.{peak_of}
+use Rattle.cycle_model.specs.Rendering.{end_stream}
+use Rattle.node_state.specs.declared.node_state.NodeState.{NodeState}
+use Rattle.node_state.specs.StandsFor.{StandsFor, node_kind, kept_stream}
+use Rattle.node_state.specs.Streams.{peak_heard}
+use Rattle.data_loop.specs.declared.loop_state.LoopState.{LoopState}
+use Rattle.data_loop.specs.Loops.{plan_of, node_at, IsBetweenEpochs}
+
+-- the state of a node of the loop
+abbrev pub IsStateOf : LoopState → ℕ → NodeState → Type 0
+IsStateOf s n x = (j : ℕ) × (j < length s.nodes) × (node_at s j ≡ n)
+    × ((d : NodeState) → slice_index_or s.states.items j d ≡ x)
+
+-- all epochs are done
+abbrev pub IsDone : LoopState → Type 0
+IsDone s = IsBetweenEpochs s × (s.epoch ≡ length (plan_of s).epochs)
+
+-- the stream is what the sink's state has kept; at the end of the run, the sink's whole stream
+abbrev pub Keeps : LoopState → ℕ → List ℤ → Type 0
+Keeps s n stream = (x : NodeState) × IsStateOf s n x × (stream ≡ kept_stream x)
+
+abbrev pub KeepsAtEnd : LoopState → ℕ → List ℤ → Type 0
+KeepsAtEnd s n stream = IsDone s → stream ≡ end_stream (plan_of s) s.score.waves.value n
+
+-- the number is the peak of all that the meter's state stands for; at the end of the run, that of
+-- the meter's whole stream
+abbrev pub HasPeak : LoopState → ℕ → ℕ → Type 0
+HasPeak s n peak = (x : NodeState) × IsStateOf s n x
+    × ((h : Heard) → StandsFor x h → peak ≡ peak_heard (node_kind x) h)
+
+abbrev pub HasPeakAtEnd : LoopState → ℕ → ℕ → Type 0
+HasPeakAtEnd s n peak = IsDone s → peak ≡ peak_of (end_stream (plan_of s) s.score.waves.value n)
