@@ -27,7 +27,7 @@ fn has_form(epoch: &Epoch, node: u32) -> bool
 }
 
 // Whether it works in the epoch: it is active, and where it drives, its input has a form.
-fn works_in(epoch: &Epoch, node: u32) -> bool
+pub(crate) fn works_in(epoch: &Epoch, node: u32) -> bool
     ensures { result ≡ works_in epoch.now node }
 {
     let formed = has_form(epoch, node);
