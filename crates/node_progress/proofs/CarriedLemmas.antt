@@ -1,10 +1,9 @@
 -- What comes to an input in an epoch of one cycle, over no link or over one.
-use Rattle.std.proofs.Common.{◌≡◌, ℕ, zero, suc, ◌+◌, ◌*◌, ◌<◌, ◌≤◌, Bool, true, false, nat_lt, cond, List, [], ◌∷◌, length, map, filter, find}
-use Rattle.std.proofs.Common.{fold, Option, Some, None, count_by, ℤ, refl, sym, ap, ◌∙◌, subst, arith, ⊎_elim}
+use Rattle.std.proofs.Common.{◌≡◌, ℕ, ◌+◌, ◌*◌, ◌<◌, ◌≤◌, Bool, true, false, nat_lt, List, [], ◌∷◌, length, map, filter, find}
+use Rattle.std.proofs.Common.{fold, Some, None, count_by, ℤ, refl, sym, ap, ◌∙◌, subst, arith, ⊎_elim}
 use Rattle.std.proofs.lemmas.Bool.{cases_Bool, cond-true, cond-false, lt-ltb}
 use Rattle.std.proofs.lemmas.List.Sums.{length-filter}
 use Rattle.std.proofs.lemmas.Option.{same_Some, none-some}
-use Rattle.pw_base.specs.declared.ids.PortId.{PortId}
 use Rattle.pw_base.specs.declared.plan.Epoch.{Epoch}
 use Rattle.pw_base.specs.declared.plan.Plan.{Plan}
 use Rattle.pw_base.specs.declared.shape.ShapeLink.{ShapeLink}
@@ -14,7 +13,7 @@ use Rattle.pw_base.specs.PlanFresh.{IsEpoch}
 use Rattle.pw_base.specs.Pools.{is_same_port}
 use Rattle.pw_base.specs.Samples.{clamped, silence, summed}
 use Rattle.pw_base.specs.SoundPlan.{IsSoundPlan}
-use Rattle.cycle_model.specs.Epochs.{epoch_at, listed, channels_of, first_at}
+use Rattle.cycle_model.specs.Epochs.{epoch_at, listed, channels_of}
 use Rattle.cycle_model.specs.Cycle.{Outputs, outputs, brought, input_of}
 use Rattle.cycle_model.proofs.ExpectedLemmas.{cycle_in}
 use Rattle.node_progress.specs.declared.score.Score.{Score}

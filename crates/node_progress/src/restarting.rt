@@ -28,9 +28,8 @@ pub fn restart_in(plan: &Plan, epoch: u32, node: u32) -> Option<u32>
 }
 
 /// The state of a node that has done all cycles of the epoch `epoch`, up to the cycle `cycle`, goes
-/// into the next one:
-/// where that epoch names the node as fresh, its stream begins anew with `restart` channels. Takes
-/// no memory; a delay writes its line over with zeros.
+/// into the next one: where that epoch names the node as fresh, its stream begins anew with
+/// `restart` channels. Takes no memory; a delay writes its line over with zeros.
 pub fn enter_next(
     score: &Score,
     epoch: u32,

@@ -1,4 +1,4 @@
-use Rattle.std.proofs.Common.{◌≡◌, ◌∙◌, ◌*◌, ◌≤◌, ◌<◌, ℤ, Bor, List, Option, IfSome, Some, None, arith, sym, ap, subst, length, find, count_by, option_copied}
+use Rattle.std.proofs.Common.{◌≡◌, ◌∙◌, ◌*◌, ◌≤◌, ℤ, Bor, List, Option, IfSome, arith, sym, ap, subst, length, find, count_by, option_copied}
 use Rattle.pw_base.specs.declared.plan.Plan.{Plan}
 use Rattle.pw_base.specs.declared.shape.ShapeLink.{ShapeLink}
 use Rattle.pw_base.specs.KindPorts.{input_count}
