@@ -25,7 +25,7 @@ impl LoopState {
     /// The stream of a sink of this loop so far: at the end of the run, its whole stream. Takes no
     /// memory.
     pub fn kept(&self, node: u32) -> &[i16]
-        requires loop { IsLoop self.now }
+        requires whole { IsLoop self.now }
         requires own { Contains self.now.nodes node }
         requires sink { kind_at (plan_of self.now) node ≡ Sink }
         ensures state { Keeps self.now node result.now }
@@ -37,7 +37,7 @@ impl LoopState {
     /// The greatest absolute value that came to a meter of this loop so far, 0 to 32768. Takes no
     /// memory.
     pub fn greatest(&self, node: u32) -> u32
-        requires loop { IsLoop self.now }
+        requires whole { IsLoop self.now }
         requires own { Contains self.now.nodes node }
         requires meter { kind_at (plan_of self.now) node ≡ Meter }
         ensures state { HasPeak self.now node result }

@@ -7,3 +7,4 @@ pub mod IdleLemmas
 pub mod FrameLemmas
 pub mod PrepareLemmas
 pub mod EndLemmas
+pub mod CarriedLemmas

@@ -9,6 +9,8 @@ mod frames;
 mod preparing;
 mod restarting;
 mod score;
+#[cfg(test)]
+mod tests;
 mod working;
 
 pub use frames::{takes_part, worked_cycles, works_in};

@@ -1,0 +1,381 @@
+//! Three nodes in a row, a source, a node between and a sink that drives, through a plan whose
+//! epochs have a cycle each.
+ghost use Rattle.std.specs.Prelude.{◌≡◌, ◌<◌, ◌*◌, List, ℤ, suc, true, length, map, find, count_by, false, option_copied, IfOk, IfSome, IsTrue};
+ghost use Rattle.pw_base.specs.KindPorts.{input_count, output_count};
+ghost use Rattle.pw_base.specs.PlanForms.{kind_at};
+ghost use Rattle.pw_base.specs.PlanFresh.{IsEpoch};
+ghost use Rattle.pw_base.specs.Pools.{is_same_port};
+ghost use Rattle.pw_base.specs.Samples.{clamped, silence, summed};
+ghost use Rattle.pw_base.specs.SoundPlan.{IsSoundPlan};
+ghost use Rattle.cycle_model.specs.Epochs.{channels_of};
+ghost use Rattle.cycle_model.specs.WavesFit.{WavesFit};
+ghost use Rattle.node_progress.specs.NodeStates.{IsNodeState, IsOutputRow};
+ghost use Rattle.node_progress.specs.Standing.{comes_in, goes_out, Gives, works_in};
+
+use crate::frames::works_in;
+use crate::{Score, enter_next, prepare_node, restart_in, work};
+use cycle_model::waves_fit;
+use node_state::NodeState;
+use pw_base::{Epoch, Items, Memory, Plan, PortId, ShapeLink, is_same_port, is_sound_plan};
+use s16_mixer::{clamp_out, mix_into};
+use std::alloc::Global;
+use wav_files::WavIn;
+
+/// The samples of a quantum at each port: two frames of one channel.
+const WIDTH: usize = 2;
+
+// The epoch, if it has one cycle, of its own number.
+fn one_cycle(plan: &Plan, epoch: u32) -> Option<&Epoch>
+    ensures { IfSome result (λ e. IsEpoch plan.now epoch e.now × (e.now.shape.first ≡ epoch)
+        × (e.now.shape.cycles ≡ 1)) }
+{
+    let at = plan.epochs.as_slice().get(epoch as usize)?;
+    if at.shape.first == epoch && at.shape.cycles == 1 {
+        Some(at)
+    } else {
+        None
+    }
+}
+
+// The channels of a port, 0 without a form.
+fn channels_at(epoch: &Epoch, port: PortId) -> u32
+    ensures { result ≡ channels_of epoch.now.forms port }
+{
+    let forms = epoch.forms.as_slice();
+    let form = forms.iter().find(|form| is_same_port(form.port, port));
+    form.map(|form| form.channels).unwrap_or(0)
+}
+
+// How many samples a port has in a quantum.
+fn is_wide(plan: &Plan, epoch: &Epoch, port: PortId, n: usize) -> bool
+    ensures { IsTrue result → n ≡ plan.now.quantum * channels_of epoch.now.forms port }
+{
+    let channels = channels_at(epoch, port) as usize;
+    match (plan.quantum as usize).checked_mul(channels) {
+        Some(wide) => wide == n,
+        None => false,
+    }
+}
+
+// The inputs of a node, and its outputs.
+fn inputs_of(plan: &Plan, node: u32) -> u32
+    ensures { result ≡ input_count (kind_at plan.now node) }
+{
+    match plan.nodes.as_slice().get(node as usize) {
+        Some(known) => known.kind.inputs(),
+        None => 0,
+    }
+}
+
+fn outputs_of(plan: &Plan, node: u32) -> u32
+    ensures { result ≡ output_count (kind_at plan.now node) }
+{
+    match plan.nodes.as_slice().get(node as usize) {
+        Some(known) => known.kind.outputs(),
+        None => 0,
+    }
+}
+
+// Whether a row of so many samples is one of the first output of a node, or is empty.
+fn is_row(plan: &Plan, epoch: &Epoch, node: u32, n: usize) -> bool
+    ensures { IsTrue result → (row : List ℤ) → length row ≡ n
+        → IsOutputRow plan.now epoch.now node 0 row }
+{
+    if n == 0 {
+        return true;
+    }
+    let output = PortId {
+        node,
+        port: inputs_of(plan, node),
+    };
+    outputs_of(plan, node) > 0 && is_wide(plan, epoch, output, n)
+}
+
+// How many links go into a port, and the first of them.
+fn count_into(links: &[ShapeLink], port: PortId) -> usize
+    ensures { result ≡ count_by (λ x. is_same_port x.to port) links.now }
+{
+    links.iter().filter(|x| is_same_port(x.to, port)).count()
+}
+
+fn first_into(links: &[ShapeLink], port: PortId) -> Option<&ShapeLink>
+    ensures { option_copied result ≡ find (λ x. is_same_port x.to port) links.now }
+{
+    links.iter().find(|x| is_same_port(x.to, port))
+}
+
+// Whether a link goes from a port, and is not delayed.
+fn is_from(link: &ShapeLink, port: PortId) -> bool
+    ensures { IsTrue result → (link.now.from ≡ port) × (link.now.delayed ≡ false) }
+{
+    is_same_port(link.from, port) && !link.delayed
+}
+
+// Silence, as an input without a link gets it.
+fn silent(to: &mut [i16]) -> bool
+    ensures { IsTrue result → to.new ≡ map clamped (silence (length to.old)) }
+{
+    if to.len() != WIDTH {
+        return false;
+    }
+    let sum = [0i32; WIDTH];
+    clamp_out(sum.as_slice(), to);
+    true
+}
+
+// One row, as an input with one link gets it.
+fn alone(row: &[i16], to: &mut [i16]) -> bool
+    ensures { IsTrue result → to.new ≡ map clamped (summed (silence (length to.old)) row.now) }
+{
+    if to.len() != WIDTH || row.len() != WIDTH {
+        return false;
+    }
+    let mut sum = [0i32; WIDTH];
+    mix_into(sum.as_mut_slice(), row);
+    clamp_out(sum.as_slice(), to);
+    true
+}
+
+// What comes to the first input of a node, over no link or over one of the node `from`, which gave
+// this row if it worked.
+fn comes(
+    score: &Score,
+    plan: &Plan,
+    at: &Epoch,
+    epoch: u32,
+    node: u32,
+    from: u32,
+    row: Option<&[i16]>,
+    to: &mut [i16],
+) -> bool
+    requires plan_is { score.now.plan.value ≡ plan.now }
+    requires sound { IsSoundPlan score.now.plan.value }
+    requires at { IsEpoch score.now.plan.value epoch at.now }
+    requires cycle { (at.now.shape.first ≡ epoch) × (at.now.shape.cycles ≡ 1) }
+    requires row { IfSome row (λ r. r.now ≡ goes_out score.now epoch from 0) }
+    ensures { IsTrue result → to.new ≡ comes_in score.now epoch node 0 }
+{
+    let _ = score;
+    let _ = epoch;
+    let port = PortId { node, port: 0 };
+    let output = PortId {
+        node: from,
+        port: inputs_of(plan, from),
+    };
+    let links = at.shape.links.as_slice();
+    if inputs_of(plan, node) == 0
+        || !is_wide(plan, at, port, to.len())
+        || count_into(links, port) > 1
+    {
+        return false;
+    }
+    let Some(link) = first_into(links, port) else {
+        return silent(to);
+    };
+    let Some(row) = row else {
+        return false;
+    };
+    if !is_from(link, output) {
+        return false;
+    }
+    alone(row, to)
+}
+
+// A node in its epoch: whether it works there; None where its rows are not such as the plan asks.
+fn pass(
+    score: &Score,
+    plan: &Plan,
+    at: &Epoch,
+    epoch: u32,
+    node: u32,
+    state: &mut NodeState,
+    a: &[i16],
+    left: &mut [i16],
+) -> Option<bool>
+    requires plan_is { score.now.plan.value ≡ plan.now }
+    requires sound { IsSoundPlan score.now.plan.value }
+    requires fit { WavesFit score.now.plan.value score.now.waves.value }
+    requires place { node < length score.now.plan.value.nodes }
+    requires at { IsEpoch score.now.plan.value epoch at.now }
+    requires cycle { (at.now.shape.first ≡ epoch) × (at.now.shape.cycles ≡ 1) }
+    requires state { IsNodeState score.now epoch epoch node state.old }
+    requires a { works_in at.now node ≡ true → a.now ≡ comes_in score.now epoch node 0 }
+    ensures state { IfSome result (λ w. IsNodeState score.now epoch (suc epoch) node state.new) }
+    ensures left { IfSome result (λ w. w ≡ true → Gives score.now epoch node 0 left.old left.new) }
+{
+    if !works_in(at, node) {
+        return Some(false);
+    }
+    if inputs_of(plan, node) > 1 || !is_row(plan, at, node, left.len()) {
+        return None;
+    }
+    work(score, epoch, node, epoch, state, a, &[], left, &mut []);
+    Some(true)
+}
+
+// The same, and on into the next epoch.
+fn step(
+    score: &Score,
+    plan: &Plan,
+    at: &Epoch,
+    epoch: u32,
+    node: u32,
+    state: &mut NodeState,
+    a: &[i16],
+    left: &mut [i16],
+) -> Option<bool>
+    requires plan_is { score.now.plan.value ≡ plan.now }
+    requires sound { IsSoundPlan score.now.plan.value }
+    requires fit { WavesFit score.now.plan.value score.now.waves.value }
+    requires place { node < length score.now.plan.value.nodes }
+    requires at { IsEpoch score.now.plan.value epoch at.now }
+    requires cycle { (at.now.shape.first ≡ epoch) × (at.now.shape.cycles ≡ 1) }
+    requires state { IsNodeState score.now epoch epoch node state.old }
+    requires a { works_in at.now node ≡ true → a.now ≡ comes_in score.now epoch node 0 }
+    ensures state { IfSome result
+        (λ w. IsNodeState score.now (suc epoch) (suc epoch) node state.new) }
+    ensures left { IfSome result (λ w. w ≡ true → Gives score.now epoch node 0 left.old left.new) }
+{
+    let next = epoch.checked_add(1)?;
+    let worked = pass(score, plan, at, epoch, node, state, a, left)?;
+    enter_next(score, epoch, node, state, restart_in(plan, next, node));
+    Some(worked)
+}
+
+// A row that a node gave, if it did.
+fn given(gave: bool, row: &[i16]) -> Option<&[i16]>
+    ensures { IfSome result (λ r. (r.now ≡ row.now) × (gave ≡ true)) }
+{
+    if gave { Some(row) } else { None }
+}
+
+// A node without an input in its epoch.
+fn begin(
+    score: &Score,
+    plan: &Plan,
+    at: &Epoch,
+    epoch: u32,
+    node: u32,
+    state: &mut NodeState,
+    left: &mut [i16],
+) -> Option<bool>
+    requires plan_is { score.now.plan.value ≡ plan.now }
+    requires sound { IsSoundPlan score.now.plan.value }
+    requires fit { WavesFit score.now.plan.value score.now.waves.value }
+    requires place { node < length score.now.plan.value.nodes }
+    requires at { IsEpoch score.now.plan.value epoch at.now }
+    requires cycle { (at.now.shape.first ≡ epoch) × (at.now.shape.cycles ≡ 1) }
+    requires state { IsNodeState score.now epoch epoch node state.old }
+    ensures state { IfSome result
+        (λ w. IsNodeState score.now (suc epoch) (suc epoch) node state.new) }
+    ensures left { IfSome result (λ w. w ≡ true → Gives score.now epoch node 0 left.old left.new) }
+{
+    if inputs_of(plan, node) > 0 {
+        return None;
+    }
+    step(score, plan, at, epoch, node, state, &[], left)
+}
+
+// A node after the node `from`, which gave this row if it worked.
+fn follow(
+    score: &Score,
+    plan: &Plan,
+    at: &Epoch,
+    epoch: u32,
+    node: u32,
+    from: u32,
+    row: Option<&[i16]>,
+    state: &mut NodeState,
+    left: &mut [i16],
+) -> Option<bool>
+    requires plan_is { score.now.plan.value ≡ plan.now }
+    requires sound { IsSoundPlan score.now.plan.value }
+    requires fit { WavesFit score.now.plan.value score.now.waves.value }
+    requires place { node < length score.now.plan.value.nodes }
+    requires at { IsEpoch score.now.plan.value epoch at.now }
+    requires cycle { (at.now.shape.first ≡ epoch) × (at.now.shape.cycles ≡ 1) }
+    requires row { IfSome row (λ r. r.now ≡ goes_out score.now epoch from 0) }
+    requires state { IsNodeState score.now epoch epoch node state.old }
+    ensures state { IfSome result
+        (λ w. IsNodeState score.now (suc epoch) (suc epoch) node state.new) }
+    ensures left { IfSome result (λ w. w ≡ true → Gives score.now epoch node 0 left.old left.new) }
+{
+    let mut heard = [0i16; WIDTH];
+    let a = heard.as_mut_slice();
+    if works_in(at, node) && !comes(score, plan, at, epoch, node, from, row, a) {
+        return None;
+    }
+    step(score, plan, at, epoch, node, state, a, left)
+}
+
+// The whole epoch.
+fn through(
+    score: &Score,
+    plan: &Plan,
+    epoch: u32,
+    source: &mut NodeState,
+    between: &mut NodeState,
+    sink: &mut NodeState,
+) -> bool
+    requires plan_is { score.now.plan.value ≡ plan.now }
+    requires sound { IsSoundPlan score.now.plan.value }
+    requires fit { WavesFit score.now.plan.value score.now.waves.value }
+    requires nodes { 2 < length score.now.plan.value.nodes }
+    requires source { IsNodeState score.now epoch epoch 0 source.old }
+    requires between { IsNodeState score.now epoch epoch 1 between.old }
+    requires sink { IsNodeState score.now epoch epoch 2 sink.old }
+    ensures source { IsTrue result → IsNodeState score.now (suc epoch) (suc epoch) 0 source.new }
+    ensures between { IsTrue result → IsNodeState score.now (suc epoch) (suc epoch) 1 between.new }
+    ensures sink { IsTrue result → IsNodeState score.now (suc epoch) (suc epoch) 2 sink.new }
+{
+    let Some(at) = one_cycle(plan, epoch) else {
+        return false;
+    };
+    let mut first = [0i16; WIDTH];
+    let mut second = [0i16; WIDTH];
+    let Some(gave) = begin(score, plan, at, epoch, 0, source, first.as_mut_slice()) else {
+        return false;
+    };
+    let row = given(gave, first.as_slice());
+    let Some(gave) = follow(
+        score,
+        plan,
+        at,
+        epoch,
+        1,
+        0,
+        row,
+        between,
+        second.as_mut_slice(),
+    ) else {
+        return false;
+    };
+    let row = given(gave, second.as_slice());
+    follow(score, plan, at, epoch, 2, 1, row, sink, &mut []).is_some()
+}
+
+/// What the sink keeps after so many epochs; None where the plan is not sound, its waves do not
+/// fit, or it has not three such nodes.
+pub fn played(
+    alloc: Global,
+    plan: &Plan,
+    waves: &Items<WavIn>,
+    epochs: u32,
+) -> Result<Option<Items<i16>>, Memory> {
+    if !is_sound_plan(plan) || plan.nodes.len() != 3 {
+        return Ok(None);
+    }
+    if !waves_fit(plan, waves) {
+        return Ok(None);
+    }
+    let score = Score::of(plan, waves);
+    let mut source = prepare_node(alloc, &score, plan, waves, 0)?;
+    let mut between = prepare_node(alloc, &score, plan, waves, 1)?;
+    let mut sink = prepare_node(alloc, &score, plan, waves, 2)?;
+    for epoch in 0..epochs {
+        if !through(&score, plan, epoch, &mut source, &mut between, &mut sink) {
+            return Ok(None);
+        }
+    }
+    Ok(Some(Items::from_slice(alloc, sink.kept())?))
+}
