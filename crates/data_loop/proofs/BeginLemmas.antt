@@ -1,10 +1,9 @@
 -- A loop begins an epoch: on the epoch's board all its followers rest.
-use Rattle.std.proofs.Common.{◌≡◌, ◌≢◌, ℕ, suc, ◌+◌, ◌<◌, ◌≤◌, ◌==◌, ◌&&◌, Bool, true, false, true≢false, not, cond, List, [], length, map, get_or, refl, sym, ap, ◌∙◌, subst, arith, ⊎_elim}
-use Rattle.std.proofs.Common.{slice_get, option_map, unwrap_or}
-use Rattle.std.specs.Prelude.{All, AllPairs, Contains}
-use Rattle.std.proofs.lemmas.Bool.{cases_Bool, and_parts, and_from, eq-eqb, or_left}
+use Rattle.std.proofs.Common.{◌≡◌, ◌≢◌, ℕ, ◌+◌, ◌<◌, ◌≤◌, ◌==◌, Bool, true, false, true≢false, not, cond, List, [], length, map, get_or, sym, ap, ◌∙◌, subst, arith}
+use Rattle.std.proofs.Common.{option_map, unwrap_or}
+use Rattle.std.specs.Prelude.{All, Contains}
+use Rattle.std.proofs.lemmas.Bool.{and_parts, and_from, eq-eqb, or_left}
 use Rattle.std.proofs.lemmas.List.{get_or-replicate, get_or-map, get_or_default, length-replicate, length-map}
-use Rattle.std.proofs.lemmas.Option.{slice_get_within}
 use Rattle.atomic_table.specs.Seated.{TableId}
 use Rattle.pw_base.specs.declared.pools.PoolShape.{PoolShape}
 use Rattle.pw_base.specs.declared.plan.Epoch.{Epoch}
@@ -12,7 +11,7 @@ use Rattle.pw_base.specs.declared.plan.Plan.{Plan}
 use Rattle.pw_base.specs.declared.shape.Shape.{Shape}
 use Rattle.pw_base.specs.Dependencies.{nodes_of}
 use Rattle.pw_base.specs.PlanFresh.{IsEpoch}
-use Rattle.pw_base.specs.Pools.{pools_of, IsPooledShape}
+use Rattle.pw_base.specs.Pools.{pools_of}
 use Rattle.cycle_model.specs.Epochs.{all_cycles}
 use Rattle.cycle_model.specs.Expected.{expected_samples}
 use Rattle.cycle_model.specs.Mixing.{takes_part}
@@ -28,20 +27,18 @@ use Rattle.board_rule.specs.Spans.{block_at}
 use Rattle.board_rule.specs.EndViews.{no_link, no_pool, pool_at, read_of, write_of}
 use Rattle.buffer_pool.specs.Queue.{Queue}
 use Rattle.activation_words.proofs.MemberLemmas.{new_rests}
-use Rattle.io_areas.specs.Ends.{IsReadUpTo}
 use Rattle.io_areas.specs.FreeBlocks.{FreeBlocks, free_at_start}
 use Rattle.io_areas.proofs.StartLemmas.{room_there, begins_free}
-use Rattle.node_state.specs.declared.node_state.NodeState.{NodeState}
 use Rattle.node_progress.specs.Standing.{works_in}
 use Rattle.node_progress.specs.NodeStates.{IsNodeState, first_of}
 use Rattle.data_loop.specs.declared.loop_state.LoopState.{LoopState}
 use Rattle.data_loop.specs.declared.member.Member.{Member}
 use Rattle.data_loop.specs.declared.stage.Stage.{Stage}
 use Rattle.data_loop.specs.turns.Turning.{IsEquipped, AreEven, IsAtRest}
-use Rattle.data_loop.specs.Members.{follows, leads, members_of}
+use Rattle.data_loop.specs.Members.{follows, leads}
 use Rattle.data_loop.specs.StageParts.{IsStageOf}
-use Rattle.data_loop.specs.Stages.{IsMemberIn, StandsAt, AreApart}
-use Rattle.data_loop.specs.Loops.{plan_of, HasStage, IsBetweenEpochs, node_at, StateIs}
+use Rattle.data_loop.specs.Stages.{StandsAt, AreApart}
+use Rattle.data_loop.specs.Loops.{plan_of, HasStage, IsBetweenEpochs, node_at}
 use Rattle.data_loop.specs.LoopsOnBoards.{IsFirstSeat, IsOnBoard}
 use Rattle.data_loop.proofs.MemberLemmas.{ComesFrom, comes_from, all_apart}
 use Rattle.data_loop.proofs.PoolCountLemmas.{pools_fit}
@@ -181,7 +178,7 @@ module _ (s : LoopState) (bt : IsBetweenEpochs s) (p : BoardLayout) (t : TableId
     led = let none = bt.none_led in omega (arith, none);
     others = λ j less none d.
         let still : e.shape.first + cond (leads e (node_at s j)) s.led 0 ≡ first_of plan s.epoch = ap (λ n. e.shape.first + cond (leads e (node_at s j)) n 0) bt.none_led
-            ∙ zero_both (leads e (node_at s j)) e.shape.first ∙ sym first_is in
+        ∙ zero_both (leads e (node_at s j)) e.shape.first ∙ sym first_is in
         subst (λ c. IsNodeState s.score s.epoch c (node_at s j) (get_or s.states.items j d)) (sym still) (bt.states j less d);
   }
     where

@@ -1,12 +1,12 @@
 -- A loop at the end of an epoch, and its states in the next one.
-use Rattle.std.proofs.Common.{◌≡◌, ◌≢◌, ℕ, suc, ◌+◌, ◌<◌, ◌≤◌, ◌==◌, ◌&&◌, ◌||◌, Bool, true, false, true≢false, not, cond, List, [], length, get_or, set, refl, sym, ap, ◌∙◌, subst, arith, ⊎_elim}
+use Rattle.std.proofs.Common.{◌≡◌, ◌≢◌, ℕ, suc, ◌+◌, ◌<◌, ◌==◌, ◌&&◌, ◌||◌, Bool, true, false, true≢false, not, cond, List, [], length, get_or, refl, sym, ap, ◌∙◌, subst, arith, ⊎_elim}
 use Rattle.std.proofs.Common.{Option, Some, None, slice_get, option_map, unwrap_or, find}
 use Rattle.std.specs.Prelude.{Vec}
 use Rattle.pw_base.specs.declared.plan.Fresh.{Fresh}
 use Rattle.cycle_model.specs.Epochs.{listed}
-use Rattle.std.specs.Prelude.{All, Contains}
+use Rattle.std.specs.Prelude.{Contains}
 use Rattle.std.specs.List.{list_any}
-use Rattle.std.proofs.lemmas.Bool.{cases_Bool, cases_eq, and_parts, and_from}
+use Rattle.std.proofs.lemmas.Bool.{cases_Bool}
 use Rattle.std.proofs.lemmas.List.{get_or-map}
 use Rattle.std.proofs.lemmas.List.Elements.{All-contains}
 use Rattle.std.proofs.lemmas.Option.{none-some, slice_get_within, slice_get-get_or, unwrap_or-slice_get}
@@ -14,7 +14,6 @@ use Rattle.atomic_table.specs.Seated.{TableId}
 use Rattle.pw_base.specs.declared.plan.Epoch.{Epoch}
 use Rattle.pw_base.specs.declared.plan.Plan.{Plan}
 use Rattle.pw_base.specs.declared.shape.Shape.{Shape}
-use Rattle.pw_base.specs.PlanFresh.{IsEpoch}
 use Rattle.cycle_model.specs.Mixing.{takes_part}
 use Rattle.board_rule.specs.Layout.{BoardLayout, last}
 use Rattle.node_state.specs.declared.node_state.NodeState.{NodeState}
@@ -27,13 +26,13 @@ use Rattle.data_loop.specs.declared.loop_state.LoopState.{LoopState}
 use Rattle.data_loop.specs.declared.member.Member.{Member}
 use Rattle.data_loop.specs.declared.stage.Stage.{Stage}
 use Rattle.data_loop.specs.LoopTurn.{next_in}
-use Rattle.data_loop.specs.Members.{member_of, follows, leads, members_of, drivers_of}
+use Rattle.data_loop.specs.Members.{member_of, follows, leads}
 use Rattle.data_loop.specs.StageParts.{restarts_in, restart_at}
 use Rattle.data_loop.specs.Stages.{StandsAt}
-use Rattle.data_loop.specs.Loops.{plan_of, IsLoop, AreUnbegun, node_at, StateIs, IsBetweenEpochs}
+use Rattle.data_loop.specs.Loops.{plan_of, node_at, StateIs, IsBetweenEpochs}
 use Rattle.data_loop.specs.LoopsOnBoards.{stands_at, IsOnBoard, IsAtEnd}
 use Rattle.data_loop.proofs.MemberLemmas.{has_it}
-use Rattle.data_loop.proofs.LoopLemmas.{low, parts}
+use Rattle.data_loop.proofs.LoopLemmas.{parts}
 
 -- a node that neither follows nor leads does not work
 off_duty : (e : Epoch) (n : ℕ) → follows e n ≡ false → leads e n ≡ false → works_in e n ≡ false

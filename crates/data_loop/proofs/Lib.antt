@@ -16,3 +16,4 @@ pub mod EpochLemmas
 pub mod DrivingLemmas
 pub mod LoopDriverLemmas
 pub mod BeginLemmas
+pub mod KeptLemmas

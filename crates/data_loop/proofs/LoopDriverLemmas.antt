@@ -3,8 +3,8 @@ use Rattle.std.proofs.Common.{◌≡◌, ◌≢◌, ℕ, suc, ◌+◌, ◌<◌, 
 use Rattle.std.proofs.lemmas.Option.{slice_get_within, slice_get_past, get_or_from_slice_get}
 use Rattle.pw_base.specs.declared.plan.PlanNode.{PlanNode}
 use Rattle.pw_base.specs.PlanForms.{IsSoundForm}
-use Rattle.std.proofs.Common.{Some, slice_get, option_map, unwrap_or, map, length-set, get_or-set_same, get_or-set_other}
-use Rattle.std.specs.Prelude.{All, Contains}
+use Rattle.std.proofs.Common.{Some, slice_get, option_map, unwrap_or, length-set, get_or-set_same, get_or-set_other}
+use Rattle.std.specs.Prelude.{Contains}
 use Rattle.std.specs.List.{list_any}
 use Rattle.std.specs.Vec.{with_item}
 use Rattle.std.proofs.lemmas.Bool.{cases_Bool, cases_eq, cases_lt, and_parts, and_from, eq-eqb, eqb-true}
@@ -12,7 +12,6 @@ use Rattle.std.proofs.lemmas.List.{get_or-map, get_or_default, length-map}
 use Rattle.std.proofs.lemmas.List.Elements.{All-contains}
 use Rattle.std.proofs.lemmas.List.Folds.{list_any_at}
 use Rattle.atomic_table.specs.Seated.{TableId}
-use Rattle.pw_base.specs.declared.ids.PortId.{PortId}
 use Rattle.pw_base.specs.declared.kind.Kind.{Kind}
 use Rattle.pw_base.specs.declared.kind.Kind.TheVariants.{Sink, Meter, Dummy}
 use Rattle.pw_base.specs.declared.plan.Epoch.{Epoch}
@@ -35,19 +34,17 @@ use Rattle.cycle_model.specs.Expected.{epoch_rows, expected_samples}
 use Rattle.cycle_model.specs.Mixing.{takes_part}
 use Rattle.board_rule.specs.declared.view.View.{View}
 use Rattle.board_rule.specs.Layout.{BoardLayout, nodes, first, last}
-use Rattle.board_rule.specs.EndViews.{link_at, reader_of, no_link}
+use Rattle.board_rule.specs.EndViews.{link_at, no_link}
 use Rattle.board_rule.proofs.HolderLemmas.{link_there}
-use Rattle.io_areas.specs.PooledBoard.{IsPooledBoard}
 use Rattle.node_state.specs.declared.node_state.NodeState.{NodeState}
 use Rattle.node_progress.specs.Standing.{port_at, works_in}
 use Rattle.node_progress.specs.NodeStates.{IsNodeState}
 use Rattle.data_loop.specs.declared.loop_state.LoopState.{LoopState}
 use Rattle.data_loop.specs.declared.member.Member.{Member}
 use Rattle.data_loop.specs.declared.rows.Rows.{Rows}
-use Rattle.data_loop.specs.declared.stage.Stage.{Stage}
 use Rattle.data_loop.specs.Driving.{HasNoLinkIn, IsDriverPlayer}
 use Rattle.data_loop.specs.Members.{follows, leads, drivers_of}
-use Rattle.data_loop.specs.Rooms.{HasRowsFor, IsSameRoom}
+use Rattle.data_loop.specs.Rooms.{IsSameRoom}
 use Rattle.data_loop.specs.Stages.{StandsAt}
 use Rattle.data_loop.specs.Loops.{plan_of, node_at, StateIs}
 use Rattle.data_loop.specs.LoopsOnBoards.{stands_at, IsOnBoard}

@@ -1,12 +1,12 @@
 -- A loop on the board of its epoch, after a call that changes its stage there.
-use Rattle.std.proofs.Common.{◌≡◌, ◌≢◌, ℕ, suc, ◌+◌, ◌<◌, ◌≤◌, false, true, true≢false, List, [], length, get_or, set, sym, ap, ◌∙◌, subst, arith, ⊎_elim}
-use Rattle.std.proofs.Common.{Some, None, slice_get, length-set, get_or-set_same, get_or-set_other}
-use Rattle.std.specs.Prelude.{All, Contains, slice_index_or}
+use Rattle.std.proofs.Common.{◌≡◌, ◌≢◌, ℕ, suc, ◌<◌, ◌≤◌, false, true, true≢false, List, [], length, get_or, set, sym, ap, ◌∙◌, subst, arith, ⊎_elim}
+use Rattle.std.proofs.Common.{Some, slice_get, length-set, get_or-set_same, get_or-set_other}
+use Rattle.std.specs.Prelude.{All, Contains}
 use Rattle.std.specs.Prelude.{Vec}
 use Rattle.std.specs.Vec.{with_item, with_items, vec_capacity}
 use Rattle.std.proofs.lemmas.Bool.{cases_eq, cases_lt}
 use Rattle.std.proofs.lemmas.List.{with_items_is, get_or_default}
-use Rattle.std.proofs.lemmas.Option.{same_Some, slice_get-get_or, slice_get_past, slice_get_within, get_or_from_slice_get}
+use Rattle.std.proofs.lemmas.Option.{same_Some, slice_get-get_or, slice_get_past, slice_get_within}
 use Rattle.atomic_table.specs.Seated.{TableId}
 use Rattle.pw_base.specs.declared.plan.Epoch.{Epoch}
 use Rattle.pw_base.specs.declared.plan.Plan.{Plan}
@@ -18,12 +18,12 @@ use Rattle.data_loop.specs.declared.loop_state.LoopState.{LoopState}
 use Rattle.data_loop.specs.declared.member.Member.{Member}
 use Rattle.data_loop.specs.declared.rows.Rows.{Rows}
 use Rattle.data_loop.specs.declared.stage.Stage.{Stage}
-use Rattle.data_loop.specs.Members.{follows, members_of}
+use Rattle.data_loop.specs.Members.{follows}
 use Rattle.data_loop.specs.Rooms.{HasRowsFor, IsSameRoom}
 use Rattle.data_loop.specs.StageParts.{IsStageOf, IsSameStage, IsUnbegun, HasRoomIn}
 use Rattle.data_loop.specs.Stages.{IsStanding, StandsAt, AreLeft}
 use Rattle.data_loop.specs.Tables.{AreTables}
-use Rattle.data_loop.specs.Loops.{plan_of, HasStage, IsLoop, AreUnbegun, node_at, StateIs}
+use Rattle.data_loop.specs.Loops.{plan_of, node_at}
 use Rattle.data_loop.specs.LoopsOnBoards.{stands_at, IsOnBoard}
 use Rattle.data_loop.proofs.MemberLemmas.{ComesFrom, comes_from, few}
 use Rattle.data_loop.proofs.StageLemmas.{rows_stay}

@@ -1,10 +1,8 @@
 -- The members of a loop in an epoch: which of the loop's nodes they are.
-use Rattle.std.proofs.Common.{◌≡◌, ◌≢◌, ℕ, ◌+◌, ◌<◌, ◌≤◌, ◌==◌, ◌&&◌, Bool, true, false, not, cond, List, [], ◌∷◌, length, map, get_or, sym, ap, ◌∙◌, subst, arith, refl}
-use Rattle.std.specs.Prelude.{All, AllPairs, Contains, filter, slice_index, count_by}
+use Rattle.std.proofs.Common.{◌≡◌, ◌≢◌, ℕ, ◌+◌, ◌<◌, ◌≤◌, Bool, true, false, cond, List, [], ◌∷◌, length, get_or, sym, ap, ◌∙◌, subst, arith}
+use Rattle.std.specs.Prelude.{AllPairs, Contains, filter, slice_index}
 use Rattle.std.specs.List.{enumerate_from}
-use Rattle.std.proofs.lemmas.Bool.{and_parts}
-use Rattle.std.proofs.lemmas.Grind.{get_or_default_zero}
-use Rattle.std.proofs.lemmas.List.{length-map, get_or-map, get_or_default}
+use Rattle.std.proofs.lemmas.List.{length-map, get_or-map}
 use Rattle.std.proofs.lemmas.List.FromFn.{length-enumerate_from, get_or-enumerate_from}
 use Rattle.std.proofs.lemmas.List.Kept.{AllPairs-filter}
 use Rattle.pw_base.specs.declared.plan.Epoch.{Epoch}
@@ -13,7 +11,6 @@ use Rattle.data_loop.specs.declared.member.Member.{Member}
 use Rattle.data_loop.specs.Members.{member_of, has_role, members_by}
 use Rattle.data_loop.specs.Stages.{AreApart}
 use Rattle.data_loop.proofs.PairLemmas.{pick_of, picks}
-use Rattle.board_rule.proofs.PortLemmas.{all_map}
 
 filter_le : {X : Type 0} (p : X → Bool) (xs : List X) → length (filter p xs) ≤ length xs
 filter_le p [] = omega arith

@@ -1,5 +1,5 @@
 -- The elements of a list with their indexes, those that pass a test.
-use Rattle.std.proofs.Common.{◌≡◌, ℕ, zero, suc, ◌+◌, ◌<◌, Bool, true, false, true≢false, cond, refl, ◌∙◌, sym, ap, subst, arith, ⊎_elim}
+use Rattle.std.proofs.Common.{◌≡◌, ℕ, zero, suc, ◌+◌, ◌<◌, Bool, true, false, cond, refl, ◌∙◌, sym, ap, subst, arith, ⊎_elim}
 use Rattle.std.proofs.Common.{append-nil, List, [], ◌∷◌, ◌++◌, map, length, get_or, take}
 use Rattle.std.specs.Prelude.{filter, Contains}
 use Rattle.std.specs.List.{enumerate_from}
@@ -60,9 +60,14 @@ module _ {X Y : Type 0} (test : ℕ × X → Bool) (f : ℕ × X → Y) where
       (cases_Bool (test (n, x)))
     where
       past : IsPick (n + 1) xs y → IsPick n (x ∷ xs) y
-      past h = let low = h.1 in let e : (n + 1) + h.0 ≡ n + suc h.0 = omega arith in
-          (suc h.0, omega (arith, low), λ d. (ap (λ k. test (k, get_or xs h.0 d)) (sym e) ∙ (h.2 d).0,
-          ap (λ k. f (k, get_or xs h.0 d)) (sym e) ∙ (h.2 d).1))
+      past h = let low = h.1 in let e : (n + 1) + h.0 ≡ n + suc h.0 = omega arith in (
+        suc h.0,
+        omega (arith, low),
+        λ d. (
+          ap (λ k. test (k, get_or xs h.0 d)) (sym e) ∙ (h.2 d).0,
+          ap (λ k. f (k, get_or xs h.0 d)) (sym e) ∙ (h.2 d).1,
+        ),
+      )
 
       by : Contains (f (n, x) ∷ picked (n + 1) xs) y → test (n, x) ≡ true → (Contains (picked (n + 1) xs) y → IsPick (n + 1) xs y)
           → IsPick n (x ∷ xs) y

@@ -1,5 +1,5 @@
 -- Rows that are long enough for all nodes of a loop.
-use Rattle.std.proofs.Common.{◌≡◌, ℕ, suc, ◌+◌, ◌<◌, ◌≤◌, List, length, get_or, take, sym, ◌∙◌, subst, arith, ⊎_elim}
+use Rattle.std.proofs.Common.{◌≡◌, ℕ, ◌+◌, ◌<◌, ◌≤◌, List, length, get_or, take, sym, subst, arith, ⊎_elim}
 use Rattle.std.specs.Prelude.{All}
 use Rattle.std.proofs.lemmas.Bool.{cases_lt}
 use Rattle.std.proofs.lemmas.List.{get_or_default, get_or-take, length-take-le, take_all}
@@ -31,10 +31,10 @@ taken_more P Q xs i e low grows before here k d lt =
     let in_range : k < i + 1 = omega (arith, lt, long) in
     let at : get_or (take (i + 1) xs) k d ≡ get_or xs k d = get_or-take (i + 1) xs k d in_range in
     subst Q (sym at) (⊎_elim
-      (λ (early : k < i). grows (get_or xs k d) (subst P (get_or-take i xs k d early) (before k d (omega (arith, early, less)))))
-      (λ (last : i ≤ k). let is : k ≡ i = omega (arith, last, in_range) in
-      subst (λ j. Q (get_or xs j d)) (sym is) (subst Q (get_or_default xs i e d low) here))
-      (cases_lt k i))
+    (λ (early : k < i). grows (get_or xs k d) (subst P (get_or-take i xs k d early) (before k d (omega (arith, early, less)))))
+    (λ (last : i ≤ k). let is : k ≡ i = omega (arith, last, in_range) in
+    subst (λ j. Q (get_or xs j d)) (sym is) (subst Q (get_or_default xs i e d low) here))
+    (cases_lt k i))
 
 pub rows_fit : (width : ℕ) (rows : Rows) (m : Member) → AreAsLong width rows → IsWithin width m → HasRowsFor rows m
 rows_fit width rows m long h = record {

@@ -38,8 +38,10 @@ one_stage plan nodes seats stages seat stage are is =
           (are.each k d e early))
           (λ (last : length seats ≤ k). let at : k ≡ length seats = omega (arith, last, low, a) in
           subst (λ (x : Known × Stage). IsFirstStage plan nodes k x.0 x.1)
-          (λ i. (sym (get_or_push seats seat d k (sym at)) i,
-          sym (get_or_push stages stage e k (n ∙ sym at)) i))
+          (λ i. (
+            sym (get_or_push seats seat d k (sym at)) i,
+            sym (get_or_push stages stage e k (n ∙ sym at)) i,
+          ))
           (subst (λ j. IsFirstStage plan nodes j seat stage) (sym at) is))
           (cases_lt k (length seats));
     }

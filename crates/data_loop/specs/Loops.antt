@@ -1,22 +1,17 @@
 -- A loop of a run between two calls: before an epoch, on the board of one, and at its end.
 -- Source: PipeWire's documentation, "Graph Scheduling" and "Data loops"; which loop has a node is
 -- this project's own.
-use Rattle.std.specs.Prelude.{◌≡◌, ℕ, ◌+◌, ◌<◌, ◌≤◌, suc, false, List, [], All, AllPairs, Some, length, slice_get, slice_index, slice_index_or, if◌then◌else◌, vec_capacity}
-use Rattle.atomic_table.specs.Seated.{TableId}
+use Rattle.std.specs.Prelude.{◌≡◌, ℕ, ◌+◌, ◌<◌, ◌≤◌, [], All, AllPairs, Some, length, slice_get, slice_index, slice_index_or, vec_capacity}
 use Rattle.pw_base.specs.declared.plan.Epoch.{Epoch}
 use Rattle.pw_base.specs.declared.plan.Plan.{Plan}
 use Rattle.pw_base.specs.PlanFresh.{IsEpoch}
 use Rattle.pw_base.specs.SoundPlan.{IsSoundPlan}
 use Rattle.cycle_model.specs.WavesFit.{WavesFit}
 use Rattle.node_state.specs.declared.node_state.NodeState.{NodeState}
-use Rattle.board_rule.specs.Layout.{BoardLayout, last}
 use Rattle.node_progress.specs.NodeStates.{IsNodeState, first_of}
 use Rattle.data_loop.specs.declared.loop_state.LoopState.{LoopState}
 use Rattle.data_loop.specs.declared.stage.Stage.{Stage}
-use Rattle.data_loop.specs.LoopTurn.{next_in}
-use Rattle.data_loop.specs.Members.{follows, leads}
 use Rattle.data_loop.specs.StageParts.{IsStageOf, IsUnbegun, HasRoomIn}
-use Rattle.data_loop.specs.Stages.{IsStanding}
 use Rattle.data_loop.specs.Tables.{AreTables}
 
 abbrev pub plan_of : LoopState → Plan

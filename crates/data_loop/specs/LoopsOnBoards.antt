@@ -17,7 +17,7 @@ use Rattle.data_loop.specs.declared.did.Did.{Did}
 use Rattle.data_loop.specs.LoopTurn.{next_in, IsDid}
 use Rattle.data_loop.specs.Members.{follows, leads}
 use Rattle.data_loop.specs.Stages.{IsStanding}
-use Rattle.data_loop.specs.Loops.{plan_of, HasStage, IsLoop, AreUnbegun, node_at, StateIs}
+use Rattle.data_loop.specs.Loops.{HasStage, IsLoop, AreUnbegun, node_at, StateIs}
 
 -- the cycle at which the state of a node stands that is no follower: the driver's after the cycles
 -- that it led

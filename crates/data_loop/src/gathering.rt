@@ -8,8 +8,8 @@ ghost use Rattle.node_progress.specs.Standing.{comes_in};
 ghost use Rattle.data_loop.specs.Gathering.{IsHearing};
 
 use crate::inputs::{Input, hear_all};
-use node_progress::Score;
 use board_rule::{Board, BoardSeat};
+use node_progress::Score;
 use s16_mixer::clamp_out;
 
 /// The node that works hears all its links: `a` and `b` are then what its inputs get in the cycle.

@@ -97,13 +97,7 @@ fn is_filled(pools: &[PoolShape], port: PortId) -> bool
 }
 
 // The samples of a quantum at an output, 0 where no link reads it.
-fn output_width(
-    plan: &Plan,
-    epoch: &Epoch,
-    pools: &[PoolShape],
-    node: u32,
-    output: u32,
-) -> usize
+fn output_width(plan: &Plan, epoch: &Epoch, pools: &[PoolShape], node: u32, output: u32) -> usize
     requires pools { pools.now ≡ pools_of epoch.now.shape }
     requires few { output ≤ 1 }
     ensures { result ≡ output_width plan.now epoch.now node output }
@@ -174,9 +168,7 @@ pub(crate) fn members_by(
     let mut members = Items::new(alloc);
     for at in 0..nodes.len() {
         if has_role(epoch, nodes[at], leads) {
-            members.push(member_of(
-                alloc, plan, epoch, pools, nodes[at], at as u32,
-            )?)?;
+            members.push(member_of(alloc, plan, epoch, pools, nodes[at], at as u32)?)?;
         }
     }
     Ok(members)

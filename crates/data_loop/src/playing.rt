@@ -8,10 +8,10 @@ ghost use Rattle.data_loop.specs.Standings.{IsPlayer};
 
 use crate::member::Member;
 use crate::rows::Rows;
-use node_progress::Score;
 use crate::turning::take_turn;
 use board_rule::{Board, LoopSeat};
 use buffer_pool::Pool;
+use node_progress::Score;
 use node_state::NodeState;
 use pw_base::{Gate, PoolShape};
 

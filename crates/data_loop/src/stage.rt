@@ -13,11 +13,11 @@ use crate::did::Did;
 use crate::member::Member;
 use crate::playing::play;
 use crate::rows::Rows;
-use node_progress::Score;
 use crate::tried::Tried;
 use activation_words::{Claim, claim};
 use board_rule::{Board, BoardSeat, LoopSeat};
 use buffer_pool::Pool;
+use node_progress::Score;
 use node_state::NodeState;
 use pw_base::{Gate, Items, PoolShape};
 

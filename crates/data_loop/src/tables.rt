@@ -9,10 +9,7 @@ use pw_base::{Items, Memory};
 use std::alloc::Global;
 
 /// Lists of the lengths 0 to `most`.
-pub(crate) fn tables_of(
-    alloc: Global,
-    most: usize,
-) -> Result<Items<Items<(u32, u64)>>, Memory>
+pub(crate) fn tables_of(alloc: Global, most: usize) -> Result<Items<Items<(u32, u64)>>, Memory>
     requires few { most ≤ 63 }
     ensures tables { IfOk result AreTables }
     ensures count { IfOk result (λ tables. length tables ≡ most + 1) }

@@ -8,11 +8,10 @@ ghost use Rattle.data_loop.specs.Playing.{IsMemberOf, MayPlay};
 use crate::gathering::gather;
 use crate::giving::give_all;
 use crate::member::Member;
-use node_progress::Score;
-use node_progress::work;
 use activation_words::{finish, start};
 use board_rule::{Board, LoopSeat};
 use buffer_pool::Pool;
+use node_progress::{Score, work};
 use node_state::NodeState;
 use pw_base::{Gate, PoolShape};
 

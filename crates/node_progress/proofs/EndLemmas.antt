@@ -69,7 +69,7 @@ past_last : (es : List Epoch) → slice_get es (length es) ≡ None
 past_last [] = refl
 past_last (e ∷ es) = past_last es
 
-end_first : (plan : Plan) → first_of plan (length plan.epochs) ≡ all_cycles plan
+pub end_first : (plan : Plan) → first_of plan (length plan.epochs) ≡ all_cycles plan
 end_first plan = ap (λ o. unwrap_or (option_map (λ (e : Epoch). e.shape.first) o) (all_cycles plan)) (past_last plan.epochs)
 
 received_end : (score : Score) → IsSoundPlan score.plan.value → (n : ℕ)

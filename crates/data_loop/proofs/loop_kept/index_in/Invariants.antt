@@ -1,4 +1,4 @@
-use Rattle.std.proofs.Common.{◌≡◌, ◌≢◌, ℕ, ◌<◌, get_or}
+use Rattle.std.proofs.Common.{◌≢◌, ℕ, ◌<◌, get_or}
 use Rattle.data_loop.proofs.loop_kept.index_in.Given as goal
 
 abbrev pub invariant-loop-index : goal.invariant-loop-index

@@ -1,7 +1,6 @@
-use Rattle.std.proofs.Common.{◌≡◌, ◌≤◌, ◌<◌, ◌+◌, ◌∙◌, ℕ, List, ◌∷◌, ◌++◌, [], length, get_or, take, sym, ap, subst, arith}
-use Rattle.std.proofs.lemmas.List.{take_all, take_more, get_or_default}
+use Rattle.std.proofs.Common.{ℕ, List, get_or, take, sym, subst, arith}
+use Rattle.std.proofs.lemmas.List.{take_all, take_more}
 use Rattle.node_state.specs.declared.node_state.NodeState.{NodeState}
-use Rattle.node_progress.specs.NodeStates.{IsNodeState}
 use Rattle.data_loop.specs.LoopStart.{AreFirstStates}
 use Rattle.data_loop.proofs.StartLemmas.{one_state}
 use Rattle.data_loop.proofs.loop_state.states_of.Goals as goal

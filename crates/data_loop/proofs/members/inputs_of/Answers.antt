@@ -1,4 +1,4 @@
-use Rattle.std.proofs.Common.{◌≡◌, ◌==◌, [], ◌∷◌, ◌++◌, ℕ, sym, ◌∙◌, ap, get_or}
+use Rattle.std.proofs.Common.{◌==◌, [], ◌∷◌, ◌++◌, ℕ, sym, ◌∙◌, ap, get_or}
 use Rattle.std.proofs.lemmas.Bool.{eq-eqb, ne_eqb}
 use Rattle.pw_base.specs.declared.shape.ShapeLink.{ShapeLink}
 use Rattle.data_loop.specs.Gathering.{input_from}

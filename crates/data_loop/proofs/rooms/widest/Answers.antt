@@ -1,6 +1,4 @@
-use Rattle.std.proofs.Common.{◌≡◌, ◌≤◌, List, length, take, get_or, ◌∙◌, sym, ap, subst, arith}
-use Rattle.std.specs.Prelude.{All}
-use Rattle.data_loop.specs.declared.member.Member.{Member}
+use Rattle.std.proofs.Common.{◌≤◌, subst, arith}
 use Rattle.data_loop.specs.Rooms.{IsWithin}
 use Rattle.data_loop.proofs.RoomLemmas.{within_le, taken_more, taken_all}
 use Rattle.data_loop.proofs.rooms.widest.Goals as goal

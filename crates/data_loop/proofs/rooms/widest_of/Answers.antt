@@ -1,7 +1,5 @@
-use Rattle.std.proofs.Common.{◌≡◌, ◌≤◌, List, length, take, get_or, ◌∙◌, sym, ap, subst, arith}
+use Rattle.std.proofs.Common.{subst, arith}
 use Rattle.std.specs.Prelude.{All}
-use Rattle.data_loop.specs.declared.member.Member.{Member}
-use Rattle.data_loop.specs.declared.stage.Stage.{Stage}
 use Rattle.data_loop.specs.Rooms.{IsWithin}
 use Rattle.data_loop.specs.StageParts.{IsStageWithin}
 use Rattle.data_loop.proofs.RoomLemmas.{all_within_le, stage_within_le, taken_more, taken_all}

@@ -1,4 +1,4 @@
-use Rattle.std.proofs.Common.{◌≡◌, ◌≤◌, ◌<◌, ◌^◌, ◌∙◌, List, length, map, get_or, sym, ap, refl, subst, arith}
+use Rattle.std.proofs.Common.{◌≡◌, ◌≤◌, ◌∙◌, List, length, map, get_or, sym, ap, refl, subst, arith}
 use Rattle.std.specs.Prelude.{All}
 use Rattle.std.proofs.lemmas.Option.{get_or_from_slice_get}
 use Rattle.pw_base.specs.declared.plan.Epoch.{Epoch}
@@ -37,8 +37,8 @@ returns c = record {
   seat_is = refl;
   parts = λ e at.
       let is : c.index-as_slice-epoch.result ≡ e = c.index-as_slice-epoch.is
-          ∙ ap (λ (l : List Epoch). get_or l c.args.epoch c.index-as_slice-epoch.result) c.as_slice.ensures
-          ∙ get_or_from_slice_get c.args.plan.now.epochs c.args.epoch e c.index-as_slice-epoch.result at in (
+      ∙ ap (λ (l : List Epoch). get_or l c.args.epoch c.index-as_slice-epoch.result) c.as_slice.ensures
+      ∙ get_or_from_slice_get c.args.plan.now.epochs c.args.epoch e c.index-as_slice-epoch.result at in (
         record {
           members = c.in_ok-members.ensures ∙ ap (members_of c.args.plan.now c.args.nodes.now) is;
           driver = c.in_ok-driver.ensures ∙ ap (drivers_of c.args.plan.now c.args.nodes.now) is;

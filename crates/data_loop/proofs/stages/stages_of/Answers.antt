@@ -1,7 +1,6 @@
-use Rattle.std.proofs.Common.{◌≡◌, ◌≤◌, ◌<◌, ◌+◌, ◌∙◌, List, [], ◌∷◌, ◌++◌, length, get_or, sym, ap, subst, arith, length-append, append-nil}
+use Rattle.std.proofs.Common.{◌∙◌, List, [], ◌∷◌, ◌++◌, length, sym, ap, subst, arith, length-append, append-nil}
 use Rattle.std.proofs.lemmas.List.{append_assoc, nil_from_length}
 use Rattle.board_rule.specs.Known.{Known}
-use Rattle.data_loop.specs.declared.stage.Stage.{Stage}
 use Rattle.data_loop.specs.StageParts.{IsFirstStage, AreFirstStages}
 use Rattle.data_loop.proofs.StartLemmas.{one_stage}
 use Rattle.data_loop.proofs.stages.stages_of.Goals as goal

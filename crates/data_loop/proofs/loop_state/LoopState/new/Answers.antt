@@ -6,7 +6,6 @@ use Rattle.pw_base.specs.SoundPlan.{IsSoundPlan}
 use Rattle.cycle_model.specs.WavesFit.{WavesFit}
 use Rattle.wav_files.specs.declared.wav.WavIn.{WavIn}
 use Rattle.node_state.specs.declared.node_state.NodeState.{NodeState}
-use Rattle.node_progress.specs.declared.score.Score.{Score}
 use Rattle.data_loop.specs.declared.stage.Stage.{Stage}
 use Rattle.data_loop.specs.LoopStart.{AreFirstStates}
 use Rattle.data_loop.specs.StageParts.{AreFirstStages, IsStageWithin}

@@ -1,18 +1,17 @@
-use Rattle.std.proofs.Common.{◌≡◌, ◌≢◌, ◌≤◌, ◌<◌, ◌+◌, ◌∙◌, ℕ, suc, List, [], length, get_or, refl, sym, ap, subst, arith, inl, inr}
-use Rattle.std.specs.Prelude.{All, Contains}
+use Rattle.std.proofs.Common.{◌≡◌, ◌<◌, ◌+◌, ◌∙◌, ℕ, suc, List, length, get_or, refl, sym, ap, subst, arith, inl, inr}
+use Rattle.std.specs.Prelude.{Contains}
 use Rattle.std.proofs.lemmas.Option.{get_or_from_slice_get}
 use Rattle.std.proofs.lemmas.List.{nil_from_length}
 use Rattle.std.proofs.lemmas.List.Elements.{All-contains}
 use Rattle.pw_base.specs.declared.shape.Shape.{Shape}
 use Rattle.board_rule.specs.OnBoard.{layout, table_of}
-use Rattle.board_rule.specs.Layout.{first, last}
+use Rattle.board_rule.specs.Layout.{first}
 use Rattle.node_state.specs.declared.node_state.NodeState.{NodeState}
 use Rattle.node_progress.specs.NodeStates.{IsNodeState}
 use Rattle.data_loop.specs.declared.member.Member.{Member}
 use Rattle.data_loop.specs.declared.stage.Stage.{Stage}
 use Rattle.data_loop.specs.Driving.{IsDriverPlayer}
 use Rattle.data_loop.specs.Rooms.{HasRowsFor}
-use Rattle.data_loop.specs.Loops.{plan_of}
 use Rattle.data_loop.proofs.LoopDriverLemmas.{no_link_in, inside, stands_so, player_so, driven_on}
 use Rattle.data_loop.proofs.loop_state.LoopState.run_driver.Goals as goal
 
@@ -37,8 +36,12 @@ index_mut-requires g' c = let on = c.requires.stands in let s = c.args.self.now 
     let long = c.len.ensures ∙ ap (λ (g : Stage). length g.driver) stage in
     let m : Member = c.index-as_slice-0.result in
     let some : 0 < length on.stage.driver = let more = c.if-len-eq0.false in some_in (length on.stage.driver) (λ z. more (long ∙ z)) in
-    let own : Contains on.stage.driver m = (0, some, sym (c.index-as_slice-0.is
-    ∙ ap (λ (l : List Member). get_or l 0 m) (c.as_slice.ensures ∙ ap (λ (g : Stage). g.driver) stage))) in
+    let own : Contains on.stage.driver m = (
+      0,
+      some,
+      sym (c.index-as_slice-0.is
+          ∙ ap (λ (l : List Member). get_or l 0 m) (c.as_slice.ensures ∙ ap (λ (g : Stage). g.driver) stage)),
+    ) in
     let low = inside p t s on m own in let n = s.states.ok.0 in omega (arith, low, n)
 
 pub play_driver-requires-clause-player : goal.play_driver-requires-clause-player
@@ -47,8 +50,12 @@ play_driver-requires-clause-player g' c = let on = c.requires.stands in let s = 
     let long = c.len.ensures ∙ ap (λ (g : Stage). length g.driver) stage in
     let m : Member = c.index-as_slice-0.result in
     let some : 0 < length on.stage.driver = let more = c.if-len-eq0.false in some_in (length on.stage.driver) (λ z. more (long ∙ z)) in
-    let own : Contains on.stage.driver m = (0, some, sym (c.index-as_slice-0.is
-    ∙ ap (λ (l : List Member). get_or l 0 m) (c.as_slice.ensures ∙ ap (λ (g : Stage). g.driver) stage))) in
+    let own : Contains on.stage.driver m = (
+      0,
+      some,
+      sym (c.index-as_slice-0.is
+          ∙ ap (λ (l : List Member). get_or l 0 m) (c.as_slice.ensures ∙ ap (λ (g : Stage). g.driver) stage)),
+    ) in
     let cycle : c.shape-2.result.now.first + c.ended.result ≡ c.args.seat.now.knows.lead.cycle =
     ap (λ (x : Shape). x.first + c.ended.result) c.shape-2.ensures ∙ c.ended.ensures in
     let tied : first p + s.led ≡ c.args.seat.now.knows.lead.cycle = c.requires.each on.stage on.here
@@ -63,8 +70,12 @@ play_driver-requires-clause-state g' c = let on = c.requires.stands in let s = c
     let long = c.len.ensures ∙ ap (λ (g : Stage). length g.driver) stage in
     let m : Member = c.index-as_slice-0.result in
     let some : 0 < length on.stage.driver = let more = c.if-len-eq0.false in some_in (length on.stage.driver) (λ z. more (long ∙ z)) in
-    let own : Contains on.stage.driver m = (0, some, sym (c.index-as_slice-0.is
-    ∙ ap (λ (l : List Member). get_or l 0 m) (c.as_slice.ensures ∙ ap (λ (g : Stage). g.driver) stage))) in
+    let own : Contains on.stage.driver m = (
+      0,
+      some,
+      sym (c.index-as_slice-0.is
+          ∙ ap (λ (l : List Member). get_or l 0 m) (c.as_slice.ensures ∙ ap (λ (g : Stage). g.driver) stage)),
+    ) in
     let cycle : c.shape-2.result.now.first + c.ended.result ≡ c.args.seat.now.knows.lead.cycle =
     ap (λ (x : Shape). x.first + c.ended.result) c.shape-2.ensures ∙ c.ended.ensures in
     let tied : first p + s.led ≡ c.args.seat.now.knows.lead.cycle = c.requires.each on.stage on.here
@@ -79,8 +90,12 @@ play_driver-requires-clause-rows g' c = let on = c.requires.stands in let s = c.
     let long = c.len.ensures ∙ ap (λ (g : Stage). length g.driver) stage in
     let m : Member = c.index-as_slice-0.result in
     let some : 0 < length on.stage.driver = let more = c.if-len-eq0.false in some_in (length on.stage.driver) (λ z. more (long ∙ z)) in
-    let own : Contains on.stage.driver m = (0, some, sym (c.index-as_slice-0.is
-    ∙ ap (λ (l : List Member). get_or l 0 m) (c.as_slice.ensures ∙ ap (λ (g : Stage). g.driver) stage))) in
+    let own : Contains on.stage.driver m = (
+      0,
+      some,
+      sym (c.index-as_slice-0.is
+          ∙ ap (λ (l : List Member). get_or l 0 m) (c.as_slice.ensures ∙ ap (λ (g : Stage). g.driver) stage)),
+    ) in
     All-contains (HasRowsFor s.rows) on.stage.driver m (on.loop.room s.epoch on.stage on.here).1 own
 
 pub returns-clause-stands : goal.returns-clause-stands
@@ -89,8 +104,12 @@ returns-clause-stands g' c = let on = c.requires.stands in let s = c.args.self.n
     let long = c.len.ensures ∙ ap (λ (g : Stage). length g.driver) stage in
     let m : Member = c.index-as_slice-0.result in
     let some : 0 < length on.stage.driver = let more = c.if-len-eq0.false in some_in (length on.stage.driver) (λ z. more (long ∙ z)) in
-    let own : Contains on.stage.driver m = (0, some, sym (c.index-as_slice-0.is
-    ∙ ap (λ (l : List Member). get_or l 0 m) (c.as_slice.ensures ∙ ap (λ (g : Stage). g.driver) stage))) in
+    let own : Contains on.stage.driver m = (
+      0,
+      some,
+      sym (c.index-as_slice-0.is
+          ∙ ap (λ (l : List Member). get_or l 0 m) (c.as_slice.ensures ∙ ap (λ (g : Stage). g.driver) stage)),
+    ) in
     let cycle : c.shape-2.result.now.first + c.ended.result ≡ c.args.seat.now.knows.lead.cycle =
     ap (λ (x : Shape). x.first + c.ended.result) c.shape-2.ensures ∙ c.ended.ensures in
     let tied : first p + s.led ≡ c.args.seat.now.knows.lead.cycle = c.requires.each on.stage on.here

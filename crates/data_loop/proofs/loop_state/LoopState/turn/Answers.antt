@@ -1,13 +1,12 @@
-use Rattle.std.proofs.Common.{◌≡◌, ◌≤◌, ◌<◌, ◌+◌, ℕ, List, [], length, get_or, set, refl, sym, ap, ◌∙◌, subst, arith, Some, slice_get}
+use Rattle.std.proofs.Common.{◌≡◌, ◌≤◌, ℕ, List, [], length, get_or, refl, sym, ap, ◌∙◌, subst, arith}
 use Rattle.std.specs.Vec.{vec_capacity}
 use Rattle.std.proofs.lemmas.Option.{same_Some, get_or_from_slice_get}
 use Rattle.board_rule.specs.OnBoard.{layout, table_of}
 use Rattle.node_state.specs.declared.node_state.NodeState.{NodeState}
-use Rattle.data_loop.specs.declared.member.Member.{Member}
 use Rattle.data_loop.specs.declared.stage.Stage.{Stage}
 use Rattle.data_loop.specs.LoopTurn.{IsDid}
 use Rattle.data_loop.specs.StageParts.{IsSameStage}
-use Rattle.data_loop.specs.Stages.{IsStanding, AreLeft}
+use Rattle.data_loop.specs.Stages.{AreLeft}
 use Rattle.data_loop.proofs.LoopLemmas.{low, few_members, get_same, get_other, on_more}
 use Rattle.data_loop.proofs.loop_state.LoopState.turn.Goals as goal
 
