@@ -1,0 +1,5 @@
+pub mod QueueLemmas
+pub mod ParkingLemmas
+pub mod EndLemmas
+pub mod PopLemmas
+pub mod SendLemmas

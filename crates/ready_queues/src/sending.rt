@@ -1,0 +1,125 @@
+//! How nodes are put into the queues of their loops.
+ghost use Rattle.std.specs.Prelude.{◌≡◌, ◌≢◌, ℕ, ◌<◌, cond, false, [], ◌∷◌, length, IsTrue, IfSome, IfNone};
+ghost use Rattle.std.specs.Int.{bit_at};
+ghost use Rattle.crossbeam_queue.specs.Passes.{ruled_capacity};
+ghost use Rattle.ready_queues.specs.AnsweredWith.{IsWayOf};
+ghost use Rattle.ready_queues.specs.Ends.{AreEndsOf, IsEndOf, hand_of, wakes_of, received_by};
+ghost use Rattle.ready_queues.specs.QueueRule.{IsNodeOf};
+ghost use Rattle.ready_queues.specs.Sending.{AreSentNode, HaveSent, IsRefused, WasFull, pushed_on};
+ghost use Rattle.ready_queues.specs.Sending.{given_on, is_bound, IsBound, HasSent};
+
+use crate::end::End;
+use crate::lane::Lane;
+use crate::parking::Gives;
+use crate::queue::Pushes;
+use crate::way::Way;
+use crate::ways::Ways;
+use std::sync::Wait;
+
+// The set with one number more, or the same.
+fn noted(set: u64, node: usize, more: bool) -> u64
+    requires below { node < 64 }
+    requires new { bit_at set node ≡ 0 }
+    ensures here { bit_at result node ≡ cond more 1 0 }
+    ensures others { (n : ℕ) → n ≢ node → bit_at result n ≡ bit_at set n }
+{
+    if more { set | 1 << node } else { set }
+}
+
+impl End {
+    // One push of a node into the queue of its loop, and that loop is unparked. Whether the queue
+    // was full.
+    fn push<R: Wait>(&mut self, rt: &R, lane: &Lane, node: u32) -> bool
+        requires end { IsEndOf (hand_of self.old).owner (hand_of self.old).number lane.now self.old }
+        requires room { ruled_capacity lane.now.queue ≡ 64 }
+        requires node { IsNodeOf (hand_of self.old).owner (hand_of self.old).number node }
+        ensures end { IsEndOf (hand_of self.old).owner (hand_of self.old).number lane.now self.new }
+        ensures hand { hand_of self.new
+            ≡ pushed_on (hand_of self.old) (cond result [] (node ∷ [])) }
+        ensures wakes { wakes_of self.new ≡ given_on (wakes_of self.old) 1 }
+        ensures full { IsTrue result
+            → WasFull (hand_of self.old).owner (hand_of self.old).number }
+    {
+        let full = lane
+            .queue
+            .push_as::<Pushes, R>(rt, &mut self.pass, node)
+            .is_err();
+        lane.unparker.unpark_as::<Gives>(&mut self.wake);
+        full
+    }
+}
+
+impl Ways {
+    // The loop that a node of a set is to be sent to, if it is in the set and not the driver's own.
+    fn bound_for(&self, woke: u64, node: usize) -> Option<u32>
+        requires inside { node < length self.now.owner }
+        ensures some { IfSome result (λ l. (l < self.now.loops)
+            × IsBound self.now.owner woke l node) }
+        ensures none { IfNone result ((l : ℕ) → l < self.now.loops
+            → is_bound self.now.owner woke l node ≡ false) }
+    {
+        let number = self.owner.as_slice()[node];
+        if woke >> node & 1 == 1 && number != self.loops {
+            Some(number)
+        } else {
+            None
+        }
+    }
+
+    // One node is sent, if it is in the set and not the driver's own. Whether it found the queue
+    // full.
+    fn send_node<R: Wait>(&self, rt: &R, ends: &mut [End], woke: u64, node: usize) -> bool
+        requires ends { AreEndsOf self.now.owner self.now.lanes ends.old }
+        requires inside { node < length self.now.owner }
+        ensures ends { AreEndsOf self.now.owner self.now.lanes ends.new }
+        ensures sent { AreSentNode self.now.owner woke node result ends.old ends.new }
+        ensures full { IsTrue result → IsRefused self.now.owner self.now.loops woke node }
+        ensures count { received_by ends.new ≡ received_by ends.old }
+    {
+        match self.bound_for(woke, node) {
+            Some(number) => {
+                let lane = &self.lanes.as_slice()[number as usize];
+                ends[number as usize].push(rt, lane, node as u32)
+            }
+            None => false,
+        }
+    }
+
+    // All nodes of a set are sent, ascending. The bits of those that found their queue full.
+    fn send_all<R: Wait>(&self, rt: &R, ends: &mut [End], woke: u64) -> u64
+        requires ends { AreEndsOf self.now.owner self.now.lanes ends.old }
+        ensures ends { AreEndsOf self.now.owner self.now.lanes ends.new }
+        ensures sent { HaveSent self.now.owner woke result (length self.now.owner) ends.old
+            ends.new }
+        ensures refused { (node : ℕ) → bit_at result node ≡ 1
+            → IsRefused self.now.owner self.now.loops woke node }
+        ensures count { received_by ends.new ≡ received_by ends.old }
+    {
+        let mut full = 0;
+        for node in 0..self.owner.len() {
+            full = noted(full, node, self.send_node(rt, ends, woke, node));
+        }
+        full
+    }
+
+    /// For each node of a set that is not the driver's own, ascending, makes one push into the queue
+    /// of that node's loop and unparks that loop. Afterwards it unparks the driver's thread, also
+    /// where it made no push. Bit n of the set is node n. The answer has exactly the bits of the
+    /// nodes whose push in this call found 64 numbers in the queue; of each other such node the way
+    /// knows one push more.
+    ///
+    /// May wait for another thread that is in the middle of a push or a pop. Takes no memory; cost:
+    /// a look at each node, and for each push a compare-exchange, two exchanges, and a call of the
+    /// system where the loop sleeps.
+    /// A bit that is no node of `owner`, as 63, is the driver's own.
+    /// Condition: the way was answered with these ways.
+    pub fn send<R: Wait>(&self, rt: &R, way: &mut Way, woke: u64) -> u64
+        requires answered { IsWayOf self.now way.old }
+        ensures answered { IsWayOf self.now way.new }
+        ensures sent { HasSent self.now.owner self.now.loops woke result way.old way.new }
+    {
+        let full = self.send_all(rt, way.ends.as_mut_slice(), woke);
+        self.driver.unpark_as::<Gives>(&mut way.driver);
+        full
+    }
+}
