@@ -3,3 +3,5 @@ pub mod ParkingLemmas
 pub mod EndLemmas
 pub mod PopLemmas
 pub mod SendLemmas
+pub mod OpeningLemmas
+pub mod NewLemmas

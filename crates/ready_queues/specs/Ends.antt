@@ -2,15 +2,13 @@
 -- Source: this project's own.
 use Rattle.std.specs.Prelude.{◌≡◌, ℕ, List, [], length, All, Some, slice_get}
 use Rattle.std.specs.List.{sum_by}
-use Rattle.std.specs.Arc.{arc_value}
-use Rattle.atomic_table.specs.Seated.{TableId}
 use Rattle.crossbeam_queue.specs.Passes.{view, IsPassOf}
 use Rattle.crossbeam_utils.specs.Token.{parker_view}
 use Rattle.ready_queues.specs.declared.hand.Hand.{Hand}
 use Rattle.ready_queues.specs.declared.parking.Woken.{Woken}
 use Rattle.ready_queues.specs.declared.end.End.{End}
 use Rattle.ready_queues.specs.declared.lane.Lane.{Lane}
-use Rattle.ready_queues.specs.declared.parking.ParkingRule.{ParkingRule}
+use Rattle.ready_queues.specs.Lanes.{parker_of}
 use Rattle.ready_queues.specs.QueueRule.{IsHandOf}
 
 -- what the way has done with the queue, and with the parker
@@ -23,7 +21,7 @@ wakes_of e = parker_view e.wake
 -- the end is to this loop, whose queue and unparker are in the lane
 pub record IsEndOf (owner : List ℕ) (number : ℕ) (lane : Lane) (e : End) : Type 0 where
   pub pass : IsPassOf lane.queue e.pass
-  pub wake : e.wake.table_id ≡ (arc_value lane.unparker.state).shared.table_id
+  pub wake : e.wake.table_id ≡ parker_of lane
   pub hand : IsHandOf owner number (hand_of e)
 
 -- the ends are to the loops of these lanes, in their order

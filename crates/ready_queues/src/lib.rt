@@ -9,6 +9,7 @@
 mod end;
 mod hand;
 mod lane;
+mod opening;
 mod parking;
 mod queue;
 mod receiving;

@@ -1,7 +1,7 @@
 //! The ways of one thread to the queues and parkers.
 ghost use Rattle.std.specs.Prelude.{◌≡◌, ◌-◌, ◌^◌, min};
-ghost use Rattle.std.specs.Arc.{arc_value};
 ghost use Rattle.ready_queues.specs.Ends.{received_by};
+ghost use Rattle.ready_queues.specs.Lanes.{unparks};
 
 use crate::end::End;
 use crate::parking::{ParkPass, Parker};
@@ -16,7 +16,7 @@ pub struct Way {
     pub(crate) driver: ParkPass,
     pub(crate) ends: Vec<End>,
     pub(crate) taken: u64,
-    pub ghost parks: { own.table_id ≡ (arc_value parker.unparker.state).shared.table_id },
+    pub ghost parks: { own.table_id ≡ unparks parker.unparker },
     pub ghost counted: { taken ≡ min (received_by ends.items) (2 ^ 64 - 1) },
 }
 

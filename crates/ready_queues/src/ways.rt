@@ -1,6 +1,8 @@
 //! What all threads have of the queues and parkers.
 ghost use Rattle.std.specs.Prelude.{◌≡◌, ◌≤◌, length, All};
 ghost use Rattle.crossbeam_queue.specs.Passes.{ruled_capacity};
+ghost use Rattle.pw_base.specs.Limits.{dummy_node};
+ghost use Rattle.ready_queues.specs.Lanes.{loops_limit};
 
 use crate::lane::Lane;
 use crate::parking::Unparker;
@@ -15,8 +17,8 @@ pub struct Ways {
     pub(crate) lanes: Items<Lane>,
     pub(crate) driver: Unparker,
     ghost count: { length lanes ≡ loops },
-    ghost few: { loops ≤ 16 },
-    ghost nodes: { length owner ≤ 63 },
+    ghost few: { loops ≤ loops_limit },
+    ghost nodes: { length owner ≤ dummy_node },
     ghost owners: { All (λ l. l ≤ loops) owner },
     ghost rooms: { All (λ lane. ruled_capacity lane.queue ≡ 64) lanes },
 }
