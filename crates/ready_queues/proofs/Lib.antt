@@ -5,3 +5,4 @@ pub mod PopLemmas
 pub mod SendLemmas
 pub mod OpeningLemmas
 pub mod NewLemmas
+pub mod PoppingLemmas

@@ -22,3 +22,6 @@ pub use parking::{ParkingRule, Woken};
 pub use queue::QueueRule;
 pub use way::Way;
 pub use ways::Ways;
+
+#[cfg(test)]
+mod tests;
