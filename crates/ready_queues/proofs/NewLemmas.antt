@@ -56,6 +56,6 @@ pub all_new : (ways : Ways) (list : List Way) → length list ≡ length ways.la
     → ((k : ℕ) (w : Way) → slice_get list k ≡ Some w → AreFreshEnds ways.owner ways.lanes w.ends.items) → (k : ℕ) (w : Way) → slice_get list k ≡ Some w → IsNewWay ways k w
 all_new ways list count bare fresh k w at = ⊎_elim
     (λ (t : (lane : Lane) × (k < length ways.lanes) × (slice_get ways.lanes k ≡ Some lane) × (get_or ways.lanes k lane ≡ lane)).
-        new_loop ways k t.0 w t.2 (bare k t.0 w t.2 at) (fresh k w at))
+    new_loop ways k t.0 w t.2 (bare k t.0 w t.2 at) (fresh k w at))
     (λ (t : (length ways.lanes ≤ k) × (slice_get ways.lanes k ≡ None)). let h = t.0 in let low = slice_get_within list k w at in absurd (omega arith))
     (slice_get_cases ways.lanes k).1

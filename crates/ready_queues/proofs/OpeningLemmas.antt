@@ -1,5 +1,5 @@
 -- The ends and ways that are made one by one at the start.
-use Rattle.std.proofs.Common.{◌≡◌, ◌≢◌, ℕ, zero, suc, ◌+◌, ◌<◌, ◌≤◌, ◌⊎◌, List, [], ◌∷◌, ◌++◌, length, set, get_or, inl, inr, sym, refl, ap, ◌∙◌, subst, ⊎_elim, arith, map, length-append, length-set}
+use Rattle.std.proofs.Common.{◌≡◌, ◌≢◌, ℕ, zero, suc, ◌+◌, ◌<◌, ◌≤◌, ◌⊎◌, List, [], ◌∷◌, ◌++◌, length, set, get_or, inl, inr, sym, refl, ap, ◌∙◌, subst, ⊎_elim, arith, map, length-set}
 use Rattle.std.specs.Prelude.{Some, None, slice_get}
 use Rattle.std.proofs.lemmas.Option.{none-some, slice_get-get_or, slice_get_within, get_or_from_slice_get, slice_get_cases}
 use Rattle.std.proofs.lemmas.List.Sums.{sum_by-set, sum_by_push}
@@ -13,7 +13,7 @@ use Rattle.ready_queues.specs.declared.lane.Lane.{Lane}
 use Rattle.ready_queues.specs.declared.way.Way.{Way}
 use Rattle.ready_queues.specs.Lanes.{parker_of}
 use Rattle.ready_queues.specs.Ends.{hand_of, received_by}
-use Rattle.ready_queues.specs.Opening.{IsUnused, IsFreshEnd, AreFresh, AreFreshEnds, IsBareWay, AreBare}
+use Rattle.ready_queues.specs.Opening.{IsFreshEnd, AreFreshEnds, IsBareWay, AreBare}
 use Rattle.ready_queues.proofs.EndLemmas.{some_is, slice_at_set}
 
 abbrev ParkPass : Type 0
@@ -33,13 +33,13 @@ module _ {A B : Type 0} (R : ℕ → A → B → Type 0) where
   pub both_snoc : (xs : List A) (ys : List B) (x : A) (y : B) → length xs ≡ length ys → Pairs xs ys → R (length xs) x y → Pairs (xs ++ x ∷ []) (ys ++ y ∷ [])
   both_snoc xs ys x y same all here l a b at to = ⊎_elim
       (λ (s : slice_get xs l ≡ Some a). ⊎_elim
-          (λ (t : slice_get ys l ≡ Some b). all l a b s t)
-          (λ (t : (l ≡ length ys) × (y ≡ b)). let low = slice_get_within xs l a s in let e = t.0 in absurd (omega arith))
-          (slice_at_snoc ys y b l to))
+      (λ (t : slice_get ys l ≡ Some b). all l a b s t)
+      (λ (t : (l ≡ length ys) × (y ≡ b)). let low = slice_get_within xs l a s in let e = t.0 in absurd (omega arith))
+      (slice_at_snoc ys y b l to))
       (λ (s : (l ≡ length xs) × (x ≡ a)). ⊎_elim
-          (λ (t : slice_get ys l ≡ Some b). let low = slice_get_within ys l b t in let e = s.0 in absurd (omega arith))
-          (λ (t : (l ≡ length ys) × (y ≡ b)). subst (λ (p : ℕ × (A × B)). R p.0 p.1.0 p.1.1) (λ i. (sym s.0 i, (s.1 i, t.1 i))) here)
-          (slice_at_snoc ys y b l to))
+      (λ (t : slice_get ys l ≡ Some b). let low = slice_get_within ys l b t in let e = s.0 in absurd (omega arith))
+      (λ (t : (l ≡ length ys) × (y ≡ b)). subst (λ (p : ℕ × (A × B)). R p.0 p.1.0 p.1.1) (λ i. (sym s.0 i, (s.1 i, t.1 i))) here)
+      (slice_at_snoc ys y b l to))
       (slice_at_snoc xs x a l at)
 
   -- one that grows beside another
@@ -131,6 +131,6 @@ pub bare_empty : (lanes : List Lane) (driver : TableId) (ways : List Way) (k : �
     → received_by (get_or ways k dw).ends.items ≡ 0
 bare_empty lanes driver ways k dw low count bare = ⊎_elim
     (λ (t : (lane : Lane) × (k < length lanes) × (slice_get lanes k ≡ Some lane) × (get_or lanes k lane ≡ lane)).
-        (bare k t.0 (get_or ways k dw) t.2 (slice_get-get_or ways k dw (omega arith))).empty)
+    (bare k t.0 (get_or ways k dw) t.2 (slice_get-get_or ways k dw (omega arith))).empty)
     (λ (t : (length lanes ≤ k) × (slice_get lanes k ≡ None)). let h = t.0 in absurd (omega arith))
     (slice_get_cases lanes k).1

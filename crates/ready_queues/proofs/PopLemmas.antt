@@ -1,5 +1,5 @@
 -- The ends of a way after it has tried to take a number out of a queue.
-use Rattle.std.proofs.Common.{◌≡◌, ◌≢◌, ℕ, zero, suc, ◌+◌, ◌<◌, Option, List, [], ◌∷◌, ◌++◌, length, set, get_or, sym, refl, ap, ◌∙◌, subst, arith, cond, eqb, eq-eqb, ne_eqb, min, ◌^◌, ◌-◌, length-append}
+use Rattle.std.proofs.Common.{◌≡◌, ℕ, ◌+◌, ◌<◌, Option, List, [], ◌∷◌, length, set, get_or, sym, refl, ap, ◌∙◌, subst, arith, cond, eq-eqb, ne_eqb, min, ◌^◌, ◌-◌, length-append}
 use Rattle.std.specs.Prelude.{Some, None, slice_get, IfSome, IfNone, MatchOption, is_some}
 use Rattle.std.proofs.lemmas.Option.{get_or_from_slice_get, slice_get-get_or}
 use Rattle.std.proofs.lemmas.List.Sums.{sum_by-set}
@@ -9,7 +9,7 @@ use Rattle.ready_queues.specs.declared.end.End.{End}
 use Rattle.ready_queues.specs.declared.lane.Lane.{Lane}
 use Rattle.ready_queues.specs.Hands.{with_received}
 use Rattle.ready_queues.specs.QueueRule.{IsNodeOf, IsHandOf, HeldAt}
-use Rattle.ready_queues.specs.Ends.{hand_of, wakes_of, IsEndOf, AreEndsOf, received_by}
+use Rattle.ready_queues.specs.Ends.{hand_of, wakes_of, AreEndsOf, received_by}
 use Rattle.ready_queues.specs.Receiving.{IsSameEnd, AreSameEnds, HasReceivedAt, HasReceived, WasEmpty}
 use Rattle.ready_queues.proofs.EndLemmas.{related, end_at, ends_set, some_is, slice_get_set}
 
@@ -56,7 +56,7 @@ module _ (owner : List ℕ) (lanes : List Lane) (ends : List End) (are : AreEnds
   pop_none (Some x) p = tt
   pop_none None p = (
     related (λ j a b. IsSameEnd a b) ends number new (λ j e other. record { hand = refl; wakes = refl })
-    (λ e at. let is : old ≡ e = get_or_from_slice_get ends number e d at in record { hand = p.0 ∙ ap hand_of is; wakes = ap wakes_of is }),
+        (λ e at. let is : old ≡ e = get_or_from_slice_get ends number e d at in record { hand = p.0 ∙ ap hand_of is; wakes = ap wakes_of is }),
     (λ e at. let n = are.count in let is : new ≡ e = some_is new e (sym (slice_get_set ends number new (omega arith)) ∙ at) in
         subst (HeldAt 0) (sym p.0 ∙ ap hand_of is) p.1),
   )

@@ -1,6 +1,6 @@
 -- Each step on a queue keeps its rule.
-use Rattle.std.proofs.Common.{◌≡◌, ◌≢◌, ℕ, zero, suc, ◌+◌, ◌<◌, true, false, true≢false, List, [], ◌∷◌, ◌++◌, length, eqb, set, inl, inr, sym, refl, ap, ◌∙◌, subst, ⊎_elim, arith, filter, length-append}
-use Rattle.std.specs.Prelude.{All, Some, slice_get}
+use Rattle.std.proofs.Common.{◌≡◌, ◌≢◌, ℕ, zero, suc, ◌+◌, true, true≢false, List, [], ◌∷◌, ◌++◌, length, eqb, set, inl, inr, sym, refl, ap, ◌∙◌, subst, ⊎_elim, arith, filter, length-append}
+use Rattle.std.specs.Prelude.{All}
 use Rattle.std.specs.List.{sum_by}
 use Rattle.std.proofs.lemmas.List.Elements.{All-head, All-tail, All-append, filter-append}
 use Rattle.std.proofs.lemmas.List.Sums.{sum_by-cons, sum_by_push}
@@ -47,9 +47,9 @@ only_one (suc k) h e = absurd (some-ne-none h (sym e))
 pub named_queue : (items : List ℕ) (hands : List Hand) (k : ℕ) (h : Hand) → Keeps items hands → get_elem? hands k ≡ some h → h.named ≡ true → IsQueue h.owner h.number items hands
 named_queue items hands k h kept at named = ⊎_elim
     (λ (u : IsUnnamed items hands). let e : unnamed ≡ h = only_one k h (ap (λ l. get_elem? l k) (sym u.1) ∙ at) in
-        absurd (true≢false (sym named ∙ ap (λ (g : Hand). g.named) (sym e))))
+    absurd (true≢false (sym named ∙ ap (λ (g : Hand). g.named) (sym e))))
     (λ (q : (owner : List ℕ) × (number : ℕ) × IsQueue owner number items hands). let r : IsQueue q.0 q.1 items hands = q.2 in let same = r.named k h at in
-        subst (λ (p : List ℕ × ℕ). IsQueue p.0 p.1 items hands) (λ i. (sym same.1 i, sym same.2 i)) r)
+    subst (λ (p : List ℕ × ℕ). IsQueue p.0 p.1 items hands) (λ i. (sym same.1 i, sym same.2 i)) r)
     kept
 
 pub begins : Keeps [] (unnamed ∷ [])
@@ -60,14 +60,18 @@ may_push n port h x named node items hands room kept at =
     let q = named_queue items hands port h kept at named in
     let w : Hand = with_pushed h x in (
       w,
-      inr (h.owner, h.number, record {
-        nodes = All-append (IsNodeOf h.owner h.number) items (x ∷ []) q.nodes (all_one (IsNodeOf h.owner h.number) x node);
-        named = named_set h.owner h.number hands port w q.named (named, refl, refl);
-        balanced = λ y. let p = sum_set (λ (g : Hand). times y g.pushed) hands port h w at in
-            let r = sum_set (λ (g : Hand). times y g.received) hands port h w at in
-            let b = q.balanced y in
-            omega (arith, times_append y h.pushed (x ∷ []), times_append y items (x ∷ []));
-      }),
+      inr (
+        h.owner,
+        h.number,
+        record {
+          nodes = All-append (IsNodeOf h.owner h.number) items (x ∷ []) q.nodes (all_one (IsNodeOf h.owner h.number) x node);
+          named = named_set h.owner h.number hands port w q.named (named, refl, refl);
+          balanced = λ y. let p = sum_set (λ (g : Hand). times y g.pushed) hands port h w at in
+              let r = sum_set (λ (g : Hand). times y g.received) hands port h w at in
+              let b = q.balanced y in
+              omega (arith, times_append y h.pushed (x ∷ []), times_append y items (x ∷ []));
+        },
+      ),
       refl,
     )
 
@@ -76,14 +80,18 @@ may_pop port h named x items hands kept at =
     let q = named_queue (x ∷ items) hands port h kept at named in
     let w : Hand = with_received h x in (
       w,
-      inr (h.owner, h.number, record {
-        nodes = All-tail (IsNodeOf h.owner h.number) x items q.nodes;
-        named = named_set h.owner h.number hands port w q.named (named, refl, refl);
-        balanced = λ y. let p = sum_set (λ (g : Hand). times y g.pushed) hands port h w at in
-            let r = sum_set (λ (g : Hand). times y g.received) hands port h w at in
-            let b : pushes y hands ≡ receipts y hands + times y (x ∷ items) = q.balanced y in
-            omega (arith, times_append y h.received (x ∷ []), times_append y (x ∷ []) items);
-      }),
+      inr (
+        h.owner,
+        h.number,
+        record {
+          nodes = All-tail (IsNodeOf h.owner h.number) x items q.nodes;
+          named = named_set h.owner h.number hands port w q.named (named, refl, refl);
+          balanced = λ y. let p = sum_set (λ (g : Hand). times y g.pushed) hands port h w at in
+              let r = sum_set (λ (g : Hand). times y g.received) hands port h w at in
+              let b : pushes y hands ≡ receipts y hands + times y (x ∷ items) = q.balanced y in
+              omega (arith, times_append y h.received (x ∷ []), times_append y (x ∷ []) items);
+        },
+      ),
       (refl, All-head (IsNodeOf h.owner h.number) x items q.nodes),
     )
 
@@ -96,22 +104,30 @@ may_deal port h named items hands kept at =
     let q = named_queue items hands port h kept at named in
     let r : Hand = hand h.owner h.number [] [] in
     let all : List Hand = set hands port h in
-    inr (h.owner, h.number, record {
-      nodes = q.nodes;
-      named = named_snoc h.owner h.number all r (named_set h.owner h.number hands port h q.named (named, refl, refl)) (refl, refl, refl);
-      balanced = λ y. let p = sum_set (λ (g : Hand). times y g.pushed) hands port h h at in
-          let s = sum_set (λ (g : Hand). times y g.received) hands port h h at in
-          let b = q.balanced y in
-          omega (arith, sum_by_push (λ (g : Hand). times y g.pushed) all r, sum_by_push (λ (g : Hand). times y g.received) all r);
-    })
+    inr (
+      h.owner,
+      h.number,
+      record {
+        nodes = q.nodes;
+        named = named_snoc h.owner h.number all r (named_set h.owner h.number hands port h q.named (named, refl, refl)) (refl, refl, refl);
+        balanced = λ y. let p = sum_set (λ (g : Hand). times y g.pushed) hands port h h at in
+            let s = sum_set (λ (g : Hand). times y g.received) hands port h h at in
+            let b = q.balanced y in
+            omega (arith, sum_by_push (λ (g : Hand). times y g.pushed) all r, sum_by_push (λ (g : Hand). times y g.received) all r);
+      },
+    )
 
 fresh : (owner : List ℕ) (number port : ℕ) (v : Hand) → get_elem? (unnamed ∷ []) port ≡ some v
     → Keeps [] (set (unnamed ∷ []) port (hand owner number [] []) ++ hand owner number [] [] ∷ [])
-fresh owner number zero v at = let w : Hand = hand owner number [] [] in inr (owner, number, record {
-  nodes = all_none (IsNodeOf owner number);
-  named = named_snoc owner number (w ∷ []) w (named_snoc owner number [] w (λ k h e. absurd (some-ne-none h (sym e))) (refl, refl, refl)) (refl, refl, refl);
-  balanced = λ y. refl;
-})
+fresh owner number zero v at = let w : Hand = hand owner number [] [] in inr (
+  owner,
+  number,
+  record {
+    nodes = all_none (IsNodeOf owner number);
+    named = named_snoc owner number (w ∷ []) w (named_snoc owner number [] w (λ k h e. absurd (some-ne-none h (sym e))) (refl, refl, refl)) (refl, refl, refl);
+    balanced = λ y. refl;
+  },
+)
 fresh owner number (suc port) v at = absurd (some-ne-none v (sym at))
 
 -- the queue is told whose it is
@@ -120,5 +136,5 @@ may_name owner number port v is items hands kept at = let w : Hand = hand owner 
     (λ (u : IsUnnamed items hands). subst (λ (p : List ℕ × List Hand). Keeps p.0 (set p.1 port w ++ w ∷ [])) (λ i. (sym u.0 i, sym u.1 i))
     (fresh owner number port v (ap (λ l. get_elem? l port) (sym u.1) ∙ at)))
     (λ (q : (owner : List ℕ) × (number : ℕ) × IsQueue owner number items hands). let r : IsQueue q.0 q.1 items hands = q.2 in
-        absurd (true≢false (sym (r.named port v at).0 ∙ ap (λ (g : Hand). g.named) is)))
+    absurd (true≢false (sym (r.named port v at).0 ∙ ap (λ (g : Hand). g.named) is)))
     kept

@@ -1,5 +1,5 @@
 -- The ends of a way from node to node of a set that is sent.
-use Rattle.std.proofs.Common.{◌≡◌, ◌≢◌, ℕ, zero, suc, ◌+◌, ◌<◌, ◌≤◌, Bool, true, false, ◌&&◌, not, List, [], ◌∷◌, ◌++◌, length, set, get_or, filter, sym, refl, ap, ◌∙◌, subst, ⊎_elim, arith, cond, eqb, eq-eqb, ne_eqb, append_assoc, append-nil, length-append}
+use Rattle.std.proofs.Common.{◌≡◌, ◌≢◌, ℕ, zero, suc, ◌+◌, ◌<◌, ◌≤◌, Bool, true, false, ◌&&◌, not, List, [], ◌∷◌, ◌++◌, length, set, get_or, filter, sym, refl, ap, ◌∙◌, subst, arith, cond, eqb, eq-eqb, ne_eqb, append_assoc, append-nil, length-append}
 use Rattle.std.specs.Prelude.{Some, slice_get, slice_index}
 use Rattle.std.specs.Int.{bit_at}
 use Rattle.std.specs.List.{range_with_len}
@@ -12,9 +12,9 @@ use Rattle.ready_queues.specs.Ends.{hand_of, wakes_of, received_by}
 use Rattle.std.proofs.lemmas.List.Sums.{sum_by-set}
 use mathlib.Core.Logic.{dite}
 use native.Mathlib.Decide.{ℕ_discrete}
-use Rattle.ready_queues.specs.QueueRule.{IsNodeOf}
 use Rattle.ready_queues.proofs.EndLemmas.{related, some_is}
-use Rattle.ready_queues.specs.Sending.{is_bound, IsBound, bound_below, taken_in, pushed_on, given_on, HasSentNode, AreSentNode, HasSentTo, HaveSent}
+use Rattle.ready_queues.specs.ParkingRule.{given_on}
+use Rattle.ready_queues.specs.Sending.{is_bound, IsBound, bound_below, taken_in, pushed_on, HasSentNode, AreSentNode, HasSentTo, HaveSent}
 
 range_snoc : (a n j : ℕ) → a + n ≡ j → range_with_len a (suc n) ≡ range_with_len a n ++ j ∷ []
 range_snoc a zero j e = let is : a ≡ j = omega arith in ap (λ k. k ∷ []) is
@@ -51,7 +51,7 @@ module _ (owner : List ℕ) (woke number : ℕ) where
   taken_more n full now f here others =
       let q : ℕ → Bool = λ x. not (eqb (bit_at now x) 1) in let r : ℕ → Bool = λ x. not (eqb (bit_at full x) 1) in
       filter_more q n ∙ (λ i. agree q r n (λ x h j. not (eqb (others x (λ e. absurd (omega arith)) j) 1)) i
-          ++ cond (p n && (ap (λ b. not (eqb b 1)) here ∙ by f) i) (n ∷ []) [])
+      ++ cond (p n && (ap (λ b. not (eqb b 1)) here ∙ by f) i) (n ∷ []) [])
     where
       by : (f : Bool) → not (eqb (cond f 1 0) 1) ≡ not f
       by true = refl
@@ -64,8 +64,8 @@ module _ (owner : List ℕ) (woke number : ℕ) where
         ∙ ap (λ l. record (hand_of a) { pushed = l }) (append_assoc (hand_of a).pushed (taken_in n owner woke full number) (cond (p n && not f) (n ∷ []) [])
         ∙ ap (λ l. (hand_of a).pushed ++ l) (sym (taken_more n full now f here others)));
     wakes = t.wakes ∙ ap (λ (w : Woken). given_on w (cond (p n) 1 0)) s.wakes ∙ ap (λ k. record { given = k; taken = (wakes_of a).taken }) (
-      let l = ap length (bound_more n) ∙ length-append (bound_below n owner woke number) (cond (p n) (n ∷ []) []) in let o = one (p n) in omega arith
-    );
+        let l = ap length (bound_more n) ∙ length-append (bound_below n owner woke number) (cond (p n) (n ∷ []) []) in let o = one (p n) in omega arith
+        );
   }
     where
       one : (b : Bool) → length (cond b (n ∷ []) []) ≡ cond b 1 0

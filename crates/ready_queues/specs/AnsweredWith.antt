@@ -1,7 +1,7 @@
--- What it is for a way to be answered with some ways: its passes are to their queues and parkers, in
--- the order of the loops, and it parks on the parker of its own thread.
+-- What it is for a way to be answered with some ways: its passes are to their queues and parkers,
+-- in the order of the loops, and it parks on the parker of its own thread.
 -- Source: this project's own.
-use Rattle.std.specs.Prelude.{◌≡◌, ℕ, List, [], ◌∷◌, ◌++◌, map, Some, slice_get}
+use Rattle.std.specs.Prelude.{◌≡◌, List, [], ◌∷◌, ◌++◌, map, Some, slice_get}
 use Rattle.atomic_table.specs.Seated.{TableId}
 use Rattle.ready_queues.specs.declared.way.Way.{Way}
 use Rattle.ready_queues.specs.declared.ways.Ways.{Ways}

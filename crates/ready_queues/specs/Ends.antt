@@ -1,6 +1,6 @@
 -- The ends of a way: its pass to the queue of each loop, and its pass to that loop's parker.
 -- Source: this project's own.
-use Rattle.std.specs.Prelude.{◌≡◌, ℕ, List, [], length, All, Some, slice_get}
+use Rattle.std.specs.Prelude.{◌≡◌, ℕ, List, length, Some, slice_get}
 use Rattle.std.specs.List.{sum_by}
 use Rattle.crossbeam_queue.specs.Passes.{view, IsPassOf}
 use Rattle.crossbeam_utils.specs.Token.{parker_view}

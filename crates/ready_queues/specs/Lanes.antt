@@ -12,7 +12,7 @@ loops_limit = 16
 
 -- the parker that an unparker wakes
 abbrev pub unparks : {V P A : Type 0} → RuledUnparker V P A → TableId
-unparks unparker = (arc_value unparker.state).shared.table_id
+unparks unparker = let words = (arc_value unparker.state).shared in words.table_id
 
 -- the parker of a loop
 abbrev pub parker_of : Lane → TableId

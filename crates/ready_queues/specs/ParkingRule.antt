@@ -8,6 +8,13 @@ use Rattle.ready_queues.specs.declared.parking.Woken.{Woken}
 abbrev pub woken : ℕ → ℕ → Woken
 woken given taken = record { given = given; taken = taken }
 
+-- so many tokens more were given, or taken
+abbrev pub given_on : Woken → ℕ → Woken
+given_on w n = woken (w.given + n) w.taken
+
+abbrev pub taken_on : Woken → ℕ → Woken
+taken_on w n = woken w.given (w.taken + n)
+
 -- a token that is there
 abbrev pub worth : Bool → ℕ
 worth true = 1

@@ -1,7 +1,7 @@
--- The rule of a ready queue: each number in it is a node of its loop, and of each node the pushes of
--- all ways are as many as the times that it was received and that it stands in the queue.
+-- The rule of a ready queue: each number in it is a node of its loop, and of each node the pushes
+-- of all ways are as many as the times that it was received and that it stands in the queue.
 -- Source: this project's own; the queue is crossbeam's ArrayQueue.
-use Rattle.std.specs.Prelude.{◌≡◌, ℕ, ◌+◌, ◌⊎◌, Bool, true, List, [], ◌∷◌, length, All, eqb, filter, Some, slice_get}
+use Rattle.std.specs.Prelude.{◌≡◌, ℕ, ◌+◌, ◌⊎◌, true, List, [], ◌∷◌, length, All, eqb, filter, Some, slice_get}
 use Rattle.std.specs.List.{sum_by}
 use mathlib.Core.Option.{some}
 use lib.ListN.{get_elem?}
@@ -29,7 +29,8 @@ abbrev pub IsHandOf : List ℕ → ℕ → Hand → Type 0
 IsHandOf owner number h = (h.named ≡ true) × (h.owner ≡ owner) × (h.number ≡ number)
 
 -- the queue of a loop, which holds `items`, and in which all ways have these hands
-pub record IsQueue (owner : List ℕ) (number : ℕ) (items : List ℕ) (hands : List Hand) : Type 0 where
+pub record IsQueue (owner : List ℕ) (number : ℕ) (items : List ℕ) (hands : List Hand)
+    : Type 0 where
   pub nodes : All (IsNodeOf owner number) items
   pub named : (k : ℕ) (h : Hand) → get_elem? hands k ≡ some h → IsHandOf owner number h
   pub balanced : (x : ℕ) → pushes x hands ≡ receipts x hands + times x items

@@ -1,10 +1,10 @@
 -- Receiving: what a way knows after it took a number out of the queue of its loop.
 -- Source: this project's own.
-use Rattle.std.specs.Prelude.{◌≡◌, ℕ, ◌+◌, cond, eqb, List, Some, slice_get}
+use Rattle.std.specs.Prelude.{◌≡◌, ℕ, cond, eqb, List, Some, slice_get}
 use Rattle.crossbeam_utils.specs.Token.{parker_view}
 use Rattle.ready_queues.specs.declared.end.End.{End}
 use Rattle.ready_queues.specs.declared.way.Way.{Way}
-use Rattle.ready_queues.specs.ParkingRule.{woken}
+use Rattle.ready_queues.specs.ParkingRule.{taken_on}
 use Rattle.ready_queues.specs.Ends.{hand_of, wakes_of}
 use Rattle.ready_queues.specs.Hands.{with_received}
 use Rattle.ready_queues.specs.QueueRule.{HeldAt}
@@ -15,8 +15,8 @@ pub record IsSameEnd (a b : End) : Type 0 where
   pub wakes : wakes_of b ≡ wakes_of a
 
 abbrev pub AreSameEnds : List End → List End → Type 0
-AreSameEnds old new = (l : ℕ) (a b : End) → slice_get old l ≡ Some a → slice_get new l ≡ Some b
-    → IsSameEnd a b
+AreSameEnds old new = (l : ℕ) (a b : End) → slice_get old l ≡ Some a
+    → slice_get new l ≡ Some b → IsSameEnd a b
 
 -- the node was received at the end of the loop, and nothing else was done
 pub record HasReceivedAt (number node l : ℕ) (a b : End) : Type 0 where
@@ -41,5 +41,5 @@ pub record IsSameThread (a b : Way) : Type 0 where
 pub record HasRested (a b : Way) : Type 0 where
   pub number : b.number ≡ a.number
   pub ends : b.ends ≡ a.ends
-  pub own : parker_view b.own ≡ woken (parker_view a.own).given ((parker_view a.own).taken + 1)
+  pub own : parker_view b.own ≡ taken_on (parker_view a.own) 1
   pub driver : parker_view b.driver ≡ parker_view a.driver

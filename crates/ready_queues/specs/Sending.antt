@@ -1,16 +1,15 @@
--- Sending: which nodes of a set of bits are pushed into the queue of which loop, and what a way knows
--- of it afterwards.
+-- Sending: which nodes of a set of bits are pushed into the queue of which loop, and what a way
+-- knows of it afterwards.
 -- Source: this project's own.
-use Rattle.std.specs.Prelude.{◌≡◌, ℕ, ◌+◌, ◌<◌, Bool, true, ◌&&◌, not, cond, eqb, List, [], ◌∷◌, ◌++◌, length, filter, Some, slice_get, slice_index}
+use Rattle.std.specs.Prelude.{◌≡◌, ℕ, ◌<◌, Bool, ◌&&◌, not, cond, eqb, List, [], ◌∷◌, ◌++◌, length, filter, Some, slice_get, slice_index}
 use Rattle.std.specs.Int.{bit_at}
 use Rattle.std.specs.List.{range_with_len}
 use Rattle.crossbeam_utils.specs.Token.{parker_view}
 use Rattle.ready_queues.specs.declared.hand.Hand.{Hand}
-use Rattle.ready_queues.specs.declared.parking.Woken.{Woken}
 use Rattle.ready_queues.specs.declared.end.End.{End}
 use Rattle.ready_queues.specs.declared.way.Way.{Way}
 use Rattle.ready_queues.specs.Ends.{hand_of, wakes_of}
-use Rattle.ready_queues.specs.ParkingRule.{woken}
+use Rattle.ready_queues.specs.ParkingRule.{given_on}
 use Rattle.ready_queues.specs.QueueRule.{IsNodeOf, IsHandOf, HeldAt}
 
 -- whether a node is in the set, and one of the loop
@@ -32,13 +31,11 @@ taken_in n owner woke full number =
 abbrev pub pushed_on : Hand → List ℕ → Hand
 pushed_on h nodes = record h { pushed = h.pushed ++ nodes }
 
-abbrev pub given_on : Woken → ℕ → Woken
-given_on w n = woken (w.given + n) w.taken
-
 -- the end of a loop before and after one node was sent, which found the queue full or not
-pub record HasSentNode (owner : List ℕ) (woke node : ℕ) (full : Bool) (number : ℕ) (a b : End) : Type 0 where
+pub record HasSentNode (owner : List ℕ) (woke node : ℕ) (full : Bool) (number : ℕ) (a b : End)
+    : Type 0 where
   pub hand : hand_of b ≡ pushed_on (hand_of a)
-    (cond (is_bound owner woke number node && not full) (node ∷ []) [])
+      (cond (is_bound owner woke number node && not full) (node ∷ []) [])
   pub wakes : wakes_of b ≡ given_on (wakes_of a) (cond (is_bound owner woke number node) 1 0)
 
 abbrev pub AreSentNode : List ℕ → ℕ → ℕ → Bool → List End → List End → Type 0

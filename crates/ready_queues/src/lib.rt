@@ -6,6 +6,7 @@
 //! where it has nothing to do. So a loop need not try all its nodes to find the one that is ready.
 #![tactic(auto)]
 
+mod dealing;
 mod end;
 mod hand;
 mod lane;

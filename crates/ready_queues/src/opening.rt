@@ -1,24 +1,20 @@
 //! How the queues and parkers begin, and the way of each thread to them.
-ghost use Rattle.std.specs.Prelude.{◌≡◌, ◌<◌, ◌≤◌, ℕ, [], length, map, All, IfOk, Some, slice_get};
-ghost use Rattle.atomic_table.specs.Seated.{TableId};
+ghost use Rattle.std.specs.Prelude.{◌≡◌, ◌<◌, ◌≤◌, ℕ, [], length, All, IfOk, Some, slice_get};
 ghost use Rattle.crossbeam_queue.specs.Passes.{view, IsPassOf, ruled_capacity};
 ghost use Rattle.crossbeam_utils.specs.Token.{parker_view};
 ghost use Rattle.ready_queues.specs.declared.way.Way.{Way};
 ghost use Rattle.ready_queues.specs.Hands.{hand};
 ghost use Rattle.ready_queues.specs.Lanes.{loops_limit, parker_of, unparks};
 ghost use Rattle.pw_base.specs.Limits.{dummy_node};
-ghost use Rattle.ready_queues.specs.Opening.{IsFreshEnd, AreFreshEnds, AreFresh, IsBareWay, AreBare, IsNewWay};
+ghost use Rattle.ready_queues.specs.Opening.{IsFreshEnd, AreFreshEnds, IsBareWay, AreBare, IsNewWay};
 ghost use Rattle.ready_queues.specs.ParkingRule.{woken};
-
-ghost use Rattle.ready_queues.specs.Ends.{hand_of, received_by};
 
 use crate::end::End;
 use crate::lane::Lane;
 use crate::parking::{ParkPass, Parker, Unparker};
-use crate::queue::{Dealing, Named, Naming, Queue, QueuePass};
+use crate::queue::{Named, Naming, Queue, QueuePass};
 use crate::way::Way;
 use crate::ways::Ways;
-use crossbeam_utils::sync::parker::RuledParker;
 use pw_base::{Items, Memory, NODES};
 use std::alloc::Global;
 use std::marker::Brand;
@@ -31,7 +27,8 @@ fn open_queue<N: Named>(
     _number: u32,
 ) -> Result<(Queue, QueuePass), Memory>
     ensures room { IfOk result (λ q. ruled_capacity q.0 ≡ 64) }
-    ensures pass { IfOk result (λ q. IsPassOf q.0 q.1 × (view q.1 ≡ hand N.owner N.number [] [])) }
+    ensures pass { IfOk result (λ q. IsPassOf q.0 q.1
+        × (view q.1 ≡ hand N.owner N.number [] [])) }
 {
     match Queue::ruled(alloc, NODES) {
         Ok((queue, mut pass)) => {
@@ -45,7 +42,8 @@ fn open_queue<N: Named>(
 // The queue of a loop, where `owner` has the loop of each node.
 fn queue_of(alloc: Global, owner: &Items<u32>, number: u32) -> Result<(Queue, QueuePass), Memory>
     ensures room { IfOk result (λ q. ruled_capacity q.0 ≡ 64) }
-    ensures pass { IfOk result (λ q. IsPassOf q.0 q.1 × (view q.1 ≡ hand owner.now number [] [])) }
+    ensures pass { IfOk result (λ q. IsPassOf q.0 q.1
+        × (view q.1 ≡ hand owner.now number [] [])) }
 {
     open_queue::<Brand>(alloc, owner, number)
 }
@@ -82,7 +80,8 @@ fn open_loop(
 ) -> Result<Opened, Memory>
     ensures room { IfOk result (λ o. ruled_capacity o.lane.queue ≡ 64) }
     ensures end { IfOk result (λ o. IsFreshEnd owner.now number o.lane o.end) }
-    ensures way { IfOk result (λ o. IsBareWay (parker_of o.lane) (unparks driver.now) number o.way) }
+    ensures way { IfOk result (λ o.
+        IsBareWay (parker_of o.lane) (unparks driver.now) number o.way) }
 {
     let (queue, pass) = queue_of(alloc, owner, number)?;
     let (parker, own, unparker) = parker_of(alloc)?;
@@ -131,68 +130,6 @@ fn open_loops(
         ways.push(way)?;
     }
     Ok(OpenedLoops { lanes, ends, ways })
-}
-
-impl End {
-    // An end for one thread more, to the same loop. Neither has been used.
-    fn deal(&mut self, lane: &Lane) -> End
-        requires fresh { IsFreshEnd (hand_of self.old).owner (hand_of self.old).number lane.now
-            self.old }
-        ensures kept { IsFreshEnd (hand_of self.old).owner (hand_of self.old).number lane.now
-            self.new }
-        ensures dealt { IsFreshEnd (hand_of self.old).owner (hand_of self.old).number lane.now
-            result }
-    {
-        End {
-            number: self.number,
-            pass: lane.queue.another::<Dealing>(&mut self.pass),
-            wake: lane.unparker.pass(),
-        }
-    }
-}
-
-impl Way {
-    // The way gets its ends.
-    fn equip(&mut self, ends: Items<End>)
-        requires old { received_by self.old.ends.items ≡ 0 }
-        requires new { received_by ends ≡ 0 }
-        ensures thread { (self.new.number ≡ self.old.number) × (self.new.own ≡ self.old.own)
-            × (self.new.driver ≡ self.old.driver) }
-        ensures ends { self.new.ends.items ≡ ends }
-    {
-        self.ends = ends.into_vec();
-    }
-}
-
-impl Ways {
-    // Ends for one thread more. None has been used.
-    fn deal(&self, alloc: Global, ends: &mut [End]) -> Result<Items<End>, Memory>
-        requires fresh { AreFreshEnds self.now.owner self.now.lanes ends.old }
-        ensures kept { AreFreshEnds self.now.owner self.now.lanes ends.new }
-        ensures dealt { IfOk result (AreFreshEnds self.now.owner self.now.lanes) }
-    {
-        let mut more = Items::new(alloc);
-        for at in 0..self.lanes.len() {
-            more.push(ends[at].deal(&self.lanes.as_slice()[at]))?;
-        }
-        Ok(more)
-    }
-
-    // The ways of all loops get their ends.
-    fn equip_all(&self, alloc: Global, ends: &mut [End], ways: &mut [Way]) -> Result<(), Memory>
-        requires count { length ways.old ≡ length self.now.lanes }
-        requires fresh { AreFreshEnds self.now.owner self.now.lanes ends.old }
-        requires bare { AreBare self.now.lanes (unparks self.now.driver) ways.old }
-        ensures kept { AreFreshEnds self.now.owner self.now.lanes ends.new }
-        ensures bare { AreBare self.now.lanes (unparks self.now.driver) ways.new }
-        ensures ends { IfOk result (λ _. (k : ℕ) (w : Way) → slice_get ways.new k ≡ Some w
-            → AreFreshEnds self.now.owner self.now.lanes w.ends.items) }
-    {
-        for k in 0..ways.len() {
-            ways[k].equip(self.deal(alloc, ends)?);
-        }
-        Ok(())
-    }
 }
 
 impl Ways {

@@ -1,5 +1,5 @@
 //! How a loop takes a number out of its queue, and how a thread rests.
-ghost use Rattle.std.specs.Prelude.{◌≡◌, ◌+◌, ◌-◌, ◌^◌, ◌<◌, List, cond, is_some, min, IfSome, IfNone};
+ghost use Rattle.std.specs.Prelude.{◌≡◌, ◌+◌, ◌-◌, ◌^◌, ◌<◌, cond, is_some, min, IfSome, IfNone};
 ghost use Rattle.ready_queues.specs.AnsweredWith.{IsWayOf};
 ghost use Rattle.ready_queues.specs.Ends.{AreEndsOf, received_by};
 ghost use Rattle.ready_queues.specs.QueueRule.{IsNodeOf};
@@ -7,7 +7,7 @@ ghost use Rattle.ready_queues.specs.Receiving.{HasReceived, WasEmpty, AreSameEnd
 ghost use Rattle.ready_queues.specs.Receiving.{HasRested};
 
 use crate::end::End;
-use crate::parking::Takes;
+use crate::parking::park;
 use crate::queue::Pops;
 use crate::way::Way;
 use crate::ways::Ways;
@@ -57,13 +57,14 @@ impl Ways {
         node
     }
 
-    /// Parks the way's own thread until it is unparked, which may have been before. Takes no memory.
+    /// Parks the way's own thread until it is unparked, which may have been before. Takes no
+    /// memory.
     /// Condition: the way was answered with these ways.
     pub fn rest<R: Wait>(&self, rt: &R, way: &mut Way)
         requires answered { IsWayOf self.now way.old }
         ensures answered { IsWayOf self.now way.new }
         ensures rested { HasRested way.old way.new }
     {
-        way.parker.park_as::<Takes, R>(rt, &mut way.own);
+        park(rt, &way.parker, &mut way.own);
     }
 }

@@ -6,11 +6,12 @@ ghost use Rattle.ready_queues.specs.AnsweredWith.{IsWayOf};
 ghost use Rattle.ready_queues.specs.Ends.{AreEndsOf, IsEndOf, hand_of, wakes_of, received_by};
 ghost use Rattle.ready_queues.specs.QueueRule.{IsNodeOf};
 ghost use Rattle.ready_queues.specs.Sending.{AreSentNode, HaveSent, IsRefused, WasFull, pushed_on};
-ghost use Rattle.ready_queues.specs.Sending.{given_on, is_bound, IsBound, HasSent};
+ghost use Rattle.ready_queues.specs.ParkingRule.{given_on};
+ghost use Rattle.ready_queues.specs.Sending.{is_bound, IsBound, HasSent};
 
 use crate::end::End;
 use crate::lane::Lane;
-use crate::parking::Gives;
+use crate::parking::wake;
 use crate::queue::Pushes;
 use crate::way::Way;
 use crate::ways::Ways;
@@ -30,7 +31,8 @@ impl End {
     // One push of a node into the queue of its loop, and that loop is unparked. Whether the queue
     // was full.
     fn push<R: Wait>(&mut self, rt: &R, lane: &Lane, node: u32) -> bool
-        requires end { IsEndOf (hand_of self.old).owner (hand_of self.old).number lane.now self.old }
+        requires end { IsEndOf (hand_of self.old).owner (hand_of self.old).number lane.now
+            self.old }
         requires room { ruled_capacity lane.now.queue ≡ 64 }
         requires node { IsNodeOf (hand_of self.old).owner (hand_of self.old).number node }
         ensures end { IsEndOf (hand_of self.old).owner (hand_of self.old).number lane.now self.new }
@@ -44,7 +46,7 @@ impl End {
             .queue
             .push_as::<Pushes, R>(rt, &mut self.pass, node)
             .is_err();
-        lane.unparker.unpark_as::<Gives>(&mut self.wake);
+        wake(&lane.unparker, &mut self.wake);
         full
     }
 }
@@ -102,16 +104,15 @@ impl Ways {
         full
     }
 
-    /// For each node of a set that is not the driver's own, ascending, makes one push into the queue
-    /// of that node's loop and unparks that loop. Afterwards it unparks the driver's thread, also
-    /// where it made no push. Bit n of the set is node n. The answer has exactly the bits of the
-    /// nodes whose push in this call found 64 numbers in the queue; of each other such node the way
-    /// knows one push more.
+    /// For each node of a set that is not the driver's own, ascending, makes one push into the
+    /// queue of that node's loop and unparks that loop. Afterwards it unparks the driver's thread,
+    /// also where it made no push. Bit n of the set is node n; a bit that is no node of `owner`, as
+    /// 63, is the driver's own. The answer has exactly the bits of the nodes whose push in this
+    /// call found 64 numbers in the queue; of each other such node the way knows one push more.
     ///
     /// May wait for another thread that is in the middle of a push or a pop. Takes no memory; cost:
-    /// a look at each node, and for each push a compare-exchange, two exchanges, and a call of the
-    /// system where the loop sleeps.
-    /// A bit that is no node of `owner`, as 63, is the driver's own.
+    /// a look at each node, for each push a few atomic steps, and a call of the system for each
+    /// thread that sleeps.
     /// Condition: the way was answered with these ways.
     pub fn send<R: Wait>(&self, rt: &R, way: &mut Way, woke: u64) -> u64
         requires answered { IsWayOf self.now way.old }
@@ -119,7 +120,7 @@ impl Ways {
         ensures sent { HasSent self.now.owner self.now.loops woke result way.old way.new }
     {
         let full = self.send_all(rt, way.ends.as_mut_slice(), woke);
-        self.driver.unpark_as::<Gives>(&mut way.driver);
+        wake(&self.driver, &mut way.driver);
         full
     }
 }

@@ -28,14 +28,7 @@ fn two_loops(alloc: Global) -> Result<Option<(Ways, Way, Way, Way)>, Memory>
 }
 
 // Sends a set so often: how often the answer was `full`.
-fn send_often<R: Wait>(
-    rt: &R,
-    ways: &Ways,
-    way: &mut Way,
-    woke: u64,
-    often: u32,
-    full: u64,
-) -> u32
+fn send_often<R: Wait>(rt: &R, ways: &Ways, way: &mut Way, woke: u64, often: u32, full: u64) -> u32
     requires answered { IsWayOf ways.now way.old }
     ensures answered { IsWayOf ways.now way.new }
 {

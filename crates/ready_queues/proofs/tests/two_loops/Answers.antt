@@ -1,4 +1,3 @@
-use Rattle.std.proofs.Common.{sym, ◌∙◌}
 use Rattle.ready_queues.proofs.PoppingLemmas.{rest_count, popped_at, stood_at}
 use Rattle.ready_queues.proofs.tests.two_loops.Goals as goal
 

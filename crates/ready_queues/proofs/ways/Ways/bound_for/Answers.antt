@@ -1,4 +1,4 @@
-use Rattle.std.proofs.Common.{◌≡◌, sym, ◌∙◌, ap, arith, get_or, List, ℕ, length, subst}
+use Rattle.std.proofs.Common.{◌≡◌, sym, ◌∙◌, ap, arith, get_or, List, ℕ}
 use Rattle.std.specs.Prelude.{Some, slice_get}
 use Rattle.std.proofs.lemmas.Nat.Bits.{shr_and_one}
 use Rattle.std.proofs.lemmas.Option.{slice_get-get_or}

@@ -3,7 +3,7 @@ use Rattle.std.specs.Prelude.{Some, slice_get}
 use Rattle.std.proofs.lemmas.Option.{slice_get-get_or}
 use Rattle.ready_queues.specs.declared.end.End.{End}
 use Rattle.ready_queues.specs.Ends.{received_by}
-use Rattle.ready_queues.specs.Opening.{IsFreshEnd, AreFresh, AreFreshEnds}
+use Rattle.ready_queues.specs.Opening.{IsFreshEnd, AreFresh}
 use Rattle.ready_queues.proofs.OpeningLemmas.{dealt_at, fresh_set, received_more, one_snoc}
 use Rattle.ready_queues.proofs.ways.Ways.deal.Goals as goal
 

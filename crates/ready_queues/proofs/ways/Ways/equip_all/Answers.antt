@@ -1,4 +1,4 @@
-use Rattle.std.proofs.Common.{◌≡◌, ◌∙◌, ℕ, length, refl, sym, ap, subst, arith, length-set}
+use Rattle.std.proofs.Common.{◌∙◌, refl, arith, length-set}
 use Rattle.std.proofs.lemmas.Option.{slice_get_within}
 use Rattle.ready_queues.specs.Lanes.{unparks}
 use Rattle.ready_queues.proofs.OpeningLemmas.{equipped_bare, equipped_ends, bare_empty}

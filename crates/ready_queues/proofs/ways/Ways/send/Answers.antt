@@ -1,13 +1,9 @@
-use Rattle.std.proofs.Common.{refl, ℕ, List, ◌≡◌, ◌∙◌, sym, ap, subst, length, min, ◌^◌, ◌-◌}
+use Rattle.std.proofs.Common.{refl, List, ◌∙◌, sym, ap, subst, length, min, ◌^◌, ◌-◌}
 use Rattle.std.proofs.lemmas.List.{with_items_is}
 use Rattle.ready_queues.specs.declared.end.End.{End}
 use Rattle.ready_queues.specs.Ends.{received_by}
 use Rattle.ready_queues.specs.Sending.{HaveSent}
-use Rattle.ready_queues.proofs.ParkingLemmas.{may_give}
 use Rattle.ready_queues.proofs.ways.Ways.send.Goals as goal
-
-pub unpark_as-requires-clause-rule : goal.unpark_as-requires-clause-rule
-unpark_as-requires-clause-rule g c = may_give _ _
 
 pub invariant_of-way : goal.invariant_of-way
 invariant_of-way g c = let way = c.args.way.now in let t = c.send_all-full in
@@ -24,6 +20,6 @@ returns-clause-sent g c = let way = c.args.way.now in let t = c.send_all-full in
       number = refl;
       own = refl;
       ends = subst (λ (l : List End × List End). HaveSent owner c.args.woke t.result (length owner) l.0 l.1) (λ i. (was i, sym now i)) t.ensures.sent;
-      driver = c.unpark_as.ensures.rule.1;
+      driver = c.wake.ensures.given;
       refused = t.ensures.refused;
     }

@@ -1,4 +1,4 @@
-use Rattle.std.proofs.Common.{◌≡◌, ◌∙◌, sym, ap, arith, subst, ℕ, length}
+use Rattle.std.proofs.Common.{◌≡◌, ◌∙◌, arith, subst, length}
 use Rattle.ready_queues.specs.Sending.{HaveSent, IsRefused}
 use Rattle.ready_queues.proofs.SendLemmas.{all_more, none_above, refused_more}
 use Rattle.ready_queues.proofs.ways.Ways.send_all.Goals as goal
@@ -8,7 +8,7 @@ loop-node-preserved g c = let ways = c.args.self.now in let i = c.loop-node.inva
     let before = c.requires.ends.count in let now = i.0.count in (
       s.ensures.ends,
       all_more ways.owner c.args.woke n _ c.loop-node.full w.result s.result c.args.ends.now c.loop-node.ends s.new.ends (omega arith) (omega arith)
-      w.ensures.here w.ensures.others i.1 s.ensures.sent,
+          w.ensures.here w.ensures.others i.1 s.ensures.sent,
       none_above n c.loop-node.full w.result s.result w.ensures.others i.2,
       refused_more (IsRefused ways.owner ways.loops c.args.woke) n c.loop-node.full w.result s.result w.ensures.here w.ensures.others s.ensures.full i.3,
       s.ensures.count ∙ i.4,

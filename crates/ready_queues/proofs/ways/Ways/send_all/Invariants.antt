@@ -1,4 +1,4 @@
-use Rattle.std.proofs.Common.{◌≡◌, ℕ, ◌≤◌, length}
+use Rattle.std.proofs.Common.{◌≡◌, ℕ, ◌≤◌}
 use Rattle.std.specs.Int.{bit_at}
 use Rattle.ready_queues.specs.Ends.{AreEndsOf, received_by}
 use Rattle.ready_queues.specs.Sending.{HaveSent, IsRefused}

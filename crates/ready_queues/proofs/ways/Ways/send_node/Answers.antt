@@ -1,4 +1,4 @@
-use Rattle.std.proofs.Common.{◌∙◌, sym, arith, subst, ℕ, List}
+use Rattle.std.proofs.Common.{◌∙◌, arith, subst, ℕ, List}
 use Rattle.ready_queues.specs.Sending.{WasFull}
 use Rattle.ready_queues.proofs.EndLemmas.{end_at}
 use Rattle.ready_queues.proofs.SendLemmas.{node_sent, none_sent, node_count}
