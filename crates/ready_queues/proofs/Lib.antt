@@ -6,3 +6,4 @@ pub mod SendLemmas
 pub mod OpeningLemmas
 pub mod NewLemmas
 pub mod PoppingLemmas
+pub mod NodeBitsLemmas

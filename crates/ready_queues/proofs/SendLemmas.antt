@@ -1,10 +1,12 @@
 -- The ends of a way from node to node of a set that is sent.
-use Rattle.std.proofs.Common.{◌≡◌, ◌≢◌, ℕ, zero, suc, ◌+◌, ◌<◌, ◌≤◌, Bool, true, false, ◌&&◌, not, List, [], ◌∷◌, ◌++◌, length, set, get_or, filter, sym, refl, ap, ◌∙◌, subst, arith, cond, eqb, eq-eqb, ne_eqb, append_assoc, append-nil, length-append}
+use Rattle.std.proofs.Common.{◌≡◌, ◌≢◌, ℕ, zero, suc, ◌+◌, ◌<◌, ◌≤◌, Bool, true, false, ◌&&◌, not, List, [], ◌∷◌, ◌++◌, length, set, get_or, filter, sym, refl, ap, ◌∙◌, subst, arith, cond, eqb, eq-eqb, ne_eqb, append_assoc, append-nil, length-append, ◌-◌, ◌⊎◌, inl, inr}
 use Rattle.std.specs.Prelude.{Some, slice_get, slice_index}
 use Rattle.std.specs.Int.{bit_at}
 use Rattle.std.specs.List.{range_with_len}
 use Rattle.std.proofs.lemmas.List.Elements.{filter-append}
 use Rattle.std.proofs.lemmas.Option.{slice_get-get_or, get_or_from_slice_get, slice_get_within}
+use Rattle.std.proofs.lemmas.Nat.Bits.{bit_at-zero}
+use Rattle.std.proofs.lemmas.Bool.{cases_lt}
 use Rattle.ready_queues.specs.declared.hand.Hand.{Hand}
 use Rattle.ready_queues.specs.declared.parking.Woken.{Woken}
 use Rattle.ready_queues.specs.declared.end.End.{End}
@@ -14,7 +16,7 @@ use mathlib.Core.Logic.{dite}
 use native.Mathlib.Decide.{ℕ_discrete}
 use Rattle.ready_queues.proofs.EndLemmas.{related, some_is}
 use Rattle.ready_queues.specs.ParkingRule.{given_on}
-use Rattle.ready_queues.specs.Sending.{is_bound, IsBound, bound_below, taken_in, pushed_on, HasSentNode, AreSentNode, HasSentTo, HaveSent}
+use Rattle.ready_queues.specs.Sending.{is_bound, IsBound, bound_below, taken_in, pushed_on, HasSentNode, AreSentNode, HasSentTo, HaveSent, IsRefused}
 
 range_snoc : (a n j : ℕ) → a + n ≡ j → range_with_len a (suc n) ≡ range_with_len a n ++ j ∷ []
 range_snoc a zero j e = let is : a ≡ j = omega arith in ap (λ k. k ∷ []) is
@@ -56,6 +58,19 @@ module _ (owner : List ℕ) (woke number : ℕ) where
       by : (f : Bool) → not (eqb (cond f 1 0) 1) ≡ not f
       by true = refl
       by false = refl
+
+  -- numbers that are not in the set are not sent
+  bound_skip : (n k m : ℕ) → m ≡ n + k → ((x : ℕ) → n ≤ x → x < m → bit_at woke x ≡ 0) → bound_below m owner woke number ≡ bound_below n owner woke number
+  bound_skip n zero m e out = ap (λ j. bound_below j owner woke number) (let same : m ≡ n = omega arith in same)
+  bound_skip n (suc k) m e out = let j : ℕ = n + k in ap (λ i. bound_below i owner woke number) (let same : m ≡ suc j = omega arith in same) ∙ bound_more j
+      ∙ ap (λ b. bound_below j owner woke number ++ cond b (j ∷ []) []) (ap (λ x. eqb x 1 && eqb (slice_index owner j) number) (out j (omega arith) (omega arith)))
+      ∙ append-nil (bound_below j owner woke number) ∙ bound_skip n k j refl (λ x h l. out x h (omega arith))
+
+  pub sent_skip : (n m full : ℕ) (a b : End) → n ≤ m → ((x : ℕ) → n ≤ x → x < m → bit_at woke x ≡ 0) → HasSentTo owner woke full n number a b → HasSentTo owner woke full m number a b
+  sent_skip n m full a b le out s = let is = bound_skip n (m - n) m (omega arith) out in record {
+    hand = s.hand ∙ ap (λ l. pushed_on (hand_of a) (filter (λ x. not (eqb (bit_at full x) 1)) l)) (sym is);
+    wakes = s.wakes ∙ ap (λ l. given_on (wakes_of a) (length l)) (sym is);
+  }
 
   pub sent_more : (n full now : ℕ) (f : Bool) (a b c : End) → bit_at now n ≡ cond f 1 0 → ((x : ℕ) → x ≢ n → bit_at now x ≡ bit_at full x)
       → HasSentTo owner woke full n number a b → HasSentNode owner woke n f number b c → HasSentTo owner woke now (suc n) number a c
@@ -137,11 +152,7 @@ pub node_count : (n : ℕ) (f : Bool) (ends : List End) (number : ℕ) (d new : 
 node_count n f ends number d new low h = let s = sum_by-set (λ (e : End). length (hand_of e).received) ends number new d low in
     let same : length (hand_of new).received ≡ length (hand_of (get_or ends number d)).received = ap (λ (g : Hand). length g.received) h in omega arith
 
--- the set of those that found their queue full
-pub none_above : (n full now : ℕ) (f : Bool) → ((x : ℕ) → x ≢ n → bit_at now x ≡ bit_at full x) → ((x : ℕ) → n ≤ x → bit_at full x ≡ 0)
-    → (x : ℕ) → n + 1 ≤ x → bit_at now x ≡ 0
-none_above n full now f others above x h = others x (λ e. absurd (omega arith)) ∙ above x (omega arith)
-
+-- which nodes found their queue full
 pub refused_more : (P : ℕ → Type 0) (n full now : ℕ) (f : Bool) → bit_at now n ≡ cond f 1 0 → ((x : ℕ) → x ≢ n → bit_at now x ≡ bit_at full x)
     → (f ≡ true → P n) → ((x : ℕ) → bit_at full x ≡ 1 → P x) → (x : ℕ) → bit_at now x ≡ 1 → P x
 refused_more P n full now f here others mine old x is = dite (ℕ_discrete x n)
@@ -151,3 +162,52 @@ refused_more P n full now f here others mine old x is = dite (ℕ_discrete x n)
     by : (f : Bool) → cond {A = ℕ} f 1 0 ≡ 1 → f ≡ true
     by true e = refl
     by false e = absurd (omega arith)
+
+-- the nodes below `from` are sent, and the rest of the set is what it has from there on
+pub record IsSentUntil (owner : List ℕ) (loops woke : ℕ) (old : List End) (rest full : ℕ) (ends : List End) (from : ℕ) : Type 0 where
+  pub inside : from ≤ length owner
+  pub done : (x : ℕ) → x < from → bit_at rest x ≡ 0
+  pub left : (x : ℕ) → from ≤ x → x < length owner → bit_at rest x ≡ bit_at woke x
+  pub sent : HaveSent owner woke full from old ends
+  pub above : (x : ℕ) → from ≤ x → bit_at full x ≡ 0
+  pub refused : (x : ℕ) → bit_at full x ≡ 1 → IsRefused owner loops woke x
+
+module _ (owner : List ℕ) (loops woke : ℕ) (old : List End) where
+  all_skip : (n m full : ℕ) (ends : List End) → n ≤ m → ((x : ℕ) → n ≤ x → x < m → bit_at woke x ≡ 0) → HaveSent owner woke full n old ends → HaveSent owner woke full m old ends
+  all_skip n m full ends le out s l a b was is = sent_skip owner woke l n m full a b le out (s l a b was is)
+
+  pub not_yet : (rest full : ℕ) (ends : List End) (from n : ℕ) → IsSentUntil owner loops woke old rest full ends from → bit_at rest n ≡ 1 → from ≤ n
+  not_yet rest full ends from n s there = by (cases_lt n from)
+    where
+      by : (n < from) ⊎ (from ≤ n) → from ≤ n
+      by (inl h) = let z = s.done n h in absurd (omega arith)
+      by (inr h) = h
+
+  pub begins : IsSentUntil owner loops woke old woke 0 old 0
+  begins = record {
+    inside = omega arith;
+    done = λ x h. absurd (omega arith);
+    left = λ x _ _. refl;
+    sent = nothing_sent owner woke old;
+    above = λ x _. bit_at-zero x;
+    refused = λ x h. let z = bit_at-zero x in absurd (omega arith);
+  }
+
+  pub goes_on : (rest full : ℕ) (ends : List End) (from n : ℕ) (rest' full' : ℕ) (f : Bool) (ends' : List End) → IsSentUntil owner loops woke old rest full ends from
+      → n < length owner → bit_at rest n ≡ 1 → ((x : ℕ) → x < n → bit_at rest x ≡ 0) → length owner ≤ 63 → length ends ≡ length old
+      → bit_at full' n ≡ cond f 1 0 → ((x : ℕ) → x ≢ n → bit_at full' x ≡ bit_at full x) → AreSentNode owner woke n f ends ends' → (f ≡ true → IsRefused owner loops woke n)
+      → bit_at rest' n ≡ 0 → ((x : ℕ) → x < 64 → x ≢ n → bit_at rest' x ≡ bit_at rest x) → IsSentUntil owner loops woke old rest' full' ends' (suc n)
+  goes_on rest full ends from n rest' full' f ends' s low there first few count here others sent mine gone same =
+      let after = not_yet rest full ends from n s there in
+      let out : (x : ℕ) → from ≤ x → x < n → bit_at woke x ≡ 0 = λ x h l. sym (s.left x h (omega arith)) ∙ first x l in record {
+        inside = omega arith;
+        done = λ x h. dite (ℕ_discrete x n) (λ (e : x ≡ n). ap (bit_at rest') e ∙ gone) (λ ne. same x (omega arith) ne ∙ first x (omega arith));
+        left = λ x h l. same x (omega arith) (λ e. absurd (omega arith)) ∙ s.left x (omega arith) l;
+        sent = all_more owner woke n (suc n) full full' f old ends ends' refl count here others (all_skip from n full ends after out s.sent) sent;
+        above = λ x h. others x (λ e. absurd (omega arith)) ∙ s.above x (omega arith);
+        refused = refused_more (IsRefused owner loops woke) n full full' f here others mine s.refused;
+      }
+
+  pub all_sent : (rest full : ℕ) (ends : List End) (from : ℕ) → IsSentUntil owner loops woke old rest full ends from → ((x : ℕ) → x < length owner → bit_at rest x ≡ 0)
+      → HaveSent owner woke full (length owner) old ends
+  all_sent rest full ends from s none = all_skip from (length owner) full ends s.inside (λ x h l. sym (s.left x h l) ∙ none x l) s.sent

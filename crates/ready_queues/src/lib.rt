@@ -10,6 +10,7 @@ mod dealing;
 mod end;
 mod hand;
 mod lane;
+mod node_bits;
 mod opening;
 mod parking;
 mod queue;

@@ -1,5 +1,5 @@
 //! How nodes are put into the queues of their loops.
-ghost use Rattle.std.specs.Prelude.{◌≡◌, ◌≢◌, ℕ, ◌<◌, cond, false, [], ◌∷◌, length, IsTrue, IfSome, IfNone};
+ghost use Rattle.std.specs.Prelude.{◌≡◌, ℕ, ◌<◌, cond, false, [], ◌∷◌, length, IsTrue, IfSome, IfNone};
 ghost use Rattle.std.specs.Int.{bit_at};
 ghost use Rattle.crossbeam_queue.specs.Passes.{ruled_capacity};
 ghost use Rattle.ready_queues.specs.AnsweredWith.{IsWayOf};
@@ -11,21 +11,12 @@ ghost use Rattle.ready_queues.specs.Sending.{is_bound, IsBound, HasSent};
 
 use crate::end::End;
 use crate::lane::Lane;
+use crate::node_bits::{first_below, noted, without};
 use crate::parking::wake;
 use crate::queue::Pushes;
 use crate::way::Way;
 use crate::ways::Ways;
 use std::sync::Wait;
-
-// The set with one number more, or the same.
-fn noted(set: u64, node: usize, more: bool) -> u64
-    requires below { node < 64 }
-    requires new { bit_at set node ≡ 0 }
-    ensures here { bit_at result node ≡ cond more 1 0 }
-    ensures others { (n : ℕ) → n ≢ node → bit_at result n ≡ bit_at set n }
-{
-    if more { set | 1 << node } else { set }
-}
 
 impl End {
     // One push of a node into the queue of its loop, and that loop is unparked. Whether the queue
@@ -97,9 +88,11 @@ impl Ways {
             → IsRefused self.now.owner self.now.loops woke node }
         ensures count { received_by ends.new ≡ received_by ends.old }
     {
+        let mut rest = woke;
         let mut full = 0;
-        for node in 0..self.owner.len() {
+        while let Some(node) = first_below(rest, self.owner.len()) {
             full = noted(full, node, self.send_node(rt, ends, woke, node));
+            rest = without(rest, node);
         }
         full
     }
@@ -111,8 +104,7 @@ impl Ways {
     /// call found 64 numbers in the queue; of each other such node the way knows one push more.
     ///
     /// May wait for another thread that is in the middle of a push or a pop. Takes no memory; cost:
-    /// a look at each node, for each push a few atomic steps, and a call of the system for each
-    /// thread that sleeps.
+    /// for each push a few atomic steps, and a call of the system for each thread that sleeps.
     /// Condition: the way was answered with these ways.
     pub fn send<R: Wait>(&self, rt: &R, way: &mut Way, woke: u64) -> u64
         requires answered { IsWayOf self.now way.old }
