@@ -16,7 +16,8 @@ use mathlib.Core.Logic.{dite}
 use native.Mathlib.Decide.{ℕ_discrete}
 use Rattle.ready_queues.proofs.EndLemmas.{related, some_is}
 use Rattle.ready_queues.specs.ParkingRule.{given_on}
-use Rattle.ready_queues.specs.Sending.{is_bound, IsBound, bound_below, taken_in, pushed_on, HasSentNode, AreSentNode, HasSentTo, HaveSent, IsRefused}
+use Rattle.ready_queues.specs.QueueRule.{IsNodeOf}
+use Rattle.ready_queues.specs.Sending.{is_of, is_bound, bound_below, taken_in, pushed_on, HasSentNode, AreSentNode, HasSentTo, HaveSent, IsRefused, FoundFull}
 
 range_snoc : (a n j : ℕ) → a + n ≡ j → range_with_len a (suc n) ≡ range_with_len a n ++ j ∷ []
 range_snoc a zero j e = let is : a ≡ j = omega arith in ap (λ k. k ∷ []) is
@@ -72,13 +73,13 @@ module _ (owner : List ℕ) (woke number : ℕ) where
     wakes = s.wakes ∙ ap (λ l. given_on (wakes_of a) (length l)) (sym is);
   }
 
-  pub sent_more : (n full now : ℕ) (f : Bool) (a b c : End) → bit_at now n ≡ cond f 1 0 → ((x : ℕ) → x ≢ n → bit_at now x ≡ bit_at full x)
-      → HasSentTo owner woke full n number a b → HasSentNode owner woke n f number b c → HasSentTo owner woke now (suc n) number a c
-  sent_more n full now f a b c here others s t = record {
-    hand = t.hand ∙ ap (λ (h : Hand). pushed_on h (cond (p n && not f) (n ∷ []) [])) s.hand
+  pub sent_more : (n full now : ℕ) (f : Bool) (a b c : End) → bit_at woke n ≡ 1 → bit_at now n ≡ cond f 1 0 → ((x : ℕ) → x ≢ n → bit_at now x ≡ bit_at full x)
+      → HasSentTo owner woke full n number a b → HasSentNode owner n f number b c → HasSentTo owner woke now (suc n) number a c
+  sent_more n full now f a b c there here others s t = let is : is_of owner number n ≡ p n = sym (ap (λ x. eqb x 1 && is_of owner number n) there) in record {
+    hand = t.hand ∙ ap (λ x. pushed_on (hand_of b) (cond (x && not f) (n ∷ []) [])) is ∙ ap (λ (h : Hand). pushed_on h (cond (p n && not f) (n ∷ []) [])) s.hand
         ∙ ap (λ l. record (hand_of a) { pushed = l }) (append_assoc (hand_of a).pushed (taken_in n owner woke full number) (cond (p n && not f) (n ∷ []) [])
         ∙ ap (λ l. (hand_of a).pushed ++ l) (sym (taken_more n full now f here others)));
-    wakes = t.wakes ∙ ap (λ (w : Woken). given_on w (cond (p n) 1 0)) s.wakes ∙ ap (λ k. record { given = k; taken = (wakes_of a).taken }) (
+    wakes = t.wakes ∙ ap (λ x. given_on (wakes_of b) (cond x 1 0)) is ∙ ap (λ (w : Woken). given_on w (cond (p n) 1 0)) s.wakes ∙ ap (λ k. record { given = k; taken = (wakes_of a).taken }) (
         let l = ap length (bound_more n) ∙ length-append (bound_below n owner woke number) (cond (p n) (n ∷ []) []) in let o = one (p n) in omega arith
         );
   }
@@ -87,20 +88,9 @@ module _ (owner : List ℕ) (woke number : ℕ) where
       one true = refl
       one false = refl
 
-  -- the end of the loop that the node is sent to, and of another
-  pub is_bound_here : (n : ℕ) → IsBound owner woke number n → p n ≡ true
-  is_bound_here n b = ap (λ x. x && eqb (slice_index owner n) number) (eq-eqb (bit_at woke n) 1 b.0) ∙ eq-eqb (slice_index owner n) number (get_or_from_slice_get owner n number 0 b.1)
-
-  pub not_bound_there : (other n : ℕ) → IsBound owner woke other n → number ≢ other → p n ≡ false
-  not_bound_there other n b ne = (λ i. eqb (bit_at woke n) 1 && ne_eqb (slice_index owner n) number (λ e. ne (sym e ∙ get_or_from_slice_get owner n other 0 b.1)) i) ∙ none (eqb (bit_at woke n) 1)
-    where
-      none : (b : Bool) → (b && false) ≡ false
-      none true = refl
-      none false = refl
-
-module _ (owner : List ℕ) (woke : ℕ) where
+module _ (owner : List ℕ) where
   -- an end that no node is sent to
-  pub stays : (n number : ℕ) (f : Bool) (e : End) → is_bound owner woke number n ≡ false → HasSentNode owner woke n f number e e
+  stays : (n number : ℕ) (f : Bool) (e : End) → is_of owner number n ≡ false → HasSentNode owner n f number e e
   stays n number f e off = record {
     hand = ap (λ l. record (hand_of e) { pushed = l }) (sym (append-nil (hand_of e).pushed)) ∙ sym (ap (λ b. pushed_on (hand_of e) (cond (b && not f) (n ∷ []) [])) off);
     wakes = ap (λ k. record { given = k; taken = (wakes_of e).taken }) plus ∙ sym (ap (λ b. given_on (wakes_of e) (cond b 1 0)) off);
@@ -109,9 +99,10 @@ module _ (owner : List ℕ) (woke : ℕ) where
       plus : (wakes_of e).given ≡ (wakes_of e).given + 0
       plus = omega arith
 
-  pub sent_here : (n number : ℕ) (f : Bool) (a b : End) → IsBound owner woke number n → hand_of b ≡ pushed_on (hand_of a) (cond f [] (n ∷ [])) → wakes_of b ≡ given_on (wakes_of a) 1
-      → HasSentNode owner woke n f number a b
-  sent_here n number f a b bound h w = let yes = is_bound_here owner woke number n bound in record {
+  -- the end of the loop that it is sent to
+  sent_here : (n number : ℕ) (f : Bool) (a b : End) → IsNodeOf owner number n → hand_of b ≡ pushed_on (hand_of a) (cond f [] (n ∷ [])) → wakes_of b ≡ given_on (wakes_of a) 1
+      → HasSentNode owner n f number a b
+  sent_here n number f a b node h w = let yes = eq-eqb (slice_index owner n) number (get_or_from_slice_get owner n number 0 node) in record {
     hand = h ∙ ap (pushed_on (hand_of a)) (by f) ∙ sym (ap (λ x. pushed_on (hand_of a) (cond (x && not f) (n ∷ []) [])) yes);
     wakes = w ∙ sym (ap (λ x. given_on (wakes_of a) (cond x 1 0)) yes);
   }
@@ -120,17 +111,18 @@ module _ (owner : List ℕ) (woke : ℕ) where
       by true = refl
       by false = refl
 
-  pub node_sent : (n number : ℕ) (f : Bool) (ends : List End) (d new : End) → IsBound owner woke number n → hand_of new ≡ pushed_on (hand_of (get_or ends number d)) (cond f [] (n ∷ []))
-      → wakes_of new ≡ given_on (wakes_of (get_or ends number d)) 1 → AreSentNode owner woke n f ends (set ends number new)
-  node_sent n number f ends d new bound h w = related (HasSentNode owner woke n f) ends number new
-      (λ j e other. stays n j f e (not_bound_there owner woke j number n bound other))
+  pub node_sent : (n number : ℕ) (f : Bool) (ends : List End) (d new : End) → IsNodeOf owner number n → hand_of new ≡ pushed_on (hand_of (get_or ends number d)) (cond f [] (n ∷ []))
+      → wakes_of new ≡ given_on (wakes_of (get_or ends number d)) 1 → AreSentNode owner n f ends (set ends number new)
+  node_sent n number f ends d new node h w = related (HasSentNode owner n f) ends number new
+      (λ j e other. stays n j f e (ne_eqb (slice_index owner n) j (λ is. other (sym is ∙ get_or_from_slice_get owner n number 0 node))))
       (λ e at. let is : get_or ends number d ≡ e = get_or_from_slice_get ends number e d at in
-      sent_here n number f e new bound (h ∙ ap (λ (x : End). pushed_on (hand_of x) (cond f [] (n ∷ []))) is) (w ∙ ap (λ (x : End). given_on (wakes_of x) 1) is))
+      sent_here n number f e new node (h ∙ ap (λ (x : End). pushed_on (hand_of x) (cond f [] (n ∷ []))) is) (w ∙ ap (λ (x : End). given_on (wakes_of x) 1) is))
 
-  pub none_sent : (n loops : ℕ) (ends : List End) → length ends ≡ loops → ((l : ℕ) → l < loops → is_bound owner woke l n ≡ false) → AreSentNode owner woke n false ends ends
+  pub none_sent : (n loops : ℕ) (ends : List End) → length ends ≡ loops → ((l : ℕ) → l < loops → is_of owner l n ≡ false) → AreSentNode owner n false ends ends
   none_sent n loops ends count off l a b was now = let low = slice_get_within ends l a was in
-      subst (HasSentNode owner woke n false l a) (some_is a b (sym was ∙ now)) (stays n l false a (off l (omega arith)))
+      subst (HasSentNode owner n false l a) (some_is a b (sym was ∙ now)) (stays n l false a (off l (omega arith)))
 
+module _ (owner : List ℕ) (woke : ℕ) where
   pub nothing_sent : (ends : List End) → HaveSent owner woke 0 0 ends ends
   nothing_sent ends l a b was now = subst (HasSentTo owner woke 0 0 l a) (some_is a b (sym was ∙ now)) (record {
     hand = ap (λ k. record (hand_of a) { pushed = k }) (sym (append-nil (hand_of a).pushed));
@@ -140,11 +132,11 @@ module _ (owner : List ℕ) (woke : ℕ) where
       plus : (wakes_of a).given ≡ (wakes_of a).given + 0
       plus = omega arith
 
-  pub all_more : (n next full now : ℕ) (f : Bool) (old mid new : List End) → next ≡ suc n → length mid ≡ length old → bit_at now n ≡ cond f 1 0 → ((x : ℕ) → x ≢ n → bit_at now x ≡ bit_at full x)
-      → HaveSent owner woke full n old mid → AreSentNode owner woke n f mid new → HaveSent owner woke now next old new
-  all_more n next full now f old mid new step count here others s t l a c was is = let low = slice_get_within old l a was in let b : End = get_or mid l a in
+  pub all_more : (n next full now : ℕ) (f : Bool) (old mid new : List End) → next ≡ suc n → length mid ≡ length old → bit_at woke n ≡ 1 → bit_at now n ≡ cond f 1 0 → ((x : ℕ) → x ≢ n → bit_at now x ≡ bit_at full x)
+      → HaveSent owner woke full n old mid → AreSentNode owner n f mid new → HaveSent owner woke now next old new
+  all_more n next full now f old mid new step count there here others s t l a c was is = let low = slice_get_within old l a was in let b : End = get_or mid l a in
       let at : slice_get mid l ≡ Some b = slice_get-get_or mid l a (omega arith) in
-      subst (λ k. HasSentTo owner woke now k l a c) (sym step) (sent_more owner woke l n full now f a b c here others (s l a b was at) (t l b c at is))
+      subst (λ k. HasSentTo owner woke now k l a c) (sym step) (sent_more owner woke l n full now f a b c there here others (s l a b was at) (t l b c at is))
 
 -- no number was received
 pub node_count : (n : ℕ) (f : Bool) (ends : List End) (number : ℕ) (d new : End) → number < length ends → hand_of new ≡ pushed_on (hand_of (get_or ends number d)) (cond f [] (n ∷ []))
@@ -195,17 +187,17 @@ module _ (owner : List ℕ) (loops woke : ℕ) (old : List End) where
 
   pub goes_on : (rest full : ℕ) (ends : List End) (from n : ℕ) (rest' full' : ℕ) (f : Bool) (ends' : List End) → IsSentUntil owner loops woke old rest full ends from
       → n < length owner → bit_at rest n ≡ 1 → ((x : ℕ) → x < n → bit_at rest x ≡ 0) → length owner ≤ 63 → length ends ≡ length old
-      → bit_at full' n ≡ cond f 1 0 → ((x : ℕ) → x ≢ n → bit_at full' x ≡ bit_at full x) → AreSentNode owner woke n f ends ends' → (f ≡ true → IsRefused owner loops woke n)
+      → bit_at full' n ≡ cond f 1 0 → ((x : ℕ) → x ≢ n → bit_at full' x ≡ bit_at full x) → AreSentNode owner n f ends ends' → (f ≡ true → FoundFull owner loops n)
       → bit_at rest' n ≡ 0 → ((x : ℕ) → x < 64 → x ≢ n → bit_at rest' x ≡ bit_at rest x) → IsSentUntil owner loops woke old rest' full' ends' (suc n)
   goes_on rest full ends from n rest' full' f ends' s low there first few count here others sent mine gone same =
-      let after = not_yet rest full ends from n s there in
+      let after = not_yet rest full ends from n s there in let set : bit_at woke n ≡ 1 = sym (s.left n after low) ∙ there in
       let out : (x : ℕ) → from ≤ x → x < n → bit_at woke x ≡ 0 = λ x h l. sym (s.left x h (omega arith)) ∙ first x l in record {
         inside = omega arith;
         done = λ x h. dite (ℕ_discrete x n) (λ (e : x ≡ n). ap (bit_at rest') e ∙ gone) (λ ne. same x (omega arith) ne ∙ first x (omega arith));
         left = λ x h l. same x (omega arith) (λ e. absurd (omega arith)) ∙ s.left x (omega arith) l;
-        sent = all_more owner woke n (suc n) full full' f old ends ends' refl count here others (all_skip from n full ends after out s.sent) sent;
+        sent = all_more owner woke n (suc n) full full' f old ends ends' refl count set here others (all_skip from n full ends after out s.sent) sent;
         above = λ x h. others x (λ e. absurd (omega arith)) ∙ s.above x (omega arith);
-        refused = refused_more (IsRefused owner loops woke) n full full' f here others mine s.refused;
+        refused = refused_more (IsRefused owner loops woke) n full full' f here others (λ yes. (set, mine yes)) s.refused;
       }
 
   pub all_sent : (rest full : ℕ) (ends : List End) (from : ℕ) → IsSentUntil owner loops woke old rest full ends from → ((x : ℕ) → x < length owner → bit_at rest x ≡ 0)

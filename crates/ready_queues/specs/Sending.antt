@@ -12,12 +12,12 @@ use Rattle.ready_queues.specs.Ends.{hand_of, wakes_of}
 use Rattle.ready_queues.specs.ParkingRule.{given_on}
 use Rattle.ready_queues.specs.QueueRule.{IsNodeOf, IsHandOf, HeldAt}
 
--- whether a node is in the set, and one of the loop
-abbrev pub is_bound : List ℕ → ℕ → ℕ → ℕ → Bool
-is_bound owner woke number node = eqb (bit_at woke node) 1 && eqb (slice_index owner node) number
+-- whether a node is one of the loop, and whether it is in the set too
+abbrev pub is_of : List ℕ → ℕ → ℕ → Bool
+is_of owner number node = eqb (slice_index owner node) number
 
-abbrev pub IsBound : List ℕ → ℕ → ℕ → ℕ → Type 0
-IsBound owner woke number node = (bit_at woke node ≡ 1) × IsNodeOf owner number node
+abbrev pub is_bound : List ℕ → ℕ → ℕ → ℕ → Bool
+is_bound owner woke number node = eqb (bit_at woke node) 1 && is_of owner number node
 
 -- the nodes below n in the set that are of the loop, ascending
 abbrev pub bound_below : ℕ → List ℕ → ℕ → ℕ → List ℕ
@@ -32,15 +32,15 @@ abbrev pub pushed_on : Hand → List ℕ → Hand
 pushed_on h nodes = record h { pushed = h.pushed ++ nodes }
 
 -- the end of a loop before and after one node was sent, which found the queue full or not
-pub record HasSentNode (owner : List ℕ) (woke node : ℕ) (full : Bool) (number : ℕ) (a b : End)
+pub record HasSentNode (owner : List ℕ) (node : ℕ) (full : Bool) (number : ℕ) (a b : End)
     : Type 0 where
   pub hand : hand_of b ≡ pushed_on (hand_of a)
-      (cond (is_bound owner woke number node && not full) (node ∷ []) [])
-  pub wakes : wakes_of b ≡ given_on (wakes_of a) (cond (is_bound owner woke number node) 1 0)
+      (cond (is_of owner number node && not full) (node ∷ []) [])
+  pub wakes : wakes_of b ≡ given_on (wakes_of a) (cond (is_of owner number node) 1 0)
 
-abbrev pub AreSentNode : List ℕ → ℕ → ℕ → Bool → List End → List End → Type 0
-AreSentNode owner woke node full old new = (l : ℕ) (a b : End) → slice_get old l ≡ Some a
-    → slice_get new l ≡ Some b → HasSentNode owner woke node full l a b
+abbrev pub AreSentNode : List ℕ → ℕ → Bool → List End → List End → Type 0
+AreSentNode owner node full old new = (l : ℕ) (a b : End) → slice_get old l ≡ Some a
+    → slice_get new l ≡ Some b → HasSentNode owner node full l a b
 
 -- the end of a loop before and after the nodes below n were sent
 pub record HasSentTo (owner : List ℕ) (woke full n number : ℕ) (a b : End) : Type 0 where
@@ -56,9 +56,12 @@ abbrev pub WasFull : List ℕ → ℕ → Type 0
 WasFull owner number = (h : Hand) × IsHandOf owner number h × HeldAt 64 h
 
 -- the node was pushed into the queue of its loop, one of `loops`, and found it full
+abbrev pub FoundFull : List ℕ → ℕ → ℕ → Type 0
+FoundFull owner loops node = (number : ℕ) × (number < loops) × IsNodeOf owner number node
+    × WasFull owner number
+
 abbrev pub IsRefused : List ℕ → ℕ → ℕ → ℕ → Type 0
-IsRefused owner loops woke node = (number : ℕ) × (number < loops)
-    × IsBound owner woke number node × WasFull owner number
+IsRefused owner loops woke node = (bit_at woke node ≡ 1) × FoundFull owner loops node
 
 -- the nodes of the set were sent and the driver's thread was unparked; `full` has the bits of those
 -- that found their queue full

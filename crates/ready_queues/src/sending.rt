@@ -5,9 +5,9 @@ ghost use Rattle.crossbeam_queue.specs.Passes.{ruled_capacity};
 ghost use Rattle.ready_queues.specs.AnsweredWith.{IsWayOf};
 ghost use Rattle.ready_queues.specs.Ends.{AreEndsOf, IsEndOf, hand_of, wakes_of, received_by};
 ghost use Rattle.ready_queues.specs.QueueRule.{IsNodeOf};
-ghost use Rattle.ready_queues.specs.Sending.{AreSentNode, HaveSent, IsRefused, WasFull, pushed_on};
+ghost use Rattle.ready_queues.specs.Sending.{AreSentNode, HaveSent, IsRefused, FoundFull, WasFull, pushed_on};
 ghost use Rattle.ready_queues.specs.ParkingRule.{given_on};
-ghost use Rattle.ready_queues.specs.Sending.{is_bound, IsBound, HasSent};
+ghost use Rattle.ready_queues.specs.Sending.{is_of, HasSent};
 
 use crate::end::End;
 use crate::lane::Lane;
@@ -43,33 +43,32 @@ impl End {
 }
 
 impl Ways {
-    // The loop that a node of a set is to be sent to, if it is in the set and not the driver's own.
-    fn bound_for(&self, woke: u64, node: usize) -> Option<u32>
+    // The loop of a node, if it is not the driver's own.
+    fn loop_of(&self, node: usize) -> Option<u32>
         requires inside { node < length self.now.owner }
         ensures some { IfSome result (λ l. (l < self.now.loops)
-            × IsBound self.now.owner woke l node) }
+            × IsNodeOf self.now.owner l node) }
         ensures none { IfNone result ((l : ℕ) → l < self.now.loops
-            → is_bound self.now.owner woke l node ≡ false) }
+            → is_of self.now.owner l node ≡ false) }
     {
         let number = self.owner.as_slice()[node];
-        if woke >> node & 1 == 1 && number != self.loops {
+        if number != self.loops {
             Some(number)
         } else {
             None
         }
     }
 
-    // One node is sent, if it is in the set and not the driver's own. Whether it found the queue
-    // full.
-    fn send_node<R: Wait>(&self, rt: &R, ends: &mut [End], woke: u64, node: usize) -> bool
+    // One node is sent, if it is not the driver's own. Whether it found the queue full.
+    fn send_node<R: Wait>(&self, rt: &R, ends: &mut [End], node: usize) -> bool
         requires ends { AreEndsOf self.now.owner self.now.lanes ends.old }
         requires inside { node < length self.now.owner }
         ensures ends { AreEndsOf self.now.owner self.now.lanes ends.new }
-        ensures sent { AreSentNode self.now.owner woke node result ends.old ends.new }
-        ensures full { IsTrue result → IsRefused self.now.owner self.now.loops woke node }
+        ensures sent { AreSentNode self.now.owner node result ends.old ends.new }
+        ensures full { IsTrue result → FoundFull self.now.owner self.now.loops node }
         ensures count { received_by ends.new ≡ received_by ends.old }
     {
-        match self.bound_for(woke, node) {
+        match self.loop_of(node) {
             Some(number) => {
                 let lane = &self.lanes.as_slice()[number as usize];
                 ends[number as usize].push(rt, lane, node as u32)
@@ -91,7 +90,7 @@ impl Ways {
         let mut rest = woke;
         let mut full = 0;
         while let Some(node) = first_below(rest, self.owner.len()) {
-            full = noted(full, node, self.send_node(rt, ends, woke, node));
+            full = noted(full, node, self.send_node(rt, ends, node));
             rest = without(rest, node);
         }
         full
