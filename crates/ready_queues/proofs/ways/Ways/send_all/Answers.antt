@@ -1,4 +1,4 @@
-use Rattle.std.proofs.Common.{◌≡◌, ◌∙◌, sym, ap, arith, subst, ℕ, length, refl}
+use Rattle.std.proofs.Common.{◌∙◌, arith, refl}
 use Rattle.ready_queues.proofs.SendLemmas.{begins, not_yet, goes_on, all_sent}
 use Rattle.ready_queues.proofs.ways.Ways.send_all.Goals as goal
 
