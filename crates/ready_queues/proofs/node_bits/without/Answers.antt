@@ -1,0 +1,13 @@
+use Rattle.std.proofs.Common.{w64}
+use Rattle.std.proofs.lemmas.Nat.Bits.{bit_at_clear_same, bit_at_clear_other}
+use Rattle.ready_queues.proofs.NodeBitsLemmas.{cleared_less}
+use Rattle.ready_queues.proofs.node_bits.without.Goals as goal
+
+pub returns-clause-here : goal.returns-clause-here
+returns-clause-here c = bit_at_clear_same w64 c.args.set c.args.node c.requires.below
+
+pub returns-clause-others : goal.returns-clause-others
+returns-clause-others c = bit_at_clear_other w64 c.args.set c.args.node c.requires.below
+
+pub returns-clause-less : goal.returns-clause-less
+returns-clause-less c = cleared_less c.args.set c.args.node c.requires.below c.requires.there

@@ -1,0 +1,9 @@
+pub mod Hands
+pub mod QueueRule
+pub mod ParkingRule
+pub mod Lanes
+pub mod Ends
+pub mod AnsweredWith
+pub mod Sending
+pub mod Receiving
+pub mod Opening

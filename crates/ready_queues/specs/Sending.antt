@@ -1,0 +1,73 @@
+-- Sending: which nodes of a set of bits are pushed into the queue of which loop, and what a way
+-- knows of it afterwards.
+-- Source: this project's own.
+use Rattle.std.specs.Prelude.{◌≡◌, ℕ, ◌<◌, Bool, ◌&&◌, not, cond, eqb, List, [], ◌∷◌, ◌++◌, length, filter, Some, slice_get, slice_index}
+use Rattle.std.specs.Int.{bit_at}
+use Rattle.std.specs.List.{range_with_len}
+use Rattle.crossbeam_utils.specs.Token.{parker_view}
+use Rattle.ready_queues.specs.declared.hand.Hand.{Hand}
+use Rattle.ready_queues.specs.declared.end.End.{End}
+use Rattle.ready_queues.specs.declared.way.Way.{Way}
+use Rattle.ready_queues.specs.Ends.{hand_of, wakes_of}
+use Rattle.ready_queues.specs.ParkingRule.{given_on}
+use Rattle.ready_queues.specs.QueueRule.{IsNodeOf, IsHandOf, HeldAt}
+
+-- whether a node is one of the loop, and whether it is in the set too
+abbrev pub is_of : List ℕ → ℕ → ℕ → Bool
+is_of owner number node = eqb (slice_index owner node) number
+
+abbrev pub is_bound : List ℕ → ℕ → ℕ → ℕ → Bool
+is_bound owner woke number node = eqb (bit_at woke node) 1 && is_of owner number node
+
+-- the nodes below n in the set that are of the loop, ascending
+abbrev pub bound_below : ℕ → List ℕ → ℕ → ℕ → List ℕ
+bound_below n owner woke number = filter (is_bound owner woke number) (range_with_len 0 n)
+
+-- those of them whose push did not find the queue full
+abbrev pub taken_in : ℕ → List ℕ → ℕ → ℕ → ℕ → List ℕ
+taken_in n owner woke full number =
+    filter (λ x. not (eqb (bit_at full x) 1)) (bound_below n owner woke number)
+
+abbrev pub pushed_on : Hand → List ℕ → Hand
+pushed_on h nodes = record h { pushed = h.pushed ++ nodes }
+
+-- the end of a loop before and after one node was sent, which found the queue full or not
+pub record HasSentNode (owner : List ℕ) (node : ℕ) (full : Bool) (number : ℕ) (a b : End)
+    : Type 0 where
+  pub hand : hand_of b ≡ pushed_on (hand_of a)
+      (cond (is_of owner number node && not full) (node ∷ []) [])
+  pub wakes : wakes_of b ≡ given_on (wakes_of a) (cond (is_of owner number node) 1 0)
+
+abbrev pub AreSentNode : List ℕ → ℕ → Bool → List End → List End → Type 0
+AreSentNode owner node full old new = (l : ℕ) (a b : End) → slice_get old l ≡ Some a
+    → slice_get new l ≡ Some b → HasSentNode owner node full l a b
+
+-- the end of a loop before and after the nodes below n were sent
+pub record HasSentTo (owner : List ℕ) (woke full n number : ℕ) (a b : End) : Type 0 where
+  pub hand : hand_of b ≡ pushed_on (hand_of a) (taken_in n owner woke full number)
+  pub wakes : wakes_of b ≡ given_on (wakes_of a) (length (bound_below n owner woke number))
+
+abbrev pub HaveSent : List ℕ → ℕ → ℕ → ℕ → List End → List End → Type 0
+HaveSent owner woke full n old new = (l : ℕ) (a b : End) → slice_get old l ≡ Some a
+    → slice_get new l ≡ Some b → HasSentTo owner woke full n l a b
+
+-- at one moment the queue of the loop held 64 numbers
+abbrev pub WasFull : List ℕ → ℕ → Type 0
+WasFull owner number = (h : Hand) × IsHandOf owner number h × HeldAt 64 h
+
+-- the node was pushed into the queue of its loop, one of `loops`, and found it full
+abbrev pub FoundFull : List ℕ → ℕ → ℕ → Type 0
+FoundFull owner loops node = (number : ℕ) × (number < loops) × IsNodeOf owner number node
+    × WasFull owner number
+
+abbrev pub IsRefused : List ℕ → ℕ → ℕ → ℕ → Type 0
+IsRefused owner loops woke node = (bit_at woke node ≡ 1) × FoundFull owner loops node
+
+-- the nodes of the set were sent and the driver's thread was unparked; `full` has the bits of those
+-- that found their queue full
+pub record HasSent (owner : List ℕ) (loops woke full : ℕ) (a b : Way) : Type 0 where
+  pub number : b.number ≡ a.number
+  pub own : parker_view b.own ≡ parker_view a.own
+  pub ends : HaveSent owner woke full (length owner) a.ends.items b.ends.items
+  pub driver : parker_view b.driver ≡ given_on (parker_view a.driver) 1
+  pub refused : (node : ℕ) → bit_at full node ≡ 1 → IsRefused owner loops woke node

@@ -1,0 +1,29 @@
+//! Ready queues and parking: how a loop learns which of its nodes were triggered, and how it
+//! sleeps until then.
+//!
+//! Each loop has a queue of node numbers. Whoever triggers a node puts its number into the queue of
+//! the node's loop and unparks that loop. A loop takes numbers out of its own queue, and parks
+//! where it has nothing to do. So a loop need not try all its nodes to find the one that is ready.
+#![tactic(auto)]
+
+mod dealing;
+mod end;
+mod hand;
+mod lane;
+mod node_bits;
+mod opening;
+mod parking;
+mod queue;
+mod receiving;
+mod sending;
+mod way;
+mod ways;
+
+pub use hand::Hand;
+pub use parking::{ParkingRule, Woken};
+pub use queue::QueueRule;
+pub use way::Way;
+pub use ways::Ways;
+
+#[cfg(test)]
+mod tests;

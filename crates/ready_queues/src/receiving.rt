@@ -1,0 +1,70 @@
+//! How a loop takes a number out of its queue, and how a thread rests.
+ghost use Rattle.std.specs.Prelude.{◌≡◌, ◌+◌, ◌-◌, ◌^◌, ◌<◌, cond, is_some, min, IfSome, IfNone};
+ghost use Rattle.ready_queues.specs.AnsweredWith.{IsWayOf};
+ghost use Rattle.ready_queues.specs.Ends.{AreEndsOf, received_by};
+ghost use Rattle.ready_queues.specs.QueueRule.{IsNodeOf};
+ghost use Rattle.ready_queues.specs.Receiving.{HasReceived, WasEmpty, AreSameEnds, IsSameThread};
+ghost use Rattle.ready_queues.specs.Receiving.{HasRested};
+
+use crate::end::End;
+use crate::parking::park;
+use crate::queue::Pops;
+use crate::way::Way;
+use crate::ways::Ways;
+use std::sync::Wait;
+
+// The count of numbers received, with one more or none.
+fn counted(taken: u64, more: bool) -> u64
+    ensures { result ≡ min (taken + cond more 1 0) (2 ^ 64 - 1) }
+{
+    if more { taken.saturating_add(1) } else { taken }
+}
+
+impl Ways {
+    // The oldest number in the queue of a loop.
+    fn pop<R: Wait>(&self, rt: &R, ends: &mut [End], number: usize) -> Option<u32>
+        requires ends { AreEndsOf self.now.owner self.now.lanes ends.old }
+        requires inside { number < self.now.loops }
+        ensures ends { AreEndsOf self.now.owner self.now.lanes ends.new }
+        ensures node { IfSome result (λ x. IsNodeOf self.now.owner number x) }
+        ensures some { IfSome result (λ x. HasReceived number x ends.old ends.new) }
+        ensures none { IfNone result (AreSameEnds ends.old ends.new × WasEmpty number ends.new) }
+        ensures count { received_by ends.new ≡ received_by ends.old + cond (is_some result) 1 0 }
+    {
+        let lane = &self.lanes.as_slice()[number];
+        lane.queue.pop_as::<Pops, R>(rt, &mut ends[number].pass)
+    }
+
+    /// Takes the oldest number out of the queue of the way's own loop. None exactly where the queue
+    /// was empty at the step of this call. May wait for another thread that is in the middle of a
+    /// push or a pop; takes no memory.
+    /// Condition: a loop's way, which was answered with these ways.
+    pub fn receive<R: Wait>(&self, rt: &R, way: &mut Way) -> Option<u32>
+        requires answered { IsWayOf self.now way.old }
+        requires own { way.old.number < self.now.loops }
+        ensures answered { IsWayOf self.now way.new }
+        ensures thread { IsSameThread way.old way.new }
+        // The number is a node of that loop, and the way knows one receipt more of it.
+        ensures node { IfSome result (λ x. IsNodeOf self.now.owner way.old.number x) }
+        ensures some { IfSome result (λ x.
+            HasReceived way.old.number x way.old.ends.items way.new.ends.items) }
+        ensures none { IfNone result (AreSameEnds way.old.ends.items way.new.ends.items
+            × WasEmpty way.old.number way.new.ends.items) }
+    {
+        let number = way.number as usize;
+        let node = self.pop(rt, way.ends.as_mut_slice(), number);
+        way.taken = counted(way.taken, node.is_some());
+        node
+    }
+
+    /// Parks the way's own thread until it is unparked, which may have been before. Takes no
+    /// memory.
+    /// Condition: the way was answered with these ways.
+    pub fn rest<R: Wait>(&self, rt: &R, way: &mut Way)
+        requires answered { IsWayOf self.now way.old }
+        ensures answered { IsWayOf self.now way.new }
+        ensures rested { HasRested way.old way.new }
+    {
+        park(rt, &way.parker, &mut way.own);
+    }
+}

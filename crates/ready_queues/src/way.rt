@@ -1,0 +1,30 @@
+//! The ways of one thread to the queues and parkers.
+ghost use Rattle.std.specs.Prelude.{◌≡◌, ◌-◌, ◌^◌, min};
+ghost use Rattle.ready_queues.specs.Ends.{received_by};
+ghost use Rattle.ready_queues.specs.Lanes.{unparks};
+
+use crate::end::End;
+use crate::parking::{ParkPass, Parker};
+
+/// What one thread has of the queues and parkers: its own parker, and its passes to all. It is
+/// answered by `Ways::new` and goes with its thread.
+#[derive(Drop)]
+pub struct Way {
+    pub(crate) number: u32,
+    pub(crate) parker: Parker,
+    pub(crate) own: ParkPass,
+    pub(crate) driver: ParkPass,
+    pub(crate) ends: Vec<End>,
+    pub(crate) taken: u64,
+    pub ghost parks: { own.table_id ≡ unparks parker.unparker },
+    pub ghost counted: { taken ≡ min (received_by ends.items) (2 ^ 64 - 1) },
+}
+
+impl Way {
+    /// How many numbers it received, and 2^64 - 1 once so many were reached. Takes no memory.
+    pub fn taken(&self) -> u64
+        ensures { result ≡ min (received_by self.now.ends.items) (2 ^ 64 - 1) }
+    {
+        self.taken
+    }
+}
