@@ -38,7 +38,7 @@ module _ (p : BoardLayout) where
       }
 
   pub new_between : (e : Samples) (k : ℕ) → IsSound p → IsBetween p (driver_view p e k)
-  new_between e k sound = record { member = ((refl, refl), (omega arith, omega arith), sound.driver_in); between = refl; unchecked = refl }
+  new_between e k sound = record { member = ((refl, refl, refl), (omega arith, omega arith), sound.driver_in); between = refl; unchecked = refl }
 
   -- a try that was too early changes nothing else
   pub tried_rests : (v : View) (m n found : ℕ) → IsResting p v n → IsResting p (tried p v m found) n
