@@ -1,5 +1,5 @@
 -- From a new seat on, each call that ends leaves its seat between two calls.
-use Rattle.std.proofs.Common.{◌≡◌, ◌≢◌, ℕ, zero, suc, ◌+◌, ◌<◌, ◌≤◌, false, List, [], ◌∷◌, length, set, replicate, refl, sym}
+use Rattle.std.proofs.Common.{◌≡◌, ◌≢◌, ℕ, zero, suc, ◌+◌, ◌<◌, ◌≤◌, false, List, [], ◌∷◌, length, set, refl, sym}
 use Rattle.std.proofs.Common.{ap, ◌∙◌, subst, arith, length-set, get_or-set_other}
 use mathlib.Core.Option.{some}
 use lib.ListN.{get_elem?}
@@ -38,7 +38,7 @@ module _ (p : BoardLayout) where
       }
 
   pub new_between : (e : Samples) (k : ℕ) → IsSound p → IsBetween p (driver_view p e k)
-  new_between e k sound = record { member = ((refl, refl), (omega arith, omega arith), sound.driver_in); between = refl; unchecked = refl }
+  new_between e k sound = record { member = ((refl, refl, refl), (omega arith, omega arith), sound.driver_in); between = refl; unchecked = refl }
 
   -- a try that was too early changes nothing else
   pub tried_rests : (v : View) (m n found : ℕ) → IsResting p v n → IsResting p (tried p v m found) n

@@ -6,7 +6,7 @@ ghost use Rattle.board_rule.specs.declared.view.DriverPhase.TheVariants.{Between
 ghost use Rattle.board_rule.specs.View.{view_lead};
 ghost use Rattle.board_rule.specs.Layout.{nodes};
 ghost use Rattle.board_rule.specs.Steps.{HasNode, StoresPending};
-ghost use Rattle.activation_words.specs.Told.{IsTelling, HasTold};
+ghost use Rattle.activation_words.specs.Told.{IsTelling, HasTold, HasWoken};
 ghost use Rattle.activation_words.specs.CycleCalls.{HasBegun, begin_stored, reset_one, all_reset};
 
 use crate::telling::tell_all;
@@ -69,13 +69,14 @@ fn kick_all(board: &Board, seat: &mut DriverSeat)
 /// NOT_TRIGGERED of this cycle, and only then the driver lowers each of its targets, and triggers
 /// each that nobody else has to lower.
 /// Condition: the seat is between two cycles, with cycles left. The seat then waits for its own
-/// node.
+/// node, and its `woke` has the bits of the targets whose pending word this call took to 0.
 pub fn begin(board: &Board, seat: &mut DriverSeat)
     requires table { IsOn board.now seat.old.table }
     requires node { let p = layout board.now in HasNode true p seat.old.knows p.driver }
     requires between { seat.old.knows.lead.drive ≡ Between }
     ensures table { seat.new.table ≡ seat.old.table }
     ensures knows { HasBegun (layout board.now) seat.old.knows seat.new.knows }
+    ensures woke { HasWoken seat.new.knows }
 {
     announce(board, seat);
     reset_all(board, seat);

@@ -4,6 +4,7 @@ ghost use Rattle.std.specs.Prelude.{◌≡◌, ℕ, ◌<◌, false};
 ghost use Rattle.pw_base.specs.Layout.{event_count};
 ghost use Rattle.board_rule.specs.Steps.{HasNode, IsReadyToFinish};
 ghost use Rattle.activation_words.specs.Calls.{IsAwake, started, worked, HasStarted, HasFinished};
+ghost use Rattle.activation_words.specs.Told.{HasWoken};
 
 use crate::telling::tell_all;
 use board_rule::{Board, BoardSeat};
@@ -41,8 +42,8 @@ fn end_work<S: BoardSeat>(board: &Board, seat: &mut S, node: u32)
 
 /// The node has done its work, with all its outputs published and inputs returned. FINISHED is
 /// stored, then its Finish, and then a follower lowers each of its targets, and triggers each that
-/// it was the last to lower. The driver's node tells nobody:
-/// `begin` did so for the driver.
+/// it was the last to lower: the seat's `woke` has the bits of these. The driver's node tells
+/// nobody, since `begin` did so for the driver, and `woke` is then 0.
 pub fn finish<S: BoardSeat>(board: &Board, seat: &mut S, node: u32)
     requires table { IsOn board.now (S.table seat.old) }
     requires ready { let p = layout board.now in
@@ -50,6 +51,7 @@ pub fn finish<S: BoardSeat>(board: &Board, seat: &mut S, node: u32)
     ensures table { S.table seat.new ≡ S.table seat.old }
     ensures knows { let p = layout board.now in
         HasFinished S.is_driver p (S.knows seat.old) (p.index node) (S.knows seat.new) }
+    ensures woke { HasWoken (S.knows seat.new) }
 {
     end_work(board, seat, node);
     if node != board.shape().driver {

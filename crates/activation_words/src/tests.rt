@@ -184,6 +184,7 @@ fn words_of_one_begin(rt: HostRuntime) -> Result<(), Fail> {
         panic!(rt; "no cycle is left");
     }
     assert!(rt; is_at(&board, (0, 1, 1, 3), (1, 0, 0, 0)));
+    assert!(rt; driver.woke() == 1);
     assert!(rt; claim_follower(&board, &mut two, 1, 1) == Some(Claim::NotYet { found: 0 }));
     assert!(rt; claim_follower(&board, &mut one, 0, 0) == Some(Claim::Awake { cycle: 0 }));
     assert!(rt; is_at(&board, (0, 1, 1, 3), (2, 0, 0, 0)));

@@ -130,6 +130,8 @@ module _ (board_shape : BoardShape) (plain : IsPooledBoard (layout_of board_shap
             refl,
             ap (λ (z : View). z.number) ended.2 ∙ ap (λ (z : View). z.number) over.2 ∙ ap (λ (z : View). z.number) heard.same
                 ∙ has.0.1,
+            ap (λ (z : View). z.owners) ended.2 ∙ ap (λ (z : View). z.owners) over.2 ∙ ap (λ (z : View). z.owners) heard.same
+                ∙ has.0.2,
           ),
           (omega arith, omega arith),
           inside,

@@ -1,5 +1,5 @@
 -- Laws of `specs/Known.antt`: what a loop's seat keeps of an entry stands at its slot, and follows the view.
-use Rattle.std.proofs.Common.{◌≡◌, ℕ, ◌+◌, ◌^◌, ◌<◌, List, map, length, set, get_or, sym, ap, ◌∙◌, subst, arith}
+use Rattle.std.proofs.Common.{◌≡◌, ℕ, false, ◌+◌, ◌^◌, ◌<◌, List, map, length, set, get_or, sym, ap, ◌∙◌, subst, arith}
 use Rattle.std.proofs.lemmas.List.{length-map, get_or-map, get_or_default}
 use Rattle.board_rule.specs.declared.view.BlockView.{BlockView}
 use Rattle.board_rule.specs.declared.view.BlockView.TheVariants.{Free}
@@ -7,18 +7,32 @@ use Rattle.board_rule.specs.declared.view.WriteView.{WriteView}
 use Rattle.board_rule.specs.declared.view.ReadView.{ReadView}
 use Rattle.board_rule.specs.declared.view.View.{View}
 use Rattle.board_rule.specs.declared.progress.NodeProgress.{NodeProgress}
+use Rattle.board_rule.specs.declared.lead.DriverProgress.{DriverProgress}
 use Rattle.pw_base.specs.Pools.{pools_of}
 use Rattle.board_rule.specs.Layout.{BoardLayout, IsSound, last}
-use Rattle.board_rule.specs.Owners.{slot_in, owners_of}
+use Rattle.board_rule.specs.Owners.{own, slot_in, owners_of}
 use Rattle.board_rule.specs.Slots.{HasWriter, HasReader}
 use Rattle.board_rule.specs.SeatNodes.{Has}
 use Rattle.board_rule.specs.Spans.{block_at}
 use Rattle.board_rule.specs.View.{node_of, idle, unread, unwritten}
 use Rattle.board_rule.specs.EndViews.{write_of, read_of, pool_at, filler_of}
 use Rattle.board_rule.specs.Progress.{progress_of}
-use Rattle.board_rule.specs.Known.{IsLoopSeat}
+use Rattle.board_rule.specs.Known.{IsLoopSeat, IsDriverSeat}
 use Rattle.board_rule.proofs.OwnerLemmas.{SitsAt, sits_at, sits_inside, sits_set}
 use Rattle.board_rule.proofs.SlotLemmas.{node_sits, write_sits, read_sits, block_sits}
+
+-- the reader's ends that are kept by either kind of seat
+module _ (v : View) (rs : List ReadView) (are : own v.number v.owners.reads v.reads ≡ rs) (i at : ℕ)
+    (t : SitsAt v.number v.owners.reads i at) (low : i < length v.reads) where
+  pub end_there : at < length rs
+  end_there = subst (λ (xs : List ReadView). at < length xs) are (sits_inside v.number v.owners.reads v.reads i at t low)
+
+  pub end_kept : (d : ReadView) → get_or rs at d ≡ read_of v i
+  end_kept d = ap (λ (xs : List ReadView). get_or xs at d) (sym are)
+      ∙ sits_at v.number v.owners.reads v.reads i at d t low ∙ get_or_default v.reads i d (unread 0) low
+
+  pub end_set : (y z : ReadView) → y ≡ z → own v.number v.owners.reads (set v.reads i y) ≡ set rs at z
+  end_set y z same = sits_set v.number v.owners.reads v.reads i at y t low ∙ (λ j. set (are j) at (same j))
 
 module _ (v : View) (ns : List NodeProgress) (ws : List WriteView) (rs : List ReadView) (bs : List BlockView) (o : ℕ)
     (s : IsLoopSeat v ns ws rs bs o) (i at : ℕ) where
@@ -55,11 +69,10 @@ module _ (v : View) (ns : List NodeProgress) (ws : List WriteView) (rs : List Re
 
   module _ (t : SitsAt v.number v.owners.reads i at) (low : i < length v.reads) where
     pub read_there : at < length rs
-    read_there = subst (λ (xs : List ReadView). at < length xs) s.reads_are (sits_inside v.number v.owners.reads v.reads i at t low)
+    read_there = end_there v rs s.reads_are i at t low
 
     pub read_kept : (d : ReadView) → get_or rs at d ≡ read_of v i
-    read_kept d = ap (λ (xs : List ReadView). get_or xs at d) (sym s.reads_are)
-        ∙ sits_at v.number v.owners.reads v.reads i at d t low ∙ get_or_default v.reads i d (unread 0) low
+    read_kept = end_kept v rs s.reads_are i at t low
 
     -- the reader's end is another
     pub read_set : (w : View) (heard : List ℕ) (y z : ReadView) → w ≡ record v { reads = set v.reads i y; heard = heard } → y ≡ z
@@ -67,7 +80,7 @@ module _ (v : View) (ns : List NodeProgress) (ws : List WriteView) (rs : List Re
     read_set w heard y z is same = subst (λ (u : View). IsLoopSeat u ns ws (set rs at z) bs o) (sym is) record {
       nodes_are = s.nodes_are;
       writes_are = s.writes_are;
-      reads_are = sits_set v.number v.owners.reads v.reads i at y t low ∙ (λ j. set (s.reads_are j) at (same j));
+      reads_are = end_set v rs s.reads_are i at t low y z same;
       blocks_are = s.blocks_are;
       woke_is = s.woke_is;
     }
@@ -91,6 +104,17 @@ module _ (v : View) (ns : List NodeProgress) (ws : List WriteView) (rs : List Re
       woke_is = s.woke_is;
     }
 
+-- the same of the driver's seat
+module _ (v : View) (l : DriverProgress) (rs : List ReadView) (o : ℕ) (s : IsDriverSeat v l rs o) (i at : ℕ)
+    (t : SitsAt v.number v.owners.reads i at) (low : i < length v.reads) where
+  pub lead_read_set : (w : View) (heard : List ℕ) (y z : ReadView) → w ≡ record v { reads = set v.reads i y; heard = heard } → y ≡ z
+      → IsDriverSeat w l (set rs at z) o
+  lead_read_set w heard y z is same = subst (λ (u : View). IsDriverSeat u l (set rs at z) o) (sym is) record {
+    lead_is = s.lead_is;
+    reads_are = end_set v rs s.reads_are i at t low y z same;
+    woke_is = s.woke_is;
+  }
+
 -- the same of what is the seat's own
 module _ (p : BoardLayout) (v : View) (ns : List NodeProgress) (ws : List WriteView) (rs : List ReadView) (bs : List BlockView) (o : ℕ)
     (s : IsLoopSeat v ns ws rs bs o) where
@@ -107,7 +131,7 @@ module _ (p : BoardLayout) (v : View) (ns : List NodeProgress) (ws : List WriteV
   write_in l at h slot = write_there v ns ws rs bs o s l at (write_sits p v l at h.0 h.2 slot) h.1
 
   pub read_in : (l at : ℕ) → HasReader p v l → at ≡ slot_in (owners_of p).reads l → at < length rs
-  read_in l at h slot = read_there v ns ws rs bs o s l at (read_sits p v l at h.0 h.2 slot) h.1
+  read_in l at h slot = read_there v ns ws rs bs o s l at (read_sits p v false l at h.0 h.2 slot) h.1
 
   pub block_in : (q b at : ℕ) → q < length (pools_of p.shape) → b < (pool_at p q).blocks → Has p v (filler_of p q)
       → block_at p q b < length v.blocks → at ≡ slot_in (owners_of p).blocks (block_at p q 0) + b → at < length bs

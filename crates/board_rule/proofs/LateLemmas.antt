@@ -1,13 +1,10 @@
 -- Laws of `specs/Logged.antt` on late checks: what a check has loaded, and the late set that it stores.
-use Rattle.std.proofs.Common.{◌≡◌, ◌≢◌, ℕ, zero, suc, ◌+◌, ◌-◌, ◌*◌, ◌^◌, ◌<◌, ◌≤◌, ◌⊎◌, inl, inr, ⊎_elim, Bool}
-use Rattle.std.proofs.Common.{true, false, true≢false, cond, eqb, List, [], ◌∷◌, ◌++◌, map, max, length, get_or, Some, refl, sym, ap, ◌∙◌}
+use Rattle.std.proofs.Common.{◌≡◌, ℕ, zero, suc, ◌+◌, ◌-◌, ◌<◌, ◌≤◌, ◌⊎◌, inl, inr, ⊎_elim, Bool}
+use Rattle.std.proofs.Common.{true, false, true≢false, cond, eqb, List, [], ◌∷◌, ◌++◌, map, length, get_or, Some, refl, sym, ap, ◌∙◌}
 use Rattle.std.proofs.Common.{subst, arith, eq-eqb, length-append}
 use mathlib.Core.Logic.{dite}
 use native.Mathlib.Decide.{ℕ_discrete}
 use Rattle.std.specs.Prelude.{slice_get, All, Contains, IsBitSet}
-use Rattle.std.specs.Int.{bit_at}
-use Rattle.std.specs.Int.Bits.{bit_or}
-use Rattle.std.proofs.lemmas.Nat.Bits.{and_pow, bit_at_or, bit_at-zero, bit_at-pow_other}
 use Rattle.std.proofs.lemmas.List.{length-map}
 use Rattle.std.proofs.lemmas.List.Elements.{All-map, All-head, All-tail, All-contains}
 use Rattle.pw_base.specs.declared.event.Event.{Event}
@@ -22,19 +19,11 @@ use Rattle.board_rule.specs.Bits.{with_bit}
 use Rattle.board_rule.specs.EventSteps.{late_of}
 use Rattle.board_rule.specs.Logged.{IsSoFar, IsHeld, Tickets, Earlier, Inside}
 use Rattle.board_rule.specs.Records.{Records, Counts, Marks}
+use Rattle.board_rule.proofs.BitLemmas.{no_bit, other_bit}
 use Rattle.board_rule.proofs.SeatLemmas.{put_here, put_else}
 use Rattle.board_rule.proofs.GrowthLemmas.{count_mapped, first_mapped}
 
 -- the bits of a late set
-other_bit : (set k n : ℕ) → n ≢ k → IsBitSet (with_bit set k) n → IsBitSet set n
-other_bit set k n o h z = h (and_pow (with_bit set k) n ∙ ap (λ b. b * 2 ^ n) same ∙ sym (and_pow set n) ∙ z)
-  where
-    same : bit_at (bit_or set (2 ^ k)) n ≡ bit_at set n
-    same = bit_at_or set (2 ^ k) n ∙ ap (λ b. max (bit_at set n) b) (bit_at-pow_other k n o) ∙ (omega arith)
-
-no_bit : (n : ℕ) → IsBitSet 0 n → ⊥
-no_bit n h = h (and_pow 0 n ∙ ap (λ b. b * 2 ^ n) (bit_at-zero n) ∙ (omega arith))
-
 pub late_bits : (c : ℕ) (P : ℕ → Type 0) (fs : List Found) → All (λ f. ¬ (f.word ≡ finished_word c) → P f.node) fs → (n : ℕ)
     → IsBitSet (late_of c fs) n → P n
 late_bits c P [] all n h = absurd (no_bit n h)

@@ -5,6 +5,7 @@ pub mod LeftLemmas
 pub mod SeatLemmas
 pub mod LogLemmas
 pub mod LegalLemmas
+pub mod BitLemmas
 pub mod LateLemmas
 pub mod DrawLemmas
 pub mod StoreLemmas

@@ -1,6 +1,6 @@
 -- Laws of `specs/Owners.antt`: an entry stands among its owner's at its slot, and is set there.
 use Rattle.std.proofs.Common.{◌≡◌, ℕ, zero, suc, ◌+◌, ◌-◌, ◌<◌, ◌≤◌, Bool, true, false, cond, eqb, List, [], ◌∷◌, ◌++◌, map, take}
-use Rattle.std.proofs.Common.{length, get_or, set, replicate, refl, sym, ap, ◌∙◌, subst, arith, eq-eqb, slice_index}
+use Rattle.std.proofs.Common.{length, get_or, set, replicate, zip, filter, refl, sym, ap, ◌∙◌, subst, arith, eq-eqb, slice_index}
 use Rattle.std.specs.Prelude.{sum_by}
 use Rattle.std.specs.List.{flat_map}
 use Rattle.std.proofs.lemmas.List.{length-append, length-replicate, get_or-replicate}
@@ -36,14 +36,24 @@ skip_long : {A : Type 0} (b : Bool) (x : A) (ys : List A) (n : ℕ) → n < leng
 skip_long true x ys n h = omega arith
 skip_long false x ys n h = omega arith
 
+map_by : {A B : Type 0} (f : A → B) (b : Bool) (x : A) (ys : List A) → map f (cond b (x ∷ ys) ys) ≡ cond b (f x ∷ map f ys) (map f ys)
+map_by f true x ys = refl
+map_by f false x ys = refl
+
 module _ {A : Type 0} (k : ℕ) where
+  -- the first entry is the seat's, or it is not
+  own_cons : (o : ℕ) (os : List ℕ) (x : A) (xs : List A) → own k (o ∷ os) (x ∷ xs) ≡ cond (eqb o k) (x ∷ own k os xs) (own k os xs)
+  own_cons o os x xs = map_by (λ (t : ℕ × A). t.1) (eqb o k) (o, x) (filter (λ (t : ℕ × A). eqb t.0 k) (zip os xs))
+
   -- what stands at its slot
   pub own_at : (os : List ℕ) (xs : List A) (i : ℕ) (d : A) → i < length os → i < length xs → slice_index os i ≡ k
       → get_or (own k os xs) (own_before k os i) d ≡ get_or xs i d
   own_at [] xs i d h l e = absurd (omega arith)
   own_at (o ∷ os) [] i d h l e = absurd (omega arith)
-  own_at (o ∷ os) (x ∷ xs) zero d h l e = ap (λ b. get_or (cond b (x ∷ own k os xs) (own k os xs)) 0 d) (eq-eqb o k e)
+  own_at (o ∷ os) (x ∷ xs) zero d h l e = ap (λ l. get_or l 0 d) (own_cons o os x xs)
+      ∙ ap (λ b. get_or (cond b (x ∷ own k os xs) (own k os xs)) 0 d) (eq-eqb o k e)
   own_at (o ∷ os) (x ∷ xs) (suc i) d h l e = ap (λ n. get_or (own k (o ∷ os) (x ∷ xs)) n d) (before_more k o i os)
+      ∙ ap (λ l. get_or l (cond (eqb o k) 1 0 + own_before k os i) d) (own_cons o os x xs)
       ∙ skip (eqb o k) x (own k os xs) (own_before k os i) d ∙ own_at os xs i d (omega arith) (omega arith) e
 
   pub own_inside : (os : List ℕ) (xs : List A) (i : ℕ) → i < length os → i < length xs → slice_index os i ≡ k
@@ -51,9 +61,10 @@ module _ {A : Type 0} (k : ℕ) where
   own_inside [] xs i h l e = absurd (omega arith)
   own_inside (o ∷ os) [] i h l e = absurd (omega arith)
   own_inside (o ∷ os) (x ∷ xs) zero h l e =
-      subst (λ b. 0 < length (cond b (x ∷ own k os xs) (own k os xs))) (sym (eq-eqb o k e)) (omega arith)
+      subst (λ ys. 0 < length ys) (sym (own_cons o os x xs ∙ ap (λ b. cond b (x ∷ own k os xs) (own k os xs)) (eq-eqb o k e)))
+      (omega arith)
   own_inside (o ∷ os) (x ∷ xs) (suc i) h l e =
-      subst (λ n. n < length (own k (o ∷ os) (x ∷ xs))) (sym (before_more k o i os))
+      subst (λ (t : ℕ × List A). t.0 < length t.1) (λ j. (sym (before_more k o i os) j, sym (own_cons o os x xs) j))
       (skip_long (eqb o k) x (own k os xs) (own_before k os i) (own_inside os xs i (omega arith) (omega arith) e))
 
   -- one is set
@@ -62,11 +73,13 @@ module _ {A : Type 0} (k : ℕ) where
   own_set [] xs i y h l e = absurd (omega arith)
   own_set (o ∷ os) [] i y h l e = absurd (omega arith)
   own_set (o ∷ os) (x ∷ xs) zero y h l e =
-      ap (λ b. cond b (y ∷ own k os xs) (own k os xs)) (eq-eqb o k e)
+      own_cons o os y xs ∙ ap (λ b. cond b (y ∷ own k os xs) (own k os xs)) (eq-eqb o k e)
       ∙ ap (λ b. set (cond b (x ∷ own k os xs) (own k os xs)) 0 y) (sym (eq-eqb o k e))
+      ∙ ap (λ ys. set ys 0 y) (sym (own_cons o os x xs))
   own_set (o ∷ os) (x ∷ xs) (suc i) y h l e =
-      ap (λ ys. cond (eqb o k) (x ∷ ys) ys) (own_set os xs i y (omega arith) (omega arith) e)
+      own_cons o os x (set xs i y) ∙ ap (λ ys. cond (eqb o k) (x ∷ ys) ys) (own_set os xs i y (omega arith) (omega arith) e)
       ∙ skip_set (eqb o k) x y (own k os xs) (own_before k os i)
+      ∙ ap (λ ys. set ys (cond (eqb o k) 1 0 + own_before k os i) y) (sym (own_cons o os x xs))
       ∙ ap (λ n. set (own k (o ∷ os) (x ∷ xs)) n y) (sym (before_more k o i os))
 
   -- the same by the slot
@@ -91,22 +104,19 @@ module _ {A : Type 0} (k : ℕ) where
       ≡ own k (take i os) (take i xs) ++ cond (eqb (get_or os i d) k) (get_or xs i e ∷ []) []
   own_more [] xs i d e h l = absurd (omega arith)
   own_more (o ∷ os) [] i d e h l = absurd (omega arith)
-  own_more (o ∷ os) (x ∷ xs) zero d e h l = refl
+  own_more (o ∷ os) (x ∷ xs) zero d e h l = own_cons o [] x []
   own_more (o ∷ os) (x ∷ xs) (suc i) d e h l = let one : suc i + 1 ≡ suc (i + 1) = omega arith in
-      ap (λ n. own k (take n (o ∷ os)) (take n (x ∷ xs))) one
+      ap (λ n. own k (take n (o ∷ os)) (take n (x ∷ xs))) one ∙ own_cons o (take (i + 1) os) x (take (i + 1) xs)
       ∙ ap (λ ys. cond (eqb o k) (x ∷ ys) ys) (own_more os xs i d e (omega arith) (omega arith))
       ∙ more_by (eqb o k) x (own k (take i os) (take i xs)) (cond (eqb (get_or os i d) k) (get_or xs i e ∷ []) [])
+      ∙ ap (λ ys. ys ++ cond (eqb (get_or os i d) k) (get_or xs i e ∷ []) []) (sym (own_cons o (take i os) x (take i xs)))
 
 -- a function of each entry
-map_by : {A B : Type 0} (f : A → B) (b : Bool) (x : A) (ys : List A) → map f (cond b (x ∷ ys) ys) ≡ cond b (f x ∷ map f ys) (map f ys)
-map_by f true x ys = refl
-map_by f false x ys = refl
-
 pub own-map : {A B : Type 0} (f : A → B) (k : ℕ) (os : List ℕ) (xs : List A) → map f (own k os xs) ≡ own k os (map f xs)
 own-map f k [] xs = refl
 own-map f k (o ∷ os) [] = refl
-own-map f k (o ∷ os) (x ∷ xs) = map_by f (eqb o k) x (own k os xs)
-    ∙ ap (λ ys. cond (eqb o k) (f x ∷ ys) ys) (own-map f k os xs)
+own-map f k (o ∷ os) (x ∷ xs) = ap (map f) (own_cons k o os x xs) ∙ map_by f (eqb o k) x (own k os xs)
+    ∙ ap (λ ys. cond (eqb o k) (f x ∷ ys) ys) (own-map f k os xs) ∙ sym (own_cons k o os (f x) (map f xs))
 
 -- entries in a row that are the seat's have their slots in a row
 pub own_run : (k : ℕ) (os : List ℕ) (s b : ℕ) → s + b ≤ length os → ((j : ℕ) → j < b → slice_index os (s + j) ≡ k)

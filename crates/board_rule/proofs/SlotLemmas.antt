@@ -1,5 +1,5 @@
 -- Laws of `specs/Slots.antt`: a seat's own node, links and blocks sit at their slots.
-use Rattle.std.proofs.Common.{◌≡◌, ℕ, ◌+◌, ◌<◌, ◌≤◌, List, [], take, length, cond, slice_index, sym, ap, ◌∙◌, subst, arith, ne_eqb, eqb}
+use Rattle.std.proofs.Common.{◌≡◌, ℕ, ◌+◌, ◌<◌, ◌≤◌, Bool, true, false, List, [], take, length, cond, slice_index, sym, ap, ◌∙◌, subst, arith, eq-eqb, ne_eqb, eqb}
 use Rattle.std.specs.Prelude.{sum_by, slice_index_or}
 use Rattle.std.proofs.lemmas.List.{length-map, get_or-map, length-take}
 use Rattle.std.proofs.lemmas.List.Sums.{count_by-le-length}
@@ -10,7 +10,7 @@ use Rattle.board_rule.specs.declared.view.View.{View}
 use Rattle.board_rule.specs.Layout.{BoardLayout, IsSound}
 use Rattle.board_rule.specs.Owners.{own_before, slot_in, holder, seat_with, owners_of}
 use Rattle.board_rule.specs.Spans.{block_at}
-use Rattle.board_rule.specs.SeatNodes.{Has}
+use Rattle.board_rule.specs.SeatNodes.{Has, Owns}
 use Rattle.board_rule.specs.EndViews.{no_link, no_pool, pool_at, writer_of, reader_of, filler_of}
 use Rattle.board_rule.proofs.OwnerLemmas.{SitsAt, own_run, row_inside, row_owner}
 
@@ -30,6 +30,15 @@ module _ (p : BoardLayout) (v : View) where
   held : (m : ℕ) → Has p v m → holder p m ≡ v.number
   held m h = ap (λ b. cond b p.seats (p.seat_of m)) (ne_eqb m p.driver h.follows) ∙ h.owned
 
+  held_by : (b : Bool) (m : ℕ) → Owns b p v m → holder p m ≡ v.number
+  held_by true m h = ap (λ b. cond b p.seats (p.seat_of m)) (eq-eqb m p.driver h.0) ∙ sym h.1
+  held_by false m h = held m h
+
+  -- and all seats have the same owners
+  owners_by : (b : Bool) (m : ℕ) → Owns b p v m → v.owners ≡ owners_of p
+  owners_by true m h = h.2
+  owners_by false m h = h.owners
+
   pub node_sits : (m s : ℕ) → IsSound p → Has p v m → s ≡ slot_in (owners_of p).nodes m → SitsAt v.number v.owners.nodes m s
   node_sits m s sound h is = let l = length-map p.shape.nodes (λ n. seat_with p n.node) in let low = h.inside in
       let name : (slice_index_or p.shape.nodes m no_node).node ≡ p.number m =
@@ -44,11 +53,11 @@ module _ (p : BoardLayout) (v : View) where
       sits (owners_of p).writes v.owners.writes v.number l s (ap (λ o. o.writes) h.owners) (omega arith)
       (get_or-map (λ k. seat_with p k.from.node) p.shape.links l no_link 0 low ∙ held (writer_of p l) h) is
 
-  pub read_sits : (l s : ℕ) → l < length p.shape.links → Has p v (reader_of p l) → s ≡ slot_in (owners_of p).reads l
+  pub read_sits : (b : Bool) (l s : ℕ) → l < length p.shape.links → Owns b p v (reader_of p l) → s ≡ slot_in (owners_of p).reads l
       → SitsAt v.number v.owners.reads l s
-  read_sits l s low h is = let n = length-map p.shape.links (λ k. seat_with p k.to.node) in
-      sits (owners_of p).reads v.owners.reads v.number l s (ap (λ o. o.reads) h.owners) (omega arith)
-      (get_or-map (λ k. seat_with p k.to.node) p.shape.links l no_link 0 low ∙ held (reader_of p l) h) is
+  read_sits b l s low h is = let n = length-map p.shape.links (λ k. seat_with p k.to.node) in
+      sits (owners_of p).reads v.owners.reads v.number l s (ap (λ o. o.reads) (owners_by b (reader_of p l) h)) (omega arith)
+      (get_or-map (λ k. seat_with p k.to.node) p.shape.links l no_link 0 low ∙ held_by b (reader_of p l) h) is
 
   pub block_sits : (q b s : ℕ) → q < length (pools_of p.shape) → b < (pool_at p q).blocks → Has p v (filler_of p q)
       → s ≡ slot_in (owners_of p).blocks (block_at p q 0) + b → SitsAt v.number v.owners.blocks (block_at p q b) s

@@ -28,8 +28,9 @@ pub record IsLoopSeat (v : View) (nodes : List NodeProgress) (writes : List Writ
   pub blocks_are : own v.number v.owners.blocks v.blocks ≡ blocks
   pub woke_is : woke_of v.trail.told ≡ woke
 
+-- the driver's its own ends of links alone
 pub record IsDriverSeat (v : View) (lead : DriverProgress) (reads : List ReadView)
     (woke : ℕ) : Type 0 where
   pub lead_is : lead_progress_of v.lead ≡ lead
-  pub reads_are : v.reads ≡ reads
+  pub reads_are : own v.number v.owners.reads v.reads ≡ reads
   pub woke_is : woke_of v.trail.told ≡ woke

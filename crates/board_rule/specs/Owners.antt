@@ -1,7 +1,7 @@
 -- Whose each node, link and block is, and what a seat keeps of a list: its own entries alone, in
 -- their order.
 -- Source: this project's own.
-use Rattle.std.specs.Prelude.{◌≡◌, ℕ, ◌<◌, cond, eqb, List, [], ◌∷◌, map, take, length, replicate, count_by, slice_index}
+use Rattle.std.specs.Prelude.{◌≡◌, ℕ, ◌<◌, cond, eqb, List, map, take, zip, filter, length, replicate, count_by, slice_index}
 use Rattle.std.specs.List.{flat_map}
 use Rattle.pw_base.specs.Pools.{pools_of}
 use Rattle.board_rule.specs.declared.view.Owners.{Owners}
@@ -9,9 +9,7 @@ use Rattle.board_rule.specs.Layout.{BoardLayout}
 
 -- of a list whose entries have the owners `os`, those of the seat k
 abbrev pub own : {A : Type 0} → ℕ → List ℕ → List A → List A
-own k [] xs = []
-own k (o ∷ os) [] = []
-own k (o ∷ os) (x ∷ xs) = cond (eqb o k) (x ∷ own k os xs) (own k os xs)
+own k os xs = map (λ t. t.1) (filter (λ t. eqb t.0 k) (zip os xs))
 
 -- how many of the first i entries are the seat's
 abbrev pub own_before : ℕ → List ℕ → ℕ → ℕ

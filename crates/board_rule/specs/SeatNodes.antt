@@ -23,7 +23,7 @@ pub record Has (p : BoardLayout) (v : View) (m : ℕ) : Type 0 where
   pub owners : v.owners ≡ owners_of p
 
 abbrev pub Owns : Bool → BoardLayout → View → ℕ → Type 0
-Owns true p v m = (m ≡ p.driver) × (v.number ≡ p.seats)
+Owns true p v m = (m ≡ p.driver) × (v.number ≡ p.seats) × (v.owners ≡ owners_of p)
 Owns false p v m = Has p v m
 
 -- the cycle that the seat is in with it

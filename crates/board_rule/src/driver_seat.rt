@@ -1,7 +1,8 @@
 //! The driver's seat. Contracts see the table that it belongs to and what it knows.
 ghost use Rattle.board_rule.specs.OnBoard.{IsOn, layout};
-ghost use Rattle.std.specs.Prelude.{◌≡◌, ◌<◌, length};
+ghost use Rattle.std.specs.Prelude.{◌≡◌, true};
 ghost use Rattle.board_rule.specs.EndViews.{read_of};
+ghost use Rattle.board_rule.specs.ReaderSteps.{IsReader};
 ghost use Rattle.board_rule.specs.Steps.{StoresPending, pending_stored, StoresStatus, status_stored};
 ghost use Rattle.board_rule.specs.EventSteps.{Looks, looked, StoresLate, late_stored};
 
@@ -20,7 +21,7 @@ use pw_base::io_id_of;
 use std::marker::{Brand, Model};
 
 /// The right of the driver's thread to step on a board: it begins, checks and ends each cycle and
-/// runs the driver's node.
+/// runs the driver's node. It keeps the ends of the links into that node alone, each at its slot.
 #[derive(Drop)]
 pub struct DriverSeat {
     pub(crate) token: BoardToken,
@@ -40,12 +41,12 @@ impl Model for DriverSeat {
 }
 
 impl DriverSeat {
-    // The reader's end of a link.
-    fn read_at(&self, link: u32) -> ReadView
-        requires { link < length self.now.knows.reads }
+    // The reader's end of a link into the driver's node.
+    fn read_at(&self, board: &Board, link: u32) -> ReadView
+        requires { IsReader true (layout board.now) self.now.knows link }
         ensures { result ≡ read_of self.now.knows link }
     {
-        self.reads[link as usize]
+        self.reads[board.read_slot(link)]
     }
 }
 
@@ -119,16 +120,17 @@ impl BoardSeat for DriverSeat {
         lead_store(&mut self.lead);
     }
 
-    fn loaded(&self, _board: &Board, link: u32) -> u32 {
-        self.read_at(link).id
+    fn loaded(&self, board: &Board, link: u32) -> u32 {
+        self.read_at(board, link).id
     }
 
     #[inline]
     fn load_io_as_reader(&mut self, board: &Board, link: u32) -> u64 {
-        let end = self.read_at(link);
+        let slot = board.read_slot(link);
+        let end = self.read_at(board, link);
         let cycle = self.lead.cycle;
         let found = reading::load_area::<Brand>(board, &mut self.token, link, cycle);
-        self.reads[link as usize] = ReadView {
+        self.reads[slot] = ReadView {
             loaded: cycle + 1,
             lowered: end.lowered,
             stored: end.stored,
@@ -152,10 +154,11 @@ impl BoardSeat for DriverSeat {
 
     #[inline]
     fn lower_readers(&mut self, board: &Board, link: u32, id: u32) -> u64 {
-        let end = self.read_at(link);
+        let slot = board.read_slot(link);
+        let end = self.read_at(board, link);
         let cycle = self.lead.cycle;
         let found = reading::lower_readers::<Brand>(board, &mut self.token, link, id);
-        self.reads[link as usize] = ReadView {
+        self.reads[slot] = ReadView {
             loaded: end.loaded,
             lowered: cycle + 1,
             stored: end.stored,
@@ -166,10 +169,11 @@ impl BoardSeat for DriverSeat {
 
     #[inline]
     fn store_need_data(&mut self, board: &Board, link: u32, id: u32) {
-        let end = self.read_at(link);
+        let slot = board.read_slot(link);
+        let end = self.read_at(board, link);
         let cycle = self.lead.cycle;
         reading::store_need::<Brand>(board, &mut self.token, link, cycle, id);
-        self.reads[link as usize] = ReadView {
+        self.reads[slot] = ReadView {
             loaded: end.loaded,
             lowered: end.lowered,
             stored: cycle + 1,

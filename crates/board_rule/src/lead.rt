@@ -1,7 +1,8 @@
 //! What the driver's seat keeps to step by. Its phase stands in contracts alone.
 ghost use Rattle.std.specs.Prelude.{◌≡◌, ◌<◌, ◌≤◌, ◌^◌, cond};
 ghost use Rattle.pw_base.specs.EventWords.{event_node};
-ghost use Rattle.board_rule.specs.DriverProgress.{told_so_far, reset_so_far, due_ticket, due_event, lead_drawn, lead_stored, is_begin};
+ghost use Rattle.board_rule.specs.StartViews.{resting};
+ghost use Rattle.board_rule.specs.DriverProgress.{lead_progress_of, told_so_far, reset_so_far, due_ticket, due_event, lead_drawn, lead_stored, is_begin};
 
 use pw_base::Event;
 
@@ -25,6 +26,20 @@ pub struct DriverProgress {
     pub(crate) ticket: u64,
     pub(crate) start: u64,
     pub(crate) finish: u64,
+}
+
+/// The driver's seat before its first cycle.
+pub(crate) fn lead_at(first: u64) -> DriverProgress
+    ensures { result ≡ lead_progress_of (resting first) }
+{
+    DriverProgress {
+        cycle: first,
+        done: 0,
+        due: Due::Begin,
+        ticket: 0,
+        start: 0,
+        finish: 0,
+    }
 }
 
 /// `n` targets are lowered, and the last of these may be owed its trigger.

@@ -6,7 +6,7 @@ ghost use Rattle.pw_base.specs.Pools.{IsPooledShape};
 ghost use Rattle.board_rule.specs.Known.{Known};
 ghost use Rattle.board_rule.specs.Layout.{layout_of, HasSeats};
 ghost use Rattle.board_rule.specs.SampleWords.{IsTable};
-ghost use Rattle.board_rule.specs.Slots.{AreOwners, IsStart};
+ghost use Rattle.board_rule.specs.Slots.{IsStart};
 ghost use Rattle.board_rule.specs.View.{Samples, first_view, driver_view, loop_view, split_off};
 
 use crate::board::Board;
@@ -15,13 +15,12 @@ use crate::copying::copy_shape;
 use crate::driver_seat::DriverSeat;
 use crate::expect::Expect;
 use crate::layout::start_words;
-use crate::lead::{DriverProgress, Due};
+use crate::lead::lead_at;
 use crate::loop_seat::LoopSeat;
-use crate::owners::OwnerRows;
 use crate::rows::rows_of;
 use crate::rule::{BoardTable, BoardToken};
 use crate::slots::slots_in;
-use crate::starts::{Starts, own, starts_of, unread};
+use crate::starts::{Starts, own, starts_of};
 use crate::view::View;
 use atomic_table::{Split, Table};
 use pw_base::{Items, Memory, Shape};
@@ -191,9 +190,9 @@ impl Board {
     fn lay_out(
         alloc: Global,
         board_shape: BoardShape,
-        owners: &OwnerRows,
+        starts: &Starts,
     ) -> Result<(Board, DriverSeat), Memory>
-        requires owners { AreOwners (layout_of board_shape) owners.now }
+        requires starts { IsStart (layout_of board_shape) starts.now }
         requires pooled { IsPooledShape board_shape.shape }
         requires seats { HasSeats board_shape }
         ensures { IfOk result (λ t. (t.0.board_shape ≡ board_shape)
@@ -203,22 +202,19 @@ impl Board {
         let spare = Items::new(alloc).into_room(event_count(&board_shape.shape))?;
         let words = start_words(alloc, &board_shape.shape)?;
         let rows = rows_of(alloc, &board_shape.shape, words.len())?;
-        let slot_rows = slots_in(alloc, &board_shape, owners, rows.pools.as_slice())?;
-        let first = u64::from(board_shape.shape.first);
-        let reads = unread(alloc, board_shape.shape.links.len(), first)?;
+        let slot_rows = slots_in(alloc, &board_shape, &starts.owners, rows.pools.as_slice())?;
+        let reads = own(
+            alloc,
+            starts.owners.reads.as_slice(),
+            board_shape.seats,
+            starts.reads.as_slice(),
+        )?;
         let (table, token): (BoardTable, BoardToken) = Table::of_words(
             alloc,
             words.as_slice(),
             &board_shape,
         )?;
-        let lead = DriverProgress {
-            cycle: first,
-            done: 0,
-            due: Due::Begin,
-            ticket: 0,
-            start: 0,
-            finish: 0,
-        };
+        let lead = lead_at(u64::from(board_shape.shape.first));
         Ok((
             Board {
                 table,
@@ -241,7 +237,8 @@ impl Board {
     /// driver's entry is not looked at. All seats agree on the samples of `E`, which the caller
     /// names at the call: for each cycle and pool one quantum of 16-bit samples.
     ///
-    /// Memory: the words of the shape once, and for each seat a view of each node, link and block.
+    /// Memory: the words of the shape once, and for each seat a record of each node, end of a link
+    /// and block that is its own.
     pub fn new<E: Expect>(
         alloc: Global,
         shape: &Shape,
@@ -271,7 +268,7 @@ impl Board {
     {
         let board_shape = board_shape_of(alloc, shape, seat_of, seats)?;
         let starts = starts_of(alloc, &board_shape)?;
-        let (board, mut driver) = Board::lay_out(alloc, board_shape, &starts.owners)?;
+        let (board, mut driver) = Board::lay_out(alloc, board_shape, &starts)?;
         let loops = driver.split_all::<E>(alloc, &board, &starts)?;
         Ok((board, driver, loops))
     }

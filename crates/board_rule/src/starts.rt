@@ -52,8 +52,8 @@ fn first_blocks(alloc: Global, shape: &Shape) -> Result<Items<BlockView>, Memory
     Ok(blocks)
 }
 
-/// The reader's ends of links, of which nothing is read before the cycle.
-pub(crate) fn unread(alloc: Global, links: usize, cycle: u64) -> Result<Vec<ReadView>, AllocError>
+// The reader's ends of links, of which nothing is read before the cycle.
+fn unread(alloc: Global, links: usize, cycle: u64) -> Result<Vec<ReadView>, AllocError>
     ensures { IfOk result (λ reads. reads.items ≡ replicate links (unread cycle)) }
 {
     let end = ReadView {

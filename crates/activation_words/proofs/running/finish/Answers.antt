@@ -4,6 +4,7 @@ use Rattle.board_rule.specs.Layout.{layout_of}
 use Rattle.board_rule.specs.Steps.{HasNode}
 use Rattle.activation_words.specs.Told.{IsTelling, HasTold}
 use Rattle.activation_words.specs.Calls.{worked, HasFinished}
+use Rattle.board_rule.proofs.BitLemmas.{woke_bits}
 use Rattle.activation_words.proofs.ViewLemmas.{follower_leads}
 use Rattle.activation_words.proofs.CallLemmas.{worked_has, worked_tells, told_rests, other_place}
 use Rattle.activation_words.proofs.running.finish.Goals as goal
@@ -33,3 +34,6 @@ returns-then-node-shape-clause-knows g c = let board = c.args.board.now in let p
     let told : HasTold false p (worked false v m r.0) m w =
     subst (λ (k : Bool × View). HasTold k.0 p k.1 m w) (λ j. (f j, (r.2 ∙ (λ i. worked (f i) v m r.0)) j)) c.tell_all.ensures.knows in
     subst (λ (k : Bool). HasFinished k p v m w) (sym f) (told_rests p v m r.0 w r.1 (subst (λ (k : Bool). HasNode k p v m) f has) told)
+
+pub returns-then-node-shape-clause-woke : goal.returns-then-node-shape-clause-woke
+returns-then-node-shape-clause-woke g c n = woke_bits _ n

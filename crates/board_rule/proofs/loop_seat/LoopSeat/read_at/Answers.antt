@@ -1,4 +1,4 @@
-use Rattle.std.proofs.Common.{◌≡◌, ◌∙◌, ap, sym, subst, arith}
+use Rattle.std.proofs.Common.{◌≡◌, ◌∙◌, false, ap, sym, subst, arith}
 use Rattle.board_rule.specs.declared.view.View.{View}
 use Rattle.board_rule.specs.Known.{Known}
 use Rattle.board_rule.specs.Layout.{layout_of}
@@ -22,5 +22,5 @@ returns c =
     let is : v ≡ c.args.self.now.knows = ap (λ (k : Known). k.knows) c.self.view_is in
     let has = subst (λ (u : View). HasReader p u c.args.link) (sym is) c.requires in
     c.index.ensures ∙ read_kept v i.nodes.items i.writes.items i.reads.items i.blocks.items i.woke c.self.invariant c.args.link c.read_slot.result
-    (read_sits p v c.args.link c.read_slot.result has.0 has.2 c.read_slot.ensures) has.1 c.index.result.now
+    (read_sits p v false c.args.link c.read_slot.result has.0 has.2 c.read_slot.ensures) has.1 c.index.result.now
     ∙ ap (λ (u : View). read_of u c.args.link) is
