@@ -1,1 +1,2 @@
 pub mod LeadingLemmas
+pub mod SettlingLemmas

@@ -1,2 +1,4 @@
 pub mod Leading
 pub mod Rounds
+pub mod Settling
+pub mod Concluding
