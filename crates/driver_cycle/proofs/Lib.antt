@@ -1,1 +1,3 @@
 pub mod LeadingLemmas
+pub mod SettlingLemmas
+pub mod ThreadLemmas

@@ -1,2 +1,5 @@
+pub mod Concluding
+pub mod Epochs
 pub mod Leading
 pub mod Rounds
+pub mod Settling

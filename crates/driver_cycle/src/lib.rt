@@ -6,8 +6,14 @@
 //! Where the node is awake, it calls `play_driver` or `pass_driver`, and then `end`.
 #![tactic(auto)]
 
+mod epoch;
+mod leading;
 mod rounds;
+mod settling;
 #[cfg(test)]
 mod tests;
 
+pub use epoch::run_epoch;
+pub use leading::lead_once;
 pub use rounds::{begin_next, look};
+pub use settling::settle;

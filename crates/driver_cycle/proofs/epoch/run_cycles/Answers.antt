@@ -1,0 +1,20 @@
+use Rattle.driver_cycle.proofs.ThreadLemmas.{no_round, more_rounds, begun_on}
+use Rattle.driver_cycle.proofs.epoch.run_cycles.Goals as goal
+
+pub loop-seat-init : goal.loop-seat-init
+loop-seat-init g c = record {
+  gone = no_round c.args.board.now c.args.seat.now c.args.own.now c.args.adopted.now (g.K.Ticker.ticks c.args.ticker.now) c.requires.thread;
+  between = c.requires.between;
+}
+
+pub loop-seat-preserved : goal.loop-seat-preserved
+loop-seat-preserved g c = let b = c.args.board.now in let a = c.loop-seat in let m = g.K.Ticker.ticks a.ticker in
+    let thread = a.invariant.gone.thread in let s = c.begin_next.new.seat in record {
+      gone = more_rounds b c.args.seat.now c.args.own.now c.args.adopted.now (g.K.Ticker.ticks c.args.ticker.now) a.seat a.own a.adopted m
+          a.invariant.gone c.run_cycle.new.seat c.run_cycle.new.own c.run_cycle.new.adopted (g.K.Ticker.ticks c.run_cycle.new.ticker)
+          (more_rounds b a.seat a.own a.adopted m s a.own a.adopted m
+          (begun_on b a.seat s a.own a.adopted m thread (c.begin_next.ensures.leads a.own.score a.own.epoch thread.leads)
+          c.loop-seat-test.ensures.begun.1)
+          c.run_cycle.new.seat c.run_cycle.new.own c.run_cycle.new.adopted (g.K.Ticker.ticks c.run_cycle.new.ticker) c.run_cycle.ensures.gone);
+      between = c.run_cycle.ensures.between;
+    }

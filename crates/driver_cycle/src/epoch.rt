@@ -1,0 +1,138 @@
+//! All cycles of an epoch, by the driver's thread.
+ghost use Rattle.std.specs.Prelude.{◌≡◌, ◌+◌, All, false};
+ghost use Rattle.board_rule.specs.Layout.{last};
+ghost use Rattle.board_rule.specs.OnBoard.{layout, table_of};
+ghost use Rattle.data_loop.specs.LoopsOnBoards.{IsOnBoard, IsAtEnd, IsSameBut};
+ghost use Rattle.data_loop.specs.LoopDriver.{DrivesFrom, IsTied};
+ghost use Rattle.driver_cycle.specs.Leading.{IsLeading, IsBetween, IsWaiting, HasEndedAll};
+ghost use Rattle.driver_cycle.specs.Rounds.{HasLooked};
+ghost use Rattle.driver_cycle.specs.Settling.{HasHadTurns, HasSettled, AreEach};
+ghost use Rattle.driver_cycle.specs.Epochs.{IsThread, HasGoneOn, HasGoneRound};
+
+use crate::leading::lead_once;
+use crate::rounds::begin_next;
+use crate::settling::{settle, settle_all};
+use board_rule::{Board, DriverSeat};
+use data_loop::LoopState;
+use pw_base::{Gate, Ticker};
+use std::sync::Wait;
+
+// One turn of each of the loops, in order.
+fn turn_all<G: Gate>(board: &Board, states: &mut [LoopState], gate: &G)
+    requires stand { All (IsOnBoard (layout board.now) (table_of board.now)) states.old }
+    ensures turned { AreEach (HasHadTurns (layout board.now) (table_of board.now))
+        states.old states.new }
+{
+    for k in 0..states.len() {
+        states[k].turn(board, gate);
+    }
+}
+
+// One round: a turn of the own loop, one of each adopted loop, and one claim of the driver's node.
+// Whether the cycle has ended.
+fn go_round<G: Gate, K: Ticker>(
+    board: &Board,
+    seat: &mut DriverSeat,
+    own: &mut LoopState,
+    adopted: &mut [LoopState],
+    checked: &mut bool,
+    ticker: &mut K,
+    gate: &G,
+) -> bool
+    requires thread { IsThread board.now seat.old own.old adopted.old }
+    requires waits { IsWaiting (layout board.now) seat.old.knows }
+    requires checked { checked.old ≡ seat.old.knows.lead.checked }
+    ensures gone { HasGoneOn board.now seat.old own.old adopted.old (K.ticks ticker.old)
+        seat.new own.new adopted.new (K.ticks ticker.new) }
+    ensures round { HasGoneRound result (layout board.now) seat.old.knows checked.new
+        seat.new.knows }
+{
+    own.turn(board, gate);
+    turn_all(board, adopted, gate);
+    lead_once(board, seat, own, checked, ticker, gate)
+}
+
+// The rounds of a cycle that is begun.
+fn run_cycle<R: Wait, G: Gate, K: Ticker>(
+    rt: &R,
+    board: &Board,
+    seat: &mut DriverSeat,
+    own: &mut LoopState,
+    adopted: &mut [LoopState],
+    ticker: &mut K,
+    gate: &G,
+)
+    requires thread { IsThread board.now seat.old own.old adopted.old }
+    requires waits { IsWaiting (layout board.now) seat.old.knows }
+    requires unchecked { seat.old.knows.lead.checked ≡ false }
+    ensures gone { HasGoneOn board.now seat.old own.old adopted.old (K.ticks ticker.old)
+        seat.new own.new adopted.new (K.ticks ticker.new) }
+    ensures between { IsBetween (layout board.now) seat.new.knows }
+    ensures cycle { seat.new.knows.lead.cycle ≡ seat.old.knows.lead.cycle + 1 }
+{
+    let mut checked = false;
+    for _ in rt.forever() {
+        if go_round(board, seat, own, adopted, &mut checked, ticker, gate) {
+            break;
+        }
+    }
+}
+
+// The cycles that are left of the epoch.
+fn run_cycles<R: Wait, G: Gate, K: Ticker>(
+    rt: &R,
+    board: &Board,
+    seat: &mut DriverSeat,
+    own: &mut LoopState,
+    adopted: &mut [LoopState],
+    ticker: &mut K,
+    gate: &G,
+)
+    requires thread { IsThread board.now seat.old own.old adopted.old }
+    requires between { IsBetween (layout board.now) seat.old.knows }
+    ensures gone { HasGoneOn board.now seat.old own.old adopted.old (K.ticks ticker.old)
+        seat.new own.new adopted.new (K.ticks ticker.new) }
+    ensures ended { HasEndedAll (layout board.now) seat.new.knows }
+{
+    while begin_next(board, seat) {
+        run_cycle(rt, board, seat, own, adopted, ticker, gate);
+    }
+}
+
+/// All cycles of one epoch, by the driver's thread: `own` has the driver, unless that is 63, and
+/// `adopted` are the other loops that this thread runs. After a cycle has begun, the thread goes in
+/// rounds: a turn of `own`, one of each adopted loop in order, and one claim of the driver's node,
+/// which ends the cycle where the node is awake. Once no cycle is left, it gives `own`, and then
+/// each adopted loop, turns until none of its followers has cycles left. Each cycle makes at most
+/// one check, where the ticker says so. It may wait. Takes no memory.
+/// Condition: this is the board of the current epoch of all these loops, the seat is between two of
+/// its cycles, and `run_driver` on `own` has run the driver in each earlier cycle of the epoch.
+pub fn run_epoch<R: Wait, G: Gate, K: Ticker>(
+    rt: &R,
+    board: &Board,
+    seat: &mut DriverSeat,
+    own: &mut LoopState,
+    adopted: &mut [LoopState],
+    ticker: &mut K,
+    gate: &G,
+)
+    requires leads { IsLeading own.old.score own.old.epoch board.now seat.old }
+    requires between { IsBetween (layout board.now) seat.old.knows }
+    requires stands { IsOnBoard (layout board.now) (table_of board.now) own.old }
+    requires driver { DrivesFrom (layout board.now) own.old }
+    requires tied { IsTied (layout board.now) own.old seat.old.knows }
+    requires adopted { All (IsOnBoard (layout board.now) (table_of board.now)) adopted.old }
+    ensures ended { HasEndedAll (layout board.now) seat.new.knows }
+    ensures leads { IsLeading own.old.score own.old.epoch board.now seat.new }
+    ensures table { seat.new.table ≡ seat.old.table }
+    ensures expect { seat.new.knows.expect ≡ seat.old.knows.expect }
+    ensures end { IsAtEnd (layout board.now) (table_of board.now) own.new }
+    ensures same { IsSameBut own.old own.new }
+    ensures adopted { AreEach (HasSettled (layout board.now) (table_of board.now))
+        adopted.old adopted.new }
+    ensures looked { HasLooked seat.old seat.new (K.ticks ticker.old) (K.ticks ticker.new) }
+{
+    run_cycles(rt, board, seat, own, adopted, ticker, gate);
+    settle(rt, board, own, gate);
+    settle_all(rt, board, adopted, gate);
+}
