@@ -111,7 +111,7 @@ module _ (p : BoardLayout) (v : View) (c : ℕ) (may : MayDrive p v c) (w : View
     pub ended_between : IsBetween p x
     ended_between = let n = driven_has in let low = n.1.0 in let high = n.1.1 in let e = ended_cycle in let now = driven.cycle in record {
       member = (
-        (refl, ap (λ (y : View). y.number) ended.2 ∙ n.0.1),
+        (refl, ap (λ (y : View). y.number) ended.2 ∙ n.0.1, ap (λ (y : View). y.owners) ended.2 ∙ n.0.2),
         (omega (arith, low, e, now), omega (arith, high, e, now)),
         n.2,
       );

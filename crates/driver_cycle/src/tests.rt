@@ -7,10 +7,10 @@ ghost use Rattle.data_loop.specs.Rooms.{HasRowsFor};
 ghost use Rattle.data_loop.specs.Driving.{HasNoLinkIn, MayDrive, IsDriverPlayer};
 ghost use Rattle.driver_cycle.specs.Leading.{IsBetween};
 
-use crate::{begin_next, look, pass_driver, play_driver};
+use crate::{begin_next, look};
 use activation_words::{Claim, claim_driver, end};
 use board_rule::{Board, BoardSeat, Closed, DriverSeat};
-use data_loop::{Member, Rows};
+use data_loop::{Member, Rows, pass_driver, play_driver};
 use node_progress::Score;
 use node_state::NodeState;
 use pw_base::{Event, Every, Items, Memory, Open, Shape, ShapeNode, is_pooled_shape};

@@ -18,3 +18,8 @@ loop-seat-preserved g c = let b = c.args.board.now in let a = c.loop-seat in let
           c.run_cycle.new.seat c.run_cycle.new.own c.run_cycle.new.adopted (g.K.Ticker.ticks c.run_cycle.new.ticker) c.run_cycle.ensures.gone);
       between = c.run_cycle.ensures.between;
     }
+
+pub run_cycle-requires-clause-thread : goal.run_cycle-requires-clause-thread
+run_cycle-requires-clause-thread g c = let b = c.args.board.now in let a = c.loop-seat in let thread = a.invariant.gone.thread in
+    (begun_on b a.seat c.begin_next.new.seat a.own a.adopted (g.K.Ticker.ticks a.ticker) thread
+    (c.begin_next.ensures.leads a.own.score a.own.epoch thread.leads) c.loop-seat-test.ensures.begun.1).thread
