@@ -10,7 +10,8 @@ use Rattle.node_progress.specs.NodeStates.{IsNodeState}
 use Rattle.data_loop.specs.declared.loop_state.LoopState.{LoopState}
 
 -- the states of the nodes before the first cycle of the run
-pub record AreFirstStates (score : Score) (nodes : List ℕ) (states : List NodeState) : Type 0 where
+pub record AreFirstStates (score : Score) (nodes : List ℕ)
+    (states : List NodeState) : Type 0 where
   pub count : length states ≡ length nodes
   pub each : (j : ℕ) (d : NodeState) → j < length nodes
       → IsNodeState score 0 0 (slice_index nodes j) (slice_index_or states j d)

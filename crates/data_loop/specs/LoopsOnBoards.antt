@@ -48,7 +48,10 @@ pub record IsFirstSeat (plan : Plan) (waves : List WavIn) (k : ℕ) (nodes : Lis
   pub plain : IsPooledBoard p
   pub number : ℕ
   pub one : number < p.seats
-  pub is : seat ≡ record { table = t; knows = loop_view p (expected_samples plan waves k) number }
+  pub is : seat ≡ record {
+    table = t;
+    knows = loop_view p (expected_samples plan waves k) number;
+  }
   pub owned : (n : ℕ) → Contains nodes n → p.index n < nodes_in p → p.index n ≢ p.driver
       → p.seat_of (p.index n) ≡ number
 
@@ -57,7 +60,8 @@ pub record IsSameBut (s t : LoopState) : Type 0 where
   pub score : t.score ≡ s.score
   pub nodes : t.nodes ≡ s.nodes
   pub epoch : t.epoch ≡ s.epoch
-  pub stages : (k : ℕ) → k ≢ s.epoch → slice_get t.stages.items k ≡ slice_get s.stages.items k
+  pub stages : (k : ℕ) → k ≢ s.epoch
+      → slice_get t.stages.items k ≡ slice_get s.stages.items k
 
 -- a turn, with the tries that it found to be too early
 abbrev pub HasTurnedOnce : BoardLayout → LoopState → Did → LoopState → Type 0

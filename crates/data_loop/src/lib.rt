@@ -32,6 +32,7 @@ pub use inputs::{Input, hear_all};
 pub use loop_state::LoopState;
 pub use member::Member;
 pub use playing::play;
+pub use ready_queues::{Way, Ways};
 pub use rows::Rows;
 pub use stage::Stage;
 pub use tried::Tried;

@@ -26,8 +26,8 @@ fn has_form(epoch: &Epoch, node: u32) -> bool
     forms.iter().any(|form| is_same_port(form.port, port))
 }
 
-/// Whether a node works in the epoch: it is active, and where it drives, its input has a form. Takes
-/// no memory; a look at the epoch's nodes and forms.
+/// Whether a node works in the epoch: it is active, and where it drives, its input has a form.
+/// Takes no memory; a look at the epoch's nodes and forms.
 pub fn works_in(epoch: &Epoch, node: u32) -> bool
     ensures { result ≡ works_in epoch.now node }
 {
