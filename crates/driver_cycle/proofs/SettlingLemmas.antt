@@ -1,9 +1,8 @@
 -- Loops on the board of their epoch, from turn to turn, and their end.
-use Rattle.std.proofs.Common.{◌≡◌, ◌≢◌, ℕ, zero, suc, ◌+◌, ◌<◌, ◌≤◌, Bool, true, false, true≢false, not, cond, List, [], ◌∷◌, length, map, filter, get_or, set, refl, sym, ap, ◌∙◌, subst, arith, ⊎_elim}
-use Rattle.std.proofs.Common.{Some, slice_get, length-set, get_or-set_same, get_or-set_other}
+use Rattle.std.proofs.Common.{◌≡◌, ◌≢◌, ℕ, zero, suc, ◌+◌, ◌<◌, ◌≤◌, Bool, true, false, true≢false, not, List, [], ◌∷◌, length, map, filter, get_or, set, refl, sym, ap, ◌∙◌, subst, arith, ⊎_elim}
+use Rattle.std.proofs.Common.{slice_get, length-set, get_or-set_same, get_or-set_other}
 use Rattle.std.specs.Prelude.{All, eqb}
 use Rattle.std.proofs.lemmas.Bool.{cases_Bool, cases_eq, cases_lt, ne_eqb, cond-true, cond-false}
-use Rattle.std.proofs.lemmas.Option.{same_Some}
 use Rattle.atomic_table.specs.Seated.{TableId}
 use Rattle.pw_base.specs.declared.plan.Epoch.{Epoch}
 use Rattle.pw_base.specs.PlanFresh.{IsEpoch}
@@ -15,7 +14,7 @@ use Rattle.data_loop.specs.declared.stage.Stage.{Stage}
 use Rattle.data_loop.specs.LoopTurn.{next_in, has_left, HaveTried}
 use Rattle.data_loop.specs.Members.{members_of, drivers_of}
 use Rattle.data_loop.specs.Loops.{plan_of, HasStage}
-use Rattle.data_loop.specs.LoopsOnBoards.{IsOnBoard, IsAtEnd, IsSameBut, HasTurnedOnce}
+use Rattle.data_loop.specs.LoopsOnBoards.{IsOnBoard, IsSameBut}
 use Rattle.driver_cycle.specs.Settling.{HasLedAll, HasHadTurns, HasSettled, AreEach, AreEachBelow}
 
 pub same_but_refl : (s : LoopState) → IsSameBut s s

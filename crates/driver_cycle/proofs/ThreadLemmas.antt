@@ -1,5 +1,5 @@
 -- The driver's thread from round to round.
-use Rattle.std.proofs.Common.{◌≡◌, ◌≢◌, ℕ, ◌+◌, ◌<◌, Bool, true, false, List, [], length, get_or, refl, sym, ap, ◌∙◌, subst, arith}
+use Rattle.std.proofs.Common.{◌≡◌, ℕ, ◌+◌, Bool, true, false, List, get_or, refl, sym, ap, ◌∙◌, subst, arith}
 use Rattle.std.proofs.Common.{Option, Some, None}
 use Rattle.std.specs.Prelude.{All, Contains, ◌⊎◌}
 use Rattle.atomic_table.specs.Seated.{TableId}
@@ -14,13 +14,11 @@ use Rattle.board_rule.specs.Known.{Known}
 use Rattle.activation_words.specs.CycleCalls.{HasBegun}
 use Rattle.node_progress.specs.declared.score.Score.{Score}
 use Rattle.data_loop.specs.declared.loop_state.LoopState.{LoopState}
-use Rattle.data_loop.specs.declared.stage.Stage.{Stage}
-use Rattle.data_loop.specs.Loops.{HasStage}
 use Rattle.data_loop.specs.LoopsOnBoards.{IsOnBoard, IsSameBut}
 use Rattle.data_loop.specs.LoopDriver.{DrivesFrom, IsTied}
 use Rattle.driver_cycle.specs.Leading.{IsLeading}
 use Rattle.driver_cycle.specs.Rounds.{HasLooked, IsLook}
-use Rattle.driver_cycle.specs.Concluding.{HasConcluded, LooksOnce, IsClaimed}
+use Rattle.driver_cycle.specs.Concluding.{LooksOnce, IsClaimed}
 use Rattle.driver_cycle.specs.Settling.{HasLedAll, HasHadTurns, HasSettled, AreEach}
 use Rattle.driver_cycle.specs.Epochs.{IsThread, HasGoneOn}
 use Rattle.driver_cycle.proofs.LeadingLemmas.{looked_on, none_looked}

@@ -11,7 +11,6 @@ use Rattle.board_rule.specs.Known.{Known}
 use Rattle.io_areas.specs.PooledBoard.{IsPooledBoard}
 use Rattle.node_progress.specs.declared.score.Score.{Score}
 use Rattle.data_loop.specs.Driving.{IsDriverRead}
-
 -- between two cycles, waiting for the driver's node, and at the end: views of the seat
 pub use Rattle.activation_words.specs.Members.{IsBetween, IsWaiting, IsDriving}
 pub use Rattle.board_rule.specs.Closing.{HasEndedAll}

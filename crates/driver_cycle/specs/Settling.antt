@@ -12,7 +12,8 @@ use Rattle.data_loop.specs.LoopsOnBoards.{IsOnBoard, IsAtEnd, IsSameBut}
 
 -- the loop has led all cycles of the epoch, where the driver is a node of it that works
 abbrev pub HasLedAll : BoardLayout → LoopState → Type 0
-HasLedAll p s = (g : Stage) → HasStage s s.epoch g → g.driver ≢ [] → s.led ≡ p.shape.cycles
+HasLedAll p s = (g : Stage) → HasStage s s.epoch g → g.driver ≢ []
+    → s.led ≡ p.shape.cycles
 
 -- AFTER TURNS: from s to u the loop has had turns on the board, and nothing else
 pub record HasHadTurns (p : BoardLayout) (t : TableId) (s u : LoopState) : Type 0 where

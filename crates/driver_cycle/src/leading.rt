@@ -34,12 +34,7 @@ fn conclude<G: Gate>(board: &Board, seat: &mut DriverSeat, own: &mut LoopState, 
 }
 
 // After a claim that was too early: a look, unless this cycle has had its check.
-fn look_once<K: Ticker>(
-    board: &Board,
-    seat: &mut DriverSeat,
-    checked: &mut bool,
-    ticker: &mut K,
-)
+fn look_once<K: Ticker>(board: &Board, seat: &mut DriverSeat, checked: &mut bool, ticker: &mut K)
     requires table { IsOn board.now seat.old.table }
     requires waits { IsWaiting (layout board.now) seat.old.knows }
     requires checked { checked.old ≡ seat.old.knows.lead.checked }

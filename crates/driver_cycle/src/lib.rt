@@ -1,9 +1,9 @@
-//! The cycle of the driver's thread, in pieces: the beginning of the next cycle, a look at who is
-//! late, and the turn of the driver's node.
+//! The cycles of an epoch, by the driver's thread: `run_epoch`, and what it is made of.
 //!
-//! In a cycle the thread calls `begin_next`, and then goes in rounds, each of which ends with one
-//! `claim_driver`. Where that was too early and no check was made in this cycle, it calls `look`.
-//! Where the node is awake, it calls `play_driver` or `pass_driver`, and then `end`.
+//! The thread begins a cycle with `begin_next`. Then it goes in rounds: turns of its loops, and one
+//! claim of the driver's node by `lead_once`, which ends the cycle where the node is awake and else
+//! looks at who is late, at most once a cycle. After the last cycle it calls `settle` for each
+//! loop.
 #![tactic(auto)]
 
 mod epoch;

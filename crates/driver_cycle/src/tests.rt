@@ -1,21 +1,22 @@
 //! Whole epochs of a board on which the driver's node is alone, and what its events are then.
-ghost use Rattle.std.specs.Prelude.{◌≡◌, ◌≤◌, suc, length, IfOk, IfSome, [], ◌∷◌};
-ghost use Rattle.board_rule.specs.OnBoard.{IsOn, layout};
+ghost use Rattle.std.specs.Prelude.{◌≡◌, All, IfOk, IfSome, [], length, not};
+ghost use Rattle.board_rule.specs.Layout.{first};
+ghost use Rattle.board_rule.specs.OnBoard.{IsOn, layout, table_of};
 ghost use Rattle.io_areas.specs.PooledBoard.{IsPooledBoard};
-ghost use Rattle.node_progress.specs.NodeStates.{IsNodeState};
-ghost use Rattle.data_loop.specs.Rooms.{HasRowsFor};
-ghost use Rattle.data_loop.specs.Driving.{HasNoLinkIn, MayDrive, IsDriverPlayer};
-ghost use Rattle.driver_cycle.specs.Leading.{IsBetween};
+ghost use Rattle.data_loop.specs.Driving.{HasNoLinkIn};
+ghost use Rattle.data_loop.specs.LoopDriver.{DrivesFrom, IsTied};
+ghost use Rattle.data_loop.specs.LoopsOnBoards.{IsOnBoard, IsAtEnd};
+ghost use Rattle.driver_cycle.specs.Leading.{IsLeading, IsBetween, IsWaiting, IsDriving};
+ghost use Rattle.driver_cycle.specs.Settling.{HasSettled};
 
-use crate::{begin_next, look};
+use crate::{begin_next, lead_once, look, run_epoch, settle};
 use activation_words::{Claim, claim_driver, end};
 use board_rule::{Board, BoardSeat, Closed, DriverSeat};
-use data_loop::{Member, Rows, pass_driver, play_driver};
-use node_progress::Score;
-use node_state::NodeState;
+use data_loop::{LoopState, pass_driver};
 use pw_base::{Event, Every, Items, Memory, Open, Shape, ShapeNode, is_pooled_shape};
 use std::alloc::Global;
 use std::marker::Brand;
+use std::sync::Wait;
 use std::test::Fail;
 
 // The driver's node alone, for three cycles.
@@ -75,37 +76,52 @@ fn one_cycle(board: &Board, seat: &mut DriverSeat, ticker: &mut Every) -> Option
     }
 }
 
-// The turn of a driver's node that works, with a gate that lets each node through.
-fn play_open(
-    score: &Score,
+// One claim of the driver's node, with a gate that lets each node through.
+fn lead_open(
     board: &Board,
     seat: &mut DriverSeat,
-    member: &Member,
-    epoch: u32,
-    cycle: u32,
-    state: &mut NodeState,
-    rows: &mut Rows,
-)
-    requires pooled { IsPooledBoard (layout board.now) }
-    requires table { IsOn board.now seat.old.table }
-    requires player { let p = layout board.now in
-        IsDriverPlayer score.now p seat.old.knows epoch cycle member.now }
-    requires awake { MayDrive (layout board.now) seat.old.knows cycle }
-    requires state { IsNodeState score.now epoch cycle member.now.node state.old }
-    requires rows { HasRowsFor rows.old member.now }
-    ensures state { IsNodeState score.now epoch (suc cycle) member.now.node state.new }
+    own: &mut LoopState,
+    checked: &mut bool,
+    ticker: &mut Every,
+) -> bool
+    requires leads { IsLeading own.old.score own.old.epoch board.now seat.old }
+    requires waits { IsWaiting (layout board.now) seat.old.knows }
+    requires stands { IsOnBoard (layout board.now) (table_of board.now) own.old }
+    requires driver { DrivesFrom (layout board.now) own.old }
+    requires tied { IsTied (layout board.now) own.old seat.old.knows }
+    requires checked { checked.old ≡ seat.old.knows.lead.checked }
+    ensures driving { IsDriving (layout board.now) seat.new.knows (not result) }
 {
-    play_driver(
-        score,
-        board,
-        seat,
-        member,
-        epoch,
-        cycle,
-        state,
-        rows,
-        &Open::new(),
-    );
+    lead_once(board, seat, own, checked, ticker, &Open::new())
+}
+
+// The end of an epoch for one loop.
+fn settle_open<R: Wait>(rt: &R, board: &Board, state: &mut LoopState)
+    requires stands { IsOnBoard (layout board.now) (table_of board.now) state.old }
+    ensures settled { HasSettled (layout board.now) (table_of board.now) state.old state.new }
+{
+    settle(rt, board, state, &Open::new());
+}
+
+// One epoch, with a look in every second cycle.
+fn run_open<R: Wait>(
+    rt: &R,
+    board: &Board,
+    seat: &mut DriverSeat,
+    own: &mut LoopState,
+    adopted: &mut [LoopState],
+)
+    requires leads { IsLeading own.old.score own.old.epoch board.now seat.old }
+    requires between { IsBetween (layout board.now) seat.old.knows }
+    requires stands { IsOnBoard (layout board.now) (table_of board.now) own.old }
+    requires driver { DrivesFrom (layout board.now) own.old }
+    requires first { seat.old.knows.lead.cycle ≡ first (layout board.now) }
+    requires none_led { own.old.led ≡ 0 }
+    requires adopted { All (IsOnBoard (layout board.now) (table_of board.now)) adopted.old }
+    ensures end { IsAtEnd (layout board.now) (table_of board.now) own.new }
+{
+    let mut ticker = Every::new(2);
+    run_epoch(rt, board, seat, own, adopted, &mut ticker, &Open::new());
 }
 
 // Four cycles, of which three are left, and the end of the board. None where one of them went wrong.

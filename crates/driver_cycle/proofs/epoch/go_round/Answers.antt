@@ -1,7 +1,5 @@
 use Rattle.std.proofs.Common.{refl}
 use Rattle.board_rule.specs.OnBoard.{layout, table_of}
-use Rattle.data_loop.specs.LoopsOnBoards.{IsOnBoard}
-use Rattle.driver_cycle.specs.Settling.{HasHadTurns}
 use Rattle.driver_cycle.proofs.ThreadLemmas.{tied_same, gone_round}
 use Rattle.driver_cycle.proofs.epoch.go_round.Goals as goal
 

@@ -32,18 +32,18 @@ loop-preserved g c = let r = c.if-go_round.ensures.round in record {
 
 pub returns-clause-gone : goal.returns-clause-gone
 returns-clause-gone g c = elim c.match-next.branch [
-    in-None w ↦ absurd (true≢false (sym w.in-None.ensures.steps))
-    | in-Some+then-go_round w ↦
-        subst (λ (x : Known × LoopState × List LoopState × ℕ). HasGoneOn c.args.board.now c.args.seat.now c.args.own.now c.args.adopted.now
-        (g.K.Ticker.ticks c.args.ticker.now) x.0 x.1 x.2 x.3)
-        (λ i. (sym w.seat-is i, sym w.own-is i, sym w.adopted-is i, g.K.Ticker.ticks (sym w.ticker-is i)))
-        (more_rounds c.args.board.now c.args.seat.now c.args.own.now c.args.adopted.now (g.K.Ticker.ticks c.args.ticker.now)
-        c.loop.seat c.loop.own c.loop.adopted (g.K.Ticker.ticks c.loop.ticker) c.loop.invariant.gone
-        w.go_round.new.seat w.go_round.new.own w.go_round.new.adopted (g.K.Ticker.ticks w.go_round.new.ticker) w.go_round.ensures.gone)
-  ]
+  | in-None w ↦ absurd (true≢false (sym w.in-None.ensures.steps))
+  | in-Some+then-go_round w ↦
+      subst (λ (x : Known × LoopState × List LoopState × ℕ). HasGoneOn c.args.board.now c.args.seat.now c.args.own.now c.args.adopted.now
+      (g.K.Ticker.ticks c.args.ticker.now) x.0 x.1 x.2 x.3)
+      (λ i. (sym w.seat-is i, sym w.own-is i, sym w.adopted-is i, g.K.Ticker.ticks (sym w.ticker-is i)))
+      (more_rounds c.args.board.now c.args.seat.now c.args.own.now c.args.adopted.now (g.K.Ticker.ticks c.args.ticker.now)
+      c.loop.seat c.loop.own c.loop.adopted (g.K.Ticker.ticks c.loop.ticker) c.loop.invariant.gone
+      w.go_round.new.seat w.go_round.new.own w.go_round.new.adopted (g.K.Ticker.ticks w.go_round.new.ticker) w.go_round.ensures.gone)
+]
 
 pub returns-clause-between : goal.returns-clause-between
 returns-clause-between g c = elim c.match-next.branch [
-    in-None w ↦ absurd (true≢false (sym w.in-None.ensures.steps))
-    | in-Some+then-go_round w ↦ subst (λ (x : Known). IsBetween (layout c.args.board.now) x.knows) (sym w.seat-is) w.if-go_round.ensures.round.0
-  ]
+  | in-None w ↦ absurd (true≢false (sym w.in-None.ensures.steps))
+  | in-Some+then-go_round w ↦ subst (λ (x : Known). IsBetween (layout c.args.board.now) x.knows) (sym w.seat-is) w.if-go_round.ensures.round.0
+]

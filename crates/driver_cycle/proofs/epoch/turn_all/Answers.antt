@@ -1,4 +1,4 @@
-use Rattle.std.proofs.Common.{ℕ, ◌≡◌, ◌<◌, get_or, length, sym, ◌∙◌, subst, arith}
+use Rattle.std.proofs.Common.{◌<◌, length, sym, ◌∙◌, subst, arith}
 use Rattle.std.proofs.lemmas.List.{get_or_default}
 use Rattle.board_rule.specs.OnBoard.{layout, table_of}
 use Rattle.data_loop.specs.declared.loop_state.LoopState.{LoopState}
@@ -17,11 +17,13 @@ turn-requires g c = let p = layout c.args.board.now in let t = table_of c.args.b
 pub loop-k-preserved : goal.loop-k-preserved
 loop-k-preserved g c = let p = layout c.args.board.now in let t = table_of c.args.board.now in
     let low = c.loop-k-test.true in let h = c.loop-k.invariant.1 in let n = h.count in let k = c.loop-k.k in
-    let inside : k < length c.loop-k.states = omega (arith, low, n) in
-    (c.loop-k.invariant.0, one_more (HasHadTurns p t) c.args.states.now k c.loop-k.states c.turn.new.self inside h
-    (λ d. subst (λ (x : LoopState). HasHadTurns p t x c.turn.new.self)
-    (get_or_default c.loop-k.states k c.index-states-k.result d inside ∙ h.left k d (omega arith)) record {
-      on = c.turn.ensures.stands;
-      same = c.turn.ensures.same;
-      led = c.turn.ensures.led;
-    }))
+    let inside : k < length c.loop-k.states = omega (arith, low, n) in (
+      c.loop-k.invariant.0,
+      one_more (HasHadTurns p t) c.args.states.now k c.loop-k.states c.turn.new.self inside h
+          (λ d. subst (λ (x : LoopState). HasHadTurns p t x c.turn.new.self)
+          (get_or_default c.loop-k.states k c.index-states-k.result d inside ∙ h.left k d (omega arith)) record {
+            on = c.turn.ensures.stands;
+            same = c.turn.ensures.same;
+            led = c.turn.ensures.led;
+          }),
+    )

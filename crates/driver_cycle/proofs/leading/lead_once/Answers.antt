@@ -1,4 +1,4 @@
-use Rattle.std.proofs.Common.{sym, ap, subst, ◌∙◌}
+use Rattle.std.proofs.Common.{sym, ap, subst}
 use Rattle.board_rule.specs.declared.view.View.{View}
 use Rattle.board_rule.specs.OnBoard.{layout}
 use Rattle.data_loop.specs.Driving.{MayDrive}

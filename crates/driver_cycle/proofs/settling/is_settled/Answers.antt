@@ -2,7 +2,7 @@ use Rattle.std.proofs.Common.{◌≡◌, ◌≢◌, nat_eq, true, true≢false, 
 use Rattle.std.proofs.lemmas.Bool.{cases_eq, ne_eqb}
 use Rattle.board_rule.specs.OnBoard.{layout, table_of}
 use Rattle.data_loop.specs.LoopTurn.{HaveTried}
-use Rattle.driver_cycle.specs.Settling.{HasHadTurns, HasSettled}
+use Rattle.driver_cycle.specs.Settling.{HasHadTurns}
 use Rattle.driver_cycle.proofs.SettlingLemmas.{settled_by}
 use Rattle.driver_cycle.proofs.settling.is_settled.Goals as goal
 

@@ -1,10 +1,10 @@
-use Rattle.std.proofs.Common.{ℕ, ◌≡◌, ◌<◌, get_or, length, refl, sym, ap, ◌∙◌, subst, arith}
+use Rattle.std.proofs.Common.{◌<◌, length, sym, ◌∙◌, subst, arith}
 use Rattle.std.proofs.lemmas.List.{get_or_default}
 use Rattle.board_rule.specs.OnBoard.{layout, table_of}
 use Rattle.data_loop.specs.declared.loop_state.LoopState.{LoopState}
 use Rattle.data_loop.specs.LoopsOnBoards.{IsOnBoard}
 use Rattle.driver_cycle.specs.Settling.{HasSettled}
-use Rattle.driver_cycle.proofs.SettlingLemmas.{none_below, one_more, all_below}
+use Rattle.driver_cycle.proofs.SettlingLemmas.{one_more}
 use Rattle.driver_cycle.proofs.settling.settle_all.Goals as goal
 
 pub settle-requires : goal.settle-requires
@@ -17,8 +17,9 @@ settle-requires g c = let p = layout c.args.board.now in let t = table_of c.args
 pub loop-k-preserved : goal.loop-k-preserved
 loop-k-preserved g c = let p = layout c.args.board.now in let t = table_of c.args.board.now in
     let low = c.loop-k-test.true in let h = c.loop-k.invariant.1 in let n = h.count in let k = c.loop-k.k in
-    let inside : k < length c.loop-k.states = omega (arith, low, n) in
-    (c.loop-k.invariant.0, one_more (HasSettled p t) c.args.states.now k c.loop-k.states c.settle.new.state inside h
-    (λ d. subst (λ (x : LoopState). HasSettled p t x c.settle.new.state)
-    (get_or_default c.loop-k.states k c.index-states-k.result d inside ∙ h.left k d (omega arith)) c.settle.ensures.settled))
-
+    let inside : k < length c.loop-k.states = omega (arith, low, n) in (
+      c.loop-k.invariant.0,
+      one_more (HasSettled p t) c.args.states.now k c.loop-k.states c.settle.new.state inside h
+          (λ d. subst (λ (x : LoopState). HasSettled p t x c.settle.new.state)
+          (get_or_default c.loop-k.states k c.index-states-k.result d inside ∙ h.left k d (omega arith)) c.settle.ensures.settled),
+    )
