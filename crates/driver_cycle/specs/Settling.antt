@@ -30,7 +30,8 @@ pub record HasSettled (p : BoardLayout) (t : TableId) (s u : LoopState) : Type 0
   pub end : HasLedAll p s → IsAtEnd p t u
 
 -- so it is of each of these loops, by its index
-pub record AreEach (R : LoopState → LoopState → Type 0) (old new : List LoopState) : Type 0 where
+pub record AreEach (R : LoopState → LoopState → Type 0)
+    (old new : List LoopState) : Type 0 where
   pub count : length new ≡ length old
   pub each : (k : ℕ) (d : LoopState) → k < length old
       → R (slice_index_or old k d) (slice_index_or new k d)

@@ -30,13 +30,7 @@ pub fn restart_in(plan: &Plan, epoch: u32, node: u32) -> Option<u32>
 /// The state of a node that has done all cycles of the epoch `epoch` goes into the next one: where
 /// that epoch names the node as fresh, its stream begins anew with `restart` channels. Takes no
 /// memory; a delay writes its line over with zeros.
-pub fn enter_next(
-    score: &Score,
-    epoch: u32,
-    node: u32,
-    state: &mut NodeState,
-    restart: Option<u32>,
-)
+pub fn enter_next(score: &Score, epoch: u32, node: u32, state: &mut NodeState, restart: Option<u32>)
     requires ended { IsEndOf score.now epoch (next_first score.now.plan.value epoch) node }
     requires state { IsNodeState score.now epoch (next_first score.now.plan.value epoch) node
         state.old }
