@@ -3,3 +3,4 @@ pub mod BoardLemmas
 pub mod DealLemmas
 pub mod RowLemmas
 pub mod ClosingLemmas
+pub mod LoopLemmas

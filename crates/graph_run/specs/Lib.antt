@@ -1,3 +1,4 @@
 pub mod Assignment
 pub mod Boards
 pub mod Closing
+pub mod Loops
