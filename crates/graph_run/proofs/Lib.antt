@@ -4,3 +4,4 @@ pub mod DealLemmas
 pub mod RowLemmas
 pub mod ClosingLemmas
 pub mod LoopLemmas
+pub mod EpochLemmas
