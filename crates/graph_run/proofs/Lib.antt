@@ -5,3 +5,4 @@ pub mod RowLemmas
 pub mod ClosingLemmas
 pub mod LoopLemmas
 pub mod EpochLemmas
+pub mod ReadyLemmas

@@ -2,7 +2,7 @@
 -- far they have come.
 -- Source: PipeWire's documentation, "Graph Scheduling" and "Data loops"; which loop has a node is
 -- this project's own.
-use Rattle.std.specs.Prelude.{◌≡◌, ◌⊎◌, ℕ, ◌+◌, ◌<◌, ◌≤◌, List, Some, Contains, length, slice_get, slice_index_or}
+use Rattle.std.specs.Prelude.{◌≡◌, ◌⊎◌, ℕ, ◌+◌, ◌<◌, ◌≤◌, List, Some, All, Contains, length, slice_get, slice_index_or}
 use Rattle.pw_base.specs.declared.plan.Epoch.{Epoch}
 use Rattle.pw_base.specs.Limits.{dummy_node}
 use Rattle.pw_base.specs.PlanFresh.{IsEpoch}
@@ -50,6 +50,13 @@ pub record AreFirstLeads (score : Score) (boards : List Board) (seats : List Kno
   pub count : length seats ≡ length boards
   pub each : (k : ℕ) (b : Board) (d : Known) → slice_get boards k ≡ Some b
       → IsFirstLead score k b (slice_index_or seats k d)
+
+-- THE LOOPS of a plan, and last the driver's own, which alone has the drivers, before the run
+pub record AreReady (boards : List Board) (loops : ℕ) (states : List LoopState) : Type 0 where
+  pub count : length states ≡ loops + 1
+  pub each : All (IsReady boards) states
+  pub without : (i : ℕ) (d : LoopState) → i < loops → HasNoDriver (slice_index_or states i d)
+  pub own : (d : LoopState) → HasDrivers (slice_index_or states loops d)
 
 -- THE WAY: from s the loop has come to t, before epoch k, and from k on it has what it had
 pub record HasCome (k : ℕ) (s t : LoopState) : Type 0 where

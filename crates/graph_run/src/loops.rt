@@ -1,11 +1,14 @@
 //! The loops of a run.
-ghost use Rattle.std.specs.Prelude.{◌≡◌, ◌≤◌, ◌+◌, All, IfOk, length, map};
+ghost use Rattle.std.specs.Prelude.{◌≡◌, ◌≤◌, ◌+◌, All, IfOk, List, length, map};
 ghost use Rattle.pw_base.specs.SoundPlan.{IsSoundPlan};
 ghost use Rattle.cycle_model.specs.WavesFit.{WavesFit};
+ghost use Rattle.board_rule.specs.declared.board.Board.{Board};
 ghost use Rattle.data_loop.specs.LoopStart.{IsLoopOf};
 ghost use Rattle.data_loop.specs.Loops.{IsBetweenEpochs};
-ghost use Rattle.graph_run.specs.Assignment.{nodes_of_loop};
+ghost use Rattle.graph_run.specs.Assignment.{nodes_of_loop, epoch_board};
+ghost use Rattle.graph_run.specs.Boards.{all_seats};
 ghost use Rattle.graph_run.specs.Loops.{AreLoopsOf};
+ghost use Rattle.graph_run.specs.LoopsOnPlan.{AreReady};
 
 use crate::assignment::nodes_of_loop;
 use board_rule::LoopSeat;
@@ -55,6 +58,12 @@ pub fn loops_of(
     ensures between { IfOk result (All IsBetweenEpochs) }
     ensures of { IfOk result
         (AreLoopsOf plan.now waves.now loops (map (λ row. row.list) seats.items)) }
+    // With the seats of the plan's boards, each loop is ready to run on them, and the driver's own
+    // alone has the drivers.
+    ensures ready { IfOk result (λ states. (boards : List Board)
+        → map (λ b. b.board_shape) boards ≡ map (epoch_board plan.now loops) plan.now.epochs
+        → map (λ row. row.list) seats.items ≡ all_seats plan.now waves.now loops boards
+        → AreReady boards loops states) }
 {
     let mut states = Items::new(alloc);
     let mut which = 0;
