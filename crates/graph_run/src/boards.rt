@@ -1,11 +1,13 @@
 //! The boards of all epochs.
-ghost use Rattle.std.specs.Prelude.{◌≡◌, ◌<◌, ◌≤◌, [], All, IfOk, length, map, zip};
+ghost use Rattle.std.specs.Prelude.{◌≡◌, ◌+◌, ◌<◌, ◌≤◌, [], All, IfOk, length, map, zip};
 ghost use Rattle.pw_base.specs.SoundPlan.{IsSoundPlan};
 ghost use Rattle.cycle_model.specs.WavesFit.{WavesFit};
 ghost use Rattle.cycle_model.specs.Expected.{IsShort, AreShort, expected_samples};
 ghost use Rattle.std.specs.List.{enumerate_from, range_with_len};
 ghost use Rattle.graph_run.specs.Assignment.{epoch_board};
+ghost use Rattle.node_progress.specs.declared.score.Score.{Score};
 ghost use Rattle.graph_run.specs.Boards.{IsBoardMade, dealt, driver_of, all_seats};
+ghost use Rattle.graph_run.specs.LoopsOnPlan.{AreFirstLeads};
 
 use crate::assignment::seat_row;
 use board_rule::{Board, DriverSeat, Expect, LoopSeat};
@@ -127,6 +129,11 @@ pub fn boards_of(
         ≡ map (driver_of plan.now waves.now loops) (enumerate_from 0 all.boards)) }
     ensures seats { IfOk result (λ all. map (λ row. row.list) all.seats.items
         ≡ all_seats plan.now waves.now loops all.boards) }
+    ensures rows { IfOk result (λ all. (length all.seats.items ≡ loops + 1)
+        × All (λ row. length row.list ≡ length plan.now.epochs) all.seats.items) }
+    // So the drivers' seats are ready to lead the run.
+    ensures lead { IfOk result (λ all. (score : Score) → score.plan.value ≡ plan.now
+        → score.waves.value ≡ waves.now → AreFirstLeads score all.boards all.drivers) }
 {
     look_over_all(waves.as_slice());
     let count = plan.epochs.len();

@@ -9,9 +9,13 @@
 mod assignment;
 mod boards;
 mod closing;
+mod epochs;
+mod loops;
 #[cfg(test)]
 mod tests;
 
 pub use assignment::{loop_of, nodes_of_loop};
 pub use boards::{Boards, boards_of};
 pub use closing::{ClosedBoards, close_all};
+pub use epochs::run_epochs;
+pub use loops::loops_of;

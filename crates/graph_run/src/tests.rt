@@ -1,12 +1,19 @@
 //! Two squares into a sink that drives, over two epochs.
+ghost use Rattle.std.specs.Prelude.{All, length};
+ghost use Rattle.graph_run.specs.LoopsOnPlan.{IsReady, HasDrivers, HasNoDriver, AreFirstLeads, HasCome};
+
 use crate::assignment::{loop_of, nodes_of_loop};
 use crate::boards::boards_of;
+use crate::epochs::run_epochs;
+use board_rule::{Board, DriverSeat};
 use cycle_model::waves_fit;
+use data_loop::LoopState;
 use pw_base::{
-    Epoch, Fresh, Items, Kind, Memory, Plan, PlanNode, PortForm, PortId, Shape, ShapeLink,
-    ShapeNode, is_sound_plan,
+    Epoch, Every, Fresh, Items, Kind, Memory, Open, Plan, PlanNode, PortForm, PortId, Shape,
+    ShapeLink, ShapeNode, is_sound_plan,
 };
 use std::alloc::Global;
+use std::sync::Wait;
 use std::test::Fail;
 
 // A node of a loop number.
@@ -149,4 +156,23 @@ fn each_loop_has_a_seat_on_each_board(rt: HostRuntime) -> Result<(), Fail> {
         assert!(rt; row.as_slice().len() == 2);
     }
     Ok(())
+}
+
+// All epochs, with a look in every second cycle and a gate that lets each node through.
+fn run_open<R: Wait>(
+    rt: &R,
+    boards: &Items<Board>,
+    drivers: &mut [DriverSeat],
+    own: &mut LoopState,
+    adopted: &mut [LoopState],
+)
+    requires own { IsReady boards.now own.old }
+    requires has { HasDrivers own.old }
+    requires adopted { All (IsReady boards.now) adopted.old }
+    requires none { All HasNoDriver adopted.old }
+    requires drivers { AreFirstLeads own.old.score boards.now drivers.old }
+    ensures own { HasCome (length boards.now) own.old own.new }
+{
+    let mut ticker = Every::new(2);
+    run_epochs(rt, boards, drivers, own, adopted, &mut ticker, &Open::new());
 }

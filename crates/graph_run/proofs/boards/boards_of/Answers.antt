@@ -4,8 +4,11 @@ use Rattle.std.specs.List.{enumerate_from}
 use Rattle.pw_base.specs.Listed.{Listed}
 use Rattle.board_rule.specs.declared.board.Board.{Board}
 use Rattle.board_rule.specs.Known.{Known}
+use Rattle.std.proofs.lemmas.List.{take_all}
+use Rattle.graph_run.specs.Assignment.{epoch_board}
 use Rattle.graph_run.specs.Boards.{driver_of, all_seats}
 use Rattle.graph_run.proofs.RowLemmas.{drivers_more, seats_more, same_count, dealt_spare, shapes_more}
+use Rattle.graph_run.proofs.ReadyLemmas.{first_leads, as_many, rows_count, rows_long}
 use Rattle.graph_run.proofs.boards.boards_of.Goals as goal
 
 pub deal-requires-clause-count : goal.deal-requires-clause-count
@@ -27,3 +30,18 @@ loop-epoch-preserved c = let i = c.loop-epoch.invariant in let plan = c.args.pla
       spare = subst (All (λ (r : Listed Known). c.len-count.result ≤ k + 1 + r.spare)) (sym c.deal.ensures)
           (dealt_spare c.len-count.result k c.loop-epoch.seats.items c.in_ok-board.row c.loop-epoch-test.true i.spare);
     }
+
+pub returns-clause-lead : goal.returns-clause-lead
+returns-clause-lead c = let i = c.loop-epoch.invariant in let plan = c.args.plan.now in let loops = c.args.loops in
+    let past = c.loop-epoch-test.false in let n = c.len-count.ensures in
+    first_leads plan c.args.waves.now loops c.requires.sound c.loop-epoch.boards
+    (i.shapes ∙ ap (map (epoch_board plan loops)) (take_all c.loop-epoch.epoch plan.epochs (omega (arith, past, n))))
+    c.loop-epoch.drivers i.drivers
+
+pub returns-clause-rows : goal.returns-clause-rows
+returns-clause-rows c = let i = c.loop-epoch.invariant in let plan = c.args.plan.now in let waves = c.args.waves.now in let loops = c.args.loops in
+    let past = c.loop-epoch-test.false in let n = c.len-count.ensures in let bs = c.loop-epoch.boards in (
+      rows_count plan waves loops bs c.loop-epoch.seats.items i.seats,
+      rows_long plan waves loops bs c.loop-epoch.seats.items i.seats (as_many plan waves loops c.requires.sound bs
+          (i.shapes ∙ ap (map (epoch_board plan loops)) (take_all c.loop-epoch.epoch plan.epochs (omega (arith, past, n))))),
+    )

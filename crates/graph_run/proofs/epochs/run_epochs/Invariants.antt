@@ -1,0 +1,14 @@
+use Rattle.std.proofs.Common.{◌≡◌, length}
+use Rattle.driver_cycle.specs.Settling.{AreEach}
+use Rattle.graph_run.specs.Leads.{HaveLed, HaveLooked}
+use Rattle.graph_run.specs.LoopsOnPlan.{HasCome}
+use Rattle.graph_run.proofs.epochs.run_epochs.Given as goal
+
+abbrev pub invariant-loop-k : goal.invariant-loop-k
+invariant-loop-k g l = record {
+  end : l.k-end ≡ length l.boards;
+  own : HasCome l.k l.fn.own l.own;
+  adopted : AreEach (HasCome l.k) l.fn.adopted l.adopted;
+  led : HaveLed l.k l.boards l.fn.drivers l.drivers;
+  looked : HaveLooked l.fn.drivers l.drivers (g.K.Ticker.ticks l.fn.ticker) (g.K.Ticker.ticks l.ticker);
+}
