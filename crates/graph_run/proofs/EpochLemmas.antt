@@ -1,5 +1,5 @@
 -- Loops and drivers' seats from epoch to epoch.
-use Rattle.std.proofs.Common.{◌≡◌, ◌≢◌, ℕ, zero, suc, ◌+◌, ◌-◌, ◌<◌, ◌≤◌, ◌==◌, ◌&&◌, Bool, true, List, [], ◌∷◌, length, get_or, set, sum_by, refl, sym, ap, ◌∙◌, subst, arith, ⊎_elim}
+use Rattle.std.proofs.Common.{◌≡◌, ℕ, zero, suc, ◌+◌, ◌<◌, ◌≤◌, ◌==◌, true, List, [], ◌∷◌, length, get_or, set, refl, sym, ap, ◌∙◌, subst, arith, ⊎_elim}
 use Rattle.std.proofs.Common.{Some, slice_get, length-set, get_or-set_same, get_or-set_other}
 use Rattle.std.specs.Prelude.{All, Contains, ◌⊎◌}
 use Rattle.std.proofs.lemmas.Bool.{and_parts, eqb-true, cases_lt}
@@ -14,7 +14,7 @@ use Rattle.pw_base.specs.Limits.{dummy_node}
 use Rattle.pw_base.specs.PlanFresh.{IsEpoch}
 use Rattle.board_rule.specs.declared.board.Board.{Board}
 use Rattle.board_rule.specs.Known.{Known}
-use Rattle.board_rule.specs.Layout.{BoardLayout, first}
+use Rattle.board_rule.specs.Layout.{BoardLayout}
 use Rattle.board_rule.specs.OnBoard.{layout, table_of}
 use Rattle.node_progress.specs.declared.score.Score.{Score}
 use Rattle.node_progress.specs.Standing.{works_in}
@@ -22,9 +22,9 @@ use Rattle.data_loop.specs.declared.loop_state.LoopState.{LoopState}
 use Rattle.data_loop.specs.declared.member.Member.{Member}
 use Rattle.data_loop.specs.declared.stage.Stage.{Stage}
 use Rattle.data_loop.specs.Members.{drivers_of}
-use Rattle.data_loop.specs.Loops.{plan_of, HasStage, IsBetweenEpochs}
-use Rattle.data_loop.specs.LoopsOnBoards.{IsOnBoard, IsAtEnd, IsSameBut, IsNextOf, IsFirstSeat}
-use Rattle.data_loop.specs.LoopDriver.{DrivesFrom, IsTied}
+use Rattle.data_loop.specs.Loops.{plan_of, HasStage}
+use Rattle.data_loop.specs.LoopsOnBoards.{IsOnBoard, IsAtEnd, IsSameBut, IsFirstSeat}
+use Rattle.data_loop.specs.LoopDriver.{DrivesFrom}
 use Rattle.data_loop.proofs.BeginLemmas.{begins}
 use Rattle.data_loop.proofs.MemberLemmas.{ComesFrom, comes_from}
 use Rattle.driver_cycle.specs.Leading.{IsLeading}
@@ -32,8 +32,8 @@ use Rattle.driver_cycle.specs.Rounds.{HasLooked}
 use Rattle.driver_cycle.specs.Settling as settling
 use Rattle.driver_cycle.specs.Settling.{HasSettled, AreEach}
 use Rattle.driver_cycle.specs.Epochs.{IsThread}
-use Rattle.graph_run.specs.LoopsOnPlan.{AreBoardsFor, IsReady, HasDrivers, HasNoDriver, IsFirstLead, AreFirstLeads, HasCome, HasPassed, HasEntered}
-use Rattle.graph_run.specs.Leads.{HasLedAll, HaveLed, HaveLooked, checks_of}
+use Rattle.graph_run.specs.LoopsOnPlan.{IsReady, HasDrivers, HasNoDriver, IsFirstLead, HasCome, HasPassed, HasEntered}
+use Rattle.graph_run.specs.Leads.{HasLedAll, HaveLed, HaveLooked}
 
 pub there : {X : Type 0} (xs : List X) (k : ℕ) → k < length xs → (x : X) × (slice_get xs k ≡ Some x)
 there [] k low = absurd (omega (arith, low))

@@ -1,21 +1,18 @@
 -- What the boards and the loops of a plan are before the run: each loop has seats of all boards, and one of them has the drivers.
-use Rattle.std.proofs.Common.{◌≡◌, ◌≢◌, ℕ, zero, suc, ◌+◌, ◌<◌, ◌≤◌, ◌==◌, ◌||◌, ◌%◌, Bool, true, false, cond, List, [], ◌∷◌, length, map, filter, get_or, replicate, refl, sym, ap, ◌∙◌, subst, arith, ⊎_elim}
+use Rattle.std.proofs.Common.{◌≡◌, ◌≢◌, ℕ, zero, suc, ◌+◌, ◌<◌, ◌≤◌, ◌==◌, ◌%◌, Bool, true, false, cond, List, [], ◌∷◌, length, map, filter, get_or, refl, sym, ap, ◌∙◌, subst, arith, ⊎_elim}
 use Rattle.std.proofs.Common.{Some, slice_get, inl, inr, length-append, ◌++◌}
-use Rattle.std.specs.Prelude.{All, Contains, ◌⊎◌}
-use Rattle.std.specs.List.{enumerate_from, range_with_len, list_any}
+use Rattle.std.specs.Prelude.{All, Contains}
+use Rattle.std.specs.List.{enumerate_from, range_with_len}
 use Rattle.std.proofs.lemmas.Bool.{or_right, eq-eqb, ne_eqb, eqb-true, cases_eq}
 use Rattle.std.proofs.lemmas.List.{get_or-map, get_or-replicate, get_or_append_left, get_or_push, length-map, length-replicate}
 use Rattle.std.proofs.lemmas.List.Elements.{filter_passes}
 use Rattle.std.proofs.lemmas.List.Folds.{list_any_at}
 use Rattle.std.proofs.lemmas.List.FromFn.{length-range_with_len, get_or-range_with_len, length-enumerate_from, get_or-enumerate_from}
-use Rattle.std.proofs.lemmas.Option.{slice_get_within, get_or_from_slice_get, same_Some}
-use Rattle.atomic_table.specs.Seated.{TableId}
+use Rattle.std.proofs.lemmas.Option.{slice_get_within, get_or_from_slice_get}
 use Rattle.pw_base.specs.Listed.{Listed}
-use Rattle.pw_base.specs.declared.shape.Shape.{Shape}
 use Rattle.pw_base.specs.declared.shape.ShapeNode.{ShapeNode}
 use Rattle.pw_base.specs.declared.plan.Epoch.{Epoch}
 use Rattle.pw_base.specs.declared.plan.Plan.{Plan}
-use Rattle.pw_base.specs.Dependencies.{nodes_of}
 use Rattle.pw_base.specs.Limits.{dummy_node}
 use Rattle.pw_base.specs.PlanFresh.{IsEpoch}
 use Rattle.pw_base.specs.Pools.{IsPooledShape}
@@ -26,27 +23,25 @@ use Rattle.cycle_model.specs.Expected.{expected_samples, epoch_rows}
 use Rattle.board_rule.specs.declared.board.Board.{Board}
 use Rattle.board_rule.specs.declared.board_shape.BoardShape.{BoardShape}
 use Rattle.board_rule.specs.declared.view.ReadView.{ReadView}
-use Rattle.board_rule.specs.declared.view.View.{View}
 use Rattle.board_rule.specs.Known.{Known}
-use Rattle.board_rule.specs.Layout.{BoardLayout, layout_of, nodes, first, HasSeats}
+use Rattle.board_rule.specs.Layout.{BoardLayout, nodes, first, HasSeats}
 use Rattle.board_rule.specs.OnBoard.{layout, table_of}
 use Rattle.board_rule.specs.EndViews.{read_of}
-use Rattle.board_rule.specs.View.{Samples, unread, driver_view, loop_view}
+use Rattle.board_rule.specs.View.{unread, driver_view}
 use Rattle.board_rule.proofs.SoundLemmas.{sound_layout}
 use Rattle.activation_words.proofs.MemberLemmas.{new_between}
 use Rattle.io_areas.specs.PooledBoard.{IsPooledBoard}
 use Rattle.node_progress.specs.declared.score.Score.{Score}
 use Rattle.data_loop.specs.declared.loop_state.LoopState.{LoopState}
 use Rattle.data_loop.specs.declared.stage.Stage.{Stage}
-use Rattle.data_loop.specs.Driving.{IsDriverRead}
-use Rattle.data_loop.specs.Loops.{plan_of, HasStage, IsBetweenEpochs}
+use Rattle.data_loop.specs.Loops.{plan_of, IsBetweenEpochs}
 use Rattle.data_loop.specs.LoopStart.{IsLoopOf}
 use Rattle.data_loop.specs.LoopsOnBoards.{IsFirstSeat}
 use Rattle.data_loop.proofs.LoopDriverLemmas.{expected_is}
 use Rattle.graph_run.specs.Assignment.{drives_somewhere, loop_number, loop_of, nodes_of_loop, seat_row, epoch_board}
 use Rattle.graph_run.specs.Boards.{driver_of, seat_of, seats_of, all_seats}
 use Rattle.graph_run.specs.Loops.{AreLoopsOf}
-use Rattle.graph_run.specs.LoopsOnPlan.{AreBoardsFor, IsReady, HasDrivers, HasNoDriver, IsFirstLead, AreFirstLeads, AreReady}
+use Rattle.graph_run.specs.LoopsOnPlan.{IsReady, HasDrivers, HasNoDriver, IsFirstLead, AreFirstLeads, AreReady}
 use Rattle.graph_run.proofs.AssignmentLemmas.{has_seats}
 use Rattle.graph_run.proofs.EpochLemmas.{there}
 

@@ -1,10 +1,13 @@
 //! Two squares into a sink that drives, over two epochs.
-ghost use Rattle.std.specs.Prelude.{All, length};
+ghost use Rattle.std.specs.Prelude.{◌≡◌, ◌≤◌, All, length};
+ghost use Rattle.data_loop.specs.Loops.{IsLoop, plan_of};
+ghost use Rattle.graph_run.specs.Assignment.{nodes_of_loop};
 ghost use Rattle.graph_run.specs.LoopsOnPlan.{IsReady, HasDrivers, HasNoDriver, AreFirstLeads, HasCome};
 
 use crate::assignment::{loop_of, nodes_of_loop};
 use crate::boards::boards_of;
 use crate::epochs::run_epochs;
+use crate::loops::loops_of;
 use board_rule::{Board, DriverSeat};
 use cycle_model::waves_fit;
 use data_loop::LoopState;
@@ -175,4 +178,84 @@ fn run_open<R: Wait>(
 {
     let mut ticker = Every::new(2);
     run_epochs(rt, boards, drivers, own, adopted, &mut ticker, &Open::new());
+}
+
+// All of the plan by one thread: its own loop, and so many that it adopted. What the sink has kept
+// then; None where the plan is not sound.
+fn kept_of<R: Wait>(
+    rt: &R,
+    alloc: Global,
+    plan: &Plan,
+    loops: u32,
+) -> Result<Option<Items<i16>>, Memory>
+    requires few { loops ≤ 16 }
+{
+    let waves = Items::new(alloc);
+    if !is_sound_plan(plan) {
+        return Ok(None);
+    }
+    if !waves_fit(plan, &waves) {
+        return Ok(None);
+    }
+    let all = boards_of(alloc, plan, &waves, loops)?;
+    let boards = all.boards;
+    let mut drivers = all.drivers;
+    let mut states = loops_of(alloc, plan, &waves, loops, all.seats)?;
+    let Some(mut own) = states.pop() else {
+        return Ok(None);
+    };
+    run_open(
+        rt,
+        &boards,
+        drivers.as_mut_slice(),
+        &mut own,
+        states.as_mut_slice(),
+    );
+    sink_of(alloc, plan, loops, &own)
+}
+
+// What the plan's node 2 has kept, where that is a sink of the driver's own loop.
+fn sink_of(
+    alloc: Global,
+    plan: &Plan,
+    loops: u32,
+    own: &LoopState,
+) -> Result<Option<Items<i16>>, Memory>
+    requires whole { IsLoop own.now }
+    requires plan_is { plan_of own.now ≡ plan.now }
+    requires nodes_are { own.now.nodes ≡ nodes_of_loop plan.now loops loops }
+{
+    let Some(node) = plan.nodes.as_slice().get(2) else {
+        return Ok(None);
+    };
+    if loop_of(plan, loops, 2) != loops {
+        return Ok(None);
+    }
+    match node.kind {
+        Kind::Sink => Ok(Some(Items::from_slice(alloc, own.kept(2))?)),
+        _ => Ok(None),
+    }
+}
+
+// The sum of two squares of 100, for five cycles of four frames.
+fn both() -> [i16; 20] {
+    [
+        200, 200, -200, -200, 200, 200, -200, -200, 200, 200, -200, -200, 200, 200, -200, -200,
+        200, 200, -200, -200,
+    ]
+}
+
+#[test]
+fn one_thread_runs_all_loops(rt: HostRuntime) -> Result<(), Fail> {
+    let alloc = rt.alloc();
+    let plan = plan(alloc)?;
+    let Some(alone) = kept_of(&rt, alloc, &plan, 0)? else {
+        panic!(rt; "the plan is sound, and its sink drives")
+    };
+    assert_eq!(rt; alone.as_slice(), both().as_slice());
+    let Some(adopted) = kept_of(&rt, alloc, &plan, 2)? else {
+        panic!(rt; "the plan is sound, and its sink drives")
+    };
+    assert_eq!(rt; adopted.as_slice(), both().as_slice());
+    Ok(())
 }

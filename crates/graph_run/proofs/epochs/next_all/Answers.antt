@@ -4,7 +4,7 @@ use Rattle.atomic_table.specs.Seated.{TableId}
 use Rattle.board_rule.specs.Layout.{BoardLayout}
 use Rattle.data_loop.specs.declared.loop_state.LoopState.{LoopState}
 use Rattle.data_loop.specs.LoopsOnBoards.{IsAtEnd}
-use Rattle.driver_cycle.proofs.SettlingLemmas.{none_below, one_more, all_below}
+use Rattle.driver_cycle.proofs.SettlingLemmas.{one_more}
 use Rattle.graph_run.specs.LoopsOnPlan.{HasEntered}
 use Rattle.graph_run.proofs.epochs.next_all.Goals as goal
 

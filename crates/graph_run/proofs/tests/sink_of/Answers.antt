@@ -1,0 +1,13 @@
+use Rattle.std.proofs.Common.{◌<◌, ◌∙◌, ℕ, List, length, sym, subst, rules}
+use Rattle.std.specs.Prelude.{Contains}
+use Rattle.std.proofs.lemmas.Bool.{ltb-true}
+use Rattle.pw_base.specs.declared.plan.PlanNode.{PlanNode}
+use Rattle.graph_run.proofs.ReadyLemmas.{is_in}
+use Rattle.graph_run.proofs.tests.sink_of.Goals as goal
+
+pub kept-requires-clause-own : goal.kept-requires-clause-own
+kept-requires-clause-own c = let plan = c.args.plan.now in let loops = c.args.loops in
+    let low : 2 < length plan.nodes = subst (λ (l : List PlanNode). 2 < length l) c.as_slice.ensures
+    (ltb-true 2 (length c.as_slice.result.now) (sym c.in-Some.ensures.lookup.0)) in
+    subst (λ (l : List ℕ). Contains l 2) (sym c.requires.nodes_are)
+    (is_in plan loops loops 2 low (sym c.loop_of.ensures.is ∙ search rules))
