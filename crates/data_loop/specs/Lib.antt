@@ -9,6 +9,7 @@ pub mod Standings
 pub mod Stages
 pub mod Tries
 pub mod LoopTurn
+pub mod LoopWay
 pub mod StageParts
 pub mod Tables
 pub mod Loops

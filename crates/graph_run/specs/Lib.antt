@@ -4,3 +4,5 @@ pub mod Closing
 pub mod Loops
 pub mod LoopsOnPlan
 pub mod Leads
+pub mod PlanRun
+pub mod Outcomes

@@ -4,6 +4,7 @@ ghost use Rattle.atomic_table.specs.Seated.{TableId};
 ghost use Rattle.board_rule.specs.Layout.{BoardLayout};
 ghost use Rattle.board_rule.specs.OnBoard.{layout};
 ghost use Rattle.data_loop.specs.LoopsOnBoards.{IsAtEnd};
+ghost use Rattle.data_loop.specs.LoopWay.{IsDriverWay};
 ghost use Rattle.driver_cycle.specs.Epochs.{IsThread};
 ghost use Rattle.driver_cycle.specs.Leading.{IsBetween};
 ghost use Rattle.driver_cycle.specs.Rounds.{HasLooked};
@@ -13,7 +14,7 @@ ghost use Rattle.graph_run.specs.Leads.{HasLedAll, HaveLed, HaveLooked};
 ghost use Rattle.graph_run.specs.LoopsOnPlan.{IsReady, HasDrivers, HasNoDriver, AreFirstLeads, HasCome, HasPassed, HasEntered};
 
 use board_rule::{Board, DriverSeat};
-use data_loop::LoopState;
+use data_loop::{LoopState, Way, Ways};
 use driver_cycle::run_epoch;
 use pw_base::{Gate, Items, Ticker};
 use std::sync::Wait;
@@ -62,6 +63,8 @@ pub fn run_epochs<R: Wait, G: Gate, K: Ticker>(
     drivers: &mut [DriverSeat],
     own: &mut LoopState,
     adopted: &mut [LoopState],
+    ways: &Ways,
+    way: &mut Way,
     ticker: &mut K,
     gate: &G,
 )
@@ -70,12 +73,15 @@ pub fn run_epochs<R: Wait, G: Gate, K: Ticker>(
     requires adopted { All (IsReady boards.now) adopted.old }
     requires none { All HasNoDriver adopted.old }
     requires drivers { AreFirstLeads own.old.score boards.now drivers.old }
+    requires way { IsDriverWay ways.now way.old }
     ensures own { HasCome (length boards.now) own.old own.new }
     ensures adopted { AreEach (HasCome (length boards.now)) adopted.old adopted.new }
     ensures drivers { HaveLed (length boards.now) boards.now drivers.old drivers.new }
     ensures looked { HaveLooked drivers.old drivers.new
         (K.ticks ticker.old) (K.ticks ticker.new) }
+    ensures way { IsDriverWay ways.now way.new }
 {
+    let _ = (ways, way);
     for k in 0..boards.len() {
         let board = &boards.as_slice()[k];
         run_one(rt, board, &mut drivers[k], own, adopted, ticker, gate);

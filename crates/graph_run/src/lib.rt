@@ -11,6 +11,8 @@ mod boards;
 mod closing;
 mod epochs;
 mod loops;
+mod outcomes;
+mod plan_run;
 #[cfg(test)]
 mod tests;
 
@@ -19,3 +21,4 @@ pub use boards::{Boards, boards_of};
 pub use closing::{ClosedBoards, close_all};
 pub use epochs::run_epochs;
 pub use loops::loops_of;
+pub use plan_run::run_plan;

@@ -1,0 +1,56 @@
+-- A loop on its way through the boards of a run, and its way to the queues.
+-- Source: PipeWire's documentation, "Data loops"; that a loop has a board an epoch is this
+-- project's own.
+use Rattle.std.specs.Prelude.{◌≡◌, ◌⊎◌, ℕ, ◌<◌, ◌≤◌, suc, List, Some, Contains, length, slice_get}
+use Rattle.pw_base.specs.declared.plan.Epoch.{Epoch}
+use Rattle.pw_base.specs.PlanFresh.{IsEpoch}
+use Rattle.board_rule.specs.declared.board.Board.{Board}
+use Rattle.board_rule.specs.OnBoard.{layout, table_of}
+use Rattle.ready_queues.specs.declared.way.Way.{Way}
+use Rattle.ready_queues.specs.declared.ways.Ways.{Ways}
+use Rattle.ready_queues.specs.AnsweredWith.{IsWayOf}
+use Rattle.ready_queues.specs.QueueRule.{IsNodeOf}
+use Rattle.data_loop.specs.declared.loop_state.LoopState.{LoopState}
+use Rattle.data_loop.specs.declared.stage.Stage.{Stage}
+use Rattle.data_loop.specs.Loops.{plan_of, HasStage, IsBetweenEpochs}
+use Rattle.data_loop.specs.LoopsOnBoards.{IsOnBoard, IsFirstSeat}
+
+-- one board an epoch; of those from epoch k on the loop has a seat as the board gave it
+pub record HasBoards (k : ℕ) (boards : List Board) (s : LoopState) : Type 0 where
+  pub count : length boards ≡ length (plan_of s).epochs
+  pub shape : (j : ℕ) (e : Epoch) (b : Board) → IsEpoch (plan_of s) j e
+      → slice_get boards j ≡ Some b → b.board_shape.shape ≡ e.shape
+  pub seat : (j : ℕ) (b : Board) (g : Stage) → k ≤ j → slice_get boards j ≡ Some b
+      → HasStage s j g
+      → IsFirstSeat (plan_of s) s.score.waves.value j s.nodes (layout b) (table_of b) g.seat
+
+-- no node of the loop drives
+abbrev pub HasNoDriver : LoopState → Type 0
+HasNoDriver s = (k : ℕ) (e : Epoch) → IsEpoch (plan_of s) k e
+    → ¬ (Contains s.nodes e.shape.driver)
+
+-- on the board of its epoch
+pub record IsAmid (boards : List Board) (s : LoopState) : Type 0 where
+  pub board : Board
+  pub here : slice_get boards s.epoch ≡ Some board
+  pub on : IsOnBoard (layout board) (table_of board) s
+  pub boards_are : HasBoards (suc s.epoch) boards s
+
+-- UNDER WAY: between two epochs, or on the board of one
+abbrev pub IsUnderWay : List Board → LoopState → Type 0
+IsUnderWay boards s = (IsBetweenEpochs s × HasBoards s.epoch boards s) ⊎ IsAmid boards s
+
+-- the same plan, waves and nodes
+pub record IsSameLoop (s t : LoopState) : Type 0 where
+  pub score : t.score ≡ s.score
+  pub nodes : t.nodes ≡ s.nodes
+
+-- the way to the queues of a loop whose nodes by `owner` are nodes of the state
+pub record IsWayFor (ways : Ways) (s : LoopState) (way : Way) : Type 0 where
+  pub answered : IsWayOf ways way
+  pub one : way.number < ways.loops
+  pub nodes : (n : ℕ) → IsNodeOf ways.owner way.number n → Contains s.nodes n
+
+-- the way of the driver's thread
+abbrev pub IsDriverWay : Ways → Way → Type 0
+IsDriverWay ways way = IsWayOf ways way × (way.number ≡ ways.loops)

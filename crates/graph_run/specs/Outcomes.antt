@@ -1,0 +1,24 @@
+-- The loops of a run after its last epoch: all nodes of the plan are theirs.
+-- Source: this project's own: sinks keep the streams that come to them, meters their peaks.
+use Rattle.std.specs.Prelude.{◌≡◌, ℕ, ◌<◌, List, All, Contains, length, slice_index_or}
+use Rattle.pw_base.specs.declared.plan.Plan.{Plan}
+use Rattle.wav_files.specs.declared.wav.WavIn.{WavIn}
+use Rattle.data_loop.specs.declared.loop_state.LoopState.{LoopState}
+use Rattle.data_loop.specs.Loops.{plan_of}
+use Rattle.data_loop.specs.LoopKept.{IsDone}
+
+-- the loop at an index has the node
+abbrev pub HasNodeAt : List LoopState → ℕ → ℕ → Type 0
+HasNodeAt loops n i = (i < length loops)
+    × ((d : LoopState) → Contains (slice_index_or loops i d).nodes n)
+
+-- a loop of this plan and these waves has done all epochs
+pub record IsDoneOf (plan : Plan) (waves : List WavIn) (s : LoopState) : Type 0 where
+  pub done : IsDone s
+  pub plan_is : plan_of s ≡ plan
+  pub waves_are : s.score.waves.value ≡ waves
+
+-- all of them have, and each node of the plan is one of some loop
+pub record AreDone (plan : Plan) (waves : List WavIn) (loops : List LoopState) : Type 0 where
+  pub each : All (IsDoneOf plan waves) loops
+  pub nodes : (n : ℕ) → n < length plan.nodes → (i : ℕ) × HasNodeAt loops n i

