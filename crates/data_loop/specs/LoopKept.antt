@@ -1,14 +1,16 @@
 -- What the nodes of a loop keep, at any time and at the end of the run.
 -- Source: this project's own: sinks keep the streams that come to them, meters their peaks.
-use Rattle.std.specs.Prelude.{◌≡◌, ℕ, ℤ, ◌<◌, List, length, slice_index_or}
+use Rattle.std.specs.Prelude.{◌≡◌, ◌≢◌, ℕ, ℤ, ◌<◌, List, length, slice_index_or}
 use Rattle.pw_base.specs.KindFunction.{Heard}
 use Rattle.pw_base.specs.Samples.{peak_of}
 use Rattle.cycle_model.specs.Rendering.{end_stream}
 use Rattle.node_state.specs.declared.node_state.NodeState.{NodeState}
 use Rattle.node_state.specs.StandsFor.{StandsFor, node_kind, kept_stream}
 use Rattle.node_state.specs.Streams.{peak_heard}
+use Rattle.node_progress.specs.Ends.{IsNodeAtEnd}
 use Rattle.data_loop.specs.declared.loop_state.LoopState.{LoopState}
 use Rattle.data_loop.specs.Loops.{plan_of, node_at, IsBetweenEpochs}
+use Rattle.data_loop.specs.LoopWay.{IsSameLoop}
 
 -- the state of a node of the loop
 abbrev pub IsStateOf : LoopState → ℕ → NodeState → Type 0
@@ -18,6 +20,11 @@ IsStateOf s n x = (j : ℕ) × (j < length s.nodes) × (node_at s j ≡ n)
 -- all epochs are done
 abbrev pub IsDone : LoopState → Type 0
 IsDone s = IsBetweenEpochs s × (s.epoch ≡ length (plan_of s).epochs)
+
+-- of this node they are, whatever became of the states of others
+abbrev pub IsDoneWith : LoopState → ℕ → Type 0
+IsDoneWith s n = (j : ℕ) (d : NodeState) → j < length s.nodes → node_at s j ≡ n
+    → IsNodeAtEnd s.score n (slice_index_or s.states.items j d)
 
 -- the stream is what the sink's state has kept; at the end of the run, the sink's whole stream
 abbrev pub Keeps : LoopState → ℕ → List ℤ → Type 0
@@ -31,6 +38,14 @@ KeepsAtEnd s n stream = IsDone s → stream ≡ end_stream (plan_of s) s.score.w
 abbrev pub HasPeak : LoopState → ℕ → ℕ → Type 0
 HasPeak s n peak = (x : NodeState) × IsStateOf s n x
     × ((h : Heard) → StandsFor x h → peak ≡ peak_heard (node_kind x) h)
+
+-- the stream was moved out of the sink's state: its whole stream, where all epochs are done. The
+-- others' states are as they were
+pub record HasTaken (s : LoopState) (n : ℕ) (stream : List ℤ) (t : LoopState) : Type 0 where
+  pub keeps : Keeps s n stream
+  pub end : IsDoneWith s n → stream ≡ end_stream (plan_of s) s.score.waves.value n
+  pub others : (m : ℕ) → m ≢ n → IsDoneWith s m → IsDoneWith t m
+  pub same : IsSameLoop s t
 
 abbrev pub HasPeakAtEnd : LoopState → ℕ → ℕ → Type 0
 HasPeakAtEnd s n peak = IsDone s → peak ≡ peak_of (end_stream (plan_of s) s.score.waves.value n)

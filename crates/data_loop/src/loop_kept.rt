@@ -1,11 +1,26 @@
 //! What the nodes of a loop have kept.
-ghost use Rattle.std.specs.Prelude.{◌≡◌, ◌<◌, ℕ, Contains, length, slice_index};
+ghost use Rattle.std.specs.Prelude.{◌≡◌, ◌<◌, ◌↔◌, ℕ, Contains, IfNone, IfSome, IsTrue, length, slice_index};
 ghost use Rattle.pw_base.specs.declared.kind.Kind.TheVariants.{Sink, Meter};
 ghost use Rattle.pw_base.specs.PlanForms.{kind_at};
 ghost use Rattle.data_loop.specs.Loops.{IsLoop, plan_of};
-ghost use Rattle.data_loop.specs.LoopKept.{Keeps, KeepsAtEnd, HasPeak, HasPeakAtEnd};
+ghost use Rattle.data_loop.specs.LoopKept.{Keeps, KeepsAtEnd, HasTaken, HasPeak, HasPeakAtEnd};
 
 use crate::loop_state::LoopState;
+use pw_base::Items;
+use std::alloc::Global;
+
+// The index of a number in a list, if it is there.
+fn place_in(nodes: &[u32], node: u32) -> Option<usize>
+    ensures some { IfSome result (λ i. (i < length nodes.now) × (slice_index nodes.now i ≡ node)) }
+    ensures none { IfNone result (¬ (Contains nodes.now node)) }
+{
+    for index in 0..nodes.len() {
+        if nodes[index] == node {
+            return Some(index);
+        }
+    }
+    None
+}
 
 // The index of a number in a list that has it.
 fn index_in(nodes: &[u32], node: u32) -> usize
@@ -13,12 +28,10 @@ fn index_in(nodes: &[u32], node: u32) -> usize
     ensures inside { result < length nodes.now }
     ensures at { slice_index nodes.now result ≡ node }
 {
-    for index in 0..nodes.len() {
-        if nodes[index] == node {
-            return index;
-        }
+    match place_in(nodes, node) {
+        Some(index) => index,
+        None => unreachable!(),
     }
-    0
 }
 
 impl LoopState {
@@ -32,6 +45,26 @@ impl LoopState {
         ensures end { KeepsAtEnd self.now node result.now }
     {
         self.states[index_in(self.nodes.as_slice(), node)].kept()
+    }
+
+    /// Moves the stream of a sink of this loop out, without a copy: at the end of the run, its whole
+    /// stream. The sink is then prepared for no frame. Takes no memory.
+    pub fn take_kept(&mut self, alloc: Global, node: u32) -> Items<i16>
+        requires whole { IsLoop self.old }
+        requires own { Contains self.old.nodes node }
+        requires sink { kind_at (plan_of self.old) node ≡ Sink }
+        ensures whole { IsLoop self.new }
+        ensures taken { HasTaken self.old node result self.new }
+    {
+        let at = index_in(self.nodes.as_slice(), node);
+        self.states[at].take_kept(alloc)
+    }
+
+    /// Whether a node is one of the loop's. Takes no memory.
+    pub fn has_node(&self, node: u32) -> bool
+        ensures { IsTrue result ↔ Contains self.now.nodes node }
+    {
+        place_in(self.nodes.as_slice(), node).is_some()
     }
 
     /// The greatest absolute value that came to a meter of this loop so far, 0 to 32768. Takes no

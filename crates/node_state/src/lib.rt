@@ -13,5 +13,6 @@ mod node_state;
 mod preparing;
 mod processing;
 mod rows;
+mod taking;
 
 pub use node_state::NodeState;

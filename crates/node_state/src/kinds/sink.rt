@@ -1,9 +1,10 @@
 //! A sink keeps its whole stream, in room that was made once.
 ghost use Rattle.std.specs.Prelude.{◌≡◌, ◌+◌, ◌*◌, ◌≤◌, ◌++◌, length, [], IfOk};
 
-use pw_base::Memory;
+use pw_base::{Items, Memory};
 use std::alloc::Global;
 use std::marker::Model;
+use std::mem;
 
 /// The stream so far, and room for the rest of it.
 #[derive(Drop)]
@@ -47,6 +48,14 @@ impl SinkState {
         ensures { result.now ≡ self.now.list }
     {
         self.stream.as_slice()
+    }
+
+    /// Moves the stream out, and leaves none, and no room. Takes no memory.
+    pub(crate) fn take_stream(&mut self, alloc: Global) -> Items<i16>
+        ensures taken { result ≡ self.old.list }
+        ensures list { self.new.list ≡ [] }
+    {
+        Items::from_vec(mem::replace(&mut self.stream, Vec::new(alloc)))
     }
 
     /// Appends the input, for which there is room. Takes no memory.
