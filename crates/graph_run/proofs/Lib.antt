@@ -6,3 +6,4 @@ pub mod ClosingLemmas
 pub mod LoopLemmas
 pub mod EpochLemmas
 pub mod ReadyLemmas
+pub mod KeepingLemmas

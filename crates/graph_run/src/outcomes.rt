@@ -1,5 +1,5 @@
 //! What the sinks and meters of a plan have kept.
-ghost use Rattle.std.specs.Prelude.{◌≡◌, ◌×◌, ◌<◌, ◌≤◌, ℕ, suc, [], List, Some, length, slice_get};
+ghost use Rattle.std.specs.Prelude.{◌≡◌, ◌<◌, ◌≤◌, ◌+◌, ◌++◌, ℕ, suc, [], List, Some, length, option_to_list, slice_get};
 ghost use Rattle.pw_base.specs.Limits.{dummy_node};
 ghost use Rattle.wav_files.specs.declared.wav.WavIn.{WavIn};
 ghost use Rattle.cycle_model.specs.Rendering.{kept_of, peak_at, rendered_sinks, rendered_peaks};
@@ -78,6 +78,17 @@ fn peak_by(place: u32, node: &PlanNode, plan: &Plan, loops: &[LoopState]) -> Opt
     })
 }
 
+// Appends what there is, if there is anything.
+fn push_some<T: Drop>(list: &mut Room<T>, item: Option<T>)
+    requires { 0 < list.old.spare }
+    ensures list { list.new.list ≡ list.old.list ++ option_to_list item }
+    ensures spare { list.old.spare ≤ list.new.spare + 1 }
+{
+    if let Some(item) = item {
+        list.push_spare(item);
+    }
+}
+
 // The peaks of the meters that have a format, ascending by node. The list is empty, and has room
 // for all nodes.
 fn peaks_of(plan: &Plan, loops: &[LoopState], peaks: Room<Peak>) -> Items<Peak>
@@ -91,9 +102,7 @@ fn peaks_of(plan: &Plan, loops: &[LoopState], peaks: Room<Peak>) -> Items<Peak>
     let nodes = plan.nodes.as_slice();
     let mut peaks = peaks;
     for place in 0..nodes.len() {
-        if let Some(peak) = peak_by(place as u32, &nodes[place], plan, loops) {
-            peaks.push_spare(peak);
-        }
+        push_some(&mut peaks, peak_by(place as u32, &nodes[place], plan, loops));
     }
     peaks.into_items()
 }
@@ -116,9 +125,8 @@ fn take_sinks(
     let nodes = plan.nodes.as_slice();
     let mut sinks = sinks;
     for place in 0..nodes.len() {
-        if let Some(kept) = take_sink(alloc, place as u32, &nodes[place], plan, loops) {
-            sinks.push_spare(kept);
-        }
+        let kept = take_sink(alloc, place as u32, &nodes[place], plan, loops);
+        push_some(&mut sinks, kept);
     }
     sinks.into_items()
 }
