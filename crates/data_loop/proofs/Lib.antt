@@ -19,3 +19,4 @@ pub mod LoopDriverLemmas
 pub mod BeginLemmas
 pub mod KeptLemmas
 pub mod SettlingLemmas
+pub mod RunningLemmas

@@ -28,7 +28,7 @@ returns-in-NotYet-clause-did g' c = let s : Stage = c.args.self.now in let p = l
     let low : i < length s.members = subst (λ (l : List Member). i < length l) c.as_slice.ensures at.0 in
     let is : (get_or s.members i no_member).node ≡ c.args.node = ap (λ (l : List Member). (get_or l i no_member).node) (sym c.as_slice.ensures) ∙ at.1 in
     subst (λ (l : List (ℕ × ℕ)). HaveTried p s.seat.knows (members_at c.args.node s.members) l c.try_member.new.self.seat.knows)
-    (sym c.push_reserved.ensures.items)
+    (sym {A = List (ℕ × ℕ)} c.push_reserved.ensures.items)
     (tried_at c.args.score.now c.args.epoch p t s c.args.states.now c.args.rows.now c.requires.stands i low c.args.node is
     c.args.found.now.items c.requires.empty e.0 c.in-NotYet.word e.1 c.try_member.new.self.seat.knows e.2)
 
@@ -36,6 +36,9 @@ pub returns-in-Ran-clause-did : goal.returns-in-Ran-clause-did
 returns-in-Ran-clause-did g' c = let s : Stage = c.args.self.now in let p = layout c.args.board.now in let t = table_of c.args.board.now in
     let i = c.in-Some.index in let at = c.in-Some.ensures.some in
     let low : i < length s.members = subst (λ (l : List Member). i < length l) c.as_slice.ensures at.0 in
-    let is : (get_or s.members i no_member).node ≡ c.args.node = ap (λ (l : List Member). (get_or l i no_member).node) (sym c.as_slice.ensures) ∙ at.1 in
-    (refl, c.requires.empty, ran_at c.args.score.now c.args.epoch p t s c.args.states.now c.args.rows.now c.requires.stands i low c.args.node is
-    c.args.found.now.items c.requires.empty c.try_member.new.self c.in-Ran.ensures.tried)
+    let is : (get_or s.members i no_member).node ≡ c.args.node = ap (λ (l : List Member). (get_or l i no_member).node) (sym c.as_slice.ensures) ∙ at.1 in (
+      refl,
+      c.requires.empty,
+      ran_at c.args.score.now c.args.epoch p t s c.args.states.now c.args.rows.now c.requires.stands i low c.args.node is
+          c.args.found.now.items c.requires.empty c.try_member.new.self c.in-Ran.ensures.tried,
+    )
