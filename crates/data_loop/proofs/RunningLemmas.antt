@@ -1,5 +1,5 @@
 -- A loop on its way through the boards of a run.
-use Rattle.std.proofs.Common.{◌≡◌, ◌≢◌, ℕ, zero, suc, ◌+◌, ◌<◌, ◌≤◌, List, [], ◌∷◌, length, get_or, refl, sym, ap, ◌∙◌, subst, arith, ⊎_elim, inl, inr}
+use Rattle.std.proofs.Common.{◌≡◌, ◌≢◌, ℕ, zero, suc, ◌+◌, ◌<◌, ◌≤◌, List, [], ◌∷◌, length, get_or, refl, sym, ap, ◌∙◌, subst, arith, ⊎_elim, inl}
 use Rattle.std.proofs.Common.{Some, slice_get}
 use Rattle.std.specs.Prelude.{Contains}
 use Rattle.std.proofs.lemmas.Bool.{cases_lt}
@@ -21,9 +21,9 @@ use Rattle.data_loop.specs.declared.member.Member.{Member}
 use Rattle.data_loop.specs.declared.stage.Stage.{Stage}
 use Rattle.data_loop.specs.Tries.{no_member}
 use Rattle.data_loop.specs.Loops.{plan_of, HasStage, IsLoop, IsBetweenEpochs}
-use Rattle.data_loop.specs.LoopsOnBoards.{IsOnBoard, IsAtEnd, IsSameBut, IsNextOf, IsFirstSeat}
+use Rattle.data_loop.specs.LoopsOnBoards.{IsOnBoard, IsSameBut, IsNextOf, IsFirstSeat}
 use Rattle.data_loop.specs.LoopKept.{IsDone}
-use Rattle.data_loop.specs.Settling.{HasLedAll, HasSettled}
+use Rattle.data_loop.specs.Settling.{HasLedAll}
 use Rattle.data_loop.specs.LoopWay.{HasBoards, HasNoDriver, IsAmid, IsUnderWay, IsSameLoop, IsWayFor}
 use Rattle.data_loop.proofs.BeginLemmas.{begins}
 use Rattle.data_loop.proofs.LoopDriverLemmas.{of, drives}
