@@ -146,7 +146,7 @@ module _ (p : BoardLayout) (t : TableId) (s : LoopState) (end : IsAtEnd p t s) w
   pub between : (ss : Vec NodeState _) → length ss.items ≡ length s.states.items
       → ((j : ℕ) (d : NodeState) → j < length s.nodes
       → IsNodeState s.score (suc s.epoch) (next_first plan s.epoch) (node_at s j) (get_or ss.items j d))
-      → (next : ℕ) → next ≡ suc s.epoch → IsBetweenEpochs (record s { states = ss; epoch = next; led = 0 })
+      → (next : ℕ) → next ≡ suc s.epoch → IsBetweenEpochs (record s { states = ss; epoch = next; led = 0; woke = 0 })
   between ss long states next is = record {
     loop = record {
       sound = on.loop.sound;

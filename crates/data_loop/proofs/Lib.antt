@@ -5,6 +5,7 @@ pub mod TurnLemmas
 pub mod PlayLemmas
 pub mod StageLemmas
 pub mod TryLemmas
+pub mod TryAtLemmas
 pub mod PairLemmas
 pub mod SameLemmas
 pub mod MemberLemmas
@@ -17,3 +18,5 @@ pub mod DrivingLemmas
 pub mod LoopDriverLemmas
 pub mod BeginLemmas
 pub mod KeptLemmas
+pub mod SettlingLemmas
+pub mod RunningLemmas

@@ -127,9 +127,9 @@ module _ (p : BoardLayout) (tb : TableId) (s : LoopState) (on : IsOnBoard p tb s
       -- the loop after a turn
       pub on_more : (found : Vec (ℕ × ℕ) _) (tables : List (List (ℕ × ℕ))) → length found.items ≤ length g.members
           → vec_capacity found ≡ vec_capacity s.found → AreTables tables → length tables ≡ length s.tables
-          → get_or tables (length found.items) [] ≡ found.items
-          → IsOnBoard p tb (record s { states = with_items s.states ss; stages = with_item s.stages s.epoch h; rows = rows; found = found; tables = tables })
-      on_more found tables short capacity are count told = record {
+          → get_or tables (length found.items) [] ≡ found.items → (woke : ℕ)
+          → IsOnBoard p tb (record s { states = with_items s.states ss; stages = with_item s.stages s.epoch h; rows = rows; found = found; tables = tables; woke = woke })
+      on_more found tables short capacity are count told woke = record {
         loop = record {
           sound = on.loop.sound;
           waves = on.loop.waves;

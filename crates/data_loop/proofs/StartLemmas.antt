@@ -107,7 +107,7 @@ module _ (score : Score) (nodes : List ℕ) (states : Vec NodeState _) (stages :
       → length seats ≡ length score.plan.value.epochs → AreFirstStates score nodes states.items
       → AreAsLong width rows → All (IsStageWithin width) stages.items → found.items ≡ [] → length nodes ≤ vec_capacity found
       → AreTables tables → length tables ≡ length nodes + 1
-      → IsBetweenEpochs (record { score = score; nodes = nodes; states = states; stages = stages; rows = rows; found = found; tables = tables; epoch = 0; led = 0 })
+      → IsBetweenEpochs (record { score = score; nodes = nodes; states = states; stages = stages; rows = rows; found = found; tables = tables; epoch = 0; led = 0; woke = 0 })
   starts sound waves ascend places are count first long within none room tables_are many = record {
     loop = record {
       sound = sound;

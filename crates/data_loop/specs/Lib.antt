@@ -9,6 +9,8 @@ pub mod Standings
 pub mod Stages
 pub mod Tries
 pub mod LoopTurn
+pub mod LoopTries
+pub mod Settling
 pub mod LoopWay
 pub mod StageParts
 pub mod Tables

@@ -30,6 +30,7 @@ impl LoopState {
         ensures led { HasLed self.old self.new }
         ensures same { IsSameBut self.old self.new }
         ensures stages { self.new.stages.items ≡ self.old.stages.items }
+        ensures woke { self.new.woke ≡ self.old.woke }
     {
         let driver = board.shape().driver;
         let cycle = board.shape().first + seat.ended(board, driver);

@@ -63,6 +63,7 @@ impl LoopState {
         ensures between { IsBetweenEpochs self.new }
         ensures next { self.new.epoch ≡ self.old.epoch + 1 }
         ensures same { IsNextOf self.old self.new }
+        ensures woke { self.new.woke ≡ 0 }
     {
         let next = self.epoch + 1;
         enter_all(
@@ -74,6 +75,7 @@ impl LoopState {
         );
         self.epoch = next;
         self.led = 0;
+        self.woke = 0;
     }
 
     /// Whether all epochs are done.

@@ -34,6 +34,8 @@ pub struct LoopState {
     pub(crate) epoch: u32,
     // In how many cycles of this epoch `run_driver` ran its driver.
     pub(crate) led: u32,
+    // The bits of the nodes that the last turn woke.
+    pub(crate) woke: u64,
 }
 
 // The states of the nodes before the first cycle of the run.
@@ -76,6 +78,7 @@ impl LoopState {
         requires seats { length seats ≡ length plan.now.epochs }
         ensures between { IfOk result IsBetweenEpochs }
         ensures of { IfOk result (IsLoopOf plan.now waves.now nodes.now seats) }
+        ensures woke { IfOk result (λ s. s.woke ≡ 0) }
     {
         let score = Score::of(plan, waves);
         let stages = stages_of(alloc, plan, nodes.as_slice(), seats)?;
@@ -94,6 +97,7 @@ impl LoopState {
             tables,
             epoch: 0,
             led: 0,
+            woke: 0,
         })
     }
 }

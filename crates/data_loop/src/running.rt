@@ -1,12 +1,143 @@
 //! A loop that is started: all its epochs.
+ghost use Rattle.std.specs.Prelude.{◌≡◌, ◌+◌, ◌<◌, length, IsTrue};
+ghost use Rattle.board_rule.specs.OnBoard.{layout, table_of};
+ghost use Rattle.data_loop.specs.Loops.{plan_of};
 ghost use Rattle.data_loop.specs.LoopKept.{IsDone};
+ghost use Rattle.data_loop.specs.LoopsOnBoards.{IsOnBoard};
 ghost use Rattle.data_loop.specs.LoopWay.{HasNoDriver, IsUnderWay, IsSameLoop, IsWayFor};
+ghost use Rattle.data_loop.specs.Settling.{HasHadTurns, HasSettled};
 
+use crate::did::Did;
 use crate::loop_state::LoopState;
 use board_rule::Board;
 use pw_base::{Gate, Items};
 use ready_queues::{Way, Ways};
 use std::sync::Wait;
+
+// One try of a node that the loop's queue gave; where it ran, what it woke is sent.
+fn try_given<R: Wait, G: Gate>(
+    rt: &R,
+    board: &Board,
+    node: u32,
+    state: &mut LoopState,
+    ways: &Ways,
+    way: &mut Way,
+    gate: &G,
+)
+    requires stands { IsOnBoard (layout board.now) (table_of board.now) state.old }
+    requires way { IsWayFor ways.now state.old way.old }
+    ensures turned { HasHadTurns (layout board.now) (table_of board.now) state.old state.new }
+    ensures way { IsWayFor ways.now state.new way.new }
+{
+    match state.turn_at(board, node, gate) {
+        Did::Ran { .. } => {
+            ways.send(rt, way, state.woke());
+        }
+        Did::Idle => (),
+    }
+}
+
+// One turn; where one ran, what it woke is sent, and where none was awake, the thread rests.
+// Whether it found that no follower has cycles left, and then there is no rest.
+fn try_all<R: Wait, G: Gate>(
+    rt: &R,
+    board: &Board,
+    state: &mut LoopState,
+    ways: &Ways,
+    way: &mut Way,
+    gate: &G,
+) -> bool
+    requires stands { IsOnBoard (layout board.now) (table_of board.now) state.old }
+    requires way { IsWayFor ways.now state.old way.old }
+    ensures turned { HasHadTurns (layout board.now) (table_of board.now) state.old state.new }
+    ensures settled { IsTrue result
+        → HasSettled (layout board.now) (table_of board.now) state.old state.new }
+    ensures way { IsWayFor ways.now state.new way.new }
+{
+    match state.turn(board, gate) {
+        Did::Ran { .. } => {
+            ways.send(rt, way, state.woke());
+            false
+        }
+        Did::Idle => {
+            if state.found().len() == 0 {
+                return true;
+            }
+            ways.rest(rt, way);
+            false
+        }
+    }
+}
+
+// One round on the board of the loop's epoch: of the oldest number in its queue, or where there is
+// none of all followers. Whether it found that no follower has cycles left.
+fn go_once<R: Wait, G: Gate>(
+    rt: &R,
+    board: &Board,
+    state: &mut LoopState,
+    ways: &Ways,
+    way: &mut Way,
+    gate: &G,
+) -> bool
+    requires stands { IsOnBoard (layout board.now) (table_of board.now) state.old }
+    requires way { IsWayFor ways.now state.old way.old }
+    ensures turned { HasHadTurns (layout board.now) (table_of board.now) state.old state.new }
+    ensures settled { IsTrue result
+        → HasSettled (layout board.now) (table_of board.now) state.old state.new }
+    ensures way { IsWayFor ways.now state.new way.new }
+{
+    match ways.receive(rt, way) {
+        Some(node) => {
+            try_given(rt, board, node, state, ways, way, gate);
+            false
+        }
+        None => try_all(rt, board, state, ways, way, gate),
+    }
+}
+
+// The rounds on the board of the loop's epoch, until no follower has cycles left.
+fn go_round<R: Wait, G: Gate>(
+    rt: &R,
+    board: &Board,
+    state: &mut LoopState,
+    ways: &Ways,
+    way: &mut Way,
+    gate: &G,
+)
+    requires stands { IsOnBoard (layout board.now) (table_of board.now) state.old }
+    requires way { IsWayFor ways.now state.old way.old }
+    ensures settled { HasSettled (layout board.now) (table_of board.now) state.old state.new }
+    ensures way { IsWayFor ways.now state.new way.new }
+{
+    for _ in rt.forever() {
+        if go_once(rt, board, state, ways, way, gate) {
+            break;
+        }
+    }
+}
+
+// The epoch that the loop is in, and the way into the next one.
+fn go_through<R: Wait, G: Gate>(
+    rt: &R,
+    boards: &Items<Board>,
+    state: &mut LoopState,
+    ways: &Ways,
+    way: &mut Way,
+    gate: &G,
+)
+    requires under_way { IsUnderWay boards.now state.old }
+    requires left { state.old.epoch < length (plan_of state.old).epochs }
+    requires none { HasNoDriver state.old }
+    requires way { IsWayFor ways.now state.old way.old }
+    ensures under_way { IsUnderWay boards.now state.new }
+    ensures same { IsSameLoop state.old state.new }
+    ensures next { state.new.epoch ≡ state.old.epoch + 1 }
+    ensures way { IsWayFor ways.now state.new way.new }
+{
+    let board = &boards.as_slice()[state.epoch() as usize];
+    go_round(rt, board, state, ways, way, gate);
+    state.next_epoch();
+}
 
 /// Turns until all epochs are done: numbers that its queue gives are tried first, and where there
 /// are none all followers; where none is awake, the thread rests. It may wait. Takes no memory.
@@ -28,9 +159,10 @@ pub fn run_all<R: Wait, G: Gate>(
     ensures same { IsSameLoop state result.0 }
     ensures way { IsWayFor ways.now result.0 result.1 }
 {
-    let _ = boards;
-    let _ = ways;
-    let _ = gate;
-    for _ in rt.forever() {}
+    let mut state = state;
+    let mut way = way;
+    while !state.at_end() {
+        go_through(rt, boards, &mut state, ways, &mut way, gate);
+    }
     (state, way)
 }

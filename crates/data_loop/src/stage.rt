@@ -1,10 +1,11 @@
 //! What a loop has in one epoch.
-ghost use Rattle.std.specs.Prelude.{◌≡◌, ◌≢◌, ◌<◌, ◌≤◌, ℕ, [], length, slice_index_or, vec_capacity};
+ghost use Rattle.std.specs.Prelude.{◌≡◌, ◌≢◌, ◌<◌, ◌≤◌, ℕ, [], All, IfSome, IfNone, length, slice_index_or, vec_capacity};
 ghost use Rattle.node_state.specs.declared.node_state.NodeState.{NodeState};
 ghost use Rattle.board_rule.specs.OnBoard.{layout, table_of};
 ghost use Rattle.data_loop.specs.Stages.{IsStanding};
-ghost use Rattle.data_loop.specs.Tries.{HasTried, member_at};
+ghost use Rattle.data_loop.specs.Tries.{HasTried, no_member, member_at};
 ghost use Rattle.data_loop.specs.LoopTurn.{IsDid};
+ghost use Rattle.data_loop.specs.LoopTries.{IsDidAt, IsWoke};
 ghost use Rattle.data_loop.specs.Rooms.{IsSameRoom};
 ghost use Rattle.data_loop.specs.StageParts.{IsSameStage};
 ghost use Rattle.data_loop.specs.Stages.{AreLeft};
@@ -32,6 +33,20 @@ pub struct Stage {
     pub restarts: Items<Option<u32>>,
     pub shapes: Items<PoolShape>,
     pub free: Vec<Pool>,
+}
+
+// The index of the member of a node.
+fn index_of(members: &[Member], node: u32) -> Option<usize>
+    ensures some { IfSome result
+        (λ i. (i < length members.now) × ((slice_index_or members.now i no_member).node ≡ node)) }
+    ensures none { IfNone result (All (λ m. m.node ≢ node) members.now) }
+{
+    for index in 0..members.len() {
+        if members[index].node == node {
+            return Some(index);
+        }
+    }
+    None
 }
 
 impl Stage {
@@ -83,6 +98,7 @@ impl Stage {
             }
         }
     }
+
     /// One turn: tries the members in their order, and ends with the first that has run. `found` is
     /// empty before; then it has the node and the word of each try that was too early. Takes no
     /// memory, does not wait.
@@ -118,5 +134,55 @@ impl Stage {
             }
         }
         Did::Idle
+    }
+
+    /// One try of the member of a node, if there is one. `found` is empty before; then it has the
+    /// node and the word of a try that was too early. Takes no memory, does not wait.
+    pub fn turn_at<G: Gate>(
+        &mut self,
+        board: &Board,
+        score: &Score,
+        epoch: u32,
+        node: u32,
+        states: &mut [NodeState],
+        rows: &mut Rows,
+        found: &mut Vec<(u32, u64)>,
+        gate: &G,
+    ) -> Did
+        requires stands { IsStanding score.now epoch (layout board.now) (table_of board.now)
+            self.old states.old rows.old }
+        requires empty { found.old.items ≡ [] }
+        requires room { length self.old.members ≤ vec_capacity found.old }
+        ensures stands { IsStanding score.now epoch (layout board.now) (table_of board.now)
+            self.new states.new rows.new }
+        ensures did { IsDidAt (layout board.now) self.old node result found.new.items self.new }
+        ensures same { IsSameStage self.old self.new }
+        ensures states { AreLeft self.old.members states.old states.new }
+        ensures rows { IsSameRoom rows.old rows.new }
+        ensures few { length found.new.items ≤ length self.old.members }
+        ensures capacity { vec_capacity found.new ≡ vec_capacity found.old }
+    {
+        let index = match index_of(self.members.as_slice(), node) {
+            Some(index) => index,
+            None => return Did::Idle,
+        };
+        match self.try_member(board, score, epoch, index, states, rows, gate) {
+            Tried::Ended => Did::Idle,
+            Tried::NotYet { found: word } => {
+                found.push_reserved((node, word));
+                Did::Idle
+            }
+            Tried::Ran => Did::Ran { node },
+        }
+    }
+
+    /// The nodes that a turn or a try has woken. Takes no memory.
+    pub fn woke(&self, did: Did) -> u64
+        ensures { IsWoke did self.now result }
+    {
+        match did {
+            Did::Ran { .. } => self.seat.woke(),
+            Did::Idle => 0,
+        }
     }
 }

@@ -1,4 +1,15 @@
+use Rattle.std.proofs.Common.{◌-◌, length}
+use Rattle.data_loop.specs.Loops.{plan_of}
+use Rattle.data_loop.specs.LoopWay.{HasNoDriver, IsUnderWay, IsSameLoop, IsWayFor}
 use Rattle.data_loop.proofs.running.run_all.Given as goal
 
-abbrev pub invariant-loop : goal.invariant-loop
-invariant-loop g l = (goal.iterator-loop g).can_next l.iterator' × (goal.iterator-loop g).is_finite l.iterator'
+abbrev pub invariant-loop-state : goal.invariant-loop-state
+invariant-loop-state g l = record {
+  under_way : IsUnderWay l.boards l.state;
+  same : IsSameLoop l.fn.state l.state;
+  none : HasNoDriver l.state;
+  way : IsWayFor l.ways l.state l.way;
+}
+
+abbrev pub decreases-loop-state : goal.decreases-loop-state
+decreases-loop-state g l = length (plan_of l.state).epochs - l.state.epoch

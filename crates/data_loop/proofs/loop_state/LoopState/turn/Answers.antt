@@ -1,10 +1,11 @@
-use Rattle.std.proofs.Common.{◌≡◌, ◌≤◌, ℕ, List, [], length, get_or, refl, sym, ap, ◌∙◌, subst, arith}
+use Rattle.std.proofs.Common.{◌≡◌, ◌≤◌, ℕ, List, [], length, get_or, set, refl, sym, ap, ◌∙◌, subst, arith}
 use Rattle.std.specs.Vec.{vec_capacity}
 use Rattle.std.proofs.lemmas.Option.{same_Some, get_or_from_slice_get}
 use Rattle.board_rule.specs.OnBoard.{layout, table_of}
 use Rattle.node_state.specs.declared.node_state.NodeState.{NodeState}
 use Rattle.data_loop.specs.declared.stage.Stage.{Stage}
 use Rattle.data_loop.specs.LoopTurn.{IsDid}
+use Rattle.data_loop.specs.LoopTries.{IsWoke}
 use Rattle.data_loop.specs.StageParts.{IsSameStage}
 use Rattle.data_loop.specs.Stages.{AreLeft}
 use Rattle.data_loop.proofs.LoopLemmas.{low, few_members, get_same, get_other, on_more}
@@ -42,6 +43,7 @@ returns-clause-stands g' c = let on = c.requires.stands in let p = layout c.args
     (c.turn-did.ensures.capacity ∙ c.clear.ensures.capacity)
     c.tell.ensures.tables c.tell.ensures.count
     (subst (λ (l : List (ℕ × ℕ)). get_or c.tell.new.tables (length l) [] ≡ l) list c.tell.ensures.told)
+    c.woke-self.result
 
 pub returns-clause-did : goal.returns-clause-did
 returns-clause-did g' c = λ g h here there. let on = c.requires.stands in let p = layout c.args.board.now in let t = table_of c.args.board.now in
@@ -50,6 +52,11 @@ returns-clause-did g' c = λ g h here there. let on = c.requires.stands in let p
     let after : c.turn-did.new.self ≡ h = same_Some c.turn-did.new.self h
     (sym (get_same c.args.self.now.stages.items c.args.self.now.epoch c.turn-did.new.self (low p t c.args.self.now on)) ∙ there) in
     subst (λ (x : Stage × Stage). IsDid p x.0 c.turn-did.result c.turn-did.new.found.items x.1) (λ i. (stage i, after i)) c.turn-did.ensures.did
+
+pub returns-clause-woke : goal.returns-clause-woke
+returns-clause-woke g' c = λ h there. let s = c.args.self.now in
+    subst (λ (x : Stage). IsWoke c.turn-did.result x c.woke-self.result)
+    (c.index.ensures ∙ get_or_from_slice_get (set s.stages.items s.epoch c.turn-did.new.self) s.epoch h _ there) c.woke-self.ensures
 
 pub returns-clause-same : goal.returns-clause-same
 returns-clause-same g' c = record {

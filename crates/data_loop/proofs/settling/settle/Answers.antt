@@ -1,9 +1,9 @@
 use Rattle.std.proofs.Common.{true≢false, sym, subst}
 use Rattle.board_rule.specs.OnBoard.{layout, table_of}
-use Rattle.driver_cycle.specs.Settling.{HasSettled}
-use Rattle.driver_cycle.proofs.SettlingLemmas.{settled_after}
-use Rattle.driver_cycle.proofs.settling.settle.Goals.{in-None, in-Some+then-is_settled}
-use Rattle.driver_cycle.proofs.settling.settle.Goals as goal
+use Rattle.data_loop.specs.Settling.{HasSettled}
+use Rattle.data_loop.proofs.SettlingLemmas.{settled_after}
+use Rattle.data_loop.proofs.settling.settle.Goals.{in-None, in-Some+then-is_settled}
+use Rattle.data_loop.proofs.settling.settle.Goals as goal
 
 pub returns : goal.returns
 returns g c = let p = layout c.args.board.now in let t = table_of c.args.board.now in record {

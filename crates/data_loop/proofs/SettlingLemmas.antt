@@ -1,0 +1,136 @@
+-- A loop on the board of its epoch, from turn to turn, and its end.
+use Rattle.std.proofs.Common.{◌≡◌, ◌≢◌, ℕ, zero, suc, ◌<◌, Bool, true, false, true≢false, not, List, [], ◌∷◌, length, map, filter, get_or, refl, sym, ap, ◌∙◌, subst, arith, ⊎_elim}
+use Rattle.std.proofs.Common.{slice_get}
+use Rattle.std.specs.Prelude.{All, eqb}
+use Rattle.std.proofs.lemmas.Bool.{cases_Bool, cases_eq, ne_eqb, cond-true, cond-false}
+use Rattle.atomic_table.specs.Seated.{TableId}
+use Rattle.pw_base.specs.declared.plan.Epoch.{Epoch}
+use Rattle.pw_base.specs.PlanFresh.{IsEpoch}
+use Rattle.board_rule.specs.declared.view.View.{View}
+use Rattle.board_rule.specs.Layout.{BoardLayout, last}
+use Rattle.data_loop.specs.declared.loop_state.LoopState.{LoopState}
+use Rattle.data_loop.specs.declared.member.Member.{Member}
+use Rattle.data_loop.specs.declared.stage.Stage.{Stage}
+use Rattle.data_loop.specs.LoopTurn.{next_in, has_left, HaveTried}
+use Rattle.data_loop.specs.Members.{members_of, drivers_of}
+use Rattle.data_loop.specs.Loops.{plan_of, HasStage}
+use Rattle.data_loop.specs.LoopsOnBoards.{IsOnBoard, IsSameBut, HasTurnedOnce}
+use Rattle.data_loop.specs.declared.did.Did.TheVariants.{Idle}
+use Rattle.data_loop.specs.Settling.{HasLedAll, HasHadTurns, HasSettled}
+
+pub same_but_refl : (s : LoopState) → IsSameBut s s
+same_but_refl s = record {
+  score = refl;
+  nodes = refl;
+  epoch = refl;
+  stages = λ k ne. refl;
+}
+
+pub same_but_on : (s t u : LoopState) → IsSameBut s t → IsSameBut t u → IsSameBut s u
+same_but_on s t u a b = record {
+  score = b.score ∙ a.score;
+  nodes = b.nodes ∙ a.nodes;
+  epoch = b.epoch ∙ a.epoch;
+  stages = λ k ne. b.stages k (λ is. ne (is ∙ a.epoch)) ∙ a.stages k ne;
+}
+
+module _ (p : BoardLayout) (t : TableId) where
+  pub no_turns : (s : LoopState) → IsOnBoard p t s → HasHadTurns p t s s
+  no_turns s on = record {
+    on = on;
+    same = same_but_refl s;
+    led = refl;
+  }
+
+  abbrev pub more_turns : (s u w : LoopState) → HasHadTurns p t s u → HasHadTurns p t u w → HasHadTurns p t s w
+  more_turns s u w a b = record {
+    on = b.on;
+    same = same_but_on s u w a.same b.same;
+    led = b.led ∙ a.led;
+  }
+
+  -- what a loop has in the epoch stays
+  module _ (s u : LoopState) (a : IsOnBoard p t s) (b : IsOnBoard p t u) (same : IsSameBut s u) where
+    abbrev e : Epoch
+    e = a.stands.epoch
+
+    at : IsEpoch (plan_of u) u.epoch e
+    at = (λ i. slice_get (same.score i).plan.value.epochs (same.epoch i)) ∙ a.stands.at
+
+    pub same_driver : (g h : Stage) → HasStage s s.epoch g → HasStage u u.epoch h → h.driver ≡ g.driver
+    same_driver g h here there = (b.loop.parts u.epoch e h at there).driver
+        ∙ (λ i. drivers_of (same.score i).plan.value (same.nodes i) e) ∙ sym (a.loop.parts s.epoch e g a.stands.at here).driver
+
+    pub same_members : (g h : Stage) → HasStage s s.epoch g → HasStage u u.epoch h → h.members ≡ g.members
+    same_members g h here there = (b.loop.parts u.epoch e h at there).members
+        ∙ (λ i. members_of (same.score i).plan.value (same.nodes i) e) ∙ sym (a.loop.parts s.epoch e g a.stands.at here).members
+
+    pub led_all_on : u.led ≡ s.led → HasLedAll p s → HasLedAll p u
+    led_all_on led all h there some = led ∙ all a.stage a.here (λ none. some (same_driver a.stage h a.here there ∙ none))
+
+-- no member has cycles left where none was tried
+none_passes : (q : Member → Bool) (ms : List Member) → length (filter q ms) ≡ 0 → All (λ m. q m ≡ false) ms
+none_passes q [] none k d low = absurd (omega (arith, low))
+none_passes q (m ∷ ms) none k d low = ⊎_elim
+    (λ (yes : q m ≡ true). let some = sym (ap (λ (l : List Member). length l) (cond-true (q m) (m ∷ filter q ms) (filter q ms) yes)) ∙ none in
+    absurd (omega (arith, some)))
+    (λ (off : q m ≡ false). let rest = sym (ap (λ (l : List Member). length l) (cond-false (q m) (m ∷ filter q ms) (filter q ms) off)) ∙ none in
+    by (λ i. none_passes q ms rest i d) k off low)
+    (cases_Bool (q m))
+  where
+    by : ((i : ℕ) → i < length ms → q (get_or ms i d) ≡ false) → (k : ℕ) → q m ≡ false → k < suc (length ms) → q (get_or (m ∷ ms) k d) ≡ false
+    by rest zero off low = off
+    by rest (suc k) off low = rest k (omega (arith, low))
+
+ended_is : (a b : ℕ) → not (eqb a b) ≡ false → a ≡ b
+ended_is a b off = ⊎_elim
+    (λ (is : a ≡ b). is)
+    (λ (ne : a ≢ b). absurd (true≢false (sym (ap not (ne_eqb a b ne)) ∙ off)))
+    (cases_eq a b)
+
+pub none_left : (p : BoardLayout) (v w : View) (ms : List Member) → HaveTried p v ms [] w → All (λ m. next_in p w m.node ≡ last p) ms
+none_left p v w ms h k d low = let m : Member = get_or ms k d in
+    ap (λ (x : View). next_in p x m.node) h.still
+    ∙ ended_is (next_in p v m.node) (last p)
+    (none_passes (has_left p v) ms (by (filter (has_left p v) ms) h.nodes) k d low)
+  where
+    by : (l : List Member) → map (λ (t : ℕ × ℕ). t.0) [] ≡ map (λ m. m.node) l → length l ≡ 0
+    by [] is = refl
+    by (m ∷ l) is = absurd (omega (arith, ap (λ (x : List ℕ). length x) is))
+
+-- an idle turn that found no try too early
+module _ (p : BoardLayout) (t : TableId) (s u : LoopState) (before : IsOnBoard p t s) (turned : HasHadTurns p t s u) where
+  pub settled_by : HaveTried p before.stage.seat.knows before.stage.members [] turned.on.stage.seat.knows → HasSettled p t s u
+  settled_by h = let e = ended_here in record {
+    turned = turned;
+    ended = e;
+    end = λ all. record {
+      on = turned.on;
+      ended = e;
+      led = led_all_on p t s u before turned.on turned.same turned.led all turned.on.stage turned.on.here;
+    };
+  }
+    where
+      ended_here : All (λ m. next_in p turned.on.stage.seat.knows m.node ≡ last p) turned.on.stage.members
+      ended_here = subst (All (λ m. next_in p turned.on.stage.seat.knows m.node ≡ last p))
+          (sym (same_members p t s u before turned.on turned.same before.stage turned.on.stage before.here turned.on.here))
+          (none_left p before.stage.seat.knows turned.on.stage.seat.knows before.stage.members h)
+
+-- and after turns before it
+pub settled_after : (p : BoardLayout) (t : TableId) (s u w : LoopState) → IsOnBoard p t s → HasHadTurns p t s u → HasSettled p t u w → HasSettled p t s w
+settled_after p t s u w on a b = record {
+  turned = more_turns p t s u w a b.turned;
+  ended = b.ended;
+  end = λ all. b.end (led_all_on p t s u on a.on a.same a.led all);
+}
+
+-- an idle turn that found no try too early, by the number of its tries
+nothing : (l : List (ℕ × ℕ)) → length l ≡ 0 → l ≡ []
+nothing [] none = refl
+nothing (x ∷ l) none = absurd (omega (arith, none))
+
+pub settled_idle : (p : BoardLayout) (t : TableId) (s u : LoopState) → IsOnBoard p t s → HasHadTurns p t s u → HasTurnedOnce p s Idle u
+    → length u.found.items ≡ 0 → HasSettled p t s u
+settled_idle p t s u before turned did none = settled_by p t s u before turned
+    (subst (λ l. HaveTried p before.stage.seat.knows before.stage.members l turned.on.stage.seat.knows) (nothing u.found.items none)
+    (did before.stage turned.on.stage before.here turned.on.here))
