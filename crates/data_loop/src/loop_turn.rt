@@ -42,4 +42,9 @@ impl LoopState {
     {
         &self.tables.as_slice()[self.found.len()]
     }
+
+    /// The bits of the nodes that the last turn woke.
+    pub fn woke(&self) -> u64 {
+        0
+    }
 }
