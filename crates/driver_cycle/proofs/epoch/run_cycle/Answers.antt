@@ -16,6 +16,7 @@ loop-init g c = record {
   waits = c.requires.waits;
   cycle = refl;
   checked = sym c.requires.unchecked;
+  way = c.requires.way;
 }
 
 pub loop-preserved : goal.loop-preserved
@@ -28,6 +29,7 @@ loop-preserved g c = let r = c.if-go_round.ensures.round in record {
   waits = r.0;
   cycle = r.1 ∙ c.loop.invariant.cycle;
   checked = r.2;
+  way = c.go_round.ensures.way;
 }
 
 pub returns-clause-gone : goal.returns-clause-gone

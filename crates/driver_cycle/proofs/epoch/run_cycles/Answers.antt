@@ -5,6 +5,7 @@ pub loop-seat-init : goal.loop-seat-init
 loop-seat-init g c = record {
   gone = no_round c.args.board.now c.args.seat.now c.args.own.now c.args.adopted.now (g.K.Ticker.ticks c.args.ticker.now) c.requires.thread;
   between = c.requires.between;
+  way = c.requires.way;
 }
 
 pub loop-seat-preserved : goal.loop-seat-preserved
@@ -17,6 +18,7 @@ loop-seat-preserved g c = let b = c.args.board.now in let a = c.loop-seat in let
           c.loop-seat-test.ensures.begun.1)
           c.run_cycle.new.seat c.run_cycle.new.own c.run_cycle.new.adopted (g.K.Ticker.ticks c.run_cycle.new.ticker) c.run_cycle.ensures.gone);
       between = c.run_cycle.ensures.between;
+      way = c.run_cycle.ensures.way;
     }
 
 pub run_cycle-requires-clause-thread : goal.run_cycle-requires-clause-thread
