@@ -42,7 +42,13 @@ pub fn run_plan<R: Threads + Wait + Sync, G: Gate + Sync, K: Ticker>(
     ensures waves { IfOk result (λ r. All (λ kept. IsWave kept.wav) r.0.sinks) }
     ensures later { K.ticks ticker.old ≤ K.ticks ticker.new }
 {
-    let _ = (rt, alloc, plan, waves, loops, adopt, gate);
+    let _ = rt;
+    let _ = alloc;
+    let _ = plan;
+    let _ = waves;
+    let _ = loops;
+    let _ = adopt;
+    let _ = gate;
     let _ = ticker;
     Err(Memory)
 }
