@@ -231,14 +231,11 @@ fn active(alloc: Global, node: u32, required: u32, targets: &[u32]) -> Result<Sh
     })
 }
 
-// A link to the first port of the next node.
-fn link(from: u32, port: u32) -> ShapeLink {
+// A link to the first port of a node.
+fn link(from: u32, port: u32, to: u32) -> ShapeLink {
     ShapeLink {
         from: PortId { node: from, port },
-        to: PortId {
-            node: from + 1,
-            port: 0,
-        },
+        to: PortId { node: to, port: 0 },
         channels: 1,
         buffers: 2,
         delayed: false,
@@ -260,7 +257,7 @@ fn row(alloc: Global) -> Result<Shape, Memory>
         cycles: 1,
         driver: 3,
         nodes,
-        links: Items::from_slice(alloc, &[link(0, 0), link(1, 1), link(2, 1)])?,
+        links: Items::from_slice(alloc, &[link(0, 0, 1), link(1, 1, 2), link(2, 1, 3)])?,
     })
 }
 
