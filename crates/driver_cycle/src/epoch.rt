@@ -2,54 +2,53 @@
 ghost use Rattle.std.specs.Prelude.{◌≡◌, ◌+◌, All, false};
 ghost use Rattle.board_rule.specs.Layout.{last};
 ghost use Rattle.board_rule.specs.OnBoard.{layout, table_of};
+ghost use Rattle.data_loop.specs.LoopWay.{IsDriverWay};
 ghost use Rattle.data_loop.specs.LoopsOnBoards.{IsOnBoard, IsAtEnd, IsSameBut};
 ghost use Rattle.data_loop.specs.LoopDriver.{DrivesFrom, IsTied};
 ghost use Rattle.driver_cycle.specs.Leading.{IsLeading, IsBetween, IsWaiting, HasEndedAll};
 ghost use Rattle.driver_cycle.specs.Rounds.{HasLooked};
-ghost use Rattle.driver_cycle.specs.Settling.{HasHadTurns, HasSettled, AreEach};
+ghost use Rattle.driver_cycle.specs.Settling.{HasSettled, AreEach};
 ghost use Rattle.driver_cycle.specs.Epochs.{IsThread, HasGoneOn, HasGoneRound};
 
 use crate::leading::lead_once;
 use crate::rounds::begin_next;
 use crate::settling::{settle, settle_all};
-use board_rule::{Board, DriverSeat};
-use data_loop::LoopState;
+use crate::turning::{turn_all, turn_one};
+use crate::waking::{rest_unless, send_woken};
+use board_rule::{Board, BoardSeat, DriverSeat};
+use data_loop::{LoopState, Way, Ways};
 use pw_base::{Gate, Ticker};
 use std::sync::Wait;
 
-// One turn of each of the loops, in order.
-fn turn_all<G: Gate>(board: &Board, states: &mut [LoopState], gate: &G)
-    requires stand { All (IsOnBoard (layout board.now) (table_of board.now)) states.old }
-    ensures turned { AreEach (HasHadTurns (layout board.now) (table_of board.now))
-        states.old states.new }
-{
-    for k in 0..states.len() {
-        states[k].turn(board, gate);
-    }
-}
-
-// One round: a turn of the own loop, one of each adopted loop, and one claim of the driver's node.
-// Whether the cycle has ended.
-fn go_round<G: Gate, K: Ticker>(
+// One round: a turn of the own loop, one of each adopted loop, and one claim of the driver's node;
+// where all this did nothing, a rest. Whether the cycle has ended.
+fn go_round<R: Wait, G: Gate, K: Ticker>(
+    rt: &R,
     board: &Board,
     seat: &mut DriverSeat,
     own: &mut LoopState,
     adopted: &mut [LoopState],
     checked: &mut bool,
+    ways: &Ways,
+    way: &mut Way,
     ticker: &mut K,
     gate: &G,
 ) -> bool
     requires thread { IsThread board.now seat.old own.old adopted.old }
     requires waits { IsWaiting (layout board.now) seat.old.knows }
     requires checked { checked.old ≡ seat.old.knows.lead.checked }
+    requires way { IsDriverWay ways.now way.old }
     ensures gone { HasGoneOn board.now seat.old own.old adopted.old (K.ticks ticker.old)
         seat.new own.new adopted.new (K.ticks ticker.new) }
     ensures round { HasGoneRound result (layout board.now) seat.old.knows checked.new
         seat.new.knows }
+    ensures way { IsDriverWay ways.now way.new }
 {
-    own.turn(board, gate);
-    turn_all(board, adopted, gate);
-    lead_once(board, seat, own, checked, ticker, gate)
+    let own_ran = turn_one(rt, board, own, ways, way, gate);
+    let another_ran = turn_all(rt, board, adopted, ways, way, gate);
+    let ended = lead_once(board, seat, own, checked, ticker, gate);
+    rest_unless(rt, own_ran | another_ran | ended, adopted.len(), ways, way);
+    ended
 }
 
 // The rounds of a cycle that is begun.
@@ -59,20 +58,35 @@ fn run_cycle<R: Wait, G: Gate, K: Ticker>(
     seat: &mut DriverSeat,
     own: &mut LoopState,
     adopted: &mut [LoopState],
+    ways: &Ways,
+    way: &mut Way,
     ticker: &mut K,
     gate: &G,
 )
     requires thread { IsThread board.now seat.old own.old adopted.old }
     requires waits { IsWaiting (layout board.now) seat.old.knows }
     requires unchecked { seat.old.knows.lead.checked ≡ false }
+    requires way { IsDriverWay ways.now way.old }
     ensures gone { HasGoneOn board.now seat.old own.old adopted.old (K.ticks ticker.old)
         seat.new own.new adopted.new (K.ticks ticker.new) }
     ensures between { IsBetween (layout board.now) seat.new.knows }
     ensures cycle { seat.new.knows.lead.cycle ≡ seat.old.knows.lead.cycle + 1 }
+    ensures way { IsDriverWay ways.now way.new }
 {
     let mut checked = false;
     for _ in rt.forever() {
-        if go_round(board, seat, own, adopted, &mut checked, ticker, gate) {
+        if go_round(
+            rt,
+            board,
+            seat,
+            own,
+            adopted,
+            &mut checked,
+            ways,
+            way,
+            ticker,
+            gate,
+        ) {
             break;
         }
     }
@@ -85,34 +99,45 @@ fn run_cycles<R: Wait, G: Gate, K: Ticker>(
     seat: &mut DriverSeat,
     own: &mut LoopState,
     adopted: &mut [LoopState],
+    ways: &Ways,
+    way: &mut Way,
     ticker: &mut K,
     gate: &G,
 )
     requires thread { IsThread board.now seat.old own.old adopted.old }
     requires between { IsBetween (layout board.now) seat.old.knows }
+    requires way { IsDriverWay ways.now way.old }
     ensures gone { HasGoneOn board.now seat.old own.old adopted.old (K.ticks ticker.old)
         seat.new own.new adopted.new (K.ticks ticker.new) }
     ensures ended { HasEndedAll (layout board.now) seat.new.knows }
+    ensures way { IsDriverWay ways.now way.new }
 {
     while begin_next(board, seat) {
-        run_cycle(rt, board, seat, own, adopted, ticker, gate);
+        send_woken(rt, ways, way, seat.woke());
+        run_cycle(rt, board, seat, own, adopted, ways, way, ticker, gate);
     }
 }
 
 /// All cycles of one epoch, by the driver's thread: `own` has the driver, unless that is 63, and
 /// `adopted` are the other loops that this thread runs. After a cycle has begun, the thread goes in
 /// rounds: a turn of `own`, one of each adopted loop in order, and one claim of the driver's node,
-/// which ends the cycle where the node is awake. Once no cycle is left, it gives `own`, and then
-/// each adopted loop, turns until none of its followers has cycles left. Each cycle makes at most
-/// one check, where the ticker says so. It may wait. Takes no memory.
+/// which ends the cycle where the node is awake. What the beginning woke, and what each turn woke,
+/// is sent to the queues of `ways`. Where a round did nothing, and `adopted` has fewer loops than
+/// `ways`, the thread rests until it is unparked; meanwhile it does not ask the ticker. Once no
+/// cycle is left, it gives `own`, and then each adopted loop, turns until none of its followers has
+/// cycles left. Each cycle makes at most one check, where the ticker says so. It may wait. Takes no
+/// memory.
 /// Condition: this is the board of the current epoch of all these loops, the seat is between two of
-/// its cycles, and `run_driver` on `own` has run the driver in each earlier cycle of the epoch.
+/// its cycles, `run_driver` on `own` has run the driver in each earlier cycle of the epoch, and
+/// `way` is the driver's of `ways`.
 pub fn run_epoch<R: Wait, G: Gate, K: Ticker>(
     rt: &R,
     board: &Board,
     seat: &mut DriverSeat,
     own: &mut LoopState,
     adopted: &mut [LoopState],
+    ways: &Ways,
+    way: &mut Way,
     ticker: &mut K,
     gate: &G,
 )
@@ -122,6 +147,7 @@ pub fn run_epoch<R: Wait, G: Gate, K: Ticker>(
     requires driver { DrivesFrom (layout board.now) own.old }
     requires tied { IsTied (layout board.now) own.old seat.old.knows }
     requires adopted { All (IsOnBoard (layout board.now) (table_of board.now)) adopted.old }
+    requires way { IsDriverWay ways.now way.old }
     ensures ended { HasEndedAll (layout board.now) seat.new.knows }
     ensures leads { IsLeading own.old.score own.old.epoch board.now seat.new }
     ensures table { seat.new.table ≡ seat.old.table }
@@ -131,8 +157,9 @@ pub fn run_epoch<R: Wait, G: Gate, K: Ticker>(
     ensures adopted { AreEach (HasSettled (layout board.now) (table_of board.now))
         adopted.old adopted.new }
     ensures looked { HasLooked seat.old seat.new (K.ticks ticker.old) (K.ticks ticker.new) }
+    ensures way { IsDriverWay ways.now way.new }
 {
-    run_cycles(rt, board, seat, own, adopted, ticker, gate);
+    run_cycles(rt, board, seat, own, adopted, ways, way, ticker, gate);
     settle(rt, board, own, gate);
     settle_all(rt, board, adopted, gate);
 }

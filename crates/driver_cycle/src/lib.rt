@@ -2,8 +2,9 @@
 //!
 //! The thread begins a cycle with `begin_next`. Then it goes in rounds: turns of its loops, and one
 //! claim of the driver's node by `lead_once`, which ends the cycle where the node is awake and else
-//! looks at who is late, at most once a cycle. After the last cycle it calls `settle` for each
-//! loop.
+//! looks at who is late, at most once a cycle. It sends what the beginning and each turn woke, and
+//! rests where a round did nothing and other threads have loops. After the last cycle it calls
+//! `settle` for each loop.
 #![tactic(auto)]
 
 mod epoch;
@@ -12,6 +13,8 @@ mod rounds;
 mod settling;
 #[cfg(test)]
 mod tests;
+mod turning;
+mod waking;
 
 pub use epoch::run_epoch;
 pub use leading::lead_once;

@@ -36,18 +36,22 @@ fn run_one<R: Wait, G: Gate, K: Ticker>(
     seat: &mut DriverSeat,
     own: &mut LoopState,
     adopted: &mut [LoopState],
+    ways: &Ways,
+    way: &mut Way,
     ticker: &mut K,
     gate: &G,
 )
     requires thread { IsThread board.now seat.old own.old adopted.old }
     requires between { IsBetween (layout board.now) seat.old.knows }
     requires led { All (settling.HasLedAll (layout board.now)) adopted.old }
+    requires way { IsDriverWay ways.now way.old }
     ensures led { HasLedAll board.now seat.old seat.new }
     ensures own { HasPassed own.old own.new }
     ensures adopted { AreEach HasPassed adopted.old adopted.new }
     ensures looked { HasLooked seat.old seat.new (K.ticks ticker.old) (K.ticks ticker.new) }
+    ensures way { IsDriverWay ways.now way.new }
 {
-    run_epoch(rt, board, seat, own, adopted, ticker, gate);
+    run_epoch(rt, board, seat, own, adopted, ways, way, ticker, gate);
     own.next_epoch();
     next_all(adopted);
 }
@@ -55,8 +59,8 @@ fn run_one<R: Wait, G: Gate, K: Ticker>(
 /// All epochs of a plan in order, by the driver's thread: each on its board by `run_epoch`, after
 /// which each loop goes into the next. `own` has the drivers; `adopted` are the other loops that
 /// this thread runs, and no node of theirs drives. It may wait. Takes no memory.
-/// Condition: there is one board an epoch, in order, no epoch is begun, and the loops have the
-/// seats of these boards.
+/// Condition: there is one board an epoch, in order, no epoch is begun, the loops have the seats of
+/// these boards, and `way` is the driver's of `ways`.
 pub fn run_epochs<R: Wait, G: Gate, K: Ticker>(
     rt: &R,
     boards: &Items<Board>,
@@ -81,10 +85,18 @@ pub fn run_epochs<R: Wait, G: Gate, K: Ticker>(
         (K.ticks ticker.old) (K.ticks ticker.new) }
     ensures way { IsDriverWay ways.now way.new }
 {
-    let _ = ways;
-    let _ = way;
     for k in 0..boards.len() {
         let board = &boards.as_slice()[k];
-        run_one(rt, board, &mut drivers[k], own, adopted, ticker, gate);
+        run_one(
+            rt,
+            board,
+            &mut drivers[k],
+            own,
+            adopted,
+            ways,
+            way,
+            ticker,
+            gate,
+        );
     }
 }

@@ -1,5 +1,6 @@
 //! Two squares into a sink that drives, over two epochs.
-ghost use Rattle.std.specs.Prelude.{◌≡◌, ◌≤◌, All, length};
+ghost use Rattle.std.specs.Prelude.{◌≡◌, ◌≤◌, All, IfOk, length};
+ghost use Rattle.data_loop.specs.LoopWay.{IsDriverWay};
 ghost use Rattle.data_loop.specs.Loops.{IsLoop, plan_of};
 ghost use Rattle.graph_run.specs.Assignment.{nodes_of_loop};
 ghost use Rattle.graph_run.specs.LoopsOnPlan.{IsReady, HasDrivers, HasNoDriver, AreFirstLeads, HasCome};
@@ -10,7 +11,7 @@ use crate::epochs::run_epochs;
 use crate::loops::loops_of;
 use board_rule::{Board, DriverSeat};
 use cycle_model::waves_fit;
-use data_loop::LoopState;
+use data_loop::{LoopState, Way, Ways};
 use pw_base::{
     Epoch, Every, Fresh, Items, Kind, Memory, Open, Plan, PlanNode, PortForm, PortId, Shape,
     ShapeLink, ShapeNode, is_sound_plan,
@@ -168,16 +169,46 @@ fn run_open<R: Wait>(
     drivers: &mut [DriverSeat],
     own: &mut LoopState,
     adopted: &mut [LoopState],
+    ways: &Ways,
+    way: &mut Way,
 )
     requires own { IsReady boards.now own.old }
     requires has { HasDrivers own.old }
     requires adopted { All (IsReady boards.now) adopted.old }
     requires none { All HasNoDriver adopted.old }
     requires drivers { AreFirstLeads own.old.score boards.now drivers.old }
+    requires way { IsDriverWay ways.now way.old }
     ensures own { HasCome (length boards.now) own.old own.new }
 {
     let mut ticker = Every::new(2);
-    run_epochs(rt, boards, drivers, own, adopted, &mut ticker, &Open::new());
+    run_epochs(
+        rt,
+        boards,
+        drivers,
+        own,
+        adopted,
+        ways,
+        way,
+        &mut ticker,
+        &Open::new(),
+    );
+}
+
+// The ways of the plan's three nodes, and that of the driver's thread, which runs all loops.
+fn ways_of(alloc: Global, plan: &Plan, loops: u32) -> Result<(Ways, Way), Memory>
+    requires few { loops ≤ 16 }
+    ensures { IfOk result (λ t. IsDriverWay t.0 t.1) }
+{
+    let owner = Items::from_slice(
+        alloc,
+        &[
+            loop_of(plan, loops, 0),
+            loop_of(plan, loops, 1),
+            loop_of(plan, loops, 2),
+        ],
+    )?;
+    let (ways, way, _others) = Ways::new(alloc, &owner, loops)?;
+    Ok((ways, way))
 }
 
 // All of the plan by one thread: its own loop, and so many that it adopted. What the sink has kept
@@ -204,12 +235,15 @@ fn kept_of<R: Wait>(
     let Some(mut own) = states.pop() else {
         return Ok(None);
     };
+    let (ways, mut way) = ways_of(alloc, plan, loops)?;
     run_open(
         rt,
         &boards,
         drivers.as_mut_slice(),
         &mut own,
         states.as_mut_slice(),
+        &ways,
+        &mut way,
     );
     sink_of(alloc, plan, loops, &own)
 }

@@ -2,6 +2,7 @@ use Rattle.std.proofs.Common.{ℕ, List, true≢false, refl, sym, ◌∙◌, sub
 use Rattle.board_rule.specs.OnBoard.{layout}
 use Rattle.board_rule.specs.Known.{Known}
 use Rattle.data_loop.specs.declared.loop_state.LoopState.{LoopState}
+use Rattle.data_loop.specs.LoopWay.{IsDriverWay}
 use Rattle.driver_cycle.specs.Leading.{IsBetween}
 use Rattle.driver_cycle.specs.Epochs.{HasGoneOn}
 use Rattle.driver_cycle.proofs.ThreadLemmas.{no_round, more_rounds}
@@ -16,6 +17,7 @@ loop-init g c = record {
   waits = c.requires.waits;
   cycle = refl;
   checked = sym c.requires.unchecked;
+  way = c.requires.way;
 }
 
 pub loop-preserved : goal.loop-preserved
@@ -28,6 +30,7 @@ loop-preserved g c = let r = c.if-go_round.ensures.round in record {
   waits = r.0;
   cycle = r.1 ∙ c.loop.invariant.cycle;
   checked = r.2;
+  way = c.go_round.ensures.way;
 }
 
 pub returns-clause-gone : goal.returns-clause-gone
@@ -46,4 +49,10 @@ pub returns-clause-between : goal.returns-clause-between
 returns-clause-between g c = elim c.match-next.branch [
   | in-None w ↦ absurd (true≢false (sym w.in-None.ensures.steps))
   | in-Some+then-go_round w ↦ subst (λ (x : Known). IsBetween (layout c.args.board.now) x.knows) (sym w.seat-is) w.if-go_round.ensures.round.0
+]
+
+pub returns-clause-way : goal.returns-clause-way
+returns-clause-way g c = elim c.match-next.branch [
+  | in-None w ↦ absurd (true≢false (sym w.in-None.ensures.steps))
+  | in-Some+then-go_round w ↦ subst (IsDriverWay c.args.ways.now) (sym w.way'-is) w.go_round.ensures.way
 ]

@@ -1,5 +1,6 @@
 use Rattle.std.proofs.Common.{◌≡◌}
 use Rattle.board_rule.specs.OnBoard.{layout}
+use Rattle.data_loop.specs.LoopWay.{IsDriverWay}
 use Rattle.driver_cycle.specs.Leading.{IsWaiting}
 use Rattle.driver_cycle.specs.Epochs.{HasGoneOn}
 use Rattle.driver_cycle.proofs.epoch.run_cycle.Given as goal
@@ -12,4 +13,5 @@ invariant-loop g l = record {
   waits : IsWaiting (layout l.board) l.seat.knows;
   cycle : l.seat.knows.lead.cycle ≡ l.fn.seat.knows.lead.cycle;
   checked : l.checked ≡ l.seat.knows.lead.checked;
+  way : IsDriverWay l.ways l.way;
 }

@@ -23,4 +23,5 @@ returns g c = let b = c.args.board.now in let p = layout b in let t = table_of b
       adopted = each_settled p t c.args.adopted.now c.run_cycles.new.adopted c.settle_all.new.states c.requires.adopted gone.turned
           c.settle_all.ensures.settled;
       looked = gone.looked;
+      way = c.run_cycles.ensures.way;
     }

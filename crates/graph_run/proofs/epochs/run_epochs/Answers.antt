@@ -52,4 +52,5 @@ loop-k-preserved g c = let i = c.loop-k.invariant in let k = c.loop-k.k in let l
           (get_or_default c.loop-k.drivers k c.index-drivers-k.result e inside ∙ i.led.left k e (omega arith)) c.run_one.ensures.led);
       looked = looked_more c.args.drivers.now c.loop-k.drivers k x c.index-drivers-k.result (g.K.Ticker.ticks c.args.ticker.now)
           (g.K.Ticker.ticks c.loop-k.ticker) (g.K.Ticker.ticks c.run_one.new.ticker) inside i.looked c.run_one.ensures.looked;
+      way = c.run_one.ensures.way;
     }

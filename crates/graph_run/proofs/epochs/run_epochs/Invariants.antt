@@ -1,4 +1,5 @@
 use Rattle.std.proofs.Common.{◌≡◌, length}
+use Rattle.data_loop.specs.LoopWay.{IsDriverWay}
 use Rattle.driver_cycle.specs.Settling.{AreEach}
 use Rattle.graph_run.specs.Leads.{HaveLed, HaveLooked}
 use Rattle.graph_run.specs.LoopsOnPlan.{HasCome}
@@ -11,4 +12,5 @@ invariant-loop-k g l = record {
   adopted : AreEach (HasCome l.k) l.fn.adopted l.adopted;
   led : HaveLed l.k l.boards l.fn.drivers l.drivers;
   looked : HaveLooked l.fn.drivers l.drivers (g.K.Ticker.ticks l.fn.ticker) (g.K.Ticker.ticks l.ticker);
+  way : IsDriverWay l.ways l.way;
 }

@@ -10,6 +10,7 @@ run_epoch-requires g c = let t = c.requires.thread in record {
   driver = t.driver;
   tied = t.tied;
   adopted = t.adopted_stand;
+  way = c.requires.way;
 }
 
 pub next_epoch-requires : goal.next_epoch-requires
