@@ -28,7 +28,9 @@ pub fn run_all<R: Wait, G: Gate>(
     ensures same { IsSameLoop state result.0 }
     ensures way { IsWayFor ways.now result.0 result.1 }
 {
-    let _ = (boards, ways, gate);
+    let _ = boards;
+    let _ = ways;
+    let _ = gate;
     for _ in rt.forever() {}
     (state, way)
 }

@@ -81,7 +81,8 @@ pub fn run_epochs<R: Wait, G: Gate, K: Ticker>(
         (K.ticks ticker.old) (K.ticks ticker.new) }
     ensures way { IsDriverWay ways.now way.new }
 {
-    let _ = (ways, way);
+    let _ = ways;
+    let _ = way;
     for k in 0..boards.len() {
         let board = &boards.as_slice()[k];
         run_one(rt, board, &mut drivers[k], own, adopted, ticker, gate);

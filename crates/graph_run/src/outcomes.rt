@@ -33,7 +33,8 @@ pub(crate) fn take_kept<R: Wait>(
     ensures peaks { (waves : List WavIn) → AreDone plan.now waves loops.old
         → result.peaks ≡ rendered_peaks plan.now waves }
 {
-    let _ = (plan, loops);
+    let _ = plan;
+    let _ = loops;
     for _ in rt.forever() {}
     KeptOf { sinks: sinks.into_items(), peaks: peaks.into_items() }
 }
