@@ -16,7 +16,7 @@ ghost use Rattle.graph_run.specs.Rooms.{AreRooms};
 
 use crate::closing::{ClosedBoards, close_all};
 use crate::outcomes::{KeptOf, take_kept};
-use crate::preparing::{Prepared, prepared};
+use crate::preparing::{Prepared, prepare};
 use crate::rooms::{Rooms, lists_for, rooms_for};
 use crate::scope::{Crew, Ended, run_threads};
 use board_rule::{Board, Closed};
@@ -101,7 +101,7 @@ pub fn run_plan<R: Threads + Wait + Sync, G: Gate + Sync, K: Ticker>(
         shared,
         loops: others,
         driving,
-    } = prepared(alloc, plan, waves, loops)?;
+    } = prepare(alloc, plan, waves, loops)?;
     let lists = lists_for(alloc, others.len())?;
     let rooms = rooms_for(alloc, plan)?;
     let crew = Crew {

@@ -75,7 +75,7 @@ pub(crate) struct Prepared {
 }
 
 /// What a run of a plan by `loops` loops begins with: boards, loops and queues.
-pub(crate) fn prepared(
+pub(crate) fn prepare(
     alloc: Global,
     plan: &Plan,
     waves: &Items<WavIn>,

@@ -70,7 +70,7 @@ fn run_unless<R: Wait, G: Gate>(
 }
 
 // Starts one loop. Where the start is refused the loop comes back, and is adopted.
-fn start<'s, E, R: Threads + Wait + Sync, G: Gate + Sync>(
+fn start_one<'s, E, R: Threads + Wait + Sync, G: Gate + Sync>(
     rt: &'s R,
     gate: &'s G,
     scope: &Scope<'s, E>,
@@ -112,7 +112,7 @@ fn start_unless<'s, E, R: Threads + Wait + Sync, G: Gate + Sync>(
     if adopt {
         return Start::Adopted(given.state);
     }
-    start(rt, gate, scope, shared, bit, given)
+    start_one(rt, gate, scope, shared, bit, given)
 }
 
 // Starts all loops, but for those that `adopt` names. Takes no memory but for the threads.

@@ -1,6 +1,6 @@
-use Rattle.std.proofs.Common.{◌≡◌, ◌<◌, ◌∙◌, ℕ, List, [], ◌∷◌, ◌++◌, length, sym, ap, subst, arith, length-append}
+use Rattle.std.proofs.Common.{◌≡◌, ◌<◌, ◌∙◌, ℕ, List, [], ◌∷◌, ◌++◌, length, sym, ap, subst, arith, length-append, append-nil}
 use Rattle.std.specs.Prelude.{All}
-use Rattle.std.proofs.lemmas.List.{append_assoc}
+use Rattle.std.proofs.lemmas.List.{append_assoc, nil_from_length}
 use Rattle.std.proofs.lemmas.List.Elements.{All-push, All-head, All-tail}
 use Rattle.graph_run.specs.declared.shared.LoopWay.{LoopWay}
 use Rattle.graph_run.specs.Threads.{CanStart}
@@ -28,3 +28,9 @@ loop-given-preserved g c = let i = c.loop-given.invariant in let steps = c.in-So
       count = omega (arith, size, count, grown);
       rooms = placed_rooms shared x can old new (length c.args.loops) start at room.0 room.1 room.2 i.rooms;
     }
+
+pub returns-clause-all : goal.returns-clause-all
+returns-clause-all g c = let i = c.loop-given.invariant in let rest = c.loop-given.given-iterator.rest in
+    let none = nil_from_length rest.items (sym rest.ok.0 ∙ c.in-None.ensures.steps.0) in
+    subst (All (λ (x : LoopWay). HasLoop c.loop-given.lists x.state.nodes))
+    (sym (i.rest ∙ (ap (λ (l : List LoopWay). c.loop-given.yielded ++ l) none ∙ append-nil c.loop-given.yielded))) i.all
