@@ -3,12 +3,15 @@ use Rattle.std.proofs.Common.{◌≡◌, ℕ, ◌<◌, List, [], ◌∷◌, ◌+
 use Rattle.std.specs.Prelude.{All, Contains}
 use Rattle.std.proofs.lemmas.List.{ext_get_or, get_or-map, length-map, map-append}
 use Rattle.std.proofs.lemmas.List.Elements.{All-append, All-cons, Contains-append_left, Contains-append_right}
+use Rattle.board_rule.specs.declared.board.Board.{Board}
+use Rattle.node_progress.specs.declared.score.Score.{Score}
 use Rattle.data_loop.specs.declared.loop_state.LoopState.{LoopState}
 use Rattle.driver_cycle.specs.Settling.{AreEach}
 use Rattle.graph_run.specs.declared.lists.Lists.{Lists}
 use Rattle.graph_run.specs.declared.leading.Driving.{Driving}
 use Rattle.graph_run.specs.declared.shared.LoopWay.{LoopWay}
 use Rattle.graph_run.specs.declared.shared.Shared.{Shared}
+use Rattle.graph_run.specs.LoopsOnPlan.{IsReady, HasCome}
 use Rattle.graph_run.specs.Outcomes.{HasNodeAt, AreDone}
 use Rattle.graph_run.specs.Threads.{CanRun, CanStart, CanDrive, HasRun, IsDoneWith, HasNode, nodes_with, nodes_under}
 use Rattle.graph_run.specs.Lists.{AreListed, HasLoop}
@@ -19,7 +22,7 @@ use Rattle.graph_run.proofs.ThreadLemmas.{done_with}
 has_node : (done : List LoopState) (ns : List ℕ) (n : ℕ) → Contains (nodes_with done) ns → Contains ns n → (i : ℕ) × HasNodeAt done n i
 has_node done ns n c own = let i = c.0 in let inside = c.1 in let long = length-map done (λ (s : LoopState). s.nodes) in
     let low : i < length done = omega (arith, inside, long) in
-    (i, low, λ d. subst (λ (l : List ℕ). Contains l n) (sym (sym (get_or-map (λ (s : LoopState). s.nodes) done i d ns low) ∙ c.2)) own)
+    (i, (low, λ d. subst (λ (l : List ℕ). Contains l n) (sym (sym (get_or-map (λ (s : LoopState). s.nodes) done i d ns low) ∙ c.2)) own))
 
 -- the adopted loops have the nodes that they had
 same_nodes : (old new : List LoopState) → AreEach HasRun old new → nodes_with new ≡ nodes_with old
@@ -76,3 +79,17 @@ module _ (shared : Shared) (d : Driving) (l : Lists) (can : CanDrive shared d) (
           has_node done (get_or loops c.0 x).state.nodes n (in_list (get_or loops c.0 x).state.nodes (all c.0 x c.1)) (c.2 x))
           (covers n low);
     }
+
+-- a loop that came through all epochs is done
+pub came : (boards : List Board) (s t : LoopState) → IsReady boards s → HasCome (length boards) s t → HasRun s t
+came boards s t ready come = record {
+  done = (come.between, come.epoch ∙ (ready.boards_are.count ∙ ap (λ (x : Score). length x.plan.value.epochs) (sym come.score)));
+  same = record { score = come.score; nodes = come.nodes };
+}
+
+pub each_came : (shared : Shared) (old new : List LoopState) → All (CanRun shared) old → AreEach (HasCome (length shared.boards)) old new
+    → AreEach HasRun old new
+each_came shared old new can h = record {
+  count = h.count;
+  each = λ k d low. came shared.boards (get_or old k d) (get_or new k d) (can k d low).ready (h.each k d low);
+}

@@ -10,3 +10,4 @@ pub mod ThreadLemmas
 pub mod DoneLemmas
 pub mod PrepareLemmas
 pub mod PlanRunLemmas
+pub mod SendLemmas
