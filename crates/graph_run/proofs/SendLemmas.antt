@@ -5,10 +5,8 @@ use Rattle.std.proofs.alloc.Global.TheSendSync as heap
 use Rattle.atomic_table.proofs.shared.Seat.TheSendSync as token
 use Rattle.atomic_table.proofs.shared.Shared.TheSendSync as words
 use Rattle.atomic_table.proofs.send_lease.SendLease.TheSendSync as lease
-use Rattle.circular_buffer.proofs.cells.Base.TheSendSync as base
 use Rattle.circular_buffer.proofs.cells.Cells.TheSendSync as cells
 use Rattle.circular_buffer.proofs.cells.Deed.TheSendSync as deed
-use Rattle.crossbeam_utils.proofs.sync.parker.RuledParker.TheSendSync as parker
 use Rattle.board_rule.specs.contracts.loop_seat.LoopSeat as seat_row
 use Rattle.board_rule.specs.contracts.board.Board as board_row
 use Rattle.buffer_pool.specs.contracts.pool.Pool as pool_row
@@ -29,7 +27,7 @@ pub seat_send : IsSend seat_row.the_row
 seat_send = search crossing depth 30
 
 pub pool_send : IsSend pool_row.the_row
-pool_send = search (crossing, base.the_send, cells.the_send, deed.the_send) depth 30
+pool_send = search (crossing, cells.the_send, deed.the_send) depth 30
 
 pub score_send : IsSend score_row.the_row
 score_send = search crossing depth 30
@@ -47,16 +45,28 @@ pub end_send : IsSend end_row.the_row
 end_send = search crossing depth 30
 
 pub way_send : IsSend way_row.the_row
-way_send = search (crossing, end_send, parker.the_send) depth 30
+way_send = search (crossing, end_send) depth 30
+
+-- the same as fields of a struct
+loop_field : IsSend loop_row.the_field.row
+loop_field = search (crossing, stage_send, node_send, score_send) depth 30 fits 50000
+
+way_field : IsSend way_row.the_field.row
+way_field = search (crossing, end_send) depth 30 fits 50000
 
 pub given_send : IsSend given_row.the_row
-given_send = search (crossing, loop_send, way_send) depth 30
+given_send = let a : IsSend loop_row.the_field.row = loop_field in let b : IsSend way_row.the_field.row = way_field in
+    search (sendable, loop_send, way_send) depth 30 fits 50000
+
+pub given_field : IsSend given_row.the_field.row
+given_field = let a : IsSend loop_row.the_field.row = loop_field in let b : IsSend way_row.the_field.row = way_field in
+    search (sendable, loop_send, way_send) depth 30 fits 50000
 
 pub score_sync : IsSync score_row.the_row
 score_sync = search crossing depth 30
 
 pub board_sync : IsSync board_row.the_row
-board_sync = search crossing depth 30
+board_sync = search crossing depth 30 fits 50000
 
 pub lane_sync : IsSync lane_row.the_row
 lane_sync = search crossing depth 30
@@ -65,4 +75,4 @@ pub ways_sync : IsSync ways_row.the_row
 ways_sync = search (crossing, lane_sync) depth 30
 
 pub shared_sync : IsSync shared_row.the_row
-shared_sync = search (crossing, board_sync, ways_sync, score_sync) depth 30
+shared_sync = search (crossing, board_sync) depth 30
