@@ -7,3 +7,8 @@ pub mod LoopLemmas
 pub mod EpochLemmas
 pub mod ReadyLemmas
 pub mod KeepingLemmas
+pub mod ThreadLemmas
+pub mod DoneLemmas
+pub mod PrepareLemmas
+pub mod PlanRunLemmas
+pub mod SendLemmas

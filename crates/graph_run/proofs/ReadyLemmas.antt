@@ -150,7 +150,7 @@ module _ (plan : Plan) (waves : List WavIn) (loops : ℕ) (sound : IsSoundPlan p
       ∙ (ap (seat_of plan waves loops i) (get_or-enumerate_from 0 boards k (k, b) low)
       ∙ (λ j. seat_of plan waves loops i (zero_add k j, get_or_from_slice_get boards k b b here j)))
 
-  driver_at : (k : ℕ) (b : Board) (d : Known) → slice_get boards k ≡ Some b
+  pub driver_at : (k : ℕ) (b : Board) (d : Known) → slice_get boards k ≡ Some b
       → get_or (map (driver_of plan waves loops) (enumerate_from 0 boards)) k d ≡ driver_of plan waves loops (k, b)
   driver_at k b d here = let low = slice_get_within boards k b here in let long = length-enumerate_from 0 boards in
       get_or-map (driver_of plan waves loops) (enumerate_from 0 boards) k (k, b) d (omega (arith, low, long))

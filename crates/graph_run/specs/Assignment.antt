@@ -37,3 +37,7 @@ epoch_board plan loops e = record {
   seat_of = seat_row plan loops e.shape;
   seats = loops + 1;
 }
+
+-- the loop of each node
+abbrev pub owner_row : Plan → ℕ → List ℕ
+owner_row plan loops = map (loop_of plan loops) (range_with_len 0 (length plan.nodes))

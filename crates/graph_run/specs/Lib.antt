@@ -6,3 +6,7 @@ pub mod LoopsOnPlan
 pub mod Leads
 pub mod PlanRun
 pub mod Outcomes
+pub mod Threads
+pub mod Lists
+pub mod Prepared
+pub mod Rooms

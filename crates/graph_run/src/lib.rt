@@ -10,9 +10,17 @@ mod assignment;
 mod boards;
 mod closing;
 mod epochs;
+mod joining;
+mod leading;
+mod lists;
 mod loops;
 mod outcomes;
 mod plan_run;
+mod preparing;
+mod rooms;
+mod scope;
+mod shared;
+mod starting;
 #[cfg(test)]
 mod tests;
 

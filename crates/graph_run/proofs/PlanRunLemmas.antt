@@ -1,0 +1,128 @@
+-- A run of a plan from its parts: boards, drivers' seats before and after it, and the closed boards.
+use Rattle.std.proofs.Common.{◌≡◌, ℕ, suc, cond, Bool, ◌+◌, ◌-◌, ◌*◌, ◌<◌, ◌≤◌, List, [], ◌∷◌, length, map, get_or, refl, sym, ap, ◌∙◌, subst, arith, Some, slice_get}
+use Rattle.std.specs.Prelude.{sum_by, count_by, sum}
+use Rattle.std.specs.List.{AllZip, enumerate_from, range_with_len, flat_map}
+use Rattle.std.proofs.lemmas.Bool.{ne_eqb}
+use Rattle.std.proofs.lemmas.Simd.{map-map}
+use Rattle.std.proofs.lemmas.List.{ext_get_or, get_or-map, length-map}
+use Rattle.std.proofs.lemmas.List.FromFn.{length-range_with_len, get_or-range_with_len, length-enumerate_from}
+use Rattle.std.proofs.lemmas.List.Sums.{sum-map, sum_by-cons}
+use Rattle.std.proofs.lemmas.Option.{slice_get_within, get_or_from_slice_get}
+use Rattle.pw_base.specs.declared.event.Event.{Event}
+use Rattle.pw_base.specs.declared.shape.Shape.{Shape}
+use Rattle.pw_base.specs.declared.plan.Epoch.{Epoch}
+use Rattle.pw_base.specs.declared.plan.Plan.{Plan}
+use Rattle.pw_base.specs.History.{is_tick, IsLegalHistory}
+use Rattle.pw_base.specs.Layout.{event_count}
+use Rattle.pw_base.specs.PlanSums.{events_of, epoch_events}
+use Rattle.pw_base.specs.SoundPlan.{IsSoundPlan}
+use Rattle.wav_files.specs.declared.wav.WavIn.{WavIn}
+use Rattle.cycle_model.specs.Expected.{expected_samples}
+use Rattle.board_rule.specs.declared.board.Board.{Board}
+use Rattle.board_rule.specs.declared.board.Closed.{Closed}
+use Rattle.board_rule.specs.declared.board_shape.BoardShape.{BoardShape}
+use Rattle.board_rule.specs.Closing.{expected}
+use Rattle.board_rule.specs.Known.{Known}
+use Rattle.board_rule.specs.View.{Samples}
+use Rattle.graph_run.specs.Assignment.{epoch_board}
+use Rattle.graph_run.specs.Boards.{driver_of}
+use Rattle.graph_run.specs.Closing.{HasEnded}
+use Rattle.graph_run.specs.Leads.{HaveLed, HaveLooked, checks_of}
+use Rattle.graph_run.specs.PlanRun.{IsRunOf}
+use Rattle.graph_run.proofs.EpochLemmas.{there}
+use Rattle.graph_run.proofs.ReadyLemmas.{driver_at}
+
+-- two lists place by place
+zip_from : {A B : Type 0} (R : A → B → Type 0) (xs : List A) (ys : List B) → length ys ≡ length xs
+    → ((i : ℕ) (x : A) (y : B) → slice_get xs i ≡ Some x → slice_get ys i ≡ Some y → R x y) → AllZip R xs ys
+zip_from R [] [] same each = tt
+zip_from R [] (y ∷ ys) same each = absurd (omega (arith, same))
+zip_from R (x ∷ xs) [] same each = absurd (omega (arith, same))
+zip_from R (x ∷ xs) (y ∷ ys) same each = (
+  each 0 x y refl refl,
+  zip_from R xs ys (omega (arith, same)) (λ i a b here there. each (suc i) a b here there),
+)
+
+module _ (plan : Plan) (waves : List WavIn) (loops : ℕ) where
+  -- what a driver's seat knows as its board gave it
+  driver_expects : (k : ℕ) (b : Board) → (driver_of plan waves loops (k, b)).knows.expect ≡ expected_samples plan waves k
+  driver_expects k b = ap (λ (z : Bool). cond z [] (expected_samples plan waves k)) (ne_eqb (loops + 1) 0 (λ (is : loops + 1 ≡ 0). omega (arith, is)))
+
+  none_checked : (bs : List (ℕ × Board)) → checks_of (map (driver_of plan waves loops) bs) ≡ 0
+  none_checked [] = refl
+  none_checked (b ∷ bs) = sum_by-cons (λ (s : Known). s.knows.lead.checks) (driver_of plan waves loops b) (map (driver_of plan waves loops) bs)
+      ∙ none_checked bs
+
+  module _ (sound : IsSoundPlan plan) (boards : List Board) (shapes : map (λ (b : Board). b.board_shape) boards ≡ map (epoch_board plan loops) plan.epochs) where
+    -- there is a board an epoch, and they have the events of the plan
+    pub board_count : length boards ≡ length plan.epochs
+    board_count = sym (length-map boards (λ (b : Board). b.board_shape)) ∙ (ap (λ (l : List BoardShape). length l) shapes
+        ∙ length-map plan.epochs (epoch_board plan loops))
+
+    shapes_are : map (λ (b : Board). b.board_shape.shape) boards ≡ map (λ (e : Epoch). e.shape) plan.epochs
+    shapes_are = sym (map-map (λ (x : BoardShape). x.shape) (λ (b : Board). b.board_shape) boards)
+        ∙ (ap (map (λ (x : BoardShape). x.shape)) shapes
+        ∙ map-map (λ (x : BoardShape). x.shape) (epoch_board plan loops) plan.epochs)
+
+    pub event_total : sum_by (λ (b : Board). event_count b.board_shape.shape) boards ≡ events_of plan
+    event_total = sym (sum-map (λ (b : Board). event_count b.board_shape.shape) boards)
+        ∙ (ap sum (sym (map-map event_count (λ (b : Board). b.board_shape.shape) boards)
+        ∙ (ap (map event_count) shapes_are ∙ map-map event_count (λ (e : Epoch). e.shape) plan.epochs))
+        ∙ sum-map epoch_events plan.epochs)
+
+    module _ (old new : List Known) (are : old ≡ map (driver_of plan waves loops) (enumerate_from 0 boards))
+        (led : HaveLed (length boards) boards old new) where
+      driver_count : length new ≡ length boards
+      driver_count = led.count ∙ (ap (λ (l : List Known). length l) are
+          ∙ (length-map (enumerate_from 0 boards) (driver_of plan waves loops) ∙ length-enumerate_from 0 boards))
+
+      was : (k : ℕ) (b : Board) (d : Known) → slice_get boards k ≡ Some b → get_or old k d ≡ driver_of plan waves loops (k, b)
+      was k b d here = ap (λ (l : List Known). get_or l k d) are ∙ driver_at plan waves loops sound boards shapes k b d here
+
+      -- the drivers' seats have ended their boards
+      pub have_ended : AllZip HasEnded boards new
+      have_ended = zip_from HasEnded boards new driver_count (λ k b s here now.
+          let h = led.each k b s (slice_get_within boards k b here) here in
+          subst (HasEnded b) (get_or_from_slice_get new k s s now)
+          (h.table ∙ ap (λ (x : Known). x.table) (was k b s here), h.ended))
+
+      expect_at : (k : ℕ) → k < length new → get_or (map (λ (s : Known). s.knows.expect) new) k [] ≡ expected_samples plan waves k
+      expect_at k low = let n = driver_count in let inside : k < length boards = omega (arith, low, n) in
+          let b : Board = (there boards k inside).0 in let here = (there boards k inside).1 in
+          let d : Known = (there new k low).0 in
+          get_or-map (λ (s : Known). s.knows.expect) new k d [] low
+          ∙ ((led.each k b d inside here).expect ∙ (ap (λ (s : Known). s.knows.expect) (was k b d here)
+          ∙ driver_expects k b))
+
+      expects : map (λ (s : Known). s.knows.expect) new ≡ map (expected_samples plan waves) (range_with_len 0 (length plan.epochs))
+      expects = let n = driver_count in let m = board_count in
+          let a = length-map new (λ (s : Known). s.knows.expect) in
+          let r = length-range_with_len 0 (length plan.epochs) in
+          let b = length-map (range_with_len 0 (length plan.epochs)) (expected_samples plan waves) in
+          ext_get_or [] (map (λ (s : Known). s.knows.expect) new) (map (expected_samples plan waves) (range_with_len 0 (length plan.epochs)))
+          (omega (arith, n, m, a, b, r)) (λ k low.
+          let inside : k < length new = omega (arith, low, a) in let within : k < length plan.epochs = omega (arith, inside, n, m) in
+          expect_at k inside
+          ∙ (ap (expected_samples plan waves) (sym (get_or-range_with_len 0 (length plan.epochs) k 0 within ∙ zero_plus k))
+          ∙ sym (get_or-map (expected_samples plan waves) (range_with_len 0 (length plan.epochs)) k 0 [] (omega (arith, within, r)))))
+        where
+          zero_plus : (k : ℕ) → 0 + k ≡ k
+          zero_plus k = omega arith
+
+      -- THE RUN
+      pub run_is : (history : List Event) (closed : List Closed) (m n : ℕ)
+          → map (λ (x : Closed). x.board_shape) closed ≡ map (λ (b : Board). b.board_shape) boards
+          → map expected closed ≡ map (λ (s : Known). s.knows.expect) new
+          → history ≡ flat_map (λ (x : Closed). x.events) closed
+          → IsLegalHistory (map (λ (b : Board). b.board_shape.shape) boards) history
+          → count_by is_tick history ≡ checks_of new → HaveLooked old new m n → IsRunOf plan waves loops history closed m n
+      run_is history closed m n closed_shapes closed_expect events legal ticks looked =
+          let none : checks_of old ≡ 0 = ap checks_of are ∙ none_checked (enumerate_from 0 boards) in
+          let most = looked.most in record {
+            boards = closed_shapes ∙ shapes;
+            tables = closed_expect ∙ expects;
+            events = events;
+            legal = subst (λ (l : List Shape). IsLegalHistory l history) shapes_are legal;
+            most = omega (arith, ticks, none, most);
+            some = λ less. let first = looked.some less in omega (arith, ticks, none, first);
+          }

@@ -1,0 +1,7 @@
+use Rattle.std.proofs.Common.{◌≡◌, take}
+use Rattle.std.specs.Prelude.{sum_by}
+use Rattle.pw_base.specs.PlanSums.{epoch_events}
+use Rattle.graph_run.proofs.rooms.all_events.Given as goal
+
+abbrev pub invariant-loop-epoch : goal.invariant-loop-epoch
+invariant-loop-epoch l = l.sum ≡ sum_by epoch_events (take l.epoch-index l.epoch-items)

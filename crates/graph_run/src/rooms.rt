@@ -1,0 +1,76 @@
+//! The room that a run needs, taken before its first cycle.
+ghost use Rattle.std.specs.Prelude.{◌≡◌, ◌≤◌, IfOk, IfSome};
+ghost use Rattle.pw_base.specs.Layout.{event_count};
+ghost use Rattle.pw_base.specs.PlanSums.{events_of};
+ghost use Rattle.graph_run.specs.Lists.{AreEmpty, HaveRooms};
+ghost use Rattle.graph_run.specs.Rooms.{AreRooms};
+
+use crate::lists::Lists;
+use board_rule::Closed;
+use pw_base::{Event, Items, Memory, Plan, Room, Shape};
+use std::alloc::Global;
+use wav_files::{Kept, Peak};
+
+// The events of an epoch, where their number fits.
+fn epoch_events(shape: &Shape) -> Option<usize>
+    ensures { IfSome result (λ n. n ≡ event_count shape.now) }
+{
+    let nodes = 2usize.checked_mul(shape.nodes.len())?;
+    (shape.cycles as usize).checked_mul(nodes.checked_add(3)?)
+}
+
+// The events of all epochs, where their number fits.
+fn all_events(plan: &Plan) -> Option<usize>
+    ensures { IfSome result (λ n. n ≡ events_of plan.now) }
+{
+    let mut sum = 0usize;
+    for epoch in plan.epochs.as_slice() {
+        sum = sum.checked_add(epoch_events(&epoch.shape)?)?;
+    }
+    Some(sum)
+}
+
+/// Lists for `count` loops beside the driver's own. They are empty.
+pub(crate) fn lists_for(alloc: Global, count: usize) -> Result<Lists, Memory>
+    requires few { count ≤ 16 }
+    ensures empty { IfOk result AreEmpty }
+    ensures rooms { IfOk result (HaveRooms count) }
+{
+    let running = Items::new(alloc).into_room(count)?;
+    let adopted = Items::new(alloc).into_room(count)?;
+    let done = Items::new(alloc).into_room(count + 1)?;
+    Ok(Lists {
+        running,
+        adopted,
+        done,
+    })
+}
+
+/// Empty lists for what a run answers: the closed boards and all their events, and what the sinks
+/// and meters have kept.
+#[derive(Drop)]
+pub(crate) struct Rooms {
+    pub closed: Room<Closed>,
+    pub history: Room<Event>,
+    pub sinks: Room<Kept>,
+    pub peaks: Room<Peak>,
+}
+
+/// Rooms for a run of the plan. `Memory` also where the number of its events does not fit.
+pub(crate) fn rooms_for(alloc: Global, plan: &Plan) -> Result<Rooms, Memory>
+    ensures { IfOk result (AreRooms plan.now) }
+{
+    let Some(events) = all_events(plan) else {
+        return Err(Memory);
+    };
+    let closed = Items::new(alloc).into_room(plan.epochs.len())?;
+    let history = Items::new(alloc).into_room(events)?;
+    let sinks = Items::new(alloc).into_room(plan.nodes.len())?;
+    let peaks = Items::new(alloc).into_room(plan.nodes.len())?;
+    Ok(Rooms {
+        closed,
+        history,
+        sinks,
+        peaks,
+    })
+}

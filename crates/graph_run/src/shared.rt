@@ -1,0 +1,23 @@
+//! What all threads of a run share.
+use board_rule::Board;
+use data_loop::{LoopState, Way, Ways};
+use node_progress::Score;
+use pw_base::Items;
+use std::sync::atomic::AtomicU64;
+
+/// The boards of a run in the order of the epochs, and what its threads have of the queues. Bit k
+/// of `refused` says that loop k could not be started.
+#[derive(Drop)]
+pub(crate) struct Shared {
+    pub boards: Items<Board>,
+    pub ways: Ways,
+    pub refused: AtomicU64,
+    pub score: Score,
+}
+
+/// A loop before the run, and its way to the queues.
+#[derive(Drop)]
+pub(crate) struct LoopWay {
+    pub state: LoopState,
+    pub way: Way,
+}

@@ -1,0 +1,144 @@
+//! How the loops of a run are started in threads of their own.
+ghost use Rattle.std.specs.Prelude.{◌≡◌, ◌<◌, ◌≤◌, All, IfOk, IfErr, length};
+ghost use Rattle.graph_run.specs.Threads.{CanStart, HasRun, IsStart};
+ghost use Rattle.graph_run.specs.Lists.{AreEmpty, HaveRooms, AreListed, HasLoop, size};
+
+use crate::lists::Lists;
+use crate::shared::{LoopWay, Shared};
+use data_loop::{LoopState, run_all};
+use pw_base::{Gate, Items};
+use std::snapshot::Snapshot;
+use std::sync::Wait;
+use std::sync::atomic::Ordering;
+use std::thread::{Promise, PromisedHandle, Scope, Threads};
+
+/// What a loop's thread gives back: the loop that it was given, after all epochs, or as it was.
+#[derive(Drop)]
+pub(crate) struct SameLoop {
+    pub given: Snapshot<LoopWay>,
+}
+
+impl Promise<Result<LoopState, LoopWay>> for SameLoop {
+    ghost use Rattle.graph_run.specs.Threads.{Returns};
+
+    ghost kept_by = { λ p r. Returns p.given.value r };
+}
+
+/// The handle of a loop's thread.
+pub(crate) type LoopHandle = PromisedHandle<Result<LoopState, LoopWay>, SameLoop>;
+
+/// What became of a loop's start: it runs in a thread of its own, the driver's thread has it, or it
+/// has done all epochs already.
+#[derive(Drop)]
+pub(crate) enum Start {
+    Running(LoopHandle),
+    Adopted(LoopState),
+    Done(LoopState),
+}
+
+// All epochs of a loop.
+pub(crate) fn run_loop<R: Wait, G: Gate>(
+    rt: &R,
+    gate: &G,
+    shared: &Shared,
+    given: LoopWay,
+) -> LoopState
+    requires { CanStart shared.now given }
+    ensures { HasRun given.state result }
+{
+    let LoopWay { state, way } = given;
+    let (state, _way) = run_all(rt, state, &shared.boards, &shared.ways, way, gate);
+    state
+}
+
+// What a loop's thread runs: nothing where its start was refused, which its bit says.
+fn run_unless<R: Wait, G: Gate>(
+    rt: &R,
+    gate: &G,
+    shared: &Shared,
+    bit: u64,
+    given: LoopWay,
+) -> Result<LoopState, LoopWay>
+    requires { CanStart shared.now given }
+    ensures ok { IfOk result (HasRun given.state) }
+    ensures err { IfErr result (λ back. back ≡ given) }
+{
+    if shared.refused.load(Ordering::SeqCst) & bit != 0 {
+        return Err(given);
+    }
+    Ok(run_loop(rt, gate, shared, given))
+}
+
+// Starts one loop. Where the start is refused the loop comes back, and is adopted.
+fn start_one<'s, E, R: Threads + Wait + Sync, G: Gate + Sync>(
+    rt: &'s R,
+    gate: &'s G,
+    scope: &Scope<'s, E>,
+    shared: &'s Shared,
+    bit: u64,
+    given: LoopWay,
+) -> Start
+    requires { CanStart shared.now given }
+    ensures { IsStart given result }
+{
+    let promise = SameLoop {
+        given: Snapshot::of(&given),
+    };
+    match scope.spawn_with(promise, move || run_unless(rt, gate, shared, bit, given)) {
+        Ok(handle) => Start::Running(handle),
+        Err(back) => {
+            shared.refused.fetch_or(bit, Ordering::SeqCst);
+            match (back.value)() {
+                Ok(state) => Start::Done(state),
+                Err(given) => Start::Adopted(given.state),
+            }
+        }
+    }
+}
+
+// Starts one loop, or adopts it.
+fn start_unless<'s, E, R: Threads + Wait + Sync, G: Gate + Sync>(
+    rt: &'s R,
+    gate: &'s G,
+    scope: &Scope<'s, E>,
+    shared: &'s Shared,
+    bit: u64,
+    adopt: bool,
+    given: LoopWay,
+) -> Start
+    requires { CanStart shared.now given }
+    ensures { IsStart given result }
+{
+    if adopt {
+        return Start::Adopted(given.state);
+    }
+    start_one(rt, gate, scope, shared, bit, given)
+}
+
+// Starts all loops, but for those that `adopt` names. Takes no memory but for the threads.
+pub(crate) fn start_all<'s, E, R: Threads + Wait + Sync, G: Gate + Sync>(
+    rt: &'s R,
+    gate: &'s G,
+    scope: &Scope<'s, E>,
+    shared: &'s Shared,
+    loops: Items<LoopWay>,
+    adopt: &[bool],
+    lists: &mut Lists,
+)
+    requires loops { All (CanStart shared.now) loops }
+    requires adopt { length adopt.now ≡ length loops }
+    requires empty { AreEmpty lists.old }
+    requires rooms { HaveRooms (length loops) lists.old }
+    ensures listed { AreListed shared.now lists.new }
+    ensures all { All (λ given. HasLoop lists.new given.state.nodes) loops }
+    ensures count { size lists.new ≡ length loops }
+    ensures rooms { HaveRooms (length loops) lists.new }
+{
+    let mut k = 0;
+    let mut bit = 1u64;
+    for given in loops.into_vec() {
+        lists.place(start_unless(rt, gate, scope, shared, bit, adopt[k], given));
+        k += 1;
+        bit = bit.rotate_left(1);
+    }
+}
