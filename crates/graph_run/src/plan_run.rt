@@ -3,6 +3,7 @@ ghost use Rattle.std.specs.Prelude.{◌≡◌, ◌≤◌, All, IfOk, length, map
 ghost use Rattle.std.specs.List.{AllZip, flat_map};
 ghost use Rattle.pw_base.specs.History.{is_tick, IsLegalHistory};
 ghost use Rattle.pw_base.specs.Layout.{event_count};
+ghost use Rattle.pw_base.specs.Limits.{dummy_node};
 ghost use Rattle.pw_base.specs.SoundPlan.{IsSoundPlan};
 ghost use Rattle.wav_files.specs.WavWriting.{IsWave};
 ghost use Rattle.cycle_model.specs.Rendering.{rendered_sinks, rendered_peaks};
@@ -27,14 +28,15 @@ use std::thread::Threads;
 use wav_files::{Outcome, WavIn};
 
 // The answer of a run that has ended. Takes no memory.
-fn answer<R: Wait>(
-    rt: &R,
+fn answer(
+    alloc: Global,
     plan: &Plan,
     waves: &Items<WavIn>,
     boards: Items<Board>,
     ended: Ended,
     rooms: Rooms,
 ) -> (Outcome, Items<Closed>)
+    requires few { length plan.now.nodes ≤ dummy_node }
     requires done { AreDone plan.now waves.now ended.done }
     requires ended { AllZip HasEnded boards ended.drivers }
     requires rooms { AreRooms plan.now rooms }
@@ -58,7 +60,7 @@ fn answer<R: Wait>(
         peaks,
     } = rooms;
     let mut done = done.into_vec();
-    let KeptOf { sinks, peaks } = take_kept(rt, plan, done.as_mut_slice(), sinks, peaks);
+    let KeptOf { sinks, peaks } = take_kept(alloc, plan, done.as_mut_slice(), sinks, peaks);
     let ClosedBoards { closed, history } = close_all(boards, drivers, closed, history);
     let outcome = Outcome {
         history,
@@ -110,5 +112,5 @@ pub fn run_plan<R: Threads + Wait + Sync, G: Gate + Sync, K: Ticker>(
         lists,
     };
     let (ended, _ticker) = run_threads(rt, gate, &shared, crew, adopt, ticker);
-    Ok(answer(rt, plan, waves, shared.boards, ended, rooms))
+    Ok(answer(alloc, plan, waves, shared.boards, ended, rooms))
 }
