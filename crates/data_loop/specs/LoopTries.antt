@@ -28,7 +28,8 @@ pub record HasRunAt (p : BoardLayout) (g : Stage) (n : ℕ) (h : Stage) : Type 0
 
 -- THE ANSWER of a try of the node n: it ran, or nothing of it was done but for one try, where it
 -- follows and has cycles left, which found another word than TRIGGERED of its next cycle
-abbrev pub IsDidAt : BoardLayout → Stage → ℕ → Did → List (ℕ × ℕ) → Stage → Type 0
+abbrev pub IsDidAt : BoardLayout → Stage → ℕ → Did → List (ℕ × ℕ) → Stage
+    → Type 0
 IsDidAt p g n (Ran node) found h = (node ≡ n) × (found ≡ []) × HasRunAt p g n h
 IsDidAt p g n Idle found h =
     HaveTried p g.seat.knows (members_at n g.members) found h.seat.knows

@@ -37,8 +37,8 @@ pub struct Stage {
 
 // The index of the member of a node.
 fn index_of(members: &[Member], node: u32) -> Option<usize>
-    ensures some { IfSome result
-        (λ i. (i < length members.now) × ((slice_index_or members.now i no_member).node ≡ node)) }
+    ensures some { IfSome result (λ i. (i < length members.now)
+        × ((slice_index_or members.now i no_member).node ≡ node)) }
     ensures none { IfNone result (All (λ m. m.node ≢ node) members.now) }
 {
     for index in 0..members.len() {

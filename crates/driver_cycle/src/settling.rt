@@ -4,10 +4,9 @@ ghost use Rattle.board_rule.specs.OnBoard.{layout, table_of};
 ghost use Rattle.data_loop.specs.LoopsOnBoards.{IsOnBoard};
 ghost use Rattle.driver_cycle.specs.Settling.{HasSettled, AreEach};
 
-pub use data_loop::settle;
-
 use board_rule::Board;
 use data_loop::LoopState;
+pub use data_loop::settle;
 use pw_base::Gate;
 use std::sync::Wait;
 
