@@ -19,16 +19,22 @@ use Rattle.pw_base.specs.SoundPlan.{IsSoundPlan}
 use Rattle.wav_files.specs.declared.wav.WavIn.{WavIn}
 use Rattle.cycle_model.specs.Expected.{expected_samples}
 use Rattle.board_rule.specs.declared.board.Board.{Board}
-use Rattle.board_rule.specs.declared.board.Closed.{Closed}
+use Rattle.board_rule.specs.declared.closed.Closed.{Closed}
 use Rattle.board_rule.specs.declared.board_shape.BoardShape.{BoardShape}
 use Rattle.board_rule.specs.Closing.{expected}
 use Rattle.board_rule.specs.Known.{Known}
 use Rattle.board_rule.specs.View.{Samples}
+use Rattle.data_loop.specs.declared.loop_state.LoopState.{LoopState}
+use Rattle.graph_run.specs.declared.lists.Lists.{Lists}
+use Rattle.graph_run.specs.declared.preparing.Prepared.{Prepared}
 use Rattle.graph_run.specs.Assignment.{epoch_board}
 use Rattle.graph_run.specs.Boards.{driver_of}
 use Rattle.graph_run.specs.Closing.{HasEnded}
 use Rattle.graph_run.specs.Leads.{HaveLed, HaveLooked, checks_of}
+use Rattle.graph_run.specs.Lists.{AreEmpty, HaveRooms}
+use Rattle.graph_run.specs.Outcomes.{AreDone}
 use Rattle.graph_run.specs.PlanRun.{IsRunOf}
+use Rattle.graph_run.specs.Prepared.{IsPrepared, IsCrew}
 use Rattle.graph_run.proofs.EpochLemmas.{there}
 use Rattle.graph_run.proofs.ReadyLemmas.{driver_at}
 
@@ -126,3 +132,18 @@ module _ (plan : Plan) (waves : List WavIn) (loops : ℕ) where
             most = omega (arith, ticks, none, most);
             some = λ less. let first = looked.some less in omega (arith, ticks, none, first);
           }
+
+-- what the threads begin with, and all loops in the end, from what was prepared
+module _ (plan : Plan) (waves : List WavIn) (loops : ℕ) (p : Prepared) (is : IsPrepared plan waves loops p) where
+  pub crew : (lists : Lists) → AreEmpty lists → HaveRooms (length p.loops) lists
+      → IsCrew p.shared (record { loops = p.loops; driving = p.driving; lists = lists })
+  crew lists empty rooms = record {
+    can_start = is.can_start;
+    can_drive = is.can_drive;
+    nodes = λ n low. is.nodes n (subst (λ (x : Plan). n < length x.nodes) is.plan_is low);
+    empty = empty;
+    rooms = rooms;
+  }
+
+  pub done_of : (done : List LoopState) → AreDone p.shared.score.plan.value p.shared.score.waves.value done → AreDone plan waves done
+  done_of done h = subst (λ (x : Plan × List WavIn). AreDone x.0 x.1 done) (λ j. (is.plan_is j, is.waves_are j)) h

@@ -26,6 +26,16 @@ use Rattle.graph_run.specs.Threads.{CanRun, CanStart, CanDrive, HasNode}
 use Rattle.graph_run.proofs.AssignmentLemmas.{most_loop}
 use Rattle.graph_run.proofs.ReadyLemmas.{short, own_ready, own_has, own_is, others_ready, others_none, is_in}
 
+-- the loops of all nodes
+module _ (plan : Plan) (loops : ℕ) where
+  pub owner_count : length (owner_row plan loops) ≡ length plan.nodes
+  owner_count = length-map (range_with_len 0 (length plan.nodes)) (loop_of plan loops) ∙ length-range_with_len 0 (length plan.nodes)
+
+  pub owners_most : All (λ l. l ≤ loops) (owner_row plan loops)
+  owners_most k d low = let a = length-map (range_with_len 0 (length plan.nodes)) (loop_of plan loops) in
+      let is = get_or-map (loop_of plan loops) (range_with_len 0 (length plan.nodes)) k 0 d (omega (arith, low, a)) in
+      let most = most_loop plan loops (get_or (range_with_len 0 (length plan.nodes)) k 0) in omega (arith, is, most)
+
 -- a node that the queues give to a loop is one of the loop's
 module _ (plan : Plan) (loops n k : ℕ) (of : IsNodeOf (owner_row plan loops) k n) where
   owned_low : n < length plan.nodes
