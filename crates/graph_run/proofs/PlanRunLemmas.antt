@@ -56,8 +56,9 @@ module _ (plan : Plan) (waves : List WavIn) (loops : ℕ) where
 
   none_checked : (bs : List (ℕ × Board)) → checks_of (map (driver_of plan waves loops) bs) ≡ 0
   none_checked [] = refl
-  none_checked (b ∷ bs) = sum_by-cons (λ (s : Known). s.knows.lead.checks) (driver_of plan waves loops b) (map (driver_of plan waves loops) bs)
-      ∙ none_checked bs
+  none_checked (b ∷ bs) =
+      let first = sum_by-cons (λ (s : Known). s.knows.lead.checks) (driver_of plan waves loops b) (map (driver_of plan waves loops) bs) in
+      let others = none_checked bs in omega (arith, first, others)
 
   module _ (sound : IsSoundPlan plan) (boards : List Board) (shapes : map (λ (b : Board). b.board_shape) boards ≡ map (epoch_board plan loops) plan.epochs) where
     -- there is a board an epoch, and they have the events of the plan
