@@ -15,7 +15,7 @@ run_threads-ended-requires-clause-crew g c κs within = let lists = c.in_ok-list
 pub answer-requires-clause-ended : goal.answer-requires-clause-ended
 answer-requires-clause-ended g c = let p = c.in_ok-shared.field-0 in let is = c.in_ok-shared.ensures in
     have_ended c.args.plan.now c.args.waves.now c.args.loops c.requires.sound p.shared.boards is.shapes p.driving.drivers
-    c.run_threads-ended.result.0.drivers is.drivers c.run_threads-ended.ensures.drivers
+    c.run_threads-ended.result.drivers is.drivers c.run_threads-ended.ensures.drivers
 
 pub answer-requires-clause-events : goal.answer-requires-clause-events
 answer-requires-clause-events g c = let p = c.in_ok-shared.field-0 in let is = c.in_ok-shared.ensures in
@@ -25,8 +25,8 @@ answer-requires-clause-events g c = let p = c.in_ok-shared.field-0 in let is = c
 pub returns-clause-run : goal.returns-clause-run
 returns-clause-run g c = let p = c.in_ok-shared.field-0 in let is = c.in_ok-shared.ensures in let a = c.answer.ensures in
     run_is c.args.plan.now c.args.waves.now c.args.loops c.requires.sound p.shared.boards is.shapes p.driving.drivers
-    c.run_threads-ended.result.0.drivers is.drivers c.run_threads-ended.ensures.drivers c.answer.result.0.history c.answer.result.1
-    (g.K.Ticker.ticks c.args.ticker.now) (g.K.Ticker.ticks c.run_threads-ended.result.1.now)
+    c.run_threads-ended.result.drivers is.drivers c.run_threads-ended.ensures.drivers c.answer.result.0.history c.answer.result.1
+    (g.K.Ticker.ticks c.args.ticker.now) (g.K.Ticker.ticks c.run_threads-ended.new.ticker)
     a.shapes a.expect a.history a.legal a.ticks c.run_threads-ended.ensures.looked
 
 pub returns-clause-waves : goal.returns-clause-waves
