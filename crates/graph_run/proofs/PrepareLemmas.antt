@@ -110,11 +110,15 @@ module _ (plan : Plan) (waves : List WavIn) (loops : ℕ) (shared : Shared) (xs 
     pub all_nodes : (n : ℕ) → n < length plan.nodes → HasNode own pairs n
     all_nodes n low = let k = loop_of plan loops n in let most = most_loop plan loops n in let many = pair_count in ⊎_elim
         (λ (less : k < loops). let inside : k < length pairs = omega (arith, less, many) in
-        inr (k, inside, λ x. let same = as_many in
-        subst (λ (l : List ℕ). Contains l n)
-        (sym (subst (λ (s : LoopState). s.nodes ≡ nodes_of_loop plan loops k) (state_at k x inside)
-        (other_is k x.state (omega (arith, inside, same))).nodes_are))
-        (is_in plan loops k n low refl)))
+        inr (
+          k,
+          inside,
+          λ x. let same = as_many in
+              subst (λ (l : List ℕ). Contains l n)
+              (sym (subst (λ (s : LoopState). s.nodes ≡ nodes_of_loop plan loops k) (state_at k x inside)
+              (other_is k x.state (omega (arith, inside, same))).nodes_are))
+              (is_in plan loops k n low refl),
+        ))
         (λ (past : loops ≤ k). let last : k ≡ loops = omega (arith, past, most) in
         inl (subst (λ (l : List ℕ). Contains l n) (sym (own_is shared.boards loops xs own ready plan waves rows are).nodes_are)
         (is_in plan loops loops n low last)))

@@ -21,11 +21,14 @@ use Rattle.graph_run.specs.Lists.{HasPlaced, HaveRooms, AreListed, HasLoop, size
 
 -- before the run a loop is between two epochs
 pub under_way : (boards : List Board) (s : LoopState) → IsReady boards s → IsUnderWay boards s
-under_way boards s h = inl (h.between, record {
-  count = h.boards_are.count;
-  shape = h.boards_are.shape;
-  seat = λ j b g past here at. h.boards_are.seat j b g here at;
-})
+under_way boards s h = inl (
+  h.between,
+  record {
+    count = h.boards_are.count;
+    shape = h.boards_are.shape;
+    seat = λ j b g past here at. h.boards_are.seat j b g here at;
+  },
+)
 
 -- after it the loop is one of the run's plan
 pub done_with : (shared : Shared) (s t : LoopState) → plan_of s ≡ shared.score.plan.value → s.score.waves.value ≡ shared.score.waves.value

@@ -62,7 +62,8 @@ IsStart given (Done s) = HasRun given.state s
 abbrev pub nodes_with : List LoopState → List (List ℕ)
 nodes_with states = map (λ s. s.nodes) states
 
-abbrev pub nodes_under : List (PromisedHandle (Result LoopState LoopWay) SameLoop) → List (List ℕ)
+abbrev pub nodes_under : List (PromisedHandle (Result LoopState LoopWay) SameLoop)
+    → List (List ℕ)
 nodes_under handles = map (λ h. h.promise.given.value.state.nodes) handles
 
 -- a node is one of the driver's own loop, or of one of the others
