@@ -1,5 +1,5 @@
 -- A run of a plan from its parts: boards, drivers' seats before and after it, and the closed boards.
-use Rattle.std.proofs.Common.{◌≡◌, ℕ, suc, cond, Bool, ◌+◌, ◌-◌, ◌*◌, ◌<◌, ◌≤◌, List, [], ◌∷◌, length, map, get_or, refl, sym, ap, ◌∙◌, subst, arith, Some, slice_get}
+use Rattle.std.proofs.Common.{◌≡◌, ℕ, suc, cond, Bool, ◌+◌, ◌<◌, List, [], ◌∷◌, length, map, get_or, refl, sym, ap, ◌∙◌, subst, arith, Some, slice_get}
 use Rattle.std.specs.Prelude.{sum_by, count_by, sum}
 use Rattle.std.specs.List.{AllZip, enumerate_from, range_with_len, flat_map}
 use Rattle.std.proofs.lemmas.Bool.{ne_eqb}
@@ -23,7 +23,6 @@ use Rattle.board_rule.specs.declared.closed.Closed.{Closed}
 use Rattle.board_rule.specs.declared.board_shape.BoardShape.{BoardShape}
 use Rattle.board_rule.specs.Closing.{expected}
 use Rattle.board_rule.specs.Known.{Known}
-use Rattle.board_rule.specs.View.{Samples}
 use Rattle.data_loop.specs.declared.loop_state.LoopState.{LoopState}
 use Rattle.graph_run.specs.declared.lists.Lists.{Lists}
 use Rattle.graph_run.specs.declared.preparing.Prepared.{Prepared}
