@@ -1,5 +1,5 @@
 -- After the run all loops are done, and each node of the plan is one of some loop.
-use Rattle.std.proofs.Common.{◌≡◌, ℕ, ◌<◌, List, [], ◌∷◌, ◌++◌, length, map, get_or, refl, sym, ap, ◌∙◌, subst, arith, ⊎_elim}
+use Rattle.std.proofs.Common.{◌≡◌, ℕ, ◌<◌, List, [], ◌∷◌, ◌++◌, length, get_or, refl, sym, ap, ◌∙◌, subst, arith, ⊎_elim}
 use Rattle.std.specs.Prelude.{All, Contains}
 use Rattle.std.proofs.lemmas.List.{ext_get_or, get_or-map, length-map, map-append}
 use Rattle.std.proofs.lemmas.List.Elements.{All-append, All-cons, Contains-append_left, Contains-append_right}
@@ -13,7 +13,7 @@ use Rattle.graph_run.specs.declared.shared.LoopWay.{LoopWay}
 use Rattle.graph_run.specs.declared.shared.Shared.{Shared}
 use Rattle.graph_run.specs.LoopsOnPlan.{IsReady, HasCome}
 use Rattle.graph_run.specs.Outcomes.{HasNodeAt, AreDone}
-use Rattle.graph_run.specs.Threads.{CanRun, CanStart, CanDrive, HasRun, IsDoneWith, HasNode, nodes_with, nodes_under}
+use Rattle.graph_run.specs.Threads.{CanRun, CanDrive, HasRun, IsDoneWith, HasNode, nodes_with, nodes_under}
 use Rattle.graph_run.specs.Lists.{AreListed, HasLoop}
 use Rattle.graph_run.proofs.EpochLemmas.{there}
 use Rattle.graph_run.proofs.ThreadLemmas.{done_with}

@@ -1,5 +1,5 @@
 -- A run of a plan from its parts: boards, drivers' seats before and after it, and the closed boards.
-use Rattle.std.proofs.Common.{◌≡◌, ℕ, suc, cond, Bool, ◌+◌, ◌-◌, ◌*◌, ◌<◌, ◌≤◌, List, [], ◌∷◌, length, map, get_or, refl, sym, ap, ◌∙◌, subst, arith, Some, slice_get}
+use Rattle.std.proofs.Common.{◌≡◌, ℕ, suc, cond, Bool, ◌+◌, ◌<◌, List, [], ◌∷◌, length, map, get_or, refl, sym, ap, ◌∙◌, subst, arith, Some, slice_get}
 use Rattle.std.specs.Prelude.{sum_by, count_by, sum}
 use Rattle.std.specs.List.{AllZip, enumerate_from, range_with_len, flat_map}
 use Rattle.std.proofs.lemmas.Bool.{ne_eqb}
@@ -19,16 +19,21 @@ use Rattle.pw_base.specs.SoundPlan.{IsSoundPlan}
 use Rattle.wav_files.specs.declared.wav.WavIn.{WavIn}
 use Rattle.cycle_model.specs.Expected.{expected_samples}
 use Rattle.board_rule.specs.declared.board.Board.{Board}
-use Rattle.board_rule.specs.declared.board.Closed.{Closed}
+use Rattle.board_rule.specs.declared.closed.Closed.{Closed}
 use Rattle.board_rule.specs.declared.board_shape.BoardShape.{BoardShape}
 use Rattle.board_rule.specs.Closing.{expected}
 use Rattle.board_rule.specs.Known.{Known}
-use Rattle.board_rule.specs.View.{Samples}
+use Rattle.data_loop.specs.declared.loop_state.LoopState.{LoopState}
+use Rattle.graph_run.specs.declared.lists.Lists.{Lists}
+use Rattle.graph_run.specs.declared.preparing.Prepared.{Prepared}
 use Rattle.graph_run.specs.Assignment.{epoch_board}
 use Rattle.graph_run.specs.Boards.{driver_of}
 use Rattle.graph_run.specs.Closing.{HasEnded}
 use Rattle.graph_run.specs.Leads.{HaveLed, HaveLooked, checks_of}
+use Rattle.graph_run.specs.Lists.{AreEmpty, HaveRooms}
+use Rattle.graph_run.specs.Outcomes.{AreDone}
 use Rattle.graph_run.specs.PlanRun.{IsRunOf}
+use Rattle.graph_run.specs.Prepared.{IsPrepared, IsCrew}
 use Rattle.graph_run.proofs.EpochLemmas.{there}
 use Rattle.graph_run.proofs.ReadyLemmas.{driver_at}
 
@@ -50,8 +55,9 @@ module _ (plan : Plan) (waves : List WavIn) (loops : ℕ) where
 
   none_checked : (bs : List (ℕ × Board)) → checks_of (map (driver_of plan waves loops) bs) ≡ 0
   none_checked [] = refl
-  none_checked (b ∷ bs) = sum_by-cons (λ (s : Known). s.knows.lead.checks) (driver_of plan waves loops b) (map (driver_of plan waves loops) bs)
-      ∙ none_checked bs
+  none_checked (b ∷ bs) =
+      let first = sum_by-cons (λ (s : Known). s.knows.lead.checks) (driver_of plan waves loops b) (map (driver_of plan waves loops) bs) in
+      let others = none_checked bs in omega (arith, first, others)
 
   module _ (sound : IsSoundPlan plan) (boards : List Board) (shapes : map (λ (b : Board). b.board_shape) boards ≡ map (epoch_board plan loops) plan.epochs) where
     -- there is a board an epoch, and they have the events of the plan
@@ -126,3 +132,18 @@ module _ (plan : Plan) (waves : List WavIn) (loops : ℕ) where
             most = omega (arith, ticks, none, most);
             some = λ less. let first = looked.some less in omega (arith, ticks, none, first);
           }
+
+-- what the threads begin with, and all loops in the end, from what was prepared
+module _ (plan : Plan) (waves : List WavIn) (loops : ℕ) (p : Prepared) (is : IsPrepared plan waves loops p) where
+  pub crew : (lists : Lists) → AreEmpty lists → HaveRooms (length p.loops) lists
+      → IsCrew p.shared (record { loops = p.loops; driving = p.driving; lists = lists })
+  crew lists empty rooms = record {
+    can_start = is.can_start;
+    can_drive = is.can_drive;
+    nodes = λ n low. is.nodes n (subst (λ (x : Plan). n < length x.nodes) is.plan_is low);
+    empty = empty;
+    rooms = rooms;
+  }
+
+  pub done_of : (done : List LoopState) → AreDone p.shared.score.plan.value p.shared.score.waves.value done → AreDone plan waves done
+  done_of done h = subst (λ (x : Plan × List WavIn). AreDone x.0 x.1 done) (λ j. (is.plan_is j, is.waves_are j)) h

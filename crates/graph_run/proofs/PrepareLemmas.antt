@@ -1,7 +1,7 @@
 -- What a run of a plan begins with, from its boards, loops and ways.
 use Rattle.std.proofs.Common.{◌≡◌, ℕ, ◌+◌, ◌<◌, ◌≤◌, List, [], ◌∷◌, ◌++◌, length, map, get_or, refl, sym, ap, ◌∙◌, subst, arith, ⊎_elim, slice_get, Some, length-append, inl, inr}
 use Rattle.std.specs.Prelude.{All, Contains}
-use Rattle.std.specs.List.{enumerate_from, range_with_len}
+use Rattle.std.specs.List.{range_with_len}
 use Rattle.std.proofs.lemmas.Bool.{cases_lt}
 use Rattle.std.proofs.lemmas.List.{get_or-map, get_or_append_left, length-map}
 use Rattle.std.proofs.lemmas.List.FromFn.{length-range_with_len, get_or-range_with_len}
@@ -10,13 +10,11 @@ use Rattle.pw_base.specs.declared.plan.Plan.{Plan}
 use Rattle.wav_files.specs.declared.wav.WavIn.{WavIn}
 use Rattle.board_rule.specs.Known.{Known}
 use Rattle.ready_queues.specs.declared.way.Way.{Way}
-use Rattle.ready_queues.specs.declared.ways.Ways.{Ways}
 use Rattle.ready_queues.specs.Opening.{IsNewWay}
 use Rattle.ready_queues.specs.QueueRule.{IsNodeOf}
 use Rattle.data_loop.specs.declared.loop_state.LoopState.{LoopState}
 use Rattle.data_loop.specs.LoopStart.{IsLoopOf}
-use Rattle.data_loop.specs.LoopWay.{IsWayFor, IsDriverWay}
-use Rattle.graph_run.specs.declared.leading.Driving.{Driving}
+use Rattle.data_loop.specs.LoopWay.{IsWayFor}
 use Rattle.graph_run.specs.declared.shared.LoopWay.{LoopWay}
 use Rattle.graph_run.specs.declared.shared.Shared.{Shared}
 use Rattle.graph_run.specs.Assignment.{loop_of, nodes_of_loop, owner_row}
@@ -25,6 +23,16 @@ use Rattle.graph_run.specs.LoopsOnPlan.{AreReady, AreFirstLeads}
 use Rattle.graph_run.specs.Threads.{CanRun, CanStart, CanDrive, HasNode}
 use Rattle.graph_run.proofs.AssignmentLemmas.{most_loop}
 use Rattle.graph_run.proofs.ReadyLemmas.{short, own_ready, own_has, own_is, others_ready, others_none, is_in}
+
+-- the loops of all nodes
+module _ (plan : Plan) (loops : ℕ) where
+  pub owner_count : length (owner_row plan loops) ≡ length plan.nodes
+  owner_count = length-map (range_with_len 0 (length plan.nodes)) (loop_of plan loops) ∙ length-range_with_len 0 (length plan.nodes)
+
+  pub owners_most : All (λ l. l ≤ loops) (owner_row plan loops)
+  owners_most k d low = let a = length-map (range_with_len 0 (length plan.nodes)) (loop_of plan loops) in
+      let is = get_or-map (loop_of plan loops) (range_with_len 0 (length plan.nodes)) k 0 d (omega (arith, low, a)) in
+      let most = most_loop plan loops (get_or (range_with_len 0 (length plan.nodes)) k 0) in omega (arith, is, most)
 
 -- a node that the queues give to a loop is one of the loop's
 module _ (plan : Plan) (loops n k : ℕ) (of : IsNodeOf (owner_row plan loops) k n) where
@@ -100,11 +108,15 @@ module _ (plan : Plan) (waves : List WavIn) (loops : ℕ) (shared : Shared) (xs 
     pub all_nodes : (n : ℕ) → n < length plan.nodes → HasNode own pairs n
     all_nodes n low = let k = loop_of plan loops n in let most = most_loop plan loops n in let many = pair_count in ⊎_elim
         (λ (less : k < loops). let inside : k < length pairs = omega (arith, less, many) in
-        inr (k, inside, λ x. let same = as_many in
-        subst (λ (l : List ℕ). Contains l n)
-        (sym (subst (λ (s : LoopState). s.nodes ≡ nodes_of_loop plan loops k) (state_at k x inside)
-        (other_is k x.state (omega (arith, inside, same))).nodes_are))
-        (is_in plan loops k n low refl)))
+        inr (
+          k,
+          inside,
+          λ x. let same = as_many in
+              subst (λ (l : List ℕ). Contains l n)
+              (sym (subst (λ (s : LoopState). s.nodes ≡ nodes_of_loop plan loops k) (state_at k x inside)
+              (other_is k x.state (omega (arith, inside, same))).nodes_are))
+              (is_in plan loops k n low refl),
+        ))
         (λ (past : loops ≤ k). let last : k ≡ loops = omega (arith, past, most) in
         inl (subst (λ (l : List ℕ). Contains l n) (sym (own_is shared.boards loops xs own ready plan waves rows are).nodes_are)
         (is_in plan loops loops n low last)))

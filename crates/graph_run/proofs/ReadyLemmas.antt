@@ -267,7 +267,7 @@ module _ (plan : Plan) (waves : List WavIn) (loops : ℕ) (boards : List Board) 
 
 -- the driver's own loop taken off the others
 module _ (boards : List Board) (loops : ℕ) (xs : List LoopState) (s : LoopState) (ready : AreReady boards loops (xs ++ s ∷ [])) where
-  short : length xs ≡ loops
+  pub short : length xs ≡ loops
   short = let n = ready.count in let long = length-append xs (s ∷ []) in omega (arith, n, long)
 
   last_is : get_or (xs ++ s ∷ []) loops s ≡ s

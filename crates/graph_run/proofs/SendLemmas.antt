@@ -10,12 +10,9 @@ use Rattle.circular_buffer.proofs.cells.Deed.TheSendSync as deed
 use Rattle.board_rule.specs.contracts.loop_seat.LoopSeat as seat_row
 use Rattle.board_rule.specs.contracts.board.Board as board_row
 use Rattle.buffer_pool.specs.contracts.pool.Pool as pool_row
-use Rattle.node_progress.specs.contracts.score.Score as score_row
 use Rattle.node_state.specs.contracts.node_state.NodeState as node_row
 use Rattle.ready_queues.specs.contracts.end.End as end_row
-use Rattle.ready_queues.specs.contracts.lane.Lane as lane_row
 use Rattle.ready_queues.specs.contracts.way.Way as way_row
-use Rattle.ready_queues.specs.contracts.ways.Ways as ways_row
 use Rattle.data_loop.specs.contracts.stage.Stage as stage_row
 use Rattle.data_loop.specs.contracts.loop_state.LoopState as loop_row
 use Rattle.graph_run.specs.contracts.shared.LoopWay as given_row
@@ -29,9 +26,6 @@ seat_send = search crossing depth 30
 pub pool_send : IsSend pool_row.the_row
 pool_send = search (crossing, cells.the_send, deed.the_send) depth 30
 
-pub score_send : IsSend score_row.the_row
-score_send = search crossing depth 30
-
 pub node_send : IsSend node_row.the_row
 node_send = search crossing depth 30
 
@@ -39,7 +33,7 @@ pub stage_send : IsSend stage_row.the_row
 stage_send = search (crossing, seat_send, pool_send) depth 30
 
 pub loop_send : IsSend loop_row.the_row
-loop_send = search (crossing, stage_send, node_send, score_send) depth 30
+loop_send = search (crossing, stage_send, node_send) depth 30
 
 pub end_send : IsSend end_row.the_row
 end_send = search crossing depth 30
@@ -49,30 +43,17 @@ way_send = search (crossing, end_send) depth 30
 
 -- the same as fields of a struct
 loop_field : IsSend loop_row.the_field.row
-loop_field = search (crossing, stage_send, node_send, score_send) depth 30 fits 50000
+loop_field = search (crossing, stage_send, node_send) depth 30 fits 50000
 
 way_field : IsSend way_row.the_field.row
 way_field = search (crossing, end_send) depth 30 fits 50000
 
 pub given_send : IsSend given_row.the_row
 given_send = let a : IsSend loop_row.the_field.row = loop_field in let b : IsSend way_row.the_field.row = way_field in
-    search (sendable, loop_send, way_send) depth 30 fits 50000
-
-pub given_field : IsSend given_row.the_field.row
-given_field = let a : IsSend loop_row.the_field.row = loop_field in let b : IsSend way_row.the_field.row = way_field in
-    search (sendable, loop_send, way_send) depth 30 fits 50000
-
-pub score_sync : IsSync score_row.the_row
-score_sync = search crossing depth 30
+    search sendable depth 30 fits 50000
 
 pub board_sync : IsSync board_row.the_row
 board_sync = search crossing depth 30 fits 50000
-
-pub lane_sync : IsSync lane_row.the_row
-lane_sync = search crossing depth 30
-
-pub ways_sync : IsSync ways_row.the_row
-ways_sync = search (crossing, lane_sync) depth 30
 
 pub shared_sync : IsSync shared_row.the_row
 shared_sync = search (crossing, board_sync) depth 30

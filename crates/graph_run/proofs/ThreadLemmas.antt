@@ -1,9 +1,8 @@
 -- Loops of a run in their lists: one more is started, adopted or done, and after the run all are done.
-use Rattle.std.proofs.Common.{◌≡◌, ℕ, ◌+◌, ◌-◌, ◌<◌, ◌≤◌, List, [], ◌∷◌, ◌++◌, length, map, refl, sym, ap, ◌∙◌, subst, arith, length-append, ⊎_elim, inl, inr}
-use Rattle.std.specs.Prelude.{All, Contains, ◌⊎◌}
+use Rattle.std.proofs.Common.{◌≡◌, ℕ, ◌+◌, ◌<◌, List, [], ◌∷◌, ◌++◌, map, sym, ap, ◌∙◌, subst, arith, length-append, ⊎_elim, inl, inr}
+use Rattle.std.specs.Prelude.{Contains}
 use Rattle.std.proofs.lemmas.List.{map-append}
 use Rattle.std.proofs.lemmas.List.Elements.{All-push, Contains-append_left, Contains-push}
-use Rattle.pw_base.specs.Listed.{Listed}
 use Rattle.board_rule.specs.declared.board.Board.{Board}
 use Rattle.node_progress.specs.declared.score.Score.{Score}
 use Rattle.data_loop.specs.declared.loop_state.LoopState.{LoopState}
@@ -15,17 +14,19 @@ use Rattle.graph_run.specs.declared.shared.Shared.{Shared}
 use Rattle.graph_run.specs.declared.starting.Start.{Start}
 use Rattle.graph_run.specs.declared.starting.Start.TheVariants.{Running, Adopted, Done}
 use Rattle.graph_run.specs.LoopsOnPlan.{IsReady}
-use Rattle.graph_run.specs.Outcomes.{IsDoneOf}
 use Rattle.graph_run.specs.Threads.{CanRun, CanStart, HasRun, IsStart, IsDoneWith, nodes_with, nodes_under}
-use Rattle.graph_run.specs.Lists.{HasPlaced, HaveRooms, AreListed, HasLoop, size, room_of, put}
+use Rattle.graph_run.specs.Lists.{HasPlaced, HaveRooms, AreListed, HasLoop, size}
 
 -- before the run a loop is between two epochs
 pub under_way : (boards : List Board) (s : LoopState) → IsReady boards s → IsUnderWay boards s
-under_way boards s h = inl (h.between, record {
-  count = h.boards_are.count;
-  shape = h.boards_are.shape;
-  seat = λ j b g past here at. h.boards_are.seat j b g here at;
-})
+under_way boards s h = inl (
+  h.between,
+  record {
+    count = h.boards_are.count;
+    shape = h.boards_are.shape;
+    seat = λ j b g past here at. h.boards_are.seat j b g here at;
+  },
+)
 
 -- after it the loop is one of the run's plan
 pub done_with : (shared : Shared) (s t : LoopState) → plan_of s ≡ shared.score.plan.value → s.score.waves.value ≡ shared.score.waves.value

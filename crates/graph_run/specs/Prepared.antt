@@ -17,7 +17,8 @@ pub record IsPrepared (plan : Plan) (waves : List WavIn) (loops : ℕ)
     (r : Prepared) : Type 0 where
   pub plan_is : r.shared.score.plan.value ≡ plan
   pub waves_are : r.shared.score.waves.value ≡ waves
-  pub shapes : map (λ b. b.board_shape) r.shared.boards ≡ map (epoch_board plan loops) plan.epochs
+  pub shapes : map (λ b. b.board_shape) r.shared.boards
+      ≡ map (epoch_board plan loops) plan.epochs
   pub drivers : r.driving.drivers
       ≡ map (driver_of plan waves loops) (enumerate_from 0 r.shared.boards)
   pub can_start : All (CanStart r.shared) r.loops

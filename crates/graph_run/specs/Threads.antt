@@ -2,7 +2,7 @@
 -- after its last epoch.
 -- Source: PipeWire's documentation, "Data loops"; that the driver's thread adopts a loop is this
 -- project's own.
-use Rattle.std.specs.Prelude.{◌≡◌, ◌⊎◌, ℕ, ◌<◌, List, Result, All, Contains, IfOk, IfErr, length, map, slice_index_or}
+use Rattle.std.specs.Prelude.{◌≡◌, ◌⊎◌, ℕ, ◌<◌, List, Result, Contains, IfOk, IfErr, length, map, slice_index_or}
 use Rattle.std.specs.declared.thread.PromisedHandle.{PromisedHandle}
 use Rattle.data_loop.specs.declared.loop_state.LoopState.{LoopState}
 use Rattle.data_loop.specs.Loops.{plan_of}
@@ -62,7 +62,8 @@ IsStart given (Done s) = HasRun given.state s
 abbrev pub nodes_with : List LoopState → List (List ℕ)
 nodes_with states = map (λ s. s.nodes) states
 
-abbrev pub nodes_under : List (PromisedHandle (Result LoopState LoopWay) SameLoop) → List (List ℕ)
+abbrev pub nodes_under : List (PromisedHandle (Result LoopState LoopWay) SameLoop)
+    → List (List ℕ)
 nodes_under handles = map (λ h. h.promise.given.value.state.nodes) handles
 
 -- a node is one of the driver's own loop, or of one of the others

@@ -1,9 +1,11 @@
-//! The parts of a run by threads that no loop is needed for: which loop each node belongs to, the
-//! boards of all epochs with their seats by loop, and the end of all boards.
+//! A run of a plan by threads: which loop each node belongs to, the boards of all epochs with their
+//! seats by loop, the loops in threads of their own, and the end of all boards.
 //!
 //! A plan of epochs is run on one board an epoch. `boards_of` makes them all before the first
-//! cycle, each with the samples of the cycle function as what it has to give; `close_all` ends them
-//! and answers one legal history.
+//! cycle, each with the samples of the cycle function as what it has to give. `run_plan` starts
+//! each loop once, in a thread of its own, and drives; a loop that it was told to adopt, or whose
+//! start is refused, is run by the driver's thread. `close_all` ends the boards and answers one
+//! legal history.
 #![tactic(auto)]
 
 mod assignment;
@@ -23,6 +25,8 @@ mod shared;
 mod starting;
 #[cfg(test)]
 mod tests;
+#[cfg(test)]
+mod thread_tests;
 
 pub use assignment::{loop_of, nodes_of_loop};
 pub use boards::{Boards, boards_of};

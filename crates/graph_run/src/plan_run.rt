@@ -111,6 +111,6 @@ pub fn run_plan<R: Threads + Wait + Sync, G: Gate + Sync, K: Ticker>(
         driving,
         lists,
     };
-    let (ended, _ticker) = run_threads(rt, gate, &shared, crew, adopt, ticker);
+    let ended = run_threads(rt, gate, &shared, crew, adopt, ticker);
     Ok(answer(alloc, plan, waves, shared.boards, ended, rooms))
 }

@@ -74,9 +74,8 @@ fn run_within<'s, E, R: Threads + Wait + Sync, G: Gate + Sync, K: Ticker>(
     }
 }
 
-// All epochs by all loops. The ticker comes back with what it has counted. Takes no memory but for
-// the threads.
-pub(crate) fn run_threads<'t, R: Threads + Wait + Sync, G: Gate + Sync, K: Ticker>(
+// All epochs by all loops. The ticker comes back with what it has counted.
+fn run_scoped<'t, R: Threads + Wait + Sync, G: Gate + Sync, K: Ticker>(
     rt: &R,
     gate: &G,
     shared: &Shared,
@@ -112,4 +111,27 @@ pub(crate) fn run_threads<'t, R: Threads + Wait + Sync, G: Gate + Sync, K: Ticke
             (ended, ticker)
         },
     )
+}
+
+/// All epochs of a plan by all loops, each in a thread of its own but for those that `adopt` names
+/// and those whose start is refused: these are run by the caller's thread, which drives. Takes no
+/// memory but for the threads.
+pub(crate) fn run_threads<R: Threads + Wait + Sync, G: Gate + Sync, K: Ticker>(
+    rt: &R,
+    gate: &G,
+    shared: &Shared,
+    crew: Crew,
+    adopt: &[bool],
+    ticker: &mut K,
+) -> Ended
+    requires crew { IsCrew shared.now crew }
+    requires adopt { length adopt.now ≡ length crew.loops }
+    ensures done { AreDone shared.now.score.plan.value shared.now.score.waves.value result.done }
+    ensures drivers { HaveLed (length shared.now.boards) shared.now.boards
+        crew.driving.drivers result.drivers }
+    ensures looked { HaveLooked crew.driving.drivers result.drivers
+        (K.ticks ticker.old) (K.ticks ticker.new) }
+{
+    let (ended, _ticker) = run_scoped(rt, gate, shared, crew, adopt, ticker);
+    ended
 }

@@ -90,7 +90,7 @@ fn epoch(alloc: Global, first: u32, cycles: u32, fresh: &[Fresh]) -> Result<Epoc
 }
 
 // The plan.
-fn plan(alloc: Global) -> Result<Plan, Memory> {
+pub(crate) fn plan(alloc: Global) -> Result<Plan, Memory> {
     let mut nodes = Items::new(alloc);
     nodes.push(node(alloc, square(), 0, 0))?;
     nodes.push(node(alloc, square(), 5, 0))?;
@@ -272,7 +272,7 @@ fn sink_of(
 }
 
 // The sum of two squares of 100, for five cycles of four frames.
-fn both() -> [i16; 20] {
+pub(crate) fn both() -> [i16; 20] {
     [
         200, 200, -200, -200, 200, 200, -200, -200, 200, 200, -200, -200, 200, 200, -200, -200,
         200, 200, -200, -200,
