@@ -13,6 +13,7 @@ pub mod Headline
 pub mod Loads
 pub mod Narrowing
 pub mod Stocking
+pub mod Playing
 pub mod PlannedWork
 pub mod PodFile
 pub mod Preparing

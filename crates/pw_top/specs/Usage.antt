@@ -1,6 +1,6 @@
 -- The grammar of command lines: of words outside it, the first at fault, or their number where more
 -- are wanted. This project's.
-use Rattle.std.specs.Prelude.{◌≡◌, ℕ, ◌==◌, ◌&&◌, Bool, false, not, nat_le, if◌then◌else◌, List, [], ◌∷◌, length, codes, bytes_eq, Result, Ok, Err}
+use Rattle.std.specs.Prelude.{◌≡◌, ℕ, ◌≤◌, ◌==◌, ◌&&◌, Bool, false, not, nat_le, if◌then◌else◌, List, [], ◌∷◌, length, codes, bytes_eq, Result, Ok, Err}
 use Rattle.pw_top.specs.declared.status.Status.{Status}
 use Rattle.pw_top.specs.declared.status.Status.TheVariants as S
 use Rattle.pw_top.specs.declared.usage.CommandLine.{CommandLine}
@@ -42,7 +42,8 @@ three_files words = then_file 1 words (λ a bs. then_file 2 bs (λ b outs. then_
     (λ c rest. then_nothing 4 rest (record { first = a; second = b; third = c }))))
 
 abbrev pub run_of : Result (List ℕ) Status → Result CommandLine Status
-run_of (Ok script) = Ok (C.Run (record { script = script }))
+run_of (Ok script) = Ok (C.Run (record
+    { script = script; loops = 1; ticks = 0; trace = false }))
 run_of (Err status) = Err status
 
 abbrev pub dump_of : Result (List ℕ) Status → Result CommandLine Status
@@ -78,3 +79,8 @@ IsRead expected (Ok x) = expected ≡ Ok x
 IsRead expected (Err S.Memory) = Unit {0}
 IsRead expected (Err (S.Usage word)) = expected ≡ Err (S.Usage word)
 IsRead expected (Err _) = ⊥
+
+-- a run has at most 16 loops
+abbrev pub HasFewLoops : CommandLine → Type 0
+HasFewLoops (C.Run c) = c.loops ≤ 16
+HasFewLoops other = Unit {0}

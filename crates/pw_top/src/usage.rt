@@ -1,13 +1,13 @@
 //! The words of a command line.
 ghost use Rattle.std.specs.Prelude.{◌≡◌, ℕ, ◌<◌, map, string_bytes, length, IfOk, Ok};
 ghost use Rattle.pw_top.specs.Usage.{is_file_word, then_file, then_nothing, one_file, three_files, run_of, dump_of, filter_of, automate_of, two_files, check_of, command_of};
-ghost use Rattle.pw_top.specs.Usage.{IsRead};
+ghost use Rattle.pw_top.specs.Usage.{IsRead, HasFewLoops};
 
 use crate::commands::automate::AutomateFile;
 use crate::commands::check_traces::CheckTrace;
 use crate::commands::dump::DumpFile;
 use crate::commands::filter_files::FilterFiles;
-use crate::commands::run::RunScript;
+use crate::commands::run::Running;
 use crate::status::Status;
 use pw_base::{Items, Text};
 use std::alloc::Global;
@@ -15,7 +15,7 @@ use std::alloc::Global;
 /// What a command line asks for.
 #[derive(Drop)]
 pub enum CommandLine {
-    Run(RunScript),
+    Run(Running),
     Dump(DumpFile),
     Filter(FilterFiles),
     Automate(AutomateFile),
@@ -204,7 +204,12 @@ fn read_run(alloc: Global, rest: &[String]) -> Result<CommandLine, Status>
     ensures { IsRead (run_of (one_file (map string_bytes rest.now))) result }
 {
     match one_file(alloc, rest) {
-        Ok(script) => Ok(CommandLine::Run(RunScript { script })),
+        Ok(script) => Ok(CommandLine::Run(Running {
+            script,
+            loops: 1,
+            ticks: 0,
+            trace: false,
+        })),
         Err(status) => Err(status),
     }
 }
@@ -275,7 +280,8 @@ fn read_check(alloc: Global, rest: &[String]) -> Result<CommandLine, Status>
 /// What the words ask for, or the first word at fault.
 #[tactic(auto, unfolding(crate::specs::Usage::command_of))]
 pub fn read_words(alloc: Global, words: &[String]) -> Result<CommandLine, Status>
-    ensures { IsRead (command_of (map string_bytes words.now)) result }
+    ensures read { IsRead (command_of (map string_bytes words.now)) result }
+    ensures few { IfOk result HasFewLoops }
 {
     match words {
         [] => Err(Status::Usage { word: 0 }),
