@@ -18,7 +18,7 @@ in_second : (xs ys : List ℕ) (x : ℕ) → Contains ys x → Contains (xs ++ y
 in_second xs ys x h = (length xs + h.0, grind (arith, common_steps, h.1), grind (arith, common_steps, h.1, h.2))
 
 -- an end of the rest, after more loads
-later : {U : Type 0} (loads : List ℕ) (rest : Expected U) (r : Result U Status) → IsEndOf rest r → IsEndOf (gone_on loads rest) r
+pub later : {U : Type 0} (loads : List ℕ) (rest : Expected U) (r : Result U Status) → IsEndOf rest r → IsEndOf (gone_on loads rest) r
 later loads rest (Ok x) (is_end h) = is_end h
 later loads rest (Err S.Ok) (is_end h) = is_end h
 later loads rest (Err (S.Usage w)) (is_end h) = is_end h
@@ -31,7 +31,7 @@ later loads rest (Err (S.ReadFault w)) (is_end h) = is_end (in_second loads rest
 later loads rest (Err (S.WriteFault w)) (is_end h) = is_end h
 later loads rest (Err S.Memory) (is_end h) = is_end tt
 
-outcome_is : {T : Type 0} (a : Expected T) (x : T) → IsEndOf a (Ok x) → a.outcome ≡ Ok x
+pub outcome_is : {T : Type 0} (a : Expected T) (x : T) → IsEndOf a (Ok x) → a.outcome ≡ Ok x
 outcome_is a x (is_end h) = h
 
 module _ {T U : Type 0} (P : Expected T → Type 0) (next : T → Expected U → Type 0) where

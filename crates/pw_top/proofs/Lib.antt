@@ -13,6 +13,8 @@ pub mod OnePartLemmas
 pub mod OneRunLemmas
 pub mod PieceLemmas
 pub mod PlanWorkLemmas
+pub mod PlayingLemmas
+pub mod PrintableLemmas
 pub mod PodFileLemmas
 pub mod StatusLineLemmas
 pub mod StockLemmas

@@ -1,7 +1,6 @@
 -- ONE ANSWER: two answers of a command line that are allowed, neither out of memory, are the same.
 use Rattle.std.proofs.Common.{◌≡◌, ℕ, List, [], sym, ap, subst, ◌∙◌}
 use Rattle.std.specs.Prelude.{Result, Ok, Err}
-use Rattle.pw_base.specs.declared.event.Event.{Event}
 use Rattle.pw_base.specs.Files.{Names}
 use Rattle.pod_codec.specs.declared.pod.Pod.{Pod}
 use Rattle.format_filter.specs.declared.format.Format.{Format}
@@ -19,6 +18,7 @@ use Rattle.pw_top.specs.FormatFile.{HoldsFormat}
 use Rattle.pw_top.specs.Filter.{StoresObject, GivesFiltered, FiltersTo, FiltersSecond, ReadsSecond, LoadsSecond, ReadsFirst}
 use Rattle.pw_top.specs.Automate.{GivesPoints, HoldsPoints, AutomatesWave, ReadsPoints, LoadsPoints, ReadsWave}
 use Rattle.pw_top.specs.Dump.{DumpsPod, DumpsBytes}
+use Rattle.pw_top.specs.Playing.{Happened, Idly}
 use Rattle.pw_top.specs.Usage.{Words, command_of}
 use Rattle.pw_top.specs.CommandLine.{IsAnswer, IsAnswerTo, IsReadAnswer}
 use Rattle.pw_top.proofs.OnePartLemmas.{IsShort, HasOne, OneOutcome, part_one, outcomes_equal, binds_one, load_one, pod_one, held_one, format_one}
@@ -68,21 +68,24 @@ wave_one : (names : Names) (seq out bytes : List ℕ) → HasOne (ReadsWave name
 wave_one names seq out bytes = binds_one _ (LoadsPoints names seq out) (part_one [] _ (outcomes_equal _))
     (λ wav. binds_one _ (ReadsPoints out wav) (load_one names 2 seq _ _) (points_one out wav))
 
-command_one : (c : CommandLine) (history : List Event) (names : Names) → HasOne (IsAnswerTo c history names)
-command_one (C.Run c) history names = run_one names c.script
-command_one (C.Dump c) history names = binds_one _ DumpsBytes (load_one names 1 c.file _ _) dump_bytes_one
-command_one (C.Filter c) history names = binds_one _ (ReadsFirst names c.b c.out) (load_one names 1 c.a _ _)
-    (first_one names c.b c.out)
-command_one (C.Automate c) history names = binds_one _ (ReadsWave names c.seq c.out) (load_one names 1 c.input _ _)
-    (wave_one names c.seq c.out)
-command_one (C.Check c) history names = check_one names c.script c.trace
+idle_one : (P : Answer → Type 0) (h : Happened) → HasOne P → HasOne (Idly P h)
+idle_one P h one = record { one = λ a b p q. one.one a b p.1 q.1 }
 
-read_one : (r : Result CommandLine Status) (history : List Event) (names : Names) → HasOne (IsReadAnswer r history names)
-read_one (Ok c) history names = command_one c history names
-read_one (Err status) history names = record { one = λ a b h k na nb. h ∙ sym k }
+command_one : (c : CommandLine) (h : Happened) (names : Names) → HasOne (IsAnswerTo c h names)
+command_one (C.Run c) h names = run_one c h names
+command_one (C.Dump c) h names = idle_one _ h (binds_one _ DumpsBytes (load_one names 1 c.file _ _) dump_bytes_one)
+command_one (C.Filter c) h names = idle_one _ h (binds_one _ (ReadsFirst names c.b c.out) (load_one names 1 c.a _ _)
+    (first_one names c.b c.out))
+command_one (C.Automate c) h names = idle_one _ h (binds_one _ (ReadsWave names c.seq c.out) (load_one names 1 c.input _ _)
+    (wave_one names c.seq c.out))
+command_one (C.Check c) h names = idle_one _ h (check_one names c.script c.trace)
 
--- THE ANSWER of a command line, by what happened in its run and by what the files hold
-pub answers_one : (words : Words) (history : List Event) (names : Names) (a b : Answer) → IsAnswer words history names a
-    → IsAnswer words history names b → ¬ IsShort a → ¬ IsShort b → a ≡ b
+read_one : (r : Result CommandLine Status) (h : Happened) (names : Names) → HasOne (IsReadAnswer r h names)
+read_one (Ok c) h names = command_one c h names
+read_one (Err status) h names = record { one = λ a b p q na nb. p ∙ sym q }
+
+-- THE ANSWER of a command line, by what happened in the call and by what the files hold
+pub answers_one : (words : Words) (h : Happened) (names : Names) (a b : Answer) → IsAnswer words h names a
+    → IsAnswer words h names b → ¬ IsShort a → ¬ IsShort b → a ≡ b
 unfolding IsAnswer
-answers_one words history names a b h k na nb = (read_one (command_of words) history names).one a b h k na nb
+answers_one words h names a b p q na nb = (read_one (command_of words) h names).one a b p q na nb

@@ -1,6 +1,6 @@
 -- ONE RUN: two answers of a script that are allowed, neither out of memory, are the same. What its lines load is one, and
 -- it has one plan of that.
-use Rattle.std.proofs.Common.{◌≡◌, ℕ, ◌<◌, ◌≤◌, List, [], length, refl, ap, subst, ◌∙◌, arith}
+use Rattle.std.proofs.Common.{◌≡◌, ℕ, ◌<◌, ◌≤◌, Bool, List, [], length, refl, sym, ap, subst, ◌∙◌, arith}
 use Rattle.std.specs.Prelude.{Result, Ok, Err}
 use Rattle.std.proofs.lemmas.List.Elements.{All-nil}
 use Rattle.pw_base.specs.declared.limit.Which.{Which}
@@ -24,13 +24,16 @@ use Rattle.graph_plan.specs.declared.fault.PlanFault.TheVariants as F
 use Rattle.graph_plan.specs.Conditions.{AreScriptPorts}
 use Rattle.graph_plan.proofs.PlanOneLemmas.{planned_one}
 use Rattle.graph_plan.proofs.ScriptLemmas.{lines_are, named_are}
+use Rattle.pw_top.specs.declared.commands.run.Running.{Running}
+use Rattle.pw_top.specs.declared.planned.Planned.{Planned}
 use Rattle.pw_top.specs.declared.status.Status.TheVariants as S
 use Rattle.pw_top.specs.declared.stock.Stock.{Stock}
 use Rattle.pw_top.specs.Allowed.{Reads}
+use Rattle.pw_top.specs.Playing.{Happened}
 use Rattle.pw_top.specs.Refusals.{script_outcome}
 use Rattle.pw_top.specs.Loads.{LoadsAll}
-use Rattle.pw_top.specs.PlannedWork.{plan_work, PlansTo, WorksPlan, PlansStock}
-use Rattle.pw_top.specs.Run.{RunsScript, ReadsScript, IsRunAnswer}
+use Rattle.pw_top.specs.PlannedWork.{PlansTo, KeepsPlan, PlansStock, PlaysTo, PlaysPlan}
+use Rattle.pw_top.specs.Run.{PlansScript, PlansBytes, PlansFile, IsRunAnswer}
 use Rattle.pw_top.specs.Stocking.{nothing_loaded}
 use Rattle.pw_top.proofs.LoadsLemmas.{IsUnderWay, sound_start, way_start, stock_of}
 use Rattle.pw_top.proofs.OnePartLemmas.{HasOne, OneOutcome, part_one, outcomes_equal, binds_given, binds_one, part_gave, load_one}
@@ -73,9 +76,9 @@ module _ (script : Script) (known : IsWhole script) where
   planned_same ports fit waves (Err status) y h k = absurd h
 
   plans_one : (stock : Stock) → AreScriptPorts script.lines stock.ports → HasOne (PlansStock script stock)
-  plans_one stock fit = binds_one (Reads (PlansTo script stock.ports stock.waves)) (WorksPlan script stock.waves)
+  plans_one stock fit = binds_one (Reads (PlansTo script stock.ports stock.waves)) (KeepsPlan script stock.waves)
       (part_one [] (PlansTo script stock.ports stock.waves) (planned_same stock.ports fit stock.waves))
-      (λ plan. part_one [] (λ outcome. outcome ≡ Ok (plan_work script stock.waves plan)) (outcomes_equal (Ok (plan_work script stock.waves plan))))
+      (λ plan. part_one [] _ (outcomes_equal _))
 
   pub few : length (kinds_of script.lines) ≤ 63
   few = let count = known.ranges.count in let same = named_are script known.ranges known.kinds in omega (arith, count, same)
@@ -86,7 +89,7 @@ module _ (script : Script) (known : IsWhole script) where
   pub under_way : IsUnderWay (kinds_of script.lines) script.lines nothing_loaded.ports
   under_way = way_start script.lines nothing_loaded (lines_are script known.ranges known.kinds) known.made refl
 
-  script_one : (names : Names) → HasOne (RunsScript names script)
+  script_one : (names : Names) → HasOne (PlansScript names script)
   script_one names = binds_given (LoadsAll names script.lines nothing_loaded) (PlansStock script)
       (all_one names (kinds_of script.lines) few script.lines nothing_loaded fresh_start under_way) (λ e x p is.
       let a = all_after names (kinds_of script.lines) few script.lines nothing_loaded fresh_start under_way e x p is in
@@ -98,11 +101,18 @@ script_is (Ok s) script e = cc
 script_is (Err (G.At line why)) script e = cc
 script_is (Err G.Memory) script e = cc
 
-bytes_one : (names : Names) (bytes : List ℕ) → HasOne (ReadsScript names bytes)
-bytes_one names bytes = binds_given (Reads (λ outcome. outcome ≡ script_outcome (script_of bytes))) (RunsScript names)
+bytes_one : (names : Names) (bytes : List ℕ) → HasOne (PlansBytes names bytes)
+bytes_one names bytes = binds_given (Reads (λ outcome. outcome ≡ script_outcome (script_of bytes))) (PlansScript names)
     (part_one [] (λ outcome. outcome ≡ script_outcome (script_of bytes)) (outcomes_equal (script_outcome (script_of bytes))))
     (λ e script p is. script_one script (whole bytes script (script_is (script_of bytes) script
     (part_gave [] (λ outcome. outcome ≡ script_outcome (script_of bytes)) e script p is))) names)
 
-pub run_one : (names : Names) (word : List ℕ) → HasOne (IsRunAnswer names word)
-run_one names word = binds_one _ (ReadsScript names) (load_one names 0 word _ _) (bytes_one names)
+file_one : (names : Names) (word : List ℕ) → HasOne (PlansFile names word)
+file_one names word = binds_one _ (PlansBytes names) (load_one names 0 word _ _) (bytes_one names)
+
+plays_one : (loops : ℕ) (trace : Bool) (h : Happened) (p : Planned) → OneOutcome (PlaysTo loops trace h p)
+plays_one loops trace h p x y a b = a.1 ∙ sym b.1
+
+pub run_one : (c : Running) (h : Happened) (names : Names) → HasOne (IsRunAnswer c h names)
+run_one c h names = binds_one (PlansFile names c.script) (PlaysPlan c.loops c.trace h) (file_one names c.script)
+    (λ p. part_one [] (PlaysTo c.loops c.trace h p) (plays_one c.loops c.trace h p))

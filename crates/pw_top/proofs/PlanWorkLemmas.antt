@@ -33,11 +33,11 @@ use Rattle.graph_plan.proofs.StepLemmas.{EndsSound, follows_sound}
 use Rattle.cycle_model.specs.Rendering.{rendered_sinks, kept_of, end_stream}
 use Rattle.cycle_model.specs.WavesFit.{WavesFit}
 use Rattle.cycle_model.proofs.KeptLemmas.{kept_is_wave}
-use Rattle.cycle_trace.specs.Printable.{IsPrintable, JoinsPorts, NamesNodes}
+use Rattle.cycle_trace.specs.Printable.{JoinsPorts}
 use Rattle.pw_top.specs.Ending.{IsStorable}
 use Rattle.pw_top.specs.SinkStores.{makes_sink, sink_line_of, place_of, sink_store, AllPlaced}
 
--- THE TEXT can be printed
+-- THE LINES of links can be printed
 same_kinds : (nodes : List PlanNode) (n : ℕ)
     → get_or (map (λ (m : PlanNode). m.kind) nodes) n K.Dummy ≡ unwrap_or (option_map (λ (m : PlanNode). m.kind) (slice_get nodes n)) K.Dummy
 same_kinds [] n = refl
@@ -68,11 +68,8 @@ joined plan l h =
       };
     }
 
-pub plan_prints : (plan : Plan) → All (JoinsKinds plan) plan.lines → IsPrintable plan None
-plan_prints plan h = record {
-  lines = All-weaker (JoinsKinds plan) (JoinsPorts plan.nodes) (joined plan) plan.lines h;
-  events = All-nil (NamesNodes plan.nodes);
-}
+pub lines_print : (plan : Plan) → All (JoinsKinds plan) plan.lines → All (JoinsPorts plan.nodes) plan.lines
+lines_print plan h = All-weaker (JoinsKinds plan) (JoinsPorts plan.nodes) (joined plan) plan.lines h
 
 -- THE STORES can be made
 pub stores_made : (lines : List Line) (plan : Plan) (waves : List WavIn) → IsSoundPlan plan → WavesFit plan waves → AllPlaced lines plan waves

@@ -4,10 +4,12 @@ use Rattle.std.specs.Prelude.{◌≡◌, ◌≢◌, ◌⊎◌, ℕ, Result, Err}
 use Rattle.pw_base.specs.Files.{Held}
 use Rattle.pw_base.specs.Output.{Given}
 use Rattle.pw_base.specs.Causes.{Rose}
+use Rattle.pw_top.specs.declared.top.Report.{Report}
 use Rattle.pw_top.specs.declared.status.Status.{Status}
 use Rattle.pw_top.specs.declared.status.Status.TheVariants as S
 use Rattle.pw_top.specs.declared.usage.CommandLine.{CommandLine}
 use Rattle.pw_top.specs.Answer.{Answer}
+use Rattle.pw_top.specs.Playing.{Happened}
 use Rattle.pw_top.specs.Following.{stores_of, text_of, StatusFollows, FilesFollow, TextFollows}
 
 -- what the status says of the answer, of the files and of the text holds; the numbers are counts of
@@ -18,6 +20,15 @@ pub record Follows (a : Answer) (stores stores' puts puts' : ℕ) (held held' : 
   pub stop : StatusFollows a status
   pub files : FilesFollow (stores_of a.outcome) stores stores' held held' status
   pub text : TextFollows (text_of a.outcome) puts puts' given given' status
+
+-- what a report says that happened, between two counts of the ticker
+abbrev pub reported : Report → ℕ → ℕ → Happened
+reported report before now = record {
+  history = report.history;
+  closed = report.closed;
+  before = before;
+  now = now;
+}
 
 -- the causes outside, whether the files are told or not
 abbrev pub Caused : ℕ → ℕ → ℕ → ℕ → ℕ → ℕ → Status → Type 0

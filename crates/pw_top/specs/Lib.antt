@@ -12,7 +12,9 @@ pub mod FormatFile
 pub mod Headline
 pub mod Loads
 pub mod Narrowing
+pub mod Options
 pub mod Stocking
+pub mod Playing
 pub mod PlannedWork
 pub mod PodFile
 pub mod Preparing
@@ -21,3 +23,4 @@ pub mod Run
 pub mod SinkStores
 pub mod StatusLine
 pub mod Usage
+pub mod Words

@@ -1,37 +1,28 @@
--- What a planned script stores and tells.
--- Source: this project's script grammar.
-use Rattle.std.specs.Prelude.{◌≡◌, List, [], map, None, Result, Ok, Err}
+-- What a script is planned to, and what its run stores and tells.
+-- Source: PipeWire's documentation, "Graph Scheduling"; scripts are this project's.
+use Rattle.std.specs.Prelude.{◌≡◌, ℕ, Bool, true, false, List, [], map, All, Option, Some, None, Result, Ok, Err}
+use Rattle.pw_base.specs.declared.event.Event.{Event}
 use Rattle.pw_base.specs.declared.plan.Plan.{Plan}
+use Rattle.pw_base.specs.SoundPlan.{IsSoundPlan}
 use Rattle.wav_files.specs.declared.wav.WavIn.{WavIn}
 use Rattle.wav_files.specs.declared.outcome.Outcome.{Outcome}
 use Rattle.graph_script.specs.declared.script.Script.{Script}
 use Rattle.port_model.specs.declared.port_state.Node.{Node}
 use Rattle.graph_plan.specs.declared.fault.PlanFault.TheVariants as F
+use Rattle.graph_plan.specs.Joining.{JoinsKinds}
 use Rattle.graph_plan.specs.Planned.{IsPlanned}
 use Rattle.cycle_model.specs.Rendering.{rendered_sinks, rendered_peaks}
+use Rattle.cycle_model.specs.WavesFit.{WavesFit}
 use Rattle.cycle_trace.specs.RunText.{run_text_of}
+use Rattle.pw_top.specs.declared.planned.Planned.{Planned}
 use Rattle.pw_top.specs.declared.status.Status.{Status}
 use Rattle.pw_top.specs.declared.status.Status.TheVariants as S
 use Rattle.pw_top.specs.declared.stock.Stock.{Stock}
 use Rattle.pw_top.specs.declared.work.Work.{Work}
-use Rattle.pw_top.specs.Answer.{Answer}
+use Rattle.pw_top.specs.Answer.{Answer, Expected}
 use Rattle.pw_top.specs.Allowed.{Binds, Reads}
-use Rattle.pw_top.specs.SinkStores.{sink_store}
-
--- what a plan gives from its waves, without a history
-abbrev pub rendered : Plan → List WavIn → Outcome
-rendered plan waves = record {
-  history = [];
-  sinks = rendered_sinks plan waves;
-  peaks = rendered_peaks plan waves;
-}
-
--- THE WORK of a plan
-abbrev pub plan_work : Script → List WavIn → Plan → Work
-plan_work script waves plan = record {
-  stores = map (sink_store script.lines) (rendered_sinks plan waves);
-  text = run_text_of plan None (rendered plan waves);
-}
+use Rattle.pw_top.specs.Playing.{Happened, HasRun}
+use Rattle.pw_top.specs.SinkStores.{sink_store, AllPlaced}
 
 -- a plan of the script, or the first line that passes a limit
 abbrev pub PlansTo : Script → List Node → List WavIn → Result Plan Status → Type 0
@@ -40,12 +31,49 @@ PlansTo script ports waves (Err (S.Limit line which)) =
     IsPlanned script.lines script.names waves ports (Err (F.Limit line which))
 PlansTo script ports waves (Err status) = ⊥
 
-abbrev pub WorksPlan : Script → List WavIn → Plan → Answer → Type 0
-WorksPlan script waves plan = Reads (λ outcome. outcome ≡ Ok (plan_work script waves plan))
+-- the plan with the script and its waves
+abbrev pub KeepsPlan : Script → List WavIn → Plan → Expected Planned → Type 0
+KeepsPlan script waves plan = Reads (λ outcome. outcome
+    ≡ Ok (record { script = script; waves = waves; plan = plan }))
 
-abbrev pub PlansPorts : Script → List Node → List WavIn → Answer → Type 0
-PlansPorts script ports waves = Binds (Reads (PlansTo script ports waves)) (WorksPlan script waves)
+abbrev pub PlansPorts : Script → List Node → List WavIn → Expected Planned → Type 0
+PlansPorts script ports waves = Binds (Reads (PlansTo script ports waves)) (KeepsPlan script waves)
 
 -- of what the lines have loaded
-abbrev pub PlansStock : Script → Stock → Answer → Type 0
+abbrev pub PlansStock : Script → Stock → Expected Planned → Type 0
 PlansStock script stock = PlansPorts script stock.ports stock.waves
+
+-- what follows from it: the plan can be run, and what its sinks keep be stored
+pub record IsPlayable (p : Planned) : Type 0 where
+  pub sound : IsSoundPlan p.plan
+  pub fit : WavesFit p.plan p.waves
+  pub joins : All (JoinsKinds p.plan) p.plan.lines
+  pub placed : AllPlaced p.script.lines p.plan p.waves
+
+-- what a plan gives from its waves, whatever its history
+abbrev pub rendered : Plan → List WavIn → Outcome
+rendered plan waves = record {
+  history = [];
+  sinks = rendered_sinks plan waves;
+  peaks = rendered_peaks plan waves;
+}
+
+-- the events, where they are wanted in the text
+abbrev pub if_traced : Bool → List Event → Option (List Event)
+if_traced true history = Some history
+if_traced false history = None
+
+-- THE WORK of what is planned: its sinks' files, and the text of its run
+abbrev pub plan_work : Planned → Bool → List Event → Work
+plan_work p trace history = record {
+  stores = map (sink_store p.script.lines) (rendered_sinks p.plan p.waves);
+  text = run_text_of p.plan (if_traced trace history) (rendered p.plan p.waves);
+}
+
+-- a run of it was made, and gives the work
+abbrev pub PlaysTo : ℕ → Bool → Happened → Planned → Result Work Status → Type 0
+PlaysTo loops trace h p outcome = HasRun p.plan p.waves loops h
+    × (outcome ≡ Ok (plan_work p trace h.history))
+
+abbrev pub PlaysPlan : ℕ → Bool → Happened → Planned → Answer → Type 0
+PlaysPlan loops trace h p = Reads (PlaysTo loops trace h p)

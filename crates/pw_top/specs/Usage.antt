@@ -1,49 +1,28 @@
--- The grammar of command lines: of words outside it, the first at fault, or their number where more
--- are wanted. This project's.
-use Rattle.std.specs.Prelude.{◌≡◌, ℕ, ◌==◌, ◌&&◌, Bool, false, not, nat_le, if◌then◌else◌, List, [], ◌∷◌, length, codes, bytes_eq, Result, Ok, Err}
+-- The grammar of command lines: what words ask for, or the first word at fault. This project's.
+use Rattle.std.specs.Prelude.{◌≡◌, ℕ, ◌≤◌, if◌then◌else◌, List, [], ◌∷◌, codes, bytes_eq, unwrap_or, Result, Ok, Err}
+use Rattle.pw_top.specs.declared.options.Options.{Options}
 use Rattle.pw_top.specs.declared.status.Status.{Status}
 use Rattle.pw_top.specs.declared.status.Status.TheVariants as S
 use Rattle.pw_top.specs.declared.usage.CommandLine.{CommandLine}
 use Rattle.pw_top.specs.declared.usage.CommandLine.TheVariants as C
 use Rattle.pw_top.specs.declared.usage.FileWords.{FileWords}
 use Rattle.pw_top.specs.declared.usage.FilePair.{FilePair}
+use Rattle.pw_top.specs.Options.{options_of}
+pub use Rattle.pw_top.specs.Words.{Words, then_file, one_file, two_files, three_files}
 
--- the words of a command line, as bytes
-abbrev pub Words : Type 0
-Words = List (List ℕ)
+-- a script and its options: one loop and no ticks where nothing is said of them
+abbrev pub run_with : List ℕ → Result Options ℕ → Result CommandLine Status
+run_with script (Ok o) = Ok (C.Run (record {
+  script = script;
+  loops = unwrap_or o.loops 1;
+  ticks = unwrap_or o.ticks 0;
+  trace = o.trace;
+}))
+run_with script (Err index) = Err (S.Usage index)
 
--- a word that names a file: 1 to 255 bytes, the first of them no `-`
-abbrev pub is_file_word : List ℕ → Bool
-is_file_word [] = false
-is_file_word (c ∷ cs) = not (c == 45) && nat_le (length (c ∷ cs)) 255
-
--- the word at an index names a file, and what comes next
-abbrev pub then_file : {T : Type 0} → ℕ → Words → (List ℕ → Words → Result T Status)
-    → Result T Status
-then_file index [] next = Err (S.Usage index)
-then_file index (file ∷ rest) next = if is_file_word file then next file rest
-    else Err (S.Usage index)
-
--- nothing stands from an index on
-abbrev pub then_nothing : {T : Type 0} → ℕ → Words → T → Result T Status
-then_nothing index [] x = Ok x
-then_nothing index (more ∷ rest) x = Err (S.Usage index)
-
--- the words behind a command that has one file, two or three
-unfoldable pub one_file : Words → Result (List ℕ) Status
-one_file words = then_file 1 words (λ file rest. then_nothing 2 rest file)
-
-unfoldable pub two_files : Words → Result FilePair Status
-two_files words = then_file 1 words (λ a bs. then_file 2 bs
-    (λ b rest. then_nothing 3 rest (record { first = a; second = b })))
-
-unfoldable pub three_files : Words → Result FileWords Status
-three_files words = then_file 1 words (λ a bs. then_file 2 bs (λ b outs. then_file 3 outs
-    (λ c rest. then_nothing 4 rest (record { first = a; second = b; third = c }))))
-
-abbrev pub run_of : Result (List ℕ) Status → Result CommandLine Status
-run_of (Ok script) = Ok (C.Run (record { script = script }))
-run_of (Err status) = Err status
+-- the words behind `run`
+unfoldable pub run_of : Words → Result CommandLine Status
+run_of words = then_file 1 words (λ script rest. run_with script (options_of rest))
 
 abbrev pub dump_of : Result (List ℕ) Status → Result CommandLine Status
 dump_of (Ok file) = Ok (C.Dump (record { file = file }))
@@ -65,12 +44,22 @@ check_of (Err status) = Err status
 unfoldable pub command_of : Words → Result CommandLine Status
 command_of [] = Err (S.Usage 0)
 command_of (name ∷ rest) =
-    if bytes_eq name (codes "run") then run_of (one_file rest)
+    if bytes_eq name (codes "run") then run_of rest
     else (if bytes_eq name (codes "dump") then dump_of (one_file rest)
     else (if bytes_eq name (codes "filter") then filter_of (three_files rest)
     else (if bytes_eq name (codes "automate") then automate_of (three_files rest)
     else (if bytes_eq name (codes "check") then check_of (two_files rest)
     else Err (S.Usage 0)))))
+
+-- the asks of a ticker from one late check to the next; 0 where no run asks for any
+abbrev pub ticks_in : Result CommandLine Status → ℕ
+ticks_in (Ok (C.Run c)) = c.ticks
+ticks_in other = 0
+
+-- a run has at most 16 loops
+abbrev pub HasFewLoops : CommandLine → Type 0
+HasFewLoops (C.Run c) = c.loops ≤ 16
+HasFewLoops other = Unit {0}
 
 -- the words were read as they should, or memory was short
 abbrev pub IsRead : {T : Type 0} → Result T Status → Result T Status → Type 0

@@ -6,7 +6,12 @@ mod delivering;
 mod format_file;
 mod loading;
 mod loads;
+mod numbers;
+mod options;
 mod plan_work;
+mod planned;
+mod played;
+mod playing;
 mod pod_file;
 mod points_file;
 mod preparing;
@@ -21,3 +26,4 @@ mod work;
 
 pub use status::{PodWhy, Status};
 pub use top::{Report, run_words};
+pub use usage::ticks_of;

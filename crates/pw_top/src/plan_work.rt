@@ -1,31 +1,18 @@
-//! What a script gives once all its files are loaded: its plan, and what that is rendered to.
-#![tactic(auto, using(crate::proofs::AllowedLemmas::parts))]
+//! What the run of a plan stores and tells.
 
 ghost use Rattle.std.specs.Prelude.{◌≡◌, map, option_copied, IfOk, All};
-ghost use Rattle.pw_base.specs.SoundPlan.{IsSoundPlan};
-ghost use Rattle.cycle_model.specs.WavesFit.{WavesFit};
-ghost use Rattle.graph_script.specs.Kinds.{made_by, HasKinds};
-ghost use Rattle.graph_script.specs.Making.{NamesMade};
-ghost use Rattle.graph_script.specs.Ranges.{HasRanges};
-ghost use Rattle.graph_plan.specs.Conditions.{AreScriptPorts, HaveWaves};
-ghost use Rattle.graph_plan.specs.Joining.{JoinsKinds};
-ghost use Rattle.pw_top.specs.Allowed.{Reads};
-ghost use Rattle.pw_top.specs.Ending.{Ends, CommandCause, IsDeliverable};
-ghost use Rattle.pw_top.specs.Stocking.{IsStockOf};
-ghost use Rattle.pw_top.specs.PlannedWork.{plan_work, WorksPlan, PlansPorts, PlansStock};
-ghost use Rattle.pw_top.specs.SinkStores.{makes_sink, sink_line_of, sink_file, sink_store, AllPlaced};
+ghost use Rattle.pw_base.specs.History.{IsLegalHistory};
+ghost use Rattle.graph_script.specs.Kinds.{made_by};
+ghost use Rattle.pw_top.specs.PlannedWork.{plan_work, if_traced, rendered, IsPlayable};
+ghost use Rattle.pw_top.specs.SinkStores.{makes_sink, sink_line_of, sink_file, sink_store};
 
-use crate::status::Status;
-use crate::stock::Stock;
+use crate::planned::Planned;
 use crate::work::{Content, Store, Work};
-use cycle_model::render;
 use cycle_trace::run_text;
-use graph_plan::{PlanFault, plan};
-use graph_script::{Command, Line, Script};
-use port_model::Ports;
-use pw_base::{Items, Memory, Plan, Text};
+use graph_script::{Command, Line};
+use pw_base::{Event, Items, Memory, Text};
 use std::alloc::Global;
-use wav_files::{Kept, WavIn};
+use wav_files::{Kept, Outcome};
 
 // Whether a command makes this node as a sink.
 fn makes_sink(command: &Command, node: u32) -> bool
@@ -86,75 +73,27 @@ fn sink_stores(alloc: Global, lines: &[Line], sinks: Items<Kept>) -> Result<Item
     Ok(stores)
 }
 
-// The stores and the text of a plan.
-fn plan_work(
+// The events, where they are wanted in the text.
+fn if_traced(trace: bool, history: &Items<Event>) -> Option<&Items<Event>>
+    ensures { option_copied result ≡ if_traced trace history.now }
+{
+    if trace { Some(history) } else { None }
+}
+
+/// The stores and the text of a run: its sinks' files, and with `trace` its events.
+pub fn plan_work(
     alloc: Global,
-    script: &Script,
-    waves: &Items<WavIn>,
-    plan: &Plan,
+    planned: &Planned,
+    trace: bool,
+    history: &Items<Event>,
+    outcome: Outcome,
 ) -> Result<Work, Memory>
-    requires sound { IsSoundPlan plan.now }
-    requires fit { WavesFit plan.now waves.now }
-    requires joins { All (JoinsKinds plan.now) plan.now.lines }
-    ensures { IfOk result (λ work. work ≡ plan_work script.now waves.now plan.now) }
+    requires planned { IsPlayable planned.now }
+    requires legal { IsLegalHistory (map (λ e. e.shape) planned.now.plan.epochs) history.now }
+    requires outcome { outcome ≡ rendered planned.now.plan planned.now.waves }
+    ensures { IfOk result (λ work. work ≡ plan_work planned.now trace history.now) }
 {
-    let outcome = render(alloc, plan, waves)?;
-    let text = run_text(alloc, plan, None, &outcome)?;
-    let stores = sink_stores(alloc, script.lines.as_slice(), outcome.sinks)?;
+    let text = run_text(alloc, &planned.plan, if_traced(trace, history), &outcome)?;
+    let stores = sink_stores(alloc, planned.script.lines.as_slice(), outcome.sinks)?;
     Ok(Work { stores, text })
-}
-
-// What a plan is rendered to.
-fn render_plan(
-    alloc: Global,
-    script: &Script,
-    waves: &Items<WavIn>,
-    plan: &Plan,
-) -> Result<Work, Status>
-    requires sound { IsSoundPlan plan.now }
-    requires fit { WavesFit plan.now waves.now }
-    requires joins { All (JoinsKinds plan.now) plan.now.lines }
-    requires placed { AllPlaced script.now.lines plan.now waves.now }
-    ensures done { Ends (WorksPlan script.now waves.now plan.now) result }
-    ensures cause { CommandCause IsDeliverable 0 0 result }
-{
-    match plan_work(alloc, script, waves, plan) {
-        Ok(work) => Ok(work),
-        Err(_memory) => Err(Status::Memory),
-    }
-}
-
-// The plan of a script from its ports and waves, and what it is rendered to.
-fn work_ports(
-    alloc: Global,
-    script: &Script,
-    waves: &Items<WavIn>,
-    ports: Ports,
-) -> Result<Work, Status>
-    requires ranges { HasRanges script.now }
-    requires kinds { HasKinds script.now }
-    requires made { NamesMade 0 script.now.lines }
-    requires ports { AreScriptPorts script.now.lines ports }
-    requires waves { HaveWaves ports waves.now }
-    ensures done { Ends (PlansPorts script.now ports waves.now) result }
-    ensures cause { CommandCause IsDeliverable 0 0 result }
-{
-    match plan(alloc, script, waves, ports) {
-        Err(PlanFault::Limit { line, which }) => Err(Status::Limit { place: line, which }),
-        Err(PlanFault::Memory) => Err(Status::Memory),
-        Ok(plan) => render_plan(alloc, script, waves, &plan),
-    }
-}
-
-/// Plans the script, whose files are loaded, and renders the plan.
-pub fn work_stock(alloc: Global, script: &Script, stock: Stock) -> Result<Work, Status>
-    requires ranges { HasRanges script.now }
-    requires kinds { HasKinds script.now }
-    requires made { NamesMade 0 script.now.lines }
-    requires stock { IsStockOf script.now.lines stock }
-    ensures done { Ends (PlansStock script.now stock) result }
-    ensures cause { CommandCause IsDeliverable 0 0 result }
-{
-    let Stock { ports, waves, .. } = stock;
-    work_ports(alloc, script, &waves, ports)
 }

@@ -3,25 +3,29 @@ ghost use Rattle.std.specs.Prelude.{◌≡◌, ℕ, ◌≤◌, ◌⊎◌, ◌++�
 ghost use Rattle.pw_base.specs.Files.{names_in};
 ghost use Rattle.pw_base.specs.Causes.{Rose};
 ghost use Rattle.pw_top.specs.Ending.{CommandCause, PrepareCause, IsDeliverable};
-ghost use Rattle.pw_top.specs.Preparing.{LoadsOnly, Tells};
-ghost use Rattle.pw_top.specs.Usage.{command_of};
+ghost use Rattle.pw_top.specs.Playing.{happened, HasNothing, TellsPlay, PlayFollows};
+ghost use Rattle.pw_top.specs.Preparing.{LoadsOnly};
+ghost use Rattle.pw_top.specs.Usage.{command_of, HasFewLoops};
 ghost use Rattle.pw_top.specs.Answer.{Answer};
 ghost use Rattle.pw_top.specs.CommandLine.{IsAnswerTo, IsAnswer};
 ghost use Rattle.pw_top.specs.Following.{status_of};
-ghost use Rattle.pw_top.specs.Headline.{Follows, Caused, IsUsage};
+ghost use Rattle.pw_top.specs.Headline.{Follows, Caused, IsUsage, reported};
 
 use crate::delivering::{deliver, end_line};
+use crate::played::Played;
 use crate::preparing::Prepare;
 use crate::status::Status;
 use crate::usage::{CommandLine, read_words};
 use crate::work::Work;
+use board_rule::Closed;
 use pw_base::{Event, Files, Gate, Items, Sink, Ticker};
 use std::alloc::Global;
 use std::sync::Wait;
 use std::thread::Threads;
 
 impl CommandLine {
-    // Makes the loads of the command in order; what happened in a run is left in `history`.
+    // Makes the loads of the command in order, and its run. What happened in it is left in
+    // `played`.
     fn prepare<R: Threads + Wait + Sync, F: Files, G: Gate + Sync, K: Ticker>(
         self,
         rt: &R,
@@ -29,24 +33,25 @@ impl CommandLine {
         files: &mut F,
         gate: &G,
         ticker: &mut K,
-        history: &mut Items<Event>,
+        played: &mut Played,
     ) -> Result<Work, Status>
+        requires few { HasFewLoops self }
+        requires none { HasNothing played.old }
         ensures files { LoadsOnly (F.held files.old) (F.held files.new) (F.load_faults files.old)
             (F.load_faults files.new) (F.store_faults files.old) (F.store_faults files.new) }
-        ensures told { Tells (F.held files.old) (IsAnswerTo self history.new) result }
+        ensures told { TellsPlay (F.held files.old) (IsAnswerTo self
+            (happened played.new (K.ticks ticker.old) (K.ticks ticker.new)))
+            (happened played.new (K.ticks ticker.old) (K.ticks ticker.new)) result }
         ensures cause { CommandCause IsDeliverable (F.load_faults files.old)
             (F.load_faults files.new) result }
+        ensures later { K.ticks ticker.old ≤ K.ticks ticker.new }
     {
         match self {
-            CommandLine::Run(command) => command.prepare(rt, alloc, files, gate, ticker, history),
-            CommandLine::Dump(command) => command.prepare(rt, alloc, files, gate, ticker, history),
-            CommandLine::Filter(command) => command.prepare(
-                rt, alloc, files, gate, ticker, history,
-            ),
-            CommandLine::Automate(command) => command.prepare(
-                rt, alloc, files, gate, ticker, history,
-            ),
-            CommandLine::Check(command) => command.prepare(rt, alloc, files, gate, ticker, history),
+            CommandLine::Run(command) => command.play(rt, alloc, files, gate, ticker, played),
+            CommandLine::Dump(command) => command.prepare(alloc, files),
+            CommandLine::Filter(command) => command.prepare(alloc, files),
+            CommandLine::Automate(command) => command.prepare(alloc, files),
+            CommandLine::Check(command) => command.prepare(alloc, files),
         }
     }
 }
@@ -59,28 +64,34 @@ fn prepare_words<R: Threads + Wait + Sync, F: Files, G: Gate + Sync, K: Ticker>(
     files: &mut F,
     gate: &G,
     ticker: &mut K,
-    history: &mut Items<Event>,
+    played: &mut Played,
 ) -> Result<Work, Status>
+    requires none { HasNothing played.old }
     ensures files { LoadsOnly (F.held files.old) (F.held files.new) (F.load_faults files.old)
         (F.load_faults files.new) (F.store_faults files.old) (F.store_faults files.new) }
-    ensures told { Tells (F.held files.old)
-        (IsAnswer (map string_bytes words.now) history.new) result }
+    ensures told { TellsPlay (F.held files.old) (IsAnswer (map string_bytes words.now)
+        (happened played.new (K.ticks ticker.old) (K.ticks ticker.new)))
+        (happened played.new (K.ticks ticker.old) (K.ticks ticker.new)) result }
     ensures cause { PrepareCause IsDeliverable (F.load_faults files.old)
         (F.load_faults files.new) result }
     ensures usage { IsUsage (command_of (map string_bytes words.now)) (status_of result) }
+    ensures later { K.ticks ticker.old ≤ K.ticks ticker.new }
 {
     match read_words(alloc, words) {
         Err(status) => Err(status),
-        Ok(command) => command.prepare(rt, alloc, files, gate, ticker, history),
+        Ok(command) => command.prepare(rt, alloc, files, gate, ticker, played),
     }
 }
 
-/// How a call ended, and what happened in its run.
+/// How a call ended, and what happened in its run: the events, and the boards that it closed. Both
+/// are empty where no run was made.
 #[derive(Drop)]
 pub struct Report {
     pub status: Status,
-    /// The events of the run, where one was made; so far none are kept.
+    /// The events of all closed boards, one after the other.
     pub history: Items<Event>,
+    /// One closed board an epoch, in order.
+    pub closed: Items<Closed>,
 }
 
 /// Does what the words of a command line ask for: loads, then stores, then the text, or the line of
@@ -91,6 +102,10 @@ pub struct Report {
 /// and why it stopped: a refusal is the answer's own; `ReadFault`, and `WriteFault` with its place,
 /// come only where the outside counted a fault in this call; `Memory` may come at any step. The
 /// line of a status is put last, and nothing is put after a failed put.
+///
+/// With `run`, the history and the closed boards are those of a run of the script's plan by the
+/// loops that the words name: one board an epoch, with the events of a legal history, on which each
+/// link gave the samples of the cycle function. It may wait for the loops.
 pub fn run_words<R: Threads + Wait + Sync, F: Files, O: Sink, G: Gate + Sync, K: Ticker>(
     rt: &R,
     alloc: Global,
@@ -100,13 +115,16 @@ pub fn run_words<R: Threads + Wait + Sync, F: Files, O: Sink, G: Gate + Sync, K:
     gate: &G,
     ticker: &mut K,
 ) -> Report
-    // What the status says of the expected answer, of the files and of the text, where these are
-    // told.
+    // What the status says of the expected answer, of the files, of the text and of the run, where
+    // these are told.
     ensures told { IsSome (F.held files.old) →
-        (a : Answer) × IsAnswer (map string_bytes words.now) result.history
+        (a : Answer) × IsAnswer (map string_bytes words.now)
+        (reported result (K.ticks ticker.old) (K.ticks ticker.new))
         (names_in (F.held files.old)) a × Follows a
         (F.store_faults files.old) (F.store_faults files.new) (O.faults out.old) (O.faults out.new)
-        (F.held files.old) (F.held files.new) (O.given out.old) (O.given out.new) result.status }
+        (F.held files.old) (F.held files.new) (O.given out.old) (O.given out.new) result.status
+        × PlayFollows a.outcome (reported result (K.ticks ticker.old) (K.ticks ticker.new))
+        result.status }
 
     // Each fault has its cause outside, whether the files are told or not.
     ensures cause { Caused (F.load_faults files.old) (F.load_faults files.new)
@@ -119,13 +137,23 @@ pub fn run_words<R: Threads + Wait + Sync, F: Files, O: Sink, G: Gate + Sync, K:
         → ¬ Rose (F.load_faults files.old) (F.load_faults files.new) →
         ¬ Rose (F.store_faults files.old) (F.store_faults files.new)
         → ¬ Rose (O.faults out.old) (O.faults out.new) →
-        (a : Answer) × IsAnswer (map string_bytes words.now) result.history
+        (a : Answer) × IsAnswer (map string_bytes words.now)
+        (reported result (K.ticks ticker.old) (K.ticks ticker.new))
         (names_in (F.held files.old)) a ×
         ((result.status ≡ status_of a.outcome) ⊎ (result.status ≡ Status.Memory)) }
+    ensures later { K.ticks ticker.old ≤ K.ticks ticker.new }
 {
-    let mut history = Items::new(alloc);
-    let made = prepare_words(rt, alloc, words, files, gate, ticker, &mut history);
+    let mut played = Played {
+        history: Items::new(alloc),
+        closed: Items::new(alloc),
+    };
+    let made = prepare_words(rt, alloc, words, files, gate, ticker, &mut played);
     let delivered = deliver(alloc, files, out, &made);
     let status = end_line(alloc, out, delivered);
-    Report { status, history }
+    let Played { history, closed } = played;
+    Report {
+        status,
+        history,
+        closed,
+    }
 }

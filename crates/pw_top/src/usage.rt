@@ -1,13 +1,16 @@
 //! The words of a command line.
 ghost use Rattle.std.specs.Prelude.{◌≡◌, ℕ, ◌<◌, map, string_bytes, length, IfOk, Ok};
-ghost use Rattle.pw_top.specs.Usage.{is_file_word, then_file, then_nothing, one_file, three_files, run_of, dump_of, filter_of, automate_of, two_files, check_of, command_of};
-ghost use Rattle.pw_top.specs.Usage.{IsRead};
+ghost use Rattle.pw_top.specs.Words.{is_file_word, then_file, then_nothing, one_file, two_files, three_files};
+ghost use Rattle.pw_top.specs.Usage.{run_with, run_of, dump_of, filter_of, automate_of, check_of, command_of, ticks_in};
+ghost use Rattle.pw_top.specs.Usage.{IsRead, HasFewLoops};
+ghost use Rattle.pw_top.specs.Options.{HasFew};
 
 use crate::commands::automate::AutomateFile;
 use crate::commands::check_traces::CheckTrace;
 use crate::commands::dump::DumpFile;
 use crate::commands::filter_files::FilterFiles;
-use crate::commands::run::RunScript;
+use crate::commands::run::Running;
+use crate::options::{Options, read_options};
 use crate::status::Status;
 use pw_base::{Items, Text};
 use std::alloc::Global;
@@ -15,7 +18,7 @@ use std::alloc::Global;
 /// What a command line asks for.
 #[derive(Drop)]
 pub enum CommandLine {
-    Run(RunScript),
+    Run(Running),
     Dump(DumpFile),
     Filter(FilterFiles),
     Automate(AutomateFile),
@@ -58,7 +61,7 @@ fn name_of(alloc: Global, word: &String) -> Result<Text, Status>
 }
 
 // The one file behind a command.
-#[tactic(auto, unfolding(crate::specs::Usage::one_file))]
+#[tactic(auto, unfolding(crate::specs::Words::one_file))]
 fn one_file(alloc: Global, rest: &[String]) -> Result<Text, Status>
     ensures { IsRead (one_file (map string_bytes rest.now)) result }
 {
@@ -133,7 +136,7 @@ fn second_file(alloc: Global, a: &String, rest: &[String]) -> Result<FileWords, 
 }
 
 // The three files behind a command.
-#[tactic(auto, unfolding(crate::specs::Usage::three_files))]
+#[tactic(auto, unfolding(crate::specs::Words::three_files))]
 fn three_files(alloc: Global, rest: &[String]) -> Result<FileWords, Status>
     ensures { IsRead (three_files (map string_bytes rest.now)) result }
 {
@@ -183,7 +186,7 @@ fn last_file(alloc: Global, a: &String, rest: &[String]) -> Result<FilePair, Sta
 }
 
 // The two files behind a command.
-#[tactic(auto, unfolding(crate::specs::Usage::two_files))]
+#[tactic(auto, unfolding(crate::specs::Words::two_files))]
 fn two_files(alloc: Global, rest: &[String]) -> Result<FilePair, Status>
     ensures { IsRead (two_files (map string_bytes rest.now)) result }
 {
@@ -199,13 +202,40 @@ fn two_files(alloc: Global, rest: &[String]) -> Result<FilePair, Status>
     }
 }
 
-// `run SCRIPT`, behind its first word.
-fn read_run(alloc: Global, rest: &[String]) -> Result<CommandLine, Status>
-    ensures { IsRead (run_of (one_file (map string_bytes rest.now))) result }
+// A script and its options: one loop and no ticks where nothing is said of them.
+fn run_with(alloc: Global, script: &String, options: Options) -> Result<CommandLine, Status>
+    requires few { HasFew options }
+    ensures read { IsRead (run_with (string_bytes script.now) (Ok options)) result }
+    ensures few { IfOk result HasFewLoops }
 {
-    match one_file(alloc, rest) {
-        Ok(script) => Ok(CommandLine::Run(RunScript { script })),
-        Err(status) => Err(status),
+    match Items::from_slice(alloc, script.as_bytes()) {
+        Err(_memory) => Err(Status::Memory),
+        Ok(script) => Ok(CommandLine::Run(Running {
+            script,
+            loops: options.loops.unwrap_or(1),
+            ticks: options.ticks.unwrap_or(0),
+            trace: options.trace,
+        })),
+    }
+}
+
+// `run SCRIPT` with its options, behind its first word.
+#[tactic(auto, unfolding(crate::specs::Usage::run_of))]
+fn read_run(alloc: Global, rest: &[String]) -> Result<CommandLine, Status>
+    ensures read { IsRead (run_of (map string_bytes rest.now)) result }
+    ensures few { IfOk result HasFewLoops }
+{
+    match rest {
+        [] => Err(Status::Usage { word: 1 }),
+        [script, more @ ..] => {
+            if !is_file_word(script) {
+                return Err(Status::Usage { word: 1 });
+            }
+            match read_options(more) {
+                Err(word) => Err(Status::Usage { word }),
+                Ok(options) => run_with(alloc, script, options),
+            }
+        }
     }
 }
 
@@ -275,7 +305,8 @@ fn read_check(alloc: Global, rest: &[String]) -> Result<CommandLine, Status>
 /// What the words ask for, or the first word at fault.
 #[tactic(auto, unfolding(crate::specs::Usage::command_of))]
 pub fn read_words(alloc: Global, words: &[String]) -> Result<CommandLine, Status>
-    ensures { IsRead (command_of (map string_bytes words.now)) result }
+    ensures read { IsRead (command_of (map string_bytes words.now)) result }
+    ensures few { IfOk result HasFewLoops }
 {
     match words {
         [] => Err(Status::Usage { word: 0 }),
@@ -292,6 +323,43 @@ pub fn read_words(alloc: Global, words: &[String]) -> Result<CommandLine, Status
                 read_check(alloc, rest)
             } else {
                 Err(Status::Usage { word: 0 })
+            }
+        }
+    }
+}
+
+// The same behind the word `run`.
+#[tactic(auto, unfolding(crate::specs::Usage::run_of))]
+fn ticks_behind(rest: &[String]) -> u32
+    ensures { result ≡ ticks_in (run_of (map string_bytes rest.now)) }
+{
+    match rest {
+        [] => 0,
+        [script, more @ ..] => {
+            if !is_file_word(script) {
+                return 0;
+            }
+            match read_options(more) {
+                Err(_) => 0,
+                Ok(options) => options.ticks.unwrap_or(0),
+            }
+        }
+    }
+}
+
+/// The number of asks from one late check of a run to the next, 1 to 1,000,000, where the words are
+/// in the grammar and name it; else 0. Takes no memory.
+#[tactic(auto, unfolding(crate::specs::Usage::command_of))]
+pub fn ticks_of(words: &[String]) -> u32
+    ensures { result ≡ ticks_in (command_of (map string_bytes words.now)) }
+{
+    match words {
+        [] => 0,
+        [name, rest @ ..] => {
+            if name.as_bytes() == b"run".as_slice() {
+                ticks_behind(rest)
+            } else {
+                0
             }
         }
     }

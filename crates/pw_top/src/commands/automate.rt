@@ -18,12 +18,8 @@ use crate::status::Status;
 use crate::wave_file::wave_step;
 use crate::work::{Content, Store, Work};
 use control_sequence::{Automation, Points};
-use pw_base::{
-    Event, Files, Gate, Items, Memory, Text, Ticker, WAV_BYTES_LIMIT, Which, append_decimal,
-};
+use pw_base::{Files, Items, Memory, Text, WAV_BYTES_LIMIT, Which, append_decimal};
 use std::alloc::Global;
-use std::sync::Wait;
-use std::thread::Threads;
 use wav_files::Wav;
 
 /// Stores the wave of one file, by the gains of another's control sequence, under a third name.
@@ -37,17 +33,9 @@ pub struct AutomateFile {
 impl Prepare for AutomateFile {
     ghost use Rattle.pw_top.specs.Automate.{IsAutomateAnswer};
 
-    ghost answers = { λ c history names. IsAutomateAnswer names c.input c.seq c.out };
+    ghost answers = { λ c names. IsAutomateAnswer names c.input c.seq c.out };
 
-    fn prepare<R: Threads + Wait + Sync, F: Files, G: Gate + Sync, K: Ticker>(
-        self,
-        _rt: &R,
-        alloc: Global,
-        files: &mut F,
-        _gate: &G,
-        _ticker: &mut K,
-        _history: &mut Items<Event>,
-    ) -> Result<Work, Status> {
+    fn prepare<F: Files>(self, alloc: Global, files: &mut F) -> Result<Work, Status> {
         let AutomateFile { input, seq, out } = self;
         match load_step(alloc, files, 1, &input, WAV_BYTES_LIMIT, Which::WavBytes) {
             Err(status) => Err(status),

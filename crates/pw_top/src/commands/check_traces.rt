@@ -29,13 +29,8 @@ use crate::work::Work;
 use graph_plan::{PlanFault, plan};
 use graph_script::Script;
 use port_model::Ports;
-use pw_base::{
-    Event, Files, Gate, Items, Memory, Plan, SCRIPT_BYTES_LIMIT, Text, Ticker, Which,
-    append_decimal,
-};
+use pw_base::{Files, Items, Memory, Plan, SCRIPT_BYTES_LIMIT, Text, Which, append_decimal};
 use std::alloc::Global;
-use std::sync::Wait;
-use std::thread::Threads;
 use trace_check::{Finding, Verdict, check_trace};
 use wav_files::WavIn;
 
@@ -55,17 +50,9 @@ pub struct CheckTrace {
 impl Prepare for CheckTrace {
     ghost use Rattle.pw_top.specs.Check.{IsCheckAnswer};
 
-    ghost answers = { λ c history names. IsCheckAnswer names c.script c.trace };
+    ghost answers = { λ c names. IsCheckAnswer names c.script c.trace };
 
-    fn prepare<R: Threads + Wait + Sync, F: Files, G: Gate + Sync, K: Ticker>(
-        self,
-        _rt: &R,
-        alloc: Global,
-        files: &mut F,
-        _gate: &G,
-        _ticker: &mut K,
-        _history: &mut Items<Event>,
-    ) -> Result<Work, Status> {
+    fn prepare<F: Files>(self, alloc: Global, files: &mut F) -> Result<Work, Status> {
         match load_step(
             alloc,
             files,

@@ -10,10 +10,8 @@ use crate::preparing::Prepare;
 use crate::status::Status;
 use crate::work::Work;
 use pod_codec::{Pod, dump_text};
-use pw_base::{Event, Files, Gate, Items, Text, Ticker, Which};
+use pw_base::{Files, Items, Text, Which};
 use std::alloc::Global;
-use std::sync::Wait;
-use std::thread::Threads;
 
 /// Dumps the POD of this file.
 #[derive(Drop)]
@@ -24,17 +22,9 @@ pub struct DumpFile {
 impl Prepare for DumpFile {
     ghost use Rattle.pw_top.specs.Dump.{IsDumpAnswer};
 
-    ghost answers = { λ c history names. IsDumpAnswer names c.file };
+    ghost answers = { λ c names. IsDumpAnswer names c.file };
 
-    fn prepare<R: Threads + Wait + Sync, F: Files, G: Gate + Sync, K: Ticker>(
-        self,
-        _rt: &R,
-        alloc: Global,
-        files: &mut F,
-        _gate: &G,
-        _ticker: &mut K,
-        _history: &mut Items<Event>,
-    ) -> Result<Work, Status> {
+    fn prepare<F: Files>(self, alloc: Global, files: &mut F) -> Result<Work, Status> {
         match load_step(alloc, files, 1, &self.file, POD_BYTES, Which::PodBytes) {
             Err(status) => Err(status),
             Ok(bytes) => dump_bytes(alloc, &bytes),

@@ -21,10 +21,8 @@ use crate::status::Status;
 use crate::work::{Content, Store, Work};
 use format_filter::{Filtered, Format, filter, pod_of};
 use pod_codec::{Pod, WriteFault, write_pod};
-use pw_base::{Event, Files, Gate, Items, Memory, Text, Ticker, Which, append_decimal};
+use pw_base::{Files, Items, Memory, Text, Which, append_decimal};
 use std::alloc::Global;
-use std::sync::Wait;
-use std::thread::Threads;
 
 /// Filters the objects of two files, A as output, and stores what they have in common under a third
 /// name.
@@ -38,17 +36,9 @@ pub struct FilterFiles {
 impl Prepare for FilterFiles {
     ghost use Rattle.pw_top.specs.Filter.{IsFilterAnswer};
 
-    ghost answers = { λ c history names. IsFilterAnswer names c.a c.b c.out };
+    ghost answers = { λ c names. IsFilterAnswer names c.a c.b c.out };
 
-    fn prepare<R: Threads + Wait + Sync, F: Files, G: Gate + Sync, K: Ticker>(
-        self,
-        _rt: &R,
-        alloc: Global,
-        files: &mut F,
-        _gate: &G,
-        _ticker: &mut K,
-        _history: &mut Items<Event>,
-    ) -> Result<Work, Status> {
+    fn prepare<F: Files>(self, alloc: Global, files: &mut F) -> Result<Work, Status> {
         let FilterFiles { a, b, out } = self;
         match load_step(alloc, files, 1, &a, POD_BYTES, Which::PodBytes) {
             Err(status) => Err(status),

@@ -1,12 +1,9 @@
--- A sound plan can be rendered, and its text printed.
-use Rattle.cycle_model.proofs.SoundPlanLemmas.{sound_is_renderable}
-use Rattle.pw_top.proofs.PlanWorkLemmas.{plan_prints}
+-- The text of a run can be printed.
+use Rattle.pw_top.proofs.PrintableLemmas.{run_prints}
+use Rattle.std.proofs.Common.{subst, sym}
+use Rattle.cycle_trace.specs.Printable.{IsPrintable}
 use Rattle.pw_top.proofs.plan_work.plan_work.Goals as goal
 
-pub render-requires : goal.render-requires
-render-requires c = record {
-  renderable = sound_is_renderable c.args.plan.now c.args.waves.now c.requires.sound c.requires.fit;
-}
-
 pub run_text-requires : goal.run_text-requires
-run_text-requires c = plan_prints c.args.plan.now c.requires.joins
+run_text-requires c = subst (IsPrintable c.args.planned.now.plan) (sym c.if_traced.ensures)
+    (run_prints c.args.planned.now.plan c.requires.planned.sound c.requires.planned.joins c.args.trace c.args.history.now c.requires.legal)

@@ -2,7 +2,7 @@ use Rattle.pw_top.proofs.CommandLineLemmas.{answer_read, answer_stop}
 use Rattle.pw_top.proofs.top.prepare_words.Goals as goal
 
 pub returns-in-Err-clause-told : goal.returns-in-Err-clause-told
-returns-in-Err-clause-told g c = λ h. answer_stop _ _ _ _ c.in-Err.ensures
+returns-in-Err-clause-told g c = λ h. answer_stop _ _ _ _ c.requires.none c.in-Err.ensures.read
 
 pub returns-in-Ok-clause-told : goal.returns-in-Ok-clause-told
-returns-in-Ok-clause-told g c = λ h. answer_read _ _ _ _ _ c.in-Ok.ensures (c.prepare.ensures.told h)
+returns-in-Ok-clause-told g c = λ h. answer_read _ _ _ c.in-Ok.command _ c.in-Ok.ensures.read (c.prepare.ensures.told h)

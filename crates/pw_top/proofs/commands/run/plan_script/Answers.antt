@@ -12,22 +12,22 @@ use Rattle.pw_top.specs.Loads.{LoadsAll}
 use Rattle.pw_top.specs.PlannedWork.{PlansStock}
 use Rattle.pw_top.specs.Stocking.{nothing_loaded, IsStockOf}
 use Rattle.pw_top.proofs.AllowedLemmas.{binds_goes, binds_stops}
-use Rattle.pw_top.proofs.commands.run.run_script.Goals as goal
+use Rattle.pw_top.proofs.commands.run.plan_script.Goals as goal
 
 pub load_all-requires : goal.load_all-requires
 load_all-requires g c =
     let P : List Line → Type 0 = λ ls. AreLinesOf (kinds_of ls) ls in
-    let named = named_are c.args.script.now c.requires.ranges c.requires.kinds in
+    let named = named_are c.args.script c.requires.ranges c.requires.kinds in
     let count = c.requires.ranges.count in
-    let few : length (kinds_of c.args.script.now.lines) ≤ 63 = omega (arith, named, count) in
+    let few : length (kinds_of c.args.script.lines) ≤ 63 = omega (arith, named, count) in
     record {
-      lines = subst P (sym c.as_slice.ensures) (lines_are c.args.script.now c.requires.ranges c.requires.kinds);
+      lines = subst P (sym c.as_slice.ensures) (lines_are c.args.script c.requires.ranges c.requires.kinds);
       made = subst (NamesMade 0) (sym c.as_slice.ensures) c.requires.order.made;
       few = subst (λ (ls : List Line). length (kinds_of ls) ≤ 63) (sym c.as_slice.ensures) few;
     }
 
-pub work_stock-requires : goal.work_stock-requires
-work_stock-requires g c = record {
+pub plan_stock-requires : goal.plan_stock-requires
+plan_stock-requires g c = record {
   ranges = c.requires.ranges;
   kinds = c.requires.kinds;
   made = c.requires.order.made;
@@ -36,11 +36,11 @@ work_stock-requires g c = record {
 
 pub returns-in-Ok-clause-told : goal.returns-in-Ok-clause-told
 returns-in-Ok-clause-told g c = λ h. let names = names_in (g.F.Files.held c.args.files.now) in
-    binds_goes (LoadsAll names c.args.script.now.lines nothing_loaded) (PlansStock c.args.script.now) c.in-Ok.stock c.work_stock.result
+    binds_goes (LoadsAll names c.args.script.lines nothing_loaded) (PlansStock c.args.script) c.in-Ok.stock c.plan_stock.result
     (subst (λ (ls : List Line). Ends (LoadsAll names ls nothing_loaded) (Ok c.in-Ok.stock)) c.as_slice.ensures (c.in-Ok.ensures.told h))
-    c.work_stock.ensures.done
+    c.plan_stock.ensures.done
 
 pub returns-in-Err-clause-told : goal.returns-in-Err-clause-told
 returns-in-Err-clause-told g c = λ h. let names = names_in (g.F.Files.held c.args.files.now) in
-    binds_stops (LoadsAll names c.args.script.now.lines nothing_loaded) (PlansStock c.args.script.now) c.in-Err.status
+    binds_stops (LoadsAll names c.args.script.lines nothing_loaded) (PlansStock c.args.script) c.in-Err.status
     (subst (λ (ls : List Line). Ends (LoadsAll names ls nothing_loaded) (Err c.in-Err.status)) c.as_slice.ensures (c.in-Err.ensures.told h))

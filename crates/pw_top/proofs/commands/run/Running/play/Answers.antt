@@ -1,0 +1,14 @@
+-- What is planned plays; a refusal has run nothing.
+use Rattle.pw_base.specs.Files.{names_in}
+use Rattle.pw_top.specs.PlannedWork.{PlaysPlan}
+use Rattle.pw_top.specs.Run.{PlansFile}
+use Rattle.pw_top.proofs.PlayingLemmas.{plays_goes, plays_stops}
+use Rattle.pw_top.proofs.commands.run.Running.play.Goals as goal
+
+pub returns-clause-told : goal.returns-clause-told
+returns-clause-told g c = λ h. plays_goes (PlansFile (names_in (g.F.Files.held c.args.files.now)) c.args.self.script) _ _ c.in-Ok.planned
+    c.play_planned.result (c.in-Ok.ensures.told h) c.play_planned.ensures.done
+
+pub returns-in-Err-clause-told : goal.returns-in-Err-clause-told
+returns-in-Err-clause-told g c = λ h. plays_stops (PlansFile (names_in (g.F.Files.held c.args.files.now)) c.args.self.script) _ _ c.in-Err.status
+    (c.in-Err.ensures.told h) c.requires.none

@@ -1,0 +1,29 @@
+-- Commands other than `run` run nothing.
+use Rattle.pw_base.specs.Files.{names_in}
+use Rattle.pw_top.specs.Playing.{happened}
+use Rattle.pw_top.specs.Dump.{IsDumpAnswer}
+use Rattle.pw_top.specs.Filter.{IsFilterAnswer}
+use Rattle.pw_top.specs.Automate.{IsAutomateAnswer}
+use Rattle.pw_top.specs.Check.{IsCheckAnswer}
+use Rattle.pw_top.proofs.PlayingLemmas.{plays_idly}
+use Rattle.pw_top.proofs.usage.CommandLine.prepare.Goals as goal
+
+pub returns-in-Dump-clause-told : goal.returns-in-Dump-clause-told
+returns-in-Dump-clause-told g c = λ h. rw c.in-Dump.is (plays_idly (IsDumpAnswer (names_in (g.F.Files.held c.args.files.now)) c.in-Dump.command.file)
+    (happened c.args.played.now (g.K.Ticker.ticks c.args.ticker.now) (g.K.Ticker.ticks c.args.ticker.now)) c.prepare.result
+    (c.prepare.ensures.told h) c.requires.none)
+
+pub returns-in-Filter-clause-told : goal.returns-in-Filter-clause-told
+returns-in-Filter-clause-told g c = λ h. rw c.in-Filter.is (plays_idly (IsFilterAnswer (names_in (g.F.Files.held c.args.files.now)) c.in-Filter.command.a c.in-Filter.command.b c.in-Filter.command.out)
+    (happened c.args.played.now (g.K.Ticker.ticks c.args.ticker.now) (g.K.Ticker.ticks c.args.ticker.now)) c.prepare-in-Filter.result
+    (c.prepare-in-Filter.ensures.told h) c.requires.none)
+
+pub returns-in-Automate-clause-told : goal.returns-in-Automate-clause-told
+returns-in-Automate-clause-told g c = λ h. rw c.in-Automate.is (plays_idly (IsAutomateAnswer (names_in (g.F.Files.held c.args.files.now)) c.in-Automate.command.input c.in-Automate.command.seq c.in-Automate.command.out)
+    (happened c.args.played.now (g.K.Ticker.ticks c.args.ticker.now) (g.K.Ticker.ticks c.args.ticker.now)) c.prepare-in-Automate.result
+    (c.prepare-in-Automate.ensures.told h) c.requires.none)
+
+pub returns-in-Check-clause-told : goal.returns-in-Check-clause-told
+returns-in-Check-clause-told g c = λ h. rw c.in-Check.is (plays_idly (IsCheckAnswer (names_in (g.F.Files.held c.args.files.now)) c.in-Check.command.script c.in-Check.command.trace)
+    (happened c.args.played.now (g.K.Ticker.ticks c.args.ticker.now) (g.K.Ticker.ticks c.args.ticker.now)) c.prepare-in-Check.result
+    (c.prepare-in-Check.ensures.told h) c.requires.none)

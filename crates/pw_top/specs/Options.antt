@@ -1,0 +1,69 @@
+-- The options of `run`, behind its script: each at most once, in any order, its value as the next
+-- word. What the words so far say, one after the other. This project's.
+use Rattle.std.specs.Prelude.{ℕ, ◌≤◌, ◌+◌, ◌&&◌, Bool, true, false, not, if◌then◌else◌, List, codes, bytes_eq, fold, Option, Some, None, IfSome, is_none, Result, Ok, Err}
+use Rattle.graph_script.specs.Arguments.{number_of}
+use Rattle.pw_top.specs.declared.options.Options.{Options}
+use Rattle.pw_top.specs.declared.options.Said.{Said}
+use Rattle.pw_top.specs.declared.options.Said.TheVariants.{Whole, WantsLoops, WantsTicks, Fault}
+
+abbrev pub no_options : Options
+no_options = record { loops = None; ticks = None; trace = false }
+
+-- how many words say them: an option with a value has two
+abbrev pub words_for : Option ℕ → ℕ
+words_for None = 0
+words_for (Some value) = 2
+
+abbrev pub words_for_trace : Bool → ℕ
+words_for_trace true = 1
+words_for_trace false = 0
+
+-- the index of the word behind them, which `run` and the script stand before
+abbrev pub place_after : Options → ℕ
+place_after o = 2 + words_for o.loops + words_for o.ticks + words_for_trace o.trace
+
+-- an option begins, which was not there before; `--trace` has no value
+abbrev pub begun : Options → List ℕ → Said
+begun o word =
+    if bytes_eq word (codes "--loops") && is_none o.loops then WantsLoops o
+    else (if bytes_eq word (codes "--ticks") && is_none o.ticks then WantsTicks o
+    else (if bytes_eq word (codes "--trace") && not o.trace
+    then Whole (record { loops = o.loops; ticks = o.ticks; trace = true })
+    else Fault (place_after o)))
+
+-- a value comes
+abbrev pub loops_given : Options → Option ℕ → Said
+loops_given o None = Fault (place_after o + 1)
+loops_given o (Some n) = Whole (record { loops = Some n; ticks = o.ticks; trace = o.trace })
+
+abbrev pub ticks_given : Options → Option ℕ → Said
+ticks_given o None = Fault (place_after o + 1)
+ticks_given o (Some n) = Whole (record { loops = o.loops; ticks = Some n; trace = o.trace })
+
+-- one word more: a number of loops is 0 to 16, one of ticks 1 to 1,000,000
+abbrev pub said_after : Said → List ℕ → Said
+said_after (Whole o) word = begun o word
+said_after (WantsLoops o) word = loops_given o (number_of 0 16 word)
+said_after (WantsTicks o) word = ticks_given o (number_of 1 1000000 word)
+said_after (Fault index) word = Fault index
+
+-- at the end no value is to come
+abbrev pub options_in : Said → Result Options ℕ
+options_in (Whole o) = Ok o
+options_in (WantsLoops o) = Err (place_after o + 1)
+options_in (WantsTicks o) = Err (place_after o + 1)
+options_in (Fault index) = Err index
+
+-- THE OPTIONS that words say, or the index of the first at fault
+unfoldable pub options_of : List (List ℕ) → Result Options ℕ
+options_of words = options_in (fold said_after (Whole no_options) words)
+
+-- of all that can be said, a number of loops is at most 16
+abbrev pub HasFew : Options → Type 0
+HasFew o = IfSome o.loops (λ n. n ≤ 16)
+
+abbrev pub SaysFew : Said → Type 0
+SaysFew (Whole o) = HasFew o
+SaysFew (WantsLoops o) = HasFew o
+SaysFew (WantsTicks o) = HasFew o
+SaysFew (Fault index) = Unit {0}

@@ -1,0 +1,147 @@
+//! The options of `run`: each at most once, in any order.
+ghost use Rattle.std.specs.Prelude.{◌≡◌, ◌≤◌, map, string_bytes, IfOk};
+ghost use Rattle.graph_script.specs.Arguments.{number_of};
+ghost use Rattle.pw_top.specs.Options.{words_for, place_after, begun, loops_given, ticks_given, said_after, options_in, options_of, HasFew, SaysFew};
+
+use crate::numbers::number_within;
+
+/// Loops beside the driver's, at most.
+const LOOPS_LIMIT: u32 = 16;
+
+/// Asks of a ticker from one late check to the next, at most.
+const TICKS_LIMIT: u32 = 1_000_000;
+
+/// What options say; None where one is not there.
+#[derive(Clone, Copy, Debug, PartialEq, Eq, Drop)]
+pub struct Options {
+    pub loops: Option<u32>,
+    pub ticks: Option<u32>,
+    pub trace: bool,
+}
+
+// What the words so far say.
+#[derive(Clone, Copy, Debug, PartialEq, Eq, Drop)]
+enum Said {
+    Whole(Options),
+    /// The value of `--loops` is to come.
+    WantsLoops(Options),
+    /// The value of `--ticks` is to come.
+    WantsTicks(Options),
+    /// The index of the first word at fault.
+    Fault(u32),
+}
+
+// The words of an option with a value.
+fn pair(value: Option<u32>) -> u32
+    ensures { result ≡ words_for value }
+{
+    match value {
+        None => 0,
+        Some(_) => 2,
+    }
+}
+
+// The index of the word behind the options: `run`, the script and they stand before it.
+fn place_after(options: Options) -> u32
+    ensures is { result ≡ place_after options }
+    ensures few { result ≤ 7 }
+{
+    2 + pair(options.loops) + pair(options.ticks) + u32::from(options.trace)
+}
+
+// An option begins that was not there before.
+fn begun(options: Options, word: &[u8]) -> Said
+    requires few { HasFew options }
+    ensures is { result ≡ begun options word.now }
+    ensures few { SaysFew result }
+{
+    if word == b"--loops".as_slice() && options.loops.is_none() {
+        Said::WantsLoops(options)
+    } else if word == b"--ticks".as_slice() && options.ticks.is_none() {
+        Said::WantsTicks(options)
+    } else if word == b"--trace".as_slice() && !options.trace {
+        Said::Whole(Options {
+            loops: options.loops,
+            ticks: options.ticks,
+            trace: true,
+        })
+    } else {
+        Said::Fault(place_after(options))
+    }
+}
+
+// The value of `--loops` comes.
+fn loops_given(options: Options, word: &[u8]) -> Said
+    ensures is { result ≡ loops_given options (number_of 0 16 word.now) }
+    ensures few { SaysFew result }
+{
+    match number_within(word, 0, LOOPS_LIMIT) {
+        None => Said::Fault(place_after(options) + 1),
+        Some(loops) => Said::Whole(Options {
+            loops: Some(loops),
+            ticks: options.ticks,
+            trace: options.trace,
+        }),
+    }
+}
+
+// The value of `--ticks` comes.
+fn ticks_given(options: Options, word: &[u8]) -> Said
+    requires few { HasFew options }
+    ensures is { result ≡ ticks_given options (number_of 1 1000000 word.now) }
+    ensures few { SaysFew result }
+{
+    match number_within(word, 1, TICKS_LIMIT) {
+        None => Said::Fault(place_after(options) + 1),
+        Some(ticks) => Said::Whole(Options {
+            loops: options.loops,
+            ticks: Some(ticks),
+            trace: options.trace,
+        }),
+    }
+}
+
+// One word more.
+fn said_after(said: Said, word: &[u8]) -> Said
+    requires few { SaysFew said }
+    ensures is { result ≡ said_after said word.now }
+    ensures few { SaysFew result }
+{
+    match said {
+        Said::Whole(options) => begun(options, word),
+        Said::WantsLoops(options) => loops_given(options, word),
+        Said::WantsTicks(options) => ticks_given(options, word),
+        Said::Fault(index) => Said::Fault(index),
+    }
+}
+
+// What is said at the end, where no value is to come.
+fn options_in(said: Said) -> Result<Options, u32>
+    requires few { SaysFew said }
+    ensures is { result ≡ options_in said }
+    ensures few { IfOk result HasFew }
+{
+    match said {
+        Said::Whole(options) => Ok(options),
+        Said::WantsLoops(options) => Err(place_after(options) + 1),
+        Said::WantsTicks(options) => Err(place_after(options) + 1),
+        Said::Fault(index) => Err(index),
+    }
+}
+
+/// What the words behind a script say, or the index of the first at fault. Takes no memory.
+#[tactic(auto, unfolding(crate::specs::Options::options_of))]
+pub fn read_options(words: &[String]) -> Result<Options, u32>
+    ensures is { result ≡ options_of (map string_bytes words.now) }
+    ensures few { IfOk result HasFew }
+{
+    let mut said = Said::Whole(Options {
+        loops: None,
+        ticks: None,
+        trace: false,
+    });
+    for word in words {
+        said = said_after(said, word.as_bytes());
+    }
+    options_in(said)
+}

@@ -1,0 +1,67 @@
+//! What a script is once all its files are loaded: the script, its waves and its plan.
+#![tactic(auto, using(crate::proofs::AllowedLemmas::parts))]
+
+ghost use Rattle.std.specs.Prelude.{◌≡◌};
+ghost use Rattle.graph_script.specs.Kinds.{HasKinds};
+ghost use Rattle.graph_script.specs.Making.{NamesMade};
+ghost use Rattle.graph_script.specs.Ranges.{HasRanges};
+ghost use Rattle.graph_plan.specs.Conditions.{AreScriptPorts, HaveWaves};
+ghost use Rattle.pw_top.specs.Ending.{Ends, CommandCause};
+ghost use Rattle.pw_top.specs.Stocking.{IsStockOf};
+ghost use Rattle.pw_top.specs.PlannedWork.{PlansPorts, PlansStock, IsPlayable};
+
+use crate::status::Status;
+use crate::stock::Stock;
+use graph_plan::{PlanFault, plan};
+use graph_script::Script;
+use port_model::Ports;
+use pw_base::{Items, Plan};
+use std::alloc::Global;
+use wav_files::WavIn;
+
+/// A script with the waves of its sources and its plan.
+#[derive(Drop)]
+pub struct Planned {
+    pub script: Script,
+    pub waves: Items<WavIn>,
+    pub plan: Plan,
+}
+
+// The plan of a script from its ports and waves.
+fn plan_ports(
+    alloc: Global,
+    script: Script,
+    waves: Items<WavIn>,
+    ports: Ports,
+) -> Result<Planned, Status>
+    requires ranges { HasRanges script }
+    requires kinds { HasKinds script }
+    requires made { NamesMade 0 script.lines }
+    requires ports { AreScriptPorts script.lines ports }
+    requires waves { HaveWaves ports waves }
+    ensures done { Ends (PlansPorts script ports waves) result }
+    ensures cause { CommandCause IsPlayable 0 0 result }
+{
+    match plan(alloc, &script, &waves, ports) {
+        Err(PlanFault::Limit { line, which }) => Err(Status::Limit { place: line, which }),
+        Err(PlanFault::Memory) => Err(Status::Memory),
+        Ok(plan) => Ok(Planned {
+            script,
+            waves,
+            plan,
+        }),
+    }
+}
+
+/// Plans the script, whose files are loaded.
+pub fn plan_stock(alloc: Global, script: Script, stock: Stock) -> Result<Planned, Status>
+    requires ranges { HasRanges script }
+    requires kinds { HasKinds script }
+    requires made { NamesMade 0 script.lines }
+    requires stock { IsStockOf script.lines stock }
+    ensures done { Ends (PlansStock script stock) result }
+    ensures cause { CommandCause IsPlayable 0 0 result }
+{
+    let Stock { ports, waves, .. } = stock;
+    plan_ports(alloc, script, waves, ports)
+}
