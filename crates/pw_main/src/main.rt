@@ -9,8 +9,8 @@ mod std_sink;
 
 use crate::disk_files::DiskFiles;
 use crate::std_sink::StdSink;
-use pw_base::{Items, Never, Open};
-use pw_top::{Report, run_words};
+use pw_base::{Every, Items, Never, Open, Ticker};
+use pw_top::{Report, run_words, ticks_of};
 use std::alloc::Global;
 use std::env;
 use std::io::ErrorKind;
@@ -51,21 +51,29 @@ fn exit_of(report: &Report) -> u8
     report.status.number()
 }
 
+// Does what the words ask for, over the system's files and standard output; may wait.
+fn run_by<K: Ticker>(rt: &HostRuntime, words: &[String], ticker: &mut K) -> ExitCode {
+    let mut files = DiskFiles::new(rt);
+    let mut out = StdSink::new(rt);
+    let report = run_words(
+        rt,
+        rt.alloc(),
+        words,
+        &mut files,
+        &mut out,
+        &Open::new(),
+        ticker,
+    );
+    ExitCode::from(exit_of(&report))
+}
+
 fn main(rt: HostRuntime) -> ExitCode {
     let words = match words_of(&rt) {
         Ok(words) => words,
         Err(status) => return ExitCode::from(status),
     };
-    let mut files = DiskFiles::new(&rt);
-    let mut out = StdSink::new(&rt);
-    let report = run_words(
-        &rt,
-        rt.alloc(),
-        words.as_slice(),
-        &mut files,
-        &mut out,
-        &Open::new(),
-        &mut Never::new(),
-    );
-    ExitCode::from(exit_of(&report))
+    match ticks_of(words.as_slice()) {
+        0 => run_by(&rt, words.as_slice(), &mut Never::new()),
+        n => run_by(&rt, words.as_slice(), &mut Every::new(u64::from(n))),
+    }
 }

@@ -1,7 +1,7 @@
 //! A line of words, and a run of the program on it.
 
-use pw_base::{Files, Items, MemSink, Memory, Never, Open};
-use pw_top::{Status, run_words};
+use pw_base::{Every, Files, Items, MemSink, Memory, Never, Open, Ticker};
+use pw_top::{Status, run_words, ticks_of};
 use std::alloc::Global;
 use std::sync::Wait;
 use std::thread::Threads;
@@ -16,7 +16,19 @@ fn words_of(alloc: Global, line: &str) -> Result<Items<String>, Memory> {
     Ok(words)
 }
 
-/// Runs the words of a line, without a ticker, and answers the status.
+// Runs words with a ticker, and answers the status.
+fn run_by<R: Threads + Wait + Sync + AllocGlobal, F: Files, K: Ticker>(
+    rt: &R,
+    words: &[String],
+    files: &mut F,
+    out: &mut MemSink,
+    ticker: &mut K,
+) -> Status {
+    let report = run_words(rt, rt.alloc(), words, files, out, &Open::new(), ticker);
+    report.status
+}
+
+/// Runs the words of a line, with the ticker that they ask for, and answers the status.
 pub fn run_line<R: Threads + Wait + Sync + AllocGlobal, F: Files>(
     rt: &R,
     line: &str,
@@ -24,14 +36,14 @@ pub fn run_line<R: Threads + Wait + Sync + AllocGlobal, F: Files>(
     out: &mut MemSink,
 ) -> Result<Status, Memory> {
     let words = words_of(rt.alloc(), line)?;
-    let report = run_words(
-        rt,
-        rt.alloc(),
-        words.as_slice(),
-        files,
-        out,
-        &Open::new(),
-        &mut Never::new(),
-    );
-    Ok(report.status)
+    match ticks_of(words.as_slice()) {
+        0 => Ok(run_by(rt, words.as_slice(), files, out, &mut Never::new())),
+        n => Ok(run_by(
+            rt,
+            words.as_slice(),
+            files,
+            out,
+            &mut Every::new(u64::from(n)),
+        )),
+    }
 }
