@@ -11,7 +11,8 @@ use std::alloc::Global;
 
 // The index of a number in a list, if it is there.
 fn place_in(nodes: &[u32], node: u32) -> Option<usize>
-    ensures some { IfSome result (λ i. (i < length nodes.now) × (slice_index nodes.now i ≡ node)) }
+    ensures some { IfSome result (λ i.
+        (i < length nodes.now) × (slice_index nodes.now i ≡ node)) }
     ensures none { IfNone result (¬ (Contains nodes.now node)) }
 {
     for index in 0..nodes.len() {

@@ -68,5 +68,6 @@ pub record Plays (P : Answer → Type 0) (h : Happened) (r : Result Work Status)
   pub played : PlayEnds answer.outcome h r
 
 -- where it is told what the files hold
-abbrev pub TellsPlay : Held → (Names → Answer → Type 0) → Happened → Result Work Status → Type 0
+abbrev pub TellsPlay : Held → (Names → Answer → Type 0) → Happened → Result Work Status
+    → Type 0
 TellsPlay held P h result = IsSome held → Plays (P (names_in held)) h result

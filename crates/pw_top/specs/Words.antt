@@ -1,5 +1,5 @@
--- The words of a command line, and those that name files: of words outside the grammar, the first at
--- fault, or their number where more are wanted. This project's.
+-- The words of a command line, and those that name files: of words outside the grammar, the first
+-- at fault, or their number where more are wanted. This project's.
 use Rattle.std.specs.Prelude.{ℕ, ◌==◌, ◌&&◌, Bool, false, not, nat_le, if◌then◌else◌, List, [], ◌∷◌, length, Result, Ok, Err}
 use Rattle.pw_top.specs.declared.status.Status.{Status}
 use Rattle.pw_top.specs.declared.status.Status.TheVariants as S
