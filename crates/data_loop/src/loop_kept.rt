@@ -48,8 +48,8 @@ impl LoopState {
         self.states[index_in(self.nodes.as_slice(), node)].kept()
     }
 
-    /// Moves the stream of a sink of this loop out, without a copy: at the end of the run, its whole
-    /// stream. The sink is then prepared for no frame. Takes no memory.
+    /// Moves the stream of a sink of this loop out, without a copy: at the end of the run, its
+    /// whole stream. The sink is then prepared for no frame. Takes no memory.
     pub fn take_kept(&mut self, alloc: Global, node: u32) -> Items<i16>
         requires whole { IsLoop self.old }
         requires own { Contains self.old.nodes node }

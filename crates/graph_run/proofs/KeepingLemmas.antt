@@ -55,13 +55,16 @@ module _ (plan : Plan) (n i : ℕ) (loops : List LoopState) (x y : LoopState) (s
   }
     where
       still : (m j : ℕ) → HasNodeAt loops m j → HasNodeAt (set loops i y) m j
-      still m j has = let low = has.0 in (omega (arith, low, length-set loops i y), λ d. ⊎_elim
-          (λ (at : j ≡ i).
-          subst (λ (s : LoopState). Contains s.nodes m) (sym (ap (λ k. get_or (set loops i y) k d) at ∙ get_or-set_same loops i y d inside))
-          (subst (λ (l : List ℕ). Contains l m) (sym t.same.nodes)
-          (subst (λ (s : LoopState). Contains s.nodes m) (ap (λ k. get_or loops k x) at ∙ sym is) (has.1 x))))
-          (λ other. subst (λ (s : LoopState). Contains s.nodes m) (sym (get_or-set_other loops i j y d other)) (has.1 d))
-          (cases_eq j i))
+      still m j has = let low = has.0 in (
+        omega (arith, low, length-set loops i y),
+        λ d. ⊎_elim
+            (λ (at : j ≡ i).
+            subst (λ (s : LoopState). Contains s.nodes m) (sym (ap (λ k. get_or (set loops i y) k d) at ∙ get_or-set_same loops i y d inside))
+            (subst (λ (l : List ℕ). Contains l m) (sym t.same.nodes)
+            (subst (λ (s : LoopState). Contains s.nodes m) (ap (λ k. get_or loops k x) at ∙ sym is) (has.1 x))))
+            (λ other. subst (λ (s : LoopState). Contains s.nodes m) (sym (get_or-set_other loops i j y d other)) (has.1 d))
+            (cases_eq j i),
+      )
 
   pub left_taken : (waves : List WavIn) → AreLeftFrom n waves loops → AreLeftFrom (suc n) waves (set loops i y)
   left_taken waves h = record {
@@ -77,8 +80,10 @@ module _ (plan : Plan) (n i : ℕ) (loops : List LoopState) (x y : LoopState) (s
   pub stream_taken : (waves : List WavIn) → HaveAll plan loops → AreLeftFrom n waves loops → stream ≡ end_stream plan waves n
   stream_taken waves all h = t.end (subst (λ (s : LoopState). IsDoneWith s n) (sym is) (h.done n (omega arith) i x inside))
       ∙ subst (λ (y : Plan × List WavIn). end_stream (plan_of x) x.score.waves.value n ≡ end_stream y.0 y.1 n)
-      (λ j. ((subst (λ (s : LoopState). plan_of s ≡ plan) (sym is) (all.each i x inside).1) j,
-      (subst (λ (s : LoopState). s.score.waves.value ≡ waves) (sym is) (h.waves_are i x inside)) j)) refl
+      (λ j. (
+        (subst (λ (s : LoopState). plan_of s ≡ plan) (sym is) (all.each i x inside).1) j,
+        (subst (λ (s : LoopState). s.score.waves.value ≡ waves) (sym is) (h.waves_are i x inside)) j,
+      )) refl
 
 -- the entry of a sink with a format
 pub kept_is : (plan : Plan) (waves : List WavIn) (n : ℕ) (node : PlanNode) (stream : List ℤ) → is_sink node.kind ≡ true → 0 < node.rate

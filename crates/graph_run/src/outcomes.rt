@@ -102,19 +102,17 @@ fn peaks_of(plan: &Plan, loops: &[LoopState], peaks: Room<Peak>) -> Items<Peak>
     let nodes = plan.nodes.as_slice();
     let mut peaks = peaks;
     for place in 0..nodes.len() {
-        push_some(&mut peaks, peak_by(place as u32, &nodes[place], plan, loops));
+        push_some(
+            &mut peaks,
+            peak_by(place as u32, &nodes[place], plan, loops),
+        );
     }
     peaks.into_items()
 }
 
 // The streams of the sinks that have a format, ascending by node, moved out of the loops. The list
 // is empty, and has room for all nodes.
-fn take_sinks(
-    alloc: Global,
-    plan: &Plan,
-    loops: &mut [LoopState],
-    sinks: Room<Kept>,
-) -> Items<Kept>
+fn take_sinks(alloc: Global, plan: &Plan, loops: &mut [LoopState], sinks: Room<Kept>) -> Items<Kept>
     requires done { (waves : List WavIn) × AreDone plan.now waves loops.old }
     requires few { length plan.now.nodes ≤ dummy_node }
     requires empty { sinks.list ≡ [] }

@@ -8,8 +8,11 @@ use Rattle.graph_run.proofs.outcomes.loop_with_node.Goals as goal
 
 pub returns-then-has_node : goal.returns-then-has_node
 returns-then-has_node c = let i = c.loop-index.index in let x : LoopState = c.index-loops-index.result in let low : i < length c.args.loops.now = c.loop-index-test.true in record {
-  has = (low, λ d. subst (λ (s : LoopState). Contains s.nodes c.args.node)
-      (c.index-loops-index.is ∙ get_or_default c.args.loops.now i x d low) (c.has_node.ensures.0 c.if-has_node.true));
+  has = (
+    low,
+    λ d. subst (λ (s : LoopState). Contains s.nodes c.args.node)
+        (c.index-loops-index.is ∙ get_or_default c.args.loops.now i x d low) (c.has_node.ensures.0 c.if-has_node.true),
+  );
 }
 
 pub loop-index-preserved : goal.loop-index-preserved
