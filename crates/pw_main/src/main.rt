@@ -12,10 +12,12 @@ use crate::std_sink::StdSink;
 use pw_base::{Every, Items, Never, Open, Ticker};
 use pw_top::{Report, run_words, ticks_of};
 use std::alloc::Global;
-use std::env;
 use std::io::ErrorKind;
 use std::process::ExitCode;
 use std::rt::Env;
+use std::sync::Wait;
+use std::thread::Threads;
+use std::{env, rt};
 
 // Ends where the words are no text, and where there is no memory for them.
 const NO_TEXT: u8 = 1;
@@ -52,7 +54,11 @@ fn exit_of(report: &Report) -> u8
 }
 
 // Does what the words ask for, over the system's files and standard output; may wait.
-fn run_by<K: Ticker>(rt: &HostRuntime, words: &[String], ticker: &mut K) -> ExitCode {
+fn run_by<R: Threads + Wait + Sync + Print + rt::Files + Alloc<A = Global>, K: Ticker>(
+    rt: &R,
+    words: &[String],
+    ticker: &mut K,
+) -> ExitCode {
     let mut files = DiskFiles::new(rt);
     let mut out = StdSink::new(rt);
     let report = run_words(
