@@ -17,7 +17,7 @@ use native.Mathlib.Decide.{ℕ_discrete}
 use Rattle.ready_queues.proofs.EndLemmas.{related, some_is}
 use Rattle.ready_queues.specs.ParkingRule.{given_on}
 use Rattle.ready_queues.specs.QueueRule.{IsNodeOf}
-use Rattle.ready_queues.specs.Sending.{is_of, is_bound, bound_below, taken_in, pushed_on, HasSentNode, AreSentNode, HasSentTo, HaveSent, IsRefused, FoundFull}
+use Rattle.ready_queues.specs.Sending.{is_of, is_bound, bound_below, taken_in, pushed_on, wakes_for, HasSentNode, AreSentNode, HasSentTo, HaveSent, IsRefused, FoundFull}
 
 range_snoc : (a n j : ℕ) → a + n ≡ j → range_with_len a (suc n) ≡ range_with_len a n ++ j ∷ []
 range_snoc a zero j e = let is : a ≡ j = omega arith in ap (λ k. k ∷ []) is
@@ -67,76 +67,88 @@ module _ (owner : List ℕ) (woke number : ℕ) where
       ∙ ap (λ b. bound_below j owner woke number ++ cond b (j ∷ []) []) (ap (λ x. eqb x 1 && eqb (slice_index owner j) number) (out j (omega arith) (omega arith)))
       ∙ append-nil (bound_below j owner woke number) ∙ bound_skip n k j refl (λ x h l. out x h (omega arith))
 
-  pub sent_skip : (n m full : ℕ) (a b : End) → n ≤ m → ((x : ℕ) → n ≤ x → x < m → bit_at woke x ≡ 0) → HasSentTo owner woke full n number a b → HasSentTo owner woke full m number a b
-  sent_skip n m full a b le out s = let is = bound_skip n (m - n) m (omega arith) out in record {
+  pub sent_skip : (spared n m full : ℕ) (a b : End) → n ≤ m → ((x : ℕ) → n ≤ x → x < m → bit_at woke x ≡ 0) → HasSentTo owner spared woke full n number a b → HasSentTo owner spared woke full m number a b
+  sent_skip spared n m full a b le out s = let is = bound_skip n (m - n) m (omega arith) out in record {
     hand = s.hand ∙ ap (λ l. pushed_on (hand_of a) (filter (λ x. not (eqb (bit_at full x) 1)) l)) (sym is);
-    wakes = s.wakes ∙ ap (λ l. given_on (wakes_of a) (length l)) (sym is);
+    wakes = s.wakes ∙ ap (λ l. given_on (wakes_of a) (wakes_for spared number (length l))) (sym is);
   }
 
-  pub sent_more : (n full now : ℕ) (f : Bool) (a b c : End) → bit_at woke n ≡ 1 → bit_at now n ≡ cond f 1 0 → ((x : ℕ) → x ≢ n → bit_at now x ≡ bit_at full x)
-      → HasSentTo owner woke full n number a b → HasSentNode owner n f number b c → HasSentTo owner woke now (suc n) number a c
-  sent_more n full now f a b c there here others s t = let is : is_of owner number n ≡ p n = sym (ap (λ x. eqb x 1 && is_of owner number n) there) in record {
+  pub sent_more : (spared n full now : ℕ) (f : Bool) (a b c : End) → bit_at woke n ≡ 1 → bit_at now n ≡ cond f 1 0 → ((x : ℕ) → x ≢ n → bit_at now x ≡ bit_at full x)
+      → HasSentTo owner spared woke full n number a b → HasSentNode owner spared n f number b c → HasSentTo owner spared woke now (suc n) number a c
+  sent_more spared n full now f a b c there here others s t = let is : is_of owner number n ≡ p n = sym (ap (λ x. eqb x 1 && is_of owner number n) there) in record {
     hand = t.hand ∙ ap (λ x. pushed_on (hand_of b) (cond (x && not f) (n ∷ []) [])) is ∙ ap (λ (h : Hand). pushed_on h (cond (p n && not f) (n ∷ []) [])) s.hand
         ∙ ap (λ l. record (hand_of a) { pushed = l }) (append_assoc (hand_of a).pushed (taken_in n owner woke full number) (cond (p n && not f) (n ∷ []) [])
         ∙ ap (λ l. (hand_of a).pushed ++ l) (sym (taken_more n full now f here others)));
-    wakes = t.wakes ∙ ap (λ x. given_on (wakes_of b) (cond x 1 0)) is ∙ ap (λ (w : Woken). given_on w (cond (p n) 1 0)) s.wakes ∙ ap (λ k. record { given = k; taken = (wakes_of a).taken }) (
-        let l = ap length (bound_more n) ∙ length-append (bound_below n owner woke number) (cond (p n) (n ∷ []) []) in let o = one (p n) in omega arith
+    wakes = t.wakes ∙ ap (λ x. given_on (wakes_of b) (wakes_for spared number (cond x 1 0))) is ∙ ap (λ (w : Woken). given_on w (wakes_for spared number (cond (p n) 1 0))) s.wakes
+        ∙ ap (λ k. record { given = k; taken = (wakes_of a).taken }) (
+        let l = ap length (bound_more n) ∙ length-append (bound_below n owner woke number) (cond (p n) (n ∷ []) []) in let o = one (p n) in
+        added (eqb number spared) (wakes_of a).given (length (bound_below n owner woke number)) (cond (p n) 1 0) (length (bound_below (suc n) owner woke number)) (omega arith)
         );
   }
     where
+      added : (b : Bool) (g k j m : ℕ) → m ≡ k + j → g + cond b 0 k + cond b 0 j ≡ g + cond b 0 m
+      added true g k j m e = omega arith
+      added false g k j m e = omega arith
+
       one : (b : Bool) → length (cond b (n ∷ []) []) ≡ cond b 1 0
       one true = refl
       one false = refl
 
-module _ (owner : List ℕ) where
+module _ (owner : List ℕ) (spared : ℕ) where
+  -- none given
+  wakes_none : (number : ℕ) (e : End) (k : ℕ) → k ≡ 0 → wakes_of e ≡ given_on (wakes_of e) (wakes_for spared number k)
+  wakes_none number e k none = ap (λ n. record { given = n; taken = (wakes_of e).taken }) (by (eqb number spared))
+    where
+      by : (b : Bool) → (wakes_of e).given ≡ (wakes_of e).given + cond b 0 k
+      by true = omega arith
+      by false = omega arith
+
   -- an end that no node is sent to
-  stays : (n number : ℕ) (f : Bool) (e : End) → is_of owner number n ≡ false → HasSentNode owner n f number e e
+  stays : (n number : ℕ) (f : Bool) (e : End) → is_of owner number n ≡ false → HasSentNode owner spared n f number e e
   stays n number f e off = record {
     hand = ap (λ l. record (hand_of e) { pushed = l }) (sym (append-nil (hand_of e).pushed)) ∙ sym (ap (λ b. pushed_on (hand_of e) (cond (b && not f) (n ∷ []) [])) off);
-    wakes = ap (λ k. record { given = k; taken = (wakes_of e).taken }) plus ∙ sym (ap (λ b. given_on (wakes_of e) (cond b 1 0)) off);
+    wakes = wakes_none number e (cond (is_of owner number n) 1 0) (ap (λ b. cond b 1 0) off);
   }
-    where
-      plus : (wakes_of e).given ≡ (wakes_of e).given + 0
-      plus = omega arith
 
   -- the end of the loop that it is sent to
-  sent_here : (n number : ℕ) (f : Bool) (a b : End) → IsNodeOf owner number n → hand_of b ≡ pushed_on (hand_of a) (cond f [] (n ∷ [])) → wakes_of b ≡ given_on (wakes_of a) 1
-      → HasSentNode owner n f number a b
+  sent_here : (n number : ℕ) (f : Bool) (a b : End) → IsNodeOf owner number n → hand_of b ≡ pushed_on (hand_of a) (cond f [] (n ∷ []))
+      → wakes_of b ≡ given_on (wakes_of a) (cond (not (eqb number spared)) 1 0) → HasSentNode owner spared n f number a b
   sent_here n number f a b node h w = let yes = eq-eqb (slice_index owner n) number (get_or_from_slice_get owner n number 0 node) in record {
     hand = h ∙ ap (pushed_on (hand_of a)) (by f) ∙ sym (ap (λ x. pushed_on (hand_of a) (cond (x && not f) (n ∷ []) [])) yes);
-    wakes = w ∙ sym (ap (λ x. given_on (wakes_of a) (cond x 1 0)) yes);
+    wakes = w ∙ ap (given_on (wakes_of a)) (one (eqb number spared)) ∙ sym (ap (λ x. given_on (wakes_of a) (wakes_for spared number (cond x 1 0))) yes);
   }
     where
       by : (f : Bool) → cond f [] (n ∷ []) ≡ cond (not f) (n ∷ []) []
       by true = refl
       by false = refl
 
+      one : (b : Bool) → cond {A = ℕ} (not b) 1 0 ≡ cond b 0 1
+      one true = refl
+      one false = refl
+
   pub node_sent : (n number : ℕ) (f : Bool) (ends : List End) (d new : End) → IsNodeOf owner number n → hand_of new ≡ pushed_on (hand_of (get_or ends number d)) (cond f [] (n ∷ []))
-      → wakes_of new ≡ given_on (wakes_of (get_or ends number d)) 1 → AreSentNode owner n f ends (set ends number new)
-  node_sent n number f ends d new node h w = related (HasSentNode owner n f) ends number new
+      → wakes_of new ≡ given_on (wakes_of (get_or ends number d)) (cond (not (eqb number spared)) 1 0) → AreSentNode owner spared n f ends (set ends number new)
+  node_sent n number f ends d new node h w = related (HasSentNode owner spared n f) ends number new
       (λ j e other. stays n j f e (ne_eqb (slice_index owner n) j (λ is. other (sym is ∙ get_or_from_slice_get owner n number 0 node))))
       (λ e at. let is : get_or ends number d ≡ e = get_or_from_slice_get ends number e d at in
-      sent_here n number f e new node (h ∙ ap (λ (x : End). pushed_on (hand_of x) (cond f [] (n ∷ []))) is) (w ∙ ap (λ (x : End). given_on (wakes_of x) 1) is))
+      sent_here n number f e new node (h ∙ ap (λ (x : End). pushed_on (hand_of x) (cond f [] (n ∷ []))) is) (w ∙ ap (λ (x : End). given_on (wakes_of x) (cond (not (eqb number spared)) 1 0)) is))
 
-  pub none_sent : (n loops : ℕ) (ends : List End) → length ends ≡ loops → ((l : ℕ) → l < loops → is_of owner l n ≡ false) → AreSentNode owner n false ends ends
+  pub none_sent : (n loops : ℕ) (ends : List End) → length ends ≡ loops → ((l : ℕ) → l < loops → is_of owner l n ≡ false) → AreSentNode owner spared n false ends ends
   none_sent n loops ends count off l a b was now = let low = slice_get_within ends l a was in
-      subst (HasSentNode owner n false l a) (some_is a b (sym was ∙ now)) (stays n l false a (off l (omega arith)))
+      subst (HasSentNode owner spared n false l a) (some_is a b (sym was ∙ now)) (stays n l false a (off l (omega arith)))
 
-module _ (owner : List ℕ) (woke : ℕ) where
-  pub nothing_sent : (ends : List End) → HaveSent owner woke 0 0 ends ends
-  nothing_sent ends l a b was now = subst (HasSentTo owner woke 0 0 l a) (some_is a b (sym was ∙ now)) (record {
+module _ (owner : List ℕ) (spared woke : ℕ) where
+  pub nothing_sent : (ends : List End) → HaveSent owner spared woke 0 0 ends ends
+  nothing_sent ends l a b was now = subst (HasSentTo owner spared woke 0 0 l a) (some_is a b (sym was ∙ now)) (record {
     hand = ap (λ k. record (hand_of a) { pushed = k }) (sym (append-nil (hand_of a).pushed));
-    wakes = ap (λ k. record { given = k; taken = (wakes_of a).taken }) plus;
+    wakes = wakes_none owner spared l a 0 refl;
   })
-    where
-      plus : (wakes_of a).given ≡ (wakes_of a).given + 0
-      plus = omega arith
 
   pub all_more : (n next full now : ℕ) (f : Bool) (old mid new : List End) → next ≡ suc n → length mid ≡ length old → bit_at woke n ≡ 1 → bit_at now n ≡ cond f 1 0 → ((x : ℕ) → x ≢ n → bit_at now x ≡ bit_at full x)
-      → HaveSent owner woke full n old mid → AreSentNode owner n f mid new → HaveSent owner woke now next old new
+      → HaveSent owner spared woke full n old mid → AreSentNode owner spared n f mid new → HaveSent owner spared woke now next old new
   all_more n next full now f old mid new step count there here others s t l a c was is = let low = slice_get_within old l a was in let b : End = get_or mid l a in
       let at : slice_get mid l ≡ Some b = slice_get-get_or mid l a (omega arith) in
-      subst (λ k. HasSentTo owner woke now k l a c) (sym step) (sent_more owner woke l n full now f a b c there here others (s l a b was at) (t l b c at is))
+      subst (λ k. HasSentTo owner spared woke now k l a c) (sym step) (sent_more owner woke l spared n full now f a b c there here others (s l a b was at) (t l b c at is))
 
 -- no number was received
 pub node_count : (n : ℕ) (f : Bool) (ends : List End) (number : ℕ) (d new : End) → number < length ends → hand_of new ≡ pushed_on (hand_of (get_or ends number d)) (cond f [] (n ∷ []))
@@ -156,50 +168,50 @@ refused_more P n full now f here others mine old x is = dite (ℕ_discrete x n)
     by false e = absurd (omega arith)
 
 -- the nodes below `from` are sent, and the rest of the set is what it has from there on
-pub record IsSentUntil (owner : List ℕ) (loops woke : ℕ) (old : List End) (rest full : ℕ) (ends : List End) (from : ℕ) : Type 0 where
+pub record IsSentUntil (owner : List ℕ) (loops spared woke : ℕ) (old : List End) (rest full : ℕ) (ends : List End) (from : ℕ) : Type 0 where
   pub inside : from ≤ length owner
   pub done : (x : ℕ) → x < from → bit_at rest x ≡ 0
   pub left : (x : ℕ) → from ≤ x → x < length owner → bit_at rest x ≡ bit_at woke x
-  pub sent : HaveSent owner woke full from old ends
+  pub sent : HaveSent owner spared woke full from old ends
   pub above : (x : ℕ) → from ≤ x → bit_at full x ≡ 0
   pub refused : (x : ℕ) → bit_at full x ≡ 1 → IsRefused owner loops woke x
 
-module _ (owner : List ℕ) (loops woke : ℕ) (old : List End) where
-  all_skip : (n m full : ℕ) (ends : List End) → n ≤ m → ((x : ℕ) → n ≤ x → x < m → bit_at woke x ≡ 0) → HaveSent owner woke full n old ends → HaveSent owner woke full m old ends
-  all_skip n m full ends le out s l a b was is = sent_skip owner woke l n m full a b le out (s l a b was is)
+module _ (owner : List ℕ) (loops spared woke : ℕ) (old : List End) where
+  all_skip : (n m full : ℕ) (ends : List End) → n ≤ m → ((x : ℕ) → n ≤ x → x < m → bit_at woke x ≡ 0) → HaveSent owner spared woke full n old ends → HaveSent owner spared woke full m old ends
+  all_skip n m full ends le out s l a b was is = sent_skip owner woke l spared n m full a b le out (s l a b was is)
 
-  pub not_yet : (rest full : ℕ) (ends : List End) (from n : ℕ) → IsSentUntil owner loops woke old rest full ends from → bit_at rest n ≡ 1 → from ≤ n
+  pub not_yet : (rest full : ℕ) (ends : List End) (from n : ℕ) → IsSentUntil owner loops spared woke old rest full ends from → bit_at rest n ≡ 1 → from ≤ n
   not_yet rest full ends from n s there = by (cases_lt n from)
     where
       by : (n < from) ⊎ (from ≤ n) → from ≤ n
       by (inl h) = let z = s.done n h in absurd (omega arith)
       by (inr h) = h
 
-  pub begins : IsSentUntil owner loops woke old woke 0 old 0
+  pub begins : IsSentUntil owner loops spared woke old woke 0 old 0
   begins = record {
     inside = omega arith;
     done = λ x h. absurd (omega arith);
     left = λ x _ _. refl;
-    sent = nothing_sent owner woke old;
+    sent = nothing_sent owner spared woke old;
     above = λ x _. bit_at-zero x;
     refused = λ x h. let z = bit_at-zero x in absurd (omega arith);
   }
 
-  pub goes_on : (rest full : ℕ) (ends : List End) (from n : ℕ) (rest' full' : ℕ) (f : Bool) (ends' : List End) → IsSentUntil owner loops woke old rest full ends from
+  pub goes_on : (rest full : ℕ) (ends : List End) (from n : ℕ) (rest' full' : ℕ) (f : Bool) (ends' : List End) → IsSentUntil owner loops spared woke old rest full ends from
       → n < length owner → bit_at rest n ≡ 1 → ((x : ℕ) → x < n → bit_at rest x ≡ 0) → length owner ≤ 63 → length ends ≡ length old
-      → bit_at full' n ≡ cond f 1 0 → ((x : ℕ) → x ≢ n → bit_at full' x ≡ bit_at full x) → AreSentNode owner n f ends ends' → (f ≡ true → FoundFull owner loops n)
-      → bit_at rest' n ≡ 0 → ((x : ℕ) → x < 64 → x ≢ n → bit_at rest' x ≡ bit_at rest x) → IsSentUntil owner loops woke old rest' full' ends' (suc n)
+      → bit_at full' n ≡ cond f 1 0 → ((x : ℕ) → x ≢ n → bit_at full' x ≡ bit_at full x) → AreSentNode owner spared n f ends ends' → (f ≡ true → FoundFull owner loops n)
+      → bit_at rest' n ≡ 0 → ((x : ℕ) → x < 64 → x ≢ n → bit_at rest' x ≡ bit_at rest x) → IsSentUntil owner loops spared woke old rest' full' ends' (suc n)
   goes_on rest full ends from n rest' full' f ends' s low there first few count here others sent mine gone same =
       let after = not_yet rest full ends from n s there in let set : bit_at woke n ≡ 1 = sym (s.left n after low) ∙ there in
       let out : (x : ℕ) → from ≤ x → x < n → bit_at woke x ≡ 0 = λ x h l. sym (s.left x h (omega arith)) ∙ first x l in record {
         inside = omega arith;
         done = λ x h. dite (ℕ_discrete x n) (λ (e : x ≡ n). ap (bit_at rest') e ∙ gone) (λ ne. same x (omega arith) ne ∙ first x (omega arith));
         left = λ x h l. same x (omega arith) (λ e. absurd (omega arith)) ∙ s.left x (omega arith) l;
-        sent = all_more owner woke n (suc n) full full' f old ends ends' refl count set here others (all_skip from n full ends after out s.sent) sent;
+        sent = all_more owner spared woke n (suc n) full full' f old ends ends' refl count set here others (all_skip from n full ends after out s.sent) sent;
         above = λ x h. others x (λ e. absurd (omega arith)) ∙ s.above x (omega arith);
         refused = refused_more (IsRefused owner loops woke) n full full' f here others (λ yes. (set, mine yes)) s.refused;
       }
 
-  pub all_sent : (rest full : ℕ) (ends : List End) (from : ℕ) → IsSentUntil owner loops woke old rest full ends from → ((x : ℕ) → x < length owner → bit_at rest x ≡ 0)
-      → HaveSent owner woke full (length owner) old ends
+  pub all_sent : (rest full : ℕ) (ends : List End) (from : ℕ) → IsSentUntil owner loops spared woke old rest full ends from → ((x : ℕ) → x < length owner → bit_at rest x ≡ 0)
+      → HaveSent owner spared woke full (length owner) old ends
   all_sent rest full ends from s none = all_skip from (length owner) full ends s.inside (λ x h l. sym (s.left x h l) ∙ none x l) s.sent

@@ -5,5 +5,6 @@ pub mod Lanes
 pub mod Ends
 pub mod AnsweredWith
 pub mod Sending
+pub mod Forwarding
 pub mod Receiving
 pub mod Opening

@@ -31,25 +31,31 @@ taken_in n owner woke full number =
 abbrev pub pushed_on : Hand → List ℕ → Hand
 pushed_on h nodes = record h { pushed = h.pushed ++ nodes }
 
+-- how often a loop is unparked for so many nodes of it, where one loop, or none, is spared
+abbrev pub wakes_for : ℕ → ℕ → ℕ → ℕ
+wakes_for spared number n = cond (eqb number spared) 0 n
+
 -- the end of a loop before and after one node was sent, which found the queue full or not
-pub record HasSentNode (owner : List ℕ) (node : ℕ) (full : Bool) (number : ℕ) (a b : End)
+pub record HasSentNode (owner : List ℕ) (spared node : ℕ) (full : Bool) (number : ℕ) (a b : End)
     : Type 0 where
   pub hand : hand_of b ≡ pushed_on (hand_of a)
       (cond (is_of owner number node && not full) (node ∷ []) [])
-  pub wakes : wakes_of b ≡ given_on (wakes_of a) (cond (is_of owner number node) 1 0)
+  pub wakes : wakes_of b ≡ given_on (wakes_of a)
+      (wakes_for spared number (cond (is_of owner number node) 1 0))
 
-abbrev pub AreSentNode : List ℕ → ℕ → Bool → List End → List End → Type 0
-AreSentNode owner node full old new = (l : ℕ) (a b : End) → slice_get old l ≡ Some a
-    → slice_get new l ≡ Some b → HasSentNode owner node full l a b
+abbrev pub AreSentNode : List ℕ → ℕ → ℕ → Bool → List End → List End → Type 0
+AreSentNode owner spared node full old new = (l : ℕ) (a b : End) → slice_get old l ≡ Some a
+    → slice_get new l ≡ Some b → HasSentNode owner spared node full l a b
 
 -- the end of a loop before and after the nodes below n were sent
-pub record HasSentTo (owner : List ℕ) (woke full n number : ℕ) (a b : End) : Type 0 where
+pub record HasSentTo (owner : List ℕ) (spared woke full n number : ℕ) (a b : End) : Type 0 where
   pub hand : hand_of b ≡ pushed_on (hand_of a) (taken_in n owner woke full number)
-  pub wakes : wakes_of b ≡ given_on (wakes_of a) (length (bound_below n owner woke number))
+  pub wakes : wakes_of b ≡ given_on (wakes_of a)
+      (wakes_for spared number (length (bound_below n owner woke number)))
 
-abbrev pub HaveSent : List ℕ → ℕ → ℕ → ℕ → List End → List End → Type 0
-HaveSent owner woke full n old new = (l : ℕ) (a b : End) → slice_get old l ≡ Some a
-    → slice_get new l ≡ Some b → HasSentTo owner woke full n l a b
+abbrev pub HaveSent : List ℕ → ℕ → ℕ → ℕ → ℕ → List End → List End → Type 0
+HaveSent owner spared woke full n old new = (l : ℕ) (a b : End) → slice_get old l ≡ Some a
+    → slice_get new l ≡ Some b → HasSentTo owner spared woke full n l a b
 
 -- at one moment the queue of the loop held 64 numbers
 abbrev pub WasFull : List ℕ → ℕ → Type 0
@@ -63,11 +69,11 @@ FoundFull owner loops node = (number : ℕ) × (number < loops) × IsNodeOf owne
 abbrev pub IsRefused : List ℕ → ℕ → ℕ → ℕ → Type 0
 IsRefused owner loops woke node = (bit_at woke node ≡ 1) × FoundFull owner loops node
 
--- the nodes of the set were sent and the driver's thread was unparked; `full` has the bits of those
--- that found their queue full
+-- the nodes of the set were sent, no loop was spared, and the driver's thread was unparked; `full`
+-- has the bits of those that found their queue full
 pub record HasSent (owner : List ℕ) (loops woke full : ℕ) (a b : Way) : Type 0 where
   pub number : b.number ≡ a.number
   pub own : parker_view b.own ≡ parker_view a.own
-  pub ends : HaveSent owner woke full (length owner) a.ends.items b.ends.items
+  pub ends : HaveSent owner loops woke full (length owner) a.ends.items b.ends.items
   pub driver : parker_view b.driver ≡ given_on (parker_view a.driver) 1
   pub refused : (node : ℕ) → bit_at full node ≡ 1 → IsRefused owner loops woke node

@@ -4,10 +4,15 @@
 //! Each loop has a queue of node numbers. Whoever triggers a node puts its number into the queue of
 //! the node's loop and unparks that loop. A loop takes numbers out of its own queue, and parks
 //! where it has nothing to do. So a loop need not try all its nodes to find the one that is ready.
+//!
+//! `send` unparks the driver's thread too, always. `forward` unparks only who needs it: the loop of
+//! each node, but not the one whose thread makes the call; and the driver's thread for a node of
+//! its own, or of a loop that no thread was seen to `start`, which the driver's thread may run.
 #![tactic(auto)]
 
 mod dealing;
 mod end;
+mod forwarding;
 mod hand;
 mod lane;
 mod node_bits;

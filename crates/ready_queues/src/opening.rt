@@ -18,6 +18,7 @@ use crate::ways::Ways;
 use pw_base::{Items, Memory, NODES};
 use std::alloc::Global;
 use std::marker::Brand;
+use std::sync::atomic::AtomicU64;
 
 // A queue that is told whose it is, with one pass to it. What it is told is named at the call, by
 // these arguments.
@@ -88,7 +89,11 @@ fn open_loop(
     let wake = unparker.pass();
     let driver = driver.pass();
     Ok(Opened {
-        lane: Lane { queue, unparker },
+        lane: Lane {
+            queue,
+            unparker,
+            started: AtomicU64::new(0),
+        },
         end: End { number, pass, wake },
         way: Way {
             number,

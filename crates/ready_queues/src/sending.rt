@@ -8,6 +8,7 @@ ghost use Rattle.ready_queues.specs.QueueRule.{IsNodeOf};
 ghost use Rattle.ready_queues.specs.Sending.{AreSentNode, HaveSent, IsRefused, FoundFull, WasFull, pushed_on};
 ghost use Rattle.ready_queues.specs.ParkingRule.{given_on};
 ghost use Rattle.ready_queues.specs.Sending.{is_of, HasSent};
+ghost use Rattle.ready_queues.specs.Receiving.{IsSameThread};
 
 use crate::end::End;
 use crate::lane::Lane;
@@ -19,9 +20,9 @@ use crate::ways::Ways;
 use std::sync::Wait;
 
 impl End {
-    // One push of a node into the queue of its loop, and that loop is unparked. Whether the queue
-    // was full.
-    fn push<R: Wait>(&mut self, rt: &R, lane: &Lane, node: u32) -> bool
+    // One push of a node into the queue of its loop. That loop is unparked, if it shall be. Whether
+    // the queue was full.
+    fn push<R: Wait>(&mut self, rt: &R, lane: &Lane, node: u32, unparks: bool) -> bool
         requires end { IsEndOf (hand_of self.old).owner (hand_of self.old).number lane.now
             self.old }
         requires room { ruled_capacity lane.now.queue ≡ 64 }
@@ -29,7 +30,7 @@ impl End {
         ensures end { IsEndOf (hand_of self.old).owner (hand_of self.old).number lane.now self.new }
         ensures hand { hand_of self.new
             ≡ pushed_on (hand_of self.old) (cond result [] (node ∷ [])) }
-        ensures wakes { wakes_of self.new ≡ given_on (wakes_of self.old) 1 }
+        ensures wakes { wakes_of self.new ≡ given_on (wakes_of self.old) (cond unparks 1 0) }
         ensures full { IsTrue result
             → WasFull (hand_of self.old).owner (hand_of self.old).number }
     {
@@ -37,14 +38,16 @@ impl End {
             .queue
             .push_as::<Pushes, R>(rt, &mut self.pass, node)
             .is_err();
-        wake(&lane.unparker, &mut self.wake);
+        if unparks {
+            wake(&lane.unparker, &mut self.wake);
+        }
         full
     }
 }
 
 impl Ways {
     // The loop of a node, if it is not the driver's own.
-    fn loop_of(&self, node: usize) -> Option<u32>
+    pub(crate) fn loop_of(&self, node: usize) -> Option<u32>
         requires inside { node < length self.now.owner }
         ensures some { IfSome result (λ l. (l < self.now.loops)
             × IsNodeOf self.now.owner l node) }
@@ -59,30 +62,32 @@ impl Ways {
         }
     }
 
-    // One node is sent, if it is not the driver's own. Whether it found the queue full.
-    fn send_node<R: Wait>(&self, rt: &R, ends: &mut [End], node: usize) -> bool
+    // One node is sent, if it is not the driver's own. Its loop is unparked, if it is not the
+    // spared one. Whether the node found the queue full.
+    fn send_node<R: Wait>(&self, rt: &R, ends: &mut [End], node: usize, spared: u32) -> bool
         requires ends { AreEndsOf self.now.owner self.now.lanes ends.old }
         requires inside { node < length self.now.owner }
         ensures ends { AreEndsOf self.now.owner self.now.lanes ends.new }
-        ensures sent { AreSentNode self.now.owner node result ends.old ends.new }
+        ensures sent { AreSentNode self.now.owner spared node result ends.old ends.new }
         ensures full { IsTrue result → FoundFull self.now.owner self.now.loops node }
         ensures count { received_by ends.new ≡ received_by ends.old }
     {
         match self.loop_of(node) {
             Some(number) => {
                 let lane = &self.lanes.as_slice()[number as usize];
-                ends[number as usize].push(rt, lane, node as u32)
+                ends[number as usize].push(rt, lane, node as u32, number != spared)
             }
             None => false,
         }
     }
 
-    // All nodes of a set are sent, ascending. The bits of those that found their queue full.
-    fn send_all<R: Wait>(&self, rt: &R, ends: &mut [End], woke: u64) -> u64
+    // All nodes of a set are sent, ascending, and each loop but the spared one is unparked. The bits
+    // of those that found their queue full.
+    fn send_all<R: Wait>(&self, rt: &R, ends: &mut [End], woke: u64, spared: u32) -> u64
         requires ends { AreEndsOf self.now.owner self.now.lanes ends.old }
         ensures ends { AreEndsOf self.now.owner self.now.lanes ends.new }
-        ensures sent { HaveSent self.now.owner woke result (length self.now.owner) ends.old
-            ends.new }
+        ensures sent { HaveSent self.now.owner spared woke result (length self.now.owner)
+            ends.old ends.new }
         ensures refused { (node : ℕ) → bit_at result node ≡ 1
             → IsRefused self.now.owner self.now.loops woke node }
         ensures count { received_by ends.new ≡ received_by ends.old }
@@ -90,10 +95,23 @@ impl Ways {
         let mut rest = woke;
         let mut full = 0;
         while let Some(node) = first_below(rest, self.owner.len()) {
-            full = noted(full, node, self.send_node(rt, ends, node));
+            full = noted(full, node, self.send_node(rt, ends, node, spared));
             rest = without(rest, node);
         }
         full
+    }
+
+    // As `send_all`, on the ends of a way.
+    pub(crate) fn send_sparing<R: Wait>(&self, rt: &R, way: &mut Way, woke: u64, spared: u32) -> u64
+        requires answered { IsWayOf self.now way.old }
+        ensures answered { IsWayOf self.now way.new }
+        ensures thread { IsSameThread way.old way.new }
+        ensures sent { HaveSent self.now.owner spared woke result (length self.now.owner)
+            way.old.ends.items way.new.ends.items }
+        ensures refused { (node : ℕ) → bit_at result node ≡ 1
+            → IsRefused self.now.owner self.now.loops woke node }
+    {
+        self.send_all(rt, way.ends.as_mut_slice(), woke, spared)
     }
 
     /// For each node of a set that is not the driver's own, ascending, makes one push into the
@@ -110,7 +128,7 @@ impl Ways {
         ensures answered { IsWayOf self.now way.new }
         ensures sent { HasSent self.now.owner self.now.loops woke result way.old way.new }
     {
-        let full = self.send_all(rt, way.ends.as_mut_slice(), woke);
+        let full = self.send_sparing(rt, way, woke, self.loops);
         wake(&self.driver, &mut way.driver);
         full
     }

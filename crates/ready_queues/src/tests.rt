@@ -104,7 +104,46 @@ fn a_full_queue_loses_nothing(rt: HostRuntime) -> Result<(), Fail> {
     Ok(())
 }
 
-// Sends a node until it was taken so often, and rests where the queue is full.
+#[test]
+fn what_is_forwarded_wakes_others(rt: HostRuntime) -> Result<(), Fail> {
+    let Some((ways, mut driver, mut first, mut second)) = two_loops(rt.alloc())? else {
+        panic!(rt; "no ways");
+    };
+    ways.start(&first);
+    ways.start(&second);
+    // Both nodes of its own loop, that of the other, and the driver's.
+    assert_eq!(rt; ways.forward(&rt, &mut first, 15), 0);
+    assert_eq!(rt; ways.receive(&rt, &mut first), Some(0));
+    assert_eq!(rt; ways.receive(&rt, &mut first), Some(1));
+    assert_eq!(rt; ways.receive(&rt, &mut first), None);
+    assert_eq!(rt; ways.receive(&rt, &mut second), Some(2));
+    assert_eq!(rt; ways.receive(&rt, &mut second), None);
+    // What was unparked before does not sleep.
+    ways.rest(&rt, &mut second);
+    ways.rest(&rt, &mut driver);
+    // A bit that is no node is the driver's own.
+    assert_eq!(rt; ways.forward(&rt, &mut second, 1 << 63), 0);
+    ways.rest(&rt, &mut driver);
+    assert_eq!(rt; ways.forward(&rt, &mut driver, 15), 0);
+    ways.rest(&rt, &mut first);
+    ways.rest(&rt, &mut second);
+    assert_eq!(rt; (first.taken(), second.taken(), driver.taken()), (2, 1, 0));
+    Ok(())
+}
+
+#[test]
+fn the_driver_is_woken_for_a_loop_that_has_not_started(rt: HostRuntime) -> Result<(), Fail> {
+    let Some((ways, mut driver, first, mut second)) = two_loops(rt.alloc())? else {
+        panic!(rt; "no ways");
+    };
+    ways.start(&second);
+    assert_eq!(rt; ways.forward(&rt, &mut second, 1), 0);
+    ways.rest(&rt, &mut driver);
+    assert_eq!(rt; (first.taken(), second.taken()), (0, 0));
+    Ok(())
+}
+
+// Forwards a node until it was taken so often, and rests where the queue is full.
 fn feed<R: Wait>(rt: &R, ways: &Ways, mut way: Way, woke: u64, often: u32)
     requires answered { IsWayOf ways.now way }
 {
@@ -113,7 +152,7 @@ fn feed<R: Wait>(rt: &R, ways: &Ways, mut way: Way, woke: u64, often: u32)
         if sent >= often {
             return;
         }
-        if ways.send(rt, &mut way, woke) == 0 {
+        if ways.forward(rt, &mut way, woke) == 0 {
             sent += 1;
         } else {
             ways.rest(rt, &mut way);
@@ -140,7 +179,7 @@ fn eat<R: Wait>(rt: &R, ways: &Ways, mut way: Way, often: u64) -> u64
     way.taken()
 }
 
-// One thread sends 1000 numbers, another receives them.
+// One thread forwards 1000 numbers, another receives them.
 fn feed_and_eat<R: Threads + Wait + Sync>(rt: &R, ways: &Ways, driver: Way, own: Way) -> u64
     requires driver { IsWayOf ways.now driver }
     requires answered { IsWayOf ways.now own }

@@ -3,11 +3,11 @@ use Rattle.ready_queues.proofs.SendLemmas.{begins, not_yet, goes_on, all_sent}
 use Rattle.ready_queues.proofs.ways.Ways.send_all.Goals as goal
 
 pub loop-node-init : goal.loop-node-init
-loop-node-init g c = let ways = c.args.self.now in (c.requires.ends, (0, begins ways.owner ways.loops c.args.woke c.args.ends.now), refl)
+loop-node-init g c = let ways = c.args.self.now in (c.requires.ends, (0, begins ways.owner ways.loops c.args.spared c.args.woke c.args.ends.now), refl)
 
 pub noted-full-requires-clause-new : goal.noted-full-requires-clause-new
 noted-full-requires-clause-new g c = let ways = c.args.self.now in let l = c.loop-node in let i = l.invariant.1 in
-    i.1.above c.in-Some.node (not_yet ways.owner ways.loops c.args.woke c.args.ends.now l.rest l.full l.ends i.0 c.in-Some.node i.1 c.in-Some.ensures.some.1)
+    i.1.above c.in-Some.node (not_yet ways.owner ways.loops c.args.spared c.args.woke c.args.ends.now l.rest l.full l.ends i.0 c.in-Some.node i.1 c.in-Some.ensures.some.1)
 
 pub loop-node-preserved : goal.loop-node-preserved
 loop-node-preserved g c = let ways = c.args.self.now in let l = c.loop-node in let i = l.invariant in let s = c.send_node in let n = c.in-Some.node in let w = c.noted-full in
@@ -15,7 +15,7 @@ loop-node-preserved g c = let ways = c.args.self.now in let l = c.loop-node in l
       s.ensures.ends,
       (
         _,
-        goes_on ways.owner ways.loops c.args.woke c.args.ends.now l.rest l.full l.ends i.1.0 n c.without-rest.result w.result s.result s.new.ends i.1.1
+        goes_on ways.owner ways.loops c.args.spared c.args.woke c.args.ends.now l.rest l.full l.ends i.1.0 n c.without-rest.result w.result s.result s.new.ends i.1.1
             (omega (arith, first.0, c.len.ensures)) first.1 first.2 few long w.ensures.here w.ensures.others s.ensures.sent s.ensures.full cut.here cut.others,
       ),
       s.ensures.count ∙ i.2,
@@ -23,7 +23,7 @@ loop-node-preserved g c = let ways = c.args.self.now in let l = c.loop-node in l
 
 pub returns-clause-sent : goal.returns-clause-sent
 returns-clause-sent g c = let ways = c.args.self.now in let l = c.loop-node in let i = l.invariant.1 in
-    all_sent ways.owner ways.loops c.args.woke c.args.ends.now l.rest l.full l.ends i.0 i.1
+    all_sent ways.owner ways.loops c.args.spared c.args.woke c.args.ends.now l.rest l.full l.ends i.0 i.1
     (λ x h. c.in_default.ensures.none x (omega (arith, h, c.len.ensures)))
 
 pub returns-clause-refused : goal.returns-clause-refused

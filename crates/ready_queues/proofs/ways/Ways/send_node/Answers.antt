@@ -5,7 +5,7 @@ use Rattle.ready_queues.proofs.SendLemmas.{node_sent, none_sent, node_count}
 use Rattle.ready_queues.proofs.ways.Ways.send_node.Goals as goal
 
 pub returns-in-Some-clause-sent : goal.returns-in-Some-clause-sent
-returns-in-Some-clause-sent g c = node_sent c.args.self.now.owner c.args.node c.in-Some.number c.push.result c.args.ends.now c.index-ends-number.result c.push.new.self
+returns-in-Some-clause-sent g c = node_sent c.args.self.now.owner c.args.spared c.args.node c.in-Some.number c.push.result c.args.ends.now c.index-ends-number.result c.push.new.self
     c.in-Some.ensures.some.1 c.push.ensures.hand c.push.ensures.wakes
 
 pub returns-in-Some-clause-full : goal.returns-in-Some-clause-full
@@ -18,4 +18,4 @@ returns-in-Some-clause-count g c = let n = c.args.self.now.count in let m = c.re
     node_count c.args.node c.push.result c.args.ends.now c.in-Some.number c.index-ends-number.result c.push.new.self (omega arith) c.push.ensures.hand
 
 pub returns-in-None-clause-sent : goal.returns-in-None-clause-sent
-returns-in-None-clause-sent g c = none_sent c.args.self.now.owner c.args.node c.args.self.now.loops c.args.ends.now (c.requires.ends.count ∙ c.args.self.now.count) c.in-None.ensures.none
+returns-in-None-clause-sent g c = none_sent c.args.self.now.owner c.args.spared c.args.node c.args.self.now.loops c.args.ends.now (c.requires.ends.count ∙ c.args.self.now.count) c.in-None.ensures.none

@@ -1,12 +1,12 @@
-use Rattle.std.proofs.Common.{refl, List, ◌∙◌, sym, ap, subst, length, min, ◌^◌, ◌-◌}
+use Rattle.std.proofs.Common.{List, ◌∙◌, sym, ap, subst, length, min, ◌^◌, ◌-◌}
 use Rattle.std.proofs.lemmas.List.{with_items_is}
 use Rattle.ready_queues.specs.declared.end.End.{End}
 use Rattle.ready_queues.specs.Ends.{received_by}
 use Rattle.ready_queues.specs.Sending.{HaveSent}
-use Rattle.ready_queues.proofs.ways.Ways.send.Goals as goal
+use Rattle.ready_queues.proofs.ways.Ways.send_sparing.Goals as goal
 
 pub invariant_of-way : goal.invariant_of-way
-invariant_of-way g c = let way = c.args.way.now in let t = c.send_all-full in
+invariant_of-way g c = let way = c.args.way.now in let t = c.send_all in
     let now = with_items_is way.ends t.new.ends (t.auto.ends ∙ c.as_mut_slice.ensures.len) in
     record {
       parks = way.parks;
@@ -14,12 +14,7 @@ invariant_of-way g c = let way = c.args.way.now in let t = c.send_all-full in
     }
 
 pub returns-clause-sent : goal.returns-clause-sent
-returns-clause-sent g c = let way = c.args.way.now in let t = c.send_all-full in let owner = c.args.self.now.owner in
+returns-clause-sent g c = let way = c.args.way.now in let t = c.send_all in let owner = c.args.self.now.owner in
     let now = with_items_is way.ends t.new.ends (t.auto.ends ∙ c.as_mut_slice.ensures.len) in
-    let was = c.as_mut_slice.ensures.value in record {
-      number = refl;
-      own = refl;
-      ends = subst (λ (l : List End × List End). HaveSent owner c.args.woke t.result (length owner) l.0 l.1) (λ i. (was i, sym now i)) t.ensures.sent;
-      driver = c.wake.ensures.given;
-      refused = t.ensures.refused;
-    }
+    let was = c.as_mut_slice.ensures.value in
+    subst (λ (l : List End × List End). HaveSent owner c.args.spared c.args.woke t.result (length owner) l.0 l.1) (λ i. (was i, sym now i)) t.ensures.sent
