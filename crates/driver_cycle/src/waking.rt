@@ -10,7 +10,7 @@ pub(crate) fn send_woken<R: Wait>(rt: &R, ways: &Ways, way: &mut Way, woke: u64)
     requires way { IsDriverWay ways.now way.old }
     ensures way { IsDriverWay ways.now way.new }
 {
-    ways.send(rt, way, woke);
+    ways.forward(rt, way, woke);
 }
 
 /// The end of a round, in which something was done or not: the thread rests where nothing was, and

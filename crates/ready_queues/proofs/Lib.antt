@@ -7,3 +7,4 @@ pub mod OpeningLemmas
 pub mod NewLemmas
 pub mod PoppingLemmas
 pub mod NodeBitsLemmas
+pub mod ForwardLemmas

@@ -10,16 +10,17 @@ use Rattle.ready_queues.specs.ParkingRule.{given_on}
 use Rattle.ready_queues.specs.QueueRule.{IsNodeOf}
 use Rattle.ready_queues.specs.Sending.{HaveSent, IsRefused}
 
--- the node is of no loop, as a number that `owner` does not have
+-- no loop has the node: it is the driver's own, or no node of `owner` at all
 abbrev pub IsDriversOwn : List ℕ → ℕ → ℕ → Type 0
 IsDriversOwn owner loops node = (l : ℕ) → IsNodeOf owner l node → l ≡ loops
 
 -- the set has such a node
 abbrev pub HasDriversOwn : List ℕ → ℕ → ℕ → Type 0
-HasDriversOwn owner loops woke = (node : ℕ) × (bit_at woke node ≡ 1) × IsDriversOwn owner loops node
+HasDriversOwn owner loops woke = (node : ℕ) × (bit_at woke node ≡ 1)
+    × IsDriversOwn owner loops node
 
--- how often the thread of a number unparks the driver's for a set: at most once, never its own and
--- never for nothing, and always for a node of the driver's own
+-- how often the thread of a number unparks the driver's for a set: at most once, never itself and
+-- never for nothing, and always another for a node of the driver's own
 pub record IsUnparkedFor (owner : List ℕ) (loops woke number times : ℕ) : Type 0 where
   pub most : times ≤ 1
   pub itself : number ≡ loops → times ≡ 0

@@ -36,8 +36,8 @@ abbrev pub wakes_for : ℕ → ℕ → ℕ → ℕ
 wakes_for spared number n = cond (eqb number spared) 0 n
 
 -- the end of a loop before and after one node was sent, which found the queue full or not
-pub record HasSentNode (owner : List ℕ) (spared node : ℕ) (full : Bool) (number : ℕ) (a b : End)
-    : Type 0 where
+pub record HasSentNode (owner : List ℕ) (spared node : ℕ) (full : Bool) (number : ℕ)
+    (a b : End) : Type 0 where
   pub hand : hand_of b ≡ pushed_on (hand_of a)
       (cond (is_of owner number node && not full) (node ∷ []) [])
   pub wakes : wakes_of b ≡ given_on (wakes_of a)
@@ -48,7 +48,8 @@ AreSentNode owner spared node full old new = (l : ℕ) (a b : End) → slice_get
     → slice_get new l ≡ Some b → HasSentNode owner spared node full l a b
 
 -- the end of a loop before and after the nodes below n were sent
-pub record HasSentTo (owner : List ℕ) (spared woke full n number : ℕ) (a b : End) : Type 0 where
+pub record HasSentTo (owner : List ℕ) (spared woke full n number : ℕ) (a b : End)
+    : Type 0 where
   pub hand : hand_of b ≡ pushed_on (hand_of a) (taken_in n owner woke full number)
   pub wakes : wakes_of b ≡ given_on (wakes_of a)
       (wakes_for spared number (length (bound_below n owner woke number)))

@@ -81,8 +81,8 @@ impl Ways {
         }
     }
 
-    // All nodes of a set are sent, ascending, and each loop but the spared one is unparked. The bits
-    // of those that found their queue full.
+    // All nodes of a set are sent, ascending, and each of their loops but the spared one is
+    // unparked. The bits of those that found their queue full.
     fn send_all<R: Wait>(&self, rt: &R, ends: &mut [End], woke: u64, spared: u32) -> u64
         requires ends { AreEndsOf self.now.owner self.now.lanes ends.old }
         ensures ends { AreEndsOf self.now.owner self.now.lanes ends.new }
