@@ -35,11 +35,13 @@ use Rattle.data_loop.specs.declared.loop_state.LoopState.{LoopState}
 use Rattle.data_loop.specs.declared.member.Member.{Member}
 use Rattle.data_loop.specs.declared.stage.Stage.{Stage}
 use Rattle.data_loop.specs.turns.Turning.{IsEquipped, AreEven, IsAtRest}
+use Rattle.data_loop.specs.Fronts.{IsFront}
 use Rattle.data_loop.specs.Members.{follows, leads}
 use Rattle.data_loop.specs.StageParts.{IsStageOf}
 use Rattle.data_loop.specs.Stages.{StandsAt, AreApart}
 use Rattle.data_loop.specs.Loops.{plan_of, HasStage, IsBetweenEpochs, node_at}
 use Rattle.data_loop.specs.LoopsOnBoards.{IsFirstSeat, IsOnBoard}
+use Rattle.data_loop.proofs.FrontLemmas.{front_first}
 use Rattle.data_loop.proofs.MemberLemmas.{ComesFrom, comes_from, all_apart}
 use Rattle.data_loop.proofs.PoolCountLemmas.{pools_fit}
 use Rattle.data_loop.proofs.LoopDriverLemmas.{expected_is}
@@ -106,7 +108,7 @@ module _ (s : LoopState) (bt : IsBetweenEpochs s) (p : BoardLayout) (t : TableId
   knows_is = ap (λ (k : Known). k.knows) seat.is
 
   free_is : g.free.items ≡ free
-  free_is = bt.unbegun s.epoch e g (omega arith) at here ∙ ap (λ (x : Shape). map (free_at_start x) (pools_of x)) (sym shape)
+  free_is = (bt.unbegun s.epoch e g (omega arith) at here).0 ∙ ap (λ (x : Shape). map (free_at_start x) (pools_of x)) (sym shape)
 
   fits : All (λ x. (1 ≤ x.blocks) × (x.blocks ≤ 8)) (pools_of p.shape)
   fits = pools_fit p.shape seat.plain.pooled
@@ -173,6 +175,10 @@ module _ (s : LoopState) (bt : IsBetweenEpochs s) (p : BoardLayout) (t : TableId
       rests = λ k d low. rests (get_or g.members k d) (k, low, get_or_default g.members k (get_or g.members k d) d low);
       each = λ k d low. stands (get_or g.members k d) (k, low, get_or_default g.members k (get_or g.members k d) d low);
       room = (bt.loop.room s.epoch g here).0;
+      front = subst (IsFront p g.seat.knows g.members) (sym (bt.unbegun s.epoch e g (omega arith) at here).1)
+          (front_first p g.seat.knows g.members (λ k d low. let m : Member = get_or g.members k d in
+          ap (λ (x : View). (node_of x (p.index m.node)).next) knows_is
+          ∙ next_is p fits expect seat.number (p.index m.node) (there m (from m (k, low, get_or_default g.members k m d low)))));
     };
     later = λ i x y past at here. bt.unbegun i x y (omega (arith, past)) at here;
     led = let none = bt.none_led in omega (arith, none);

@@ -3,9 +3,11 @@ pub mod SumLemmas
 pub mod InputLemmas
 pub mod TurnLemmas
 pub mod PlayLemmas
+pub mod FrontLemmas
 pub mod StageLemmas
 pub mod TryLemmas
 pub mod TryAtLemmas
+pub mod PassLemmas
 pub mod PairLemmas
 pub mod SameLemmas
 pub mod MemberLemmas

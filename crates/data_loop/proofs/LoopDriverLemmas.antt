@@ -275,6 +275,7 @@ module _ (p : BoardLayout) (t : TableId) (s : LoopState) (on : IsOnBoard p t s) 
           each = λ k d low. member_kept (get_or on.stage.members k d) (k, low, get_or_default on.stage.members k (get_or on.stage.members k d) d low)
               (on.stands.each k d low);
           room = all_rows_stay s.rows rows on.stage.members room on.stands.room;
+          front = on.stands.front;
         };
         later = on.later;
         led = omega (arith, tied, high);

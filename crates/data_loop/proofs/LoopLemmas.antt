@@ -160,6 +160,7 @@ module _ (p : BoardLayout) (tb : TableId) (s : LoopState) (on : IsOnBoard p tb s
           rests = st.rests;
           each = subst (λ (l : List NodeState). All (StandsAt s.score s.epoch p h.seat.knows l) h.members) (sym items_are) st.each;
           room = st.room;
+          front = st.front;
         };
         later = later_on;
         led = on.led;

@@ -1,7 +1,8 @@
 -- A loop on the board of its epoch, from turn to turn, and its end.
-use Rattle.std.proofs.Common.{◌≡◌, ◌≢◌, ℕ, zero, suc, ◌<◌, Bool, true, false, true≢false, not, List, [], ◌∷◌, length, map, filter, get_or, refl, sym, ap, ◌∙◌, subst, arith, ⊎_elim}
+use Rattle.std.proofs.Common.{◌≡◌, ◌≢◌, ℕ, zero, suc, ◌<◌, Bool, true, false, true≢false, not, List, [], ◌∷◌, ◌++◌, cond, length, map, filter, get_or, refl, sym, ap, ◌∙◌, subst, arith, ⊎_elim}
 use Rattle.std.proofs.Common.{slice_get}
 use Rattle.std.specs.Prelude.{All, eqb}
+use Rattle.std.proofs.lemmas.List.Elements.{All-cons, All-nil}
 use Rattle.std.proofs.lemmas.Bool.{cases_Bool, cases_eq, ne_eqb, cond-true, cond-false}
 use Rattle.atomic_table.specs.Seated.{TableId}
 use Rattle.pw_base.specs.declared.plan.Epoch.{Epoch}
@@ -11,7 +12,7 @@ use Rattle.board_rule.specs.Layout.{BoardLayout, last}
 use Rattle.data_loop.specs.declared.loop_state.LoopState.{LoopState}
 use Rattle.data_loop.specs.declared.member.Member.{Member}
 use Rattle.data_loop.specs.declared.stage.Stage.{Stage}
-use Rattle.data_loop.specs.LoopTurn.{next_in, has_left, HaveTried}
+use Rattle.data_loop.specs.LoopTurn.{next_in, has_left, is_behind, turn_order, HaveTried}
 use Rattle.data_loop.specs.Members.{members_of, drivers_of}
 use Rattle.data_loop.specs.Loops.{plan_of, HasStage}
 use Rattle.data_loop.specs.LoopsOnBoards.{IsOnBoard, IsSameBut, HasTurnedOnce}
@@ -98,9 +99,32 @@ none_left p v w ms h k d low = let m : Member = get_or ms k d in
     by [] is = refl
     by (m ∷ l) is = absurd (omega (arith, ap (λ (x : List ℕ). length x) is))
 
+all_left : (P : Member → Type 0) (a b : List Member) → All P (a ++ b) → All P a
+all_left P [] b h = All-nil P
+all_left P (m ∷ ms) b h = All-cons P m ms (h 0 m (omega arith)) (all_left P ms b (λ k d low. h (suc k) d (omega (arith, low))))
+
+all_right : (P : Member → Type 0) (a b : List Member) → All P (a ++ b) → All P b
+all_right P [] b h = h
+all_right P (m ∷ ms) b h = all_right P ms b (λ k d low. h (suc k) d (omega (arith, low)))
+
+-- what holds of all in the order of a turn holds of all
+all_parts : (q : Member → Bool) (P : Member → Type 0) (ms : List Member) → All P (filter q ms) → All P (filter (λ m. not (q m)) ms) → All P ms
+all_parts q P [] a b = All-nil P
+all_parts q P (m ∷ ms) a b = by (q m) a b (λ c e. all_parts q P ms c e)
+  where
+    by : (t : Bool) → All P (cond t (m ∷ filter q ms) (filter q ms))
+        → All P (cond (not t) (m ∷ filter (λ x. not (q x)) ms) (filter (λ x. not (q x)) ms))
+        → (All P (filter q ms) → All P (filter (λ x. not (q x)) ms) → All P ms) → All P (m ∷ ms)
+    by true a b rest = All-cons P m ms (a 0 m (omega arith)) (rest (λ k d low. a (suc k) d (omega (arith, low))) b)
+    by false a b rest = All-cons P m ms (b 0 m (omega arith)) (rest a (λ k d low. b (suc k) d (omega (arith, low))))
+
+pub all_ordered : (p : BoardLayout) (v : View) (ms : List Member) (P : Member → Type 0) → All P (turn_order p v ms) → All P ms
+all_ordered p v ms P h = let one = filter (is_behind p v ms) ms in let two = filter (λ m. not (is_behind p v ms m)) ms in
+    all_parts (is_behind p v ms) P ms (all_left P one two h) (all_right P one two h)
+
 -- an idle turn that found no try too early
 module _ (p : BoardLayout) (t : TableId) (s u : LoopState) (before : IsOnBoard p t s) (turned : HasHadTurns p t s u) where
-  pub settled_by : HaveTried p before.stage.seat.knows before.stage.members [] turned.on.stage.seat.knows → HasSettled p t s u
+  pub settled_by : All (λ m. next_in p turned.on.stage.seat.knows m.node ≡ last p) before.stage.members → HasSettled p t s u
   settled_by h = let e = ended_here in record {
     turned = turned;
     ended = e;
@@ -114,7 +138,7 @@ module _ (p : BoardLayout) (t : TableId) (s u : LoopState) (before : IsOnBoard p
       ended_here : All (λ m. next_in p turned.on.stage.seat.knows m.node ≡ last p) turned.on.stage.members
       ended_here = subst (All (λ m. next_in p turned.on.stage.seat.knows m.node ≡ last p))
           (sym (same_members p t s u before turned.on turned.same before.stage turned.on.stage before.here turned.on.here))
-          (none_left p before.stage.seat.knows turned.on.stage.seat.knows before.stage.members h)
+          h
 
 -- and after turns before it
 pub settled_after : (p : BoardLayout) (t : TableId) (s u w : LoopState) → IsOnBoard p t s → HasHadTurns p t s u → HasSettled p t u w → HasSettled p t s w
@@ -132,5 +156,7 @@ nothing (x ∷ l) none = absurd (omega (arith, none))
 pub settled_idle : (p : BoardLayout) (t : TableId) (s u : LoopState) → IsOnBoard p t s → HasHadTurns p t s u → HasTurnedOnce p s Idle u
     → length u.found.items ≡ 0 → HasSettled p t s u
 settled_idle p t s u before turned did none = settled_by p t s u before turned
-    (subst (λ l. HaveTried p before.stage.seat.knows before.stage.members l turned.on.stage.seat.knows) (nothing u.found.items none)
-    (did before.stage turned.on.stage before.here turned.on.here))
+    (all_ordered p before.stage.seat.knows before.stage.members (λ m. next_in p turned.on.stage.seat.knows m.node ≡ last p)
+    (none_left p before.stage.seat.knows turned.on.stage.seat.knows (turn_order p before.stage.seat.knows before.stage.members)
+    (subst (λ l. HaveTried p before.stage.seat.knows (turn_order p before.stage.seat.knows before.stage.members) l turned.on.stage.seat.knows)
+    (nothing u.found.items none) (did before.stage turned.on.stage before.here turned.on.here))))

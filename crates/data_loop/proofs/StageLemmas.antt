@@ -16,6 +16,7 @@ use Rattle.buffer_pool.specs.Queue.{Queue}
 use Rattle.activation_words.proofs.ViewLemmas.{again}
 use Rattle.activation_words.proofs.MemberLemmas.{may_claim, woken_has, woken_awake, tried_rests}
 use Rattle.node_state.specs.declared.node_state.NodeState.{NodeState}
+use Rattle.data_loop.specs.declared.front.Front.{Front}
 use Rattle.data_loop.specs.declared.member.Member.{Member}
 use Rattle.data_loop.specs.declared.rows.Rows.{Rows}
 use Rattle.node_progress.specs.declared.score.Score.{Score}
@@ -25,7 +26,10 @@ use Rattle.node_progress.specs.NodeStates.{IsNodeState}
 use Rattle.data_loop.specs.Rooms.{HasRowsFor, IsSameRoom}
 use Rattle.data_loop.specs.Standings.{IsPlayer}
 use Rattle.data_loop.specs.Stages.{IsMemberIn, StandsAt, AreApart, IsStanding}
+use Rattle.data_loop.specs.Fronts.{IsFront}
+use Rattle.data_loop.specs.LoopTurn.{next_in}
 use Rattle.data_loop.specs.Tries.{no_member, member_at}
+use Rattle.data_loop.proofs.FrontLemmas.{front_on}
 use Rattle.data_loop.proofs.turns.EndsLemmas.{same_node}
 use Rattle.data_loop.proofs.turns.TurningLemmas.{even_moves, turned_whole, equipped_moves}
 
@@ -116,7 +120,8 @@ module _ (score : Score) (k : ℕ) (p : BoardLayout) (t : TableId) (g : Stage) (
       (cases_lt j i)
 
   -- the loop after its turn, or after a try that was too early
-  module _ (new : Stage) (table : new.seat.table ≡ t) (members : new.members ≡ g.members) (shapes : new.shapes ≡ g.shapes) where
+  module _ (new : Stage) (table : new.seat.table ≡ t) (members : new.members ≡ g.members) (shapes : new.shapes ≡ g.shapes)
+      (front : new.front ≡ g.front) where
     abbrev w : View
     w = new.seat.knows
 
@@ -139,6 +144,8 @@ module _ (score : Score) (k : ℕ) (p : BoardLayout) (t : TableId) (g : Stage) (
           at_index (λ x. IsAtRest p w new.free.items (p.index x.node)) j d lt (rests j lt));
       each = subst (All (StandsAt score k p w later)) (sym members) (λ j d lt. at_index (StandsAt score k p w later) j d lt (stands j lt));
       room = subst (All (HasRowsFor wide)) (sym members) (λ j d lt. rows_stay rows wide (get_or g.members j d) same (st.room j d lt));
+      front = subst (λ (x : List Member × Front). IsFront p w x.0 x.1) (λ a. (sym members a, sym front a))
+          (front_on p v w g.members g.front (λ j d lt. at_index (λ x. next_in p v x.node ≤ next_in p w x.node) j d lt (not_less j lt)) st.front);
     }
       where
         at_index : (P : Member → Type 0) (j : ℕ) (d : Member) → j < length g.members → P (member_at g j) → P (get_or g.members j d)
@@ -152,6 +159,15 @@ module _ (score : Score) (k : ℕ) (p : BoardLayout) (t : TableId) (g : Stage) (
         rests j lt = ⊎_elim
             (λ (e : j ≡ i). subst (λ x. IsAtRest p w new.free.items (p.index (member_at g x).node)) (sym e) h.rests)
             (λ (ne : j ≢ i). (h.others (p.index (member_at g j).node) (apart_index j lt ne) (st.rests j no_member lt)).0)
+            (cases_eq j i)
+
+        not_less : (j : ℕ) → j < length g.members → next_in p v (member_at g j).node ≤ next_in p w (member_at g j).node
+        not_less j lt = ⊎_elim
+            (λ (e : j ≡ i). subst (λ x. next_in p v (member_at g x).node ≤ next_in p w (member_at g x).node) (sym e)
+            (let later = h.later in omega (arith, later)))
+            (λ (ne : j ≢ i). let same : next_in p w (member_at g j).node ≡ next_in p v (member_at g j).node =
+            ap (λ (y : NodeView). y.next) (h.others (p.index (member_at g j).node) (apart_index j lt ne) (st.rests j no_member lt)).1 in
+            omega (arith, same))
             (cases_eq j i)
 
         one : suc (node_of v mi).next ≡ (node_of v mi).next + 1
@@ -202,4 +218,6 @@ module _ (score : Score) (k : ℕ) (p : BoardLayout) (t : TableId) (g : Stage) (
       each = subst (All (StandsAt score k p w states)) (sym members) (λ j d lt.
           subst (λ (x : View). StandsAt score k p x states (get_or g.members j d)) (sym e) (st.each j d lt));
       room = subst (All (HasRowsFor rows)) (sym members) st.room;
+      front = subst (λ (x : List Member × Front × View). IsFront p x.2 x.0 x.1) (λ a. (sym members a, sym front a, sym e a))
+          (front_on p v (tried p v mi found) g.members g.front (λ j d lt. omega arith) st.front);
     }

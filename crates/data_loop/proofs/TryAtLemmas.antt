@@ -41,7 +41,7 @@ members_one n (m ∷ ms) (suc i) apart low is = cond-false (m.node == n) (m ∷ 
 -- a node that is no member
 pub none_at : (p : BoardLayout) (v : View) (n : ℕ) (ms : List Member) (found : List (ℕ × ℕ)) → found ≡ [] → All (λ m. m.node ≢ n) ms
     → HaveTried p v (members_at n ms) found v
-none_at p v n ms found empty h = subst (λ l. HaveTried p v l found v) (sym (members_none n ms h)) (none_tried p v [] found empty)
+none_at p v n ms found empty h = subst (λ l. HaveTried p v l found v) (sym (members_none n ms h)) (none_tried p v found empty)
 
 -- the member at an index
 module _ (score : Score) (k : ℕ) (p : BoardLayout) (t : TableId) (g : Stage) (states : List NodeState) (rows : Rows)
@@ -57,19 +57,19 @@ module _ (score : Score) (k : ℕ) (p : BoardLayout) (t : TableId) (g : Stage) (
   one = members_one n g.members i st.apart low is
 
   none_yet : HaveTried p v [] found v
-  none_yet = none_tried p v (m ∷ []) found empty
+  none_yet = none_tried p v found empty
 
   inside : p.index m.node < nodes p
   inside = (st.rests i no_member low).0.member.2
 
   pub ended_at : next_in p v m.node ≡ last p → (w : View) → w ≡ v → HaveTried p v (members_at n g.members) found w
   ended_at ended w same = subst (λ (x : List Member × View). HaveTried p v x.0 found x.1) (λ j. (sym one j, sym same j))
-      (one_ended p v (m ∷ []) 0 (omega arith) found v none_yet ended)
+      (one_ended p v [] m found v none_yet ended)
 
   pub tried_at : next_in p v m.node ≢ last p → (x : ℕ) → x ≢ triggered_word (next_in p v m.node) → (u : View)
       → u ≡ tried p v (p.index m.node) x → HaveTried p v (members_at n g.members) (found ++ (n, x) ∷ []) u
   tried_at some x other u after = subst (λ (y : List Member × ℕ). HaveTried p v y.0 (found ++ (y.1, x) ∷ []) u) (λ j. (sym one j, is j))
-      (one_tried p v (m ∷ []) 0 (omega arith) found v none_yet st.equipped.plain inside some x other u after)
+      (one_tried p v [] m found v none_yet st.equipped.plain inside some x other u after)
 
   pub ran_at : (h : Stage) → HasTurned p v g.free.items (p.index m.node) h.seat.knows h.free.items → HasRunAt p g n h
   ran_at h turned = record {

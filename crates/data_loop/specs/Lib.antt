@@ -9,6 +9,7 @@ pub mod Standings
 pub mod Stages
 pub mod Tries
 pub mod LoopTurn
+pub mod Fronts
 pub mod LoopTries
 pub mod Settling
 pub mod LoopWay

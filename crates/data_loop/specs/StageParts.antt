@@ -12,6 +12,7 @@ use Rattle.board_rule.specs.Known.{Known}
 use Rattle.node_progress.specs.Restarts.{restart_of}
 use Rattle.data_loop.specs.declared.rows.Rows.{Rows}
 use Rattle.data_loop.specs.declared.stage.Stage.{Stage}
+use Rattle.data_loop.specs.Fronts.{first_front}
 use Rattle.data_loop.specs.Members.{members_of, drivers_of}
 use Rattle.data_loop.specs.Rooms.{HasRowsFor, IsWithin}
 
@@ -41,7 +42,8 @@ pub record IsSameStage (g h : Stage) : Type 0 where
 
 -- no turn was made in the epoch
 abbrev pub IsUnbegun : Epoch → Stage → Type 0
-IsUnbegun e g = g.free.items ≡ map (free_at_start e.shape) (pools_of e.shape)
+IsUnbegun e g = (g.free.items ≡ map (free_at_start e.shape) (pools_of e.shape))
+    × (g.front ≡ first_front)
 
 -- THE STAGE of epoch k, as it is made of a seat
 pub record IsFirstStage (plan : Plan) (nodes : List ℕ) (k : ℕ) (seat : Known)

@@ -20,6 +20,7 @@ use Rattle.data_loop.specs.declared.stage.Stage.{Stage}
 use Rattle.data_loop.specs.turns.Turning.{IsEquipped, IsAtRest}
 use Rattle.node_progress.specs.Standing.{works_in}
 use Rattle.node_progress.specs.NodeStates.{IsNodeState}
+use Rattle.data_loop.specs.Fronts.{IsFront}
 use Rattle.data_loop.specs.Members.{member_of}
 use Rattle.data_loop.specs.Rooms.{HasRowsFor}
 
@@ -60,3 +61,4 @@ pub record IsStanding (score : Score) (k : ℕ) (p : BoardLayout) (t : TableId) 
   pub rests : All (λ m. IsAtRest p g.seat.knows g.free.items (p.index m.node)) g.members
   pub each : All (StandsAt score k p g.seat.knows states) g.members
   pub room : All (HasRowsFor rows) g.members
+  pub front : IsFront p g.seat.knows g.members g.front

@@ -6,6 +6,7 @@
 
 mod did;
 mod driving;
+mod front;
 mod gathering;
 mod giving;
 mod inputs;
@@ -16,6 +17,7 @@ mod loop_state;
 mod loop_turn;
 mod member;
 mod members;
+mod passes;
 mod playing;
 mod rooms;
 mod rows;
@@ -29,6 +31,7 @@ mod turning;
 
 pub use did::Did;
 pub use driving::{pass_driver, play_driver};
+pub use front::Front;
 pub use gathering::gather;
 pub use inputs::{Input, hear_all};
 pub use loop_state::LoopState;

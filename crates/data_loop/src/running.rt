@@ -14,7 +14,7 @@ use pw_base::{Gate, Items};
 use ready_queues::{Way, Ways};
 use std::sync::Wait;
 
-// One try of a node that the loop's queue gave; where it ran, what it woke is sent.
+// One try of a node that the loop's queue gave; where it ran, what it woke is passed on.
 fn try_given<R: Wait, G: Gate>(
     rt: &R,
     board: &Board,
@@ -31,13 +31,13 @@ fn try_given<R: Wait, G: Gate>(
 {
     match state.turn_at(board, node, gate) {
         Did::Ran { .. } => {
-            ways.send(rt, way, state.woke());
+            ways.forward(rt, way, state.woke());
         }
         Did::Idle => (),
     }
 }
 
-// One turn; where one ran, what it woke is sent, and where none was awake, the thread rests.
+// One turn; where one ran, what it woke is passed on, and where none was awake, the thread rests.
 // Whether it found that no follower has cycles left, and then there is no rest.
 fn try_all<R: Wait, G: Gate>(
     rt: &R,
@@ -56,7 +56,7 @@ fn try_all<R: Wait, G: Gate>(
 {
     match state.turn(board, gate) {
         Did::Ran { .. } => {
-            ways.send(rt, way, state.woke());
+            ways.forward(rt, way, state.woke());
             false
         }
         Did::Idle => {
@@ -161,6 +161,7 @@ pub fn run_all<R: Wait, G: Gate>(
 {
     let mut state = state;
     let mut way = way;
+    ways.start(&way);
     while !state.at_end() {
         go_through(rt, boards, &mut state, ways, &mut way, gate);
     }

@@ -11,6 +11,7 @@ ghost use Rattle.data_loop.specs.StageParts.{IsSameStage};
 ghost use Rattle.data_loop.specs.Stages.{AreLeft};
 
 use crate::did::Did;
+use crate::front::Front;
 use crate::member::Member;
 use crate::playing::play;
 use crate::rows::Rows;
@@ -33,6 +34,7 @@ pub struct Stage {
     pub restarts: Items<Option<u32>>,
     pub shapes: Items<PoolShape>,
     pub free: Vec<Pool>,
+    pub front: Front,
 }
 
 // The index of the member of a node.
@@ -70,6 +72,7 @@ impl Stage {
         ensures tried { HasTried (layout board.now) self.old
             (member_at self.old index).node result self.new }
         ensures same { IsSameStage self.old self.new }
+        ensures front { self.new.front ≡ self.old.front }
         ensures states { (at : ℕ) (d : NodeState) → at ≢ (member_at self.old index).at
             → slice_index_or states.new at d ≡ slice_index_or states.old at d }
         ensures rows { IsSameRoom rows.old rows.new }
@@ -99,9 +102,10 @@ impl Stage {
         }
     }
 
-    /// One turn: tries the members in their order, and ends with the first that has run. `found` is
-    /// empty before; then it has the node and the word of each try that was too early. Takes no
-    /// memory, does not wait.
+    /// One turn: tries the members, those first that have ended the fewest cycles, each in their
+    /// order, and ends with the first that has run. While one is a cycle behind, none that is ahead
+    /// of it can be awake, so that a turn tries few. `found` is empty before; then it has the node
+    /// and the word of each try that was too early. Takes no memory, does not wait.
     pub fn turn<G: Gate>(
         &mut self,
         board: &Board,
@@ -125,15 +129,16 @@ impl Stage {
         ensures few { length found.new.items ≤ length self.old.members }
         ensures capacity { vec_capacity found.new ≡ vec_capacity found.old }
     {
-        for index in 0..self.members.len() {
-            let node = self.members.as_slice()[index].node;
-            match self.try_member(board, score, epoch, index, states, rows, gate) {
-                Tried::Ended => (),
-                Tried::NotYet { found: word } => found.push_reserved((node, word)),
-                Tried::Ran => return Did::Ran { node },
-            }
+        self.front = self.front_now(board);
+        let Front { least, from } = self.front;
+        match self.pass(
+            board, score, epoch, from, least, true, states, rows, found, gate,
+        ) {
+            Did::Ran { node } => Did::Ran { node },
+            Did::Idle => self.pass(
+                board, score, epoch, 0, least, false, states, rows, found, gate,
+            ),
         }
-        Did::Idle
     }
 
     /// One try of the member of a node, if there is one. `found` is empty before; then it has the

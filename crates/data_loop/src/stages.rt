@@ -6,6 +6,7 @@ ghost use Rattle.node_progress.specs.Restarts.{restart_of};
 ghost use Rattle.io_areas.specs.FreeBlocks.{free_at_start};
 ghost use Rattle.data_loop.specs.StageParts.{IsFirstStage, AreFirstStages};
 
+use crate::front::Front;
 use crate::members::members_by;
 use crate::stage::Stage;
 use board_rule::LoopSeat;
@@ -71,6 +72,7 @@ fn stage_of(
         restarts,
         shapes,
         free,
+        front: Front { least: 0, from: 0 },
     })
 }
 

@@ -45,8 +45,11 @@ returns c = record {
           restarts = c.in_ok-restarts.ensures;
           shapes = c.in_ok-shapes.ensures ∙ ap (λ (x : Epoch). pools_of x.shape) is;
         },
-        c.into_vec-free.ensures ∙ c.in_ok-free_of.ensures
-            ∙ ap (map (free_at_start c.index-as_slice-epoch.result.shape)) (c.as_slice-2.ensures ∙ c.in_ok-shapes.ensures)
-            ∙ ap (λ (x : Epoch). map (free_at_start x.shape) (pools_of x.shape)) is,
+        (
+          c.into_vec-free.ensures ∙ c.in_ok-free_of.ensures
+              ∙ ap (map (free_at_start c.index-as_slice-epoch.result.shape)) (c.as_slice-2.ensures ∙ c.in_ok-shapes.ensures)
+              ∙ ap (λ (x : Epoch). map (free_at_start x.shape) (pools_of x.shape)) is,
+          refl,
+        ),
       );
 }

@@ -67,7 +67,7 @@ returns-in-NotYet-clause-stands g' c = let board_shape = c.args.board.now.board_
     let is : m ≡ member_at g c.args.index = c.index-as_slice-index.is ∙ ap (λ (l : List Member). get_or l c.args.index m) c.as_slice.ensures
     ∙ get_or_default g.members c.args.index m no_member c.requires.inside in
     tried_stands c.args.score.now c.args.epoch p (table_of c.args.board.now) g c.args.states.now c.args.rows.now c.requires.stands c.args.index c.requires.inside
-    (record g { seat = c.claim.new.seat }) (c.claim.ensures.table ∙ c.requires.stands.table) refl refl c.in-NotYet.found refl
+    (record g { seat = c.claim.new.seat }) (c.claim.ensures.table ∙ c.requires.stands.table) refl refl refl c.in-NotYet.found refl
     (c.in-NotYet.ensures.claim.1 ∙ ap (λ (x : Member). tried p v (p.index x.node) c.in-NotYet.found) is)
 
 pub returns-in-NotYet-clause-tried : goal.returns-in-NotYet-clause-tried
@@ -103,7 +103,7 @@ returns-in-Awake-clause-stands g' c = let board_shape = c.args.board.now.board_s
     let whole = turned_before c.args.score.now c.args.epoch p (table_of c.args.board.now) g c.args.states.now c.args.rows.now c.requires.stands c.args.index c.requires.inside
     (λ e. some_left (omega (arith, e, ended))) w x c.play.new.free woke after in
     turned_stands c.args.score.now c.args.epoch p (table_of c.args.board.now) g c.args.states.now c.args.rows.now c.requires.stands c.args.index c.requires.inside
-    _ (c.play.ensures.table ∙ c.claim.ensures.table ∙ c.requires.stands.table) refl refl
+    _ (c.play.ensures.table ∙ c.claim.ensures.table ∙ c.requires.stands.table) refl refl refl
     (subst (λ (l : List Queue). HasTurned p v g.free.items (p.index (member_at g c.args.index).node) x l) (sym lists) whole)
     _ c.play.new.state (ap (λ (y : Member). set c.args.states.now y.at c.play.new.state) is)
     (subst (λ (y : ℕ × Member). IsNodeState c.args.score.now c.args.epoch (suc y.0) y.1.node c.play.new.state) (λ i. (cycle i, is i))
