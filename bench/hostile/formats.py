@@ -161,22 +161,30 @@ def spelled(choice):
     return pod(19, struct.pack("<IIII", how, 0, readers.SIZES[kind], kind) + body)
 
 
-def filtered(a, b):
-    """The line of `filter`, and what it stores."""
-    if a[0] != b[0]:
-        return "clash type\n", None
+def common_of(a, b):
+    """The least key at which the fields of two formats clash, or the fields that they share."""
     fields = {}
-    for key in sorted(set(a[2]) | set(b[2])):
-        one, other = a[2].get(key), b[2].get(key)
+    for key in sorted(set(a) | set(b)):
+        one, other = a.get(key), b.get(key)
         if one and other:
             common = meet(one[1], other[1])
             if common is None:
-                return f"clash {key}\n", None
+                return key, None
             fields[key] = one[0] & other[0], common
         else:
             fields[key] = one or other
             if fields[key][0] & 8:
-                return f"clash {key}\n", None
+                return key, None
+    return None, fields
+
+
+def filtered(a, b):
+    """The line of `filter`, and what it stores."""
+    if a[0] != b[0]:
+        return "clash type\n", None
+    clash, fields = common_of(a[2], b[2])
+    if fields is None:
+        return f"clash {clash}\n", None
     body = struct.pack("<II", a[0], a[1])
     for key, (flags, choice) in fields.items():
         body += struct.pack("<II", key, flags) + spelled(choice)

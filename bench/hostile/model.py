@@ -1,10 +1,15 @@
 """What a script prints and stores, from docs/FORMATS.md and the README, apart from the program.
 
-It knows no `offer` lines and no limits. Blocks are lists of frames, and a frame is a list of
+It knows no limits. Blocks are lists of frames, and a frame is a list of
 samples; the block of a port without a form is None.
 """
-import grammar
+import struct
 
+import formats
+import grammar
+import readers
+
+RATE, CHANNELS = 65539, 65540
 ANY_CHANNELS = ("gain", "mix2", "delay", "sink", "meter")
 
 
@@ -12,18 +17,37 @@ def clamp(value):
     return max(-32768, min(32767, value))
 
 
+def only(kind, n):
+    return 0, ("only", (kind, struct.pack("<i", n)))
+
+
+def between(pick, low, high):
+    return 0, ("range", formats.INT, pick, low, high, 1)
+
+
+def single(field):
+    """The number of a field of one value, or None."""
+    return formats.number(field[1][1]) if field[1][0] == "only" else None
+
+
 class Node:
     def __init__(self, kind, words, waves):
         self.kind, self.name, self.words = kind, words[1], words
         self.on, self.marked, self.priority = True, False, None
-        self.formats, self.buffers = {}, {}  # by port
+        self.formats, self.buffers, self.offers = {}, {}, {}  # by port
         self.given, self.line, self.kept, self.peak, self.was_active = 0, [], [], 0, False
         self.inputs = grammar.INPUTS.get(kind, [])
         self.outputs = grammar.OUTPUTS.get(kind, [])
         if kind == "source":
             self.wave_channels, self.wave_rate, self.frames = waves[words[2]]
+        for port in self.inputs + self.outputs:
+            rate, channels = self.numbers(port)
+            self.offers[port] = {
+                1: only(3, 1), 2: only(3, 1), 65537: only(3, 0x103),
+                RATE: only(4, rate) if rate else between(48000, 1, 384000),
+                CHANNELS: only(4, channels) if channels else between(2, 1, 8)}
 
-    def own(self, port):
+    def numbers(self, port):
         """The rate and the channels that a port offers on its own, None for any."""
         if self.kind == "source":
             return self.wave_rate, self.wave_channels
@@ -35,14 +59,26 @@ class Node:
             return None, 2 if port == "in" else 1
         return None, None
 
+    def shared(self):
+        """The fields of one value that a format gave all ports of the node."""
+        keys = [RATE, CHANNELS] if self.kind in ANY_CHANNELS else [RATE]
+        return {key: form[key] for form in self.formats.values() for key in keys}
+
+    def offered(self, port):
+        """What a port offers now, or the least key of which its own offer lacks the value."""
+        if port in self.formats:
+            return None, self.formats[port]
+        for key, field in sorted(self.shared().items()):
+            if not formats.is_member(field[1][1], self.offers[port][key][1]):
+                return key, None
+        shared = {key: (self.offers[port][key][0], field[1])
+                  for key, field in self.shared().items()}
+        return None, self.offers[port] | shared
+
     def form(self, port):
-        """What a port offers: its format, what its node shares, or its own."""
-        rate, channels = self.formats.get(port, self.own(port))
-        for shared in self.formats.values():
-            rate = shared[0]
-            if self.kind in ANY_CHANNELS:
-                channels = shared[1]
-        return rate, channels
+        """The rate and the channels of a port, each None where it is open."""
+        fields = self.formats.get(port) or self.offers[port] | self.shared()
+        return single(fields[RATE]), single(fields[CHANNELS])
 
     def has_form(self, port):
         if self.kind in ("sink", "meter"):
@@ -97,8 +133,9 @@ class Node:
 
 
 class Model:
-    def __init__(self, waves):
-        self.waves, self.nodes, self.links, self.text, self.quantum = waves, {}, [], [], 1024
+    def __init__(self, waves, pods=None):
+        self.waves, self.pods = waves, pods
+        self.nodes, self.links, self.text, self.quantum = {}, [], [], 1024
 
     def is_late(self, link):
         return self.nodes[link[0][0]].marked or self.nodes[link[1][0]].marked
@@ -113,23 +150,25 @@ class Model:
         (a, p), (b, q) = link = tuple(tuple(word.split(".")) for word in words[1:])
         source, target = self.nodes[a], self.nodes[b]
         where = " ".join(words[1:])
-        (rate, channels), (rate2, channels2) = source.form(p), target.form(q)
         counts = {count for count in (source.buffers.get(p), target.buffers.get(q)) if count}
         if link in self.links:
             return self.text.append(f"nolink {where} twice")
         if a == b or not self.is_late(link) and self.reaches(b, a):
             return self.text.append(f"nolink {where} loop")
-        if rate and rate2 and rate != rate2:
-            return self.text.append(f"nolink {where} 65539")
-        if channels and channels2 and channels != channels2:
-            return self.text.append(f"nolink {where} 65540")
+        (lack, given), (lack2, taken) = source.offered(p), target.offered(q)
+        clash, common = lack or lack2, None
+        if not clash:
+            clash, common = formats.common_of(given, taken)
+        if clash:
+            return self.text.append(f"nolink {where} {clash}")
         if len(counts) > 1:
             return self.text.append(f"nolink {where} buffers")
-        form = rate or rate2 or 48000, channels or channels2 or 2
+        form = {key: (0, ("only", formats.pick_of(field[1]))) for key, field in common.items()}
         source.formats.setdefault(p, form)
         target.formats.setdefault(q, form)
         self.links.append(link)
-        return self.text.append(f"link {where} {form[0]} {form[1]} {max(counts, default=2)}")
+        agreed = f"{single(form[RATE])} {single(form[CHANNELS])} {max(counts, default=2)}"
+        return self.text.append(f"link {where} {agreed}")
 
     def unlink(self, words):
         link = tuple(tuple(word.split(".")) for word in words[1:])
@@ -206,6 +245,11 @@ class Model:
             self.epoch(int(words[1]) if command == "cycles" else None)
         elif command == "driver":
             node.priority = int(words[2])
+        elif command == "offer":
+            clash, node.offers[words[2]] = formats.common_of(node.offers[words[2]],
+                                                             self.pods[words[3]])
+            if clash:
+                raise readers.Refused(18, clash)
         elif command == "buffers":
             node.buffers[words[2]] = int(words[3])
         elif command in ("on", "off"):
@@ -224,17 +268,18 @@ class Model:
             elif node.kind == "meter":
                 self.text.append(f"peak {node.name} {node.peak}")
             else:
-                rate, channels = node.formats["in"]
+                rate, channels = node.form("in")
                 self.text.append(f"wrote {node.name} {len(node.kept)}")
                 files[node.words[2]] = [s for frame in node.kept for s in frame], channels, rate
         return "\n".join(self.text) + "\n" if self.text else "", files
 
 
-def run(script, waves):
-    """What a script without a fault prints and stores; `waves` by name."""
-    model = Model(waves)
-    for line in script.split("\n"):
-        words = line.split()
-        if words:
-            model.line(words)
-    return model.end()
+def run(script, waves, pods):
+    """Status, text and files of a script in the grammar; `waves` and `pods` by name."""
+    model = Model(waves, pods)
+    for number, line in enumerate(script.split("\n"), 1):
+        try:
+            model.line(line.split())
+        except readers.Refused as fault:
+            return 4, f"pod {number} " + " ".join(map(str, fault.args)) + "\n", {}
+    return 0, *model.end()

@@ -54,8 +54,8 @@ def verdict(cycles, lines):
 class Epochs(model.Model):
     """A model that notes its cycles."""
 
-    def __init__(self, waves):
-        super().__init__(waves)
+    def __init__(self, waves, pods):
+        super().__init__(waves, pods)
         self.cycles = []
 
     def cycle(self, live, names, before):
@@ -69,8 +69,8 @@ class Epochs(model.Model):
         return super().cycle(live, set(names) - {"dummy"}, before)
 
 
-def cycles_of(script, waves):
-    made = Epochs(waves)
+def cycles_of(script, waves, pods):
+    made = Epochs(waves, pods)
     for line in script.split("\n"):
         if line.split():
             made.line(line.split())
@@ -101,12 +101,15 @@ def altered(draw, lines):
 
 def traces(place):
     """Random traces, and whether they are legal."""
-    draw, waves = random.Random(8), graphs.make_waves(place, random.Random(5))
+    draw = random.Random(8)
+    waves, offers = graphs.make_waves(place, draw), graphs.make_offers(place, draw)
     asked = 0
     while asked < COUNT:
         script = graphs.random_graph(draw)
         if script.index(" s0") > script.index(" o0"):
             continue  # the late names of a tick ascend by number
+        if model.run(script, waves, offers)[0]:
+            continue
         asked += 1
         place.file("random.graph", script)
         words = ["run", "random.graph", "--trace", "--loops", str(draw.choice([0, 3]))]
@@ -118,4 +121,4 @@ def traces(place):
             trace = altered(draw, lines)
             place.file("random.trace", "\n".join(trace) + "\n" * bool(trace))
             place.expect(f"{script!r}: {trace}", ["check", "random.graph", "random.trace"], 0,
-                         verdict(cycles_of(script, waves), trace))
+                         verdict(cycles_of(script, waves, offers), trace))
