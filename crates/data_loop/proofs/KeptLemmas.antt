@@ -1,5 +1,5 @@
 -- What the nodes of a loop keep.
-use Rattle.std.proofs.Common.{◌≡◌, ◌≢◌, ℕ, ℤ, ◌<◌, List, length, get_or, set, sym, ap, ◌∙◌, subst, refl}
+use Rattle.std.proofs.Common.{◌≡◌, ℕ, ℤ, ◌<◌, List, length, get_or, sym, ap, ◌∙◌, subst, refl}
 use Rattle.std.proofs.Common.{get_or-set_other}
 use Rattle.std.specs.Vec.{with_item}
 use Rattle.std.proofs.lemmas.List.{get_or_default}

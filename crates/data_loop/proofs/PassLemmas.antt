@@ -1,5 +1,5 @@
 -- One pass over the members of a loop, and the two of a turn.
-use Rattle.std.proofs.Common.{◌≡◌, ◌≢◌, ℕ, zero, suc, ◌+◌, ◌<◌, ◌≤◌, Bool, true, false, not, eqb, List, [], ◌∷◌, ◌++◌, length, length-append, map, filter, get_or, take, drop}
+use Rattle.std.proofs.Common.{◌≡◌, ◌≢◌, ℕ, zero, suc, ◌+◌, ◌<◌, ◌≤◌, Bool, true, false, not, eqb, List, [], ◌∷◌, ◌++◌, length, length-append, filter, get_or, take, drop}
 use Rattle.std.proofs.Common.{refl, sym, ap, ◌∙◌, subst, arith, cond, ⊎_elim}
 use Rattle.std.specs.Prelude.{Contains}
 use Rattle.std.proofs.lemmas.Bool.{cases_eq, eq-eqb, ne_eqb}
@@ -15,7 +15,7 @@ use Rattle.data_loop.specs.declared.stage.Stage.{Stage}
 use Rattle.data_loop.specs.Fronts.{is_chosen, chosen_in, HasPassed}
 use Rattle.data_loop.specs.Tries.{no_member}
 use Rattle.data_loop.specs.LoopTurn.{next_in, has_left, least_next, is_behind, turn_order, HaveTried, HasRun, IsDid}
-use Rattle.data_loop.proofs.TryLemmas.{tried_on, still_next}
+use Rattle.data_loop.proofs.TryLemmas.{tried_on}
 
 -- no more tries than members
 pub few_pass : (q : Member → Bool) (l : List Member) → length (filter q l) ≤ length l

@@ -1,4 +1,4 @@
-use Rattle.std.proofs.Common.{◌≡◌, ◌+◌, ◌<◌, ℕ, List, get_or, length, sym, ap, ◌∙◌, arith}
+use Rattle.std.proofs.Common.{◌≡◌, ◌+◌, ◌<◌, List, get_or, length, sym, ap, ◌∙◌, arith}
 use Rattle.board_rule.specs.OnBoard.{layout}
 use Rattle.board_rule.specs.Layout.{first}
 use Rattle.board_rule.specs.declared.view.View.{View}

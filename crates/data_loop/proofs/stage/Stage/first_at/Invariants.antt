@@ -1,4 +1,4 @@
-use Rattle.std.proofs.Common.{◌≡◌, ◌≤◌, length}
+use Rattle.std.proofs.Common.{◌≡◌, length}
 use Rattle.board_rule.specs.OnBoard.{layout}
 use Rattle.data_loop.specs.Fronts.{NoneAt}
 use Rattle.data_loop.proofs.stage.Stage.first_at.Given as goal

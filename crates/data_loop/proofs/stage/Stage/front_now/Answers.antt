@@ -1,6 +1,5 @@
-use Rattle.std.proofs.Common.{◌≡◌, ◌+◌, ◌<◌, ◌≤◌, ℕ, List, length, arith}
+use Rattle.std.proofs.Common.{◌<◌, List, length, arith}
 use Rattle.board_rule.specs.OnBoard.{layout}
-use Rattle.board_rule.specs.Layout.{first}
 use Rattle.board_rule.specs.declared.view.View.{View}
 use Rattle.data_loop.specs.declared.member.Member.{Member}
 use Rattle.data_loop.specs.Tries.{no_member}

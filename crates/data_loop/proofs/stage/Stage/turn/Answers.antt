@@ -1,11 +1,10 @@
-use Rattle.std.proofs.Common.{◌≡◌, ◌+◌, ◌≤◌, ℕ, true, List, [], ◌++◌, length, take, sym, ap, ◌∙◌, subst, arith}
-use Rattle.std.specs.Prelude.{vec_capacity}
+use Rattle.std.proofs.Common.{ℕ, true, List, ◌++◌, length, take, sym, ap, ◌∙◌, subst, arith}
 use Rattle.board_rule.specs.OnBoard.{layout}
 use Rattle.board_rule.specs.declared.view.View.{View}
 use Rattle.data_loop.specs.declared.did.Did.TheVariants.{Ran}
 use Rattle.data_loop.specs.declared.stage.Stage.{Stage}
 use Rattle.data_loop.specs.Fronts.{is_chosen, chosen_in}
-use Rattle.data_loop.specs.LoopTurn.{turn_order, HaveTried, HasRun, IsDid}
+use Rattle.data_loop.specs.LoopTurn.{turn_order, HaveTried, HasRun}
 use Rattle.data_loop.proofs.FrontLemmas.{none_chosen}
 use Rattle.data_loop.proofs.PassLemmas.{few_pass, ran_first, did_second, room_second, few_did}
 use Rattle.data_loop.proofs.stage.Stage.turn.Goals as goal
