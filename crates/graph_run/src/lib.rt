@@ -23,10 +23,6 @@ mod rooms;
 mod scope;
 mod shared;
 mod starting;
-#[cfg(test)]
-mod tests;
-#[cfg(test)]
-mod thread_tests;
 
 pub use assignment::{loop_of, nodes_of_loop};
 pub use boards::{Boards, boards_of};
