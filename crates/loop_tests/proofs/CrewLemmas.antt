@@ -1,21 +1,16 @@
 -- The driver's thread from step to step.
-use Rattle.std.proofs.Common.{◌≡◌, ℕ, Bool, true, false, List, [], ◌∷◌, ◌++◌, Option, Some, None, length, get_or, slice_get, set, sym, ap, ◌∙◌, subst, arith}
+use Rattle.std.proofs.Common.{◌≡◌, ℕ, Bool, false, List, [], ◌∷◌, ◌++◌, Some, length, get_or, slice_get, set, sym, ap, ◌∙◌, subst, arith}
 use Rattle.std.proofs.Common.{length-append}
 use Rattle.std.proofs.lemmas.List.{get_or_push}
 use Rattle.std.proofs.lemmas.Option.{slice_get-get_or}
 use Rattle.std.proofs.lemmas.List.Elements.{All-set}
 use Rattle.board_rule.specs.declared.board.Board.{Board}
-use Rattle.board_rule.specs.declared.view.View.{View}
 use Rattle.board_rule.specs.Known.{Known}
-use Rattle.board_rule.specs.Layout.{BoardLayout}
 use Rattle.board_rule.specs.OnBoard.{layout, table_of}
 use Rattle.data_loop.specs.declared.loop_state.LoopState.{LoopState}
-use Rattle.data_loop.specs.LoopsOnBoards.{IsOnBoard, IsSameBut}
-use Rattle.data_loop.specs.LoopDriver.{IsTied}
-use Rattle.driver_cycle.specs.Leading.{IsLeading, IsDriving}
-use Rattle.driver_cycle.specs.Rounds.{BeginsNext, IsLook}
+use Rattle.data_loop.specs.LoopsOnBoards.{IsOnBoard}
+use Rattle.driver_cycle.specs.Leading.{IsDriving}
 use Rattle.driver_cycle.specs.Epochs.{IsThread}
-use Rattle.driver_cycle.proofs.ThreadLemmas.{leads_same, drives_same}
 use Rattle.graph_run.specs.LoopsOnPlan.{AreReady, AreFirstLeads, IsFirstLead}
 use Rattle.graph_run.proofs.EpochLemmas.{none_passed, each_none, thread_begins}
 use Rattle.graph_run.proofs.ReadyLemmas.{own_has, own_ready, others_ready}
@@ -57,15 +52,6 @@ module _ (boards bs : List Board) (b : Board) (boards_are : boards ≡ bs ++ b �
     checked = checked ∙ sym (ap (λ (k : Known). k.knows.lead.checked) seat_is ∙ lead.between.unchecked);
   }
 
--- a beginning and a look leave the cycle of the seat
-pub begun_cycle : (p : BoardLayout) (v : View) (b : Bool) (w : View) → BeginsNext p v b w → w.lead.cycle ≡ v.lead.cycle
-begun_cycle p v true w h = ap (λ (x : View). x.lead.cycle) h.1.is
-begun_cycle p v false w h = ap (λ (x : View). x.lead.cycle) h.1
-
-pub looked_cycle : (p : BoardLayout) (v : View) (m n : ℕ) (late : Option ℕ) (w : View) → IsLook p v m n late w → w.lead.cycle ≡ v.lead.cycle
-looked_cycle p v m n (Some late) w h = ap (λ (x : View). x.lead.cycle) h.1.is
-looked_cycle p v m n None w h = ap (λ (x : View). x.lead.cycle) h.1
-
 module _ (board : Board) (s : Known) (own : LoopState) (others : List LoopState) (h : IsThread board s own others) where
   -- one of the others had a try
   pub one_tried : (k : ℕ) (x : LoopState) → IsOnBoard (layout board) (table_of board) x → IsThread board s own (set others k x)
@@ -75,25 +61,4 @@ module _ (board : Board) (s : Known) (own : LoopState) (others : List LoopState)
     driver = h.driver;
     tied = h.tied;
     adopted_stand = All-set (IsOnBoard (layout board) (table_of board)) others k x on h.adopted_stand;
-  }
-
-  -- the seat made a step in its cycle
-  pub seat_moved : (t : Known) → IsLeading own.score own.epoch board t → t.knows.lead.cycle ≡ s.knows.lead.cycle → IsThread board t own others
-  seat_moved t leads same = record {
-    leads = leads;
-    stands = h.stands;
-    driver = h.driver;
-    tied = λ g here some. h.tied g here some ∙ sym same;
-    adopted_stand = h.adopted_stand;
-  }
-
-  -- the driver's node was claimed
-  pub own_led : (t : Known) (next : LoopState) → IsLeading own.score own.epoch board t → IsOnBoard (layout board) (table_of board) next
-      → IsSameBut own next → IsTied (layout board) next t.knows → IsThread board t next others
-  own_led t next leads on same tied = record {
-    leads = leads_same board t own next same leads;
-    stands = on;
-    driver = drives_same (layout board) own next same h.driver;
-    tied = tied;
-    adopted_stand = h.adopted_stand;
   }
