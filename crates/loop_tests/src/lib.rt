@@ -1,0 +1,26 @@
+//! Tests of runs by loops and threads, over plans of script texts: the words of a board step by
+//! step, loops in one thread, and whole runs by threads.
+//!
+//! `work_of` makes a plan of a text; `crew_of` puts the driver's thread and all loops of a plan of
+//! one epoch on its board, of which a test makes one step after the other.
+#![tactic(auto)]
+
+#[cfg(test)]
+mod alone;
+#[cfg(test)]
+mod assignment;
+mod crew;
+#[cfg(test)]
+mod queues;
+#[cfg(test)]
+mod runs;
+#[cfg(test)]
+mod steps;
+#[cfg(test)]
+mod threads;
+#[cfg(test)]
+mod words;
+mod work;
+
+pub use crew::{Crew, crew_of};
+pub use work::{Work, work_of};
