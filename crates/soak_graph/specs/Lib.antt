@@ -1,0 +1,6 @@
+pub mod Drawing
+pub mod Draws
+pub mod SoakChains
+pub mod SoakPorts
+pub mod SoakScript
+pub mod SoakText

@@ -1,0 +1,16 @@
+//! The graph of a number: eight chains of a source, a gain and a delay into one sink and one meter,
+//! with waves, gains and delays drawn from the number. Its script is made as text and read back, as
+//! the text of a file is; its waves and ports are what a plan takes beside it.
+#![tactic(auto)]
+
+mod drawing;
+mod draws;
+mod generated;
+mod ports;
+mod putting;
+#[cfg(test)]
+mod tests;
+mod text;
+
+pub use generated::{Generated, generate};
+pub use text::soak_text;
