@@ -19,7 +19,7 @@ next_in p v n = (node_of v (p.index n)).next
 abbrev pub has_left : BoardLayout → View → Member → Bool
 has_left p v m = not (eqb (next_in p v m.node) (last p))
 
--- THE ORDER of a turn: the members whose next cycle is the least, as they stand, and then the others
+-- THE ORDER of a turn: the members whose next cycle is the least, as they stand, then the others
 abbrev pub least_next : BoardLayout → View → List Member → ℕ
 least_next p v members = fold (λ c m. min c (next_in p v m.node)) (last p) members
 
@@ -45,8 +45,8 @@ pub record HaveTried (p : BoardLayout) (v : View) (members : List Member)
   pub words : All (λ t. t.1 ≢ triggered_word (next_in p v t.0)) found
   pub still : w ≡ record v { trail = record v.trail { tries = tries_after v.trail.tries found } }
 
--- of these members, in this order, one has run: those before it that had cycles left were tried, and
--- it is a cycle later; every other one is as before
+-- of these members, in this order, one has run: those before it that had cycles left were tried,
+-- and it is a cycle later; every other one is as before
 pub record HasRun (p : BoardLayout) (g : Stage) (order : List Member) (n : ℕ)
     (found : List (ℕ × ℕ))
     (h : Stage) : Type 0 where
