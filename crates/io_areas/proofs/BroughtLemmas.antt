@@ -1,17 +1,20 @@
 -- What a link brings its reader: the samples of the block that it holds, which are 16 bits each and a quantum long.
 use Rattle.std.proofs.Common.{◌≡◌, ℕ, ℤ, ◌+◌, ◌-◌, ◌<◌, Bool, true, false, cond, ltb, List, [], length, get_or, refl, sym, ap, ◌∙◌}
-use Rattle.std.proofs.Common.{subst, arith}
-use Rattle.std.specs.Prelude.{pos, All, replicate}
+use Rattle.std.proofs.Common.{subst, arith, ap₂}
+use Rattle.std.specs.Prelude.{pos, ◌∷◌, All, replicate}
 use borrow.Author.Tests.{ltb-true}
 use Rattle.std.proofs.lemmas.Option.{slice_get-get_or}
+use Rattle.std.proofs.lemmas.Int.{ints, clamps}
 use Rattle.std.proofs.lemmas.List.{ext_get_or, get_or-replicate, length-replicate}
+use Rattle.std.proofs.lemmas.List.Elements.{All-head, All-tail, All-replicate}
+use Rattle.pw_base.specs.Samples.{clamped}
 use Rattle.pw_base.specs.Pools.{pools_of}
 use Rattle.board_rule.specs.declared.view.View.{View}
 use Rattle.board_rule.specs.Layout.{BoardLayout, first}
 use Rattle.board_rule.specs.SampleWords.{IsTable, samples_in}
 use Rattle.board_rule.specs.EndViews.{no_pool, pool_at, pool_of}
 use Rattle.board_rule.specs.ReaderSteps.{read_cycle, samples_read}
-use Rattle.io_areas.specs.Reading.{IsHolding, stamp_brought, brought}
+use Rattle.io_areas.specs.Reading.{IsHolding, IsClamped, stamp_brought, brought}
 use Rattle.io_areas.specs.Quanta.{quantum_of}
 use Rattle.io_areas.proofs.SampleLemmas.{IsShort, IsReadTo}
 
@@ -26,7 +29,22 @@ short_by : (b : Bool) (xs : List ℤ) → All IsShort xs → All IsShort (cond b
 short_by true xs h = h
 short_by false xs h = λ k d l. absurd (omega arith)
 
+short_clamped : (xs : List ℤ) → All IsShort xs → IsClamped xs
+short_clamped [] h = refl
+short_clamped (x ∷ xs) h = let s = All-head IsShort x xs h in let low = s.0 in let high = s.1 in
+    let e : clamped x ≡ x = omega (arith, ints, clamps) in
+    ap₂ (λ y ys. y ∷ ys) e (short_clamped xs (All-tail IsShort x xs h))
+
+short_or_zeros : (b : Bool) (xs : List ℤ) (n : ℕ) → All IsShort xs → All IsShort (cond b xs (replicate n (pos 0)))
+short_or_zeros true xs n h = h
+short_or_zeros false xs n h = All-replicate IsShort n (pos 0) (record { le = tt }, record { le = tt })
+
 module _ (is_driver : Bool) (p : BoardLayout) (v : View) (l : ℕ) (table : IsTable p v.expect) where
+  pub brought_clamped : IsClamped (brought is_driver p v l)
+  brought_clamped = let n = stamp_brought p l (read_cycle is_driver p v l) in let q = pool_of p l in
+      short_clamped (brought is_driver p v l)
+      (short_or_zeros (ltb (first p) n) (samples_in p v.expect (n - 1) q) (quantum_of p q) (table.fits (n - 1) q))
+
   pub all_short : All IsShort (samples_read is_driver p v l)
   all_short = short_by (ltb (first p) (stamp_brought p l (read_cycle is_driver p v l))) _ (table.fits (stamp_brought p l (read_cycle is_driver p v l) - 1) (pool_of p l))
 

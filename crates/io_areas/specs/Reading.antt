@@ -2,7 +2,8 @@
 -- after it. Links are given by number; `is_driver` is true for the driver's seat.
 -- Source: PipeWire's documentation, "SPA Buffers"; spa/node/io.h, spa_io_buffers; the words of
 -- pools are this project's own.
-use Rattle.std.specs.Prelude.{◌≡◌, ℕ, ℤ, pos, ◌+◌, ◌-◌, Bool, cond, ltb, List, replicate, slice_set as set}
+use Rattle.std.specs.Prelude.{◌≡◌, ℕ, ℤ, pos, ◌+◌, ◌-◌, Bool, cond, ltb, List, map, replicate, slice_set as set}
+use Rattle.pw_base.specs.Samples.{clamped}
 use Rattle.board_rule.specs.declared.view.View.{View}
 use Rattle.board_rule.specs.Layout.{BoardLayout, first}
 use Rattle.board_rule.specs.View.{Samples}
@@ -11,6 +12,10 @@ use Rattle.board_rule.specs.BlockReadings.{delay_at}
 use Rattle.board_rule.specs.EndViews.{read_of, view_read, pool_at, pool_of}
 use Rattle.board_rule.specs.ReaderSteps.{read_cycle, heard_of, ReadsBlock}
 use Rattle.io_areas.specs.Quanta.{quantum_of}
+
+-- each is a sample of 16 bits: a clamp leaves it
+abbrev pub IsClamped : List ℤ → Type 0
+IsClamped row = map clamped row ≡ row
 
 module _ (p : BoardLayout) where
   -- one more than the cycle whose block a link brings its reader in the cycle c: of a delayed link

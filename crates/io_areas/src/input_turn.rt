@@ -3,7 +3,7 @@ ghost use Rattle.board_rule.specs.OnBoard.{IsOn, layout};
 ghost use Rattle.std.specs.Prelude.{◌≡◌, length};
 ghost use Rattle.board_rule.specs.EndViews.{pool_of};
 ghost use Rattle.io_areas.specs.Quanta.{quantum_of};
-ghost use Rattle.io_areas.specs.Reading.{brought};
+ghost use Rattle.io_areas.specs.Reading.{brought, IsClamped};
 ghost use Rattle.io_areas.specs.InputTurn.{MayReadInput, HasReadInput};
 
 use crate::reading::{give_back, read, take};
@@ -21,6 +21,7 @@ pub fn read_input<S: BoardSeat>(board: &Board, seat: &mut S, link: u32, to: &mut
     ensures knows { HasReadInput S.is_driver (layout board.now) (S.knows seat.old) link
         (S.knows seat.new) }
     ensures samples { to.new ≡ brought S.is_driver (layout board.now) (S.knows seat.old) link }
+    ensures clamped { IsClamped to.new }
 {
     take(board, seat, link);
     read(board, seat, link, to);

@@ -20,3 +20,6 @@ pub returns-clause-samples : goal.returns-clause-samples
 returns-clause-samples g c = let b = g.S.BoardSeat.is_driver in let p = layout_of c.args.board.now.board_shape in let l = c.args.link in
     c.read.ensures.samples ∙ ap (λ (v : View). brought b p v l) c.take.ensures.knows
     ∙ brought_now b p _ l c.requires.phase c.take.result c.take.ensures.inside
+
+pub returns-clause-clamped : goal.returns-clause-clamped
+returns-clause-clamped g c = c.read.ensures.clamped

@@ -5,7 +5,8 @@ use Rattle.board_rule.specs.SampleWords.{packed, IsTable}
 use Rattle.board_rule.specs.EndViews.{pool_at, pool_of}
 use Rattle.board_rule.specs.ReaderSteps.{ReadsBlock, LoadsSample, sample_loaded, samples_read}
 use Rattle.io_areas.proofs.SampleLemmas.{IsReadTo, length-spread, spread_more}
-use Rattle.io_areas.proofs.BroughtLemmas.{all_short, brought_whole}
+use Rattle.io_areas.specs.Reading.{IsClamped}
+use Rattle.io_areas.proofs.BroughtLemmas.{all_short, brought_whole, brought_clamped}
 use Rattle.io_areas.proofs.HearLemmas.{heard_to, may_hear, hears_more, samples_same, expect_same, all_is}
 use Rattle.io_areas.proofs.reading.read.Goals as goal
 
@@ -49,3 +50,9 @@ returns-clause-samples g c = let b = g.S.BoardSeat.is_driver in let p = layout_o
     let is = i.long in let w = c.words_of-place-end.ensures in let all = i.so_far in let q = c.requires.long in let some = w.some in
     let end = c.loop-place-test.false in
     brought_whole b p v l (i.fits (omega arith)) c.requires.phase w.inside c.loop-place.to (is ∙ q) (λ j lt near. all j (omega arith) near)
+
+pub returns-clause-clamped : goal.returns-clause-clamped
+returns-clause-clamped g c = let b = g.S.BoardSeat.is_driver in let p = layout_of c.args.board.now.board_shape in
+    let v : View = g.S.BoardSeat.knows c.args.seat.now in let w = c.words_of-place-end.ensures in let some = w.some in
+    let end = c.loop-place-test.false in
+    subst IsClamped (sym (returns-clause-samples g c)) (brought_clamped b p v c.args.link (c.loop-place.invariant.fits (omega arith)))
