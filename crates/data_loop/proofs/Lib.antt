@@ -1,5 +1,6 @@
 pub mod turns
 pub mod SumLemmas
+pub mod OnlyLemmas
 pub mod InputLemmas
 pub mod TurnLemmas
 pub mod PlayLemmas

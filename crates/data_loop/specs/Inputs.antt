@@ -1,7 +1,8 @@
 -- The links that a node reads, by input, and what they bring.
 -- Source: PipeWire's documentation, "Graph Scheduling" and "SPA Buffers"; mixing is this project's
 -- own.
-use Rattle.std.specs.Prelude.{◌≡◌, ℕ, ℤ, pos, Bool, true, not, List, All, map, filter}
+use Rattle.std.specs.Prelude.{◌≡◌, ℕ, ℤ, pos, Bool, true, not, List, [], ◌∷◌, All, map, filter}
+use Rattle.std.specs.Prelude.{Option, Some, None, if◌then◌else◌}
 use Rattle.board_rule.specs.declared.view.View.{View}
 use Rattle.board_rule.specs.Layout.{BoardLayout}
 use Rattle.board_rule.specs.EndViews.{pool_of}
@@ -14,6 +15,12 @@ IsZero s = s ≡ pos 0
 
 abbrev pub links_of : List Input → List ℕ
 links_of inputs = map (λ i. i.link) inputs
+
+-- the link of a node that reads this one alone, at its first input
+abbrev pub only_link : List Input → Option ℕ
+only_link [] = None
+only_link (i ∷ []) = if not i.second then Some i.link else None
+only_link (i ∷ j ∷ inputs) = None
 
 -- what the link brings in its reader's cycle
 abbrev pub row_of : Bool → BoardLayout → View → ℕ → List ℤ

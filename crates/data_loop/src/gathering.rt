@@ -3,17 +3,29 @@ ghost use Rattle.std.specs.Prelude.{◌≡◌, ◌≤◌, length};
 ghost use Rattle.board_rule.specs.OnBoard.{IsOn, layout};
 ghost use Rattle.io_areas.specs.PooledBoard.{IsPooledBoard};
 ghost use Rattle.data_loop.specs.turns.Hearing.{MayHearAll, AreHeard};
-ghost use Rattle.data_loop.specs.Inputs.{IsWide, links_of, AreLong};
+ghost use Rattle.data_loop.specs.Inputs.{IsWide, links_of, only_link, AreLong};
 ghost use Rattle.node_progress.specs.Standing.{comes_in};
 ghost use Rattle.data_loop.specs.Gathering.{IsHearing};
 
 use crate::inputs::{Input, hear_all};
 use board_rule::{Board, BoardSeat};
+use io_areas::read_input;
 use node_progress::Score;
 use s16_mixer::clamp_out;
 
+// The link of a node that reads this one alone, at its first input.
+fn only_link(inputs: &[Input]) -> Option<u32>
+    ensures { result ≡ only_link inputs.now }
+{
+    match inputs {
+        [input] if !input.second => Some(input.link),
+        _ => None,
+    }
+}
+
 /// The node that works hears all its links: `a` and `b` are then what its inputs get in the cycle.
-/// Takes no memory, does not wait.
+/// One link alone is read straight into `a`, with no sum and no clamp. Takes no memory, does not
+/// wait.
 pub fn gather<S: BoardSeat>(
     score: &Score,
     node: u32,
@@ -47,6 +59,11 @@ pub fn gather<S: BoardSeat>(
 {
     let _ = score;
     let _ = (node, cycle);
+    if let Some(link) = only_link(inputs) {
+        read_input(board, seat, link, a);
+        b.fill(0);
+        return;
+    }
     sum_a.fill(0);
     sum_b.fill(0);
     hear_all(board, seat, inputs, row, sum_a, sum_b);
