@@ -38,8 +38,9 @@ fn gap_len(text: &[u8]) -> usize
     text.iter().take_while(|b| is_blank(**b)).count()
 }
 
-/// The first word of a line, if it has one, and what follows that.
-pub(crate) fn next_word(line: &[u8]) -> Option<(&[u8], &[u8])>
+/// The first word of a line, if it has one, and what follows that. Takes no memory; cost: one look
+/// at each byte up to the word's end.
+pub fn next_word(line: &[u8]) -> Option<(&[u8], &[u8])>
     ensures { MatchOption result
         (words_of line.now ≡ [])
         (λ cut. words_of line.now ≡ cut.0.now ∷ words_of cut.1.now) }

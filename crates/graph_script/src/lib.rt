@@ -32,6 +32,8 @@ mod word_text;
 
 pub use command::Command;
 pub use fault::{ScriptFault, ScriptWhy};
+pub use lexing::next_word;
+pub use numbers::number_within;
 pub use parsing::parse;
 pub use printing::text_of;
 pub use script::{Line, Script};

@@ -5,7 +5,7 @@ ghost use Rattle.graph_script.specs.Arguments.{channel_list};
 ghost use Rattle.graph_script.specs.Checked.{list_arg};
 
 use crate::fault::ScriptWhy;
-use crate::numbers::number;
+use crate::numbers::number_within;
 use pw_base::{CHANNELS_LIMIT, Items, Memory, next_piece};
 use std::alloc::Global;
 
@@ -20,7 +20,7 @@ fn channel_list(alloc: Global, word: &[u8], channels: u32) -> Result<Option<Item
     let mut rest = word;
     loop {
         let (item, after) = next_piece(rest, b',');
-        let Some(n) = number(item, 0, channels - 1) else {
+        let Some(n) = number_within(item, 0, channels - 1) else {
             return Ok(None);
         };
         if list.len() >= CHANNELS_LIMIT as usize {

@@ -1,5 +1,5 @@
 //! Numbers in decimal digits.
-ghost use Rattle.std.specs.Prelude.{◌≡◌, ℕ, ◌<◌, ◌≤◌, MatchOption};
+ghost use Rattle.std.specs.Prelude.{◌≡◌, ℕ, ◌<◌, ◌≤◌, MatchOption, IfSome};
 ghost use Rattle.std.specs.List.{list_all};
 ghost use Rattle.graph_script.specs.Arguments.{is_digit, is_numeral, digits_number, number_of, integer_of};
 ghost use Rattle.graph_script.specs.Checked.{number_arg, integer_arg};
@@ -31,25 +31,25 @@ fn is_numeral(word: &[u8]) -> bool
 
 // The number that the digits name, unless it is above a limit.
 fn digits_within(digits: &[u8], high: u32) -> Option<u32>
-    requires { high ≤ 1000000 }
     ensures { MatchOption result
         (high < digits_number digits.now)
         (λ n. (n ≡ digits_number digits.now) × (n ≤ high)) }
 {
     let mut n = 0;
     for b in digits {
-        n = n * 10 + u32::from(b.saturating_sub(b'0'));
-        if high < n {
+        n = n * 10 + u64::from(b.saturating_sub(b'0'));
+        if u64::from(high) < n {
             return None;
         }
     }
-    Some(n)
+    Some(n as u32)
 }
 
-/// A number without sign, from `low` to `high`, whatever the length of the word.
-pub(crate) fn number(word: &[u8], low: u32, high: u32) -> Option<u32>
-    requires { high ≤ 1000000 }
-    ensures { result ≡ number_of low high word.now }
+/// A number in plain decimal, without a sign or a leading zero, from `low` to `high`, whatever the
+/// length of the word. Takes no memory; cost: at most two looks at each byte.
+pub fn number_within(word: &[u8], low: u32, high: u32) -> Option<u32>
+    ensures is { result ≡ number_of low high word.now }
+    ensures within { IfSome result (λ n. n ≤ high) }
 {
     if !is_numeral(word) {
         return None;
@@ -69,12 +69,12 @@ fn integer(word: &[u8], high: u32) -> Option<i32>
         [] => None,
         [first, digits @ ..] => {
             if *first == b'-' {
-                match number(digits, 1, high) {
+                match number_within(digits, 1, high) {
                     None => None,
                     Some(n) => Some(-(n as i32)),
                 }
             } else {
-                match number(word, 0, high) {
+                match number_within(word, 0, high) {
                     None => None,
                     Some(n) => Some(n as i32),
                 }
@@ -88,7 +88,7 @@ pub(crate) fn number_in(word: &[u8], low: u32, high: u32) -> Result<u32, ScriptW
     requires { high ≤ 1000000 }
     ensures { result ≡ number_arg low high word.now }
 {
-    match number(word, low, high) {
+    match number_within(word, low, high) {
         None => Err(ScriptWhy::Number),
         Some(n) => Ok(n),
     }

@@ -14,7 +14,7 @@ loop-n-init c = record {
 
 pub returns-in_default : goal.returns-in_default
 returns-in_default c =
-    let bad : number_of 0 (c.args.channels - 1) c.next_piece.result.0.now ≡ None = sym c.number.ensures ∙ c.in_default.is in
+    let bad : number_of 0 (c.args.channels - 1) c.next_piece.result.0.now ≡ None = sym c.number_within.ensures.is ∙ c.in_default.is in
     sym (listed_bad c.args.channels c.loop-n.list c.next_piece.result.0.now _ _ c.next_piece.ensures.pieces bad)
     ∙ c.loop-n.invariant.parsed
 
@@ -26,7 +26,7 @@ returns-then-len c =
 pub returns-in-None : goal.returns-in-None
 returns-in-None c =
     let last = rw c.in-None.is at c.next_piece.ensures.pieces in
-    let good : number_of 0 (c.args.channels - 1) c.next_piece.result.0.now ≡ Some c.in-Some.n = sym c.number.ensures ∙ c.in-Some.is in
+    let good : number_of 0 (c.args.channels - 1) c.next_piece.result.0.now ≡ Some c.in-Some.n = sym c.number_within.ensures.is ∙ c.in-Some.is in
     let pushed : c.push.new.self ≡ c.loop-n.list ++ c.in-Some.n ∷ [] = c.in-Ok.ensures.ok in
     let few : length c.push.new.self ≤ 8 = omega (arith, ap length pushed, length-append c.loop-n.list (c.in-Some.n ∷ [])) in
     sym (listed_end c.args.channels c.push.new.self few)
@@ -41,7 +41,7 @@ loop-n-smaller c = let shorter = rw c.in-Some-after.is at c.next_piece.ensures.s
 pub loop-n-preserved : goal.loop-n-preserved
 loop-n-preserved c =
     let more = rw c.in-Some-after.is at c.next_piece.ensures.pieces in
-    let good : number_of 0 (c.args.channels - 1) c.next_piece.result.0.now ≡ Some c.in-Some.n = sym c.number.ensures ∙ c.in-Some.is in
+    let good : number_of 0 (c.args.channels - 1) c.next_piece.result.0.now ≡ Some c.in-Some.n = sym c.number_within.ensures.is ∙ c.in-Some.is in
     let pushed : c.push.new.self ≡ c.loop-n.list ++ c.in-Some.n ∷ [] = c.in-Ok.ensures.ok in
     record {
       parsed = ap (λ xs. listed c.args.channels xs (slice_split is_comma c.in-Some-after.more.now)) pushed
