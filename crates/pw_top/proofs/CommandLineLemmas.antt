@@ -1,5 +1,5 @@
 -- Laws of `specs/CommandLine.antt`: from the words to the answer of their command.
-use Rattle.std.proofs.Common.{◌≡◌, refl, inr, List, [], ◌∷◌}
+use Rattle.std.proofs.Common.{◌≡◌, refl, inr, [], ◌∷◌}
 use Rattle.std.specs.Prelude.{Result, Ok, Err}
 use Rattle.pw_top.specs.declared.status.Status.{Status}
 use Rattle.pw_top.specs.declared.status.Status.TheVariants as S
@@ -30,6 +30,7 @@ some_answer (Ok (C.Dump c)) h names n = (ended (1 ∷ []) S.Memory, (n, short (e
 some_answer (Ok (C.Filter c)) h names n = (ended (1 ∷ []) S.Memory, (n, short (ended (1 ∷ []) S.Memory) (refl, inr refl) refl))
 some_answer (Ok (C.Automate c)) h names n = (ended (1 ∷ []) S.Memory, (n, short (ended (1 ∷ []) S.Memory) (refl, inr refl) refl))
 some_answer (Ok (C.Check c)) h names n = (ended (0 ∷ []) S.Memory, (n, short (ended (0 ∷ []) S.Memory) (refl, inr refl) refl))
+some_answer (Ok (C.Soak c)) h names n = (ended [] S.Memory, short (ended [] S.Memory) (short (ended [] S.Memory) (refl, inr refl) refl) refl)
 some_answer (Err status) h names n = (refused status, refl)
 
 answer_end : (words : Words) (h : Happened) (names : Names) (status : Status) → IsNothing h → IsRead (command_of words) (Err status)

@@ -11,6 +11,7 @@ pub mod OneLoadsLemmas
 pub mod OneNarrowLemmas
 pub mod OnePartLemmas
 pub mod OneRunLemmas
+pub mod OneSoakLemmas
 pub mod PieceLemmas
 pub mod PlanWorkLemmas
 pub mod PlayingLemmas
@@ -19,5 +20,6 @@ pub mod PodFileLemmas
 pub mod StatusLineLemmas
 pub mod StockLemmas
 pub mod StoppingLemmas
+pub mod TicksLemmas
 pub mod WaveFormLemmas
 pub mod CheckLemmas

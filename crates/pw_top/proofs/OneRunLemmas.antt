@@ -75,7 +75,7 @@ module _ (script : Script) (known : IsWhole script) where
   planned_same ports fit waves (Err (S.Limit line which)) (Err status) h k = absurd k
   planned_same ports fit waves (Err status) y h k = absurd h
 
-  plans_one : (stock : Stock) → AreScriptPorts script.lines stock.ports → HasOne (PlansStock script stock)
+  pub plans_one : (stock : Stock) → AreScriptPorts script.lines stock.ports → HasOne (PlansStock script stock)
   plans_one stock fit = binds_one (Reads (PlansTo script stock.ports stock.waves)) (KeepsPlan script stock.waves)
       (part_one [] (PlansTo script stock.ports stock.waves) (planned_same stock.ports fit stock.waves))
       (λ plan. part_one [] _ (outcomes_equal _))

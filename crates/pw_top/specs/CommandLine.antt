@@ -1,5 +1,5 @@
 -- The expected answer of a command line: that of its command, or the refusal of its words.
-use Rattle.std.specs.Prelude.{◌≡◌, List, Result, Ok, Err}
+use Rattle.std.specs.Prelude.{◌≡◌, Result, Ok, Err}
 use Rattle.pw_base.specs.Files.{Names}
 use Rattle.pw_top.specs.declared.status.Status.{Status}
 use Rattle.pw_top.specs.declared.usage.CommandLine.{CommandLine}
@@ -12,6 +12,7 @@ use Rattle.pw_top.specs.Dump.{IsDumpAnswer}
 use Rattle.pw_top.specs.Filter.{IsFilterAnswer}
 use Rattle.pw_top.specs.Automate.{IsAutomateAnswer}
 use Rattle.pw_top.specs.Check.{IsCheckAnswer}
+use Rattle.pw_top.specs.Soak.{IsSoakAnswer}
 
 -- what is an answer to a command
 abbrev pub IsAnswerTo : CommandLine → Happened → Names → Answer → Type 0
@@ -20,6 +21,7 @@ IsAnswerTo (C.Dump c) h names = Idly (IsDumpAnswer names c.file) h
 IsAnswerTo (C.Filter c) h names = Idly (IsFilterAnswer names c.a c.b c.out) h
 IsAnswerTo (C.Automate c) h names = Idly (IsAutomateAnswer names c.input c.seq c.out) h
 IsAnswerTo (C.Check c) h names = Idly (IsCheckAnswer names c.script c.trace) h
+IsAnswerTo (C.Soak c) h names = IsSoakAnswer c.number h
 
 abbrev pub IsReadAnswer : Result CommandLine Status → Happened → Names → Answer → Type 0
 IsReadAnswer (Ok command) h names a = IsAnswerTo command h names a

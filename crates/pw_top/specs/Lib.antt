@@ -21,6 +21,7 @@ pub mod Preparing
 pub mod Refusals
 pub mod Run
 pub mod SinkStores
+pub mod Soak
 pub mod StatusLine
 pub mod Usage
 pub mod Words

@@ -1,5 +1,6 @@
 -- The grammar of command lines: what words ask for, or the first word at fault. This project's.
-use Rattle.std.specs.Prelude.{◌≡◌, ℕ, ◌≤◌, if◌then◌else◌, List, [], ◌∷◌, codes, bytes_eq, unwrap_or, Result, Ok, Err}
+use Rattle.std.specs.Prelude.{◌≡◌, ℕ, ◌≤◌, if◌then◌else◌, List, [], ◌∷◌, codes, bytes_eq, Option, Some, None, unwrap_or, Result, Ok, Err}
+use Rattle.graph_script.specs.Arguments.{number_of}
 use Rattle.pw_top.specs.declared.options.Options.{Options}
 use Rattle.pw_top.specs.declared.status.Status.{Status}
 use Rattle.pw_top.specs.declared.status.Status.TheVariants as S
@@ -8,7 +9,7 @@ use Rattle.pw_top.specs.declared.usage.CommandLine.TheVariants as C
 use Rattle.pw_top.specs.declared.usage.FileWords.{FileWords}
 use Rattle.pw_top.specs.declared.usage.FilePair.{FilePair}
 use Rattle.pw_top.specs.Options.{options_of}
-pub use Rattle.pw_top.specs.Words.{Words, then_file, one_file, two_files, three_files}
+pub use Rattle.pw_top.specs.Words.{Words, then_file, then_nothing, one_file, two_files, three_files}
 
 -- a script and its options: one loop and no ticks where nothing is said of them
 abbrev pub run_with : List ℕ → Result Options ℕ → Result CommandLine Status
@@ -40,6 +41,15 @@ abbrev pub check_of : Result FilePair Status → Result CommandLine Status
 check_of (Ok w) = Ok (C.Check (record { script = w.first; trace = w.second }))
 check_of (Err status) = Err status
 
+-- the words behind `soak`: one number
+abbrev pub soak_with : Option ℕ → Words → Result CommandLine Status
+soak_with None rest = Err (S.Usage 1)
+soak_with (Some n) rest = then_nothing 2 rest (C.Soak (record { number = n }))
+
+unfoldable pub soak_of : Words → Result CommandLine Status
+soak_of [] = Err (S.Usage 1)
+soak_of (word ∷ rest) = soak_with (number_of 0 4294967295 word) rest
+
 -- THE MEANING of the words
 unfoldable pub command_of : Words → Result CommandLine Status
 command_of [] = Err (S.Usage 0)
@@ -49,7 +59,8 @@ command_of (name ∷ rest) =
     else (if bytes_eq name (codes "filter") then filter_of (three_files rest)
     else (if bytes_eq name (codes "automate") then automate_of (three_files rest)
     else (if bytes_eq name (codes "check") then check_of (two_files rest)
-    else Err (S.Usage 0)))))
+    else (if bytes_eq name (codes "soak") then soak_of rest
+    else Err (S.Usage 0))))))
 
 -- the asks of a ticker from one late check to the next; 0 where no run asks for any
 abbrev pub ticks_in : Result CommandLine Status → ℕ

@@ -5,3 +5,4 @@ pub mod check_traces;
 pub mod dump;
 pub mod filter_files;
 pub mod run;
+pub mod soak;

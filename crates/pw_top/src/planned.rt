@@ -27,8 +27,8 @@ pub struct Planned {
     pub plan: Plan,
 }
 
-// The plan of a script from its ports and waves.
-fn plan_ports(
+/// The plan of a script from its ports and waves.
+pub fn plan_ports(
     alloc: Global,
     script: Script,
     waves: Items<WavIn>,

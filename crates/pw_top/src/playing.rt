@@ -18,8 +18,8 @@ use std::sync::Wait;
 use std::thread::Threads;
 use wav_files::Outcome;
 
-// Runs a plan, no loop of which is adopted. What happened is left in `played`.
-fn run_planned<R: Threads + Wait + Sync, G: Gate + Sync, K: Ticker>(
+/// Runs a plan, no loop of which is adopted. What happened is left in `played`. It may wait.
+pub fn run_planned<R: Threads + Wait + Sync, G: Gate + Sync, K: Ticker>(
     rt: &R,
     alloc: Global,
     planned: &Planned,

@@ -52,6 +52,7 @@ impl CommandLine {
             CommandLine::Filter(command) => command.prepare(alloc, files),
             CommandLine::Automate(command) => command.prepare(alloc, files),
             CommandLine::Check(command) => command.prepare(alloc, files),
+            CommandLine::Soak(command) => command.play(rt, alloc, gate, ticker, played),
         }
     }
 }
@@ -104,8 +105,9 @@ pub struct Report {
 /// line of a status is put last, and nothing is put after a failed put.
 ///
 /// With `run`, the history and the closed boards are those of a run of the script's plan by the
-/// loops that the words name: one board an epoch, with the events of a legal history, on which each
-/// link gave the samples of the cycle function. It may wait for the loops.
+/// loops that the words name, and with `soak` of the plan of the number's script by four: one board
+/// an epoch, with the events of a legal history, on which each link gave the samples of the cycle
+/// function. It may wait for the loops.
 pub fn run_words<R: Threads + Wait + Sync, F: Files, O: Sink, G: Gate + Sync, K: Ticker>(
     rt: &R,
     alloc: Global,

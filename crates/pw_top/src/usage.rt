@@ -1,7 +1,7 @@
 //! The words of a command line.
 ghost use Rattle.std.specs.Prelude.{◌≡◌, ℕ, ◌<◌, map, string_bytes, length, IfOk, Ok};
 ghost use Rattle.pw_top.specs.Words.{is_file_word, then_file, then_nothing, one_file, two_files, three_files};
-ghost use Rattle.pw_top.specs.Usage.{run_with, run_of, dump_of, filter_of, automate_of, check_of, command_of, ticks_in};
+ghost use Rattle.pw_top.specs.Usage.{run_with, run_of, dump_of, filter_of, automate_of, check_of, soak_of, command_of, ticks_in};
 ghost use Rattle.pw_top.specs.Usage.{IsRead, HasFewLoops};
 ghost use Rattle.pw_top.specs.Options.{HasFew};
 
@@ -10,6 +10,8 @@ use crate::commands::check_traces::CheckTrace;
 use crate::commands::dump::DumpFile;
 use crate::commands::filter_files::FilterFiles;
 use crate::commands::run::Running;
+use crate::commands::soak::Soaking;
+use crate::numbers::number_within;
 use crate::options::{Options, read_options};
 use crate::status::Status;
 use pw_base::{Items, Text};
@@ -23,6 +25,7 @@ pub enum CommandLine {
     Filter(FilterFiles),
     Automate(AutomateFile),
     Check(CheckTrace),
+    Soak(Soaking),
 }
 
 /// Two words that name files.
@@ -302,6 +305,27 @@ fn read_check(alloc: Global, rest: &[String]) -> Result<CommandLine, Status>
     }
 }
 
+// `soak NUMBER`, behind its first word. Takes no memory.
+#[tactic(auto, unfolding(crate::specs::Usage::soak_of))]
+fn read_soak(rest: &[String]) -> Result<CommandLine, Status>
+    ensures read { IsRead (soak_of (map string_bytes rest.now)) result }
+    ensures few { IfOk result HasFewLoops }
+{
+    match rest {
+        [] => Err(Status::Usage { word: 1 }),
+        [word, more @ ..] => match number_within(word.as_bytes(), 0, u32::MAX) {
+            None => Err(Status::Usage { word: 1 }),
+            Some(number) => {
+                if more.is_empty() {
+                    Ok(CommandLine::Soak(Soaking { number }))
+                } else {
+                    Err(Status::Usage { word: 2 })
+                }
+            }
+        },
+    }
+}
+
 /// What the words ask for, or the first word at fault.
 #[tactic(auto, unfolding(crate::specs::Usage::command_of))]
 pub fn read_words(alloc: Global, words: &[String]) -> Result<CommandLine, Status>
@@ -321,6 +345,8 @@ pub fn read_words(alloc: Global, words: &[String]) -> Result<CommandLine, Status
                 read_automate(alloc, rest)
             } else if name.as_bytes() == b"check".as_slice() {
                 read_check(alloc, rest)
+            } else if name.as_bytes() == b"soak".as_slice() {
+                read_soak(rest)
             } else {
                 Err(Status::Usage { word: 0 })
             }

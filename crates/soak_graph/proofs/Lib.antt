@@ -6,3 +6,4 @@ pub mod PortLemmas
 pub mod ReadingLemmas
 pub mod SaidLemmas
 pub mod ScriptLemmas
+pub mod SoakLineLemmas

@@ -35,14 +35,14 @@ fn put_twice(
     put_chain_number(text, b"", i, after)
 }
 
-// A number that may have a sign.
-fn put_integer(text: &mut Text, n: i32) -> Result<(), Memory>
+/// A number that may have a sign.
+pub(crate) fn put_integer(text: &mut Text, n: i64) -> Result<(), Memory>
     ensures { OnOk result (text.new ≡ text.old ++ signed_decimal n) }
 {
     if n < 0 {
         text.extend(b"-")?;
     }
-    append_decimal(text, u64::from(n.unsigned_abs()))
+    append_decimal(text, n.unsigned_abs())
 }
 
 fn put_source(text: &mut Text, i: u32) -> Result<(), Memory>
@@ -57,7 +57,7 @@ fn put_gain(text: &mut Text, i: u32, g: i32) -> Result<(), Memory>
     ensures { OnOk result (text.new ≡ text.old ++ ended (gain_line i g)) }
 {
     put_chain_number(text, b"gain g", i, b" ")?;
-    put_integer(text, g)?;
+    put_integer(text, i64::from(g))?;
     text.extend(b"\n")
 }
 

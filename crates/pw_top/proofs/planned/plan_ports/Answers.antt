@@ -1,6 +1,5 @@
 -- The plan is kept with its script, and can be run.
 use Rattle.std.proofs.Common.{[], refl}
-use Rattle.std.specs.Prelude.{Ok}
 use Rattle.pw_top.specs.Allowed.{Reads}
 use Rattle.pw_top.specs.PlannedWork.{PlansTo, KeepsPlan}
 use Rattle.pw_top.proofs.AllowedLemmas.{binds_goes, part_gives}

@@ -1,10 +1,16 @@
--- Commands other than `run` run nothing.
+-- Commands other than `run` and `soak` run nothing.
+use Rattle.std.proofs.Common.{ℕ}
+use Rattle.std.specs.Prelude.{Result, Ok, Err}
 use Rattle.pw_base.specs.Files.{names_in}
+use Rattle.pw_top.specs.declared.status.Status.{Status}
+use Rattle.pw_top.specs.declared.work.Work.{Work}
+use Rattle.pw_top.specs.Ending.{CommandCause, IsDeliverable}
 use Rattle.pw_top.specs.Playing.{happened}
 use Rattle.pw_top.specs.Dump.{IsDumpAnswer}
 use Rattle.pw_top.specs.Filter.{IsFilterAnswer}
 use Rattle.pw_top.specs.Automate.{IsAutomateAnswer}
 use Rattle.pw_top.specs.Check.{IsCheckAnswer}
+use Rattle.pw_top.proofs.AllowedLemmas.{quiet_cause}
 use Rattle.pw_top.proofs.PlayingLemmas.{plays_idly}
 use Rattle.pw_top.proofs.usage.CommandLine.prepare.Goals as goal
 
@@ -27,3 +33,11 @@ pub returns-in-Check-clause-told : goal.returns-in-Check-clause-told
 returns-in-Check-clause-told g c = λ h. rw c.in-Check.is (plays_idly (IsCheckAnswer (names_in (g.F.Files.held c.args.files.now)) c.in-Check.command.script c.in-Check.command.trace)
     (happened c.args.played.now (g.K.Ticker.ticks c.args.ticker.now) (g.K.Ticker.ticks c.args.ticker.now)) c.prepare-in-Check.result
     (c.prepare-in-Check.ensures.told h) c.requires.none)
+
+-- a soak loads nothing
+quiet : (n : ℕ) (r : Result Work Status) → CommandCause IsDeliverable 0 0 r → CommandCause IsDeliverable n n r
+quiet n (Ok work) h = h
+quiet n (Err status) h = quiet_cause IsDeliverable IsDeliverable n status h
+
+pub returns-in-Soak-clause-cause : goal.returns-in-Soak-clause-cause
+returns-in-Soak-clause-cause g c = quiet _ c.play-in-Soak.result c.play-in-Soak.ensures.cause
