@@ -4,3 +4,4 @@ pub mod Message
 pub mod Places
 pub mod PodMessages
 pub mod ScriptMessages
+pub mod ScriptWords

@@ -1,5 +1,6 @@
 -- Where a fault is: a word of the command line, or a line of the script. This project's.
-use Rattle.std.specs.Prelude.{ℕ, ◌==◌, ◌-◌, ◌&&◌, ◌||◌, not, Bool, if◌then◌else◌, List, [], ◌++◌, codes, decimal, bytes_eq, slice_get, slice_index_or, Option, Some, None}
+use Rattle.std.specs.Prelude.{ℕ, ◌==◌, ◌-◌, ◌&&◌, ◌||◌, not, Bool, if◌then◌else◌, List, [], ◌++◌}
+use Rattle.std.specs.Prelude.{codes, decimal, bytes_eq, slice_get, slice_index_or, Option, Some, None}
 use Rattle.graph_script.specs.Lexical.{lines_of, words_of}
 use Rattle.pw_top.specs.Check.{trace_place}
 
@@ -9,7 +10,8 @@ word words i = slice_index_or words i []
 
 -- a command that reads a script, and the places that are lines of it
 abbrev pub reads_script : List (List ℕ) → Bool
-reads_script words = bytes_eq (word words 0) (codes "run") || bytes_eq (word words 0) (codes "check")
+reads_script words =
+    bytes_eq (word words 0) (codes "run") || bytes_eq (word words 0) (codes "check")
 
 abbrev pub is_line : List (List ℕ) → ℕ → Bool
 is_line words place = reads_script words && not (place == 0) && not (place == trace_place)

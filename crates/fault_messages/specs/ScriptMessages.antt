@@ -1,15 +1,11 @@
 -- Why a script is refused, in words. The script grammar and the sentences are this project's.
 use Rattle.std.specs.Prelude.{ℕ, ◌||◌, Bool, if◌then◌else◌, List, [], ◌++◌, codes, bytes_eq, Option, Some, None}
-use Rattle.pw_base.specs.declared.limit.Which.{Which}
-use Rattle.pw_base.specs.declared.limit.Which.TheVariants as W
 use Rattle.graph_script.specs.Lexical.{words_of}
 use Rattle.graph_script.specs.declared.fault.ScriptWhy.{ScriptWhy}
 use Rattle.graph_script.specs.declared.fault.ScriptWhy.TheVariants as F
+use Rattle.fault_messages.specs.FileMessages.{limit_said}
 use Rattle.fault_messages.specs.Places.{word, quoted}
-
-abbrev pub too_many : Which → List ℕ
-too_many W.Nodes = codes "more than 63 nodes"
-too_many _ = codes "more than 1024 lines of cycles and drain"
+use Rattle.fault_messages.specs.ScriptWords.{of_word}
 
 -- where the line is not at hand
 abbrev pub script_text : ScriptWhy → List ℕ
@@ -24,7 +20,7 @@ script_text F.PortUnknown = codes "the node has no such port"
 script_text F.QuantumLate = codes "quantum must stand before every other command"
 script_text F.NotDriverKind = codes "only a sink or a meter may drive"
 script_text F.OfferLate = codes "offers must stand before the links of their node"
-script_text (F.TooMany which) = too_many which
+script_text (F.TooMany which) = limit_said which
 script_text F.AsyncLate = codes "async must stand before the links of its node"
 
 -- a line with two ports
@@ -46,37 +42,11 @@ unknown_port words =
     if is_pair words then pair_text words (codes " is no output, or ") (codes " no input")
     else pair_text words (codes " has no port ") []
 
--- a word of the line, and what stands before and behind it
-abbrev pub fault_word : ScriptWhy → ℕ
-fault_word F.Command = 0
-fault_word F.Arguments = 0
-fault_word F.Number = 0
-fault_word F.NameForm = 0
-fault_word _ = 1
-
-abbrev pub said_before : ScriptWhy → List ℕ
-said_before F.Arguments = codes "too few words, or too many, for "
-said_before F.Number = codes "a number is out of range, or has the wrong form, for "
-said_before F.NameForm = codes "a name, a port or a file word has the wrong form, for "
-said_before F.NameTaken = codes "the name is taken: "
-said_before F.OfferLate = codes "offers must stand before the links of their node: "
-said_before F.AsyncLate = codes "async must stand before the links of its node: "
-said_before _ = []
-
-abbrev pub said_behind : ScriptWhy → List ℕ
-said_behind F.Command = codes " is no command"
-said_behind F.NotDriverKind = codes " is neither a sink nor a meter, and cannot drive"
-said_behind _ = []
-
-abbrev pub of_word : ScriptWhy → List (List ℕ) → List ℕ
-of_word why words =
-    said_before why ++ (quoted (word words (fault_word why)) ++ said_behind why)
-
 -- with the words of the line
 abbrev pub named_text : ScriptWhy → List (List ℕ) → List ℕ
 named_text F.Byte words = script_text F.Byte
 named_text F.QuantumLate words = script_text F.QuantumLate
-named_text (F.TooMany which) words = too_many which
+named_text (F.TooMany which) words = limit_said which
 named_text F.NameUnknown words = unknown_name words
 named_text F.PortUnknown words = unknown_port words
 named_text why words = of_word why words

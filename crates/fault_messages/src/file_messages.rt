@@ -25,8 +25,8 @@ pub fn wav_said(why: WavFault) -> &'static [u8]
     }
 }
 
-// What passes a limit.
-fn limit_said(which: Which) -> &'static [u8]
+/// What passes a limit.
+pub fn limit_said(which: Which) -> &'static [u8]
     ensures { result.now ≡ limit_said which }
 {
     match which {

@@ -1,22 +1,15 @@
 //! Why a line of a script is refused, in words.
 ghost use Rattle.std.specs.Prelude.{◌≡◌, ◌++◌, option_copied, OnOk};
 ghost use Rattle.graph_script.specs.Lexical.{words_of};
-ghost use Rattle.fault_messages.specs.ScriptMessages.{too_many, script_text, is_pair, pair_text, unknown_name, unknown_port};
-ghost use Rattle.fault_messages.specs.ScriptMessages.{fault_word, said_before, said_behind, of_word, named_text, script_said};
+ghost use Rattle.fault_messages.specs.ScriptMessages.{script_text, is_pair, pair_text, unknown_name, unknown_port};
+ghost use Rattle.fault_messages.specs.ScriptMessages.{named_text, script_said};
+ghost use Rattle.fault_messages.specs.ScriptWords.{fault_word, said_before, said_behind, of_word};
 
+use crate::file_messages::limit_said;
 use crate::lines::word_of;
 use crate::putting::{put_before, put_behind};
 use graph_script::ScriptWhy;
-use pw_base::{Memory, Text, Which};
-
-fn too_many(which: Which) -> &'static [u8]
-    ensures { result.now ≡ too_many which }
-{
-    match which {
-        Which::Nodes => b"more than 63 nodes",
-        _ => b"more than 1024 lines of cycles and drain",
-    }
-}
+use pw_base::{Memory, Text};
 
 // Why, where the line is not at hand.
 fn script_text(why: ScriptWhy) -> &'static [u8]
@@ -34,7 +27,7 @@ fn script_text(why: ScriptWhy) -> &'static [u8]
         ScriptWhy::QuantumLate => b"quantum must stand before every other command",
         ScriptWhy::NotDriverKind => b"only a sink or a meter may drive",
         ScriptWhy::OfferLate => b"offers must stand before the links of their node",
-        ScriptWhy::TooMany(which) => too_many(which),
+        ScriptWhy::TooMany(which) => limit_said(which),
         ScriptWhy::AsyncLate => b"async must stand before the links of its node",
     }
 }

@@ -44,7 +44,8 @@ fn put_file_fault(
     what: &[u8],
 ) -> Result<(), Memory>
     ensures { OnOk result (text.new ≡ text.old
-        ++ at_place (map string_bytes words.now) place (file_part (option_copied line.entry) ++ what.now)) }
+        ++ at_place (map string_bytes words.now) place
+        (file_part (option_copied line.entry) ++ what.now)) }
 {
     put_place(text, words, place)?;
     text.extend(b": ")?;

@@ -430,8 +430,12 @@ fn files_in_words(rt: HostRuntime) -> Result<(), Fail> {
 }
 
 // The words of all commands, behind what is said of a word.
-const SYNOPSIS: &str =
-    "usage: pipegraph run SCRIPT [--loops N] [--ticks N] [--trace]\n       pipegraph dump FILE\n       pipegraph filter A B OUT\n       pipegraph automate IN SEQ OUT\n       pipegraph check SCRIPT TRACE\n       pipegraph soak NUMBER";
+const SYNOPSIS: &str = "usage: pipegraph run SCRIPT [--loops N] [--ticks N] [--trace]\n\
+    \x20      pipegraph dump FILE\n\
+    \x20      pipegraph filter A B OUT\n\
+    \x20      pipegraph automate IN SEQ OUT\n\
+    \x20      pipegraph check SCRIPT TRACE\n\
+    \x20      pipegraph soak NUMBER";
 
 #[test]
 fn command_lines_in_words(rt: HostRuntime) -> Result<(), Fail> {

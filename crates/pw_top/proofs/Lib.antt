@@ -19,5 +19,6 @@ pub mod PodFileLemmas
 pub mod StatusLineLemmas
 pub mod StockLemmas
 pub mod StoppingLemmas
+pub mod SurelyLemmas
 pub mod WaveFormLemmas
 pub mod CheckLemmas

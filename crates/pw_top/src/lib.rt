@@ -19,11 +19,13 @@ mod script_loads;
 mod status;
 mod status_line;
 mod stock;
+mod surely;
 mod top;
 mod usage;
 mod wave_file;
 mod work;
 
 pub use status::{PodWhy, Status};
+pub use surely::run_surely;
 pub use top::{Report, run_words};
 pub use usage::ticks_of;
