@@ -2,9 +2,9 @@
 
 use crate::support::expect;
 use crate::waves::{expect_mono, expect_run, expect_wave};
-use pw_base::{MemFiles, MemSink, Memory};
+use pw_base::{Items, MemFiles, MemSink, Memory, Text};
 use pw_top::Status;
-use row_files::{add_wave, text};
+use row_files::{add_wave, run_line, text};
 use std::alloc::Global;
 use std::test::Fail;
 
@@ -54,50 +54,104 @@ fn a_sink_overwrites_its_source(rt: HostRuntime) -> Result<(), Fail> {
     expect_wave(&rt, &files, "s.wav", 1, [14, 16, 0].as_slice())
 }
 
-#[test]
-fn the_load_of_a_second_wave_fails(rt: HostRuntime) -> Result<(), Fail> {
-    let alloc = rt.alloc();
-    let mut files = files_of_two(alloc)?;
-    files.fail_load(alloc, 3)?;
-    let mut out = MemSink::new(alloc)?;
-    let status = Status::ReadFault { place: 3 };
-    expect(&rt, "run s.graph", &mut files, &mut out, status, "read 3\n")?;
-    assert!(rt; files.file(&text(alloc, "o.wav")?).is_none());
-    assert!(rt; files.file(&text(alloc, "q.wav")?).is_none());
-    Ok(())
+// Whether the file of this name is the first bytes of the wave that a sink keeps.
+fn is_front(files: &MemFiles, name: &Text, whole: &[u8], kept: u64) -> bool {
+    match files.file(name) {
+        Some(bytes) => bytes.len() as u64 == kept && whole.starts_with(bytes.as_slice()),
+        None => false,
+    }
 }
 
 #[test]
-fn the_store_of_a_second_wave_fails(rt: HostRuntime) -> Result<(), Fail> {
+fn each_load_fails_in_its_turn(rt: HostRuntime) -> Result<(), Fail> {
     let alloc = rt.alloc();
-    let mut files = files_of_two(alloc)?;
-    files.fail_store(alloc, 2, 10)?;
-    let mut out = MemSink::new(alloc)?;
-    let status = Status::WriteFault { place: 5 };
-    expect(
-        &rt,
-        "run s.graph",
-        &mut files,
-        &mut out,
-        status,
-        "write 5\n",
-    )?;
-    expect_wave(&rt, &files, "o.wav", 1, SUMS.as_slice())?;
-    match files.file(&text(alloc, "q.wav")?) {
-        Some(bytes) => assert!(rt; bytes.as_slice() == b"RIFF\x34\x00\x00\x00WA".as_slice()),
-        None => assert!(rt; false, "not stored"),
+    for (number, place, wanted) in [(1, 0, "read 0\n"), (2, 2, "read 2\n"), (3, 3, "read 3\n")] {
+        let mut files = files_of_two(alloc)?;
+        files.fail_load(alloc, number)?;
+        let mut out = MemSink::new(alloc)?;
+        let status = Status::ReadFault { place };
+        expect(&rt, "run s.graph", &mut files, &mut out, status, wanted)?;
+        assert!(rt; files.file(&text(alloc, "o.wav")?).is_none());
+        assert!(rt; files.file(&text(alloc, "q.wav")?).is_none());
+    }
+    Ok(())
+}
+
+// A wave that a sink keeps, as bytes of a file.
+fn whole_wave(alloc: Global) -> Result<Items<u8>, Memory> {
+    let mut files = MemFiles::new(alloc)?;
+    add_wave(alloc, &mut files, "o.wav", 1, SUMS.as_slice())?;
+    match files.file(&text(alloc, "o.wav")?) {
+        Some(bytes) => bytes.copy(alloc),
+        None => Ok(Items::new(alloc)),
+    }
+}
+
+#[test]
+fn the_first_store_fails_after_each_byte(rt: HostRuntime) -> Result<(), Fail> {
+    let alloc = rt.alloc();
+    let whole = whole_wave(alloc)?;
+    assert_eq!(rt; whole.len(), 60);
+    for kept in 0..60 {
+        let mut files = files_of_two(alloc)?;
+        files.fail_store(alloc, 1, kept)?;
+        let mut out = MemSink::new(alloc)?;
+        let status = Status::WriteFault { place: 4 };
+        expect(
+            &rt,
+            "run s.graph",
+            &mut files,
+            &mut out,
+            status,
+            "write 4\n",
+        )?;
+        assert!(rt; is_front(&files, &text(alloc, "o.wav")?, whole.as_slice(), kept));
+        assert!(rt; files.file(&text(alloc, "q.wav")?).is_none());
     }
     Ok(())
 }
 
 #[test]
-fn a_put_after_two_stores_fails(rt: HostRuntime) -> Result<(), Fail> {
+fn the_second_store_fails_after_each_byte(rt: HostRuntime) -> Result<(), Fail> {
     let alloc = rt.alloc();
-    let mut files = files_of_two(alloc)?;
-    let mut out = MemSink::new(alloc)?;
-    out.fail_put(alloc, 1, 0)?;
-    let status = Status::WriteFault { place: 0 };
-    expect(&rt, "run s.graph", &mut files, &mut out, status, "")?;
-    expect_wave(&rt, &files, "o.wav", 1, SUMS.as_slice())?;
-    expect_wave(&rt, &files, "q.wav", 1, SUMS.as_slice())
+    let whole = whole_wave(alloc)?;
+    for kept in 0..60 {
+        let mut files = files_of_two(alloc)?;
+        files.fail_store(alloc, 2, kept)?;
+        let mut out = MemSink::new(alloc)?;
+        let status = Status::WriteFault { place: 5 };
+        expect(
+            &rt,
+            "run s.graph",
+            &mut files,
+            &mut out,
+            status,
+            "write 5\n",
+        )?;
+        assert!(rt; is_front(&files, &text(alloc, "o.wav")?, whole.as_slice(), 60));
+        assert!(rt; is_front(&files, &text(alloc, "q.wav")?, whole.as_slice(), kept));
+    }
+    Ok(())
+}
+
+/// The text of a run that nothing fails.
+const TEXT: &str = "link a.out o.in 48000 1 2\nlink b.out o.in 48000 1 2\n\
+    link a.out q.in 48000 1 2\nlink b.out q.in 48000 1 2\nwrote o 8\nwrote q 8\n";
+
+#[test]
+fn the_put_fails_after_each_byte(rt: HostRuntime) -> Result<(), Fail> {
+    let alloc = rt.alloc();
+    for kept in 0..124 {
+        let mut files = files_of_two(alloc)?;
+        let mut out = MemSink::new(alloc)?;
+        out.fail_put(alloc, 1, kept)?;
+        let answer = run_line(&rt, "run s.graph", &mut files, &mut out)?;
+        assert!(rt; answer == Status::WriteFault { place: 0 });
+        assert!(rt;
+            out.bytes().len() as u64 == kept && TEXT.as_bytes().starts_with(out.bytes().as_slice())
+        );
+        expect_wave(&rt, &files, "o.wav", 1, SUMS.as_slice())?;
+        expect_wave(&rt, &files, "q.wav", 1, SUMS.as_slice())?;
+    }
+    Ok(())
 }

@@ -9,8 +9,9 @@ mod std_sink;
 
 use crate::disk_files::DiskFiles;
 use crate::std_sink::StdSink;
-use pw_base::{Every, Items, Never, Open, Ticker};
-use pw_top::{Report, run_words, ticks_of};
+use fault_messages::explain;
+use pw_base::{Every, Items, Never, Open, Sink, Ticker};
+use pw_top::{Status, run_words, ticks_of};
 use std::alloc::Global;
 use std::io::ErrorKind;
 use std::process::ExitCode;
@@ -46,19 +47,12 @@ fn words_of<R: Env + Alloc<A = Global>>(rt: &R) -> Result<Items<String>, u8> {
     }
 }
 
-// The number of the status that a call ended with.
-fn exit_of(report: &Report) -> u8
-    ensures { result ≡ status_number report.now.status }
-{
-    report.status.number()
-}
-
 // Does what the words ask for, over the system's files and standard output; may wait.
 fn run_by<R: Threads + Wait + Sync + Print + rt::Files + Alloc<A = Global>, K: Ticker>(
     rt: &R,
     words: &[String],
     ticker: &mut K,
-) -> ExitCode {
+) -> Status {
     let mut files = DiskFiles::new(rt);
     let mut out = StdSink::new(rt);
     let report = run_words(
@@ -70,7 +64,28 @@ fn run_by<R: Threads + Wait + Sync + Print + rt::Files + Alloc<A = Global>, K: T
         &Open::new(),
         ticker,
     );
-    ExitCode::from(exit_of(&report))
+    report.status
+}
+
+// Tells people on standard error what a status means. Where that fails, nothing follows.
+fn tell<R: rt::Files + Alloc<A = Global>, P: Print>(
+    rt: &R,
+    errors: &P,
+    words: &[String],
+    status: &Status,
+) {
+    let mut files = DiskFiles::new(rt);
+    let mut out = StdSink::new(errors);
+    if let Ok(text) = explain(rt.alloc(), &mut files, words, status) {
+        let _ = out.put(rt.alloc(), text.as_slice());
+    }
+}
+
+// The number of the status that a call ended with.
+fn exit_of(status: &Status) -> u8
+    ensures { result ≡ status_number status.now }
+{
+    status.number()
 }
 
 fn main(rt: HostRuntime) -> ExitCode {
@@ -78,8 +93,10 @@ fn main(rt: HostRuntime) -> ExitCode {
         Ok(words) => words,
         Err(status) => return ExitCode::from(status),
     };
-    match ticks_of(words.as_slice()) {
+    let status = match ticks_of(words.as_slice()) {
         0 => run_by(&rt, words.as_slice(), &mut Never::new()),
         n => run_by(&rt, words.as_slice(), &mut Every::new(u64::from(n))),
-    }
+    };
+    tell(&rt, &rt.stderr(), words.as_slice(), &status);
+    ExitCode::from(exit_of(&status))
 }

@@ -21,5 +21,6 @@ pub mod StatusLineLemmas
 pub mod StockLemmas
 pub mod StoppingLemmas
 pub mod TicksLemmas
+pub mod SurelyLemmas
 pub mod WaveFormLemmas
 pub mod CheckLemmas

@@ -1,11 +1,11 @@
 pub mod Allowed
 pub mod Answer
+pub mod Automate
+pub mod Check
 pub mod CommandLine
 pub mod Delivery
 pub mod Dump
 pub mod Ending
-pub mod Automate
-pub mod Check
 pub mod Filter
 pub mod Following
 pub mod FormatFile
@@ -13,9 +13,8 @@ pub mod Headline
 pub mod Loads
 pub mod Narrowing
 pub mod Options
-pub mod Stocking
-pub mod Playing
 pub mod PlannedWork
+pub mod Playing
 pub mod PodFile
 pub mod Preparing
 pub mod Refusals
@@ -23,5 +22,7 @@ pub mod Run
 pub mod SinkStores
 pub mod Soak
 pub mod StatusLine
+pub mod Stocking
+pub mod Surely
 pub mod Usage
 pub mod Words

@@ -3,7 +3,7 @@ ghost use Rattle.std.specs.Prelude.{◌≡◌, ◌≤◌, map, string_bytes, IfO
 ghost use Rattle.graph_script.specs.Arguments.{number_of};
 ghost use Rattle.pw_top.specs.Options.{words_for, place_after, begun, loops_given, ticks_given, said_after, options_in, options_of, HasFew, SaysFew};
 
-use crate::numbers::number_within;
+use graph_script::number_within;
 
 /// Loops beside the driver's, at most.
 const LOOPS_LIMIT: u32 = 16;

@@ -11,9 +11,9 @@ use crate::commands::dump::DumpFile;
 use crate::commands::filter_files::FilterFiles;
 use crate::commands::run::Running;
 use crate::commands::soak::Soaking;
-use crate::numbers::number_within;
 use crate::options::{Options, read_options};
 use crate::status::Status;
+use graph_script::number_within;
 use pw_base::{Items, Text};
 use std::alloc::Global;
 

@@ -1,0 +1,58 @@
+-- The sentence that a status is told in, for people. This project's.
+use Rattle.std.specs.Prelude.{ℕ, ◌==◌, Bool, nat_lt, if◌then◌else◌, List, [], ◌++◌, length, codes, Option}
+use Rattle.pw_top.specs.declared.status.Status.{Status}
+use Rattle.pw_top.specs.declared.status.Status.TheVariants as S
+use Rattle.fault_messages.specs.Places.{word, place_text, file_part, quoted}
+use Rattle.fault_messages.specs.ScriptMessages.{script_said}
+use Rattle.fault_messages.specs.PodMessages.{pod_said}
+use Rattle.fault_messages.specs.FileMessages.{wav_said, limit_text}
+
+-- the words of all commands
+abbrev pub synopsis : List ℕ
+synopsis = codes "usage: pipegraph run SCRIPT [--loops N] [--ticks N] [--trace]\n"
+    ++ codes "       pipegraph dump FILE\n"
+    ++ codes "       pipegraph filter A B OUT\n"
+    ++ codes "       pipegraph automate IN SEQ OUT\n"
+    ++ codes "       pipegraph check SCRIPT TRACE\n"
+    ++ codes "       pipegraph soak NUMBER\n"
+
+-- a word at fault, or one that is missing
+abbrev pub usage_text : List (List ℕ) → ℕ → List ℕ
+usage_text words i =
+    if nat_lt i (length words) then (codes "this word is wrong here: " ++ quoted (word words i))
+    else codes "a word is missing"
+
+-- a place and what is wrong there
+abbrev pub at_place : List (List ℕ) → ℕ → List ℕ → List ℕ
+at_place words place what = place_text words place ++ (codes ": " ++ what)
+
+abbrev pub sentence : Status → List (List ℕ) → Option (List ℕ) → List ℕ
+sentence S.Ok words line = []
+sentence (S.Usage i) words line = usage_text words i
+sentence (S.Script n why) words line = at_place words n (script_said why line)
+sentence (S.Wav place why) words line = at_place words place (file_part line ++ wav_said why)
+sentence (S.Pod place why) words line = at_place words place (file_part line ++ pod_said why)
+sentence (S.Absent place) words line =
+    at_place words place (file_part line ++ codes "there is no such file")
+sentence (S.ReadFault place) words line =
+    at_place words place (file_part line ++ codes "the file cannot be read")
+sentence (S.WriteFault place) words line =
+    if place == 0 then codes "standard output cannot be written"
+    else at_place words place (file_part line ++ codes "the file cannot be written")
+sentence (S.Limit place which) words line = at_place words place (limit_text which line)
+sentence S.Memory words line = codes "no memory was left"
+
+-- what stands before it, and what follows
+abbrev pub before : Status → List ℕ
+before S.Ok = []
+before _ = codes "pipegraph: "
+
+abbrev pub after : Status → List ℕ
+after S.Ok = []
+after (S.Usage i) = codes "\n" ++ synopsis
+after _ = codes "\n"
+
+-- THE MESSAGE of a status, by the words and by the line of the script that is at fault, where it is
+-- at hand; nothing where all was done
+unfoldable pub message_of : Status → List (List ℕ) → Option (List ℕ) → List ℕ
+message_of status words line = before status ++ (sentence status words line ++ after status)

@@ -1,0 +1,46 @@
+-- Where a fault is: a word of the command line, or a line of the script. This project's.
+use Rattle.std.specs.Prelude.{ℕ, ◌==◌, ◌-◌, ◌&&◌, ◌||◌, not, Bool, if◌then◌else◌, List, [], ◌++◌}
+use Rattle.std.specs.Prelude.{codes, decimal, bytes_eq, slice_get, slice_index_or, Option, Some, None}
+use Rattle.graph_script.specs.Lexical.{lines_of, words_of}
+use Rattle.pw_top.specs.Check.{trace_place}
+
+-- a word by its index; nothing where there is none
+abbrev pub word : List (List ℕ) → ℕ → List ℕ
+word words i = slice_index_or words i []
+
+-- a command that reads a script, and the places that are lines of it
+abbrev pub reads_script : List (List ℕ) → Bool
+reads_script words =
+    bytes_eq (word words 0) (codes "run") || bytes_eq (word words 0) (codes "check")
+
+abbrev pub is_line : List (List ℕ) → ℕ → Bool
+is_line words place = reads_script words && not (place == 0) && not (place == trace_place)
+
+-- a place as people write it: `FILE:LINE`, or the file alone
+abbrev pub script_place : List (List ℕ) → ℕ → List ℕ
+script_place words place =
+    if place == 0 then word words 1
+    else (if place == trace_place then word words 2
+    else (word words 1 ++ (codes ":" ++ decimal place)))
+
+abbrev pub place_text : List (List ℕ) → ℕ → List ℕ
+place_text words place =
+    if reads_script words then script_place words place else word words place
+
+-- the line of a script, counted from 1
+abbrev pub line_at : List ℕ → ℕ → Option (List ℕ)
+line_at script n = slice_get (lines_of script) (n - 1)
+
+-- the file that a line names: the word behind the port of `offer`, and behind the name of other
+-- nodes
+abbrev pub file_word : List (List ℕ) → List ℕ
+file_word words =
+    if bytes_eq (word words 0) (codes "offer") then word words 3 else word words 2
+
+abbrev pub file_part : Option (List ℕ) → List ℕ
+file_part None = []
+file_part (Some line) = file_word (words_of line) ++ codes ": "
+
+-- a word in quotes
+unfoldable pub quoted : List ℕ → List ℕ
+quoted w = codes "\"" ++ w ++ codes "\""

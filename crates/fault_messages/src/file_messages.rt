@@ -1,0 +1,65 @@
+//! What is wrong with a file, in words.
+ghost use Rattle.std.specs.Prelude.{◌≡◌, ◌++◌, option_copied, OnOk};
+ghost use Rattle.fault_messages.specs.FileMessages.{wav_said, limit_said, is_of_file, limit_text};
+
+use crate::places::put_file;
+use pw_base::{Memory, Text, Which};
+use wav_files::WavFault;
+
+/// Why a WAV file is refused.
+pub fn wav_said(why: WavFault) -> &'static [u8]
+    ensures { result.now ≡ wav_said why }
+{
+    match why {
+        WavFault::NotRiff => b"this is no RIFF WAVE file",
+        WavFault::NoFmt => b"there is no fmt chunk before the samples",
+        WavFault::BadFmt => b"the fmt chunk is not sound",
+        WavFault::NotPcm16 => b"only PCM of 16 bits a sample is read",
+        WavFault::NoData => b"there is no data chunk",
+        WavFault::Truncated => b"a chunk passes the end of the file",
+        WavFault::Uneven => b"the samples are not whole frames",
+        WavFault::ChannelsOrRate => {
+            b"only 1 to 8 channels at 1 to 384000 frames a second are read"
+        }
+        WavFault::Memory => b"no memory was left",
+    }
+}
+
+/// What passes a limit.
+pub fn limit_said(which: Which) -> &'static [u8]
+    ensures { result.now ≡ limit_said which }
+{
+    match which {
+        Which::ScriptBytes => b"more than 1048576 bytes",
+        Which::WavBytes => b"more than 268435456 bytes",
+        Which::AllWavBytes => b"more than 536870912 bytes of WAV files in all",
+        Which::PodBytes => b"more bytes than a POD may have",
+        Which::Nodes => b"more than 63 nodes",
+        Which::Epochs => b"more than 1024 lines of cycles and drain",
+        Which::Links => b"more than 256 links at a time",
+        Which::Events => b"more than 4194304 events",
+        Which::SinkSamples => b"the sinks would keep more than 134217728 samples",
+        Which::BlockBytes => b"the buffers would have more than 268435456 bytes",
+        Which::TraceBytes => b"more than 268435456 bytes",
+    }
+}
+
+// Whether it is a limit of a file that a line names.
+fn is_of_file(which: Which) -> bool
+    ensures { result ≡ is_of_file which }
+{
+    matches!(
+        which,
+        Which::WavBytes | Which::AllWavBytes | Which::PodBytes
+    )
+}
+
+/// What passes a limit, with the file that the line names where it is one of that.
+pub fn put_limit(text: &mut Text, which: Which, line: Option<&[u8]>) -> Result<(), Memory>
+    ensures { OnOk result (text.new ≡ text.old ++ limit_text which (option_copied line.entry)) }
+{
+    if is_of_file(which) {
+        put_file(text, line)?;
+    }
+    text.extend(limit_said(which))
+}

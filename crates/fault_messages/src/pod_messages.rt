@@ -1,0 +1,73 @@
+//! Why a POD is refused, in words.
+ghost use Rattle.std.specs.Prelude.{◌≡◌, ◌++◌, OnOk};
+ghost use Rattle.fault_messages.specs.PodMessages.{pod_words, carried, pod_said};
+
+use pw_base::{Memory, Text, append_decimal};
+use pw_top::PodWhy;
+
+// The words; where a number is carried, it follows them.
+fn pod_words(why: PodWhy) -> &'static [u8]
+    ensures { result.now ≡ pod_words why }
+{
+    match why {
+        PodWhy::Short { .. } => b"a POD passes the end of what holds it, at byte ",
+        PodWhy::TypeUnknown { .. } => b"a type that is not read, at byte ",
+        PodWhy::Size { .. } => b"a size that its type does not have, at byte ",
+        PodWhy::Uneven { .. } => b"values that do not fill their body, at byte ",
+        PodWhy::Deep { .. } => b"a POD more than 16 deep, at byte ",
+        PodWhy::Large { .. } => b"a POD of more than 1048576 bytes: ",
+        PodWhy::Nul { .. } => b"a string without a nul at its end, at byte ",
+        PodWhy::Rest { .. } => b"the file goes on behind its POD, at byte ",
+        PodWhy::NotObject => b"the POD is no object",
+        PodWhy::KeyTwice { .. } => b"a property stands twice, under key ",
+        PodWhy::FlagsChoice { .. } => b"a choice of flags, under key ",
+        PodWhy::BadRange { .. } => b"a range that is none, under key ",
+        PodWhy::BadStep { .. } => b"a step that is none, under key ",
+        PodWhy::EmptyChoice { .. } => b"a choice without a value, under key ",
+        PodWhy::NotFormat => b"the object is no format",
+        PodWhy::Clash { .. } => b"nothing is left of what the port offers, under key ",
+        PodWhy::NotSequence => b"the POD is no control sequence",
+        PodWhy::OffsetFalls { .. } => b"an offset below the one before, in control ",
+        PodWhy::NotProps { .. } => b"a value that is no properties object, in control ",
+        PodWhy::GainForm { .. } => b"a gain that is no Int from -32767 to 32767, in control ",
+    }
+}
+
+// The number that the fault carries.
+fn carried(why: PodWhy) -> Option<u32>
+    ensures { result ≡ carried why }
+{
+    match why {
+        PodWhy::Short { offset } => Some(offset),
+        PodWhy::TypeUnknown { offset, .. } => Some(offset),
+        PodWhy::Size { offset } => Some(offset),
+        PodWhy::Uneven { offset } => Some(offset),
+        PodWhy::Deep { offset } => Some(offset),
+        PodWhy::Large { size } => Some(size),
+        PodWhy::Nul { offset } => Some(offset),
+        PodWhy::Rest { offset } => Some(offset),
+        PodWhy::NotObject => None,
+        PodWhy::KeyTwice { key } => Some(key),
+        PodWhy::FlagsChoice { key } => Some(key),
+        PodWhy::BadRange { key } => Some(key),
+        PodWhy::BadStep { key } => Some(key),
+        PodWhy::EmptyChoice { key } => Some(key),
+        PodWhy::NotFormat => None,
+        PodWhy::Clash { key } => Some(key),
+        PodWhy::NotSequence => None,
+        PodWhy::OffsetFalls { index } => Some(index),
+        PodWhy::NotProps { index } => Some(index),
+        PodWhy::GainForm { index } => Some(index),
+    }
+}
+
+/// Why a POD is refused.
+pub fn put_pod(text: &mut Text, why: PodWhy) -> Result<(), Memory>
+    ensures { OnOk result (text.new ≡ text.old ++ pod_said why) }
+{
+    text.extend(pod_words(why))?;
+    match carried(why) {
+        None => Ok(()),
+        Some(n) => append_decimal(text, u64::from(n)),
+    }
+}

@@ -1,0 +1,143 @@
+//! The message of a status.
+ghost use Rattle.std.specs.Prelude.{◌≡◌, ◌++◌, [], codes, map, string_bytes, option_copied, OnOk, IfOk};
+ghost use Rattle.fault_messages.specs.Places.{place_text, file_part};
+ghost use Rattle.fault_messages.specs.Message.{synopsis, usage_text, at_place, sentence, before, after, message_of};
+
+use crate::file_messages::{put_limit, wav_said};
+use crate::places::{put_file, put_place, word_at};
+use crate::pod_messages::put_pod;
+use crate::putting::put_before;
+use crate::script_messages::put_script;
+use pw_base::{Items, Memory, Text};
+use pw_top::Status;
+use std::alloc::Global;
+
+// The end of the sentence, and the words of all commands.
+fn synopsis() -> &'static [u8]
+    ensures { result.now ≡ codes "\n" ++ synopsis }
+{
+    b"\nusage: pipegraph run SCRIPT [--loops N] [--ticks N] [--trace]\n\
+       \x20      pipegraph dump FILE\n\
+       \x20      pipegraph filter A B OUT\n\
+       \x20      pipegraph automate IN SEQ OUT\n\
+       \x20      pipegraph check SCRIPT TRACE\n\
+       \x20      pipegraph soak NUMBER\n"
+}
+
+// A word at fault, or one that is missing.
+fn put_usage(text: &mut Text, words: &[String], word: u32) -> Result<(), Memory>
+    ensures { OnOk result (text.new ≡ text.old ++ usage_text (map string_bytes words.now) word) }
+{
+    if (word as usize) < words.len() {
+        put_before(text, b"this word is wrong here: ", word_at(words, word))
+    } else {
+        text.extend(b"a word is missing")
+    }
+}
+
+// A file of a place, and what is wrong with it.
+fn put_file_fault(
+    text: &mut Text,
+    words: &[String],
+    place: u32,
+    line: Option<&[u8]>,
+    what: &[u8],
+) -> Result<(), Memory>
+    ensures { OnOk result (text.new ≡ text.old
+        ++ at_place (map string_bytes words.now) place
+        (file_part (option_copied line.entry) ++ what.now)) }
+{
+    put_place(text, words, place)?;
+    text.extend(b": ")?;
+    put_file(text, line)?;
+    text.extend(what)
+}
+
+// A place, and a colon behind it.
+fn put_colon(text: &mut Text, words: &[String], place: u32) -> Result<(), Memory>
+    ensures { OnOk result (text.new ≡ text.old
+        ++ (place_text (map string_bytes words.now) place ++ codes ": ")) }
+{
+    put_place(text, words, place)?;
+    text.extend(b": ")
+}
+
+// The sentence, without its end.
+fn put_sentence(
+    text: &mut Text,
+    status: &Status,
+    words: &[String],
+    line: Option<&[u8]>,
+) -> Result<(), Memory>
+    ensures { OnOk result (text.new ≡ text.old
+        ++ sentence status.now (map string_bytes words.now) (option_copied line.entry)) }
+{
+    match *status {
+        Status::Ok => Ok(()),
+        Status::Usage { word } => put_usage(text, words, word),
+        Status::Script { line: place, why } => {
+            put_colon(text, words, place)?;
+            put_script(text, why, line)
+        }
+        Status::Wav { place, why } => put_file_fault(text, words, place, line, wav_said(why)),
+        Status::Pod { place, why } => {
+            put_file_fault(text, words, place, line, b"")?;
+            put_pod(text, why)
+        }
+        Status::Absent { place } => {
+            put_file_fault(text, words, place, line, b"there is no such file")
+        }
+        Status::ReadFault { place } => {
+            put_file_fault(text, words, place, line, b"the file cannot be read")
+        }
+        Status::WriteFault { place: 0 } => text.extend(b"standard output cannot be written"),
+        Status::WriteFault { place } => {
+            put_file_fault(text, words, place, line, b"the file cannot be written")
+        }
+        Status::Limit { place, which } => {
+            put_colon(text, words, place)?;
+            put_limit(text, which, line)
+        }
+        Status::Memory => text.extend(b"no memory was left"),
+    }
+}
+
+// What stands before it.
+fn before(status: &Status) -> &'static [u8]
+    ensures { result.now ≡ before status.now }
+{
+    match status {
+        Status::Ok => b"",
+        _ => b"pipegraph: ",
+    }
+}
+
+// What follows it.
+fn after(status: &Status) -> &'static [u8]
+    ensures { result.now ≡ after status.now }
+{
+    match status {
+        Status::Ok => b"",
+        Status::Usage { .. } => synopsis(),
+        _ => b"\n",
+    }
+}
+
+/// The message of a status in words, by the words of the command line without the program's name,
+/// and by the line of the script that is at fault, where it is at hand. Nothing where all was done.
+#[tactic(auto, unfolding(crate::specs::Message::message_of))]
+pub fn message(
+    alloc: Global,
+    status: &Status,
+    words: &[String],
+    line: Option<&[u8]>,
+) -> Result<Text, Memory>
+    ensures { IfOk result (λ text. text
+        ≡ message_of status.now (map string_bytes words.now) (option_copied line.entry)) }
+{
+    let mut text = Items::new(alloc);
+    text.extend(before(status))?;
+    put_sentence(&mut text, status, words, line)?;
+    text.extend(after(status))?;
+    Ok(text)
+}

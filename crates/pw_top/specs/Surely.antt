@@ -1,0 +1,26 @@
+-- A call over objects that never fail: its answer is followed to its end, but for want of memory.
+use Rattle.std.specs.Prelude.{◌≡◌, ◌⊎◌, ℕ, List, ◌++◌, Result, Ok, Err}
+use Rattle.pw_base.specs.Files.{Names}
+use Rattle.pw_top.specs.declared.status.Status.{Status}
+use Rattle.pw_top.specs.declared.status.Status.TheVariants as S
+use Rattle.pw_top.specs.declared.work.Work.{Work}
+use Rattle.pw_top.specs.Answer.{Answer}
+use Rattle.pw_top.specs.Following.{status_of, stores_of, stored_all}
+use Rattle.pw_top.specs.StatusLine.{line_of}
+
+-- what is given at the end: the text, or the line of a refusal
+abbrev pub output_of : Result Work Status → List ℕ
+output_of (Ok work) = work.text
+output_of (Err status) = line_of status
+
+-- all of the answer was done
+pub record IsDone (a : Answer) (names names' : Names) (given given' : List ℕ) (status : Status)
+    : Type 0 where
+  pub status_is : status ≡ status_of a.outcome
+  pub files : names' ≡ stored_all (stores_of a.outcome) names
+  pub text : given' ≡ given ++ output_of a.outcome
+
+-- THE END: all was done, or memory was short
+abbrev pub EndsSurely : Answer → Names → Names → List ℕ → List ℕ → Status → Type 0
+EndsSurely a names names' given given' status =
+    IsDone a names names' given given' status ⊎ (status ≡ S.Memory)

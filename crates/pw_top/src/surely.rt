@@ -1,0 +1,39 @@
+//! The top call over objects in memory that never fail.
+#![tactic(auto, using(crate::proofs::SurelyLemmas::ends))]
+
+ghost use Rattle.std.specs.Prelude.{◌≡◌, ◌≤◌, map, string_bytes};
+ghost use Rattle.pw_base.specs.InMemory.{sure_names, sure_given};
+ghost use Rattle.pw_top.specs.Answer.{Answer};
+ghost use Rattle.pw_top.specs.CommandLine.{IsAnswer};
+ghost use Rattle.pw_top.specs.Headline.{reported};
+ghost use Rattle.pw_top.specs.Playing.{PlayFollows};
+ghost use Rattle.pw_top.specs.Surely.{EndsSurely};
+
+use crate::top::{Report, run_words};
+use pw_base::{Gate, SureFiles, SureSink, Ticker};
+use std::alloc::Global;
+use std::sync::Wait;
+use std::thread::Threads;
+
+/// `run_words` over files and an output in memory that never fail: all that an expected answer says
+/// is done, or memory was short. No premise on faults is needed. It may wait for the loops.
+pub fn run_surely<R: Threads + Wait + Sync, G: Gate + Sync, K: Ticker>(
+    rt: &R,
+    alloc: Global,
+    words: &[String],
+    files: &mut SureFiles,
+    out: &mut SureSink,
+    gate: &G,
+    ticker: &mut K,
+) -> Report
+    ensures told { (a : Answer)
+        × IsAnswer (map string_bytes words.now)
+        (reported result (K.ticks ticker.old) (K.ticks ticker.new)) (sure_names files.old) a
+        × EndsSurely a (sure_names files.old) (sure_names files.new) (sure_given out.old)
+        (sure_given out.new) result.status
+        × PlayFollows a.outcome (reported result (K.ticks ticker.old) (K.ticks ticker.new))
+        result.status }
+    ensures later { K.ticks ticker.old ≤ K.ticks ticker.new }
+{
+    run_words(rt, alloc, words, files, out, gate, ticker)
+}
