@@ -1,5 +1,5 @@
-//! Tests of whole command lines that are refused or fail, and of `dump`, `filter`, `automate` and
-//! `check`, over files and an output in memory. There is nothing else here.
+//! Tests of whole command lines that are refused or fail, and of `dump`, `filter`, `automate`,
+//! `check` and `soak`, over files and an output in memory. There is nothing else here.
 #![tactic(auto)]
 
 #[cfg(test)]
@@ -14,6 +14,8 @@ mod pods;
 mod refusals;
 #[cfg(test)]
 mod scripts;
+#[cfg(test)]
+mod soaks;
 #[cfg(test)]
 mod support;
 #[cfg(test)]

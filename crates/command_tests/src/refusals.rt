@@ -1,6 +1,6 @@
 //! What is refused, and by which cause.
 
-use crate::support::{expect, expect_of, expect_sink};
+use crate::support::{LongFiles, expect, expect_of, expect_sink};
 use graph_script::ScriptWhy;
 use pw_base::{FileFail, Files, Items, Loaded, MemSink, Memory, Text, Which};
 use pw_top::Status;
@@ -143,34 +143,6 @@ fn a_script_that_is_missing_or_too_long(rt: HostRuntime) -> Result<(), Fail> {
     expect_sink(&rt, &files, None)
 }
 
-// Files that hold the script, and say of every other that it is too long.
-#[derive(Drop)]
-struct LongWaves;
-
-impl Files for LongWaves {
-    ghost use Rattle.std.specs.Prelude.{None};
-
-    ghost held = { λ _. None };
-
-    ghost load_faults = { λ _. 0 };
-
-    ghost store_faults = { λ _. 0 };
-
-    fn load(&mut self, alloc: Global, name: &Text, limit: u64) -> Result<Loaded, FileFail> {
-        if name.as_slice() != b"s.graph".as_slice() || limit < SCRIPT.len() as u64 {
-            return Ok(Loaded::TooLong);
-        }
-        match Items::from_slice(alloc, SCRIPT.as_bytes()) {
-            Ok(bytes) => Ok(Loaded::Whole(bytes)),
-            Err(_memory) => Err(FileFail::Memory),
-        }
-    }
-
-    fn store(&mut self, _alloc: Global, _name: &Text, _bytes: &[u8]) -> Result<(), FileFail> {
-        Ok(())
-    }
-}
-
 #[test]
 fn a_wave_above_its_limit(rt: HostRuntime) -> Result<(), Fail> {
     let mut out = MemSink::new(rt.alloc())?;
@@ -181,7 +153,7 @@ fn a_wave_above_its_limit(rt: HostRuntime) -> Result<(), Fail> {
     expect(
         &rt,
         "run s.graph",
-        &mut LongWaves,
+        &mut LongFiles { script: SCRIPT },
         &mut out,
         limit,
         "limit 2 2\n",

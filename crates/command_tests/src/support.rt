@@ -1,8 +1,9 @@
 //! What the tests share: a run of the program on a line of words, compared with what is wanted.
 
-use pw_base::{Files, MemFiles, MemSink};
+use pw_base::{FileFail, Files, Items, Loaded, MemFiles, MemSink, Text};
 use pw_top::Status;
 use row_files::{files_of, run_line, text};
+use std::alloc::Global;
 use std::process::Abort;
 use std::sync::Wait;
 use std::test::Fail;
@@ -48,4 +49,34 @@ pub fn expect_sink<R: AllocGlobal + Abort>(
         _ => assert!(rt; false, "stored or not"),
     }
     Ok(())
+}
+
+/// Files that hold a script, and say of every other that it is too long.
+#[derive(Drop)]
+pub struct LongFiles<'a> {
+    pub script: &'a str,
+}
+
+impl<'a> Files for LongFiles<'a> {
+    ghost use Rattle.std.specs.Prelude.{None};
+
+    ghost held = { λ _. None };
+
+    ghost load_faults = { λ _. 0 };
+
+    ghost store_faults = { λ _. 0 };
+
+    fn load(&mut self, alloc: Global, name: &Text, limit: u64) -> Result<Loaded, FileFail> {
+        if name.as_slice() != b"s.graph".as_slice() || limit < self.script.len() as u64 {
+            return Ok(Loaded::TooLong);
+        }
+        match Items::from_slice(alloc, self.script.as_bytes()) {
+            Ok(bytes) => Ok(Loaded::Whole(bytes)),
+            Err(_memory) => Err(FileFail::Memory),
+        }
+    }
+
+    fn store(&mut self, _alloc: Global, _name: &Text, _bytes: &[u8]) -> Result<(), FileFail> {
+        Ok(())
+    }
 }

@@ -1,10 +1,11 @@
 //! `check SCRIPT TRACE`: what is found of a trace, and what refuses it.
 
-use crate::support::expect;
-use pw_base::{MemFiles, MemSink, Memory};
+use crate::support::{LongFiles, expect};
+use pw_base::{Items, MemFiles, MemSink, Memory, Which};
 use pw_top::Status;
-use row_files::{files_of, text};
+use row_files::{add_wave, files_of, run_line, text};
 use std::alloc::Global;
+use std::str;
 use std::test::Fail;
 
 /// A source that a meter and a sink hear; the meter drives, since its number is lower.
@@ -112,4 +113,71 @@ fn the_load_of_a_trace_fails(rt: HostRuntime) -> Result<(), Fail> {
         Status::ReadFault { place },
         "read 4294967295\n",
     )
+}
+
+#[test]
+fn a_trace_above_its_limit(rt: HostRuntime) -> Result<(), Fail> {
+    let mut out = MemSink::new(rt.alloc())?;
+    let limit = Status::Limit {
+        place: 4_294_967_295,
+        which: Which::TraceBytes,
+    };
+    expect(
+        &rt,
+        "check s.graph t.txt",
+        &mut LongFiles { script: "cycles 1" },
+        &mut out,
+        limit,
+        "limit 4294967295 11\n",
+    )
+}
+
+/// A split and a mixer whose nodes belong to four loops, in two epochs.
+const SPREAD: &str = "quantum 4\nsource s st.wav\nsplit x\nmix2 m 256 256\nsink o o.wav\nmeter p\n\
+    driver o 1\nloop x 1\nloop m 2\nloop p 3\nlink s.out x.in\nlink x.left m.a\n\
+    link x.right m.b\nlink m.out o.in\nlink m.out p.in\ncycles 5\noff s\ncycles 3\n";
+
+// Whether a line of a run's text is of an event.
+fn is_event(line: &str) -> bool {
+    let words = ["begin ", "start ", "finish ", "tick ", "end "];
+    words.iter().any(|word| line.starts_with(*word))
+}
+
+// The event lines of a run's text.
+fn events_in(alloc: Global, text: &[u8]) -> Result<Items<u8>, Memory> {
+    let mut events = Items::new(alloc);
+    for line in str::from_utf8(text).unwrap_or("").lines() {
+        if is_event(line) {
+            events.extend(line.as_bytes())?;
+            events.push(b'\n')?;
+        }
+    }
+    Ok(events)
+}
+
+#[test]
+fn what_runs_print_is_legal(rt: HostRuntime) -> Result<(), Fail> {
+    let alloc = rt.alloc();
+    let lines = [
+        "run s.graph --trace --loops 0",
+        "run s.graph --trace",
+        "run s.graph --trace --loops 2",
+        "run s.graph --trace --loops 3 --ticks 2",
+        "run s.graph --trace --loops 4 --ticks 1",
+    ];
+    for line in lines {
+        let mut files = files_of(alloc, SPREAD)?;
+        let st = [1, 10, 2, 20, 3, 30, 4, 40];
+        add_wave(alloc, &mut files, "st.wav", 2, st.as_slice())?;
+        let mut out = MemSink::new(alloc)?;
+        let status = run_line(&rt, line, &mut files, &mut out)?;
+        assert!(rt; status == Status::Ok, "{line}");
+        let events = events_in(alloc, out.bytes().as_slice())?;
+        assert!(rt; !events.as_slice().is_empty());
+        files.add_file(alloc, &text(alloc, "t.txt")?, events.as_slice())?;
+        let mut found = MemSink::new(alloc)?;
+        let line = "check s.graph t.txt";
+        expect(&rt, line, &mut files, &mut found, Status::Ok, "legal\n")?;
+    }
+    Ok(())
 }
