@@ -92,7 +92,7 @@ fn the_first_store_fails_after_each_byte(rt: HostRuntime) -> Result<(), Fail> {
     let alloc = rt.alloc();
     let whole = whole_wave(alloc)?;
     assert_eq!(rt; whole.len(), 60);
-    for kept in 0..60 {
+    for kept in 0..61 {
         let mut files = files_of_two(alloc)?;
         files.fail_store(alloc, 1, kept)?;
         let mut out = MemSink::new(alloc)?;
@@ -115,7 +115,7 @@ fn the_first_store_fails_after_each_byte(rt: HostRuntime) -> Result<(), Fail> {
 fn the_second_store_fails_after_each_byte(rt: HostRuntime) -> Result<(), Fail> {
     let alloc = rt.alloc();
     let whole = whole_wave(alloc)?;
-    for kept in 0..60 {
+    for kept in 0..61 {
         let mut files = files_of_two(alloc)?;
         files.fail_store(alloc, 2, kept)?;
         let mut out = MemSink::new(alloc)?;
@@ -153,5 +153,19 @@ fn the_put_fails_after_each_byte(rt: HostRuntime) -> Result<(), Fail> {
         expect_wave(&rt, &files, "o.wav", 1, SUMS.as_slice())?;
         expect_wave(&rt, &files, "q.wav", 1, SUMS.as_slice())?;
     }
+    Ok(())
+}
+
+#[test]
+fn a_load_and_the_put_of_its_line_fail(rt: HostRuntime) -> Result<(), Fail> {
+    let alloc = rt.alloc();
+    let mut files = files_of_two(alloc)?;
+    files.fail_load(alloc, 2)?;
+    let mut out = MemSink::new(alloc)?;
+    out.fail_put(alloc, 1, 0)?;
+    let status = Status::ReadFault { place: 2 };
+    expect(&rt, "run s.graph", &mut files, &mut out, status, "")?;
+    assert!(rt; files.file(&text(alloc, "o.wav")?).is_none());
+    assert!(rt; files.file(&text(alloc, "q.wav")?).is_none());
     Ok(())
 }
