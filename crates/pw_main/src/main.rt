@@ -4,48 +4,15 @@
 ghost use Rattle.std.specs.Prelude.{◌≡◌};
 ghost use Rattle.pw_top.specs.StatusLine.{status_number};
 
-mod disk_files;
-mod std_sink;
-
-use crate::disk_files::DiskFiles;
-use crate::std_sink::StdSink;
 use fault_messages::explain;
-use pw_base::{Every, Items, Never, Open, Sink, Ticker};
+use pw_base::{Every, Never, Open, Sink, Ticker};
 use pw_top::{Status, run_words, ticks_of};
 use std::alloc::Global;
-use std::io::ErrorKind;
 use std::process::ExitCode;
-use std::rt::Env;
+use std::rt;
 use std::sync::Wait;
 use std::thread::Threads;
-use std::{env, rt};
-
-// Ends where the words are no text, and where there is no memory for them.
-const NO_TEXT: u8 = 1;
-
-const NO_MEMORY: u8 = 9;
-
-// The words of the command line, without the program's own name.
-fn words_of<R: Env + Alloc<A = Global>>(rt: &R) -> Result<Items<String>, u8> {
-    let mut words = Items::new(rt.alloc());
-    match env::args(rt) {
-        Ok(all) => {
-            for word in all.skip(1) {
-                if words.push(word).is_err() {
-                    return Err(NO_MEMORY);
-                }
-            }
-            Ok(words)
-        }
-        Err(error) => {
-            if error.kind() == ErrorKind::OutOfMemory {
-                Err(NO_MEMORY)
-            } else {
-                Err(NO_TEXT)
-            }
-        }
-    }
-}
+use system_files::{DiskFiles, StdSink, words_of};
 
 // Does what the words ask for, over the system's files and standard output; may wait.
 fn run_by<R: Threads + Wait + Sync + Print + rt::Files + Alloc<A = Global>, K: Ticker>(

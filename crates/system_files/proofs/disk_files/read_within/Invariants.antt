@@ -1,6 +1,6 @@
 use Rattle.std.proofs.Common.{◌+◌, ◌≤◌, ◌-◌, length}
 use Rattle.std.specs.Io.KnownBytes.{Consumes}
-use Rattle.pw_main.proofs.disk_files.read_within.Given as goal
+use Rattle.system_files.proofs.disk_files.read_within.Given as goal
 
 -- what was read came from the front of what the file had
 abbrev pub invariant-loop-bytes : goal.invariant-loop-bytes

@@ -3,7 +3,7 @@
 ghost use Rattle.std.specs.Prelude.{◌≡◌, ℕ, ◌+◌, ◌≤◌, ◌<◌, ◌^◌, ◌++◌, [], take, length, IfOk};
 ghost use Rattle.std.specs.Io.KnownBytes.{Consumes, IsAtEnd};
 ghost use Rattle.pw_base.specs.Files.{IsWithin};
-ghost use Rattle.pw_main.specs.KnownFiles.{ReadsFile, WritesWhole};
+ghost use Rattle.system_files.specs.KnownFiles.{ReadsFile, WritesWhole};
 
 use pw_base::{FileFail, Files, Items, Loaded, Memory, Text};
 use std::alloc::Global;

@@ -1,8 +1,8 @@
 use Rattle.std.proofs.Common.{◌≡◌, ◌≤◌, ◌-◌, ◌+◌, length, drop, take, List, ℕ, subst, sym, ap, arith, length-drop}
 use Rattle.std.proofs.lemmas.List.{take_rest}
 use Rattle.std.specs.Io.KnownBytes.{Appends}
-use Rattle.pw_main.proofs.KnownFilesLemmas.{written_more}
-use Rattle.pw_main.proofs.disk_files.write_whole.Goals as goal
+use Rattle.system_files.proofs.KnownFilesLemmas.{written_more}
+use Rattle.system_files.proofs.disk_files.write_whole.Goals as goal
 
 pub loop-done-preserved : goal.loop-done-preserved
 loop-done-preserved g c =

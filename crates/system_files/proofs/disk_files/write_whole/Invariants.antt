@@ -1,6 +1,6 @@
 use Rattle.std.proofs.Common.{length, ◌-◌, ◌≤◌, take}
 use Rattle.std.specs.Io.KnownBytes.{Appends}
-use Rattle.pw_main.proofs.disk_files.write_whole.Given as goal
+use Rattle.system_files.proofs.disk_files.write_whole.Given as goal
 
 -- the first bytes are written
 abbrev pub invariant-loop-done : goal.invariant-loop-done

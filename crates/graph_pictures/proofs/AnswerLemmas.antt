@@ -1,0 +1,65 @@
+-- Laws of `specs/Answers.antt`: a script's names are such as lines tell; what is read after a script; words that are refused.
+use Rattle.std.proofs.Common.{◌≡◌, ℕ, ◌&&◌, true, false, List, [], ◌∷◌, length, refl, sym, ap, ◌∙◌, subst, IsTrue}
+use Rattle.std.specs.Prelude.{Result, Err, IsSome, All, nat_le}
+use Rattle.std.specs.List.{list_all}
+use Rattle.std.proofs.lemmas.Bool.{true≢false, and_parts, eqb-true, false_from_ne_true}
+use Rattle.std.proofs.lemmas.List.Elements.{All-nil, All-cons, All-weaker}
+use Rattle.std.proofs.lemmas.List.Sums.{AllPass-from_list_all}
+use Rattle.pw_base.specs.Files.{Names, Held, names_in}
+use Rattle.cycle_trace.specs.TraceReading.{is_space, AreNames}
+use Rattle.graph_script.specs.declared.script.Script.{Script}
+use Rattle.graph_script.specs.Arguments.{is_letter, is_name_byte, is_node_name}
+use Rattle.graph_script.specs.Limits.{name_rest_limit}
+use Rattle.graph_script.specs.Order.{HasOrder}
+use Rattle.graph_script.specs.Ranges.{HasRanges}
+use Rattle.graph_pictures.specs.declared.status.Status.{Status}
+use Rattle.graph_pictures.specs.declared.status.Status.TheVariants as S
+use Rattle.graph_pictures.specs.Reading.{IsScript}
+use Rattle.graph_pictures.specs.Words.{request_of, IsRead}
+use Rattle.graph_pictures.specs.Answers.{ReadsTrace, IsTimeline, IsAnswer}
+use Rattle.graph_pictures.specs.Answers.IsTimeline.{told}
+use Rattle.graph_pictures.specs.Answers.IsAnswer.{usage, short}
+
+-- the names of nodes
+letter_whole : (b : ℕ) → is_letter b ≡ true → is_space b ≡ false
+letter_whole b h = false_from_ne_true (is_space b) (λ t. let no : is_letter 32 ≡ false = refl in
+    true≢false (sym h ∙ ap is_letter (eqb-true b 32 t) ∙ no))
+
+byte_whole : (b : ℕ) → is_name_byte b ≡ true → is_space b ≡ false
+byte_whole b h = false_from_ne_true (is_space b) (λ t. let no : is_name_byte 32 ≡ false = refl in
+    true≢false (sym h ∙ ap is_name_byte (eqb-true b 32 t) ∙ no))
+
+name_whole : (name : List ℕ) → IsTrue (is_node_name name) → All (λ b. is_space b ≡ false) name
+name_whole [] h = All-nil (λ b. is_space b ≡ false)
+name_whole (first ∷ rest) h =
+    let p = and_parts (is_letter first && nat_le (length rest) name_rest_limit) (list_all is_name_byte rest) h in
+    let q = and_parts (is_letter first) (nat_le (length rest) name_rest_limit) p.0 in
+    All-cons (λ b. is_space b ≡ false) first rest (letter_whole first q.0)
+    (All-weaker (λ b. is_name_byte b ≡ true) (λ b. is_space b ≡ false) byte_whole rest (AllPass-from_list_all is_name_byte rest p.1))
+
+pub script_names : (script : Script) → HasRanges script → HasOrder script → AreNames script.names
+script_names script ranges order = record {
+  few = ranges.count;
+  each = λ k d lt. record { whole = name_whole _ (ranges.names k d lt); other = order.other k d lt };
+  distinct = order.distinct;
+}
+
+-- a trace that is read after the script, from files that hold the same
+pub trace_after : (held held' : Held) (script trace : List ℕ) (s : Script) (names : List (List ℕ)) (r : Result (List ℕ) Status)
+    → held' ≡ held → names ≡ s.names → IsScript (names_in held script) s → (IsSome held' → ReadsTrace names (names_in held' trace) r)
+    → IsSome held → IsTimeline (names_in held script) (names_in held trace) r
+trace_after held held' script trace s names r same named is read h =
+    told s is (subst (λ (ns : List (List ℕ)). ReadsTrace ns (names_in held trace) r) named
+    (subst (λ (k : Held). IsSome k → ReadsTrace names (names_in k trace) r) same read h))
+
+-- words that are refused
+pub refused_words : (names : Names) (words : List (List ℕ)) (status : Status) → IsRead (request_of words) (Err status)
+    → IsAnswer names words (Err status)
+refused_words names words S.Ok h = absurd h
+refused_words names words (S.Usage word) h = usage (S.Usage word) h refl
+refused_words names words (S.Script line why) h = absurd h
+refused_words names words (S.Absent place) h = absurd h
+refused_words names words (S.ReadFault place) h = absurd h
+refused_words names words S.WriteFault h = absurd h
+refused_words names words (S.Limit place which) h = absurd h
+refused_words names words S.Memory h = short refl

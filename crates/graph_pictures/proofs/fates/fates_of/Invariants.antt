@@ -1,0 +1,14 @@
+use Rattle.std.proofs.Common.{◌≡◌, ◌++◌, length}
+use Rattle.std.specs.Prelude.{filter_map}
+use Rattle.graph_pictures.specs.GraphLinks.{async_node, cut_at}
+use Rattle.graph_pictures.proofs.fates.fates_of.Given as goal
+
+-- what was read, and what is left
+abbrev pub invariant-loop-rest : goal.invariant-loop-rest
+invariant-loop-rest l = record {
+  late : l.late ++ filter_map (λ x. async_node x.command) l.rest ≡ filter_map (λ x. async_node x.command) l.lines;
+  cuts : l.cuts ++ filter_map (λ x. cut_at x.line x.command) l.rest ≡ filter_map (λ x. cut_at x.line x.command) l.lines;
+}
+
+abbrev pub decreases-loop-rest : goal.decreases-loop-rest
+decreases-loop-rest l = length l.rest

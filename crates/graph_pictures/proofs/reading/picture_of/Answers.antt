@@ -1,0 +1,9 @@
+use Rattle.std.proofs.Common.{subst, sym}
+use Rattle.pw_base.specs.Files.{names_in}
+use Rattle.graph_pictures.specs.Answers.{IsPicture}
+use Rattle.graph_pictures.proofs.reading.picture_of.Goals as goal
+
+pub returns-in-Timeline-clause-told : goal.returns-in-Timeline-clause-told
+returns-in-Timeline-clause-told g c = λ h.
+    subst (λ q. IsPicture (names_in (g.F.Files.held c.args.files.now)) q c.read_timeline.result) (sym c.in-Timeline.is)
+    (c.read_timeline.ensures.told h)

@@ -1,0 +1,55 @@
+-- Links of a graph as DOT edges, from the field of a port to that of another.
+-- Source: graphviz.org, "DOT Language", edges with ports.
+use Rattle.std.specs.Prelude.{ℕ, ◌==◌, ◌&&◌, ◌||◌, Bool, true, false, List, [], ◌∷◌, ◌++◌, codes, nat_lt}
+use Rattle.std.specs.Prelude.{Option, Some, None, filter_map}
+use Rattle.std.specs.List.{list_any}
+use Rattle.pw_base.specs.declared.ids.PortId.{PortId}
+use Rattle.pw_base.specs.Pools.{is_same_port}
+use Rattle.graph_script.specs.declared.command.Command.{Command}
+use Rattle.graph_script.specs.declared.command.Command.TheVariants as C
+use Rattle.graph_script.specs.declared.script.Line.{Line}
+use Rattle.graph_pictures.specs.declared.fates.Cut.{Cut}
+use Rattle.graph_pictures.specs.declared.fates.Fates.{Fates}
+use Rattle.graph_pictures.specs.Filling.{filled}
+
+-- the node of an `async` line
+abbrev pub async_node : Command → Option ℕ
+async_node (C.Async node) = Some node
+async_node other = None
+
+-- what an `unlink` line cuts, with the number of the line
+abbrev pub cut_at : ℕ → Command → Option Cut
+cut_at number (C.Unlink from to) = Some (record { line = number; from = from; to = to })
+cut_at number other = None
+
+-- what becomes of links: the nodes at which they are late, and where they are cut
+abbrev pub fates_of : List Line → Fates
+fates_of lines = record {
+  late = filter_map (λ l. async_node l.command) lines;
+  cuts = filter_map (λ l. cut_at l.line l.command) lines;
+}
+
+-- a link hands on what was made one cycle earlier: an `async` line names the node at an end of it
+abbrev pub is_late : Fates → PortId → PortId → Bool
+is_late fates from to = list_any (λ n. n == from.node || n == to.node) fates.late
+
+-- the link of a line is cut: a later `unlink` line names its two ports
+abbrev pub cuts_after : ℕ → PortId → PortId → Cut → Bool
+cuts_after number from to cut =
+    nat_lt number cut.line && (is_same_port from cut.from && is_same_port to cut.to)
+
+abbrev pub is_cut : Fates → ℕ → PortId → PortId → Bool
+is_cut fates number from to = list_any (cuts_after number from to) fates.cuts
+
+-- late links are dashed, those that are cut are grey
+abbrev pub style_text : Bool → Bool → List ℕ
+style_text false false = codes ";\n"
+style_text true false = codes " [style=dashed];\n"
+style_text false true = codes " [color=gray];\n"
+style_text true true = codes " [style=dashed, color=gray];\n"
+
+-- THE STATEMENT of the link of a line
+abbrev pub link_text : Fates → ℕ → PortId → PortId → List ℕ
+link_text fates number from to =
+    filled (codes "  n%:p% -> n%:p%") (from.node ∷ from.port ∷ to.node ∷ to.port ∷ [])
+    ++ style_text (is_late fates from to) (is_cut fates number from to)

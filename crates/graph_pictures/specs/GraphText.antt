@@ -1,0 +1,42 @@
+-- A whole graph in DOT: a statement for each line of a script that makes, marks or links nodes.
+-- Source: graphviz.org, "DOT Language": a later statement of a node or a cluster sets its
+-- attributes anew.
+use Rattle.std.specs.Prelude.{ℕ, List, [], ◌∷◌, ◌++◌, flat_map, codes}
+use Rattle.std.specs.Option.{option_map_or}
+use Rattle.graph_script.specs.declared.command.Command.{Command}
+use Rattle.graph_script.specs.declared.command.Command.TheVariants as C
+use Rattle.graph_script.specs.declared.script.Script.{Script}
+use Rattle.graph_script.specs.Kinds.{made_by}
+use Rattle.graph_pictures.specs.declared.fates.Fates.{Fates}
+use Rattle.graph_pictures.specs.Filling.{filled}
+use Rattle.graph_pictures.specs.GraphNodes.{node_text}
+use Rattle.graph_pictures.specs.GraphLinks.{fates_of, link_text}
+
+-- what stands before the statements: from left to right, nodes as records
+abbrev pub head_text : List ℕ
+head_text =
+    filled (codes "digraph pipegraph {\n  rankdir=LR; ranksep=0.7; nodesep=0.4;\n") []
+    ++ filled (codes "  fontname=\"sans-serif\"; fontsize=11;\n") []
+    ++ filled (codes "  node [shape=record, fontname=\"sans-serif\", fontsize=12];\n") []
+    ++ filled (codes "  edge [arrowsize=0.7];\n") []
+
+-- the statement of a command on the line of this number: a node; a second border and the priority
+-- of a driver candidate; a link; a border of dots for a node that is off; others draw nothing
+abbrev pub statement_text : List (List ℕ) → Fates → ℕ → Command → List ℕ
+statement_text names fates number (C.Driver node priority) =
+    filled (codes "  subgraph cluster_% { label=\"driver %\"; n%; }\n")
+    (node ∷ priority ∷ node ∷ [])
+statement_text names fates number (C.Link from to) = link_text fates number from to
+statement_text names fates number (C.On node) =
+    filled (codes "  n% [style=solid];\n") (node ∷ [])
+statement_text names fates number (C.Off node) =
+    filled (codes "  n% [style=dotted];\n") (node ∷ [])
+statement_text names fates number command =
+    option_map_or (λ m. node_text names m.0 command) (made_by command) []
+
+-- THE PICTURE of a script
+unfoldable pub graph_text : Script → List ℕ
+graph_text script = head_text
+    ++ flat_map (λ l. statement_text script.names (fates_of script.lines) l.line l.command)
+    script.lines
+    ++ filled (codes "}\n") []

@@ -1,0 +1,14 @@
+pub mod Answers
+pub mod Escaping
+pub mod Filling
+pub mod GraphLinks
+pub mod GraphNodes
+pub mod GraphText
+pub mod Reading
+pub mod Rows
+pub mod Sizes
+pub mod StatusText
+pub mod Strip
+pub mod Timeline
+pub mod TimelineText
+pub mod Words

@@ -1,0 +1,98 @@
+//! What becomes of links: at which nodes they are late, and where they are cut.
+ghost use Rattle.std.specs.Prelude.{◌≡◌, ◌++◌, option_to_list, IfOk, OnOk};
+ghost use Rattle.graph_pictures.specs.GraphLinks.{async_node, cut_at, fates_of, is_late, cuts_after, is_cut};
+
+use graph_script::{Command, Line};
+use pw_base::{Items, Memory, PortId, is_same_port};
+use std::alloc::Global;
+
+/// An `unlink` line, by its number and its ports.
+#[derive(Clone, Copy, Debug, PartialEq, Eq, Drop)]
+pub struct Cut {
+    pub line: u32,
+    pub from: PortId,
+    pub to: PortId,
+}
+
+/// The nodes that an `async` line names, and the `unlink` lines.
+#[derive(Debug, Drop)]
+pub struct Fates {
+    pub late: Items<u32>,
+    pub cuts: Items<Cut>,
+}
+
+// The node of an `async` line.
+fn async_node(command: &Command) -> Option<u32>
+    ensures { result ≡ async_node command.now }
+{
+    match command {
+        Command::Async { node } => Some(*node),
+        _ => None,
+    }
+}
+
+// What an `unlink` line cuts.
+fn cut_at(number: u32, command: &Command) -> Option<Cut>
+    ensures { result ≡ cut_at number command.now }
+{
+    match command {
+        Command::Unlink { from, to } => Some(Cut {
+            line: number,
+            from: *from,
+            to: *to,
+        }),
+        _ => None,
+    }
+}
+
+// One more, if there is one.
+fn push_some<T: Drop>(list: &mut Items<T>, item: Option<T>) -> Result<(), Memory>
+    ensures { OnOk result (list.new ≡ list.old ++ option_to_list item) }
+{
+    match item {
+        None => Ok(()),
+        Some(item) => list.push(item),
+    }
+}
+
+/// What becomes of the links of a script. Takes memory for each `async` and `unlink` line.
+pub(crate) fn fates_of(alloc: Global, lines: &[Line]) -> Result<Fates, Memory>
+    ensures { IfOk result (λ fates. fates ≡ fates_of lines.now) }
+{
+    let mut late = Items::new(alloc);
+    let mut cuts = Items::new(alloc);
+    let mut rest = lines;
+    loop {
+        match rest {
+            [] => return Ok(Fates { late, cuts }),
+            [line, more @ ..] => {
+                push_some(&mut late, async_node(&line.command))?;
+                push_some(&mut cuts, cut_at(line.line, &line.command))?;
+                rest = more;
+            }
+        }
+    }
+}
+
+/// Whether a link between these ports is late.
+pub(crate) fn is_late(fates: &Fates, from: PortId, to: PortId) -> bool
+    ensures { result ≡ is_late fates.now from to }
+{
+    let late = fates.late.as_slice();
+    late.iter().any(|n| *n == from.node || *n == to.node)
+}
+
+// Whether a line after the one of this number cuts the link between these ports.
+fn cuts_after(cut: Cut, number: u32, from: PortId, to: PortId) -> bool
+    ensures { result ≡ cuts_after number from to cut }
+{
+    number < cut.line && is_same_port(from, cut.from) && is_same_port(to, cut.to)
+}
+
+/// Whether the link of the line of this number is cut by a later line.
+pub(crate) fn is_cut(fates: &Fates, number: u32, from: PortId, to: PortId) -> bool
+    ensures { result ≡ is_cut fates.now number from to }
+{
+    let cuts = fates.cuts.as_slice();
+    cuts.iter().any(|cut| cuts_after(*cut, number, from, to))
+}

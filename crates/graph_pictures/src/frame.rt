@@ -1,0 +1,74 @@
+//! The sizes of a timeline.
+ghost use Rattle.std.specs.Prelude.{◌≡◌, ◌≤◌, ◌∷◌, max, min, length};
+ghost use Rattle.graph_pictures.specs.Rows.{widest};
+ghost use Rattle.graph_pictures.specs.Sizes.{AreSizes};
+ghost use Rattle.graph_pictures.specs.Timeline.{frame_of};
+
+use pw_base::Text;
+
+/// Where the strip begins, how wide a band of it is and how high the rows are, in points; how many
+/// bands there are; how many events are drawn, and of how many.
+#[derive(Clone, Copy, Debug, Drop)]
+pub struct Frame {
+    pub left: u64,
+    pub wide: u64,
+    pub high: u64,
+    pub bands: u64,
+    pub shown: u64,
+    pub all: u64,
+}
+
+// The bytes of a name that are counted.
+fn width_of(name: &Text) -> u64
+    ensures value { result ≡ min (length name.now) 31 }
+    ensures within { result ≤ 31 }
+{
+    if name.len() < 31 {
+        name.len() as u64
+    } else {
+        31
+    }
+}
+
+// The greater of two numbers.
+fn greater(a: u64, b: u64) -> u64
+    ensures { result ≡ max a b }
+{
+    if a < b { b } else { a }
+}
+
+// The greatest number of bytes that are counted of a name.
+#[tactic(auto, unfolding(crate::specs::Rows::widest))]
+fn widest(names: &[Text]) -> u64
+    ensures value { result ≡ widest names.now }
+    ensures within { result ≤ 31 }
+{
+    let mut most = 0;
+    let mut rest = names;
+    loop {
+        match rest {
+            [] => return most,
+            [name, more @ ..] => {
+                most = greater(most, width_of(name));
+                rest = more;
+            }
+        }
+    }
+}
+
+/// The sizes for these names, so many rows, and the first so many of so many events.
+pub(crate) fn frame_of(names: &[Text], rows: u64, shown: u64, all: u64) -> Frame
+    requires rows { rows ≤ 64 }
+    requires shown { shown ≤ 1000 }
+    ensures value { result ≡ frame_of names.now rows shown all }
+    ensures sizes { AreSizes result }
+{
+    Frame {
+        left: 48 + 8 * widest(names),
+        wide: 8 + 8 * if shown < 200 { shown } else { 200 },
+        high: 20 * rows,
+        bands: (shown + 199) / 200,
+        shown,
+        all,
+    }
+}

@@ -1,0 +1,132 @@
+//! The picture of a script's graph.
+ghost use Rattle.std.specs.Prelude.{◌≡◌, ◌++◌, OnOk, IfOk, flat_map};
+ghost use Rattle.graph_pictures.specs.GraphLinks.{style_text, link_text, fates_of};
+ghost use Rattle.graph_pictures.specs.GraphText.{head_text, statement_text, graph_text};
+
+use crate::fates::{Fates, fates_of, is_cut, is_late};
+use crate::filling::fill;
+use crate::graph_nodes::put_node;
+use graph_script::{Command, Line, Script};
+use pw_base::{Items, Memory, PortId, Text};
+use std::alloc::Global;
+
+// What ends the statement of a link.
+fn style_text(late: bool, cut: bool) -> &'static [u8]
+    ensures { result.now ≡ style_text late cut }
+{
+    match (late, cut) {
+        (false, false) => b";\n".as_slice(),
+        (true, false) => b" [style=dashed];\n".as_slice(),
+        (false, true) => b" [color=gray];\n".as_slice(),
+        (true, true) => b" [style=dashed, color=gray];\n".as_slice(),
+    }
+}
+
+// The statement of a link.
+#[tactic(auto, using(crate::proofs::Grown::texts))]
+fn put_link(
+    text: &mut Text,
+    fates: &Fates,
+    number: u32,
+    from: PortId,
+    to: PortId,
+) -> Result<(), Memory>
+    ensures { OnOk result (text.new ≡ text.old ++ link_text fates.now number from to) }
+{
+    let ends = [
+        u64::from(from.node),
+        u64::from(from.port),
+        u64::from(to.node),
+        u64::from(to.port),
+    ];
+    fill(text, b"  n%:p% -> n%:p%", &ends)?;
+    let style = style_text(is_late(fates, from, to), is_cut(fates, number, from, to));
+    text.extend(style)
+}
+
+// The statement of the command on a line.
+fn put_statement(
+    text: &mut Text,
+    names: &[Text],
+    fates: &Fates,
+    number: u32,
+    command: &Command,
+) -> Result<(), Memory>
+    ensures { OnOk result
+        (text.new ≡ text.old ++ statement_text names.now fates.now number command.now) }
+{
+    match command {
+        Command::Driver { node, priority } => fill(
+            text,
+            b"  subgraph cluster_% { label=\"driver %\"; n%; }\n",
+            &[u64::from(*node), u64::from(*priority), u64::from(*node)],
+        ),
+        Command::Link { from, to } => put_link(text, fates, number, *from, *to),
+        Command::On { node } => fill(text, b"  n% [style=solid];\n", &[u64::from(*node)]),
+        Command::Off { node } => fill(text, b"  n% [style=dotted];\n", &[u64::from(*node)]),
+        Command::Source { node, .. }
+        | Command::Square { node, .. }
+        | Command::Gain { node, .. }
+        | Command::Mix2 { node, .. }
+        | Command::Delay { node, .. }
+        | Command::Map { node, .. }
+        | Command::Split { node }
+        | Command::Sink { node, .. }
+        | Command::Meter { node } => put_node(text, names, *node, command),
+        _ => Ok(()),
+    }
+}
+
+// The statements of lines.
+fn put_statements(
+    text: &mut Text,
+    names: &[Text],
+    fates: &Fates,
+    lines: &[Line],
+) -> Result<(), Memory>
+    ensures { OnOk result (text.new ≡ text.old
+        ++ flat_map (λ l. statement_text names.now fates.now l.line l.command) lines.now) }
+{
+    for line in lines {
+        put_statement(text, names, fates, line.line, &line.command)?;
+    }
+    Ok(())
+}
+
+// What stands before the statements.
+fn put_head(text: &mut Text) -> Result<(), Memory>
+    ensures { OnOk result (text.new ≡ text.old ++ head_text) }
+{
+    fill(
+        text,
+        b"digraph pipegraph {\n  rankdir=LR; ranksep=0.7; nodesep=0.4;\n",
+        &[],
+    )?;
+    fill(text, b"  fontname=\"sans-serif\"; fontsize=11;\n", &[])?;
+    fill(
+        text,
+        b"  node [shape=record, fontname=\"sans-serif\", fontsize=12];\n",
+        &[],
+    )?;
+    fill(text, b"  edge [arrowsize=0.7];\n", &[])?;
+    Ok(())
+}
+
+/// The graph of a script in Graphviz's DOT, from left to right.
+///
+/// Each line is drawn: a node with its ports, its name and its kind; a link from port to port, a
+/// late one dashed, one that a later line cuts grey; a second border for a driver candidate, with
+/// its last priority; a border of dots for a node that is off at the end. Lines of loops, offers,
+/// buffers and cycles draw nothing. Takes memory for the text.
+#[tactic(auto, using(crate::proofs::Grown::texts), unfolding(crate::specs::GraphText::graph_text))]
+pub fn graph(alloc: Global, script: &Script) -> Result<Text, Memory>
+    ensures { IfOk result (λ text. text ≡ graph_text script.now) }
+{
+    let lines = script.lines.as_slice();
+    let fates = fates_of(alloc, lines)?;
+    let mut text = Items::new(alloc);
+    put_head(&mut text)?;
+    put_statements(&mut text, script.names.as_slice(), &fates, lines)?;
+    fill(&mut text, b"}\n", &[])?;
+    Ok(text)
+}

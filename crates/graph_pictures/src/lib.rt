@@ -1,0 +1,27 @@
+//! Pictures of a graph: its script as a graph in Graphviz's DOT, and a printed history of it as a
+//! timeline in SVG.
+//!
+//! `graph` and `timeline` make the texts; `print_picture` is the whole program, over files and an
+//! output: it reads the words of a command line, loads, and prints the picture or the line of a
+//! status. Texts are built of forms with numbers in them (`filling`) and of names and file words of
+//! the script, escaped (`escaping`).
+#![tactic(auto)]
+
+mod drawing;
+mod escaping;
+mod fates;
+mod filling;
+mod frame;
+mod graph_drawing;
+mod graph_nodes;
+mod reading;
+mod rows;
+mod status;
+mod strip;
+mod timeline_drawing;
+mod words;
+
+pub use drawing::print_picture;
+pub use graph_drawing::graph;
+pub use status::Status;
+pub use timeline_drawing::timeline;

@@ -1,0 +1,199 @@
+//! What the files of a request are read as.
+ghost use Rattle.std.specs.Prelude.{◌≡◌, ◌≤◌, ◌∷◌, [], codes, length, IsSome, IfOk};
+ghost use Rattle.pw_base.specs.Files.{names_in};
+ghost use Rattle.pw_base.specs.Limits.{script_bytes_limit};
+ghost use Rattle.cycle_trace.specs.TraceReading.{AreNames};
+ghost use Rattle.graph_script.specs.Order.{HasOrder};
+ghost use Rattle.graph_script.specs.Ranges.{HasRanges};
+ghost use Rattle.graph_pictures.specs.Filling.{filled};
+ghost use Rattle.graph_pictures.specs.Reading.{IsLoad, ReadsScript, IsTold, ParsesTo};
+ghost use Rattle.graph_pictures.specs.Answers.{IsCaused, IsGraph, ReadsTrace, IsTimeline, IsPicture};
+
+use crate::filling::fill;
+use crate::graph_drawing::graph;
+use crate::status::Status;
+use crate::timeline_drawing::timeline;
+use crate::words::Request;
+use cycle_trace::{TraceFault, read_events};
+use graph_script::{Script, ScriptFault, parse};
+use pw_base::{FileFail, Files, Items, Loaded, Memory, SCRIPT_BYTES_LIMIT, Text, Which};
+use std::alloc::Global;
+
+/// The place of the script, and that of the trace, which is no line of a script.
+const SCRIPT_PLACE: u32 = 0;
+
+const TRACE_PLACE: u32 = u32::MAX;
+
+/// The bytes of a trace, at most.
+const TRACE_BYTES: u64 = 268_435_456;
+
+// Loads the file of this name, of at most `limit` bytes.
+fn load<F: Files>(
+    alloc: Global,
+    files: &mut F,
+    place: u32,
+    name: &Text,
+    limit: u64,
+    which: Which,
+) -> Result<Items<u8>, Status>
+    ensures told { IsSome (F.held files.old)
+        → IsLoad (names_in (F.held files.old) name.now) place limit which result }
+    ensures within { IfOk result (λ bytes. length bytes ≤ limit) }
+    ensures cause { IsCaused (F.load_faults files.old) (F.load_faults files.new) result }
+    ensures held { F.held files.new ≡ F.held files.old }
+    ensures stores { F.store_faults files.new ≡ F.store_faults files.old }
+    ensures later { F.load_faults files.old ≤ F.load_faults files.new }
+{
+    match files.load(alloc, name, limit) {
+        Ok(Loaded::Whole(bytes)) => Ok(bytes),
+        Ok(Loaded::Absent) => Err(Status::Absent { place }),
+        Ok(Loaded::TooLong) => Err(Status::Limit { place, which }),
+        Err(FileFail::Failed) => Err(Status::ReadFault { place }),
+        Err(FileFail::Memory) => Err(Status::Memory),
+    }
+}
+
+// The script that bytes are.
+fn parsed(alloc: Global, bytes: &[u8]) -> Result<Script, Status>
+    requires small { length bytes.now ≤ script_bytes_limit }
+    ensures read { ParsesTo bytes.now result }
+    ensures ranges { IfOk result HasRanges }
+    ensures order { IfOk result HasOrder }
+{
+    match parse(alloc, bytes) {
+        Ok(script) => Ok(script),
+        Err(ScriptFault::At { line, why }) => Err(Status::Script { line, why }),
+        Err(ScriptFault::Memory) => Err(Status::Memory),
+    }
+}
+
+// The script of a file.
+fn read_script<F: Files>(alloc: Global, files: &mut F, name: &Text) -> Result<Script, Status>
+    ensures told { IsSome (F.held files.old)
+        → ReadsScript (names_in (F.held files.old) name.now) result }
+    ensures ranges { IfOk result HasRanges }
+    ensures order { IfOk result HasOrder }
+    ensures cause { IsCaused (F.load_faults files.old) (F.load_faults files.new) result }
+    ensures held { F.held files.new ≡ F.held files.old }
+    ensures stores { F.store_faults files.new ≡ F.store_faults files.old }
+    ensures later { F.load_faults files.old ≤ F.load_faults files.new }
+{
+    match load(
+        alloc,
+        files,
+        SCRIPT_PLACE,
+        name,
+        SCRIPT_BYTES_LIMIT,
+        Which::ScriptBytes,
+    ) {
+        Err(status) => Err(status),
+        Ok(bytes) => parsed(alloc, bytes.as_slice()),
+    }
+}
+
+// The picture of the graph of a script's file.
+fn read_graph<F: Files>(alloc: Global, files: &mut F, name: &Text) -> Result<Text, Status>
+    ensures told { IsSome (F.held files.old)
+        → IsGraph (names_in (F.held files.old) name.now) result }
+    ensures cause { IsCaused (F.load_faults files.old) (F.load_faults files.new) result }
+    ensures held { F.held files.new ≡ F.held files.old }
+    ensures stores { F.store_faults files.new ≡ F.store_faults files.old }
+{
+    match read_script(alloc, files, name) {
+        Err(status) => Err(status),
+        Ok(script) => match graph(alloc, &script) {
+            Ok(text) => Ok(text),
+            Err(_memory) => Err(Status::Memory),
+        },
+    }
+}
+
+// The line of a trace that is no event line.
+fn line_fault(alloc: Global, number: u64) -> Result<Text, Memory>
+    ensures { IfOk result (λ text. text ≡ filled (codes "line %\n") (number ∷ [])) }
+{
+    let mut text = Items::new(alloc);
+    fill(&mut text, b"line %\n", &[number])?;
+    Ok(text)
+}
+
+// What is printed of the bytes of a trace.
+fn told_of(alloc: Global, names: &Items<Text>, bytes: &[u8]) -> Result<Text, Memory>
+    requires names { AreNames names.now }
+    ensures { IfOk result (IsTold names.now bytes.now) }
+{
+    match read_events(alloc, names, bytes) {
+        Ok(events) => timeline(alloc, names, &events),
+        Err(TraceFault::Line(number)) => line_fault(alloc, number),
+        Err(TraceFault::Memory) => Err(Memory),
+    }
+}
+
+// What is printed of the trace of a file.
+fn read_trace<F: Files>(
+    alloc: Global,
+    files: &mut F,
+    names: &Items<Text>,
+    name: &Text,
+) -> Result<Text, Status>
+    requires names { AreNames names.now }
+    ensures told { IsSome (F.held files.old)
+        → ReadsTrace names.now (names_in (F.held files.old) name.now) result }
+    ensures cause { IsCaused (F.load_faults files.old) (F.load_faults files.new) result }
+    ensures held { F.held files.new ≡ F.held files.old }
+    ensures stores { F.store_faults files.new ≡ F.store_faults files.old }
+    ensures later { F.load_faults files.old ≤ F.load_faults files.new }
+{
+    match load(
+        alloc,
+        files,
+        TRACE_PLACE,
+        name,
+        TRACE_BYTES,
+        Which::TraceBytes,
+    ) {
+        Err(status) => Err(status),
+        Ok(bytes) => match told_of(alloc, names, bytes.as_slice()) {
+            Ok(text) => Ok(text),
+            Err(_memory) => Err(Status::Memory),
+        },
+    }
+}
+
+// What is printed of the trace of a file, by the script of another.
+fn read_timeline<F: Files>(
+    alloc: Global,
+    files: &mut F,
+    script: &Text,
+    trace: &Text,
+) -> Result<Text, Status>
+    ensures told { IsSome (F.held files.old)
+        → IsTimeline (names_in (F.held files.old) script.now)
+        (names_in (F.held files.old) trace.now) result }
+    ensures cause { IsCaused (F.load_faults files.old) (F.load_faults files.new) result }
+    ensures held { F.held files.new ≡ F.held files.old }
+    ensures stores { F.store_faults files.new ≡ F.store_faults files.old }
+{
+    match read_script(alloc, files, script) {
+        Err(status) => Err(status),
+        Ok(script) => read_trace(alloc, files, script.names(), trace),
+    }
+}
+
+/// The picture that a request asks for, by the files. A load that fails raises their count.
+pub(crate) fn picture_of<F: Files>(
+    alloc: Global,
+    files: &mut F,
+    request: &Request,
+) -> Result<Text, Status>
+    ensures told { IsSome (F.held files.old)
+        → IsPicture (names_in (F.held files.old)) request.now result }
+    ensures cause { IsCaused (F.load_faults files.old) (F.load_faults files.new) result }
+    ensures held { F.held files.new ≡ F.held files.old }
+    ensures stores { F.store_faults files.new ≡ F.store_faults files.old }
+{
+    match request {
+        Request::Graph { script } => read_graph(alloc, files, script),
+        Request::Timeline { script, trace } => read_timeline(alloc, files, script, trace),
+    }
+}

@@ -1,0 +1,90 @@
+//! How a call ended. The texts and the numbers are those of `pipegraph`.
+ghost use Rattle.std.specs.Prelude.{◌≡◌, ◌++◌, OnOk};
+ghost use Rattle.graph_pictures.specs.StatusText.{status_number, which_in, why_form, line_of};
+
+use crate::filling::fill;
+use graph_script::ScriptWhy;
+use pw_base::{Memory, Text, Which};
+
+/// How a call ended. A place is 0 for the script, and 4294967295 for the trace.
+#[derive(Clone, Copy, Debug, PartialEq, Eq, Drop)]
+pub enum Status {
+    /// The picture was printed, or the first line of a trace that is no event line.
+    Ok,
+    /// The words are no command line; `word` is the first at fault, or their number where more were
+    /// wanted.
+    Usage { word: u32 },
+    /// The script's first line at fault.
+    Script { line: u32, why: ScriptWhy },
+    /// A file that is not there.
+    Absent { place: u32 },
+    /// A load that failed.
+    ReadFault { place: u32 },
+    /// A put of the picture that failed.
+    WriteFault,
+    /// A file that is longer than its limit.
+    Limit { place: u32, which: Which },
+    /// No memory was left.
+    Memory,
+}
+
+impl Status {
+    /// Its number, with which the program ends: 0 to 9.
+    pub fn number(&self) -> u8
+        ensures { result ≡ status_number self.now }
+    {
+        match self {
+            Status::Ok => 0,
+            Status::Usage { .. } => 1,
+            Status::Script { .. } => 2,
+            Status::Absent { .. } => 5,
+            Status::ReadFault { .. } => 6,
+            Status::WriteFault => 7,
+            Status::Limit { .. } => 8,
+            Status::Memory => 9,
+        }
+    }
+}
+
+// The quantity of which a script has too much.
+fn which_in(why: ScriptWhy) -> u64
+    ensures { result ≡ which_in why }
+{
+    match why {
+        ScriptWhy::TooMany(which) => u64::from(which.number()),
+        _ => 0,
+    }
+}
+
+// The form of the line of a script's fault.
+fn why_form(why: ScriptWhy) -> &'static [u8]
+    ensures { result.now ≡ why_form why }
+{
+    match why {
+        ScriptWhy::TooMany(_) => b"script % % %\n".as_slice(),
+        _ => b"script % %\n".as_slice(),
+    }
+}
+
+/// The line of a status at the end of a text; of `Ok` and of `WriteFault` nothing.
+pub(crate) fn put_status(text: &mut Text, status: Status) -> Result<(), Memory>
+    ensures { OnOk result (text.new ≡ text.old ++ line_of status) }
+{
+    match status {
+        Status::Ok | Status::WriteFault => Ok(()),
+        Status::Usage { word } => fill(text, b"usage %\n", &[u64::from(word)]),
+        Status::Script { line, why } => fill(
+            text,
+            why_form(why),
+            &[u64::from(line), u64::from(why.number()), which_in(why)],
+        ),
+        Status::Absent { place } => fill(text, b"absent %\n", &[u64::from(place)]),
+        Status::ReadFault { place } => fill(text, b"read %\n", &[u64::from(place)]),
+        Status::Limit { place, which } => fill(
+            text,
+            b"limit % %\n",
+            &[u64::from(place), u64::from(which.number())],
+        ),
+        Status::Memory => text.extend(b"memory\n"),
+    }
+}

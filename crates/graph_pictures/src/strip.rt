@@ -1,0 +1,149 @@
+//! The marks of events at the end of a text. After `Memory` the text has a part of them.
+ghost use Rattle.std.specs.Prelude.{◌≡◌, ◌*◌, ◌≤◌, ◌++◌, ◌∷◌, [], length, flat_map, codes, OnOk};
+ghost use Rattle.cycle_trace.specs.EventLines.{late_nodes};
+ghost use Rattle.graph_pictures.specs.Filling.{filled};
+ghost use Rattle.std.specs.List.{position_or_len};
+ghost use Rattle.graph_pictures.specs.Strip.{row_of, middle_of, is_finish, span_of, late_text, event_text, strip_text};
+
+use crate::filling::fill;
+use pw_base::{DUMMY, Event, Memory, Text};
+
+// The middle of a node's row.
+fn middle_of(count: u64, node: u32) -> u64
+    requires { count ≤ 63 }
+    ensures { result ≡ middle_of (row_of count node) }
+{
+    if node == DUMMY {
+        28 + 20 * count
+    } else {
+        28 + 20 * u64::from(node)
+    }
+}
+
+// Whether an event is the finish of a node in a cycle.
+fn is_finish(event: Event, cycle: u32, node: u32) -> bool
+    ensures { result ≡ is_finish cycle node event }
+{
+    match event {
+        Event::Finish { cycle: c, node: n } => c == cycle && n == node,
+        _ => false,
+    }
+}
+
+// How many events stand before the finish of a node in a cycle, if there is one, or before the end.
+fn before_finish(cycle: u32, node: u32, after: &[Event]) -> usize
+    ensures value { result ≡ position_or_len (is_finish cycle node) after.now }
+    ensures within { result ≤ length after.now }
+{
+    after
+        .iter()
+        .take_while(|event| !is_finish(**event, cycle, node))
+        .count()
+}
+
+// How many events the bar of a node goes over.
+fn span_of(cycle: u32, node: u32, after: &[Event]) -> u64
+    requires { length after.now ≤ 1000 }
+    ensures value { result ≡ span_of cycle node after.now }
+    ensures within { result ≤ 1001 }
+{
+    1 + before_finish(cycle, node, after) as u64
+}
+
+// The diamond of a late node.
+fn put_late_node(text: &mut Text, count: u64, index: u64, node: u32) -> Result<(), Memory>
+    requires count { count ≤ 63 }
+    requires index { index ≤ 1000 }
+    ensures { OnOk result (text.new ≡ text.old ++ late_text count index node) }
+{
+    let at = [8 * index, middle_of(count, node)];
+    fill(text, b"<path class='l' d='M% %m-4 0l4-4 4 4-4 4z'/>\n", &at)
+}
+
+// The diamonds of a set of nodes.
+fn put_late_nodes(text: &mut Text, count: u64, index: u64, late: u64) -> Result<(), Memory>
+    requires count { count ≤ 63 }
+    requires index { index ≤ 1000 }
+    ensures { OnOk result (text.new ≡ text.old
+        ++ flat_map (late_text count index) (late_nodes late)) }
+{
+    for n in 0..64u32 {
+        if (late >> n) % 2 == 1 {
+            put_late_node(text, count, index, n)?;
+        }
+    }
+    Ok(())
+}
+
+// The rule of a late check, and its diamonds.
+#[tactic(auto, using(crate::proofs::Grown::texts))]
+fn put_tick(text: &mut Text, count: u64, high: u64, index: u64, late: u64) -> Result<(), Memory>
+    requires count { count ≤ 63 }
+    requires index { index ≤ 1000 }
+    ensures { OnOk result (text.new ≡ text.old
+        ++ (filled (codes "<path class='t' d='M% 18v%'/>\n") (8 * index ∷ high ∷ [])
+        ++ flat_map (late_text count index) (late_nodes late))) }
+{
+    fill(text, b"<path class='t' d='M% 18v%'/>\n", &[8 * index, high])?;
+    put_late_nodes(text, count, index, late)
+}
+
+// The marks of an event.
+#[tactic(auto, unfolding(crate::specs::Strip::event_text))]
+fn put_event(
+    text: &mut Text,
+    count: u64,
+    high: u64,
+    index: u64,
+    event: Event,
+    after: &[Event],
+) -> Result<(), Memory>
+    requires count { count ≤ 63 }
+    requires high { high ≤ 1280 }
+    requires index { index ≤ 1000 }
+    requires after { length after.now ≤ 1000 }
+    ensures { OnOk result (text.new ≡ text.old ++ event_text count high index event after.now) }
+{
+    let x = 8 * index;
+    match event {
+        Event::Begin { cycle } => fill(
+            text,
+            b"<path class='c' d='M% 4v%'/><text x='%' y='12'>%</text>\n",
+            &[x, 14 + high, x + 3, u64::from(cycle)],
+        ),
+        Event::Start { cycle, node } => {
+            let span = span_of(cycle, node, after);
+            let bar = [x, middle_of(count, node), 8 * span];
+            fill(text, b"<path class='b' d='M% %h%'/>\n", &bar)
+        }
+        Event::Tick { late, .. } => put_tick(text, count, high, index, late),
+        _ => Ok(()),
+    }
+}
+
+/// The marks of events.
+#[tactic(auto, using(crate::proofs::Grown::texts), unfolding(crate::specs::Strip::strip_text))]
+pub(crate) fn put_strip(
+    text: &mut Text,
+    count: u64,
+    high: u64,
+    events: &[Event],
+) -> Result<(), Memory>
+    requires count { count ≤ 63 }
+    requires high { high ≤ 1280 }
+    requires few { length events.now ≤ 1000 }
+    ensures { OnOk result (text.new ≡ text.old ++ strip_text count high 0 events.now) }
+{
+    let mut index = 0;
+    let mut rest = events;
+    loop {
+        match rest {
+            [] => return Ok(()),
+            [event, after @ ..] => {
+                put_event(text, count, high, index, *event, after)?;
+                index += 1;
+                rest = after;
+            }
+        }
+    }
+}

@@ -1,0 +1,120 @@
+//! The words of a command line.
+ghost use Rattle.std.specs.Prelude.{◌≡◌, map, string_bytes, Ok};
+ghost use Rattle.graph_pictures.specs.Words.{is_file_word, graph_of, timeline_behind, timeline_of, request_of, IsRead};
+ghost use Rattle.graph_pictures.specs.declared.words.Request.TheVariants as R;
+
+use crate::status::Status;
+use pw_base::{Items, Text};
+use std::alloc::Global;
+
+/// What words ask for: a picture of a script's graph, or a timeline of a trace of it.
+#[derive(Drop)]
+pub enum Request {
+    Graph { script: Text },
+    Timeline { script: Text, trace: Text },
+}
+
+// Whether a word may name a file.
+fn is_file_word(word: &String) -> bool
+    ensures { result ≡ is_file_word (string_bytes word.now) }
+{
+    let bytes = word.as_bytes();
+    match bytes {
+        [] => false,
+        [first, ..] => *first != b'-' && bytes.len() <= 255,
+    }
+}
+
+// The request of a graph.
+fn graph_request(alloc: Global, script: &String) -> Result<Request, Status>
+    ensures { IsRead (Ok (R.Graph (string_bytes script.now))) result }
+{
+    match Items::from_slice(alloc, script.as_bytes()) {
+        Ok(script) => Ok(Request::Graph { script }),
+        Err(_memory) => Err(Status::Memory),
+    }
+}
+
+// The request of a timeline.
+fn timeline_request(alloc: Global, script: &String, trace: &String) -> Result<Request, Status>
+    ensures { IsRead (Ok (R.Timeline (string_bytes script.now) (string_bytes trace.now))) result }
+{
+    match Items::from_slice(alloc, script.as_bytes()) {
+        Err(_memory) => Err(Status::Memory),
+        Ok(script) => match Items::from_slice(alloc, trace.as_bytes()) {
+            Ok(trace) => Ok(Request::Timeline { script, trace }),
+            Err(_memory) => Err(Status::Memory),
+        },
+    }
+}
+
+// The words behind `graph`.
+fn read_graph(alloc: Global, rest: &[String]) -> Result<Request, Status>
+    ensures { IsRead (graph_of (map string_bytes rest.now)) result }
+{
+    match rest {
+        [] => Err(Status::Usage { word: 1 }),
+        [script, more @ ..] => {
+            if !is_file_word(script) {
+                Err(Status::Usage { word: 1 })
+            } else if more.is_empty() {
+                graph_request(alloc, script)
+            } else {
+                Err(Status::Usage { word: 2 })
+            }
+        }
+    }
+}
+
+// The words behind the script of a timeline.
+fn read_trace(alloc: Global, script: &String, rest: &[String]) -> Result<Request, Status>
+    ensures { IsRead (timeline_behind (string_bytes script.now) (map string_bytes rest.now))
+        result }
+{
+    match rest {
+        [] => Err(Status::Usage { word: 2 }),
+        [trace, more @ ..] => {
+            if !is_file_word(trace) {
+                Err(Status::Usage { word: 2 })
+            } else if more.is_empty() {
+                timeline_request(alloc, script, trace)
+            } else {
+                Err(Status::Usage { word: 3 })
+            }
+        }
+    }
+}
+
+// The words behind `timeline`.
+fn read_timeline(alloc: Global, rest: &[String]) -> Result<Request, Status>
+    ensures { IsRead (timeline_of (map string_bytes rest.now)) result }
+{
+    match rest {
+        [] => Err(Status::Usage { word: 1 }),
+        [script, more @ ..] => {
+            if is_file_word(script) {
+                read_trace(alloc, script, more)
+            } else {
+                Err(Status::Usage { word: 1 })
+            }
+        }
+    }
+}
+
+/// What the words ask for, or the first word at fault.
+pub(crate) fn read_words(alloc: Global, words: &[String]) -> Result<Request, Status>
+    ensures { IsRead (request_of (map string_bytes words.now)) result }
+{
+    match words {
+        [] => Err(Status::Usage { word: 0 }),
+        [name, rest @ ..] => {
+            if name.as_bytes() == b"graph".as_slice() {
+                read_graph(alloc, rest)
+            } else if name.as_bytes() == b"timeline".as_slice() {
+                read_timeline(alloc, rest)
+            } else {
+                Err(Status::Usage { word: 0 })
+            }
+        }
+    }
+}

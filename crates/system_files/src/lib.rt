@@ -1,0 +1,11 @@
+//! The outside of a program: the words of its command line, the files of the system, and standard
+//! output.
+#![tactic(auto)]
+
+mod command_line;
+mod disk_files;
+mod std_sink;
+
+pub use command_line::words_of;
+pub use disk_files::DiskFiles;
+pub use std_sink::StdSink;
