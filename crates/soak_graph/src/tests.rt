@@ -1,15 +1,11 @@
 //! The values are those of a Python program of ten lines, written from the definition of the draws: it steps one
 //! integer, takes it modulo 2**64, and draws chain after chain.
-ghost use Rattle.pw_base.specs.SoundPlan.{IsSoundPlan};
-
-use crate::{Generated, generate, soak_line, soak_text};
+use crate::{Generated, generate, soak_text};
 use graph_plan::plan;
 use graph_script::Command;
-use pw_base::{Items, Memory, Plan, Text};
+use pw_base::{Memory, Text};
 use std::alloc::Global;
 use std::process::Abort;
-use std::test::Fail;
-use wav_files::{Kept, Outcome, Peak, Wav};
 
 fn made(rt: &impl Abort, alloc: Global, number: u32) -> Generated {
     match generate(alloc, number) {
@@ -168,27 +164,25 @@ fn the_script_of_a_number_is_read_from_its_text(rt: HostRuntime) {
     }
 }
 
-fn planned(rt: &impl Abort, alloc: Global, number: u32) -> Plan
-    ensures { IsSoundPlan result }
-{
-    let Generated {
-        script,
-        ports,
-        waves,
-    } = made(rt, alloc, number);
-    match plan(alloc, &script, &waves, ports) {
-        Ok(planned) => planned,
-        Err(_fault) => panic!(rt; "it passes no limit"),
-    }
-}
-
 // 100 of the 256 quanta of each wave are given in the first epoch, and 50 in the second but for the source that is
 // off then, which has 156 left. Its one link is not in the second epoch.
 #[test]
 fn the_plan_has_306_cycles(rt: HostRuntime) {
     let alloc = rt.alloc();
     for number in [0, 7, 4294967295] {
-        let planned = planned(&rt, alloc, number);
+        let made = match generate(alloc, number) {
+            Ok(made) => made,
+            Err(Memory) => panic!(rt; "there is memory"),
+        };
+        let Generated {
+            script,
+            ports,
+            waves,
+        } = made;
+        let planned = match plan(alloc, &script, &waves, ports) {
+            Ok(planned) => planned,
+            Err(_fault) => panic!(rt; "it passes no limit"),
+        };
         assert_eq!(rt; (planned.quantum, planned.nodes.len()), (256, 26));
         let [first, second, third] = planned.epochs.as_slice() else {
             panic!(rt; "it has three epochs");
@@ -202,32 +196,4 @@ fn the_plan_has_306_cycles(rt: HostRuntime) {
         );
         assert_eq!(rt; links, (32, 31, 32), "{number}");
     }
-}
-
-// Three samples of mono, the last the least that there is; then of a run that keeps nothing.
-#[test]
-fn the_line_of_what_is_kept(rt: HostRuntime) -> Result<(), Fail> {
-    let alloc = rt.alloc();
-    let planned = planned(&rt, alloc, 7);
-    let mut outcome = Outcome {
-        history: Items::new(alloc),
-        sinks: Items::new(alloc),
-        peaks: Items::new(alloc),
-    };
-    let line = soak_line(alloc, 7, &planned, &outcome)?;
-    assert!(rt; line.as_slice() == b"soak 7 306 0 0 0\n".as_slice());
-    let samples = Items::from_slice(alloc, [7, -9, -32768].as_slice())?;
-    let wav = Wav {
-        rate: 48000,
-        channels: 1,
-        samples,
-    };
-    outcome.sinks.push(Kept { node: 24, wav })?;
-    outcome.peaks.push(Peak {
-        node: 25,
-        value: 32768,
-    })?;
-    let line = soak_line(alloc, 4294967295, &planned, &outcome)?;
-    assert!(rt; line.as_slice() == b"soak 4294967295 306 3 -32770 32768\n".as_slice());
-    Ok(())
 }
