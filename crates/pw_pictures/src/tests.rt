@@ -1,0 +1,182 @@
+//! What is printed of words and files.
+
+use graph_pictures::{Status, print_picture};
+use graph_script::ScriptWhy;
+use pw_base::{Items, Memory, SureFiles, SureSink, Text};
+use std::alloc::Global;
+use std::process::Abort;
+use std::test::Fail;
+
+// A text of its own.
+fn text(alloc: Global, text: &str) -> Result<Text, Memory> {
+    Items::from_slice(alloc, text.as_bytes())
+}
+
+// The words of a line, which blanks part.
+fn words_of(alloc: Global, line: &str) -> Result<Items<String>, Memory> {
+    let mut words = Items::new(alloc);
+    for word in line.split_whitespace() {
+        let word = String::from_str(alloc, word)?;
+        words.push(word)?;
+    }
+    Ok(words)
+}
+
+// What the words of a line print, where `s` and `t` hold these texts, is this text, with this
+// status.
+fn expect<R: AllocGlobal + Abort>(
+    rt: &R,
+    line: &str,
+    script: &str,
+    trace: &str,
+    status: Status,
+    wanted: &str,
+) -> Result<(), Memory> {
+    let alloc = rt.alloc();
+    let words = words_of(alloc, line)?;
+    let mut files = SureFiles::new(alloc)?;
+    files.add_file(alloc, &text(alloc, "s")?, script.as_bytes())?;
+    files.add_file(alloc, &text(alloc, "t")?, trace.as_bytes())?;
+    let mut out = SureSink::new(alloc)?;
+    let ended = print_picture(alloc, words.as_slice(), &mut files, &mut out);
+    assert!(rt; ended == status, "{line}");
+    assert!(rt; out.bytes().as_slice() == wanted.as_bytes(), "{line}");
+    Ok(())
+}
+
+#[test]
+fn a_graph_shows_each_kind_and_link(rt: HostRuntime) -> Result<(), Fail> {
+    let script = "quantum 4\nsource s a\"b\\{c}|<d>&e.wav\nsquare q 48000 2 100 8000\ngain g -128\n\
+        mix2 m 256 -1\ndelay d 480\nmap p 2 1,0\nsplit t\nsink o o.wav\nmeter l\ndriver o 7\n\
+        driver l 3\nasync d\nlink s.out g.in\nlink g.out m.a\nlink d.out m.b\nlink m.out d.in\n\
+        unlink g.out m.a\nlink t.right o.in\noff q\non q\noff p\ncycles 2\n";
+    let wanted = "digraph pipegraph {\n  rankdir=LR; ranksep=0.7; nodesep=0.4;\n\
+        \x20 fontname=\"sans-serif\"; fontsize=11;\n\
+        \x20 node [shape=record, fontname=\"sans-serif\", fontsize=12];\n\
+        \x20 edge [arrowsize=0.7];\n\
+        \x20 n0 [label=\"{s\\nsource a\\\"b\\\\\\{c\\}\\|\\<d\\>&amp;e.wav|{<p0> out}}\"];\n\
+        \x20 n1 [label=\"{q\\nsquare 48000 2 100 8000|{<p0> out}}\"];\n\
+        \x20 n2 [label=\"{{<p0> in}|g\\ngain -128|{<p1> out}}\"];\n\
+        \x20 n3 [label=\"{{<p0> a|<p1> b}|m\\nmix2 256 -1|{<p2> out}}\"];\n\
+        \x20 n4 [label=\"{{<p0> in}|d\\ndelay 480|{<p1> out}}\"];\n\
+        \x20 n5 [label=\"{{<p0> in}|p\\nmap 2 1,0|{<p1> out}}\"];\n\
+        \x20 n6 [label=\"{{<p0> in}|t\\nsplit|{<p1> left|<p2> right}}\"];\n\
+        \x20 n7 [label=\"{{<p0> in}|o\\nsink o.wav}\"];\n\
+        \x20 n8 [label=\"{{<p0> in}|l\\nmeter}\"];\n\
+        \x20 subgraph cluster_7 { label=\"driver 7\"; n7; }\n\
+        \x20 subgraph cluster_8 { label=\"driver 3\"; n8; }\n\
+        \x20 n0:p0 -> n2:p0;\n\
+        \x20 n2:p1 -> n3:p0 [color=gray];\n\
+        \x20 n4:p1 -> n3:p1 [style=dashed];\n\
+        \x20 n3:p2 -> n4:p0 [style=dashed];\n\
+        \x20 n6:p2 -> n7:p0;\n\
+        \x20 n1 [style=dotted];\n\
+        \x20 n1 [style=solid];\n\
+        \x20 n5 [style=dotted];\n\
+        }\n";
+    expect(&rt, "graph s", script, "", Status::Ok, wanted)?;
+    Ok(())
+}
+
+// Two nodes, of which one may drive.
+const TWO: &str = "quantum 4\nsquare a 48000 1 4 9\nsink o o.wav\nlink a.out o.in\ncycles 2\n";
+
+#[test]
+fn a_timeline_shows_bars_and_late_checks(rt: HostRuntime) -> Result<(), Fail> {
+    let trace =
+        "begin 0\nstart 0 a\ntick 0 a o\nstart 0 dummy\nfinish 0 a\nstart 0 o\nfinish 0 o\nfinish 0 dummy\nend 0\nbegin 1\nstart 1 a\nfinish 1 a\nstart 1 o\n";
+    let wanted =
+        "<svg xmlns='http://www.w3.org/2000/svg' xmlns:xlink='http://www.w3.org/1999/xlink' version='1.1' width='184' height='120'>\n\
+        <style>text{font:12px monospace}.n{text-anchor:end}.r{stroke:gainsboro}\n\
+        .c{stroke:gray}.b{stroke:steelblue;stroke-width:12}\n\
+        .t{stroke:red;stroke-dasharray:4 2}.l{fill:red}</style>\n\
+        <path fill='white' d='M0 0H9999V9999H0z'/><text x='8' y='16'>13 events</text>\n\
+        <defs><g id='rows'>\n\
+        <path class='r' d='M56 28h112'/><text class='n' x='48' y='32'>a</text>\n\
+        <path class='r' d='M56 48h112'/><text class='n' x='48' y='52'>o</text>\n\
+        <path class='r' d='M56 68h112'/><text class='n' x='48' y='72'>dummy</text>\n\
+        </g>\n\
+        <g id='strip' transform='translate(4,0)'>\n\
+        <path class='c' d='M0 4v74'/><text x='3' y='12'>0</text>\n\
+        <path class='b' d='M8 28h24'/>\n\
+        <path class='t' d='M16 18v60'/>\n\
+        <path class='l' d='M16 28m-4 0l4-4 4 4-4 4z'/>\n\
+        <path class='l' d='M16 48m-4 0l4-4 4 4-4 4z'/>\n\
+        <path class='b' d='M24 68h32'/>\n\
+        <path class='b' d='M40 48h8'/>\n\
+        <path class='c' d='M72 4v74'/><text x='75' y='12'>1</text>\n\
+        <path class='b' d='M80 28h8'/>\n\
+        <path class='b' d='M96 48h8'/>\n\
+        </g></defs>\n\
+        <g transform='translate(0,24)'><use xlink:href='#rows'/><svg x='56' width='112' height='84' viewBox='0 0 112 84'><use xlink:href='#strip'/></svg></g>\n\
+        </svg>\n";
+    expect(&rt, "timeline s t", TWO, trace, Status::Ok, wanted)?;
+    Ok(())
+}
+
+#[test]
+fn a_trace_is_refused_at_its_first_line_that_is_none(rt: HostRuntime) -> Result<(), Fail> {
+    expect(
+        &rt,
+        "timeline s t",
+        TWO,
+        "begin 0\nstart 0 b\n",
+        Status::Ok,
+        "line 2\n",
+    )?;
+    expect(
+        &rt,
+        "timeline s t",
+        TWO,
+        "begin 00\n",
+        Status::Ok,
+        "line 1\n",
+    )?;
+    Ok(())
+}
+
+#[test]
+fn words_and_files_are_refused_by_cause(rt: HostRuntime) -> Result<(), Fail> {
+    let usage = |word| Status::Usage { word };
+    let table = [
+        ("", usage(0), "usage 0\n"),
+        ("run s", usage(0), "usage 0\n"),
+        ("graph", usage(1), "usage 1\n"),
+        ("graph -s", usage(1), "usage 1\n"),
+        ("graph s t", usage(2), "usage 2\n"),
+        ("timeline", usage(1), "usage 1\n"),
+        ("timeline s", usage(2), "usage 2\n"),
+        ("timeline s -t", usage(2), "usage 2\n"),
+        ("timeline s t u", usage(3), "usage 3\n"),
+        ("graph u", Status::Absent { place: 0 }, "absent 0\n"),
+        (
+            "timeline s u",
+            Status::Absent { place: 4294967295 },
+            "absent 4294967295\n",
+        ),
+    ];
+    for (line, status, wanted) in table {
+        expect(&rt, line, TWO, "", status, wanted)?;
+    }
+    let late = Status::Script {
+        line: 2,
+        why: ScriptWhy::QuantumLate,
+    };
+    expect(
+        &rt,
+        "graph s",
+        "drain\nquantum 4\n",
+        "",
+        late,
+        "script 2 9\n",
+    )?;
+    expect(
+        &rt,
+        "timeline s t",
+        "drain\nquantum 4\n",
+        "x",
+        late,
+        "script 2 9\n",
+    )?;
+    Ok(())
+}
