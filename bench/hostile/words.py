@@ -40,6 +40,12 @@ def odd_words(place):
             (["run", "a"] + ["b"] * 100000, 1, "usage 2\n"),
             (["run", "a"] + ["--trace"] * 100000, 1, "usage 3\n"),
             ([""] * 100000, 1, "usage 0\n"), (["dump", "a"] + ["b" * 10] * 100000, 1, "usage 2\n"),
+            (["soak"], 1, "usage 1\n"), (["soak", ""], 1, "usage 1\n"),
+            (["soak", "-0"], 1, "usage 1\n"), (["soak", "00"], 1, "usage 1\n"),
+            (["soak", "1٣"], 1, "usage 1\n"), (["soak", "4294967296"], 1, "usage 1\n"),
+            (["soak", "9" * 100000], 1, "usage 1\n"), (["soak", "7", "8"], 1, "usage 2\n"),
+            (["soak", "7", "--loops"], 1, "usage 2\n"),
+            (["soak", "7"], 0, "soak 7 306 78336 -7763562 32768\n"),
             (["run", "a\nb"], 5, "absent 0\n"), (["run", "no/such/folder"], 5, "absent 0\n")]:
         place.expect(f"{len(words)} words {[w[:20] for w in words[:5]]}", words, status, line)
     for words in [[b"\xff"], [b"run", b"\xff"], [b"run", b"a", b"\xc3"],

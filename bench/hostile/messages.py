@@ -1,0 +1,67 @@
+"""The sentences for people."""
+import os
+import subprocess
+
+SYNOPSIS = """usage: pipegraph run SCRIPT [--loops N] [--ticks N] [--trace]
+       pipegraph dump FILE
+       pipegraph filter A B OUT
+       pipegraph automate IN SEQ OUT
+       pipegraph check SCRIPT TRACE
+       pipegraph soak NUMBER
+"""
+
+
+def told(place, words, errors=subprocess.PIPE, **how):
+    """Status, output and what stands on standard error."""
+    done = subprocess.run([place.program, *words], cwd=place.folder, stdin=subprocess.DEVNULL,
+                          stdout=subprocess.PIPE, stderr=errors, timeout=60, **how)
+    return done.returncode, done.stdout, done.stderr
+
+
+def sentences(place):
+    """Sentences on standard error, and what they leave alone."""
+    place.file("take.graph", "gain g 1\n# a word\non vox\n")
+    place.file("pair.graph", "gain g 1\nlink g.out v.in\n")
+    place.file("wav.graph", "source vox vox.wav\n")
+    place.file("gone.graph", "source vox gone.wav\n")
+    place.file("pod.graph", "gain g 1\noffer g in vox.wav\n")
+    place.file("vox.wav", b"RIFX" + bytes(40))
+    place.file("fine.graph", "cycles 1\n")
+    place.file("store.graph", "square s 48000 1 4 9\nsink o no/o.wav\nlink s.out o.in\ncycles 1\n")
+    for words, status, line, sentence in [
+            (["run", "take.graph"], 2, "script 3 7\n", 'take.graph:3: no node is called "vox"'),
+            (["run", "pair.graph", "--loops", "2"], 2, "script 2 7\n",
+             'pair.graph:2: "g.out" or "v.in" names no node'),
+            (["run", "wav.graph"], 3, "wav 1 1\n",
+             "wav.graph:1: vox.wav: this is no RIFF WAVE file"),
+            (["run", "gone.graph"], 5, "absent 1\n",
+             "gone.graph:1: gone.wav: there is no such file"),
+            (["run", "none.graph"], 5, "absent 0\n", "none.graph: there is no such file"),
+            (["run", "."], 6, "read 0\n", ".: the file cannot be read"),
+            (["run", "pod.graph"], 4, "pod 2 2 4 0\n",
+             "pod.graph:2: vox.wav: a type that is not read, at byte 4"),
+            (["run", "store.graph"], 7, "write 2\n",
+             "store.graph:2: no/o.wav: the file cannot be written"),
+            (["dump", "vox.wav"], 4, "pod 1 2 4 0\n",
+             "vox.wav: a type that is not read, at byte 4"),
+            (["check", "fine.graph", "none"], 5, "absent 4294967295\n",
+             "none: there is no such file")]:
+        wanted = status, line.encode(), f"pipegraph: {sentence}\n".encode()
+        place.same(" ".join(words), wanted, told(place, words))
+        for how in ["/dev/full", os.devnull]:
+            with open(how, "wb") as errors:
+                place.same(f"{words} to {how}", wanted[:2], told(place, words, errors)[:2])
+        place.same(f"{words} without one", wanted[:2],
+                   told(place, words, preexec_fn=lambda: os.close(2))[:2])
+    for words, sentence in [
+            ([], "a word is missing"), (["run"], "a word is missing"),
+            (["play"], 'this word is wrong here: "play"'),
+            (["soak", "07"], 'this word is wrong here: "07"')]:
+        place.same(" ".join(words), f"pipegraph: {sentence}\n{SYNOPSIS}".encode(),
+                   told(place, words)[2])
+    place.same("nothing where all was done", b"", told(place, ["run", "fine.graph"])[2])
+    with open("/dev/full", "wb") as full:
+        done = subprocess.run([place.program, "run", "fine.graph", "--trace"], cwd=place.folder,
+                              stdin=subprocess.DEVNULL, stdout=full, stderr=subprocess.PIPE, timeout=60)
+    place.same("a full output", (7, b"pipegraph: standard output cannot be written\n"),
+               (done.returncode, done.stderr))
