@@ -38,12 +38,12 @@ def sentences(place):
              "gone.graph:1: gone.wav: there is no such file"),
             (["run", "none.graph"], 5, "absent 0\n", "none.graph: there is no such file"),
             (["run", "."], 6, "read 0\n", ".: the file cannot be read"),
-            (["run", "pod.graph"], 4, "pod 2 2 4 0\n",
-             "pod.graph:2: vox.wav: a type that is not read, at byte 4"),
+            (["run", "pod.graph"], 4, "pod 2 6 1481001298\n",
+             "pod.graph:2: vox.wav: a POD of more than 1048576 bytes: 1481001298"),
             (["run", "store.graph"], 7, "write 2\n",
              "store.graph:2: no/o.wav: the file cannot be written"),
-            (["dump", "vox.wav"], 4, "pod 1 2 4 0\n",
-             "vox.wav: a type that is not read, at byte 4"),
+            (["dump", "vox.wav"], 4, "pod 1 6 1481001298\n",
+             "vox.wav: a POD of more than 1048576 bytes: 1481001298"),
             (["check", "fine.graph", "none"], 5, "absent 4294967295\n",
              "none: there is no such file")]:
         wanted = status, line.encode(), f"pipegraph: {sentence}\n".encode()
@@ -62,6 +62,7 @@ def sentences(place):
     place.same("nothing where all was done", b"", told(place, ["run", "fine.graph"])[2])
     with open("/dev/full", "wb") as full:
         done = subprocess.run([place.program, "run", "fine.graph", "--trace"], cwd=place.folder,
-                              stdin=subprocess.DEVNULL, stdout=full, stderr=subprocess.PIPE, timeout=60)
+                              stdin=subprocess.DEVNULL, stdout=full, stderr=subprocess.PIPE,
+                              timeout=60)
     place.same("a full output", (7, b"pipegraph: standard output cannot be written\n"),
                (done.returncode, done.stderr))
