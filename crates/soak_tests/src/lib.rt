@@ -1,0 +1,11 @@
+//! Tests of whole runs of the graph that is drawn from a number: what its sink and its meter keep,
+//! beside a fold by plain loops that calls nothing of the engine.
+#![tactic(auto)]
+
+#[cfg(test)]
+mod plain;
+#[cfg(test)]
+mod soak;
+mod work;
+
+pub use work::{Work, work_of};
