@@ -6,6 +6,8 @@
 mod plain;
 #[cfg(test)]
 mod soak;
+#[cfg(test)]
+mod taken;
 mod work;
 
 pub use work::{Work, work_of};

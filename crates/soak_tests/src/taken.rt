@@ -1,0 +1,236 @@
+//! A run by loops in threads, of which each tells how many numbers it took out of its queue.
+ghost use Rattle.std.specs.Prelude.{◌≡◌, ◌≤◌, ℕ, All, IfOk, IfSome, Some, length, map, slice_get};
+ghost use Rattle.ready_queues.specs.declared.way.Way.{Way};
+ghost use Rattle.ready_queues.specs.Opening.{IsNewWay};
+ghost use Rattle.graph_run.specs.Assignment.{owner_row};
+ghost use Rattle.soak_tests.specs.Threads.{CanStart, CanDrive};
+ghost use Rattle.soak_tests.specs.Work.{CanRun};
+
+use crate::work::{Work, work_of};
+use board_rule::{Board, DriverSeat};
+use data_loop::{LoopState, Way, Ways, run_all};
+use graph_run::{boards_of, loop_of, loops_of, run_epochs};
+use pw_base::{Every, Items, Memory, Open, Plan};
+use std::alloc::Global;
+use std::process::Abort;
+use std::sync::Wait;
+use std::sync::atomic::{AtomicU64, Ordering};
+use std::test::Fail;
+use std::thread;
+use std::thread::{Scope, Threads};
+
+// The loop of each node of the plan.
+fn owner_row(alloc: Global, plan: &Plan, loops: u32) -> Result<Items<u32>, Memory>
+    requires few { length plan.now.nodes ≤ 63 }
+    ensures { IfOk result (λ row. row ≡ owner_row plan.now loops) }
+{
+    let mut row = Items::new(alloc);
+    for node in 0..plan.nodes.len() {
+        row.push(loop_of(plan, loops, node as u32))?;
+    }
+    Ok(row)
+}
+
+// The queues of all loops, the way of the driver's thread, and those of the loops in their order.
+fn ways_of(alloc: Global, plan: &Plan, loops: u32) -> Result<(Ways, Way, Items<Way>), Memory>
+    requires nodes { length plan.now.nodes ≤ 63 }
+    requires few { loops ≤ 16 }
+    ensures owner { IfOk result (λ t. t.0.owner ≡ owner_row plan.now loops) }
+    ensures loops { IfOk result (λ t. t.0.loops ≡ loops) }
+    ensures driver { IfOk result (λ t. IsNewWay t.0 loops t.1) }
+    ensures count { IfOk result (λ t. length t.2 ≡ loops) }
+    ensures ways { IfOk result (λ t. (k : ℕ) (w : Way) → slice_get t.2 k ≡ Some w
+        → IsNewWay t.0 k w) }
+{
+    let owner = owner_row(alloc, plan, loops)?;
+    Ways::new(alloc, &owner, loops)
+}
+
+// Each loop with its way.
+fn paired(
+    alloc: Global,
+    states: Items<LoopState>,
+    ways: Items<Way>,
+) -> Result<Items<(LoopState, Way)>, Memory>
+    requires { length ways ≡ length states }
+    ensures states { IfOk result (λ all. map (λ x. x.0) all ≡ states) }
+    ensures ways { IfOk result (λ all. map (λ x. x.1) all ≡ ways) }
+{
+    let mut all = Items::new(alloc);
+    let mut rest = ways.into_vec().into_iter();
+    for state in states.into_vec() {
+        if let Some(way) = rest.next() {
+            all.push((state, way))?;
+        }
+    }
+    Ok(all)
+}
+
+// What the threads of a run share: the boards, the queues, and how many numbers were taken.
+#[derive(Drop)]
+struct Common {
+    boards: Items<Board>,
+    ways: Ways,
+    taken: AtomicU64,
+}
+
+// What a run begins with: what its threads share, the loops with their ways, and what the driver's
+// thread has.
+#[derive(Drop)]
+struct Begun {
+    common: Common,
+    loops: Items<(LoopState, Way)>,
+    own: LoopState,
+    drivers: Items<DriverSeat>,
+    way: Way,
+}
+
+fn begin_run(alloc: Global, work: &Work, loops: u32) -> Result<Option<Begun>, Memory>
+    requires work { CanRun work.now }
+    requires few { loops ≤ 16 }
+    ensures loops { IfOk result (λ o. IfSome o (λ b.
+        All (CanStart b.common.boards b.common.ways) b.loops)) }
+    ensures driver { IfOk result (λ o. IfSome o (λ b.
+        CanDrive b.common.boards b.common.ways b.own b.drivers b.way)) }
+{
+    let plan = &work.plan;
+    let all = boards_of(alloc, plan, &work.waves, loops)?;
+    let mut states = loops_of(alloc, plan, &work.waves, loops, all.seats)?;
+    let (ways, way, others) = ways_of(alloc, plan, loops)?;
+    let Some(own) = states.pop() else {
+        return Ok(None);
+    };
+    let loops = paired(alloc, states, others)?;
+    Ok(Some(Begun {
+        common: Common {
+            boards: all.boards,
+            ways,
+            taken: AtomicU64::new(0),
+        },
+        loops,
+        own,
+        drivers: all.drivers,
+        way,
+    }))
+}
+
+// All epochs of a loop. How many numbers it took is added.
+fn go<R: Wait>(rt: &R, common: &Common, one: (LoopState, Way))
+    requires { CanStart common.now.boards common.now.ways one }
+{
+    let (state, way) = one;
+    let (_state, way) = run_all(rt, state, &common.boards, &common.ways, way, &Open::new());
+    common.taken.fetch_add(way.taken(), Ordering::SeqCst);
+}
+
+// Starts a loop in a thread of its own. Whether there is one.
+fn start_one<'s, E, R: Threads + Wait + Sync>(
+    rt: &'s R,
+    scope: &Scope<'s, E>,
+    common: &'s Common,
+    one: (LoopState, Way),
+) -> bool
+    requires { CanStart common.now.boards common.now.ways one }
+{
+    match scope.spawn(move || go(rt, common, one)) {
+        Ok(_handle) => true,
+        Err(_refused) => false,
+    }
+}
+
+// Starts each loop in a thread of its own. Without so many threads the run would not end, so the
+// process does.
+fn start_all<'s, E, R: Threads + Wait + Sync + Abort>(
+    rt: &'s R,
+    scope: &Scope<'s, E>,
+    common: &'s Common,
+    loops: Items<(LoopState, Way)>,
+)
+    requires { All (CanStart common.now.boards common.now.ways) loops }
+{
+    for one in loops.into_vec() {
+        assert!(rt; start_one(rt, scope, common, one));
+    }
+}
+
+// All epochs of the driver's own loop.
+fn drive<R: Wait>(rt: &R, common: &Common, own: LoopState, drivers: Items<DriverSeat>, way: Way)
+    requires { CanDrive common.now.boards common.now.ways own drivers way }
+{
+    let mut own = own;
+    let mut drivers = drivers;
+    let mut way = way;
+    let mut ticker = Every::new(2);
+    run_epochs(
+        rt,
+        &common.boards,
+        drivers.as_mut_slice(),
+        &mut own,
+        &mut [],
+        &common.ways,
+        &mut way,
+        &mut ticker,
+        &Open::new(),
+    );
+}
+
+// The run within a scope: it starts the loops, and drives.
+fn run_within<R: Threads + Wait + Sync + Abort>(
+    rt: &R,
+    common: &Common,
+    loops: Items<(LoopState, Way)>,
+    own: LoopState,
+    drivers: Items<DriverSeat>,
+    way: Way,
+)
+    requires loops { All (CanStart common.now.boards common.now.ways) loops }
+    requires driver { CanDrive common.now.boards common.now.ways own drivers way }
+{
+    thread::scope(
+        thread::scope_env(),
+        rt,
+        move |scope|
+            requires loops { All (CanStart common.now.boards common.now.ways) loops }
+            requires driver { CanDrive common.now.boards common.now.ways own drivers way }
+        {
+            start_all(rt, scope, common, loops);
+            drive(rt, common, own, drivers, way);
+        },
+    )
+}
+
+// A run of the graph of a number. How many numbers its loops took, or None where it has no plan.
+fn taken_by<R: Threads + Wait + Sync + AllocGlobal + Abort>(
+    rt: &R,
+    number: u32,
+    loops: u32,
+) -> Result<Option<u64>, Memory>
+    requires few { loops ≤ 16 }
+{
+    let alloc = rt.alloc();
+    let Some(work) = work_of(alloc, number)? else {
+        return Ok(None);
+    };
+    let Some(begun) = begin_run(alloc, &work, loops)? else {
+        return Ok(None);
+    };
+    let Begun {
+        common,
+        loops,
+        own,
+        drivers,
+        way,
+    } = begun;
+    run_within(rt, &common, loops, own, drivers, way);
+    Ok(Some(common.taken.load(Ordering::SeqCst)))
+}
+
+// All nodes are woken by others, so that their loops need not find them by a scan.
+#[test]
+fn loops_take_numbers_from_their_queues(rt: HostRuntime) -> Result<(), Fail> {
+    let Some(taken) = taken_by(&rt, 7, 4)? else {
+        panic!(rt; "the graph has no plan")
+    };
+    assert!(rt; taken > 0, "{taken}");
+    Ok(())
+}
