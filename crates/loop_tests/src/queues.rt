@@ -39,16 +39,24 @@ fn row_ways(alloc: Global) -> Result<Option<(Ways, Way, Way, Way)>, Memory>
     Ok(Some((ways, driver, first, second)))
 }
 
-// What the beginning of a cycle wakes, and what the turn of the source wakes then.
-fn woken(board: &Board, crew: &mut Crew) -> Option<(u64, u64)>
+// What the beginning of a cycle wakes. None where none is left.
+fn woken(board: &Board, crew: &mut Crew) -> Option<u64>
+    requires on { IsCrewOn board.now crew.old }
+    ensures on { IsCrewOn board.now crew.new }
+{
+    if crew.begin(board) {
+        Some(crew.seat.woke())
+    } else {
+        None
+    }
+}
+
+// What the turn of the source wakes. None where it is not awake.
+fn woken_by_source(board: &Board, crew: &mut Crew) -> Option<u64>
     requires on { IsCrewOn board.now crew.old }
 {
-    if !crew.begin(board) {
-        return None;
-    }
-    let begun = crew.seat.woke();
     match crew.try_at(board, 0, 0, &Open::new()) {
-        Tried::Ran => Some((begun, crew.woke(0))),
+        Tried::Ran => Some(crew.woke(0)),
         _ => None,
     }
 }
@@ -65,25 +73,21 @@ fn received<R: Wait>(rt: &R, ways: &Ways, first: &mut Way, second: &mut Way) -> 
 }
 
 #[test]
-fn the_row_wakes_one_node_a_step(rt: HostRuntime) -> Result<(), Fail> {
+fn what_is_woken_goes_to_its_loop(rt: HostRuntime) -> Result<(), Fail> {
     let Some((board, mut crew)) = row_crew(rt.alloc())? else {
         panic!(rt; "the row has no plan")
     };
-    assert_eq!(rt; woken(&board, &mut crew), Some((1, 2)));
-    Ok(())
-}
-
-#[test]
-fn what_is_woken_goes_to_its_loop(rt: HostRuntime) -> Result<(), Fail> {
     let Some((ways, mut way, mut first, mut second)) = row_ways(rt.alloc())? else {
         panic!(rt; "no ways")
     };
-    assert_eq!(rt; ways.send(&rt, &mut way, 1), 0);
+    assert_eq!(rt; woken(&board, &mut crew), Some(1));
+    assert_eq!(rt; ways.send(&rt, &mut way, crew.seat.woke()), 0);
     assert_eq!(rt;
         received(&rt, &ways, &mut first, &mut second),
         [Some(0), None]
     );
-    assert_eq!(rt; ways.send(&rt, &mut first, 2), 0);
+    assert_eq!(rt; woken_by_source(&board, &mut crew), Some(2));
+    assert_eq!(rt; ways.forward(&rt, &mut first, crew.woke(0)), 0);
     assert_eq!(rt;
         received(&rt, &ways, &mut first, &mut second),
         [None, Some(1)]

@@ -1,8 +1,12 @@
 //! Whole runs by threads: whichever loops are adopted, and however many there are.
 
-use crate::runs::{TWO_SQUARES, expect_sink, expect_waves, has_kept, run_by, two_squares};
+use crate::runs::{TWO_SQUARES, expect_sink, expect_waves, has_kept, run_by};
+use crate::work::work_of;
 use pw_base::Meet;
+use std::process::Abort;
+use std::sync::Wait;
 use std::test::Fail;
+use std::thread::Threads;
 
 // The sum of two squares of 100, for five cycles of four frames.
 const BOTH: [i16; 20] = [
@@ -11,46 +15,18 @@ const BOTH: [i16; 20] = [
 ];
 
 #[test]
-fn the_sink_keeps_the_sum_where_all_loops_are_adopted(rt: HostRuntime) -> Result<(), Fail> {
+fn the_sink_keeps_the_sum_whichever_loops_are_adopted(rt: HostRuntime) -> Result<(), Fail> {
     let choices = [
         [].as_slice(),
         [true].as_slice(),
+        [false].as_slice(),
         [true, true].as_slice(),
-        [true; 16].as_slice(),
-    ];
-    expect_sink(
-        &rt,
-        TWO_SQUARES,
-        0,
-        &[],
-        choices.as_slice(),
-        2,
-        BOTH.as_slice(),
-    )
-}
-
-#[test]
-fn the_sink_keeps_the_sum_whichever_loops_are_adopted(rt: HostRuntime) -> Result<(), Fail> {
-    let choices = [
-        [false, false].as_slice(),
         [true, false].as_slice(),
         [false, true].as_slice(),
-        [true, true].as_slice(),
+        [false, false].as_slice(),
+        [true; 16].as_slice(),
+        [false; 16].as_slice(),
     ];
-    expect_sink(
-        &rt,
-        TWO_SQUARES,
-        0,
-        &[],
-        choices.as_slice(),
-        2,
-        BOTH.as_slice(),
-    )
-}
-
-#[test]
-fn the_sink_keeps_the_sum_with_one_thread_or_sixteen(rt: HostRuntime) -> Result<(), Fail> {
-    let choices = [[false].as_slice(), [false; 16].as_slice()];
     expect_sink(
         &rt,
         TWO_SQUARES,
@@ -91,36 +67,74 @@ fn any_of_three_loops_may_be_adopted(rt: HostRuntime) -> Result<(), Fail> {
     )
 }
 
+// The link to the gain and the one from it are each a cycle late.
+const LATE: &str =
+    "quantum 2\nsource s s.wav\ngain g 256\nloop g 1\nasync g\nsink o o.wav\ndriver o 1\n\
+    link s.out g.in\nlink g.out o.in\ncycles 4\n";
+
+// Whether the nodes 0 and 1 met in a run of a text, whose one sink is to keep these samples.
+fn meets<R: Threads + Wait + Sync + AllocGlobal + Abort>(
+    rt: &R,
+    text: &str,
+    channels: u32,
+    samples: &[i16],
+    adopt: &[bool],
+    wanted: &[i16],
+) -> Result<bool, Fail> {
+    let Some(work) = work_of(rt.alloc(), text, channels, samples)? else {
+        panic!(rt; "the text has no plan")
+    };
+    let meet = Meet::new(0, 1);
+    let Some((outcome, _boards)) = run_by(rt, rt.alloc(), &work, adopt, &meet)? else {
+        panic!(rt; "there are at most 16 loops")
+    };
+    assert!(rt; has_kept(&outcome, wanted));
+    Ok(meet.met())
+}
+
 // The two squares wait for the driver alone, so both are awake at once.
 #[test]
 fn two_nodes_of_two_loops_meet(rt: HostRuntime) -> Result<(), Fail> {
-    let Some(work) = two_squares(rt.alloc())? else {
-        panic!(rt; "the squares have no plan")
-    };
-    let meet = Meet::new(0, 1);
-    let Some((outcome, _boards)) = run_by(&rt, rt.alloc(), &work, &[false, false], &meet)? else {
-        panic!(rt; "two loops")
-    };
-    assert!(rt; meet.met() && has_kept(&outcome, BOTH.as_slice()));
+    let started = [false, false];
+    assert!(rt;
+        meets(
+            &rt,
+            TWO_SQUARES,
+            0,
+            &[],
+            started.as_slice(),
+            BOTH.as_slice()
+        )?
+    );
     Ok(())
 }
 
-// The link to the gain and the one from it are each a cycle late.
+// So are the writer and the reader of a late link.
 #[test]
-fn two_late_links_by_two_loops(rt: HostRuntime) -> Result<(), Fail> {
-    let text = "quantum 2\nsource s s.wav\ngain g 256\nloop g 1\nasync g\nsink o o.wav\n\
-        driver o 1\nlink s.out g.in\nlink g.out o.in\ncycles 4\n";
+fn a_writer_and_its_late_reader_meet(rt: HostRuntime) -> Result<(), Fail> {
     let wanted = [0, 0, 0, 0, 1, 2, 3, 4];
-    let choices = [[false, false].as_slice()];
-    expect_sink(
-        &rt,
-        text,
-        1,
-        &[1, 2, 3, 4],
-        choices.as_slice(),
-        1,
-        wanted.as_slice(),
-    )
+    let started = [false, false];
+    assert!(rt;
+        meets(
+            &rt,
+            LATE,
+            1,
+            &[1, 2, 3, 4],
+            started.as_slice(),
+            wanted.as_slice()
+        )?
+    );
+    Ok(())
+}
+
+// One cycle, since each look is in vain.
+#[test]
+fn two_nodes_of_one_thread_never_meet(rt: HostRuntime) -> Result<(), Fail> {
+    let text = "quantum 2\nsquare a 48000 1 4 100\nsquare b 48000 1 4 10\nsink o o.wav\n\
+        driver o 1\nlink a.out o.in\nlink b.out o.in\ncycles 1\n";
+    let adopted = [true, true];
+    assert!(rt; !meets(&rt, text, 0, &[], adopted.as_slice(), &[110, 110])?);
+    Ok(())
 }
 
 // Both squares; the first alone, which goes on with its second half; none; and the second alone,
