@@ -248,7 +248,7 @@ fn a_delayed_link_has_two_areas(rt: HostRuntime) -> Result<(), Fail> {
     expect_steps(&rt, LATE_FAN, 1, steps.as_slice())
 }
 
-// The loops of the row are 0, 1 and 0, also of three. The source is awake in its turn.
+// Of three loops the source has loop 0, and the split loop 1. The source is awake in its turn.
 #[test]
 fn a_row_wakes_node_by_node(rt: HostRuntime) -> Result<(), Fail> {
     let pending = [0, 1, 1, 3];
