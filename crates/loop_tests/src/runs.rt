@@ -4,7 +4,7 @@ ghost use Rattle.loop_tests.specs.Work.{CanRun};
 
 use crate::work::{Work, work_of};
 use graph_run::run_plan;
-use pw_base::{Every, Gate, Memory, Open};
+use pw_base::{Every, Gate, Memory, Open, is_legal_history};
 use std::alloc::Global;
 use std::process::Abort;
 use std::sync::Wait;
@@ -97,7 +97,7 @@ fn have_kept(outcome: &Outcome, len: usize, zeros: &[usize], period: [i16; 8]) -
 }
 
 /// Runs a text with each of these choices of adopted loops. Its one sink is to keep these samples,
-/// on so many boards.
+/// on so many boards, and its history is to be legal.
 pub(crate) fn expect_sink<R: Threads + Wait + Sync + AllocGlobal + Abort>(
     rt: &R,
     text: &str,
@@ -115,6 +115,8 @@ pub(crate) fn expect_sink<R: Threads + Wait + Sync + AllocGlobal + Abort>(
             panic!(rt; "there are at most 16 loops")
         };
         assert!(rt; closed == boards && has_kept(&outcome, wanted));
+        let events = outcome.history.as_slice();
+        assert!(rt; is_legal_history(work.plan.epochs.as_slice(), events));
     }
     Ok(())
 }
