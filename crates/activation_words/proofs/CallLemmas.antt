@@ -11,8 +11,8 @@ use Rattle.board_rule.specs.declared.board_shape.BoardShape.{BoardShape}
 use Rattle.board_rule.specs.Layout.{BoardLayout, layout_of, IsSound, nodes}
 use Rattle.board_rule.specs.View.{node_of, view_node, view_lead}
 use Rattle.board_rule.specs.Steps.{HasNode, finished, settled, untold, driven, StoresPending, reset_to}
-use Rattle.board_rule.specs.EventSteps.{Draws, draws, CanDraw, CanDrawLead, StoresEvent, event_stored, CanStore, held, stored_phase}
-use Rattle.board_rule.specs.EventSteps.{node_draws, lead_draws, draw_trail}
+use Rattle.board_rule.specs.events.EventSteps.{Draws, draws, CanDraw, CanDrawLead, StoresEvent, event_stored, CanStore, held, stored_phase}
+use Rattle.board_rule.specs.events.EventSteps.{node_draws, lead_draws, draw_trail}
 use Rattle.activation_words.specs.Told.{IsTelling, HasTold}
 use Rattle.activation_words.specs.Calls.{IsAwake, started, worked, HasRested, HasFinished}
 use Rattle.activation_words.specs.CycleCalls.{begin_stored, reset_one, all_reset, HasBegun}

@@ -12,10 +12,10 @@ use Rattle.pw_base.specs.declared.event.Event.TheVariants.{Tick}
 use Rattle.pw_base.specs.Layout.{event_count}
 use Rattle.board_rule.specs.Layout.{BoardLayout, IsSound, nodes}
 use Rattle.board_rule.specs.View.{view_trail, view_lead}
-use Rattle.board_rule.specs.Bits.{with_bit}
+use Rattle.board_rule.specs.events.Bits.{with_bit}
 use Rattle.board_rule.specs.Steps.{HasNode}
-use Rattle.board_rule.specs.EventSteps.{Draws, draws, CanDrawLead, lead_draws, draw_trail, Looks, late_of, StoresLate, late_stored}
-use Rattle.board_rule.specs.EventSteps.{StoresEvent, event_stored}
+use Rattle.board_rule.specs.events.EventSteps.{Draws, draws, CanDrawLead, lead_draws, draw_trail, Looks, late_of, StoresLate, late_stored}
+use Rattle.board_rule.specs.events.EventSteps.{StoresEvent, event_stored}
 use Rattle.activation_words.specs.CycleCalls.{followers, HasChecked}
 use Rattle.activation_words.specs.Checks.{tick_drawn, LooksAt, IsLooking}
 

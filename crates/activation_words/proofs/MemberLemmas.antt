@@ -12,7 +12,7 @@ use Rattle.board_rule.specs.declared.view.View.{View}
 use Rattle.board_rule.specs.Layout.{BoardLayout, IsSound, nodes, first, last}
 use Rattle.board_rule.specs.View.{Samples, idle, node_of, view_node, loop_view, driver_view}
 use Rattle.board_rule.specs.Steps.{HasNode, Claims, woken, tried, IsReadyToFinish}
-use Rattle.board_rule.proofs.StartLemmas.{all_same}
+use Rattle.board_rule.proofs.start.StartLemmas.{all_same}
 use Rattle.activation_words.specs.Calls.{IsAwake, HasStarted, HasRested}
 use Rattle.activation_words.specs.Members.{IsResting, IsBetween}
 use Rattle.activation_words.proofs.ViewLemmas.{again, has_again}

@@ -12,7 +12,7 @@ use Rattle.board_rule.specs.Layout.{BoardLayout}
 use Rattle.board_rule.specs.View.{node_of, view_node}
 use Rattle.board_rule.specs.Steps.{HasNode, Lowers, lowered, Triggers, triggered, CanTell, CanKick, Indebted, settles, settled, kicked}
 use Rattle.board_rule.specs.Steps.{taken, taken_of, lowered_of, told_trail, target_of}
-use Rattle.board_rule.proofs.PhaseLemmas.{can_tell}
+use Rattle.board_rule.proofs.activation.PhaseLemmas.{can_tell}
 use Rattle.board_rule.proofs.DriverLemmas.{can_kick}
 use Rattle.activation_words.specs.Told.{IsTelling}
 use Rattle.activation_words.proofs.ViewLemmas.{again, twice, has_again}

@@ -9,7 +9,7 @@ use Rattle.board_rule.specs.declared.view.View.{View}
 use Rattle.board_rule.specs.Layout.{BoardLayout}
 use Rattle.board_rule.specs.View.{idle, node_of, view_node}
 use Rattle.board_rule.specs.Steps.{Owns, IsCycle, HasNode}
-use Rattle.board_rule.proofs.SeatLemmas.{set_there}
+use Rattle.board_rule.proofs.start.SeatLemmas.{set_there}
 
 -- whose seat it is, by the node
 pub follower_leads : (p : BoardLayout) (v : View) (m : ℕ) (b : Bool) → Owns b p v m → m ≢ p.driver → b ≡ false

@@ -6,8 +6,8 @@ use Rattle.board_rule.specs.declared.view.View.{View}
 use Rattle.pw_base.specs.Words.{finished_word}
 use Rattle.board_rule.specs.Layout.{BoardLayout}
 use Rattle.board_rule.specs.View.{view_lead, view_trail}
-use Rattle.board_rule.specs.Bits.{with_bit}
-use Rattle.board_rule.specs.EventSteps.{looked, late_of}
+use Rattle.board_rule.specs.events.Bits.{with_bit}
+use Rattle.board_rule.specs.events.EventSteps.{looked, late_of}
 use Rattle.activation_words.specs.CycleCalls.{followers}
 
 abbrev pub tick_drawn : View → ℕ → View

@@ -9,7 +9,7 @@ use Rattle.pw_base.specs.Layout.{event_count}
 use Rattle.board_rule.specs.Layout.{BoardLayout, nodes}
 use Rattle.board_rule.specs.View.{view_lead}
 use Rattle.board_rule.specs.Steps.{untold, driven, reset_of, reset_to}
-use Rattle.board_rule.specs.EventSteps.{late_of}
+use Rattle.board_rule.specs.events.EventSteps.{late_of}
 
 -- BEGIN: the event is stored, all nodes are reset, all targets are lowered
 abbrev pub begin_stored : View → ℕ → View

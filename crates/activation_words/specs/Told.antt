@@ -3,7 +3,7 @@
 -- count of its targets).
 use Rattle.std.specs.Prelude.{◌≡◌, ◌↔◌, ℕ, Bool, false, map, take, length, reverse, Contains, IsBitSet}
 use Rattle.board_rule.specs.declared.view.View.{View}
-use Rattle.board_rule.specs.Bits.{woke_of}
+use Rattle.board_rule.specs.events.Bits.{woke_of}
 use Rattle.board_rule.specs.Layout.{BoardLayout}
 use Rattle.board_rule.specs.Steps.{settles}
 

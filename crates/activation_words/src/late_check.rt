@@ -5,10 +5,10 @@ ghost use Rattle.pw_base.specs.Layout.{event_count};
 ghost use Rattle.pw_base.specs.Words.{finished_word};
 ghost use Rattle.pw_base.specs.Dependencies.{nodes_of};
 ghost use Rattle.board_rule.specs.declared.view.DriverPhase.TheVariants.{Waiting, Checking};
-ghost use Rattle.board_rule.specs.Bits.{with_bit};
+ghost use Rattle.board_rule.specs.events.Bits.{with_bit};
 ghost use Rattle.board_rule.specs.Layout.{nodes};
 ghost use Rattle.board_rule.specs.Steps.{HasNode};
-ghost use Rattle.board_rule.specs.EventSteps.{Looks, looked};
+ghost use Rattle.board_rule.specs.events.EventSteps.{Looks, looked};
 ghost use Rattle.activation_words.specs.CycleCalls.{HasChecked};
 ghost use Rattle.activation_words.specs.Checks.{tick_drawn, LooksAt, IsLooking};
 

@@ -13,8 +13,6 @@ mod ending;
 mod late_check;
 mod running;
 mod telling;
-#[cfg(test)]
-mod tests;
 
 pub use answer::Claim;
 pub use beginning::begin;

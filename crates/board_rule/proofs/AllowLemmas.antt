@@ -19,23 +19,23 @@ use Rattle.board_rule.specs.declared.view.Trail.{Trail}
 use Rattle.board_rule.specs.declared.view.Found.{Found}
 use Rattle.board_rule.specs.declared.view.View.{View}
 use Rattle.board_rule.specs.Layout.{BoardLayout, IsSound, nodes}
-use Rattle.board_rule.specs.Phases.{phase_stage, PhaseOk, phase_drawn, is_resetting}
-use Rattle.board_rule.specs.Marks.{phase_started, phase_finished, phase_holds}
+use Rattle.board_rule.specs.activation.Phases.{phase_stage, PhaseOk, phase_drawn, is_resetting}
+use Rattle.board_rule.specs.events.Marks.{phase_started, phase_finished, phase_holds}
 use Rattle.board_rule.specs.View.{Whole, node_of, with_node, with_lead, view_node, view_lead, view_trail}
-use Rattle.board_rule.specs.ActivationRule.{Activations, progress}
-use Rattle.board_rule.specs.EventRule.{Events, so_far, marks, lead_drawn, node_drawn}
-use Rattle.board_rule.specs.Spans.{phase_over, phase_begun}
+use Rattle.board_rule.specs.activation.ActivationRule.{Activations, progress}
+use Rattle.board_rule.specs.events.EventRule.{Events, so_far, marks, lead_drawn, node_drawn}
+use Rattle.board_rule.specs.buffers.Spans.{phase_over, phase_begun}
 use Rattle.board_rule.specs.BoardRule.{Holds}
 use Rattle.board_rule.specs.Steps.{Has}
 use Rattle.board_rule.specs.Plays.{Leaves, Learns}
-use Rattle.board_rule.proofs.SeatLemmas.{node_step, lead_step, look_step, seated_logs}
-use Rattle.board_rule.proofs.TicketLemmas.{count_node, count_lead, few_tickets}
-use Rattle.board_rule.proofs.FollowerLemmas.{stage_at, not_resetting, same_node}
-use Rattle.board_rule.proofs.WorkLemmas.{Alike, draws_start, draws_finish, active_alike, ticket_is_other, later_is_other}
+use Rattle.board_rule.proofs.start.SeatLemmas.{node_step, lead_step, look_step, seated_logs}
+use Rattle.board_rule.proofs.events.TicketLemmas.{count_node, count_lead, few_tickets}
+use Rattle.board_rule.proofs.activation.FollowerLemmas.{stage_at, not_resetting, same_node}
+use Rattle.board_rule.proofs.activation.WorkLemmas.{Alike, draws_start, draws_finish, active_alike, ticket_is_other, later_is_other}
 use Rattle.board_rule.proofs.DriverLemmas.{lead_is}
-use Rattle.board_rule.proofs.SpanLemmas.{IsLeadPaced, IsLogWord, phase_paced, buffers_node, buffers_lead, wired_in, early_word, log_word}
-use Rattle.board_rule.proofs.EventLemmas.{events_start, events_finish, events_stored}
-use Rattle.board_rule.proofs.CheckLemmas.{events_looked}
+use Rattle.board_rule.proofs.buffers.SpanLemmas.{IsLeadPaced, IsLogWord, phase_paced, buffers_node, buffers_lead, wired_in, early_word, log_word}
+use Rattle.board_rule.proofs.events.EventLemmas.{events_start, events_finish, events_stored}
+use Rattle.board_rule.proofs.events.CheckLemmas.{events_looked}
 
 drawn_word : (ws : List ℕ) (k : ℕ) → 0 < length ws → get_or (set ws 0 (suc k)) 0 0 ≡ suc k
 drawn_word [] k h = absurd (omega arith)

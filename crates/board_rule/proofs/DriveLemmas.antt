@@ -5,7 +5,7 @@ use Rattle.board_rule.specs.declared.view.DriverPhase.{DriverPhase}
 use Rattle.board_rule.specs.declared.view.DriverPhase.TheVariants as drives
 use Rattle.board_rule.specs.declared.view.DriverView.{DriverView}
 use Rattle.board_rule.specs.Layout.{BoardLayout, IsSound, first, last}
-use Rattle.board_rule.specs.Phases.{drive_drawn, drive_stage, is_between, is_resetting}
+use Rattle.board_rule.specs.activation.Phases.{drive_drawn, drive_stage, is_between, is_resetting}
 use Rattle.board_rule.specs.View.{Whole, with_lead}
 use Rattle.std.specs.Prelude.{slice_get, Contains}
 use Rattle.pw_base.specs.declared.event.Event.{Event}
@@ -14,19 +14,19 @@ use Rattle.pw_base.specs.EventWords.{event_word_of}
 use Rattle.pw_base.specs.Layout.{event_count, event_place, late_place}
 use Rattle.board_rule.specs.declared.view.Found.{Found}
 use Rattle.board_rule.specs.declared.view.Trail.{Trail}
-use Rattle.board_rule.specs.Marks.{phase_started, phase_finished, drive_started, drive_finished, drive_tells}
-use Rattle.board_rule.specs.ActivationRule.{Activations}
-use Rattle.board_rule.specs.EventRule.{Events, so_far, marks, lead_drawn}
-use Rattle.board_rule.specs.EventSteps.{CanDrawLead, lead_draws, draw_trail, CanStoreLead, lead_stores, held_lead, lead_tells, late_of}
-use Rattle.board_rule.specs.EventSteps.{late_kept}
-use Rattle.board_rule.proofs.WorkLemmas.{IsOther, ticket_is_other}
-use Rattle.board_rule.proofs.DrawLemmas.{first_in, only_in, none_in}
-use Rattle.board_rule.proofs.LateLemmas.{told_late}
-use Rattle.board_rule.proofs.MarkLemmas.{lead_here}
+use Rattle.board_rule.specs.events.Marks.{phase_started, phase_finished, drive_started, drive_finished, drive_tells}
+use Rattle.board_rule.specs.activation.ActivationRule.{Activations}
+use Rattle.board_rule.specs.events.EventRule.{Events, so_far, marks, lead_drawn}
+use Rattle.board_rule.specs.events.EventSteps.{CanDrawLead, lead_draws, draw_trail, CanStoreLead, lead_stores, held_lead, lead_tells, late_of}
+use Rattle.board_rule.specs.events.EventSteps.{late_kept}
+use Rattle.board_rule.proofs.activation.WorkLemmas.{IsOther, ticket_is_other}
+use Rattle.board_rule.proofs.events.DrawLemmas.{first_in, only_in, none_in}
+use Rattle.board_rule.proofs.events.LateLemmas.{told_late}
+use Rattle.board_rule.proofs.events.MarkLemmas.{lead_here}
 use Rattle.board_rule.proofs.DriverLemmas.{stage_driver}
 use Rattle.board_rule.proofs.FrameLemmas.{events_begin, events_end, events_tick, events_lead_start, events_lead_finish}
-use Rattle.board_rule.proofs.CheckLemmas.{events_lead_stored, events_late, events_ended}
-use Rattle.board_rule.proofs.CycleLemmas.{AlikeDrives, active_alike, active_begin, active_reset, active_end}
+use Rattle.board_rule.proofs.events.CheckLemmas.{events_lead_stored, events_late, events_ended}
+use Rattle.board_rule.proofs.activation.CycleLemmas.{AlikeDrives, active_alike, active_begin, active_reset, active_end}
 
 tick_drawn : AlikeDrives drives.Waiting drives.Checking
 tick_drawn = record { rest = λ _. refl; owing = λ _. refl; stage = refl; runs = refl; goes_on = refl; ok = λ _. tt }

@@ -14,23 +14,23 @@ use Rattle.board_rule.specs.declared.view.View.{View}
 use Rattle.pw_base.specs.Layout.{pending_place, status_place}
 use Rattle.pw_base.specs.Words.{triggered_word}
 use Rattle.board_rule.specs.Layout.{BoardLayout, nodes, last}
-use Rattle.board_rule.specs.Phases.{owed_of, phase_rest, phase_owing, phase_stage, drive_rest, drive_owing, drive_stage, drive_drawn}
-use Rattle.board_rule.specs.Phases.{is_resetting, is_between}
+use Rattle.board_rule.specs.activation.Phases.{owed_of, phase_rest, phase_owing, phase_stage, drive_rest, drive_owing, drive_stage, drive_drawn}
+use Rattle.board_rule.specs.activation.Phases.{is_resetting, is_between}
 use Rattle.board_rule.specs.View.{Whole, with_lead, view_lead}
-use Rattle.board_rule.specs.ActivationRule.{Activations, DriverPhaseOk, progress}
-use Rattle.board_rule.specs.EventRule.{lead_drawn}
-use Rattle.board_rule.specs.BufferRule.{Buffers}
-use Rattle.board_rule.specs.Spans.{spans}
+use Rattle.board_rule.specs.activation.ActivationRule.{Activations, DriverPhaseOk, progress}
+use Rattle.board_rule.specs.events.EventRule.{lead_drawn}
+use Rattle.board_rule.specs.buffers.BufferRule.{Buffers}
+use Rattle.board_rule.specs.buffers.Spans.{spans}
 use Rattle.board_rule.specs.BoardRule.{Holds}
 use Rattle.board_rule.specs.Steps.{kicked, taken_of, CanKick, KickIndebted}
 use Rattle.board_rule.specs.Plays.{Leaves, Learns}
-use Rattle.board_rule.proofs.SpanLemmas.{IsLeadPaced, drive_paced, kicked_paced, buffers_lead, wired_in, early_word}
+use Rattle.board_rule.proofs.buffers.SpanLemmas.{IsLeadPaced, drive_paced, kicked_paced, buffers_lead, wired_in, early_word}
 use Rattle.board_rule.proofs.RunLemmas.{Sums, Elsewhere, positive, lowers, triggers}
-use Rattle.board_rule.proofs.PhaseLemmas.{owed_is}
-use Rattle.board_rule.proofs.SeatLemmas.{lead_step}
-use Rattle.board_rule.proofs.MarkLemmas.{QuietDrives, QuietLead, quiet_drive}
-use Rattle.board_rule.proofs.TicketLemmas.{events_lead}
-use Rattle.board_rule.proofs.FollowerLemmas.{rest_at, owing_at, stage_at, words_run, run_words}
+use Rattle.board_rule.proofs.activation.PhaseLemmas.{owed_is}
+use Rattle.board_rule.proofs.start.SeatLemmas.{lead_step}
+use Rattle.board_rule.proofs.events.MarkLemmas.{QuietDrives, QuietLead, quiet_drive}
+use Rattle.board_rule.proofs.events.TicketLemmas.{events_lead}
+use Rattle.board_rule.proofs.activation.FollowerLemmas.{rest_at, owing_at, stage_at, words_run, run_words}
 
 -- the driver's seat in another phase of the same cycle
 abbrev pub lead_to : Whole → DriverPhase → DriverView → DriverView

@@ -11,18 +11,18 @@ use Rattle.board_rule.specs.declared.view.NodeView.{NodeView}
 use Rattle.board_rule.specs.declared.view.DriverView.{DriverView}
 use Rattle.board_rule.specs.declared.view.Found.{Found}
 use Rattle.board_rule.specs.Layout.{BoardLayout, IsSound}
-use Rattle.board_rule.specs.Phases.{is_resetting}
+use Rattle.board_rule.specs.activation.Phases.{is_resetting}
 use Rattle.board_rule.specs.View.{Whole, with_lead}
-use Rattle.board_rule.specs.Marks.{phase_started, phase_finished, phase_holds, drive_started, drive_finished, drive_holds, drive_tells}
-use Rattle.board_rule.specs.Marks.{drive_sees, is_begun, is_ending}
-use Rattle.board_rule.specs.ActivationRule.{Activations, progress}
-use Rattle.board_rule.specs.EventRule.{Events, marks, records, lead_drawn}
-use Rattle.board_rule.proofs.TickLemmas.{ticks_stay, ticks_past, none_checked}
-use Rattle.board_rule.proofs.DrawLemmas.{Logs, StartsAt, FinishesAt, starts_drawn, finishes_drawn}
-use Rattle.board_rule.proofs.StoreLemmas.{SameNodes, begin_drawn, end_drawn, tick_drawn}
-use Rattle.board_rule.proofs.MarkLemmas.{words_drawn, lead_here, lead_else}
-use Rattle.board_rule.proofs.TicketLemmas.{logs_of, Counted, count_lead}
-use Rattle.board_rule.proofs.EventLemmas.{done_before}
+use Rattle.board_rule.specs.events.Marks.{phase_started, phase_finished, phase_holds, drive_started, drive_finished, drive_holds, drive_tells}
+use Rattle.board_rule.specs.events.Marks.{drive_sees, is_begun, is_ending}
+use Rattle.board_rule.specs.activation.ActivationRule.{Activations, progress}
+use Rattle.board_rule.specs.events.EventRule.{Events, marks, records, lead_drawn}
+use Rattle.board_rule.proofs.events.TickLemmas.{ticks_stay, ticks_past, none_checked}
+use Rattle.board_rule.proofs.events.DrawLemmas.{Logs, StartsAt, FinishesAt, starts_drawn, finishes_drawn}
+use Rattle.board_rule.proofs.buffers.StoreLemmas.{SameNodes, begin_drawn, end_drawn, tick_drawn}
+use Rattle.board_rule.proofs.events.MarkLemmas.{words_drawn, lead_here, lead_else}
+use Rattle.board_rule.proofs.events.TicketLemmas.{logs_of, Counted, count_lead}
+use Rattle.board_rule.proofs.events.EventLemmas.{done_before}
 
 module _ (p : BoardLayout) (g : Whole) (x : DriverView) (looks : List Found) (inside : List Event) (late : ℕ) where
   -- the whole after a step of the driver's seat in the same cycle

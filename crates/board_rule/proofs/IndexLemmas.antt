@@ -13,7 +13,7 @@ use Rattle.pw_base.specs.declared.pools.PoolShape.{PoolShape}
 use Rattle.pw_base.specs.Pools.{pools_of}
 use Rattle.pw_base.specs.Layout.{node_count, areas_of, area_count, event_count, pool_words, io_place, late_place, event_place, block_words}
 use Rattle.pw_base.specs.Layout.{readers_place, word_count}
-use Rattle.board_rule.specs.Areas.{delay_by}
+use Rattle.board_rule.specs.buffers.Areas.{delay_by}
 
 takes_rise : {X : Type 0} (f : X → ℕ) (i n : ℕ) (xs : List X) → sum_by f (take i xs) ≤ sum_by f (take (i + n) xs)
 takes_rise f zero n xs = omega arith

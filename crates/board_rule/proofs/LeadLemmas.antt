@@ -10,10 +10,10 @@ use Rattle.board_rule.specs.declared.lead.DriverProgress.{DriverProgress}
 use Rattle.board_rule.specs.declared.lead.Due.TheVariants as dues
 use Rattle.board_rule.specs.Layout.{BoardLayout}
 use Rattle.board_rule.specs.View.{view_lead}
-use Rattle.board_rule.specs.Bits.{with_bit, woke_of}
+use Rattle.board_rule.specs.events.Bits.{with_bit, woke_of}
 use Rattle.board_rule.specs.Steps.{CanKick, taken_of, kicked, told_trail, target_of, lowered}
-use Rattle.board_rule.specs.EventSteps.{CanDrawLead, lead_draws, draw_trail, draws}
-use Rattle.board_rule.specs.DriverProgress.{done_of, due_of, lead_progress_of, told_so_far, lead_drawn, is_begin}
+use Rattle.board_rule.specs.events.EventSteps.{CanDrawLead, lead_draws, draw_trail, draws}
+use Rattle.board_rule.specs.events.DriverProgress.{done_of, due_of, lead_progress_of, told_so_far, lead_drawn, is_begin}
 use Rattle.board_rule.specs.Known.{IsDriverSeat}
 
 module _ (v w : View) (x : DriverView) (t : Trail) (l k : DriverProgress) (rs : List ReadView) (o o' : ℕ) (is : w ≡ view_lead v x t)

@@ -8,7 +8,7 @@ use Rattle.board_rule.specs.Sums.{total, times}
 use Rattle.pw_base.specs.declared.shape.Shape.{Shape}
 use Rattle.pw_base.specs.Layout.{node_count, pending_place, status_place}
 use Rattle.pw_base.specs.Words.{status_word_of, awake_word, finished_word, triggered_word}
-use Rattle.board_rule.specs.ActivationRule.{Progress, NodeOk}
+use Rattle.board_rule.specs.activation.ActivationRule.{Progress, NodeOk}
 use Rattle.board_rule.proofs.SumLemmas.{total_same, total_change, total_at, times_here, times_else}
 
 -- the progress differs at m alone

@@ -17,21 +17,21 @@ use Rattle.board_rule.specs.BoardRule.{Holds}
 use Rattle.board_rule.specs.Steps.{Has, taken, taken_of, lowered_of, settled, kicked, told_trail, target_of, Lowers, lowered, Triggers}
 use Rattle.board_rule.specs.Steps.{triggered, Claims, claimed, woken, tried, cycle_of, IsGivenOn, IsReadyToFinish, finished, untold}
 use Rattle.board_rule.specs.Steps.{StoresPending, pending_stored, StoresStatus, status_stored, reset_of}
-use Rattle.board_rule.specs.EventSteps.{Draws, draws, CanDraw, node_draws, lead_draws, draw_trail, StoresEvent, event_stored, CanStore}
-use Rattle.board_rule.specs.EventSteps.{stored_phase, lead_stores, held, held_lead, ticket_of, node_tells, lead_tells, event_due, Looks}
-use Rattle.board_rule.specs.EventSteps.{looked, StoresLate, late_kept, late_stored}
+use Rattle.board_rule.specs.events.EventSteps.{Draws, draws, CanDraw, node_draws, lead_draws, draw_trail, StoresEvent, event_stored, CanStore}
+use Rattle.board_rule.specs.events.EventSteps.{stored_phase, lead_stores, held, held_lead, ticket_of, node_tells, lead_tells, event_due, Looks}
+use Rattle.board_rule.specs.events.EventSteps.{looked, StoresLate, late_kept, late_stored}
 use Rattle.board_rule.specs.Plays.{Leaves, Learns}
-use Rattle.board_rule.proofs.PhaseLemmas.{can_tell, in_debt}
-use Rattle.board_rule.proofs.FollowerLemmas.{lower_allowed, trigger_allowed}
-use Rattle.board_rule.proofs.WorkLemmas.{stores_start, stores_finish, finish_allowed, later_is_other}
-use Rattle.board_rule.proofs.EventLemmas.{start_logged, finish_logged}
+use Rattle.board_rule.proofs.activation.PhaseLemmas.{can_tell, in_debt}
+use Rattle.board_rule.proofs.activation.FollowerLemmas.{lower_allowed, trigger_allowed}
+use Rattle.board_rule.proofs.activation.WorkLemmas.{stores_start, stores_finish, finish_allowed, later_is_other}
+use Rattle.board_rule.proofs.events.EventLemmas.{start_logged, finish_logged}
 use Rattle.board_rule.proofs.AllowLemmas.{draw_start_allowed, draw_finish_allowed, store_allowed, draw_lead_allowed, store_lead_allowed}
 use Rattle.board_rule.proofs.AllowLemmas.{look_allowed}
-use Rattle.board_rule.proofs.ClaimLemmas.{claim_allowed}
+use Rattle.board_rule.proofs.activation.ClaimLemmas.{claim_allowed}
 use Rattle.board_rule.proofs.DriverLemmas.{kick_allowed, kick_trigger_allowed, can_kick, kick_in_debt}
-use Rattle.board_rule.proofs.ResetLemmas.{store_pending_allowed, store_not_triggered_allowed}
-use Rattle.board_rule.proofs.CycleLemmas.{finish_lead_allowed, claim_lead_allowed}
-use Rattle.board_rule.proofs.SpanLemmas.{IsLogWord, draws_paced, stores_paced, drive_paced}
+use Rattle.board_rule.proofs.activation.ResetLemmas.{store_pending_allowed, store_not_triggered_allowed}
+use Rattle.board_rule.proofs.activation.CycleLemmas.{finish_lead_allowed, claim_lead_allowed}
+use Rattle.board_rule.proofs.buffers.SpanLemmas.{IsLogWord, draws_paced, stores_paced, drive_paced}
 use Rattle.board_rule.proofs.DriveLemmas.{draws_more, draws_goes, draws_logs, stores_goes, stores_logs, late_goes, late_logs}
 
 module _ (p : BoardLayout) {S : Type 0} (slots id : ℕ) (me : Me S View) (after : ℕ → View) where

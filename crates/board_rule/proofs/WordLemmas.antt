@@ -11,7 +11,7 @@ use Rattle.pw_base.specs.declared.shape.ShapeLink.{ShapeLink}
 use Rattle.board_rule.specs.declared.rows.LinkRow.{LinkRow}
 use Rattle.board_rule.specs.declared.rows.PoolRow.{PoolRow}
 use Rattle.board_rule.specs.Layout.{word_count}
-use Rattle.board_rule.specs.EndViews.{no_pool, pool_in}
+use Rattle.board_rule.specs.buffers.EndViews.{no_pool, pool_in}
 use Rattle.board_rule.specs.Rows.{base_of, IsLinkRow, IsPoolRow, HasIndexes}
 
 -- a pool has at least as many words as blocks

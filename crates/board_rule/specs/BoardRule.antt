@@ -10,12 +10,12 @@ use Rattle.board_rule.specs.Layout.{BoardLayout, IsSound, nodes, first, word_cou
 use Rattle.pw_base.specs.Layout.{event_place, event_count}
 use Rattle.pw_base.specs.Pools.{IsPooledShape}
 use Rattle.board_rule.specs.View.{Whole, idle}
-use Rattle.board_rule.specs.ActivationRule.{Activations}
-use Rattle.board_rule.specs.EventRule.{Events}
-use Rattle.board_rule.specs.SampleWords.{IsTable}
-use Rattle.board_rule.specs.BufferRule.{Buffers}
-use Rattle.board_rule.specs.Spans.{spans}
-use Rattle.board_rule.specs.KnownEnds.{KnowsEnds, AreStill}
+use Rattle.board_rule.specs.activation.ActivationRule.{Activations}
+use Rattle.board_rule.specs.events.EventRule.{Events}
+use Rattle.board_rule.specs.buffers.SampleWords.{IsTable}
+use Rattle.board_rule.specs.buffers.BufferRule.{Buffers}
+use Rattle.board_rule.specs.buffers.Spans.{spans}
+use Rattle.board_rule.specs.buffers.KnownEnds.{KnowsEnds, AreStill}
 
 module _ (p : BoardLayout) where
   -- what the view at the index j among all views says of the whole: no two views of seats have the

@@ -9,10 +9,10 @@ use Rattle.board_rule.specs.declared.view.WriteView.{WriteView}
 use Rattle.board_rule.specs.declared.view.ReadView.{ReadView}
 use Rattle.board_rule.specs.declared.view.BlockView.{BlockView}
 use Rattle.board_rule.specs.declared.view.View.{View}
-use Rattle.board_rule.specs.Bits.{woke_of}
-use Rattle.board_rule.specs.Owners.{own}
-use Rattle.board_rule.specs.Progress.{progress_of}
-use Rattle.board_rule.specs.DriverProgress.{lead_progress_of}
+use Rattle.board_rule.specs.events.Bits.{woke_of}
+use Rattle.board_rule.specs.start.Owners.{own}
+use Rattle.board_rule.specs.activation.Progress.{progress_of}
+use Rattle.board_rule.specs.events.DriverProgress.{lead_progress_of}
 
 pub record Known : Type 0 where
   pub table : TableId

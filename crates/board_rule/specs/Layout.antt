@@ -10,7 +10,7 @@ use Rattle.pw_base.specs.Layout.{node_count, event_count}
 use Rattle.board_rule.specs.declared.board_shape.BoardShape.{BoardShape}
 use Rattle.board_rule.specs.Sums.{total, times}
 pub use Rattle.board_rule.specs.Indexes.{index_in, target_rows, required_row}
-pub use Rattle.board_rule.specs.Seats.{HasSeats}
+pub use Rattle.board_rule.specs.start.Seats.{HasSeats}
 unfoldable pub use Rattle.board_rule.specs.Indexes.{word_count}
 
 -- no link is delayed

@@ -11,8 +11,8 @@ use Rattle.board_rule.specs.declared.rows.Rows.{Rows}
 use Rattle.board_rule.specs.declared.rows.LinkRow.{LinkRow}
 use Rattle.board_rule.specs.declared.rows.PoolRow.{PoolRow}
 use Rattle.board_rule.specs.Layout.{index_in, required_row, target_rows, word_count}
-use Rattle.board_rule.specs.Areas.{delay_by}
-use Rattle.board_rule.specs.EndViews.{link_in, pool_in, pool_number}
+use Rattle.board_rule.specs.buffers.Areas.{delay_by}
+use Rattle.board_rule.specs.buffers.EndViews.{link_in, pool_in, pool_number}
 
 -- where the words of a pool begin
 abbrev pub base_of : Shape → ℕ → ℕ

@@ -6,10 +6,10 @@ use Rattle.board_rule.specs.declared.view.DriverPhase.{DriverPhase}
 use Rattle.board_rule.specs.declared.view.DriverPhase.TheVariants as drives
 use Rattle.board_rule.specs.declared.view.View.{View}
 use Rattle.board_rule.specs.Layout.{BoardLayout, nodes}
-pub use Rattle.board_rule.specs.SeatNodes.{Has, Owns, cycle_of, IsCycle, HasNode, IsMember, phased, driven}
-pub use Rattle.board_rule.specs.TellingSteps.{CanTell, CanKick, lowered_of, taken_of, taken, Lowers, settled, kicked, settles, told_trail}
-pub use Rattle.board_rule.specs.TellingSteps.{target_of, lowered, Indebted, KickIndebted, Triggers, triggered}
-pub use Rattle.board_rule.specs.WorkSteps.{IsAsleep, Claims, woken, tried, claimed, IsRunning, IsGivenOn, IsReadyToFinish, untold, finished}
+pub use Rattle.board_rule.specs.activation.SeatNodes.{Has, Owns, cycle_of, IsCycle, HasNode, IsMember, phased, driven}
+pub use Rattle.board_rule.specs.activation.TellingSteps.{CanTell, CanKick, lowered_of, taken_of, taken, Lowers, settled, kicked, settles, told_trail}
+pub use Rattle.board_rule.specs.activation.TellingSteps.{target_of, lowered, Indebted, KickIndebted, Triggers, triggered}
+pub use Rattle.board_rule.specs.activation.WorkSteps.{IsAsleep, Claims, woken, tried, claimed, IsRunning, IsGivenOn, IsReadyToFinish, untold, finished}
 
 -- THE RESET: the driver's seat stores the pending word and then the status word of the next node
 abbrev pub reset_of : DriverPhase → ℕ

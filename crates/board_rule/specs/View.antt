@@ -7,10 +7,10 @@ use Rattle.board_rule.specs.declared.view.Trail.{Trail}
 use Rattle.board_rule.specs.declared.view.Found.{Found}
 use Rattle.pw_base.specs.declared.event.Event.{Event}
 use Rattle.board_rule.specs.declared.view.View.{View}
-use Rattle.board_rule.specs.BlockReadings.{Ends}
-pub use Rattle.board_rule.specs.StartViews.{Samples, idle, resting, unwritten, unread, no_trail, first_view, driver_view}
-pub use Rattle.board_rule.specs.StartViews.{first_write, is_delayed, first_block, blocks_at_first, first_blocks}
-pub use Rattle.board_rule.specs.StartViews.{loop_view}
+use Rattle.board_rule.specs.buffers.BlockReadings.{Ends}
+pub use Rattle.board_rule.specs.start.StartViews.{Samples, idle, resting, unwritten, unread, no_trail, first_view, driver_view}
+pub use Rattle.board_rule.specs.start.StartViews.{first_write, is_delayed, first_block, blocks_at_first, first_blocks}
+pub use Rattle.board_rule.specs.start.StartViews.{loop_view}
 
 -- what all seats know together; seat_at gives for a number the index of its view among the table's
 -- views. The ends of links and the blocks, the events of

@@ -7,8 +7,8 @@ ghost use Rattle.pw_base.specs.EventWords.{event_word_of};
 ghost use Rattle.pw_base.specs.History.{is_tick, IsLegalHistory};
 ghost use Rattle.pw_base.specs.Layout.{late_place, event_place, event_count};
 ghost use Rattle.board_rule.specs.Layout.{layout_of};
-ghost use Rattle.board_rule.specs.TicketOrder.{AreInTicketOrder};
-ghost use Rattle.board_rule.specs.Closing.{HasEndedAll, last_view, kept_view, expected, IsInRange, LateOf, AreRecorded};
+ghost use Rattle.board_rule.specs.events.TicketOrder.{AreInTicketOrder};
+ghost use Rattle.board_rule.specs.events.Closing.{HasEndedAll, last_view, kept_view, expected, IsInRange, LateOf, AreRecorded};
 
 use crate::board::Board;
 use crate::closed::Closed;

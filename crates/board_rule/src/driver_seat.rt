@@ -1,10 +1,10 @@
 //! The driver's seat. Contracts see the table that it belongs to and what it knows.
 ghost use Rattle.board_rule.specs.OnBoard.{IsOn, layout};
 ghost use Rattle.std.specs.Prelude.{◌≡◌, true};
-ghost use Rattle.board_rule.specs.EndViews.{read_of};
-ghost use Rattle.board_rule.specs.ReaderSteps.{IsReader};
+ghost use Rattle.board_rule.specs.buffers.EndViews.{read_of};
+ghost use Rattle.board_rule.specs.buffers.ReaderSteps.{IsReader};
 ghost use Rattle.board_rule.specs.Steps.{StoresPending, pending_stored, StoresStatus, status_stored};
-ghost use Rattle.board_rule.specs.EventSteps.{Looks, looked, StoresLate, late_stored};
+ghost use Rattle.board_rule.specs.events.EventSteps.{Looks, looked, StoresLate, late_stored};
 
 use crate::board::Board;
 use crate::lead::{

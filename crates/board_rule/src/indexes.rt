@@ -5,9 +5,9 @@ ghost use Rattle.std.specs.Prelude.{◌≡◌, ◌<◌, length};
 ghost use Rattle.pw_base.specs.Layout.{io_place, readers_place, sample_place};
 ghost use Rattle.pw_base.specs.Pools.{pools_of};
 ghost use Rattle.board_rule.specs.Layout.{nodes};
-ghost use Rattle.board_rule.specs.Spans.{block_at};
-ghost use Rattle.board_rule.specs.Areas.{area_of};
-ghost use Rattle.board_rule.specs.EndViews.{link_at, pool_at, writer_of, reader_of, filler_of, pool_of};
+ghost use Rattle.board_rule.specs.buffers.Spans.{block_at};
+ghost use Rattle.board_rule.specs.buffers.Areas.{area_of};
+ghost use Rattle.board_rule.specs.buffers.EndViews.{link_at, pool_at, writer_of, reader_of, filler_of, pool_of};
 
 use crate::board::Board;
 

@@ -2,7 +2,7 @@
 //! cycle.
 ghost use Rattle.std.specs.Prelude.{◌≡◌, ◌+◌, ◌<◌, ◌≤◌, false, true, length, All, Contains, slice_index_or, slice_set};
 ghost use Rattle.std.specs.List.Sorted.{IsStrictlyIncreasing};
-ghost use Rattle.board_rule.specs.Left.{left_of, untold};
+ghost use Rattle.board_rule.specs.activation.Left.{left_of, untold};
 
 // 1 where the node at an index has yet to tell.
 fn untold_at(told: &[bool], m: usize) -> usize

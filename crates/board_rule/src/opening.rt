@@ -5,8 +5,8 @@ ghost use Rattle.pw_base.specs.Layout.{event_count};
 ghost use Rattle.pw_base.specs.Pools.{IsPooledShape};
 ghost use Rattle.board_rule.specs.Known.{Known};
 ghost use Rattle.board_rule.specs.Layout.{layout_of, HasSeats};
-ghost use Rattle.board_rule.specs.SampleWords.{IsTable};
-ghost use Rattle.board_rule.specs.Slots.{IsStart};
+ghost use Rattle.board_rule.specs.buffers.SampleWords.{IsTable};
+ghost use Rattle.board_rule.specs.start.Slots.{IsStart};
 ghost use Rattle.board_rule.specs.View.{Samples, first_view, driver_view, loop_view, split_off};
 
 use crate::board::Board;

@@ -4,9 +4,9 @@ ghost use Rattle.board_rule.specs.OnBoard.{layout};
 ghost use Rattle.std.specs.Prelude.{◌≡◌, ◌<◌, ◌≤◌, ◌^◌, true, cond, eqb};
 ghost use Rattle.pw_base.specs.declared.event.Event.TheVariants.{Start, Finish};
 ghost use Rattle.pw_base.specs.EventWords.{event_node};
-ghost use Rattle.board_rule.specs.Bits.{with_bit};
+ghost use Rattle.board_rule.specs.events.Bits.{with_bit};
 ghost use Rattle.board_rule.specs.Layout.{nodes};
-ghost use Rattle.board_rule.specs.Progress.{progress_settled};
+ghost use Rattle.board_rule.specs.activation.Progress.{progress_settled};
 
 use crate::board::Board;
 use pw_base::Event;

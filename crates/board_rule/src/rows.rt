@@ -4,7 +4,7 @@ ghost use Rattle.std.specs.List.{position, position_or_len};
 ghost use Rattle.board_rule.specs.Layout.{index_in, required_row, target_rows};
 ghost use Rattle.pw_base.specs.Layout.{area_count, areas_of, event_place, event_count, word_count};
 ghost use Rattle.pw_base.specs.Pools.{IsPooledShape, is_same_port, pools_of};
-ghost use Rattle.board_rule.specs.EndViews.{pool_in};
+ghost use Rattle.board_rule.specs.buffers.EndViews.{pool_in};
 ghost use Rattle.board_rule.specs.Rows.{IsLinkRow, HasLinkRows, IsPoolRow, HasPoolRows, HasRows, HasIndexes, base_of};
 
 use pw_base::{Memory, PoolShape, PortId, Shape, ShapeLink, is_same_port, pools_of};
@@ -61,7 +61,7 @@ fn find_index(shape: &Shape, node: u32) -> Option<usize>
 }
 
 /// The index of a node of a shape, or the number of its nodes. Cost: a look at each node.
-#[tactic(auto, using(crate::proofs::RowLemmas::place_or_end))]
+#[tactic(auto, using(crate::proofs::activation::RowLemmas::place_or_end))]
 pub fn index_in(shape: &Shape, node: u32) -> usize
     ensures { result ≡ index_in shape.now node }
 {

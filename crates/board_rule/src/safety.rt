@@ -4,7 +4,7 @@ ghost use Rattle.atomic_table.specs.Table.{State};
 ghost use Rattle.board_rule.specs.declared.view.View.{View};
 ghost use Rattle.board_rule.specs.Layout.{layout_of};
 ghost use Rattle.board_rule.specs.BoardRule.{Holds};
-ghost use Rattle.board_rule.specs.BufferSafety.{AreSafe};
+ghost use Rattle.board_rule.specs.buffers.BufferSafety.{AreSafe};
 
 use crate::board::Board;
 

@@ -5,14 +5,14 @@ ghost use Rattle.atomic_table.specs.Seated.{TableId};
 ghost use Rattle.pw_base.specs.Layout.{event_count, sample_place};
 ghost use Rattle.board_rule.specs.declared.view.View.{View};
 ghost use Rattle.board_rule.specs.Layout.{first};
-ghost use Rattle.board_rule.specs.Bits.{woke_of};
+ghost use Rattle.board_rule.specs.events.Bits.{woke_of};
 ghost use Rattle.board_rule.specs.Steps.{IsMember, cycle_of, Lowers, lowered, Triggers, triggered, Claims, claimed, IsReadyToFinish};
 ghost use Rattle.board_rule.specs.Steps.{finished};
-ghost use Rattle.board_rule.specs.EventSteps.{Draws, draws, StoresEvent, event_stored};
-ghost use Rattle.board_rule.specs.SampleWords.{IsTable, packed};
-ghost use Rattle.board_rule.specs.EndViews.{read_of, pool_at, pool_of};
-ghost use Rattle.board_rule.specs.ReaderSteps.{LoadsAsReader, loaded_as_reader, IsPublished, IsReading, LoadsSample, sample_loaded};
-ghost use Rattle.board_rule.specs.ReaderSteps.{LowersReaders, readers_lowered, samples_read, StoresNeed, need_stored};
+ghost use Rattle.board_rule.specs.events.EventSteps.{Draws, draws, StoresEvent, event_stored};
+ghost use Rattle.board_rule.specs.buffers.SampleWords.{IsTable, packed};
+ghost use Rattle.board_rule.specs.buffers.EndViews.{read_of, pool_at, pool_of};
+ghost use Rattle.board_rule.specs.buffers.ReaderSteps.{LoadsAsReader, loaded_as_reader, IsPublished, IsReading, LoadsSample, sample_loaded};
+ghost use Rattle.board_rule.specs.buffers.ReaderSteps.{LowersReaders, readers_lowered, samples_read, StoresNeed, need_stored};
 
 use crate::board::Board;
 

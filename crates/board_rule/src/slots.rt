@@ -3,11 +3,11 @@ ghost use Rattle.std.specs.Prelude.{◌≡◌, ℕ, ◌+◌, ◌<◌, eqb, IfOk,
 ghost use Rattle.pw_base.specs.Pools.{pools_of};
 ghost use Rattle.board_rule.specs.OnBoard.{layout};
 ghost use Rattle.board_rule.specs.Layout.{layout_of, nodes};
-ghost use Rattle.board_rule.specs.Owners.{owners_of, slot_in, AreSlots};
+ghost use Rattle.board_rule.specs.start.Owners.{owners_of, slot_in, AreSlots};
 ghost use Rattle.board_rule.specs.Rows.{HasPoolRows, HasIndexes};
-ghost use Rattle.board_rule.specs.Slots.{AreOwners, HasSlots};
-ghost use Rattle.board_rule.specs.Spans.{block_at};
-ghost use Rattle.board_rule.specs.EndViews.{pool_at};
+ghost use Rattle.board_rule.specs.start.Slots.{AreOwners, HasSlots};
+ghost use Rattle.board_rule.specs.buffers.Spans.{block_at};
+ghost use Rattle.board_rule.specs.buffers.EndViews.{pool_at};
 
 use crate::board::Board;
 use crate::board_shape::BoardShape;

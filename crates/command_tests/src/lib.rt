@@ -1,5 +1,6 @@
 //! Tests of whole command lines that are refused or fail, and of `dump`, `filter`, `automate`,
-//! `check` and `soak`, over files and an output in memory. There is nothing else here.
+//! `check` and `soak`, over files and an output in memory; and of the sentences that statuses are
+//! told in. There is nothing else here.
 #![tactic(auto)]
 
 #[cfg(test)]
@@ -8,6 +9,8 @@ mod automation;
 mod faults;
 #[cfg(test)]
 mod filters;
+#[cfg(test)]
+mod messages;
 #[cfg(test)]
 mod pods;
 #[cfg(test)]

@@ -23,8 +23,8 @@ use Rattle.board_rule.specs.declared.view.View.{View}
 use Rattle.board_rule.specs.Known.{Known}
 use Rattle.board_rule.specs.Layout.{BoardLayout, nodes, first}
 use Rattle.board_rule.specs.View.{Samples, idle, node_of, unwritten, unread, first_write, loop_view}
-use Rattle.board_rule.specs.Spans.{block_at}
-use Rattle.board_rule.specs.EndViews.{no_link, no_pool, pool_at, read_of, write_of}
+use Rattle.board_rule.specs.buffers.Spans.{block_at}
+use Rattle.board_rule.specs.buffers.EndViews.{no_link, no_pool, pool_at, read_of, write_of}
 use Rattle.buffer_pool.specs.Queue.{Queue}
 use Rattle.activation_words.proofs.MemberLemmas.{new_rests}
 use Rattle.io_areas.specs.FreeBlocks.{FreeBlocks, free_at_start}

@@ -12,11 +12,11 @@ use Rattle.board_rule.specs.declared.view.DriverPhase.TheVariants.{FinishStored}
 use Rattle.board_rule.specs.declared.view.ReadView.{ReadView}
 use Rattle.board_rule.specs.declared.view.View.{View}
 use Rattle.board_rule.specs.Layout.{BoardLayout, layout_of, nodes}
-use Rattle.board_rule.specs.EndViews.{read_of, link_at}
-use Rattle.board_rule.specs.SeatNodes.{HasNode}
-use Rattle.board_rule.specs.WorkSteps.{untold, IsReadyToFinish}
-use Rattle.board_rule.proofs.WiringLemmas.{wired}
-use Rattle.board_rule.proofs.HolderLemmas.{link_there}
+use Rattle.board_rule.specs.buffers.EndViews.{read_of, link_at}
+use Rattle.board_rule.specs.activation.SeatNodes.{HasNode}
+use Rattle.board_rule.specs.activation.WorkSteps.{untold, IsReadyToFinish}
+use Rattle.board_rule.proofs.buffers.WiringLemmas.{wired}
+use Rattle.board_rule.proofs.buffers.HolderLemmas.{link_there}
 use Rattle.activation_words.specs.Calls.{started, worked, HasFinished}
 use Rattle.io_areas.specs.PooledBoard.{IsPooledBoard}
 use Rattle.io_areas.specs.Ends.{IsReadUpTo}

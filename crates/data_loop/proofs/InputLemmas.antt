@@ -22,12 +22,12 @@ use Rattle.cycle_model.specs.Cycle.{Outputs, outputs, brought, input_of}
 use Rattle.cycle_model.specs.Expected.{epoch_rows}
 use Rattle.board_rule.specs.declared.view.View.{View}
 use Rattle.board_rule.specs.Layout.{BoardLayout, first, last}
-use Rattle.board_rule.specs.SampleWords.{samples_in}
-use Rattle.board_rule.specs.Areas.{delay_by}
-use Rattle.board_rule.specs.BlockReadings.{delay_at}
-use Rattle.board_rule.specs.EndViews.{no_link, no_pool, link_at, pool_at, pool_of}
-use Rattle.board_rule.proofs.WiringLemmas.{wired}
-use Rattle.board_rule.proofs.HolderLemmas.{link_is, link_there, pool_there}
+use Rattle.board_rule.specs.buffers.SampleWords.{samples_in}
+use Rattle.board_rule.specs.buffers.Areas.{delay_by}
+use Rattle.board_rule.specs.buffers.BlockReadings.{delay_at}
+use Rattle.board_rule.specs.buffers.EndViews.{no_link, no_pool, link_at, pool_at, pool_of}
+use Rattle.board_rule.proofs.buffers.WiringLemmas.{wired}
+use Rattle.board_rule.proofs.buffers.HolderLemmas.{link_is, link_there, pool_there}
 use Rattle.io_areas.specs.PooledBoard.{IsPooledBoard}
 use Rattle.io_areas.specs.Quanta.{quantum_of}
 use Rattle.io_areas.specs.Reading.{stamp_brought, brought_in}

@@ -34,8 +34,8 @@ use Rattle.cycle_model.specs.Expected.{epoch_rows, expected_samples}
 use Rattle.cycle_model.specs.Mixing.{takes_part}
 use Rattle.board_rule.specs.declared.view.View.{View}
 use Rattle.board_rule.specs.Layout.{BoardLayout, nodes, first, last}
-use Rattle.board_rule.specs.EndViews.{link_at, no_link}
-use Rattle.board_rule.proofs.HolderLemmas.{link_there}
+use Rattle.board_rule.specs.buffers.EndViews.{link_at, no_link}
+use Rattle.board_rule.proofs.buffers.HolderLemmas.{link_there}
 use Rattle.node_state.specs.declared.node_state.NodeState.{NodeState}
 use Rattle.node_progress.specs.Standing.{port_at, works_in}
 use Rattle.node_progress.specs.NodeStates.{IsNodeState}

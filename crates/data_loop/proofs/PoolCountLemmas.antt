@@ -15,7 +15,7 @@ use Rattle.pw_base.specs.PlanSums.{epoch_events}
 use Rattle.pw_base.specs.Pools.{pools_of, sources_of, pool_of, blocks_of, asked, links_from, is_same_port, IsPooledShape}
 use Rattle.pw_base.specs.SoundPlan.{IsSoundPlan}
 use Rattle.pw_base.proofs.LayoutLemmas.{pools_have_blocks}
-use Rattle.board_rule.proofs.PortLemmas.{few_ports}
+use Rattle.board_rule.proofs.buffers.PortLemmas.{few_ports}
 
 most_asked : {X : Type 0} (f : X → ℕ) (m a : ℕ) (xs : List X) → a ≤ m → All (λ x. f x ≤ m) xs → fold (λ top x. max top (f x)) a xs ≤ m
 most_asked f m a [] low each = low

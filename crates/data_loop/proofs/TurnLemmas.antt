@@ -16,9 +16,9 @@ use Rattle.cycle_model.specs.Expected.{epoch_rows}
 use Rattle.cycle_model.proofs.RowLemmas.{map_map}
 use Rattle.board_rule.specs.declared.view.View.{View}
 use Rattle.board_rule.specs.Layout.{BoardLayout, first, last}
-use Rattle.board_rule.specs.SampleWords.{samples_in}
-use Rattle.board_rule.specs.EndViews.{pool_at}
-use Rattle.board_rule.specs.BlockSteps.{fill_cycle}
+use Rattle.board_rule.specs.buffers.SampleWords.{samples_in}
+use Rattle.board_rule.specs.buffers.EndViews.{pool_at}
+use Rattle.board_rule.specs.buffers.BlockSteps.{fill_cycle}
 use Rattle.node_progress.specs.declared.score.Score.{Score}
 use Rattle.data_loop.specs.turns.Ends.{reads_of}
 use Rattle.node_progress.specs.Standing.{Gives}

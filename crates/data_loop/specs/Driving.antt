@@ -8,9 +8,9 @@ use Rattle.cycle_model.specs.Expected.{epoch_rows}
 use Rattle.board_rule.specs.declared.view.DriverPhase.TheVariants.{FinishStored}
 use Rattle.board_rule.specs.declared.view.View.{View}
 use Rattle.board_rule.specs.Layout.{BoardLayout}
-use Rattle.board_rule.specs.EndViews.{reader_of, read_of}
-use Rattle.board_rule.specs.SeatNodes.{HasNode}
-use Rattle.board_rule.specs.WorkSteps.{untold}
+use Rattle.board_rule.specs.buffers.EndViews.{reader_of, read_of}
+use Rattle.board_rule.specs.activation.SeatNodes.{HasNode}
+use Rattle.board_rule.specs.activation.WorkSteps.{untold}
 use Rattle.activation_words.specs.Calls.{IsAwake}
 use Rattle.io_areas.specs.Ends.{IsReadUpTo}
 use Rattle.node_progress.specs.declared.score.Score.{Score}

@@ -4,7 +4,7 @@
 use Rattle.std.specs.Prelude.{◌≡◌, ◌≢◌, ℕ, ◌+◌, ◌<◌, ◌≤◌, Bool, false, cond, not, eqb, List, ◌++◌, All, length, filter, take, slice_index_or}
 use Rattle.board_rule.specs.declared.view.View.{View}
 use Rattle.board_rule.specs.Layout.{BoardLayout, first}
-use Rattle.board_rule.specs.SeatNodes.{IsMember}
+use Rattle.board_rule.specs.activation.SeatNodes.{IsMember}
 use Rattle.data_loop.specs.declared.did.Did.{Did}
 use Rattle.data_loop.specs.declared.front.Front.{Front}
 use Rattle.data_loop.specs.declared.member.Member.{Member}

@@ -9,8 +9,8 @@ use Rattle.cycle_model.specs.Epochs.{epoch_at}
 use Rattle.cycle_model.specs.Expected.{epoch_rows}
 use Rattle.board_rule.specs.declared.view.View.{View}
 use Rattle.board_rule.specs.Layout.{BoardLayout, first, last}
-use Rattle.board_rule.specs.EndViews.{link_at, pool_at, pool_of}
-use Rattle.board_rule.specs.ReaderSteps.{read_cycle}
+use Rattle.board_rule.specs.buffers.EndViews.{link_at, pool_at, pool_of}
+use Rattle.board_rule.specs.buffers.ReaderSteps.{read_cycle}
 use Rattle.data_loop.specs.declared.inputs.Input.{Input}
 use Rattle.node_progress.specs.declared.score.Score.{Score}
 use Rattle.node_progress.specs.Standing.{wide_at}

@@ -5,7 +5,7 @@ use Rattle.std.specs.Prelude.{◌≡◌, ℕ, ℤ, pos, Bool, true, not, List, [
 use Rattle.std.specs.Prelude.{Option, Some, None, if◌then◌else◌}
 use Rattle.board_rule.specs.declared.view.View.{View}
 use Rattle.board_rule.specs.Layout.{BoardLayout}
-use Rattle.board_rule.specs.EndViews.{pool_of}
+use Rattle.board_rule.specs.buffers.EndViews.{pool_of}
 use Rattle.io_areas.specs.Reading as reading
 use Rattle.io_areas.specs.Quanta.{quantum_of}
 use Rattle.data_loop.specs.declared.inputs.Input.{Input}

@@ -2,7 +2,7 @@
 -- Source: PipeWire's documentation, "Graph Scheduling" (a node that is done decrements the pending
 -- count of its targets, and a target whose count is then 0 is triggered).
 use Rattle.std.specs.Prelude.{◌≡◌, ◌≢◌, ℕ, ◌+◌, ◌<◌, ◌==◌, List, [], Contains, filter, length}
-use Rattle.board_rule.specs.Bits.{woke_of}
+use Rattle.board_rule.specs.events.Bits.{woke_of}
 use Rattle.board_rule.specs.Layout.{BoardLayout}
 use Rattle.data_loop.specs.declared.did.Did.{Did}
 use Rattle.data_loop.specs.declared.did.Did.TheVariants.{Ran, Idle}

@@ -7,7 +7,7 @@ use Rattle.node_state.specs.declared.node_state.NodeState.{NodeState}
 use Rattle.board_rule.specs.declared.view.View.{View}
 use Rattle.board_rule.specs.Layout.{BoardLayout}
 use Rattle.board_rule.specs.View.{node_of}
-use Rattle.board_rule.specs.EndViews.{pool_at}
+use Rattle.board_rule.specs.buffers.EndViews.{pool_at}
 use Rattle.data_loop.specs.turns.Ends.{fills_of}
 use Rattle.data_loop.specs.declared.member.Member.{Member}
 use Rattle.node_progress.specs.declared.score.Score.{Score}

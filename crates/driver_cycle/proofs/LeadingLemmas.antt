@@ -9,8 +9,8 @@ use Rattle.board_rule.specs.Layout.{BoardLayout, last}
 use Rattle.board_rule.specs.OnBoard.{layout}
 use Rattle.board_rule.specs.View.{unread}
 use Rattle.board_rule.specs.Known.{Known}
-use Rattle.board_rule.specs.SeatNodes.{HasNode}
-use Rattle.board_rule.specs.WorkSteps.{woken, tried}
+use Rattle.board_rule.specs.activation.SeatNodes.{HasNode}
+use Rattle.board_rule.specs.activation.WorkSteps.{woken, tried}
 use Rattle.activation_words.specs.CycleCalls.{HasBegun, HasChecked, HasEnded}
 use Rattle.io_areas.specs.Ends.{IsReadUpTo}
 use Rattle.node_progress.specs.declared.score.Score.{Score}

@@ -6,7 +6,7 @@ use Rattle.std.specs.Prelude.{◌≡◌, ◌≢◌, ℕ, Bool, true, false, Opti
 use Rattle.pw_base.specs.Words.{triggered_word}
 use Rattle.board_rule.specs.declared.view.View.{View}
 use Rattle.board_rule.specs.Layout.{BoardLayout}
-use Rattle.board_rule.specs.WorkSteps.{woken, tried}
+use Rattle.board_rule.specs.activation.WorkSteps.{woken, tried}
 use Rattle.activation_words.specs.CycleCalls.{HasEnded}
 use Rattle.data_loop.specs.Driving.{HasDriven}
 use Rattle.driver_cycle.specs.Rounds.{IsLook}

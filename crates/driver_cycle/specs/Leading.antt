@@ -13,7 +13,7 @@ use Rattle.node_progress.specs.declared.score.Score.{Score}
 use Rattle.data_loop.specs.Driving.{IsDriverRead}
 -- between two cycles, waiting for the driver's node, and at the end: views of the seat
 pub use Rattle.activation_words.specs.Members.{IsBetween, IsWaiting, IsDriving}
-pub use Rattle.board_rule.specs.Closing.{HasEndedAll}
+pub use Rattle.board_rule.specs.events.Closing.{HasEndedAll}
 
 -- THE SEAT on the board of epoch k, whose samples are those of the cycle function. Each link into
 -- the driver's node is read in the cycles before the seat's, and not yet in it

@@ -11,8 +11,6 @@ mod epoch;
 mod leading;
 mod rounds;
 mod settling;
-#[cfg(test)]
-mod tests;
 mod turning;
 mod waking;
 

@@ -11,8 +11,6 @@ mod pod_messages;
 mod putting;
 mod script_messages;
 mod sentences;
-#[cfg(test)]
-mod tests;
 
 pub use explaining::explain;
 pub use sentences::message;

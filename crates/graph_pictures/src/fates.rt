@@ -7,7 +7,7 @@ use pw_base::{Items, Memory, PortId, is_same_port};
 use std::alloc::Global;
 
 /// An `unlink` line, by its number and its ports.
-#[derive(Clone, Copy, Debug, PartialEq, Eq, Drop)]
+#[derive(Clone, Copy, Drop)]
 pub struct Cut {
     pub line: u32,
     pub from: PortId,
@@ -15,7 +15,7 @@ pub struct Cut {
 }
 
 /// The nodes that an `async` line names, and the `unlink` lines.
-#[derive(Debug, Drop)]
+#[derive(Drop)]
 pub struct Fates {
     pub late: Items<u32>,
     pub cuts: Items<Cut>,

@@ -8,7 +8,7 @@ use pw_base::Text;
 
 /// Where the strip begins, how wide a band of it is and how high the rows are, in points; how many
 /// bands there are; how many events are drawn, and of how many.
-#[derive(Clone, Copy, Debug, Drop)]
+#[derive(Clone, Copy, Drop)]
 pub struct Frame {
     pub left: u64,
     pub wide: u64,

@@ -9,7 +9,7 @@ use Rattle.cycle_model.specs.WavesFit.{WavesFit}
 use Rattle.cycle_model.specs.Expected.{AreShort, expected_samples}
 use Rattle.cycle_model.proofs.ExpectedLemmas.{expected_long, expected_short}
 use Rattle.board_rule.specs.Layout.{layout_of}
-use Rattle.board_rule.specs.SampleWords.{IsTable}
+use Rattle.board_rule.specs.buffers.SampleWords.{IsTable}
 use Rattle.graph_run.specs.Assignment.{epoch_board}
 
 pub is_table : (plan : Plan) (waves : List WavIn) (loops : ℕ) → IsSoundPlan plan → WavesFit plan waves → AreShort waves → (k : ℕ) (e : Epoch)

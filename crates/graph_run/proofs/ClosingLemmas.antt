@@ -11,7 +11,7 @@ use Rattle.pw_base.specs.History.{is_tick, IsLegalCycle, cycles_of, epoch_cycles
 use Rattle.board_rule.specs.declared.board.Board.{Board}
 use Rattle.board_rule.specs.declared.closed.Closed.{Closed}
 use Rattle.board_rule.specs.Known.{Known}
-use Rattle.board_rule.specs.Closing.{expected}
+use Rattle.board_rule.specs.events.Closing.{expected}
 use Rattle.graph_run.specs.Closing.{HasEnded}
 
 all_zip_append : {A B : Type 0} (R : A → B → Type 0) (xs us : List A) (ys vs : List B) → AllZip R xs ys → AllZip R us vs

@@ -21,7 +21,7 @@ use Rattle.cycle_model.specs.Expected.{expected_samples}
 use Rattle.board_rule.specs.declared.board.Board.{Board}
 use Rattle.board_rule.specs.declared.closed.Closed.{Closed}
 use Rattle.board_rule.specs.declared.board_shape.BoardShape.{BoardShape}
-use Rattle.board_rule.specs.Closing.{expected}
+use Rattle.board_rule.specs.events.Closing.{expected}
 use Rattle.board_rule.specs.Known.{Known}
 use Rattle.data_loop.specs.declared.loop_state.LoopState.{LoopState}
 use Rattle.graph_run.specs.declared.lists.Lists.{Lists}

@@ -26,9 +26,9 @@ use Rattle.board_rule.specs.declared.view.ReadView.{ReadView}
 use Rattle.board_rule.specs.Known.{Known}
 use Rattle.board_rule.specs.Layout.{BoardLayout, nodes, first, HasSeats}
 use Rattle.board_rule.specs.OnBoard.{layout, table_of}
-use Rattle.board_rule.specs.EndViews.{read_of}
+use Rattle.board_rule.specs.buffers.EndViews.{read_of}
 use Rattle.board_rule.specs.View.{unread, driver_view}
-use Rattle.board_rule.proofs.SoundLemmas.{sound_layout}
+use Rattle.board_rule.proofs.events.SoundLemmas.{sound_layout}
 use Rattle.activation_words.proofs.MemberLemmas.{new_between}
 use Rattle.io_areas.specs.PooledBoard.{IsPooledBoard}
 use Rattle.node_progress.specs.declared.score.Score.{Score}

@@ -2,7 +2,7 @@
 -- Source: this project's own.
 use Rattle.board_rule.specs.declared.board.Board.{Board}
 use Rattle.board_rule.specs.Known.{Known}
-use Rattle.board_rule.specs.Closing.{HasEndedAll}
+use Rattle.board_rule.specs.events.Closing.{HasEndedAll}
 use Rattle.board_rule.specs.OnBoard.{IsOn, layout}
 
 -- the driver's seat of the board has ended all cycles of its epoch

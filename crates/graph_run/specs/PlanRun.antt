@@ -9,7 +9,7 @@ use Rattle.pw_base.specs.History.{is_tick, IsLegalHistory}
 use Rattle.wav_files.specs.declared.wav.WavIn.{WavIn}
 use Rattle.cycle_model.specs.Expected.{expected_samples}
 use Rattle.board_rule.specs.declared.closed.Closed.{Closed}
-use Rattle.board_rule.specs.Closing.{expected}
+use Rattle.board_rule.specs.events.Closing.{expected}
 use Rattle.graph_run.specs.Assignment.{epoch_board}
 
 -- THE RUN of a plan by so many loops: one closed board an epoch, of the epoch's shape and with the

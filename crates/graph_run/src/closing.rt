@@ -3,7 +3,7 @@ ghost use Rattle.std.specs.Prelude.{◌≡◌, ◌≤◌, ◌+◌, ◌++◌, [],
 ghost use Rattle.std.specs.List.{AllZip, flat_map};
 ghost use Rattle.pw_base.specs.Layout.{event_count};
 ghost use Rattle.pw_base.specs.History.{is_tick, IsLegalHistory};
-ghost use Rattle.board_rule.specs.Closing.{expected};
+ghost use Rattle.board_rule.specs.events.Closing.{expected};
 ghost use Rattle.graph_run.specs.Closing.{HasEnded};
 
 use board_rule::{Board, Closed, DriverSeat};

@@ -8,7 +8,7 @@ ghost use Rattle.pw_base.specs.SoundPlan.{IsSoundPlan};
 ghost use Rattle.wav_files.specs.WavWriting.{IsWave};
 ghost use Rattle.cycle_model.specs.Rendering.{rendered_sinks, rendered_peaks};
 ghost use Rattle.cycle_model.specs.WavesFit.{WavesFit};
-ghost use Rattle.board_rule.specs.Closing.{expected};
+ghost use Rattle.board_rule.specs.events.Closing.{expected};
 ghost use Rattle.graph_run.specs.Closing.{HasEnded};
 ghost use Rattle.graph_run.specs.Leads.{checks_of};
 ghost use Rattle.graph_run.specs.Outcomes.{AreDone};

@@ -5,7 +5,7 @@ use pw_base::{Items, PortId, Text};
 /// A command. A node is its number, which for a command that makes one is the new node's; a port is
 /// numbered within its node, inputs first. The ranges of the numbers are those that the grammar
 /// allows.
-#[derive(Debug, Drop)]
+#[derive(Drop)]
 pub enum Command {
     /// Frames in a cycle, 1 to 8192.
     Quantum {

@@ -15,7 +15,7 @@ use pw_base::{Items, Memory, NODES};
 use std::alloc::Global;
 
 /// What the lines so far have said; which nodes a link line names; how many lines made an epoch.
-#[derive(Debug, Drop)]
+#[derive(Drop)]
 pub(crate) struct Progress {
     pub reading: Reading,
     pub linked: [bool; NODES],

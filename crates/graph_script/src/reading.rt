@@ -5,21 +5,21 @@ use crate::script::Script;
 use pw_base::{Items, Kind, Text};
 
 /// A node that a line makes.
-#[derive(Debug, Drop)]
+#[derive(Drop)]
 pub(crate) struct Made {
     pub name: Text,
     pub kind: Kind,
 }
 
 /// What a line says: a command, and the node that it makes, if it makes one.
-#[derive(Debug, Drop)]
+#[derive(Drop)]
 pub(crate) struct Said {
     pub command: Command,
     pub made: Option<Made>,
 }
 
 /// A node that a line makes, before memory is taken for its name.
-#[derive(Debug, Drop)]
+#[derive(Drop)]
 pub(crate) struct NewNode<'a> {
     pub command: Command,
     pub name: &'a [u8],
@@ -27,7 +27,7 @@ pub(crate) struct NewNode<'a> {
 }
 
 /// What the lines so far have said: their script, and the kinds of its nodes, by number.
-#[derive(Debug, Drop)]
+#[derive(Drop)]
 pub(crate) struct Reading {
     pub script: Script,
     pub kinds: Items<Kind>,

@@ -6,14 +6,14 @@ use pw_base::{Items, Text};
 
 /// A line of a script that says a command. Lines are numbered from 1; those that say nothing count
 /// too.
-#[derive(Debug, Drop)]
+#[derive(Drop)]
 pub struct Line {
     pub line: u32,
     pub command: Command,
 }
 
 /// A script. The name of node n is at place n of `names`.
-#[derive(Debug, Drop)]
+#[derive(Drop)]
 pub struct Script {
     pub lines: Items<Line>,
     pub names: Items<Text>,

@@ -10,11 +10,11 @@ use Rattle.board_rule.specs.declared.view.BlockView.{BlockView}
 use Rattle.board_rule.specs.declared.view.BlockView.TheVariants.{Free, Filling, Out}
 use Rattle.board_rule.specs.declared.view.View.{View}
 use Rattle.board_rule.specs.Layout.{BoardLayout}
-use Rattle.board_rule.specs.Spans.{block_at}
-use Rattle.board_rule.specs.EndViews.{pool_at, block_of, view_block}
-use Rattle.board_rule.specs.BufferReads.{HasPool}
-use Rattle.board_rule.specs.BlockSteps.{fill_cycle, StoresReaders, readers_stored}
-use Rattle.board_rule.proofs.HolderLemmas.{take_less, pool_there}
+use Rattle.board_rule.specs.buffers.Spans.{block_at}
+use Rattle.board_rule.specs.buffers.EndViews.{pool_at, block_of, view_block}
+use Rattle.board_rule.specs.buffers.BufferReads.{HasPool}
+use Rattle.board_rule.specs.buffers.BlockSteps.{fill_cycle, StoresReaders, readers_stored}
+use Rattle.board_rule.proofs.buffers.HolderLemmas.{take_less, pool_there}
 use Rattle.io_areas.specs.Writing.{IsAtPool}
 use Rattle.io_areas.proofs.PoolLemmas.{has_block}
 use Rattle.io_areas.proofs.KeptLemmas.{IsKept, at_again}

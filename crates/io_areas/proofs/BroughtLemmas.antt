@@ -11,9 +11,9 @@ use Rattle.pw_base.specs.Samples.{clamped}
 use Rattle.pw_base.specs.Pools.{pools_of}
 use Rattle.board_rule.specs.declared.view.View.{View}
 use Rattle.board_rule.specs.Layout.{BoardLayout, first}
-use Rattle.board_rule.specs.SampleWords.{IsTable, samples_in}
-use Rattle.board_rule.specs.EndViews.{no_pool, pool_at, pool_of}
-use Rattle.board_rule.specs.ReaderSteps.{read_cycle, samples_read}
+use Rattle.board_rule.specs.buffers.SampleWords.{IsTable, samples_in}
+use Rattle.board_rule.specs.buffers.EndViews.{no_pool, pool_at, pool_of}
+use Rattle.board_rule.specs.buffers.ReaderSteps.{read_cycle, samples_read}
 use Rattle.io_areas.specs.Reading.{IsHolding, IsClamped, stamp_brought, brought}
 use Rattle.io_areas.specs.Quanta.{quantum_of}
 use Rattle.io_areas.proofs.SampleLemmas.{IsShort, IsReadTo}

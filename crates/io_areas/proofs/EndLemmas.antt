@@ -4,8 +4,8 @@ use Rattle.board_rule.specs.declared.view.ReadView.{ReadView}
 use Rattle.board_rule.specs.declared.view.View.{View}
 use Rattle.board_rule.specs.Layout.{BoardLayout}
 use Rattle.board_rule.specs.View.{unread}
-use Rattle.board_rule.specs.EndViews.{read_of, view_read}
-use Rattle.board_rule.specs.ReaderSteps.{read_cycle, readers_lowered, need_stored}
+use Rattle.board_rule.specs.buffers.EndViews.{read_of, view_read}
+use Rattle.board_rule.specs.buffers.ReaderSteps.{read_cycle, readers_lowered, need_stored}
 use Rattle.io_areas.specs.Reading.{GivesBack, given_back}
 
 module _ (is_driver : Bool) (p : BoardLayout) (v : View) (l : ℕ) where

@@ -5,11 +5,11 @@ use Rattle.board_rule.specs.declared.view.BlockView.{BlockView}
 use Rattle.board_rule.specs.declared.view.BlockView.TheVariants.{Free, Filling}
 use Rattle.board_rule.specs.declared.view.View.{View}
 use Rattle.board_rule.specs.Layout.{BoardLayout}
-use Rattle.board_rule.specs.SampleWords.{packed}
-use Rattle.board_rule.specs.Spans.{block_at}
-use Rattle.board_rule.specs.EndViews.{pool_at, filler_of, view_block}
-use Rattle.board_rule.specs.SeatNodes.{HasNode}
-use Rattle.board_rule.specs.BlockSteps.{StoresSample, sample_stored}
+use Rattle.board_rule.specs.buffers.SampleWords.{packed}
+use Rattle.board_rule.specs.buffers.Spans.{block_at}
+use Rattle.board_rule.specs.buffers.EndViews.{pool_at, filler_of, view_block}
+use Rattle.board_rule.specs.activation.SeatNodes.{HasNode}
+use Rattle.board_rule.specs.buffers.BlockSteps.{StoresSample, sample_stored}
 use Rattle.io_areas.specs.Writing.{Fills}
 
 -- the first k words of the block have their samples

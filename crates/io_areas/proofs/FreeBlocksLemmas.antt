@@ -10,17 +10,17 @@ use Rattle.board_rule.specs.declared.view.BlockView.{BlockView}
 use Rattle.board_rule.specs.declared.view.BlockView.TheVariants.{Free, Out}
 use Rattle.board_rule.specs.declared.view.View.{View}
 use Rattle.board_rule.specs.Layout.{BoardLayout, first}
-use Rattle.board_rule.specs.BlockReadings.{busy_cycles, is_busy, stamp}
-use Rattle.board_rule.specs.EndViews.{pool_at, block_of}
-use Rattle.board_rule.specs.BufferReads.{HasPool}
-use Rattle.board_rule.specs.BlockSteps.{fill_cycle}
-use Rattle.board_rule.specs.ReclaimSteps.{IsUnreclaimed, IsDue, readers_loaded}
-use Rattle.board_rule.proofs.WiringLemmas.{busy_cycles_some}
+use Rattle.board_rule.specs.buffers.BlockReadings.{busy_cycles, is_busy, stamp}
+use Rattle.board_rule.specs.buffers.EndViews.{pool_at, block_of}
+use Rattle.board_rule.specs.buffers.BufferReads.{HasPool}
+use Rattle.board_rule.specs.buffers.BlockSteps.{fill_cycle}
+use Rattle.board_rule.specs.buffers.ReclaimSteps.{IsUnreclaimed, IsDue, readers_loaded}
+use Rattle.board_rule.proofs.buffers.WiringLemmas.{busy_cycles_some}
 use Rattle.buffer_pool.specs.Queue.{Queue}
 use Rattle.io_areas.specs.Writing.{HasReclaimed, IsUnfilled}
 use Rattle.io_areas.specs.FreeBlocks.{FreeBlocks, recent_count}
 use Rattle.io_areas.specs.OutputAnswer.{IsReclaimed}
-use Rattle.board_rule.proofs.ReclaimLemmas.{busy_cycles_most}
+use Rattle.board_rule.proofs.buffers.ReclaimLemmas.{busy_cycles_most}
 use Rattle.io_areas.proofs.BlockLemmas.{here, else}
 
 pub free_out : (x : BlockView) (n : ℕ) → x ≡ Free → x ≡ Out n → ⊥

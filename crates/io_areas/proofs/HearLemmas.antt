@@ -3,10 +3,10 @@ use Rattle.std.proofs.Common.{◌≡◌, ℕ, zero, suc, ◌+◌, ◌<◌, Bool,
 use Rattle.std.proofs.Common.{length-set, get_or-set_same}
 use Rattle.board_rule.specs.declared.view.View.{View}
 use Rattle.board_rule.specs.Layout.{BoardLayout}
-use Rattle.board_rule.specs.EndViews.{reader_of}
-use Rattle.board_rule.specs.SeatNodes.{HasNode}
-use Rattle.board_rule.specs.WorkSteps.{IsRunning}
-use Rattle.board_rule.specs.ReaderSteps.{heard_of, ReadsBlock, LoadsSample, sample_loaded, samples_read}
+use Rattle.board_rule.specs.buffers.EndViews.{reader_of}
+use Rattle.board_rule.specs.activation.SeatNodes.{HasNode}
+use Rattle.board_rule.specs.activation.WorkSteps.{IsRunning}
+use Rattle.board_rule.specs.buffers.ReaderSteps.{heard_of, ReadsBlock, LoadsSample, sample_loaded, samples_read}
 
 abbrev pub heard_to : View → ℕ → ℕ → View
 heard_to v l zero = v

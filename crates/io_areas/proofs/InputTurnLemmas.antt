@@ -6,10 +6,10 @@ use Rattle.board_rule.specs.declared.view.ReadView.{ReadView}
 use Rattle.board_rule.specs.declared.view.View.{View}
 use Rattle.board_rule.specs.Layout.{BoardLayout}
 use Rattle.board_rule.specs.View.{unread}
-use Rattle.board_rule.specs.EndViews.{read_of, view_read, pool_at, pool_of, reader_of}
-use Rattle.board_rule.specs.SeatNodes.{HasNode}
-use Rattle.board_rule.specs.WorkSteps.{IsRunning}
-use Rattle.board_rule.specs.ReaderSteps.{read_cycle, LoadsAsReader}
+use Rattle.board_rule.specs.buffers.EndViews.{read_of, view_read, pool_at, pool_of, reader_of}
+use Rattle.board_rule.specs.activation.SeatNodes.{HasNode}
+use Rattle.board_rule.specs.activation.WorkSteps.{IsRunning}
+use Rattle.board_rule.specs.buffers.ReaderSteps.{read_cycle, LoadsAsReader}
 use Rattle.io_areas.specs.Reading.{taken, IsHolding, all_heard, brought_in, brought, GivesBack, given_back}
 use Rattle.io_areas.specs.Ends.{IsReadUpTo}
 use Rattle.io_areas.specs.InputTurn.{MayReadInput, HasReadInput}

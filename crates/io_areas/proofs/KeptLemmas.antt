@@ -2,11 +2,11 @@
 use Rattle.std.proofs.Common.{◌≡◌, ℕ, false, length, subst, sym, arith}
 use Rattle.board_rule.specs.declared.view.View.{View}
 use Rattle.board_rule.specs.Layout.{BoardLayout}
-use Rattle.board_rule.specs.BufferReads.{HasPool}
-use Rattle.board_rule.specs.EndViews.{filler_of}
-use Rattle.board_rule.specs.SeatNodes.{IsCycle, HasNode, IsMember}
-use Rattle.board_rule.specs.BlockSteps.{fill_cycle}
-use Rattle.board_rule.specs.WorkSteps.{IsRunning}
+use Rattle.board_rule.specs.buffers.BufferReads.{HasPool}
+use Rattle.board_rule.specs.buffers.EndViews.{filler_of}
+use Rattle.board_rule.specs.activation.SeatNodes.{IsCycle, HasNode, IsMember}
+use Rattle.board_rule.specs.buffers.BlockSteps.{fill_cycle}
+use Rattle.board_rule.specs.activation.WorkSteps.{IsRunning}
 use Rattle.io_areas.specs.Writing.{IsAtPool}
 
 -- the view w is v but for its writers' ends, its blocks and its reclaims

@@ -7,14 +7,14 @@ use Rattle.board_rule.specs.declared.view.WriteView.{WriteView}
 use Rattle.board_rule.specs.declared.view.BlockView.TheVariants.{Free, Out}
 use Rattle.board_rule.specs.declared.view.View.{View}
 use Rattle.board_rule.specs.Layout.{BoardLayout, first}
-use Rattle.board_rule.specs.Areas.{stored_id}
-use Rattle.board_rule.specs.BlockReadings.{delay_at, busy_cycles}
-use Rattle.board_rule.specs.ReclaimSteps.{reclaimed_of, IsUnreclaimed}
-use Rattle.board_rule.specs.EndViews.{pool_at, block_of, view_block, write_of}
-use Rattle.board_rule.specs.SeatNodes.{cycle_of, HasNode}
-use Rattle.board_rule.specs.WorkSteps.{IsRunning}
-use Rattle.board_rule.specs.WriterSteps.{LoadsAsWriter, IsWriter, write_cycle, StoresHave}
-use Rattle.board_rule.specs.BlockSteps.{IsWriting, fill_cycle}
+use Rattle.board_rule.specs.buffers.Areas.{stored_id}
+use Rattle.board_rule.specs.buffers.BlockReadings.{delay_at, busy_cycles}
+use Rattle.board_rule.specs.buffers.ReclaimSteps.{reclaimed_of, IsUnreclaimed}
+use Rattle.board_rule.specs.buffers.EndViews.{pool_at, block_of, view_block, write_of}
+use Rattle.board_rule.specs.activation.SeatNodes.{cycle_of, HasNode}
+use Rattle.board_rule.specs.activation.WorkSteps.{IsRunning}
+use Rattle.board_rule.specs.buffers.WriterSteps.{LoadsAsWriter, IsWriter, write_cycle, StoresHave}
+use Rattle.board_rule.specs.buffers.BlockSteps.{IsWriting, fill_cycle}
 use Rattle.buffer_pool.specs.Queue.{Queue}
 use Rattle.io_areas.specs.Writing.{number_given, IsAtPool, IsUnfilled, Reclaims, HasReclaimed}
 use Rattle.io_areas.specs.PooledBoard.{IsPooledBoard}

@@ -9,9 +9,9 @@ use Rattle.pw_base.specs.declared.pools.PoolShape.{PoolShape}
 use Rattle.pw_base.specs.Pools.{sources_of, pool_of, pools_of}
 use Rattle.board_rule.specs.declared.view.View.{View}
 use Rattle.board_rule.specs.Layout.{BoardLayout}
-use Rattle.board_rule.specs.EndViews.{no_pool, pool_at}
-use Rattle.board_rule.specs.BlockSteps.{HasBlock}
-use Rattle.board_rule.specs.BufferReads.{IsFirstFilled}
+use Rattle.board_rule.specs.buffers.EndViews.{no_pool, pool_at}
+use Rattle.board_rule.specs.buffers.BlockSteps.{HasBlock}
+use Rattle.board_rule.specs.buffers.BufferReads.{IsFirstFilled}
 use Rattle.io_areas.specs.Quanta.{quantum_of}
 use Rattle.io_areas.specs.Writing.{IsAtPool}
 

@@ -5,10 +5,10 @@ use Rattle.pw_base.specs.declared.ids.PortId.{PortId}
 use Rattle.pw_base.specs.declared.shape.ShapeLink.{ShapeLink}
 use Rattle.pw_base.specs.Pools.{pools_of}
 use Rattle.board_rule.specs.Layout.{BoardLayout}
-use Rattle.board_rule.specs.EndViews.{pool_at, pool_of, writer_of, filler_of}
-use Rattle.board_rule.proofs.PortLemmas.{differ_at}
-use Rattle.board_rule.proofs.WiringLemmas.{PoolAt, Wired, wired}
-use Rattle.board_rule.proofs.HolderLemmas.{link_is, pool_there, pool_here}
+use Rattle.board_rule.specs.buffers.EndViews.{pool_at, pool_of, writer_of, filler_of}
+use Rattle.board_rule.proofs.buffers.PortLemmas.{differ_at}
+use Rattle.board_rule.proofs.buffers.WiringLemmas.{PoolAt, Wired, wired}
+use Rattle.board_rule.proofs.buffers.HolderLemmas.{link_is, pool_there, pool_here}
 use Rattle.io_areas.specs.PooledBoard.{IsPooledBoard}
 
 module _ (p : BoardLayout) (board : IsPooledBoard p) (q : ℕ) where

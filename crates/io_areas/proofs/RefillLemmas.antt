@@ -6,11 +6,11 @@ use Rattle.board_rule.specs.declared.view.BlockView.{BlockView}
 use Rattle.board_rule.specs.declared.view.BlockView.TheVariants.{Free}
 use Rattle.board_rule.specs.declared.view.View.{View}
 use Rattle.board_rule.specs.Layout.{BoardLayout}
-use Rattle.board_rule.specs.Spans.{block_at}
-use Rattle.board_rule.specs.EndViews.{pool_at, block_of, view_block}
-use Rattle.board_rule.specs.BlockSteps.{fill_cycle}
-use Rattle.board_rule.specs.ReclaimSteps.{reclaimed_of, IsUnreclaimed}
-use Rattle.board_rule.specs.BufferReads.{HasPool}
+use Rattle.board_rule.specs.buffers.Spans.{block_at}
+use Rattle.board_rule.specs.buffers.EndViews.{pool_at, block_of, view_block}
+use Rattle.board_rule.specs.buffers.BlockSteps.{fill_cycle}
+use Rattle.board_rule.specs.buffers.ReclaimSteps.{reclaimed_of, IsUnreclaimed}
+use Rattle.board_rule.specs.buffers.BufferReads.{HasPool}
 use Rattle.io_areas.specs.Writing.{HasReclaimed}
 use Rattle.io_areas.proofs.KeptLemmas.{IsKept}
 use Rattle.io_areas.proofs.BlockLemmas.{elsewhere}

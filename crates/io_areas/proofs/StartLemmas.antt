@@ -20,10 +20,10 @@ use Rattle.board_rule.specs.declared.view.BlockView.TheVariants.{Free, Out}
 use Rattle.board_rule.specs.declared.view.View.{View}
 use Rattle.board_rule.specs.Layout.{BoardLayout, first}
 use Rattle.board_rule.specs.View.{Samples, is_delayed, first_block, blocks_at_first, loop_view}
-use Rattle.board_rule.specs.BlockReadings.{busy_cycles}
-use Rattle.board_rule.specs.Spans.{block_at}
-use Rattle.board_rule.specs.ReclaimSteps.{reclaimed_of, IsUnreclaimed}
-use Rattle.board_rule.specs.EndViews.{no_pool, pool_at, block_of}
+use Rattle.board_rule.specs.buffers.BlockReadings.{busy_cycles}
+use Rattle.board_rule.specs.buffers.Spans.{block_at}
+use Rattle.board_rule.specs.buffers.ReclaimSteps.{reclaimed_of, IsUnreclaimed}
+use Rattle.board_rule.specs.buffers.EndViews.{no_pool, pool_at, block_of}
 use Rattle.buffer_pool.specs.Queue.{numbers_below}
 use Rattle.io_areas.specs.FreeBlocks.{FreeBlocks, free_at_start, recent_count}
 

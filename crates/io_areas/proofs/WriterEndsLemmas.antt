@@ -9,10 +9,10 @@ use Rattle.board_rule.specs.declared.view.BlockView.TheVariants.{Out}
 use Rattle.board_rule.specs.declared.view.View.{View}
 use Rattle.board_rule.specs.Layout.{BoardLayout, first}
 use Rattle.board_rule.specs.View.{unwritten}
-use Rattle.board_rule.specs.Areas.{stored_id}
-use Rattle.board_rule.specs.BlockReadings.{delay_at}
-use Rattle.board_rule.specs.EndViews.{write_of, view_write, pool_of, writer_of, block_of}
-use Rattle.board_rule.specs.WriterSteps.{LoadsAsWriter, IsWriter, write_cycle, StoresHave}
+use Rattle.board_rule.specs.buffers.Areas.{stored_id}
+use Rattle.board_rule.specs.buffers.BlockReadings.{delay_at}
+use Rattle.board_rule.specs.buffers.EndViews.{write_of, view_write, pool_of, writer_of, block_of}
+use Rattle.board_rule.specs.buffers.WriterSteps.{LoadsAsWriter, IsWriter, write_cycle, StoresHave}
 use Rattle.io_areas.specs.Writing.{number_given}
 use Rattle.io_areas.specs.OutputSteps.{AreMade, IsLoadedNow, IsPublishedNow}
 use Rattle.io_areas.proofs.KeptLemmas.{IsKept, has_again, runs_again}

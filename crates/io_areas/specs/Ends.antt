@@ -3,7 +3,7 @@
 -- Source: this project's own.
 use Rattle.std.specs.Prelude.{◌≡◌, ℕ, ◌<◌, length}
 use Rattle.board_rule.specs.declared.view.View.{View}
-use Rattle.board_rule.specs.EndViews.{write_of, read_of}
+use Rattle.board_rule.specs.buffers.EndViews.{write_of, read_of}
 
 pub record IsWrittenUpTo (v : View) (l c : ℕ) : Type 0 where
   pub there : l < length v.writes

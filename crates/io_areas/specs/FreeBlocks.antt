@@ -7,9 +7,9 @@ use Rattle.pw_base.specs.declared.pools.PoolShape.{PoolShape}
 use Rattle.board_rule.specs.declared.view.BlockView.TheVariants.{Free, Out}
 use Rattle.board_rule.specs.declared.view.View.{View}
 use Rattle.board_rule.specs.Layout.{BoardLayout, first}
-use Rattle.board_rule.specs.BlockReadings.{busy_cycles}
-use Rattle.board_rule.specs.EndViews.{pool_at, block_of}
-use Rattle.board_rule.specs.ReclaimSteps.{IsUnreclaimed}
+use Rattle.board_rule.specs.buffers.BlockReadings.{busy_cycles}
+use Rattle.board_rule.specs.buffers.EndViews.{pool_at, block_of}
+use Rattle.board_rule.specs.buffers.ReclaimSteps.{IsUnreclaimed}
 use Rattle.board_rule.specs.View.{is_delayed}
 use Rattle.buffer_pool.specs.Queue.{Queue, numbers_below}
 

@@ -3,10 +3,10 @@
 use Rattle.std.specs.Prelude.{◌≡◌, ℕ, ◌+◌, ◌<◌, Bool, length, slice_set as set}
 use Rattle.board_rule.specs.declared.view.View.{View}
 use Rattle.board_rule.specs.Layout.{BoardLayout}
-use Rattle.board_rule.specs.EndViews.{view_read, pool_at, pool_of, reader_of}
-use Rattle.board_rule.specs.SeatNodes.{HasNode}
-use Rattle.board_rule.specs.WorkSteps.{IsRunning}
-use Rattle.board_rule.specs.ReaderSteps.{read_cycle}
+use Rattle.board_rule.specs.buffers.EndViews.{view_read, pool_at, pool_of, reader_of}
+use Rattle.board_rule.specs.activation.SeatNodes.{HasNode}
+use Rattle.board_rule.specs.activation.WorkSteps.{IsRunning}
+use Rattle.board_rule.specs.buffers.ReaderSteps.{read_cycle}
 use Rattle.io_areas.specs.Ends.{IsReadUpTo}
 
 -- the link's reader works, and has not touched it in this cycle

@@ -5,10 +5,10 @@ use Rattle.std.specs.Prelude.{option_to_list}
 use Rattle.board_rule.specs.declared.view.BlockView.TheVariants.{Free, Out}
 use Rattle.board_rule.specs.declared.view.View.{View}
 use Rattle.board_rule.specs.Layout.{BoardLayout, first}
-use Rattle.board_rule.specs.BlockReadings.{delay_at, busy_cycles}
-use Rattle.board_rule.specs.EndViews.{pool_at, block_of}
-use Rattle.board_rule.specs.BlockSteps.{fill_cycle}
-use Rattle.board_rule.specs.ReclaimSteps.{IsZeroAtSecond}
+use Rattle.board_rule.specs.buffers.BlockReadings.{delay_at, busy_cycles}
+use Rattle.board_rule.specs.buffers.EndViews.{pool_at, block_of}
+use Rattle.board_rule.specs.buffers.BlockSteps.{fill_cycle}
+use Rattle.board_rule.specs.buffers.ReclaimSteps.{IsZeroAtSecond}
 use Rattle.io_areas.specs.Writing.{number_given}
 use Rattle.io_areas.specs.declared.output_turn.OutputWritten.{OutputWritten}
 

@@ -5,8 +5,8 @@ use Rattle.std.specs.Prelude.{◌≡◌, ℕ, ◌+◌, List, Contains, length}
 use Rattle.board_rule.specs.declared.view.WriteView.{WriteView}
 use Rattle.board_rule.specs.declared.view.View.{View}
 use Rattle.board_rule.specs.Layout.{BoardLayout}
-use Rattle.board_rule.specs.EndViews.{write_of}
-use Rattle.board_rule.specs.WriterSteps.{write_cycle}
+use Rattle.board_rule.specs.buffers.EndViews.{write_of}
+use Rattle.board_rule.specs.buffers.WriterSteps.{write_cycle}
 
 -- the ends of these links are others, each as `Made` says, and nothing else is
 pub record AreMade (Made : ℕ → WriteView → WriteView → Type 0) (v : View) (links : List ℕ)

@@ -4,12 +4,12 @@ use Rattle.std.specs.Prelude.{◌≡◌, ◌≢◌, ℕ, ◌+◌, ◌<◌, Conta
 use Rattle.pw_base.specs.Pools.{pools_of}
 use Rattle.board_rule.specs.declared.view.View.{View}
 use Rattle.board_rule.specs.Layout.{BoardLayout}
-use Rattle.board_rule.specs.EndViews.{pool_at, filler_of, write_of, block_of}
-use Rattle.board_rule.specs.WorkSteps.{IsRunning}
-use Rattle.board_rule.specs.BlockSteps.{fill_cycle}
-use Rattle.board_rule.specs.SeatNodes.{IsCycle}
-use Rattle.board_rule.specs.ReclaimSteps.{reclaimed_of}
-use Rattle.board_rule.specs.BufferReads.{HasPool}
+use Rattle.board_rule.specs.buffers.EndViews.{pool_at, filler_of, write_of, block_of}
+use Rattle.board_rule.specs.activation.WorkSteps.{IsRunning}
+use Rattle.board_rule.specs.buffers.BlockSteps.{fill_cycle}
+use Rattle.board_rule.specs.activation.SeatNodes.{IsCycle}
+use Rattle.board_rule.specs.buffers.ReclaimSteps.{reclaimed_of}
+use Rattle.board_rule.specs.buffers.BufferReads.{HasPool}
 use Rattle.io_areas.specs.Ends.{IsWrittenUpTo}
 
 -- the pool's node is one of the seat, with cycles left, and works, and has touched none of its

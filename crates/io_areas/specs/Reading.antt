@@ -7,10 +7,10 @@ use Rattle.pw_base.specs.Samples.{clamped}
 use Rattle.board_rule.specs.declared.view.View.{View}
 use Rattle.board_rule.specs.Layout.{BoardLayout, first}
 use Rattle.board_rule.specs.View.{Samples}
-use Rattle.board_rule.specs.SampleWords.{samples_in}
-use Rattle.board_rule.specs.BlockReadings.{delay_at}
-use Rattle.board_rule.specs.EndViews.{read_of, view_read, pool_at, pool_of}
-use Rattle.board_rule.specs.ReaderSteps.{read_cycle, heard_of, ReadsBlock}
+use Rattle.board_rule.specs.buffers.SampleWords.{samples_in}
+use Rattle.board_rule.specs.buffers.BlockReadings.{delay_at}
+use Rattle.board_rule.specs.buffers.EndViews.{read_of, view_read, pool_at, pool_of}
+use Rattle.board_rule.specs.buffers.ReaderSteps.{read_cycle, heard_of, ReadsBlock}
 use Rattle.io_areas.specs.Quanta.{quantum_of}
 
 -- each is a sample of 16 bits: a clamp leaves it

@@ -4,12 +4,12 @@
 use Rattle.std.specs.Prelude.{◌≡◌, ℕ, ◌<◌, false, Option, Some, None}
 use Rattle.board_rule.specs.declared.view.View.{View}
 use Rattle.board_rule.specs.Layout.{BoardLayout, first}
-use Rattle.board_rule.specs.EndViews.{filler_of}
-use Rattle.board_rule.specs.WorkSteps.{IsRunning}
-use Rattle.board_rule.specs.SeatNodes.{IsCycle}
-use Rattle.board_rule.specs.BlockSteps.{fill_cycle, IsLoaded}
-use Rattle.board_rule.specs.ReclaimSteps.{IsUnreclaimed, readers_loaded, IsDue, IsReturned, IsZeroAtSecond}
-use Rattle.board_rule.specs.BufferReads.{HasPool}
+use Rattle.board_rule.specs.buffers.EndViews.{filler_of}
+use Rattle.board_rule.specs.activation.WorkSteps.{IsRunning}
+use Rattle.board_rule.specs.activation.SeatNodes.{IsCycle}
+use Rattle.board_rule.specs.buffers.BlockSteps.{fill_cycle, IsLoaded}
+use Rattle.board_rule.specs.buffers.ReclaimSteps.{IsUnreclaimed, readers_loaded, IsDue, IsReturned, IsZeroAtSecond}
+use Rattle.board_rule.specs.buffers.BufferReads.{HasPool}
 
 module _ (p : BoardLayout) where
   -- the node that fills the pool is one of the seat, with cycles left, and works

@@ -6,13 +6,13 @@ use Rattle.std.specs.Prelude.{◌≡◌, ℕ, ℤ, ◌+◌, ◌<◌, true, cond,
 use Rattle.board_rule.specs.declared.view.BlockView.TheVariants.{Free, Filling, Out}
 use Rattle.board_rule.specs.declared.view.View.{View}
 use Rattle.board_rule.specs.Layout.{BoardLayout, first}
-use Rattle.board_rule.specs.SampleWords.{samples_in}
-use Rattle.board_rule.specs.Areas.{stored_id}
-use Rattle.board_rule.specs.BlockReadings.{delay_at, busy_cycles, is_busy, stamp}
-use Rattle.board_rule.specs.EndViews.{write_of, pool_at, pool_of, block_of, view_block}
-use Rattle.board_rule.specs.WriterSteps.{write_cycle, IsWriter, have_stored}
-use Rattle.board_rule.specs.BlockSteps.{fill_cycle, IsWriting, HasBlock, readers_stored}
-use Rattle.board_rule.specs.BufferReads.{HasPool, IsFirstFilled}
+use Rattle.board_rule.specs.buffers.SampleWords.{samples_in}
+use Rattle.board_rule.specs.buffers.Areas.{stored_id}
+use Rattle.board_rule.specs.buffers.BlockReadings.{delay_at, busy_cycles, is_busy, stamp}
+use Rattle.board_rule.specs.buffers.EndViews.{write_of, pool_at, pool_of, block_of, view_block}
+use Rattle.board_rule.specs.buffers.WriterSteps.{write_cycle, IsWriter, have_stored}
+use Rattle.board_rule.specs.buffers.BlockSteps.{fill_cycle, IsWriting, HasBlock, readers_stored}
+use Rattle.board_rule.specs.buffers.BufferReads.{HasPool, IsFirstFilled}
 pub use Rattle.io_areas.specs.Reclaiming.{IsAtPool, Reclaims, HasReclaimed}
 
 module _ (p : BoardLayout) where

@@ -1,7 +1,7 @@
 //! The turn of a node on a link that it reads.
 ghost use Rattle.board_rule.specs.OnBoard.{IsOn, layout};
 ghost use Rattle.std.specs.Prelude.{◌≡◌, length};
-ghost use Rattle.board_rule.specs.EndViews.{pool_of};
+ghost use Rattle.board_rule.specs.buffers.EndViews.{pool_of};
 ghost use Rattle.io_areas.specs.Quanta.{quantum_of};
 ghost use Rattle.io_areas.specs.Reading.{brought, IsClamped};
 ghost use Rattle.io_areas.specs.InputTurn.{MayReadInput, HasReadInput};

@@ -2,10 +2,10 @@
 ghost use Rattle.board_rule.specs.OnBoard.{IsOn, layout};
 ghost use Rattle.std.specs.Prelude.{◌≡◌, ◌≢◌, ◌+◌, ◌<◌, All, AllPairs, ◌∷◌, ◌++◌, length, option_to_list};
 ghost use Rattle.board_rule.specs.declared.view.BlockView.TheVariants.{Free, Out};
-ghost use Rattle.board_rule.specs.EndViews.{pool_at, block_of, view_block};
-ghost use Rattle.board_rule.specs.SampleWords.{samples_in};
-ghost use Rattle.board_rule.specs.WriterSteps.{LoadsAsWriter, StoresHave};
-ghost use Rattle.board_rule.specs.BlockSteps.{IsWriting, fill_cycle};
+ghost use Rattle.board_rule.specs.buffers.EndViews.{pool_at, block_of, view_block};
+ghost use Rattle.board_rule.specs.buffers.SampleWords.{samples_in};
+ghost use Rattle.board_rule.specs.buffers.WriterSteps.{LoadsAsWriter, StoresHave};
+ghost use Rattle.board_rule.specs.buffers.BlockSteps.{IsWriting, fill_cycle};
 ghost use Rattle.io_areas.specs.Writing.{number_given, IsAtPool, IsUnfilled, Reclaims, HasReclaimed};
 ghost use Rattle.io_areas.specs.PooledBoard.{IsPooledBoard};
 ghost use Rattle.io_areas.specs.FreeBlocks.{FreeBlocks};

@@ -3,8 +3,8 @@ ghost use Rattle.board_rule.specs.OnBoard.{IsOn, layout};
 ghost use Rattle.std.specs.Prelude.{◌≡◌, ℕ, ◌+◌, ◌/◌, ◌<◌, length};
 ghost use Rattle.pw_base.specs.Pools.{pools_of};
 ghost use Rattle.pw_base.specs.Layout.{sample_place};
-ghost use Rattle.board_rule.specs.EndViews.{pool_at, pool_of};
-ghost use Rattle.board_rule.specs.ReaderSteps.{LoadsAsReader, IsZeroAtFirst, IsOfThisCycle};
+ghost use Rattle.board_rule.specs.buffers.EndViews.{pool_at, pool_of};
+ghost use Rattle.board_rule.specs.buffers.ReaderSteps.{LoadsAsReader, IsZeroAtFirst, IsOfThisCycle};
 ghost use Rattle.io_areas.specs.Quanta.{quantum_of};
 ghost use Rattle.io_areas.specs.Reading.{taken, IsHolding, all_heard, brought, IsClamped, GivesBack, given_back};
 

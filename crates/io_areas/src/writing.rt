@@ -2,8 +2,8 @@
 //! links of the pool.
 ghost use Rattle.board_rule.specs.OnBoard.{IsOn, layout};
 ghost use Rattle.std.specs.Prelude.{◌≡◌, ℕ, ◌<◌, IfSome, length};
-ghost use Rattle.board_rule.specs.EndViews.{link_at, pool_at, pool_of};
-ghost use Rattle.board_rule.specs.WriterSteps.{LoadsAsWriter, loaded_as_writer};
+ghost use Rattle.board_rule.specs.buffers.EndViews.{link_at, pool_at, pool_of};
+ghost use Rattle.board_rule.specs.buffers.WriterSteps.{LoadsAsWriter, loaded_as_writer};
 ghost use Rattle.io_areas.specs.Writing.{number_given, Reclaims, HasReclaimed, Fills, filled_whole, Announces, HasAnnounced, Publishes};
 ghost use Rattle.io_areas.specs.Writing.{HasPublished};
 

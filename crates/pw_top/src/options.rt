@@ -20,7 +20,7 @@ pub struct Options {
 }
 
 // What the words so far say.
-#[derive(Clone, Copy, Debug, PartialEq, Eq, Drop)]
+#[derive(Clone, Copy, Drop)]
 enum Said {
     Whole(Options),
     /// The value of `--loops` is to come.

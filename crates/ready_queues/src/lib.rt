@@ -29,6 +29,3 @@ pub use parking::{ParkingRule, Woken};
 pub use queue::QueueRule;
 pub use way::Way;
 pub use ways::Ways;
-
-#[cfg(test)]
-mod tests;

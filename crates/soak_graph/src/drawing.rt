@@ -16,7 +16,7 @@ pub(crate) const CHAINS: u32 = 8;
 const FRAMES: usize = 65536;
 
 /// The numbers of a chain.
-#[derive(Debug, Drop)]
+#[derive(Drop)]
 pub(crate) struct Chain {
     /// In 1/256, -256 to 256.
     pub gain: i32,
@@ -25,7 +25,7 @@ pub(crate) struct Chain {
 }
 
 /// What is drawn for a number.
-#[derive(Debug, Drop)]
+#[derive(Drop)]
 pub(crate) struct Drawn {
     pub number: u32,
     pub chains: Items<Chain>,

@@ -10,8 +10,6 @@ mod generated;
 mod line;
 mod ports;
 mod putting;
-#[cfg(test)]
-mod tests;
 mod text;
 
 pub use generated::{Generated, generate};

@@ -1,7 +1,10 @@
-//! Tests of whole runs of the graph that is drawn from a number: what its sink and its meter keep,
-//! beside a fold by plain loops that calls nothing of the engine.
+//! Tests of the graph that is drawn from a number: what is drawn, its text and its plan; and of its
+//! whole runs: what its sink and its meter keep, beside a fold by plain loops that calls nothing of
+//! the engine.
 #![tactic(auto)]
 
+#[cfg(test)]
+mod drawn;
 #[cfg(test)]
 mod plain;
 #[cfg(test)]

@@ -5,8 +5,8 @@ ghost use Rattle.std.specs.Prelude.{◌≡◌, ℕ, ◌+◌, ◌<◌, ◌≤◌}
 ghost use Rattle.pw_base.specs.Layout.{event_count};
 ghost use Rattle.pw_base.specs.EventWords.{event_node, event_word_of};
 ghost use Rattle.board_rule.specs.Layout.{nodes, first};
-ghost use Rattle.board_rule.specs.EventSteps.{Draws, draws, ticket_of, event_due, StoresEvent, event_stored, Looks, looked, StoresLate};
-ghost use Rattle.board_rule.specs.EventSteps.{late_stored};
+ghost use Rattle.board_rule.specs.events.EventSteps.{Draws, draws, ticket_of, event_due, StoresEvent, event_stored, Looks, looked, StoresLate};
+ghost use Rattle.board_rule.specs.events.EventSteps.{late_stored};
 
 use crate::board::Board;
 use crate::rule::BoardToken;

@@ -5,11 +5,11 @@ ghost use Rattle.std.specs.Prelude.{◌≡◌, ℕ, ◌<◌, length};
 ghost use Rattle.pw_base.specs.Pools.{pools_of};
 ghost use Rattle.pw_base.specs.Words.{need_data_word};
 ghost use Rattle.pw_base.specs.Layout.{sample_place};
-ghost use Rattle.board_rule.specs.SampleWords.{IsTable, packed};
-ghost use Rattle.board_rule.specs.EndViews.{pool_at, pool_of};
-ghost use Rattle.board_rule.specs.ReaderSteps.{read_cycle, LoadsAsReader, loaded_as_reader, IsPublished, LoadsSample, sample_loaded, LowersReaders};
-ghost use Rattle.board_rule.specs.ReaderSteps.{readers_lowered, samples_read};
-ghost use Rattle.board_rule.specs.ReaderSteps.{StoresNeed, need_stored};
+ghost use Rattle.board_rule.specs.buffers.SampleWords.{IsTable, packed};
+ghost use Rattle.board_rule.specs.buffers.EndViews.{pool_at, pool_of};
+ghost use Rattle.board_rule.specs.buffers.ReaderSteps.{read_cycle, LoadsAsReader, loaded_as_reader, IsPublished, LoadsSample, sample_loaded, LowersReaders};
+ghost use Rattle.board_rule.specs.buffers.ReaderSteps.{readers_lowered, samples_read};
+ghost use Rattle.board_rule.specs.buffers.ReaderSteps.{StoresNeed, need_stored};
 
 use crate::board::Board;
 use crate::rule::BoardToken;

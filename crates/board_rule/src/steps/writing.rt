@@ -5,10 +5,10 @@ ghost use Rattle.std.specs.Prelude.{◌≡◌, ℕ, ◌+◌, ◌<◌, length};
 ghost use Rattle.pw_base.specs.Pools.{pools_of};
 ghost use Rattle.pw_base.specs.Words.{io_id_in, have_data_word, need_data_word};
 ghost use Rattle.pw_base.specs.Layout.{sample_place};
-ghost use Rattle.board_rule.specs.EndViews.{pool_at};
-ghost use Rattle.board_rule.specs.WriterSteps.{write_cycle, LoadsAsWriter, loaded_as_writer, IsGivenBack, StoresHave, have_stored};
-ghost use Rattle.board_rule.specs.BlockSteps.{StoresSample, sample_stored, StoresReaders, readers_stored};
-ghost use Rattle.board_rule.specs.ReclaimSteps.{LoadsReaders, FindsDue, readers_loaded};
+ghost use Rattle.board_rule.specs.buffers.EndViews.{pool_at};
+ghost use Rattle.board_rule.specs.buffers.WriterSteps.{write_cycle, LoadsAsWriter, loaded_as_writer, IsGivenBack, StoresHave, have_stored};
+ghost use Rattle.board_rule.specs.buffers.BlockSteps.{StoresSample, sample_stored, StoresReaders, readers_stored};
+ghost use Rattle.board_rule.specs.buffers.ReclaimSteps.{LoadsReaders, FindsDue, readers_loaded};
 
 use crate::board::Board;
 use crate::rule::BoardToken;

@@ -11,10 +11,10 @@ use Rattle.pw_base.specs.declared.shape.ShapeLink.{ShapeLink}
 use Rattle.pw_base.specs.declared.pools.PoolShape.{PoolShape}
 use Rattle.pw_base.specs.Pools.{pools_of}
 use Rattle.board_rule.specs.Layout.{BoardLayout, nodes}
-use Rattle.board_rule.specs.EndViews.{no_link, no_pool, link_at, pool_at, writer_of, reader_of, filler_of, pool_of}
-use Rattle.board_rule.proofs.PortLemmas.{Differ, differ_at, indexes_pass, has_index, differ_indexes}
-use Rattle.board_rule.proofs.WiringLemmas.{Wired, wired, made}
-use Rattle.board_rule.proofs.HolderLemmas.{link_is, link_there, pool_there, pool_here}
+use Rattle.board_rule.specs.buffers.EndViews.{no_link, no_pool, link_at, pool_at, writer_of, reader_of, filler_of, pool_of}
+use Rattle.board_rule.proofs.buffers.PortLemmas.{Differ, differ_at, indexes_pass, has_index, differ_indexes}
+use Rattle.board_rule.proofs.buffers.WiringLemmas.{Wired, wired, made}
+use Rattle.board_rule.proofs.buffers.HolderLemmas.{link_is, link_there, pool_there, pool_here}
 use Rattle.io_areas.specs.PooledBoard.{IsPooledBoard}
 use Rattle.data_loop.specs.turns.Ends.{reads_of, fills_of}
 

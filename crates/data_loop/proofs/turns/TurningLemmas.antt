@@ -15,11 +15,11 @@ use Rattle.board_rule.specs.declared.view.Trail.{Trail}
 use Rattle.board_rule.specs.declared.view.View.{View}
 use Rattle.board_rule.specs.Layout.{BoardLayout, nodes, first, last}
 use Rattle.board_rule.specs.View.{node_of, view_node, idle, unread, unwritten}
-use Rattle.board_rule.specs.Spans.{block_at}
-use Rattle.board_rule.specs.EndViews.{pool_at, reader_of, filler_of, pool_of, read_of}
+use Rattle.board_rule.specs.buffers.Spans.{block_at}
+use Rattle.board_rule.specs.buffers.EndViews.{pool_at, reader_of, filler_of, pool_of, read_of}
 use Rattle.board_rule.specs.Steps.{cycle_of, IsCycle, HasNode, IsMember, IsRunning, IsReadyToFinish}
-use Rattle.board_rule.specs.ReaderSteps.{read_cycle}
-use Rattle.board_rule.specs.BlockSteps.{fill_cycle}
+use Rattle.board_rule.specs.buffers.ReaderSteps.{read_cycle}
+use Rattle.board_rule.specs.buffers.BlockSteps.{fill_cycle}
 use Rattle.buffer_pool.specs.Queue.{Queue}
 use Rattle.activation_words.specs.Calls.{started, HasRested}
 use Rattle.activation_words.specs.Members.{IsResting}

@@ -11,13 +11,13 @@ use Rattle.board_rule.specs.declared.view.BlockView.{BlockView}
 use Rattle.board_rule.specs.declared.view.View.{View}
 use Rattle.board_rule.specs.Layout.{BoardLayout, first}
 use Rattle.board_rule.specs.View.{node_of}
-use Rattle.board_rule.specs.SampleWords.{samples_in}
-use Rattle.board_rule.specs.Spans.{block_at}
-use Rattle.board_rule.specs.EndViews.{no_pool, pool_at, filler_of, write_of, block_of}
-use Rattle.board_rule.specs.SeatNodes.{IsCycle, IsMember}
-use Rattle.board_rule.specs.BlockSteps.{fill_cycle}
-use Rattle.board_rule.specs.ReclaimSteps.{reclaimed_of}
-use Rattle.board_rule.proofs.WiringLemmas.{wired, busy_cycles_some}
+use Rattle.board_rule.specs.buffers.SampleWords.{samples_in}
+use Rattle.board_rule.specs.buffers.Spans.{block_at}
+use Rattle.board_rule.specs.buffers.EndViews.{no_pool, pool_at, filler_of, write_of, block_of}
+use Rattle.board_rule.specs.activation.SeatNodes.{IsCycle, IsMember}
+use Rattle.board_rule.specs.buffers.BlockSteps.{fill_cycle}
+use Rattle.board_rule.specs.buffers.ReclaimSteps.{reclaimed_of}
+use Rattle.board_rule.proofs.buffers.WiringLemmas.{wired, busy_cycles_some}
 use Rattle.buffer_pool.specs.Queue.{Queue}
 use Rattle.io_areas.specs.PooledBoard.{IsPooledBoard}
 use Rattle.io_areas.specs.Ends.{IsWrittenUpTo}

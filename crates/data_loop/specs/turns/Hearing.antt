@@ -3,8 +3,8 @@
 use Rattle.std.specs.Prelude.{◌≡◌, ◌≢◌, ℕ, ◌+◌, Bool, List, All, AllPairs, Contains, length}
 use Rattle.board_rule.specs.declared.view.View.{View}
 use Rattle.board_rule.specs.Layout.{BoardLayout}
-use Rattle.board_rule.specs.EndViews.{read_of}
-use Rattle.board_rule.specs.ReaderSteps.{read_cycle}
+use Rattle.board_rule.specs.buffers.EndViews.{read_of}
+use Rattle.board_rule.specs.buffers.ReaderSteps.{read_cycle}
 use Rattle.io_areas.specs.Ends.{IsReadUpTo}
 use Rattle.io_areas.specs.InputTurn.{MayReadInput}
 

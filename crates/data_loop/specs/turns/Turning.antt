@@ -8,9 +8,9 @@ use Rattle.pw_base.specs.Pools.{pools_of}
 use Rattle.board_rule.specs.declared.view.View.{View}
 use Rattle.board_rule.specs.Layout.{BoardLayout}
 use Rattle.board_rule.specs.View.{node_of}
-use Rattle.board_rule.specs.Spans.{block_at}
-use Rattle.board_rule.specs.EndViews.{pool_at, writer_of, reader_of, filler_of}
-use Rattle.board_rule.specs.SeatNodes.{HasNode}
+use Rattle.board_rule.specs.buffers.Spans.{block_at}
+use Rattle.board_rule.specs.buffers.EndViews.{pool_at, writer_of, reader_of, filler_of}
+use Rattle.board_rule.specs.activation.SeatNodes.{HasNode}
 use Rattle.buffer_pool.specs.Queue.{Queue}
 use Rattle.activation_words.specs.Calls.{IsAwake}
 use Rattle.activation_words.specs.Members.{IsResting}

@@ -4,10 +4,10 @@ use Rattle.std.specs.Prelude.{◌≡◌, ◌≢◌, ℕ, ℤ, ◌+◌, ◌<◌, 
 use Rattle.pw_base.specs.Pools.{pools_of}
 use Rattle.board_rule.specs.declared.view.View.{View}
 use Rattle.board_rule.specs.Layout.{BoardLayout}
-use Rattle.board_rule.specs.SampleWords.{samples_in}
-use Rattle.board_rule.specs.EndViews.{pool_at, write_of, block_of}
-use Rattle.board_rule.specs.BlockSteps.{fill_cycle}
-use Rattle.board_rule.specs.ReclaimSteps.{reclaimed_of}
+use Rattle.board_rule.specs.buffers.SampleWords.{samples_in}
+use Rattle.board_rule.specs.buffers.EndViews.{pool_at, write_of, block_of}
+use Rattle.board_rule.specs.buffers.BlockSteps.{fill_cycle}
+use Rattle.board_rule.specs.buffers.ReclaimSteps.{reclaimed_of}
 use Rattle.buffer_pool.specs.Queue.{Queue}
 use Rattle.io_areas.specs.Ends.{IsWrittenUpTo}
 use Rattle.io_areas.specs.FreeBlocks.{FreeBlocks}

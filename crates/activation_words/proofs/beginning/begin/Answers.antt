@@ -1,4 +1,4 @@
-use Rattle.board_rule.proofs.BitLemmas.{woke_bits}
+use Rattle.board_rule.proofs.events.BitLemmas.{woke_bits}
 use Rattle.activation_words.proofs.beginning.begin.Goals as goal
 
 pub returns-clause-woke : goal.returns-clause-woke

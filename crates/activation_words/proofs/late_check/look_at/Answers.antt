@@ -1,7 +1,7 @@
 use Rattle.std.proofs.Common.{rules, ◌≡◌, ◌≢◌, ◌∙◌, ◌≤◌, sym, ap, subst}
 use Rattle.board_rule.specs.declared.view.View.{View}
 use Rattle.board_rule.specs.Layout.{layout_of}
-use Rattle.board_rule.specs.EventSteps.{Looks}
+use Rattle.board_rule.specs.events.EventSteps.{Looks}
 use Rattle.activation_words.proofs.late_check.look_at.Goals as goal
 
 pub load_status-found-requires-clause-phase : goal.load_status-found-requires-clause-phase

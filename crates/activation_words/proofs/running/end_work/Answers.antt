@@ -1,7 +1,7 @@
 use Rattle.std.proofs.Common.{◌∙◌, ℕ, Bool, sym, ap, subst}
 use Rattle.board_rule.specs.declared.view.View.{View}
 use Rattle.board_rule.specs.Layout.{layout_of}
-use Rattle.board_rule.specs.EventSteps.{Draws, draws, StoresEvent, event_stored}
+use Rattle.board_rule.specs.events.EventSteps.{Draws, draws, StoresEvent, event_stored}
 use Rattle.activation_words.proofs.CallLemmas.{work_draws, work_stores, work_stored}
 use Rattle.activation_words.proofs.running.end_work.Goals as goal
 

@@ -4,7 +4,7 @@ use Rattle.board_rule.specs.Layout.{layout_of}
 use Rattle.board_rule.specs.Steps.{HasNode}
 use Rattle.activation_words.specs.Told.{IsTelling, HasTold}
 use Rattle.activation_words.specs.Calls.{worked, HasFinished}
-use Rattle.board_rule.proofs.BitLemmas.{woke_bits}
+use Rattle.board_rule.proofs.events.BitLemmas.{woke_bits}
 use Rattle.activation_words.proofs.ViewLemmas.{follower_leads}
 use Rattle.activation_words.proofs.CallLemmas.{worked_has, worked_tells, told_rests, other_place}
 use Rattle.activation_words.proofs.running.finish.Goals as goal

@@ -1,7 +1,7 @@
 use Rattle.std.proofs.Common.{◌∙◌, ℕ, Bool, sym, ap, subst}
 use Rattle.board_rule.specs.declared.view.View.{View}
 use Rattle.board_rule.specs.Layout.{layout_of}
-use Rattle.board_rule.specs.EventSteps.{StoresEvent, event_stored}
+use Rattle.board_rule.specs.events.EventSteps.{StoresEvent, event_stored}
 use Rattle.activation_words.proofs.CallLemmas.{start_stores, start_stored}
 use Rattle.activation_words.proofs.running.start.Goals as goal
 

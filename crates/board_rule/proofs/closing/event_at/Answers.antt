@@ -1,6 +1,6 @@
 use Rattle.std.proofs.Common.{◌∙◌, ap}
 use Rattle.pw_base.specs.EventWords.{event_in}
-use Rattle.board_rule.proofs.ClosingLemmas.{event_read, tick_read}
+use Rattle.board_rule.proofs.events.ClosingLemmas.{event_read, tick_read}
 use Rattle.board_rule.proofs.closing.event_at.Goals as goal
 
 pub returns-in-Tick : goal.returns-in-Tick

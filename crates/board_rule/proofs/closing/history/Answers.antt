@@ -3,7 +3,7 @@ use Rattle.std.proofs.lemmas.List.{take_more}
 use Rattle.std.proofs.lemmas.Option.{slice_get-get_or}
 use Rattle.pw_base.specs.declared.event.Event.{Event}
 use Rattle.pw_base.specs.declared.event.Event.TheVariants.{Begin}
-use Rattle.board_rule.proofs.ClosingLemmas.{word_at}
+use Rattle.board_rule.proofs.events.ClosingLemmas.{word_at}
 use Rattle.board_rule.proofs.closing.history.Goals as goal
 
 pub event_at-requires-clause-is : goal.event_at-requires-clause-is

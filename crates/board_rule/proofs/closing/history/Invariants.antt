@@ -1,6 +1,6 @@
 use Rattle.std.proofs.Common.{◌≡◌, ◌+◌, ◌≤◌, List, take, get_or}
 use Rattle.pw_base.specs.declared.event.Event.{Event}
-use Rattle.board_rule.specs.Closing.{AreRecorded}
+use Rattle.board_rule.specs.events.Closing.{AreRecorded}
 use Rattle.board_rule.proofs.closing.history.Given as goal
 
 abbrev pub invariant-loop-t : goal.invariant-loop-t

@@ -4,7 +4,7 @@ use Rattle.board_rule.specs.declared.board_shape.BoardShape.{BoardShape}
 use Rattle.board_rule.specs.declared.view.View.{View}
 use Rattle.board_rule.specs.Layout.{layout_of}
 use Rattle.board_rule.specs.BoardRule.{Holds}
-use Rattle.board_rule.proofs.StartLemmas.{keeps_view}
+use Rattle.board_rule.proofs.start.StartLemmas.{keeps_view}
 use Rattle.board_rule.proofs.closing.keep.Goals as goal
 
 pub split_seat-requires : goal.split_seat-requires

@@ -1,5 +1,5 @@
-use Rattle.board_rule.proofs.TellingLemmas.{all_left}
-use Rattle.board_rule.proofs.AreaLemmas.{finds_need}
+use Rattle.board_rule.proofs.activation.TellingLemmas.{all_left}
+use Rattle.board_rule.proofs.buffers.AreaLemmas.{finds_need}
 use Rattle.board_rule.proofs.left.left_at_start.Goals as goal
 
 pub returns : goal.returns

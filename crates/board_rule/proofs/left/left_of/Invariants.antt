@@ -1,5 +1,5 @@
 use Rattle.std.proofs.Common.{◌≡◌, ◌≤◌, take}
-use Rattle.board_rule.specs.Left.{left_of, untold}
+use Rattle.board_rule.specs.activation.Left.{left_of, untold}
 use Rattle.board_rule.proofs.left.left_of.Given as goal
 
 abbrev pub invariant-loop-m : goal.invariant-loop-m

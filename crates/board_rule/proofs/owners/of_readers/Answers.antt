@@ -2,8 +2,8 @@ use Rattle.std.proofs.Common.{ℕ, ◌∙◌, ◌++◌, ◌∷◌, [], ap, sym, 
 use Rattle.std.proofs.lemmas.List.{map_more}
 use Rattle.pw_base.specs.declared.shape.ShapeLink.{ShapeLink}
 use Rattle.board_rule.specs.Layout.{layout_of}
-use Rattle.board_rule.specs.Owners.{seat_with}
-use Rattle.board_rule.specs.EndViews.{no_link}
+use Rattle.board_rule.specs.start.Owners.{seat_with}
+use Rattle.board_rule.specs.buffers.EndViews.{no_link}
 use Rattle.board_rule.proofs.owners.of_readers.Goals as goal
 
 pub loop-link-preserved : goal.loop-link-preserved

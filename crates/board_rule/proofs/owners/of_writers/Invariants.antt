@@ -1,6 +1,6 @@
 use Rattle.std.proofs.Common.{◌≡◌, map, take}
 use Rattle.board_rule.specs.Layout.{layout_of}
-use Rattle.board_rule.specs.Owners.{seat_with}
+use Rattle.board_rule.specs.start.Owners.{seat_with}
 use Rattle.board_rule.proofs.owners.of_writers.Given as goal
 
 abbrev pub invariant-loop-link : goal.invariant-loop-link

@@ -1,6 +1,6 @@
 use Rattle.std.proofs.Common.{◌∙◌}
 use Rattle.std.specs.Prelude.{unwrap_or}
-use Rattle.board_rule.proofs.RowLemmas.{place_or_end}
+use Rattle.board_rule.proofs.activation.RowLemmas.{place_or_end}
 use Rattle.board_rule.proofs.rows.index_in.Goals as goal
 
 pub returns : goal.returns

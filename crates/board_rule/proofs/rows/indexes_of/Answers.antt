@@ -1,6 +1,6 @@
 use Rattle.std.proofs.Common.{arith, ◌≡◌, ◌∙◌, ℕ, ◌<◌, ◌+◌, length-set, set, slice_index, subst, sym}
 use Rattle.board_rule.specs.Layout.{index_in}
-use Rattle.board_rule.proofs.RowLemmas.{filled}
+use Rattle.board_rule.proofs.activation.RowLemmas.{filled}
 use Rattle.board_rule.proofs.rows.indexes_of.Goals as goal
 
 pub loop-n-preserved : goal.loop-n-preserved

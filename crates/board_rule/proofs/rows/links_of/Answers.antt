@@ -5,9 +5,9 @@ use Rattle.pw_base.specs.Pools.{is_same_port, pools_of}
 use Rattle.pw_base.specs.declared.shape.ShapeLink.{ShapeLink}
 use Rattle.pw_base.specs.Layout.{areas_of, io_place}
 use Rattle.board_rule.specs.declared.rows.LinkRow.{LinkRow}
-use Rattle.board_rule.specs.EndViews.{no_link, link_in}
+use Rattle.board_rule.specs.buffers.EndViews.{no_link, link_in}
 use Rattle.board_rule.specs.Rows.{IsLinkRow}
-use Rattle.board_rule.proofs.RowLemmas.{row_grown, sum_more}
+use Rattle.board_rule.proofs.activation.RowLemmas.{row_grown, sum_more}
 use Rattle.board_rule.proofs.rows.links_of.Goals as goal
 
 pub loop-link-preserved : goal.loop-link-preserved

@@ -1,5 +1,5 @@
 use Rattle.board_rule.specs.Layout.{layout_of}
-use Rattle.board_rule.proofs.SafetyLemmas.{are_safe}
+use Rattle.board_rule.proofs.buffers.SafetyLemmas.{are_safe}
 use Rattle.board_rule.proofs.safety.buffers_are_safe.Goals as goal
 
 pub returns : goal.returns

@@ -4,9 +4,9 @@ use Rattle.pw_base.specs.Pools.{pools_of}
 use Rattle.pw_base.specs.declared.pools.PoolShape.{PoolShape}
 use Rattle.board_rule.specs.declared.rows.PoolRow.{PoolRow}
 use Rattle.board_rule.specs.Layout.{layout_of}
-use Rattle.board_rule.specs.Owners.{owners_of, seat_with}
-use Rattle.board_rule.specs.EndViews.{no_pool}
-use Rattle.board_rule.proofs.OwnerLemmas.{row_inside}
+use Rattle.board_rule.specs.start.Owners.{owners_of, seat_with}
+use Rattle.board_rule.specs.buffers.EndViews.{no_pool}
+use Rattle.board_rule.proofs.start.OwnerLemmas.{row_inside}
 use Rattle.board_rule.proofs.slots.first_slots.Goals as goal
 
 pub slot_of-requires : goal.slot_of-requires

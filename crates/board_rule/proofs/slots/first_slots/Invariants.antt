@@ -1,7 +1,7 @@
 use Rattle.std.proofs.Common.{◌≡◌, ◌<◌, ℕ, length, slice_index}
 use Rattle.board_rule.specs.Layout.{layout_of}
-use Rattle.board_rule.specs.Owners.{owners_of, slot_in}
-use Rattle.board_rule.specs.Spans.{block_at}
+use Rattle.board_rule.specs.start.Owners.{owners_of, slot_in}
+use Rattle.board_rule.specs.buffers.Spans.{block_at}
 use Rattle.board_rule.proofs.slots.first_slots.Given as goal
 
 abbrev pub invariant-loop-pool : goal.invariant-loop-pool

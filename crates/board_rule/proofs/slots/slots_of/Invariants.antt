@@ -1,5 +1,5 @@
 use Rattle.std.proofs.Common.{◌≡◌, ◌<◌, ℕ, length, slice_index}
-use Rattle.board_rule.specs.Owners.{slot_in}
+use Rattle.board_rule.specs.start.Owners.{slot_in}
 use Rattle.board_rule.proofs.slots.slots_of.Given as goal
 
 abbrev pub invariant-loop-at : goal.invariant-loop-at

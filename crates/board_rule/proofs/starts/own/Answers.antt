@@ -1,6 +1,6 @@
 use Rattle.std.proofs.Common.{◌≡◌, ◌∙◌, ◌++◌, ◌∷◌, ◌<◌, ◌+◌, [], ℕ, List, cond, length, take, ap, sym, subst, eq-eqb, ne_eqb, append-nil, get_or, arith}
-use Rattle.board_rule.specs.Owners.{own}
-use Rattle.board_rule.proofs.OwnerLemmas.{own_more}
+use Rattle.board_rule.specs.start.Owners.{own}
+use Rattle.board_rule.proofs.start.OwnerLemmas.{own_more}
 use Rattle.board_rule.proofs.starts.own.Goals as goal
 use Rattle.board_rule.proofs.starts.own.Goals.{then-owners-at+in_ok-push, else-owners-at}
 

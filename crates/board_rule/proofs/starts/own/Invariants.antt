@@ -1,5 +1,5 @@
 use Rattle.std.proofs.Common.{◌≡◌, take}
-use Rattle.board_rule.specs.Owners.{own}
+use Rattle.board_rule.specs.start.Owners.{own}
 use Rattle.board_rule.proofs.starts.own.Given as goal
 
 abbrev pub invariant-loop-at : goal.invariant-loop-at

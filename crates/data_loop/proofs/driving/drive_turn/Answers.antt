@@ -2,7 +2,7 @@ use Rattle.std.proofs.Common.{◌≡◌, ◌∙◌, ℕ, true, List, length, ref
 use Rattle.pw_base.specs.declared.shape.Shape.{Shape}
 use Rattle.board_rule.specs.declared.view.View.{View}
 use Rattle.board_rule.specs.Layout.{layout_of, index_in}
-use Rattle.board_rule.specs.WorkSteps.{IsReadyToFinish}
+use Rattle.board_rule.specs.activation.WorkSteps.{IsReadyToFinish}
 use Rattle.activation_words.specs.Calls.{started, HasFinished}
 use Rattle.data_loop.specs.declared.inputs.Input.{Input}
 use Rattle.data_loop.specs.turns.Ends.{reads_of}

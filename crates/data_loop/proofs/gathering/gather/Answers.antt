@@ -5,7 +5,7 @@ use Rattle.std.proofs.lemmas.List.Elements.{All-head}
 use Rattle.pw_base.specs.Samples.{clamped, summed}
 use Rattle.board_rule.specs.declared.view.View.{View}
 use Rattle.board_rule.specs.Layout.{BoardLayout, layout_of}
-use Rattle.board_rule.specs.EndViews.{pool_of}
+use Rattle.board_rule.specs.buffers.EndViews.{pool_of}
 use Rattle.io_areas.specs.InputTurn.{MayReadInput}
 use Rattle.io_areas.specs.Quanta.{quantum_of}
 use Rattle.data_loop.specs.turns.Hearing.{MayHearAll, AreHeard}

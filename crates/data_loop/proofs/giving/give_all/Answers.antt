@@ -4,8 +4,8 @@ use Rattle.pw_base.specs.declared.pools.PoolShape.{PoolShape}
 use Rattle.pw_base.specs.Pools.{pools_of}
 use Rattle.board_rule.specs.declared.view.View.{View}
 use Rattle.board_rule.specs.Layout.{layout_of}
-use Rattle.board_rule.specs.EndViews.{no_pool}
-use Rattle.board_rule.specs.BlockSteps.{fill_cycle}
+use Rattle.board_rule.specs.buffers.EndViews.{no_pool}
+use Rattle.board_rule.specs.buffers.BlockSteps.{fill_cycle}
 use Rattle.buffer_pool.specs.Queue.{Queue}
 use Rattle.io_areas.specs.FreeBlocks.{FreeBlocks}
 use Rattle.data_loop.specs.Giving.{row_for}

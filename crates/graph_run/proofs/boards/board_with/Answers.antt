@@ -5,7 +5,7 @@ use Rattle.std.proofs.lemmas.List.FromFn.{fill_by_all}
 use Rattle.pw_base.specs.declared.plan.Epoch.{Epoch}
 use Rattle.board_rule.specs.declared.board.Board.{Board}
 use Rattle.board_rule.specs.Layout.{HasSeats, layout_of}
-use Rattle.board_rule.specs.SampleWords.{IsTable}
+use Rattle.board_rule.specs.buffers.SampleWords.{IsTable}
 use Rattle.board_rule.specs.View.{Samples, loop_view, driver_view}
 use Rattle.board_rule.specs.OnBoard.{table_of, layout}
 use Rattle.graph_run.specs.Assignment.{epoch_board}

@@ -1,7 +1,7 @@
 use Rattle.std.proofs.Common.{ℕ, sym, ap, ◌∙◌, subst}
 use Rattle.board_rule.specs.declared.view.View.{View}
 use Rattle.board_rule.specs.Layout.{layout_of}
-use Rattle.board_rule.specs.BlockSteps.{StoresReaders, readers_stored}
+use Rattle.board_rule.specs.buffers.BlockSteps.{StoresReaders, readers_stored}
 use Rattle.io_areas.proofs.BlockLemmas.{may_announce, announced}
 use Rattle.io_areas.proofs.output_turn.emit.Goals as goal
 

@@ -1,7 +1,7 @@
 use Rattle.std.proofs.Common.{◌≢◌, ◌<◌, ◌∙◌, All, AllPairs, length, ap, sym, subst}
 use Rattle.board_rule.specs.declared.view.View.{View}
 use Rattle.board_rule.specs.Layout.{layout_of}
-use Rattle.board_rule.specs.WriterSteps.{LoadsAsWriter, StoresHave}
+use Rattle.board_rule.specs.buffers.WriterSteps.{LoadsAsWriter, StoresHave}
 use Rattle.io_areas.specs.Writing.{number_given}
 use Rattle.io_areas.specs.OutputAnswer.{last_of}
 use Rattle.io_areas.specs.OutputSteps.{AreMade, IsPublishedNow}

@@ -1,9 +1,9 @@
 use Rattle.std.proofs.Common.{◌≡◌, ◌+◌, ◌*◌, ℤ, List, length, sym, ap, ◌∙◌, subst, arith}
 use Rattle.board_rule.specs.declared.view.View.{View}
 use Rattle.board_rule.specs.Layout.{layout_of}
-use Rattle.board_rule.specs.SampleWords.{packed, IsTable}
-use Rattle.board_rule.specs.EndViews.{pool_at, pool_of}
-use Rattle.board_rule.specs.ReaderSteps.{ReadsBlock, LoadsSample, sample_loaded, samples_read}
+use Rattle.board_rule.specs.buffers.SampleWords.{packed, IsTable}
+use Rattle.board_rule.specs.buffers.EndViews.{pool_at, pool_of}
+use Rattle.board_rule.specs.buffers.ReaderSteps.{ReadsBlock, LoadsSample, sample_loaded, samples_read}
 use Rattle.io_areas.proofs.SampleLemmas.{IsReadTo, length-spread, spread_more}
 use Rattle.io_areas.specs.Reading.{IsClamped}
 use Rattle.io_areas.proofs.BroughtLemmas.{all_short, brought_whole, brought_clamped}

@@ -1,7 +1,7 @@
 use Rattle.std.proofs.Common.{◌≡◌, ◌*◌, ◌<◌, length}
 use Rattle.board_rule.specs.Layout.{layout_of}
-use Rattle.board_rule.specs.SampleWords.{IsTable}
-use Rattle.board_rule.specs.ReaderSteps.{samples_read}
+use Rattle.board_rule.specs.buffers.SampleWords.{IsTable}
+use Rattle.board_rule.specs.buffers.ReaderSteps.{samples_read}
 use Rattle.io_areas.proofs.SampleLemmas.{IsReadTo}
 use Rattle.io_areas.proofs.HearLemmas.{heard_to}
 use Rattle.io_areas.proofs.reading.read.Given as goal

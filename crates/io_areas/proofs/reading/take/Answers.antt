@@ -1,6 +1,6 @@
 use Rattle.std.proofs.Common.{ℕ, sym, ap, ◌∙◌, subst}
 use Rattle.board_rule.specs.Layout.{layout_of}
-use Rattle.board_rule.specs.ReaderSteps.{IsOfThisCycle}
+use Rattle.board_rule.specs.buffers.ReaderSteps.{IsOfThisCycle}
 use Rattle.io_areas.specs.Reading.{taken}
 use Rattle.io_areas.proofs.reading.take.Goals as goal
 

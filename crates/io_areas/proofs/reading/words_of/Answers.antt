@@ -1,7 +1,7 @@
 use Rattle.std.proofs.Common.{ℕ, ◌+◌, ◌/◌, ◌<◌, length, ap, ◌∙◌, subst}
 use Rattle.pw_base.specs.Pools.{pools_of}
 use Rattle.board_rule.specs.Layout.{layout_of}
-use Rattle.board_rule.specs.EndViews.{pool_at}
+use Rattle.board_rule.specs.buffers.EndViews.{pool_at}
 use Rattle.io_areas.specs.Quanta.{quantum_of}
 use Rattle.io_areas.proofs.PoolLemmas.{words_of_quantum}
 use Rattle.io_areas.proofs.reading.words_of.Goals as goal

@@ -1,8 +1,8 @@
 use Rattle.std.proofs.Common.{ℕ, sym, ap, ◌∙◌, subst, arith}
 use Rattle.board_rule.specs.declared.view.View.{View}
 use Rattle.board_rule.specs.Layout.{layout_of}
-use Rattle.board_rule.specs.BlockSteps.{StoresSample, sample_stored}
-use Rattle.board_rule.specs.EndViews.{pool_at}
+use Rattle.board_rule.specs.buffers.BlockSteps.{StoresSample, sample_stored}
+use Rattle.board_rule.specs.buffers.EndViews.{pool_at}
 use Rattle.io_areas.proofs.FillLemmas.{filling, filling_some, can_store, stored_more}
 use Rattle.io_areas.proofs.writing.fill.Goals as goal
 

@@ -2,11 +2,11 @@ use Rattle.std.proofs.Common.{◌≡◌, ◌+◌, ℕ, false, sym, ap, ◌∙◌
 use Rattle.std.specs.Prelude.{Bool, cond, Some, None}
 use Rattle.board_rule.specs.declared.view.View.{View}
 use Rattle.board_rule.specs.Layout.{layout_of, first}
-use Rattle.board_rule.specs.Areas.{stored_id}
-use Rattle.board_rule.specs.BlockReadings.{delay_at}
-use Rattle.board_rule.specs.EndViews.{write_of}
-use Rattle.board_rule.specs.SeatNodes.{cycle_of}
-use Rattle.board_rule.specs.WriterSteps.{write_cycle}
+use Rattle.board_rule.specs.buffers.Areas.{stored_id}
+use Rattle.board_rule.specs.buffers.BlockReadings.{delay_at}
+use Rattle.board_rule.specs.buffers.EndViews.{write_of}
+use Rattle.board_rule.specs.activation.SeatNodes.{cycle_of}
+use Rattle.board_rule.specs.buffers.WriterSteps.{write_cycle}
 use Rattle.io_areas.proofs.writing.load_for_write.Goals as goal
 
 pub returns-then-past-eq0-clause-given : goal.returns-then-past-eq0-clause-given

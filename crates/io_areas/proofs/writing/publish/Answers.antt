@@ -1,8 +1,8 @@
 use Rattle.std.proofs.Common.{ℕ, subst}
 use Rattle.board_rule.specs.declared.view.View.{View}
 use Rattle.board_rule.specs.Layout.{layout_of}
-use Rattle.board_rule.specs.EndViews.{pool_of}
-use Rattle.board_rule.specs.BufferReads.{IsFirstFilled}
+use Rattle.board_rule.specs.buffers.EndViews.{pool_of}
+use Rattle.board_rule.specs.buffers.BufferReads.{IsFirstFilled}
 use Rattle.io_areas.specs.Writing.{IsNew}
 use Rattle.io_areas.proofs.PoolLemmas.{one_first}
 use Rattle.io_areas.proofs.writing.publish.Goals as goal

@@ -1,8 +1,8 @@
 use Rattle.std.proofs.Common.{◌≡◌, ◌+◌, ℕ, inr, refl, ap, ◌∙◌, arith, rules}
 use Rattle.board_rule.specs.declared.view.View.{View}
 use Rattle.board_rule.specs.Layout.{layout_of, first}
-use Rattle.board_rule.specs.BlockSteps.{fill_cycle}
-use Rattle.board_rule.specs.ReclaimSteps.{readers_loaded}
+use Rattle.board_rule.specs.buffers.BlockSteps.{fill_cycle}
+use Rattle.board_rule.specs.buffers.ReclaimSteps.{readers_loaded}
 use Rattle.io_areas.proofs.PoolLemmas.{has_block}
 use Rattle.io_areas.proofs.writing.reclaim.Goals as goal
 

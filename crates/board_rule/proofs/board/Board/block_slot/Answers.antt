@@ -3,11 +3,11 @@ use Rattle.std.specs.Prelude.{slice_index_or}
 use Rattle.std.proofs.lemmas.List.{get_or_read}
 use Rattle.pw_base.specs.Pools.{pools_of}
 use Rattle.board_rule.specs.Layout.{layout_of}
-use Rattle.board_rule.specs.Owners.{owners_of, slot_in}
-use Rattle.board_rule.specs.Spans.{block_at}
+use Rattle.board_rule.specs.start.Owners.{owners_of, slot_in}
+use Rattle.board_rule.specs.buffers.Spans.{block_at}
 use Rattle.board_rule.specs.declared.rows.PoolRow.{PoolRow}
 use Rattle.board_rule.proofs.WordLemmas.{row_fits}
-use Rattle.board_rule.proofs.SlotLemmas.{slot_low}
+use Rattle.board_rule.proofs.start.SlotLemmas.{slot_low}
 use Rattle.board_rule.proofs.board.Board.block_slot.Goals as goal
 
 no_row : PoolRow

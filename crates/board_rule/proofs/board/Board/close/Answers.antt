@@ -6,9 +6,9 @@ use Rattle.pw_base.specs.declared.event.Event.{Event}
 use Rattle.board_rule.specs.declared.view.View.{View}
 use Rattle.board_rule.specs.Known.{Known}
 use Rattle.board_rule.specs.Layout.{layout_of}
-use Rattle.board_rule.specs.TicketOrder.{AreInTicketOrder}
-use Rattle.board_rule.specs.Closing.{HasEndedAll, AreRecorded}
-use Rattle.board_rule.proofs.ClosingLemmas.{closed_leaves}
+use Rattle.board_rule.specs.events.TicketOrder.{AreInTicketOrder}
+use Rattle.board_rule.specs.events.Closing.{HasEndedAll, AreRecorded}
+use Rattle.board_rule.proofs.events.ClosingLemmas.{closed_leaves}
 use Rattle.board_rule.proofs.board.Board.close.Goals as goal
 
 pub history-events-requires-clause-recorded : goal.history-events-requires-clause-recorded

@@ -1,5 +1,5 @@
 use Rattle.board_rule.specs.Layout.{layout_of}
-use Rattle.board_rule.specs.Closing.{last_view, kept_view}
+use Rattle.board_rule.specs.events.Closing.{last_view, kept_view}
 use Rattle.board_rule.proofs.board.Board.close.Given as goal
 
 abbrev pub ghosts-keep : goal.ghosts-keep

@@ -1,6 +1,6 @@
 use Rattle.std.proofs.Common.{true, ◌≡◌}
 use Rattle.board_rule.specs.Layout.{layout_of}
-use Rattle.board_rule.specs.EventSteps.{looked}
+use Rattle.board_rule.specs.events.EventSteps.{looked}
 use Rattle.board_rule.proofs.driver_seat.DriverSeat.load_status.Given as goal
 
 abbrev pub ghosts-look : goal.ghosts-look

@@ -2,7 +2,7 @@ use Rattle.std.proofs.Common.{sym, ap, subst}
 use Rattle.board_rule.specs.declared.view.View.{View}
 use Rattle.board_rule.specs.Layout.{layout_of}
 use Rattle.board_rule.specs.Known.{Known}
-use Rattle.board_rule.specs.EventSteps.{StoresLate}
+use Rattle.board_rule.specs.events.EventSteps.{StoresLate}
 use Rattle.board_rule.proofs.driver_seat.DriverSeat.store_late.Goals as goal
 
 pub store_late-requires-clause-phase : goal.store_late-requires-clause-phase

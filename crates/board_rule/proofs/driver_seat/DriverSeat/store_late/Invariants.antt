@@ -1,5 +1,5 @@
 use Rattle.std.proofs.Common.{true, ◌≡◌}
-use Rattle.board_rule.specs.EventSteps.{late_stored}
+use Rattle.board_rule.specs.events.EventSteps.{late_stored}
 use Rattle.board_rule.proofs.driver_seat.DriverSeat.store_late.Given as goal
 
 abbrev pub ghosts-store_late : goal.ghosts-store_late

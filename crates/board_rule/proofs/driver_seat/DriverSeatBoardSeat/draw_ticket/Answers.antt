@@ -1,7 +1,7 @@
 use Rattle.std.proofs.Common.{sym, ap, subst}
 use Rattle.board_rule.specs.declared.view.View.{View}
 use Rattle.board_rule.specs.Known.{Known}
-use Rattle.board_rule.specs.EventSteps.{CanDrawLead}
+use Rattle.board_rule.specs.events.EventSteps.{CanDrawLead}
 use Rattle.board_rule.proofs.LeadLemmas.{lead_draws_on}
 use Rattle.board_rule.proofs.driver_seat.DriverSeatBoardSeat.draw_ticket.Goals as goal
 

@@ -1,6 +1,6 @@
 use Rattle.std.proofs.Common.{true, ◌<◌}
 use Rattle.pw_base.specs.Layout.{event_count}
-use Rattle.board_rule.specs.EventSteps.{draws}
+use Rattle.board_rule.specs.events.EventSteps.{draws}
 use Rattle.board_rule.proofs.driver_seat.DriverSeatBoardSeat.draw_ticket.Given as goal
 
 abbrev pub ghosts-draw : goal.ghosts-draw

@@ -1,6 +1,6 @@
 use Rattle.std.proofs.Common.{true}
 use Rattle.board_rule.specs.Layout.{layout_of}
-use Rattle.board_rule.specs.ReaderSteps.{loaded_as_reader, IsPublished}
+use Rattle.board_rule.specs.buffers.ReaderSteps.{loaded_as_reader, IsPublished}
 use Rattle.board_rule.proofs.driver_seat.DriverSeatBoardSeat.load_io_as_reader.Given as goal
 
 abbrev pub ghosts-load_area : goal.ghosts-load_area

@@ -1,7 +1,7 @@
 use Rattle.std.proofs.Common.{true, ◌≡◌}
-use Rattle.board_rule.specs.SampleWords.{IsTable, packed}
+use Rattle.board_rule.specs.buffers.SampleWords.{IsTable, packed}
 use Rattle.board_rule.specs.Layout.{layout_of}
-use Rattle.board_rule.specs.ReaderSteps.{sample_loaded, samples_read}
+use Rattle.board_rule.specs.buffers.ReaderSteps.{sample_loaded, samples_read}
 use Rattle.board_rule.proofs.driver_seat.DriverSeatBoardSeat.load_sample_at.Given as goal
 
 abbrev pub ghosts-load_sample : goal.ghosts-load_sample

@@ -2,9 +2,9 @@ use Rattle.std.proofs.Common.{◌∙◌, ◌+◌, ℕ, ap, sym, subst, cond, eqb
 use Rattle.board_rule.specs.declared.view.View.{View}
 use Rattle.board_rule.specs.Known.{Known}
 use Rattle.board_rule.specs.Layout.{layout_of}
-use Rattle.board_rule.specs.Bits.{with_bit}
+use Rattle.board_rule.specs.events.Bits.{with_bit}
 use Rattle.board_rule.specs.Steps.{CanKick}
-use Rattle.board_rule.specs.DriverProgress.{told_so_far}
+use Rattle.board_rule.specs.events.DriverProgress.{told_so_far}
 use Rattle.board_rule.proofs.LeadLemmas.{lead_lowers}
 use Rattle.board_rule.proofs.driver_seat.DriverSeatBoardSeat.lower_pending.Goals as goal
 

@@ -1,6 +1,6 @@
 use Rattle.std.proofs.Common.{true, ◌<◌}
 use Rattle.board_rule.specs.Layout.{layout_of}
-use Rattle.board_rule.specs.ReaderSteps.{readers_lowered}
+use Rattle.board_rule.specs.buffers.ReaderSteps.{readers_lowered}
 use Rattle.board_rule.proofs.driver_seat.DriverSeatBoardSeat.lower_readers.Given as goal
 
 abbrev pub ghosts-lower_readers : goal.ghosts-lower_readers

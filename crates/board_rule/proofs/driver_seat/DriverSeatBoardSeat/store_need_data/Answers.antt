@@ -2,10 +2,10 @@ use Rattle.std.proofs.Common.{◌≡◌, ◌∙◌, ◌+◌, ℕ, true, ap, sym,
 use Rattle.board_rule.specs.declared.view.View.{View}
 use Rattle.board_rule.specs.Known.{Known}
 use Rattle.board_rule.specs.Layout.{layout_of}
-use Rattle.board_rule.specs.EndViews.{read_of}
-use Rattle.board_rule.specs.ReaderSteps.{IsReader}
-use Rattle.board_rule.proofs.SlotLemmas.{read_sits}
-use Rattle.board_rule.proofs.EntryLemmas.{end_there, lead_read_set}
+use Rattle.board_rule.specs.buffers.EndViews.{read_of}
+use Rattle.board_rule.specs.buffers.ReaderSteps.{IsReader}
+use Rattle.board_rule.proofs.start.SlotLemmas.{read_sits}
+use Rattle.board_rule.proofs.start.EntryLemmas.{end_there, lead_read_set}
 use Rattle.board_rule.proofs.driver_seat.DriverSeatBoardSeat.store_need_data.Goals as goal
 
 pub index_mut-requires : goal.index_mut-requires

@@ -1,6 +1,6 @@
 use Rattle.std.proofs.Common.{true, ◌≡◌}
 use Rattle.board_rule.specs.Layout.{layout_of}
-use Rattle.board_rule.specs.ReaderSteps.{need_stored}
+use Rattle.board_rule.specs.buffers.ReaderSteps.{need_stored}
 use Rattle.board_rule.proofs.driver_seat.DriverSeatBoardSeat.store_need_data.Given as goal
 
 abbrev pub ghosts-store_need : goal.ghosts-store_need

@@ -1,6 +1,6 @@
 use Rattle.std.proofs.Common.{◌<◌, ℕ}
 use Rattle.board_rule.specs.Layout.{layout_of}
-use Rattle.board_rule.specs.BufferReads.{IsFilled}
+use Rattle.board_rule.specs.buffers.BufferReads.{IsFilled}
 use Rattle.board_rule.proofs.loop_seat.LoopSeat.filled.Given as goal
 
 abbrev pub invariant-loop-id : goal.invariant-loop-id

@@ -4,11 +4,11 @@ use Rattle.board_rule.specs.declared.view.BlockView.TheVariants.{Free}
 use Rattle.board_rule.specs.declared.view.View.{View}
 use Rattle.board_rule.specs.Known.{Known}
 use Rattle.board_rule.specs.Layout.{layout_of}
-use Rattle.board_rule.specs.Spans.{block_at}
-use Rattle.board_rule.specs.BlockSteps.{fill_cycle, HasBlock}
-use Rattle.board_rule.specs.ReclaimSteps.{LoadsReaders}
-use Rattle.board_rule.proofs.SlotLemmas.{block_sits}
-use Rattle.board_rule.proofs.EntryLemmas.{block_set, block_in}
+use Rattle.board_rule.specs.buffers.Spans.{block_at}
+use Rattle.board_rule.specs.buffers.BlockSteps.{fill_cycle, HasBlock}
+use Rattle.board_rule.specs.buffers.ReclaimSteps.{LoadsReaders}
+use Rattle.board_rule.proofs.start.SlotLemmas.{block_sits}
+use Rattle.board_rule.proofs.start.EntryLemmas.{block_set, block_in}
 use Rattle.board_rule.proofs.loop_seat.LoopSeat.load_readers.Goals as goal
 
 pub index_mut-requires : goal.index_mut-requires

@@ -1,6 +1,6 @@
 use Rattle.std.proofs.Common.{false, ◌≡◌}
 use Rattle.board_rule.specs.Layout.{layout_of}
-use Rattle.board_rule.specs.ReclaimSteps.{FindsDue, readers_loaded}
+use Rattle.board_rule.specs.buffers.ReclaimSteps.{FindsDue, readers_loaded}
 use Rattle.board_rule.proofs.loop_seat.LoopSeat.load_readers.Given as goal
 
 abbrev pub ghosts-load_readers : goal.ghosts-load_readers

@@ -2,11 +2,11 @@ use Rattle.std.proofs.Common.{◌≡◌, ◌∙◌, ap, sym, subst, arith}
 use Rattle.board_rule.specs.declared.view.View.{View}
 use Rattle.board_rule.specs.Known.{Known}
 use Rattle.board_rule.specs.Layout.{layout_of}
-use Rattle.board_rule.specs.SeatNodes.{Has}
+use Rattle.board_rule.specs.activation.SeatNodes.{Has}
 use Rattle.board_rule.specs.View.{node_of}
-use Rattle.board_rule.specs.Progress.{progress_of}
-use Rattle.board_rule.proofs.SlotLemmas.{node_sits}
-use Rattle.board_rule.proofs.EntryLemmas.{node_kept, node_in}
+use Rattle.board_rule.specs.activation.Progress.{progress_of}
+use Rattle.board_rule.proofs.start.SlotLemmas.{node_sits}
+use Rattle.board_rule.proofs.start.EntryLemmas.{node_kept, node_in}
 use Rattle.board_rule.proofs.loop_seat.LoopSeat.node_at.Goals as goal
 
 pub index-requires : goal.index-requires

@@ -2,10 +2,10 @@ use Rattle.std.proofs.Common.{◌≡◌, ◌∙◌, false, ap, sym, subst, arith
 use Rattle.board_rule.specs.declared.view.View.{View}
 use Rattle.board_rule.specs.Known.{Known}
 use Rattle.board_rule.specs.Layout.{layout_of}
-use Rattle.board_rule.specs.Slots.{HasReader}
-use Rattle.board_rule.specs.EndViews.{read_of}
-use Rattle.board_rule.proofs.SlotLemmas.{read_sits}
-use Rattle.board_rule.proofs.EntryLemmas.{read_kept, read_in}
+use Rattle.board_rule.specs.start.Slots.{HasReader}
+use Rattle.board_rule.specs.buffers.EndViews.{read_of}
+use Rattle.board_rule.proofs.start.SlotLemmas.{read_sits}
+use Rattle.board_rule.proofs.start.EntryLemmas.{read_kept, read_in}
 use Rattle.board_rule.proofs.loop_seat.LoopSeat.read_at.Goals as goal
 
 pub index-requires : goal.index-requires

@@ -2,12 +2,12 @@ use Rattle.std.proofs.Common.{◌≡◌, ◌∙◌, ◌+◌, ℕ, ap, sym, subst
 use Rattle.board_rule.specs.declared.view.View.{View}
 use Rattle.board_rule.specs.Known.{Known}
 use Rattle.board_rule.specs.Layout.{layout_of}
-use Rattle.board_rule.specs.Slots.{HasWriter}
+use Rattle.board_rule.specs.start.Slots.{HasWriter}
 use Rattle.board_rule.specs.View.{node_of}
-use Rattle.board_rule.specs.EndViews.{write_of}
-use Rattle.board_rule.specs.WriterSteps.{write_cycle, IsWriter}
-use Rattle.board_rule.proofs.SlotLemmas.{write_sits}
-use Rattle.board_rule.proofs.EntryLemmas.{write_set, write_in}
+use Rattle.board_rule.specs.buffers.EndViews.{write_of}
+use Rattle.board_rule.specs.buffers.WriterSteps.{write_cycle, IsWriter}
+use Rattle.board_rule.proofs.start.SlotLemmas.{write_sits}
+use Rattle.board_rule.proofs.start.EntryLemmas.{write_set, write_in}
 use Rattle.board_rule.proofs.loop_seat.LoopSeat.store_have_data.Goals as goal
 
 pub index_mut-requires : goal.index_mut-requires

@@ -1,6 +1,6 @@
 use Rattle.std.proofs.Common.{false, ◌≡◌}
 use Rattle.board_rule.specs.Layout.{layout_of}
-use Rattle.board_rule.specs.WriterSteps.{have_stored}
+use Rattle.board_rule.specs.buffers.WriterSteps.{have_stored}
 use Rattle.board_rule.proofs.loop_seat.LoopSeat.store_have_data.Given as goal
 
 abbrev pub ghosts-store_have : goal.ghosts-store_have

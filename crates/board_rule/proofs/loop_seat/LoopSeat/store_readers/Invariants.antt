@@ -1,6 +1,6 @@
 use Rattle.std.proofs.Common.{false, ◌≡◌}
 use Rattle.board_rule.specs.Layout.{layout_of}
-use Rattle.board_rule.specs.BlockSteps.{readers_stored}
+use Rattle.board_rule.specs.buffers.BlockSteps.{readers_stored}
 use Rattle.board_rule.proofs.loop_seat.LoopSeat.store_readers.Given as goal
 
 abbrev pub ghosts-store_readers : goal.ghosts-store_readers

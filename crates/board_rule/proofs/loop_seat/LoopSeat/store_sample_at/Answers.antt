@@ -3,10 +3,10 @@ use Rattle.board_rule.specs.declared.view.BlockView.TheVariants.{Filling}
 use Rattle.board_rule.specs.declared.view.View.{View}
 use Rattle.board_rule.specs.Known.{Known}
 use Rattle.board_rule.specs.Layout.{layout_of}
-use Rattle.board_rule.specs.Spans.{block_at}
-use Rattle.board_rule.specs.BlockSteps.{HasBlock}
-use Rattle.board_rule.proofs.SlotLemmas.{block_sits}
-use Rattle.board_rule.proofs.EntryLemmas.{block_set, block_in}
+use Rattle.board_rule.specs.buffers.Spans.{block_at}
+use Rattle.board_rule.specs.buffers.BlockSteps.{HasBlock}
+use Rattle.board_rule.proofs.start.SlotLemmas.{block_sits}
+use Rattle.board_rule.proofs.start.EntryLemmas.{block_set, block_in}
 use Rattle.board_rule.proofs.loop_seat.LoopSeat.store_sample_at.Goals as goal
 
 pub index_mut-requires : goal.index_mut-requires

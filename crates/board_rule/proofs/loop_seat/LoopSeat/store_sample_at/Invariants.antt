@@ -1,6 +1,6 @@
 use Rattle.std.proofs.Common.{false, ◌≡◌}
 use Rattle.board_rule.specs.Layout.{layout_of}
-use Rattle.board_rule.specs.BlockSteps.{sample_stored}
+use Rattle.board_rule.specs.buffers.BlockSteps.{sample_stored}
 use Rattle.board_rule.proofs.loop_seat.LoopSeat.store_sample_at.Given as goal
 
 abbrev pub ghosts-store_sample : goal.ghosts-store_sample

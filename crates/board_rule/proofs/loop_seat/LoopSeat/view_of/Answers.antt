@@ -2,11 +2,11 @@ use Rattle.std.proofs.Common.{◌≡◌, ◌∙◌, ◌<◌, ap, sym, subst, ari
 use Rattle.board_rule.specs.declared.view.View.{View}
 use Rattle.board_rule.specs.Known.{Known}
 use Rattle.board_rule.specs.Layout.{layout_of}
-use Rattle.board_rule.specs.Spans.{block_at}
-use Rattle.board_rule.specs.EndViews.{block_of}
-use Rattle.board_rule.specs.BufferReads.{HasPool}
-use Rattle.board_rule.proofs.SlotLemmas.{block_sits}
-use Rattle.board_rule.proofs.EntryLemmas.{block_kept, block_in}
+use Rattle.board_rule.specs.buffers.Spans.{block_at}
+use Rattle.board_rule.specs.buffers.EndViews.{block_of}
+use Rattle.board_rule.specs.buffers.BufferReads.{HasPool}
+use Rattle.board_rule.proofs.start.SlotLemmas.{block_sits}
+use Rattle.board_rule.proofs.start.EntryLemmas.{block_kept, block_in}
 use Rattle.board_rule.proofs.loop_seat.LoopSeat.view_of.Goals as goal
 
 pub index-requires : goal.index-requires

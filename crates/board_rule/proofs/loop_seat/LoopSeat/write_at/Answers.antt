@@ -2,10 +2,10 @@ use Rattle.std.proofs.Common.{◌≡◌, ◌∙◌, ap, sym, subst, arith}
 use Rattle.board_rule.specs.declared.view.View.{View}
 use Rattle.board_rule.specs.Known.{Known}
 use Rattle.board_rule.specs.Layout.{layout_of}
-use Rattle.board_rule.specs.Slots.{HasWriter}
-use Rattle.board_rule.specs.EndViews.{write_of}
-use Rattle.board_rule.proofs.SlotLemmas.{write_sits}
-use Rattle.board_rule.proofs.EntryLemmas.{write_kept, write_in}
+use Rattle.board_rule.specs.start.Slots.{HasWriter}
+use Rattle.board_rule.specs.buffers.EndViews.{write_of}
+use Rattle.board_rule.proofs.start.SlotLemmas.{write_sits}
+use Rattle.board_rule.proofs.start.EntryLemmas.{write_kept, write_in}
 use Rattle.board_rule.proofs.loop_seat.LoopSeat.write_at.Goals as goal
 
 pub index-requires : goal.index-requires

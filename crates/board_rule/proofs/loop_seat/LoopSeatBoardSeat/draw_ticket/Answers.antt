@@ -3,11 +3,11 @@ use Rattle.board_rule.specs.declared.view.View.{View}
 use Rattle.board_rule.specs.Layout.{layout_of}
 use Rattle.board_rule.specs.Known.{Known}
 use Rattle.board_rule.specs.View.{node_of}
-use Rattle.board_rule.specs.EventSteps.{CanDraw}
-use Rattle.board_rule.proofs.ProgressLemmas.{seat_draws}
-use Rattle.board_rule.specs.SeatNodes.{Has}
-use Rattle.board_rule.proofs.SlotLemmas.{node_sits}
-use Rattle.board_rule.proofs.EntryLemmas.{node_in}
+use Rattle.board_rule.specs.events.EventSteps.{CanDraw}
+use Rattle.board_rule.proofs.activation.ProgressLemmas.{seat_draws}
+use Rattle.board_rule.specs.activation.SeatNodes.{Has}
+use Rattle.board_rule.proofs.start.SlotLemmas.{node_sits}
+use Rattle.board_rule.proofs.start.EntryLemmas.{node_in}
 use Rattle.board_rule.proofs.loop_seat.LoopSeatBoardSeat.draw_ticket.Goals as goal
 
 -- the view, and the index of the node

@@ -4,7 +4,7 @@ use Rattle.board_rule.specs.Layout.{layout_of}
 use Rattle.board_rule.specs.Known.{Known}
 use Rattle.board_rule.specs.View.{node_of}
 use Rattle.board_rule.specs.declared.view.Phase.TheVariants.{Idle}
-use Rattle.board_rule.proofs.ProgressLemmas.{seat_claims}
+use Rattle.board_rule.proofs.activation.ProgressLemmas.{seat_claims}
 use Rattle.board_rule.proofs.loop_seat.LoopSeatBoardSeat.exchange_awake.Goals as goal
 
 -- the view, and the index of the node

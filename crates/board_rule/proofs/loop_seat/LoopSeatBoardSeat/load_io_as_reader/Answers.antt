@@ -4,12 +4,12 @@ use Rattle.pw_base.specs.Words.{io_id_in}
 use Rattle.board_rule.specs.declared.view.View.{View}
 use Rattle.board_rule.specs.Known.{Known}
 use Rattle.board_rule.specs.Layout.{layout_of}
-use Rattle.board_rule.specs.Slots.{HasReader}
+use Rattle.board_rule.specs.start.Slots.{HasReader}
 use Rattle.board_rule.specs.View.{node_of}
-use Rattle.board_rule.specs.EndViews.{read_of}
-use Rattle.board_rule.specs.ReaderSteps.{read_cycle, IsReader, IsPublished}
-use Rattle.board_rule.proofs.SlotLemmas.{read_sits}
-use Rattle.board_rule.proofs.EntryLemmas.{read_set, read_in}
+use Rattle.board_rule.specs.buffers.EndViews.{read_of}
+use Rattle.board_rule.specs.buffers.ReaderSteps.{read_cycle, IsReader, IsPublished}
+use Rattle.board_rule.proofs.start.SlotLemmas.{read_sits}
+use Rattle.board_rule.proofs.start.EntryLemmas.{read_set, read_in}
 use Rattle.board_rule.proofs.loop_seat.LoopSeatBoardSeat.load_io_as_reader.Goals as goal
 
 pub index_mut-requires : goal.index_mut-requires

@@ -1,6 +1,6 @@
 use Rattle.std.proofs.Common.{false}
 use Rattle.board_rule.specs.Layout.{layout_of}
-use Rattle.board_rule.specs.ReaderSteps.{loaded_as_reader, IsPublished}
+use Rattle.board_rule.specs.buffers.ReaderSteps.{loaded_as_reader, IsPublished}
 use Rattle.board_rule.proofs.loop_seat.LoopSeatBoardSeat.load_io_as_reader.Given as goal
 
 abbrev pub ghosts-load_area : goal.ghosts-load_area

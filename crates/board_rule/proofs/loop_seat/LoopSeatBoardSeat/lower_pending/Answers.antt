@@ -1,15 +1,15 @@
 use Rattle.std.proofs.Common.{◌≡◌, ◌∙◌, ℕ, cond, eqb, sym, ap, subst, arith, false}
 use Rattle.board_rule.specs.declared.view.View.{View}
 use Rattle.board_rule.specs.Layout.{layout_of}
-use Rattle.board_rule.specs.Bits.{with_bit}
+use Rattle.board_rule.specs.events.Bits.{with_bit}
 use Rattle.board_rule.specs.Known.{Known}
 use Rattle.board_rule.specs.View.{node_of}
 use Rattle.board_rule.specs.declared.progress.NodeProgress.{NodeProgress}
 use Rattle.board_rule.specs.Steps.{lowered_of}
-use Rattle.board_rule.proofs.ProgressLemmas.{seat_lowers}
-use Rattle.board_rule.specs.SeatNodes.{Has, HasNode}
-use Rattle.board_rule.proofs.SlotLemmas.{node_sits}
-use Rattle.board_rule.proofs.EntryLemmas.{node_in, next_here}
+use Rattle.board_rule.proofs.activation.ProgressLemmas.{seat_lowers}
+use Rattle.board_rule.specs.activation.SeatNodes.{Has, HasNode}
+use Rattle.board_rule.proofs.start.SlotLemmas.{node_sits}
+use Rattle.board_rule.proofs.start.EntryLemmas.{node_in, next_here}
 use Rattle.board_rule.proofs.loop_seat.LoopSeatBoardSeat.lower_pending.Goals as goal
 
 -- the view, and the index of the node

@@ -2,8 +2,8 @@ use Rattle.std.proofs.Common.{ℕ, sym, ap, ◌≡◌, subst}
 use Rattle.board_rule.specs.declared.view.View.{View}
 use Rattle.board_rule.specs.Known.{Known}
 use Rattle.board_rule.specs.View.{node_of}
-use Rattle.board_rule.specs.EventSteps.{CanStore}
-use Rattle.board_rule.proofs.ProgressLemmas.{seat_stores}
+use Rattle.board_rule.specs.events.EventSteps.{CanStore}
+use Rattle.board_rule.proofs.activation.ProgressLemmas.{seat_stores}
 use Rattle.board_rule.proofs.loop_seat.LoopSeatBoardSeat.store_event.Goals as goal
 
 -- the view, and the index of the node

@@ -1,5 +1,5 @@
 use Rattle.std.proofs.Common.{false, ◌≡◌}
-use Rattle.board_rule.specs.EventSteps.{event_stored}
+use Rattle.board_rule.specs.events.EventSteps.{event_stored}
 use Rattle.board_rule.proofs.loop_seat.LoopSeatBoardSeat.store_event.Given as goal
 
 abbrev pub ghosts-store : goal.ghosts-store

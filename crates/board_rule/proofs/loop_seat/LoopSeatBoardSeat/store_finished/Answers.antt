@@ -4,10 +4,10 @@ use Rattle.board_rule.specs.Layout.{layout_of}
 use Rattle.board_rule.specs.Known.{Known}
 use Rattle.board_rule.specs.View.{node_of}
 use Rattle.board_rule.specs.declared.view.Phase.TheVariants.{Running}
-use Rattle.board_rule.proofs.ProgressLemmas.{seat_finishes}
-use Rattle.board_rule.specs.SeatNodes.{Has}
-use Rattle.board_rule.proofs.SlotLemmas.{node_sits}
-use Rattle.board_rule.proofs.EntryLemmas.{node_in}
+use Rattle.board_rule.proofs.activation.ProgressLemmas.{seat_finishes}
+use Rattle.board_rule.specs.activation.SeatNodes.{Has}
+use Rattle.board_rule.proofs.start.SlotLemmas.{node_sits}
+use Rattle.board_rule.proofs.start.EntryLemmas.{node_in}
 use Rattle.board_rule.proofs.loop_seat.LoopSeatBoardSeat.store_finished.Goals as goal
 
 -- the view, and the index of the node

@@ -1,6 +1,6 @@
 use Rattle.std.proofs.Common.{false, ◌≡◌}
 use Rattle.board_rule.specs.Layout.{layout_of}
-use Rattle.board_rule.specs.ReaderSteps.{need_stored}
+use Rattle.board_rule.specs.buffers.ReaderSteps.{need_stored}
 use Rattle.board_rule.proofs.loop_seat.LoopSeatBoardSeat.store_need_data.Given as goal
 
 abbrev pub ghosts-store_need : goal.ghosts-store_need

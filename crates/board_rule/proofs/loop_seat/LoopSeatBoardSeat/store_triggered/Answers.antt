@@ -5,10 +5,10 @@ use Rattle.board_rule.specs.Known.{Known}
 use Rattle.board_rule.specs.View.{node_of}
 use Rattle.board_rule.specs.declared.progress.NodeProgress.{NodeProgress}
 use Rattle.board_rule.specs.Steps.{lowered_of}
-use Rattle.board_rule.proofs.ProgressLemmas.{seat_triggers}
-use Rattle.board_rule.specs.SeatNodes.{Has, HasNode}
-use Rattle.board_rule.proofs.SlotLemmas.{node_sits}
-use Rattle.board_rule.proofs.EntryLemmas.{node_in, next_here}
+use Rattle.board_rule.proofs.activation.ProgressLemmas.{seat_triggers}
+use Rattle.board_rule.specs.activation.SeatNodes.{Has, HasNode}
+use Rattle.board_rule.proofs.start.SlotLemmas.{node_sits}
+use Rattle.board_rule.proofs.start.EntryLemmas.{node_in, next_here}
 use Rattle.board_rule.proofs.loop_seat.LoopSeatBoardSeat.store_triggered.Goals as goal
 
 -- the view, and the index of the node

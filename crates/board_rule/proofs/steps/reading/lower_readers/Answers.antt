@@ -4,7 +4,7 @@ use Rattle.board_rule.specs.declared.board_shape.BoardShape.{BoardShape}
 use Rattle.board_rule.specs.Layout.{layout_of}
 use Rattle.board_rule.specs.BoardRule.{Holds}
 use Rattle.board_rule.specs.Plays.{Learns}
-use Rattle.board_rule.proofs.ReaderStepLemmas.{lower_readers_allowed}
+use Rattle.board_rule.proofs.buffers.ReaderStepLemmas.{lower_readers_allowed}
 use Rattle.board_rule.proofs.steps.reading.lower_readers.Goals as goal
 
 pub fetch_sub-requires : goal.fetch_sub-requires

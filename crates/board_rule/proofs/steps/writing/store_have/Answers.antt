@@ -1,14 +1,14 @@
 use Rattle.std.proofs.Common.{ℕ, sym, ap, ◌∙◌, subst}
 use Rattle.pw_base.specs.Words.{io_word_of}
 use Rattle.pw_base.specs.Layout.{io_place}
-use Rattle.board_rule.specs.Areas.{area_of}
-use Rattle.board_rule.specs.EndViews.{link_at}
+use Rattle.board_rule.specs.buffers.Areas.{area_of}
+use Rattle.board_rule.specs.buffers.EndViews.{link_at}
 use Rattle.atomic_table.specs.Table.{Allows}
 use Rattle.board_rule.specs.declared.board_shape.BoardShape.{BoardShape}
 use Rattle.board_rule.specs.Layout.{layout_of}
 use Rattle.board_rule.specs.BoardRule.{Holds}
 use Rattle.board_rule.specs.Plays.{Leaves}
-use Rattle.board_rule.proofs.WriterStepLemmas.{store_have_allowed}
+use Rattle.board_rule.proofs.buffers.WriterStepLemmas.{store_have_allowed}
 use Rattle.board_rule.proofs.steps.writing.store_have.Goals as goal
 
 pub store-requires : goal.store-requires

@@ -4,7 +4,7 @@ use Rattle.std.proofs.lemmas.List.{get_or_default, append_assoc}
 use Rattle.std.proofs.lemmas.List.Elements.{filter_more}
 use Rattle.board_rule.specs.declared.view.View.{View}
 use Rattle.board_rule.specs.Layout.{BoardLayout, layout_of, first, nodes}
-use Rattle.board_rule.specs.SeatNodes.{IsMember}
+use Rattle.board_rule.specs.activation.SeatNodes.{IsMember}
 use Rattle.board_rule.specs.Steps.{tried}
 use Rattle.pw_base.specs.Words.{triggered_word}
 use Rattle.data_loop.specs.declared.member.Member.{Member}

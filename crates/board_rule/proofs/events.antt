@@ -1,0 +1,13 @@
+pub mod LogLemmas
+pub mod LegalLemmas
+pub mod BitLemmas
+pub mod LateLemmas
+pub mod DrawLemmas
+pub mod MarkLemmas
+pub mod TickLemmas
+pub mod TicketLemmas
+pub mod EventLemmas
+pub mod CheckLemmas
+pub mod SoundLemmas
+pub mod ClosingLemmas
+pub mod FinishLemmas

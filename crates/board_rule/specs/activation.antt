@@ -1,0 +1,10 @@
+pub mod Left
+pub mod Phases
+pub mod NodeRow
+pub mod ActivationReadings
+pub mod ActivationRule
+pub mod SeatNodes
+pub mod Taken
+pub mod TellingSteps
+pub mod WorkSteps
+pub mod Progress

@@ -1,0 +1,13 @@
+pub mod Drawn
+pub mod Bits
+pub mod Marks
+pub mod Records
+pub mod Logged
+pub mod EventRule
+pub mod TicketSteps
+pub mod CheckSteps
+pub mod EventSteps
+pub mod DriverProgress
+pub mod Closing
+pub mod TicketOrder
+pub mod LateSets

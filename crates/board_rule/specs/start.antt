@@ -1,0 +1,5 @@
+pub mod Seats
+pub mod Owners
+pub mod StartViews
+pub mod Slots
+pub mod FirstEnds

@@ -1,6 +1,0 @@
-use Rattle.ready_queues.specs.AnsweredWith.{IsWayOf}
-use Rattle.ready_queues.proofs.tests.feed.Given as goal
-
-abbrev pub invariant-loop : goal.invariant-loop
-invariant-loop g l = (goal.iterator-loop g).can_next l.iterator' × (goal.iterator-loop g).is_finite l.iterator'
-    × IsWayOf l.ways l.way

@@ -1,5 +1,0 @@
-use Rattle.ready_queues.specs.AnsweredWith.{IsWayOf}
-use Rattle.ready_queues.proofs.tests.send_often.Given as goal
-
-abbrev pub invariant-loop : goal.invariant-loop
-invariant-loop g l = IsWayOf l.ways l.way
