@@ -23,6 +23,7 @@ mod rooms;
 mod scope;
 mod shared;
 mod starting;
+mod ways;
 
 pub use assignment::{loop_of, nodes_of_loop};
 pub use boards::{Boards, boards_of};
@@ -30,3 +31,4 @@ pub use closing::{ClosedBoards, close_all};
 pub use epochs::run_epochs;
 pub use loops::loops_of;
 pub use plan_run::run_plan;
+pub use ways::ways_of;

@@ -1,16 +1,13 @@
 //! A run by loops in threads, of which each tells how many numbers it took out of its queue.
-ghost use Rattle.std.specs.Prelude.{◌≡◌, ◌≤◌, ℕ, All, IfOk, IfSome, Some, length, map, slice_get};
-ghost use Rattle.ready_queues.specs.declared.way.Way.{Way};
-ghost use Rattle.ready_queues.specs.Opening.{IsNewWay};
-ghost use Rattle.graph_run.specs.Assignment.{owner_row};
+ghost use Rattle.std.specs.Prelude.{◌≡◌, ◌≤◌, All, IfOk, IfSome, length, map};
 ghost use Rattle.soak_tests.specs.Threads.{CanStart, CanDrive};
 ghost use Rattle.soak_tests.specs.Work.{CanRun};
 
 use crate::work::{Work, work_of};
 use board_rule::{Board, DriverSeat};
 use data_loop::{LoopState, Way, Ways, run_all};
-use graph_run::{boards_of, loop_of, loops_of, run_epochs};
-use pw_base::{Every, Items, Memory, Open, Plan};
+use graph_run::{boards_of, loops_of, run_epochs, ways_of};
+use pw_base::{Every, Items, Memory, Open};
 use std::alloc::Global;
 use std::process::Abort;
 use std::sync::Wait;
@@ -18,33 +15,6 @@ use std::sync::atomic::{AtomicU64, Ordering};
 use std::test::Fail;
 use std::thread;
 use std::thread::{Scope, Threads};
-
-// The loop of each node of the plan.
-fn owner_row(alloc: Global, plan: &Plan, loops: u32) -> Result<Items<u32>, Memory>
-    requires few { length plan.now.nodes ≤ 63 }
-    ensures { IfOk result (λ row. row ≡ owner_row plan.now loops) }
-{
-    let mut row = Items::new(alloc);
-    for node in 0..plan.nodes.len() {
-        row.push(loop_of(plan, loops, node as u32))?;
-    }
-    Ok(row)
-}
-
-// The queues of all loops, the way of the driver's thread, and those of the loops in their order.
-fn ways_of(alloc: Global, plan: &Plan, loops: u32) -> Result<(Ways, Way, Items<Way>), Memory>
-    requires nodes { length plan.now.nodes ≤ 63 }
-    requires few { loops ≤ 16 }
-    ensures owner { IfOk result (λ t. t.0.owner ≡ owner_row plan.now loops) }
-    ensures loops { IfOk result (λ t. t.0.loops ≡ loops) }
-    ensures driver { IfOk result (λ t. IsNewWay t.0 loops t.1) }
-    ensures count { IfOk result (λ t. length t.2 ≡ loops) }
-    ensures ways { IfOk result (λ t. (k : ℕ) (w : Way) → slice_get t.2 k ≡ Some w
-        → IsNewWay t.0 k w) }
-{
-    let owner = owner_row(alloc, plan, loops)?;
-    Ways::new(alloc, &owner, loops)
-}
 
 // Each loop with its way.
 fn paired(

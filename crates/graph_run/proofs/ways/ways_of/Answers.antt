@@ -1,7 +1,7 @@
 use Rattle.std.proofs.Common.{◌≤◌, List, ℕ, length, sym, ap, subst, arith}
 use Rattle.std.specs.Prelude.{All}
 use Rattle.graph_run.proofs.PrepareLemmas.{owner_count, owners_most}
-use Rattle.graph_run.proofs.preparing.ways_of.Goals as goal
+use Rattle.graph_run.proofs.ways.ways_of.Goals as goal
 
 pub new-requires-clause-nodes : goal.new-requires-clause-nodes
 new-requires-clause-nodes c = let is = ap (λ (l : List ℕ). length l) c.in_ok-owner.ensures in
