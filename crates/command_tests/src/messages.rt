@@ -2,22 +2,12 @@
 
 use fault_messages::{explain, message};
 use graph_script::ScriptWhy;
-use pw_base::{Items, MemFiles, Memory, Which};
+use pw_base::{Items, MemFiles, Which};
 use pw_top::{PodWhy, Status};
-use std::alloc::Global;
+use row_files::words_of;
 use std::process::Abort;
 use std::test::Fail;
 use wav_files::WavFault;
-
-// The words of a command line, which blanks part.
-fn words_of(alloc: Global, line: &str) -> Result<Items<String>, Memory> {
-    let mut words = Items::new(alloc);
-    for word in line.split_whitespace() {
-        let word = String::from_str(alloc, word)?;
-        words.push(word)?;
-    }
-    Ok(words)
-}
 
 // Compares the message of a status with a place and what is said of it.
 fn expect<R: AllocGlobal + Abort>(

@@ -18,6 +18,4 @@ mod rendering;
 #[cfg(test)]
 mod storing;
 #[cfg(test)]
-mod support;
-#[cfg(test)]
 mod waves;

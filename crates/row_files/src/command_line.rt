@@ -6,8 +6,8 @@ use std::alloc::Global;
 use std::sync::Wait;
 use std::thread::Threads;
 
-// The words of a line, which blanks part.
-fn words_of(alloc: Global, line: &str) -> Result<Items<String>, Memory> {
+/// The words of a line, which blanks part.
+pub fn words_of(alloc: Global, line: &str) -> Result<Items<String>, Memory> {
     let mut words = Items::new(alloc);
     for word in line.split_whitespace() {
         let word = String::from_str(alloc, word)?;
