@@ -1,3 +1,4 @@
+-- Lemmas on activations: phases, the count of dependencies left, and each step of a node's cycle.
 pub mod LeftLemmas
 pub mod PhaseLemmas
 pub mod ProgressLemmas

@@ -1,3 +1,4 @@
+-- Lemmas on buffers: ends of links, blocks, pools, and each step on them; buffer safety.
 pub mod StoreLemmas
 pub mod PortLemmas
 pub mod WiringLemmas

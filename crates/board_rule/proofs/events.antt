@@ -1,3 +1,4 @@
+-- Lemmas on events: tickets, the log, legal cycles, late sets, and the end of a board.
 pub mod LogLemmas
 pub mod LegalLemmas
 pub mod BitLemmas

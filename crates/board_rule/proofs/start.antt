@@ -1,3 +1,4 @@
+-- Lemmas on the start: the first words and views, owners, slots and seats.
 pub mod SeatLemmas
 pub mod StartLemmas
 pub mod StartWordLemmas

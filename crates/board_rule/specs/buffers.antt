@@ -1,3 +1,5 @@
+-- Buffers: areas, blocks and readers words, what seats know of them, and the steps on them. Source:
+-- PipeWire's documentation, "SPA Buffers"; spa/node/io.h.
 pub mod SampleWords
 pub mod Areas
 pub mod BlockReadings

@@ -1,3 +1,5 @@
+-- Events: their tickets, their log, the late sets of checks, and the end of a board. Source: this
+-- project's own; near to a profiler's records.
 pub mod Drawn
 pub mod Bits
 pub mod Marks
