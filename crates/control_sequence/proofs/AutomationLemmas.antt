@@ -105,6 +105,26 @@ still_behind points frame later next g l behind = (behind.0, behind.1, λ i m. b
 pub length-automated : (points : List Point) (channels first : ℕ) (xs : List ℤ) → length (automated points channels first xs) ≡ length xs
 length-automated points channels first xs = grind (arith, common_steps, length-enumerate_from 0 xs)
 
+-- a piece of whole frames, written behind those before it
+pub frames_written : (points : List Point) (channels first done n : ℕ) (xs ys to new : List ℤ) (from w end : ℕ)
+    → 1 ≤ channels → from ≡ done * channels → end ≡ (done + n) * channels → end ≤ length xs → w ≡ end - from
+    → to ≡ automated points channels first (take from xs) ++ drop from ys
+    → new ≡ automated points channels (first + done) (take w (drop from xs))
+    → put_mid from w to new ≡ automated points channels first (take end xs) ++ drop end ys
+frames_written points channels first done n xs ys to new from w end some a b l e t last =
+    let wide : end ≡ from + n * channels = b ∙ add-mul done n channels ∙ ap (λ m. m + n * channels) (sym a) in
+    let width : w ≡ n * channels = omega (arith, wide, e) in
+    let here = automated points channels first (take from xs) in
+    let long : length here ≡ from = length-automated points channels first (take from xs)
+    ∙ grind (arith, common_steps, l, wide) in
+    let piece = take w (drop from xs) in
+    let whole : length (take from xs) ≡ done * channels = sym (length-automated points channels first (take from xs)) ∙ long ∙ a in
+    let joined : here ++ new ≡ automated points channels first (take end xs) =
+    ap (λ zs. here ++ zs) last ∙ sym (automated-append points channels first done (take from xs) piece some whole)
+    ∙ ap (automated points channels first) (sym (take-add from w xs) ∙ ap (λ m. take m xs) (omega (arith, wide, width))) in
+    ap (λ zs. put_mid from w zs new) t ∙ piece_written here ys new from w long
+    ∙ ap₂ (λ (zs : List ℤ) (m : ℕ). zs ++ drop m ys) joined (omega (arith, wide, width))
+
 -- a stretch of frames with one gain, written behind those before it
 pub stretch_written : (points : List Point) (channels first done n : ℕ) (g : ℤ) (xs ys to new : List ℤ) (from w end : ℕ)
     → 1 ≤ channels → from ≡ done * channels → end ≡ (done + n) * channels → end ≤ length xs → w ≡ end - from
@@ -115,19 +135,10 @@ pub stretch_written : (points : List Point) (channels first done n : ℕ) (g : �
 stretch_written points channels first done n g xs ys to new from w end some a b l e t same v =
     let wide : end ≡ from + n * channels = b ∙ add-mul done n channels ∙ ap (λ m. m + n * channels) (sym a) in
     let width : w ≡ n * channels = omega (arith, wide, e) in
-    let here = automated points channels first (take from xs) in
-    let long : length here ≡ from = length-automated points channels first (take from xs)
-    ∙ grind (arith, common_steps, l, wide) in
     let piece = take w (drop from xs) in
     let size : length piece ≡ w = piece_length xs from w (omega (arith, wide, width, l)) in
-    let last : new ≡ automated points channels (first + done) piece =
-    v ∙ sym (steady points channels (first + done) n g some same 0 piece (omega (arith, size, width))) in
-    let whole : length (take from xs) ≡ done * channels = sym (length-automated points channels first (take from xs)) ∙ long ∙ a in
-    let joined : here ++ new ≡ automated points channels first (take end xs) =
-    ap (λ zs. here ++ zs) last ∙ sym (automated-append points channels first done (take from xs) piece some whole)
-    ∙ ap (automated points channels first) (sym (take-add from w xs) ∙ ap (λ m. take m xs) (omega (arith, wide, width))) in
-    ap (λ zs. put_mid from w zs new) t ∙ piece_written here ys new from w long
-    ∙ ap₂ (λ (zs : List ℤ) (m : ℕ). zs ++ drop m ys) joined (omega (arith, wide, width))
+    frames_written points channels first done n xs ys to new from w end some a b l e t
+    (v ∙ sym (steady points channels (first + done) n g some same 0 piece (omega (arith, size, width))))
 
 -- so many whole frames, as samples
 pub whole_samples : (size channels n : ℕ) → size % channels ≡ 0 → n ≤ size / channels → n * channels ≤ size

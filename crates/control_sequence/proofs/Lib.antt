@@ -1,2 +1,3 @@
 pub mod AutomationLemmas
+pub mod PieceLemmas
 pub mod PointLemmas
