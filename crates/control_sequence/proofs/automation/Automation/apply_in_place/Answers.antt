@@ -1,7 +1,8 @@
 -- A piece of whole frames comes behind those before it.
-use Rattle.std.proofs.Common.{rules, ◌≡◌, ◌+◌, ◌-◌, ◌*◌, ◌/◌, ◌%◌, ◌≤◌, ◌∙◌, length, take, drop, refl, ap, arith, ℕ}
+use Rattle.std.proofs.Common.{rules, ◌≡◌, ◌+◌, ◌-◌, ◌*◌, ◌/◌, ◌%◌, ◌≤◌, ◌∙◌, ◌++◌, length, take, drop, refl, ap, arith, ℕ}
+use Rattle.std.proofs.lemmas.Nat.{div-add-mod'}
 use Rattle.control_sequence.specs.Automation.{Stream, automated}
-use Rattle.control_sequence.proofs.AutomationLemmas.{frames_written, whole_samples}
+use Rattle.control_sequence.proofs.AutomationLemmas.{frames_written, whole_samples, whole_stream}
 use Rattle.control_sequence.proofs.PieceLemmas.{samples_of, whole_frames, frames_in, piece_untouched}
 use Rattle.control_sequence.proofs.automation.Automation.apply_in_place.Goals as goal
 
@@ -63,3 +64,26 @@ loop-done-preserved c =
           ∙ ap (automated self.points self.channels (self.frames + done))
           (piece_untouched self.points self.channels self.frames row c.loop-done.row from w c.loop-done.invariant.written before));
     }
+
+pub returns-clause-samples : goal.returns-clause-samples
+returns-clause-samples c =
+    let self = c.args.self.now in
+    let row = c.args.row.now in
+    let channels = c.self.inside.channels in
+    let width : channels ≡ self.channels = search rules in
+    let whole : length row % channels ≡ 0 = ap (λ m. length row % m) width ∙ c.requires.whole in
+    let all : c.loop-done.done ≡ length row / channels = omega (arith, c.loop-done.invariant.within, c.loop-done-test.false) in
+    let long : c.loop-done.done * channels ≡ length row =
+    ap (λ n. n * channels) all ∙ omega (arith, div-add-mod' (length row) channels, whole) in
+    c.loop-done.invariant.written
+    ∙ ap (λ n. automated self.points self.channels self.frames (take n row) ++ drop n row) long
+    ∙ whole_stream self.points self.channels self.frames row row refl
+
+pub returns-clause-moved : goal.returns-clause-moved
+returns-clause-moved c =
+    let self = c.args.self.now in
+    let row = c.args.row.now in
+    let channels = c.self.inside.channels in
+    let width : channels ≡ self.channels = search rules in
+    let all : c.loop-done.done ≡ length row / channels = omega (arith, c.loop-done.invariant.within, c.loop-done-test.false) in
+    c.loop-done.invariant.moved ∙ ap (λ (m : ℕ). record self { frames = self.frames + m }) (all ∙ ap (λ m. length row / m) width)
