@@ -112,24 +112,23 @@ fn automate_wave(alloc: Global, wav: Wav, points: Points, out: Text) -> Result<W
     }
 }
 
-// The wave by the gains of the points.
-fn automated(alloc: Global, wav: Wav, points: Points) -> Result<Wav, Memory>
+// The wave by the gains of the points, in the row that it has.
+fn automated(wav: Wav, points: Points) -> Wav
     requires wave { IsWave wav }
     requires points { ArePoints points.items }
-    ensures wave { IfOk result (λ made. made ≡ automated_wave wav points.items) }
+    ensures wave { result ≡ automated_wave wav points.items }
 {
     let Wav {
         rate,
         channels,
-        samples,
+        mut samples,
     } = wav;
-    let mut made = Items::filled(alloc, samples.len(), 0)?;
-    Automation::new(points, channels).apply(samples.as_slice(), made.as_mut_slice());
-    Ok(Wav {
+    Automation::new(points, channels).apply_in_place(samples.as_mut_slice());
+    Wav {
         rate,
         channels,
-        samples: made,
-    })
+        samples,
+    }
 }
 
 // The line of so many frames.
@@ -149,7 +148,7 @@ fn work_of(alloc: Global, wav: Wav, points: Points, out: Text) -> Result<Work, M
     ensures { IfOk result (λ work. work ≡ automate_work out wav points.items) }
 {
     let frames = (wav.samples.len() / wav.channels as usize) as u64;
-    let made = automated(alloc, wav, points)?;
+    let made = automated(wav, points);
     let mut stores = Items::new(alloc);
     stores.push(Store {
         place: 3,
