@@ -1,7 +1,7 @@
 //! The message of a status, with the line of the script that it names.
 ghost use Rattle.std.specs.Prelude.{◌≡◌, ◌≤◌, Some, map, string_bytes, option_copied, IfOk};
 ghost use Rattle.fault_messages.specs.Message.{message_of};
-ghost use Rattle.fault_messages.specs.Explaining.{place_of, IsFound, IsExplained};
+ghost use Rattle.fault_messages.specs.Explaining.{place_of, IsFound, IsLineOf, IsExplained};
 
 use crate::lines::line_at;
 use crate::places::{is_line, word_at};
@@ -38,6 +38,8 @@ fn script_line<F: Files>(
     ensures stores { F.store_faults files.new ≡ F.store_faults files.old }
     ensures found { IfOk result
         (IsFound (F.held files.old) (map string_bytes words.now) (Some place)) }
+    ensures shown { IfOk result (IsLineOf (F.held files.old) (map string_bytes words.now)
+        (F.load_faults files.old) (F.load_faults files.new) place) }
 {
     let name = Items::from_slice(alloc, word_at(words, 1))?;
     match files.load(alloc, &name, SCRIPT_BYTES_LIMIT) {
@@ -62,8 +64,8 @@ pub fn explain<F: Files>(
     ensures held { F.held files.new ≡ F.held files.old }
     ensures later { F.load_faults files.old ≤ F.load_faults files.new }
     ensures stores { F.store_faults files.new ≡ F.store_faults files.old }
-    ensures text { IfOk result
-        (IsExplained (F.held files.old) status.now (map string_bytes words.now)) }
+    ensures text { IfOk result (IsExplained (F.held files.old) (F.load_faults files.old)
+        (F.load_faults files.new) status.now (map string_bytes words.now)) }
 {
     match place_of(status) {
         Some(place) => {
