@@ -1,60 +1,79 @@
 //! Pieces of a text, a name among names, the next node of an order, and ports and sinks.
 
-use crate::worked::link;
+use crate::rows::link;
 use pw_base::{
-    Items, Kind, NODES, PortId, find_free, is_same_port, is_sink, next_piece, place_of_name,
+    Items, Kind, Memory, NODES, PortId, ShapeLink, Text, find_free, is_same_port, is_sink,
+    next_piece, place_of_name,
 };
+use std::alloc::Global;
 use std::test::Fail;
 
-#[test]
-fn a_text_has_one_piece_more_than_marks(rt: HostRuntime) {
-    let (word, rest) = next_piece(b"tick  7".as_slice(), b' ');
-    assert!(rt; word == b"tick".as_slice());
-    let Some(rest) = rest else {
-        panic!(rt; "nothing follows the first mark");
-    };
-    let (nothing, rest) = next_piece(rest, b' ');
-    assert!(rt; nothing.is_empty());
-    let Some(rest) = rest else {
-        panic!(rt; "nothing follows the second mark");
-    };
-    let (last, rest) = next_piece(rest, b' ');
-    assert!(rt; last == b"7".as_slice());
-    assert!(rt; rest.is_none());
+// The piece of a text at a place.
+fn piece_at(text: &[u8], mark: u8, place: u32) -> Option<&[u8]> {
+    let (mut piece, mut rest) = next_piece(text, mark);
+    for _ in 0..place {
+        (piece, rest) = next_piece(rest?, mark);
+    }
+    Some(piece)
 }
 
 #[test]
-fn a_name_stands_at_its_first_place(rt: HostRuntime) -> Result<(), Fail> {
-    let alloc = rt.alloc();
+fn a_text_has_one_piece_more_than_marks(rt: HostRuntime) {
+    for (place, piece) in [
+        (0, Some(b"tick".as_slice())),
+        (1, Some(b"".as_slice())),
+        (2, Some(b"7".as_slice())),
+        (3, None),
+    ] {
+        assert!(rt; piece_at(b"tick  7".as_slice(), b' ', place) == piece);
+    }
+}
+
+// Three names, of which the last two are one.
+fn three_names(alloc: Global) -> Result<Items<Text>, Memory> {
     let mut names = Items::new(alloc);
     for name in [b"tone".as_slice(), b"mix".as_slice(), b"mix".as_slice()] {
         names.push(Items::from_slice(alloc, name)?)?;
     }
+    Ok(names)
+}
+
+#[test]
+fn a_name_stands_at_its_first_place(rt: HostRuntime) -> Result<(), Fail> {
+    let names = three_names(rt.alloc())?;
     assert!(rt; place_of_name(names.as_slice(), b"mix".as_slice()) == Some(1));
     assert!(rt; place_of_name(names.as_slice(), b"mi".as_slice()) == None);
     Ok(())
 }
 
+// The next node of an order where these of the nodes 0, 1 and 2 are left.
+fn next_of(links: &[ShapeLink], three: [bool; 3]) -> Option<usize> {
+    let mut left = [false; NODES];
+    left[0] = three[0];
+    left[1] = three[1];
+    left[2] = three[2];
+    find_free(links, left.as_slice())
+}
+
+// A link of one channel and two buffers.
+fn plain(from: (u32, u32), to: (u32, u32)) -> ShapeLink {
+    link((from, to, 1, 2, false))
+}
+
 #[test]
 fn a_node_is_free_once_its_sources_are_gone(rt: HostRuntime) {
-    let mut late = link((2, 1), (0, 0));
-    late.delayed = true;
-    let chain = [link((0, 1), (2, 0)), link((1, 0), (2, 0)), late];
-    let mut left = [false; NODES];
-    left[0] = true;
-    left[1] = true;
-    left[2] = true;
-    assert!(rt; find_free(chain.as_slice(), left.as_slice()) == Some(0));
-    left[0] = false;
-    assert!(rt; find_free(chain.as_slice(), left.as_slice()) == Some(1));
-    left[1] = false;
-    assert!(rt; find_free(chain.as_slice(), left.as_slice()) == Some(2));
-    left[2] = false;
-    assert!(rt; find_free(chain.as_slice(), left.as_slice()) == None);
-    let round = [link((0, 1), (1, 0)), link((1, 1), (0, 0))];
-    left[0] = true;
-    left[1] = true;
-    assert!(rt; find_free(round.as_slice(), left.as_slice()) == None);
+    let late = link(((2, 1), (0, 0), 1, 2, true));
+    let chain = [plain((0, 1), (2, 0)), plain((1, 0), (2, 0)), late];
+    let round = [plain((0, 1), (1, 0)), plain((1, 1), (0, 0))];
+    for (links, three, free) in [
+        (chain.as_slice(), [true, true, true], Some(0)),
+        (chain.as_slice(), [false, true, true], Some(1)),
+        (chain.as_slice(), [false, false, true], Some(2)),
+        (chain.as_slice(), [false, false, false], None),
+        (round.as_slice(), [true, true, false], None),
+    ] {
+        assert!(rt; next_of(links, three) == free);
+    }
 }
 
 #[test]

@@ -6,8 +6,18 @@
 #[cfg(test)]
 mod cutting;
 #[cfg(test)]
+mod histories;
+#[cfg(test)]
+mod lists;
+#[cfg(test)]
 mod meeting;
+#[cfg(test)]
+mod objects;
 #[cfg(test)]
 mod plans;
 #[cfg(test)]
-mod worked;
+mod rows;
+#[cfg(test)]
+mod shapes;
+#[cfg(test)]
+mod words;

@@ -1,475 +1,556 @@
-//! A sound plan, and plans that are each unsound by one reason.
+//! Sound plans, and plans that are each unsound by one reason.
 
-use crate::worked::{add, bare, link};
-use pw_base::{
-    DUMMY, Epoch, Fresh, Items, Kind, Memory, Plan, PlanNode, PortForm, PortId, Shape, ShapeLink,
-    is_sound_plan,
+use crate::rows::{
+    EpochRow, FormRow, NodeRow, ShapeRow, Sort, epoch_of, epochs_of, nodes_of, plan_of,
 };
+use pw_base::{DUMMY, Epoch, Items, Memory, is_sound_plan};
 use std::alloc::Global;
 use std::test::Fail;
 
-// A node of no name.
-fn node(alloc: Global, kind: Kind, rate: u32, channels: u32) -> PlanNode {
-    PlanNode {
-        name: Items::new(alloc),
-        kind,
-        k: 0,
-        rate,
-        channels,
-    }
-}
+/// A source 0, a gain 1 and a sink 2 that ends with rate 8 and one channel.
+const NODES: [NodeRow; 3] = [
+    (Sort::Source, 0, 0),
+    (Sort::Gain(256), 0, 0),
+    (Sort::Sink, 8, 1),
+];
 
-// A node 0, a gain 1 and a sink 2 that ends with this rate and these channels.
-fn nodes_of(
-    alloc: Global,
-    first: Kind,
-    rate: u32,
-    channels: u32,
-) -> Result<Items<PlanNode>, Memory> {
-    let mut nodes = Items::new(alloc);
-    nodes.push(node(alloc, first, 0, 0))?;
-    nodes.push(node(alloc, Kind::Gain { g: 256 }, 0, 0))?;
-    nodes.push(node(alloc, Kind::Sink, rate, channels))?;
-    Ok(nodes)
-}
+/// The same and a source 3.
+const FOUR_NODES: [NodeRow; 4] = [
+    (Sort::Source, 0, 0),
+    (Sort::Gain(256), 0, 0),
+    (Sort::Sink, 8, 1),
+    (Sort::Source, 0, 0),
+];
 
-// A source, a gain and a sink that ends with rate 8 and one channel.
-fn chain_nodes(alloc: Global) -> Result<Items<PlanNode>, Memory> {
-    nodes_of(alloc, Kind::Source, 8, 1)
-}
+/// The source goes to the gain, and that to the sink, which drives.
+const CHAIN: ShapeRow<'static> = ShapeRow {
+    quantum: 4,
+    first: 0,
+    cycles: 1,
+    driver: 2,
+    nodes: &[(0, 1, &[1, 2]), (1, 2, &[2]), (2, 3, &[0, 1, 2])],
+    links: &[((0, 0), (1, 0), 1, 2, false), ((1, 1), (2, 0), 1, 2, false)],
+    more: &[],
+};
 
-// The source goes to the gain, and that to the sink, which drives.
-fn chain(alloc: Global) -> Result<Shape, Memory> {
-    let mut shape = bare(alloc, 2);
-    add(alloc, &mut shape, 0, 1, &[1, 2])?;
-    add(alloc, &mut shape, 1, 2, &[2])?;
-    add(alloc, &mut shape, 2, 3, &[0, 1, 2])?;
-    shape.links.push(link((0, 0), (1, 0)))?;
-    shape.links.push(link((1, 1), (2, 0)))?;
-    Ok(shape)
-}
+/// The chain, and node 3, to which no link goes.
+const CHAIN_AND_THREE: ShapeRow<'static> = ShapeRow {
+    nodes: &[
+        (0, 1, &[1, 2]),
+        (1, 2, &[2]),
+        (2, 4, &[0, 1, 3, 2]),
+        (3, 1, &[2]),
+    ],
+    ..CHAIN
+};
 
-// The chain with one node more, to which no link goes.
-fn chain_and(alloc: Global, more: u32) -> Result<Shape, Memory> {
-    let mut shape = bare(alloc, 2);
-    add(alloc, &mut shape, 0, 1, &[1, 2])?;
-    add(alloc, &mut shape, 1, 2, &[2])?;
-    add(alloc, &mut shape, 2, 4, &[0, 1, more, 2])?;
-    add(alloc, &mut shape, more, 1, &[2])?;
-    shape.links.push(link((0, 0), (1, 0)))?;
-    shape.links.push(link((1, 1), (2, 0)))?;
-    Ok(shape)
-}
+/// The forms of the chain, of rate 8 and one channel.
+const FORMS: [FormRow; 4] = [(0, 0, 8, 1), (1, 0, 8, 1), (1, 1, 8, 1), (2, 0, 8, 1)];
 
-// The forms of these nodes, ports, rates and channels.
-fn forms_of(alloc: Global, rows: &[(u32, u32, u32, u32)]) -> Result<Items<PortForm>, Memory> {
-    let mut forms = Items::new(alloc);
-    for (node, port, rate, channels) in rows {
-        forms.push(PortForm {
-            port: PortId {
-                node: *node,
-                port: *port,
-            },
-            rate: *rate,
-            channels: *channels,
-        })?;
-    }
-    Ok(forms)
-}
+/// The chain's epoch.
+const EPOCH: EpochRow<'static> = EpochRow {
+    shape: CHAIN,
+    forms: &FORMS,
+    fresh: &[(1, 1), (2, 1)],
+};
 
-// The entries of these nodes and channels.
-fn fresh_of(alloc: Global, rows: &[(u32, u32)]) -> Result<Items<Fresh>, Memory> {
-    let mut fresh = Items::new(alloc);
-    for (node, channels) in rows {
-        fresh.push(Fresh {
-            node: *node,
-            channels: *channels,
-        })?;
-    }
-    Ok(fresh)
-}
+/// That of the chain and an active source 3.
+const WIDER: EpochRow<'static> = EpochRow {
+    shape: CHAIN_AND_THREE,
+    forms: &[
+        (0, 0, 8, 1),
+        (1, 0, 8, 1),
+        (1, 1, 8, 1),
+        (2, 0, 8, 1),
+        (3, 0, 8, 1),
+    ],
+    ..EPOCH
+};
 
-// The forms of the chain, of rate 8 and one channel.
-fn chain_forms(alloc: Global) -> Result<Items<PortForm>, Memory> {
-    forms_of(
-        alloc,
-        &[(0, 0, 8, 1), (1, 0, 8, 1), (1, 1, 8, 1), (2, 0, 8, 1)],
-    )
-}
+/// The same a cycle later, where no node begins.
+const LATER: EpochRow<'static> = EpochRow {
+    shape: ShapeRow {
+        first: 1,
+        ..CHAIN_AND_THREE
+    },
+    fresh: &[],
+    ..WIDER
+};
 
-// The entries of the chain's first epoch.
-fn chain_fresh(alloc: Global) -> Result<Items<Fresh>, Memory> {
-    fresh_of(alloc, &[(1, 1), (2, 1)])
-}
+/// The same where the source has another rate.
+const LATER_OTHER_RATE: EpochRow<'static> = EpochRow {
+    forms: &[
+        (0, 0, 8, 1),
+        (1, 0, 8, 1),
+        (1, 1, 8, 1),
+        (2, 0, 8, 1),
+        (3, 0, 9, 1),
+    ],
+    ..LATER
+};
 
-// A plan of one epoch.
-fn plan_of(alloc: Global, nodes: Items<PlanNode>, epoch: Epoch) -> Result<Plan, Memory> {
-    let mut epochs = Items::new(alloc);
-    epochs.push(epoch)?;
-    Ok(Plan {
-        quantum: 4,
-        nodes,
-        epochs,
-        lines: Items::new(alloc),
-    })
-}
+/// A plan: its nodes and its epochs.
+type PlanRow = (&'static [NodeRow], &'static [EpochRow<'static>]);
 
-// The chain's plan with other nodes.
-fn with_nodes(alloc: Global, nodes: Items<PlanNode>) -> Result<Plan, Memory> {
-    let epoch = Epoch {
-        shape: chain(alloc)?,
-        forms: chain_forms(alloc)?,
-        fresh: chain_fresh(alloc)?,
-    };
-    plan_of(alloc, nodes, epoch)
-}
-
-// The chain's plan with a node more, which is in no epoch.
-fn with_more(alloc: Global, more: PlanNode) -> Result<Plan, Memory> {
-    let mut nodes = chain_nodes(alloc)?;
-    nodes.push(more)?;
-    with_nodes(alloc, nodes)
-}
-
-// The chain's plan with another shape.
-fn with_shape(alloc: Global, shape: Shape) -> Result<Plan, Memory> {
-    let epoch = Epoch {
-        shape,
-        forms: chain_forms(alloc)?,
-        fresh: chain_fresh(alloc)?,
-    };
-    plan_of(alloc, chain_nodes(alloc)?, epoch)
-}
-
-// The chain's plan with these forms, where the sink ends with this rate and these channels.
-fn with_forms(
-    alloc: Global,
-    rows: &[(u32, u32, u32, u32)],
-    rate: u32,
-    channels: u32,
-) -> Result<Plan, Memory> {
-    let epoch = Epoch {
-        shape: chain(alloc)?,
-        forms: forms_of(alloc, rows)?,
-        fresh: fresh_of(alloc, &[(1, 1), (2, channels)])?,
-    };
-    plan_of(alloc, nodes_of(alloc, Kind::Source, rate, channels)?, epoch)
-}
-
-// The chain's plan with a form more, of this port.
-fn with_form_of(alloc: Global, node: u32, port: u32) -> Result<Plan, Memory> {
-    let mut forms = chain_forms(alloc)?;
-    forms.push(PortForm {
-        port: PortId { node, port },
-        rate: 8,
-        channels: 1,
-    })?;
-    let epoch = Epoch {
-        shape: chain(alloc)?,
-        forms,
-        fresh: chain_fresh(alloc)?,
-    };
-    plan_of(alloc, chain_nodes(alloc)?, epoch)
-}
-
-// The chain's plan with these entries.
-fn with_fresh(alloc: Global, rows: &[(u32, u32)]) -> Result<Plan, Memory> {
-    let epoch = Epoch {
-        shape: chain(alloc)?,
-        forms: chain_forms(alloc)?,
-        fresh: fresh_of(alloc, rows)?,
-    };
-    plan_of(alloc, chain_nodes(alloc)?, epoch)
-}
-
-// The chain with other links.
-fn linked(alloc: Global, first: ShapeLink, second: ShapeLink) -> Result<Shape, Memory> {
-    let mut shape = chain(alloc)?;
-    shape.links = Items::new(alloc);
-    shape.links.push(first)?;
-    shape.links.push(second)?;
-    Ok(shape)
-}
-
-// A shape that the gain drives.
-fn driven_by_the_gain(alloc: Global) -> Result<Shape, Memory> {
-    let mut shape = bare(alloc, 1);
-    add(alloc, &mut shape, 0, 1, &[1])?;
-    add(alloc, &mut shape, 1, 2, &[0, 1])?;
-    shape.links.push(link((0, 0), (1, 0)))?;
-    Ok(shape)
-}
-
-// The chain's plan with so many sources more.
-fn with_many(alloc: Global, count: u32) -> Result<Plan, Memory> {
-    let mut nodes = chain_nodes(alloc)?;
-    for _ in 0..count {
-        nodes.push(node(alloc, Kind::Source, 0, 0))?;
-    }
-    with_nodes(alloc, nodes)
-}
-
-// Unsound by a node.
-fn by_nodes(alloc: Global, reason: u32) -> Result<Plan, Memory> {
-    match reason {
-        0 => with_many(alloc, 61),
-        1 => with_more(alloc, node(alloc, Kind::Gain { g: 40000 }, 0, 0)),
-        2 => with_more(alloc, node(alloc, Kind::Dummy, 0, 0)),
-        3 => with_more(alloc, node(alloc, Kind::Source, 8, 1)),
-        4 => with_more(alloc, node(alloc, Kind::Sink, 0, 1)),
-        _ => with_nodes(alloc, nodes_of(alloc, Kind::Source, 9, 1)?),
-    }
-}
-
-// The chain's shape with another number of frames.
-fn of_quantum(alloc: Global, quantum: u32) -> Result<Shape, Memory> {
-    let mut shape = chain(alloc)?;
-    shape.quantum = quantum;
-    Ok(shape)
-}
-
-// The chain's shape, of no cycle.
-fn of_no_cycle(alloc: Global) -> Result<Shape, Memory> {
-    let mut shape = chain(alloc)?;
-    shape.cycles = 0;
-    Ok(shape)
-}
-
-// Unsound by its shape.
-fn by_shapes(alloc: Global, reason: u32) -> Result<Plan, Memory> {
-    match reason {
-        0 => with_shape(alloc, of_no_cycle(alloc)?),
-        1 => with_shape(alloc, of_quantum(alloc, 5)?),
-        2 => with_shape(alloc, chain_and(alloc, 5)?),
-        3 => with_shape(alloc, chain_and(alloc, DUMMY)?),
-        4 => {
-            let epoch = Epoch {
-                shape: driven_by_the_gain(alloc)?,
-                forms: forms_of(alloc, &[(0, 0, 8, 1), (1, 0, 8, 1)])?,
-                fresh: chain_fresh(alloc)?,
-            };
-            plan_of(alloc, chain_nodes(alloc)?, epoch)
-        }
-        5 => with_shape(
-            alloc,
-            linked(alloc, link((0, 0), (1, 0)), link((1, 0), (2, 0)))?,
-        ),
-        6 => with_shape(
-            alloc,
-            linked(alloc, link((0, 0), (1, 1)), link((1, 1), (2, 0)))?,
-        ),
-        _ => {
-            let wide = ShapeLink {
-                channels: 2,
-                ..link((0, 0), (1, 0))
-            };
-            with_shape(alloc, linked(alloc, wide, link((1, 1), (2, 0)))?)
-        }
-    }
-}
-
-// The chain's plan with a source 3 more, which is active and has these forms.
-fn with_source(alloc: Global, rows: &[(u32, u32, u32, u32)]) -> Result<Plan, Memory> {
-    let mut nodes = chain_nodes(alloc)?;
-    nodes.push(node(alloc, Kind::Source, 0, 0))?;
-    let epoch = Epoch {
-        shape: chain_and(alloc, 3)?,
-        forms: forms_of(alloc, rows)?,
-        fresh: chain_fresh(alloc)?,
-    };
-    plan_of(alloc, nodes, epoch)
-}
-
-// The chain's plan with a square of rate 8 in place of the source.
-fn with_square(alloc: Global, rate: u32, channels: u32) -> Result<Plan, Memory> {
-    let kind = Kind::Square {
-        rate,
-        channels,
-        period: 1,
-        amp: 1,
-    };
-    with_nodes(alloc, nodes_of(alloc, kind, 8, 1)?)
-}
-
-// Unsound by its forms.
-fn by_forms(alloc: Global, reason: u32) -> Result<Plan, Memory> {
-    match reason {
-        0 => with_forms(
-            alloc,
-            &[(1, 0, 8, 1), (0, 0, 8, 1), (1, 1, 8, 1), (2, 0, 8, 1)],
-            8,
-            1,
-        ),
-        1 => with_form_of(alloc, 3, 0),
-        2 => with_form_of(alloc, 2, 1),
-        3 => with_forms(
-            alloc,
-            &[(0, 0, 8, 1), (1, 0, 8, 1), (1, 1, 9, 1), (2, 0, 9, 1)],
-            9,
-            1,
-        ),
-        4 => with_forms(
-            alloc,
-            &[(0, 0, 9, 1), (1, 0, 8, 1), (1, 1, 8, 1), (2, 0, 8, 1)],
-            8,
-            1,
-        ),
-        5 => with_square(alloc, 9, 1),
-        6 => with_square(alloc, 8, 2),
-        _ => with_source(
-            alloc,
-            &[(0, 0, 8, 1), (1, 0, 8, 1), (1, 1, 8, 1), (2, 0, 8, 1)],
-        ),
-    }
-}
-
-// Two epochs of the chain and a source 3, of one cycle each, where the source has another rate in the second one.
-fn with_two(alloc: Global, first: u32, rate: u32, rows: &[(u32, u32)]) -> Result<Plan, Memory> {
-    let mut plan = with_source(
-        alloc,
+const SOUND: [PlanRow; 4] = [
+    (&NODES, &[EPOCH]),
+    (&FOUR_NODES, &[WIDER, LATER]),
+    (
+        &FOUR_NODES,
         &[
-            (0, 0, 8, 1),
-            (1, 0, 8, 1),
-            (1, 1, 8, 1),
-            (2, 0, 8, 1),
-            (3, 0, 8, 1),
+            WIDER,
+            EpochRow {
+                fresh: &[(3, 0)],
+                ..LATER_OTHER_RATE
+            },
         ],
-    )?;
-    let mut shape = chain_and(alloc, 3)?;
-    shape.first = first;
-    plan.epochs.push(Epoch {
-        shape,
-        forms: forms_of(
-            alloc,
-            &[
+    ),
+    (
+        &[
+            (Sort::Square(8, 1), 0, 0),
+            (Sort::Gain(256), 0, 0),
+            (Sort::Sink, 8, 1),
+        ],
+        &[EPOCH],
+    ),
+];
+
+/// Unsound by a node.
+const UNSOUND_NODES: [PlanRow; 5] = [
+    (
+        &[
+            (Sort::Source, 0, 0),
+            (Sort::Gain(256), 0, 0),
+            (Sort::Sink, 8, 1),
+            (Sort::Gain(40000), 0, 0),
+        ],
+        &[EPOCH],
+    ),
+    (
+        &[
+            (Sort::Source, 0, 0),
+            (Sort::Gain(256), 0, 0),
+            (Sort::Sink, 8, 1),
+            (Sort::Dummy, 0, 0),
+        ],
+        &[EPOCH],
+    ),
+    (
+        &[
+            (Sort::Source, 0, 0),
+            (Sort::Gain(256), 0, 0),
+            (Sort::Sink, 8, 1),
+            (Sort::Source, 8, 1),
+        ],
+        &[EPOCH],
+    ),
+    (
+        &[
+            (Sort::Source, 0, 0),
+            (Sort::Gain(256), 0, 0),
+            (Sort::Sink, 8, 1),
+            (Sort::Sink, 0, 1),
+        ],
+        &[EPOCH],
+    ),
+    (
+        &[
+            (Sort::Source, 0, 0),
+            (Sort::Gain(256), 0, 0),
+            (Sort::Sink, 9, 1),
+        ],
+        &[EPOCH],
+    ),
+];
+
+/// Unsound by the shape.
+const UNSOUND_SHAPES: [PlanRow; 8] = [
+    (
+        &NODES,
+        &[EpochRow {
+            shape: ShapeRow { cycles: 0, ..CHAIN },
+            ..EPOCH
+        }],
+    ),
+    (
+        &NODES,
+        &[EpochRow {
+            shape: ShapeRow {
+                quantum: 5,
+                ..CHAIN
+            },
+            ..EPOCH
+        }],
+    ),
+    (
+        &NODES,
+        &[EpochRow {
+            shape: ShapeRow {
+                nodes: &[
+                    (0, 1, &[1, 2]),
+                    (1, 2, &[2]),
+                    (2, 4, &[0, 1, 5, 2]),
+                    (5, 1, &[2]),
+                ],
+                ..CHAIN
+            },
+            ..EPOCH
+        }],
+    ),
+    (
+        &NODES,
+        &[EpochRow {
+            shape: ShapeRow {
+                nodes: &[
+                    (0, 1, &[1, 2]),
+                    (1, 2, &[2]),
+                    (2, 4, &[0, 1, DUMMY, 2]),
+                    (DUMMY, 1, &[2]),
+                ],
+                ..CHAIN
+            },
+            ..EPOCH
+        }],
+    ),
+    // The gain drives.
+    (
+        &NODES,
+        &[EpochRow {
+            shape: ShapeRow {
+                driver: 1,
+                nodes: &[(0, 1, &[1]), (1, 2, &[0, 1])],
+                links: &[((0, 0), (1, 0), 1, 2, false)],
+                ..CHAIN
+            },
+            forms: &[(0, 0, 8, 1), (1, 0, 8, 1)],
+            ..EPOCH
+        }],
+    ),
+    (
+        &NODES,
+        &[EpochRow {
+            shape: ShapeRow {
+                links: &[((0, 0), (1, 0), 1, 2, false), ((1, 0), (2, 0), 1, 2, false)],
+                ..CHAIN
+            },
+            ..EPOCH
+        }],
+    ),
+    (
+        &NODES,
+        &[EpochRow {
+            shape: ShapeRow {
+                links: &[((0, 0), (1, 1), 1, 2, false), ((1, 1), (2, 0), 1, 2, false)],
+                ..CHAIN
+            },
+            ..EPOCH
+        }],
+    ),
+    (
+        &NODES,
+        &[EpochRow {
+            shape: ShapeRow {
+                links: &[((0, 0), (1, 0), 2, 2, false), ((1, 1), (2, 0), 1, 2, false)],
+                ..CHAIN
+            },
+            ..EPOCH
+        }],
+    ),
+];
+
+/// Unsound by the forms.
+const UNSOUND_FORMS: [PlanRow; 8] = [
+    (
+        &NODES,
+        &[EpochRow {
+            forms: &[(1, 0, 8, 1), (0, 0, 8, 1), (1, 1, 8, 1), (2, 0, 8, 1)],
+            ..EPOCH
+        }],
+    ),
+    (
+        &NODES,
+        &[EpochRow {
+            forms: &[
                 (0, 0, 8, 1),
                 (1, 0, 8, 1),
                 (1, 1, 8, 1),
                 (2, 0, 8, 1),
-                (3, 0, rate, 1),
+                (3, 0, 8, 1),
             ],
-        )?,
-        fresh: fresh_of(alloc, rows)?,
-    })?;
-    Ok(plan)
-}
+            ..EPOCH
+        }],
+    ),
+    (
+        &NODES,
+        &[EpochRow {
+            forms: &[
+                (0, 0, 8, 1),
+                (1, 0, 8, 1),
+                (1, 1, 8, 1),
+                (2, 0, 8, 1),
+                (2, 1, 8, 1),
+            ],
+            ..EPOCH
+        }],
+    ),
+    (
+        &[
+            (Sort::Source, 0, 0),
+            (Sort::Gain(256), 0, 0),
+            (Sort::Sink, 9, 1),
+        ],
+        &[EpochRow {
+            forms: &[(0, 0, 8, 1), (1, 0, 8, 1), (1, 1, 9, 1), (2, 0, 9, 1)],
+            ..EPOCH
+        }],
+    ),
+    (
+        &NODES,
+        &[EpochRow {
+            forms: &[(0, 0, 9, 1), (1, 0, 8, 1), (1, 1, 8, 1), (2, 0, 8, 1)],
+            ..EPOCH
+        }],
+    ),
+    // The square has another rate, or another number of channels.
+    (
+        &[
+            (Sort::Square(9, 1), 0, 0),
+            (Sort::Gain(256), 0, 0),
+            (Sort::Sink, 8, 1),
+        ],
+        &[EPOCH],
+    ),
+    (
+        &[
+            (Sort::Square(8, 2), 0, 0),
+            (Sort::Gain(256), 0, 0),
+            (Sort::Sink, 8, 1),
+        ],
+        &[EPOCH],
+    ),
+    // The active source 3 has no form.
+    (
+        &FOUR_NODES,
+        &[EpochRow {
+            shape: CHAIN_AND_THREE,
+            ..EPOCH
+        }],
+    ),
+];
 
-// Unsound by its entries or by what an epoch says of the one before.
-fn by_fresh(alloc: Global, reason: u32) -> Result<Plan, Memory> {
-    match reason {
-        0 => with_fresh(alloc, &[(2, 1), (1, 1)]),
-        1 => with_fresh(alloc, &[(1, 1), (2, 1), (3, 0)]),
-        2 => with_fresh(alloc, &[(0, 1), (1, 1), (2, 1)]),
-        3 => with_fresh(alloc, &[(2, 1)]),
-        4 => with_fresh(alloc, &[(1, 2), (2, 1)]),
-        5 => with_two(alloc, 2, 8, &[]),
-        6 => with_two(alloc, 1, 9, &[]),
-        _ => with_two(alloc, 1, 8, &[(2, 1)]),
-    }
-}
+/// Unsound by the entries, or by what an epoch says of the one before.
+const UNSOUND_FRESH: [PlanRow; 8] = [
+    (
+        &NODES,
+        &[EpochRow {
+            fresh: &[(2, 1), (1, 1)],
+            ..EPOCH
+        }],
+    ),
+    (
+        &NODES,
+        &[EpochRow {
+            fresh: &[(1, 1), (2, 1), (3, 0)],
+            ..EPOCH
+        }],
+    ),
+    (
+        &NODES,
+        &[EpochRow {
+            fresh: &[(0, 1), (1, 1), (2, 1)],
+            ..EPOCH
+        }],
+    ),
+    (
+        &NODES,
+        &[EpochRow {
+            fresh: &[(2, 1)],
+            ..EPOCH
+        }],
+    ),
+    (
+        &NODES,
+        &[EpochRow {
+            fresh: &[(1, 2), (2, 1)],
+            ..EPOCH
+        }],
+    ),
+    (
+        &FOUR_NODES,
+        &[
+            WIDER,
+            EpochRow {
+                shape: ShapeRow {
+                    first: 2,
+                    ..CHAIN_AND_THREE
+                },
+                ..LATER
+            },
+        ],
+    ),
+    (&FOUR_NODES, &[WIDER, LATER_OTHER_RATE]),
+    (
+        &FOUR_NODES,
+        &[
+            WIDER,
+            EpochRow {
+                fresh: &[(2, 1)],
+                ..LATER
+            },
+        ],
+    ),
+];
 
-// The chain with these numbers.
-fn chain_of(
+// Whether the plan of these rows, and so many sources more, is sound.
+fn is_sound(
     alloc: Global,
-    quantum: u32,
-    first: u32,
-    cycles: u32,
-    channels: u32,
-) -> Result<Shape, Memory> {
-    let mut shape = chain(alloc)?;
-    shape.quantum = quantum;
-    shape.first = first;
-    shape.cycles = cycles;
-    for link in shape.links.as_mut_slice() {
-        link.channels = channels;
-        link.buffers = channels;
-    }
-    Ok(shape)
+    nodes: &[NodeRow],
+    sources: u32,
+    epochs: &[EpochRow<'_>],
+) -> Result<bool, Memory> {
+    let nodes = nodes_of(alloc, nodes, sources)?;
+    let epochs = epochs_of(alloc, epochs)?;
+    Ok(is_sound_plan(&plan_of(alloc, 4, nodes, epochs)))
 }
 
-// An epoch of the chain with these numbers, and as many buffers as channels.
-fn epoch_of(
+// The place of the first plan that is not judged so.
+fn first_unlike(alloc: Global, rows: &[PlanRow], sound: bool) -> Result<Option<usize>, Memory> {
+    for (place, (nodes, epochs)) in rows.iter().enumerate() {
+        if is_sound(alloc, nodes, 0, epochs)? != sound {
+            return Ok(Some(place));
+        }
+    }
+    Ok(None)
+}
+
+// The same of the sound ones.
+fn sound_unlike(alloc: Global) -> Result<Option<usize>, Memory> {
+    first_unlike(alloc, SOUND.as_slice(), true)
+}
+
+// The same of those that are unsound by a node.
+fn nodes_unlike(alloc: Global) -> Result<Option<usize>, Memory> {
+    first_unlike(alloc, UNSOUND_NODES.as_slice(), false)
+}
+
+// The same of those that are unsound by the shape.
+fn shapes_unlike(alloc: Global) -> Result<Option<usize>, Memory> {
+    first_unlike(alloc, UNSOUND_SHAPES.as_slice(), false)
+}
+
+// The same of those that are unsound by the forms.
+fn forms_unlike(alloc: Global) -> Result<Option<usize>, Memory> {
+    first_unlike(alloc, UNSOUND_FORMS.as_slice(), false)
+}
+
+// The same of those that are unsound by the entries.
+fn fresh_unlike(alloc: Global) -> Result<Option<usize>, Memory> {
+    first_unlike(alloc, UNSOUND_FRESH.as_slice(), false)
+}
+
+#[test]
+fn plans_are_unsound_by_one_reason(rt: HostRuntime) -> Result<(), Fail> {
+    assert_eq!(rt; sound_unlike(rt.alloc())?, None);
+    assert_eq!(rt; nodes_unlike(rt.alloc())?, None);
+    assert_eq!(rt; shapes_unlike(rt.alloc())?, None);
+    assert_eq!(rt; forms_unlike(rt.alloc())?, None);
+    assert_eq!(rt; fresh_unlike(rt.alloc())?, None);
+    Ok(())
+}
+
+// Whether there may be so many sources more.
+fn may_have_sources(alloc: Global, sources: u32) -> Result<bool, Memory> {
+    is_sound(alloc, NODES.as_slice(), sources, &[EPOCH])
+}
+
+#[test]
+fn there_are_at_most_63_nodes(rt: HostRuntime) -> Result<(), Fail> {
+    assert!(rt; may_have_sources(rt.alloc(), 60)?);
+    assert!(rt; !may_have_sources(rt.alloc(), 61)?);
+    Ok(())
+}
+
+// An epoch of the chain; its links have as many buffers as channels.
+fn chain_epoch(
     alloc: Global,
     quantum: u32,
     first: u32,
     cycles: u32,
     channels: u32,
 ) -> Result<Epoch, Memory> {
-    let rows = [
-        (0, 0, 8, channels),
-        (1, 0, 8, channels),
-        (1, 1, 8, channels),
-        (2, 0, 8, channels),
-    ];
-    Ok(Epoch {
-        shape: chain_of(alloc, quantum, first, cycles, channels)?,
-        forms: forms_of(alloc, &rows)?,
-        fresh: if first == 0 {
-            fresh_of(alloc, &[(1, channels), (2, channels)])?
-        } else {
-            Items::new(alloc)
+    let begin = [(1, channels), (2, channels)];
+    let fresh = if first == 0 { begin.as_slice() } else { &[] };
+    let row = EpochRow {
+        shape: ShapeRow {
+            quantum,
+            first,
+            cycles,
+            links: &[
+                ((0, 0), (1, 0), channels, channels, false),
+                ((1, 1), (2, 0), channels, channels, false),
+            ],
+            ..CHAIN
         },
-    })
+        forms: &[
+            (0, 0, 8, channels),
+            (1, 0, 8, channels),
+            (1, 1, 8, channels),
+            (2, 0, 8, channels),
+        ],
+        fresh,
+    };
+    epoch_of(alloc, row)
 }
 
-// So many epochs of the chain, each of these numbers.
-fn with_epochs(
+// So many epochs of the chain.
+fn chain_epochs(
     alloc: Global,
     count: u32,
     quantum: u32,
     cycles: u32,
     channels: u32,
-) -> Result<Plan, Memory> {
+) -> Result<Items<Epoch>, Memory> {
     let mut epochs = Items::new(alloc);
     let mut first: u32 = 0;
     for _ in 0..count {
-        epochs.push(epoch_of(alloc, quantum, first, cycles, channels)?)?;
+        epochs.push(chain_epoch(alloc, quantum, first, cycles, channels)?)?;
         first = first.saturating_add(cycles);
     }
-    Ok(Plan {
-        quantum,
-        nodes: nodes_of(alloc, Kind::Source, 8, channels)?,
-        epochs,
-        lines: Items::new(alloc),
-    })
+    Ok(epochs)
 }
 
-#[test]
-fn a_chain_is_a_sound_plan(rt: HostRuntime) -> Result<(), Fail> {
-    let alloc = rt.alloc();
-    assert!(rt; is_sound_plan(&with_nodes(alloc, chain_nodes(alloc)?)?));
-    assert!(rt; is_sound_plan(&with_many(alloc, 60)?));
-    assert!(rt; is_sound_plan(&with_two(alloc, 1, 8, &[])?));
-    assert!(rt; is_sound_plan(&with_two(alloc, 1, 9, &[(3, 0)])?));
-    assert!(rt; is_sound_plan(&with_square(alloc, 8, 1)?));
-    Ok(())
-}
-
-#[test]
-fn plans_are_unsound_by_one_reason(rt: HostRuntime) -> Result<(), Fail> {
-    let alloc = rt.alloc();
-    for reason in 0..6 {
-        assert!(rt; !is_sound_plan(&by_nodes(alloc, reason)?), "nodes {reason}");
-    }
-    for reason in 0..8 {
-        assert!(rt;
-            !is_sound_plan(&by_shapes(alloc, reason)?),
-            "shapes {reason}"
-        );
-        assert!(rt; !is_sound_plan(&by_forms(alloc, reason)?), "forms {reason}");
-        assert!(rt; !is_sound_plan(&by_fresh(alloc, reason)?), "fresh {reason}");
-    }
-    Ok(())
+// Whether the plan of these epochs is sound.
+fn sums_fit(
+    alloc: Global,
+    count: u32,
+    quantum: u32,
+    cycles: u32,
+    channels: u32,
+) -> Result<bool, Memory> {
+    let nodes = [
+        (Sort::Source, 0, 0),
+        (Sort::Gain(256), 0, 0),
+        (Sort::Sink, 8, channels),
+    ];
+    let nodes = nodes_of(alloc, nodes.as_slice(), 0)?;
+    let epochs = chain_epochs(alloc, count, quantum, cycles, channels)?;
+    Ok(is_sound_plan(&plan_of(alloc, quantum, nodes, epochs)))
 }
 
 #[test]
 fn sums_have_their_limits(rt: HostRuntime) -> Result<(), Fail> {
-    let alloc = rt.alloc();
-    assert!(rt; is_sound_plan(&with_epochs(alloc, 2, 1, 233_016, 1)?));
-    assert!(rt; !is_sound_plan(&with_epochs(alloc, 2, 1, 233_017, 1)?));
-    assert!(rt; is_sound_plan(&with_epochs(alloc, 2, 8192, 8192, 1)?));
-    assert!(rt; !is_sound_plan(&with_epochs(alloc, 2, 8192, 8193, 1)?));
-    assert!(rt; is_sound_plan(&with_epochs(alloc, 128, 8192, 1, 8)?));
-    assert!(rt; !is_sound_plan(&with_epochs(alloc, 129, 8192, 1, 8)?));
+    for (count, quantum, cycles, channels, fit) in [
+        (2, 1, 233_016, 1, true),
+        (2, 1, 233_017, 1, false),
+        (2, 8192, 8192, 1, true),
+        (2, 8192, 8193, 1, false),
+        (128, 8192, 1, 8, true),
+        (129, 8192, 1, 8, false),
+    ] {
+        assert_eq!(rt;
+            sums_fit(rt.alloc(), count, quantum, cycles, channels)?,
+            fit
+        );
+    }
     Ok(())
 }

@@ -7,7 +7,7 @@ use format_filter::{Choice, Format};
 use link_negotiation::{Linked, Unlinked};
 use pod_codec::Pod;
 use port_model::Offered;
-use pw_base::{Items, Memory, PortId};
+use pw_base::{Memory, PortId};
 
 /// A line; a port is told by its node and its number.
 #[derive(Clone, Copy, Drop)]
@@ -23,7 +23,7 @@ pub enum Line {
 }
 
 /// What it does.
-#[derive(Clone, Copy, Debug, PartialEq, Eq, Drop)]
+#[derive(Clone, Copy, PartialEq, Drop)]
 pub enum Did {
     /// A link with this rate, these channels and this number of buffers.
     Made(u32, u32, u32),
@@ -165,11 +165,12 @@ fn run_line(graph: &mut Graph, line: Line) -> Result<Did, Memory> {
     }
 }
 
-/// What some lines do, one after the other.
-pub fn run(graph: &mut Graph, lines: &[Line]) -> Result<Items<Did>, Memory> {
-    let mut all = Items::new(graph.alloc);
-    for line in lines {
-        all.push(run_line(graph, *line)?)?;
+/// The place of the first of some lines that does otherwise than said beside it.
+pub fn first_unlike(graph: &mut Graph, lines: &[(Line, Did)]) -> Result<Option<usize>, Memory> {
+    for (place, (line, did)) in lines.iter().enumerate() {
+        if run_line(graph, *line)? != *did {
+            return Ok(Some(place));
+        }
     }
-    Ok(all)
+    Ok(None)
 }

@@ -13,6 +13,19 @@ use port_model::Ports;
 use pw_base::{Items, Kind, Memory, PortId};
 use std::alloc::Global;
 
+/// A node to come; a source has its rate and its channels.
+#[derive(Clone, Copy, Drop)]
+pub enum Node {
+    Source(u32, u32),
+    Gain,
+    Mix2,
+    Delay,
+    Map,
+    Split,
+    Sink,
+    Meter,
+}
+
 /// The format that some bytes spell.
 pub fn read(alloc: Global, bytes: &[u8]) -> Result<Format, FormatFault>
     ensures { IfOk result IsSoundFormat }
@@ -92,7 +105,7 @@ impl Graph {
     }
 
     /// A source of a file with this rate and these channels.
-    pub fn source(self, rate: u32, channels: u32) -> Result<Graph, Memory>
+    fn source(self, rate: u32, channels: u32) -> Result<Graph, Memory>
         requires rate { IsRate rate }
         requires channels { IsChannels channels }
     {
@@ -100,46 +113,65 @@ impl Graph {
     }
 
     /// A gain of 1.
-    pub fn gain(self) -> Result<Graph, Memory> {
+    fn gain(self) -> Result<Graph, Memory> {
         self.with(&Kind::Gain { g: 256 }, 0, 0)
     }
 
     /// A mixer of its first input and half of its second.
-    pub fn mix2(self) -> Result<Graph, Memory> {
+    fn mix2(self) -> Result<Graph, Memory> {
         self.with(&Kind::Mix2 { ga: 256, gb: 128 }, 0, 0)
     }
 
     /// A delay of 10 frames.
-    pub fn delay(self) -> Result<Graph, Memory> {
+    fn delay(self) -> Result<Graph, Memory> {
         self.with(&Kind::Delay { frames: 10 }, 0, 0)
     }
 
     /// A map of two channels to three.
-    pub fn map(self) -> Result<Graph, Memory> {
+    fn map(self) -> Result<Graph, Memory> {
         let list = Items::from_slice(self.alloc, [1u32, 0, 1].as_slice())?;
         self.with(&Kind::Map { channels: 2, list }, 0, 0)
     }
 
     /// A split of two channels.
-    pub fn split(self) -> Result<Graph, Memory> {
+    fn split(self) -> Result<Graph, Memory> {
         self.with(&Kind::Split, 0, 0)
     }
 
     /// A sink.
-    pub fn sink(self) -> Result<Graph, Memory> {
+    fn sink(self) -> Result<Graph, Memory> {
         self.with(&Kind::Sink, 0, 0)
     }
 
     /// A meter.
-    pub fn meter(self) -> Result<Graph, Memory> {
+    fn meter(self) -> Result<Graph, Memory> {
         self.with(&Kind::Meter, 0, 0)
     }
 
-    /// Many gains more.
-    pub fn gains(self, number: u32) -> Result<Graph, Memory> {
+    // A node of a row. A source whose numbers are out of range is none.
+    fn one_more(self, node: Node) -> Result<Graph, Memory> {
+        match node {
+            Node::Source(rate, channels) => {
+                if rate < 1 || rate > 384_000 || channels < 1 || channels > 8 {
+                    return Err(Memory);
+                }
+                self.source(rate, channels)
+            }
+            Node::Gain => self.gain(),
+            Node::Mix2 => self.mix2(),
+            Node::Delay => self.delay(),
+            Node::Map => self.map(),
+            Node::Split => self.split(),
+            Node::Sink => self.sink(),
+            Node::Meter => self.meter(),
+        }
+    }
+
+    /// The nodes of a row more.
+    pub fn more(self, nodes: &[Node]) -> Result<Graph, Memory> {
         let mut graph = self;
-        for _ in 0..number {
-            graph = graph.gain()?;
+        for node in nodes {
+            graph = graph.one_more(*node)?;
         }
         Ok(graph)
     }

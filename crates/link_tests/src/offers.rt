@@ -4,9 +4,10 @@ ghost use Rattle.format_filter.specs.CommonFormat.{IsSoundFormat};
 ghost use Rattle.pw_base.specs.KindPorts.{port_count};
 ghost use Rattle.pw_base.specs.KindRanges.{IsInRange};
 ghost use Rattle.port_model.specs.Offers.{HasFileNumbers, new_node};
+ghost use Rattle.port_model.specs.PortState.{IsPort};
 
 use crate::nodes::read;
-use format_filter::{Choice, Format, Wide};
+use format_filter::{Choice, Format, FormatFault, Wide};
 use pod_codec::Pod;
 use port_model::{Narrowed, Offered, Ports};
 use pw_base::{Items, Kind, Memory, PortId};
@@ -97,96 +98,119 @@ fn narrowed_by(
     ))
 }
 
-/// The least and the greatest count of buffers of a new sink, before and after 3 are set, and whether it has a format.
-fn buffers_of(alloc: Global) -> Result<(Choice, Choice, bool), Memory> {
+/// The pick, the least and the greatest number of a Range of Ints, else nothing.
+fn range_of(choice: &Choice) -> Option<(i64, i64, i64)> {
+    match choice {
+        Choice::Range {
+            wide: Wide::Int,
+            pick,
+            min,
+            max,
+        } => Some((*pick, *min, *max)),
+        _ => None,
+    }
+}
+
+/// The Range of the counts of buffers at a port.
+fn range_at(ports: &Ports, port: PortId) -> Option<(i64, i64, i64)>
+    requires { IsPort ports.now port }
+{
+    range_of(&ports.buffers(port))
+}
+
+/// The counts of buffers of a new sink before and after 3 are set, and whether it has a format.
+fn buffers_of(
+    alloc: Global,
+) -> Result<(Option<(i64, i64, i64)>, Option<(i64, i64, i64)>, bool), Memory> {
     let mut ports = one(alloc, &Kind::Sink, 0, 0)?;
     let sink = PortId { node: 0, port: 0 };
-    let before = ports.buffers(sink);
+    let before = range_at(&ports, sink);
     ports.set_buffers(sink, 3);
     let copied = ports.copy(alloc)?;
-    Ok((before, copied.buffers(sink), copied.has_format(sink)))
+    Ok((before, range_at(&copied, sink), copied.has_format(sink)))
+}
+
+/// What a map of two channels to three offers at its input and at its output.
+fn map_offers(alloc: Global) -> Result<[(Form, Option<(u32, u32)>); 2], Memory> {
+    let list = Items::from_slice(alloc, [1u32, 0, 0].as_slice())?;
+    let map = Kind::Map { channels: 2, list };
+    Ok([
+        offered_by(alloc, &map, 0, 0, 0)?,
+        offered_by(alloc, &map, 0, 0, 1)?,
+    ])
+}
+
+/// What the two ports of a split and the port of a sink offer.
+fn free_offers(alloc: Global) -> Result<[(Form, Option<(u32, u32)>); 3], Memory> {
+    Ok([
+        offered_by(alloc, &Kind::Split, 0, 0, 0)?,
+        offered_by(alloc, &Kind::Split, 0, 0, 2)?,
+        offered_by(alloc, &Kind::Sink, 0, 0, 0)?,
+    ])
 }
 
 #[test]
 fn kinds_offer_their_rates_and_channels(rt: HostRuntime) -> Result<(), Fail> {
-    let alloc = rt.alloc();
-    let list = Items::from_slice(alloc, [1u32, 0, 0].as_slice())?;
-    let map = Kind::Map { channels: 2, list };
     let any = Some((1, 384_000));
-    assert_eq!(rt;
-        offered_by(alloc, &Kind::Source, 44100, 2, 0)?,
-        ((Some((44100, 44100)), Some((2, 2))), Some((44100, 2)))
+    assert!(rt;
+        offered_by(rt.alloc(), &Kind::Source, 44100, 2, 0)?
+            == ((Some((44100, 44100)), Some((2, 2))), Some((44100, 2)))
     );
-    assert_eq!(rt;
-        offered_by(alloc, &map, 0, 0, 0)?,
-        ((any, Some((2, 2))), None)
+    assert!(rt;
+        map_offers(rt.alloc())? == [((any, Some((2, 2))), None), ((any, Some((3, 3))), None)]
     );
-    assert_eq!(rt;
-        offered_by(alloc, &map, 0, 0, 1)?,
-        ((any, Some((3, 3))), None)
-    );
-    assert_eq!(rt;
-        offered_by(alloc, &Kind::Split, 0, 0, 0)?,
-        ((any, Some((2, 2))), None)
-    );
-    assert_eq!(rt;
-        offered_by(alloc, &Kind::Split, 0, 0, 2)?,
-        ((any, Some((1, 1))), None)
-    );
-    assert_eq!(rt;
-        offered_by(alloc, &Kind::Sink, 0, 0, 0)?,
-        ((any, Some((1, 8))), None)
+    assert!(rt;
+        free_offers(rt.alloc())?
+            == [
+                ((any, Some((2, 2))), None),
+                ((any, Some((1, 1))), None),
+                ((any, Some((1, 8))), None)
+            ]
     );
     Ok(())
 }
 
+/// What a file that bytes spell does to the offer of a new node's first port, and what is offered then.
+fn narrowed_as(
+    alloc: Global,
+    kind: &Kind,
+    rate: u32,
+    channels: u32,
+    bytes: &[u8],
+) -> Result<(Narrowed, Form), FormatFault>
+    requires kind { IsInRange kind.now }
+    requires file { HasFileNumbers kind.now rate channels }
+    requires port { 0 < port_count kind.now }
+{
+    let file = read(alloc, bytes)?;
+    Ok(narrowed_by(alloc, kind, rate, channels, &file)?)
+}
+
 #[test]
 fn files_narrow_an_offer(rt: HostRuntime) -> Result<(), Fail> {
-    let alloc = rt.alloc();
-    let rate = read(alloc, RATE_48000.as_slice())?;
-    let props = read(alloc, PROPS.as_slice())?;
-    let gain = Kind::Gain { g: 256 };
     let own = (Some((44100, 44100)), Some((1, 1)));
-    assert_eq!(rt;
-        narrowed_by(alloc, &gain, 0, 0, &rate)?,
-        (Narrowed::Done, (Some((48000, 48000)), Some((1, 8))))
+    assert!(rt;
+        narrowed_as(
+            rt.alloc(),
+            &Kind::Gain { g: 256 },
+            0,
+            0,
+            RATE_48000.as_slice()
+        )? == (Narrowed::Done, (Some((48000, 48000)), Some((1, 8))))
     );
-    assert_eq!(rt;
-        narrowed_by(alloc, &Kind::Source, 44100, 1, &rate)?,
-        (Narrowed::Clash { key: 65539 }, own)
+    assert!(rt;
+        narrowed_as(rt.alloc(), &Kind::Source, 44100, 1, RATE_48000.as_slice())?
+            == (Narrowed::Clash { key: 65539 }, own)
     );
-    assert_eq!(rt;
-        narrowed_by(alloc, &Kind::Source, 44100, 1, &props)?,
-        (Narrowed::NotFormat, own)
+    assert!(rt;
+        narrowed_as(rt.alloc(), &Kind::Source, 44100, 1, PROPS.as_slice())?
+            == (Narrowed::NotFormat, own)
     );
     Ok(())
 }
 
 #[test]
 fn buffers_are_counted(rt: HostRuntime) -> Result<(), Fail> {
-    let (before, after, formatted) = buffers_of(rt.alloc())?;
-    assert!(rt;
-        matches!(
-            &before,
-            Choice::Range {
-                wide: Wide::Int,
-                pick: 2,
-                min: 1,
-                max: 8
-            }
-        )
-    );
-    assert!(rt;
-        matches!(
-            &after,
-            Choice::Range {
-                wide: Wide::Int,
-                pick: 3,
-                min: 3,
-                max: 3
-            }
-        )
-    );
-    assert!(rt; !formatted);
+    assert!(rt; buffers_of(rt.alloc())? == (Some((2, 1, 8)), Some((3, 3, 3)), false));
     Ok(())
 }

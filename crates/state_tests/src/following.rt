@@ -75,8 +75,8 @@ pub fn follows(
     requires widths { HaveWidths state.old widths }
     requires frames { state.old.frames + quanta * state.old.quantum ≤ state.old.prepared }
 {
-    let mut left = Items::filled(alloc, widths.left, 0)?;
-    let mut right = Items::filled(alloc, widths.right, 0)?;
+    let mut left = Items::filled(alloc, widths.left, 9)?;
+    let mut right = Items::filled(alloc, widths.right, 9)?;
     for number in 0..quanta {
         let (left, right) = (left.as_mut_slice(), right.as_mut_slice());
         if !follows_once(state, widths, streams, number, left, right) {

@@ -1,10 +1,10 @@
 //! Rows of samples through each kernel, and each kernel beside its plain twin.
-ghost use Rattle.std.specs.Prelude.{◌≡◌, ◌<◌, length, IfOk};
+ghost use Rattle.std.specs.Prelude.{◌≤◌};
+ghost use Rattle.pw_base.specs.KindRanges.{IsGain};
 
 use pw_base::{Items, Memory};
 use s16_mixer::{clamp_out, gain, map_channels, mix_into, mix2, peak, plain, split};
 use std::alloc::Global;
-use std::process::Abort;
 use std::test::Fail;
 
 #[test]
@@ -20,22 +20,27 @@ fn three_sources_are_added_and_clamped_once(rt: HostRuntime) {
     assert!(rt; to.as_slice() == [-32768i16, 30000, 32767, -1].as_slice());
 }
 
+// What a gain makes of one sample, and what a mixer makes of it that adds nothing.
+fn gained(g: i32, x: i16) -> [i16; 2]
+    requires { IsGain g }
+{
+    let (mut one, mut two) = ([9i16], [9i16]);
+    gain(g, [x].as_slice(), one.as_mut_slice());
+    mix2(g, 0, [x].as_slice(), [5i16].as_slice(), two.as_mut_slice());
+    [one[0], two[0]]
+}
+
 #[test]
 fn gains_round_towards_minus_infinity(rt: HostRuntime) {
-    let cases = [
-        (128, -1i16, -1i16),
-        (-32767, -32768, 32767),
-        (256, -32768, -32768),
-        (128, 3, 1),
-        (0, 77, 0),
-    ];
-    for (g, x, y) in cases {
-        let mut to = [9i16];
-        gain(g, [x].as_slice(), to.as_mut_slice());
-        assert_eq!(rt; to[0], y);
-        mix2(g, 0, [x].as_slice(), [5i16].as_slice(), to.as_mut_slice());
-        assert_eq!(rt; to[0], y);
-    }
+    assert!(rt; gained(128, -1) == [-1, -1]);
+    assert!(rt; gained(-32767, -32768) == [32767, 32767]);
+    assert!(rt; gained(256, -32768) == [-32768, -32768]);
+    assert!(rt; gained(128, 3) == [1, 1]);
+    assert!(rt; gained(0, 77) == [0, 0]);
+}
+
+#[test]
+fn two_rows_are_mixed(rt: HostRuntime) {
     let mut to = [0i16; 3];
     mix2(
         128,
@@ -44,123 +49,129 @@ fn gains_round_towards_minus_infinity(rt: HostRuntime) {
         [2i16, -32768, 5].as_slice(),
         to.as_mut_slice(),
     );
-    assert!(rt; to.as_slice() == [-1i16, 32767, 0].as_slice());
+    assert!(rt; to == [-1, 32767, 0]);
 }
 
 #[test]
-fn channels_are_picked_and_peaks_found(rt: HostRuntime) {
+fn channels_are_swapped(rt: HostRuntime) {
     let frames = [1i16, 10, 2, 20];
-    let mut swapped = [0i16; 4];
+    let mut to = [0i16; 4];
     map_channels(
         2,
         [1u32, 0].as_slice(),
         frames.as_slice(),
-        swapped.as_mut_slice(),
+        to.as_mut_slice(),
     );
-    assert!(rt; swapped.as_slice() == [10i16, 1, 20, 2].as_slice());
-    let mut twice = [0i16; 6];
+    assert!(rt; to == [10, 1, 20, 2]);
+}
+
+#[test]
+fn a_channel_is_taken_twice(rt: HostRuntime) {
+    let frames = [1i16, 10, 2, 20];
+    let mut to = [0i16; 6];
     map_channels(
         2,
         [0u32, 0, 1].as_slice(),
         frames.as_slice(),
-        twice.as_mut_slice(),
+        to.as_mut_slice(),
     );
-    assert!(rt; twice.as_slice() == [1i16, 1, 10, 2, 2, 20].as_slice());
+    assert!(rt; to == [1, 1, 10, 2, 2, 20]);
+}
+
+#[test]
+fn channels_are_split(rt: HostRuntime) {
+    let frames = [1i16, 10, 2, 20];
     let (mut left, mut right) = ([0i16; 2], [0i16; 2]);
     split(frames.as_slice(), left.as_mut_slice(), right.as_mut_slice());
-    assert!(rt; left.as_slice() == [1i16, 2].as_slice());
-    assert!(rt; right.as_slice() == [10i16, 20].as_slice());
+    assert!(rt; left == [1, 2] && right == [10, 20]);
+}
+
+#[test]
+fn peaks_are_found(rt: HostRuntime) {
     assert_eq!(rt; peak([5i16, -9].as_slice()), 9);
     assert_eq!(rt; peak([-32768i16, 32767].as_slice()), 32768);
     assert_eq!(rt; peak(&[]), 0);
 }
 
-// A row of so many samples, each unlike its neighbours.
-fn row_of(alloc: Global, n: usize) -> Result<Items<i16>, Memory>
-    ensures { IfOk result (λ row. length row ≡ n) }
-{
-    let mut row = Items::filled(alloc, n, 0)?;
+/// The longest row of samples.
+const WIDE: usize = 130;
+
+// A row of samples, each unlike its neighbours.
+fn row_of() -> [i16; WIDE] {
+    let mut row = [0; WIDE];
     let mut x: i16 = 7;
     for place in row.as_mut_slice() {
         x = x.wrapping_mul(25173).wrapping_add(13849);
         *place = x;
     }
-    Ok(row)
+    row
 }
 
 // The kernels of one row on so many samples, over lanes and by their plain twins.
-fn gains_and_peaks_agree<R: AllocGlobal + Abort>(rt: &R, n: usize) -> Result<(), Fail>
-    requires { n < 1000 }
+fn gains_and_peaks_agree(n: usize) -> bool
+    requires { n ≤ 130 }
 {
-    let a = row_of(rt.alloc(), n)?;
-    let mut one = row_of(rt.alloc(), n)?;
-    let mut two = row_of(rt.alloc(), n)?;
-    gain(200, a.as_slice(), one.as_mut_slice());
-    plain::gain(200, a.as_slice(), two.as_mut_slice());
-    assert!(rt; one.as_slice() == two.as_slice());
-    mix2(200, -250, a.as_slice(), a.as_slice(), one.as_mut_slice());
-    plain::mix2(200, -250, a.as_slice(), a.as_slice(), two.as_mut_slice());
-    assert!(rt; one.as_slice() == two.as_slice());
-    assert_eq!(rt; peak(a.as_slice()), plain::peak(a.as_slice()));
-    Ok(())
+    let (a, mut one, mut two) = (row_of(), row_of(), row_of());
+    let (a, one, two) = (&a[..n], &mut one[..n], &mut two[..n]);
+    gain(200, a, one);
+    plain::gain(200, a, two);
+    let gains = *one == *two;
+    mix2(200, -250, a, a, one);
+    plain::mix2(200, -250, a, a, two);
+    gains && *one == *two && peak(a) == plain::peak(a)
 }
 
 // The same of the kernels that add and limit.
-fn sums_agree<R: AllocGlobal + Abort>(rt: &R, n: usize) -> Result<(), Fail>
-    requires { n < 1000 }
+fn sums_agree(alloc: Global, n: usize) -> Result<bool, Memory>
+    requires { n ≤ 130 }
 {
-    let a = row_of(rt.alloc(), n)?;
-    let mut one = Items::filled(rt.alloc(), n, 30000)?;
-    let mut two = Items::filled(rt.alloc(), n, 30000)?;
-    mix_into(one.as_mut_slice(), a.as_slice());
-    plain::mix_into(two.as_mut_slice(), a.as_slice());
-    assert!(rt; one.as_slice() == two.as_slice());
-    let mut left = row_of(rt.alloc(), n)?;
-    let mut right = row_of(rt.alloc(), n)?;
-    clamp_out(one.as_slice(), left.as_mut_slice());
-    plain::clamp_out(one.as_slice(), right.as_mut_slice());
-    assert!(rt; left.as_slice() == right.as_slice());
-    Ok(())
+    let mut one = Items::filled(alloc, n, 30000)?;
+    let mut two = Items::filled(alloc, n, 30000)?;
+    let (a, mut left, mut right) = (row_of(), row_of(), row_of());
+    let (a, left, right) = (&a[..n], &mut left[..n], &mut right[..n]);
+    mix_into(one.as_mut_slice(), a);
+    plain::mix_into(two.as_mut_slice(), a);
+    clamp_out(one.as_slice(), left);
+    plain::clamp_out(one.as_slice(), right);
+    Ok(one.as_slice() == two.as_slice() && *left == *right)
 }
 
 // The channels of stereo frames swapped, over lanes and by the plain loop.
-fn swaps_agree<R: AllocGlobal + Abort>(rt: &R, frames: usize) -> Result<(), Fail>
-    requires { frames < 1000 }
+fn swaps_agree(frames: usize) -> bool
+    requires { frames ≤ 65 }
 {
-    let a = row_of(rt.alloc(), 2 * frames)?;
-    let mut one = row_of(rt.alloc(), 2 * frames)?;
-    let mut two = row_of(rt.alloc(), 2 * frames)?;
-    let list = [1u32, 0];
-    map_channels(2, list.as_slice(), a.as_slice(), one.as_mut_slice());
-    plain::map_channels(2, list.as_slice(), a.as_slice(), two.as_mut_slice());
-    assert!(rt; one.as_slice() == two.as_slice());
-    Ok(())
+    let (a, mut one, mut two) = (row_of(), row_of(), row_of());
+    let n = 2 * frames;
+    let (a, one, two) = (&a[..n], &mut one[..n], &mut two[..n]);
+    map_channels(2, [1u32, 0].as_slice(), a, one);
+    plain::map_channels(2, [1u32, 0].as_slice(), a, two);
+    *one == *two
 }
 
 // The halves of stereo frames, by lanes and by the plain loop.
-fn halves_agree<R: AllocGlobal + Abort>(rt: &R, frames: usize) -> Result<(), Fail>
-    requires { frames < 1000 }
+fn halves_agree(frames: usize) -> bool
+    requires { frames ≤ 65 }
 {
-    let a = row_of(rt.alloc(), 2 * frames)?;
-    let (mut left, mut right) = (row_of(rt.alloc(), frames)?, row_of(rt.alloc(), frames)?);
-    split(a.as_slice(), left.as_mut_slice(), right.as_mut_slice());
-    let (mut x, mut y) = (row_of(rt.alloc(), frames)?, row_of(rt.alloc(), frames)?);
-    plain::split(a.as_slice(), x.as_mut_slice(), y.as_mut_slice());
-    assert!(rt; left.as_slice() == x.as_slice());
-    assert!(rt; right.as_slice() == y.as_slice());
-    Ok(())
+    let a = row_of();
+    let (mut left, mut right, mut x, mut y) = (row_of(), row_of(), row_of(), row_of());
+    let a = &a[..2 * frames];
+    let (left, right) = (&mut left[..frames], &mut right[..frames]);
+    let (x, y) = (&mut x[..frames], &mut y[..frames]);
+    split(a, left, right);
+    plain::split(a, x, y);
+    *left == *x && *right == *y
 }
 
 #[test]
 fn lanes_leave_what_plain_loops_leave(rt: HostRuntime) -> Result<(), Fail> {
     // Nothing, one sample, one lane, and one lane and one.
     for n in [0, 1, 128, 129] {
-        gains_and_peaks_agree(&rt, n)?;
-        sums_agree(&rt, n)?;
+        assert!(rt; gains_and_peaks_agree(n));
+        assert!(rt; sums_agree(rt.alloc(), n)?);
     }
     for frames in [0, 1, 64, 65] {
-        swaps_agree(&rt, frames)?;
-        halves_agree(&rt, frames)?;
+        assert!(rt; swaps_agree(frames));
+        assert!(rt; halves_agree(frames));
     }
     Ok(())
 }

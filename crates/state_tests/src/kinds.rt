@@ -1,239 +1,158 @@
 //! A node of each kind, in quanta of 1, 3, 8 and 64 frames.
-ghost use Rattle.std.specs.Prelude.{◌≡◌, ◌≤◌, ◌*◌};
+ghost use Rattle.pw_base.specs.SoundShape.{IsBetween};
 
-use crate::following::{Streams, Widths, follows};
+use crate::following::Streams;
 use crate::graph::{
     CYCLES, OF_DELAY, OF_GAIN, OF_LEFT, OF_MAP, OF_MIX2, OF_RIGHT, OF_SOURCE, OF_SQUARE, map,
     rendered, square, stream, wave,
 };
-use node_state::NodeState;
+use crate::widths::{followed, gives, one_way};
 use pw_base::{Kind, Memory};
 use std::alloc::Global;
 use std::test::Fail;
 use wav_files::Outcome;
 
-// The frames of all cycles.
-fn frames(quantum: u32) -> u64
-    ensures { result ≡ 16 * quantum }
-{
-    u64::from(CYCLES) * u64::from(quantum)
-}
-
-// Mono, stereo or three channels: so many samples a quantum.
-fn width(quantum: u32, channels: usize) -> usize
-    requires quantum { quantum ≤ 64 }
-    requires channels { channels ≤ 3 }
-    ensures { result ≡ quantum * channels }
-{
-    quantum as usize * channels
-}
-
 fn source_follows(alloc: Global, quantum: u32, outcome: &Outcome) -> Result<bool, Memory>
-    requires { (1 ≤ quantum) × (quantum ≤ 64) }
+    requires { IsBetween 1 64 quantum }
 {
     let wav = wave(alloc)?;
-    let wav = Some(&wav);
-    let mut state = NodeState::prepare(alloc, &Kind::Source, wav, 0, quantum, frames(quantum))?;
-    let left = width(quantum, 2);
-    let widths = Widths {
-        a: 0,
-        b: 0,
-        left,
-        right: 0,
-    };
-    let streams = Streams {
-        a: &[],
-        b: &[],
-        left: stream(outcome, OF_SOURCE),
-        right: &[],
-    };
-    follows(alloc, &mut state, widths, streams, CYCLES)
+    let streams = one_way(&[], stream(outcome, OF_SOURCE));
+    match followed(
+        alloc,
+        &Kind::Source,
+        Some(&wav),
+        0,
+        quantum,
+        CYCLES,
+        streams,
+    )? {
+        Some(_state) => Ok(true),
+        None => Ok(false),
+    }
 }
 
 fn square_follows(alloc: Global, quantum: u32, outcome: &Outcome) -> Result<bool, Memory>
-    requires { (1 ≤ quantum) × (quantum ≤ 64) }
+    requires { IsBetween 1 64 quantum }
 {
-    let mut state = NodeState::prepare(alloc, &square(), None, 0, quantum, frames(quantum))?;
-    let left = width(quantum, 1);
-    let widths = Widths {
-        a: 0,
-        b: 0,
-        left,
-        right: 0,
-    };
-    let streams = Streams {
-        a: &[],
-        b: &[],
-        left: stream(outcome, OF_SQUARE),
-        right: &[],
-    };
-    follows(alloc, &mut state, widths, streams, CYCLES)
+    let streams = one_way(&[], stream(outcome, OF_SQUARE));
+    gives(alloc, &square(), 0, quantum, CYCLES, streams)
 }
 
 fn gain_follows(alloc: Global, quantum: u32, outcome: &Outcome) -> Result<bool, Memory>
-    requires { (1 ≤ quantum) × (quantum ≤ 64) }
+    requires { IsBetween 1 64 quantum }
 {
-    let kind = Kind::Gain { g: 300 };
-    let mut state = NodeState::prepare(alloc, &kind, None, 2, quantum, frames(quantum))?;
-    let wide = width(quantum, 2);
-    let widths = Widths {
-        a: wide,
-        b: 0,
-        left: wide,
-        right: 0,
-    };
-    let streams = Streams {
-        a: stream(outcome, OF_SOURCE),
-        b: &[],
-        left: stream(outcome, OF_GAIN),
-        right: &[],
-    };
-    follows(alloc, &mut state, widths, streams, CYCLES)
+    let streams = one_way(stream(outcome, OF_SOURCE), stream(outcome, OF_GAIN));
+    gives(alloc, &Kind::Gain { g: 300 }, 2, quantum, CYCLES, streams)
 }
 
 fn mix2_follows(alloc: Global, quantum: u32, outcome: &Outcome) -> Result<bool, Memory>
-    requires { (1 ≤ quantum) × (quantum ≤ 64) }
+    requires { IsBetween 1 64 quantum }
 {
-    let kind = Kind::Mix2 { ga: 200, gb: -300 };
-    let mut state = NodeState::prepare(alloc, &kind, None, 2, quantum, frames(quantum))?;
-    let wide = width(quantum, 2);
-    let widths = Widths {
-        a: wide,
-        b: wide,
-        left: wide,
-        right: 0,
-    };
     let streams = Streams {
         a: stream(outcome, OF_SOURCE),
         b: stream(outcome, OF_GAIN),
         left: stream(outcome, OF_MIX2),
         right: &[],
     };
-    follows(alloc, &mut state, widths, streams, CYCLES)
+    gives(
+        alloc,
+        &Kind::Mix2 { ga: 200, gb: -300 },
+        2,
+        quantum,
+        CYCLES,
+        streams,
+    )
 }
 
 fn delay_follows(alloc: Global, quantum: u32, outcome: &Outcome) -> Result<bool, Memory>
-    requires { (1 ≤ quantum) × (quantum ≤ 64) }
+    requires { IsBetween 1 64 quantum }
 {
-    let kind = Kind::Delay { frames: 10 };
-    let mut state = NodeState::prepare(alloc, &kind, None, 2, quantum, frames(quantum))?;
-    let wide = width(quantum, 2);
-    let widths = Widths {
-        a: wide,
-        b: 0,
-        left: wide,
-        right: 0,
-    };
-    let streams = Streams {
-        a: stream(outcome, OF_SOURCE),
-        b: &[],
-        left: stream(outcome, OF_DELAY),
-        right: &[],
-    };
-    follows(alloc, &mut state, widths, streams, CYCLES)
+    let streams = one_way(stream(outcome, OF_SOURCE), stream(outcome, OF_DELAY));
+    gives(
+        alloc,
+        &Kind::Delay { frames: 10 },
+        2,
+        quantum,
+        CYCLES,
+        streams,
+    )
 }
 
 fn map_follows(alloc: Global, quantum: u32, outcome: &Outcome) -> Result<bool, Memory>
-    requires { (1 ≤ quantum) × (quantum ≤ 64) }
+    requires { IsBetween 1 64 quantum }
 {
-    let kind = map(alloc)?;
-    let mut state = NodeState::prepare(alloc, &kind, None, 2, quantum, frames(quantum))?;
-    let widths = Widths {
-        a: width(quantum, 2),
-        b: 0,
-        left: width(quantum, 3),
-        right: 0,
-    };
-    let streams = Streams {
-        a: stream(outcome, OF_SOURCE),
-        b: &[],
-        left: stream(outcome, OF_MAP),
-        right: &[],
-    };
-    follows(alloc, &mut state, widths, streams, CYCLES)
+    let streams = one_way(stream(outcome, OF_SOURCE), stream(outcome, OF_MAP));
+    gives(alloc, &map(alloc)?, 2, quantum, CYCLES, streams)
 }
 
 fn split_follows(alloc: Global, quantum: u32, outcome: &Outcome) -> Result<bool, Memory>
-    requires { (1 ≤ quantum) × (quantum ≤ 64) }
+    requires { IsBetween 1 64 quantum }
 {
-    let mut state = NodeState::prepare(alloc, &Kind::Split, None, 2, quantum, frames(quantum))?;
-    let half = width(quantum, 1);
-    let widths = Widths {
-        a: width(quantum, 2),
-        b: 0,
-        left: half,
-        right: half,
-    };
     let streams = Streams {
         a: stream(outcome, OF_SOURCE),
         b: &[],
         left: stream(outcome, OF_LEFT),
         right: stream(outcome, OF_RIGHT),
     };
-    follows(alloc, &mut state, widths, streams, CYCLES)
+    gives(alloc, &Kind::Split, 2, quantum, CYCLES, streams)
 }
 
 fn sink_follows(alloc: Global, quantum: u32, outcome: &Outcome) -> Result<bool, Memory>
-    requires { (1 ≤ quantum) × (quantum ≤ 64) }
+    requires { IsBetween 1 64 quantum }
 {
-    let mut state = NodeState::prepare(alloc, &Kind::Sink, None, 2, quantum, frames(quantum))?;
-    let widths = Widths {
-        a: width(quantum, 2),
-        b: 0,
-        left: 0,
-        right: 0,
-    };
     let whole = stream(outcome, OF_SOURCE);
-    let streams = Streams {
-        a: whole,
-        b: &[],
-        left: &[],
-        right: &[],
-    };
-    Ok(follows(alloc, &mut state, widths, streams, CYCLES)? && state.kept() == whole)
-}
-
-fn meter_follows(alloc: Global, quantum: u32, outcome: &Outcome) -> Result<bool, Memory>
-    requires { (1 ≤ quantum) × (quantum ≤ 64) }
-{
-    let mut state = NodeState::prepare(alloc, &Kind::Meter, None, 2, quantum, frames(quantum))?;
-    let widths = Widths {
-        a: width(quantum, 2),
-        b: 0,
-        left: 0,
-        right: 0,
-    };
-    let streams = Streams {
-        a: stream(outcome, OF_SOURCE),
-        b: &[],
-        left: &[],
-        right: &[],
-    };
-    let follows = follows(alloc, &mut state, widths, streams, CYCLES)?;
-    match outcome.peaks.as_slice() {
-        [peak] => Ok(follows && state.greatest() == peak.value),
-        _ => Ok(false),
+    match followed(
+        alloc,
+        &Kind::Sink,
+        None,
+        2,
+        quantum,
+        CYCLES,
+        one_way(whole, &[]),
+    )? {
+        Some(state) => Ok(state.kept() == whole),
+        None => Ok(false),
     }
 }
 
-// Whether nodes of all kinds do.
-fn all_follow(alloc: Global, quantum: u32) -> Result<bool, Memory>
-    requires { (1 ≤ quantum) × (quantum ≤ 64) }
+fn meter_follows(alloc: Global, quantum: u32, outcome: &Outcome) -> Result<bool, Memory>
+    requires { IsBetween 1 64 quantum }
 {
-    let Some(outcome) = rendered(alloc, quantum)? else {
+    let [peak] = outcome.peaks.as_slice() else {
         return Ok(false);
     };
+    let streams = one_way(stream(outcome, OF_SOURCE), &[]);
+    match followed(alloc, &Kind::Meter, None, 2, quantum, CYCLES, streams)? {
+        Some(state) => Ok(state.greatest() == peak.value),
+        None => Ok(false),
+    }
+}
+
+// Whether nodes of all kinds follow what is rendered.
+fn kinds_follow(alloc: Global, quantum: u32, outcome: &Outcome) -> Result<bool, Memory>
+    requires { IsBetween 1 64 quantum }
+{
     Ok(
-        source_follows(alloc, quantum, &outcome)?
-            && square_follows(alloc, quantum, &outcome)?
-            && gain_follows(alloc, quantum, &outcome)?
-            && mix2_follows(alloc, quantum, &outcome)?
-            && delay_follows(alloc, quantum, &outcome)?
-            && map_follows(alloc, quantum, &outcome)?
-            && split_follows(alloc, quantum, &outcome)?
-            && sink_follows(alloc, quantum, &outcome)?
-            && meter_follows(alloc, quantum, &outcome)?,
+        source_follows(alloc, quantum, outcome)?
+            && square_follows(alloc, quantum, outcome)?
+            && gain_follows(alloc, quantum, outcome)?
+            && mix2_follows(alloc, quantum, outcome)?
+            && delay_follows(alloc, quantum, outcome)?
+            && map_follows(alloc, quantum, outcome)?
+            && split_follows(alloc, quantum, outcome)?
+            && sink_follows(alloc, quantum, outcome)?
+            && meter_follows(alloc, quantum, outcome)?,
     )
+}
+
+// Whether they do in quanta of so many frames.
+fn all_follow(alloc: Global, quantum: u32) -> Result<bool, Memory>
+    requires { IsBetween 1 64 quantum }
+{
+    match rendered(alloc, quantum)? {
+        Some(outcome) => kinds_follow(alloc, quantum, &outcome),
+        None => Ok(false),
+    }
 }
 
 #[test]

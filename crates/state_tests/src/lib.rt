@@ -15,3 +15,7 @@ mod kinds;
 mod plans;
 #[cfg(test)]
 mod quanta;
+#[cfg(test)]
+mod rows;
+#[cfg(test)]
+mod widths;

@@ -1,4 +1,6 @@
 //! Single quanta of node states, with their samples written out.
+use crate::following::Streams;
+use crate::widths::{gives, one_way};
 use node_state::NodeState;
 use pw_base::{Items, Kind};
 use std::test::Fail;
@@ -12,73 +14,37 @@ fn a_square_changes_each_half_period(rt: HostRuntime) -> Result<(), Fail> {
         period: 4,
         amp: 100,
     };
-    let mut node = NodeState::prepare(rt.alloc(), &kind, None, 0, 8, 16)?;
-    let mut left = [0i16; 8];
-    node.process(&[], &[], left.as_mut_slice(), &mut []);
-    assert!(rt; left.as_slice() == [100i16, 100, -100, -100, 100, 100, -100, -100].as_slice());
+    // Two quanta of two periods each.
+    let left = [
+        100i16, 100, -100, -100, 100, 100, -100, -100, 100, 100, -100, -100, 100, 100, -100, -100,
+    ];
+    assert!(rt; gives(rt.alloc(), &kind, 0, 8, 2, one_way(&[], left.as_slice()))?);
     Ok(())
 }
 
 #[test]
 fn a_map_swaps_channels(rt: HostRuntime) -> Result<(), Fail> {
-    let kind = Kind::Map {
-        channels: 2,
-        list: Items::from_slice(rt.alloc(), [1u32, 0].as_slice())?,
-    };
-    let mut node = NodeState::prepare(rt.alloc(), &kind, None, 2, 2, 2)?;
-    let mut left = [0i16; 4];
-    node.process(
-        [1i16, 10, 2, 20].as_slice(),
-        &[],
-        left.as_mut_slice(),
-        &mut [],
-    );
-    assert!(rt; left.as_slice() == [10i16, 1, 20, 2].as_slice());
+    let list = Items::from_slice(rt.alloc(), [1u32, 0].as_slice())?;
+    let kind = Kind::Map { channels: 2, list };
+    let streams = one_way(&[1, 10, 2, 20], &[10, 1, 20, 2]);
+    assert!(rt; gives(rt.alloc(), &kind, 2, 2, 1, streams)?);
     Ok(())
 }
 
 #[test]
 fn a_delay_longer_than_the_quanta_gives_zeros(rt: HostRuntime) -> Result<(), Fail> {
-    let kind = Kind::Delay { frames: 10 };
-    let mut node = NodeState::prepare(rt.alloc(), &kind, None, 1, 4, 12)?;
-    let mut left = [9i16; 4];
-    node.process(
-        [1i16, 2, 3, 4].as_slice(),
-        &[],
-        left.as_mut_slice(),
-        &mut [],
+    let streams = one_way(
+        &[1, 2, 3, 4, 5, 6, 7, 8, 9, 9, 9, 9],
+        &[0, 0, 0, 0, 0, 0, 0, 0, 0, 0, 1, 2],
     );
-    assert!(rt; left.as_slice() == [0i16, 0, 0, 0].as_slice());
-    node.process(
-        [5i16, 6, 7, 8].as_slice(),
-        &[],
-        left.as_mut_slice(),
-        &mut [],
-    );
-    assert!(rt; left.as_slice() == [0i16, 0, 0, 0].as_slice());
-    node.process(
-        [9i16, 9, 9, 9].as_slice(),
-        &[],
-        left.as_mut_slice(),
-        &mut [],
-    );
-    assert!(rt; left.as_slice() == [0i16, 0, 1, 2].as_slice());
+    assert!(rt; gives(rt.alloc(), &Kind::Delay { frames: 10 }, 1, 4, 3, streams)?);
     Ok(())
 }
 
 #[test]
 fn a_short_delay_turns_round_its_ring(rt: HostRuntime) -> Result<(), Fail> {
-    let kind = Kind::Delay { frames: 3 };
-    let mut node = NodeState::prepare(rt.alloc(), &kind, None, 1, 2, 8)?;
-    let mut left = [9i16; 2];
-    node.process([1i16, 2].as_slice(), &[], left.as_mut_slice(), &mut []);
-    assert!(rt; left.as_slice() == [0i16, 0].as_slice());
-    node.process([3i16, 4].as_slice(), &[], left.as_mut_slice(), &mut []);
-    assert!(rt; left.as_slice() == [0i16, 1].as_slice());
-    node.process([5i16, 6].as_slice(), &[], left.as_mut_slice(), &mut []);
-    assert!(rt; left.as_slice() == [2i16, 3].as_slice());
-    node.process([7i16, 8].as_slice(), &[], left.as_mut_slice(), &mut []);
-    assert!(rt; left.as_slice() == [4i16, 5].as_slice());
+    let streams = one_way(&[1, 2, 3, 4, 5, 6, 7, 8], &[0, 0, 0, 1, 2, 3, 4, 5]);
+    assert!(rt; gives(rt.alloc(), &Kind::Delay { frames: 3 }, 1, 2, 4, streams)?);
     Ok(())
 }
 
@@ -157,19 +123,23 @@ fn a_split_writes_the_outputs_that_have_a_form(rt: HostRuntime) -> Result<(), Fa
 
 #[test]
 fn gains_are_rounded_once(rt: HostRuntime) -> Result<(), Fail> {
-    let kind = Kind::Gain { g: 128 };
-    let mut node = NodeState::prepare(rt.alloc(), &kind, None, 1, 2, 2)?;
-    let mut left = [9i16; 2];
-    node.process([3i16, -1].as_slice(), &[], left.as_mut_slice(), &mut []);
-    assert!(rt; left.as_slice() == [1i16, -1].as_slice());
-    let kind = Kind::Mix2 { ga: 128, gb: 128 };
-    let mut node = NodeState::prepare(rt.alloc(), &kind, None, 1, 2, 2)?;
-    node.process(
-        [3i16, -1].as_slice(),
-        [3i16, -2].as_slice(),
-        left.as_mut_slice(),
-        &mut [],
+    let streams = one_way(&[3, -1], &[1, -1]);
+    assert!(rt; gives(rt.alloc(), &Kind::Gain { g: 128 }, 1, 2, 1, streams)?);
+    let streams = Streams {
+        a: &[3, -1],
+        b: &[3, -2],
+        left: &[3, -2],
+        right: &[],
+    };
+    assert!(rt;
+        gives(
+            rt.alloc(),
+            &Kind::Mix2 { ga: 128, gb: 128 },
+            1,
+            2,
+            1,
+            streams
+        )?
     );
-    assert!(rt; left.as_slice() == [3i16, -2].as_slice());
     Ok(())
 }

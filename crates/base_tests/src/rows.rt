@@ -1,0 +1,217 @@
+//! Shapes and plans, built from rows of numbers.
+
+use pw_base::{
+    Epoch, Fresh, Items, Kind, Memory, Plan, PlanNode, PortForm, PortId, Shape, ShapeLink,
+    ShapeNode,
+};
+use std::alloc::Global;
+
+/// A link: its two ports, its channels, its buffers, and whether it is a cycle late.
+pub(crate) type LinkRow = ((u32, u32), (u32, u32), u32, u32, bool);
+
+/// A node of a shape: its number, its required count and its targets.
+pub(crate) type ActiveRow<'a> = (u32, u32, &'a [u32]);
+
+/// A shape. Its links are the first ones and then some more.
+#[derive(Clone, Copy, Drop)]
+pub(crate) struct ShapeRow<'a> {
+    pub(crate) quantum: u32,
+    pub(crate) first: u32,
+    pub(crate) cycles: u32,
+    pub(crate) driver: u32,
+    pub(crate) nodes: &'a [ActiveRow<'a>],
+    pub(crate) links: &'a [LinkRow],
+    pub(crate) more: &'a [LinkRow],
+}
+
+/// The form of a port: its node, its number, its rate and its channels.
+pub(crate) type FormRow = (u32, u32, u32, u32);
+
+/// An epoch. Each entry is a node and its channels.
+#[derive(Clone, Copy, Drop)]
+pub(crate) struct EpochRow<'a> {
+    pub(crate) shape: ShapeRow<'a>,
+    pub(crate) forms: &'a [FormRow],
+    pub(crate) fresh: &'a [(u32, u32)],
+}
+
+/// The kinds of the plans' nodes. A gain has its factor, a square its rate and its channels.
+#[derive(Clone, Copy, Drop)]
+pub(crate) enum Sort {
+    Source,
+    Square(u32, u32),
+    Gain(i32),
+    Sink,
+    Dummy,
+}
+
+/// A node of a plan: its kind, and the rate and the channels that it ends with.
+pub(crate) type NodeRow = (Sort, u32, u32);
+
+/// The link of a row.
+pub(crate) fn link(row: LinkRow) -> ShapeLink {
+    let (from, to, channels, buffers, delayed) = row;
+    ShapeLink {
+        from: PortId {
+            node: from.0,
+            port: from.1,
+        },
+        to: PortId {
+            node: to.0,
+            port: to.1,
+        },
+        channels,
+        buffers,
+        delayed,
+    }
+}
+
+// Adds links.
+fn add_links(links: &mut Items<ShapeLink>, rows: &[LinkRow]) -> Result<(), Memory> {
+    for row in rows {
+        links.push(link(*row))?;
+    }
+    Ok(())
+}
+
+// The links of a shape.
+fn links_of(alloc: Global, row: ShapeRow<'_>) -> Result<Items<ShapeLink>, Memory> {
+    let mut links = Items::new(alloc);
+    add_links(&mut links, row.links)?;
+    add_links(&mut links, row.more)?;
+    Ok(links)
+}
+
+// The node of a row.
+fn active(alloc: Global, row: ActiveRow<'_>) -> Result<ShapeNode, Memory> {
+    let (node, required, targets) = row;
+    Ok(ShapeNode {
+        node,
+        required,
+        targets: Items::from_slice(alloc, targets)?,
+    })
+}
+
+// The nodes of a shape.
+fn actives(alloc: Global, rows: &[ActiveRow<'_>]) -> Result<Items<ShapeNode>, Memory> {
+    let mut nodes = Items::new(alloc);
+    for row in rows {
+        nodes.push(active(alloc, *row)?)?;
+    }
+    Ok(nodes)
+}
+
+/// The shape of a row.
+pub(crate) fn shape_of(alloc: Global, row: ShapeRow<'_>) -> Result<Shape, Memory> {
+    let links = links_of(alloc, row)?;
+    Ok(Shape {
+        quantum: row.quantum,
+        first: row.first,
+        cycles: row.cycles,
+        driver: row.driver,
+        nodes: actives(alloc, row.nodes)?,
+        links,
+    })
+}
+
+// The forms of rows.
+fn forms_of(alloc: Global, rows: &[FormRow]) -> Result<Items<PortForm>, Memory> {
+    let mut forms = Items::new(alloc);
+    for (node, port, rate, channels) in rows {
+        forms.push(PortForm {
+            port: PortId {
+                node: *node,
+                port: *port,
+            },
+            rate: *rate,
+            channels: *channels,
+        })?;
+    }
+    Ok(forms)
+}
+
+// The entries of rows.
+fn fresh_of(alloc: Global, rows: &[(u32, u32)]) -> Result<Items<Fresh>, Memory> {
+    let mut fresh = Items::new(alloc);
+    for (node, channels) in rows {
+        fresh.push(Fresh {
+            node: *node,
+            channels: *channels,
+        })?;
+    }
+    Ok(fresh)
+}
+
+/// The epoch of a row.
+pub(crate) fn epoch_of(alloc: Global, row: EpochRow<'_>) -> Result<Epoch, Memory> {
+    let forms = forms_of(alloc, row.forms)?;
+    let fresh = fresh_of(alloc, row.fresh)?;
+    Ok(Epoch {
+        shape: shape_of(alloc, row.shape)?,
+        forms,
+        fresh,
+    })
+}
+
+/// The epochs of rows.
+pub(crate) fn epochs_of(alloc: Global, rows: &[EpochRow<'_>]) -> Result<Items<Epoch>, Memory> {
+    let mut epochs = Items::new(alloc);
+    for row in rows {
+        epochs.push(epoch_of(alloc, *row)?)?;
+    }
+    Ok(epochs)
+}
+
+// The node of a row. It has no name.
+fn node(alloc: Global, row: NodeRow) -> PlanNode {
+    let (sort, rate, channels) = row;
+    PlanNode {
+        name: Items::new(alloc),
+        kind: match sort {
+            Sort::Source => Kind::Source,
+            Sort::Square(rate, channels) => Kind::Square {
+                rate,
+                channels,
+                period: 1,
+                amp: 1,
+            },
+            Sort::Gain(g) => Kind::Gain { g },
+            Sort::Sink => Kind::Sink,
+            Sort::Dummy => Kind::Dummy,
+        },
+        k: 0,
+        rate,
+        channels,
+    }
+}
+
+/// The nodes of rows, and so many sources more.
+pub(crate) fn nodes_of(
+    alloc: Global,
+    rows: &[NodeRow],
+    sources: u32,
+) -> Result<Items<PlanNode>, Memory> {
+    let mut nodes = Items::new(alloc);
+    for row in rows {
+        nodes.push(node(alloc, *row))?;
+    }
+    for _ in 0..sources {
+        nodes.push(node(alloc, (Sort::Source, 0, 0)))?;
+    }
+    Ok(nodes)
+}
+
+/// A plan of these nodes and epochs, without lines.
+pub(crate) fn plan_of(
+    alloc: Global,
+    quantum: u32,
+    nodes: Items<PlanNode>,
+    epochs: Items<Epoch>,
+) -> Plan {
+    Plan {
+        quantum,
+        nodes,
+        epochs,
+        lines: Items::new(alloc),
+    }
+}

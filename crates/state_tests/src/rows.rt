@@ -1,0 +1,280 @@
+//! Plans from rows of numbers, and what the reference program renders of them.
+
+use cycle_model::{render, waves_fit};
+use pw_base::{
+    Epoch, Fresh, Items, Kind, Memory, Plan, PlanNode, PortForm, PortId, Shape, ShapeLink,
+    ShapeNode, is_sound_plan,
+};
+use std::alloc::Global;
+use wav_files::{Outcome, Wav, WavIn};
+
+/// A node: its kind with its numbers. A square has its period and its amplitude, a map its list, a sink and a meter
+/// the channels that they end with.
+#[derive(Clone, Copy, Drop)]
+pub enum Sort<'a> {
+    Source,
+    Square(u32, i32),
+    Gain(i32),
+    Mix2(i32, i32),
+    Delay(u32),
+    Map(&'a [u32]),
+    Split,
+    Sink(u32),
+    Meter(u32),
+}
+
+/// A link: its two ports, its channels, and whether it is a cycle late.
+pub type LinkRow = ((u32, u32), (u32, u32), u32, bool);
+
+/// An epoch: its active nodes, and their links. A form is of a node, a port and channels, an entry of a node and its
+/// channels.
+#[derive(Clone, Copy, Drop)]
+pub struct EpochRow<'a> {
+    pub first: u32,
+    pub cycles: u32,
+    pub nodes: &'a [u32],
+    pub driver: u32,
+    pub links: &'a [LinkRow],
+    pub forms: &'a [(u32, u32, u32)],
+    pub fresh: &'a [(u32, u32)],
+}
+
+/// A plan, and the wave of its source 0.
+#[derive(Clone, Copy, Drop)]
+pub struct PlanRow<'a> {
+    pub quantum: u32,
+    pub nodes: &'a [Sort<'a>],
+    pub epochs: &'a [EpochRow<'a>],
+    pub channels: u32,
+    pub samples: &'a [i16],
+}
+
+// The kind of a node.
+fn kind_of(alloc: Global, sort: Sort<'_>) -> Result<Kind, Memory> {
+    Ok(match sort {
+        Sort::Source => Kind::Source,
+        Sort::Square(period, amp) => Kind::Square {
+            rate: 48000,
+            channels: 1,
+            period,
+            amp,
+        },
+        Sort::Gain(g) => Kind::Gain { g },
+        Sort::Mix2(ga, gb) => Kind::Mix2 { ga, gb },
+        Sort::Delay(frames) => Kind::Delay { frames },
+        Sort::Map(list) => Kind::Map {
+            channels: 2,
+            list: Items::from_slice(alloc, list)?,
+        },
+        Sort::Split => Kind::Split,
+        Sort::Sink(_channels) => Kind::Sink,
+        Sort::Meter(_channels) => Kind::Meter,
+    })
+}
+
+// A node without a name; one that ends with channels has the rate 48000.
+fn node(alloc: Global, sort: Sort<'_>) -> Result<PlanNode, Memory> {
+    let channels = match sort {
+        Sort::Sink(channels) | Sort::Meter(channels) => channels,
+        _ => 0,
+    };
+    Ok(PlanNode {
+        name: Items::new(alloc),
+        kind: kind_of(alloc, sort)?,
+        k: 0,
+        rate: if channels > 0 { 48000 } else { 0 },
+        channels,
+    })
+}
+
+// The nodes of a plan.
+fn nodes_of(alloc: Global, sorts: &[Sort<'_>]) -> Result<Items<PlanNode>, Memory> {
+    let mut nodes = Items::new(alloc);
+    for sort in sorts {
+        nodes.push(node(alloc, *sort)?)?;
+    }
+    Ok(nodes)
+}
+
+// The link of a row.
+fn link(row: LinkRow) -> ShapeLink {
+    let (from, to, channels, delayed) = row;
+    ShapeLink {
+        from: PortId {
+            node: from.0,
+            port: from.1,
+        },
+        to: PortId {
+            node: to.0,
+            port: to.1,
+        },
+        channels,
+        buffers: 2,
+        delayed,
+    }
+}
+
+// The links of an epoch.
+fn links_of(alloc: Global, rows: &[LinkRow]) -> Result<Items<ShapeLink>, Memory> {
+    let mut links = Items::new(alloc);
+    for row in rows {
+        links.push(link(*row))?;
+    }
+    Ok(links)
+}
+
+// Whether a link that is not late goes from a node to another.
+fn is_linked(links: &[LinkRow], from: u32, to: u32) -> bool {
+    for (one, other, _channels, delayed) in links {
+        if !*delayed && one.0 == from && other.0 == to {
+            return true;
+        }
+    }
+    false
+}
+
+// Whether a node waits for another. The driver waits for all, and all for it.
+fn waits(row: EpochRow<'_>, node: u32, other: u32) -> bool {
+    node == row.driver || other == row.driver || is_linked(row.links, other, node)
+}
+
+// The nodes that wait for a node, the driver last.
+fn targets(alloc: Global, row: EpochRow<'_>, node: u32) -> Result<Items<u32>, Memory> {
+    let mut targets = Items::new(alloc);
+    for other in row.nodes {
+        if *other != row.driver && waits(row, *other, node) {
+            targets.push(*other)?;
+        }
+    }
+    targets.push(row.driver)?;
+    Ok(targets)
+}
+
+// For how many nodes a node waits.
+fn required(row: EpochRow<'_>, node: u32) -> u32 {
+    let mut required: u32 = 0;
+    for other in row.nodes {
+        if waits(row, node, *other) {
+            required = required.saturating_add(1);
+        }
+    }
+    required
+}
+
+// The active nodes of an epoch, each with its required count and its targets.
+fn actives(alloc: Global, row: EpochRow<'_>) -> Result<Items<ShapeNode>, Memory> {
+    let mut nodes = Items::new(alloc);
+    for node in row.nodes {
+        nodes.push(ShapeNode {
+            node: *node,
+            required: required(row, *node),
+            targets: targets(alloc, row, *node)?,
+        })?;
+    }
+    Ok(nodes)
+}
+
+// The forms of an epoch, at 48000 frames a second.
+fn forms_of(alloc: Global, rows: &[(u32, u32, u32)]) -> Result<Items<PortForm>, Memory> {
+    let mut forms = Items::new(alloc);
+    for (node, port, channels) in rows {
+        forms.push(PortForm {
+            port: PortId {
+                node: *node,
+                port: *port,
+            },
+            rate: 48000,
+            channels: *channels,
+        })?;
+    }
+    Ok(forms)
+}
+
+// The entries of an epoch.
+fn fresh_of(alloc: Global, rows: &[(u32, u32)]) -> Result<Items<Fresh>, Memory> {
+    let mut fresh = Items::new(alloc);
+    for (node, channels) in rows {
+        fresh.push(Fresh {
+            node: *node,
+            channels: *channels,
+        })?;
+    }
+    Ok(fresh)
+}
+
+// The shape of an epoch.
+fn shape_of(alloc: Global, quantum: u32, row: EpochRow<'_>) -> Result<Shape, Memory> {
+    let links = links_of(alloc, row.links)?;
+    Ok(Shape {
+        quantum,
+        first: row.first,
+        cycles: row.cycles,
+        driver: row.driver,
+        nodes: actives(alloc, row)?,
+        links,
+    })
+}
+
+// The epoch of a row.
+fn epoch_of(alloc: Global, quantum: u32, row: EpochRow<'_>) -> Result<Epoch, Memory> {
+    let forms = forms_of(alloc, row.forms)?;
+    let fresh = fresh_of(alloc, row.fresh)?;
+    Ok(Epoch {
+        shape: shape_of(alloc, quantum, row)?,
+        forms,
+        fresh,
+    })
+}
+
+// The epochs of a plan.
+fn epochs_of(alloc: Global, row: PlanRow<'_>) -> Result<Items<Epoch>, Memory> {
+    let mut epochs = Items::new(alloc);
+    for epoch in row.epochs {
+        epochs.push(epoch_of(alloc, row.quantum, *epoch)?)?;
+    }
+    Ok(epochs)
+}
+
+// The plan of a row.
+fn plan_of(alloc: Global, row: PlanRow<'_>) -> Result<Plan, Memory> {
+    let nodes = nodes_of(alloc, row.nodes)?;
+    Ok(Plan {
+        quantum: row.quantum,
+        nodes,
+        epochs: epochs_of(alloc, row)?,
+        lines: Items::new(alloc),
+    })
+}
+
+// The wave of its source.
+fn waves_of(alloc: Global, row: PlanRow<'_>) -> Result<Items<WavIn>, Memory> {
+    let samples = Items::from_slice(alloc, row.samples)?;
+    let mut waves = Items::new(alloc);
+    waves.push(WavIn {
+        node: 0,
+        wav: Wav {
+            rate: 48000,
+            channels: row.channels,
+            samples,
+        },
+    })?;
+    Ok(waves)
+}
+
+// What a plan renders, where it is sound and the waves fit.
+fn rendered(alloc: Global, plan: &Plan, waves: &Items<WavIn>) -> Result<Option<Outcome>, Memory> {
+    if !is_sound_plan(plan) {
+        return Ok(None);
+    }
+    if !waves_fit(plan, waves) {
+        return Ok(None);
+    }
+    Ok(Some(render(alloc, plan, waves)?))
+}
+
+/// What the reference program renders of the plan of a row, none where that is not sound or the wave does not fit.
+pub fn outcome_of(alloc: Global, row: PlanRow<'_>) -> Result<Option<Outcome>, Memory> {
+    let plan = plan_of(alloc, row)?;
+    let waves = waves_of(alloc, row)?;
+    rendered(alloc, &plan, &waves)
+}
