@@ -1,9 +1,10 @@
 //! A wave by the gains of a control sequence: what `automate` stores and prints, and why its files
 //! are refused.
 
+use crate::support::expect;
 use pw_base::{Items, MemFiles, MemSink, Memory};
 use pw_top::{PodWhy, Status};
-use row_files::{expect, text};
+use row_files::text;
 use std::alloc::Global;
 use std::process::Abort;
 use std::test::Fail;

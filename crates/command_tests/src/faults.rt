@@ -1,8 +1,9 @@
 //! Each call of the outside that fails, in its turn, and what stands then.
 
+use crate::support::{expect, expect_sink};
 use pw_base::MemSink;
 use pw_top::Status;
-use row_files::{SCRIPT, SINK, expect, expect_file, files_of};
+use row_files::{SCRIPT, SINK, files_of};
 use std::test::Fail;
 
 #[test]
@@ -19,7 +20,7 @@ fn each_load_fails_once(rt: HostRuntime) -> Result<(), Fail> {
             Status::ReadFault { place },
             wanted,
         )?;
-        expect_file(&rt, &files, "o.wav", None)?;
+        expect_sink(&rt, &files, None)?;
     }
     Ok(())
 }
@@ -39,12 +40,7 @@ fn a_store_fails_after_some_bytes(rt: HostRuntime) -> Result<(), Fail> {
             status,
             "write 3\n",
         )?;
-        expect_file(
-            &rt,
-            &files,
-            "o.wav",
-            Some(&SINK.as_slice()[..kept as usize]),
-        )?;
+        expect_sink(&rt, &files, Some(&SINK.as_slice()[..kept as usize]))?;
     }
     Ok(())
 }
@@ -57,7 +53,7 @@ fn a_put_fails_after_some_bytes(rt: HostRuntime) -> Result<(), Fail> {
         out.fail_put(rt.alloc(), 1, kept)?;
         let status = Status::WriteFault { place: 0 };
         expect(&rt, "run s.graph", &mut files, &mut out, status, wanted)?;
-        expect_file(&rt, &files, "o.wav", Some(SINK.as_slice()))?;
+        expect_sink(&rt, &files, Some(SINK.as_slice()))?;
     }
     Ok(())
 }
@@ -76,5 +72,5 @@ fn a_load_and_its_line_fail(rt: HostRuntime) -> Result<(), Fail> {
         Status::ReadFault { place: 2 },
         "",
     )?;
-    expect_file(&rt, &files, "o.wav", None)
+    expect_sink(&rt, &files, None)
 }

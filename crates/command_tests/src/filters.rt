@@ -1,9 +1,10 @@
 //! Formats in files: what `filter` stores and prints, and why a file is refused.
 ghost use Rattle.std.specs.Prelude.{◌≤◌};
 
+use crate::support::expect;
 use pw_base::{Items, MemFiles, MemSink, Memory, Which};
 use pw_top::{PodWhy, Status};
-use row_files::{expect, text};
+use row_files::text;
 use std::alloc::Global;
 use std::process::Abort;
 use std::sync::Wait;

@@ -10,8 +10,6 @@ mod faults;
 #[cfg(test)]
 mod filters;
 #[cfg(test)]
-mod long_files;
-#[cfg(test)]
 mod messages;
 #[cfg(test)]
 mod pods;
@@ -21,5 +19,7 @@ mod refusals;
 mod scripts;
 #[cfg(test)]
 mod soaks;
+#[cfg(test)]
+mod support;
 #[cfg(test)]
 mod traces;

@@ -1,8 +1,9 @@
 //! PODs in files: what `dump` prints, and why a file is refused.
 
+use crate::support::expect;
 use pw_base::{MemFiles, MemSink, Memory, Which};
 use pw_top::{PodWhy, Status};
-use row_files::{blanks, expect, text};
+use row_files::{blanks, text};
 use std::alloc::Global;
 use std::process::Abort;
 use std::sync::Wait;

@@ -1,10 +1,10 @@
 //! What is refused, and by which cause.
 
-use crate::long_files::LongFiles;
+use crate::support::{LongFiles, expect, expect_of, expect_sink};
 use graph_script::ScriptWhy;
 use pw_base::{FileFail, Files, Items, Loaded, MemSink, Memory, Text, Which};
 use pw_top::Status;
-use row_files::{SCRIPT, SOURCE, blanks, expect, expect_file, expect_of, files_of, text};
+use row_files::{SCRIPT, SOURCE, blanks, files_of, text};
 use std::alloc::Global;
 use std::test::Fail;
 use wav_files::WavFault;
@@ -109,7 +109,7 @@ fn waves_are_refused_by_cause(rt: HostRuntime) -> Result<(), Fail> {
         let mut out = MemSink::new(alloc)?;
         let status = Status::Wav { place: 2, why };
         expect(&rt, "run s.graph", &mut files, &mut out, status, wanted)?;
-        expect_file(&rt, &files, "o.wav", None)?;
+        expect_sink(&rt, &files, None)?;
     }
     Ok(())
 }
@@ -140,7 +140,7 @@ fn a_script_that_is_missing_or_too_long(rt: HostRuntime) -> Result<(), Fail> {
         limit,
         "absent 0\nlimit 0 1\n",
     )?;
-    expect_file(&rt, &files, "o.wav", None)
+    expect_sink(&rt, &files, None)
 }
 
 #[test]

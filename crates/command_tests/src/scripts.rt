@@ -1,8 +1,8 @@
 //! Scripts that are refused, by their first line at fault.
 
+use crate::support::expect_of;
 use graph_script::ScriptWhy;
 use pw_top::Status;
-use row_files::expect_of;
 use std::test::Fail;
 
 #[test]

@@ -1,8 +1,8 @@
 //! `soak NUMBER`: the line of a number, and the words that are none.
 
+use crate::support::expect;
 use pw_base::{Items, MemFiles, MemSink, Memory, Never, Open};
 use pw_top::{Status, run_words};
-use row_files::expect;
 use std::alloc::Global;
 use std::test::Fail;
 

@@ -1,9 +1,9 @@
 //! `check SCRIPT TRACE`: what is found of a trace, and what refuses it.
 
-use crate::long_files::LongFiles;
+use crate::support::{LongFiles, expect};
 use pw_base::{Items, MemFiles, MemSink, Memory, Which};
 use pw_top::Status;
-use row_files::{add_wave, expect, files_of, run_line, text};
+use row_files::{add_wave, files_of, run_line, text};
 use std::alloc::Global;
 use std::str;
 use std::test::Fail;

@@ -1,9 +1,10 @@
 //! What runs print of their events, with one thread and with several.
 
+use crate::support::expect;
 use crate::waves::expect_wave;
 use pw_base::{MemFiles, MemSink, Memory};
 use pw_top::Status;
-use row_files::{add_wave, expect, text};
+use row_files::{add_wave, text};
 use std::alloc::Global;
 use std::process::Abort;
 use std::sync::Wait;

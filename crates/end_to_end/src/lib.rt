@@ -18,4 +18,6 @@ mod rendering;
 #[cfg(test)]
 mod storing;
 #[cfg(test)]
+mod support;
+#[cfg(test)]
 mod waves;

@@ -1,9 +1,10 @@
 //! Runs above a limit, each refused at the line that passes it.
 
+use crate::support::expect_of;
 use graph_script::ScriptWhy;
 use pw_base::{Items, MemFiles, MemSink, Memory, Which};
 use pw_top::Status;
-use row_files::{expect_of, run_line, text};
+use row_files::{run_line, text};
 use std::alloc::Global;
 use std::process::Abort;
 use std::sync::Wait;

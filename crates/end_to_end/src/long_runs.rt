@@ -1,8 +1,9 @@
 //! Runs that take long before they are compiled: `rt try --seconds 600 --test` ends them.
 
+use crate::support::expect;
 use pw_base::{Items, MemFiles, MemSink, Memory};
 use pw_top::Status;
-use row_files::{add_wave, expect, text};
+use row_files::{add_wave, text};
 use std::alloc::Global;
 use std::test::Fail;
 

@@ -1,8 +1,9 @@
 //! What accepted scripts write and print.
 
+use crate::support::{expect, expect_file, expect_of};
 use pw_base::MemSink;
 use pw_top::Status;
-use row_files::{SCRIPT, SINK, SOURCE, expect, expect_file, expect_of, files_of};
+use row_files::{SCRIPT, SINK, SOURCE, files_of};
 use std::test::Fail;
 
 #[test]

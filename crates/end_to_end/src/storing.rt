@@ -1,9 +1,10 @@
 //! Files that several lines name, and what stands of two files after a fault.
 
+use crate::support::expect;
 use crate::waves::{expect_mono, expect_run, expect_wave};
 use pw_base::{Items, MemFiles, MemSink, Memory, Text};
 use pw_top::Status;
-use row_files::{add_wave, expect, run_line, text};
+use row_files::{add_wave, run_line, text};
 use std::alloc::Global;
 use std::test::Fail;
 

@@ -1,8 +1,9 @@
 //! Runs over waves in files, and the waves that are stored.
 
+use crate::support::expect;
 use pw_base::{MemFiles, MemSink};
 use pw_top::Status;
-use row_files::{add_wave, expect, text, wav_bytes};
+use row_files::{add_wave, text, wav_bytes};
 use std::process::Abort;
 use std::sync::Wait;
 use std::test::Fail;

@@ -1,15 +1,14 @@
-//! What tests compare: a run of the program on a line of words, and what stands under a name then.
+//! What the tests share: a run of the program on a line of words, compared with what is wanted.
 
-use crate::command_line::run_line;
-use crate::script_files::{files_of, text};
 use pw_base::{Files, MemFiles, MemSink};
 use pw_top::Status;
+use row_files::{files_of, run_line, text};
 use std::process::Abort;
 use std::sync::Wait;
 use std::test::Fail;
 use std::thread::Threads;
 
-/// Runs the words of a line, and compares the status and the text. What differs aborts.
+/// Runs the words of a line, and compares the status and the text.
 pub fn expect<R: Threads + Wait + Sync + AllocGlobal + Abort, F: Files>(
     rt: &R,
     line: &str,
@@ -24,7 +23,7 @@ pub fn expect<R: Threads + Wait + Sync + AllocGlobal + Abort, F: Files>(
     Ok(())
 }
 
-/// As `expect`, of `run` on a script, where no call of the outside fails.
+/// The same of a script that no call of the outside fails.
 pub fn expect_of<R: Threads + Wait + Sync + AllocGlobal + Abort>(
     rt: &R,
     script: &str,
@@ -36,7 +35,7 @@ pub fn expect_of<R: Threads + Wait + Sync + AllocGlobal + Abort>(
     expect(rt, "run s.graph", &mut files, &mut out, status, wanted)
 }
 
-/// Compares what stands under a name; None where nothing does. What differs aborts.
+/// Compares what stands under a name.
 pub fn expect_file<R: AllocGlobal + Abort>(
     rt: &R,
     files: &MemFiles,
