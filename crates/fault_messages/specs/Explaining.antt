@@ -35,7 +35,8 @@ pub record IsAtHand (held : Held) (words : List (List ℕ)) (script : List ℕ) 
   pub fits : length script ≤ script_bytes_limit
 
 -- where it can, and no load failed, the line is the one that stands at the place
-abbrev pub IsLineOf : Held → List (List ℕ) → ℕ → ℕ → ℕ → Option (List ℕ) → Type 0
+abbrev pub IsLineOf : Held → List (List ℕ) → ℕ → ℕ → ℕ → Option (List ℕ)
+    → Type 0
 IsLineOf held words before now place line = (script : List ℕ) → IsAtHand held words script
     → ¬ Rose before now → line ≡ line_at script place
 
