@@ -101,8 +101,9 @@ impl Automation {
         requires room { self.old.frames + length piece.old / self.old.channels < 2 ^ 64 }
         ensures samples { piece.new ≡ automated self.old.points self.old.channels self.old.frames
             piece.old }
-        ensures moved { self.new
-            ≡ record self.old { frames = self.old.frames + length piece.old / self.old.channels } }
+        ensures moved { self.new ≡ record self.old {
+          frames = self.old.frames + length piece.old / self.old.channels;
+        } }
     {
         let n = piece.len();
         copy[..n].copy_from_slice(piece);
