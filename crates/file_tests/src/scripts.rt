@@ -1,18 +1,20 @@
 //! Scripts, and the first line at fault.
-use graph_script::{Command, Script, ScriptFault, ScriptWhy, parse};
+use graph_script::{Command, Line, Script, ScriptFault, ScriptWhy, parse};
 use pw_base::{Items, Memory, PortId, Text, append_decimal};
 use std::alloc::Global;
-use std::process::Abort;
 use std::test::Fail;
 
-fn parsed(rt: &impl Abort, alloc: Global, text: &[u8]) -> Result<Script, ScriptFault> {
-    assert!(rt; text.len() <= 1048576);
+// The script that a text is, of a length that a script may have.
+fn parsed(alloc: Global, text: &[u8]) -> Result<Script, ScriptFault> {
+    if text.len() > 1_048_576 {
+        return Err(ScriptFault::Memory);
+    }
     parse(alloc, text)
 }
 
 // The line of a fault, its why and its limit by number: 0 where there is none.
-fn fault_of(rt: &impl Abort, alloc: Global, text: &[u8]) -> (u32, u8, u8) {
-    match parsed(rt, alloc, text) {
+fn fault_of(alloc: Global, text: &[u8]) -> (u32, u8, u8) {
+    match parsed(alloc, text) {
         Err(
             ScriptFault::At {
                 line,
@@ -24,52 +26,197 @@ fn fault_of(rt: &impl Abort, alloc: Global, text: &[u8]) -> (u32, u8, u8) {
     }
 }
 
-// The number of lines that say a command, and of the last of them; 0 and 0 where there is a fault.
-fn counts(rt: &impl Abort, alloc: Global, text: &[u8]) -> (usize, u32) {
-    match parsed(rt, alloc, text) {
-        Ok(script) => match script.lines.as_slice() {
-            [] => (0, 0),
-            [.., last] => (script.lines.len(), last.line),
-        },
+// The number of lines that say a command, and of the last of them.
+fn counted(lines: &[Line]) -> (usize, u32) {
+    match lines {
+        [] => (0, 0),
+        [.., last] => (lines.len(), last.line),
+    }
+}
+
+// The same of the lines of a script; 0 and 0 where there is a fault.
+fn counts(alloc: Global, text: &[u8]) -> (usize, u32) {
+    match parsed(alloc, text) {
+        Ok(script) => counted(script.lines.as_slice()),
         Err(_fault) => (0, 0),
     }
+}
+
+// A command by the place of its name in the order of the list below, and its numbers, a port as its node and its own.
+fn told(command: &Command) -> [i64; 6] {
+    match command {
+        Command::Quantum { n } => [0, i64::from(*n), 0, 0, 0, 0],
+        Command::Source { node, .. } => [1, i64::from(*node), 0, 0, 0, 0],
+        Command::Square {
+            node,
+            rate,
+            channels,
+            period,
+            amp,
+        } => [
+            2,
+            i64::from(*node),
+            i64::from(*rate),
+            i64::from(*channels),
+            i64::from(*period),
+            i64::from(*amp),
+        ],
+        Command::Gain { node, g } => [3, i64::from(*node), i64::from(*g), 0, 0, 0],
+        Command::Mix2 { node, ga, gb } => {
+            [4, i64::from(*node), i64::from(*ga), i64::from(*gb), 0, 0]
+        }
+        Command::Delay { node, frames } => [5, i64::from(*node), i64::from(*frames), 0, 0, 0],
+        Command::Map { node, channels, .. } => {
+            [6, i64::from(*node), i64::from(*channels), 0, 0, 0]
+        }
+        Command::Split { node } => [7, i64::from(*node), 0, 0, 0, 0],
+        Command::Sink { node, .. } => [8, i64::from(*node), 0, 0, 0, 0],
+        Command::Meter { node } => [9, i64::from(*node), 0, 0, 0, 0],
+        _ => told_of_nodes(command),
+    }
+}
+
+// The same of the commands that name nodes and ports.
+fn told_of_nodes(command: &Command) -> [i64; 6] {
+    match command {
+        Command::Driver { node, priority } => {
+            [10, i64::from(*node), i64::from(*priority), 0, 0, 0]
+        }
+        Command::Loop { node, k } => [11, i64::from(*node), i64::from(*k), 0, 0, 0],
+        Command::Offer { port, .. } => [12, i64::from(port.node), i64::from(port.port), 0, 0, 0],
+        Command::Buffers { port, n } => {
+            [
+                13,
+                i64::from(port.node),
+                i64::from(port.port),
+                i64::from(*n),
+                0,
+                0,
+            ]
+        }
+        Command::Link { from, to } => told_link(14, *from, *to),
+        Command::Unlink { from, to } => told_link(15, *from, *to),
+        Command::On { node } => [16, i64::from(*node), 0, 0, 0, 0],
+        Command::Off { node } => [17, i64::from(*node), 0, 0, 0, 0],
+        Command::Async { node } => [18, i64::from(*node), 0, 0, 0, 0],
+        Command::Cycles { n } => [19, i64::from(*n), 0, 0, 0, 0],
+        Command::Drain => [20, 0, 0, 0, 0, 0],
+        _ => [-1, 0, 0, 0, 0, 0],
+    }
+}
+
+// The same of a link.
+fn told_link(place: i64, from: PortId, to: PortId) -> [i64; 6] {
+    [
+        place,
+        i64::from(from.node),
+        i64::from(from.port),
+        i64::from(to.node),
+        i64::from(to.port),
+        0,
+    ]
+}
+
+// The place of the first line that says another command than wanted.
+fn first_unlike(lines: &[Line], wanted: &[[i64; 6]]) -> Option<usize> {
+    for (place, (line, want)) in lines.iter().zip(wanted).enumerate() {
+        if told(&line.command) != *want {
+            return Some(place);
+        }
+    }
+    if lines.len() == wanted.len() {
+        None
+    } else {
+        Some(lines.len())
+    }
+}
+
+// The file of a source or a sink, else nothing.
+fn file_of(command: &Command) -> &[u8] {
+    match command {
+        Command::Source { file, .. } => file.as_slice(),
+        Command::Sink { file, .. } => file.as_slice(),
+        _ => &[],
+    }
+}
+
+// Whether the commands stand on the first lines.
+fn are_first(lines: &[Line]) -> bool {
+    for (place, line) in lines.iter().enumerate() {
+        if line.line as usize != place + 1 {
+            return false;
+        }
+    }
+    true
 }
 
 #[test]
 fn the_first_path_is_read(rt: HostRuntime) {
     let text = b"quantum 2\nsource s s.wav\nsink o -a.wav\nlink s.out o.in\ncycles 1000000";
-    let Ok(script) = parsed(&rt, rt.alloc(), text) else {
+    let Ok(script) = parsed(rt.alloc(), text) else {
         panic!(rt; "it is a script");
     };
-    let names = script.names().as_slice();
-    assert_eq!(rt; names.len(), 2);
-    assert_eq!(rt; names[0].as_slice(), b"s".as_slice());
-    assert_eq!(rt; names[1].as_slice(), b"o".as_slice());
+    let [s, o] = script.names().as_slice() else {
+        panic!(rt; "it has two nodes");
+    };
+    assert!(rt; s.as_slice() == b"s".as_slice() && o.as_slice() == b"o".as_slice());
+    let wanted = [
+        [0, 2, 0, 0, 0, 0],
+        [1, 0, 0, 0, 0, 0],
+        [8, 1, 0, 0, 0, 0],
+        [14, 0, 0, 1, 0, 0],
+        [19, 1000000, 0, 0, 0, 0],
+    ];
     let lines = script.lines.as_slice();
-    assert_eq!(rt; lines.len(), 5);
-    for (i, l) in lines.iter().enumerate() {
-        assert_eq!(rt; l.line as usize, i + 1);
+    assert_eq!(rt; first_unlike(lines, wanted.as_slice()), None);
+    assert!(rt; are_first(lines));
+    let [_quantum, source, sink, ..] = lines else {
+        panic!(rt; "it has five lines");
+    };
+    assert!(rt; file_of(&source.command) == b"s.wav".as_slice());
+    assert!(rt; file_of(&sink.command) == b"-a.wav".as_slice());
+}
+
+// Every command, in the order of its places.
+const EVERY: [[i64; 6]; 21] = [
+    [0, 8192, 0, 0, 0, 0],
+    [1, 0, 0, 0, 0, 0],
+    [2, 1, 384000, 8, 1000000, 32767],
+    [3, 2, -32767, 0, 0, 0],
+    [4, 3, 32767, -1, 0, 0],
+    [5, 4, 65536, 0, 0, 0],
+    [6, 5, 2, 0, 0, 0],
+    [7, 6, 0, 0, 0, 0],
+    [8, 7, 0, 0, 0, 0],
+    [9, 8, 0, 0, 0, 0],
+    [10, 7, 1000000, 0, 0, 0],
+    [11, 2, 15, 0, 0, 0],
+    [12, 2, 0, 0, 0, 0],
+    [13, 3, 2, 8, 0, 0],
+    [14, 3, 2, 4, 0, 0],
+    [15, 6, 2, 3, 1, 0],
+    [16, 2, 0, 0, 0, 0],
+    [17, 2, 0, 0, 0, 0],
+    [18, 2, 0, 0, 0, 0],
+    [19, 1000000, 0, 0, 0, 0],
+    [20, 0, 0, 0, 0, 0],
+];
+
+// The list of a map, else nothing.
+fn list_of(command: &Command) -> &[u32] {
+    match command {
+        Command::Map { list, .. } => list.as_slice(),
+        _ => &[],
     }
-    assert!(rt; matches!(lines[0].command, Command::Quantum { n: 2 }));
-    match &lines[1].command {
-        Command::Source { node: 0, file } => {
-            assert_eq!(rt; file.as_slice(), b"s.wav".as_slice());
+}
+
+// Whether lines say every command, and the map its list.
+fn say_every(lines: &[Line]) -> bool {
+    first_unlike(lines, EVERY.as_slice()) == None
+        && match lines.get(6) {
+            Some(map) => list_of(&map.command) == [1, 0, 1].as_slice(),
+            None => false,
         }
-        _ => panic!(rt; "it is a source"),
-    }
-    match &lines[2].command {
-        Command::Sink { node: 1, file } => {
-            assert_eq!(rt; file.as_slice(), b"-a.wav".as_slice());
-        }
-        _ => panic!(rt; "it is a sink"),
-    }
-    match lines[3].command {
-        Command::Link { from, to } => {
-            assert_eq!(rt; (from.node, from.port, to.node, to.port), (0, 0, 1, 0));
-        }
-        _ => panic!(rt; "it is a link"),
-    }
-    assert!(rt; matches!(lines[4].command, Command::Cycles { n: 1000000 }));
 }
 
 #[test]
@@ -78,100 +225,10 @@ fn every_command_is_read(rt: HostRuntime) {
         mix2 m 32767 -1\ndelay d 65536\nmap p 2 1,0,1\nsplit t\nsink o o.wav\nmeter l\n\
         driver o 1000000\nloop g 15\noffer g in f.pod\nbuffers m out 8\nlink m.out d.in\n\
         unlink t.right m.b\non g\noff g\nasync g\ncycles 1000000\ndrain";
-    let Ok(script) = parsed(&rt, rt.alloc(), text.as_slice()) else {
+    let Ok(script) = parsed(rt.alloc(), text.as_slice()) else {
         panic!(rt; "it is a script");
     };
-    let lines = script.lines.as_slice();
-    assert_eq!(rt; lines.len(), 21);
-    let read = [
-        matches!(lines[0].command, Command::Quantum { n: 8192 }),
-        matches!(lines[1].command, Command::Source { node: 0, .. }),
-        matches!(
-            lines[2].command,
-            Command::Square {
-                node: 1,
-                rate: 384000,
-                channels: 8,
-                period: 1000000,
-                amp: 32767
-            }
-        ),
-        matches!(lines[3].command, Command::Gain { node: 2, g: -32767 }),
-        matches!(
-            lines[4].command,
-            Command::Mix2 {
-                node: 3,
-                ga: 32767,
-                gb: -1
-            }
-        ),
-        matches!(
-            lines[5].command,
-            Command::Delay {
-                node: 4,
-                frames: 65536
-            }
-        ),
-        matches!(
-            lines[6].command,
-            Command::Map {
-                node: 5,
-                channels: 2,
-                ..
-            }
-        ),
-        matches!(lines[7].command, Command::Split { node: 6 }),
-        matches!(lines[8].command, Command::Sink { node: 7, .. }),
-        matches!(lines[9].command, Command::Meter { node: 8 }),
-        matches!(
-            lines[10].command,
-            Command::Driver {
-                node: 7,
-                priority: 1000000
-            }
-        ),
-        matches!(lines[11].command, Command::Loop { node: 2, k: 15 }),
-        matches!(
-            lines[12].command,
-            Command::Offer {
-                port: PortId { node: 2, port: 0 },
-                ..
-            }
-        ),
-        matches!(
-            lines[13].command,
-            Command::Buffers {
-                port: PortId { node: 3, port: 2 },
-                n: 8
-            }
-        ),
-        matches!(
-            lines[14].command,
-            Command::Link {
-                from: PortId { node: 3, port: 2 },
-                to: PortId { node: 4, port: 0 }
-            }
-        ),
-        matches!(
-            lines[15].command,
-            Command::Unlink {
-                from: PortId { node: 6, port: 2 },
-                to: PortId { node: 3, port: 1 }
-            }
-        ),
-        matches!(lines[16].command, Command::On { node: 2 }),
-        matches!(lines[17].command, Command::Off { node: 2 }),
-        matches!(lines[18].command, Command::Async { node: 2 }),
-        matches!(lines[19].command, Command::Cycles { n: 1000000 }),
-        matches!(lines[20].command, Command::Drain),
-    ];
-    for (i, is_read) in read.iter().enumerate() {
-        assert!(rt; *is_read, "{i}");
-    }
-    let Command::Map { list, .. } = &lines[6].command else {
-        panic!(rt; "it is a map");
-    };
-    assert_eq!(rt; list.as_slice(), [1, 0, 1].as_slice());
+    assert!(rt; say_every(script.lines.as_slice()));
 }
 
 #[test]
@@ -191,81 +248,95 @@ fn lines_keep_their_numbers(rt: HostRuntime) {
         ),
     ];
     for (text, lines, last) in good {
-        assert_eq!(rt; counts(&rt, alloc, text), (lines, last), "{text:?}");
+        assert_eq!(rt; counts(alloc, text), (lines, last), "{text:?}");
     }
+}
+
+// Texts, the line at fault and why it is.
+const BAD: [(&'static [u8], u32, u8); 57] = [
+    // a byte, then the command, then the count of arguments
+    (b"# \x80\ncycles 1", 1, 1),
+    (b"play \x01", 1, 1),
+    (b"\nplay", 2, 2),
+    (b"Gain a 1", 1, 2),
+    (b"gain a", 1, 3),
+    (b"gain A 1 2", 1, 3),
+    (b"quantum 1 #", 1, 3),
+    (b"square s 1 1 1", 1, 3),
+    (b"drain 1", 1, 3),
+    // a new node: the form of its name, whether it is taken, then the numbers
+    (b"gain A 1", 1, 5),
+    (b"gain a.b x", 1, 5),
+    (b"split abcdefghijklmnopqrstuvwxyz_01234", 1, 5),
+    (b"gain dummy 1", 1, 6),
+    (b"gain dummy x", 1, 6),
+    (b"gain a 1\nsink a o.wav", 2, 6),
+    (b"gain a 01", 1, 4),
+    (b"gain a -0", 1, 4),
+    (b"gain a +1", 1, 4),
+    (b"gain a #1", 1, 4),
+    (b"gain a -32768", 1, 4),
+    (b"mix2 a 1 32768", 1, 4),
+    (b"delay a -1", 1, 4),
+    (b"square a 384001 1 1 1", 1, 4),
+    (b"square a 1 9 1 1", 1, 4),
+    (b"square a 1 1 0 1", 1, 4),
+    (b"square a 1 1 1 -1", 1, 4),
+    (b"map a 0 0", 1, 4),
+    (b"map a 2 0,2", 1, 4),
+    (b"map a 2 0,,1", 1, 4),
+    (b"map a 2 0,", 1, 4),
+    (b"map a 2 0,1,0,1,0,1,0,1,0", 1, 4),
+    (b"quantum 99999999999999999999999999999999", 1, 4),
+    // a node that is there: the form of its name, the node, its port, then the numbers
+    (b"driver A x", 1, 5),
+    (b"driver a x", 1, 7),
+    (b"driver dummy 1", 1, 7),
+    (b"gain a 1\nbuffers a left 9", 2, 8),
+    (b"gain a 1\nbuffers a out 9", 2, 4),
+    (b"gain a 1\nloop a 16", 2, 4),
+    (b"gain a 1\noffer b left f", 2, 7),
+    (b"on a", 1, 7),
+    // endpoints: the form, the node, the port, the first before the second
+    (b"link a.out b.in", 1, 7),
+    (b"gain a 1\nlink a a.in", 2, 5),
+    (b"gain a 1\nlink a.out. b.in", 2, 5),
+    (b"gain a 1\nlink A.out a.in", 2, 5),
+    (b"gain a 1\nlink a.in b.in", 2, 8),
+    (b"gain a 1\nlink a.out a.out", 2, 8),
+    (b"gain a 1\nunlink a.out b.in", 2, 7),
+    // what earlier lines forbid comes last
+    (b"gain a 1\nquantum 4", 2, 9),
+    (b"quantum 1\nquantum 1", 2, 9),
+    (b"gain a 1\nquantum 0", 2, 4),
+    (b"gain a 1\ndriver a 1", 2, 10),
+    (b"gain a 1\ndriver a 1000001", 2, 4),
+    (b"gain a 1\nlink a.out a.in\noffer a in f", 3, 11),
+    (b"gain a 1\nlink a.out a.in\noffer a left f", 3, 8),
+    (b"gain g 1\nsink o o.wav\nlink g.out o.in\nasync g", 4, 14),
+    (b"gain g 1\nsink o o.wav\nlink g.out o.in\nasync o", 4, 14),
+    // the first line at fault
+    (b"gain a 1\n\n#\nplay\ngain A 1", 4, 2),
+];
+
+// The place of the first text that has another fault.
+fn first_other(alloc: Global, rows: &[(&[u8], u32, u8)]) -> Option<usize> {
+    for (place, (text, line, why)) in rows.iter().enumerate() {
+        if fault_of(alloc, text) != (*line, *why, 0) {
+            return Some(place);
+        }
+    }
+    None
+}
+
+// The same of all those texts.
+fn first_of_bad(alloc: Global) -> Option<usize> {
+    first_other(alloc, BAD.as_slice())
 }
 
 #[test]
 fn each_fault_has_its_why(rt: HostRuntime) {
-    let alloc = rt.alloc();
-    let bad = [
-        // a byte, then the command, then the count of arguments
-        (b"# \x80\ncycles 1".as_slice(), 1, 1),
-        (b"play \x01", 1, 1),
-        (b"\nplay", 2, 2),
-        (b"Gain a 1", 1, 2),
-        (b"gain a", 1, 3),
-        (b"gain A 1 2", 1, 3),
-        (b"quantum 1 #", 1, 3),
-        (b"square s 1 1 1", 1, 3),
-        (b"drain 1", 1, 3),
-        // a new node: the form of its name, whether it is taken, then the numbers
-        (b"gain A 1", 1, 5),
-        (b"gain a.b x", 1, 5),
-        (b"split abcdefghijklmnopqrstuvwxyz_01234", 1, 5),
-        (b"gain dummy 1", 1, 6),
-        (b"gain dummy x", 1, 6),
-        (b"gain a 1\nsink a o.wav", 2, 6),
-        (b"gain a 01", 1, 4),
-        (b"gain a -0", 1, 4),
-        (b"gain a +1", 1, 4),
-        (b"gain a #1", 1, 4),
-        (b"gain a -32768", 1, 4),
-        (b"mix2 a 1 32768", 1, 4),
-        (b"delay a -1", 1, 4),
-        (b"square a 384001 1 1 1", 1, 4),
-        (b"square a 1 9 1 1", 1, 4),
-        (b"square a 1 1 0 1", 1, 4),
-        (b"square a 1 1 1 -1", 1, 4),
-        (b"map a 0 0", 1, 4),
-        (b"map a 2 0,2", 1, 4),
-        (b"map a 2 0,,1", 1, 4),
-        (b"map a 2 0,", 1, 4),
-        (b"map a 2 0,1,0,1,0,1,0,1,0", 1, 4),
-        (b"quantum 99999999999999999999999999999999", 1, 4),
-        // a node that is there: the form of its name, the node, its port, then the numbers
-        (b"driver A x", 1, 5),
-        (b"driver a x", 1, 7),
-        (b"driver dummy 1", 1, 7),
-        (b"gain a 1\nbuffers a left 9", 2, 8),
-        (b"gain a 1\nbuffers a out 9", 2, 4),
-        (b"gain a 1\nloop a 16", 2, 4),
-        (b"gain a 1\noffer b left f", 2, 7),
-        (b"on a", 1, 7),
-        // endpoints: the form, the node, the port, the first before the second
-        (b"link a.out b.in", 1, 7),
-        (b"gain a 1\nlink a a.in", 2, 5),
-        (b"gain a 1\nlink a.out. b.in", 2, 5),
-        (b"gain a 1\nlink A.out a.in", 2, 5),
-        (b"gain a 1\nlink a.in b.in", 2, 8),
-        (b"gain a 1\nlink a.out a.out", 2, 8),
-        (b"gain a 1\nunlink a.out b.in", 2, 7),
-        // what earlier lines forbid comes last
-        (b"gain a 1\nquantum 4", 2, 9),
-        (b"quantum 1\nquantum 1", 2, 9),
-        (b"gain a 1\nquantum 0", 2, 4),
-        (b"gain a 1\ndriver a 1", 2, 10),
-        (b"gain a 1\ndriver a 1000001", 2, 4),
-        (b"gain a 1\nlink a.out a.in\noffer a in f", 3, 11),
-        (b"gain a 1\nlink a.out a.in\noffer a left f", 3, 8),
-        (b"gain g 1\nsink o o.wav\nlink g.out o.in\nasync g", 4, 14),
-        (b"gain g 1\nsink o o.wav\nlink g.out o.in\nasync o", 4, 14),
-        // the first line at fault
-        (b"gain a 1\n\n#\nplay\ngain A 1", 4, 2),
-    ];
-    for (text, line, why) in bad {
-        assert_eq!(rt; fault_of(&rt, alloc, text), (line, why, 0), "{text:?}");
-    }
+    assert_eq!(rt; first_of_bad(rt.alloc()), None);
 }
 
 // 63 nodes n0 to n62, a line each.
@@ -295,27 +366,52 @@ fn named(alloc: Global, bytes: usize) -> Result<Text, Memory> {
     Ok(text)
 }
 
+// What some lines and some words behind them are counted as, and at fault for.
+fn longer(
+    alloc: Global,
+    lines: &[u8],
+    more: &[u8],
+) -> Result<((usize, u32), (u32, u8, u8)), Memory> {
+    let mut text = Items::from_slice(alloc, lines)?;
+    text.extend(more)?;
+    Ok((
+        counts(alloc, text.as_slice()),
+        fault_of(alloc, text.as_slice()),
+    ))
+}
+
 #[test]
-fn limits_come_last(rt: HostRuntime) -> Result<(), Fail> {
-    let alloc = rt.alloc();
-    let mut nodes = full(alloc)?;
-    assert_eq!(rt; counts(&rt, alloc, nodes.as_slice()), (63, 63));
-    nodes.extend(b"split n0")?;
-    assert_eq!(rt; fault_of(&rt, alloc, nodes.as_slice()), (64, 6, 0));
-    nodes.extend(b"x")?;
-    assert_eq!(rt; fault_of(&rt, alloc, nodes.as_slice()), (64, 12, 5));
-    let mut epochs = long(alloc)?;
-    assert_eq!(rt; counts(&rt, alloc, epochs.as_slice()), (1024, 1024));
-    epochs.extend(b"cycles 0")?;
-    assert_eq!(rt; fault_of(&rt, alloc, epochs.as_slice()), (1025, 4, 0));
-    epochs.extend(b"\ndrain")?;
-    assert_eq!(rt; fault_of(&rt, alloc, epochs.as_slice()), (1025, 4, 0));
-    let mut epochs = long(alloc)?;
-    epochs.extend(b"drain")?;
-    assert_eq!(rt; fault_of(&rt, alloc, epochs.as_slice()), (1025, 12, 6));
-    let fits = named(alloc, 255)?;
-    assert_eq!(rt; counts(&rt, alloc, fits.as_slice()), (1, 1));
-    let long = named(alloc, 256)?;
-    assert_eq!(rt; fault_of(&rt, alloc, long.as_slice()), (1, 5, 0));
+fn a_node_too_many_comes_last(rt: HostRuntime) -> Result<(), Fail> {
+    let nodes = full(rt.alloc())?;
+    for (more, counted, fault) in [
+        (b"".as_slice(), (63, 63), (0, 0, 0)),
+        (b"split n0".as_slice(), (0, 0), (64, 6, 0)),
+        (b"split n0x".as_slice(), (0, 0), (64, 12, 5)),
+    ] {
+        assert!(rt; longer(rt.alloc(), nodes.as_slice(), more)? == (counted, fault));
+    }
+    Ok(())
+}
+
+#[test]
+fn an_epoch_too_many_comes_last(rt: HostRuntime) -> Result<(), Fail> {
+    let epochs = long(rt.alloc())?;
+    for (more, counted, fault) in [
+        (b"".as_slice(), (1024, 1024), (0, 0, 0)),
+        (b"cycles 0".as_slice(), (0, 0), (1025, 4, 0)),
+        (b"cycles 0\ndrain".as_slice(), (0, 0), (1025, 4, 0)),
+        (b"drain".as_slice(), (0, 0), (1025, 12, 6)),
+    ] {
+        assert!(rt; longer(rt.alloc(), epochs.as_slice(), more)? == (counted, fault));
+    }
+    Ok(())
+}
+
+#[test]
+fn a_file_word_has_at_most_255_bytes(rt: HostRuntime) -> Result<(), Fail> {
+    for (bytes, counted, fault) in [(255, (1, 1), (0, 0, 0)), (256, (0, 0), (1, 5, 0))] {
+        let text = named(rt.alloc(), bytes)?;
+        assert!(rt; longer(rt.alloc(), text.as_slice(), &[])? == (counted, fault));
+    }
     Ok(())
 }

@@ -5,7 +5,6 @@ ghost use Rattle.cycle_trace.specs.TraceReading.{AreNames};
 use cycle_trace::{TraceFault, read_events, run_text};
 use pw_base::{Event, Items, Kind, LineOutcome, LinkLine, Memory, Plan, PlanNode, PortId, Text};
 use std::alloc::Global;
-use std::process::Abort;
 use std::test::Fail;
 use wav_files::{Kept, Outcome, Peak, Wav};
 
@@ -131,15 +130,21 @@ fn line_at_fault(alloc: Global, names: &Items<Text>, bytes: &[u8]) -> Option<u64
     }
 }
 
+// Whether the event lines of a text are just these events.
+fn tells(alloc: Global, names: &Items<Text>, text: &[u8], wanted: &[Event]) -> bool
+    requires { AreNames names.now }
+{
+    match read_events(alloc, names, text) {
+        Ok(events) => events.as_slice() == wanted,
+        Err(_fault) => false,
+    }
+}
+
 #[test]
 fn event_lines_are_read(rt: HostRuntime) -> Result<(), Fail> {
-    let alloc = rt.alloc();
-    let names = three_names(alloc)?;
+    let names = three_names(rt.alloc())?;
     let text =
         b"begin 0\nstart 0 s\nfinish 0 s\nstart 0 o\nfinish 0 o\nstart 0 p\nfinish 0 p\nend 0\n".as_slice();
-    let Ok(events) = read_events(alloc, &names, text) else {
-        panic!(rt; "each line is that of an event");
-    };
     let wanted = [
         Event::Begin { cycle: 0 },
         Event::Start { cycle: 0, node: 0 },
@@ -150,11 +155,14 @@ fn event_lines_are_read(rt: HostRuntime) -> Result<(), Fail> {
         Event::Finish { cycle: 0, node: 2 },
         Event::End { cycle: 0 },
     ];
-    assert!(rt; events.as_slice() == wanted.as_slice());
+    assert!(rt; tells(rt.alloc(), &names, text, wanted.as_slice()));
+    Ok(())
+}
+
+#[test]
+fn the_last_line_may_lack_its_line_feed(rt: HostRuntime) -> Result<(), Fail> {
+    let names = three_names(rt.alloc())?;
     let text = b"tick 0\ntick 7 s p dummy\nstart 4294967295 dummy".as_slice();
-    let Ok(events) = read_events(alloc, &names, text) else {
-        panic!(rt; "the last line may lack its line feed");
-    };
     let wanted = [
         Event::Tick { cycle: 0, late: 0 },
         Event::Tick {
@@ -166,35 +174,33 @@ fn event_lines_are_read(rt: HostRuntime) -> Result<(), Fail> {
             node: 63,
         },
     ];
-    assert!(rt; events.as_slice() == wanted.as_slice());
+    assert!(rt; tells(rt.alloc(), &names, text, wanted.as_slice()));
     Ok(())
 }
 
 #[test]
 fn a_line_that_is_no_event(rt: HostRuntime) -> Result<(), Fail> {
-    let alloc = rt.alloc();
-    let names = three_names(alloc)?;
-    let firsts = [
-        b"\n".as_slice(),
-        b"begin 0 \n".as_slice(),
-        b"begin  0\n".as_slice(),
-        b"begin 00\n".as_slice(),
-        b"begin +1\n".as_slice(),
-        b"begin 4294967296\n".as_slice(),
-        b"begin 0\r\n".as_slice(),
-        b"Begin 0\n".as_slice(),
-        b"begin\n".as_slice(),
-        b"start 0\n".as_slice(),
-        b"start 0 x\n".as_slice(),
-        b"start 0 s o\n".as_slice(),
-        b"tick 0 o s\n".as_slice(),
-        b"tick 0 s s\n".as_slice(),
-    ];
-    for text in firsts.as_slice() {
-        assert!(rt; line_at_fault(alloc, &names, text) == Some(1));
+    let names = three_names(rt.alloc())?;
+    for (text, line) in [
+        (b"\n".as_slice(), Some(1)),
+        (b"begin 0 \n".as_slice(), Some(1)),
+        (b"begin  0\n".as_slice(), Some(1)),
+        (b"begin 00\n".as_slice(), Some(1)),
+        (b"begin +1\n".as_slice(), Some(1)),
+        (b"begin 4294967296\n".as_slice(), Some(1)),
+        (b"begin 0\r\n".as_slice(), Some(1)),
+        (b"Begin 0\n".as_slice(), Some(1)),
+        (b"begin\n".as_slice(), Some(1)),
+        (b"start 0\n".as_slice(), Some(1)),
+        (b"start 0 x\n".as_slice(), Some(1)),
+        (b"start 0 s o\n".as_slice(), Some(1)),
+        (b"tick 0 o s\n".as_slice(), Some(1)),
+        (b"tick 0 s s\n".as_slice(), Some(1)),
+        (b"begin 0\n\nend 0\n".as_slice(), Some(2)),
+        (b"begin 0\nend 0\n\n".as_slice(), Some(3)),
+        (b"".as_slice(), None),
+    ] {
+        assert!(rt; line_at_fault(rt.alloc(), &names, text) == line);
     }
-    assert!(rt; line_at_fault(alloc, &names, b"begin 0\n\nend 0\n".as_slice()) == Some(2));
-    assert!(rt; line_at_fault(alloc, &names, b"begin 0\nend 0\n\n".as_slice()) == Some(3));
-    assert!(rt; line_at_fault(alloc, &names, b"".as_slice()) == None);
     Ok(())
 }

@@ -1,7 +1,8 @@
 //! What is read, written and dumped of values of each type, and each fault at its place.
 
 use pod_codec::{ChoiceKind, Pod, PodFault, WriteFault, dump_text, read_pod, write_pod};
-use pw_base::Items;
+use pw_base::{Items, Memory};
+use std::alloc::Global;
 use std::process::Abort;
 use std::test::Fail;
 
@@ -29,10 +30,59 @@ const RANGE: [u8; 40] = [
     1, 0, 0, 0, 0, 0, 0, 0, 255, 255, 255, 255, 255, 255, 255, 255,
 ];
 
+// Whether a value has these lines.
+fn has_lines(alloc: Global, pod: &Pod, lines: &[u8]) -> bool {
+    match dump_text(alloc, pod) {
+        Ok(text) => text.as_slice() == lines,
+        Err(_memory) => false,
+    }
+}
+
+// Whether the copy of a value is written as these bytes.
+fn is_written(alloc: Global, pod: &Pod, bytes: &[u8]) -> bool {
+    let Ok(copied) = pod.copy(alloc) else {
+        return false;
+    };
+    let mut written = Items::new(alloc);
+    match write_pod(alloc, &copied, &mut written) {
+        Ok(()) => written.as_slice() == bytes,
+        Err(_fault) => false,
+    }
+}
+
+// The value that all of some bytes spell.
+fn whole(alloc: Global, bytes: &[u8]) -> Option<Pod> {
+    match read_pod(alloc, bytes) {
+        Ok((pod, length)) => {
+            if length == bytes.len() {
+                Some(pod)
+            } else {
+                None
+            }
+        }
+        Err(_fault) => None,
+    }
+}
+
+// Bytes, as what they are written back, and their lines.
+type Row<'a> = (&'a [u8], &'a [u8], &'a [u8]);
+
+// Whether bytes are read, dumped and written back so.
+fn goes_round(alloc: Global, row: Row<'_>) -> bool {
+    let (bytes, canonical, lines) = row;
+    match whole(alloc, bytes) {
+        Some(pod) => has_lines(alloc, &pod, lines) && is_written(alloc, &pod, canonical),
+        None => false,
+    }
+}
+
 #[test]
-fn bytes_are_read_dumped_and_written_back(rt: HostRuntime) -> Result<(), Fail> {
-    let alloc = rt.alloc();
-    for (bytes, canonical, text) in [
+fn bytes_are_read_dumped_and_written_back(rt: HostRuntime) {
+    let mut padded = SEQUENCE;
+    padded[12] = 9;
+    let sequence =
+        b"sequence 0 1\n  control 2 1\n    object 262146 2 1\n      prop 16777217 0\n        int 128\n".as_slice();
+    for row in [
         (INT.as_slice(), INT.as_slice(), b"int 5\n".as_slice()),
         (PADDED.as_slice(), INT.as_slice(), b"int 5\n".as_slice()),
         (
@@ -50,69 +100,103 @@ fn bytes_are_read_dumped_and_written_back(rt: HostRuntime) -> Result<(), Fail> {
             RANGE.as_slice(),
             b"choice range 0 5 2\n  long 1\n  long -1\n".as_slice(),
         ),
+        (SEQUENCE.as_slice(), SEQUENCE.as_slice(), sequence),
+        (padded.as_slice(), SEQUENCE.as_slice(), sequence),
+        (
+            ROWS.as_slice(),
+            ROWS.as_slice(),
+            b"struct 3\n  bytes \"00ff\"\n  string \"\\x22\\x00\\x5c\"\n  bitmap \"a5\"\n".as_slice(),
+        ),
+        (
+            ARRAY.as_slice(),
+            ARRAY.as_slice(),
+            b"array 4 2\n  int 7\n  int -1\n".as_slice(),
+        ),
     ] {
-        let (pod, length) = read_pod(alloc, bytes)?;
-        assert_eq!(rt; length, bytes.len());
-        assert!(rt; dump_text(alloc, &pod)?.as_slice() == text);
-        let mut written = Items::new(alloc);
-        write_pod(alloc, &pod.copy(alloc)?, &mut written)?;
-        assert!(rt; written.as_slice() == canonical);
+        assert!(rt; goes_round(rt.alloc(), row));
     }
-    Ok(())
+}
+
+/// 17 structs, each in the one before.
+const NESTED: [u8; 136] = [
+    128, 0, 0, 0, 14, 0, 0, 0, //
+    120, 0, 0, 0, 14, 0, 0, 0, //
+    112, 0, 0, 0, 14, 0, 0, 0, //
+    104, 0, 0, 0, 14, 0, 0, 0, //
+    96, 0, 0, 0, 14, 0, 0, 0, //
+    88, 0, 0, 0, 14, 0, 0, 0, //
+    80, 0, 0, 0, 14, 0, 0, 0, //
+    72, 0, 0, 0, 14, 0, 0, 0, //
+    64, 0, 0, 0, 14, 0, 0, 0, //
+    56, 0, 0, 0, 14, 0, 0, 0, //
+    48, 0, 0, 0, 14, 0, 0, 0, //
+    40, 0, 0, 0, 14, 0, 0, 0, //
+    32, 0, 0, 0, 14, 0, 0, 0, //
+    24, 0, 0, 0, 14, 0, 0, 0, //
+    16, 0, 0, 0, 14, 0, 0, 0, //
+    8, 0, 0, 0, 14, 0, 0, 0, //
+    0, 0, 0, 0, 14, 0, 0, 0, //
+];
+
+/// An array of Ints of four bytes that has seven bytes of them.
+const UNEVEN: [u8; 24] = [
+    15, 0, 0, 0, 13, 0, 0, 0, 4, 0, 0, 0, 4, 0, 0, 0, 0, 0, 0, 0, 0, 0, 0, 0,
+];
+
+/// A choice of kind Enum whose Ints have no byte.
+const NO_BYTES: [u8; 24] = [
+    16, 0, 0, 0, 19, 0, 0, 0, 3, 0, 0, 0, 0, 0, 0, 0, 0, 0, 0, 0, 4, 0, 0, 0,
+];
+
+/// A sequence that ends in the head of a control.
+const NO_VALUE: [u8; 24] = [
+    12, 0, 0, 0, 16, 0, 0, 0, 0, 0, 0, 0, 0, 0, 0, 0, 0, 0, 0, 0, 0, 0, 0, 0,
+];
+
+// Whether reading tells this fault.
+fn is_fault(alloc: Global, bytes: &[u8], fault: PodFault) -> bool {
+    match read_pod(alloc, bytes) {
+        Ok(_read) => false,
+        Err(found) => found == fault && found.number() == fault.number(),
+    }
 }
 
 #[test]
-fn the_first_fault_is_told(rt: HostRuntime) -> Result<(), Fail> {
-    let alloc = rt.alloc();
-    let mut nested = Items::new(alloc);
-    for level in 0..17u32 {
-        nested.extend((128 - 8 * level).to_le_bytes().as_slice())?;
-        nested.extend(14u32.to_le_bytes().as_slice())?;
-    }
-    let large = [1, 0, 0x10, 0, 8, 0, 0, 0];
-    let mut uneven = [0; 24];
-    uneven[0] = 15;
-    uneven[4] = 13;
-    uneven[8] = 4;
-    uneven[12] = 4;
-    let mut choice = [0; 24];
-    choice[0] = 16;
-    choice[4] = 19;
-    choice[8] = 3;
-    choice[20] = 4;
-    let pointer = [0, 0, 0, 0, 17, 0, 0, 0];
-    let sequence = [0, 0, 0, 0, 16, 0, 0, 0];
-    let mut control = [0; 24];
-    control[0] = 12;
-    control[4] = 16;
-    let empty_text = [0, 0, 0, 0, 8, 0, 0, 0];
-    let open_text = [2, 0, 0, 0, 8, 0, 0, 0, 0, 97, 0, 0, 0, 0, 0, 0];
+fn the_first_fault_is_told(rt: HostRuntime) {
     for (bytes, fault) in [
         (&INT[..15], PodFault::Short { offset: 0 }),
         (&RATE[..39], PodFault::Short { offset: 0 }),
-        (large.as_slice(), PodFault::Large { size: 1048577 }),
-        (uneven.as_slice(), PodFault::Uneven { offset: 0 }),
-        (choice.as_slice(), PodFault::Size { offset: 16 }),
-        (nested.as_slice(), PodFault::Deep { offset: 128 }),
-        (empty_text.as_slice(), PodFault::Nul { offset: 0 }),
-        (open_text.as_slice(), PodFault::Nul { offset: 0 }),
         (
-            pointer.as_slice(),
+            [1, 0, 0x10, 0, 8, 0, 0, 0].as_slice(),
+            PodFault::Large { size: 1048577 },
+        ),
+        (UNEVEN.as_slice(), PodFault::Uneven { offset: 0 }),
+        (NO_BYTES.as_slice(), PodFault::Size { offset: 16 }),
+        (NESTED.as_slice(), PodFault::Deep { offset: 128 }),
+        // A text without its last zero, and one with a zero inside.
+        (
+            [0, 0, 0, 0, 8, 0, 0, 0].as_slice(),
+            PodFault::Nul { offset: 0 },
+        ),
+        (
+            [2, 0, 0, 0, 8, 0, 0, 0, 0, 97, 0, 0, 0, 0, 0, 0].as_slice(),
+            PodFault::Nul { offset: 0 },
+        ),
+        (
+            [0, 0, 0, 0, 17, 0, 0, 0].as_slice(),
             PodFault::TypeUnknown {
                 offset: 4,
                 number: 17,
             },
         ),
-        (sequence.as_slice(), PodFault::Size { offset: 0 }),
-        (control.as_slice(), PodFault::Short { offset: 16 }),
+        (
+            [0, 0, 0, 0, 16, 0, 0, 0].as_slice(),
+            PodFault::Size { offset: 0 },
+        ),
+        (NO_VALUE.as_slice(), PodFault::Short { offset: 16 }),
     ] {
-        let Err(found) = read_pod(alloc, bytes) else {
-            panic!(rt; "bytes at fault were read");
-        };
-        assert_eq!(rt; found.number(), fault.number());
-        assert!(rt; found == fault);
+        assert!(rt; is_fault(rt.alloc(), bytes, fault));
     }
-    Ok(())
 }
 
 /// From frame 2 on, a gain of 128/256.
@@ -122,58 +206,51 @@ const SEQUENCE: [u8; 64] = [
     0, 0, 0, 0, 0, 0,
 ];
 
-#[test]
-fn a_sequence_is_read_dumped_and_written_back(rt: HostRuntime) -> Result<(), Fail> {
-    let alloc = rt.alloc();
-    let mut padded = SEQUENCE;
-    padded[12] = 9;
-    for bytes in [SEQUENCE, padded] {
-        let (pod, length) = read_pod(alloc, bytes.as_slice())?;
-        assert_eq!(rt; length, 64);
-        assert!(rt;
-            dump_text(alloc, &pod)?.as_slice()
-                == b"sequence 0 1\n  control 2 1\n    object 262146 2 1\n      prop 16777217 0\n        int 128\n".as_slice()
-        );
-        let mut written = Items::new(alloc);
-        write_pod(alloc, &pod, &mut written)?;
-        assert!(rt; written.as_slice() == SEQUENCE.as_slice());
-    }
-    Ok(())
-}
-
-#[test]
-fn a_choice_without_values_is_written(rt: HostRuntime) -> Result<(), Fail> {
-    let alloc = rt.alloc();
-    let mut bytes = Items::new(alloc);
-    let none = Pod::Choice {
+// A choice of kind None without values.
+fn no_values(alloc: Global) -> Pod {
+    Pod::Choice {
         kind: ChoiceKind::None,
         flags: 0,
         child: 1,
         values: Items::new(alloc),
-    };
-    write_pod(alloc, &none, &mut bytes)?;
-    assert_eq!(rt; bytes.len(), 24);
+    }
+}
+
+// An array of Ints with a Bool in it.
+fn mixed(alloc: Global) -> Result<Pod, Memory> {
     let mut values = Items::new(alloc);
     values.push(Pod::Bool(true))?;
-    let other = Pod::Array { child: 4, values };
-    let Err(fault) = write_pod(alloc, &other, &mut bytes) else {
-        panic!(rt; "an array with a value of another type was written");
+    Ok(Pod::Array { child: 4, values })
+}
+
+// Whether a value is written in 24 bytes, and another one refused that leaves them as they are.
+fn is_alone_written(alloc: Global, one: &Pod, other: &Pod) -> bool {
+    let mut bytes = Items::new(alloc);
+    let Ok(()) = write_pod(alloc, one, &mut bytes) else {
+        return false;
     };
-    assert_eq!(rt; fault.number(), WriteFault::Unwritable.number());
-    assert_eq!(rt; bytes.len(), 24);
+    if bytes.len() != 24 {
+        return false;
+    }
+    match write_pod(alloc, other, &mut bytes) {
+        Ok(()) => false,
+        Err(fault) => fault.number() == WriteFault::Unwritable.number() && bytes.len() == 24,
+    }
+}
+
+#[test]
+fn a_choice_without_values_is_written(rt: HostRuntime) -> Result<(), Fail> {
+    let mixed = mixed(rt.alloc())?;
+    let none = no_values(rt.alloc());
+    assert!(rt; is_alone_written(rt.alloc(), &none, &mixed));
     Ok(())
 }
 
 #[test]
-fn each_proper_prefix_is_short(rt: HostRuntime) -> Result<(), Fail> {
-    let alloc = rt.alloc();
+fn each_proper_prefix_is_short(rt: HostRuntime) {
     for end in 0..RATE.len() {
-        let Err(found) = read_pod(alloc, &RATE[..end]) else {
-            panic!(rt; "a prefix was read");
-        };
-        assert!(rt; found == PodFault::Short { offset: 0 });
+        assert!(rt; is_fault(rt.alloc(), &RATE[..end], PodFault::Short { offset: 0 }));
     }
-    Ok(())
 }
 
 /// Two bytes, as Bytes, with a String and a Bitmap behind them in a Struct.
@@ -188,60 +265,43 @@ const ARRAY: [u8; 24] = [
     0x10, 0, 0, 0, 0x0d, 0, 0, 0, 4, 0, 0, 0, 4, 0, 0, 0, 7, 0, 0, 0, 255, 255, 255, 255,
 ];
 
-#[test]
-fn rows_of_bytes_have_their_lines(rt: HostRuntime) -> Result<(), Fail> {
-    let alloc = rt.alloc();
-    for (bytes, text) in [
-        (
-            ROWS.as_slice(),
-            b"struct 3\n  bytes \"00ff\"\n  string \"\\x22\\x00\\x5c\"\n  bitmap \"a5\"\n".as_slice(),
-        ),
-        (
-            ARRAY.as_slice(),
-            b"array 4 2\n  int 7\n  int -1\n".as_slice(),
-        ),
-    ] {
-        let (pod, length) = read_pod(alloc, bytes)?;
-        assert_eq!(rt; length, bytes.len());
-        assert!(rt; dump_text(alloc, &pod)?.as_slice() == text);
-        let mut written = Items::new(alloc);
-        write_pod(alloc, &pod, &mut written)?;
-        assert!(rt; written.as_slice() == bytes);
+// How many of the bytes are read, 0 where they are at fault.
+fn length_of(alloc: Global, bytes: &[u8]) -> usize {
+    match read_pod(alloc, bytes) {
+        Ok((_pod, length)) => length,
+        Err(_fault) => 0,
     }
-    Ok(())
 }
 
 #[test]
-fn what_stands_behind_is_not_read(rt: HostRuntime) -> Result<(), Fail> {
-    let alloc = rt.alloc();
-    let mut bytes = Items::from_slice(alloc, INT.as_slice())?;
-    bytes.push(1)?;
-    let (_pod, length) = read_pod(alloc, bytes.as_slice())?;
-    assert_eq!(rt; length, 16);
-    Ok(())
+fn what_stands_behind_is_not_read(rt: HostRuntime) {
+    let bytes = [4u8, 0, 0, 0, 4, 0, 0, 0, 5, 0, 0, 0, 0, 0, 0, 0, 1];
+    assert_eq!(rt; length_of(rt.alloc(), bytes.as_slice()), 16);
 }
 
-#[test]
-fn a_choice_of_kind_none_may_have_more_values(rt: HostRuntime) -> Result<(), Fail> {
-    let alloc = rt.alloc();
+// A choice of kind None of 36 Ints of four bytes that are 1.
+fn many_values(alloc: Global) -> Result<Items<u8>, Memory> {
     let mut bytes = Items::new(alloc);
     for number in [160u32, 19, 0, 0, 4, 3] {
         bytes.extend(number.to_le_bytes().as_slice())?;
     }
     bytes.extend_filled(144, 1)?;
-    let (pod, length) = read_pod(alloc, bytes.as_slice())?;
-    assert_eq!(rt; length, 168);
-    let Pod::Choice { values, .. } = pod else {
-        panic!(rt; "no choice was read");
-    };
-    assert_eq!(rt; values.len(), 36);
+    Ok(bytes)
+}
+
+#[test]
+fn a_choice_of_kind_none_may_have_more_values(rt: HostRuntime) -> Result<(), Fail> {
+    let bytes = many_values(rt.alloc())?;
+    match whole(rt.alloc(), bytes.as_slice()) {
+        Some(Pod::Choice { values, .. }) => assert_eq!(rt; (bytes.len(), values.len()), (168, 36)),
+        _ => panic!(rt; "no choice was read"),
+    }
     Ok(())
 }
 
 #[test]
-fn values_of_one_size_have_their_lines(rt: HostRuntime) -> Result<(), Fail> {
-    let alloc = rt.alloc();
-    for (pod, text) in [
+fn values_of_one_size_have_their_lines(rt: HostRuntime) {
+    let table = [
         (Pod::None, b"none\n".as_slice()),
         (Pod::Bool(false), b"bool false\n".as_slice()),
         (Pod::Id(3), b"id 3\n".as_slice()),
@@ -264,8 +324,8 @@ fn values_of_one_size_have_their_lines(rt: HostRuntime) -> Result<(), Fail> {
             b"fraction 30/1\n".as_slice(),
         ),
         (Pod::Fd(-1), b"fd -1\n".as_slice()),
-    ] {
-        assert!(rt; dump_text(alloc, &pod)?.as_slice() == text);
+    ];
+    for (pod, lines) in table.as_slice() {
+        assert!(rt; has_lines(rt.alloc(), pod, lines));
     }
-    Ok(())
 }
