@@ -38,4 +38,5 @@ taken s n i x y stream whole low node sink is value = let inside : i < length s.
   others = λ m other done j d within there. subst (IsNodeAtEnd s.score m)
       (sym (get_or-set_other s.states.items i j y d (λ same. other (sym there ∙ ap (λ k. get_or s.nodes k 0) same ∙ node)))) (done j d within there);
   same = record { score = refl; nodes = refl };
+  states_alone = refl;
 }

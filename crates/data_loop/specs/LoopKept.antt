@@ -40,12 +40,13 @@ HasPeak s n peak = (x : NodeState) × IsStateOf s n x
     × ((h : Heard) → StandsFor x h → peak ≡ peak_heard (node_kind x) h)
 
 -- the stream was moved out of the sink's state: its whole stream, where all epochs are done. The
--- others' states are as they were
+-- others' states are as they were, and all else of the loop is
 pub record HasTaken (s : LoopState) (n : ℕ) (stream : List ℤ) (t : LoopState) : Type 0 where
   pub keeps : Keeps s n stream
   pub end : IsDoneWith s n → stream ≡ end_stream (plan_of s) s.score.waves.value n
   pub others : (m : ℕ) → m ≢ n → IsDoneWith s m → IsDoneWith t m
   pub same : IsSameLoop s t
+  pub states_alone : t ≡ record s { states = t.states }
 
 abbrev pub HasPeakAtEnd : LoopState → ℕ → ℕ → Type 0
 HasPeakAtEnd s n peak = IsDone s → peak ≡ peak_of (end_stream (plan_of s) s.score.waves.value n)
