@@ -7,6 +7,21 @@ use Rattle.std.proofs.lemmas.Nat.{div-add-mod'}
 use Rattle.control_sequence.proofs.AutomationLemmas.{gain_stays, still_behind, stretch_written, whole_samples, whole_stream}
 use Rattle.control_sequence.proofs.applying.apply_from.Goals as goal
 
+pub slice_bounds-gain-end : goal.slice_bounds-gain-end
+slice_bounds-gain-end c =
+    let s = c.args.s.now in
+    let within : c.loop-done.done + c.stretch-n.result ≤ length s / c.args.channels =
+    omega (arith, c.stretch-n.ensures.within, c.loop-done-test.true) in
+    whole_samples (length s) c.args.channels (c.loop-done.done + c.stretch-n.result) c.requires.whole within
+
+pub slice_bounds-gain-end-in-loop-done : goal.slice_bounds-gain-end-in-loop-done
+slice_bounds-gain-end-in-loop-done c =
+    let s = c.args.s.now in
+    let within : c.loop-done.done + c.stretch-n.result ≤ length s / c.args.channels =
+    omega (arith, c.stretch-n.ensures.within, c.loop-done-test.true) in
+    let end = whole_samples (length s) c.args.channels (c.loop-done.done + c.stretch-n.result) c.requires.whole within in
+    omega (arith, end, c.loop-done.auto.to, c.requires.lengths)
+
 pub loop-done-preserved : goal.loop-done-preserved
 loop-done-preserved c =
     let points = c.args.points.now in
