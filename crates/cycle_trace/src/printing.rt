@@ -1,6 +1,7 @@
 //! The whole text of a run.
-ghost use Rattle.std.specs.Prelude.{◌≡◌, map, IfOk, option_copied};
-ghost use Rattle.cycle_trace.specs.Printable.{IsPrintable};
+ghost use Rattle.std.specs.Prelude.{◌≡◌, ◌++◌, [], map, flat_map, All, IfOk, OnOk, option_copied, unwrap_or};
+ghost use Rattle.cycle_trace.specs.EventLines.{event_line};
+ghost use Rattle.cycle_trace.specs.Printable.{IsPrintable, NamesNodes};
 ghost use Rattle.cycle_trace.specs.RunText.{run_text_of};
 
 use crate::event_lines::append_event_lines;
@@ -19,6 +20,26 @@ fn names_of(alloc: Global, nodes: &[PlanNode]) -> Result<Items<Text>, Memory>
         names.push(node.name.copy(alloc)?)?;
     }
     Ok(names)
+}
+
+/// Appends a line for each event of a history, where one is handed in.
+fn append_history(
+    alloc: Global,
+    nodes: &[PlanNode],
+    history: Option<&Items<Event>>,
+    text: &mut Text,
+) -> Result<(), Memory>
+    requires { All (NamesNodes nodes.now) (unwrap_or (option_copied history) []) }
+    ensures { OnOk result (text.new ≡ text.old ++ flat_map
+        (event_line (map (λ n. n.name) nodes.now)) (unwrap_or (option_copied history.entry) [])) }
+{
+    match history {
+        Some(events) => {
+            let names = names_of(alloc, nodes)?;
+            append_event_lines(names.as_slice(), events.as_slice(), text)
+        }
+        None => Ok(()),
+    }
 }
 
 /// The text of a run: a line for each `link` and `unlink`, in the order of the script; a line for
@@ -41,10 +62,7 @@ pub fn run_text(
     let nodes = plan.nodes.as_slice();
     let mut text = Items::new(alloc);
     append_link_lines(nodes, plan.lines.as_slice(), &mut text)?;
-    if let Some(events) = history {
-        let names = names_of(alloc, nodes)?;
-        append_event_lines(names.as_slice(), events.as_slice(), &mut text)?;
-    }
+    append_history(alloc, nodes, history, &mut text)?;
     append_result_lines(nodes, outcome, &mut text)?;
     Ok(text)
 }

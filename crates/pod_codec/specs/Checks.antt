@@ -2,6 +2,7 @@
 -- order of the checks is this project's.
 use Rattle.std.specs.Prelude.{◌≡◌, ℕ, ◌+◌, ◌-◌, ◌%◌, ◌==◌, ◌&&◌, not, nat_lt, nat_le, Bool, true, List, [], ◌∷◌, length}
 use Rattle.std.specs.Prelude.{slice_index, Option, Some, None, Result, Ok, Err, if◌then◌else◌}
+use Rattle.pw_base.specs.Limits.{pod_bytes_limit}
 use Rattle.pod_codec.specs.declared.fault.PodFault.{PodFault}
 use Rattle.pod_codec.specs.declared.fault.PodFault.TheVariants.{Short, TypeUnknown, Size, Uneven, Large, Nul, Memory}
 use Rattle.pod_codec.specs.PodType.{is_known_type, child_size}
@@ -73,4 +74,4 @@ body_checks bytes p size t =
 -- of all bytes: a header is there, and its size is not too great
 abbrev pub outer_checks : List ℕ → List Check
 outer_checks bytes = (nat_lt (length bytes) 8, Short 0)
-    ∷ (nat_lt 1048576 (u32_at bytes 0), Large (u32_at bytes 0)) ∷ []
+    ∷ (nat_lt pod_bytes_limit (u32_at bytes 0), Large (u32_at bytes 0)) ∷ []

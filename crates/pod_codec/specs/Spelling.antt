@@ -1,6 +1,7 @@
 -- Spelling of PODs: which bytes spell which value, with free padding and any nonzero Bool. SPA POD,
 -- "Types"; spa/pod/pod.h. Places count from the first byte; a body goes from b to e.
 use Rattle.std.specs.Prelude.{◌≡◌, ℕ, zero, suc, ◌+◌, ◌-◌, ◌≤◌, ◌<◌, ◌⊎◌, List, [], length, slice_index, slice_range}
+use Rattle.pw_base.specs.Limits.{pod_bytes_limit}
 use Rattle.pod_codec.specs.declared.pod.Pod.{Pod}
 use Rattle.pod_codec.specs.declared.pod.Prop.{Prop}
 use Rattle.pod_codec.specs.declared.pod.Control.{Control}
@@ -59,4 +60,4 @@ SpellsAt (suc left) bytes p e pod q =
 -- bytes
 pub record FrontSpells (bytes : List ℕ) (pod : Pod) (size : ℕ) : Type 0 where
   pub front : SpellsAt 16 bytes 0 (length bytes) pod size
-  pub limit : u32_at bytes 0 ≤ 1048576
+  pub limit : u32_at bytes 0 ≤ pod_bytes_limit

@@ -1,5 +1,6 @@
 -- Which values can be written: SPA POD, "Types"; the greatest depth and length are this project's.
 use Rattle.std.specs.Prelude.{◌≡◌, ℕ, suc, ◌≤◌, List, ◌++◌, length, Result, Ok, Err, IsTrue}
+use Rattle.pw_base.specs.Limits.{pod_bytes_limit}
 use Rattle.pod_codec.specs.declared.pod.Pod.{Pod}
 use Rattle.pod_codec.specs.declared.fault.WriteFault.{WriteFault}
 use Rattle.pod_codec.specs.declared.fault.WriteFault.TheVariants.{Unwritable, Memory}
@@ -10,7 +11,7 @@ use Rattle.pod_codec.specs.PodValue.{form_of}
 pub record Fits (left : ℕ) (f : Form) : Type 0 where
   pub sound : IsTrue f.sound
   pub depth : f.depth ≤ left
-  pub size : length f.body ≤ 1048576
+  pub size : length f.body ≤ pod_bytes_limit
 
 -- WRITABLE: at most 16 deep, a body of at most 1,048,576 bytes, and in arrays and choices what they
 -- may hold

@@ -2,6 +2,7 @@
 ghost use Rattle.std.specs.Prelude.{◌≡◌, ℕ, List, ◌+◌, ◌-◌, ◌≤◌, ◌<◌, ◌^◌, ◌==◌, ◌++◌, length, take, drop, replicate};
 ghost use Rattle.std.specs.Prelude.{map, IsTrue, OnOk};
 ghost use Rattle.std.specs.List.{flat_map, list_all};
+ghost use Rattle.pw_base.specs.Limits.{pod_bytes_limit};
 ghost use Rattle.pod_codec.specs.PodType.{child_size};
 ghost use Rattle.pod_codec.specs.Framing.{Form, framed, pad8, u32_bytes, child_bytes, are_children};
 ghost use Rattle.pod_codec.specs.PodValue.{form_of};
@@ -12,13 +13,13 @@ use crate::fault::WriteFault;
 use crate::pod::Pod;
 use crate::pod_type::size_of_child;
 use crate::scalars::{put_element, put_pair};
-use pw_base::{Items, Memory};
+use pw_base::{Items, Memory, POD_BYTES_LIMIT};
 
 /// How many levels of values a POD may have.
 pub const MAX_DEPTH: u32 = 16;
 
 /// The longest outermost body, in bytes.
-pub const MAX_BODY: usize = 1048576;
+pub const MAX_BODY: usize = POD_BYTES_LIMIT as usize;
 
 /// Writes a number over four bytes of a slice.
 #[tactic(auto, unfolding(crate::specs::Framing::u32_bytes))]
@@ -51,7 +52,7 @@ pub fn end_frame(at: usize, to: &mut Items<u8>) -> Result<(), WriteFault>
     requires { at + 8 ≤ length to.old }
     ensures ok { (front : List ℕ) (f : Form) → IsOpen front f at to.old
         → OnOk result (to.new ≡ front ++ framed f) }
-    ensures told { Tells result (length to.old - (at + 8) ≤ 1048576) }
+    ensures told { Tells result (length to.old - (at + 8) ≤ pod_bytes_limit) }
 {
     let size = to.len() - (at + 8);
     if size > MAX_BODY {

@@ -7,6 +7,7 @@ use Rattle.pod_codec.specs.declared.pod.Pod.TheVariants as pod
 use Rattle.pw_base.specs.declared.kind.Kind.{Kind}
 use Rattle.pw_base.specs.declared.kind.Kind.TheVariants.{Source, Square, Map, Split}
 use Rattle.pw_base.specs.KindRanges.{IsRate, IsChannels}
+use Rattle.pw_base.specs.Limits.{rate_limit}
 use Rattle.format_filter.specs.declared.choice.Choice.{Choice}
 use Rattle.format_filter.specs.declared.choice.Choice.TheVariants.{Only, Range}
 use Rattle.format_filter.specs.declared.choice.Wide.TheVariants as wide
@@ -27,7 +28,7 @@ HasFileNumbers kind rate channels = (rate ≡ 0) × (channels ≡ 0)
 abbrev pub rate_choice : Kind → ℕ → Choice
 rate_choice Source rate = Only (int_of rate)
 rate_choice (Square own channels period amp) rate = Only (int_of own)
-rate_choice kind rate = Range wide.Int (pos 48000) (pos 1) (pos 384000)
+rate_choice kind rate = Range wide.Int (pos 48000) (pos 1) (pos rate_limit)
 
 -- the channels of a port of a kind: of a source its file's
 abbrev pub channels_choice : Kind → ℕ → ℕ → Choice

@@ -1,6 +1,7 @@
 //! What each kind of node offers at its ports, before a file narrows it.
 ghost use Rattle.std.specs.Prelude.{◌≡◌, ◌^◌, ◌<◌, ◌≤◌, IfOk};
 ghost use Rattle.pw_base.specs.KindRanges.{IsInRange};
+ghost use Rattle.pw_base.specs.Limits.{rate_limit};
 ghost use Rattle.format_filter.specs.declared.choice.Choice.TheVariants as choice;
 ghost use Rattle.port_model.specs.Offers.{int_of, plain_field, rate_choice, channels_choice, kind_offer, new_node};
 
@@ -44,7 +45,7 @@ fn only(n: u32) -> Choice
 /// The rate of a kind; of a source it is its file's.
 fn rate_of(kind: &Kind, rate: u32) -> Choice
     requires kind { IsInRange kind.now }
-    requires rate { rate ≤ 384000 }
+    requires rate { rate ≤ rate_limit }
     ensures { result ≡ rate_choice kind.now rate }
 {
     match kind {
@@ -108,7 +109,7 @@ fn offer_of(
     port: u32,
 ) -> Result<Format, Memory>
     requires kind { IsInRange kind.now }
-    requires rate { rate ≤ 384000 }
+    requires rate { rate ≤ rate_limit }
     requires channels { channels ≤ 8 }
     ensures { IfOk result (λ format. format ≡ kind_offer kind.now rate channels port) }
 {
@@ -133,7 +134,7 @@ fn new_ports(
     channels: u32,
 ) -> Result<Items<PortState>, Memory>
     requires kind { IsInRange kind.now }
-    requires rate { rate ≤ 384000 }
+    requires rate { rate ≤ rate_limit }
     requires channels { channels ≤ 8 }
     ensures { IfOk result (λ ports. ports ≡ (new_node kind.now rate channels).ports) }
 {
@@ -151,7 +152,7 @@ fn new_ports(
 /// A new node, whose ports have no format and no number of buffers.
 pub fn new_node(alloc: Global, kind: &Kind, rate: u32, channels: u32) -> Result<Node, Memory>
     requires kind { IsInRange kind.now }
-    requires rate { rate ≤ 384000 }
+    requires rate { rate ≤ rate_limit }
     requires channels { channels ≤ 8 }
     ensures { IfOk result (λ node. node ≡ new_node kind.now rate channels) }
 {

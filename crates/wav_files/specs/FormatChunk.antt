@@ -3,6 +3,7 @@
 use Rattle.std.specs.Prelude.{ℕ, ◌*◌, ◌-◌, ◌%◌, ◌≤◌, ◌==◌, ◌&&◌, ◌||◌, not, Bool, nat_lt, nat_le, if◌then◌else◌, List, []}
 use Rattle.std.specs.Prelude.{◌∷◌, length, take, drop, bytes_eq, Result, Ok, Err}
 use Rattle.byteorder.specs.Endian.{little_number}
+use Rattle.pw_base.specs.Limits.{rate_limit, channels_limit}
 use Rattle.wav_files.specs.declared.form.Form.{Form}
 use Rattle.wav_files.specs.declared.fault.WavFault.{WavFault}
 use Rattle.wav_files.specs.declared.fault.WavFault.TheVariants as F
@@ -47,13 +48,13 @@ is_pcm16 chunk = ((tag chunk == 1) || (is_extensible chunk && bytes_eq (subforma
 
 -- a rate and channels in their ranges
 abbrev pub is_form : Form → Bool
-is_form form = nat_le 1 form.rate && nat_le form.rate 384000 && nat_le 1 form.channels
-    && nat_le form.channels 8
+is_form form = nat_le 1 form.rate && nat_le form.rate rate_limit && nat_le 1 form.channels
+    && nat_le form.channels channels_limit
 
 -- the same as a fact
 abbrev pub IsForm : Form → Type 0
-IsForm form = (1 ≤ form.rate) × (form.rate ≤ 384000) × (1 ≤ form.channels)
-    × (form.channels ≤ 8)
+IsForm form = (1 ≤ form.rate) × (form.rate ≤ rate_limit) × (1 ≤ form.channels)
+    × (form.channels ≤ channels_limit)
 
 -- what a format chunk gives: the first that is wrong with it, or its form
 unfoldable pub form_of : Chunk → Result Form WavFault

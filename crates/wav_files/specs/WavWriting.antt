@@ -2,6 +2,7 @@
 use Rattle.std.specs.Prelude.{◌≡◌, ℕ, ◌+◌, ◌*◌, ◌%◌, ◌≤◌, List, ◌++◌, length, codes, flat_map, ℤ}
 use Rattle.std.specs.Int.{w16, cast_unsigned}
 use Rattle.byteorder.specs.Endian.{little_bytes}
+use Rattle.pw_base.specs.Limits.{rate_limit, channels_limit, sink_samples_limit}
 use Rattle.wav_files.specs.declared.wav.Wav.{Wav}
 
 -- a number of 16 bits
@@ -36,7 +37,7 @@ wav_bytes wav = wav_header wav.rate wav.channels (2 * length wav.samples)
 -- a wave that can be written: its rate and channels in range, whole frames, and not too many
 -- samples
 pub record IsWave (wav : Wav) : Type 0 where
-  pub rate : (1 ≤ wav.rate) × (wav.rate ≤ 384000)
-  pub channels : (1 ≤ wav.channels) × (wav.channels ≤ 8)
+  pub rate : (1 ≤ wav.rate) × (wav.rate ≤ rate_limit)
+  pub channels : (1 ≤ wav.channels) × (wav.channels ≤ channels_limit)
   pub whole : length wav.samples % wav.channels ≡ 0
-  pub small : length wav.samples ≤ 134217728
+  pub small : length wav.samples ≤ sink_samples_limit

@@ -8,6 +8,7 @@ use crate::chunks::{body_of, is_text, is_whole, size_of};
 use crate::fault::WavFault;
 use crate::form::Form;
 use byteorder::{ByteOrder, LittleEndian};
+use pw_base::{CHANNELS_LIMIT, RATE_LIMIT};
 
 /// The tag of plain PCM.
 const PLAIN: u16 = 1;
@@ -50,7 +51,7 @@ fn named_form(chunk: &[u8]) -> Option<Form>
     let fields = body_of(chunk);
     let rate = LittleEndian::read_u32(&fields[4..]);
     let channels = u32::from(u16_at(fields, 2));
-    if 1 <= rate && rate <= 384000 && 1 <= channels && channels <= 8 {
+    if 1 <= rate && rate <= RATE_LIMIT && 1 <= channels && channels <= CHANNELS_LIMIT {
         Some(Form { rate, channels })
     } else {
         None

@@ -1,5 +1,6 @@
 //! The 44 bytes before the samples of a plain file.
 ghost use Rattle.std.specs.Prelude.{◌≡◌, ◌+◌, ◌^◌, ◌<◌, ◌≤◌};
+ghost use Rattle.pw_base.specs.Limits.{channels_limit, rate_limit};
 ghost use Rattle.wav_files.specs.WavWriting.{wav_header};
 
 /// How many bytes stand before the samples of a plain file.
@@ -8,8 +9,8 @@ pub(crate) const HEADER: usize = 44;
 /// The bytes before `size` bytes of samples: the chunk RIFF WAVE, its chunk "fmt " and the head of
 /// its chunk "data".
 pub(crate) fn header_of(rate: u32, channels: u32, size: u32) -> [u8; 44]
-    requires rate { rate ≤ 384000 }
-    requires channels { channels ≤ 8 }
+    requires rate { rate ≤ rate_limit }
+    requires channels { channels ≤ channels_limit }
     requires size { 36 + size < 2 ^ 32 }
     ensures { result ≡ wav_header rate channels size }
 {

@@ -1,5 +1,6 @@
 //! The wave of a file. RIFF WAVE, PCM of 16 bits.
 ghost use Rattle.std.specs.Prelude.{◌≡◌, ◌+◌, ◌*◌, ◌%◌, ◌≤◌, length, IfOk, IfSome, MatchResult};
+ghost use Rattle.pw_base.specs.Limits.{wav_bytes_limit};
 ghost use Rattle.wav_files.specs.Chunks.{chunk_at, chunks_of};
 ghost use Rattle.wav_files.specs.FormatChunk.{IsForm};
 ghost use Rattle.wav_files.specs.WavReading.{IsReading, data_of, form_after, parts_from, parts_of, passed, samples_in, wav_of};
@@ -148,7 +149,7 @@ fn samples_of(alloc: Global, bytes: &[u8]) -> Result<Items<i16>, Memory>
 #[tactic(auto, unfolding(crate::specs::WavReading::wav_of))]
 pub fn read_wav(alloc: Global, bytes: &[u8]) -> Result<Wav, WavFault>
     ensures cases { IsReading (wav_of bytes.now) result }
-    ensures wave { length bytes.now ≤ 268435456 → IfOk result IsWave }
+    ensures wave { length bytes.now ≤ wav_bytes_limit → IfOk result IsWave }
 {
     match parts_of(bytes) {
         Err(fault) => Err(fault),
