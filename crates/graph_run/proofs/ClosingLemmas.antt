@@ -1,5 +1,5 @@
 -- Boards closed one after the other: what stands between two of them.
-use Rattle.std.proofs.Common.{◌≡◌, ℕ, ◌+◌, List, [], ◌∷◌, ◌++◌, map, cond, refl, sym, ap, subst, ◌∙◌, append-nil}
+use Rattle.std.proofs.Common.{◌≡◌, ℕ, ◌+◌, List, [], ◌∷◌, ◌++◌, length, map, cond, refl, sym, ap, subst, ◌∙◌, append-nil, arith}
 use Rattle.std.specs.Prelude.{sum_by, count_by}
 use Rattle.std.specs.List.{AllZip, flat_map}
 use Rattle.std.proofs.lemmas.List.{map-append, append_assoc}
@@ -91,11 +91,17 @@ module _ (boards : List Board) (drivers : List Known) (b : Board) (rest : List B
   }
 
 -- no driver is left, so no board is
-pub all_closed : (boards : List Board) (drivers : List Known) (rest : List Board) (closed : List Closed) (history : List Event)
-    → Between boards drivers rest [] closed history
+pub all_closed : (boards : List Board) (drivers : List Known) (rest : List Board) (left : List Known) (closed : List Closed)
+    (history : List Event) → length left ≡ 0 → Between boards drivers rest left closed history
     → (map (λ x. x.board_shape) closed ≡ map (λ b. b.board_shape) boards) × IsLegalHistory (map (λ b. b.board_shape.shape) boards) history
-all_closed boards drivers [] closed history i = let all : boards ≡ i.done = i.boards_are ∙ append-nil i.done in (
-  i.shapes ∙ ap (map (λ (b : Board). b.board_shape)) (sym all),
-  subst (λ (l : List Board). IsLegalHistory (map (λ b. b.board_shape.shape) l) history) (sym all) i.legal,
-)
-all_closed boards drivers (b ∷ rest) closed history i = absurd i.pairs
+    × (map expected closed ≡ map (λ s. s.knows.expect) drivers) × (count_by is_tick history ≡ sum_by (λ s. s.knows.lead.checks) drivers)
+all_closed boards drivers [] [] closed history none i =
+    let all : boards ≡ i.done = i.boards_are ∙ append-nil i.done in
+    let each : drivers ≡ i.told = i.drivers_are ∙ append-nil i.told in (
+      i.shapes ∙ ap (map (λ (b : Board). b.board_shape)) (sym all),
+      subst (λ (l : List Board). IsLegalHistory (map (λ b. b.board_shape.shape) l) history) (sym all) i.legal,
+      i.expect ∙ ap (map (λ (s : Known). s.knows.expect)) (sym each),
+      i.ticks ∙ ap (sum_by (λ (s : Known). s.knows.lead.checks)) (sym each),
+    )
+all_closed boards drivers (b ∷ rest) [] closed history none i = absurd i.pairs
+all_closed boards drivers rest (s ∷ left) closed history none i = absurd (omega (arith, none))

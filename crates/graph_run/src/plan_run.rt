@@ -99,13 +99,13 @@ pub fn run_plan<R: Threads + Wait + Sync, G: Gate + Sync, K: Ticker>(
     ensures waves { IfOk result (λ r. All (λ kept. IsWave kept.wav) r.0.sinks) }
     ensures later { K.ticks ticker.old ≤ K.ticks ticker.new }
 {
+    let lists = lists_for(alloc, loops as usize)?;
+    let rooms = rooms_for(alloc, plan)?;
     let Prepared {
         shared,
         loops: others,
         driving,
     } = prepare(alloc, plan, waves, loops)?;
-    let lists = lists_for(alloc, others.len())?;
-    let rooms = rooms_for(alloc, plan)?;
     let crew = Crew {
         loops: others,
         driving,

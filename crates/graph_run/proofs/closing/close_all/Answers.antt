@@ -1,12 +1,14 @@
-use Rattle.std.proofs.Common.{◌≡◌, ◌∙◌, List, [], ◌∷◌, ◌++◌, length, map, refl, sym, ap, subst, arith}
-use Rattle.std.specs.Prelude.{sum_by}
+use Rattle.std.proofs.Common.{◌≡◌, ◌∙◌, List, ◌∷◌, ◌++◌, length, map, sym, ap, subst, arith}
+use Rattle.std.specs.Prelude.{sum_by, count_by}
+use Rattle.std.specs.List.{flat_map}
 use Rattle.std.proofs.lemmas.List.Sums.{sum_by-cons}
 use Rattle.pw_base.specs.declared.event.Event.{Event}
 use Rattle.pw_base.specs.Layout.{event_count}
-use Rattle.pw_base.specs.History.{IsLegalHistory}
+use Rattle.pw_base.specs.History.{is_tick, IsLegalHistory}
 use Rattle.board_rule.specs.declared.board.Board.{Board}
 use Rattle.board_rule.specs.declared.closed.Closed.{Closed}
 use Rattle.board_rule.specs.Known.{Known}
+use Rattle.board_rule.specs.events.Closing.{expected}
 use Rattle.graph_run.proofs.ClosingLemmas.{Between, goes_on, all_closed}
 use Rattle.graph_run.proofs.closing.close_all.Goals as goal
 
@@ -32,21 +34,35 @@ loop-driver-preserved-in-Some-next c = let i = c.loop-driver.invariant in
       events = omega (arith, sums, cons, i.events, few, same, c.append.ensures.spare);
     }
 
--- the drivers are used up
-none_left : {X : Type 0} (xs : List X) → length xs ≡ 0 → xs ≡ []
-none_left [] e = refl
-none_left (x ∷ xs) e = absurd (omega (arith, e))
-
 pub returns-clause-shapes : goal.returns-clause-shapes
-returns-clause-shapes c = let i = c.loop-driver.invariant in
-    let none = none_left c.loop-driver.driver-iterator.rest.items (omega (arith, c.in-None.ensures.steps.0, c.loop-driver.driver-iterator.rest.ok.0)) in
-    let all = all_closed c.args.boards c.args.drivers c.loop-driver.rest.rest.items c.loop-driver.closed.list c.loop-driver.history.list
-    (subst (λ (l : List Known). Between c.args.boards c.args.drivers c.loop-driver.rest.rest.items l c.loop-driver.closed.list c.loop-driver.history.list) none i.between) in
+returns-clause-shapes c =
+    let all = all_closed c.args.boards c.args.drivers c.loop-driver.rest.rest.items c.loop-driver.driver-iterator.rest.items
+    c.loop-driver.closed.list c.loop-driver.history.list (omega (arith, c.in-None.ensures.steps.0, c.loop-driver.driver-iterator.rest.ok.0))
+    c.loop-driver.invariant.between in
     ap (λ (l : List Closed). map (λ x. x.board_shape) l) c.into_items.ensures ∙ all.0
 
 pub returns-clause-legal : goal.returns-clause-legal
-returns-clause-legal c = let i = c.loop-driver.invariant in
-    let none = none_left c.loop-driver.driver-iterator.rest.items (omega (arith, c.in-None.ensures.steps.0, c.loop-driver.driver-iterator.rest.ok.0)) in
-    let all = all_closed c.args.boards c.args.drivers c.loop-driver.rest.rest.items c.loop-driver.closed.list c.loop-driver.history.list
-    (subst (λ (l : List Known). Between c.args.boards c.args.drivers c.loop-driver.rest.rest.items l c.loop-driver.closed.list c.loop-driver.history.list) none i.between) in
+returns-clause-legal c =
+    let all = all_closed c.args.boards c.args.drivers c.loop-driver.rest.rest.items c.loop-driver.driver-iterator.rest.items
+    c.loop-driver.closed.list c.loop-driver.history.list (omega (arith, c.in-None.ensures.steps.0, c.loop-driver.driver-iterator.rest.ok.0))
+    c.loop-driver.invariant.between in
     subst (λ (l : List Event). IsLegalHistory (map (λ b. b.board_shape.shape) c.args.boards) l) (sym c.into_items-2.ensures) all.1
+
+pub returns-clause-expect : goal.returns-clause-expect
+returns-clause-expect c =
+    let all = all_closed c.args.boards c.args.drivers c.loop-driver.rest.rest.items c.loop-driver.driver-iterator.rest.items
+    c.loop-driver.closed.list c.loop-driver.history.list (omega (arith, c.in-None.ensures.steps.0, c.loop-driver.driver-iterator.rest.ok.0))
+    c.loop-driver.invariant.between in
+    ap (λ (l : List Closed). map expected l) c.into_items.ensures ∙ all.2
+
+pub returns-clause-ticks : goal.returns-clause-ticks
+returns-clause-ticks c =
+    let all = all_closed c.args.boards c.args.drivers c.loop-driver.rest.rest.items c.loop-driver.driver-iterator.rest.items
+    c.loop-driver.closed.list c.loop-driver.history.list (omega (arith, c.in-None.ensures.steps.0, c.loop-driver.driver-iterator.rest.ok.0))
+    c.loop-driver.invariant.between in
+    ap (λ (l : List Event). count_by is_tick l) c.into_items-2.ensures ∙ all.3
+
+pub returns-clause-history : goal.returns-clause-history
+returns-clause-history c =
+    c.into_items-2.ensures ∙ c.loop-driver.invariant.between.history_is
+    ∙ ap (λ (l : List Closed). flat_map (λ x. x.events) l) (sym c.into_items.ensures)

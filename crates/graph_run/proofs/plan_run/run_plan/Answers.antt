@@ -10,7 +10,7 @@ use Rattle.graph_run.proofs.plan_run.run_plan.Goals as goal
 pub run_threads-ended-requires-clause-crew : goal.run_threads-ended-requires-clause-crew
 run_threads-ended-requires-clause-crew g c κs within = let lists = c.in_ok-lists.lists in
     crew c.args.plan.now c.args.waves.now c.args.loops c.in_ok-shared.field-0 c.in_ok-shared.ensures lists c.in_ok-lists.ensures.empty
-    (subst (λ n. HaveRooms n lists) c.len.ensures c.in_ok-lists.ensures.rooms)
+    (subst (λ n. HaveRooms n lists) (sym c.in_ok-shared.ensures.count) c.in_ok-lists.ensures.rooms)
 
 pub answer-requires-clause-ended : goal.answer-requires-clause-ended
 answer-requires-clause-ended g c = let p = c.in_ok-shared.field-0 in let is = c.in_ok-shared.ensures in
