@@ -1,9 +1,7 @@
 //! The events of a run checked again and again, and plain scans of them.
 
-use pw_base::{
-    Epoch, Event, Fresh, Items, Kind, Memory, Plan, PlanNode, PortForm, PortId, Shape, ShapeLink,
-    ShapeNode, is_sound_plan,
-};
+use plan_tests::plan_text;
+use pw_base::{Event, Items, Memory};
 use std::alloc::Global;
 use trace_check::{Verdict, check};
 
@@ -13,141 +11,35 @@ const FOLLOWERS: u32 = 41;
 /// The events of a cycle.
 const CYCLE: usize = 87;
 
-/// A port of a node.
-fn port(node: u32, port: u32) -> PortId {
-    PortId { node, port }
-}
-
-/// The output of a follower: a square has no input.
-fn output(node: u32) -> PortId {
-    port(node, if node == 0 { 0 } else { 1 })
-}
-
-/// A node of no name.
-fn node_of(alloc: Global, kind: Kind, rate: u32) -> PlanNode {
-    PlanNode {
-        name: Items::new(alloc),
-        kind,
-        k: 0,
-        rate,
-        channels: if rate == 0 { 0 } else { 1 },
+// The nodes of the row, numbered as they are named.
+fn put_nodes(alloc: Global, text: &mut String) -> Result<(), Memory> {
+    text.push_str("square n0 48000 1 100 100\n")?;
+    for node in 1..FOLLOWERS {
+        let line = format!(in alloc; "gain n{node} 256\n")?;
+        text.push_str(line.as_str())?;
     }
+    text.push_str("meter n41\ndriver n41 1\n")?;
+    Ok(())
 }
 
-/// The nodes in a row.
-fn nodes_of(alloc: Global) -> Result<Items<PlanNode>, Memory> {
-    let mut nodes = Items::new(alloc);
-    let square = Kind::Square {
-        rate: 48_000,
-        channels: 1,
-        period: 100,
-        amp: 100,
-    };
-    nodes.push(node_of(alloc, square, 0))?;
-    for _ in 1..FOLLOWERS {
-        nodes.push(node_of(alloc, Kind::Gain { g: 256 }, 0))?;
-    }
-    nodes.push(node_of(alloc, Kind::Meter, 48_000))?;
-    Ok(nodes)
-}
-
-/// A follower waits for the driver and the one before it, and the next one and the driver for it.
-fn follower(alloc: Global, node: u32) -> Result<ShapeNode, Memory> {
-    let mut targets = Items::new(alloc);
-    if node < FOLLOWERS - 1 {
-        targets.push(node.wrapping_add(1))?;
-    }
-    targets.push(FOLLOWERS)?;
-    Ok(ShapeNode {
-        node,
-        required: if node == 0 { 1 } else { 2 },
-        targets,
-    })
-}
-
-/// The driver waits for all, and all for it.
-fn driver(alloc: Global) -> Result<ShapeNode, Memory> {
-    let mut targets = Items::new(alloc);
-    for node in 0..FOLLOWERS + 1 {
-        targets.push(node)?;
-    }
-    Ok(ShapeNode {
-        node: FOLLOWERS,
-        required: FOLLOWERS + 1,
-        targets,
-    })
-}
-
-/// So many cycles of the row.
-fn shape_of(alloc: Global, cycles: u32) -> Result<Shape, Memory> {
-    let mut nodes = Items::new(alloc);
-    let mut links = Items::new(alloc);
+// Each node linked to the next one.
+fn put_links(alloc: Global, text: &mut String) -> Result<(), Memory> {
     for node in 0..FOLLOWERS {
-        nodes.push(follower(alloc, node)?)?;
-        links.push(ShapeLink {
-            from: output(node),
-            to: port(node + 1, 0),
-            channels: 1,
-            buffers: 2,
-            delayed: false,
-        })?;
+        let next = node + 1;
+        let line = format!(in alloc; "link n{node}.out n{next}.in\n")?;
+        text.push_str(line.as_str())?;
     }
-    nodes.push(driver(alloc)?)?;
-    Ok(Shape {
-        quantum: 64,
-        first: 0,
-        cycles,
-        driver: FOLLOWERS,
-        nodes,
-        links,
-    })
+    Ok(())
 }
 
-/// Each port has the same form.
-fn forms_of(alloc: Global) -> Result<Items<PortForm>, Memory> {
-    let mut forms = Items::new(alloc);
-    for node in 0..FOLLOWERS {
-        if node != 0 {
-            forms.push(form_of(port(node, 0)))?;
-        }
-        forms.push(form_of(output(node)))?;
-    }
-    forms.push(form_of(port(FOLLOWERS, 0)))?;
-    Ok(forms)
-}
-
-/// The form of each port.
-fn form_of(port: PortId) -> PortForm {
-    PortForm {
-        port,
-        rate: 48_000,
-        channels: 1,
-    }
-}
-
-/// Each node with an input begins anew.
-fn fresh_of(alloc: Global) -> Result<Items<Fresh>, Memory> {
-    let mut fresh = Items::new(alloc);
-    for node in 1..FOLLOWERS + 1 {
-        fresh.push(Fresh { node, channels: 1 })?;
-    }
-    Ok(fresh)
-}
-
-/// A plan of so many cycles of the row.
-fn plan_of(alloc: Global, cycles: u32) -> Result<Plan, Memory> {
-    let mut epochs = Items::new(alloc);
-    epochs.push(Epoch {
-        shape: shape_of(alloc, cycles)?,
-        forms: forms_of(alloc)?,
-        fresh: fresh_of(alloc)?,
-    })?;
-    Ok(Plan {
-        quantum: 64,
-        nodes: nodes_of(alloc)?,
-        epochs,
-        lines: Items::new(alloc),
-    })
+/// The script of so many cycles of the row.
+fn script_of(alloc: Global, cycles: u32) -> Result<String, Memory> {
+    let mut text = String::from_str(alloc, "quantum 64\n")?;
+    put_nodes(alloc, &mut text)?;
+    put_links(alloc, &mut text)?;
+    let line = format!(in alloc; "cycles {cycles}\n")?;
+    text.push_str(line.as_str())?;
+    Ok(text)
 }
 
 /// The events of one cycle: node by node, with a late check before the driver.
@@ -216,9 +108,12 @@ pub fn event_rounds(alloc: Global, n: usize, repeats: u32) -> Result<u32, Memory
 
 /// Checks the same `n` events.
 pub fn check_rounds(alloc: Global, n: usize, repeats: u32) -> Result<u32, Memory> {
-    let plan = plan_of(alloc, cycles_in(n))?;
+    let script = script_of(alloc, cycles_in(n))?;
     let events = events_of(alloc, cycles_in(n))?;
-    if !is_sound_plan(&plan) || events.len() >= 0xffff_0000 {
+    let Ok(plan) = plan_text(alloc, script.as_str(), [].as_slice()) else {
+        return Ok(0);
+    };
+    if events.len() >= 0xffff_0000 {
         return Ok(0);
     }
     let mut legal: u32 = 0;

@@ -22,7 +22,6 @@ use wav_files::WavIn;
 ///
 /// It goes through the epochs in their order. On the board of one, each `turn` runs one follower;
 /// `next_epoch` leads to the next.
-#[derive(Drop)]
 pub struct LoopState {
     pub(crate) score: Score,
     pub(crate) nodes: Items<u32>,
@@ -36,6 +35,24 @@ pub struct LoopState {
     pub(crate) led: u32,
     // The bits of the nodes that the last turn woke.
     pub(crate) woke: u64,
+}
+
+// One step at each early exit above, where the fields would be as many.
+impl Drop for LoopState {
+    fn drop(self) {
+        let LoopState {
+            score: _,
+            nodes: _,
+            states: _,
+            stages: _,
+            rows: _,
+            found: _,
+            tables: _,
+            epoch: _,
+            led: _,
+            woke: _,
+        } = self;
+    }
 }
 
 // The states of the nodes before the first cycle of the run.
