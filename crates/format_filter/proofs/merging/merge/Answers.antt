@@ -1,5 +1,5 @@
 -- Each turn merges one key more, or clashes at it.
-use Rattle.std.proofs.Common.{◌≡◌, ℕ, ◌+◌, ◌<◌, ◌⊎◌, inl, inr, ◌++◌, List, length, sym, subst, take, drop, length-take, length-drop, arith}
+use Rattle.std.proofs.Common.{◌≡◌, ℕ, ◌+◌, ◌<◌, inl, inr, ◌++◌, List, length, sym, subst, take, length-take, length-drop, arith}
 use Rattle.std.proofs.lemmas.List.{take_all}
 use Rattle.std.specs.Prelude.{slice_get, slice_range}
 use Rattle.format_filter.specs.declared.format.Field.{Field}

@@ -1,12 +1,11 @@
 -- The common members are the numbers that both rows have, where these are of one type.
-use Rattle.std.proofs.Common.{◌≡◌, ℤ, pos, ◌<ℤ◌, ◌≤ℤ◌, ◌∙◌, sym, ap, subst, arith, rules}
+use Rattle.std.proofs.Common.{◌≡◌, ℤ, ◌≤ℤ◌, ◌∙◌, sym, ap, subst, arith, rules}
 use Rattle.std.proofs.lemmas.Int.{ints}
 use Rattle.pod_codec.specs.declared.pod.Pod.{Pod}
 use Rattle.format_filter.specs.declared.choice.Choice.{Choice}
 use Rattle.format_filter.specs.declared.choice.Wide.{Wide}
 use Rattle.format_filter.specs.declared.choice.Wide.TheVariants.{Int, Long}
 use Rattle.format_filter.specs.declared.numbers.Ranged.{Ranged}
-use Rattle.format_filter.specs.declared.progression.Row.{Row}
 use Rattle.format_filter.specs.Members.{number_of, IsMember}
 use Rattle.format_filter.specs.Soundness.{FitsWide}
 use Rattle.format_filter.specs.Making.{IsRowOf}
