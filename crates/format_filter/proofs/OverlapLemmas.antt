@@ -19,6 +19,13 @@ pub number_injective : (wide : Wide) (n m : ℤ) → number_of wide n ≡ number
 number_injective Int n m e = cc
 number_injective Long n m e = cc
 
+-- a number tells its type
+pub type_told : (v w : Wide) (n m : ℤ) → number_of v n ≡ number_of w m → v ≡ w
+type_told Int Int n m e = refl
+type_told Int Long n m e = absurd (cc)
+type_told Long Int n m e = absurd (cc)
+type_told Long Long n m e = refl
+
 pub strictly : (x y : ℤ) → lt_z y x ≡ false → (x ≡ y → ⊥) → x <ℤ y
 strictly x y h different = by_lt_z x y (λ l. l) (λ l. absurd (different (between x y h l))) where
   between : (x y : ℤ) → lt_z y x ≡ false → y ≤ℤ x → x ≡ y

@@ -15,23 +15,6 @@ use crate::node_text::{
 use crate::word_text::{put_endpoint, put_node, put_number, put_port, put_word};
 use pw_base::{Kind, Memory, PortId, Text};
 
-// A port, by its node and its name.
-fn put_node_port(
-    text: &mut Text,
-    names: &[Text],
-    kinds: &[Kind],
-    port: PortId,
-) -> Result<(), Memory>
-    requires named { port.node < length names.now }
-    requires there { port.node < length kinds.now }
-    requires port { IsPort kinds.now port }
-    ensures { OnOk result (text.new ≡ text.old
-        ++ spaced (node_word names.now port.node ∷ port_word kinds.now port ∷ [])) }
-{
-    put_node(text, names, port.node)?;
-    put_port(text, kinds, port)
-}
-
 // The output and the input of a link.
 fn put_ends(
     text: &mut Text,
@@ -95,6 +78,7 @@ fn put_buffers(
 }
 
 /// The arguments of a command, where the nodes have these names and kinds.
+#[tactic(auto)]
 pub(crate) fn put_args(
     text: &mut Text,
     names: &[Text],

@@ -1,10 +1,15 @@
 -- Each turn merges one key more, or clashes at it.
-use Rattle.std.proofs.Common.{◌+◌, ◌++◌, List, sym, subst, take, arith}
+use Rattle.std.proofs.Common.{◌≡◌, ℕ, ◌+◌, ◌<◌, inl, inr, ◌++◌, List, length, sym, subst, take, length-take, length-drop, arith}
+use Rattle.std.proofs.lemmas.List.{take_all}
 use Rattle.std.specs.Prelude.{slice_get, slice_range}
 use Rattle.format_filter.specs.declared.format.Field.{Field}
-use Rattle.format_filter.specs.Merging.{Joins}
+use Rattle.format_filter.specs.Merging.{Joins, AreCommonFields}
 use Rattle.format_filter.proofs.MergeLemmas.{IsMerged, merged_more, taken, clash_first, joined_key, found_least, not_back}
 use Rattle.format_filter.proofs.merging.merge.Goals as goal
+
+-- a place that is passed holds one
+one_stands : (fields : List Field) (at next : ℕ) → at < length fields → next ≡ at + 1 → 0 < length (slice_range fields at next)
+one_stands fields at next l e = omega (arith, length-take {A = Field}, length-drop {A = Field})
 
 pub returns-in-None : goal.returns-in-None
 returns-in-None c =
@@ -53,3 +58,36 @@ loop-i-preserved c =
       own_within = behind_a.within;
       other_within = behind_b.within;
     }
+
+pub loop-i-smaller : goal.loop-i-smaller
+loop-i-smaller c =
+    let behind_a = c.behind-after_i.ensures.behind in
+    let behind_b = c.behind-after_j.ensures.behind in
+    let own = not_back c.loop-i.i c.behind-after_i.result behind_a.near in
+    let other = not_back c.loop-i.j c.behind-after_j.result behind_b.near in
+    elim c.least_key-key.ensures.found [
+      | inl k ↦ omega (arith, own, other, c.behind-after_i.ensures.moves k, behind_a.within, behind_b.within)
+      | inr k ↦ omega (arith, own, other, c.behind-after_j.ensures.moves k, behind_a.within, behind_b.within)
+    ]
+
+pub join-requires-clause-one : goal.join-requires-clause-one
+join-requires-clause-one c =
+    elim c.least_key-key.ensures.found [
+      | inl k ↦ inl (one_stands c.args.a.now c.loop-i.i c.behind-after_i.result k.0 (c.behind-after_i.ensures.moves k))
+      | inr k ↦ inr (one_stands c.args.b.now c.loop-i.j c.behind-after_j.result k.0 (c.behind-after_j.ensures.moves k))
+    ]
+
+pub behind-after_i-requires-clause-least : goal.behind-after_i-requires-clause-least
+behind-after_i-requires-clause-least c = c.least_key-key.ensures.own
+
+pub behind-after_j-requires-clause-least : goal.behind-after_j-requires-clause-least
+behind-after_j-requires-clause-least c = c.least_key-key.ensures.other
+
+pub returns : goal.returns
+returns c =
+    let inv = c.loop-i.invariant in
+    let a = c.args.a.now in
+    let b = c.args.b.now in
+    subst (λ (xs : List Field). AreCommonFields xs b c.loop-i.fields) (take_all c.loop-i.i a c.if-i-a.false)
+    (subst (λ (ys : List Field). AreCommonFields (take c.loop-i.i a) ys c.loop-i.fields) (take_all c.loop-i.j b c.if-j-b.false)
+    inv.merged.common)

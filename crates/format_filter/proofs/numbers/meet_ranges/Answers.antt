@@ -1,14 +1,33 @@
 -- The numbers from the larger min to the smaller max.
-use Rattle.std.proofs.Common.{◌≡◌, ℤ, ◌<ℤ◌, ◌⊎◌, inl, inr, ◌∙◌, ap, sym, subst, arith, rules, to_z, of_z, w64}
+use Rattle.std.proofs.Common.{◌≡◌, ℤ, ◌<ℤ◌, ◌⊎◌, inl, inr, ◌∙◌, ap, sym, subst, true, arith, rules, to_z, of_z, w64}
 use Rattle.std.specs.Int.{int_max, int_min}
-use Rattle.std.proofs.lemmas.Int.{ints, clamps}
+use lib.Signed.{lt_z}
+use Rattle.std.proofs.lemmas.Int.{ints}
+use Rattle.format_filter.specs.declared.choice.Choice.{Choice}
 use Rattle.format_filter.specs.declared.choice.Choice.TheVariants.{Range}
 use Rattle.format_filter.specs.declared.choice.Wide.{Wide}
-use Rattle.format_filter.specs.Members.{number_of, pick_of}
+use Rattle.format_filter.specs.Members.{number_of, pick_of, IsMember}
 use Rattle.format_filter.specs.Soundness.{FitsWide, HasSoundParts}
 use Rattle.format_filter.specs.Intersection.{IsCommon, IsPicked}
-use Rattle.format_filter.proofs.OverlapLemmas.{strictly, max_fits, min_fits, overlap_none, overlap_one, overlap_more}
+use Rattle.format_filter.proofs.OverlapLemmas.{strictly, type_told, max_fits, min_fits, overlap_none, overlap_one, overlap_more}
 use Rattle.format_filter.proofs.numbers.meet_ranges.Goals as goal
+
+less : (x y : ℤ) → lt_z x y ≡ true → x <ℤ y
+less x y h = grind (arith, ints)
+
+-- the larger of two numbers, or the smaller, where each is read from its bits
+told : (of : ℤ → ℤ → ℤ) (x y n : ℤ) → to_z w64 (of_z w64 n) ≡ n → n ≡ of (to_z w64 (of_z w64 x)) (to_z w64 (of_z w64 y))
+    → to_z w64 (of_z w64 x) ≡ x → to_z w64 (of_z w64 y) ≡ y → to_z w64 (of_z w64 n) ≡ of x y
+told of x y n kept is x_is y_is = kept ∙ is ∙ ap (λ z. of z (to_z w64 (of_z w64 y))) x_is ∙ ap (of x) y_is
+
+pub returns-then-ne : goal.returns-then-ne
+returns-then-ne c =
+    let one = c.args.one in
+    let other = c.args.other in
+    let differ : one.wide ≡ other.wide → ⊥ = search rules in
+    λ x w. let p = subst (λ (d : Choice). IsMember d x) c.requires.one w.0 in
+    let q = subst (λ (d : Choice). IsMember d x) c.requires.other w.1 in
+    differ (type_told one.wide other.wide p.0 q.0 (sym p.1 ∙ q.1))
 
 pub returns-then-high-low : goal.returns-then-high-low
 returns-then-high-low c =
@@ -17,10 +36,12 @@ returns-then-high-low c =
     let wides : one.wide ≡ other.wide = search rules in
     let b_is = c.requires.other ∙ ap (λ (w : Wide). Range w other.pick other.row.min other.row.max) (sym wides) in
     let low : to_z w64 (of_z w64 c.max-low.result) ≡ int_max one.row.min other.row.min =
-    omega (arith, ints, clamps, c.max-low.ensures.value) in
+    told int_max one.row.min other.row.min c.max-low.result (search rules) c.max-low.ensures.value (search rules) (search rules) in
     let high : to_z w64 (of_z w64 c.min-high.result) ≡ int_min one.row.max other.row.max =
-    omega (arith, ints, clamps, c.min-high.ensures.value) in
-    let apart : int_min one.row.max other.row.max <ℤ int_max one.row.min other.row.min = grind (arith, ints) in
+    told int_min one.row.max other.row.max c.min-high.result (search rules) c.min-high.ensures.value (search rules) (search rules) in
+    let apart : int_min one.row.max other.row.max <ℤ int_max one.row.min other.row.min =
+    subst (λ (v : ℤ). v <ℤ int_max one.row.min other.row.min) high
+    (subst (λ (v : ℤ). to_z w64 (of_z w64 c.min-high.result) <ℤ v) low (less _ _ c.if-high-low.true)) in
     overlap_none c.args.a.now c.args.b.now one.wide one.pick one.row.min one.row.max other.pick other.row.min other.row.max c.requires.one
     b_is apart
 
@@ -33,7 +54,7 @@ number-requires c =
     let theirs = subst HasSoundParts (c.requires.other ∙ ap (λ (w : Wide). Range w other.pick other.row.min other.row.max) (sym wides))
     c.requires.b.parts in
     let low : to_z w64 (of_z w64 c.max-low.result) ≡ int_max one.row.min other.row.min =
-    omega (arith, ints, clamps, c.max-low.ensures.value) in
+    told int_max one.row.min other.row.min c.max-low.result (search rules) c.max-low.ensures.value (search rules) (search rules) in
     subst (FitsWide one.wide) (sym low) (max_fits one.wide one.row.min other.row.min own.1 theirs.1)
 
 pub returns-then-low-high : goal.returns-then-low-high
@@ -43,9 +64,9 @@ returns-then-low-high c =
     let wides : one.wide ≡ other.wide = search rules in
     let b_is = c.requires.other ∙ ap (λ (w : Wide). Range w other.pick other.row.min other.row.max) (sym wides) in
     let n = to_z w64 (of_z w64 c.max-low.result) in
-    let low : n ≡ int_max one.row.min other.row.min = omega (arith, ints, clamps, c.max-low.ensures.value) in
+    let low : n ≡ int_max one.row.min other.row.min = told int_max one.row.min other.row.min c.max-low.result (search rules) c.max-low.ensures.value (search rules) (search rules) in
     let greatest : to_z w64 (of_z w64 c.min-high.result) ≡ int_min one.row.max other.row.max =
-    omega (arith, ints, clamps, c.min-high.ensures.value) in
+    told int_min one.row.max other.row.max c.min-high.result (search rules) c.min-high.ensures.value (search rules) (search rules) in
     let high = ap (to_z w64) c.if-low-high.true ∙ greatest in
     overlap_one c.args.a.now c.args.b.now one.wide one.pick one.row.min one.row.max other.pick other.row.min other.row.max c.requires.one
     b_is n low high c.number.result c.number.ensures
@@ -66,8 +87,8 @@ returns c =
     let theirs = subst HasSoundParts b_is c.requires.b.parts in
     let least = to_z w64 (of_z w64 c.max-low.result) in
     let greatest = to_z w64 (of_z w64 c.min-high.result) in
-    let low : least ≡ int_max one.row.min other.row.min = omega (arith, ints, clamps, c.max-low.ensures.value) in
-    let high : greatest ≡ int_min one.row.max other.row.max = omega (arith, ints, clamps, c.min-high.ensures.value) in
+    let low : least ≡ int_max one.row.min other.row.min = told int_max one.row.min other.row.min c.max-low.result (search rules) c.max-low.ensures.value (search rules) (search rules) in
+    let high : greatest ≡ int_min one.row.max other.row.max = told int_min one.row.max other.row.max c.min-high.result (search rules) c.min-high.ensures.value (search rules) (search rules) in
     let least_is : least ≡ c.max-low.result = search rules in
     let greatest_is : greatest ≡ c.min-high.result = search rules in
     let order = strictly least greatest c.if-high-low.false (λ e. c.if-low-high.false (ap (of_z w64) (sym least_is ∙ e ∙ greatest_is))) in
