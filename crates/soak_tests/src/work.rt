@@ -17,7 +17,7 @@ pub struct Work {
 
 /// The plan of a number's graph with its waves. None where it has no plan.
 pub fn work_of(alloc: Global, number: u32) -> Result<Option<Work>, Memory>
-    ensures { IfOk result (λ o. IfSome o CanRun) }
+    ensures { IfOk result (λ o. IfSome o (λ work. CanRun work.plan work.waves)) }
 {
     let Generated {
         script,
