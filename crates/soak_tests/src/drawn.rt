@@ -1,10 +1,10 @@
 //! What is drawn from a number. The values are those of a Python program of ten lines, written from the definition of the
 //! draws: it steps one integer, takes it modulo 2**64, and draws chain after chain.
 
-use graph_plan::plan;
+use crate::work::work_of;
 use graph_script::{Command, Script};
 use pw_base::Plan;
-use soak_graph::{Generated, generate, soak_text};
+use soak_graph::soak_text;
 use std::alloc::Global;
 use std::test::Fail;
 use wav_files::WavIn;
@@ -158,22 +158,13 @@ fn is_plan(plan: &Plan) -> bool {
 
 // Whether the graph of a number has its waves, its script and such a plan.
 fn has_graph(alloc: Global, row: &Drawn) -> bool {
-    let made = match generate(alloc, row.number) {
-        Ok(made) => made,
-        Err(_memory) => return false,
-    };
-    let Generated {
-        script,
-        ports,
-        waves,
-    } = made;
-    match plan(alloc, &script, &waves, ports) {
-        Ok(planned) => {
-            is_plan(&planned)
-                && are_waves(waves.as_slice(), row.ends)
-                && is_script(&script, row.source)
+    match work_of(alloc, row.number) {
+        Ok(Some(work)) => {
+            is_plan(&work.plan)
+                && are_waves(work.waves.as_slice(), row.ends)
+                && is_script(&work.script, row.source)
         }
-        Err(_fault) => false,
+        _ => false,
     }
 }
 
