@@ -5,6 +5,7 @@ ghost use Rattle.ready_queues.specs.AnsweredWith.{IsWayOf};
 ghost use Rattle.loop_tests.specs.Crew.{IsCrewOn};
 
 use crate::crew::Crew;
+use crate::stepping::try_at;
 use crate::steps::row_crew;
 use board_rule::{Board, BoardSeat};
 use data_loop::{Tried, Way, Ways};
@@ -52,7 +53,7 @@ fn woken(board: &Board, crew: &mut Crew) -> Option<(u64, u64)>
         return None;
     }
     let begun = crew.seat.woke();
-    match crew.try_at(board, 0, 0, &Open::new()) {
+    match try_at(board, crew, 0, 0, &Open::new()) {
         Tried::Ran => Some((begun, crew.woke(0))),
         _ => None,
     }

@@ -65,6 +65,19 @@ fn try_node<G: Gate>(board: &Board, state: &mut LoopState, node: u32, gate: &G) 
     }
 }
 
+/// One try of a node by one of the other loops of a crew. Ended where there is no such loop, or the node is not one of
+/// its followers with cycles left.
+pub fn try_at<G: Gate>(board: &Board, crew: &mut Crew, which: usize, node: u32, gate: &G) -> Tried
+    requires on { IsCrewOn board.now crew.old }
+    ensures on { IsCrewOn board.now crew.new }
+{
+    if which < crew.others.len() {
+        try_node(board, &mut crew.others[which], node, gate)
+    } else {
+        Tried::Ended
+    }
+}
+
 impl Crew {
     /// Begins the next cycle. False where one is begun, or none is left.
     pub fn begin(&mut self, board: &Board) -> bool
@@ -77,19 +90,6 @@ impl Crew {
         self.waits = begin_next(board, &mut self.seat);
         self.checked = false;
         self.waits
-    }
-
-    /// One try of a node by one of the other loops. Ended where there is no such loop, or the node
-    /// is not one of its followers with cycles left.
-    pub fn try_at<G: Gate>(&mut self, board: &Board, which: usize, node: u32, gate: &G) -> Tried
-        requires on { IsCrewOn board.now self.old }
-        ensures on { IsCrewOn board.now self.new }
-    {
-        if which < self.others.len() {
-            try_node(board, &mut self.others[which], node, gate)
-        } else {
-            Tried::Ended
-        }
     }
 
     /// What the last try of one of the other loops woke: bit n is node n.

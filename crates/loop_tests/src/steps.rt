@@ -7,7 +7,7 @@ ghost use Rattle.std.specs.Prelude.{◌≤◌, IfSome};
 ghost use Rattle.loop_tests.specs.Crew.{IsCrewOn};
 
 use crate::crew::Crew;
-use crate::stepping::crew_of;
+use crate::stepping::{crew_of, try_at};
 use crate::words::{Inside, areas_are, block_is, nodes_are};
 use crate::work::{WorkRow, work_of};
 use board_rule::{Board, Closed};
@@ -111,7 +111,7 @@ fn runs_in(
     ensures on { IsCrewOn board.now crew.new }
 {
     let inside = Inside::new(board, pending, status);
-    let tried = crew.try_at(board, which, node, &inside);
+    let tried = try_at(board, crew, which, node, &inside);
     tried == Tried::Ran && inside.seen() == 1
 }
 
@@ -122,9 +122,9 @@ fn loops_go(board: &Board, crew: &mut Crew, step: Step) -> bool
 {
     match step {
         Step::Waits(which, node, found) => {
-            crew.try_at(board, which, node, &Open::new()) == Tried::NotYet { found }
+            try_at(board, crew, which, node, &Open::new()) == Tried::NotYet { found }
         }
-        Step::Runs(which, node) => { crew.try_at(board, which, node, &Open::new()) == Tried::Ran }
+        Step::Runs(which, node) => { try_at(board, crew, which, node, &Open::new()) == Tried::Ran }
         Step::RunsIn(which, node, pending, status) => {
             runs_in(board, crew, which, node, pending, status)
         }
