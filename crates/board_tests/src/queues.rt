@@ -57,89 +57,173 @@ fn receive_often<R: Wait>(rt: &R, ways: &Ways, way: &mut Way, often: u32, node: 
     count
 }
 
-#[test]
-fn the_woken_node_is_received(rt: HostRuntime) -> Result<(), Fail> {
-    let Some((ways, mut driver, mut first, mut second)) = two_loops(rt.alloc())? else {
-        panic!(rt; "no ways");
-    };
-    assert_eq!(rt; ways.loops(), 2);
-    assert_eq!(rt; ways.send(&rt, &mut driver, 1), 0);
-    assert_eq!(rt; ways.receive(&rt, &mut first), Some(0));
-    assert_eq!(rt; ways.receive(&rt, &mut second), None);
-    assert_eq!(rt; (first.taken(), second.taken(), driver.taken()), (1, 0, 0));
-    // What was unparked before does not sleep.
-    ways.rest(&rt, &mut first);
-    ways.rest(&rt, &mut driver);
-    Ok(())
+// The woken node is received. What was unparked before does not sleep.
+fn woken_is_received<R: Wait>(
+    rt: &R,
+    ways: &Ways,
+    driver: &mut Way,
+    first: &mut Way,
+    second: &mut Way,
+) -> bool
+    requires loops { ways.now.loops ≡ 2 }
+    requires driver { IsWayOf ways.now driver.old }
+    requires first { IsWayOf ways.now first.old × (first.old.number ≡ 0) }
+    requires second { IsWayOf ways.now second.old × (second.old.number ≡ 1) }
+{
+    let sent = ways.send(rt, driver, 1);
+    let received = [ways.receive(rt, first), ways.receive(rt, second)];
+    ways.rest(rt, first);
+    ways.rest(rt, driver);
+    ways.loops() == 2
+        && sent == 0
+        && received == [Some(0), None]
+        && (first.taken(), second.taken(), driver.taken()) == (1, 0, 0)
+}
+
+// Nodes go to their loops; node 3 and node 63 are the driver's own.
+fn nodes_go_to_their_loops<R: Wait>(rt: &R, ways: &Ways, first: &mut Way, second: &mut Way) -> bool
+    requires loops { ways.now.loops ≡ 2 }
+    requires first { IsWayOf ways.now first.old × (first.old.number ≡ 0) }
+    requires second { IsWayOf ways.now second.old × (second.old.number ≡ 1) }
+{
+    let sent = ways.send(rt, second, 15 | 1 << 63);
+    let firsts = [
+        ways.receive(rt, first),
+        ways.receive(rt, first),
+        ways.receive(rt, first),
+    ];
+    let seconds = [ways.receive(rt, second), ways.receive(rt, second)];
+    sent == 0
+        && firsts == [Some(0), Some(1), None]
+        && seconds == [Some(2), None]
+        && (first.taken(), second.taken()) == (2, 1)
+}
+
+// A full queue loses nothing.
+fn full_queue_loses_nothing<R: Wait>(
+    rt: &R,
+    ways: &Ways,
+    driver: &mut Way,
+    first: &mut Way,
+    second: &mut Way,
+) -> bool
+    requires loops { ways.now.loops ≡ 2 }
+    requires driver { IsWayOf ways.now driver.old }
+    requires first { IsWayOf ways.now first.old × (first.old.number ≡ 0) }
+    requires second { IsWayOf ways.now second.old × (second.old.number ≡ 1) }
+{
+    let sent = send_often(rt, ways, driver, 2, 64, 0);
+    let refused = [ways.send(rt, driver, 2), ways.send(rt, second, 7)];
+    let taken = receive_often(rt, ways, first, 64, 1);
+    let rest = [ways.receive(rt, first), ways.receive(rt, second)];
+    sent == 64
+        && refused == [2, 3]
+        && taken == 64
+        && rest == [None, Some(2)]
+        && (first.taken(), second.taken()) == (64, 1)
+}
+
+// What is forwarded wakes others: both nodes of its own loop, that of the other, and the driver's. A bit that is no
+// node is the driver's own. What was unparked before does not sleep.
+fn forwarded_wakes_others<R: Wait>(
+    rt: &R,
+    ways: &Ways,
+    driver: &mut Way,
+    first: &mut Way,
+    second: &mut Way,
+) -> bool
+    requires loops { ways.now.loops ≡ 2 }
+    requires driver { IsWayOf ways.now driver.old }
+    requires first { IsWayOf ways.now first.old × (first.old.number ≡ 0) }
+    requires second { IsWayOf ways.now second.old × (second.old.number ≡ 1) }
+{
+    ways.start(first);
+    ways.start(second);
+    let sent = ways.forward(rt, first, 15);
+    let firsts = [
+        ways.receive(rt, first),
+        ways.receive(rt, first),
+        ways.receive(rt, first),
+    ];
+    let seconds = [ways.receive(rt, second), ways.receive(rt, second)];
+    ways.rest(rt, second);
+    ways.rest(rt, driver);
+    let other = ways.forward(rt, second, 1 << 63);
+    ways.rest(rt, driver);
+    let own = ways.forward(rt, driver, 15);
+    ways.rest(rt, first);
+    ways.rest(rt, second);
+    [sent, other, own] == [0, 0, 0]
+        && firsts == [Some(0), Some(1), None]
+        && seconds == [Some(2), None]
+        && (first.taken(), second.taken(), driver.taken()) == (2, 1, 0)
+}
+
+// The driver is woken for a loop that has not started.
+fn driver_is_woken<R: Wait>(
+    rt: &R,
+    ways: &Ways,
+    driver: &mut Way,
+    first: &Way,
+    second: &mut Way,
+) -> bool
+    requires loops { ways.now.loops ≡ 2 }
+    requires driver { IsWayOf ways.now driver.old }
+    requires second { IsWayOf ways.now second.old × (second.old.number ≡ 1) }
+{
+    ways.start(second);
+    let sent = ways.forward(rt, second, 1);
+    ways.rest(rt, driver);
+    sent == 0 && (first.taken(), second.taken()) == (0, 0)
+}
+
+// One of these five, by its number.
+fn goes<R: Wait>(
+    rt: &R,
+    which: u32,
+    ways: &Ways,
+    driver: &mut Way,
+    first: &mut Way,
+    second: &mut Way,
+) -> bool
+    requires loops { ways.now.loops ≡ 2 }
+    requires driver { IsWayOf ways.now driver.old }
+    requires first { IsWayOf ways.now first.old × (first.old.number ≡ 0) }
+    requires second { IsWayOf ways.now second.old × (second.old.number ≡ 1) }
+{
+    match which {
+        0 => woken_is_received(rt, ways, driver, first, second),
+        1 => nodes_go_to_their_loops(rt, ways, first, second),
+        2 => full_queue_loses_nothing(rt, ways, driver, first, second),
+        3 => forwarded_wakes_others(rt, ways, driver, first, second),
+        4 => driver_is_woken(rt, ways, driver, first, second),
+        _ => false,
+    }
+}
+
+// The same with new ways.
+fn goes_anew<R: Wait>(rt: &R, alloc: Global, which: u32) -> bool {
+    match two_loops(alloc) {
+        Ok(Some((ways, mut driver, mut first, mut second))) => {
+            goes(rt, which, &ways, &mut driver, &mut first, &mut second)
+        }
+        _ => false,
+    }
+}
+
+// The first that goes otherwise.
+fn first_unlike<R: Wait>(rt: &R, alloc: Global) -> Option<u32> {
+    for which in 0..5 {
+        if !goes_anew(rt, alloc, which) {
+            return Some(which);
+        }
+    }
+    None
 }
 
 #[test]
-fn nodes_go_to_their_loops(rt: HostRuntime) -> Result<(), Fail> {
-    let Some((ways, _driver, mut first, mut second)) = two_loops(rt.alloc())? else {
-        panic!(rt; "no ways");
-    };
-    // Node 3 and node 63 are the driver's own.
-    assert_eq!(rt; ways.send(&rt, &mut second, 15 | 1 << 63), 0);
-    assert_eq!(rt; ways.receive(&rt, &mut first), Some(0));
-    assert_eq!(rt; ways.receive(&rt, &mut first), Some(1));
-    assert_eq!(rt; ways.receive(&rt, &mut first), None);
-    assert_eq!(rt; ways.receive(&rt, &mut second), Some(2));
-    assert_eq!(rt; ways.receive(&rt, &mut second), None);
-    assert_eq!(rt; (first.taken(), second.taken()), (2, 1));
-    Ok(())
-}
-
-#[test]
-fn a_full_queue_loses_nothing(rt: HostRuntime) -> Result<(), Fail> {
-    let Some((ways, mut driver, mut first, mut second)) = two_loops(rt.alloc())? else {
-        panic!(rt; "no ways");
-    };
-    assert_eq!(rt; send_often(&rt, &ways, &mut driver, 2, 64, 0), 64);
-    assert_eq!(rt; ways.send(&rt, &mut driver, 2), 2);
-    assert_eq!(rt; ways.send(&rt, &mut second, 7), 3);
-    assert_eq!(rt; receive_often(&rt, &ways, &mut first, 64, 1), 64);
-    assert_eq!(rt; ways.receive(&rt, &mut first), None);
-    assert_eq!(rt; ways.receive(&rt, &mut second), Some(2));
-    assert_eq!(rt; (first.taken(), second.taken()), (64, 1));
-    Ok(())
-}
-
-#[test]
-fn what_is_forwarded_wakes_others(rt: HostRuntime) -> Result<(), Fail> {
-    let Some((ways, mut driver, mut first, mut second)) = two_loops(rt.alloc())? else {
-        panic!(rt; "no ways");
-    };
-    ways.start(&first);
-    ways.start(&second);
-    // Both nodes of its own loop, that of the other, and the driver's.
-    assert_eq!(rt; ways.forward(&rt, &mut first, 15), 0);
-    assert_eq!(rt; ways.receive(&rt, &mut first), Some(0));
-    assert_eq!(rt; ways.receive(&rt, &mut first), Some(1));
-    assert_eq!(rt; ways.receive(&rt, &mut first), None);
-    assert_eq!(rt; ways.receive(&rt, &mut second), Some(2));
-    assert_eq!(rt; ways.receive(&rt, &mut second), None);
-    // What was unparked before does not sleep.
-    ways.rest(&rt, &mut second);
-    ways.rest(&rt, &mut driver);
-    // A bit that is no node is the driver's own.
-    assert_eq!(rt; ways.forward(&rt, &mut second, 1 << 63), 0);
-    ways.rest(&rt, &mut driver);
-    assert_eq!(rt; ways.forward(&rt, &mut driver, 15), 0);
-    ways.rest(&rt, &mut first);
-    ways.rest(&rt, &mut second);
-    assert_eq!(rt; (first.taken(), second.taken(), driver.taken()), (2, 1, 0));
-    Ok(())
-}
-
-#[test]
-fn the_driver_is_woken_for_a_loop_that_has_not_started(rt: HostRuntime) -> Result<(), Fail> {
-    let Some((ways, mut driver, first, mut second)) = two_loops(rt.alloc())? else {
-        panic!(rt; "no ways");
-    };
-    ways.start(&second);
-    assert_eq!(rt; ways.forward(&rt, &mut second, 1), 0);
-    ways.rest(&rt, &mut driver);
-    assert_eq!(rt; (first.taken(), second.taken()), (0, 0));
+fn numbers_go_to_their_loops(rt: HostRuntime) -> Result<(), Fail> {
+    assert_eq!(rt; first_unlike(&rt, rt.alloc()), None);
     Ok(())
 }
 
@@ -197,11 +281,16 @@ fn feed_and_eat<R: Threads + Wait + Sync>(rt: &R, ways: &Ways, driver: Way, own:
     taken
 }
 
+// The same with new ways.
+fn crossed<R: Threads + Wait + Sync>(rt: &R, alloc: Global) -> u64 {
+    match two_loops(alloc) {
+        Ok(Some((ways, driver, first, _second))) => feed_and_eat(rt, &ways, driver, first),
+        _ => 0,
+    }
+}
+
 #[test]
 fn a_thousand_numbers_cross(rt: HostRuntime) -> Result<(), Fail> {
-    let Some((ways, driver, first, _second)) = two_loops(rt.alloc())? else {
-        panic!(rt; "no ways");
-    };
-    assert_eq!(rt; feed_and_eat(&rt, &ways, driver, first), 1000);
+    assert_eq!(rt; crossed(&rt, rt.alloc()), 1000);
     Ok(())
 }

@@ -6,14 +6,13 @@ ghost use Rattle.graph_run.specs.Assignment.{nodes_of_loop};
 ghost use Rattle.graph_run.specs.LoopsOnPlan.{IsReady, HasDrivers, HasNoDriver, AreFirstLeads, HasCome};
 ghost use Rattle.loop_tests.specs.Work.{CanRun};
 
-use crate::runs::TWO_SQUARES;
-use crate::work::{Work, work_of};
+use crate::threads::{BOTH, TWO_SQUARES};
+use crate::work::{Work, WorkRow, work_of};
 use board_rule::{Board, DriverSeat};
 use data_loop::{LoopState, Way, Ways};
 use graph_run::{boards_of, loop_of, loops_of, run_epochs};
 use pw_base::{Every, Items, Kind, Memory, Open, Plan};
 use std::alloc::Global;
-use std::process::Abort;
 use std::sync::Wait;
 use std::test::Fail;
 
@@ -58,126 +57,163 @@ fn ways_of(alloc: Global, loops: u32) -> Result<(Ways, Way), Memory>
     Ok((ways, way))
 }
 
-// What a node has kept, where it is a sink of the driver's own loop.
-fn sink_of(
-    alloc: Global,
-    plan: &Plan,
-    loops: u32,
-    own: &LoopState,
-    node: u32,
-) -> Result<Option<Items<i16>>, Memory>
+// Whether a node is a sink of the driver's own loop, and has kept these samples.
+fn has_kept(plan: &Plan, loops: u32, own: &LoopState, node: u32, wanted: &[i16]) -> bool
     requires whole { IsLoop own.now }
     requires plan_is { plan_of own.now ≡ plan.now }
     requires nodes_are { own.now.nodes ≡ nodes_of_loop plan.now loops loops }
 {
     let Some(it) = plan.nodes.as_slice().get(node as usize) else {
-        return Ok(None);
+        return false;
     };
     if loop_of(plan, loops, node) != loops {
-        return Ok(None);
+        return false;
     }
     match it.kind {
-        Kind::Sink => Ok(Some(Items::from_slice(alloc, own.kept(node))?)),
-        _ => Ok(None),
+        Kind::Sink => own.kept(node) == wanted,
+        _ => false,
     }
 }
 
-// What a sink that drives has kept after all epochs by one thread, which adopted so many loops.
-fn kept_of<R: Wait>(
+// Whether a sink that drives keeps these samples in all epochs by one thread, which adopts so many loops.
+fn keeps_by<R: Wait>(
     rt: &R,
     alloc: Global,
     work: &Work,
     loops: u32,
+    ways: &Ways,
+    way: &mut Way,
     node: u32,
-) -> Result<Option<Items<i16>>, Memory>
-    requires work { CanRun work.now }
+    wanted: &[i16],
+) -> bool
+    requires work { CanRun work.now.plan work.now.waves }
     requires few { loops ≤ 16 }
+    requires way { IsDriverWay ways.now way.old }
 {
     let plan = &work.plan;
-    let all = boards_of(alloc, plan, &work.waves, loops)?;
+    let Ok(all) = boards_of(alloc, plan, &work.waves, loops) else {
+        return false;
+    };
     let boards = all.boards;
     let mut drivers = all.drivers;
-    let mut states = loops_of(alloc, plan, &work.waves, loops, all.seats)?;
-    let Some(mut own) = states.pop() else {
-        return Ok(None);
+    let Ok(mut states) = loops_of(alloc, plan, &work.waves, loops, all.seats) else {
+        return false;
     };
-    let (ways, mut way) = ways_of(alloc, loops)?;
+    let Some(mut own) = states.pop() else {
+        return false;
+    };
     run_open(
         rt,
         &boards,
         drivers.as_mut_slice(),
         &mut own,
         states.as_mut_slice(),
-        &ways,
-        &mut way,
+        ways,
+        way,
     );
-    sink_of(alloc, plan, loops, &own, node)
+    has_kept(plan, loops, &own, node, wanted)
 }
 
-// Compares what the sink `node` keeps, with no loop adopted and with two.
-fn expect_kept<R: Wait + AllocGlobal + Abort>(
+// The same with new ways.
+fn keeps_anew<R: Wait>(
     rt: &R,
-    text: &str,
-    channels: u32,
-    samples: &[i16],
+    alloc: Global,
+    work: &Work,
+    loops: u32,
     node: u32,
     wanted: &[i16],
-) -> Result<(), Fail> {
-    let alloc = rt.alloc();
-    let Some(work) = work_of(alloc, text, channels, samples)? else {
-        panic!(rt; "the text has no plan")
-    };
-    for loops in [0, 2] {
-        let Some(kept) = kept_of(rt, alloc, &work, loops, node)? else {
-            panic!(rt; "the node is no sink that drives")
-        };
-        assert_eq!(rt; kept.as_slice(), wanted);
+) -> bool
+    requires work { CanRun work.now.plan work.now.waves }
+    requires few { loops ≤ 16 }
+{
+    match ways_of(alloc, loops) {
+        Ok((ways, mut way)) => keeps_by(rt, alloc, work, loops, &ways, &mut way, node, wanted),
+        Err(_memory) => false,
     }
+}
+
+/// A work, its sink that drives, and what this keeps.
+type AloneRow = (WorkRow<'static>, u32, &'static [i16]);
+
+const ROWS: [AloneRow; 5] = [
+    // The left channel, and half of the right one.
+    (
+        WorkRow {
+            text: "quantum 2\nsource s s.wav\nsplit x\nloop x 1\nmix2 m 256 128\nsink o o.wav\ndriver o 1\n\
+                link s.out x.in\nlink x.left m.a\nlink x.right m.b\nlink m.out o.in\ncycles 1\ncycles 1\n",
+            channels: 2,
+            samples: &[1, 10, 2, 20, 3, 30, 4, 40],
+        },
+        3,
+        &[6, 12, 18, 24],
+    ),
+    // A source that was off goes on where it stopped.
+    (
+        WorkRow {
+            text: "quantum 2\nsource s s.wav\nsink o o.wav\ndriver o 1\nlink s.out o.in\ncycles 1\noff s\n\
+                cycles 1\non s\ncycles 1\n",
+            channels: 1,
+            samples: &[1, 2, 3, 4, 5, 6],
+        },
+        1,
+        &[1, 2, 0, 0, 3, 4],
+    ),
+    // The delay holds 2 when it is unlinked, and gives 0 when it begins anew.
+    (
+        WorkRow {
+            text: "quantum 2\nsource s s.wav\ndelay d 1\nloop d 1\nsink o o.wav\ndriver o 1\nlink s.out d.in\n\
+                link d.out o.in\ncycles 1\nunlink s.out d.in\nunlink d.out o.in\nlink s.out d.in\n\
+                link d.out o.in\ncycles 1\n",
+            channels: 1,
+            samples: &[1, 2, 3, 4],
+        },
+        2,
+        &[0, 1, 0, 3],
+    ),
+    // What the mixer gives comes back half as loud, two cycles later.
+    (
+        WorkRow {
+            text: "quantum 1\nsource s s.wav\nmix2 m 256 128\ngain g 256\nloop g 1\nasync g\nsink o o.wav\n\
+                driver o 1\nlink s.out m.a\nlink m.out g.in\nlink g.out m.b\nlink m.out o.in\ncycles 5\n",
+            channels: 1,
+            samples: &[8],
+        },
+        3,
+        &[8, 0, 4, 0, 2],
+    ),
+    // Two squares of 100, whose loops have the numbers 0 and 5.
+    (TWO_SQUARES, 2, &BOTH),
+];
+
+// Whether the sink of a row keeps its samples, with no loop adopted and with two.
+fn keeps<R: Wait>(rt: &R, alloc: Global, row: AloneRow) -> bool {
+    let (row, node, wanted) = row;
+    match work_of(alloc, row) {
+        Some(work) => {
+            keeps_anew(rt, alloc, &work, 0, node, wanted)
+                && keeps_anew(rt, alloc, &work, 2, node, wanted)
+        }
+        None => false,
+    }
+}
+
+// The first row whose sink does not.
+fn first_unlike<R: Wait>(rt: &R, alloc: Global, rows: &[AloneRow]) -> Option<usize> {
+    for at in 0..rows.len() {
+        if !keeps(rt, alloc, rows[at]) {
+            return Some(at);
+        }
+    }
+    None
+}
+
+// The first of those above.
+fn first_unlike_row<R: Wait>(rt: &R, alloc: Global) -> Option<usize> {
+    first_unlike(rt, alloc, ROWS.as_slice())
+}
+
+#[test]
+fn one_thread_runs_all_epochs_and_loops(rt: HostRuntime) -> Result<(), Fail> {
+    assert_eq!(rt; first_unlike_row(&rt, rt.alloc()), None);
     Ok(())
-}
-
-// The left channel, and half of the right one.
-#[test]
-fn a_split_and_a_mix_over_two_epochs(rt: HostRuntime) -> Result<(), Fail> {
-    let text = "quantum 2\nsource s s.wav\nsplit x\nloop x 1\nmix2 m 256 128\nsink o o.wav\n\
-        driver o 1\nlink s.out x.in\nlink x.left m.a\nlink x.right m.b\nlink m.out o.in\n\
-        cycles 1\ncycles 1\n";
-    let samples = [1, 10, 2, 20, 3, 30, 4, 40];
-    expect_kept(&rt, text, 2, samples.as_slice(), 3, &[6, 12, 18, 24])
-}
-
-#[test]
-fn a_source_that_was_off_goes_on_where_it_stopped(rt: HostRuntime) -> Result<(), Fail> {
-    let text = "quantum 2\nsource s s.wav\nsink o o.wav\ndriver o 1\nlink s.out o.in\ncycles 1\n\
-        off s\ncycles 1\non s\ncycles 1\n";
-    let samples = [1, 2, 3, 4, 5, 6];
-    expect_kept(&rt, text, 1, samples.as_slice(), 1, &[1, 2, 0, 0, 3, 4])
-}
-
-// The delay holds 2 when it is unlinked, and gives 0 when it begins anew.
-#[test]
-fn a_delay_begins_anew(rt: HostRuntime) -> Result<(), Fail> {
-    let text = "quantum 2\nsource s s.wav\ndelay d 1\nloop d 1\nsink o o.wav\ndriver o 1\n\
-        link s.out d.in\nlink d.out o.in\ncycles 1\nunlink s.out d.in\nunlink d.out o.in\n\
-        link s.out d.in\nlink d.out o.in\ncycles 1\n";
-    expect_kept(&rt, text, 1, &[1, 2, 3, 4], 2, &[0, 1, 0, 3])
-}
-
-// What the mixer gives comes back half as loud, two cycles later.
-#[test]
-fn a_late_link_hands_on_the_cycle_before(rt: HostRuntime) -> Result<(), Fail> {
-    let text = "quantum 1\nsource s s.wav\nmix2 m 256 128\ngain g 256\nloop g 1\nasync g\n\
-        sink o o.wav\ndriver o 1\nlink s.out m.a\nlink m.out g.in\nlink g.out m.b\n\
-        link m.out o.in\ncycles 5\n";
-    expect_kept(&rt, text, 1, &[8], 3, &[8, 0, 4, 0, 2])
-}
-
-// Two squares of 100, whose loops have the numbers 0 and 5.
-#[test]
-fn one_thread_runs_all_loops(rt: HostRuntime) -> Result<(), Fail> {
-    let wanted = [
-        200, 200, -200, -200, 200, 200, -200, -200, 200, 200, -200, -200, 200, 200, -200, -200,
-        200, 200, -200, -200,
-    ];
-    expect_kept(&rt, TWO_SQUARES, 0, &[], 2, wanted.as_slice())
 }

@@ -1,51 +1,79 @@
 //! Which loop the nodes of two squares and a sink belong to, and their seats on the boards.
+ghost use Rattle.loop_tests.specs.Work.{CanRun};
 
-use crate::runs::two_squares;
+use crate::threads::TWO_SQUARES;
+use crate::work::{Work, work_of};
 use graph_run::{boards_of, loop_of, nodes_of_loop};
+use pw_base::Plan;
+use std::alloc::Global;
 use std::test::Fail;
 
-#[test]
-fn a_node_has_the_loop_of_its_number(rt: HostRuntime) -> Result<(), Fail> {
-    let alloc = rt.alloc();
-    let Some(work) = two_squares(alloc)? else {
-        panic!(rt; "the squares have no plan")
-    };
-    let plan = &work.plan;
-    // node, loops, its loop: a driver is in the driver's own, and so is each node of no loops
-    let rows = [
-        (0, 2, 0),
-        (1, 2, 1),
-        (1, 3, 2),
-        (2, 2, 2),
-        (0, 0, 0),
-        (1, 0, 0),
-        (1, 16, 5),
-        (2, 16, 16),
-    ];
+/// A node, how many loops there are, and its loop: a driver is in the driver's own, and so is each node of no loops.
+const LOOPS: [(u32, u32, u32); 8] = [
+    (0, 2, 0),
+    (1, 2, 1),
+    (1, 3, 2),
+    (2, 2, 2),
+    (0, 0, 0),
+    (1, 0, 0),
+    (1, 16, 5),
+    (2, 16, 16),
+];
+
+// Whether each node of these rows has its loop.
+fn have_loops(plan: &Plan, rows: &[(u32, u32, u32)]) -> bool {
     for (node, loops, which) in rows {
-        assert!(rt; loop_of(plan, loops, node) == which);
+        if loop_of(plan, *loops, *node) != *which {
+            return false;
+        }
     }
+    true
+}
+
+// Whether the nodes of a loop are these.
+fn has_nodes(alloc: Global, plan: &Plan, loops: u32, which: u32, wanted: &[u32]) -> bool {
     if plan.nodes.len() > 63 {
-        panic!(rt; "three nodes");
+        return false;
     }
-    assert!(rt; nodes_of_loop(alloc, plan, 2, 1)?.as_slice() == [1].as_slice());
-    assert!(rt; nodes_of_loop(alloc, plan, 2, 2)?.as_slice() == [2].as_slice());
-    assert!(rt; nodes_of_loop(alloc, plan, 0, 0)?.as_slice() == [0, 1, 2].as_slice());
-    Ok(())
+    match nodes_of_loop(alloc, plan, loops, which) {
+        Ok(nodes) => nodes.as_slice() == wanted,
+        Err(_memory) => false,
+    }
+}
+
+// Whether the nodes of the squares have their loops, and the loops their nodes.
+fn is_assigned(alloc: Global, plan: &Plan) -> bool {
+    have_loops(plan, LOOPS.as_slice())
+        && has_nodes(alloc, plan, 2, 1, &[1])
+        && has_nodes(alloc, plan, 2, 2, &[2])
+        && has_nodes(alloc, plan, 0, 0, &[0, 1, 2])
+}
+
+// Whether each of two loops and the driver's own has a seat on each of two boards.
+fn has_seats(alloc: Global, work: &Work) -> bool
+    requires { CanRun work.now.plan work.now.waves }
+{
+    match boards_of(alloc, &work.plan, &work.waves, 2) {
+        Ok(all) => {
+            all.boards.len() == 2
+                && all.drivers.len() == 2
+                && all.seats.len() == 3
+                && all.seats.iter().all(|row| row.as_slice().len() == 2)
+        }
+        Err(_memory) => false,
+    }
+}
+
+// Both of the two squares.
+fn squares_are_assigned(alloc: Global) -> bool {
+    match work_of(alloc, TWO_SQUARES) {
+        Some(work) => is_assigned(alloc, &work.plan) && has_seats(alloc, &work),
+        None => false,
+    }
 }
 
 #[test]
-fn each_loop_has_a_seat_on_each_board(rt: HostRuntime) -> Result<(), Fail> {
-    let alloc = rt.alloc();
-    let Some(work) = two_squares(alloc)? else {
-        panic!(rt; "the squares have no plan")
-    };
-    let all = boards_of(alloc, &work.plan, &work.waves, 2)?;
-    assert!(rt; all.boards.len() == 2);
-    assert!(rt; all.drivers.len() == 2);
-    assert!(rt; all.seats.len() == 3);
-    for row in all.seats.iter() {
-        assert!(rt; row.as_slice().len() == 2);
-    }
+fn a_node_has_its_loop_and_each_loop_its_seats(rt: HostRuntime) -> Result<(), Fail> {
+    assert!(rt; squares_are_assigned(rt.alloc()));
     Ok(())
 }

@@ -15,12 +15,14 @@ mod queues;
 #[cfg(test)]
 mod runs;
 #[cfg(test)]
+mod stepping;
+#[cfg(test)]
 mod steps;
 #[cfg(test)]
 mod threads;
 #[cfg(test)]
 mod words;
+#[cfg(test)]
 mod work;
 
-pub use crew::{Crew, crew_of};
-pub use work::{Work, work_of};
+pub use crew::Crew;

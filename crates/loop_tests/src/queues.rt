@@ -5,6 +5,7 @@ ghost use Rattle.ready_queues.specs.AnsweredWith.{IsWayOf};
 ghost use Rattle.loop_tests.specs.Crew.{IsCrewOn};
 
 use crate::crew::Crew;
+use crate::stepping::try_at;
 use crate::steps::row_crew;
 use board_rule::{Board, BoardSeat};
 use data_loop::{Tried, Way, Ways};
@@ -22,42 +23,47 @@ fn owners(alloc: Global) -> Result<Items<u32>, Memory>
 }
 
 // The ways of the row: the driver's, and those of the two loops.
-fn row_ways(alloc: Global) -> Result<Option<(Ways, Way, Way, Way)>, Memory>
-    ensures loops { IfOk result (λ o. IfSome o (λ t. t.0.loops ≡ 2)) }
-    ensures driver { IfOk result (λ o. IfSome o (λ t. IsDriverWay t.0 t.1)) }
-    ensures first { IfOk result (λ o. IfSome o (λ t. IsWayOf t.0 t.2 × (t.2.number ≡ 0))) }
-    ensures second { IfOk result (λ o. IfSome o (λ t. IsWayOf t.0 t.3 × (t.3.number ≡ 1))) }
+fn row_ways(alloc: Global) -> Option<(Ways, Way, Way, Way)>
+    ensures loops { IfSome result (λ t. t.0.loops ≡ 2) }
+    ensures driver { IfSome result (λ t. IsDriverWay t.0 t.1) }
+    ensures first { IfSome result (λ t. IsWayOf t.0 t.2 × (t.2.number ≡ 0)) }
+    ensures second { IfSome result (λ t. IsWayOf t.0 t.3 × (t.3.number ≡ 1)) }
 {
-    let owner = owners(alloc)?;
-    let (ways, driver, mut others) = Ways::new(alloc, &owner, 2)?;
+    let Ok(owner) = owners(alloc) else {
+        return None;
+    };
+    let Ok((ways, driver, mut others)) = Ways::new(alloc, &owner, 2) else {
+        return None;
+    };
     let Some(second) = others.pop() else {
-        return Ok(None);
+        return None;
     };
     let Some(first) = others.pop() else {
-        return Ok(None);
+        return None;
     };
-    Ok(Some((ways, driver, first, second)))
+    Some((ways, driver, first, second))
 }
 
-// What the beginning of a cycle wakes. None where none is left.
-fn woken(board: &Board, crew: &mut Crew) -> Option<u64>
+// What the beginning of a cycle wakes, and what the turn of the source wakes then. None where no cycle is left, or the
+// source is not awake.
+fn woken(board: &Board, crew: &mut Crew) -> Option<(u64, u64)>
     requires on { IsCrewOn board.now crew.old }
-    ensures on { IsCrewOn board.now crew.new }
 {
-    if crew.begin(board) {
-        Some(crew.seat.woke())
-    } else {
-        None
+    if !crew.begin(board) {
+        return None;
+    }
+    let begun = crew.seat.woke();
+    match try_at(board, crew, 0, 0, &Open::new()) {
+        Tried::Ran => Some((begun, crew.woke(0))),
+        _ => None,
     }
 }
 
-// What the turn of the source wakes. None where it is not awake.
-fn woken_by_source(board: &Board, crew: &mut Crew) -> Option<u64>
-    requires on { IsCrewOn board.now crew.old }
-{
-    match crew.try_at(board, 0, 0, &Open::new()) {
-        Tried::Ran => Some(crew.woke(0)),
-        _ => None,
+// The same in the row.
+fn woken_in_row(alloc: Global) -> Option<(u64, u64)> {
+    match row_crew(alloc) {
+        Some((board, mut crew)) => woken(&board, &mut crew),
+        None => None,
     }
 }
 
@@ -72,25 +78,47 @@ fn received<R: Wait>(rt: &R, ways: &Ways, first: &mut Way, second: &mut Way) -> 
     [ways.receive(rt, first), ways.receive(rt, second)]
 }
 
+// Whether what was begun comes to the first loop alone, and then what the source's turn woke to the second alone.
+fn numbers_come<R: Wait>(
+    rt: &R,
+    ways: &Ways,
+    way: &mut Way,
+    first: &mut Way,
+    second: &mut Way,
+    woke: (u64, u64),
+) -> bool
+    requires loops { ways.now.loops ≡ 2 }
+    requires driver { IsDriverWay ways.now way.old }
+    requires first { IsWayOf ways.now first.old × (first.old.number ≡ 0) }
+    requires second { IsWayOf ways.now second.old × (second.old.number ≡ 1) }
+{
+    let sent = ways.send(rt, way, woke.0);
+    let early = received(rt, ways, first, second);
+    let forwarded = ways.forward(rt, first, woke.1);
+    let late = received(rt, ways, first, second);
+    (sent, forwarded) == (0, 0) && early == [Some(0), None] && late == [None, Some(1)]
+}
+
+// The same by the ways of the row.
+fn row_sends<R: Wait>(rt: &R, alloc: Global, woke: (u64, u64)) -> bool {
+    match row_ways(alloc) {
+        Some((ways, mut way, mut first, mut second)) => {
+            numbers_come(rt, &ways, &mut way, &mut first, &mut second, woke)
+        }
+        None => false,
+    }
+}
+
+// Whether the row wakes the source and then the split, and their numbers come to their loops.
+fn row_wakes<R: Wait>(rt: &R, alloc: Global) -> bool {
+    match woken_in_row(alloc) {
+        Some(woke) => woke == (1, 2) && row_sends(rt, alloc, woke),
+        None => false,
+    }
+}
+
 #[test]
 fn what_is_woken_goes_to_its_loop(rt: HostRuntime) -> Result<(), Fail> {
-    let Some((board, mut crew)) = row_crew(rt.alloc())? else {
-        panic!(rt; "the row has no plan")
-    };
-    let Some((ways, mut way, mut first, mut second)) = row_ways(rt.alloc())? else {
-        panic!(rt; "no ways")
-    };
-    assert_eq!(rt; woken(&board, &mut crew), Some(1));
-    assert_eq!(rt; ways.send(&rt, &mut way, crew.seat.woke()), 0);
-    assert_eq!(rt;
-        received(&rt, &ways, &mut first, &mut second),
-        [Some(0), None]
-    );
-    assert_eq!(rt; woken_by_source(&board, &mut crew), Some(2));
-    assert_eq!(rt; ways.forward(&rt, &mut first, crew.woke(0)), 0);
-    assert_eq!(rt;
-        received(&rt, &ways, &mut first, &mut second),
-        [None, Some(1)]
-    );
+    assert!(rt; row_wakes(&rt, rt.alloc()));
     Ok(())
 }

@@ -1,63 +1,53 @@
 //! Whole runs by threads, whose sinks are compared.
-ghost use Rattle.std.specs.Prelude.{IfOk, IfSome};
 ghost use Rattle.loop_tests.specs.Work.{CanRun};
 
-use crate::work::{Work, work_of};
+use crate::work::{Work, WorkRow, work_of};
 use graph_run::run_plan;
-use pw_base::{Every, Gate, Memory, Open, is_legal_history};
+use pw_base::{Every, Gate, Meet, Open, is_legal_history};
 use std::alloc::Global;
-use std::process::Abort;
 use std::sync::Wait;
-use std::test::Fail;
 use std::thread::Threads;
 use wav_files::Outcome;
 
-/// Two squares of 100 into a sink that drives, for five cycles in two epochs.
-pub(crate) const TWO_SQUARES: &str =
-    "quantum 4\nsquare a 48000 1 4 100\nsquare b 48000 1 4 100\nloop b 5\nsink o o.wav\nloop o 2\n\
-    driver o 1\nlink a.out o.in\nlink b.out o.in\ncycles 3\ncycles 2\n";
-
-/// Their plan.
-pub(crate) fn two_squares(alloc: Global) -> Result<Option<Work>, Memory>
-    ensures { IfOk result (λ o. IfSome o CanRun) }
-{
-    work_of(alloc, TWO_SQUARES, 0, &[])
+/// What the sinks of a run keep.
+#[derive(Clone, Copy, Drop)]
+pub(crate) enum Kept<'a> {
+    /// There is one, which keeps these samples.
+    One(&'a [i16]),
+    /// Each keeps so many samples: the zeros of its place, and then these again and again.
+    Waves(usize, &'a [usize], [i16; 8]),
 }
 
-/// A run by a loop for each entry of `adopt`, and how many closed boards there are. None where
-/// there are more than 16.
-pub(crate) fn run_by<R: Threads + Wait + Sync, G: Gate + Sync>(
+/// A run of a work, by a loop for each entry of a choice: whether it is adopted. Each choice has so many closed boards
+/// and keeps the same.
+#[derive(Clone, Copy, Drop)]
+pub(crate) struct RunRow<'a> {
+    pub work: WorkRow<'a>,
+    pub choices: &'a [&'a [bool]],
+    pub boards: usize,
+    pub kept: Kept<'a>,
+}
+
+// A run with a look in every second cycle, and how many closed boards there are. None where there are more than 16
+// loops, or no memory.
+fn run_by<R: Threads + Wait + Sync, G: Gate + Sync>(
     rt: &R,
     alloc: Global,
     work: &Work,
     adopt: &[bool],
     gate: &G,
-) -> Result<Option<(Outcome, usize)>, Memory>
-    requires { CanRun work.now }
+) -> Option<(Outcome, usize)>
+    requires { CanRun work.now.plan work.now.waves }
 {
     if adopt.len() > 16 {
-        return Ok(None);
+        return None;
     }
-    let mut ticker = Every::new(2);
     let loops = adopt.len() as u32;
-    let (outcome, closed) = run_plan(
-        rt,
-        alloc,
-        &work.plan,
-        &work.waves,
-        loops,
-        adopt,
-        gate,
-        &mut ticker,
-    )?;
-    Ok(Some((outcome, closed.len())))
-}
-
-/// Whether there is one sink, which has kept these samples.
-pub(crate) fn has_kept(outcome: &Outcome, wanted: &[i16]) -> bool {
-    match outcome.sinks.as_slice() {
-        [kept] => kept.wav.samples.as_slice() == wanted,
-        _ => false,
+    let mut ticker = Every::new(2);
+    let (plan, waves) = (&work.plan, &work.waves);
+    match run_plan(rt, alloc, plan, waves, loops, adopt, gate, &mut ticker) {
+        Ok((outcome, closed)) => Some((outcome, closed.len())),
+        Err(_memory) => None,
     }
 }
 
@@ -80,9 +70,8 @@ fn is_wave(samples: &[i16], zeros: usize, period: [i16; 8]) -> bool {
     true
 }
 
-// Whether each sink has kept so many samples: the zeros of its place, and then these again and
-// again.
-fn have_kept(outcome: &Outcome, len: usize, zeros: &[usize], period: [i16; 8]) -> bool {
+// Whether each sink has kept so many samples of its wave.
+fn have_waves(outcome: &Outcome, len: usize, zeros: &[usize], period: [i16; 8]) -> bool {
     let sinks = outcome.sinks.as_slice();
     if sinks.len() != zeros.len() {
         return false;
@@ -96,47 +85,115 @@ fn have_kept(outcome: &Outcome, len: usize, zeros: &[usize], period: [i16; 8]) -
     true
 }
 
-/// Runs a text with each of these choices of adopted loops. Its one sink is to keep these samples,
-/// on so many boards, and its history is to be legal.
-pub(crate) fn expect_sink<R: Threads + Wait + Sync + AllocGlobal + Abort>(
-    rt: &R,
-    text: &str,
-    channels: u32,
-    samples: &[i16],
-    choices: &[&[bool]],
-    boards: usize,
-    wanted: &[i16],
-) -> Result<(), Fail> {
-    let Some(work) = work_of(rt.alloc(), text, channels, samples)? else {
-        panic!(rt; "the text has no plan")
-    };
-    for adopt in choices {
-        let Some((outcome, closed)) = run_by(rt, rt.alloc(), &work, adopt, &Open::new())? else {
-            panic!(rt; "there are at most 16 loops")
-        };
-        assert!(rt; closed == boards && has_kept(&outcome, wanted));
-        let events = outcome.history.as_slice();
-        assert!(rt; is_legal_history(work.plan.epochs.as_slice(), events));
+// Whether there is one sink, which has kept these samples.
+fn has_one(outcome: &Outcome, wanted: &[i16]) -> bool {
+    match outcome.sinks.as_slice() {
+        [kept] => kept.wav.samples.as_slice() == wanted,
+        _ => false,
     }
-    Ok(())
 }
 
-/// Runs a text without waves, with so many loops that all are started. Each sink is to keep so many
-/// samples: the zeros of its place, and then these again and again.
-pub(crate) fn expect_waves<R: Threads + Wait + Sync + AllocGlobal + Abort>(
+// Whether the sinks have kept this.
+fn have_kept(outcome: &Outcome, kept: Kept<'_>) -> bool {
+    match kept {
+        Kept::One(wanted) => has_one(outcome, wanted),
+        Kept::Waves(len, zeros, period) => have_waves(outcome, len, zeros, period),
+    }
+}
+
+// Whether a run by these loops has so many boards, and a legal history, and its sinks keep what they are to keep.
+fn runs_so<R: Threads + Wait + Sync>(
     rt: &R,
-    text: &str,
+    alloc: Global,
+    work: &Work,
     adopt: &[bool],
-    len: usize,
-    zeros: &[usize],
-    period: [i16; 8],
-) -> Result<(), Fail> {
-    let Some(work) = work_of(rt.alloc(), text, 0, &[])? else {
-        panic!(rt; "the text has no plan")
+    row: &RunRow<'_>,
+) -> bool
+    requires { CanRun work.now.plan work.now.waves }
+{
+    match run_by(rt, alloc, work, adopt, &Open::new()) {
+        Some((outcome, boards)) => {
+            boards == row.boards
+                && have_kept(&outcome, row.kept)
+                && is_legal_history(work.plan.epochs.as_slice(), outcome.history.as_slice())
+        }
+        None => false,
+    }
+}
+
+// The same by each choice of loops.
+fn all_run_so<R: Threads + Wait + Sync>(
+    rt: &R,
+    alloc: Global,
+    work: &Work,
+    row: &RunRow<'_>,
+) -> bool
+    requires { CanRun work.now.plan work.now.waves }
+{
+    for adopt in row.choices {
+        if !runs_so(rt, alloc, work, adopt, row) {
+            return false;
+        }
+    }
+    true
+}
+
+// The same of the work of a row.
+fn row_runs<R: Threads + Wait + Sync>(rt: &R, alloc: Global, row: &RunRow<'_>) -> bool {
+    match work_of(alloc, row.work) {
+        Some(work) => all_run_so(rt, alloc, &work, row),
+        None => false,
+    }
+}
+
+/// The first row of which some run goes otherwise.
+pub(crate) fn first_unlike<R: Threads + Wait + Sync>(
+    rt: &R,
+    alloc: Global,
+    rows: &[RunRow<'_>],
+) -> Option<usize> {
+    for at in 0..rows.len() {
+        if !row_runs(rt, alloc, &rows[at]) {
+            return Some(at);
+        }
+    }
+    None
+}
+
+// Whether the nodes 0 and 1 met in a run of a work, whose sinks are to keep this. None where they do not.
+fn met<R: Threads + Wait + Sync>(
+    rt: &R,
+    alloc: Global,
+    work: &Work,
+    adopt: &[bool],
+    kept: Kept<'_>,
+) -> Option<bool>
+    requires { CanRun work.now.plan work.now.waves }
+{
+    let meet = Meet::new(0, 1);
+    match run_by(rt, alloc, work, adopt, &meet) {
+        Some((outcome, _boards)) => {
+            if have_kept(&outcome, kept) {
+                Some(meet.met())
+            } else {
+                None
+            }
+        }
+        None => None,
+    }
+}
+
+/// The same of the work of a row, by its first choice.
+pub(crate) fn meet_in<R: Threads + Wait + Sync>(
+    rt: &R,
+    alloc: Global,
+    row: &RunRow<'_>,
+) -> Option<bool> {
+    let [adopt] = row.choices else {
+        return None;
     };
-    let Some((outcome, _boards)) = run_by(rt, rt.alloc(), &work, adopt, &Open::new())? else {
-        panic!(rt; "there are at most 16 loops")
-    };
-    assert!(rt; have_kept(&outcome, len, zeros, period));
-    Ok(())
+    match work_of(alloc, row.work) {
+        Some(work) => met(rt, alloc, &work, adopt, row.kept),
+        None => None,
+    }
 }

@@ -4,7 +4,7 @@ ghost use Rattle.pw_base.specs.Layout.{area_count, event_count, event_place};
 ghost use Rattle.board_rule.specs.Layout.{word_count};
 
 use board_rule::Board;
-use pw_base::{Gate, Memory, ShapeLink, is_pooled_shape, pools_of};
+use pw_base::{Gate, ShapeLink, is_pooled_shape, pools_of};
 use std::alloc::Global;
 use std::sync::atomic::{AtomicU64, Ordering};
 
@@ -63,23 +63,20 @@ fn has_two(board: &Board, at: usize, first: u64, second: u64) -> bool
 }
 
 /// Whether the first block of the first pool has so many readers, and this as its first word.
-pub(crate) fn block_is(
-    alloc: Global,
-    board: &Board,
-    readers: u64,
-    samples: u64,
-) -> Result<bool, Memory> {
+pub(crate) fn block_is(alloc: Global, board: &Board, readers: u64, samples: u64) -> bool {
     if !is_pooled_shape(board.shape()) {
-        return Ok(false);
+        return false;
     }
-    let pools = pools_of(alloc, board.shape())?;
+    let Ok(pools) = pools_of(alloc, board.shape()) else {
+        return false;
+    };
     let Some(pool) = pools.as_slice().get(0) else {
-        return Ok(false);
+        return false;
     };
     if pool.blocks == 0 || pool.words == 0 {
-        return Ok(false);
+        return false;
     }
-    Ok(has_two(board, first_pool(board), readers, samples))
+    has_two(board, first_pool(board), readers, samples)
 }
 
 /// A gate that compares the words of a board's nodes while one of them has its turn.

@@ -1,5 +1,5 @@
 //! A plan of a script's text, with the waves of its sources.
-ghost use Rattle.std.specs.Prelude.{IfOk, IfSome};
+ghost use Rattle.std.specs.Prelude.{IfSome};
 ghost use Rattle.loop_tests.specs.Work.{CanRun};
 
 use cycle_model::waves_fit;
@@ -7,6 +7,14 @@ use plan_tests::{Silence, plan_text};
 use pw_base::{Items, Memory, Plan};
 use std::alloc::Global;
 use wav_files::{Wav, WavIn};
+
+/// A script, and the samples of its source, node 0, of one channel or two. With 0 channels there is no source.
+#[derive(Clone, Copy, Drop)]
+pub struct WorkRow<'a> {
+    pub text: &'a str,
+    pub channels: u32,
+    pub samples: &'a [i16],
+}
 
 /// A plan, and a wave for each of its sources.
 #[derive(Drop)]
@@ -25,13 +33,13 @@ fn silence(channels: u32) -> Silence {
 }
 
 // The wave of node 0, or none where it has no channels.
-fn waves_of(alloc: Global, channels: u32, samples: &[i16]) -> Result<Items<WavIn>, Memory> {
+fn waves_of(alloc: Global, row: WorkRow<'_>) -> Result<Items<WavIn>, Memory> {
     let mut waves = Items::new(alloc);
-    if channels > 0 {
-        let samples = Items::from_slice(alloc, samples)?;
+    if row.channels > 0 {
+        let samples = Items::from_slice(alloc, row.samples)?;
         let wav = Wav {
             rate: 48000,
-            channels,
+            channels: row.channels,
             samples,
         };
         waves.push(WavIn { node: 0, wav })?;
@@ -39,22 +47,19 @@ fn waves_of(alloc: Global, channels: u32, samples: &[i16]) -> Result<Items<WavIn
     Ok(waves)
 }
 
-/// The plan of a text. Its node 0 is a source with these samples, of one channel or two; with 0
-/// channels there is no source. None where the text has no plan, or the wave does not fit it.
-pub fn work_of(
-    alloc: Global,
-    text: &str,
-    channels: u32,
-    samples: &[i16],
-) -> Result<Option<Work>, Memory>
-    ensures { IfOk result (λ o. IfSome o CanRun) }
+/// The plan of a row with its wave. None where its text has no plan, or the wave does not fit it.
+pub fn work_of(alloc: Global, row: WorkRow<'_>) -> Option<Work>
+    ensures { IfSome result (λ work. CanRun work.plan work.waves) }
 {
-    let Ok(plan) = plan_text(alloc, text, &[silence(channels)]) else {
-        return Ok(None);
+    let Ok(waves) = waves_of(alloc, row) else {
+        return None;
     };
-    let waves = waves_of(alloc, channels, samples)?;
-    if !waves_fit(&plan, &waves) {
-        return Ok(None);
+    let Ok(plan) = plan_text(alloc, row.text, &[silence(row.channels)]) else {
+        return None;
+    };
+    if waves_fit(&plan, &waves) {
+        Some(Work { plan, waves })
+    } else {
+        None
     }
-    Ok(Some(Work { plan, waves }))
 }

@@ -7,4 +7,3 @@ pub mod IdleLemmas
 pub mod FrameLemmas
 pub mod PrepareLemmas
 pub mod EndLemmas
-pub mod CarriedLemmas

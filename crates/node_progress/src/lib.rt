@@ -9,8 +9,6 @@ mod frames;
 mod preparing;
 mod restarting;
 mod score;
-#[cfg(test)]
-mod tests;
 mod working;
 
 pub use frames::{takes_part, worked_cycles, works_in};

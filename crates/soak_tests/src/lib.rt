@@ -11,6 +11,5 @@ mod plain;
 mod soak;
 #[cfg(test)]
 mod taken;
+#[cfg(test)]
 mod work;
-
-pub use work::{Work, work_of};

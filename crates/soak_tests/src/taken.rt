@@ -56,7 +56,7 @@ struct Begun {
 }
 
 fn begin_run(alloc: Global, work: &Work, loops: u32) -> Result<Option<Begun>, Memory>
-    requires work { CanRun work.now }
+    requires work { CanRun work.now.plan work.now.waves }
     requires few { loops ≤ 16 }
     ensures loops { IfOk result (λ o. IfSome o (λ b.
         All (CanStart b.common.boards b.common.ways) b.loops)) }
@@ -169,38 +169,50 @@ fn run_within<R: Threads + Wait + Sync + Abort>(
     )
 }
 
-// A run of the graph of a number. How many numbers its loops took, or None where it has no plan.
-fn taken_by<R: Threads + Wait + Sync + AllocGlobal + Abort>(
+// How many numbers the loops of a run took.
+fn taken_in<R: Threads + Wait + Sync + Abort>(
     rt: &R,
-    number: u32,
+    alloc: Global,
+    work: &Work,
     loops: u32,
-) -> Result<Option<u64>, Memory>
+) -> Option<u64>
+    requires work { CanRun work.now.plan work.now.waves }
     requires few { loops ≤ 16 }
 {
-    let alloc = rt.alloc();
-    let Some(work) = work_of(alloc, number)? else {
-        return Ok(None);
-    };
-    let Some(begun) = begin_run(alloc, &work, loops)? else {
-        return Ok(None);
-    };
-    let Begun {
-        common,
-        loops,
-        own,
-        drivers,
-        way,
-    } = begun;
-    run_within(rt, &common, loops, own, drivers, way);
-    Ok(Some(common.taken.load(Ordering::SeqCst)))
+    match begin_run(alloc, work, loops) {
+        Ok(Some(begun)) => {
+            let Begun {
+                common,
+                loops,
+                own,
+                drivers,
+                way,
+            } = begun;
+            run_within(rt, &common, loops, own, drivers, way);
+            Some(common.taken.load(Ordering::SeqCst))
+        }
+        _ => None,
+    }
+}
+
+// The same of the graph of a number. None where it has no plan.
+fn taken_by<R: Threads + Wait + Sync + Abort>(
+    rt: &R,
+    alloc: Global,
+    number: u32,
+    loops: u32,
+) -> Option<u64>
+    requires few { loops ≤ 16 }
+{
+    match work_of(alloc, number) {
+        Ok(Some(work)) => taken_in(rt, alloc, &work, loops),
+        _ => None,
+    }
 }
 
 // All nodes are woken by others, so that their loops need not find them by a scan.
 #[test]
 fn loops_take_numbers_from_their_queues(rt: HostRuntime) -> Result<(), Fail> {
-    let Some(taken) = taken_by(&rt, 7, 4)? else {
-        panic!(rt; "the graph has no plan")
-    };
-    assert!(rt; taken > 0, "{taken}");
+    assert!(rt; taken_by(&rt, rt.alloc(), 7, 4).unwrap_or(0) > 0);
     Ok(())
 }

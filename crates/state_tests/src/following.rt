@@ -46,7 +46,7 @@ fn follows_once(
     left: &mut [i16],
     right: &mut [i16],
 ) -> bool
-    requires widths { HaveWidths state.old widths }
+    requires widths { HaveWidths state.old widths.a widths.b widths.left widths.right }
     requires frames { HasFramesLeft state.old }
     requires left { length left.old ≡ widths.left }
     requires right { length right.old ≡ widths.right }
@@ -72,7 +72,7 @@ pub fn follows(
     streams: Streams<'_>,
     quanta: u32,
 ) -> Result<bool, Memory>
-    requires widths { HaveWidths state.old widths }
+    requires widths { HaveWidths state.old widths.a widths.b widths.left widths.right }
     requires frames { state.old.frames + quanta * state.old.quantum ≤ state.old.prepared }
 {
     let mut left = Items::filled(alloc, widths.left, 9)?;

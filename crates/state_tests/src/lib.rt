@@ -1,10 +1,13 @@
 //! Tests of samples: the kernels, quanta of node states, plans that are rendered whole, and node states beside the
 //! cycle function: what each kind of node gives quantum after quantum is what the reference program renders of whole
-//! streams. They stand apart, since a crate that has tests is proved twice. Besides the tests there is what follows a
-//! state quantum after quantum.
+//! streams; and runs of three nodes by node_progress alone. They stand apart, since a crate that has tests is proved
+//! twice.
 #![tactic(auto)]
 
-pub mod following;
+#[cfg(test)]
+mod chain;
+#[cfg(test)]
+mod following;
 #[cfg(test)]
 mod graph;
 #[cfg(test)]
@@ -17,5 +20,7 @@ mod plans;
 mod quanta;
 #[cfg(test)]
 mod rows;
+#[cfg(test)]
+mod runs;
 #[cfg(test)]
 mod widths;

@@ -235,8 +235,8 @@ fn epochs_of(alloc: Global, row: PlanRow<'_>) -> Result<Items<Epoch>, Memory> {
     Ok(epochs)
 }
 
-// The plan of a row.
-fn plan_of(alloc: Global, row: PlanRow<'_>) -> Result<Plan, Memory> {
+/// The plan of a row.
+pub fn plan_of(alloc: Global, row: PlanRow<'_>) -> Result<Plan, Memory> {
     let nodes = nodes_of(alloc, row.nodes)?;
     Ok(Plan {
         quantum: row.quantum,
@@ -246,8 +246,8 @@ fn plan_of(alloc: Global, row: PlanRow<'_>) -> Result<Plan, Memory> {
     })
 }
 
-// The wave of its source.
-fn waves_of(alloc: Global, row: PlanRow<'_>) -> Result<Items<WavIn>, Memory> {
+/// The wave of its source.
+pub fn waves_of(alloc: Global, row: PlanRow<'_>) -> Result<Items<WavIn>, Memory> {
     let samples = Items::from_slice(alloc, row.samples)?;
     let mut waves = Items::new(alloc);
     waves.push(WavIn {

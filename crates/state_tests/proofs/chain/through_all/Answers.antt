@@ -1,9 +1,9 @@
 use Rattle.std.proofs.Common.{◌≡◌, ◌+◌, suc, arith, subst}
 use Rattle.node_progress.specs.NodeStates.{IsNodeState}
-use Rattle.node_progress.proofs.tests.chain.played.Goals as goal
+use Rattle.state_tests.proofs.chain.through_all.Goals as goal
 
 pub loop-epoch-preserved : goal.loop-epoch-preserved
-loop-epoch-preserved c = let yes = c.if-not-through.false in let k = c.loop-epoch.epoch in let score = c.of-score.result in
+loop-epoch-preserved c = let yes = c.if-not-through.false in let k = c.loop-epoch.epoch in let score = c.args.score.now in
     let new = c.through.new in let e = c.through.ensures in
     let one : suc k ≡ k + 1 = omega arith in (
       subst (λ j. IsNodeState score j j 0 new.source) one (e.source yes),

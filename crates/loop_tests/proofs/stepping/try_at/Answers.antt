@@ -2,7 +2,7 @@ use Rattle.std.proofs.Common.{sym, subst, arith}
 use Rattle.board_rule.specs.OnBoard.{layout, table_of}
 use Rattle.data_loop.specs.LoopsOnBoards.{IsOnBoard}
 use Rattle.loop_tests.proofs.CrewLemmas.{one_tried}
-use Rattle.loop_tests.proofs.crew.Crew.try_at.Goals as goal
+use Rattle.loop_tests.proofs.stepping.try_at.Goals as goal
 
 pub try_node-requires : goal.try_node-requires
 try_node-requires g c = record {
@@ -11,7 +11,7 @@ try_node-requires g c = record {
 }
 
 pub returns-then-which-len : goal.returns-then-which-len
-returns-then-which-len g c = let crew = c.args.self.now in record {
+returns-then-which-len g c = let crew = c.args.crew.now in record {
   on = record {
     thread = one_tried c.args.board.now crew.seat crew.own crew.others.items c.requires.on.thread c.args.which c.try_node.new.state c.try_node.ensures.on;
     driving = c.requires.on.driving;

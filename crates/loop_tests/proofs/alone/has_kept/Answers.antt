@@ -3,7 +3,7 @@ use Rattle.std.specs.Prelude.{Contains}
 use Rattle.std.proofs.lemmas.Bool.{ltb-true}
 use Rattle.pw_base.specs.declared.plan.PlanNode.{PlanNode}
 use Rattle.graph_run.proofs.ReadyLemmas.{is_in}
-use Rattle.loop_tests.proofs.alone.sink_of.Goals as goal
+use Rattle.loop_tests.proofs.alone.has_kept.Goals as goal
 
 pub kept-requires-clause-own : goal.kept-requires-clause-own
 kept-requires-clause-own c = let plan = c.args.plan.now in let loops = c.args.loops in let node = c.args.node in

@@ -1,22 +1,20 @@
-//! Three nodes in a row, a source, a node between and a sink that drives, through a plan whose
-//! epochs have a cycle each.
-ghost use Rattle.std.specs.Prelude.{◌≡◌, ◌<◌, ◌*◌, List, ℤ, suc, true, length, map, find, count_by, false, option_copied, IfOk, IfSome, IsTrue};
+//! Three nodes in a row, a source, a node between and a sink that drives, through a plan whose epochs have a cycle
+//! each: each node works by the contracts of node_progress alone.
+ghost use Rattle.std.specs.Prelude.{◌≡◌, ◌<◌, ◌*◌, List, ℤ, suc, true, length, map, find, count_by, false, option_copied, IfSome, IsTrue};
 ghost use Rattle.pw_base.specs.KindPorts.{input_count, output_count};
 ghost use Rattle.pw_base.specs.PlanForms.{kind_at};
 ghost use Rattle.pw_base.specs.PlanFresh.{IsEpoch};
 ghost use Rattle.pw_base.specs.Pools.{is_same_port};
 ghost use Rattle.pw_base.specs.Samples.{clamped, silence, summed};
-ghost use Rattle.pw_base.specs.SoundPlan.{IsSoundPlan};
 ghost use Rattle.cycle_model.specs.Epochs.{channels_of};
-ghost use Rattle.cycle_model.specs.WavesFit.{WavesFit};
 ghost use Rattle.node_progress.specs.NodeStates.{IsNodeState, IsOutputRow};
 ghost use Rattle.node_progress.specs.Standing.{comes_in, goes_out, Gives, works_in};
+ghost use Rattle.state_tests.specs.Chain.{IsChain, IsCycleOf};
 
-use crate::frames::works_in;
-use crate::{Score, enter_next, prepare_node, restart_in, work};
 use cycle_model::waves_fit;
+use node_progress::{Score, enter_next, prepare_node, restart_in, work, works_in};
 use node_state::NodeState;
-use pw_base::{Epoch, Items, Memory, Plan, PortId, ShapeLink, is_same_port, is_sound_plan};
+use pw_base::{Epoch, Items, Plan, PortId, ShapeLink, is_same_port, is_sound_plan};
 use s16_mixer::{clamp_out, mix_into};
 use std::alloc::Global;
 use wav_files::WavIn;
@@ -136,8 +134,8 @@ fn alone(row: &[i16], to: &mut [i16]) -> bool
     true
 }
 
-// What comes to the first input of a node, over no link or over one of the node `from`, which gave
-// this row if it worked.
+// What comes to the first input of a node, over no link or over one of the node `from`, which gave this row if it
+// worked.
 fn comes(
     score: &Score,
     plan: &Plan,
@@ -148,10 +146,7 @@ fn comes(
     row: Option<&[i16]>,
     to: &mut [i16],
 ) -> bool
-    requires plan_is { score.now.plan.value ≡ plan.now }
-    requires sound { IsSoundPlan score.now.plan.value }
-    requires at { IsEpoch score.now.plan.value epoch at.now }
-    requires cycle { (at.now.shape.first ≡ epoch) × (at.now.shape.cycles ≡ 1) }
+    requires cycle { IsCycleOf score.now plan.now epoch at.now }
     requires row { IfSome row (λ r. r.now ≡ goes_out score.now epoch from 0) }
     ensures { IsTrue result → to.new ≡ comes_in score.now epoch node 0 }
 {
@@ -192,12 +187,8 @@ fn pass(
     a: &[i16],
     left: &mut [i16],
 ) -> Option<bool>
-    requires plan_is { score.now.plan.value ≡ plan.now }
-    requires sound { IsSoundPlan score.now.plan.value }
-    requires fit { WavesFit score.now.plan.value score.now.waves.value }
+    requires cycle { IsCycleOf score.now plan.now epoch at.now }
     requires place { node < length score.now.plan.value.nodes }
-    requires at { IsEpoch score.now.plan.value epoch at.now }
-    requires cycle { (at.now.shape.first ≡ epoch) × (at.now.shape.cycles ≡ 1) }
     requires state { IsNodeState score.now epoch epoch node state.old }
     requires a { works_in at.now node ≡ true → a.now ≡ comes_in score.now epoch node 0 }
     ensures state { IfSome result (λ w. IsNodeState score.now epoch (suc epoch) node state.new) }
@@ -224,12 +215,8 @@ fn step(
     a: &[i16],
     left: &mut [i16],
 ) -> Option<bool>
-    requires plan_is { score.now.plan.value ≡ plan.now }
-    requires sound { IsSoundPlan score.now.plan.value }
-    requires fit { WavesFit score.now.plan.value score.now.waves.value }
+    requires cycle { IsCycleOf score.now plan.now epoch at.now }
     requires place { node < length score.now.plan.value.nodes }
-    requires at { IsEpoch score.now.plan.value epoch at.now }
-    requires cycle { (at.now.shape.first ≡ epoch) × (at.now.shape.cycles ≡ 1) }
     requires state { IsNodeState score.now epoch epoch node state.old }
     requires a { works_in at.now node ≡ true → a.now ≡ comes_in score.now epoch node 0 }
     ensures state { IfSome result
@@ -259,12 +246,8 @@ fn begin(
     state: &mut NodeState,
     left: &mut [i16],
 ) -> Option<bool>
-    requires plan_is { score.now.plan.value ≡ plan.now }
-    requires sound { IsSoundPlan score.now.plan.value }
-    requires fit { WavesFit score.now.plan.value score.now.waves.value }
+    requires cycle { IsCycleOf score.now plan.now epoch at.now }
     requires place { node < length score.now.plan.value.nodes }
-    requires at { IsEpoch score.now.plan.value epoch at.now }
-    requires cycle { (at.now.shape.first ≡ epoch) × (at.now.shape.cycles ≡ 1) }
     requires state { IsNodeState score.now epoch epoch node state.old }
     ensures state { IfSome result
         (λ w. IsNodeState score.now (suc epoch) (suc epoch) node state.new) }
@@ -288,12 +271,8 @@ fn follow(
     state: &mut NodeState,
     left: &mut [i16],
 ) -> Option<bool>
-    requires plan_is { score.now.plan.value ≡ plan.now }
-    requires sound { IsSoundPlan score.now.plan.value }
-    requires fit { WavesFit score.now.plan.value score.now.waves.value }
+    requires cycle { IsCycleOf score.now plan.now epoch at.now }
     requires place { node < length score.now.plan.value.nodes }
-    requires at { IsEpoch score.now.plan.value epoch at.now }
-    requires cycle { (at.now.shape.first ≡ epoch) × (at.now.shape.cycles ≡ 1) }
     requires row { IfSome row (λ r. r.now ≡ goes_out score.now epoch from 0) }
     requires state { IsNodeState score.now epoch epoch node state.old }
     ensures state { IfSome result
@@ -317,10 +296,7 @@ fn through(
     between: &mut NodeState,
     sink: &mut NodeState,
 ) -> bool
-    requires plan_is { score.now.plan.value ≡ plan.now }
-    requires sound { IsSoundPlan score.now.plan.value }
-    requires fit { WavesFit score.now.plan.value score.now.waves.value }
-    requires nodes { 2 < length score.now.plan.value.nodes }
+    requires chain { IsChain score.now plan.now }
     requires source { IsNodeState score.now epoch epoch 0 source.old }
     requires between { IsNodeState score.now epoch epoch 1 between.old }
     requires sink { IsNodeState score.now epoch epoch 2 sink.old }
@@ -354,28 +330,64 @@ fn through(
     follow(score, plan, at, epoch, 2, 1, row, sink, &mut []).is_some()
 }
 
-/// What the sink keeps after so many epochs; None where the plan is not sound, its waves do not
+// So many epochs, from the first one on.
+fn through_all(
+    score: &Score,
+    plan: &Plan,
+    epochs: u32,
+    source: &mut NodeState,
+    between: &mut NodeState,
+    sink: &mut NodeState,
+) -> bool
+    requires chain { IsChain score.now plan.now }
+    requires source { IsNodeState score.now 0 0 0 source.old }
+    requires between { IsNodeState score.now 0 0 1 between.old }
+    requires sink { IsNodeState score.now 0 0 2 sink.old }
+{
+    for epoch in 0..epochs {
+        if !through(score, plan, epoch, source, between, sink) {
+            return false;
+        }
+    }
+    true
+}
+
+// The same from the plan's nodes on: whether the sink has kept these samples.
+fn chain_keeps(
+    alloc: Global,
+    score: &Score,
+    plan: &Plan,
+    waves: &Items<WavIn>,
+    epochs: u32,
+    wanted: &[i16],
+) -> bool
+    requires chain { IsChain score.now plan.now }
+    requires waves_are { score.now.waves.value ≡ waves.now }
+{
+    let Ok(mut source) = prepare_node(alloc, score, plan, waves, 0) else {
+        return false;
+    };
+    let Ok(mut between) = prepare_node(alloc, score, plan, waves, 1) else {
+        return false;
+    };
+    let Ok(mut sink) = prepare_node(alloc, score, plan, waves, 2) else {
+        return false;
+    };
+    through_all(score, plan, epochs, &mut source, &mut between, &mut sink) && sink.kept() == wanted
+}
+
+/// Whether the sink keeps these samples after so many epochs. False also where the plan is not sound, its waves do not
 /// fit, or it has not three such nodes.
-pub fn played(
+pub fn keeps(
     alloc: Global,
     plan: &Plan,
     waves: &Items<WavIn>,
     epochs: u32,
-) -> Result<Option<Items<i16>>, Memory> {
-    if !is_sound_plan(plan) || plan.nodes.len() != 3 {
-        return Ok(None);
-    }
-    if !waves_fit(plan, waves) {
-        return Ok(None);
+    wanted: &[i16],
+) -> bool {
+    if !is_sound_plan(plan) || plan.nodes.len() != 3 || !waves_fit(plan, waves) {
+        return false;
     }
     let score = Score::of(plan, waves);
-    let mut source = prepare_node(alloc, &score, plan, waves, 0)?;
-    let mut between = prepare_node(alloc, &score, plan, waves, 1)?;
-    let mut sink = prepare_node(alloc, &score, plan, waves, 2)?;
-    for epoch in 0..epochs {
-        if !through(&score, plan, epoch, &mut source, &mut between, &mut sink) {
-            return Ok(None);
-        }
-    }
-    Ok(Some(Items::from_slice(alloc, sink.kept())?))
+    chain_keeps(alloc, &score, plan, waves, epochs, wanted)
 }
