@@ -1,120 +1,120 @@
 //! Formats in files: what `filter` stores and prints, and why a file is refused.
 ghost use Rattle.std.specs.Prelude.{◌≤◌};
 
-use crate::support::expect;
-use pw_base::{Items, MemFiles, MemSink, Memory, Which};
+use pw_base::{Items, Memory, Which};
 use pw_top::{PodWhy, Status};
-use row_files::text;
+use row_files::{Faults, Held, RUN, Row, SURE, first_unlike, is_so_with};
 use std::alloc::Global;
-use std::process::Abort;
 use std::sync::Wait;
-use std::test::Fail;
 use std::thread::Threads;
 
 /// A format whose rate is a Range: 48000, from 44100 to 96000.
-const RANGE: [u8; 64] = [
-    0x38, 0, 0, 0, 0x0f, 0, 0, 0, 3, 0, 4, 0, 3, 0, 0, 0, 3, 0, 1, 0, 0, 0, 0, 0, 0x1c, 0, 0, 0,
-    0x13, 0, 0, 0, 1, 0, 0, 0, 0, 0, 0, 0, 4, 0, 0, 0, 4, 0, 0, 0, 0x80, 0xbb, 0, 0, 0x44, 0xac, 0,
-    0, 0, 0x77, 1, 0, 0, 0, 0, 0,
-];
+const RANGE: Held<'static> = Held::Words(&[
+    56, 15, 262147, 3, 65539, 0, 28, 19, 1, 0, 4, 4, 48000, 44100, 96000, 0,
+]);
 
 /// A format whose rate is an Enum: 44100, of 44100 and 48000.
-const ENUM: [u8; 64] = [
-    0x38, 0, 0, 0, 0x0f, 0, 0, 0, 3, 0, 4, 0, 3, 0, 0, 0, 3, 0, 1, 0, 0, 0, 0, 0, 0x1c, 0, 0, 0,
-    0x13, 0, 0, 0, 3, 0, 0, 0, 0, 0, 0, 0, 4, 0, 0, 0, 4, 0, 0, 0, 0x44, 0xac, 0, 0, 0x44, 0xac, 0,
-    0, 0x80, 0xbb, 0, 0, 0, 0, 0, 0,
-];
+const ENUM: Held<'static> = Held::Words(&[
+    56, 15, 262147, 3, 65539, 0, 28, 19, 3, 0, 4, 4, 44100, 44100, 48000, 0,
+]);
 
 /// What both have in common: an Enum, 48000, of 44100 and 48000.
-const COMMON: [u8; 64] = [
-    0x38, 0, 0, 0, 0x0f, 0, 0, 0, 3, 0, 4, 0, 3, 0, 0, 0, 3, 0, 1, 0, 0, 0, 0, 0, 0x1c, 0, 0, 0,
-    0x13, 0, 0, 0, 3, 0, 0, 0, 0, 0, 0, 0, 4, 0, 0, 0, 4, 0, 0, 0, 0x80, 0xbb, 0, 0, 0x44, 0xac, 0,
-    0, 0x80, 0xbb, 0, 0, 0, 0, 0, 0,
-];
+const COMMON: Held<'static> = Held::Words(&[
+    56, 15, 262147, 3, 65539, 0, 28, 19, 3, 0, 4, 4, 48000, 44100, 48000, 0,
+]);
 
 /// A format whose rate is 48000.
-const RATE: [u8; 40] = [
-    0x20, 0, 0, 0, 0x0f, 0, 0, 0, 3, 0, 4, 0, 3, 0, 0, 0, 3, 0, 1, 0, 0, 0, 0, 0, 4, 0, 0, 0, 4, 0,
-    0, 0, 0x80, 0xbb, 0, 0, 0, 0, 0, 0,
-];
+const RATE: Held<'static> = Held::Words(&[32, 15, 262147, 3, 65539, 0, 4, 4, 48000, 0]);
 
 /// The same of object type 0x40002.
-const OTHER: [u8; 40] = [
-    0x20, 0, 0, 0, 0x0f, 0, 0, 0, 2, 0, 4, 0, 3, 0, 0, 0, 3, 0, 1, 0, 0, 0, 0, 0, 4, 0, 0, 0, 4, 0,
-    0, 0, 0x80, 0xbb, 0, 0, 0, 0, 0, 0,
-];
+const OTHER: Held<'static> = Held::Words(&[32, 15, 262146, 3, 65539, 0, 4, 4, 48000, 0]);
 
 /// A format with the mandatory key 65541 alone.
-const MANDATORY: [u8; 40] = [
-    0x20, 0, 0, 0, 0x0f, 0, 0, 0, 3, 0, 4, 0, 3, 0, 0, 0, 5, 0, 1, 0, 8, 0, 0, 0, 4, 0, 0, 0, 4, 0,
-    0, 0, 2, 0, 0, 0, 0, 0, 0, 0,
-];
+const MANDATORY: Held<'static> = Held::Words(&[32, 15, 262147, 3, 65541, 8, 4, 4, 2, 0]);
 
 /// A format whose key 65537 has a Choice of kind Flags, with the value 1.
-const FLAGS: [u8; 56] = [
-    0x30, 0, 0, 0, 0x0f, 0, 0, 0, 3, 0, 4, 0, 3, 0, 0, 0, 1, 0, 1, 0, 0, 0, 0, 0, 0x14, 0, 0, 0,
-    0x13, 0, 0, 0, 4, 0, 0, 0, 0, 0, 0, 0, 4, 0, 0, 0, 4, 0, 0, 0, 1, 0, 0, 0, 0, 0, 0, 0,
-];
+const FLAGS: Held<'static> = Held::Words(&[48, 15, 262147, 3, 65537, 0, 20, 19, 4, 0, 4, 4, 1, 0]);
 
 /// The Int 5, which is no object.
-const INT: [u8; 16] = [4, 0, 0, 0, 4, 0, 0, 0, 5, 0, 0, 0, 0, 0, 0, 0];
+const INT: Held<'static> = Held::Words(&[4, 4, 5, 0]);
 
-// Files that hold these bytes as a.pod and b.pod.
-fn files_of(alloc: Global, a: &[u8], b: &[u8]) -> Result<MemFiles, Memory> {
-    let mut files = MemFiles::new(alloc)?;
-    files.add_file(alloc, &text(alloc, "a.pod")?, a)?;
-    files.add_file(alloc, &text(alloc, "b.pod")?, b)?;
-    Ok(files)
-}
+/// A format by itself, which both files hold.
+const ITSELF: Row<'static> = Row {
+    line: "filter a.pod b.pod o.pod",
+    files: &[("a.pod", RATE), ("b.pod", RATE)],
+    text: b"common\n",
+    stored: &[("o.pod", Some(RATE))],
+    ..RUN
+};
 
-// Filters two files, and compares the status, the text, and what is stored.
-fn filtered<R: Threads + Wait + Sync + AllocGlobal + Abort>(
-    rt: &R,
-    (a, b): (&[u8], &[u8]),
-    status: Status,
-    wanted: &str,
-    stored: Option<&[u8]>,
-) -> Result<(), Fail> {
-    let mut files = files_of(rt.alloc(), a, b)?;
-    let mut out = MemSink::new(rt.alloc())?;
-    let line = "filter a.pod b.pod o.pod";
-    expect(rt, line, &mut files, &mut out, status, wanted)?;
-    let name = text(rt.alloc(), "o.pod")?;
-    match (files.file(&name), stored) {
-        (Some(bytes), Some(stored)) => assert!(rt; bytes.as_slice() == stored),
-        (None, None) => {}
-        _ => assert!(rt; false, "stored or not"),
-    }
-    Ok(())
+/// What two formats have in common, and formats that clash.
+const FORMATS: &'static [Row<'static>] = &[
+    ITSELF,
+    Row {
+        files: &[("a.pod", RANGE), ("b.pod", ENUM)],
+        stored: &[("o.pod", Some(COMMON))],
+        ..ITSELF
+    },
+    Row {
+        files: &[("a.pod", MANDATORY), ("b.pod", RATE)],
+        text: b"clash 65541\n",
+        stored: &[("o.pod", None)],
+        ..ITSELF
+    },
+    Row {
+        files: &[("a.pod", RATE), ("b.pod", OTHER)],
+        text: b"clash type\n",
+        stored: &[("o.pod", None)],
+        ..ITSELF
+    },
+];
+
+/// Files that are no format, or not there.
+const NO_FORMAT: &'static [Row<'static>] = &[
+    Row {
+        files: &[("a.pod", FLAGS), ("b.pod", INT)],
+        status: Status::Pod {
+            place: 1,
+            why: PodWhy::FlagsChoice { key: 65537 },
+        },
+        text: b"pod 1 13 65537\n",
+        stored: &[("o.pod", None)],
+        ..ITSELF
+    },
+    Row {
+        files: &[("a.pod", RATE), ("b.pod", INT)],
+        status: Status::Pod {
+            place: 2,
+            why: PodWhy::NotObject,
+        },
+        text: b"pod 2 11\n",
+        stored: &[("o.pod", None)],
+        ..ITSELF
+    },
+    Row {
+        line: "filter c.pod b.pod o.pod",
+        status: Status::Absent { place: 1 },
+        text: b"absent 1\n",
+        stored: &[("o.pod", None)],
+        ..ITSELF
+    },
+    Row {
+        line: "filter a.pod c.pod o.pod",
+        status: Status::Absent { place: 2 },
+        text: b"absent 2\n",
+        stored: &[("o.pod", None)],
+        ..ITSELF
+    },
+];
+
+#[test]
+fn what_two_formats_have_in_common(rt: HostRuntime) {
+    assert_eq!(rt; first_unlike(&rt, FORMATS), None);
 }
 
 #[test]
-fn what_two_formats_have_in_common(rt: HostRuntime) -> Result<(), Fail> {
-    let pairs = (RANGE.as_slice(), ENUM.as_slice());
-    let stored = Some(COMMON.as_slice());
-    filtered(&rt, pairs, Status::Ok, "common\n", stored)?;
-    let itself = (RATE.as_slice(), RATE.as_slice());
-    filtered(&rt, itself, Status::Ok, "common\n", Some(RATE.as_slice()))
-}
-
-#[test]
-fn formats_that_clash(rt: HostRuntime) -> Result<(), Fail> {
-    let key = (MANDATORY.as_slice(), RATE.as_slice());
-    filtered(&rt, key, Status::Ok, "clash 65541\n", None)?;
-    let types = (RATE.as_slice(), OTHER.as_slice());
-    filtered(&rt, types, Status::Ok, "clash type\n", None)
-}
-
-#[test]
-fn files_that_are_no_format(rt: HostRuntime) -> Result<(), Fail> {
-    let why = PodWhy::FlagsChoice { key: 65537 };
-    let first = Status::Pod { place: 1, why };
-    let pair = (FLAGS.as_slice(), INT.as_slice());
-    filtered(&rt, pair, first, "pod 1 13 65537\n", None)?;
-    let why = PodWhy::NotObject;
-    let second = Status::Pod { place: 2, why };
-    let pair = (RATE.as_slice(), INT.as_slice());
-    filtered(&rt, pair, second, "pod 2 11\n", None)
+fn files_that_are_no_format(rt: HostRuntime) {
+    assert_eq!(rt; first_unlike(&rt, NO_FORMAT), None);
 }
 
 // A format of a Struct of so many arrays of nothing, which are written longer than they are read.
@@ -132,47 +132,55 @@ fn of_arrays(alloc: Global, arrays: u32) -> Result<Items<u8>, Memory>
     Ok(bytes)
 }
 
-#[test]
-fn an_object_that_cannot_be_written(rt: HostRuntime) -> Result<(), Fail> {
-    let long = of_arrays(rt.alloc(), 70_000)?;
-    let which = Which::PodBytes;
-    let status = Status::Limit { place: 3, which };
-    let pair = (long.as_slice(), RATE.as_slice());
-    filtered(&rt, pair, status, "limit 3 4\n", None)
-}
+/// A format that is too long to be stored.
+const TOO_LONG: Row<'static> = Row {
+    files: &[("b.pod", RATE)],
+    status: Status::Limit {
+        place: 3,
+        which: Which::PodBytes,
+    },
+    text: b"limit 3 4\n",
+    stored: &[("o.pod", None)],
+    ..ITSELF
+};
 
-#[test]
-fn a_file_to_filter_is_not_there(rt: HostRuntime) -> Result<(), Fail> {
-    for (line, place, wanted) in [
-        ("filter c.pod b.pod o.pod", 1, "absent 1\n"),
-        ("filter a.pod c.pod o.pod", 2, "absent 2\n"),
-    ] {
-        let mut files = files_of(rt.alloc(), RATE.as_slice(), RATE.as_slice())?;
-        let mut out = MemSink::new(rt.alloc())?;
-        let status = Status::Absent { place };
-        expect(&rt, line, &mut files, &mut out, status, wanted)?;
-        assert!(rt; files.file(&text(rt.alloc(), "o.pod")?).is_none());
+// Whether a row comes out as wanted where a.pod is a format of so many arrays.
+fn is_so_of<R: Threads + Wait + Sync + AllocGlobal>(rt: &R, row: Row<'static>, arrays: u32) -> bool
+    requires { arrays ≤ 100000 }
+{
+    match of_arrays(rt.alloc(), arrays) {
+        Ok(long) => is_so_with(rt, row, "a.pod", long.as_slice()),
+        Err(_memory) => false,
     }
-    Ok(())
 }
 
 #[test]
-fn a_load_and_a_store_fail(rt: HostRuntime) -> Result<(), Fail> {
-    let line = "filter a.pod b.pod o.pod";
-    let mut files = files_of(rt.alloc(), RATE.as_slice(), RATE.as_slice())?;
-    let mut out = MemSink::new(rt.alloc())?;
-    files.fail_load(rt.alloc(), 2)?;
-    let status = Status::ReadFault { place: 2 };
-    expect(&rt, line, &mut files, &mut out, status, "read 2\n")?;
-    files.fail_store(rt.alloc(), 1, 3)?;
-    let mut out = MemSink::new(rt.alloc())?;
-    let status = Status::WriteFault { place: 3 };
-    expect(&rt, line, &mut files, &mut out, status, "write 3\n")?;
-    // The first three bytes of the object stand.
-    assert!(rt;
-        files
-            .file(&text(rt.alloc(), "o.pod")?)
-            .is_some_and(|bytes| bytes.as_slice() == b"\x20\x00\x00".as_slice())
-    );
-    Ok(())
+fn an_object_that_cannot_be_written(rt: HostRuntime) {
+    assert!(rt; is_so_of(&rt, TOO_LONG, 70_000));
+}
+
+/// A load and a store that fail; the first three bytes of the object stand.
+const FAULTS: &'static [Row<'static>] = &[
+    Row {
+        faults: Faults { load: 2, ..SURE },
+        status: Status::ReadFault { place: 2 },
+        text: b"read 2\n",
+        stored: &[],
+        ..ITSELF
+    },
+    Row {
+        faults: Faults {
+            store: (1, 3),
+            ..SURE
+        },
+        status: Status::WriteFault { place: 3 },
+        text: b"write 3\n",
+        stored: &[("o.pod", Some(Held::Bytes(b"\x20\0\0")))],
+        ..ITSELF
+    },
+];
+
+#[test]
+fn a_load_and_a_store_fail(rt: HostRuntime) {
+    assert_eq!(rt; first_unlike(&rt, FAULTS), None);
 }

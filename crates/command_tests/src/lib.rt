@@ -10,6 +10,8 @@ mod faults;
 #[cfg(test)]
 mod filters;
 #[cfg(test)]
+mod long_files;
+#[cfg(test)]
 mod messages;
 #[cfg(test)]
 mod pods;
@@ -20,6 +22,6 @@ mod scripts;
 #[cfg(test)]
 mod soaks;
 #[cfg(test)]
-mod support;
-#[cfg(test)]
 mod traces;
+#[cfg(test)]
+mod usages;

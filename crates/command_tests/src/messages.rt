@@ -2,469 +2,629 @@
 
 use fault_messages::{explain, message};
 use graph_script::ScriptWhy;
-use pw_base::{Items, MemFiles, Which};
+use pw_base::{Items, MemFiles, Memory, Which};
 use pw_top::{PodWhy, Status};
-use row_files::words_of;
-use std::process::Abort;
-use std::test::Fail;
+use row_files::{FileRow, Held, SURE, files_of, words_of};
+use std::alloc::Global;
 use wav_files::WavFault;
 
-// Compares the message of a status with a place and what is said of it.
-fn expect<R: AllocGlobal + Abort>(
-    rt: &R,
-    command: &str,
-    line: Option<&str>,
+/// A command, the line of the script that its status names, if it is there, and what the message
+/// begins with.
+#[derive(Clone, Copy, Drop)]
+struct Asked {
+    command: &'static str,
+    line: Option<&'static [u8]>,
+    before: &'static [u8],
+}
+
+// The message of these parts.
+fn wanted(alloc: Global, before: &[u8], said: &[u8]) -> Result<Items<u8>, Memory> {
+    let mut text = Items::new(alloc);
+    for part in [b"pipegraph: ".as_slice(), before, said, b"\n".as_slice()] {
+        text.extend(part)?;
+    }
+    Ok(text)
+}
+
+// Whether the message of a status of these words is this one.
+fn is_message(
+    alloc: Global,
+    words: &[String],
+    line: Option<&[u8]>,
     status: Status,
-    place: &str,
-    said: &str,
-) -> Result<(), Fail> {
-    let words = words_of(rt.alloc(), command)?;
-    let text = message(
-        rt.alloc(),
-        &status,
-        words.as_slice(),
-        line.map(|l| l.as_bytes()),
-    )?;
-    let mut wanted = Items::from_slice(rt.alloc(), b"pipegraph: ")?;
-    wanted.extend(place.as_bytes())?;
-    wanted.extend(said.as_bytes())?;
-    wanted.push(b'\n')?;
-    assert!(rt; text.as_slice() == wanted.as_slice(), "{said}");
-    Ok(())
-}
-
-#[test]
-fn scripts_in_words(rt: HostRuntime) -> Result<(), Fail> {
-    let table = [
-        (
-            ScriptWhy::Byte,
-            "gain \x7f 1",
-            "a byte that no script may have",
-        ),
-        (ScriptWhy::Command, "play on", "\"play\" is no command"),
-        (
-            ScriptWhy::Arguments,
-            "gain a",
-            "too few words, or too many, for \"gain\"",
-        ),
-        (
-            ScriptWhy::Number,
-            "gain a 01",
-            "a number is out of range, or has the wrong form, for \"gain\"",
-        ),
-        (
-            ScriptWhy::NameForm,
-            "gain A 1",
-            "a name, a port or a file word has the wrong form, for \"gain\"",
-        ),
-        (
-            ScriptWhy::NameTaken,
-            "gain dummy 1",
-            "the name is taken: \"dummy\"",
-        ),
-        (
-            ScriptWhy::NameUnknown,
-            "on vox",
-            "no node is called \"vox\"",
-        ),
-        (
-            ScriptWhy::NameUnknown,
-            "link vox.out o.in",
-            "\"vox.out\" or \"o.in\" names no node",
-        ),
-        (
-            ScriptWhy::PortUnknown,
-            "offer o out f.pod",
-            "\"o\" has no port \"out\"",
-        ),
-        (
-            ScriptWhy::PortUnknown,
-            "unlink a.in\ta.in",
-            "\"a.in\" is no output, or \"a.in\" no input",
-        ),
-        (
-            ScriptWhy::QuantumLate,
-            "quantum 4",
-            "quantum must stand before every other command",
-        ),
-        (
-            ScriptWhy::NotDriverKind,
-            "driver a 1",
-            "\"a\" is neither a sink nor a meter, and cannot drive",
-        ),
-        (
-            ScriptWhy::OfferLate,
-            "offer b in f.pod",
-            "offers must stand before the links of their node: \"b\"",
-        ),
-        (
-            ScriptWhy::TooMany(Which::Nodes),
-            "split x",
-            "more than 63 nodes",
-        ),
-        (
-            ScriptWhy::TooMany(Which::Epochs),
-            "drain",
-            "more than 1024 lines of cycles and drain",
-        ),
-        (
-            ScriptWhy::AsyncLate,
-            "async a",
-            "async must stand before the links of its node: \"a\"",
-        ),
-    ];
-    for (why, line, wanted) in table {
-        let status = Status::Script { line: 3, why };
-        expect(
-            &rt,
-            "run take.graph",
-            Some(line),
-            status,
-            "take.graph:3: ",
-            wanted,
-        )?;
+    text: &[u8],
+) -> bool {
+    match message(alloc, &status, words, line) {
+        Ok(said) => said.as_slice() == text,
+        Err(_memory) => false,
     }
-    Ok(())
 }
 
-#[test]
-fn scripts_without_their_line(rt: HostRuntime) -> Result<(), Fail> {
-    let table = [
-        (ScriptWhy::Command, "the first word is no command"),
-        (ScriptWhy::Arguments, "too few words, or too many"),
-        (ScriptWhy::NameTaken, "the name is taken"),
-        (ScriptWhy::NameUnknown, "no node has this name"),
-        (ScriptWhy::PortUnknown, "the node has no such port"),
-        (ScriptWhy::NotDriverKind, "only a sink or a meter may drive"),
-        (
-            ScriptWhy::OfferLate,
-            "offers must stand before the links of their node",
-        ),
-        (
-            ScriptWhy::AsyncLate,
-            "async must stand before the links of its node",
-        ),
-    ];
-    for (why, wanted) in table {
-        let status = Status::Script { line: 3, why };
-        expect(
-            &rt,
-            "check take.graph t",
-            None,
-            status,
-            "take.graph:3: ",
-            wanted,
-        )?;
+// Whether the message of a status is what it begins with and what is said.
+fn is_said(alloc: Global, asked: Asked, status: Status, said: &[u8]) -> bool {
+    let Ok(words) = words_of(alloc, asked.command) else {
+        return false;
+    };
+    match wanted(alloc, asked.before, said) {
+        Ok(text) => is_message(alloc, words.as_slice(), asked.line, status, text.as_slice()),
+        Err(_memory) => false,
     }
-    Ok(())
 }
 
-#[test]
-fn waves_in_words(rt: HostRuntime) -> Result<(), Fail> {
-    let table = [
-        (WavFault::NotRiff, "this is no RIFF WAVE file"),
-        (WavFault::NoFmt, "there is no fmt chunk before the samples"),
-        (WavFault::BadFmt, "the fmt chunk is not sound"),
-        (WavFault::NotPcm16, "only PCM of 16 bits a sample is read"),
-        (WavFault::NoData, "there is no data chunk"),
-        (WavFault::Truncated, "a chunk passes the end of the file"),
-        (WavFault::Uneven, "the samples are not whole frames"),
-        (
-            WavFault::ChannelsOrRate,
-            "only 1 to 8 channels at 1 to 384000 frames a second are read",
-        ),
-    ];
-    for (why, wanted) in table {
-        let line = Some("source vox  vox.wav");
-        let of_line = Status::Wav { place: 5, why };
-        expect(
-            &rt,
-            "run take.graph",
-            line,
-            of_line,
-            "take.graph:5: vox.wav: ",
-            wanted,
-        )?;
-        let of_word = Status::Wav { place: 1, why };
-        expect(
-            &rt,
-            "automate vox.wav a.pod o.wav",
-            None,
-            of_word,
-            "vox.wav: ",
-            wanted,
-        )?;
+/// A script whose third line is wrong.
+const RUN: Asked = Asked {
+    command: "run take.graph",
+    line: None,
+    before: b"take.graph:3: ",
+};
+
+/// The same, checked.
+const CHECK: Asked = Asked {
+    command: "check take.graph t",
+    ..RUN
+};
+
+/// Each fault of a script, the line, and what is said.
+const SCRIPTS: &'static [(ScriptWhy, &'static [u8], &'static [u8])] = &[
+    (
+        ScriptWhy::Byte,
+        b"gain \x7f 1",
+        b"a byte that no script may have",
+    ),
+    (ScriptWhy::Command, b"play on", b"\"play\" is no command"),
+    (
+        ScriptWhy::Arguments,
+        b"gain a",
+        b"too few words, or too many, for \"gain\"",
+    ),
+    (
+        ScriptWhy::Number,
+        b"gain a 01",
+        b"a number is out of range, or has the wrong form, for \"gain\"",
+    ),
+    (
+        ScriptWhy::NameForm,
+        b"gain A 1",
+        b"a name, a port or a file word has the wrong form, for \"gain\"",
+    ),
+    (
+        ScriptWhy::NameTaken,
+        b"gain dummy 1",
+        b"the name is taken: \"dummy\"",
+    ),
+    (
+        ScriptWhy::NameUnknown,
+        b"on vox",
+        b"no node is called \"vox\"",
+    ),
+    (
+        ScriptWhy::NameUnknown,
+        b"link vox.out o.in",
+        b"\"vox.out\" or \"o.in\" names no node",
+    ),
+    (
+        ScriptWhy::PortUnknown,
+        b"offer o out f.pod",
+        b"\"o\" has no port \"out\"",
+    ),
+    (
+        ScriptWhy::PortUnknown,
+        b"unlink a.in\ta.in",
+        b"\"a.in\" is no output, or \"a.in\" no input",
+    ),
+    (
+        ScriptWhy::QuantumLate,
+        b"quantum 4",
+        b"quantum must stand before every other command",
+    ),
+    (
+        ScriptWhy::NotDriverKind,
+        b"driver a 1",
+        b"\"a\" is neither a sink nor a meter, and cannot drive",
+    ),
+    (
+        ScriptWhy::OfferLate,
+        b"offer b in f.pod",
+        b"offers must stand before the links of their node: \"b\"",
+    ),
+    (
+        ScriptWhy::TooMany(Which::Nodes),
+        b"split x",
+        b"more than 63 nodes",
+    ),
+    (
+        ScriptWhy::TooMany(Which::Epochs),
+        b"drain",
+        b"more than 1024 lines of cycles and drain",
+    ),
+    (
+        ScriptWhy::AsyncLate,
+        b"async a",
+        b"async must stand before the links of its node: \"a\"",
+    ),
+];
+
+/// Faults whose line is not there.
+const NO_LINE: &'static [(ScriptWhy, &'static [u8])] = &[
+    (ScriptWhy::Command, b"the first word is no command"),
+    (ScriptWhy::Arguments, b"too few words, or too many"),
+    (ScriptWhy::NameTaken, b"the name is taken"),
+    (ScriptWhy::NameUnknown, b"no node has this name"),
+    (ScriptWhy::PortUnknown, b"the node has no such port"),
+    (
+        ScriptWhy::NotDriverKind,
+        b"only a sink or a meter may drive",
+    ),
+    (
+        ScriptWhy::OfferLate,
+        b"offers must stand before the links of their node",
+    ),
+    (
+        ScriptWhy::AsyncLate,
+        b"async must stand before the links of its node",
+    ),
+];
+
+// The first script of which something else is said.
+fn script_unlike(
+    alloc: Global,
+    rows: &[(ScriptWhy, &'static [u8], &'static [u8])],
+) -> Option<usize> {
+    for (place, (why, line, said)) in rows.iter().enumerate() {
+        let asked = Asked {
+            line: Some(*line),
+            ..RUN
+        };
+        let status = Status::Script { line: 3, why: *why };
+        if !is_said(alloc, asked, status, said) {
+            return Some(place);
+        }
     }
-    Ok(())
+    None
 }
 
-#[test]
-fn pods_in_words(rt: HostRuntime) -> Result<(), Fail> {
-    let table = [
-        (
-            PodWhy::Short { offset: 8 },
-            "a POD passes the end of what holds it, at byte 8",
-        ),
-        (
-            PodWhy::TypeUnknown {
-                offset: 4,
-                number: 99,
-            },
-            "a type that is not read, at byte 4",
-        ),
-        (
-            PodWhy::Size { offset: 0 },
-            "a size that its type does not have, at byte 0",
-        ),
-        (
-            PodWhy::Uneven { offset: 16 },
-            "values that do not fill their body, at byte 16",
-        ),
-        (
-            PodWhy::Deep { offset: 128 },
-            "a POD more than 16 deep, at byte 128",
-        ),
-        (
-            PodWhy::Large { size: 1048577 },
-            "a POD of more than 1048576 bytes: 1048577",
-        ),
-        (
-            PodWhy::Nul { offset: 8 },
-            "a string without a nul at its end, at byte 8",
-        ),
-        (
-            PodWhy::Rest { offset: 16 },
-            "the file goes on behind its POD, at byte 16",
-        ),
-        (PodWhy::NotObject, "the POD is no object"),
-        (
-            PodWhy::KeyTwice { key: 1 },
-            "a property stands twice, under key 1",
-        ),
-        (
-            PodWhy::FlagsChoice { key: 2 },
-            "a choice of flags, under key 2",
-        ),
-        (
-            PodWhy::BadRange { key: 3 },
-            "a range that is none, under key 3",
-        ),
-        (
-            PodWhy::BadStep { key: 4 },
-            "a step that is none, under key 4",
-        ),
-        (
-            PodWhy::EmptyChoice { key: 5 },
-            "a choice without a value, under key 5",
-        ),
-        (PodWhy::NotFormat, "the object is no format"),
-        (
-            PodWhy::Clash { key: 65539 },
-            "nothing is left of what the port offers, under key 65539",
-        ),
-        (PodWhy::NotSequence, "the POD is no control sequence"),
-        (
-            PodWhy::OffsetFalls { index: 2 },
-            "an offset below the one before, in control 2",
-        ),
-        (
-            PodWhy::NotProps { index: 0 },
-            "a value that is no properties object, in control 0",
-        ),
-        (
-            PodWhy::GainForm { index: 1 },
-            "a gain that is no Int from -32767 to 32767, in control 1",
-        ),
-    ];
-    for (why, wanted) in table {
-        let line = Some("offer o in stereo.pod");
-        let of_line = Status::Pod { place: 7, why };
-        expect(
-            &rt,
-            "run t.graph",
-            line,
-            of_line,
-            "t.graph:7: stereo.pod: ",
-            wanted,
-        )?;
-        let of_word = Status::Pod { place: 2, why };
-        expect(
-            &rt,
-            "filter a.pod b.pod c.pod",
-            None,
-            of_word,
-            "b.pod: ",
-            wanted,
-        )?;
+// The same of scripts without their line.
+fn bare_unlike(alloc: Global, rows: &[(ScriptWhy, &'static [u8])]) -> Option<usize> {
+    for (place, (why, said)) in rows.iter().enumerate() {
+        let status = Status::Script { line: 3, why: *why };
+        if !is_said(alloc, CHECK, status, said) {
+            return Some(place);
+        }
     }
-    Ok(())
+    None
 }
 
 #[test]
-fn limits_in_words(rt: HostRuntime) -> Result<(), Fail> {
-    let table = [
-        (
-            0,
-            Which::ScriptBytes,
-            None,
-            "t.graph: ",
-            "more than 1048576 bytes",
-        ),
-        (
-            2,
-            Which::WavBytes,
-            Some("source s s.wav"),
-            "t.graph:2: s.wav: ",
-            "more than 268435456 bytes",
-        ),
-        (
-            3,
-            Which::AllWavBytes,
-            Some("source t t.wav"),
-            "t.graph:3: t.wav: ",
-            "more than 536870912 bytes of WAV files in all",
-        ),
-        (
-            4,
-            Which::PodBytes,
-            Some("offer s out f.pod"),
-            "t.graph:4: f.pod: ",
-            "more bytes than a POD may have",
-        ),
-        (
-            9,
-            Which::Links,
-            Some("link a.out b.in"),
-            "t.graph:9: ",
-            "more than 256 links at a time",
-        ),
-        (
-            9,
-            Which::Events,
-            Some("drain"),
-            "t.graph:9: ",
-            "more than 4194304 events",
-        ),
-        (
-            9,
-            Which::SinkSamples,
-            None,
-            "t.graph:9: ",
-            "the sinks would keep more than 134217728 samples",
-        ),
-        (
-            9,
-            Which::BlockBytes,
-            None,
-            "t.graph:9: ",
-            "the buffers would have more than 268435456 bytes",
-        ),
-        (
-            4294967295,
-            Which::TraceBytes,
-            None,
-            "t.txt: ",
-            "more than 268435456 bytes",
-        ),
-    ];
-    for (place, which, line, before, wanted) in table {
-        let status = Status::Limit { place, which };
-        expect(&rt, "check t.graph t.txt", line, status, before, wanted)?;
+fn scripts_in_words(rt: HostRuntime) {
+    assert_eq!(rt; script_unlike(rt.alloc(), SCRIPTS), None);
+    assert_eq!(rt; bare_unlike(rt.alloc(), NO_LINE), None);
+}
+
+/// Each fault of a WAV file, and what is said.
+const WAVES: &'static [(WavFault, &'static [u8])] = &[
+    (WavFault::NotRiff, b"this is no RIFF WAVE file"),
+    (WavFault::NoFmt, b"there is no fmt chunk before the samples"),
+    (WavFault::BadFmt, b"the fmt chunk is not sound"),
+    (WavFault::NotPcm16, b"only PCM of 16 bits a sample is read"),
+    (WavFault::NoData, b"there is no data chunk"),
+    (WavFault::Truncated, b"a chunk passes the end of the file"),
+    (WavFault::Uneven, b"the samples are not whole frames"),
+    (
+        WavFault::ChannelsOrRate,
+        b"only 1 to 8 channels at 1 to 384000 frames a second are read",
+    ),
+];
+
+/// A WAV file that a line names.
+const WAVE_OF_LINE: Asked = Asked {
+    command: "run take.graph",
+    line: Some(b"source vox  vox.wav"),
+    before: b"take.graph:5: vox.wav: ",
+};
+
+/// A WAV file that a word names.
+const WAVE_OF_WORD: Asked = Asked {
+    command: "automate vox.wav a.pod o.wav",
+    line: None,
+    before: b"vox.wav: ",
+};
+
+// The first WAV file of which something else is said.
+fn wave_unlike(alloc: Global, rows: &[(WavFault, &'static [u8])]) -> Option<usize> {
+    for (place, (why, said)) in rows.iter().enumerate() {
+        let of_line = Status::Wav {
+            place: 5,
+            why: *why,
+        };
+        let of_word = Status::Wav {
+            place: 1,
+            why: *why,
+        };
+        if !is_said(alloc, WAVE_OF_LINE, of_line, said)
+            || !is_said(alloc, WAVE_OF_WORD, of_word, said)
+        {
+            return Some(place);
+        }
     }
-    Ok(())
+    None
 }
 
 #[test]
-fn files_in_words(rt: HostRuntime) -> Result<(), Fail> {
-    let run = "run t.graph --trace";
-    let line = Some("sink o o.wav");
-    let absent = Status::Absent { place: 0 };
-    expect(&rt, run, None, absent, "t.graph: ", "there is no such file")?;
-    let absent = Status::Absent { place: 4 };
-    expect(
-        &rt,
-        run,
-        line,
-        absent,
-        "t.graph:4: o.wav: ",
-        "there is no such file",
-    )?;
-    let read = Status::ReadFault { place: 1 };
-    expect(
-        &rt,
-        "dump a.pod",
-        None,
-        read,
-        "a.pod: ",
-        "the file cannot be read",
-    )?;
-    let write = Status::WriteFault { place: 4 };
-    expect(
-        &rt,
-        run,
-        line,
-        write,
-        "t.graph:4: o.wav: ",
-        "the file cannot be written",
-    )?;
-    let text = Status::WriteFault { place: 0 };
-    expect(
-        &rt,
-        run,
-        None,
-        text,
-        "",
-        "standard output cannot be written",
-    )?;
-    expect(&rt, run, None, Status::Memory, "", "no memory was left")
+fn waves_in_words(rt: HostRuntime) {
+    assert_eq!(rt; wave_unlike(rt.alloc(), WAVES), None);
+}
+
+/// Each fault of a POD, and what is said.
+const PODS: &'static [(PodWhy, &'static [u8])] = &[
+    (
+        PodWhy::Short { offset: 8 },
+        b"a POD passes the end of what holds it, at byte 8",
+    ),
+    (
+        PodWhy::TypeUnknown {
+            offset: 4,
+            number: 99,
+        },
+        b"a type that is not read, at byte 4",
+    ),
+    (
+        PodWhy::Size { offset: 0 },
+        b"a size that its type does not have, at byte 0",
+    ),
+    (
+        PodWhy::Uneven { offset: 16 },
+        b"values that do not fill their body, at byte 16",
+    ),
+    (
+        PodWhy::Deep { offset: 128 },
+        b"a POD more than 16 deep, at byte 128",
+    ),
+    (
+        PodWhy::Large { size: 1048577 },
+        b"a POD of more than 1048576 bytes: 1048577",
+    ),
+    (
+        PodWhy::Nul { offset: 8 },
+        b"a string without a nul at its end, at byte 8",
+    ),
+    (
+        PodWhy::Rest { offset: 16 },
+        b"the file goes on behind its POD, at byte 16",
+    ),
+    (PodWhy::NotObject, b"the POD is no object"),
+    (
+        PodWhy::KeyTwice { key: 1 },
+        b"a property stands twice, under key 1",
+    ),
+    (
+        PodWhy::FlagsChoice { key: 2 },
+        b"a choice of flags, under key 2",
+    ),
+    (
+        PodWhy::BadRange { key: 3 },
+        b"a range that is none, under key 3",
+    ),
+    (
+        PodWhy::BadStep { key: 4 },
+        b"a step that is none, under key 4",
+    ),
+    (
+        PodWhy::EmptyChoice { key: 5 },
+        b"a choice without a value, under key 5",
+    ),
+    (PodWhy::NotFormat, b"the object is no format"),
+    (
+        PodWhy::Clash { key: 65539 },
+        b"nothing is left of what the port offers, under key 65539",
+    ),
+    (PodWhy::NotSequence, b"the POD is no control sequence"),
+    (
+        PodWhy::OffsetFalls { index: 2 },
+        b"an offset below the one before, in control 2",
+    ),
+    (
+        PodWhy::NotProps { index: 0 },
+        b"a value that is no properties object, in control 0",
+    ),
+    (
+        PodWhy::GainForm { index: 1 },
+        b"a gain that is no Int from -32767 to 32767, in control 1",
+    ),
+];
+
+/// A POD that a line names.
+const POD_OF_LINE: Asked = Asked {
+    command: "run t.graph",
+    line: Some(b"offer o in stereo.pod"),
+    before: b"t.graph:7: stereo.pod: ",
+};
+
+/// A POD that a word names.
+const POD_OF_WORD: Asked = Asked {
+    command: "filter a.pod b.pod c.pod",
+    line: None,
+    before: b"b.pod: ",
+};
+
+// The first POD of which something else is said.
+fn pod_unlike(alloc: Global, rows: &[(PodWhy, &'static [u8])]) -> Option<usize> {
+    for (place, (why, said)) in rows.iter().enumerate() {
+        let of_line = Status::Pod {
+            place: 7,
+            why: *why,
+        };
+        let of_word = Status::Pod {
+            place: 2,
+            why: *why,
+        };
+        if !is_said(alloc, POD_OF_LINE, of_line, said)
+            || !is_said(alloc, POD_OF_WORD, of_word, said)
+        {
+            return Some(place);
+        }
+    }
+    None
+}
+
+#[test]
+fn pods_in_words(rt: HostRuntime) {
+    assert_eq!(rt; pod_unlike(rt.alloc(), PODS), None);
+}
+
+/// What is asked, its status, and what is said.
+type Said = (Asked, Status, &'static [u8]);
+
+// The first of these of which something else is said.
+fn said_unlike(alloc: Global, rows: &[Said]) -> Option<usize> {
+    for (place, (asked, status, said)) in rows.iter().enumerate() {
+        if !is_said(alloc, *asked, *status, said) {
+            return Some(place);
+        }
+    }
+    None
+}
+
+/// A check of a script.
+const OF_SCRIPT: Asked = Asked {
+    command: "check t.graph t.txt",
+    line: None,
+    before: b"t.graph:9: ",
+};
+
+/// Each quantity that passes its limit.
+const LIMITS: &'static [Said] = &[
+    (
+        Asked {
+            before: b"t.graph: ",
+            ..OF_SCRIPT
+        },
+        Status::Limit {
+            place: 0,
+            which: Which::ScriptBytes,
+        },
+        b"more than 1048576 bytes",
+    ),
+    (
+        Asked {
+            line: Some(b"source s s.wav"),
+            before: b"t.graph:2: s.wav: ",
+            ..OF_SCRIPT
+        },
+        Status::Limit {
+            place: 2,
+            which: Which::WavBytes,
+        },
+        b"more than 268435456 bytes",
+    ),
+    (
+        Asked {
+            line: Some(b"source t t.wav"),
+            before: b"t.graph:3: t.wav: ",
+            ..OF_SCRIPT
+        },
+        Status::Limit {
+            place: 3,
+            which: Which::AllWavBytes,
+        },
+        b"more than 536870912 bytes of WAV files in all",
+    ),
+    (
+        Asked {
+            line: Some(b"offer s out f.pod"),
+            before: b"t.graph:4: f.pod: ",
+            ..OF_SCRIPT
+        },
+        Status::Limit {
+            place: 4,
+            which: Which::PodBytes,
+        },
+        b"more bytes than a POD may have",
+    ),
+    (
+        Asked {
+            line: Some(b"link a.out b.in"),
+            ..OF_SCRIPT
+        },
+        Status::Limit {
+            place: 9,
+            which: Which::Links,
+        },
+        b"more than 256 links at a time",
+    ),
+    (
+        Asked {
+            line: Some(b"drain"),
+            ..OF_SCRIPT
+        },
+        Status::Limit {
+            place: 9,
+            which: Which::Events,
+        },
+        b"more than 4194304 events",
+    ),
+    (
+        OF_SCRIPT,
+        Status::Limit {
+            place: 9,
+            which: Which::SinkSamples,
+        },
+        b"the sinks would keep more than 134217728 samples",
+    ),
+    (
+        OF_SCRIPT,
+        Status::Limit {
+            place: 9,
+            which: Which::BlockBytes,
+        },
+        b"the buffers would have more than 268435456 bytes",
+    ),
+    (
+        Asked {
+            before: b"t.txt: ",
+            ..OF_SCRIPT
+        },
+        Status::Limit {
+            place: 4294967295,
+            which: Which::TraceBytes,
+        },
+        b"more than 268435456 bytes",
+    ),
+];
+
+#[test]
+fn limits_in_words(rt: HostRuntime) {
+    assert_eq!(rt; said_unlike(rt.alloc(), LIMITS), None);
+}
+
+/// A run whose script has a sink.
+const OF_SINK: Asked = Asked {
+    command: "run t.graph --trace",
+    line: Some(b"sink o o.wav"),
+    before: b"t.graph:4: o.wav: ",
+};
+
+/// The same without a line.
+const OF_NONE: Asked = Asked {
+    line: None,
+    before: b"",
+    ..OF_SINK
+};
+
+/// Files that are not there or at fault, and no memory.
+const FILES: &'static [Said] = &[
+    (
+        Asked {
+            before: b"t.graph: ",
+            ..OF_NONE
+        },
+        Status::Absent { place: 0 },
+        b"there is no such file",
+    ),
+    (
+        OF_SINK,
+        Status::Absent { place: 4 },
+        b"there is no such file",
+    ),
+    (
+        Asked {
+            command: "dump a.pod",
+            before: b"a.pod: ",
+            ..OF_NONE
+        },
+        Status::ReadFault { place: 1 },
+        b"the file cannot be read",
+    ),
+    (
+        OF_SINK,
+        Status::WriteFault { place: 4 },
+        b"the file cannot be written",
+    ),
+    (
+        OF_NONE,
+        Status::WriteFault { place: 0 },
+        b"standard output cannot be written",
+    ),
+    (OF_NONE, Status::Memory, b"no memory was left"),
+];
+
+#[test]
+fn files_in_words(rt: HostRuntime) {
+    assert_eq!(rt; said_unlike(rt.alloc(), FILES), None);
 }
 
 // The words of all commands, behind what is said of a word.
-const SYNOPSIS: &str = "usage: pipegraph run SCRIPT [--loops N] [--ticks N] [--trace]\n\
+const SYNOPSIS: &'static [u8] = b"usage: pipegraph run SCRIPT [--loops N] [--ticks N] [--trace]\n\
     \x20      pipegraph dump FILE\n\
     \x20      pipegraph filter A B OUT\n\
     \x20      pipegraph automate IN SEQ OUT\n\
     \x20      pipegraph check SCRIPT TRACE\n\
     \x20      pipegraph soak NUMBER";
 
-#[test]
-fn command_lines_in_words(rt: HostRuntime) -> Result<(), Fail> {
-    let wrong = Status::Usage { word: 1 };
-    expect(
-        &rt,
-        "run -s",
-        None,
-        wrong,
-        "this word is wrong here: \"-s\"\n",
+/// A word that is wrong, and one that is missing.
+const USAGES: &'static [Said] = &[
+    (
+        Asked {
+            command: "run -s",
+            line: None,
+            before: b"this word is wrong here: \"-s\"\n",
+        },
+        Status::Usage { word: 1 },
         SYNOPSIS,
-    )?;
-    let missing = Status::Usage { word: 2 };
-    expect(
-        &rt,
-        "filter a",
-        None,
-        missing,
-        "a word is missing\n",
+    ),
+    (
+        Asked {
+            command: "filter a",
+            line: None,
+            before: b"a word is missing\n",
+        },
+        Status::Usage { word: 2 },
         SYNOPSIS,
-    )?;
-    let words = words_of(rt.alloc(), "run t.graph")?;
-    let text = message(rt.alloc(), &Status::Ok, words.as_slice(), None)?;
-    assert!(&rt; text.as_slice() == b"".as_slice());
-    Ok(())
+    ),
+];
+
+// Whether nothing is said of a run that ends well.
+fn is_silent(alloc: Global) -> bool {
+    match words_of(alloc, "run t.graph") {
+        Ok(words) => is_message(alloc, words.as_slice(), None, Status::Ok, b""),
+        Err(_memory) => false,
+    }
 }
 
 #[test]
-fn the_line_is_looked_up_in_the_script(rt: HostRuntime) -> Result<(), Fail> {
-    let name = Items::from_slice(rt.alloc(), b"t.graph")?;
-    let mut files = MemFiles::new(rt.alloc())?;
-    files.add_file(rt.alloc(), &name, b"gain a 1\non vox\n")?;
-    let words = words_of(rt.alloc(), "run t.graph")?;
+fn command_lines_in_words(rt: HostRuntime) {
+    assert_eq!(rt; said_unlike(rt.alloc(), USAGES), None);
+    assert!(rt; is_silent(rt.alloc()));
+}
+
+// Whether a line that is wrong is looked up in these files.
+fn is_explained(alloc: Global, words: &[String], files: &mut MemFiles) -> bool {
     let status = Status::Script {
         line: 2,
         why: ScriptWhy::NameUnknown,
     };
-    let text = explain(rt.alloc(), &mut files, words.as_slice(), &status)?;
-    let wanted = b"pipegraph: t.graph:2: no node is called \"vox\"\n".as_slice();
-    assert!(&rt; text.as_slice() == wanted);
-    Ok(())
+    match explain(alloc, files, words, &status) {
+        Ok(text) => {
+            text.as_slice() == b"pipegraph: t.graph:2: no node is called \"vox\"\n".as_slice()
+        }
+        Err(_memory) => false,
+    }
+}
+
+/// A script whose second line names no node.
+const VOX: &'static [FileRow<'static>] = &[("t.graph", Held::Bytes(b"gain a 1\non vox\n"))];
+
+// Whether a line that is wrong is looked up in its script.
+fn is_looked_up(alloc: Global) -> bool {
+    let Ok(words) = words_of(alloc, "run t.graph") else {
+        return false;
+    };
+    match files_of(alloc, b"", VOX, SURE) {
+        Ok(mut files) => is_explained(alloc, words.as_slice(), &mut files),
+        Err(_memory) => false,
+    }
+}
+
+#[test]
+fn the_line_is_looked_up_in_the_script(rt: HostRuntime) {
+    assert!(rt; is_looked_up(rt.alloc()));
 }

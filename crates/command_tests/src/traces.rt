@@ -1,141 +1,143 @@
 //! `check SCRIPT TRACE`: what is found of a trace, and what refuses it.
 
-use crate::support::{LongFiles, expect};
-use pw_base::{Items, MemFiles, MemSink, Memory, Which};
+use crate::usages::{Usage, usage_unlike};
+use pw_base::{Items, MemFiles, MemSink, Memory};
 use pw_top::Status;
-use row_files::{add_wave, files_of, run_line, text};
+use row_files::{
+    Faults, FileRow, Held, RUN, Row, S_WAV, SURE, add, ends_so, files_of, first_unlike, is_so_with,
+    run_line,
+};
 use std::alloc::Global;
 use std::str;
-use std::test::Fail;
+use std::sync::Wait;
+use std::thread::Threads;
 
 /// A source that a meter and a sink hear; the meter drives, since its number is lower.
-const METER: &str =
-    "quantum 2\nsource s s.wav\nmeter p\nsink o o.wav\ndriver o 5\ndriver p 5\nlink s.out p.in\nlink s.out o.in\ncycles 1\n";
+const METER: &'static [u8] = b"quantum 2\nsource s s.wav\nmeter p\nsink o o.wav\ndriver o 5\n\
+    driver p 5\nlink s.out p.in\nlink s.out o.in\ncycles 1\n";
 
-/// Files that hold this script, the source and this trace.
-fn traced_files(alloc: Global, script: &str, trace: &str) -> Result<MemFiles, Memory> {
-    let mut files = files_of(alloc, script)?;
-    files.add_file(alloc, &text(alloc, "t.txt")?, trace.as_bytes())?;
-    Ok(files)
-}
+/// A script, a trace, and what is printed.
+type Found = (&'static [u8], &'static [u8], &'static [u8]);
 
-/// Scripts, traces and what is printed.
-const FOUND: [(&str, &str, &str); 8] = [
+/// Traces of the meter, of an empty script and of the dummy.
+const FOUND: &'static [Found] = &[
     (
         METER,
-        "begin 0\nstart 0 s\nfinish 0 s\nstart 0 o\nfinish 0 o\nstart 0 p\nfinish 0 p\nend 0\n",
-        "legal\n",
+        b"begin 0\nstart 0 s\nfinish 0 s\nstart 0 o\nfinish 0 o\nstart 0 p\nfinish 0 p\nend 0\n",
+        b"legal\n",
     ),
     (
         METER,
-        "begin 0\nstart 0 s\nstart 0 o\nfinish 0 s\nfinish 0 o\nstart 0 p\nfinish 0 p\nend 0\n",
-        "illegal 3\n",
+        b"begin 0\nstart 0 s\nstart 0 o\nfinish 0 s\nfinish 0 o\nstart 0 p\nfinish 0 p\nend 0\n",
+        b"illegal 3\n",
     ),
     (
         METER,
-        "begin 0\nstart 0 s\nfinish 0 s\nstart 0 o\n",
-        "illegal 5\n",
+        b"begin 0\nstart 0 s\nfinish 0 s\nstart 0 o\n",
+        b"illegal 5\n",
     ),
-    (METER, "begin 0\nstart 0 zz\n", "line 2\n"),
-    (METER, "begin 0\nbegin 0\nno\n", "line 3\n"),
-    ("", "", "legal\n"),
-    ("", "begin 0\n", "illegal 1\n"),
+    (METER, b"begin 0\nstart 0 zz\n", b"line 2\n"),
+    (METER, b"begin 0\nbegin 0\nno\n", b"line 3\n"),
+    (b"", b"", b"legal\n"),
+    (b"", b"begin 0\n", b"illegal 1\n"),
     (
-        "cycles 2",
-        "begin 0\nstart 0 dummy\nfinish 0 dummy\nend 0\nbegin 1\nstart 1 dummy\nfinish 1 dummy\nend 1",
-        "legal\n",
+        b"cycles 2",
+        b"begin 0\nstart 0 dummy\nfinish 0 dummy\nend 0\n\
+        begin 1\nstart 1 dummy\nfinish 1 dummy\nend 1",
+        b"legal\n",
     ),
 ];
 
-#[test]
-fn what_is_found_of_a_trace(rt: HostRuntime) -> Result<(), Fail> {
-    let alloc = rt.alloc();
-    for (script, trace, wanted) in FOUND.iter() {
-        let mut files = traced_files(alloc, script, trace)?;
-        let mut out = MemSink::new(alloc)?;
-        expect(
-            &rt,
-            "check s.graph t.txt",
-            &mut files,
-            &mut out,
-            Status::Ok,
-            wanted,
-        )?;
+/// A check of a script and a trace.
+const CHECK: Row<'static> = Row {
+    line: "check s.graph t.txt",
+    files: &[S_WAV],
+    ..RUN
+};
+
+// The first trace of which something else is found.
+fn trace_unlike<R: Threads + Wait + Sync + AllocGlobal>(
+    rt: &R,
+    base: Row<'static>,
+    rows: &[Found],
+) -> Option<usize> {
+    for (place, (script, trace, text)) in rows.iter().enumerate() {
+        let row = Row {
+            script: *script,
+            text: *text,
+            ..base
+        };
+        if !is_so_with(rt, row, "t.txt", *trace) {
+            return Some(place);
+        }
     }
-    Ok(())
+    None
+}
+
+/// A script and the first line of a trace.
+const BEGUN: Row<'static> = Row {
+    line: "check s.graph t.txt",
+    script: METER,
+    files: &[S_WAV, ("t.txt", Held::Bytes(b"begin 0\n"))],
+    ..RUN
+};
+
+/// Files that are not there, and a trace whose load fails.
+const ABSENT: &'static [Row<'static>] = &[
+    Row {
+        line: "check none t.txt",
+        status: Status::Absent { place: 0 },
+        text: b"absent 0\n",
+        ..BEGUN
+    },
+    Row {
+        line: "check s.graph none",
+        status: Status::Absent {
+            place: 4_294_967_295,
+        },
+        text: b"absent 4294967295\n",
+        ..BEGUN
+    },
+    Row {
+        faults: Faults { load: 3, ..SURE },
+        status: Status::ReadFault {
+            place: 4_294_967_295,
+        },
+        text: b"read 4294967295\n",
+        ..BEGUN
+    },
+];
+
+/// Words that are no line of `check`.
+const USAGES: &'static [Usage] = &[
+    ("check", 1, b"usage 1\n"),
+    ("check s.graph", 2, b"usage 2\n"),
+    ("check s.graph -t", 2, b"usage 2\n"),
+    ("check s.graph t.txt more", 3, b"usage 3\n"),
+];
+
+#[test]
+fn what_is_found_of_a_trace(rt: HostRuntime) {
+    assert_eq!(rt; trace_unlike(&rt, CHECK, FOUND), None);
 }
 
 #[test]
-fn a_check_is_refused_by_cause(rt: HostRuntime) -> Result<(), Fail> {
-    let alloc = rt.alloc();
-    let rows = [
-        ("check", Status::Usage { word: 1 }, "usage 1\n"),
-        ("check s.graph", Status::Usage { word: 2 }, "usage 2\n"),
-        ("check s.graph -t", Status::Usage { word: 2 }, "usage 2\n"),
-        (
-            "check s.graph t.txt more",
-            Status::Usage { word: 3 },
-            "usage 3\n",
-        ),
-        (
-            "check none t.txt",
-            Status::Absent { place: 0 },
-            "absent 0\n",
-        ),
-        (
-            "check s.graph none",
-            Status::Absent {
-                place: 4_294_967_295,
-            },
-            "absent 4294967295\n",
-        ),
-    ];
-    for (line, status, wanted) in rows.iter() {
-        let mut files = traced_files(alloc, METER, "begin 0\n")?;
-        let mut out = MemSink::new(alloc)?;
-        expect(&rt, line, &mut files, &mut out, *status, wanted)?;
-    }
-    Ok(())
-}
-
-#[test]
-fn the_load_of_a_trace_fails(rt: HostRuntime) -> Result<(), Fail> {
-    let alloc = rt.alloc();
-    let mut files = traced_files(alloc, METER, "begin 0\n")?;
-    files.fail_load(alloc, 3)?;
-    let mut out = MemSink::new(alloc)?;
-    let place = 4_294_967_295;
-    expect(
-        &rt,
-        "check s.graph t.txt",
-        &mut files,
-        &mut out,
-        Status::ReadFault { place },
-        "read 4294967295\n",
-    )
-}
-
-#[test]
-fn a_trace_above_its_limit(rt: HostRuntime) -> Result<(), Fail> {
-    let mut out = MemSink::new(rt.alloc())?;
-    let limit = Status::Limit {
-        place: 4_294_967_295,
-        which: Which::TraceBytes,
-    };
-    expect(
-        &rt,
-        "check s.graph t.txt",
-        &mut LongFiles { script: "cycles 1" },
-        &mut out,
-        limit,
-        "limit 4294967295 11\n",
-    )
+fn a_check_is_refused_by_cause(rt: HostRuntime) {
+    assert_eq!(rt; usage_unlike(&rt, USAGES, SURE), None);
+    assert_eq!(rt; first_unlike(&rt, ABSENT), None);
 }
 
 /// A split and a mixer whose nodes belong to four loops, in two epochs.
-const SPREAD: &str = "quantum 4\nsource s st.wav\nsplit x\nmix2 m 256 256\nsink o o.wav\nmeter p\n\
-    driver o 1\nloop x 1\nloop m 2\nloop p 3\nlink s.out x.in\nlink x.left m.a\n\
-    link x.right m.b\nlink m.out o.in\nlink m.out p.in\ncycles 5\noff s\ncycles 3\n";
+const SPREAD: &'static [u8] = b"quantum 4\nsource s st.wav\nsplit x\nmix2 m 256 256\n\
+    sink o o.wav\nmeter p\ndriver o 1\nloop x 1\nloop m 2\nloop p 3\nlink s.out x.in\n\
+    link x.left m.a\nlink x.right m.b\nlink m.out o.in\nlink m.out p.in\ncycles 5\noff s\n\
+    cycles 3\n";
+
+/// Its source.
+const SPREAD_FILES: &'static [FileRow<'static>] = &[(
+    "st.wav",
+    Held::Stereo(&[1, 10, 2, 20, 3, 30, 4, 40]),
+)];
 
 // Whether a line of a run's text is of an event.
 fn is_event(line: &str) -> bool {
@@ -143,41 +145,74 @@ fn is_event(line: &str) -> bool {
     words.iter().any(|word| line.starts_with(*word))
 }
 
-// The event lines of a run's text.
-fn events_in(alloc: Global, text: &[u8]) -> Result<Items<u8>, Memory> {
-    let mut events = Items::new(alloc);
-    for line in str::from_utf8(text).unwrap_or("").lines() {
+// Appends the event lines of a run's text.
+fn append_events(events: &mut Items<u8>, text: &str) -> Result<(), Memory> {
+    for line in text.lines() {
         if is_event(line) {
             events.extend(line.as_bytes())?;
             events.push(b'\n')?;
         }
     }
-    Ok(events)
+    Ok(())
+}
+
+// The event lines of a run's text.
+fn events_in(alloc: Global, text: &[u8]) -> Result<Items<u8>, Memory> {
+    let mut events = Items::new(alloc);
+    match append_events(&mut events, str::from_utf8(text).unwrap_or("")) {
+        Ok(()) => Ok(events),
+        Err(memory) => Err(memory),
+    }
+}
+
+// What a run that ends well prints of its events; nothing where it does not.
+fn events_of<R: Threads + Wait + Sync + AllocGlobal>(
+    rt: &R,
+    files: &mut MemFiles,
+    line: &str,
+) -> Result<Items<u8>, Memory> {
+    let mut out = MemSink::new(rt.alloc())?;
+    match run_line(rt, line, files, &mut out) {
+        Ok(Status::Ok) => events_in(rt.alloc(), out.bytes().as_slice()),
+        _ => Ok(Items::new(rt.alloc())),
+    }
+}
+
+// Whether the check finds these events legal, where there are any.
+fn are_legal<R: Threads + Wait + Sync + AllocGlobal>(
+    rt: &R,
+    files: &mut MemFiles,
+    events: &[u8],
+) -> bool {
+    match add(rt.alloc(), files, "t.txt", events) {
+        Ok(()) => {
+            let line = "check s.graph t.txt";
+            !events.is_empty() && ends_so(rt, files, SURE, line, Status::Ok, b"legal\n")
+        }
+        Err(_memory) => false,
+    }
+}
+
+// Whether what a run prints is legal.
+fn runs_legally<R: Threads + Wait + Sync + AllocGlobal>(rt: &R, line: &str) -> bool {
+    let Ok(mut files) = files_of(rt.alloc(), SPREAD, SPREAD_FILES, SURE) else {
+        return false;
+    };
+    match events_of(rt, &mut files, line) {
+        Ok(events) => are_legal(rt, &mut files, events.as_slice()),
+        Err(_memory) => false,
+    }
 }
 
 #[test]
-fn what_runs_print_is_legal(rt: HostRuntime) -> Result<(), Fail> {
-    let alloc = rt.alloc();
-    let lines = [
+fn what_runs_print_is_legal(rt: HostRuntime) {
+    for line in [
         "run s.graph --trace --loops 0",
         "run s.graph --trace",
         "run s.graph --trace --loops 2",
         "run s.graph --trace --loops 3 --ticks 2",
         "run s.graph --trace --loops 4 --ticks 1",
-    ];
-    for line in lines {
-        let mut files = files_of(alloc, SPREAD)?;
-        let st = [1, 10, 2, 20, 3, 30, 4, 40];
-        add_wave(alloc, &mut files, "st.wav", 2, st.as_slice())?;
-        let mut out = MemSink::new(alloc)?;
-        let status = run_line(&rt, line, &mut files, &mut out)?;
-        assert!(rt; status == Status::Ok, "{line}");
-        let events = events_in(alloc, out.bytes().as_slice())?;
-        assert!(rt; !events.as_slice().is_empty());
-        files.add_file(alloc, &text(alloc, "t.txt")?, events.as_slice())?;
-        let mut found = MemSink::new(alloc)?;
-        let line = "check s.graph t.txt";
-        expect(&rt, line, &mut files, &mut found, Status::Ok, "legal\n")?;
+    ] {
+        assert!(rt; runs_legally(&rt, line), "{line}");
     }
-    Ok(())
 }

@@ -17,7 +17,3 @@ mod offers;
 mod rendering;
 #[cfg(test)]
 mod storing;
-#[cfg(test)]
-mod support;
-#[cfg(test)]
-mod waves;

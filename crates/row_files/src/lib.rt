@@ -1,10 +1,17 @@
-//! Files in memory for the tests of command lines, and one call that runs the program on a line.
+//! Files in memory for the tests of command lines, and runs of the program as rows.
 #![tactic(auto)]
 
 mod command_line;
+mod comparing;
+mod filling;
+mod held;
+mod rows;
 mod script_files;
 mod waves;
 
 pub use command_line::{run_line, words_of};
-pub use script_files::{SCRIPT, SINK, SOURCE, blanks, files_of, text};
-pub use waves::{add_wave, add_wave_at, wav_bytes};
+pub use comparing::Stored;
+pub use filling::{Faults, SURE, add, files_of};
+pub use held::{FileRow, Held};
+pub use rows::{RUN, Row, ends_so, first_unlike, is_so, is_so_with};
+pub use script_files::{S_WAV, SCRIPT, SINK, SOURCE, blanks};

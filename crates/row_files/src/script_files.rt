@@ -1,10 +1,12 @@
 //! A script, its source and what its sink keeps, and the files of a test.
 
-use pw_base::{Items, MemFiles, Memory, Text};
+use crate::held::{FileRow, Held};
+use pw_base::{Items, Memory};
 use std::alloc::Global;
 
 /// One source to one sink: the source is on line 2, the sink on line 3.
-pub const SCRIPT: &str = "quantum 2\nsource s s.wav\nsink o o.wav\nlink s.out o.in\ncycles 2\n";
+pub const SCRIPT: &'static [u8] =
+    b"quantum 2\nsource s s.wav\nsink o o.wav\nlink s.out o.in\ncycles 2\n";
 
 /// A WAV file of the samples 7 8 9, mono at 48000.
 pub const SOURCE: [u8; 50] = [
@@ -20,18 +22,8 @@ pub const SINK: [u8; 52] = [
     0, 0, 7, 0, 8, 0, 9, 0, 0, 0,
 ];
 
-/// A text of its own.
-pub fn text(alloc: Global, text: &str) -> Result<Text, Memory> {
-    Items::from_slice(alloc, text.as_bytes())
-}
-
-/// Files that hold this script and the source.
-pub fn files_of(alloc: Global, script: &str) -> Result<MemFiles, Memory> {
-    let mut files = MemFiles::new(alloc)?;
-    files.add_file(alloc, &text(alloc, "s.graph")?, script.as_bytes())?;
-    files.add_file(alloc, &text(alloc, "s.wav")?, SOURCE.as_slice())?;
-    Ok(files)
-}
+/// The source, under its name.
+pub const S_WAV: FileRow<'static> = ("s.wav", Held::Bytes(&SOURCE));
 
 /// So many blanks. Nothing is ensured of them, since a list that long is not to be computed in a
 /// proof.

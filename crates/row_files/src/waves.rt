@@ -1,28 +1,34 @@
-//! WAV files of some samples.
+//! WAV files of some samples, at 48000 frames a second.
 
-use crate::script_files::text;
-use pw_base::{Items, MemFiles, Memory};
-use std::alloc::Global;
+use pw_base::{Items, Memory};
 
-/// Frames a second of a wave whose rate is not given.
+/// Frames a second.
 const RATE: u32 = 48_000;
 
-// What stands before the format of a WAV file with so many bytes of samples.
-fn riff_of(alloc: Global, data: u32) -> Result<Items<u8>, Memory> {
-    let mut bytes = Items::from_slice(alloc, b"RIFF".as_slice())?;
-    bytes.extend(data.wrapping_add(36).to_le_bytes().as_slice())?;
-    bytes.extend(b"WAVEfmt \x10\x00\x00\x00\x01\x00".as_slice())?;
-    Ok(bytes)
+/// The numbers before the samples, of which these are so many bytes.
+fn head(channels: u32, size: u32) -> [u32; 11] {
+    let frame = channels.wrapping_mul(2);
+    [
+        u32::from_le_bytes(*b"RIFF"),
+        size.wrapping_add(36),
+        u32::from_le_bytes(*b"WAVE"),
+        u32::from_le_bytes(*b"fmt "),
+        16,
+        channels.wrapping_mul(65_536).wrapping_add(1),
+        RATE,
+        frame.wrapping_mul(RATE),
+        frame.wrapping_add(16 * 65_536),
+        u32::from_le_bytes(*b"data"),
+        size,
+    ]
 }
 
-// The rest of the format, of 16-bit samples.
-fn append_format(bytes: &mut Items<u8>, rate: u32, channels: u16) -> Result<(), Memory> {
-    let frame = channels.wrapping_mul(2);
-    bytes.extend(channels.to_le_bytes().as_slice())?;
-    bytes.extend(rate.to_le_bytes().as_slice())?;
-    bytes.extend(rate.wrapping_mul(u32::from(frame)).to_le_bytes().as_slice())?;
-    bytes.extend(frame.to_le_bytes().as_slice())?;
-    bytes.extend(b"\x10\x00data".as_slice())
+/// Appends numbers of four bytes, the lowest byte first.
+pub fn append_words(bytes: &mut Items<u8>, words: &[u32]) -> Result<(), Memory> {
+    for word in words {
+        bytes.extend(word.to_le_bytes().as_slice())?;
+    }
+    Ok(())
 }
 
 fn append_samples(bytes: &mut Items<u8>, samples: &[i16]) -> Result<(), Memory> {
@@ -32,44 +38,12 @@ fn append_samples(bytes: &mut Items<u8>, samples: &[i16]) -> Result<(), Memory> 
     Ok(())
 }
 
-/// The bytes of a WAV file of these samples.
-pub fn wav_bytes(
-    alloc: Global,
-    rate: u32,
-    channels: u16,
-    samples: &[i16],
-) -> Result<Items<u8>, Memory> {
+/// Appends a WAV file of these samples.
+pub fn append_wave(bytes: &mut Items<u8>, channels: u32, samples: &[i16]) -> Result<(), Memory> {
     let Ok(count) = u32::try_from(samples.len()) else {
         return Err(Memory);
     };
-    let data = count.wrapping_mul(2);
-    let mut bytes = riff_of(alloc, data)?;
-    append_format(&mut bytes, rate, channels)?;
-    bytes.extend(data.to_le_bytes().as_slice())?;
-    append_samples(&mut bytes, samples)?;
-    Ok(bytes)
-}
-
-/// Adds a wave of these samples at so many frames a second.
-pub fn add_wave_at(
-    alloc: Global,
-    files: &mut MemFiles,
-    name: &str,
-    rate: u32,
-    channels: u16,
-    samples: &[i16],
-) -> Result<(), Memory> {
-    let bytes = wav_bytes(alloc, rate, channels, samples)?;
-    files.add_file(alloc, &text(alloc, name)?, bytes.as_slice())
-}
-
-/// Adds a wave of these samples at 48000 frames a second.
-pub fn add_wave(
-    alloc: Global,
-    files: &mut MemFiles,
-    name: &str,
-    channels: u16,
-    samples: &[i16],
-) -> Result<(), Memory> {
-    add_wave_at(alloc, files, name, RATE, channels, samples)
+    let head = head(channels, count.wrapping_mul(2));
+    append_words(bytes, head.as_slice())?;
+    append_samples(bytes, samples)
 }
