@@ -1,5 +1,6 @@
 //! The late check: which followers have not finished the cycle when the driver's seat looks.
 ghost use Rattle.board_rule.specs.OnBoard.{IsOn, layout};
+ghost use Rattle.pw_base.specs.Limits.{dummy_node};
 ghost use Rattle.std.specs.Prelude.{◌≡◌, ◌≢◌, true, false, ℕ, ◌+◌, ◌<◌, ◌≤◌, cond, eqb, slice_index};
 ghost use Rattle.pw_base.specs.Layout.{event_count};
 ghost use Rattle.pw_base.specs.Words.{finished_word};
@@ -17,7 +18,7 @@ use pw_base::{ActivationStatus, status_word};
 
 // The late set with one node more where its word was not FINISHED of the cycle.
 fn late_with(late: u64, node: u32, found: u64, cycle: u32) -> u64
-    requires { node ≤ 63 }
+    requires { node ≤ dummy_node }
     ensures { result ≡ cond (eqb found (finished_word cycle)) late (with_bit late node) }
 {
     if found == status_word(ActivationStatus::Finished.number(), cycle) {

@@ -5,7 +5,7 @@ use Rattle.std.specs.Prelude.{◌≡◌, ◌≢◌, ℕ, ◌+◌, ◌^◌, ◌<�
 use Rattle.std.specs.Prelude.{slice_index_or}
 use Rattle.pw_base.specs.declared.shape.Shape.{Shape}
 use Rattle.pw_base.specs.Dependencies.{nodes_of, Precedes}
-use Rattle.pw_base.specs.Limits.{events_limit}
+use Rattle.pw_base.specs.Limits.{events_limit, dummy_node}
 use Rattle.pw_base.specs.Layout.{node_count, event_count}
 use Rattle.board_rule.specs.declared.board_shape.BoardShape.{BoardShape}
 use Rattle.board_rule.specs.Sums.{total, times}
@@ -58,8 +58,8 @@ pub record IsSound (p : BoardLayout) : Type 0 where
   pub events : event_count p.shape ≤ events_limit
   pub driver_in : p.driver < nodes p
   pub seats_in : (n : ℕ) → n < nodes p → n ≢ p.driver → p.seat_of n < p.seats
-  pub indexes : (n : ℕ) → p.index n < nodes p → n ≤ 63
-  pub numbers : (n : ℕ) → n < nodes p → p.number n ≤ 63
+  pub indexes : (n : ℕ) → p.index n < nodes p → n ≤ dummy_node
+  pub numbers : (n : ℕ) → n < nodes p → p.number n ≤ dummy_node
   pub at : (n : ℕ) → n < nodes p → p.index (p.number n) ≡ n
   pub known : (n : ℕ) → p.index n < nodes p → p.number (p.index n) ≡ n
   pub targets_in : (m i : ℕ) → m < nodes p → i < length (p.targets m)

@@ -1,5 +1,6 @@
 //! A board: the words of one epoch that all threads share.
 ghost use Rattle.std.specs.Prelude.{◌≡◌, ◌+◌, ◌<◌, ◌≤◌, ◌^◌, [], length, slice_index};
+ghost use Rattle.pw_base.specs.Limits.{dummy_node};
 ghost use Rattle.pw_base.specs.Layout.{pending_place, status_place, late_place, event_place, event_count, area_count};
 ghost use Rattle.board_rule.specs.Layout.{layout_of, IsSound, nodes, first, last, word_count};
 ghost use Rattle.board_rule.specs.Rows.{HasRows, HasIndexes};
@@ -116,7 +117,7 @@ impl Board {
     pub(crate) fn number(&self, at: usize) -> u32
         requires { at < nodes (layout_of self.now.board_shape) }
         ensures is { result ≡ (layout_of self.now.board_shape).number at }
-        ensures most { result ≤ 63 }
+        ensures most { result ≤ dummy_node }
     {
         self.board_shape.shape.nodes.as_slice()[at].node
     }

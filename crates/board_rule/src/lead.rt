@@ -1,5 +1,6 @@
 //! What the driver's seat keeps to step by. Its phase stands in contracts alone.
 ghost use Rattle.std.specs.Prelude.{◌≡◌, ◌<◌, ◌≤◌, ◌^◌, cond};
+ghost use Rattle.pw_base.specs.Limits.{dummy_node};
 ghost use Rattle.pw_base.specs.EventWords.{event_node};
 ghost use Rattle.board_rule.specs.start.StartViews.{resting};
 ghost use Rattle.board_rule.specs.events.DriverProgress.{lead_progress_of, told_so_far, reset_so_far, due_ticket, due_event, lead_drawn, lead_stored, is_begin};
@@ -97,9 +98,9 @@ pub(crate) fn lead_store(lead: &mut DriverProgress)
 
 /// The event that is due. The late set of a Tick stands in a word of its own.
 pub(crate) fn lead_event(due: Due, cycle: u32, node: u32) -> Event
-    requires { node ≤ 63 }
+    requires { node ≤ dummy_node }
     ensures is { result ≡ due_event due cycle node }
-    ensures node { event_node result ≤ 63 }
+    ensures node { event_node result ≤ dummy_node }
 {
     match due {
         Due::Begin => Event::Begin { cycle },

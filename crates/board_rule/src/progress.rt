@@ -1,6 +1,7 @@
 //! What the seat of a loop keeps of a follower to step by. The phases themselves stand in contracts
 //! alone.
 ghost use Rattle.board_rule.specs.OnBoard.{layout};
+ghost use Rattle.pw_base.specs.Limits.{dummy_node};
 ghost use Rattle.std.specs.Prelude.{◌≡◌, ◌<◌, ◌≤◌, ◌^◌, true, cond, eqb};
 ghost use Rattle.pw_base.specs.declared.event.Event.TheVariants.{Start, Finish};
 ghost use Rattle.pw_base.specs.EventWords.{event_node};
@@ -65,9 +66,9 @@ pub(crate) fn ticket_held(node: NodeProgress) -> u64
 
 /// The event of the ticket that a follower holds.
 pub(crate) fn node_event(ends: bool, cycle: u32, node: u32) -> Event
-    requires { node ≤ 63 }
+    requires { node ≤ dummy_node }
     ensures is { result ≡ cond ends (Finish cycle node) (Start cycle node) }
-    ensures node { event_node result ≤ 63 }
+    ensures node { event_node result ≤ dummy_node }
 {
     if ends {
         Event::Finish { cycle, node }

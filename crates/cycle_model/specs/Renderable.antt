@@ -1,5 +1,6 @@
 -- A plan that can be rendered: what the recursion of the cycle function needs.
 use Rattle.std.specs.Prelude.{◌≡◌, ◌<◌, ◌≤◌, ◌⊎◌, List, All, Contains, map, length}
+use Rattle.pw_base.specs.Limits.{nodes_limit, dummy_node}
 use Rattle.pw_base.specs.declared.shape.ShapeLink.{ShapeLink}
 use Rattle.pw_base.specs.declared.shape.ShapeNode.{ShapeNode}
 use Rattle.pw_base.specs.declared.plan.Epoch.{Epoch}
@@ -25,7 +26,7 @@ pub record IsFitting (plan : Plan) (epoch : Epoch) (link : ShapeLink) : Type 0 w
 
 -- a node of a shape is a node of the plan, or the built-in driver
 abbrev pub IsNodeOf : Plan → ShapeNode → Type 0
-IsNodeOf plan node = (node.node < length plan.nodes) ⊎ (node.node ≡ 63)
+IsNodeOf plan node = (node.node < length plan.nodes) ⊎ (node.node ≡ dummy_node)
 
 -- an epoch's shape has the plan's quantum and nodes, its links fit, and they have an order
 pub record IsRenderableEpoch (plan : Plan) (epoch : Epoch) : Type 0 where
@@ -37,7 +38,7 @@ pub record IsRenderableEpoch (plan : Plan) (epoch : Epoch) : Type 0 where
 -- few enough nodes with numbers in range, epochs that follow one another from cycle 0 on and can
 -- each be rendered, and a wave for each source
 pub record IsRenderable (plan : Plan) (waves : List WavIn) : Type 0 where
-  pub few : length plan.nodes ≤ 63
+  pub few : length plan.nodes ≤ nodes_limit
   pub ranges : All (λ n. IsInRange n.kind) plan.nodes
   pub numbered : FollowFrom 0 plan.epochs
   pub epochs : All (IsRenderableEpoch plan) plan.epochs

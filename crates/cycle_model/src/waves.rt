@@ -1,5 +1,6 @@
 //! Whether waves fit a plan.
 ghost use Rattle.std.specs.Prelude.{◌≡◌, ℕ, ◌≤◌, ◌==◌, ◌↔◌, IsTrue, All, length, count_by};
+ghost use Rattle.pw_base.specs.Limits.{nodes_limit};
 ghost use Rattle.pw_base.specs.declared.kind.Kind.TheVariants.{Source};
 ghost use Rattle.pw_base.specs.PlanForms.{kind_at};
 ghost use Rattle.cycle_model.specs.WavesFit.{IsFormOf, IsWaveOfSource, WavesFit};
@@ -64,7 +65,7 @@ fn has_one(waves: &[WavIn], node: u32) -> bool
 
 /// Whether each source has just one wave.
 fn have_one(plan: &Plan, waves: &[WavIn]) -> bool
-    requires { length plan.now.nodes ≤ 63 }
+    requires { length plan.now.nodes ≤ nodes_limit }
     ensures { IsTrue result ↔ ((node : ℕ) → kind_at plan.now node ≡ Source
         → count_by (λ w. w.node == node) waves.now ≡ 1) }
 {
@@ -79,7 +80,7 @@ fn have_one(plan: &Plan, waves: &[WavIn]) -> bool
 /// Whether there is one wave for each source of the plan and no other, each with the rate and
 /// channels of its source's port. Takes no memory.
 pub fn waves_fit(plan: &Plan, waves: &Items<WavIn>) -> bool
-    requires { length plan.now.nodes ≤ 63 }
+    requires { length plan.now.nodes ≤ nodes_limit }
     ensures { IsTrue result ↔ WavesFit plan.now waves.now }
 {
     are_waves_of_sources(plan, waves.as_slice()) && have_one(plan, waves.as_slice())

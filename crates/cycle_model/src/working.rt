@@ -1,5 +1,6 @@
 //! One cycle of one node: it receives its inputs, and then gives its outputs.
 ghost use Rattle.std.specs.Prelude.{◌≡◌, ℕ, ◌<◌, ◌≤◌, ◌++◌, length, slice_index_or, slice_set, OnOk, IfOk, if◌then◌else◌};
+ghost use Rattle.pw_base.specs.Limits.{nodes_limit};
 ghost use Rattle.pw_base.specs.KindPorts.{input_count, output_count};
 ghost use Rattle.pw_base.specs.KindRanges.{IsInRange};
 ghost use Rattle.cycle_model.specs.Cycle.{wave_of};
@@ -47,7 +48,7 @@ fn is_released(epochs: &[Epoch], cycle: u64, node: u32) -> bool
 
 /// Empties the streams of each node whose streams begin anew with a cycle.
 pub(crate) fn release(alloc: Global, epochs: &[Epoch], cycle: u64, received: &mut [Received])
-    requires { length received.old ≤ 63 }
+    requires { length received.old ≤ nodes_limit }
     ensures long { length received.new ≡ length received.old }
     ensures each { (n : ℕ) → n < length received.old → slice_index_or received.new n nothing
         ≡ (if is_released epochs.now cycle n then released (slice_index_or received.old n nothing)

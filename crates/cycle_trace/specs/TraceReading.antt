@@ -1,6 +1,7 @@
 -- Reading a trace: which events its lines are the lines of, and its first line that is none. The
 -- form is this project's own.
 use Rattle.std.specs.Prelude.{Bool, false, ◌≡◌, ◌≢◌, ℕ, ◌-◌, ◌^◌, ◌<◌, ◌≤◌, ◌==◌, if◌then◌else◌, List, [], ◌∷◌}
+use Rattle.pw_base.specs.Limits.{nodes_limit}
 use Rattle.std.specs.Prelude.{◌++◌, length, take, All, AllPairs, codes, slice_index_or}
 use Rattle.std.specs.List.{slice_split, AllZip}
 use Rattle.pw_base.specs.declared.event.Event.{Event}
@@ -64,7 +65,7 @@ pub record IsName (name : List ℕ) : Type 0 where
 
 -- at most 63 such names, no two alike
 pub record AreNames (names : List (List ℕ)) : Type 0 where
-  pub few : length names ≤ 63
+  pub few : length names ≤ nodes_limit
   pub each : All IsName names
   pub distinct : AllPairs (λ a b. a ≢ b) names
 

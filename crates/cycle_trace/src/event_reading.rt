@@ -1,5 +1,6 @@
 //! The events that the lines of a trace tell.
 ghost use Rattle.std.specs.Prelude.{◌≡◌, ℕ, ◌<◌, ◌≤◌, ◌/◌, ◌%◌, ◌^◌, ◌↔◌, List, [], ◌∷◌, ◌++◌, length, decimal};
+ghost use Rattle.pw_base.specs.Limits.{nodes_limit};
 ghost use Rattle.std.specs.Prelude.{Some, IsTrue, IfOk, IfErr, IfSome, MatchOption};
 ghost use Rattle.std.specs.List.{AllZip, slice_split};
 ghost use Rattle.pw_base.specs.declared.event.Event.{Event};
@@ -33,7 +34,7 @@ impl From<Memory> for TraceFault {
 
 /// The event of a first word and the text after it: a cycle, and what belongs to the event.
 fn event_after(names: &[Text], first: &[u8], after: &[u8]) -> Option<Event>
-    requires { length names.now ≤ 63 }
+    requires { length names.now ≤ nodes_limit }
     ensures only { (event : Event) (cycle : ℕ) (others : List (List ℕ))
         → slice_split is_space after.now ≡ decimal cycle ∷ others → cycle < 2 ^ 32
         → event_said names.now first.now cycle others ≡ Some event → result ≡ Some event }

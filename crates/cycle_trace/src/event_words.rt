@@ -1,5 +1,6 @@
 //! The event that the words of a line name.
 ghost use Rattle.std.specs.Prelude.{◌≡◌, ℕ, ◌<◌, ◌≤◌, ◌^◌, [], length, decimal, IfSome, Some};
+ghost use Rattle.pw_base.specs.Limits.{nodes_limit};
 ghost use Rattle.std.specs.Option.{option_map_or};
 ghost use Rattle.std.specs.List.{slice_split};
 ghost use Rattle.cycle_trace.specs.TraceReading.{is_space, NumbersFit};
@@ -19,7 +20,7 @@ pub(crate) fn number_said(word: &[u8]) -> Option<u32>
 
 /// The node that a word names.
 fn node_said(names: &[Text], word: &[u8]) -> Option<u32>
-    requires { length names.now ≤ 63 }
+    requires { length names.now ≤ nodes_limit }
     ensures value { result ≡ node_said names.now word.now }
     ensures within { IfSome result (λ n. n < 64) }
 {
@@ -34,7 +35,7 @@ fn node_said(names: &[Text], word: &[u8]) -> Option<u32>
 
 /// The node that a text names, if it is one word.
 fn one_node_said(names: &[Text], words: Option<&[u8]>) -> Option<u32>
-    requires { length names.now ≤ 63 }
+    requires { length names.now ≤ nodes_limit }
     ensures { result ≡ one_node_said names.now
         (option_map_or (λ text. slice_split is_space text.now) words.entry []) }
 {
@@ -49,7 +50,7 @@ fn one_node_said(names: &[Text], words: Option<&[u8]>) -> Option<u32>
 
 /// The set of the nodes that the words of a text name: bit n is node n.
 fn late_said(names: &[Text], words: Option<&[u8]>) -> Option<u64>
-    requires { length names.now ≤ 63 }
+    requires { length names.now ≤ nodes_limit }
     ensures { result ≡ late_said names.now
         (option_map_or (λ text. slice_split is_space text.now) words.entry []) 0 }
 {
@@ -87,7 +88,7 @@ pub(crate) fn event_said(
     cycle: u32,
     words: Option<&[u8]>,
 ) -> Option<Event>
-    requires { length names.now ≤ 63 }
+    requires { length names.now ≤ nodes_limit }
     ensures value { result ≡ event_said names.now first.now cycle
         (option_map_or (λ text. slice_split is_space text.now) words.entry []) }
     ensures fits { IfSome result NumbersFit }

@@ -2,6 +2,7 @@
 -- Source: PipeWire's documentation, "Graph Scheduling" (driver, followers); priorities and the
 -- built-in driver 63 are this project's.
 use Rattle.std.specs.Prelude.{◌≡◌, ◌⊎◌, ℕ, ◌<◌, ◌≤◌, ◌&&◌, Bool, true, false, List, [], ◌∷◌, Option, Some, None}
+use Rattle.pw_base.specs.Limits.{dummy_node}
 use Rattle.std.specs.Prelude.{Contains, filter, slice_index_or, if◌then◌else◌}
 use Rattle.pw_base.specs.declared.kind.Kind.{Kind}
 use Rattle.pw_base.specs.declared.kind.Kind.TheVariants.{Sink, Meter, Dummy}
@@ -69,11 +70,11 @@ IsFirst kinds nodes d p = (candidacy kinds nodes d ≡ Some p)
 
 -- DRIVER: that node; 63 where there is no candidate
 abbrev pub IsDriver : List Kind → List Standing → ℕ → Type 0
-IsDriver kinds nodes d = (((m : ℕ) → candidacy kinds nodes m ≡ None) × (d ≡ 63))
+IsDriver kinds nodes d = (((m : ℕ) → candidacy kinds nodes m ≡ None) × (d ≡ dummy_node))
     ⊎ ((p : ℕ) × IsFirst kinds nodes d p)
 
 -- ACTIVE NODES: those that are joined to the driver by live links; under 63, it and all nodes that
 -- have a live link
 abbrev pub IsActive : List Wire → ℕ → ℕ → Type 0
-IsActive live driver n = ((driver ≡ 63) × ((n ≡ 63) ⊎ HasWire live n))
-    ⊎ ((driver ≡ 63 → ⊥) × AreJoined live n driver)
+IsActive live driver n = ((driver ≡ dummy_node) × ((n ≡ dummy_node) ⊎ HasWire live n))
+    ⊎ ((driver ≡ dummy_node → ⊥) × AreJoined live n driver)

@@ -1,5 +1,6 @@
 //! What a line does, but for those that make epochs.
 ghost use Rattle.std.specs.Prelude.{◌≡◌, ◌<◌, ◌≤◌, ◌==◌, ◌||◌, length, map, IfOk, slice_set};
+ghost use Rattle.pw_base.specs.Limits.{nodes_limit};
 ghost use Rattle.std.specs.List.{list_any};
 ghost use Rattle.pw_base.specs.SoundShape.{IsBetween};
 ghost use Rattle.port_model.specs.PortState.{IsPort, with_port, buffered};
@@ -65,7 +66,7 @@ impl Graph {
     // An `async` line.
     fn mark_node(&mut self, node: u32) -> Stepped
         requires node { node < length self.old.nodes }
-        requires few { length self.old.nodes ≤ 63 }
+        requires few { length self.old.nodes ≤ nodes_limit }
         requires wired { AreWired self.old }
         ensures graph { Marks self.old node self.new }
         ensures done { result ≡ Done }
@@ -95,7 +96,7 @@ impl Graph {
     // were taken before the first line.
     pub(crate) fn set_by(&mut self, command: &Command) -> Result<Stepped, Memory>
         requires line { MayDo self.old command.now }
-        requires few { length self.old.nodes ≤ 63 }
+        requires few { length self.old.nodes ≤ nodes_limit }
         requires wired { AreWired self.old }
         ensures { IfOk result (λ stepped. Does self.old command.now stepped self.new) }
     {

@@ -1,5 +1,6 @@
 //! The graph as the lines so far have made it.
 ghost use Rattle.std.specs.Prelude.{◌≡◌, ◌<◌, ◌≤◌, ◌++◌, ◌∷◌, [], length, OnOk};
+ghost use Rattle.pw_base.specs.Limits.{nodes_limit};
 ghost use Rattle.graph_lines.specs.Activity.{standing};
 ghost use Rattle.graph_lines.specs.Ready.{HasReadyNodes};
 
@@ -67,7 +68,7 @@ impl Graph {
     pub(crate) fn node_count(&self) -> u32
         requires { HasReadyNodes self.now.nodes self.now.kinds self.now.ports }
         ensures count { result ≡ length self.now.nodes }
-        ensures few { result ≤ 63 }
+        ensures few { result ≤ nodes_limit }
     {
         self.nodes.len() as u32
     }

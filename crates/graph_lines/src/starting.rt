@@ -1,5 +1,6 @@
 //! The graph before the first line.
 ghost use Rattle.std.specs.Prelude.{◌≡◌, ◌≤◌, map, length, IfOk};
+ghost use Rattle.pw_base.specs.Limits.{nodes_limit};
 ghost use Rattle.std.specs.List.{range_with_len};
 ghost use Rattle.graph_lines.specs.Ready.{IsReady};
 ghost use Rattle.graph_lines.specs.Start.{quantum_of, kinds_of, newcomer, MayStart, IsStart};
@@ -63,7 +64,7 @@ fn newcomer(node: u32) -> Standing
 
 // So many nodes before their lines.
 fn newcomers(alloc: Global, count: usize) -> Result<Items<Standing>, Memory>
-    requires { count ≤ 63 }
+    requires { count ≤ nodes_limit }
     ensures { IfOk result (λ nodes. nodes ≡ map newcomer (range_with_len 0 count)) }
 {
     let mut nodes = Items::new(alloc);
@@ -76,7 +77,7 @@ fn newcomers(alloc: Global, count: usize) -> Result<Items<Standing>, Memory>
 impl Graph {
     // The graph before the first of these lines.
     fn before(alloc: Global, lines: &[Line], ports: Ports) -> Result<Graph, Memory>
-        requires { length (kinds_of lines.now) ≤ 63 }
+        requires { length (kinds_of lines.now) ≤ nodes_limit }
         ensures { IfOk result (IsStart lines.now ports) }
     {
         let kinds = kinds_of(alloc, lines)?;

@@ -1,5 +1,6 @@
 //! `unlink` lines.
 ghost use Rattle.std.specs.Prelude.{◌≡◌, ◌≢◌, ℕ, ◌<◌, ◌≤◌, length, IfOk};
+ghost use Rattle.pw_base.specs.Limits.{nodes_limit};
 ghost use Rattle.std.specs.Int.{bit_at};
 ghost use Rattle.port_model.specs.PortState.{IsInput, IsOutput};
 ghost use Rattle.graph_lines.specs.Activity.{standing};
@@ -32,7 +33,7 @@ fn is_kept(nodes: &[Standing], n: usize) -> bool
 
 // The bits of the nodes that keep their formats.
 fn kept_bits(nodes: &[Standing]) -> u64
-    requires { length nodes.now ≤ 63 }
+    requires { length nodes.now ≤ nodes_limit }
     ensures { HasKept nodes.now result }
 {
     let mut keep = 0;
@@ -78,7 +79,7 @@ impl Graph {
     pub(crate) fn unlink_line(&mut self, from: PortId, to: PortId) -> Result<Stepped, Memory>
         requires from { IsOutput self.old.ports from }
         requires to { IsInput self.old.ports to }
-        requires few { length self.old.nodes ≤ 63 }
+        requires few { length self.old.nodes ≤ nodes_limit }
         requires nodes { (from.node < length self.old.nodes) × (to.node < length self.old.nodes) }
         ensures done { IfOk result (λ stepped. stepped ≡ Done) }
         ensures line { IfOk result (λ stepped. UnlinksLine self.old from to self.new) }

@@ -1,5 +1,6 @@
 //! The rows of a timeline at the end of a text. After `Memory` the text has a part of them.
 ghost use Rattle.std.specs.Prelude.{◌≡◌, ◌≤◌, ◌++◌, length, OnOk};
+ghost use Rattle.pw_base.specs.Limits.{nodes_limit};
 ghost use Rattle.std.specs.List.{list_any};
 ghost use Rattle.graph_pictures.specs.Rows.{is_dummy, extra_rows, row_text, rows_text};
 
@@ -46,7 +47,7 @@ fn put_row(text: &mut Text, left: u64, wide: u64, row: u64, name: &[u8]) -> Resu
 #[tactic(auto, using(crate::proofs::Grown::texts), unfolding(crate::specs::Rows::rows_text))]
 fn put_names(text: &mut Text, left: u64, wide: u64, names: &[Text]) -> Result<(), Memory>
     requires left { 8 ≤ left }
-    requires few { length names.now ≤ 63 }
+    requires few { length names.now ≤ nodes_limit }
     ensures { OnOk result (text.new ≡ text.old ++ rows_text left wide 0 names.now) }
 {
     let mut row = 0;
@@ -73,7 +74,7 @@ pub(crate) fn put_rows(
     events: &[Event],
 ) -> Result<(), Memory>
     requires left { 8 ≤ left }
-    requires few { length names.now ≤ 63 }
+    requires few { length names.now ≤ nodes_limit }
     ensures { OnOk result (text.new ≡ text.old ++ rows_text left wide 0
         (names.now ++ extra_rows events.now)) }
 {

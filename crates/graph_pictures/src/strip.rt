@@ -1,5 +1,6 @@
 //! The marks of events at the end of a text. After `Memory` the text has a part of them.
 ghost use Rattle.std.specs.Prelude.{◌≡◌, ◌*◌, ◌≤◌, ◌++◌, ◌∷◌, [], length, flat_map, codes, OnOk};
+ghost use Rattle.pw_base.specs.Limits.{nodes_limit};
 ghost use Rattle.cycle_trace.specs.EventLines.{late_nodes};
 ghost use Rattle.graph_pictures.specs.Filling.{filled};
 ghost use Rattle.std.specs.List.{position_or_len};
@@ -10,7 +11,7 @@ use pw_base::{DUMMY, Event, Memory, Text};
 
 // The middle of a node's row.
 fn middle_of(count: u64, node: u32) -> u64
-    requires { count ≤ 63 }
+    requires { count ≤ nodes_limit }
     ensures { result ≡ middle_of (row_of count node) }
 {
     if node == DUMMY {
@@ -52,7 +53,7 @@ fn span_of(cycle: u32, node: u32, after: &[Event]) -> u64
 
 // The diamond of a late node.
 fn put_late_node(text: &mut Text, count: u64, index: u64, node: u32) -> Result<(), Memory>
-    requires count { count ≤ 63 }
+    requires count { count ≤ nodes_limit }
     requires index { index ≤ 1000 }
     ensures { OnOk result (text.new ≡ text.old ++ late_text count index node) }
 {
@@ -62,7 +63,7 @@ fn put_late_node(text: &mut Text, count: u64, index: u64, node: u32) -> Result<(
 
 // The diamonds of a set of nodes.
 fn put_late_nodes(text: &mut Text, count: u64, index: u64, late: u64) -> Result<(), Memory>
-    requires count { count ≤ 63 }
+    requires count { count ≤ nodes_limit }
     requires index { index ≤ 1000 }
     ensures { OnOk result (text.new ≡ text.old
         ++ flat_map (late_text count index) (late_nodes late)) }
@@ -78,7 +79,7 @@ fn put_late_nodes(text: &mut Text, count: u64, index: u64, late: u64) -> Result<
 // The rule of a late check, and its diamonds.
 #[tactic(auto, using(crate::proofs::Grown::texts))]
 fn put_tick(text: &mut Text, count: u64, high: u64, index: u64, late: u64) -> Result<(), Memory>
-    requires count { count ≤ 63 }
+    requires count { count ≤ nodes_limit }
     requires index { index ≤ 1000 }
     ensures { OnOk result (text.new ≡ text.old
         ++ (filled (codes "<path class='t' d='M% 18v%'/>\n") (8 * index ∷ high ∷ [])
@@ -98,7 +99,7 @@ fn put_event(
     event: Event,
     after: &[Event],
 ) -> Result<(), Memory>
-    requires count { count ≤ 63 }
+    requires count { count ≤ nodes_limit }
     requires high { high ≤ 1280 }
     requires index { index ≤ 1000 }
     requires after { length after.now ≤ 1000 }
@@ -129,7 +130,7 @@ pub(crate) fn put_strip(
     high: u64,
     events: &[Event],
 ) -> Result<(), Memory>
-    requires count { count ≤ 63 }
+    requires count { count ≤ nodes_limit }
     requires high { high ≤ 1280 }
     requires few { length events.now ≤ 1000 }
     ensures { OnOk result (text.new ≡ text.old ++ strip_text count high 0 events.now) }

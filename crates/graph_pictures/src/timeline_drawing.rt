@@ -1,5 +1,6 @@
 //! The timeline of events.
 ghost use Rattle.std.specs.Prelude.{◌≡◌, ◌≤◌, ◌++◌, length, take, OnOk, IfOk};
+ghost use Rattle.pw_base.specs.Limits.{nodes_limit};
 ghost use Rattle.graph_pictures.specs.Rows.{extra_rows};
 ghost use Rattle.graph_pictures.specs.Sizes.{AreSizes};
 ghost use Rattle.graph_pictures.specs.Timeline.{band_text, bands_text, note_text, size_text, style_text, head_text, groups_text};
@@ -120,7 +121,7 @@ fn put_head(text: &mut Text, frame: Frame) -> Result<(), Memory>
 
 // What the bands draw.
 fn put_groups(text: &mut Text, frame: Frame, names: &[Text], shown: &[Event]) -> Result<(), Memory>
-    requires few { length names.now ≤ 63 }
+    requires few { length names.now ≤ nodes_limit }
     requires shown { length shown.now ≤ 1000 }
     requires sizes { AreSizes frame }
     ensures { OnOk result (text.new ≡ text.old ++ groups_text frame names.now shown.now) }
@@ -139,7 +140,7 @@ fn put_groups(text: &mut Text, frame: Frame, names: &[Text], shown: &[Event]) ->
 
 // A timeline with these sizes.
 fn put_picture(text: &mut Text, frame: Frame, names: &[Text], shown: &[Event]) -> Result<(), Memory>
-    requires few { length names.now ≤ 63 }
+    requires few { length names.now ≤ nodes_limit }
     requires shown { length shown.now ≤ 1000 }
     requires sizes { AreSizes frame }
     ensures { OnOk result (text.new ≡ text.old ++ picture_text frame names.now shown.now) }
@@ -153,7 +154,7 @@ fn put_picture(text: &mut Text, frame: Frame, names: &[Text], shown: &[Event]) -
 
 // How many rows there are.
 fn row_count(names: &[Text], shown: &[Event]) -> u64
-    requires few { length names.now ≤ 63 }
+    requires few { length names.now ≤ nodes_limit }
     ensures value { result ≡ length (names.now ++ extra_rows shown.now) }
     ensures within { result ≤ 64 }
 {
@@ -166,7 +167,7 @@ fn row_count(names: &[Text], shown: &[Event]) -> u64
 
 // The timeline of some of so many events.
 fn put_shown(text: &mut Text, names: &[Text], shown: &[Event], all: u64) -> Result<(), Memory>
-    requires few { length names.now ≤ 63 }
+    requires few { length names.now ≤ nodes_limit }
     requires shown { length shown.now ≤ 1000 }
     ensures { OnOk result (text.new ≡ text.old ++ shown_text names.now shown.now all) }
 {
@@ -197,7 +198,7 @@ fn first_of(events: &[Event], most: usize) -> &[Event]
 /// events the first 1,000 are drawn, which a note says. Takes memory for the text.
 #[tactic(auto, unfolding(crate::specs::TimelineText::timeline_text))]
 pub fn timeline(alloc: Global, names: &Items<Text>, events: &Items<Event>) -> Result<Text, Memory>
-    requires few { length names.now ≤ 63 }
+    requires few { length names.now ≤ nodes_limit }
     ensures { IfOk result (λ text. text ≡ timeline_text names.now events.now) }
 {
     let events = events.as_slice();

@@ -1,6 +1,7 @@
 -- What the links of every graph of a script meet.
 -- Source: this project's own.
 use Rattle.std.specs.Prelude.{◌≡◌, ◌≢◌, ℕ, ◌≤◌, List, length, Some, All, AllPairs}
+use Rattle.pw_base.specs.Limits.{links_limit}
 use Rattle.pw_base.specs.declared.kind.Kind.{Kind}
 use Rattle.pw_base.specs.declared.ids.PortId.{PortId}
 use Rattle.pw_base.specs.SoundShape.{IsBetween}
@@ -41,6 +42,6 @@ AreApart v w = ¬ ((v.from ≡ w.from) × (v.to ≡ w.to))
 
 -- SOUND LINKS: at most 256
 pub record AreSoundWires (kinds : List Kind) (nodes : List Node) (wires : List Wire) : Type 0 where
-  pub few : length wires ≤ 256
+  pub few : length wires ≤ links_limit
   pub each : All (IsSoundWire kinds nodes) wires
   pub apart : AllPairs AreApart wires

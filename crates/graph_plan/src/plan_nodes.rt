@@ -1,5 +1,6 @@
 //! The nodes of a plan.
 ghost use Rattle.std.specs.Prelude.{◌≡◌, ℕ, ◌<◌, ◌≤◌, length, slice_get, slice_index_or, Some, IfOk};
+ghost use Rattle.pw_base.specs.Limits.{nodes_limit};
 ghost use Rattle.pw_base.specs.declared.kind.Kind.TheVariants.{Dummy};
 ghost use Rattle.pw_base.specs.declared.plan.PlanNode.{PlanNode};
 ghost use Rattle.graph_lines.specs.Activity.{may_drive};
@@ -75,7 +76,7 @@ fn node_of(graph: &Graph, names: &[Text], node: usize) -> Result<PlanNode, Memor
     requires node { node < length names.now }
     requires named { length names.now ≡ length graph.now.kinds }
     requires many { length graph.now.nodes ≡ length graph.now.kinds }
-    requires few { length graph.now.kinds ≤ 63 }
+    requires few { length graph.now.kinds ≤ nodes_limit }
     requires kinds { HasKinds graph.now.ports graph.now.kinds }
     ensures { IfOk result (IsNodeOf names.now graph.now node) }
 {
@@ -96,7 +97,7 @@ fn node_of(graph: &Graph, names: &[Text], node: usize) -> Result<PlanNode, Memor
 pub(crate) fn nodes_of(graph: &Graph, names: &[Text]) -> Result<Items<PlanNode>, Memory>
     requires named { length names.now ≡ length graph.now.kinds }
     requires many { length graph.now.nodes ≡ length graph.now.kinds }
-    requires few { length graph.now.kinds ≤ 63 }
+    requires few { length graph.now.kinds ≤ nodes_limit }
     requires kinds { HasKinds graph.now.ports graph.now.kinds }
     ensures count { IfOk result (λ nodes. length nodes ≡ length graph.now.kinds) }
     ensures each { IfOk result

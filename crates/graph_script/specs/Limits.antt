@@ -1,12 +1,8 @@
 -- Limits of a script: the greatest numbers that its commands may have. They are this project's.
 use Rattle.std.specs.Prelude.{ℕ}
-use Rattle.pw_base.specs.Limits.{dummy_node}
-pub use Rattle.pw_base.specs.Limits.{period_limit, delay_limit, amp_limit, gain_limit}
+pub use Rattle.pw_base.specs.Limits.{nodes_limit, period_limit, delay_limit, amp_limit, gain_limit}
 
--- the nodes of a script, and its lines `cycles` and `drain`
-abbrev pub nodes_limit : ℕ
-nodes_limit = dummy_node
-
+-- the lines `cycles` and `drain` of a script
 abbrev pub epochs_limit : ℕ
 epochs_limit = 1024
 

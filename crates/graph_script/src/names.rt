@@ -1,5 +1,6 @@
 //! Names of nodes, and file words.
 ghost use Rattle.std.specs.Prelude.{◌≡◌, ◌≤◌, length, position, bytes_eq};
+ghost use Rattle.pw_base.specs.Limits.{nodes_limit};
 ghost use Rattle.std.specs.List.{list_all};
 ghost use Rattle.graph_script.specs.Arguments.{is_letter, is_name_byte, is_node_name};
 ghost use Rattle.graph_script.specs.Checked.{checked_map, file_arg};
@@ -52,7 +53,7 @@ pub(crate) fn file_word(word: &[u8]) -> Result<&[u8], ScriptWhy>
 
 /// The place of a name among others.
 pub(crate) fn place_of(names: &[Text], name: &[u8]) -> Option<u32>
-    requires { length names.now ≤ 63 }
+    requires { length names.now ≤ nodes_limit }
     ensures { result ≡ position (bytes_eq name.now) names.now }
 {
     match place_of_name(names, name) {

@@ -1,6 +1,7 @@
 -- What a link line does: the first condition that holds decides, and only a link changes anything.
 -- Source: PipeWire's documentation, "Objects Design", Link; the order of conditions is ours.
 use Rattle.std.specs.Prelude.{◌≡◌, ◌⊎◌, ℕ, ◌<◌, ◌≤◌, true, false, List, [], ◌∷◌, ◌++◌, length, Option, Some, None}
+use Rattle.pw_base.specs.Limits.{links_limit, buffers_limit}
 use Rattle.std.specs.Option.{option_or}
 use Rattle.pw_base.specs.SoundShape.{IsBetween}
 use Rattle.pw_base.specs.declared.ids.PortId.{PortId}
@@ -28,30 +29,29 @@ HasFormat nodes from to = (f : Format) × Negotiates nodes from to (negotiated.F
 abbrev pub HasCount : List Node → PortId → PortId → Type 0
 HasCount nodes from to = (n : ℕ) × SharesBuffers nodes from to (Some n)
 
--- of a link that is new: no format; no number of buffers; 256 links; else it is made
+-- of a link that is new: no format; no number of buffers; too many links; else it is made
 abbrev pub IsSettled : LinkState → List Node → PortId → PortId → Linked → Type 0
 IsSettled s nodes from to (NoFormat key) = Negotiates nodes from to (negotiated.NoFormat key)
 IsSettled s nodes from to NoBuffers = HasFormat nodes from to × SharesBuffers nodes from to None
 IsSettled s nodes from to Many = HasFormat nodes from to × HasCount nodes from to
-    × (256 ≤ length s.made)
+    × (links_limit ≤ length s.made)
 IsSettled s nodes from to (Made format buffers) =
     Negotiates nodes from to (negotiated.Format format)
     × SharesBuffers nodes from to (Some buffers)
-    × (length s.made < 256)
+    × (length s.made < links_limit)
 IsSettled s nodes from to other = ⊥
 
 -- of a new link with a format: by the number of buffers, and by how many links there are
 abbrev pub IsCounted : LinkState → Format → Option ℕ → Linked → Type 0
 IsCounted s format None linked = linked ≡ NoBuffers
 IsCounted s format (Some n) linked =
-    ((256 ≤ length s.made) × (linked ≡ Many))
-    ⊎ ((length s.made < 256) × (linked ≡ Made format n))
+    ((links_limit ≤ length s.made) × (linked ≡ Many))
+    ⊎ ((length s.made < links_limit) × (linked ≡ Made format n))
 
 -- LINK OUTCOME: twice; a loop; else as a new link is settled
 abbrev pub IsLinkOutcome : LinkState → List Node → PortId → PortId → Linked → Type 0
 IsLinkOutcome s nodes from to Twice = are_linked s.made from to ≡ true
-IsLinkOutcome s nodes from to Loop =
-    (are_linked s.made from to ≡ false)
+IsLinkOutcome s nodes from to Loop = (are_linked s.made from to ≡ false)
     × ((from.node ≡ to.node) ⊎ IsSynchronousLoop s from to)
 IsLinkOutcome s nodes from to linked = IsNewLink s from to × IsSettled s nodes from to linked
 
@@ -74,7 +74,7 @@ LeavesLink s nodes from to (Made format buffers) t after =
     × (after ≡ formatted nodes from to format)
 LeavesLink s nodes from to other t after = (t ≡ s) × (after ≡ nodes)
 
--- a link that is made has 1 to 8 buffers
+-- a link that is made has at least one buffer, and not too many
 abbrev pub HasFewBuffers : Linked → Type 0
-HasFewBuffers (Made format buffers) = IsBetween 1 8 buffers
+HasFewBuffers (Made format buffers) = IsBetween 1 buffers_limit buffers
 HasFewBuffers other = Unit {0}

@@ -1,6 +1,7 @@
 -- The search for a walk: the links by the node that they leave, and the nodes that are reached.
 -- Source: this project's own.
 use Rattle.std.specs.Prelude.{◌≡◌, ◌⊎◌, ℕ, ◌+◌, ◌-◌, ◌<◌, ◌≤◌, ◌==◌, ◌&&◌, Bool, true, false, not}
+use Rattle.pw_base.specs.Limits.{links_limit}
 use Rattle.std.specs.Prelude.{List, length, slice_index, slice_index_or, count_by}
 use Rattle.std.specs.List.{All, Contains}
 use Rattle.link_negotiation.specs.declared.link.Link.{Link}
@@ -12,7 +13,7 @@ use Rattle.link_negotiation.specs.Links.{LinkState, is_synchronous, synchronous_
 pub record IsBounded (s : LinkState) : Type 0 where
   pub links : All (λ l. (l.from.node < 64) × (l.to.node < 64)) s.made
   pub marks : length s.marks ≡ 64
-  pub few : length s.made ≤ 256
+  pub few : length s.made ≤ links_limit
 
 -- a link is synchronous and leaves this node
 abbrev pub leaves : LinkState → ℕ → Link → Bool
@@ -30,7 +31,7 @@ pub record IsLast (s : LinkState) (n count i : ℕ) : Type 0 where
 -- the same node
 pub record IsOutgoing (s : LinkState) (count : ℕ) (o : Outgoing) : Type 0 where
   pub nodes : length o.last ≡ 64
-  pub links : length o.earlier ≡ 256
+  pub links : length o.earlier ≡ links_limit
   pub last : (n : ℕ) → n < 64 → IsLast s n count (slice_index o.last n)
   pub earlier : (k n : ℕ) (d : Link) → k < count
       → leaves s n (slice_index_or s.made k d) ≡ true

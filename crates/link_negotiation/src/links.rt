@@ -1,5 +1,6 @@
 //! The links that are there.
 ghost use Rattle.std.specs.Prelude.{◌≡◌, ◌<◌, [], false, length, replicate, slice_set, IfOk, true};
+ghost use Rattle.pw_base.specs.Limits.{nodes_limit};
 ghost use Rattle.link_negotiation.specs.Links.{joins, are_linked, has_link, is_synchronous};
 ghost use Rattle.link_negotiation.specs.Searching.{is_reached};
 
@@ -77,7 +78,7 @@ impl Links {
 
     /// Marks a node as asynchronous: from now on each link at it is asynchronous. Takes no memory.
     pub fn mark(&mut self, node: u32)
-        requires node { node < 63 }
+        requires node { node < nodes_limit }
         requires free { has_link self.old.made node ≡ false }
         ensures { self.new ≡ record self.old { marks = slice_set self.old.marks node true } }
     {

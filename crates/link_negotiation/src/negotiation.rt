@@ -1,5 +1,6 @@
 //! How a link is negotiated and made.
 ghost use Rattle.std.specs.Prelude.{◌≡◌, ◌⊎◌, ◌↔◌, ◌<◌, ◌++◌, ◌∷◌, [], length, IsTrue, IfOk, IfSome, OnOk, OnErr};
+ghost use Rattle.pw_base.specs.Limits.{links_limit};
 ghost use Rattle.pw_base.specs.SoundShape.{IsBetween};
 ghost use Rattle.port_model.specs.PortState.{IsPort, IsInput, IsOutput, AtPort, with_port};
 ghost use Rattle.port_model.specs.SoundPorts.{AreSoundNodes};
@@ -76,7 +77,7 @@ impl Links {
     /// Makes a link, and gives its format to each of its ports that has none. The copies and the
     /// room for the link are taken before the first change.
     fn make(&mut self, ports: &mut Ports, link: Link, format: &Format) -> Result<(), Memory>
-        requires few { length self.old.made < 256 }
+        requires few { length self.old.made < links_limit }
         requires from { IsPort ports.old link.from }
         requires to { IsPort ports.old link.to }
         requires other { link.from.node ≡ link.to.node → ⊥ }

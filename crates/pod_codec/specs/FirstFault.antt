@@ -2,6 +2,7 @@
 -- what it holds.
 -- SPA POD, "Types"; spa/pod/pod.h; the order of the checks is this project's.
 use Rattle.std.specs.Prelude.{◌≡◌, ℕ, zero, suc, ◌+◌, ◌≤◌, ◌<◌, ◌⊎◌, List, length, Some, None, Result, Ok, Err}
+use Rattle.pw_base.specs.Limits.{depth_limit}
 use Rattle.pod_codec.specs.declared.fault.PodFault.{PodFault}
 use Rattle.pod_codec.specs.declared.fault.PodFault.TheVariants.{Short, Deep, Memory}
 use Rattle.pod_codec.specs.Places.{u32_at, AreAfter}
@@ -68,4 +69,5 @@ Fails (Err f) P = (f ≡ Memory) ⊎ P f
 -- FIRST FAULT of all bytes, at most 16 deep
 abbrev pub IsFirstFault : List ℕ → PodFault → Type 0
 IsFirstFault bytes f = (first_failed (outer_checks bytes) ≡ Some f)
-    ⊎ ((first_failed (outer_checks bytes) ≡ None) × FaultsAt 16 bytes 0 (length bytes) f)
+    ⊎ ((first_failed (outer_checks bytes) ≡ None)
+    × FaultsAt depth_limit bytes 0 (length bytes) f)

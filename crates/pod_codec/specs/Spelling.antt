@@ -1,7 +1,7 @@
 -- Spelling of PODs: which bytes spell which value, with free padding and any nonzero Bool. SPA POD,
 -- "Types"; spa/pod/pod.h. Places count from the first byte; a body goes from b to e.
 use Rattle.std.specs.Prelude.{◌≡◌, ℕ, zero, suc, ◌+◌, ◌-◌, ◌≤◌, ◌<◌, ◌⊎◌, List, [], length, slice_index, slice_range}
-use Rattle.pw_base.specs.Limits.{pod_bytes_limit}
+use Rattle.pw_base.specs.Limits.{depth_limit, pod_bytes_limit}
 use Rattle.pod_codec.specs.declared.pod.Pod.{Pod}
 use Rattle.pod_codec.specs.declared.pod.Prop.{Prop}
 use Rattle.pod_codec.specs.declared.pod.Control.{Control}
@@ -59,5 +59,5 @@ SpellsAt (suc left) bytes p e pod q =
 -- the first `size` of the bytes spell the value, at most 16 deep, with a body of at most 1,048,576
 -- bytes
 pub record FrontSpells (bytes : List ℕ) (pod : Pod) (size : ℕ) : Type 0 where
-  pub front : SpellsAt 16 bytes 0 (length bytes) pod size
+  pub front : SpellsAt depth_limit bytes 0 (length bytes) pod size
   pub limit : u32_at bytes 0 ≤ pod_bytes_limit

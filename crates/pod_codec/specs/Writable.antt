@@ -1,6 +1,6 @@
 -- Which values can be written: SPA POD, "Types"; the greatest depth and length are this project's.
 use Rattle.std.specs.Prelude.{◌≡◌, ℕ, suc, ◌≤◌, List, ◌++◌, length, Result, Ok, Err, IsTrue}
-use Rattle.pw_base.specs.Limits.{pod_bytes_limit}
+use Rattle.pw_base.specs.Limits.{depth_limit, pod_bytes_limit}
 use Rattle.pod_codec.specs.declared.pod.Pod.{Pod}
 use Rattle.pod_codec.specs.declared.fault.WriteFault.{WriteFault}
 use Rattle.pod_codec.specs.declared.fault.WriteFault.TheVariants.{Unwritable, Memory}
@@ -16,7 +16,7 @@ pub record Fits (left : ℕ) (f : Form) : Type 0 where
 -- WRITABLE: at most 16 deep, a body of at most 1,048,576 bytes, and in arrays and choices what they
 -- may hold
 abbrev pub IsWritable : Pod → Type 0
-IsWritable pod = Fits 16 (form_of pod)
+IsWritable pod = Fits depth_limit (form_of pod)
 
 -- done where P holds, refused where it does not; want of memory is free
 abbrev pub Tells : Result (Unit {0}) WriteFault → Type 0 → Type 0

@@ -1,5 +1,6 @@
 //! The value that bytes spell, or their first fault.
 ghost use Rattle.std.specs.Prelude.{◌≡◌, ℕ, List, ◌+◌, ◌++◌, ◌-◌, ◌≤◌, ◌<◌, ◌⊎◌, [], length, slice_index, slice_range};
+ghost use Rattle.pw_base.specs.Limits.{depth_limit};
 ghost use Rattle.std.specs.Prelude.{IfOk, IfSome, IsNone};
 ghost use Rattle.pod_codec.specs.declared.pod.Pod.TheViews.{out-Pod, out-Prop, out-Control};
 ghost use Rattle.pod_codec.specs.declared.pod.Pod.{Pod};
@@ -424,7 +425,7 @@ pub fn read_pod(alloc: Global, bytes: &[u8]) -> Result<(Pod, usize), PodFault>
 
     // What was written is read back, whatever stands behind; and each choice can be read by its
     // child type.
-    ensures back { (pod : Pod) (rest : List ℕ) → IsWritable pod → NumbersFit 16 pod
+    ensures back { (pod : Pod) (rest : List ℕ) → IsWritable pod → NumbersFit depth_limit pod
         → bytes.now ≡ canonical pod ++ rest → IsReadAs result pod (length (canonical pod)) }
     ensures sound { IfOk result (λ x. HasSoundChoices x.0) }
 {

@@ -1,5 +1,6 @@
 //! The bytes of a value: SPA POD, "Types".
 ghost use Rattle.std.specs.Prelude.{◌≡◌, ◌+◌, ◌≤◌, ◌++◌, length, map, OnOk, OnErr, IsTrue};
+ghost use Rattle.pw_base.specs.Limits.{depth_limit};
 ghost use Rattle.std.specs.List.{flat_map, AllByRecursion};
 ghost use Rattle.pod_codec.specs.Framing.{are_children, framed, keyed_bytes};
 ghost use Rattle.pod_codec.specs.PodValue.{form_of, keyed_of, control_keyed, struct_form, object_form, sequence_form, choice_form, canonical};
@@ -202,7 +203,7 @@ fn put_controls(controls: &[Control], left: u32, to: &mut Items<u8>) -> Result<(
 pub fn write_pod(alloc: Global, pod: &Pod, to: &mut Items<u8>) -> Result<(), WriteFault>
     ensures ok { OnOk result (to.new ≡ to.old ++ canonical pod.now) }
     ensures told { Tells result (IsWritable pod.now) }
-    ensures numbers { OnOk result (NumbersFit 16 pod.now) }
+    ensures numbers { OnOk result (NumbersFit depth_limit pod.now) }
     ensures err { OnErr result (to.new ≡ to.old) }
 {
     let mut bytes = Items::new(alloc);

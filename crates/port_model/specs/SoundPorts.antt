@@ -1,6 +1,7 @@
 -- Sound ports: what holds of the ports that a script has made, whatever it said.
 -- Source: this project's own.
 use Rattle.std.specs.Prelude.{◌≡◌, ℕ, ◌≤◌, List, Some, None, true, length, slice_get, IfSome}
+use Rattle.pw_base.specs.Limits.{nodes_limit}
 use Rattle.std.specs.List.{All}
 use Rattle.pod_codec.specs.declared.pod.Pod.{Pod}
 use Rattle.pw_base.specs.declared.kind.Kind.{Kind}
@@ -36,7 +37,7 @@ pub record IsSoundNode (node : Node) : Type 0 where
 
 -- SOUND PORTS: at most 63 nodes, each sound
 pub record AreSoundNodes (nodes : List Node) : Type 0 where
-  pub few : length nodes ≤ 63
+  pub few : length nodes ≤ nodes_limit
   pub each : All IsSoundNode nodes
 
 -- a port without a format may take one: it is within the own offer, and has the values that the

@@ -1,5 +1,6 @@
 //! The ports of all nodes.
 ghost use Rattle.std.specs.Prelude.{◌≡◌, ◌<◌, ◌≤◌, ◌↔◌, [], ◌∷◌, ◌++◌, length, IfOk, OnOk, OnErr, IsTrue, IsSome};
+ghost use Rattle.pw_base.specs.Limits.{nodes_limit};
 ghost use Rattle.pw_base.specs.KindRanges.{IsInRange, IsRate, IsChannels};
 ghost use Rattle.port_model.specs.PortState.{IsPort, AtPort, HasPlace, with_port, taking};
 ghost use Rattle.port_model.specs.Offers.{new_node, HasFileNumbers};
@@ -64,7 +65,7 @@ impl Ports {
     /// a source's file, 1 to 384000 and 1 to 8, and 0 for the other kinds. After `Memory` all is as
     /// before.
     pub fn add(&mut self, kind: &Kind, rate: u32, channels: u32) -> Result<(), Memory>
-        requires room { length self.old < 63 }
+        requires room { length self.old < nodes_limit }
         requires kind { IsInRange kind.now }
         requires file { HasFileNumbers kind.now rate channels }
         ensures ok { OnOk result (self.new ≡ self.old ++ new_node kind.now rate channels ∷ []) }

@@ -23,6 +23,7 @@ pub mod PlanForms
 pub mod PlanFresh
 pub mod PlanSums
 pub mod Pools
+pub mod Quantities
 pub mod Refilled
 pub mod Samples
 pub mod SoundPlan

@@ -1,28 +1,16 @@
--- Limits: the number of each quantity, and how much of it there may be.
+-- Limits: how much of each quantity there may be. They are this project's.
 use Rattle.std.specs.Prelude.{ℕ}
-use Rattle.pw_base.specs.declared.limit.Which.{Which}
-use Rattle.pw_base.specs.declared.limit.Which.TheVariants as W
-
-abbrev pub which_number : Which → ℕ
-which_number W.ScriptBytes = 1
-which_number W.WavBytes = 2
-which_number W.AllWavBytes = 3
-which_number W.PodBytes = 4
-which_number W.Nodes = 5
-which_number W.Epochs = 6
-which_number W.Links = 7
-which_number W.Events = 8
-which_number W.SinkSamples = 9
-which_number W.BlockBytes = 10
-which_number W.TraceBytes = 11
 
 -- the number of the built-in node, which drives where no other does; the nodes of a script are
 -- those below
 abbrev pub dummy_node : ℕ
 dummy_node = 63
 
--- the links of a graph, the frames of a quantum, the frames a second, the channels of a port, the
--- buffers of a link
+-- the nodes of a script, the links of a graph, the frames of a quantum, the frames a second, the
+-- channels of a port, the buffers of a link
+abbrev pub nodes_limit : ℕ
+nodes_limit = dummy_node
+
 abbrev pub links_limit : ℕ
 links_limit = 256
 
@@ -51,7 +39,11 @@ amp_limit = 32767
 abbrev pub gain_limit : ℕ
 gain_limit = 32767
 
--- a script, the body of a POD, a WAV file and all WAV files of a run, in bytes
+-- the values of a POD within one another; a script, the body of a POD, a WAV file and all WAV
+-- files of a run, in bytes
+abbrev pub depth_limit : ℕ
+depth_limit = 16
+
 abbrev pub script_bytes_limit : ℕ
 script_bytes_limit = 1048576
 
@@ -64,14 +56,13 @@ wav_bytes_limit = 268435456
 abbrev pub all_wav_bytes_limit : ℕ
 all_wav_bytes_limit = 536870912
 
--- the samples of all sinks of a run
+-- the samples of all sinks of a run, the bytes of all blocks of all epochs
 abbrev pub sink_samples_limit : ℕ
 sink_samples_limit = 134217728
+
+abbrev pub block_bytes_limit : ℕ
+block_bytes_limit = 268435456
 
 -- the events of a run: 2 of each active node and 3 more a cycle
 abbrev pub events_limit : ℕ
 events_limit = 4194304
-
--- the bytes of all blocks of all epochs
-abbrev pub block_bytes_limit : ℕ
-block_bytes_limit = 268435456

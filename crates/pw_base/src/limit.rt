@@ -1,6 +1,6 @@
 //! The quantities that have a limit.
 ghost use Rattle.std.specs.Prelude.{◌≡◌};
-ghost use Rattle.pw_base.specs.Limits.{which_number};
+ghost use Rattle.pw_base.specs.Quantities.{which_number};
 
 /// The most links of a graph.
 pub const LINKS_LIMIT: usize = 256;

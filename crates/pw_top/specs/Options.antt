@@ -1,6 +1,7 @@
 -- The options of `run`, behind its script: each at most once, in any order, its value as the next
 -- word. What the words so far say, one after the other. This project's.
 use Rattle.std.specs.Prelude.{ℕ, ◌≤◌, ◌+◌, ◌&&◌, Bool, true, false, not, if◌then◌else◌, List, codes, bytes_eq, fold, Option, Some, None, IfSome, is_none, Result, Ok, Err}
+use Rattle.ready_queues.specs.Lanes.{loops_limit}
 use Rattle.graph_script.specs.Arguments.{number_of}
 use Rattle.pw_top.specs.declared.options.Options.{Options}
 use Rattle.pw_top.specs.declared.options.Said.{Said}
@@ -43,7 +44,7 @@ ticks_given o (Some n) = Whole (record { loops = o.loops; ticks = Some n; trace 
 -- one word more: a number of loops is 0 to 16, one of ticks 1 to 1,000,000
 abbrev pub said_after : Said → List ℕ → Said
 said_after (Whole o) word = begun o word
-said_after (WantsLoops o) word = loops_given o (number_of 0 16 word)
+said_after (WantsLoops o) word = loops_given o (number_of 0 loops_limit word)
 said_after (WantsTicks o) word = ticks_given o (number_of 1 1000000 word)
 said_after (Fault index) word = Fault index
 
@@ -60,7 +61,7 @@ options_of words = options_in (fold said_after (Whole no_options) words)
 
 -- of all that can be said, a number of loops is at most 16
 abbrev pub HasFew : Options → Type 0
-HasFew o = IfSome o.loops (λ n. n ≤ 16)
+HasFew o = IfSome o.loops (λ n. n ≤ loops_limit)
 
 abbrev pub SaysFew : Said → Type 0
 SaysFew (Whole o) = HasFew o

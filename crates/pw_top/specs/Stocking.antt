@@ -4,7 +4,7 @@ use Rattle.std.specs.Prelude.{◌≡◌, ℕ, ◌+◌, ◌<◌, ◌≤◌, List,
 use Rattle.pw_base.specs.declared.kind.Kind.{Kind}
 use Rattle.pw_base.specs.declared.kind.Kind.TheVariants as K
 use Rattle.pw_base.specs.KindRanges.{IsInRange}
-use Rattle.pw_base.specs.Limits.{all_wav_bytes_limit}
+use Rattle.pw_base.specs.Limits.{all_wav_bytes_limit, nodes_limit}
 use Rattle.wav_files.specs.declared.wav.Wav.{Wav}
 use Rattle.graph_script.specs.declared.command.Command.{Command}
 use Rattle.graph_script.specs.declared.command.Command.TheVariants as C
@@ -41,10 +41,10 @@ with_plain stock (Some kind) = record stock { ports = stock.ports ++ new_node ki
 
 -- what a line asks of the nodes before it: it makes the next one, and names a port that is there
 abbrev pub MayLoad : List Node → Command → Type 0
-MayLoad nodes (C.Source node file) = (node ≡ length nodes) × (length nodes < 63)
+MayLoad nodes (C.Source node file) = (node ≡ length nodes) × (length nodes < nodes_limit)
 MayLoad nodes (C.Offer port file) = IsPort nodes port
 MayLoad nodes command = IfSome (plain_kind command)
-    (λ kind. (length nodes < 63) × IsInRange kind × HasFileNumbers kind 0 0)
+    (λ kind. (length nodes < nodes_limit) × IsInRange kind × HasFileNumbers kind 0 0)
 
 -- no port has a format or a count of buffers yet
 abbrev pub AreUnused : List Node → Type 0

@@ -1,5 +1,6 @@
 -- The grammar of command lines: what words ask for, or the first word at fault. This project's.
 use Rattle.std.specs.Prelude.{◌≡◌, ℕ, ◌≤◌, if◌then◌else◌, List, [], ◌∷◌, codes, bytes_eq, Option, Some, None, unwrap_or, Result, Ok, Err}
+use Rattle.ready_queues.specs.Lanes.{loops_limit}
 use Rattle.graph_script.specs.Arguments.{number_of}
 use Rattle.pw_top.specs.declared.options.Options.{Options}
 use Rattle.pw_top.specs.declared.status.Status.{Status}
@@ -14,10 +15,8 @@ pub use Rattle.pw_top.specs.Words.{Words, then_file, then_nothing, one_file, two
 -- a script and its options: one loop and no ticks where nothing is said of them
 abbrev pub run_with : List ℕ → Result Options ℕ → Result CommandLine Status
 run_with script (Ok o) = Ok (C.Run (record {
-  script = script;
-  loops = unwrap_or o.loops 1;
-  ticks = unwrap_or o.ticks 0;
-  trace = o.trace;
+  script = script; loops = unwrap_or o.loops 1;
+  ticks = unwrap_or o.ticks 0; trace = o.trace;
 }))
 run_with script (Err index) = Err (S.Usage index)
 
@@ -67,9 +66,9 @@ abbrev pub ticks_in : Result CommandLine Status → ℕ
 ticks_in (Ok (C.Run c)) = c.ticks
 ticks_in other = 0
 
--- a run has at most 16 loops
+-- a run has few loops
 abbrev pub HasFewLoops : CommandLine → Type 0
-HasFewLoops (C.Run c) = c.loops ≤ 16
+HasFewLoops (C.Run c) = c.loops ≤ loops_limit
 HasFewLoops other = Unit {0}
 
 -- the words were read as they should, or memory was short

@@ -4,7 +4,7 @@
 ghost use Rattle.std.specs.Prelude.{◌≡◌, ◌≤◌, ◌<◌, ◌-◌, length, Ok, IfOk, IfSome, Some, None, option_map};
 ghost use Rattle.pw_base.specs.declared.kind.Kind.TheVariants as K;
 ghost use Rattle.pw_base.specs.KindRanges.{IsInRange};
-ghost use Rattle.pw_base.specs.Limits.{all_wav_bytes_limit};
+ghost use Rattle.pw_base.specs.Limits.{all_wav_bytes_limit, nodes_limit};
 ghost use Rattle.format_filter.specs.CommonFormat.{IsSoundFormat};
 ghost use Rattle.wav_files.specs.WavWriting.{IsWave};
 ghost use Rattle.graph_script.specs.Kinds.{made_by};
@@ -61,7 +61,7 @@ fn wav_which(used: u64) -> Which
 // The node of a source, with its wave.
 fn with_wave(stock: Stock, node: u32, size: u64, wav: Wav) -> Result<Stock, Memory>
     requires wave { IsWave wav }
-    requires room { length stock.ports < 63 }
+    requires room { length stock.ports < nodes_limit }
     requires used { stock.used ≤ all_wav_bytes_limit }
     requires size { size ≤ all_wav_bytes_limit - stock.used }
     ensures { IfOk result (λ after. after ≡ with_wave stock node size wav) }
@@ -84,7 +84,7 @@ fn with_wave(stock: Stock, node: u32, size: u64, wav: Wav) -> Result<Stock, Memo
 fn take_wave(node: u32, stock: Stock, size: u64, wav: Wav) -> Result<Stock, Status>
     requires sound { IsSoundStock stock }
     requires node { node ≡ length stock.ports }
-    requires room { length stock.ports < 63 }
+    requires room { length stock.ports < nodes_limit }
     requires wave { IsWave wav }
     requires size { size ≤ all_wav_bytes_limit - stock.used }
     ensures done { Ends (TakesWave node stock size wav) result }
@@ -106,7 +106,7 @@ fn source_loaded(
 ) -> Result<Stock, Status>
     requires sound { IsSoundStock stock }
     requires node { node ≡ length stock.ports }
-    requires room { length stock.ports < 63 }
+    requires room { length stock.ports < nodes_limit }
     requires small { length bytes.now ≤ wav_limit stock.used }
     ensures done { Ends (ReadsSource place node stock bytes.now) result }
     ensures cause { CommandCause (IsStockAfter stock (Some K.Source)) 0 0 result }
@@ -128,7 +128,7 @@ fn load_source<F: Files>(
 ) -> Result<Stock, Status>
     requires sound { IsSoundStock stock }
     requires node { node ≡ length stock.ports }
-    requires room { length stock.ports < 63 }
+    requires room { length stock.ports < nodes_limit }
     ensures files { LoadsOnly (F.held files.old) (F.held files.new) (F.load_faults files.old)
         (F.load_faults files.new) (F.store_faults files.old) (F.store_faults files.new) }
     ensures told { Tells (F.held files.old)
@@ -222,7 +222,7 @@ fn plain_kind(alloc: Global, command: &Command) -> Result<Option<Kind>, Memory>
 
 // A node more, if there is a kind.
 fn with_plain(stock: Stock, made: Option<Kind>) -> Result<Stock, Memory>
-    requires { IfSome made (λ kind. (length stock.ports < 63) × IsInRange kind
+    requires { IfSome made (λ kind. (length stock.ports < nodes_limit) × IsInRange kind
         × HasFileNumbers kind 0 0) }
     ensures { IfOk result (λ after. after ≡ with_plain stock made) }
 {
@@ -237,7 +237,7 @@ fn with_plain(stock: Stock, made: Option<Kind>) -> Result<Stock, Memory>
 fn keep_line(alloc: Global, command: &Command, stock: Stock) -> Result<Stock, Status>
     requires sound { IsSoundStock stock }
     requires line { IfSome (plain_kind command.now)
-        (λ kind. (length stock.ports < 63) × IsInRange kind × HasFileNumbers kind 0 0) }
+        (λ kind. (length stock.ports < nodes_limit) × IsInRange kind × HasFileNumbers kind 0 0) }
     ensures done { Ends (Reads
         (λ outcome. outcome ≡ Ok (with_plain stock (plain_kind command.now)))) result }
     ensures cause { CommandCause (IsStockAfter stock (plain_kind command.now)) 0 0 result }

@@ -1,5 +1,6 @@
 //! The options of `run`: each at most once, in any order.
 ghost use Rattle.std.specs.Prelude.{◌≡◌, ◌≤◌, map, string_bytes, IfOk};
+ghost use Rattle.ready_queues.specs.Lanes.{loops_limit};
 ghost use Rattle.graph_script.specs.Arguments.{number_of};
 ghost use Rattle.pw_top.specs.Options.{words_for, place_after, begun, loops_given, ticks_given, said_after, options_in, options_of, HasFew, SaysFew};
 
@@ -72,7 +73,7 @@ fn begun(options: Options, word: &[u8]) -> Said
 
 // The value of `--loops` comes.
 fn loops_given(options: Options, word: &[u8]) -> Said
-    ensures is { result ≡ loops_given options (number_of 0 16 word.now) }
+    ensures is { result ≡ loops_given options (number_of 0 loops_limit word.now) }
     ensures few { SaysFew result }
 {
     match number_within(word, 0, LOOPS_LIMIT) {

@@ -2,6 +2,7 @@
 #![tactic(auto, using(crate::proofs::AllowedLemmas::parts))]
 
 ghost use Rattle.std.specs.Prelude.{◌≡◌, ◌≤◌, IfOk, OnErr};
+ghost use Rattle.ready_queues.specs.Lanes.{loops_limit};
 ghost use Rattle.pw_top.specs.Ending.{CommandCause, IsDeliverable};
 ghost use Rattle.pw_top.specs.Playing.{happened, HasNothing, HasRun, Plays};
 ghost use Rattle.pw_top.specs.PlannedWork.{rendered, IsPlayable, PlaysPlan};
@@ -29,7 +30,7 @@ pub fn run_planned<R: Threads + Wait + Sync, G: Gate + Sync, K: Ticker>(
     played: &mut Played,
 ) -> Result<Outcome, Memory>
     requires planned { IsPlayable planned.now }
-    requires few { loops ≤ 16 }
+    requires few { loops ≤ loops_limit }
     ensures outcome { IfOk result (λ o. o ≡ rendered planned.now.plan planned.now.waves) }
     ensures run { IfOk result (λ o. HasRun planned.now.plan planned.now.waves loops
         (happened played.new (K.ticks ticker.old) (K.ticks ticker.new))) }
@@ -82,7 +83,7 @@ pub fn play_planned<R: Threads + Wait + Sync, G: Gate + Sync, K: Ticker>(
     played: &mut Played,
 ) -> Result<Work, Status>
     requires planned { IsPlayable planned.now }
-    requires few { loops ≤ 16 }
+    requires few { loops ≤ loops_limit }
     requires none { HasNothing played.old }
     ensures done { Plays
         (PlaysPlan loops trace (happened played.new (K.ticks ticker.old) (K.ticks ticker.new))

@@ -2,6 +2,7 @@
 #![tactic(auto, using(crate::proofs::AllowedLemmas::parts))]
 
 ghost use Rattle.std.specs.Prelude.{◌≡◌, ◌≤◌, length};
+ghost use Rattle.pw_base.specs.Limits.{nodes_limit};
 ghost use Rattle.graph_script.specs.Making.{NamesMade};
 ghost use Rattle.graph_lines.specs.Start.{kinds_of};
 ghost use Rattle.graph_plan.specs.Conditions.{AreLinesOf};
@@ -27,7 +28,7 @@ fn load_lines<F: Files>(
 ) -> Result<Stock, Status>
     requires lines { AreLinesOf (kinds_of lines.now) lines.now }
     requires made { NamesMade 0 lines.now }
-    requires few { length (kinds_of lines.now) ≤ 63 }
+    requires few { length (kinds_of lines.now) ≤ nodes_limit }
     requires nothing { nothing ≡ nothing_loaded }
     ensures files { LoadsOnly (F.held files.old) (F.held files.new) (F.load_faults files.old)
         (F.load_faults files.new) (F.store_faults files.old) (F.store_faults files.new) }
@@ -50,7 +51,7 @@ fn load_lines<F: Files>(
 pub fn load_all<F: Files>(alloc: Global, files: &mut F, lines: &[Line]) -> Result<Stock, Status>
     requires lines { AreLinesOf (kinds_of lines.now) lines.now }
     requires made { NamesMade 0 lines.now }
-    requires few { length (kinds_of lines.now) ≤ 63 }
+    requires few { length (kinds_of lines.now) ≤ nodes_limit }
     ensures files { LoadsOnly (F.held files.old) (F.held files.new) (F.load_faults files.old)
         (F.load_faults files.new) (F.store_faults files.old) (F.store_faults files.new) }
     ensures told { Tells (F.held files.old)

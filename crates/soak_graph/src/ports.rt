@@ -1,5 +1,6 @@
 //! The ports of the nodes of the graph.
 ghost use Rattle.std.specs.Prelude.{◌≡◌, ◌≤◌, ◌+◌, ◌++◌, length, IfOk, OnOk};
+ghost use Rattle.pw_base.specs.Limits.{nodes_limit};
 ghost use Rattle.pw_base.specs.KindRanges.{IsGain};
 ghost use Rattle.soak_graph.specs.Drawing.{HasDrawn};
 ghost use Rattle.soak_graph.specs.SoakPorts.{chain_nodes, soak_ports};
@@ -11,7 +12,7 @@ use std::alloc::Global;
 
 // The nodes of a chain.
 fn add_chain(ports: &mut Ports, chain: &Chain) -> Result<(), Memory>
-    requires room { length ports.old + 3 ≤ 63 }
+    requires room { length ports.old + 3 ≤ nodes_limit }
     requires gain { IsGain chain.now.gain }
     requires delay { chain.now.delay ≤ 1024 }
     ensures { OnOk result (ports.new ≡ ports.old ++ chain_nodes chain.now.gain chain.now.delay) }

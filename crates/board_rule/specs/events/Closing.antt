@@ -1,6 +1,7 @@
 -- The end of a board: what its seat must have done, and the events that its words hold.
 -- Source: this project's own.
 use Rattle.std.specs.Prelude.{◌≡◌, ℕ, suc, ◌+◌, ◌-◌, ◌^◌, ◌<◌, ◌≤◌, true, List, [], length, All, slice_get, slice_index, Some}
+use Rattle.pw_base.specs.Limits.{dummy_node}
 use Rattle.pw_base.specs.declared.event.Event.{Event}
 use Rattle.pw_base.specs.declared.event.Event.TheVariants.{Tick}
 use Rattle.pw_base.specs.EventWords.{event_cycle, event_node, event_word_of}
@@ -41,7 +42,8 @@ expected closed = closed.kept.me.0.expect
 
 -- an event of a cycle not before `first`, whose numbers fit a word
 abbrev pub IsInRange : ℕ → Event → Type 0
-IsInRange first e = (first ≤ event_cycle e) × (event_cycle e < 2 ^ 32) × (event_node e ≤ 63)
+IsInRange first e = (first ≤ event_cycle e) × (event_cycle e < 2 ^ 32)
+    × (event_node e ≤ dummy_node)
 
 -- the late set of a Tick stands in the word of its cycle, counted from `first`, behind those before
 -- `lates`

@@ -3,6 +3,7 @@
 -- Source: PipeWire's documentation, "Graph Scheduling": a node runs once a cycle, after what it
 -- depends on; tickets and events are this project's.
 use Rattle.std.specs.Prelude.{◌≡◌, ℕ, ◌-◌, ◌<◌, ◌≤◌, ◌⊎◌, true, cond, List, length, slice_get, Some}
+use Rattle.pw_base.specs.Limits.{dummy_node}
 use Rattle.std.specs.Prelude.{count_by, All, Contains, IsBitSet}
 use Rattle.pw_base.specs.declared.event.Event.{Event}
 use Rattle.pw_base.specs.declared.event.Event.TheVariants.{Start, Finish, Tick}
@@ -47,7 +48,7 @@ module _ (p : BoardLayout) where
   pub record Earlier (c late : ℕ) (past : List Event) (r : Records) : Type 0 where
     pub legal : AreJoined (epoch_cycles p.shape (c - first p)) past
     pub before : All (λ e. (first p ≤ event_cycle e) × (event_cycle e < c)
-        × (event_node e ≤ 63)) past
+        × (event_node e ≤ dummy_node)) past
     pub lates : (k set : ℕ) → Contains past (Tick k set) → r.late (k - first p) ≡ set
     pub late_now : c < last p → r.late (c - first p) ≡ late
     pub late_later : (k : ℕ) → c < k → k < last p → r.late (k - first p) ≡ 0

@@ -1,6 +1,7 @@
 //! The atomic steps on tickets, events and late sets. Nodes are indexes; `C` is what the step gives
 //! its seat to know.
 ghost use Rattle.board_rule.specs.OnBoard.{IsOn, layout};
+ghost use Rattle.pw_base.specs.Limits.{dummy_node};
 ghost use Rattle.std.specs.Prelude.{◌≡◌, ℕ, ◌+◌, ◌<◌, ◌≤◌};
 ghost use Rattle.pw_base.specs.Layout.{event_count};
 ghost use Rattle.pw_base.specs.EventWords.{event_node, event_word_of};
@@ -42,7 +43,7 @@ pub(crate) fn store<C: Change>(
     requires ticket { ticket ≡ ticket_of C.is_driver token.old.me.0 at }
     requires drawn { ticket < event_count board.now.board_shape.shape }
     requires event { event.now ≡ event_due C.is_driver (layout board.now) token.old.me.0 at }
-    requires node { event_node event.now ≤ 63 }
+    requires node { event_node event.now ≤ dummy_node }
     requires after { (found : ℕ)
         → C.after found ≡ event_stored C.is_driver token.old.me.0 at }
     ensures same { (token.new.table_id ≡ token.old.table_id) × (token.new.id ≡ token.old.id)

@@ -1,5 +1,6 @@
 //! The links that are live, and the nodes that are active by them.
 ghost use Rattle.std.specs.Prelude.{◌≡◌, ◌⊎◌, ℕ, ◌<◌, ◌↔◌, true, false, All, filter, length, replicate, IfOk, slice_index_or, slice_set};
+ghost use Rattle.pw_base.specs.Limits.{dummy_node};
 ghost use Rattle.graph_lines.specs.Activity.{standing, is_live, live_wires, AreJoined, HasWire, IsActive};
 ghost use Rattle.graph_lines.specs.Searching.{is_in, IsWithin, IsClosed, TakesIn, Spreads, HasMore};
 
@@ -102,7 +103,7 @@ fn joined_nodes(live: &[Wire], node: u32) -> [bool; NODES]
 // The built-in driver and the nodes that have a link.
 fn linked_nodes(live: &[Wire]) -> [bool; NODES]
     requires { All IsWithin live.now }
-    ensures { (n : ℕ) → (is_in result n ≡ true) ↔ ((n ≡ 63) ⊎ HasWire live.now n) }
+    ensures { (n : ℕ) → (is_in result n ≡ true) ↔ ((n ≡ dummy_node) ⊎ HasWire live.now n) }
 {
     let mut here = only(DUMMY);
     for wire in live {

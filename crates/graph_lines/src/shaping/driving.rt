@@ -1,5 +1,6 @@
 //! The node that drives.
 ghost use Rattle.std.specs.Prelude.{◌≡◌, ◌+◌, ◌<◌, ◌≤◌, length, slice_index_or};
+ghost use Rattle.pw_base.specs.Limits.{nodes_limit};
 ghost use Rattle.pw_base.specs.declared.kind.Kind.TheVariants.{Dummy};
 ghost use Rattle.graph_lines.specs.Activity.{may_drive, candidacy, IsDriver};
 ghost use Rattle.graph_lines.specs.Searching.{IsBest};
@@ -65,7 +66,7 @@ fn better(
 /// one with the greatest, and of these the lowest number; `DUMMY` where there is none. Takes no
 /// memory; cost: one look at each node.
 pub fn driver_of(kinds: &[Kind], nodes: &[Standing]) -> u32
-    requires { length nodes.now ≤ 63 }
+    requires { length nodes.now ≤ nodes_limit }
     ensures { IsDriver kinds.now nodes.now result }
 {
     let mut best = None;
