@@ -1,5 +1,5 @@
 -- A loop begins an epoch: on the epoch's board all its followers rest.
-use Rattle.std.proofs.Common.{◌≡◌, ◌≢◌, ℕ, ◌+◌, ◌<◌, ◌≤◌, ◌==◌, Bool, true, false, true≢false, not, cond, List, [], length, map, get_or, sym, ap, ◌∙◌, subst, arith}
+use Rattle.std.proofs.Common.{◌≡◌, ◌≢◌, ℕ, ◌+◌, ◌<◌, ◌≤◌, ◌==◌, Bool, true, false, true≢false, not, cond, List, [], length, map, get_or, refl, sym, ap, ◌∙◌, subst, arith}
 use Rattle.std.proofs.Common.{option_map, unwrap_or}
 use Rattle.std.specs.Prelude.{All, Contains}
 use Rattle.std.proofs.lemmas.Bool.{and_parts, and_from, eq-eqb, or_left}
@@ -24,13 +24,15 @@ use Rattle.board_rule.specs.Known.{Known}
 use Rattle.board_rule.specs.Layout.{BoardLayout, nodes, first}
 use Rattle.board_rule.specs.View.{Samples, idle, node_of, unwritten, unread, first_write, loop_view}
 use Rattle.board_rule.specs.buffers.Spans.{block_at}
-use Rattle.board_rule.specs.buffers.EndViews.{no_link, no_pool, pool_at, read_of, write_of}
+use Rattle.board_rule.specs.buffers.EndViews.{no_link, no_pool, pool_at, filler_of, read_of, write_of}
 use Rattle.buffer_pool.specs.Queue.{Queue}
 use Rattle.activation_words.proofs.MemberLemmas.{new_rests}
 use Rattle.io_areas.specs.FreeBlocks.{FreeBlocks, free_at_start}
 use Rattle.io_areas.proofs.StartLemmas.{room_there, begins_free}
 use Rattle.node_progress.specs.Standing.{works_in}
 use Rattle.node_progress.specs.NodeStates.{IsNodeState, first_of}
+use Rattle.data_loop.specs.declared.own_pools.OwnPools.{OwnPools}
+use Rattle.data_loop.specs.OwnPools.{is_among, own_pools, own_places, queue_of}
 use Rattle.data_loop.specs.declared.loop_state.LoopState.{LoopState}
 use Rattle.data_loop.specs.declared.member.Member.{Member}
 use Rattle.data_loop.specs.declared.stage.Stage.{Stage}
@@ -43,7 +45,10 @@ use Rattle.data_loop.specs.Loops.{plan_of, HasStage, IsBetweenEpochs, node_at}
 use Rattle.data_loop.specs.LoopsOnBoards.{IsFirstSeat, IsOnBoard}
 use Rattle.data_loop.proofs.FrontLemmas.{front_first}
 use Rattle.data_loop.proofs.MemberLemmas.{ComesFrom, comes_from, all_apart}
+use Rattle.data_loop.proofs.OwnPoolsLemmas.{has_places, shape_at, one_place, queue_at}
+use Rattle.data_loop.proofs.PlayLemmas.{any_from}
 use Rattle.data_loop.proofs.PoolCountLemmas.{pools_fit}
+use Rattle.data_loop.proofs.turns.EndsLemmas.{of_node}
 use Rattle.data_loop.proofs.LoopDriverLemmas.{expected_is}
 
 -- a seat of a loop at the start
@@ -60,8 +65,10 @@ module _ (p : BoardLayout) (fit : All (λ x. (1 ≤ x.blocks) × (x.blocks ≤ 8
   pub next_is : (m : ℕ) → m < nodes p → (node_of v m).next ≡ first p
   next_is m low = ap (λ (x : NodeView). x.next) (get_or-replicate (nodes p) m (idle (first p)) (idle 0) low)
 
-  pub begins_even : (m : ℕ) → m < nodes p → AreEven p v (map (free_at_start p.shape) (pools_of p.shape)) m (node_of v m).next
-  begins_even m inside = subst (AreEven p v (map (free_at_start p.shape) (pools_of p.shape)) m) (sym (next_is m inside)) record {
+  pub begins_even : (own : OwnPools) (m : ℕ) → m < nodes p
+      → ((q : ℕ) → q < length (pools_of p.shape) → filler_of p q ≡ m → queue_of own q ≡ free_at_start p.shape (pool_at p q))
+      → AreEven p v own m (node_of v m).next
+  begins_even own m inside free = subst (AreEven p v own m) (sym (next_is m inside)) record {
     reads = λ l low _. let at : read_of v l ≡ unread (first p) =
         get_or-replicate (length p.shape.links) l (unread (first p)) (unread 0) low in
         let long = length-replicate (length p.shape.links) (unread (first p)) in
@@ -76,9 +83,7 @@ module _ (p : BoardLayout) (fit : All (λ x. (1 ≤ x.blocks) × (x.blocks ≤ 8
         get_or-map (first_write (first p)) p.shape.links l no_link (unwritten 0) low in
         let long = length-map p.shape.links (first_write (first p)) in
         record { there = omega arith; loaded = ap (λ (w : WriteView). w.loaded) at; stored = ap (λ (w : WriteView). w.stored) at };
-    stocks = λ q low _. subst (FreeBlocks p v q (first p))
-        (sym (get_or-map (free_at_start p.shape) (pools_of p.shape) q no_pool (record { free = []; blocks = 0 }) low))
-        (begins_free p have e k q low);
+    stocks = λ q low is. subst (FreeBlocks p v q (first p)) (sym (free q low is)) (begins_free p have e k q low);
   }
 
 -- a follower works
@@ -98,17 +103,20 @@ module _ (s : LoopState) (bt : IsBetweenEpochs s) (p : BoardLayout) (t : TableId
   abbrev u : View
   u = loop_view p expect seat.number
 
-  abbrev free : List Queue
-  free = map (free_at_start p.shape) (pools_of p.shape)
-
   parts : IsStageOf plan s.nodes s.epoch e g
   parts = bt.loop.parts s.epoch e g at here
 
   knows_is : g.seat.knows ≡ u
   knows_is = ap (λ (k : Known). k.knows) seat.is
 
-  free_is : g.free.items ≡ free
-  free_is = (bt.unbegun s.epoch e g (omega arith) at here).0 ∙ ap (λ (x : Shape). map (free_at_start x) (pools_of x)) (sym shape)
+  places_are : g.own.places ≡ own_places s.nodes (pools_of p.shape)
+  places_are = parts.places ∙ ap (λ (x : Shape). own_places s.nodes (pools_of x)) (sym shape)
+
+  shapes_are : g.own.shapes ≡ own_pools s.nodes (pools_of p.shape)
+  shapes_are = parts.shapes ∙ ap (λ (x : Shape). own_pools s.nodes (pools_of x)) (sym shape)
+
+  free_is : g.own.free.items ≡ map (free_at_start p.shape) g.own.shapes
+  free_is = (bt.unbegun s.epoch e g (omega arith) at here).0 ∙ ap (λ (x : Shape). map (free_at_start x) g.own.shapes) (sym shape)
 
   fits : All (λ x. (1 ≤ x.blocks) × (x.blocks ≤ 8)) (pools_of p.shape)
   fits = pools_fit p.shape seat.plain.pooled
@@ -130,11 +138,20 @@ module _ (s : LoopState) (bt : IsBetweenEpochs s) (p : BoardLayout) (t : TableId
       ∙ sound.known m.node (there m f) in
       true≢false (sym (and_parts (not (e.shape.driver == m.node)) (takes_part e m.node) f.role).0 ∙ ap not (eq-eqb e.shape.driver m.node same))
 
-  rests : (m : Member) → Contains g.members m → IsAtRest p g.seat.knows g.free.items (p.index m.node)
+  -- the pools that a member fills are the loop's own
+  own_free : (m : Member) → ComesFrom plan s.nodes e false m → (q : ℕ) → q < length (pools_of p.shape) → filler_of p q ≡ p.index m.node
+      → queue_of g.own q ≡ free_at_start p.shape (pool_at p q)
+  own_free m f q low is = queue_at s.nodes (pools_of p.shape) g.own places_are shapes_are p.shape free_is q low
+      (ap (is_among s.nodes) (of_node p seat.plain m.node (there m f) q low is)
+      ∙ any_from (λ n. n == m.node) s.nodes m.node (m.at, f.low, get_or_default s.nodes m.at m.node 0 f.low ∙ f.node) (eq-eqb m.node m.node refl))
+
+  rests : (m : Member) → Contains g.members m → IsAtRest p g.seat.knows g.own (p.index m.node)
   rests m c = let f = from m c in let inside = there m f in let apart = not_driver m f in
       let own = seat.owned m.node (m.at, f.low, get_or_default s.nodes m.at m.node 0 f.low ∙ f.node) inside apart in
-      subst (λ (x : View × List Queue). IsAtRest p x.0 x.1 (p.index m.node)) (λ i. (sym knows_is i, sym free_is i))
-      (new_rests p expect seat.number (p.index m.node) inside apart own seat.one, begins_even p fits expect seat.number (p.index m.node) inside)
+      subst (λ (x : View). IsAtRest p x g.own (p.index m.node)) (sym knows_is) (
+        new_rests p expect seat.number (p.index m.node) inside apart own seat.one,
+        begins_even p fits expect seat.number g.own (p.index m.node) inside (own_free m f),
+      )
 
   stands : (m : Member) → Contains g.members m → StandsAt s.score s.epoch p g.seat.knows s.states.items m
   stands m c = let f = from m c in let inside = there m f in let low = f.low in let long = bt.loop.states in
@@ -159,10 +176,12 @@ module _ (s : LoopState) (bt : IsBetweenEpochs s) (p : BoardLayout) (t : TableId
       shape = shape;
       table = ap (λ (k : Known). k.table) seat.is;
       expect = ap (λ (x : View). x.expect) knows_is ∙ expected_is plan s.score.waves.value s.epoch e at;
-      equipped = subst (λ (x : View × List Queue). IsEquipped p x.0 g.shapes x.1) (λ i. (sym knows_is i, sym free_is i)) record {
+      equipped = subst (λ (x : View). IsEquipped p x g.own) (sym knows_is) record {
         plain = seat.plain;
-        shapes_are = parts.shapes ∙ ap pools_of (sym shape);
-        lists = length-map (pools_of p.shape) (free_at_start p.shape) ∙ ap (λ (l : List PoolShape). length l) (sym (parts.shapes ∙ ap pools_of (sym shape)));
+        places = has_places s.nodes (pools_of p.shape) g.own places_are shapes_are;
+        lists = ap (λ (l : List Queue). length l) free_is ∙ length-map g.own.shapes (free_at_start p.shape);
+        once = one_place s.nodes (pools_of p.shape) g.own places_are shapes_are;
+        shapes_are = shape_at s.nodes (pools_of p.shape) g.own places_are shapes_are;
         blocks = has_room p fits expect seat.number;
       };
       members = λ k d low. let m : Member = get_or g.members k d in let f = from m (k, low, get_or_default g.members k m d low) in record {

@@ -1,3 +1,4 @@
+pub mod OwnPoolsLemmas
 pub mod turns
 pub mod SumLemmas
 pub mod OnlyLemmas

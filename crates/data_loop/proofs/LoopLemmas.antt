@@ -49,6 +49,7 @@ same_parts plan nodes k e g h same of = record {
   members = same.members ∙ of.members;
   driver = same.driver ∙ of.driver;
   restarts = same.restarts ∙ of.restarts;
+  places = same.places ∙ of.places;
   shapes = same.shapes ∙ of.shapes;
 }
 

@@ -61,7 +61,7 @@ few_ports Meter = (omega arith, omega arith)
 few_ports Dummy = (omega arith, omega arith)
 
 -- an element that passes a test shows that one does
-any_from : {X : Type 0} (p : X → Bool) (xs : List X) (x : X) → Contains xs x → p x ≡ true → list_any p xs ≡ true
+pub any_from : {X : Type 0} (p : X → Bool) (xs : List X) (x : X) → Contains xs x → p x ≡ true → list_any p xs ≡ true
 any_from p [] x c t = absurd (omega (arith, c.1))
 any_from p (y ∷ ys) x (zero, low, is) t = rw (ap p is ∙ t) refl
 any_from p (y ∷ ys) x (suc k, low, is) t = ⊎_elim (λ (yes : p y ≡ true). rw yes refl)

@@ -14,6 +14,7 @@ same_on a b = record {
   members = b.members ∙ a.members;
   driver = b.driver ∙ a.driver;
   restarts = b.restarts ∙ a.restarts;
+  places = b.places ∙ a.places;
   shapes = b.shapes ∙ a.shapes;
   table = b.table ∙ a.table;
 }

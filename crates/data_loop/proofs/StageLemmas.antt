@@ -12,10 +12,10 @@ use Rattle.board_rule.specs.declared.view.View.{View}
 use Rattle.board_rule.specs.Layout.{BoardLayout, last, nodes}
 use Rattle.board_rule.specs.View.{node_of}
 use Rattle.board_rule.specs.Steps.{HasNode, woken, tried}
-use Rattle.buffer_pool.specs.Queue.{Queue}
 use Rattle.activation_words.proofs.ViewLemmas.{again}
 use Rattle.activation_words.proofs.MemberLemmas.{may_claim, woken_has, woken_awake, tried_rests}
 use Rattle.node_state.specs.declared.node_state.NodeState.{NodeState}
+use Rattle.data_loop.specs.declared.own_pools.OwnPools.{OwnPools}
 use Rattle.data_loop.specs.declared.front.Front.{Front}
 use Rattle.data_loop.specs.declared.member.Member.{Member}
 use Rattle.data_loop.specs.declared.rows.Rows.{Rows}
@@ -31,7 +31,8 @@ use Rattle.data_loop.specs.LoopTurn.{next_in}
 use Rattle.data_loop.specs.Tries.{no_member, member_at}
 use Rattle.data_loop.proofs.FrontLemmas.{front_on}
 use Rattle.data_loop.proofs.turns.EndsLemmas.{same_node}
-use Rattle.data_loop.proofs.turns.TurningLemmas.{even_moves, turned_whole, equipped_moves}
+use Rattle.data_loop.proofs.turns.TurningLemmas.{even_moves, turned_whole}
+use Rattle.data_loop.proofs.turns.WritingLemmas.{equipped_moves}
 
 -- rows as long as before have room for the same
 pub rows_stay : (old new : Rows) (m : Member) → IsSameRoom old new → HasRowsFor old m → HasRowsFor new m
@@ -53,13 +54,13 @@ module _ (score : Score) (k : ℕ) (p : BoardLayout) (t : TableId) (g : Stage) (
   abbrev v : View
   v = g.seat.knows
 
-  abbrev free : List Queue
-  free = g.free.items
+  abbrev pools : OwnPools
+  pools = g.own
 
   abbrev mi : ℕ
   mi = p.index m.node
 
-  pub rest : IsAtRest p v free mi
+  pub rest : IsAtRest p v pools mi
   rest = st.rests i no_member low
 
   pub member_is : IsMemberIn score st.epoch m
@@ -79,11 +80,11 @@ module _ (score : Score) (k : ℕ) (p : BoardLayout) (t : TableId) (g : Stage) (
     pub has : HasNode false p v mi
     has = let r = rest.0 in let high = r.member.1.1 in (may_claim p v mi r (omega arith)).0
 
-    pub may_turn : (w : View) → w ≡ woken false v mi → MayTurn p w free mi
-    may_turn w e = subst (λ (x : View). MayTurn p x free mi) (sym e) record {
+    pub may_turn : (w : View) → w ≡ woken false v mi → MayTurn p w pools mi
+    may_turn w e = subst (λ (x : View). MayTurn p x pools mi) (sym e) record {
       has = woken_has p v mi has;
       awake = woken_awake p v mi has;
-      even = even_moves p v (woken false v mi) free mi (node_of v mi).next (node_of (woken false v mi) mi).next refl refl refl refl refl
+      even = even_moves p v (woken false v mi) pools mi (node_of v mi).next (node_of (woken false v mi) mi).next refl refl refl refl refl
           (ap (λ (x : NodeView). x.next) (again p v mi (record (node_of v mi) { phase = Awake }) v.trail has.0.there)) rest.1;
     }
 
@@ -108,9 +109,9 @@ module _ (score : Score) (k : ℕ) (p : BoardLayout) (t : TableId) (g : Stage) (
           member = member_is.is;
         }
 
-    pub turned_before : (w x : View) (new : List Queue) → w ≡ woken false v mi → HasTurned p w free mi x new → HasTurned p v free mi x new
-    turned_before w x new e h = turned_whole p v mi (record (node_of v mi) { phase = Awake }) v.trail has.0.there refl free x new
-        (subst (λ (y : View). HasTurned p y free mi x new) e h)
+    pub turned_before : (w x : View) (new : OwnPools) → w ≡ woken false v mi → HasTurned p w pools mi x new → HasTurned p v pools mi x new
+    turned_before w x new e h = turned_whole p v mi (record (node_of v mi) { phase = Awake }) v.trail has.0.there refl pools x new
+        (subst (λ (y : View). HasTurned p y pools mi x new) e h)
 
   -- another member is another node, at another place
   other : (j : ℕ) → j < length g.members → j ≢ i → AreApart (member_at g j) m
@@ -120,12 +121,11 @@ module _ (score : Score) (k : ℕ) (p : BoardLayout) (t : TableId) (g : Stage) (
       (cases_lt j i)
 
   -- the loop after its turn, or after a try that was too early
-  module _ (new : Stage) (table : new.seat.table ≡ t) (members : new.members ≡ g.members) (shapes : new.shapes ≡ g.shapes)
-      (front : new.front ≡ g.front) where
+  module _ (new : Stage) (table : new.seat.table ≡ t) (members : new.members ≡ g.members) (front : new.front ≡ g.front) where
     abbrev w : View
     w = new.seat.knows
 
-    pub turned_stands : HasTurned p v free mi w new.free.items → (later : List NodeState) (s : NodeState) → later ≡ set states m.at s
+    pub turned_stands : HasTurned p v pools mi w new.own → (later : List NodeState) (s : NodeState) → later ≡ set states m.at s
         → IsNodeState score k (suc (node_of v mi).next) m.node s → (wide : Rows) → IsSameRoom rows wide
         → IsStanding score k p t new later wide
     turned_stands h later s is own wide same = record {
@@ -136,12 +136,11 @@ module _ (score : Score) (k : ℕ) (p : BoardLayout) (t : TableId) (g : Stage) (
       shape = st.shape;
       table = table;
       expect = h.expect ∙ st.expect;
-      equipped = subst (λ x. IsEquipped p w x new.free.items) (sym shapes)
-          (equipped_moves p g.shapes v free w new.free.items h.room h.lists st.equipped);
+      equipped = equipped_moves p v pools w new.own h.room h.kept st.equipped;
       members = subst (All (IsMemberIn score st.epoch)) (sym members) st.members;
       apart = subst (λ l. (a b : ℕ) (d : Member) → a < b → b < length l → AreApart (get_or l a d) (get_or l b d)) (sym members) st.apart;
-      rests = subst (All (λ x. IsAtRest p w new.free.items (p.index x.node))) (sym members) (λ j d lt.
-          at_index (λ x. IsAtRest p w new.free.items (p.index x.node)) j d lt (rests j lt));
+      rests = subst (All (λ x. IsAtRest p w new.own (p.index x.node))) (sym members) (λ j d lt.
+          at_index (λ x. IsAtRest p w new.own (p.index x.node)) j d lt (rests j lt));
       each = subst (All (StandsAt score k p w later)) (sym members) (λ j d lt. at_index (StandsAt score k p w later) j d lt (stands j lt));
       room = subst (All (HasRowsFor wide)) (sym members) (λ j d lt. rows_stay rows wide (get_or g.members j d) same (st.room j d lt));
       front = subst (λ (x : List Member × Front). IsFront p w x.0 x.1) (λ a. (sym members a, sym front a))
@@ -155,9 +154,9 @@ module _ (score : Score) (k : ℕ) (p : BoardLayout) (t : TableId) (g : Stage) (
         apart_index j lt ne e = (other j lt ne).1
             (same_node p st.equipped.plain m.node inside (member_at g j).node (subst (λ x. x < nodes p) (sym e) inside) e)
 
-        rests : (j : ℕ) → j < length g.members → IsAtRest p w new.free.items (p.index (member_at g j).node)
+        rests : (j : ℕ) → j < length g.members → IsAtRest p w new.own (p.index (member_at g j).node)
         rests j lt = ⊎_elim
-            (λ (e : j ≡ i). subst (λ x. IsAtRest p w new.free.items (p.index (member_at g x).node)) (sym e) h.rests)
+            (λ (e : j ≡ i). subst (λ x. IsAtRest p w new.own (p.index (member_at g x).node)) (sym e) h.rests)
             (λ (ne : j ≢ i). (h.others (p.index (member_at g j).node) (apart_index j lt ne) (st.rests j no_member lt)).0)
             (cases_eq j i)
 
@@ -195,8 +194,8 @@ module _ (score : Score) (k : ℕ) (p : BoardLayout) (t : TableId) (g : Stage) (
             ))
             (cases_eq j i)
 
-    pub tried_stands : (found : ℕ) → new.free.items ≡ free → w ≡ tried p v mi found → IsStanding score k p t new states rows
-    tried_stands found lists e = record {
+    pub tried_stands : (found : ℕ) → new.own ≡ pools → w ≡ tried p v mi found → IsStanding score k p t new states rows
+    tried_stands found still e = record {
       sound = st.sound;
       waves = st.waves;
       epoch = st.epoch;
@@ -204,16 +203,15 @@ module _ (score : Score) (k : ℕ) (p : BoardLayout) (t : TableId) (g : Stage) (
       shape = st.shape;
       table = table;
       expect = ap (λ (x : View). x.expect) e ∙ st.expect;
-      equipped = subst (λ x. IsEquipped p w x new.free.items) (sym shapes)
-          (equipped_moves p g.shapes v free w new.free.items (ap (λ (x : View). length x.blocks) e) (ap (λ (l : List Queue). length l) lists)
-          st.equipped);
+      equipped = subst (IsEquipped p w) (sym still) (equipped_moves p v pools w pools (ap (λ (x : View). length x.blocks) e)
+          (record { places = refl; shapes = refl; free = refl }) st.equipped);
       members = subst (All (IsMemberIn score st.epoch)) (sym members) st.members;
       apart = subst (λ l. (a b : ℕ) (d : Member) → a < b → b < length l → AreApart (get_or l a d) (get_or l b d)) (sym members) st.apart;
-      rests = subst (All (λ x. IsAtRest p w new.free.items (p.index x.node))) (sym members) (λ j d lt.
+      rests = subst (All (λ x. IsAtRest p w new.own (p.index x.node))) (sym members) (λ j d lt.
           let n : ℕ = p.index (get_or g.members j d).node in let r = st.rests j d lt in
-          subst (λ (x : View × List Queue). IsAtRest p x.0 x.1 n) (λ a. (sym e a, sym lists a)) (
+          subst (λ (x : View × OwnPools). IsAtRest p x.0 x.1 n) (λ a. (sym e a, sym still a)) (
             tried_rests p v mi n found r.0,
-            even_moves p v (tried p v mi found) free n (node_of v n).next (node_of v n).next refl refl refl refl refl refl r.1,
+            even_moves p v (tried p v mi found) pools n (node_of v n).next (node_of v n).next refl refl refl refl refl refl r.1,
           ));
       each = subst (All (StandsAt score k p w states)) (sym members) (λ j d lt.
           subst (λ (x : View). StandsAt score k p x states (get_or g.members j d)) (sym e) (st.each j d lt));

@@ -71,14 +71,14 @@ module _ (score : Score) (k : ℕ) (p : BoardLayout) (t : TableId) (g : Stage) (
   tried_at some x other u after = subst (λ (y : List Member × ℕ). HaveTried p v y.0 (found ++ (y.1, x) ∷ []) u) (λ j. (sym one j, is j))
       (one_tried p v [] m found v none_yet st.equipped.plain inside some x other u after)
 
-  pub ran_at : (h : Stage) → HasTurned p v g.free.items (p.index m.node) h.seat.knows h.free.items → HasRunAt p g n h
+  pub ran_at : (h : Stage) → HasTurned p v g.own (p.index m.node) h.seat.knows h.own → HasRunAt p g n h
   ran_at h turned = record {
     index = i;
     inside = low;
     node = is;
     later = subst (λ a. next_in p h.seat.knows a ≡ next_in p v a + 1) is turned.later;
     others = λ x own other.
-        let rest : IsAtRest p v g.free.items (p.index x.node) = subst (λ y. IsAtRest p v g.free.items (p.index y.node)) own.2 (st.rests own.0 x own.1) in
+        let rest : IsAtRest p v g.own (p.index x.node) = subst (λ y. IsAtRest p v g.own (p.index y.node)) own.2 (st.rests own.0 x own.1) in
         let apart : p.index x.node ≢ p.index m.node = λ e. other (same_node p st.equipped.plain m.node inside x.node
         (subst (λ a. a < nodes p) (sym e) inside) e ∙ is) in
         ap (λ (y : NodeView). y.next) (turned.others (p.index x.node) apart rest).1;

@@ -15,7 +15,7 @@ use Rattle.data_loop.specs.declared.member.Member.{Member}
 use Rattle.data_loop.specs.declared.stage.Stage.{Stage}
 use Rattle.data_loop.specs.turns.Turning.{IsAtRest, HasTurned}
 use Rattle.board_rule.specs.declared.view.NodeView.{NodeView}
-use Rattle.buffer_pool.specs.Queue.{Queue}
+use Rattle.data_loop.specs.declared.own_pools.OwnPools.{OwnPools}
 use Rattle.data_loop.proofs.turns.EndsLemmas.{same_node}
 use Rattle.data_loop.specs.LoopTurn.{next_in, has_left, tries_after, HaveTried, HasRun}
 
@@ -92,7 +92,7 @@ module _ (p : BoardLayout) (v : View) (done : List Member) (m : Member) (found :
   -- one that ran
   pub one_ran : (plain : IsPooledBoard p) → p.index m.node < nodes p → (g h : Stage) → g.seat.knows ≡ v
       → (order rest : List Member) → order ≡ done ++ m ∷ rest
-      → (free new : List Queue) → All (λ x. IsAtRest p w free (p.index x.node)) g.members
+      → (free new : OwnPools) → All (λ x. IsAtRest p w free (p.index x.node)) g.members
       → HasTurned p w free (p.index m.node) h.seat.knows new → HasRun p g order m.node found h
   one_ran plain inside g h knows order rest split free new rests turned = record {
     first = done;

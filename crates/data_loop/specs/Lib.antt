@@ -1,3 +1,4 @@
+pub mod OwnPools
 pub mod turns
 pub mod Inputs
 pub mod Gathering

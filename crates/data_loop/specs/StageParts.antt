@@ -1,5 +1,5 @@
 -- What a loop has in an epoch: its followers there, the driver where that is one of its nodes, the
--- nodes that begin anew, and the free blocks of the epoch's pools.
+-- nodes that begin anew, and the free blocks of the pools that its nodes fill.
 -- Source: PipeWire's documentation, "Graph Scheduling"; which loop has a node is this project's
 -- own.
 use Rattle.std.specs.Prelude.{◌≡◌, ℕ, ◌<◌, List, [], All, Option, None, option_map, length, map, slice_get, slice_index_or, unwrap_or}
@@ -13,6 +13,7 @@ use Rattle.node_progress.specs.Restarts.{restart_of}
 use Rattle.data_loop.specs.declared.rows.Rows.{Rows}
 use Rattle.data_loop.specs.declared.stage.Stage.{Stage}
 use Rattle.data_loop.specs.Fronts.{first_front}
+use Rattle.data_loop.specs.OwnPools.{own_pools, own_places}
 use Rattle.data_loop.specs.Members.{members_of, drivers_of}
 use Rattle.data_loop.specs.Rooms.{HasRowsFor, IsWithin}
 
@@ -22,7 +23,8 @@ pub record IsStageOf (plan : Plan) (nodes : List ℕ) (k : ℕ) (e : Epoch)
   pub members : g.members ≡ members_of plan nodes e
   pub driver : g.driver ≡ drivers_of plan nodes e
   pub restarts : g.restarts ≡ map (restart_of plan k) nodes
-  pub shapes : g.shapes ≡ pools_of e.shape
+  pub places : g.own.places ≡ own_places nodes (pools_of e.shape)
+  pub shapes : g.own.shapes ≡ own_pools nodes (pools_of e.shape)
 
 -- the restart of the node at an index; none where the list has no such
 abbrev pub restart_at : List (Option ℕ) → ℕ → Option ℕ
@@ -37,12 +39,13 @@ pub record IsSameStage (g h : Stage) : Type 0 where
   pub members : h.members ≡ g.members
   pub driver : h.driver ≡ g.driver
   pub restarts : h.restarts ≡ g.restarts
-  pub shapes : h.shapes ≡ g.shapes
+  pub places : h.own.places ≡ g.own.places
+  pub shapes : h.own.shapes ≡ g.own.shapes
   pub table : h.seat.table ≡ g.seat.table
 
 -- no turn was made in the epoch
 abbrev pub IsUnbegun : Epoch → Stage → Type 0
-IsUnbegun e g = (g.free.items ≡ map (free_at_start e.shape) (pools_of e.shape))
+IsUnbegun e g = (g.own.free.items ≡ map (free_at_start e.shape) g.own.shapes)
     × (g.front ≡ first_front)
 
 -- THE STAGE of epoch k, as it is made of a seat

@@ -55,10 +55,10 @@ pub record IsStanding (score : Score) (k : ℕ) (p : BoardLayout) (t : TableId) 
   pub shape : p.shape ≡ epoch.shape
   pub table : g.seat.table ≡ t
   pub expect : g.seat.knows.expect ≡ epoch_rows score.plan.value score.waves.value epoch
-  pub equipped : IsEquipped p g.seat.knows g.shapes g.free.items
+  pub equipped : IsEquipped p g.seat.knows g.own
   pub members : All (IsMemberIn score epoch) g.members
   pub apart : AllPairs AreApart g.members
-  pub rests : All (λ m. IsAtRest p g.seat.knows g.free.items (p.index m.node)) g.members
+  pub rests : All (λ m. IsAtRest p g.seat.knows g.own (p.index m.node)) g.members
   pub each : All (StandsAt score k p g.seat.knows states) g.members
   pub room : All (HasRowsFor rows) g.members
   pub front : IsFront p g.seat.knows g.members g.front

@@ -37,4 +37,4 @@ HasTried p old n (NotYet found) new =
     × (found ≢ triggered_word (node_of old.seat.knows (p.index n)).next)
     × (new.seat.knows ≡ tried p old.seat.knows (p.index n) found)
 HasTried p old n Ran new =
-    HasTurned p old.seat.knows old.free.items (p.index n) new.seat.knows new.free.items
+    HasTurned p old.seat.knows old.own (p.index n) new.seat.knows new.own

@@ -7,13 +7,13 @@ ghost use Rattle.data_loop.specs.Rooms.{HasRowsFor, IsSameRoom};
 ghost use Rattle.data_loop.specs.Standings.{IsPlayer};
 
 use crate::member::Member;
+use crate::own_pools::OwnPools;
 use crate::rows::Rows;
 use crate::turning::take_turn;
 use board_rule::{Board, LoopSeat};
-use buffer_pool::Pool;
 use node_progress::Score;
 use node_state::NodeState;
-use pw_base::{Gate, PoolShape};
+use pw_base::Gate;
 
 // The turn, in the fronts of these rows.
 fn play_in<G: Gate>(
@@ -23,8 +23,7 @@ fn play_in<G: Gate>(
     member: &Member,
     epoch: u32,
     cycle: u32,
-    shapes: &[PoolShape],
-    free: &mut [Pool],
+    own: &mut OwnPools,
     state: &mut NodeState,
     row: &mut [i16],
     sum_a: &mut [i32],
@@ -36,10 +35,10 @@ fn play_in<G: Gate>(
     gate: &G,
 )
     requires table { IsOn board.now seat.old.table }
-    requires equipped { IsEquipped (layout board.now) seat.old.knows shapes.now free.old }
+    requires equipped { IsEquipped (layout board.now) seat.old.knows own.old }
     requires player { IsPlayer score.now (layout board.now) seat.old.knows epoch cycle member.now }
     requires awake { let p = layout board.now in
-        MayTurn p seat.old.knows free.old (p.index member.now.node) }
+        MayTurn p seat.old.knows own.old (p.index member.now.node) }
     requires state { IsNodeState score.now epoch cycle member.now.node state.old }
     requires first { (member.now.first_width ≤ length row.old)
         × (member.now.first_width ≤ length sum_a.old)
@@ -50,7 +49,7 @@ fn play_in<G: Gate>(
         × (member.now.right_width ≤ length right.old) }
     ensures table { seat.new.table ≡ seat.old.table }
     ensures turned { let p = layout board.now in
-        HasTurned p seat.old.knows free.old (p.index member.now.node) seat.new.knows free.new }
+        HasTurned p seat.old.knows own.old (p.index member.now.node) seat.new.knows own.new }
     ensures state { IsNodeState score.now epoch (suc cycle) member.now.node state.new }
 {
     let first = member.first_width;
@@ -62,8 +61,7 @@ fn play_in<G: Gate>(
         member,
         epoch,
         cycle,
-        shapes,
-        free,
+        own,
         state,
         &mut row[..first],
         &mut sum_a[..first],
@@ -85,22 +83,21 @@ pub fn play<G: Gate>(
     member: &Member,
     epoch: u32,
     cycle: u32,
-    shapes: &[PoolShape],
-    free: &mut [Pool],
+    own: &mut OwnPools,
     state: &mut NodeState,
     rows: &mut Rows,
     gate: &G,
 )
     requires table { IsOn board.now seat.old.table }
-    requires equipped { IsEquipped (layout board.now) seat.old.knows shapes.now free.old }
+    requires equipped { IsEquipped (layout board.now) seat.old.knows own.old }
     requires player { IsPlayer score.now (layout board.now) seat.old.knows epoch cycle member.now }
     requires awake { let p = layout board.now in
-        MayTurn p seat.old.knows free.old (p.index member.now.node) }
+        MayTurn p seat.old.knows own.old (p.index member.now.node) }
     requires state { IsNodeState score.now epoch cycle member.now.node state.old }
     requires rows { HasRowsFor rows.old member.now }
     ensures table { seat.new.table ≡ seat.old.table }
     ensures turned { let p = layout board.now in
-        HasTurned p seat.old.knows free.old (p.index member.now.node) seat.new.knows free.new }
+        HasTurned p seat.old.knows own.old (p.index member.now.node) seat.new.knows own.new }
     ensures state { IsNodeState score.now epoch (suc cycle) member.now.node state.new }
     ensures rows { IsSameRoom rows.old rows.new }
 {
@@ -111,8 +108,7 @@ pub fn play<G: Gate>(
         member,
         epoch,
         cycle,
-        shapes,
-        free,
+        own,
         state,
         rows.row.as_mut_slice(),
         rows.sum_a.as_mut_slice(),

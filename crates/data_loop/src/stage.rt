@@ -13,27 +13,26 @@ ghost use Rattle.data_loop.specs.Stages.{AreLeft};
 use crate::did::Did;
 use crate::front::Front;
 use crate::member::Member;
+use crate::own_pools::OwnPools;
 use crate::playing::play;
 use crate::rows::Rows;
 use crate::tried::Tried;
 use activation_words::{Claim, claim};
 use board_rule::{Board, BoardSeat, LoopSeat};
-use buffer_pool::Pool;
 use node_progress::Score;
 use node_state::NodeState;
-use pw_base::{Gate, Items, PoolShape};
+use pw_base::{Gate, Items};
 
 /// A seat on the board of an epoch, the loop's followers there, the driver where that is one of the
-/// loop's nodes and has a form, and the pools of the shape with the free blocks of each. `restarts`
-/// has for each of the loop's nodes with how many channels the epoch begins it anew.
+/// loop's nodes and has a form, and the pools that the loop's nodes fill. `restarts` has for each of
+/// the loop's nodes with how many channels the epoch begins it anew.
 #[derive(Drop)]
 pub struct Stage {
     pub seat: LoopSeat,
     pub members: Items<Member>,
     pub driver: Items<Member>,
     pub restarts: Items<Option<u32>>,
-    pub shapes: Items<PoolShape>,
-    pub free: Vec<Pool>,
+    pub own: OwnPools,
     pub front: Front,
 }
 
@@ -91,8 +90,7 @@ impl Stage {
                     member,
                     epoch,
                     cycle,
-                    self.shapes.as_slice(),
-                    self.free.as_mut_slice(),
+                    &mut self.own,
                     &mut states[member.at as usize],
                     rows,
                     gate,

@@ -1,32 +1,17 @@
 //! What a loop has in each epoch, made before the first one begins.
-ghost use Rattle.std.specs.Prelude.{◌≡◌, ◌<◌, ◌≤◌, ◌^◌, All, IfOk, length, map};
-ghost use Rattle.pw_base.specs.Pools.{pools_of, IsPooledShape};
+ghost use Rattle.std.specs.Prelude.{◌≡◌, ◌<◌, ◌≤◌, ◌^◌, IfOk, length, map};
 ghost use Rattle.pw_base.specs.SoundPlan.{IsSoundPlan};
 ghost use Rattle.node_progress.specs.Restarts.{restart_of};
-ghost use Rattle.io_areas.specs.FreeBlocks.{free_at_start};
 ghost use Rattle.data_loop.specs.StageParts.{IsFirstStage, AreFirstStages};
 
 use crate::front::Front;
 use crate::members::members_by;
+use crate::own_pools::pools_among;
 use crate::stage::Stage;
 use board_rule::LoopSeat;
-use buffer_pool::Pool;
-use io_areas::free_at_start;
 use node_progress::restart_in;
-use pw_base::{Items, Memory, Plan, PoolShape, Shape, pools_of};
+use pw_base::{Items, Memory, Plan, pools_of};
 use std::alloc::Global;
-
-// The free blocks of each pool.
-fn free_of(alloc: Global, shape: &Shape, pools: &[PoolShape]) -> Result<Items<Pool>, Memory>
-    requires { All (λ x. (1 ≤ x.blocks) × (x.blocks ≤ 8)) pools.now }
-    ensures { IfOk result (λ free. free ≡ map (free_at_start shape.now) pools.now) }
-{
-    let mut free = Items::new(alloc);
-    for pool in pools {
-        free.push(free_at_start(alloc, shape, pool)?)?;
-    }
-    Ok(free)
-}
 
 // With how many channels the epoch begins each of the nodes anew, none where it does not.
 fn restarts_of(
@@ -61,17 +46,16 @@ fn stage_of(
 {
     let restarts = restarts_of(alloc, plan, epoch, nodes)?;
     let epoch = &plan.epochs.as_slice()[epoch];
-    let shapes = pools_of(alloc, &epoch.shape)?;
-    let free = free_of(alloc, &epoch.shape, shapes.as_slice())?.into_vec();
-    let members = members_by(alloc, plan, epoch, shapes.as_slice(), nodes, false)?;
-    let driver = members_by(alloc, plan, epoch, shapes.as_slice(), nodes, true)?;
+    let pools = pools_of(alloc, &epoch.shape)?;
+    let members = members_by(alloc, plan, epoch, pools.as_slice(), nodes, false)?;
+    let driver = members_by(alloc, plan, epoch, pools.as_slice(), nodes, true)?;
+    let own = pools_among(alloc, &epoch.shape, nodes, pools)?;
     Ok(Stage {
         seat,
         members,
         driver,
         restarts,
-        shapes,
-        free,
+        own,
         front: Front { least: 0, from: 0 },
     })
 }

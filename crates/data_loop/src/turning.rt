@@ -8,15 +8,15 @@ ghost use Rattle.data_loop.specs.Playing.{IsMemberOf, MayPlay};
 use crate::gathering::gather;
 use crate::giving::give_all;
 use crate::member::Member;
+use crate::own_pools::OwnPools;
 use activation_words::{finish, start};
 use board_rule::{Board, LoopSeat};
-use buffer_pool::Pool;
 use node_progress::{Score, work};
 use node_state::NodeState;
-use pw_base::{Gate, PoolShape};
+use pw_base::Gate;
 
-/// The node starts, hears its links, does one quantum, gives its rows, and finishes. `shapes` and
-/// `free` have all pools of the board. Takes no memory, does not wait.
+/// The node starts, hears its links, does one quantum, gives its rows, and finishes. `own` has
+/// the pools of its loop. Takes no memory, does not wait.
 pub fn take_turn<G: Gate>(
     score: &Score,
     board: &Board,
@@ -24,8 +24,7 @@ pub fn take_turn<G: Gate>(
     member: &Member,
     epoch: u32,
     cycle: u32,
-    shapes: &[PoolShape],
-    free: &mut [Pool],
+    own: &mut OwnPools,
     state: &mut NodeState,
     row: &mut [i16],
     sum_a: &mut [i32],
@@ -37,10 +36,10 @@ pub fn take_turn<G: Gate>(
     gate: &G,
 )
     requires table { IsOn board.now seat.old.table }
-    requires equipped { IsEquipped (layout board.now) seat.old.knows shapes.now free.old }
+    requires equipped { IsEquipped (layout board.now) seat.old.knows own.old }
     requires member { IsMemberOf score.now (layout board.now) member.now }
     requires awake { let p = layout board.now in
-        MayTurn p seat.old.knows free.old (p.index member.now.node) }
+        MayTurn p seat.old.knows own.old (p.index member.now.node) }
     requires plays { let p = layout board.now in
         MayPlay score.now p seat.old.knows epoch cycle member.now.node
         (length row.old) state.old a.old b.old left.old right.old }
@@ -48,7 +47,7 @@ pub fn take_turn<G: Gate>(
     requires second { length b.old ≡ length sum_b.old }
     ensures table { seat.new.table ≡ seat.old.table }
     ensures turned { let p = layout board.now in
-        HasTurned p seat.old.knows free.old (p.index member.now.node) seat.new.knows free.new }
+        HasTurned p seat.old.knows own.old (p.index member.now.node) seat.new.knows own.new }
     ensures state { IsNodeState score.now epoch (suc cycle) member.now.node state.new }
 {
     start(board, seat, member.node);
@@ -71,8 +70,7 @@ pub fn take_turn<G: Gate>(
         board,
         seat,
         member.pools.as_slice(),
-        shapes,
-        free,
+        own,
         member.first_output,
         left,
         right,

@@ -4,3 +4,4 @@ pub mod LateLemmas
 pub mod ListLemmas
 pub mod RangeLemmas
 pub mod RowLemmas
+pub mod CauseLemmas

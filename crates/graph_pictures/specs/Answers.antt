@@ -50,11 +50,6 @@ pub data IsAnswer (names : Names) (words : List (List ℕ)) (r : Result (List �
       → IsAnswer names words r
   short : r ≡ Err S.Memory → IsAnswer names words r
 
--- only a load that failed has a cause outside
-abbrev pub IsCaused : {T : Type 0} → ℕ → ℕ → Result T Status → Type 0
-IsCaused before now (Err (S.ReadFault place)) = Rose before now
-IsCaused before now result = Unit {0}
-
 -- bytes were given, with one status or, after a failure, another; numbers are counts of failures
 abbrev pub Puts : List ℕ → Status → Status → ℕ → ℕ → Given → Given → Status
     → Type 0

@@ -1,7 +1,8 @@
 //! The whole program: the picture that words ask for, printed.
 ghost use Rattle.std.specs.Prelude.{◌≡◌, IsSome, map, string_bytes, List, ℕ, Result};
 ghost use Rattle.pw_base.specs.Files.{names_in};
-ghost use Rattle.graph_pictures.specs.Answers.{IsAnswer, IsCaused, Puts, IsPrinted, PutsLine};
+ghost use Rattle.graph_pictures.specs.Answers.{IsAnswer, Puts, IsPrinted, PutsLine};
+ghost use Rattle.graph_pictures.specs.Causes.{IsCaused, HasCause};
 
 use crate::reading::picture_of;
 use crate::status::{Status, put_status};
@@ -81,6 +82,10 @@ pub fn print_picture<F: Files, O: Sink>(
         × IsAnswer (names_in (F.held files.old)) (map string_bytes words.now) answer
         × IsPrinted answer (O.faults out.old) (O.faults out.new) (O.given out.old)
         (O.given out.new) result }
+
+    // A fault of a file or of the output comes only where it counted one.
+    ensures cause { HasCause (F.load_faults files.old) (F.load_faults files.new)
+        (O.faults out.old) (O.faults out.new) result }
 
     // The files hold what they held.
     ensures held { F.held files.new ≡ F.held files.old }

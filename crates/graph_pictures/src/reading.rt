@@ -7,7 +7,8 @@ ghost use Rattle.graph_script.specs.Order.{HasOrder};
 ghost use Rattle.graph_script.specs.Ranges.{HasRanges};
 ghost use Rattle.graph_pictures.specs.Filling.{filled};
 ghost use Rattle.graph_pictures.specs.Reading.{IsLoad, ReadsScript, IsTold, ParsesTo};
-ghost use Rattle.graph_pictures.specs.Answers.{IsCaused, IsGraph, ReadsTrace, IsTimeline, IsPicture};
+ghost use Rattle.graph_pictures.specs.Answers.{IsGraph, ReadsTrace, IsTimeline, IsPicture};
+ghost use Rattle.graph_pictures.specs.Causes.{IsCaused};
 
 use crate::filling::fill;
 use crate::graph_drawing::graph;

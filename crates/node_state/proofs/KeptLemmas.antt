@@ -16,6 +16,7 @@ use Rattle.node_state.specs.Line.{Line}
 use Rattle.node_state.specs.Slices.{HaveFrames}
 use Rattle.node_state.specs.StandsFor.{Keeps, IsQuantum}
 use Rattle.node_state.specs.Streams.{followed, stream_heard}
+use Rattle.node_state.proofs.SliceLemmas.{BringsFew}
 
 -- whole frames and whole frames
 whole_joined : (xs ys : List ℤ) (channels : ℕ) → length xs % channels ≡ 0 → length ys % channels ≡ 0 → length (xs ++ ys) % channels ≡ 0
@@ -34,9 +35,9 @@ line_more zeros row more =
     ∙ ap₂ drop (sym (length-append row more)) (append_assoc zeros row more)
 
 pub keeps_on : (s t : KindState) (channels prepared quantum : ℕ) (a b left right : List ℤ) (h : Heard) → CanStep s quantum a b left right
-    → IsStep quantum a s t → Keeps s channels prepared h
+    → BringsFew s (quantum * channels) a → IsStep quantum a s t → Keeps s channels prepared h
     → Keeps t channels prepared (followed quantum a b h)
-keeps_on (Source s) (Source t) channels prepared quantum a b left right h can step kept =
+keeps_on (Source s) (Source t) channels prepared quantum a b left right h can few step kept =
     let c = s.channels in
     let sum : (h.frames + quantum) * c ≡ h.frames * c + quantum * c = omega arith in (
       step.0 ∙ kept.0,
@@ -44,26 +45,29 @@ keeps_on (Source s) (Source t) channels prepared quantum a b left right h can st
       step.2 ∙ ap (λ k. min (k + quantum * c) (length s.samples)) kept.2 ∙ omega (arith, sum)
           ∙ ap₂ (λ k r. min ((h.frames + quantum) * k) (length r)) (sym step.0) (sym step.1),
     )
-keeps_on (Square s) (Square t) channels prepared quantum a b left right h can step kept = (
+keeps_on (Square s) (Square t) channels prepared quantum a b left right h can few step kept = (
   ap (λ w. w.channels) step.0 ∙ kept.0,
   step.1 ∙ ap (λ k. (k + quantum) % s.wave.period) kept.1 ∙ mod-add-mod h.frames s.wave.period quantum
       ∙ ap (λ w. (h.frames + quantum) % w.period) (sym step.0),
 )
-keeps_on (Gain s) (Gain t) channels prepared quantum a b left right h can step kept = tt
-keeps_on (Mix2 s) (Mix2 t) channels prepared quantum a b left right h can step kept = length-append h.a a
+keeps_on (Gain s) (Gain t) channels prepared quantum a b left right h can few step kept = tt
+keeps_on (Mix2 s) (Mix2 t) channels prepared quantum a b left right h can few step kept = length-append h.a a
     ∙ ap₂ (λ n m. n + m) kept (sym can.0) ∙ sym (length-append h.b b)
-keeps_on (Delay s) (Delay t) channels prepared quantum a b left right h can step kept = (
+keeps_on (Delay s) (Delay t) channels prepared quantum a b left right h can few step kept = (
   kept.0,
-  ap (λ l. l.samples) step ∙ ap (λ r. drop (length a) (r ++ a)) kept.1 ∙ line_more (silence (s.frames * channels)) h.a a
-      ∙ ap (λ l. drop (length (h.a ++ a)) (silence (l.frames * channels) ++ (h.a ++ a))) (sym step),
+  (let long = length-append h.a a in let sum : (h.frames + quantum) * channels ≡ h.frames * channels + quantum * channels = omega arith in
+      omega (arith, long, sum, few, kept.1)),
+  ap (λ l. l.long) step ∙ kept.2 ∙ ap (λ l. min l.frames prepared) (sym step),
+  ap (λ l. l.samples) step ∙ ap (λ r. drop (length a) (r ++ a)) kept.3 ∙ line_more (silence (s.long * channels)) h.a a
+      ∙ ap (λ l. drop (length (h.a ++ a)) (silence (l.long * channels) ++ (h.a ++ a))) (sym step),
 )
-keeps_on (Map s) (Map t) channels prepared quantum a b left right h can step kept =
+keeps_on (Map s) (Map t) channels prepared quantum a b left right h can few step kept =
     ap (λ m. length (h.a ++ a) % m.channels) step ∙ whole_joined h.a a s.channels kept can.0
-keeps_on (Split s) (Split t) channels prepared quantum a b left right h can step kept = whole_joined h.a a 2 kept can.0
-keeps_on (Sink s) (Sink t) channels prepared quantum a b left right h can step kept = step.0 ∙ ap (λ r. r ++ a) kept
-keeps_on (Meter s) (Meter t) channels prepared quantum a b left right h can step kept = step ∙ ap (λ n. max n (peak_of a)) kept
+keeps_on (Split s) (Split t) channels prepared quantum a b left right h can few step kept = whole_joined h.a a 2 kept can.0
+keeps_on (Sink s) (Sink t) channels prepared quantum a b left right h can few step kept = step.0 ∙ ap (λ r. r ++ a) kept
+keeps_on (Meter s) (Meter t) channels prepared quantum a b left right h can few step kept = step ∙ ap (λ n. max n (peak_of a)) kept
     ∙ sym (peak_append h.a a)
-keeps_on _ _ channels prepared quantum a b left right h can step kept = absurd step
+keeps_on _ _ channels prepared quantum a b left right h can few step kept = absurd step
 
 -- a sink's stream grows by no more than the quantum
 stream_more : (s t : KindState) (quantum frames channels before : ℕ) (a b left right : List ℤ) → frames ≤ quantum
@@ -98,7 +102,7 @@ room_on (Source s) (Source t) quantum most prepared a step h = h
 room_on (Square s) (Square t) quantum most prepared a step h = h
 room_on (Gain s) (Gain t) quantum most prepared a step h = h
 room_on (Mix2 s) (Mix2 t) quantum most prepared a step h = h
-room_on (Delay s) (Delay t) quantum most prepared a step h = let P : Line → Type 0 = λ l. l.frames * most ≤ l.room in subst P (sym step) h
+room_on (Delay s) (Delay t) quantum most prepared a step h = let P : Line → Type 0 = λ l. l.long * most ≤ l.room in subst P (sym step) h
 room_on (Map s) (Map t) quantum most prepared a step h = h
 room_on (Split s) (Split t) quantum most prepared a step h = h
 room_on (Sink s) (Sink t) quantum most prepared a step h = let long : length t.list ≡ length s.list + length a = ap length step.0

@@ -94,6 +94,28 @@ can_step (Sink s) quantum frames channels a b left right e room h =
     fits (inr none) = let n = h.0 ∙ ap (λ n. n * channels) none in omega (arith, n)
 can_step (Meter s) quantum frames channels a b left right e room h = (none_of left (omega arith) h.2, none_of right (omega arith) h.3)
 
+-- no more than a quantum comes to a delay
+abbrev pub BringsFew : KindState → ℕ → List ℤ → Type 0
+BringsFew (Delay s) n a = length a ≤ n
+BringsFew _ n a = Unit {0}
+
+brings : (s : KindState) (quantum frames channels : ℕ) (a b left right : List ℤ) → frames ≤ quantum
+    → HaveFrames frames (kind_of s) (wave_channels s) channels a b left right → BringsFew s (quantum * channels) a
+brings (Source s) quantum frames channels a b left right few h = tt
+brings (Square s) quantum frames channels a b left right few h = tt
+brings (Gain s) quantum frames channels a b left right few h = tt
+brings (Mix2 s) quantum frames channels a b left right few h = tt
+brings (Delay s) quantum frames channels a b left right few h = let wide : frames * channels ≤ quantum * channels = mul-le-mul_right channels few in
+    omega (arith, wide, h.0)
+brings (Map s) quantum frames channels a b left right few h = tt
+brings (Split s) quantum frames channels a b left right few h = tt
+brings (Sink s) quantum frames channels a b left right few h = tt
+brings (Meter s) quantum frames channels a b left right few h = tt
+
+pub brings_few : (s : NodeState) (a b left right : List ℤ) → IsQuantum s a b left right → BringsFew s.state (s.quantum * s.channels) a
+brings_few s a b left right (inl h) = brings s.state s.quantum s.quantum s.channels a b left right (omega arith) h
+brings_few s a b left right (inr h) = brings s.state s.quantum 0 s.channels a b left right (omega arith) h
+
 -- an output has nothing or all that is given
 pub left_whole : (s : KindState) (quantum : ℕ) (a b left right : List ℤ) → CanStep s quantum a b left right
     → IsNoneOr (length (given_by s quantum a b 0)) left

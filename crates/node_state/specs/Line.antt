@@ -3,20 +3,21 @@
 use Rattle.std.specs.Prelude.{ℕ, List, ℤ, ◌++◌, take, drop, refl}
 use Rattle.std.specs.Coded.{Coded, code_by, coded×, coded_list, coded_ℕ, coded_ℤ}
 
--- a delay of so many frames, the samples that it has heard and not given, and how many it has room
--- for
+-- a delay of so many frames, how many frames its line has, the samples that came and were not
+-- given, and how many it has room for
 pub record Line : Type 0 where
   pub frames : ℕ
+  pub long : ℕ
   pub samples : List ℤ
   pub room : ℕ
 
 -- it is stored as the tuple of its fields
 abbrev pub line_code : Coded Line
 line_code =
-    code_by (ℕ × (List ℤ × ℕ))
-    (coded× coded_ℕ (coded× (coded_list coded_ℤ) coded_ℕ))
-    (λ l. (l.frames, (l.samples, l.room)))
-    (λ p. record { frames = p.0; samples = p.1.0; room = p.1.1 }) (λ _. refl)
+    code_by (ℕ × (ℕ × (List ℤ × ℕ)))
+    (coded× coded_ℕ (coded× coded_ℕ (coded× (coded_list coded_ℤ) coded_ℕ)))
+    (λ l. (l.frames, (l.long, (l.samples, l.room))))
+    (λ p. record { frames = p.0; long = p.1.0; samples = p.1.1.0; room = p.1.1.1 }) (λ _. refl)
 
 -- a ring read from one place round to it
 abbrev pub turned : {X : Type 0} → ℕ → List X → List X

@@ -1,7 +1,7 @@
 -- Stands for: what a state keeps between quanta, and what its node has heard so far.
 -- Source: the graph's nodes of PipeWire's documentation, "Graph Scheduling"; the kinds are this
 -- project's.
-use Rattle.std.specs.Prelude.{◌≡◌, ℕ, ◌+◌, ◌*◌, ◌%◌, min, List, [], ◌++◌, length, take, drop, ℤ, ◌⊎◌}
+use Rattle.std.specs.Prelude.{◌≡◌, ℕ, ◌+◌, ◌*◌, ◌%◌, ◌≤◌, min, List, [], ◌++◌, length, take, drop, ℤ, ◌⊎◌}
 use Rattle.pw_base.specs.Samples.{silence, peak_of}
 use Rattle.pw_base.specs.KindFunction.{Heard}
 use Rattle.node_state.specs.declared.kind_state.KindState.{KindState}
@@ -11,8 +11,8 @@ use Rattle.node_state.specs.Slices.{HaveFrames}
 pub use Rattle.node_state.specs.StateReadings.{node_kind, node_wave_channels, kept_stream, node_quantum, frames_so_far, prepared_frames, node_channels, most_channels, HasFramesLeft}
 
 -- by the channels at the first input and the frames prepared: the file's front and the place in it;
--- the place in the period; the samples not yet given; the stream; the peak. The other kinds keep
--- nothing, of inputs in whole frames
+-- the place in the period; the samples not yet given, in a line no longer than the frames to come;
+-- the stream; the peak. The other kinds keep nothing, of inputs in whole frames
 abbrev pub Keeps : KindState → ℕ → ℕ → Heard → Type 0
 Keeps (Source s) channels prepared h =
     (s.channels ≡ h.channels) × (s.samples ≡ take (prepared * s.channels) h.wave)
@@ -22,7 +22,8 @@ Keeps (Square s) channels prepared h = (s.wave.channels ≡ h.channels)
 Keeps (Gain s) channels prepared h = Unit {0}
 Keeps (Mix2 s) channels prepared h = length h.a ≡ length h.b
 Keeps (Delay s) channels prepared h = (channels ≡ h.channels)
-    × (s.samples ≡ drop (length h.a) (silence (s.frames * channels) ++ h.a))
+    × (length h.a ≤ h.frames * channels) × (s.long ≡ min s.frames prepared)
+    × (s.samples ≡ drop (length h.a) (silence (s.long * channels) ++ h.a))
 Keeps (Map s) channels prepared h = length h.a % s.channels ≡ 0
 Keeps (Split s) channels prepared h = length h.a % 2 ≡ 0
 Keeps (Sink s) channels prepared h = s.list ≡ h.a

@@ -41,6 +41,6 @@ room_in _ = 0
 
 -- the samples that it may have to keep, of so many channels and frames in all
 abbrev pub wanted_room : KindState → ℕ → ℕ → ℕ
-wanted_room (Delay s) channels frames = s.frames * channels
+wanted_room (Delay s) channels frames = s.long * channels
 wanted_room (Sink s) channels frames = frames * channels
 wanted_room _ channels frames = 0

@@ -95,8 +95,8 @@ impl KindState {
             } => Ok(KindState::Square(SquareState::new(*rate, *channels, *period, *amp))),
             Kind::Gain { g } => Ok(KindState::Gain(GainState { g: *g })),
             Kind::Mix2 { ga, gb } => Ok(KindState::Mix2(Mix2State { ga: *ga, gb: *gb })),
-            Kind::Delay { frames } => Ok(KindState::Delay(DelayState::new(
-                alloc, *frames, channels,
+            Kind::Delay { frames: delay } => Ok(KindState::Delay(DelayState::new(
+                alloc, *delay, channels, frames,
             )?)),
             Kind::Map { channels, list } => Ok(KindState::Map(MapState::new(
                 alloc, *channels, list,

@@ -21,8 +21,7 @@ impl NodeState {
     ///
     /// `channels` are those at the first input, the most that it may have in the run, 0 where it
     /// has none. `wav` is a source's file; the state has a copy of at most the frames prepared. A
-    /// delay takes `frames * channels` samples of its line, a sink `frames * channels` of its
-    /// stream.
+    /// delay takes memory for its line, of at most `frames` frames, a sink for so long a stream.
     pub fn prepare(
         alloc: Global,
         kind: &Kind,

@@ -76,9 +76,12 @@ module _ (p : BoardLayout) (plain : IsPooledBoard p) where
     pub filled_by : (q : ℕ) → Contains (fills_of p.shape n) q → (q < length (pools_of p.shape)) × (filler_of p q ≡ p.index n)
     filled_by q c = let h = is_of (λ (x : PoolShape). x.port.node) n (pools_of p.shape) q no_pool c in (h.0, ap p.index h.1)
 
+    -- the node of its pools
+    pub of_node : (q : ℕ) → q < length (pools_of p.shape) → filler_of p q ≡ p.index n → (pool_at p q).port.node ≡ n
+    of_node q low e = same_node (pool_at p q).port.node (made p all_wired q (pool_at p q) (pool_there p q low)).0 e
+
     pub fills_it : (q : ℕ) → q < length (pools_of p.shape) → filler_of p q ≡ p.index n → Contains (fills_of p.shape n) q
-    fills_it q low e = has_it (λ (x : PoolShape). x.port.node) n (pools_of p.shape) q no_pool low
-        (same_node (pool_at p q).port.node (made p all_wired q (pool_at p q) (pool_there p q low)).0 e)
+    fills_it q low e = has_it (λ (x : PoolShape). x.port.node) n (pools_of p.shape) q no_pool low (of_node q low e)
 
     pub fills_once : AllPairs (λ q r. q ≢ r) (fills_of p.shape n)
     fills_once = pairs_differ (fills_of p.shape n) (differ_indexes (λ (x : PoolShape). x.port.node == n) 0 (pools_of p.shape))

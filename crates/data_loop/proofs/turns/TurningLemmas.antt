@@ -20,7 +20,6 @@ use Rattle.board_rule.specs.buffers.EndViews.{pool_at, reader_of, filler_of, poo
 use Rattle.board_rule.specs.Steps.{cycle_of, IsCycle, HasNode, IsMember, IsRunning, IsReadyToFinish}
 use Rattle.board_rule.specs.buffers.ReaderSteps.{read_cycle}
 use Rattle.board_rule.specs.buffers.BlockSteps.{fill_cycle}
-use Rattle.buffer_pool.specs.Queue.{Queue}
 use Rattle.activation_words.specs.Calls.{started, HasRested}
 use Rattle.activation_words.specs.Members.{IsResting}
 use Rattle.activation_words.proofs.ViewLemmas.{again, has_again}
@@ -30,14 +29,16 @@ use Rattle.io_areas.specs.Ends.{IsWrittenUpTo, IsReadUpTo}
 use Rattle.io_areas.specs.FreeBlocks.{FreeBlocks}
 use Rattle.data_loop.specs.turns.Ends.{reads_of, fills_of}
 use Rattle.data_loop.specs.turns.Hearing.{MayHearAll, AreHeard}
-use Rattle.data_loop.specs.turns.Writing.{queue_of, MayFillAll, AreWritten}
-use Rattle.data_loop.specs.turns.Turning.{IsEquipped, AreEven, HasTurned}
+use Rattle.data_loop.specs.declared.own_pools.OwnPools.{OwnPools}
+use Rattle.data_loop.specs.OwnPools.{queue_of}
+use Rattle.data_loop.specs.turns.Writing.{MayFillAll, AreWritten}
+use Rattle.data_loop.specs.turns.Turning.{AreEven, HasTurned}
 use Rattle.data_loop.proofs.turns.EndsLemmas.{of_pool, pool_writer, pool_link, read_by, reads_it, reads_once, filled_by, fills_it, fills_once}
 use Rattle.data_loop.proofs.turns.HearingLemmas.{read_moves}
 use Rattle.data_loop.proofs.turns.WritingLemmas.{write_moves, stock_moves}
 
 -- a view with the same ends and blocks
-pub even_moves : (p : BoardLayout) (v w : View) (free : List Queue) (m c d : ℕ) → w.reads ≡ v.reads → w.writes ≡ v.writes → w.blocks ≡ v.blocks
+pub even_moves : (p : BoardLayout) (v w : View) (free : OwnPools) (m c d : ℕ) → w.reads ≡ v.reads → w.writes ≡ v.writes → w.blocks ≡ v.blocks
     → w.heard ≡ v.heard → w.reclaimed ≡ v.reclaimed → d ≡ c
     → AreEven p v free m c → AreEven p w free m d
 even_moves p v w free m c d rs ws bs hs rc e h = subst (AreEven p w free m) (sym e) record {
@@ -77,7 +78,7 @@ module _ (p : BoardLayout) (plain : IsPooledBoard p) (n : ℕ) where
   m = p.index n
 
   -- the node m works in the view v, and is even
-  module _ (v : View) (old : List Queue) (has : HasNode false p v m) (runs : IsRunning false v m)
+  module _ (v : View) (old : OwnPools) (has : HasNode false p v m) (runs : IsRunning false v m)
       (even : AreEven p v old m (node_of v m).next) where
     abbrev cycle : ℕ
     cycle = (node_of v m).next
@@ -151,7 +152,7 @@ module _ (p : BoardLayout) (plain : IsPooledBoard p) (n : ℕ) where
       )
 
       -- it has filled all
-      module _ (x : View) (new : List Queue) (written : AreWritten p w old (fills_of p.shape n) x new) where
+      module _ (x : View) (new : OwnPools) (written : AreWritten p w old (fills_of p.shape n) x new) where
         same : x ≡ record v { reads = x.reads; heard = x.heard; writes = x.writes; blocks = x.blocks; reclaimed = x.reclaimed }
         same = written.same ∙ ap (λ (y : View). record y { writes = x.writes; blocks = x.blocks; reclaimed = x.reclaimed }) w_same
             ∙ ap (λ (y : View). record v { reads = y.reads; heard = y.heard; writes = x.writes; blocks = x.blocks; reclaimed = x.reclaimed })
@@ -221,7 +222,7 @@ module _ (p : BoardLayout) (plain : IsPooledBoard p) (n : ℕ) where
           );
           expect = ap (λ (u : View). u.expect) r.is ∙ ap (λ (u : View). u.expect) same;
           room = ap (λ (u : View). length u.blocks) r.is ∙ written.room ∙ ap (λ (u : List BlockView). length u) bs;
-          lists = written.lists;
+          kept = written.kept;
         }
           where
             slept : NodeView
@@ -261,12 +262,12 @@ module _ (p : BoardLayout) (v : View) (m t : ℕ) (has : HasNode false p v m) wh
   pub begun_next : (node_of at_work m).next ≡ (node_of v m).next
   begun_next = ap (λ (x : NodeView). x.next) begun_is
 
-  pub begun_even : (free : List Queue) → AreEven p v free m (node_of v m).next → AreEven p at_work free m (node_of at_work m).next
+  pub begun_even : (free : OwnPools) → AreEven p v free m (node_of v m).next → AreEven p at_work free m (node_of at_work m).next
   begun_even free even = even_moves p v at_work free m (node_of v m).next (node_of at_work m).next refl refl refl refl refl begun_next even
 
 -- what is so of a turn after a step of its node is so before it
 pub turned_whole : (p : BoardLayout) (v : View) (m : ℕ) (y : NodeView) (t : Trail) → m < length v.nodes → y.next ≡ (node_of v m).next
-    → (old : List Queue) (w : View) (new : List Queue) → HasTurned p (view_node v m y t) old m w new → HasTurned p v old m w new
+    → (old : OwnPools) (w : View) (new : OwnPools) → HasTurned p (view_node v m y t) old m w new → HasTurned p v old m w new
 turned_whole p v m y t there next old w new h = record {
   rests = h.rests;
   later = h.later ∙ ap (λ (x : NodeView). x.next + 1) (again p v m y t there) ∙ ap (λ c. c + 1) next;
@@ -278,16 +279,5 @@ turned_whole p v m y t there next old w new h = record {
       ) in (k.0, k.1 ∙ same);
   expect = h.expect;
   room = h.room;
-  lists = h.lists;
+  kept = h.kept;
 }
-
-module _ (p : BoardLayout) (shapes : List PoolShape) (v : View) (free : List Queue) (w : View) (new : List Queue) where
-  -- a turn leaves the loop what it works with
-  pub equipped_moves : length w.blocks ≡ length v.blocks → length new ≡ length free
-      → IsEquipped p v shapes free → IsEquipped p w shapes new
-  equipped_moves room lists e = record {
-    plain = e.plain;
-    shapes_are = e.shapes_are;
-    lists = lists ∙ e.lists;
-    blocks = λ q low. subst (λ k. block_at p q (pool_at p q).blocks ≤ k) (sym room) (e.blocks q low);
-  }

@@ -4,7 +4,10 @@ use Rattle.std.proofs.Common.{subst, arith}
 use Rattle.std.proofs.Common.{inl, inr, ⊎_elim, length-set, get_or-set_same, get_or-set_other}
 use Rattle.std.specs.Prelude.{Contains}
 use Rattle.std.proofs.lemmas.Option.{slice_get-get_or}
-use Rattle.std.proofs.lemmas.List.{get_or_default}
+use Rattle.std.specs.Vec.{with_item}
+use Rattle.std.proofs.lemmas.Bool.{cases_lt}
+use Rattle.std.proofs.lemmas.List.{get_or_default, get_or_past}
+use Rattle.pw_base.specs.declared.pools.PoolShape.{PoolShape}
 use Rattle.pw_base.specs.Pools.{pools_of}
 use Rattle.board_rule.specs.declared.view.WriteView.{WriteView}
 use Rattle.board_rule.specs.declared.view.BlockView.{BlockView}
@@ -23,7 +26,10 @@ use Rattle.io_areas.specs.PooledBoard.{IsPooledBoard}
 use Rattle.io_areas.specs.Ends.{IsWrittenUpTo}
 use Rattle.io_areas.specs.FreeBlocks.{FreeBlocks}
 use Rattle.io_areas.specs.OutputTurn.{MayWriteOutput, HasWrittenOutput}
-use Rattle.data_loop.specs.turns.Writing.{queue_of, MayFillAll, Puts, IsLeft, AreWritten}
+use Rattle.data_loop.specs.declared.own_pools.OwnPools.{OwnPools}
+use Rattle.data_loop.specs.OwnPools.{place_of, queue_of, Owns, AreSamePools}
+use Rattle.data_loop.specs.turns.Writing.{MayFillAll, Puts, IsLeft, AreWritten}
+use Rattle.data_loop.specs.turns.Turning.{IsEquipped}
 use Rattle.data_loop.proofs.turns.ListLemmas.{taken, take_cases, early_differs, last_taken, still_taken}
 
 pub write_moves : (v w : View) (l c : ℕ) → length w.writes ≡ length v.writes → write_of w l ≡ write_of v l → IsWrittenUpTo v l c
@@ -50,6 +56,28 @@ stock_moves p v w q c pool same back s = record {
   unreclaimed = subst (λ n. first p + 1 < n → n ≤ c) (sym back) s.unreclaimed;
 }
 
+-- a turn leaves the loop what it works with
+pub equipped_moves : (p : BoardLayout) (v : View) (old : OwnPools) (w : View) (new : OwnPools) → length w.blocks ≡ length v.blocks
+    → AreSamePools old new → IsEquipped p v old → IsEquipped p w new
+equipped_moves p v old w new room same e = record {
+  plain = e.plain;
+  places = ap (λ (l : List ℕ). length l) same.places ∙ e.places;
+  lists = same.free ∙ e.lists ∙ sym long;
+  once = λ q r low high has is. e.once q r low high (owned q has) (sym (at q) ∙ is ∙ at r);
+  shapes_are = λ q low has. ap (λ (l : List PoolShape). get_or l (place_of new q) no_pool) same.shapes
+      ∙ ap (λ n. get_or old.shapes n no_pool) (at q) ∙ e.shapes_are q low (owned q has);
+  blocks = λ q low. subst (λ k. block_at p q (pool_at p q).blocks ≤ k) (sym room) (e.blocks q low);
+}
+  where
+    at : (q : ℕ) → place_of new q ≡ place_of old q
+    at q = ap (λ (l : List ℕ). get_or l q 0) same.places
+
+    long : length new.shapes ≡ length old.shapes
+    long = ap (λ (l : List PoolShape). length l) same.shapes
+
+    owned : (q : ℕ) → Owns new q → Owns old q
+    owned q has = subst (λ (x : ℕ × ℕ). x.0 < x.1) (λ i. (at q i, long i)) has
+
 module _ (p : BoardLayout) (v : View) (ws : List WriteView) (bs : List BlockView) (rc : List ℕ) where
   -- other ends of links and other blocks leave the nodes
   pub writes_have : (m : ℕ) → IsMember false p v m → IsMember false p (record v { writes = ws; blocks = bs; reclaimed = rc }) m
@@ -67,13 +95,13 @@ module _ (p : BoardLayout) (plain : IsPooledBoard p) where
   one_pool q r l a b c d = (wired p plain.sound plain.pooled).one_pool q r l (pool_at p q) (pool_at p r)
       (slice_get-get_or (pools_of p.shape) q no_pool a) (slice_get-get_or (pools_of p.shape) r no_pool b) c d
 
-  module _ (v : View) (old : List Queue) (pools : List ℕ) (may : MayFillAll p v old pools) where
+  module _ (v : View) (old : OwnPools) (pools : List ℕ) (may : MayFillAll p v old pools) where
     pub none_written : AreWritten p v old (take 0 pools) v old
     none_written = record {
       same = refl;
       ends = refl;
       room = refl;
-      lists = refl;
+      kept = record { places = refl; shapes = refl; free = refl };
       even = λ q l c _. absurd (omega (arith, c.1));
       stocks = λ q c. absurd (omega (arith, c.1));
       other_links = λ l o. refl;
@@ -83,7 +111,7 @@ module _ (p : BoardLayout) (plain : IsPooledBoard p) where
     there : (q : ℕ) → Contains pools q → q < length (pools_of p.shape)
     there q c = subst (λ r. r < length (pools_of p.shape)) c.2 (may.0 c.0 q c.1).0.has.0
 
-    module _ (k : ℕ) (w : View) (new : List Queue) (low : k < length pools) (so_far : AreWritten p v old (take k pools) w new) where
+    module _ (k : ℕ) (w : View) (new : OwnPools) (low : k < length pools) (so_far : AreWritten p v old (take k pools) w new) where
       abbrev pool : ℕ
       pool = get_or pools k 0
 
@@ -121,26 +149,45 @@ module _ (p : BoardLayout) (plain : IsPooledBoard p) where
       has_stock = subst (λ (x : ℕ × Queue). FreeBlocks p w pool x.0 x.1) (λ i. (sym (same_cycle pool) i, sym left.0 i))
           (stock_moves p v w pool (fill_cycle p v pool) (queue_of old pool) left.1 left.2 (may.0 k 0 low).1)
 
-      pub free_at : length new ≡ length (pools_of p.shape) → (x : Queue) → get_or new pool x ≡ queue_of new pool
-      free_at long x = get_or_default new pool x (record { free = []; blocks = 0 }) (subst (λ n. pool < n) (sym long) pool_in)
+      -- the pool is one of the loop's
+      pub owns_it : length new.free.items ≡ length new.shapes → Owns new pool
+      owns_it long = ⊎_elim (λ low. low)
+          (λ (past : length new.shapes ≤ place_of new pool). let s = has_stock in let size = s.size in let enough = s.enough in
+          let some = busy_cycles_some p (pool_at p pool) in
+          let none : (queue_of new pool).blocks ≡ 0 = ap (λ (x : Queue). x.blocks)
+          (get_or_past new.free.items (place_of new pool) (record { free = []; blocks = 0 }) (omega (arith, past, long))) in
+          absurd (omega (arith, size, enough, some, none)))
+          (cases_lt (place_of new pool) (length new.shapes))
+
+      pub free_at : length new.free.items ≡ length new.shapes → (x : Queue) → get_or new.free.items (place_of new pool) x ≡ queue_of new pool
+      free_at long x = get_or_default new.free.items (place_of new pool) x (record { free = []; blocks = 0 })
+          (subst (λ n. place_of new pool < n) (sym long) (owns_it long))
 
       pub still_puts : (samples : List ℤ) → Puts p v samples pool → Puts p w samples pool
       still_puts samples g = g ∙ sym (ap (λ (x : View). samples_in p x.expect (fill_cycle p x pool) pool) so_far.same)
 
       module _ (u : View) (x : Queue) (written : HasWrittenOutput p w pool u) (stock : FreeBlocks p u pool (fill_cycle p w pool + 1) x)
-          (long : length new ≡ length (pools_of p.shape)) where
-        abbrev newer : List Queue
-        newer = set new pool x
+          (equipped : IsEquipped p w new) where
+        abbrev newer : OwnPools
+        newer = record new { free = with_item new.free (place_of new pool) x }
 
-        other : (r : ℕ) → r ≢ pool → queue_of newer r ≡ queue_of new r
-        other r o = get_or-set_other new pool r x (record { free = []; blocks = 0 }) o
+        own : Owns new pool
+        own = owns_it equipped.lists
+
+        other : (r : ℕ) → r < length (pools_of p.shape) → r ≢ pool → queue_of newer r ≡ queue_of new r
+        other r low o = get_or-set_other new.free.items (place_of new pool) (place_of new r) x (record { free = []; blocks = 0 })
+            (λ e. o (sym (equipped.once pool r pool_in low own (sym e))))
 
         pub one_more : AreWritten p v old (take (k + 1) pools) u newer
         one_more = record {
           same = written.same ∙ ap (λ (y : View). record y { writes = u.writes; blocks = u.blocks; reclaimed = u.reclaimed }) so_far.same;
           ends = written.ends ∙ so_far.ends;
           room = written.room ∙ so_far.room;
-          lists = length-set new pool x ∙ so_far.lists;
+          kept = record {
+            places = so_far.kept.places;
+            shapes = so_far.kept.shapes;
+            free = length-set new.free.items (place_of new pool) x ∙ so_far.kept.free;
+          };
           even = λ q l c of_q. ⊎_elim
               (λ done. let h = early q done in write_moves w u l (fill_cycle p v q + 1) written.ends
               (written.other_links l (λ d. h.1 (one_pool q pool l h.0 pool_in of_q d))) (so_far.even q l done of_q))
@@ -149,7 +196,7 @@ module _ (p : BoardLayout) (plain : IsPooledBoard p) where
               (written.even l (subst (λ i. Contains (pool_at p i).links l) (sym e) of_q))))
               (take_cases pools k q low c);
           stocks = λ q c. ⊎_elim
-              (λ done. let h = early q done in subst (FreeBlocks p u q (fill_cycle p v q + 1)) (sym (other q h.1))
+              (λ done. let h = early q done in subst (FreeBlocks p u q (fill_cycle p v q + 1)) (sym (other q h.0 h.1))
               (stock_moves p w u q (fill_cycle p v q + 1) (queue_of new q) (λ b lt. written.other_pools q b h.0 lt h.1)
               (written.other_reclaims q h.1)
               (so_far.stocks q done)))
@@ -157,8 +204,8 @@ module _ (p : BoardLayout) (plain : IsPooledBoard p) where
               (subst (λ (y : ℕ × Queue). FreeBlocks p u pool (y.0 + 1) y.1)
               (λ i. (
                 same_cycle pool i,
-                sym (get_or-set_same new pool x (record { free = []; blocks = 0 })
-                    (subst (λ n. pool < n) (sym long) pool_in)) i,
+                sym (get_or-set_same new.free.items (place_of new pool) x (record { free = []; blocks = 0 })
+                    (subst (λ n. place_of new pool < n) (sym equipped.lists) own)) i,
               ))
               stock))
               (take_cases pools k q low c);
@@ -166,5 +213,5 @@ module _ (p : BoardLayout) (plain : IsPooledBoard p) where
               ∙ so_far.other_links l (λ q done. o q (still_taken pools k q low done));
           other_pools = λ r lt o. let n : r ≢ pool = λ e. o (subst (Contains (take (k + 1) pools)) (sym e) (last_taken pools k low)) in
               let h = so_far.other_pools r lt (λ done. o (still_taken pools k r low done)) in
-              (other r n ∙ h.0, (λ b less. written.other_pools r b lt less n ∙ h.1 b less), written.other_reclaims r n ∙ h.2);
+              (other r lt n ∙ h.0, (λ b less. written.other_pools r b lt less n ∙ h.1 b less), written.other_reclaims r n ∙ h.2);
         }

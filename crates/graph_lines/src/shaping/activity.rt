@@ -103,7 +103,8 @@ fn joined_nodes(live: &[Wire], node: u32) -> [bool; NODES]
 // The built-in driver and the nodes that have a link.
 fn linked_nodes(live: &[Wire]) -> [bool; NODES]
     requires { All IsWithin live.now }
-    ensures { (n : ℕ) → (is_in result n ≡ true) ↔ ((n ≡ dummy_node) ⊎ HasWire live.now n) }
+    ensures { (n : ℕ) → (is_in result n ≡ true)
+        ↔ ((n ≡ dummy_node) ⊎ HasWire live.now n) }
 {
     let mut here = only(DUMMY);
     for wire in live {

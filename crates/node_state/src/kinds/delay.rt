@@ -1,5 +1,5 @@
 //! A delay keeps its line, the samples that it has heard and not yet given, in a ring.
-ghost use Rattle.std.specs.Prelude.{◌≡◌, ◌+◌, ◌*◌, ◌<◌, ◌≤◌, ◌++◌, length, take, drop, IfOk};
+ghost use Rattle.std.specs.Prelude.{◌≡◌, ◌+◌, ◌*◌, ◌<◌, ◌≤◌, ◌++◌, min, length, take, drop, IfOk};
 ghost use Rattle.pw_base.specs.Samples.{silence};
 ghost use Rattle.node_state.specs.Slices.{IsNoneOr};
 ghost use Rattle.node_state.specs.Line.{turned};
@@ -9,10 +9,13 @@ use pw_base::{Items, Memory};
 use std::alloc::Global;
 use std::marker::Model;
 
-/// A line of `frames` frames: the first `size` samples of the ring, from `oldest` round to it.
+/// A line of `long` frames: the first `size` samples of the ring, from `oldest` round to it. It is
+/// as long as the delay, or as the frames that come in all where these are fewer: in so many frames
+/// a longer line gives nothing but silence either.
 #[derive(Drop)]
 pub(crate) struct DelayState {
     frames: u32,
+    long: u32,
     ring: Items<i16>,
     size: usize,
     oldest: usize,
@@ -28,6 +31,7 @@ impl Model for DelayState {
 
     ghost view = { λ d. record {
       frames = d.frames;
+      long = d.long;
       samples = turned d.oldest (take d.size d.ring);
       room = length d.ring;
     } };
@@ -129,16 +133,28 @@ fn clear_line(row: &mut [i16], size: usize)
 }
 
 impl DelayState {
-    /// A line of zeros, of so many frames of so many channels.
-    pub(crate) fn new(alloc: Global, frames: u32, channels: u32) -> Result<DelayState, Memory>
+    /// A line of zeros for a delay of `frames` frames, of `channels` channels, to which `prepared`
+    /// frames come in all.
+    pub(crate) fn new(
+        alloc: Global,
+        frames: u32,
+        channels: u32,
+        prepared: u64,
+    ) -> Result<DelayState, Memory>
         requires channels { channels ≤ 8 }
-        ensures { IfOk result (λ d. d ≡ record
-            { frames = frames; samples = silence (frames * channels); room = frames * channels }) }
+        ensures { IfOk result (λ d. let long = min frames prepared in d ≡ record {
+          frames = frames;
+          long = long;
+          samples = silence (long * channels);
+          room = long * channels;
+        }) }
     {
-        let size = frames as usize * channels as usize;
+        let long = u64::from(frames).min(prepared) as u32;
+        let size = long as usize * channels as usize;
         match Items::filled(alloc, size, 0) {
             Ok(ring) => Ok(DelayState {
                 frames,
+                long,
                 ring,
                 size,
                 oldest: 0,
@@ -161,10 +177,10 @@ impl DelayState {
 
     /// A line of zeros again, of so many channels.
     pub(crate) fn clear(&mut self, channels: u32)
-        requires { self.old.frames * channels ≤ self.old.room }
-        ensures { self.new ≡ record self.old { samples = silence (self.old.frames * channels) } }
+        requires { self.old.long * channels ≤ self.old.room }
+        ensures { self.new ≡ record self.old { samples = silence (self.old.long * channels) } }
     {
-        self.size = self.frames as usize * channels as usize;
+        self.size = self.long as usize * channels as usize;
         self.oldest = 0;
         clear_line(self.ring.as_mut_slice(), self.size);
     }

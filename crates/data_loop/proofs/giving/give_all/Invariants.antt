@@ -6,5 +6,5 @@ use Rattle.data_loop.proofs.giving.give_all.Given as goal
 abbrev pub invariant-loop-pool : goal.invariant-loop-pool
 invariant-loop-pool l = record {
   table : l.seat.table ≡ l.fn.seat.table;
-  written : AreWritten (layout_of l.board.board_shape) l.fn.seat.knows l.fn.free (take l.pool-index l.pools) l.seat.knows l.free;
+  written : AreWritten (layout_of l.board.board_shape) l.fn.seat.knows l.fn.own (take l.pool-index l.pools) l.seat.knows l.own;
 }

@@ -1,4 +1,4 @@
-use Rattle.std.proofs.Common.{◌≡◌, ◌∙◌, ℕ, false, List, refl, sym, ap, subst, arith}
+use Rattle.std.proofs.Common.{◌≡◌, ◌∙◌, ℕ, false, List, length, refl, sym, ap, subst, arith}
 use Rattle.board_rule.specs.declared.view.Phase.TheVariants.{Running}
 use Rattle.board_rule.specs.declared.view.NodeView.{NodeView}
 use Rattle.board_rule.specs.declared.view.View.{View}
@@ -13,6 +13,7 @@ use Rattle.data_loop.specs.turns.Writing.{MayFillAll, AreWritten}
 use Rattle.data_loop.specs.Inputs.{links_of}
 use Rattle.data_loop.specs.Giving.{AllPut}
 use Rattle.data_loop.proofs.turns.EndsLemmas.{filled_by}
+use Rattle.data_loop.proofs.turns.WritingLemmas.{equipped_moves}
 use Rattle.data_loop.proofs.turns.TurningLemmas.{may_hear_all, may_fill_all, ready, turned, begun_has, begun_runs, begun_even, turned_whole}
 use Rattle.node_progress.proofs.StateLemmas.{here}
 use Rattle.data_loop.proofs.TurnLemmas.{links_are, all_put}
@@ -23,8 +24,8 @@ gather-requires-clause-phase g c = let p = layout_of c.args.board.now.board_shap
     let n = c.args.member.now.node in let m = p.index n in let s = c.start.ensures.knows in
     let reads = ap links_of (c.as_slice.ensures ∙ c.requires.member.inputs) ∙ links_are p.shape n in
     subst (λ (x : View × List ℕ). MayHearAll false p x.0 x.1) (λ i. (sym s.2 i, sym reads i))
-    (may_hear_all p c.requires.equipped.plain n _ c.args.free.now (begun_has p v m s.0 a.has) (begun_runs p v m s.0 a.has)
-    (begun_even p v m s.0 a.has c.args.free.now a.even))
+    (may_hear_all p c.requires.equipped.plain n _ c.args.own.now (begun_has p v m s.0 a.has) (begun_runs p v m s.0 a.has)
+    (begun_even p v m s.0 a.has c.args.own.now a.even))
 
 pub gather-requires-clause-hears : goal.gather-requires-clause-hears
 gather-requires-clause-hears g c = let p = layout_of c.args.board.now.board_shape in let v : View = c.args.seat.now.knows in let a = c.requires.awake in
@@ -51,6 +52,13 @@ gather-requires-clause-hears g c = let p = layout_of c.args.board.now.board_shap
       second_width = plays.second_width;
     }
 
+pub give_all-requires-clause-equipped : goal.give_all-requires-clause-equipped
+give_all-requires-clause-equipped g c = let p = layout_of c.args.board.now.board_shape in let v : View = c.args.seat.now.knows in
+    let m = p.index c.args.member.now.node in let s = c.start.ensures.knows in let w : View = c.gather.new.seat.knows in
+    equipped_moves p v c.args.own.now w c.args.own.now
+    (ap (λ (y : View). length y.blocks) c.gather.ensures.knows.same ∙ ap (λ (y : View). length y.blocks) s.2)
+    (record { places = refl; shapes = refl; free = refl }) c.requires.equipped
+
 pub give_all-requires-clause-phase : goal.give_all-requires-clause-phase
 give_all-requires-clause-phase g c = let p = layout_of c.args.board.now.board_shape in let v : View = c.args.seat.now.knows in let a = c.requires.awake in
     let n = c.args.member.now.node in let m = p.index n in let s = c.start.ensures.knows in let w : View = c.gather.new.seat.knows in
@@ -59,9 +67,9 @@ give_all-requires-clause-phase g c = let p = layout_of c.args.board.now.board_sh
     let plain = c.requires.equipped.plain in
     let heard : AreHeard false p (started false v m s.0) (reads_of p.shape n) w =
     subst (λ (x : View × List ℕ). AreHeard false p x.0 x.1 w) (λ i. (s.2 i, reads i)) c.gather.ensures.knows in
-    subst (λ (x : List ℕ). MayFillAll p w c.args.free.now x) (sym pools)
-    (may_fill_all p plain n _ c.args.free.now (begun_has p v m s.0 a.has) (begun_runs p v m s.0 a.has)
-    (begun_even p v m s.0 a.has c.args.free.now a.even) w heard
+    subst (λ (x : List ℕ). MayFillAll p w c.args.own.now x) (sym pools)
+    (may_fill_all p plain n _ c.args.own.now (begun_has p v m s.0 a.has) (begun_runs p v m s.0 a.has)
+    (begun_even p v m s.0 a.has c.args.own.now a.even) w heard
     c.requires.equipped.blocks)
 
 pub give_all-requires-clause-gives : goal.give_all-requires-clause-gives
@@ -94,10 +102,10 @@ finish-requires-clause-ready g c = let p = layout_of c.args.board.now.board_shap
     let heard : AreHeard false p (started false v m s.0) (reads_of p.shape n) w =
     subst (λ (x : View × List ℕ). AreHeard false p x.0 x.1 w) (λ i. (s.2 i, reads i)) c.gather.ensures.knows in
     let x : View = c.give_all.new.seat.knows in
-    ready p plain n _ c.args.free.now (begun_has p v m s.0 a.has) (begun_runs p v m s.0 a.has)
-    (begun_even p v m s.0 a.has c.args.free.now a.even) w heard
-    x c.give_all.new.free
-    (subst (λ (y : List ℕ). AreWritten p w c.args.free.now y x c.give_all.new.free) pools c.give_all.ensures.knows)
+    ready p plain n _ c.args.own.now (begun_has p v m s.0 a.has) (begun_runs p v m s.0 a.has)
+    (begun_even p v m s.0 a.has c.args.own.now a.even) w heard
+    x c.give_all.new.own
+    (subst (λ (y : List ℕ). AreWritten p w c.args.own.now y x c.give_all.new.own) pools c.give_all.ensures.knows)
 
 pub returns-clause-turned : goal.returns-clause-turned
 returns-clause-turned g c = let p = layout_of c.args.board.now.board_shape in let v : View = c.args.seat.now.knows in let a = c.requires.awake in
@@ -109,11 +117,11 @@ returns-clause-turned g c = let p = layout_of c.args.board.now.board_shape in le
     subst (λ (x : View × List ℕ). AreHeard false p x.0 x.1 w) (λ i. (s.2 i, reads i)) c.gather.ensures.knows in
     let x : View = c.give_all.new.seat.knows in
     turned_whole p v m (record (node_of v m) { phase = Running; start = s.0 })
-    v.trail a.has.0.there refl c.args.free.now c.finish.new.seat.knows c.give_all.new.free
-    (turned p plain n _ c.args.free.now (begun_has p v m s.0 a.has) (begun_runs p v m s.0 a.has)
-    (begun_even p v m s.0 a.has c.args.free.now a.even) w heard
-    x c.give_all.new.free
-    (subst (λ (y : List ℕ). AreWritten p w c.args.free.now y x c.give_all.new.free) pools c.give_all.ensures.knows)
+    v.trail a.has.0.there refl c.args.own.now c.finish.new.seat.knows c.give_all.new.own
+    (turned p plain n _ c.args.own.now (begun_has p v m s.0 a.has) (begun_runs p v m s.0 a.has)
+    (begun_even p v m s.0 a.has c.args.own.now a.even) w heard
+    x c.give_all.new.own
+    (subst (λ (y : List ℕ). AreWritten p w c.args.own.now y x c.give_all.new.own) pools c.give_all.ensures.knows)
     c.finish.new.seat.knows c.finish.ensures.knows)
 
 pub work-requires : goal.work-requires

@@ -23,7 +23,7 @@ pub loop-index-init : goal.loop-index-init
 loop-index-init g' c = let p : BoardLayout = layout_of c.args.board.now.board_shape in let v : View = c.args.self.now.seat.knows in record {
   end = c.len-index-end.ensures;
   stands = c.requires.stands;
-  same = record { members = refl; driver = refl; restarts = refl; shapes = refl; table = refl };
+  same = record { members = refl; driver = refl; restarts = refl; places = refl; shapes = refl; table = refl };
   front = refl;
   states = λ at d apart. refl;
   rows = record { row = refl; sum_a = refl; sum_b = refl; a = refl; b = refl; left = refl; right = refl };
@@ -83,19 +83,19 @@ returns-in-Ran-clause-passed g' c = let p : BoardLayout = layout_of c.args.board
     ∙ still_next p v done m so.more w so.tried m.node in
     let passes : q m ≡ true = sym (c.is_in_pass.ensures ∙ chosen_is p v m c.args.least c.ended.result c.args.at ended) ∙ c.if-not-is_in_pass.false in
     let plain = so.stands.equipped.plain in
-    let rests = subst (λ (l : List Member). (j : ℕ) (d : Member) → j < length l → IsAtRest p w cur.free.items (p.index (get_or l j d).node)) so.same.members
+    let rests = subst (λ (l : List Member). (j : ℕ) (d : Member) → j < length l → IsAtRest p w cur.own (p.index (get_or l j d).node)) so.same.members
     so.stands.rests in
     let inside : p.index m.node < nodes p = (rests i no_member low).0.member.2 in
     let at : member_at cur i ≡ m = ap (λ (l : List Member). get_or l i no_member) so.same.members in
-    let ran : HasTurned p w cur.free.items (p.index m.node) c.try_member.new.self.seat.knows c.try_member.new.self.free.items =
-    subst (λ (x : Member). HasTurned p w cur.free.items (p.index x.node) c.try_member.new.self.seat.knows c.try_member.new.self.free.items) at
+    let ran : HasTurned p w cur.own (p.index m.node) c.try_member.new.self.seat.knows c.try_member.new.self.own =
+    subst (λ (x : Member). HasTurned p w cur.own (p.index x.node) c.try_member.new.self.seat.knows c.try_member.new.self.own) at
     c.in-Ran.ensures.tried in (
       so.more,
       so.items,
       subst (λ (x : Member). HasRun p g (chosen_in p g c.args.least c.args.at) x.node so.more c.try_member.new.self) (sym named)
           (one_ran p v done m so.more w so.tried plain inside g c.try_member.new.self refl (chosen_in p g c.args.least c.args.at)
-          (filter q (drop (suc i) ms)) (split_at q ms i low passes) cur.free.items
-          c.try_member.new.self.free.items rests ran),
+          (filter q (drop (suc i) ms)) (split_at q ms i low passes) cur.own
+          c.try_member.new.self.own rests ran),
     )
 
 pub returns-in-Ran-clause-states : goal.returns-in-Ran-clause-states
@@ -153,7 +153,7 @@ loop-index-preserved g' c = let p : BoardLayout = layout_of c.args.board.now.boa
     ∙ still_next p v done m so.more w so.tried m.node in
     let passes : q m ≡ true = sym (c.is_in_pass.ensures ∙ chosen_is p v m c.args.least c.ended.result c.args.at ended) ∙ c.if-not-is_in_pass.false in
     let plain = so.stands.equipped.plain in
-    let rests = subst (λ (l : List Member). (j : ℕ) (d : Member) → j < length l → IsAtRest p w cur.free.items (p.index (get_or l j d).node)) so.same.members
+    let rests = subst (λ (l : List Member). (j : ℕ) (d : Member) → j < length l → IsAtRest p w cur.own (p.index (get_or l j d).node)) so.same.members
     so.stands.rests in
     let inside : p.index m.node < nodes p = (rests i no_member low).0.member.2 in
     let at : member_at cur i ≡ m = ap (λ (l : List Member). get_or l i no_member) so.same.members in

@@ -1,11 +1,10 @@
 use Rattle.std.proofs.Common.{◌≡◌, ◌≢◌, false, ◌+◌, ◌∙◌, ℕ, suc, List, get_or, set, refl, ap, subst, sym, arith, rules}
-use Rattle.std.proofs.lemmas.List.{with_items_is, get_or_default}
+use Rattle.std.proofs.lemmas.List.{get_or_default}
 use Rattle.pw_base.specs.declared.shape.Shape.{Shape}
 use Rattle.board_rule.specs.declared.view.View.{View}
 use Rattle.board_rule.specs.OnBoard.{table_of}
 use Rattle.board_rule.specs.Layout.{layout_of, first}
 use Rattle.board_rule.specs.View.{node_of}
-use Rattle.buffer_pool.specs.Queue.{Queue}
 use Rattle.board_rule.specs.Steps.{woken, tried}
 use Rattle.data_loop.specs.declared.member.Member.{Member}
 use Rattle.data_loop.specs.declared.stage.Stage.{Stage}
@@ -56,7 +55,7 @@ play-requires-clause-awake g' c = let board_shape = c.args.board.now.board_shape
     ∙ ap (λ (x : Member). woken false v (p.index x.node)) is in
     let cycle : c.in-Awake.cycle ≡ (node_of v (p.index (member_at g c.args.index).node)).next = c.in-Awake.ensures.claim.0
     ∙ ap (λ (x : Member). (node_of v (p.index x.node)).next) is in
-    subst (λ (x : List Queue × Member). MayTurn p w x.0 (p.index x.1.node)) (λ i. (sym c.as_mut_slice.ensures.value i, sym is i))
+    subst (λ (x : Member). MayTurn p w g.own (p.index x.node)) (sym is)
     (may_turn c.args.score.now c.args.epoch p (table_of c.args.board.now) g c.args.states.now c.args.rows.now c.requires.stands c.args.index c.requires.inside
     (λ e. some_left (omega (arith, e, ended))) w woke)
 
@@ -67,7 +66,7 @@ returns-in-NotYet-clause-stands g' c = let board_shape = c.args.board.now.board_
     let is : m ≡ member_at g c.args.index = c.index-as_slice-index.is ∙ ap (λ (l : List Member). get_or l c.args.index m) c.as_slice.ensures
     ∙ get_or_default g.members c.args.index m no_member c.requires.inside in
     tried_stands c.args.score.now c.args.epoch p (table_of c.args.board.now) g c.args.states.now c.args.rows.now c.requires.stands c.args.index c.requires.inside
-    (record g { seat = c.claim.new.seat }) (c.claim.ensures.table ∙ c.requires.stands.table) refl refl refl c.in-NotYet.found refl
+    (record g { seat = c.claim.new.seat }) (c.claim.ensures.table ∙ c.requires.stands.table) refl refl c.in-NotYet.found refl
     (c.in-NotYet.ensures.claim.1 ∙ ap (λ (x : Member). tried p v (p.index x.node) c.in-NotYet.found) is)
 
 pub returns-in-NotYet-clause-tried : goal.returns-in-NotYet-clause-tried
@@ -96,15 +95,12 @@ returns-in-Awake-clause-stands g' c = let board_shape = c.args.board.now.board_s
     let cycle : c.in-Awake.cycle ≡ (node_of v (p.index (member_at g c.args.index).node)).next = c.in-Awake.ensures.claim.0
     ∙ ap (λ (x : Member). (node_of v (p.index x.node)).next) is in
     let x : View = c.play.new.seat.knows in
-    let lists = with_items_is g.free c.play.new.free (c.play.auto.free ∙ c.as_mut_slice.ensures.len) in
-    let after : HasTurned p w g.free.items (p.index (member_at g c.args.index).node) x c.play.new.free =
-    subst (λ (y : List Queue × Member). HasTurned p w y.0 (p.index y.1.node) x c.play.new.free) (λ i. (c.as_mut_slice.ensures.value i, is i))
-    c.play.ensures.turned in
+    let after : HasTurned p w g.own (p.index (member_at g c.args.index).node) x c.play.new.own =
+    subst (λ (y : Member). HasTurned p w g.own (p.index y.node) x c.play.new.own) is c.play.ensures.turned in
     let whole = turned_before c.args.score.now c.args.epoch p (table_of c.args.board.now) g c.args.states.now c.args.rows.now c.requires.stands c.args.index c.requires.inside
-    (λ e. some_left (omega (arith, e, ended))) w x c.play.new.free woke after in
+    (λ e. some_left (omega (arith, e, ended))) w x c.play.new.own woke after in
     turned_stands c.args.score.now c.args.epoch p (table_of c.args.board.now) g c.args.states.now c.args.rows.now c.requires.stands c.args.index c.requires.inside
-    _ (c.play.ensures.table ∙ c.claim.ensures.table ∙ c.requires.stands.table) refl refl refl
-    (subst (λ (l : List Queue). HasTurned p v g.free.items (p.index (member_at g c.args.index).node) x l) (sym lists) whole)
+    _ (c.play.ensures.table ∙ c.claim.ensures.table ∙ c.requires.stands.table) refl refl whole
     _ c.play.new.state (ap (λ (y : Member). set c.args.states.now y.at c.play.new.state) is)
     (subst (λ (y : ℕ × Member). IsNodeState c.args.score.now c.args.epoch (suc y.0) y.1.node c.play.new.state) (λ i. (cycle i, is i))
     c.play.ensures.state)
@@ -124,10 +120,18 @@ returns-in-Awake-clause-tried g' c = let board_shape = c.args.board.now.board_sh
     let cycle : c.in-Awake.cycle ≡ (node_of v (p.index (member_at g c.args.index).node)).next = c.in-Awake.ensures.claim.0
     ∙ ap (λ (x : Member). (node_of v (p.index x.node)).next) is in
     let x : View = c.play.new.seat.knows in
-    let lists = with_items_is g.free c.play.new.free (c.play.auto.free ∙ c.as_mut_slice.ensures.len) in
-    let after : HasTurned p w g.free.items (p.index (member_at g c.args.index).node) x c.play.new.free =
-    subst (λ (y : List Queue × Member). HasTurned p w y.0 (p.index y.1.node) x c.play.new.free) (λ i. (c.as_mut_slice.ensures.value i, is i))
-    c.play.ensures.turned in
+    let after : HasTurned p w g.own (p.index (member_at g c.args.index).node) x c.play.new.own =
+    subst (λ (y : Member). HasTurned p w g.own (p.index y.node) x c.play.new.own) is c.play.ensures.turned in
     let whole = turned_before c.args.score.now c.args.epoch p (table_of c.args.board.now) g c.args.states.now c.args.rows.now c.requires.stands c.args.index c.requires.inside
-    (λ e. some_left (omega (arith, e, ended))) w x c.play.new.free woke after in
-    subst (λ (l : List Queue). HasTurned p v g.free.items (p.index (member_at g c.args.index).node) x l) (sym lists) whole
+    (λ e. some_left (omega (arith, e, ended))) w x c.play.new.own woke after in
+    whole
+
+pub returns-in-Awake-clause-same : goal.returns-in-Awake-clause-same
+returns-in-Awake-clause-same g' c = let kept = c.play.ensures.turned.kept in record {
+  members = refl;
+  driver = refl;
+  restarts = refl;
+  places = kept.places;
+  shapes = kept.shapes;
+  table = c.play.ensures.table ∙ c.claim.ensures.table;
+}

@@ -1,0 +1,140 @@
+-- The pools of a loop's nodes among those of an epoch: each has a place of its own.
+use Rattle.std.proofs.Common.{◌≡◌, ℕ, zero, suc, ◌+◌, ◌<◌, ◌≤◌, ◌==◌, Bool, true, false, true≢false, cond, List, [], ◌∷◌, length, map, get_or, take, filter}
+use Rattle.std.proofs.Common.{refl, sym, ap, ◌∙◌, subst, arith, ⊎_elim, inl, inr}
+use mir.Val.{bool_byte}
+use Rattle.std.specs.List.{enumerate_from}
+use Rattle.std.proofs.lemmas.Bool.{cases_Bool, cases_lt, cases_order}
+use Rattle.std.proofs.lemmas.List.{get_or-map, get_or_default, length-map}
+use Rattle.std.proofs.lemmas.List.Filters.{length-filter_more}
+use Rattle.std.proofs.lemmas.List.FromFn.{length-enumerate_from, get_or-enumerate_from}
+use Rattle.pw_base.specs.declared.pools.PoolShape.{PoolShape}
+use Rattle.pw_base.specs.declared.shape.Shape.{Shape}
+use Rattle.board_rule.specs.buffers.EndViews.{no_pool}
+use Rattle.buffer_pool.specs.Queue.{Queue}
+use Rattle.io_areas.specs.FreeBlocks.{free_at_start}
+use Rattle.data_loop.specs.declared.own_pools.OwnPools.{OwnPools}
+use Rattle.data_loop.specs.OwnPools.{is_own, own_pools, own_place, own_places, place_of, queue_of, Owns}
+
+module _ {X : Type 0} (p : X → Bool) where
+  -- how many of the first i pass
+  abbrev before : List X → ℕ → ℕ
+  before xs i = length (filter p (take i xs))
+
+  before_few : (xs : List X) (i : ℕ) → before xs i ≤ i
+  before_few xs zero = omega arith
+  before_few [] (suc i) = omega arith
+  before_few (x ∷ xs) (suc i) = let rest = before_few xs i in by (p x) rest
+    where
+      by : (b : Bool) → before xs i ≤ i → length (cond b (x ∷ filter p (take i xs)) (filter p (take i xs))) ≤ suc i
+      by true rest = omega (arith, rest)
+      by false rest = omega (arith, rest)
+
+  before_all : (xs : List X) (i : ℕ) → before xs i ≤ length (filter p xs)
+  before_all xs zero = omega arith
+  before_all [] (suc i) = omega arith
+  before_all (x ∷ xs) (suc i) = let rest = before_all xs i in by (p x) rest
+    where
+      by : (b : Bool) → before xs i ≤ length (filter p xs)
+          → length (cond b (x ∷ filter p (take i xs)) (filter p (take i xs))) ≤ length (cond b (x ∷ filter p xs) (filter p xs))
+      by true rest = omega (arith, rest)
+      by false rest = rest
+
+  -- one that passes stands before all that come after it, at its own place
+  before_later : (xs : List X) (i j : ℕ) (d : X) → i < j → i < length xs → p (get_or xs i d) ≡ true → before xs i < before xs j
+  before_later [] i j d less low passes = absurd (omega (arith, low))
+  before_later (x ∷ xs) i zero d less low passes = absurd (omega (arith, less))
+  before_later (x ∷ xs) zero (suc j) d less low passes =
+      subst (λ b. 0 < length (cond b (x ∷ filter p (take j xs)) (filter p (take j xs)))) (sym passes) (omega arith)
+  before_later (x ∷ xs) (suc i) (suc j) d less low passes =
+      let rest = before_later xs i j d (omega (arith, less)) (omega (arith, low)) passes in by (p x) rest
+    where
+      by : (b : Bool) → before xs i < before xs j → length (cond b (x ∷ filter p (take i xs)) (filter p (take i xs)))
+          < length (cond b (x ∷ filter p (take j xs)) (filter p (take j xs)))
+      by true rest = omega (arith, rest)
+      by false rest = rest
+
+  pub before_end : (xs : List X) (i : ℕ) (d : X) → i < length xs → p (get_or xs i d) ≡ true → before xs i < length (filter p xs)
+  before_end xs i d low passes = let a = before_later xs i (suc i) d (omega arith) low passes in let b = before_all xs (suc i) in omega (arith, a, b)
+
+  pub passes_at : (xs : List X) (i : ℕ) (d : X) → i < length xs → p (get_or xs i d) ≡ true
+      → get_or (filter p xs) (before xs i) d ≡ get_or xs i d
+  passes_at [] i d low passes = absurd (omega (arith, low))
+  passes_at (x ∷ xs) zero d low passes = subst (λ b. get_or (cond b (x ∷ filter p xs) (filter p xs)) 0 d ≡ x) (sym passes) refl
+  passes_at (x ∷ xs) (suc i) d low passes = let rest = passes_at xs i d (omega (arith, low)) passes in by (p x) rest
+    where
+      by : (b : Bool) → get_or (filter p xs) (before xs i) d ≡ get_or xs i d
+          → get_or (cond b (x ∷ filter p xs) (filter p xs)) (length (cond b (x ∷ filter p (take i xs)) (filter p (take i xs)))) d ≡ get_or xs i d
+      by true rest = rest
+      by false rest = rest
+
+  pub same_place : (xs : List X) (i j : ℕ) (d : X) → i < length xs → j < length xs → p (get_or xs i d) ≡ true → p (get_or xs j d) ≡ true
+      → before xs i ≡ before xs j → i ≡ j
+  same_place xs i j d a b passes too is = ⊎_elim (λ e. e)
+      (⊎_elim (λ less. let n = before_later xs i j d less a passes in absurd (omega (arith, n, is)))
+      (λ more. let n = before_later xs j i d more b too in absurd (omega (arith, n, is))))
+      (cases_order i j)
+
+pub own_more : (nodes : List ℕ) (pools : List PoolShape) (i : ℕ) (d : PoolShape) → i < length pools
+    → length (own_pools nodes (take (i + 1) pools)) ≡ length (own_pools nodes (take i pools)) + cond (is_own nodes (get_or pools i d)) 1 0
+own_more nodes pools i d low = length-filter_more (is_own nodes) pools i d low
+
+pub one_byte : (b : Bool) → bool_byte b ≡ cond b 1 0
+one_byte true = refl
+one_byte false = refl
+
+pub few_own : (nodes : List ℕ) (pools : List PoolShape) (i : ℕ) → length (own_pools nodes (take i pools)) ≤ i
+few_own nodes pools i = before_few (is_own nodes) pools i
+
+-- the pools of these nodes among all, as a loop has them
+module _ (nodes : List ℕ) (pools : List PoolShape) (own : OwnPools) (places : own.places ≡ own_places nodes pools)
+    (shapes : own.shapes ≡ own_pools nodes pools) where
+  abbrev pool : ℕ → PoolShape
+  pool q = get_or pools q no_pool
+
+  pub has_places : length own.places ≡ length pools
+  has_places = ap (λ (l : List ℕ). length l) places ∙ length-map (enumerate_from 0 pools) (own_place nodes pools) ∙ length-enumerate_from 0 pools
+
+  place_is : (q : ℕ) → q < length pools → place_of own q ≡ own_place nodes pools (q, pool q)
+  place_is q low = let long = length-enumerate_from 0 pools in let d : ℕ × PoolShape = (0, no_pool) in
+      ap (λ (l : List ℕ). get_or l q 0) places
+      ∙ get_or-map (own_place nodes pools) (enumerate_from 0 pools) q d 0 (omega (arith, low, long))
+      ∙ ap (own_place nodes pools) (get_or-enumerate_from 0 pools q d low)
+      ∙ ap (λ n. own_place nodes pools (n, pool q)) (let z : 0 + q ≡ q = omega arith in z)
+
+  long_is : length own.shapes ≡ length (own_pools nodes pools)
+  long_is = ap (λ (l : List PoolShape). length l) shapes
+
+  own_at : (q : ℕ) → q < length pools → is_own nodes (pool q) ≡ true → place_of own q ≡ length (own_pools nodes (take q pools))
+  own_at q low passes = place_is q low
+      ∙ ap (λ b. cond b (length (own_pools nodes (take q pools))) (length (own_pools nodes pools))) passes
+
+  other_at : (q : ℕ) → q < length pools → is_own nodes (pool q) ≡ false → place_of own q ≡ length (own_pools nodes pools)
+  other_at q low no_one = place_is q low
+      ∙ ap (λ b. cond b (length (own_pools nodes (take q pools))) (length (own_pools nodes pools))) no_one
+
+  pub owns : (q : ℕ) → q < length pools → is_own nodes (pool q) ≡ true → Owns own q
+  owns q low passes = let at = own_at q low passes in let few = before_end (is_own nodes) pools q no_pool low passes in let long = long_is in
+      omega (arith, at, few, long)
+
+  owned : (q : ℕ) → q < length pools → Owns own q → is_own nodes (pool q) ≡ true
+  owned q low has = ⊎_elim (λ passes. passes)
+      (λ none. let at = other_at q low none in let long = long_is in absurd (omega (arith, at, long, has)))
+      (cases_Bool (is_own nodes (pool q)))
+
+  pub shape_at : (q : ℕ) → q < length pools → Owns own q → get_or own.shapes (place_of own q) no_pool ≡ pool q
+  shape_at q low has = let passes = owned q low has in
+      ap (λ (l : List PoolShape). get_or l (place_of own q) no_pool) shapes
+      ∙ ap (λ n. get_or (own_pools nodes pools) n no_pool) (own_at q low passes)
+      ∙ passes_at (is_own nodes) pools q no_pool low passes
+
+  pub one_place : (q r : ℕ) → q < length pools → r < length pools → Owns own q → place_of own q ≡ place_of own r → q ≡ r
+  one_place q r low high has is = let passes = owned q low has in
+      let too = owned r high (subst (λ n. n < length own.shapes) is has) in
+      same_place (is_own nodes) pools q r no_pool low high passes too (sym (own_at q low passes) ∙ is ∙ own_at r high too)
+
+  pub queue_at : (shape : Shape) → own.free.items ≡ map (free_at_start shape) own.shapes → (q : ℕ) → q < length pools
+      → is_own nodes (pool q) ≡ true → queue_of own q ≡ free_at_start shape (pool q)
+  queue_at shape free q low passes = let none : Queue = record { free = []; blocks = 0 } in
+      ap (λ (l : List Queue). get_or l (place_of own q) none) free
+      ∙ get_or-map (free_at_start shape) own.shapes (place_of own q) no_pool none (owns q low passes)
+      ∙ ap (free_at_start shape) (shape_at q low (owns q low passes))

@@ -1,0 +1,10 @@
+use Rattle.std.proofs.Common.{◌≤◌, ◌∙◌, List, sym, subst}
+use Rattle.std.specs.Prelude.{All}
+use Rattle.std.proofs.lemmas.List.Elements.{All-filter}
+use Rattle.pw_base.specs.declared.pools.PoolShape.{PoolShape}
+use Rattle.data_loop.specs.OwnPools.{is_own}
+use Rattle.data_loop.proofs.own_pools.pools_among.Goals as goal
+
+pub free_of-requires : goal.free_of-requires
+free_of-requires c = subst (All (λ (x : PoolShape). (1 ≤ x.blocks) × (x.blocks ≤ 8))) (sym (c.as_slice-2.ensures ∙ c.in_ok-shapes.ensures))
+    (All-filter (is_own c.args.nodes.now) (λ (x : PoolShape). (1 ≤ x.blocks) × (x.blocks ≤ 8)) c.args.pools c.requires.pools)

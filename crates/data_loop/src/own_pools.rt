@@ -1,0 +1,112 @@
+//! The pools that the nodes of a loop fill in an epoch.
+ghost use Rattle.std.specs.Prelude.{◌≡◌, ◌≤◌, if◌then◌else◌, All, IfOk, length, map};
+ghost use Rattle.io_areas.specs.FreeBlocks.{free_at_start};
+ghost use Rattle.data_loop.specs.OwnPools.{is_among, own_pools, own_places, AreFirstPools};
+
+use buffer_pool::Pool;
+use io_areas::free_at_start;
+use pw_base::{Items, Memory, PoolShape, Shape};
+use std::alloc::Global;
+
+/// The pools that the nodes of a loop fill in an epoch, each with its free blocks; those of other
+/// loops take no room but for a place.
+#[derive(Drop)]
+pub struct OwnPools {
+    /// Of each pool of the epoch its place in the two lists; past their end where it is none of the
+    /// loop's.
+    pub places: Items<u16>,
+    pub shapes: Items<PoolShape>,
+    pub free: Vec<Pool>,
+}
+
+// Whether a node is one of these.
+fn is_among(nodes: &[u32], node: u32) -> bool
+    ensures { result ≡ is_among nodes.now node }
+{
+    nodes.iter().any(|own| *own == node)
+}
+
+// How many of the pools are those of these nodes.
+fn count_own(nodes: &[u32], pools: &[PoolShape]) -> u16
+    requires few { length pools.now ≤ 256 }
+    ensures { result ≡ length (own_pools nodes.now pools.now) }
+{
+    let mut count = 0;
+    for pool in pools {
+        count += u16::from(is_among(nodes, pool.port.node));
+    }
+    count
+}
+
+// The place of an own pool is behind those before it, that of another behind all.
+fn place_for(own: bool, before: u16, count: u16) -> u16
+    ensures { result ≡ (if own then before else count) }
+{
+    if own { before } else { count }
+}
+
+// The place of each pool: how many of the nodes' own stand before it, or how many there are.
+fn places_of(alloc: Global, nodes: &[u32], pools: &[PoolShape]) -> Result<Items<u16>, Memory>
+    requires few { length pools.now ≤ 256 }
+    ensures { IfOk result (λ places. places ≡ own_places nodes.now pools.now) }
+{
+    let count = count_own(nodes, pools);
+    let mut places = Items::new(alloc);
+    let mut before = 0;
+    for pool in pools {
+        let own = is_among(nodes, pool.port.node);
+        places.push(place_for(own, before, count))?;
+        before += u16::from(own);
+    }
+    Ok(places)
+}
+
+// Those of the pools that these nodes fill.
+fn shapes_of(
+    alloc: Global,
+    nodes: &[u32],
+    pools: Items<PoolShape>,
+) -> Result<Items<PoolShape>, Memory>
+    ensures { IfOk result (λ shapes. shapes ≡ own_pools nodes.now pools) }
+{
+    let mut shapes = Items::new(alloc);
+    for pool in pools.into_vec() {
+        if is_among(nodes, pool.port.node) {
+            shapes.push(pool)?;
+        }
+    }
+    Ok(shapes)
+}
+
+// The free blocks of each pool.
+fn free_of(alloc: Global, shape: &Shape, pools: &[PoolShape]) -> Result<Items<Pool>, Memory>
+    requires { All (λ x. (1 ≤ x.blocks) × (x.blocks ≤ 8)) pools.now }
+    ensures { IfOk result (λ free. free ≡ map (free_at_start shape.now) pools.now) }
+{
+    let mut free = Items::new(alloc);
+    for pool in pools {
+        free.push(free_at_start(alloc, shape, pool)?)?;
+    }
+    Ok(free)
+}
+
+/// Those of the pools of a shape that these nodes fill, before the first cycle of an epoch.
+pub(crate) fn pools_among(
+    alloc: Global,
+    shape: &Shape,
+    nodes: &[u32],
+    pools: Items<PoolShape>,
+) -> Result<OwnPools, Memory>
+    requires few { length pools ≤ 256 }
+    requires pools { All (λ x. (1 ≤ x.blocks) × (x.blocks ≤ 8)) pools }
+    ensures { IfOk result (AreFirstPools shape.now nodes.now pools) }
+{
+    let places = places_of(alloc, nodes, pools.as_slice())?;
+    let shapes = shapes_of(alloc, nodes, pools)?;
+    let free = free_of(alloc, shape, shapes.as_slice())?.into_vec();
+    Ok(OwnPools {
+        places,
+        shapes,
+        free,
+    })
+}
