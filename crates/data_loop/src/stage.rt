@@ -24,8 +24,8 @@ use node_state::NodeState;
 use pw_base::{Gate, Items};
 
 /// A seat on the board of an epoch, the loop's followers there, the driver where that is one of the
-/// loop's nodes and has a form, and the pools that the loop's nodes fill. `restarts` has for each of
-/// the loop's nodes with how many channels the epoch begins it anew.
+/// loop's nodes and has a form, and the pools that the loop's nodes fill. `restarts` has for each
+/// of the loop's nodes with how many channels the epoch begins it anew.
 #[derive(Drop)]
 pub struct Stage {
     pub seat: LoopSeat,
