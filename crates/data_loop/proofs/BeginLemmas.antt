@@ -1,11 +1,10 @@
 -- A loop begins an epoch: on the epoch's board all its followers rest.
-use Rattle.std.proofs.Common.{◌≡◌, ◌≢◌, ℕ, ◌+◌, ◌<◌, ◌≤◌, ◌==◌, Bool, true, false, true≢false, not, cond, List, [], length, map, get_or, refl, sym, ap, ◌∙◌, subst, arith}
+use Rattle.std.proofs.Common.{◌≡◌, ◌≢◌, ℕ, ◌+◌, ◌<◌, ◌≤◌, ◌==◌, Bool, true, false, true≢false, not, cond, List, length, map, get_or, refl, sym, ap, ◌∙◌, subst, arith}
 use Rattle.std.proofs.Common.{option_map, unwrap_or}
 use Rattle.std.specs.Prelude.{All, Contains}
 use Rattle.std.proofs.lemmas.Bool.{and_parts, and_from, eq-eqb, or_left}
 use Rattle.std.proofs.lemmas.List.{get_or-replicate, get_or-map, get_or_default, length-replicate, length-map}
 use Rattle.atomic_table.specs.Seated.{TableId}
-use Rattle.pw_base.specs.declared.pools.PoolShape.{PoolShape}
 use Rattle.pw_base.specs.declared.plan.Epoch.{Epoch}
 use Rattle.pw_base.specs.declared.plan.Plan.{Plan}
 use Rattle.pw_base.specs.declared.shape.Shape.{Shape}
@@ -24,7 +23,7 @@ use Rattle.board_rule.specs.Known.{Known}
 use Rattle.board_rule.specs.Layout.{BoardLayout, nodes, first}
 use Rattle.board_rule.specs.View.{Samples, idle, node_of, unwritten, unread, first_write, loop_view}
 use Rattle.board_rule.specs.buffers.Spans.{block_at}
-use Rattle.board_rule.specs.buffers.EndViews.{no_link, no_pool, pool_at, filler_of, read_of, write_of}
+use Rattle.board_rule.specs.buffers.EndViews.{no_link, pool_at, filler_of, read_of, write_of}
 use Rattle.buffer_pool.specs.Queue.{Queue}
 use Rattle.activation_words.proofs.MemberLemmas.{new_rests}
 use Rattle.io_areas.specs.FreeBlocks.{FreeBlocks, free_at_start}

@@ -13,6 +13,7 @@ use Rattle.buffer_pool.specs.contracts.pool.Pool as pool_row
 use Rattle.node_state.specs.contracts.node_state.NodeState as node_row
 use Rattle.ready_queues.specs.contracts.end.End as end_row
 use Rattle.ready_queues.specs.contracts.way.Way as way_row
+use Rattle.data_loop.specs.contracts.own_pools.OwnPools as own_row
 use Rattle.data_loop.specs.contracts.stage.Stage as stage_row
 use Rattle.data_loop.specs.contracts.loop_state.LoopState as loop_row
 use Rattle.graph_run.specs.contracts.shared.LoopWay as given_row
@@ -29,8 +30,11 @@ pool_send = search (crossing, cells.the_send, deed.the_send) depth 30
 pub node_send : IsSend node_row.the_row
 node_send = search crossing depth 30
 
+own_field : IsSend own_row.the_field.row
+own_field = search (crossing, pool_send) depth 30 fits 50000
+
 pub stage_send : IsSend stage_row.the_row
-stage_send = search (crossing, seat_send, pool_send) depth 30
+stage_send = let a : IsSend own_row.the_field.row = own_field in search (crossing, seat_send, pool_send) depth 30 fits 50000
 
 pub loop_send : IsSend loop_row.the_row
 loop_send = search (crossing, stage_send, node_send) depth 30

@@ -1,7 +1,7 @@
 -- Stands for: what a state keeps between quanta, and what its node has heard so far.
 -- Source: the graph's nodes of PipeWire's documentation, "Graph Scheduling"; the kinds are this
 -- project's.
-use Rattle.std.specs.Prelude.{◌≡◌, ℕ, ◌+◌, ◌*◌, ◌%◌, ◌≤◌, min, List, [], ◌++◌, length, take, drop, ℤ, ◌⊎◌}
+use Rattle.std.specs.Prelude.{◌≡◌, ℕ, ◌*◌, ◌%◌, ◌≤◌, min, List, [], ◌++◌, length, take, drop, ℤ, ◌⊎◌}
 use Rattle.pw_base.specs.Samples.{silence, peak_of}
 use Rattle.pw_base.specs.KindFunction.{Heard}
 use Rattle.node_state.specs.declared.kind_state.KindState.{KindState}
