@@ -54,11 +54,15 @@ def sentences(place):
         place.same(f"{words} without one", wanted[:2],
                    told(place, words, preexec_fn=lambda: os.close(2))[:2])
     for words, sentence in [
-            ([], "a word is missing"), (["run"], "a word is missing"),
+            (["run"], "a word is missing"),
             (["play"], 'this word is wrong here: "play"'),
             (["soak", "07"], 'this word is wrong here: "07"')]:
         place.same(" ".join(words), f"pipegraph: {sentence}\n{SYNOPSIS}".encode(),
                    told(place, words)[2])
+    for words in [[], ["-h"], ["--help"], ["--version"]]:
+        status, line, text = told(place, words)
+        place.same(f"help: {words}", (1, b"usage 0\n", True),
+                   (status, line, text.startswith(b"pipegraph 0.1: ")))
     place.same("nothing where all was done", b"", told(place, ["run", "fine.graph"])[2])
     with open("/dev/full", "wb") as full:
         done = subprocess.run([place.program, "run", "fine.graph", "--trace"], cwd=place.folder,

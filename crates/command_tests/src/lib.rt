@@ -1,6 +1,6 @@
 //! Tests of whole command lines that are refused or fail, and of `dump`, `filter`, `automate`,
-//! `check` and `soak`, over files and an output in memory; and of the sentences that statuses are
-//! told in. There is nothing else here.
+//! `check` and `soak`, over files and an output in memory; of the sentences that statuses are told
+//! in, and of the program with both its outputs. There is nothing else here.
 #![tactic(auto)]
 
 #[cfg(test)]
@@ -15,6 +15,8 @@ mod long_files;
 mod messages;
 #[cfg(test)]
 mod pods;
+#[cfg(test)]
+mod programs;
 #[cfg(test)]
 mod refusals;
 #[cfg(test)]

@@ -2,9 +2,9 @@
 
 use fault_messages::{explain, message};
 use graph_script::ScriptWhy;
-use pw_base::{Items, MemFiles, Memory, Which};
+use pw_base::{Items, Memory, Which};
 use pw_top::{PodWhy, Status};
-use row_files::{FileRow, Held, SURE, files_of, words_of};
+use row_files::words_of;
 use std::alloc::Global;
 use wav_files::WavFault;
 
@@ -69,23 +69,120 @@ const SCRIPTS: &'static [(ScriptWhy, &'static [u8], &'static [u8])] = &[
     (
         ScriptWhy::Byte,
         b"gain \x7f 1",
-        b"a byte that no script may have",
+        b"a byte that no script may have: 127, in column 6",
     ),
-    (ScriptWhy::Command, b"play on", b"\"play\" is no command"),
+    (
+        ScriptWhy::Byte,
+        b"\xef\xbb\xbfquantum 4",
+        b"a byte that no script may have: 239, in column 1",
+    ),
+    (
+        ScriptWhy::Command,
+        b"sorce v v.wav",
+        b"\"sorce\" is no command; did you mean \"source\"?",
+    ),
+    (
+        ScriptWhy::Command,
+        b"lnik a.out b.in",
+        b"\"lnik\" is no command; did you mean \"link\"?",
+    ),
+    (ScriptWhy::Command, b"foo on", b"\"foo\" is no command"),
     (
         ScriptWhy::Arguments,
         b"gain a",
-        b"too few words, or too many, for \"gain\"",
+        b"\"gain\" takes these words: gain NAME G",
+    ),
+    (
+        ScriptWhy::Arguments,
+        b"gain a 1 # loud",
+        b"\"gain\" takes these words: gain NAME G; a comment is a line of its own",
+    ),
+    (
+        ScriptWhy::Arguments,
+        b"link a.out",
+        b"\"link\" takes these words: link A.PORT B.PORT",
+    ),
+    (
+        ScriptWhy::Arguments,
+        b"drain 3",
+        b"\"drain\" takes these words: drain",
     ),
     (
         ScriptWhy::Number,
         b"gain a 01",
-        b"a number is out of range, or has the wrong form, for \"gain\"",
+        b"\"01\": a gain is -32767 to 32767, in 1/256",
+    ),
+    (
+        ScriptWhy::Number,
+        b"square q 48000 2 0 9",
+        b"\"0\": PERIOD is 1 to 1000000 frames",
+    ),
+    (
+        ScriptWhy::Number,
+        b"square q 0 9 0 9",
+        b"\"0\": RATE is 1 to 384000 frames a second",
+    ),
+    (
+        ScriptWhy::Number,
+        b"square q 48000 2 1 -9",
+        b"\"-9\": AMP is 0 to 32767",
+    ),
+    (
+        ScriptWhy::Number,
+        b"mix2 m -8 40000",
+        b"\"40000\": a gain is -32767 to 32767, in 1/256",
+    ),
+    (
+        ScriptWhy::Number,
+        b"map p 2 1,2",
+        b"\"1,2\": LIST is 1 to 8 numbers from 0 to CHANNELS - 1, parted by single commas",
+    ),
+    (
+        ScriptWhy::Number,
+        b"map p 9 1",
+        b"\"9\": CHANNELS is 1 to 8",
+    ),
+    (
+        ScriptWhy::Number,
+        b"delay d 1e3",
+        b"\"1e3\": FRAMES is 0 to 65536",
+    ),
+    (
+        ScriptWhy::Number,
+        b"driver o -1",
+        b"\"-1\": PRIORITY is 0 to 1000000",
+    ),
+    (ScriptWhy::Number, b"loop g 16", b"\"16\": K is 0 to 15"),
+    (ScriptWhy::Number, b"buffers g out 9", b"\"9\": N is 1 to 8"),
+    (
+        ScriptWhy::Number,
+        b"quantum 0",
+        b"\"0\": N is 1 to 8192 frames",
+    ),
+    (
+        ScriptWhy::Number,
+        b"cycles ten",
+        b"\"ten\": N is 1 to 1000000",
     ),
     (
         ScriptWhy::NameForm,
         b"gain A 1",
-        b"a name, a port or a file word has the wrong form, for \"gain\"",
+        b"\"A\": a name is a lower-case letter and up to 30 of a to z, 0 to 9 and _",
+    ),
+    (
+        ScriptWhy::NameForm,
+        b"source my-voice v.wav",
+        b"\"my-voice\": a name is a lower-case letter and up to 30 of a to z, 0 to 9 and _",
+    ),
+    (
+        ScriptWhy::NameForm,
+        b"link a.out o",
+        b"\"o\": an end is NODE.PORT",
+    ),
+    (
+        ScriptWhy::NameForm,
+        b"link a.out.x o.in",
+        b"\"a.out.x\": an end is NODE.PORT",
     ),
     (
         ScriptWhy::NameTaken,
@@ -110,7 +207,22 @@ const SCRIPTS: &'static [(ScriptWhy, &'static [u8], &'static [u8])] = &[
     (
         ScriptWhy::PortUnknown,
         b"unlink a.in\ta.in",
-        b"\"a.in\" is no output, or \"a.in\" no input",
+        b"\"a.in\" is no output; outputs are out, and left and right of a split",
+    ),
+    (
+        ScriptWhy::PortUnknown,
+        b"link o.in s.out",
+        b"\"o.in\" is no output and \"s.out\" no input; a link goes from an output to an input",
+    ),
+    (
+        ScriptWhy::PortUnknown,
+        b"link s.out g.out",
+        b"\"g.out\" is no input; inputs are in, and a and b of a mix2",
+    ),
+    (
+        ScriptWhy::PortUnknown,
+        b"link s.out m.in",
+        b"\"s.out\" is no output, or \"m.in\" no input",
     ),
     (
         ScriptWhy::QuantumLate,
@@ -547,6 +659,22 @@ const FILES: &'static [Said] = &[
     (OF_NONE, Status::Memory, b"no memory was left"),
 ];
 
+/// A name with control characters.
+const ODD: Said = (
+    Asked {
+        command: "dump a\x1b[31mb\x7f",
+        before: b"a\\x1b[31mb\\x7f: ",
+        ..OF_NONE
+    },
+    Status::Absent { place: 1 },
+    b"there is no such file",
+);
+
+#[test]
+fn control_characters_are_shown(rt: HostRuntime) {
+    assert_eq!(rt; said_unlike(rt.alloc(), &[ODD]), None);
+}
+
 #[test]
 fn files_in_words(rt: HostRuntime) {
     assert_eq!(rt; said_unlike(rt.alloc(), FILES), None);
@@ -582,6 +710,27 @@ const USAGES: &'static [Said] = &[
     ),
 ];
 
+/// Words that ask for help, and what it begins with.
+const HELP: &'static [&'static str] = &["", "-h", "--help", "--version now"];
+
+// The first words of which no help is said.
+fn help_unlike(alloc: Global, lines: &[&'static str]) -> Option<usize> {
+    for (place, line) in lines.iter().enumerate() {
+        let Ok(words) = words_of(alloc, line) else {
+            return Some(place);
+        };
+        match message(alloc, &Status::Usage { word: 0 }, words.as_slice(), None) {
+            Ok(text) => {
+                if !text.as_slice().starts_with(b"pipegraph 0.1: ".as_slice()) {
+                    return Some(place);
+                }
+            }
+            Err(_memory) => return Some(place),
+        }
+    }
+    None
+}
+
 // Whether nothing is said of a run that ends well.
 fn is_silent(alloc: Global) -> bool {
     match words_of(alloc, "run t.graph") {
@@ -593,38 +742,48 @@ fn is_silent(alloc: Global) -> bool {
 #[test]
 fn command_lines_in_words(rt: HostRuntime) {
     assert_eq!(rt; said_unlike(rt.alloc(), USAGES), None);
+    assert_eq!(rt; help_unlike(rt.alloc(), HELP), None);
     assert!(rt; is_silent(rt.alloc()));
 }
 
-// Whether a line that is wrong is looked up in these files.
-fn is_explained(alloc: Global, words: &[String], files: &mut MemFiles) -> bool {
-    let status = Status::Script {
-        line: 2,
-        why: ScriptWhy::NameUnknown,
-    };
-    match explain(alloc, files, words, &status) {
-        Ok(text) => {
-            text.as_slice() == b"pipegraph: t.graph:2: no node is called \"vox\"\n".as_slice()
-        }
-        Err(_memory) => false,
-    }
-}
-
 /// A script whose second line names no node.
-const VOX: &'static [FileRow<'static>] = &[("t.graph", Held::Bytes(b"gain a 1\non vox\n"))];
+const VOX: &'static [u8] = b"gain a 1\non vox\n";
 
-// Whether a line that is wrong is looked up in its script.
-fn is_looked_up(alloc: Global) -> bool {
-    let Ok(words) = words_of(alloc, "run t.graph") else {
+// Whether a status of these words is told so, where the run read that script.
+fn is_explained(alloc: Global, command: &str, status: Status, said: &[u8]) -> bool {
+    let Ok(words) = words_of(alloc, command) else {
         return false;
     };
-    match files_of(alloc, b"", VOX, SURE) {
-        Ok(mut files) => is_explained(alloc, words.as_slice(), &mut files),
+    match explain(alloc, &status, words.as_slice(), Some(VOX)) {
+        Ok(text) => text.as_slice() == said,
         Err(_memory) => false,
     }
 }
 
 #[test]
-fn the_line_is_looked_up_in_the_script(rt: HostRuntime) {
-    assert!(rt; is_looked_up(rt.alloc()));
+fn the_line_is_that_of_the_script_that_was_read(rt: HostRuntime) {
+    let unknown = Status::Script {
+        line: 2,
+        why: ScriptWhy::NameUnknown,
+    };
+    assert!(rt;
+        is_explained(
+            rt.alloc(),
+            "run t.graph",
+            unknown,
+            b"pipegraph: t.graph:2: no node is called \"vox\"\n"
+        )
+    );
+}
+
+#[test]
+fn a_word_is_no_line(rt: HostRuntime) {
+    assert!(rt;
+        is_explained(
+            rt.alloc(),
+            "dump x.pod",
+            Status::Absent { place: 1 },
+            b"pipegraph: x.pod: there is no such file\n"
+        )
+    );
 }

@@ -1,7 +1,16 @@
+pub mod ByteFaults
+pub mod CommandForms
+pub mod Escaping
 pub mod Explaining
 pub mod FileMessages
+pub mod Help
 pub mod Message
+pub mod NameRules
+pub mod Nearest
+pub mod Nearness
+pub mod NumberRules
 pub mod Places
 pub mod PodMessages
+pub mod PortEnds
 pub mod ScriptMessages
 pub mod ScriptWords

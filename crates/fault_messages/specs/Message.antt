@@ -1,11 +1,12 @@
 -- The sentence that a status is told in, for people. This project's.
-use Rattle.std.specs.Prelude.{ℕ, ◌==◌, Bool, nat_lt, if◌then◌else◌, List, [], ◌++◌, length, codes, Option}
+use Rattle.std.specs.Prelude.{ℕ, ◌==◌, ◌||◌, Bool, false, bytes_eq, nat_lt, if◌then◌else◌, List, [], ◌++◌, length, codes, decimal, Option, Some, None}
 use Rattle.pw_top.specs.declared.status.Status.{Status}
 use Rattle.pw_top.specs.declared.status.Status.TheVariants as S
 use Rattle.fault_messages.specs.Places.{word, place_text, file_part, quoted}
 use Rattle.fault_messages.specs.ScriptMessages.{script_said}
 use Rattle.fault_messages.specs.PodMessages.{pod_said}
 use Rattle.fault_messages.specs.FileMessages.{wav_said, limit_text}
+use Rattle.fault_messages.specs.Help.{help}
 
 -- the words of all commands
 abbrev pub synopsis : List ℕ
@@ -42,6 +43,15 @@ sentence (S.WriteFault place) words line =
 sentence (S.Limit place which) words line = at_place words place (limit_text which line)
 sentence S.Memory words line = codes "no memory was left"
 
+-- where the words ask for help, or there are none: what the commands do
+abbrev pub is_help_word : List ℕ → Bool
+is_help_word w = bytes_eq w [] || (bytes_eq w (codes "-h") || (bytes_eq w (codes "--help")
+    || bytes_eq w (codes "--version")))
+
+abbrev pub asks_help : Status → List (List ℕ) → Bool
+asks_help (S.Usage i) words = is_help_word (word words 0)
+asks_help _ words = false
+
 -- what stands before it, and what follows
 abbrev pub before : Status → List ℕ
 before S.Ok = []
@@ -55,4 +65,15 @@ after _ = codes "\n"
 -- THE MESSAGE of a status, by the words and by the line of the script that is at fault, where it is
 -- at hand; nothing where all was done
 unfoldable pub message_of : Status → List (List ℕ) → Option (List ℕ) → List ℕ
-message_of status words line = before status ++ (sentence status words line ++ after status)
+message_of status words line =
+    if asks_help status words then help
+    else before status ++ (sentence status words line ++ after status)
+
+-- the message of words that could not be read: the first that is no text, counted from 1; or none
+-- was found, and memory was short
+abbrev pub no_text : ℕ → List ℕ
+no_text n = codes "pipegraph: word " ++ (decimal n ++ codes " is not text in UTF-8\n")
+
+abbrev pub words_message : Option ℕ → List ℕ
+words_message None = codes "pipegraph: no memory was left\n"
+words_message (Some n) = no_text n

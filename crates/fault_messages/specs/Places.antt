@@ -3,6 +3,7 @@ use Rattle.std.specs.Prelude.{ℕ, ◌==◌, ◌-◌, ◌&&◌, ◌||◌, not, B
 use Rattle.std.specs.Prelude.{codes, decimal, bytes_eq, slice_get, slice_index_or, Option, Some, None}
 use Rattle.graph_script.specs.Lexical.{lines_of, words_of}
 use Rattle.pw_top.specs.Check.{trace_place}
+use Rattle.fault_messages.specs.Escaping.{escaped}
 
 -- a word by its index; nothing where there is none
 abbrev pub word : List (List ℕ) → ℕ → List ℕ
@@ -19,13 +20,13 @@ is_line words place = reads_script words && not (place == 0) && not (place == tr
 -- a place as people write it: `FILE:LINE`, or the file alone
 abbrev pub script_place : List (List ℕ) → ℕ → List ℕ
 script_place words place =
-    if place == 0 then word words 1
-    else (if place == trace_place then word words 2
-    else (word words 1 ++ (codes ":" ++ decimal place)))
+    if place == 0 then escaped (word words 1)
+    else (if place == trace_place then escaped (word words 2)
+    else (escaped (word words 1) ++ (codes ":" ++ decimal place)))
 
 abbrev pub place_text : List (List ℕ) → ℕ → List ℕ
 place_text words place =
-    if reads_script words then script_place words place else word words place
+    if reads_script words then script_place words place else escaped (word words place)
 
 -- the line of a script, counted from 1
 abbrev pub line_at : List ℕ → ℕ → Option (List ℕ)
@@ -43,4 +44,4 @@ file_part (Some line) = file_word (words_of line) ++ codes ": "
 
 -- a word in quotes
 unfoldable pub quoted : List ℕ → List ℕ
-quoted w = codes "\"" ++ w ++ codes "\""
+quoted w = codes "\"" ++ escaped w ++ codes "\""

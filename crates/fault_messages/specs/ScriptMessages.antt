@@ -1,57 +1,80 @@
 -- Why a script is refused, in words. The script grammar and the sentences are this project's.
-use Rattle.std.specs.Prelude.{ℕ, ◌||◌, Bool, if◌then◌else◌, List, [], ◌++◌, codes, bytes_eq, Option, Some, None}
+use Rattle.std.specs.Prelude.{ℕ, ◌==◌, ◌||◌, Bool, if◌then◌else◌, List, [], ◌++◌, codes, bytes_eq, Option, Some, None}
+use Rattle.std.specs.List.{list_any}
 use Rattle.graph_script.specs.Lexical.{words_of}
 use Rattle.graph_script.specs.declared.fault.ScriptWhy.{ScriptWhy}
 use Rattle.graph_script.specs.declared.fault.ScriptWhy.TheVariants as F
+use Rattle.fault_messages.specs.ByteFaults.{byte_said}
+use Rattle.fault_messages.specs.CommandForms.{form_of}
 use Rattle.fault_messages.specs.FileMessages.{limit_said}
+use Rattle.fault_messages.specs.NameRules.{is_pair, name_place, name_rule}
+use Rattle.fault_messages.specs.Nearest.{meant}
+use Rattle.fault_messages.specs.NumberRules.{number_place, number_rule}
 use Rattle.fault_messages.specs.Places.{word, quoted}
-use Rattle.fault_messages.specs.ScriptWords.{of_word}
+use Rattle.fault_messages.specs.PortEnds.{port_said}
+use Rattle.fault_messages.specs.ScriptWords.{script_text, of_word}
 
--- where the line is not at hand
-abbrev pub script_text : ScriptWhy → List ℕ
-script_text F.Byte = codes "a byte that no script may have"
-script_text F.Command = codes "the first word is no command"
-script_text F.Arguments = codes "too few words, or too many"
-script_text F.Number = codes "a number is out of range, or has the wrong form"
-script_text F.NameForm = codes "a name, a port or a file word has the wrong form"
-script_text F.NameTaken = codes "the name is taken"
-script_text F.NameUnknown = codes "no node has this name"
-script_text F.PortUnknown = codes "the node has no such port"
-script_text F.QuantumLate = codes "quantum must stand before every other command"
-script_text F.NotDriverKind = codes "only a sink or a meter may drive"
-script_text F.OfferLate = codes "offers must stand before the links of their node"
-script_text (F.TooMany which) = limit_said which
-script_text F.AsyncLate = codes "async must stand before the links of its node"
+-- a word that is no command, with the one that is meant
+abbrev pub command_text : List ℕ → Option (List ℕ) → List ℕ
+command_text name None = quoted name ++ codes " is no command"
+command_text name (Some other) =
+    quoted name ++ (codes " is no command; did you mean " ++ (quoted other ++ codes "?"))
 
--- a line with two ports
-abbrev pub is_pair : List (List ℕ) → Bool
-is_pair words = bytes_eq (word words 0) (codes "link") || bytes_eq (word words 0) (codes "unlink")
+abbrev pub command_said : List ℕ → List ℕ
+command_said name = command_text name (meant name)
 
--- the two words behind the first, with what stands between and behind them
-abbrev pub pair_text : List (List ℕ) → List ℕ → List ℕ → List ℕ
-pair_text words between behind =
-    quoted (word words 1) ++ (between ++ (quoted (word words 2) ++ behind))
+-- the form of a command, where a line has another number of words
+abbrev pub form_part : Option (List ℕ) → List ℕ
+form_part None = []
+form_part (Some form) = form
 
+abbrev pub comment_part : List ℕ → List ℕ
+comment_part line =
+    if list_any (λ b. b == 0x23) line then codes "; a comment is a line of its own" else []
+
+abbrev pub form_said : List ℕ → List ℕ → List ℕ
+form_said name line = quoted name
+    ++ (codes " takes these words: " ++ (form_part (form_of name) ++ comment_part line))
+
+-- a word and what it has to be
+abbrev pub rule_said : List ℕ → List ℕ → List ℕ
+rule_said w rule = quoted w ++ (codes ": " ++ rule)
+
+abbrev pub number_said : List (List ℕ) → List ℕ
+number_said ws =
+    rule_said (word ws (number_place ws)) (number_rule (word ws 0) (number_place ws))
+
+abbrev pub name_said : List (List ℕ) → List ℕ
+name_said ws = rule_said (word ws (name_place ws)) (name_rule ws (name_place ws))
+
+-- a name or a port that is not there
 abbrev pub unknown_name : List (List ℕ) → List ℕ
-unknown_name words =
-    if is_pair words then pair_text words (codes " or ") (codes " names no node")
-    else (codes "no node is called " ++ quoted (word words 1))
+unknown_name ws =
+    if is_pair ws
+    then quoted (word ws 1) ++ (codes " or " ++ (quoted (word ws 2) ++ codes " names no node"))
+    else (codes "no node is called " ++ quoted (word ws 1))
+
+abbrev pub no_port : List ℕ → List ℕ → List ℕ
+no_port name port = quoted name ++ (codes " has no port " ++ quoted port)
 
 abbrev pub unknown_port : List (List ℕ) → List ℕ
-unknown_port words =
-    if is_pair words then pair_text words (codes " is no output, or ") (codes " no input")
-    else pair_text words (codes " has no port ") []
+unknown_port ws =
+    if is_pair ws then port_said (word ws 1) (word ws 2) else no_port (word ws 1) (word ws 2)
 
--- with the words of the line
-abbrev pub named_text : ScriptWhy → List (List ℕ) → List ℕ
-named_text F.Byte words = script_text F.Byte
-named_text F.QuantumLate words = script_text F.QuantumLate
-named_text (F.TooMany which) words = limit_said which
-named_text F.NameUnknown words = unknown_name words
-named_text F.PortUnknown words = unknown_port words
-named_text why words = of_word why words
+-- with the line
+abbrev pub named_text : ScriptWhy → List ℕ → List ℕ
+named_text F.Byte line = byte_said line
+named_text F.Command line = command_said (word (words_of line) 0)
+named_text F.Arguments line = form_said (word (words_of line) 0) line
+named_text F.Number line = number_said (words_of line)
+named_text F.NameForm line = name_said (words_of line)
+named_text F.QuantumLate line = script_text F.QuantumLate
+named_text (F.TooMany which) line = limit_said which
+named_text F.NameUnknown line = unknown_name (words_of line)
+named_text F.PortUnknown line = unknown_port (words_of line)
+named_text why line = of_word why (words_of line)
 
 -- WHY A LINE OF A SCRIPT IS REFUSED
 abbrev pub script_said : ScriptWhy → Option (List ℕ) → List ℕ
 script_said why None = script_text why
-script_said why (Some line) = named_text why (words_of line)
+script_said why (Some line) = named_text why line

@@ -1,12 +1,11 @@
 //! The message of a status, with the line of the script that it names.
-ghost use Rattle.std.specs.Prelude.{◌≡◌, ◌≤◌, Some, map, string_bytes, option_copied, IfOk};
-ghost use Rattle.fault_messages.specs.Message.{message_of};
-ghost use Rattle.fault_messages.specs.Explaining.{place_of, IsFound, IsLineOf, IsExplained};
+ghost use Rattle.std.specs.Prelude.{◌≡◌, map, string_bytes, option_copied, IfOk};
+ghost use Rattle.fault_messages.specs.Explaining.{place_of, line_in, line_named, explained};
 
 use crate::lines::line_at;
-use crate::places::{is_line, word_at};
+use crate::places::is_line;
 use crate::sentences::message;
-use pw_base::{FileFail, Files, Items, Loaded, Memory, SCRIPT_BYTES_LIMIT, Text};
+use pw_base::{Memory, Text};
 use pw_top::Status;
 use std::alloc::Global;
 
@@ -26,58 +25,50 @@ fn place_of(status: &Status) -> Option<u32>
     }
 }
 
-// A line of the script, which is loaded once more; none where that could not be.
-fn script_line<F: Files>(
-    alloc: Global,
-    files: &mut F,
-    words: &[String],
-    place: u32,
-) -> Result<Option<Text>, Memory>
-    ensures held { F.held files.new ≡ F.held files.old }
-    ensures later { F.load_faults files.old ≤ F.load_faults files.new }
-    ensures stores { F.store_faults files.new ≡ F.store_faults files.old }
-    ensures found { IfOk result
-        (IsFound (F.held files.old) (map string_bytes words.now) (Some place)) }
-    ensures shown { IfOk result (IsLineOf (F.held files.old) (map string_bytes words.now)
-        (F.load_faults files.old) (F.load_faults files.new) place) }
+// The line of a script, if its bytes are at hand and it has so many.
+fn line_in(script: Option<&[u8]>, place: u32) -> Option<&[u8]>
+    ensures { option_copied result ≡ line_in (option_copied script.entry) place }
 {
-    let name = Items::from_slice(alloc, word_at(words, 1))?;
-    match files.load(alloc, &name, SCRIPT_BYTES_LIMIT) {
-        Ok(Loaded::Whole(script)) => match line_at(script.as_slice(), place) {
-            None => Ok(None),
-            Some(line) => Ok(Some(Items::from_slice(alloc, line)?)),
-        },
-        Err(FileFail::Memory) => Err(Memory),
-        _ => Ok(None),
+    match script {
+        None => None,
+        Some(script) => line_at(script, place),
     }
 }
 
-/// The message of a status in words, by the words of the command line without the program's name.
-/// Where the status names a line of the script, the script is loaded once more, and the message has
-/// the names of that line; where it cannot be loaded, the place alone. Nothing where all was done.
-pub fn explain<F: Files>(
-    alloc: Global,
-    files: &mut F,
+// The line at a place, where that is a line of a script.
+fn line_named<'a>(
+    place: Option<u32>,
     words: &[String],
-    status: &Status,
-) -> Result<Text, Memory>
-    ensures held { F.held files.new ≡ F.held files.old }
-    ensures later { F.load_faults files.old ≤ F.load_faults files.new }
-    ensures stores { F.store_faults files.new ≡ F.store_faults files.old }
-    ensures text { IfOk result (IsExplained (F.held files.old) (F.load_faults files.old)
-        (F.load_faults files.new) status.now (map string_bytes words.now)) }
+    script: Option<&'a [u8]>,
+) -> Option<&'a [u8]>
+    ensures { option_copied result
+        ≡ line_named place (map string_bytes words.now) (option_copied script.entry) }
 {
-    match place_of(status) {
+    match place {
+        None => None,
         Some(place) => {
             if is_line(words, place) {
-                match script_line(alloc, files, words, place)? {
-                    Some(line) => message(alloc, status, words, Some(line.as_slice())),
-                    None => message(alloc, status, words, None),
-                }
+                line_in(script, place)
             } else {
-                message(alloc, status, words, None)
+                None
             }
         }
-        None => message(alloc, status, words, None),
     }
+}
+
+/// The message of a status in words, by the words of the command line without the program's name,
+/// and by the bytes of the script that the run read, where they are at hand. Where the status names
+/// a line of a script, the message has the names of that line. Nothing where all was done, and
+/// nothing is loaded.
+pub fn explain(
+    alloc: Global,
+    status: &Status,
+    words: &[String],
+    script: Option<&[u8]>,
+) -> Result<Text, Memory>
+    ensures { IfOk result (λ text. text
+        ≡ explained status.now (map string_bytes words.now) (option_copied script.entry)) }
+{
+    let line = line_named(place_of(status), words, script);
+    message(alloc, status, words, line)
 }

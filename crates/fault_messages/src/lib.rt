@@ -3,14 +3,23 @@
 //! of all commands.
 #![tactic(auto)]
 
+mod byte_faults;
+mod command_forms;
+mod escaping;
 mod explaining;
 mod file_messages;
+mod help;
 mod lines;
+mod name_rules;
+mod nearest;
+mod nearness;
+mod number_rules;
 mod places;
 mod pod_messages;
+mod port_ends;
 mod putting;
 mod script_messages;
 mod sentences;
 
 pub use explaining::explain;
-pub use sentences::message;
+pub use sentences::{message, words_message};

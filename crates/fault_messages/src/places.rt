@@ -3,6 +3,7 @@ ghost use Rattle.std.specs.Prelude.{◌≡◌, ◌++◌, map, string_bytes, opti
 ghost use Rattle.fault_messages.specs.Places.{word, reads_script, is_line, script_place, place_text, file_word, file_part};
 ghost use Rattle.graph_script.specs.Lexical.{words_of};
 
+use crate::escaping::put_escaped;
 use crate::lines::word_of;
 use pw_base::{Memory, Text, append_decimal};
 
@@ -40,12 +41,12 @@ fn put_script_place(text: &mut Text, words: &[String], place: u32) -> Result<(),
         (text.new ≡ text.old ++ script_place (map string_bytes words.now) place) }
 {
     if place == 0 {
-        return text.extend(word_at(words, 1));
+        return put_escaped(text, word_at(words, 1));
     }
     if place == TRACE_PLACE {
-        return text.extend(word_at(words, 2));
+        return put_escaped(text, word_at(words, 2));
     }
-    text.extend(word_at(words, 1))?;
+    put_escaped(text, word_at(words, 1))?;
     text.extend(b":")?;
     append_decimal(text, u64::from(place))
 }
@@ -58,7 +59,7 @@ pub fn put_place(text: &mut Text, words: &[String], place: u32) -> Result<(), Me
     if reads_script(words) {
         put_script_place(text, words, place)
     } else {
-        text.extend(word_at(words, place))
+        put_escaped(text, word_at(words, place))
     }
 }
 

@@ -1,13 +1,24 @@
 //! Why a line of a script is refused, in words.
-ghost use Rattle.std.specs.Prelude.{◌≡◌, ◌++◌, option_copied, OnOk};
+ghost use Rattle.std.specs.Prelude.{◌≡◌, ◌==◌, ◌++◌, option_copied, OnOk};
+ghost use Rattle.std.specs.List.{list_any};
 ghost use Rattle.graph_script.specs.Lexical.{words_of};
-ghost use Rattle.fault_messages.specs.ScriptMessages.{script_text, is_pair, pair_text, unknown_name, unknown_port};
+ghost use Rattle.fault_messages.specs.ScriptMessages.{command_text, command_said, form_part, comment_part, form_said};
+ghost use Rattle.fault_messages.specs.ScriptMessages.{rule_said, number_said, name_said, unknown_name};
+ghost use Rattle.fault_messages.specs.ScriptMessages.{no_port, unknown_port};
 ghost use Rattle.fault_messages.specs.ScriptMessages.{named_text, script_said};
-ghost use Rattle.fault_messages.specs.ScriptWords.{fault_word, said_before, said_behind, of_word};
+ghost use Rattle.fault_messages.specs.CommandForms.{form_of};
+ghost use Rattle.fault_messages.specs.Nearest.{meant};
+ghost use Rattle.fault_messages.specs.ScriptWords.{script_text, said_before, said_behind, of_word};
 
+use crate::byte_faults::put_byte;
+use crate::command_forms::form_of;
 use crate::file_messages::limit_said;
 use crate::lines::word_of;
-use crate::putting::{put_before, put_behind};
+use crate::name_rules::{is_pair, name_place, name_rule};
+use crate::nearest::meant;
+use crate::number_rules::{number_place, number_rule};
+use crate::port_ends::put_ports;
+use crate::putting::{put_before, put_behind, put_quoted_pair, put_quoted_rule, put_two_quoted};
 use graph_script::ScriptWhy;
 use pw_base::{Memory, Text};
 
@@ -32,61 +43,115 @@ fn script_text(why: ScriptWhy) -> &'static [u8]
     }
 }
 
-// Whether the line has two ports.
-fn is_pair(line: &[u8]) -> bool
-    ensures { result ≡ is_pair (words_of line.now) }
+// That the word is no command, and which one is meant, if one is near.
+fn put_command(text: &mut Text, name: &[u8]) -> Result<(), Memory>
+    ensures { OnOk result (text.new ≡ text.old ++ command_said name.now) }
 {
-    let name = word_of(line, 0);
-    name == b"link".as_slice() || name == b"unlink".as_slice()
+    match meant(name) {
+        None => put_behind(text, name, b" is no command"),
+        Some(other) => { put_two_quoted(text, name, b" is no command; did you mean ", other, b"?") }
+    }
 }
 
-// The two words behind the first, with what stands between and behind them.
-fn put_pair(text: &mut Text, line: &[u8], between: &[u8], behind: &[u8]) -> Result<(), Memory>
-    ensures { OnOk result
-        (text.new ≡ text.old ++ pair_text (words_of line.now) between.now behind.now) }
+// The form of a command; nothing where there is no such command.
+fn form_part(name: &[u8]) -> &'static [u8]
+    ensures { result.now ≡ form_part (form_of name.now) }
 {
-    put_behind(text, word_of(line, 1), between)?;
-    put_behind(text, word_of(line, 2), behind)
+    match form_of(name) {
+        None => b"".as_slice(),
+        Some(form) => form,
+    }
+}
+
+// Whether a number sign stands in the line.
+fn has_number_sign(line: &[u8]) -> bool
+    ensures { result ≡ list_any (λ b. b == 0x23) line.now }
+{
+    line.iter().any(|b| *b == b'#')
+}
+
+// That comments stand alone, where the line may end in one.
+fn comment_part(line: &[u8]) -> &'static [u8]
+    ensures { result.now ≡ comment_part line.now }
+{
+    if has_number_sign(line) {
+        b"; a comment is a line of its own"
+    } else {
+        b""
+    }
+}
+
+fn put_form(text: &mut Text, name: &[u8], line: &[u8]) -> Result<(), Memory>
+    ensures { OnOk result (text.new ≡ text.old ++ form_said name.now line.now) }
+{
+    put_quoted_rule(
+        text,
+        name,
+        b" takes these words: ",
+        form_part(name),
+        comment_part(line),
+    )
+}
+
+// A word and what it has to be.
+fn put_rule(text: &mut Text, word: &[u8], rule: &[u8]) -> Result<(), Memory>
+    ensures { OnOk result (text.new ≡ text.old ++ rule_said word.now rule.now) }
+{
+    put_behind(text, word, b": ")?;
+    text.extend(rule)
+}
+
+fn put_bad_number(text: &mut Text, line: &[u8]) -> Result<(), Memory>
+    ensures { OnOk result (text.new ≡ text.old ++ number_said (words_of line.now)) }
+{
+    let place = number_place(line);
+    put_rule(
+        text,
+        word_of(line, place),
+        number_rule(word_of(line, 0), place),
+    )
+}
+
+fn put_bad_name(text: &mut Text, line: &[u8]) -> Result<(), Memory>
+    ensures { OnOk result (text.new ≡ text.old ++ name_said (words_of line.now)) }
+{
+    let place = name_place(line);
+    put_rule(text, word_of(line, place), name_rule(line, place))
 }
 
 fn put_unknown_name(text: &mut Text, line: &[u8]) -> Result<(), Memory>
     ensures { OnOk result (text.new ≡ text.old ++ unknown_name (words_of line.now)) }
 {
+    let (first, second) = (word_of(line, 1), word_of(line, 2));
     if is_pair(line) {
-        put_pair(text, line, b" or ", b" names no node")
+        put_two_quoted(text, first, b" or ", second, b" names no node")
     } else {
-        put_before(text, b"no node is called ", word_of(line, 1))
+        put_before(text, b"no node is called ", first)
     }
+}
+
+fn put_no_port(text: &mut Text, name: &[u8], port: &[u8]) -> Result<(), Memory>
+    ensures { OnOk result (text.new ≡ text.old ++ no_port name.now port.now) }
+{
+    put_quoted_pair(text, name, b" has no port ", port)
 }
 
 fn put_unknown_port(text: &mut Text, line: &[u8]) -> Result<(), Memory>
     ensures { OnOk result (text.new ≡ text.old ++ unknown_port (words_of line.now)) }
 {
+    let (first, second) = (word_of(line, 1), word_of(line, 2));
     if is_pair(line) {
-        put_pair(text, line, b" is no output, or ", b" no input")
+        put_ports(text, first, second)
     } else {
-        put_pair(text, line, b" has no port ", b"")
+        put_no_port(text, first, second)
     }
 }
 
-// Which word of the line is at fault.
-fn fault_word(why: ScriptWhy) -> u32
-    ensures { result ≡ fault_word why }
-{
-    match why {
-        ScriptWhy::Command | ScriptWhy::Arguments | ScriptWhy::Number | ScriptWhy::NameForm => 0,
-        _ => 1,
-    }
-}
-
-// What is said before that word.
+// What is said before the word behind the command.
 fn said_before(why: ScriptWhy) -> &'static [u8]
     ensures { result.now ≡ said_before why }
 {
     match why {
-        ScriptWhy::Arguments => b"too few words, or too many, for ",
-        ScriptWhy::Number => b"a number is out of range, or has the wrong form, for ",
-        ScriptWhy::NameForm => b"a name, a port or a file word has the wrong form, for ",
         ScriptWhy::NameTaken => b"the name is taken: ",
         ScriptWhy::OfferLate => b"offers must stand before the links of their node: ",
         ScriptWhy::AsyncLate => b"async must stand before the links of its node: ",
@@ -99,7 +164,6 @@ fn said_behind(why: ScriptWhy) -> &'static [u8]
     ensures { result.now ≡ said_behind why }
 {
     match why {
-        ScriptWhy::Command => b" is no command",
         ScriptWhy::NotDriverKind => b" is neither a sink nor a meter, and cannot drive",
         _ => b"",
     }
@@ -109,17 +173,20 @@ fn put_word(text: &mut Text, why: ScriptWhy, line: &[u8]) -> Result<(), Memory>
     ensures { OnOk result (text.new ≡ text.old ++ of_word why (words_of line.now)) }
 {
     text.extend(said_before(why))?;
-    put_behind(text, word_of(line, fault_word(why)), said_behind(why))
+    put_behind(text, word_of(line, 1), said_behind(why))
 }
 
-// Why, with the words of the line.
+// Why, with the line.
 fn put_named(text: &mut Text, why: ScriptWhy, line: &[u8]) -> Result<(), Memory>
-    ensures { OnOk result (text.new ≡ text.old ++ named_text why (words_of line.now)) }
+    ensures { OnOk result (text.new ≡ text.old ++ named_text why line.now) }
 {
     match why {
-        ScriptWhy::Byte | ScriptWhy::QuantumLate | ScriptWhy::TooMany(_) => {
-            text.extend(script_text(why))
-        }
+        ScriptWhy::Byte => put_byte(text, line),
+        ScriptWhy::Command => put_command(text, word_of(line, 0)),
+        ScriptWhy::Arguments => put_form(text, word_of(line, 0), line),
+        ScriptWhy::Number => put_bad_number(text, line),
+        ScriptWhy::NameForm => put_bad_name(text, line),
+        ScriptWhy::QuantumLate | ScriptWhy::TooMany(_) => text.extend(script_text(why)),
         ScriptWhy::NameUnknown => put_unknown_name(text, line),
         ScriptWhy::PortUnknown => put_unknown_port(text, line),
         _ => put_word(text, why, line),

@@ -1,12 +1,14 @@
 //! The message of a status.
 ghost use Rattle.std.specs.Prelude.{◌≡◌, ◌++◌, [], codes, map, string_bytes, option_copied, OnOk, IfOk};
 ghost use Rattle.fault_messages.specs.Places.{place_text, file_part};
-ghost use Rattle.fault_messages.specs.Message.{synopsis, usage_text, at_place, sentence, before, after, message_of};
+ghost use Rattle.fault_messages.specs.Message.{is_help_word, asks_help};
+ghost use Rattle.fault_messages.specs.Message.{synopsis, usage_text, at_place, sentence, before, after, message_of, words_message};
 
 use crate::file_messages::{put_limit, wav_said};
+use crate::help::help;
 use crate::places::{put_file, put_place, word_at};
 use crate::pod_messages::put_pod;
-use crate::putting::put_before;
+use crate::putting::{put_before, put_number};
 use crate::script_messages::put_script;
 use pw_base::{Items, Memory, Text};
 use pw_top::Status;
@@ -123,8 +125,29 @@ fn after(status: &Status) -> &'static [u8]
     }
 }
 
+// Whether a word asks for help, or is missing.
+fn is_help_word(word: &[u8]) -> bool
+    ensures { result ≡ is_help_word word.now }
+{
+    word == b"".as_slice()
+        || word == b"-h".as_slice()
+        || word == b"--help".as_slice()
+        || word == b"--version".as_slice()
+}
+
+// Whether the words ask for help.
+fn asks_help(status: &Status, words: &[String]) -> bool
+    ensures { result ≡ asks_help status.now (map string_bytes words.now) }
+{
+    match status {
+        Status::Usage { .. } => is_help_word(word_at(words, 0)),
+        _ => false,
+    }
+}
+
 /// The message of a status in words, by the words of the command line without the program's name,
-/// and by the line of the script that is at fault, where it is at hand. Nothing where all was done.
+/// and by the line of the script that is at fault, where it is at hand; what the commands do, where
+/// the words ask for help. Nothing where all was done.
 #[tactic(auto, unfolding(crate::specs::Message::message_of))]
 pub fn message(
     alloc: Global,
@@ -135,9 +158,31 @@ pub fn message(
     ensures { IfOk result (λ text. text
         ≡ message_of status.now (map string_bytes words.now) (option_copied line.entry)) }
 {
+    if asks_help(status, words) {
+        return Items::from_slice(alloc, help());
+    }
     let mut text = Items::new(alloc);
     text.extend(before(status))?;
     put_sentence(&mut text, status, words, line)?;
     text.extend(after(status))?;
+    Ok(text)
+}
+
+fn put_words_message(text: &mut Text, word: Option<u32>) -> Result<(), Memory>
+    ensures { OnOk result (text.new ≡ text.old ++ words_message word) }
+{
+    match word {
+        None => text.extend(b"pipegraph: no memory was left\n"),
+        Some(n) => put_number(text, b"pipegraph: word ", n, b" is not text in UTF-8\n"),
+    }
+}
+
+/// The message of words that could not be read: the first that is no text, counted from 1, or that
+/// no memory was left.
+pub fn words_message(alloc: Global, word: Option<u32>) -> Result<Text, Memory>
+    ensures { IfOk result (λ text. text ≡ words_message word) }
+{
+    let mut text = Items::new(alloc);
+    put_words_message(&mut text, word)?;
     Ok(text)
 }

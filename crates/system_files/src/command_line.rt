@@ -2,9 +2,10 @@
 
 use pw_base::Items;
 use std::alloc::Global;
-use std::env;
+use std::env::FillError;
 use std::io::ErrorKind;
 use std::rt::Env;
+use std::{env, str};
 
 // Ends where the words are no text, and where there is no memory for them.
 const NO_TEXT: u8 = 1;
@@ -32,4 +33,32 @@ pub fn words_of<R: Env + Alloc<A = Global>>(rt: &R) -> Result<Items<String>, u8>
             }
         }
     }
+}
+
+// The longest word that Linux gives a program, with the byte behind it.
+const LONGEST_WORD: usize = 131_072;
+
+// Whether the word of this number is no text; none where there are not so many words.
+fn is_without_text<R: Env>(rt: &R, number: u32, room: &mut [u8]) -> Option<bool> {
+    match rt.arg(number as usize, room) {
+        Ok(len) => Some(str::from_utf8(&room[..len]).is_err()),
+        Err(FillError::TooLong) => Some(false),
+        Err(FillError::NotPresent) => None,
+    }
+}
+
+/// The first word behind the program's own name that is no text in UTF-8, counted from 1. None
+/// where all are text, and where there is no memory to read them.
+pub fn first_without_text<R: Env + Alloc<A = Global>>(rt: &R) -> Option<u32> {
+    let Ok(mut room) = Items::filled(rt.alloc(), LONGEST_WORD, 0) else {
+        return None;
+    };
+    for number in 1..u32::MAX {
+        match is_without_text(rt, number, room.as_mut_slice()) {
+            None => return None,
+            Some(true) => return Some(number),
+            Some(false) => {}
+        }
+    }
+    None
 }

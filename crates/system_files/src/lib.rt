@@ -6,6 +6,6 @@ mod command_line;
 mod disk_files;
 mod std_sink;
 
-pub use command_line::words_of;
+pub use command_line::{first_without_text, words_of};
 pub use disk_files::DiskFiles;
 pub use std_sink::StdSink;

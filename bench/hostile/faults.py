@@ -1,0 +1,130 @@
+"""Faults that people make, each with its sentence; and scripts that can be read only once."""
+import os
+import subprocess
+import threading
+
+from messages import told
+
+START = "quantum 4\nsquare s 48000 1 4 9\nsink o o.wav\ngain g 256\nmix2 m 256 256\nsplit t\n"
+
+NAME = "a name is a lower-case letter and up to 30 of a to z, 0 to 9 and _"
+GAIN = "a gain is -32767 to 32767, in 1/256"
+RATE = "RATE is 1 to 384000 frames a second"
+OUTPUTS = "is no output; outputs are out, and left and right of a split"
+INPUTS = "is no input; inputs are in, and a and b of a mix2"
+ALONE = "; a comment is a line of its own"
+
+# A line behind START, its why, and what is said of it.
+LINES = [
+    ("gain g2 1\x01", 1, "a byte that no script may have: 1, in column 10"),
+    ("gain g2 1\x7f", 1, "a byte that no script may have: 127, in column 10"),
+    ("# caf\u00e9", 1, "a byte that no script may have: 195, in column 6"),
+    ("\ufeffgain g2 1", 1, "a byte that no script may have: 239, in column 1"),
+    ("sorce v v.wav", 2, '"sorce" is no command; did you mean "source"?'),
+    ("suorce v v.wav", 2, '"suorce" is no command; did you mean "source"?'),
+    ("Gain v 1", 2, '"Gain" is no command; did you mean "gain"?'),
+    ("lnik s.out o.in", 2, '"lnik" is no command; did you mean "link"?'),
+    ("connect s.out o.in", 2, '"connect" is no command'),
+    ("cycle 3", 2, '"cycle" is no command; did you mean "cycles"?'),
+    ("links s.out o.in", 2, '"links" is no command; did you mean "link"?'),
+    ("// a comment", 2, '"//" is no command'),
+    ("gain v", 3, '"gain" takes these words: gain NAME G'),
+    ("gain v 1 2", 3, '"gain" takes these words: gain NAME G'),
+    ("gain v 1 # quiet", 3, '"gain" takes these words: gain NAME G' + ALONE),
+    ("drain # all", 3, '"drain" takes these words: drain' + ALONE),
+    ("source v my voice.wav", 3, '"source" takes these words: source NAME FILE'),
+    ("square q 48000 2 9", 3,
+     '"square" takes these words: square NAME RATE CHANNELS PERIOD AMP'),
+    ("link s.out", 3, '"link" takes these words: link A.PORT B.PORT'),
+    ("link s.out -> o.in", 3, '"link" takes these words: link A.PORT B.PORT'),
+    ("cycles", 3, '"cycles" takes these words: cycles N'),
+    ("meter", 3, '"meter" takes these words: meter NAME'),
+    ("offer o in", 3, '"offer" takes these words: offer NAME PORT FILE'),
+    ("gain v 0.5", 4, '"0.5": ' + GAIN), ("gain v +3", 4, '"+3": ' + GAIN),
+    ("gain v -6dB", 4, '"-6dB": ' + GAIN), ("gain v 01", 4, '"01": ' + GAIN),
+    ("gain v 32768", 4, '"32768": ' + GAIN), ("gain v -0", 4, '"-0": ' + GAIN),
+    ("mix2 v 1 x", 4, '"x": ' + GAIN), ("mix2 v x 1", 4, '"x": ' + GAIN),
+    ("square q 44.1k 2 9 9", 4, f'"44.1k": {RATE}'),
+    ("square q 0 2 9 9", 4, f'"0": {RATE}'),
+    ("square q 48000 9 9 9", 4, '"9": CHANNELS is 1 to 8'),
+    ("square q 48000 2 0 9", 4, '"0": PERIOD is 1 to 1000000 frames'),
+    ("square q 48000 2 9 32768", 4, '"32768": AMP is 0 to 32767'),
+    ("delay d -1", 4, '"-1": FRAMES is 0 to 65536'),
+    ("delay d 10ms", 4, '"10ms": FRAMES is 0 to 65536'),
+    ("map p 0 0", 4, '"0": CHANNELS is 1 to 8'),
+    ("map p 2 0,2", 4,
+     '"0,2": LIST is 1 to 8 numbers from 0 to CHANNELS - 1, parted by single commas'),
+    ("driver o 1000001", 4, '"1000001": PRIORITY is 0 to 1000000'),
+    ("loop g 16", 4, '"16": K is 0 to 15'), ("buffers g out 0", 4, '"0": N is 1 to 8'),
+    ("cycles 0", 4, '"0": N is 1 to 1000000'), ("quantum 8193", 4, '"8193": N is 1 to 8192 frames'),
+    ("gain my-gain 1", 5, f'"my-gain": {NAME}'), ("gain V 1", 5, f'"V": {NAME}'),
+    ("gain 2nd 1", 5, f'"2nd": {NAME}'), ("gain " + "a" * 32 + " 1", 5, f'"{"a" * 32}": {NAME}'),
+    ("link s o.in", 5, '"s": an end is NODE.PORT'),
+    ("link s.out o", 5, '"o": an end is NODE.PORT'),
+    ("link s.out o:in", 5, '"o:in": an end is NODE.PORT'),
+    ("source v " + "a" * 256, 5, f'"{"a" * 256}": a file word has at most 255 bytes'),
+    ("gain g 1", 6, 'the name is taken: "g"'), ("gain dummy 1", 6, 'the name is taken: "dummy"'),
+    ("on vox", 7, 'no node is called "vox"'), ("driver out 1", 7, 'no node is called "out"'),
+    ("link s.out oo.in", 7, '"s.out" or "oo.in" names no node'),
+    ("link o.in s.out", 8,
+     '"o.in" is no output and "s.out" no input; a link goes from an output to an input'),
+    ("link g.in o.in", 8, f'"g.in" {OUTPUTS}'), ("link s.out g.out", 8, f'"g.out" {INPUTS}'),
+    ("link t.out o.in", 8, '"t.out" is no output, or "o.in" no input'),
+    ("buffers o out 2", 8, '"o" has no port "out"'),
+    ("quantum 8", 9, "quantum must stand before every other command"),
+    ("driver g 1", 10, '"g" is neither a sink nor a meter, and cannot drive'),
+    ("link s.out o.in\nasync s", 14, 'async must stand before the links of its node: "s"'),
+]
+
+
+def lines(place):
+    """Lines that people get wrong."""
+    for text, why, sentence in LINES:
+        place.file("wrong.graph", (START + text + "\n").encode())
+        at = (START + text).count("\n") + 1
+        wanted = (2, f"script {at} {why}\n".encode(),
+                  f"pipegraph: wrong.graph:{at}: {sentence}\n".encode())
+        place.same(text, wanted, told(place, ["run", "wrong.graph"]))
+
+
+def once(place):
+    """Scripts that can be read only once."""
+    wrong = b"gain a 1\non vox\n"
+    said = b':2: no node is called "vox"\n'
+    wanted = 2, b"script 2 7\n"
+
+    def run(name, **how):
+        done = subprocess.run([place.program, "run", name], cwd=place.folder, timeout=1,
+                              stdout=subprocess.PIPE, stderr=subprocess.PIPE, **how)
+        return (done.returncode, done.stdout), done.stderr
+
+    pipe = os.path.join(place.folder, "pipe")
+    os.mkfifo(pipe)
+
+    def feed():
+        with open(pipe, "wb") as end:
+            end.write(wrong)
+
+    feeder = threading.Thread(target=feed)
+    feeder.start()
+    place.same("a named pipe", (wanted, b"pipegraph: pipe" + said), run("pipe"))
+    feeder.join()
+    place.same("standard input", (wanted, b"pipegraph: /dev/stdin" + said),
+               run("/dev/stdin", input=wrong))
+    place.file("wrong.graph", wrong)
+    done = subprocess.run(["bash", "-c", f'"{place.program}" run <(cat wrong.graph)'],
+                          cwd=place.folder, timeout=1, stdout=subprocess.PIPE,
+                          stderr=subprocess.PIPE)
+    place.same("a process", (wanted, True),
+               ((done.returncode, done.stdout), done.stderr.endswith(said)))
+    place.file("own.graph", "quantum 4\nsquare s 48000 1 4 9\nsink a own.graph\nsink o no/o.wav\n"
+               "link s.out a.in\nlink s.out o.in\ncycles 1\n")
+    place.same("a script that a sink overwrites",
+               ((7, b"write 4\n"), b"pipegraph: own.graph:4: no/o.wav: the file cannot be written\n"),
+               run("own.graph"))
+    no_text = subprocess.run([place.program, b"run", b"a\xff"], cwd=place.folder, timeout=1,
+                             stdout=subprocess.PIPE, stderr=subprocess.PIPE)
+    place.same("a word that is no text", (1, b"", b"pipegraph: word 2 is not text in UTF-8\n"),
+               (no_text.returncode, no_text.stdout, no_text.stderr))
+    place.same("control characters", b"pipegraph: a\\x1b[31mb\\x0a.graph: there is no such file\n",
+               told(place, ["run", "a\x1b[31mb\n.graph"])[2])

@@ -1,0 +1,97 @@
+//! What the program does with words, files, an output and an error output, all in memory.
+
+use pw_base::{MemSink, Memory};
+use pw_program::run_program;
+use row_files::{Faults, S_WAV, SCRIPT, SURE, files_of, words_of};
+use std::sync::Wait;
+use std::thread::Threads;
+
+/// A line of words over files, the number that it ends with, and what both outputs are given.
+#[derive(Clone, Copy, Drop)]
+struct Told {
+    line: &'static str,
+    script: &'static [u8],
+    faults: Faults,
+    code: u8,
+    out: &'static [u8],
+    errors: &'static [u8],
+    /// The put of the error output that fails, counted from 1, and how many bytes it takes.
+    failing: (u64, u64),
+}
+
+/// A script that names no node.
+const REFUSED: Told = Told {
+    line: "run s.graph",
+    script: b"gain a 1\non vox\n",
+    faults: SURE,
+    code: 2,
+    out: b"script 2 7\n",
+    errors: b"pipegraph: s.graph:2: no node is called \"vox\"\n",
+    failing: (0, 0),
+};
+
+/// A refusal, one whose sentence cannot be written, an accepted script, a script that its first
+/// sink overwrites before the store of the second fails, and words that are no command line.
+const ROWS: &'static [Told] = &[
+    REFUSED,
+    Told {
+        errors: b"pipegraph",
+        failing: (1, 9),
+        ..REFUSED
+    },
+    Told {
+        script: SCRIPT,
+        code: 0,
+        out: b"link s.out o.in 48000 1 2\nwrote o 4\n",
+        errors: b"",
+        ..REFUSED
+    },
+    Told {
+        script: b"quantum 2\nsource s s.wav\nsink a s.graph\nsink o o.wav\nlink s.out a.in\n\
+            link s.out o.in\ncycles 1\n",
+        faults: Faults {
+            store: (2, 0),
+            ..SURE
+        },
+        code: 7,
+        out: b"write 4\n",
+        errors: b"pipegraph: s.graph:4: o.wav: the file cannot be written\n",
+        ..REFUSED
+    },
+    Told {
+        line: "run s.graph --ticks 7",
+        ..REFUSED
+    },
+];
+
+// Whether a row comes out as wanted.
+fn comes_out<R: Threads + Wait + Sync + AllocGlobal>(rt: &R, told: Told) -> Result<bool, Memory> {
+    let alloc = rt.alloc();
+    let words = words_of(alloc, told.line)?;
+    let files = files_of(alloc, told.script, &[S_WAV], told.faults)?;
+    let mut out = MemSink::new(alloc)?;
+    let mut errors = MemSink::new(alloc)?;
+    errors.fail_put(alloc, told.failing.0, told.failing.1)?;
+    let ended = run_program(rt, alloc, words.as_slice(), files, &mut out, &mut errors);
+    Ok(
+        ended.code == told.code
+            && out.bytes().as_slice() == told.out
+            && errors.bytes().as_slice() == told.errors,
+    )
+}
+
+// The first row that does not come out as wanted.
+fn first_unlike<R: Threads + Wait + Sync + AllocGlobal>(rt: &R, rows: &[Told]) -> Option<usize> {
+    for (place, told) in rows.iter().enumerate() {
+        match comes_out(rt, *told) {
+            Ok(true) => {}
+            _ => return Some(place),
+        }
+    }
+    None
+}
+
+#[test]
+fn programs_end_and_say_why(rt: HostRuntime) {
+    assert_eq!(rt; first_unlike(&rt, ROWS), None);
+}

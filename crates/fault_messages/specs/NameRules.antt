@@ -1,0 +1,50 @@
+-- Which word of a line has the form of no name, end or file, and what it has to be. The forms are
+-- this project's.
+use Rattle.std.specs.Prelude.{ℕ, ◌==◌, ◌||◌, ◌&&◌, not, Bool, List, [], ◌∷◌, take, drop, length, nat_lt, codes, bytes_eq, if◌then◌else◌}
+use Rattle.std.specs.List.{position_or_len}
+use Rattle.graph_script.specs.Arguments.{is_node_name, is_dot}
+use Rattle.fault_messages.specs.Places.{word}
+
+-- a line with two ends
+abbrev pub is_pair : List (List ℕ) → Bool
+is_pair ws = bytes_eq (word ws 0) (codes "link") || bytes_eq (word ws 0) (codes "unlink")
+
+-- an end: a name, one dot and a port; where its first dot stands, and what is before and behind it
+abbrev pub dot_place : List ℕ → ℕ
+dot_place w = position_or_len is_dot w
+
+abbrev pub end_name : List ℕ → List ℕ
+end_name w = take (dot_place w) w
+
+abbrev pub behind_first : List ℕ → List ℕ
+behind_first [] = []
+behind_first (dot ∷ rest) = rest
+
+abbrev pub end_port : List ℕ → List ℕ
+end_port w = behind_first (drop (dot_place w) w)
+
+abbrev pub has_dot : List ℕ → Bool
+has_dot w = nat_lt (dot_place w) (length w)
+
+abbrev pub is_end : List ℕ → Bool
+is_end w = has_dot w && (not (has_dot (end_port w)) && is_node_name (end_name w))
+
+-- the place of a file word, or that of the name where there is none
+abbrev pub file_place : List ℕ → ℕ
+file_place name =
+    if bytes_eq name (codes "offer") then 3
+    else (if bytes_eq name (codes "source") || bytes_eq name (codes "sink") then 2 else 1)
+
+-- the first word that has another form
+abbrev pub name_place : List (List ℕ) → ℕ
+name_place ws =
+    if is_pair ws then (if is_end (word ws 1) then 2 else 1)
+    else (if is_node_name (word ws 1) then file_place (word ws 0) else 1)
+
+-- what it has to be
+abbrev pub name_rule : List (List ℕ) → ℕ → List ℕ
+name_rule ws place =
+    if is_pair ws then codes "an end is NODE.PORT"
+    else (if place == 1
+    then codes "a name is a lower-case letter and up to 30 of a to z, 0 to 9 and _"
+    else codes "a file word has at most 255 bytes")

@@ -1,0 +1,134 @@
+//! Which word of a line has the form of no name, end or file, and what it has to be.
+ghost use Rattle.std.specs.Prelude.{◌≡◌, ◌≤◌, length};
+ghost use Rattle.std.specs.List.{list_all};
+ghost use Rattle.graph_script.specs.Lexical.{words_of};
+ghost use Rattle.graph_script.specs.Arguments.{is_letter, is_digit, is_name_byte, is_node_name};
+ghost use Rattle.fault_messages.specs.NameRules.{is_pair, dot_place, end_name, end_port, has_dot, is_end};
+ghost use Rattle.fault_messages.specs.NameRules.{file_place, name_place, name_rule};
+
+use crate::lines::word_of;
+
+/// How many bytes may follow the first of a name.
+const NAME_REST_LIMIT: usize = 30;
+
+fn is_letter(b: u8) -> bool
+    ensures { result ≡ is_letter b }
+{
+    matches!(b, b'a'..=b'z')
+}
+
+fn is_digit(b: u8) -> bool
+    ensures { result ≡ is_digit b }
+{
+    matches!(b, b'0'..=b'9')
+}
+
+fn is_name_byte(b: u8) -> bool
+    ensures { result ≡ is_name_byte b }
+{
+    is_letter(b) || is_digit(b) || b == b'_'
+}
+
+fn all_name_bytes(word: &[u8]) -> bool
+    ensures { result ≡ list_all is_name_byte word.now }
+{
+    word.iter().all(|b| is_name_byte(*b))
+}
+
+// Whether the word has the form of a node's name.
+fn is_node_name(word: &[u8]) -> bool
+    ensures { result ≡ is_node_name word.now }
+{
+    match word {
+        [] => false,
+        [first, rest @ ..] => {
+            is_letter(*first) && rest.len() <= NAME_REST_LIMIT && all_name_bytes(rest)
+        }
+    }
+}
+
+/// Whether the line has two ends.
+pub fn is_pair(line: &[u8]) -> bool
+    ensures { result ≡ is_pair (words_of line.now) }
+{
+    let name = word_of(line, 0);
+    name == b"link".as_slice() || name == b"unlink".as_slice()
+}
+
+// How many bytes stand before the first dot.
+fn dot_place(word: &[u8]) -> usize
+    ensures value { result ≡ dot_place word.now }
+    ensures within { result ≤ length word.now }
+{
+    word.iter().take_while(|b| **b != b'.').count()
+}
+
+// What stands before the first dot.
+fn end_name(word: &[u8]) -> &[u8]
+    ensures { result.now ≡ end_name word.now }
+{
+    let (name, _rest) = word.split_at(dot_place(word));
+    name
+}
+
+/// What stands behind the first dot of an end; nothing where it has none.
+pub fn end_port(word: &[u8]) -> &[u8]
+    ensures { result.now ≡ end_port word.now }
+{
+    let (_name, rest) = word.split_at(dot_place(word));
+    match rest {
+        [] => b"".as_slice(),
+        [_, port @ ..] => port,
+    }
+}
+
+fn has_dot(word: &[u8]) -> bool
+    ensures { result ≡ has_dot word.now }
+{
+    dot_place(word) < word.len()
+}
+
+// Whether the word is a name, one dot and a port.
+fn is_end(word: &[u8]) -> bool
+    ensures { result ≡ is_end word.now }
+{
+    has_dot(word) && !has_dot(end_port(word)) && is_node_name(end_name(word))
+}
+
+fn file_place(name: &[u8]) -> u32
+    ensures { result ≡ file_place name.now }
+{
+    if name == b"offer".as_slice() {
+        3
+    } else if name == b"source".as_slice() || name == b"sink".as_slice() {
+        2
+    } else {
+        1
+    }
+}
+
+/// The place in the line of its first word of another form, where a form is at fault.
+pub fn name_place(line: &[u8]) -> u32
+    ensures { result ≡ name_place (words_of line.now) }
+{
+    if is_pair(line) {
+        if is_end(word_of(line, 1)) { 2 } else { 1 }
+    } else if is_node_name(word_of(line, 1)) {
+        file_place(word_of(line, 0))
+    } else {
+        1
+    }
+}
+
+/// What the word at a place has to be.
+pub fn name_rule(line: &[u8], place: u32) -> &'static [u8]
+    ensures { result.now ≡ name_rule (words_of line.now) place }
+{
+    if is_pair(line) {
+        b"an end is NODE.PORT"
+    } else if place == 1 {
+        b"a name is a lower-case letter and up to 30 of a to z, 0 to 9 and _"
+    } else {
+        b"a file word has at most 255 bytes"
+    }
+}

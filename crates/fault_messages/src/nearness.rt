@@ -1,0 +1,45 @@
+//! Words within one letter, or two, of each other.
+ghost use Rattle.std.specs.Prelude.{◌≡◌};
+ghost use Rattle.fault_messages.specs.Nearness.{is_one_near, is_two_near, is_near};
+
+// Within one letter.
+fn is_one_near(a: &[u8], b: &[u8]) -> bool
+    ensures { result ≡ is_one_near a.now b.now }
+{
+    match a {
+        [] => b.len() <= 1,
+        [x, xs @ ..] => match b {
+            [] => a.len() <= 1,
+            [y, ys @ ..] => { (*x == *y && is_one_near(xs, ys)) || xs == b || a == ys || xs == ys }
+        },
+    }
+}
+
+// Within two letters.
+fn is_two_near(a: &[u8], b: &[u8]) -> bool
+    ensures { result ≡ is_two_near a.now b.now }
+{
+    match a {
+        [] => b.len() <= 2,
+        [x, xs @ ..] => match b {
+            [] => a.len() <= 2,
+            [y, ys @ ..] => {
+                (*x == *y && is_two_near(xs, ys))
+                    || is_one_near(xs, b)
+                    || is_one_near(a, ys)
+                    || is_one_near(xs, ys)
+            }
+        },
+    }
+}
+
+/// Whether the words are within one letter of each other; for another number, within two.
+pub fn is_near(k: u32, a: &[u8], b: &[u8]) -> bool
+    ensures { result ≡ is_near k a.now b.now }
+{
+    if k == 1 {
+        is_one_near(a, b)
+    } else {
+        is_two_near(a, b)
+    }
+}

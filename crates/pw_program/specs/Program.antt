@@ -1,0 +1,39 @@
+-- What the program does with the words of its command line: the answer of its run, and a sentence
+-- on the error output. Source: this project's own.
+use Rattle.std.specs.Prelude.{◌≡◌, ◌⊎◌, ℕ, List, Option}
+use Rattle.pw_base.specs.Files.{Names, Held}
+use Rattle.pw_base.specs.Output.{Given}
+use Rattle.pw_top.specs.declared.status.Status.{Status}
+use Rattle.pw_top.specs.Answer.{Answer}
+use Rattle.pw_top.specs.CommandLine.{IsAnswer}
+use Rattle.pw_top.specs.Following.{GaveLine}
+use Rattle.pw_top.specs.Playing.{Happened, PlayFollows}
+use Rattle.fault_messages.specs.Explaining.{explained}
+use Rattle.fault_messages.specs.Places.{word}
+use Rattle.first_load.specs.FirstLoad.{IsReadOf}
+
+-- some answer to the words, by what happened in a run, is followed as the status says
+pub record IsFollowed (words : List (List ℕ)) (names : Names) (follows : Answer → Type 0)
+    (status : Status) : Type 0 where
+  pub happened : Happened
+  pub answer : Answer
+  pub allowed : IsAnswer words happened names answer
+  pub followed : follows answer
+  pub played : PlayFollows answer.outcome happened status
+
+-- the word that names the script
+abbrev pub script_name : List (List ℕ) → List ℕ
+script_name words = word words 1
+
+-- a text was put on the error output; or a part of it, where that failed; or nothing, where memory
+-- was short
+abbrev pub IsSaid : List ℕ → ℕ → ℕ → Given → Given → Type 0
+IsSaid text before now old new = GaveLine text before now old new ⊎ (new ≡ old)
+
+-- THE SENTENCE of a status was put, by the words and by the bytes of the script that stood under
+-- its name before the run, where they are at hand
+pub record HasSaid (held : Held) (words : List (List ℕ)) (status : Status) (before now : ℕ)
+    (old new : Given) : Type 0 where
+  pub script : Option (List ℕ)
+  pub read : IsReadOf held (script_name words) script
+  pub said : IsSaid (explained status words script) before now old new

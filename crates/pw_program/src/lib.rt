@@ -1,0 +1,14 @@
+//! What the program `pipegraph` does with the words of its command line, over any files, output and
+//! error output: the top call, then a sentence on the error output, then the number to end with.
+//! What the run loaded is kept for the sentence; nothing is opened after the run.
+#![tactic(auto)]
+
+mod ended;
+mod program;
+mod running;
+mod system;
+mod telling;
+
+pub use ended::Ended;
+pub use program::run_program;
+pub use system::run_system;
