@@ -3,3 +3,4 @@ pub mod Epochs
 pub mod Leading
 pub mod Rounds
 pub mod Settling
+pub mod Waking

@@ -18,3 +18,5 @@ pub use epoch::run_epoch;
 pub use leading::lead_once;
 pub use rounds::{begin_next, look};
 pub use settling::settle;
+pub use turning::turn_one;
+pub use waking::{rest_unless, send_woken};

@@ -4,6 +4,7 @@ ghost use Rattle.board_rule.specs.OnBoard.{layout, table_of};
 ghost use Rattle.data_loop.specs.LoopWay.{IsDriverWay};
 ghost use Rattle.data_loop.specs.LoopsOnBoards.{IsOnBoard};
 ghost use Rattle.driver_cycle.specs.Settling.{HasHadTurns, AreEach};
+ghost use Rattle.driver_cycle.specs.Waking.{HasTakenTurn};
 
 use crate::waking::send_woken;
 use board_rule::Board;
@@ -11,9 +12,11 @@ use data_loop::{Did, LoopState, Way, Ways};
 use pw_base::Gate;
 use std::sync::Wait;
 
-/// One turn of a loop; where a node ran, what it woke is sent. Whether one ran. Sending may wait.
-/// Takes no memory.
-pub(crate) fn turn_one<R: Wait, G: Gate>(
+/// One turn of a loop of the driver's thread, by `turn`; where a node ran, what it woke is sent to
+/// the queues of `ways` by `send_woken`. Whether one ran: where none did, the way is as it was.
+/// Sending may wait. Takes no memory.
+/// Condition: the loop stands on this board, and `way` is the driver's of `ways`.
+pub fn turn_one<R: Wait, G: Gate>(
     rt: &R,
     board: &Board,
     state: &mut LoopState,
@@ -24,6 +27,8 @@ pub(crate) fn turn_one<R: Wait, G: Gate>(
     requires stands { IsOnBoard (layout board.now) (table_of board.now) state.old }
     requires way { IsDriverWay ways.now way.old }
     ensures turned { HasHadTurns (layout board.now) (table_of board.now) state.old state.new }
+    ensures took { HasTakenTurn result (layout board.now) ways.now state.old way.old
+        state.new way.new }
     ensures way { IsDriverWay ways.now way.new }
 {
     match state.turn(board, gate) {

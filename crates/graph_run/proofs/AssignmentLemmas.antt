@@ -11,7 +11,8 @@ use Rattle.pw_base.specs.declared.shape.ShapeNode.{ShapeNode}
 use Rattle.pw_base.specs.declared.plan.Epoch.{Epoch}
 use Rattle.pw_base.specs.declared.plan.Plan.{Plan}
 use Rattle.board_rule.specs.Layout.{HasSeats}
-use Rattle.graph_run.specs.Assignment.{drives_somewhere, loop_number, loop_of, epoch_board}
+use Rattle.graph_run.specs.Assignment.{drives_somewhere, loop_number, loop_of}
+use Rattle.graph_run.specs.Seating.{epoch_board}
 
 -- one number more
 counting_more : (n : ℕ) → range_with_len 0 (n + 1) ≡ range_with_len 0 n ++ n ∷ []
@@ -39,11 +40,11 @@ most_loop plan (suc loops) n =
       go false = omega (arith, mod_below (loop_number plan n) (suc loops) (omega arith))
 
 -- the seats of an epoch's board
-pub has_seats : (plan : Plan) (loops : ℕ) (e : Epoch) → HasSeats (epoch_board plan loops e)
-has_seats plan loops e = record {
+pub has_seats : (f : ℕ → ℕ) (loops : ℕ) → ((n : ℕ) → f n ≤ loops) → (e : Epoch) → HasSeats (epoch_board f loops e)
+has_seats f loops most e = record {
   some_seats = omega arith;
-  all = length-map e.shape.nodes (λ n. loop_of plan loops n.node);
+  all = length-map e.shape.nodes (λ n. f n.node);
   each = λ n lt other. let none : ShapeNode = record { node = 0; required = 0; targets = [] } in
-      let is = get_or-map (λ (x : ShapeNode). loop_of plan loops x.node) e.shape.nodes n none 0 lt in
-      let le = most_loop plan loops (get_or e.shape.nodes n none).node in omega (arith, is, le);
+      let is = get_or-map (λ (x : ShapeNode). f x.node) e.shape.nodes n none 0 lt in
+      let le = most (get_or e.shape.nodes n none).node in omega (arith, is, le);
 }

@@ -10,11 +10,11 @@ use Rattle.cycle_model.specs.Expected.{AreShort, expected_samples}
 use Rattle.cycle_model.proofs.ExpectedLemmas.{expected_long, expected_short}
 use Rattle.board_rule.specs.Layout.{layout_of}
 use Rattle.board_rule.specs.buffers.SampleWords.{IsTable}
-use Rattle.graph_run.specs.Assignment.{epoch_board}
+use Rattle.graph_run.specs.Seating.{epoch_board}
 
-pub is_table : (plan : Plan) (waves : List WavIn) (loops : ℕ) → IsSoundPlan plan → WavesFit plan waves → AreShort waves → (k : ℕ) (e : Epoch)
-    → slice_get plan.epochs k ≡ Some e → IsTable (layout_of (epoch_board plan loops e)) (expected_samples plan waves k)
-is_table plan waves loops sound fit short k e at = record {
+pub is_table : (plan : Plan) (waves : List WavIn) (f : ℕ → ℕ) (loops : ℕ) → IsSoundPlan plan → WavesFit plan waves → AreShort waves → (k : ℕ) (e : Epoch)
+    → slice_get plan.epochs k ≡ Some e → IsTable (layout_of (epoch_board f loops e)) (expected_samples plan waves k)
+is_table plan waves f loops sound fit short k e at = record {
   long = λ c q x lt pool. let i : e.shape.first + c - e.shape.first ≡ c = omega arith in
       ap (λ n. length (get_or (get_or (expected_samples plan waves k) n []) q [])) i ∙ expected_long plan waves sound fit k e at c q x lt pool;
   fits = λ c q. expected_short plan waves sound short k (c - e.shape.first) q;

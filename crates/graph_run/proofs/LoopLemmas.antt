@@ -12,7 +12,7 @@ use Rattle.wav_files.specs.declared.wav.WavIn.{WavIn}
 use Rattle.board_rule.specs.Known.{Known}
 use Rattle.data_loop.specs.declared.loop_state.LoopState.{LoopState}
 use Rattle.data_loop.specs.LoopStart.{IsLoopOf}
-use Rattle.graph_run.specs.Assignment.{loop_of, nodes_of_loop}
+use Rattle.graph_run.specs.Seating.{nodes_of_loop}
 use Rattle.graph_run.specs.Loops.{AreLoopsOf}
 
 -- numbers that ascend
@@ -21,32 +21,32 @@ ascending n i j d less high = let long = length-range_with_len 0 n in
     let a = get_or-range_with_len 0 n i d (omega (arith, less, high, long)) in
     let b = get_or-range_with_len 0 n j d (omega (arith, high, long)) in omega (arith, a, b, less)
 
-below : (n : ℕ) → All (λ k. k < n) (range_with_len 0 n)
+pub below : (n : ℕ) → All (λ k. k < n) (range_with_len 0 n)
 below n i d low = let long = length-range_with_len 0 n in
     let a = get_or-range_with_len 0 n i d (omega (arith, low, long)) in omega (arith, a, low, long)
 
-module _ (plan : Plan) (loops which : ℕ) where
-  pub nodes_ascend : AllPairs (λ m n. m < n) (nodes_of_loop plan loops which)
-  nodes_ascend = AllPairs-filter (λ m n. m < n) (λ n. loop_of plan loops n == which) (range_with_len 0 (length plan.nodes)) (ascending (length plan.nodes))
+module _ (f : ℕ → ℕ) (plan : Plan) (which : ℕ) where
+  pub nodes_ascend : AllPairs (λ m n. m < n) (nodes_of_loop f plan which)
+  nodes_ascend = AllPairs-filter (λ m n. m < n) (λ n. f n == which) (range_with_len 0 (length plan.nodes)) (ascending (length plan.nodes))
 
-  pub nodes_places : All (λ n. n < length plan.nodes) (nodes_of_loop plan loops which)
-  nodes_places = All-filter (λ n. loop_of plan loops n == which) (λ n. n < length plan.nodes) (range_with_len 0 (length plan.nodes)) (below (length plan.nodes))
+  pub nodes_places : All (λ n. n < length plan.nodes) (nodes_of_loop f plan which)
+  nodes_places = All-filter (λ n. f n == which) (λ n. n < length plan.nodes) (range_with_len 0 (length plan.nodes)) (below (length plan.nodes))
 
 -- one loop more
-pub one_loop : (plan : Plan) (waves : List WavIn) (loops : ℕ) (rows : List (List Known)) (states : List LoopState) (row : List Known) (state : LoopState)
-    → AreLoopsOf plan waves loops rows states → IsLoopOf plan waves (nodes_of_loop plan loops (length rows)) row state
-    → AreLoopsOf plan waves loops (rows ++ row ∷ []) (states ++ state ∷ [])
-one_loop plan waves loops rows states row state are is =
+pub one_loop : (plan : Plan) (waves : List WavIn) (f : ℕ → ℕ) (rows : List (List Known)) (states : List LoopState) (row : List Known) (state : LoopState)
+    → AreLoopsOf plan waves f rows states → IsLoopOf plan waves (nodes_of_loop f plan (length rows)) row state
+    → AreLoopsOf plan waves f (rows ++ row ∷ []) (states ++ state ∷ [])
+one_loop plan waves f rows states row state are is =
     let a = length-append rows (row ∷ []) in let b = length-append states (state ∷ []) in let n = are.count in record {
       count = omega (arith, a, b, n);
       each = λ k d low. ⊎_elim
           (λ (early : k < length rows).
-          subst (λ (x : List Known × LoopState). IsLoopOf plan waves (nodes_of_loop plan loops k) x.0 x.1)
+          subst (λ (x : List Known × LoopState). IsLoopOf plan waves (nodes_of_loop f plan k) x.0 x.1)
           (λ i. (sym (get_or_append_left rows (row ∷ []) [] k early) i, sym (get_or_append_left states (state ∷ []) d k (omega (arith, early, n))) i))
           (are.each k d early))
           (λ (last : length rows ≤ k). let at : k ≡ length rows = omega (arith, last, low, a) in
-          subst (λ (x : List Known × LoopState). IsLoopOf plan waves (nodes_of_loop plan loops k) x.0 x.1)
+          subst (λ (x : List Known × LoopState). IsLoopOf plan waves (nodes_of_loop f plan k) x.0 x.1)
           (λ i. (sym (get_or_push rows row [] k (sym at)) i, sym (get_or_push states state d k (n ∙ sym at)) i))
-          (subst (λ j. IsLoopOf plan waves (nodes_of_loop plan loops j) row state) (sym at) is))
+          (subst (λ j. IsLoopOf plan waves (nodes_of_loop f plan j) row state) (sym at) is))
           (cases_lt k (length rows));
     }

@@ -1,38 +1,30 @@
 -- A run of a plan from its parts: boards, drivers' seats before and after it, and the closed boards.
 use Rattle.std.proofs.Common.{◌≡◌, ℕ, suc, cond, Bool, ◌+◌, ◌<◌, List, [], ◌∷◌, length, map, get_or, refl, sym, ap, ◌∙◌, subst, arith, Some, slice_get}
-use Rattle.std.specs.Prelude.{sum_by, count_by, sum}
-use Rattle.std.specs.List.{AllZip, enumerate_from, range_with_len, flat_map}
+use Rattle.std.specs.Prelude.{sum_by}
+use Rattle.std.specs.List.{AllZip, enumerate_from, range_with_len}
 use Rattle.std.proofs.lemmas.Bool.{ne_eqb}
 use Rattle.std.proofs.lemmas.Simd.{map-map}
 use Rattle.std.proofs.lemmas.List.{ext_get_or, get_or-map, length-map}
 use Rattle.std.proofs.lemmas.List.FromFn.{length-range_with_len, get_or-range_with_len, length-enumerate_from}
-use Rattle.std.proofs.lemmas.List.Sums.{sum-map, sum_by-cons}
+use Rattle.std.proofs.lemmas.List.Sums.{sum_by-cons}
 use Rattle.std.proofs.lemmas.Option.{slice_get_within, get_or_from_slice_get}
-use Rattle.pw_base.specs.declared.event.Event.{Event}
 use Rattle.pw_base.specs.declared.shape.Shape.{Shape}
 use Rattle.pw_base.specs.declared.plan.Epoch.{Epoch}
 use Rattle.pw_base.specs.declared.plan.Plan.{Plan}
-use Rattle.pw_base.specs.History.{is_tick, IsLegalHistory}
-use Rattle.pw_base.specs.Layout.{event_count}
-use Rattle.pw_base.specs.PlanSums.{events_of, epoch_events}
-use Rattle.pw_base.specs.SoundPlan.{IsSoundPlan}
 use Rattle.wav_files.specs.declared.wav.WavIn.{WavIn}
 use Rattle.cycle_model.specs.Expected.{expected_samples}
 use Rattle.board_rule.specs.declared.board.Board.{Board}
-use Rattle.board_rule.specs.declared.closed.Closed.{Closed}
 use Rattle.board_rule.specs.declared.board_shape.BoardShape.{BoardShape}
-use Rattle.board_rule.specs.events.Closing.{expected}
 use Rattle.board_rule.specs.Known.{Known}
 use Rattle.data_loop.specs.declared.loop_state.LoopState.{LoopState}
 use Rattle.graph_run.specs.declared.lists.Lists.{Lists}
 use Rattle.graph_run.specs.declared.preparing.Prepared.{Prepared}
-use Rattle.graph_run.specs.Assignment.{epoch_board}
+use Rattle.graph_run.specs.Seating.{epoch_board}
 use Rattle.graph_run.specs.Boards.{driver_of}
 use Rattle.graph_run.specs.Closing.{HasEnded}
-use Rattle.graph_run.specs.Leads.{HaveLed, HaveLooked, checks_of}
+use Rattle.graph_run.specs.Leads.{HaveLed, checks_of}
 use Rattle.graph_run.specs.Lists.{AreEmpty, HaveRooms}
 use Rattle.graph_run.specs.Outcomes.{AreDone}
-use Rattle.graph_run.specs.PlanRun.{IsRunOf}
 use Rattle.graph_run.specs.Prepared.{IsPrepared, IsCrew}
 use Rattle.graph_run.proofs.EpochLemmas.{there}
 use Rattle.graph_run.proofs.ReadyLemmas.{driver_at}
@@ -48,6 +40,14 @@ zip_from R (x ∷ xs) (y ∷ ys) same each = (
   zip_from R xs ys (omega (arith, same)) (λ i a b here there. each (suc i) a b here there),
 )
 
+-- the boards of a seating have the shapes of the epochs
+pub shapes_are : (plan : Plan) (f : ℕ → ℕ) (loops : ℕ) (boards : List Board)
+    → map (λ (b : Board). b.board_shape) boards ≡ map (epoch_board f loops) plan.epochs
+    → map (λ (b : Board). b.board_shape.shape) boards ≡ map (λ (e : Epoch). e.shape) plan.epochs
+shapes_are plan f loops boards by = sym (map-map (λ (x : BoardShape). x.shape) (λ (b : Board). b.board_shape) boards)
+    ∙ (ap (map (λ (x : BoardShape). x.shape)) by
+    ∙ map-map (λ (x : BoardShape). x.shape) (epoch_board f loops) plan.epochs)
+
 module _ (plan : Plan) (waves : List WavIn) (loops : ℕ) where
   -- what a driver's seat knows as its board gave it
   driver_expects : (k : ℕ) (b : Board) → (driver_of plan waves loops (k, b)).knows.expect ≡ expected_samples plan waves k
@@ -59,22 +59,14 @@ module _ (plan : Plan) (waves : List WavIn) (loops : ℕ) where
       let first = sum_by-cons (λ (s : Known). s.knows.lead.checks) (driver_of plan waves loops b) (map (driver_of plan waves loops) bs) in
       let others = none_checked bs in omega (arith, first, others)
 
-  module _ (sound : IsSoundPlan plan) (boards : List Board) (shapes : map (λ (b : Board). b.board_shape) boards ≡ map (epoch_board plan loops) plan.epochs) where
-    -- there is a board an epoch, and they have the events of the plan
+  pub no_checks : (boards : List Board) (old : List Known) → old ≡ map (driver_of plan waves loops) (enumerate_from 0 boards) → checks_of old ≡ 0
+  no_checks boards old are = ap checks_of are ∙ none_checked (enumerate_from 0 boards)
+
+  module _ (boards : List Board) (shapes : map (λ (b : Board). b.board_shape.shape) boards ≡ map (λ (e : Epoch). e.shape) plan.epochs) where
+    -- there is a board an epoch
     pub board_count : length boards ≡ length plan.epochs
-    board_count = sym (length-map boards (λ (b : Board). b.board_shape)) ∙ (ap (λ (l : List BoardShape). length l) shapes
-        ∙ length-map plan.epochs (epoch_board plan loops))
-
-    shapes_are : map (λ (b : Board). b.board_shape.shape) boards ≡ map (λ (e : Epoch). e.shape) plan.epochs
-    shapes_are = sym (map-map (λ (x : BoardShape). x.shape) (λ (b : Board). b.board_shape) boards)
-        ∙ (ap (map (λ (x : BoardShape). x.shape)) shapes
-        ∙ map-map (λ (x : BoardShape). x.shape) (epoch_board plan loops) plan.epochs)
-
-    pub event_total : sum_by (λ (b : Board). event_count b.board_shape.shape) boards ≡ events_of plan
-    event_total = sym (sum-map (λ (b : Board). event_count b.board_shape.shape) boards)
-        ∙ (ap sum (sym (map-map event_count (λ (b : Board). b.board_shape.shape) boards)
-        ∙ (ap (map event_count) shapes_are ∙ map-map event_count (λ (e : Epoch). e.shape) plan.epochs))
-        ∙ sum-map epoch_events plan.epochs)
+    board_count = sym (length-map boards (λ (b : Board). b.board_shape.shape)) ∙ (ap (λ (l : List Shape). length l) shapes
+        ∙ length-map plan.epochs (λ (e : Epoch). e.shape))
 
     module _ (old new : List Known) (are : old ≡ map (driver_of plan waves loops) (enumerate_from 0 boards))
         (led : HaveLed (length boards) boards old new) where
@@ -83,7 +75,7 @@ module _ (plan : Plan) (waves : List WavIn) (loops : ℕ) where
           ∙ (length-map (enumerate_from 0 boards) (driver_of plan waves loops) ∙ length-enumerate_from 0 boards))
 
       was : (k : ℕ) (b : Board) (d : Known) → slice_get boards k ≡ Some b → get_or old k d ≡ driver_of plan waves loops (k, b)
-      was k b d here = ap (λ (l : List Known). get_or l k d) are ∙ driver_at plan waves loops sound boards shapes k b d here
+      was k b d here = ap (λ (l : List Known). get_or l k d) are ∙ driver_at plan waves loops boards k b d here
 
       -- the drivers' seats have ended their boards
       pub have_ended : AllZip HasEnded boards new
@@ -100,7 +92,7 @@ module _ (plan : Plan) (waves : List WavIn) (loops : ℕ) where
           ∙ ((led.each k b d inside here).expect ∙ (ap (λ (s : Known). s.knows.expect) (was k b d here)
           ∙ driver_expects k b))
 
-      expects : map (λ (s : Known). s.knows.expect) new ≡ map (expected_samples plan waves) (range_with_len 0 (length plan.epochs))
+      pub expects : map (λ (s : Known). s.knows.expect) new ≡ map (expected_samples plan waves) (range_with_len 0 (length plan.epochs))
       expects = let n = driver_count in let m = board_count in
           let a = length-map new (λ (s : Known). s.knows.expect) in
           let r = length-range_with_len 0 (length plan.epochs) in
@@ -114,24 +106,6 @@ module _ (plan : Plan) (waves : List WavIn) (loops : ℕ) where
         where
           zero_plus : (k : ℕ) → 0 + k ≡ k
           zero_plus k = omega arith
-
-      -- THE RUN
-      pub run_is : (history : List Event) (closed : List Closed) (m n : ℕ)
-          → map (λ (x : Closed). x.board_shape) closed ≡ map (λ (b : Board). b.board_shape) boards
-          → map expected closed ≡ map (λ (s : Known). s.knows.expect) new
-          → history ≡ flat_map (λ (x : Closed). x.events) closed
-          → IsLegalHistory (map (λ (b : Board). b.board_shape.shape) boards) history
-          → count_by is_tick history ≡ checks_of new → HaveLooked old new m n → IsRunOf plan waves loops history closed m n
-      run_is history closed m n closed_shapes closed_expect events legal ticks looked =
-          let none : checks_of old ≡ 0 = ap checks_of are ∙ none_checked (enumerate_from 0 boards) in
-          let most = looked.most in record {
-            boards = closed_shapes ∙ shapes;
-            tables = closed_expect ∙ expects;
-            events = events;
-            legal = subst (λ (l : List Shape). IsLegalHistory l history) shapes_are legal;
-            most = omega (arith, ticks, none, most);
-            some = λ less. let first = looked.some less in omega (arith, ticks, none, first);
-          }
 
 -- what the threads begin with, and all loops in the end, from what was prepared
 module _ (plan : Plan) (waves : List WavIn) (loops : ℕ) (p : Prepared) (is : IsPrepared plan waves loops p) where

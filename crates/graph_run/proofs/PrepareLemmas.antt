@@ -17,9 +17,10 @@ use Rattle.data_loop.specs.LoopStart.{IsLoopOf}
 use Rattle.data_loop.specs.LoopWay.{IsWayFor}
 use Rattle.graph_run.specs.declared.shared.LoopWay.{LoopWay}
 use Rattle.graph_run.specs.declared.shared.Shared.{Shared}
-use Rattle.graph_run.specs.Assignment.{loop_of, nodes_of_loop, owner_row}
+use Rattle.graph_run.specs.Assignment.{loop_of, owner_row}
 use Rattle.graph_run.specs.Loops.{AreLoopsOf}
 use Rattle.graph_run.specs.LoopsOnPlan.{AreReady, AreFirstLeads}
+use Rattle.graph_run.specs.Seating.{nodes_of_loop}
 use Rattle.graph_run.specs.Threads.{CanRun, CanStart, CanDrive, HasNode}
 use Rattle.graph_run.proofs.AssignmentLemmas.{most_loop}
 use Rattle.graph_run.proofs.ReadyLemmas.{short, own_ready, own_has, own_is, others_ready, others_none, is_in}
@@ -51,19 +52,19 @@ module _ (plan : Plan) (loops n k : ℕ) (of : IsNodeOf (owner_row plan loops) k
       zero_add : (m : ℕ) → 0 + m ≡ m
       zero_add m = omega arith
 
-  pub owned_in : Contains (nodes_of_loop plan loops k) n
-  owned_in = is_in plan loops k n owned_low owned_is
+  pub owned_in : Contains (nodes_of_loop (loop_of plan loops) plan k) n
+  owned_in = is_in (loop_of plan loops) plan k n owned_low owned_is
 
 module _ (plan : Plan) (waves : List WavIn) (loops : ℕ) (shared : Shared) (xs : List LoopState) (own : LoopState) (rows : List (List Known))
-    (ready : AreReady shared.boards loops (xs ++ own ∷ [])) (are : AreLoopsOf plan waves loops rows (xs ++ own ∷ []))
+    (ready : AreReady shared.boards loops (xs ++ own ∷ [])) (are : AreLoopsOf plan waves (loop_of plan loops) rows (xs ++ own ∷ []))
     (plan_is : shared.score.plan.value ≡ plan) (waves_are : shared.score.waves.value ≡ waves)
     (owner : shared.ways.owner ≡ owner_row plan loops) (count : shared.ways.loops ≡ loops) where
-  other_is : (i : ℕ) (d : LoopState) → i < length xs → IsLoopOf plan waves (nodes_of_loop plan loops i) (get_or rows i []) (get_or xs i d)
+  other_is : (i : ℕ) (d : LoopState) → i < length xs → IsLoopOf plan waves (nodes_of_loop (loop_of plan loops) plan i) (get_or rows i []) (get_or xs i d)
   other_is i d low = let long = length-append xs (own ∷ []) in let m = are.count in
-      subst (IsLoopOf plan waves (nodes_of_loop plan loops i) (get_or rows i [])) (get_or_append_left xs (own ∷ []) d i low)
+      subst (IsLoopOf plan waves (nodes_of_loop (loop_of plan loops) plan i) (get_or rows i [])) (get_or_append_left xs (own ∷ []) d i low)
       (are.each i d (omega (arith, low, long, m)))
 
-  way_for : (i : ℕ) (s : LoopState) (w : Way) → i < loops → s.nodes ≡ nodes_of_loop plan loops i → IsNewWay shared.ways i w → IsWayFor shared.ways s w
+  way_for : (i : ℕ) (s : LoopState) (w : Way) → i < loops → s.nodes ≡ nodes_of_loop (loop_of plan loops) plan i → IsNewWay shared.ways i w → IsWayFor shared.ways s w
   way_for i s w less nodes new = let number = new.loop_is in record {
     answered = new.answered;
     one = omega (arith, number, less, count);
@@ -97,7 +98,7 @@ module _ (plan : Plan) (waves : List WavIn) (loops : ℕ) (shared : Shared) (xs 
             waves_are = is.waves_are ∙ sym waves_are;
           };
           way = way_for i (get_or pairs i d).state (get_or pairs i d).way (omega (arith, inside, n))
-              (subst (λ (s : LoopState). s.nodes ≡ nodes_of_loop plan loops i) (state_at i d low) is.nodes_are)
+              (subst (λ (s : LoopState). s.nodes ≡ nodes_of_loop (loop_of plan loops) plan i) (state_at i d low) is.nodes_are)
               (new i (get_or pairs i d).way (way_at i d low));
         }
 
@@ -113,19 +114,19 @@ module _ (plan : Plan) (waves : List WavIn) (loops : ℕ) (shared : Shared) (xs 
           inside,
           λ x. let same = as_many in
               subst (λ (l : List ℕ). Contains l n)
-              (sym (subst (λ (s : LoopState). s.nodes ≡ nodes_of_loop plan loops k) (state_at k x inside)
+              (sym (subst (λ (s : LoopState). s.nodes ≡ nodes_of_loop (loop_of plan loops) plan k) (state_at k x inside)
               (other_is k x.state (omega (arith, inside, same))).nodes_are))
-              (is_in plan loops k n low refl),
+              (is_in (loop_of plan loops) plan k n low refl),
         ))
         (λ (past : loops ≤ k). let last : k ≡ loops = omega (arith, past, most) in
-        inl (subst (λ (l : List ℕ). Contains l n) (sym (own_is shared.boards loops xs own ready plan waves rows are).nodes_are)
-        (is_in plan loops loops n low last)))
+        inl (subst (λ (l : List ℕ). Contains l n) (sym (own_is shared.boards loops xs own ready plan waves (loop_of plan loops) rows are).nodes_are)
+        (is_in (loop_of plan loops) plan loops n low last)))
         (cases_lt k loops)
 
   -- the driver's own loop with its seats and its way
   pub drives : (drivers : List Known) (way : Way) → AreFirstLeads own.score shared.boards drivers → IsNewWay shared.ways loops way
       → CanDrive shared (record { own = own; drivers = drivers; way = way })
-  drives drivers way leads new = let is = own_is shared.boards loops xs own ready plan waves rows are in record {
+  drives drivers way leads new = let is = own_is shared.boards loops xs own ready plan waves (loop_of plan loops) rows are in record {
     ready = own_ready shared.boards loops xs own ready;
     has = own_has shared.boards loops xs own ready;
     leads = leads;

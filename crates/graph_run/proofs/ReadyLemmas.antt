@@ -38,10 +38,11 @@ use Rattle.data_loop.specs.Loops.{plan_of, IsBetweenEpochs}
 use Rattle.data_loop.specs.LoopStart.{IsLoopOf}
 use Rattle.data_loop.specs.LoopsOnBoards.{IsFirstSeat}
 use Rattle.data_loop.proofs.LoopDriverLemmas.{expected_is}
-use Rattle.graph_run.specs.Assignment.{drives_somewhere, loop_number, loop_of, nodes_of_loop, seat_row, epoch_board}
+use Rattle.graph_run.specs.Assignment.{drives_somewhere}
 use Rattle.graph_run.specs.Boards.{driver_of, seat_of, seats_of, all_seats}
 use Rattle.graph_run.specs.Loops.{AreLoopsOf}
 use Rattle.graph_run.specs.LoopsOnPlan.{IsReady, HasDrivers, HasNoDriver, IsFirstLead, AreFirstLeads, AreReady}
+use Rattle.graph_run.specs.Seating.{IsSeating, nodes_of_loop, seat_row, epoch_board}
 use Rattle.graph_run.proofs.AssignmentLemmas.{has_seats}
 use Rattle.graph_run.proofs.EpochLemmas.{there}
 
@@ -59,41 +60,61 @@ kept_at p (y ∷ ys) zero x l e t = subst (λ (b : Bool). Contains (cond b (y �
 kept_at p (y ∷ ys) (suc k) x l e t = later (p y) y x (filter p ys) (kept_at p ys k x (omega (arith, l)) e t)
 
 -- a loop by its nodes
-module _ (plan : Plan) (loops which n : ℕ) where
-  pub has_loop : Contains (nodes_of_loop plan loops which) n → loop_of plan loops n ≡ which
-  has_loop c = let p = λ (m : ℕ). loop_of plan loops m == which in
+module _ (f : ℕ → ℕ) (plan : Plan) (which n : ℕ) where
+  pub has_loop : Contains (nodes_of_loop f plan which) n → f n ≡ which
+  has_loop c = let p = λ (m : ℕ). f m == which in
       let xs : List ℕ = range_with_len 0 (length plan.nodes) in
-      eqb-true (loop_of plan loops n) which (ap p (sym c.2) ∙ filter_passes p xs c.0 n c.1)
+      eqb-true (f n) which (ap p (sym c.2) ∙ filter_passes p xs c.0 n c.1)
 
-  pub is_in : n < length plan.nodes → loop_of plan loops n ≡ which → Contains (nodes_of_loop plan loops which) n
+  pub is_in : n < length plan.nodes → f n ≡ which → Contains (nodes_of_loop f plan which) n
   is_in low is = let all : ℕ = length plan.nodes in let at = get_or-range_with_len 0 all n n low in
-      kept_at (λ m. loop_of plan loops m == which) (range_with_len 0 all) n n (let long = length-range_with_len 0 all in omega (arith, low, long))
-      (omega (arith, at)) (eq-eqb (loop_of plan loops n) which is)
+      kept_at (λ m. f m == which) (range_with_len 0 all) n n (let long = length-range_with_len 0 all in omega (arith, low, long))
+      (omega (arith, at)) (eq-eqb (f n) which is)
 
--- a driver belongs to the driver's own loop
-pub driver_loop : (plan : Plan) (loops k : ℕ) (e : Epoch) → IsEpoch plan k e → loop_of plan loops e.shape.driver ≡ loops
-driver_loop plan loops k e at = let n : ℕ = e.shape.driver in
-    let drives : drives_somewhere plan n ≡ true =
+-- a driver drives somewhere
+pub driver_drives : (plan : Plan) (k : ℕ) (e : Epoch) → IsEpoch plan k e → drives_somewhere plan e.shape.driver ≡ true
+driver_drives plan k e at = let n : ℕ = e.shape.driver in
     list_any_at (λ (x : Epoch). x.shape.driver == n) plan.epochs k e (slice_get_within plan.epochs k e at)
-    (ap (λ (x : Epoch). x.shape.driver == n) (get_or_from_slice_get plan.epochs k e e at) ∙ eq-eqb n n refl) in
-    ap (λ b. cond b loops (loop_number plan n % loops)) (or_right (loops == 0) (drives_somewhere plan n) drives)
+    (ap (λ (x : Epoch). x.shape.driver == n) (get_or_from_slice_get plan.epochs k e e at) ∙ eq-eqb n n refl)
 
-module _ (plan : Plan) (waves : List WavIn) (loops : ℕ) (sound : IsSoundPlan plan) (boards : List Board)
-    (shapes : map (λ (b : Board). b.board_shape) boards ≡ map (epoch_board plan loops) plan.epochs) where
-  pub as_many : length boards ≡ length plan.epochs
-  as_many = sym (length-map boards (λ (b : Board). b.board_shape)) ∙ (ap (λ (l : List BoardShape). length l) shapes
-      ∙ length-map plan.epochs (epoch_board plan loops))
+-- the lists of seats by board
+module _ (plan : Plan) (waves : List WavIn) (loops : ℕ) (boards : List Board) where
+  -- the list of a loop's seats has that of each board
+  seat_at : (i k : ℕ) (b : Board) (d : Known) → slice_get boards k ≡ Some b
+      → get_or (seats_of plan waves loops boards i) k d ≡ seat_of plan waves loops i (k, b)
+  seat_at i k b d here = let low = slice_get_within boards k b here in let long = length-enumerate_from 0 boards in
+      get_or-map (seat_of plan waves loops i) (enumerate_from 0 boards) k (k, b) d (omega (arith, low, long))
+      ∙ (ap (seat_of plan waves loops i) (get_or-enumerate_from 0 boards k (k, b) low)
+      ∙ (λ j. seat_of plan waves loops i (zero_add k j, get_or_from_slice_get boards k b b here j)))
+
+  pub driver_at : (k : ℕ) (b : Board) (d : Known) → slice_get boards k ≡ Some b
+      → get_or (map (driver_of plan waves loops) (enumerate_from 0 boards)) k d ≡ driver_of plan waves loops (k, b)
+  driver_at k b d here = let low = slice_get_within boards k b here in let long = length-enumerate_from 0 boards in
+      get_or-map (driver_of plan waves loops) (enumerate_from 0 boards) k (k, b) d (omega (arith, low, long))
+      ∙ (ap (driver_of plan waves loops) (get_or-enumerate_from 0 boards k (k, b) low)
+      ∙ (λ j. driver_of plan waves loops (zero_add k j, get_or_from_slice_get boards k b b here j)))
+
+-- there is a board an epoch
+pub as_many : (plan : Plan) (f : ℕ → ℕ) (loops : ℕ) (boards : List Board)
+    → map (λ (b : Board). b.board_shape) boards ≡ map (epoch_board f loops) plan.epochs → length boards ≡ length plan.epochs
+as_many plan f loops boards shapes = sym (length-map boards (λ (b : Board). b.board_shape)) ∙ (ap (λ (l : List BoardShape). length l) shapes
+    ∙ length-map plan.epochs (epoch_board f loops))
+
+module _ (plan : Plan) (waves : List WavIn) (f : ℕ → ℕ) (loops : ℕ) (sound : IsSoundPlan plan) (seating : IsSeating plan f loops) (boards : List Board)
+    (shapes : map (λ (b : Board). b.board_shape) boards ≡ map (epoch_board f loops) plan.epochs) where
+  boards_long : length boards ≡ length plan.epochs
+  boards_long = as_many plan f loops boards shapes
 
   module _ (k : ℕ) (b : Board) (e : Epoch) (here : slice_get boards k ≡ Some b) (at : IsEpoch plan k e) where
     abbrev p : BoardLayout
     p = layout b
 
-    pub board_is : b.board_shape ≡ epoch_board plan loops e
+    pub board_is : b.board_shape ≡ epoch_board f loops e
     board_is = ap (λ (x : Board). x.board_shape) (sym (get_or_from_slice_get boards k b b here))
         ∙ (sym (get_or-map (λ (x : Board). x.board_shape) boards k b b.board_shape (slice_get_within boards k b here))
         ∙ (ap (λ (l : List BoardShape). get_or l k b.board_shape) shapes
-        ∙ (get_or-map (epoch_board plan loops) plan.epochs k e b.board_shape (slice_get_within plan.epochs k e at)
-        ∙ ap (epoch_board plan loops) (get_or_from_slice_get plan.epochs k e e at))))
+        ∙ (get_or-map (epoch_board f loops) plan.epochs k e b.board_shape (slice_get_within plan.epochs k e at)
+        ∙ ap (epoch_board f loops) (get_or_from_slice_get plan.epochs k e e at))))
 
     sound_epoch : IsSoundEpoch plan e
     sound_epoch = subst (IsSoundEpoch plan) (get_or_from_slice_get plan.epochs k e e at) (sound.epochs k e (slice_get_within plan.epochs k e at))
@@ -101,17 +122,17 @@ module _ (plan : Plan) (waves : List WavIn) (loops : ℕ) (sound : IsSoundPlan p
     pub pooled : IsPooledBoard p
     pooled = record {
       sound = sound_layout b.board_shape (subst (λ (x : BoardShape). IsSoundShape x.shape) (sym board_is) sound_epoch.shape.sound)
-          (subst HasSeats (sym board_is) (has_seats plan loops e));
+          (subst HasSeats (sym board_is) (has_seats f loops seating.most e));
       pooled = subst (λ (x : BoardShape). IsPooledShape x.shape) (sym board_is) sound_epoch.shape;
     }
 
     -- the seat of a node is that of its loop
-    pub seat_is : (n : ℕ) → p.index n < nodes p → p.seat_of (p.index n) ≡ loop_of plan loops n
+    pub seat_is : (n : ℕ) → p.index n < nodes p → p.seat_of (p.index n) ≡ f n
     seat_is n low = let none : ShapeNode = record { node = 0; required = 0; targets = [] } in
         ap (λ (x : BoardShape). get_or x.seat_of (p.index n) 0) board_is
-        ∙ (ap (λ (x : BoardShape). get_or (seat_row plan loops x.shape) (p.index n) 0) (sym board_is)
-        ∙ (get_or-map (λ (x : ShapeNode). loop_of plan loops x.node) b.board_shape.shape.nodes (p.index n) none 0 low
-        ∙ ap (loop_of plan loops) (sym (get_or-map (λ (x : ShapeNode). x.node) b.board_shape.shape.nodes (p.index n) none 0 low)
+        ∙ (ap (λ (x : BoardShape). get_or (seat_row f x.shape) (p.index n) 0) (sym board_is)
+        ∙ (get_or-map (λ (x : ShapeNode). f x.node) b.board_shape.shape.nodes (p.index n) none 0 low
+        ∙ ap f (sym (get_or-map (λ (x : ShapeNode). x.node) b.board_shape.shape.nodes (p.index n) none 0 low)
         ∙ pooled.sound.known n low)))
 
     -- the driver's seat as the board gave it
@@ -142,33 +163,18 @@ module _ (plan : Plan) (waves : List WavIn) (loops : ℕ) (sound : IsSoundPlan p
       none_led = refl;
     }
 
-  -- the list of a loop's seats has that of each board
-  seat_at : (i k : ℕ) (b : Board) (d : Known) → slice_get boards k ≡ Some b
-      → get_or (seats_of plan waves loops boards i) k d ≡ seat_of plan waves loops i (k, b)
-  seat_at i k b d here = let low = slice_get_within boards k b here in let long = length-enumerate_from 0 boards in
-      get_or-map (seat_of plan waves loops i) (enumerate_from 0 boards) k (k, b) d (omega (arith, low, long))
-      ∙ (ap (seat_of plan waves loops i) (get_or-enumerate_from 0 boards k (k, b) low)
-      ∙ (λ j. seat_of plan waves loops i (zero_add k j, get_or_from_slice_get boards k b b here j)))
-
-  pub driver_at : (k : ℕ) (b : Board) (d : Known) → slice_get boards k ≡ Some b
-      → get_or (map (driver_of plan waves loops) (enumerate_from 0 boards)) k d ≡ driver_of plan waves loops (k, b)
-  driver_at k b d here = let low = slice_get_within boards k b here in let long = length-enumerate_from 0 boards in
-      get_or-map (driver_of plan waves loops) (enumerate_from 0 boards) k (k, b) d (omega (arith, low, long))
-      ∙ (ap (driver_of plan waves loops) (get_or-enumerate_from 0 boards k (k, b) low)
-      ∙ (λ j. driver_of plan waves loops (zero_add k j, get_or_from_slice_get boards k b b here j)))
-
   -- all drivers' seats
   pub first_leads : (drivers : List Known) → drivers ≡ map (driver_of plan waves loops) (enumerate_from 0 boards)
       → (score : Score) → score.plan.value ≡ plan → score.waves.value ≡ waves → AreFirstLeads score boards drivers
   first_leads drivers are score plan_is waves_are = record {
     count = ap (λ (l : List Known). length l) are ∙ (length-map (enumerate_from 0 boards) (driver_of plan waves loops) ∙ length-enumerate_from 0 boards);
-    each = λ k b d here. let low = slice_get_within boards k b here in let e = there plan.epochs k (omega (arith, low, as_many)) in
-        subst (IsFirstLead score k b) (sym (ap (λ (l : List Known). get_or l k d) are ∙ driver_at k b d here))
+    each = λ k b d here. let low = slice_get_within boards k b here in let e = there plan.epochs k (omega (arith, low, boards_long)) in
+        subst (IsFirstLead score k b) (sym (ap (λ (l : List Known). get_or l k d) are ∙ driver_at plan waves loops boards k b d here))
         (leads_first k b e.0 here e.1 score plan_is waves_are);
   }
 
   -- one of the loops
-  module _ (i : ℕ) (s : LoopState) (is : IsLoopOf plan waves (nodes_of_loop plan loops i) (seats_of plan waves loops boards i) s)
+  module _ (i : ℕ) (s : LoopState) (is : IsLoopOf plan waves (nodes_of_loop f plan i) (seats_of plan waves loops boards i) s)
       (bt : IsBetweenEpochs s) where
     epochs_are : (k : ℕ) (e : Epoch) → IsEpoch (plan_of s) k e → IsEpoch plan k e
     epochs_are k e at = subst (λ (x : Plan). IsEpoch x k e) is.plan_is at
@@ -178,9 +184,9 @@ module _ (plan : Plan) (waves : List WavIn) (loops : ℕ) (sound : IsSoundPlan p
       between = bt;
       none_done = is.first;
       boards_are = record {
-        count = as_many ∙ ap (λ (x : Plan). length x.epochs) (sym is.plan_is);
+        count = boards_long ∙ ap (λ (x : Plan). length x.epochs) (sym is.plan_is);
         shape = λ k e b at here. ap (λ (x : BoardShape). x.shape) (board_is k b e here (epochs_are k e at));
-        seat = λ k b g here stage. let low = slice_get_within boards k b here in let e = there plan.epochs k (omega (arith, low, as_many)) in
+        seat = λ k b g here stage. let low = slice_get_within boards k b here in let e = there plan.epochs k (omega (arith, low, boards_long)) in
             subst (λ (x : Plan × List WavIn × List ℕ). IsFirstSeat x.0 x.1 k x.2 (layout b) (table_of b) g.seat)
             (λ j. (sym is.plan_is j, sym is.waves_are j, sym is.nodes_are j)) record {
               plain = pooled k b e.0 here e.1;
@@ -188,15 +194,15 @@ module _ (plan : Plan) (waves : List WavIn) (loops : ℕ) (sound : IsSoundPlan p
               one = let seats = ap (λ (x : BoardShape). x.seats) (board_is k b e.0 here e.1) in omega (arith, most, seats);
               is = ap (λ (x : Stage). x.seat) (sym (get_or_from_slice_get s.stages.items k g g stage))
                   ∙ (sym (get_or-map (λ (x : Stage). x.seat) s.stages.items k g g.seat (slice_get_within s.stages.items k g stage))
-                  ∙ (ap (λ (l : List Known). get_or l k g.seat) is.seats_are ∙ seat_at i k b g.seat here));
-              owned = λ n own inside apart. seat_is k b e.0 here e.1 n inside ∙ has_loop plan loops i n own;
+                  ∙ (ap (λ (l : List Known). get_or l k g.seat) is.seats_are ∙ seat_at plan waves loops boards i k b g.seat here));
+              owned = λ n own inside apart. seat_is k b e.0 here e.1 n inside ∙ has_loop f plan i n own;
             };
       };
     }
 
     pub no_driver : i < loops → HasNoDriver s
-    no_driver less k e at own = let one = has_loop plan loops i e.shape.driver (subst (λ (l : List ℕ). Contains l e.shape.driver) is.nodes_are own) in
-        let drives = driver_loop plan loops k e (epochs_are k e at) in absurd (omega (arith, one, drives, less))
+    no_driver less k e at own = let one = has_loop f plan i e.shape.driver (subst (λ (l : List ℕ). Contains l e.shape.driver) is.nodes_are own) in
+        let drives = seating.drivers e.shape.driver (driver_drives plan k e (epochs_are k e at)) in absurd (omega (arith, one, drives, less))
 
     pub has_drivers : i ≡ loops → HasDrivers s
     has_drivers last k e at = ⊎_elim
@@ -206,40 +212,40 @@ module _ (plan : Plan) (waves : List WavIn) (loops : ℕ) (sound : IsSoundPlan p
         let ok : IsSoundEpoch plan e = subst (IsSoundEpoch plan) (get_or_from_slice_get plan.epochs k e e plan_at)
         (sound.epochs k e (slice_get_within plan.epochs k e plan_at)) in
         inr (subst (λ (l : List ℕ). Contains l e.shape.driver) (sym is.nodes_are)
-        (is_in plan loops i e.shape.driver (ok.places.places e.shape.driver ok.shape.sound.nodes.driver node)
-        (driver_loop plan loops k e plan_at ∙ sym last))))
+        (is_in f plan i e.shape.driver (ok.places.places e.shape.driver ok.shape.sound.nodes.driver node)
+        (seating.drivers e.shape.driver (driver_drives plan k e plan_at) ∙ sym last))))
         (cases_eq e.shape.driver dummy_node)
 
 -- all loops of a plan
-module _ (plan : Plan) (waves : List WavIn) (loops : ℕ) (sound : IsSoundPlan plan) (boards : List Board)
-    (shapes : map (λ (b : Board). b.board_shape) boards ≡ map (epoch_board plan loops) plan.epochs) (rows : List (List Known))
-    (seats : rows ≡ all_seats plan waves loops boards) (states : List LoopState) (are : AreLoopsOf plan waves loops rows states)
+module _ (plan : Plan) (waves : List WavIn) (f : ℕ → ℕ) (loops : ℕ) (sound : IsSoundPlan plan) (seating : IsSeating plan f loops) (boards : List Board)
+    (shapes : map (λ (b : Board). b.board_shape) boards ≡ map (epoch_board f loops) plan.epochs) (rows : List (List Known))
+    (seats : rows ≡ all_seats plan waves loops boards) (states : List LoopState) (are : AreLoopsOf plan waves f rows states)
     (between : All IsBetweenEpochs states) where
   pub how_many : length states ≡ loops + 1
   how_many = are.count ∙ (ap (λ (l : List (List Known)). length l) seats
       ∙ (length-map (range_with_len 0 (loops + 1)) (seats_of plan waves loops boards) ∙ length-range_with_len 0 (loops + 1)))
 
   one_is : (i : ℕ) (d : LoopState) → i ≤ loops
-      → IsLoopOf plan waves (nodes_of_loop plan loops i) (seats_of plan waves loops boards i) (get_or states i d)
+      → IsLoopOf plan waves (nodes_of_loop f plan i) (seats_of plan waves loops boards i) (get_or states i d)
   one_is i d most = let n = how_many in let m = are.count in let in_range : i < loops + 1 = omega (arith, most) in
       let long = length-range_with_len 0 (loops + 1) in
       let row : get_or rows i [] ≡ seats_of plan waves loops boards i = ap (λ (l : List (List Known)). get_or l i []) seats
       ∙ (get_or-map (seats_of plan waves loops boards) (range_with_len 0 (loops + 1)) i 0 [] (omega (arith, in_range, long))
       ∙ ap (seats_of plan waves loops boards) (get_or-range_with_len 0 (loops + 1) i 0 in_range ∙ zero_add i)) in
-      subst (λ (l : List Known). IsLoopOf plan waves (nodes_of_loop plan loops i) l (get_or states i d)) row
+      subst (λ (l : List Known). IsLoopOf plan waves (nodes_of_loop f plan i) l (get_or states i d)) row
       (are.each i d (omega (arith, n, m, most)))
 
   pub each_ready : (i : ℕ) (d : LoopState) → i ≤ loops → IsReady boards (get_or states i d)
   each_ready i d most = let n = how_many in
-      loop_ready plan waves loops sound boards shapes i (get_or states i d) (one_is i d most) (between i d (omega (arith, n, most))) most
+      loop_ready plan waves f loops sound seating boards shapes i (get_or states i d) (one_is i d most) (between i d (omega (arith, n, most))) most
 
   pub each_without : (i : ℕ) (d : LoopState) → i < loops → HasNoDriver (get_or states i d)
   each_without i d less = let n = how_many in
-      no_driver plan waves loops sound boards shapes i (get_or states i d) (one_is i d (omega (arith, less))) (between i d (omega (arith, n, less))) less
+      no_driver plan waves f loops sound seating boards shapes i (get_or states i d) (one_is i d (omega (arith, less))) (between i d (omega (arith, n, less))) less
 
   pub last_has : (d : LoopState) → HasDrivers (get_or states loops d)
   last_has d = let n = how_many in
-      has_drivers plan waves loops sound boards shapes loops (get_or states loops d) (one_is loops d (omega arith)) (between loops d (omega (arith, n))) refl
+      has_drivers plan waves f loops sound seating boards shapes loops (get_or states loops d) (one_is loops d (omega arith)) (between loops d (omega (arith, n))) refl
 
   -- what the made loops are
   pub all_ready : AreReady boards loops states
@@ -290,7 +296,7 @@ module _ (boards : List Board) (loops : ℕ) (xs : List LoopState) (s : LoopStat
   others_none i d inside = let n = short in
       subst HasNoDriver (get_or_append_left xs (s ∷ []) d i inside) (ready.without i d (omega (arith, inside, n)))
 
-  pub own_is : (plan : Plan) (waves : List WavIn) (rows : List (List Known)) → AreLoopsOf plan waves loops rows (xs ++ s ∷ [])
-      → IsLoopOf plan waves (nodes_of_loop plan loops loops) (get_or rows loops []) s
-  own_is plan waves rows are = let m = are.count in
-      subst (IsLoopOf plan waves (nodes_of_loop plan loops loops) (get_or rows loops [])) last_is (are.each loops s (omega (arith, m, low)))
+  pub own_is : (plan : Plan) (waves : List WavIn) (f : ℕ → ℕ) (rows : List (List Known)) → AreLoopsOf plan waves f rows (xs ++ s ∷ [])
+      → IsLoopOf plan waves (nodes_of_loop f plan loops) (get_or rows loops []) s
+  own_is plan waves f rows are = let m = are.count in
+      subst (IsLoopOf plan waves (nodes_of_loop f plan loops) (get_or rows loops [])) last_is (are.each loops s (omega (arith, m, low)))

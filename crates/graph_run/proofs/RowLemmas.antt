@@ -13,7 +13,7 @@ use Rattle.wav_files.specs.declared.wav.WavIn.{WavIn}
 use Rattle.board_rule.specs.declared.board.Board.{Board}
 use Rattle.board_rule.specs.declared.board_shape.BoardShape.{BoardShape}
 use Rattle.board_rule.specs.Known.{Known}
-use Rattle.graph_run.specs.Assignment.{epoch_board}
+use Rattle.graph_run.specs.Seating.{epoch_board}
 use Rattle.graph_run.specs.Boards.{dealt, driver_of, seat_of, seats_on, seats_of, all_seats}
 
 -- one element more with its number
@@ -73,18 +73,18 @@ module _ (plan : Plan) (waves : List WavIn) (loops : ℕ) (boards : List Board) 
       ∙ (ap (λ (l : List (List Known)). length l) (sym e) ∙ length-map rows (λ r. r.list))))
 
 -- the shapes of one board more
-pub shapes_more : (plan : Plan) (loops : ℕ) (boards : List Board) (b : Board) (k : ℕ)
-    → map (λ x. x.board_shape) boards ≡ map (epoch_board plan loops) (take k plan.epochs)
-    → option_map (epoch_board plan loops) (slice_get plan.epochs k) ≡ Some b.board_shape
-    → map (λ x. x.board_shape) (boards ++ b ∷ []) ≡ map (epoch_board plan loops) (take (k + 1) plan.epochs)
-shapes_more plan loops boards b k e at = map-append (λ (x : Board). x.board_shape) boards (b ∷ [])
+pub shapes_more : (plan : Plan) (f : ℕ → ℕ) (loops : ℕ) (boards : List Board) (b : Board) (k : ℕ)
+    → map (λ x. x.board_shape) boards ≡ map (epoch_board f loops) (take k plan.epochs)
+    → option_map (epoch_board f loops) (slice_get plan.epochs k) ≡ Some b.board_shape
+    → map (λ x. x.board_shape) (boards ++ b ∷ []) ≡ map (epoch_board f loops) (take (k + 1) plan.epochs)
+shapes_more plan f loops boards b k e at = map-append (λ (x : Board). x.board_shape) boards (b ∷ [])
     ∙ (ap (λ (l : List BoardShape). l ++ b.board_shape ∷ []) e ∙ go (slice_get plan.epochs k) refl) where
       go : (o : Option Epoch) → slice_get plan.epochs k ≡ o
-          → map (epoch_board plan loops) (take k plan.epochs) ++ b.board_shape ∷ [] ≡ map (epoch_board plan loops) (take (k + 1) plan.epochs)
+          → map (epoch_board f loops) (take k plan.epochs) ++ b.board_shape ∷ [] ≡ map (epoch_board f loops) (take (k + 1) plan.epochs)
       go None d = cc
       go (Some x) d = let lt = slice_get_within plan.epochs k x d in
-          let is : epoch_board plan loops x ≡ b.board_shape = cc in
-          sym (ap (map (epoch_board plan loops)) (take_more plan.epochs k x lt)
-          ∙ (map-append (epoch_board plan loops) (take k plan.epochs) (get_or plan.epochs k x ∷ [])
-          ∙ ap (λ (s : BoardShape). map (epoch_board plan loops) (take k plan.epochs) ++ s ∷ [])
-          (ap (epoch_board plan loops) (get_or_from_slice_get plan.epochs k x x d) ∙ is)))
+          let is : epoch_board f loops x ≡ b.board_shape = cc in
+          sym (ap (map (epoch_board f loops)) (take_more plan.epochs k x lt)
+          ∙ (map-append (epoch_board f loops) (take k plan.epochs) (get_or plan.epochs k x ∷ [])
+          ∙ ap (λ (s : BoardShape). map (epoch_board f loops) (take k plan.epochs) ++ s ∷ [])
+          (ap (epoch_board f loops) (get_or_from_slice_get plan.epochs k x x d) ∙ is)))

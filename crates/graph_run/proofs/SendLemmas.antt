@@ -9,6 +9,8 @@ use Rattle.circular_buffer.proofs.cells.Cells.TheSendSync as cells
 use Rattle.circular_buffer.proofs.cells.Deed.TheSendSync as deed
 use Rattle.board_rule.specs.contracts.loop_seat.LoopSeat as seat_row
 use Rattle.board_rule.specs.contracts.board.Board as board_row
+use Rattle.board_rule.specs.contracts.closed.Closed as closed_row
+use Rattle.board_rule.specs.contracts.driver_seat.DriverSeat as driver_row
 use Rattle.buffer_pool.specs.contracts.pool.Pool as pool_row
 use Rattle.node_state.specs.contracts.node_state.NodeState as node_row
 use Rattle.ready_queues.specs.contracts.end.End as end_row
@@ -16,6 +18,10 @@ use Rattle.ready_queues.specs.contracts.way.Way as way_row
 use Rattle.data_loop.specs.contracts.own_pools.OwnPools as own_row
 use Rattle.data_loop.specs.contracts.stage.Stage as stage_row
 use Rattle.data_loop.specs.contracts.loop_state.LoopState as loop_row
+use Rattle.graph_run.specs.contracts.alone.AloneRun as alone_row
+use Rattle.graph_run.specs.contracts.ended.EndedRun as ended_row
+use Rattle.graph_run.specs.contracts.leading.Driving as driving_row
+use Rattle.graph_run.specs.contracts.rooms.Rooms as rooms_row
 use Rattle.graph_run.specs.contracts.shared.LoopWay as given_row
 use Rattle.graph_run.specs.contracts.shared.Shared as shared_row
 
@@ -61,3 +67,31 @@ board_sync = search crossing depth 30 fits 50000
 
 pub shared_sync : IsSync shared_row.the_row
 shared_sync = search (crossing, board_sync) depth 30
+
+-- a run of one thread, before it and after it
+driver_send : IsSend driver_row.the_row
+driver_send = search crossing depth 30 fits 50000
+
+board_send : IsSend board_row.the_row
+board_send = search crossing depth 30 fits 50000
+
+closed_send : IsSend closed_row.the_row
+closed_send = search crossing depth 30 fits 50000
+
+rooms_field : IsSend rooms_row.the_field.row
+rooms_field = search (crossing, closed_send) depth 30 fits 50000
+
+shared_field : IsSend shared_row.the_field.row
+shared_field = search (crossing, board_send) depth 30 fits 50000
+
+driving_field : IsSend driving_row.the_field.row
+driving_field = let a : IsSend loop_row.the_field.row = loop_field in let b : IsSend way_row.the_field.row = way_field in
+    search (crossing, driver_send) depth 30 fits 50000
+
+pub alone_send : IsSend alone_row.the_row
+alone_send = let a : IsSend shared_row.the_field.row = shared_field in let b : IsSend driving_row.the_field.row = driving_field in
+    let c : IsSend rooms_row.the_field.row = rooms_field in search (crossing, loop_send) depth 30 fits 50000
+
+pub ended_send : IsSend ended_row.the_row
+ended_send = let c : IsSend rooms_row.the_field.row = rooms_field in
+    search (crossing, loop_send, board_send, driver_send) depth 30 fits 50000

@@ -1,12 +1,10 @@
--- Which loop each node belongs to, and with it which seat its node has on the boards.
+-- Which loop each node of a plan belongs to; and the cells of a plan, in which each node that never
+-- drives is alone.
 -- Source: PipeWire's documentation, "Data loops" (a node is run by one loop); which loop is this
 -- project's own.
-use Rattle.std.specs.Prelude.{ℕ, ◌+◌, ◌%◌, ◌==◌, ◌||◌, Bool, List, map, filter, length, slice_get, option_map, unwrap_or, if◌then◌else◌}
+use Rattle.std.specs.Prelude.{ℕ, ◌%◌, ◌==◌, ◌||◌, not, Bool, List, map, count_by, length, slice_get, option_map, unwrap_or, take, if◌then◌else◌}
 use Rattle.std.specs.List.{list_any, range_with_len}
-use Rattle.pw_base.specs.declared.shape.Shape.{Shape}
-use Rattle.pw_base.specs.declared.plan.Epoch.{Epoch}
 use Rattle.pw_base.specs.declared.plan.Plan.{Plan}
-use Rattle.board_rule.specs.declared.board_shape.BoardShape.{BoardShape}
 
 -- a node drives in some epoch
 abbrev pub drives_somewhere : Plan → ℕ → Bool
@@ -22,22 +20,19 @@ abbrev pub loop_of : Plan → ℕ → ℕ → ℕ
 loop_of plan loops n =
     if (loops == 0) || drives_somewhere plan n then loops else loop_number plan n % loops
 
--- the nodes of a loop, ascending
-abbrev pub nodes_of_loop : Plan → ℕ → ℕ → List ℕ
-nodes_of_loop plan loops which =
-    filter (λ n. loop_of plan loops n == which) (range_with_len 0 (length plan.nodes))
-
--- a seat for each node of a shape, and the shape of the board of an epoch
-abbrev pub seat_row : Plan → ℕ → Shape → List ℕ
-seat_row plan loops shape = map (λ n. loop_of plan loops n.node) shape.nodes
-
-abbrev pub epoch_board : Plan → ℕ → Epoch → BoardShape
-epoch_board plan loops e = record {
-  shape = e.shape;
-  seat_of = seat_row plan loops e.shape;
-  seats = loops + 1;
-}
-
 -- the loop of each node
 abbrev pub owner_row : Plan → ℕ → List ℕ
 owner_row plan loops = map (loop_of plan loops) (range_with_len 0 (length plan.nodes))
+
+-- how many nodes of the plan before this one drive in no epoch, and how many do in all
+abbrev pub cells_before : Plan → ℕ → ℕ
+cells_before plan n = count_by (λ m. not (drives_somewhere plan m))
+    (take n (range_with_len 0 (length plan.nodes)))
+
+abbrev pub cell_count : Plan → ℕ
+cell_count plan = cells_before plan (length plan.nodes)
+
+-- THE CELL of a node, by its number: cells are numbered in the order of their nodes, and after the
+-- last one comes the driver's own loop, to which each node belongs that drives in some epoch
+abbrev pub cell_number : Plan → ℕ → ℕ
+cell_number plan n = if drives_somewhere plan n then cell_count plan else cells_before plan n

@@ -11,7 +11,7 @@ use Rattle.board_rule.specs.declared.board.Board.{Board}
 use Rattle.board_rule.specs.Known.{Known}
 use Rattle.board_rule.specs.OnBoard.{table_of, layout}
 use Rattle.board_rule.specs.View.{loop_view, driver_view}
-use Rattle.graph_run.specs.Assignment.{epoch_board}
+use Rattle.graph_run.specs.Seating.{epoch_board}
 
 -- a list with room, and one more in it
 abbrev pub dealt : Listed Known × Known → Listed Known
@@ -42,8 +42,8 @@ module _ (plan : Plan) (waves : List WavIn) (loops : ℕ) where
   abbrev pub all_seats : List Board → List (List Known)
   all_seats boards = map (seats_of boards) (range_with_len 0 (loops + 1))
 
-  -- THE BOARD of epoch k with its seats
-  abbrev pub IsBoardMade : ℕ → Board × Known × List Known → Type 0
-  IsBoardMade k made = (option_map (epoch_board plan loops) (slice_get plan.epochs k)
+  -- THE BOARD of epoch k with its seats, by a seating
+  abbrev pub IsBoardMade : (ℕ → ℕ) → ℕ → Board × Known × List Known → Type 0
+  IsBoardMade f k made = (option_map (epoch_board f loops) (slice_get plan.epochs k)
       ≡ Some made.0.board_shape)
       × (made.1 ≡ driver_of (k, made.0)) × (made.2 ≡ seats_on (k, made.0))

@@ -1,4 +1,5 @@
 pub mod Assignment
+pub mod Seating
 pub mod Boards
 pub mod Closing
 pub mod Loops
@@ -10,3 +11,4 @@ pub mod Threads
 pub mod Lists
 pub mod Prepared
 pub mod Rooms
+pub mod RunStages

@@ -1,5 +1,5 @@
 -- The loops of a plan before the first epoch.
--- Source: PipeWire's documentation, "Data loops" (a node is run by one loop); which loop is this
+-- Source: PipeWire's documentation, "Data loops" (a node is run by one loop); seats are this
 -- project's own.
 use Rattle.std.specs.Prelude.{◌≡◌, ℕ, ◌<◌, List, [], length, slice_index_or}
 use Rattle.pw_base.specs.declared.plan.Plan.{Plan}
@@ -7,12 +7,12 @@ use Rattle.wav_files.specs.declared.wav.WavIn.{WavIn}
 use Rattle.board_rule.specs.Known.{Known}
 use Rattle.data_loop.specs.declared.loop_state.LoopState.{LoopState}
 use Rattle.data_loop.specs.LoopStart.{IsLoopOf}
-use Rattle.graph_run.specs.Assignment.{nodes_of_loop}
+use Rattle.graph_run.specs.Seating.{nodes_of_loop}
 
--- one for each list of seats, by its number, with the nodes of this number
-pub record AreLoopsOf (plan : Plan) (waves : List WavIn) (loops : ℕ) (rows : List (List Known))
+-- one for each list of seats, by its number, with the nodes that the seating has on it
+pub record AreLoopsOf (plan : Plan) (waves : List WavIn) (f : ℕ → ℕ) (rows : List (List Known))
     (states : List LoopState) : Type 0 where
   pub count : length states ≡ length rows
   pub each : (i : ℕ) (d : LoopState) → i < length rows
-      → IsLoopOf plan waves (nodes_of_loop plan loops i) (slice_index_or rows i [])
+      → IsLoopOf plan waves (nodes_of_loop f plan i) (slice_index_or rows i [])
       (slice_index_or states i d)

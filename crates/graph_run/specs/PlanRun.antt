@@ -10,15 +10,15 @@ use Rattle.wav_files.specs.declared.wav.WavIn.{WavIn}
 use Rattle.cycle_model.specs.Expected.{expected_samples}
 use Rattle.board_rule.specs.declared.closed.Closed.{Closed}
 use Rattle.board_rule.specs.events.Closing.{expected}
-use Rattle.graph_run.specs.Assignment.{epoch_board}
+use Rattle.graph_run.specs.Seating.{epoch_board}
 
--- THE RUN of a plan by so many loops: one closed board an epoch, of the epoch's shape and with the
--- seats of the loops, on which each link gave the samples of the cycle function. The history is
--- their events one after the other, and legal. It has no more ticks than the ticker's count grew
--- by, from m to n, and at least one where it grew
-pub record IsRunOf (plan : Plan) (waves : List WavIn) (loops : ℕ) (history : List Event)
-    (closed : List Closed) (m n : ℕ) : Type 0 where
-  pub boards : map (λ x. x.board_shape) closed ≡ map (epoch_board plan loops) plan.epochs
+-- THE RUN of a plan by a seating of so many loops: one closed board an epoch, of the epoch's shape
+-- and with the seats of the seating, on which each link gave the samples of the cycle function. The
+-- history is their events one after the other, and legal. It has no more ticks than the ticker's
+-- count grew by, from m to n, and at least one where it grew
+pub record IsRunOf (plan : Plan) (waves : List WavIn) (f : ℕ → ℕ) (loops : ℕ)
+    (history : List Event) (closed : List Closed) (m n : ℕ) : Type 0 where
+  pub boards : map (λ x. x.board_shape) closed ≡ map (epoch_board f loops) plan.epochs
   pub tables : map expected closed
       ≡ map (expected_samples plan waves) (range_with_len 0 (length plan.epochs))
   pub events : history ≡ flat_map (λ x. x.events) closed

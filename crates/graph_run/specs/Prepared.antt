@@ -7,7 +7,8 @@ use Rattle.wav_files.specs.declared.wav.WavIn.{WavIn}
 use Rattle.graph_run.specs.declared.shared.Shared.{Shared}
 use Rattle.graph_run.specs.declared.preparing.Prepared.{Prepared}
 use Rattle.graph_run.specs.declared.scope.Crew.{Crew}
-use Rattle.graph_run.specs.Assignment.{epoch_board}
+use Rattle.graph_run.specs.Assignment.{loop_of}
+use Rattle.graph_run.specs.Seating.{epoch_board}
 use Rattle.graph_run.specs.Boards.{driver_of}
 use Rattle.graph_run.specs.Lists.{AreEmpty, HaveRooms}
 use Rattle.graph_run.specs.Threads.{CanStart, CanDrive, HasNode}
@@ -18,7 +19,7 @@ pub record IsPrepared (plan : Plan) (waves : List WavIn) (loops : ℕ)
   pub plan_is : r.shared.score.plan.value ≡ plan
   pub waves_are : r.shared.score.waves.value ≡ waves
   pub shapes : map (λ b. b.board_shape) r.shared.boards
-      ≡ map (epoch_board plan loops) plan.epochs
+      ≡ map (epoch_board (loop_of plan loops) loops) plan.epochs
   pub drivers : r.driving.drivers
       ≡ map (driver_of plan waves loops) (enumerate_from 0 r.shared.boards)
   pub can_start : All (CanStart r.shared) r.loops

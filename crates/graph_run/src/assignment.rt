@@ -1,12 +1,13 @@
 //! Which loop each node belongs to.
-ghost use Rattle.std.specs.Prelude.{◌≡◌, ◌<◌, ◌≤◌, IfOk, length, map};
-ghost use Rattle.graph_run.specs.Assignment.{drives_somewhere, loop_of, nodes_of_loop, seat_row};
+ghost use Rattle.std.specs.Prelude.{◌≡◌, ◌≤◌, IfOk, length};
+ghost use Rattle.pw_base.specs.Limits.{nodes_limit};
+ghost use Rattle.graph_run.specs.Assignment.{drives_somewhere, loop_of, owner_row};
 
-use pw_base::{Items, Memory, Plan, Shape};
+use pw_base::{Items, Memory, Plan};
 use std::alloc::Global;
 
 // Whether a node drives in some epoch.
-fn drives_somewhere(plan: &Plan, node: u32) -> bool
+pub(crate) fn drives_somewhere(plan: &Plan, node: u32) -> bool
     ensures { result ≡ drives_somewhere plan.now node }
 {
     plan.epochs
@@ -33,37 +34,14 @@ pub fn loop_of(plan: &Plan, loops: u32, node: u32) -> u32
     }
 }
 
-/// The nodes of a loop, ascending.
-pub fn nodes_of_loop(
-    alloc: Global,
-    plan: &Plan,
-    loops: u32,
-    which: u32,
-) -> Result<Items<u32>, Memory>
-    requires few { length plan.now.nodes ≤ 63 }
-    ensures { IfOk result (λ nodes. nodes ≡ nodes_of_loop plan.now loops which) }
-{
-    let mut nodes = Items::new(alloc);
-    for node in 0..plan.nodes.len() {
-        if loop_of(plan, loops, node as u32) == which {
-            nodes.push(node as u32)?;
-        }
-    }
-    Ok(nodes)
-}
-
-/// The seats of a shape's nodes: those of their loops, where seat `loops` is for the driver's own.
-pub(crate) fn seat_row(
-    alloc: Global,
-    plan: &Plan,
-    loops: u32,
-    shape: &Shape,
-) -> Result<Items<u32>, Memory>
-    ensures { IfOk result (λ row. row ≡ seat_row plan.now loops shape.now) }
+// The loop of each node of the plan.
+pub(crate) fn owner_row(alloc: Global, plan: &Plan, loops: u32) -> Result<Items<u32>, Memory>
+    requires few { length plan.now.nodes ≤ nodes_limit }
+    ensures { IfOk result (λ row. row ≡ owner_row plan.now loops) }
 {
     let mut row = Items::new(alloc);
-    for node in shape.nodes.as_slice() {
-        row.push(loop_of(plan, loops, node.node))?;
+    for node in 0..plan.nodes.len() {
+        row.push(loop_of(plan, loops, node as u32))?;
     }
     Ok(row)
 }

@@ -4,12 +4,12 @@ ghost use Rattle.pw_base.specs.SoundPlan.{IsSoundPlan};
 ghost use Rattle.cycle_model.specs.WavesFit.{WavesFit};
 ghost use Rattle.cycle_model.specs.Expected.{IsShort, AreShort, expected_samples};
 ghost use Rattle.std.specs.List.{enumerate_from, range_with_len};
-ghost use Rattle.graph_run.specs.Assignment.{epoch_board};
+ghost use Rattle.graph_run.specs.Seating.{IsSeatingOf, epoch_board, holder_of};
 ghost use Rattle.node_progress.specs.declared.score.Score.{Score};
 ghost use Rattle.graph_run.specs.Boards.{IsBoardMade, dealt, driver_of, all_seats};
 ghost use Rattle.graph_run.specs.LoopsOnPlan.{AreFirstLeads};
 
-use crate::assignment::seat_row;
+use crate::seating::{Seating, seat_row};
 use board_rule::{Board, DriverSeat, Expect, LoopSeat};
 use pw_base::{Items, Memory, Plan, Room};
 use std::alloc::Global;
@@ -48,21 +48,22 @@ fn board_with<E: Expect>(
     alloc: Global,
     plan: &Plan,
     waves: &Items<WavIn>,
-    loops: u32,
+    seating: &Seating,
     epoch: usize,
 ) -> Result<(Board, DriverSeat, Items<LoopSeat>), Memory>
     requires sound { IsSoundPlan plan.now }
     requires fit { WavesFit plan.now waves.now }
     requires short { AreShort waves.now }
-    requires few { loops ≤ 16 }
+    requires seating { IsSeatingOf plan.now seating.now }
     requires inside { epoch < length plan.now.epochs }
     requires table { E.expect ≡ expected_samples plan.now waves.now epoch }
-    ensures { IfOk result (IsBoardMade plan.now waves.now loops epoch) }
+    ensures { IfOk result
+        (IsBoardMade plan.now waves.now seating.now.loops (holder_of seating.now) epoch) }
 {
     let shape = &plan.epochs.as_slice()[epoch].shape;
-    let seat_of = seat_row(alloc, plan, loops, shape)?;
+    let seat_of = seat_row(alloc, seating, shape)?;
     let _ = waves;
-    let made = Board::new::<E>(alloc, shape, &seat_of, loops + 1)?;
+    let made = Board::new::<E>(alloc, shape, &seat_of, seating.loops + 1)?;
     Ok(made)
 }
 
@@ -71,17 +72,18 @@ fn board_of(
     alloc: Global,
     plan: &Plan,
     waves: &Items<WavIn>,
-    loops: u32,
+    seating: &Seating,
     epoch: usize,
 ) -> Result<(Board, DriverSeat, Items<LoopSeat>), Memory>
     requires sound { IsSoundPlan plan.now }
     requires fit { WavesFit plan.now waves.now }
     requires short { AreShort waves.now }
-    requires few { loops ≤ 16 }
+    requires seating { IsSeatingOf plan.now seating.now }
     requires inside { epoch < length plan.now.epochs }
-    ensures { IfOk result (IsBoardMade plan.now waves.now loops epoch) }
+    ensures { IfOk result
+        (IsBoardMade plan.now waves.now seating.now.loops (holder_of seating.now) epoch) }
 {
-    board_with::<Brand>(alloc, plan, waves, loops, epoch)
+    board_with::<Brand>(alloc, plan, waves, seating, epoch)
 }
 
 // Hands the seats of one board to the loops, in their order.
@@ -110,26 +112,27 @@ fn seat_rows(alloc: Global, loops: usize, count: usize) -> Result<Vec<Room<LoopS
     Ok(rows.into_vec())
 }
 
-/// The boards of all epochs of a plan for `loops` loops beside the driver's own. Each node has the
-/// seat of its loop, and what each board has to give are the samples of the cycle function.
+/// The boards of all epochs of a plan, with a seat for each loop of the seating. Each node is on
+/// the seat that the seating gives it, and what each board has to give are the samples of the cycle
+/// function.
 ///
 /// Memory: a board an epoch, with a seat for each loop.
 pub fn boards_of(
     alloc: Global,
     plan: &Plan,
     waves: &Items<WavIn>,
-    loops: u32,
+    seating: &Seating,
 ) -> Result<Boards, Memory>
     requires sound { IsSoundPlan plan.now }
     requires fit { WavesFit plan.now waves.now }
-    requires few { loops ≤ 16 }
+    requires seating { IsSeatingOf plan.now seating.now }
     ensures shapes { IfOk result (λ all. map (λ b. b.board_shape) all.boards
-        ≡ map (epoch_board plan.now loops) plan.now.epochs) }
+        ≡ map (epoch_board (holder_of seating.now) seating.now.loops) plan.now.epochs) }
     ensures drivers { IfOk result (λ all. all.drivers
-        ≡ map (driver_of plan.now waves.now loops) (enumerate_from 0 all.boards)) }
+        ≡ map (driver_of plan.now waves.now seating.now.loops) (enumerate_from 0 all.boards)) }
     ensures seats { IfOk result (λ all. map (λ row. row.list) all.seats.items
-        ≡ all_seats plan.now waves.now loops all.boards) }
-    ensures rows { IfOk result (λ all. (length all.seats.items ≡ loops + 1)
+        ≡ all_seats plan.now waves.now seating.now.loops all.boards) }
+    ensures rows { IfOk result (λ all. (length all.seats.items ≡ seating.now.loops + 1)
         × All (λ row. length row.list ≡ length plan.now.epochs) all.seats.items) }
     // So the drivers' seats are ready to lead the run.
     ensures lead { IfOk result (λ all. (score : Score) → score.plan.value ≡ plan.now
@@ -139,9 +142,9 @@ pub fn boards_of(
     let count = plan.epochs.len();
     let mut boards = Items::new(alloc);
     let mut drivers = Items::new(alloc);
-    let mut seats = seat_rows(alloc, loops as usize + 1, count)?;
+    let mut seats = seat_rows(alloc, seating.loops as usize + 1, count)?;
     for epoch in 0..count {
-        let (board, driver, row) = board_of(alloc, plan, waves, loops, epoch)?;
+        let (board, driver, row) = board_of(alloc, plan, waves, seating, epoch)?;
         boards.push(board)?;
         drivers.push(driver)?;
         deal(&mut seats, row);

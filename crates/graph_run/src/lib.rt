@@ -8,9 +8,11 @@
 //! legal history.
 #![tactic(auto)]
 
+mod alone;
 mod assignment;
 mod boards;
 mod closing;
+mod ended;
 mod epochs;
 mod joining;
 mod leading;
@@ -21,14 +23,19 @@ mod plan_run;
 mod preparing;
 mod rooms;
 mod scope;
+mod seating;
 mod shared;
 mod starting;
 mod ways;
 
-pub use assignment::{loop_of, nodes_of_loop};
+pub use alone::{AloneRun, prepare_alone, run_alone};
+pub use assignment::loop_of;
 pub use boards::{Boards, boards_of};
 pub use closing::{ClosedBoards, close_all};
+pub use ended::{EndedRun, finish_run};
 pub use epochs::run_epochs;
 pub use loops::loops_of;
 pub use plan_run::run_plan;
+pub use rooms::{Rooms, rooms_for};
+pub use seating::{Seating, cell_seating, loop_seating, nodes_of_loop};
 pub use ways::ways_of;

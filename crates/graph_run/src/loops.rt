@@ -5,12 +5,12 @@ ghost use Rattle.cycle_model.specs.WavesFit.{WavesFit};
 ghost use Rattle.board_rule.specs.declared.board.Board.{Board};
 ghost use Rattle.data_loop.specs.LoopStart.{IsLoopOf};
 ghost use Rattle.data_loop.specs.Loops.{IsBetweenEpochs};
-ghost use Rattle.graph_run.specs.Assignment.{nodes_of_loop, epoch_board};
 ghost use Rattle.graph_run.specs.Boards.{all_seats};
 ghost use Rattle.graph_run.specs.Loops.{AreLoopsOf};
 ghost use Rattle.graph_run.specs.LoopsOnPlan.{AreReady};
+ghost use Rattle.graph_run.specs.Seating.{IsSeatingOf, epoch_board, holder_of, nodes_of_loop};
 
-use crate::assignment::nodes_of_loop;
+use crate::seating::{Seating, nodes_of_loop};
 use board_rule::LoopSeat;
 use data_loop::LoopState;
 use pw_base::{Items, Memory, Plan, Room};
@@ -22,7 +22,7 @@ fn loop_with(
     alloc: Global,
     plan: &Plan,
     waves: &Items<WavIn>,
-    loops: u32,
+    seating: &Seating,
     which: u32,
     seats: Items<LoopSeat>,
 ) -> Result<LoopState, Memory>
@@ -30,15 +30,15 @@ fn loop_with(
     requires fit { WavesFit plan.now waves.now }
     requires seats { length seats ≡ length plan.now.epochs }
     ensures between { IfOk result IsBetweenEpochs }
-    ensures of { IfOk result
-        (IsLoopOf plan.now waves.now (nodes_of_loop plan.now loops which) seats) }
+    ensures of { IfOk result (IsLoopOf plan.now waves.now
+        (nodes_of_loop (holder_of seating.now) plan.now which) seats) }
 {
-    let nodes = nodes_of_loop(alloc, plan, loops, which)?;
+    let nodes = nodes_of_loop(alloc, plan, seating, which)?;
     LoopState::new(alloc, plan, waves, &nodes, seats)
 }
 
-/// The loops of a plan before the first epoch: the `loops` loops in the order of their numbers, and
-/// last the driver's own. Each has the nodes of its number, and its seats, one an epoch, in order.
+/// The loops of a plan before the first epoch, in the order of their seats, and last the driver's
+/// own. Each has the nodes that the seating has on its seat, and its seats, one an epoch, in order.
 /// After `Memory` all seats are dropped.
 ///
 /// Memory: a state for each node of the plan, and for each loop and epoch the free blocks of the
@@ -47,28 +47,31 @@ pub fn loops_of(
     alloc: Global,
     plan: &Plan,
     waves: &Items<WavIn>,
-    loops: u32,
+    seating: &Seating,
     seats: Vec<Room<LoopSeat>>,
 ) -> Result<Items<LoopState>, Memory>
     requires sound { IsSoundPlan plan.now }
     requires fit { WavesFit plan.now waves.now }
-    requires few { loops ≤ 16 }
-    requires count { length seats.items ≡ loops + 1 }
+    requires seating { IsSeatingOf plan.now seating.now }
+    requires count { length seats.items ≡ seating.now.loops + 1 }
     requires seats { All (λ row. length row.list ≡ length plan.now.epochs) seats.items }
     ensures between { IfOk result (All IsBetweenEpochs) }
     ensures of { IfOk result
-        (AreLoopsOf plan.now waves.now loops (map (λ row. row.list) seats.items)) }
+        (AreLoopsOf plan.now waves.now (holder_of seating.now)
+        (map (λ row. row.list) seats.items)) }
     // With the seats of the plan's boards, each loop is ready to run on them, and the driver's own
     // alone has the drivers.
     ensures ready { IfOk result (λ states. (boards : List Board)
-        → map (λ b. b.board_shape) boards ≡ map (epoch_board plan.now loops) plan.now.epochs
-        → map (λ row. row.list) seats.items ≡ all_seats plan.now waves.now loops boards
-        → AreReady boards loops states) }
+        → map (λ b. b.board_shape) boards
+        ≡ map (epoch_board (holder_of seating.now) seating.now.loops) plan.now.epochs
+        → map (λ row. row.list) seats.items
+        ≡ all_seats plan.now waves.now seating.now.loops boards
+        → AreReady boards seating.now.loops states) }
 {
     let mut states = Items::new(alloc);
     let mut which = 0;
     for row in seats {
-        states.push(loop_with(alloc, plan, waves, loops, which, row.into_items())?)?;
+        states.push(loop_with(alloc, plan, waves, seating, which, row.into_items())?)?;
         which += 1;
     }
     Ok(states)

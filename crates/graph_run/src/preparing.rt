@@ -2,11 +2,13 @@
 ghost use Rattle.std.specs.Prelude.{◌≡◌, ◌≤◌, IfOk, length, map};
 ghost use Rattle.pw_base.specs.SoundPlan.{IsSoundPlan};
 ghost use Rattle.cycle_model.specs.WavesFit.{WavesFit};
+ghost use Rattle.ready_queues.specs.Lanes.{loops_limit};
 ghost use Rattle.graph_run.specs.Prepared.{IsPrepared};
 
 use crate::boards::boards_of;
 use crate::leading::Driving;
 use crate::loops::loops_of;
+use crate::seating::loop_seating;
 use crate::shared::{LoopWay, Shared};
 use crate::ways::ways_of;
 use data_loop::{LoopState, Way};
@@ -53,11 +55,12 @@ pub(crate) fn prepare(
 ) -> Result<Prepared, Memory>
     requires sound { IsSoundPlan plan.now }
     requires fit { WavesFit plan.now waves.now }
-    requires few { loops ≤ 16 }
+    requires few { loops ≤ loops_limit }
     ensures { IfOk result (IsPrepared plan.now waves.now loops) }
 {
-    let all = boards_of(alloc, plan, waves, loops)?;
-    let mut states = loops_of(alloc, plan, waves, loops, all.seats)?;
+    let seating = loop_seating(alloc, plan, loops)?;
+    let all = boards_of(alloc, plan, waves, &seating)?;
+    let mut states = loops_of(alloc, plan, waves, &seating, all.seats)?;
     let (ways, way, others) = ways_of(alloc, plan, loops)?;
     let own = states.pop().unwrap();
     let loops = loop_ways(alloc, states, others)?;

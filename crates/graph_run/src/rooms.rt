@@ -2,6 +2,7 @@
 ghost use Rattle.std.specs.Prelude.{◌≡◌, ◌≤◌, IfOk, IfSome};
 ghost use Rattle.pw_base.specs.Layout.{event_count};
 ghost use Rattle.pw_base.specs.PlanSums.{events_of};
+ghost use Rattle.ready_queues.specs.Lanes.{loops_limit};
 ghost use Rattle.graph_run.specs.Lists.{AreEmpty, HaveRooms};
 ghost use Rattle.graph_run.specs.Rooms.{AreRooms};
 
@@ -32,7 +33,7 @@ fn all_events(plan: &Plan) -> Option<usize>
 
 /// Lists for `count` loops beside the driver's own. They are empty.
 pub(crate) fn lists_for(alloc: Global, count: usize) -> Result<Lists, Memory>
-    requires few { count ≤ 16 }
+    requires few { count ≤ loops_limit }
     ensures empty { IfOk result AreEmpty }
     ensures rooms { IfOk result (HaveRooms count) }
 {
@@ -49,15 +50,19 @@ pub(crate) fn lists_for(alloc: Global, count: usize) -> Result<Lists, Memory>
 /// Empty lists for what a run answers: the closed boards and all their events, and what the sinks
 /// and meters have kept.
 #[derive(Drop)]
-pub(crate) struct Rooms {
-    pub closed: Room<Closed>,
-    pub history: Room<Event>,
-    pub sinks: Room<Kept>,
-    pub peaks: Room<Peak>,
+pub struct Rooms {
+    pub(crate) closed: Room<Closed>,
+    pub(crate) history: Room<Event>,
+    pub(crate) sinks: Room<Kept>,
+    pub(crate) peaks: Room<Peak>,
 }
 
-/// Rooms for a run of the plan. `Memory` also where the number of its events does not fit.
-pub(crate) fn rooms_for(alloc: Global, plan: &Plan) -> Result<Rooms, Memory>
+/// Rooms for a run of the plan, to be taken before its first cycle. `Memory` also where the number
+/// of its events does not fit.
+///
+/// Memory: all events, a place for each closed board, and one for each node's stream and peak; the
+/// samples of the streams are the loops'.
+pub fn rooms_for(alloc: Global, plan: &Plan) -> Result<Rooms, Memory>
     ensures { IfOk result (AreRooms plan.now) }
 {
     let Some(events) = all_events(plan) else {

@@ -1,32 +1,22 @@
 //! The queues of a plan's loops, and the way of each thread to them.
 ghost use Rattle.std.specs.Prelude.{◌≡◌, ◌≤◌, ℕ, IfOk, Some, length, slice_get};
+ghost use Rattle.pw_base.specs.Limits.{nodes_limit};
 ghost use Rattle.ready_queues.specs.declared.way.Way.{Way};
+ghost use Rattle.ready_queues.specs.Lanes.{loops_limit};
 ghost use Rattle.ready_queues.specs.Opening.{IsNewWay};
 ghost use Rattle.graph_run.specs.Assignment.{owner_row};
 
-use crate::assignment::loop_of;
+use crate::assignment::owner_row;
 use data_loop::{Way, Ways};
 use pw_base::{Items, Memory, Plan};
 use std::alloc::Global;
-
-// The loop of each node of the plan.
-fn owner_row(alloc: Global, plan: &Plan, loops: u32) -> Result<Items<u32>, Memory>
-    requires few { length plan.now.nodes ≤ 63 }
-    ensures { IfOk result (λ row. row ≡ owner_row plan.now loops) }
-{
-    let mut row = Items::new(alloc);
-    for node in 0..plan.nodes.len() {
-        row.push(loop_of(plan, loops, node as u32))?;
-    }
-    Ok(row)
-}
 
 /// The queues of a plan's loops, the way of the driver's thread, and those of the loops in their
 /// order: a node's number comes to the queue of the loop that the node belongs to. At most 63 nodes
 /// and 16 loops.
 pub fn ways_of(alloc: Global, plan: &Plan, loops: u32) -> Result<(Ways, Way, Items<Way>), Memory>
-    requires nodes { length plan.now.nodes ≤ 63 }
-    requires few { loops ≤ 16 }
+    requires nodes { length plan.now.nodes ≤ nodes_limit }
+    requires few { loops ≤ loops_limit }
     ensures owner { IfOk result (λ t. t.0.owner ≡ owner_row plan.now loops) }
     ensures loops { IfOk result (λ t. t.0.loops ≡ loops) }
     ensures driver { IfOk result (λ t. IsNewWay t.0 loops t.1) }

@@ -2,15 +2,19 @@
 ghost use Rattle.std.specs.Prelude.{◌≡◌, ◌≤◌, All, IfOk, length};
 ghost use Rattle.data_loop.specs.LoopWay.{IsDriverWay};
 ghost use Rattle.data_loop.specs.Loops.{IsLoop, plan_of};
-ghost use Rattle.graph_run.specs.Assignment.{nodes_of_loop};
+ghost use Rattle.ready_queues.specs.Lanes.{loops_limit};
 ghost use Rattle.graph_run.specs.LoopsOnPlan.{IsReady, HasDrivers, HasNoDriver, AreFirstLeads, HasCome};
+ghost use Rattle.graph_run.specs.Seating.{holder_of, nodes_of_loop};
 ghost use Rattle.loop_tests.specs.Work.{CanRun};
 
+use crate::runs::has_one;
 use crate::threads::{BOTH, TWO_SQUARES};
 use crate::work::{Work, WorkRow, work_of};
 use board_rule::{Board, DriverSeat};
 use data_loop::{LoopState, Way, Ways};
-use graph_run::{boards_of, loop_of, loops_of, run_epochs};
+use graph_run::{
+    Seating, boards_of, finish_run, loop_seating, loops_of, prepare_alone, run_alone, run_epochs,
+};
 use pw_base::{Every, Items, Kind, Memory, Open, Plan};
 use std::alloc::Global;
 use std::sync::Wait;
@@ -50,7 +54,7 @@ fn run_open<R: Wait>(
 
 // The ways of a run whose nodes all belong to the driver's thread.
 fn ways_of(alloc: Global, loops: u32) -> Result<(Ways, Way), Memory>
-    requires few { loops ≤ 16 }
+    requires few { loops ≤ loops_limit }
     ensures { IfOk result (λ t. IsDriverWay t.0 t.1) }
 {
     let (ways, way, _others) = Ways::new(alloc, &Items::new(alloc), loops)?;
@@ -58,15 +62,16 @@ fn ways_of(alloc: Global, loops: u32) -> Result<(Ways, Way), Memory>
 }
 
 // Whether a node is a sink of the driver's own loop, and has kept these samples.
-fn has_kept(plan: &Plan, loops: u32, own: &LoopState, node: u32, wanted: &[i16]) -> bool
+fn has_kept(plan: &Plan, seating: &Seating, own: &LoopState, node: u32, wanted: &[i16]) -> bool
     requires whole { IsLoop own.now }
     requires plan_is { plan_of own.now ≡ plan.now }
-    requires nodes_are { own.now.nodes ≡ nodes_of_loop plan.now loops loops }
+    requires nodes_are { own.now.nodes
+        ≡ nodes_of_loop (holder_of seating.now) plan.now seating.now.loops }
 {
     let Some(it) = plan.nodes.as_slice().get(node as usize) else {
         return false;
     };
-    if loop_of(plan, loops, node) != loops {
+    if seating.holder(node) != seating.loops() {
         return false;
     }
     match it.kind {
@@ -87,16 +92,19 @@ fn keeps_by<R: Wait>(
     wanted: &[i16],
 ) -> bool
     requires work { CanRun work.now.plan work.now.waves }
-    requires few { loops ≤ 16 }
+    requires few { loops ≤ loops_limit }
     requires way { IsDriverWay ways.now way.old }
 {
     let plan = &work.plan;
-    let Ok(all) = boards_of(alloc, plan, &work.waves, loops) else {
+    let Ok(seating) = loop_seating(alloc, plan, loops) else {
+        return false;
+    };
+    let Ok(all) = boards_of(alloc, plan, &work.waves, &seating) else {
         return false;
     };
     let boards = all.boards;
     let mut drivers = all.drivers;
-    let Ok(mut states) = loops_of(alloc, plan, &work.waves, loops, all.seats) else {
+    let Ok(mut states) = loops_of(alloc, plan, &work.waves, &seating, all.seats) else {
         return false;
     };
     let Some(mut own) = states.pop() else {
@@ -111,7 +119,7 @@ fn keeps_by<R: Wait>(
         ways,
         way,
     );
-    has_kept(plan, loops, &own, node, wanted)
+    has_kept(plan, &seating, &own, node, wanted)
 }
 
 // The same with new ways.
@@ -124,12 +132,24 @@ fn keeps_anew<R: Wait>(
     wanted: &[i16],
 ) -> bool
     requires work { CanRun work.now.plan work.now.waves }
-    requires few { loops ≤ 16 }
+    requires few { loops ≤ loops_limit }
 {
     match ways_of(alloc, loops) {
         Ok((ways, mut way)) => keeps_by(rt, alloc, work, loops, &ways, &mut way, node, wanted),
         Err(_memory) => false,
     }
+}
+
+// The same of a whole run in three pieces: all memory, all epochs, and the end.
+fn keeps_in_pieces<R: Wait>(rt: &R, alloc: Global, work: &Work, wanted: &[i16]) -> bool
+    requires work { CanRun work.now.plan work.now.waves }
+{
+    let Ok(run) = prepare_alone(alloc, &work.plan, &work.waves) else {
+        return false;
+    };
+    let ended = run_alone(rt, alloc, &Open::new(), run);
+    let (outcome, closed) = finish_run(alloc, &work.plan, &work.waves, ended);
+    closed.len() == work.plan.epochs.len() && has_one(&outcome, wanted)
 }
 
 /// A work, its sink that drives, and what this keeps.
@@ -185,13 +205,14 @@ const ROWS: [AloneRow; 5] = [
     (TWO_SQUARES, 2, &BOTH),
 ];
 
-// Whether the sink of a row keeps its samples, with no loop adopted and with two.
+// Whether the sink of a row keeps its samples, with no loop adopted, with two, and in pieces.
 fn keeps<R: Wait>(rt: &R, alloc: Global, row: AloneRow) -> bool {
     let (row, node, wanted) = row;
     match work_of(alloc, row) {
         Some(work) => {
             keeps_anew(rt, alloc, &work, 0, node, wanted)
                 && keeps_anew(rt, alloc, &work, 2, node, wanted)
+                && keeps_in_pieces(rt, alloc, &work, wanted)
         }
         None => false,
     }

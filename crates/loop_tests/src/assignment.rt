@@ -1,10 +1,12 @@
-//! Which loop the nodes of two squares and a sink belong to, and their seats on the boards.
+//! Which loop the nodes of two squares and a sink belong to, and which cell; and their seats on the boards.
+ghost use Rattle.std.specs.Prelude.{◌≤◌};
+ghost use Rattle.ready_queues.specs.Lanes.{loops_limit};
 ghost use Rattle.loop_tests.specs.Work.{CanRun};
 
 use crate::threads::TWO_SQUARES;
 use crate::work::{Work, work_of};
-use graph_run::{boards_of, loop_of, nodes_of_loop};
-use pw_base::Plan;
+use graph_run::{boards_of, cell_seating, loop_of, loop_seating, nodes_of_loop};
+use pw_base::{NODES, Plan};
 use std::alloc::Global;
 use std::test::Fail;
 
@@ -31,12 +33,31 @@ fn have_loops(plan: &Plan, rows: &[(u32, u32, u32)]) -> bool {
 }
 
 // Whether the nodes of a loop are these.
-fn has_nodes(alloc: Global, plan: &Plan, loops: u32, which: u32, wanted: &[u32]) -> bool {
-    if plan.nodes.len() > 63 {
+fn has_nodes(alloc: Global, plan: &Plan, loops: u32, which: u32, wanted: &[u32]) -> bool
+    requires few { loops ≤ loops_limit }
+{
+    if plan.nodes.len() >= NODES {
         return false;
     }
-    match nodes_of_loop(alloc, plan, loops, which) {
+    let Ok(seating) = loop_seating(alloc, plan, loops) else {
+        return false;
+    };
+    match nodes_of_loop(alloc, plan, &seating, which) {
         Ok(nodes) => nodes.as_slice() == wanted,
+        Err(_memory) => false,
+    }
+}
+
+// Whether each of the two squares has a cell, and the sink, which drives, is with the driver's own.
+fn has_cells(alloc: Global, plan: &Plan) -> bool {
+    if plan.nodes.len() >= NODES {
+        return false;
+    }
+    match cell_seating(alloc, plan) {
+        Ok(cells) => {
+            let squares = cells.holder(0) == 0 && cells.holder(1) == 1;
+            squares && cells.holder(2) == 2 && cells.holder(63) == 2 && cells.loops() == 2
+        }
         Err(_memory) => false,
     }
 }
@@ -47,13 +68,17 @@ fn is_assigned(alloc: Global, plan: &Plan) -> bool {
         && has_nodes(alloc, plan, 2, 1, &[1])
         && has_nodes(alloc, plan, 2, 2, &[2])
         && has_nodes(alloc, plan, 0, 0, &[0, 1, 2])
+        && has_cells(alloc, plan)
 }
 
 // Whether each of two loops and the driver's own has a seat on each of two boards.
 fn has_seats(alloc: Global, work: &Work) -> bool
     requires { CanRun work.now.plan work.now.waves }
 {
-    match boards_of(alloc, &work.plan, &work.waves, 2) {
+    let Ok(seating) = loop_seating(alloc, &work.plan, 2) else {
+        return false;
+    };
+    match boards_of(alloc, &work.plan, &work.waves, &seating) {
         Ok(all) => {
             all.boards.len() == 2
                 && all.drivers.len() == 2

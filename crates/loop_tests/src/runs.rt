@@ -86,7 +86,7 @@ fn have_waves(outcome: &Outcome, len: usize, zeros: &[usize], period: [i16; 8]) 
 }
 
 // Whether there is one sink, which has kept these samples.
-fn has_one(outcome: &Outcome, wanted: &[i16]) -> bool {
+pub(crate) fn has_one(outcome: &Outcome, wanted: &[i16]) -> bool {
     match outcome.sinks.as_slice() {
         [kept] => kept.wav.samples.as_slice() == wanted,
         _ => false,

@@ -2,6 +2,7 @@
 ghost use Rattle.std.specs.Prelude.{◌≤◌, IfSome};
 ghost use Rattle.board_rule.specs.OnBoard.{layout, table_of};
 ghost use Rattle.data_loop.specs.LoopsOnBoards.{IsOnBoard};
+ghost use Rattle.ready_queues.specs.Lanes.{loops_limit};
 ghost use Rattle.loop_tests.specs.Crew.{IsCrewOn};
 ghost use Rattle.loop_tests.specs.Work.{CanRun};
 
@@ -10,7 +11,7 @@ use crate::work::Work;
 use board_rule::{Board, BoardSeat, Closed};
 use data_loop::{Did, LoopState, Tried};
 use driver_cycle::{begin_next, lead_once, look};
-use graph_run::{boards_of, loops_of};
+use graph_run::{boards_of, loop_seating, loops_of};
 use pw_base::{Every, Gate, Never, Open};
 use std::alloc::Global;
 
@@ -18,10 +19,13 @@ use std::alloc::Global;
 /// the first cycle. None where there are more epochs.
 pub fn crew_of(alloc: Global, work: &Work, loops: u32) -> Option<(Board, Crew)>
     requires work { CanRun work.now.plan work.now.waves }
-    requires few { loops ≤ 16 }
+    requires few { loops ≤ loops_limit }
     ensures { IfSome result (λ t. IsCrewOn t.0 t.1) }
 {
-    let Ok(all) = boards_of(alloc, &work.plan, &work.waves, loops) else {
+    let Ok(seating) = loop_seating(alloc, &work.plan, loops) else {
+        return None;
+    };
+    let Ok(all) = boards_of(alloc, &work.plan, &work.waves, &seating) else {
         return None;
     };
     if all.boards.len() != 1 {
@@ -29,7 +33,7 @@ pub fn crew_of(alloc: Global, work: &Work, loops: u32) -> Option<(Board, Crew)>
     }
     let mut boards = all.boards;
     let mut drivers = all.drivers;
-    let Ok(mut states) = loops_of(alloc, &work.plan, &work.waves, loops, all.seats) else {
+    let Ok(mut states) = loops_of(alloc, &work.plan, &work.waves, &seating, all.seats) else {
         return None;
     };
     let Some(board) = boards.pop() else {

@@ -4,6 +4,7 @@
 //! for FINISHED. The word of an area is the number of its block times 2^32, and 1 for NEED_DATA, 2
 //! for HAVE_DATA. The word of four samples has the first in its lowest 16 bits.
 ghost use Rattle.std.specs.Prelude.{◌≤◌, IfSome};
+ghost use Rattle.ready_queues.specs.Lanes.{loops_limit};
 ghost use Rattle.loop_tests.specs.Crew.{IsCrewOn};
 
 use crate::crew::Crew;
@@ -82,7 +83,7 @@ enum Step {
 
 // The crew of a work on its board.
 fn crew_by(alloc: Global, row: WorkRow<'_>, loops: u32) -> Option<(Board, Crew)>
-    requires few { loops ≤ 16 }
+    requires few { loops ≤ loops_limit }
     ensures { IfSome result (λ t. IsCrewOn t.0 t.1) }
 {
     match work_of(alloc, row) {

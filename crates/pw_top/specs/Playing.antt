@@ -7,6 +7,7 @@ use Rattle.pw_base.specs.declared.plan.Plan.{Plan}
 use Rattle.pw_base.specs.Files.{Names, Held, names_in}
 use Rattle.wav_files.specs.declared.wav.WavIn.{WavIn}
 use Rattle.board_rule.specs.declared.closed.Closed.{Closed}
+use Rattle.graph_run.specs.Assignment.{loop_of}
 use Rattle.graph_run.specs.PlanRun.{IsRunOf}
 use Rattle.pw_top.specs.declared.played.Played.{Played}
 use Rattle.pw_top.specs.declared.status.Status.{Status}
@@ -38,9 +39,11 @@ IsNothing h = (h.history ≡ []) × (h.closed ≡ [])
 abbrev pub HasNothing : Played → Type 0
 HasNothing played = (played.history ≡ []) × (played.closed ≡ [])
 
--- A RUN was made, of this plan on these waves by so many loops
+-- A RUN was made, of this plan on these waves by so many loops: each node was on the seat of its
+-- loop
 abbrev pub HasRun : Plan → List WavIn → ℕ → Happened → Type 0
-HasRun plan waves loops h = IsRunOf plan waves loops h.history h.closed h.before h.now
+HasRun plan waves loops h =
+    IsRunOf plan waves (loop_of plan loops) loops h.history h.closed h.before h.now
 
 -- of a command that runs nothing, an answer
 abbrev pub Idly : (Answer → Type 0) → Happened → Answer → Type 0

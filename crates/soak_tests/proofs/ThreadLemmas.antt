@@ -13,22 +13,23 @@ use Rattle.ready_queues.specs.Opening.{IsNewWay}
 use Rattle.ready_queues.specs.QueueRule.{IsNodeOf}
 use Rattle.data_loop.specs.declared.loop_state.LoopState.{LoopState}
 use Rattle.data_loop.specs.LoopWay.{IsWayFor}
-use Rattle.graph_run.specs.Assignment.{nodes_of_loop, owner_row}
+use Rattle.graph_run.specs.Assignment.{loop_of, owner_row}
 use Rattle.graph_run.specs.Loops.{AreLoopsOf}
 use Rattle.graph_run.specs.LoopsOnPlan.{IsReady, HasNoDriver, AreReady}
+use Rattle.graph_run.specs.Seating.{nodes_of_loop}
 use Rattle.graph_run.proofs.PrepareLemmas.{owned_in}
 use Rattle.graph_run.proofs.ReadyLemmas.{short, others_ready, others_none}
 use Rattle.soak_tests.specs.Threads.{CanStart}
 
 module _ (plan : Plan) (waves : List WavIn) (loops : ℕ) (boards : List Board) (ways : Ways) (xs : List LoopState) (own : LoopState)
-    (rows : List (List Known)) (ready : AreReady boards loops (xs ++ own ∷ [])) (are : AreLoopsOf plan waves loops rows (xs ++ own ∷ []))
+    (rows : List (List Known)) (ready : AreReady boards loops (xs ++ own ∷ [])) (are : AreLoopsOf plan waves (loop_of plan loops) rows (xs ++ own ∷ []))
     (owner : ways.owner ≡ owner_row plan loops) (count : ways.loops ≡ loops) where
-  other_nodes : (i : ℕ) (d : LoopState) → i < length xs → (get_or xs i d).nodes ≡ nodes_of_loop plan loops i
+  other_nodes : (i : ℕ) (d : LoopState) → i < length xs → (get_or xs i d).nodes ≡ nodes_of_loop (loop_of plan loops) plan i
   other_nodes i d low = let long = length-append xs (own ∷ []) in let m = are.count in
       ap (λ (s : LoopState). s.nodes) (sym (get_or_append_left xs (own ∷ []) d i low))
       ∙ (are.each i d (omega (arith, low, long, m))).nodes_are
 
-  way_for : (i : ℕ) (s : LoopState) (w : Way) → i < loops → s.nodes ≡ nodes_of_loop plan loops i → IsNewWay ways i w → IsWayFor ways s w
+  way_for : (i : ℕ) (s : LoopState) (w : Way) → i < loops → s.nodes ≡ nodes_of_loop (loop_of plan loops) plan i → IsNewWay ways i w → IsWayFor ways s w
   way_for i s w less nodes new = let number = new.loop_is in record {
     answered = new.answered;
     one = omega (arith, number, less, count);
@@ -57,6 +58,6 @@ module _ (plan : Plan) (waves : List WavIn) (loops : ℕ) (boards : List Board) 
           ready = subst (IsReady boards) (state_at i d low) (others_ready boards loops xs own ready i d.0 inside);
           none = subst HasNoDriver (state_at i d low) (others_none boards loops xs own ready i d.0 inside);
           way = way_for i x.0 x.1 (omega (arith, inside, n))
-              (subst (λ (s : LoopState). s.nodes ≡ nodes_of_loop plan loops i) (state_at i d low) (other_nodes i d.0 inside))
+              (subst (λ (s : LoopState). s.nodes ≡ nodes_of_loop (loop_of plan loops) plan i) (state_at i d low) (other_nodes i d.0 inside))
               (new i x.1 (way_at i d low));
         }

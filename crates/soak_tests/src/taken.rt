@@ -1,12 +1,13 @@
 //! A run by loops in threads, of which each tells how many numbers it took out of its queue.
 ghost use Rattle.std.specs.Prelude.{◌≡◌, ◌≤◌, All, IfOk, IfSome, length, map};
+ghost use Rattle.ready_queues.specs.Lanes.{loops_limit};
 ghost use Rattle.soak_tests.specs.Threads.{CanStart, CanDrive};
 ghost use Rattle.soak_tests.specs.Work.{CanRun};
 
 use crate::work::{Work, work_of};
 use board_rule::{Board, DriverSeat};
 use data_loop::{LoopState, Way, Ways, run_all};
-use graph_run::{boards_of, loops_of, run_epochs, ways_of};
+use graph_run::{boards_of, loop_seating, loops_of, run_epochs, ways_of};
 use pw_base::{Every, Items, Memory, Open};
 use std::alloc::Global;
 use std::process::Abort;
@@ -57,15 +58,16 @@ struct Begun {
 
 fn begin_run(alloc: Global, work: &Work, loops: u32) -> Result<Option<Begun>, Memory>
     requires work { CanRun work.now.plan work.now.waves }
-    requires few { loops ≤ 16 }
+    requires few { loops ≤ loops_limit }
     ensures loops { IfOk result (λ o. IfSome o (λ b.
         All (CanStart b.common.boards b.common.ways) b.loops)) }
     ensures driver { IfOk result (λ o. IfSome o (λ b.
         CanDrive b.common.boards b.common.ways b.own b.drivers b.way)) }
 {
     let plan = &work.plan;
-    let all = boards_of(alloc, plan, &work.waves, loops)?;
-    let mut states = loops_of(alloc, plan, &work.waves, loops, all.seats)?;
+    let seating = loop_seating(alloc, plan, loops)?;
+    let all = boards_of(alloc, plan, &work.waves, &seating)?;
+    let mut states = loops_of(alloc, plan, &work.waves, &seating, all.seats)?;
     let (ways, way, others) = ways_of(alloc, plan, loops)?;
     let Some(own) = states.pop() else {
         return Ok(None);
@@ -177,7 +179,7 @@ fn taken_in<R: Threads + Wait + Sync + Abort>(
     loops: u32,
 ) -> Option<u64>
     requires work { CanRun work.now.plan work.now.waves }
-    requires few { loops ≤ 16 }
+    requires few { loops ≤ loops_limit }
 {
     match begin_run(alloc, work, loops) {
         Ok(Some(begun)) => {
@@ -202,7 +204,7 @@ fn taken_by<R: Threads + Wait + Sync + Abort>(
     number: u32,
     loops: u32,
 ) -> Option<u64>
-    requires few { loops ≤ 16 }
+    requires few { loops ≤ loops_limit }
 {
     match work_of(alloc, number) {
         Ok(Some(work)) => taken_in(rt, alloc, &work, loops),

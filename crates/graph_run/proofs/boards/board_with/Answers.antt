@@ -8,35 +8,35 @@ use Rattle.board_rule.specs.Layout.{HasSeats, layout_of}
 use Rattle.board_rule.specs.buffers.SampleWords.{IsTable}
 use Rattle.board_rule.specs.View.{Samples, loop_view, driver_view}
 use Rattle.board_rule.specs.OnBoard.{table_of, layout}
-use Rattle.graph_run.specs.Assignment.{epoch_board}
 use Rattle.graph_run.specs.Boards.{seat_of}
+use Rattle.graph_run.specs.Seating.{epoch_board, holder_of}
 use Rattle.graph_run.proofs.AssignmentLemmas.{has_seats}
 use Rattle.graph_run.proofs.BoardLemmas.{is_table}
 use Rattle.graph_run.proofs.boards.board_with.Goals as goal
 
 pub new-requires-clause-seats : goal.new-requires-clause-seats
 new-requires-clause-seats g c = let e : Epoch = get_or c.as_slice.result.now c.args.epoch c.index-as_slice-epoch.result in
-    subst (λ row. HasSeats (record { shape = e.shape; seat_of = row; seats = c.args.loops + 1 })) (sym c.in_ok-seat_of.ensures)
-    (has_seats c.args.plan.now c.args.loops e)
+    subst (λ row. HasSeats (record { shape = e.shape; seat_of = row; seats = c.args.seating.now.loops + 1 })) (sym c.in_ok-seat_of.ensures)
+    (has_seats (holder_of c.args.seating.now) c.args.seating.now.loops c.requires.seating.most e)
 
 pub new-requires-clause-samples : goal.new-requires-clause-samples
 new-requires-clause-samples g c = let e : Epoch = get_or c.as_slice.result.now c.args.epoch c.index-as_slice-epoch.result in
     let at = slice_get-get_or c.args.plan.now.epochs c.args.epoch c.index-as_slice-epoch.result c.requires.inside
     ∙ ap (λ (es : List Epoch). Some (get_or es c.args.epoch c.index-as_slice-epoch.result)) (sym c.as_slice.ensures) in
-    let table = is_table c.args.plan.now c.args.waves.now c.args.loops c.requires.sound c.requires.fit c.requires.short c.args.epoch e at in
-    subst (λ (x : List ℕ × Samples). IsTable (layout_of (record { shape = e.shape; seat_of = x.0; seats = c.args.loops + 1 })) x.1)
+    let table = is_table c.args.plan.now c.args.waves.now (holder_of c.args.seating.now) c.args.seating.now.loops c.requires.sound c.requires.fit c.requires.short c.args.epoch e at in
+    subst (λ (x : List ℕ × Samples). IsTable (layout_of (record { shape = e.shape; seat_of = x.0; seats = c.args.seating.now.loops + 1 })) x.1)
     (λ i. (sym c.in_ok-seat_of.ensures i, sym c.requires.table i)) table
 
 pub returns : goal.returns
 returns g c = let e : Epoch = get_or c.as_slice.result.now c.args.epoch c.index-as_slice-epoch.result in
-    let plan = c.args.plan.now in let waves = c.args.waves.now in let loops = c.args.loops in let k = c.args.epoch in
+    let plan = c.args.plan.now in let waves = c.args.waves.now in let f = holder_of c.args.seating.now in let loops = c.args.seating.now.loops in let k = c.args.epoch in
     let at = slice_get-get_or plan.epochs k c.index-as_slice-epoch.result c.requires.inside
     ∙ ap (λ (es : List Epoch). Some (get_or es k c.index-as_slice-epoch.result)) (sym c.as_slice.ensures) in
     let b : Board = c.in_ok-made.made.0 in let made = c.in_ok-made.ensures in
-    let shape_is : b.board_shape ≡ epoch_board plan loops e = made.board_shape
+    let shape_is : b.board_shape ≡ epoch_board f loops e = made.board_shape
     ∙ ap (λ (row : List ℕ). record { shape = e.shape; seat_of = row; seats = loops + 1 }) c.in_ok-seat_of.ensures in
     let expect = c.requires.table in (
-      ap (option_map (epoch_board plan loops)) at ∙ ap Some (sym shape_is),
+      ap (option_map (epoch_board f loops)) at ∙ ap Some (sym shape_is),
       made.driver ∙ ap (λ (s : Samples). record { table = table_of b; knows = driver_view (layout b) s (loops + 1) }) expect,
       fill_by_all (λ i. seat_of plan waves loops i (k, b)) c.in_ok-made.made.2 (loops + 1) c.in_ok-made.made.1 made.count
           (λ i lt. get_or_from_slice_get c.in_ok-made.made.2 i _ c.in_ok-made.made.1 (made.loops i lt)

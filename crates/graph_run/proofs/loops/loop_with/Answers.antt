@@ -1,12 +1,13 @@
 use Rattle.std.proofs.Common.{◌<◌, List, ℕ, length, sym, subst}
 use Rattle.std.specs.Prelude.{All, AllPairs}
+use Rattle.graph_run.specs.Seating.{holder_of}
 use Rattle.graph_run.proofs.LoopLemmas.{nodes_ascend, nodes_places}
 use Rattle.graph_run.proofs.loops.loop_with.Goals as goal
 
 pub new-requires-clause-nodes : goal.new-requires-clause-nodes
 new-requires-clause-nodes c = subst (λ (l : List ℕ). AllPairs (λ m n. m < n) l) (sym c.in_ok-nodes.ensures)
-    (nodes_ascend c.args.plan.now c.args.loops c.args.which)
+    (nodes_ascend (holder_of c.args.seating.now) c.args.plan.now c.args.which)
 
 pub new-requires-clause-places : goal.new-requires-clause-places
 new-requires-clause-places c = subst (λ (l : List ℕ). All (λ n. n < length c.args.plan.now.nodes) l) (sym c.in_ok-nodes.ensures)
-    (nodes_places c.args.plan.now c.args.loops c.args.which)
+    (nodes_places (holder_of c.args.seating.now) c.args.plan.now c.args.which)
