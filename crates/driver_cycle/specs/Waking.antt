@@ -21,7 +21,8 @@ HasSent ways woke a b = (full : ℕ) × HasForwarded ways.owner ways.loops woke 
 
 -- ONE TURN of a loop, from s to t, and what became of the way, from a to b: a node ran, and what it
 -- woke was sent; or none did, and the way is as it was
-abbrev pub HasTakenTurn : Bool → BoardLayout → Ways → LoopState → Way → LoopState → Way → Type 0
+abbrev pub HasTakenTurn : Bool → BoardLayout → Ways → LoopState → Way → LoopState → Way
+    → Type 0
 HasTakenTurn true p ways s a t b = (node : ℕ) × HasTurnedOnce p s (Ran node) t
     × HasWoken (Ran node) t × HasSent ways t.woke a b
 HasTakenTurn false p ways s a t b = HasTurnedOnce p s Idle t × HasWoken Idle t × (b ≡ a)

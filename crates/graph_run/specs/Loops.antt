@@ -10,7 +10,8 @@ use Rattle.data_loop.specs.LoopStart.{IsLoopOf}
 use Rattle.graph_run.specs.Seating.{nodes_of_loop}
 
 -- one for each list of seats, by its number, with the nodes that the seating has on it
-pub record AreLoopsOf (plan : Plan) (waves : List WavIn) (f : ℕ → ℕ) (rows : List (List Known))
+pub record AreLoopsOf (plan : Plan) (waves : List WavIn) (f : ℕ → ℕ)
+    (rows : List (List Known))
     (states : List LoopState) : Type 0 where
   pub count : length states ≡ length rows
   pub each : (i : ℕ) (d : LoopState) → i < length rows

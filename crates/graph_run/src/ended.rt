@@ -45,7 +45,8 @@ impl EndedRun {
         done: Items<LoopState>,
         rooms: Rooms,
     ) -> EndedRun
-        ensures { result ≡ record { boards = boards; drivers = drivers; done = done; rooms = rooms } }
+        ensures { result ≡ record
+            { boards = boards; drivers = drivers; done = done; rooms = rooms } }
     {
         EndedRun {
             boards,
