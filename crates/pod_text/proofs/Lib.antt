@@ -1,0 +1,4 @@
+mod GainLemmas
+mod DecibelLemmas
+mod SequenceLemmas
+mod AnswerLemmas

@@ -1,0 +1,12 @@
+pub mod Decibels
+pub mod GainList
+pub mod GainAnswer
+pub mod GainSequence
+pub mod Statuses
+pub mod Words
+pub mod Loading
+pub mod Making
+pub mod Delivery
+pub mod Showing
+pub mod Sentences
+pub mod Answers
