@@ -46,7 +46,8 @@ abbrev pub last_frame : List Point → ℕ
 last_frame points = fold (λ frame p. p.offset) 0 points
 
 -- the points with that of a line more, or the line's fault
-abbrev pub added : List Point → ℕ → Result (Option Point) ListWhy → Result (List Point) ListFault
+abbrev pub added : List Point → ℕ → Result (Option Point) ListWhy
+    → Result (List Point) ListFault
 added points number (Ok point) = Ok (points ++ option_to_list point)
 added points number (Err why) = Err (Line number why)
 

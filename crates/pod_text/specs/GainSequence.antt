@@ -1,5 +1,5 @@
 -- The control sequence of points: of each a control of kind Properties (1) at its offset, whose
--- value is an Object of type Props with its gain alone. Source: PipeWire's documentation, "SPA POD";
+-- value is an Object of type Props with its gain alone. PipeWire's documentation, "SPA POD";
 -- spa/control/control.h, spa/param/props.h. The key of a gain is this project's.
 use Rattle.std.specs.Prelude.{◌≡◌, List, [], ◌∷◌, ℤ}
 use Rattle.std.specs.List.{AllZip}
@@ -25,7 +25,8 @@ HasGain g (p ∷ q ∷ more) = ⊥
 
 -- an object of it; 2 is the id of Props
 abbrev pub IsGainObject : ℤ → Pod-F Pod Control Prop → Type 0
-IsGainObject g (Pod-F.Object object id props) = (object ≡ props_type) × (id ≡ 2) × HasGain g props
+IsGainObject g (Pod-F.Object object id props) = (object ≡ props_type) × (id ≡ 2)
+    × HasGain g props
 IsGainObject g other = ⊥
 
 abbrev pub IsControlOf : Point → Control → Type 0

@@ -21,7 +21,8 @@ IsSpelled pod (Err S.Memory) = Unit {0}
 IsSpelled pod (Err status) = ⊥
 
 -- the sequence of points, of which these points are read, and its spelling
-pub record IsSequenceSpelled (points : List Point) (result : Result (List ℕ) Status) : Type 0 where
+pub record IsSequenceSpelled (points : List Point) (result : Result (List ℕ) Status)
+    : Type 0 where
   pub pod : Pod
   pub sequence : IsSequenceOf points pod
   pub law : points_in (out-Pod pod) ≡ Ok points
