@@ -2,3 +2,4 @@ mod GainLemmas
 mod DecibelLemmas
 mod SequenceLemmas
 mod AnswerLemmas
+mod ChoiceLemmas

@@ -10,3 +10,4 @@ pub mod Delivery
 pub mod Showing
 pub mod Sentences
 pub mod Answers
+pub mod ChoiceWords

@@ -4,6 +4,7 @@
 //! has these points.
 #![tactic(auto)]
 
+mod choices;
 mod decibels;
 mod delivering;
 mod fault;
@@ -19,6 +20,7 @@ mod status;
 mod top;
 mod words;
 
+pub use choices::choice_said;
 pub use fault::{ListFault, ListWhy};
 pub use gains::read_gains;
 pub use sequences::sequence_of;
