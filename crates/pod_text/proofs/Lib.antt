@@ -3,3 +3,4 @@ mod DecibelLemmas
 mod SequenceLemmas
 mod AnswerLemmas
 mod ChoiceLemmas
+mod OfferLemmas

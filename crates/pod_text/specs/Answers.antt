@@ -3,6 +3,7 @@ use Rattle.std.specs.Prelude.{◌≡◌, ◌⊎◌, ℕ, ◌-◌, List, [], Opti
 use Rattle.pw_base.specs.Files.{Held, names_in}
 use Rattle.pw_base.specs.Output.{Given}
 use Rattle.graph_script.specs.Lexical.{lines_of}
+use Rattle.format_filter.specs.declared.format.Format.{Format}
 use Rattle.pod_text.specs.declared.fault.ListFault.TheVariants.{Line}
 use Rattle.pod_text.specs.declared.status.Status.{Status}
 use Rattle.pod_text.specs.declared.status.Status.TheVariants as S
@@ -11,7 +12,7 @@ use Rattle.pod_text.specs.declared.words.Request.TheVariants as R
 use Rattle.pod_text.specs.Delivery.{Puts, IsDelivered}
 use Rattle.pod_text.specs.GainList.{gains_of}
 use Rattle.pod_text.specs.Loading.{input_name, IsUnloaded}
-use Rattle.pod_text.specs.Making.{IsGainsPod}
+use Rattle.pod_text.specs.Making.{IsGainsPod, IsFormatPod}
 use Rattle.pod_text.specs.Sentences.{usage_text, sentence_of}
 use Rattle.pod_text.specs.Words.{request_of}
 
@@ -36,17 +37,29 @@ pub record IsUnchanged (old new : Held) (given now : Given) : Type 0 where
 pub data RunsGains (from to : List ℕ) (old new : Held) (given now : Given) (status : Status)
     (line : List ℕ) : Type 0 where
   done : (bytes : List ℕ) → IsMade (names_in old (input_name from)) (Ok bytes)
-      → IsDelivered to bytes old new given now status
+      → IsDelivered to bytes 2 old new given now status
       → RunsGains from to old new given now status line
   refused : IsMade (names_in old (input_name from))
       (Err (record { status = status; line = line })) → IsUnchanged old new given now
       → RunsGains from to old new given now status line
+
+-- FORMAT: the bytes are made and delivered, or nothing changes
+pub data RunsFormat (to : List ℕ) (format : Format) (old new : Held) (given now : Given)
+    (status : Status) : Type 0 where
+  offered : (bytes : List ℕ) → IsFormatPod format (Ok bytes)
+      → IsDelivered to bytes 1 old new given now status
+      → RunsFormat to format old new given now status
+  kept : IsFormatPod format (Err status) → IsUnchanged old new given now
+      → RunsFormat to format old new given now status
 
 -- THE ANSWER to words; want of memory is free
 pub data IsAnswered (words : List (List ℕ)) (old new : Held) (given now : Given)
     (status : Status) (line : List ℕ) : Type 0 where
   gains : (from to : List ℕ) → request_of words ≡ Ok (R.Gains from to)
       → RunsGains from to old new given now status line
+      → IsAnswered words old new given now status line
+  format : (to : List ℕ) (format : Format) → request_of words ≡ Ok (R.Format to format)
+      → RunsFormat to format old new given now status
       → IsAnswered words old new given now status line
   help : request_of words ≡ Ok R.Help → Puts usage_text 0 given now status → new ≡ old
       → IsAnswered words old new given now status line

@@ -11,3 +11,7 @@ pub mod Showing
 pub mod Sentences
 pub mod Answers
 pub mod ChoiceWords
+pub mod Offers
+pub mod FileWords
+pub mod Alone
+pub mod FormatWords

@@ -7,6 +7,8 @@ use Rattle.pod_codec.specs.PodValue.{canonical}
 use Rattle.pod_codec.specs.Writable.{IsWritable}
 use Rattle.control_sequence.specs.declared.points.Point.{Point}
 use Rattle.control_sequence.specs.Points.{points_in}
+use Rattle.format_filter.specs.declared.format.Format.{Format}
+use Rattle.format_filter.specs.FormatReading as formats
 use Rattle.pod_text.specs.declared.fault.ListFault.TheVariants.{Line}
 use Rattle.pod_text.specs.declared.status.Status.{Status}
 use Rattle.pod_text.specs.declared.status.Status.TheVariants as S
@@ -43,3 +45,16 @@ IsGainsPod list (Err S.TooLong) = (points : List Point) × (gains_of list ≡ Ok
     × IsPointsPod points (Err S.TooLong)
 IsGainsPod list (Err S.Memory) = Unit {0}
 IsGainsPod list (Err status) = ⊥
+
+-- an object, of which just this format is read, and its spelling
+pub record IsFormatSpelled (format : Format) (result : Result (List ℕ) Status) : Type 0 where
+  pub pod : Pod
+  pub law : formats.IsReadAs pod format
+  pub spelled : IsSpelled pod result
+
+-- THE BYTES of a format
+abbrev pub IsFormatPod : Format → Result (List ℕ) Status → Type 0
+IsFormatPod format (Ok bytes) = IsFormatSpelled format (Ok bytes)
+IsFormatPod format (Err S.TooLong) = IsFormatSpelled format (Err S.TooLong)
+IsFormatPod format (Err S.Memory) = Unit {0}
+IsFormatPod format (Err status) = ⊥

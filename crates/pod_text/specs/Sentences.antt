@@ -10,7 +10,9 @@ use Rattle.pod_text.specs.Showing.{shown, shown_line}
 -- the commands in words
 abbrev pub usage_text : List ℕ
 usage_text = codes "usage: pipegraph-pods gains LIST OUT\n"
-    ++ codes "       LIST has lines `FRAME GAIN`; `-` is standard input or output\n"
+    ++ codes "       pipegraph-pods format OUT rate VALUES channels VALUES [mandatory KEY]\n"
+    ++ codes "       LIST has lines `FRAME GAIN`; VALUES is A, A|B, MIN..MAX or MIN..MAX/STEP;\n"
+    ++ codes "       `-` is standard input or output\n"
 
 -- what is wrong with a line
 abbrev pub why_text : ListWhy → List ℕ

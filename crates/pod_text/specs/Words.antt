@@ -6,20 +6,10 @@ use Rattle.pod_text.specs.declared.status.Status.{Status}
 use Rattle.pod_text.specs.declared.status.Status.TheVariants as S
 use Rattle.pod_text.specs.declared.words.Request.{Request}
 use Rattle.pod_text.specs.declared.words.Request.TheVariants as R
-
--- standard input or output
-abbrev pub is_dash : List ℕ → Bool
-is_dash word = bytes_eq word (codes "-")
-
--- a word that names a file: 1 to 255 bytes, the first of them no `-`; or `-` alone
-abbrev pub is_file_word : List ℕ → Bool
-is_file_word [] = false
-is_file_word (c ∷ cs) = is_dash (c ∷ cs) || (not (c == 45) && nat_le (length (c ∷ cs)) 255)
-
--- a request behind whose words nothing stands from an index on
-abbrev pub alone : ℕ → List (List ℕ) → Request → Result Request Status
-alone index [] request = Ok request
-alone index (more ∷ rest) request = Err (S.Usage index)
+use Rattle.format_filter.specs.CommonFormat.{IsSoundFormat}
+use Rattle.pod_text.specs.Alone.{alone}
+use Rattle.pod_text.specs.FormatWords.{format_behind}
+pub use Rattle.pod_text.specs.FileWords.{is_dash, is_file_word}
 
 -- the words behind `gains`: a list, and where the sequence goes
 abbrev pub gains_to : List ℕ → List (List ℕ) → Result Request Status
@@ -39,7 +29,8 @@ is_help name = bytes_eq name (codes "--help") || bytes_eq name (codes "-h")
 abbrev pub request_of : List (List ℕ) → Result Request Status
 request_of [] = Err (S.Usage 0)
 request_of (name ∷ rest) = if bytes_eq name (codes "gains") then gains_behind rest
-    else (if is_help name then Ok R.Help else Err (S.Usage 0))
+    else (if bytes_eq name (codes "format") then format_behind rest
+    else (if is_help name then Ok R.Help else Err (S.Usage 0)))
 
 -- the words were read as they should, or memory was short
 abbrev pub IsRead : Result Request Status → Result Request Status → Type 0
@@ -47,3 +38,8 @@ IsRead expected (Ok x) = expected ≡ Ok x
 IsRead expected (Err S.Memory) = Unit {0}
 IsRead expected (Err (S.Usage word)) = expected ≡ Err (S.Usage word)
 IsRead expected (Err _) = ⊥
+
+-- the format of a request, if it has one, is sound
+abbrev pub HasSoundFormat : Request → Type 0
+HasSoundFormat (R.Format to format) = IsSoundFormat format
+HasSoundFormat other = Unit {0}

@@ -7,18 +7,15 @@ use crate::words::is_dash;
 use pw_base::{FileFail, Files, Sink, Text};
 use std::alloc::Global;
 
-/// The word of a command line that names where the bytes go.
-const OUTPUT: u32 = 2;
-
-// Stores bytes under a name.
-fn store<F: Files>(alloc: Global, files: &mut F, name: &Text, bytes: &[u8]) -> Status
-    ensures held { IsStoring name.now bytes.now (F.held files.old) (F.held files.new)
+// Stores bytes under a name; a failure is that of the word at this place.
+fn store<F: Files>(alloc: Global, files: &mut F, name: &Text, bytes: &[u8], place: u32) -> Status
+    ensures held { IsStoring name.now bytes.now place (F.held files.old) (F.held files.new)
         (F.store_faults files.old) (F.store_faults files.new) result }
     ensures loads { F.load_faults files.new ≡ F.load_faults files.old }
 {
     match files.store(alloc, name, bytes) {
         Ok(()) => Status::Ok,
-        Err(FileFail::Failed) => Status::WriteFault { place: OUTPUT },
+        Err(FileFail::Failed) => Status::WriteFault { place },
         Err(FileFail::Memory) => Status::Memory,
     }
 }
@@ -35,21 +32,22 @@ pub(crate) fn put<O: Sink>(alloc: Global, out: &mut O, bytes: &[u8], place: u32)
     }
 }
 
-/// Stores bytes in the file that a word names, or puts them where the word is `-`.
+/// Stores bytes in the file that the word at this place names, or puts them where it is `-`.
 pub(crate) fn deliver<F: Files, O: Sink>(
     alloc: Global,
     files: &mut F,
     out: &mut O,
     word: &Text,
     bytes: &[u8],
+    place: u32,
 ) -> Status
-    ensures done { IsDelivered word.now bytes.now (F.held files.old) (F.held files.new)
+    ensures done { IsDelivered word.now bytes.now place (F.held files.old) (F.held files.new)
         (O.given out.old) (O.given out.new) result }
     ensures loads { F.load_faults files.new ≡ F.load_faults files.old }
 {
     if is_dash(word.as_slice()) {
-        put(alloc, out, bytes, OUTPUT)
+        put(alloc, out, bytes, place)
     } else {
-        store(alloc, files, word, bytes)
+        store(alloc, files, word, bytes, place)
     }
 }

@@ -13,7 +13,9 @@ pub(crate) fn usage_text() -> &'static [u8]
     ensures { result.now ≡ usage_text }
 {
     b"usage: pipegraph-pods gains LIST OUT\n\
-       \x20      LIST has lines `FRAME GAIN`; `-` is standard input or output\n"
+       \x20      pipegraph-pods format OUT rate VALUES channels VALUES [mandatory KEY]\n\
+       \x20      LIST has lines `FRAME GAIN`; VALUES is A, A|B, MIN..MAX or MIN..MAX/STEP;\n\
+       \x20      `-` is standard input or output\n"
 }
 
 // What is wrong with a line.

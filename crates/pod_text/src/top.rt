@@ -1,17 +1,19 @@
 //! The whole program: what words ask for, done, and a sentence where it is refused.
 ghost use Rattle.std.specs.Prelude.{◌≡◌, IsSome, List, ℕ, map, string_bytes, Err, IfOk};
 ghost use Rattle.pw_base.specs.Files.{names_in};
+ghost use Rattle.format_filter.specs.CommonFormat.{IsSoundFormat};
 ghost use Rattle.pod_text.specs.Loading.{input_name};
 ghost use Rattle.pod_text.specs.Making.{IsGainsPod};
-ghost use Rattle.pod_text.specs.Answers.{IsRefusedBy, IsMade, RunsGains, IsAnswered, IsExplained};
+ghost use Rattle.pod_text.specs.Answers.{IsRefusedBy, IsMade, RunsGains, RunsFormat, IsAnswered, IsExplained};
 
 use crate::delivering::{deliver, put};
 use crate::loading::load;
-use crate::making::gains_pod;
+use crate::making::{format_pod, gains_pod};
 use crate::sentences::{sentence, usage_text};
 use crate::showing::line_at;
 use crate::status::Status;
 use crate::words::{Request, read_words};
+use format_filter::Format;
 use pw_base::{Files, Items, Memory, Sink, Text};
 use std::alloc::Global;
 
@@ -85,9 +87,27 @@ fn run_gains<F: Files, O: Sink>(
     match made(alloc, files, from) {
         Err(ended) => ended,
         Ok(bytes) => Ended {
-            status: deliver(alloc, files, out, to, bytes.as_slice()),
+            status: deliver(alloc, files, out, to, bytes.as_slice(), 2),
             line: Items::new(alloc),
         },
+    }
+}
+
+// Makes the object of a format, and delivers it.
+fn run_format<F: Files, O: Sink>(
+    alloc: Global,
+    files: &mut F,
+    out: &mut O,
+    to: &Text,
+    format: &Format,
+) -> Status
+    requires { IsSoundFormat format.now }
+    ensures { RunsFormat to.now format.now (F.held files.old) (F.held files.new)
+        (O.given out.old) (O.given out.new) result }
+{
+    match format_pod(alloc, format) {
+        Err(status) => status,
+        Ok(bytes) => deliver(alloc, files, out, to, bytes.as_slice(), 1),
     }
 }
 
@@ -104,6 +124,10 @@ fn do_words<F: Files, O: Sink>(alloc: Global, words: &[String], files: &mut F, o
         },
         Ok(Request::Help) => Ended {
             status: put(alloc, out, usage_text(), 0),
+            line: Items::new(alloc),
+        },
+        Ok(Request::Format { to, format }) => Ended {
+            status: run_format(alloc, files, out, &to, &format),
             line: Items::new(alloc),
         },
         Ok(Request::Gains { from, to }) => run_gains(alloc, files, out, &from, &to),
@@ -124,7 +148,8 @@ fn explained(alloc: Global, words: &[String], ended: &Ended) -> Result<Text, Mem
 /// Makes the POD that the words of a command line ask for, and delivers it.
 ///
 /// The words are those behind the program's own name: `gains LIST OUT` makes the control sequence
-/// of a list of gains, `--help` puts the commands. Where a file is meant, `-` is standard input,
+/// of a list of gains, `format OUT rate VALUES channels VALUES [mandatory KEY]` the object of an
+/// offer, `--help` puts the commands. Where a file is meant, `-` is standard input,
 /// which is loaded as `/dev/stdin`, or standard output. A list is loaded once. Where the words or
 /// the list are refused, nothing is stored and nothing put. Takes memory for the list, its points
 /// and the bytes.

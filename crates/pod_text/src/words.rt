@@ -1,9 +1,11 @@
 //! The words of a command line.
-ghost use Rattle.std.specs.Prelude.{◌≡◌, map, string_bytes, Ok};
-ghost use Rattle.pod_text.specs.Words.{is_dash, is_file_word, gains_to, gains_behind, request_of, IsRead};
+ghost use Rattle.std.specs.Prelude.{◌≡◌, map, string_bytes, Ok, IfOk};
+ghost use Rattle.pod_text.specs.Words.{is_dash, is_file_word, gains_to, gains_behind, request_of, IsRead, HasSoundFormat};
 ghost use Rattle.pod_text.specs.declared.words.Request.TheVariants as R;
 
+use crate::format_words::read_format_words;
 use crate::status::Status;
+use format_filter::Format;
 use pw_base::{Items, Text};
 use std::alloc::Global;
 
@@ -12,6 +14,8 @@ use std::alloc::Global;
 pub enum Request {
     /// The commands in words.
     Help,
+    /// The object of an offer.
+    Format { to: Text, format: Format },
     /// The control sequence of a list of gains.
     Gains { from: Text, to: Text },
 }
@@ -23,8 +27,8 @@ pub(crate) fn is_dash(word: &[u8]) -> bool
     word == b"-".as_slice()
 }
 
-// Whether a word may name a file, or is `-`.
-fn is_file_word(word: &String) -> bool
+/// Whether a word may name a file, or is `-`.
+pub(crate) fn is_file_word(word: &String) -> bool
     ensures { result ≡ is_file_word (string_bytes word.now) }
 {
     let bytes = word.as_bytes();
@@ -36,7 +40,8 @@ fn is_file_word(word: &String) -> bool
 
 // The request of a list of gains.
 fn gains_request(alloc: Global, from: &String, to: &String) -> Result<Request, Status>
-    ensures { IsRead (Ok (R.Gains (string_bytes from.now) (string_bytes to.now))) result }
+    ensures read { IsRead (Ok (R.Gains (string_bytes from.now) (string_bytes to.now))) result }
+    ensures sound { IfOk result HasSoundFormat }
 {
     match Items::from_slice(alloc, from.as_bytes()) {
         Err(_memory) => Err(Status::Memory),
@@ -49,7 +54,8 @@ fn gains_request(alloc: Global, from: &String, to: &String) -> Result<Request, S
 
 // The words behind the list of `gains`.
 fn read_out(alloc: Global, from: &String, rest: &[String]) -> Result<Request, Status>
-    ensures { IsRead (gains_to (string_bytes from.now) (map string_bytes rest.now)) result }
+    ensures read { IsRead (gains_to (string_bytes from.now) (map string_bytes rest.now)) result }
+    ensures sound { IfOk result HasSoundFormat }
 {
     match rest {
         [] => Err(Status::Usage { word: 2 }),
@@ -67,7 +73,8 @@ fn read_out(alloc: Global, from: &String, rest: &[String]) -> Result<Request, St
 
 // The words behind `gains`.
 fn read_gains_words(alloc: Global, rest: &[String]) -> Result<Request, Status>
-    ensures { IsRead (gains_behind (map string_bytes rest.now)) result }
+    ensures read { IsRead (gains_behind (map string_bytes rest.now)) result }
+    ensures sound { IfOk result HasSoundFormat }
 {
     match rest {
         [] => Err(Status::Usage { word: 1 }),
@@ -83,13 +90,16 @@ fn read_gains_words(alloc: Global, rest: &[String]) -> Result<Request, Status>
 
 /// What the words ask for, or the first word at fault.
 pub(crate) fn read_words(alloc: Global, words: &[String]) -> Result<Request, Status>
-    ensures { IsRead (request_of (map string_bytes words.now)) result }
+    ensures read { IsRead (request_of (map string_bytes words.now)) result }
+    ensures sound { IfOk result HasSoundFormat }
 {
     match words {
         [] => Err(Status::Usage { word: 0 }),
         [name, rest @ ..] => {
             if name.as_bytes() == b"gains".as_slice() {
                 read_gains_words(alloc, rest)
+            } else if name.as_bytes() == b"format".as_slice() {
+                read_format_words(alloc, rest)
             } else if name.as_bytes() == b"--help".as_slice()
                 || name.as_bytes() == b"-h".as_slice()
             {

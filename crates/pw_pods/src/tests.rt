@@ -142,7 +142,9 @@ fn decibels_are_rounded_to_the_nearest(rt: HostRuntime) -> Result<(), Fail> {
 }
 
 const USAGE: &str = "usage: pipegraph-pods gains LIST OUT\n\
-    \x20      LIST has lines `FRAME GAIN`; `-` is standard input or output\n";
+    \x20      pipegraph-pods format OUT rate VALUES channels VALUES [mandatory KEY]\n\
+    \x20      LIST has lines `FRAME GAIN`; VALUES is A, A|B, MIN..MAX or MIN..MAX/STEP;\n\
+    \x20      `-` is standard input or output\n";
 
 #[test]
 fn words_are_refused_at_the_first_at_fault(rt: HostRuntime) -> Result<(), Fail> {
@@ -167,6 +169,76 @@ fn words_are_refused_at_the_first_at_fault(rt: HostRuntime) -> Result<(), Fail> 
             &sentence,
         )?;
     }
+    let formats = [
+        ("format", 1, "a word is missing"),
+        ("format -o", 1, "this word is wrong here: \"-o\""),
+        (
+            "format o channels 1",
+            2,
+            "this word is wrong here: \"channels\"",
+        ),
+        ("format o rate", 3, "a word is missing"),
+        (
+            "format o rate 44100|",
+            3,
+            "this word is wrong here: \"44100|\"",
+        ),
+        ("format o rate 2..1", 3, "this word is wrong here: \"2..1\""),
+        (
+            "format o rate 1..2/0",
+            3,
+            "this word is wrong here: \"1..2/0\"",
+        ),
+        (
+            "format o rate 1...2",
+            3,
+            "this word is wrong here: \"1...2\"",
+        ),
+        (
+            "format o rate 1..2/3/4",
+            3,
+            "this word is wrong here: \"1..2/3/4\"",
+        ),
+        (
+            "format o rate 2147483648",
+            3,
+            "this word is wrong here: \"2147483648\"",
+        ),
+        (
+            "format o rate 1 rate 2",
+            4,
+            "this word is wrong here: \"rate\"",
+        ),
+        (
+            "format o rate 1 channels x",
+            5,
+            "this word is wrong here: \"x\"",
+        ),
+        (
+            "format o rate 1 channels 2 x",
+            6,
+            "this word is wrong here: \"x\"",
+        ),
+        (
+            "format o rate 1 channels 2 mandatory",
+            7,
+            "a word is missing",
+        ),
+        (
+            "format o rate 1 channels 2 mandatory x",
+            7,
+            "this word is wrong here: \"x\"",
+        ),
+        (
+            "format o rate 1 channels 2 mandatory rate x",
+            8,
+            "this word is wrong here: \"x\"",
+        ),
+    ];
+    for (line, word, said) in formats {
+        let sentence = format!(in rt.alloc(); "pipegraph-pods: {said}\n{USAGE}")?;
+        expect(&rt, line, b"", Status::Usage { word }, None, b"", &sentence)?;
+    }
     for line in ["--help", "-h"] {
         expect(&rt, line, b"", Status::Ok, None, USAGE.as_bytes(), "")?;
     }
@@ -180,5 +252,27 @@ fn words_are_refused_at_the_first_at_fault(rt: HostRuntime) -> Result<(), Fail> 
         b"",
         absent,
     )?;
+    Ok(())
+}
+
+// The objects of two offers: rates of an Enum and channels of a Range, rates of a Step and two
+// channels.
+const OFFER: &[u8] =
+    b"\x68\0\0\0\x0f\0\0\0\x03\0\x04\0\x03\0\0\0\x03\0\x01\0\x08\0\0\0\x1c\0\0\0\x13\0\0\0\
+    \x03\0\0\0\0\0\0\0\x04\0\0\0\x04\0\0\0\x44\xac\0\0\x44\xac\0\0\x80\xbb\0\0\0\0\0\0\
+    \x04\0\x01\0\0\0\0\0\x1c\0\0\0\x13\0\0\0\x01\0\0\0\0\0\0\0\x04\0\0\0\x04\0\0\0\x01\0\
+    \0\0\x01\0\0\0\x02\0\0\0\0\0\0\0";
+
+const STEPS: &[u8] =
+    b"\x50\0\0\0\x0f\0\0\0\x03\0\x04\0\x03\0\0\0\x03\0\x01\0\0\0\0\0\x20\0\0\0\x13\0\0\0\
+    \x02\0\0\0\0\0\0\0\x04\0\0\0\x04\0\0\0\x40\x1f\0\0\x40\x1f\0\0\0\x77\x01\0\xa0\x0f\0\
+    \0\x04\0\x01\0\x08\0\0\0\x04\0\0\0\x04\0\0\0\x02\0\0\0\0\0\0\0";
+
+#[test]
+fn words_become_the_object_of_an_offer(rt: HostRuntime) -> Result<(), Fail> {
+    let offer = "format o rate 44100|48000 channels 1..2 mandatory rate";
+    expect(&rt, offer, b"", Status::Ok, Some(OFFER), b"", "")?;
+    let steps = "format - rate 8000..96000/4000 channels 2 mandatory channels";
+    expect(&rt, steps, b"", Status::Ok, None, STEPS, "")?;
     Ok(())
 }
