@@ -1,6 +1,6 @@
 -- Choices in a word: numbers parted by `|`, or a Range as `MIN..MAX`, or a Step as `MIN..MAX/STEP`.
 -- The first is what is preferred. The form is this project's; choices are those of SPA POD.
-use Rattle.std.specs.Prelude.{◌==◌, ◌&&◌, ℕ, ℤ, pos, Bool, nat_le, nat_lt, if◌then◌else◌, List, [], ◌∷◌, ◌++◌, length, fold}
+use Rattle.std.specs.Prelude.{◌==◌, ◌&&◌, ℕ, ℤ, pos, nat_le, nat_lt, if◌then◌else◌, List, [], ◌∷◌, ◌++◌, length, fold}
 use Rattle.std.specs.Prelude.{Option, Some, None, option_map, option_and_then}
 use Rattle.std.specs.List.{slice_split}
 use Rattle.pod_codec.specs.declared.pod.Pod.{Pod}
@@ -9,15 +9,7 @@ use Rattle.format_filter.specs.declared.choice.Choice.{Choice}
 use Rattle.format_filter.specs.declared.choice.Choice.TheVariants.{Only, Enum, Range, Step}
 use Rattle.format_filter.specs.declared.choice.Wide.TheVariants.{Int}
 use Rattle.format_filter.specs.Members as members
-
-abbrev pub is_bar : ℕ → Bool
-is_bar b = b == 0x7C
-
-abbrev pub is_dot : ℕ → Bool
-is_dot b = b == 0x2E
-
-abbrev pub is_slash : ℕ → Bool
-is_slash b = b == 0x2F
+pub use Rattle.pod_text.specs.Separators.{is_bar, is_dot, is_slash}
 
 -- a number of an Int, without a sign
 abbrev pub number_said : List ℕ → Option ℕ

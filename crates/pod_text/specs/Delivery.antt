@@ -27,7 +27,8 @@ abbrev pub IsFailed : ℕ → ℕ → Status → Type 0
 IsFailed before now (S.WriteFault place) = Rose before now
 IsFailed before now status = Unit {0}
 
-abbrev pub IsStoring : List ℕ → List ℕ → ℕ → Held → Held → ℕ → ℕ → Status → Type 0
+abbrev pub IsStoring : List ℕ → List ℕ → ℕ → Held → Held → ℕ → ℕ → Status
+    → Type 0
 IsStoring name bytes at old new before now status =
     Stores name bytes at old new status × IsFailed before now status
 

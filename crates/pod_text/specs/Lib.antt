@@ -15,3 +15,4 @@ pub mod Offers
 pub mod FileWords
 pub mod Alone
 pub mod FormatWords
+pub mod Separators
