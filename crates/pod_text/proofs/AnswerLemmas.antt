@@ -1,0 +1,40 @@
+-- What a call does.
+use Rattle.std.proofs.Common.{◌≡◌, inr, ℕ, List, [], Ok, subst}
+use Rattle.std.specs.Prelude.{Result}
+use Rattle.pw_base.specs.Files.{Held, names_in}
+use Rattle.pw_base.specs.Output.{Given}
+use Rattle.format_filter.specs.declared.format.Format.{Format}
+use Rattle.pod_text.specs.declared.status.Status.{Status}
+use Rattle.pod_text.specs.declared.status.Status.TheVariants as S
+use Rattle.pod_text.specs.declared.words.Request.{Request}
+use Rattle.pod_text.specs.Delivery.{IsDelivered}
+use Rattle.pod_text.specs.Making.{IsFormatPod}
+use Rattle.pod_text.specs.Loading.{input_name}
+use Rattle.pod_text.specs.Answers.{IsMade, RunsGains, RunsFormat, IsExplained}
+use Rattle.pod_text.specs.Answers.RunsGains.{done}
+use Rattle.pod_text.specs.Answers.RunsFormat.{offered}
+
+-- the bytes that were made are delivered
+pub gains_done : (from to bytes shown : List ℕ) (old made new : Held) (given now : Given) (status : Status) (line : List ℕ)
+    → IsMade (names_in old (input_name from)) (Ok bytes) → made ≡ old → shown ≡ bytes
+    → IsDelivered to shown 2 made new given now status → RunsGains from to old new given now status line
+gains_done from to bytes shown old made new given now status line is held same delivered =
+    done bytes is
+    (subst (λ (h : Held). IsDelivered to bytes 2 h new given now status) held
+    (subst (λ (bs : List ℕ). IsDelivered to bs 2 made new given now status) same delivered))
+
+-- where memory was short there is no sentence
+pub unexplained : (status : Status) (words : List (List ℕ)) (line text : List ℕ) → text ≡ [] → IsExplained status words line text
+unexplained S.Ok words line text none = none
+unexplained other words line text none = inr none
+
+-- what words are read as, by an equal request
+pub read_as : (r : Result Request Status) (q p : Request) → r ≡ Ok q → q ≡ p → r ≡ Ok p
+read_as r q p is same = subst (λ (x : Request). r ≡ Ok x) same is
+
+-- the bytes of a format are delivered
+pub format_done : (to bytes shown : List ℕ) (format : Format) (old new : Held) (given now : Given) (status : Status)
+    → IsFormatPod format (Ok bytes) → shown ≡ bytes → IsDelivered to shown 1 old new given now status
+    → RunsFormat to format old new given now status
+format_done to bytes shown format old new given now status is same delivered =
+    offered bytes is (subst (λ (bs : List ℕ). IsDelivered to bs 1 old new given now status) same delivered)

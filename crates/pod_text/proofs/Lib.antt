@@ -1,0 +1,6 @@
+mod GainLemmas
+mod DecibelLemmas
+mod SequenceLemmas
+mod AnswerLemmas
+mod ChoiceLemmas
+mod OfferLemmas

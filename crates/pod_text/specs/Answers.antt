@@ -1,0 +1,74 @@
+-- What a call does, by the words and by what the files hold. This project's own.
+use Rattle.std.specs.Prelude.{◌≡◌, ◌⊎◌, ℕ, ◌-◌, List, [], Option, Some, Result, Ok, Err, slice_index_or}
+use Rattle.pw_base.specs.Files.{Held, names_in}
+use Rattle.pw_base.specs.Output.{Given}
+use Rattle.graph_script.specs.Lexical.{lines_of}
+use Rattle.format_filter.specs.declared.format.Format.{Format}
+use Rattle.pod_text.specs.declared.fault.ListFault.TheVariants.{Line}
+use Rattle.pod_text.specs.declared.status.Status.{Status}
+use Rattle.pod_text.specs.declared.status.Status.TheVariants as S
+use Rattle.pod_text.specs.declared.top.Ended.{Ended}
+use Rattle.pod_text.specs.declared.words.Request.TheVariants as R
+use Rattle.pod_text.specs.Delivery.{Puts, IsDelivered}
+use Rattle.pod_text.specs.GainList.{gains_of}
+use Rattle.pod_text.specs.Loading.{input_name, IsUnloaded}
+use Rattle.pod_text.specs.Making.{IsGainsPod, IsFormatPod}
+use Rattle.pod_text.specs.Sentences.{usage_text, sentence_of}
+use Rattle.pod_text.specs.Words.{request_of}
+
+-- a list is refused, with its line at fault where the status names one
+abbrev pub IsRefusedBy : List ℕ → Status → List ℕ → Type 0
+IsRefusedBy list (S.List number why) line = (gains_of list ≡ Err (Line number why))
+    × (line ≡ slice_index_or (lines_of list) (number - 1) [])
+IsRefusedBy list status line = IsGainsPod list (Err status)
+
+-- the bytes of the sequence of what stands there, or why there are none
+abbrev pub IsMade : Option (List ℕ) → Result (List ℕ) Ended → Type 0
+IsMade stands (Ok bytes) = (list : List ℕ) × (stands ≡ Some list) × IsGainsPod list (Ok bytes)
+IsMade stands (Err ended) = IsUnloaded stands ended.status
+    ⊎ ((list : List ℕ) × (stands ≡ Some list) × IsRefusedBy list ended.status ended.line)
+
+-- nothing is stored, and nothing put
+pub record IsUnchanged (old new : Held) (given now : Given) : Type 0 where
+  pub held : new ≡ old
+  pub put : now ≡ given
+
+-- GAINS: the bytes are made and delivered, or nothing changes
+pub data RunsGains (from to : List ℕ) (old new : Held) (given now : Given) (status : Status)
+    (line : List ℕ) : Type 0 where
+  done : (bytes : List ℕ) → IsMade (names_in old (input_name from)) (Ok bytes)
+      → IsDelivered to bytes 2 old new given now status
+      → RunsGains from to old new given now status line
+  refused : IsMade (names_in old (input_name from))
+      (Err (record { status = status; line = line })) → IsUnchanged old new given now
+      → RunsGains from to old new given now status line
+
+-- FORMAT: the bytes are made and delivered, or nothing changes
+pub data RunsFormat (to : List ℕ) (format : Format) (old new : Held) (given now : Given)
+    (status : Status) : Type 0 where
+  offered : (bytes : List ℕ) → IsFormatPod format (Ok bytes)
+      → IsDelivered to bytes 1 old new given now status
+      → RunsFormat to format old new given now status
+  kept : IsFormatPod format (Err status) → IsUnchanged old new given now
+      → RunsFormat to format old new given now status
+
+-- THE ANSWER to words; want of memory is free
+pub data IsAnswered (words : List (List ℕ)) (old new : Held) (given now : Given)
+    (status : Status) (line : List ℕ) : Type 0 where
+  gains : (from to : List ℕ) → request_of words ≡ Ok (R.Gains from to)
+      → RunsGains from to old new given now status line
+      → IsAnswered words old new given now status line
+  format : (to : List ℕ) (format : Format) → request_of words ≡ Ok (R.Format to format)
+      → RunsFormat to format old new given now status
+      → IsAnswered words old new given now status line
+  help : request_of words ≡ Ok R.Help → Puts usage_text 0 given now status → new ≡ old
+      → IsAnswered words old new given now status line
+  usage : request_of words ≡ Err status → IsUnchanged old new given now
+      → IsAnswered words old new given now status line
+  short : status ≡ S.Memory → IsUnchanged old new given now
+      → IsAnswered words old new given now status line
+
+-- the sentence of a status; none where all was done, nor where memory was short for it
+abbrev pub IsExplained : Status → List (List ℕ) → List ℕ → List ℕ → Type 0
+IsExplained S.Ok words line text = text ≡ []
+IsExplained status words line text = (text ≡ sentence_of status words line) ⊎ (text ≡ [])

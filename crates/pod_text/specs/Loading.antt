@@ -1,0 +1,33 @@
+-- What a load of the list gives, by what stands under its name. Where a load failed or memory was
+-- short, nothing is said of the files. This project's own.
+use Rattle.std.specs.Prelude.{◌≡◌, ℕ, ◌<◌, List, length, codes, if◌then◌else◌, Option, Some, None, Result, Ok, Err}
+use Rattle.pw_base.specs.Causes.{Rose}
+use Rattle.pod_text.specs.declared.status.Status.{Status}
+use Rattle.pod_text.specs.declared.status.Status.TheVariants as S
+use Rattle.pod_text.specs.Words.{is_dash}
+
+-- the bytes of a list, at most: 16 MiB
+abbrev pub list_bytes_limit : ℕ
+list_bytes_limit = 16777216
+
+-- `-` is standard input
+abbrev pub input_name : List ℕ → List ℕ
+input_name word = if is_dash word then codes "/dev/stdin" else word
+
+-- why a load gave nothing; what is read is the word 1
+abbrev pub IsUnloaded : Option (List ℕ) → Status → Type 0
+IsUnloaded stands (S.Absent place) = (place ≡ 1) × (stands ≡ None)
+IsUnloaded stands (S.ReadFault place) = place ≡ 1
+IsUnloaded stands (S.Limit place) = (place ≡ 1) × ((bytes : List ℕ) × (stands ≡ Some bytes)
+    × (list_bytes_limit < length bytes))
+IsUnloaded stands S.Memory = Unit {0}
+IsUnloaded stands status = ⊥
+
+abbrev pub IsLoad : Option (List ℕ) → Result (List ℕ) Status → Type 0
+IsLoad stands (Ok bytes) = stands ≡ Some bytes
+IsLoad stands (Err status) = IsUnloaded stands status
+
+-- only a load that failed has a cause outside
+abbrev pub IsCaused : {T : Type 0} → ℕ → ℕ → Result T Status → Type 0
+IsCaused before now (Err (S.ReadFault place)) = Rose before now
+IsCaused before now result = Unit {0}

@@ -1,0 +1,64 @@
+-- The sentence of a status, by the words of the command line and the line of the list that it
+-- names. This project's own.
+use Rattle.std.specs.Prelude.{ℕ, nat_lt, if◌then◌else◌, List, [], ◌++◌, length, codes, decimal, slice_index_or}
+use Rattle.pod_text.specs.declared.fault.ListWhy.{ListWhy}
+use Rattle.pod_text.specs.declared.fault.ListWhy.TheVariants as w
+use Rattle.pod_text.specs.declared.status.Status.{Status}
+use Rattle.pod_text.specs.declared.status.Status.TheVariants as S
+use Rattle.pod_text.specs.Showing.{shown, shown_line}
+
+-- the commands in words
+abbrev pub usage_text : List ℕ
+usage_text = codes "usage: pipegraph-pods gains LIST OUT\n"
+    ++ codes "       pipegraph-pods format OUT rate VALUES channels VALUES [mandatory KEY]\n"
+    ++ codes "       LIST has lines `FRAME GAIN`; VALUES is A, A|B, MIN..MAX or MIN..MAX/STEP;\n"
+    ++ codes "       `-` is standard input or output\n"
+
+-- what is wrong with a line
+abbrev pub why_text : ListWhy → List ℕ
+why_text w.Words = codes "a line has two words, FRAME GAIN, and a comment its own line"
+why_text w.Frame = codes "a frame is a number from 0 to 4294967295"
+why_text w.FrameFalls = codes "the frame is below that of the point before it"
+why_text w.Gain = codes "a gain is a number from -32767 to 32767, in 1/256, or -60dB to 42dB"
+
+-- a word by its index; nothing where there is none
+abbrev pub word : List (List ℕ) → ℕ → List ℕ
+word words i = slice_index_or words i []
+
+-- what is wrong with the file that a word names
+abbrev pub at_word : List (List ℕ) → ℕ → List ℕ → List ℕ
+at_word words place what = (shown (word words place) ++ codes ": ") ++ what
+
+-- a word at fault, or one that is missing
+abbrev pub usage_fault : List (List ℕ) → ℕ → List ℕ
+usage_fault words i =
+    if nat_lt i (length words) then (codes "this word is wrong here: " ++ shown (word words i))
+    else codes "a word is missing"
+
+-- a line at fault
+abbrev pub line_fault : List (List ℕ) → ℕ → ListWhy → List ℕ → List ℕ
+line_fault words number why line =
+    at_word words 1 (codes "line ") ++ (decimal number ++ (codes ": " ++ (shown_line line
+    ++ (codes ": " ++ why_text why))))
+
+abbrev pub fault_text : Status → List (List ℕ) → List ℕ → List ℕ
+fault_text S.Ok words line = []
+fault_text (S.Usage i) words line = usage_fault words i
+fault_text (S.List number why) words line = line_fault words number why line
+fault_text S.TooLong words line = at_word words 1 (codes "a POD has room for 21845 points at most")
+fault_text (S.Absent place) words line = at_word words place (codes "there is no such file")
+fault_text (S.ReadFault place) words line = at_word words place (codes "it cannot be read")
+fault_text (S.WriteFault place) words line = at_word words place (codes "it cannot be written")
+fault_text (S.Limit place) words line =
+    at_word words place (codes "it is longer than 16777216 bytes")
+fault_text S.Memory words line = codes "no memory was left"
+
+-- what follows it
+abbrev pub after : Status → List ℕ
+after (S.Usage i) = usage_text
+after status = []
+
+-- THE SENTENCE
+abbrev pub sentence_of : Status → List (List ℕ) → List ℕ → List ℕ
+sentence_of status words line =
+    (codes "pipegraph-pods: " ++ fault_text status words line) ++ (codes "\n" ++ after status)

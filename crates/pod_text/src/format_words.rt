@@ -1,0 +1,227 @@
+//! The words behind `format`.
+ghost use Rattle.std.specs.Prelude.{◌≡◌, map, string_bytes, Ok, IfOk};
+ghost use Rattle.format_filter.specs.Soundness.{IsSound};
+ghost use Rattle.pod_text.specs.Offers.{offer_of};
+ghost use Rattle.pod_text.specs.Words.{IsRead, HasSoundFormat};
+ghost use Rattle.pod_text.specs.FormatWords as said;
+ghost use Rattle.pod_text.specs.Alone as words;
+ghost use Rattle.pod_text.specs.declared.words.Request.TheVariants as R;
+
+use crate::choices::choice_said;
+use crate::offers::offer_of;
+use crate::status::Status;
+use crate::words::{Request, is_file_word};
+use format_filter::Choice;
+use pw_base::Items;
+use std::alloc::Global;
+
+/// The flag of a property that the other side must have. Source: `spa/pod/pod.h`.
+const MANDATORY: u32 = 8;
+
+/// The key that the other side of a link must have.
+#[derive(Clone, Copy, Drop)]
+pub(crate) enum Key {
+    None,
+    Rate,
+    Channels,
+}
+
+// The request of a format.
+fn format_request(
+    alloc: Global,
+    to: &String,
+    rate: Choice,
+    channels: Choice,
+    rate_flags: u32,
+    channels_flags: u32,
+) -> Result<Request, Status>
+    requires { IsSound rate × IsSound channels }
+    ensures read { IsRead (Ok (R.Format (string_bytes to.now)
+        (offer_of rate channels rate_flags channels_flags))) result }
+    ensures sound { IfOk result HasSoundFormat }
+{
+    match offer_of(alloc, rate, channels, rate_flags, channels_flags) {
+        Err(_memory) => Err(Status::Memory),
+        Ok(format) => match Items::from_slice(alloc, to.as_bytes()) {
+            Ok(to) => Ok(Request::Format { to, format }),
+            Err(_memory) => Err(Status::Memory),
+        },
+    }
+}
+
+// The request of a key, if nothing stands behind its words.
+fn alone(
+    alloc: Global,
+    to: &String,
+    rate: Choice,
+    channels: Choice,
+    key: Key,
+    rest: &[String],
+) -> Result<Request, Status>
+    requires { IsSound rate × IsSound channels }
+    ensures read { IsRead (words.alone 8 (map string_bytes rest.now)
+        (said.offered (string_bytes to.now) rate channels key)) result }
+    ensures sound { IfOk result HasSoundFormat }
+{
+    if !rest.is_empty() {
+        return Err(Status::Usage { word: 8 });
+    }
+    match key {
+        Key::None => format_request(alloc, to, rate, channels, 0, 0),
+        Key::Rate => format_request(alloc, to, rate, channels, MANDATORY, 0),
+        Key::Channels => format_request(alloc, to, rate, channels, 0, MANDATORY),
+    }
+}
+
+// The key that a word names.
+fn key_of(word: &String) -> Option<Key>
+    ensures { result ≡ said.key_of (string_bytes word.now) }
+{
+    let bytes = word.as_bytes();
+    if bytes == b"rate".as_slice() {
+        Some(Key::Rate)
+    } else if bytes == b"channels".as_slice() {
+        Some(Key::Channels)
+    } else {
+        None
+    }
+}
+
+// The key behind `mandatory`.
+fn read_key(
+    alloc: Global,
+    to: &String,
+    rate: Choice,
+    channels: Choice,
+    rest: &[String],
+) -> Result<Request, Status>
+    requires { IsSound rate × IsSound channels }
+    ensures read { IsRead (said.key_behind (string_bytes to.now) rate channels
+        (map string_bytes rest.now)) result }
+    ensures sound { IfOk result HasSoundFormat }
+{
+    match rest {
+        [] => Err(Status::Usage { word: 7 }),
+        [word, more @ ..] => match key_of(word) {
+            None => Err(Status::Usage { word: 7 }),
+            Some(key) => alone(alloc, to, rate, channels, key, more),
+        },
+    }
+}
+
+// The words behind the channels.
+fn read_mandatory(
+    alloc: Global,
+    to: &String,
+    rate: Choice,
+    channels: Choice,
+    rest: &[String],
+) -> Result<Request, Status>
+    requires { IsSound rate × IsSound channels }
+    ensures read { IsRead (said.mandatory_behind (string_bytes to.now) rate channels
+        (map string_bytes rest.now)) result }
+    ensures sound { IfOk result HasSoundFormat }
+{
+    match rest {
+        [] => alone(alloc, to, rate, channels, Key::None, rest),
+        [name, more @ ..] => {
+            if name.as_bytes() == b"mandatory".as_slice() {
+                read_key(alloc, to, rate, channels, more)
+            } else {
+                Err(Status::Usage { word: 6 })
+            }
+        }
+    }
+}
+
+// The word behind `channels`.
+fn read_channels(
+    alloc: Global,
+    to: &String,
+    rate: Choice,
+    rest: &[String],
+) -> Result<Request, Status>
+    requires { IsSound rate }
+    ensures read { IsRead (said.channels_behind (string_bytes to.now) rate
+        (map string_bytes rest.now)) result }
+    ensures sound { IfOk result HasSoundFormat }
+{
+    match rest {
+        [] => Err(Status::Usage { word: 5 }),
+        [word, more @ ..] => match choice_said(alloc, word.as_bytes()) {
+            Err(_memory) => Err(Status::Memory),
+            Ok(None) => Err(Status::Usage { word: 5 }),
+            Ok(Some(channels)) => read_mandatory(alloc, to, rate, channels, more),
+        },
+    }
+}
+
+// The words behind the rate.
+fn read_second(alloc: Global, to: &String, rate: Choice, rest: &[String]) -> Result<Request, Status>
+    requires { IsSound rate }
+    ensures read { IsRead (said.second_behind (string_bytes to.now) rate
+        (map string_bytes rest.now)) result }
+    ensures sound { IfOk result HasSoundFormat }
+{
+    match rest {
+        [] => Err(Status::Usage { word: 4 }),
+        [name, more @ ..] => {
+            if name.as_bytes() == b"channels".as_slice() {
+                read_channels(alloc, to, rate, more)
+            } else {
+                Err(Status::Usage { word: 4 })
+            }
+        }
+    }
+}
+
+// The word behind `rate`.
+fn read_rate(alloc: Global, to: &String, rest: &[String]) -> Result<Request, Status>
+    ensures read { IsRead (said.rate_behind (string_bytes to.now) (map string_bytes rest.now))
+        result }
+    ensures sound { IfOk result HasSoundFormat }
+{
+    match rest {
+        [] => Err(Status::Usage { word: 3 }),
+        [word, more @ ..] => match choice_said(alloc, word.as_bytes()) {
+            Err(_memory) => Err(Status::Memory),
+            Ok(None) => Err(Status::Usage { word: 3 }),
+            Ok(Some(rate)) => read_second(alloc, to, rate, more),
+        },
+    }
+}
+
+// The words behind the file.
+fn read_first(alloc: Global, to: &String, rest: &[String]) -> Result<Request, Status>
+    ensures read { IsRead (said.first_behind (string_bytes to.now) (map string_bytes rest.now))
+        result }
+    ensures sound { IfOk result HasSoundFormat }
+{
+    match rest {
+        [] => Err(Status::Usage { word: 2 }),
+        [name, more @ ..] => {
+            if name.as_bytes() == b"rate".as_slice() {
+                read_rate(alloc, to, more)
+            } else {
+                Err(Status::Usage { word: 2 })
+            }
+        }
+    }
+}
+
+/// The words behind `format`.
+pub(crate) fn read_format_words(alloc: Global, rest: &[String]) -> Result<Request, Status>
+    ensures read { IsRead (said.format_behind (map string_bytes rest.now)) result }
+    ensures sound { IfOk result HasSoundFormat }
+{
+    match rest {
+        [] => Err(Status::Usage { word: 1 }),
+        [to, more @ ..] => {
+            if is_file_word(to) {
+                read_first(alloc, to, more)
+            } else {
+                Err(Status::Usage { word: 1 })
+            }
+        }
+    }
+}

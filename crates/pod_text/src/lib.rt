@@ -1,0 +1,30 @@
+//! PODs from text: what people write, as the values that `pipegraph` reads.
+//!
+//! `read_gains` reads a list of gains at frames, and `sequence_of` makes the control sequence that
+//! has these points.
+#![tactic(auto)]
+
+mod choices;
+mod decibels;
+mod delivering;
+mod fault;
+mod format_words;
+mod gain_lines;
+mod gains;
+mod loading;
+mod making;
+mod numbers;
+mod offers;
+mod sentences;
+mod sequences;
+mod showing;
+mod status;
+mod top;
+mod words;
+
+pub use choices::choice_said;
+pub use fault::{ListFault, ListWhy};
+pub use gains::read_gains;
+pub use sequences::sequence_of;
+pub use status::Status;
+pub use top::{Report, make_pod};

@@ -1,0 +1,53 @@
+//! The file that a list comes from.
+ghost use Rattle.std.specs.Prelude.{◌≡◌, IsSome, codes, IfOk};
+ghost use Rattle.pw_base.specs.Files.{names_in};
+ghost use Rattle.pod_text.specs.Loading.{input_name, list_bytes_limit, IsLoad, IsCaused};
+
+use crate::status::Status;
+use crate::words::is_dash;
+use pw_base::{FileFail, Files, Items, Loaded, Memory, Text};
+use std::alloc::Global;
+
+/// The bytes of a list, at most.
+const LIST_BYTES: u64 = 16_777_216;
+
+/// The word of a command line that names what is read.
+const INPUT: u32 = 1;
+
+// The name of standard input among the files.
+fn standard_input() -> &'static [u8]
+    ensures { result.now ≡ codes "/dev/stdin" }
+{
+    b"/dev/stdin".as_slice()
+}
+
+// The name that a word has among the files.
+fn name_of(alloc: Global, word: &Text) -> Result<Text, Memory>
+    ensures { IfOk result (λ name. name ≡ input_name word.now) }
+{
+    if is_dash(word.as_slice()) {
+        Items::from_slice(alloc, standard_input())
+    } else {
+        word.copy(alloc)
+    }
+}
+
+/// Loads what a word names, once.
+pub(crate) fn load<F: Files>(alloc: Global, files: &mut F, word: &Text) -> Result<Items<u8>, Status>
+    ensures told { IsSome (F.held files.old)
+        → IsLoad (names_in (F.held files.old) (input_name word.now)) result }
+    ensures cause { IsCaused (F.load_faults files.old) (F.load_faults files.new) result }
+    ensures held { F.held files.new ≡ F.held files.old }
+    ensures stores { F.store_faults files.new ≡ F.store_faults files.old }
+{
+    let Ok(name) = name_of(alloc, word) else {
+        return Err(Status::Memory);
+    };
+    match files.load(alloc, &name, LIST_BYTES) {
+        Ok(Loaded::Whole(bytes)) => Ok(bytes),
+        Ok(Loaded::Absent) => Err(Status::Absent { place: INPUT }),
+        Ok(Loaded::TooLong) => Err(Status::Limit { place: INPUT }),
+        Err(FileFail::Failed) => Err(Status::ReadFault { place: INPUT }),
+        Err(FileFail::Memory) => Err(Status::Memory),
+    }
+}

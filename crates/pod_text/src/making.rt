@@ -1,0 +1,60 @@
+//! The bytes of a control sequence from those of a list, and those of a format.
+ghost use Rattle.std.specs.Prelude.{◌≡◌};
+ghost use Rattle.control_sequence.specs.Automation.{ArePoints};
+ghost use Rattle.format_filter.specs.CommonFormat.{IsSoundFormat};
+ghost use Rattle.pod_text.specs.Making.{IsSpelled, IsPointsPod, IsGainsPod, IsFormatPod};
+
+use crate::fault::ListFault;
+use crate::gains::read_gains;
+use crate::sequences::sequence_of;
+use crate::status::Status;
+use control_sequence::Points;
+use format_filter::{Format, pod_of};
+use pod_codec::{Pod, WriteFault, write_pod};
+use pw_base::Items;
+use std::alloc::Global;
+
+// The one spelling of a value.
+fn spelled(alloc: Global, pod: &Pod) -> Result<Items<u8>, Status>
+    ensures { IsSpelled pod.now result }
+{
+    let mut bytes = Items::new(alloc);
+    match write_pod(alloc, pod, &mut bytes) {
+        Ok(()) => Ok(bytes),
+        Err(WriteFault::Unwritable) => Err(Status::TooLong),
+        Err(WriteFault::Memory) => Err(Status::Memory),
+    }
+}
+
+// The bytes of the sequence of points.
+fn points_pod(alloc: Global, points: &Points) -> Result<Items<u8>, Status>
+    requires { ArePoints points.now.items }
+    ensures { IsPointsPod points.now.items result }
+{
+    match sequence_of(alloc, points) {
+        Ok(pod) => spelled(alloc, &pod),
+        Err(_memory) => Err(Status::Memory),
+    }
+}
+
+/// The bytes of the object of a format, in its one spelling, or why there are none.
+pub(crate) fn format_pod(alloc: Global, format: &Format) -> Result<Items<u8>, Status>
+    requires { IsSoundFormat format.now }
+    ensures { IsFormatPod format.now result }
+{
+    match pod_of(alloc, format) {
+        Ok(pod) => spelled(alloc, &pod),
+        Err(_memory) => Err(Status::Memory),
+    }
+}
+
+/// The bytes of the sequence of a list, in its one spelling, or why there are none.
+pub(crate) fn gains_pod(alloc: Global, list: &[u8]) -> Result<Items<u8>, Status>
+    ensures { IsGainsPod list.now result }
+{
+    match read_gains(alloc, list) {
+        Ok(points) => points_pod(alloc, &points),
+        Err(ListFault::Line { number, why }) => Err(Status::List { line: number, why }),
+        Err(ListFault::Memory) => Err(Status::Memory),
+    }
+}

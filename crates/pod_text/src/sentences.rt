@@ -1,0 +1,129 @@
+//! The sentence of a status, for people.
+ghost use Rattle.std.specs.Prelude.{◌≡◌, ◌++◌, map, string_bytes, codes, OnOk, IfOk};
+ghost use Rattle.pod_text.specs.Sentences.{usage_text, why_text, word, at_word, usage_fault, line_fault, fault_text, after, sentence_of};
+
+use crate::fault::ListWhy;
+use crate::showing::{put_line, put_shown};
+use crate::status::Status;
+use pw_base::{Items, Memory, Text, append_decimal};
+use std::alloc::Global;
+
+/// The commands in words.
+pub(crate) fn usage_text() -> &'static [u8]
+    ensures { result.now ≡ usage_text }
+{
+    b"usage: pipegraph-pods gains LIST OUT\n\
+       \x20      pipegraph-pods format OUT rate VALUES channels VALUES [mandatory KEY]\n\
+       \x20      LIST has lines `FRAME GAIN`; VALUES is A, A|B, MIN..MAX or MIN..MAX/STEP;\n\
+       \x20      `-` is standard input or output\n"
+}
+
+// What is wrong with a line.
+fn why_text(why: ListWhy) -> &'static [u8]
+    ensures { result.now ≡ why_text why }
+{
+    match why {
+        ListWhy::Words => b"a line has two words, FRAME GAIN, and a comment its own line",
+        ListWhy::Frame => b"a frame is a number from 0 to 4294967295",
+        ListWhy::FrameFalls => b"the frame is below that of the point before it",
+        ListWhy::Gain => b"a gain is a number from -32767 to 32767, in 1/256, or -60dB to 42dB",
+    }
+}
+
+// The word of a command line with this index; nothing where there is none.
+fn word_at(words: &[String], index: u32) -> &[u8]
+    ensures { result.now ≡ word (map string_bytes words.now) index }
+{
+    match words.get(index as usize) {
+        Some(word) => word.as_bytes(),
+        None => b"".as_slice(),
+    }
+}
+
+// What is wrong with the file that a word names.
+fn put_at(text: &mut Text, words: &[String], place: u32, what: &[u8]) -> Result<(), Memory>
+    ensures { OnOk result (text.new ≡ text.old
+        ++ at_word (map string_bytes words.now) place what.now) }
+{
+    put_shown(text, word_at(words, place))?;
+    text.extend(b": ")?;
+    text.extend(what)
+}
+
+// A word at fault, or one that is missing, and the commands.
+fn put_usage(text: &mut Text, words: &[String], index: u32) -> Result<(), Memory>
+    ensures { OnOk result (text.new ≡ text.old
+        ++ usage_fault (map string_bytes words.now) index) }
+{
+    if (index as usize) < words.len() {
+        text.extend(b"this word is wrong here: ")?;
+        put_shown(text, word_at(words, index))
+    } else {
+        text.extend(b"a word is missing")
+    }
+}
+
+// What is wrong with a line of a list.
+fn put_line_fault(
+    text: &mut Text,
+    words: &[String],
+    number: u64,
+    why: ListWhy,
+    line: &[u8],
+) -> Result<(), Memory>
+    ensures { OnOk result (text.new ≡ text.old
+        ++ line_fault (map string_bytes words.now) number why line.now) }
+{
+    put_at(text, words, 1, b"line ")?;
+    append_decimal(text, number)?;
+    text.extend(b": ")?;
+    put_line(text, line)?;
+    text.extend(b": ")?;
+    text.extend(why_text(why))
+}
+
+// What is wrong, without what stands before and behind it.
+fn put_fault(text: &mut Text, status: &Status, words: &[String], line: &[u8]) -> Result<(), Memory>
+    ensures { OnOk result (text.new ≡ text.old
+        ++ fault_text status.now (map string_bytes words.now) line.now) }
+{
+    match *status {
+        Status::Ok => Ok(()),
+        Status::Usage { word } => put_usage(text, words, word),
+        Status::List { line: number, why } => put_line_fault(text, words, number, why, line),
+        Status::TooLong => put_at(text, words, 1, b"a POD has room for 21845 points at most"),
+        Status::Absent { place } => put_at(text, words, place, b"there is no such file"),
+        Status::ReadFault { place } => put_at(text, words, place, b"it cannot be read"),
+        Status::WriteFault { place } => put_at(text, words, place, b"it cannot be written"),
+        Status::Limit { place } => put_at(text, words, place, b"it is longer than 16777216 bytes"),
+        Status::Memory => text.extend(b"no memory was left"),
+    }
+}
+
+// What follows it.
+fn after(status: &Status) -> &'static [u8]
+    ensures { result.now ≡ after status.now }
+{
+    match status {
+        Status::Usage { .. } => usage_text(),
+        _ => b"".as_slice(),
+    }
+}
+
+/// The sentence of a status that is not Ok, by the words of the command line and the line of the
+/// list that it names.
+pub(crate) fn sentence(
+    alloc: Global,
+    status: &Status,
+    words: &[String],
+    line: &[u8],
+) -> Result<Text, Memory>
+    ensures { IfOk result (λ text. text
+        ≡ sentence_of status.now (map string_bytes words.now) line.now) }
+{
+    let mut text = Items::from_slice(alloc, b"pipegraph-pods: ".as_slice())?;
+    put_fault(&mut text, status, words, line)?;
+    text.extend(b"\n")?;
+    text.extend(after(status))?;
+    Ok(text)
+}
