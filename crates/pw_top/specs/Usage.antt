@@ -15,8 +15,10 @@ pub use Rattle.pw_top.specs.Words.{Words, then_file, then_nothing, one_file, two
 -- a script and its options: one loop and no ticks where nothing is said of them
 abbrev pub run_with : List ℕ → Result Options ℕ → Result CommandLine Status
 run_with script (Ok o) = Ok (C.Run (record {
-  script = script; loops = unwrap_or o.loops 1;
-  ticks = unwrap_or o.ticks 0; trace = o.trace;
+  script = script;
+  loops = unwrap_or o.loops 1;
+  ticks = unwrap_or o.ticks 0;
+  trace = o.trace;
 }))
 run_with script (Err index) = Err (S.Usage index)
 
