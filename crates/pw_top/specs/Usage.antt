@@ -22,7 +22,6 @@ run_with script (Ok o) = Ok (C.Run (record {
 }))
 run_with script (Err index) = Err (S.Usage index)
 
--- the words behind `run`
 unfoldable pub run_of : Words → Result CommandLine Status
 run_of words = then_file 1 words (λ script rest. run_with script (options_of rest))
 
@@ -68,7 +67,6 @@ abbrev pub ticks_in : Result CommandLine Status → ℕ
 ticks_in (Ok (C.Run c)) = c.ticks
 ticks_in other = 0
 
--- a run has few loops
 abbrev pub HasFewLoops : CommandLine → Type 0
 HasFewLoops (C.Run c) = c.loops ≤ loops_limit
 HasFewLoops other = Unit {0}
