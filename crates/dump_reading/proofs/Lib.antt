@@ -1,0 +1,11 @@
+mod ByteLoops
+mod StringLoops
+mod CuttingLemmas
+mod NumeralLemmas
+mod NumberLemmas
+mod DigitLemmas
+mod StringLemmas
+mod HeadLemmas
+mod ManyLemmas
+mod ValueLemmas
+mod AnswerLemmas

@@ -1,0 +1,8 @@
+-- Sound escapes: a digit is below 16. This project's own.
+use Rattle.std.specs.Prelude.{ℕ, ◌<◌}
+use Rattle.dump_reading.specs.declared.strings.Escape.{Escape}
+use Rattle.dump_reading.specs.declared.strings.Escape.TheVariants as E
+
+abbrev pub IsEscape : Escape → Type 0
+IsEscape (E.High h) = h < 16
+IsEscape other = Unit {0}

@@ -1,0 +1,58 @@
+//! Why a text is no dump of a value.
+ghost use Rattle.std.specs.Prelude.{◌≡◌};
+ghost use Rattle.dump_reading.specs.declared.fault.Stop.TheVariants as s;
+ghost use Rattle.dump_reading.specs.declared.fault.DumpFault.TheVariants as f;
+
+use pw_base::Memory;
+
+/// What is wrong with a line, in the order in which it is looked for.
+#[derive(Clone, Copy, Debug, PartialEq, Eq, Drop)]
+pub enum DumpWhy {
+    /// A value would stand more than 16 deep.
+    Deep,
+    /// The text ends where a line should stand.
+    Missing,
+    /// The line is not ended by a line feed.
+    Unended,
+    /// It is indented by less than two spaces a level.
+    Indent,
+    /// Its words are none of a value, a property or a control, as it should stand here.
+    Words,
+    /// No array or choice may hold this child type, or the value is of another type.
+    Child,
+    /// It stands behind the value.
+    More,
+}
+
+/// Why a text is no dump.
+#[derive(Clone, Copy, Debug, PartialEq, Eq, Drop)]
+pub enum DumpFault {
+    /// The line at fault, counted from 1.
+    Line { number: u64, why: DumpWhy },
+    /// No memory was left.
+    Memory,
+}
+
+impl From<Memory> for DumpFault {
+    ghost from_gives = { λ _ fault. fault ≡ f.Memory };
+
+    fn from(_memory: Memory) -> DumpFault {
+        DumpFault::Memory
+    }
+}
+
+/// Why no value was read: at a line, with so many bytes of the text from it on, or for want of
+/// memory.
+#[derive(Clone, Copy, Debug, PartialEq, Eq, Drop)]
+pub(crate) enum Stop {
+    Line { left: usize, why: DumpWhy },
+    Memory,
+}
+
+impl From<Memory> for Stop {
+    ghost from_gives = { λ _ stop. stop ≡ s.Memory };
+
+    fn from(_memory: Memory) -> Stop {
+        Stop::Memory
+    }
+}
