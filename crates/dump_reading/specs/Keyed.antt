@@ -22,7 +22,8 @@ abbrev pub numbers_with : List ℕ → Option (ℕ × ℕ) → Option ((ℕ × �
 numbers_with rest None = None
 numbers_with rest (Some n) = Some (n, rest)
 
-abbrev pub numbers_in : List ℕ → Option (List ℕ × List ℕ) → Option ((ℕ × ℕ) × List ℕ)
+abbrev pub numbers_in : List ℕ → Option (List ℕ × List ℕ)
+    → Option ((ℕ × ℕ) × List ℕ)
 numbers_in word None = None
 numbers_in word (Some c) = numbers_with c.1 (numbers_said word c.0)
 

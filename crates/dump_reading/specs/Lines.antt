@@ -16,8 +16,8 @@ unfoldable pub line_said : ℕ → List ℕ → Option (List ℕ × List ℕ)
 line_said level text = line_in level (cut_at 10 text)
 
 -- so many things, one after the other, behind those so far
-unfoldable pub many : {X : Type 0} → (List ℕ → Option (X × List ℕ)) → ℕ → List X → List ℕ
-    → Option (List X × List ℕ)
+unfoldable pub many : {X : Type 0} → (List ℕ → Option (X × List ℕ)) → ℕ → List X
+    → List ℕ → Option (List X × List ℕ)
 many read zero so_far text = Some (so_far, text)
 many read (suc n) so_far text =
     option_and_then (λ c. many read n (so_far ++ c.0 ∷ []) c.1) (read text)

@@ -1,5 +1,5 @@
--- The value that lines say, read from the first line on: a line at its level, and what stands a level
--- deeper under it. The lines are those of the dump, this project's own.
+-- The value that lines say, read from the first line on: a line at its level, and what stands a
+-- level deeper under it. The lines are those of the dump, this project's own.
 use Rattle.std.specs.Prelude.{ℕ, zero, suc, ◌+◌, ◌*◌, ◌==◌, ◌&&◌, ◌||◌, nat_lt, Bool, if◌then◌else◌, List, [], ◌∷◌, ◌++◌, length}
 use Rattle.std.specs.Prelude.{codes, bytes_eq, Option, Some, None, option_map, option_and_then}
 use Rattle.pw_base.specs.Limits.{depth_limit}
@@ -32,11 +32,12 @@ abbrev pub may_hold : ℕ → ℕ → Bool
 may_hold child n = nat_lt 0 (child_size child) || ((child == 1) && (n == 0))
 
 -- what a head holds, in the lines behind it, where values are read by this
-unfoldable pub held_said : (ℕ → List ℕ → Option (Pod × List ℕ)) → ℕ → Head → List ℕ
-    → Option (Pod × List ℕ)
+unfoldable pub held_said : (ℕ → List ℕ → Option (Pod × List ℕ)) → ℕ → Head
+    → List ℕ → Option (Pod × List ℕ)
 held_said read level (H.Leaf pod) text = Some (pod, text)
 held_said read level (H.Array child n) text = if may_hold child n
-    then option_map (λ c. (P.Array child c.0, c.1)) (many (element_said child (level + 1)) n [] text)
+    then option_map (λ c. (P.Array child c.0, c.1))
+    (many (element_said child (level + 1)) n [] text)
     else None
 held_said read level (H.Struct n) text =
     option_map (λ c. (P.Struct c.0, c.1)) (many (read (level + 1)) n [] text)
@@ -49,8 +50,8 @@ held_said read level (H.Choice kind flags child n) text = if may_hold child n
 held_said read level (H.Sequence unit n) text =
     option_map (λ c. (P.Sequence unit c.0, c.1)) (many (control_said read (level + 1)) n [] text)
 
-abbrev pub value_in : (ℕ → List ℕ → Option (Pod × List ℕ)) → ℕ → Option Head → List ℕ
-    → Option (Pod × List ℕ)
+abbrev pub value_in : (ℕ → List ℕ → Option (Pod × List ℕ)) → ℕ → Option Head
+    → List ℕ → Option (Pod × List ℕ)
 value_in read level None rest = None
 value_in read level (Some head) rest = held_said read level head rest
 

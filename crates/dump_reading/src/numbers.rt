@@ -121,7 +121,8 @@ fn negated(n: u64) -> i64
 fn integer_said(word: &[u8], high: u64) -> Option<i64>
     requires { high ≤ LONG_MAX }
     ensures is { result ≡ integer_said high word.now }
-    ensures within { IfSome result (λ n. (neg_ℤ (pos (high + 1)) ≤ℤ n) × (n ≤ℤ pos high)) }
+    ensures within { IfSome result
+        (λ n. (neg_ℤ (pos (high + 1)) ≤ℤ n) × (n ≤ℤ pos high)) }
 {
     match word {
         [] => None,

@@ -90,7 +90,8 @@ fn array_said(
     level: usize,
 ) -> Result<(Pod, &[u8]), Stop>
     requires { level ≤ 30 }
-    ensures { (left : ℕ) → IsAnswer (held_said (value_said left) level (H.Array child count) text.now)
+    ensures { (left : ℕ) → IsAnswer
+        (held_said (value_said left) level (H.Array child count) text.now)
         (λ x. (x.0, x.1.now)) result }
 {
     if !may_hold(child, count) {
