@@ -1,8 +1,6 @@
 -- What a reader answers.
-use Rattle.std.proofs.Common.{◌≡◌, ℕ, ◌⊎◌, inl, inr, List, Bool, true, false, Some, None, Ok, Err, sym, ap, ◌∙◌}
-use Rattle.std.specs.Prelude.{Option, Result, bytes_eq}
-use Rattle.std.proofs.lemmas.Bool.{both_ways}
-use Rattle.std.proofs.lemmas.Slice.Eq.{bytes_eq-Decides}
+use Rattle.std.proofs.Common.{◌≡◌, ◌⊎◌, inl, inr, Some, None, Err}
+use Rattle.std.specs.Prelude.{Option}
 use Rattle.pod_codec.specs.declared.pod.Pod.{Pod}
 use Rattle.dump_reading.specs.Answers.{IsReadBack, IsToldAs}
 use Rattle.dump_reading.specs.declared.fault.Stop.{Stop}

@@ -1,16 +1,14 @@
 -- Bytes that are written as two digits are read back.
-use Rattle.std.proofs.Common.{◌≡◌, ℕ, zero, suc, ◌+◌, ◌-◌, ◌*◌, ◌/◌, ◌%◌, ◌^◌, ◌<◌, ◌≤◌, Bool, true, false, not, List, [], ◌∷◌, ◌++◌}
-use Rattle.std.proofs.Common.{refl, sym, ap, ◌∙◌, arith, length, ◌==◌, nat_le}
-use Rattle.std.specs.Prelude.{Option, Some, None, codes, slice_index, option_and_then}
-use Rattle.std.specs.List.{flat_map, AllByRecursion}
-use Rattle.std.specs.Int.{w32, w64, to_be_bytes, from_be_bytes}
+use Rattle.std.proofs.Common.{◌≡◌, ℕ, zero, suc, ◌+◌, ◌*◌, ◌/◌, ◌%◌, ◌^◌, ◌<◌, ◌≤◌, true, not, List, [], ◌∷◌, ◌++◌}
+use Rattle.std.proofs.Common.{refl, ap, ◌∙◌, arith, ◌==◌, nat_le}
+use Rattle.std.specs.Prelude.{Some, codes, slice_index, option_and_then}
+use Rattle.std.specs.Int.{w32, w64, to_be_bytes}
 use Rattle.std.proofs.lemmas.Bool.{and_from, leb-true, ne_eqb, not_from_false}
 use Rattle.std.proofs.lemmas.List.Concat.{flat_map-cons}
 use Rattle.std.proofs.lemmas.Nat.{from_be_bytes-to_be_bytes_4, from_be_bytes-to_be_bytes_8}
 use Rattle.pod_codec.specs.DumpWords.{hex_digits, hex}
 use Rattle.dump_reading.specs.Bytes.{digit_said, byte_of, byte_said, onto, hex_said, four_said, eight_said, float_said, double_said}
 use Rattle.dump_reading.specs.Bytes.{inner_of, unquoted, quoted_hex_said}
-use Rattle.dump_reading.specs.Cutting.{cut_at}
 use Rattle.dump_reading.specs.Sayable.{AreBytes}
 use Rattle.dump_reading.proofs.CuttingLemmas.{is_free, free_both, cut_back}
 

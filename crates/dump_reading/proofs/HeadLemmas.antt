@@ -1,7 +1,7 @@
 -- The head of a value that is written is read back.
-use Rattle.std.proofs.Common.{◌≡◌, ℕ, ℤ, ◌+◌, ◌*◌, ◌^◌, ◌<◌, ◌≤◌, Bool, true, false, List, [], ◌∷◌, ◌++◌, length, map}
-use Rattle.std.proofs.Common.{refl, sym, ap, ◌∙◌, arith, append_assoc, decimal, replicate}
-use Rattle.std.specs.Prelude.{Option, Some, None, option_map, codes}
+use Rattle.std.proofs.Common.{◌≡◌, ℕ, ℤ, ◌^◌, ◌<◌, true, false, List, [], ◌∷◌, ◌++◌, length, map}
+use Rattle.std.proofs.Common.{refl, ap, ◌∙◌, arith, append_assoc, decimal}
+use Rattle.std.specs.Prelude.{Option, Some, option_map, codes}
 use Rattle.std.specs.List.{flat_map}
 use Rattle.std.specs.Int.{w32, w64, to_be_bytes}
 use Rattle.std.specs.Fmt.{signed_decimal}
@@ -21,7 +21,7 @@ use Rattle.dump_reading.specs.Cutting.{cut_at}
 use Rattle.dump_reading.specs.Names.{scalar_name, wide_name, holder_name, name_said, kind_said}
 use Rattle.dump_reading.specs.Heads.{args_said, named, choice_in, choice_with, head_in, head_said}
 use Rattle.dump_reading.specs.Numbers.{triple_said}
-use Rattle.dump_reading.specs.Sayable.{IsSaid, IsLeafSaid}
+use Rattle.dump_reading.specs.Sayable.{IsSaid}
 use Rattle.dump_reading.specs.declared.heads.Head.{Head}
 use Rattle.dump_reading.specs.declared.heads.Head.TheVariants as H
 use Rattle.dump_reading.specs.declared.names.Name.{Name}

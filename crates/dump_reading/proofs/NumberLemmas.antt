@@ -1,7 +1,7 @@
 -- Numbers that are written are read back.
-use Rattle.std.proofs.Common.{◌≡◌, ◌≢◌, ℕ, ℤ, zero, suc, ◌+◌, ◌-◌, ◌*◌, ◌^◌, ◌<◌, ◌≤◌, ◌%◌, Bool, true, false, cond, not, ◌&&◌, ◌||◌, inl, inr}
-use Rattle.std.proofs.Common.{List, [], ◌∷◌, ◌++◌, length, get_or, refl, sym, ap, subst, ◌∙◌, arith, decimal, pos, negsuc, neg_ℤ}
-use Rattle.std.specs.Prelude.{fold, nat_le, ◌==◌, Option, Some, None, option_map}
+use Rattle.std.proofs.Common.{◌≡◌, ℕ, ℤ, zero, suc, ◌+◌, ◌-◌, ◌*◌, ◌^◌, ◌<◌, ◌≤◌, ◌%◌, true, not, ◌&&◌, ◌||◌, inl, inr}
+use Rattle.std.proofs.Common.{List, [], ◌∷◌, ◌++◌, length, get_or, refl, ap, ◌∙◌, arith, decimal, pos, negsuc, neg_ℤ}
+use Rattle.std.specs.Prelude.{fold, nat_le, ◌==◌, Some, None, option_map}
 use Rattle.std.specs.List.{list_all}
 use Rattle.std.specs.Fmt.{signed_decimal}
 use Rattle.std.proofs.lemmas.Bool.{and_parts, and_from, or_left, or_right, leb-true, le-leb, eqb-true, eq-eqb, ne_eqb, not_from_false, cases_Bool, cond-true, cond-false}
@@ -10,7 +10,6 @@ use Rattle.std.proofs.lemmas.Str.Parse.{IsDigitsTest, IsNumeralModel, numerals_b
 use lib.Signed.{mag}
 use Rattle.dump_reading.specs.Numerals.{is_digit, is_numeral, digits_number, number_of}
 use Rattle.dump_reading.specs.Numbers.{number_said, both, pair_in, pair_said, with_pair, triple_in, triple_said, integer_said}
-use Rattle.dump_reading.specs.Cutting.{cut_at}
 use Rattle.dump_reading.proofs.CuttingLemmas.{is_free, free_both, cut_back}
 
 are_digits : IsDigitsTest (λ ds. list_all is_digit ds ≡ true)

@@ -1,13 +1,12 @@
 -- Strings that are written are read back.
-use Rattle.std.proofs.Common.{◌≡◌, ℕ, ◌+◌, ◌*◌, ◌/◌, ◌%◌, ◌<◌, ◌≤◌, Bool, true, false, cond, not, ◌&&◌, inl, inr, List, [], ◌∷◌, ◌++◌}
-use Rattle.std.proofs.Common.{refl, sym, ap, subst, ◌∙◌, arith, append_assoc, append-nil, ◌==◌, nat_le}
+use Rattle.std.proofs.Common.{◌≡◌, ℕ, ◌+◌, ◌*◌, ◌/◌, ◌%◌, ◌<◌, ◌≤◌, true, false, cond, not, ◌&&◌, inl, inr, List, [], ◌∷◌, ◌++◌}
+use Rattle.std.proofs.Common.{refl, sym, ap, ◌∙◌, arith, append_assoc, append-nil, ◌==◌, nat_le}
 use Rattle.std.specs.Prelude.{Option, Some, None, option_map, option_and_then, codes, fold}
 use Rattle.std.specs.List.{flat_map}
-use Rattle.std.proofs.lemmas.Bool.{and_parts, and_from, leb-true, ne_eqb, eqb-false, not-true, not_from_false, cases_Bool, cond-true, cond-false}
+use Rattle.std.proofs.lemmas.Bool.{and_parts, and_from, leb-true, ne_eqb, not-true, not_from_false, cases_Bool, cond-true, cond-false}
 use Rattle.std.proofs.lemmas.List.Concat.{flat_map-cons}
 use Rattle.pod_codec.specs.DumpWords.{is_plain, escaped, hex_digits}
-use Rattle.dump_reading.specs.Bytes.{digit_said, unquoted}
-use Rattle.dump_reading.specs.Strings.{high_of, low_of, step, pushed, read_byte, whole, string_said, quoted_said}
+use Rattle.dump_reading.specs.Strings.{high_of, low_of, pushed, read_byte, whole, string_said, quoted_said}
 use Rattle.dump_reading.specs.Sayable.{AreBytes}
 use Rattle.dump_reading.specs.declared.strings.Escape.{Escape}
 use Rattle.dump_reading.specs.declared.strings.Escape.TheVariants as E

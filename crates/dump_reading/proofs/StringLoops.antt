@@ -1,5 +1,5 @@
 -- A string that stops.
-use Rattle.std.proofs.Common.{◌≡◌, ℕ, ◌+◌, ◌<◌, List, sym, ap, ◌∙◌, length, get_or, drop, refl}
+use Rattle.std.proofs.Common.{◌≡◌, ℕ, ◌+◌, ◌<◌, List, ap, ◌∙◌, length, get_or, drop, refl}
 use Rattle.std.specs.Prelude.{Option, Some, None, option_map, fold}
 use Rattle.std.proofs.lemmas.List.{at_drop_more}
 use Rattle.std.proofs.lemmas.List.Folds.{fold_stays}

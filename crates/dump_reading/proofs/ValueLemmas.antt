@@ -1,25 +1,22 @@
 -- A value that is written is read back, whatever stands behind it.
-use Rattle.std.proofs.Common.{◌≡◌, ℕ, zero, suc, ◌+◌, ◌-◌, ◌*◌, ◌^◌, ◌<◌, ◌≤◌, ◌==◌, Bool, true, false, cond, List, [], ◌∷◌, ◌++◌, length, map}
-use Rattle.std.proofs.Common.{refl, sym, ap, subst, ◌∙◌, arith, append_assoc, append-nil, decimal, replicate}
+use Rattle.std.proofs.Common.{◌≡◌, ℕ, zero, suc, ◌+◌, ◌-◌, ◌*◌, ◌^◌, ◌<◌, ◌==◌, true, List, [], ◌∷◌, ◌++◌, length, map}
+use Rattle.std.proofs.Common.{refl, sym, ap, ◌∙◌, arith, append_assoc, append-nil, decimal, replicate}
 use Rattle.std.specs.Prelude.{Option, Some, None, option_map, codes, bytes_eq}
-use Rattle.std.specs.List.{flat_map, AllByRecursion}
+use Rattle.std.specs.List.{flat_map}
 use Rattle.std.proofs.lemmas.Bool.{eq-eqb, cond-true}
-use Rattle.std.proofs.lemmas.Bool.Decides.{Decides-eqb}
 use Rattle.std.proofs.lemmas.Slice.Eq.{bytes_eq-Decides}
 use Rattle.pw_base.specs.Limits.{depth_limit}
 use Rattle.pod_codec.specs.declared.pod.Pod.{Pod}
 use Rattle.pod_codec.specs.declared.pod.Prop.{Prop}
 use Rattle.pod_codec.specs.declared.pod.Control.{Control}
-use Rattle.pod_codec.specs.declared.pod.Pod.TheOpen.{Pod-F, Prop-F, Control-F}
-use Rattle.pod_codec.specs.declared.pod.Pod.TheViews.{out-Pod, out-Prop, out-Control, roll-Pod, roll-Prop, roll-Control, roll-out-Pod, roll-out-Prop, roll-out-Control}
+use Rattle.pod_codec.specs.declared.pod.Pod.TheOpen.{Pod-F}
+use Rattle.pod_codec.specs.declared.pod.Pod.TheViews.{out-Pod, out-Prop, out-Control, roll-Pod, roll-out-Pod, roll-out-Prop, roll-out-Control}
 use Rattle.pod_codec.specs.declared.pod.Pod.TheFolds.{fold_out-Prop, fold_out-Control}
 use Rattle.pod_codec.specs.declared.pod.Pod.TheVariants as P
 use Rattle.pod_codec.specs.Numbers.{PropFits, ControlFits}
 use Rattle.pod_codec.specs.PodValue.{form_of}
 use Rattle.pod_codec.specs.DumpWords.{Lines, text_at, two_numbered}
 use Rattle.pod_codec.specs.DumpText.{pod_lines, prop_lines, control_lines, lines_of, prop_lines_of, control_lines_of, dump_text_of}
-use Rattle.dump_reading.specs.Cutting.{cut_at}
-use Rattle.dump_reading.specs.Heads.{head_said}
 use Rattle.dump_reading.specs.Keyed.{behind_word, numbers_said, numbers_with, numbers_in, keyed_said, prop_of, control_of, prop_with, prop_said}
 use Rattle.dump_reading.specs.Keyed.{control_with, control_said}
 use Rattle.dump_reading.specs.Lines.{line_said, many}

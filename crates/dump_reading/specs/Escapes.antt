@@ -1,5 +1,5 @@
 -- Sound escapes: a digit is below 16. This project's own.
-use Rattle.std.specs.Prelude.{ℕ, ◌<◌}
+use Rattle.std.specs.Prelude.{◌<◌}
 use Rattle.dump_reading.specs.declared.strings.Escape.{Escape}
 use Rattle.dump_reading.specs.declared.strings.Escape.TheVariants as E
 

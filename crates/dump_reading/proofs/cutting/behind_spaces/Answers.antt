@@ -1,5 +1,5 @@
 -- The spaces are there.
-use Rattle.std.proofs.Common.{◌≡◌, ◌<◌, ◌≤◌, ◌&&◌, ◌==◌, nat_le, true, sym, ap, ◌∙◌, arith, length, take, drop}
+use Rattle.std.proofs.Common.{◌≡◌, ◌&&◌, ◌==◌, nat_le, true, sym, ap, ◌∙◌, arith, length, take, drop}
 use Rattle.std.specs.Prelude.{Some, None}
 use Rattle.std.specs.List.{list_all}
 use Rattle.std.proofs.lemmas.Bool.{and_from, le-leb, cond-true}

@@ -1,9 +1,8 @@
 -- What was dumped is read, and dumped as it was.
-use Rattle.std.proofs.Common.{◌≡◌, List, false, true, sym, ap, ◌∙◌}
+use Rattle.std.proofs.Common.{◌≡◌, sym, ap, ◌∙◌}
 use Rattle.std.proofs.lemmas.Bool.{both_ways}
 use Rattle.std.proofs.lemmas.Bool.Decides.{Decides-eqb}
 use Rattle.std.proofs.lemmas.Slice.Eq.{slice_eq-Decides}
-use Rattle.pod_codec.specs.declared.pod.Pod.{Pod}
 use Rattle.pod_codec.specs.DumpText.{dump_text_of}
 use Rattle.dump_reading.specs.Values.{pod_said}
 use Rattle.dump_reading.proofs.AnswerLemmas.{told_back, one_pod}
