@@ -1,24 +1,32 @@
 -- What a call does.
-use Rattle.std.proofs.Common.{◌≡◌, inr, ℕ, List, [], Ok, subst}
+use Rattle.std.proofs.Common.{◌≡◌, inr, ℕ, List, [], Ok, Err, subst}
 use Rattle.std.specs.Prelude.{Result}
 use Rattle.pw_base.specs.Files.{Held, names_in}
 use Rattle.pw_base.specs.Output.{Given}
 use Rattle.format_filter.specs.declared.format.Format.{Format}
+use Rattle.pod_text.specs.declared.source.Source.{Source}
+use Rattle.pod_text.specs.declared.source.Source.TheVariants as Src
 use Rattle.pod_text.specs.declared.status.Status.{Status}
 use Rattle.pod_text.specs.declared.status.Status.TheVariants as S
 use Rattle.pod_text.specs.declared.words.Request.{Request}
 use Rattle.pod_text.specs.Delivery.{IsDelivered}
+use Rattle.pod_text.specs.DumpMaking.{IsMadePod}
 use Rattle.pod_text.specs.Making.{IsFormatPod}
 use Rattle.pod_text.specs.Loading.{input_name}
-use Rattle.pod_text.specs.Answers.{IsMade, RunsGains, RunsFormat, IsExplained}
-use Rattle.pod_text.specs.Answers.RunsGains.{done}
+use Rattle.pod_text.specs.Answers.{IsMade, RunsMake, RunsFormat, IsExplained}
+use Rattle.pod_text.specs.Answers.RunsMake.{done}
 use Rattle.pod_text.specs.Answers.RunsFormat.{offered}
 
+-- where memory was short, nothing is said of what was read
+pub memory_free : (source : Source) (read : List ℕ) → IsMadePod source read (Err S.Memory)
+memory_free Src.Gains read = tt
+memory_free Src.Dump read = tt
+
 -- the bytes that were made are delivered
-pub gains_done : (from to bytes shown : List ℕ) (old made new : Held) (given now : Given) (status : Status) (line : List ℕ)
-    → IsMade (names_in old (input_name from)) (Ok bytes) → made ≡ old → shown ≡ bytes
-    → IsDelivered to shown 2 made new given now status → RunsGains from to old new given now status line
-gains_done from to bytes shown old made new given now status line is held same delivered =
+pub make_done : (source : Source) (from to bytes shown : List ℕ) (old made new : Held) (given now : Given) (status : Status) (line : List ℕ)
+    → IsMade source (names_in old (input_name from)) (Ok bytes) → made ≡ old → shown ≡ bytes
+    → IsDelivered to shown 2 made new given now status → RunsMake source from to old new given now status line
+make_done source from to bytes shown old made new given now status line is held same delivered =
     done bytes is
     (subst (λ (h : Held). IsDelivered to bytes 2 h new given now status) held
     (subst (λ (bs : List ℕ). IsDelivered to bs 2 made new given now status) same delivered))

@@ -4,3 +4,4 @@ mod SequenceLemmas
 mod AnswerLemmas
 mod ChoiceLemmas
 mod OfferLemmas
+mod DumpLemmas

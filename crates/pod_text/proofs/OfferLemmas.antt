@@ -1,5 +1,5 @@
 -- Two sound fields.
-use Rattle.std.proofs.Common.{◌≡◌, ℕ, zero, suc, ◌<◌, List, [], ◌∷◌, get_or, arith}
+use Rattle.std.proofs.Common.{ℕ, zero, suc, ◌<◌, [], ◌∷◌, get_or, arith}
 use Rattle.format_filter.specs.declared.format.Field.{Field}
 use Rattle.format_filter.specs.CommonFormat.{AreSoundFields}
 use Rattle.format_filter.specs.Soundness.{IsSound}

@@ -6,6 +6,7 @@ pub mod Statuses
 pub mod Words
 pub mod Loading
 pub mod Making
+pub mod DumpMaking
 pub mod Delivery
 pub mod Showing
 pub mod Sentences

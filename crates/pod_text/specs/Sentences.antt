@@ -1,6 +1,8 @@
 -- The sentence of a status, by the words of the command line and the line of the list that it
 -- names. This project's own.
 use Rattle.std.specs.Prelude.{ℕ, nat_lt, if◌then◌else◌, List, [], ◌++◌, length, codes, decimal, slice_index_or}
+use Rattle.dump_reading.specs.declared.fault.DumpWhy.{DumpWhy}
+use Rattle.dump_reading.specs.declared.fault.DumpWhy.TheVariants as d
 use Rattle.pod_text.specs.declared.fault.ListWhy.{ListWhy}
 use Rattle.pod_text.specs.declared.fault.ListWhy.TheVariants as w
 use Rattle.pod_text.specs.declared.status.Status.{Status}
@@ -10,8 +12,10 @@ use Rattle.pod_text.specs.Showing.{shown, shown_line}
 -- the commands in words
 abbrev pub usage_text : List ℕ
 usage_text = codes "usage: pipegraph-pods gains LIST OUT\n"
+    ++ codes "       pipegraph-pods pod TEXT OUT\n"
     ++ codes "       pipegraph-pods format OUT rate VALUES channels VALUES [mandatory KEY]\n"
-    ++ codes "       LIST has lines `FRAME GAIN`; VALUES is A, A|B, MIN..MAX or MIN..MAX/STEP;\n"
+    ++ codes "       LIST has lines `FRAME GAIN`; TEXT is what `pipegraph dump` prints;\n"
+    ++ codes "       VALUES is A, A|B, MIN..MAX or MIN..MAX/STEP;\n"
     ++ codes "       `-` is standard input or output\n"
 
 -- what is wrong with a line
@@ -35,22 +39,33 @@ usage_fault words i =
     if nat_lt i (length words) then (codes "this word is wrong here: " ++ shown (word words i))
     else codes "a word is missing"
 
+abbrev pub dump_why_text : DumpWhy → List ℕ
+dump_why_text d.Deep = codes "a value stands more than 16 deep"
+dump_why_text d.Missing = codes "the text ends where a line should stand"
+dump_why_text d.Unended = codes "the line is not ended by a line feed"
+dump_why_text d.Indent = codes "a line is indented by two spaces for each level"
+dump_why_text d.Words = codes "these are no words that a dump has here"
+dump_why_text d.Child = codes "an array or a choice holds values of its child type"
+dump_why_text d.More = codes "the text goes on behind its value"
+
 -- a line at fault
-abbrev pub line_fault : List (List ℕ) → ℕ → ListWhy → List ℕ → List ℕ
+abbrev pub line_fault : List (List ℕ) → ℕ → List ℕ → List ℕ → List ℕ
 line_fault words number why line =
     at_word words 1 (codes "line ") ++ (decimal number ++ (codes ": " ++ (shown_line line
-    ++ (codes ": " ++ why_text why))))
+    ++ (codes ": " ++ why))))
 
 abbrev pub fault_text : Status → List (List ℕ) → List ℕ → List ℕ
 fault_text S.Ok words line = []
 fault_text (S.Usage i) words line = usage_fault words i
-fault_text (S.List number why) words line = line_fault words number why line
-fault_text S.TooLong words line = at_word words 1 (codes "a POD has room for 21845 points at most")
+fault_text (S.List number why) words line = line_fault words number (why_text why) line
+fault_text (S.Text number why) words line = line_fault words number (dump_why_text why) line
+fault_text S.TooLong words line =
+    at_word words 1 (codes "the POD would be longer than 1048576 bytes, or 21845 points")
 fault_text (S.Absent place) words line = at_word words place (codes "there is no such file")
 fault_text (S.ReadFault place) words line = at_word words place (codes "it cannot be read")
 fault_text (S.WriteFault place) words line = at_word words place (codes "it cannot be written")
 fault_text (S.Limit place) words line =
-    at_word words place (codes "it is longer than 16777216 bytes")
+    at_word words place (codes "it is longer than 33554432 bytes")
 fault_text S.Memory words line = codes "no memory was left"
 
 -- what follows it

@@ -7,6 +7,7 @@ abbrev pub status_number : Status → ℕ
 status_number S.Ok = 0
 status_number (S.Usage word) = 1
 status_number (S.List line why) = 2
+status_number (S.Text line why) = 2
 status_number S.TooLong = 4
 status_number (S.Absent place) = 5
 status_number (S.ReadFault place) = 6

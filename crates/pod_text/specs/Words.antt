@@ -1,9 +1,11 @@
 -- The grammar of command lines: what words ask for, or the first word at fault, or their number
 -- where more are wanted. This project's.
-use Rattle.std.specs.Prelude.{◌≡◌, ℕ, ◌==◌, ◌&&◌, ◌||◌, Bool, false, not, nat_le, if◌then◌else◌, List, [], ◌∷◌, length}
-use Rattle.std.specs.Prelude.{codes, bytes_eq, Result, Ok, Err}
+use Rattle.std.specs.Prelude.{◌≡◌, ℕ, ◌||◌, Bool, if◌then◌else◌, List, [], ◌∷◌}
+use Rattle.std.specs.Prelude.{codes, bytes_eq, Option, Some, None, Result, Ok, Err}
 use Rattle.pod_text.specs.declared.status.Status.{Status}
 use Rattle.pod_text.specs.declared.status.Status.TheVariants as S
+use Rattle.pod_text.specs.declared.source.Source.{Source}
+use Rattle.pod_text.specs.declared.source.Source.TheVariants as Src
 use Rattle.pod_text.specs.declared.words.Request.{Request}
 use Rattle.pod_text.specs.declared.words.Request.TheVariants as R
 use Rattle.format_filter.specs.CommonFormat.{IsSoundFormat}
@@ -11,26 +13,39 @@ use Rattle.pod_text.specs.Alone.{alone}
 use Rattle.pod_text.specs.FormatWords.{format_behind}
 pub use Rattle.pod_text.specs.FileWords.{is_dash, is_file_word}
 
--- the words behind `gains`: a list, and where the sequence goes
-abbrev pub gains_to : List ℕ → List (List ℕ) → Result Request Status
-gains_to from [] = Err (S.Usage 2)
-gains_to from (to ∷ rest) =
-    if is_file_word to then alone 3 rest (R.Gains from to) else Err (S.Usage 2)
+-- the words behind `gains` or `pod`: what is read, and where the POD goes
+abbrev pub made_to : Source → List ℕ → List (List ℕ) → Result Request Status
+made_to source from [] = Err (S.Usage 2)
+made_to source from (to ∷ rest) =
+    if is_file_word to then alone 3 rest (R.Make source from to) else Err (S.Usage 2)
 
-abbrev pub gains_behind : List (List ℕ) → Result Request Status
-gains_behind [] = Err (S.Usage 1)
-gains_behind (from ∷ rest) = if is_file_word from then gains_to from rest else Err (S.Usage 1)
+abbrev pub made_behind : Source → List (List ℕ) → Result Request Status
+made_behind source [] = Err (S.Usage 1)
+made_behind source (from ∷ rest) =
+    if is_file_word from then made_to source from rest else Err (S.Usage 1)
+
+-- the commands that read a file
+abbrev pub source_of : List ℕ → Option Source
+source_of name = if bytes_eq name (codes "gains") then Some Src.Gains
+    else (if bytes_eq name (codes "pod") then Some Src.Dump else None)
 
 -- whether the first word asks for help
 abbrev pub is_help : List ℕ → Bool
 is_help name = bytes_eq name (codes "--help") || bytes_eq name (codes "-h")
 
+-- the other commands
+abbrev pub other_of : List ℕ → List (List ℕ) → Result Request Status
+other_of name rest = if bytes_eq name (codes "format") then format_behind rest
+    else (if is_help name then Ok R.Help else Err (S.Usage 0))
+
+abbrev pub by_source : Option Source → List ℕ → List (List ℕ) → Result Request Status
+by_source None name rest = other_of name rest
+by_source (Some source) name rest = made_behind source rest
+
 -- THE MEANING of the words
 abbrev pub request_of : List (List ℕ) → Result Request Status
 request_of [] = Err (S.Usage 0)
-request_of (name ∷ rest) = if bytes_eq name (codes "gains") then gains_behind rest
-    else (if bytes_eq name (codes "format") then format_behind rest
-    else (if is_help name then Ok R.Help else Err (S.Usage 0)))
+request_of (name ∷ rest) = by_source (source_of name) name rest
 
 -- the words were read as they should, or memory was short
 abbrev pub IsRead : Result Request Status → Result Request Status → Type 0

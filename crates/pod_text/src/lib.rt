@@ -1,7 +1,7 @@
 //! PODs from text: what people write, as the values that `pipegraph` reads.
 //!
 //! `read_gains` reads a list of gains at frames, and `sequence_of` makes the control sequence that
-//! has these points.
+//! has these points; `make_pod` does what the words of a command line ask for.
 #![tactic(auto)]
 
 mod choices;
@@ -18,13 +18,16 @@ mod offers;
 mod sentences;
 mod sequences;
 mod showing;
+mod source;
 mod status;
 mod top;
 mod words;
 
 pub use choices::choice_said;
+pub use dump_reading::DumpWhy;
 pub use fault::{ListFault, ListWhy};
 pub use gains::read_gains;
 pub use sequences::sequence_of;
+pub use source::Source;
 pub use status::Status;
 pub use top::{Report, make_pod};

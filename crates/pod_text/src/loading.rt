@@ -1,15 +1,15 @@
-//! The file that a list comes from.
+//! The file that is read.
 ghost use Rattle.std.specs.Prelude.{◌≡◌, IsSome, codes, IfOk};
 ghost use Rattle.pw_base.specs.Files.{names_in};
-ghost use Rattle.pod_text.specs.Loading.{input_name, list_bytes_limit, IsLoad, IsCaused};
+ghost use Rattle.pod_text.specs.Loading.{input_name, source_bytes_limit, IsLoad, IsCaused};
 
 use crate::status::Status;
 use crate::words::is_dash;
 use pw_base::{FileFail, Files, Items, Loaded, Memory, Text};
 use std::alloc::Global;
 
-/// The bytes of a list, at most.
-const LIST_BYTES: u64 = 16_777_216;
+/// The bytes of what is read, at most.
+const SOURCE_BYTES: u64 = 33_554_432;
 
 /// The word of a command line that names what is read.
 const INPUT: u32 = 1;
@@ -43,7 +43,7 @@ pub(crate) fn load<F: Files>(alloc: Global, files: &mut F, word: &Text) -> Resul
     let Ok(name) = name_of(alloc, word) else {
         return Err(Status::Memory);
     };
-    match files.load(alloc, &name, LIST_BYTES) {
+    match files.load(alloc, &name, SOURCE_BYTES) {
         Ok(Loaded::Whole(bytes)) => Ok(bytes),
         Ok(Loaded::Absent) => Err(Status::Absent { place: INPUT }),
         Ok(Loaded::TooLong) => Err(Status::Limit { place: INPUT }),

@@ -1,14 +1,17 @@
-//! The bytes of a control sequence from those of a list, and those of a format.
+//! The bytes of a POD from those of a list or a text, and those of a format.
 ghost use Rattle.std.specs.Prelude.{◌≡◌};
 ghost use Rattle.control_sequence.specs.Automation.{ArePoints};
 ghost use Rattle.format_filter.specs.CommonFormat.{IsSoundFormat};
 ghost use Rattle.pod_text.specs.Making.{IsSpelled, IsPointsPod, IsGainsPod, IsFormatPod};
+ghost use Rattle.pod_text.specs.DumpMaking.{IsDumpPod, IsMadePod};
 
 use crate::fault::ListFault;
 use crate::gains::read_gains;
 use crate::sequences::sequence_of;
+use crate::source::Source;
 use crate::status::Status;
 use control_sequence::Points;
+use dump_reading::{DumpFault, read_dump};
 use format_filter::{Format, pod_of};
 use pod_codec::{Pod, WriteFault, write_pod};
 use pw_base::Items;
@@ -48,13 +51,34 @@ pub(crate) fn format_pod(alloc: Global, format: &Format) -> Result<Items<u8>, St
     }
 }
 
-/// The bytes of the sequence of a list, in its one spelling, or why there are none.
-pub(crate) fn gains_pod(alloc: Global, list: &[u8]) -> Result<Items<u8>, Status>
+// The bytes of the sequence of a list, in its one spelling, or why there are none.
+fn gains_pod(alloc: Global, list: &[u8]) -> Result<Items<u8>, Status>
     ensures { IsGainsPod list.now result }
 {
     match read_gains(alloc, list) {
         Ok(points) => points_pod(alloc, &points),
         Err(ListFault::Line { number, why }) => Err(Status::List { line: number, why }),
         Err(ListFault::Memory) => Err(Status::Memory),
+    }
+}
+
+// The bytes of the value whose dump a text is, in its one spelling, or why there are none.
+fn dump_pod(alloc: Global, text: &[u8]) -> Result<Items<u8>, Status>
+    ensures { IsDumpPod text.now result }
+{
+    match read_dump(alloc, text) {
+        Ok(pod) => spelled(alloc, &pod),
+        Err(DumpFault::Line { number, why }) => Err(Status::Text { line: number, why }),
+        Err(DumpFault::Memory) => Err(Status::Memory),
+    }
+}
+
+/// The bytes that are made of what was read, in their one spelling, or why there are none.
+pub(crate) fn made_pod(alloc: Global, source: Source, bytes: &[u8]) -> Result<Items<u8>, Status>
+    ensures { IsMadePod source bytes.now result }
+{
+    match source {
+        Source::Gains => gains_pod(alloc, bytes),
+        Source::Dump => dump_pod(alloc, bytes),
     }
 }

@@ -1,10 +1,12 @@
 //! The sentence of a status, for people.
 ghost use Rattle.std.specs.Prelude.{◌≡◌, ◌++◌, map, string_bytes, codes, OnOk, IfOk};
-ghost use Rattle.pod_text.specs.Sentences.{usage_text, why_text, word, at_word, usage_fault, line_fault, fault_text, after, sentence_of};
+ghost use Rattle.pod_text.specs.Sentences.{usage_text, why_text, dump_why_text, word, at_word, usage_fault};
+ghost use Rattle.pod_text.specs.Sentences.{line_fault, fault_text, after, sentence_of};
 
 use crate::fault::ListWhy;
 use crate::showing::{put_line, put_shown};
 use crate::status::Status;
+use dump_reading::DumpWhy;
 use pw_base::{Items, Memory, Text, append_decimal};
 use std::alloc::Global;
 
@@ -13,8 +15,10 @@ pub(crate) fn usage_text() -> &'static [u8]
     ensures { result.now ≡ usage_text }
 {
     b"usage: pipegraph-pods gains LIST OUT\n\
+       \x20      pipegraph-pods pod TEXT OUT\n\
        \x20      pipegraph-pods format OUT rate VALUES channels VALUES [mandatory KEY]\n\
-       \x20      LIST has lines `FRAME GAIN`; VALUES is A, A|B, MIN..MAX or MIN..MAX/STEP;\n\
+       \x20      LIST has lines `FRAME GAIN`; TEXT is what `pipegraph dump` prints;\n\
+       \x20      VALUES is A, A|B, MIN..MAX or MIN..MAX/STEP;\n\
        \x20      `-` is standard input or output\n"
 }
 
@@ -27,6 +31,21 @@ fn why_text(why: ListWhy) -> &'static [u8]
         ListWhy::Frame => b"a frame is a number from 0 to 4294967295",
         ListWhy::FrameFalls => b"the frame is below that of the point before it",
         ListWhy::Gain => b"a gain is a number from -32767 to 32767, in 1/256, or -60dB to 42dB",
+    }
+}
+
+// What is wrong with a line of a text.
+fn dump_why_text(why: DumpWhy) -> &'static [u8]
+    ensures { result.now ≡ dump_why_text why }
+{
+    match why {
+        DumpWhy::Deep => b"a value stands more than 16 deep",
+        DumpWhy::Missing => b"the text ends where a line should stand",
+        DumpWhy::Unended => b"the line is not ended by a line feed",
+        DumpWhy::Indent => b"a line is indented by two spaces for each level",
+        DumpWhy::Words => b"these are no words that a dump has here",
+        DumpWhy::Child => b"an array or a choice holds values of its child type",
+        DumpWhy::More => b"the text goes on behind its value",
     }
 }
 
@@ -63,23 +82,23 @@ fn put_usage(text: &mut Text, words: &[String], index: u32) -> Result<(), Memory
     }
 }
 
-// What is wrong with a line of a list.
+// What is wrong with a line of what was read.
 fn put_line_fault(
     text: &mut Text,
     words: &[String],
     number: u64,
-    why: ListWhy,
+    why: &[u8],
     line: &[u8],
 ) -> Result<(), Memory>
     ensures { OnOk result (text.new ≡ text.old
-        ++ line_fault (map string_bytes words.now) number why line.now) }
+        ++ line_fault (map string_bytes words.now) number why.now line.now) }
 {
     put_at(text, words, 1, b"line ")?;
     append_decimal(text, number)?;
     text.extend(b": ")?;
     put_line(text, line)?;
     text.extend(b": ")?;
-    text.extend(why_text(why))
+    text.extend(why)
 }
 
 // What is wrong, without what stands before and behind it.
@@ -90,12 +109,22 @@ fn put_fault(text: &mut Text, status: &Status, words: &[String], line: &[u8]) ->
     match *status {
         Status::Ok => Ok(()),
         Status::Usage { word } => put_usage(text, words, word),
-        Status::List { line: number, why } => put_line_fault(text, words, number, why, line),
-        Status::TooLong => put_at(text, words, 1, b"a POD has room for 21845 points at most"),
+        Status::List { line: number, why } => {
+            put_line_fault(text, words, number, why_text(why), line)
+        }
+        Status::Text { line: number, why } => {
+            put_line_fault(text, words, number, dump_why_text(why), line)
+        }
+        Status::TooLong => put_at(
+            text,
+            words,
+            1,
+            b"the POD would be longer than 1048576 bytes, or 21845 points",
+        ),
         Status::Absent { place } => put_at(text, words, place, b"there is no such file"),
         Status::ReadFault { place } => put_at(text, words, place, b"it cannot be read"),
         Status::WriteFault { place } => put_at(text, words, place, b"it cannot be written"),
-        Status::Limit { place } => put_at(text, words, place, b"it is longer than 16777216 bytes"),
+        Status::Limit { place } => put_at(text, words, place, b"it is longer than 33554432 bytes"),
         Status::Memory => text.extend(b"no memory was left"),
     }
 }

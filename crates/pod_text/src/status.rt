@@ -3,6 +3,7 @@ ghost use Rattle.std.specs.Prelude.{◌≡◌};
 ghost use Rattle.pod_text.specs.Statuses.{status_number};
 
 use crate::fault::ListWhy;
+use dump_reading::DumpWhy;
 
 /// How a call ended. A place is a word of the command line, counted from 0.
 #[derive(Clone, Copy, Debug, PartialEq, Eq, Drop)]
@@ -14,6 +15,8 @@ pub enum Status {
     Usage { word: u32 },
     /// The first line of a list at fault, counted from 1.
     List { line: u64, why: ListWhy },
+    /// A line of a text at fault, counted from 1: it is no dump of a value.
+    Text { line: u64, why: DumpWhy },
     /// What was read has no POD: it would be longer than 1,048,576 bytes.
     TooLong,
     /// A file that is not there.
@@ -36,7 +39,7 @@ impl Status {
         match self {
             Status::Ok => 0,
             Status::Usage { .. } => 1,
-            Status::List { .. } => 2,
+            Status::List { .. } | Status::Text { .. } => 2,
             Status::TooLong => 4,
             Status::Absent { .. } => 5,
             Status::ReadFault { .. } => 6,

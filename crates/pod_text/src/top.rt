@@ -3,21 +3,22 @@ ghost use Rattle.std.specs.Prelude.{◌≡◌, IsSome, List, ℕ, map, string_by
 ghost use Rattle.pw_base.specs.Files.{names_in};
 ghost use Rattle.format_filter.specs.CommonFormat.{IsSoundFormat};
 ghost use Rattle.pod_text.specs.Loading.{input_name};
-ghost use Rattle.pod_text.specs.Making.{IsGainsPod};
-ghost use Rattle.pod_text.specs.Answers.{IsRefusedBy, IsMade, RunsGains, RunsFormat, IsAnswered, IsExplained};
+ghost use Rattle.pod_text.specs.DumpMaking.{IsMadePod};
+ghost use Rattle.pod_text.specs.Answers.{IsRefusedBy, IsMade, RunsMake, RunsFormat, IsAnswered, IsExplained};
 
 use crate::delivering::{deliver, put};
 use crate::loading::load;
-use crate::making::{format_pod, gains_pod};
+use crate::making::{format_pod, made_pod};
 use crate::sentences::{sentence, usage_text};
 use crate::showing::line_at;
+use crate::source::Source;
 use crate::status::Status;
 use crate::words::{Request, read_words};
 use format_filter::Format;
 use pw_base::{Files, Items, Memory, Sink, Text};
 use std::alloc::Global;
 
-/// How a call ended, and the line of a list that its status names.
+/// How a call ended, and the line of what was read that its status names.
 #[derive(Drop)]
 pub struct Ended {
     pub status: Status,
@@ -32,14 +33,24 @@ pub struct Report {
     pub sentence: Text,
 }
 
-// A list that is refused, with the line at fault.
-fn refused_by(alloc: Global, list: &[u8], status: Status) -> Ended
-    requires { IsGainsPod list.now (Err status) }
-    ensures { IsRefusedBy list.now result.status result.line }
+// What was read is refused, with the line at fault.
+#[tactic(auto, using(crate::proofs::AnswerLemmas::memory_free))]
+fn refused_by(alloc: Global, source: Source, read: &[u8], status: Status) -> Ended
+    requires { IsMadePod source read.now (Err status) }
+    ensures { IsRefusedBy source read.now result.status result.line }
 {
     match status {
         Status::List { line: number, .. } => {
-            match Items::from_slice(alloc, line_at(list, number)) {
+            match Items::from_slice(alloc, line_at(read, number)) {
+                Ok(line) => Ended { status, line },
+                Err(_memory) => Ended {
+                    status: Status::Memory,
+                    line: Items::new(alloc),
+                },
+            }
+        }
+        Status::Text { line: number, .. } => {
+            match Items::from_slice(alloc, line_at(read, number)) {
                 Ok(line) => Ended { status, line },
                 Err(_memory) => Ended {
                     status: Status::Memory,
@@ -54,10 +65,15 @@ fn refused_by(alloc: Global, list: &[u8], status: Status) -> Ended
     }
 }
 
-// The bytes of the sequence of the list that a word names.
-fn made<F: Files>(alloc: Global, files: &mut F, from: &Text) -> Result<Items<u8>, Ended>
+// The bytes of the POD of the file that a word names.
+fn made<F: Files>(
+    alloc: Global,
+    files: &mut F,
+    source: Source,
+    from: &Text,
+) -> Result<Items<u8>, Ended>
     ensures told { IsSome (F.held files.old)
-        → IsMade (names_in (F.held files.old) (input_name from.now)) result }
+        → IsMade source (names_in (F.held files.old) (input_name from.now)) result }
     ensures held { F.held files.new ≡ F.held files.old }
 {
     match load(alloc, files, from) {
@@ -65,26 +81,27 @@ fn made<F: Files>(alloc: Global, files: &mut F, from: &Text) -> Result<Items<u8>
             status,
             line: Items::new(alloc),
         }),
-        Ok(list) => match gains_pod(alloc, list.as_slice()) {
+        Ok(read) => match made_pod(alloc, source, read.as_slice()) {
             Ok(bytes) => Ok(bytes),
-            Err(status) => Err(refused_by(alloc, list.as_slice(), status)),
+            Err(status) => Err(refused_by(alloc, source, read.as_slice(), status)),
         },
     }
 }
 
-// Makes the sequence of a list, and delivers it.
-fn run_gains<F: Files, O: Sink>(
+// Makes the POD of a file, and delivers it.
+fn run_make<F: Files, O: Sink>(
     alloc: Global,
     files: &mut F,
     out: &mut O,
+    source: Source,
     from: &Text,
     to: &Text,
 ) -> Ended
     ensures told { IsSome (F.held files.old)
-        → RunsGains from.now to.now (F.held files.old) (F.held files.new)
+        → RunsMake source from.now to.now (F.held files.old) (F.held files.new)
         (O.given out.old) (O.given out.new) result.status result.line }
 {
-    match made(alloc, files, from) {
+    match made(alloc, files, source, from) {
         Err(ended) => ended,
         Ok(bytes) => Ended {
             status: deliver(alloc, files, out, to, bytes.as_slice(), 2),
@@ -130,7 +147,9 @@ fn do_words<F: Files, O: Sink>(alloc: Global, words: &[String], files: &mut F, o
             status: run_format(alloc, files, out, &to, &format),
             line: Items::new(alloc),
         },
-        Ok(Request::Gains { from, to }) => run_gains(alloc, files, out, &from, &to),
+        Ok(Request::Make { source, from, to }) => {
+            run_make(alloc, files, out, source, &from, &to)
+        }
     }
 }
 
@@ -148,11 +167,11 @@ fn explained(alloc: Global, words: &[String], ended: &Ended) -> Result<Text, Mem
 /// Makes the POD that the words of a command line ask for, and delivers it.
 ///
 /// The words are those behind the program's own name: `gains LIST OUT` makes the control sequence
-/// of a list of gains, `format OUT rate VALUES channels VALUES [mandatory KEY]` the object of an
-/// offer, `--help` puts the commands. Where a file is meant, `-` is standard input,
-/// which is loaded as `/dev/stdin`, or standard output. A list is loaded once. Where the words or
-/// the list are refused, nothing is stored and nothing put. Takes memory for the list, its points
-/// and the bytes.
+/// of a list of gains, `pod TEXT OUT` the value whose dump a text is, `format OUT rate VALUES
+/// channels VALUES [mandatory KEY]` the object of an offer, `--help` puts the commands. Where a
+/// file is meant, `-` is standard input, which is loaded as `/dev/stdin`, or standard output. What
+/// is read is loaded once. Where the words or what is read are refused, nothing is stored and
+/// nothing put. Takes memory for what is read, for the value and for the bytes.
 pub fn make_pod<F: Files, O: Sink>(
     alloc: Global,
     words: &[String],

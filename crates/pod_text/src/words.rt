@@ -1,9 +1,11 @@
 //! The words of a command line.
 ghost use Rattle.std.specs.Prelude.{◌≡◌, map, string_bytes, Ok, IfOk};
-ghost use Rattle.pod_text.specs.Words.{is_dash, is_file_word, gains_to, gains_behind, request_of, IsRead, HasSoundFormat};
+ghost use Rattle.pod_text.specs.Words.{is_dash, is_file_word, made_to, made_behind, source_of, other_of, request_of};
+ghost use Rattle.pod_text.specs.Words.{IsRead, HasSoundFormat};
 ghost use Rattle.pod_text.specs.declared.words.Request.TheVariants as R;
 
 use crate::format_words::read_format_words;
+use crate::source::Source;
 use crate::status::Status;
 use format_filter::Format;
 use pw_base::{Items, Text};
@@ -15,9 +17,16 @@ pub enum Request {
     /// The commands in words.
     Help,
     /// The object of an offer.
-    Format { to: Text, format: Format },
-    /// The control sequence of a list of gains.
-    Gains { from: Text, to: Text },
+    Format {
+        to: Text,
+        format: Format,
+    },
+    /// What is made of a file.
+    Make {
+        source: Source,
+        from: Text,
+        to: Text,
+    },
 }
 
 /// Whether it is the word for standard input or output.
@@ -38,23 +47,35 @@ pub(crate) fn is_file_word(word: &String) -> bool
     }
 }
 
-// The request of a list of gains.
-fn gains_request(alloc: Global, from: &String, to: &String) -> Result<Request, Status>
-    ensures read { IsRead (Ok (R.Gains (string_bytes from.now) (string_bytes to.now))) result }
+// The request of what is made of a file.
+fn make_request(
+    alloc: Global,
+    source: Source,
+    from: &String,
+    to: &String,
+) -> Result<Request, Status>
+    ensures read { IsRead
+        (Ok (R.Make source (string_bytes from.now) (string_bytes to.now))) result }
     ensures sound { IfOk result HasSoundFormat }
 {
     match Items::from_slice(alloc, from.as_bytes()) {
         Err(_memory) => Err(Status::Memory),
         Ok(from) => match Items::from_slice(alloc, to.as_bytes()) {
-            Ok(to) => Ok(Request::Gains { from, to }),
+            Ok(to) => Ok(Request::Make { source, from, to }),
             Err(_memory) => Err(Status::Memory),
         },
     }
 }
 
-// The words behind the list of `gains`.
-fn read_out(alloc: Global, from: &String, rest: &[String]) -> Result<Request, Status>
-    ensures read { IsRead (gains_to (string_bytes from.now) (map string_bytes rest.now)) result }
+// The words behind the file that is read.
+fn read_out(
+    alloc: Global,
+    source: Source,
+    from: &String,
+    rest: &[String],
+) -> Result<Request, Status>
+    ensures read { IsRead (made_to source (string_bytes from.now) (map string_bytes rest.now))
+        result }
     ensures sound { IfOk result HasSoundFormat }
 {
     match rest {
@@ -63,7 +84,7 @@ fn read_out(alloc: Global, from: &String, rest: &[String]) -> Result<Request, St
             if !is_file_word(to) {
                 Err(Status::Usage { word: 2 })
             } else if more.is_empty() {
-                gains_request(alloc, from, to)
+                make_request(alloc, source, from, to)
             } else {
                 Err(Status::Usage { word: 3 })
             }
@@ -71,20 +92,47 @@ fn read_out(alloc: Global, from: &String, rest: &[String]) -> Result<Request, St
     }
 }
 
-// The words behind `gains`.
-fn read_gains_words(alloc: Global, rest: &[String]) -> Result<Request, Status>
-    ensures read { IsRead (gains_behind (map string_bytes rest.now)) result }
+// The words behind `gains` or `pod`.
+fn read_made_words(alloc: Global, source: Source, rest: &[String]) -> Result<Request, Status>
+    ensures read { IsRead (made_behind source (map string_bytes rest.now)) result }
     ensures sound { IfOk result HasSoundFormat }
 {
     match rest {
         [] => Err(Status::Usage { word: 1 }),
         [from, more @ ..] => {
             if is_file_word(from) {
-                read_out(alloc, from, more)
+                read_out(alloc, source, from, more)
             } else {
                 Err(Status::Usage { word: 1 })
             }
         }
+    }
+}
+
+// What is made of a file by the command of this name.
+fn source_of(name: &[u8]) -> Option<Source>
+    ensures { result ≡ source_of name.now }
+{
+    if name == b"gains".as_slice() {
+        Some(Source::Gains)
+    } else if name == b"pod".as_slice() {
+        Some(Source::Dump)
+    } else {
+        None
+    }
+}
+
+// What the words ask for, where the first is no command that reads a file.
+fn read_others(alloc: Global, name: &[u8], rest: &[String]) -> Result<Request, Status>
+    ensures read { IsRead (other_of name.now (map string_bytes rest.now)) result }
+    ensures sound { IfOk result HasSoundFormat }
+{
+    if name == b"format".as_slice() {
+        read_format_words(alloc, rest)
+    } else if name == b"--help".as_slice() || name == b"-h".as_slice() {
+        Ok(Request::Help)
+    } else {
+        Err(Status::Usage { word: 0 })
     }
 }
 
@@ -96,16 +144,9 @@ pub(crate) fn read_words(alloc: Global, words: &[String]) -> Result<Request, Sta
     match words {
         [] => Err(Status::Usage { word: 0 }),
         [name, rest @ ..] => {
-            if name.as_bytes() == b"gains".as_slice() {
-                read_gains_words(alloc, rest)
-            } else if name.as_bytes() == b"format".as_slice() {
-                read_format_words(alloc, rest)
-            } else if name.as_bytes() == b"--help".as_slice()
-                || name.as_bytes() == b"-h".as_slice()
-            {
-                Ok(Request::Help)
-            } else {
-                Err(Status::Usage { word: 0 })
+            match source_of(name.as_bytes()) {
+                Some(source) => read_made_words(alloc, source, rest),
+                None => read_others(alloc, name.as_bytes(), rest),
             }
         }
     }

@@ -1,7 +1,7 @@
 //! What is stored and said of words and lists.
 
 use control_sequence::Point;
-use pod_text::{ListWhy, Status, make_pod, read_gains};
+use pod_text::{DumpWhy, ListWhy, Status, make_pod, read_gains};
 use pw_base::{Files, Items, Loaded, Memory, SureFiles, SureSink, Text};
 use std::alloc::Global;
 use std::process::Abort;
@@ -142,8 +142,10 @@ fn decibels_are_rounded_to_the_nearest(rt: HostRuntime) -> Result<(), Fail> {
 }
 
 const USAGE: &str = "usage: pipegraph-pods gains LIST OUT\n\
+    \x20      pipegraph-pods pod TEXT OUT\n\
     \x20      pipegraph-pods format OUT rate VALUES channels VALUES [mandatory KEY]\n\
-    \x20      LIST has lines `FRAME GAIN`; VALUES is A, A|B, MIN..MAX or MIN..MAX/STEP;\n\
+    \x20      LIST has lines `FRAME GAIN`; TEXT is what `pipegraph dump` prints;\n\
+    \x20      VALUES is A, A|B, MIN..MAX or MIN..MAX/STEP;\n\
     \x20      `-` is standard input or output\n";
 
 #[test]
@@ -156,6 +158,9 @@ fn words_are_refused_at_the_first_at_fault(rt: HostRuntime) -> Result<(), Fail> 
         ("gains s", 2, "a word is missing"),
         ("gains s -o", 2, "this word is wrong here: \"-o\""),
         ("gains s o t", 3, "this word is wrong here: \"t\""),
+        ("pod", 1, "a word is missing"),
+        ("pod s", 2, "a word is missing"),
+        ("pod s o t", 3, "this word is wrong here: \"t\""),
     ];
     for (line, word, said) in table {
         let sentence = format!(in rt.alloc(); "pipegraph-pods: {said}\n{USAGE}")?;
@@ -274,5 +279,155 @@ fn words_become_the_object_of_an_offer(rt: HostRuntime) -> Result<(), Fail> {
     expect(&rt, offer, b"", Status::Ok, Some(OFFER), b"", "")?;
     let steps = "format - rate 8000..96000/4000 channels 2 mandatory channels";
     expect(&rt, steps, b"", Status::Ok, None, STEPS, "")?;
+    Ok(())
+}
+
+// The text of the sequence that is half as loud from frame 2 on.
+const HALF_TEXT: &str = "sequence 0 1\n  control 2 1\n    object 262146 2 1\n\
+    \x20     prop 16777217 0\n        int 128\n";
+
+// A struct of each kind of value that holds no others, an array and an empty choice: its text, and its
+// bytes by SPA's header.
+const KINDS_TEXT: &str = "struct 16\n  none\n  bool true\n  id 7\n  int -2147483648\n\
+    \x20 long -9223372036854775808\n  float 3f800000\n  double 3ff0000000000000\n\
+    \x20 string \"a\\x22\\x5c\\x0a~\"\n  bytes \"00ff\"\n  rectangle 1x2\n  fraction 3/4\n\
+    \x20 bitmap \"a5\"\n  fd -1\n  array 2 1\n    bool false\n  choice flags 0 1 0\n  struct 0\n";
+
+const KINDS: &[u8] = b"\0\x01\0\0\x0e\0\0\0\
+    \0\0\0\0\x01\0\0\0\
+    \x04\0\0\0\x02\0\0\0\x01\0\0\0\0\0\0\0\
+    \x04\0\0\0\x03\0\0\0\x07\0\0\0\0\0\0\0\
+    \x04\0\0\0\x04\0\0\0\0\0\0\x80\0\0\0\0\
+    \x08\0\0\0\x05\0\0\0\0\0\0\0\0\0\0\x80\
+    \x04\0\0\0\x06\0\0\0\0\0\x80\x3f\0\0\0\0\
+    \x08\0\0\0\x07\0\0\0\0\0\0\0\0\0\xf0\x3f\
+    \x06\0\0\0\x08\0\0\0a\"\\\x0a~\0\0\0\
+    \x02\0\0\0\x09\0\0\0\0\xff\0\0\0\0\0\0\
+    \x08\0\0\0\x0a\0\0\0\x01\0\0\0\x02\0\0\0\
+    \x08\0\0\0\x0b\0\0\0\x03\0\0\0\x04\0\0\0\
+    \x01\0\0\0\x0c\0\0\0\xa5\0\0\0\0\0\0\0\
+    \x08\0\0\0\x12\0\0\0\xff\xff\xff\xff\xff\xff\xff\xff\
+    \x0c\0\0\0\x0d\0\0\0\x04\0\0\0\x02\0\0\0\0\0\0\0\0\0\0\0\
+    \x10\0\0\0\x13\0\0\0\x04\0\0\0\0\0\0\0\0\0\0\0\x01\0\0\0\
+    \0\0\0\0\x0e\0\0\0";
+
+#[test]
+fn a_dump_becomes_its_value(rt: HostRuntime) -> Result<(), Fail> {
+    let half = HALF_TEXT.as_bytes();
+    expect(&rt, "pod s o", half, Status::Ok, Some(HALF), b"", "")?;
+    expect(&rt, "pod - -", half, Status::Ok, None, HALF, "")?;
+    let kinds = KINDS_TEXT.as_bytes();
+    expect(&rt, "pod s o", kinds, Status::Ok, Some(KINDS), b"", "")?;
+    expect(
+        &rt,
+        "pod s -",
+        b"none\n",
+        Status::Ok,
+        None,
+        b"\0\0\0\0\x01\0\0\0",
+        "",
+    )?;
+    Ok(())
+}
+
+#[test]
+fn a_text_is_refused_at_its_first_line_at_fault(rt: HostRuntime) -> Result<(), Fail> {
+    let deep = "a value stands more than 16 deep";
+    let missing = "the text ends where a line should stand";
+    let unended = "the line is not ended by a line feed";
+    let indent = "a line is indented by two spaces for each level";
+    let words = "these are no words that a dump has here";
+    let child = "an array or a choice holds values of its child type";
+    let more = "the text goes on behind its value";
+    let nested = "struct 1\n  struct 1\n    struct 1\n      struct 1\n        struct 1\n\
+        \x20         struct 1\n            struct 1\n              struct 1\n\
+        \x20               struct 1\n                  struct 1\n                    struct 1\n\
+        \x20                     struct 1\n                        struct 1\n\
+        \x20                         struct 1\n                            struct 1\n\
+        \x20                             struct 1\n                                none\n";
+    let table = [
+        (
+            nested,
+            17,
+            DumpWhy::Deep,
+            "                                none",
+            deep,
+        ),
+        ("", 1, DumpWhy::Missing, "", missing),
+        ("struct 1\n", 2, DumpWhy::Missing, "", missing),
+        ("none", 1, DumpWhy::Unended, "none", unended),
+        ("struct 1\nnone\n", 2, DumpWhy::Indent, "none", indent),
+        ("struct 1\n   none\n", 2, DumpWhy::Indent, "   none", indent),
+        (" none\n", 1, DumpWhy::Indent, " none", indent),
+        ("None\n", 1, DumpWhy::Words, "None", words),
+        ("none \n", 1, DumpWhy::Words, "none ", words),
+        ("int  5\n", 1, DumpWhy::Words, "int  5", words),
+        ("int -0\n", 1, DumpWhy::Words, "int -0", words),
+        (
+            "int 2147483648\n",
+            1,
+            DumpWhy::Words,
+            "int 2147483648",
+            words,
+        ),
+        ("id 05\n", 1, DumpWhy::Words, "id 05", words),
+        (
+            "float 3F800000\n",
+            1,
+            DumpWhy::Words,
+            "float 3F800000",
+            words,
+        ),
+        ("float 3f8000\n", 1, DumpWhy::Words, "float 3f8000", words),
+        (
+            "string \"\\x61\"\n",
+            1,
+            DumpWhy::Words,
+            "string \"\\x61\"",
+            words,
+        ),
+        ("string \"a\n", 1, DumpWhy::Words, "string \"a", words),
+        ("bytes \"0\"\n", 1, DumpWhy::Words, "bytes \"0\"", words),
+        (
+            "choice some 0 4 0\n",
+            1,
+            DumpWhy::Words,
+            "choice some 0 4 0",
+            words,
+        ),
+        (
+            "object 1 2 1\n  int 1\n",
+            2,
+            DumpWhy::Words,
+            "  int 1",
+            words,
+        ),
+        ("array 8 0\n", 1, DumpWhy::Child, "array 8 0", child),
+        ("array 4 1\n  id 1\n", 2, DumpWhy::Child, "  id 1", child),
+        (
+            "array 4 1\n  struct 0\n",
+            2,
+            DumpWhy::Child,
+            "  struct 0",
+            child,
+        ),
+        ("none\nnone\n", 2, DumpWhy::More, "none", more),
+        ("struct 1\n  none\n\n", 3, DumpWhy::More, "", more),
+    ];
+    for (dump, line, why, shown, said) in table {
+        let sentence = format!(in rt.alloc();
+            "pipegraph-pods: \"s\": line {line}: \"{shown}\": {said}\n"
+        )?;
+        let status = Status::Text { line, why };
+        expect(
+            &rt,
+            "pod s o",
+            dump.as_bytes(),
+            status,
+            None,
+            b"",
+            &sentence,
+        )?;
+    }
     Ok(())
 }

@@ -1,8 +1,6 @@
 -- What was read is made and delivered.
-use Rattle.std.proofs.Common.{subst}
-use Rattle.pod_text.specs.Words.{HasSoundFormat}
-use Rattle.pod_text.specs.declared.words.Request.TheVariants.{Format, Gains}
-use Rattle.pod_text.specs.Answers.IsAnswered.{format, gains}
+use Rattle.pod_text.specs.declared.words.Request.TheVariants.{Format, Make}
+use Rattle.pod_text.specs.Answers.IsAnswered.{format, make}
 use Rattle.pod_text.proofs.AnswerLemmas.{read_as}
 use Rattle.pod_text.proofs.top.do_words.Goals as goal
 
@@ -13,9 +11,10 @@ returns-in-Ok-Format g c = record {
       c.run_format.ensures;
 }
 
-pub returns-in-Ok-Gains : goal.returns-in-Ok-Gains
-returns-in-Ok-Gains g c = record {
-  told = λ h. gains c.in-Ok-Gains.from c.in-Ok-Gains.to
-      (read_as _ c.in-Ok-Gains.field-0 (Gains c.in-Ok-Gains.from c.in-Ok-Gains.to) c.in-Ok-Gains.ensures.read c.in-Ok-Gains.field-0-is)
-      (c.run_gains.ensures.told h);
+pub returns-in-Ok-Make : goal.returns-in-Ok-Make
+returns-in-Ok-Make g c = record {
+  told = λ h. make c.in-Ok-Make.source c.in-Ok-Make.from c.in-Ok-Make.to
+      (read_as _ c.in-Ok-Make.field-0 (Make c.in-Ok-Make.source c.in-Ok-Make.from c.in-Ok-Make.to) c.in-Ok-Make.ensures.read
+      c.in-Ok-Make.field-0-is)
+      (c.run_make.ensures.told h);
 }
