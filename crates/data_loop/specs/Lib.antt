@@ -14,6 +14,7 @@ pub mod Fronts
 pub mod LoopTries
 pub mod Settling
 pub mod LoopWay
+pub mod PassingOn
 pub mod StageParts
 pub mod Tables
 pub mod Loops

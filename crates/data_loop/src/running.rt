@@ -4,7 +4,10 @@ ghost use Rattle.board_rule.specs.OnBoard.{layout, table_of};
 ghost use Rattle.data_loop.specs.Loops.{plan_of};
 ghost use Rattle.data_loop.specs.LoopKept.{IsDone};
 ghost use Rattle.data_loop.specs.LoopsOnBoards.{IsOnBoard};
+ghost use Rattle.ready_queues.specs.AnsweredWith.{IsWayOf};
+ghost use Rattle.data_loop.specs.LoopTries.{HasTurnedAt, HasWoken};
 ghost use Rattle.data_loop.specs.LoopWay.{HasNoDriver, IsUnderWay, IsSameLoop, IsWayFor};
+ghost use Rattle.data_loop.specs.PassingOn.{PassesOn, RestsAtMost, HasTriedAll};
 ghost use Rattle.data_loop.specs.Settling.{HasHadTurns, HasSettled};
 
 use crate::did::Did;
@@ -13,6 +16,20 @@ use board_rule::Board;
 use pw_base::{Gate, Items};
 use ready_queues::{Way, Ways};
 use std::sync::Wait;
+
+// What the turn or the try before has woken is passed on, where a node ran.
+fn pass_on<R: Wait>(rt: &R, did: Did, state: &LoopState, ways: &Ways, way: &mut Way)
+    requires way { IsWayFor ways.now state.now way.old }
+    ensures passed { PassesOn ways.now did state.now way.old way.new }
+    ensures way { IsWayFor ways.now state.now way.new }
+{
+    match did {
+        Did::Ran { .. } => {
+            ways.forward(rt, way, state.woke());
+        }
+        Did::Idle => (),
+    }
+}
 
 // One try of a node that the loop's queue gave; where it ran, what it woke is passed on.
 fn try_given<R: Wait, G: Gate>(
@@ -23,22 +40,35 @@ fn try_given<R: Wait, G: Gate>(
     ways: &Ways,
     way: &mut Way,
     gate: &G,
-)
+) -> Did
     requires stands { IsOnBoard (layout board.now) (table_of board.now) state.old }
     requires way { IsWayFor ways.now state.old way.old }
     ensures turned { HasHadTurns (layout board.now) (table_of board.now) state.old state.new }
+    ensures did { HasTurnedAt (layout board.now) node state.old result state.new }
+    ensures woken { HasWoken result state.new }
+    ensures passed { PassesOn ways.now result state.new way.old way.new }
     ensures way { IsWayFor ways.now state.new way.new }
 {
-    match state.turn_at(board, node, gate) {
-        Did::Ran { .. } => {
-            ways.forward(rt, way, state.woke());
-        }
-        Did::Idle => (),
+    let did = state.turn_at(board, node, gate);
+    pass_on(rt, did, state, ways, way);
+    did
+}
+
+// The thread rests, unless its loop is called soon.
+fn rest_unless_called<R: Wait>(rt: &R, ways: &Ways, way: &mut Way)
+    requires answered { IsWayOf ways.now way.old }
+    ensures answered { IsWayOf ways.now way.new }
+    ensures number { way.new.number ≡ way.old.number }
+    ensures rested { RestsAtMost way.old way.new }
+{
+    if !ways.is_called_soon(way) {
+        ways.rest(rt, way);
     }
 }
 
-// One turn; where one ran, what it woke is passed on, and where none was awake, the thread rests.
-// Whether it found that no follower has cycles left, and then there is no rest.
+// One turn; where a node ran, what it woke is passed on, and where none was awake, the thread
+// rests, unless its loop is called soon. Whether it found that no follower has cycles left, and
+// then there is no rest.
 fn try_all<R: Wait, G: Gate>(
     rt: &R,
     board: &Board,
@@ -50,6 +80,8 @@ fn try_all<R: Wait, G: Gate>(
     requires stands { IsOnBoard (layout board.now) (table_of board.now) state.old }
     requires way { IsWayFor ways.now state.old way.old }
     ensures turned { HasHadTurns (layout board.now) (table_of board.now) state.old state.new }
+    ensures tried { HasTriedAll result (layout board.now) ways.now state.old way.old
+        state.new way.new }
     ensures settled { IsTrue result
         → HasSettled (layout board.now) (table_of board.now) state.old state.new }
     ensures way { IsWayFor ways.now state.new way.new }
@@ -63,7 +95,7 @@ fn try_all<R: Wait, G: Gate>(
             if state.found().len() == 0 {
                 return true;
             }
-            ways.rest(rt, way);
+            rest_unless_called(rt, ways, way);
             false
         }
     }
@@ -88,7 +120,7 @@ fn go_once<R: Wait, G: Gate>(
 {
     match ways.receive(rt, way) {
         Some(node) => {
-            try_given(rt, board, node, state, ways, way, gate);
+            let _did = try_given(rt, board, node, state, ways, way, gate);
             false
         }
         None => try_all(rt, board, state, ways, way, gate),
@@ -140,7 +172,8 @@ fn go_through<R: Wait, G: Gate>(
 }
 
 /// Turns until all epochs are done: numbers that its queue gives are tried first, and where there
-/// are none all followers; where none is awake, the thread rests. It may wait. Takes no memory.
+/// are none all followers; where none is awake, the thread rests, unless its loop is called within
+/// some microseconds. It may wait. Takes no memory.
 /// Condition: there is one board an epoch, in order, on which the loop has its seats; none of its
 /// nodes drives; the way is that of a loop whose nodes are those of the state.
 pub fn run_all<R: Wait, G: Gate>(

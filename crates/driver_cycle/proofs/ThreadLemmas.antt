@@ -1,5 +1,5 @@
 -- The driver's thread from round to round.
-use Rattle.std.proofs.Common.{◌≡◌, ℕ, ◌+◌, Bool, true, false, List, get_or, refl, sym, ap, ◌∙◌, subst, arith}
+use Rattle.std.proofs.Common.{◌≡◌, ℕ, ◌+◌, ◌||◌, Bool, true, false, true≢false, List, get_or, refl, sym, ap, ◌∙◌, subst, arith}
 use Rattle.std.proofs.Common.{Option, Some, None}
 use Rattle.std.specs.Prelude.{All, Contains, ◌⊎◌}
 use Rattle.atomic_table.specs.Seated.{TableId}
@@ -23,6 +23,11 @@ use Rattle.driver_cycle.specs.Settling.{HasLedAll, HasHadTurns, HasSettled, AreE
 use Rattle.driver_cycle.specs.Epochs.{IsThread, HasGoneOn}
 use Rattle.driver_cycle.proofs.LeadingLemmas.{looked_on, none_looked}
 use Rattle.driver_cycle.proofs.SettlingLemmas.{same_but_refl, same_but_on, no_turns, more_turns, same_driver, settled_after}
+
+-- where one or the other is false, both are
+pub neither : (a b : Bool) → (a || b) ≡ false → (a ≡ false) × (b ≡ false)
+neither true b e = absurd (true≢false e)
+neither false b e = (refl, e)
 
 -- after a look the seat is in the same cycle
 looked_cycle : (b : Bool) (p : BoardLayout) (v : View) (m n : ℕ) (w : View) → LooksOnce b p v m n w → w.lead.cycle ≡ v.lead.cycle

@@ -1,14 +1,16 @@
 //! All cycles of an epoch, by the driver's thread.
-ghost use Rattle.std.specs.Prelude.{◌≡◌, ◌+◌, All, false};
+ghost use Rattle.std.specs.Prelude.{◌≡◌, ◌+◌, ℕ, All, false};
 ghost use Rattle.board_rule.specs.Layout.{last};
-ghost use Rattle.board_rule.specs.OnBoard.{layout, table_of};
+ghost use Rattle.board_rule.specs.OnBoard.{IsOn, layout, table_of};
+ghost use Rattle.node_progress.specs.declared.score.Score.{Score};
 ghost use Rattle.data_loop.specs.LoopWay.{IsDriverWay};
 ghost use Rattle.data_loop.specs.LoopsOnBoards.{IsOnBoard, IsAtEnd, IsSameBut};
 ghost use Rattle.data_loop.specs.LoopDriver.{DrivesFrom, IsTied};
-ghost use Rattle.driver_cycle.specs.Leading.{IsLeading, IsBetween, IsWaiting, HasEndedAll};
-ghost use Rattle.driver_cycle.specs.Rounds.{HasLooked};
+ghost use Rattle.driver_cycle.specs.Leading.{IsLeading, IsBetween, IsWaiting, IsDriving, HasEndedAll};
+ghost use Rattle.driver_cycle.specs.Rounds.{BeginsNext, HasLooked};
 ghost use Rattle.driver_cycle.specs.Settling.{HasSettled, AreEach};
 ghost use Rattle.driver_cycle.specs.Epochs.{IsThread, HasGoneOn, HasGoneRound};
+ghost use Rattle.driver_cycle.specs.Waking.{SendsBegun};
 
 use crate::leading::lead_once;
 use crate::rounds::begin_next;
@@ -92,6 +94,33 @@ fn run_cycle<R: Wait, G: Gate, K: Ticker>(
     }
 }
 
+// Begins the next cycle, if one is left, and sends what the beginning woke.
+fn begin_sent<R: Wait>(
+    rt: &R,
+    board: &Board,
+    seat: &mut DriverSeat,
+    ways: &Ways,
+    way: &mut Way,
+) -> bool
+    requires table { IsOn board.now seat.old.table }
+    requires between { IsBetween (layout board.now) seat.old.knows }
+    requires way { IsDriverWay ways.now way.old }
+    ensures begun { BeginsNext (layout board.now) seat.old.knows result seat.new.knows }
+    ensures sent { SendsBegun result ways.now seat.new.knows way.old way.new }
+    ensures driving { IsDriving (layout board.now) seat.new.knows result }
+    ensures unchecked { seat.new.knows.lead.checked ≡ false }
+    ensures table { seat.new.table ≡ seat.old.table }
+    ensures leads { (score : Score) (k : ℕ) → IsLeading score k board.now seat.old
+        → IsLeading score k board.now seat.new }
+    ensures way { IsDriverWay ways.now way.new }
+{
+    if !begin_next(board, seat) {
+        return false;
+    }
+    send_woken(rt, ways, way, seat.woke());
+    true
+}
+
 // The cycles that are left of the epoch.
 fn run_cycles<R: Wait, G: Gate, K: Ticker>(
     rt: &R,
@@ -112,8 +141,7 @@ fn run_cycles<R: Wait, G: Gate, K: Ticker>(
     ensures ended { HasEndedAll (layout board.now) seat.new.knows }
     ensures way { IsDriverWay ways.now way.new }
 {
-    while begin_next(board, seat) {
-        send_woken(rt, ways, way, seat.woke());
+    while begin_sent(rt, board, seat, ways, way) {
         run_cycle(rt, board, seat, own, adopted, ways, way, ticker, gate);
     }
 }

@@ -1,10 +1,10 @@
 //! Turns of the loops of the driver's thread, after which what they woke is sent.
-ghost use Rattle.std.specs.Prelude.{All};
+ghost use Rattle.std.specs.Prelude.{◌≡◌, All, false};
 ghost use Rattle.board_rule.specs.OnBoard.{layout, table_of};
 ghost use Rattle.data_loop.specs.LoopWay.{IsDriverWay};
 ghost use Rattle.data_loop.specs.LoopsOnBoards.{IsOnBoard};
 ghost use Rattle.driver_cycle.specs.Settling.{HasHadTurns, AreEach};
-ghost use Rattle.driver_cycle.specs.Waking.{HasTakenTurn};
+ghost use Rattle.driver_cycle.specs.Waking.{HasTakenTurn, HasTurnedIdle};
 
 use crate::waking::send_woken;
 use board_rule::Board;
@@ -40,8 +40,8 @@ pub fn turn_one<R: Wait, G: Gate>(
     }
 }
 
-/// One turn of each of the loops, in order. Whether a node of any of them ran. Sending may wait.
-/// Takes no memory.
+/// One turn of each of the loops, in order. Whether a node of any of them ran: where none did, the
+/// way is as it was. Sending may wait. Takes no memory.
 pub(crate) fn turn_all<R: Wait, G: Gate>(
     rt: &R,
     board: &Board,
@@ -54,6 +54,9 @@ pub(crate) fn turn_all<R: Wait, G: Gate>(
     requires way { IsDriverWay ways.now way.old }
     ensures turned { AreEach (HasHadTurns (layout board.now) (table_of board.now))
         states.old states.new }
+    ensures idle { result ≡ false
+        → AreEach (HasTurnedIdle (layout board.now)) states.old states.new }
+    ensures quiet { result ≡ false → way.new ≡ way.old }
     ensures way { IsDriverWay ways.now way.new }
 {
     let mut ran = false;

@@ -20,7 +20,8 @@ pub fn send_woken<R: Wait>(rt: &R, ways: &Ways, way: &mut Way, woke: u64)
 
 /// The end of a round, in which something was done or not: the thread rests until it is unparked
 /// where nothing was, and it has adopted fewer loops than `ways` has, so that another thread has
-/// something to do. Else the way is as it was. It may wait. Takes no memory.
+/// something to do. Before it sleeps it looks for some microseconds whether it is called. Else the
+/// way is as it was. It may wait. Takes no memory.
 /// Condition: `way` is the driver's of `ways`.
 pub fn rest_unless<R: Wait>(rt: &R, done: bool, adopted: usize, ways: &Ways, way: &mut Way)
     requires way { IsDriverWay ways.now way.old }
@@ -30,6 +31,7 @@ pub fn rest_unless<R: Wait>(rt: &R, done: bool, adopted: usize, ways: &Ways, way
     ensures way { IsDriverWay ways.now way.new }
 {
     if !done && adopted < ways.loops() as usize {
+        let _called = ways.is_called_soon(way);
         ways.rest(rt, way);
     }
 }

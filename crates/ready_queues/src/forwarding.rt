@@ -79,6 +79,7 @@ impl Ways {
         let full = self.send_sparing(rt, way, woke, way.number);
         if way.number != self.loops && self.has_watched(woke) {
             wake(&self.driver, &mut way.driver);
+            self.call.make();
         }
         full
     }

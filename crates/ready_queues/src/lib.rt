@@ -10,6 +10,7 @@
 //! its own, or of a loop that no thread was seen to `start`, which the driver's thread may run.
 #![tactic(auto)]
 
+mod call;
 mod dealing;
 mod end;
 mod forwarding;

@@ -9,6 +9,7 @@ ghost use Rattle.pw_base.specs.Limits.{dummy_node};
 ghost use Rattle.ready_queues.specs.Opening.{IsFreshEnd, AreFreshEnds, IsBareWay, AreBare, IsNewWay};
 ghost use Rattle.ready_queues.specs.ParkingRule.{woken};
 
+use crate::call::Call;
 use crate::end::End;
 use crate::lane::Lane;
 use crate::parking::{ParkPass, Parker, Unparker};
@@ -93,6 +94,7 @@ fn open_loop(
             queue,
             unparker,
             started: AtomicU64::new(0),
+            call: Call::new(),
         },
         end: End { number, pass, wake },
         way: Way {
@@ -172,6 +174,7 @@ impl Ways {
             loops,
             lanes,
             driver: unparker,
+            call: Call::new(),
         };
         ways.equip_all(alloc, ends.as_mut_slice(), others.as_mut_slice())?;
         let driver = ways.driver.pass();

@@ -6,6 +6,7 @@ ghost use Rattle.ready_queues.specs.QueueRule.{IsNodeOf};
 ghost use Rattle.ready_queues.specs.Receiving.{HasReceived, WasEmpty, AreSameEnds, IsSameThread};
 ghost use Rattle.ready_queues.specs.Receiving.{HasRested};
 
+use crate::call::Call;
 use crate::end::End;
 use crate::parking::park;
 use crate::queue::Pops;
@@ -53,8 +54,26 @@ impl Ways {
     {
         let number = way.number as usize;
         let node = self.pop(rt, way.ends.as_mut_slice(), number);
+        self.call_of(way.number).forget_if(node.is_none());
         way.taken = counted(way.taken, node.is_some());
         node
+    }
+
+    // The call of the thread of this number, the driver's where it is that of no loop.
+    fn call_of(&self, number: u32) -> &Call {
+        match self.lanes.as_slice().get(number as usize) {
+            Some(lane) => &lane.call,
+            None => &self.call,
+        }
+    }
+
+    /// Whether the way's own thread is called within some microseconds: a loop by who pushes into
+    /// its queue, the driver's thread by who has unparked it. A thread that has nothing to do asks
+    /// this before it rests. It looks 64 times at most: it spins between the first looks, and lets
+    /// other threads run between the others. It has no clause: contracts see nothing of calls.
+    /// Takes no memory, does not wait.
+    pub fn is_called_soon(&self, way: &Way) -> bool {
+        self.call_of(way.number).comes_soon()
     }
 
     /// Parks the way's own thread until it is unparked, which may have been before. Takes no
@@ -66,5 +85,6 @@ impl Ways {
         ensures rested { HasRested way.old way.new }
     {
         park(rt, &way.parker, &mut way.own);
+        self.call_of(way.number).forget();
     }
 }

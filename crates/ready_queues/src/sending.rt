@@ -39,6 +39,7 @@ impl End {
             .push_as::<Pushes, R>(rt, &mut self.pass, node)
             .is_err();
         if unparks {
+            lane.call.make();
             wake(&lane.unparker, &mut self.wake);
         }
         full
@@ -130,6 +131,7 @@ impl Ways {
     {
         let full = self.send_sparing(rt, way, woke, self.loops);
         wake(&self.driver, &mut way.driver);
+        self.call.make();
         full
     }
 }

@@ -21,6 +21,13 @@ pub struct Way {
 }
 
 impl Way {
+    /// The number of its loop; how many loops there are, where it is the driver's. Takes no memory.
+    pub fn number(&self) -> u32
+        ensures { result ≡ self.now.number }
+    {
+        self.number
+    }
+
     /// How many numbers it received, and 2^64 - 1 once so many were reached. Takes no memory.
     pub fn taken(&self) -> u64
         ensures { result ≡ min (received_by self.now.ends.items) (2 ^ 64 - 1) }

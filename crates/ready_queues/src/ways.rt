@@ -4,18 +4,20 @@ ghost use Rattle.crossbeam_queue.specs.Passes.{ruled_capacity};
 ghost use Rattle.pw_base.specs.Limits.{dummy_node};
 ghost use Rattle.ready_queues.specs.Lanes.{loops_limit};
 
+use crate::call::Call;
 use crate::lane::Lane;
 use crate::parking::Unparker;
 use pw_base::Items;
 
 /// For each loop a queue of 64 numbers and the unparker of that loop, and the unparker of the
-/// driver's thread.
+/// driver's thread with its call.
 #[derive(Drop)]
 pub struct Ways {
     pub(crate) owner: Items<u32>,
     pub(crate) loops: u32,
     pub(crate) lanes: Items<Lane>,
     pub(crate) driver: Unparker,
+    pub(crate) call: Call,
     ghost count: { length lanes ≡ loops },
     ghost few: { loops ≤ loops_limit },
     ghost nodes: { length owner ≤ dummy_node },

@@ -6,12 +6,12 @@ use Rattle.driver_cycle.specs.Leading.{IsBetween}
 use Rattle.driver_cycle.specs.Epochs.{HasGoneOn}
 use Rattle.driver_cycle.proofs.epoch.run_cycles.Given as goal
 
-abbrev pub invariant-loop-way : goal.invariant-loop-way
-invariant-loop-way g l = record {
+abbrev pub invariant-loop-seat : goal.invariant-loop-seat
+invariant-loop-seat g l = record {
   gone : HasGoneOn l.board l.fn.seat l.fn.own l.fn.adopted (g.K.Ticker.ticks l.fn.ticker) l.seat l.own l.adopted (g.K.Ticker.ticks l.ticker);
   between : IsBetween (layout l.board) l.seat.knows;
   way : IsDriverWay l.ways l.way;
 }
 
-abbrev pub decreases-loop-way : goal.decreases-loop-way
-decreases-loop-way g l = last (layout l.board) - l.seat.knows.lead.cycle
+abbrev pub decreases-loop-seat : goal.decreases-loop-seat
+decreases-loop-seat g l = last (layout l.board) - l.seat.knows.lead.cycle

@@ -1,12 +1,15 @@
-use Rattle.std.proofs.Common.{◌≡◌, length}
+use Rattle.std.proofs.Common.{◌≡◌, length, false}
 use Rattle.board_rule.specs.OnBoard.{layout, table_of}
 use Rattle.data_loop.specs.LoopWay.{IsDriverWay}
 use Rattle.driver_cycle.specs.Settling.{HasHadTurns, AreEachBelow}
+use Rattle.driver_cycle.specs.Waking.{HasTurnedIdle}
 use Rattle.driver_cycle.proofs.turning.turn_all.Given as goal
 
 abbrev pub invariant-loop-k : goal.invariant-loop-k
 invariant-loop-k g l = record {
   end : l.k-end ≡ length l.fn.states;
   turned : AreEachBelow (HasHadTurns (layout l.board) (table_of l.board)) l.k l.fn.states l.states;
+  idle : l.ran ≡ false → AreEachBelow (HasTurnedIdle (layout l.board)) l.k l.fn.states l.states;
+  quiet : l.ran ≡ false → l.way ≡ l.fn.way;
   way : IsDriverWay l.ways l.way;
 }

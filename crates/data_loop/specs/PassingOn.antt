@@ -1,0 +1,43 @@
+-- What a loop's thread does with its way: it passes on what a turn or a try woke, and rests only
+-- where none was awake.
+-- Source: PipeWire's documentation, "Graph Scheduling" and "Data loops"; that what is woken goes
+-- through queues is this project's own.
+use Rattle.std.specs.Prelude.{◌≡◌, ◌⊎◌, ℕ, Bool, true, false}
+use Rattle.board_rule.specs.Layout.{BoardLayout}
+use Rattle.ready_queues.specs.declared.way.Way.{Way}
+use Rattle.ready_queues.specs.declared.ways.Ways.{Ways}
+use Rattle.ready_queues.specs.Forwarding.{HasForwarded}
+use Rattle.ready_queues.specs.Receiving.{HasRested}
+use Rattle.data_loop.specs.declared.did.Did.{Did}
+use Rattle.data_loop.specs.declared.did.Did.TheVariants.{Ran, Idle}
+use Rattle.data_loop.specs.declared.loop_state.LoopState.{LoopState}
+use Rattle.data_loop.specs.LoopsOnBoards.{HasTurnedOnce}
+use Rattle.data_loop.specs.LoopTries.{HasWoken}
+
+-- each node of the set came to its loop, whose thread was unparked, unless it is the way's own
+abbrev pub Forwards : Ways → ℕ → Way → Way → Type 0
+Forwards ways woke a b = (full : ℕ) × HasForwarded ways.owner ways.loops woke full a b
+
+-- PASSED ON: where a node ran, what it woke is forwarded; where none did, the way is as before
+abbrev pub PassesOn : Ways → Did → LoopState → Way → Way → Type 0
+PassesOn ways (Ran node) t a b = Forwards ways t.woke a b
+PassesOn ways Idle t a b = b ≡ a
+
+-- a thread rested once, or not at all
+abbrev pub RestsAtMost : Way → Way → Type 0
+RestsAtMost a b = (b ≡ a) ⊎ HasRested a b
+
+-- ONE TURN in which a node ran, from s to t, and what became of the way, from a to b
+abbrev pub HasRunOne : BoardLayout → Ways → LoopState → Way → LoopState → Way → Type 0
+HasRunOne p ways s a t b = (node : ℕ) × HasTurnedOnce p s (Ran node) t × HasWoken (Ran node) t
+    × Forwards ways t.woke a b
+
+-- in which none was awake; the thread may have rested after it
+abbrev pub HasRunNone : BoardLayout → LoopState → Way → LoopState → Way → Type 0
+HasRunNone p s a t b = HasTurnedOnce p s Idle t × RestsAtMost a b
+
+-- ONE TURN, whose answer is whether no follower has cycles left: then there was no rest
+abbrev pub HasTriedAll : Bool → BoardLayout → Ways → LoopState → Way → LoopState → Way
+    → Type 0
+HasTriedAll true p ways s a t b = HasTurnedOnce p s Idle t × (b ≡ a)
+HasTriedAll false p ways s a t b = HasRunOne p ways s a t b ⊎ HasRunNone p s a t b
