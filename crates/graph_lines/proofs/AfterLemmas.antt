@@ -23,7 +23,7 @@ use Rattle.graph_lines.specs.Draining.{rest_cycles, drain_cycles, DrainsFor}
 use Rattle.graph_lines.specs.EpochLines.{cycles_in, StandsAfter, IsAfter, IsTaken, RunsFor, Steps}
 use Rattle.graph_lines.specs.Searching.{is_in}
 use Rattle.graph_lines.specs.Sums.{sums_with, passed}
-use Rattle.graph_lines.specs.Ready.{IsReady}
+use Rattle.graph_lines.specs.Ready.{IsReady, HasRan}
 use Rattle.graph_lines.proofs.DrainingLemmas.{most_enough, most_needed}
 use Rattle.graph_lines.proofs.SumLemmas.{passes_events}
 
@@ -67,7 +67,6 @@ after_sound g after e sound none h = subst IsReady (sym h.same) (record {
     quantum = sound.counts.quantum;
     events = let more = three_a_cycle e in let so_far = sound.counts.events in omega (arith, more, so_far);
     limit = few_events (sums_with g.kinds g.sums e) none;
-    ran = λ n. few n (cases_lt n (length g.nodes));
   };
 }) where
   marked : (n : ℕ) → (n < length g.nodes) ⊎ (length g.nodes ≤ n) → (standing after.nodes n).marked ≡ (standing g.nodes n).marked
@@ -75,10 +74,12 @@ after_sound g after e sound none h = subst IsReady (sym h.same) (record {
   marked n (inr past) = ap (λ (s : Standing). s.marked)
       (get_or_past after.nodes n nobody (let many = h.many in omega (arith, past, many)) ∙ sym (get_or_past g.nodes n nobody past))
 
+pub after_ran : (g after : Graph) (e : Epoch) → HasRan g → IsAfter g e after → HasRan after
+after_ran g after e ran h = subst HasRan (sym h.same) (record { within = λ n. few n (cases_lt n (length g.nodes)) }) where
   few : (n : ℕ) → (n < length g.nodes) ⊎ (length g.nodes ≤ n) → (standing after.nodes n).ran ≤ g.first + e.shape.cycles
   few n (inl l) =
       let is = ap (λ (s : Standing). s.ran) (h.nodes n l).rest in
-      let before = sound.counts.ran n in
+      let before = ran.within n in
       let here = cycles_at_most e n in
       omega (arith, is, before, here)
   few n (inr past) =
@@ -89,6 +90,10 @@ pub run_sound : (g after : Graph) (cycles : ℕ) → IsReady g → RunsFor g cyc
 run_sound g after zero sound h = subst IsReady (sym h.1) sound
 run_sound g after (suc n) sound h = after_sound g after h.0 sound h.2.0 h.2.1
 
+pub run_ran : (g after : Graph) (cycles : ℕ) → HasRan g → RunsFor g cycles T.Done after → HasRan after
+run_ran g after zero ran h = subst HasRan (sym h.1) ran
+run_ran g after (suc n) ran h = after_ran g after h.0 ran h.2.1
+
 -- some cycles make an epoch
 pub runs_some : (g after : Graph) (cycles : ℕ) (stepped : Stepped) (e : Epoch) → 0 < cycles → IsEpochOf g cycles e → IsTaken g e stepped after
     → RunsFor g cycles stepped after
@@ -96,10 +101,10 @@ runs_some g after zero stepped e some is taken = absurd (omega (arith, some))
 runs_some g after (suc n) stepped e some is taken = (e, is, taken)
 
 -- MORE CYCLES than there may be events pass that limit, however many they are
-abbrev with_cycles : ℕ → Epoch → Epoch
+abbrev pub with_cycles : ℕ → Epoch → Epoch
 with_cycles n e = record e { shape = record e.shape { cycles = n } }
 
-more_cycles : (g : Graph) (few many : ℕ) (e : Epoch) → IsEpochOf g few e → IsEpochOf g many (with_cycles many e)
+pub more_cycles : (g : Graph) (few many : ℕ) (e : Epoch) → IsEpochOf g few e → IsEpochOf g many (with_cycles many e)
 more_cycles g few many e h = record {
   quantum = h.quantum;
   first = h.first;
@@ -164,7 +169,7 @@ drains_for waves g a n h e = record {
 }
 
 -- a drain runs for the cycles that are left
-pub drained : (waves : List WavIn) (g after : Graph) (cycles : ℕ) (r : Result Stepped Memory) → DrainsUpTo waves g cycles
+pub drained : (waves : List WavIn) (g after : Graph) (cycles : ℕ) (r : Result Stepped Memory) → DrainsUpTo 4194305 waves g cycles
     → IfOk r (λ stepped. RunsFor g cycles stepped after) → IfOk r (λ stepped. Steps waves g C.Drain stepped after)
 drained waves g after cycles (Ok stepped) d h = (d.0, d.1, runs_cut g after d.0 stepped (subst (λ (n : ℕ). RunsFor g n stepped after) d.2 h))
 drained waves g after cycles (Err m) d h = h

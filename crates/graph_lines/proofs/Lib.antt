@@ -16,4 +16,7 @@ pub mod ReadyWireLemmas
 pub mod ReadyLinkLemmas
 pub mod ReadyUnlinkLemmas
 pub mod AfterLemmas
+pub mod RanLemmas
 pub mod StepLemmas
+pub mod UpcomingLemmas
+pub mod RehearsalLemmas

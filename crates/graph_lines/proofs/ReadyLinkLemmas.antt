@@ -5,7 +5,6 @@ use Rattle.std.specs.Option.{option_map_or}
 use Rattle.std.proofs.lemmas.List.Elements.{All-push, All-weaker}
 use Rattle.pw_base.specs.declared.ids.PortId.{PortId}
 use Rattle.pw_base.specs.declared.kind.Kind.{Kind}
-use Rattle.pw_base.specs.declared.limit.Which.TheVariants as W
 use Rattle.pw_base.specs.SoundShape.{IsBetween}
 use Rattle.format_filter.specs.declared.choice.Choice.{Choice}
 use Rattle.format_filter.specs.declared.choice.Choice.TheVariants.{Range}
@@ -30,7 +29,7 @@ use Rattle.link_negotiation.specs.Negotiation.{Negotiates, IsCount, MeetsIn, Sha
 use Rattle.link_negotiation.specs.LinkOutcome.{given, formatted, MayBeGiven, IsLinkOutcome, LeavesLink}
 use Rattle.link_negotiation.proofs.GivingLemmas.{IsThere, there, gives_own, gives_other, elsewhere, taken_given, kept_given}
 use Rattle.graph_lines.specs.declared.graph.Graph.{Graph}
-use Rattle.graph_lines.specs.declared.graph.Stepped.TheVariants as T
+use Rattle.graph_lines.specs.declared.graph.Stepped.{Stepped}
 use Rattle.graph_lines.specs.declared.wire.Wire.{Wire}
 use Rattle.graph_lines.specs.Forms.{HasKinds}
 use Rattle.graph_lines.specs.LinkLines.{IsRecorded}
@@ -139,10 +138,10 @@ noted_sound g after ports links wires same sound = subst IsReady (sym same) (rec
 
 module _ (g after : Graph) (from to : PortId) (out : IsOutput g.ports from) (input : IsInput g.ports to) (sound : IsReady g)
     (same : after ≡ record g { ports = after.ports; links = after.links; wires = after.wires; lines = after.lines }) where
-  made_sound : (format : Format) (n : ℕ) → IsLinkOutcome g.links g.ports from to (L.Made format n)
+  made_sound : (stepped : Stepped) (format : Format) (n : ℕ) → IsLinkOutcome g.links g.ports from to (L.Made format n)
       → LeavesLink g.links g.ports from to (L.Made format n) after.links after.ports
-      → IsRecorded g from to (L.Made format n) T.Done after → IsReady after
-  made_sound format n outcome leaves noted =
+      → IsRecorded g from to (L.Made format n) stepped after → IsReady after
+  made_sound stepped format n outcome leaves noted =
       let is = input_is_port g.ports to input in
       let few = few_shared g.ports from to n sound.nodes.ports out.1 is outcome.1.1 in
       subst IsReady (sym same) (record {
@@ -153,7 +152,7 @@ module _ (g after : Graph) (from to : PortId) (out : IsOutput g.ports from) (inp
               (formatted_sound g.ports from to format sound.nodes.ports out.1 is outcome.0.other outcome.1.0);
         };
         wires = record {
-          wired = links_wired g after from to (L.Made format n) T.Done leaves noted refl sound.wires.wired;
+          wired = links_wired g after from to (L.Made format n) stepped leaves noted noted.0 sound.wires.wired;
           each = subst (λ (ns : List Node). All (IsReadyWire ns) after.wires) (sym leaves.1)
               (subst (λ (ws : List Wire). All (IsReadyWire (formatted g.ports from to format)) ws) (sym noted.1)
               (made_wires g.ports g.kinds g.wires from to format n sound.nodes.kinds out input few sound.wires.each));
@@ -163,13 +162,11 @@ module _ (g after : Graph) (from to : PortId) (out : IsOutput g.ports from) (inp
       })
 
   -- A LINK LINE
-  pub link_sound : (linked : Linked) → IsLinkOutcome g.links g.ports from to linked
-      → LeavesLink g.links g.ports from to linked after.links after.ports → IsRecorded g from to linked T.Done after → IsReady after
-  link_sound (L.Made format n) outcome leaves noted = made_sound format n outcome leaves noted
-  link_sound (L.NoFormat key) outcome leaves noted = noted_sound g after leaves.1 leaves.0 noted.1 same sound
-  link_sound L.NoBuffers outcome leaves noted = noted_sound g after leaves.1 leaves.0 noted.1 same sound
-  link_sound L.Twice outcome leaves noted = noted_sound g after leaves.1 leaves.0 noted.1 same sound
-  link_sound L.Loop outcome leaves noted = noted_sound g after leaves.1 leaves.0 noted.1 same sound
-  link_sound L.Many outcome leaves noted = absurd (passes_not noted.0) where
-    passes_not : T.Done ≡ T.Passed W.Links → ⊥
-    passes_not e = cc
+  pub link_sound : (stepped : Stepped) (linked : Linked) → IsLinkOutcome g.links g.ports from to linked
+      → LeavesLink g.links g.ports from to linked after.links after.ports → IsRecorded g from to linked stepped after → IsReady after
+  link_sound stepped (L.Made format n) outcome leaves noted = made_sound stepped format n outcome leaves noted
+  link_sound stepped (L.NoFormat key) outcome leaves noted = noted_sound g after leaves.1 leaves.0 noted.1 same sound
+  link_sound stepped L.NoBuffers outcome leaves noted = noted_sound g after leaves.1 leaves.0 noted.1 same sound
+  link_sound stepped L.Twice outcome leaves noted = noted_sound g after leaves.1 leaves.0 noted.1 same sound
+  link_sound stepped L.Loop outcome leaves noted = noted_sound g after leaves.1 leaves.0 noted.1 same sound
+  link_sound stepped L.Many outcome leaves noted = noted_sound g after leaves.1 leaves.0 noted.1 same sound

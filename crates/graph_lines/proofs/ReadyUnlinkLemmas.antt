@@ -23,7 +23,7 @@ use Rattle.graph_lines.specs.declared.wire.Wire.{Wire}
 use Rattle.graph_lines.specs.Activity.{standing}
 use Rattle.graph_lines.specs.Forms.{HasKinds}
 use Rattle.graph_lines.specs.UnlinkLines.{giving, wires_without, IsTakenAway}
-use Rattle.graph_lines.specs.Ready.{HasFormat, IsReadyWire, IsReady}
+use Rattle.graph_lines.specs.Ready.{HasFormat, IsReadyWire, IsReady, HasRan}
 use Rattle.graph_lines.proofs.ReadyLinkLemmas.{noted_sound}
 use Rattle.graph_lines.proofs.ReadyWireLemmas.{kinds_kept, wire_kept}
 use Rattle.graph_lines.proofs.StandingLemmas.{set_standing}
@@ -141,13 +141,7 @@ module _ (g after : Graph) (from to : PortId) (keep : ℕ) (sound : IsReady g)
               ∙ (both_keep (λ s. s.marked) (λ s b. refl) set to.node from.node m g.nodes
               ∙ (sound.marks.same m ∙ sym (ap (λ (s : LinkState). is_marked s m) h.1)));
         };
-        counts = record {
-          quantum = sound.counts.quantum;
-          events = sound.counts.events;
-          limit = sound.counts.limit;
-          ran = λ m. subst (λ (k : ℕ). k ≤ g.first) (sym (ap (λ (ns : List Standing). (standing ns m).ran) t.1
-              ∙ both_keep (λ s. s.ran) (λ s b. refl) set to.node from.node m g.nodes)) (sound.counts.ran m);
-        };
+        counts = sound.counts;
       })
 
   pub unlink_sound : (unlinked : Unlinked) → HasUnlinked g.links g.ports from to keep unlinked after.links after.ports
@@ -157,3 +151,17 @@ module _ (g after : Graph) (from to : PortId) (keep : ℕ) (sound : IsReady g)
     kept : record g { ports = after.ports; links = after.links; wires = after.wires; nodes = after.nodes; lines = after.lines }
         ≡ record g { ports = after.ports; links = after.links; wires = after.wires; lines = after.lines }
     kept = λ i. record g { ports = after.ports; links = after.links; wires = after.wires; nodes = t.1 i; lines = after.lines }
+
+-- no node ran by it
+pub unlink_ran : (g after : Graph) (from to : PortId) (unlinked : Unlinked)
+    → after ≡ record g { ports = after.ports; links = after.links; wires = after.wires; nodes = after.nodes; lines = after.lines }
+    → IsTakenAway g from to unlinked after → HasRan g → HasRan after
+unlink_ran g after from to (U.Gone set) same t ran = record {
+  within = λ m. subst (λ (k : ℕ). (standing after.nodes m).ran ≤ k) (sym (ap (λ (x : Graph). x.first) same))
+      (subst (λ (k : ℕ). k ≤ g.first) (sym (ap (λ (ns : List Standing). (standing ns m).ran) t.1
+      ∙ both_keep (λ s. s.ran) (λ s b. refl) set to.node from.node m g.nodes)) (ran.within m));
+}
+unlink_ran g after from to U.NotThere same t ran = record {
+  within = λ m. subst (λ (k : ℕ). (standing after.nodes m).ran ≤ k) (sym (ap (λ (x : Graph). x.first) same))
+      (subst (λ (k : ℕ). k ≤ g.first) (sym (ap (λ (ns : List Standing). (standing ns m).ran) t.1)) (ran.within m));
+}

@@ -9,7 +9,7 @@ use Rattle.graph_lines.specs.declared.graph.Graph.{Graph}
 use Rattle.graph_lines.specs.declared.standing.Standing.{Standing}
 use Rattle.graph_lines.specs.Activity.{nobody, standing}
 use Rattle.graph_lines.specs.Lines.{with_node, mark, Marks}
-use Rattle.graph_lines.specs.Ready.{HasReadyMarks, IsReady}
+use Rattle.graph_lines.specs.Ready.{HasReadyMarks, IsReady, HasRan}
 use Rattle.graph_lines.proofs.PortLemmas.{at_most_63}
 
 -- what is said of each node stays in a respect in which it stays for the one that is changed
@@ -21,10 +21,10 @@ set_standing φ (s ∷ ss) zero (suc m) x e = refl
 set_standing φ (s ∷ ss) (suc n) zero x e = refl
 set_standing φ (s ∷ ss) (suc n) (suc m) x e = set_standing φ ss n m x e
 
--- a node that is not marked by it, and ran in no more cycles
+-- a node that is not marked by it
 pub with_node_sound : (g : Graph) (n : ℕ) (f : Standing → Standing) → ((s : Standing) → (f s).marked ≡ s.marked)
-    → ((s : Standing) → (f s).ran ≡ s.ran) → IsReady g → IsReady (with_node g n f)
-with_node_sound g n f marked ran sound = let s = standing g.nodes n in record {
+    → IsReady g → IsReady (with_node g n f)
+with_node_sound g n f marked sound = let s = standing g.nodes n in record {
   nodes = record {
     many = length-set g.nodes n (f s) ∙ sound.nodes.many;
     kinds = sound.nodes.kinds;
@@ -35,12 +35,13 @@ with_node_sound g n f marked ran sound = let s = standing g.nodes n in record {
     many = sound.marks.many;
     same = λ m. set_standing (λ x. x.marked) g.nodes n m (f s) (marked s) ∙ sound.marks.same m;
   };
-  counts = record {
-    quantum = sound.counts.quantum;
-    events = sound.counts.events;
-    limit = sound.counts.limit;
-    ran = λ m. subst (λ (k : ℕ). k ≤ g.first) (sym (set_standing (λ x. x.ran) g.nodes n m (f s) (ran s))) (sound.counts.ran m);
-  };
+  counts = sound.counts;
+}
+
+-- nor did it run in more cycles
+pub with_node_ran : (g : Graph) (n : ℕ) (f : Standing → Standing) → ((s : Standing) → (f s).ran ≡ s.ran) → HasRan g → HasRan (with_node g n f)
+with_node_ran g n f same ran = let s = standing g.nodes n in record {
+  within = λ m. subst (λ (k : ℕ). k ≤ g.first) (sym (set_standing (λ x. x.ran) g.nodes n m (f s) (same s))) (ran.within m);
 }
 
 -- a node and its links are marked together
@@ -69,11 +70,12 @@ marks_sound g after n there (inr h) sound =
       };
       wires = record { wired = sound.wires.wired; each = sound.wires.each };
       marks = both_marked g.nodes g.links n there (omega (arith, there, few)) sound.marks;
-      counts = record {
-        quantum = sound.counts.quantum;
-        events = sound.counts.events;
-        limit = sound.counts.limit;
-        ran = λ m. subst (λ (k : ℕ). k ≤ g.first) (sym (set_standing (λ x. x.ran) g.nodes n m (mark (standing g.nodes n)) refl))
-            (sound.counts.ran m);
-      };
+      counts = sound.counts;
     })
+
+pub marks_ran : (g after : Graph) (n : ℕ) → Marks g n after → HasRan g → HasRan after
+marks_ran g after n (inl h) ran = subst HasRan (sym h.1) ran
+marks_ran g after n (inr h) ran = subst HasRan (sym h.1) (record {
+  within = λ m. subst (λ (k : ℕ). k ≤ g.first) (sym (set_standing (λ x. x.ran) g.nodes n m (mark (standing g.nodes n)) refl))
+      (ran.within m);
+})

@@ -39,11 +39,11 @@ use Rattle.graph_lines.proofs.ReadyUnlinkLemmas.{unlink_sound}
 
 -- a line that says something of a node
 node_line : (g after : Graph) (n : ℕ) (f : Standing → Standing) → ((s : Standing) → (f s).marked ≡ s.marked)
-    → ((s : Standing) → (f s).ran ≡ s.ran) → after ≡ with_node g n f → IsReady g → IsReady after
-node_line g after n f marked ran e sound = subst IsReady (sym e) (with_node_sound g n f marked ran sound)
+    → after ≡ with_node g n f → IsReady g → IsReady after
+node_line g after n f marked e sound = subst IsReady (sym e) (with_node_sound g n f marked sound)
 
 made_line : (g after : Graph) (n : ℕ) → after ≡ with_node g n made → IsReady g → IsReady after
-made_line g after n e sound = node_line g after n made (λ s. refl) (λ s. refl) e sound
+made_line g after n e sound = node_line g after n made (λ s. refl) e sound
 
 -- a count of buffers
 buffers_line : (g after : Graph) (port : PortId) (n : ℕ) → IsBetween 1 8 n → after ≡ record g { ports = with_port g.ports port (buffered n) }
@@ -64,52 +64,52 @@ buffers_line g after port n range e sound =
     })
 
 -- A LINE that makes no epoch
-does_sound : (g after : Graph) (command : Command) → IsReady g → MayDo g command → Does g command T.Done after → IsReady after
-does_sound g after (C.Source n file) sound may h = made_line g after n h.1 sound
-does_sound g after (C.Square n rate channels period amp) sound may h = made_line g after n h.1 sound
-does_sound g after (C.Gain n gain) sound may h = made_line g after n h.1 sound
-does_sound g after (C.Mix2 n ga gb) sound may h = made_line g after n h.1 sound
-does_sound g after (C.Delay n frames) sound may h = made_line g after n h.1 sound
-does_sound g after (C.Map n channels list) sound may h = made_line g after n h.1 sound
-does_sound g after (C.Split n) sound may h = made_line g after n h.1 sound
-does_sound g after (C.Sink n file) sound may h = made_line g after n h.1 sound
-does_sound g after (C.Meter n) sound may h = made_line g after n h.1 sound
-does_sound g after (C.Driver n p) sound may h = node_line g after n (prior p) (λ s. refl) (λ s. refl) h.1 sound
-does_sound g after (C.Loop n k) sound may h = node_line g after n (looped k) (λ s. refl) (λ s. refl) h.1 sound
-does_sound g after (C.On n) sound may h = node_line g after n switched_on (λ s. refl) (λ s. refl) h.1 sound
-does_sound g after (C.Off n) sound may h = node_line g after n switched_off (λ s. refl) (λ s. refl) h.1 sound
-does_sound g after (C.Async n) sound may h = marks_sound g after n may h.1 sound
-does_sound g after (C.Buffers port n) sound may h = buffers_line g after port n may.1 h.1 sound
-does_sound g after (C.Link from to) sound may h = link_sound g after from to may.0 may.1 sound h.same h.linked h.outcome h.leaves h.noted
-does_sound g after (C.Unlink from to) sound may h =
+pub does_sound : (g after : Graph) (command : Command) (stepped : Stepped) → IsReady g → MayDo g command → Does g command stepped after → IsReady after
+does_sound g after (C.Source n file) stepped sound may h = made_line g after n h.1 sound
+does_sound g after (C.Square n rate channels period amp) stepped sound may h = made_line g after n h.1 sound
+does_sound g after (C.Gain n gain) stepped sound may h = made_line g after n h.1 sound
+does_sound g after (C.Mix2 n ga gb) stepped sound may h = made_line g after n h.1 sound
+does_sound g after (C.Delay n frames) stepped sound may h = made_line g after n h.1 sound
+does_sound g after (C.Map n channels list) stepped sound may h = made_line g after n h.1 sound
+does_sound g after (C.Split n) stepped sound may h = made_line g after n h.1 sound
+does_sound g after (C.Sink n file) stepped sound may h = made_line g after n h.1 sound
+does_sound g after (C.Meter n) stepped sound may h = made_line g after n h.1 sound
+does_sound g after (C.Driver n p) stepped sound may h = node_line g after n (prior p) (λ s. refl) h.1 sound
+does_sound g after (C.Loop n k) stepped sound may h = node_line g after n (looped k) (λ s. refl) h.1 sound
+does_sound g after (C.On n) stepped sound may h = node_line g after n switched_on (λ s. refl) h.1 sound
+does_sound g after (C.Off n) stepped sound may h = node_line g after n switched_off (λ s. refl) h.1 sound
+does_sound g after (C.Async n) stepped sound may h = marks_sound g after n may h.1 sound
+does_sound g after (C.Buffers port n) stepped sound may h = buffers_line g after port n may.1 h.1 sound
+does_sound g after (C.Link from to) stepped sound may h = link_sound g after from to may.0 may.1 sound h.same stepped h.linked h.outcome h.leaves h.noted
+does_sound g after (C.Unlink from to) stepped sound may h =
     unlink_sound g after from to h.1.keep sound h.1.same h.1.unlinked h.1.outcome h.1.noted
-does_sound g after (C.Quantum n) sound may h = subst IsReady (sym h.1) sound
-does_sound g after (C.Offer port file) sound may h = subst IsReady (sym h.1) sound
-does_sound g after (C.Cycles n) sound may h = absurd h
-does_sound g after C.Drain sound may h = absurd h
+does_sound g after (C.Quantum n) stepped sound may h = subst IsReady (sym h.1) sound
+does_sound g after (C.Offer port file) stepped sound may h = subst IsReady (sym h.1) sound
+does_sound g after (C.Cycles n) stepped sound may h = absurd h
+does_sound g after C.Drain stepped sound may h = absurd h
 
 -- ANY LINE
 pub steps_sound : (waves : List WavIn) (g after : Graph) (command : Command) → IsReady g → MayStep g command
     → Steps waves g command T.Done after → IsReady after
-steps_sound waves g after (C.Source n file) sound may h = does_sound g after (C.Source n file) sound may h
-steps_sound waves g after (C.Square n rate channels period amp) sound may h = does_sound g after (C.Square n rate channels period amp) sound may h
-steps_sound waves g after (C.Gain n gain) sound may h = does_sound g after (C.Gain n gain) sound may h
-steps_sound waves g after (C.Mix2 n ga gb) sound may h = does_sound g after (C.Mix2 n ga gb) sound may h
-steps_sound waves g after (C.Delay n frames) sound may h = does_sound g after (C.Delay n frames) sound may h
-steps_sound waves g after (C.Map n channels list) sound may h = does_sound g after (C.Map n channels list) sound may h
-steps_sound waves g after (C.Split n) sound may h = does_sound g after (C.Split n) sound may h
-steps_sound waves g after (C.Sink n file) sound may h = does_sound g after (C.Sink n file) sound may h
-steps_sound waves g after (C.Meter n) sound may h = does_sound g after (C.Meter n) sound may h
-steps_sound waves g after (C.Driver n p) sound may h = does_sound g after (C.Driver n p) sound may h
-steps_sound waves g after (C.Loop n k) sound may h = does_sound g after (C.Loop n k) sound may h
-steps_sound waves g after (C.On n) sound may h = does_sound g after (C.On n) sound may h
-steps_sound waves g after (C.Off n) sound may h = does_sound g after (C.Off n) sound may h
-steps_sound waves g after (C.Async n) sound may h = does_sound g after (C.Async n) sound may h
-steps_sound waves g after (C.Buffers port n) sound may h = does_sound g after (C.Buffers port n) sound may h
-steps_sound waves g after (C.Link from to) sound may h = does_sound g after (C.Link from to) sound may h
-steps_sound waves g after (C.Unlink from to) sound may h = does_sound g after (C.Unlink from to) sound may h
-steps_sound waves g after (C.Quantum n) sound may h = does_sound g after (C.Quantum n) sound may h
-steps_sound waves g after (C.Offer port file) sound may h = does_sound g after (C.Offer port file) sound may h
+steps_sound waves g after (C.Source n file) sound may h = does_sound g after (C.Source n file) T.Done sound may h
+steps_sound waves g after (C.Square n rate channels period amp) sound may h = does_sound g after (C.Square n rate channels period amp) T.Done sound may h
+steps_sound waves g after (C.Gain n gain) sound may h = does_sound g after (C.Gain n gain) T.Done sound may h
+steps_sound waves g after (C.Mix2 n ga gb) sound may h = does_sound g after (C.Mix2 n ga gb) T.Done sound may h
+steps_sound waves g after (C.Delay n frames) sound may h = does_sound g after (C.Delay n frames) T.Done sound may h
+steps_sound waves g after (C.Map n channels list) sound may h = does_sound g after (C.Map n channels list) T.Done sound may h
+steps_sound waves g after (C.Split n) sound may h = does_sound g after (C.Split n) T.Done sound may h
+steps_sound waves g after (C.Sink n file) sound may h = does_sound g after (C.Sink n file) T.Done sound may h
+steps_sound waves g after (C.Meter n) sound may h = does_sound g after (C.Meter n) T.Done sound may h
+steps_sound waves g after (C.Driver n p) sound may h = does_sound g after (C.Driver n p) T.Done sound may h
+steps_sound waves g after (C.Loop n k) sound may h = does_sound g after (C.Loop n k) T.Done sound may h
+steps_sound waves g after (C.On n) sound may h = does_sound g after (C.On n) T.Done sound may h
+steps_sound waves g after (C.Off n) sound may h = does_sound g after (C.Off n) T.Done sound may h
+steps_sound waves g after (C.Async n) sound may h = does_sound g after (C.Async n) T.Done sound may h
+steps_sound waves g after (C.Buffers port n) sound may h = does_sound g after (C.Buffers port n) T.Done sound may h
+steps_sound waves g after (C.Link from to) sound may h = does_sound g after (C.Link from to) T.Done sound may h
+steps_sound waves g after (C.Unlink from to) sound may h = does_sound g after (C.Unlink from to) T.Done sound may h
+steps_sound waves g after (C.Quantum n) sound may h = does_sound g after (C.Quantum n) T.Done sound may h
+steps_sound waves g after (C.Offer port file) sound may h = does_sound g after (C.Offer port file) T.Done sound may h
 steps_sound waves g after (C.Cycles n) sound may h = run_sound g after n sound h
 steps_sound waves g after C.Drain sound may h = run_sound g after h.0 sound h.2
 
@@ -140,7 +140,6 @@ start_sound script ports g may h = record {
     quantum = subst (IsBetween 1 8192) (sym h.quantum) may.quantum;
     events = let first = h.first in omega (arith, first);
     limit = let none = ap (λ (s : Sums). s.events) h.sums in omega (arith, none);
-    ran = λ n. let none = ap (λ (ns : List Standing). (standing ns n).ran) h.nodes ∙ none_ran n (cases_lt n count) in omega (arith, none);
   };
 } where
   count : ℕ
@@ -158,10 +157,6 @@ start_sound script ports g may h = record {
   unmarked : (n : ℕ) → (n < count) ⊎ (count ≤ n) → (standing row n).marked ≡ false
   unmarked n (inl l) = ap (λ (s : Standing). s.marked) (here n l)
   unmarked n (inr le) = ap (λ (s : Standing). s.marked) (past n le)
-
-  none_ran : (n : ℕ) → (n < count) ⊎ (count ≤ n) → (standing row n).ran ≡ 0
-  none_ran n (inl l) = ap (λ (s : Standing). s.ran) (here n l)
-  none_ran n (inr le) = ap (λ (s : Standing). s.ran) (past n le)
 
 pub started : (script : List Line) (ports : List Node) (r : Result Graph Memory) → MayStart script ports → IfOk r (IsStart script ports)
     → IfOk r IsReady

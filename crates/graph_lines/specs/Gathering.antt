@@ -1,13 +1,12 @@
 -- What an epoch is put together from: the active nodes as a row, and forms, links and fresh nodes
 -- so far.
 -- Source: this project's own.
-use Rattle.std.specs.Prelude.{◌≡◌, ◌↔◌, ◌⊎◌, ℕ, ◌+◌, ◌<◌, ◌&&◌, min, Bool, true, List, AllPairs, Contains, IsTrue, length, filter}
+use Rattle.std.specs.Prelude.{◌≡◌, ◌↔◌, ◌⊎◌, ℕ, ◌<◌, ◌&&◌, min, Bool, true, List, AllPairs, Contains, IsTrue, length, filter}
 use Rattle.std.specs.List.{AllZip}
 use Rattle.pw_base.specs.declared.ids.PortId.{PortId}
 use Rattle.pw_base.specs.declared.plan.Fresh.{Fresh}
 use Rattle.pw_base.specs.declared.plan.PortForm.{PortForm}
 use Rattle.pw_base.specs.declared.shape.Shape.{Shape}
-use Rattle.pw_base.specs.Limits.{events_limit}
 use Rattle.pw_base.specs.Pools.{is_before}
 use Rattle.wav_files.specs.declared.wav.WavIn.{WavIn}
 use Rattle.port_model.specs.declared.port_state.Node.{Node}
@@ -66,7 +65,6 @@ pub record HasFreshBelow (g : Graph) (count : ℕ) (fresh : List Fresh) : Type 0
   pub each : (n channels : ℕ) → Contains fresh (record { node = n; channels = channels })
       ↔ ((n < count) × ChannelsIn g n channels × IsFresh g n channels)
 
--- the cycles of a `drain` line, of which those above the limit of events are left out
-abbrev pub DrainsUpTo : List WavIn → Graph → ℕ → Type 0
-DrainsUpTo waves g cycles = (n : ℕ) × DrainsFor waves g n
-    × (cycles ≡ min n (events_limit + 1))
+-- the cycles of a `drain` line, of which those above a number are left out
+abbrev pub DrainsUpTo : ℕ → List WavIn → Graph → ℕ → Type 0
+DrainsUpTo most waves g cycles = (n : ℕ) × DrainsFor waves g n × (cycles ≡ min n most)

@@ -11,5 +11,7 @@ pub mod Start
 pub mod Fresh
 pub mod Epochs
 pub mod EpochLines
+pub mod Rehearsal
 pub mod Ready
 pub mod Gathering
+pub mod Upcoming

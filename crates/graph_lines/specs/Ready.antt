@@ -44,16 +44,19 @@ pub record HasReadyMarks (said : List Standing) (links : LinkState) : Type 0 whe
   pub many : length links.marks ≡ 64
   pub same : (n : ℕ) → (standing said n).marked ≡ is_marked links n
 
--- each cycle had at least three events, and no node ran in more cycles than there were
-pub record HasReadyCounts (frames next : ℕ) (sums : Sums) (said : List Standing) : Type 0 where
+-- each cycle had at least three events
+pub record HasReadyCounts (frames next : ℕ) (sums : Sums) : Type 0 where
   pub quantum : IsBetween 1 quantum_limit frames
   pub events : 3 * next ≤ sums.events
   pub limit : sums.events ≤ events_limit
-  pub ran : (n : ℕ) → (standing said n).ran ≤ next
 
 -- READY for the next line
 pub record IsReady (g : Graph) : Type 0 where
   pub nodes : HasReadyNodes g.nodes g.kinds g.ports
   pub wires : HasReadyWires g.ports g.links g.wires
   pub marks : HasReadyMarks g.nodes g.links
-  pub counts : HasReadyCounts g.quantum g.first g.sums g.nodes
+  pub counts : HasReadyCounts g.quantum g.first g.sums
+
+-- no node ran in more cycles than there were, so that the next epoch can be taken
+pub record HasRan (g : Graph) : Type 0 where
+  pub within : (n : ℕ) → (standing g.nodes n).ran ≤ g.first

@@ -10,7 +10,7 @@ use Rattle.pw_base.specs.declared.plan.Epoch.{Epoch}
 use Rattle.pw_base.specs.declared.plan.PortForm.{PortForm}
 use Rattle.pw_base.specs.declared.shape.ShapeLink.{ShapeLink}
 use Rattle.pw_base.specs.Limits.{events_limit, sink_samples_limit, block_bytes_limit}
-use Rattle.pw_base.specs.PlanSums.{is_sink, epoch_events}
+use Rattle.pw_base.specs.PlanSums.{is_sink, epoch_events, capped}
 use Rattle.pw_base.specs.Pools.{asked}
 use Rattle.graph_lines.specs.declared.limits.Sums.{Sums}
 
@@ -38,6 +38,14 @@ sums_with kinds sums epoch = record {
   events = sums.events + epoch_events epoch;
   samples = sums.samples + sink_samples kinds epoch;
   bytes = sums.bytes + block_bytes epoch;
+}
+
+-- sums of which each stays at the greatest number of 64 bits, which is above its limit
+abbrev pub capped_sums : Sums → Sums
+capped_sums sums = record {
+  events = capped sums.events;
+  samples = capped sums.samples;
+  bytes = capped sums.bytes;
 }
 
 -- THE LIMIT that sums pass: events before samples of sinks before bytes of blocks

@@ -2,10 +2,13 @@
 //!
 //! `Graph` is the graph as the lines so far have made it: `start` before the first line, `step` for
 //! any line. A line that makes an epoch goes three steps: `epoch_of` reads the epoch off the graph,
-//! `judge` says whether it passes a limit, and `take` takes it. The pieces of an epoch stand
-//! beside:
-//! `driver_of` and `active_nodes` by live links, `counted` for required counts and target lists,
-//! `form_in`, and `drain_cycles` for the cycles of a drain. `kind_made` is the kind of a new node.
+//! `judge` says whether it passes a limit, and `take` takes it. Where several graphs share limits,
+//! `next_epoch` has the epoch that a line would make, and `Sums` are added and judged apart.
+//! `rehearse` follows lines for their links alone, without epochs and sums.
+//!
+//! The pieces of an epoch stand beside: `driver_of` and `active_nodes` by live links, `counted` for
+//! required counts and target lists, `form_in`, and `drain_cycles` for the cycles of a drain.
+//! `kind_made` is the kind of a new node.
 #![tactic(auto)]
 
 mod commands;
@@ -19,12 +22,14 @@ mod graph;
 mod kinds;
 mod limits;
 mod linking;
+mod rehearsing;
 mod shaping;
 mod standing;
 mod starting;
 mod stepping;
 mod taking;
 mod unlinking;
+mod upcoming;
 mod wire;
 
 pub use draining::drain_cycles;

@@ -3,7 +3,8 @@ ghost use Rattle.std.specs.Prelude.{◌≡◌, ◌+◌, ◌*◌, filter, sum_by,
 ghost use Rattle.pw_base.specs.declared.kind.Kind.TheVariants.{Dummy};
 ghost use Rattle.pw_base.specs.Pools.{asked};
 ghost use Rattle.pw_base.specs.PlanSums.{capped, epoch_events};
-ghost use Rattle.graph_lines.specs.Sums.{form_samples, is_sink_form, sink_samples, link_bytes, block_bytes, IsJudged};
+ghost use Rattle.graph_lines.specs.Sums.{form_samples, is_sink_form, sink_samples, link_bytes, block_bytes};
+ghost use Rattle.graph_lines.specs.Sums.{sums_with, capped_sums, passed, IsJudged};
 
 use pw_base::{
     BLOCK_BYTES_LIMIT, EVENTS_LIMIT, Epoch, Kind, PortForm, SINK_SAMPLES_LIMIT, ShapeLink, Which,
@@ -113,26 +114,48 @@ fn block_bytes(epoch: &Epoch) -> u64
     total
 }
 
+impl Sums {
+    /// The sums with an epoch more. Each stays at the greatest number of 64 bits, which is above
+    /// its limit. Takes no memory; cost: one look at each form and each link of the epoch.
+    pub fn with(self, kinds: &[Kind], epoch: &Epoch) -> Sums
+        ensures { result ≡ capped_sums (sums_with kinds.now self epoch.now) }
+    {
+        let events = sum_of(self.events, epoch_events(epoch));
+        let samples = sum_of(self.samples, sink_samples(kinds, epoch));
+        let bytes = sum_of(self.bytes, block_bytes(epoch));
+        Sums {
+            events,
+            samples,
+            bytes,
+        }
+    }
+
+    /// The first limit that the sums pass: events, then samples of sinks, then bytes of blocks.
+    /// Takes no memory.
+    pub fn passed(self) -> Option<Which>
+        ensures { result ≡ passed self }
+    {
+        if EVENTS_LIMIT < self.events {
+            return Some(Which::Events);
+        }
+        if SINK_SAMPLES_LIMIT < self.samples {
+            return Some(Which::SinkSamples);
+        }
+        if BLOCK_BYTES_LIMIT < self.bytes {
+            return Some(Which::BlockBytes);
+        }
+        None
+    }
+}
+
 /// The sums with an epoch more, or the first limit that they pass: events, then samples of sinks,
 /// then bytes of blocks. Takes no memory; cost: one look at each form and each link of the epoch.
 pub fn judge(kinds: &[Kind], sums: Sums, epoch: &Epoch) -> Result<Sums, Which>
     ensures { IsJudged kinds.now sums epoch.now result }
 {
-    let events = sum_of(sums.events, epoch_events(epoch));
-    if EVENTS_LIMIT < events {
-        return Err(Which::Events);
+    let more = sums.with(kinds, epoch);
+    match more.passed() {
+        Some(which) => Err(which),
+        None => Ok(more),
     }
-    let samples = sum_of(sums.samples, sink_samples(kinds, epoch));
-    if SINK_SAMPLES_LIMIT < samples {
-        return Err(Which::SinkSamples);
-    }
-    let bytes = sum_of(sums.bytes, block_bytes(epoch));
-    if BLOCK_BYTES_LIMIT < bytes {
-        return Err(Which::BlockBytes);
-    }
-    Ok(Sums {
-        events,
-        samples,
-        bytes,
-    })
 }

@@ -2,7 +2,7 @@
 ghost use Rattle.std.specs.Prelude.{◌≡◌, ◌≤◌, map, length, IfOk};
 ghost use Rattle.pw_base.specs.Limits.{nodes_limit};
 ghost use Rattle.std.specs.List.{range_with_len};
-ghost use Rattle.graph_lines.specs.Ready.{IsReady};
+ghost use Rattle.graph_lines.specs.Ready.{IsReady, HasRan};
 ghost use Rattle.graph_lines.specs.Start.{quantum_of, kinds_of, newcomer, MayStart, IsStart};
 
 use crate::graph::Graph;
@@ -108,6 +108,7 @@ impl Graph {
         requires { MayStart lines.now ports }
         ensures start { IfOk result (IsStart lines.now ports) }
         ensures sound { IfOk result IsReady }
+        ensures ran { IfOk result HasRan }
     {
         Graph::before(alloc, lines, ports)
     }

@@ -1,11 +1,11 @@
 //! What any line does.
-ghost use Rattle.std.specs.Prelude.{◌≡◌, ◌≤◌, IfOk, All};
+ghost use Rattle.std.specs.Prelude.{◌≡◌, ◌^◌, ◌<◌, ◌≤◌, IfOk, All};
 ghost use Rattle.graph_script.specs.declared.command.Command.TheVariants.{Drain};
 ghost use Rattle.graph_lines.specs.declared.graph.Stepped.TheVariants.{Done};
 ghost use Rattle.graph_lines.specs.Conditions.{MayStep};
 ghost use Rattle.graph_lines.specs.EpochLines.{RunsFor, Steps};
 ghost use Rattle.graph_lines.specs.Gathering.{DrainsUpTo};
-ghost use Rattle.graph_lines.specs.Ready.{IsReady};
+ghost use Rattle.graph_lines.specs.Ready.{IsReady, HasRan};
 
 use crate::draining::drain_cycles;
 use crate::graph::{Graph, Stepped};
@@ -14,13 +14,14 @@ use graph_script::Command;
 use pw_base::{EVENTS_LIMIT, Items, Memory};
 use wav_files::WavIn;
 
-/// A number of cycles that passes the limit of events.
-const TOO_MANY: u64 = EVENTS_LIMIT + 1;
+/// A number of cycles that passes the limit of events: a cycle has three.
+pub(crate) const TOO_MANY: u64 = EVENTS_LIMIT + 1;
 
 impl Graph {
     // Runs for some cycles.
     fn run_for(&mut self, cycles: u32) -> Result<Stepped, Memory>
-        requires { IsReady self.old }
+        requires sound { IsReady self.old }
+        requires ran { HasRan self.old }
         ensures { IfOk result (λ stepped. RunsFor self.old cycles stepped self.new) }
     {
         if cycles == 0 {
@@ -33,30 +34,33 @@ impl Graph {
         }
     }
 
-    // The cycles of a `drain` line, at most one more than there may be events: a cycle has three.
-    fn cycles_left(&self, waves: &Items<WavIn>) -> Result<u32, Memory>
+    // The cycles of a `drain` line, of which those above `most` are left out.
+    pub(crate) fn cycles_left(&self, waves: &Items<WavIn>, most: u64) -> Result<u32, Memory>
         requires sound { IsReady self.now }
         requires channels { All (λ w. 1 ≤ w.wav.channels) waves.now }
-        ensures { IfOk result (λ cycles. DrainsUpTo waves.now self.now cycles) }
+        requires most { most < 2 ^ 32 }
+        ensures { IfOk result (λ cycles. DrainsUpTo most waves.now self.now cycles) }
     {
         let active = self.active_now()?;
         let cycles = drain_cycles(self.quantum, self.nodes.as_slice(), &active.here, waves);
-        Ok(cycles.min(TOO_MANY) as u32)
+        Ok(cycles.min(most) as u32)
     }
 
     // A `drain` line.
     fn drain(&mut self, waves: &Items<WavIn>) -> Result<Stepped, Memory>
         requires sound { IsReady self.old }
+        requires ran { HasRan self.old }
         requires channels { All (λ w. 1 ≤ w.wav.channels) waves.now }
         ensures { IfOk result (λ stepped. Steps waves.now self.old Drain stepped self.new) }
     {
-        let cycles = self.cycles_left(waves)?;
+        let cycles = self.cycles_left(waves, TOO_MANY)?;
         self.run_for(cycles)
     }
 
     // What a line does.
     fn step_line(&mut self, command: &Command, waves: &Items<WavIn>) -> Result<Stepped, Memory>
         requires sound { IsReady self.old }
+        requires ran { HasRan self.old }
         requires line { MayStep self.old command.now }
         requires channels { All (λ w. 1 ≤ w.wav.channels) waves.now }
         ensures { IfOk result (λ stepped. Steps waves.now self.old command.now stepped self.new) }
@@ -80,6 +84,7 @@ impl Graph {
     /// Public source: PipeWire's documentation, "Graph Scheduling"; the lines are this project's.
     pub fn step(&mut self, command: &Command, waves: &Items<WavIn>) -> Result<Stepped, Memory>
         requires sound { IsReady self.old }
+        requires ran { HasRan self.old }
         requires line { MayStep self.old command.now }
         requires channels { All (λ w. 1 ≤ w.wav.channels) waves.now }
         ensures line { IfOk result
@@ -87,6 +92,7 @@ impl Graph {
 
         // Where the line is done, the next one may follow.
         ensures sound { IfOk result (λ stepped. stepped ≡ Done → IsReady self.new) }
+        ensures ran { IfOk result (λ stepped. stepped ≡ Done → HasRan self.new) }
     {
         self.step_line(command, waves)
     }

@@ -7,7 +7,7 @@ ghost use Rattle.graph_lines.specs.declared.graph.Stepped.TheVariants.{Done};
 ghost use Rattle.graph_lines.specs.Activity.{standing};
 ghost use Rattle.graph_lines.specs.Epochs.{has_node};
 ghost use Rattle.graph_lines.specs.EpochLines.{cycles_in, is_heard, StandsAfter, IsAfter};
-ghost use Rattle.graph_lines.specs.Ready.{IsReady};
+ghost use Rattle.graph_lines.specs.Ready.{IsReady, HasRan};
 ghost use Rattle.graph_lines.specs.Sums.{sums_with, passed};
 
 use crate::graph::{Graph, Stepped};
@@ -30,7 +30,7 @@ fn has_node(shape: &Shape, node: u32) -> bool
 }
 
 // The cycles of an epoch that a node is active in.
-fn cycles_in(epoch: &Epoch, node: u32) -> u32
+pub(crate) fn cycles_in(epoch: &Epoch, node: u32) -> u32
     ensures { result ≡ cycles_in epoch.now node }
 {
     if has_node(&epoch.shape, node) {
@@ -59,7 +59,7 @@ fn has_form(forms: &[PortForm], node: u32) -> bool
 
 impl Graph {
     // Whether a node is a sink that has a form in an epoch.
-    fn is_heard(&self, epoch: &Epoch, node: u32) -> bool
+    pub(crate) fn is_heard(&self, epoch: &Epoch, node: u32) -> bool
         ensures { result ≡ is_heard self.now epoch.now node }
     {
         is_sink_at(self.kinds.as_slice(), node) && has_form(epoch.forms.as_slice(), node)
@@ -68,6 +68,7 @@ impl Graph {
     // What is said of a node after an epoch.
     fn standing_after(&self, epoch: &Epoch, node: u32) -> Standing
         requires sound { IsReady self.now }
+        requires ran { HasRan self.now }
         requires room { self.now.first + epoch.now.shape.cycles < 2 ^ 32 }
         requires node { node < length self.now.nodes }
         ensures { StandsAfter self.now epoch.now node result }
@@ -85,6 +86,7 @@ impl Graph {
     // What is said of all nodes after an epoch.
     fn standings_after(&self, epoch: &Epoch) -> Result<Items<Standing>, Memory>
         requires sound { IsReady self.now }
+        requires ran { HasRan self.now }
         requires room { self.now.first + epoch.now.shape.cycles < 2 ^ 32 }
         ensures many { IfOk result (λ nodes. length nodes ≡ length self.now.nodes) }
         ensures each { IfOk result (λ nodes. (n : ℕ) → n < length self.now.nodes
@@ -102,11 +104,15 @@ impl Graph {
     /// its format from then on. After `Memory` the graph is to be dropped.
     pub fn take(&mut self, epoch: Epoch, sums: Sums) -> Result<Stepped, Memory>
         requires sound { IsReady self.old }
+        requires ran { HasRan self.old }
         requires sums { sums ≡ sums_with self.old.kinds self.old.sums epoch }
         requires limits { passed sums ≡ None }
         ensures done { IfOk result (λ stepped. stepped ≡ Done) }
         ensures after { IfOk result (λ stepped. IsAfter self.old epoch self.new) }
+
+        // The next line may follow.
         ensures sound { IfOk result (λ stepped. IsReady self.new) }
+        ensures ran { IfOk result (λ stepped. HasRan self.new) }
     {
         let nodes = self.standings_after(&epoch)?;
         let cycles = epoch.shape.cycles;

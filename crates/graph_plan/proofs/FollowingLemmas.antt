@@ -24,7 +24,7 @@ use Rattle.graph_plan.proofs.FormLemmas.{port_count_is, input_count_is}
 
 module _ (waves : List WavIn) (g : Graph) (lines : List Line) (i : ℕ) (line : Line) (lt : i < length lines) (is : line ≡ get_or lines i line) where
   -- the lines that are left, with the next in front
-  next_line : drop i lines ≡ line ∷ drop (i + 1) lines
+  pub next_line : drop i lines ≡ line ∷ drop (i + 1) lines
   next_line = drop-cons lines i line lt ∙ ap (λ (l : Line). l ∷ drop (suc i) lines) (sym is) ∙ ap (λ (k : ℕ). line ∷ drop k lines) (sym (add-one i))
 
   pub follow_more : (next : Graph) (outcome : Result Graph (ℕ × Which)) → Steps waves g line.command T.Done next

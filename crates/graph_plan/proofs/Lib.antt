@@ -22,6 +22,9 @@ pub mod StartLemmas
 pub mod SoundPlanLemmas
 pub mod OwnLemmas
 pub mod FollowingLemmas
+pub mod RehearsalLemmas
+pub mod WalkLemmas
+pub mod PartitionLemmas
 pub mod EndLemmas
 pub mod FitLemmas
 pub mod ScriptLemmas

@@ -119,7 +119,7 @@ kinds_run : (g after : Graph) (n : ℕ) → RunsFor g n T.Done after → after.k
 kinds_run g after zero h = ap (λ (x : Graph). x.kinds) h.1
 kinds_run g after (suc n) h = ap (λ (x : Graph). x.kinds) h.2.1.same
 
-kinds_marked : (g after : Graph) (n : ℕ) → Marks g n after → after.kinds ≡ g.kinds
+pub kinds_marked : (g after : Graph) (n : ℕ) → Marks g n after → after.kinds ≡ g.kinds
 kinds_marked g after n (inl h) = ap (λ (x : Graph). x.kinds) h.1
 kinds_marked g after n (inr h) = ap (λ (x : Graph). x.kinds) h.1
 

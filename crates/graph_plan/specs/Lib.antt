@@ -3,6 +3,7 @@ pub mod Following
 pub mod PlanOf
 pub mod Planned
 pub mod Joining
+pub mod Parts
 pub mod ReadOff
 pub mod Reaching
 pub mod SoundWires

@@ -1,6 +1,6 @@
 //! All lines of a script, one after the other.
 ghost use Rattle.std.specs.Prelude.{◌≡◌, ◌≤◌, IfOk, All};
-ghost use Rattle.graph_lines.specs.Ready.{IsReady};
+ghost use Rattle.graph_lines.specs.Ready.{IsReady, HasRan};
 ghost use Rattle.graph_plan.specs.Conditions.{AreLinesOf};
 ghost use Rattle.graph_plan.specs.Planned.{IsFollowed};
 
@@ -17,6 +17,7 @@ pub(crate) fn follow(
     waves: &Items<WavIn>,
 ) -> Result<Graph, PlanFault>
     requires ready { IsReady graph }
+    requires ran { HasRan graph }
     requires lines { AreLinesOf graph.kinds lines.now }
     requires channels { All (λ w. 1 ≤ w.wav.channels) waves.now }
     ensures followed { IsFollowed waves.now graph lines.now result }

@@ -4,7 +4,7 @@ ghost use Rattle.pw_base.specs.SoundPlan.{IsSoundPlan};
 ghost use Rattle.cycle_model.specs.WavesFit.{WavesFit};
 ghost use Rattle.graph_script.specs.Ranges.{HasRanges};
 ghost use Rattle.graph_script.specs.Kinds.{HasKinds};
-ghost use Rattle.graph_lines.specs.Ready.{IsReady};
+ghost use Rattle.graph_lines.specs.Ready.{IsReady, HasRan};
 ghost use Rattle.graph_script.specs.Making.{NamesMade};
 ghost use Rattle.graph_plan.specs.Conditions.{AreLinesOf, AreScriptPorts, HaveWaves};
 ghost use Rattle.graph_plan.specs.Joining.{JoinsKinds};
@@ -39,6 +39,7 @@ fn into_plan(graph: Graph, names: &[Text]) -> Result<Plan, Memory>
 // The plan that the lines of a script make of a graph.
 fn plan_from(graph: Graph, script: &Script, waves: &Items<WavIn>) -> Result<Plan, PlanFault>
     requires ready { IsReady graph }
+    requires ran { HasRan graph }
     requires lines { AreLinesOf graph.kinds script.now.lines }
     requires named { length script.now.names ≡ length graph.kinds }
     requires channels { All (λ w. 1 ≤ w.wav.channels) waves.now }

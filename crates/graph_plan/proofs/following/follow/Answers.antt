@@ -23,6 +23,7 @@ loop-line-preserved c =
     c.in-Ok-Done.ensures.line in
     record {
       ready = c.in-Ok-Done.ensures.sound c.in-Ok-Done.field-0-is;
+      ran = c.in-Ok-Done.ensures.ran c.in-Ok-Done.field-0-is;
       kinds = step_kinds c.args.waves.now c.loop-line.graph c.step.new.self c.line-item.result.command s ∙ c.loop-line.invariant.kinds;
       rest = λ outcome f. c.loop-line.invariant.rest outcome (follow_more c.args.waves.now c.loop-line.graph c.args.lines.now c.loop-line.line-index
           c.line-item.result c.loop-line-test.true c.line-item.is c.step.new.self outcome s f);

@@ -1,0 +1,24 @@
+-- The epoch that a line would make, read off the graph before that line.
+-- Source: this project's script grammar.
+use Rattle.std.specs.Prelude.{◌≡◌, ℕ, zero, suc, ◌+◌, List, Option, Some, None}
+use Rattle.pw_base.specs.declared.plan.Epoch.{Epoch}
+use Rattle.pw_base.specs.Limits.{events_limit}
+use Rattle.wav_files.specs.declared.wav.WavIn.{WavIn}
+use Rattle.graph_script.specs.declared.command.Command.{Command}
+use Rattle.graph_script.specs.declared.command.Command.TheVariants as C
+use Rattle.graph_lines.specs.declared.graph.Graph.{Graph}
+use Rattle.graph_lines.specs.Epochs.{IsEpochOf}
+use Rattle.graph_lines.specs.Gathering.{DrainsUpTo}
+
+-- the epoch of so many cycles; no cycle makes none
+abbrev pub IsEpochFor : Graph → ℕ → Option Epoch → Type 0
+IsEpochFor g zero made = made ≡ None
+IsEpochFor g (suc n) made = (e : Epoch) × IsEpochOf g (suc n) e × (made ≡ Some e)
+
+-- UPCOMING: the epoch of a `cycles` or `drain` line; other lines make none. A drain counts at most
+-- one cycle more than there may be events, with which it passes their limit
+abbrev pub IsUpcoming : List WavIn → Graph → Command → Option Epoch → Type 0
+IsUpcoming waves g (C.Cycles n) made = IsEpochFor g n made
+IsUpcoming waves g C.Drain made = (n : ℕ) × DrainsUpTo (events_limit + 1) waves g n
+    × IsEpochFor g n made
+IsUpcoming waves g other made = made ≡ None

@@ -1,0 +1,20 @@
+-- The graph before the first line is ready, and its lines are those of the script.
+use Rattle.std.proofs.Common.{List, sym, subst}
+use Rattle.graph_script.specs.declared.script.Line.{Line}
+use Rattle.graph_lines.specs.Start.{MayStart, IsStart}
+use Rattle.graph_plan.specs.Conditions.{AreLinesOf}
+use Rattle.graph_plan.proofs.ScriptLemmas.{may_start, started_lines, channels_are}
+use Rattle.graph_plan.proofs.partition.part_nodes.Goals as goal
+
+pub start-requires : goal.start-requires
+start-requires c = subst (λ (ls : List Line). MayStart ls c.args.ports) (sym c.as_slice.ensures)
+    (may_start c.args.script.now c.requires.script c.requires.kinds c.args.ports c.requires.ports)
+
+pub links_made-requires-clause-lines : goal.links_made-requires-clause-lines
+links_made-requires-clause-lines c = subst (λ (ls : List Line). AreLinesOf c.in_ok-graph.graph.kinds ls) (sym c.as_slice-2.ensures)
+    (started_lines c.args.script.now c.requires.script c.requires.kinds c.args.ports c.in_ok-graph.graph
+    (subst (λ (ls : List Line). IsStart ls c.args.ports c.in_ok-graph.graph) c.as_slice.ensures c.in_ok-graph.ensures.start))
+
+pub links_made-requires-clause-channels : goal.links_made-requires-clause-channels
+links_made-requires-clause-channels c = channels_are c.args.script.now c.requires.script c.requires.kinds c.args.ports c.args.waves.now
+    c.requires.ports c.requires.waves
