@@ -118,6 +118,7 @@ fn read_file<F: Read + OpenFile>(
     limit: u64,
 ) -> Result<Loaded, FileFail>
     ensures within { IsWithin limit result }
+    ensures whole { ReadsFile (F.remaining file.old) limit result }
 {
     let size = match file.metadata() {
         Ok(about) => about.len(),
@@ -240,6 +241,9 @@ mod tests {
         let name = Items::from_slice(alloc, path.as_bytes())?;
         let other = Items::from_slice(alloc, b"no/such/folder".as_slice())?;
         let root = Items::from_slice(alloc, b"/".as_slice())?;
+        let full = Items::from_slice(alloc, b"/dev/full".as_slice())?;
+        let below = format!(in alloc; "{}/x", path.as_str())?;
+        let below = Items::from_slice(alloc, below.as_bytes())?;
         let mut files = DiskFiles::new(&rt);
         files.store(alloc, &name, b"seven and eight".as_slice())?;
         files.store(alloc, &name, b"nine".as_slice())?;
@@ -252,11 +256,18 @@ mod tests {
         assert_eq!(rt; files.load_faults, 0);
         assert_eq!(rt; letter(files.load(alloc, &root, 3)), 'f');
         assert_eq!(rt; files.load_faults, 1);
+        assert_eq!(rt; letter(files.load(alloc, &below, 3)), 'f');
+        assert_eq!(rt; files.load_faults, 2);
         assert_eq!(rt;
             files.store(alloc, &other, b"".as_slice()),
             Err(FileFail::Failed)
         );
         assert_eq!(rt; files.store_faults, 1);
+        assert_eq!(rt;
+            files.store(alloc, &full, b"nine".as_slice()),
+            Err(FileFail::Failed)
+        );
+        assert_eq!(rt; files.store_faults, 2);
         fs::remove_file(&rt, path.as_str())?;
         Ok(())
     }
