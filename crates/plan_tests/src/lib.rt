@@ -1,6 +1,7 @@
 //! Tests of graph_plan over whole scripts. They stand apart, since a crate that has tests is proved twice.
 //!
-//! `plan_text` reads a script, makes the ports of its nodes and silent waves for its sources, and plans it.
+//! `plan_text` reads a script, makes the ports of its nodes and silent waves for its sources, and
+//! plans it; `parts_text` has the nodes of its parts.
 #![tactic(auto)]
 
 #[cfg(test)]
@@ -14,6 +15,8 @@ mod fresh;
 #[cfg(test)]
 mod limits;
 #[cfg(test)]
+mod parting;
+#[cfg(test)]
 mod showing;
 mod silence;
 mod stock;
@@ -21,4 +24,4 @@ mod texts;
 
 pub use silence::Silence;
 pub use stock::{Stock, stock_of};
-pub use texts::{TextFault, plan_text};
+pub use texts::{TextFault, parts_text, plan_text};

@@ -1,4 +1,4 @@
-//! The plan of a script's text.
+//! The plan of a script's text, and its parts.
 ghost use Rattle.std.specs.Prelude.{IfOk};
 ghost use Rattle.pw_base.specs.SoundPlan.{IsSoundPlan};
 ghost use Rattle.graph_script.specs.Kinds.{HasKinds};
@@ -7,9 +7,9 @@ ghost use Rattle.graph_script.specs.Ranges.{HasRanges};
 
 use crate::silence::Silence;
 use crate::stock::{Stock, stock_of};
-use graph_plan::{PlanFault, plan};
+use graph_plan::{PlanFault, part_nodes, plan};
 use graph_script::{Script, parse};
-use pw_base::{Plan, SCRIPT_BYTES_LIMIT};
+use pw_base::{Items, Memory, Plan, SCRIPT_BYTES_LIMIT};
 use std::alloc::Global;
 
 /// Why a text has no plan.
@@ -48,6 +48,46 @@ pub fn plan_text(alloc: Global, text: &str, sources: &[Silence]) -> Result<Plan,
         Err(_fault) => Err(TextFault::NoScript),
         Ok(script) => match plan_script(alloc, &script, sources) {
             Ok(plan) => Ok(plan),
+            Err(fault) => Err(TextFault::Plan(fault)),
+        },
+    }
+}
+
+// The nodes of the parts of a script with these waves.
+fn parts_script(
+    alloc: Global,
+    script: &Script,
+    sources: &[Silence],
+) -> Result<Items<Items<u32>>, PlanFault>
+    requires ranges { HasRanges script.now }
+    requires kinds { HasKinds script.now }
+{
+    match stock_of(alloc, script.lines.as_slice(), sources) {
+        Err(_memory) => Err(PlanFault::Memory),
+        Ok(stock) => {
+            let Stock { ports, waves, .. } = stock;
+            match part_nodes(alloc, script, &waves, ports) {
+                Ok(parts) => Ok(parts),
+                Err(Memory) => Err(PlanFault::Memory),
+            }
+        }
+    }
+}
+
+/// The nodes of the parts of a text, whose sources have these waves in their order.
+pub fn parts_text(
+    alloc: Global,
+    text: &str,
+    sources: &[Silence],
+) -> Result<Items<Items<u32>>, TextFault> {
+    let bytes = text.as_bytes();
+    if (bytes.len() as u64) > SCRIPT_BYTES_LIMIT {
+        return Err(TextFault::NoScript);
+    }
+    match parse(alloc, bytes) {
+        Err(_fault) => Err(TextFault::NoScript),
+        Ok(script) => match parts_script(alloc, &script, sources) {
+            Ok(parts) => Ok(parts),
             Err(fault) => Err(TextFault::Plan(fault)),
         },
     }
