@@ -1,5 +1,5 @@
 -- Loops of a run in their lists: one more is started, adopted or done, and after the run all are done.
-use Rattle.std.proofs.Common.{◌≡◌, ℕ, ◌+◌, ◌<◌, List, [], ◌∷◌, ◌++◌, map, sym, ap, ◌∙◌, subst, arith, length-append, ⊎_elim, inl, inr}
+use Rattle.std.proofs.Common.{◌≡◌, ℕ, Bool, ◌+◌, ◌<◌, List, [], ◌∷◌, ◌++◌, map, sym, ap, ◌∙◌, subst, arith, length-append, ⊎_elim, inl, inr}
 use Rattle.std.specs.Prelude.{Contains}
 use Rattle.std.proofs.lemmas.List.{map-append}
 use Rattle.std.proofs.lemmas.List.Elements.{All-push, Contains-append_left, Contains-push}
@@ -47,10 +47,10 @@ module _ {X : Type 0} (nodes : X → List ℕ) (xs : List X) (x : X) where
   newest = subst (λ (ns : List (List ℕ)). Contains ns (nodes x)) (sym (map-append nodes xs (x ∷ []))) (Contains-push (map nodes xs) (nodes x))
 
 -- ONE MORE in its list
-module _ (shared : Shared) (given : LoopWay) (can : CanStart shared given) (l m : Lists) where
-  pub placed_listed : (start : Start) → IsStart given start → HasPlaced l start m → AreListed shared l → AreListed shared m
+module _ (shared : Shared) (named : Bool) (given : LoopWay) (can : CanStart shared given) (l m : Lists) where
+  pub placed_listed : (start : Start) → IsStart named given start → HasPlaced l start m → AreListed shared l → AreListed shared m
   placed_listed (Running h) is at old = subst (AreListed shared) (sym at) record {
-    running = All-push (λ x. CanStart shared x.promise.given.value) l.running.list h old.running (subst (CanStart shared) (sym is) can);
+    running = All-push (λ x. CanStart shared x.promise.given.value) l.running.list h old.running (subst (CanStart shared) (sym is.1) can);
     adopted = old.adopted;
     done = old.done;
   }
@@ -62,7 +62,7 @@ module _ (shared : Shared) (given : LoopWay) (can : CanStart shared given) (l m 
   placed_listed (Done s) is at old = subst (AreListed shared) (sym at) record {
     running = old.running;
     adopted = old.adopted;
-    done = All-push (IsDoneWith shared) l.done.list s old.done (done_with shared given.state s can.can_run.plan_is can.can_run.waves_are is);
+    done = All-push (IsDoneWith shared) l.done.list s old.done (done_with shared given.state s can.can_run.plan_is can.can_run.waves_are is.1);
   }
 
   pub placed_old : (start : Start) → HasPlaced l start m → (k : List ℕ) → HasLoop l k → HasLoop m k
@@ -79,15 +79,15 @@ module _ (shared : Shared) (given : LoopWay) (can : CanStart shared given) (l m 
       (λ c. inr (⊎_elim (λ d. inl d) (λ d. inr (still (λ (x : LoopState). x.nodes) l.done.list s k d)) c))
       had)
 
-  pub placed_new : (start : Start) → IsStart given start → HasPlaced l start m → HasLoop m given.state.nodes
+  pub placed_new : (start : Start) → IsStart named given start → HasPlaced l start m → HasLoop m given.state.nodes
   placed_new (Running h) is at = subst (λ (x : Lists). HasLoop x given.state.nodes) (sym at)
-      (inl (subst (Contains (nodes_under (l.running.list ++ h ∷ []))) (ap (λ (x : LoopWay). x.state.nodes) is)
+      (inl (subst (Contains (nodes_under (l.running.list ++ h ∷ []))) (ap (λ (x : LoopWay). x.state.nodes) is.1)
       (newest (λ x. x.promise.given.value.state.nodes) l.running.list h)))
   placed_new (Adopted s) is at = subst (λ (x : Lists). HasLoop x given.state.nodes) (sym at)
       (inr (inl (subst (Contains (nodes_with (l.adopted.list ++ s ∷ []))) (ap (λ (x : LoopState). x.nodes) is)
       (newest (λ (x : LoopState). x.nodes) l.adopted.list s))))
   placed_new (Done s) is at = subst (λ (x : Lists). HasLoop x given.state.nodes) (sym at)
-      (inr (inr (subst (Contains (nodes_with (l.done.list ++ s ∷ []))) is.same.nodes
+      (inr (inr (subst (Contains (nodes_with (l.done.list ++ s ∷ []))) is.1.same.nodes
       (newest (λ (x : LoopState). x.nodes) l.done.list s))))
 
   pub placed_size : (start : Start) → HasPlaced l start m → size m ≡ size l + 1

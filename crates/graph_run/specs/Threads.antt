@@ -2,7 +2,7 @@
 -- after its last epoch.
 -- Source: PipeWire's documentation, "Data loops"; that the driver's thread adopts a loop is this
 -- project's own.
-use Rattle.std.specs.Prelude.{◌≡◌, ◌⊎◌, ℕ, ◌<◌, List, Result, Contains, IfOk, IfErr, length, map, slice_index_or}
+use Rattle.std.specs.Prelude.{◌≡◌, ◌⊎◌, ℕ, ◌<◌, Bool, false, List, Result, Contains, IfOk, IfErr, length, map, slice_index_or}
 use Rattle.std.specs.declared.thread.PromisedHandle.{PromisedHandle}
 use Rattle.data_loop.specs.declared.loop_state.LoopState.{LoopState}
 use Rattle.data_loop.specs.Loops.{plan_of}
@@ -52,11 +52,12 @@ pub record Returns (given : LoopWay) (r : Result LoopState LoopWay) : Type 0 whe
   pub ok : IfOk r (HasRun given.state)
   pub err : IfErr r (λ back. back ≡ given)
 
--- what became of its start
-abbrev pub IsStart : LoopWay → Start → Type 0
-IsStart given (Running h) = h.promise.given.value ≡ given
-IsStart given (Adopted s) = s ≡ given.state
-IsStart given (Done s) = HasRun given.state s
+-- what became of its start: one that is named is adopted; of the others a thread has the loop, or
+-- its start was refused
+abbrev pub IsStart : Bool → LoopWay → Start → Type 0
+IsStart named given (Running h) = (named ≡ false) × (h.promise.given.value ≡ given)
+IsStart named given (Adopted s) = s ≡ given.state
+IsStart named given (Done s) = (named ≡ false) × HasRun given.state s
 
 -- the nodes of each loop of a list
 abbrev pub nodes_with : List LoopState → List (List ℕ)

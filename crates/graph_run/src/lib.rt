@@ -26,6 +26,7 @@ mod scope;
 mod seating;
 mod shared;
 mod starting;
+mod starts;
 mod ways;
 
 pub use alone::{AloneRun, prepare_alone, run_alone};
@@ -35,7 +36,8 @@ pub use closing::{ClosedBoards, close_all};
 pub use ended::{EndedRun, finish_run};
 pub use epochs::run_epochs;
 pub use loops::loops_of;
-pub use plan_run::run_plan;
+pub use plan_run::{run_plan, run_plan_with};
 pub use rooms::{Rooms, rooms_for};
 pub use seating::{Seating, cell_seating, loop_seating, nodes_of_loop};
+pub use starts::{AnyStarts, Starts};
 pub use ways::ways_of;

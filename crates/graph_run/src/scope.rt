@@ -9,6 +9,7 @@ use crate::leading::{Driving, Led, lead};
 use crate::lists::Lists;
 use crate::shared::{LoopWay, Shared};
 use crate::starting::start_all;
+use crate::starts::Starts;
 use board_rule::DriverSeat;
 use data_loop::LoopState;
 use pw_base::{Gate, Items, Ticker};
@@ -33,11 +34,12 @@ pub(crate) struct Ended {
 }
 
 // The run within a scope: it starts the loops, drives, and joins.
-fn run_within<'s, E, R: Threads + Wait + Sync, G: Gate + Sync, K: Ticker>(
+fn run_within<'s, E, R: Threads + Wait + Sync, G: Gate + Sync, K: Ticker, S: Starts>(
     rt: &'s R,
     gate: &'s G,
     scope: &Scope<'s, E>,
     shared: &'s Shared,
+    starts: &S,
     crew: Crew,
     adopt: &[bool],
     ticker: &mut K,
@@ -55,7 +57,7 @@ fn run_within<'s, E, R: Threads + Wait + Sync, G: Gate + Sync, K: Ticker>(
         driving,
         mut lists,
     } = crew;
-    start_all(rt, gate, scope, shared, loops, adopt, &mut lists);
+    start_all(rt, gate, scope, shared, starts, loops, adopt, &mut lists);
     let Lists {
         running,
         adopted,
@@ -75,10 +77,11 @@ fn run_within<'s, E, R: Threads + Wait + Sync, G: Gate + Sync, K: Ticker>(
 }
 
 // All epochs by all loops. The ticker comes back with what it has counted.
-fn run_scoped<'t, R: Threads + Wait + Sync, G: Gate + Sync, K: Ticker>(
+fn run_scoped<'t, R: Threads + Wait + Sync, G: Gate + Sync, K: Ticker, S: Starts>(
     rt: &R,
     gate: &G,
     shared: &Shared,
+    starts: &S,
     crew: Crew,
     adopt: &[bool],
     ticker: &'t mut K,
@@ -107,19 +110,20 @@ fn run_scoped<'t, R: Threads + Wait + Sync, G: Gate + Sync, K: Ticker>(
                 (K.ticks ticker.entry.now) (K.ticks result.1.now) }
             ensures same { result.1.ghost_name ≡ ticker.entry.ghost_name }
         {
-            let ended = run_within(rt, gate, scope, shared, crew, adopt, ticker);
+            let ended = run_within(rt, gate, scope, shared, starts, crew, adopt, ticker);
             (ended, ticker)
         },
     )
 }
 
 /// All epochs of a plan by all loops, each in a thread of its own but for those that `adopt` names
-/// and those whose start is refused: these are run by the caller's thread, which drives. Takes no
-/// memory but for the threads.
-pub(crate) fn run_threads<R: Threads + Wait + Sync, G: Gate + Sync, K: Ticker>(
+/// and those whose start is refused, by the system or by `starts`: these are run by the caller's
+/// thread, which drives. Takes no memory but for the threads.
+pub(crate) fn run_threads<R: Threads + Wait + Sync, G: Gate + Sync, K: Ticker, S: Starts>(
     rt: &R,
     gate: &G,
     shared: &Shared,
+    starts: &S,
     crew: Crew,
     adopt: &[bool],
     ticker: &mut K,
@@ -132,6 +136,6 @@ pub(crate) fn run_threads<R: Threads + Wait + Sync, G: Gate + Sync, K: Ticker>(
     ensures looked { HaveLooked crew.driving.drivers result.drivers
         (K.ticks ticker.old) (K.ticks ticker.new) }
 {
-    let (ended, _ticker) = run_scoped(rt, gate, shared, crew, adopt, ticker);
+    let (ended, _ticker) = run_scoped(rt, gate, shared, starts, crew, adopt, ticker);
     ended
 }

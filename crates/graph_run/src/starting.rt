@@ -1,10 +1,12 @@
 //! How the loops of a run are started in threads of their own.
-ghost use Rattle.std.specs.Prelude.{◌≡◌, ◌<◌, ◌≤◌, All, IfOk, IfErr, length};
-ghost use Rattle.graph_run.specs.Threads.{CanStart, HasRun, IsStart};
+ghost use Rattle.std.specs.Prelude.{◌≡◌, ◌^◌, ◌<◌, ◌≤◌, All, IfOk, IfErr, false, length};
+ghost use Rattle.ready_queues.specs.Lanes.{loops_limit};
+ghost use Rattle.graph_run.specs.Threads.{CanStart, HasRun, IsStart, Returns};
 ghost use Rattle.graph_run.specs.Lists.{AreEmpty, HaveRooms, AreListed, HasLoop, size};
 
 use crate::lists::Lists;
 use crate::shared::{LoopWay, Shared};
+use crate::starts::Starts;
 use data_loop::{LoopState, run_all};
 use pw_base::{Gate, Items};
 use std::snapshot::Snapshot;
@@ -51,6 +53,14 @@ pub(crate) fn run_loop<R: Wait, G: Gate>(
     state
 }
 
+// The bit of a loop in the word of those that could not be started.
+fn bit_of(number: u32) -> u64
+    requires few { number < loops_limit }
+    ensures { result ≡ 2 ^ number }
+{
+    1 << number
+}
+
 // What a loop's thread runs: nothing where its start was refused, which its bit says.
 fn run_unless<R: Wait, G: Gate>(
     rt: &R,
@@ -59,7 +69,8 @@ fn run_unless<R: Wait, G: Gate>(
     bit: u64,
     given: LoopWay,
 ) -> Result<LoopState, LoopWay>
-    requires { CanStart shared.now given }
+    requires can_start { CanStart shared.now given }
+    requires own { bit ≡ 2 ^ given.way.number }
     ensures ok { IfOk result (HasRun given.state) }
     ensures err { IfErr result (λ back. back ≡ given) }
 {
@@ -69,18 +80,34 @@ fn run_unless<R: Wait, G: Gate>(
     Ok(run_loop(rt, gate, shared, given))
 }
 
+// A loop whose start was refused comes back as it was, and is adopted.
+fn not_started(back: Result<LoopState, LoopWay>) -> Start
+    ensures { (given : _) → Returns given back → IsStart false given result }
+{
+    match back {
+        Ok(state) => Start::Done(state),
+        Err(given) => Start::Adopted(given.state),
+    }
+}
+
 // Starts one loop. Where the start is refused the loop comes back, and is adopted.
-fn start_one<'s, E, R: Threads + Wait + Sync, G: Gate + Sync>(
+fn start_one<'s, E, R: Threads + Wait + Sync, G: Gate + Sync, S: Starts>(
     rt: &'s R,
     gate: &'s G,
     scope: &Scope<'s, E>,
     shared: &'s Shared,
-    bit: u64,
+    starts: &S,
     given: LoopWay,
 ) -> Start
     requires { CanStart shared.now given }
-    ensures { IsStart given result }
+    ensures { IsStart false given result }
 {
+    let number = given.way.number();
+    let bit = bit_of(number);
+    if starts.refuses(number) {
+        shared.refused.fetch_or(bit, Ordering::SeqCst);
+        return not_started(run_unless(rt, gate, shared, bit, given));
+    }
     let promise = SameLoop {
         given: Snapshot::of(&given),
     };
@@ -88,39 +115,37 @@ fn start_one<'s, E, R: Threads + Wait + Sync, G: Gate + Sync>(
         Ok(handle) => Start::Running(handle),
         Err(back) => {
             shared.refused.fetch_or(bit, Ordering::SeqCst);
-            match (back.value)() {
-                Ok(state) => Start::Done(state),
-                Err(given) => Start::Adopted(given.state),
-            }
+            not_started((back.value)())
         }
     }
 }
 
-// Starts one loop, or adopts it.
-fn start_unless<'s, E, R: Threads + Wait + Sync, G: Gate + Sync>(
+// Starts one loop, or adopts it: where `adopt` says so it is not started.
+fn start_unless<'s, E, R: Threads + Wait + Sync, G: Gate + Sync, S: Starts>(
     rt: &'s R,
     gate: &'s G,
     scope: &Scope<'s, E>,
     shared: &'s Shared,
-    bit: u64,
+    starts: &S,
     adopt: bool,
     given: LoopWay,
 ) -> Start
     requires { CanStart shared.now given }
-    ensures { IsStart given result }
+    ensures { IsStart adopt given result }
 {
     if adopt {
         return Start::Adopted(given.state);
     }
-    start_one(rt, gate, scope, shared, bit, given)
+    start_one(rt, gate, scope, shared, starts, given)
 }
 
 // Starts all loops, but for those that `adopt` names. Takes no memory but for the threads.
-pub(crate) fn start_all<'s, E, R: Threads + Wait + Sync, G: Gate + Sync>(
+pub(crate) fn start_all<'s, E, R: Threads + Wait + Sync, G: Gate + Sync, S: Starts>(
     rt: &'s R,
     gate: &'s G,
     scope: &Scope<'s, E>,
     shared: &'s Shared,
+    starts: &S,
     loops: Items<LoopWay>,
     adopt: &[bool],
     lists: &mut Lists,
@@ -135,10 +160,8 @@ pub(crate) fn start_all<'s, E, R: Threads + Wait + Sync, G: Gate + Sync>(
     ensures rooms { HaveRooms (length loops) lists.new }
 {
     let mut k = 0;
-    let mut bit = 1u64;
     for given in loops.into_vec() {
-        lists.place(start_unless(rt, gate, scope, shared, bit, adopt[k], given));
+        lists.place(start_unless(rt, gate, scope, shared, starts, adopt[k], given));
         k += 1;
-        bit = bit.rotate_left(1);
     }
 }

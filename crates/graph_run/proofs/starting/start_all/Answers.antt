@@ -1,4 +1,4 @@
-use Rattle.std.proofs.Common.{◌∙◌, List, [], ◌∷◌, ◌++◌, length, sym, ap, subst, arith, length-append, append-nil}
+use Rattle.std.proofs.Common.{◌∙◌, false, get_or, List, [], ◌∷◌, ◌++◌, length, sym, ap, subst, arith, length-append, append-nil}
 use Rattle.std.specs.Prelude.{All}
 use Rattle.std.proofs.lemmas.List.{append_assoc, nil_from_length}
 use Rattle.std.proofs.lemmas.List.Elements.{All-push, All-head, All-tail}
@@ -17,16 +17,16 @@ loop-given-preserved g c = let i = c.loop-given.invariant in let steps = c.in-So
     let grown = length-append ys (x ∷ []) in let n = i.at in let count = i.count in
     let more = ap (λ (l : List LoopWay). length l) (i.rest ∙ ap (λ (l : List LoopWay). ys ++ l) steps) in
     let whole = length-append ys (x ∷ c.next.new.self.rest.items) in
-    let room = room_left (length c.args.loops) (length ys) old i.rooms i.count (omega (arith, more, whole)) in
-    let size = placed_size shared x can old new start at in record {
+    let named = get_or c.args.adopt.now c.loop-given.k false in let room = room_left (length c.args.loops) (length ys) old i.rooms i.count (omega (arith, more, whole)) in
+    let size = placed_size shared named x can old new start at in record {
       at = omega (arith, n, grown);
       rest = i.rest ∙ (ap (λ (l : List LoopWay). ys ++ l) steps ∙ sym (append_assoc ys (x ∷ []) c.next.new.self.rest.items));
       can_start = All-tail (CanStart shared) x c.next.new.self.rest.items (subst (All (CanStart shared)) steps i.can_start);
-      listed = placed_listed shared x can old new start is at i.listed;
+      listed = placed_listed shared named x can old new start is at i.listed;
       all = All-push (λ (y : LoopWay). HasLoop new y.state.nodes) ys x
-          (λ k d low. placed_old shared x can old new start at _ (i.all k d low)) (placed_new shared x can old new start is at);
+          (λ k d low. placed_old shared named x can old new start at _ (i.all k d low)) (placed_new shared named x can old new start is at);
       count = omega (arith, size, count, grown);
-      rooms = placed_rooms shared x can old new (length c.args.loops) start at room.0 room.1 room.2 i.rooms;
+      rooms = placed_rooms shared named x can old new (length c.args.loops) start at room.0 room.1 room.2 i.rooms;
     }
 
 pub returns-clause-all : goal.returns-clause-all

@@ -3,7 +3,7 @@ use Rattle.graph_run.specs.Assignment.{loop_of}
 use Rattle.graph_run.specs.Lists.{HaveRooms}
 use Rattle.graph_run.proofs.PlanRunLemmas.{crew, done_of, shapes_are, have_ended, expects, no_checks}
 use Rattle.graph_run.proofs.RunStagesLemmas.{run_looked}
-use Rattle.graph_run.proofs.plan_run.run_plan.Goals as goal
+use Rattle.graph_run.proofs.plan_run.run_plan_with.Goals as goal
 
 pub run_threads-done-requires-clause-crew : goal.run_threads-done-requires-clause-crew
 run_threads-done-requires-clause-crew g c κs within = let lists = c.in_ok-lists.lists in
