@@ -1,3 +1,4 @@
+pub mod AlikeLemmas
 pub mod AllowedLemmas
 pub mod AutomateLemmas
 pub mod CommandLineLemmas

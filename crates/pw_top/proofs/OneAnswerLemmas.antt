@@ -72,7 +72,7 @@ wave_one names seq out bytes = binds_one _ (LoadsPoints names seq out) (part_one
 idle_one : (P : Answer → Type 0) (h : Happened) → HasOne P → HasOne (Idly P h)
 idle_one P h one = record { one = λ a b p q. one.one a b p.1 q.1 }
 
-command_one : (c : CommandLine) (h : Happened) (names : Names) → HasOne (IsAnswerTo c h names)
+pub command_one : (c : CommandLine) (h : Happened) (names : Names) → HasOne (IsAnswerTo c h names)
 command_one (C.Run c) h names = run_one c h names
 command_one (C.Dump c) h names = idle_one _ h (binds_one _ DumpsBytes (load_one names 1 c.file _ _) dump_bytes_one)
 command_one (C.Filter c) h names = idle_one _ h (binds_one _ (ReadsFirst names c.b c.out) (load_one names 1 c.a _ _)

@@ -53,9 +53,11 @@ value_or d (Err e) = d
 pub ok_is : {T E : Type 0} (x y : T) (r : Result T E) → r ≡ Ok x → r ≡ Ok y → x ≡ y
 ok_is x y r h k = ap (value_or x) (sym h ∙ k)
 
--- what comes next, where there is one answer behind all that the first part gives
-module _ {T U : Type 0} (P : Expected T → Type 0) (next : T → Expected U → Type 0) (first : HasOne P)
-    (rest : (e : Expected T) (x : T) → P e → e.outcome ≡ Ok x → HasOne (next x)) where
+-- what comes next after one part, of two answers: they are in a relation where what came next is
+module _ {T U : Type 0} (P : Expected T → Type 0) (next other : T → Expected U → Type 0) (R : Expected U → Expected U → Type 0)
+    (equal : (a b : Expected U) → a ≡ b → R a b) (behind : (loads : List ℕ) (r s : Expected U) → R r s → R (gone_on loads r) (gone_on loads s))
+    (first : HasOne P) (rest : (e : Expected T) (x : T) → P e → e.outcome ≡ Ok x → (r s : Expected U) → next x r → other x s
+    → ¬ IsShort r → ¬ IsShort s → R r s) where
   refusal_is : (f g : Expected T) (s t : Status) (a b : Expected U) → P f → P g → f.outcome ≡ Err s → g.outcome ≡ Err t
       → a ≡ ended f.loads s → b ≡ ended g.loads t → ¬ IsShort a → ¬ IsShort b → a ≡ b
   refusal_is f g s t a b p q fs gt ea eb na nb =
@@ -73,26 +75,33 @@ module _ {T U : Type 0} (P : Expected T → Type 0) (next : T → Expected U →
       let same = first.one f g p q nf ng in
       cc
 
-  both_go : (f g : Expected T) (x y : T) (r s a b : Expected U) → P f → P g → f.outcome ≡ Ok x → g.outcome ≡ Ok y → next x r → next y s
-      → a ≡ gone_on f.loads r → b ≡ gone_on g.loads s → ¬ IsShort a → ¬ IsShort b → a ≡ b
+  both_go : (f g : Expected T) (x y : T) (r s a b : Expected U) → P f → P g → f.outcome ≡ Ok x → g.outcome ≡ Ok y → next x r → other y s
+      → a ≡ gone_on f.loads r → b ≡ gone_on g.loads s → ¬ IsShort a → ¬ IsShort b → R a b
   both_go f g x y r s a b p q fx gy nx ny ea eb na nb =
       let same = first.one f g p q (λ m. cc) (λ m. cc) in
       let value : x ≡ y = ok_is x y g.outcome (sym (ap (λ (e : Expected T). e.outcome) same) ∙ fx) gy in
-      let after = (rest g y q gy).one r s (subst (λ z. next z r) value nx) ny
+      let after = rest g y q gy r s (subst (λ z. next z r) value nx) ny
       (λ m. na (ap (λ e. e.outcome) ea ∙ m)) (λ m. nb (ap (λ e. e.outcome) eb ∙ m)) in
-      ea ∙ ap (λ (e : Expected T). gone_on e.loads r) same ∙ ap (λ (e : Expected U). gone_on g.loads e) after ∙ sym eb
+      let here : gone_on g.loads r ≡ a = ap (λ (e : Expected T). gone_on e.loads r) (sym same) ∙ sym ea in
+      subst (λ (z : Expected U × Expected U). R z.0 z.1) (λ i. (here i, sym eb i)) (behind g.loads r s after)
 
-  compare : (a b : Expected U) → Binds P next a → Binds P next b → ¬ IsShort a → ¬ IsShort b → a ≡ b
-  compare a b (short f p e) k na nb = absurd (na (ap (λ x. x.outcome) e))
-  compare a b (stops f s p fs e) (short g q d) na nb = absurd (nb (ap (λ x. x.outcome) d))
-  compare a b (goes f x r p fx nx e) (short g q d) na nb = absurd (nb (ap (λ x. x.outcome) d))
-  compare a b (stops f s p fs e) (stops g t q gt d) na nb = refusal_is f g s t a b p q fs gt e d na nb
-  compare a b (stops f s p fs e) (goes g y w q gy ny d) na nb = absurd (crossed g f y s a q p gy fs e na)
-  compare a b (goes f x r p fx nx e) (stops g t q gt d) na nb = absurd (crossed f g x t b p q fx gt d nb)
-  compare a b (goes f x r p fx nx e) (goes g y w q gy ny d) na nb = both_go f g x y r w a b p q fx gy nx ny e d na nb
+  pub binds_related : (a b : Expected U) → Binds P next a → Binds P other b → ¬ IsShort a → ¬ IsShort b → R a b
+  binds_related a b (short f p e) k na nb = absurd (na (ap (λ x. x.outcome) e))
+  binds_related a b (stops f s p fs e) (short g q d) na nb = absurd (nb (ap (λ x. x.outcome) d))
+  binds_related a b (goes f x r p fx nx e) (short g q d) na nb = absurd (nb (ap (λ x. x.outcome) d))
+  binds_related a b (stops f s p fs e) (stops g t q gt d) na nb = equal a b (refusal_is f g s t a b p q fs gt e d na nb)
+  binds_related a b (stops f s p fs e) (goes g y w q gy ny d) na nb = absurd (crossed g f y s a q p gy fs e na)
+  binds_related a b (goes f x r p fx nx e) (stops g t q gt d) na nb = absurd (crossed f g x t b p q fx gt d nb)
+  binds_related a b (goes f x r p fx nx e) (goes g y w q gy ny d) na nb = both_go f g x y r w a b p q fx gy nx ny e d na nb
 
+-- what comes next, where there is one answer behind all that the first part gives
+module _ {T U : Type 0} (P : Expected T → Type 0) (next : T → Expected U → Type 0) (first : HasOne P)
+    (rest : (e : Expected T) (x : T) → P e → e.outcome ≡ Ok x → HasOne (next x)) where
   pub binds_given : HasOne (Binds P next)
-  binds_given = record { one = compare }
+  binds_given = record {
+    one = binds_related P next next (λ a b. a ≡ b) (λ a b e. e) (λ loads r s e. ap (gone_on loads) e) first
+        (λ e x p is r s h k nr ns. (rest e x p is).one r s h k nr ns);
+  }
 
 -- and behind whatever it may be
 pub binds_one : {T U : Type 0} (P : Expected T → Type 0) (next : T → Expected U → Type 0) → HasOne P → ((x : T) → HasOne (next x))

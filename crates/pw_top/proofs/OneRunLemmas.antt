@@ -107,7 +107,7 @@ bytes_one names bytes = binds_given (Reads (λ outcome. outcome ≡ script_outco
     (λ e script p is. script_one script (whole bytes script (script_is (script_of bytes) script
     (part_gave [] (λ outcome. outcome ≡ script_outcome (script_of bytes)) e script p is))) names)
 
-file_one : (names : Names) (word : List ℕ) → HasOne (PlansFile names word)
+pub file_one : (names : Names) (word : List ℕ) → HasOne (PlansFile names word)
 file_one names word = binds_one _ (PlansBytes names) (load_one names 0 word _ _) (bytes_one names)
 
 plays_one : (loops : ℕ) (trace : Bool) (h : Happened) (p : Planned) → OneOutcome (PlaysTo loops trace h p)

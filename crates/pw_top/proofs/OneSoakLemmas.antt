@@ -15,7 +15,7 @@ use Rattle.soak_graph.proofs.ScriptLemmas.{text_is_read}
 known : (number : ℕ) → IsWhole (soak_script number)
 known number = whole (soak_text number) (soak_script number) (text_is_read number)
 
-number_one : (number : ℕ) → HasOne (PlansNumber number)
+pub number_one : (number : ℕ) → HasOne (PlansNumber number)
 number_one number = plans_one (soak_script number) (known number)
     (record { ports = soak_ports number; waves = soak_waves number; used = 0 }) (script_ports number)
 

@@ -1,17 +1,17 @@
 -- Laws of `specs/Surely.antt`: where no count rises, what a status says is all of the answer.
 use Rattle.std.proofs.Common.{◌≡◌, ℕ, zero, suc, ◌≤◌, subst, refl, sym, ap, inl, inr, List, ◌∙◌, arith, ◌++◌}
-use Rattle.std.specs.Prelude.{◌⊎◌, ◌≢◌, [], Some, Option, unwrap_or, Result, Ok, Err}
+use Rattle.std.specs.Prelude.{◌⊎◌, ◌≢◌, [], take, Some, Option, unwrap_or, Result, Ok, Err}
 use Rattle.pw_base.specs.Files.{Names}
-use Rattle.pw_base.specs.Output.{Gave, GavePart}
+use Rattle.pw_base.specs.Output.{Given, Gave, GavePart}
 use Rattle.pw_base.specs.Causes.{Rose}
 use Rattle.pw_top.specs.declared.status.Status.{Status}
 use Rattle.pw_top.specs.declared.status.Status.TheVariants as S
 use Rattle.pw_top.specs.declared.work.Work.{Work}
 use Rattle.pw_top.specs.Answer.{Answer}
-use Rattle.pw_top.specs.Following.{status_of, stores_of, stored_all, text_of, GaveLine}
+use Rattle.pw_top.specs.Following.{status_of, stores_of, stored_all, text_of, AllStored, CutAt, GaveLine}
 use Rattle.pw_top.specs.Headline.{Follows, Caused}
 use Rattle.pw_top.specs.StatusLine.{line_of}
-use Rattle.pw_top.specs.Surely.{output_of, IsDone, EndsSurely}
+use Rattle.pw_top.specs.Surely.{output_of, IsDone, IsCutShort, EndsSurely}
 
 some_is : {T : Type 0} {x y : T} → Some x ≡ Some y → x ≡ y
 some_is {x = x} e = ap (λ o. unwrap_or o x) e
@@ -52,6 +52,33 @@ module _ (a : Answer) (names names' : Names) (given given' : List ℕ) where
         ∙ ap (λ text. given ++ text) (sym (refused_output a.outcome e n stop));
   }
 
+  -- the first stores are whole, since none was cut by a fault
+  whole_stores : ((i : ℕ) × AllStored (take i (stores_of a.outcome)) (Some names) (Some names'))
+      ⊎ ((place : ℕ) × CutAt (stores_of a.outcome) place (Some names) (Some names') × Rose 0 0)
+      → (i : ℕ) × (names' ≡ stored_all (take i (stores_of a.outcome)) names)
+  whole_stores (inl x) = (x.0, some_is x.1)
+  whole_stores (inr x) = absurd (never_rose x.2)
+
+  -- and a prefix of the text, before the line of the status or nothing
+  text_put : (kept : ℕ) (mid : List ℕ) → mid ≡ given ++ take kept (text_of a.outcome)
+      → (Some given' ≡ Some mid) ⊎ GaveLine (line_of S.Memory) 0 0 (Some mid) (Some given')
+      → (given' ≡ given ++ take kept (text_of a.outcome)) ⊎ (given' ≡ (given ++ take kept (text_of a.outcome)) ++ line_of S.Memory)
+  text_put kept mid is (inl e) = inl (some_is e ∙ is)
+  text_put kept mid is (inr g) = inr (line_given (line_of S.Memory) mid given' g ∙ ap (λ (t : List ℕ). t ++ line_of S.Memory) is)
+
+  cut_short : ((i : ℕ) × AllStored (take i (stores_of a.outcome)) (Some names) (Some names'))
+      ⊎ ((place : ℕ) × CutAt (stores_of a.outcome) place (Some names) (Some names') × Rose 0 0)
+      → ((mid : Given) × GavePart (text_of a.outcome) (Some given) mid
+      × ((Some given' ≡ mid) ⊎ GaveLine (line_of S.Memory) 0 0 mid (Some given')))
+      → IsCutShort a names names' given given'
+  cut_short files text = let s = whole_stores files in let kept = text.1.0 in record {
+    stores = s.0;
+    files = s.1;
+    kept = kept;
+    text = text_put kept (given ++ take kept (text_of a.outcome)) refl
+        (subst (λ (m : Given). (Some given' ≡ m) ⊎ GaveLine (line_of S.Memory) 0 0 m (Some given')) text.1.1 text.2);
+  }
+
   pub ends : (status : Status) → Follows a 0 0 0 0 (Some names) (Some names') (Some given) (Some given') status
       → Caused 0 0 0 0 0 0 status → EndsSurely a names names' given given' status
   ends S.Ok f c = inl (record {
@@ -68,4 +95,4 @@ module _ (a : Answer) (names names' : Names) (given given' : List ℕ) where
   ends (S.WriteFault zero) f c = absurd (never_rose (c.0 refl))
   ends (S.WriteFault (suc n)) f c = absurd (never_rose (c.1 (λ e. grind (arith, e))))
   ends (S.Limit n which) f c = inl (refused_done (S.Limit n which) tt f.stop f.files f.text)
-  ends S.Memory f c = inr refl
+  ends S.Memory f c = inr (refl, cut_short f.files f.text)

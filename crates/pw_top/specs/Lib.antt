@@ -12,6 +12,7 @@ pub mod FormatFile
 pub mod Headline
 pub mod Loads
 pub mod Narrowing
+pub mod OneAnswer
 pub mod Options
 pub mod PlannedWork
 pub mod Playing

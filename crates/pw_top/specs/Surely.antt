@@ -1,11 +1,11 @@
 -- A call over objects that never fail: its answer is followed to its end, but for want of memory.
-use Rattle.std.specs.Prelude.{◌≡◌, ◌⊎◌, ℕ, List, ◌++◌, Result, Ok, Err}
+use Rattle.std.specs.Prelude.{◌≡◌, ◌⊎◌, ℕ, List, ◌++◌, take, Result, Ok, Err}
 use Rattle.pw_base.specs.Files.{Names}
 use Rattle.pw_top.specs.declared.status.Status.{Status}
 use Rattle.pw_top.specs.declared.status.Status.TheVariants as S
 use Rattle.pw_top.specs.declared.work.Work.{Work}
 use Rattle.pw_top.specs.Answer.{Answer}
-use Rattle.pw_top.specs.Following.{status_of, stores_of, stored_all}
+use Rattle.pw_top.specs.Following.{status_of, stores_of, stored_all, text_of}
 use Rattle.pw_top.specs.StatusLine.{line_of}
 
 -- what is given at the end: the text, or the line of a refusal
@@ -20,7 +20,17 @@ pub record IsDone (a : Answer) (names names' : Names) (given given' : List ℕ) 
   pub files : names' ≡ stored_all (stores_of a.outcome) names
   pub text : given' ≡ given ++ output_of a.outcome
 
+-- after want of memory: some stores from the first on, each whole, and a prefix of the text, then
+-- nothing or the line of the status
+pub record IsCutShort (a : Answer) (names names' : Names) (given given' : List ℕ) : Type 0 where
+  pub stores : ℕ
+  pub files : names' ≡ stored_all (take stores (stores_of a.outcome)) names
+  pub kept : ℕ
+  pub text : (given' ≡ given ++ take kept (text_of a.outcome))
+      ⊎ (given' ≡ (given ++ take kept (text_of a.outcome)) ++ line_of S.Memory)
+
 -- THE END: all was done, or memory was short
 abbrev pub EndsSurely : Answer → Names → Names → List ℕ → List ℕ → Status → Type 0
 EndsSurely a names names' given given' status =
-    IsDone a names names' given given' status ⊎ (status ≡ S.Memory)
+    IsDone a names names' given given' status
+    ⊎ ((status ≡ S.Memory) × IsCutShort a names names' given given')

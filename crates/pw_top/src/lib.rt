@@ -6,6 +6,7 @@ mod delivering;
 mod format_file;
 mod loading;
 mod loads;
+mod one_answer;
 mod options;
 mod plan_work;
 mod planned;
@@ -24,6 +25,7 @@ mod usage;
 mod wave_file;
 mod work;
 
+pub use one_answer::order_shows_in_events_alone;
 pub use status::{PodWhy, Status};
 pub use surely::run_surely;
 pub use top::{Report, run_words};

@@ -16,7 +16,8 @@ use std::sync::Wait;
 use std::thread::Threads;
 
 /// `run_words` over files and an output in memory that never fail: all that an expected answer says
-/// is done, or memory was short. No premise on faults is needed. It may wait for the loops.
+/// is done; or memory was short, and then the first of its stores are, each whole, and a prefix of
+/// its text was put. No premise on faults is needed. It may wait for the loops.
 pub fn run_surely<R: Threads + Wait + Sync, G: Gate + Sync, K: Ticker>(
     rt: &R,
     alloc: Global,
