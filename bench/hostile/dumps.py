@@ -10,6 +10,7 @@ import readers
 from worked import FORMAT, GAINS, number, pod
 
 COUNT = 10000
+WRONG_COUNT = 1000
 NAMES = {"none": 1, "bool": 2, "id": 3, "int": 4, "long": 5, "float": 6, "double": 7, "string": 8,
          "bytes": 9, "rectangle": 10, "fraction": 11, "bitmap": 12, "array": 13, "struct": 14,
          "object": 15, "sequence": 16, "fd": 18, "choice": 19}
@@ -116,10 +117,12 @@ def wrong_texts(place):
     """Texts that are no dumps: each is refused, and nothing is put."""
     program = maker(place)
     draw = random.Random(49)
-    for _ in range(1000):
+    count = 0
+    while count < WRONG_COUNT:
         status, text = readers.dump(randoms.random_pod(draw))
         if status != 0:
             continue
+        count += 1
         changed = randoms.changed(draw, text.encode())
         status, out, said = made(program, place, "pod", "-", "-", given=changed)
         if status == 0:
