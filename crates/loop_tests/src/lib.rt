@@ -13,6 +13,8 @@ mod crew;
 #[cfg(test)]
 mod queues;
 #[cfg(test)]
+mod refusals;
+#[cfg(test)]
 mod runs;
 #[cfg(test)]
 mod stepping;

@@ -93,8 +93,8 @@ pub(crate) fn has_one(outcome: &Outcome, wanted: &[i16]) -> bool {
     }
 }
 
-// Whether the sinks have kept this.
-fn have_kept(outcome: &Outcome, kept: Kept<'_>) -> bool {
+/// Whether the sinks have kept this.
+pub(crate) fn have_kept(outcome: &Outcome, kept: Kept<'_>) -> bool {
     match kept {
         Kept::One(wanted) => has_one(outcome, wanted),
         Kept::Waves(len, zeros, period) => have_waves(outcome, len, zeros, period),
