@@ -177,7 +177,40 @@ fn driver_is_woken<R: Wait>(
     sent == 0 && (first.taken(), second.taken()) == (0, 0)
 }
 
-// One of these five, by its number.
+// Who is called sees it: the loop of a pushed node until it finds its queue empty, and the driver's thread until it
+// rests. Nobody else is called.
+fn calls_are_seen<R: Wait>(
+    rt: &R,
+    ways: &Ways,
+    driver: &mut Way,
+    first: &mut Way,
+    second: &mut Way,
+) -> bool
+    requires loops { ways.now.loops ≡ 2 }
+    requires driver { IsWayOf ways.now driver.old }
+    requires first { IsWayOf ways.now first.old × (first.old.number ≡ 0) }
+    requires second { IsWayOf ways.now second.old × (second.old.number ≡ 1) }
+{
+    ways.start(first);
+    let before = [ways.is_called_soon(first), ways.is_called_soon(driver)];
+    let sent = ways.forward(rt, second, 9);
+    let called = [
+        ways.is_called_soon(first),
+        ways.is_called_soon(driver),
+        ways.is_called_soon(second),
+    ];
+    let firsts = [ways.receive(rt, first), ways.receive(rt, first)];
+    ways.rest(rt, driver);
+    let after = [ways.is_called_soon(first), ways.is_called_soon(driver)];
+    sent == 0
+        && before == [false, false]
+        && called == [true, true, false]
+        && firsts == [Some(0), None]
+        && after == [false, false]
+        && (first.number(), second.number(), driver.number()) == (0, 1, 2)
+}
+
+// One of these six, by its number.
 fn goes<R: Wait>(
     rt: &R,
     which: u32,
@@ -197,6 +230,7 @@ fn goes<R: Wait>(
         2 => full_queue_loses_nothing(rt, ways, driver, first, second),
         3 => forwarded_wakes_others(rt, ways, driver, first, second),
         4 => driver_is_woken(rt, ways, driver, first, second),
+        5 => calls_are_seen(rt, ways, driver, first, second),
         _ => false,
     }
 }
@@ -213,7 +247,7 @@ fn goes_anew<R: Wait>(rt: &R, alloc: Global, which: u32) -> bool {
 
 // The first that goes otherwise.
 fn first_unlike<R: Wait>(rt: &R, alloc: Global) -> Option<u32> {
-    for which in 0..5 {
+    for which in 0..6 {
         if !goes_anew(rt, alloc, which) {
             return Some(which);
         }
