@@ -1,0 +1,69 @@
+//! Runs of several plans at once.
+ghost use Rattle.std.specs.Prelude.{◌≡◌, ◌∷◌, All, IfOk};
+ghost use Rattle.pw_base.specs.SoundPlan.{IsSoundPlan};
+ghost use Rattle.cycle_model.specs.WavesFit.{WavesFit};
+ghost use Rattle.driver_groups.specs.GroupRun.{AreRunsOf};
+
+use crate::finishing::finish_all;
+use crate::preparing::{count_epochs, prepare_all};
+use crate::running::{Places, run_threads};
+use board_rule::Closed;
+use graph_run::prepare_alone;
+use pw_base::{Gate, Items, Memory, Part};
+use std::alloc::Global;
+use std::sync::Wait;
+use std::thread::Threads;
+use wav_files::{Outcome, WavIn};
+
+// The same of parts of which one is the first.
+fn run_some<R: Threads + Wait + Sync, G: Gate + Sync>(
+    rt: &R,
+    alloc: Global,
+    parts: &[Part],
+    head: &Part,
+    tail: &[Part],
+    waves: &Items<WavIn>,
+    gate: &G,
+) -> Result<(Items<Outcome>, Items<Closed>), Memory>
+    requires parts { parts.now ≡ head.now ∷ tail.now }
+    requires sound { All (λ p. IsSoundPlan p.plan) parts.now }
+    requires fit { All (λ p. WavesFit p.plan waves.now) parts.now }
+    ensures { IfOk result (λ r. AreRunsOf waves.now parts.now r.0 r.1) }
+{
+    let Some(epochs) = count_epochs(parts) else {
+        return Err(Memory);
+    };
+    let outcomes = Items::new(alloc).into_room(parts.len())?;
+    let closed = Items::new(alloc).into_room(epochs)?;
+    let places = Places {
+        starts: Items::new(alloc).into_room(parts.len())?,
+        ended: Items::new(alloc).into_room(parts.len())?,
+    };
+    let first = prepare_alone(alloc, &head.plan, waves)?;
+    let others = prepare_all(alloc, tail, waves)?;
+    let ended = run_threads(rt, alloc, gate, first, others, places);
+    Ok(finish_all(alloc, parts, waves, ended, outcomes, closed))
+}
+
+/// Runs the plans of all parts at once, each on its own boards: the first by the caller's thread,
+/// each other in a thread of its own, or after the first where its start is refused. It answers
+/// what the sinks and meters of each have kept and what happened in it, in the order of the parts,
+/// and the closed boards of all, one part after the other.
+///
+/// All memory is taken before the first cycle. It may wait.
+pub fn run_parts<R: Threads + Wait + Sync, G: Gate + Sync>(
+    rt: &R,
+    alloc: Global,
+    parts: &Items<Part>,
+    waves: &Items<WavIn>,
+    gate: &G,
+) -> Result<(Items<Outcome>, Items<Closed>), Memory>
+    requires sound { All (λ p. IsSoundPlan p.plan) parts.now }
+    requires fit { All (λ p. WavesFit p.plan waves.now) parts.now }
+    ensures { IfOk result (λ r. AreRunsOf waves.now parts.now r.0 r.1) }
+{
+    match parts.as_slice().split_first() {
+        None => Ok((Items::new(alloc), Items::new(alloc))),
+        Some((head, tail)) => run_some(rt, alloc, parts.as_slice(), head, tail, waves, gate),
+    }
+}

@@ -1,0 +1,11 @@
+//! Tests of the runs of several plans at once. They stand apart, since a crate that has tests is
+//! proved twice.
+//!
+//! `group_of` makes the plans of parts, each from the text of its script.
+#![tactic(auto)]
+
+mod group;
+#[cfg(test)]
+mod runs;
+
+pub use group::{Group, GroupRow, group_of};
