@@ -31,7 +31,7 @@ pub fn usage_unlike<R: Threads + Wait + Sync + AllocGlobal>(
     None
 }
 
-/// Lines of no command, and of `run`.
+/// Lines of no command, of `run`, and of `groups`.
 const OF_RUN: &'static [Usage] = &[
     ("", 0, b"usage 0\n"),
     ("play", 0, b"usage 0\n"),
@@ -48,6 +48,15 @@ const OF_RUN: &'static [Usage] = &[
     ("run s --trace --trace", 3, b"usage 3\n"),
     ("run s --trace --ticks", 4, b"usage 4\n"),
     ("run s --ticks 9 --trace --loops 0 x", 7, b"usage 7\n"),
+    ("run s --steal --steal", 3, b"usage 3\n"),
+    (
+        "run s --ticks 9 --steal --trace --loops 0 x",
+        8,
+        b"usage 8\n",
+    ),
+    ("groups", 1, b"usage 1\n"),
+    ("groups -s", 1, b"usage 1\n"),
+    ("groups s --trace", 2, b"usage 2\n"),
 ];
 
 /// Lines of `dump` and `filter`.

@@ -77,6 +77,14 @@ const LOOPS: &'static [Row<'static>] = &[
         ..MIXED
     },
     Row {
+        line: "run s.graph --loops 3 --steal",
+        ..MIXED
+    },
+    Row {
+        line: "run s.graph --steal --loops 0",
+        ..MIXED
+    },
+    Row {
         line: "run s.graph --loops 16",
         ..MIXED
     },

@@ -6,6 +6,8 @@ mod events;
 #[cfg(test)]
 mod graphs;
 #[cfg(test)]
+mod groups;
+#[cfg(test)]
 mod limits;
 #[cfg(test)]
 mod linking;

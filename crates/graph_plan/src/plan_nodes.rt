@@ -42,6 +42,21 @@ fn copy_kind(alloc: Global, kind: &Kind) -> Result<Kind, Memory>
     })
 }
 
+/// An equal node of a plan.
+pub fn copy_node(alloc: Global, node: &PlanNode) -> Result<PlanNode, Memory>
+    ensures { IfOk result (λ copied. copied ≡ node.now) }
+{
+    let name = node.name.copy(alloc)?;
+    let kind = copy_kind(alloc, &node.kind)?;
+    Ok(PlanNode {
+        name,
+        kind,
+        k: node.k,
+        rate: node.rate,
+        channels: node.channels,
+    })
+}
+
 // Whether a node is a sink or a meter.
 fn is_end(kinds: &[Kind], node: u32) -> bool
     ensures { result ≡ may_drive (slice_index_or kinds.now node Dummy) }

@@ -11,7 +11,7 @@ use Rattle.pw_top.specs.Ending.{Ends}
 use Rattle.pw_top.specs.Ending.IsEndOf.{is_end}
 use Rattle.pw_top.specs.Usage.{Words, command_of, IsRead}
 use Rattle.pw_top.specs.Playing.{Happened, IsNothing, Plays}
-use Rattle.pw_top.specs.Answer.{Answer, ended, refused}
+use Rattle.pw_top.specs.Answer.{Answer, Expected, ended, refused}
 use Rattle.pw_top.specs.Allowed.Binds.{short}
 use Rattle.pw_top.specs.CommandLine.{IsAnswer, IsAnswerTo, IsReadAnswer}
 use Rattle.pw_top.proofs.PlayingLemmas.{plays_not}
@@ -22,14 +22,18 @@ pub answer_read : (words : Words) (h : Happened) (names : Names) (c : CommandLin
 unfolding IsAnswer
 answer_read words h names c r e p = rw e p
 
+-- memory is short behind the load of a script
+abbrev first_short : {T : Type 0} → Expected T
+first_short = ended (0 ∷ []) S.Memory
+
 -- there is an answer to each line of words, where nothing happened
 some_answer : (c : Result CommandLine Status) (h : Happened) (names : Names) → IsNothing h → (a : Answer) × IsReadAnswer c h names a
-some_answer (Ok (C.Run c)) h names n =
-    (ended (0 ∷ []) S.Memory, short (ended (0 ∷ []) S.Memory) (short (ended (0 ∷ []) S.Memory) (refl, inr refl) refl) refl)
+some_answer (Ok (C.Run c)) h names n = (first_short, short first_short (short first_short (short first_short (refl, inr refl) refl) refl) refl)
 some_answer (Ok (C.Dump c)) h names n = (ended (1 ∷ []) S.Memory, (n, short (ended (1 ∷ []) S.Memory) (refl, inr refl) refl))
 some_answer (Ok (C.Filter c)) h names n = (ended (1 ∷ []) S.Memory, (n, short (ended (1 ∷ []) S.Memory) (refl, inr refl) refl))
 some_answer (Ok (C.Automate c)) h names n = (ended (1 ∷ []) S.Memory, (n, short (ended (1 ∷ []) S.Memory) (refl, inr refl) refl))
-some_answer (Ok (C.Check c)) h names n = (ended (0 ∷ []) S.Memory, (n, short (ended (0 ∷ []) S.Memory) (refl, inr refl) refl))
+some_answer (Ok (C.Check c)) h names n = (first_short, (n, short first_short (short first_short (short first_short (refl, inr refl) refl) refl) refl))
+some_answer (Ok (C.Groups c)) h names n = (first_short, short first_short (short first_short (short first_short (refl, inr refl) refl) refl) refl)
 some_answer (Ok (C.Soak c)) h names n = (ended [] S.Memory, short (ended [] S.Memory) (short (ended [] S.Memory) (refl, inr refl) refl) refl)
 some_answer (Err status) h names n = (refused status, refl)
 

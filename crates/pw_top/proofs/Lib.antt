@@ -4,9 +4,11 @@ pub mod AutomateLemmas
 pub mod CommandLineLemmas
 pub mod FormatFileLemmas
 pub mod HeadlineLemmas
+pub mod JoinedLemmas
 pub mod LoadsLemmas
 pub mod NarrowLemmas
 pub mod OneAnswerLemmas
+pub mod OneGroupsLemmas
 pub mod OneLineLemmas
 pub mod OneLoadsLemmas
 pub mod OneNarrowLemmas

@@ -24,6 +24,7 @@ use Rattle.pw_top.specs.CommandLine.{IsAnswer, IsAnswerTo, IsReadAnswer}
 use Rattle.pw_top.proofs.OnePartLemmas.{IsShort, HasOne, OneOutcome, part_one, outcomes_equal, binds_one, load_one, pod_one, held_one, format_one}
 use Rattle.pw_top.proofs.OneRunLemmas.{run_one}
 use Rattle.pw_top.proofs.OneSoakLemmas.{soak_one}
+use Rattle.pw_top.proofs.OneGroupsLemmas.{groups_one}
 use Rattle.pw_top.proofs.CheckLemmas.{check_one}
 
 -- what a filter gives
@@ -81,6 +82,7 @@ command_one (C.Automate c) h names = idle_one _ h (binds_one _ (ReadsWave names 
     (wave_one names c.seq c.out))
 command_one (C.Check c) h names = idle_one _ h (check_one names c.script c.trace)
 command_one (C.Soak c) h names = soak_one c.number h
+command_one (C.Groups c) h names = groups_one c h names
 
 read_one : (r : Result CommandLine Status) (h : Happened) (names : Names) → HasOne (IsReadAnswer r h names)
 read_one (Ok c) h names = command_one c h names

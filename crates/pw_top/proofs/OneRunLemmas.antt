@@ -26,17 +26,22 @@ use Rattle.graph_plan.proofs.PlanOneLemmas.{planned_one}
 use Rattle.graph_plan.proofs.ScriptLemmas.{lines_are, named_are}
 use Rattle.pw_top.specs.declared.commands.run.Running.{Running}
 use Rattle.pw_top.specs.declared.planned.Planned.{Planned}
+use Rattle.pw_top.specs.declared.playing.Crew.{Crew}
+use Rattle.pw_top.specs.declared.status.Status.{Status}
 use Rattle.pw_top.specs.declared.status.Status.TheVariants as S
 use Rattle.pw_top.specs.declared.stock.Stock.{Stock}
+use Rattle.pw_top.specs.declared.stocked.Stocked.{Stocked}
+use Rattle.pw_top.specs.Answer.{Expected}
 use Rattle.pw_top.specs.Allowed.{Reads}
 use Rattle.pw_top.specs.Playing.{Happened}
 use Rattle.pw_top.specs.Refusals.{script_outcome}
 use Rattle.pw_top.specs.Loads.{LoadsAll}
 use Rattle.pw_top.specs.PlannedWork.{PlansTo, KeepsPlan, PlansStock, PlaysTo, PlaysPlan}
-use Rattle.pw_top.specs.Run.{PlansScript, PlansBytes, PlansFile, IsRunAnswer}
+use Rattle.pw_top.specs.Run.{IsRunAnswer}
+use Rattle.pw_top.specs.ScriptFile.{KeepsStock, LoadsStock, ReadsScript, LoadsScript, PlansFile}
 use Rattle.pw_top.specs.Stocking.{nothing_loaded}
 use Rattle.pw_top.proofs.LoadsLemmas.{IsUnderWay, sound_start, way_start, stock_of}
-use Rattle.pw_top.proofs.OnePartLemmas.{HasOne, OneOutcome, part_one, outcomes_equal, binds_given, binds_one, part_gave, load_one}
+use Rattle.pw_top.proofs.OnePartLemmas.{HasOne, OneOutcome, part_one, outcomes_equal, ok_is, binds_given, binds_one, part_gave, went, load_one}
 use Rattle.pw_top.proofs.OneLineLemmas.{IsFresh}
 use Rattle.pw_top.proofs.OneLoadsLemmas.{all_one, all_after}
 
@@ -89,30 +94,69 @@ module _ (script : Script) (known : IsWhole script) where
   pub under_way : IsUnderWay (kinds_of script.lines) script.lines nothing_loaded.ports
   under_way = way_start script.lines nothing_loaded (lines_are script known.ranges known.kinds) known.made refl
 
-  script_one : (names : Names) → HasOne (PlansScript names script)
-  script_one names = binds_given (LoadsAll names script.lines nothing_loaded) (PlansStock script)
-      (all_one names (kinds_of script.lines) few script.lines nothing_loaded fresh_start under_way) (λ e x p is.
-      let a = all_after names (kinds_of script.lines) few script.lines nothing_loaded fresh_start under_way e x p is in
-      plans_one x (stock_of script.lines [] (record { ports = x.ports; waves = a.0.0; used = 0 }) a.0.1 a.1 refl).ports)
+  stock_one : (names : Names) → HasOne (LoadsStock names script)
+  stock_one names = binds_one (LoadsAll names script.lines nothing_loaded) (KeepsStock script)
+      (all_one names (kinds_of script.lines) few script.lines nothing_loaded fresh_start under_way)
+      (λ stock. part_one [] _ (outcomes_equal _))
+
+  stock_ports : (names : Names) (e : Expected Stock) (stock : Stock) → LoadsAll names script.lines nothing_loaded e → e.outcome ≡ Ok stock
+      → AreScriptPorts script.lines stock.ports
+  stock_ports names e stock p is =
+      let a = all_after names (kinds_of script.lines) few script.lines nothing_loaded fresh_start under_way e stock p is in
+      (stock_of script.lines [] (record { ports = stock.ports; waves = a.0.0; used = 0 }) a.0.1 a.1 refl).ports
 
 -- THE RUN of a script's file
-pub script_is : (r : Result Script ScriptFault) (script : Script) → Ok script ≡ script_outcome r → r ≡ Ok script
+script_is : (r : Result Script ScriptFault) (script : Script) → Ok script ≡ script_outcome r → r ≡ Ok script
 script_is (Ok s) script e = cc
 script_is (Err (G.At line why)) script e = cc
 script_is (Err G.Memory) script e = cc
 
-bytes_one : (names : Names) (bytes : List ℕ) → HasOne (PlansBytes names bytes)
-bytes_one names bytes = binds_given (Reads (λ outcome. outcome ≡ script_outcome (script_of bytes))) (PlansScript names)
+read_one : (names : Names) (bytes : List ℕ) → HasOne (ReadsScript names bytes)
+read_one names bytes = binds_given (Reads (λ outcome. outcome ≡ script_outcome (script_of bytes))) (LoadsStock names)
     (part_one [] (λ outcome. outcome ≡ script_outcome (script_of bytes)) (outcomes_equal (script_outcome (script_of bytes))))
-    (λ e script p is. script_one script (whole bytes script (script_is (script_of bytes) script
+    (λ e script p is. stock_one script (whole bytes script (script_is (script_of bytes) script
     (part_gave [] (λ outcome. outcome ≡ script_outcome (script_of bytes)) e script p is))) names)
 
-pub file_one : (names : Names) (word : List ℕ) → HasOne (PlansFile names word)
-file_one names word = binds_one _ (PlansBytes names) (load_one names 0 word _ _) (bytes_one names)
+pub loaded_one : (names : Names) (word : List ℕ) → HasOne (LoadsScript names word)
+loaded_one names word = binds_one _ (ReadsScript names) (load_one names 0 word _ _) (read_one names)
 
-plays_one : (loops : ℕ) (trace : Bool) (h : Happened) (p : Planned) → OneOutcome (PlaysTo loops trace h p)
-plays_one loops trace h p x y a b = a.1 ∙ sym b.1
+-- what holds of a script whose lines were loaded
+pub record IsReady (s : Stocked) : Type 0 where
+  pub whole : IsWhole s.script
+  pub ports : AreScriptPorts s.script.lines s.stock.ports
+
+pub loaded_ready : (names : Names) (word : List ℕ) (e : Expected Stocked) (s : Stocked) → LoadsScript names word e → e.outcome ≡ Ok s → IsReady s
+loaded_ready names word e s p is =
+    let w = went _ (ReadsScript names) e s p is in
+    let bytes = w.given in
+    let P : Result Script Status → Type 0 = λ outcome. outcome ≡ script_outcome (script_of bytes) in
+    let v = went (Reads P) (LoadsStock names) w.rest s w.after w.gives in
+    let script = v.given in
+    let known = whole bytes script (script_is (script_of bytes) script (part_gave [] P v.first script v.allowed v.gave)) in
+    let u = went (LoadsAll names script.lines nothing_loaded) (KeepsStock script) v.rest s v.after v.gives in
+    let stocked : Stocked = record { script = script; stock = u.given } in
+    let same : Ok s ≡ Ok stocked = part_gave [] (λ outcome. outcome ≡ Ok stocked) u.rest s u.after u.gives in
+    subst IsReady (sym (ok_is s stocked (Ok s) refl same))
+    (record { whole = known; ports = stock_ports script known names u.first u.given u.allowed u.gave })
+
+pub file_one : (names : Names) (word : List ℕ) → HasOne (PlansFile names word)
+file_one names word = binds_given (LoadsScript names word) (λ s. PlansStock s.script s.stock) (loaded_one names word)
+    (λ e s p is. let ready = loaded_ready names word e s p is in plans_one s.script ready.whole s.stock ready.ports)
+
+-- the script of a plan
+pub planned_whole : (names : Names) (word : List ℕ) (e : Expected Planned) (x : Planned) → PlansFile names word e → e.outcome ≡ Ok x → IsWhole x.script
+planned_whole names word e x p is =
+    let w = went (LoadsScript names word) (λ s. PlansStock s.script s.stock) e x p is in
+    let s = w.given in
+    let v = went (Reads (PlansTo s.script s.stock.ports s.stock.waves)) (KeepsPlan s.script s.stock.waves) w.rest x w.after w.gives in
+    let planned : Planned = record { script = s.script; waves = s.stock.waves; plan = v.given } in
+    let same : Ok x ≡ Ok planned = part_gave [] (λ outcome. outcome ≡ Ok planned) v.rest x v.after v.gives in
+    subst (λ (y : Planned). IsWhole y.script) (sym (ok_is x planned (Ok x) refl same))
+    (loaded_ready names word w.first s w.allowed w.gave).whole
+
+plays_one : (crew : Crew) (trace : Bool) (h : Happened) (p : Planned) → OneOutcome (PlaysTo crew trace h p)
+plays_one crew trace h p x y a b = a.1 ∙ sym b.1
 
 pub run_one : (c : Running) (h : Happened) (names : Names) → HasOne (IsRunAnswer c h names)
-run_one c h names = binds_one (PlansFile names c.script) (PlaysPlan c.loops c.trace h) (file_one names c.script)
-    (λ p. part_one [] (PlaysTo c.loops c.trace h p) (plays_one c.loops c.trace h p))
+run_one c h names = binds_one (PlansFile names c.script) (PlaysPlan c.crew c.trace h) (file_one names c.script)
+    (λ p. part_one [] (PlaysTo c.crew c.trace h p) (plays_one c.crew c.trace h p))

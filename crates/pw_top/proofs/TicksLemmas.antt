@@ -6,7 +6,7 @@ use Rattle.pw_top.specs.declared.status.Status.{Status}
 use Rattle.pw_top.specs.declared.usage.CommandLine.{CommandLine}
 use Rattle.pw_top.specs.declared.usage.FileWords.{FileWords}
 use Rattle.pw_top.specs.declared.usage.FilePair.{FilePair}
-use Rattle.pw_top.specs.Usage.{Words, dump_of, filter_of, automate_of, check_of, soak_with, soak_of, command_of, ticks_in}
+use Rattle.pw_top.specs.Usage.{Words, dump_of, filter_of, automate_of, check_of, soak_with, soak_of, groups_of, command_of, ticks_in}
 
 either : (b : Bool) (x y : Result CommandLine Status) → ticks_in x ≡ 0 → ticks_in y ≡ 0 → ticks_in (cond b x y) ≡ 0
 either true x y h k = h
@@ -28,6 +28,10 @@ of_check : (r : Result FilePair Status) → ticks_in (check_of r) ≡ 0
 of_check (Ok w) = refl
 of_check (Err status) = refl
 
+of_groups : (r : Result (List ℕ) Status) → ticks_in (groups_of r) ≡ 0
+of_groups (Ok script) = refl
+of_groups (Err status) = refl
+
 with_number : (n : Option ℕ) (rest : Words) → ticks_in (soak_with n rest) ≡ 0
 with_number None rest = refl
 with_number (Some n) [] = refl
@@ -46,7 +50,8 @@ no_ticks name rest other =
     (either (bytes_eq name (codes "filter")) _ _ (of_filter _)
     (either (bytes_eq name (codes "automate")) _ _ (of_automate _)
     (either (bytes_eq name (codes "check")) _ _ (of_check _)
-    (either (bytes_eq name (codes "soak")) _ _ (of_soak rest) refl)))))
+    (either (bytes_eq name (codes "soak")) _ _ (of_soak rest)
+    (either (bytes_eq name (codes "groups")) _ _ (of_groups _) refl))))))
 
 pub else_ticks : {X : Type 0} (f : X → List ℕ) (words : List X) (d : X) → 1 ≤ length words
     → bytes_eq (f (get_or words 0 d)) (codes "run") ≡ false → 0 ≡ ticks_in (command_of (map f words))

@@ -2,28 +2,20 @@
 -- Source: this project's.
 use Rattle.std.specs.Prelude.{◌≡◌, ℕ, List, [], ◌∷◌, map, codes, decimal, Result, Ok}
 use Rattle.pw_base.specs.Files.{Names}
-use Rattle.pw_base.specs.Limits.{script_bytes_limit}
 use Rattle.pw_base.specs.declared.limit.Which.TheVariants as W
 use Rattle.pw_base.specs.declared.plan.Plan.{Plan}
 use Rattle.pw_base.specs.declared.shape.Shape.{Shape}
 use Rattle.cycle_trace.specs.Words.{line}
-use Rattle.wav_files.specs.declared.wav.WavIn.{WavIn}
-use Rattle.graph_script.specs.declared.script.Script.{Script}
-use Rattle.graph_script.specs.Grammar.{script_of}
-use Rattle.port_model.specs.declared.port_state.Node.{Node}
 use Rattle.trace_check.specs.declared.checking.Verdict.TheVariants.{Legal, Illegal}
 use Rattle.trace_check.specs.declared.trace.Finding.{Finding}
 use Rattle.trace_check.specs.declared.trace.Finding.TheVariants.{Line, Events}
 use Rattle.trace_check.specs.Finding.{IsFindingOn}
+use Rattle.pw_top.specs.declared.planned.Planned.{Planned}
 use Rattle.pw_top.specs.declared.status.Status.{Status}
-use Rattle.pw_top.specs.declared.stock.Stock.{Stock}
 use Rattle.pw_top.specs.declared.work.Work.{Work}
 use Rattle.pw_top.specs.Answer.{Answer}
 use Rattle.pw_top.specs.Allowed.{Binds, Reads, IsLoad}
-use Rattle.pw_top.specs.Loads.{LoadsAll}
-use Rattle.pw_top.specs.PlannedWork.{PlansTo}
-use Rattle.pw_top.specs.Refusals.{script_outcome}
-use Rattle.pw_top.specs.Stocking.{nothing_loaded}
+use Rattle.pw_top.specs.ScriptFile.{PlansFile}
 
 -- the place of the trace, and its bytes, which are more than any run prints
 abbrev pub trace_place : ℕ
@@ -52,29 +44,11 @@ abbrev pub ChecksTrace : List (List ℕ) → Plan → List ℕ → Answer → Ty
 ChecksTrace names plan bytes = Reads (FindsTrace names (map (λ e. e.shape) plan.epochs) bytes)
 
 -- a plan is there: the trace is loaded
-abbrev pub ChecksPlan : Names → Script → List ℕ → Plan → Answer → Type 0
-ChecksPlan files script trace plan = Binds
-    (IsLoad files trace_place trace trace_bytes_limit W.TraceBytes) (ChecksTrace script.names plan)
+abbrev pub ChecksPlan : Names → List ℕ → Planned → Answer → Type 0
+ChecksPlan names trace p = Binds
+    (IsLoad names trace_place trace trace_bytes_limit W.TraceBytes)
+    (ChecksTrace p.script.names p.plan)
 
-abbrev pub ChecksPorts : Names → Script → List ℕ → List Node → List WavIn → Answer
-    → Type 0
-ChecksPorts files script trace ports waves = Binds (Reads (PlansTo script ports waves))
-    (ChecksPlan files script trace)
-
-abbrev pub ChecksStock : Names → Script → List ℕ → Stock → Answer → Type 0
-ChecksStock files script trace stock = ChecksPorts files script trace stock.ports stock.waves
-
--- the files that the script's lines name, in order; then its plan
-abbrev pub ChecksScript : Names → List ℕ → Script → Answer → Type 0
-ChecksScript files trace script = Binds (LoadsAll files script.lines nothing_loaded)
-    (ChecksStock files script trace)
-
-abbrev pub ChecksBytes : Names → List ℕ → List ℕ → Answer → Type 0
-ChecksBytes files trace bytes =
-    Binds (Reads (λ outcome. outcome ≡ script_outcome (script_of bytes)))
-    (ChecksScript files trace)
-
--- THE ANSWER
+-- THE ANSWER: the plan of the script, as of `run`, then the trace
 abbrev pub IsCheckAnswer : Names → List ℕ → List ℕ → Answer → Type 0
-IsCheckAnswer files script trace = Binds (IsLoad files 0 script script_bytes_limit W.ScriptBytes)
-    (ChecksBytes files trace)
+IsCheckAnswer names script trace = Binds (PlansFile names script) (ChecksPlan names trace)

@@ -13,6 +13,7 @@ use Rattle.pw_top.specs.Filter.{IsFilterAnswer}
 use Rattle.pw_top.specs.Automate.{IsAutomateAnswer}
 use Rattle.pw_top.specs.Check.{IsCheckAnswer}
 use Rattle.pw_top.specs.Soak.{IsSoakAnswer}
+use Rattle.pw_top.specs.GroupsWork.{IsGroupsAnswer}
 
 -- what is an answer to a command
 abbrev pub IsAnswerTo : CommandLine → Happened → Names → Answer → Type 0
@@ -22,6 +23,7 @@ IsAnswerTo (C.Filter c) h names = Idly (IsFilterAnswer names c.a c.b c.out) h
 IsAnswerTo (C.Automate c) h names = Idly (IsAutomateAnswer names c.input c.seq c.out) h
 IsAnswerTo (C.Check c) h names = Idly (IsCheckAnswer names c.script c.trace) h
 IsAnswerTo (C.Soak c) h names = IsSoakAnswer c.number h
+IsAnswerTo (C.Groups c) h names = IsGroupsAnswer c h names
 
 abbrev pub IsReadAnswer : Result CommandLine Status → Happened → Names → Answer → Type 0
 IsReadAnswer (Ok command) h names a = IsAnswerTo command h names a

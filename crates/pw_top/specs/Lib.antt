@@ -3,13 +3,17 @@ pub mod Answer
 pub mod Automate
 pub mod Check
 pub mod CommandLine
+pub mod Crews
 pub mod Delivery
 pub mod Dump
 pub mod Ending
 pub mod Filter
 pub mod Following
 pub mod FormatFile
+pub mod Groups
+pub mod GroupsWork
 pub mod Headline
+pub mod Joined
 pub mod Loads
 pub mod Narrowing
 pub mod OneAnswer
@@ -20,6 +24,7 @@ pub mod PodFile
 pub mod Preparing
 pub mod Refusals
 pub mod Run
+pub mod ScriptFile
 pub mod SinkStores
 pub mod Soak
 pub mod StatusLine

@@ -8,38 +8,41 @@ use Rattle.pw_top.specs.declared.options.Said.{Said}
 use Rattle.pw_top.specs.declared.options.Said.TheVariants.{Whole, WantsLoops, WantsTicks, Fault}
 
 abbrev pub no_options : Options
-no_options = record { loops = None; ticks = None; trace = false }
+no_options = record { loops = None; ticks = None; trace = false; steal = false }
 
 -- how many words say them: an option with a value has two
 abbrev pub words_for : Option ℕ → ℕ
 words_for None = 0
 words_for (Some value) = 2
 
-abbrev pub words_for_trace : Bool → ℕ
-words_for_trace true = 1
-words_for_trace false = 0
+abbrev pub words_for_flag : Bool → ℕ
+words_for_flag true = 1
+words_for_flag false = 0
 
 -- the index of the word behind them, which `run` and the script stand before
 abbrev pub place_after : Options → ℕ
-place_after o = 2 + words_for o.loops + words_for o.ticks + words_for_trace o.trace
+place_after o = 2 + words_for o.loops + words_for o.ticks
+    + (words_for_flag o.trace + words_for_flag o.steal)
 
--- an option begins, which was not there before; `--trace` has no value
+-- an option begins, which was not there before; `--trace` and `--steal` have no value
 abbrev pub begun : Options → List ℕ → Said
 begun o word =
     if bytes_eq word (codes "--loops") && is_none o.loops then WantsLoops o
     else (if bytes_eq word (codes "--ticks") && is_none o.ticks then WantsTicks o
     else (if bytes_eq word (codes "--trace") && not o.trace
-    then Whole (record { loops = o.loops; ticks = o.ticks; trace = true })
-    else Fault (place_after o)))
+    then Whole (record o { trace = true })
+    else (if bytes_eq word (codes "--steal") && not o.steal
+    then Whole (record o { steal = true })
+    else Fault (place_after o))))
 
 -- a value comes
 abbrev pub loops_given : Options → Option ℕ → Said
 loops_given o None = Fault (place_after o + 1)
-loops_given o (Some n) = Whole (record { loops = Some n; ticks = o.ticks; trace = o.trace })
+loops_given o (Some n) = Whole (record o { loops = Some n })
 
 abbrev pub ticks_given : Options → Option ℕ → Said
 ticks_given o None = Fault (place_after o + 1)
-ticks_given o (Some n) = Whole (record { loops = o.loops; ticks = Some n; trace = o.trace })
+ticks_given o (Some n) = Whole (record o { ticks = Some n })
 
 -- one word more: a number of loops is 0 to 16, one of ticks 1 to 1,000,000
 abbrev pub said_after : Said → List ℕ → Said

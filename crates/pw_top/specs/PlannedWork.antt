@@ -1,6 +1,6 @@
 -- What a script is planned to, and what its run stores and tells.
 -- Source: PipeWire's documentation, "Graph Scheduling"; scripts are this project's.
-use Rattle.std.specs.Prelude.{◌≡◌, ℕ, Bool, true, false, List, [], map, All, Option, Some, None, Result, Ok, Err}
+use Rattle.std.specs.Prelude.{◌≡◌, Bool, true, false, List, [], map, All, Option, Some, None, Result, Ok, Err}
 use Rattle.pw_base.specs.declared.event.Event.{Event}
 use Rattle.pw_base.specs.declared.plan.Plan.{Plan}
 use Rattle.pw_base.specs.SoundPlan.{IsSoundPlan}
@@ -15,6 +15,7 @@ use Rattle.cycle_model.specs.Rendering.{rendered_sinks, rendered_peaks}
 use Rattle.cycle_model.specs.WavesFit.{WavesFit}
 use Rattle.cycle_trace.specs.RunText.{run_text_of}
 use Rattle.pw_top.specs.declared.planned.Planned.{Planned}
+use Rattle.pw_top.specs.declared.playing.Crew.{Crew}
 use Rattle.pw_top.specs.declared.status.Status.{Status}
 use Rattle.pw_top.specs.declared.status.Status.TheVariants as S
 use Rattle.pw_top.specs.declared.stock.Stock.{Stock}
@@ -71,9 +72,9 @@ plan_work p trace history = record {
 }
 
 -- a run of it was made, and gives the work
-abbrev pub PlaysTo : ℕ → Bool → Happened → Planned → Result Work Status → Type 0
-PlaysTo loops trace h p outcome = HasRun p.plan p.waves loops h
+abbrev pub PlaysTo : Crew → Bool → Happened → Planned → Result Work Status → Type 0
+PlaysTo crew trace h p outcome = HasRun p.plan p.waves crew h
     × (outcome ≡ Ok (plan_work p trace h.history))
 
-abbrev pub PlaysPlan : ℕ → Bool → Happened → Planned → Answer → Type 0
-PlaysPlan loops trace h p = Reads (PlaysTo loops trace h p)
+abbrev pub PlaysPlan : Crew → Bool → Happened → Planned → Answer → Type 0
+PlaysPlan crew trace h p = Reads (PlaysTo crew trace h p)

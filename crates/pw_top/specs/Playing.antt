@@ -7,13 +7,14 @@ use Rattle.pw_base.specs.declared.plan.Plan.{Plan}
 use Rattle.pw_base.specs.Files.{Names, Held, names_in}
 use Rattle.wav_files.specs.declared.wav.WavIn.{WavIn}
 use Rattle.board_rule.specs.declared.closed.Closed.{Closed}
-use Rattle.graph_run.specs.Assignment.{loop_of}
 use Rattle.graph_run.specs.PlanRun.{IsRunOf}
 use Rattle.pw_top.specs.declared.played.Played.{Played}
+use Rattle.pw_top.specs.declared.playing.Crew.{Crew}
 use Rattle.pw_top.specs.declared.status.Status.{Status}
 use Rattle.pw_top.specs.declared.status.Status.TheVariants as S
 use Rattle.pw_top.specs.declared.work.Work.{Work}
 use Rattle.pw_top.specs.Answer.{Answer}
+use Rattle.pw_top.specs.Crews.{seat_in, seats_beside}
 use Rattle.pw_top.specs.Ending.{IsEndOf}
 use Rattle.pw_top.specs.Following.{status_of}
 
@@ -39,11 +40,10 @@ IsNothing h = (h.history ≡ []) × (h.closed ≡ [])
 abbrev pub HasNothing : Played → Type 0
 HasNothing played = (played.history ≡ []) × (played.closed ≡ [])
 
--- A RUN was made, of this plan on these waves by so many loops: each node was on the seat of its
--- loop
-abbrev pub HasRun : Plan → List WavIn → ℕ → Happened → Type 0
-HasRun plan waves loops h =
-    IsRunOf plan waves (loop_of plan loops) loops h.history h.closed h.before h.now
+-- A RUN was made, of this plan on these waves by a crew: each node was on its seat
+abbrev pub HasRun : Plan → List WavIn → Crew → Happened → Type 0
+HasRun plan waves crew h = IsRunOf plan waves (seat_in plan crew) (seats_beside plan crew)
+    h.history h.closed h.before h.now
 
 -- of a command that runs nothing, an answer
 abbrev pub Idly : (Answer → Type 0) → Happened → Answer → Type 0

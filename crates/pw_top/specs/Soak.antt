@@ -1,11 +1,12 @@
 -- The expected answer of `soak NUMBER`: the graph of the number is planned, and run by four loops.
 -- Nothing is loaded or stored; the line of its run is put. Source: this project's.
-use Rattle.std.specs.Prelude.{◌≡◌, ℕ, [], Result, Ok}
+use Rattle.std.specs.Prelude.{◌≡◌, ℕ, false, [], Result, Ok}
 use Rattle.soak_graph.specs.SoakChains.{soak_waves}
 use Rattle.soak_graph.specs.SoakLine.{soak_line}
 use Rattle.soak_graph.specs.SoakPorts.{soak_ports}
 use Rattle.soak_graph.specs.SoakScript.{soak_script}
 use Rattle.pw_top.specs.declared.planned.Planned.{Planned}
+use Rattle.pw_top.specs.declared.playing.Crew.{Crew}
 use Rattle.pw_top.specs.declared.status.Status.{Status}
 use Rattle.pw_top.specs.declared.work.Work.{Work}
 use Rattle.pw_top.specs.Answer.{Answer, Expected}
@@ -13,8 +14,8 @@ use Rattle.pw_top.specs.Allowed.{Binds, Reads}
 use Rattle.pw_top.specs.PlannedWork.{PlansPorts, rendered}
 use Rattle.pw_top.specs.Playing.{Happened, HasRun}
 
-abbrev pub soak_loops : ℕ
-soak_loops = 4
+abbrev pub soak_crew : Crew
+soak_crew = record { loops = 4; steal = false }
 
 -- the plan of the number's script
 abbrev pub PlansNumber : ℕ → Expected Planned → Type 0
@@ -29,7 +30,7 @@ soak_work number p = record {
 
 -- a run of it was made, and gives the line
 abbrev pub SoaksTo : ℕ → Happened → Planned → Result Work Status → Type 0
-SoaksTo number h p outcome = HasRun p.plan p.waves soak_loops h
+SoaksTo number h p outcome = HasRun p.plan p.waves soak_crew h
     × (outcome ≡ Ok (soak_work number p))
 
 abbrev pub SoaksPlan : ℕ → Happened → Planned → Answer → Type 0

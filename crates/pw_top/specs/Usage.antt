@@ -10,13 +10,13 @@ use Rattle.pw_top.specs.declared.usage.CommandLine.TheVariants as C
 use Rattle.pw_top.specs.declared.usage.FileWords.{FileWords}
 use Rattle.pw_top.specs.declared.usage.FilePair.{FilePair}
 use Rattle.pw_top.specs.Options.{options_of}
-pub use Rattle.pw_top.specs.Words.{Words, then_file, then_nothing, one_file, two_files, three_files}
+pub use Rattle.pw_top.specs.Words.{Words, IsRead, then_file, then_nothing, one_file, two_files, three_files}
 
 -- a script and its options: one loop and no ticks where nothing is said of them
 abbrev pub run_with : List ℕ → Result Options ℕ → Result CommandLine Status
 run_with script (Ok o) = Ok (C.Run (record {
   script = script;
-  loops = unwrap_or o.loops 1;
+  crew = record { loops = unwrap_or o.loops 1; steal = o.steal };
   ticks = unwrap_or o.ticks 0;
   trace = o.trace;
 }))
@@ -41,6 +41,10 @@ abbrev pub check_of : Result FilePair Status → Result CommandLine Status
 check_of (Ok w) = Ok (C.Check (record { script = w.first; trace = w.second }))
 check_of (Err status) = Err status
 
+abbrev pub groups_of : Result (List ℕ) Status → Result CommandLine Status
+groups_of (Ok script) = Ok (C.Groups (record { script = script }))
+groups_of (Err status) = Err status
+
 -- the words behind `soak`: one number
 abbrev pub soak_with : Option ℕ → Words → Result CommandLine Status
 soak_with None rest = Err (S.Usage 1)
@@ -60,7 +64,8 @@ command_of (name ∷ rest) =
     else (if bytes_eq name (codes "automate") then automate_of (three_files rest)
     else (if bytes_eq name (codes "check") then check_of (two_files rest)
     else (if bytes_eq name (codes "soak") then soak_of rest
-    else Err (S.Usage 0))))))
+    else (if bytes_eq name (codes "groups") then groups_of (one_file rest)
+    else Err (S.Usage 0)))))))
 
 -- the asks of a ticker from one late check to the next; 0 where no run asks for any
 abbrev pub ticks_in : Result CommandLine Status → ℕ
@@ -68,12 +73,5 @@ ticks_in (Ok (C.Run c)) = c.ticks
 ticks_in other = 0
 
 abbrev pub HasFewLoops : CommandLine → Type 0
-HasFewLoops (C.Run c) = c.loops ≤ loops_limit
+HasFewLoops (C.Run c) = c.crew.loops ≤ loops_limit
 HasFewLoops other = Unit {0}
-
--- the words were read as they should, or memory was short
-abbrev pub IsRead : {T : Type 0} → Result T Status → Result T Status → Type 0
-IsRead expected (Ok x) = expected ≡ Ok x
-IsRead expected (Err S.Memory) = Unit {0}
-IsRead expected (Err (S.Usage word)) = expected ≡ Err (S.Usage word)
-IsRead expected (Err _) = ⊥

@@ -1,6 +1,6 @@
 -- The words of a command line, and those that name files: of words outside the grammar, the first
 -- at fault, or their number where more are wanted. This project's.
-use Rattle.std.specs.Prelude.{ℕ, ◌==◌, ◌&&◌, Bool, false, not, nat_le, if◌then◌else◌, List, [], ◌∷◌, length, Result, Ok, Err}
+use Rattle.std.specs.Prelude.{◌≡◌, ℕ, ◌==◌, ◌&&◌, Bool, false, not, nat_le, if◌then◌else◌, List, [], ◌∷◌, length, Result, Ok, Err}
 use Rattle.pw_top.specs.declared.status.Status.{Status}
 use Rattle.pw_top.specs.declared.status.Status.TheVariants as S
 use Rattle.pw_top.specs.declared.usage.FileWords.{FileWords}
@@ -38,3 +38,10 @@ two_files words = then_file 1 words (λ a bs. then_file 2 bs
 unfoldable pub three_files : Words → Result FileWords Status
 three_files words = then_file 1 words (λ a bs. then_file 2 bs (λ b outs. then_file 3 outs
     (λ c rest. then_nothing 4 rest (record { first = a; second = b; third = c }))))
+
+-- the words were read as they should, or memory was short
+abbrev pub IsRead : {T : Type 0} → Result T Status → Result T Status → Type 0
+IsRead expected (Ok x) = expected ≡ Ok x
+IsRead expected (Err S.Memory) = Unit {0}
+IsRead expected (Err (S.Usage word)) = expected ≡ Err (S.Usage word)
+IsRead expected (Err _) = ⊥

@@ -18,6 +18,7 @@ pub struct Options {
     pub loops: Option<u32>,
     pub ticks: Option<u32>,
     pub trace: bool,
+    pub steal: bool,
 }
 
 // What the words so far say.
@@ -45,9 +46,10 @@ fn pair(value: Option<u32>) -> u32
 // The index of the word behind the options: `run`, the script and they stand before it.
 fn place_after(options: Options) -> u32
     ensures is { result ≡ place_after options }
-    ensures few { result ≤ 7 }
+    ensures few { result ≤ 8 }
 {
-    2 + pair(options.loops) + pair(options.ticks) + u32::from(options.trace)
+    let flags = u32::from(options.trace) + u32::from(options.steal);
+    2 + pair(options.loops) + pair(options.ticks) + flags
 }
 
 // An option begins that was not there before.
@@ -65,6 +67,14 @@ fn begun(options: Options, word: &[u8]) -> Said
             loops: options.loops,
             ticks: options.ticks,
             trace: true,
+            steal: options.steal,
+        })
+    } else if word == b"--steal".as_slice() && !options.steal {
+        Said::Whole(Options {
+            loops: options.loops,
+            ticks: options.ticks,
+            trace: options.trace,
+            steal: true,
         })
     } else {
         Said::Fault(place_after(options))
@@ -82,6 +92,7 @@ fn loops_given(options: Options, word: &[u8]) -> Said
             loops: Some(loops),
             ticks: options.ticks,
             trace: options.trace,
+            steal: options.steal,
         }),
     }
 }
@@ -98,6 +109,7 @@ fn ticks_given(options: Options, word: &[u8]) -> Said
             loops: options.loops,
             ticks: Some(ticks),
             trace: options.trace,
+            steal: options.steal,
         }),
     }
 }
@@ -140,6 +152,7 @@ pub fn read_options(words: &[String]) -> Result<Options, u32>
         loops: None,
         ticks: None,
         trace: false,
+        steal: false,
     });
     for word in words {
         said = said_after(said, word.as_bytes());

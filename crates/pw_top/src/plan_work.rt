@@ -62,8 +62,12 @@ fn sink_store(alloc: Global, lines: &[Line], kept: Kept) -> Result<Store, Memory
     }
 }
 
-// All that is kept, in order.
-fn sink_stores(alloc: Global, lines: &[Line], sinks: Items<Kept>) -> Result<Items<Store>, Memory>
+/// All that is kept, in order.
+pub fn sink_stores(
+    alloc: Global,
+    lines: &[Line],
+    sinks: Items<Kept>,
+) -> Result<Items<Store>, Memory>
     ensures { IfOk result (λ stores. stores ≡ map (sink_store lines.now) sinks) }
 {
     let mut stores = Items::new(alloc);

@@ -1,21 +1,25 @@
 //! What a script is once all its files are loaded: the script, its waves and its plan.
 #![tactic(auto, using(crate::proofs::AllowedLemmas::parts))]
 
-ghost use Rattle.std.specs.Prelude.{◌≡◌};
+ghost use Rattle.std.specs.Prelude.{◌≡◌, ◌≤◌, IfOk};
+ghost use Rattle.cycle_trace.specs.TraceReading.{AreNames};
 ghost use Rattle.graph_script.specs.Kinds.{HasKinds};
 ghost use Rattle.graph_script.specs.Making.{NamesMade};
 ghost use Rattle.graph_script.specs.Ranges.{HasRanges};
 ghost use Rattle.graph_plan.specs.Conditions.{AreScriptPorts, HaveWaves};
 ghost use Rattle.pw_top.specs.Ending.{Ends, CommandCause};
+ghost use Rattle.pw_top.specs.Preparing.{LoadsOnly, Tells};
+ghost use Rattle.pw_top.specs.ScriptFile.{PlansFile};
 ghost use Rattle.pw_top.specs.Stocking.{IsStockOf};
 ghost use Rattle.pw_top.specs.PlannedWork.{PlansPorts, PlansStock, IsPlayable};
 
 use crate::status::Status;
 use crate::stock::Stock;
+use crate::stocked::{Stocked, load_script};
 use graph_plan::{PlanFault, plan};
 use graph_script::Script;
 use port_model::Ports;
-use pw_base::{Items, Plan};
+use pw_base::{Files, Items, Plan, Text};
 use std::alloc::Global;
 use wav_files::WavIn;
 
@@ -41,6 +45,7 @@ pub fn plan_ports(
     requires waves { HaveWaves ports waves }
     ensures done { Ends (PlansPorts script ports waves) result }
     ensures cause { CommandCause IsPlayable 0 0 result }
+    ensures script { IfOk result (λ planned. planned.script ≡ script) }
 {
     match plan(alloc, &script, &waves, ports) {
         Err(PlanFault::Limit { line, which }) => Err(Status::Limit { place: line, which }),
@@ -61,7 +66,23 @@ pub fn plan_stock(alloc: Global, script: Script, stock: Stock) -> Result<Planned
     requires stock { IsStockOf script.lines stock }
     ensures done { Ends (PlansStock script stock) result }
     ensures cause { CommandCause IsPlayable 0 0 result }
+    ensures script { IfOk result (λ planned. planned.script ≡ script) }
 {
     let Stock { ports, waves, .. } = stock;
     plan_ports(alloc, script, waves, ports)
+}
+
+/// The plan of the script of a file, whose lines' files are loaded.
+pub fn plan_file<F: Files>(alloc: Global, files: &mut F, script: &Text) -> Result<Planned, Status>
+    ensures files { LoadsOnly (F.held files.old) (F.held files.new) (F.load_faults files.old)
+        (F.load_faults files.new) (F.store_faults files.old) (F.store_faults files.new) }
+    ensures told { Tells (F.held files.old) (λ names. PlansFile names script.now) result }
+    ensures cause { CommandCause IsPlayable (F.load_faults files.old)
+        (F.load_faults files.new) result }
+    ensures names { IfOk result (λ planned. AreNames planned.script.names) }
+{
+    match load_script(alloc, files, script) {
+        Err(status) => Err(status),
+        Ok(Stocked { script, stock }) => plan_stock(alloc, script, stock),
+    }
 }

@@ -1,9 +1,12 @@
 //! A run of what a script is planned to, and its work.
 #![tactic(auto, using(crate::proofs::AllowedLemmas::parts))]
 
-ghost use Rattle.std.specs.Prelude.{◌≡◌, ◌≤◌, IfOk, OnErr};
+ghost use Rattle.std.specs.Prelude.{◌≡◌, ◌≤◌, IfOk, OnErr, length};
 ghost use Rattle.ready_queues.specs.Lanes.{loops_limit};
+ghost use Rattle.cycle_model.specs.Rendering.{rendered_sinks, rendered_peaks};
+ghost use Rattle.graph_run.specs.PlanRun.{IsRunOf};
 ghost use Rattle.pw_top.specs.Ending.{CommandCause, IsDeliverable};
+ghost use Rattle.pw_top.specs.Crews.{seat_in, seats_beside};
 ghost use Rattle.pw_top.specs.Playing.{happened, HasNothing, HasRun, Plays};
 ghost use Rattle.pw_top.specs.PlannedWork.{rendered, IsPlayable, PlaysPlan};
 
@@ -12,42 +15,74 @@ use crate::planned::Planned;
 use crate::played::Played;
 use crate::status::Status;
 use crate::work::Work;
+use board_rule::Closed;
 use graph_run::run_plan;
 use pw_base::{Gate, Items, Memory, Ticker};
 use std::alloc::Global;
 use std::sync::Wait;
 use std::thread::Threads;
+use steal_loops::run_stealing;
 use wav_files::Outcome;
+
+/// Who runs a plan beside the driver's thread: so many loops, each with the nodes that name it, or
+/// with `steal` so many that each run any node.
+#[derive(Clone, Copy, Debug, PartialEq, Eq, Drop)]
+pub struct Crew {
+    pub loops: u32,
+    pub steal: bool,
+}
+
+// A run of a plan by a crew, none of whom is adopted.
+fn run_by<R: Threads + Wait + Sync, G: Gate + Sync, K: Ticker>(
+    rt: &R,
+    alloc: Global,
+    planned: &Planned,
+    crew: Crew,
+    adopt: &[bool],
+    gate: &G,
+    ticker: &mut K,
+) -> Result<(Outcome, Items<Closed>), Memory>
+    requires planned { IsPlayable planned.now }
+    requires few { crew.loops ≤ loops_limit }
+    requires adopt { length adopt.now ≡ crew.loops }
+    ensures sinks { IfOk result
+        (λ r. r.0.sinks ≡ rendered_sinks planned.now.plan planned.now.waves) }
+    ensures peaks { IfOk result
+        (λ r. r.0.peaks ≡ rendered_peaks planned.now.plan planned.now.waves) }
+    ensures run { IfOk result (λ r. IsRunOf planned.now.plan planned.now.waves
+        (seat_in planned.now.plan crew) (seats_beside planned.now.plan crew)
+        r.0.history r.1 (K.ticks ticker.old) (K.ticks ticker.new)) }
+    ensures later { K.ticks ticker.old ≤ K.ticks ticker.new }
+{
+    let plan = &planned.plan;
+    let waves = &planned.waves;
+    if crew.steal {
+        run_stealing(rt, alloc, plan, waves, crew.loops, adopt, gate, ticker)
+    } else {
+        run_plan(rt, alloc, plan, waves, crew.loops, adopt, gate, ticker)
+    }
+}
 
 /// Runs a plan, no loop of which is adopted. What happened is left in `played`. It may wait.
 pub fn run_planned<R: Threads + Wait + Sync, G: Gate + Sync, K: Ticker>(
     rt: &R,
     alloc: Global,
     planned: &Planned,
-    loops: u32,
+    crew: Crew,
     gate: &G,
     ticker: &mut K,
     played: &mut Played,
 ) -> Result<Outcome, Memory>
     requires planned { IsPlayable planned.now }
-    requires few { loops ≤ loops_limit }
+    requires few { crew.loops ≤ loops_limit }
     ensures outcome { IfOk result (λ o. o ≡ rendered planned.now.plan planned.now.waves) }
-    ensures run { IfOk result (λ o. HasRun planned.now.plan planned.now.waves loops
+    ensures run { IfOk result (λ o. HasRun planned.now.plan planned.now.waves crew
         (happened played.new (K.ticks ticker.old) (K.ticks ticker.new))) }
     ensures none { OnErr result (played.new ≡ played.old) }
     ensures later { K.ticks ticker.old ≤ K.ticks ticker.new }
 {
-    let adopt = Items::filled(alloc, loops as usize, false)?;
-    match run_plan(
-        rt,
-        alloc,
-        &planned.plan,
-        &planned.waves,
-        loops,
-        adopt.as_slice(),
-        gate,
-        ticker,
-    ) {
+    let adopt = Items::filled(alloc, crew.loops as usize, false)?;
+    match run_by(rt, alloc, planned, crew, adopt.as_slice(), gate, ticker) {
         Err(memory) => Err(memory),
         Ok(
             (
@@ -70,28 +105,28 @@ pub fn run_planned<R: Threads + Wait + Sync, G: Gate + Sync, K: Ticker>(
     }
 }
 
-/// Runs what is planned by so many loops, and gives its work. What happened is left in `played`,
+/// Runs what is planned by a crew of loops, and gives its work. What happened is left in `played`,
 /// also where memory is short for the work. It may wait.
 pub fn play_planned<R: Threads + Wait + Sync, G: Gate + Sync, K: Ticker>(
     rt: &R,
     alloc: Global,
     planned: &Planned,
-    loops: u32,
+    crew: Crew,
     trace: bool,
     gate: &G,
     ticker: &mut K,
     played: &mut Played,
 ) -> Result<Work, Status>
     requires planned { IsPlayable planned.now }
-    requires few { loops ≤ loops_limit }
+    requires few { crew.loops ≤ loops_limit }
     requires none { HasNothing played.old }
     ensures done { Plays
-        (PlaysPlan loops trace (happened played.new (K.ticks ticker.old) (K.ticks ticker.new))
+        (PlaysPlan crew trace (happened played.new (K.ticks ticker.old) (K.ticks ticker.new))
         planned.now) (happened played.new (K.ticks ticker.old) (K.ticks ticker.new)) result }
     ensures cause { CommandCause IsDeliverable 0 0 result }
     ensures later { K.ticks ticker.old ≤ K.ticks ticker.new }
 {
-    match run_planned(rt, alloc, planned, loops, gate, ticker, played) {
+    match run_planned(rt, alloc, planned, crew, gate, ticker, played) {
         Err(_memory) => Err(Status::Memory),
         Ok(outcome) => match plan_work(alloc, planned, trace, &played.history, outcome) {
             Err(_memory) => Err(Status::Memory),

@@ -53,6 +53,7 @@ impl CommandLine {
             CommandLine::Automate(command) => command.prepare(alloc, files),
             CommandLine::Check(command) => command.prepare(alloc, files),
             CommandLine::Soak(command) => command.play(rt, alloc, gate, ticker, played),
+            CommandLine::Groups(command) => command.play(rt, alloc, files, gate, played),
         }
     }
 }
@@ -107,7 +108,9 @@ pub struct Report {
 /// With `run`, the history and the closed boards are those of a run of the script's plan by the
 /// loops that the words name, and with `soak` of the plan of the number's script by four: one board
 /// an epoch, with the events of a legal history, on which each link gave the samples of the cycle
-/// function. It may wait for the loops.
+/// function. Each node was on the seat of its loop; with `--steal`, each node that never drives had
+/// a seat that no other had. With `groups` they are those of a run of each part of the script, one
+/// part after the other. It may wait for the loops.
 pub fn run_words<R: Threads + Wait + Sync, F: Files, O: Sink, G: Gate + Sync, K: Ticker>(
     rt: &R,
     alloc: Global,

@@ -1,7 +1,7 @@
 //! The words of a command line.
 ghost use Rattle.std.specs.Prelude.{◌≡◌, ℕ, ◌<◌, map, string_bytes, length, IfOk, Ok};
 ghost use Rattle.pw_top.specs.Words.{is_file_word, then_file, then_nothing, one_file, two_files, three_files};
-ghost use Rattle.pw_top.specs.Usage.{run_with, run_of, dump_of, filter_of, automate_of, check_of, soak_of, command_of, ticks_in};
+ghost use Rattle.pw_top.specs.Usage.{run_with, run_of, dump_of, filter_of, automate_of, check_of, soak_of, groups_of, command_of, ticks_in};
 ghost use Rattle.pw_top.specs.Usage.{IsRead, HasFewLoops};
 ghost use Rattle.pw_top.specs.Options.{HasFew};
 
@@ -9,9 +9,11 @@ use crate::commands::automate::AutomateFile;
 use crate::commands::check_traces::CheckTrace;
 use crate::commands::dump::DumpFile;
 use crate::commands::filter_files::FilterFiles;
+use crate::commands::groups::Grouping;
 use crate::commands::run::Running;
 use crate::commands::soak::Soaking;
 use crate::options::{Options, read_options};
+use crate::playing::Crew;
 use crate::status::Status;
 use graph_script::number_within;
 use pw_base::{Items, Text};
@@ -26,6 +28,7 @@ pub enum CommandLine {
     Automate(AutomateFile),
     Check(CheckTrace),
     Soak(Soaking),
+    Groups(Grouping),
 }
 
 /// Two words that name files.
@@ -215,7 +218,10 @@ fn run_with(alloc: Global, script: &String, options: Options) -> Result<CommandL
         Err(_memory) => Err(Status::Memory),
         Ok(script) => Ok(CommandLine::Run(Running {
             script,
-            loops: options.loops.unwrap_or(1),
+            crew: Crew {
+                loops: options.loops.unwrap_or(1),
+                steal: options.steal,
+            },
             ticks: options.ticks.unwrap_or(0),
             trace: options.trace,
         })),
@@ -326,6 +332,17 @@ fn read_soak(rest: &[String]) -> Result<CommandLine, Status>
     }
 }
 
+// `groups SCRIPT`, behind its first word.
+fn read_groups(alloc: Global, rest: &[String]) -> Result<CommandLine, Status>
+    ensures read { IsRead (groups_of (one_file (map string_bytes rest.now))) result }
+    ensures few { IfOk result HasFewLoops }
+{
+    match one_file(alloc, rest) {
+        Ok(script) => Ok(CommandLine::Groups(Grouping { script })),
+        Err(status) => Err(status),
+    }
+}
+
 /// What the words ask for, or the first word at fault.
 #[tactic(auto, unfolding(crate::specs::Usage::command_of))]
 pub fn read_words(alloc: Global, words: &[String]) -> Result<CommandLine, Status>
@@ -347,6 +364,8 @@ pub fn read_words(alloc: Global, words: &[String]) -> Result<CommandLine, Status
                 read_check(alloc, rest)
             } else if name.as_bytes() == b"soak".as_slice() {
                 read_soak(rest)
+            } else if name.as_bytes() == b"groups".as_slice() {
+                read_groups(alloc, rest)
             } else {
                 Err(Status::Usage { word: 0 })
             }

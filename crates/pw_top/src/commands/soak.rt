@@ -9,7 +9,7 @@ ghost use Rattle.pw_top.specs.Soak.{PlansNumber, SoaksPlan, soak_work, IsSoakAns
 
 use crate::planned::{Planned, plan_ports};
 use crate::played::Played;
-use crate::playing::run_planned;
+use crate::playing::{Crew, run_planned};
 use crate::status::Status;
 use crate::work::Work;
 use pw_base::{Gate, Items, Memory, Ticker};
@@ -107,7 +107,11 @@ fn soak_planned<R: Threads + Wait + Sync, G: Gate + Sync, K: Ticker>(
     ensures cause { CommandCause IsDeliverable 0 0 result }
     ensures later { K.ticks ticker.old ≤ K.ticks ticker.new }
 {
-    match run_planned(rt, alloc, planned, LOOPS, gate, ticker, played) {
+    let crew = Crew {
+        loops: LOOPS,
+        steal: false,
+    };
+    match run_planned(rt, alloc, planned, crew, gate, ticker, played) {
         Err(_memory) => Err(Status::Memory),
         Ok(outcome) => match soak_work(alloc, number, planned, &outcome) {
             Err(_memory) => Err(Status::Memory),

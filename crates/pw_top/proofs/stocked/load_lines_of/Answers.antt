@@ -1,5 +1,5 @@
--- The lines may be loaded, and what they leave may be planned.
-use Rattle.std.proofs.Common.{◌≤◌, List, length, sym, subst, arith}
+-- The lines may be loaded, and the script is kept with what they load.
+use Rattle.std.proofs.Common.{◌≤◌, List, [], length, refl, sym, subst, arith}
 use Rattle.std.specs.Prelude.{Ok, Err}
 use Rattle.pw_base.specs.Files.{names_in}
 use Rattle.graph_script.specs.declared.script.Line.{Line}
@@ -9,10 +9,10 @@ use Rattle.graph_plan.specs.Conditions.{AreLinesOf}
 use Rattle.graph_plan.proofs.ScriptLemmas.{lines_are, named_are}
 use Rattle.pw_top.specs.Ending.{Ends}
 use Rattle.pw_top.specs.Loads.{LoadsAll}
-use Rattle.pw_top.specs.PlannedWork.{PlansStock}
+use Rattle.pw_top.specs.ScriptFile.{KeepsStock}
 use Rattle.pw_top.specs.Stocking.{nothing_loaded, IsStockOf}
-use Rattle.pw_top.proofs.AllowedLemmas.{binds_goes, binds_stops}
-use Rattle.pw_top.proofs.commands.run.plan_script.Goals as goal
+use Rattle.pw_top.proofs.AllowedLemmas.{binds_goes, binds_stops, part_gives}
+use Rattle.pw_top.proofs.stocked.load_lines_of.Goals as goal
 
 pub load_all-requires : goal.load_all-requires
 load_all-requires g c =
@@ -26,21 +26,21 @@ load_all-requires g c =
       few = subst (λ (ls : List Line). length (kinds_of ls) ≤ 63) (sym c.as_slice.ensures) few;
     }
 
-pub plan_stock-requires : goal.plan_stock-requires
-plan_stock-requires g c = record {
+pub returns-in-Ok-clause-cause : goal.returns-in-Ok-clause-cause
+returns-in-Ok-clause-cause g c = record {
   ranges = c.requires.ranges;
   kinds = c.requires.kinds;
-  made = c.requires.order.made;
+  order = c.requires.order;
   stock = subst (λ (ls : List Line). IsStockOf ls c.in-Ok.stock) c.as_slice.ensures c.in-Ok.ensures.cause;
 }
 
 pub returns-in-Ok-clause-told : goal.returns-in-Ok-clause-told
 returns-in-Ok-clause-told g c = λ h. let names = names_in (g.F.Files.held c.args.files.now) in
-    binds_goes (LoadsAll names c.args.script.lines nothing_loaded) (PlansStock c.args.script) c.in-Ok.stock c.plan_stock.result
+    binds_goes (LoadsAll names c.args.script.lines nothing_loaded) (KeepsStock c.args.script) c.in-Ok.stock _
     (subst (λ (ls : List Line). Ends (LoadsAll names ls nothing_loaded) (Ok c.in-Ok.stock)) c.as_slice.ensures (c.in-Ok.ensures.told h))
-    c.plan_stock.ensures.done
+    (part_gives [] _ _ refl)
 
 pub returns-in-Err-clause-told : goal.returns-in-Err-clause-told
 returns-in-Err-clause-told g c = λ h. let names = names_in (g.F.Files.held c.args.files.now) in
-    binds_stops (LoadsAll names c.args.script.lines nothing_loaded) (PlansStock c.args.script) c.in-Err.status
+    binds_stops (LoadsAll names c.args.script.lines nothing_loaded) (KeepsStock c.args.script) c.in-Err.status
     (subst (λ (ls : List Line). Ends (LoadsAll names ls nothing_loaded) (Err c.in-Err.status)) c.as_slice.ensures (c.in-Err.ensures.told h))

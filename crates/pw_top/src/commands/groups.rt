@@ -1,0 +1,118 @@
+//! `groups SCRIPT`: the script is loaded and read, then the files that its lines name; then each of its
+//! parts is planned, and all are run at once.
+#![tactic(auto, using(crate::proofs::AllowedLemmas::parts))]
+
+ghost use Rattle.std.specs.Prelude.{◌≡◌, ◌≤◌, ℕ, length, IfOk, OnErr};
+ghost use Rattle.pw_top.specs.Ending.{CommandCause, IsDeliverable};
+ghost use Rattle.pw_top.specs.Groups.{CanBeGrouped, parts_outcome};
+ghost use Rattle.pw_top.specs.GroupsWork.{groups_work, HasGroupsRun, GroupsPlan, IsGroupsAnswer};
+ghost use Rattle.pw_top.specs.Playing.{happened, HasNothing, Plays, TellsPlay};
+ghost use Rattle.pw_top.specs.Preparing.{LoadsOnly};
+
+use crate::joined::{all_of, in_order, joined_plan};
+use crate::parted::{Parted, parts_file};
+use crate::plan_work::sink_stores;
+use crate::played::Played;
+use crate::status::Status;
+use crate::work::Work;
+use cycle_trace::run_text;
+use driver_groups::run_parts;
+use pw_base::{Files, Gate, Items, Memory, Text};
+use std::alloc::Global;
+use std::sync::Wait;
+use std::thread::Threads;
+use wav_files::Outcome;
+
+/// Runs each part of the script of a file, each by a thread of its own.
+#[derive(Drop)]
+pub struct Grouping {
+    pub script: Text,
+}
+
+impl Grouping {
+    /// Loads the script and plans its parts, and runs them all. What happened is left in `played`.
+    /// It may wait. No ticker is asked, so its count `n` stays.
+    pub fn play<R: Threads + Wait + Sync, F: Files, G: Gate + Sync>(
+        self,
+        rt: &R,
+        alloc: Global,
+        files: &mut F,
+        gate: &G,
+        played: &mut Played,
+    ) -> Result<Work, Status>
+        requires none { HasNothing played.old }
+        ensures files { LoadsOnly (F.held files.old) (F.held files.new) (F.load_faults files.old)
+            (F.load_faults files.new) (F.store_faults files.old) (F.store_faults files.new) }
+        ensures told { (n : ℕ) → TellsPlay (F.held files.old)
+            (IsGroupsAnswer self (happened played.new n n)) (happened played.new n n) result }
+        ensures cause { CommandCause IsDeliverable (F.load_faults files.old)
+            (F.load_faults files.new) result }
+    {
+        match parts_file(alloc, files, &self.script) {
+            Err(status) => Err(status),
+            Ok(parted) => play_parts(rt, alloc, &parted, gate, played),
+        }
+    }
+}
+
+// Runs all parts. What happened is left in `played`. It may wait.
+fn run_parted<R: Threads + Wait + Sync, G: Gate + Sync>(
+    rt: &R,
+    alloc: Global,
+    parted: &Parted,
+    gate: &G,
+    played: &mut Played,
+) -> Result<Outcome, Memory>
+    requires parted { CanBeGrouped parted.now }
+    ensures outcome { IfOk result (λ o. o ≡ parts_outcome parted.now) }
+    ensures run { IfOk result (λ o. (n : ℕ) → HasGroupsRun parted.now (happened played.new n n)) }
+    ensures none { OnErr result (played.new ≡ played.old) }
+{
+    let (outcomes, closed) = run_parts(rt, alloc, &parted.parts.parts, &parted.waves, gate)?;
+    let Outcome {
+        history,
+        sinks,
+        peaks,
+    } = all_of(alloc, outcomes)?;
+    let count = parted.script.names.len() as u32;
+    let ordered = in_order(alloc, sinks, peaks.as_slice(), count)?;
+    played.history = history;
+    played.closed = closed;
+    Ok(ordered)
+}
+
+// The files of all sinks, and the text.
+fn groups_work(alloc: Global, parted: &Parted, outcome: Outcome) -> Result<Work, Memory>
+    requires parted { CanBeGrouped parted.now }
+    requires outcome { outcome ≡ parts_outcome parted.now }
+    ensures { IfOk result (λ work. work ≡ groups_work parted.now) }
+{
+    let plan = joined_plan(alloc, &parted.parts, parted.script.names.len() as u32)?;
+    let text = run_text(alloc, &plan, None, &outcome)?;
+    let stores = sink_stores(alloc, parted.script.lines.as_slice(), outcome.sinks)?;
+    Ok(Work { stores, text })
+}
+
+// Runs all parts, and gives their work. What happened is left in `played`, also where memory is
+// short for the work. It may wait.
+fn play_parts<R: Threads + Wait + Sync, G: Gate + Sync>(
+    rt: &R,
+    alloc: Global,
+    parted: &Parted,
+    gate: &G,
+    played: &mut Played,
+) -> Result<Work, Status>
+    requires parted { CanBeGrouped parted.now }
+    requires none { HasNothing played.old }
+    ensures done { (n : ℕ) → Plays (GroupsPlan (happened played.new n n) parted.now)
+        (happened played.new n n) result }
+    ensures cause { CommandCause IsDeliverable 0 0 result }
+{
+    match run_parted(rt, alloc, parted, gate, played) {
+        Err(_memory) => Err(Status::Memory),
+        Ok(outcome) => match groups_work(alloc, parted, outcome) {
+            Err(_memory) => Err(Status::Memory),
+            Ok(work) => Ok(work),
+        },
+    }
+}

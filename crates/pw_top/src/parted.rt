@@ -1,0 +1,63 @@
+//! What a script is whose parts have plans of their own: the script, its waves and its parts.
+#![tactic(auto, using(crate::proofs::AllowedLemmas::parts))]
+
+ghost use Rattle.std.specs.Prelude.{◌≡◌};
+ghost use Rattle.graph_script.specs.Kinds.{HasKinds};
+ghost use Rattle.graph_script.specs.Making.{NamesMade};
+ghost use Rattle.graph_script.specs.Ranges.{HasRanges};
+ghost use Rattle.pw_top.specs.Ending.{Ends, CommandCause};
+ghost use Rattle.pw_top.specs.Groups.{PartsStock, PartsFile, CanBeGrouped};
+ghost use Rattle.pw_top.specs.Preparing.{LoadsOnly, Tells};
+ghost use Rattle.pw_top.specs.Stocking.{IsStockOf};
+
+use crate::status::Status;
+use crate::stock::Stock;
+use crate::stocked::{Stocked, load_script};
+use graph_plan::{PlanFault, parts};
+use graph_script::Script;
+use pw_base::{Files, Items, Parts, Text};
+use std::alloc::Global;
+use wav_files::WavIn;
+
+/// A script with the waves of its sources, and its parts with their plans.
+#[derive(Drop)]
+pub struct Parted {
+    pub script: Script,
+    pub waves: Items<WavIn>,
+    pub parts: Parts,
+}
+
+// Plans the parts of a script, whose files are loaded.
+fn parts_stock(alloc: Global, script: Script, stock: Stock) -> Result<Parted, Status>
+    requires ranges { HasRanges script }
+    requires kinds { HasKinds script }
+    requires made { NamesMade 0 script.lines }
+    requires stock { IsStockOf script.lines stock }
+    ensures done { Ends (PartsStock script stock) result }
+    ensures cause { CommandCause CanBeGrouped 0 0 result }
+{
+    let Stock { ports, waves, .. } = stock;
+    match parts(alloc, &script, &waves, ports) {
+        Err(PlanFault::Limit { line, which }) => Err(Status::Limit { place: line, which }),
+        Err(PlanFault::Memory) => Err(Status::Memory),
+        Ok(parts) => Ok(Parted {
+            script,
+            waves,
+            parts,
+        }),
+    }
+}
+
+/// The parts of the script of a file, whose lines' files are loaded.
+pub fn parts_file<F: Files>(alloc: Global, files: &mut F, script: &Text) -> Result<Parted, Status>
+    ensures files { LoadsOnly (F.held files.old) (F.held files.new) (F.load_faults files.old)
+        (F.load_faults files.new) (F.store_faults files.old) (F.store_faults files.new) }
+    ensures told { Tells (F.held files.old) (λ names. PartsFile names script.now) result }
+    ensures cause { CommandCause CanBeGrouped (F.load_faults files.old)
+        (F.load_faults files.new) result }
+{
+    match load_script(alloc, files, script) {
+        Err(status) => Err(status),
+        Ok(Stocked { script, stock }) => parts_stock(alloc, script, stock),
+    }
+}

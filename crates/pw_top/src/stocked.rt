@@ -1,0 +1,99 @@
+//! The script of a file, with all that its lines load.
+#![tactic(auto, using(crate::proofs::AllowedLemmas::parts))]
+
+ghost use Rattle.std.specs.Prelude.{◌≡◌, ◌≤◌, length, IfOk};
+ghost use Rattle.pw_base.specs.Limits.{script_bytes_limit};
+ghost use Rattle.graph_script.specs.Grammar.{script_of};
+ghost use Rattle.graph_script.specs.Kinds.{HasKinds};
+ghost use Rattle.graph_script.specs.Order.{HasOrder};
+ghost use Rattle.graph_script.specs.Ranges.{HasRanges};
+ghost use Rattle.pw_top.specs.Allowed.{Reads};
+ghost use Rattle.pw_top.specs.Ending.{Ends, CommandCause};
+ghost use Rattle.pw_top.specs.Preparing.{LoadsOnly, Tells};
+ghost use Rattle.pw_top.specs.Refusals.{script_outcome};
+ghost use Rattle.pw_top.specs.ScriptFile.{LoadsStock, ReadsScript, LoadsScript, IsStocked};
+
+use crate::loading::load_step;
+use crate::script_loads::load_all;
+use crate::status::Status;
+use crate::stock::Stock;
+use graph_script::{Script, ScriptFault, parse};
+use pw_base::{Files, Items, SCRIPT_BYTES_LIMIT, Text, Which};
+use std::alloc::Global;
+
+/// A script, and what its lines have loaded.
+#[derive(Drop)]
+pub struct Stocked {
+    pub script: Script,
+    pub stock: Stock,
+}
+
+/// The script of a file, and what its lines load, in order.
+pub fn load_script<F: Files>(alloc: Global, files: &mut F, script: &Text) -> Result<Stocked, Status>
+    ensures files { LoadsOnly (F.held files.old) (F.held files.new) (F.load_faults files.old)
+        (F.load_faults files.new) (F.store_faults files.old) (F.store_faults files.new) }
+    ensures told { Tells (F.held files.old) (λ names. LoadsScript names script.now) result }
+    ensures cause { CommandCause IsStocked (F.load_faults files.old)
+        (F.load_faults files.new) result }
+{
+    match load_step(
+        alloc,
+        files,
+        0,
+        script,
+        SCRIPT_BYTES_LIMIT,
+        Which::ScriptBytes,
+    ) {
+        Err(status) => Err(status),
+        Ok(bytes) => load_read(alloc, files, &bytes),
+    }
+}
+
+// What the bytes of a script give, with its lines' loads.
+fn load_read<F: Files>(alloc: Global, files: &mut F, bytes: &Items<u8>) -> Result<Stocked, Status>
+    requires small { length bytes.now ≤ script_bytes_limit }
+    ensures files { LoadsOnly (F.held files.old) (F.held files.new) (F.load_faults files.old)
+        (F.load_faults files.new) (F.store_faults files.old) (F.store_faults files.new) }
+    ensures told { Tells (F.held files.old) (λ names. ReadsScript names bytes.now) result }
+    ensures cause { CommandCause IsStocked (F.load_faults files.old)
+        (F.load_faults files.new) result }
+{
+    match read_script(alloc, bytes) {
+        Err(status) => Err(status),
+        Ok(script) => load_lines_of(alloc, files, script),
+    }
+}
+
+// The script that the bytes are, or its first fault.
+fn read_script(alloc: Global, bytes: &Items<u8>) -> Result<Script, Status>
+    requires small { length bytes.now ≤ script_bytes_limit }
+    ensures told { Ends (Reads (λ outcome. outcome ≡ script_outcome (script_of bytes.now)))
+        result }
+    ensures cause { CommandCause (λ script. Unit {0}) 0 0 result }
+    ensures ranges { IfOk result HasRanges }
+    ensures kinds { IfOk result HasKinds }
+    ensures order { IfOk result HasOrder }
+{
+    match parse(alloc, bytes.as_slice()) {
+        Err(ScriptFault::Memory) => Err(Status::Memory),
+        Err(ScriptFault::At { line, why }) => Err(Status::Script { line, why }),
+        Ok(script) => Ok(script),
+    }
+}
+
+// A script with its lines' loads.
+fn load_lines_of<F: Files>(alloc: Global, files: &mut F, script: Script) -> Result<Stocked, Status>
+    requires ranges { HasRanges script }
+    requires kinds { HasKinds script }
+    requires order { HasOrder script }
+    ensures files { LoadsOnly (F.held files.old) (F.held files.new) (F.load_faults files.old)
+        (F.load_faults files.new) (F.store_faults files.old) (F.store_faults files.new) }
+    ensures told { Tells (F.held files.old) (λ names. LoadsStock names script) result }
+    ensures cause { CommandCause IsStocked (F.load_faults files.old)
+        (F.load_faults files.new) result }
+{
+    match load_all(alloc, files, script.lines.as_slice()) {
+        Err(status) => Err(status),
+        Ok(stock) => Ok(Stocked { script, stock }),
+    }
+}
