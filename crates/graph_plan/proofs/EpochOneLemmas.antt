@@ -159,7 +159,7 @@ module _ (count : ℕ) (g : Graph) (sound : IsSoundGraph count g) where
         ran = (standing g.nodes m).ran + cycles_in e m;
       }) (one_channels count g sound m s.told t.told h.told k.told) ∙ sym k.rest)
 
-  after_one : (e : Epoch) (a b : Graph) → IsAfter g e a → IsAfter g e b → a ≡ b
+  pub after_one : (e : Epoch) (a b : Graph) → IsAfter g e a → IsAfter g e b → a ≡ b
   after_one e a b h k = h.same
       ∙ (ap (λ (ns : List Standing). record g {
         epochs = g.epochs ++ e ∷ [];

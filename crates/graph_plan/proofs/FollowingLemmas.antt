@@ -53,7 +53,7 @@ module _ (g : Graph) (ready : IsReady g) where
   within n h = let e = ready.nodes.many in omega (arith, h, e)
 
   -- A LINE MAY BE DONE
-  may : (command : Command) → IsInRange command → HasPorts g.kinds command → HasNodes (length g.kinds) command → MayStep g command
+  pub may : (command : Command) → IsInRange command → HasPorts g.kinds command → HasNodes (length g.kinds) command → MayStep g command
   may (C.Source n file) r p h = within n h
   may (C.Square n rate channels period amp) r p h = within n h
   may (C.Gain n gain) r p h = within n h

@@ -35,3 +35,15 @@ pub mod StepOneLemmas
 pub mod PlanOneLemmas
 pub mod MoreNodesLemmas
 pub mod ReadOffLemmas
+pub mod PartLineLemmas
+pub mod PairLemmas
+pub mod MovingLemmas
+pub mod AheadLemmas
+pub mod GoingLemmas
+pub mod TogetherLemmas
+pub mod PartedLemmas
+pub mod RehearsalOneLemmas
+pub mod BetweenLemmas
+pub mod PartitionOneLemmas
+pub mod PartsOneLemmas
+pub mod NotedLemmas

@@ -4,6 +4,13 @@ pub mod PlanOf
 pub mod Planned
 pub mod Joining
 pub mod Parts
+pub mod PartLines
+pub mod Moving
+pub mod Together
+pub mod Parted
+pub mod Members
+pub mod Ahead
+pub mod MovingTogether
 pub mod ReadOff
 pub mod Reaching
 pub mod SoundWires

@@ -77,8 +77,8 @@ fn numbers_in(alloc: Global, here: &[bool], count: u32) -> Result<Items<u32>, Me
     Ok(nodes)
 }
 
-// Whether a number is one of these.
-fn is_among(nodes: &[u32], node: u32) -> bool
+/// Whether a number is one of these.
+pub(crate) fn is_among(nodes: &[u32], node: u32) -> bool
     ensures { result ≡ is_among nodes.now node }
 {
     nodes.iter().any(|n| *n == node)

@@ -21,8 +21,8 @@ use pw_base::{Items, Memory, Plan, Text};
 use std::alloc::Global;
 use wav_files::WavIn;
 
-// The plan that is read off the graph at the script's end.
-fn into_plan(graph: Graph, names: &[Text]) -> Result<Plan, Memory>
+/// The plan that is read off the graph at the script's end.
+pub(crate) fn into_plan(graph: Graph, names: &[Text]) -> Result<Plan, Memory>
     requires ready { IsReady graph }
     requires named { length names.now ≡ length graph.kinds }
     ensures { IfOk result (IsPlanOf names.now graph) }

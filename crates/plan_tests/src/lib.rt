@@ -1,7 +1,7 @@
 //! Tests of graph_plan over whole scripts. They stand apart, since a crate that has tests is proved twice.
 //!
 //! `plan_text` reads a script, makes the ports of its nodes and silent waves for its sources, and
-//! plans it; `parts_text` has the nodes of its parts.
+//! plans it; `parts_text` has the nodes of its parts, and `plans_text` their plans.
 #![tactic(auto)]
 
 #[cfg(test)]
@@ -17,6 +17,8 @@ mod limits;
 #[cfg(test)]
 mod parting;
 #[cfg(test)]
+mod plans;
+#[cfg(test)]
 mod showing;
 mod silence;
 mod stock;
@@ -24,4 +26,4 @@ mod texts;
 
 pub use silence::Silence;
 pub use stock::{Stock, stock_of};
-pub use texts::{TextFault, parts_text, plan_text};
+pub use texts::{TextFault, parts_text, plan_text, plans_text};

@@ -1,5 +1,5 @@
-//! The plan of a script's text, and its parts.
-ghost use Rattle.std.specs.Prelude.{IfOk};
+//! The plan of a script's text, its parts, and their plans.
+ghost use Rattle.std.specs.Prelude.{All, IfOk};
 ghost use Rattle.pw_base.specs.SoundPlan.{IsSoundPlan};
 ghost use Rattle.graph_script.specs.Kinds.{HasKinds};
 ghost use Rattle.graph_script.specs.Order.{HasOrder};
@@ -7,9 +7,9 @@ ghost use Rattle.graph_script.specs.Ranges.{HasRanges};
 
 use crate::silence::Silence;
 use crate::stock::{Stock, stock_of};
-use graph_plan::{PlanFault, part_nodes, plan};
+use graph_plan::{PlanFault, part_nodes, parts, plan};
 use graph_script::{Script, parse};
-use pw_base::{Items, Memory, Plan, SCRIPT_BYTES_LIMIT};
+use pw_base::{Items, Memory, Parts, Plan, SCRIPT_BYTES_LIMIT};
 use std::alloc::Global;
 
 /// Why a text has no plan.
@@ -87,6 +87,39 @@ pub fn parts_text(
     match parse(alloc, bytes) {
         Err(_fault) => Err(TextFault::NoScript),
         Ok(script) => match parts_script(alloc, &script, sources) {
+            Ok(parts) => Ok(parts),
+            Err(fault) => Err(TextFault::Plan(fault)),
+        },
+    }
+}
+
+// The plans of the parts of a script with these waves.
+fn plans_script(alloc: Global, script: &Script, sources: &[Silence]) -> Result<Parts, PlanFault>
+    requires ranges { HasRanges script.now }
+    requires kinds { HasKinds script.now }
+    requires order { HasOrder script.now }
+    ensures { IfOk result (λ p. All (λ part. IsSoundPlan part.plan) p.parts) }
+{
+    match stock_of(alloc, script.lines.as_slice(), sources) {
+        Err(_memory) => Err(PlanFault::Memory),
+        Ok(stock) => {
+            let Stock { ports, waves, .. } = stock;
+            parts(alloc, script, &waves, ports)
+        }
+    }
+}
+
+/// The plans of the parts of a text, whose sources have these waves in their order.
+pub fn plans_text(alloc: Global, text: &str, sources: &[Silence]) -> Result<Parts, TextFault>
+    ensures { IfOk result (λ p. All (λ part. IsSoundPlan part.plan) p.parts) }
+{
+    let bytes = text.as_bytes();
+    if (bytes.len() as u64) > SCRIPT_BYTES_LIMIT {
+        return Err(TextFault::NoScript);
+    }
+    match parse(alloc, bytes) {
+        Err(_fault) => Err(TextFault::NoScript),
+        Ok(script) => match plans_script(alloc, &script, sources) {
             Ok(parts) => Ok(parts),
             Err(fault) => Err(TextFault::Plan(fault)),
         },
