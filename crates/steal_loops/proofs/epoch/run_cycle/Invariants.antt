@@ -1,0 +1,17 @@
+use Rattle.std.proofs.Common.{◌≡◌, []}
+use Rattle.board_rule.specs.OnBoard.{layout}
+use Rattle.driver_cycle.specs.Leading.{IsWaiting}
+use Rattle.driver_cycle.specs.Epochs.{HasGoneOn}
+use Rattle.steal_loops.specs.Takers.{IsPatrol}
+use Rattle.steal_loops.proofs.epoch.run_cycle.Given as goal
+
+abbrev pub invariant-loop : goal.invariant-loop
+invariant-loop g l = record {
+  can_next : (goal.iterator-loop g).can_next l.iterator';
+  finite : (goal.iterator-loop g).is_finite l.iterator';
+  gone : HasGoneOn l.board l.fn.seat l.fn.own [] (g.K.Ticker.ticks l.fn.ticker) l.seat l.own [] (g.K.Ticker.ticks l.ticker);
+  waits : IsWaiting (layout l.board) l.seat.knows;
+  cycle : l.seat.knows.lead.cycle ≡ l.fn.seat.knows.lead.cycle;
+  checked : l.checked ≡ l.seat.knows.lead.checked;
+  patrol : IsPatrol l.shared l.patrol;
+}

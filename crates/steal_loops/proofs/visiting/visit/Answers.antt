@@ -1,0 +1,30 @@
+use Rattle.std.proofs.Common.{ℕ, refl, subst}
+use Rattle.ready_queues.specs.Forwarding.{HasForwarded}
+use Rattle.steal_loops.proofs.TakerLemmas.{flagged, at_end}
+use Rattle.steal_loops.proofs.visiting.visit.Goals as goal
+
+pub returns-in-Some-stepped-clause-visited : goal.returns-in-Some-stepped-clause-visited
+returns-in-Some-stepped-clause-visited g c = let ways = c.args.shared.now.ways in record {
+  found = c.in-Some.state;
+  back = c.advance_unless_ended-stepped.new.state;
+  allowed = c.in-Some.ensures.some.1;
+  stepped = c.in-Some-stepped.ensures.stepped;
+  lacks = c.put_back.ensures.back.lacks;
+  sent = (
+    c.forward.result,
+    subst (λ (n : ℕ). HasForwarded ways.owner ways.loops n c.forward.result c.args.taker.now.way c.forward.new.way) c.woke-woke.ensures
+        c.forward.ensures.sent,
+  );
+}
+
+pub returns-in-None-clause-taker : goal.returns-in-None-clause-taker
+returns-in-None-clause-taker g c = let h = c.requires.taker in let s = c.advance_unless_ended-stepped.new.state in
+    flagged c.args.shared.now c.args.taker.now _ c.args.cell h c.put_back.ensures.seat h.answered refl
+    (s, at_end c.args.shared.now c.args.cell s c.requires.cells c.advance_unless_ended-stepped.ensures.allowed c.in-None.ensures.end)
+
+pub returns-in-None-clause-visited : goal.returns-in-None-clause-visited
+returns-in-None-clause-visited g c = let s = c.advance_unless_ended-stepped.new.state in (
+  (s, at_end c.args.shared.now c.args.cell s c.requires.cells c.advance_unless_ended-stepped.ensures.allowed c.in-None.ensures.end),
+  c.put_back.ensures.back.lacks,
+  refl,
+)

@@ -1,0 +1,46 @@
+-- The cells of a run: each node that never drives, as a loop of its own.
+-- Source: PipeWire's documentation, "Data loops"; that loops of one node move between threads is
+-- this project's own.
+use Rattle.std.specs.Prelude.{◌≡◌, ℕ, ◌<◌, ◌≤◌, List, Some, length, slice_get, slice_index_or}
+use Rattle.pw_base.specs.Limits.{nodes_limit}
+use Rattle.data_loop.specs.declared.loop_state.LoopState.{LoopState}
+use Rattle.data_loop.specs.Loops.{plan_of, IsLoop}
+use Rattle.data_loop.specs.LoopKept.{IsDone}
+use Rattle.data_loop.specs.LoopWay.{HasBoards, HasNoDriver, IsSameLoop}
+use Rattle.steal_shelf.specs.Seats.{cells_of}
+use Rattle.steal_loops.specs.declared.shared.Shared.{Shared}
+
+module _ (shared : Shared) where
+  -- A CELL of the run's plan, as it was given: it has seats of all boards, and no driver
+  pub record IsCellFor (c : LoopState) : Type 0 where
+    pub loop : IsLoop c
+    pub boards_are : HasBoards 0 shared.boards c
+    pub none : HasNoDriver c
+    pub plan_is : plan_of c ≡ shared.score.plan.value
+    pub waves_are : c.score.waves.value ≡ shared.score.waves.value
+
+  -- those on the shelf, as many as the seating has seats beside the driver's own
+  pub record AreCells : Type 0 where
+    pub each : (i : ℕ) (c : LoopState) → slice_get (cells_of shared.shelf) i ≡ Some c
+        → IsCellFor c
+    pub count : length (cells_of shared.shelf) ≡ shared.seating.loops
+    pub few : shared.seating.loops ≤ nodes_limit
+
+  -- AT ITS END: the cell i, after all epochs
+  pub record IsFinished (i : ℕ) (s : LoopState) : Type 0 where
+    pub cell : LoopState
+    pub there : slice_get (cells_of shared.shelf) i ≡ Some cell
+    pub done : IsDone s
+    pub same : IsSameLoop cell s
+
+  -- it was so at one moment; and each of them was
+  abbrev pub HasFinished : ℕ → Type 0
+  HasFinished i = (s : LoopState) × IsFinished i s
+
+  abbrev pub HaveFinished : Type 0
+  HaveFinished = (i : ℕ) → i < length (cells_of shared.shelf) → HasFinished i
+
+  -- the first n of them, in their order
+  pub record AreCollected (n : ℕ) (list : List LoopState) : Type 0 where
+    pub count : length list ≡ n
+    pub each : (i : ℕ) (d : LoopState) → i < n → IsFinished i (slice_index_or list i d)

@@ -1,0 +1,79 @@
+-- The threads of a run before its first cycle.
+-- Source: PipeWire's documentation, "Data loops"; that any thread runs any node is this project's
+-- own.
+use Rattle.std.specs.Prelude.{◌≡◌, ◌⊎◌, ℕ, ◌<◌, ◌≤◌, List, [], ◌∷◌, ◌++◌, All, Contains, length, map, slice_index_or}
+use Rattle.std.specs.List.{enumerate_from}
+use Rattle.pw_base.specs.declared.plan.Plan.{Plan}
+use Rattle.wav_files.specs.declared.wav.WavIn.{WavIn}
+use Rattle.board_rule.specs.Known.{Known}
+use Rattle.node_progress.specs.declared.score.Score.{Score}
+use Rattle.data_loop.specs.declared.loop_state.LoopState.{LoopState}
+use Rattle.data_loop.specs.Loops.{plan_of}
+use Rattle.graph_run.specs.Assignment.{cell_number, cell_count}
+use Rattle.graph_run.specs.Boards.{driver_of}
+use Rattle.graph_run.specs.Loops.{AreLoopsOf}
+use Rattle.graph_run.specs.LoopsOnPlan.{IsReady, HasDrivers, AreReady, AreFirstLeads}
+use Rattle.graph_run.specs.Seating.{epoch_board, seated_by}
+use Rattle.steal_shelf.specs.Seats.{cells_of}
+use Rattle.steal_loops.specs.declared.leading.Driving.{Driving}
+use Rattle.steal_loops.specs.declared.opening.Opened.{Opened}
+use Rattle.steal_loops.specs.declared.preparing.Prepared.{Prepared}
+use Rattle.steal_loops.specs.declared.scope.Crew.{Crew}
+use Rattle.steal_loops.specs.declared.shared.Shared.{Shared}
+use Rattle.steal_loops.specs.Cells.{AreCells}
+use Rattle.steal_loops.specs.Takers.{IsWorker, IsDriverTaker}
+
+-- OPENED: the boards of the plan, with a seat for each cell and one for the driver's own loop; the
+-- cells and that loop are ready to run on them
+pub record IsOpened (plan : Plan) (waves : List WavIn) (o : Opened) : Type 0 where
+  pub seating : o.seating ≡ seated_by (cell_number plan) plan (cell_count plan)
+  pub shapes : map (λ b. b.board_shape) o.boards
+      ≡ map (epoch_board (cell_number plan) (cell_count plan)) plan.epochs
+  pub drivers : o.drivers
+      ≡ map (driver_of plan waves (cell_count plan)) (enumerate_from 0 o.boards)
+  pub leads : (score : Score) → score.plan.value ≡ plan → score.waves.value ≡ waves
+      → AreFirstLeads score o.boards o.drivers
+  pub ready : AreReady o.boards (cell_count plan) (o.cells ++ o.own ∷ [])
+  pub rows : List (List Known)
+  pub are : AreLoopsOf plan waves (cell_number plan) rows (o.cells ++ o.own ∷ [])
+
+-- THE DRIVER'S THREAD: its own loop has the drivers, and it has the driver's seats of all boards
+pub record CanDrive (shared : Shared) (d : Driving) : Type 0 where
+  pub ready : IsReady shared.boards d.own
+  pub has : HasDrivers d.own
+  pub leads : AreFirstLeads d.own.score shared.boards d.drivers
+  pub taker : IsDriverTaker shared d.taker
+  pub plan_is : plan_of d.own ≡ shared.score.plan.value
+  pub waves_are : d.own.score.waves.value ≡ shared.score.waves.value
+
+-- a node is one of the driver's own loop, or of a cell
+abbrev pub HasNode : LoopState → List LoopState → ℕ → Type 0
+HasNode own cells n = Contains own.nodes n ⊎ ((i : ℕ) × (i < length cells)
+    × ((d : LoopState) → Contains (slice_index_or cells i d).nodes n))
+
+-- PREPARED: boards, cells and drivers' seats of the plan. Each node of the plan is one of a cell,
+-- or of the driver's own loop
+pub record IsPrepared (plan : Plan) (waves : List WavIn) (loops : ℕ)
+    (r : Prepared) : Type 0 where
+  pub plan_is : r.shared.score.plan.value ≡ plan
+  pub waves_are : r.shared.score.waves.value ≡ waves
+  pub shapes : map (λ b. b.board_shape) r.shared.boards
+      ≡ map (epoch_board (cell_number plan) (cell_count plan)) plan.epochs
+  pub drivers : r.driving.drivers
+      ≡ map (driver_of plan waves (cell_count plan)) (enumerate_from 0 r.shared.boards)
+  pub cells : AreCells r.shared
+  pub workers : All (IsWorker r.shared) r.workers
+  pub can_drive : CanDrive r.shared r.driving
+  pub count : length r.workers ≡ loops
+  pub nodes : (n : ℕ) → n < length plan.nodes
+      → HasNode r.driving.own (cells_of r.shared.shelf) n
+
+-- THE CREW, and lists with room for all handles, and for all cells and the driver's own loop
+pub record IsCrew (shared : Shared) (c : Crew) : Type 0 where
+  pub cells : AreCells shared
+  pub workers : All (IsWorker shared) c.workers
+  pub can_drive : CanDrive shared c.driving
+  pub nodes : (n : ℕ) → n < length shared.score.plan.value.nodes
+      → HasNode c.driving.own (cells_of shared.shelf) n
+  pub handles : (c.handles.list ≡ []) × (length c.workers ≤ c.handles.spare)
+  pub done : (c.done.list ≡ []) × (length (cells_of shared.shelf) < c.done.spare)

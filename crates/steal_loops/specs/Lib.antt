@@ -1,0 +1,4 @@
+pub mod Cells
+pub mod Crews
+pub mod Takers
+pub mod Visits

@@ -1,0 +1,29 @@
+-- One visit of a cell.
+-- Source: PipeWire's documentation, "Data loops"; that any thread runs any node is this project's
+-- own.
+use Rattle.std.specs.Prelude.{◌≡◌, ℕ}
+use Rattle.data_loop.specs.declared.loop_state.LoopState.{LoopState}
+use Rattle.driver_cycle.specs.Waking.{HasSent}
+use Rattle.steal_shelf.specs.CellSteps.{HasStepped}
+use Rattle.steal_shelf.specs.Seats.{IsAllowed, LacksCell, HasFoundOut}
+use Rattle.steal_loops.specs.declared.shared.Shared.{Shared}
+use Rattle.steal_loops.specs.declared.taker.Taker.{Taker}
+use Rattle.steal_loops.specs.declared.visiting.Visited.{Visited}
+use Rattle.steal_loops.specs.declared.visiting.Visited.TheVariants.{Out, Ended, Stepped}
+use Rattle.steal_loops.specs.Cells.{HasFinished}
+
+-- A STEP: the cell was found so, made one step, was put back, and what it woke was sent
+pub record HasMadeStep (shared : Shared) (i : ℕ) (a b : Taker) : Type 0 where
+  pub found : LoopState
+  pub back : LoopState
+  pub allowed : IsAllowed shared.shelf i found
+  pub stepped : HasStepped shared.boards found back
+  pub lacks : LacksCell b.seat i
+  pub sent : HasSent shared.ways back.woke a.way b.way
+
+-- THE VISIT of the cell i, by what became of it: another has it; it was at its end and was put
+-- back; or a step was made
+abbrev pub HasVisited : Shared → ℕ → Visited → Taker → Taker → Type 0
+HasVisited shared i Out a b = HasFoundOut i a.seat b.seat × (b.way ≡ a.way)
+HasVisited shared i Ended a b = HasFinished shared i × LacksCell b.seat i × (b.way ≡ a.way)
+HasVisited shared i (Stepped did) a b = HasMadeStep shared i a b

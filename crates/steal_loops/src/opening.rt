@@ -1,0 +1,45 @@
+//! The boards and the cells of a plan.
+ghost use Rattle.std.specs.Prelude.{IfOk};
+ghost use Rattle.pw_base.specs.SoundPlan.{IsSoundPlan};
+ghost use Rattle.cycle_model.specs.WavesFit.{WavesFit};
+ghost use Rattle.steal_loops.specs.Crews.{IsOpened};
+
+use board_rule::{Board, DriverSeat};
+use data_loop::LoopState;
+use graph_run::{Seating, boards_of, cell_seating, loops_of};
+use pw_base::{Items, Memory, Plan};
+use std::alloc::Global;
+use wav_files::WavIn;
+
+/// A plan before the first cycle: which cell each node is in, the boards with the drivers' seats,
+/// the cells in their order, and the driver's own loop.
+#[derive(Drop)]
+pub(crate) struct Opened {
+    pub seating: Seating,
+    pub boards: Items<Board>,
+    pub drivers: Items<DriverSeat>,
+    pub cells: Items<LoopState>,
+    pub own: LoopState,
+}
+
+/// The boards and the cells of a plan.
+///
+/// Memory: a board an epoch with a seat for each cell, and a state for each node with the streams
+/// of the sinks.
+pub(crate) fn open_plan(alloc: Global, plan: &Plan, waves: &Items<WavIn>) -> Result<Opened, Memory>
+    requires sound { IsSoundPlan plan.now }
+    requires fit { WavesFit plan.now waves.now }
+    ensures { IfOk result (IsOpened plan.now waves.now) }
+{
+    let seating = cell_seating(alloc, plan)?;
+    let all = boards_of(alloc, plan, waves, &seating)?;
+    let mut cells = loops_of(alloc, plan, waves, &seating, all.seats)?;
+    let own = cells.pop().unwrap();
+    Ok(Opened {
+        seating,
+        boards: all.boards,
+        drivers: all.drivers,
+        cells,
+        own,
+    })
+}

@@ -1,0 +1,103 @@
+//! What a run of a plan needs before its first cycle.
+ghost use Rattle.std.specs.Prelude.{◌≡◌, ◌≤◌, All, IfOk, length};
+ghost use Rattle.pw_base.specs.SoundPlan.{IsSoundPlan};
+ghost use Rattle.cycle_model.specs.WavesFit.{WavesFit};
+ghost use Rattle.ready_queues.specs.Lanes.{loops_limit};
+ghost use Rattle.steal_shelf.specs.Seats.{IsSeatOf};
+ghost use Rattle.steal_loops.specs.Cells.{AreCells};
+ghost use Rattle.steal_loops.specs.Crews.{IsPrepared};
+ghost use Rattle.steal_loops.specs.Takers.{IsWorker, IsWorkersWay};
+
+use crate::leading::Driving;
+use crate::opening::{Opened, open_plan};
+use crate::shared::Shared;
+use crate::signs::Signs;
+use crate::taker::Taker;
+use data_loop::Way;
+use graph_run::ways_of;
+use node_progress::Score;
+use pw_base::{Items, Memory, Plan};
+use std::alloc::Global;
+use steal_shelf::{Shelf, ShelfSeat};
+use wav_files::WavIn;
+
+// What each worker takes cells with: a seat and a way for each.
+fn takers_of(
+    alloc: Global,
+    shared: &Shared,
+    seats: Items<ShelfSeat>,
+    ways: Items<Way>,
+) -> Result<Items<Taker>, Memory>
+    requires cells { AreCells shared.now }
+    requires seats { All (IsSeatOf shared.now.shelf) seats }
+    requires ways { All (IsWorkersWay shared.now.ways) ways }
+    requires count { length ways ≡ length seats }
+    ensures workers { IfOk result (All (IsWorker shared.now)) }
+    ensures count { IfOk result (λ takers. length takers ≡ length ways) }
+{
+    let cells = shared.seating.loops() as usize;
+    let mut takers = Items::new(alloc);
+    let mut rest = ways.into_vec().into_iter();
+    for seat in seats.into_vec() {
+        if let Some(way) = rest.next() {
+            let taker = Taker::new(alloc, seat, way, cells)?;
+            takers.push(taker)?;
+        }
+    }
+    Ok(takers)
+}
+
+/// What a run begins with: what its threads share, what its workers take cells with, and what the
+/// driver's thread has.
+#[derive(Drop)]
+pub(crate) struct Prepared {
+    pub shared: Shared,
+    pub workers: Items<Taker>,
+    pub driving: Driving,
+}
+
+/// What a run of a plan by so many workers begins with: boards, cells and queues. Each node that
+/// never drives has a cell of its own; a node's number comes to the queue of the worker of its
+/// number, modulo the number of workers.
+pub(crate) fn prepare(
+    alloc: Global,
+    plan: &Plan,
+    waves: &Items<WavIn>,
+    loops: u32,
+) -> Result<Prepared, Memory>
+    requires sound { IsSoundPlan plan.now }
+    requires fit { WavesFit plan.now waves.now }
+    requires few { loops ≤ loops_limit }
+    ensures { IfOk result (IsPrepared plan.now waves.now loops) }
+{
+    let Opened {
+        seating,
+        boards,
+        drivers,
+        cells,
+        own,
+    } = open_plan(alloc, plan, waves)?;
+    let (ways, way, others) = ways_of(alloc, plan, loops)?;
+    let (shelf, mut seats) = Shelf::new(alloc, cells, loops + 1)?;
+    let seat = seats.pop().unwrap();
+    let taker = Taker::new(alloc, seat, way, seating.loops() as usize)?;
+    let signs = Signs::new(&seating);
+    let shared = Shared {
+        boards,
+        ways,
+        signs,
+        shelf,
+        seating,
+        score: Score::of(plan, waves),
+    };
+    let workers = takers_of(alloc, &shared, seats, others)?;
+    Ok(Prepared {
+        shared,
+        workers,
+        driving: Driving {
+            own,
+            drivers,
+            taker,
+        },
+    })
+}

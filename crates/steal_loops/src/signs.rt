@@ -1,0 +1,80 @@
+//! The signs of nodes that were woken, by which threads find the cells that are ready.
+//!
+//! A visit of a cell that is not ready is not free: the cell comes to the thread's processor and
+//! leaves that of the thread that runs it. So threads look for signs first: bit n of one word is 1
+//! once node n was woken, until a thread takes it up. A sign is a hint alone: contracts see nothing
+//! of it, and a thread that finds none for a while visits all cells.
+use crossbeam_utils::CachePadded;
+use graph_run::Seating;
+use std::sync::atomic::{AtomicU64, Ordering};
+
+/// The signs of a run, and which nodes have a cell: no other has a sign. Nothing else is on the
+/// cache lines of the word.
+#[derive(Drop)]
+pub(crate) struct Signs {
+    word: CachePadded<AtomicU64>,
+    celled: u64,
+}
+
+// The set of one node.
+fn bit_of(node: u32) -> u64 {
+    1 << (node % 64)
+}
+
+// The nodes that have a cell.
+fn celled_nodes(seating: &Seating) -> u64 {
+    let mut celled = 0;
+    for node in 0..64 {
+        if seating.holder(node) < seating.loops() {
+            celled |= bit_of(node);
+        }
+    }
+    celled
+}
+
+// The least node of a set, if there is one.
+pub(crate) fn least_of(set: u64) -> Option<u32> {
+    let node = set.trailing_zeros();
+    if node < 64 { Some(node) } else { None }
+}
+
+impl Signs {
+    /// No node has a sign.
+    pub(crate) fn new(seating: &Seating) -> Signs {
+        Signs {
+            word: CachePadded::new(AtomicU64::new(0)),
+            celled: celled_nodes(seating),
+        }
+    }
+
+    /// Sets the signs of a set of nodes: bit n is node n. One atomic step, or none.
+    pub(crate) fn set(&self, woke: u64) {
+        let new = woke & self.celled;
+        if new != 0 {
+            let word: &AtomicU64 = &self.word;
+            word.fetch_or(new, Ordering::SeqCst);
+        }
+    }
+
+    /// Sets the sign of one node again.
+    pub(crate) fn set_again(&self, node: u32) {
+        self.set(bit_of(node));
+    }
+
+    /// Takes the sign of a node away. Whether it was there, and no other thread was faster.
+    pub(crate) fn take(&self, node: u32) -> bool {
+        let word: &AtomicU64 = &self.word;
+        let bit = bit_of(node);
+        word.load(Ordering::SeqCst) & bit != 0 && word.fetch_and(!bit, Ordering::SeqCst) & bit != 0
+    }
+
+    /// Takes some sign away, that of the first node from `from` on, and after the last from 0 on:
+    /// the node. None where there is none, or another thread was faster.
+    pub(crate) fn take_next(&self, from: u32) -> Option<u32> {
+        let word: &AtomicU64 = &self.word;
+        let from = from % 64;
+        let ahead = least_of(word.load(Ordering::SeqCst).rotate_right(from))?;
+        let node = from.wrapping_add(ahead) % 64;
+        if self.take(node) { Some(node) } else { None }
+    }
+}

@@ -1,0 +1,131 @@
+//! What a thread does with one cell.
+ghost use Rattle.std.specs.Prelude.{◌≡◌, ◌<◌, IfNone, IfSome, length};
+ghost use Rattle.data_loop.specs.Loops.{plan_of};
+ghost use Rattle.steal_shelf.specs.CellSteps.{HasStepped};
+ghost use Rattle.steal_shelf.specs.Seats.{cells_of, IsAllowed};
+ghost use Rattle.steal_loops.specs.Cells.{AreCells};
+ghost use Rattle.steal_loops.specs.Takers.{IsTaker};
+ghost use Rattle.steal_loops.specs.Visits.{HasVisited};
+
+use crate::cell_steps::{Step, step_cell};
+use crate::shared::Shared;
+use crate::taker::Taker;
+use data_loop::LoopState;
+use pw_base::Gate;
+use std::sync::Wait;
+
+/// What became of a visit of a cell.
+#[derive(Clone, Copy, Drop)]
+pub(crate) enum Visited {
+    /// The cell is with another thread.
+    Out,
+    /// All its epochs are done.
+    Ended,
+    /// One step of it was made.
+    Stepped(Step),
+}
+
+// Whether a step changed more than what is known of a board.
+fn is_advance(step: Step) -> bool {
+    match step {
+        Step::Early => false,
+        _ => true,
+    }
+}
+
+/// Whether a visit did something: the node ran, or the cell is in its next epoch.
+pub(crate) fn has_done(visit: Visited) -> bool {
+    match visit {
+        Visited::Stepped(step) => is_advance(step),
+        _ => false,
+    }
+}
+
+// Whether a step leaves the node as ready as it was.
+fn is_passage(step: Step) -> bool {
+    match step {
+        Step::Passed => true,
+        _ => false,
+    }
+}
+
+/// Whether a node that was woken before the visit may still be ready after it: another thread has
+/// its cell, or the cell went into its next epoch.
+pub(crate) fn leaves_ready(visit: Visited) -> bool {
+    match visit {
+        Visited::Out => true,
+        Visited::Ended => false,
+        Visited::Stepped(step) => is_passage(step),
+    }
+}
+
+// One step of a cell that was fetched.
+fn advance<G: Gate>(shared: &Shared, cell: u32, state: &mut LoopState, gate: &G) -> Step
+    requires cells { AreCells shared.now }
+    requires allowed { IsAllowed shared.now.shelf cell state.old }
+    requires left { state.old.epoch < length (plan_of state.old).epochs }
+    ensures allowed { IsAllowed shared.now.shelf cell state.new }
+    ensures stepped { HasStepped shared.now.boards state.old state.new }
+{
+    let _ = cell;
+    step_cell(&shared.boards, state, gate)
+}
+
+/// One step of a cell that was fetched, unless all its epochs are done: None. Takes no memory, does
+/// not wait.
+pub(crate) fn advance_unless_ended<G: Gate>(
+    shared: &Shared,
+    cell: u32,
+    state: &mut LoopState,
+    gate: &G,
+) -> Option<Step>
+    requires cells { AreCells shared.now }
+    requires allowed { IsAllowed shared.now.shelf cell state.old }
+    ensures allowed { IsAllowed shared.now.shelf cell state.new }
+    ensures stepped { IfSome result (λ _. HasStepped shared.now.boards state.old state.new) }
+    ensures ended { IfNone result (state.new ≡ state.old) }
+    ensures end { IfNone result (state.new.epoch ≡ length (plan_of state.new).epochs) }
+{
+    if state.at_end() {
+        return None;
+    }
+    Some(advance(shared, cell, state, gate))
+}
+
+/// One try of a cell: where it is at home, one step of it, after which it is put back and what it
+/// woke is sent. One that is found at its end is noted. It may wait where it sends. Takes no
+/// memory.
+/// Condition: there is such a cell.
+pub(crate) fn visit<R: Wait, G: Gate>(
+    rt: &R,
+    gate: &G,
+    shared: &Shared,
+    taker: &mut Taker,
+    cell: u32,
+) -> Visited
+    requires cells { AreCells shared.now }
+    requires taker { IsTaker shared.now taker.old }
+    requires cell { cell < length (cells_of shared.now.shelf) }
+    ensures taker { IsTaker shared.now taker.new }
+    ensures number { taker.new.way.number ≡ taker.old.way.number }
+    ensures visited { HasVisited shared.now cell result taker.old taker.new }
+{
+    let Some(mut state) = shared.shelf.fetch(&mut taker.seat, cell) else {
+        return Visited::Out;
+    };
+    let stepped = advance_unless_ended(shared, cell, &mut state, gate);
+    let woke = state.woke();
+    shared.shelf.put_back(&mut taker.seat, cell, state);
+    match stepped {
+        Some(step) => {
+            taker.woken = woke;
+            shared.signs.set(woke);
+            shared.ways.forward(rt, &mut taker.way, woke);
+            Visited::Stepped(step)
+        }
+        None => {
+            taker.ended[cell as usize] = true;
+            Visited::Ended
+        }
+    }
+}

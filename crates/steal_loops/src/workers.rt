@@ -1,0 +1,102 @@
+//! What a worker does until all cells are at their end.
+ghost use Rattle.std.specs.Prelude.{◌≡◌, ◌<◌, IsTrue};
+ghost use Rattle.steal_loops.specs.Cells.{AreCells, HaveFinished};
+ghost use Rattle.steal_loops.specs.Takers.{IsTaker, IsWorker};
+
+use crate::ready::{visit_signed, visit_some, visit_woken};
+use crate::rounds::visit_until_done;
+use crate::shared::Shared;
+use crate::taker::{Taker, are_all};
+use crossbeam_utils::Backoff;
+use pw_base::Gate;
+use std::sync::Wait;
+
+// Looks at the oldest number in the worker's queue. Whether there was one, and the node has no sign
+// any more, or the visit of its cell did something.
+fn visit_given<R: Wait, G: Gate>(rt: &R, gate: &G, shared: &Shared, taker: &mut Taker) -> bool
+    requires cells { AreCells shared.now }
+    requires taker { IsTaker shared.now taker.old }
+    requires own { taker.old.way.number < shared.now.ways.loops }
+    ensures taker { IsTaker shared.now taker.new }
+    ensures number { taker.new.way.number ≡ taker.old.way.number }
+{
+    let Some(node) = shared.ways.receive(rt, &mut taker.way) else {
+        return false;
+    };
+    if !shared.signs.take(node) {
+        return true;
+    }
+    visit_signed(rt, gate, shared, taker, node)
+}
+
+// One round: of what the worker's last step woke, else of the oldest number in its queue, else of
+// some node that has a sign. Whether something was done.
+fn go_round<R: Wait, G: Gate>(rt: &R, gate: &G, shared: &Shared, taker: &mut Taker) -> bool
+    requires cells { AreCells shared.now }
+    requires taker { IsTaker shared.now taker.old }
+    requires own { taker.old.way.number < shared.now.ways.loops }
+    ensures taker { IsTaker shared.now taker.new }
+    ensures number { taker.new.way.number ≡ taker.old.way.number }
+{
+    if visit_woken(rt, gate, shared, taker) {
+        return true;
+    }
+    if visit_given(rt, gate, shared, taker) {
+        return true;
+    }
+    visit_some(rt, gate, shared, taker)
+}
+
+// One round, and of all cells where several before it found nothing. Whether all cells were found
+// at their end; where nothing was done else, the thread lets others run.
+fn is_over<R: Wait, G: Gate>(
+    rt: &R,
+    gate: &G,
+    shared: &Shared,
+    taker: &mut Taker,
+    backoff: &Backoff,
+) -> bool
+    requires cells { AreCells shared.now }
+    requires taker { IsTaker shared.now taker.old }
+    requires own { taker.old.way.number < shared.now.ways.loops }
+    ensures taker { IsTaker shared.now taker.new }
+    ensures number { taker.new.way.number ≡ taker.old.way.number }
+    ensures over { IsTrue result → HaveFinished shared.now }
+{
+    if go_round(rt, gate, shared, taker) {
+        backoff.reset();
+        return false;
+    }
+    if backoff.is_completed() {
+        if visit_until_done(rt, gate, shared, taker) {
+            return false;
+        }
+        if are_all(taker.ended.as_slice()) {
+            return true;
+        }
+    }
+    backoff.snooze();
+    false
+}
+
+/// The rounds of a worker, until it has found every cell at its end: it visits a cell whose node
+/// its last step woke, else that of the oldest number in its queue, else one whose node has a sign.
+/// It does not rest; where it found nothing it lets others run, and after some such rounds in a row
+/// it goes through all cells in each. It may wait. Takes no memory.
+/// Condition: the way is that of a worker.
+pub(crate) fn run_worker<R: Wait, G: Gate>(rt: &R, gate: &G, shared: &Shared, taker: Taker) -> Taker
+    requires cells { AreCells shared.now }
+    requires worker { IsWorker shared.now taker }
+    ensures worker { IsWorker shared.now result }
+    ensures over { HaveFinished shared.now }
+{
+    let mut taker = taker;
+    let backoff = Backoff::new();
+    shared.ways.start(&taker.way);
+    for _ in rt.forever() {
+        if is_over(rt, gate, shared, &mut taker, &backoff) {
+            break;
+        }
+    }
+    taker
+}
