@@ -57,6 +57,7 @@ use Rattle.graph_plan.specs.Parts.{is_among, IsPartOf, AreParts, IsPartition}
 use Rattle.graph_plan.specs.SoundGraph.{IsSoundGraph}
 use Rattle.graph_plan.specs.Together.{has_both, last_line, said_last, noted, GoesOn, FollowTogether}
 use Rattle.graph_plan.proofs.ListLemmas.{behind, origin, stands_for}
+use Rattle.graph_plan.proofs.PartedLemmas.{begun_nodes}
 use Rattle.graph_plan.proofs.PartitionLemmas.{among_has}
 use Rattle.graph_plan.proofs.RehearsalLemmas.{rehearsal_kinds}
 use Rattle.graph_plan.proofs.RehearsalOneLemmas.{rehearses_sound, rehearses_one}
@@ -409,10 +410,6 @@ part_there names ms ps h nodes c = go ms ps h c.0 c.1 c.2 where
   go (x ∷ xs) [] h k low e = absurd h
   go (x ∷ xs) (y ∷ ys) h zero low e = (y, (0, omega arith, refl), h.0.nodes ∙ e)
   go (x ∷ xs) (y ∷ ys) h (suc k) low e = let r = go xs ys h.1 k (omega (arith, low)) e in (r.0, behind y ys r.0 r.1, r.2)
-
-begun_nodes : (start : Graph) (parts : List (List ℕ)) → map (λ (m : Member). m.nodes) (map (λ (nodes : List ℕ). record { nodes = nodes; graph = start }) parts) ≡ parts
-begun_nodes start [] = refl
-begun_nodes start (p ∷ ps) = ap (λ (xs : List (List ℕ)). p ∷ xs) (begun_nodes start ps)
 
 module _ (script : Script) (ranges : HasRanges script) (has : HasKinds script) (named : NamesMade 0 script.lines) (ports : List Node)
     (script_ports : AreScriptPorts script.lines ports) (waves : List WavIn) where

@@ -26,6 +26,7 @@ use Rattle.graph_plan.specs.Joining.{JoinsKinds}
 use Rattle.graph_plan.specs.Members.{IsFirst, IsMemberOf, AreReady, IsLastMember}
 use Rattle.graph_plan.specs.PartLines.{part_lines, part_script}
 use Rattle.graph_plan.specs.Parted.{begun, AreBegun, IsBegun, IsPartOfMember, IsPartsAnswer, IsParted}
+use Rattle.graph_plan.specs.Parts.{IsPartition}
 use Rattle.graph_plan.specs.Planned.{IsPlanned}
 use Rattle.graph_plan.proofs.PartLineLemmas.{ranges_kept, kinds_kept, names_kept, ports_kept, start_same}
 use Rattle.graph_plan.proofs.PlanOneLemmas.{start_one}
@@ -64,6 +65,11 @@ module _ (lines : List Line) (ports : List Node) (start : Graph) (is : IsStart l
 
   pub members_ready : (parts : List (List ℕ)) (ms : List Member) → AllZip (IsFirst lines ports) parts ms → All (IsMemberOf start.kinds) ms
   members_ready parts ms h = firsts_ready parts ms h
+
+pub begun_nodes : (start : Graph) (parts : List (List ℕ))
+    → map (λ (m : Member). m.nodes) (map (λ (nodes : List ℕ). record { nodes = nodes; graph = start }) parts) ≡ parts
+begun_nodes start [] = refl
+begun_nodes start (p ∷ ps) = ap (λ (xs : List (List ℕ)). p ∷ xs) (begun_nodes start ps)
 
 -- AT THE END
 pub last_members : (count : ℕ) (t : Together) → AreReady t → count ≡ length t.whole.kinds → All (IsLastMember count) t.members
@@ -118,6 +124,34 @@ module _ (script : Script) (ranges : HasRanges script) (has : HasKinds script) (
       (subst (λ (t : Together). AllZip (IsAlone waves script.lines) t.members answer.0.members) starts.2 alone) answer.2.parts
   parted_each (Err (F.Limit line which)) h = tt
   parted_each (Err F.Memory) h = tt
+
+  -- ITS NODES are those of the partition
+  alone_nodes : (ms ends : List Member) → AllZip (IsAlone waves script.lines) ms ends → map (λ (m : Member). m.nodes) ends ≡ map (λ (m : Member). m.nodes) ms
+  alone_nodes [] [] t = refl
+  alone_nodes [] (e ∷ es) t = absurd t
+  alone_nodes (m ∷ ms) [] t = absurd t
+  alone_nodes (m ∷ ms) (e ∷ es) t = ap (λ (ns : List ℕ). ns ∷ map (λ (x : Member). x.nodes) es) t.0.nodes_are
+      ∙ ap (λ (nss : List (List ℕ)). m.nodes ∷ nss) (alone_nodes ms es t.1)
+
+  part_nodes_are : (ends : List Member) (parts : List Part) → AllZip (IsPartOfMember script.names) ends parts
+      → map (λ (p : Part). p.nodes) parts ≡ map (λ (m : Member). m.nodes) ends
+  part_nodes_are [] [] t = refl
+  part_nodes_are [] (p ∷ ps) t = absurd t
+  part_nodes_are (e ∷ es) [] t = absurd t
+  part_nodes_are (e ∷ es) (p ∷ ps) t = ap (λ (ns : List ℕ). ns ∷ map (λ (x : Part). x.nodes) ps) t.0.nodes
+      ∙ ap (λ (nss : List (List ℕ)). e.nodes ∷ nss) (part_nodes_are es ps t.1)
+
+  pub parted_nodes : (r : Result Parts PlanFault) → IsParted script.lines script.names waves ports r
+      → IfOk r (λ p. IsPartition script.lines (length script.names) waves ports (map (λ part. part.nodes) p.parts))
+  parted_nodes (Ok p) h =
+      let begins : IsBegun script.lines (length script.names) waves ports h.0 = h.1 in
+      let starts : AreBegun script.lines ports begins.0 h.0 = begins.2 in
+      let answer : IsPartsAnswer script.names waves h.0 script.lines (Ok p) = h.2 in
+      subst (IsPartition script.lines (length script.names) waves ports) (sym (part_nodes_are answer.0.members p.parts answer.2.parts
+      ∙ (alone_nodes h.0.members answer.0.members (each_alone waves script.lines h.0 answer.0 answer.1)
+      ∙ (ap (λ (t : Together). map (λ (m : Member). m.nodes) t.members) starts.2 ∙ begun_nodes starts.0 begins.0)))) begins.1
+  parted_nodes (Err (F.Limit line which)) h = tt
+  parted_nodes (Err F.Memory) h = tt
 
   own_sound : (part : Part) → IsOwnPlan part → IsSoundPlan part.plan
   own_sound part h = planned_sound (part_script part.nodes script) (ranges_kept part.nodes script ranges) (kinds_kept part.nodes script has)

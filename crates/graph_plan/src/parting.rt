@@ -1,5 +1,5 @@
 //! The parts of a script, each with a plan of its own.
-ghost use Rattle.std.specs.Prelude.{◌≡◌, ◌⊎◌, ◌≤◌, length, IfOk, Ok, All};
+ghost use Rattle.std.specs.Prelude.{◌≡◌, ◌⊎◌, ◌≤◌, length, map, IfOk, Ok, All};
 ghost use Rattle.std.specs.List.{AllZip};
 ghost use Rattle.pw_base.specs.SoundPlan.{IsSoundPlan};
 ghost use Rattle.cycle_model.specs.WavesFit.{WavesFit};
@@ -12,6 +12,7 @@ ghost use Rattle.graph_plan.specs.Members.{AreReady, IsStanding, IsLastMember};
 ghost use Rattle.graph_plan.specs.PartLines.{part_lines};
 ghost use Rattle.graph_plan.specs.Parted.{IsPartOfMember, ArePartsOf, IsPartsAnswer, IsParted};
 ghost use Rattle.graph_plan.specs.Parted.{IsWithin, IsNoChange};
+ghost use Rattle.graph_plan.specs.Parts.{IsPartition};
 ghost use Rattle.graph_plan.specs.Planned.{IsPlanned};
 
 use crate::beginning::begin;
@@ -132,8 +133,11 @@ pub fn parts(
     requires waves { HaveWaves ports waves.now }
     ensures parted { IsParted script.now.lines script.now.names waves.now ports result }
 
-    // What follows from it: each part has the plan of its own lines, which is sound, its waves fit,
-    // and its lines join outputs to inputs. No link between parts comes or goes.
+    // What follows from it: the parts are those of `part_nodes`, and each has the plan of its own
+    // lines, which is sound, its waves fit, and its lines join outputs to inputs. No link between
+    // parts comes or goes.
+    ensures nodes { IfOk result (λ p. IsPartition script.now.lines (length script.now.names)
+        waves.now ports (map (λ part. part.nodes) p.parts)) }
     ensures each { IfOk result (λ p. All (λ part.
         IsPlanned (part_lines part.nodes script.now.lines) script.now.names waves.now ports
         (Ok part.plan)) p.parts) }

@@ -1,7 +1,11 @@
 -- Each part has the plan of its own lines, and no link between parts comes or goes.
 use Rattle.graph_plan.proofs.BetweenLemmas.{parted_between}
-use Rattle.graph_plan.proofs.PartedLemmas.{parted_each, parted_sound, parted_fit, parted_joined}
+use Rattle.graph_plan.proofs.PartedLemmas.{parted_nodes, parted_each, parted_sound, parted_fit, parted_joined}
 use Rattle.graph_plan.proofs.parting.parts.Goals as goal
+
+pub returns-clause-nodes : goal.returns-clause-nodes
+returns-clause-nodes c = parted_nodes c.args.script.now c.requires.script c.requires.kinds c.requires.made c.args.ports c.requires.ports
+    c.args.waves.now c.whole_parts.result c.whole_parts.ensures
 
 pub returns-clause-each : goal.returns-clause-each
 returns-clause-each c = parted_each c.args.script.now c.requires.script c.requires.kinds c.requires.made c.args.ports c.requires.ports
