@@ -47,3 +47,4 @@ pub mod BetweenLemmas
 pub mod PartitionOneLemmas
 pub mod PartsOneLemmas
 pub mod NotedLemmas
+pub mod JoinedLinesLemmas

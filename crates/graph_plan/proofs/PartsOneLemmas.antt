@@ -340,7 +340,7 @@ module _ (waves : List WavIn) (count : ℕ) (kinds : List Kind) (t : Together) (
         members : x.members ≡ y.members
         members = all_one waves count kinds l good t.members x.members y.members s.members h.members k.members
 
-  goes_sound : (x : Together) → GoesOn waves t l x → IsSoundTogether (grown count l.command) kinds x
+  pub goes_sound : (x : Together) → GoesOn waves t l x → IsSoundTogether (grown count l.command) kinds x
   goes_sound x h = record {
     sound = rehearses_sound waves count t.whole s.sound l.command T.Done x.whole whole_good h.whole;
     kinds_are = rehearsal_kinds waves t.whole x.whole l.command T.Done h.whole ∙ s.kinds_are;
@@ -422,7 +422,7 @@ zero_sums start none (p ∷ ps) f z =
     let cons = sum_by-cons f start.sums (map (λ (m : Member). m.graph.sums) (map (λ (nodes : List ℕ). record { nodes = nodes; graph = start }) ps)) in
     omega (arith, cons, head, rest)
 
-begun_sound : (kinds : List Kind) (start : Graph) (parts : List (List ℕ)) → IsSoundGraph 0 start → start.kinds ≡ kinds
+pub begun_sound : (kinds : List Kind) (start : Graph) (parts : List (List ℕ)) → IsSoundGraph 0 start → start.kinds ≡ kinds
     → start.sums ≡ record { events = 0; samples = 0; bytes = 0 } → IsSoundTogether 0 kinds (begun start parts)
 begun_sound kinds start parts sound kinds_are none = record {
   sound = sound;

@@ -20,4 +20,5 @@ mod together;
 pub use fault::PlanFault;
 pub use parting::parts;
 pub use partition::part_nodes;
+pub use plan_nodes::copy_node;
 pub use planning::plan;

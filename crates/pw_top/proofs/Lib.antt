@@ -3,6 +3,7 @@ pub mod AllowedLemmas
 pub mod AutomateLemmas
 pub mod CommandLineLemmas
 pub mod FormatFileLemmas
+pub mod GroupsLemmas
 pub mod HeadlineLemmas
 pub mod JoinedLemmas
 pub mod LoadsLemmas

@@ -113,7 +113,7 @@ placed_sink (l ∷ ls) n low h = here_or_later n l ls (tests n l) refl (All-head
         absurd (let no : true ≡ false = sym yes ∙ not in cc)
 
 -- what is kept is that of a sink
-all_some : {Y : Type 0} (P : Y → Type 0) (o : Option Y) (ys : List Y) → ((y : Y) → o ≡ Some y → P y) → All P ys → All P (cons_option o ys)
+pub all_some : {Y : Type 0} (P : Y → Type 0) (o : Option Y) (ys : List Y) → ((y : Y) → o ≡ Some y → P y) → All P ys → All P (cons_option o ys)
 all_some P None ys h all = all
 all_some P (Some y) ys h all = All-cons P y ys (h y refl) all
 
@@ -164,6 +164,13 @@ module _ (script : Script) (ranges : HasRanges script) (has : HasKinds script) (
   ends = follows_sound waves (kinds_of script.lines) script.lines 0 planned.0 planned.2.0
       (first_sound script.lines ports planned.0 ranges.ranges script_ports planned.1) planned.1.kinds
       (record { named = made; lines_of = lines_are script ranges has }) planned.2.1
+
+  -- its nodes are those of the script's kinds
+  pub planned_count : length plan.nodes ≡ length (kinds_of script.lines)
+  planned_count = planned.2.2.count ∙ ap (λ (ks : List Kind). length ks) ends.kinds_are
+
+  pub planned_kind : (n : ℕ) (node : PlanNode) → slice_get plan.nodes n ≡ Some node → node.kind ≡ get_or (kinds_of script.lines) n K.Dummy
+  planned_kind n node at = (planned.2.2.nodes n node at).kind ∙ ap (λ (ks : List Kind). get_or ks n K.Dummy) ends.kinds_are
 
   kind_is : (n : ℕ) → kind_at plan n ≡ get_or has.kinds n K.Dummy
   kind_is n = (like ends.count planned.2.0 ends.sound script.names plan planned.2.2).kind n
