@@ -40,6 +40,8 @@ use Rattle.cycle_model.specs.Rendering.{rendered_sinks}
 use Rattle.cycle_model.specs.WavesFit.{WavesFit}
 use Rattle.cycle_model.proofs.KeptLemmas.{kept_is_wave}
 use Rattle.cycle_trace.specs.Printable.{JoinsPorts}
+use Rattle.board_rule.specs.declared.closed.Closed.{Closed}
+use Rattle.driver_groups.specs.GroupRun.{AreRunsOf}
 use Rattle.pw_top.specs.Ending.{IsStorable}
 use Rattle.pw_top.specs.Joined.{node_of, node_in, all_of, kept_at}
 use Rattle.pw_top.specs.PlannedWork.{rendered}
@@ -86,6 +88,21 @@ module _ (waves : List WavIn) (P : Kept → Type 0) where
       → All P (filter_map (kept_at (all_of (map (λ (part : Part). rendered part.plan waves) parts)).sinks) (range_with_len 0 count))
   in_order_meets count parts h = let sinks = (all_of (map (λ (part : Part). rendered part.plan waves) parts)).sinks in
       all_found P (kept_at sinks) (range_with_len 0 count) (λ n y e. found_meets P (λ (k : Kept). k.node == n) sinks y (all_sinks parts h) e)
+
+-- THE RUNS have left what the cycle function says
+pub runs_sinks : (waves : List WavIn) (parts : List Part) (os : List Outcome) (closed : List Closed) → AreRunsOf waves parts os closed
+    → (all_of os).sinks ≡ (all_of (map (λ (part : Part). rendered part.plan waves) parts)).sinks
+runs_sinks waves [] [] closed h = refl
+runs_sinks waves [] (o ∷ os) closed h = absurd h
+runs_sinks waves (p ∷ ps) [] closed h = absurd h
+runs_sinks waves (p ∷ ps) (o ∷ os) closed h = λ i. h.3.sinks i ++ runs_sinks waves ps os h.1 h.4 i
+
+pub runs_peaks : (waves : List WavIn) (parts : List Part) (os : List Outcome) (closed : List Closed) → AreRunsOf waves parts os closed
+    → (all_of os).peaks ≡ (all_of (map (λ (part : Part). rendered part.plan waves) parts)).peaks
+runs_peaks waves [] [] closed h = refl
+runs_peaks waves [] (o ∷ os) closed h = absurd h
+runs_peaks waves (p ∷ ps) [] closed h = absurd h
+runs_peaks waves (p ∷ ps) (o ∷ os) closed h = λ i. h.3.peaks i ++ runs_peaks waves ps os h.1 h.4 i
 
 pub waves_kept : (waves : List WavIn) (parts : List Part) → All (λ part. IsSoundPlan part.plan) parts → All (λ part. WavesFit part.plan waves) parts
     → All (λ part. All (λ (kept : Kept). IsWave kept.wav) (rendered_sinks part.plan waves)) parts

@@ -1,8 +1,9 @@
 -- The expected answer of `groups SCRIPT`: what `run` loads, the plan of each part of the script, and
 -- the work of a run of them all.
 -- Source: PipeWire's documentation, "Graph Scheduling" (several drivers); scripts are this project's.
-use Rattle.std.specs.Prelude.{◌≡◌, ℕ, ◌<◌, List, length, map, All, Result, Ok, Err}
+use Rattle.std.specs.Prelude.{◌≡◌, ℕ, ◌<◌, ◌≤◌, List, length, map, All, Result, Ok, Err}
 use Rattle.pw_base.specs.Files.{Names}
+use Rattle.pw_base.specs.Limits.{nodes_limit}
 use Rattle.pw_base.specs.SoundPlan.{IsSoundPlan}
 use Rattle.pw_base.specs.declared.parts.Parts.{Parts}
 use Rattle.wav_files.specs.declared.outcome.Outcome.{Outcome}
@@ -50,6 +51,7 @@ parts_outcome p = in_order (length p.script.names)
 
 -- what follows from it: the plans can be run, the text be printed, and what sinks keep be stored
 pub record CanBeGrouped (p : Parted) : Type 0 where
+  pub few : length p.script.names ≤ nodes_limit
   pub sound : All (λ part. IsSoundPlan part.plan) p.parts.parts
   pub fit : All (λ part. WavesFit part.plan p.waves) p.parts.parts
   pub joins : All (JoinsPorts (joined_plan (length p.script.names) p.parts).nodes) p.parts.lines

@@ -16,6 +16,7 @@ returns-clause-done c = binds_goes (Reads (PartsTo c.args.script c.args.stock.po
 
 pub returns-clause-cause : goal.returns-clause-cause
 returns-clause-cause c = let r = c.requires in let known = c.in-Ok.ensures in record {
+  few = r.ranges.count;
   sound = known.sound;
   fit = known.fit;
   joins = parts_joined c.args.script r.ranges r.kinds r.made c.args.stock.ports r.stock.ports c.args.stock.waves c.in-Ok.parts known.parted known.each

@@ -24,4 +24,4 @@ named script names (Err status) e = e
 
 pub returns-in-Ok-clause-names : goal.returns-in-Ok-clause-names
 returns-in-Ok-clause-names g c = let known = c.in-Ok.ensures.cause in
-    named c.in-Ok.script (script_names c.in-Ok.script known.ranges known.order) c.plan_stock.result c.plan_stock.ensures.script
+    named c.in-Ok.field-0.script (script_names c.in-Ok.field-0.script known.ranges known.order) c.plan_stock.result c.plan_stock.ensures.script

@@ -1,0 +1,13 @@
+-- What is planned is run; a refusal has run nothing.
+use Rattle.pw_base.specs.Files.{names_in}
+use Rattle.pw_top.specs.Groups.{PartsFile}
+use Rattle.pw_top.proofs.PlayingLemmas.{plays_goes, plays_stops}
+use Rattle.pw_top.proofs.commands.groups.Grouping.play.Goals as goal
+
+pub returns-clause-told : goal.returns-clause-told
+returns-clause-told g c = λ n h. plays_goes (PartsFile (names_in (g.F.Files.held c.args.files.now)) c.args.self.script) _ _ c.in-Ok.parted
+    c.play_parts.result (c.in-Ok.ensures.told h) (c.play_parts.ensures.done n)
+
+pub returns-in-Err-clause-told : goal.returns-in-Err-clause-told
+returns-in-Err-clause-told g c = λ n h. plays_stops (PartsFile (names_in (g.F.Files.held c.args.files.now)) c.args.self.script) _ _ c.in-Err.status
+    (c.in-Err.ensures.told h) c.requires.none
