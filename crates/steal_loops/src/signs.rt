@@ -47,13 +47,15 @@ impl Signs {
         }
     }
 
-    /// Sets the signs of a set of nodes: bit n is node n. One atomic step, or none.
-    pub(crate) fn set(&self, woke: u64) {
+    /// Sets the signs of a set of nodes: bit n is node n. Those of them that have a cell. One atomic
+    /// step, or none.
+    pub(crate) fn set(&self, woke: u64) -> u64 {
         let new = woke & self.celled;
         if new != 0 {
             let word: &AtomicU64 = &self.word;
             word.fetch_or(new, Ordering::SeqCst);
         }
+        new
     }
 
     /// Sets the sign of one node again.

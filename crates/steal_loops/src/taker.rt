@@ -1,5 +1,5 @@
 //! What one thread takes cells with.
-ghost use Rattle.std.specs.Prelude.{◌≡◌, ◌<◌, All, IfOk, IsTrue, false, replicate, true};
+ghost use Rattle.std.specs.Prelude.{◌≡◌, All, IfOk, IsTrue, false, replicate, true};
 
 use data_loop::Way;
 use pw_base::{Items, Memory};
@@ -48,10 +48,7 @@ impl Taker {
 }
 
 /// The cell to look at, of so many, where `next` is one or the number behind the last.
-pub(crate) fn cell_at(next: usize, cells: usize) -> usize
-    requires { 0 < cells }
-    ensures { result < cells }
-{
+pub(crate) fn cell_at(next: usize, cells: usize) -> usize {
     if next < cells { next } else { 0 }
 }
 

@@ -118,8 +118,7 @@ pub(crate) fn visit<R: Wait, G: Gate>(
     shared.shelf.put_back(&mut taker.seat, cell, state);
     match stepped {
         Some(step) => {
-            taker.woken = woke;
-            shared.signs.set(woke);
+            taker.woken = shared.signs.set(woke);
             shared.ways.forward(rt, &mut taker.way, woke);
             Visited::Stepped(step)
         }

@@ -4,7 +4,7 @@ ghost use Rattle.steal_loops.specs.Cells.{AreCells, HaveFinished};
 ghost use Rattle.steal_loops.specs.Takers.{IsTaker, IsWorker};
 
 use crate::ready::{visit_signed, visit_some, visit_woken};
-use crate::rounds::visit_until_done;
+use crate::rounds::visit_next;
 use crate::shared::Shared;
 use crate::taker::{Taker, are_all};
 use crossbeam_utils::Backoff;
@@ -47,8 +47,8 @@ fn go_round<R: Wait, G: Gate>(rt: &R, gate: &G, shared: &Shared, taker: &mut Tak
     visit_some(rt, gate, shared, taker)
 }
 
-// One round, and of all cells where several before it found nothing. Whether all cells were found
-// at their end; where nothing was done else, the thread lets others run.
+// One round, and where several before it found nothing a visit of one cell more. Whether all cells
+// were found at their end; where nothing was done else, the thread lets others run.
 fn is_over<R: Wait, G: Gate>(
     rt: &R,
     gate: &G,
@@ -68,7 +68,7 @@ fn is_over<R: Wait, G: Gate>(
         return false;
     }
     if backoff.is_completed() {
-        if visit_until_done(rt, gate, shared, taker) {
+        if visit_next(rt, gate, shared, taker) {
             return false;
         }
         if are_all(taker.ended.as_slice()) {
@@ -82,7 +82,7 @@ fn is_over<R: Wait, G: Gate>(
 /// The rounds of a worker, until it has found every cell at its end: it visits a cell whose node
 /// its last step woke, else that of the oldest number in its queue, else one whose node has a sign.
 /// It does not rest; where it found nothing it lets others run, and after some such rounds in a row
-/// it goes through all cells in each. It may wait. Takes no memory.
+/// it also goes through all cells, one a round. It may wait. Takes no memory.
 /// Condition: the way is that of a worker.
 pub(crate) fn run_worker<R: Wait, G: Gate>(rt: &R, gate: &G, shared: &Shared, taker: Taker) -> Taker
     requires cells { AreCells shared.now }
