@@ -39,8 +39,8 @@ impl Patrol {
 // The rounds after which a `Backoff` is completed, and some more.
 const LOOKS: usize = 16;
 
-// A visit of one cell more. Where that does nothing the thread lets others run; once it has seen all
-// cells it rests until it is unparked, if a worker was started.
+// A visit of one cell more. Where that does nothing the thread lets others run; once it has seen
+// all cells it rests until it is unparked, if a worker was started.
 fn look_on<R: Wait, G: Gate>(rt: &R, gate: &G, shared: &Shared, patrol: &mut Patrol)
     requires cells { AreCells shared.now }
     requires patrol { IsPatrol shared.now patrol.old }
@@ -64,9 +64,9 @@ fn look_on<R: Wait, G: Gate>(rt: &R, gate: &G, shared: &Shared, patrol: &mut Pat
     patrol.begin_anew();
 }
 
-/// The end of a round, in which something was done or not. Where nothing was, the thread lets others
-/// run; after some such rounds in a row it also goes through all cells, one a round, and then rests.
-/// It may wait. Takes no memory.
+/// The end of a round, in which something was done or not. Where nothing was, the thread lets
+/// others run; after some such rounds in a row it also goes through all cells, one a round, and
+/// then rests. It may wait. Takes no memory.
 pub(crate) fn end_round<R: Wait, G: Gate>(
     rt: &R,
     gate: &G,
