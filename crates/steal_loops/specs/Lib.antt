@@ -1,4 +1,5 @@
 pub mod Cells
 pub mod Crews
+pub mod NodeSets
 pub mod Takers
 pub mod Visits

@@ -11,15 +11,19 @@ use Rattle.steal_loops.specs.declared.taker.Taker.{Taker}
 use Rattle.steal_loops.specs.declared.visiting.Visited.{Visited}
 use Rattle.steal_loops.specs.declared.visiting.Visited.TheVariants.{Out, Ended, Stepped}
 use Rattle.steal_loops.specs.Cells.{HasFinished}
+use Rattle.steal_loops.specs.NodeSets.{IsBut}
 
--- A STEP: the cell was found so, made one step, was put back, and what it woke was sent
+-- A STEP: the cell was found so, made one step, was put back, and what it woke was sent, but for
+-- the node that the thread keeps
 pub record HasMadeStep (shared : Shared) (i : ℕ) (a b : Taker) : Type 0 where
   pub found : LoopState
   pub back : LoopState
   pub allowed : IsAllowed shared.shelf i found
   pub stepped : HasStepped shared.boards found back
   pub lacks : LacksCell b.seat i
-  pub sent : HasSent shared.ways back.woke a.way b.way
+  pub others : ℕ
+  pub but : IsBut b.kept back.woke others
+  pub sent : HasSent shared.ways others a.way b.way
 
 -- THE VISIT of the cell i, by what became of it: another has it; it was at its end and was put
 -- back; or a step was made

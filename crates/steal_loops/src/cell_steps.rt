@@ -47,7 +47,8 @@ fn turned(ran: bool) -> Step {
 
 /// One turn of a cell on the board of its epoch, or the way into the next epoch where it has no
 /// cycles left in this one. What it woke is in the cell. Takes no memory, does not wait.
-/// Condition: the cell is under way on these boards, has epochs left, and none of its nodes drives.
+/// Condition: the cell is under way on these boards, has epochs left, and none of its nodes
+/// drives.
 pub(crate) fn step_cell<G: Gate>(boards: &Items<Board>, state: &mut LoopState, gate: &G) -> Step
     requires under_way { IsUnderWay boards.now state.old }
     requires left { state.old.epoch < length (plan_of state.old).epochs }

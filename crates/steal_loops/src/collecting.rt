@@ -61,9 +61,9 @@ fn collect<R: Wait, G: Gate>(
     state
 }
 
-/// Takes all cells from the shelf for good, in their order, each after all its epochs. The list is
-/// empty, and has room for all. It waits for who has a cell; once the workers are joined, none has.
-/// Takes no memory.
+/// Takes all cells from the shelf for good, in their order, each after all its epochs. The list
+/// is empty, and has room for all. It waits for who has a cell; once the workers are joined, none
+/// has. Takes no memory.
 pub(crate) fn collect_all<R: Wait, G: Gate>(
     rt: &R,
     gate: &G,

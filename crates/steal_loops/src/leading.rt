@@ -28,9 +28,9 @@ pub(crate) struct Driving {
 
 // All epochs of a plan in order, by the driver's thread. `own` has the drivers. After a cycle has
 // begun, the thread goes in rounds: a turn of `own`, visits of the cells that are ready, and one
-// claim of the driver's node, which ends the cycle where the node is awake. What the beginning and
-// each step woke is sent. After some rounds in a row in which nothing was done, the thread goes
-// through all cells, and where that does nothing it rests until it is unparked, if a worker was
+// claim of the driver's node, which ends the cycle where the node is awake. What the beginning
+// and each step woke is sent. After some rounds in a row in which nothing was done, the thread
+// also goes through all cells, one a round, and then rests until it is unparked, if a worker was
 // started. Each cycle makes at most one check, where the ticker says so. It may wait. Takes no
 // memory.
 // Condition: there is one board an epoch, in order, no epoch is begun, and the loop and the cells
@@ -99,6 +99,7 @@ pub(crate) fn lead<R: Wait, G: Gate, K: Ticker>(
     let mut patrol = Patrol {
         taker,
         absent,
+        idle: 0,
         backoff: Backoff::new(),
     };
     run_epochs(

@@ -4,14 +4,14 @@ ghost use Rattle.steal_loops.specs.Cells.{AreCells};
 ghost use Rattle.steal_loops.specs.Takers.{IsTaker};
 
 use crate::shared::Shared;
-use crate::signs::least_of;
 use crate::taker::Taker;
 use crate::visiting::{has_done, leaves_ready, visit};
 use pw_base::Gate;
 use std::sync::Wait;
 
-/// Visits the cell of a node whose sign this thread took. The sign is set again where the node may
-/// still be ready. Whether the visit did something. It may wait where it sends. Takes no memory.
+/// Visits the cell of a node whose sign this thread took, or that it kept. The sign is set again
+/// where the node may still be ready. Whether the visit did something. It may wait where it
+/// sends. Takes no memory.
 pub(crate) fn visit_signed<R: Wait, G: Gate>(
     rt: &R,
     gate: &G,
@@ -36,10 +36,9 @@ pub(crate) fn visit_signed<R: Wait, G: Gate>(
     has_done(found)
 }
 
-/// Visits the cell of the first node that this thread's last step woke, if its sign is still there:
-/// what that node reads lies near. Whether the visit did something. It may wait where it sends.
-/// Takes no memory.
-pub(crate) fn visit_woken<R: Wait, G: Gate>(
+/// Visits the cell of the node that this thread's last step woke and that it kept: what that node
+/// reads lies near. Whether the visit did something. It may wait where it sends. Takes no memory.
+pub(crate) fn visit_kept<R: Wait, G: Gate>(
     rt: &R,
     gate: &G,
     shared: &Shared,
@@ -50,18 +49,15 @@ pub(crate) fn visit_woken<R: Wait, G: Gate>(
     ensures taker { IsTaker shared.now taker.new }
     ensures number { taker.new.way.number ≡ taker.old.way.number }
 {
-    let Some(node) = least_of(taker.woken) else {
+    let Some(node) = taker.kept else {
         return false;
     };
-    taker.woken = 0;
-    if !shared.signs.take(node) {
-        return false;
-    }
+    taker.kept = None;
     visit_signed(rt, gate, shared, taker, node)
 }
 
-/// Visits the cell of some node that has a sign. Whether the visit did something. It may wait where
-/// it sends. Takes no memory.
+/// Visits the cell of some node that has a sign. Whether the visit did something. It may wait
+/// where it sends. Takes no memory.
 pub(crate) fn visit_some<R: Wait, G: Gate>(
     rt: &R,
     gate: &G,
@@ -79,15 +75,15 @@ pub(crate) fn visit_some<R: Wait, G: Gate>(
     }
 }
 
-// A visit of a cell that is ready, if one is found: first what the last step woke. Whether it did
-// something.
+// A visit of a cell that is ready, if one is found: first that of the node that is kept. Whether
+// it did something.
 fn visit_one<R: Wait, G: Gate>(rt: &R, gate: &G, shared: &Shared, taker: &mut Taker) -> bool
     requires cells { AreCells shared.now }
     requires taker { IsTaker shared.now taker.old }
     ensures taker { IsTaker shared.now taker.new }
     ensures number { taker.new.way.number ≡ taker.old.way.number }
 {
-    if visit_woken(rt, gate, shared, taker) {
+    if visit_kept(rt, gate, shared, taker) {
         return true;
     }
     visit_some(rt, gate, shared, taker)

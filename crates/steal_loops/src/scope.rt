@@ -18,8 +18,8 @@ use std::thread;
 use std::thread::{Scope, Threads};
 
 /// What a run begins with, beside what its threads share: what the workers take cells with, what
-/// the driver's thread has, and lists with room for all handles, and for all cells and the driver's
-/// own loop.
+/// the driver's thread has, and lists with room for all handles, and for all cells and the
+/// driver's own loop.
 #[derive(Drop)]
 pub(crate) struct Crew {
     pub workers: Items<Taker>,
@@ -28,8 +28,8 @@ pub(crate) struct Crew {
     pub done: Room<LoopState>,
 }
 
-/// All cells and the driver's own loop, and the drivers' seats of all boards, after the last epoch;
-/// and how many numbers the workers took out of their queues.
+/// All cells and the driver's own loop, and the drivers' seats of all boards, after the last
+/// epoch; and how many numbers the workers took out of their queues.
 #[derive(Drop)]
 pub(crate) struct Ended {
     pub done: Items<LoopState>,

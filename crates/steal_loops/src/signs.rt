@@ -1,9 +1,12 @@
 //! The signs of nodes that were woken, by which threads find the cells that are ready.
 //!
 //! A visit of a cell that is not ready is not free: the cell comes to the thread's processor and
-//! leaves that of the thread that runs it. So threads look for signs first: bit n of one word is 1
-//! once node n was woken, until a thread takes it up. A sign is a hint alone: contracts see nothing
-//! of it, and a thread that finds none for a while visits all cells.
+//! leaves that of the thread that runs it. So threads look for signs first: bit n of one word is
+//! 1 once node n was woken, until a thread takes it up. A sign is a hint alone: contracts see
+//! nothing of it, and a thread that finds none for a while visits all cells.
+ghost use Rattle.std.specs.Prelude.{◌<◌, IfSome, Some};
+ghost use Rattle.steal_loops.specs.NodeSets.{IsBut};
+
 use crossbeam_utils::CachePadded;
 use graph_run::Seating;
 use std::sync::atomic::{AtomicU64, Ordering};
@@ -33,9 +36,19 @@ fn celled_nodes(seating: &Seating) -> u64 {
 }
 
 // The least node of a set, if there is one.
-pub(crate) fn least_of(set: u64) -> Option<u32> {
+fn least_of(set: u64) -> Option<u32>
+    ensures { IfSome result (λ node. node < 64) }
+{
     let node = set.trailing_zeros();
     if node < 64 { Some(node) } else { None }
+}
+
+// The set without one node.
+fn without(set: u64, node: u32) -> u64
+    requires { node < 64 }
+    ensures { IsBut (Some node) set result }
+{
+    set & !(1 << node)
 }
 
 impl Signs {
@@ -53,6 +66,23 @@ impl Signs {
         if new != 0 {
             let word: &AtomicU64 = &self.word;
             word.fetch_or(new, Ordering::SeqCst);
+        }
+    }
+
+    /// The first node of a set that has a cell, if there is one, and the set without it.
+    pub(crate) fn split(&self, woke: u64) -> (Option<u32>, u64)
+        ensures { IsBut result.0 woke result.1 }
+    {
+        match least_of(woke & self.celled) {
+            Some(node) => (Some(node), without(woke, node)),
+            None => (None, woke),
+        }
+    }
+
+    /// Sets the sign of a node that a thread kept, if it kept one.
+    pub(crate) fn give_up(&self, kept: Option<u32>) {
+        if let Some(node) = kept {
+            self.set_again(node);
         }
     }
 

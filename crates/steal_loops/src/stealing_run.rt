@@ -18,9 +18,9 @@ use std::sync::Wait;
 use std::thread::Threads;
 use wav_files::{Outcome, WavIn};
 
-/// Runs a plan as `run_stealing` does, where `starts` refuses the starts of workers too. It answers
-/// the same, and how many numbers the workers took out of their queues in all, of which no clause
-/// tells anything.
+/// Runs a plan as `run_stealing` does, where `starts` refuses the starts of workers too. It
+/// answers the same, and how many numbers the workers took out of their queues in all, of which
+/// no clause tells anything.
 pub fn run_stealing_with<R: Threads + Wait + Sync, G: Gate + Sync, K: Ticker, S: Starts>(
     rt: &R,
     alloc: Global,
@@ -72,9 +72,9 @@ pub fn run_stealing_with<R: Threads + Wait + Sync, G: Gate + Sync, K: Ticker, S:
 
 /// Runs a plan on boards, one an epoch, by the caller's thread, which drives, and by `loops`
 /// workers beside it, each in a thread of its own: any thread runs any node that is triggered and
-/// never drives. A worker that `adopt` names, or whose start is refused, is not started; the others
-/// run all nodes, and the driver's thread does where there is none. It answers what the sinks and
-/// meters have kept, what happened, and the closed boards.
+/// never drives. A worker that `adopt` names, or whose start is refused, is not started; the
+/// others run all nodes, and the driver's thread does where there is none. It answers what the
+/// sinks and meters have kept, what happened, and the closed boards.
 ///
 /// Workers do not rest: each uses a processor until all nodes have ended, which it yields where
 /// there is nothing to do. All memory is taken before the first cycle. It may wait.

@@ -1,20 +1,20 @@
 //! What one thread takes cells with.
-ghost use Rattle.std.specs.Prelude.{◌≡◌, ◌<◌, All, IfOk, IsTrue, false, replicate, true};
+ghost use Rattle.std.specs.Prelude.{◌≡◌, All, IfOk, IsTrue, false, replicate, true};
 
 use data_loop::Way;
 use pw_base::{Items, Memory};
 use std::alloc::Global;
 use steal_shelf::ShelfSeat;
 
-/// What one thread takes cells with: its seat of the shelf, its way to the queues, and which cells
-/// it has found at their end. Where it looks first: for the nodes that its last step woke, for the
-/// signs from node `node` on, and for the cells from `next` on.
+/// What one thread takes cells with: its seat of the shelf, its way to the queues, and which
+/// cells it has found at their end. Where it looks first: for the node that its last step woke
+/// and that it kept, for the signs from node `node` on, and for the cells from `next` on.
 #[derive(Drop)]
 pub(crate) struct Taker {
     pub seat: ShelfSeat,
     pub way: Way,
     pub ended: Vec<bool>,
-    pub woken: u64,
+    pub kept: Option<u32>,
     pub node: u32,
     pub next: usize,
 }
@@ -40,7 +40,7 @@ impl Taker {
             seat,
             way,
             ended,
-            woken: 0,
+            kept: None,
             node,
             next: 0,
         })
@@ -48,10 +48,7 @@ impl Taker {
 }
 
 /// The cell to look at, of so many, where `next` is one or the number behind the last.
-pub(crate) fn cell_at(next: usize, cells: usize) -> usize
-    requires { 0 < cells }
-    ensures { result < cells }
-{
+pub(crate) fn cell_at(next: usize, cells: usize) -> usize {
     if next < cells { next } else { 0 }
 }
 

@@ -71,8 +71,8 @@ fn advance<G: Gate>(shared: &Shared, cell: u32, state: &mut LoopState, gate: &G)
     step_cell(&shared.boards, state, gate)
 }
 
-/// One step of a cell that was fetched, unless all its epochs are done: None. Takes no memory, does
-/// not wait.
+/// One step of a cell that was fetched, unless all its epochs are done: None. Takes no memory,
+/// does not wait.
 pub(crate) fn advance_unless_ended<G: Gate>(
     shared: &Shared,
     cell: u32,
@@ -92,9 +92,9 @@ pub(crate) fn advance_unless_ended<G: Gate>(
     Some(advance(shared, cell, state, gate))
 }
 
-/// One try of a cell: where it is at home, one step of it, after which it is put back and what it
-/// woke is sent. One that is found at its end is noted. It may wait where it sends. Takes no
-/// memory.
+/// One try of a cell: where it is at home, one step of it, after which it is put back. What it
+/// woke is sent, but for the first node that has a cell: the thread keeps that, to visit its cell
+/// next. One that is found at its end is noted. It may wait where it sends. Takes no memory.
 /// Condition: there is such a cell.
 pub(crate) fn visit<R: Wait, G: Gate>(
     rt: &R,
@@ -118,9 +118,11 @@ pub(crate) fn visit<R: Wait, G: Gate>(
     shared.shelf.put_back(&mut taker.seat, cell, state);
     match stepped {
         Some(step) => {
-            taker.woken = woke;
-            shared.signs.set(woke);
-            shared.ways.forward(rt, &mut taker.way, woke);
+            shared.signs.give_up(taker.kept);
+            let (kept, others) = shared.signs.split(woke);
+            taker.kept = kept;
+            shared.signs.set(others);
+            shared.ways.forward(rt, &mut taker.way, others);
             Visited::Stepped(step)
         }
         None => {

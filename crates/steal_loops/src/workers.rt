@@ -3,16 +3,16 @@ ghost use Rattle.std.specs.Prelude.{◌≡◌, ◌<◌, IsTrue};
 ghost use Rattle.steal_loops.specs.Cells.{AreCells, HaveFinished};
 ghost use Rattle.steal_loops.specs.Takers.{IsTaker, IsWorker};
 
-use crate::ready::{visit_signed, visit_some, visit_woken};
-use crate::rounds::visit_until_done;
+use crate::ready::{visit_kept, visit_signed, visit_some};
+use crate::rounds::visit_next;
 use crate::shared::Shared;
 use crate::taker::{Taker, are_all};
 use crossbeam_utils::Backoff;
 use pw_base::Gate;
 use std::sync::Wait;
 
-// Looks at the oldest number in the worker's queue. Whether there was one, and the node has no sign
-// any more, or the visit of its cell did something.
+// Looks at the oldest number in the worker's queue. Whether there was one, and the node has no
+// sign any more, or the visit of its cell did something.
 fn visit_given<R: Wait, G: Gate>(rt: &R, gate: &G, shared: &Shared, taker: &mut Taker) -> bool
     requires cells { AreCells shared.now }
     requires taker { IsTaker shared.now taker.old }
@@ -29,7 +29,7 @@ fn visit_given<R: Wait, G: Gate>(rt: &R, gate: &G, shared: &Shared, taker: &mut 
     visit_signed(rt, gate, shared, taker, node)
 }
 
-// One round: of what the worker's last step woke, else of the oldest number in its queue, else of
+// One round: of the node that the worker keeps, else of the oldest number in its queue, else of
 // some node that has a sign. Whether something was done.
 fn go_round<R: Wait, G: Gate>(rt: &R, gate: &G, shared: &Shared, taker: &mut Taker) -> bool
     requires cells { AreCells shared.now }
@@ -38,7 +38,7 @@ fn go_round<R: Wait, G: Gate>(rt: &R, gate: &G, shared: &Shared, taker: &mut Tak
     ensures taker { IsTaker shared.now taker.new }
     ensures number { taker.new.way.number ≡ taker.old.way.number }
 {
-    if visit_woken(rt, gate, shared, taker) {
+    if visit_kept(rt, gate, shared, taker) {
         return true;
     }
     if visit_given(rt, gate, shared, taker) {
@@ -47,8 +47,8 @@ fn go_round<R: Wait, G: Gate>(rt: &R, gate: &G, shared: &Shared, taker: &mut Tak
     visit_some(rt, gate, shared, taker)
 }
 
-// One round, and of all cells where several before it found nothing. Whether all cells were found
-// at their end; where nothing was done else, the thread lets others run.
+// One round, and where several before it found nothing a visit of one cell more. Whether all cells
+// were found at their end; where nothing was done else, the thread lets others run.
 fn is_over<R: Wait, G: Gate>(
     rt: &R,
     gate: &G,
@@ -68,7 +68,7 @@ fn is_over<R: Wait, G: Gate>(
         return false;
     }
     if backoff.is_completed() {
-        if visit_until_done(rt, gate, shared, taker) {
+        if visit_next(rt, gate, shared, taker) {
             return false;
         }
         if are_all(taker.ended.as_slice()) {
@@ -79,10 +79,11 @@ fn is_over<R: Wait, G: Gate>(
     false
 }
 
-/// The rounds of a worker, until it has found every cell at its end: it visits a cell whose node
-/// its last step woke, else that of the oldest number in its queue, else one whose node has a sign.
-/// It does not rest; where it found nothing it lets others run, and after some such rounds in a row
-/// it goes through all cells in each. It may wait. Takes no memory.
+/// The rounds of a worker, until it has found every cell at its end: it visits the cell of the
+/// node that its last step woke and that it kept, else that of the oldest number in its queue,
+/// else one whose node has a sign. It does not rest; where it found nothing it lets others run,
+/// and after some such rounds in a row it also goes through all cells, one a round. It may wait.
+/// Takes no memory.
 /// Condition: the way is that of a worker.
 pub(crate) fn run_worker<R: Wait, G: Gate>(rt: &R, gate: &G, shared: &Shared, taker: Taker) -> Taker
     requires cells { AreCells shared.now }

@@ -1,20 +1,18 @@
 use Rattle.std.proofs.Common.{ℕ, refl, subst}
-use Rattle.ready_queues.specs.Forwarding.{HasForwarded}
+use Rattle.steal_loops.specs.NodeSets.{IsBut}
 use Rattle.steal_loops.proofs.TakerLemmas.{flagged, at_end}
 use Rattle.steal_loops.proofs.visiting.visit.Goals as goal
 
 pub returns-in-Some-stepped-clause-visited : goal.returns-in-Some-stepped-clause-visited
-returns-in-Some-stepped-clause-visited g c = let ways = c.args.shared.now.ways in record {
+returns-in-Some-stepped-clause-visited g c = record {
   found = c.in-Some.state;
   back = c.advance_unless_ended-stepped.new.state;
   allowed = c.in-Some.ensures.some.1;
   stepped = c.in-Some-stepped.ensures.stepped;
   lacks = c.put_back.ensures.back.lacks;
-  sent = (
-    c.forward.result,
-    subst (λ (n : ℕ). HasForwarded ways.owner ways.loops n c.forward.result c.args.taker.now.way c.forward.new.way) c.woke-woke.ensures
-        c.forward.ensures.sent,
-  );
+  others = c.split-kept.result.1;
+  but = subst (λ (n : ℕ). IsBut c.split-kept.result.0 n c.split-kept.result.1) c.woke-woke.ensures c.split-kept.ensures;
+  sent = (c.forward.result, c.forward.ensures.sent);
 }
 
 pub returns-in-None-clause-taker : goal.returns-in-None-clause-taker

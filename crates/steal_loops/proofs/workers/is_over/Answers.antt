@@ -4,5 +4,5 @@ use Rattle.steal_loops.proofs.TakerLemmas.{all_ended}
 use Rattle.steal_loops.proofs.workers.is_over.Goals as goal
 
 pub returns-then-are_all-clause-over : goal.returns-then-are_all-clause-over
-returns-then-are_all-clause-over g c is = all_ended c.args.shared.now c.visit_until_done.new.taker c.visit_until_done.ensures.taker
+returns-then-are_all-clause-over g c is = all_ended c.args.shared.now c.visit_next.new.taker c.visit_next.ensures.taker
     (subst (All (λ e. e ≡ true)) c.as_slice.ensures.value (c.are_all.ensures c.if-are_all.true))
