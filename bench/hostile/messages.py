@@ -31,7 +31,7 @@ def sentences(place):
     for words, status, line, sentence in [
             (["run", "take.graph"], 2, "script 3 7\n", 'take.graph:3: no node is called "vox"'),
             (["run", "pair.graph", "--loops", "2"], 2, "script 2 7\n",
-             'pair.graph:2: "g.out" or "v.in" names no node'),
+             'pair.graph:2: "v.in" names no node'),
             (["run", "wav.graph"], 3, "wav 1 1\n",
              "wav.graph:1: vox.wav: this is no RIFF WAVE file"),
             (["run", "gone.graph"], 5, "absent 1\n",

@@ -1,6 +1,6 @@
 //! The table of messages: each why of scripts, WAV files, PODs and limits once, and each place.
 
-use fault_messages::{explain, message};
+use fault_messages::message;
 use graph_script::ScriptWhy;
 use pw_base::{Items, Memory, Which};
 use pw_top::{PodWhy, Status};
@@ -34,7 +34,7 @@ fn is_message(
     status: Status,
     text: &[u8],
 ) -> bool {
-    match message(alloc, &status, words, line) {
+    match message(alloc, &status, words, line, b"".as_slice()) {
         Ok(said) => said.as_slice() == text,
         Err(_memory) => false,
     }
@@ -197,7 +197,7 @@ const SCRIPTS: &'static [(ScriptWhy, &'static [u8], &'static [u8])] = &[
     (
         ScriptWhy::NameUnknown,
         b"link vox.out o.in",
-        b"\"vox.out\" or \"o.in\" names no node",
+        b"\"vox.out\" names no node",
     ),
     (
         ScriptWhy::PortUnknown,
@@ -396,6 +396,10 @@ const PODS: &'static [(PodWhy, &'static [u8])] = &[
         b"a POD of more than 1048576 bytes: 1048577",
     ),
     (
+        PodWhy::Large { size: 1179011410 },
+        b"a POD of more than 1048576 bytes: 1179011410; it begins with RIFF, as a WAV file does",
+    ),
+    (
         PodWhy::Nul { offset: 8 },
         b"a string without a nul at its end, at byte 8",
     ),
@@ -406,19 +410,19 @@ const PODS: &'static [(PodWhy, &'static [u8])] = &[
     (PodWhy::NotObject, b"the POD is no object"),
     (
         PodWhy::KeyTwice { key: 1 },
-        b"a property stands twice, under key 1",
+        b"a property stands twice, under key 1 (media type)",
     ),
     (
         PodWhy::FlagsChoice { key: 2 },
-        b"a choice of flags, under key 2",
+        b"a choice of flags, under key 2 (media subtype)",
     ),
     (
-        PodWhy::BadRange { key: 3 },
-        b"a range that is none, under key 3",
+        PodWhy::BadRange { key: 65537 },
+        b"a range that is none, under key 65537 (sample format)",
     ),
     (
-        PodWhy::BadStep { key: 4 },
-        b"a step that is none, under key 4",
+        PodWhy::BadStep { key: 65540 },
+        b"a step that is none, under key 65540 (channels)",
     ),
     (
         PodWhy::EmptyChoice { key: 5 },
@@ -427,7 +431,7 @@ const PODS: &'static [(PodWhy, &'static [u8])] = &[
     (PodWhy::NotFormat, b"the object is no format"),
     (
         PodWhy::Clash { key: 65539 },
-        b"nothing is left of what the port offers, under key 65539",
+        b"nothing is left of what the port offers, under key 65539 (rate)",
     ),
     (PodWhy::NotSequence, b"the POD is no control sequence"),
     (
@@ -719,7 +723,13 @@ fn help_unlike(alloc: Global, lines: &[&'static str]) -> Option<usize> {
         let Ok(words) = words_of(alloc, line) else {
             return Some(place);
         };
-        match message(alloc, &Status::Usage { word: 0 }, words.as_slice(), None) {
+        match message(
+            alloc,
+            &Status::Usage { word: 0 },
+            words.as_slice(),
+            None,
+            b"".as_slice(),
+        ) {
             Ok(text) => {
                 if !text.as_slice().starts_with(b"pipegraph 0.1: ".as_slice()) {
                     return Some(place);
@@ -744,46 +754,4 @@ fn command_lines_in_words(rt: HostRuntime) {
     assert_eq!(rt; said_unlike(rt.alloc(), USAGES), None);
     assert_eq!(rt; help_unlike(rt.alloc(), HELP), None);
     assert!(rt; is_silent(rt.alloc()));
-}
-
-/// A script whose second line names no node.
-const VOX: &'static [u8] = b"gain a 1\non vox\n";
-
-// Whether a status of these words is told so, where the run read that script.
-fn is_explained(alloc: Global, command: &str, status: Status, said: &[u8]) -> bool {
-    let Ok(words) = words_of(alloc, command) else {
-        return false;
-    };
-    match explain(alloc, &status, words.as_slice(), Some(VOX)) {
-        Ok(text) => text.as_slice() == said,
-        Err(_memory) => false,
-    }
-}
-
-#[test]
-fn the_line_is_that_of_the_script_that_was_read(rt: HostRuntime) {
-    let unknown = Status::Script {
-        line: 2,
-        why: ScriptWhy::NameUnknown,
-    };
-    assert!(rt;
-        is_explained(
-            rt.alloc(),
-            "run t.graph",
-            unknown,
-            b"pipegraph: t.graph:2: no node is called \"vox\"\n"
-        )
-    );
-}
-
-#[test]
-fn a_word_is_no_line(rt: HostRuntime) {
-    assert!(rt;
-        is_explained(
-            rt.alloc(),
-            "dump x.pod",
-            Status::Absent { place: 1 },
-            b"pipegraph: x.pod: there is no such file\n"
-        )
-    );
 }

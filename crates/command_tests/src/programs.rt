@@ -30,8 +30,9 @@ const REFUSED: Told = Told {
     failing: (0, 0),
 };
 
-/// A refusal, one whose sentence cannot be written, an accepted script, a script that its first
-/// sink overwrites before the store of the second fails, and words that are no command line.
+/// A refusal, one whose sentence cannot be written, an accepted script, one with notes, a script
+/// that its first sink overwrites before the store of the second fails, and words that are no
+/// command line.
 const ROWS: &'static [Told] = &[
     REFUSED,
     Told {
@@ -44,6 +45,15 @@ const ROWS: &'static [Told] = &[
         code: 0,
         out: b"link s.out o.in 48000 1 2\nwrote o 4\n",
         errors: b"",
+        ..REFUSED
+    },
+    Told {
+        script: b"quantum 2\nsource s s.wav\nsink o o.wav\nmeter m\nlink s.out o.in\n\
+            link s.out o.in\ncycles 2\n",
+        code: 0,
+        out: b"link s.out o.in 48000 1 2\nnolink s.out o.in twice\nwrote o 4\nunused m\n",
+        errors: b"pipegraph: s.graph:6: \"s.out\" to \"o.in\" is no link: it is there already\n\
+            pipegraph: s.graph:4: \"m\" had no format at the end, so it has no peak\n",
         ..REFUSED
     },
     Told {
@@ -69,13 +79,13 @@ fn comes_out<R: Threads + Wait + Sync + AllocGlobal>(rt: &R, told: Told) -> Resu
     let alloc = rt.alloc();
     let words = words_of(alloc, told.line)?;
     let files = files_of(alloc, told.script, &[S_WAV], told.faults)?;
-    let mut out = MemSink::new(alloc)?;
+    let out = MemSink::new(alloc)?;
     let mut errors = MemSink::new(alloc)?;
     errors.fail_put(alloc, told.failing.0, told.failing.1)?;
-    let ended = run_program(rt, alloc, words.as_slice(), files, &mut out, &mut errors);
+    let ended = run_program(rt, alloc, words.as_slice(), files, out, &mut errors);
     Ok(
         ended.code == told.code
-            && out.bytes().as_slice() == told.out
+            && ended.out.bytes().as_slice() == told.out
             && errors.bytes().as_slice() == told.errors,
     )
 }

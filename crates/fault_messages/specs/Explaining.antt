@@ -1,10 +1,11 @@
 -- The message of a status, with the line of the script that it names, by the bytes of the script
--- that the run read. This project's.
-use Rattle.std.specs.Prelude.{ℕ, List, Option, Some, None, if◌then◌else◌}
+-- that the run read; and the notes on a command that was accepted. This project's.
+use Rattle.std.specs.Prelude.{ℕ, List, [], ◌++◌, Option, Some, None, if◌then◌else◌}
 use Rattle.pw_top.specs.declared.status.Status.{Status}
 use Rattle.pw_top.specs.declared.status.Status.TheVariants as S
-use Rattle.fault_messages.specs.Places.{is_line, line_at}
+use Rattle.fault_messages.specs.Places.{Words, is_line, line_at}
 use Rattle.fault_messages.specs.Message.{message_of}
+use Rattle.fault_messages.specs.Notes.{notes}
 
 -- the place of a status
 abbrev pub place_of : Status → Option ℕ
@@ -27,6 +28,17 @@ line_named None words script = None
 line_named (Some place) words script =
     if is_line words place then line_in script place else None
 
--- THE MESSAGE of a status, by the words and by the bytes of the script, where they are at hand
-abbrev pub explained : Status → List (List ℕ) → Option (List ℕ) → List ℕ
-explained status words script = message_of status words (line_named (place_of status) words script)
+abbrev pub bytes_in : Option (List ℕ) → List ℕ
+bytes_in None = []
+bytes_in (Some bytes) = bytes
+
+abbrev pub noted : Status → Words → Option (List ℕ) → Option (List ℕ) → List ℕ
+noted S.Ok words script told = notes words script told
+noted _ words script told = []
+
+-- THE MESSAGE of a status, by the words, by the bytes of the script and by the text that was put,
+-- where they are at hand
+unfoldable pub explained : Status → Words → Option (List ℕ) → Option (List ℕ) → List ℕ
+explained status words script told =
+    message_of status words (line_named (place_of status) words script) (bytes_in script)
+    ++ noted status words script told

@@ -2,7 +2,7 @@
 use Rattle.std.specs.Prelude.{ℕ, ◌==◌, ◌||◌, Bool, false, bytes_eq, nat_lt, if◌then◌else◌, List, [], ◌++◌, length, codes, decimal, Option, Some, None}
 use Rattle.pw_top.specs.declared.status.Status.{Status}
 use Rattle.pw_top.specs.declared.status.Status.TheVariants as S
-use Rattle.fault_messages.specs.Places.{word, place_text, file_part, quoted}
+use Rattle.fault_messages.specs.Places.{Words, word, place_text, file_part, quoted, lines_before}
 use Rattle.fault_messages.specs.ScriptMessages.{script_said}
 use Rattle.fault_messages.specs.PodMessages.{pod_said}
 use Rattle.fault_messages.specs.FileMessages.{wav_said, limit_text}
@@ -27,21 +27,22 @@ usage_text words i =
 abbrev pub at_place : List (List ℕ) → ℕ → List ℕ → List ℕ
 at_place words place what = place_text words place ++ (codes ": " ++ what)
 
-abbrev pub sentence : Status → List (List ℕ) → Option (List ℕ) → List ℕ
-sentence S.Ok words line = []
-sentence (S.Usage i) words line = usage_text words i
-sentence (S.Script n why) words line = at_place words n (script_said why line)
-sentence (S.Wav place why) words line = at_place words place (file_part line ++ wav_said why)
-sentence (S.Pod place why) words line = at_place words place (file_part line ++ pod_said why)
-sentence (S.Absent place) words line =
+abbrev pub sentence : Status → List (List ℕ) → Option (List ℕ) → List ℕ → List ℕ
+sentence S.Ok words line script = []
+sentence (S.Usage i) words line script = usage_text words i
+sentence (S.Script n why) words line script =
+    at_place words n (script_said why line (lines_before script n))
+sentence (S.Wav place why) words line script = at_place words place (file_part line ++ wav_said why)
+sentence (S.Pod place why) words line script = at_place words place (file_part line ++ pod_said why)
+sentence (S.Absent place) words line script =
     at_place words place (file_part line ++ codes "there is no such file")
-sentence (S.ReadFault place) words line =
+sentence (S.ReadFault place) words line script =
     at_place words place (file_part line ++ codes "the file cannot be read")
-sentence (S.WriteFault place) words line =
+sentence (S.WriteFault place) words line script =
     if place == 0 then codes "standard output cannot be written"
     else at_place words place (file_part line ++ codes "the file cannot be written")
-sentence (S.Limit place which) words line = at_place words place (limit_text which line)
-sentence S.Memory words line = codes "no memory was left"
+sentence (S.Limit place which) words line script = at_place words place (limit_text which line)
+sentence S.Memory words line script = codes "no memory was left"
 
 -- where the words ask for help, or there are none: what the commands do
 abbrev pub is_help_word : List ℕ → Bool
@@ -62,12 +63,12 @@ after S.Ok = []
 after (S.Usage i) = codes "\n" ++ synopsis
 after _ = codes "\n"
 
--- THE MESSAGE of a status, by the words and by the line of the script that is at fault, where it is
--- at hand; nothing where all was done
-unfoldable pub message_of : Status → List (List ℕ) → Option (List ℕ) → List ℕ
-message_of status words line =
+-- THE MESSAGE of a status, by the words, by the line of the script that is at fault, where it is at
+-- hand, and by the script; nothing where all was done
+unfoldable pub message_of : Status → Words → Option (List ℕ) → List ℕ → List ℕ
+message_of status words line script =
     if asks_help status words then help
-    else before status ++ (sentence status words line ++ after status)
+    else before status ++ (sentence status words line script ++ after status)
 
 -- the message of words that could not be read: the first that is no text, counted from 1; or none
 -- was found, and memory was short

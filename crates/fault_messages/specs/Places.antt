@@ -1,9 +1,13 @@
 -- Where a fault is: a word of the command line, or a line of the script. This project's.
-use Rattle.std.specs.Prelude.{ℕ, ◌==◌, ◌-◌, ◌&&◌, ◌||◌, not, Bool, if◌then◌else◌, List, [], ◌++◌}
+use Rattle.std.specs.Prelude.{ℕ, ◌==◌, ◌-◌, ◌&&◌, ◌||◌, not, Bool, if◌then◌else◌, List, [], ◌++◌, take}
 use Rattle.std.specs.Prelude.{codes, decimal, bytes_eq, slice_get, slice_index_or, Option, Some, None}
 use Rattle.graph_script.specs.Lexical.{lines_of, words_of}
 use Rattle.pw_top.specs.Check.{trace_place}
 use Rattle.fault_messages.specs.Escaping.{escaped}
+
+-- words of a command line or of a line, or lines of a text
+abbrev pub Words : Type 0
+Words = List (List ℕ)
 
 -- a word by its index; nothing where there is none
 abbrev pub word : List (List ℕ) → ℕ → List ℕ
@@ -28,9 +32,12 @@ abbrev pub place_text : List (List ℕ) → ℕ → List ℕ
 place_text words place =
     if reads_script words then script_place words place else escaped (word words place)
 
--- the line of a script, counted from 1
+-- the line of a script, counted from 1, and those before it
 abbrev pub line_at : List ℕ → ℕ → Option (List ℕ)
 line_at script n = slice_get (lines_of script) (n - 1)
+
+abbrev pub lines_before : List ℕ → ℕ → List (List ℕ)
+lines_before script n = take (n - 1) (lines_of script)
 
 -- the file that a line names: the word behind the port of `offer`, and behind the name of other
 -- nodes

@@ -1,8 +1,9 @@
 -- Why a POD is refused, in words. The faults are those of PipeWire's documentation, "SPA POD"; the
 -- sentences are this project's.
-use Rattle.std.specs.Prelude.{ℕ, List, [], ◌++◌, codes, decimal, Option, Some, None}
+use Rattle.std.specs.Prelude.{ℕ, ◌==◌, List, [], ◌++◌, codes, decimal, Option, Some, None, if◌then◌else◌}
 use Rattle.pw_top.specs.declared.status.PodWhy.{PodWhy}
 use Rattle.pw_top.specs.declared.status.PodWhy.TheVariants as P
+use Rattle.fault_messages.specs.KeyNames.{key_part}
 
 -- the words; where a number is carried, it follows them
 abbrev pub pod_words : PodWhy → List ℕ
@@ -54,6 +55,21 @@ abbrev pub number_text : Option ℕ → List ℕ
 number_text None = []
 number_text (Some n) = decimal n
 
+-- behind the number: the name of a key, and of a size the four letters that a WAV file begins with
+abbrev pub size_part : ℕ → List ℕ
+size_part size =
+    if size == 0x46464952 then codes "; it begins with RIFF, as a WAV file does" else []
+
+abbrev pub pod_behind : PodWhy → List ℕ
+pod_behind (P.Large size) = size_part size
+pod_behind (P.KeyTwice key) = key_part key
+pod_behind (P.FlagsChoice key) = key_part key
+pod_behind (P.BadRange key) = key_part key
+pod_behind (P.BadStep key) = key_part key
+pod_behind (P.EmptyChoice key) = key_part key
+pod_behind (P.Clash key) = key_part key
+pod_behind _ = []
+
 -- WHY A POD IS REFUSED
 abbrev pub pod_said : PodWhy → List ℕ
-pod_said why = pod_words why ++ number_text (carried why)
+pod_said why = pod_words why ++ (number_text (carried why) ++ pod_behind why)

@@ -1,5 +1,5 @@
 -- Why a script is refused, in words. The script grammar and the sentences are this project's.
-use Rattle.std.specs.Prelude.{ℕ, ◌==◌, ◌||◌, Bool, if◌then◌else◌, List, [], ◌++◌, codes, bytes_eq, Option, Some, None}
+use Rattle.std.specs.Prelude.{ℕ, ◌==◌, if◌then◌else◌, List, [], ◌++◌, codes, Option, Some, None}
 use Rattle.std.specs.List.{list_any}
 use Rattle.graph_script.specs.Lexical.{words_of}
 use Rattle.graph_script.specs.declared.fault.ScriptWhy.{ScriptWhy}
@@ -13,6 +13,7 @@ use Rattle.fault_messages.specs.NumberRules.{number_place, number_rule}
 use Rattle.fault_messages.specs.Places.{word, quoted}
 use Rattle.fault_messages.specs.PortEnds.{port_said}
 use Rattle.fault_messages.specs.ScriptWords.{script_text, of_word}
+use Rattle.fault_messages.specs.UnknownNames.{unknown_name}
 
 -- a word that is no command, with the one that is meant
 abbrev pub command_text : List ℕ → Option (List ℕ) → List ℕ
@@ -47,13 +48,7 @@ number_said ws =
 abbrev pub name_said : List (List ℕ) → List ℕ
 name_said ws = rule_said (word ws (name_place ws)) (name_rule ws (name_place ws))
 
--- a name or a port that is not there
-abbrev pub unknown_name : List (List ℕ) → List ℕ
-unknown_name ws =
-    if is_pair ws
-    then quoted (word ws 1) ++ (codes " or " ++ (quoted (word ws 2) ++ codes " names no node"))
-    else (codes "no node is called " ++ quoted (word ws 1))
-
+-- a port that is not there
 abbrev pub no_port : List ℕ → List ℕ → List ℕ
 no_port name port = quoted name ++ (codes " has no port " ++ quoted port)
 
@@ -62,19 +57,19 @@ unknown_port ws =
     if is_pair ws then port_said (word ws 1) (word ws 2) else no_port (word ws 1) (word ws 2)
 
 -- with the line
-abbrev pub named_text : ScriptWhy → List ℕ → List ℕ
-named_text F.Byte line = byte_said line
-named_text F.Command line = command_said (word (words_of line) 0)
-named_text F.Arguments line = form_said (word (words_of line) 0) line
-named_text F.Number line = number_said (words_of line)
-named_text F.NameForm line = name_said (words_of line)
-named_text F.QuantumLate line = script_text F.QuantumLate
-named_text (F.TooMany which) line = limit_said which
-named_text F.NameUnknown line = unknown_name (words_of line)
-named_text F.PortUnknown line = unknown_port (words_of line)
-named_text why line = of_word why (words_of line)
+abbrev pub named_text : ScriptWhy → List ℕ → List (List ℕ) → List ℕ
+named_text F.Byte line before = byte_said line
+named_text F.Command line before = command_said (word (words_of line) 0)
+named_text F.Arguments line before = form_said (word (words_of line) 0) line
+named_text F.Number line before = number_said (words_of line)
+named_text F.NameForm line before = name_said (words_of line)
+named_text F.QuantumLate line before = script_text F.QuantumLate
+named_text (F.TooMany which) line before = limit_said which
+named_text F.NameUnknown line before = unknown_name (words_of line) before
+named_text F.PortUnknown line before = unknown_port (words_of line)
+named_text why line before = of_word why (words_of line)
 
--- WHY A LINE OF A SCRIPT IS REFUSED
-abbrev pub script_said : ScriptWhy → Option (List ℕ) → List ℕ
-script_said why None = script_text why
-script_said why (Some line) = named_text why line
+-- WHY A LINE OF A SCRIPT IS REFUSED, by the line and by those before it
+abbrev pub script_said : ScriptWhy → Option (List ℕ) → List (List ℕ) → List ℕ
+script_said why None before = script_text why
+script_said why (Some line) before = named_text why line before

@@ -1,6 +1,5 @@
 //! The first byte of a line that no script may have.
 ghost use Rattle.std.specs.Prelude.{◌≡◌, ◌+◌, ◌≤◌, ◌++◌, length, OnOk};
-ghost use Rattle.std.specs.List.{prefix_len};
 ghost use Rattle.graph_script.specs.Lexical.{is_allowed};
 ghost use Rattle.fault_messages.specs.ByteFaults.{byte_place, byte_value, byte_said};
 

@@ -2,9 +2,9 @@
 ghost use Rattle.std.specs.Prelude.{◌≡◌, option_copied};
 ghost use Rattle.fault_messages.specs.CommandForms.{node_form, graph_form, time_form, form_of};
 
-// That of the command that makes a node.
+/// That of the command that makes a node.
 #[tactic(auto, unfolding(crate::specs::CommandForms::node_form))]
-fn node_form(word: &[u8]) -> Option<&'static [u8]>
+pub fn node_form(word: &[u8]) -> Option<&'static [u8]>
     ensures { option_copied result ≡ node_form word.now }
 {
     if word == b"source".as_slice() {

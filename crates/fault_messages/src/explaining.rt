@@ -1,8 +1,10 @@
-//! The message of a status, with the line of the script that it names.
-ghost use Rattle.std.specs.Prelude.{◌≡◌, map, string_bytes, option_copied, IfOk};
-ghost use Rattle.fault_messages.specs.Explaining.{place_of, line_in, line_named, explained};
+//! The message of a status, with the line of the script that it names, and the notes on a command
+//! that was accepted.
+ghost use Rattle.std.specs.Prelude.{◌≡◌, ◌++◌, map, string_bytes, option_copied, OnOk, IfOk};
+ghost use Rattle.fault_messages.specs.Explaining.{place_of, line_in, line_named, bytes_in, noted, explained};
 
 use crate::lines::line_at;
+use crate::notes::put_notes;
 use crate::places::is_line;
 use crate::sentences::message;
 use pw_base::{Memory, Text};
@@ -56,19 +58,52 @@ fn line_named<'a>(
     }
 }
 
+// The bytes of the script; none where they are not at hand.
+fn bytes_in(script: Option<&[u8]>) -> &[u8]
+    ensures { result.now ≡ bytes_in (option_copied script.entry) }
+{
+    match script {
+        None => b"".as_slice(),
+        Some(bytes) => bytes,
+    }
+}
+
+// The notes, where all was done.
+fn put_noted(
+    text: &mut Text,
+    status: &Status,
+    words: &[String],
+    script: Option<&[u8]>,
+    told: Option<&[u8]>,
+) -> Result<(), Memory>
+    ensures { OnOk result (text.new ≡ text.old ++ noted status.now (map string_bytes words.now)
+        (option_copied script.entry) (option_copied told.entry)) }
+{
+    match status {
+        Status::Ok => put_notes(text, words, script, told),
+        _ => Ok(()),
+    }
+}
+
 /// The message of a status in words, by the words of the command line without the program's name,
-/// and by the bytes of the script that the run read, where they are at hand. Where the status names
-/// a line of a script, the message has the names of that line. Nothing where all was done, and
-/// nothing is loaded.
+/// by the bytes of the script that the run read and by the text that it put, where these are at
+/// hand. Where the status names a line of a script, the message has the names of that line. Where
+/// all was done, it has a note for each link that was not made, for each sink and meter without a
+/// format, for each sink that a later one overwrote, and for what a check or a filter found.
+/// Nothing is loaded.
+#[tactic(auto, unfolding(crate::specs::Explaining::explained))]
 pub fn explain(
     alloc: Global,
     status: &Status,
     words: &[String],
     script: Option<&[u8]>,
+    told: Option<&[u8]>,
 ) -> Result<Text, Memory>
-    ensures { IfOk result (λ text. text
-        ≡ explained status.now (map string_bytes words.now) (option_copied script.entry)) }
+    ensures { IfOk result (λ text. text ≡ explained status.now (map string_bytes words.now)
+        (option_copied script.entry) (option_copied told.entry)) }
 {
     let line = line_named(place_of(status), words, script);
-    message(alloc, status, words, line)
+    let mut text = message(alloc, status, words, line, bytes_in(script))?;
+    put_noted(&mut text, status, words, script, told)?;
+    Ok(text)
 }

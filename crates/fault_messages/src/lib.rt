@@ -1,6 +1,7 @@
 //! Statuses in words, for people: what is wrong, and where, with the names that the command line
 //! and the script have for it. A message is one sentence; that of a command line also has the words
-//! of all commands.
+//! of all commands. Where all was done there are notes: links that were not made, sinks without a
+//! format, what a check or a filter found.
 #![tactic(auto)]
 
 mod byte_faults;
@@ -9,10 +10,13 @@ mod escaping;
 mod explaining;
 mod file_messages;
 mod help;
+mod key_names;
 mod lines;
+mod link_notes;
 mod name_rules;
 mod nearest;
 mod nearness;
+mod notes;
 mod number_rules;
 mod places;
 mod pod_messages;
@@ -20,6 +24,9 @@ mod port_ends;
 mod putting;
 mod script_messages;
 mod sentences;
+mod sink_notes;
+mod told_lines;
+mod unknown_names;
 
 pub use explaining::explain;
 pub use sentences::{message, words_message};

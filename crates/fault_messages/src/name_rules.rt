@@ -63,8 +63,8 @@ fn dot_place(word: &[u8]) -> usize
     word.iter().take_while(|b| **b != b'.').count()
 }
 
-// What stands before the first dot.
-fn end_name(word: &[u8]) -> &[u8]
+/// What stands before the first dot of an end.
+pub fn end_name(word: &[u8]) -> &[u8]
     ensures { result.now ≡ end_name word.now }
 {
     let (name, _rest) = word.split_at(dot_place(word));

@@ -1,9 +1,13 @@
 //! Why a POD is refused, in words.
 ghost use Rattle.std.specs.Prelude.{◌≡◌, ◌++◌, OnOk};
-ghost use Rattle.fault_messages.specs.PodMessages.{pod_words, carried, pod_said};
+ghost use Rattle.fault_messages.specs.PodMessages.{pod_words, carried, number_text, size_part, pod_behind, pod_said};
 
+use crate::key_names::put_key;
 use pw_base::{Memory, Text, append_decimal};
 use pw_top::PodWhy;
+
+/// The letters that a WAV file begins with, as a number of four bytes.
+const RIFF: u32 = 0x46464952;
 
 // The words; where a number is carried, it follows them.
 fn pod_words(why: PodWhy) -> &'static [u8]
@@ -61,13 +65,47 @@ fn carried(why: PodWhy) -> Option<u32>
     }
 }
 
+fn put_carried(text: &mut Text, why: PodWhy) -> Result<(), Memory>
+    ensures { OnOk result (text.new ≡ text.old ++ number_text (carried why)) }
+{
+    match carried(why) {
+        None => Ok(()),
+        Some(n) => append_decimal(text, u64::from(n)),
+    }
+}
+
+// What is said of a size that is the front of a WAV file.
+fn size_part(size: u32) -> &'static [u8]
+    ensures { result.now ≡ size_part size }
+{
+    if size == RIFF {
+        b"; it begins with RIFF, as a WAV file does"
+    } else {
+        b""
+    }
+}
+
+// What stands behind the number.
+fn put_pod_behind(text: &mut Text, why: PodWhy) -> Result<(), Memory>
+    ensures { OnOk result (text.new ≡ text.old ++ pod_behind why) }
+{
+    match why {
+        PodWhy::Large { size } => text.extend(size_part(size)),
+        PodWhy::KeyTwice { key } => put_key(text, key),
+        PodWhy::FlagsChoice { key } => put_key(text, key),
+        PodWhy::BadRange { key } => put_key(text, key),
+        PodWhy::BadStep { key } => put_key(text, key),
+        PodWhy::EmptyChoice { key } => put_key(text, key),
+        PodWhy::Clash { key } => put_key(text, key),
+        _ => Ok(()),
+    }
+}
+
 /// Why a POD is refused.
 pub fn put_pod(text: &mut Text, why: PodWhy) -> Result<(), Memory>
     ensures { OnOk result (text.new ≡ text.old ++ pod_said why) }
 {
     text.extend(pod_words(why))?;
-    match carried(why) {
-        None => Ok(()),
-        Some(n) => append_decimal(text, u64::from(n)),
-    }
+    put_carried(text, why)?;
+    put_pod_behind(text, why)
 }

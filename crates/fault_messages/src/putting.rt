@@ -1,8 +1,11 @@
 //! Quoted words and numbers at the end of a text. After `Memory` the text has a part of it.
-ghost use Rattle.std.specs.Prelude.{◌≡◌, ◌++◌, decimal, OnOk};
-ghost use Rattle.fault_messages.specs.Places.{quoted};
+ghost use Rattle.std.specs.Prelude.{◌≡◌, ◌++◌, decimal, map, string_bytes, OnOk};
+ghost use Rattle.fault_messages.specs.Places.{word, quoted};
+ghost use Rattle.fault_messages.specs.Escaping.{escaped};
+ghost use Rattle.fault_messages.specs.ToldLines.{note_head};
 
 use crate::escaping::put_escaped;
+use crate::places::word_at;
 use pw_base::{Memory, Text, append_decimal};
 
 /// A word in quotes.
@@ -100,4 +103,76 @@ pub fn put_quoted_rule(
     put_behind(text, word, between)?;
     text.extend(rule)?;
     text.extend(behind)
+}
+
+/// Words, a word as it is shown, further words, others as they are, and the last words.
+pub fn put_shown(
+    text: &mut Text,
+    before: &[u8],
+    word: &[u8],
+    between: &[u8],
+    others: &[u8],
+    behind: &[u8],
+) -> Result<(), Memory>
+    ensures { OnOk result (text.new ≡ text.old
+        ++ (before.now ++ (escaped word.now ++ (between.now ++ (others.now ++ behind.now))))) }
+{
+    text.extend(before)?;
+    put_escaped(text, word)?;
+    text.extend(between)?;
+    text.extend(others)?;
+    text.extend(behind)
+}
+
+/// Two words as they are shown, with words before, between and behind them.
+pub fn put_shown_pair(
+    text: &mut Text,
+    before: &[u8],
+    first: &[u8],
+    between: &[u8],
+    second: &[u8],
+    behind: &[u8],
+) -> Result<(), Memory>
+    ensures { OnOk result (text.new ≡ text.old
+        ++ (before.now ++ (escaped first.now ++ (between.now ++ (escaped second.now
+        ++ behind.now))))) }
+{
+    text.extend(before)?;
+    put_escaped(text, first)?;
+    text.extend(between)?;
+    put_escaped(text, second)?;
+    text.extend(behind)
+}
+
+/// Words, a word as it is shown, and a number between words.
+pub fn put_shown_number(
+    text: &mut Text,
+    before: &[u8],
+    word: &[u8],
+    between: &[u8],
+    n: u32,
+    behind: &[u8],
+) -> Result<(), Memory>
+    ensures { OnOk result (text.new ≡ text.old
+        ++ (before.now ++ (escaped word.now ++ (between.now ++ (decimal n ++ behind.now))))) }
+{
+    text.extend(before)?;
+    put_escaped(text, word)?;
+    put_number(text, between, n, behind)
+}
+
+// The program's name and a line of a file.
+#[tactic(auto, unfolding(crate::specs::ToldLines::note_head))]
+fn put_line_head(text: &mut Text, file: &[u8], number: u32) -> Result<(), Memory>
+    ensures { OnOk result (text.new ≡ text.old ++ note_head file.now number) }
+{
+    put_shown_number(text, b"pipegraph: ", file, b":", number, b": ")
+}
+
+/// The program's name and a line of the script of a command, at the front of a note.
+pub fn put_note_head(text: &mut Text, words: &[String], number: u32) -> Result<(), Memory>
+    ensures { OnOk result (text.new ≡ text.old
+        ++ note_head (word (map string_bytes words.now) 1) number) }
+{
+    put_line_head(text, word_at(words, 1), number)
 }

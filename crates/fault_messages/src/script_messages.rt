@@ -2,8 +2,9 @@
 ghost use Rattle.std.specs.Prelude.{◌≡◌, ◌==◌, ◌++◌, option_copied, OnOk};
 ghost use Rattle.std.specs.List.{list_any};
 ghost use Rattle.graph_script.specs.Lexical.{words_of};
-ghost use Rattle.fault_messages.specs.ScriptMessages.{command_text, command_said, form_part, comment_part, form_said};
-ghost use Rattle.fault_messages.specs.ScriptMessages.{rule_said, number_said, name_said, unknown_name};
+ghost use Rattle.fault_messages.specs.ScriptMessages.{command_said, form_part, comment_part, form_said};
+ghost use Rattle.fault_messages.specs.ScriptMessages.{rule_said, number_said, name_said};
+ghost use Rattle.fault_messages.specs.Places.{lines_before};
 ghost use Rattle.fault_messages.specs.ScriptMessages.{no_port, unknown_port};
 ghost use Rattle.fault_messages.specs.ScriptMessages.{named_text, script_said};
 ghost use Rattle.fault_messages.specs.CommandForms.{form_of};
@@ -18,7 +19,8 @@ use crate::name_rules::{is_pair, name_place, name_rule};
 use crate::nearest::meant;
 use crate::number_rules::{number_place, number_rule};
 use crate::port_ends::put_ports;
-use crate::putting::{put_before, put_behind, put_quoted_pair, put_quoted_rule, put_two_quoted};
+use crate::putting::{put_behind, put_quoted_pair, put_quoted_rule, put_two_quoted};
+use crate::unknown_names::put_unknown_name;
 use graph_script::ScriptWhy;
 use pw_base::{Memory, Text};
 
@@ -119,17 +121,6 @@ fn put_bad_name(text: &mut Text, line: &[u8]) -> Result<(), Memory>
     put_rule(text, word_of(line, place), name_rule(line, place))
 }
 
-fn put_unknown_name(text: &mut Text, line: &[u8]) -> Result<(), Memory>
-    ensures { OnOk result (text.new ≡ text.old ++ unknown_name (words_of line.now)) }
-{
-    let (first, second) = (word_of(line, 1), word_of(line, 2));
-    if is_pair(line) {
-        put_two_quoted(text, first, b" or ", second, b" names no node")
-    } else {
-        put_before(text, b"no node is called ", first)
-    }
-}
-
 fn put_no_port(text: &mut Text, name: &[u8], port: &[u8]) -> Result<(), Memory>
     ensures { OnOk result (text.new ≡ text.old ++ no_port name.now port.now) }
 {
@@ -177,8 +168,15 @@ fn put_word(text: &mut Text, why: ScriptWhy, line: &[u8]) -> Result<(), Memory>
 }
 
 // Why, with the line.
-fn put_named(text: &mut Text, why: ScriptWhy, line: &[u8]) -> Result<(), Memory>
-    ensures { OnOk result (text.new ≡ text.old ++ named_text why line.now) }
+fn put_named(
+    text: &mut Text,
+    why: ScriptWhy,
+    line: &[u8],
+    script: &[u8],
+    number: u32,
+) -> Result<(), Memory>
+    ensures { OnOk result (text.new ≡ text.old
+        ++ named_text why line.now (lines_before script.now number)) }
 {
     match why {
         ScriptWhy::Byte => put_byte(text, line),
@@ -187,18 +185,26 @@ fn put_named(text: &mut Text, why: ScriptWhy, line: &[u8]) -> Result<(), Memory>
         ScriptWhy::Number => put_bad_number(text, line),
         ScriptWhy::NameForm => put_bad_name(text, line),
         ScriptWhy::QuantumLate | ScriptWhy::TooMany(_) => text.extend(script_text(why)),
-        ScriptWhy::NameUnknown => put_unknown_name(text, line),
+        ScriptWhy::NameUnknown => put_unknown_name(text, line, script, number),
         ScriptWhy::PortUnknown => put_unknown_port(text, line),
         _ => put_word(text, why, line),
     }
 }
 
-/// Why the line of a script is refused, with its words where it is at hand.
-pub fn put_script(text: &mut Text, why: ScriptWhy, line: Option<&[u8]>) -> Result<(), Memory>
-    ensures { OnOk result (text.new ≡ text.old ++ script_said why (option_copied line.entry)) }
+/// Why the line of this number is refused, with its words where it is at hand, and by the lines
+/// before it.
+pub fn put_script(
+    text: &mut Text,
+    why: ScriptWhy,
+    line: Option<&[u8]>,
+    script: &[u8],
+    number: u32,
+) -> Result<(), Memory>
+    ensures { OnOk result (text.new ≡ text.old ++ script_said why (option_copied line.entry)
+        (lines_before script.now number)) }
 {
     match line {
         None => text.extend(script_text(why)),
-        Some(line) => put_named(text, why, line),
+        Some(line) => put_named(text, why, line, script, number),
     }
 }

@@ -70,16 +70,17 @@ fn put_sentence(
     status: &Status,
     words: &[String],
     line: Option<&[u8]>,
+    script: &[u8],
 ) -> Result<(), Memory>
-    ensures { OnOk result (text.new ≡ text.old
-        ++ sentence status.now (map string_bytes words.now) (option_copied line.entry)) }
+    ensures { OnOk result (text.new ≡ text.old ++ sentence status.now
+        (map string_bytes words.now) (option_copied line.entry) script.now) }
 {
     match *status {
         Status::Ok => Ok(()),
         Status::Usage { word } => put_usage(text, words, word),
         Status::Script { line: place, why } => {
             put_colon(text, words, place)?;
-            put_script(text, why, line)
+            put_script(text, why, line, script, place)
         }
         Status::Wav { place, why } => put_file_fault(text, words, place, line, wav_said(why)),
         Status::Pod { place, why } => {
@@ -146,24 +147,25 @@ fn asks_help(status: &Status, words: &[String]) -> bool
 }
 
 /// The message of a status in words, by the words of the command line without the program's name,
-/// and by the line of the script that is at fault, where it is at hand; what the commands do, where
-/// the words ask for help. Nothing where all was done.
+/// by the line of the script that is at fault, where it is at hand, and by the script; what the
+/// commands do, where the words ask for help. Nothing where all was done.
 #[tactic(auto, unfolding(crate::specs::Message::message_of))]
 pub fn message(
     alloc: Global,
     status: &Status,
     words: &[String],
     line: Option<&[u8]>,
+    script: &[u8],
 ) -> Result<Text, Memory>
-    ensures { IfOk result (λ text. text
-        ≡ message_of status.now (map string_bytes words.now) (option_copied line.entry)) }
+    ensures { IfOk result (λ text. text ≡ message_of status.now (map string_bytes words.now)
+        (option_copied line.entry) script.now) }
 {
     if asks_help(status, words) {
         return Items::from_slice(alloc, help());
     }
     let mut text = Items::new(alloc);
     text.extend(before(status))?;
-    put_sentence(&mut text, status, words, line)?;
+    put_sentence(&mut text, status, words, line, script)?;
     text.extend(after(status))?;
     Ok(text)
 }

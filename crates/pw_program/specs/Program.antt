@@ -1,5 +1,5 @@
 -- What the program does with the words of its command line: the answer of its run, and a sentence
--- on the error output. Source: this project's own.
+-- or notes on the error output. Source: this project's own.
 use Rattle.std.specs.Prelude.{◌≡◌, ◌⊎◌, ℕ, List, Option}
 use Rattle.pw_base.specs.Files.{Names, Held}
 use Rattle.pw_base.specs.Output.{Given}
@@ -30,10 +30,12 @@ script_name words = word words 1
 abbrev pub IsSaid : List ℕ → ℕ → ℕ → Given → Given → Type 0
 IsSaid text before now old new = GaveLine text before now old new ⊎ (new ≡ old)
 
--- THE SENTENCE of a status was put, by the words and by the bytes of the script that stood under
--- its name before the run, where they are at hand
-pub record HasSaid (held : Held) (words : List (List ℕ)) (status : Status) (before now : ℕ)
-    (old new : Given) : Type 0 where
+-- THE SENTENCE of a status, or the notes, were put: by the words, by the bytes of the script that
+-- stood under its name before the run, and by the text that the run put, where these are at hand
+pub record HasSaid (held : Held) (was_put : Option (List ℕ) → Type 0) (words : List (List ℕ))
+    (status : Status) (before now : ℕ) (old new : Given) : Type 0 where
   pub script : Option (List ℕ)
+  pub told : Option (List ℕ)
   pub read : IsReadOf held (script_name words) script
-  pub said : IsSaid (explained status words script) before now old new
+  pub put : was_put told
+  pub said : IsSaid (explained status words script told) before now old new

@@ -1,6 +1,6 @@
 //! What the program `pipegraph` does with the words of its command line, over any files, output and
-//! error output: the top call, then a sentence on the error output, then the number to end with.
-//! What the run loaded is kept for the sentence; nothing is opened after the run.
+//! error output: the top call, then a sentence or notes on the error output, then the number to end
+//! with. What the run loaded and put is kept for these; nothing is opened after the run.
 #![tactic(auto)]
 
 mod ended;

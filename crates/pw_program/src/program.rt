@@ -5,6 +5,7 @@ ghost use Rattle.pw_top.specs.Headline.{Follows, Caused, IsUsage};
 ghost use Rattle.pw_top.specs.StatusLine.{status_number};
 ghost use Rattle.pw_top.specs.Usage.{command_of};
 ghost use Rattle.fault_messages.specs.Explaining.{explained};
+ghost use Rattle.kept_output.specs.KeptOutput.{IsTied};
 ghost use Rattle.pw_program.specs.Program.{IsFollowed, IsSaid, HasSaid};
 
 use crate::ended::{Ended, Ran};
@@ -15,56 +16,67 @@ use std::alloc::Global;
 use std::sync::Wait;
 use std::thread::Threads;
 
-// Puts the sentence of a run that was made, and answers how it ended. The files are those that the
-// run left: nothing is loaded or stored.
-fn finish<F: Files, E: Sink>(
+// Puts the sentence of a run that was made, and answers how it ended. The files and the output are
+// those that the run left: nothing is loaded or stored, and nothing is put but on the error output.
+fn finish<F: Files, O: Sink, E: Sink>(
     alloc: Global,
     words: &[String],
-    ran: Ran<F>,
+    ran: Ran<F, O>,
     errors: &mut E,
-) -> Ended<F>
+) -> Ended<F, O>
     ensures files { result.files ≡ ran.files }
+    ensures out { result.out ≡ ran.out }
     ensures status { result.status ≡ ran.status }
     ensures code { result.code ≡ status_number ran.status }
-    ensures said { IsSaid (explained ran.status (map string_bytes words.now) ran.script)
+    ensures said { IsSaid (explained ran.status (map string_bytes words.now) ran.script ran.told)
         (E.faults errors.old) (E.faults errors.new) (E.given errors.old) (E.given errors.new) }
 {
-    tell(alloc, words, &ran.status, &ran.script, errors);
+    let Ran {
+        status,
+        files,
+        out,
+        script,
+        told,
+    } = ran;
+    tell(alloc, words, &status, &script, &told, errors);
     Ended {
-        status: ran.status,
-        code: ran.status.number(),
-        files: ran.files,
+        status,
+        code: status.number(),
+        files,
+        out,
     }
 }
 
-/// Does what the words of a command line ask for, puts the sentence of its status on the error
-/// output, and answers the number that the program ends with; may wait.
+/// Does what the words of a command line ask for, puts the sentence of its status, or notes where
+/// all was done, on the error output, and answers the number that the program ends with; may wait.
 ///
 /// Files, output and status are those of `run_words`: the output has what that call put and nothing
-/// else. The sentence is made of the words and of the bytes of the script that the run loaded;
-/// nothing is loaded or stored for it, and where it cannot be put, nothing else changes.
+/// else. Sentence and notes are made of the words, of the bytes of the script that the run loaded
+/// and of the text that it put; nothing is loaded or stored for them, and where they cannot be put,
+/// nothing else changes.
 pub fn run_program<R: Threads + Wait + Sync, F: Files, O: Sink, E: Sink>(
     rt: &R,
     alloc: Global,
     words: &[String],
     files: F,
-    out: &mut O,
+    out: O,
     errors: &mut E,
-) -> Ended<F>
+) -> Ended<F, O>
     // The answer of the top call: files and output by the status, where they are told.
     ensures told { IsSome (F.held files) → IsFollowed (map string_bytes words.now)
         (names_in (F.held files)) (λ a. Follows a (F.store_faults files)
-        (F.store_faults result.files) (O.faults out.old) (O.faults out.new) (F.held files)
-        (F.held result.files) (O.given out.old) (O.given out.new) result.status) result.status }
+        (F.store_faults result.files) (O.faults out) (O.faults result.out) (F.held files)
+        (F.held result.files) (O.given out) (O.given result.out) result.status) result.status }
     ensures cause { Caused (F.load_faults files) (F.load_faults result.files)
-        (F.store_faults files) (F.store_faults result.files) (O.faults out.old)
-        (O.faults out.new) result.status }
+        (F.store_faults files) (F.store_faults result.files) (O.faults out)
+        (O.faults result.out) result.status }
     ensures usage { IsUsage (command_of (map string_bytes words.now)) result.status }
     ensures code { result.code ≡ status_number result.status }
 
-    // The sentence, with a line of the script that the run read.
-    ensures said { HasSaid (F.held files) (map string_bytes words.now) result.status
-        (E.faults errors.old) (E.faults errors.new) (E.given errors.old) (E.given errors.new) }
+    // The sentence or the notes, with lines of the script that the run read, and by what it put.
+    ensures said { HasSaid (F.held files) (IsTied (O.given out) (O.given result.out))
+        (map string_bytes words.now) result.status (E.faults errors.old) (E.faults errors.new)
+        (E.given errors.old) (E.given errors.new) }
 {
     let ran = run_kept(rt, alloc, words, files, out);
     finish(alloc, words, ran, errors)

@@ -1,15 +1,18 @@
-//! The top call, over files that keep what the run loaded first.
+//! The top call, over files that keep what the run loaded first, and an output that keeps what it
+//! put.
 ghost use Rattle.std.specs.Prelude.{◌≡◌, IsSome, map, string_bytes};
 ghost use Rattle.pw_base.specs.Files.{names_in};
 ghost use Rattle.pw_top.specs.Headline.{Follows, Caused, IsUsage};
 ghost use Rattle.pw_top.specs.Usage.{command_of};
 ghost use Rattle.first_load.specs.FirstLoad.{IsReadOf};
+ghost use Rattle.kept_output.specs.KeptOutput.{IsTied};
 ghost use Rattle.pw_program.specs.Program.{IsFollowed, script_name};
 
 use crate::ended::Ran;
 use first_load::{Begun, FirstLoad};
+use kept_output::{KeptOutput, Started};
 use pw_base::{Every, Files, Items, Never, Open, Sink, Text, Ticker};
-use pw_top::{run_words, ticks_of};
+use pw_top::{Status, run_words, ticks_of};
 use std::alloc::Global;
 use std::marker::Brand;
 use std::sync::Wait;
@@ -42,34 +45,62 @@ fn script_of<F: Files, K: Begun>(
     }
 }
 
-// Does what the words ask for; may wait.
-fn run_by<R: Threads + Wait + Sync, F: Files, O: Sink, K: Begun, T: Ticker>(
+// Does what the words ask for, and answers the status; may wait.
+fn run_status<R: Threads + Wait + Sync, F: Files, O: Sink, T: Ticker>(
+    rt: &R,
+    alloc: Global,
+    words: &[String],
+    files: &mut F,
+    out: &mut O,
+    ticker: &mut T,
+) -> Status
+    ensures told { IsSome (F.held files.old) → IsFollowed (map string_bytes words.now)
+        (names_in (F.held files.old)) (λ a. Follows a (F.store_faults files.old)
+        (F.store_faults files.new) (O.faults out.old) (O.faults out.new) (F.held files.old)
+        (F.held files.new) (O.given out.old) (O.given out.new) result) result }
+    ensures cause { Caused (F.load_faults files.old) (F.load_faults files.new)
+        (F.store_faults files.old) (F.store_faults files.new) (O.faults out.old)
+        (O.faults out.new) result }
+    ensures usage { IsUsage (command_of (map string_bytes words.now)) result }
+{
+    let report = run_words(rt, alloc, words, files, out, &Open::new(), ticker);
+    report.status
+}
+
+// Does what the words ask for, over files and an output that keep what it reads and puts; may wait.
+fn run_by<R: Threads + Wait + Sync, F: Files, O: Sink, K: Begun, S: Started, T: Ticker>(
     rt: &R,
     alloc: Global,
     words: &[String],
     files: F,
-    out: &mut O,
+    out: O,
     ticker: &mut T,
-) -> Ran<F>
+) -> Ran<F, O>
     requires begun { K.begun ≡ F.held files }
+    requires started { S.started ≡ O.given out }
     ensures told { IsSome (F.held files) → IsFollowed (map string_bytes words.now)
         (names_in (F.held files)) (λ a. Follows a (F.store_faults files)
-        (F.store_faults result.files) (O.faults out.old) (O.faults out.new) (F.held files)
-        (F.held result.files) (O.given out.old) (O.given out.new) result.status) result.status }
+        (F.store_faults result.files) (O.faults out) (O.faults result.out) (F.held files)
+        (F.held result.files) (O.given out) (O.given result.out) result.status) result.status }
     ensures cause { Caused (F.load_faults files) (F.load_faults result.files)
-        (F.store_faults files) (F.store_faults result.files) (O.faults out.old)
-        (O.faults out.new) result.status }
+        (F.store_faults files) (F.store_faults result.files) (O.faults out)
+        (O.faults result.out) result.status }
     ensures usage { IsUsage (command_of (map string_bytes words.now)) result.status }
     ensures script { IsReadOf (F.held files) (script_name (map string_bytes words.now))
         result.script }
+    ensures told_text { IsTied (O.given out) (O.given result.out) result.told }
 {
     let mut kept: FirstLoad<F, K> = FirstLoad::new(files);
-    let report = run_words(rt, alloc, words, &mut kept, out, &Open::new(), ticker);
+    let mut put: KeptOutput<O, S> = KeptOutput::new(alloc, out);
+    let status = run_status(rt, alloc, words, &mut kept, &mut put, ticker);
     let script = script_of(alloc, &kept, words);
+    let (out, told) = put.into_parts();
     Ran {
-        status: report.status,
+        status,
         files: kept.into_files(),
+        out,
         script,
+        told,
     }
 }
 
@@ -79,24 +110,28 @@ pub(crate) fn run_kept<R: Threads + Wait + Sync, F: Files, O: Sink>(
     alloc: Global,
     words: &[String],
     files: F,
-    out: &mut O,
-) -> Ran<F>
+    out: O,
+) -> Ran<F, O>
     ensures told { IsSome (F.held files) → IsFollowed (map string_bytes words.now)
         (names_in (F.held files)) (λ a. Follows a (F.store_faults files)
-        (F.store_faults result.files) (O.faults out.old) (O.faults out.new) (F.held files)
-        (F.held result.files) (O.given out.old) (O.given out.new) result.status) result.status }
+        (F.store_faults result.files) (O.faults out) (O.faults result.out) (F.held files)
+        (F.held result.files) (O.given out) (O.given result.out) result.status) result.status }
     ensures cause { Caused (F.load_faults files) (F.load_faults result.files)
-        (F.store_faults files) (F.store_faults result.files) (O.faults out.old)
-        (O.faults out.new) result.status }
+        (F.store_faults files) (F.store_faults result.files) (O.faults out)
+        (O.faults result.out) result.status }
     ensures usage { IsUsage (command_of (map string_bytes words.now)) result.status }
     ensures script { IsReadOf (F.held files) (script_name (map string_bytes words.now))
         result.script }
+    ensures told_text { IsTied (O.given out) (O.given result.out) result.told }
 {
     match ticks_of(words) {
-        0 => run_by::<R, F, O, Brand, Never>(rt, alloc, words, files, out, &mut Never::new()),
+        0 => {
+            let mut ticker = Never::new();
+            run_by::<R, F, O, Brand, Brand, Never>(rt, alloc, words, files, out, &mut ticker)
+        }
         n => {
             let mut ticker = Every::new(u64::from(n));
-            run_by::<R, F, O, Brand, Every>(rt, alloc, words, files, out, &mut ticker)
+            run_by::<R, F, O, Brand, Brand, Every>(rt, alloc, words, files, out, &mut ticker)
         }
     }
 }

@@ -20,9 +20,9 @@ where
     let mut errors = StdSink::new(errors);
     match words_of(rt) {
         Ok(words) => {
-            let mut out = StdSink::new(rt);
+            let out = StdSink::new(rt);
             let files = DiskFiles::new(rt);
-            run_program(rt, alloc, words.as_slice(), files, &mut out, &mut errors).code
+            run_program(rt, alloc, words.as_slice(), files, out, &mut errors).code
         }
         Err(code) => {
             tell_words(alloc, first_without_text(rt), &mut errors);

@@ -1,5 +1,5 @@
 //! The sentence of a status on the error output.
-ghost use Rattle.std.specs.Prelude.{◌≡◌, map, string_bytes};
+ghost use Rattle.std.specs.Prelude.{◌≡◌, map, string_bytes, option_copied};
 ghost use Rattle.fault_messages.specs.Explaining.{explained};
 ghost use Rattle.fault_messages.specs.Message.{words_message};
 ghost use Rattle.pw_program.specs.Program.{IsSaid};
@@ -9,22 +9,29 @@ use pw_base::{Sink, Text};
 use pw_top::Status;
 use std::alloc::Global;
 
-/// Puts what a status means. Where that fails, or memory is short, nothing follows.
+// The bytes that are kept, if they are.
+fn bytes_of(kept: &Option<Text>) -> Option<&[u8]>
+    ensures { option_copied result ≡ kept.now }
+{
+    match kept {
+        None => None,
+        Some(text) => Some(text.as_slice()),
+    }
+}
+
+/// Puts what a status means, or the notes. Where that fails, or memory is short, nothing follows.
 pub(crate) fn tell<E: Sink>(
     alloc: Global,
     words: &[String],
     status: &Status,
     script: &Option<Text>,
+    told: &Option<Text>,
     errors: &mut E,
 )
-    ensures { IsSaid (explained status.now (map string_bytes words.now) script.now)
+    ensures { IsSaid (explained status.now (map string_bytes words.now) script.now told.now)
         (E.faults errors.old) (E.faults errors.new) (E.given errors.old) (E.given errors.new) }
 {
-    let bytes = match script {
-        None => None,
-        Some(script) => Some(script.as_slice()),
-    };
-    if let Ok(text) = explain(alloc, status, words, bytes) {
+    if let Ok(text) = explain(alloc, status, words, bytes_of(script), bytes_of(told)) {
         let _ = errors.put(alloc, text.as_slice());
     }
 }

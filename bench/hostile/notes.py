@@ -1,0 +1,127 @@
+"""Notes on what was accepted, by standard error alone."""
+import os
+import subprocess
+import threading
+
+from causes import choice, thing
+from messages import told
+from worked import number
+
+START = """quantum 4
+square a 48000 1 4 9
+square b 44100 1 4 9
+square c 48000 2 4 9
+sink o o.wav
+gain g 256
+gain h 256
+"""
+LATE = "it would close a loop, which only a link of an async node may"
+
+# Lines behind START, what is put of their links, and what is noted of each at its line from 8 on.
+LINKS = [
+    ("link a.out o.in\n", "link a.out o.in 48000 1 2\n", []),
+    ("link a.out o.in\nlink b.out o.in\n",
+     "link a.out o.in 48000 1 2\nnolink b.out o.in 65539\n",
+     [(9, '"b.out" to "o.in" is no link: no common rate (key 65539)')]),
+    ("link a.out o.in\nlink c.out o.in\n",
+     "link a.out o.in 48000 1 2\nnolink c.out o.in 65540\n",
+     [(9, '"c.out" to "o.in" is no link: no common channels (key 65540)')]),
+    ("buffers a out 2\nbuffers o in 3\nlink a.out o.in\n", "nolink a.out o.in buffers\n",
+     [(10, '"a.out" to "o.in" is no link: no number of buffers suits both ports'),
+      (5, '"o" had no format at the end, so "o.wav" is not written')]),
+    ("link a.out o.in\n# a comment\nlink a.out o.in\nunlink b.out o.in\nlink a.out o.in\n",
+     "link a.out o.in 48000 1 2\nnolink a.out o.in twice\nnounlink b.out o.in\n"
+     "nolink a.out o.in twice\n",
+     [(10, '"a.out" to "o.in" is no link: it is there already'),
+      (12, '"a.out" to "o.in" is no link: it is there already')]),
+    ("link a.out o.in\nlink a.out g.in\nlink g.out h.in\nlink h.out g.in\nlink g.out g.in\n",
+     "link a.out o.in 48000 1 2\nlink a.out g.in 48000 1 2\nlink g.out h.in 48000 1 2\n"
+     "nolink h.out g.in loop\nnolink g.out g.in loop\n",
+     [(11, f'"h.out" to "g.in" is no link: {LATE}'),
+      (12, '"g.out" to "g.in" is no link: a node is not linked to itself')]),
+    ("link a.out o.in\nmeter m\nsink p p.wav\nsink q o.wav\nlink a.out q.in\n",
+     "link a.out o.in 48000 1 2\nlink a.out q.in 48000 1 2\n",
+     [(5, '"o.wav" is written by a later sink too, whose frames stand'),
+      (9, '"m" had no format at the end, so it has no peak'),
+      (10, '"p" had no format at the end, so "p.wav" is not written')])]
+
+
+def links(place):
+    """Notes on links, sinks and meters of an accepted run."""
+    for lines, text, notes in LINKS:
+        place.file("some.graph", START + lines + "cycles 2\n")
+        said = "".join(f"pipegraph: some.graph:{n}: {note}\n" for n, note in notes)
+        status, out, errors = told(place, ["run", "some.graph"])
+        place.same(lines, (0, True, said), (status, out.startswith(text.encode()), errors.decode()))
+        status, traced, errors = told(place, ["run", "some.graph", "--trace", "--loops", "2"])
+        place.same(f"traced: {lines}", (0, True, said),
+                   (status, traced.startswith(text.encode() + b"begin 0\n"), errors.decode()))
+        for how in ["/dev/full", os.devnull]:
+            with open(how, "wb") as to:
+                place.same(f"{lines} to {how}", (0, out),
+                           told(place, ["run", "some.graph"], to)[:2])
+        place.same(f"{lines} without one", (0, out),
+                   told(place, ["run", "some.graph"], preexec_fn=lambda: os.close(2))[:2])
+
+
+def others(place):
+    """Notes on checks, filters and long texts."""
+    place.file("fine.graph", "cycles 1\n")
+    _, trace, _ = told(place, ["run", "fine.graph", "--trace"])
+    events = trace.decode().splitlines()
+    cannot = "this event cannot come here; past the last line, the trace ends too soon"
+    for lines, answer, said in [
+            (events, "legal\n", ""),
+            (events[:-1], f"illegal {len(events)}\n", f"t.txt:{len(events)}: {cannot}"),
+            (events[:1] * 2, "illegal 2\n", f"t.txt:2: {cannot}"),
+            (events[:1] + ["start"], "line 2\n", "t.txt:2: this is no event line")]:
+        place.file("t.txt", "".join(line + "\n" for line in lines))
+        place.same(f"check {lines}", (0, answer.encode(), f"pipegraph: {said}\n" if said else ""),
+                   (lambda a: (a[0], a[1], a[2].decode()))(told(place, ["check", "fine.graph", "t.txt"])))
+    a = thing((65539, number(48000)), (7, choice(3, 1, 1)))
+    for b, answer, said in [
+            (a, "common\n", ""),
+            (thing((65539, number(44100))), "clash 65539\n", "no common rate (key 65539)"),
+            (thing((7, number(2))), "clash 7\n", "no common value (key 7)"),
+            (thing(kind=0x40004), "clash type\n", "objects of different types")]:
+        place.file("a.pod", a)
+        place.file("b.pod", b)
+        said = f"pipegraph: a.pod and b.pod: {said}\n" if said else ""
+        place.same(f"filter {answer}", (0, answer.encode(), said.encode()),
+                   told(place, ["filter", "a.pod", "b.pod", "o.pod"]))
+    place.file("long.graph", START + "link a.out o.in\nlink a.out o.in\ncycles 60000\n")
+    status, out, errors = told(place, ["run", "long.graph", "--trace"])
+    place.same("a trace of more than 4 MiB", (0, True, b""), (status, len(out) > 4 << 20, errors))
+
+
+def once(place):
+    """Notes on scripts that can be read only once."""
+    script = (START + "link b.out o.in\nlink a.out o.in\ncycles 1\n").encode()
+    said = b':9: "a.out" to "o.in" is no link: no common rate (key 65539)\n'
+
+    def run(words, **how):
+        done = subprocess.run(words, cwd=place.folder, timeout=1, stdout=subprocess.PIPE,
+                              stderr=subprocess.PIPE, **how)
+        return done.returncode, done.stdout.startswith(b"link b.out o.in 44100 1 2\nnolink"), \
+            done.stderr.endswith(said) and done.stderr.startswith(b"pipegraph: ")
+
+    pipe = os.path.join(place.folder, "script.pipe")
+    os.mkfifo(pipe)
+
+    def feed():
+        with open(pipe, "wb") as end:
+            end.write(script)
+
+    feeder = threading.Thread(target=feed)
+    feeder.start()
+    place.same("a named pipe", (0, True, True), run([place.program, "run", "script.pipe"]))
+    feeder.join()
+    place.same("standard input", (0, True, True),
+               run([place.program, "run", "/dev/stdin"], input=script))
+    place.file("notes.graph", script)
+    place.same("a process", (0, True, True),
+               run(["bash", "-c", f'"{place.program}" run <(cat notes.graph)']))
+    place.file("own.graph", script.replace(b"o.wav", b"own.graph"))
+    place.same("a script that a sink overwrites", (0, True, True),
+               run([place.program, "run", "own.graph"]))
+    place.same("what is left of it", b"RIFF", place.read("own.graph")[:4])

@@ -1,0 +1,17 @@
+# Completion of pipegraph-pictures for bash.
+_pipegraph_pictures_files() {
+    compopt -o filenames 2>/dev/null
+    mapfile -t COMPREPLY < <(compgen -f -X "!*$1" -- "$2"; compgen -d -- "$2")
+}
+
+_pipegraph_pictures() {
+    local word=${COMP_WORDS[COMP_CWORD]}
+    COMPREPLY=()
+    case $COMP_CWORD in
+    1) mapfile -t COMPREPLY < <(compgen -W "graph timeline" -- "$word") ;;
+    2) _pipegraph_pictures_files .graph "$word" ;;
+    3) [[ ${COMP_WORDS[1]} != timeline ]] || _pipegraph_pictures_files "" "$word" ;;
+    esac
+}
+
+complete -F _pipegraph_pictures pipegraph-pictures

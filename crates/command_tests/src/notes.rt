@@ -1,0 +1,156 @@
+//! The table of notes: each cause of a link that is not made, sinks and meters without a format,
+//! sinks of one file, and what a check and a filter find.
+
+use fault_messages::explain;
+use pw_top::Status;
+use row_files::words_of;
+use std::alloc::Global;
+
+/// A command, its script and the text that it has put, and what is noted.
+#[derive(Clone, Copy, Drop)]
+struct Noted {
+    command: &'static str,
+    script: Option<&'static [u8]>,
+    told: Option<&'static [u8]>,
+    notes: &'static [u8],
+}
+
+/// A run of a script with a link, of which nothing is to be said.
+const RUN: Noted = Noted {
+    command: "run t.graph --trace",
+    script: Some(b"# link a.out b.in\nsource s s.wav\nsink o o.wav\n\nlink s.out o.in\ncycles 1\n"),
+    told: Some(b"link s.out o.in 48000 1 2\nbegin 0\nend 0\nwrote o 4\n"),
+    notes: b"",
+};
+
+/// Links that are not made.
+const LINKS: &'static [Noted] = &[
+    RUN,
+    Noted {
+        told: Some(b"nolink s.out o.in 65539\nwrote o 4\n"),
+        notes: b"pipegraph: t.graph:5: \"s.out\" to \"o.in\" is no link: no common rate (key 65539)\n",
+        ..RUN
+    },
+    Noted {
+        told: Some(b"nolink s.out o.in 7\nwrote o 4\n"),
+        notes: b"pipegraph: t.graph:5: \"s.out\" to \"o.in\" is no link: no common value (key 7)\n",
+        ..RUN
+    },
+    Noted {
+        told: Some(b"nolink s.out o.in buffers\nwrote o 4\n"),
+        notes: b"pipegraph: t.graph:5: \"s.out\" to \"o.in\" is no link: \
+            no number of buffers suits both ports\n",
+        ..RUN
+    },
+    Noted {
+        script: Some(b"link a.out b.in\nunlink a.out b.in\r\n  link b.out a.in\nlink b.out b.in"),
+        told: Some(
+            b"link a.out b.in 8 1 2\nnounlink a.out b.in\nnolink b.out a.in loop\n\
+            nolink b.out b.in loop\n",
+        ),
+        notes: b"pipegraph: t.graph:3: \"b.out\" to \"a.in\" is no link: \
+            it would close a loop, which only a link of an async node may\n\
+            pipegraph: t.graph:4: \"b.out\" to \"b.in\" is no link: \
+            a node is not linked to itself\n",
+        ..RUN
+    },
+];
+
+/// Sinks and meters.
+const SINKS: &'static [Noted] = &[
+    Noted {
+        script: Some(b"sink o o.wav\nmeter m\nsink p o.wav\nmeter n\n"),
+        told: Some(b"unused o\nunused m\nwrote p 4\npeak n 3\n"),
+        notes: b"pipegraph: t.graph:1: \"o\" had no format at the end, so \"o.wav\" is not written\n\
+            pipegraph: t.graph:2: \"m\" had no format at the end, so it has no peak\n",
+        ..RUN
+    },
+    Noted {
+        script: Some(b"sink o o.wav\nsink p o.wav\nsink q q.wav\nsink r o.wav\n"),
+        told: Some(b"wrote o 4\nwrote p 4\nwrote q 4\nunused r\n"),
+        notes: b"pipegraph: t.graph:1: \"o.wav\" is written by a later sink too, whose frames stand\n\
+            pipegraph: t.graph:4: \"r\" had no format at the end, so \"o.wav\" is not written\n",
+        ..RUN
+    },
+];
+
+/// What a check and a filter find, other commands, and texts that are not at hand.
+const OTHERS: &'static [Noted] = &[
+    Noted {
+        command: "check t.graph t.txt",
+        told: Some(b"illegal 3\n"),
+        notes: b"pipegraph: t.txt:3: this event cannot come here; \
+            past the last line, the trace ends too soon\n",
+        ..RUN
+    },
+    Noted {
+        command: "check t.graph t.txt",
+        told: Some(b"line 12\n"),
+        notes: b"pipegraph: t.txt:12: this is no event line\n",
+        ..RUN
+    },
+    Noted {
+        command: "check t.graph t.txt",
+        told: Some(b"legal\n"),
+        ..RUN
+    },
+    Noted {
+        command: "filter a.pod b.pod c.pod",
+        script: None,
+        told: Some(b"clash 65540\n"),
+        notes: b"pipegraph: a.pod and b.pod: no common channels (key 65540)\n",
+    },
+    Noted {
+        command: "filter a.pod b.pod c.pod",
+        script: None,
+        told: Some(b"clash type\n"),
+        notes: b"pipegraph: a.pod and b.pod: objects of different types\n",
+    },
+    Noted {
+        command: "dump a.pod",
+        told: Some(b"illegal 3\n"),
+        ..RUN
+    },
+    Noted { told: None, ..RUN },
+    Noted {
+        script: None,
+        told: Some(b"nolink s.out o.in twice\n"),
+        ..RUN
+    },
+];
+
+// Whether the notes of a row are as wanted.
+fn is_noted(alloc: Global, row: Noted) -> bool {
+    let Ok(words) = words_of(alloc, row.command) else {
+        return false;
+    };
+    match explain(alloc, &Status::Ok, words.as_slice(), row.script, row.told) {
+        Ok(text) => text.as_slice() == row.notes,
+        Err(_memory) => false,
+    }
+}
+
+// The first row whose notes are others.
+fn note_unlike(alloc: Global, rows: &[Noted]) -> Option<usize> {
+    for (place, row) in rows.iter().enumerate() {
+        if !is_noted(alloc, *row) {
+            return Some(place);
+        }
+    }
+    None
+}
+
+#[test]
+fn links_that_are_not_made(rt: HostRuntime) {
+    assert_eq!(rt; note_unlike(rt.alloc(), LINKS), None);
+}
+
+#[test]
+fn sinks_without_a_format_or_of_one_file(rt: HostRuntime) {
+    assert_eq!(rt; note_unlike(rt.alloc(), SINKS), None);
+}
+
+#[test]
+fn checks_filters_and_other_commands(rt: HostRuntime) {
+    assert_eq!(rt; note_unlike(rt.alloc(), OTHERS), None);
+}

@@ -1,0 +1,68 @@
+//! The line of a status, quoted from the script that the run read.
+
+use fault_messages::explain;
+use graph_script::ScriptWhy;
+use pw_top::Status;
+use row_files::words_of;
+use std::alloc::Global;
+
+/// A script whose second line names no node, and whose third and fourth have an end that does not.
+const VOX: &'static [u8] = b"gain a 1\non vox\nlink a.out vox.in\nlink vox.out a.in\ngain vox 1\n";
+
+// Whether a status of these words is told so, where the run read that script.
+fn is_explained(alloc: Global, command: &str, status: Status, said: &[u8]) -> bool {
+    let Ok(words) = words_of(alloc, command) else {
+        return false;
+    };
+    match explain(alloc, &status, words.as_slice(), Some(VOX), None) {
+        Ok(text) => text.as_slice() == said,
+        Err(_memory) => false,
+    }
+}
+
+// Whether it is said of that script's line of this number that a name is no node's.
+fn is_unknown(alloc: Global, line: u32, said: &[u8]) -> bool {
+    let status = Status::Script {
+        line,
+        why: ScriptWhy::NameUnknown,
+    };
+    is_explained(alloc, "run t.graph", status, said)
+}
+
+#[test]
+fn the_line_is_that_of_the_script_that_was_read(rt: HostRuntime) {
+    let alloc = rt.alloc();
+    assert!(rt;
+        is_unknown(
+            alloc,
+            2,
+            b"pipegraph: t.graph:2: no node is called \"vox\"\n"
+        )
+    );
+    assert!(rt;
+        is_unknown(
+            alloc,
+            3,
+            b"pipegraph: t.graph:3: \"vox.in\" names no node\n"
+        )
+    );
+    assert!(rt;
+        is_unknown(
+            alloc,
+            4,
+            b"pipegraph: t.graph:4: \"vox.out\" names no node\n"
+        )
+    );
+}
+
+#[test]
+fn a_word_is_no_line(rt: HostRuntime) {
+    assert!(rt;
+        is_explained(
+            rt.alloc(),
+            "dump x.pod",
+            Status::Absent { place: 1 },
+            b"pipegraph: x.pod: there is no such file\n"
+        )
+    );
+}

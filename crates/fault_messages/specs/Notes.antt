@@ -1,0 +1,57 @@
+-- Notes on a command that was accepted, by its words, the script that it read and the text that it
+-- put. This project's.
+use Rattle.std.specs.Prelude.{ℕ, List, [], ◌++◌, codes, bytes_eq, Option, Some, None, if◌then◌else◌}
+use Rattle.graph_script.specs.Lexical.{lines_of, words_of}
+use Rattle.fault_messages.specs.Escaping.{escaped}
+use Rattle.fault_messages.specs.KeyNames.{clash_said}
+use Rattle.fault_messages.specs.LinkNotes.{link_notes}
+use Rattle.fault_messages.specs.Places.{word}
+use Rattle.fault_messages.specs.SinkNotes.{sink_notes}
+use Rattle.fault_messages.specs.ToldLines.{first_line}
+
+-- of a run: its links, then its sinks and meters
+abbrev pub run_notes : List (List ℕ) → Option (List ℕ) → List ℕ → List ℕ
+run_notes words None told = []
+run_notes words (Some script) told = link_notes words 1 (lines_of script) told
+    ++ sink_notes words told 1 (lines_of script)
+
+-- of a check: the event of the trace that is told by its number, or the line that is none
+unfoldable pub trace_head : List ℕ → List ℕ → List ℕ
+trace_head trace n = codes "pipegraph: " ++ (escaped trace ++ (codes ":" ++ (n ++ codes ": ")))
+
+unfoldable pub trace_note : List (List ℕ) → List ℕ → List ℕ → List ℕ
+trace_note words n what = trace_head (word words 2) n ++ (what ++ codes "\n")
+
+abbrev pub check_note : List (List ℕ) → List (List ℕ) → List ℕ
+check_note words ws =
+    if bytes_eq (word ws 0) (codes "illegal")
+    then trace_note words (word ws 1)
+    (codes "this event cannot come here; past the last line, the trace ends too soon")
+    else (if bytes_eq (word ws 0) (codes "line")
+    then trace_note words (word ws 1) (codes "this is no event line") else [])
+
+-- of a filter: the key under which the formats clash
+unfoldable pub pair_head : List ℕ → List ℕ → List ℕ
+pair_head a b = codes "pipegraph: " ++ (escaped a ++ (codes " and " ++ (escaped b ++ codes ": ")))
+
+unfoldable pub clash_text : List ℕ → List ℕ
+clash_text key =
+    if bytes_eq key (codes "type") then codes "objects of different types" else clash_said key
+
+abbrev pub filter_note : List (List ℕ) → List (List ℕ) → List ℕ
+filter_note words ws =
+    if bytes_eq (word ws 0) (codes "clash")
+    then pair_head (word words 1) (word words 2) ++ (clash_text (word ws 1) ++ codes "\n") else []
+
+-- THE NOTES, by what was put
+unfoldable pub notes_told : List (List ℕ) → Option (List ℕ) → List ℕ → List ℕ
+notes_told words script told =
+    if bytes_eq (word words 0) (codes "run") then run_notes words script told
+    else (if bytes_eq (word words 0) (codes "check")
+    then check_note words (words_of (first_line told))
+    else (if bytes_eq (word words 0) (codes "filter")
+    then filter_note words (words_of (first_line told)) else []))
+
+abbrev pub notes : List (List ℕ) → Option (List ℕ) → Option (List ℕ) → List ℕ
+notes words script None = []
+notes words script (Some told) = notes_told words script told

@@ -1,0 +1,148 @@
+//! Notes on a command that was accepted.
+ghost use Rattle.std.specs.Prelude.{◌≡◌, ◌++◌, map, string_bytes, option_copied, OnOk};
+ghost use Rattle.graph_script.specs.Lexical.{words_of};
+ghost use Rattle.fault_messages.specs.Notes.{run_notes, trace_head, trace_note, check_note, pair_head, clash_text, filter_note};
+ghost use Rattle.fault_messages.specs.Notes.{notes_told, notes};
+
+use crate::key_names::put_clash;
+use crate::lines::word_of;
+use crate::link_notes::put_link_notes;
+use crate::places::word_at;
+use crate::putting::{put_shown, put_shown_pair};
+use crate::sink_notes::put_sink_notes;
+use crate::told_lines::first_line;
+use pw_base::{Memory, Text};
+
+// Of a run.
+fn put_run_notes(
+    text: &mut Text,
+    words: &[String],
+    script: Option<&[u8]>,
+    told: &[u8],
+) -> Result<(), Memory>
+    ensures { OnOk result (text.new ≡ text.old
+        ++ run_notes (map string_bytes words.now) (option_copied script.entry) told.now) }
+{
+    match script {
+        None => Ok(()),
+        Some(script) => {
+            put_link_notes(text, words, script, told)?;
+            put_sink_notes(text, words, script, told)
+        }
+    }
+}
+
+// A line of a trace, told by its number, at the front of a note.
+#[tactic(auto, unfolding(crate::specs::Notes::trace_head))]
+fn put_trace_head(text: &mut Text, trace: &[u8], number: &[u8]) -> Result<(), Memory>
+    ensures { OnOk result (text.new ≡ text.old ++ trace_head trace.now number.now) }
+{
+    put_shown(text, b"pipegraph: ", trace, b":", number, b": ")
+}
+
+#[tactic(auto, unfolding(crate::specs::Notes::trace_note))]
+fn put_trace_note(
+    text: &mut Text,
+    words: &[String],
+    number: &[u8],
+    what: &[u8],
+) -> Result<(), Memory>
+    ensures { OnOk result (text.new ≡ text.old
+        ++ trace_note (map string_bytes words.now) number.now what.now) }
+{
+    put_trace_head(text, word_at(words, 2), number)?;
+    text.extend(what)?;
+    text.extend(b"\n")
+}
+
+// Of a check, by the line that it put.
+fn put_check_note(text: &mut Text, words: &[String], line: &[u8]) -> Result<(), Memory>
+    ensures { OnOk result
+        (text.new ≡ text.old ++ check_note (map string_bytes words.now) (words_of line.now)) }
+{
+    let (answer, number) = (word_of(line, 0), word_of(line, 1));
+    if answer == b"illegal".as_slice() {
+        put_trace_note(
+            text,
+            words,
+            number,
+            b"this event cannot come here; past the last line, the trace ends too soon",
+        )
+    } else if answer == b"line".as_slice() {
+        put_trace_note(text, words, number, b"this is no event line")
+    } else {
+        Ok(())
+    }
+}
+
+// The two files of a filter, at the front of a note.
+#[tactic(auto, unfolding(crate::specs::Notes::pair_head))]
+fn put_pair_head(text: &mut Text, a: &[u8], b: &[u8]) -> Result<(), Memory>
+    ensures { OnOk result (text.new ≡ text.old ++ pair_head a.now b.now) }
+{
+    put_shown_pair(text, b"pipegraph: ", a, b" and ", b, b": ")
+}
+
+#[tactic(auto, unfolding(crate::specs::Notes::clash_text))]
+fn put_clash_text(text: &mut Text, key: &[u8]) -> Result<(), Memory>
+    ensures { OnOk result (text.new ≡ text.old ++ clash_text key.now) }
+{
+    if key == b"type".as_slice() {
+        text.extend(b"objects of different types")
+    } else {
+        put_clash(text, key)
+    }
+}
+
+// Of a filter, by the line that it put.
+fn put_filter_note(text: &mut Text, words: &[String], line: &[u8]) -> Result<(), Memory>
+    ensures { OnOk result
+        (text.new ≡ text.old ++ filter_note (map string_bytes words.now) (words_of line.now)) }
+{
+    if word_of(line, 0) != b"clash".as_slice() {
+        return Ok(());
+    }
+    put_pair_head(text, word_at(words, 1), word_at(words, 2))?;
+    put_clash_text(text, word_of(line, 1))?;
+    text.extend(b"\n")
+}
+
+// Of any command, by the text that it put.
+#[tactic(auto, unfolding(crate::specs::Notes::notes_told))]
+fn put_notes_told(
+    text: &mut Text,
+    words: &[String],
+    script: Option<&[u8]>,
+    told: &[u8],
+) -> Result<(), Memory>
+    ensures { OnOk result (text.new ≡ text.old
+        ++ notes_told (map string_bytes words.now) (option_copied script.entry) told.now) }
+{
+    let name = word_at(words, 0);
+    if name == b"run".as_slice() {
+        put_run_notes(text, words, script, told)
+    } else if name == b"check".as_slice() {
+        put_check_note(text, words, first_line(told))
+    } else if name == b"filter".as_slice() {
+        put_filter_note(text, words, first_line(told))
+    } else {
+        Ok(())
+    }
+}
+
+/// What is to be said of a command that was accepted, by its words, by the bytes of the script that
+/// it read and by the text that it put, where these are at hand.
+pub fn put_notes(
+    text: &mut Text,
+    words: &[String],
+    script: Option<&[u8]>,
+    told: Option<&[u8]>,
+) -> Result<(), Memory>
+    ensures { OnOk result (text.new ≡ text.old ++ notes (map string_bytes words.now)
+        (option_copied script.entry) (option_copied told.entry)) }
+{
+    match told {
+        None => Ok(()),
+        Some(told) => put_notes_told(text, words, script, told),
+    }
+}
