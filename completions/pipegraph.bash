@@ -13,7 +13,7 @@ _pipegraph_words() {
 # The options of run that do not stand in the line yet.
 _pipegraph_options() {
     local options="" option
-    for option in --loops --ticks --trace; do
+    for option in --loops --ticks --trace --steal; do
         [[ " ${COMP_WORDS[*]:0:COMP_CWORD} " == *" $option "* ]] || options+="$option "
     done
     _pipegraph_words "$options" "$1"
@@ -23,7 +23,7 @@ _pipegraph() {
     local word=${COMP_WORDS[COMP_CWORD]} before=${COMP_WORDS[COMP_CWORD - 1]}
     COMPREPLY=()
     if ((COMP_CWORD == 1)); then
-        _pipegraph_words "run dump filter automate check soak --help" "$word"
+        _pipegraph_words "run dump filter automate check soak groups --help" "$word"
         return
     fi
     case ${COMP_WORDS[1]} in
@@ -35,6 +35,7 @@ _pipegraph() {
         elif [[ $before != --ticks ]]; then
             _pipegraph_options "$word"
         fi ;;
+    groups) ((COMP_CWORD > 2)) || _pipegraph_files .graph "$word" ;;
     dump) ((COMP_CWORD > 2)) || _pipegraph_files .pod "$word" ;;
     filter) ((COMP_CWORD > 4)) || _pipegraph_files .pod "$word" ;;
     automate)

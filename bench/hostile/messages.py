@@ -2,12 +2,13 @@
 import os
 import subprocess
 
-SYNOPSIS = """usage: pipegraph run SCRIPT [--loops N] [--ticks N] [--trace]
+SYNOPSIS = """usage: pipegraph run SCRIPT [--loops N] [--ticks N] [--trace] [--steal]
        pipegraph dump FILE
        pipegraph filter A B OUT
        pipegraph automate IN SEQ OUT
        pipegraph check SCRIPT TRACE
        pipegraph soak NUMBER
+       pipegraph groups SCRIPT
 """
 
 

@@ -685,12 +685,14 @@ fn files_in_words(rt: HostRuntime) {
 }
 
 // The words of all commands, behind what is said of a word.
-const SYNOPSIS: &'static [u8] = b"usage: pipegraph run SCRIPT [--loops N] [--ticks N] [--trace]\n\
+const SYNOPSIS: &'static [u8] = b"usage: pipegraph run SCRIPT [--loops N] [--ticks N] \
+    [--trace] [--steal]\n\
     \x20      pipegraph dump FILE\n\
     \x20      pipegraph filter A B OUT\n\
     \x20      pipegraph automate IN SEQ OUT\n\
     \x20      pipegraph check SCRIPT TRACE\n\
-    \x20      pipegraph soak NUMBER";
+    \x20      pipegraph soak NUMBER\n\
+    \x20      pipegraph groups SCRIPT";
 
 /// A word that is wrong, and one that is missing.
 const USAGES: &'static [Said] = &[

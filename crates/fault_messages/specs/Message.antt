@@ -10,12 +10,12 @@ use Rattle.fault_messages.specs.Help.{help}
 
 -- the words of all commands
 abbrev pub synopsis : List ℕ
-synopsis = codes "usage: pipegraph run SCRIPT [--loops N] [--ticks N] [--trace]\n"
+synopsis = codes "usage: pipegraph run SCRIPT [--loops N] [--ticks N] [--trace] [--steal]\n"
     ++ codes "       pipegraph dump FILE\n"
     ++ codes "       pipegraph filter A B OUT\n"
     ++ codes "       pipegraph automate IN SEQ OUT\n"
     ++ codes "       pipegraph check SCRIPT TRACE\n"
-    ++ codes "       pipegraph soak NUMBER\n"
+    ++ codes "       pipegraph soak NUMBER\n       pipegraph groups SCRIPT\n"
 
 -- a word at fault, or one that is missing
 abbrev pub usage_text : List (List ℕ) → ℕ → List ℕ

@@ -1,6 +1,6 @@
 -- Notes on a command that was accepted, by its words, the script that it read and the text that it
 -- put. This project's.
-use Rattle.std.specs.Prelude.{ℕ, List, [], ◌++◌, codes, bytes_eq, Option, Some, None, if◌then◌else◌}
+use Rattle.std.specs.Prelude.{ℕ, ◌||◌, List, [], ◌++◌, codes, bytes_eq, Option, Some, None, if◌then◌else◌}
 use Rattle.graph_script.specs.Lexical.{lines_of, words_of}
 use Rattle.fault_messages.specs.Escaping.{escaped}
 use Rattle.fault_messages.specs.KeyNames.{clash_said}
@@ -46,7 +46,8 @@ filter_note words ws =
 -- THE NOTES, by what was put
 unfoldable pub notes_told : List (List ℕ) → Option (List ℕ) → List ℕ → List ℕ
 notes_told words script told =
-    if bytes_eq (word words 0) (codes "run") then run_notes words script told
+    if bytes_eq (word words 0) (codes "run") || bytes_eq (word words 0) (codes "groups")
+    then run_notes words script told
     else (if bytes_eq (word words 0) (codes "check")
     then check_note words (words_of (first_line told))
     else (if bytes_eq (word words 0) (codes "filter")

@@ -16,7 +16,8 @@ word words i = slice_index_or words i []
 -- a command that reads a script, and the places that are lines of it
 abbrev pub reads_script : List (List ℕ) → Bool
 reads_script words =
-    bytes_eq (word words 0) (codes "run") || bytes_eq (word words 0) (codes "check")
+    bytes_eq (word words 0) (codes "run") || bytes_eq (word words 0) (codes "groups")
+    || bytes_eq (word words 0) (codes "check")
 
 abbrev pub is_line : List (List ℕ) → ℕ → Bool
 is_line words place = reads_script words && not (place == 0) && not (place == trace_place)

@@ -119,7 +119,7 @@ fn put_notes_told(
         ++ notes_told (map string_bytes words.now) (option_copied script.entry) told.now) }
 {
     let name = word_at(words, 0);
-    if name == b"run".as_slice() {
+    if name == b"run".as_slice() || name == b"groups".as_slice() {
         put_run_notes(text, words, script, told)
     } else if name == b"check".as_slice() {
         put_check_note(text, words, first_line(told))

@@ -25,7 +25,7 @@ fn reads_script(words: &[String]) -> bool
     ensures { result ≡ reads_script (map string_bytes words.now) }
 {
     let name = word_at(words, 0);
-    name == b"run".as_slice() || name == b"check".as_slice()
+    name == b"run".as_slice() || name == b"groups".as_slice() || name == b"check".as_slice()
 }
 
 /// Whether the place is a line of a script.

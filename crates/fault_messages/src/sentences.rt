@@ -18,12 +18,13 @@ use std::alloc::Global;
 fn synopsis() -> &'static [u8]
     ensures { result.now ≡ codes "\n" ++ synopsis }
 {
-    b"\nusage: pipegraph run SCRIPT [--loops N] [--ticks N] [--trace]\n\
+    b"\nusage: pipegraph run SCRIPT [--loops N] [--ticks N] [--trace] [--steal]\n\
        \x20      pipegraph dump FILE\n\
        \x20      pipegraph filter A B OUT\n\
        \x20      pipegraph automate IN SEQ OUT\n\
        \x20      pipegraph check SCRIPT TRACE\n\
-       \x20      pipegraph soak NUMBER\n"
+       \x20      pipegraph soak NUMBER\n\
+       \x20      pipegraph groups SCRIPT\n"
 }
 
 // A word at fault, or one that is missing.

@@ -55,13 +55,13 @@ place_more : (nodes : List ℕ) (n : ℕ) (lines : List Line) → All (λ l. 1 �
 place_more nodes n [] low h = h
 place_more nodes n (l ∷ ls) low h = go (makes_sink n (made_by l.command)) (is_line_of nodes l) refl
     (place_more nodes n ls (All-tail (λ (x : Line). 1 ≤ x.line) l ls low)) h where
-  go : (b kept : Bool) → makes_sink n (made_by l.command) ≡ b
-      → (0 < place_of (sink_line_of (part_lines nodes ls) n) → 0 < place_of (sink_line_of ls n))
-      → 0 < place_of (sink_line_of (cond kept (l ∷ part_lines nodes ls) (part_lines nodes ls)) n)
-      → 0 < place_of (cond b (Some l) (sink_line_of ls n))
-  go true kept t rest h = All-head (λ (x : Line). 1 ≤ x.line) l ls low
-  go false true t rest h = rest (subst (λ (c : Bool). 0 < place_of (cond c (Some l) (sink_line_of (part_lines nodes ls) n))) t h)
-  go false false t rest h = rest h
+      go : (b kept : Bool) → makes_sink n (made_by l.command) ≡ b
+          → (0 < place_of (sink_line_of (part_lines nodes ls) n) → 0 < place_of (sink_line_of ls n))
+          → 0 < place_of (sink_line_of (cond kept (l ∷ part_lines nodes ls) (part_lines nodes ls)) n)
+          → 0 < place_of (cond b (Some l) (sink_line_of ls n))
+      go true kept t rest h = All-head (λ (x : Line). 1 ≤ x.line) l ls low
+      go false true t rest h = rest (subst (λ (c : Bool). 0 < place_of (cond c (Some l) (sink_line_of (part_lines nodes ls) n))) t h)
+      go false false t rest h = rest h
 
 -- what is found is one of them
 found_meets : {X : Type 0} (P : X → Type 0) (test : X → Bool) (xs : List X) (y : X) → All P xs → find test xs ≡ Some y → P y
@@ -192,8 +192,7 @@ module _ (script : Script) (ranges : HasRanges script) (has : HasKinds script) (
       let same = kinds_same part.nodes script.lines in
       let long = planned_count own_script own_ranges own_kinds own_made ports own_ports waves part.plan x.1 ∙ ap (λ (ks : List Kind). length ks) same in
       let node : PlanNode = get_or part.plan.nodes n (record { name = []; kind = K.Dummy; k = 0; rate = 0; channels = 0 }) in
-      let at : slice_get part.plan.nodes n ≡ Some node = slice_get-get_or part.plan.nodes n _ (omega (arith, low, long)) in
-      (
+      let at : slice_get part.plan.nodes n ≡ Some node = slice_get-get_or part.plan.nodes n _ (omega (arith, low, long)) in (
         node,
         ap (node_of n) x.2 ∙ at,
         planned_kind own_script own_ranges own_kinds own_made ports own_ports waves part.plan x.1 n node at ∙ ap (λ (ks : List Kind). get_or ks n K.Dummy) same,

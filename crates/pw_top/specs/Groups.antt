@@ -1,6 +1,6 @@
--- The expected answer of `groups SCRIPT`: what `run` loads, the plan of each part of the script, and
--- the work of a run of them all.
--- Source: PipeWire's documentation, "Graph Scheduling" (several drivers); scripts are this project's.
+-- The expected answer of `groups SCRIPT`: what `run` loads, and the plan of each part of the script.
+-- Source: PipeWire's documentation, "Graph Scheduling" (several drivers); scripts are this
+-- project's.
 use Rattle.std.specs.Prelude.{◌≡◌, ℕ, ◌<◌, ◌≤◌, List, length, map, All, Result, Ok, Err}
 use Rattle.pw_base.specs.Files.{Names}
 use Rattle.pw_base.specs.Limits.{nodes_limit}

@@ -1,5 +1,6 @@
 -- What a run of all parts of a script stores and tells, and what happened in it.
--- Source: PipeWire's documentation, "Graph Scheduling" (several drivers); boards are this project's.
+-- Source: PipeWire's documentation, "Graph Scheduling" (several drivers); boards are this
+-- project's.
 use Rattle.std.specs.Prelude.{◌≡◌, List, length, map, flat_map, None, Result, Ok}
 use Rattle.pw_base.specs.Files.{Names}
 use Rattle.wav_files.specs.declared.outcome.Outcome.{Outcome}

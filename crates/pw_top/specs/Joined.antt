@@ -1,5 +1,5 @@
--- Several parts as one: each node as its own part ends it, and what the sinks and meters of all parts
--- have, ascending by node.
+-- Several parts as one: each node as its own part ends it, and what the sinks and meters of all
+-- parts have, ascending by node.
 -- Source: PipeWire's documentation, "Graph Scheduling" (several drivers); parts are this project's.
 use Rattle.std.specs.Prelude.{ℕ, ◌==◌, List, [], find, filter_map, flat_map, slice_get, Option, Some, None}
 use Rattle.std.specs.List.{range_with_len}

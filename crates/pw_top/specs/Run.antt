@@ -1,5 +1,5 @@
--- The expected answer of `run SCRIPT` with its options: the plan of the script, and the work of a run
--- of that.
+-- The expected answer of `run SCRIPT` with its options: the plan of the script, and the work of a
+-- run of that.
 -- Source: this project's.
 use Rattle.pw_base.specs.Files.{Names}
 use Rattle.pw_top.specs.declared.commands.run.Running.{Running}

@@ -157,7 +157,8 @@ fn peaks_in_order(alloc: Global, peaks: &[Peak], count: u32) -> Result<Items<Pea
     Ok(ordered)
 }
 
-/// What the sinks and meters of a script with so many nodes have, ascending by node, and no history.
+/// What the sinks and meters of a script with so many nodes have, ascending by node, and no
+/// history.
 pub fn in_order(
     alloc: Global,
     sinks: Items<Kept>,

@@ -1,5 +1,5 @@
-//! `groups SCRIPT`: the script is loaded and read, then the files that its lines name; then each of its
-//! parts is planned, and all are run at once.
+//! `groups SCRIPT`: the script is loaded and read, then the files that its lines name; then each of
+//! its parts is planned, and all are run at once.
 #![tactic(auto, using(crate::proofs::AllowedLemmas::parts))]
 
 ghost use Rattle.std.specs.Prelude.{◌≡◌, ◌≤◌, ℕ, length, IfOk, OnErr};
