@@ -1,4 +1,4 @@
--- The expected answer of `groups SCRIPT`: what `run` loads, and the plan of each part of the script.
+-- The expected answer of `groups SCRIPT`: what `run` loads, and the plan of each part of it.
 -- Source: PipeWire's documentation, "Graph Scheduling" (several drivers); scripts are this
 -- project's.
 use Rattle.std.specs.Prelude.{◌≡◌, ℕ, ◌<◌, ◌≤◌, List, length, map, All, Result, Ok, Err}

@@ -113,7 +113,8 @@ fn kept_place(sinks: &[Kept], node: u32) -> Option<usize>
 // Takes out what a sink has kept.
 fn take_kept(all: &mut Vec<Kept>, node: u32) -> Option<Kept>
     ensures is { result ≡ kept_at all.old.items node }
-    ensures others { (n : ℕ) → n ≢ node → kept_at all.new.items n ≡ kept_at all.old.items n }
+    ensures others { (n : ℕ) → n ≢ node
+        → kept_at all.new.items n ≡ kept_at all.old.items n }
 {
     match kept_place(all.as_slice(), node) {
         Some(place) => Some(all.remove(place)),

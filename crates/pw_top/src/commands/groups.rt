@@ -65,7 +65,8 @@ fn run_parted<R: Threads + Wait + Sync, G: Gate + Sync>(
 ) -> Result<Outcome, Memory>
     requires parted { CanBeGrouped parted.now }
     ensures outcome { IfOk result (λ o. o ≡ parts_outcome parted.now) }
-    ensures run { IfOk result (λ o. (n : ℕ) → HasGroupsRun parted.now (happened played.new n n)) }
+    ensures run { IfOk result
+        (λ o. (n : ℕ) → HasGroupsRun parted.now (happened played.new n n)) }
     ensures none { OnErr result (played.new ≡ played.old) }
 {
     let (outcomes, closed) = run_parts(rt, alloc, &parted.parts.parts, &parted.waves, gate)?;
