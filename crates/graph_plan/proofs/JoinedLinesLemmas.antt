@@ -51,10 +51,10 @@ module _ (kinds : List Kind) where
   found_joins a b whole [] w s = w
   found_joins a b whole (m ∷ ms) w s = by (has_both a b m) (All-head (λ (x : Member). Join x.graph.lines) m ms s)
       (found_joins a b whole ms w (All-tail (λ (x : Member). Join x.graph.lines) m ms s)) where
-    by : (t : Bool) → Join m.graph.lines → Join (option_map_or (λ (x : Member). x.graph) (find (has_both a b) ms) whole).lines
-        → Join (option_map_or (λ (x : Member). x.graph) (cond t (Some m) (find (has_both a b) ms)) whole).lines
-    by true own rest = own
-    by false own rest = rest
+        by : (t : Bool) → Join m.graph.lines → Join (option_map_or (λ (x : Member). x.graph) (find (has_both a b) ms) whole).lines
+            → Join (option_map_or (λ (x : Member). x.graph) (cond t (Some m) (find (has_both a b) ms)) whole).lines
+        by true own rest = own
+        by false own rest = rest
 
   noted_joins : (whole : Graph) (ms : List Member) → Join whole.lines → MembersJoin ms → (command : Command) → Join (noted whole ms command)
   noted_joins whole ms w s (C.Link from to) = last_joins (option_map_or (λ (m : Member). m.graph) (find (has_both from.node to.node) ms) whole)
@@ -107,9 +107,9 @@ module _ (script : Script) (ranges : HasRanges script) (has : HasKinds script) (
   parted_lines p h = subst (All (IsJoining kinds)) (sym h.2.2.lines) (all_join kinds waves script.lines 0 h.0 h.2.0 sound
       (record { named = named; lines_of = lines_are script ranges has })
       (subst (λ (t : Together). All (IsJoining kinds) t.lines) (sym h.1.2.2) (All-nil (IsJoining kinds))) h.2.1) where
-    kinds : List Kind
-    kinds = kinds_of script.lines
+        kinds : List Kind
+        kinds = kinds_of script.lines
 
-    sound : IsSoundTogether 0 kinds h.0
-    sound = subst (IsSoundTogether 0 kinds) (sym h.1.2.2) (begun_sound kinds h.1.2.0 h.1.0
-        (first_sound script.lines ports h.1.2.0 ranges.ranges script_ports h.1.2.1) h.1.2.1.kinds h.1.2.1.sums)
+        sound : IsSoundTogether 0 kinds h.0
+        sound = subst (IsSoundTogether 0 kinds) (sym h.1.2.2) (begun_sound kinds h.1.2.0 h.1.0
+            (first_sound script.lines ports h.1.2.0 ranges.ranges script_ports h.1.2.1) h.1.2.1.kinds h.1.2.1.sums)
