@@ -1,0 +1,135 @@
+//! What the sinks keep by any loops that steal, and who meets.
+
+use crate::runs::{RunRow, first_unlike, goes_by, row_goes_refused};
+use crate::work::WorkRow;
+use pw_base::Meet;
+use std::alloc::Global;
+use std::sync::Wait;
+use std::test::Fail;
+use std::thread::Threads;
+
+/// A split and a mixer. The sink keeps the left channel and half of the right one: 1 + 10 / 2 and so on.
+const SPLIT: RunRow<'static> = RunRow {
+    work: WorkRow {
+        text: "quantum 2\nsource s s.wav\nsplit x\nmix2 m 256 128\nsink o o.wav\ndriver o 1\n\
+            link s.out x.in\nlink x.left m.a\nlink x.right m.b\nlink m.out o.in\ncycles 1\ncycles 1\n",
+        channels: 2,
+        samples: &[1, 10, 2, 20, 3, 30, 4, 40],
+    },
+    choices: &[&[], &[false; 3], &[false; 16]],
+    boards: 2,
+    kept: &[&[6, 12, 18, 24]],
+};
+
+/// Two squares of 100 into a sink that drives, for five cycles in two epochs, whichever of two workers are started.
+const TWO_SQUARES: RunRow<'static> = RunRow {
+    work: WorkRow {
+        text: "quantum 4\nsquare a 48000 1 4 100\nsquare b 48000 1 4 100\nloop b 5\nsink o o.wav\nloop o 2\n\
+            driver o 1\nlink a.out o.in\nlink b.out o.in\ncycles 3\ncycles 2\n",
+        channels: 0,
+        samples: &[],
+    },
+    choices: &[
+        &[true],
+        &[false],
+        &[true, true],
+        &[true, false],
+        &[false, true],
+        &[false, false],
+    ],
+    boards: 2,
+    kept: &[&[
+        200, 200, -200, -200, 200, 200, -200, -200, 200, 200, -200, -200, 200, 200, -200, -200,
+        200, 200, -200, -200,
+    ]],
+};
+
+/// Both squares; the first alone; none; and the second alone, which goes on where it stopped.
+const ON_AND_OFF: RunRow<'static> = RunRow {
+    work: WorkRow {
+        text: "quantum 2\nsquare a 48000 1 4 100\nsquare b 48000 1 4 10\nloop b 1\nsink o o.wav\ndriver o 1\n\
+            link a.out o.in\nlink b.out o.in\ncycles 1\noff b\ncycles 1\noff a\ncycles 1\non b\ncycles 2\n",
+        channels: 0,
+        samples: &[],
+    },
+    choices: &[&[], &[false], &[false, false]],
+    boards: 4,
+    kept: &[&[110, 110, -100, -100, 0, 0, -10, -10, 10, 10]],
+};
+
+/// Two sinks, each of which drives in one epoch: no node has a cell. Neither is linked, so neither keeps anything.
+const ALL_DRIVE: RunRow<'static> = RunRow {
+    work: WorkRow {
+        text: "quantum 2\nsink o o.wav\nsink p p.wav\ndriver o 1\ndriver p 2\ncycles 2\noff p\ncycles 1\n",
+        channels: 0,
+        samples: &[],
+    },
+    choices: &[&[], &[false], &[false, false]],
+    boards: 2,
+    kept: &[],
+};
+
+/// No node at all.
+const NO_NODE: RunRow<'static> = RunRow {
+    work: WorkRow {
+        text: "quantum 2\ncycles 2\n",
+        channels: 0,
+        samples: &[],
+    },
+    choices: &[&[], &[false, false]],
+    boards: 1,
+    kept: &[],
+};
+
+// The first of these that goes otherwise by some choice of workers.
+fn first_unlike_run<R: Threads + Wait + Sync>(rt: &R, alloc: Global) -> Option<usize> {
+    let rows = [SPLIT, TWO_SQUARES, ON_AND_OFF, ALL_DRIVE, NO_NODE];
+    first_unlike(rt, alloc, rows.as_slice())
+}
+
+#[test]
+fn stealing_renders_the_same(rt: HostRuntime) -> Result<(), Fail> {
+    assert_eq!(rt; first_unlike_run(&rt, rt.alloc()), None);
+    Ok(())
+}
+
+#[test]
+fn a_worker_that_cannot_be_started_is_not_missed(rt: HostRuntime) -> Result<(), Fail> {
+    assert!(rt; row_goes_refused(&rt, rt.alloc(), &TWO_SQUARES));
+    Ok(())
+}
+
+/// Two squares of one loop, for one cycle, since each look for the other may be in vain.
+const ONE_LOOP: RunRow<'static> = RunRow {
+    work: WorkRow {
+        text: "quantum 2\nsquare a 48000 1 4 100\nloop a 0\nsquare b 48000 1 4 10\nloop b 0\nsink o o.wav\n\
+            driver o 1\nlink a.out o.in\nlink b.out o.in\ncycles 1\n",
+        channels: 0,
+        samples: &[],
+    },
+    choices: &[],
+    boards: 1,
+    kept: &[&[110, 110]],
+};
+
+// Whether the two squares are awake at once by these workers. None where the run goes otherwise.
+fn squares_meet<R: Threads + Wait + Sync>(rt: &R, alloc: Global, adopt: &[bool]) -> Option<bool> {
+    let gate = Meet::new(0, 1);
+    if goes_by(rt, alloc, &ONE_LOOP, adopt, &gate) {
+        Some(gate.met())
+    } else {
+        None
+    }
+}
+
+#[test]
+fn two_workers_meet_on_one_loop(rt: HostRuntime) -> Result<(), Fail> {
+    assert_eq!(rt; squares_meet(&rt, rt.alloc(), &[false, false]), Some(true));
+    Ok(())
+}
+
+#[test]
+fn a_named_worker_is_not_started(rt: HostRuntime) -> Result<(), Fail> {
+    assert_eq!(rt; squares_meet(&rt, rt.alloc(), &[true, true]), Some(false));
+    Ok(())
+}
