@@ -48,3 +48,5 @@ pub mod PartitionOneLemmas
 pub mod PartsOneLemmas
 pub mod NotedLemmas
 pub mod JoinedLinesLemmas
+pub mod OutsideLemmas
+pub mod ApartLemmas
