@@ -1,4 +1,5 @@
 pub mod AlikeLemmas
+pub mod AloneLemmas
 pub mod AllowedLemmas
 pub mod AutomateLemmas
 pub mod CommandLineLemmas

@@ -18,6 +18,7 @@ pub mod Loads
 pub mod Narrowing
 pub mod OneAnswer
 pub mod Options
+pub mod PartsAlone
 pub mod PlannedWork
 pub mod Playing
 pub mod PodFile

@@ -10,6 +10,7 @@ mod loads;
 mod one_answer;
 mod options;
 mod parted;
+mod parts_alone;
 mod plan_work;
 mod planned;
 mod played;
@@ -29,6 +30,7 @@ mod wave_file;
 mod work;
 
 pub use one_answer::order_shows_in_events_alone;
+pub use parts_alone::parts_store_as_alone;
 pub use status::{PodWhy, Status};
 pub use surely::run_surely;
 pub use top::{Report, run_words};
