@@ -10,6 +10,8 @@ mod plain;
 #[cfg(test)]
 mod soak;
 #[cfg(test)]
+mod stealing;
+#[cfg(test)]
 mod taken;
 #[cfg(test)]
 mod work;

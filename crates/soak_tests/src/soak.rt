@@ -46,8 +46,8 @@ fn are_same(samples: &[i16], wanted: &[i32]) -> bool {
     true
 }
 
-// Whether there is one sink and one meter, and they have kept this.
-fn has_played(outcome: &Outcome, wanted: &Played) -> bool {
+/// Whether there is one sink and one meter, and they have kept this.
+pub(crate) fn has_played(outcome: &Outcome, wanted: &Played) -> bool {
     match (outcome.sinks.as_slice(), outcome.peaks.as_slice()) {
         ([kept], [peak]) => {
             peak.value == wanted.peak
