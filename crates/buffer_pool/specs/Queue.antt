@@ -1,4 +1,5 @@
--- The free numbers of a pool, first in, first out. PipeWire's documentation, "SPA Buffers".
+-- The free numbers of a pool, first in, first out. Source: PipeWire's documentation, "SPA
+-- Buffers".
 use Rattle.std.specs.Prelude.{ℕ, zero, suc, List, [], ◌∷◌, ◌++◌}
 
 -- the numbers that are free, the longest free first, and how many blocks there are

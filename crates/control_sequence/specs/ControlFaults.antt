@@ -1,4 +1,4 @@
--- The numbers of the faults of a control sequence; this project's own.
+-- The numbers of the faults of a control sequence. Source: this project's own.
 use Rattle.std.specs.Prelude.{ℕ}
 use Rattle.control_sequence.specs.declared.fault.ControlFault.{ControlFault}
 use Rattle.control_sequence.specs.declared.fault.ControlFault.TheVariants as f

@@ -1,4 +1,4 @@
--- The gain that a control carries. PipeWire's documentation, "SPA POD" (Sequence, Props);
+-- The gain that a control carries. Source: PipeWire's documentation, "SPA POD" (Sequence, Props);
 -- spa/control/control.h, spa/param/props.h; the key and the scale of a gain are this project's.
 use Rattle.std.specs.Prelude.{ℕ, ◌==◌, List, Option, Some, None}
 use Rattle.std.specs.Prelude.{ℤ, unsigned_abs, nat_le, option_map}

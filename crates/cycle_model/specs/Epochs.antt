@@ -1,4 +1,5 @@
--- Cycles of a plan: which epoch one belongs to, and what that epoch's graph has.
+-- Cycles of a plan: which epoch one belongs to, and what that epoch's graph has. Source: this
+-- project's own.
 use Rattle.std.specs.Prelude.{ℕ, ◌+◌, ◌-◌, ◌==◌, ◌&&◌, Bool, List, [], Option, Some, None, option_map, unwrap_or, map, filter, find, fold}
 use Rattle.std.specs.Prelude.{sum_by, nat_lt, nat_le, if◌then◌else◌}
 use Rattle.std.specs.List.{list_any, range_with_len}

@@ -1,4 +1,5 @@
--- A plan that can be rendered: what the recursion of the cycle function needs.
+-- A plan that can be rendered: what the recursion of the cycle function needs. Source: this
+-- project's own.
 use Rattle.std.specs.Prelude.{◌≡◌, ◌<◌, ◌≤◌, ◌⊎◌, List, All, Contains, map, length}
 use Rattle.pw_base.specs.Limits.{nodes_limit, dummy_node}
 use Rattle.pw_base.specs.declared.shape.ShapeLink.{ShapeLink}

@@ -1,4 +1,5 @@
--- Rendered waves and peaks: what the sinks and meters of a plan have after its last cycle.
+-- Rendered waves and peaks: what the sinks and meters of a plan have after its last cycle. Source:
+-- this project's own.
 use Rattle.std.specs.Prelude.{ℕ, ◌-◌, ◌==◌, ◌&&◌, Bool, true, false, List, [], Option, Some, None, filter_map, nat_lt, ℤ, if◌then◌else◌}
 use Rattle.std.specs.List.{enumerate_from}
 use Rattle.pw_base.specs.declared.kind.Kind.{Kind}

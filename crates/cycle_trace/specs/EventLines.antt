@@ -1,4 +1,4 @@
--- The line of an event in a text. The form is this project's own.
+-- The line of an event in a text. Source: the form is this project's own.
 use Rattle.std.specs.Prelude.{ℕ, ◌/◌, ◌%◌, ◌^◌, ◌==◌, List, [], ◌∷◌, map, filter, codes, decimal}
 use Rattle.std.specs.List.{range_with_len}
 use Rattle.pw_base.specs.declared.event.Event.{Event}

@@ -1,4 +1,5 @@
--- The event that the words of a line name, if they name one. The form is this project's own.
+-- The event that the words of a line name, if they name one. Source: the form is this project's
+-- own.
 use Rattle.std.specs.Prelude.{ℕ, ◌+◌, ◌^◌, List, [], ◌∷◌, Option, Some, None, option_map, position, bytes_eq, codes, nat_lt}
 use Rattle.std.specs.Prelude.{if◌then◌else◌}
 use Rattle.std.specs.Option.{option_map_or}

@@ -1,4 +1,4 @@
--- The line of a `link` or `unlink` in a text. The form is this project's own.
+-- The line of a `link` or `unlink` in a text. Source: the form is this project's own.
 use Rattle.std.specs.Prelude.{ℕ, List, [], ◌∷◌, codes, decimal}
 use Rattle.pw_base.specs.declared.plan.PlanNode.{PlanNode}
 use Rattle.pw_base.specs.declared.plan.LinkLine.{LinkLine}

@@ -1,4 +1,4 @@
--- Names of nodes and ports in a text. The form is this project's own.
+-- Names of nodes and ports in a text. Source: the form is this project's own.
 use Rattle.std.specs.Prelude.{ℕ, ◌==◌, if◌then◌else◌, List, [], ◌++◌, map, codes, slice_index_or}
 use Rattle.pw_base.specs.declared.ids.TheConstants.{DUMMY}
 use Rattle.pw_base.specs.declared.ids.PortId.{PortId}

@@ -1,4 +1,4 @@
--- What can be printed: each port and node that is named is there.
+-- What can be printed: each port and node that is named is there. Source: this project's own.
 use Rattle.std.specs.Prelude.{◌≡◌, ◌≢◌, ℕ, ◌<◌, ◌/◌, ◌%◌, ◌^◌, List, [], length, All, Option, unwrap_or, ⊤}
 use Rattle.pw_base.specs.declared.ids.TheConstants.{DUMMY}
 use Rattle.pw_base.specs.declared.ids.PortId.{PortId}

@@ -1,4 +1,4 @@
--- The line of a sink or a meter in a text. The form is this project's own.
+-- The line of a sink or a meter in a text. Source: the form is this project's own.
 use Rattle.std.specs.Prelude.{ℕ, ◌/◌, ◌==◌, if◌then◌else◌, List, [], ◌∷◌, length, codes, decimal, find}
 use Rattle.std.specs.Option.{option_map_or}
 use Rattle.pw_base.specs.declared.kind.Kind.{Kind}

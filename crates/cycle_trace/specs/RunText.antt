@@ -1,4 +1,4 @@
--- The whole text of a run. The form is this project's own.
+-- The whole text of a run. Source: the form is this project's own.
 use Rattle.std.specs.Prelude.{ℕ, List, [], ◌++◌, map, flat_map, Option, unwrap_or}
 use Rattle.std.specs.List.{enumerate_from}
 use Rattle.pw_base.specs.declared.plan.Plan.{Plan}

@@ -1,5 +1,5 @@
--- Reading a trace: which events its lines are the lines of, and its first line that is none. The
--- form is this project's own.
+-- Reading a trace: which events its lines are the lines of, and its first line that is none.
+-- Source: the form is this project's own.
 use Rattle.std.specs.Prelude.{Bool, false, ◌≡◌, ◌≢◌, ℕ, ◌-◌, ◌^◌, ◌<◌, ◌≤◌, ◌==◌, if◌then◌else◌, List, [], ◌∷◌}
 use Rattle.pw_base.specs.Limits.{nodes_limit}
 use Rattle.std.specs.Prelude.{◌++◌, length, take, All, AllPairs, codes, slice_index_or}

@@ -1,4 +1,5 @@
--- Words and lines of a text: words parted by one space, lines ended by byte 10.
+-- Words and lines of a text: words parted by one space, lines ended by byte 10. Source: this
+-- project's own.
 use Rattle.std.specs.Prelude.{ℕ, List, [], ◌∷◌, ◌++◌, flat_map}
 
 -- each word after a space, byte 32

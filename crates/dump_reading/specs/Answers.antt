@@ -1,5 +1,5 @@
--- What a reader answers: what the lines say, or why they say nothing; want of memory is free. This
--- project's own.
+-- What a reader answers: what the lines say, or why they say nothing; want of memory is free.
+-- Source: this project's own.
 use Rattle.std.specs.Prelude.{◌≡◌, ◌⊎◌, Option, Some, None, Result, Ok, Err}
 use Rattle.pod_codec.specs.declared.pod.Pod.{Pod}
 use Rattle.dump_reading.specs.declared.fault.Stop.{Stop}

@@ -1,5 +1,5 @@
 -- Bytes of a dump's line, two lower-case digits of base 16 each, and what stands between quotes.
--- This project's own.
+-- Source: this project's own.
 use Rattle.std.specs.Prelude.{ℕ, ◌+◌, ◌-◌, ◌*◌, ◌==◌, ◌&&◌, nat_le, if◌then◌else◌, List, [], ◌∷◌, length}
 use Rattle.std.specs.Prelude.{Option, Some, None, option_map, option_and_then}
 use Rattle.std.specs.Int.{w32, w64, from_be_bytes}

@@ -1,5 +1,5 @@
--- Pieces of a line: what stands before a mark and behind it, and what stands behind an indent. This
--- project's own.
+-- Pieces of a line: what stands before a mark and behind it, and what stands behind an indent.
+-- Source: this project's own.
 use Rattle.std.specs.Prelude.{ℕ, ◌==◌, ◌&&◌, nat_le, if◌then◌else◌, List, [], ◌∷◌, length, take, drop, Option, Some, None}
 use Rattle.std.specs.List.{list_all, position_or_len}
 

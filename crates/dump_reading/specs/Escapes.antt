@@ -1,4 +1,4 @@
--- Sound escapes: a digit is below 16. This project's own.
+-- Sound escapes: a digit is below 16. Source: this project's own.
 use Rattle.std.specs.Prelude.{◌<◌}
 use Rattle.dump_reading.specs.declared.strings.Escape.{Escape}
 use Rattle.dump_reading.specs.declared.strings.Escape.TheVariants as E

@@ -1,5 +1,6 @@
 -- What the words of a line say of a value: a value that holds no others, or what a container is
--- and how many lines of its own it has. The words are those of the dump, this project's own.
+-- and how many lines of its own it has. The words are those of the dump. Source: this project's
+-- own.
 use Rattle.std.specs.Prelude.{ℕ, List, codes, bytes_eq, if◌then◌else◌, Option, Some, None, Bool, true, false}
 use Rattle.std.specs.Prelude.{option_map}
 use Rattle.pod_codec.specs.declared.pod.Pod.TheVariants as P

@@ -1,5 +1,5 @@
 -- Properties and controls: a line with two numbers, and a value one level deeper. The lines are
--- those of the dump, this project's own.
+-- those of the dump. Source: this project's own.
 use Rattle.std.specs.Prelude.{ℕ, ◌+◌, List, codes, bytes_eq, if◌then◌else◌, Option, Some, None, option_map}
 use Rattle.pod_codec.specs.declared.pod.Pod.{Pod}
 use Rattle.pod_codec.specs.declared.pod.Prop.{Prop}

@@ -1,5 +1,5 @@
--- The lines of a dump: a line ends with a line feed, and is indented by two spaces a level. This
--- project's own.
+-- The lines of a dump: a line ends with a line feed, and is indented by two spaces a level.
+-- Source: this project's own.
 use Rattle.std.specs.Prelude.{ℕ, zero, suc, ◌*◌, List, [], ◌∷◌, ◌++◌, Option, Some, None, option_and_then}
 use Rattle.dump_reading.specs.Cutting.{cut_at, behind_spaces}
 

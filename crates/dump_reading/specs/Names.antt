@@ -1,5 +1,5 @@
 -- The words with which the lines of values begin, but for that of a None. They are those of the
--- dump, this project's own.
+-- dump. Source: this project's own.
 use Rattle.std.specs.Prelude.{ℕ, List, codes, bytes_eq, if◌then◌else◌, Option, Some, None}
 use Rattle.pod_codec.specs.declared.pod.ChoiceKind.{ChoiceKind}
 use Rattle.pod_codec.specs.declared.pod.ChoiceKind.TheVariants as k

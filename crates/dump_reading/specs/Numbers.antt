@@ -1,4 +1,4 @@
--- Numbers of a dump's line, in decimal digits. This project's own.
+-- Numbers of a dump's line, in decimal digits. Source: this project's own.
 use Rattle.std.specs.Prelude.{ℕ, ◌+◌, ◌==◌, if◌then◌else◌, ℤ, pos, neg_ℤ, List, [], ◌∷◌, Option, Some, None, option_map}
 use Rattle.dump_reading.specs.Cutting.{cut_at}
 use Rattle.dump_reading.specs.Numerals.{number_of}

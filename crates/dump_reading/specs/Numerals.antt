@@ -1,4 +1,4 @@
--- Numbers in plain decimal. This project's own.
+-- Numbers in plain decimal. Source: this project's own.
 use Rattle.std.specs.Prelude.{ℕ, ◌+◌, ◌-◌, ◌*◌, ◌==◌, ◌&&◌, ◌||◌, Bool, false, not, nat_le, if◌then◌else◌, List, [], ◌∷◌}
 use Rattle.std.specs.Prelude.{length, fold, Option, Some, None}
 use Rattle.std.specs.List.{list_all}

@@ -1,6 +1,6 @@
 -- Values that a dump can be of: what a program can hold, at most so many levels deep. Numbers and
--- bytes are within their types, and arrays and choices hold values of their child type. SPA POD,
--- "Types".
+-- bytes are within their types, and arrays and choices hold values of their child type. Source:
+-- SPA POD, "Types".
 use Rattle.std.specs.Prelude.{◌≡◌, ℕ, zero, suc, ◌<◌, ◌^◌, List, length, IsTrue}
 use Rattle.std.specs.List.{AllByRecursion}
 use Rattle.pod_codec.specs.declared.pod.Pod.{Pod}

@@ -1,5 +1,5 @@
 -- A string of a dump's line, in which `\x` and two digits stand for a byte that is not shown as it
--- is. This project's own.
+-- is. Source: this project's own.
 use Rattle.std.specs.Prelude.{ℕ, ◌+◌, ◌*◌, ◌==◌, if◌then◌else◌, List, [], ◌∷◌, ◌++◌, fold}
 use Rattle.std.specs.Prelude.{Option, Some, None, option_map, option_and_then}
 use Rattle.pod_codec.specs.DumpWords.{is_plain}

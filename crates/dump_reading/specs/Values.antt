@@ -1,5 +1,5 @@
 -- The value that lines say, read from the first line on: a line at its level, and what stands a
--- level deeper under it. The lines are those of the dump, this project's own.
+-- level deeper under it. The lines are those of the dump. Source: this project's own.
 use Rattle.std.specs.Prelude.{ℕ, zero, suc, ◌+◌, ◌==◌, ◌&&◌, ◌||◌, nat_lt, Bool, if◌then◌else◌, List, [], length}
 use Rattle.std.specs.Prelude.{Option, Some, None, option_map}
 use Rattle.pw_base.specs.Limits.{depth_limit}

@@ -1,5 +1,5 @@
--- The forms of a script's commands, and the command that is meant by a word. The grammar is this
--- project's.
+-- The forms of a script's commands, and the command that is meant by a word. Source: the grammar
+-- is this project's own.
 use Rattle.std.specs.Prelude.{ℕ, List, codes, bytes_eq, Option, Some, None, if◌then◌else◌}
 use Rattle.std.specs.Option.{option_or}
 

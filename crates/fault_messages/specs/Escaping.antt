@@ -1,5 +1,5 @@
--- How bytes of words are shown: those that ASCII does not print, as `\x` and two digits. This
--- project's.
+-- How bytes of words are shown: those that ASCII does not print, as `\x` and two digits. Source:
+-- this project's own.
 use Rattle.std.specs.Prelude.{ℕ, ◌+◌, ◌==◌, ◌||◌, ◌/◌, ◌%◌, Bool, List, [], ◌∷◌, ◌++◌, nat_lt, if◌then◌else◌}
 
 -- a control character

@@ -1,5 +1,5 @@
 -- The message of a status, with the line of the script that it names, by the bytes of the script
--- that the run read; and the notes on a command that was accepted. This project's.
+-- that the run read; and the notes on a command that was accepted. Source: this project's own.
 use Rattle.std.specs.Prelude.{ℕ, List, [], ◌++◌, Option, Some, None, if◌then◌else◌}
 use Rattle.pw_top.specs.declared.status.Status.{Status}
 use Rattle.pw_top.specs.declared.status.Status.TheVariants as S

@@ -1,5 +1,5 @@
--- What is wrong with a file, in words. WAV faults are those of RIFF WAVE PCM; the sentences and the
--- limits are this project's.
+-- What is wrong with a file, in words. Source: WAV faults are those of RIFF WAVE PCM; the
+-- sentences and the limits are this project's own.
 use Rattle.std.specs.Prelude.{ℕ, Bool, true, false, if◌then◌else◌, List, ◌++◌, codes, Option}
 use Rattle.pw_base.specs.declared.limit.Which.{Which}
 use Rattle.pw_base.specs.declared.limit.Which.TheVariants as W

@@ -1,4 +1,4 @@
--- What the commands do, for people who ask. This project's.
+-- What the commands do, for people who ask. Source: this project's own.
 use Rattle.std.specs.Prelude.{ℕ, List, ◌++◌, codes}
 
 abbrev pub help : List ℕ

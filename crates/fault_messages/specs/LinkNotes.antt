@@ -1,5 +1,5 @@
--- Why links were not made, in words, by the lines of a run's text. The causes are those of
--- PipeWire's documentation, "Objects Design", Link; the sentences are this project's.
+-- Why links were not made, in words, by the lines of a run's text. Source: the causes are those of
+-- PipeWire's documentation, "Objects Design", Link; the sentences are this project's own.
 use Rattle.std.specs.Prelude.{ℕ, ◌+◌, List, [], ◌∷◌, ◌++◌, codes, bytes_eq, if◌then◌else◌}
 use Rattle.graph_script.specs.Lexical.{words_of}
 use Rattle.fault_messages.specs.KeyNames.{clash_said}

@@ -1,5 +1,5 @@
--- Which word of a line has the form of no name, end or file, and what it has to be. The forms are
--- this project's.
+-- Which word of a line has the form of no name, end or file, and what it has to be. Source: the
+-- forms are this project's own.
 use Rattle.std.specs.Prelude.{ℕ, ◌==◌, ◌||◌, ◌&&◌, not, Bool, List, [], ◌∷◌, take, drop, length, nat_lt, codes, bytes_eq, if◌then◌else◌}
 use Rattle.std.specs.List.{position_or_len}
 use Rattle.graph_script.specs.Arguments.{is_node_name, is_dot}

@@ -1,5 +1,5 @@
 -- Notes on a command that was accepted, by its words, the script that it read and the text that it
--- put. This project's.
+-- put. Source: this project's own.
 use Rattle.std.specs.Prelude.{ℕ, ◌||◌, List, [], ◌++◌, codes, bytes_eq, Option, Some, None, if◌then◌else◌}
 use Rattle.graph_script.specs.Lexical.{lines_of, words_of}
 use Rattle.fault_messages.specs.Escaping.{escaped}

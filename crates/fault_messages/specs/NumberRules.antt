@@ -1,4 +1,5 @@
--- Which word of a line is a number at fault, and what it has to be. The ranges are this project's.
+-- Which word of a line is a number at fault, and what it has to be. Source: the ranges are this
+-- project's own.
 use Rattle.std.specs.Prelude.{ℕ, ◌==◌, ◌||◌, Bool, is_some, List, [], ◌∷◌, codes, bytes_eq, if◌then◌else◌}
 use Rattle.graph_script.specs.Arguments.{number_of}
 use Rattle.fault_messages.specs.Places.{word}

@@ -1,4 +1,5 @@
--- Where a fault is: a word of the command line, or a line of the script. This project's.
+-- Where a fault is: a word of the command line, or a line of the script. Source: this project's
+-- own.
 use Rattle.std.specs.Prelude.{ℕ, ◌==◌, ◌-◌, ◌&&◌, ◌||◌, not, Bool, if◌then◌else◌, List, [], ◌++◌, take}
 use Rattle.std.specs.Prelude.{codes, decimal, bytes_eq, slice_get, slice_index_or, Option, Some, None}
 use Rattle.graph_script.specs.Lexical.{lines_of, words_of}

@@ -1,5 +1,5 @@
 -- What is wrong with the ports of two ends. The names of ports are this project's; PipeWire links
--- an output to an input.
+-- an output to an input. Source: this project's own.
 use Rattle.std.specs.Prelude.{ℕ, ◌||◌, Bool, if◌then◌else◌, List, ◌++◌, codes, bytes_eq}
 use Rattle.fault_messages.specs.NameRules.{end_port}
 use Rattle.fault_messages.specs.Places.{quoted}

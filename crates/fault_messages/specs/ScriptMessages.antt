@@ -1,4 +1,5 @@
--- Why a script is refused, in words. The script grammar and the sentences are this project's.
+-- Why a script is refused, in words. Source: the script grammar and the sentences are this
+-- project's own.
 use Rattle.std.specs.Prelude.{ℕ, ◌==◌, if◌then◌else◌, List, [], ◌++◌, codes, Option, Some, None}
 use Rattle.std.specs.List.{list_any}
 use Rattle.graph_script.specs.Lexical.{words_of}

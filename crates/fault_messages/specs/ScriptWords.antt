@@ -1,4 +1,5 @@
--- Faults of a script in words: without the line, and of one word of it. This project's.
+-- Faults of a script in words: without the line, and of one word of it. Source: this project's
+-- own.
 use Rattle.std.specs.Prelude.{ℕ, List, [], ◌++◌, codes}
 use Rattle.graph_script.specs.declared.fault.ScriptWhy.{ScriptWhy}
 use Rattle.graph_script.specs.declared.fault.ScriptWhy.TheVariants as F

@@ -1,4 +1,5 @@
--- Sinks and meters that got no format, and sinks of one file, in words. This project's.
+-- Sinks and meters that got no format, and sinks of one file, in words. Source: this project's
+-- own.
 use Rattle.std.specs.Prelude.{ℕ, ◌+◌, ◌&&◌, not, Bool, List, [], ◌∷◌, ◌++◌, codes, bytes_eq, if◌then◌else◌}
 use Rattle.std.specs.List.{list_any}
 use Rattle.graph_script.specs.Lexical.{words_of}

@@ -1,4 +1,4 @@
--- The lines of a text that a command has put, and notes on them. This project's.
+-- The lines of a text that a command has put, and notes on them. Source: this project's own.
 use Rattle.std.specs.Prelude.{ℕ, ◌&&◌, Bool, List, ◌++◌, take, drop, codes, decimal, bytes_eq}
 use Rattle.std.specs.List.{position_or_len, list_any}
 use Rattle.graph_script.specs.Lexical.{is_line_feed, lines_of, words_of}

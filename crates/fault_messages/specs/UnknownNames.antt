@@ -1,5 +1,5 @@
--- A name that no node has, in words: of two ends the one at fault, by the lines before. This
--- project's.
+-- A name that no node has, in words: of two ends the one at fault, by the lines before. Source:
+-- this project's own.
 use Rattle.std.specs.Prelude.{ℕ, ◌&&◌, Bool, is_some, List, ◌++◌, codes, bytes_eq, if◌then◌else◌}
 use Rattle.std.specs.List.{list_any}
 use Rattle.graph_script.specs.Lexical.{words_of}

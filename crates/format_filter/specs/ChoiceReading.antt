@@ -1,5 +1,5 @@
--- What a property's value is read as: the choice of its values, or its fault. SPA POD, "Choice";
--- spa/pod/pod.h, spa_choice_type; which of them is at fault is this project's.
+-- What a property's value is read as: the choice of its values, or its fault. Source: SPA POD,
+-- "Choice"; spa/pod/pod.h, spa_choice_type; which of them is at fault is this project's.
 use Rattle.std.specs.Prelude.{◌≡◌, ◌⊎◌, ℕ, ℤ, pos, ◌<ℤ◌, ◌≤ℤ◌, List, [], ◌∷◌}
 use Rattle.pod_codec.specs.declared.pod.Pod.{Pod}
 use Rattle.pod_codec.specs.declared.pod.Prop.{Prop}

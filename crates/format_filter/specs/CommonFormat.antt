@@ -1,4 +1,4 @@
--- The common format of two formats, and the keys at which they clash. SPA POD, "Object";
+-- The common format of two formats, and the keys at which they clash. Source: SPA POD, "Object";
 -- spa/pod/filter.h, spa_pod_filter; what a key that one side lacks does is this project's.
 use Rattle.std.specs.Prelude.{◌≡◌, ◌≢◌, ℕ, ◌<◌, ◌==◌, List, Option, Some, None, bit_and}
 use Rattle.std.specs.List.{All, AllPairs, find}

@@ -1,4 +1,4 @@
--- The fixation of a format: each choice becomes its pick. spa/pod/iter.h, spa_pod_fixate.
+-- The fixation of a format: each choice becomes its pick. Source: spa/pod/iter.h, spa_pod_fixate.
 use Rattle.std.specs.Prelude.{map}
 use Rattle.format_filter.specs.declared.choice.Choice.TheVariants.{Only}
 use Rattle.format_filter.specs.declared.format.Field.{Field}

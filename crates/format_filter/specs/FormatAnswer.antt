@@ -1,5 +1,5 @@
--- What the answer to an object must be: this format, or this fault. Want of memory is free. This
--- project's own.
+-- What the answer to an object must be: this format, or this fault. Want of memory is free.
+-- Source: this project's own.
 use Rattle.std.specs.Prelude.{◌≡◌, ◌⊎◌, Result, Ok, Err}
 use Rattle.format_filter.specs.declared.fault.FormatFault.{FormatFault}
 use Rattle.format_filter.specs.declared.fault.FormatFault.TheVariants.{Memory}

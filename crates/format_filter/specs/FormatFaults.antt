@@ -1,4 +1,4 @@
--- The numbers of the faults of formats; this project's own.
+-- The numbers of the faults of formats. Source: this project's own.
 use Rattle.std.specs.Prelude.{ℕ}
 use Rattle.format_filter.specs.declared.fault.FormatFault.{FormatFault}
 use Rattle.format_filter.specs.declared.fault.FormatFault.TheVariants as f

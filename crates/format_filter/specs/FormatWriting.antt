@@ -1,5 +1,5 @@
--- What a format is written as: an object whose properties are its fields. SPA POD, "Object" and
--- "Choice"; spa/pod/pod.h.
+-- What a format is written as: an object whose properties are its fields. Source: SPA POD,
+-- "Object" and "Choice"; spa/pod/pod.h.
 use Rattle.std.specs.Prelude.{◌≡◌, ℕ, List, [], ◌∷◌}
 use Rattle.std.specs.List.{AllZip}
 use Rattle.pod_codec.specs.declared.pod.Pod.{Pod}

@@ -1,6 +1,6 @@
 -- The intersection of two choices: a choice of just the common members, its form and its pick.
--- SPA POD, "Choice"; spa/pod/filter.h, spa_pod_filter_prop; which form and which pick is this
--- project's.
+-- Source: SPA POD, "Choice"; spa/pod/filter.h, spa_pod_filter_prop; which form and which pick is
+-- this project's.
 use Rattle.std.specs.Prelude.{◌≡◌, Option, Some}
 use Rattle.std.specs.Prelude.{None}
 use Rattle.pod_codec.specs.declared.pod.Pod.{Pod}

@@ -1,5 +1,5 @@
 -- The form of an intersection of two choices: which kind of choice it is, and in which order.
--- SPA POD, "Choice"; spa/pod/filter.h, spa_pod_filter_prop; the forms are this project's.
+-- Source: SPA POD, "Choice"; spa/pod/filter.h, spa_pod_filter_prop; the forms are this project's.
 use Rattle.std.specs.Prelude.{◌≡◌, ℕ, ℤ, pos, ◌+ℤ◌, ◌*ℤ◌, ◌<ℤ◌, ◌≤◌, List, [], ◌∷◌, ◌++◌, length}
 use Rattle.std.specs.List.{Contains, AllPairs}
 use Rattle.std.specs.Int.{int_max, int_min}

@@ -1,5 +1,5 @@
 -- What two choices are to the parts that make their intersection: values in a list and another
--- choice, or rows of numbers. This project's own.
+-- choice, or rows of numbers. Source: this project's own.
 use Rattle.std.specs.Prelude.{◌≡◌, ℤ, pos, ◌<ℤ◌, List}
 use Rattle.std.specs.List.{Contains}
 use Rattle.pod_codec.specs.declared.pod.Pod.{Pod}

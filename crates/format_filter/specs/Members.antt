@@ -1,6 +1,5 @@
--- The members of a choice, the values that it admits, and its pick. SPA POD, "Choice";
--- spa/pod/pod.h.
--- Values of different types are different, and floats are compared by their bits.
+-- The members of a choice, the values that it admits, and its pick. Source: SPA POD, "Choice";
+-- spa/pod/pod.h. Values of different types are different, and floats are compared by their bits.
 use Rattle.std.specs.Prelude.{◌≡◌, ℕ, ℤ, pos, ◌+ℤ◌, ◌*ℤ◌, ◌≤ℤ◌, [], ◌∷◌}
 use Rattle.std.specs.List.{Contains}
 use Rattle.pod_codec.specs.declared.pod.Pod.{Pod}

@@ -1,4 +1,5 @@
--- How two rows of fields are merged: what stands at a place, by its key. This project's own.
+-- How two rows of fields are merged: what stands at a place, by its key. Source: this project's
+-- own.
 use Rattle.std.specs.Prelude.{◌≡◌, ◌⊎◌, ℕ, ◌+◌, ◌<◌, ◌≤◌, List, Option, Some, None, length, drop, slice_range, slice_index_or}
 use Rattle.std.specs.List.{All}
 use Rattle.format_filter.specs.declared.format.Field.{Field}

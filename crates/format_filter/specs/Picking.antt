@@ -1,5 +1,5 @@
--- Which pick an intersection has, of its two choices. spa/pod/filter.h, spa_pod_filter_prop; this
--- project's order.
+-- Which pick an intersection has, of its two choices. Source: spa/pod/filter.h,
+-- spa_pod_filter_prop; this project's order.
 use Rattle.format_filter.specs.declared.choice.Choice.{Choice}
 use Rattle.format_filter.specs.declared.picking.Preference.{Preference}
 use Rattle.format_filter.specs.declared.picking.Preference.TheVariants.{Own, Other, First}

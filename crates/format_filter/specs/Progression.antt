@@ -1,4 +1,5 @@
--- Rows of numbers in even steps, what two of them have in common, and congruences.
+-- Rows of numbers in even steps, what two of them have in common, and congruences. Source:
+-- congruences of elementary number theory.
 use Rattle.std.specs.Prelude.{◌≡◌, ◌⊎◌, ℕ, ℤ, pos, ◌+◌, ◌*◌, ◌%◌, ◌<◌, ◌≤◌, ◌+ℤ◌, ◌*ℤ◌, ◌<ℤ◌}
 use Rattle.std.specs.Prelude.{◌≤ℤ◌}
 use Rattle.format_filter.specs.declared.progression.Row.{Row}

@@ -1,4 +1,4 @@
--- The fields of properties in a map by their keys. This project's own.
+-- The fields of properties in a map by their keys. Source: this project's own.
 use Rattle.std.specs.Prelude.{◌≡◌, ◌≢◌, ℕ, List, Option, Some}
 use Rattle.std.specs.Ordering.{nat_cmp}
 use Rattle.std.specs.List.{All, AllPairs, Any}

@@ -1,4 +1,5 @@
--- Sound choices: the pick is a member, so that there is one; SPA POD, "Choice"; spa/pod/pod.h.
+-- Sound choices: the pick is a member, so that there is one. Source: SPA POD, "Choice";
+-- spa/pod/pod.h.
 use Rattle.std.specs.Prelude.{ℕ, ℤ, pos, ◌<◌, ◌<ℤ◌, List, FitsSigned}
 use Rattle.std.specs.Int.{w32, w64}
 use Rattle.std.specs.List.{All}

@@ -1,5 +1,5 @@
--- Arguments of commands: numbers, lists, names and endpoints, each one word. The forms are this
--- project's.
+-- Arguments of commands: numbers, lists, names and endpoints, each one word. Source: the forms are
+-- this project's own.
 use Rattle.std.specs.Prelude.{ℕ, ◌+◌, ◌-◌, ◌*◌, ◌==◌, ◌&&◌, ◌||◌, Bool, false, not, List, [], ◌∷◌, length, fold, Option, Some}
 use Rattle.std.specs.Prelude.{None, option_map, is_some, nat_le, ℤ, pos, neg_ℤ, map, if◌then◌else◌}
 use Rattle.std.specs.List.{list_all, slice_split}

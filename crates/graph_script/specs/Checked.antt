@@ -1,5 +1,5 @@
--- Checked values: a value, or why its line is at fault, found step by step. The whys are this
--- project's.
+-- Checked values: a value, or why its line is at fault, found step by step. Source: the whys are
+-- this project's own.
 use Rattle.std.specs.Prelude.{ℕ, List, [], ◌∷◌, length, ok_or, Result, Ok, Err, nat_le, ℤ}
 use Rattle.std.specs.Prelude.{if◌then◌else◌}
 use Rattle.graph_script.specs.declared.fault.ScriptWhy.{ScriptWhy}

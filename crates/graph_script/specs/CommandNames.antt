@@ -1,4 +1,5 @@
--- The names of commands. They are this project's; `driver`, `link` and `node` are PipeWire's words.
+-- The names of commands. They are this project's; `driver`, `link` and `node` are PipeWire's
+-- words. Source: this project's own.
 use Rattle.std.specs.Prelude.{ℕ, List, Option, Some, None, bytes_eq, codes, if◌then◌else◌}
 use Rattle.std.specs.Option.{option_or}
 use Rattle.graph_script.specs.declared.name.Name.{Name}

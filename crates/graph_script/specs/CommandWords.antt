@@ -1,5 +1,5 @@
 -- The word that names a command. The words are this project's; `driver`, `link` and `node` are
--- PipeWire's.
+-- PipeWire's. Source: this project's own.
 use Rattle.std.specs.Prelude.{ℕ, List, codes}
 use Rattle.graph_script.specs.declared.name.Name.{Name}
 use Rattle.graph_script.specs.declared.name.Name.TheVariants as N

@@ -1,5 +1,5 @@
--- The meaning of a line's words, by what the lines before it have said. The commands are this
--- project's.
+-- The meaning of a line's words, by what the lines before it have said. Source: the commands are
+-- this project's own.
 use Rattle.std.specs.Prelude.{ℕ, List, [], ◌∷◌, ok_or, Err}
 use Rattle.graph_script.specs.declared.fault.ScriptWhy.TheVariants as W
 use Rattle.graph_script.specs.declared.name.Name.{Name}

@@ -1,6 +1,5 @@
 -- What earlier lines forbid: a name is linked, or there are as many nodes or epochs as there may
--- be.
--- The limits are this project's.
+-- be. Source: the limits are this project's own.
 use Rattle.std.specs.Prelude.{ℕ, ◌==◌, ◌||◌, Bool, true, false, List, length, count_by, Some, None, Ok, Err, nat_lt}
 use Rattle.std.specs.Prelude.{if◌then◌else◌}
 use Rattle.std.specs.List.{list_any}

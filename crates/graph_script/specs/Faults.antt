@@ -1,4 +1,5 @@
--- Numbers of the whys of a script's fault, as they are printed; 13 is not used.
+-- Numbers of the whys of a script's fault, as they are printed; 13 is not used. Source: this
+-- project's own.
 use Rattle.std.specs.Prelude.{ℕ}
 use Rattle.graph_script.specs.declared.fault.ScriptWhy.{ScriptWhy}
 use Rattle.graph_script.specs.declared.fault.ScriptWhy.TheVariants as W

@@ -1,4 +1,5 @@
--- The commands that make a node with a file, each by its arguments. The form is this project's.
+-- The commands that make a node with a file, each by its arguments. Source: the form is this
+-- project's own.
 use Rattle.std.specs.Prelude.{ℕ, List, Ok}
 use Rattle.pw_base.specs.declared.kind.Kind.TheVariants as K
 use Rattle.graph_script.specs.declared.command.Command.TheVariants as C

@@ -1,6 +1,5 @@
 -- The commands for cycles and for nodes that are there, each by its arguments and what earlier
--- lines forbid.
--- The ranges of the numbers are this project's.
+-- lines forbid. Source: the ranges of the numbers are this project's own.
 use Rattle.std.specs.Prelude.{ℕ, List, [], ◌∷◌, Err, if◌then◌else◌}
 use Rattle.pw_base.specs.Limits.{quantum_limit}
 use Rattle.graph_script.specs.declared.fault.ScriptWhy.TheVariants as W

@@ -1,5 +1,5 @@
 -- Kinds: what the nodes of a script do, read off its lines, and that the ports of its commands are
--- there.
+-- there. Source: this project's own.
 use Rattle.std.specs.Prelude.{◌≡◌, ℕ, ◌<◌, ◌≤◌, List, length, Option, Some, None, All, filter_map, slice_index_or}
 use Rattle.std.specs.List.{enumerate_from}
 use Rattle.pw_base.specs.declared.ids.PortId.{PortId}

@@ -1,5 +1,5 @@
--- Lexical form of a script: lines, and words parted by blanks. The bytes are ASCII; the form is
--- this project's.
+-- Lexical form of a script: lines, and words parted by blanks. Source: the bytes are ASCII; the
+-- form is this project's own.
 use Rattle.std.specs.Prelude.{ℕ, ◌==◌, ◌||◌, ◌&&◌, Bool, true, List, [], ◌∷◌, length, filter, nat_lt, nat_le, slice_index}
 use Rattle.std.specs.List.{slice_split}
 

@@ -1,4 +1,4 @@
--- Limits of a script: the greatest numbers that its commands may have. They are this project's.
+-- Limits of a script: the greatest numbers that its commands may have. Source: this project's own.
 use Rattle.std.specs.Prelude.{ℕ}
 pub use Rattle.pw_base.specs.Limits.{nodes_limit, period_limit, delay_limit, amp_limit, gain_limit}
 

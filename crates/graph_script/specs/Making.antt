@@ -1,5 +1,5 @@
 -- Making: each line makes the next node or none, and names only nodes that it or a line before it
--- makes. This project's.
+-- makes. Source: this project's own.
 use Rattle.std.specs.Prelude.{◌≡◌, ℕ, ◌+◌, List, [], ◌∷◌, IfSome, fold}
 use Rattle.std.specs.Option.{option_map_or}
 use Rattle.graph_script.specs.declared.command.Command.{Command}

@@ -1,5 +1,5 @@
--- The commands that make a node, each by its arguments. The ranges of the numbers are this
--- project's.
+-- The commands that make a node, each by its arguments. Source: the ranges of the numbers are this
+-- project's own.
 use Rattle.std.specs.Prelude.{ℕ, List, Ok, pos}
 use Rattle.pw_base.specs.Limits.{rate_limit, channels_limit}
 use Rattle.pw_base.specs.declared.kind.Kind.TheVariants as K

@@ -1,5 +1,5 @@
--- Nodes and ports that the lines so far have made, by name. The order of the whys is this
--- project's.
+-- Nodes and ports that the lines so far have made, by name. Source: the order of the whys is this
+-- project's own.
 use Rattle.std.specs.Prelude.{ℕ, ◌+◌, ◌||◌, Bool, true, false, not, List, ◌++◌, length, Option, option_map, is_some, ok_or, Ok, Err}
 use Rattle.std.specs.Prelude.{position, slice_index_or, bytes_eq, codes, if◌then◌else◌}
 use Rattle.pw_base.specs.declared.ids.PortId.{PortId}

@@ -1,5 +1,5 @@
--- Order: what else holds of every script that is read, of its lines and names together.
--- This project's.
+-- Order: what else holds of every script that is read, of its lines and names together. Source:
+-- this project's own.
 use Rattle.std.specs.Prelude.{◌≢◌, ◌<◌, ◌≤◌, All, AllPairs, count_by, codes}
 use Rattle.graph_script.specs.declared.script.Script.{Script}
 use Rattle.graph_script.specs.Limits.{epochs_limit}

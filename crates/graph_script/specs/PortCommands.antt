@@ -1,5 +1,5 @@
--- The commands for ports and links, each by its arguments and what earlier lines forbid.
--- The range of the number is this project's.
+-- The commands for ports and links, each by its arguments and what earlier lines forbid. Source:
+-- the range of the number is this project's own.
 use Rattle.std.specs.Prelude.{ℕ, List, Ok, Err, if◌then◌else◌}
 use Rattle.pw_base.specs.declared.ids.PortId.{PortId}
 use Rattle.pw_base.specs.Limits.{buffers_limit}

@@ -1,4 +1,4 @@
--- Scripts that can be written as text: those that were read. This project's.
+-- Scripts that can be written as text: those that were read. Source: this project's own.
 use Rattle.std.specs.Prelude.{◌≡◌, ℕ, ◌≤◌, List, [], ◌∷◌, length, Ok}
 use Rattle.pw_base.specs.Limits.{script_bytes_limit}
 use Rattle.pw_base.specs.declared.kind.Kind.{Kind}

@@ -1,4 +1,5 @@
--- The text of a script: each command on the line of its number. The form is this project's.
+-- The text of a script: each command on the line of its number. Source: the form is this project's
+-- own.
 use Rattle.std.specs.Prelude.{ℕ, ◌-◌, List, [], ◌∷◌, ◌++◌, map, decimal, slice_index_or, replicate}
 use Rattle.std.specs.Fmt.{signed_decimal}
 use Rattle.std.specs.List.{join_with_byte}

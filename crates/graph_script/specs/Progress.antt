@@ -1,5 +1,5 @@
--- What is kept beside the lines so far, and a new node before memory is taken for its name. This
--- project's.
+-- What is kept beside the lines so far, and a new node before memory is taken for its name.
+-- Source: this project's own.
 use Rattle.std.specs.Prelude.{ℕ, ◌+◌, ◌<◌, Bool, true, List, All, Some, Result, Ok, Err, set, if◌then◌else◌}
 use Rattle.graph_script.specs.declared.fault.ScriptFault.{ScriptFault}
 use Rattle.graph_script.specs.declared.command.Command.{Command}

@@ -1,4 +1,5 @@
--- Ranges: what holds of the numbers, the names and the nodes of every script that is read.
+-- Ranges: what holds of the numbers, the names and the nodes of every script that is read. Source:
+-- this project's own.
 use Rattle.std.specs.Prelude.{ℕ, ◌<◌, ◌≤◌, length, All, IsTrue}
 use Rattle.pw_base.specs.SoundShape.{IsBetween}
 use Rattle.pw_base.specs.Limits.{dummy_node, quantum_limit, buffers_limit}

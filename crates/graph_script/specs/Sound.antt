@@ -1,4 +1,4 @@
--- What holds of the lines so far, whatever they have said. This project's.
+-- What holds of the lines so far, whatever they have said. Source: this project's own.
 use Rattle.std.specs.Prelude.{◌≡◌, ℕ, ◌<◌, length, All, false, get_or}
 use Rattle.std.specs.List.{enumerate_from}
 use Rattle.graph_script.specs.declared.reading.Reading.{Reading}

@@ -1,5 +1,5 @@
--- The checks of a POD in their order, each with its fault. SPA POD, "Types"; spa/pod/pod.h; the
--- order of the checks is this project's.
+-- The checks of a POD in their order, each with its fault. Source: SPA POD, "Types";
+-- spa/pod/pod.h; the order of the checks is this project's.
 use Rattle.std.specs.Prelude.{◌≡◌, ℕ, ◌+◌, ◌-◌, ◌%◌, ◌==◌, ◌&&◌, not, nat_lt, nat_le, Bool, true, List, [], ◌∷◌, length}
 use Rattle.std.specs.Prelude.{slice_index, Option, Some, None, Result, Ok, Err, if◌then◌else◌}
 use Rattle.pw_base.specs.Limits.{pod_bytes_limit}

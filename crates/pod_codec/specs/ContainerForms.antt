@@ -1,5 +1,5 @@
--- The written forms of the values that hold others. SPA POD, "Types"; spa/pod/pod.h. Numbers are
--- little-endian.
+-- The written forms of the values that hold others. Source: SPA POD, "Types"; spa/pod/pod.h.
+-- Numbers are little-endian.
 use Rattle.std.specs.Prelude.{ℕ, suc, List, ◌++◌}
 use Rattle.std.specs.List.{flat_map, list_all}
 use Rattle.pod_codec.specs.Framing.{Form, Keyed, u32_bytes, framed, keyed_bytes, deepest, deepest_keyed, child_bytes}

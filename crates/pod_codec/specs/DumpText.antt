@@ -1,6 +1,5 @@
 -- The text of a value: one value a line, two spaces of indent a level, what it holds one level
--- deeper.
--- The lines are this project's own.
+-- deeper. Source: the lines are this project's own.
 use Rattle.std.specs.Prelude.{ℕ, List, ◌++◌, length, codes, if◌then◌else◌}
 use Rattle.std.specs.List.{flat_map}
 use Rattle.std.specs.Fmt.{signed_decimal}

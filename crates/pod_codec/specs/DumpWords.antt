@@ -1,5 +1,5 @@
--- The words and the lines of a dump, two spaces of indent a level. The lines are this project's
--- own.
+-- The words and the lines of a dump, two spaces of indent a level. Source: the lines are this
+-- project's own.
 use Rattle.std.specs.Prelude.{ℕ, ◌+◌, ◌*◌, ◌/◌, ◌%◌, ◌==◌, ◌&&◌, not, nat_le, Bool, List, [], ◌∷◌, ◌++◌, replicate}
 use Rattle.std.specs.Prelude.{slice_index, codes, decimal, if◌then◌else◌}
 use Rattle.std.specs.List.{flat_map}

@@ -1,6 +1,6 @@
 -- The first fault of bytes that spell no POD: the checks of a POD in their order, then those of
--- what it holds.
--- SPA POD, "Types"; spa/pod/pod.h; the order of the checks is this project's.
+-- what it holds. Source: SPA POD, "Types"; spa/pod/pod.h; the order of the checks is this
+-- project's.
 use Rattle.std.specs.Prelude.{◌≡◌, ℕ, zero, suc, ◌+◌, ◌≤◌, ◌<◌, ◌⊎◌, List, length, Some, None, Result, Ok, Err}
 use Rattle.pw_base.specs.Limits.{depth_limit}
 use Rattle.pod_codec.specs.declared.fault.PodFault.{PodFault}

@@ -1,6 +1,5 @@
 -- The parts of a written POD: size, type, body and zeros up to a multiple of 8, and elements
--- without padding.
--- SPA POD, "Types"; spa/pod/pod.h. Numbers are little-endian.
+-- without padding. Source: SPA POD, "Types"; spa/pod/pod.h. Numbers are little-endian.
 use Rattle.std.specs.Prelude.{ℕ, ◌+◌, ◌*◌, ◌-◌, ◌/◌, ◌==◌, ◌&&◌, ◌||◌, max, nat_lt, Bool, true, List, [], ◌∷◌, ◌++◌}
 use Rattle.std.specs.Prelude.{length, replicate}
 use Rattle.std.specs.List.{flat_map, list_all}

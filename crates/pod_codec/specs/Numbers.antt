@@ -1,4 +1,4 @@
--- Values that a program can hold: each number is within its type, u32, i32, u64 or i64.
+-- Values that a program can hold: each number is within its type, u32, i32, u64 or i64. Source:
 -- SPA POD, "Types"; spa/pod/pod.h.
 use Rattle.std.specs.Prelude.{ℕ, zero, suc, ◌<◌, ◌^◌, List, FitsSigned}
 use Rattle.std.specs.List.{AllByRecursion}

@@ -1,6 +1,5 @@
--- What stands at a place of bytes: numbers, values of a stated size, and the elements of arrays and
--- choices.
--- SPA POD, "Types"; spa/pod/pod.h. Places count from the first byte.
+-- What stands at a place of bytes: numbers, values of a stated size, and the elements of arrays
+-- and choices. Source: SPA POD, "Types"; spa/pod/pod.h. Places count from the first byte.
 use Rattle.std.specs.Prelude.{◌≡◌, ℕ, ◌+◌, ◌≤◌, ◌<◌, ◌==◌, not, ◌⊎◌, List, [], ◌∷◌, slice_index}
 use Rattle.std.specs.Int.{w32, w64, from_le_bytes, cast_signed}
 use Rattle.pod_codec.specs.declared.pod.Pod.{Pod}

@@ -1,4 +1,4 @@
--- The numbers of the faults of PODs in printed lines; this project's own.
+-- The numbers of the faults of PODs in printed lines. Source: this project's own.
 use Rattle.std.specs.Prelude.{ℕ}
 use Rattle.pod_codec.specs.declared.fault.PodFault.{PodFault}
 use Rattle.pod_codec.specs.declared.fault.PodFault.TheVariants as p

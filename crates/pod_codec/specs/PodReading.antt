@@ -1,5 +1,5 @@
 -- The reading of bytes as a POD: the value that they spell at their front and how long that front
--- is, or their first fault. SPA POD, "Types"; spa/pod/pod.h. For all bytes there is one
+-- is, or their first fault. Source: SPA POD, "Types"; spa/pod/pod.h. For all bytes there is one
 -- (`proofs/PodReadings.antt`).
 use Rattle.std.specs.Prelude.{ℕ, List, Result, Ok, Err}
 use Rattle.pod_codec.specs.declared.pod.Pod.{Pod}

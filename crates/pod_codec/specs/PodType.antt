@@ -1,4 +1,4 @@
--- Type numbers of PODs, and which types arrays and choices may hold. SPA POD, "Types";
+-- Type numbers of PODs, and which types arrays and choices may hold. Source: SPA POD, "Types";
 -- spa/utils/type.h.
 use Rattle.std.specs.Prelude.{◌≡◌, ◌⊎◌, ℕ, ◌==◌, ◌&&◌, ◌||◌, Bool, nat_le, if◌then◌else◌}
 use Rattle.pod_codec.specs.declared.pod.ChoiceKind.{ChoiceKind}

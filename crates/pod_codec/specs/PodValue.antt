@@ -1,5 +1,6 @@
 -- The written form of a value: its type, the body that it is written with, how deep it is, and
--- whether it can be written at all. SPA POD, "Types"; spa/pod/pod.h. Numbers are little-endian.
+-- whether it can be written at all. Source: SPA POD, "Types"; spa/pod/pod.h. Numbers are
+-- little-endian.
 use Rattle.std.specs.Prelude.{ℕ, List, [], ◌∷◌, ◌++◌, if◌then◌else◌}
 use Rattle.std.specs.Int.{w32, w64, cast_unsigned}
 use Rattle.pod_codec.specs.declared.pod.Pod.{Pod}

@@ -1,5 +1,5 @@
 -- What the reader's answer to bytes must be: this value, or this fault. Want of memory is free.
--- This project's own.
+-- Source: this project's own.
 use Rattle.std.specs.Prelude.{◌≡◌, ℕ, ◌⊎◌, List, Result, Ok, Err}
 use Rattle.pod_codec.specs.declared.pod.Pod.{Pod}
 use Rattle.pod_codec.specs.declared.fault.PodFault.{PodFault}

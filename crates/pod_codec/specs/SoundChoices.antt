@@ -1,5 +1,5 @@
 -- Sound choices: what an object must be so that each of its choices can be read by its child type.
--- SPA POD, "Types"; spa/pod/pod.h.
+-- Source: SPA POD, "Types"; spa/pod/pod.h.
 use Rattle.std.specs.Prelude.{◌≡◌, ℕ, ◌<◌, length}
 use Rattle.std.specs.List.{All}
 use Rattle.pod_codec.specs.declared.pod.Pod.{Pod}

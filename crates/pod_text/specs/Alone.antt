@@ -1,4 +1,4 @@
--- A request whose words are all of a command line. This project's.
+-- A request whose words are all of a command line. Source: this project's own.
 use Rattle.std.specs.Prelude.{ℕ, List, [], ◌∷◌, Result, Ok, Err}
 use Rattle.pod_text.specs.declared.status.Status.{Status}
 use Rattle.pod_text.specs.declared.status.Status.TheVariants as S

@@ -1,4 +1,4 @@
--- What a call does, by the words and by what the files hold. This project's own.
+-- What a call does, by the words and by what the files hold. Source: this project's own.
 use Rattle.std.specs.Prelude.{◌≡◌, ◌⊎◌, ℕ, ◌-◌, List, [], Option, Some, Result, Ok, Err, slice_index_or}
 use Rattle.pw_base.specs.Files.{Held, names_in}
 use Rattle.pw_base.specs.Output.{Given}

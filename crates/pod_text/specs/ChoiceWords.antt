@@ -1,5 +1,6 @@
--- Choices in a word: numbers parted by `|`, or a Range as `MIN..MAX`, or a Step as `MIN..MAX/STEP`.
--- The first is what is preferred. The form is this project's; choices are those of SPA POD.
+-- Choices in a word: numbers parted by `|`, or a Range as `MIN..MAX`, or a Step as
+-- `MIN..MAX/STEP`. The first is what is preferred. Source: choices are those of SPA POD; the form
+-- is this project's own.
 use Rattle.std.specs.Prelude.{◌==◌, ◌&&◌, ℕ, pos, nat_le, nat_lt, if◌then◌else◌, List, [], ◌∷◌, ◌++◌, length, fold}
 use Rattle.std.specs.Prelude.{Option, Some, None, option_map, option_and_then}
 use Rattle.std.specs.List.{slice_split}

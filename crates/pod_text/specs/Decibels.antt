@@ -1,5 +1,5 @@
--- Gains in decibels: 20 times the decimal logarithm of a factor. The range, and that a gain is the
--- nearest in 1/256, are this project's.
+-- Gains in decibels: 20 times the decimal logarithm of a factor. Source: the range, and that a
+-- gain is the nearest in 1/256, are this project's own.
 use Rattle.std.specs.Prelude.{ℕ, ◌+◌, ◌-◌, ◌*◌, ◌^◌, ◌==◌, ◌<◌, ◌≤◌, List, [], ◌∷◌, length, take, drop}
 use Rattle.std.specs.Prelude.{Option, None, option_map, ℤ, pos, slice_index, codes, bytes_eq, if◌then◌else◌}
 use Rattle.graph_script.specs.Arguments.{number_of}

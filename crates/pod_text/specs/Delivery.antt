@@ -1,4 +1,4 @@
--- Where the bytes go: a file of this name, or standard output. This project's own.
+-- Where the bytes go: a file of this name, or standard output. Source: this project's own.
 use Rattle.std.specs.Prelude.{◌≡◌, ℕ, List, take, option_map, IsTrue, not}
 use Rattle.pw_base.specs.Causes.{Rose}
 use Rattle.pw_base.specs.Files.{Held, stored}

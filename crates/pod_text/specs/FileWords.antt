@@ -1,4 +1,4 @@
--- Words of a command line that name files. This project's.
+-- Words of a command line that name files. Source: this project's own.
 use Rattle.std.specs.Prelude.{ℕ, ◌==◌, ◌&&◌, ◌||◌, Bool, false, not, nat_le, List, [], ◌∷◌, length, codes, bytes_eq}
 
 -- standard input or output

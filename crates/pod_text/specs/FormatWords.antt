@@ -1,5 +1,5 @@
--- The words behind `format`: a file, rates, channels, and a key that the other side must have. This
--- project's.
+-- The words behind `format`: a file, rates, channels, and a key that the other side must have.
+-- Source: this project's own.
 use Rattle.std.specs.Prelude.{ℕ, if◌then◌else◌, List, [], ◌∷◌, codes, bytes_eq, Option, Some, None, Result, Ok, Err}
 use Rattle.format_filter.specs.declared.choice.Choice.{Choice}
 use Rattle.pod_text.specs.declared.format_words.Key.{Key}

@@ -1,5 +1,5 @@
 -- Lists of gains at frames, one a line, and their first line at fault. The form is this project's;
--- words and comments are those of its scripts.
+-- words and comments are those of its scripts. Source: this project's own.
 use Rattle.std.specs.Prelude.{ℕ, List, [], ◌∷◌, ◌++◌, fold, nat_lt, ℤ, Option, Some, None, Result, Ok, Err}
 use Rattle.std.specs.Prelude.{option_to_list, if◌then◌else◌}
 use Rattle.std.specs.List.{enumerate_from}

@@ -1,4 +1,5 @@
--- The format of an offer. SPA POD, "Object"; spa/utils/type.h, spa/param/param.h and format.h.
+-- The format of an offer. Source: SPA POD, "Object"; spa/utils/type.h, spa/param/param.h and
+-- format.h.
 use Rattle.std.specs.Prelude.{ℕ, [], ◌∷◌}
 use Rattle.format_filter.specs.declared.choice.Choice.{Choice}
 use Rattle.format_filter.specs.declared.format.Field.{Field}

@@ -1,5 +1,5 @@
 -- The sentence of a status, by the words of the command line and the line of the list that it
--- names. This project's own.
+-- names. Source: this project's own.
 use Rattle.std.specs.Prelude.{ℕ, nat_lt, if◌then◌else◌, List, [], ◌++◌, length, codes, decimal, slice_index_or}
 use Rattle.dump_reading.specs.declared.fault.DumpWhy.{DumpWhy}
 use Rattle.dump_reading.specs.declared.fault.DumpWhy.TheVariants as d

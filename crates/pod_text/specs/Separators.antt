@@ -1,4 +1,4 @@
--- The bytes that part numbers in a word. This project's.
+-- The bytes that part numbers in a word. Source: this project's own.
 use Rattle.std.specs.Prelude.{ℕ, ◌==◌, Bool}
 
 -- the bytes that part numbers

@@ -1,4 +1,4 @@
--- Bytes of others in a sentence. This project's own.
+-- Bytes of others in a sentence. Source: this project's own.
 use Rattle.std.specs.Prelude.{ℕ, ◌==◌, ◌&&◌, nat_le, not, if◌then◌else◌, List, [], ◌∷◌, ◌++◌, codes, take}
 use Rattle.std.specs.List.{flat_map}
 use Rattle.pod_codec.specs.DumpWords.{hex_digits}

@@ -1,4 +1,4 @@
--- The number of a status: those of `pipegraph`. This project's own.
+-- The number of a status: those of `pipegraph`. Source: this project's own.
 use Rattle.std.specs.Prelude.{ℕ}
 use Rattle.pod_text.specs.declared.status.Status.{Status}
 use Rattle.pod_text.specs.declared.status.Status.TheVariants as S

@@ -1,5 +1,5 @@
 -- The grammar of command lines: what words ask for, or the first word at fault, or their number
--- where more are wanted. This project's.
+-- where more are wanted. Source: this project's own.
 use Rattle.std.specs.Prelude.{◌≡◌, ℕ, ◌||◌, Bool, if◌then◌else◌, List, [], ◌∷◌}
 use Rattle.std.specs.Prelude.{codes, bytes_eq, Option, Some, None, Result, Ok, Err}
 use Rattle.pod_text.specs.declared.status.Status.{Status}

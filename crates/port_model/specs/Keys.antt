@@ -1,5 +1,5 @@
--- Numbers of audio formats: object type, id, keys and values. spa/utils/type.h, spa/param/param.h,
--- spa/param/format.h, spa/param/audio/raw.h.
+-- Numbers of audio formats: object type, id, keys and values. Source: spa/utils/type.h,
+-- spa/param/param.h, spa/param/format.h, spa/param/audio/raw.h.
 use Rattle.std.specs.Prelude.{ℕ}
 
 -- SPA_TYPE_OBJECT_Format, SPA_PARAM_EnumFormat

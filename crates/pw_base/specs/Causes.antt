@@ -1,4 +1,4 @@
--- Causes: a count of faults that only its object's own failures raise.
+-- Causes: a count of faults that only its object's own failures raise. Source: this project's own.
 use Rattle.std.specs.Prelude.{◌≡◌, ℕ, ◌+◌, ◌-◌, ◌^◌, ◌≤◌, min, Result, Ok, Err}
 use Rattle.pw_base.specs.declared.files.FileFail.{FileFail}
 use Rattle.pw_base.specs.declared.files.FileFail.TheVariants.{Failed, Memory}

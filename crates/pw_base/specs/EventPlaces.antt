@@ -1,4 +1,5 @@
--- Where the events of a cycle stand in a history. PipeWire's documentation, "Graph Scheduling".
+-- Where the events of a cycle stand in a history. Source: PipeWire's documentation, "Graph
+-- Scheduling".
 use Rattle.std.specs.Prelude.{ℕ, ◌==◌, ◌&&◌, Bool, true, false, List}
 use Rattle.std.specs.List.{position_or_len}
 use Rattle.pw_base.specs.declared.event.Event.{Event}

@@ -1,4 +1,5 @@
--- Files: what is held under each name, and what a load and a store say of it.
+-- Files: what is held under each name, and what a load and a store say of it. Source: this
+-- project's own.
 use Rattle.std.specs.Prelude.{◌≡◌, ℕ, ◌<◌, ◌≤◌, List, length, take, Option, Some, None, option_map, Result, Ok, Err, bytes_eq}
 use Rattle.std.specs.Prelude.{if◌then◌else◌}
 use Rattle.pw_base.specs.declared.files.Loaded.{Loaded}

@@ -1,5 +1,5 @@
--- Legal histories: events, cycle by cycle, in the order of their tickets. PipeWire's documentation,
--- "Graph Scheduling".
+-- Legal histories: events, cycle by cycle, in the order of their tickets. Source: PipeWire's
+-- documentation, "Graph Scheduling".
 use Rattle.std.specs.Prelude.{◌≡◌, ℕ, ◌<◌, ◌≤◌, List, [], ◌∷◌, ◌++◌, map, count_by, All}
 use Rattle.std.specs.Prelude.{Contains, IsBitSet}
 use Rattle.std.specs.List.{flat_map, range_with_len, AllZip}

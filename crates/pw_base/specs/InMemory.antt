@@ -1,4 +1,5 @@
--- What the objects in memory hold, and which of their calls are to fail.
+-- What the objects in memory hold, and which of their calls are to fail. Source: this project's
+-- own.
 use Rattle.std.specs.Prelude.{◌≡◌, ℕ, List, [], ◌∷◌, ◌++◌}
 use Rattle.std.specs.Ordering.{nat_cmp}
 use Rattle.std.specs.Cmp.Lexicographic.{slice_cmp}

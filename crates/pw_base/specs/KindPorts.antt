@@ -1,4 +1,4 @@
--- Ports of a kind: numbered within the node from 0, inputs first.
+-- Ports of a kind: numbered within the node from 0, inputs first. Source: this project's own.
 use Rattle.std.specs.Prelude.{ℕ, ◌+◌, List, [], ◌∷◌, ◌++◌, length, codes, slice_index_or}
 use Rattle.pw_base.specs.declared.kind.Kind.{Kind}
 use Rattle.pw_base.specs.declared.kind.Kind.TheVariants.{Source, Square, Gain, Mix2, Delay, Map, Split, Sink, Meter, Dummy}

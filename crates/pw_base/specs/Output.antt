@@ -1,4 +1,4 @@
--- Output: the bytes that were given, where that is told.
+-- Output: the bytes that were given, where that is told. Source: this project's own.
 use Rattle.std.specs.Prelude.{◌≡◌, ℕ, List, ◌++◌, take, Option, option_map, Result, Ok, Err}
 use Rattle.pw_base.specs.declared.files.FileFail.{FileFail}
 use Rattle.pw_base.specs.declared.files.FileFail.TheVariants.{Failed, Memory}

@@ -1,5 +1,5 @@
--- Quantities: the number of each quantity that has a limit, as a status line prints it. They are
--- this project's.
+-- Quantities: the number of each quantity that has a limit, as a status line prints it. Source:
+-- this project's own.
 use Rattle.std.specs.Prelude.{ℕ}
 use Rattle.pw_base.specs.declared.limit.Which.{Which}
 use Rattle.pw_base.specs.declared.limit.Which.TheVariants as W

@@ -1,5 +1,5 @@
--- Draws from a linear congruential generator modulo 2^64. The multiplier and the increment are
--- those of Knuth's MMIX; The Art of Computer Programming, volume 2, section 3.3.4.
+-- Draws from a linear congruential generator modulo 2^64. Source: the multiplier and the increment
+-- are those of Knuth's MMIX; The Art of Computer Programming, volume 2, section 3.3.4.
 use Rattle.std.specs.Prelude.{ℕ, ◌+◌, ◌*◌, ◌/◌, ◌%◌, ◌^◌, List, map, ℤ, pos, ◌-ℤ◌}
 use Rattle.std.specs.Fn.{iterate}
 use Rattle.std.specs.List.{range_with_len}

@@ -1,5 +1,5 @@
 -- The line of a number: the cycles of its plan, and what the graph's one sink and one meter have
--- kept. The form is this project's own.
+-- kept. Source: the form is this project's own.
 use Rattle.std.specs.Prelude.{ℕ, ◌/◌, List, [], ◌∷◌, ◌++◌, length, fold, codes, decimal, ℤ, pos, ◌+ℤ◌}
 use Rattle.std.specs.Fmt.{signed_decimal}
 use Rattle.pw_base.specs.declared.plan.Plan.{Plan}

@@ -1,5 +1,5 @@
 -- The script of a number, as commands and names: what its text says in this project's script
--- grammar.
+-- grammar. Source: this project's own.
 use Rattle.std.specs.Prelude.{ℕ, ◌+◌, ◌*◌, List, [], ◌∷◌, ◌++◌, codes, flat_map, ℤ}
 use Rattle.std.specs.List.{range_with_len}
 use Rattle.pw_base.specs.declared.ids.PortId.{PortId}

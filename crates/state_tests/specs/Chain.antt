@@ -1,4 +1,5 @@
--- A chain of nodes through epochs of a cycle each: what a step of it asks for. This project's own.
+-- A chain of nodes through epochs of a cycle each: what a step of it asks for. Source: this
+-- project's own.
 use Rattle.std.specs.Prelude.{◌≡◌, ℕ, ◌<◌, length}
 use Rattle.pw_base.specs.declared.plan.Epoch.{Epoch}
 use Rattle.pw_base.specs.declared.plan.Plan.{Plan}

@@ -1,4 +1,4 @@
--- The samples of a quantum at each port of a node. This project's own.
+-- The samples of a quantum at each port of a node. Source: this project's own.
 use Rattle.std.specs.Prelude.{◌≡◌, ℕ, ◌*◌}
 use Rattle.node_state.specs.declared.node_state.NodeState.{NodeState}
 use Rattle.node_state.specs.Slices.{first_channels, second_channels, left_channels, right_channels}

@@ -1,4 +1,5 @@
 -- What the checker of traces works with: node sets, the rule for the next event, fronts of cycles.
+-- Source: this project's own.
 pub mod Admitting
 pub mod Fronts
 pub mod NextEvent

@@ -1,5 +1,5 @@
--- Chunks of a RIFF WAVE file: a name of four bytes, a size of 32 bits, and so many bytes; numbers
--- little-endian.
+-- Chunks of a RIFF WAVE file: a name of four bytes, a size of 32 bits, and so many bytes. Source:
+-- RIFF WAVE; numbers little-endian.
 use Rattle.std.specs.Prelude.{ℕ, zero, suc, ◌+◌, ◌%◌, ◌&&◌, Bool, nat_lt, nat_le, if◌then◌else◌, List, [], ◌∷◌, length, take, drop}
 use Rattle.std.specs.Prelude.{codes, bytes_eq}
 use Rattle.byteorder.specs.Endian.{little_number}

@@ -1,5 +1,5 @@
--- The format chunk of a WAV file. RIFF WAVE, WAVEFORMATEX and WAVEFORMATEXTENSIBLE; numbers
--- little-endian.
+-- The format chunk of a WAV file. Source: RIFF WAVE, WAVEFORMATEX and WAVEFORMATEXTENSIBLE;
+-- numbers little-endian.
 use Rattle.std.specs.Prelude.{ℕ, ◌*◌, ◌-◌, ◌%◌, ◌≤◌, ◌==◌, ◌&&◌, ◌||◌, not, Bool, nat_lt, nat_le, if◌then◌else◌, List, []}
 use Rattle.std.specs.Prelude.{◌∷◌, length, take, drop, bytes_eq, Result, Ok, Err}
 use Rattle.byteorder.specs.Endian.{little_number}

@@ -1,4 +1,4 @@
--- Numbers of the WAV faults, as they are printed.
+-- Numbers of the WAV faults, as they are printed. Source: this project's own.
 use Rattle.std.specs.Prelude.{ℕ}
 use Rattle.wav_files.specs.declared.fault.WavFault.{WavFault}
 use Rattle.wav_files.specs.declared.fault.WavFault.TheVariants as F

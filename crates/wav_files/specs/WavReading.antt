@@ -1,4 +1,5 @@
--- WAV reading: the list of a file's chunks, and the samples read off it. RIFF WAVE, PCM of 16 bits.
+-- WAV reading: the list of a file's chunks, and the samples read off it. Source: RIFF WAVE, PCM of
+-- 16 bits.
 use Rattle.std.specs.Prelude.{◌≡◌, ◌≢◌, ℕ, ◌*◌, ◌%◌, ◌==◌, not, List, [], ◌∷◌, take, drop, if◌then◌else◌, Option}
 use Rattle.std.specs.Prelude.{Some, None, Result, Ok, Err}
 use Rattle.wav_files.specs.declared.wav.Wav.{Wav}

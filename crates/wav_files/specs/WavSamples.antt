@@ -1,4 +1,4 @@
--- The samples of a row of bytes. RIFF WAVE, PCM of 16 bits, little-endian.
+-- The samples of a row of bytes. Source: RIFF WAVE, PCM of 16 bits, little-endian.
 use Rattle.std.specs.Prelude.{ℕ, List, [], ◌∷◌, ℤ}
 use Rattle.std.specs.Int.{w16, cast_signed}
 use Rattle.byteorder.specs.Endian.{little_number}

@@ -1,4 +1,4 @@
--- WAV writing: the bytes of a wave. RIFF WAVE, PCM of 16 bits; numbers little-endian.
+-- WAV writing: the bytes of a wave. Source: RIFF WAVE, PCM of 16 bits; numbers little-endian.
 use Rattle.std.specs.Prelude.{◌≡◌, ℕ, ◌+◌, ◌*◌, ◌%◌, ◌≤◌, List, ◌++◌, length, codes, flat_map, ℤ}
 use Rattle.std.specs.Int.{w16, cast_unsigned}
 use Rattle.byteorder.specs.Endian.{little_bytes}
