@@ -1,5 +1,4 @@
--- The text of a script: each command on the line of its number. Source: the form is this project's
--- own.
+-- The text of a script: each command on the line of its number. Source: this project's own.
 use Rattle.std.specs.Prelude.{ℕ, ◌-◌, List, [], ◌∷◌, ◌++◌, map, decimal, slice_index_or, replicate}
 use Rattle.std.specs.Fmt.{signed_decimal}
 use Rattle.std.specs.List.{join_with_byte}
