@@ -12,9 +12,9 @@ use board_rule::Board;
 use pw_base::{Gate, Items};
 
 impl LoopState {
-    /// One turn on the board of the loop's epoch: the followers that have cycles left are tried in
-    /// the order of their numbers, and the first that is awake runs for one cycle. Takes no memory,
-    /// does not wait.
+    /// One turn on the board of the loop's epoch: the followers that have cycles left are tried,
+    /// first those that have ended the fewest cycles, each in the order of their numbers, and the
+    /// first that is awake runs for one cycle. Takes no memory, does not wait.
     pub fn turn<G: Gate>(&mut self, board: &Board, gate: &G) -> Did
         requires stands { IsOnBoard (layout board.now) (table_of board.now) self.old }
         ensures stands { IsOnBoard (layout board.now) (table_of board.now) self.new }

@@ -36,9 +36,10 @@ impl Ways {
         lane.queue.pop_as::<Pops, R>(rt, &mut ends[number].pass)
     }
 
-    /// Takes the oldest number out of the queue of the way's own loop. None exactly where the queue
-    /// was empty at the step of this call. May wait for another thread that is in the middle of a
-    /// push or a pop; takes no memory.
+    /// Takes the oldest number out of the queue of the way's own loop. None where the queue was
+    /// empty at the step of this call: the clause says that it was empty at one moment, and that
+    /// this was the moment of the call no clause can say, so it is tested. May wait for another
+    /// thread that is in the middle of a push or a pop; takes no memory.
     /// Condition: a loop's way, which was answered with these ways.
     pub fn receive<R: Wait>(&self, rt: &R, way: &mut Way) -> Option<u32>
         requires answered { IsWayOf self.now way.old }

@@ -119,7 +119,9 @@ impl Ways {
     /// queue of that node's loop and unparks that loop. Afterwards it unparks the driver's thread,
     /// also where it made no push. Bit n of the set is node n; a bit that is no node of `owner`, as
     /// 63, is the driver's own. The answer has exactly the bits of the nodes whose push in this
-    /// call found 64 numbers in the queue; of each other such node the way knows one push more.
+    /// call found 64 numbers in the queue; of each other such node the way knows one push more. The
+    /// clause says that the queue held 64 numbers at one moment; that this was the moment of the
+    /// push no clause can say, and is tested.
     ///
     /// May wait for another thread that is in the middle of a push or a pop. Takes no memory; cost:
     /// for each push a few atomic steps, and a call of the system for each thread that sleeps.
