@@ -1,4 +1,4 @@
--- What an object is read as: a format, or its first fault. Source: SPA POD, "Object"; spa/pod/pod.h.
+-- What an object is read as: a format or its first fault. Source: SPA POD, "Object"; spa/pod/pod.h.
 use Rattle.std.specs.Prelude.{◌≡◌, ◌≢◌, ◌⊎◌, ℕ, List, ◌∷◌, ◌++◌, Some, None}
 use Rattle.std.specs.List.{All, AllPairs, Any}
 use Rattle.pod_codec.specs.declared.pod.Pod.{Pod}
