@@ -96,7 +96,7 @@ pub enum Command {
     Off {
         node: u32,
     },
-    /// So many cycles, 1 to 1000000.
+    /// `n` cycles, 1 to 1000000.
     Cycles {
         n: u32,
     },
