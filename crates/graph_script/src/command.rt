@@ -102,7 +102,7 @@ pub enum Command {
     },
     /// Cycles until the active sources have given all their frames.
     Drain,
-    /// Links at the node hand on what was made one cycle earlier.
+    /// Links at the node are late: they carry what was made one cycle earlier.
     Async {
         node: u32,
     },
