@@ -1,4 +1,4 @@
--- Chunks of a RIFF WAVE file: a name of four bytes, a size of 32 bits, and the bytes. Source:
+-- Chunks of a RIFF WAVE file: a name of four bytes, a size of 32 bits, and its bytes. Source:
 -- RIFF WAVE; numbers little-endian.
 use Rattle.std.specs.Prelude.{ℕ, zero, suc, ◌+◌, ◌%◌, ◌&&◌, Bool, nat_lt, nat_le, if◌then◌else◌, List, [], ◌∷◌, length, take, drop}
 use Rattle.std.specs.Prelude.{codes, bytes_eq}
