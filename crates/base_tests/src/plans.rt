@@ -401,7 +401,7 @@ const UNSOUND_FRESH: [PlanRow; 8] = [
     ),
 ];
 
-// Whether the plan of these rows, and so many sources more, is sound.
+// Whether the plan of these rows, with `sources` further sources, is sound.
 fn is_sound(
     alloc: Global,
     nodes: &[NodeRow],
@@ -458,7 +458,7 @@ fn plans_are_unsound_by_one_reason(rt: HostRuntime) -> Result<(), Fail> {
     Ok(())
 }
 
-// Whether there may be so many sources more.
+// Whether a sound plan may have `sources` further sources.
 fn may_have_sources(alloc: Global, sources: u32) -> Result<bool, Memory> {
     is_sound(alloc, NODES.as_slice(), sources, &[EPOCH])
 }
@@ -502,7 +502,7 @@ fn chain_epoch(
     epoch_of(alloc, row)
 }
 
-// So many epochs of the chain.
+// `count` epochs of the chain.
 fn chain_epochs(
     alloc: Global,
     count: u32,

@@ -185,7 +185,7 @@ fn node(alloc: Global, row: NodeRow) -> PlanNode {
     }
 }
 
-/// The nodes of rows, and so many sources more.
+/// The nodes of rows, and then `sources` sources.
 pub(crate) fn nodes_of(
     alloc: Global,
     rows: &[NodeRow],

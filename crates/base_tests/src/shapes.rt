@@ -217,7 +217,7 @@ fn shapes_are_unsound_by_one_reason(rt: HostRuntime) -> Result<(), Fail> {
     Ok(())
 }
 
-// Whether a node may have so many links to its driver, each at ports of its own.
+// Whether a node may have `count` links to its driver, each at ports of its own.
 fn may_have_links(alloc: Global, count: u32) -> Result<bool, Memory> {
     let mut shape = shape_of(alloc, PAIR)?;
     for i in 0..count {
@@ -252,7 +252,7 @@ const UNPOOLED: ShapeRow<'static> = ShapeRow {
     ..POOLED
 };
 
-// Whether a pool is this one of a port, of so many blocks, and of so many links.
+// Whether a pool is that of this port, with this number of blocks and of links.
 fn is_pool(pool: &PoolShape, want: &((u32, u32), u32, usize)) -> bool {
     let (port, blocks, links) = *want;
     (pool.port.node, pool.port.port) == port

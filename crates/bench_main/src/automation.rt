@@ -29,7 +29,7 @@ fn control_of(alloc: Global, offset: u32, gain: i32) -> Result<Control, Memory> 
     })
 }
 
-/// A sequence of so many controls, spread over so many frames.
+/// A sequence of `points` controls, spread over `frames` frames.
 fn sequence_of(alloc: Global, points: usize, frames: usize) -> Result<Pod, Memory> {
     let step = frames / POINTS;
     let mut controls = Items::new(alloc);

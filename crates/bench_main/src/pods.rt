@@ -59,7 +59,7 @@ fn nested_of(alloc: Global, chains: u32) -> Result<Items<u8>, Memory>
     Ok(bytes)
 }
 
-/// A Struct of Ints, as long as so many chains.
+/// A Struct of Ints, as long as `chains` chains.
 fn flat_of(alloc: Global, chains: u32) -> Result<Items<u8>, Memory>
     requires { chains ≤ 8192 }
 {
@@ -71,7 +71,7 @@ fn flat_of(alloc: Global, chains: u32) -> Result<Items<u8>, Memory>
     Ok(bytes)
 }
 
-/// An Array of Ints, as long as so many chains; of none where there is none.
+/// An Array of Ints, as long as `chains` chains; without an Int where that is 0.
 fn array_of(alloc: Global, chains: u32) -> Result<Items<u8>, Memory>
     requires { chains ≤ 8192 }
 {

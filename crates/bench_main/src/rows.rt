@@ -13,7 +13,7 @@ fn fill(s: &mut [i16]) {
     }
 }
 
-/// A row of so many samples that differ from one another.
+/// A row of `n` samples that differ from one another.
 pub fn row_of(alloc: Global, n: usize) -> Result<Items<i16>, Memory>
     ensures { IfOk result (λ row. length row ≡ n) }
 {

@@ -32,7 +32,7 @@ fn put_links(alloc: Global, text: &mut String) -> Result<(), Memory> {
     Ok(())
 }
 
-/// The script of so many cycles of the row.
+/// The script of `cycles` cycles of the row.
 fn script_of(alloc: Global, cycles: u32) -> Result<String, Memory> {
     let mut text = String::from_str(alloc, "quantum 64\n")?;
     put_nodes(alloc, &mut text)?;
@@ -61,7 +61,7 @@ fn put_cycle(events: &mut Items<Event>, cycle: u32) -> Result<(), Memory> {
     events.push(Event::End { cycle })
 }
 
-/// The events of so many cycles.
+/// The events of `cycles` cycles.
 fn events_of(alloc: Global, cycles: u32) -> Result<Items<Event>, Memory> {
     let mut events = Items::new(alloc);
     events.reserve((cycles as usize).wrapping_mul(CYCLE))?;

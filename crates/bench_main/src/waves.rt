@@ -54,7 +54,7 @@ pub fn read_rounds(alloc: Global, n: usize, repeats: u32) -> Result<u32, Memory>
     Ok(sum)
 }
 
-/// A mono wave of so many samples, or of the most that a file has.
+/// A mono wave of `n` samples, or of the most that a file has.
 fn wave_of(alloc: Global, n: usize) -> Result<Wav, Memory>
     ensures { IfOk result IsWave }
 {

@@ -51,7 +51,7 @@ fn read(alloc: Global, text: &str) -> u32 {
     }
 }
 
-/// The sum of the checksums of so many rounds.
+/// The sum of the checksums of `repeats` rounds.
 pub fn rounds_of(alloc: Global, is_planned: bool, text: &str, repeats: u32) -> u32 {
     let mut sum = 0u32;
     for _round in 0..repeats {

@@ -48,8 +48,8 @@ fn put_six(alloc: Global, text: &mut String, k: u32) -> Result<(), Memory> {
     Ok(())
 }
 
-/// The graph with so many epochs of one cycle, or with six times so many lines that make none and one
-/// epoch behind them.
+/// The graph with `count` epochs of one cycle, or with one epoch behind `6 * count` lines that make
+/// none.
 pub fn script_of(alloc: Global, work: &str, count: u32) -> Result<String, Memory> {
     let mut text = String::from_str(alloc, "quantum 1\n")?;
     put_nodes(alloc, &mut text)?;

@@ -27,8 +27,8 @@ fn ring_quantum(ring: &mut [i16], oldest: usize, a: &[i16], left: &mut [i16]) ->
     rest
 }
 
-/// A quantum longer than the ring: the whole ring out and the front of the input behind it, then the end of the input
-/// in.
+/// A quantum longer than the ring: the whole ring out and the beginning of the input behind it, then the end of the
+/// input in.
 #[inline(never)]
 fn long_quantum(ring: &mut [i16], a: &[i16], left: &mut [i16])
     requires ring { length ring.old ≤ length a.now }

@@ -278,7 +278,7 @@ fn feed<R: Wait>(rt: &R, ways: &Ways, mut way: Way, woke: u64, often: u32)
     }
 }
 
-// Receives so many numbers, and rests where there is none.
+// Receives `often` numbers, and rests where there is none.
 fn eat<R: Wait>(rt: &R, ways: &Ways, mut way: Way, often: u64) -> u64
     requires answered { IsWayOf ways.now way }
     requires own { way.number < ways.now.loops }

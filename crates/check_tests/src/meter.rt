@@ -1,4 +1,4 @@
-//! A source that a meter and a sink hear, driven by the meter: plans of some cycles of it.
+//! A source with links to a meter and a sink, driven by the meter: plans of some cycles of it.
 ghost use Rattle.std.specs.Prelude.{[], ◌∷◌, ◌≡◌, codes, IfOk};
 
 use pw_base::{
@@ -93,7 +93,7 @@ fn epoch(alloc: Global, first: u32, cycles: u32) -> Result<Epoch, Memory> {
     })
 }
 
-/// A plan of two epochs with so many cycles, of which none is left out.
+/// A plan of an epoch of `first` cycles and one of `second`; an epoch of none is left out.
 pub fn plan(alloc: Global, first: u32, second: u32) -> Result<Plan, Memory> {
     let mut nodes = Items::new(alloc);
     nodes.push(node(alloc, Kind::Source, 0))?;

@@ -7,7 +7,7 @@ use std::process::Abort;
 use std::test::Fail;
 use trace_check::{Finding, Verdict, check, check_trace};
 
-/// What is found of a trace, for a plan of so many cycles in two epochs.
+/// What is found of a trace, for a plan of two epochs, of `first` and of `second` cycles.
 fn found<R: AllocGlobal + Abort>(
     rt: &R,
     first: u32,
@@ -96,7 +96,7 @@ fn put_cycle(events: &mut Items<Event>, cycle: u32, late: u64) -> Result<(), Mem
     events.push(Event::End { cycle })
 }
 
-/// The verdict on so many cycles, where the plan has two epochs of three.
+/// The verdict on the events of `cycles` cycles, where the plan has two epochs of three.
 fn verdict_on<R: AllocGlobal + Abort>(rt: &R, cycles: u32, late: u64) -> Result<Verdict, Memory> {
     let alloc = rt.alloc();
     let plan = plan(alloc, 3, 3)?;

@@ -49,7 +49,7 @@ abbrev pub points_or : List Point → List ControlFault → Result (List Point) 
 points_or points [] = Ok points
 points_or points (first ∷ others) = Err first
 
--- an answer is this; want of memory is free
+-- an answer is this, unless memory runs out
 abbrev pub IsAnswer : Result (List Point) ControlFault → Result Points ControlFault → Type 0
 IsAnswer meaning (Ok points) = meaning ≡ Ok points.items
 IsAnswer meaning (Err f.Memory) = Unit {0}

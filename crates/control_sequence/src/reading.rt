@@ -131,7 +131,7 @@ fn points_of(alloc: Global, controls: &[Control]) -> Result<Points, ControlFault
 /// give none.
 ///
 /// The controls are looked at in order, and of each first its offset, then its value, then the
-/// gain: a fault is the first one. More than 2^32 controls are out of memory. Takes memory for the
+/// gain: a fault is the first one. `Memory` for more than 2^32 controls. Takes memory for the
 /// points; cost: one look at each control, and at the properties of those that carry any. Source:
 /// PipeWire's documentation, "SPA POD"; `spa/control/control.h`.
 pub fn controls_of(alloc: Global, pod: &Pod) -> Result<Points, ControlFault>

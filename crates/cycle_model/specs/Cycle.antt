@@ -45,7 +45,7 @@ stream_of plan out cycle port =
     flat_map (λ k. input_of plan out k port)
     (active_cycles plan (stream_start plan cycle port.node) cycle port.node)
 
--- all that the node of an output port has heard up to a cycle: its file, its active frames, its
+-- all that the node of an output port has received up to a cycle: its file, its active frames, its
 -- inputs' streams
 abbrev pub heard : Plan → List WavIn → Outputs → ℕ → PortId → Heard
 heard plan waves out cycle port = record {
@@ -60,15 +60,14 @@ heard plan waves out cycle port = record {
 abbrev pub last_of : ℕ → List ℤ → List ℤ
 last_of n row = drop (length row - n) row
 
--- NODE OUTPUT: the last quantum of the kind's function of all that the node has heard
+-- NODE OUTPUT: the last quantum of the kind's function of all that the node has received
 abbrev pub output_of : Plan → List WavIn → Outputs → ℕ → PortId → List ℤ
 output_of plan waves out cycle port =
     last_of (plan.quantum * channels_at plan cycle port)
     (kind_output (kind_at plan port.node) (heard plan waves out cycle port)
     (port.port - input_count (kind_at plan port.node)))
 
--- what is known after so many rounds, each of which works out every output from those known before
--- it
+-- what is known after n rounds, each of which works out every output from those known before it
 unfoldable pub outputs_after : Plan → List WavIn → ℕ → Outputs
 outputs_after plan waves zero = λ cycle port. []
 outputs_after plan waves (suc rounds) = λ cycle port. output_of plan waves

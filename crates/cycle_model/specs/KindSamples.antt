@@ -8,7 +8,7 @@ use Rattle.pw_base.specs.Samples.{scaled, mixed, sample_at}
 use Rattle.pw_base.specs.KindFunction.{Heard, square_at}
 use Rattle.cycle_model.specs.declared.received.Received.{Received}
 
--- what a node has heard: its wave, and what it has received
+-- what a node has to work with: its wave, and what it has received
 abbrev pub heard_of : List ℤ → ℕ → Received → Heard
 heard_of wave channels r = record {
   wave = wave;

@@ -34,7 +34,7 @@ abbrev pub places_into : List WavIn → List ShapeLink → PortId → List ℕ
 places_into waves links port = map (λ l. place_of waves l.from.node)
     (filter (λ l. is_same_port l.to port) links)
 
--- so many samples, each the clamped sum of those of the waves at the places
+-- n samples, each the clamped sum of those of the waves at the places
 abbrev pub mixed_row : List WavIn → List ℕ → ℕ → List ℤ
 mixed_row waves places n = map (λ j. clamped (sum_at waves places j)) (range_with_len 0 n)
 

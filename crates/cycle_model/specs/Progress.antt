@@ -14,7 +14,7 @@ use Rattle.cycle_model.specs.Epochs.{is_active, stream_start}
 use Rattle.cycle_model.specs.Cycle.{Outputs, input_of, stream_of}
 use Rattle.cycle_model.specs.Known.{given_at}
 
--- a port's stream after so many cycles
+-- a port's stream after n cycles
 abbrev pub streamed : Plan → Outputs → ℕ → PortId → List ℤ
 streamed plan out zero port = []
 streamed plan out (suc cycle) port = stream_of plan out cycle port
@@ -27,7 +27,7 @@ begun plan out cycle port =
     (range_with_len (stream_start plan cycle port.node)
     (cycle - stream_start plan cycle port.node)))
 
--- what a node has received in so many cycles, by the streams of its ports
+-- what a node has received in n cycles, by the streams of its ports
 abbrev pub received_with : Plan → ℕ → (PortId → List ℤ) → ℕ → Received
 received_with plan cycles stream node = record {
   frames = plan.quantum * length (filter (λ k. is_active plan k node) (range_with_len 0 cycles));
@@ -37,7 +37,7 @@ received_with plan cycles stream node = record {
       else [];
 }
 
--- after so many cycles, and as the next one begins
+-- after n cycles, and as the next one begins
 abbrev pub received_until : Plan → Outputs → ℕ → ℕ → Received
 received_until plan out cycles node = received_with plan cycles (streamed plan out cycles) node
 
@@ -48,7 +48,7 @@ received_before plan out cycle node = received_with plan cycle (begun plan out c
 abbrev pub nothing : Received
 nothing = record { frames = 0; a = []; b = [] }
 
--- a list has what each of so many nodes has received
+-- a list has what each of the first `count` nodes has received
 pub record AreReceived (count : ℕ) (f : ℕ → Received)
     (received : List Received) : Type 0 where
   pub counted : length received ≡ count

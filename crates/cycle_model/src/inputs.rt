@@ -20,7 +20,7 @@ fn given_at(given: &[Given], port: PortId) -> &[i16]
     &[]
 }
 
-/// So many frames of so many channels, in samples.
+/// `quantum` frames of `channels` channels, in samples.
 pub(crate) fn samples_in(quantum: u32, channels: u32) -> usize
     ensures { result ≡ quantum * channels }
 {

@@ -12,7 +12,7 @@ pub(crate) struct Given {
 ///
 /// `a` is the stream of its first input and `b` that of its second, frames interleaved, from where
 /// its streams began; without such an input the list is empty. Contracts of other crates speak of
-/// it: `specs/Progress.antt` has what a node has received after so many cycles.
+/// it: `specs/Progress.antt` has what a node has received after n cycles.
 #[derive(Debug, Drop)]
 pub struct Received {
     pub frames: u64,

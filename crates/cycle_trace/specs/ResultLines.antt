@@ -12,7 +12,7 @@ abbrev pub sink_frames : Outcome → ℕ → ℕ
 sink_frames outcome place = option_map_or (λ k. length k.wav.samples / k.wav.channels)
     (find (λ k. k.node == place) outcome.sinks) 0
 
--- the greatest absolute value that a meter has heard
+-- the greatest absolute value that a meter has received
 abbrev pub meter_peak : Outcome → ℕ → ℕ
 meter_peak outcome place = option_map_or (λ p. p.value)
     (find (λ p. p.node == place) outcome.peaks) 0

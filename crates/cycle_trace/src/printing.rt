@@ -22,7 +22,7 @@ fn names_of(alloc: Global, nodes: &[PlanNode]) -> Result<Items<Text>, Memory>
     Ok(names)
 }
 
-/// Appends a line for each event of a history, where one is handed in.
+/// Appends a line for each event of a history, where one is given.
 fn append_history(
     alloc: Global,
     nodes: &[PlanNode],
@@ -43,7 +43,7 @@ fn append_history(
 }
 
 /// The text of a run: a line for each `link` and `unlink`, in the order of the script; a line for
-/// each event of a history, where one is handed in; and a line for each sink and meter, ascending
+/// each event of a history, where one is given; and a line for each sink and meter, ascending
 /// by number.
 ///
 /// The ports of the plan's lines are there, and so are the nodes of the events, where 63 is the

@@ -15,7 +15,7 @@ fn kept_at(sinks: &[Kept], place: usize) -> Option<&Kept>
     sinks.iter().find(|kept| kept.node as usize == place)
 }
 
-/// What the node at a place has heard.
+/// The peak of the node at a place, if it has one.
 fn peak_at(peaks: &[Peak], place: usize) -> Option<&Peak>
     ensures { option_copied result ≡ find (λ p. p.node == place) peaks.now }
 {

@@ -20,7 +20,7 @@ first_front = record { least = 0; from = 0 }
 abbrev pub AreOwn : BoardLayout → View → List Member → Type 0
 AreOwn p v members = All (λ m. IsMember false p v (p.index m.node)) members
 
--- those before an index have not ended just so many cycles
+-- no member before an index has ended just `least` cycles
 abbrev pub NoneAt : BoardLayout → View → List Member → ℕ → ℕ → Type 0
 NoneAt p v members least from =
     All (λ m. next_in p v m.node ≢ first p + least) (take from members)
@@ -32,20 +32,20 @@ pub record IsFront (p : BoardLayout) (v : View) (members : List Member) (f : Fro
   pub floor : All (λ m. first p + f.least ≤ next_in p v m.node) members
   pub past : NoneAt p v members f.least f.from
 
--- the first member at an index or after it that has ended so many cycles, or the number of members
+-- the first member at an index or after it that has ended `least` cycles, or the number of members
 pub record IsFirstAt (p : BoardLayout) (v : View) (members : List Member) (least from at : ℕ)
     : Type 0 where
   pub none : NoneAt p v members least from → NoneAt p v members least at
   pub here : at < length members
       → next_in p v (slice_index_or members at no_member).node ≡ first p + least
 
--- where the front stands now
+-- the front now: `least` is the fewest cycles that a member has ended, or all where there is none
 pub record IsFrontNow (p : BoardLayout) (v : View) (members : List Member) (f : Front)
     : Type 0 where
   pub front : IsFront p v members f
   pub exact : first p + f.least ≡ least_next p v members
 
--- A PASS tries the members that have ended so many cycles, or the others
+-- A PASS tries the members that have ended `least` cycles, or the others
 abbrev pub is_chosen : BoardLayout → View → ℕ → Bool → Member → Bool
 is_chosen p v least at m =
     let here = eqb (next_in p v m.node) (first p + least) in cond at here (not here)

@@ -31,8 +31,8 @@ pub record IsBoardOf (score : Score) (p : BoardLayout) (v : View) (e : Epoch) : 
   pub channels : (l : ℕ) → l < length p.shape.links
       → (pool_at p (pool_of p l)).channels ≡ (link_at p l).channels
 
--- the node n hears in the cycle c, on a board of the cycle's epoch; a and b are the widths of its
--- inputs
+-- the node n reads its inputs in the cycle c, on a board of the cycle's epoch; a and b are the
+-- widths of these inputs
 pub record IsHearing (is_driver : Bool) (score : Score) (p : BoardLayout) (v : View) (c n : ℕ)
     (inputs : List Input) (a b : ℕ) : Type 0 where
   pub epoch : Epoch

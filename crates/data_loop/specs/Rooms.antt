@@ -24,7 +24,7 @@ pub record IsSameRoom (old new : Rows) : Type 0 where
   pub left : length new.left.items ≡ length old.left.items
   pub right : length new.right.items ≡ length old.right.items
 
--- the samples of a quantum at each of its ports are at most so many
+-- the samples of a quantum at each of its ports are at most `width`
 pub record IsWithin (width : ℕ) (m : Member) : Type 0 where
   pub first : m.first_width ≤ width
   pub second : m.second_width ≤ width

@@ -65,6 +65,6 @@ pub record AreFirstStages (plan : Plan) (nodes : List ℕ) (seats : List Known)
 abbrev pub HasRoomIn : Rows → Stage → Type 0
 HasRoomIn rows g = All (HasRowsFor rows) g.members × All (HasRowsFor rows) g.driver
 
--- the samples of a quantum at each port of its nodes are at most so many
+-- the samples of a quantum at each port of its nodes are at most `width`
 abbrev pub IsStageWithin : ℕ → Stage → Type 0
 IsStageWithin width g = All (IsWithin width) g.members × All (IsWithin width) g.driver

@@ -76,7 +76,7 @@ fn drive_turn<G: Gate>(
     finish(board, seat, driver);
 }
 
-// The turn, in the fronts of these rows.
+// The turn, in the first places of these rows.
 fn drive_in<G: Gate>(
     score: &Score,
     board: &Board,
@@ -127,7 +127,7 @@ fn drive_in<G: Gate>(
 }
 
 /// The turn of the driver's node that is awake in the cycle `cycle` of the epoch `epoch`, and works
-/// in it: Start, the gate, all links into it heard, one quantum processed, Finish. It has no
+/// in it: Start, the gate, all links into it read, one quantum processed, Finish. It has no
 /// outputs. Takes no memory, does not wait; one pass over a row for each link.
 /// Condition: the member is that of the driver's node.
 pub fn play_driver<G: Gate>(

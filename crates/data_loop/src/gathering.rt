@@ -23,7 +23,7 @@ fn only_link(inputs: &[Input]) -> Option<u32>
     }
 }
 
-/// The node that works hears all its links: `a` and `b` are then what its inputs get in the cycle.
+/// The node that works reads all its links: `a` and `b` are then what its inputs get in the cycle.
 /// One link alone is read straight into `a`, with no sum and no clamp. Takes no memory, does not
 /// wait.
 pub fn gather<S: BoardSeat>(

@@ -1,4 +1,4 @@
-//! The links of a node that works, heard and added up.
+//! The links into a node that works, read and added up.
 ghost use Rattle.std.specs.Prelude.{◌≡◌, ◌≤◌, All, length, fold};
 ghost use Rattle.pw_base.specs.Samples.{summed};
 ghost use Rattle.board_rule.specs.OnBoard.{IsOn, layout};
@@ -17,7 +17,7 @@ pub struct Input {
     pub second: bool,
 }
 
-/// The node that works hears each of its links, and adds up what comes to each input. `row` is one
+/// The node that works reads each of its links, and adds up what comes to each input. `row` is one
 /// quantum. Takes no memory, does not wait; one pass over the row for each link.
 pub fn hear_all<S: BoardSeat>(
     board: &Board,

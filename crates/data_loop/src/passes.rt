@@ -18,7 +18,8 @@ use node_progress::Score;
 use node_state::NodeState;
 use pw_base::Gate;
 
-// Whether a pass tries a member that has ended so many cycles.
+// Whether a pass tries a member that has ended `ended` cycles: with `at` where these are `least`,
+// without where they are not.
 fn is_in_pass(ended: u32, least: u32, at: bool) -> bool
     ensures { result ≡ cond at (eqb ended least) (not (eqb ended least)) }
 {
@@ -26,7 +27,7 @@ fn is_in_pass(ended: u32, least: u32, at: bool) -> bool
 }
 
 impl Stage {
-    // The index of the first member, at this one or after it, that has ended so many cycles; the
+    // The index of the first member, at this one or after it, that has ended `least` cycles; the
     // number of members where there is none.
     fn first_at(&self, board: &Board, from: usize, least: u32) -> usize
         requires own { AreOwn (layout board.now) self.now.seat.knows self.now.members }
@@ -54,7 +55,8 @@ impl Stage {
         least
     }
 
-    // The front of the members as they stand now.
+    // The front of the members now: the fewest cycles that one has ended, and the index of the
+    // first such member.
     pub(crate) fn front_now(&self, board: &Board) -> Front
         requires own { AreOwn (layout board.now) self.now.seat.knows self.now.members }
         requires front { IsFront (layout board.now) self.now.seat.knows self.now.members
@@ -73,7 +75,7 @@ impl Stage {
         }
     }
 
-    // One pass over the members, from an index on: those that have ended so many cycles are tried,
+    // One pass over the members, from an index on: those that have ended `least` cycles are tried,
     // or the others, in their order, until one has run.
     pub(crate) fn pass<G: Gate>(
         &mut self,

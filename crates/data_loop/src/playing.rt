@@ -15,7 +15,7 @@ use node_progress::Score;
 use node_state::NodeState;
 use pw_base::Gate;
 
-// The turn, in the fronts of these rows.
+// The turn, in the first places of these rows.
 fn play_in<G: Gate>(
     score: &Score,
     board: &Board,

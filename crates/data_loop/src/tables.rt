@@ -33,7 +33,7 @@ pub(crate) fn tell(tables: &mut Items<Items<(u32, u64)>>, found: &[(u32, u64)])
     table.as_mut_slice().copy_from_slice(found);
 }
 
-/// Room for so many tries.
+/// Room for `most` tries.
 pub(crate) fn room_for(alloc: Global, most: usize) -> Result<Vec<(u32, u64)>, Memory>
     ensures empty { IfOk result (λ found. found.items ≡ []) }
     ensures room { IfOk result (λ found. most ≤ vec_capacity found) }

@@ -15,7 +15,7 @@ use node_progress::{Score, work};
 use node_state::NodeState;
 use pw_base::Gate;
 
-/// The node starts, hears its links, does one quantum, gives its rows, and finishes. `own` has
+/// The node starts, reads its links, does one quantum, gives its rows, and finishes. `own` has
 /// the pools of its loop. Takes no memory, does not wait.
 pub fn take_turn<G: Gate>(
     score: &Score,

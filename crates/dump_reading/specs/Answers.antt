@@ -1,4 +1,4 @@
--- What a reader answers: what the lines say, or why they say nothing; want of memory is free.
+-- What a reader answers: what the lines say or why they say nothing, unless memory runs out.
 -- Source: this project's own.
 use Rattle.std.specs.Prelude.{◌≡◌, ◌⊎◌, Option, Some, None, Result, Ok, Err}
 use Rattle.pod_codec.specs.declared.pod.Pod.{Pod}

@@ -28,7 +28,7 @@ hex_said [] = Some []
 hex_said (h ∷ []) = None
 hex_said (h ∷ l ∷ rest) = onto (byte_said h l) (hex_said rest)
 
--- the 32 or 64 bits of so many bytes, the highest first
+-- the number of 32 or 64 bits in four or eight bytes, the highest first
 abbrev pub four_said : List ℕ → Option ℕ
 four_said bytes = if length bytes == 4 then Some (from_be_bytes w32 bytes) else None
 

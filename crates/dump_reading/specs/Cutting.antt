@@ -15,7 +15,7 @@ parted front (mark ∷ rest) = Some (front, rest)
 unfoldable pub cut_at : ℕ → List ℕ → Option (List ℕ × List ℕ)
 cut_at mark text = parted (take (front_len mark text) text) (drop (front_len mark text) text)
 
--- what stands behind so many spaces
+-- what stands behind n spaces at the beginning of a line
 unfoldable pub behind_spaces : ℕ → List ℕ → Option (List ℕ)
 behind_spaces n line =
     if nat_le n (length line) && list_all (λ b. b == 32) (take n line) then Some (drop n line)

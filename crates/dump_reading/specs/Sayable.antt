@@ -1,4 +1,4 @@
--- Values that a dump can be of: what a program can hold, at most so many levels deep. Numbers and
+-- Values that a dump can be of: what a program can hold, at most n levels deep. Numbers and
 -- bytes are within their types, and arrays and choices hold values of their child type. Source:
 -- SPA POD, "Types".
 use Rattle.std.specs.Prelude.{◌≡◌, ℕ, zero, suc, ◌<◌, ◌^◌, List, length, IsTrue}
@@ -46,7 +46,7 @@ IsSaid Held (Pod-F.Sequence unit controls) = (unit < 2 ^ 32) × (length controls
     × AllByRecursion (ControlFits Held) controls
 IsSaid Held leaf = IsLeafSaid leaf
 
--- SAYABLE, with so many levels left
+-- SAYABLE, with `left` levels left
 unfoldable pub IsSayable : ℕ → Pod → Type 0
 IsSayable zero pod = ⊥
 IsSayable (suc left) pod = IsSaid (IsSayable left) (out-Pod pod)

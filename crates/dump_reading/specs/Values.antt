@@ -27,7 +27,7 @@ element_line child (Some c) = element_in child (head_said c.0) c.1
 unfoldable pub element_said : ℕ → ℕ → List ℕ → Option (Pod × List ℕ)
 element_said child level text = element_line child (line_said level text)
 
--- whether an array or a choice may hold so many values of this type
+-- whether an array or a choice may hold n values of this type
 abbrev pub may_hold : ℕ → ℕ → Bool
 may_hold child n = nat_lt 0 (child_size child) || ((child == 1) && (n == 0))
 
@@ -60,7 +60,7 @@ abbrev pub value_line : (ℕ → List ℕ → Option (Pod × List ℕ)) → ℕ
 value_line read level None = None
 value_line read level (Some c) = value_in read level (head_said c.0) c.1
 
--- A VALUE at a level, with so many levels left, and what follows its lines
+-- A VALUE at a level, with `left` levels left, and what follows its lines
 unfoldable pub value_said : ℕ → ℕ → List ℕ → Option (Pod × List ℕ)
 value_said zero level text = None
 value_said (suc left) level text = value_line (value_said left) level (line_said level text)

@@ -31,7 +31,8 @@ fn all_spaces(bytes: &[u8]) -> bool
     bytes.iter().all(|b| *b == b' ')
 }
 
-/// What stands behind so many spaces of a line; nothing where it has fewer. Takes no memory.
+/// What stands behind the first `spaces` spaces of a line; nothing where it has fewer. Takes no
+/// memory.
 #[tactic(auto, unfolding(crate::specs::Cutting::behind_spaces))]
 pub(crate) fn behind_spaces(line: &[u8], spaces: usize) -> Option<&[u8]>
     ensures { option_copied result ≡ behind_spaces spaces line.now }

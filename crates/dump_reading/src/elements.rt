@@ -11,7 +11,7 @@ use pod_codec::{Pod, type_number};
 use pw_base::Items;
 use std::alloc::Global;
 
-/// Whether an array or a choice may hold so many values of this type.
+/// Whether an array or a choice may hold `count` values of this type.
 pub(crate) fn may_hold(child: u32, count: u32) -> bool
     ensures { result ≡ may_hold child count }
 {
@@ -41,7 +41,7 @@ fn element_said(alloc: Global, text: &[u8], level: usize, child: u32) -> Result<
     }
 }
 
-/// So many values of a child type, and the lines behind them.
+/// `count` values of a child type, and the lines behind them.
 pub(crate) fn elements_said(
     alloc: Global,
     text: &[u8],

@@ -41,8 +41,8 @@ impl From<Memory> for DumpFault {
     }
 }
 
-/// Why no value was read: at a line, with so many bytes of the text from it on, or for want of
-/// memory.
+/// Why no value was read: at a line, from which on `left` bytes of the text are left, or because
+/// memory ran out.
 #[derive(Clone, Copy, Debug, PartialEq, Eq, Drop)]
 pub(crate) enum Stop {
     Line { left: usize, why: DumpWhy },

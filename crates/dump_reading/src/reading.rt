@@ -33,7 +33,7 @@ fn pod_said(alloc: Global, text: &[u8]) -> Result<Pod, Stop>
     }
 }
 
-// The line that the first so many bytes of a text end in, counted from 1.
+// The line, counted from 1, in which the first `bytes` bytes of a text end.
 fn line_number(text: &[u8], bytes: usize) -> u64 {
     let front = &text[..bytes.min(text.len())];
     (front.iter().filter(|b| **b == b'\n').count() as u64).saturating_add(1)
@@ -52,7 +52,7 @@ fn fault_of(text: &[u8], stop: Stop) -> DumpFault
     }
 }
 
-// How many bytes two texts have in common at their fronts.
+// How long the common prefix of two texts is, in bytes.
 fn common_len(a: &[u8], b: &[u8]) -> usize {
     a.iter().zip(b).take_while(|(x, y)| x == y).count()
 }

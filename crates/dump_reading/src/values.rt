@@ -14,7 +14,7 @@ use pod_codec::{ChoiceKind, Control, Pod, Prop};
 use pw_base::Items;
 use std::alloc::Global;
 
-/// The value at a level, with so many levels of values left, and the lines behind it.
+/// The value at a level, with `left` levels of values left, and the lines behind it.
 #[cycle(read_dump)]
 pub(crate) fn value_said(
     alloc: Global,
@@ -31,7 +31,7 @@ pub(crate) fn value_said(
     opened_said(alloc, text, level, left - 1)
 }
 
-// The same, of a value that is not too deep: so many levels are left in it.
+// The same, of a value that is not too deep: `left` levels are left in it.
 #[cycle(read_dump)]
 fn opened_said(alloc: Global, text: &[u8], level: usize, left: u32) -> Result<(Pod, &[u8]), Stop>
     requires { level + 2 * left ≤ 30 }
@@ -48,7 +48,7 @@ fn opened_said(alloc: Global, text: &[u8], level: usize, left: u32) -> Result<(P
     }
 }
 
-// What a head holds; of the text so many bytes are left from its line on.
+// What a head holds; from its line on, `at` bytes of the text are left.
 #[cycle(read_dump)]
 fn held_said(
     alloc: Global,
@@ -206,7 +206,7 @@ fn sequence_said(
     }
 }
 
-// So many values, and the lines behind them.
+// `count` values, and the lines behind them.
 #[cycle(read_dump)]
 fn values_said(
     alloc: Global,
@@ -260,7 +260,7 @@ fn prop_said(alloc: Global, text: &[u8], level: usize, left: u32) -> Result<(Pro
     }
 }
 
-// So many properties, and the lines behind them.
+// `count` properties, and the lines behind them.
 #[cycle(read_dump)]
 fn props_said(
     alloc: Global,
@@ -320,7 +320,7 @@ fn control_said(
     }
 }
 
-// So many controls, and the lines behind them.
+// `count` controls, and the lines behind them.
 #[cycle(read_dump)]
 fn controls_said(
     alloc: Global,

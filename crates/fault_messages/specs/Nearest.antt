@@ -5,7 +5,7 @@ use Rattle.std.specs.Prelude.{ℕ, List, codes, length, nat_le, Option, Some, No
 use Rattle.std.specs.Option.{option_or}
 use Rattle.fault_messages.specs.Nearness.{is_near}
 
--- the first command that makes a node, within so many letters
+-- the first command that makes a node, at most k letters away
 unfoldable pub node_near : ℕ → List ℕ → Option (List ℕ)
 node_near k word =
     if is_near k word (codes "source") then Some (codes "source")
@@ -19,7 +19,7 @@ node_near k word =
     else (if is_near k word (codes "meter") then Some (codes "meter")
     else None))))))))
 
--- the first command for nodes, ports and links that are there, within so many letters
+-- the first command for nodes, ports and links that are there, at most k letters away
 unfoldable pub graph_near : ℕ → List ℕ → Option (List ℕ)
 graph_near k word =
     if is_near k word (codes "link") then Some (codes "link")
@@ -33,7 +33,7 @@ graph_near k word =
     else (if is_near k word (codes "async") then Some (codes "async")
     else None))))))))
 
--- the first command for cycles, within so many letters
+-- the first command for cycles, at most k letters away
 unfoldable pub time_near : ℕ → List ℕ → Option (List ℕ)
 time_near k word =
     if is_near k word (codes "quantum") then Some (codes "quantum")

@@ -27,7 +27,7 @@ fn place_of(status: &Status) -> Option<u32>
     }
 }
 
-// The line of a script, if its bytes are at hand and it has so many.
+// The line of a script with this number, if its bytes are known and it has one.
 fn line_in(script: Option<&[u8]>, place: u32) -> Option<&[u8]>
     ensures { option_copied result ≡ line_in (option_copied script.entry) place }
 {
@@ -58,7 +58,7 @@ fn line_named<'a>(
     }
 }
 
-// The bytes of the script; none where they are not at hand.
+// The bytes of the script; none where they are not known.
 fn bytes_in(script: Option<&[u8]>) -> &[u8]
     ensures { result.now ≡ bytes_in (option_copied script.entry) }
 {
@@ -86,8 +86,8 @@ fn put_noted(
 }
 
 /// The message of a status in words, by the words of the command line without the program's name,
-/// by the bytes of the script that the run read and by the text that it put, where these are at
-/// hand. Where the status names a line of a script, the message has the names of that line. Where
+/// by the bytes of the script that the run read and by the text that it put, where these are
+/// known. Where the status names a line of a script, the message has the names of that line. Where
 /// all was done, it has a note for each link that was not made, for each sink and meter without a
 /// format, for each sink that a later one overwrote, and for what a check or a filter found.
 /// Nothing is loaded.

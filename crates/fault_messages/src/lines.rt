@@ -23,7 +23,7 @@ pub fn word_of(line: &[u8], index: u32) -> &[u8]
     }
 }
 
-/// The line of a script, counted from 1, if it has so many.
+/// The line of a script with this number, counted from 1, if it has one.
 pub fn line_at(script: &[u8], number: u32) -> Option<&[u8]>
     ensures { option_copied result ≡ line_at script.now number }
 {

@@ -4,7 +4,7 @@ ghost use Rattle.fault_messages.specs.Nearest.{node_near, graph_near, time_near,
 
 use crate::nearness::is_near;
 
-// The first command that makes a node, within so many letters.
+// The first command that makes a node, at most `k` letters away.
 #[tactic(auto, unfolding(crate::specs::Nearest::node_near))]
 fn node_near(k: u32, word: &[u8]) -> Option<&'static [u8]>
     ensures { option_copied result ≡ node_near k word.now }
@@ -32,7 +32,7 @@ fn node_near(k: u32, word: &[u8]) -> Option<&'static [u8]>
     }
 }
 
-// The first command for nodes, ports and links that are there, within so many letters.
+// The first command for nodes, ports and links that are there, at most `k` letters away.
 #[tactic(auto, unfolding(crate::specs::Nearest::graph_near))]
 fn graph_near(k: u32, word: &[u8]) -> Option<&'static [u8]>
     ensures { option_copied result ≡ graph_near k word.now }
@@ -60,7 +60,7 @@ fn graph_near(k: u32, word: &[u8]) -> Option<&'static [u8]>
     }
 }
 
-// The first command for cycles, within so many letters.
+// The first command for cycles, at most `k` letters away.
 #[tactic(auto, unfolding(crate::specs::Nearest::time_near))]
 fn time_near(k: u32, word: &[u8]) -> Option<&'static [u8]>
     ensures { option_copied result ≡ time_near k word.now }
@@ -76,7 +76,7 @@ fn time_near(k: u32, word: &[u8]) -> Option<&'static [u8]>
     }
 }
 
-// The first of all commands within so many letters.
+// The first of all commands that is at most `k` letters away.
 fn nearest(k: u32, word: &[u8]) -> Option<&'static [u8]>
     ensures { option_copied result ≡ nearest k word.now }
 {

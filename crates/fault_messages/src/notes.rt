@@ -32,7 +32,7 @@ fn put_run_notes(
     }
 }
 
-// A line of a trace, told by its number, at the front of a note.
+// A line of a trace, told by its number, at the beginning of a note.
 #[tactic(auto, unfolding(crate::specs::Notes::trace_head))]
 fn put_trace_head(text: &mut Text, trace: &[u8], number: &[u8]) -> Result<(), Memory>
     ensures { OnOk result (text.new ≡ text.old ++ trace_head trace.now number.now) }
@@ -75,7 +75,7 @@ fn put_check_note(text: &mut Text, words: &[String], line: &[u8]) -> Result<(), 
     }
 }
 
-// The two files of a filter, at the front of a note.
+// The two files of a filter, at the beginning of a note.
 #[tactic(auto, unfolding(crate::specs::Notes::pair_head))]
 fn put_pair_head(text: &mut Text, a: &[u8], b: &[u8]) -> Result<(), Memory>
     ensures { OnOk result (text.new ≡ text.old ++ pair_head a.now b.now) }
@@ -131,7 +131,7 @@ fn put_notes_told(
 }
 
 /// What is to be said of a command that was accepted, by its words, by the bytes of the script that
-/// it read and by the text that it put, where these are at hand.
+/// it read and by the text that it put, where these are known.
 pub fn put_notes(
     text: &mut Text,
     words: &[String],

@@ -74,7 +74,7 @@ fn put_carried(text: &mut Text, why: PodWhy) -> Result<(), Memory>
     }
 }
 
-// What is said of a size that is the front of a WAV file.
+// What is said of a size that is the beginning of a WAV file.
 fn size_part(size: u32) -> &'static [u8]
     ensures { result.now ≡ size_part size }
 {

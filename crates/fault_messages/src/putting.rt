@@ -169,7 +169,7 @@ fn put_line_head(text: &mut Text, file: &[u8], number: u32) -> Result<(), Memory
     put_shown_number(text, b"pipegraph: ", file, b":", number, b": ")
 }
 
-/// The program's name and a line of the script of a command, at the front of a note.
+/// The program's name and a line of the script of a command, at the beginning of a note.
 pub fn put_note_head(text: &mut Text, words: &[String], number: u32) -> Result<(), Memory>
     ensures { OnOk result (text.new ≡ text.old
         ++ note_head (word (map string_bytes words.now) 1) number) }

@@ -359,7 +359,7 @@ fn long(alloc: Global) -> Result<Text, Memory> {
     Ok(text)
 }
 
-// A source with a file word of so many bytes.
+// A source with a file word of `bytes` bytes.
 fn named(alloc: Global, bytes: usize) -> Result<Text, Memory> {
     let mut text = Items::from_slice(alloc, b"source s ")?;
     text.extend_filled(bytes, b'a')?;

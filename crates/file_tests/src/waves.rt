@@ -75,7 +75,7 @@ fn files_of_other_tools_are_read(rt: HostRuntime) {
     }
 }
 
-/// What reading answers to so many bytes of the front of `STREAMED`.
+/// What reading answers to the first `length` bytes of `STREAMED`.
 fn wanted(length: usize) -> (u8, usize) {
     match length {
         0..=11 => (1, 0),

@@ -18,7 +18,7 @@ impl Begun for Brand {
     ghost begun = { None };
 }
 
-/// Files that hand each call on to other files, with the same answers, and keep what the first load
+/// Files that pass each call on to other files, with the same answers, and keep what the first load
 /// gave.
 pub struct FirstLoad<F: Files, K: Begun> {
     files: F,

@@ -1,4 +1,4 @@
--- What the answer to an object must be: this format, or this fault. Want of memory is free.
+-- What the answer to an object must be: this format or this fault, unless memory runs out.
 -- Source: this project's own.
 use Rattle.std.specs.Prelude.{◌≡◌, ◌⊎◌, Result, Ok, Err}
 use Rattle.format_filter.specs.declared.fault.FormatFault.{FormatFault}

@@ -9,7 +9,7 @@ use Rattle.format_filter.specs.declared.choice.Choice.TheVariants.{Only, Enum, R
 use Rattle.format_filter.specs.declared.choice.Wide.{Wide}
 use Rattle.format_filter.specs.Members.{number_of, IsMember}
 
--- p stands in a list before q does: some front of it has p and not q
+-- p stands in a list before q does: some prefix of it has p and not q
 abbrev pub IsBefore : List Pod → Pod → Pod → Type 0
 IsBefore xs p q = (front back : List Pod) × (xs ≡ front ++ back) × Contains front p
     × (Contains front q → ⊥)

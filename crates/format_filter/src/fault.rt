@@ -5,7 +5,7 @@ ghost use Rattle.format_filter.specs.declared.fault.FormatFault.TheVariants as f
 
 use pw_base::Memory;
 
-/// The first fault of a POD that is no format, or want of memory.
+/// The first fault of a POD that is no format, or that memory ran out.
 #[derive(Clone, Copy, Debug, PartialEq, Eq, Drop)]
 pub enum FormatFault {
     /// It is no Object.

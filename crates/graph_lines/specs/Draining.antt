@@ -23,7 +23,7 @@ drain_cycles quantum nodes active waves =
     fold (λ most w. max most (rest_cycles quantum nodes w)) 0
     (filter (λ w. is_in active w.node) waves)
 
--- a source that is active under this driver has so many cycles to go
+-- a source that is active under this driver has `rest` cycles to go
 abbrev pub IsLeft : List WavIn → Graph → ℕ → ℕ → Type 0
 IsLeft waves g driver rest = (w : WavIn) × Contains waves w
     × IsActive (live_wires g.nodes g.wires) driver w.node

@@ -28,8 +28,8 @@ abbrev pub is_heard : Graph → Epoch → ℕ → Bool
 is_heard g e n = is_sink (slice_index_or g.kinds n Dummy)
     && list_any (λ f. f.port.node == n) e.forms
 
--- what is said of a node after an epoch: its channels were told, it ran, and a sink that was heard
--- keeps its format
+-- what is said of a node after an epoch: its channels were told, it ran, and a sink with a form in
+-- it keeps its format
 pub record StandsAfter (g : Graph) (e : Epoch) (n : ℕ) (after : Standing) : Type 0 where
   pub told : ChannelsIn g n after.told
   pub rest : after ≡ record (standing g.nodes n) {

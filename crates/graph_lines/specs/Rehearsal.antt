@@ -19,7 +19,7 @@ use Rattle.graph_lines.specs.EpochLines.{cycles_in, is_heard}
 use Rattle.graph_lines.specs.Epochs.{IsEpochOf}
 use Rattle.graph_lines.specs.Lines.{Does}
 
--- what an epoch leaves of a node: a sink that is heard keeps its format, and its cycles are
+-- what an epoch leaves of a node: a sink that has a form in it keeps its format, and its cycles are
 -- counted, up to the greatest number of 32 bits, which is above the frames of each file
 abbrev pub standing_past : Graph → Epoch → ℕ → Standing
 standing_past g e n = record (standing g.nodes n) {
@@ -33,7 +33,7 @@ gone_past g e = record g {
   nodes = map (standing_past g e) (range_with_len 0 (length g.nodes));
 }
 
--- past an epoch of so many cycles; no cycle leaves all as it is
+-- past an epoch of n cycles; where n is 0, all is as it was
 abbrev pub GoesPast : Graph → ℕ → Graph → Type 0
 GoesPast g zero after = after ≡ g
 GoesPast g (suc n) after = (e : Epoch) × IsEpochOf g (suc n) e × (after ≡ gone_past g e)

@@ -10,7 +10,7 @@ use Rattle.graph_lines.specs.declared.graph.Graph.{Graph}
 use Rattle.graph_lines.specs.Epochs.{IsEpochOf}
 use Rattle.graph_lines.specs.Gathering.{DrainsUpTo}
 
--- the epoch of so many cycles; no cycle makes none
+-- the epoch of n cycles; none where n is 0
 abbrev pub IsEpochFor : Graph → ℕ → Option Epoch → Type 0
 IsEpochFor g zero made = made ≡ None
 IsEpochFor g (suc n) made = (e : Epoch) × IsEpochOf g (suc n) e × (made ≡ Some e)

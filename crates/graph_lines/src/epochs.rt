@@ -50,9 +50,9 @@ impl Graph {
         counted(self.alloc, shape)
     }
 
-    /// The epoch of so many cycles that begins now: its driver and active nodes with their required
-    /// counts and targets, the live links between them with the channels of their outputs, the
-    /// forms of all ports of active nodes, and all nodes that begin anew. The graph stays.
+    /// The epoch of `cycles` cycles that begins now: its driver and active nodes with their
+    /// required counts and targets, the live links between them with the channels of their outputs,
+    /// the forms of all ports of active nodes, and all nodes that begin anew. The graph stays.
     ///
     /// Cost: 64 looks at each link for the active nodes, and two more at each link and node for the
     /// counts of each active node.

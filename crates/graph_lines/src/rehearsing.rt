@@ -85,8 +85,8 @@ impl Graph {
     }
 
     /// What a line of a script does in a rehearsal, which shows what links its lines make: all that
-    /// it does to links, formats and marks, and of an epoch only what formats hang on, which sinks
-    /// were heard and how many cycles each node was active in. No epoch is made, and nothing is
+    /// it does to links, formats and marks, and of an epoch only what formats hang on: which sinks
+    /// had a form and how many cycles each node was active in. No epoch is made, and nothing is
     /// summed.
     ///
     /// `Passed`: a `link` line that has no other outcome where 256 links are there; it makes none,

@@ -62,7 +62,7 @@ fn newcomer(node: u32) -> Standing
     }
 }
 
-// So many nodes before their lines.
+// `count` nodes before their lines.
 fn newcomers(alloc: Global, count: usize) -> Result<Items<Standing>, Memory>
     requires { count ≤ nodes_limit }
     ensures { IfOk result (λ nodes. nodes ≡ map newcomer (range_with_len 0 count)) }

@@ -11,7 +11,7 @@ use pw_base::{Epoch, Items, Memory};
 use wav_files::WavIn;
 
 impl Graph {
-    // The epoch of so many cycles, if there is one.
+    // The epoch of `cycles` cycles; none for no cycle.
     fn epoch_for(&self, cycles: u32) -> Result<Option<Epoch>, Memory>
         requires { IsReady self.now }
         ensures { IfOk result (IsEpochFor self.now cycles) }

@@ -23,7 +23,7 @@ pub record IsReadyFor (l : Line) (m : Member) : Type 0 where
   pub stands : IsStanding m
   pub may : MayStep m.graph l.command
 
--- a part whose nodes are of these kinds, or so many
+-- a part whose nodes are of these kinds, or are `count`
 pub record IsMemberOf (kinds : List Kind) (m : Member) : Type 0 where
   pub stands : IsStanding m
   pub kinds_are : m.graph.kinds ≡ kinds
@@ -44,7 +44,7 @@ pub record IsFirst (lines : List Line) (ports : List Node) (nodes : List ℕ) (m
   pub start : IsStart lines ports m.graph
   pub stands : IsStanding m
 
--- what is left of following the lines together; out of memory is free
+-- what is left of following the lines together, unless memory runs out
 abbrev pub AreFollowed : List WavIn → Together → List Line → Result Together PlanFault
     → Type 0
 AreFollowed waves t lines (Ok end) = FollowTogether waves t lines (Ok end)

@@ -46,7 +46,7 @@ pub record ArePartsOf (names : List (List ℕ)) (end : Together) (p : Parts) : T
   pub parts : AllZip (IsPartOfMember names) end.members p.parts
   pub lines : p.lines ≡ end.lines
 
--- what is answered of the lines from there on; out of memory is free
+-- what is answered of the lines from there on, unless memory runs out
 abbrev pub IsPartsAnswer : List (List ℕ) → List WavIn → Together → List Line
     → Result Parts PlanFault → Type 0
 IsPartsAnswer names waves t lines (Ok p) =

@@ -28,13 +28,13 @@ abbrev pub IsBeforePart : List ℕ → List ℕ → Type 0
 IsBeforePart p q =
     (m n : ℕ) → slice_get p 0 ≡ Some m → slice_get q 0 ≡ Some n → m < n
 
--- PARTS of so many nodes, by their least nodes; each node is in one
+-- PARTS of `count` nodes, by their least nodes; each node is in one
 pub record AreParts (count : ℕ) (made : List Wire) (parts : List (List ℕ)) : Type 0 where
   pub each : All (IsPartOf count made) parts
   pub order : AllPairs IsBeforePart parts
   pub all : (n : ℕ) → n < count → (p : List ℕ) × Contains parts p × Contains p n
 
--- PARTITION of a script of so many nodes, with these ports: its parts by the links that it makes
+-- PARTITION of a script of `count` nodes, with these ports: its parts by the links that it makes
 abbrev pub IsPartition : List Line → ℕ → List WavIn → List Node → List (List ℕ)
     → Type 0
 IsPartition lines count waves ports parts = (start : Graph) × IsStart lines ports start

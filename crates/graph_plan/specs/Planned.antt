@@ -12,13 +12,13 @@ use Rattle.graph_plan.specs.declared.fault.PlanFault.TheVariants as F
 use Rattle.graph_plan.specs.Following.{Follows}
 use Rattle.graph_plan.specs.PlanOf.{IsPlanOf}
 
--- what is left of following the lines from a graph on; out of memory is free
+-- what is left of following the lines from a graph on, unless memory runs out
 abbrev pub IsFollowed : List WavIn → Graph → List Line → Result Graph PlanFault → Type 0
 IsFollowed waves g lines (Ok end) = Follows waves g lines (Ok end)
 IsFollowed waves g lines (Err (F.Limit line which)) = Follows waves g lines (Err (line, which))
 IsFollowed waves g lines (Err F.Memory) = Unit {0}
 
--- what is answered of the lines from a graph on; out of memory is free
+-- what is answered of the lines from a graph on, unless memory runs out
 abbrev pub IsAnswer : List (List ℕ) → List WavIn → Graph → List Line
     → Result Plan PlanFault
     → Type 0

@@ -1,4 +1,4 @@
--- What is said of a node, read off the epochs so far: its cycles, if it was heard, its channels.
+-- What is said of a node, read off the epochs so far: its cycles, if it had a form, its channels.
 -- Source: this project's own.
 use Rattle.std.specs.Prelude.{◌≡◌, ℕ, ◌<◌, ◌==◌, Bool, List, length, fold, find, sum_by}
 use Rattle.std.specs.Prelude.{option_map, unwrap_or}

@@ -25,7 +25,7 @@ use Rattle.graph_plan.specs.SoundWires.{AreSoundWires}
 use Rattle.graph_plan.specs.Summing.{AreSummed}
 use Rattle.graph_plan.specs.Remembering.{IsLike, Remembers, RemembersSinks}
 
--- lines have made so many nodes: they are there, and links and priorities are theirs
+-- lines have made `count` nodes: they are there, and links and priorities are theirs
 pub record AreMade (count : ℕ) (said : List Standing) (wires : List Wire) : Type 0 where
   pub within : count ≤ length said
   pub there : (n : ℕ) → n < count → (standing said n).there ≡ true
@@ -50,7 +50,7 @@ pub record IsPast (plan : Plan) (nodes : List Node) (said : List Standing) : Typ
 abbrev pub IsJoining : List Kind → LinkLine → Type 0
 IsJoining kinds l = IsOutput kinds l.from × IsInput kinds l.to
 
--- SOUND GRAPH, of so many nodes that lines have made
+-- SOUND GRAPH, of `count` nodes that lines have made
 pub record IsSoundGraph (count : ℕ) (g : Graph) : Type 0 where
   pub quantum : IsBetween 1 8192 g.quantum
   pub ports : AreSoundNodes g.ports

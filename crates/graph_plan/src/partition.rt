@@ -97,7 +97,7 @@ fn is_placed(parts: &[Items<u32>], node: u32) -> bool
     false
 }
 
-// The parts of so many nodes by these links: from each node that is in no part yet, all that links
+// The parts of `count` nodes by these links: from each node that is in no part yet, all that links
 // join to it.
 fn parts_by(alloc: Global, count: u32, made: &[Wire]) -> Result<Items<Items<u32>>, Memory>
     requires few { count ≤ nodes_limit }

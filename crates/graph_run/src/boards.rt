@@ -86,7 +86,7 @@ fn board_of(
     board_with::<Brand>(alloc, plan, waves, seating, epoch)
 }
 
-// Hands the seats of one board to the loops, in their order.
+// Gives the seats of one board to the loops, in their order.
 fn deal(rows: &mut Vec<Room<LoopSeat>>, seats: Items<LoopSeat>)
     requires count { length seats ≡ length rows.old.items }
     requires spare { All (λ row. 0 < row.spare) rows.old.items }
@@ -99,7 +99,7 @@ fn deal(rows: &mut Vec<Room<LoopSeat>>, seats: Items<LoopSeat>)
     }
 }
 
-// A list with room for so many seats, for each of so many loops.
+// A list with room for `count` seats, for each of `loops` loops.
 fn seat_rows(alloc: Global, loops: usize, count: usize) -> Result<Vec<Room<LoopSeat>>, Memory>
     ensures lists { IfOk result (λ rows. map (λ row. row.list) rows.items
         ≡ map (λ _. []) (range_with_len 0 loops)) }

@@ -39,7 +39,7 @@ integer_of high (first ∷ digits) =
     if first == 0x2D then option_map (λ n. neg_ℤ (pos n)) (number_of 1 high digits)
     else option_map (λ n. pos n) (number_of 0 high (first ∷ digits))
 
--- numbers of channels, parted by single commas: at most 8, each from 0 to so many less 1
+-- numbers of channels, parted by single commas: at most 8, each from 0 to `channels` - 1
 abbrev pub is_comma : ℕ → Bool
 is_comma b = b == 0x2C
 

@@ -22,7 +22,7 @@ abbrev pub checked_map : {A B : Type 0} → (A → B) → Result A ScriptWhy →
 checked_map f (Ok x) = Ok (f x)
 checked_map f (Err why) = Err why
 
--- no argument, exactly one, and so many: the first, and then one fewer
+-- no argument, exactly one, and up to five: the first, and then one fewer
 abbrev pub no_args : List (List ℕ) → Checked (Unit {0})
 no_args [] = Ok tt
 no_args (a ∷ more) = Err W.Arguments

@@ -58,7 +58,7 @@ start = record { script = record { lines = []; names = [] }; kinds = [] }
 unfoldable pub script_of : List ℕ → Result Script ScriptFault
 script_of bytes = script_from 1 start (lines_of bytes)
 
--- a result is what is meant; want of memory is free
+-- a result is what is meant, unless memory runs out
 abbrev pub IsRead : {T : Type 0} → Result T ScriptFault → Result T ScriptFault → Type 0
 IsRead meaning (Err F.Memory) = Unit {0}
 IsRead meaning result = meaning ≡ result

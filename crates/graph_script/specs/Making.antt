@@ -14,7 +14,7 @@ grown count command = option_map_or (λ m. m.0 + 1) (made_by command) count
 abbrev pub all_grown : ℕ → List Line → ℕ
 all_grown count lines = fold (λ n l. grown n l.command) count lines
 
--- from so many nodes on, a line makes the next node or none, and names only nodes that are there
+-- with `count` nodes there, a line makes the next node or none, and names only nodes that are there
 -- then
 abbrev pub NamesMade : ℕ → List Line → Type 0
 NamesMade count [] = Unit {0}

@@ -26,7 +26,7 @@ IsInRange (C.Buffers port n) = IsBetween 1 buffers_limit n
 IsInRange (C.Cycles n) = IsBetween 1 cycles_limit n
 IsInRange _ = Unit {0}
 
--- the nodes of a command are among so many
+-- the nodes of a command are among the first `count`
 abbrev pub HasNodes : ℕ → Command → Type 0
 HasNodes count (C.Source node file) = node < count
 HasNodes count (C.Square node rate channels period amp) = node < count

@@ -96,13 +96,13 @@ pub enum Command {
     Off {
         node: u32,
     },
-    /// So many cycles, 1 to 1000000.
+    /// `n` cycles, 1 to 1000000.
     Cycles {
         n: u32,
     },
     /// Cycles until the active sources have given all their frames.
     Drain,
-    /// Links at the node hand on what was made one cycle earlier.
+    /// Links at the node are late: they carry what was made one cycle earlier.
     Async {
         node: u32,
     },

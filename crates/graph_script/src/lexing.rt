@@ -1,4 +1,4 @@
-//! Words, each cut off the front of a line.
+//! Words, each cut off the beginning of a line.
 ghost use Rattle.std.specs.Prelude.{◌≡◌, ◌≤◌, [], ◌∷◌, length, MatchOption};
 ghost use Rattle.std.specs.List.{list_all, position_or_len, prefix_len};
 ghost use Rattle.graph_script.specs.Lexical.{is_allowed, is_blank, words_of, say_nothing};
@@ -30,7 +30,7 @@ fn word_len(text: &[u8]) -> usize
     text.iter().take_while(|b| !is_blank(**b)).count()
 }
 
-// How many blanks stand at the front.
+// How many blanks a line begins with.
 fn gap_len(text: &[u8]) -> usize
     ensures value { result ≡ prefix_len is_blank text.now }
     ensures within { result ≤ length text.now }

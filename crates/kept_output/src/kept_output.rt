@@ -18,7 +18,7 @@ impl Started for Brand {
     ghost started = { None };
 }
 
-/// An output that hands each put on to another output, with the same answers, and keeps what that
+/// An output that passes each put on to another output, with the same answers, and keeps what that
 /// was given.
 pub struct KeptOutput<O: Sink, S: Started> {
     out: O,

@@ -80,7 +80,7 @@ fn has_kept(plan: &Plan, seating: &Seating, own: &LoopState, node: u32, wanted: 
     }
 }
 
-// Whether a sink that drives keeps these samples in all epochs by one thread, which adopts so many loops.
+// Whether a sink that drives keeps these samples in all epochs by one thread, which adopts `loops` loops.
 fn keeps_by<R: Wait>(
     rt: &R,
     alloc: Global,

@@ -14,12 +14,12 @@ use wav_files::Outcome;
 pub(crate) enum Kept<'a> {
     /// There is one, which keeps these samples.
     One(&'a [i16]),
-    /// Each keeps so many samples: the zeros of its place, and then these again and again.
+    /// Each keeps this number of samples: the zeros of its place, and then these again and again.
     Waves(usize, &'a [usize], [i16; 8]),
 }
 
-/// A run of a work, by a loop for each entry of a choice: whether it is adopted. Each choice has so many closed boards
-/// and keeps the same.
+/// A run of a work, by a loop for each entry of a choice: whether it is adopted. Each choice leaves `boards` closed
+/// boards and keeps the same.
 #[derive(Clone, Copy, Drop)]
 pub(crate) struct RunRow<'a> {
     pub work: WorkRow<'a>,
@@ -60,7 +60,7 @@ fn sample_at(at: usize, zeros: usize, period: [i16; 8]) -> i16 {
     }
 }
 
-// Whether samples are so many zeros, and then these again and again.
+// Whether samples are `zeros` zeros, and then these again and again.
 fn is_wave(samples: &[i16], zeros: usize, period: [i16; 8]) -> bool {
     for at in 0..samples.len() {
         if samples[at] != sample_at(at, zeros, period) {
@@ -70,7 +70,7 @@ fn is_wave(samples: &[i16], zeros: usize, period: [i16; 8]) -> bool {
     true
 }
 
-// Whether each sink has kept so many samples of its wave.
+// Whether each sink has kept `len` samples of its wave.
 fn have_waves(outcome: &Outcome, len: usize, zeros: &[usize], period: [i16; 8]) -> bool {
     let sinks = outcome.sinks.as_slice();
     if sinks.len() != zeros.len() {
@@ -101,7 +101,7 @@ pub(crate) fn have_kept(outcome: &Outcome, kept: Kept<'_>) -> bool {
     }
 }
 
-// Whether a run by these loops has so many boards, and a legal history, and its sinks keep what they are to keep.
+// Whether a run by these loops has the boards of the row and a legal history, and its sinks keep what they are to keep.
 fn runs_so<R: Threads + Wait + Sync>(
     rt: &R,
     alloc: Global,

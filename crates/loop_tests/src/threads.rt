@@ -106,7 +106,7 @@ const ONE_BLOCK: RunRow<'static> = RunRow {
     ),
 };
 
-/// The same with a late second reader, which hears four zeros, and then what was given in the cycle before.
+/// The same with a late second reader, which receives four zeros, and then what was given in the cycle before.
 const LATE_READER: RunRow<'static> = RunRow {
     work: WorkRow {
         text: "quantum 4\nsquare q 48000 1 8 100\nsink a a.wav\nloop a 1\nsink b b.wav\nloop b 2\nasync b\n\

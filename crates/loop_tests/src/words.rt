@@ -62,7 +62,7 @@ fn has_two(board: &Board, at: usize, first: u64, second: u64) -> bool
     board.peek(at) == first && board.peek(at + 1) == second
 }
 
-/// Whether the first block of the first pool has so many readers, and this as its first word.
+/// Whether the first block of the first pool has `readers` readers, and `samples` as its first word.
 pub(crate) fn block_is(alloc: Global, board: &Board, readers: u64, samples: u64) -> bool {
     if !is_pooled_shape(board.shape()) {
         return false;

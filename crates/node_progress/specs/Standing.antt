@@ -30,13 +30,13 @@ port_at n i = record { node = n; port = i }
 abbrev pub out_channels : NodeState → ℕ
 out_channels s = left_channels (node_kind s) (node_wave_channels s) (node_channels s)
 
--- what the state has heard, where it has received this. It counts the frames itself: those of the
+-- what the state works with, where it has received this. It counts the frames itself: those of the
 -- cycles that it worked
 abbrev pub heard_by : Score → ℕ → NodeState → Received → Heard
 heard_by score n s r = record (heard_of (wave_of score.waves.value n)
     (out_channels s) r) { frames = frames_so_far s }
 
--- the state of the node n stands for what it has received as the cycle c begins, and after so many
+-- the state of the node n stands for what it has received as the cycle c begins, and after `cycles`
 -- cycles
 abbrev pub HasReceivedBefore : Score → ℕ → ℕ → NodeState → Type 0
 HasReceivedBefore score c n s = StandsFor s (heard_by score n s

@@ -43,11 +43,11 @@ abbrev pub right_channels : Kind → ℕ
 right_channels Split = 1
 right_channels _ = 0
 
--- nothing, or so many samples
+-- nothing, or n samples
 abbrev pub IsNoneOr : ℕ → List ℤ → Type 0
 IsNoneOr n row = (length row ≡ 0) ⊎ (length row ≡ n)
 
--- so many frames at each input, and at each output so many or, without a form, none
+-- `frames` frames at each input, and at each output as many or, without a form, none
 abbrev pub HaveFrames : ℕ → Kind → ℕ → ℕ → List ℤ → List ℤ → List ℤ
     → List ℤ → Type 0
 HaveFrames frames kind w n a b left right =

@@ -1,4 +1,4 @@
--- Stands for: what a state keeps between quanta, and what its node has heard so far.
+-- Stands for: what a state keeps between quanta, and what its node has received so far.
 -- Source: the graph's nodes of PipeWire's documentation, "Graph Scheduling"; the kinds are this
 -- project's.
 use Rattle.std.specs.Prelude.{◌≡◌, ℕ, ◌*◌, ◌%◌, ◌≤◌, min, List, [], ◌++◌, length, take, drop, ℤ, ◌⊎◌}
@@ -10,9 +10,9 @@ use Rattle.node_state.specs.declared.node_state.NodeState.{NodeState}
 use Rattle.node_state.specs.Slices.{HaveFrames}
 pub use Rattle.node_state.specs.StateReadings.{node_kind, node_wave_channels, kept_stream, node_quantum, frames_so_far, prepared_frames, node_channels, most_channels, HasFramesLeft}
 
--- by the channels at the first input and the frames prepared: the file's front and the place in it;
--- the place in the period; the samples not yet given, in a line no longer than the frames to come;
--- the stream; the peak. The other kinds keep nothing, of inputs in whole frames
+-- by the channels at the first input and the frames prepared: the file's beginning and the place in
+-- it; the place in the period; the samples not yet given, in a line no longer than the frames to
+-- come; the stream; the peak. The other kinds keep nothing, of inputs in whole frames
 abbrev pub Keeps : KindState → ℕ → ℕ → Heard → Type 0
 Keeps (Source s) channels prepared h =
     (s.channels ≡ h.channels) × (s.samples ≡ take (prepared * s.channels) h.wave)

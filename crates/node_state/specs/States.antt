@@ -39,7 +39,7 @@ room_in (Delay s) = s.room
 room_in (Sink s) = length s.list + s.spare
 room_in _ = 0
 
--- the samples that it may have to keep, of so many channels and frames in all
+-- the samples that it may have to keep, by the channels and by the frames in all
 abbrev pub wanted_room : KindState → ℕ → ℕ → ℕ
 wanted_room (Delay s) channels frames = s.long * channels
 wanted_room (Sink s) channels frames = frames * channels

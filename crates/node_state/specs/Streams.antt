@@ -1,4 +1,4 @@
--- Streams: what a node has heard before and after a quantum, what it gives, and what it keeps of
+-- Streams: what a node has received before and after a quantum, what it gives, and what it keeps of
 -- it.
 -- Source: the graph's nodes of PipeWire's documentation, "Graph Scheduling"; the kinds are this
 -- project's.
@@ -19,7 +19,7 @@ abbrev pub channels_of : Option Wav → ℕ
 channels_of (Some wav) = wav.channels
 channels_of None = 0
 
--- nothing heard yet
+-- nothing received yet
 abbrev pub unheard : Kind → Option Wav → ℕ → Heard
 unheard kind wav n = record {
   wave = samples_of wav;
@@ -36,7 +36,7 @@ HasItsWave K.Source None = ⊥
 HasItsWave _ (Some wav) = ⊥
 HasItsWave _ None = Unit {0}
 
--- what has been heard after so many more frames, with what they brought
+-- what has been received after `frames` more frames, with what they brought
 abbrev pub followed : ℕ → List ℤ → List ℤ → Heard → Heard
 followed frames a b h = record h { frames = h.frames + frames; a = h.a ++ a; b = h.b ++ b }
 
@@ -44,7 +44,7 @@ followed frames a b h = record h { frames = h.frames + frames; a = h.a ++ a; b =
 abbrev pub restarted : Kind → ℕ → Heard → Heard
 restarted kind n h = record h { channels = left_channels kind h.channels n; a = []; b = [] }
 
--- the last n samples of the kind's function of all that was heard
+-- the last n samples of the kind's function of all that was received
 abbrev pub output_now : Kind → Heard → ℕ → ℕ → List ℤ
 output_now kind h output n = drop (length (kind_output kind h output) - n)
     (kind_output kind h output)

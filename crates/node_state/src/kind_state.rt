@@ -62,8 +62,8 @@ impl KindState {
         }
     }
 
-    /// The state of a node that has heard nothing, with room for so many frames of so many channels
-    /// at the first input.
+    /// The state of a node that has received nothing, with room for `frames` frames of `channels`
+    /// channels at the first input.
     pub(crate) fn new(
         alloc: Global,
         kind: &Kind,
@@ -108,7 +108,7 @@ impl KindState {
         }
     }
 
-    /// Begins the stream anew, of so many channels at the first input. A source and a square go on.
+    /// Begins the stream anew, of `channels` channels at the first input. Source and square go on.
     pub(crate) fn restart(&mut self, channels: u32)
         requires room { wanted_room self.old channels 0 ≤ room_in self.old }
         requires empty { stream_of self.old ≡ [] }

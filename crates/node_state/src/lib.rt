@@ -2,7 +2,7 @@
 //! its kind's function of whole streams.
 //!
 //! `NodeState::prepare` takes all memory; `process` does one quantum. What a state keeps *stands
-//! for* what the node has heard so far (`specs/StandsFor.antt`): a source's place in its file, a
+//! for* what the node has received so far (`specs/StandsFor.antt`): a source's place in its file, a
 //! square's place in its period, a delay's line, a sink's stream, a meter's peak, and nothing for
 //! the other kinds.
 #![tactic(auto)]

@@ -16,12 +16,13 @@ use std::alloc::Global;
 use wav_files::Wav;
 
 impl NodeState {
-    /// The state of a node that has heard nothing, with all the memory that it needs for `frames`
-    /// frames in all, in quanta of `quantum` frames.
+    /// The state of a node that has received nothing, with all the memory that it needs for
+    /// `frames` frames in all, in quanta of `quantum` frames.
     ///
     /// `channels` are those at the first input, the most that it may have in the run, 0 where it
     /// has none. `wav` is a source's file; the state has a copy of at most the frames prepared. A
-    /// delay takes memory for its line, of at most `frames` frames, a sink for so long a stream.
+    /// delay takes memory for its line, of at most `frames` frames, a sink for a stream of that
+    /// length.
     pub fn prepare(
         alloc: Global,
         kind: &Kind,

@@ -12,8 +12,8 @@ impl NodeState {
     /// that has no form has an empty slice.
     /// Takes no memory; one pass over the slices.
     ///
-    /// What is written is the last quantum of the kind's function of all that the node has heard,
-    /// these inputs with it.
+    /// What is written is the last quantum of the kind's function of all that the node has
+    /// received, these inputs with it.
     pub fn process(&mut self, a: &[i16], b: &[i16], left: &mut [i16], right: &mut [i16])
         requires slices { IsQuantum self.old a.now b.now left.old right.old }
         requires frames { HasFramesLeft self.old }

@@ -18,7 +18,7 @@ abbrev pub first_failed : List Check → Option PodFault
 first_failed [] = None
 first_failed (check ∷ checks) = if check.0 then Some check.1 else first_failed checks
 
--- the answer is a fault just where one is found, and it is that one; want of memory is free
+-- the answer is a fault just where one is found, and it is that one, unless memory runs out
 abbrev pub Answers : {X : Type 0} → Result X PodFault → Option PodFault → Type 0
 Answers (Ok x) found = found ≡ None
 Answers (Err Memory) found = Unit {0}

@@ -51,7 +51,7 @@ IsBodyFault Held Faults bytes p size t f = (first_failed (body_checks bytes p si
     ⊎ ((first_failed (body_checks bytes p size t) ≡ None)
     × IsHeldFault Held Faults bytes t (p + 8) (p + 8 + size) f)
 
--- FIRST FAULT of the POD at p, within the end e, with so many levels left
+-- FIRST FAULT of the POD at p, within the end e, with `left` levels left
 unfoldable pub FaultsAt : ℕ → List ℕ → ℕ → ℕ → PodFault → Type 0
 FaultsAt zero bytes p e f = f ≡ Deep p
 FaultsAt (suc left) bytes p e f =
@@ -61,7 +61,7 @@ FaultsAt (suc left) bytes p e f =
     × IsBodyFault (λ a x m. SpellsAt left bytes a (p + 8 + size) x m)
     (λ a g. FaultsAt left bytes a (p + 8 + size) g) bytes p size (u32_at bytes (p + 4)) f)
 
--- a fault is one of these, or want of memory
+-- a fault is one of these, or that memory ran out
 abbrev pub Fails : {X : Type 0} → Result X PodFault → (PodFault → Type 0) → Type 0
 Fails (Ok x) P = Unit {0}
 Fails (Err f) P = (f ≡ Memory) ⊎ P f

@@ -45,7 +45,7 @@ ValueFits Held (Pod-F.Sequence unit controls) = (unit < 2 ^ 32)
     × AllByRecursion (ControlFits Held) controls
 ValueFits Held scalar = ScalarFits scalar
 
--- NUMBERS FIT, in so many levels of a value
+-- NUMBERS FIT, in the first `left` levels of a value
 unfoldable pub NumbersFit : ℕ → Pod → Type 0
 NumbersFit zero pod = Unit {0}
 NumbersFit (suc left) pod = ValueFits (NumbersFit left) (out-Pod pod)

@@ -1,4 +1,4 @@
--- The reading of bytes as a POD: the value that they spell at their front and how long that front
+-- The reading of bytes as a POD: the value that a prefix of them spells and how long that prefix
 -- is, or their first fault. Source: SPA POD, "Types"; spa/pod/pod.h. For all bytes there is one
 -- (`proofs/PodReadings.antt`).
 use Rattle.std.specs.Prelude.{ℕ, List, Result, Ok, Err}

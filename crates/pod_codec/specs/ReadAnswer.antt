@@ -1,4 +1,4 @@
--- What the reader's answer to bytes must be: this value, or this fault. Want of memory is free.
+-- What the reader's answer to bytes must be: this value or this fault, unless memory runs out.
 -- Source: this project's own.
 use Rattle.std.specs.Prelude.{◌≡◌, ℕ, ◌⊎◌, List, Result, Ok, Err}
 use Rattle.pod_codec.specs.declared.pod.Pod.{Pod}
@@ -7,7 +7,7 @@ use Rattle.pod_codec.specs.declared.fault.PodFault.TheVariants.{Memory}
 use Rattle.pod_codec.specs.Spelling.{FrontSpells}
 use Rattle.pod_codec.specs.FirstFault.{IsFirstFault}
 
--- the front of the bytes spells a value, or has a first fault
+-- a prefix of the bytes spells a value, or has a first fault
 abbrev pub HasAnswer : List ℕ → Type 0
 HasAnswer bytes = ((pod : Pod) × (size : ℕ) × FrontSpells bytes pod size)
     ⊎ ((first : PodFault) × IsFirstFault bytes first)

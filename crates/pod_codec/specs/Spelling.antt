@@ -45,7 +45,7 @@ IsBodyAt Held bytes t b e (Pod-F.Sequence unit controls) = (t ≡ 16) × (unit �
     × AreAfter (IsControlAt Held bytes) (b + 8) controls e
 IsBodyAt Held bytes t b e scalar = (e ≡ b + child_size t) × IsScalarAt bytes t b scalar
 
--- SPELLING: with so many levels left, the bytes from p to q, within the end e, are a POD of the
+-- SPELLING: with `left` levels left, the bytes from p to q, within the end e, are a POD of the
 -- value
 unfoldable pub SpellsAt : ℕ → List ℕ → ℕ → ℕ → Pod → ℕ → Type 0
 SpellsAt zero bytes p e pod q = ⊥

@@ -8,7 +8,7 @@ use Rattle.pod_codec.specs.declared.fault.WriteFault.TheVariants.{Unwritable, Me
 use Rattle.pod_codec.specs.Framing.{Form, u32_bytes}
 use Rattle.pod_codec.specs.PodValue.{form_of}
 
--- a form with so many levels left: all inside is allowed, and the body is not too long
+-- a form with `left` levels left: all inside is allowed, and the body is not too long
 pub record Fits (left : ℕ) (f : Form) : Type 0 where
   pub sound : IsTrue f.sound
   pub depth : f.depth ≤ left
@@ -19,7 +19,7 @@ pub record Fits (left : ℕ) (f : Form) : Type 0 where
 abbrev pub IsWritable : Pod → Type 0
 IsWritable pod = Fits depth_limit (form_of pod)
 
--- done where P holds, refused where it does not; want of memory is free
+-- done where P holds, refused where it does not, unless memory runs out
 abbrev pub Tells : Result (Unit {0}) WriteFault → Type 0 → Type 0
 Tells (Ok done) P = P
 Tells (Err Unwritable) P = P → ⊥

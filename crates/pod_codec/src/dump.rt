@@ -147,7 +147,7 @@ fn put_head(pod: &Pod, text: &mut Text) -> Result<(), Memory>
     }
 }
 
-/// Appends the indent of a level. A level that no text can have is want of memory.
+/// Appends the indent of a level; `Memory` for a level that no text can have.
 fn put_indent(level: usize, text: &mut Text) -> Result<(), Memory>
     ensures { OnOk result (text.new ≡ text.old ++ replicate (2 * level) 32) }
 {

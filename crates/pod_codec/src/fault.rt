@@ -6,8 +6,9 @@ ghost use Rattle.pod_codec.specs.declared.fault.WriteFault.TheVariants as w;
 
 use pw_base::Memory;
 
-/// The first fault of bytes that spell no POD within the limits, or want of memory. Offsets count
-/// from the first byte handed in; they are below 2^32 since a POD has at most 1,048,584 bytes.
+/// The first fault of bytes that spell no POD within the limits, or that memory ran out. Offsets
+/// count from the first byte that is given; they are below 2^32 since a POD has at most 1,048,584
+/// bytes.
 #[derive(Clone, Copy, Debug, PartialEq, Eq, Drop)]
 pub enum PodFault {
     /// The POD whose header begins there, or the key and flags that do, pass the end.
@@ -20,7 +21,7 @@ pub enum PodFault {
     Uneven { offset: u32 },
     /// The POD that begins there stands in sixteen others.
     Deep { offset: u32 },
-    /// The outermost body has so many bytes, more than 1,048,576.
+    /// The outermost body has `size` bytes, more than 1,048,576.
     Large { size: u32 },
     /// The string that begins there does not end in a nul.
     Nul { offset: u32 },

@@ -144,7 +144,7 @@ fn choice_at(alloc: Global, bytes: &[u8], at: usize, size: usize) -> Result<Read
     }
 }
 
-/// The value of the POD that begins at `at`, and where it ends, with so many levels left.
+/// The value of the POD that begins at `at`, and where it ends, with `left` levels left.
 #[cycle(read)]
 #[tactic(auto, unfolding(crate::specs::Spelling::SpellsAt, crate::specs::FirstFault::FaultsAt))]
 fn pod_at(
@@ -171,7 +171,7 @@ fn pod_at(
     }
 }
 
-/// The value of a type, whose body has so many bytes behind the header at `at`.
+/// The value of a type, whose body has `size` bytes behind the header at `at`.
 #[cycle(read)]
 fn body_at(
     alloc: Global,
@@ -384,7 +384,7 @@ fn scalar_or_fault(bytes: &[u8], at: usize, size: usize, kind: u32) -> Result<Po
     Ok(scalar_at(bytes, at + 8, kind))
 }
 
-/// The value of the front and its length, or the first fault.
+/// The value that the bytes begin with and its length, or the first fault.
 fn front_of(alloc: Global, bytes: &[u8]) -> Result<(Pod, usize), PodFault>
     ensures found { IfOk result (λ x. FrontSpells bytes.now x.0 x.1) }
     ensures fault { Fails result (IsFirstFault bytes.now) }
@@ -403,13 +403,13 @@ fn front_of(alloc: Global, bytes: &[u8]) -> Result<(Pod, usize), PodFault>
     }
 }
 
-/// The value that the front of the bytes spells, and how long that front is with its padding.
+/// The value that a prefix of the bytes spells, and how long that prefix is with its padding.
 ///
 /// Numbers are little-endian, padding may be anything, and any nonzero Bool is true. The outermost
 /// body has at most 1,048,576 bytes, and values stand at most 16 deep. A fault is the first one: a
 /// POD is checked for its depth, its header, its size (the outermost alone), its body, its type and
-/// then its contents, and what it holds is read in order. What stands behind the front is not
-/// looked at. Takes memory for the value alone, and time linear in the front.
+/// then its contents, and what it holds is read in order. What stands behind the prefix is not
+/// looked at. Takes memory for the value alone, and time linear in the prefix.
 ///
 /// Public source: PipeWire's documentation, "SPA POD"; `spa/pod/pod.h`.
 pub fn read_pod(alloc: Global, bytes: &[u8]) -> Result<(Pod, usize), PodFault>

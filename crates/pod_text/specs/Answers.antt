@@ -55,7 +55,7 @@ pub data RunsFormat (to : List ℕ) (format : Format) (old new : Held) (given no
   kept : IsFormatPod format (Err status) → IsUnchanged old new given now
       → RunsFormat to format old new given now status
 
--- THE ANSWER to words; want of memory is free
+-- THE ANSWER to words, unless memory runs out
 pub data IsAnswered (words : List (List ℕ)) (old new : Held) (given now : Given)
     (status : Status) (line : List ℕ) : Type 0 where
   make : (source : Source) (from to : List ℕ) → request_of words ≡ Ok (R.Make source from to)

@@ -1,5 +1,5 @@
 -- The bytes that are made of the text of a dump: the one spelling of the value whose dump it is,
--- or why there are none. Want of memory is free. Source: this project's own.
+-- or why there are none, unless memory runs out. Source: this project's own.
 use Rattle.std.specs.Prelude.{◌≡◌, ℕ, List, Result, Ok, Err}
 use Rattle.pw_base.specs.Limits.{depth_limit}
 use Rattle.pod_codec.specs.declared.pod.Pod.{Pod}

@@ -1,5 +1,5 @@
--- What the reader of a list of gains answers: its points, or its first line at fault; want of
--- memory is free. Source: this project's own.
+-- What the reader of a list of gains answers: its points or its first line at fault, unless
+-- memory runs out. Source: this project's own.
 use Rattle.std.specs.Prelude.{◌≡◌, ◌≤◌, ℕ, List, All, Result, Ok, Err}
 use Rattle.pw_base.specs.KindRanges.{IsGain}
 use Rattle.control_sequence.specs.Automation.{ArePoints}

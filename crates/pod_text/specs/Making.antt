@@ -1,5 +1,5 @@
 -- The bytes that are made of a list: the one spelling of the control sequence of its points, or
--- why there are none. Want of memory is free. Source: this project's own.
+-- why there are none, unless memory runs out. Source: this project's own.
 use Rattle.std.specs.Prelude.{◌≡◌, ℕ, List, Result, Ok, Err}
 use Rattle.pod_codec.specs.declared.pod.Pod.{Pod}
 use Rattle.pod_codec.specs.declared.pod.Pod.TheViews.{out-Pod}

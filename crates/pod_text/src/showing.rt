@@ -50,7 +50,7 @@ pub(crate) fn put_shown(text: &mut Text, word: &[u8]) -> Result<(), Memory>
     text.extend(b"\"")
 }
 
-/// The front of a line in quotes.
+/// The beginning of a line in quotes.
 pub(crate) fn put_line(text: &mut Text, line: &[u8]) -> Result<(), Memory>
     ensures { OnOk result (text.new ≡ text.old ++ shown_line line.now) }
 {

@@ -7,7 +7,7 @@ use Rattle.pw_base.specs.declared.files.FileFail.TheVariants.{Failed, Memory}
 abbrev pub Rose : ℕ → ℕ → Type 0
 Rose before now = min (before + 1) (2 ^ 64 - 1) ≤ now
 
--- the count rises with a failure, and only then; want of memory is free
+-- the count rises with a failure, and only then; it stays where memory runs out
 abbrev pub HasCause : {T : Type 0} → ℕ → ℕ → Result T FileFail → Type 0
 HasCause before now (Ok x) = now ≡ before
 HasCause before now (Err Failed) = Rose before now

@@ -1,5 +1,5 @@
--- Fronts of a history: cycles whose parts stand first in a row of events, and what is left after
--- them.
+-- Fronts, prefixes of a history: cycles whose parts stand first in a row of events, and what is
+-- left after them.
 -- Source: this project's; a part ends with its first End, so that a row of events is cut in one way
 -- alone.
 use Rattle.std.specs.Prelude.{ℕ, List, ◌++◌, Bool, true, false, ◌↔◌}

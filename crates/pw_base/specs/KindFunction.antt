@@ -7,8 +7,8 @@ use Rattle.pw_base.specs.declared.kind.Kind.{Kind}
 use Rattle.pw_base.specs.declared.kind.Kind.TheVariants.{Source, Square, Gain, Mix2, Delay, Map, Split, Sink, Meter, Dummy}
 use Rattle.pw_base.specs.Samples.{scaled, mixed, silence, of_frames, picked}
 
--- what a node has heard: its file, the frames for which it was active, its output's channels, its
--- inputs' streams
+-- what a node has received: its file, the frames for which it was active, its output's channels,
+-- its inputs' streams
 pub record Heard : Type 0 where
   pub wave : List ℤ
   pub frames : ℕ

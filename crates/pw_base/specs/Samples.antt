@@ -19,7 +19,7 @@ scaled g s = clamped (int_shr (s *ℤ g) 8)
 abbrev pub mixed : ℤ → ℤ → ℤ → ℤ → ℤ
 mixed ga gb a b = clamped (int_shr ((a *ℤ ga) +ℤ (b *ℤ gb)) 8)
 
--- so many samples of value zero
+-- n samples of value zero
 abbrev pub silence : ℕ → List ℤ
 silence n = replicate n (pos 0)
 
@@ -31,7 +31,7 @@ summed xs ys = map (λ p. p.0 +ℤ p.1) (zip xs ys)
 abbrev pub sample_at : ℕ → List ℤ → ℕ → ℕ → ℤ
 sample_at channels row frame channel = slice_index_or row (frame * channels + channel) (pos 0)
 
--- so many frames, each channel of each by the function
+-- `frames` frames, each channel of each by the function
 abbrev pub of_frames : ℕ → ℕ → (ℕ → ℕ → ℤ) → List ℤ
 of_frames frames channels f = map (λ i. f (i / channels) (i % channels))
     (range_with_len 0 (frames * channels))

@@ -1,4 +1,4 @@
-//! A hook that a caller hands in, called between a node's Start and its work.
+//! A hook that a caller gives, called between a node's Start and its work.
 
 /// Is told of each node that enters a cycle. It is shared between threads.
 pub trait Gate {

@@ -24,7 +24,7 @@ pub enum Kind {
         ga: i32,
         gb: i32,
     },
-    /// So many frames of zeros, then the input.
+    /// `frames` frames of zeros, then the input.
     Delay {
         frames: u32,
     },

@@ -36,7 +36,7 @@ fn are_below(channels: u32, list: &[u32]) -> bool
     list.iter().all(|c| *c < channels)
 }
 
-// Whether it is a list of a map of so many channels.
+// Whether it is a list of a map of `channels` channels.
 fn is_map(channels: u32, list: &[u32]) -> bool
     ensures { IsTrue result ↔ (IsChannels channels
         × ((1 ≤ length list.now) × (length list.now ≤ 8))
@@ -79,7 +79,7 @@ pub(crate) fn may_have_rate(kind: &Kind, n: u32) -> bool
     }
 }
 
-/// Whether a port may have so many channels.
+/// Whether a port may have `n` channels.
 pub(crate) fn may_have_channels(kind: &Kind, port: u32, n: u32) -> bool
     ensures { IsTrue result ↔ MayHaveChannels kind.now port n }
 {

@@ -1,4 +1,4 @@
-//! Pieces of a text, cut off its front one after the other.
+//! Pieces of a text, cut off its beginning one after the other.
 ghost use Rattle.std.specs.Prelude.{◌≡◌, ◌==◌, ◌<◌, ◌≤◌, [], ◌∷◌, length, IfSome};
 ghost use Rattle.std.specs.Option.{option_map_or};
 ghost use Rattle.std.specs.List.{position_or_len, slice_split};

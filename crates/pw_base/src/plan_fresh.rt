@@ -8,7 +8,7 @@ use crate::plan::{Epoch, Fresh, Plan};
 use crate::plan_forms::kind_at;
 use crate::plan_kept::keeps_all;
 
-// Whether a node has an input, and the first one may have so many channels.
+// Whether a node has an input, and the first one may have `channels` channels.
 fn has_first_input(plan: &Plan, node: u32, channels: u32) -> bool
     ensures { IsTrue result ↔ HasFirstInput plan.now node channels }
 {

@@ -12,7 +12,7 @@ pub struct ShapeNode {
     pub targets: Items<u32>,
 }
 
-/// A live link. `delayed` says that it hands on what was made one cycle earlier.
+/// A live link. `delayed` says that it is late: it carries what was made one cycle earlier.
 #[derive(Clone, Copy, Debug, PartialEq, Eq, Drop)]
 pub struct ShapeLink {
     pub from: PortId,

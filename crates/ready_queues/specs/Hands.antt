@@ -1,4 +1,4 @@
--- Hands: what a way has done with the queue of one loop.
+-- Hands: what one way has done with the queue of one loop, as its view of that queue.
 -- Source: this project's own.
 use Rattle.std.specs.Prelude.{ℕ, List, [], ◌∷◌, ◌++◌, true, false}
 use Rattle.ready_queues.specs.declared.hand.Hand.{Hand}

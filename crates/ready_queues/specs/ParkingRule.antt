@@ -8,7 +8,7 @@ use Rattle.ready_queues.specs.declared.parking.Woken.{Woken}
 abbrev pub woken : ℕ → ℕ → Woken
 woken given taken = record { given = given; taken = taken }
 
--- so many tokens more were given, or taken
+-- n tokens more were given, or taken
 abbrev pub given_on : Woken → ℕ → Woken
 given_on w n = woken (w.given + n) w.taken
 

@@ -48,6 +48,6 @@ abbrev pub Stood : Hand → List ℕ → Type 0
 Stood h items = (hands : List Hand) × (k : ℕ) × IsQueue h.owner h.number items hands
     × (get_elem? hands k ≡ some h)
 
--- at one moment, when the way had this hand, the queue held so many numbers
+-- at one moment, when the way had this hand, the queue held n numbers
 abbrev pub HeldAt : ℕ → Hand → Type 0
 HeldAt n h = Held n (Stood h)

@@ -31,7 +31,7 @@ taken_in n owner woke full number =
 abbrev pub pushed_on : Hand → List ℕ → Hand
 pushed_on h nodes = record h { pushed = h.pushed ++ nodes }
 
--- how often a loop is unparked for so many nodes of it, where one loop, or none, is spared
+-- how often a loop is unparked for n nodes of it, where one loop, or none, is spared
 abbrev pub wakes_for : ℕ → ℕ → ℕ → ℕ
 wakes_for spared number n = cond (eqb number spared) 0 n
 

@@ -28,7 +28,7 @@ impl Way {
         self.number
     }
 
-    /// How many numbers it received, and 2^64 - 1 once so many were reached. Takes no memory.
+    /// How many numbers it received; 2^64 - 1 where they are more. Takes no memory.
     pub fn taken(&self) -> u64
         ensures { result ≡ min (received_by self.now.ends.items) (2 ^ 64 - 1) }
     {

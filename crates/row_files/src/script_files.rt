@@ -25,7 +25,7 @@ pub const SINK: [u8; 52] = [
 /// The source, under its name.
 pub const S_WAV: FileRow<'static> = ("s.wav", Held::Bytes(&SOURCE));
 
-/// So many blanks. Nothing is ensured of them, since a list that long is not to be computed in a
+/// `len` blanks. Nothing is ensured of them, since a list that long is not to be computed in a
 /// proof.
 pub fn blanks(alloc: Global, len: usize) -> Result<Items<u8>, Memory> {
     Items::filled(alloc, len, b' ')

@@ -5,7 +5,7 @@ use pw_base::{Items, Memory};
 /// Frames a second.
 const RATE: u32 = 48_000;
 
-/// The numbers before the samples, of which these are so many bytes.
+/// The numbers before the samples, which have `size` bytes.
 fn head(channels: u32, size: u32) -> [u32; 11] {
     let frame = channels.wrapping_mul(2);
     [

@@ -14,7 +14,7 @@ increment = 1442695040888963407
 abbrev pub stepped : ℕ → ℕ
 stepped x = (x * multiplier + increment) % 2 ^ 64
 
--- the state after so many steps from the first one
+-- the state after `count` steps from the first one
 unfoldable pub state_after : ℕ → ℕ → ℕ
 state_after count first = iterate stepped count first
 
@@ -26,7 +26,7 @@ given x n = x / 2 ^ 33 % n
 abbrev pub draw : ℕ → ℕ → ℕ → ℕ
 draw first place n = given (state_after (place + 1) first) n
 
--- a draw as a sample of 16 bits, and the samples of so many draws from a place on
+-- a draw as a sample of 16 bits, and the samples of `count` draws from a place on
 abbrev pub sample_at : ℕ → ℕ → ℤ
 sample_at first place = pos (draw first place 65536) -ℤ pos 32768
 

@@ -52,7 +52,7 @@ impl Draws {
         ((self.state >> 33) % u64::from(n)) as u32
     }
 
-    /// The next draws as samples, so many.
+    /// The next `count` draws as samples.
     pub(crate) fn samples(&mut self, alloc: Global, count: usize) -> Result<Items<i16>, Memory>
         ensures list { IfOk result (λ list. list ≡ samples self.old.state 0 count) }
         ensures state { IfOk result (λ list. self.new.state ≡ state_after count self.old.state) }

@@ -74,7 +74,7 @@ fn clamped(sample: i32) -> i32 {
     sample.clamp(-32768, 32767)
 }
 
-// A chain is added: its source, times the gain in 1/256, so many frames later.
+// A chain is added: its source, times the gain in 1/256, `delay` frames later.
 fn add_chain(sum: &mut [i32], file: &[i32], gain: i32, delay: u32, goes_off: bool) {
     for frame in 0..sum.len() {
         if let Some(before) = frame.checked_sub(delay as usize) {

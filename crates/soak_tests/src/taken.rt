@@ -110,7 +110,7 @@ fn start_one<'s, E, R: Threads + Wait + Sync>(
     }
 }
 
-// Starts each loop in a thread of its own. Without so many threads the run would not end, so the
+// Starts each loop in a thread of its own. Where a start is refused the run would not end, so the
 // process does.
 fn start_all<'s, E, R: Threads + Wait + Sync + Abort>(
     rt: &'s R,

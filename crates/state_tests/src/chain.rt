@@ -74,7 +74,7 @@ fn outputs_of(plan: &Plan, node: u32) -> u32
     }
 }
 
-// Whether a row of so many samples is one of the first output of a node, or is empty.
+// Whether a row of `n` samples is one of the first output of a node, or is empty.
 fn is_row(plan: &Plan, epoch: &Epoch, node: u32, n: usize) -> bool
     ensures { IsTrue result → (row : List ℤ) → length row ≡ n
         → IsOutputRow plan.now epoch.now node 0 row }
@@ -330,7 +330,7 @@ fn through(
     follow(score, plan, at, epoch, 2, 1, row, sink, &mut []).is_some()
 }
 
-// So many epochs, from the first one on.
+// `epochs` epochs, from the first one on.
 fn through_all(
     score: &Score,
     plan: &Plan,
@@ -376,7 +376,7 @@ fn chain_keeps(
     through_all(score, plan, epochs, &mut source, &mut between, &mut sink) && sink.kept() == wanted
 }
 
-/// Whether the sink keeps these samples after so many epochs. False also where the plan is not sound, its waves do not
+/// Whether the sink keeps these samples after `epochs` epochs. False also where the plan is not sound, its waves do not
 /// fit, or it has not three such nodes.
 pub fn keeps(
     alloc: Global,

@@ -107,7 +107,7 @@ fn row_of() -> [i16; WIDE] {
     row
 }
 
-// The kernels of one row on so many samples, over lanes and by their plain twins.
+// The kernels of one row on `n` samples, over lanes and by their plain twins.
 fn gains_and_peaks_agree(n: usize) -> bool
     requires { n ≤ 130 }
 {

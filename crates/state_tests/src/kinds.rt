@@ -145,7 +145,7 @@ fn kinds_follow(alloc: Global, quantum: u32, outcome: &Outcome) -> Result<bool, 
     )
 }
 
-// Whether they do in quanta of so many frames.
+// Whether they do in quanta of `quantum` frames.
 fn all_follow(alloc: Global, quantum: u32) -> Result<bool, Memory>
     requires { IsBetween 1 64 quantum }
 {

@@ -1,4 +1,4 @@
-//! Small sound plans: what their sinks keep, and what their meters hear.
+//! Small sound plans: what their sinks keep, and the peaks of their meters.
 
 use crate::rows::{EpochRow, PlanRow, Sort, outcome_of};
 use pw_base::Memory;
@@ -26,7 +26,7 @@ fn all_keep(outcome: &Outcome, sinks: &[(u32, &[i16])]) -> bool {
     true
 }
 
-// Whether a meter alone has heard something, and this.
+// Whether there is one peak, which is this one of this meter.
 fn hears(outcome: &Outcome, meter: u32, greatest: u32) -> bool {
     match outcome.peaks.as_slice() {
         [peak] => peak.node == meter && peak.value == greatest,
@@ -123,7 +123,7 @@ const EACH_SINK: [(u32, &'static [i16]); 4] = [
     (11, &[150, 150, -150, -150, 150, 150, -150, -150]),
 ];
 
-// Whether each sink keeps its samples, and the meter has heard the greatest one.
+// Whether each sink keeps its samples, and the meter has the greatest possible peak.
 fn gives_its_samples(outcome: &Outcome) -> bool {
     all_keep(outcome, EACH_SINK.as_slice()) && hears(outcome, 10, 32768)
 }

@@ -36,7 +36,8 @@ const ANEW: EpochRow<'static> = EpochRow {
     ..SECOND
 };
 
-/// The second cycle, where the node between is off: the sink hears silence, and what the source gives goes to nobody.
+/// The second cycle, where the node between is off: the sink receives silence, and what the source gives goes to
+/// nobody.
 const RESTS: EpochRow<'static> = EpochRow {
     nodes: &[0, 2],
     links: &[],
@@ -89,7 +90,7 @@ const NAMED_LATER: PlanRow<'static> = PlanRow {
 
 /// Plans, and what their sink keeps.
 const RUNS: [(PlanRow<'static>, &'static [i16]); 7] = [
-    // The gain hears silence. In the second epoch the source gives its first samples.
+    // The gain receives silence. In the second epoch the source gives its first samples.
     (
         PlanRow {
             epochs: &[SOURCE_OFF, SECOND],

@@ -38,7 +38,7 @@ fn second_of(kind: &Kind, n: u32) -> u32
     }
 }
 
-// The channels at the first output, where the node's wave has so many.
+// The channels at the first output, where the node's wave has `wave` and its first input `n`.
 fn left_of(kind: &Kind, wave: u32, n: u32) -> u32
     requires kind { IsInRange kind.now }
     requires wave { wave ≤ 8 }
@@ -67,7 +67,7 @@ fn right_of(kind: &Kind) -> u32
     }
 }
 
-// The samples of so many channels in a quantum.
+// The samples of `channels` channels in a quantum.
 fn width(quantum: u32, channels: u32) -> usize
     requires quantum { quantum ≤ 64 }
     requires channels { channels ≤ 8 }

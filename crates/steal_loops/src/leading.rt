@@ -71,7 +71,7 @@ fn run_epochs<R: Wait, G: Gate, K: Ticker>(
     }
 }
 
-/// All epochs of a plan, by the driver's thread, where so many of the workers were not started. It
+/// All epochs of a plan, by the driver's thread, where `absent` of the workers were not started. It
 /// may wait. Takes no memory.
 pub(crate) fn lead<R: Wait, G: Gate, K: Ticker>(
     rt: &R,

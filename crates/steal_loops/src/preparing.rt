@@ -56,7 +56,7 @@ pub(crate) struct Prepared {
     pub driving: Driving,
 }
 
-/// What a run of a plan by so many workers begins with: boards, cells and queues. Each node that
+/// What a run of a plan by `loops` workers begins with: boards, cells and queues. Each node that
 /// never drives has a cell of its own; a node's number comes to the queue of the worker of its
 /// number, modulo the number of workers.
 pub(crate) fn prepare(

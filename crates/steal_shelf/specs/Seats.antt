@@ -20,7 +20,7 @@ cells_of shelf = shelf.table.shared.key.cells.value
 abbrev pub IsAllowed : Shelf → ℕ → LoopState → Type 0
 IsAllowed shelf i s = (c : LoopState) × (slice_get (cells_of shelf) i ≡ Some c) × IsCell c s
 
--- the token is one of the cell i; it has the turn, with the state in the hand, or not
+-- the token is one of the cell i; it has the turn, and with it the state of the cell, or not
 pub record IsTokenOf (shelf : Shelf) (i : ℕ) (x : Token) : Type 0 where
   pub table : x.seat.table_id ≡ table_of shelf
   pub cell : x.cell ≡ i

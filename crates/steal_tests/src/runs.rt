@@ -11,8 +11,8 @@ use steal_loops::{run_stealing, run_stealing_with};
 use wav_files::Outcome;
 
 /// A run of a work, by a worker for each entry of a choice: whether it is named, and so not
-/// started. Each choice has so many closed boards, and each sink that has a format keeps these
-/// samples.
+/// started. Each choice leaves `boards` closed boards, and each sink that has a format keeps
+/// these samples.
 #[derive(Clone, Copy, Drop)]
 pub(crate) struct RunRow<'a> {
     pub work: WorkRow<'a>,
@@ -104,7 +104,7 @@ fn have_kept(outcome: &Outcome, kept: &[&[i16]]) -> bool {
     true
 }
 
-// Whether a run has so many boards and a legal history, and its sinks keep what they are to keep.
+// Whether a run has the boards of the row and a legal history, and its sinks keep what they are to keep.
 fn has_gone(work: &Work, run: Option<(Outcome, usize)>, row: &RunRow<'_>) -> bool {
     match run {
         Some((outcome, boards)) => {
@@ -129,7 +129,8 @@ fn all_go<R: Threads + Wait + Sync>(rt: &R, alloc: Global, work: &Work, row: &Ru
     true
 }
 
-// Whether they go so where each of so many workers is refused in turn, and none.
+// Whether they go so where the start of worker 0, 1, 2 or 3 is refused, or of none where there is no
+// such worker.
 fn all_go_refused<R: Threads + Wait + Sync>(
     rt: &R,
     alloc: Global,

@@ -23,7 +23,7 @@ pub struct Work {
     pub waves: Items<WavIn>,
 }
 
-// How a plan has a source of so many channels.
+// How a plan has a source of `channels` channels.
 fn silence(channels: u32) -> Silence {
     if channels == 2 {
         Silence::Stereo { frames: 0 }

@@ -38,7 +38,7 @@ pub fn words_of<R: Env + Alloc<A = Global>>(rt: &R) -> Result<Items<String>, u8>
 // The longest word that Linux gives a program, with the byte behind it.
 const LONGEST_WORD: usize = 131_072;
 
-// Whether the word of this number is no text; none where there are not so many words.
+// Whether the word of this number is no text; none where there is no such word.
 fn is_without_text<R: Env>(rt: &R, number: u32, room: &mut [u8]) -> Option<bool> {
     match rt.arg(number as usize, room) {
         Ok(len) => Some(str::from_utf8(&room[..len]).is_err()),

@@ -57,8 +57,8 @@ fn read_more<F: Read>(
     bytes: &mut Items<u8>,
 ) -> Result<usize, FileFail>
     ensures bound { IfOk result (λ n. n ≤ length chunk.old) }
-    // What is appended comes from the front of what the file has left; nothing comes only at its
-    // end.
+    // What is appended comes from the beginning of what the file has left; nothing comes only at
+    // its end.
     ensures more { IfOk result
         (λ n. (length chunk.new ≡ length chunk.old)
         × (bytes.new ≡ bytes.old ++ take n chunk.new)) }

@@ -13,8 +13,8 @@ use Rattle.trace_check.specs.declared.checking.Verdict.TheVariants.{Legal, Illeg
 abbrev pub CanGoOn : List Shape → List Event → Type 0
 CanGoOn shapes events = (more : List Event) × IsLegalHistory shapes (events ++ more)
 
--- PLACE OF THE FIRST ILLEGAL EVENT, of events that are no legal history: the least number from 1 of
--- which so many first events cannot go on to one, or one past the end where they all can
+-- PLACE OF THE FIRST ILLEGAL EVENT, of events that are no legal history: the least n from 1 such
+-- that the first n events cannot go on to one, or one past the end where they all can
 pub record IsFirstIllegal (shapes : List Shape) (events : List Event) (at : ℕ) : Type 0 where
   pub illegal : ¬ IsLegalHistory shapes events
   pub counted : 1 ≤ at

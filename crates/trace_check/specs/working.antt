@@ -1,4 +1,4 @@
--- What the checker of traces works with: node sets, the rule for the next event, fronts of cycles.
+-- What the checker of traces works with: node sets, the rule for the next event, and prefixes.
 -- Source: this project's own.
 pub mod Admitting
 pub mod Fronts

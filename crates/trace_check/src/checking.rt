@@ -22,7 +22,7 @@ pub enum Verdict {
     Illegal { at: u32 },
 }
 
-// What a front of the events says of them all.
+// What a prefix of the events says of them all.
 fn verdict_of(front: Front, count: usize) -> Verdict
     requires within { front_length front ≤ count }
     requires few { count + 1 < 2 ^ 32 }

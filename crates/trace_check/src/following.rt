@@ -13,12 +13,12 @@ use crate::so_far::{after_event, nothing_yet};
 use pw_base::{Epoch, Event, Memory, Shape};
 use std::alloc::Global;
 
-/// A front of a row of events.
+/// A prefix of a row of events.
 #[derive(Clone, Copy, Debug, Drop)]
 pub(crate) enum Front {
-    /// So many first events are all that was looked for.
+    /// The first n events are all that was looked for.
     Whole(usize),
-    /// So many first events can go on, and not one more, or no more are there.
+    /// The first n events can go on, and not one more, or no more are there.
     Part(usize),
 }
 

@@ -1,4 +1,4 @@
--- Chunks of a RIFF WAVE file: a name of four bytes, a size of 32 bits, and so many bytes. Source:
+-- Chunks of a RIFF WAVE file: a name of four bytes, a size of 32 bits, and its bytes. Source:
 -- RIFF WAVE; numbers little-endian.
 use Rattle.std.specs.Prelude.{ℕ, zero, suc, ◌+◌, ◌%◌, ◌&&◌, Bool, nat_lt, nat_le, if◌then◌else◌, List, [], ◌∷◌, length, take, drop}
 use Rattle.std.specs.Prelude.{codes, bytes_eq}
@@ -17,7 +17,7 @@ pub record Chunk : Type 0 where
   pub size : ℕ
   pub body : List ℕ
 
--- the chunk whose head, of eight bytes, is at the front
+-- the chunk whose head, of eight bytes, comes first
 abbrev pub chunk_at : List ℕ → Chunk
 chunk_at bytes = record {
   name = take 4 bytes;
@@ -41,7 +41,7 @@ is_data chunk = bytes_eq chunk.name (codes "data")
 abbrev pub after : Chunk → List ℕ
 after chunk = drop (chunk.size + chunk.size % 2) chunk.body
 
--- the chunks at the front of a row of bytes, up to the first of samples, and at most so many
+-- the chunks that a row of bytes begins with, up to the first of samples, at most a given number
 unfoldable pub first_chunks : ℕ → List ℕ → List Chunk
 first_chunks zero bytes = []
 first_chunks (suc more) bytes =

@@ -67,6 +67,6 @@ form_of chunk =
     else if not (block_align chunk == 2 * (named_form chunk).channels) then Err F.BadFmt
     else Ok (named_form chunk)
 
--- the whole frames at the front of bytes
+-- the whole frames that bytes begin with
 abbrev pub whole_frames : Form → List ℕ → List ℕ
 whole_frames form bytes = take (length bytes - length bytes % (2 * form.channels)) bytes

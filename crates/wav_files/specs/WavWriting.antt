@@ -23,7 +23,7 @@ format_chunk rate channels =
     codes "fmt " ++ u32_bytes 16 ++ u16_bytes 1 ++ u16_bytes channels ++ u32_bytes rate
     ++ u32_bytes (2 * channels * rate) ++ u16_bytes (2 * channels) ++ u16_bytes 16
 
--- the 44 bytes before so many bytes of samples
+-- the 44 bytes before `size` bytes of samples
 abbrev pub wav_header : ℕ → ℕ → ℕ → List ℕ
 wav_header rate channels size =
     codes "RIFF" ++ u32_bytes (36 + size)

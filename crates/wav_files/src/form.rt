@@ -1,6 +1,6 @@
 //! The form of a file's samples.
 
-/// So many frames a second, each of so many samples.
+/// `rate` frames a second, each of `channels` samples.
 #[derive(Clone, Copy, Drop)]
 pub(crate) struct Form {
     pub(crate) rate: u32,

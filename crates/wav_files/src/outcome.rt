@@ -10,7 +10,7 @@ pub struct Kept {
     pub wav: Wav,
 }
 
-/// The greatest absolute value that a meter has heard.
+/// The greatest absolute value that a meter has received.
 #[derive(Clone, Copy, Debug, PartialEq, Eq, Drop)]
 pub struct Peak {
     pub node: u32,

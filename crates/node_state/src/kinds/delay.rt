@@ -1,4 +1,4 @@
-//! A delay keeps its line, the samples that it has heard and not yet given, in a ring.
+//! A delay keeps its line, the samples that it has received and not yet given, in a ring.
 ghost use Rattle.std.specs.Prelude.{◌≡◌, ◌+◌, ◌*◌, ◌<◌, ◌≤◌, ◌++◌, min, length, take, drop, IfOk};
 ghost use Rattle.pw_base.specs.Samples.{silence};
 ghost use Rattle.node_state.specs.Slices.{IsNoneOr};
@@ -10,8 +10,8 @@ use std::alloc::Global;
 use std::marker::Model;
 
 /// A line of `long` frames: the first `size` samples of the ring, from `oldest` round to it. It is
-/// as long as the delay, or as the frames that come in all where these are fewer: in so many frames
-/// a longer line gives nothing but silence either.
+/// as long as the delay, or as all the frames that ever come where these are fewer: in those a
+/// longer line gives nothing but silence either.
 #[derive(Drop)]
 pub(crate) struct DelayState {
     frames: u32,
@@ -175,7 +175,7 @@ impl DelayState {
         self.oldest = pass_line(self.ring.as_mut_slice(), self.size, self.oldest, a, left);
     }
 
-    /// A line of zeros again, of so many channels.
+    /// A line of zeros again, of `channels` channels.
     pub(crate) fn clear(&mut self, channels: u32)
         requires { self.old.long * channels ≤ self.old.room }
         ensures { self.new ≡ record self.old { samples = silence (self.old.long * channels) } }

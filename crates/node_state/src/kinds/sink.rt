@@ -28,7 +28,7 @@ impl Model for SinkState {
 }
 
 impl SinkState {
-    /// An empty stream with room for so many frames.
+    /// An empty stream with room for `frames` frames.
     pub(crate) fn new(alloc: Global, frames: u64, channels: u32) -> Result<SinkState, Memory>
         ensures list { IfOk result (λ s. s.list ≡ []) }
         ensures spare { IfOk result (λ s. frames * channels ≤ s.spare) }

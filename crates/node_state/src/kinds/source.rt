@@ -39,7 +39,7 @@ fn pad(samples: &[i16], to: &mut [i16])
 }
 
 impl SourceState {
-    /// The front of a wave, of at most so many frames, in memory of its own.
+    /// The beginning of a wave, at most `frames` frames, in memory of its own.
     pub(crate) fn new(alloc: Global, wav: &Wav, frames: u64) -> Result<SourceState, Memory>
         ensures channels { IfOk result (λ s. s.channels ≡ wav.now.channels) }
         ensures samples { IfOk result

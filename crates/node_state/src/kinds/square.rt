@@ -6,7 +6,7 @@ ghost use Rattle.pw_base.specs.SoundShape.{IsBetween};
 ghost use Rattle.pw_base.specs.KindRanges.{IsChannels};
 ghost use Rattle.node_state.specs.Slices.{IsNoneOr};
 
-/// The numbers of a square wave. The rate says when a frame is heard; no sample depends on it.
+/// The numbers of a square wave. The rate says when a frame is played; no sample depends on it.
 #[derive(Drop)]
 pub(crate) struct SquareWave {
     pub(crate) rate: u32,
@@ -53,7 +53,7 @@ impl SquareWave {
         if place == self.period { 0 } else { place }
     }
 
-    // Writes so many frames from a place in the period on, run by run.
+    // Writes `frames` frames from a place in the period on, run by run.
     fn write(&self, phase: u32, frames: usize, to: &mut [i16])
         requires phase { phase < self.now.period }
         requires lengths { length to.old ≡ frames * self.now.channels }

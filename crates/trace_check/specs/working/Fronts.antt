@@ -24,7 +24,7 @@ pub record StopAfter (cycles : List (Shape × ℕ)) (events : List Event) (n : �
   pub stops : n < length events → ¬ GoOn cycles (take (n + 1) events)
   pub illegal : ¬ AreJoined cycles events
 
--- how many events a front has
+-- how many events a front, a prefix of them, has
 abbrev pub front_length : Front → ℕ
 front_length (Whole n) = n
 front_length (Part n) = n

@@ -1,5 +1,5 @@
 -- Which event may come next in a cycle, between its Begin and its End, after those so far.
--- Source: PipeWire's documentation, "Graph Scheduling". That these rules give the fronts of legal
+-- Source: PipeWire's documentation, "Graph Scheduling". That these rules give the prefixes of legal
 -- cycles is proved.
 use Rattle.std.specs.Prelude.{◌≡◌, ℕ, ◌<◌, List, length, take, Contains, IsBitSet, slice_index_or}
 use Rattle.pw_base.specs.declared.event.Event.{Event}
