@@ -38,7 +38,7 @@ use Rattle.cycle_model.proofs.SoundPlanLemmas.{sound_is_renderable}
 
 -- SUMS over cycles
 
-range_split : (a m n : ℕ) → range_with_len a (m + n) ≡ range_with_len a m ++ range_with_len (a + m) n
+pub range_split : (a m n : ℕ) → range_with_len a (m + n) ≡ range_with_len a m ++ range_with_len (a + m) n
 range_split a zero n = let first : a ≡ a + zero = omega arith in let many : zero + n ≡ n = omega arith in ap₂ range_with_len first many
 range_split a (suc m) n =
     let many : suc m + n ≡ suc (m + n) = omega arith in

@@ -18,6 +18,9 @@ pub mod LinkLineLemmas
 pub mod NodeLineLemmas
 pub mod UnlinkLineLemmas
 pub mod StepLemmas
+pub mod LeavingLemmas
+pub mod ScriptStreamLemmas
+pub mod StreamEndLemmas
 pub mod StartLemmas
 pub mod SoundPlanLemmas
 pub mod OwnLemmas

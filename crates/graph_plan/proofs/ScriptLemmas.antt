@@ -76,13 +76,13 @@ module _ (script : Script) (ranges : HasRanges script) (has : HasKinds script) w
   module _ (made : NamesMade 0 script.lines) (ports : List Node) (script_ports : AreScriptPorts script.lines ports) (waves : List WavIn)
       (start end : Graph) (starts : IsStart script.lines ports start) (follows : Follows waves start script.lines (Ok end))
       (plan : Plan) (is : IsPlanOf script.names end plan) where
-    good : AreGoodLines 0 (kinds_of script.lines) script.lines
+    pub good : AreGoodLines 0 (kinds_of script.lines) script.lines
     good = record { named = made; lines_of = lines_are }
 
-    first : IsSoundGraph 0 start
+    pub first : IsSoundGraph 0 start
     first = first_sound script.lines ports start ranges.ranges script_ports starts
 
-    ends : EndsSound (kinds_of script.lines) end
+    pub ends : EndsSound (kinds_of script.lines) end
     ends = follows_sound waves (kinds_of script.lines) script.lines 0 start end first starts.kinds good follows
 
     pub is_sound : IsSoundPlan plan
@@ -92,7 +92,7 @@ module _ (script : Script) (ranges : HasRanges script) (has : HasKinds script) w
     is_joined = plan_joins ends.count end ends.sound script.names plan is
 
     -- WAVES
-    kind_is : (n : ℕ) → kind_at plan n ≡ get_or (kinds_of script.lines) n Dummy
+    pub kind_is : (n : ℕ) → kind_at plan n ≡ get_or (kinds_of script.lines) n Dummy
     kind_is n = (like ends.count end ends.sound script.names plan is).kind n ∙ ap (λ (ks : List Kind). get_or ks n Dummy) ends.kinds_are
 
     source_there : (n : ℕ) → kind_at plan n ≡ Source → kind_of ports n ≡ Some Source

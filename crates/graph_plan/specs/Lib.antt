@@ -18,3 +18,4 @@ pub mod Remembering
 pub mod SoundGraph
 pub mod NextEpoch
 pub mod Summing
+pub mod ScriptStreams

@@ -10,6 +10,7 @@ ghost use Rattle.graph_plan.specs.Conditions.{AreLinesOf, AreScriptPorts, HaveWa
 ghost use Rattle.graph_plan.specs.Joining.{JoinsKinds};
 ghost use Rattle.graph_plan.specs.PlanOf.{IsPlanOf};
 ghost use Rattle.graph_plan.specs.Planned.{IsAnswer, IsPlanned};
+ghost use Rattle.graph_plan.specs.ScriptStreams.{HasScriptStreams};
 
 use crate::fault::PlanFault;
 use crate::following::follow;
@@ -101,10 +102,13 @@ pub fn plan(
     requires waves { HaveWaves ports waves.now }
     ensures planned { IsPlanned script.now.lines script.now.names waves.now ports result }
 
-    // What follows from it: the plan is sound, its waves fit, and its lines join outputs to inputs.
+    // What follows from it: the plan is sound, its waves fit, its lines join outputs to inputs, and
+    // its streams are those of the script.
     ensures sound { IfOk result IsSoundPlan }
     ensures fit { IfOk result (λ plan. WavesFit plan waves.now) }
     ensures joins { IfOk result (λ plan. All (JoinsKinds plan) plan.lines) }
+    ensures streams { IfOk result (HasScriptStreams waves.now ports script.now.lines
+        script.now.names) }
 {
     whole_plan(alloc, script, waves, ports)
 }
