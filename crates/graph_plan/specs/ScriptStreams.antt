@@ -38,7 +38,8 @@ begins_after g command cycle n begins =
 
 -- the lines lead from a graph to this end, and by them the node's stream up to a cycle, which would
 -- begin with one cycle, begins with another
-abbrev pub LeadsTo : List WavIn → Graph → List Line → ℕ → ℕ → ℕ → Graph → ℕ → Type 0
+abbrev pub LeadsTo : List WavIn → Graph → List Line → ℕ → ℕ → ℕ → Graph → ℕ
+    → Type 0
 LeadsTo waves g [] cycle n begins end begin = (end ≡ g) × (begin ≡ begins)
 LeadsTo waves g (l ∷ ls) cycle n begins end begin =
     (next : Graph) × Steps waves g l.command T.Done next
