@@ -13,6 +13,11 @@ use Rattle.board_rule.specs.OnBoard.{table_of, layout}
 use Rattle.board_rule.specs.View.{loop_view, driver_view}
 use Rattle.graph_run.specs.Seating.{epoch_board}
 
+-- THE BOARDS of the plan's epochs in order: each has its epoch's shape, with the seats of a seating
+abbrev pub AreBoardsBy : Plan → (ℕ → ℕ) → ℕ → List Board → Type 0
+AreBoardsBy plan f loops boards =
+    map (λ b. b.board_shape) boards ≡ map (epoch_board f loops) plan.epochs
+
 -- a list with room, and one more in it
 abbrev pub dealt : Listed Known × Known → Listed Known
 dealt d = record { list = d.0.list ++ d.1 ∷ []; spare = d.0.spare - 1 }

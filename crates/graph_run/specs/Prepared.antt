@@ -8,8 +8,7 @@ use Rattle.graph_run.specs.declared.shared.Shared.{Shared}
 use Rattle.graph_run.specs.declared.preparing.Prepared.{Prepared}
 use Rattle.graph_run.specs.declared.scope.Crew.{Crew}
 use Rattle.graph_run.specs.Assignment.{loop_of}
-use Rattle.graph_run.specs.Seating.{epoch_board}
-use Rattle.graph_run.specs.Boards.{driver_of}
+use Rattle.graph_run.specs.Boards.{AreBoardsBy, driver_of}
 use Rattle.graph_run.specs.Lists.{AreEmpty, HaveRooms}
 use Rattle.graph_run.specs.Threads.{CanStart, CanDrive, HasNode}
 
@@ -18,8 +17,7 @@ pub record IsPrepared (plan : Plan) (waves : List WavIn) (loops : ℕ)
     (r : Prepared) : Type 0 where
   pub plan_is : r.shared.score.plan.value ≡ plan
   pub waves_are : r.shared.score.waves.value ≡ waves
-  pub shapes : map (λ b. b.board_shape) r.shared.boards
-      ≡ map (epoch_board (loop_of plan loops) loops) plan.epochs
+  pub shapes : AreBoardsBy plan (loop_of plan loops) loops r.shared.boards
   pub drivers : r.driving.drivers
       ≡ map (driver_of plan waves loops) (enumerate_from 0 r.shared.boards)
   pub can_start : All (CanStart r.shared) r.loops

@@ -10,8 +10,7 @@ use Rattle.cycle_model.specs.Expected.{expected_samples}
 use Rattle.graph_run.specs.declared.alone.AloneRun.{AloneRun}
 use Rattle.graph_run.specs.declared.ended.EndedRun.{EndedRun}
 use Rattle.graph_run.specs.Assignment.{loop_of}
-use Rattle.graph_run.specs.Seating.{epoch_board}
-use Rattle.graph_run.specs.Boards.{driver_of}
+use Rattle.graph_run.specs.Boards.{AreBoardsBy, driver_of}
 use Rattle.graph_run.specs.Closing.{HasEnded}
 use Rattle.graph_run.specs.Leads.{checks_of}
 use Rattle.graph_run.specs.Outcomes.{AreDone}
@@ -24,8 +23,7 @@ pub record IsAloneRun (plan : Plan) (waves : List WavIn) (r : AloneRun) : Type 0
   pub sound : IsSoundPlan plan
   pub plan_is : r.shared.score.plan.value ≡ plan
   pub waves_are : r.shared.score.waves.value ≡ waves
-  pub shapes : map (λ b. b.board_shape) r.shared.boards
-      ≡ map (epoch_board (loop_of plan 0) 0) plan.epochs
+  pub shapes : AreBoardsBy plan (loop_of plan 0) 0 r.shared.boards
   pub drivers : r.driving.drivers
       ≡ map (driver_of plan waves 0) (enumerate_from 0 r.shared.boards)
   pub can_drive : CanDrive r.shared r.driving
@@ -56,8 +54,7 @@ pub record IsEndedRun (plan : Plan) (waves : List WavIn) (e : EndedRun) : Type 0
 
 -- its boards have the seats of a seating of so many loops
 abbrev pub HasBoardsBy : Plan → (ℕ → ℕ) → ℕ → EndedRun → Type 0
-HasBoardsBy plan f loops e =
-    map (λ b. b.board_shape) e.boards ≡ map (epoch_board f loops) plan.epochs
+HasBoardsBy plan f loops e = AreBoardsBy plan f loops e.boards
 
 -- the run of one thread has ended, on its own boards and without a check
 pub record HasRunAlone (r : AloneRun) (e : EndedRun) : Type 0 where

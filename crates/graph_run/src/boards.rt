@@ -4,9 +4,9 @@ ghost use Rattle.pw_base.specs.SoundPlan.{IsSoundPlan};
 ghost use Rattle.cycle_model.specs.WavesFit.{WavesFit};
 ghost use Rattle.cycle_model.specs.Expected.{IsShort, AreShort, expected_samples};
 ghost use Rattle.std.specs.List.{enumerate_from, range_with_len};
-ghost use Rattle.graph_run.specs.Seating.{IsSeatingOf, epoch_board, holder_of};
+ghost use Rattle.graph_run.specs.Seating.{IsSeatingOf, holder_of};
 ghost use Rattle.node_progress.specs.declared.score.Score.{Score};
-ghost use Rattle.graph_run.specs.Boards.{IsBoardMade, dealt, driver_of, all_seats};
+ghost use Rattle.graph_run.specs.Boards.{AreBoardsBy, IsBoardMade, dealt, driver_of, all_seats};
 ghost use Rattle.graph_run.specs.LoopsOnPlan.{AreFirstLeads};
 
 use crate::seating::{Seating, seat_row};
@@ -126,8 +126,8 @@ pub fn boards_of(
     requires sound { IsSoundPlan plan.now }
     requires fit { WavesFit plan.now waves.now }
     requires seating { IsSeatingOf plan.now seating.now }
-    ensures shapes { IfOk result (λ all. map (λ b. b.board_shape) all.boards
-        ≡ map (epoch_board (holder_of seating.now) seating.now.loops) plan.now.epochs) }
+    ensures shapes { IfOk result (λ all.
+        AreBoardsBy plan.now (holder_of seating.now) seating.now.loops all.boards) }
     ensures drivers { IfOk result (λ all. all.drivers
         ≡ map (driver_of plan.now waves.now seating.now.loops) (enumerate_from 0 all.boards)) }
     ensures seats { IfOk result (λ all. map (λ row. row.list) all.seats.items

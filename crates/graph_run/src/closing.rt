@@ -1,10 +1,9 @@
 //! The end of all boards of a run.
 ghost use Rattle.std.specs.Prelude.{◌≡◌, ◌≤◌, ◌+◌, ◌++◌, [], length, map, sum_by, count_by};
-ghost use Rattle.std.specs.List.{AllZip, flat_map};
-ghost use Rattle.pw_base.specs.Layout.{event_count};
-ghost use Rattle.pw_base.specs.History.{is_tick, IsLegalHistory};
+ghost use Rattle.std.specs.List.{AllZip};
+ghost use Rattle.pw_base.specs.History.{is_tick};
 ghost use Rattle.board_rule.specs.events.Closing.{expected};
-ghost use Rattle.graph_run.specs.Closing.{HasEnded};
+ghost use Rattle.graph_run.specs.Closing.{HasEnded, events_on, AreClosedOf, events_in, IsLegalOn};
 
 use board_rule::{Board, Closed, DriverSeat};
 use pw_base::{Event, Items, Room};
@@ -39,13 +38,13 @@ pub fn close_all(
     requires ended { AllZip HasEnded boards drivers }
     requires empty { (closed.list ≡ []) × (history.list ≡ []) }
     requires room { length boards ≤ closed.spare }
-    requires events { sum_by (λ b. event_count b.board_shape.shape) boards ≤ history.spare }
-    ensures shapes { map (λ x. x.board_shape) result.closed ≡ map (λ b. b.board_shape) boards }
+    requires events { events_on boards ≤ history.spare }
+    ensures shapes { AreClosedOf boards result.closed }
     ensures expect { map expected result.closed ≡ map (λ s. s.knows.expect) drivers }
     // The events of the boards one after the other are a legal history of their epochs, with a
     // Tick for each check.
-    ensures history { result.history ≡ flat_map (λ x. x.events) result.closed }
-    ensures legal { IsLegalHistory (map (λ b. b.board_shape.shape) boards) result.history }
+    ensures history { result.history ≡ events_in result.closed }
+    ensures legal { IsLegalOn boards result.history }
     ensures ticks { count_by is_tick result.history
         ≡ sum_by (λ s. s.knows.lead.checks) drivers }
 {

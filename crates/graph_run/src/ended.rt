@@ -1,15 +1,14 @@
 //! A run after its last cycle, and what it answers.
-ghost use Rattle.std.specs.Prelude.{◌≡◌, ◌≤◌, ℕ, All, length, map, sum_by, count_by};
-ghost use Rattle.std.specs.List.{AllZip, flat_map};
-ghost use Rattle.pw_base.specs.History.{is_tick, IsLegalHistory};
-ghost use Rattle.pw_base.specs.Layout.{event_count};
+ghost use Rattle.std.specs.Prelude.{◌≡◌, ◌≤◌, ℕ, All, length, map, count_by};
+ghost use Rattle.std.specs.List.{AllZip};
+ghost use Rattle.pw_base.specs.History.{is_tick};
 ghost use Rattle.pw_base.specs.Limits.{dummy_node};
 ghost use Rattle.pw_base.specs.SoundPlan.{IsSoundPlan};
 ghost use Rattle.wav_files.specs.WavWriting.{IsWave};
 ghost use Rattle.cycle_model.specs.Rendering.{rendered_sinks, rendered_peaks};
 ghost use Rattle.cycle_model.specs.WavesFit.{WavesFit};
 ghost use Rattle.board_rule.specs.events.Closing.{expected};
-ghost use Rattle.graph_run.specs.Closing.{HasEnded};
+ghost use Rattle.graph_run.specs.Closing.{HasEnded, events_on, AreClosedOf, events_in, IsLegalOn};
 ghost use Rattle.graph_run.specs.Leads.{checks_of};
 ghost use Rattle.graph_run.specs.Outcomes.{AreDone};
 ghost use Rattle.graph_run.specs.PlanRun.{IsRunOf};
@@ -69,16 +68,13 @@ fn answer(
     requires ended { AllZip HasEnded ended.boards ended.drivers }
     requires rooms { AreRooms plan.now ended.rooms }
     requires closed { length ended.boards ≤ ended.rooms.closed.spare }
-    requires events { sum_by (λ b. event_count b.board_shape.shape) ended.boards
-        ≤ ended.rooms.history.spare }
+    requires events { events_on ended.boards ≤ ended.rooms.history.spare }
     ensures sinks { result.0.sinks ≡ rendered_sinks plan.now waves.now }
     ensures peaks { result.0.peaks ≡ rendered_peaks plan.now waves.now }
-    ensures shapes { map (λ x. x.board_shape) result.1
-        ≡ map (λ b. b.board_shape) ended.boards }
+    ensures shapes { AreClosedOf ended.boards result.1 }
     ensures expect { map expected result.1 ≡ map (λ s. s.knows.expect) ended.drivers }
-    ensures history { result.0.history ≡ flat_map (λ x. x.events) result.1 }
-    ensures legal { IsLegalHistory (map (λ b. b.board_shape.shape) ended.boards)
-        result.0.history }
+    ensures history { result.0.history ≡ events_in result.1 }
+    ensures legal { IsLegalOn ended.boards result.0.history }
     ensures ticks { count_by is_tick result.0.history ≡ checks_of ended.drivers }
 {
     let _ = waves;

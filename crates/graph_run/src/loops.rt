@@ -1,14 +1,11 @@
 //! The loops of a run.
-ghost use Rattle.std.specs.Prelude.{◌≡◌, ◌≤◌, ◌+◌, All, IfOk, List, length, map};
+ghost use Rattle.std.specs.Prelude.{◌≡◌, ◌≤◌, ◌+◌, All, IfOk, length, map};
 ghost use Rattle.pw_base.specs.SoundPlan.{IsSoundPlan};
 ghost use Rattle.cycle_model.specs.WavesFit.{WavesFit};
-ghost use Rattle.board_rule.specs.declared.board.Board.{Board};
 ghost use Rattle.data_loop.specs.LoopStart.{IsLoopOf};
 ghost use Rattle.data_loop.specs.Loops.{IsBetweenEpochs};
-ghost use Rattle.graph_run.specs.Boards.{all_seats};
-ghost use Rattle.graph_run.specs.Loops.{AreLoopsOf};
-ghost use Rattle.graph_run.specs.LoopsOnPlan.{AreReady};
-ghost use Rattle.graph_run.specs.Seating.{IsSeatingOf, epoch_board, holder_of, nodes_of_loop};
+ghost use Rattle.graph_run.specs.Loops.{AreLoopsOf, AreReadyOnBoards};
+ghost use Rattle.graph_run.specs.Seating.{IsSeatingOf, holder_of, nodes_of_loop};
 
 use crate::seating::{Seating, nodes_of_loop};
 use board_rule::LoopSeat;
@@ -61,12 +58,8 @@ pub fn loops_of(
         (map (λ row. row.list) seats.items)) }
     // With the seats of the plan's boards, each loop is ready to run on them, and the driver's own
     // alone has the drivers.
-    ensures ready { IfOk result (λ states. (boards : List Board)
-        → map (λ b. b.board_shape) boards
-        ≡ map (epoch_board (holder_of seating.now) seating.now.loops) plan.now.epochs
-        → map (λ row. row.list) seats.items
-        ≡ all_seats plan.now waves.now seating.now.loops boards
-        → AreReady boards seating.now.loops states) }
+    ensures ready { IfOk result
+        (AreReadyOnBoards plan.now waves.now seating.now (map (λ row. row.list) seats.items)) }
 {
     let mut states = Items::new(alloc);
     let mut which = 0;

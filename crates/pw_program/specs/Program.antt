@@ -1,25 +1,21 @@
 -- What the program does with the words of its command line: the answer of its run, and a sentence
 -- or notes on the error output. Source: this project's own.
 use Rattle.std.specs.Prelude.{◌≡◌, ◌⊎◌, ℕ, List, Option}
-use Rattle.pw_base.specs.Files.{Names, Held}
+use Rattle.pw_base.specs.Files.{Held}
 use Rattle.pw_base.specs.Output.{Given}
 use Rattle.pw_top.specs.declared.status.Status.{Status}
-use Rattle.pw_top.specs.Answer.{Answer}
-use Rattle.pw_top.specs.CommandLine.{IsAnswer}
 use Rattle.pw_top.specs.Following.{GaveLine}
-use Rattle.pw_top.specs.Playing.{Happened, PlayFollows}
+use Rattle.pw_top.specs.Headline.{IsTold}
+use Rattle.pw_top.specs.Outside.{Outside}
+use Rattle.pw_top.specs.Playing.{Happened}
+use Rattle.pw_top.specs.Usage.{Words}
 use Rattle.fault_messages.specs.Explaining.{explained}
 use Rattle.fault_messages.specs.Places.{word}
 use Rattle.first_load.specs.FirstLoad.{IsReadOf}
 
--- some answer to the words, by what happened in a run, is followed as the status says
-pub record IsFollowed (words : List (List ℕ)) (names : Names) (follows : Answer → Type 0)
-    (status : Status) : Type 0 where
-  pub happened : Happened
-  pub answer : Answer
-  pub allowed : IsAnswer words happened names answer
-  pub followed : follows answer
-  pub played : PlayFollows answer.outcome happened status
+-- some run happened, of which this is told: there is an answer that files, output and status follow
+abbrev pub IsToldOf : Words → Outside → Outside → Status → Type 0
+IsToldOf words before now status = (h : Happened) × IsTold words before now h status
 
 -- the word that names the script
 abbrev pub script_name : List (List ℕ) → List ℕ

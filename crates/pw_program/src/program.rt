@@ -1,12 +1,12 @@
 //! What the program does.
-ghost use Rattle.std.specs.Prelude.{◌≡◌, IsSome, map, string_bytes};
-ghost use Rattle.pw_base.specs.Files.{names_in};
-ghost use Rattle.pw_top.specs.Headline.{Follows, Caused, IsUsage};
+ghost use Rattle.std.specs.Prelude.{◌≡◌, map, string_bytes};
+ghost use Rattle.pw_top.specs.FaultCauses.{Caused, IsUsage};
+ghost use Rattle.pw_top.specs.Outside.{outside};
 ghost use Rattle.pw_top.specs.StatusLine.{status_number};
 ghost use Rattle.pw_top.specs.Usage.{command_of};
 ghost use Rattle.fault_messages.specs.Explaining.{explained};
 ghost use Rattle.kept_output.specs.KeptOutput.{IsTied};
-ghost use Rattle.pw_program.specs.Program.{IsFollowed, IsSaid, HasSaid};
+ghost use Rattle.pw_program.specs.Program.{IsToldOf, IsSaid, HasSaid};
 
 use crate::ended::{Ended, Ran};
 use crate::running::run_kept;
@@ -63,13 +63,10 @@ pub fn run_program<R: Threads + Wait + Sync, F: Files, O: Sink, E: Sink>(
     errors: &mut E,
 ) -> Ended<F, O>
     // The answer of the top call: files and output by the status, where they are told.
-    ensures told { IsSome (F.held files) → IsFollowed (map string_bytes words.now)
-        (names_in (F.held files)) (λ a. Follows a (F.store_faults files)
-        (F.store_faults result.files) (O.faults out) (O.faults result.out) (F.held files)
-        (F.held result.files) (O.given out) (O.given result.out) result.status) result.status }
-    ensures cause { Caused (F.load_faults files) (F.load_faults result.files)
-        (F.store_faults files) (F.store_faults result.files) (O.faults out)
-        (O.faults result.out) result.status }
+    ensures told { IsToldOf (map string_bytes words.now) (outside F.Files O.Sink files out)
+        (outside F.Files O.Sink result.files result.out) result.status }
+    ensures cause { Caused (outside F.Files O.Sink files out)
+        (outside F.Files O.Sink result.files result.out) result.status }
     ensures usage { IsUsage (command_of (map string_bytes words.now)) result.status }
     ensures code { result.code ≡ status_number result.status }
 

@@ -1,12 +1,12 @@
 //! The top call, over files that keep what the run loaded first, and an output that keeps what it
 //! put.
-ghost use Rattle.std.specs.Prelude.{◌≡◌, IsSome, map, string_bytes};
-ghost use Rattle.pw_base.specs.Files.{names_in};
-ghost use Rattle.pw_top.specs.Headline.{Follows, Caused, IsUsage};
+ghost use Rattle.std.specs.Prelude.{◌≡◌, map, string_bytes};
+ghost use Rattle.pw_top.specs.FaultCauses.{Caused, IsUsage};
+ghost use Rattle.pw_top.specs.Outside.{outside};
 ghost use Rattle.pw_top.specs.Usage.{command_of};
 ghost use Rattle.first_load.specs.FirstLoad.{IsReadOf};
 ghost use Rattle.kept_output.specs.KeptOutput.{IsTied};
-ghost use Rattle.pw_program.specs.Program.{IsFollowed, script_name};
+ghost use Rattle.pw_program.specs.Program.{IsToldOf, script_name};
 
 use crate::ended::Ran;
 use first_load::{Begun, FirstLoad};
@@ -54,13 +54,11 @@ fn run_status<R: Threads + Wait + Sync, F: Files, O: Sink, T: Ticker>(
     out: &mut O,
     ticker: &mut T,
 ) -> Status
-    ensures told { IsSome (F.held files.old) → IsFollowed (map string_bytes words.now)
-        (names_in (F.held files.old)) (λ a. Follows a (F.store_faults files.old)
-        (F.store_faults files.new) (O.faults out.old) (O.faults out.new) (F.held files.old)
-        (F.held files.new) (O.given out.old) (O.given out.new) result) result }
-    ensures cause { Caused (F.load_faults files.old) (F.load_faults files.new)
-        (F.store_faults files.old) (F.store_faults files.new) (O.faults out.old)
-        (O.faults out.new) result }
+    ensures told { IsToldOf (map string_bytes words.now)
+        (outside F.Files O.Sink files.old out.old) (outside F.Files O.Sink files.new out.new)
+        result }
+    ensures cause { Caused (outside F.Files O.Sink files.old out.old)
+        (outside F.Files O.Sink files.new out.new) result }
     ensures usage { IsUsage (command_of (map string_bytes words.now)) result }
 {
     let report = run_words(rt, alloc, words, files, out, &Open::new(), ticker);
@@ -78,13 +76,10 @@ fn run_by<R: Threads + Wait + Sync, F: Files, O: Sink, K: Begun, S: Started, T: 
 ) -> Ran<F, O>
     requires begun { K.begun ≡ F.held files }
     requires started { S.started ≡ O.given out }
-    ensures told { IsSome (F.held files) → IsFollowed (map string_bytes words.now)
-        (names_in (F.held files)) (λ a. Follows a (F.store_faults files)
-        (F.store_faults result.files) (O.faults out) (O.faults result.out) (F.held files)
-        (F.held result.files) (O.given out) (O.given result.out) result.status) result.status }
-    ensures cause { Caused (F.load_faults files) (F.load_faults result.files)
-        (F.store_faults files) (F.store_faults result.files) (O.faults out)
-        (O.faults result.out) result.status }
+    ensures told { IsToldOf (map string_bytes words.now) (outside F.Files O.Sink files out)
+        (outside F.Files O.Sink result.files result.out) result.status }
+    ensures cause { Caused (outside F.Files O.Sink files out)
+        (outside F.Files O.Sink result.files result.out) result.status }
     ensures usage { IsUsage (command_of (map string_bytes words.now)) result.status }
     ensures script { IsReadOf (F.held files) (script_name (map string_bytes words.now))
         result.script }
@@ -112,13 +107,10 @@ pub(crate) fn run_kept<R: Threads + Wait + Sync, F: Files, O: Sink>(
     files: F,
     out: O,
 ) -> Ran<F, O>
-    ensures told { IsSome (F.held files) → IsFollowed (map string_bytes words.now)
-        (names_in (F.held files)) (λ a. Follows a (F.store_faults files)
-        (F.store_faults result.files) (O.faults out) (O.faults result.out) (F.held files)
-        (F.held result.files) (O.given out) (O.given result.out) result.status) result.status }
-    ensures cause { Caused (F.load_faults files) (F.load_faults result.files)
-        (F.store_faults files) (F.store_faults result.files) (O.faults out)
-        (O.faults result.out) result.status }
+    ensures told { IsToldOf (map string_bytes words.now) (outside F.Files O.Sink files out)
+        (outside F.Files O.Sink result.files result.out) result.status }
+    ensures cause { Caused (outside F.Files O.Sink files out)
+        (outside F.Files O.Sink result.files result.out) result.status }
     ensures usage { IsUsage (command_of (map string_bytes words.now)) result.status }
     ensures script { IsReadOf (F.held files) (script_name (map string_bytes words.now))
         result.script }

@@ -9,9 +9,15 @@ use Rattle.pw_top.specs.declared.status.Status.TheVariants as S
 use Rattle.pw_top.specs.declared.work.Work.{Work}
 use Rattle.pw_top.specs.Answer.{Answer}
 use Rattle.pw_top.specs.Following.{status_of, stores_of, stored_all, text_of, AllStored, CutAt, GaveLine}
-use Rattle.pw_top.specs.Headline.{Follows, Caused}
+use Rattle.pw_top.specs.FaultCauses.{Caused}
+use Rattle.pw_top.specs.Headline.{Follows}
+use Rattle.pw_top.specs.Outside.{Outside}
 use Rattle.pw_top.specs.StatusLine.{line_of}
 use Rattle.pw_top.specs.Surely.{output_of, IsDone, IsCutShort, EndsSurely}
+
+-- what objects that never fail show
+abbrev pub sure : Names → List ℕ → Outside
+sure names given = record { held = Some names; given = Some given; load_faults = 0; store_faults = 0; put_faults = 0 }
 
 some_is : {T : Type 0} {x y : T} → Some x ≡ Some y → x ≡ y
 some_is {x = x} e = ap (λ o. unwrap_or o x) e
@@ -79,8 +85,8 @@ module _ (a : Answer) (names names' : Names) (given given' : List ℕ) where
         (subst (λ (m : Given). (Some given' ≡ m) ⊎ GaveLine (line_of S.Memory) 0 0 m (Some given')) text.1.1 text.2);
   }
 
-  pub ends : (status : Status) → Follows a 0 0 0 0 (Some names) (Some names') (Some given) (Some given') status
-      → Caused 0 0 0 0 0 0 status → EndsSurely a names names' given given' status
+  pub ends : (status : Status) → Follows a (sure names given) (sure names' given') status
+      → Caused (sure names given) (sure names' given') status → EndsSurely a names names' given given' status
   ends S.Ok f c = inl (record {
     status_is = sym f.stop;
     files = some_is f.files;

@@ -1,25 +1,18 @@
--- The headline: an answer is followed to its end, or as far as the status says; and each fault has
--- its cause.
-use Rattle.std.specs.Prelude.{◌≡◌, ◌≢◌, ◌⊎◌, ℕ, Result, Err}
-use Rattle.pw_base.specs.Files.{Held}
-use Rattle.pw_base.specs.Output.{Given}
-use Rattle.pw_base.specs.Causes.{Rose}
+-- THE HEADLINE: the words have an answer, which is followed to its end, or as far as the status
+-- says.
+-- Source: this project's own.
+use Rattle.std.specs.Prelude.{◌≡◌, ◌⊎◌, ℕ, IsSome}
+use Rattle.pw_base.specs.Files.{names_in}
 use Rattle.pw_top.specs.declared.top.Report.{Report}
 use Rattle.pw_top.specs.declared.status.Status.{Status}
 use Rattle.pw_top.specs.declared.status.Status.TheVariants as S
-use Rattle.pw_top.specs.declared.usage.CommandLine.{CommandLine}
 use Rattle.pw_top.specs.Answer.{Answer}
-use Rattle.pw_top.specs.Playing.{Happened}
-use Rattle.pw_top.specs.Following.{stores_of, text_of, StatusFollows, FilesFollow, TextFollows}
-
--- what the status says of the answer, of the files and of the text holds; the numbers are counts of
--- faults, before and after
-pub record Follows (a : Answer) (stores stores' puts puts' : ℕ) (held held' : Held)
-    (given given' : Given)
-    (status : Status) : Type 0 where
-  pub stop : StatusFollows a status
-  pub files : FilesFollow (stores_of a.outcome) stores stores' held held' status
-  pub text : TextFollows (text_of a.outcome) puts puts' given given' status
+use Rattle.pw_top.specs.CommandLine.{IsAnswer}
+use Rattle.pw_top.specs.FaultCauses.{HadNoFault}
+use Rattle.pw_top.specs.Following.{status_of, stores_of, text_of, StatusFollows, FilesFollow, TextFollows}
+use Rattle.pw_top.specs.Outside.{Outside}
+use Rattle.pw_top.specs.Playing.{Happened, PlayFollows}
+use Rattle.pw_top.specs.Usage.{Words}
 
 -- what a report says that happened, between two counts of the ticker
 abbrev pub reported : Report → ℕ → ℕ → Happened
@@ -30,17 +23,25 @@ reported report before now = record {
   now = now;
 }
 
--- the causes outside, whether the files are told or not
-abbrev pub Caused : ℕ → ℕ → ℕ → ℕ → ℕ → ℕ → Status → Type 0
-Caused loads loads' stores stores' puts puts' (S.ReadFault place) = Rose loads loads'
-Caused loads loads' stores stores' puts puts' (S.WriteFault place) =
-    (place ≡ 0 → Rose puts puts')
-    × (place ≢ 0 → Rose stores stores')
-Caused loads loads' stores stores' puts puts' _ = Unit {0}
+-- what the status says of the answer, of the files and of the text holds
+pub record Follows (a : Answer) (before now : Outside) (status : Status) : Type 0 where
+  pub stop : StatusFollows a status
+  pub files : FilesFollow (stores_of a.outcome) before.store_faults now.store_faults
+      before.held now.held status
+  pub text : TextFollows (text_of a.outcome) before.put_faults now.put_faults
+      before.given now.given status
 
--- Usage comes exactly where the words are not in the grammar, with the same word; or memory was
--- short
-pub record IsUsage (expected : Result CommandLine Status) (status : Status) : Type 0 where
-  pub only : (word : ℕ) → status ≡ S.Usage word → expected ≡ Err (S.Usage word)
-  pub always : (word : ℕ) → expected ≡ Err (S.Usage word)
-      → (status ≡ S.Usage word) ⊎ (status ≡ S.Memory)
+-- TOLD: where the files tell what they hold, there is an answer that is expected of the words, by
+-- what happened and by what is held; files, output and status follow it; and so does the run
+abbrev pub IsTold : Words → Outside → Outside → Happened → Status → Type 0
+IsTold words before now h status = IsSome before.held → (a : Answer)
+    × IsAnswer words h (names_in before.held) a
+    × Follows a before now status
+    × PlayFollows a.outcome h status
+
+-- COMPLETE: where besides no fault was counted, the status is that of an expected answer, or memory
+-- was short
+abbrev pub IsComplete : Words → Outside → Outside → Happened → Status → Type 0
+IsComplete words before now h status = IsSome before.held → HadNoFault before now → (a : Answer)
+    × IsAnswer words h (names_in before.held) a
+    × ((status ≡ status_of a.outcome) ⊎ (status ≡ S.Memory))

@@ -7,6 +7,7 @@ pub mod Crews
 pub mod Delivery
 pub mod Dump
 pub mod Ending
+pub mod FaultCauses
 pub mod Filter
 pub mod Following
 pub mod FormatFile
@@ -18,6 +19,7 @@ pub mod Loads
 pub mod Narrowing
 pub mod OneAnswer
 pub mod Options
+pub mod Outside
 pub mod PartsAlone
 pub mod PlannedWork
 pub mod Playing

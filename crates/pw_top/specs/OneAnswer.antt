@@ -3,13 +3,18 @@
 use Rattle.std.specs.Prelude.{◌≡◌, ◌⊎◌, Bool, true, false, List, Some, Result, Ok, Err}
 use Rattle.pw_base.specs.declared.event.Event.{Event}
 use Rattle.pw_base.specs.declared.plan.Plan.{Plan}
+use Rattle.pw_base.specs.Files.{Names}
 use Rattle.wav_files.specs.declared.outcome.Outcome.{Outcome}
 use Rattle.cycle_trace.specs.RunText.{run_text_of}
 use Rattle.pw_top.specs.declared.status.Status.{Status}
+use Rattle.pw_top.specs.declared.status.Status.TheVariants as S
 use Rattle.pw_top.specs.declared.usage.CommandLine.{CommandLine}
 use Rattle.pw_top.specs.declared.usage.CommandLine.TheVariants as C
 use Rattle.pw_top.specs.declared.work.Work.{Work}
 use Rattle.pw_top.specs.Answer.{Answer}
+use Rattle.pw_top.specs.CommandLine.{IsAnswer}
+use Rattle.pw_top.specs.Playing.{Happened}
+use Rattle.pw_top.specs.Usage.{Words, command_of}
 
 -- event lines are wanted
 abbrev pub is_traced : Result CommandLine Status → Bool
@@ -32,3 +37,11 @@ abbrev pub AreAlike : Bool → Answer → Answer → Type 0
 AreAlike false a b = a ≡ b
 AreAlike true a b = (a ≡ b) ⊎ ((a.loads ≡ b.loads) × (v : Work) × (w : Work)
     × (a.outcome ≡ Ok v) × (b.outcome ≡ Ok w) × DifferInEvents v w)
+
+-- THE ORDER SHOWS IN EVENTS ALONE: whatever happened in two calls with these words on the same
+-- files, their answers, where memory was not short, are alike
+abbrev pub OrderShowsInEventsAlone : Words → Type 0
+OrderShowsInEventsAlone words = (names : Names) (h k : Happened) (a b : Answer)
+    → IsAnswer words h names a → IsAnswer words k names b
+    → ¬ (a.outcome ≡ Err S.Memory) → ¬ (b.outcome ≡ Err S.Memory)
+    → AreAlike (is_traced (command_of words)) a b

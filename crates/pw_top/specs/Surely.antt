@@ -1,12 +1,16 @@
 -- A call over objects that never fail: its answer is followed to its end, but for want of memory.
+-- Source: this project's own.
 use Rattle.std.specs.Prelude.{◌≡◌, ◌⊎◌, ℕ, List, ◌++◌, take, Result, Ok, Err}
 use Rattle.pw_base.specs.Files.{Names}
 use Rattle.pw_top.specs.declared.status.Status.{Status}
 use Rattle.pw_top.specs.declared.status.Status.TheVariants as S
 use Rattle.pw_top.specs.declared.work.Work.{Work}
 use Rattle.pw_top.specs.Answer.{Answer}
+use Rattle.pw_top.specs.CommandLine.{IsAnswer}
 use Rattle.pw_top.specs.Following.{status_of, stores_of, stored_all, text_of}
+use Rattle.pw_top.specs.Playing.{Happened, PlayFollows}
 use Rattle.pw_top.specs.StatusLine.{line_of}
+use Rattle.pw_top.specs.Usage.{Words}
 
 -- what is given at the end: the text, or the line of a refusal
 abbrev pub output_of : Result Work Status → List ℕ
@@ -34,3 +38,12 @@ abbrev pub EndsSurely : Answer → Names → Names → List ℕ → List ℕ →
 EndsSurely a names names' given given' status =
     IsDone a names names' given given' status
     ⊎ ((status ≡ S.Memory) × IsCutShort a names names' given given')
+
+-- TOLD: there is an answer that is expected of the words, by what happened and by what is held; all
+-- of it was done, or memory was short; and so was its run
+abbrev pub IsToldSurely : Words → Names → Names → List ℕ → List ℕ → Happened
+    → Status → Type 0
+IsToldSurely words names names' given given' h status = (a : Answer)
+    × IsAnswer words h names a
+    × EndsSurely a names names' given given' status
+    × PlayFollows a.outcome h status

@@ -1,13 +1,8 @@
 //! The top call over objects in memory that never fail.
-#![tactic(auto, using(crate::proofs::SurelyLemmas::ends))]
-
-ghost use Rattle.std.specs.Prelude.{◌≡◌, ◌≤◌, map, string_bytes};
+ghost use Rattle.std.specs.Prelude.{◌≤◌, map, string_bytes};
 ghost use Rattle.pw_base.specs.InMemory.{sure_names, sure_given};
-ghost use Rattle.pw_top.specs.Answer.{Answer};
-ghost use Rattle.pw_top.specs.CommandLine.{IsAnswer};
 ghost use Rattle.pw_top.specs.Headline.{reported};
-ghost use Rattle.pw_top.specs.Playing.{PlayFollows};
-ghost use Rattle.pw_top.specs.Surely.{EndsSurely};
+ghost use Rattle.pw_top.specs.Surely.{IsToldSurely};
 
 use crate::top::{Report, run_words};
 use pw_base::{Gate, SureFiles, SureSink, Ticker};
@@ -27,13 +22,9 @@ pub fn run_surely<R: Threads + Wait + Sync, G: Gate + Sync, K: Ticker>(
     gate: &G,
     ticker: &mut K,
 ) -> Report
-    ensures told { (a : Answer)
-        × IsAnswer (map string_bytes words.now)
-        (reported result (K.ticks ticker.old) (K.ticks ticker.new)) (sure_names files.old) a
-        × EndsSurely a (sure_names files.old) (sure_names files.new) (sure_given out.old)
-        (sure_given out.new) result.status
-        × PlayFollows a.outcome (reported result (K.ticks ticker.old) (K.ticks ticker.new))
-        result.status }
+    ensures told { IsToldSurely (map string_bytes words.now)
+        (sure_names files.old) (sure_names files.new) (sure_given out.old) (sure_given out.new)
+        (reported result (K.ticks ticker.old) (K.ticks ticker.new)) result.status }
     ensures later { K.ticks ticker.old ≤ K.ticks ticker.new }
 {
     run_words(rt, alloc, words, files, out, gate, ticker)

@@ -1,15 +1,14 @@
 //! The top call.
-ghost use Rattle.std.specs.Prelude.{◌≡◌, ℕ, ◌≤◌, ◌⊎◌, ◌++◌, IsSome, map, string_bytes};
-ghost use Rattle.pw_base.specs.Files.{names_in};
-ghost use Rattle.pw_base.specs.Causes.{Rose};
+ghost use Rattle.std.specs.Prelude.{◌≤◌, map, string_bytes};
 ghost use Rattle.pw_top.specs.Ending.{CommandCause, PrepareCause, IsDeliverable};
-ghost use Rattle.pw_top.specs.Playing.{happened, HasNothing, TellsPlay, PlayFollows};
+ghost use Rattle.pw_top.specs.Playing.{happened, HasNothing, TellsPlay};
 ghost use Rattle.pw_top.specs.Preparing.{LoadsOnly};
 ghost use Rattle.pw_top.specs.Usage.{command_of, HasFewLoops};
-ghost use Rattle.pw_top.specs.Answer.{Answer};
 ghost use Rattle.pw_top.specs.CommandLine.{IsAnswerTo, IsAnswer};
+ghost use Rattle.pw_top.specs.FaultCauses.{Caused, IsUsage};
 ghost use Rattle.pw_top.specs.Following.{status_of};
-ghost use Rattle.pw_top.specs.Headline.{Follows, Caused, IsUsage, reported};
+ghost use Rattle.pw_top.specs.Headline.{IsTold, IsComplete, reported};
+ghost use Rattle.pw_top.specs.Outside.{outside};
 
 use crate::delivering::{deliver, end_line};
 use crate::played::Played;
@@ -120,32 +119,20 @@ pub fn run_words<R: Threads + Wait + Sync, F: Files, O: Sink, G: Gate + Sync, K:
     gate: &G,
     ticker: &mut K,
 ) -> Report
-    // What the status says of the expected answer, of the files, of the text and of the run, where
-    // these are told.
-    ensures told { IsSome (F.held files.old) →
-        (a : Answer) × IsAnswer (map string_bytes words.now)
-        (reported result (K.ticks ticker.old) (K.ticks ticker.new))
-        (names_in (F.held files.old)) a × Follows a
-        (F.store_faults files.old) (F.store_faults files.new) (O.faults out.old) (O.faults out.new)
-        (F.held files.old) (F.held files.new) (O.given out.old) (O.given out.new) result.status
-        × PlayFollows a.outcome (reported result (K.ticks ticker.old) (K.ticks ticker.new))
-        result.status }
+    // An expected answer, which files, text, status and run follow, where the files are told.
+    ensures told { IsTold (map string_bytes words.now)
+        (outside F.Files O.Sink files.old out.old) (outside F.Files O.Sink files.new out.new)
+        (reported result (K.ticks ticker.old) (K.ticks ticker.new)) result.status }
 
-    // Each fault has its cause outside, whether the files are told or not.
-    ensures cause { Caused (F.load_faults files.old) (F.load_faults files.new)
-        (F.store_faults files.old) (F.store_faults files.new) (O.faults out.old)
-        (O.faults out.new) result.status }
+    // Each fault has its cause outside, and Usage in the words, whether the files are told or not.
+    ensures cause { Caused (outside F.Files O.Sink files.old out.old)
+        (outside F.Files O.Sink files.new out.new) result.status }
     ensures usage { IsUsage (command_of (map string_bytes words.now)) result.status }
 
     // Where no count of faults rose, the status is an expected answer's, or memory was short.
-    ensures complete { IsSome (F.held files.old)
-        → ¬ Rose (F.load_faults files.old) (F.load_faults files.new) →
-        ¬ Rose (F.store_faults files.old) (F.store_faults files.new)
-        → ¬ Rose (O.faults out.old) (O.faults out.new) →
-        (a : Answer) × IsAnswer (map string_bytes words.now)
-        (reported result (K.ticks ticker.old) (K.ticks ticker.new))
-        (names_in (F.held files.old)) a ×
-        ((result.status ≡ status_of a.outcome) ⊎ (result.status ≡ Status.Memory)) }
+    ensures complete { IsComplete (map string_bytes words.now)
+        (outside F.Files O.Sink files.old out.old) (outside F.Files O.Sink files.new out.new)
+        (reported result (K.ticks ticker.old) (K.ticks ticker.new)) result.status }
     ensures later { K.ticks ticker.old ≤ K.ticks ticker.new }
 {
     let mut played = Played {

@@ -1,5 +1,6 @@
 use Rattle.std.proofs.Common.{subst, rules}
 use Rattle.pw_top.specs.Delivery.{Delivered}
+use Rattle.pw_top.specs.Outside.{outside}
 use Rattle.pw_top.specs.Playing.{happened}
 use Rattle.pw_top.proofs.HeadlineLemmas.{run_follows, complete}
 use Rattle.pw_top.proofs.PlayingLemmas.{run_played}
@@ -19,10 +20,11 @@ returns-clause-told g c = λ h.
     (g.O.Sink.given c.args.out.now) (g.O.Sink.given c.deliver-delivered.new.out) c.deliver-delivered.result) p.files.stores d1 in
     let e = p.told h in
     let now = happened c.prepare_words-made.new.played (g.K.Ticker.ticks c.args.ticker.now)
-    (g.K.Ticker.ticks c.prepare_words-made.new.ticker) in (
+    (g.K.Ticker.ticks c.prepare_words-made.new.ticker) in
+    let end = outside g.F.Files g.O.Sink c.deliver-delivered.new.files c.end_line-status.new.out in (
       e.answer,
       e.allowed,
-      run_follows e.answer made _ _ _ _ _ _ _ _ _ _ _ _ _ _ c.deliver-delivered.ensures.later_put p.cause e.ends d2
+      run_follows e.answer _ end made _ _ _ _ _ _ c.deliver-delivered.ensures.later_put p.cause e.ends d2
           c.end_line-status.ensures.ends,
       run_played e.answer now _ _ _ _ _ _ _ _ _ _ made _ _ _ _ p.cause e.ends e.played d2 c.end_line-status.ensures.ends,
     )
@@ -31,6 +33,7 @@ pub returns-clause-cause : goal.returns-clause-cause
 returns-clause-cause g c = search (rules)
 
 pub returns-clause-complete : goal.returns-clause-complete
-returns-clause-complete g c = λ h nf ns np.
+returns-clause-complete g c = λ h none.
     let t = returns-clause-told g c h in
-    (t.0, t.1, complete t.0 _ _ _ _ _ _ _ _ _ _ _ t.2 (returns-clause-cause g c) nf ns np)
+    let end = outside g.F.Files g.O.Sink c.deliver-delivered.new.files c.end_line-status.new.out in
+    (t.0, t.1, complete t.0 _ end _ t.2 (returns-clause-cause g c) none)

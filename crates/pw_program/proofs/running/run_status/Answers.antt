@@ -1,0 +1,4 @@
+use Rattle.pw_program.proofs.running.run_status.Goals as goal
+
+pub returns-clause-told : goal.returns-clause-told
+returns-clause-told g c = (_, c.run_words-report.ensures.told)
