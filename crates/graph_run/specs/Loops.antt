@@ -24,8 +24,8 @@ pub record AreLoopsOf (plan : Plan) (waves : List WavIn) (f : ℕ → ℕ)
 
 -- WITH THE SEATS of the plan's boards, each loop is ready to run on them, and the driver's own
 -- alone has the drivers
-abbrev pub AreReadyOnBoards : Plan → List WavIn → Seating → List (List Known) → List LoopState
-    → Type 0
+abbrev pub AreReadyOnBoards : Plan → List WavIn → Seating → List (List Known)
+    → List LoopState → Type 0
 AreReadyOnBoards plan waves seating rows states = (boards : List Board)
     → AreBoardsBy plan (holder_of seating) seating.loops boards
     → rows ≡ all_seats plan waves seating.loops boards
