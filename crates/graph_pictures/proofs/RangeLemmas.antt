@@ -1,5 +1,5 @@
 -- What is drawn for each number below another, one number more.
-use Rattle.std.proofs.Common.{◌≡◌, ℕ, ◌+◌, List, [], ◌∷◌, ◌++◌, flat_map, sym, ap, ◌∙◌, arith, append_assoc, append-nil, map-id}
+use Rattle.std.proofs.Common.{◌≡◌, ℕ, ◌+◌, List, [], ◌∷◌, ◌++◌, map, flat_map, sym, ap, ◌∙◌, arith, append_assoc, append-nil, map-id}
 use Rattle.std.specs.List.{range_with_len}
 use Rattle.std.proofs.lemmas.Grind.{flat_map-append}
 use Rattle.std.proofs.lemmas.List.FromFn.{map-range_with_len_more}
@@ -22,5 +22,11 @@ drawn_more draw old text more ns ms n step before drawn =
 pub range_drawn : (draw : ℕ → List ℕ) (old text more : List ℕ) (n : ℕ) → text ≡ old ++ flat_map draw (range_with_len 0 n)
     → more ≡ text ++ draw n → more ≡ old ++ flat_map draw (range_with_len 0 (n + 1))
 range_drawn draw old text more n before drawn = drawn_more draw old text more _ _ n (range_more n) before drawn
+
+-- a list made from the numbers below another, one number more
+pub range_mapped : {X : Type 0} (f : ℕ → X) (xs ys : List X) (n : ℕ) → xs ≡ map f (range_with_len 0 n)
+    → ys ≡ xs ++ f n ∷ [] → ys ≡ map f (range_with_len 0 (n + 1))
+range_mapped {X} f xs ys n before more =
+    more ∙ ap (λ (r : List X). r ++ f n ∷ []) before ∙ sym (map-range_with_len_more f 0 n n (omega arith))
 
 pub ruleset ranges = (range_drawn)

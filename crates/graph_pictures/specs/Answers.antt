@@ -13,6 +13,7 @@ use Rattle.graph_pictures.specs.GraphText.{graph_text}
 use Rattle.graph_pictures.specs.Reading.{trace_place, trace_bytes_limit, IsUnloaded, IsTold}
 use Rattle.graph_pictures.specs.Reading.{IsScript, IsNoScript}
 use Rattle.graph_pictures.specs.StatusText.{line_of}
+use Rattle.graph_pictures.specs.WaveReading.{IsWavePicture}
 use Rattle.graph_pictures.specs.Words.{request_of}
 
 -- the graph of the script of a file
@@ -40,6 +41,7 @@ pub data IsTimeline (script trace : Option (List ℕ)) (r : Result (List ℕ) St
 abbrev pub IsPicture : Names → Request → Result (List ℕ) Status → Type 0
 IsPicture names (R.Graph script) r = IsGraph (names script) r
 IsPicture names (R.Timeline script trace) r = IsTimeline (names script) (names trace) r
+IsPicture names (R.Wave file) r = IsWavePicture (names file) r
 
 -- THE ANSWER to words; want of memory is free
 pub data IsAnswer (names : Names) (words : List (List ℕ)) (r : Result (List ℕ) Status)

@@ -13,3 +13,9 @@ pub mod Strip
 pub mod Timeline
 pub mod TimelineText
 pub mod Words
+pub mod WaveColumns
+pub mod WaveLanes
+pub mod WaveReading
+pub mod WaveSizes
+pub mod WaveText
+pub mod WaveTicks

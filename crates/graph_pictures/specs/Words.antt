@@ -34,11 +34,18 @@ timeline_of [] = Err (S.Usage 1)
 timeline_of (script ∷ rest) = if is_file_word script then timeline_behind script rest
     else Err (S.Usage 1)
 
+-- the words behind `wave`
+abbrev pub wave_of : List (List ℕ) → Result Request Status
+wave_of [] = Err (S.Usage 1)
+wave_of (file ∷ rest) = if is_file_word file then alone 2 rest (R.Wave file)
+    else Err (S.Usage 1)
+
 -- THE MEANING of the words
 abbrev pub request_of : List (List ℕ) → Result Request Status
 request_of [] = Err (S.Usage 0)
 request_of (name ∷ rest) = if bytes_eq name (codes "graph") then graph_of rest
-    else (if bytes_eq name (codes "timeline") then timeline_of rest else Err (S.Usage 0))
+    else (if bytes_eq name (codes "timeline") then timeline_of rest
+    else (if bytes_eq name (codes "wave") then wave_of rest else Err (S.Usage 0)))
 
 -- the words were read as they should, or memory was short
 abbrev pub IsRead : Result Request Status → Result Request Status → Type 0

@@ -1,7 +1,7 @@
 //! What the files of a request are read as.
 ghost use Rattle.std.specs.Prelude.{◌≡◌, ◌≤◌, ◌∷◌, [], codes, length, IsSome, IfOk};
 ghost use Rattle.pw_base.specs.Files.{names_in};
-ghost use Rattle.pw_base.specs.Limits.{script_bytes_limit};
+ghost use Rattle.pw_base.specs.Limits.{script_bytes_limit, wav_bytes_limit};
 ghost use Rattle.cycle_trace.specs.TraceReading.{AreNames};
 ghost use Rattle.graph_script.specs.Order.{HasOrder};
 ghost use Rattle.graph_script.specs.Ranges.{HasRanges};
@@ -9,19 +9,27 @@ ghost use Rattle.graph_pictures.specs.Filling.{filled};
 ghost use Rattle.graph_pictures.specs.Reading.{IsLoad, ReadsScript, IsTold, ParsesTo};
 ghost use Rattle.graph_pictures.specs.Answers.{IsGraph, ReadsTrace, IsTimeline, IsPicture};
 ghost use Rattle.graph_pictures.specs.Causes.{IsCaused};
+ghost use Rattle.graph_pictures.specs.WaveReading.{DrawsWave, IsWavePicture};
 
 use crate::filling::fill;
 use crate::graph_drawing::graph;
 use crate::status::Status;
 use crate::timeline_drawing::timeline;
+use crate::wave_drawing::wave;
 use crate::words::Request;
 use cycle_trace::{TraceFault, read_events};
 use graph_script::{Script, ScriptFault, parse};
-use pw_base::{FileFail, Files, Items, Loaded, Memory, SCRIPT_BYTES_LIMIT, Text, Which};
+use pw_base::{
+    FileFail, Files, Items, Loaded, Memory, SCRIPT_BYTES_LIMIT, Text, WAV_BYTES_LIMIT, Which,
+};
 use std::alloc::Global;
+use wav_files::{WavFault, read_wav};
 
-/// The place of the script, and that of the trace, which is no line of a script.
+/// The place of the script, that of a WAV file, which is the index of its word, and that of the
+/// trace, which is no line of a script.
 const SCRIPT_PLACE: u32 = 0;
+
+const WAVE_PLACE: u32 = 1;
 
 const TRACE_PLACE: u32 = u32::MAX;
 
@@ -181,6 +189,45 @@ fn read_timeline<F: Files>(
     }
 }
 
+// The picture of the wave that bytes are.
+fn drawn_wave(alloc: Global, bytes: &[u8]) -> Result<Text, Status>
+    requires { length bytes.now ≤ wav_bytes_limit }
+    ensures { DrawsWave bytes.now result }
+{
+    match read_wav(alloc, bytes) {
+        Err(WavFault::Memory) => Err(Status::Memory),
+        Err(why) => Err(Status::Wav {
+            place: WAVE_PLACE,
+            why,
+        }),
+        Ok(wav) => match wave(alloc, &wav) {
+            Ok(text) => Ok(text),
+            Err(_memory) => Err(Status::Memory),
+        },
+    }
+}
+
+// The picture of the wave of a file.
+fn read_wave<F: Files>(alloc: Global, files: &mut F, name: &Text) -> Result<Text, Status>
+    ensures told { IsSome (F.held files.old)
+        → IsWavePicture (names_in (F.held files.old) name.now) result }
+    ensures cause { IsCaused (F.load_faults files.old) (F.load_faults files.new) result }
+    ensures held { F.held files.new ≡ F.held files.old }
+    ensures stores { F.store_faults files.new ≡ F.store_faults files.old }
+{
+    match load(
+        alloc,
+        files,
+        WAVE_PLACE,
+        name,
+        WAV_BYTES_LIMIT,
+        Which::WavBytes,
+    ) {
+        Err(status) => Err(status),
+        Ok(bytes) => drawn_wave(alloc, bytes.as_slice()),
+    }
+}
+
 /// The picture that a request asks for, by the files. A load that fails raises their count.
 pub(crate) fn picture_of<F: Files>(
     alloc: Global,
@@ -196,5 +243,6 @@ pub(crate) fn picture_of<F: Files>(
     match request {
         Request::Graph { script } => read_graph(alloc, files, script),
         Request::Timeline { script, trace } => read_timeline(alloc, files, script, trace),
+        Request::Wave { file } => read_wave(alloc, files, file),
     }
 }

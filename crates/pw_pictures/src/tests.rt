@@ -6,6 +6,7 @@ use pw_base::{Items, Memory, SureFiles, SureSink, Text};
 use std::alloc::Global;
 use std::process::Abort;
 use std::test::Fail;
+use wav_files::WavFault;
 
 // A text of its own.
 fn text(alloc: Global, text: &str) -> Result<Text, Memory> {
@@ -135,6 +136,103 @@ fn a_trace_is_refused_at_its_first_line_that_is_none(rt: HostRuntime) -> Result<
     Ok(())
 }
 
+// What is printed of `wave w`, where `w` holds these bytes, is this text, with this status.
+fn expect_wave<R: AllocGlobal + Abort>(
+    rt: &R,
+    bytes: &[u8],
+    status: Status,
+    wanted: &[u8],
+) -> Result<(), Memory> {
+    let alloc = rt.alloc();
+    let words = words_of(alloc, "wave w")?;
+    let mut files = SureFiles::new(alloc)?;
+    files.add_file(alloc, &text(alloc, "w")?, bytes)?;
+    let mut out = SureSink::new(alloc)?;
+    let ended = print_picture(alloc, words.as_slice(), &mut files, &mut out);
+    assert!(rt; ended == status);
+    assert!(rt; out.bytes().as_slice() == wanted);
+    Ok(())
+}
+
+// Five frames of two channels, at 1,000 a second: 0 100, 16384 -256, -32768 255, 32767 1, -1 2.
+const FIVE: &[u8] =
+    b"RIFF\x38\0\0\0WAVEfmt \x10\0\0\0\x01\0\x02\0\xe8\x03\0\0\xa0\x0f\0\0\x04\0\x10\0\
+    data\x14\0\0\0\0\0\x64\0\0\x40\0\xff\0\x80\xff\0\xff\x7f\x01\0\xff\xff\x02\0";
+
+#[test]
+fn a_wave_shows_the_least_and_the_greatest_sample_of_each_column(
+    rt: HostRuntime,
+) -> Result<(), Fail> {
+    let wanted =
+        b"<svg xmlns='http://www.w3.org/2000/svg' version='1.1' width='1096' height='660'>\n\
+        <style>text{font:12px monospace}.n{text-anchor:end}.m{text-anchor:middle}\n\
+        .t{stroke:gray;stroke-dasharray:1 3}.g{fill:whitesmoke}.z{stroke:silver}\n\
+        .k{fill:red}g{fill:steelblue}</style><path fill='white' d='M0 0H9999V9999H0z'/>\n\
+        <text x='8' y='16'>frames 5, rate 1000, seconds 0.005, channels 2</text>\n\
+        <path class='k' d='M8 26h10v10h-10z'/><text x='24' y='36'>clipped: a sample is 32767 or -32768</text>\
+        <text x='8' y='646'>s</text>\n\
+        <path class='g' d='M48 72h1000v256h-1000z'/><path class='z' d='M48 199h1000'/>\n\
+        <text x='48' y='60'>channel 1</text><text class='n' x='44' y='82'>1</text>\
+        <text class='n' x='44' y='204'>0</text><text class='n' x='44' y='328'>-1</text>\n\
+        <g transform='translate(48,72) scale(200,1)'>\n\
+        <path d='M0 127h1v1h-1z'/>\n\
+        <path d='M1 63h1v1h-1z'/>\n\
+        <path class='k' d='M2 255h1v1h-1zM2 -8h1v6h-1z'/>\n\
+        <path class='k' d='M3 0h1v1h-1zM3 -8h1v6h-1z'/>\n\
+        <path d='M4 128h1v1h-1z'/>\n\
+        </g>\n\
+        <path class='g' d='M48 372h1000v256h-1000z'/><path class='z' d='M48 499h1000'/>\n\
+        <text x='48' y='360'>channel 2</text><text class='n' x='44' y='382'>1</text>\
+        <text class='n' x='44' y='504'>0</text><text class='n' x='44' y='628'>-1</text>\n\
+        <g transform='translate(48,372) scale(200,1)'>\n\
+        <path d='M0 127h1v1h-1z'/>\n\
+        <path d='M1 128h1v1h-1z'/>\n\
+        <path d='M2 127h1v1h-1z'/>\n\
+        <path d='M3 127h1v1h-1z'/>\n\
+        <path d='M4 127h1v1h-1z'/>\n\
+        </g>\n\
+        <path class='t' d='M48 72V628'/><text class='m' x='48' y='646'>0.000</text>\n\
+        <path class='t' d='M248 72V628'/><text class='m' x='248' y='646'>0.001</text>\n\
+        <path class='t' d='M448 72V628'/><text class='m' x='448' y='646'>0.002</text>\n\
+        <path class='t' d='M648 72V628'/><text class='m' x='648' y='646'>0.003</text>\n\
+        <path class='t' d='M848 72V628'/><text class='m' x='848' y='646'>0.004</text>\n\
+        <path class='t' d='M1048 72V628'/><text class='m' x='1048' y='646'>0.005</text>\n\
+        </svg>\n";
+    expect_wave(&rt, FIVE, Status::Ok, wanted)?;
+    Ok(())
+}
+
+#[test]
+fn a_wave_without_frames_has_an_empty_lane(rt: HostRuntime) -> Result<(), Fail> {
+    let empty =
+        b"RIFF\x24\0\0\0WAVEfmt \x10\0\0\0\x01\0\x01\0\xe8\x03\0\0\xd0\x07\0\0\x02\0\x10\0data\0\0\0\0";
+    let wanted =
+        b"<svg xmlns='http://www.w3.org/2000/svg' version='1.1' width='1096' height='360'>\n\
+        <style>text{font:12px monospace}.n{text-anchor:end}.m{text-anchor:middle}\n\
+        .t{stroke:gray;stroke-dasharray:1 3}.g{fill:whitesmoke}.z{stroke:silver}\n\
+        .k{fill:red}g{fill:steelblue}</style><path fill='white' d='M0 0H9999V9999H0z'/>\n\
+        <text x='8' y='16'>frames 0, rate 1000, seconds 0.000, channels 1</text>\n\
+        <path class='k' d='M8 26h10v10h-10z'/><text x='24' y='36'>clipped: a sample is 32767 or -32768</text>\
+        <text x='8' y='346'>s</text>\n\
+        <path class='g' d='M48 72h0v256h-0z'/><path class='z' d='M48 199h0'/>\n\
+        <text x='48' y='60'>channel 1</text><text class='n' x='44' y='82'>1</text>\
+        <text class='n' x='44' y='204'>0</text><text class='n' x='44' y='328'>-1</text>\n\
+        <g transform='translate(48,72) scale(1000,1)'>\n\
+        </g>\n\
+        <path class='t' d='M48 72V328'/><text class='m' x='48' y='346'>0.000</text>\n\
+        </svg>\n";
+    expect_wave(&rt, empty, Status::Ok, wanted)?;
+    Ok(())
+}
+
+#[test]
+fn a_file_that_is_no_wave_is_refused_by_its_fault(rt: HostRuntime) -> Result<(), Fail> {
+    let refused = |why| Status::Wav { place: 1, why };
+    expect_wave(&rt, b"", refused(WavFault::NotRiff), b"wav 1 1\n")?;
+    expect_wave(&rt, &FIVE[..60], refused(WavFault::Truncated), b"wav 1 6\n")?;
+    Ok(())
+}
+
 #[test]
 fn words_and_files_are_refused_by_cause(rt: HostRuntime) -> Result<(), Fail> {
     let usage = |word| Status::Usage { word };
@@ -148,7 +246,11 @@ fn words_and_files_are_refused_by_cause(rt: HostRuntime) -> Result<(), Fail> {
         ("timeline s", usage(2), "usage 2\n"),
         ("timeline s -t", usage(2), "usage 2\n"),
         ("timeline s t u", usage(3), "usage 3\n"),
+        ("wave", usage(1), "usage 1\n"),
+        ("wave -s", usage(1), "usage 1\n"),
+        ("wave s t", usage(2), "usage 2\n"),
         ("graph u", Status::Absent { place: 0 }, "absent 0\n"),
+        ("wave u", Status::Absent { place: 1 }, "absent 1\n"),
         (
             "timeline s u",
             Status::Absent { place: 4294967295 },
