@@ -1,7 +1,7 @@
 -- Columns of a wave: the least and the greatest sample of the frames that a column stands for.
 -- Source: RIFF WAVE, PCM of 16 bits, whose samples are interleaved by channel. The columns are this
 -- project's own.
-use Rattle.std.specs.Prelude.{ℕ, ◌+◌, ◌*◌, ◌/◌, ◌==◌, ◌||◌, Bool, List, map, fold, length, min, max, slice_range}
+use Rattle.std.specs.Prelude.{ℕ, ◌+◌, ◌*◌, ◌/◌, ◌==◌, ◌||◌, Bool, List, map, fold, length, min, slice_range}
 use Rattle.std.specs.Prelude.{ℤ, pos, neg_ℤ, ◌-ℤ◌, unsigned_abs}
 use Rattle.std.specs.Int.{int_max, int_min}
 use Rattle.std.specs.List.{range_with_len}
@@ -17,11 +17,11 @@ abbrev pub lane_of : Wav → ℕ → List ℤ
 lane_of wav channel = map (λ f. sample_at wav.channels wav.samples f channel)
     (range_with_len 0 (frames_of wav))
 
--- how many columns there are for so many frames: one a frame, 1,000 at most
+-- the number of columns for a number of frames: one a frame, 1,000 at most
 abbrev pub columns_of : ℕ → ℕ
 columns_of frames = min frames 1000
 
--- COLUMN c of so many of a lane of n samples: those from floor(c n / columns) on, up to
+-- COLUMN c of those of a lane of n samples: the samples from floor(c n / columns) on, up to
 -- floor((c + 1) n / columns)
 unfoldable pub column_of : List ℤ → ℕ → ℕ → List ℤ
 column_of lane columns c =

@@ -2,27 +2,27 @@
 -- Source: w3.org, "SVG 1.1", paths and transforms. What is drawn is this project's own.
 use Rattle.std.specs.Prelude.{ℕ, ◌+◌, ◌-◌, ◌*◌, ◌/◌, Bool, true, false, List, [], ◌∷◌, ◌++◌, flat_map, codes, max, length, ℤ}
 use Rattle.std.specs.List.{range_with_len}
-use Rattle.wav_files.specs.declared.wav.Wav.{Wav}
 use Rattle.graph_pictures.specs.Filling.{filled}
-use Rattle.graph_pictures.specs.WaveColumns.{lane_of, columns_of, column_of, least_of, greatest_of, depth_of, is_clipped}
+use Rattle.graph_pictures.specs.WaveColumns.{columns_of, column_of, least_of, greatest_of, depth_of, is_clipped}
 
 -- how far below the top of its lane a sample stands: a lane is 256 points high
 abbrev pub point_of : ℤ → ℕ
 point_of sample = depth_of sample / 256
 
--- a bar from a point, so many points high; one that reaches a limit is marked, and so is the place
--- above it
+-- a bar from a point, of this height; one that reaches a limit is marked, and so is the place above
 abbrev pub mark_text : Bool → ℕ → ℕ → ℕ → List ℕ
 mark_text true c top high =
-    filled (codes "<path class='k' d='M% %h1v%h-1zM% -8h1v6h-1z'/>\n") (c ∷ top ∷ high ∷ c ∷ [])
-mark_text false c top high = filled (codes "<path d='M% %h1v%h-1z'/>\n") (c ∷ top ∷ high ∷ [])
+    filled (codes "<path class='k' d='M% %h1v%h-1zM% -8h1v6h-1z'/>\n")
+    (c ∷ top ∷ high ∷ c ∷ [])
+mark_text false c top high =
+    filled (codes "<path d='M% %h1v%h-1z'/>\n") (c ∷ top ∷ high ∷ [])
 
 -- a column, from its greatest sample down to its least
 unfoldable pub bar_text : ℕ → ℤ → ℤ → List ℕ
 bar_text c least greatest = mark_text (is_clipped least greatest) c (point_of greatest)
     (point_of least + 1 - point_of greatest)
 
--- column c of so many of a lane
+-- column c of those of a lane
 abbrev pub column_text : List ℤ → ℕ → ℕ → List ℕ
 column_text lane columns c = bar_text c (least_of (column_of lane columns c))
     (greatest_of (column_of lane columns c))
@@ -35,7 +35,7 @@ unit_of columns = 1000 / max columns 1
 abbrev pub top_of : ℕ → ℕ
 top_of channel = 72 + 300 * channel
 
--- the ground of a lane, so many points wide, with its channel's number, the lines of its greatest
+-- the ground of a lane, of this width, with its channel's number, the lines of its greatest
 -- samples and of silence
 abbrev pub ground_text : ℕ → ℕ → List ℕ
 ground_text wide channel =
@@ -43,10 +43,11 @@ ground_text wide channel =
     (top_of channel ∷ wide ∷ wide ∷ (top_of channel + 127) ∷ wide ∷ [])
     ++ filled (codes "<text x='48' y='%'>channel %</text><text class='n' x='44' y='%'>1</text>")
     ((top_of channel - 12) ∷ (channel + 1) ∷ (top_of channel + 10) ∷ [])
-    ++ filled (codes "<text class='n' x='44' y='%'>0</text><text class='n' x='44' y='%'>-1</text>\n")
+    ++ filled
+    (codes "<text class='n' x='44' y='%'>0</text><text class='n' x='44' y='%'>-1</text>\n")
     ((top_of channel + 132) ∷ (top_of channel + 256) ∷ [])
 
--- a lane of so many columns, each so many points wide
+-- a lane of `columns` columns, each `unit` points wide
 unfoldable pub lane_parts : List ℤ → ℕ → ℕ → ℕ → List ℕ
 lane_parts lane columns unit channel =
     ground_text (unit * columns) channel

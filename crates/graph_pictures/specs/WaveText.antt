@@ -1,12 +1,12 @@
 -- The whole picture of a wave: an SVG of the lanes of its first two channels over a time axis.
 -- Source: w3.org, "SVG 1.1". What is drawn is this project's own.
-use Rattle.std.specs.Prelude.{ℕ, ◌+◌, ◌-◌, ◌*◌, ◌/◌, ◌%◌, nat_lt, if◌then◌else◌, List, [], ◌∷◌, ◌++◌, flat_map, codes, min}
+use Rattle.std.specs.Prelude.{ℕ, ◌+◌, ◌*◌, ◌/◌, ◌%◌, nat_lt, if◌then◌else◌, List, [], ◌∷◌, ◌++◌, flat_map, codes, min}
 use Rattle.std.specs.List.{range_with_len}
 use Rattle.wav_files.specs.declared.wav.Wav.{Wav}
 use Rattle.graph_pictures.specs.Filling.{filled}
 use Rattle.graph_pictures.specs.WaveColumns.{frames_of, lane_of, columns_of}
 use Rattle.graph_pictures.specs.WaveLanes.{unit_of, lane_text}
-use Rattle.graph_pictures.specs.WaveTicks.{millis_of, ticks_text}
+use Rattle.graph_pictures.specs.WaveTicks.{millis_of, axis}
 
 -- how many channels are drawn, and where their lanes end
 abbrev pub lanes_of : ℕ → ℕ
@@ -18,11 +18,15 @@ foot_of lanes = 28 + 300 * lanes
 -- the size of the file whose lanes end here, how marks look, a white ground
 abbrev pub wave_size_text : ℕ → List ℕ
 wave_size_text foot =
-    filled (codes "<svg xmlns='http://www.w3.org/2000/svg' version='1.1' width='1096' height='%'>\n")
+    filled
+    (codes "<svg xmlns='http://www.w3.org/2000/svg' version='1.1' width='1096' height='%'>\n")
     ((foot + 32) ∷ [])
-    ++ filled (codes "<style>text{font:12px monospace}.n{text-anchor:end}.m{text-anchor:middle}\n") []
-    ++ filled (codes ".t{stroke:gray;stroke-dasharray:1 3}.g{fill:whitesmoke}.z{stroke:silver}\n") []
-    ++ filled (codes ".k{fill:red}g{fill:steelblue}</style><path fill='white' d='M0 0H9999V9999H0z'/>\n") []
+    ++ filled
+    (codes "<style>text{font:12px monospace}.n{text-anchor:end}.m{text-anchor:middle}\n") []
+    ++ filled
+    (codes ".t{stroke:gray;stroke-dasharray:1 3}.g{fill:whitesmoke}.z{stroke:silver}\n") []
+    ++ filled (codes ".k{fill:red}g{fill:steelblue}</style>") []
+    ++ filled (codes "<path fill='white' d='M0 0H9999V9999H0z'/>\n") []
 
 -- what is said of a wave of more than two channels
 unfoldable pub more_text : ℕ → List ℕ
@@ -57,7 +61,7 @@ abbrev pub lanes_text : Wav → List ℕ
 lanes_text wav = flat_map (channel_text wav) (range_with_len 0 (lanes_of wav.channels))
 
 abbrev pub axis_text : Wav → List ℕ
-axis_text wav = ticks_text wav.rate (frames_of wav)
+axis_text wav = axis wav.rate (frames_of wav)
     (unit_of (columns_of (frames_of wav)) * columns_of (frames_of wav))
     (foot_of (lanes_of wav.channels))
 

@@ -10,13 +10,15 @@ use wav_files::WavFault;
 /// How a call ended. A place is 0 for the script, 4294967295 for the trace, and 1 for a WAV file.
 #[derive(Clone, Copy, Debug, PartialEq, Eq, Drop)]
 pub enum Status {
-    /// The picture was printed, or the first line of a trace that is no event line.
+    /// The picture was printed.
     Ok,
     /// The words are no command line; `word` is the first at fault, or their number where more were
     /// wanted.
     Usage { word: u32 },
     /// The script's first line at fault.
     Script { line: u32, why: ScriptWhy },
+    /// The first line of a trace that no run prints, counted from 1.
+    Line { number: u64 },
     /// What is wrong with a WAV file.
     Wav { place: u32, why: WavFault },
     /// A file that is not there.
@@ -39,7 +41,7 @@ impl Status {
         match self {
             Status::Ok => 0,
             Status::Usage { .. } => 1,
-            Status::Script { .. } => 2,
+            Status::Script { .. } | Status::Line { .. } => 2,
             Status::Wav { .. } => 3,
             Status::Absent { .. } => 5,
             Status::ReadFault { .. } => 6,
@@ -82,6 +84,7 @@ pub(crate) fn put_status(text: &mut Text, status: Status) -> Result<(), Memory>
             why_form(why),
             &[u64::from(line), u64::from(why.number()), which_in(why)],
         ),
+        Status::Line { number } => fill(text, b"line %\n", &[number]),
         Status::Wav { place, why } => fill(
             text,
             b"wav % %\n",

@@ -55,7 +55,7 @@ pub(crate) fn lane_of(alloc: Global, wav: &Wav, channel: u32) -> Result<Items<i1
     Ok(lane)
 }
 
-/// How many columns there are for so many frames.
+/// The number of columns for a number of frames.
 pub(crate) fn columns_of(frames: usize) -> usize
     ensures value { result ≡ columns_of frames }
     ensures within { result ≤ 1000 }
@@ -63,7 +63,7 @@ pub(crate) fn columns_of(frames: usize) -> usize
     if frames < 1000 { frames } else { 1000 }
 }
 
-// Where column `c` of so many of so many frames begins.
+// Where column `c` of `columns` begins among the frames.
 fn edge_of(frames: usize, columns: usize, c: usize) -> usize
     requires frames { frames ≤ wave_frames_limit }
     requires columns { 0 < columns }
@@ -73,7 +73,7 @@ fn edge_of(frames: usize, columns: usize, c: usize) -> usize
     c * frames / columns
 }
 
-/// Column `c` of so many of a lane.
+/// Column `c` of `columns` of a lane.
 #[tactic(auto, unfolding(crate::specs::WaveColumns::column_of))]
 pub(crate) fn column_of(lane: &[i16], columns: usize, c: usize) -> &[i16]
     requires frames { length lane.now ≤ wave_frames_limit }

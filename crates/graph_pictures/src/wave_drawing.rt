@@ -20,7 +20,7 @@ fn lanes_of(channels: u32) -> u32
     if channels < 2 { channels } else { 2 }
 }
 
-// Where so many lanes end.
+// Where the last lane ends.
 fn foot_of(lanes: u32) -> u64
     requires { lanes ≤ 2 }
     ensures value { result ≡ foot_of lanes }
@@ -49,11 +49,8 @@ fn put_size(text: &mut Text, foot: u64) -> Result<(), Memory>
         b".t{stroke:gray;stroke-dasharray:1 3}.g{fill:whitesmoke}.z{stroke:silver}\n",
         &[],
     )?;
-    fill(
-        text,
-        b".k{fill:red}g{fill:steelblue}</style><path fill='white' d='M0 0H9999V9999H0z'/>\n",
-        &[],
-    )?;
+    fill(text, b".k{fill:red}g{fill:steelblue}</style>", &[])?;
+    fill(text, b"<path fill='white' d='M0 0H9999V9999H0z'/>\n", &[])?;
     Ok(())
 }
 

@@ -16,7 +16,7 @@ fn point_of(sample: i16) -> u64
     depth_of(sample) / 256
 }
 
-// A bar from a point, so many points high.
+// A bar from a point, of this height.
 fn put_mark(text: &mut Text, clipped: bool, c: u64, top: u64, high: u64) -> Result<(), Memory>
     ensures { OnOk result (text.new ≡ text.old ++ mark_text clipped c top high) }
 {
@@ -41,7 +41,7 @@ fn put_bar(text: &mut Text, c: u64, least: i16, greatest: i16) -> Result<(), Mem
     put_mark(text, is_clipped(least, greatest), c, top, high)
 }
 
-// Column `c` of so many of a lane.
+// Column `c` of those of a lane.
 fn put_column(text: &mut Text, lane: &[i16], columns: usize, c: usize) -> Result<(), Memory>
     requires frames { length lane.now ≤ wave_frames_limit }
     requires columns { columns ≤ 1000 }
@@ -52,7 +52,7 @@ fn put_column(text: &mut Text, lane: &[i16], columns: usize, c: usize) -> Result
     put_bar(text, c as u64, least_of(samples), greatest_of(samples))
 }
 
-/// How many points wide a column of so many is.
+/// The width of a column in points.
 pub(crate) fn unit_of(columns: usize) -> u64
     ensures value { result ≡ unit_of columns }
     ensures within { result ≤ 1000 }
@@ -98,7 +98,7 @@ fn put_columns(text: &mut Text, lane: &[i16], columns: usize) -> Result<(), Memo
     Ok(())
 }
 
-// A lane of so many columns, each so many points wide.
+// A lane of `columns` columns, each `unit` points wide.
 fn put_parts(
     text: &mut Text,
     lane: &[i16],

@@ -1,13 +1,13 @@
 //! The time axis of a wave at the end of a text. After `Memory` the text has a part of it.
 ghost use Rattle.std.specs.Prelude.{◌≡◌, ◌+◌, ◌*◌, ◌/◌, ◌<◌, ◌≤◌, ◌++◌, OnOk};
 ghost use Rattle.pw_base.specs.Limits.{rate_limit};
-ghost use Rattle.graph_pictures.specs.WaveTicks.{millis_of, steps, step_among, step_of, place_of, tick_text, step_text, ticks_text};
+ghost use Rattle.graph_pictures.specs.WaveTicks.{millis_of, steps, step_among, step_of, place_of, tick_text, step_text, axis};
 ghost use Rattle.graph_pictures.specs.WaveSizes.{wave_frames_limit};
 
 use crate::filling::fill;
 use pw_base::{Memory, Text};
 
-/// The milliseconds of so many frames, `rate` a second.
+/// The milliseconds of frames, `rate` a second.
 pub(crate) fn millis_of(frames: u64, rate: u64) -> u64
     requires frames { frames ≤ wave_frames_limit }
     requires rate { 0 < rate }
@@ -142,8 +142,8 @@ fn step_of(millis: u64) -> u64
     step
 }
 
-/// The ticks of so many frames, over so many points, to this foot.
-#[tactic(auto, using(crate::proofs::RangeLemmas::ranges), unfolding(crate::specs::WaveTicks::ticks_text))]
+/// The ticks of frames, over `wide` points, to this foot.
+#[tactic(auto, using(crate::proofs::RangeLemmas::ranges), unfolding(crate::specs::WaveTicks::axis))]
 pub(crate) fn put_ticks(
     text: &mut Text,
     rate: u64,
@@ -156,7 +156,7 @@ pub(crate) fn put_ticks(
     requires rate { rate ≤ rate_limit }
     requires wide { wide ≤ 1000 }
     requires foot { foot ≤ 1000 }
-    ensures { OnOk result (text.new ≡ text.old ++ ticks_text rate frames wide foot) }
+    ensures { OnOk result (text.new ≡ text.old ++ axis rate frames wide foot) }
 {
     let millis = millis_of(frames, rate);
     let step = step_of(millis);

@@ -7,8 +7,8 @@ use crate::status::Status;
 use pw_base::{Items, Text};
 use std::alloc::Global;
 
-/// What words ask for: a picture of a script's graph, a timeline of a trace of it, or the peaks of a
-/// WAV file.
+/// What words ask for: a picture of a script's graph, a timeline of a trace of it, or the peaks of
+/// a WAV file.
 #[derive(Drop)]
 pub enum Request {
     Graph { script: Text },
