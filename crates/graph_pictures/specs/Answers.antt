@@ -1,11 +1,10 @@
 -- The answer to a command line: the picture that it asks for, or why it is refused.
+-- Source: this project's own.
 use Rattle.std.specs.Prelude.{◌≡◌, ◌⊎◌, ℕ, List, Option, Some, Result, Ok, Err}
 use Rattle.pw_base.specs.declared.limit.Which.TheVariants as W
 use Rattle.pw_base.specs.Files.{Names}
 use Rattle.pw_base.specs.Causes.{Rose}
 use Rattle.pw_base.specs.Output.{Given, Gave, GavePart}
-use Rattle.pw_base.specs.declared.event.Event.{Event}
-use Rattle.cycle_trace.specs.TraceReading.{trace_lines}
 use Rattle.graph_script.specs.declared.script.Script.{Script}
 use Rattle.graph_pictures.specs.declared.status.Status.{Status}
 use Rattle.graph_pictures.specs.declared.status.Status.TheVariants as S
@@ -15,8 +14,7 @@ use Rattle.graph_pictures.specs.GraphText.{graph_text}
 use Rattle.graph_pictures.specs.Reading.{trace_place, trace_bytes_limit, IsUnloaded}
 use Rattle.graph_pictures.specs.Reading.{IsScript, IsNoScript}
 use Rattle.graph_pictures.specs.StatusText.{line_of}
-use Rattle.graph_pictures.specs.TimelineText.{timeline_text}
-use Rattle.graph_pictures.specs.TraceText.{IsTrace, IsFirstBad}
+use Rattle.graph_pictures.specs.TraceAnswers.{DrawsTrace}
 use Rattle.graph_pictures.specs.WaveReading.{IsWavePicture}
 use Rattle.graph_pictures.specs.Words.{request_of}
 
@@ -25,14 +23,6 @@ abbrev pub IsGraph : Option (List ℕ) → Result (List ℕ) Status → Type 0
 IsGraph stands (Ok text) = (script : Script) × IsScript stands script
     × (text ≡ graph_text script)
 IsGraph stands (Err status) = IsNoScript stands status
-
--- the timeline of the events of a run's text, or its first bad line
-abbrev pub DrawsTrace : List (List ℕ) → List ℕ → Result (List ℕ) Status → Type 0
-DrawsTrace names bytes (Ok text) = (events : List Event)
-    × IsTrace names (trace_lines bytes) events × (text ≡ timeline_text names events)
-DrawsTrace names bytes (Err (S.Line number)) = IsFirstBad names (trace_lines bytes) number
-DrawsTrace names bytes (Err S.Memory) = Unit {0}
-DrawsTrace names bytes (Err status) = ⊥
 
 -- what is printed of a trace, where the nodes have these names
 abbrev pub ReadsTrace : List (List ℕ) → Option (List ℕ) → Result (List ℕ) Status

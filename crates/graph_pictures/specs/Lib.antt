@@ -14,6 +14,7 @@ pub mod StatusText
 pub mod Strip
 pub mod Timeline
 pub mod TimelineText
+pub mod TraceAnswers
 pub mod TraceText
 pub mod Words
 pub mod Working

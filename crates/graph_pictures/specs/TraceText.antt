@@ -47,8 +47,8 @@ IsBadness names lines Memory = Unit {0}
 -- what a line adds to events: nothing where it is passed over, else its own
 pub data Adds (names : List (List ℕ)) (line : List ℕ) (old new : List Event) : Type 0 where
   passed : is_passed line ≡ true → new ≡ old → Adds names line old new
-  event : (e : Event) → is_passed line ≡ false → IsLineOf names line e → new ≡ old ++ e ∷ []
-      → Adds names line old new
+  event : (e : Event) → is_passed line ≡ false → IsLineOf names line e
+      → new ≡ old ++ e ∷ [] → Adds names line old new
 
 -- a line was taken, or it is bad
 abbrev pub Takes : List (List ℕ) → List ℕ → List Event → List Event → Bool → Type 0

@@ -1,5 +1,6 @@
 -- The grammar of command lines: what words ask for, or the first word at fault, or their number
--- where more are wanted. This project's.
+-- where more are wanted.
+-- Source: this project's own.
 use Rattle.std.specs.Prelude.{◌≡◌, ℕ, ◌==◌, ◌&&◌, Bool, false, not, nat_le, if◌then◌else◌, List, [], ◌∷◌, length}
 use Rattle.std.specs.Prelude.{codes, bytes_eq, Result, Ok, Err}
 use Rattle.graph_pictures.specs.declared.status.Status.{Status}

@@ -6,7 +6,8 @@ ghost use Rattle.cycle_trace.specs.TraceReading.{AreNames};
 ghost use Rattle.graph_script.specs.Order.{HasOrder};
 ghost use Rattle.graph_script.specs.Ranges.{HasRanges};
 ghost use Rattle.graph_pictures.specs.Reading.{IsLoad, ReadsScript, ParsesTo};
-ghost use Rattle.graph_pictures.specs.Answers.{IsGraph, DrawsTrace, ReadsTrace, IsTimeline, IsPicture};
+ghost use Rattle.graph_pictures.specs.TraceAnswers.{DrawsTrace};
+ghost use Rattle.graph_pictures.specs.Answers.{IsGraph, ReadsTrace, IsTimeline, IsPicture};
 ghost use Rattle.graph_pictures.specs.Causes.{IsCaused};
 ghost use Rattle.graph_pictures.specs.WaveReading.{DrawsWave, IsWavePicture};
 
