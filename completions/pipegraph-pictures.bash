@@ -8,8 +8,13 @@ _pipegraph_pictures() {
     local word=${COMP_WORDS[COMP_CWORD]}
     COMPREPLY=()
     case $COMP_CWORD in
-    1) mapfile -t COMPREPLY < <(compgen -W "graph timeline" -- "$word") ;;
-    2) _pipegraph_pictures_files .graph "$word" ;;
+    1) mapfile -t COMPREPLY < <(compgen -W "graph timeline wave" -- "$word") ;;
+    2)
+        case ${COMP_WORDS[1]} in
+        wave) _pipegraph_pictures_files .wav "$word" ;;
+        *) _pipegraph_pictures_files .graph "$word" ;;
+        esac
+        ;;
     3) [[ ${COMP_WORDS[1]} != timeline ]] || _pipegraph_pictures_files "" "$word" ;;
     esac
 }

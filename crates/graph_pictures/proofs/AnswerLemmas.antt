@@ -58,6 +58,8 @@ pub refused_words : (names : Names) (words : List (List ℕ)) (status : Status) 
 refused_words names words S.Ok h = absurd h
 refused_words names words (S.Usage word) h = usage (S.Usage word) h refl
 refused_words names words (S.Script line why) h = absurd h
+refused_words names words (S.Line number) h = absurd h
+refused_words names words (S.Wav place why) h = absurd h
 refused_words names words (S.Absent place) h = absurd h
 refused_words names words (S.ReadFault place) h = absurd h
 refused_words names words S.WriteFault h = absurd h

@@ -1,5 +1,5 @@
 -- The cause of a status that was printed.
-use Rattle.std.proofs.Common.{◌≡◌, ℕ, List, ◌⊎◌, inl, inr, sym, subst}
+use Rattle.std.proofs.Common.{ℕ, List, inl, inr, sym, subst}
 use Rattle.std.specs.Prelude.{Result, Ok, Err}
 use Rattle.pw_base.specs.Output.{Given}
 use Rattle.graph_pictures.specs.declared.status.Status.{Status}

@@ -3,5 +3,5 @@ pub mod Grown
 pub mod LateLemmas
 pub mod ListLemmas
 pub mod RangeLemmas
-pub mod RowLemmas
 pub mod CauseLemmas
+pub mod TraceTextLemmas

@@ -1,4 +1,5 @@
 -- The answer to a command line: the picture that it asks for, or why it is refused.
+-- Source: this project's own.
 use Rattle.std.specs.Prelude.{◌≡◌, ◌⊎◌, ℕ, List, Option, Some, Result, Ok, Err}
 use Rattle.pw_base.specs.declared.limit.Which.TheVariants as W
 use Rattle.pw_base.specs.Files.{Names}
@@ -10,9 +11,11 @@ use Rattle.graph_pictures.specs.declared.status.Status.TheVariants as S
 use Rattle.graph_pictures.specs.declared.words.Request.{Request}
 use Rattle.graph_pictures.specs.declared.words.Request.TheVariants as R
 use Rattle.graph_pictures.specs.GraphText.{graph_text}
-use Rattle.graph_pictures.specs.Reading.{trace_place, trace_bytes_limit, IsUnloaded, IsTold}
+use Rattle.graph_pictures.specs.Reading.{trace_place, trace_bytes_limit, IsUnloaded}
 use Rattle.graph_pictures.specs.Reading.{IsScript, IsNoScript}
 use Rattle.graph_pictures.specs.StatusText.{line_of}
+use Rattle.graph_pictures.specs.TraceAnswers.{DrawsTrace}
+use Rattle.graph_pictures.specs.WaveReading.{IsWavePicture}
 use Rattle.graph_pictures.specs.Words.{request_of}
 
 -- the graph of the script of a file
@@ -25,7 +28,9 @@ IsGraph stands (Err status) = IsNoScript stands status
 abbrev pub ReadsTrace : List (List ℕ) → Option (List ℕ) → Result (List ℕ) Status
     → Type 0
 ReadsTrace names stands (Ok text) = (bytes : List ℕ) × (stands ≡ Some bytes)
-    × IsTold names bytes text
+    × DrawsTrace names bytes (Ok text)
+ReadsTrace names stands (Err (S.Line number)) = (bytes : List ℕ) × (stands ≡ Some bytes)
+    × DrawsTrace names bytes (Err (S.Line number))
 ReadsTrace names stands (Err status) =
     IsUnloaded stands trace_place trace_bytes_limit W.TraceBytes status
 
@@ -40,6 +45,7 @@ pub data IsTimeline (script trace : Option (List ℕ)) (r : Result (List ℕ) St
 abbrev pub IsPicture : Names → Request → Result (List ℕ) Status → Type 0
 IsPicture names (R.Graph script) r = IsGraph (names script) r
 IsPicture names (R.Timeline script trace) r = IsTimeline (names script) (names trace) r
+IsPicture names (R.Wave file) r = IsWavePicture (names file) r
 
 -- THE ANSWER to words; want of memory is free
 pub data IsAnswer (names : Names) (words : List (List ℕ)) (r : Result (List ℕ) Status)

@@ -1,5 +1,5 @@
 -- Causes: which counts of faults outside rose where a status says so. This project's own.
-use Rattle.std.specs.Prelude.{ℕ, Result, Ok, Err}
+use Rattle.std.specs.Prelude.{ℕ, Result, Err}
 use Rattle.pw_base.specs.Causes.{Rose}
 use Rattle.graph_pictures.specs.declared.status.Status.{Status}
 use Rattle.graph_pictures.specs.declared.status.Status.TheVariants as S

@@ -1,5 +1,6 @@
--- Links of a graph as DOT edges, from the field of a port to that of another.
--- Source: graphviz.org, "DOT Language", edges with ports.
+-- Links of a graph as DOT edges, from the field of a port to that of another: they leave to the
+-- east and enter from the west.
+-- Source: graphviz.org, "DOT Language", edges with ports and compass points.
 use Rattle.std.specs.Prelude.{ℕ, ◌==◌, ◌&&◌, ◌||◌, Bool, true, false, List, [], ◌∷◌, ◌++◌, codes, nat_lt}
 use Rattle.std.specs.Prelude.{Option, Some, None, filter_map}
 use Rattle.std.specs.List.{list_any}
@@ -51,5 +52,5 @@ style_text true true = codes " [style=dashed, color=gray];\n"
 -- THE STATEMENT of the link of a line
 abbrev pub link_text : Fates → ℕ → PortId → PortId → List ℕ
 link_text fates number from to =
-    filled (codes "  n%:p% -> n%:p%") (from.node ∷ from.port ∷ to.node ∷ to.port ∷ [])
+    filled (codes "  n%:p%:e -> n%:p%:w") (from.node ∷ from.port ∷ to.node ∷ to.port ∷ [])
     ++ style_text (is_late fates from to) (is_cut fates number from to)

@@ -1,15 +1,20 @@
 -- Nodes of a graph as DOT statements: a record with its inputs, its name and kind, and its outputs.
 -- Source: graphviz.org, "DOT Language", and "Node Shapes", record-based nodes.
-use Rattle.std.specs.Prelude.{ℕ, List, [], ◌∷◌, ◌++◌, codes, pos}
+use Rattle.std.specs.Prelude.{ℕ, ◌-◌, nat_le, if◌then◌else◌, List, [], ◌∷◌, ◌++◌, length, take, drop, codes, pos}
 use Rattle.graph_script.specs.declared.command.Command.{Command}
 use Rattle.graph_script.specs.declared.command.Command.TheVariants as C
 use Rattle.graph_script.specs.Printing.{node_word, list_word}
 use Rattle.graph_pictures.specs.Filling.{filled, numbers_text}
 use Rattle.graph_pictures.specs.Escaping.{dot_escaped}
 
+-- the name of a file; of more than 32 bytes the first 15 and the last 15
+abbrev pub file_text : List ℕ → List ℕ
+file_text file = if nat_le (length file) 32 then dot_escaped file
+    else dot_escaped (take 15 file) ++ codes ".." ++ dot_escaped (drop (length file - 15) file)
+
 -- the kind of the node that a command makes, with its file or its numbers, as in a script
 unfoldable pub kind_text : Command → List ℕ
-kind_text (C.Source node file) = codes "source " ++ dot_escaped file
+kind_text (C.Source node file) = codes "source " ++ file_text file
 kind_text (C.Square node rate channels period amp) =
     codes "square" ++ numbers_text (pos rate ∷ pos channels ∷ pos period ∷ amp ∷ [])
 kind_text (C.Gain node g) = codes "gain" ++ numbers_text (g ∷ [])
@@ -18,7 +23,7 @@ kind_text (C.Delay node frames) = codes "delay" ++ numbers_text (pos frames ∷ 
 kind_text (C.Map node channels list) =
     codes "map" ++ numbers_text (pos channels ∷ []) ++ 32 ∷ list_word list
 kind_text (C.Split node) = codes "split"
-kind_text (C.Sink node file) = codes "sink " ++ dot_escaped file
+kind_text (C.Sink node file) = codes "sink " ++ file_text file
 kind_text (C.Meter node) = codes "meter"
 kind_text other = []
 

@@ -20,13 +20,22 @@ head_text =
     ++ filled (codes "  node [shape=record, fontname=\"sans-serif\", fontsize=12];\n") []
     ++ filled (codes "  edge [arrowsize=0.7];\n") []
 
+-- what stands behind them: what the marks mean, below the graph
+abbrev pub legend_text : List ℕ
+legend_text =
+    filled (codes "  label=\"dashed: one end is async\\lgrey: a later line unlinks it\\l") []
+    ++ filled (codes "frame: may drive, by its priority\\ldotted border: off at the end\\l\";\n") []
+
 -- the statement of a command on the line of this number: a node; a second border and the priority
--- of a driver candidate; a link; a border of dots for a node that is off; others draw nothing
+-- of a driver candidate; beside a node its loop; a link; a border of dots for a node that is off;
+-- others draw nothing
 abbrev pub statement_text : List (List ℕ) → Fates → ℕ → Command → List ℕ
 statement_text names fates number (C.Driver node priority) =
     filled (codes "  subgraph cluster_% { label=\"driver %\"; n%; }\n")
     (node ∷ priority ∷ node ∷ [])
 statement_text names fates number (C.Link from to) = link_text fates number from to
+statement_text names fates number (C.Loop node k) =
+    filled (codes "  n% [xlabel=\"loop %\"];\n") (node ∷ k ∷ [])
 statement_text names fates number (C.On node) =
     filled (codes "  n% [style=solid];\n") (node ∷ [])
 statement_text names fates number (C.Off node) =
@@ -39,4 +48,4 @@ unfoldable pub graph_text : Script → List ℕ
 graph_text script = head_text
     ++ flat_map (λ l. statement_text script.names (fates_of script.lines) l.line l.command)
     script.lines
-    ++ filled (codes "}\n") []
+    ++ legend_text ++ filled (codes "}\n") []

@@ -1,3 +1,4 @@
+pub mod Bands
 pub mod Causes
 pub mod Answers
 pub mod Escaping
@@ -7,9 +8,19 @@ pub mod GraphNodes
 pub mod GraphText
 pub mod Reading
 pub mod Rows
+pub mod Sentences
 pub mod Sizes
 pub mod StatusText
 pub mod Strip
 pub mod Timeline
 pub mod TimelineText
+pub mod TraceAnswers
+pub mod TraceText
 pub mod Words
+pub mod Working
+pub mod WaveColumns
+pub mod WaveLanes
+pub mod WaveReading
+pub mod WaveSizes
+pub mod WaveText
+pub mod WaveTicks

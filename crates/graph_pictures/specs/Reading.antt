@@ -1,19 +1,15 @@
 -- What a script and a trace are read as, by what stands in their files; or how they are refused.
 -- Where a load failed or memory was short, nothing is said of the files.
-use Rattle.std.specs.Prelude.{◌≡◌, ℕ, ◌-◌, ◌<◌, ◌^◌, List, [], ◌∷◌, length, codes, Option, Some, None, Result, Ok, Err}
-use Rattle.std.specs.List.{AllZip}
-use Rattle.pw_base.specs.declared.event.Event.{Event}
+-- Source: this project's own.
+use Rattle.std.specs.Prelude.{◌≡◌, ℕ, ◌-◌, ◌<◌, ◌^◌, List, length, Option, Some, None, Result, Ok, Err}
 use Rattle.pw_base.specs.declared.limit.Which.{Which}
 use Rattle.pw_base.specs.declared.limit.Which.TheVariants as W
 use Rattle.pw_base.specs.Limits.{script_bytes_limit}
 use Rattle.graph_script.specs.declared.script.Script.{Script}
 use Rattle.graph_script.specs.declared.fault.ScriptFault.TheVariants as F
 use Rattle.graph_script.specs.Grammar.{script_of}
-use Rattle.cycle_trace.specs.TraceReading.{trace_lines, IsLineOf, IsFirstFault}
 use Rattle.graph_pictures.specs.declared.status.Status.{Status}
 use Rattle.graph_pictures.specs.declared.status.Status.TheVariants as S
-use Rattle.graph_pictures.specs.Filling.{filled}
-use Rattle.graph_pictures.specs.TimelineText.{timeline_text}
 
 -- the place of a trace, which is no line of a script, and its bytes at most
 abbrev pub trace_place : ℕ
@@ -60,11 +56,3 @@ ParsesTo bytes (Err status) = ⊥
 abbrev pub ReadsScript : Option (List ℕ) → Result Script Status → Type 0
 ReadsScript stands (Ok script) = IsScript stands script
 ReadsScript stands (Err status) = IsNoScript stands status
-
--- what is printed of the bytes of a trace: the timeline of the events whose lines they are, or the
--- first line that is none
-pub data IsTold (names : List (List ℕ)) (bytes text : List ℕ) : Type 0 where
-  drawn : (events : List Event) → AllZip (IsLineOf names) (trace_lines bytes) events
-      → text ≡ timeline_text names events → IsTold names bytes text
-  fault : (number : ℕ) → IsFirstFault names (trace_lines bytes) number
-      → text ≡ filled (codes "line %\n") (number ∷ []) → IsTold names bytes text

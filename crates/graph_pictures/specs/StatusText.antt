@@ -4,6 +4,7 @@ use Rattle.pw_base.specs.Quantities.{which_number}
 use Rattle.graph_script.specs.declared.fault.ScriptWhy.{ScriptWhy}
 use Rattle.graph_script.specs.declared.fault.ScriptWhy.TheVariants.{TooMany}
 use Rattle.graph_script.specs.Faults.{why_number}
+use Rattle.wav_files.specs.WavFaults.{wav_fault_number}
 use Rattle.graph_pictures.specs.declared.status.Status.{Status}
 use Rattle.graph_pictures.specs.declared.status.Status.TheVariants as S
 use Rattle.graph_pictures.specs.Filling.{filled}
@@ -12,6 +13,8 @@ abbrev pub status_number : Status → ℕ
 status_number S.Ok = 0
 status_number (S.Usage word) = 1
 status_number (S.Script line why) = 2
+status_number (S.Line number) = 2
+status_number (S.Wav place why) = 3
 status_number (S.Absent place) = 5
 status_number (S.ReadFault place) = 6
 status_number S.WriteFault = 7
@@ -34,6 +37,8 @@ line_of S.Ok = []
 line_of (S.Usage word) = filled (codes "usage %\n") (word ∷ [])
 line_of (S.Script line why) =
     filled (why_form why) (line ∷ why_number why ∷ which_in why ∷ [])
+line_of (S.Line number) = filled (codes "line %\n") (number ∷ [])
+line_of (S.Wav place why) = filled (codes "wav % %\n") (place ∷ wav_fault_number why ∷ [])
 line_of (S.Absent place) = filled (codes "absent %\n") (place ∷ [])
 line_of (S.ReadFault place) = filled (codes "read %\n") (place ∷ [])
 line_of S.WriteFault = []

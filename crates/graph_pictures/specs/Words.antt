@@ -1,5 +1,6 @@
 -- The grammar of command lines: what words ask for, or the first word at fault, or their number
--- where more are wanted. This project's.
+-- where more are wanted.
+-- Source: this project's own.
 use Rattle.std.specs.Prelude.{◌≡◌, ℕ, ◌==◌, ◌&&◌, Bool, false, not, nat_le, if◌then◌else◌, List, [], ◌∷◌, length}
 use Rattle.std.specs.Prelude.{codes, bytes_eq, Result, Ok, Err}
 use Rattle.graph_pictures.specs.declared.status.Status.{Status}
@@ -34,11 +35,18 @@ timeline_of [] = Err (S.Usage 1)
 timeline_of (script ∷ rest) = if is_file_word script then timeline_behind script rest
     else Err (S.Usage 1)
 
+-- the words behind `wave`
+abbrev pub wave_of : List (List ℕ) → Result Request Status
+wave_of [] = Err (S.Usage 1)
+wave_of (file ∷ rest) = if is_file_word file then alone 2 rest (R.Wave file)
+    else Err (S.Usage 1)
+
 -- THE MEANING of the words
 abbrev pub request_of : List (List ℕ) → Result Request Status
 request_of [] = Err (S.Usage 0)
 request_of (name ∷ rest) = if bytes_eq name (codes "graph") then graph_of rest
-    else (if bytes_eq name (codes "timeline") then timeline_of rest else Err (S.Usage 0))
+    else (if bytes_eq name (codes "timeline") then timeline_of rest
+    else (if bytes_eq name (codes "wave") then wave_of rest else Err (S.Usage 0)))
 
 -- the words were read as they should, or memory was short
 abbrev pub IsRead : Result Request Status → Result Request Status → Type 0

@@ -4,14 +4,16 @@ ghost use Rattle.graph_pictures.specs.Rows.{widest};
 ghost use Rattle.graph_pictures.specs.Sizes.{AreSizes};
 ghost use Rattle.graph_pictures.specs.Timeline.{frame_of};
 
+use crate::rows::name_of;
 use pw_base::Text;
 
-/// Where the strip begins, how wide a band of it is and how high the rows are, in points; how many
-/// bands there are; how many events are drawn, and of how many.
+/// Where the strip begins, how wide a band of it and the whole picture are, and how high the rows
+/// are, in points; how many bands there are; how many events are drawn, and of how many there are.
 #[derive(Clone, Copy, Drop)]
 pub struct Frame {
     pub left: u64,
     pub wide: u64,
+    pub full: u64,
     pub high: u64,
     pub bands: u64,
     pub shown: u64,
@@ -19,7 +21,7 @@ pub struct Frame {
 }
 
 // The bytes of a name that are counted.
-fn width_of(name: &Text) -> u64
+fn width_of(name: &[u8]) -> u64
     ensures value { result ≡ min (length name.now) 31 }
     ensures within { result ≤ 31 }
 {
@@ -37,36 +39,39 @@ fn greater(a: u64, b: u64) -> u64
     if a < b { b } else { a }
 }
 
-// The greatest number of bytes that are counted of a name.
+// The greatest number of bytes that are counted of the name of a row.
 #[tactic(auto, unfolding(crate::specs::Rows::widest))]
-fn widest(names: &[Text]) -> u64
-    ensures value { result ≡ widest names.now }
+fn widest(names: &[Text], rows: &[u32]) -> u64
+    ensures value { result ≡ widest names.now rows.now }
     ensures within { result ≤ 31 }
 {
     let mut most = 0;
-    let mut rest = names;
+    let mut rest = rows;
     loop {
         match rest {
             [] => return most,
-            [name, more @ ..] => {
-                most = greater(most, width_of(name));
+            [node, more @ ..] => {
+                most = greater(most, width_of(name_of(names, *node)));
                 rest = more;
             }
         }
     }
 }
 
-/// The sizes for these names, so many rows, and the first so many of so many events.
-pub(crate) fn frame_of(names: &[Text], rows: u64, shown: u64, all: u64) -> Frame
-    requires rows { rows ≤ 64 }
+/// The sizes for the rows of these nodes, and the first `shown` of `all` events.
+pub(crate) fn frame_of(names: &[Text], rows: &[u32], shown: u64, all: u64) -> Frame
+    requires rows { length rows.now ≤ 64 }
     requires shown { shown ≤ 1000 }
-    ensures value { result ≡ frame_of names.now rows shown all }
+    ensures value { result ≡ frame_of names.now rows.now shown all }
     ensures sizes { AreSizes result }
 {
+    let left = 80 + 8 * widest(names, rows);
+    let wide = 8 + 8 * if shown < 200 { shown } else { 200 };
     Frame {
-        left: 48 + 8 * widest(names),
-        wide: 8 + 8 * if shown < 200 { shown } else { 200 },
-        high: 20 * rows,
+        left,
+        wide,
+        full: greater(left + wide, 480) + 16,
+        high: 20 * rows.len() as u64,
         bands: (shown + 199) / 200,
         shown,
         all,

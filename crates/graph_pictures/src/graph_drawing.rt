@@ -1,7 +1,7 @@
 //! The picture of a script's graph.
 ghost use Rattle.std.specs.Prelude.{◌≡◌, ◌++◌, OnOk, IfOk, flat_map};
 ghost use Rattle.graph_pictures.specs.GraphLinks.{style_text, link_text, fates_of};
-ghost use Rattle.graph_pictures.specs.GraphText.{head_text, statement_text, graph_text};
+ghost use Rattle.graph_pictures.specs.GraphText.{head_text, legend_text, statement_text, graph_text};
 
 use crate::fates::{Fates, fates_of, is_cut, is_late};
 use crate::filling::fill;
@@ -39,7 +39,7 @@ fn put_link(
         u64::from(to.node),
         u64::from(to.port),
     ];
-    fill(text, b"  n%:p% -> n%:p%", &ends)?;
+    fill(text, b"  n%:p%:e -> n%:p%:w", &ends)?;
     let style = style_text(is_late(fates, from, to), is_cut(fates, number, from, to));
     text.extend(style)
 }
@@ -62,6 +62,11 @@ fn put_statement(
             &[u64::from(*node), u64::from(*priority), u64::from(*node)],
         ),
         Command::Link { from, to } => put_link(text, fates, number, *from, *to),
+        Command::Loop { node, k } => fill(
+            text,
+            b"  n% [xlabel=\"loop %\"];\n",
+            &[u64::from(*node), u64::from(*k)],
+        ),
         Command::On { node } => fill(text, b"  n% [style=solid];\n", &[u64::from(*node)]),
         Command::Off { node } => fill(text, b"  n% [style=dotted];\n", &[u64::from(*node)]),
         Command::Source { node, .. }
@@ -112,12 +117,31 @@ fn put_head(text: &mut Text) -> Result<(), Memory>
     Ok(())
 }
 
+// What the marks mean.
+#[tactic(auto, using(crate::proofs::Grown::texts))]
+fn put_legend(text: &mut Text) -> Result<(), Memory>
+    ensures { OnOk result (text.new ≡ text.old ++ legend_text) }
+{
+    fill(
+        text,
+        b"  label=\"dashed: one end is async\\lgrey: a later line unlinks it\\l",
+        &[],
+    )?;
+    fill(
+        text,
+        b"frame: may drive, by its priority\\ldotted border: off at the end\\l\";\n",
+        &[],
+    )
+}
+
 /// The graph of a script in Graphviz's DOT, from left to right.
 ///
 /// Each line is drawn: a node with its ports, its name and its kind; a link from port to port, a
 /// late one dashed, one that a later line cuts grey; a second border for a driver candidate, with
-/// its last priority; a border of dots for a node that is off at the end. Lines of loops, offers,
-/// buffers and cycles draw nothing. Takes memory for the text.
+/// its last priority; beside a node the number of its last loop; a border of dots for a node that
+/// is off at the end. Of a file's name of more than 32 bytes the middle is left out. Lines of
+/// offers, buffers and cycles draw nothing; below stands what the marks mean. Takes memory for the
+/// text.
 #[tactic(auto, using(crate::proofs::Grown::texts), unfolding(crate::specs::GraphText::graph_text))]
 pub fn graph(alloc: Global, script: &Script) -> Result<Text, Memory>
     ensures { IfOk result (λ text. text ≡ graph_text script.now) }
@@ -127,6 +151,7 @@ pub fn graph(alloc: Global, script: &Script) -> Result<Text, Memory>
     let mut text = Items::new(alloc);
     put_head(&mut text)?;
     put_statements(&mut text, script.names.as_slice(), &fates, lines)?;
+    put_legend(&mut text)?;
     fill(&mut text, b"}\n", &[])?;
     Ok(text)
 }

@@ -1,9 +1,9 @@
 //! The statements of nodes at the end of a text. After `Memory` the text has a part of them.
-ghost use Rattle.std.specs.Prelude.{◌≡◌, ◌++◌, ◌∷◌, [], OnOk, codes, pos};
+ghost use Rattle.std.specs.Prelude.{◌≡◌, ◌-◌, ◌<◌, ◌++◌, ◌∷◌, [], length, take, drop, OnOk, codes, pos};
 ghost use Rattle.graph_pictures.specs.Filling.{numbers_text};
 ghost use Rattle.graph_pictures.specs.Escaping.{dot_escaped};
 ghost use Rattle.graph_script.specs.Printing.{node_word, list_word};
-ghost use Rattle.graph_pictures.specs.GraphNodes.{kind_text, inputs_text, outputs_text, middle_text, node_text};
+ghost use Rattle.graph_pictures.specs.GraphNodes.{file_text, kind_text, inputs_text, outputs_text, middle_text, node_text};
 
 use crate::escaping::put_dot;
 use crate::filling::{fill, put_numbers};
@@ -51,13 +51,36 @@ fn put_word(text: &mut Text, word: &[u8], numbers: &[i64]) -> Result<(), Memory>
     put_numbers(text, numbers)
 }
 
+// The first and the last bytes of the name of a file.
+#[tactic(auto, using(crate::proofs::Grown::texts))]
+fn put_ends(text: &mut Text, file: &[u8]) -> Result<(), Memory>
+    requires { 32 < length file.now }
+    ensures { OnOk result (text.new ≡ text.old ++ (dot_escaped (take 15 file.now) ++ codes ".."
+        ++ dot_escaped (drop (length file.now - 15) file.now))) }
+{
+    put_dot(text, &file[..15])?;
+    text.extend(b"..")?;
+    put_dot(text, &file[file.len() - 15..])
+}
+
+// The name of a file, or its ends where it is long.
+fn put_name(text: &mut Text, file: &[u8]) -> Result<(), Memory>
+    ensures { OnOk result (text.new ≡ text.old ++ file_text file.now) }
+{
+    if file.len() <= 32 {
+        put_dot(text, file)
+    } else {
+        put_ends(text, file)
+    }
+}
+
 // A word and the name of a file.
 #[tactic(auto, using(crate::proofs::Grown::texts))]
 fn put_file(text: &mut Text, word: &[u8], file: &Text) -> Result<(), Memory>
-    ensures { OnOk result (text.new ≡ text.old ++ word.now ++ dot_escaped file.now) }
+    ensures { OnOk result (text.new ≡ text.old ++ word.now ++ file_text file.now) }
 {
     text.extend(word)?;
-    put_dot(text, file.as_slice())
+    put_name(text, file.as_slice())
 }
 
 // A channel map: its channels, and where each comes from.

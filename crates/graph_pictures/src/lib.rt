@@ -1,12 +1,13 @@
-//! Pictures of a graph: its script as a graph in Graphviz's DOT, and a printed history of it as a
-//! timeline in SVG.
+//! Pictures of a graph: its script as a graph in Graphviz's DOT, a printed history of it as a
+//! timeline in SVG, and the waves of its files as SVG.
 //!
-//! `graph` and `timeline` make the texts; `print_picture` is the whole program, over files and an
-//! output: it reads the words of a command line, loads, and prints the picture or the line of a
-//! status. Texts are built of forms with numbers in them (`filling`) and of names and file words of
-//! the script, escaped (`escaping`).
+//! `graph`, `timeline` and `wave` make the texts; `print_picture` is the whole program, over files
+//! and an output: it reads the words of a command line, loads, and prints the picture or the line
+//! of a status. Texts are built of forms with numbers in them (`filling`) and of names and file
+//! words of the script, escaped (`escaping`).
 #![tactic(auto)]
 
+mod bands;
 mod drawing;
 mod escaping;
 mod fates;
@@ -16,12 +17,21 @@ mod graph_drawing;
 mod graph_nodes;
 mod reading;
 mod rows;
+mod sentences;
 mod status;
 mod strip;
 mod timeline_drawing;
+mod trace_text;
+mod wave_columns;
+mod wave_drawing;
+mod wave_lanes;
+mod wave_ticks;
 mod words;
+mod working;
 
 pub use drawing::print_picture;
 pub use graph_drawing::graph;
+pub use sentences::explain;
 pub use status::Status;
 pub use timeline_drawing::timeline;
+pub use wave_drawing::wave;

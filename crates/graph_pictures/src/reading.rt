@@ -1,27 +1,33 @@
 //! What the files of a request are read as.
-ghost use Rattle.std.specs.Prelude.{◌≡◌, ◌≤◌, ◌∷◌, [], codes, length, IsSome, IfOk};
+ghost use Rattle.std.specs.Prelude.{◌≡◌, ◌≤◌, length, IsSome, IfOk};
 ghost use Rattle.pw_base.specs.Files.{names_in};
-ghost use Rattle.pw_base.specs.Limits.{script_bytes_limit};
+ghost use Rattle.pw_base.specs.Limits.{script_bytes_limit, wav_bytes_limit};
 ghost use Rattle.cycle_trace.specs.TraceReading.{AreNames};
 ghost use Rattle.graph_script.specs.Order.{HasOrder};
 ghost use Rattle.graph_script.specs.Ranges.{HasRanges};
-ghost use Rattle.graph_pictures.specs.Filling.{filled};
-ghost use Rattle.graph_pictures.specs.Reading.{IsLoad, ReadsScript, IsTold, ParsesTo};
+ghost use Rattle.graph_pictures.specs.Reading.{IsLoad, ReadsScript, ParsesTo};
+ghost use Rattle.graph_pictures.specs.TraceAnswers.{DrawsTrace};
 ghost use Rattle.graph_pictures.specs.Answers.{IsGraph, ReadsTrace, IsTimeline, IsPicture};
 ghost use Rattle.graph_pictures.specs.Causes.{IsCaused};
+ghost use Rattle.graph_pictures.specs.WaveReading.{DrawsWave, IsWavePicture};
 
-use crate::filling::fill;
 use crate::graph_drawing::graph;
 use crate::status::Status;
 use crate::timeline_drawing::timeline;
+use crate::trace_text::read_run;
+use crate::wave_drawing::wave;
 use crate::words::Request;
-use cycle_trace::{TraceFault, read_events};
+use cycle_trace::TraceFault;
 use graph_script::{Script, ScriptFault, parse};
-use pw_base::{FileFail, Files, Items, Loaded, Memory, SCRIPT_BYTES_LIMIT, Text, Which};
+use pw_base::{FileFail, Files, Items, Loaded, SCRIPT_BYTES_LIMIT, Text, WAV_BYTES_LIMIT, Which};
 use std::alloc::Global;
+use wav_files::{WavFault, read_wav};
 
-/// The place of the script, and that of the trace, which is no line of a script.
+/// The place of the script, that of a WAV file, which is the index of its word, and that of the
+/// trace, which is no line of a script.
 const SCRIPT_PLACE: u32 = 0;
+
+const WAVE_PLACE: u32 = 1;
 
 const TRACE_PLACE: u32 = u32::MAX;
 
@@ -109,24 +115,18 @@ fn read_graph<F: Files>(alloc: Global, files: &mut F, name: &Text) -> Result<Tex
     }
 }
 
-// The line of a trace that is no event line.
-fn line_fault(alloc: Global, number: u64) -> Result<Text, Memory>
-    ensures { IfOk result (λ text. text ≡ filled (codes "line %\n") (number ∷ [])) }
-{
-    let mut text = Items::new(alloc);
-    fill(&mut text, b"line %\n", &[number])?;
-    Ok(text)
-}
-
-// What is printed of the bytes of a trace.
-fn told_of(alloc: Global, names: &Items<Text>, bytes: &[u8]) -> Result<Text, Memory>
+// The timeline of the events of a run's text.
+fn drawn_trace(alloc: Global, names: &Items<Text>, bytes: &[u8]) -> Result<Text, Status>
     requires names { AreNames names.now }
-    ensures { IfOk result (IsTold names.now bytes.now) }
+    ensures { DrawsTrace names.now bytes.now result }
 {
-    match read_events(alloc, names, bytes) {
-        Ok(events) => timeline(alloc, names, &events),
-        Err(TraceFault::Line(number)) => line_fault(alloc, number),
-        Err(TraceFault::Memory) => Err(Memory),
+    match read_run(alloc, names, bytes) {
+        Err(TraceFault::Line(number)) => Err(Status::Line { number }),
+        Err(TraceFault::Memory) => Err(Status::Memory),
+        Ok(events) => match timeline(alloc, names, &events) {
+            Ok(text) => Ok(text),
+            Err(_memory) => Err(Status::Memory),
+        },
     }
 }
 
@@ -154,10 +154,7 @@ fn read_trace<F: Files>(
         Which::TraceBytes,
     ) {
         Err(status) => Err(status),
-        Ok(bytes) => match told_of(alloc, names, bytes.as_slice()) {
-            Ok(text) => Ok(text),
-            Err(_memory) => Err(Status::Memory),
-        },
+        Ok(bytes) => drawn_trace(alloc, names, bytes.as_slice()),
     }
 }
 
@@ -181,6 +178,45 @@ fn read_timeline<F: Files>(
     }
 }
 
+// The picture of the wave that bytes are.
+fn drawn_wave(alloc: Global, bytes: &[u8]) -> Result<Text, Status>
+    requires { length bytes.now ≤ wav_bytes_limit }
+    ensures { DrawsWave bytes.now result }
+{
+    match read_wav(alloc, bytes) {
+        Err(WavFault::Memory) => Err(Status::Memory),
+        Err(why) => Err(Status::Wav {
+            place: WAVE_PLACE,
+            why,
+        }),
+        Ok(wav) => match wave(alloc, &wav) {
+            Ok(text) => Ok(text),
+            Err(_memory) => Err(Status::Memory),
+        },
+    }
+}
+
+// The picture of the wave of a file.
+fn read_wave<F: Files>(alloc: Global, files: &mut F, name: &Text) -> Result<Text, Status>
+    ensures told { IsSome (F.held files.old)
+        → IsWavePicture (names_in (F.held files.old) name.now) result }
+    ensures cause { IsCaused (F.load_faults files.old) (F.load_faults files.new) result }
+    ensures held { F.held files.new ≡ F.held files.old }
+    ensures stores { F.store_faults files.new ≡ F.store_faults files.old }
+{
+    match load(
+        alloc,
+        files,
+        WAVE_PLACE,
+        name,
+        WAV_BYTES_LIMIT,
+        Which::WavBytes,
+    ) {
+        Err(status) => Err(status),
+        Ok(bytes) => drawn_wave(alloc, bytes.as_slice()),
+    }
+}
+
 /// The picture that a request asks for, by the files. A load that fails raises their count.
 pub(crate) fn picture_of<F: Files>(
     alloc: Global,
@@ -196,5 +232,6 @@ pub(crate) fn picture_of<F: Files>(
     match request {
         Request::Graph { script } => read_graph(alloc, files, script),
         Request::Timeline { script, trace } => read_timeline(alloc, files, script, trace),
+        Request::Wave { file } => read_wave(alloc, files, file),
     }
 }

@@ -5,17 +5,22 @@ ghost use Rattle.graph_pictures.specs.StatusText.{status_number, which_in, why_f
 use crate::filling::fill;
 use graph_script::ScriptWhy;
 use pw_base::{Memory, Text, Which};
+use wav_files::WavFault;
 
-/// How a call ended. A place is 0 for the script, and 4294967295 for the trace.
+/// How a call ended. A place is 0 for the script, 4294967295 for the trace, and 1 for a WAV file.
 #[derive(Clone, Copy, Debug, PartialEq, Eq, Drop)]
 pub enum Status {
-    /// The picture was printed, or the first line of a trace that is no event line.
+    /// The picture was printed.
     Ok,
     /// The words are no command line; `word` is the first at fault, or their number where more were
     /// wanted.
     Usage { word: u32 },
     /// The script's first line at fault.
     Script { line: u32, why: ScriptWhy },
+    /// The first line of a trace that no run prints, counted from 1.
+    Line { number: u64 },
+    /// What is wrong with a WAV file.
+    Wav { place: u32, why: WavFault },
     /// A file that is not there.
     Absent { place: u32 },
     /// A load that failed.
@@ -36,7 +41,8 @@ impl Status {
         match self {
             Status::Ok => 0,
             Status::Usage { .. } => 1,
-            Status::Script { .. } => 2,
+            Status::Script { .. } | Status::Line { .. } => 2,
+            Status::Wav { .. } => 3,
             Status::Absent { .. } => 5,
             Status::ReadFault { .. } => 6,
             Status::WriteFault => 7,
@@ -77,6 +83,12 @@ pub(crate) fn put_status(text: &mut Text, status: Status) -> Result<(), Memory>
             text,
             why_form(why),
             &[u64::from(line), u64::from(why.number()), which_in(why)],
+        ),
+        Status::Line { number } => fill(text, b"line %\n", &[number]),
+        Status::Wav { place, why } => fill(
+            text,
+            b"wav % %\n",
+            &[u64::from(place), u64::from(why.number())],
         ),
         Status::Absent { place } => fill(text, b"absent %\n", &[u64::from(place)]),
         Status::ReadFault { place } => fill(text, b"read %\n", &[u64::from(place)]),

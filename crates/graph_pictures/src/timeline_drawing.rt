@@ -1,67 +1,33 @@
 //! The timeline of events.
-ghost use Rattle.std.specs.Prelude.{◌≡◌, ◌≤◌, ◌++◌, length, take, OnOk, IfOk};
-ghost use Rattle.pw_base.specs.Limits.{nodes_limit};
-ghost use Rattle.graph_pictures.specs.Rows.{extra_rows};
+ghost use Rattle.std.specs.Prelude.{◌≡◌, ◌≤◌, ◌++◌, length, OnOk, IfOk};
 ghost use Rattle.graph_pictures.specs.Sizes.{AreSizes};
-ghost use Rattle.graph_pictures.specs.Timeline.{band_text, bands_text, note_text, size_text, style_text, head_text, groups_text};
+ghost use Rattle.graph_pictures.specs.Timeline.{note_text, size_text, style_text, legend_text, head_text, groups_text};
 ghost use Rattle.graph_pictures.specs.TimelineText.{picture_text, shown_text, timeline_text};
 
+use crate::bands::{first_of, put_bands};
 use crate::filling::fill;
 use crate::frame::{Frame, frame_of};
-use crate::rows::{has_dummy, put_rows};
+use crate::rows::put_rows;
 use crate::strip::put_strip;
+use crate::working::at_work;
 use pw_base::{Event, Items, Memory, Text};
 use std::alloc::Global;
 
 /// The events that are drawn, at most.
 const SHOWN: usize = 1000;
 
-// A band.
-fn put_band(text: &mut Text, frame: Frame, band: u64) -> Result<(), Memory>
-    requires sizes { AreSizes frame }
-    requires band { band ≤ 4 }
-    ensures { OnOk result (text.new ≡ text.old ++ band_text frame band) }
-{
-    let Frame {
-        left,
-        wide,
-        high,
-        ..
-    } = frame;
-    fill(
-        text,
-        b"<g transform='translate(0,%)'><use xlink:href='#rows'/>",
-        &[24 + (36 + high) * band],
-    )?;
-    fill(
-        text,
-        b"<svg x='%' width='%' height='%' viewBox='% 0 % %'>",
-        &[left, wide, 24 + high, 1600 * band, wide, 24 + high],
-    )?;
-    fill(text, b"<use xlink:href='#strip'/></svg></g>\n", &[])?;
-    Ok(())
-}
-
-// The bands.
-#[tactic(auto, using(crate::proofs::RangeLemmas::ranges))]
-fn put_bands(text: &mut Text, frame: Frame) -> Result<(), Memory>
-    requires sizes { AreSizes frame }
-    ensures { OnOk result (text.new ≡ text.old ++ bands_text frame) }
-{
-    for band in 0..frame.bands {
-        put_band(text, frame, band)?;
-    }
-    Ok(())
-}
-
 // How many events there are, and how many are drawn if these are fewer.
 fn put_note(text: &mut Text, frame: Frame) -> Result<(), Memory>
     ensures { OnOk result (text.new ≡ text.old ++ note_text frame) }
 {
     if frame.shown == frame.all {
-        fill(text, b"% events", &[frame.all])
+        fill(text, b"% events in order", &[frame.all])
     } else {
-        fill(text, b"the first % of % events", &[frame.shown, frame.all])
+        fill(
+            text,
+            b"the first % of % events in order",
+            &[frame.shown, frame.all],
+        )
     }
 }
 
@@ -72,10 +38,7 @@ fn put_size(text: &mut Text, frame: Frame) -> Result<(), Memory>
 {
     fill(text, b"<svg xmlns='http://www.w3.org/2000/svg'", &[])?;
     fill(text, b" xmlns:xlink='http://www.w3.org/1999/xlink'", &[])?;
-    let size = [
-        frame.left + frame.wide + 16,
-        24 + (36 + frame.high) * frame.bands,
-    ];
+    let size = [frame.full, 44 + (36 + frame.high) * frame.bands];
     fill(text, b" version='1.1' width='%' height='%'>\n", &size)?;
     Ok(())
 }
@@ -102,6 +65,28 @@ fn put_style(text: &mut Text) -> Result<(), Memory>
     Ok(())
 }
 
+// What the marks mean.
+fn put_legend(text: &mut Text) -> Result<(), Memory>
+    ensures { OnOk result (text.new ≡ text.old ++ legend_text) }
+{
+    fill(
+        text,
+        b"<path class='b' d='M8 32h24'/><text x='40' y='36'>start to finish</text>",
+        &[],
+    )?;
+    fill(
+        text,
+        b"<path class='c' d='M176 26v12'/><text x='184' y='36'>begin of a cycle</text>",
+        &[],
+    )?;
+    fill(
+        text,
+        b"<path class='l' d='M324 32m-4 0l4-4 4 4-4 4z'/><text x='336' y='36'>late</text>\n",
+        &[],
+    )?;
+    Ok(())
+}
+
 // What stands before the groups.
 fn put_head(text: &mut Text, frame: Frame) -> Result<(), Memory>
     requires sizes { AreSizes frame }
@@ -116,94 +101,90 @@ fn put_head(text: &mut Text, frame: Frame) -> Result<(), Memory>
     )?;
     put_note(text, frame)?;
     fill(text, b"</text>\n", &[])?;
+    put_legend(text)?;
     Ok(())
 }
 
 // What the bands draw.
-fn put_groups(text: &mut Text, frame: Frame, names: &[Text], shown: &[Event]) -> Result<(), Memory>
-    requires few { length names.now ≤ nodes_limit }
+fn put_groups(
+    text: &mut Text,
+    frame: Frame,
+    names: &[Text],
+    rows: &[u32],
+    shown: &[Event],
+) -> Result<(), Memory>
+    requires few { length rows.now ≤ 64 }
     requires shown { length shown.now ≤ 1000 }
     requires sizes { AreSizes frame }
-    ensures { OnOk result (text.new ≡ text.old ++ groups_text frame names.now shown.now) }
+    ensures { OnOk result
+        (text.new ≡ text.old ++ groups_text frame names.now rows.now shown.now) }
 {
     fill(text, b"<defs><g id='rows'>\n", &[])?;
-    put_rows(text, frame.left, frame.wide, names, shown)?;
+    put_rows(text, frame.left, frame.wide, names, rows)?;
     fill(
         text,
         b"</g>\n<g id='strip' transform='translate(4,0)'>\n",
         &[],
     )?;
-    put_strip(text, names.len() as u64, frame.high, shown)?;
+    put_strip(text, rows, frame.high, shown)?;
     fill(text, b"</g></defs>\n", &[])?;
     Ok(())
 }
 
 // A timeline with these sizes.
-fn put_picture(text: &mut Text, frame: Frame, names: &[Text], shown: &[Event]) -> Result<(), Memory>
-    requires few { length names.now ≤ nodes_limit }
+fn put_picture(
+    text: &mut Text,
+    frame: Frame,
+    names: &[Text],
+    rows: &[u32],
+    shown: &[Event],
+) -> Result<(), Memory>
+    requires few { length rows.now ≤ 64 }
     requires shown { length shown.now ≤ 1000 }
     requires sizes { AreSizes frame }
-    ensures { OnOk result (text.new ≡ text.old ++ picture_text frame names.now shown.now) }
+    ensures { OnOk result
+        (text.new ≡ text.old ++ picture_text frame names.now rows.now shown.now) }
 {
     put_head(text, frame)?;
-    put_groups(text, frame, names, shown)?;
-    put_bands(text, frame)?;
+    put_groups(text, frame, names, rows, shown)?;
+    put_bands(text, frame, shown)?;
     fill(text, b"</svg>\n", &[])?;
     Ok(())
 }
 
-// How many rows there are.
-fn row_count(names: &[Text], shown: &[Event]) -> u64
-    requires few { length names.now ≤ nodes_limit }
-    ensures value { result ≡ length (names.now ++ extra_rows shown.now) }
-    ensures within { result ≤ 64 }
-{
-    if has_dummy(shown) {
-        names.len() as u64 + 1
-    } else {
-        names.len() as u64
-    }
-}
-
-// The timeline of some of so many events.
-fn put_shown(text: &mut Text, names: &[Text], shown: &[Event], all: u64) -> Result<(), Memory>
-    requires few { length names.now ≤ nodes_limit }
+// The timeline of the first of `all` events.
+fn put_shown(
+    alloc: Global,
+    text: &mut Text,
+    names: &[Text],
+    shown: &[Event],
+    all: u64,
+) -> Result<(), Memory>
     requires shown { length shown.now ≤ 1000 }
     ensures { OnOk result (text.new ≡ text.old ++ shown_text names.now shown.now all) }
 {
-    let rows = row_count(names, shown);
+    let rows = at_work(alloc, shown)?;
+    let rows = rows.as_slice();
     let frame = frame_of(names, rows, shown.len() as u64, all);
-    put_picture(text, frame, names, shown)
-}
-
-// The first events, so many at most.
-#[tactic(auto, using(crate::proofs::Grown::firsts))]
-fn first_of(events: &[Event], most: usize) -> &[Event]
-    ensures value { result.now ≡ take most events.now }
-    ensures few { length result.now ≤ most }
-{
-    if events.len() <= most {
-        events
-    } else {
-        &events[..most]
-    }
+    put_picture(text, frame, names, rows, shown)
 }
 
 /// The timeline of events as an SVG, where the nodes have these names.
 ///
-/// Each node has a row; the built-in driver has the last, where an event is its own. From left to
-/// right, 8 points an event, stand a rule with the number of a cycle at its begin, a bar from the
-/// start of a node to its finish, or to the end, and a dotted rule at a late check, with a diamond
-/// in the row of each late node. After 200 events the next band begins below; of more than 1,000
-/// events the first 1,000 are drawn, which a note says. Takes memory for the text.
+/// Each node that a drawn event names has a row, ascending by number; the built-in driver has the
+/// last. From left to right, 8 points an event, stand a rule with the number of a cycle at its
+/// begin, a bar from the start of a node to its finish, or to the end, and a dotted rule with a
+/// diamond in the row of each late node at a late check. After 200 events the next band begins
+/// below, which says its cycle; of more than 1,000 events the first 1,000 are drawn, which a note
+/// says. Takes memory for the text.
 #[tactic(auto, unfolding(crate::specs::TimelineText::timeline_text))]
 pub fn timeline(alloc: Global, names: &Items<Text>, events: &Items<Event>) -> Result<Text, Memory>
-    requires few { length names.now ≤ nodes_limit }
     ensures { IfOk result (λ text. text ≡ timeline_text names.now events.now) }
 {
     let events = events.as_slice();
     let mut text = Items::new(alloc);
     put_shown(
+        alloc,
         &mut text,
         names.as_slice(),
         first_of(events, SHOWN),

@@ -1,17 +1,19 @@
 //! The words of a command line.
 ghost use Rattle.std.specs.Prelude.{◌≡◌, map, string_bytes, Ok};
-ghost use Rattle.graph_pictures.specs.Words.{is_file_word, graph_of, timeline_behind, timeline_of, request_of, IsRead};
+ghost use Rattle.graph_pictures.specs.Words.{is_file_word, graph_of, timeline_behind, timeline_of, wave_of, request_of, IsRead};
 ghost use Rattle.graph_pictures.specs.declared.words.Request.TheVariants as R;
 
 use crate::status::Status;
 use pw_base::{Items, Text};
 use std::alloc::Global;
 
-/// What words ask for: a picture of a script's graph, or a timeline of a trace of it.
+/// What words ask for: a picture of a script's graph, a timeline of a trace of it, or the peaks of
+/// a WAV file.
 #[derive(Drop)]
 pub enum Request {
     Graph { script: Text },
     Timeline { script: Text, trace: Text },
+    Wave { file: Text },
 }
 
 // Whether a word may name a file.
@@ -45,6 +47,16 @@ fn timeline_request(alloc: Global, script: &String, trace: &String) -> Result<Re
             Ok(trace) => Ok(Request::Timeline { script, trace }),
             Err(_memory) => Err(Status::Memory),
         },
+    }
+}
+
+// The request of a wave.
+fn wave_request(alloc: Global, file: &String) -> Result<Request, Status>
+    ensures { IsRead (Ok (R.Wave (string_bytes file.now))) result }
+{
+    match Items::from_slice(alloc, file.as_bytes()) {
+        Ok(file) => Ok(Request::Wave { file }),
+        Err(_memory) => Err(Status::Memory),
     }
 }
 
@@ -101,6 +113,24 @@ fn read_timeline(alloc: Global, rest: &[String]) -> Result<Request, Status>
     }
 }
 
+// The words behind `wave`.
+fn read_wave(alloc: Global, rest: &[String]) -> Result<Request, Status>
+    ensures { IsRead (wave_of (map string_bytes rest.now)) result }
+{
+    match rest {
+        [] => Err(Status::Usage { word: 1 }),
+        [file, more @ ..] => {
+            if !is_file_word(file) {
+                Err(Status::Usage { word: 1 })
+            } else if more.is_empty() {
+                wave_request(alloc, file)
+            } else {
+                Err(Status::Usage { word: 2 })
+            }
+        }
+    }
+}
+
 /// What the words ask for, or the first word at fault.
 pub(crate) fn read_words(alloc: Global, words: &[String]) -> Result<Request, Status>
     ensures { IsRead (request_of (map string_bytes words.now)) result }
@@ -112,6 +142,8 @@ pub(crate) fn read_words(alloc: Global, words: &[String]) -> Result<Request, Sta
                 read_graph(alloc, rest)
             } else if name.as_bytes() == b"timeline".as_slice() {
                 read_timeline(alloc, rest)
+            } else if name.as_bytes() == b"wave".as_slice() {
+                read_wave(alloc, rest)
             } else {
                 Err(Status::Usage { word: 0 })
             }

@@ -1,11 +1,12 @@
 //! What is printed of words and files.
 
-use graph_pictures::{Status, print_picture};
+use graph_pictures::{Status, explain, print_picture};
 use graph_script::ScriptWhy;
-use pw_base::{Items, Memory, SureFiles, SureSink, Text};
+use pw_base::{Items, Memory, SureFiles, SureSink, Text, Which};
 use std::alloc::Global;
 use std::process::Abort;
 use std::test::Fail;
+use wav_files::WavFault;
 
 // A text of its own.
 fn text(alloc: Global, text: &str) -> Result<Text, Memory> {
@@ -47,8 +48,8 @@ fn expect<R: AllocGlobal + Abort>(
 #[test]
 fn a_graph_shows_each_kind_and_link(rt: HostRuntime) -> Result<(), Fail> {
     let script = "quantum 4\nsource s a\"b\\{c}|<d>&e.wav\nsquare q 48000 2 100 8000\ngain g -128\n\
-        mix2 m 256 -1\ndelay d 480\nmap p 2 1,0\nsplit t\nsink o o.wav\nmeter l\ndriver o 7\n\
-        driver l 3\nasync d\nlink s.out g.in\nlink g.out m.a\nlink d.out m.b\nlink m.out d.in\n\
+        mix2 m 256 -1\ndelay d 480\nmap p 2 1,0\nsplit t\nsink o 0123456789abcdefghijklmnopqrstuvwxyz.wav\nmeter l\n\
+        driver o 7\ndriver l 3\nloop g 3\nasync d\nlink s.out g.in\nlink g.out m.a\nlink d.out m.b\nlink m.out d.in\n\
         unlink g.out m.a\nlink t.right o.in\noff q\non q\noff p\ncycles 2\n";
     let wanted = "digraph pipegraph {\n  rankdir=LR; ranksep=0.7; nodesep=0.4;\n\
         \x20 fontname=\"sans-serif\"; fontsize=11;\n\
@@ -61,18 +62,21 @@ fn a_graph_shows_each_kind_and_link(rt: HostRuntime) -> Result<(), Fail> {
         \x20 n4 [label=\"{{<p0> in}|d\\ndelay 480|{<p1> out}}\"];\n\
         \x20 n5 [label=\"{{<p0> in}|p\\nmap 2 1,0|{<p1> out}}\"];\n\
         \x20 n6 [label=\"{{<p0> in}|t\\nsplit|{<p1> left|<p2> right}}\"];\n\
-        \x20 n7 [label=\"{{<p0> in}|o\\nsink o.wav}\"];\n\
+        \x20 n7 [label=\"{{<p0> in}|o\\nsink 0123456789abcde..pqrstuvwxyz.wav}\"];\n\
         \x20 n8 [label=\"{{<p0> in}|l\\nmeter}\"];\n\
         \x20 subgraph cluster_7 { label=\"driver 7\"; n7; }\n\
         \x20 subgraph cluster_8 { label=\"driver 3\"; n8; }\n\
-        \x20 n0:p0 -> n2:p0;\n\
-        \x20 n2:p1 -> n3:p0 [color=gray];\n\
-        \x20 n4:p1 -> n3:p1 [style=dashed];\n\
-        \x20 n3:p2 -> n4:p0 [style=dashed];\n\
-        \x20 n6:p2 -> n7:p0;\n\
+        \x20 n2 [xlabel=\"loop 3\"];\n\
+        \x20 n0:p0:e -> n2:p0:w;\n\
+        \x20 n2:p1:e -> n3:p0:w [color=gray];\n\
+        \x20 n4:p1:e -> n3:p1:w [style=dashed];\n\
+        \x20 n3:p2:e -> n4:p0:w [style=dashed];\n\
+        \x20 n6:p2:e -> n7:p0:w;\n\
         \x20 n1 [style=dotted];\n\
         \x20 n1 [style=solid];\n\
         \x20 n5 [style=dotted];\n\
+        \x20 label=\"dashed: one end is async\\lgrey: a later line unlinks it\\l\
+        frame: may drive, by its priority\\ldotted border: off at the end\\l\";\n\
         }\n";
     expect(&rt, "graph s", script, "", Status::Ok, wanted)?;
     Ok(())
@@ -86,52 +90,297 @@ fn a_timeline_shows_bars_and_late_checks(rt: HostRuntime) -> Result<(), Fail> {
     let trace =
         "begin 0\nstart 0 a\ntick 0 a o\nstart 0 dummy\nfinish 0 a\nstart 0 o\nfinish 0 o\nfinish 0 dummy\nend 0\nbegin 1\nstart 1 a\nfinish 1 a\nstart 1 o\n";
     let wanted =
-        "<svg xmlns='http://www.w3.org/2000/svg' xmlns:xlink='http://www.w3.org/1999/xlink' version='1.1' width='184' height='120'>\n\
+        "<svg xmlns='http://www.w3.org/2000/svg' xmlns:xlink='http://www.w3.org/1999/xlink' version='1.1' width='496' height='140'>\n\
         <style>text{font:12px monospace}.n{text-anchor:end}.r{stroke:gainsboro}\n\
         .c{stroke:gray}.b{stroke:steelblue;stroke-width:12}\n\
         .t{stroke:red;stroke-dasharray:4 2}.l{fill:red}</style>\n\
-        <path fill='white' d='M0 0H9999V9999H0z'/><text x='8' y='16'>13 events</text>\n\
+        <path fill='white' d='M0 0H9999V9999H0z'/><text x='8' y='16'>13 events in order</text>\n\
+        <path class='b' d='M8 32h24'/><text x='40' y='36'>start to finish</text>\
+        <path class='c' d='M176 26v12'/><text x='184' y='36'>begin of a cycle</text>\
+        <path class='l' d='M324 32m-4 0l4-4 4 4-4 4z'/><text x='336' y='36'>late</text>\n\
         <defs><g id='rows'>\n\
-        <path class='r' d='M56 28h112'/><text class='n' x='48' y='32'>a</text>\n\
-        <path class='r' d='M56 48h112'/><text class='n' x='48' y='52'>o</text>\n\
-        <path class='r' d='M56 68h112'/><text class='n' x='48' y='72'>dummy</text>\n\
+        <path class='r' d='M120 28h112'/><text class='n' x='112' y='32'>a</text>\n\
+        <path class='r' d='M120 48h112'/><text class='n' x='112' y='52'>o</text>\n\
+        <path class='r' d='M120 68h112'/><text class='n' x='112' y='72'>dummy</text>\n\
         </g>\n\
         <g id='strip' transform='translate(4,0)'>\n\
         <path class='c' d='M0 4v74'/><text x='3' y='12'>0</text>\n\
         <path class='b' d='M8 28h24'/>\n\
-        <path class='t' d='M16 18v60'/>\n\
-        <path class='l' d='M16 28m-4 0l4-4 4 4-4 4z'/>\n\
-        <path class='l' d='M16 48m-4 0l4-4 4 4-4 4z'/>\n\
+        <path class='t' d='M16 14v4'/>\n\
+        <path class='t' d='M16 18v20'/><path class='l' d='M16 28m-4 0l4-4 4 4-4 4z'/>\n\
+        <path class='t' d='M16 38v20'/><path class='l' d='M16 48m-4 0l4-4 4 4-4 4z'/>\n\
         <path class='b' d='M24 68h32'/>\n\
         <path class='b' d='M40 48h8'/>\n\
         <path class='c' d='M72 4v74'/><text x='75' y='12'>1</text>\n\
         <path class='b' d='M80 28h8'/>\n\
         <path class='b' d='M96 48h8'/>\n\
         </g></defs>\n\
-        <g transform='translate(0,24)'><use xlink:href='#rows'/><svg x='56' width='112' height='84' viewBox='0 0 112 84'><use xlink:href='#strip'/></svg></g>\n\
+        <g transform='translate(0,44)'><text class='n' x='112' y='12'>cycle 0</text><use xlink:href='#rows'/><svg x='120' width='112' height='84' viewBox='0 0 112 84'><use xlink:href='#strip'/></svg></g>\n\
         </svg>\n";
     expect(&rt, "timeline s t", TWO, trace, Status::Ok, wanted)?;
     Ok(())
 }
 
+// What is printed of a timeline of `TWO` and this trace ends so.
+fn expect_end<R: AllocGlobal + Abort>(rt: &R, trace: &[u8], wanted: &[u8]) -> Result<(), Memory> {
+    let alloc = rt.alloc();
+    let words = words_of(alloc, "timeline s t")?;
+    let mut files = SureFiles::new(alloc)?;
+    files.add_file(alloc, &text(alloc, "s")?, TWO.as_bytes())?;
+    files.add_file(alloc, &text(alloc, "t")?, trace)?;
+    let mut out = SureSink::new(alloc)?;
+    let ended = print_picture(alloc, words.as_slice(), &mut files, &mut out);
+    assert!(rt; ended == Status::Ok);
+    assert!(rt; out.bytes().as_slice().ends_with(wanted));
+    Ok(())
+}
+
 #[test]
-fn a_trace_is_refused_at_its_first_line_that_is_none(rt: HostRuntime) -> Result<(), Fail> {
-    expect(
-        &rt,
-        "timeline s t",
-        TWO,
-        "begin 0\nstart 0 b\n",
-        Status::Ok,
-        "line 2\n",
-    )?;
-    expect(
-        &rt,
-        "timeline s t",
-        TWO,
-        "begin 00\n",
-        Status::Ok,
-        "line 1\n",
-    )?;
+fn only_nodes_that_an_event_names_have_a_row(rt: HostRuntime) -> Result<(), Fail> {
+    let wanted = b"<defs><g id='rows'>\n\
+        <path class='r' d='M120 28h24'/><text class='n' x='112' y='32'>dummy</text>\n\
+        </g>\n\
+        <g id='strip' transform='translate(4,0)'>\n\
+        <path class='c' d='M0 4v34'/><text x='3' y='12'>5</text>\n\
+        <path class='t' d='M8 14v4'/>\n\
+        <path class='t' d='M8 18v20'/><path class='l' d='M8 28m-4 0l4-4 4 4-4 4z'/>\n\
+        </g></defs>\n\
+        <g transform='translate(0,44)'><text class='n' x='112' y='12'>cycle 5</text>\
+        <use xlink:href='#rows'/><svg x='120' width='24' height='44' viewBox='0 0 24 44'>\
+        <use xlink:href='#strip'/></svg></g>\n\
+        </svg>\n";
+    expect_end(&rt, b"begin 5\ntick 5 dummy\n", wanted)?;
+    Ok(())
+}
+
+#[test]
+fn a_band_says_which_cycle_goes_on(rt: HostRuntime) -> Result<(), Fail> {
+    let mut trace = text(rt.alloc(), "begin 7\n")?;
+    for _ in 0..100 {
+        trace.extend(b"start 7 a\nfinish 7 a\n")?;
+    }
+    let wanted = b"<g transform='translate(0,44)'><text class='n' x='80' y='12'>cycle 7</text>\
+        <use xlink:href='#rows'/><svg x='88' width='1608' height='44' viewBox='0 0 1608 44'>\
+        <use xlink:href='#strip'/></svg></g>\n\
+        <g transform='translate(0,100)'><text class='n' x='80' y='12'>cycle 7</text>\
+        <use xlink:href='#rows'/><svg x='88' width='1608' height='44' viewBox='1600 0 1608 44'>\
+        <use xlink:href='#strip'/></svg></g>\n\
+        </svg>\n";
+    expect_end(&rt, trace.as_slice(), wanted)?;
+    Ok(())
+}
+
+#[test]
+fn the_whole_text_of_a_run_is_a_trace(rt: HostRuntime) -> Result<(), Fail> {
+    let run = b"link a.out o.in 48000 1 2\nnolink a.out o.in loop\nunlink a.out o.in\n\
+        nounlink a.out o.in\nbegin 5\ntick 5 dummy\nwrote o 4\npeak p 9\nunused q\n";
+    let wanted = b"<path class='t' d='M8 14v4'/>\n\
+        <path class='t' d='M8 18v20'/><path class='l' d='M8 28m-4 0l4-4 4 4-4 4z'/>\n\
+        </g></defs>\n\
+        <g transform='translate(0,44)'><text class='n' x='112' y='12'>cycle 5</text>\
+        <use xlink:href='#rows'/><svg x='120' width='24' height='44' viewBox='0 0 24 44'>\
+        <use xlink:href='#strip'/></svg></g>\n\
+        </svg>\n";
+    expect_end(&rt, run, wanted)?;
+    Ok(())
+}
+
+#[test]
+fn a_trace_is_refused_at_its_first_bad_line(rt: HostRuntime) -> Result<(), Fail> {
+    let table = [
+        ("begin 0\nstart 0 b\n", 2, "line 2\n"),
+        ("begin 00\n", 1, "line 1\n"),
+        (
+            "link a.out o.in 48000 1 2\nbegin 0\n\nend 0\n",
+            3,
+            "line 3\n",
+        ),
+        ("wrotes\n", 1, "line 1\n"),
+    ];
+    for (trace, number, wanted) in table {
+        expect(
+            &rt,
+            "timeline s t",
+            TWO,
+            trace,
+            Status::Line { number },
+            wanted,
+        )?;
+    }
+    Ok(())
+}
+
+// What is printed of `wave w`, where `w` holds these bytes, is this text, with this status.
+fn expect_wave<R: AllocGlobal + Abort>(
+    rt: &R,
+    bytes: &[u8],
+    status: Status,
+    wanted: &[u8],
+) -> Result<(), Memory> {
+    let alloc = rt.alloc();
+    let words = words_of(alloc, "wave w")?;
+    let mut files = SureFiles::new(alloc)?;
+    files.add_file(alloc, &text(alloc, "w")?, bytes)?;
+    let mut out = SureSink::new(alloc)?;
+    let ended = print_picture(alloc, words.as_slice(), &mut files, &mut out);
+    assert!(rt; ended == status);
+    assert!(rt; out.bytes().as_slice() == wanted);
+    Ok(())
+}
+
+// Five frames of two channels, at 1,000 a second: 0 100, 16384 -256, -32768 255, 32767 1, -1 2.
+const FIVE: &[u8] =
+    b"RIFF\x38\0\0\0WAVEfmt \x10\0\0\0\x01\0\x02\0\xe8\x03\0\0\xa0\x0f\0\0\x04\0\x10\0\
+    data\x14\0\0\0\0\0\x64\0\0\x40\0\xff\0\x80\xff\0\xff\x7f\x01\0\xff\xff\x02\0";
+
+#[test]
+fn a_wave_shows_the_least_and_the_greatest_sample_of_each_column(
+    rt: HostRuntime,
+) -> Result<(), Fail> {
+    let wanted =
+        b"<svg xmlns='http://www.w3.org/2000/svg' version='1.1' width='1096' height='660'>\n\
+        <style>text{font:12px monospace}.n{text-anchor:end}.m{text-anchor:middle}\n\
+        .t{stroke:gray;stroke-dasharray:1 3}.g{fill:whitesmoke}.z{stroke:silver}\n\
+        .k{fill:red}g{fill:steelblue}</style><path fill='white' d='M0 0H9999V9999H0z'/>\n\
+        <text x='8' y='16'>frames 5, rate 1000, seconds 0.005, channels 2</text>\n\
+        <path class='k' d='M8 26h10v10h-10z'/><text x='24' y='36'>clipped: a sample is 32767 or -32768</text>\
+        <text x='8' y='646'>s</text>\n\
+        <path class='g' d='M48 72h1000v256h-1000z'/><path class='z' d='M48 199h1000'/>\n\
+        <text x='48' y='60'>channel 1</text><text class='n' x='44' y='82'>1</text>\
+        <text class='n' x='44' y='204'>0</text><text class='n' x='44' y='328'>-1</text>\n\
+        <g transform='translate(48,72) scale(200,1)'>\n\
+        <path d='M0 127h1v1h-1z'/>\n\
+        <path d='M1 63h1v1h-1z'/>\n\
+        <path class='k' d='M2 255h1v1h-1zM2 -8h1v6h-1z'/>\n\
+        <path class='k' d='M3 0h1v1h-1zM3 -8h1v6h-1z'/>\n\
+        <path d='M4 128h1v1h-1z'/>\n\
+        </g>\n\
+        <path class='g' d='M48 372h1000v256h-1000z'/><path class='z' d='M48 499h1000'/>\n\
+        <text x='48' y='360'>channel 2</text><text class='n' x='44' y='382'>1</text>\
+        <text class='n' x='44' y='504'>0</text><text class='n' x='44' y='628'>-1</text>\n\
+        <g transform='translate(48,372) scale(200,1)'>\n\
+        <path d='M0 127h1v1h-1z'/>\n\
+        <path d='M1 128h1v1h-1z'/>\n\
+        <path d='M2 127h1v1h-1z'/>\n\
+        <path d='M3 127h1v1h-1z'/>\n\
+        <path d='M4 127h1v1h-1z'/>\n\
+        </g>\n\
+        <path class='t' d='M48 72V628'/><text class='m' x='48' y='646'>0.000</text>\n\
+        <path class='t' d='M248 72V628'/><text class='m' x='248' y='646'>0.001</text>\n\
+        <path class='t' d='M448 72V628'/><text class='m' x='448' y='646'>0.002</text>\n\
+        <path class='t' d='M648 72V628'/><text class='m' x='648' y='646'>0.003</text>\n\
+        <path class='t' d='M848 72V628'/><text class='m' x='848' y='646'>0.004</text>\n\
+        <path class='t' d='M1048 72V628'/><text class='m' x='1048' y='646'>0.005</text>\n\
+        </svg>\n";
+    expect_wave(&rt, FIVE, Status::Ok, wanted)?;
+    Ok(())
+}
+
+#[test]
+fn a_wave_without_frames_has_an_empty_lane(rt: HostRuntime) -> Result<(), Fail> {
+    let empty =
+        b"RIFF\x24\0\0\0WAVEfmt \x10\0\0\0\x01\0\x01\0\xe8\x03\0\0\xd0\x07\0\0\x02\0\x10\0data\0\0\0\0";
+    let wanted =
+        b"<svg xmlns='http://www.w3.org/2000/svg' version='1.1' width='1096' height='360'>\n\
+        <style>text{font:12px monospace}.n{text-anchor:end}.m{text-anchor:middle}\n\
+        .t{stroke:gray;stroke-dasharray:1 3}.g{fill:whitesmoke}.z{stroke:silver}\n\
+        .k{fill:red}g{fill:steelblue}</style><path fill='white' d='M0 0H9999V9999H0z'/>\n\
+        <text x='8' y='16'>frames 0, rate 1000, seconds 0.000, channels 1</text>\n\
+        <path class='k' d='M8 26h10v10h-10z'/><text x='24' y='36'>clipped: a sample is 32767 or -32768</text>\
+        <text x='8' y='346'>s</text>\n\
+        <path class='g' d='M48 72h0v256h-0z'/><path class='z' d='M48 199h0'/>\n\
+        <text x='48' y='60'>channel 1</text><text class='n' x='44' y='82'>1</text>\
+        <text class='n' x='44' y='204'>0</text><text class='n' x='44' y='328'>-1</text>\n\
+        <g transform='translate(48,72) scale(1000,1)'>\n\
+        </g>\n\
+        <path class='t' d='M48 72V328'/><text class='m' x='48' y='346'>0.000</text>\n\
+        </svg>\n";
+    expect_wave(&rt, empty, Status::Ok, wanted)?;
+    Ok(())
+}
+
+#[test]
+fn a_file_that_is_no_wave_is_refused_by_its_fault(rt: HostRuntime) -> Result<(), Fail> {
+    let refused = |why| Status::Wav { place: 1, why };
+    expect_wave(&rt, b"", refused(WavFault::NotRiff), b"wav 1 1\n")?;
+    expect_wave(&rt, &FIVE[..60], refused(WavFault::Truncated), b"wav 1 6\n")?;
+    Ok(())
+}
+
+// The sentence of a status, after the words of a line.
+fn expect_sentence<R: AllocGlobal + Abort>(
+    rt: &R,
+    line: &str,
+    status: Status,
+    wanted: &str,
+) -> Result<(), Memory> {
+    let alloc = rt.alloc();
+    let words = words_of(alloc, line)?;
+    let sentence = explain(alloc, words.as_slice(), status)?;
+    assert!(rt; sentence.as_slice() == wanted.as_bytes(), "{line}");
+    Ok(())
+}
+
+#[test]
+fn a_refusal_has_a_sentence_for_people(rt: HostRuntime) -> Result<(), Fail> {
+    let why = WavFault::NotPcm16;
+    let table = [
+        ("graph s", Status::Ok, ""),
+        (
+            "draw s",
+            Status::Usage { word: 0 },
+            "usage: pipegraph-pictures graph SCRIPT | timeline SCRIPT TRACE | wave FILE\n",
+        ),
+        (
+            "graph s",
+            Status::Script {
+                line: 2,
+                why: ScriptWhy::QuantumLate,
+            },
+            "pipegraph-pictures: s:2: pipegraph refuses this line too, and says why\n",
+        ),
+        (
+            "timeline s t",
+            Status::Line { number: 7 },
+            "pipegraph-pictures: t:7: no line of a run\n",
+        ),
+        (
+            "wave w",
+            Status::Wav { place: 1, why },
+            "pipegraph-pictures: w: only PCM of 16 bits a sample is read\n",
+        ),
+        (
+            "timeline s t",
+            Status::Absent { place: 4294967295 },
+            "pipegraph-pictures: cannot read t: there is no such file\n",
+        ),
+        (
+            "graph \u{1b}[1m",
+            Status::ReadFault { place: 0 },
+            "pipegraph-pictures: cannot read ?[1m: the system refuses it\n",
+        ),
+        (
+            "graph s",
+            Status::WriteFault,
+            "pipegraph-pictures: the picture could not be written\n",
+        ),
+        (
+            "graph s",
+            Status::Limit {
+                place: 0,
+                which: Which::ScriptBytes,
+            },
+            "pipegraph-pictures: cannot read s: it has more than 1048576 bytes\n",
+        ),
+        (
+            "wave w",
+            Status::Memory,
+            "pipegraph-pictures: no memory was left\n",
+        ),
+    ];
+    for (line, status, wanted) in table {
+        expect_sentence(&rt, line, status, wanted)?;
+    }
     Ok(())
 }
 
@@ -148,7 +397,11 @@ fn words_and_files_are_refused_by_cause(rt: HostRuntime) -> Result<(), Fail> {
         ("timeline s", usage(2), "usage 2\n"),
         ("timeline s -t", usage(2), "usage 2\n"),
         ("timeline s t u", usage(3), "usage 3\n"),
+        ("wave", usage(1), "usage 1\n"),
+        ("wave -s", usage(1), "usage 1\n"),
+        ("wave s t", usage(2), "usage 2\n"),
         ("graph u", Status::Absent { place: 0 }, "absent 0\n"),
+        ("wave u", Status::Absent { place: 1 }, "absent 1\n"),
         (
             "timeline s u",
             Status::Absent { place: 4294967295 },

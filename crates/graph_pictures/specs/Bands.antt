@@ -1,0 +1,42 @@
+-- Bands of a timeline: its strip is cut after each 200 events, one band under the other. Each shows
+-- all rows, and says which cycle goes on where it begins.
+-- Source: w3.org, "SVG 1.1": `svg` inside `svg` shows what its viewBox says; `use` draws a group.
+use Rattle.std.specs.Prelude.{ℕ, ◌+◌, ◌-◌, ◌*◌, List, [], ◌∷◌, ◌++◌, take, fold, flat_map, codes}
+use Rattle.std.specs.Prelude.{Option, Some, None}
+use Rattle.std.specs.Option.{option_or}
+use Rattle.std.specs.List.{range_with_len}
+use Rattle.pw_base.specs.declared.event.Event.{Event}
+use Rattle.pw_base.specs.declared.event.Event.TheVariants.{Begin}
+use Rattle.graph_pictures.specs.declared.frame.Frame.{Frame}
+use Rattle.graph_pictures.specs.Filling.{filled}
+
+-- the cycle that an event begins, and the last that events begin
+abbrev pub begun : Event → Option ℕ
+begun (Begin cycle) = Some cycle
+begun other = None
+
+abbrev pub last_begun : List Event → Option ℕ
+last_begun events = fold (λ last event. option_or (begun event) last) None events
+
+-- the label of a band, beside its left: the cycle, where one has begun
+abbrev pub cycle_text : ℕ → Option ℕ → List ℕ
+cycle_text left None = []
+cycle_text left (Some cycle) =
+    filled (codes "<text class='n' x='%' y='12'>cycle %</text>") ((left - 8) ∷ cycle ∷ [])
+
+-- a band: its cycle, the rows, and before them the part of the strip that it shows
+unfoldable pub band_parts : Frame → Option ℕ → ℕ → List ℕ
+band_parts f cycle band =
+    filled (codes "<g transform='translate(0,%)'>") ((44 + (36 + f.high) * band) ∷ [])
+    ++ cycle_text f.left cycle
+    ++ filled (codes "<use xlink:href='#rows'/><svg x='%' width='%' height='%' viewBox='% 0 % %'>")
+    (f.left ∷ f.wide ∷ (24 + f.high) ∷ (1600 * band) ∷ f.wide ∷ (24 + f.high) ∷ [])
+    ++ filled (codes "<use xlink:href='#strip'/></svg></g>\n") []
+
+-- the band whose first event has the index 200 band
+abbrev pub band_text : Frame → List Event → ℕ → List ℕ
+band_text f shown band = band_parts f (last_begun (take (200 * band + 1) shown)) band
+
+-- THE BANDS of events
+abbrev pub bands_text : Frame → List Event → List ℕ
+bands_text f shown = flat_map (band_text f shown) (range_with_len 0 f.bands)

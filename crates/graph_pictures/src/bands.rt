@@ -1,0 +1,107 @@
+//! The bands of a timeline at the end of a text. After `Memory` the text has a part of them.
+ghost use Rattle.std.specs.Prelude.{◌≡◌, ◌≤◌, ◌++◌, length, take, OnOk};
+ghost use Rattle.std.specs.Option.{option_or};
+ghost use Rattle.graph_pictures.specs.Bands.{begun, last_begun, cycle_text, band_parts, band_text, bands_text};
+ghost use Rattle.graph_pictures.specs.Sizes.{AreSizes};
+
+use crate::filling::fill;
+use crate::frame::Frame;
+use pw_base::{Event, Memory, Text};
+
+/// The first of events, `most` at most.
+#[tactic(auto, using(crate::proofs::Grown::firsts))]
+pub(crate) fn first_of(events: &[Event], most: usize) -> &[Event]
+    ensures value { result.now ≡ take most events.now }
+    ensures few { length result.now ≤ most }
+{
+    if events.len() <= most {
+        events
+    } else {
+        &events[..most]
+    }
+}
+
+// The cycle that an event begins, or else the one before.
+fn begun_after(last: Option<u32>, event: Event) -> Option<u32>
+    ensures { result ≡ option_or (begun event) last }
+{
+    match event {
+        Event::Begin { cycle } => Some(cycle),
+        _ => last,
+    }
+}
+
+// The last cycle that events begin.
+fn last_begun(events: &[Event]) -> Option<u32>
+    ensures { result ≡ last_begun events.now }
+{
+    let mut last = None;
+    for event in events {
+        last = begun_after(last, *event);
+    }
+    last
+}
+
+// The label of a band.
+fn put_cycle(text: &mut Text, left: u64, cycle: Option<u32>) -> Result<(), Memory>
+    requires { 8 ≤ left }
+    ensures { OnOk result (text.new ≡ text.old ++ cycle_text left cycle) }
+{
+    match cycle {
+        None => Ok(()),
+        Some(cycle) => fill(
+            text,
+            b"<text class='n' x='%' y='12'>cycle %</text>",
+            &[left - 8, u64::from(cycle)],
+        ),
+    }
+}
+
+// A band in which this cycle goes on.
+fn put_parts(text: &mut Text, frame: Frame, cycle: Option<u32>, band: u64) -> Result<(), Memory>
+    requires sizes { AreSizes frame }
+    requires band { band ≤ 4 }
+    ensures { OnOk result (text.new ≡ text.old ++ band_parts frame cycle band) }
+{
+    let Frame {
+        left,
+        wide,
+        high,
+        ..
+    } = frame;
+    fill(
+        text,
+        b"<g transform='translate(0,%)'>",
+        &[44 + (36 + high) * band],
+    )?;
+    put_cycle(text, left, cycle)?;
+    fill(
+        text,
+        b"<use xlink:href='#rows'/><svg x='%' width='%' height='%' viewBox='% 0 % %'>",
+        &[left, wide, 24 + high, 1600 * band, wide, 24 + high],
+    )?;
+    fill(text, b"<use xlink:href='#strip'/></svg></g>\n", &[])?;
+    Ok(())
+}
+
+// The band whose first event has the index 200 times its number.
+fn put_band(text: &mut Text, frame: Frame, shown: &[Event], band: u64) -> Result<(), Memory>
+    requires sizes { AreSizes frame }
+    requires band { band ≤ 4 }
+    ensures { OnOk result (text.new ≡ text.old ++ band_text frame shown.now band) }
+{
+    let before = first_of(shown, 200 * band as usize + 1);
+    put_parts(text, frame, last_begun(before), band)
+}
+
+/// The bands of events.
+#[tactic(auto, using(crate::proofs::RangeLemmas::ranges))]
+pub(crate) fn put_bands(text: &mut Text, frame: Frame, shown: &[Event]) -> Result<(), Memory>
+    requires sizes { AreSizes frame }
+    ensures { OnOk result (text.new ≡ text.old ++ bands_text frame shown.now) }
+{
+    for band in 0..frame.bands {
+        put_band(text, frame, shown, band)?;
+    }
+    Ok(())
+}

@@ -1,0 +1,183 @@
+//! Sentences for people.
+ghost use Rattle.std.specs.Prelude.{◌≡◌, ◌++◌, ◌∷◌, [], map, string_bytes, slice_index_or, IfOk, OnOk};
+ghost use Rattle.graph_pictures.specs.Filling.{filled};
+ghost use Rattle.graph_pictures.specs.Sentences.{shown_byte, file_word, wav_said, bytes_said, of_file, explained};
+
+use crate::filling::fill;
+use crate::status::Status;
+use pw_base::{Items, Memory, Text, Which};
+use std::alloc::Global;
+use wav_files::WavFault;
+
+/// The place of a trace.
+const TRACE_PLACE: u32 = u32::MAX;
+
+// A byte as a terminal may show it.
+fn shown_byte(byte: u8) -> u8
+    ensures { result ≡ shown_byte byte }
+{
+    if byte < 32 || byte == 127 { b'?' } else { byte }
+}
+
+// The word at an index: nothing where there is none.
+fn word_at(words: &[String], index: usize) -> &[u8]
+    ensures { result.now ≡ slice_index_or (map string_bytes words.now) index [] }
+{
+    match words.get(index) {
+        None => b"".as_slice(),
+        Some(word) => word.as_bytes(),
+    }
+}
+
+// The file at a place.
+fn file_word(words: &[String], place: u32) -> &[u8]
+    ensures { result.now ≡ file_word (map string_bytes words.now) place }
+{
+    if place == TRACE_PLACE {
+        word_at(words, 2)
+    } else {
+        word_at(words, 1)
+    }
+}
+
+// Bytes as a terminal may show them.
+fn put_shown(text: &mut Text, bytes: &[u8]) -> Result<(), Memory>
+    ensures { OnOk result (text.new ≡ text.old ++ map shown_byte bytes.now) }
+{
+    for byte in bytes {
+        text.push(shown_byte(*byte))?;
+    }
+    Ok(())
+}
+
+// What is wrong with a WAV file.
+fn wav_said(why: WavFault) -> &'static [u8]
+    ensures { result.now ≡ wav_said why }
+{
+    match why {
+        WavFault::NotRiff => b": this is no RIFF WAVE file\n",
+        WavFault::NoFmt => b": there is no fmt chunk before the samples\n",
+        WavFault::BadFmt => b": the fmt chunk is not sound\n",
+        WavFault::NotPcm16 => b": only PCM of 16 bits a sample is read\n",
+        WavFault::NoData => b": there is no data chunk\n",
+        WavFault::Truncated => b": a chunk passes the end of the file\n",
+        WavFault::Uneven => b": the samples are not whole frames\n",
+        WavFault::ChannelsOrRate => {
+            b": only 1 to 8 channels at 1 to 384000 frames a second are read\n"
+        }
+        WavFault::Memory => b": no memory was left\n",
+    }
+}
+
+// The bytes that a file may have.
+fn bytes_said(which: Which) -> &'static [u8]
+    ensures { result.now ≡ bytes_said which }
+{
+    match which {
+        Which::ScriptBytes => b": it has more than 1048576 bytes\n",
+        _ => b": it has more than 268435456 bytes\n",
+    }
+}
+
+// A sentence about a file.
+fn put_of_file(
+    text: &mut Text,
+    front: &[u8],
+    words: &[String],
+    place: u32,
+    said: &[u8],
+) -> Result<(), Memory>
+    ensures { OnOk result (text.new ≡ text.old
+        ++ of_file front.now (map string_bytes words.now) place said.now) }
+{
+    text.extend(b"pipegraph-pictures: ")?;
+    text.extend(front)?;
+    put_shown(text, file_word(words, place))?;
+    text.extend(said)?;
+    Ok(())
+}
+
+// A sentence about a line of a file.
+fn put_of_line(
+    alloc: Global,
+    text: &mut Text,
+    words: &[String],
+    place: u32,
+    number: u64,
+    form: &[u8],
+) -> Result<(), Memory>
+    ensures { OnOk result (text.new ≡ text.old
+        ++ of_file [] (map string_bytes words.now) place (filled form.now (number ∷ []))) }
+{
+    let mut said = Items::new(alloc);
+    fill(&mut said, form, &[number])?;
+    put_of_file(text, &[], words, place, said.as_slice())
+}
+
+// The sentence of a status.
+#[tactic(auto, unfolding(crate::specs::Sentences::explained))]
+fn put_sentence(
+    alloc: Global,
+    text: &mut Text,
+    words: &[String],
+    status: Status,
+) -> Result<(), Memory>
+    ensures { OnOk result
+        (text.new ≡ text.old ++ explained (map string_bytes words.now) status) }
+{
+    match status {
+        Status::Ok => Ok(()),
+        Status::Usage { .. } => text.extend(
+            b"usage: pipegraph-pictures graph SCRIPT | timeline SCRIPT TRACE | wave FILE\n",
+        ),
+        Status::Script { line, .. } => put_of_line(
+            alloc,
+            text,
+            words,
+            0,
+            u64::from(line),
+            b":%: pipegraph refuses this line too, and says why\n",
+        ),
+        Status::Line { number } => put_of_line(
+            alloc,
+            text,
+            words,
+            TRACE_PLACE,
+            number,
+            b":%: no line of a run\n",
+        ),
+        Status::Wav { place, why } => put_of_file(text, &[], words, place, wav_said(why)),
+        Status::Absent { place } => put_of_file(
+            text,
+            b"cannot read ",
+            words,
+            place,
+            b": there is no such file\n",
+        ),
+        Status::ReadFault { place } => put_of_file(
+            text,
+            b"cannot read ",
+            words,
+            place,
+            b": the system refuses it\n",
+        ),
+        Status::WriteFault => {
+            text.extend(b"pipegraph-pictures: the picture could not be written\n")
+        }
+        Status::Limit { place, which } => {
+            put_of_file(text, b"cannot read ", words, place, bytes_said(which))
+        }
+        Status::Memory => text.extend(b"pipegraph-pictures: no memory was left\n"),
+    }
+}
+
+/// The sentence that tells people why no picture was printed, by the words of the command line and
+/// by the status: nothing where all was done. Takes memory for the text.
+pub fn explain(alloc: Global, words: &[String], status: Status) -> Result<Text, Memory>
+    ensures { IfOk result
+        (λ text. text ≡ explained (map string_bytes words.now) status) }
+{
+    let mut text = Items::new(alloc);
+    put_sentence(alloc, &mut text, words, status)?;
+    Ok(text)
+}

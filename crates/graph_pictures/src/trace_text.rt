@@ -1,0 +1,126 @@
+//! The events of a run's text.
+ghost use Rattle.std.specs.Prelude.{◌≡◌, ◌<◌, List, [], ◌∷◌, ◌++◌, length, IfOk, IfErr, IfSome, MatchOption};
+ghost use Rattle.pw_base.specs.declared.event.Event.{Event};
+ghost use Rattle.cycle_trace.specs.TraceReading.{trace_lines, IsLineOf, IsNoLine, AreNames};
+ghost use Rattle.graph_pictures.specs.TraceText.{begins, is_passed, IsTrace, IsBadness, Takes};
+
+use cycle_trace::{TraceFault, read_events};
+use pw_base::{Event, Items, Memory, Text, next_piece};
+use std::alloc::Global;
+
+/// The first line of a text, if it has one, and the text after that.
+fn next_line(text: &[u8]) -> Option<(&[u8], &[u8])>
+    ensures lines { MatchOption result (trace_lines text.now ≡ [])
+        (λ cut. trace_lines text.now ≡ cut.0.now ∷ trace_lines cut.1.now) }
+    ensures whole { IfSome result
+        (λ cut. trace_lines (cut.0.now ++ 10 ∷ []) ≡ cut.0.now ∷ []) }
+    ensures shorter { IfSome result (λ cut. length cut.1.now < length text.now) }
+{
+    let (line, after) = next_piece(text, b'\n');
+    match after {
+        Some(more) => Some((line, more)),
+        None => {
+            if line.is_empty() {
+                None
+            } else {
+                Some((line, &[]))
+            }
+        }
+    }
+}
+
+// Whether a line begins with a word.
+fn begins(line: &[u8], word: &[u8]) -> bool
+    ensures { result ≡ begins line.now word.now }
+{
+    line.starts_with(word)
+}
+
+// Whether a line tells what a run did, and no event.
+fn is_passed(line: &[u8]) -> bool
+    ensures { result ≡ is_passed line.now }
+{
+    begins(line, b"link ")
+        || begins(line, b"nolink ")
+        || begins(line, b"unlink ")
+        || begins(line, b"nounlink ")
+        || begins(line, b"wrote ")
+        || begins(line, b"peak ")
+        || begins(line, b"unused ")
+}
+
+// The first of events, if there is one.
+fn first_event(events: &[Event]) -> Option<Event>
+    ensures { MatchOption result (events.now ≡ [])
+        (λ event. (rest : List Event) × (events.now ≡ event ∷ rest)) }
+{
+    match events {
+        [] => None,
+        [event, ..] => Some(*event),
+    }
+}
+
+// The event whose line it is, if there is one.
+fn read_line(alloc: Global, names: &Items<Text>, line: &[u8]) -> Result<Option<Event>, Memory>
+    requires names { AreNames names.now }
+    requires whole { trace_lines (line.now ++ 10 ∷ []) ≡ line.now ∷ [] }
+    ensures { IfOk result (λ read. MatchOption read (IsNoLine names.now line.now)
+        (IsLineOf names.now line.now)) }
+{
+    let mut text = Items::from_slice(alloc, line)?;
+    text.push(b'\n')?;
+    match read_events(alloc, names, text.as_slice()) {
+        Ok(events) => Ok(first_event(events.as_slice())),
+        Err(TraceFault::Line(_number)) => Ok(None),
+        Err(TraceFault::Memory) => Err(Memory),
+    }
+}
+
+// Takes a line: whether it is passed over or that of an event, which is added.
+fn take_line(
+    alloc: Global,
+    names: &Items<Text>,
+    line: &[u8],
+    events: &mut Items<Event>,
+) -> Result<bool, Memory>
+    requires names { AreNames names.now }
+    requires whole { trace_lines (line.now ++ 10 ∷ []) ≡ line.now ∷ [] }
+    ensures { IfOk result (Takes names.now line.now events.old events.new) }
+{
+    if is_passed(line) {
+        return Ok(true);
+    }
+    match read_line(alloc, names, line)? {
+        Some(event) => {
+            events.push(event)?;
+            Ok(true)
+        }
+        None => Ok(false),
+    }
+}
+
+/// The events of a run's text, or of its event lines alone: the lines that tell what links, sinks
+/// and meters did are passed over. Or the first line that is neither, counted from 1.
+///
+/// Takes memory for the events, and for each line; time in proportion to the bytes and the names.
+pub(crate) fn read_run(
+    alloc: Global,
+    names: &Items<Text>,
+    bytes: &[u8],
+) -> Result<Items<Event>, TraceFault>
+    requires { AreNames names.now }
+    ensures events { IfOk result (IsTrace names.now (trace_lines bytes.now)) }
+    ensures fault { IfErr result (IsBadness names.now (trace_lines bytes.now)) }
+{
+    let mut events = Items::new(alloc);
+    let mut rest = bytes;
+    let mut number: u64 = 1;
+    while let Some((line, more)) = next_line(rest) {
+        if !take_line(alloc, names, line, &mut events)? {
+            return Err(TraceFault::Line(number));
+        }
+        rest = more;
+        number += 1;
+    }
+    Ok(events)
+}
