@@ -3,6 +3,7 @@ use Rattle.std.proofs.Common.{◌≡◌, ℕ, zero, suc, ◌+◌, ◌<◌, ◌�
 use Rattle.std.specs.Prelude.{All, sum_by, count_by}
 use Rattle.std.specs.List.{AllZip}
 use Rattle.std.proofs.lemmas.List.{append_assoc, length-map, drop_more}
+use Rattle.std.proofs.lemmas.List.Elements.{All-head, All-tail}
 use Rattle.std.proofs.lemmas.Simd.{map-map}
 use Rattle.pw_base.specs.declared.event.Event.{Event}
 use Rattle.pw_base.specs.declared.shape.Shape.{Shape}
@@ -24,9 +25,10 @@ use Rattle.graph_run.specs.PlanRun.{IsRunOf}
 use Rattle.graph_run.specs.RunStages.{CanRunAlone, HasRunAlone}
 use Rattle.graph_run.proofs.RunStagesLemmas.{can_run, ended_of, boards_by}
 use Rattle.pw_base.specs.declared.parts.Part.{Part}
+use Rattle.driver_groups.specs.declared.running.Crew.{Crew}
 use Rattle.driver_groups.specs.declared.starting.Start.{Start}
 use Rattle.driver_groups.specs.GroupRun.{IsPartRun, AreRunsOf}
-use Rattle.driver_groups.specs.Groups.{IsStart, AreStarted, HasBegun, ArePrepared, IsRunOfPart, IsEndedPart}
+use Rattle.driver_groups.specs.Groups.{IsStart, AreStarted, HasBegun, ArePrepared, IsRunOfPart, IsEndedPart, CanRunAll, IsCrewOf}
 
 -- one more pair
 pub zip_push : {A B : Type 0} (R : A → B → Type 0) (xs : List A) (ys : List B) (x : A) (y : B) → AllZip R xs ys → R x y
@@ -61,6 +63,15 @@ zip_all R P gives (x ∷ xs) (y ∷ ys) t (suc k) d low = zip_all R P gives xs y
 -- a run that is the part's is one that may run
 pub part_can_run : (waves : List WavIn) (p : Part) (r : AloneRun) → IsRunOfPart waves p r → CanRunAlone r
 part_can_run waves p r is = can_run p.plan waves r is
+
+-- the runs of a crew of parts may run
+pub crew_can_run : (waves : List WavIn) (parts : List Part) (c : Crew) → IsCrewOf waves parts c → CanRunAll c
+crew_can_run waves parts c is =
+    let all = zip_all (IsRunOfPart waves) CanRunAlone (part_can_run waves) parts (c.first ∷ c.others) is.runs in record {
+      first = All-head CanRunAlone c.first c.others all;
+      others = All-tail CanRunAlone c.first c.others all;
+      room = is.room;
+    }
 
 -- what was begun, one more
 pub begun_more : (starts : List Start) (old ended : List EndedRun) (s : Start) (e : EndedRun) → AreStarted starts old ended

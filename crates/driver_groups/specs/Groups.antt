@@ -1,6 +1,6 @@
 -- Runs of parts by threads of their own, before and after.
 -- Source: this project's own.
-use Rattle.std.specs.Prelude.{◌≡◌, ℕ, ◌<◌, ◌≤◌, List, [], ◌++◌, length, sum_by, Result, IfOk, IfErr}
+use Rattle.std.specs.Prelude.{◌≡◌, ℕ, ◌<◌, ◌≤◌, List, [], ◌∷◌, ◌++◌, length, sum_by, Result, All, IfOk, IfErr}
 use Rattle.std.specs.List.{AllZip}
 use Rattle.pw_base.specs.declared.plan.Plan.{Plan}
 use Rattle.wav_files.specs.declared.wav.WavIn.{WavIn}
@@ -10,6 +10,7 @@ use Rattle.graph_run.specs.Assignment.{loop_of}
 use Rattle.graph_run.specs.RunStages.{IsAloneRun, CanRunAlone, HasRunAlone, IsEndedRun, HasBoardsBy}
 use Rattle.graph_run.specs.Leads.{checks_of}
 use Rattle.pw_base.specs.declared.parts.Part.{Part}
+use Rattle.driver_groups.specs.declared.running.Crew.{Crew}
 use Rattle.driver_groups.specs.declared.running.Places.{Places}
 use Rattle.driver_groups.specs.declared.starting.Start.{Start}
 use Rattle.driver_groups.specs.declared.starting.Start.TheVariants.{Running, Waiting, Done}
@@ -48,6 +49,17 @@ pub record HaveRoom (count : ℕ) (p : Places) : Type 0 where
 -- what may run, in the order of the parts
 abbrev pub ArePrepared : List WavIn → List Part → List AloneRun → Type 0
 ArePrepared waves parts runs = AllZip (IsRunOfPart waves) parts runs
+
+-- all runs, which may run, and room for them
+pub record CanRunAll (c : Crew) : Type 0 where
+  pub first : CanRunAlone c.first
+  pub others : All CanRunAlone c.others
+  pub room : HaveRoom (length c.others) c.places
+
+-- the same of the parts
+pub record IsCrewOf (waves : List WavIn) (parts : List Part) (c : Crew) : Type 0 where
+  pub runs : ArePrepared waves parts (c.first ∷ c.others)
+  pub room : HaveRoom (length c.others) c.places
 
 -- the run of a part's plan that has ended, by one thread and without a check
 pub record IsEndedPart (waves : List WavIn) (plan : Plan) (e : EndedRun) : Type 0 where

@@ -10,4 +10,4 @@ mod preparing;
 mod running;
 mod starting;
 
-pub use group_run::run_parts;
+pub use group_run::{run_parts, run_parts_with};

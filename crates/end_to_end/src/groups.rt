@@ -93,6 +93,73 @@ const PARTS: &'static [Row<'static>] = &[
     },
 ];
 
+/// Sinks and meters of two parts in turn, and all sinks in one file: of two parts in the order of
+/// their first nodes the last sink would be another one.
+const IN_TURN: Row<'static> = Row {
+    line: "groups s.graph",
+    script: b"quantum 2\nsquare a 48000 1 4 100\nsquare b 48000 1 4 50\nsink o x.wav\nmeter m\n\
+        sink p x.wav\nsink q x.wav\nmeter n\nlink a.out o.in\nlink b.out m.in\nlink b.out p.in\n\
+        link a.out q.in\nlink a.out n.in\ncycles 1\n",
+    text: b"link a.out o.in 48000 1 2\nlink b.out m.in 48000 1 2\nlink b.out p.in 48000 1 2\n\
+        link a.out q.in 48000 1 2\nlink a.out n.in 48000 1 2\nwrote o 2\npeak m 50\nwrote p 2\n\
+        wrote q 2\npeak n 100\n",
+    stored: &[("x.wav", Some(Held::Mono(&[100, 100])))],
+    ..RUN
+};
+
+/// A script of which another driver leaves the sink idle in the whole, so that it takes another
+/// rate there. In its part it was heard, and keeps the rate it had.
+const UNLIKE: Row<'static> = Row {
+    line: "groups s.graph",
+    script: b"quantum 2\nsquare q 48000 1 4 1\nsquare r 44100 1 4 1\nsink o o.wav\nmeter m\n\
+        driver o 1\ndriver m 2\nlink q.out o.in\ncycles 1\nunlink q.out o.in\nlink r.out o.in\n",
+    text: b"link q.out o.in 48000 1 2\nunlink q.out o.in\nnolink r.out o.in 65539\nwrote o 2\n\
+        unused m\n",
+    stored: &[("o.wav", Some(Held::Mono(&[1, 1])))],
+    ..RUN
+};
+
+/// Lines within a part and between two, a part whose links are late, sinks in turn, and a part that
+/// differs from the whole.
+const LINES: &'static [Row<'static>] = &[
+    Row {
+        line: "groups s.graph",
+        script: b"gain a 256\ngain b 256\nsink o o.wav\nbuffers b out 3\nbuffers o in 4\n\
+            link a.out b.in\nlink b.out a.in\nlink a.out b.in\nlink a.out a.in\n\
+            link b.out o.in\nunlink b.out o.in\nunlink a.out b.in\n",
+        text: b"link a.out b.in 48000 2 2\nnolink b.out a.in loop\nnolink a.out b.in twice\n\
+            nolink a.out a.in loop\nnolink b.out o.in buffers\nnounlink b.out o.in\n\
+            unlink a.out b.in\nunused o\n",
+        ..RUN
+    },
+    Row {
+        line: "groups s.graph",
+        script: b"quantum 2\nsource s s.wav\nsource t t.wav\ngain g 256\nsink o o.wav\n\
+            sink p p.wav\nasync g\ndriver o 1\ndriver p 1\nlink s.out g.in\nlink g.out o.in\n\
+            link t.out p.in\ncycles 3\n",
+        files: &[
+            ("s.wav", Held::Mono(&[1, 2])),
+            ("t.wav", Held::Mono(&[3, 4, 5])),
+        ],
+        text: b"link s.out g.in 48000 1 2\nlink g.out o.in 48000 1 2\nlink t.out p.in 48000 1 2\n\
+            wrote o 6\nwrote p 6\n",
+        stored: &[
+            ("o.wav", Some(Held::Mono(&[0, 0, 0, 0, 1, 2]))),
+            ("p.wav", Some(Held::Mono(&[3, 4, 5, 0, 0, 0]))),
+        ],
+        ..RUN
+    },
+    IN_TURN,
+    UNLIKE,
+    Row {
+        line: "run s.graph",
+        text: b"link q.out o.in 48000 1 2\nunlink q.out o.in\nlink r.out o.in 44100 1 2\n\
+            wrote o 0\nunused m\n",
+        stored: &[],
+        ..UNLIKE
+    },
+];
+
 #[test]
 fn parts_drain_alone(rt: HostRuntime) {
     assert_eq!(rt; first_unlike(&rt, DRAINS), None);
@@ -101,4 +168,9 @@ fn parts_drain_alone(rt: HostRuntime) {
 #[test]
 fn nodes_are_in_parts(rt: HostRuntime) {
     assert_eq!(rt; first_unlike(&rt, PARTS), None);
+}
+
+#[test]
+fn lines_and_sinks_of_parts_stand_in_order(rt: HostRuntime) {
+    assert_eq!(rt; first_unlike(&rt, LINES), None);
 }

@@ -6,6 +6,8 @@
 
 mod group;
 #[cfg(test)]
+mod refusals;
+#[cfg(test)]
 mod runs;
 
 pub use group::{Group, GroupRow, group_of};

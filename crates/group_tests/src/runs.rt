@@ -13,10 +13,10 @@ use wav_files::Outcome;
 /// A run: the node and the samples of the one sink that works in each part, and the closed boards
 /// of all parts.
 #[derive(Clone, Copy, Drop)]
-struct RunRow<'a> {
-    group: GroupRow<'a>,
-    kept: &'a [(u32, &'a [i16])],
-    boards: usize,
+pub(crate) struct RunRow<'a> {
+    pub group: GroupRow<'a>,
+    pub kept: &'a [(u32, &'a [i16])],
+    pub boards: usize,
 }
 
 /// Two devices of unequal length, each with its own source.
@@ -65,6 +65,22 @@ const ONE_PART: RunRow<'static> = RunRow {
     boards: 1,
 };
 
+/// Two squares that one sink hears, and one with a sink of its own.
+const TWO_AND_ONE: RunRow<'static> = RunRow {
+    group: GroupRow {
+        texts: &[
+            "quantum 2\nsquare a 48000 1 4 100\nsquare b 48000 1 4 50\nsquare c 48000 1 4 10\n\
+                sink o o.wav\nsink p p.wav\ndriver o 1\nlink a.out o.in\nlink b.out o.in\n\
+                cycles 1\n",
+            "quantum 2\nsquare a 48000 1 4 100\nsquare b 48000 1 4 50\nsquare c 48000 1 4 10\n\
+                sink o o.wav\nsink p p.wav\ndriver p 1\nlink c.out p.in\ncycles 1\n",
+        ],
+        sources: &[],
+    },
+    kept: &[(3, &[150, 150]), (4, &[10, 10])],
+    boards: 2,
+};
+
 /// No part at all.
 const NO_PART: RunRow<'static> = RunRow {
     group: GroupRow {
@@ -95,8 +111,8 @@ fn has_run(part: &Part, outcome: &Outcome, node: u32, samples: &[i16]) -> bool {
         && is_legal_history(part.plan.epochs.as_slice(), outcome.history.as_slice())
 }
 
-// Whether each part has run so.
-fn have_run(parts: &[Part], outcomes: &[Outcome], kept: &[(u32, &[i16])]) -> bool {
+/// Whether each part has run so.
+pub(crate) fn have_run(parts: &[Part], outcomes: &[Outcome], kept: &[(u32, &[i16])]) -> bool {
     if outcomes.len() != kept.len() || parts.len() != kept.len() {
         return false;
     }
@@ -143,7 +159,7 @@ fn row_goes<R: Threads + Wait + Sync, G: Gate + Sync>(
 
 // The first row that goes otherwise.
 fn first_unlike<R: Threads + Wait + Sync>(rt: &R, alloc: Global) -> Option<usize> {
-    let rows = [TWO_FILES, TWO_SQUARES, ONE_PART, NO_PART];
+    let rows = [TWO_FILES, TWO_SQUARES, ONE_PART, TWO_AND_ONE, NO_PART];
     for place in 0..rows.len() {
         if !row_goes(rt, alloc, &rows[place], &Open::new()) {
             return Some(place);
@@ -158,16 +174,42 @@ fn each_part_keeps_its_own_samples(rt: HostRuntime) -> Result<(), Fail> {
     Ok(())
 }
 
-// Whether the nodes 0 and 1 of a row meet.
-fn meets<R: Threads + Wait + Sync>(rt: &R, alloc: Global, row: &RunRow<'_>) -> bool {
-    let gate = Meet::new(0, 1);
+// Whether two nodes of a row meet.
+fn meets<R: Threads + Wait + Sync>(
+    rt: &R,
+    alloc: Global,
+    row: &RunRow<'_>,
+    a: u32,
+    b: u32,
+) -> bool {
+    let gate = Meet::new(a, b);
     row_goes(rt, alloc, row, &gate) && gate.met()
 }
 
 #[test]
 fn nodes_of_two_parts_meet(rt: HostRuntime) -> Result<(), Fail> {
-    assert!(rt; meets(&rt, rt.alloc(), &TWO_FILES));
-    assert!(rt; meets(&rt, rt.alloc(), &TWO_SQUARES));
-    assert!(rt; !meets(&rt, rt.alloc(), &ONE_PART));
+    assert!(rt; meets(&rt, rt.alloc(), &TWO_FILES, 0, 1));
+    assert!(rt; meets(&rt, rt.alloc(), &TWO_SQUARES, 0, 1));
+    assert!(rt; meets(&rt, rt.alloc(), &TWO_AND_ONE, 0, 2));
+    assert!(rt; meets(&rt, rt.alloc(), &TWO_AND_ONE, 1, 2));
+    Ok(())
+}
+
+// Whether a row goes as wanted, and two of its nodes do not meet.
+fn goes_apart<R: Threads + Wait + Sync>(
+    rt: &R,
+    alloc: Global,
+    row: &RunRow<'_>,
+    a: u32,
+    b: u32,
+) -> bool {
+    let gate = Meet::new(a, b);
+    row_goes(rt, alloc, row, &gate) && !gate.met()
+}
+
+#[test]
+fn nodes_of_one_part_do_not_meet(rt: HostRuntime) -> Result<(), Fail> {
+    assert!(rt; goes_apart(&rt, rt.alloc(), &ONE_PART, 0, 1));
+    assert!(rt; goes_apart(&rt, rt.alloc(), &TWO_AND_ONE, 0, 1));
     Ok(())
 }

@@ -3,12 +3,27 @@
 use crate::silence::Silence;
 use crate::texts::{TextFault, plans_text};
 use graph_plan::PlanFault;
-use pw_base::{LineOutcome, LinkLine, Memory, Part, Parts, Which};
+use pw_base::{LineOutcome, LinkLine, Memory, Part, Parts, Shape, Which};
 use std::alloc::Global;
 use std::process::Abort;
 use std::test::Fail;
 
-// A part: its nodes, and of each of its epochs the cycles and the driver.
+// How many links of a shape are late, where some are.
+fn put_late(alloc: Global, text: &mut String, shape: &Shape) -> Result<(), Memory> {
+    let mut late = 0u64;
+    for link in shape.links.as_slice() {
+        if link.delayed {
+            late = late.saturating_add(1);
+        }
+    }
+    if late > 0 {
+        let word = format!(in alloc; " late {late}")?;
+        text.push_str(word.as_str())?;
+    }
+    Ok(())
+}
+
+// A part: its nodes, and of each of its epochs the cycles, the driver and the nodes.
 fn put_part(alloc: Global, text: &mut String, part: &Part) -> Result<(), Memory> {
     text.push_str("part")?;
     for node in part.nodes.as_slice() {
@@ -19,13 +34,15 @@ fn put_part(alloc: Global, text: &mut String, part: &Part) -> Result<(), Memory>
     for epoch in part.plan.epochs.as_slice() {
         let shape = &epoch.shape;
         let line = format!(in alloc;
-            "from {} cycles {} driver {} of {}\n",
+            "from {} cycles {} driver {} of {}",
             shape.first,
             shape.cycles,
             shape.driver,
             shape.nodes.len()
         )?;
         text.push_str(line.as_str())?;
+        put_late(alloc, text, shape)?;
+        text.push('\n')?;
     }
     Ok(())
 }
@@ -127,6 +144,36 @@ fn lines_between_parts_change_nothing(rt: HostRuntime) -> Result<(), Fail> {
         link r.out m.b\nunlink r.out m.b\nunlink q.out m.a\n";
     let wanted = "part 0 2\npart 1\nline 0 2 linked 48000\nline 1 2 nolink 65539\n\
         line 1 2 nounlink\nline 0 2 gone\n";
+    expect_plans(&rt, text, wanted)
+}
+
+// Counts of buffers that do not meet join nothing either. A loop is closed within a part alone: the
+// links that lead back have joined its nodes.
+#[test]
+fn refused_lines_join_nothing(rt: HostRuntime) -> Result<(), Fail> {
+    let text = "gain a 256\nsink o o.wav\nbuffers a out 3\nbuffers o in 4\nlink a.out o.in\n\
+        unlink a.out o.in\n";
+    let wanted = "part 0\npart 1\nline 0 1 nobuffers\nline 0 1 nounlink\n";
+    expect_plans(&rt, text, wanted)?;
+    let text = "gain a 256\ngain b 256\ngain c 256\nlink a.out b.in\nlink b.out a.in\n\
+        link a.out b.in\nlink c.out c.in\nunlink a.out b.in\nlink b.out a.in\n";
+    let wanted = "part 0 1\npart 2\nline 0 1 linked 48000\nline 1 0 loop\nline 0 1 twice\n\
+        line 2 2 loop\nline 0 1 gone\nline 1 0 linked 48000\n";
+    expect_plans(&rt, text, wanted)
+}
+
+// Late links join as others do, and close no loop. The other part has none.
+#[test]
+fn late_links_join_nodes(rt: HostRuntime) -> Result<(), Fail> {
+    let text = "quantum 2\nsource s s.wav\nsource t t.wav\ngain g 256\nsink o o.wav\nsink p p.wav\n\
+        async g\ndriver o 1\ndriver p 1\nlink s.out g.in\nlink g.out o.in\nlink t.out p.in\n\
+        cycles 3\n";
+    let wanted = "part 0 2 3\nfrom 0 cycles 3 driver 3 of 3 late 2\n\
+        part 1 4\nfrom 0 cycles 3 driver 4 of 2\nline 0 2 linked 48000\nline 2 3 linked 48000\n\
+        line 1 4 linked 48000\n";
+    expect_plans(&rt, text, wanted)?;
+    let text = "gain a 256\ngain b 256\nmeter m\nasync b\nlink a.out b.in\nlink b.out a.in\n";
+    let wanted = "part 0 1\npart 2\nline 0 1 linked 48000\nline 1 0 linked 48000\n";
     expect_plans(&rt, text, wanted)
 }
 
