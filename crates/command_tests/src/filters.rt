@@ -117,7 +117,7 @@ fn files_that_are_no_format(rt: HostRuntime) {
     assert_eq!(rt; first_unlike(&rt, NO_FORMAT), None);
 }
 
-// A format of a Struct of so many arrays of nothing, which are written longer than they are read.
+// A format of a Struct of n arrays of nothing, which are written longer than they are read.
 fn of_arrays(alloc: Global, arrays: u32) -> Result<Items<u8>, Memory>
     requires { arrays ≤ 100000 }
 {
@@ -144,7 +144,7 @@ const TOO_LONG: Row<'static> = Row {
     ..ITSELF
 };
 
-// Whether a row comes out as wanted where a.pod is a format of so many arrays.
+// Whether a row comes out as wanted where a.pod is a format of n arrays.
 fn is_so_of<R: Threads + Wait + Sync + AllocGlobal>(rt: &R, row: Row<'static>, arrays: u32) -> bool
     requires { arrays ≤ 100000 }
 {

@@ -71,7 +71,7 @@ fn zeros(alloc: Global) -> Result<Items<u8>, Memory> {
     Items::filled(alloc, 1_048_576, 0)
 }
 
-// Appends a block so many times, and no samples.
+// Appends a block n times, and no samples.
 fn append_blocks(bytes: &mut Items<u8>, block: &[u8], count: u32) -> Result<(), Memory> {
     for _block in 0..count {
         bytes.extend(block)?;

@@ -132,7 +132,7 @@ const TOO_LONG: Row<'static> = Row {
     ..INT
 };
 
-// Whether a row comes out as wanted where the file has so many blanks.
+// Whether a row comes out as wanted where the file has n blanks.
 fn is_so_of<R: Threads + Wait + Sync + AllocGlobal>(rt: &R, row: Row<'static>, len: usize) -> bool {
     match blanks(rt.alloc(), len) {
         Ok(bytes) => is_so_with(rt, row, "f.pod", bytes.as_slice()),

@@ -114,7 +114,7 @@ const TOO_LONG: Row<'static> = Row {
     ..RUN
 };
 
-// Whether a row comes out as wanted where the script has so many blanks.
+// Whether a row comes out as wanted where the script has n blanks.
 fn is_so_of<R: Threads + Wait + Sync + AllocGlobal>(rt: &R, row: Row<'static>, len: usize) -> bool {
     match blanks(rt.alloc(), len) {
         Ok(script) => is_so_with(rt, row, "long", script.as_slice()),

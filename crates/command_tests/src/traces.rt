@@ -12,7 +12,7 @@ use std::str;
 use std::sync::Wait;
 use std::thread::Threads;
 
-/// A source that a meter and a sink hear; the meter drives, since its number is lower.
+/// A source that a meter and a sink read; the meter drives, since its number is lower.
 const METER: &'static [u8] = b"quantum 2\nsource s s.wav\nmeter p\nsink o o.wav\ndriver o 5\n\
     driver p 5\nlink s.out p.in\nlink s.out o.in\ncycles 1\n";
 

@@ -7,8 +7,8 @@ use Rattle.std.proofs.lemmas.Bool.{and_parts, and_from, not-true, eq-eqb, le-leb
 use Rattle.std.proofs.lemmas.List.{get_or_append_left, get_or_at, take_at, drop_at, length-replicate}
 use Rattle.std.proofs.lemmas.List.Folds.{list_all-append}
 use Rattle.std.proofs.lemmas.List.Sums.{position_or_len_is}
-use Rattle.dump_reading.specs.Cutting.{front_len, parted, cut_at, behind_spaces}
-use Rattle.dump_reading.specs.Lines.{with_rest, line_in, line_said}
+use Rattle.dump_reading.specs.working.Cutting.{front_len, parted, cut_at, behind_spaces}
+use Rattle.dump_reading.specs.working.Lines.{with_rest, line_in, line_said}
 
 -- no byte is the mark
 abbrev pub is_free : ℕ → List ℕ → Bool

@@ -7,8 +7,8 @@ use Rattle.std.proofs.lemmas.Bool.{and_from, leb-true, ne_eqb, not_from_false}
 use Rattle.std.proofs.lemmas.List.Concat.{flat_map-cons}
 use Rattle.std.proofs.lemmas.Nat.{from_be_bytes-to_be_bytes_4, from_be_bytes-to_be_bytes_8}
 use Rattle.pod_codec.specs.DumpWords.{hex_digits, hex}
-use Rattle.dump_reading.specs.Bytes.{digit_said, byte_of, byte_said, onto, hex_said, four_said, eight_said, float_said, double_said}
-use Rattle.dump_reading.specs.Bytes.{inner_of, unquoted, quoted_hex_said}
+use Rattle.dump_reading.specs.working.Bytes.{digit_said, byte_of, byte_said, onto, hex_said, four_said, eight_said, float_said, double_said}
+use Rattle.dump_reading.specs.working.Bytes.{inner_of, unquoted, quoted_hex_said}
 use Rattle.dump_reading.specs.Sayable.{AreBytes}
 use Rattle.dump_reading.proofs.CuttingLemmas.{is_free, free_both, cut_back}
 

@@ -17,10 +17,10 @@ use Rattle.pod_codec.specs.declared.pod.ChoiceKind.{ChoiceKind}
 use Rattle.pod_codec.specs.declared.pod.ChoiceKind.TheVariants as k
 use Rattle.pod_codec.specs.DumpWords.{Lines, hex, escaped, kind_word, two_numbered}
 use Rattle.pod_codec.specs.DumpText.{pod_lines, prop_lines, control_lines, lines_of, prop_lines_of, control_lines_of}
-use Rattle.dump_reading.specs.Cutting.{cut_at}
-use Rattle.dump_reading.specs.Names.{scalar_name, wide_name, holder_name, name_said, kind_said}
-use Rattle.dump_reading.specs.Heads.{args_said, named, choice_in, choice_with, head_in, head_said}
-use Rattle.dump_reading.specs.Numbers.{triple_said}
+use Rattle.dump_reading.specs.working.Cutting.{cut_at}
+use Rattle.dump_reading.specs.working.Names.{scalar_name, wide_name, holder_name, name_said, kind_said}
+use Rattle.dump_reading.specs.working.Heads.{args_said, named, choice_in, choice_with, head_in, head_said}
+use Rattle.dump_reading.specs.working.Numbers.{triple_said}
 use Rattle.dump_reading.specs.Sayable.{IsSaid}
 use Rattle.dump_reading.specs.declared.heads.Head.{Head}
 use Rattle.dump_reading.specs.declared.heads.Head.TheVariants as H

@@ -4,7 +4,7 @@ use Rattle.std.specs.Prelude.{Option, Some, None, option_and_then}
 use Rattle.std.specs.List.{flat_map, AllByRecursion}
 use Rattle.std.proofs.lemmas.List.Concat.{flat_map-cons}
 use Rattle.pod_codec.specs.DumpWords.{Lines, text_at}
-use Rattle.dump_reading.specs.Lines.{many}
+use Rattle.dump_reading.specs.working.Lines.{many}
 
 -- one more is read
 pub many_more : {X : Type 0} (read : List ℕ → Option (X × List ℕ)) (n k : ℕ) (xs : List X) (text : List ℕ) (x : X) (rest : List ℕ)

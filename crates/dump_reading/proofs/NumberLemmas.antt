@@ -8,8 +8,8 @@ use Rattle.std.proofs.lemmas.Bool.{and_parts, and_from, or_left, or_right, leb-t
 use Rattle.std.proofs.lemmas.Fmt.{digits_decimal, digits_value-decimal, decimal_by_steps, decimal_digit, decimal_nonempty, first_decimal}
 use Rattle.std.proofs.lemmas.Str.Parse.{IsDigitsTest, IsNumeralModel, numerals_by_fold}
 use lib.Signed.{mag}
-use Rattle.dump_reading.specs.Numerals.{is_digit, is_numeral, digits_number, number_of}
-use Rattle.dump_reading.specs.Numbers.{number_said, both, pair_in, pair_said, with_pair, triple_in, triple_said, integer_said}
+use Rattle.dump_reading.specs.working.Numerals.{is_digit, is_numeral, digits_number, number_of}
+use Rattle.dump_reading.specs.working.Numbers.{number_said, both, pair_in, pair_said, with_pair, triple_in, triple_said, integer_said}
 use Rattle.dump_reading.proofs.CuttingLemmas.{is_free, free_both, cut_back}
 
 are_digits : IsDigitsTest (λ ds. list_all is_digit ds ≡ true)

@@ -1,7 +1,7 @@
 -- Digits, read one by one.
 use Rattle.std.proofs.Common.{ℕ, zero, suc, ◌+◌, ◌-◌, ◌*◌, ◌≤◌, List, [], ◌∷◌, take, arith}
 use Rattle.std.specs.Prelude.{fold}
-use Rattle.dump_reading.specs.Numerals.{digits_number}
+use Rattle.dump_reading.specs.working.Numerals.{digits_number}
 
 -- more digits do not make a number less
 fold_grows : (start : ℕ) (digits : List ℕ) → start ≤ fold (λ n b. n * 10 + (b - 0x30)) start digits

@@ -3,7 +3,7 @@ use Rattle.std.proofs.Common.{◌≡◌, ℕ, ◌+◌, ◌<◌, List, ap, ◌∙
 use Rattle.std.specs.Prelude.{Option, Some, None, option_map, fold}
 use Rattle.std.proofs.lemmas.List.{at_drop_more}
 use Rattle.std.proofs.lemmas.List.Folds.{fold_stays}
-use Rattle.dump_reading.specs.Strings.{step, pushed, read_byte}
+use Rattle.dump_reading.specs.working.Strings.{step, pushed, read_byte}
 use Rattle.dump_reading.specs.declared.strings.Escape.{Escape}
 
 pub string_stops : (state : Escape) (bytes text : List ℕ) (i : ℕ) → i < length text → step state (get_or text i 0) ≡ None

@@ -17,10 +17,10 @@ use Rattle.pod_codec.specs.Numbers.{PropFits, ControlFits}
 use Rattle.pod_codec.specs.PodValue.{form_of}
 use Rattle.pod_codec.specs.DumpWords.{Lines, text_at, two_numbered}
 use Rattle.pod_codec.specs.DumpText.{pod_lines, prop_lines, control_lines, lines_of, prop_lines_of, control_lines_of, dump_text_of}
-use Rattle.dump_reading.specs.Keyed.{behind_word, numbers_said, numbers_with, numbers_in, keyed_said, prop_of, control_of, prop_with, prop_said}
-use Rattle.dump_reading.specs.Keyed.{control_with, control_said}
-use Rattle.dump_reading.specs.Lines.{line_said, many}
-use Rattle.dump_reading.specs.Numbers.{pair_said}
+use Rattle.dump_reading.specs.working.Keyed.{behind_word, numbers_said, numbers_with, numbers_in, keyed_said, prop_of, control_of, prop_with, prop_said}
+use Rattle.dump_reading.specs.working.Keyed.{control_with, control_said}
+use Rattle.dump_reading.specs.working.Lines.{line_said, many}
+use Rattle.dump_reading.specs.working.Numbers.{pair_said}
 use Rattle.dump_reading.specs.Sayable.{IsElement, IsLeafSaid, IsSaid, IsSayable}
 use Rattle.dump_reading.specs.Values.{element_in, element_line, element_said, may_hold, held_said, value_in, value_line, value_said, alone, pod_said}
 use Rattle.dump_reading.specs.declared.heads.Head.{Head}

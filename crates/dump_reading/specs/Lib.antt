@@ -1,13 +1,4 @@
-pub mod Cutting
-pub mod Numerals
-pub mod Numbers
-pub mod Bytes
-pub mod Strings
-pub mod Escapes
-pub mod Names
-pub mod Heads
-pub mod Lines
-pub mod Keyed
 pub mod Values
 pub mod Sayable
 pub mod Answers
+pub mod working

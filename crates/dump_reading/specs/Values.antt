@@ -9,9 +9,9 @@ use Rattle.pod_codec.specs.PodType.{child_size}
 use Rattle.pod_codec.specs.PodValue.{form_of}
 use Rattle.dump_reading.specs.declared.heads.Head.{Head}
 use Rattle.dump_reading.specs.declared.heads.Head.TheVariants as H
-use Rattle.dump_reading.specs.Heads.{head_said}
-use Rattle.dump_reading.specs.Keyed.{prop_said, control_said}
-use Rattle.dump_reading.specs.Lines.{line_said, many}
+use Rattle.dump_reading.specs.working.Heads.{head_said}
+use Rattle.dump_reading.specs.working.Keyed.{prop_said, control_said}
+use Rattle.dump_reading.specs.working.Lines.{line_said, many}
 
 -- a value of this child type that holds no others
 abbrev pub element_in : ℕ → Option Head → List ℕ → Option (Pod × List ℕ)

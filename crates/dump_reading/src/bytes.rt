@@ -1,14 +1,14 @@
 //! Bytes as digits of base 16.
 ghost use Rattle.std.specs.Prelude.{◌≡◌, ◌<◌, IfOk, IfSome, option_copied};
-ghost use Rattle.dump_reading.specs.Bytes.{digit_said, byte_said, hex_said, four_said, eight_said};
-ghost use Rattle.dump_reading.specs.Bytes.{float_said, double_said, unquoted, quoted_hex_said};
+ghost use Rattle.dump_reading.specs.working.Bytes.{digit_said, byte_said, hex_said, four_said, eight_said};
+ghost use Rattle.dump_reading.specs.working.Bytes.{float_said, double_said, unquoted, quoted_hex_said};
 
 use crate::cutting::cut;
 use pw_base::{Items, Memory, Text};
 use std::alloc::Global;
 
 /// A lower-case digit of base 16.
-#[tactic(auto, unfolding(crate::specs::Bytes::digit_said))]
+#[tactic(auto, unfolding(crate::specs::working::Bytes::digit_said))]
 pub(crate) fn digit_said(c: u8) -> Option<u8>
     ensures said { result ≡ digit_said c }
     ensures small { IfSome result (λ n. n < 16) }
@@ -21,7 +21,7 @@ pub(crate) fn digit_said(c: u8) -> Option<u8>
 }
 
 // A byte, of two digits.
-#[tactic(auto, unfolding(crate::specs::Bytes::byte_said))]
+#[tactic(auto, unfolding(crate::specs::working::Bytes::byte_said))]
 fn byte_said(high: u8, low: u8) -> Option<u8>
     ensures { result ≡ byte_said high low }
 {
@@ -35,7 +35,7 @@ fn byte_said(high: u8, low: u8) -> Option<u8>
 }
 
 /// Bytes of two digits each; nothing where the text is no such row.
-#[tactic(auto, unfolding(crate::specs::Bytes::hex_said))]
+#[tactic(auto, unfolding(crate::specs::working::Bytes::hex_said))]
 pub(crate) fn hex_said(alloc: Global, digits: &[u8]) -> Result<Option<Text>, Memory>
     ensures { IfOk result (λ bytes. bytes ≡ hex_said digits.now) }
 {
@@ -78,7 +78,7 @@ fn eight_said(bytes: &[u8]) -> Option<u64>
 }
 
 /// The 32 bits of eight digits.
-#[tactic(auto, unfolding(crate::specs::Bytes::float_said))]
+#[tactic(auto, unfolding(crate::specs::working::Bytes::float_said))]
 pub(crate) fn float_said(alloc: Global, digits: &[u8]) -> Result<Option<u32>, Memory>
     ensures { IfOk result (λ bits. bits ≡ float_said digits.now) }
 {
@@ -89,7 +89,7 @@ pub(crate) fn float_said(alloc: Global, digits: &[u8]) -> Result<Option<u32>, Me
 }
 
 /// The 64 bits of sixteen digits.
-#[tactic(auto, unfolding(crate::specs::Bytes::double_said))]
+#[tactic(auto, unfolding(crate::specs::working::Bytes::double_said))]
 pub(crate) fn double_said(alloc: Global, digits: &[u8]) -> Result<Option<u64>, Memory>
     ensures { IfOk result (λ bits. bits ≡ double_said digits.now) }
 {
@@ -100,7 +100,7 @@ pub(crate) fn double_said(alloc: Global, digits: &[u8]) -> Result<Option<u64>, M
 }
 
 /// What stands between two quotes, of which the second ends the text.
-#[tactic(auto, unfolding(crate::specs::Bytes::unquoted))]
+#[tactic(auto, unfolding(crate::specs::working::Bytes::unquoted))]
 pub(crate) fn unquoted(args: &[u8]) -> Option<&[u8]>
     ensures { option_copied result ≡ unquoted args.now }
 {
@@ -120,7 +120,7 @@ pub(crate) fn unquoted(args: &[u8]) -> Option<&[u8]>
 }
 
 /// Bytes of two digits each between quotes.
-#[tactic(auto, unfolding(crate::specs::Bytes::quoted_hex_said))]
+#[tactic(auto, unfolding(crate::specs::working::Bytes::quoted_hex_said))]
 pub(crate) fn quoted_hex_said(alloc: Global, args: &[u8]) -> Result<Option<Text>, Memory>
     ensures { IfOk result (λ bytes. bytes ≡ quoted_hex_said args.now) }
 {

@@ -1,7 +1,7 @@
 //! Pieces of a line.
 ghost use Rattle.std.specs.Prelude.{◌≡◌, ◌==◌, ◌≤◌, length, None, Some, MatchOption, option_copied};
 ghost use Rattle.std.specs.List.{list_all};
-ghost use Rattle.dump_reading.specs.Cutting.{front_len, cut_at, behind_spaces};
+ghost use Rattle.dump_reading.specs.working.Cutting.{front_len, cut_at, behind_spaces};
 
 // How many bytes stand before the first mark.
 fn front_len(text: &[u8], mark: u8) -> usize
@@ -13,7 +13,7 @@ fn front_len(text: &[u8], mark: u8) -> usize
 
 /// What stands before the first mark of a text, and behind it; nothing where it has none. Takes no
 /// memory.
-#[tactic(auto, unfolding(crate::specs::Cutting::cut_at))]
+#[tactic(auto, unfolding(crate::specs::working::Cutting::cut_at))]
 pub(crate) fn cut(text: &[u8], mark: u8) -> Option<(&[u8], &[u8])>
     ensures { MatchOption result (cut_at mark text.now ≡ None)
         (λ c. cut_at mark text.now ≡ Some (c.0.now, c.1.now)) }
@@ -33,7 +33,7 @@ fn all_spaces(bytes: &[u8]) -> bool
 
 /// What stands behind the first `spaces` spaces of a line; nothing where it has fewer. Takes no
 /// memory.
-#[tactic(auto, unfolding(crate::specs::Cutting::behind_spaces))]
+#[tactic(auto, unfolding(crate::specs::working::Cutting::behind_spaces))]
 pub(crate) fn behind_spaces(line: &[u8], spaces: usize) -> Option<&[u8]>
     ensures { option_copied result ≡ behind_spaces spaces line.now }
 {

@@ -1,7 +1,7 @@
 //! The values of an array or a choice.
 ghost use Rattle.std.specs.Prelude.{◌≡◌, ◌≤◌, []};
 ghost use Rattle.dump_reading.specs.Answers.{IsAnswer};
-ghost use Rattle.dump_reading.specs.Lines.{many};
+ghost use Rattle.dump_reading.specs.working.Lines.{many};
 ghost use Rattle.dump_reading.specs.Values.{element_said, may_hold};
 
 use crate::fault::{DumpWhy, Stop};

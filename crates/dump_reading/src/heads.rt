@@ -1,6 +1,6 @@
 //! What the words of a line say of a value.
 ghost use Rattle.std.specs.Prelude.{◌≡◌, IfOk};
-ghost use Rattle.dump_reading.specs.Heads.{bool_said, args_said, head_said};
+ghost use Rattle.dump_reading.specs.working.Heads.{bool_said, args_said, head_said};
 
 use crate::bytes::{double_said, float_said, quoted_hex_said};
 use crate::cutting::cut;
@@ -51,7 +51,7 @@ fn bool_said(word: &[u8]) -> Option<bool>
     }
 }
 
-#[tactic(auto, unfolding(crate::specs::Heads::args_said))]
+#[tactic(auto, unfolding(crate::specs::working::Heads::args_said))]
 fn bool_head(args: &[u8]) -> Option<Head>
     ensures { result ≡ args_said Name.Bool args.now }
 {
@@ -61,7 +61,7 @@ fn bool_head(args: &[u8]) -> Option<Head>
     }
 }
 
-#[tactic(auto, unfolding(crate::specs::Heads::args_said))]
+#[tactic(auto, unfolding(crate::specs::working::Heads::args_said))]
 fn id_head(args: &[u8]) -> Option<Head>
     ensures { result ≡ args_said Name.Id args.now }
 {
@@ -71,7 +71,7 @@ fn id_head(args: &[u8]) -> Option<Head>
     }
 }
 
-#[tactic(auto, unfolding(crate::specs::Heads::args_said))]
+#[tactic(auto, unfolding(crate::specs::working::Heads::args_said))]
 fn int_head(args: &[u8]) -> Option<Head>
     ensures { result ≡ args_said Name.Int args.now }
 {
@@ -81,7 +81,7 @@ fn int_head(args: &[u8]) -> Option<Head>
     }
 }
 
-#[tactic(auto, unfolding(crate::specs::Heads::args_said))]
+#[tactic(auto, unfolding(crate::specs::working::Heads::args_said))]
 fn long_head(args: &[u8]) -> Option<Head>
     ensures { result ≡ args_said Name.Long args.now }
 {
@@ -91,7 +91,7 @@ fn long_head(args: &[u8]) -> Option<Head>
     }
 }
 
-#[tactic(auto, unfolding(crate::specs::Heads::args_said))]
+#[tactic(auto, unfolding(crate::specs::working::Heads::args_said))]
 fn fd_head(args: &[u8]) -> Option<Head>
     ensures { result ≡ args_said Name.Fd args.now }
 {
@@ -101,7 +101,7 @@ fn fd_head(args: &[u8]) -> Option<Head>
     }
 }
 
-#[tactic(auto, unfolding(crate::specs::Heads::args_said))]
+#[tactic(auto, unfolding(crate::specs::working::Heads::args_said))]
 fn rectangle_head(args: &[u8]) -> Option<Head>
     ensures { result ≡ args_said Name.Rectangle args.now }
 {
@@ -111,7 +111,7 @@ fn rectangle_head(args: &[u8]) -> Option<Head>
     }
 }
 
-#[tactic(auto, unfolding(crate::specs::Heads::args_said))]
+#[tactic(auto, unfolding(crate::specs::working::Heads::args_said))]
 fn fraction_head(args: &[u8]) -> Option<Head>
     ensures { result ≡ args_said Name.Fraction args.now }
 {
@@ -121,7 +121,7 @@ fn fraction_head(args: &[u8]) -> Option<Head>
     }
 }
 
-#[tactic(auto, unfolding(crate::specs::Heads::args_said))]
+#[tactic(auto, unfolding(crate::specs::working::Heads::args_said))]
 fn array_head(args: &[u8]) -> Option<Head>
     ensures { result ≡ args_said Name.Array args.now }
 {
@@ -131,7 +131,7 @@ fn array_head(args: &[u8]) -> Option<Head>
     }
 }
 
-#[tactic(auto, unfolding(crate::specs::Heads::args_said))]
+#[tactic(auto, unfolding(crate::specs::working::Heads::args_said))]
 fn struct_head(args: &[u8]) -> Option<Head>
     ensures { result ≡ args_said Name.Struct args.now }
 {
@@ -141,7 +141,7 @@ fn struct_head(args: &[u8]) -> Option<Head>
     }
 }
 
-#[tactic(auto, unfolding(crate::specs::Heads::args_said))]
+#[tactic(auto, unfolding(crate::specs::working::Heads::args_said))]
 fn object_head(args: &[u8]) -> Option<Head>
     ensures { result ≡ args_said Name.Object args.now }
 {
@@ -151,7 +151,7 @@ fn object_head(args: &[u8]) -> Option<Head>
     }
 }
 
-#[tactic(auto, unfolding(crate::specs::Heads::args_said))]
+#[tactic(auto, unfolding(crate::specs::working::Heads::args_said))]
 fn sequence_head(args: &[u8]) -> Option<Head>
     ensures { result ≡ args_said Name.Sequence args.now }
 {
@@ -161,7 +161,7 @@ fn sequence_head(args: &[u8]) -> Option<Head>
     }
 }
 
-#[tactic(auto, unfolding(crate::specs::Heads::args_said))]
+#[tactic(auto, unfolding(crate::specs::working::Heads::args_said))]
 fn choice_head(args: &[u8]) -> Option<Head>
     ensures { result ≡ args_said Name.Choice args.now }
 {
@@ -182,7 +182,7 @@ fn choice_head(args: &[u8]) -> Option<Head>
     }
 }
 
-#[tactic(auto, unfolding(crate::specs::Heads::args_said))]
+#[tactic(auto, unfolding(crate::specs::working::Heads::args_said))]
 fn float_head(alloc: Global, args: &[u8]) -> Result<Option<Head>, Memory>
     ensures { IfOk result (λ head. head ≡ args_said Name.Float args.now) }
 {
@@ -192,7 +192,7 @@ fn float_head(alloc: Global, args: &[u8]) -> Result<Option<Head>, Memory>
     }
 }
 
-#[tactic(auto, unfolding(crate::specs::Heads::args_said))]
+#[tactic(auto, unfolding(crate::specs::working::Heads::args_said))]
 fn double_head(alloc: Global, args: &[u8]) -> Result<Option<Head>, Memory>
     ensures { IfOk result (λ head. head ≡ args_said Name.Double args.now) }
 {
@@ -202,7 +202,7 @@ fn double_head(alloc: Global, args: &[u8]) -> Result<Option<Head>, Memory>
     }
 }
 
-#[tactic(auto, unfolding(crate::specs::Heads::args_said))]
+#[tactic(auto, unfolding(crate::specs::working::Heads::args_said))]
 fn string_head(alloc: Global, args: &[u8]) -> Result<Option<Head>, Memory>
     ensures { IfOk result (λ head. head ≡ args_said Name.String args.now) }
 {
@@ -212,7 +212,7 @@ fn string_head(alloc: Global, args: &[u8]) -> Result<Option<Head>, Memory>
     }
 }
 
-#[tactic(auto, unfolding(crate::specs::Heads::args_said))]
+#[tactic(auto, unfolding(crate::specs::working::Heads::args_said))]
 fn bytes_head(alloc: Global, args: &[u8]) -> Result<Option<Head>, Memory>
     ensures { IfOk result (λ head. head ≡ args_said Name.Bytes args.now) }
 {
@@ -222,7 +222,7 @@ fn bytes_head(alloc: Global, args: &[u8]) -> Result<Option<Head>, Memory>
     }
 }
 
-#[tactic(auto, unfolding(crate::specs::Heads::args_said))]
+#[tactic(auto, unfolding(crate::specs::working::Heads::args_said))]
 fn bitmap_head(alloc: Global, args: &[u8]) -> Result<Option<Head>, Memory>
     ensures { IfOk result (λ head. head ≡ args_said Name.Bitmap args.now) }
 {
@@ -258,7 +258,7 @@ fn args_said(alloc: Global, name: Name, args: &[u8]) -> Result<Option<Head>, Mem
 }
 
 /// What the words of a line say of a value; nothing where they are none of a value.
-#[tactic(auto, unfolding(crate::specs::Heads::head_said))]
+#[tactic(auto, unfolding(crate::specs::working::Heads::head_said))]
 pub(crate) fn head_said(alloc: Global, words: &[u8]) -> Result<Option<Head>, Memory>
     ensures { IfOk result (λ head. head ≡ head_said words.now) }
 {

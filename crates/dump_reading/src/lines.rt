@@ -1,7 +1,7 @@
 //! The lines of a dump.
 ghost use Rattle.std.specs.Prelude.{◌≡◌, ◌≤◌, None, Some, length, MatchResult};
-ghost use Rattle.dump_reading.specs.Keyed.{numbers_said, keyed_said};
-ghost use Rattle.dump_reading.specs.Lines.{line_said};
+ghost use Rattle.dump_reading.specs.working.Keyed.{numbers_said, keyed_said};
+ghost use Rattle.dump_reading.specs.working.Lines.{line_said};
 
 use crate::cutting::{behind_spaces, cut};
 use crate::fault::{DumpWhy, Stop};
@@ -30,7 +30,7 @@ fn unended(text: &[u8]) -> DumpWhy {
 }
 
 /// The words of the first line, at a level, and the lines behind it. Takes no memory.
-#[tactic(auto, unfolding(crate::specs::Lines::line_said))]
+#[tactic(auto, unfolding(crate::specs::working::Lines::line_said))]
 pub(crate) fn line_said(text: &[u8], level: usize) -> Result<(&[u8], &[u8]), DumpWhy>
     requires { level ≤ MOST_LEVELS }
     ensures { MatchResult result (λ c. line_said level text.now ≡ Some (c.0.now, c.1.now))
@@ -54,7 +54,7 @@ pub(crate) fn wrong_words(words: &[u8]) -> DumpWhy {
 }
 
 // The two numbers behind a word.
-#[tactic(auto, unfolding(crate::specs::Keyed::numbers_said))]
+#[tactic(auto, unfolding(crate::specs::working::Keyed::numbers_said))]
 fn numbers_said(word: &[u8], words: &[u8]) -> Option<(u32, u32)>
     ensures { result ≡ numbers_said word.now words.now }
 {
@@ -71,7 +71,7 @@ fn numbers_said(word: &[u8], words: &[u8]) -> Option<(u32, u32)>
 }
 
 /// The two numbers of a line that begins with a word, and the lines behind it.
-#[tactic(auto, unfolding(crate::specs::Keyed::keyed_said))]
+#[tactic(auto, unfolding(crate::specs::working::Keyed::keyed_said))]
 pub(crate) fn keyed_said<'a>(
     word: &[u8],
     text: &'a [u8],

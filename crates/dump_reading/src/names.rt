@@ -1,6 +1,6 @@
 //! The words with which the lines of values begin.
 ghost use Rattle.std.specs.Prelude.{◌≡◌};
-ghost use Rattle.dump_reading.specs.Names.{scalar_name, wide_name, holder_name, name_said, kind_said};
+ghost use Rattle.dump_reading.specs.working.Names.{scalar_name, wide_name, holder_name, name_said, kind_said};
 
 use pod_codec::ChoiceKind;
 
@@ -27,7 +27,7 @@ pub(crate) enum Name {
 }
 
 // Values of four or eight bytes.
-#[tactic(auto, unfolding(crate::specs::Names::scalar_name))]
+#[tactic(auto, unfolding(crate::specs::working::Names::scalar_name))]
 fn scalar_name(word: &[u8]) -> Option<Name>
     ensures { result ≡ scalar_name word.now }
 {
@@ -51,7 +51,7 @@ fn scalar_name(word: &[u8]) -> Option<Name>
 }
 
 // Other values that hold no values.
-#[tactic(auto, unfolding(crate::specs::Names::wide_name))]
+#[tactic(auto, unfolding(crate::specs::working::Names::wide_name))]
 fn wide_name(word: &[u8]) -> Option<Name>
     ensures { result ≡ wide_name word.now }
 {
@@ -71,7 +71,7 @@ fn wide_name(word: &[u8]) -> Option<Name>
 }
 
 // Values that hold others.
-#[tactic(auto, unfolding(crate::specs::Names::holder_name))]
+#[tactic(auto, unfolding(crate::specs::working::Names::holder_name))]
 fn holder_name(word: &[u8]) -> Option<Name>
     ensures { result ≡ holder_name word.now }
 {
@@ -91,7 +91,7 @@ fn holder_name(word: &[u8]) -> Option<Name>
 }
 
 /// What the line of this first word is of.
-#[tactic(auto, unfolding(crate::specs::Names::name_said))]
+#[tactic(auto, unfolding(crate::specs::working::Names::name_said))]
 pub(crate) fn name_said(word: &[u8]) -> Option<Name>
     ensures { result ≡ name_said word.now }
 {
@@ -105,7 +105,7 @@ pub(crate) fn name_said(word: &[u8]) -> Option<Name>
 }
 
 /// The kind of a choice, by its word.
-#[tactic(auto, unfolding(crate::specs::Names::kind_said))]
+#[tactic(auto, unfolding(crate::specs::working::Names::kind_said))]
 pub(crate) fn kind_said(word: &[u8]) -> Option<ChoiceKind>
     ensures { result ≡ kind_said word.now }
 {

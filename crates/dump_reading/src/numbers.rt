@@ -1,8 +1,8 @@
 //! Numbers in decimal digits.
 ghost use Rattle.std.specs.Prelude.{◌≡◌, ◌+◌, ◌<◌, ◌≤◌, ◌≤ℤ◌, neg_ℤ, pos, MatchOption, IfSome};
 ghost use Rattle.std.specs.List.{list_all};
-ghost use Rattle.dump_reading.specs.Numerals.{is_digit, is_numeral, digits_number, number_of};
-ghost use Rattle.dump_reading.specs.Numbers.{number_said, pair_said, triple_said, integer_said};
+ghost use Rattle.dump_reading.specs.working.Numerals.{is_digit, is_numeral, digits_number, number_of};
+ghost use Rattle.dump_reading.specs.working.Numbers.{number_said, pair_said, triple_said, integer_said};
 
 use crate::cutting::cut;
 
@@ -64,7 +64,7 @@ fn number_between(word: &[u8], low: u64, high: u64) -> Option<u64>
 }
 
 /// A number of 32 bits in plain decimal.
-#[tactic(auto, unfolding(crate::specs::Numbers::number_said))]
+#[tactic(auto, unfolding(crate::specs::working::Numbers::number_said))]
 pub(crate) fn number_said(word: &[u8]) -> Option<u32>
     ensures { result ≡ number_said word.now }
 {
@@ -75,7 +75,7 @@ pub(crate) fn number_said(word: &[u8]) -> Option<u32>
 }
 
 /// Two numbers with a mark between them.
-#[tactic(auto, unfolding(crate::specs::Numbers::pair_said))]
+#[tactic(auto, unfolding(crate::specs::working::Numbers::pair_said))]
 pub(crate) fn pair_said(word: &[u8], mark: u8) -> Option<(u32, u32)>
     ensures { result ≡ pair_said mark word.now }
 {
@@ -92,7 +92,7 @@ pub(crate) fn pair_said(word: &[u8], mark: u8) -> Option<(u32, u32)>
 }
 
 /// Three numbers with a space between them.
-#[tactic(auto, unfolding(crate::specs::Numbers::triple_said))]
+#[tactic(auto, unfolding(crate::specs::working::Numbers::triple_said))]
 pub(crate) fn triple_said(word: &[u8]) -> Option<(u32, u32, u32)>
     ensures { result ≡ triple_said word.now }
 {
@@ -117,7 +117,7 @@ fn negated(n: u64) -> i64
 }
 
 // A number up to `high`, or a minus sign and one from 1 to `high` and 1.
-#[tactic(auto, unfolding(crate::specs::Numbers::integer_said))]
+#[tactic(auto, unfolding(crate::specs::working::Numbers::integer_said))]
 fn integer_said(word: &[u8], high: u64) -> Option<i64>
     requires { high ≤ LONG_MAX }
     ensures is { result ≡ integer_said high word.now }

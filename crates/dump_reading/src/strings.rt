@@ -1,8 +1,8 @@
 //! The bytes of a string, of which some are escaped.
 ghost use Rattle.std.specs.Prelude.{◌≡◌, ◌<◌, OnOk, IfOk, IfSome};
 ghost use Rattle.pod_codec.specs.DumpWords.{is_plain};
-ghost use Rattle.dump_reading.specs.Strings.{step, pushed, string_said, quoted_said};
-ghost use Rattle.dump_reading.specs.Escapes.{IsEscape};
+ghost use Rattle.dump_reading.specs.working.Strings.{step, pushed, string_said, quoted_said};
+ghost use Rattle.dump_reading.specs.working.Escapes.{IsEscape};
 
 use crate::bytes::{digit_said, unquoted};
 use pw_base::{Items, Memory, Text};
@@ -106,7 +106,7 @@ fn push_byte(bytes: &mut Text, byte: Option<u8>) -> Result<(), Memory>
 }
 
 /// The bytes of a string; nothing where the text is none.
-#[tactic(auto, unfolding(crate::specs::Strings::string_said))]
+#[tactic(auto, unfolding(crate::specs::working::Strings::string_said))]
 fn string_said(alloc: Global, text: &[u8]) -> Result<Option<Text>, Memory>
     ensures { IfOk result (λ bytes. bytes ≡ string_said text.now) }
 {
@@ -128,7 +128,7 @@ fn string_said(alloc: Global, text: &[u8]) -> Result<Option<Text>, Memory>
 }
 
 /// The bytes of a string between quotes.
-#[tactic(auto, unfolding(crate::specs::Strings::quoted_said))]
+#[tactic(auto, unfolding(crate::specs::working::Strings::quoted_said))]
 pub(crate) fn quoted_said(alloc: Global, args: &[u8]) -> Result<Option<Text>, Memory>
     ensures { IfOk result (λ bytes. bytes ≡ quoted_said args.now) }
 {

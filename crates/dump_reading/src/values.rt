@@ -2,8 +2,8 @@
 ghost use Rattle.std.specs.Prelude.{◌≡◌, ℕ, ◌+◌, ◌*◌, ◌≤◌, []};
 ghost use Rattle.dump_reading.specs.declared.heads.Head.TheVariants as H;
 ghost use Rattle.dump_reading.specs.Answers.{IsAnswer};
-ghost use Rattle.dump_reading.specs.Keyed.{prop_said, control_said, prop_of, control_of};
-ghost use Rattle.dump_reading.specs.Lines.{line_said, many};
+ghost use Rattle.dump_reading.specs.working.Keyed.{prop_said, control_said, prop_of, control_of};
+ghost use Rattle.dump_reading.specs.working.Lines.{line_said, many};
 ghost use Rattle.dump_reading.specs.Values.{held_said, value_line, value_said};
 
 use crate::elements::{elements_said, may_hold};
@@ -246,7 +246,7 @@ fn prop_of(numbers: (u32, u32), value: Pod) -> Prop
 
 // A property, and the lines behind it.
 #[cycle(read_dump)]
-#[tactic(auto, unfolding(crate::specs::Keyed::prop_said))]
+#[tactic(auto, unfolding(crate::specs::working::Keyed::prop_said))]
 fn prop_said(alloc: Global, text: &[u8], level: usize, left: u32) -> Result<(Prop, &[u8]), Stop>
     requires { level + 2 * left ≤ 31 }
     ensures { IsAnswer (prop_said (value_said left) level text.now) (λ x. (x.0, x.1.now)) result }
@@ -300,7 +300,7 @@ fn control_of(numbers: (u32, u32), value: Pod) -> Control
 
 // A control, and the lines behind it.
 #[cycle(read_dump)]
-#[tactic(auto, unfolding(crate::specs::Keyed::control_said))]
+#[tactic(auto, unfolding(crate::specs::working::Keyed::control_said))]
 fn control_said(
     alloc: Global,
     text: &[u8],

@@ -108,7 +108,7 @@ const IN_TURN: Row<'static> = Row {
 };
 
 /// A script of which another driver leaves the sink idle in the whole, so that it takes another
-/// rate there. In its part it was heard, and keeps the rate it had.
+/// rate there. In its part it had a link, and keeps the rate it had.
 const UNLIKE: Row<'static> = Row {
     line: "groups s.graph",
     script: b"quantum 2\nsquare q 48000 1 4 1\nsquare r 44100 1 4 1\nsink o o.wav\nmeter m\n\

@@ -82,7 +82,7 @@ fn prints<R: Threads + Wait + Sync + AllocGlobal>(
     }
 }
 
-// A script of these lines, and then one line so many times.
+// A script of these lines, and then one line n times.
 fn repeated(alloc: Global, first: &[u8], line: &[u8], count: u32) -> Result<Items<u8>, Memory> {
     let mut script = Items::from_slice(alloc, first)?;
     for _number in 0..count {
@@ -91,7 +91,7 @@ fn repeated(alloc: Global, first: &[u8], line: &[u8], count: u32) -> Result<Item
     Ok(script)
 }
 
-/// Lines, one that comes so many times behind them, and how that ends.
+/// Lines, one that comes n times behind them, and how that ends.
 type Repeated = (&'static [u8], &'static [u8], u32, Status, &'static [u8]);
 
 // Whether such a script ends so.

@@ -21,7 +21,7 @@ fn equal_samples(alloc: Global, count: usize, sample: i16) -> Result<Items<i16>,
     Items::filled(alloc, count, sample)
 }
 
-// Files that hold the script, and a source of so many equal samples.
+// Files that hold the script, and a source of n equal samples.
 fn files_of_equal(alloc: Global, count: usize, sample: i16) -> Result<MemFiles, Memory> {
     match equal_samples(alloc, count, sample) {
         Ok(samples) => {
@@ -32,14 +32,14 @@ fn files_of_equal(alloc: Global, count: usize, sample: i16) -> Result<MemFiles, 
     }
 }
 
-// Whether bytes are so many, with this frame first and last.
+// Whether there are n bytes, with this frame first and last.
 fn is_of_frame(bytes: &[u8], count: usize, frame: [u8; 4]) -> bool {
     bytes.len() == count
         && bytes.get(44..48) == Some(frame.as_slice())
         && bytes.ends_with(frame.as_slice())
 }
 
-// Whether the sink keeps so many bytes, with this frame first and last.
+// Whether the sink keeps n bytes, with this frame first and last.
 fn keeps_frame(alloc: Global, files: &MemFiles, count: usize, frame: [u8; 4]) -> bool {
     let Ok(name) = Items::from_slice(alloc, b"o.wav".as_slice()) else {
         return false;

@@ -52,7 +52,7 @@ const TWO_SQUARES: RunRow<'static> = RunRow {
     boards: 3,
 };
 
-/// Two squares that are heard by one sink, and so of one part.
+/// Two squares into one sink, and so of one part.
 const ONE_PART: RunRow<'static> = RunRow {
     group: GroupRow {
         texts: &[

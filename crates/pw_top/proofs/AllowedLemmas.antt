@@ -9,8 +9,8 @@ use Rattle.pw_base.specs.Files.{Names}
 use Rattle.pw_top.specs.declared.status.Status.{Status}
 use Rattle.pw_top.specs.declared.status.Status.TheVariants as S
 use Rattle.pw_top.specs.Answer.{Expected, ended, gone_on, load_outcome}
-use Rattle.pw_top.specs.Ending.{Ends, IsEndOf, is_plain, CommandCause}
-use Rattle.pw_top.specs.Ending.IsEndOf.{is_end}
+use Rattle.pw_top.specs.working.Ending.{Ends, IsEndOf, is_plain, CommandCause}
+use Rattle.pw_top.specs.working.Ending.IsEndOf.{is_end}
 use Rattle.pw_top.specs.Allowed.{Part, IsLoad, Binds}
 use Rattle.pw_top.specs.Allowed.Binds.{short, stops, goes}
 

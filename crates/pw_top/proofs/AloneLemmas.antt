@@ -263,7 +263,7 @@ module _ (script : Script) (ranges : HasRanges script) (has : HasKinds script) (
   silent part planned n out node at =
       (outside_ends part.nodes n out script ranges has named ports script_ports waves part.plan planned node at).0
 
-  -- WHAT IS KEPT of a node, and heard, is what its own part does
+  -- WHAT IS KEPT of a node, and its peak, is what its own part does
   module _ (k : ℕ) (q : Part) (at : slice_get p.parts k ≡ Some q) (n : ℕ) (has_node : Contains q.nodes n) where
     low : n < 0 + length script.names
     low = let l = below k q at n has_node in omega (arith, l)

@@ -10,7 +10,7 @@ use Rattle.pw_top.specs.declared.status.Status.{Status}
 use Rattle.control_sequence.proofs.AutomationLemmas.{length-automated}
 use Rattle.wav_files.specs.declared.wav.Wav.{Wav}
 use Rattle.wav_files.specs.WavWriting.{IsWave}
-use Rattle.pw_top.specs.Ending.{Ends, IsDeliverable, is_plain}
+use Rattle.pw_top.specs.working.Ending.{Ends, IsDeliverable, is_plain}
 use Rattle.pw_top.specs.Allowed.{Reads}
 use Rattle.pw_top.specs.Automate.{control_refusal, points_outcome, GivesPoints, automated_wave, automate_work}
 use Rattle.pw_top.proofs.AllowedLemmas.{part_gives, part_refuses, part_memory}

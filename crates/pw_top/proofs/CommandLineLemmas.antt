@@ -7,8 +7,8 @@ use Rattle.pw_top.specs.declared.work.Work.{Work}
 use Rattle.pw_top.specs.declared.usage.CommandLine.{CommandLine}
 use Rattle.pw_top.specs.declared.usage.CommandLine.TheVariants as C
 use Rattle.pw_base.specs.Files.{Names}
-use Rattle.pw_top.specs.Ending.{Ends}
-use Rattle.pw_top.specs.Ending.IsEndOf.{is_end}
+use Rattle.pw_top.specs.working.Ending.{Ends}
+use Rattle.pw_top.specs.working.Ending.IsEndOf.{is_end}
 use Rattle.pw_top.specs.Usage.{Words, command_of, IsRead}
 use Rattle.pw_top.specs.Playing.{Happened, IsNothing, Plays}
 use Rattle.pw_top.specs.Answer.{Answer, Expected, ended, refused}

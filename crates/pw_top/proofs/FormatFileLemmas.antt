@@ -6,7 +6,7 @@ use Rattle.format_filter.specs.declared.fault.FormatFault.{FormatFault}
 use Rattle.format_filter.specs.declared.fault.FormatFault.TheVariants as F
 use Rattle.format_filter.specs.FormatReading.{IsFirstFault}
 use Rattle.pw_top.specs.declared.status.Status.{Status}
-use Rattle.pw_top.specs.Ending.{Ends, is_plain}
+use Rattle.pw_top.specs.working.Ending.{Ends, is_plain}
 use Rattle.pw_top.specs.Allowed.{Reads}
 use Rattle.pw_top.specs.FormatFile.{format_refusal, IsFormatIn}
 use Rattle.pw_top.proofs.AllowedLemmas.{part_refuses, part_memory}
@@ -20,7 +20,7 @@ plain place (F.BadStep key) = refl
 plain place (F.EmptyChoice key) = refl
 plain place F.Memory = refl
 
--- a first fault, or want of memory
+-- a first fault, or lack of memory
 pub refused : (place : ℕ) (pod : Pod) (fault : FormatFault) (status : Status) → status ≡ format_refusal place fault
     → (fault ≡ F.Memory) ⊎ IsFirstFault pod fault → Ends (Reads (IsFormatIn place pod)) (Err status)
 refused place pod fault status e (inl memory) =

@@ -42,7 +42,7 @@ use Rattle.cycle_model.proofs.KeptLemmas.{kept_is_wave}
 use Rattle.cycle_trace.specs.Printable.{JoinsPorts}
 use Rattle.board_rule.specs.declared.closed.Closed.{Closed}
 use Rattle.driver_groups.specs.GroupRun.{AreRunsOf}
-use Rattle.pw_top.specs.Ending.{IsStorable}
+use Rattle.pw_top.specs.working.Ending.{IsStorable}
 use Rattle.pw_top.specs.Joined.{node_of, node_in, all_of, kept_at}
 use Rattle.pw_top.specs.PlannedWork.{rendered}
 use Rattle.pw_top.specs.SinkStores.{makes_sink, sink_line_of, place_of, sink_store}

@@ -9,11 +9,11 @@ use Rattle.pw_base.specs.Files.{Held}
 use Rattle.pw_base.specs.Output.{Given, Gave, GavePart}
 use Rattle.pw_base.specs.Causes.{Rose}
 use Rattle.pw_top.specs.Answer.{Answer}
-use Rattle.pw_top.specs.Ending.{IsEndOf, IsEnd, IsRefusal, PrepareCause, IsDeliverable}
-use Rattle.pw_top.specs.Ending.IsEndOf.{is_end}
+use Rattle.pw_top.specs.working.Ending.{IsEndOf, IsEnd, IsRefusal, PrepareCause, IsDeliverable}
+use Rattle.pw_top.specs.working.Ending.IsEndOf.{is_end}
 use Rattle.pw_top.specs.StatusLine.{line_of, has_line}
 use Rattle.pw_top.specs.Following.{status_of, stores_of, text_of, GaveLine, CutAt, AllStored, StatusFollows, FilesFollow, TextFollows}
-use Rattle.pw_top.specs.Delivery.{Delivered, WorkDelivered, LineEnds}
+use Rattle.pw_top.specs.working.Delivery.{Delivered, WorkDelivered, LineEnds}
 use Rattle.pw_top.specs.FaultCauses.{Caused, HadNoFault}
 use Rattle.pw_top.specs.Headline.{Follows}
 use Rattle.pw_top.specs.Outside.{Outside}

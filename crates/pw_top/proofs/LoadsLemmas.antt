@@ -27,7 +27,7 @@ use Rattle.graph_plan.proofs.StepLemmas.{IsGoodLine, AreGoodLines, good_first, g
 use Rattle.pw_top.specs.declared.status.Status.{Status}
 use Rattle.pw_top.specs.declared.stock.Stock.{Stock}
 use Rattle.pw_top.specs.declared.status.Status.TheVariants as S
-use Rattle.pw_top.specs.Ending.{Ends, CommandCause}
+use Rattle.pw_top.specs.working.Ending.{Ends, CommandCause}
 use Rattle.pw_top.specs.Loads.{ReadsSource, ReadsOffer, LoadsLine, LoadsAll}
 use Rattle.pw_top.specs.Stocking.{nothing_loaded, plain_kind, with_plain, MayLoad, IsSoundStock, IsStockOf}
 use Rattle.pw_top.proofs.AllowedLemmas.{binds_goes, binds_stops, part_gives, part_memory, load_memory}

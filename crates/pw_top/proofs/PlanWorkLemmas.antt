@@ -34,7 +34,7 @@ use Rattle.cycle_model.specs.Rendering.{rendered_sinks, kept_of, end_stream}
 use Rattle.cycle_model.specs.WavesFit.{WavesFit}
 use Rattle.cycle_model.proofs.KeptLemmas.{kept_is_wave}
 use Rattle.cycle_trace.specs.Printable.{JoinsPorts}
-use Rattle.pw_top.specs.Ending.{IsStorable}
+use Rattle.pw_top.specs.working.Ending.{IsStorable}
 use Rattle.pw_top.specs.SinkStores.{makes_sink, sink_line_of, place_of, sink_store, AllPlaced}
 
 -- THE LINES of links can be printed

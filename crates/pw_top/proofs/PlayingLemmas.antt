@@ -9,9 +9,9 @@ use Rattle.pw_top.specs.declared.work.Work.{Work}
 use Rattle.pw_top.specs.Answer.{Answer, Expected, gone_on}
 use Rattle.pw_top.specs.Allowed.{Binds}
 use Rattle.pw_top.specs.Allowed.Binds.{goes}
-use Rattle.pw_top.specs.Delivery.{Delivered, LineEnds}
-use Rattle.pw_top.specs.Ending.{Ends, IsEndOf, IsRefusal, PrepareCause, IsDeliverable}
-use Rattle.pw_top.specs.Ending.IsEndOf.{is_end}
+use Rattle.pw_top.specs.working.Delivery.{Delivered, LineEnds}
+use Rattle.pw_top.specs.working.Ending.{Ends, IsEndOf, IsRefusal, PrepareCause, IsDeliverable}
+use Rattle.pw_top.specs.working.Ending.IsEndOf.{is_end}
 use Rattle.pw_top.specs.Following.{status_of}
 use Rattle.pw_top.specs.Playing.{Happened, IsNothing, Idly, PlayEnds, PlayFollows, Plays}
 use Rattle.pw_top.specs.StatusLine.{has_line}

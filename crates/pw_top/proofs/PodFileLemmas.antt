@@ -10,7 +10,7 @@ use Rattle.pod_codec.proofs.PodReadings.{front_fits}
 use Rattle.pw_top.specs.declared.status.Status.{Status}
 use Rattle.pw_top.specs.declared.status.Status.TheVariants as S
 use Rattle.pw_top.specs.declared.status.PodWhy.TheVariants as P
-use Rattle.pw_top.specs.Ending.{Ends, is_plain}
+use Rattle.pw_top.specs.working.Ending.{Ends, is_plain}
 use Rattle.pw_top.specs.Allowed.{Reads}
 use Rattle.pw_top.specs.PodFile.{pod_refusal, HoldsPod, HoldsAs}
 use Rattle.pw_top.proofs.AllowedLemmas.{part_gives, part_refuses, part_memory, part_more, reads_gives, reads_refuses}
@@ -38,7 +38,7 @@ plain place (F.Large o) = refl
 plain place (F.Nul o) = refl
 plain place F.Memory = refl
 
--- a first fault, or want of memory
+-- a first fault, or lack of memory
 pub refused : (place : ℕ) (bytes : List ℕ) (fault : PodFault) (status : Status) → status ≡ pod_refusal place fault
     → (fault ≡ F.Memory) ⊎ IsFirstFault bytes fault → Ends (Reads (HoldsPod place bytes)) (Err status)
 refused place bytes fault status e (inl memory) =

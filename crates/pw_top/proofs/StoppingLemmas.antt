@@ -9,9 +9,9 @@ use Rattle.pw_top.specs.declared.work.Store.{Store}
 use Rattle.pw_top.specs.declared.work.Work.{Work}
 use Rattle.pw_base.specs.Files.{Held}
 use Rattle.pw_base.specs.Output.{Given}
-use Rattle.pw_top.specs.Ending.{IsStorable, IsDeliverable}
+use Rattle.pw_top.specs.working.Ending.{IsStorable, IsDeliverable}
 use Rattle.pw_top.specs.Following.{CutAt, AllStored}
-use Rattle.pw_top.specs.Delivery.{StoresDone, Delivered, WorkDelivered, CanBeDelivered, TextDone}
+use Rattle.pw_top.specs.working.Delivery.{StoresDone, Delivered, WorkDelivered, CanBeDelivered, TextDone}
 use Rattle.pw_top.proofs.PieceLemmas.{gave_nothing}
 
 pub cut_placed : (stores : List Store) (place : ℕ) (old new : Held) → All IsStorable stores → CutAt stores place old new → 0 < place

@@ -1,6 +1,6 @@
 -- The expected answer of `filter A B OUT`: two objects are loaded and read as formats, one after
--- the other; what they have in common is stored as an object in its one spelling. PipeWire's
--- documentation, "SPA POD"; spa/pod/filter.h.
+-- the other; what they have in common is stored as an object in its one spelling.
+-- Source: PipeWire's documentation, "SPA POD"; spa/pod/filter.h.
 use Rattle.std.specs.Prelude.{◌≡◌, ℕ, List, [], ◌∷◌, ◌++◌, codes, Result, Ok, Err}
 use Rattle.pw_base.specs.Files.{Names}
 use Rattle.pw_base.specs.declared.limit.Which.TheVariants as W

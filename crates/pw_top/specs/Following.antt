@@ -1,4 +1,4 @@
--- How far an answer was followed, and what the outside holds then.
+-- How far an answer was followed, and what the outside holds then. Source: this project's own.
 use Rattle.std.specs.Prelude.{◌≡◌, ◌≢◌, ◌⊎◌, ℕ, List, [], take, fold, slice_get, Some, option_map, Result, Ok, Err, Contains}
 use Rattle.pw_base.specs.Files.{Names, Held, stored}
 use Rattle.pw_base.specs.Output.{Given, Gave, GavePart}

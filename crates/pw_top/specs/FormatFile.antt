@@ -1,4 +1,5 @@
 -- A file that holds one object: its format, or why it is refused at a place.
+-- Source: spa/param/format.h; the order of the refusals is this project's own.
 use Rattle.std.specs.Prelude.{◌≡◌, ℕ, List, Result, Ok, Err}
 use Rattle.pod_codec.specs.declared.pod.Pod.{Pod}
 use Rattle.format_filter.specs.declared.format.Format.{Format}

@@ -38,7 +38,7 @@ all_of outcomes = record {
   peaks = flat_map (λ o. o.peaks) outcomes;
 }
 
--- what a sink has kept, and a meter has heard
+-- what a sink has kept, and the peak of a meter
 abbrev pub kept_at : List Kept → ℕ → Option Kept
 kept_at sinks n = find (λ k. k.node == n) sinks
 

@@ -4,9 +4,7 @@ pub mod Automate
 pub mod Check
 pub mod CommandLine
 pub mod Crews
-pub mod Delivery
 pub mod Dump
-pub mod Ending
 pub mod FaultCauses
 pub mod Filter
 pub mod Following
@@ -24,7 +22,6 @@ pub mod PartsAlone
 pub mod PlannedWork
 pub mod Playing
 pub mod PodFile
-pub mod Preparing
 pub mod Refusals
 pub mod Run
 pub mod ScriptFile
@@ -35,3 +32,4 @@ pub mod Stocking
 pub mod Surely
 pub mod Usage
 pub mod Words
+pub mod working

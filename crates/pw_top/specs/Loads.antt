@@ -1,4 +1,5 @@
--- The loads of a script's lines, each by the limit that earlier ones leave: this project's grammar.
+-- The loads of a script's lines, each by the limit that earlier ones leave.
+-- Source: this project's own grammar, docs/FORMATS.md.
 use Rattle.std.specs.Prelude.{◌≡◌, ℕ, ◌-◌, List, [], ◌∷◌, length, Result, Ok, nat_lt, if◌then◌else◌}
 use Rattle.pw_base.specs.declared.ids.PortId.{PortId}
 use Rattle.pw_base.specs.declared.limit.Which.{Which}
@@ -24,7 +25,7 @@ use Rattle.pw_top.specs.Refusals.{wave_outcome}
 pub use Rattle.pw_top.specs.Narrowing.{narrowed_outcome}
 use Rattle.pw_top.specs.Stocking.{with_wave, plain_kind, with_plain}
 
--- the limit of a WAV file after so many bytes of others: its own, or what all of them leave
+-- the limit of a WAV file after n bytes of others: its own, or what all of them leave
 abbrev pub wav_limit : ℕ → ℕ
 wav_limit used = if nat_lt (all_wav_bytes_limit - used) wav_bytes_limit
     then all_wav_bytes_limit - used else wav_bytes_limit

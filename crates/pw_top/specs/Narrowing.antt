@@ -1,4 +1,5 @@
--- What an `offer` line leaves of the stock, by what its narrowing did: this project's grammar.
+-- What an `offer` line leaves of what was loaded, by what its narrowing did.
+-- Source: this project's own grammar, docs/FORMATS.md.
 use Rattle.std.specs.Prelude.{ℕ, List, Result, Ok, Err}
 use Rattle.port_model.specs.declared.narrowing.Narrowed.{Narrowed}
 use Rattle.port_model.specs.declared.narrowing.Narrowed.TheVariants as N

@@ -1,5 +1,6 @@
 -- The options of `run`, behind its script: each at most once, in any order, its value as the next
--- word. What the words so far say, one after the other. This project's.
+-- word. What the words so far say, one after the other.
+-- Source: this project's own grammar, docs/FORMATS.md.
 use Rattle.std.specs.Prelude.{ℕ, ◌≤◌, ◌+◌, ◌&&◌, Bool, true, false, not, if◌then◌else◌, List, codes, bytes_eq, fold, Option, Some, None, IfSome, is_none, Result, Ok, Err}
 use Rattle.ready_queues.specs.Lanes.{loops_limit}
 use Rattle.graph_script.specs.Arguments.{number_of}

@@ -1,5 +1,5 @@
--- What all parts of a script store and hear: node by node what each does by its own lines alone.
--- Source: this project's.
+-- What all parts of a script store, and their peaks: node by node what each does by its own lines
+-- alone. Source: this project's own.
 use Rattle.std.specs.Prelude.{◌≡◌, ℕ, List, Option, None, Ok, Contains, option_map}
 use Rattle.wav_files.specs.declared.outcome.Kept.{Kept}
 use Rattle.graph_script.specs.declared.script.Line.{Line}
@@ -18,8 +18,8 @@ use Rattle.pw_top.specs.SinkStores.{sink_store}
 abbrev pub store_at : List Line → List Kept → ℕ → Option Store
 store_at lines sinks n = option_map (sink_store lines) (kept_at sinks n)
 
--- ALONE: the plan of a part is that of its own lines; of each of its nodes all parts store and hear
--- what this plan does, and it stores and hears nothing of other nodes
+-- ALONE: the plan of a part is that of its own lines; of each of its nodes all parts store and have
+-- the peak that this plan has, and it has nothing of other nodes
 pub record StoresAlone (p : Parted) (ports : List Node) (part : Part) : Type 0 where
   pub planned : IsPlanned (part_lines part.nodes p.script.lines) p.script.names p.waves ports
       (Ok part.plan)

@@ -15,7 +15,7 @@ use Rattle.pw_top.specs.declared.status.Status.TheVariants as S
 use Rattle.pw_top.specs.declared.work.Work.{Work}
 use Rattle.pw_top.specs.Answer.{Answer}
 use Rattle.pw_top.specs.Crews.{seat_in, seats_beside}
-use Rattle.pw_top.specs.Ending.{IsEndOf}
+use Rattle.pw_top.specs.working.Ending.{IsEndOf}
 use Rattle.pw_top.specs.Following.{status_of}
 
 -- the events and the closed boards that are reported, and the ticker's counts before and after

@@ -1,5 +1,6 @@
 -- A file that holds one POD: its value, or why it is refused at a place. A file may not go on
 -- behind its POD.
+-- Source: PipeWire's documentation, "SPA POD"; the refusals are this project's own.
 use Rattle.std.specs.Prelude.{◌≡◌, ◌⊎◌, ℕ, ◌<◌, List, length, Result, Ok, Err}
 use Rattle.pod_codec.specs.declared.pod.Pod.{Pod}
 use Rattle.pod_codec.specs.declared.fault.PodFault.{PodFault}

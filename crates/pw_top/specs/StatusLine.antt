@@ -1,5 +1,5 @@
 -- The line of a status: its word, its place and its numbers, plain decimal, words parted by one
--- space.
+-- space. Source: this project's own; docs/FORMATS.md.
 use Rattle.std.specs.Prelude.{ℕ, ◌==◌, Bool, true, false, not, List, [], ◌∷◌, ◌++◌, codes, decimal}
 use Rattle.pw_base.specs.Quantities.{which_number}
 use Rattle.graph_script.specs.declared.fault.ScriptWhy.{ScriptWhy}

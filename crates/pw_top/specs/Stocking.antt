@@ -21,7 +21,7 @@ use Rattle.pw_top.specs.declared.stock.Stock.{Stock}
 abbrev pub nothing_loaded : Stock
 nothing_loaded = record { ports = []; waves = []; used = 0 }
 
--- a node more, that of a source with its wave from a file of so many bytes
+-- a node more, that of a source with its wave from a file of n bytes
 abbrev pub with_wave : Stock → ℕ → ℕ → Wav → Stock
 with_wave stock node size wav = record {
   ports = stock.ports ++ new_node K.Source wav.rate wav.channels ∷ [];

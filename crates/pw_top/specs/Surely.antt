@@ -1,4 +1,4 @@
--- A call over objects that never fail: its answer is followed to its end, but for want of memory.
+-- A call over objects that never fail: its answer is followed to its end, but for lack of memory.
 -- Source: this project's own.
 use Rattle.std.specs.Prelude.{◌≡◌, ◌⊎◌, ℕ, List, ◌++◌, take, Result, Ok, Err}
 use Rattle.pw_base.specs.Files.{Names}
@@ -24,7 +24,7 @@ pub record IsDone (a : Answer) (names names' : Names) (given given' : List ℕ) 
   pub files : names' ≡ stored_all (stores_of a.outcome) names
   pub text : given' ≡ given ++ output_of a.outcome
 
--- after want of memory: some stores from the first on, each whole, and a prefix of the text, then
+-- after lack of memory: some stores from the first on, each whole, and a prefix of the text, then
 -- nothing or the line of the status
 pub record IsCutShort (a : Answer) (names names' : Names) (given given' : List ℕ) : Type 0 where
   pub stores : ℕ

@@ -1,5 +1,6 @@
 -- The words of a command line, and those that name files: of words outside the grammar, the first
--- at fault, or their number where more are wanted. This project's.
+-- at fault, or their number where more are wanted.
+-- Source: this project's own grammar, docs/FORMATS.md.
 use Rattle.std.specs.Prelude.{◌≡◌, ℕ, ◌==◌, ◌&&◌, Bool, false, not, nat_le, if◌then◌else◌, List, [], ◌∷◌, length, Result, Ok, Err}
 use Rattle.pw_top.specs.declared.status.Status.{Status}
 use Rattle.pw_top.specs.declared.status.Status.TheVariants as S

@@ -2,9 +2,9 @@
 ghost use Rattle.std.specs.Prelude.{◌≡◌, ℕ, ◌<◌, ◌≤◌, IfOk, All};
 ghost use Rattle.pw_base.specs.Files.{IsStored};
 ghost use Rattle.pw_base.specs.Causes.{HasCause};
-ghost use Rattle.pw_top.specs.Ending.{CanBeWritten, IsStorable};
+ghost use Rattle.pw_top.specs.working.Ending.{CanBeWritten, IsStorable};
 ghost use Rattle.pw_top.specs.Following.{bytes_of};
-ghost use Rattle.pw_top.specs.Delivery.{StoresDone, TextDone, LineEnds, CanBeDelivered, Delivered};
+ghost use Rattle.pw_top.specs.working.Delivery.{StoresDone, TextDone, LineEnds, CanBeDelivered, Delivered};
 
 use crate::status::Status;
 use crate::status_line::{is_lined, status_line};
@@ -103,7 +103,7 @@ pub fn put_text<O: Sink>(alloc: Global, out: &mut O, text: &[u8]) -> Result<(), 
     Ok(())
 }
 
-/// Puts the line of a status that has one. A put that fails leaves the status, and want of memory
+/// Puts the line of a status that has one. A put that fails leaves the status, and lack of memory
 /// is the status then.
 pub fn end_line<O: Sink>(alloc: Global, out: &mut O, status: Status) -> Status
     ensures ends { LineEnds status (O.faults out.old) (O.faults out.new) (O.given out.old)

@@ -4,7 +4,7 @@ ghost use Rattle.pod_codec.specs.SoundChoices.{HasSoundChoices};
 ghost use Rattle.format_filter.specs.CommonFormat.{IsSoundFormat};
 ghost use Rattle.pw_top.specs.FormatFile.{format_refusal, IsFormatIn, HoldsFormat};
 ghost use Rattle.pw_top.specs.Allowed.{Reads};
-ghost use Rattle.pw_top.specs.Ending.{Ends, CommandCause};
+ghost use Rattle.pw_top.specs.working.Ending.{Ends, CommandCause};
 
 use crate::pod_file::pod_step;
 use crate::status::{PodWhy, Status};

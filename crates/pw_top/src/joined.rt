@@ -47,7 +47,7 @@ fn nodes_in(alloc: Global, parts: &[Part], count: u32) -> Result<Items<PlanNode>
     Ok(nodes)
 }
 
-/// What the text of all parts is read off: the nodes of a script with so many, each as its own part
+/// What the text of all parts is read off: the `count` nodes of a script, each as its own part
 /// ends it, and what its lines did.
 pub fn joined_plan(alloc: Global, parts: &Parts, count: u32) -> Result<Plan, Memory>
     ensures { IfOk result (λ plan. plan ≡ joined_plan count parts.now) }
@@ -137,14 +137,14 @@ fn kept_in_order(alloc: Global, sinks: Items<Kept>, count: u32) -> Result<Items<
     Ok(ordered)
 }
 
-// What a meter has heard.
+// The peak of a meter.
 fn peak_at(peaks: &[Peak], node: u32) -> Option<&Peak>
     ensures { option_copied result ≡ peak_at peaks.now node }
 {
     peaks.iter().find(|peak| peak.node == node)
 }
 
-// What meters have heard, ascending by node.
+// The peaks of meters, ascending by node.
 fn peaks_in_order(alloc: Global, peaks: &[Peak], count: u32) -> Result<Items<Peak>, Memory>
     ensures { IfOk result
         (λ ordered. ordered ≡ filter_map (peak_at peaks.now) (range_with_len 0 count)) }
@@ -158,7 +158,7 @@ fn peaks_in_order(alloc: Global, peaks: &[Peak], count: u32) -> Result<Items<Pea
     Ok(ordered)
 }
 
-/// What the sinks and meters of a script with so many nodes have, ascending by node, and no
+/// What the sinks and meters of a script with `count` nodes have, ascending by node, and no
 /// history.
 pub fn in_order(
     alloc: Global,

@@ -1,8 +1,8 @@
 //! A load, as the commands make it.
 ghost use Rattle.std.specs.Prelude.{◌≤◌, length};
 ghost use Rattle.pw_top.specs.Allowed.{IsLoad};
-ghost use Rattle.pw_top.specs.Ending.{CommandCause};
-ghost use Rattle.pw_top.specs.Preparing.{LoadsOnly, Tells};
+ghost use Rattle.pw_top.specs.working.Ending.{CommandCause};
+ghost use Rattle.pw_top.specs.working.Preparing.{LoadsOnly, Tells};
 
 use crate::status::Status;
 use pw_base::{FileFail, Files, Items, Loaded, Text, Which};

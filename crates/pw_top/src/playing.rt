@@ -1,20 +1,16 @@
-//! A run of what a script is planned to, and its work.
+//! A run of what a script is planned to.
 #![tactic(auto, using(crate::proofs::AllowedLemmas::parts))]
 
 ghost use Rattle.std.specs.Prelude.{◌≡◌, ◌≤◌, IfOk, OnErr, length};
 ghost use Rattle.ready_queues.specs.Lanes.{loops_limit};
 ghost use Rattle.cycle_model.specs.Rendering.{rendered_sinks, rendered_peaks};
 ghost use Rattle.graph_run.specs.PlanRun.{IsRunOf};
-ghost use Rattle.pw_top.specs.Ending.{CommandCause, IsDeliverable};
 ghost use Rattle.pw_top.specs.Crews.{seat_in, seats_beside};
-ghost use Rattle.pw_top.specs.Playing.{happened, HasNothing, HasRun, Plays};
-ghost use Rattle.pw_top.specs.PlannedWork.{rendered, IsPlayable, PlaysPlan};
+ghost use Rattle.pw_top.specs.Playing.{happened, HasRun};
+ghost use Rattle.pw_top.specs.PlannedWork.{rendered, IsPlayable};
 
-use crate::plan_work::plan_work;
 use crate::planned::Planned;
 use crate::played::Played;
-use crate::status::Status;
-use crate::work::Work;
 use board_rule::Closed;
 use graph_run::run_plan;
 use pw_base::{Gate, Items, Memory, Ticker};
@@ -24,8 +20,8 @@ use std::thread::Threads;
 use steal_loops::run_stealing;
 use wav_files::Outcome;
 
-/// Who runs a plan beside the driver's thread: so many loops, each with the nodes that name it, or
-/// with `steal` so many that each run any node.
+/// Who runs a plan beside the driver's thread: `loops` loops, each with the nodes that name it, or
+/// with `steal` loops that each run any node.
 #[derive(Clone, Copy, Debug, PartialEq, Eq, Drop)]
 pub struct Crew {
     pub loops: u32,
@@ -102,35 +98,5 @@ pub fn run_planned<R: Threads + Wait + Sync, G: Gate + Sync, K: Ticker>(
                 peaks,
             })
         }
-    }
-}
-
-/// Runs what is planned by a crew of loops, and gives its work. What happened is left in `played`,
-/// also where memory is short for the work. It may wait.
-pub fn play_planned<R: Threads + Wait + Sync, G: Gate + Sync, K: Ticker>(
-    rt: &R,
-    alloc: Global,
-    planned: &Planned,
-    crew: Crew,
-    trace: bool,
-    gate: &G,
-    ticker: &mut K,
-    played: &mut Played,
-) -> Result<Work, Status>
-    requires planned { IsPlayable planned.now }
-    requires few { crew.loops ≤ loops_limit }
-    requires none { HasNothing played.old }
-    ensures done { Plays
-        (PlaysPlan crew trace (happened played.new (K.ticks ticker.old) (K.ticks ticker.new))
-        planned.now) (happened played.new (K.ticks ticker.old) (K.ticks ticker.new)) result }
-    ensures cause { CommandCause IsDeliverable 0 0 result }
-    ensures later { K.ticks ticker.old ≤ K.ticks ticker.new }
-{
-    match run_planned(rt, alloc, planned, crew, gate, ticker, played) {
-        Err(_memory) => Err(Status::Memory),
-        Ok(outcome) => match plan_work(alloc, planned, trace, &played.history, outcome) {
-            Err(_memory) => Err(Status::Memory),
-            Ok(work) => Ok(work),
-        },
     }
 }

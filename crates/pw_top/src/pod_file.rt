@@ -3,7 +3,7 @@ ghost use Rattle.std.specs.Prelude.{◌≡◌, length, IfOk};
 ghost use Rattle.pod_codec.specs.SoundChoices.{HasSoundChoices};
 ghost use Rattle.pw_top.specs.PodFile.{pod_refusal, HoldsPod};
 ghost use Rattle.pw_top.specs.Allowed.{Reads};
-ghost use Rattle.pw_top.specs.Ending.{Ends, CommandCause};
+ghost use Rattle.pw_top.specs.working.Ending.{Ends, CommandCause};
 
 use crate::status::{PodWhy, Status};
 use pod_codec::{Pod, PodFault, read_pod};

@@ -3,7 +3,7 @@ ghost use Rattle.std.specs.Prelude.{IfOk};
 ghost use Rattle.control_sequence.specs.Automation.{ArePoints};
 ghost use Rattle.pw_top.specs.Allowed.{Reads};
 ghost use Rattle.pw_top.specs.Automate.{control_refusal, GivesPoints, HoldsPoints};
-ghost use Rattle.pw_top.specs.Ending.{Ends, CommandCause};
+ghost use Rattle.pw_top.specs.working.Ending.{Ends, CommandCause};
 ghost use Rattle.std.specs.Prelude.{◌≡◌};
 
 use crate::pod_file::pod_step;

@@ -1,6 +1,6 @@
 //! A command that runs nothing, up to its stores: what it loads, and what it gives then.
-ghost use Rattle.pw_top.specs.Ending.{CommandCause, IsDeliverable};
-ghost use Rattle.pw_top.specs.Preparing.{LoadsOnly, Tells};
+ghost use Rattle.pw_top.specs.working.Ending.{CommandCause, IsDeliverable};
+ghost use Rattle.pw_top.specs.working.Preparing.{LoadsOnly, Tells};
 
 use crate::status::Status;
 use crate::work::Work;

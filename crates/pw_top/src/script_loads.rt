@@ -6,8 +6,8 @@ ghost use Rattle.pw_base.specs.Limits.{nodes_limit};
 ghost use Rattle.graph_script.specs.Making.{NamesMade};
 ghost use Rattle.graph_lines.specs.Start.{kinds_of};
 ghost use Rattle.graph_plan.specs.Conditions.{AreLinesOf};
-ghost use Rattle.pw_top.specs.Ending.{CommandCause};
-ghost use Rattle.pw_top.specs.Preparing.{LoadsOnly, Tells};
+ghost use Rattle.pw_top.specs.working.Ending.{CommandCause};
+ghost use Rattle.pw_top.specs.working.Preparing.{LoadsOnly, Tells};
 ghost use Rattle.pw_top.specs.Stocking.{nothing_loaded, IsStockOf};
 ghost use Rattle.pw_top.specs.Loads.{LoadsAll};
 

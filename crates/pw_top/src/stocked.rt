@@ -8,8 +8,8 @@ ghost use Rattle.graph_script.specs.Kinds.{HasKinds};
 ghost use Rattle.graph_script.specs.Order.{HasOrder};
 ghost use Rattle.graph_script.specs.Ranges.{HasRanges};
 ghost use Rattle.pw_top.specs.Allowed.{Reads};
-ghost use Rattle.pw_top.specs.Ending.{Ends, CommandCause};
-ghost use Rattle.pw_top.specs.Preparing.{LoadsOnly, Tells};
+ghost use Rattle.pw_top.specs.working.Ending.{Ends, CommandCause};
+ghost use Rattle.pw_top.specs.working.Preparing.{LoadsOnly, Tells};
 ghost use Rattle.pw_top.specs.Refusals.{script_outcome};
 ghost use Rattle.pw_top.specs.ScriptFile.{LoadsStock, ReadsScript, LoadsScript, IsStocked};
 

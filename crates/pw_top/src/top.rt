@@ -1,8 +1,8 @@
 //! The top call.
 ghost use Rattle.std.specs.Prelude.{◌≤◌, map, string_bytes};
-ghost use Rattle.pw_top.specs.Ending.{CommandCause, PrepareCause, IsDeliverable};
+ghost use Rattle.pw_top.specs.working.Ending.{CommandCause, PrepareCause, IsDeliverable};
 ghost use Rattle.pw_top.specs.Playing.{happened, HasNothing, TellsPlay};
-ghost use Rattle.pw_top.specs.Preparing.{LoadsOnly};
+ghost use Rattle.pw_top.specs.working.Preparing.{LoadsOnly};
 ghost use Rattle.pw_top.specs.Usage.{command_of, HasFewLoops};
 ghost use Rattle.pw_top.specs.CommandLine.{IsAnswerTo, IsAnswer};
 ghost use Rattle.pw_top.specs.FaultCauses.{Caused, IsUsage};

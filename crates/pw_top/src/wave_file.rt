@@ -6,7 +6,7 @@ ghost use Rattle.pw_base.specs.Limits.{wav_bytes_limit};
 ghost use Rattle.wav_files.specs.WavReading.{wav_of};
 ghost use Rattle.wav_files.specs.WavWriting.{IsWave};
 ghost use Rattle.pw_top.specs.Allowed.{Reads};
-ghost use Rattle.pw_top.specs.Ending.{Ends, CommandCause};
+ghost use Rattle.pw_top.specs.working.Ending.{Ends, CommandCause};
 ghost use Rattle.pw_top.specs.Refusals.{wave_outcome};
 
 use crate::status::Status;

@@ -17,8 +17,8 @@ use Rattle.graph_run.specs.Threads.{HasRun}
 use Rattle.steal_shelf.specs.Seats.{cells_of}
 use Rattle.steal_loops.specs.declared.preparing.Prepared.{Prepared}
 use Rattle.steal_loops.specs.declared.shared.Shared.{Shared}
-use Rattle.steal_loops.specs.Cells.{AreCells, IsFinished, AreCollected}
-use Rattle.steal_loops.specs.Crews.{HasNode, IsPrepared, IsCrew}
+use Rattle.steal_loops.specs.working.Cells.{AreCells, IsFinished, AreCollected}
+use Rattle.steal_loops.specs.working.Crews.{HasNode, IsPrepared, IsCrew}
 
 -- nothing is collected; and one cell more
 pub none_collected : (shared : Shared) (list : List LoopState) → list ≡ [] → AreCollected shared 0 list

@@ -27,9 +27,9 @@ use Rattle.steal_shelf.specs.Seats.{cells_of, IsSeatOf}
 use Rattle.steal_loops.specs.declared.opening.Opened.{Opened}
 use Rattle.steal_loops.specs.declared.shared.Shared.{Shared}
 use Rattle.steal_loops.specs.declared.taker.Taker.{Taker}
-use Rattle.steal_loops.specs.Cells.{IsCellFor, AreCells}
-use Rattle.steal_loops.specs.Crews.{IsOpened, CanDrive, HasNode}
-use Rattle.steal_loops.specs.Takers.{IsTaker, IsWorker, IsDriverTaker, IsWorkersWay}
+use Rattle.steal_loops.specs.working.Cells.{IsCellFor, AreCells}
+use Rattle.steal_loops.specs.working.Crews.{IsOpened, CanDrive, HasNode}
+use Rattle.steal_loops.specs.working.Takers.{IsTaker, IsWorker, IsDriverTaker, IsWorkersWay}
 use Rattle.steal_loops.proofs.OneNodeLemmas.{one_node}
 
 -- all ways of the workers

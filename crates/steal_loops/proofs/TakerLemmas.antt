@@ -10,8 +10,8 @@ use Rattle.steal_shelf.specs.Seats.{IsSeatOf, IsAllowed}
 use Rattle.steal_shelf.proofs.CellLemmas.{finished}
 use Rattle.steal_loops.specs.declared.shared.Shared.{Shared}
 use Rattle.steal_loops.specs.declared.taker.Taker.{Taker}
-use Rattle.steal_loops.specs.Cells.{AreCells, IsFinished, HasFinished, HaveFinished}
-use Rattle.steal_loops.specs.Takers.{IsTaker}
+use Rattle.steal_loops.specs.working.Cells.{AreCells, IsFinished, HasFinished, HaveFinished}
+use Rattle.steal_loops.specs.working.Takers.{IsTaker}
 
 -- with another seat or way
 pub again : (shared : Shared) (t u : Taker) → IsTaker shared t → IsSeatOf shared.shelf u.seat → IsWayOf shared.ways u.way

@@ -1,7 +1,7 @@
 //! How the cells of a run are taken from the shelf in the end.
 ghost use Rattle.std.specs.Prelude.{◌≡◌, ◌+◌, ◌<◌, ◌≤◌, [], IsTrue, length};
 ghost use Rattle.steal_shelf.specs.Seats.{cells_of, IsSeatOf, IsAllowed};
-ghost use Rattle.steal_loops.specs.Cells.{AreCells, IsFinished, AreCollected};
+ghost use Rattle.steal_loops.specs.working.Cells.{AreCells, IsFinished, AreCollected};
 
 use crate::shared::Shared;
 use crate::visiting::advance_unless_ended;

@@ -9,8 +9,8 @@ ghost use Rattle.driver_cycle.specs.Epochs.{IsThread, HasGoneOn, HasGoneRound};
 ghost use Rattle.driver_cycle.specs.Waking.{SendsBegun};
 ghost use Rattle.graph_run.specs.Leads.{HasLedAll};
 ghost use Rattle.graph_run.specs.LoopsOnPlan.{HasPassed};
-ghost use Rattle.steal_loops.specs.Cells.{AreCells};
-ghost use Rattle.steal_loops.specs.Takers.{IsPatrol};
+ghost use Rattle.steal_loops.specs.working.Cells.{AreCells};
+ghost use Rattle.steal_loops.specs.working.Takers.{IsPatrol};
 
 use crate::patrol::{Patrol, end_round};
 use crate::ready::visit_ready;

@@ -3,9 +3,9 @@ ghost use Rattle.std.specs.Prelude.{◌≡◌, length};
 ghost use Rattle.graph_run.specs.Leads.{HaveLed, HaveLooked};
 ghost use Rattle.graph_run.specs.LoopsOnPlan.{IsReady, HasDrivers, AreFirstLeads, HasCome};
 ghost use Rattle.graph_run.specs.Threads.{HasRun};
-ghost use Rattle.steal_loops.specs.Cells.{AreCells};
-ghost use Rattle.steal_loops.specs.Crews.{CanDrive};
-ghost use Rattle.steal_loops.specs.Takers.{IsPatrol, IsDriverTaker};
+ghost use Rattle.steal_loops.specs.working.Cells.{AreCells};
+ghost use Rattle.steal_loops.specs.working.Crews.{CanDrive};
+ghost use Rattle.steal_loops.specs.working.Takers.{IsPatrol, IsDriverTaker};
 
 use crate::epoch::run_epoch;
 use crate::patrol::Patrol;

@@ -2,7 +2,7 @@
 ghost use Rattle.std.specs.Prelude.{IfOk};
 ghost use Rattle.pw_base.specs.SoundPlan.{IsSoundPlan};
 ghost use Rattle.cycle_model.specs.WavesFit.{WavesFit};
-ghost use Rattle.steal_loops.specs.Crews.{IsOpened};
+ghost use Rattle.steal_loops.specs.working.Crews.{IsOpened};
 
 use board_rule::{Board, DriverSeat};
 use data_loop::LoopState;

@@ -1,7 +1,7 @@
 //! What the driver's thread goes through the cells with, and how it waits.
 ghost use Rattle.std.specs.Prelude.{◌≡◌};
-ghost use Rattle.steal_loops.specs.Cells.{AreCells};
-ghost use Rattle.steal_loops.specs.Takers.{IsPatrol};
+ghost use Rattle.steal_loops.specs.working.Cells.{AreCells};
+ghost use Rattle.steal_loops.specs.working.Takers.{IsPatrol};
 
 use crate::rounds::visit_next;
 use crate::shared::Shared;

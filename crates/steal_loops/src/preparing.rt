@@ -4,9 +4,9 @@ ghost use Rattle.pw_base.specs.SoundPlan.{IsSoundPlan};
 ghost use Rattle.cycle_model.specs.WavesFit.{WavesFit};
 ghost use Rattle.ready_queues.specs.Lanes.{loops_limit};
 ghost use Rattle.steal_shelf.specs.Seats.{IsSeatOf};
-ghost use Rattle.steal_loops.specs.Cells.{AreCells};
-ghost use Rattle.steal_loops.specs.Crews.{IsPrepared};
-ghost use Rattle.steal_loops.specs.Takers.{IsWorker, IsWorkersWay};
+ghost use Rattle.steal_loops.specs.working.Cells.{AreCells};
+ghost use Rattle.steal_loops.specs.working.Crews.{IsPrepared};
+ghost use Rattle.steal_loops.specs.working.Takers.{IsWorker, IsWorkersWay};
 
 use crate::leading::Driving;
 use crate::opening::{Opened, open_plan};

@@ -1,7 +1,7 @@
 //! How a thread finds the cells that are ready, by the signs of their nodes.
 ghost use Rattle.std.specs.Prelude.{◌≡◌};
-ghost use Rattle.steal_loops.specs.Cells.{AreCells};
-ghost use Rattle.steal_loops.specs.Takers.{IsTaker};
+ghost use Rattle.steal_loops.specs.working.Cells.{AreCells};
+ghost use Rattle.steal_loops.specs.working.Takers.{IsTaker};
 
 use crate::shared::Shared;
 use crate::taker::Taker;

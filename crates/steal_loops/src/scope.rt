@@ -2,7 +2,7 @@
 ghost use Rattle.std.specs.Prelude.{◌≡◌, length};
 ghost use Rattle.graph_run.specs.Leads.{HaveLed, HaveLooked};
 ghost use Rattle.graph_run.specs.Outcomes.{AreDone};
-ghost use Rattle.steal_loops.specs.Crews.{IsCrew};
+ghost use Rattle.steal_loops.specs.working.Crews.{IsCrew};
 
 use crate::collecting::collect_all;
 use crate::leading::{Driving, lead};

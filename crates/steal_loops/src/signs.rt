@@ -5,7 +5,7 @@
 //! 1 once node n was woken, until a thread takes it up. A sign is a hint alone: contracts see
 //! nothing of it, and a thread that finds none for a while visits all cells.
 ghost use Rattle.std.specs.Prelude.{◌<◌, IfSome, Some};
-ghost use Rattle.steal_loops.specs.NodeSets.{IsBut};
+ghost use Rattle.steal_loops.specs.working.NodeSets.{IsBut};
 
 use crossbeam_utils::CachePadded;
 use graph_run::Seating;

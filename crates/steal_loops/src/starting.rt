@@ -1,7 +1,7 @@
 //! How the workers of a run are started in threads of their own, and joined.
 ghost use Rattle.std.specs.Prelude.{◌≡◌, ◌+◌, ◌<◌, ◌≤◌, All, length, true};
-ghost use Rattle.steal_loops.specs.Cells.{AreCells};
-ghost use Rattle.steal_loops.specs.Takers.{IsWorker};
+ghost use Rattle.steal_loops.specs.working.Cells.{AreCells};
+ghost use Rattle.steal_loops.specs.working.Takers.{IsWorker};
 
 use crate::shared::Shared;
 use crate::taker::Taker;

@@ -3,9 +3,9 @@ ghost use Rattle.std.specs.Prelude.{◌≡◌, ◌<◌, IfNone, IfSome, length};
 ghost use Rattle.data_loop.specs.Loops.{plan_of};
 ghost use Rattle.steal_shelf.specs.CellSteps.{HasStepped};
 ghost use Rattle.steal_shelf.specs.Seats.{cells_of, IsAllowed};
-ghost use Rattle.steal_loops.specs.Cells.{AreCells};
-ghost use Rattle.steal_loops.specs.Takers.{IsTaker};
-ghost use Rattle.steal_loops.specs.Visits.{HasVisited};
+ghost use Rattle.steal_loops.specs.working.Cells.{AreCells};
+ghost use Rattle.steal_loops.specs.working.Takers.{IsTaker};
+ghost use Rattle.steal_loops.specs.working.Visits.{HasVisited};
 
 use crate::cell_steps::{Step, step_cell};
 use crate::shared::Shared;

@@ -1,7 +1,7 @@
 //! What a worker does until all cells are at their end.
 ghost use Rattle.std.specs.Prelude.{◌≡◌, ◌<◌, IsTrue};
-ghost use Rattle.steal_loops.specs.Cells.{AreCells, HaveFinished};
-ghost use Rattle.steal_loops.specs.Takers.{IsTaker, IsWorker};
+ghost use Rattle.steal_loops.specs.working.Cells.{AreCells, HaveFinished};
+ghost use Rattle.steal_loops.specs.working.Takers.{IsTaker, IsWorker};
 
 use crate::ready::{visit_kept, visit_signed, visit_some};
 use crate::rounds::visit_next;

@@ -6,8 +6,8 @@ ghost use Rattle.pw_base.specs.Limits.{wav_bytes_limit};
 ghost use Rattle.control_sequence.specs.Automation.{ArePoints, automated};
 ghost use Rattle.wav_files.specs.WavWriting.{IsWave};
 ghost use Rattle.pw_top.specs.StatusLine.{numbers_line};
-ghost use Rattle.pw_top.specs.Ending.{Ends, CommandCause, IsDeliverable};
-ghost use Rattle.pw_top.specs.Preparing.{LoadsOnly, Tells};
+ghost use Rattle.pw_top.specs.working.Ending.{Ends, CommandCause, IsDeliverable};
+ghost use Rattle.pw_top.specs.working.Preparing.{LoadsOnly, Tells};
 ghost use Rattle.pw_top.specs.Automate.{automated_wave, automate_work, AutomatesWave, ReadsPoints, LoadsPoints, ReadsWave};
 
 use crate::loading::load_step;
@@ -131,7 +131,7 @@ fn automated(wav: Wav, points: Points) -> Wav
     }
 }
 
-// The line of so many frames.
+// The line of this number of frames.
 fn wrote_line(alloc: Global, frames: u64) -> Result<Text, Memory>
     ensures { IfOk result (λ text. text ≡ codes "wrote" ++ numbers_line (frames ∷ [])) }
 {

@@ -1,7 +1,7 @@
 //! `dump FILE`: the file is loaded and read, and its value is put as text.
 #![tactic(auto, using(crate::proofs::AllowedLemmas::parts))]
 
-ghost use Rattle.pw_top.specs.Ending.{Ends, CommandCause, IsDeliverable};
+ghost use Rattle.pw_top.specs.working.Ending.{Ends, CommandCause, IsDeliverable};
 ghost use Rattle.pw_top.specs.Dump.{DumpsPod, DumpsBytes};
 
 use crate::loading::load_step;

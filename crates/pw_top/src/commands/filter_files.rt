@@ -7,8 +7,8 @@ ghost use Rattle.format_filter.specs.declared.common.Filtered.TheVariants.{Commo
 ghost use Rattle.format_filter.specs.CommonFormat.{IsSoundFormat};
 ghost use Rattle.pw_top.specs.declared.work.Content.TheVariants as C;
 ghost use Rattle.pw_top.specs.StatusLine.{numbers_line};
-ghost use Rattle.pw_top.specs.Ending.{Ends, CommandCause, IsDeliverable};
-ghost use Rattle.pw_top.specs.Preparing.{LoadsOnly, Tells};
+ghost use Rattle.pw_top.specs.working.Ending.{Ends, CommandCause, IsDeliverable};
+ghost use Rattle.pw_top.specs.working.Preparing.{LoadsOnly, Tells};
 ghost use Rattle.pw_top.specs.Allowed.{Reads};
 ghost use Rattle.pw_top.specs.Filter.{clash_work, types_work, StoresObject, GivesFiltered, FiltersTo};
 ghost use Rattle.pw_top.specs.Filter.{ReadsSecond, LoadsSecond, ReadsFirst};

@@ -3,11 +3,11 @@
 #![tactic(auto, using(crate::proofs::AllowedLemmas::parts))]
 
 ghost use Rattle.std.specs.Prelude.{◌≡◌, ◌≤◌, ℕ, length, IfOk, OnErr};
-ghost use Rattle.pw_top.specs.Ending.{CommandCause, IsDeliverable};
+ghost use Rattle.pw_top.specs.working.Ending.{CommandCause, IsDeliverable};
 ghost use Rattle.pw_top.specs.Groups.{CanBeGrouped, parts_outcome};
 ghost use Rattle.pw_top.specs.GroupsWork.{groups_work, HasGroupsRun, GroupsPlan, IsGroupsAnswer};
 ghost use Rattle.pw_top.specs.Playing.{happened, HasNothing, Plays, TellsPlay};
-ghost use Rattle.pw_top.specs.Preparing.{LoadsOnly};
+ghost use Rattle.pw_top.specs.working.Preparing.{LoadsOnly};
 
 use crate::joined::{all_of, in_order, joined_plan};
 use crate::parted::{Parted, parts_file};

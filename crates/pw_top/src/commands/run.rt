@@ -4,14 +4,16 @@
 
 ghost use Rattle.std.specs.Prelude.{◌≤◌};
 ghost use Rattle.ready_queues.specs.Lanes.{loops_limit};
-ghost use Rattle.pw_top.specs.Ending.{CommandCause, IsDeliverable};
-ghost use Rattle.pw_top.specs.Playing.{happened, HasNothing, TellsPlay};
-ghost use Rattle.pw_top.specs.Preparing.{LoadsOnly};
+ghost use Rattle.pw_top.specs.working.Ending.{CommandCause, IsDeliverable};
+ghost use Rattle.pw_top.specs.PlannedWork.{IsPlayable, PlaysPlan};
+ghost use Rattle.pw_top.specs.Playing.{happened, HasNothing, Plays, TellsPlay};
+ghost use Rattle.pw_top.specs.working.Preparing.{LoadsOnly};
 ghost use Rattle.pw_top.specs.Run.{IsRunAnswer};
 
-use crate::planned::plan_file;
+use crate::plan_work::plan_work;
+use crate::planned::{Planned, plan_file};
 use crate::played::Played;
-use crate::playing::{Crew, play_planned};
+use crate::playing::{Crew, run_planned};
 use crate::status::Status;
 use crate::work::Work;
 use pw_base::{Files, Gate, Text, Ticker};
@@ -30,6 +32,35 @@ pub struct Running {
 }
 
 impl Running {
+    // Runs what is planned, and gives its work. What happened is left in `played`, also where
+    // memory is short for the work. It may wait.
+    fn play_planned<R: Threads + Wait + Sync, G: Gate + Sync, K: Ticker>(
+        &self,
+        rt: &R,
+        alloc: Global,
+        planned: &Planned,
+        gate: &G,
+        ticker: &mut K,
+        played: &mut Played,
+    ) -> Result<Work, Status>
+        requires planned { IsPlayable planned.now }
+        requires few { self.now.crew.loops ≤ loops_limit }
+        requires none { HasNothing played.old }
+        ensures done { Plays (PlaysPlan self.now.crew self.now.trace
+            (happened played.new (K.ticks ticker.old) (K.ticks ticker.new)) planned.now)
+            (happened played.new (K.ticks ticker.old) (K.ticks ticker.new)) result }
+        ensures cause { CommandCause IsDeliverable 0 0 result }
+        ensures later { K.ticks ticker.old ≤ K.ticks ticker.new }
+    {
+        match run_planned(rt, alloc, planned, self.crew, gate, ticker, played) {
+            Err(_memory) => Err(Status::Memory),
+            Ok(outcome) => match plan_work(alloc, planned, self.trace, &played.history, outcome) {
+                Err(_memory) => Err(Status::Memory),
+                Ok(work) => Ok(work),
+            },
+        }
+    }
+
     /// Loads and plans the script, and runs its plan. What happened is left in `played`. It may
     /// wait.
     pub fn play<R: Threads + Wait + Sync, F: Files, G: Gate + Sync, K: Ticker>(
@@ -54,9 +85,7 @@ impl Running {
     {
         match plan_file(alloc, files, &self.script) {
             Err(status) => Err(status),
-            Ok(planned) => play_planned(
-                rt, alloc, &planned, self.crew, self.trace, gate, ticker, played,
-            ),
+            Ok(planned) => self.play_planned(rt, alloc, &planned, gate, ticker, played),
         }
     }
 }

@@ -1,6 +1,6 @@
 -- The digits that are left, behind the bytes so far, make the row.
 use Rattle.std.proofs.Common.{◌≡◌, length}
-use Rattle.dump_reading.specs.Bytes.{hex_said}
+use Rattle.dump_reading.specs.working.Bytes.{hex_said}
 use Rattle.dump_reading.proofs.ByteLoops.{behind}
 use Rattle.dump_reading.proofs.bytes.hex_said.Given as goal
 

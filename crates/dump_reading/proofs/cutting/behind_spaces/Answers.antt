@@ -3,7 +3,7 @@ use Rattle.std.proofs.Common.{◌≡◌, ◌&&◌, ◌==◌, nat_le, true, sym, 
 use Rattle.std.specs.Prelude.{Some, None}
 use Rattle.std.specs.List.{list_all}
 use Rattle.std.proofs.lemmas.Bool.{and_from, le-leb, cond-true}
-use Rattle.dump_reading.specs.Cutting.{behind_spaces}
+use Rattle.dump_reading.specs.working.Cutting.{behind_spaces}
 use Rattle.dump_reading.proofs.cutting.behind_spaces.Goals as goal
 
 pub returns-then-all_spaces : goal.returns-then-all_spaces

@@ -1,7 +1,7 @@
 -- One thing more is read, or none, or all are.
 use Rattle.std.proofs.Common.{◌≡◌, ◌+◌, ◌-◌, inl, inr, List, [], sym, subst, ◌∙◌, arith}
 use Rattle.pod_codec.specs.declared.pod.Pod.{Pod}
-use Rattle.dump_reading.specs.Lines.{many}
+use Rattle.dump_reading.specs.working.Lines.{many}
 use Rattle.dump_reading.specs.Values.{element_said}
 use Rattle.dump_reading.proofs.ManyLemmas.{many_more, many_stops, many_done}
 use Rattle.dump_reading.proofs.elements.elements_said.Goals as goal

@@ -1,6 +1,6 @@
 -- The values that are left, behind those so far, are all.
 use Rattle.std.proofs.Common.{◌≡◌, ◌-◌, []}
-use Rattle.dump_reading.specs.Lines.{many}
+use Rattle.dump_reading.specs.working.Lines.{many}
 use Rattle.dump_reading.specs.Values.{element_said}
 use Rattle.dump_reading.proofs.elements.elements_said.Given as goal
 

@@ -1,5 +1,5 @@
 use Rattle.std.proofs.Common.{◌≡◌, ◌≤◌, take}
-use Rattle.dump_reading.specs.Numerals.{digits_number}
+use Rattle.dump_reading.specs.working.Numerals.{digits_number}
 use Rattle.dump_reading.proofs.numbers.digits_within.Given as goal
 
 abbrev pub invariant-loop-b : goal.invariant-loop-b

@@ -1,6 +1,6 @@
 -- A byte that no string has there.
 use Rattle.std.proofs.Common.{sym, ap, ◌∙◌, arith}
-use Rattle.dump_reading.specs.Strings.{string_said, whole}
+use Rattle.dump_reading.specs.working.Strings.{string_said, whole}
 use Rattle.dump_reading.proofs.StringLoops.{string_stops}
 use Rattle.dump_reading.proofs.strings.string_said.Goals as goal
 

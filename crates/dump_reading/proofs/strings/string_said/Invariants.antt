@@ -1,8 +1,8 @@
 -- The bytes that are left, from where the string stands, make the string.
 use Rattle.std.proofs.Common.{◌≡◌, [], drop}
 use Rattle.std.specs.Prelude.{Some, fold}
-use Rattle.dump_reading.specs.Strings.{read_byte}
-use Rattle.dump_reading.specs.Escapes.{IsEscape}
+use Rattle.dump_reading.specs.working.Strings.{read_byte}
+use Rattle.dump_reading.specs.working.Escapes.{IsEscape}
 use Rattle.dump_reading.specs.declared.strings.Escape.TheVariants as E
 use Rattle.dump_reading.proofs.strings.string_said.Given as goal
 

@@ -3,8 +3,8 @@ use Rattle.std.proofs.Common.{◌≡◌, ℕ, ◌+◌, ◌-◌, inl, inr, List, 
 use Rattle.pod_codec.specs.declared.pod.Pod.{Pod}
 use Rattle.pod_codec.specs.declared.pod.Prop.{Prop}
 use Rattle.pod_codec.specs.declared.pod.Control.{Control}
-use Rattle.dump_reading.specs.Keyed.{prop_said, control_said}
-use Rattle.dump_reading.specs.Lines.{many}
+use Rattle.dump_reading.specs.working.Keyed.{prop_said, control_said}
+use Rattle.dump_reading.specs.working.Lines.{many}
 use Rattle.dump_reading.specs.Values.{held_said, value_said}
 use Rattle.dump_reading.specs.declared.heads.Head.{Head}
 use Rattle.dump_reading.proofs.ManyLemmas.{many_more, many_stops, many_done}

@@ -1,7 +1,7 @@
 -- What is left, behind what was read so far, is all; and each call has fewer levels left.
 use Rattle.std.proofs.Common.{◌≡◌, ◌+◌, ◌-◌, ◌*◌, []}
-use Rattle.dump_reading.specs.Keyed.{prop_said, control_said}
-use Rattle.dump_reading.specs.Lines.{many}
+use Rattle.dump_reading.specs.working.Keyed.{prop_said, control_said}
+use Rattle.dump_reading.specs.working.Lines.{many}
 use Rattle.dump_reading.specs.Values.{value_said}
 use Rattle.dump_reading.proofs.values.+read_dump.Given as goal
 

@@ -2,7 +2,7 @@
 use Rattle.std.proofs.Common.{◌≡◌, ℕ, length, subst}
 use Rattle.wav_files.specs.WavReading.{wav_of}
 use Rattle.pw_top.specs.Allowed.{Reads}
-use Rattle.pw_top.specs.Ending.{Ends}
+use Rattle.pw_top.specs.working.Ending.{Ends}
 use Rattle.pw_top.specs.Refusals.{wave_outcome}
 use Rattle.pw_top.specs.Loads.{TakesWave}
 use Rattle.pw_top.proofs.AllowedLemmas.{binds_goes}

@@ -6,7 +6,7 @@ use Rattle.pw_base.specs.Files.{Names, names_in}
 use Rattle.graph_script.specs.declared.script.Line.{Line}
 use Rattle.graph_script.specs.Kinds.{made_by}
 use Rattle.graph_lines.specs.Start.{kinds_of}
-use Rattle.pw_top.specs.Ending.{Ends}
+use Rattle.pw_top.specs.working.Ending.{Ends}
 use Rattle.pw_top.specs.Loads.{LoadsLine, LoadsAll}
 use Rattle.pw_top.specs.Stocking.{IsStockAfter, IsStockOf}
 use Rattle.pw_top.proofs.LoadsLemmas.{IsUnderWay, next_line, past, may_load, one_more, stops_here, goes_here, told_before}

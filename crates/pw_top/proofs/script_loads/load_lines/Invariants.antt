@@ -4,8 +4,8 @@ use Rattle.pw_base.specs.Files.{names_in}
 use Rattle.graph_lines.specs.Start.{kinds_of}
 use Rattle.pw_top.specs.declared.status.Status.{Status}
 use Rattle.pw_top.specs.declared.stock.Stock.{Stock}
-use Rattle.pw_top.specs.Ending.{Ends}
-use Rattle.pw_top.specs.Preparing.{LoadsOnly}
+use Rattle.pw_top.specs.working.Ending.{Ends}
+use Rattle.pw_top.specs.working.Preparing.{LoadsOnly}
 use Rattle.pw_top.specs.Loads.{LoadsAll}
 use Rattle.pw_top.specs.Stocking.{nothing_loaded, IsSoundStock}
 use Rattle.pw_top.proofs.LoadsLemmas.{IsUnderWay}

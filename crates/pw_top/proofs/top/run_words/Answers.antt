@@ -1,5 +1,5 @@
 use Rattle.std.proofs.Common.{subst, rules}
-use Rattle.pw_top.specs.Delivery.{Delivered}
+use Rattle.pw_top.specs.working.Delivery.{Delivered}
 use Rattle.pw_top.specs.Outside.{outside}
 use Rattle.pw_top.specs.Playing.{happened}
 use Rattle.pw_top.proofs.HeadlineLemmas.{run_follows, complete}

@@ -1,5 +1,5 @@
 use Rattle.std.proofs.Common.{true≢false, sym, subst}
-use Rattle.steal_loops.specs.Cells.{IsFinished}
+use Rattle.steal_loops.specs.working.Cells.{IsFinished}
 use Rattle.steal_loops.proofs.collecting.collect.Goals.{in-None, in-Some+then-is_finished}
 use Rattle.steal_loops.proofs.collecting.collect.Goals as goal
 

@@ -1,6 +1,6 @@
 use Rattle.std.proofs.Common.{◌≡◌, ◌+◌, length}
 use Rattle.steal_shelf.specs.Seats.{cells_of, IsSeatOf}
-use Rattle.steal_loops.specs.Cells.{AreCollected}
+use Rattle.steal_loops.specs.working.Cells.{AreCollected}
 use Rattle.steal_loops.proofs.collecting.collect_all.Given as goal
 
 abbrev pub invariant-loop-cell : goal.invariant-loop-cell

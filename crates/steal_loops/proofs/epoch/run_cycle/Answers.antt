@@ -5,7 +5,7 @@ use Rattle.data_loop.specs.declared.loop_state.LoopState.{LoopState}
 use Rattle.driver_cycle.specs.Leading.{IsBetween}
 use Rattle.driver_cycle.specs.Epochs.{HasGoneOn}
 use Rattle.driver_cycle.proofs.ThreadLemmas.{no_round, more_rounds}
-use Rattle.steal_loops.specs.Takers.{IsPatrol}
+use Rattle.steal_loops.specs.working.Takers.{IsPatrol}
 use Rattle.steal_loops.proofs.epoch.run_cycle.Goals.{in-None, in-Some+then-go_round}
 use Rattle.steal_loops.proofs.epoch.run_cycle.Goals as goal
 

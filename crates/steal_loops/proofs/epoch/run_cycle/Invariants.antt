@@ -2,7 +2,7 @@ use Rattle.std.proofs.Common.{◌≡◌, []}
 use Rattle.board_rule.specs.OnBoard.{layout}
 use Rattle.driver_cycle.specs.Leading.{IsWaiting}
 use Rattle.driver_cycle.specs.Epochs.{HasGoneOn}
-use Rattle.steal_loops.specs.Takers.{IsPatrol}
+use Rattle.steal_loops.specs.working.Takers.{IsPatrol}
 use Rattle.steal_loops.proofs.epoch.run_cycle.Given as goal
 
 abbrev pub invariant-loop : goal.invariant-loop

@@ -3,7 +3,7 @@ use Rattle.board_rule.specs.Layout.{last}
 use Rattle.board_rule.specs.OnBoard.{layout}
 use Rattle.driver_cycle.specs.Leading.{IsBetween}
 use Rattle.driver_cycle.specs.Epochs.{HasGoneOn}
-use Rattle.steal_loops.specs.Takers.{IsPatrol}
+use Rattle.steal_loops.specs.working.Takers.{IsPatrol}
 use Rattle.steal_loops.proofs.epoch.run_cycles.Given as goal
 
 abbrev pub invariant-loop-seat : goal.invariant-loop-seat

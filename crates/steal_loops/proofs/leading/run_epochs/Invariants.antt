@@ -1,7 +1,7 @@
 use Rattle.std.proofs.Common.{◌≡◌, length}
 use Rattle.graph_run.specs.Leads.{HaveLed, HaveLooked}
 use Rattle.graph_run.specs.LoopsOnPlan.{HasCome}
-use Rattle.steal_loops.specs.Takers.{IsPatrol}
+use Rattle.steal_loops.specs.working.Takers.{IsPatrol}
 use Rattle.steal_loops.proofs.leading.run_epochs.Given as goal
 
 abbrev pub invariant-loop-k : goal.invariant-loop-k

@@ -1,5 +1,5 @@
 use Rattle.std.proofs.Common.{refl, sym, subst, ◌∙◌}
-use Rattle.steal_loops.specs.Takers.{IsDriverTaker}
+use Rattle.steal_loops.specs.working.Takers.{IsDriverTaker}
 use Rattle.steal_loops.proofs.TakerLemmas.{again}
 use Rattle.steal_loops.proofs.patrol.look_on.Goals as goal
 

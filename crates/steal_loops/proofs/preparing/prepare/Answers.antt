@@ -9,8 +9,8 @@ use Rattle.steal_shelf.specs.Seats.{IsSeatOf}
 use Rattle.steal_loops.specs.declared.opening.Opened.{Opened}
 use Rattle.steal_loops.specs.declared.shared.Shared.{Shared}
 use Rattle.steal_loops.specs.declared.taker.Taker.{Taker}
-use Rattle.steal_loops.specs.Cells.{AreCells}
-use Rattle.steal_loops.specs.Crews.{HasNode}
+use Rattle.steal_loops.specs.working.Cells.{AreCells}
+use Rattle.steal_loops.specs.working.Crews.{HasNode}
 use Rattle.steal_loops.proofs.PrepareLemmas.{front, back, few_nodes, workers_ways, all_first, all_alike, node_there, are_cells, new_taker, drives}
 use Rattle.steal_loops.proofs.preparing.prepare.Goals as goal
 

@@ -5,7 +5,7 @@ use Rattle.ready_queues.specs.declared.way.Way.{Way}
 use Rattle.steal_shelf.specs.declared.shelf.ShelfSeat.{ShelfSeat}
 use Rattle.steal_shelf.specs.Seats.{IsSeatOf}
 use Rattle.steal_loops.specs.declared.taker.Taker.{Taker}
-use Rattle.steal_loops.specs.Takers.{IsWorker, IsWorkersWay}
+use Rattle.steal_loops.specs.working.Takers.{IsWorker, IsWorkersWay}
 use Rattle.steal_loops.proofs.PrepareLemmas.{new_worker}
 use Rattle.steal_loops.proofs.preparing.takers_of.Goals as goal
 

@@ -1,7 +1,7 @@
 use Rattle.std.proofs.Common.{◌≡◌, ◌+◌, length}
 use Rattle.std.specs.Prelude.{All}
 use Rattle.steal_shelf.specs.Seats.{IsSeatOf}
-use Rattle.steal_loops.specs.Takers.{IsWorker, IsWorkersWay}
+use Rattle.steal_loops.specs.working.Takers.{IsWorker, IsWorkersWay}
 use Rattle.steal_loops.proofs.preparing.takers_of.Given as goal
 
 abbrev pub invariant-loop-seat : goal.invariant-loop-seat

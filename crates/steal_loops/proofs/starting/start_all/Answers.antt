@@ -3,7 +3,7 @@ use Rattle.std.specs.Prelude.{All}
 use Rattle.std.proofs.lemmas.List.{append_assoc}
 use Rattle.std.proofs.lemmas.List.Elements.{All-tail}
 use Rattle.steal_loops.specs.declared.taker.Taker.{Taker}
-use Rattle.steal_loops.specs.Takers.{IsWorker}
+use Rattle.steal_loops.specs.working.Takers.{IsWorker}
 use Rattle.steal_loops.proofs.starting.start_all.Goals as goal
 
 pub loop-taker-preserved : goal.loop-taker-preserved

@@ -1,6 +1,6 @@
 use Rattle.std.proofs.Common.{◌≡◌, ◌+◌, ◌≤◌, ◌++◌, length}
 use Rattle.std.specs.Prelude.{All}
-use Rattle.steal_loops.specs.Takers.{IsWorker}
+use Rattle.steal_loops.specs.working.Takers.{IsWorker}
 use Rattle.steal_loops.proofs.starting.start_all.Given as goal
 
 abbrev pub invariant-loop-taker : goal.invariant-loop-taker

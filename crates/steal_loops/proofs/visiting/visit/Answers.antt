@@ -1,5 +1,5 @@
 use Rattle.std.proofs.Common.{ℕ, refl, subst}
-use Rattle.steal_loops.specs.NodeSets.{IsBut}
+use Rattle.steal_loops.specs.working.NodeSets.{IsBut}
 use Rattle.steal_loops.proofs.TakerLemmas.{flagged, at_end}
 use Rattle.steal_loops.proofs.visiting.visit.Goals as goal
 

@@ -1,5 +1,5 @@
 use Rattle.std.proofs.Common.{◌<◌}
-use Rattle.steal_loops.specs.Takers.{IsTaker}
+use Rattle.steal_loops.specs.working.Takers.{IsTaker}
 use Rattle.steal_loops.proofs.workers.run_worker.Given as goal
 
 abbrev pub invariant-loop : goal.invariant-loop

@@ -1,6 +1,6 @@
 -- The stored wave can be written.
 use Rattle.std.proofs.Common.{subst, sym}
-use Rattle.pw_top.specs.Ending.{IsDeliverable}
+use Rattle.pw_top.specs.working.Ending.{IsDeliverable}
 use Rattle.pw_top.proofs.AutomateLemmas.{automate_storable}
 use Rattle.pw_top.proofs.commands.automate.automate_wave.Goals as goal
 

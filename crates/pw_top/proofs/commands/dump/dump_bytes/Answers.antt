@@ -1,5 +1,5 @@
 use Rattle.std.proofs.Common.{subst, Ok}
-use Rattle.pw_top.specs.Ending.{Ends}
+use Rattle.pw_top.specs.working.Ending.{Ends}
 use Rattle.pw_top.specs.Allowed.{Reads}
 use Rattle.pw_top.specs.PodFile.{HoldsPod}
 use Rattle.pw_top.specs.Dump.{DumpsPod}

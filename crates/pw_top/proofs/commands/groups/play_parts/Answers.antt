@@ -6,8 +6,8 @@ use Rattle.wav_files.specs.WavWriting.{IsWave}
 use Rattle.pw_top.specs.declared.status.Status.TheVariants as S
 use Rattle.pw_top.specs.declared.work.Work.{Work}
 use Rattle.pw_top.specs.Answer.{ended}
-use Rattle.pw_top.specs.Ending.{IsDeliverable}
-use Rattle.pw_top.specs.Ending.IsEndOf.{is_end}
+use Rattle.pw_top.specs.working.Ending.{IsDeliverable}
+use Rattle.pw_top.specs.working.Ending.IsEndOf.{is_end}
 use Rattle.pw_top.specs.Groups.{parts_outcome}
 use Rattle.pw_top.specs.GroupsWork.{groups_work}
 use Rattle.pw_top.specs.Playing.{HasNothing}

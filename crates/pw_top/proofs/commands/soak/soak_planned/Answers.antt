@@ -5,8 +5,8 @@ use Rattle.std.proofs.lemmas.List.Elements.{All-nil}
 use Rattle.pw_top.specs.declared.status.Status.TheVariants as S
 use Rattle.pw_top.specs.declared.work.Work.{Work}
 use Rattle.pw_top.specs.Answer.{ended}
-use Rattle.pw_top.specs.Ending.{IsStorable, IsDeliverable}
-use Rattle.pw_top.specs.Ending.IsEndOf.{is_end}
+use Rattle.pw_top.specs.working.Ending.{IsStorable, IsDeliverable}
+use Rattle.pw_top.specs.working.Ending.IsEndOf.{is_end}
 use Rattle.pw_top.specs.Playing.{HasNothing}
 use Rattle.pw_top.specs.Soak.{soak_work}
 use Rattle.pw_top.proofs.commands.soak.soak_planned.Goals as goal

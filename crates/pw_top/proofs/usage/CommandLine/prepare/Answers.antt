@@ -4,7 +4,7 @@ use Rattle.std.specs.Prelude.{Result, Ok, Err}
 use Rattle.pw_base.specs.Files.{names_in}
 use Rattle.pw_top.specs.declared.status.Status.{Status}
 use Rattle.pw_top.specs.declared.work.Work.{Work}
-use Rattle.pw_top.specs.Ending.{CommandCause, IsDeliverable}
+use Rattle.pw_top.specs.working.Ending.{CommandCause, IsDeliverable}
 use Rattle.pw_top.specs.Playing.{happened}
 use Rattle.pw_top.specs.Dump.{IsDumpAnswer}
 use Rattle.pw_top.specs.Filter.{IsFilterAnswer}

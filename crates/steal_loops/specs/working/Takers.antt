@@ -8,7 +8,7 @@ use Rattle.steal_shelf.specs.Seats.{cells_of, IsSeatOf}
 use Rattle.steal_loops.specs.declared.patrol.Patrol.{Patrol}
 use Rattle.steal_loops.specs.declared.shared.Shared.{Shared}
 use Rattle.steal_loops.specs.declared.taker.Taker.{Taker}
-use Rattle.steal_loops.specs.Cells.{HasFinished}
+use Rattle.steal_loops.specs.working.Cells.{HasFinished}
 
 -- a seat of the shelf, a way to the queues, and a flag for each cell, which was found at its end
 -- where the flag is up

@@ -1,7 +1,7 @@
 -- The lines of a dump: a line ends with a line feed, and is indented by two spaces a level.
 -- Source: this project's own.
 use Rattle.std.specs.Prelude.{ℕ, zero, suc, ◌*◌, List, [], ◌∷◌, ◌++◌, Option, Some, None, option_and_then}
-use Rattle.dump_reading.specs.Cutting.{cut_at, behind_spaces}
+use Rattle.dump_reading.specs.working.Cutting.{cut_at, behind_spaces}
 
 abbrev pub with_rest : List ℕ → Option (List ℕ) → Option (List ℕ × List ℕ)
 with_rest rest None = None

@@ -9,11 +9,11 @@ use Rattle.dump_reading.specs.declared.heads.Head.{Head}
 use Rattle.dump_reading.specs.declared.heads.Head.TheVariants as H
 use Rattle.dump_reading.specs.declared.names.Name.{Name}
 use Rattle.dump_reading.specs.declared.names.Name.TheVariants as N
-use Rattle.dump_reading.specs.Bytes.{float_said, double_said, quoted_hex_said}
-use Rattle.dump_reading.specs.Cutting.{cut_at}
-use Rattle.dump_reading.specs.Strings.{quoted_said}
-use Rattle.dump_reading.specs.Names.{name_said, kind_said}
-use Rattle.dump_reading.specs.Numbers.{number_said, pair_said, triple_said, integer_said}
+use Rattle.dump_reading.specs.working.Bytes.{float_said, double_said, quoted_hex_said}
+use Rattle.dump_reading.specs.working.Cutting.{cut_at}
+use Rattle.dump_reading.specs.working.Strings.{quoted_said}
+use Rattle.dump_reading.specs.working.Names.{name_said, kind_said}
+use Rattle.dump_reading.specs.working.Numbers.{number_said, pair_said, triple_said, integer_said}
 
 abbrev pub bool_said : List ℕ → Option Bool
 bool_said word = if bytes_eq word (codes "true") then Some true

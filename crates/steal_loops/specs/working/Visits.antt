@@ -10,8 +10,8 @@ use Rattle.steal_loops.specs.declared.shared.Shared.{Shared}
 use Rattle.steal_loops.specs.declared.taker.Taker.{Taker}
 use Rattle.steal_loops.specs.declared.visiting.Visited.{Visited}
 use Rattle.steal_loops.specs.declared.visiting.Visited.TheVariants.{Out, Ended, Stepped}
-use Rattle.steal_loops.specs.Cells.{HasFinished}
-use Rattle.steal_loops.specs.NodeSets.{IsBut}
+use Rattle.steal_loops.specs.working.Cells.{HasFinished}
+use Rattle.steal_loops.specs.working.NodeSets.{IsBut}
 
 -- A STEP: the cell was found so, made one step, was put back, and what it woke was sent, but for
 -- the node that the thread keeps

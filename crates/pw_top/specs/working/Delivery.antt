@@ -1,5 +1,5 @@
 -- Delivery: the stores of an accepted command, then its text, then the line of a status that has
--- one.
+-- one. Source: this project's own.
 use Rattle.std.specs.Prelude.{◌≡◌, ◌⊎◌, ℕ, ◌<◌, List, take, Result, Ok, Err, MatchBool}
 use Rattle.pw_base.specs.Files.{Held}
 use Rattle.pw_base.specs.Output.{Given, Gave, GavePart}
@@ -8,7 +8,7 @@ use Rattle.pw_top.specs.declared.status.Status.{Status}
 use Rattle.pw_top.specs.declared.status.Status.TheVariants as S
 use Rattle.pw_top.specs.declared.work.Store.{Store}
 use Rattle.pw_top.specs.declared.work.Work.{Work}
-use Rattle.pw_top.specs.Ending.{IsDeliverable}
+use Rattle.pw_top.specs.working.Ending.{IsDeliverable}
 use Rattle.pw_top.specs.StatusLine.{line_of, has_line}
 use Rattle.pw_top.specs.Following.{AllStored, CutAt, GaveLine}
 

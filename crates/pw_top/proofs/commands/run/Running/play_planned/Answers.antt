@@ -4,12 +4,12 @@ use Rattle.std.specs.Prelude.{Ok}
 use Rattle.pw_top.specs.declared.status.Status.TheVariants as S
 use Rattle.pw_top.specs.declared.work.Work.{Work}
 use Rattle.pw_top.specs.Answer.{ended}
-use Rattle.pw_top.specs.Ending.{IsDeliverable}
-use Rattle.pw_top.specs.Ending.IsEndOf.{is_end}
+use Rattle.pw_top.specs.working.Ending.{IsDeliverable}
+use Rattle.pw_top.specs.working.Ending.IsEndOf.{is_end}
 use Rattle.pw_top.specs.Playing.{HasNothing}
 use Rattle.pw_top.specs.PlannedWork.{plan_work}
 use Rattle.pw_top.proofs.PlanWorkLemmas.{stores_made}
-use Rattle.pw_top.proofs.playing.play_planned.Goals as goal
+use Rattle.pw_top.proofs.commands.run.Running.play_planned.Goals as goal
 
 pub returns-in-Err-clause-done : goal.returns-in-Err-clause-done
 returns-in-Err-clause-done g c = record {
@@ -21,7 +21,7 @@ returns-in-Err-clause-done g c = record {
 
 pub returns-in-Err-plan_work-clause-done : goal.returns-in-Err-plan_work-clause-done
 returns-in-Err-plan_work-clause-done g c = record {
-  answer = record { loads = []; outcome = Ok (plan_work c.args.planned.now c.args.trace c.run_planned.new.played.history) };
+  answer = record { loads = []; outcome = Ok (plan_work c.args.planned.now c.args.self.now.trace c.run_planned.new.played.history) };
   allowed = (refl, inl (c.in-Ok.ensures.run, refl));
   ends = is_end tt;
   played = inr refl;
@@ -29,7 +29,7 @@ returns-in-Err-plan_work-clause-done g c = record {
 
 pub returns-in-Ok-plan_work-clause-done : goal.returns-in-Ok-plan_work-clause-done
 returns-in-Ok-plan_work-clause-done g c = record {
-  answer = record { loads = []; outcome = Ok (plan_work c.args.planned.now c.args.trace c.run_planned.new.played.history) };
+  answer = record { loads = []; outcome = Ok (plan_work c.args.planned.now c.args.self.now.trace c.run_planned.new.played.history) };
   allowed = (refl, inl (c.in-Ok.ensures.run, refl));
   ends = is_end (ap (λ (w : Work). Ok w) (sym c.in-Ok-plan_work.ensures));
   played = tt;

@@ -1,7 +1,7 @@
 -- Numbers of a dump's line, in decimal digits. Source: this project's own.
 use Rattle.std.specs.Prelude.{ℕ, ◌+◌, ◌==◌, if◌then◌else◌, ℤ, pos, neg_ℤ, List, [], ◌∷◌, Option, Some, None, option_map}
-use Rattle.dump_reading.specs.Cutting.{cut_at}
-use Rattle.dump_reading.specs.Numerals.{number_of}
+use Rattle.dump_reading.specs.working.Cutting.{cut_at}
+use Rattle.dump_reading.specs.working.Numerals.{number_of}
 
 -- a number of 32 bits
 unfoldable pub number_said : List ℕ → Option ℕ

@@ -20,8 +20,8 @@ use Rattle.steal_loops.specs.declared.opening.Opened.{Opened}
 use Rattle.steal_loops.specs.declared.preparing.Prepared.{Prepared}
 use Rattle.steal_loops.specs.declared.scope.Crew.{Crew}
 use Rattle.steal_loops.specs.declared.shared.Shared.{Shared}
-use Rattle.steal_loops.specs.Cells.{AreCells}
-use Rattle.steal_loops.specs.Takers.{IsWorker, IsDriverTaker}
+use Rattle.steal_loops.specs.working.Cells.{AreCells}
+use Rattle.steal_loops.specs.working.Takers.{IsWorker, IsDriverTaker}
 
 -- OPENED: the boards of the plan, with a seat for each cell and one for the driver's own loop; the
 -- cells and that loop are ready to run on them

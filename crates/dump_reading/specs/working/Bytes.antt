@@ -3,7 +3,7 @@
 use Rattle.std.specs.Prelude.{ℕ, ◌+◌, ◌-◌, ◌*◌, ◌==◌, ◌&&◌, nat_le, if◌then◌else◌, List, [], ◌∷◌, length}
 use Rattle.std.specs.Prelude.{Option, Some, None, option_map, option_and_then}
 use Rattle.std.specs.Int.{w32, w64, from_be_bytes}
-use Rattle.dump_reading.specs.Cutting.{cut_at}
+use Rattle.dump_reading.specs.working.Cutting.{cut_at}
 
 -- a digit, 0 to 9 or a to f
 unfoldable pub digit_said : ℕ → Option ℕ

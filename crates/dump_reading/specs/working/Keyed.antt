@@ -5,9 +5,9 @@ use Rattle.pod_codec.specs.declared.pod.Pod.{Pod}
 use Rattle.pod_codec.specs.declared.pod.Prop.{Prop}
 use Rattle.pod_codec.specs.declared.pod.Control.{Control}
 use Rattle.pod_codec.specs.declared.pod.Pod.TheViews.{roll-Prop, roll-Control}
-use Rattle.dump_reading.specs.Cutting.{cut_at}
-use Rattle.dump_reading.specs.Lines.{line_said}
-use Rattle.dump_reading.specs.Numbers.{pair_said}
+use Rattle.dump_reading.specs.working.Cutting.{cut_at}
+use Rattle.dump_reading.specs.working.Lines.{line_said}
+use Rattle.dump_reading.specs.working.Numbers.{pair_said}
 
 -- the two numbers behind a word
 abbrev pub behind_word : List ℕ → Option (List ℕ × List ℕ) → Option (ℕ × ℕ)

@@ -3,7 +3,7 @@
 use Rattle.std.specs.Prelude.{ℕ, ◌+◌, ◌*◌, ◌==◌, if◌then◌else◌, List, [], ◌∷◌, ◌++◌, fold}
 use Rattle.std.specs.Prelude.{Option, Some, None, option_map, option_and_then}
 use Rattle.pod_codec.specs.DumpWords.{is_plain}
-use Rattle.dump_reading.specs.Bytes.{digit_said, unquoted}
+use Rattle.dump_reading.specs.working.Bytes.{digit_said, unquoted}
 use Rattle.dump_reading.specs.declared.strings.Escape.{Escape}
 use Rattle.dump_reading.specs.declared.strings.Escape.TheVariants as E
 

@@ -1,0 +1,5 @@
+-- What the commands are written with: how a part of one loads and ends, and what is delivered.
+-- Source: this project's own.
+pub mod Delivery
+pub mod Ending
+pub mod Preparing
