@@ -1,1 +1,1 @@
-mod StockLemmas
+mod PlanInputLemmas

@@ -1,1 +1,1 @@
-pub mod Stocking
+pub mod PlanInputs

@@ -21,9 +21,9 @@ mod plans;
 #[cfg(test)]
 mod showing;
 mod silence;
-mod stock;
+mod inputs;
 mod texts;
 
 pub use silence::Silence;
-pub use stock::{Stock, stock_of};
+pub use inputs::{PlanInputs, inputs_of};
 pub use texts::{TextFault, parts_text, plan_text, plans_text};

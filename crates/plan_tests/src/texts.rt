@@ -6,7 +6,7 @@ ghost use Rattle.graph_script.specs.Order.{HasOrder};
 ghost use Rattle.graph_script.specs.Ranges.{HasRanges};
 
 use crate::silence::Silence;
-use crate::stock::{Stock, stock_of};
+use crate::inputs::{PlanInputs, inputs_of};
 use graph_plan::{PlanFault, part_nodes, parts, plan};
 use graph_script::{Script, parse};
 use pw_base::{Items, Memory, Parts, Plan, SCRIPT_BYTES_LIMIT};
@@ -27,10 +27,10 @@ fn plan_script(alloc: Global, script: &Script, sources: &[Silence]) -> Result<Pl
     requires order { HasOrder script.now }
     ensures { IfOk result IsSoundPlan }
 {
-    match stock_of(alloc, script.lines.as_slice(), sources) {
+    match inputs_of(alloc, script.lines.as_slice(), sources) {
         Err(_memory) => Err(PlanFault::Memory),
-        Ok(stock) => {
-            let Stock { ports, waves, .. } = stock;
+        Ok(inputs) => {
+            let PlanInputs { ports, waves, .. } = inputs;
             plan(alloc, script, &waves, ports)
         }
     }
@@ -62,10 +62,10 @@ fn parts_script(
     requires ranges { HasRanges script.now }
     requires kinds { HasKinds script.now }
 {
-    match stock_of(alloc, script.lines.as_slice(), sources) {
+    match inputs_of(alloc, script.lines.as_slice(), sources) {
         Err(_memory) => Err(PlanFault::Memory),
-        Ok(stock) => {
-            let Stock { ports, waves, .. } = stock;
+        Ok(inputs) => {
+            let PlanInputs { ports, waves, .. } = inputs;
             match part_nodes(alloc, script, &waves, ports) {
                 Ok(parts) => Ok(parts),
                 Err(Memory) => Err(PlanFault::Memory),
@@ -100,10 +100,10 @@ fn plans_script(alloc: Global, script: &Script, sources: &[Silence]) -> Result<P
     requires order { HasOrder script.now }
     ensures { IfOk result (λ p. All (λ part. IsSoundPlan part.plan) p.parts) }
 {
-    match stock_of(alloc, script.lines.as_slice(), sources) {
+    match inputs_of(alloc, script.lines.as_slice(), sources) {
         Err(_memory) => Err(PlanFault::Memory),
-        Ok(stock) => {
-            let Stock { ports, waves, .. } = stock;
+        Ok(inputs) => {
+            let PlanInputs { ports, waves, .. } = inputs;
             parts(alloc, script, &waves, ports)
         }
     }

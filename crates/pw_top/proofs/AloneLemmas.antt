@@ -38,12 +38,12 @@ use Rattle.cycle_model.specs.Rendering.{rendered_sinks, rendered_peaks, kept_of,
 use Rattle.cycle_model.specs.Rendering.{peak_at as peak_of_node}
 use Rattle.pw_base.specs.Samples.{peak_of}
 use Rattle.pw_top.specs.declared.parted.Parted.{Parted}
-use Rattle.pw_top.specs.declared.stocked.Stocked.{Stocked}
+use Rattle.pw_top.specs.declared.loaded_script.LoadedScript.{LoadedScript}
 use Rattle.pw_top.specs.declared.work.Content.TheVariants.{Wave}
 use Rattle.pw_top.specs.declared.work.Store.{Store}
 use Rattle.pw_top.specs.Allowed.{Reads}
 use Rattle.pw_top.specs.Answer.{Expected}
-use Rattle.pw_top.specs.Groups.{PartsTo, KeepsParts, PartsStock}
+use Rattle.pw_top.specs.Groups.{PartsTo, KeepsParts, PartsInputs}
 use Rattle.pw_top.specs.Joined.{kept_at, peak_at, all_of}
 use Rattle.pw_top.specs.PartsAlone.{StoresAlone}
 use Rattle.pw_top.specs.PlannedWork.{rendered}
@@ -303,15 +303,15 @@ module _ (script : Script) (ranges : HasRanges script) (has : HasKinds script) (
       }
 
 -- THE PARTS of the script of a file
-pub all_alone : (word : List ℕ) (names : Names) (loaded : Expected Stocked) (s : Stocked) (e : Expected Parted) (p : Parted)
-    → LoadsScript names word loaded → loaded.outcome ≡ Ok s → PartsStock s.script s.stock e → e.outcome ≡ Ok p
-    → All (StoresAlone p s.stock.ports) p.parts.parts
+pub all_alone : (word : List ℕ) (names : Names) (loaded : Expected LoadedScript) (s : LoadedScript) (e : Expected Parted) (p : Parted)
+    → LoadsScript names word loaded → loaded.outcome ≡ Ok s → PartsInputs s.script s.inputs e → e.outcome ≡ Ok p
+    → All (StoresAlone p s.inputs.ports) p.parts.parts
 all_alone word names loaded s e p l is q so =
     let ready = loaded_ready names word loaded s l is in
-    let v = went (Reads (PartsTo s.script s.stock.ports s.stock.waves)) (KeepsParts s.script s.stock.waves) e p q so in
-    let made : Parted = record { script = s.script; waves = s.stock.waves; parts = v.given } in
+    let v = went (Reads (PartsTo s.script s.inputs.ports s.inputs.waves)) (KeepsParts s.script s.inputs.waves) e p q so in
+    let made : Parted = record { script = s.script; waves = s.inputs.waves; parts = v.given } in
     let same : Ok p ≡ Ok made = part_gave [] (λ outcome. outcome ≡ Ok made) v.rest p v.after v.gives in
-    let parted : IsParted s.script.lines s.script.names s.stock.waves s.stock.ports (Ok v.given) =
-    part_gave [] (PartsTo s.script s.stock.ports s.stock.waves) v.first v.given v.allowed v.gave in
-    subst (λ (y : Parted). All (StoresAlone y s.stock.ports) y.parts.parts) (sym (ok_is p made (Ok p) refl same))
-    (each_alone s.script ready.whole.ranges ready.whole.kinds ready.whole.made s.stock.ports ready.ports s.stock.waves v.given parted)
+    let parted : IsParted s.script.lines s.script.names s.inputs.waves s.inputs.ports (Ok v.given) =
+    part_gave [] (PartsTo s.script s.inputs.ports s.inputs.waves) v.first v.given v.allowed v.gave in
+    subst (λ (y : Parted). All (StoresAlone y s.inputs.ports) y.parts.parts) (sym (ok_is p made (Ok p) refl same))
+    (each_alone s.script ready.whole.ranges ready.whole.kinds ready.whole.made s.inputs.ports ready.ports s.inputs.waves v.given parted)

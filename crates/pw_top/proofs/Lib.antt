@@ -23,7 +23,7 @@ pub mod PlayingLemmas
 pub mod PrintableLemmas
 pub mod PodFileLemmas
 pub mod StatusLineLemmas
-pub mod StockLemmas
+pub mod PlanInputLemmas
 pub mod StoppingLemmas
 pub mod TicksLemmas
 pub mod SurelyLemmas

@@ -25,11 +25,11 @@ use Rattle.graph_plan.specs.Conditions.{AreLinesOf, IsWaveFor}
 use Rattle.graph_plan.proofs.FormLemmas.{port_count_is}
 use Rattle.graph_plan.proofs.StepLemmas.{IsGoodLine, AreGoodLines, good_first, good_rest}
 use Rattle.pw_top.specs.declared.status.Status.{Status}
-use Rattle.pw_top.specs.declared.stock.Stock.{Stock}
+use Rattle.pw_top.specs.declared.inputs.PlanInputs.{PlanInputs}
 use Rattle.pw_top.specs.declared.status.Status.TheVariants as S
 use Rattle.pw_top.specs.working.Ending.{Ends, CommandCause}
 use Rattle.pw_top.specs.Loads.{ReadsSource, ReadsOffer, LoadsLine, LoadsAll}
-use Rattle.pw_top.specs.Stocking.{nothing_loaded, plain_kind, with_plain, MayLoad, IsSoundStock, IsStockOf}
+use Rattle.pw_top.specs.PlanInputs.{nothing_loaded, plain_kind, with_plain, MayLoad, AreSoundInputs, AreInputsOf}
 use Rattle.pw_top.proofs.AllowedLemmas.{binds_goes, binds_stops, part_gives, part_memory, load_memory}
 
 -- what lines make, by the first of them
@@ -139,20 +139,20 @@ module _ (all : List Kind) (few : length all ≤ 63) (l : Line) (ls : List Line)
   }
 
 -- one line of all
-pub stops_here : (names : Names) (l : Line) (ls : List Line) (stock : Stock) (s : Status) → Ends (LoadsLine names l.line l.command stock) (Err s)
-    → Ends (LoadsAll names (l ∷ ls) stock) (Err s)
-stops_here names l ls stock s h = binds_stops (LoadsLine names l.line l.command stock) (LoadsAll names ls) s h
+pub stops_here : (names : Names) (l : Line) (ls : List Line) (inputs : PlanInputs) (s : Status) → Ends (LoadsLine names l.line l.command inputs) (Err s)
+    → Ends (LoadsAll names (l ∷ ls) inputs) (Err s)
+stops_here names l ls inputs s h = binds_stops (LoadsLine names l.line l.command inputs) (LoadsAll names ls) s h
 
-pub goes_here : (names : Names) (l : Line) (ls : List Line) (stock after : Stock) (r : Result Stock Status)
-    → Ends (LoadsLine names l.line l.command stock) (Ok after) → Ends (LoadsAll names ls after) r → Ends (LoadsAll names (l ∷ ls) stock) r
-goes_here names l ls stock after r h rest = binds_goes (LoadsLine names l.line l.command stock) (LoadsAll names ls) after r h rest
+pub goes_here : (names : Names) (l : Line) (ls : List Line) (inputs after : PlanInputs) (r : Result PlanInputs Status)
+    → Ends (LoadsLine names l.line l.command inputs) (Ok after) → Ends (LoadsAll names ls after) r → Ends (LoadsAll names (l ∷ ls) inputs) r
+goes_here names l ls inputs after r h rest = binds_goes (LoadsLine names l.line l.command inputs) (LoadsAll names ls) after r h rest
 
 -- what a line says is said of the files as they were
 pub told_before : (P : Names → Type 0) (old now : Held) → now ≡ old → (IsSome now → P (names_in now)) → IsSome old → P (names_in old)
 told_before P old now e told = subst (λ (m : Held). IsSome m → P (names_in m)) e told
 
 -- before the first line
-nothing_sound : IsSoundStock nothing_loaded
+nothing_sound : AreSoundInputs nothing_loaded
 nothing_sound = record {
   ports = record { few = omega arith; each = All-nil IsSoundNode };
   unused = All-nil (λ (n : Node). All (λ (s : PortState). (s.format ≡ None) × (s.buffers ≡ None)) n.ports);
@@ -160,24 +160,24 @@ nothing_sound = record {
   used = omega arith;
 }
 
-pub sound_start : (stock : Stock) → stock ≡ nothing_loaded → IsSoundStock stock
-sound_start stock e = subst IsSoundStock (sym e) nothing_sound
+pub sound_start : (inputs : PlanInputs) → inputs ≡ nothing_loaded → AreSoundInputs inputs
+sound_start inputs e = subst AreSoundInputs (sym e) nothing_sound
 
-pub way_start : (lines : List Line) (stock : Stock) → AreLinesOf (kinds_of lines) lines → NamesMade 0 lines → stock ≡ nothing_loaded
-    → IsUnderWay (kinds_of lines) lines stock.ports
-way_start lines stock all made e = subst (λ (s : Stock). IsUnderWay (kinds_of lines) lines s.ports) (sym e)
+pub way_start : (lines : List Line) (inputs : PlanInputs) → AreLinesOf (kinds_of lines) lines → NamesMade 0 lines → inputs ≡ nothing_loaded
+    → IsUnderWay (kinds_of lines) lines inputs.ports
+way_start lines inputs all made e = subst (λ (s : PlanInputs). IsUnderWay (kinds_of lines) lines s.ports) (sym e)
     (record { good = record { named = made; lines_of = all }; kinds = refl })
 
-pub rest_start : (names : Names) (lines : List Line) (stock : Stock) (r : Result Stock Status) → stock ≡ nothing_loaded
-    → Ends (LoadsAll names lines stock) r → Ends (LoadsAll names lines nothing_loaded) r
-rest_start names lines stock r e h = subst (λ (s : Stock). Ends (LoadsAll names lines s) r) e h
+pub rest_start : (names : Names) (lines : List Line) (inputs : PlanInputs) (r : Result PlanInputs Status) → inputs ≡ nothing_loaded
+    → Ends (LoadsAll names lines inputs) r → Ends (LoadsAll names lines nothing_loaded) r
+rest_start names lines inputs r e h = subst (λ (s : PlanInputs). Ends (LoadsAll names lines s) r) e h
 
 -- behind the last line
-pub stock_of : (lines left : List Line) (stock : Stock) → IsSoundStock stock → IsUnderWay (kinds_of lines) left stock.ports → left ≡ []
-    → IsStockOf lines stock
-stock_of lines left stock sound way e = record {
+pub inputs_of : (lines left : List Line) (inputs : PlanInputs) → AreSoundInputs inputs → IsUnderWay (kinds_of lines) left inputs.ports → left ≡ []
+    → AreInputsOf lines inputs
+inputs_of lines left inputs sound way e = record {
   ports = record {
-    kinds = all_kinds (map (λ (n : Node). n.kind) stock.ports) ∙ (ap (λ (ls : List Line). map (λ (n : Node). n.kind) stock.ports ++ kinds_of ls) (sym e)
+    kinds = all_kinds (map (λ (n : Node). n.kind) inputs.ports) ∙ (ap (λ (ls : List Line). map (λ (n : Node). n.kind) inputs.ports ++ kinds_of ls) (sym e)
         ∙ way.kinds);
     sound = sound.ports;
     unused = sound.unused;
@@ -188,9 +188,9 @@ stock_of lines left stock sound way e = record {
   all_kinds [] = refl
   all_kinds (k ∷ ks) = ap (λ (ls : List Kind). k ∷ ls) (all_kinds ks)
 
-pub ends_here : (names : Names) (left : List Line) (stock : Stock) → left ≡ [] → Ends (LoadsAll names left stock) (Ok stock)
-ends_here names left stock e = subst (λ (ls : List Line). Ends (LoadsAll names ls stock) (Ok stock)) (sym e)
-    (part_gives [] (λ outcome. outcome ≡ Ok stock) stock refl)
+pub ends_here : (names : Names) (left : List Line) (inputs : PlanInputs) → left ≡ [] → Ends (LoadsAll names left inputs) (Ok inputs)
+ends_here names left inputs e = subst (λ (ls : List Line). Ends (LoadsAll names ls inputs) (Ok inputs)) (sym e)
+    (part_gives [] (λ outcome. outcome ≡ Ok inputs) inputs refl)
 
 -- a fault of a load that came later
 pub later_cause : {T U : Type 0} (P : T → Type 0) (Q : U → Type 0) (a b n : ℕ) (status : Status) → a ≤ b → CommandCause P b n (Err status)
@@ -207,29 +207,29 @@ later_cause P Q a b n (S.WriteFault w) l h = h
 later_cause P Q a b n S.Memory l h = h
 
 -- out of memory before the first line
-line_memory : (names : Names) (place : ℕ) (command : Command) (stock : Stock) → Ends (LoadsLine names place command stock) (Err S.Memory)
-line_memory names place (C.Source n file) stock = load_memory names place file _ _ (ReadsSource place n stock)
-line_memory names place (C.Offer port file) stock = load_memory names place file _ _ (ReadsOffer place port stock)
-line_memory names place (C.Square n rate channels period amp) stock = part_memory [] (λ outcome. outcome ≡ Ok (with_plain stock (plain_kind (C.Square n rate channels period amp))))
-line_memory names place (C.Gain n gain) stock = part_memory [] (λ outcome. outcome ≡ Ok (with_plain stock (plain_kind (C.Gain n gain))))
-line_memory names place (C.Mix2 n ga gb) stock = part_memory [] (λ outcome. outcome ≡ Ok (with_plain stock (plain_kind (C.Mix2 n ga gb))))
-line_memory names place (C.Delay n frames) stock = part_memory [] (λ outcome. outcome ≡ Ok (with_plain stock (plain_kind (C.Delay n frames))))
-line_memory names place (C.Map n channels list) stock = part_memory [] (λ outcome. outcome ≡ Ok (with_plain stock (plain_kind (C.Map n channels list))))
-line_memory names place (C.Split n) stock = part_memory [] (λ outcome. outcome ≡ Ok (with_plain stock (plain_kind (C.Split n))))
-line_memory names place (C.Sink n file) stock = part_memory [] (λ outcome. outcome ≡ Ok (with_plain stock (plain_kind (C.Sink n file))))
-line_memory names place (C.Meter n) stock = part_memory [] (λ outcome. outcome ≡ Ok (with_plain stock (plain_kind (C.Meter n))))
-line_memory names place (C.Driver n priority) stock = part_memory [] (λ outcome. outcome ≡ Ok (with_plain stock (plain_kind (C.Driver n priority))))
-line_memory names place (C.Loop n k) stock = part_memory [] (λ outcome. outcome ≡ Ok (with_plain stock (plain_kind (C.Loop n k))))
-line_memory names place (C.On n) stock = part_memory [] (λ outcome. outcome ≡ Ok (with_plain stock (plain_kind (C.On n))))
-line_memory names place (C.Off n) stock = part_memory [] (λ outcome. outcome ≡ Ok (with_plain stock (plain_kind (C.Off n))))
-line_memory names place (C.Async n) stock = part_memory [] (λ outcome. outcome ≡ Ok (with_plain stock (plain_kind (C.Async n))))
-line_memory names place (C.Buffers port n) stock = part_memory [] (λ outcome. outcome ≡ Ok (with_plain stock (plain_kind (C.Buffers port n))))
-line_memory names place (C.Link from to) stock = part_memory [] (λ outcome. outcome ≡ Ok (with_plain stock (plain_kind (C.Link from to))))
-line_memory names place (C.Unlink from to) stock = part_memory [] (λ outcome. outcome ≡ Ok (with_plain stock (plain_kind (C.Unlink from to))))
-line_memory names place (C.Quantum n) stock = part_memory [] (λ outcome. outcome ≡ Ok (with_plain stock (plain_kind (C.Quantum n))))
-line_memory names place (C.Cycles n) stock = part_memory [] (λ outcome. outcome ≡ Ok (with_plain stock (plain_kind (C.Cycles n))))
-line_memory names place C.Drain stock = part_memory [] (λ outcome. outcome ≡ Ok (with_plain stock (plain_kind C.Drain)))
+line_memory : (names : Names) (place : ℕ) (command : Command) (inputs : PlanInputs) → Ends (LoadsLine names place command inputs) (Err S.Memory)
+line_memory names place (C.Source n file) inputs = load_memory names place file _ _ (ReadsSource place n inputs)
+line_memory names place (C.Offer port file) inputs = load_memory names place file _ _ (ReadsOffer place port inputs)
+line_memory names place (C.Square n rate channels period amp) inputs = part_memory [] (λ outcome. outcome ≡ Ok (with_plain inputs (plain_kind (C.Square n rate channels period amp))))
+line_memory names place (C.Gain n gain) inputs = part_memory [] (λ outcome. outcome ≡ Ok (with_plain inputs (plain_kind (C.Gain n gain))))
+line_memory names place (C.Mix2 n ga gb) inputs = part_memory [] (λ outcome. outcome ≡ Ok (with_plain inputs (plain_kind (C.Mix2 n ga gb))))
+line_memory names place (C.Delay n frames) inputs = part_memory [] (λ outcome. outcome ≡ Ok (with_plain inputs (plain_kind (C.Delay n frames))))
+line_memory names place (C.Map n channels list) inputs = part_memory [] (λ outcome. outcome ≡ Ok (with_plain inputs (plain_kind (C.Map n channels list))))
+line_memory names place (C.Split n) inputs = part_memory [] (λ outcome. outcome ≡ Ok (with_plain inputs (plain_kind (C.Split n))))
+line_memory names place (C.Sink n file) inputs = part_memory [] (λ outcome. outcome ≡ Ok (with_plain inputs (plain_kind (C.Sink n file))))
+line_memory names place (C.Meter n) inputs = part_memory [] (λ outcome. outcome ≡ Ok (with_plain inputs (plain_kind (C.Meter n))))
+line_memory names place (C.Driver n priority) inputs = part_memory [] (λ outcome. outcome ≡ Ok (with_plain inputs (plain_kind (C.Driver n priority))))
+line_memory names place (C.Loop n k) inputs = part_memory [] (λ outcome. outcome ≡ Ok (with_plain inputs (plain_kind (C.Loop n k))))
+line_memory names place (C.On n) inputs = part_memory [] (λ outcome. outcome ≡ Ok (with_plain inputs (plain_kind (C.On n))))
+line_memory names place (C.Off n) inputs = part_memory [] (λ outcome. outcome ≡ Ok (with_plain inputs (plain_kind (C.Off n))))
+line_memory names place (C.Async n) inputs = part_memory [] (λ outcome. outcome ≡ Ok (with_plain inputs (plain_kind (C.Async n))))
+line_memory names place (C.Buffers port n) inputs = part_memory [] (λ outcome. outcome ≡ Ok (with_plain inputs (plain_kind (C.Buffers port n))))
+line_memory names place (C.Link from to) inputs = part_memory [] (λ outcome. outcome ≡ Ok (with_plain inputs (plain_kind (C.Link from to))))
+line_memory names place (C.Unlink from to) inputs = part_memory [] (λ outcome. outcome ≡ Ok (with_plain inputs (plain_kind (C.Unlink from to))))
+line_memory names place (C.Quantum n) inputs = part_memory [] (λ outcome. outcome ≡ Ok (with_plain inputs (plain_kind (C.Quantum n))))
+line_memory names place (C.Cycles n) inputs = part_memory [] (λ outcome. outcome ≡ Ok (with_plain inputs (plain_kind (C.Cycles n))))
+line_memory names place C.Drain inputs = part_memory [] (λ outcome. outcome ≡ Ok (with_plain inputs (plain_kind C.Drain)))
 
-pub all_memory : (names : Names) (lines : List Line) (stock : Stock) → Ends (LoadsAll names lines stock) (Err S.Memory)
-all_memory names [] stock = part_memory [] (λ outcome. outcome ≡ Ok stock)
-all_memory names (l ∷ ls) stock = stops_here names l ls stock S.Memory (line_memory names l.line l.command stock)
+pub all_memory : (names : Names) (lines : List Line) (inputs : PlanInputs) → Ends (LoadsAll names lines inputs) (Err S.Memory)
+all_memory names [] inputs = part_memory [] (λ outcome. outcome ≡ Ok inputs)
+all_memory names (l ∷ ls) inputs = stops_here names l ls inputs S.Memory (line_memory names l.line l.command inputs)

@@ -13,9 +13,9 @@ use Rattle.graph_plan.proofs.PartsOneLemmas.{parted_one}
 use Rattle.pw_top.specs.declared.commands.groups.Grouping.{Grouping}
 use Rattle.pw_top.specs.declared.parted.Parted.{Parted}
 use Rattle.pw_top.specs.declared.status.Status.TheVariants as S
-use Rattle.pw_top.specs.declared.stock.Stock.{Stock}
+use Rattle.pw_top.specs.declared.inputs.PlanInputs.{PlanInputs}
 use Rattle.pw_top.specs.Allowed.{Reads}
-use Rattle.pw_top.specs.Groups.{PartsTo, KeepsParts, PartsStock, PartsFile}
+use Rattle.pw_top.specs.Groups.{PartsTo, KeepsParts, PartsInputs, PartsFile}
 use Rattle.pw_top.specs.GroupsWork.{GroupsTo, GroupsPlan, IsGroupsAnswer}
 use Rattle.pw_top.specs.Playing.{Happened}
 use Rattle.pw_top.specs.ScriptFile.{LoadsScript}
@@ -41,14 +41,14 @@ module _ (script : Script) (known : IsWhole script) where
   parted_same ports fit waves (Err (S.Limit line which)) (Err status) h k = absurd k
   parted_same ports fit waves (Err status) y h k = absurd h
 
-  stock_one : (stock : Stock) → AreScriptPorts script.lines stock.ports → HasOne (PartsStock script stock)
-  stock_one stock fit = binds_one (Reads (PartsTo script stock.ports stock.waves)) (KeepsParts script stock.waves)
-      (part_one [] (PartsTo script stock.ports stock.waves) (parted_same stock.ports fit stock.waves))
+  inputs_one : (inputs : PlanInputs) → AreScriptPorts script.lines inputs.ports → HasOne (PartsInputs script inputs)
+  inputs_one inputs fit = binds_one (Reads (PartsTo script inputs.ports inputs.waves)) (KeepsParts script inputs.waves)
+      (part_one [] (PartsTo script inputs.ports inputs.waves) (parted_same inputs.ports fit inputs.waves))
       (λ parts. part_one [] _ (outcomes_equal _))
 
 pub parts_one : (names : Names) (word : List ℕ) → HasOne (PartsFile names word)
-parts_one names word = binds_given (LoadsScript names word) (λ s. PartsStock s.script s.stock) (loaded_one names word)
-    (λ e s p is. let ready = loaded_ready names word e s p is in stock_one s.script ready.whole s.stock ready.ports)
+parts_one names word = binds_given (LoadsScript names word) (λ s. PartsInputs s.script s.inputs) (loaded_one names word)
+    (λ e s p is. let ready = loaded_ready names word e s p is in inputs_one s.script ready.whole s.inputs ready.ports)
 
 groups_to_one : (h : Happened) (p : Parted) → OneOutcome (GroupsTo h p)
 groups_to_one h p x y a b = a.1 ∙ sym b.1

@@ -6,7 +6,7 @@ use Rattle.pw_base.specs.declared.kind.Kind.{Kind}
 use Rattle.pw_base.specs.Files.{Names}
 use Rattle.graph_script.specs.declared.script.Line.{Line}
 use Rattle.graph_script.specs.Kinds.{made_by}
-use Rattle.pw_top.specs.declared.stock.Stock.{Stock}
+use Rattle.pw_top.specs.declared.inputs.PlanInputs.{PlanInputs}
 use Rattle.pw_top.specs.Answer.{Expected}
 use Rattle.pw_top.specs.Loads.{LoadsLine, LoadsAll}
 use Rattle.pw_top.proofs.LoadsLemmas.{IsUnderWay, may_load, one_more}
@@ -15,24 +15,24 @@ use Rattle.pw_top.proofs.OneLineLemmas.{IsFresh, IsKnown, line_known}
 
 -- all lines
 module _ (names : Names) (all : List Kind) (few : length all ≤ 63) where
-  first_known : (l : Line) (ls : List Line) (stock : Stock) → IsFresh stock.ports → IsUnderWay all (l ∷ ls) stock.ports
-      → IsKnown stock (option_map (λ m. m.1) (made_by l.command)) (LoadsLine names l.line l.command stock)
-  first_known l ls stock fresh way = line_known names l.line l.command stock fresh (may_load all few l ls stock.ports way)
+  first_known : (l : Line) (ls : List Line) (inputs : PlanInputs) → IsFresh inputs.ports → IsUnderWay all (l ∷ ls) inputs.ports
+      → IsKnown inputs (option_map (λ m. m.1) (made_by l.command)) (LoadsLine names l.line l.command inputs)
+  first_known l ls inputs fresh way = line_known names l.line l.command inputs fresh (may_load all few l ls inputs.ports way)
 
-  pub all_one : (ls : List Line) (stock : Stock) → IsFresh stock.ports → IsUnderWay all ls stock.ports → HasOne (LoadsAll names ls stock)
-  all_one [] stock fresh way = part_one [] (λ outcome. outcome ≡ Ok stock) (outcomes_equal (Ok stock))
-  all_one (l ∷ ls) stock fresh way =
-      let known = first_known l ls stock fresh way in
-      binds_given (LoadsLine names l.line l.command stock) (LoadsAll names ls) known.one (λ e x p is.
-      let a = known.after e x p is in all_one ls x a.0 (one_more all few l ls stock.ports way x.ports a.1))
+  pub all_one : (ls : List Line) (inputs : PlanInputs) → IsFresh inputs.ports → IsUnderWay all ls inputs.ports → HasOne (LoadsAll names ls inputs)
+  all_one [] inputs fresh way = part_one [] (λ outcome. outcome ≡ Ok inputs) (outcomes_equal (Ok inputs))
+  all_one (l ∷ ls) inputs fresh way =
+      let known = first_known l ls inputs fresh way in
+      binds_given (LoadsLine names l.line l.command inputs) (LoadsAll names ls) known.one (λ e x p is.
+      let a = known.after e x p is in all_one ls x a.0 (one_more all few l ls inputs.ports way x.ports a.1))
 
-  pub all_after : (ls : List Line) (stock : Stock) → IsFresh stock.ports → IsUnderWay all ls stock.ports → (e : Expected Stock) (x : Stock)
-      → LoadsAll names ls stock e → e.outcome ≡ Ok x → IsFresh x.ports × IsUnderWay all [] x.ports
-  all_after [] stock fresh way e x p is =
-      let same = ok_is x stock (Ok x) refl (part_gave [] (λ outcome. outcome ≡ Ok stock) e x p is) in
-      subst (λ (y : Stock). IsFresh y.ports × IsUnderWay all [] y.ports) (sym same) (fresh, way)
-  all_after (l ∷ ls) stock fresh way e x p is =
-      let known = first_known l ls stock fresh way in
-      let w = went (LoadsLine names l.line l.command stock) (LoadsAll names ls) e x p is in
+  pub all_after : (ls : List Line) (inputs : PlanInputs) → IsFresh inputs.ports → IsUnderWay all ls inputs.ports → (e : Expected PlanInputs) (x : PlanInputs)
+      → LoadsAll names ls inputs e → e.outcome ≡ Ok x → IsFresh x.ports × IsUnderWay all [] x.ports
+  all_after [] inputs fresh way e x p is =
+      let same = ok_is x inputs (Ok x) refl (part_gave [] (λ outcome. outcome ≡ Ok inputs) e x p is) in
+      subst (λ (y : PlanInputs). IsFresh y.ports × IsUnderWay all [] y.ports) (sym same) (fresh, way)
+  all_after (l ∷ ls) inputs fresh way e x p is =
+      let known = first_known l ls inputs fresh way in
+      let w = went (LoadsLine names l.line l.command inputs) (LoadsAll names ls) e x p is in
       let a = known.after w.first w.given w.allowed w.gave in
-      all_after ls w.given a.0 (one_more all few l ls stock.ports way w.given.ports a.1) w.rest x w.after w.gives
+      all_after ls w.given a.0 (one_more all few l ls inputs.ports way w.given.ports a.1) w.rest x w.after w.gives

@@ -29,18 +29,18 @@ use Rattle.pw_top.specs.declared.planned.Planned.{Planned}
 use Rattle.pw_top.specs.declared.playing.Crew.{Crew}
 use Rattle.pw_top.specs.declared.status.Status.{Status}
 use Rattle.pw_top.specs.declared.status.Status.TheVariants as S
-use Rattle.pw_top.specs.declared.stock.Stock.{Stock}
-use Rattle.pw_top.specs.declared.stocked.Stocked.{Stocked}
+use Rattle.pw_top.specs.declared.inputs.PlanInputs.{PlanInputs}
+use Rattle.pw_top.specs.declared.loaded_script.LoadedScript.{LoadedScript}
 use Rattle.pw_top.specs.Answer.{Expected}
 use Rattle.pw_top.specs.Allowed.{Reads}
 use Rattle.pw_top.specs.Playing.{Happened}
 use Rattle.pw_top.specs.Refusals.{script_outcome}
 use Rattle.pw_top.specs.Loads.{LoadsAll}
-use Rattle.pw_top.specs.PlannedWork.{PlansTo, KeepsPlan, PlansStock, PlaysTo, PlaysPlan}
+use Rattle.pw_top.specs.PlannedWork.{PlansTo, KeepsPlan, PlansInputs, PlaysTo, PlaysPlan}
 use Rattle.pw_top.specs.Run.{IsRunAnswer}
-use Rattle.pw_top.specs.ScriptFile.{KeepsStock, LoadsStock, ReadsScript, LoadsScript, PlansFile}
-use Rattle.pw_top.specs.Stocking.{nothing_loaded}
-use Rattle.pw_top.proofs.LoadsLemmas.{IsUnderWay, sound_start, way_start, stock_of}
+use Rattle.pw_top.specs.ScriptFile.{KeepsInputs, LoadsInputs, ReadsScript, LoadsScript, PlansFile}
+use Rattle.pw_top.specs.PlanInputs.{nothing_loaded}
+use Rattle.pw_top.proofs.LoadsLemmas.{IsUnderWay, sound_start, way_start, inputs_of}
 use Rattle.pw_top.proofs.OnePartLemmas.{HasOne, OneOutcome, part_one, outcomes_equal, ok_is, binds_given, binds_one, part_gave, went, load_one}
 use Rattle.pw_top.proofs.OneLineLemmas.{IsFresh}
 use Rattle.pw_top.proofs.OneLoadsLemmas.{all_one, all_after}
@@ -80,9 +80,9 @@ module _ (script : Script) (known : IsWhole script) where
   planned_same ports fit waves (Err (S.Limit line which)) (Err status) h k = absurd k
   planned_same ports fit waves (Err status) y h k = absurd h
 
-  pub plans_one : (stock : Stock) → AreScriptPorts script.lines stock.ports → HasOne (PlansStock script stock)
-  plans_one stock fit = binds_one (Reads (PlansTo script stock.ports stock.waves)) (KeepsPlan script stock.waves)
-      (part_one [] (PlansTo script stock.ports stock.waves) (planned_same stock.ports fit stock.waves))
+  pub plans_one : (inputs : PlanInputs) → AreScriptPorts script.lines inputs.ports → HasOne (PlansInputs script inputs)
+  plans_one inputs fit = binds_one (Reads (PlansTo script inputs.ports inputs.waves)) (KeepsPlan script inputs.waves)
+      (part_one [] (PlansTo script inputs.ports inputs.waves) (planned_same inputs.ports fit inputs.waves))
       (λ plan. part_one [] _ (outcomes_equal _))
 
   pub few : length (kinds_of script.lines) ≤ 63
@@ -94,16 +94,16 @@ module _ (script : Script) (known : IsWhole script) where
   pub under_way : IsUnderWay (kinds_of script.lines) script.lines nothing_loaded.ports
   under_way = way_start script.lines nothing_loaded (lines_are script known.ranges known.kinds) known.made refl
 
-  stock_one : (names : Names) → HasOne (LoadsStock names script)
-  stock_one names = binds_one (LoadsAll names script.lines nothing_loaded) (KeepsStock script)
+  inputs_one : (names : Names) → HasOne (LoadsInputs names script)
+  inputs_one names = binds_one (LoadsAll names script.lines nothing_loaded) (KeepsInputs script)
       (all_one names (kinds_of script.lines) few script.lines nothing_loaded fresh_start under_way)
-      (λ stock. part_one [] _ (outcomes_equal _))
+      (λ inputs. part_one [] _ (outcomes_equal _))
 
-  stock_ports : (names : Names) (e : Expected Stock) (stock : Stock) → LoadsAll names script.lines nothing_loaded e → e.outcome ≡ Ok stock
-      → AreScriptPorts script.lines stock.ports
-  stock_ports names e stock p is =
-      let a = all_after names (kinds_of script.lines) few script.lines nothing_loaded fresh_start under_way e stock p is in
-      (stock_of script.lines [] (record { ports = stock.ports; waves = a.0.0; used = 0 }) a.0.1 a.1 refl).ports
+  input_ports : (names : Names) (e : Expected PlanInputs) (inputs : PlanInputs) → LoadsAll names script.lines nothing_loaded e → e.outcome ≡ Ok inputs
+      → AreScriptPorts script.lines inputs.ports
+  input_ports names e inputs p is =
+      let a = all_after names (kinds_of script.lines) few script.lines nothing_loaded fresh_start under_way e inputs p is in
+      (inputs_of script.lines [] (record { ports = inputs.ports; waves = a.0.0; used = 0 }) a.0.1 a.1 refl).ports
 
 -- THE RUN of a script's file
 script_is : (r : Result Script ScriptFault) (script : Script) → Ok script ≡ script_outcome r → r ≡ Ok script
@@ -112,44 +112,44 @@ script_is (Err (G.At line why)) script e = cc
 script_is (Err G.Memory) script e = cc
 
 read_one : (names : Names) (bytes : List ℕ) → HasOne (ReadsScript names bytes)
-read_one names bytes = binds_given (Reads (λ outcome. outcome ≡ script_outcome (script_of bytes))) (LoadsStock names)
+read_one names bytes = binds_given (Reads (λ outcome. outcome ≡ script_outcome (script_of bytes))) (LoadsInputs names)
     (part_one [] (λ outcome. outcome ≡ script_outcome (script_of bytes)) (outcomes_equal (script_outcome (script_of bytes))))
-    (λ e script p is. stock_one script (whole bytes script (script_is (script_of bytes) script
+    (λ e script p is. inputs_one script (whole bytes script (script_is (script_of bytes) script
     (part_gave [] (λ outcome. outcome ≡ script_outcome (script_of bytes)) e script p is))) names)
 
 pub loaded_one : (names : Names) (word : List ℕ) → HasOne (LoadsScript names word)
 loaded_one names word = binds_one _ (ReadsScript names) (load_one names 0 word _ _) (read_one names)
 
 -- what holds of a script whose lines were loaded
-pub record IsReady (s : Stocked) : Type 0 where
+pub record IsReady (s : LoadedScript) : Type 0 where
   pub whole : IsWhole s.script
-  pub ports : AreScriptPorts s.script.lines s.stock.ports
+  pub ports : AreScriptPorts s.script.lines s.inputs.ports
 
-pub loaded_ready : (names : Names) (word : List ℕ) (e : Expected Stocked) (s : Stocked) → LoadsScript names word e → e.outcome ≡ Ok s → IsReady s
+pub loaded_ready : (names : Names) (word : List ℕ) (e : Expected LoadedScript) (s : LoadedScript) → LoadsScript names word e → e.outcome ≡ Ok s → IsReady s
 loaded_ready names word e s p is =
     let w = went _ (ReadsScript names) e s p is in
     let bytes = w.given in
     let P : Result Script Status → Type 0 = λ outcome. outcome ≡ script_outcome (script_of bytes) in
-    let v = went (Reads P) (LoadsStock names) w.rest s w.after w.gives in
+    let v = went (Reads P) (LoadsInputs names) w.rest s w.after w.gives in
     let script = v.given in
     let known = whole bytes script (script_is (script_of bytes) script (part_gave [] P v.first script v.allowed v.gave)) in
-    let u = went (LoadsAll names script.lines nothing_loaded) (KeepsStock script) v.rest s v.after v.gives in
-    let stocked : Stocked = record { script = script; stock = u.given } in
-    let same : Ok s ≡ Ok stocked = part_gave [] (λ outcome. outcome ≡ Ok stocked) u.rest s u.after u.gives in
-    subst IsReady (sym (ok_is s stocked (Ok s) refl same))
-    (record { whole = known; ports = stock_ports script known names u.first u.given u.allowed u.gave })
+    let u = went (LoadsAll names script.lines nothing_loaded) (KeepsInputs script) v.rest s v.after v.gives in
+    let loaded_script : LoadedScript = record { script = script; inputs = u.given } in
+    let same : Ok s ≡ Ok loaded_script = part_gave [] (λ outcome. outcome ≡ Ok loaded_script) u.rest s u.after u.gives in
+    subst IsReady (sym (ok_is s loaded_script (Ok s) refl same))
+    (record { whole = known; ports = input_ports script known names u.first u.given u.allowed u.gave })
 
 pub file_one : (names : Names) (word : List ℕ) → HasOne (PlansFile names word)
-file_one names word = binds_given (LoadsScript names word) (λ s. PlansStock s.script s.stock) (loaded_one names word)
-    (λ e s p is. let ready = loaded_ready names word e s p is in plans_one s.script ready.whole s.stock ready.ports)
+file_one names word = binds_given (LoadsScript names word) (λ s. PlansInputs s.script s.inputs) (loaded_one names word)
+    (λ e s p is. let ready = loaded_ready names word e s p is in plans_one s.script ready.whole s.inputs ready.ports)
 
 -- the script of a plan
 pub planned_whole : (names : Names) (word : List ℕ) (e : Expected Planned) (x : Planned) → PlansFile names word e → e.outcome ≡ Ok x → IsWhole x.script
 planned_whole names word e x p is =
-    let w = went (LoadsScript names word) (λ s. PlansStock s.script s.stock) e x p is in
+    let w = went (LoadsScript names word) (λ s. PlansInputs s.script s.inputs) e x p is in
     let s = w.given in
-    let v = went (Reads (PlansTo s.script s.stock.ports s.stock.waves)) (KeepsPlan s.script s.stock.waves) w.rest x w.after w.gives in
-    let planned : Planned = record { script = s.script; waves = s.stock.waves; plan = v.given } in
+    let v = went (Reads (PlansTo s.script s.inputs.ports s.inputs.waves)) (KeepsPlan s.script s.inputs.waves) w.rest x w.after w.gives in
+    let planned : Planned = record { script = s.script; waves = s.inputs.waves; plan = v.given } in
     let same : Ok x ≡ Ok planned = part_gave [] (λ outcome. outcome ≡ Ok planned) v.rest x v.after v.gives in
     subst (λ (y : Planned). IsWhole y.script) (sym (ok_is x planned (Ok x) refl same))
     (loaded_ready names word w.first s w.allowed w.gave).whole

@@ -17,7 +17,7 @@ use Rattle.cycle_trace.specs.Printable.{JoinsPorts}
 use Rattle.pw_top.specs.declared.parted.Parted.{Parted}
 use Rattle.pw_top.specs.declared.status.Status.{Status}
 use Rattle.pw_top.specs.declared.status.Status.TheVariants as S
-use Rattle.pw_top.specs.declared.stock.Stock.{Stock}
+use Rattle.pw_top.specs.declared.inputs.PlanInputs.{PlanInputs}
 use Rattle.pw_top.specs.Answer.{Expected}
 use Rattle.pw_top.specs.Allowed.{Binds, Reads}
 use Rattle.pw_top.specs.Joined.{joined_plan, all_of, in_order}
@@ -36,13 +36,13 @@ abbrev pub KeepsParts : Script → List WavIn → Parts → Expected Parted → 
 KeepsParts script waves parts = Reads (λ outcome. outcome
     ≡ Ok (record { script = script; waves = waves; parts = parts }))
 
-abbrev pub PartsStock : Script → Stock → Expected Parted → Type 0
-PartsStock script stock = Binds (Reads (PartsTo script stock.ports stock.waves))
-    (KeepsParts script stock.waves)
+abbrev pub PartsInputs : Script → PlanInputs → Expected Parted → Type 0
+PartsInputs script inputs = Binds (Reads (PartsTo script inputs.ports inputs.waves))
+    (KeepsParts script inputs.waves)
 
 -- of the script of a file
 abbrev pub PartsFile : Names → List ℕ → Expected Parted → Type 0
-PartsFile names word = Binds (LoadsScript names word) (λ s. PartsStock s.script s.stock)
+PartsFile names word = Binds (LoadsScript names word) (λ s. PartsInputs s.script s.inputs)
 
 -- what the parts give, whatever their histories
 abbrev pub parts_outcome : Parted → Outcome

@@ -28,7 +28,7 @@ pub mod ScriptFile
 pub mod SinkStores
 pub mod Soak
 pub mod StatusLine
-pub mod Stocking
+pub mod PlanInputs
 pub mod Surely
 pub mod Usage
 pub mod Words

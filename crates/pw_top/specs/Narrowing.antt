@@ -7,10 +7,10 @@ use Rattle.port_model.specs.declared.port_state.Node.{Node}
 use Rattle.pw_top.specs.declared.status.Status.{Status}
 use Rattle.pw_top.specs.declared.status.Status.TheVariants as S
 use Rattle.pw_top.specs.declared.status.PodWhy.TheVariants as P
-use Rattle.pw_top.specs.declared.stock.Stock.{Stock}
+use Rattle.pw_top.specs.declared.inputs.PlanInputs.{PlanInputs}
 
 -- the ports with the narrowed offer; or a refusal at the place of the object
-abbrev pub narrowed_outcome : ℕ → Stock → Narrowed → List Node → Result Stock Status
-narrowed_outcome place stock N.Done later = Ok (record stock { ports = later })
-narrowed_outcome place stock N.NotFormat later = Err (S.Pod place P.NotFormat)
-narrowed_outcome place stock (N.Clash key) later = Err (S.Pod place (P.Clash key))
+abbrev pub narrowed_outcome : ℕ → PlanInputs → Narrowed → List Node → Result PlanInputs Status
+narrowed_outcome place inputs N.Done later = Ok (record inputs { ports = later })
+narrowed_outcome place inputs N.NotFormat later = Err (S.Pod place P.NotFormat)
+narrowed_outcome place inputs (N.Clash key) later = Err (S.Pod place (P.Clash key))

@@ -18,7 +18,7 @@ use Rattle.pw_top.specs.declared.planned.Planned.{Planned}
 use Rattle.pw_top.specs.declared.playing.Crew.{Crew}
 use Rattle.pw_top.specs.declared.status.Status.{Status}
 use Rattle.pw_top.specs.declared.status.Status.TheVariants as S
-use Rattle.pw_top.specs.declared.stock.Stock.{Stock}
+use Rattle.pw_top.specs.declared.inputs.PlanInputs.{PlanInputs}
 use Rattle.pw_top.specs.declared.work.Work.{Work}
 use Rattle.pw_top.specs.Answer.{Answer, Expected}
 use Rattle.pw_top.specs.Allowed.{Binds, Reads}
@@ -41,8 +41,8 @@ abbrev pub PlansPorts : Script → List Node → List WavIn → Expected Planned
 PlansPorts script ports waves = Binds (Reads (PlansTo script ports waves)) (KeepsPlan script waves)
 
 -- of what the lines have loaded
-abbrev pub PlansStock : Script → Stock → Expected Planned → Type 0
-PlansStock script stock = PlansPorts script stock.ports stock.waves
+abbrev pub PlansInputs : Script → PlanInputs → Expected Planned → Type 0
+PlansInputs script inputs = PlansPorts script inputs.ports inputs.waves
 
 -- what follows from it: the plan can be run, and what its sinks keep be stored
 pub record IsPlayable (p : Planned) : Type 0 where

@@ -10,39 +10,39 @@ use Rattle.graph_script.specs.Kinds.{HasKinds}
 use Rattle.graph_script.specs.Order.{HasOrder}
 use Rattle.graph_script.specs.Ranges.{HasRanges}
 use Rattle.pw_top.specs.declared.planned.Planned.{Planned}
-use Rattle.pw_top.specs.declared.stock.Stock.{Stock}
-use Rattle.pw_top.specs.declared.stocked.Stocked.{Stocked}
+use Rattle.pw_top.specs.declared.inputs.PlanInputs.{PlanInputs}
+use Rattle.pw_top.specs.declared.loaded_script.LoadedScript.{LoadedScript}
 use Rattle.pw_top.specs.Answer.{Expected}
 use Rattle.pw_top.specs.Allowed.{Binds, Reads, IsLoad}
 use Rattle.pw_top.specs.Loads.{LoadsAll}
-use Rattle.pw_top.specs.PlannedWork.{PlansStock}
+use Rattle.pw_top.specs.PlannedWork.{PlansInputs}
 use Rattle.pw_top.specs.Refusals.{script_outcome}
-use Rattle.pw_top.specs.Stocking.{nothing_loaded, IsStockOf}
+use Rattle.pw_top.specs.PlanInputs.{nothing_loaded, AreInputsOf}
 
 -- the files that the lines of a script name, in order
-abbrev pub KeepsStock : Script → Stock → Expected Stocked → Type 0
-KeepsStock script stock = Reads (λ outcome. outcome
-    ≡ Ok (record { script = script; stock = stock }))
+abbrev pub KeepsInputs : Script → PlanInputs → Expected LoadedScript → Type 0
+KeepsInputs script inputs = Reads (λ outcome. outcome
+    ≡ Ok (record { script = script; inputs = inputs }))
 
-abbrev pub LoadsStock : Names → Script → Expected Stocked → Type 0
-LoadsStock names script = Binds (LoadsAll names script.lines nothing_loaded) (KeepsStock script)
+abbrev pub LoadsInputs : Names → Script → Expected LoadedScript → Type 0
+LoadsInputs names script = Binds (LoadsAll names script.lines nothing_loaded) (KeepsInputs script)
 
-abbrev pub ReadsScript : Names → List ℕ → Expected Stocked → Type 0
+abbrev pub ReadsScript : Names → List ℕ → Expected LoadedScript → Type 0
 ReadsScript names bytes = Binds (Reads (λ outcome. outcome ≡ script_outcome (script_of bytes)))
-    (LoadsStock names)
+    (LoadsInputs names)
 
 -- THE SCRIPT of a file is loaded and read, then what its lines name is loaded
-abbrev pub LoadsScript : Names → List ℕ → Expected Stocked → Type 0
+abbrev pub LoadsScript : Names → List ℕ → Expected LoadedScript → Type 0
 LoadsScript names word = Binds (IsLoad names 0 word script_bytes_limit W.ScriptBytes)
     (ReadsScript names)
 
 -- what follows from it: what a plan asks of a script, its ports and its waves
-pub record IsStocked (s : Stocked) : Type 0 where
+pub record IsLoadedScript (s : LoadedScript) : Type 0 where
   pub ranges : HasRanges s.script
   pub kinds : HasKinds s.script
   pub order : HasOrder s.script
-  pub stock : IsStockOf s.script.lines s.stock
+  pub inputs : AreInputsOf s.script.lines s.inputs
 
 -- THE PLAN of the script of a file
 abbrev pub PlansFile : Names → List ℕ → Expected Planned → Type 0
-PlansFile names word = Binds (LoadsScript names word) (λ s. PlansStock s.script s.stock)
+PlansFile names word = Binds (LoadsScript names word) (λ s. PlansInputs s.script s.inputs)

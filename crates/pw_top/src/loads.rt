@@ -14,7 +14,7 @@ ghost use Rattle.port_model.specs.PortState.{IsPort};
 ghost use Rattle.pw_top.specs.Allowed.{Reads};
 ghost use Rattle.pw_top.specs.working.Ending.{Ends, CommandCause};
 ghost use Rattle.pw_top.specs.working.Preparing.{LoadsOnly, Tells};
-ghost use Rattle.pw_top.specs.Stocking.{with_wave, plain_kind, with_plain, MayLoad, IsSoundStock, IsStockAfter};
+ghost use Rattle.pw_top.specs.PlanInputs.{with_wave, plain_kind, with_plain, MayLoad, AreSoundInputs, AreInputsAfter};
 ghost use Rattle.pw_top.specs.Loads.{wav_limit, wav_which, TakesWave, ReadsSource, LoadsSource, NarrowsTo};
 ghost use Rattle.pw_top.specs.Loads.{ReadsOffer, LoadsOffer, LoadsLine};
 
@@ -22,7 +22,7 @@ use crate::format_file::format_step;
 use crate::loading::load_step;
 use crate::pod_file::POD_BYTES;
 use crate::status::{PodWhy, Status};
-use crate::stock::Stock;
+use crate::inputs::PlanInputs;
 use crate::wave_file::wave_step;
 use format_filter::Format;
 use graph_lines::kind_made;
@@ -59,21 +59,21 @@ fn wav_which(used: u64) -> Which
 }
 
 // The node of a source, with its wave.
-fn with_wave(stock: Stock, node: u32, size: u64, wav: Wav) -> Result<Stock, Memory>
+fn with_wave(inputs: PlanInputs, node: u32, size: u64, wav: Wav) -> Result<PlanInputs, Memory>
     requires wave { IsWave wav }
-    requires room { length stock.ports < nodes_limit }
-    requires used { stock.used ≤ all_wav_bytes_limit }
-    requires size { size ≤ all_wav_bytes_limit - stock.used }
-    ensures { IfOk result (λ after. after ≡ with_wave stock node size wav) }
+    requires room { length inputs.ports < nodes_limit }
+    requires used { inputs.used ≤ all_wav_bytes_limit }
+    requires size { size ≤ all_wav_bytes_limit - inputs.used }
+    ensures { IfOk result (λ after. after ≡ with_wave inputs node size wav) }
 {
-    let Stock {
+    let PlanInputs {
         mut ports,
         mut waves,
         used,
-    } = stock;
+    } = inputs;
     ports.add(&Kind::Source, wav.rate, u32::from(wav.channels))?;
     waves.push(WavIn { node, wav })?;
-    Ok(Stock {
+    Ok(PlanInputs {
         ports,
         waves,
         used: used + size,
@@ -81,16 +81,16 @@ fn with_wave(stock: Stock, node: u32, size: u64, wav: Wav) -> Result<Stock, Memo
 }
 
 // A `source` line, once its file is a wave.
-fn take_wave(node: u32, stock: Stock, size: u64, wav: Wav) -> Result<Stock, Status>
-    requires sound { IsSoundStock stock }
-    requires node { node ≡ length stock.ports }
-    requires room { length stock.ports < nodes_limit }
+fn take_wave(node: u32, inputs: PlanInputs, size: u64, wav: Wav) -> Result<PlanInputs, Status>
+    requires sound { AreSoundInputs inputs }
+    requires node { node ≡ length inputs.ports }
+    requires room { length inputs.ports < nodes_limit }
     requires wave { IsWave wav }
-    requires size { size ≤ all_wav_bytes_limit - stock.used }
-    ensures done { Ends (TakesWave node stock size wav) result }
-    ensures cause { CommandCause (IsStockAfter stock (Some K.Source)) 0 0 result }
+    requires size { size ≤ all_wav_bytes_limit - inputs.used }
+    ensures done { Ends (TakesWave node inputs size wav) result }
+    ensures cause { CommandCause (AreInputsAfter inputs (Some K.Source)) 0 0 result }
 {
-    match with_wave(stock, node, size, wav) {
+    match with_wave(inputs, node, size, wav) {
         Ok(after) => Ok(after),
         Err(_memory) => Err(Status::Memory),
     }
@@ -102,18 +102,18 @@ fn source_loaded(
     place: u32,
     node: u32,
     bytes: &Items<u8>,
-    stock: Stock,
-) -> Result<Stock, Status>
-    requires sound { IsSoundStock stock }
-    requires node { node ≡ length stock.ports }
-    requires room { length stock.ports < nodes_limit }
-    requires small { length bytes.now ≤ wav_limit stock.used }
-    ensures done { Ends (ReadsSource place node stock bytes.now) result }
-    ensures cause { CommandCause (IsStockAfter stock (Some K.Source)) 0 0 result }
+    inputs: PlanInputs,
+) -> Result<PlanInputs, Status>
+    requires sound { AreSoundInputs inputs }
+    requires node { node ≡ length inputs.ports }
+    requires room { length inputs.ports < nodes_limit }
+    requires small { length bytes.now ≤ wav_limit inputs.used }
+    ensures done { Ends (ReadsSource place node inputs bytes.now) result }
+    ensures cause { CommandCause (AreInputsAfter inputs (Some K.Source)) 0 0 result }
 {
     match wave_step(alloc, place, bytes) {
         Err(status) => Err(status),
-        Ok(wav) => take_wave(node, stock, bytes.len() as u64, wav),
+        Ok(wav) => take_wave(node, inputs, bytes.len() as u64, wav),
     }
 }
 
@@ -124,35 +124,35 @@ fn load_source<F: Files>(
     place: u32,
     node: u32,
     file: &Text,
-    stock: Stock,
-) -> Result<Stock, Status>
-    requires sound { IsSoundStock stock }
-    requires node { node ≡ length stock.ports }
-    requires room { length stock.ports < nodes_limit }
+    inputs: PlanInputs,
+) -> Result<PlanInputs, Status>
+    requires sound { AreSoundInputs inputs }
+    requires node { node ≡ length inputs.ports }
+    requires room { length inputs.ports < nodes_limit }
     ensures files { LoadsOnly (F.held files.old) (F.held files.new) (F.load_faults files.old)
         (F.load_faults files.new) (F.store_faults files.old) (F.store_faults files.new) }
     ensures told { Tells (F.held files.old)
-        (λ names. LoadsSource names place node file.now stock) result }
-    ensures cause { CommandCause (IsStockAfter stock (Some K.Source)) (F.load_faults files.old)
+        (λ names. LoadsSource names place node file.now inputs) result }
+    ensures cause { CommandCause (AreInputsAfter inputs (Some K.Source)) (F.load_faults files.old)
         (F.load_faults files.new) result }
 {
-    let limit = wav_limit(stock.used);
-    let which = wav_which(stock.used);
+    let limit = wav_limit(inputs.used);
+    let which = wav_which(inputs.used);
     match load_step(alloc, files, place, file, limit, which) {
         Err(status) => Err(status),
-        Ok(bytes) => source_loaded(alloc, place, node, &bytes, stock),
+        Ok(bytes) => source_loaded(alloc, place, node, &bytes, inputs),
     }
 }
 
 // An `offer` line, once its file is an object.
-fn narrow(place: u32, port: PortId, stock: Stock, format: &Format) -> Result<Stock, Status>
-    requires sound { IsSoundStock stock }
-    requires port { IsPort stock.ports port }
+fn narrow(place: u32, port: PortId, inputs: PlanInputs, format: &Format) -> Result<PlanInputs, Status>
+    requires sound { AreSoundInputs inputs }
+    requires port { IsPort inputs.ports port }
     requires format { IsSoundFormat format.now }
-    ensures done { Ends (Reads (NarrowsTo place port stock format.now)) result }
-    ensures cause { CommandCause (IsStockAfter stock None) 0 0 result }
+    ensures done { Ends (Reads (NarrowsTo place port inputs format.now)) result }
+    ensures cause { CommandCause (AreInputsAfter inputs None) 0 0 result }
 {
-    let mut after = stock;
+    let mut after = inputs;
     match after.ports.offer(port, format) {
         Ok(Narrowed::Done) => Ok(after),
         Ok(Narrowed::NotFormat) => Err(Status::Pod {
@@ -173,16 +173,16 @@ fn offer_loaded(
     place: u32,
     port: PortId,
     bytes: &Items<u8>,
-    stock: Stock,
-) -> Result<Stock, Status>
-    requires sound { IsSoundStock stock }
-    requires port { IsPort stock.ports port }
-    ensures done { Ends (ReadsOffer place port stock bytes.now) result }
-    ensures cause { CommandCause (IsStockAfter stock None) 0 0 result }
+    inputs: PlanInputs,
+) -> Result<PlanInputs, Status>
+    requires sound { AreSoundInputs inputs }
+    requires port { IsPort inputs.ports port }
+    ensures done { Ends (ReadsOffer place port inputs bytes.now) result }
+    ensures cause { CommandCause (AreInputsAfter inputs None) 0 0 result }
 {
     match format_step(alloc, place, bytes.as_slice()) {
         Err(status) => Err(status),
-        Ok(format) => narrow(place, port, stock, &format),
+        Ok(format) => narrow(place, port, inputs, &format),
     }
 }
 
@@ -193,20 +193,20 @@ fn load_offer<F: Files>(
     place: u32,
     port: PortId,
     file: &Text,
-    stock: Stock,
-) -> Result<Stock, Status>
-    requires sound { IsSoundStock stock }
-    requires port { IsPort stock.ports port }
+    inputs: PlanInputs,
+) -> Result<PlanInputs, Status>
+    requires sound { AreSoundInputs inputs }
+    requires port { IsPort inputs.ports port }
     ensures files { LoadsOnly (F.held files.old) (F.held files.new) (F.load_faults files.old)
         (F.load_faults files.new) (F.store_faults files.old) (F.store_faults files.new) }
     ensures told { Tells (F.held files.old)
-        (λ names. LoadsOffer names place port file.now stock) result }
-    ensures cause { CommandCause (IsStockAfter stock None) (F.load_faults files.old)
+        (λ names. LoadsOffer names place port file.now inputs) result }
+    ensures cause { CommandCause (AreInputsAfter inputs None) (F.load_faults files.old)
         (F.load_faults files.new) result }
 {
     match load_step(alloc, files, place, file, POD_BYTES, Which::PodBytes) {
         Err(status) => Err(status),
-        Ok(bytes) => offer_loaded(alloc, place, port, &bytes, stock),
+        Ok(bytes) => offer_loaded(alloc, place, port, &bytes, inputs),
     }
 }
 
@@ -221,12 +221,12 @@ fn plain_kind(alloc: Global, command: &Command) -> Result<Option<Kind>, Memory>
 }
 
 // A node more, if there is a kind.
-fn with_plain(stock: Stock, made: Option<Kind>) -> Result<Stock, Memory>
-    requires { IfSome made (λ kind. (length stock.ports < nodes_limit) × IsInRange kind
+fn with_plain(inputs: PlanInputs, made: Option<Kind>) -> Result<PlanInputs, Memory>
+    requires { IfSome made (λ kind. (length inputs.ports < nodes_limit) × IsInRange kind
         × HasFileNumbers kind 0 0) }
-    ensures { IfOk result (λ after. after ≡ with_plain stock made) }
+    ensures { IfOk result (λ after. after ≡ with_plain inputs made) }
 {
-    let mut after = stock;
+    let mut after = inputs;
     if let Some(kind) = made {
         after.ports.add(&kind, 0, 0)?;
     }
@@ -234,17 +234,17 @@ fn with_plain(stock: Stock, made: Option<Kind>) -> Result<Stock, Memory>
 }
 
 // A line that loads nothing.
-fn keep_line(alloc: Global, command: &Command, stock: Stock) -> Result<Stock, Status>
-    requires sound { IsSoundStock stock }
+fn keep_line(alloc: Global, command: &Command, inputs: PlanInputs) -> Result<PlanInputs, Status>
+    requires sound { AreSoundInputs inputs }
     requires line { IfSome (plain_kind command.now)
-        (λ kind. (length stock.ports < nodes_limit) × IsInRange kind × HasFileNumbers kind 0 0) }
+        (λ kind. (length inputs.ports < nodes_limit) × IsInRange kind × HasFileNumbers kind 0 0) }
     ensures done { Ends (Reads
-        (λ outcome. outcome ≡ Ok (with_plain stock (plain_kind command.now)))) result }
-    ensures cause { CommandCause (IsStockAfter stock (plain_kind command.now)) 0 0 result }
+        (λ outcome. outcome ≡ Ok (with_plain inputs (plain_kind command.now)))) result }
+    ensures cause { CommandCause (AreInputsAfter inputs (plain_kind command.now)) 0 0 result }
 {
     match plain_kind(alloc, command) {
         Err(_memory) => Err(Status::Memory),
-        Ok(made) => match with_plain(stock, made) {
+        Ok(made) => match with_plain(inputs, made) {
             Ok(after) => Ok(after),
             Err(_memory) => Err(Status::Memory),
         },
@@ -256,21 +256,21 @@ pub fn load_line<F: Files>(
     alloc: Global,
     files: &mut F,
     line: &Line,
-    stock: Stock,
-) -> Result<Stock, Status>
-    requires sound { IsSoundStock stock }
-    requires line { MayLoad stock.ports line.now.command }
+    inputs: PlanInputs,
+) -> Result<PlanInputs, Status>
+    requires sound { AreSoundInputs inputs }
+    requires line { MayLoad inputs.ports line.now.command }
     ensures files { LoadsOnly (F.held files.old) (F.held files.new) (F.load_faults files.old)
         (F.load_faults files.new) (F.store_faults files.old) (F.store_faults files.new) }
     ensures told { Tells (F.held files.old)
-        (λ names. LoadsLine names line.now.line line.now.command stock) result }
+        (λ names. LoadsLine names line.now.line line.now.command inputs) result }
     ensures cause { CommandCause
-        (IsStockAfter stock (option_map (λ m. m.1) (made_by line.now.command)))
+        (AreInputsAfter inputs (option_map (λ m. m.1) (made_by line.now.command)))
         (F.load_faults files.old) (F.load_faults files.new) result }
 {
     match &line.command {
-        Command::Source { node, file } => load_source(alloc, files, line.line, *node, file, stock),
-        Command::Offer { port, file } => load_offer(alloc, files, line.line, *port, file, stock),
-        other => keep_line(alloc, other, stock),
+        Command::Source { node, file } => load_source(alloc, files, line.line, *node, file, inputs),
+        Command::Offer { port, file } => load_offer(alloc, files, line.line, *port, file, inputs),
+        other => keep_line(alloc, other, inputs),
     }
 }

@@ -6,13 +6,13 @@ ghost use Rattle.graph_script.specs.Kinds.{HasKinds};
 ghost use Rattle.graph_script.specs.Making.{NamesMade};
 ghost use Rattle.graph_script.specs.Ranges.{HasRanges};
 ghost use Rattle.pw_top.specs.working.Ending.{Ends, CommandCause};
-ghost use Rattle.pw_top.specs.Groups.{PartsStock, PartsFile, CanBeGrouped};
+ghost use Rattle.pw_top.specs.Groups.{PartsInputs, PartsFile, CanBeGrouped};
 ghost use Rattle.pw_top.specs.working.Preparing.{LoadsOnly, Tells};
-ghost use Rattle.pw_top.specs.Stocking.{IsStockOf};
+ghost use Rattle.pw_top.specs.PlanInputs.{AreInputsOf};
 
 use crate::status::Status;
-use crate::stock::Stock;
-use crate::stocked::{Stocked, load_script};
+use crate::inputs::PlanInputs;
+use crate::loaded_script::{LoadedScript, load_script};
 use graph_plan::{PlanFault, parts};
 use graph_script::Script;
 use pw_base::{Files, Items, Parts, Text};
@@ -28,15 +28,15 @@ pub struct Parted {
 }
 
 // Plans the parts of a script, whose files are loaded.
-fn parts_stock(alloc: Global, script: Script, stock: Stock) -> Result<Parted, Status>
+fn parts_inputs(alloc: Global, script: Script, inputs: PlanInputs) -> Result<Parted, Status>
     requires ranges { HasRanges script }
     requires kinds { HasKinds script }
     requires made { NamesMade 0 script.lines }
-    requires stock { IsStockOf script.lines stock }
-    ensures done { Ends (PartsStock script stock) result }
+    requires inputs { AreInputsOf script.lines inputs }
+    ensures done { Ends (PartsInputs script inputs) result }
     ensures cause { CommandCause CanBeGrouped 0 0 result }
 {
-    let Stock { ports, waves, .. } = stock;
+    let PlanInputs { ports, waves, .. } = inputs;
     match parts(alloc, &script, &waves, ports) {
         Err(PlanFault::Limit { line, which }) => Err(Status::Limit { place: line, which }),
         Err(PlanFault::Memory) => Err(Status::Memory),
@@ -58,6 +58,6 @@ pub fn parts_file<F: Files>(alloc: Global, files: &mut F, script: &Text) -> Resu
 {
     match load_script(alloc, files, script) {
         Err(status) => Err(status),
-        Ok(Stocked { script, stock }) => parts_stock(alloc, script, stock),
+        Ok(LoadedScript { script, inputs }) => parts_inputs(alloc, script, inputs),
     }
 }

@@ -2,9 +2,9 @@
 ghost use Rattle.std.specs.Prelude.{◌≡◌, All, Ok};
 ghost use Rattle.pw_base.specs.Files.{Names};
 ghost use Rattle.pw_top.specs.declared.parted.Parted.{Parted};
-ghost use Rattle.pw_top.specs.declared.stocked.Stocked.{Stocked};
+ghost use Rattle.pw_top.specs.declared.loaded_script.LoadedScript.{LoadedScript};
 ghost use Rattle.pw_top.specs.Answer.{Expected};
-ghost use Rattle.pw_top.specs.Groups.{PartsStock};
+ghost use Rattle.pw_top.specs.Groups.{PartsInputs};
 ghost use Rattle.pw_top.specs.PartsAlone.{StoresAlone};
 ghost use Rattle.pw_top.specs.ScriptFile.{LoadsScript};
 
@@ -16,10 +16,10 @@ use pw_base::Text;
 /// hears the same peak. Such a run stores and hears nothing of other nodes. The files and the
 /// offers of ports are those that the whole script loads.
 pub fn parts_store_as_alone(script: &Text)
-    ensures { (names : Names) (loaded : Expected Stocked) (s : Stocked) (e : Expected Parted)
+    ensures { (names : Names) (loaded : Expected LoadedScript) (s : LoadedScript) (e : Expected Parted)
         (p : Parted) → LoadsScript names script.now loaded → loaded.outcome ≡ Ok s
-        → PartsStock s.script s.stock e → e.outcome ≡ Ok p
-        → All (StoresAlone p s.stock.ports) p.parts.parts }
+        → PartsInputs s.script s.inputs e → e.outcome ≡ Ok p
+        → All (StoresAlone p s.inputs.ports) p.parts.parts }
 {
     let _ = script;
 }

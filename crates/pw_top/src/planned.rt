@@ -10,12 +10,12 @@ ghost use Rattle.graph_plan.specs.Conditions.{AreScriptPorts, HaveWaves};
 ghost use Rattle.pw_top.specs.working.Ending.{Ends, CommandCause};
 ghost use Rattle.pw_top.specs.working.Preparing.{LoadsOnly, Tells};
 ghost use Rattle.pw_top.specs.ScriptFile.{PlansFile};
-ghost use Rattle.pw_top.specs.Stocking.{IsStockOf};
-ghost use Rattle.pw_top.specs.PlannedWork.{PlansPorts, PlansStock, IsPlayable};
+ghost use Rattle.pw_top.specs.PlanInputs.{AreInputsOf};
+ghost use Rattle.pw_top.specs.PlannedWork.{PlansPorts, PlansInputs, IsPlayable};
 
 use crate::status::Status;
-use crate::stock::Stock;
-use crate::stocked::{Stocked, load_script};
+use crate::inputs::PlanInputs;
+use crate::loaded_script::{LoadedScript, load_script};
 use graph_plan::{PlanFault, plan};
 use graph_script::Script;
 use port_model::Ports;
@@ -59,16 +59,16 @@ pub fn plan_ports(
 }
 
 /// Plans the script, whose files are loaded.
-pub fn plan_stock(alloc: Global, script: Script, stock: Stock) -> Result<Planned, Status>
+pub fn plan_inputs(alloc: Global, script: Script, inputs: PlanInputs) -> Result<Planned, Status>
     requires ranges { HasRanges script }
     requires kinds { HasKinds script }
     requires made { NamesMade 0 script.lines }
-    requires stock { IsStockOf script.lines stock }
-    ensures done { Ends (PlansStock script stock) result }
+    requires inputs { AreInputsOf script.lines inputs }
+    ensures done { Ends (PlansInputs script inputs) result }
     ensures cause { CommandCause IsPlayable 0 0 result }
     ensures script { IfOk result (λ planned. planned.script ≡ script) }
 {
-    let Stock { ports, waves, .. } = stock;
+    let PlanInputs { ports, waves, .. } = inputs;
     plan_ports(alloc, script, waves, ports)
 }
 
@@ -83,6 +83,6 @@ pub fn plan_file<F: Files>(alloc: Global, files: &mut F, script: &Text) -> Resul
 {
     match load_script(alloc, files, script) {
         Err(status) => Err(status),
-        Ok(Stocked { script, stock }) => plan_stock(alloc, script, stock),
+        Ok(LoadedScript { script, inputs }) => plan_inputs(alloc, script, inputs),
     }
 }

@@ -8,12 +8,12 @@ ghost use Rattle.graph_lines.specs.Start.{kinds_of};
 ghost use Rattle.graph_plan.specs.Conditions.{AreLinesOf};
 ghost use Rattle.pw_top.specs.working.Ending.{CommandCause};
 ghost use Rattle.pw_top.specs.working.Preparing.{LoadsOnly, Tells};
-ghost use Rattle.pw_top.specs.Stocking.{nothing_loaded, IsStockOf};
+ghost use Rattle.pw_top.specs.PlanInputs.{nothing_loaded, AreInputsOf};
 ghost use Rattle.pw_top.specs.Loads.{LoadsAll};
 
 use crate::loads::load_line;
 use crate::status::Status;
-use crate::stock::Stock;
+use crate::inputs::PlanInputs;
 use graph_script::Line;
 use port_model::Ports;
 use pw_base::{Files, Items};
@@ -24,8 +24,8 @@ fn load_lines<F: Files>(
     alloc: Global,
     files: &mut F,
     lines: &[Line],
-    nothing: Stock,
-) -> Result<Stock, Status>
+    nothing: PlanInputs,
+) -> Result<PlanInputs, Status>
     requires lines { AreLinesOf (kinds_of lines.now) lines.now }
     requires made { NamesMade 0 lines.now }
     requires few { length (kinds_of lines.now) ≤ nodes_limit }
@@ -34,21 +34,21 @@ fn load_lines<F: Files>(
         (F.load_faults files.new) (F.store_faults files.old) (F.store_faults files.new) }
     ensures told { Tells (F.held files.old)
         (λ names. LoadsAll names lines.now nothing_loaded) result }
-    ensures cause { CommandCause (IsStockOf lines.now) (F.load_faults files.old)
+    ensures cause { CommandCause (AreInputsOf lines.now) (F.load_faults files.old)
         (F.load_faults files.new) result }
 {
-    let mut stock = nothing;
+    let mut inputs = nothing;
     for line in lines {
-        match load_line(alloc, files, line, stock) {
+        match load_line(alloc, files, line, inputs) {
             Err(status) => return Err(status),
-            Ok(after) => stock = after,
+            Ok(after) => inputs = after,
         }
     }
-    Ok(stock)
+    Ok(inputs)
 }
 
 /// What the lines of a script load, in order, up to the first that is refused or fails.
-pub fn load_all<F: Files>(alloc: Global, files: &mut F, lines: &[Line]) -> Result<Stock, Status>
+pub fn load_all<F: Files>(alloc: Global, files: &mut F, lines: &[Line]) -> Result<PlanInputs, Status>
     requires lines { AreLinesOf (kinds_of lines.now) lines.now }
     requires made { NamesMade 0 lines.now }
     requires few { length (kinds_of lines.now) ≤ nodes_limit }
@@ -56,7 +56,7 @@ pub fn load_all<F: Files>(alloc: Global, files: &mut F, lines: &[Line]) -> Resul
         (F.load_faults files.new) (F.store_faults files.old) (F.store_faults files.new) }
     ensures told { Tells (F.held files.old)
         (λ names. LoadsAll names lines.now nothing_loaded) result }
-    ensures cause { CommandCause (IsStockOf lines.now) (F.load_faults files.old)
+    ensures cause { CommandCause (AreInputsOf lines.now) (F.load_faults files.old)
         (F.load_faults files.new) result }
 {
     match Ports::new(alloc) {
@@ -65,7 +65,7 @@ pub fn load_all<F: Files>(alloc: Global, files: &mut F, lines: &[Line]) -> Resul
             alloc,
             files,
             lines,
-            Stock {
+            PlanInputs {
                 ports,
                 waves: Items::new(alloc),
                 used: 0,

@@ -5,8 +5,8 @@ use Rattle.graph_lines.specs.Start.{kinds_of}
 use Rattle.graph_plan.proofs.ScriptLemmas.{named_are}
 use Rattle.plan_tests.proofs.texts.plans_script.Goals as goal
 
-pub stock_of-requires-clause-few : goal.stock_of-requires-clause-few
-stock_of-requires-clause-few c =
+pub inputs_of-requires-clause-few : goal.inputs_of-requires-clause-few
+inputs_of-requires-clause-few c =
     let named = named_are c.args.script.now c.requires.ranges c.requires.kinds in
     let count = c.requires.ranges.count in
     let few : length (kinds_of c.args.script.now.lines) ≤ 63 = omega (arith, named, count) in

@@ -11,5 +11,5 @@ use Rattle.pw_top.proofs.loads.source_loaded.Goals as goal
 pub returns-in-Ok-clause-done : goal.returns-in-Ok-clause-done
 returns-in-Ok-clause-done c =
     binds_goes (Reads (λ outcome. outcome ≡ wave_outcome c.args.place (wav_of c.args.bytes.now)))
-    (TakesWave c.args.node c.args.stock (length c.args.bytes.now)) c.in-Ok.wav c.take_wave.result c.in-Ok.ensures.told
-    (subst (λ (n : ℕ). Ends (TakesWave c.args.node c.args.stock n c.in-Ok.wav) c.take_wave.result) c.len.ensures c.take_wave.ensures.done)
+    (TakesWave c.args.node c.args.inputs (length c.args.bytes.now)) c.in-Ok.wav c.take_wave.result c.in-Ok.ensures.told
+    (subst (λ (n : ℕ). Ends (TakesWave c.args.node c.args.inputs n c.in-Ok.wav) c.take_wave.result) c.len.ensures c.take_wave.ensures.done)

@@ -6,7 +6,7 @@ use Rattle.cycle_trace.specs.TraceReading.{AreNames}
 use Rattle.graph_script.specs.declared.script.Script.{Script}
 use Rattle.pw_top.specs.declared.planned.Planned.{Planned}
 use Rattle.pw_top.specs.declared.status.Status.{Status}
-use Rattle.pw_top.specs.PlannedWork.{PlansStock}
+use Rattle.pw_top.specs.PlannedWork.{PlansInputs}
 use Rattle.pw_top.specs.ScriptFile.{LoadsScript}
 use Rattle.pw_top.proofs.AllowedLemmas.{binds_goes}
 use Rattle.pw_top.proofs.CheckLemmas.{script_names}
@@ -14,7 +14,7 @@ use Rattle.pw_top.proofs.planned.plan_file.Goals as goal
 
 pub returns-in-Ok-clause-told : goal.returns-in-Ok-clause-told
 returns-in-Ok-clause-told g c = λ h. binds_goes (LoadsScript (names_in (g.F.Files.held c.args.files.now)) c.args.script.now)
-    (λ s. PlansStock s.script s.stock) _ c.plan_stock.result (c.in-Ok.ensures.told h) c.plan_stock.ensures.done
+    (λ s. PlansInputs s.script s.inputs) _ c.plan_inputs.result (c.in-Ok.ensures.told h) c.plan_inputs.ensures.done
 
 -- the names of a script that was loaded
 named : (script : Script) → AreNames script.names → (r : Result Planned Status) → IfOk r (λ p. p.script ≡ script)
@@ -24,4 +24,4 @@ named script names (Err status) e = e
 
 pub returns-in-Ok-clause-names : goal.returns-in-Ok-clause-names
 returns-in-Ok-clause-names g c = let known = c.in-Ok.ensures.cause in
-    named c.in-Ok.field-0.script (script_names c.in-Ok.field-0.script known.ranges known.order) c.plan_stock.result c.plan_stock.ensures.script
+    named c.in-Ok.field-0.script (script_names c.in-Ok.field-0.script known.ranges known.order) c.plan_inputs.result c.plan_inputs.ensures.script

@@ -3,11 +3,11 @@ use Rattle.std.specs.Prelude.{Result}
 use Rattle.pw_base.specs.Files.{names_in}
 use Rattle.graph_lines.specs.Start.{kinds_of}
 use Rattle.pw_top.specs.declared.status.Status.{Status}
-use Rattle.pw_top.specs.declared.stock.Stock.{Stock}
+use Rattle.pw_top.specs.declared.inputs.PlanInputs.{PlanInputs}
 use Rattle.pw_top.specs.working.Ending.{Ends}
 use Rattle.pw_top.specs.working.Preparing.{LoadsOnly}
 use Rattle.pw_top.specs.Loads.{LoadsAll}
-use Rattle.pw_top.specs.Stocking.{nothing_loaded, IsSoundStock}
+use Rattle.pw_top.specs.PlanInputs.{nothing_loaded, AreSoundInputs}
 use Rattle.pw_top.proofs.LoadsLemmas.{IsUnderWay}
 use Rattle.pw_top.proofs.script_loads.load_lines.Given as goal
 
@@ -16,9 +16,9 @@ abbrev pub invariant-loop-line : goal.invariant-loop-line
 invariant-loop-line g l = record {
   files : LoadsOnly (g.F.Files.held l.initial.files) (g.F.Files.held l.files) (g.F.Files.load_faults l.initial.files)
       (g.F.Files.load_faults l.files) (g.F.Files.store_faults l.initial.files) (g.F.Files.store_faults l.files);
-  sound : IsSoundStock l.stock;
-  way : IsUnderWay (kinds_of l.lines) (drop l.line-index l.lines) l.stock.ports;
-  rest : IsSome (g.F.Files.held l.initial.files) → (r : Result Stock Status)
-      → Ends (LoadsAll (names_in (g.F.Files.held l.initial.files)) (drop l.line-index l.lines) l.stock) r
+  sound : AreSoundInputs l.inputs;
+  way : IsUnderWay (kinds_of l.lines) (drop l.line-index l.lines) l.inputs.ports;
+  rest : IsSome (g.F.Files.held l.initial.files) → (r : Result PlanInputs Status)
+      → Ends (LoadsAll (names_in (g.F.Files.held l.initial.files)) (drop l.line-index l.lines) l.inputs) r
       → Ends (LoadsAll (names_in (g.F.Files.held l.initial.files)) l.lines nothing_loaded) r;
 }

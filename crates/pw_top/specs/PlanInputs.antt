@@ -1,4 +1,4 @@
--- Stock: the nodes that the lines of a script have made so far, with what their ports offer, and
+-- The inputs of a plan: the nodes that the lines of a script have made so far, with what their ports offer, and
 -- the waves of their sources. Source: this project's script grammar.
 use Rattle.std.specs.Prelude.{◌≡◌, ℕ, ◌+◌, ◌<◌, ◌≤◌, List, [], ◌∷◌, ◌++◌, map, Option, Some, None, All, length, IfSome, option_map, option_to_list}
 use Rattle.pw_base.specs.declared.kind.Kind.{Kind}
@@ -15,18 +15,18 @@ use Rattle.port_model.specs.Offers.{new_node, HasFileNumbers}
 use Rattle.port_model.specs.PortState.{IsPort}
 use Rattle.port_model.specs.SoundPorts.{AreSoundNodes}
 use Rattle.graph_plan.specs.Conditions.{AreScriptPorts, HaveWaves}
-use Rattle.pw_top.specs.declared.stock.Stock.{Stock}
+use Rattle.pw_top.specs.declared.inputs.PlanInputs.{PlanInputs}
 
 -- before the first line
-abbrev pub nothing_loaded : Stock
+abbrev pub nothing_loaded : PlanInputs
 nothing_loaded = record { ports = []; waves = []; used = 0 }
 
 -- a node more, that of a source with its wave from a file of n bytes
-abbrev pub with_wave : Stock → ℕ → ℕ → Wav → Stock
-with_wave stock node size wav = record {
-  ports = stock.ports ++ new_node K.Source wav.rate wav.channels ∷ [];
-  waves = stock.waves ++ (record { node = node; wav = wav }) ∷ [];
-  used = stock.used + size;
+abbrev pub with_wave : PlanInputs → ℕ → ℕ → Wav → PlanInputs
+with_wave inputs node size wav = record {
+  ports = inputs.ports ++ new_node K.Source wav.rate wav.channels ∷ [];
+  waves = inputs.waves ++ (record { node = node; wav = wav }) ∷ [];
+  used = inputs.used + size;
 }
 
 -- the kind of a node that needs no file to offer what it does
@@ -35,9 +35,9 @@ plain_kind (C.Source node file) = None
 plain_kind command = option_map (λ m. m.1) (made_by command)
 
 -- a node more of such a kind, if a line makes one
-abbrev pub with_plain : Stock → Option Kind → Stock
-with_plain stock None = stock
-with_plain stock (Some kind) = record stock { ports = stock.ports ++ new_node kind 0 0 ∷ [] }
+abbrev pub with_plain : PlanInputs → Option Kind → PlanInputs
+with_plain inputs None = inputs
+with_plain inputs (Some kind) = record inputs { ports = inputs.ports ++ new_node kind 0 0 ∷ [] }
 
 -- what a line asks of the nodes before it: it makes the next one, and names a port that is there
 abbrev pub MayLoad : List Node → Command → Type 0
@@ -51,19 +51,19 @@ abbrev pub AreUnused : List Node → Type 0
 AreUnused nodes = All (λ n. All (λ s. (s.format ≡ None) × (s.buffers ≡ None)) n.ports) nodes
 
 -- SOUND: as lines leave it, one after the other
-pub record IsSoundStock (stock : Stock) : Type 0 where
-  pub ports : AreSoundNodes stock.ports
-  pub unused : AreUnused stock.ports
-  pub waves : HaveWaves stock.ports stock.waves
-  pub used : stock.used ≤ all_wav_bytes_limit
+pub record AreSoundInputs (inputs : PlanInputs) : Type 0 where
+  pub ports : AreSoundNodes inputs.ports
+  pub unused : AreUnused inputs.ports
+  pub waves : HaveWaves inputs.ports inputs.waves
+  pub used : inputs.used ≤ all_wav_bytes_limit
 
 -- sound after a line too, with the node that it made behind the others
-pub record IsStockAfter (stock : Stock) (made : Option Kind) (after : Stock) : Type 0 where
-  pub sound : IsSoundStock after
+pub record AreInputsAfter (inputs : PlanInputs) (made : Option Kind) (after : PlanInputs) : Type 0 where
+  pub sound : AreSoundInputs after
   pub kinds : map (λ n. n.kind) after.ports
-      ≡ map (λ n. n.kind) stock.ports ++ option_to_list made
+      ≡ map (λ n. n.kind) inputs.ports ++ option_to_list made
 
 -- what all lines of a script leave: what a plan asks of ports and waves
-pub record IsStockOf (lines : List Line) (stock : Stock) : Type 0 where
-  pub ports : AreScriptPorts lines stock.ports
-  pub waves : HaveWaves stock.ports stock.waves
+pub record AreInputsOf (lines : List Line) (inputs : PlanInputs) : Type 0 where
+  pub ports : AreScriptPorts lines inputs.ports
+  pub waves : HaveWaves inputs.ports inputs.waves

@@ -5,8 +5,8 @@ ghost use Rattle.pw_base.specs.KindRanges.{IsRate, IsChannels};
 ghost use Rattle.graph_script.specs.Ranges.{IsInRange};
 ghost use Rattle.graph_lines.specs.Start.{kinds_of};
 ghost use Rattle.port_model.specs.Offers.{HasFileNumbers};
-ghost use Rattle.plan_tests.specs.Stocking.{kind_by, with_source, with_plain, HasRoom, IsSoundStock};
-ghost use Rattle.plan_tests.specs.Stocking.{IsStockAfter, IsStockOf};
+ghost use Rattle.plan_tests.specs.PlanInputs.{kind_by, with_source, with_plain, HasRoom, AreSoundInputs};
+ghost use Rattle.plan_tests.specs.PlanInputs.{AreInputsAfter, AreInputsOf};
 
 use crate::silence::{Silence, wave_of};
 use graph_lines::kind_made;
@@ -18,27 +18,27 @@ use wav_files::{Wav, WavIn};
 
 /// The nodes that lines have made, with what their ports offer, and the waves of their sources.
 #[derive(Drop)]
-pub struct Stock {
+pub struct PlanInputs {
     pub count: u32,
     pub ports: Ports,
     pub waves: Items<WavIn>,
 }
 
 // The node of a source, with its wave.
-fn with_source(stock: Stock, wav: Wav) -> Result<Stock, Memory>
+fn with_source(inputs: PlanInputs, wav: Wav) -> Result<PlanInputs, Memory>
     requires numbers { IsRate wav.rate × IsChannels wav.channels }
-    requires count { stock.count ≡ length stock.ports }
-    requires room { length stock.ports < 63 }
-    ensures { IfOk result (λ after. after ≡ with_source stock wav) }
+    requires count { inputs.count ≡ length inputs.ports }
+    requires room { length inputs.ports < 63 }
+    ensures { IfOk result (λ after. after ≡ with_source inputs wav) }
 {
-    let Stock {
+    let PlanInputs {
         count,
         mut ports,
         mut waves,
-    } = stock;
+    } = inputs;
     ports.add(&Kind::Source, wav.rate, wav.channels)?;
     waves.push(WavIn { node: count, wav })?;
-    Ok(Stock {
+    Ok(PlanInputs {
         count: count + 1,
         ports,
         waves,
@@ -46,19 +46,19 @@ fn with_source(stock: Stock, wav: Wav) -> Result<Stock, Memory>
 }
 
 // A node that needs no wave.
-fn with_plain(stock: Stock, kind: &Kind) -> Result<Stock, Memory>
+fn with_plain(inputs: PlanInputs, kind: &Kind) -> Result<PlanInputs, Memory>
     requires file { HasFileNumbers kind.now 0 0 }
-    requires count { stock.count ≡ length stock.ports }
-    requires room { HasRoom stock kind.now }
-    ensures { IfOk result (λ after. after ≡ with_plain stock kind.now) }
+    requires count { inputs.count ≡ length inputs.ports }
+    requires room { HasRoom inputs kind.now }
+    ensures { IfOk result (λ after. after ≡ with_plain inputs kind.now) }
 {
-    let Stock {
+    let PlanInputs {
         count,
         mut ports,
         waves,
-    } = stock;
+    } = inputs;
     ports.add(kind, 0, 0)?;
-    Ok(Stock {
+    Ok(PlanInputs {
         count: count + 1,
         ports,
         waves,
@@ -81,76 +81,76 @@ fn silence_at(sources: &[Silence], place: usize) -> Silence {
 }
 
 // The node of a source.
-fn source_more(alloc: Global, stock: Stock, silence: Silence) -> Result<Stock, Memory>
-    requires sound { IsSoundStock stock }
-    requires room { length stock.ports < 63 }
-    ensures { IfOk result (IsStockAfter stock (Some K.Source)) }
+fn source_more(alloc: Global, inputs: PlanInputs, silence: Silence) -> Result<PlanInputs, Memory>
+    requires sound { AreSoundInputs inputs }
+    requires room { length inputs.ports < 63 }
+    ensures { IfOk result (AreInputsAfter inputs (Some K.Source)) }
 {
     let wav = wave_of(alloc, silence)?;
-    match with_source(stock, wav) {
+    match with_source(inputs, wav) {
         Ok(after) => Ok(after),
         Err(Memory) => Err(Memory),
     }
 }
 
 // A node of another kind.
-fn plain_more(stock: Stock, kind: &Kind) -> Result<Stock, Memory>
-    requires sound { IsSoundStock stock }
-    requires room { HasRoom stock kind.now }
+fn plain_more(inputs: PlanInputs, kind: &Kind) -> Result<PlanInputs, Memory>
+    requires sound { AreSoundInputs inputs }
+    requires room { HasRoom inputs kind.now }
     requires other { HasFileNumbers kind.now 0 0 }
-    ensures { IfOk result (IsStockAfter stock (Some kind.now)) }
+    ensures { IfOk result (AreInputsAfter inputs (Some kind.now)) }
 {
-    match with_plain(stock, kind) {
+    match with_plain(inputs, kind) {
         Ok(after) => Ok(after),
         Err(Memory) => Err(Memory),
     }
 }
 
 // A node more.
-fn node_more(alloc: Global, stock: Stock, kind: &Kind, sources: &[Silence]) -> Result<Stock, Memory>
-    requires sound { IsSoundStock stock }
-    requires room { HasRoom stock kind.now }
-    ensures { IfOk result (IsStockAfter stock (Some kind.now)) }
+fn node_more(alloc: Global, inputs: PlanInputs, kind: &Kind, sources: &[Silence]) -> Result<PlanInputs, Memory>
+    requires sound { AreSoundInputs inputs }
+    requires room { HasRoom inputs kind.now }
+    ensures { IfOk result (AreInputsAfter inputs (Some kind.now)) }
 {
     if is_source(kind) {
-        let silence = silence_at(sources, stock.waves.len());
-        source_more(alloc, stock, silence)
+        let silence = silence_at(sources, inputs.waves.len());
+        source_more(alloc, inputs, silence)
     } else {
-        plain_more(stock, kind)
+        plain_more(inputs, kind)
     }
 }
 
 // A line.
 fn after_line(
     alloc: Global,
-    stock: Stock,
+    inputs: PlanInputs,
     command: &Command,
     sources: &[Silence],
-) -> Result<Stock, Memory>
-    requires sound { IsSoundStock stock }
-    requires room { IfSome (kind_by command.now) (HasRoom stock) }
-    ensures { IfOk result (IsStockAfter stock (kind_by command.now)) }
+) -> Result<PlanInputs, Memory>
+    requires sound { AreSoundInputs inputs }
+    requires room { IfSome (kind_by command.now) (HasRoom inputs) }
+    ensures { IfOk result (AreInputsAfter inputs (kind_by command.now)) }
 {
     match kind_made(alloc, command)? {
-        Some(kind) => node_more(alloc, stock, &kind, sources),
-        None => Ok(stock),
+        Some(kind) => node_more(alloc, inputs, &kind, sources),
+        None => Ok(inputs),
     }
 }
 
 /// The ports of the nodes that lines make, and a wave for each source: the silence of its place
 /// among the sources, or one of no frame where there is none.
-pub fn stock_of(alloc: Global, lines: &[Line], sources: &[Silence]) -> Result<Stock, Memory>
+pub fn inputs_of(alloc: Global, lines: &[Line], sources: &[Silence]) -> Result<PlanInputs, Memory>
     requires few { length (kinds_of lines.now) ≤ 63 }
     requires ranges { All (λ l. IsInRange l.command) lines.now }
-    ensures { IfOk result (IsStockOf lines.now) }
+    ensures { IfOk result (AreInputsOf lines.now) }
 {
-    let mut stock = Stock {
+    let mut inputs = PlanInputs {
         count: 0,
         ports: Ports::new(alloc)?,
         waves: Items::new(alloc),
     };
     for line in lines {
-        stock = after_line(alloc, stock, &line.command, sources)?;
+        inputs = after_line(alloc, inputs, &line.command, sources)?;
     }
-    Ok(stock)
+    Ok(inputs)
 }

@@ -1,4 +1,4 @@
--- A stock stays sound through each line.
+-- Inputs stay sound through each line.
 use Rattle.std.proofs.Common.{◌≡◌, ℕ, zero, suc, ◌+◌, ◌<◌, ◌≤◌, List, [], ◌∷◌, ◌++◌, length, map, drop, get_or, Option, Some, None, refl, sym, ap}
 use Rattle.std.proofs.Common.{◌∙◌, subst, arith, add-one, drop-cons}
 use Rattle.std.specs.Prelude.{IfSome, option_map, option_to_list}
@@ -24,12 +24,12 @@ use Rattle.port_model.proofs.OfferLemmas.{nodes_added}
 use Rattle.graph_lines.specs.Start.{kinds_of}
 use Rattle.graph_plan.specs.Conditions.{IsWaveFor}
 use Rattle.graph_plan.proofs.MoreNodesLemmas.{waves_plain, waves_source, unused_new, kinds_more, not_source, source_of, wave_for}
-use Rattle.plan_tests.specs.declared.stock.Stock.{Stock}
-use Rattle.plan_tests.specs.Stocking.{kind_by, with_source, with_plain, HasRoom, IsSoundStock, IsStockAfter, IsStockOf}
+use Rattle.plan_tests.specs.declared.inputs.PlanInputs.{PlanInputs}
+use Rattle.plan_tests.specs.PlanInputs.{kind_by, with_source, with_plain, HasRoom, AreSoundInputs, AreInputsAfter, AreInputsOf}
 
 -- before the first line
-pub start_sound : (stock : Stock) → stock ≡ record { count = 0; ports = []; waves = [] } → IsSoundStock stock
-start_sound stock e = subst IsSoundStock (sym e) (record {
+pub start_sound : (inputs : PlanInputs) → inputs ≡ record { count = 0; ports = []; waves = [] } → AreSoundInputs inputs
+start_sound inputs e = subst AreSoundInputs (sym e) (record {
   count = refl;
   ports = record { few = omega arith; each = All-nil IsSoundNode };
   unused = All-nil (λ (n : Node). All (λ (s : PortState). (s.format ≡ None) × (s.buffers ≡ None)) n.ports);
@@ -41,32 +41,32 @@ abbrev HasUnused : Node → Type 0
 HasUnused node = All (λ (s : PortState). (s.format ≡ None) × (s.buffers ≡ None)) node.ports
 
 -- one node more
-grown : (stock : Stock) (node : Node) → stock.count ≡ length stock.ports → stock.count + 1 ≡ length (stock.ports ++ node ∷ [])
-grown stock node e = let parts = length-append stock.ports (node ∷ []) in omega (arith, e, parts)
+grown : (inputs : PlanInputs) (node : Node) → inputs.count ≡ length inputs.ports → inputs.count + 1 ≡ length (inputs.ports ++ node ∷ [])
+grown inputs node e = let parts = length-append inputs.ports (node ∷ []) in omega (arith, e, parts)
 
-pub source_sound : (stock : Stock) (wav : Wav) → IsSoundStock stock → length stock.ports < 63 → IsRate wav.rate × IsChannels wav.channels
-    → IsStockAfter stock (Some K.Source) (with_source stock wav)
-source_sound stock wav sound room numbers = record {
+pub source_sound : (inputs : PlanInputs) (wav : Wav) → AreSoundInputs inputs → length inputs.ports < 63 → IsRate wav.rate × IsChannels wav.channels
+    → AreInputsAfter inputs (Some K.Source) (with_source inputs wav)
+source_sound inputs wav sound room numbers = record {
   sound = record {
-    count = grown stock (source_of wav) sound.count;
-    ports = nodes_added stock.ports K.Source wav.rate wav.channels sound.ports room tt numbers;
-    unused = All-push HasUnused stock.ports (source_of wav) sound.unused (unused_new K.Source wav.rate wav.channels);
-    waves = waves_source stock.ports (source_of wav) stock.waves (record { node = stock.count; wav = wav }) sound.count
-        (wave_for stock.ports stock.count wav sound.count) sound.waves;
+    count = grown inputs (source_of wav) sound.count;
+    ports = nodes_added inputs.ports K.Source wav.rate wav.channels sound.ports room tt numbers;
+    unused = All-push HasUnused inputs.ports (source_of wav) sound.unused (unused_new K.Source wav.rate wav.channels);
+    waves = waves_source inputs.ports (source_of wav) inputs.waves (record { node = inputs.count; wav = wav }) sound.count
+        (wave_for inputs.ports inputs.count wav sound.count) sound.waves;
   };
-  kinds = kinds_more stock.ports (source_of wav);
+  kinds = kinds_more inputs.ports (source_of wav);
 }
 
-pub plain_sound : (stock : Stock) (kind : Kind) → IsSoundStock stock → HasRoom stock kind → HasFileNumbers kind 0 0
-    → IsStockAfter stock (Some kind) (with_plain stock kind)
-plain_sound stock kind sound room plain = record {
+pub plain_sound : (inputs : PlanInputs) (kind : Kind) → AreSoundInputs inputs → HasRoom inputs kind → HasFileNumbers kind 0 0
+    → AreInputsAfter inputs (Some kind) (with_plain inputs kind)
+plain_sound inputs kind sound room plain = record {
   sound = record {
-    count = grown stock (new_node kind 0 0) sound.count;
-    ports = nodes_added stock.ports kind 0 0 sound.ports room.0 room.1 plain;
-    unused = All-push HasUnused stock.ports (new_node kind 0 0) sound.unused (unused_new kind 0 0);
-    waves = waves_plain stock.ports (new_node kind 0 0) stock.waves (not_source kind plain) sound.waves;
+    count = grown inputs (new_node kind 0 0) sound.count;
+    ports = nodes_added inputs.ports kind 0 0 sound.ports room.0 room.1 plain;
+    unused = All-push HasUnused inputs.ports (new_node kind 0 0) sound.unused (unused_new kind 0 0);
+    waves = waves_plain inputs.ports (new_node kind 0 0) inputs.waves (not_source kind plain) sound.waves;
   };
-  kinds = kinds_more stock.ports (new_node kind 0 0);
+  kinds = kinds_more inputs.ports (new_node kind 0 0);
 }
 
 -- a node that is no source needs no file
@@ -87,8 +87,8 @@ no_more : {X : Type 0} (xs : List X) → xs ≡ xs ++ []
 no_more [] = refl
 no_more (x ∷ xs) = ap (λ ys. x ∷ ys) (no_more xs)
 
-pub none_sound : (stock : Stock) → IsSoundStock stock → IsStockAfter stock None stock
-none_sound stock sound = record { sound = sound; kinds = no_more (map (λ (n : Node). n.kind) stock.ports) }
+pub none_sound : (inputs : PlanInputs) → AreSoundInputs inputs → AreInputsAfter inputs None inputs
+none_sound inputs sound = record { sound = sound; kinds = no_more (map (λ (n : Node). n.kind) inputs.ports) }
 
 -- the kinds so far and those of the lines that are left
 abbrev pub IsUnderWay : List Kind → List Line → List Node → Type 0
@@ -124,22 +124,22 @@ in_range (C.Cycles n) h = tt
 in_range C.Drain h = tt
 in_range (C.Offer port file) h = tt
 
-module _ (all : List Kind) (few : length all ≤ 63) (l : Line) (ls : List Line) (stock : Stock)
-    (way : IsUnderWay all (l ∷ ls) stock.ports) where
+module _ (all : List Kind) (few : length all ≤ 63) (l : Line) (ls : List Line) (inputs : PlanInputs)
+    (way : IsUnderWay all (l ∷ ls) inputs.ports) where
   abbrev own : List Kind
-  own = map (λ (n : Node). n.kind) stock.ports
+  own = map (λ (n : Node). n.kind) inputs.ports
 
-  pub has_room : IsInRange l.command → IfSome (kind_by l.command) (HasRoom stock)
+  pub has_room : IsInRange l.command → IfSome (kind_by l.command) (HasRoom inputs)
   has_room range = go (kind_by l.command) (in_range l.command range) (ap (λ (ks : List Kind). own ++ ks) (sym (kinds_first l ls)) ∙ way) where
-    go : (o : Option Kind) → IfSome o kinds.IsInRange → own ++ (option_to_list o ++ kinds_of ls) ≡ all → IfSome o (HasRoom stock)
+    go : (o : Option Kind) → IfSome o kinds.IsInRange → own ++ (option_to_list o ++ kinds_of ls) ≡ all → IfSome o (HasRoom inputs)
     go None r e = tt
     go (Some k) r e =
         let whole = ap length e in
         let parts = length-append own (k ∷ kinds_of ls) in
-        let same = length-map stock.ports (λ (n : Node). n.kind) in
+        let same = length-map inputs.ports (λ (n : Node). n.kind) in
         (omega (arith, few, whole, parts, same), r)
 
-  pub one_more : (after : Stock) → IsStockAfter stock (kind_by l.command) after → IsUnderWay all ls after.ports
+  pub one_more : (after : PlanInputs) → AreInputsAfter inputs (kind_by l.command) after → IsUnderWay all ls after.ports
   one_more after h = ap (λ (ks : List Kind). ks ++ kinds_of ls) h.kinds ∙ append_assoc own (option_to_list (kind_by l.command)) (kinds_of ls)
       ∙ ap (λ (ks : List Kind). own ++ ks) (sym (kinds_first l ls)) ∙ way
 
@@ -154,12 +154,12 @@ past [] (suc i) l = refl
 past (x ∷ lines) zero l = absurd (omega arith)
 past (x ∷ lines) (suc i) l = past lines i (omega arith)
 
-pub all_stocked : (lines : List Line) (i : ℕ) (stock : Stock) → IsSoundStock stock → length lines ≤ i
-    → IsUnderWay (kinds_of lines) (drop i lines) stock.ports → IsStockOf lines stock
-all_stocked lines i stock sound end way = record {
+pub all_loaded : (lines : List Line) (i : ℕ) (inputs : PlanInputs) → AreSoundInputs inputs → length lines ≤ i
+    → IsUnderWay (kinds_of lines) (drop i lines) inputs.ports → AreInputsOf lines inputs
+all_loaded lines i inputs sound end way = record {
   ports = record {
-    kinds = no_more (map (λ (n : Node). n.kind) stock.ports)
-        ∙ (ap (λ (ls : List Line). map (λ (n : Node). n.kind) stock.ports ++ kinds_of ls) (sym (past lines i end)) ∙ way);
+    kinds = no_more (map (λ (n : Node). n.kind) inputs.ports)
+        ∙ (ap (λ (ls : List Line). map (λ (n : Node). n.kind) inputs.ports ++ kinds_of ls) (sym (past lines i end)) ∙ way);
     sound = sound.ports;
     unused = sound.unused;
   };

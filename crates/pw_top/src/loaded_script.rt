@@ -11,29 +11,29 @@ ghost use Rattle.pw_top.specs.Allowed.{Reads};
 ghost use Rattle.pw_top.specs.working.Ending.{Ends, CommandCause};
 ghost use Rattle.pw_top.specs.working.Preparing.{LoadsOnly, Tells};
 ghost use Rattle.pw_top.specs.Refusals.{script_outcome};
-ghost use Rattle.pw_top.specs.ScriptFile.{LoadsStock, ReadsScript, LoadsScript, IsStocked};
+ghost use Rattle.pw_top.specs.ScriptFile.{LoadsInputs, ReadsScript, LoadsScript, IsLoadedScript};
 
 use crate::loading::load_step;
 use crate::script_loads::load_all;
 use crate::status::Status;
-use crate::stock::Stock;
+use crate::inputs::PlanInputs;
 use graph_script::{Script, ScriptFault, parse};
 use pw_base::{Files, Items, SCRIPT_BYTES_LIMIT, Text, Which};
 use std::alloc::Global;
 
 /// A script, and what its lines have loaded.
 #[derive(Drop)]
-pub struct Stocked {
+pub struct LoadedScript {
     pub script: Script,
-    pub stock: Stock,
+    pub inputs: PlanInputs,
 }
 
 /// The script of a file, and what its lines load, in order.
-pub fn load_script<F: Files>(alloc: Global, files: &mut F, script: &Text) -> Result<Stocked, Status>
+pub fn load_script<F: Files>(alloc: Global, files: &mut F, script: &Text) -> Result<LoadedScript, Status>
     ensures files { LoadsOnly (F.held files.old) (F.held files.new) (F.load_faults files.old)
         (F.load_faults files.new) (F.store_faults files.old) (F.store_faults files.new) }
     ensures told { Tells (F.held files.old) (λ names. LoadsScript names script.now) result }
-    ensures cause { CommandCause IsStocked (F.load_faults files.old)
+    ensures cause { CommandCause IsLoadedScript (F.load_faults files.old)
         (F.load_faults files.new) result }
 {
     match load_step(
@@ -50,12 +50,12 @@ pub fn load_script<F: Files>(alloc: Global, files: &mut F, script: &Text) -> Res
 }
 
 // What the bytes of a script give, with its lines' loads.
-fn load_read<F: Files>(alloc: Global, files: &mut F, bytes: &Items<u8>) -> Result<Stocked, Status>
+fn load_read<F: Files>(alloc: Global, files: &mut F, bytes: &Items<u8>) -> Result<LoadedScript, Status>
     requires small { length bytes.now ≤ script_bytes_limit }
     ensures files { LoadsOnly (F.held files.old) (F.held files.new) (F.load_faults files.old)
         (F.load_faults files.new) (F.store_faults files.old) (F.store_faults files.new) }
     ensures told { Tells (F.held files.old) (λ names. ReadsScript names bytes.now) result }
-    ensures cause { CommandCause IsStocked (F.load_faults files.old)
+    ensures cause { CommandCause IsLoadedScript (F.load_faults files.old)
         (F.load_faults files.new) result }
 {
     match read_script(alloc, bytes) {
@@ -82,18 +82,18 @@ fn read_script(alloc: Global, bytes: &Items<u8>) -> Result<Script, Status>
 }
 
 // A script with its lines' loads.
-fn load_lines_of<F: Files>(alloc: Global, files: &mut F, script: Script) -> Result<Stocked, Status>
+fn load_lines_of<F: Files>(alloc: Global, files: &mut F, script: Script) -> Result<LoadedScript, Status>
     requires ranges { HasRanges script }
     requires kinds { HasKinds script }
     requires order { HasOrder script }
     ensures files { LoadsOnly (F.held files.old) (F.held files.new) (F.load_faults files.old)
         (F.load_faults files.new) (F.store_faults files.old) (F.store_faults files.new) }
-    ensures told { Tells (F.held files.old) (λ names. LoadsStock names script) result }
-    ensures cause { CommandCause IsStocked (F.load_faults files.old)
+    ensures told { Tells (F.held files.old) (λ names. LoadsInputs names script) result }
+    ensures cause { CommandCause IsLoadedScript (F.load_faults files.old)
         (F.load_faults files.new) result }
 {
     match load_all(alloc, files, script.lines.as_slice()) {
         Err(status) => Err(status),
-        Ok(stock) => Ok(Stocked { script, stock }),
+        Ok(inputs) => Ok(LoadedScript { script, inputs }),
     }
 }

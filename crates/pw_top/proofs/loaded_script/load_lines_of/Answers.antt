@@ -9,10 +9,10 @@ use Rattle.graph_plan.specs.Conditions.{AreLinesOf}
 use Rattle.graph_plan.proofs.ScriptLemmas.{lines_are, named_are}
 use Rattle.pw_top.specs.working.Ending.{Ends}
 use Rattle.pw_top.specs.Loads.{LoadsAll}
-use Rattle.pw_top.specs.ScriptFile.{KeepsStock}
-use Rattle.pw_top.specs.Stocking.{nothing_loaded, IsStockOf}
+use Rattle.pw_top.specs.ScriptFile.{KeepsInputs}
+use Rattle.pw_top.specs.PlanInputs.{nothing_loaded, AreInputsOf}
 use Rattle.pw_top.proofs.AllowedLemmas.{binds_goes, binds_stops, part_gives}
-use Rattle.pw_top.proofs.stocked.load_lines_of.Goals as goal
+use Rattle.pw_top.proofs.loaded_script.load_lines_of.Goals as goal
 
 pub load_all-requires : goal.load_all-requires
 load_all-requires g c =
@@ -31,16 +31,16 @@ returns-in-Ok-clause-cause g c = record {
   ranges = c.requires.ranges;
   kinds = c.requires.kinds;
   order = c.requires.order;
-  stock = subst (λ (ls : List Line). IsStockOf ls c.in-Ok.stock) c.as_slice.ensures c.in-Ok.ensures.cause;
+  inputs = subst (λ (ls : List Line). AreInputsOf ls c.in-Ok.inputs) c.as_slice.ensures c.in-Ok.ensures.cause;
 }
 
 pub returns-in-Ok-clause-told : goal.returns-in-Ok-clause-told
 returns-in-Ok-clause-told g c = λ h. let names = names_in (g.F.Files.held c.args.files.now) in
-    binds_goes (LoadsAll names c.args.script.lines nothing_loaded) (KeepsStock c.args.script) c.in-Ok.stock _
-    (subst (λ (ls : List Line). Ends (LoadsAll names ls nothing_loaded) (Ok c.in-Ok.stock)) c.as_slice.ensures (c.in-Ok.ensures.told h))
+    binds_goes (LoadsAll names c.args.script.lines nothing_loaded) (KeepsInputs c.args.script) c.in-Ok.inputs _
+    (subst (λ (ls : List Line). Ends (LoadsAll names ls nothing_loaded) (Ok c.in-Ok.inputs)) c.as_slice.ensures (c.in-Ok.ensures.told h))
     (part_gives [] _ _ refl)
 
 pub returns-in-Err-clause-told : goal.returns-in-Err-clause-told
 returns-in-Err-clause-told g c = λ h. let names = names_in (g.F.Files.held c.args.files.now) in
-    binds_stops (LoadsAll names c.args.script.lines nothing_loaded) (KeepsStock c.args.script) c.in-Err.status
+    binds_stops (LoadsAll names c.args.script.lines nothing_loaded) (KeepsInputs c.args.script) c.in-Err.status
     (subst (λ (ls : List Line). Ends (LoadsAll names ls nothing_loaded) (Err c.in-Err.status)) c.as_slice.ensures (c.in-Err.ensures.told h))

@@ -7,7 +7,7 @@ use wav_files::WavIn;
 /// The nodes that lines have made, with what their ports offer, and the waves of their sources,
 /// which came from files of `used` bytes together.
 #[derive(Drop)]
-pub struct Stock {
+pub struct PlanInputs {
     pub ports: Ports,
     pub waves: Items<WavIn>,
     pub used: u64,

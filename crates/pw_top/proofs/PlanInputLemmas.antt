@@ -1,4 +1,4 @@
--- A stock stays sound through each line.
+-- Inputs stay sound through each line.
 use Rattle.std.proofs.Common.{◌≡◌, inl, inr, ℕ, ◌+◌, ◌<◌, ◌≤◌, ◌==◌, Bool, true, false, cond, List, [], ◌∷◌, ◌++◌, length, get_or, map}
 use Rattle.std.proofs.Common.{Option, Some, None, refl, sym, ap, ◌∙◌, subst, arith, rules}
 use Rattle.std.specs.Prelude.{slice_get, IfSome, option_map, count_by}
@@ -32,8 +32,8 @@ use Rattle.port_model.proofs.OfferLemmas.{nodes_added}
 use Rattle.graph_plan.specs.Conditions.{IsWaveFor, HaveWaves}
 use Rattle.graph_plan.proofs.ListLemmas.{map_changed}
 use Rattle.graph_plan.proofs.PlaceLemmas.{left, at_end, parted}
-use Rattle.pw_top.specs.declared.stock.Stock.{Stock}
-use Rattle.pw_top.specs.Stocking.{with_wave, with_plain, IsSoundStock, IsStockAfter}
+use Rattle.pw_top.specs.declared.inputs.PlanInputs.{PlanInputs}
+use Rattle.pw_top.specs.PlanInputs.{with_wave, with_plain, AreSoundInputs, AreInputsAfter}
 use Rattle.pw_top.proofs.NarrowLemmas.{value_narrowed, kind_narrowed}
 
 -- counts of a list with one thing more, and of none
@@ -137,91 +137,91 @@ no_more : {X : Type 0} (xs : List X) → xs ≡ xs ++ []
 no_more [] = refl
 no_more (x ∷ xs) = ap (λ ys. x ∷ ys) (no_more xs)
 
-pub plain_sound : (stock : Stock) (made : Option Kind) → IsSoundStock stock
-    → IfSome made (λ kind. (length stock.ports < 63) × IsInRange kind × HasFileNumbers kind 0 0)
-    → IsStockAfter stock made (with_plain stock made)
-plain_sound stock None sound may = record { sound = sound; kinds = no_more (map (λ (n : Node). n.kind) stock.ports) }
-plain_sound stock (Some kind) sound may = record {
+pub plain_sound : (inputs : PlanInputs) (made : Option Kind) → AreSoundInputs inputs
+    → IfSome made (λ kind. (length inputs.ports < 63) × IsInRange kind × HasFileNumbers kind 0 0)
+    → AreInputsAfter inputs made (with_plain inputs made)
+plain_sound inputs None sound may = record { sound = sound; kinds = no_more (map (λ (n : Node). n.kind) inputs.ports) }
+plain_sound inputs (Some kind) sound may = record {
   sound = record {
-    ports = nodes_added stock.ports kind 0 0 sound.ports may.0 may.1 may.2;
-    unused = All-push HasUnused stock.ports (new_node kind 0 0) sound.unused (unused_new kind 0 0);
-    waves = waves_plain stock.ports (new_node kind 0 0) stock.waves (not_source kind may.2) sound.waves;
+    ports = nodes_added inputs.ports kind 0 0 sound.ports may.0 may.1 may.2;
+    unused = All-push HasUnused inputs.ports (new_node kind 0 0) sound.unused (unused_new kind 0 0);
+    waves = waves_plain inputs.ports (new_node kind 0 0) inputs.waves (not_source kind may.2) sound.waves;
     used = sound.used;
   };
-  kinds = kinds_more stock.ports (new_node kind 0 0);
+  kinds = kinds_more inputs.ports (new_node kind 0 0);
 }
 
 -- the node of a source
 abbrev source_of : Wav → Node
 source_of wav = new_node K.Source wav.rate wav.channels
 
-pub wave_sound : (stock : Stock) (node size : ℕ) (wav : Wav) → IsSoundStock stock → node ≡ length stock.ports → length stock.ports < 63
-    → IsWave wav → stock.used + size ≤ all_wav_bytes_limit → IsStockAfter stock (Some K.Source) (with_wave stock node size wav)
-wave_sound stock node size wav sound place room wave small = record {
+pub wave_sound : (inputs : PlanInputs) (node size : ℕ) (wav : Wav) → AreSoundInputs inputs → node ≡ length inputs.ports → length inputs.ports < 63
+    → IsWave wav → inputs.used + size ≤ all_wav_bytes_limit → AreInputsAfter inputs (Some K.Source) (with_wave inputs node size wav)
+wave_sound inputs node size wav sound place room wave small = record {
   sound = record {
-    ports = nodes_added stock.ports K.Source wav.rate wav.channels sound.ports room tt (wave.rate, wave.channels);
-    unused = All-push HasUnused stock.ports (source_of wav) sound.unused (unused_new K.Source wav.rate wav.channels);
-    waves = waves_source stock.ports (source_of wav) stock.waves (record { node = node; wav = wav }) place (record {
+    ports = nodes_added inputs.ports K.Source wav.rate wav.channels sound.ports room tt (wave.rate, wave.channels);
+    unused = All-push HasUnused inputs.ports (source_of wav) sound.unused (unused_new K.Source wav.rate wav.channels);
+    waves = waves_source inputs.ports (source_of wav) inputs.waves (record { node = node; wav = wav }) place (record {
       source = ap (option_map (λ (m : Node). m.kind)) here;
       rate = at (λ (m : Node) s. value_at s.own.fields 65539 ≡ Some (int_of wav.rate)) refl;
       channels = at (λ (m : Node) s. value_at s.own.fields 65540 ≡ Some (int_of wav.channels)) refl;
     }) sound.waves;
     used = small;
   };
-  kinds = kinds_more stock.ports (source_of wav);
+  kinds = kinds_more inputs.ports (source_of wav);
 } where
-  here : slice_get (stock.ports ++ (source_of wav) ∷ []) node ≡ Some (source_of wav)
-  here = ap (slice_get (stock.ports ++ (source_of wav) ∷ [])) place ∙ at_end stock.ports (source_of wav)
+  here : slice_get (inputs.ports ++ (source_of wav) ∷ []) node ≡ Some (source_of wav)
+  here = ap (slice_get (inputs.ports ++ (source_of wav) ∷ [])) place ∙ at_end inputs.ports (source_of wav)
 
   at : (P : Node → PortState → Type 0) → P (source_of wav) (new_port K.Source wav.rate wav.channels 0)
-      → AtPort (stock.ports ++ (source_of wav) ∷ []) (record { node = node; port = 0 }) P
+      → AtPort (inputs.ports ++ (source_of wav) ∷ []) (record { node = node; port = 0 }) P
   at P h = subst (λ (o : Option Node). IfSome o (λ (n : Node). IfSome (slice_get n.ports 0) (P n))) (sym here) h
 
 -- a narrowed port
-module _ (stock : Stock) (port : PortId) (n : Node) (s : PortState) (file c : Format) (at_node : slice_get stock.ports port.node ≡ Some n)
+module _ (inputs : PlanInputs) (port : PortId) (n : Node) (s : PortState) (file c : Format) (at_node : slice_get inputs.ports port.node ≡ Some n)
     (at_state : slice_get n.ports port.port ≡ Some s) (free : IsUnformatted n) (filters : Filters s.own file (Common c))
-    (sound : IsSoundStock stock) where
+    (sound : AreSoundInputs inputs) where
   abbrev later : List Node
-  later = with_port stock.ports port (offering c)
+  later = with_port inputs.ports port (offering c)
 
-  wave_stays : (w : WavIn) → IsWaveFor stock.ports w → IsWaveFor later w
+  wave_stays : (w : WavIn) → IsWaveFor inputs.ports w → IsWaveFor later w
   wave_stays w h = record {
-    source = kind_narrowed stock.ports port n s file c at_node at_state filters w.node ∙ h.source;
-    rate = value_narrowed stock.ports port n s file c at_node at_state filters (record { node = w.node; port = 0 }) 65539 _ h.rate;
-    channels = value_narrowed stock.ports port n s file c at_node at_state filters (record { node = w.node; port = 0 }) 65540 _ h.channels;
+    source = kind_narrowed inputs.ports port n s file c at_node at_state filters w.node ∙ h.source;
+    rate = value_narrowed inputs.ports port n s file c at_node at_state filters (record { node = w.node; port = 0 }) 65539 _ h.rate;
+    channels = value_narrowed inputs.ports port n s file c at_node at_state filters (record { node = w.node; port = 0 }) 65540 _ h.channels;
   }
 
-  pub narrowed_sound : IsStockAfter stock None (record stock { ports = later })
+  pub narrowed_sound : AreInputsAfter inputs None (record inputs { ports = later })
   narrowed_sound = record {
     sound = record {
-      ports = nodes_narrowed stock.ports port n s file c sound.ports at_node at_state free filters;
-      unused = All-changed HasUnused stock.ports port.node (λ node. record node { ports = changed node.ports port.port (offering c) }) sound.unused
+      ports = nodes_narrowed inputs.ports port n s file c sound.ports at_node at_state free filters;
+      unused = All-changed HasUnused inputs.ports port.node (λ node. record node { ports = changed node.ports port.port (offering c) }) sound.unused
           (λ node e h. All-changed IsUnused node.ports port.port (offering c) h (λ t d u. u));
       waves = record {
-        each = All-weaker (IsWaveFor stock.ports) (IsWaveFor later) wave_stays stock.waves sound.waves.each;
-        one = λ k is. sound.waves.one k (sym (kind_narrowed stock.ports port n s file c at_node at_state filters k) ∙ is);
+        each = All-weaker (IsWaveFor inputs.ports) (IsWaveFor later) wave_stays inputs.waves sound.waves.each;
+        one = λ k is. sound.waves.one k (sym (kind_narrowed inputs.ports port n s file c at_node at_state filters k) ∙ is);
       };
       used = sound.used;
     };
-    kinds = map_changed (λ (m : Node). m.kind) stock.ports port.node (λ node. record node { ports = changed node.ports port.port (offering c) })
-        (λ node. refl) ∙ no_more (map (λ (m : Node). m.kind) stock.ports);
+    kinds = map_changed (λ (m : Node). m.kind) inputs.ports port.node (λ node. record node { ports = changed node.ports port.port (offering c) })
+        (λ node. refl) ∙ no_more (map (λ (m : Node). m.kind) inputs.ports);
   }
 
 pub nowhere : Node
 nowhere = record { kind = K.Source; ports = [] }
 
-pub narrow_done : (stock : Stock) (port : PortId) (file : Format) (after : List Node) → IsSoundStock stock → IsPort stock.ports port
-    → Narrows stock.ports port file Done after → IsStockAfter stock None (record stock { ports = after })
-narrow_done stock port file after sound is h =
-    let place = has_place stock.ports port sound.ports is in
-    let n = get_or stock.ports port.node nowhere in
-    let at_node = slice_get-get_or stock.ports port.node nowhere place.0 in
+pub narrow_done : (inputs : PlanInputs) (port : PortId) (file : Format) (after : List Node) → AreSoundInputs inputs → IsPort inputs.ports port
+    → Narrows inputs.ports port file Done after → AreInputsAfter inputs None (record inputs { ports = after })
+narrow_done inputs port file after sound is h =
+    let place = has_place inputs.ports port sound.ports is in
+    let n = get_or inputs.ports port.node nowhere in
+    let at_node = slice_get-get_or inputs.ports port.node nowhere place.0 in
     let s = get_or n.ports port.port (new_port K.Source 0 0 0) in
     let at_state = slice_get-get_or n.ports port.port (new_port K.Source 0 0 0) (place.1 n at_node) in
-    let w = at_port (λ node t. (own : Format) × Filters t.own file (Common own) × (after ≡ with_port stock.ports port (offering own)))
-    stock.ports port n s at_node at_state h in
+    let w = at_port (λ node t. (own : Format) × Filters t.own file (Common own) × (after ≡ with_port inputs.ports port (offering own)))
+    inputs.ports port n s at_node at_state h in
     let free : IsUnformatted n = All-weaker (λ (t : PortState). (t.format ≡ None) × (t.buffers ≡ None)) (λ (t : PortState). t.format ≡ None)
-    (λ t u. u.0) n.ports (at_place (λ (m : Node). All (λ (t : PortState). (t.format ≡ None) × (t.buffers ≡ None)) m.ports) stock.ports port.node n
+    (λ t u. u.0) n.ports (at_place (λ (m : Node). All (λ (t : PortState). (t.format ≡ None) × (t.buffers ≡ None)) m.ports) inputs.ports port.node n
     sound.unused at_node) in
-    subst (λ (ls : List Node). IsStockAfter stock None (record stock { ports = ls })) (sym w.2)
-    (narrowed_sound stock port n s file w.0 at_node at_state free w.1 sound)
+    subst (λ (ls : List Node). AreInputsAfter inputs None (record inputs { ports = ls })) (sym w.2)
+    (narrowed_sound inputs port n s file w.0 at_node at_state free w.1 sound)
