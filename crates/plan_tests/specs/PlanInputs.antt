@@ -1,5 +1,5 @@
--- The inputs of a plan: the nodes of a script with what their ports offer, and a wave for each of its sources.
--- Source: this project's own.
+-- The inputs of a plan: the nodes of a script with what their ports offer, and a wave for each of
+-- its sources. Source: this project's own.
 use Rattle.std.specs.Prelude.{◌≡◌, ◌+◌, ◌<◌, List, [], ◌∷◌, ◌++◌, map, Option, None, All, length}
 use Rattle.std.specs.Prelude.{option_map, option_to_list}
 use Rattle.pw_base.specs.declared.kind.Kind.{Kind}
@@ -27,7 +27,8 @@ with_source inputs wav = record {
 }
 
 abbrev pub with_plain : PlanInputs → Kind → PlanInputs
-with_plain inputs kind = record inputs { count = inputs.count + 1; ports = inputs.ports ++ new_node kind 0 0 ∷ [] }
+with_plain inputs kind =
+    record inputs { count = inputs.count + 1; ports = inputs.ports ++ new_node kind 0 0 ∷ [] }
 
 -- there is room for a node of this kind, and its numbers are in range
 abbrev pub HasRoom : PlanInputs → Kind → Type 0
@@ -41,7 +42,8 @@ pub record AreSoundInputs (inputs : PlanInputs) : Type 0 where
   pub waves : HaveWaves inputs.ports inputs.waves
 
 -- sound after a line too, with the node that it made behind the others
-pub record AreInputsAfter (inputs : PlanInputs) (made : Option Kind) (after : PlanInputs) : Type 0 where
+pub record AreInputsAfter (inputs : PlanInputs) (made : Option Kind) (after : PlanInputs)
+    : Type 0 where
   pub sound : AreSoundInputs after
   pub kinds : map (λ n. n.kind) after.ports ≡ map (λ n. n.kind) inputs.ports ++ option_to_list made
 

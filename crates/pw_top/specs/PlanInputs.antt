@@ -1,5 +1,6 @@
--- The inputs of a plan: the nodes that the lines of a script have made so far, with what their ports offer, and
--- the waves of their sources. Source: this project's script grammar.
+-- The inputs of a plan: the nodes that the lines of a script have made so far, with what their
+-- ports offer, and the waves of their sources.
+-- Source: this project's own grammar, docs/FORMATS.md.
 use Rattle.std.specs.Prelude.{◌≡◌, ℕ, ◌+◌, ◌<◌, ◌≤◌, List, [], ◌∷◌, ◌++◌, map, Option, Some, None, All, length, IfSome, option_map, option_to_list}
 use Rattle.pw_base.specs.declared.kind.Kind.{Kind}
 use Rattle.pw_base.specs.declared.kind.Kind.TheVariants as K
@@ -58,7 +59,8 @@ pub record AreSoundInputs (inputs : PlanInputs) : Type 0 where
   pub used : inputs.used ≤ all_wav_bytes_limit
 
 -- sound after a line too, with the node that it made behind the others
-pub record AreInputsAfter (inputs : PlanInputs) (made : Option Kind) (after : PlanInputs) : Type 0 where
+pub record AreInputsAfter (inputs : PlanInputs) (made : Option Kind) (after : PlanInputs)
+    : Type 0 where
   pub sound : AreSoundInputs after
   pub kinds : map (λ n. n.kind) after.ports
       ≡ map (λ n. n.kind) inputs.ports ++ option_to_list made
