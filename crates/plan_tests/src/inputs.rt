@@ -107,7 +107,12 @@ fn plain_more(inputs: PlanInputs, kind: &Kind) -> Result<PlanInputs, Memory>
 }
 
 // A node more.
-fn node_more(alloc: Global, inputs: PlanInputs, kind: &Kind, sources: &[Silence]) -> Result<PlanInputs, Memory>
+fn node_more(
+    alloc: Global,
+    inputs: PlanInputs,
+    kind: &Kind,
+    sources: &[Silence],
+) -> Result<PlanInputs, Memory>
     requires sound { AreSoundInputs inputs }
     requires room { HasRoom inputs kind.now }
     ensures { IfOk result (AreInputsAfter inputs (Some kind.now)) }

@@ -12,6 +12,7 @@ mod drains;
 mod epochs;
 #[cfg(test)]
 mod fresh;
+mod inputs;
 #[cfg(test)]
 mod limits;
 #[cfg(test)]
@@ -21,9 +22,8 @@ mod plans;
 #[cfg(test)]
 mod showing;
 mod silence;
-mod inputs;
 mod texts;
 
-pub use silence::Silence;
 pub use inputs::{PlanInputs, inputs_of};
+pub use silence::Silence;
 pub use texts::{TextFault, parts_text, plan_text, plans_text};

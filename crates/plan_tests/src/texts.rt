@@ -5,8 +5,8 @@ ghost use Rattle.graph_script.specs.Kinds.{HasKinds};
 ghost use Rattle.graph_script.specs.Order.{HasOrder};
 ghost use Rattle.graph_script.specs.Ranges.{HasRanges};
 
-use crate::silence::Silence;
 use crate::inputs::{PlanInputs, inputs_of};
+use crate::silence::Silence;
 use graph_plan::{PlanFault, part_nodes, parts, plan};
 use graph_script::{Script, parse};
 use pw_base::{Items, Memory, Parts, Plan, SCRIPT_BYTES_LIMIT};

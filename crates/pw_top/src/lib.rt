@@ -4,7 +4,9 @@
 mod commands;
 mod delivering;
 mod format_file;
+mod inputs;
 mod joined;
+mod loaded_script;
 mod loading;
 mod loads;
 mod one_answer;
@@ -21,8 +23,6 @@ mod preparing;
 mod script_loads;
 mod status;
 mod status_line;
-mod inputs;
-mod loaded_script;
 mod surely;
 mod top;
 mod usage;

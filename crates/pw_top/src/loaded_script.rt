@@ -13,10 +13,10 @@ ghost use Rattle.pw_top.specs.working.Preparing.{LoadsOnly, Tells};
 ghost use Rattle.pw_top.specs.Refusals.{script_outcome};
 ghost use Rattle.pw_top.specs.ScriptFile.{LoadsInputs, ReadsScript, LoadsScript, IsLoadedScript};
 
+use crate::inputs::PlanInputs;
 use crate::loading::load_step;
 use crate::script_loads::load_all;
 use crate::status::Status;
-use crate::inputs::PlanInputs;
 use graph_script::{Script, ScriptFault, parse};
 use pw_base::{Files, Items, SCRIPT_BYTES_LIMIT, Text, Which};
 use std::alloc::Global;
@@ -29,7 +29,11 @@ pub struct LoadedScript {
 }
 
 /// The script of a file, and what its lines load, in order.
-pub fn load_script<F: Files>(alloc: Global, files: &mut F, script: &Text) -> Result<LoadedScript, Status>
+pub fn load_script<F: Files>(
+    alloc: Global,
+    files: &mut F,
+    script: &Text,
+) -> Result<LoadedScript, Status>
     ensures files { LoadsOnly (F.held files.old) (F.held files.new) (F.load_faults files.old)
         (F.load_faults files.new) (F.store_faults files.old) (F.store_faults files.new) }
     ensures told { Tells (F.held files.old) (λ names. LoadsScript names script.now) result }
@@ -50,7 +54,11 @@ pub fn load_script<F: Files>(alloc: Global, files: &mut F, script: &Text) -> Res
 }
 
 // What the bytes of a script give, with its lines' loads.
-fn load_read<F: Files>(alloc: Global, files: &mut F, bytes: &Items<u8>) -> Result<LoadedScript, Status>
+fn load_read<F: Files>(
+    alloc: Global,
+    files: &mut F,
+    bytes: &Items<u8>,
+) -> Result<LoadedScript, Status>
     requires small { length bytes.now ≤ script_bytes_limit }
     ensures files { LoadsOnly (F.held files.old) (F.held files.new) (F.load_faults files.old)
         (F.load_faults files.new) (F.store_faults files.old) (F.store_faults files.new) }
@@ -82,7 +90,11 @@ fn read_script(alloc: Global, bytes: &Items<u8>) -> Result<Script, Status>
 }
 
 // A script with its lines' loads.
-fn load_lines_of<F: Files>(alloc: Global, files: &mut F, script: Script) -> Result<LoadedScript, Status>
+fn load_lines_of<F: Files>(
+    alloc: Global,
+    files: &mut F,
+    script: Script,
+) -> Result<LoadedScript, Status>
     requires ranges { HasRanges script }
     requires kinds { HasKinds script }
     requires order { HasOrder script }

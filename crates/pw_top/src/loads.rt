@@ -19,10 +19,10 @@ ghost use Rattle.pw_top.specs.Loads.{wav_limit, wav_which, TakesWave, ReadsSourc
 ghost use Rattle.pw_top.specs.Loads.{ReadsOffer, LoadsOffer, LoadsLine};
 
 use crate::format_file::format_step;
+use crate::inputs::PlanInputs;
 use crate::loading::load_step;
 use crate::pod_file::POD_BYTES;
 use crate::status::{PodWhy, Status};
-use crate::inputs::PlanInputs;
 use crate::wave_file::wave_step;
 use format_filter::Format;
 use graph_lines::kind_made;
@@ -145,7 +145,12 @@ fn load_source<F: Files>(
 }
 
 // An `offer` line, once its file is an object.
-fn narrow(place: u32, port: PortId, inputs: PlanInputs, format: &Format) -> Result<PlanInputs, Status>
+fn narrow(
+    place: u32,
+    port: PortId,
+    inputs: PlanInputs,
+    format: &Format,
+) -> Result<PlanInputs, Status>
     requires sound { AreSoundInputs inputs }
     requires port { IsPort inputs.ports port }
     requires format { IsSoundFormat format.now }

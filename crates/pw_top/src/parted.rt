@@ -10,9 +10,9 @@ ghost use Rattle.pw_top.specs.Groups.{PartsInputs, PartsFile, CanBeGrouped};
 ghost use Rattle.pw_top.specs.working.Preparing.{LoadsOnly, Tells};
 ghost use Rattle.pw_top.specs.PlanInputs.{AreInputsOf};
 
-use crate::status::Status;
 use crate::inputs::PlanInputs;
 use crate::loaded_script::{LoadedScript, load_script};
+use crate::status::Status;
 use graph_plan::{PlanFault, parts};
 use graph_script::Script;
 use pw_base::{Files, Items, Parts, Text};

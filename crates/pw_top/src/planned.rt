@@ -13,9 +13,9 @@ ghost use Rattle.pw_top.specs.ScriptFile.{PlansFile};
 ghost use Rattle.pw_top.specs.PlanInputs.{AreInputsOf};
 ghost use Rattle.pw_top.specs.PlannedWork.{PlansPorts, PlansInputs, IsPlayable};
 
-use crate::status::Status;
 use crate::inputs::PlanInputs;
 use crate::loaded_script::{LoadedScript, load_script};
+use crate::status::Status;
 use graph_plan::{PlanFault, plan};
 use graph_script::Script;
 use port_model::Ports;

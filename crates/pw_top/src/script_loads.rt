@@ -11,9 +11,9 @@ ghost use Rattle.pw_top.specs.working.Preparing.{LoadsOnly, Tells};
 ghost use Rattle.pw_top.specs.PlanInputs.{nothing_loaded, AreInputsOf};
 ghost use Rattle.pw_top.specs.Loads.{LoadsAll};
 
+use crate::inputs::PlanInputs;
 use crate::loads::load_line;
 use crate::status::Status;
-use crate::inputs::PlanInputs;
 use graph_script::Line;
 use port_model::Ports;
 use pw_base::{Files, Items};
@@ -48,7 +48,11 @@ fn load_lines<F: Files>(
 }
 
 /// What the lines of a script load, in order, up to the first that is refused or fails.
-pub fn load_all<F: Files>(alloc: Global, files: &mut F, lines: &[Line]) -> Result<PlanInputs, Status>
+pub fn load_all<F: Files>(
+    alloc: Global,
+    files: &mut F,
+    lines: &[Line],
+) -> Result<PlanInputs, Status>
     requires lines { AreLinesOf (kinds_of lines.now) lines.now }
     requires made { NamesMade 0 lines.now }
     requires few { length (kinds_of lines.now) ≤ nodes_limit }
