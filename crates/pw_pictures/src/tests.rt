@@ -76,9 +76,42 @@ fn a_graph_shows_each_kind_and_link(rt: HostRuntime) -> Result<(), Fail> {
         \x20 n1 [style=solid];\n\
         \x20 n5 [style=dotted];\n\
         \x20 label=\"dashed: one end is async\\lgrey: a later line unlinks it\\l\
+        dotted and grey: the run refused it, and why\\l\
         frame: may drive, by its priority\\ldotted border: off at the end\\l\";\n\
         }\n";
     expect(&rt, "graph s", script, "", Status::Ok, wanted)?;
+    Ok(())
+}
+
+#[test]
+fn a_link_that_the_run_refused_is_grey_and_says_why(rt: HostRuntime) -> Result<(), Fail> {
+    let script = "quantum 4\nsquare a 48000 1 4 9\nsquare b 44100 1 4 9\nmix2 m 256 256\nsink o o.wav\n\
+        driver o 1\nlink a.out m.a\nlink b.out m.b\nlink m.out o.in\nlink m.out o.in\nlink m.out m.b\n\
+        unlink m.out o.in\nlink m.out o.in\ncycles 2\n";
+    let run = "link a.out m.a 48000 1 2\nnolink b.out m.b 65539\nlink m.out o.in 48000 1 2\n\
+        nolink m.out o.in twice\nnolink m.out m.b loop\nunlink m.out o.in\nbegin 0\nend 0\nwrote o 8\n";
+    let wanted = "digraph pipegraph {\n  rankdir=LR; ranksep=0.7; nodesep=0.4;\n\
+        \x20 fontname=\"sans-serif\"; fontsize=11;\n\
+        \x20 node [shape=record, fontname=\"sans-serif\", fontsize=12];\n\
+        \x20 edge [arrowsize=0.7];\n\
+        \x20 n0 [label=\"{a\\nsquare 48000 1 4 9|{<p0> out}}\"];\n\
+        \x20 n1 [label=\"{b\\nsquare 44100 1 4 9|{<p0> out}}\"];\n\
+        \x20 n2 [label=\"{{<p0> a|<p1> b}|m\\nmix2 256 256|{<p2> out}}\"];\n\
+        \x20 n3 [label=\"{{<p0> in}|o\\nsink o.wav}\"];\n\
+        \x20 subgraph cluster_3 { label=\"driver 1\"; n3; }\n\
+        \x20 n0:p0:e -> n2:p0:w;\n\
+        \x20 n1:p0:e -> n2:p1:w [style=dotted, color=gray, fontcolor=gray, fontsize=10, label=\"no common rate\"];\n\
+        \x20 n2:p2:e -> n3:p0:w [color=gray];\n\
+        \x20 n2:p2:e -> n3:p0:w [style=dotted, color=gray, fontcolor=gray, fontsize=10, label=\"twice\"];\n\
+        \x20 n2:p2:e -> n2:p1:w [style=dotted, color=gray, fontcolor=gray, fontsize=10, label=\"loop\"];\n\
+        \x20 n2:p2:e -> n3:p0:w;\n\
+        \x20 label=\"dashed: one end is async\\lgrey: a later line unlinks it\\l\
+        dotted and grey: the run refused it, and why\\l\
+        frame: may drive, by its priority\\ldotted border: off at the end\\l\";\n\
+        }\n";
+    expect(&rt, "graph s t", script, run, Status::Ok, wanted)?;
+    let bad = Status::Line { number: 2 };
+    expect(&rt, "graph s t", script, "wrote o 8\nend\n", bad, "line 2\n")?;
     Ok(())
 }
 
@@ -329,7 +362,7 @@ fn a_refusal_has_a_sentence_for_people(rt: HostRuntime) -> Result<(), Fail> {
         (
             "draw s",
             Status::Usage { word: 0 },
-            "usage: pipegraph-pictures graph SCRIPT | timeline SCRIPT TRACE | wave FILE\n",
+            "usage: pipegraph-pictures graph SCRIPT [TRACE] | timeline SCRIPT TRACE | wave FILE\n",
         ),
         (
             "graph s",
@@ -392,7 +425,8 @@ fn words_and_files_are_refused_by_cause(rt: HostRuntime) -> Result<(), Fail> {
         ("run s", usage(0), "usage 0\n"),
         ("graph", usage(1), "usage 1\n"),
         ("graph -s", usage(1), "usage 1\n"),
-        ("graph s t", usage(2), "usage 2\n"),
+        ("graph s -t", usage(2), "usage 2\n"),
+        ("graph s t u", usage(3), "usage 3\n"),
         ("timeline", usage(1), "usage 1\n"),
         ("timeline s", usage(2), "usage 2\n"),
         ("timeline s -t", usage(2), "usage 2\n"),
@@ -401,6 +435,11 @@ fn words_and_files_are_refused_by_cause(rt: HostRuntime) -> Result<(), Fail> {
         ("wave -s", usage(1), "usage 1\n"),
         ("wave s t", usage(2), "usage 2\n"),
         ("graph u", Status::Absent { place: 0 }, "absent 0\n"),
+        (
+            "graph s u",
+            Status::Absent { place: 4294967295 },
+            "absent 4294967295\n",
+        ),
         ("wave u", Status::Absent { place: 1 }, "absent 1\n"),
         (
             "timeline s u",
