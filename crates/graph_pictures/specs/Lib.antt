@@ -17,7 +17,7 @@ pub mod TimelineText
 pub mod TraceAnswers
 pub mod TraceText
 pub mod Words
-pub mod Working
+pub mod AtWork
 pub mod WaveColumns
 pub mod WaveLanes
 pub mod WaveReading
