@@ -158,7 +158,11 @@ fn put_legend(text: &mut Text) -> Result<(), Memory>
         b"  label=\"dashed: one end is async\\lgrey: a later line unlinks it\\l",
         &[],
     )?;
-    fill(text, b"dotted and grey: the run refused it, and why\\l", &[])?;
+    fill(
+        text,
+        b"dotted and grey: the run refused it, and why\\l",
+        &[],
+    )?;
     fill(
         text,
         b"frame: may drive, by its priority\\ldotted border: off at the end\\l\";\n",

@@ -85,7 +85,8 @@ fn a_graph_shows_each_kind_and_link(rt: HostRuntime) -> Result<(), Fail> {
 
 #[test]
 fn a_link_that_the_run_refused_is_grey_and_says_why(rt: HostRuntime) -> Result<(), Fail> {
-    let script = "quantum 4\nsquare a 48000 1 4 9\nsquare b 44100 1 4 9\nmix2 m 256 256\nsink o o.wav\n\
+    let script =
+        "quantum 4\nsquare a 48000 1 4 9\nsquare b 44100 1 4 9\nmix2 m 256 256\nsink o o.wav\n\
         driver o 1\nlink a.out m.a\nlink b.out m.b\nlink m.out o.in\nlink m.out o.in\nlink m.out m.b\n\
         unlink m.out o.in\nlink m.out o.in\ncycles 2\n";
     let run = "link a.out m.a 48000 1 2\nnolink b.out m.b 65539\nlink m.out o.in 48000 1 2\n\
@@ -111,7 +112,14 @@ fn a_link_that_the_run_refused_is_grey_and_says_why(rt: HostRuntime) -> Result<(
         }\n";
     expect(&rt, "graph s t", script, run, Status::Ok, wanted)?;
     let bad = Status::Line { number: 2 };
-    expect(&rt, "graph s t", script, "wrote o 8\nend\n", bad, "line 2\n")?;
+    expect(
+        &rt,
+        "graph s t",
+        script,
+        "wrote o 8\nend\n",
+        bad,
+        "line 2\n",
+    )?;
     Ok(())
 }
 
