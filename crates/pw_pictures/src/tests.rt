@@ -341,6 +341,37 @@ fn a_wave_without_frames_has_an_empty_lane(rt: HostRuntime) -> Result<(), Fail> 
 }
 
 #[test]
+fn a_column_of_two_frames_goes_from_the_greater_to_the_less(rt: HostRuntime) -> Result<(), Fail> {
+    let alloc = rt.alloc();
+    let mut bytes = Items::from_slice(
+        alloc,
+        b"RIFF\xf6\x07\0\0WAVEfmt \x10\0\0\0\x01\0\x01\0\xe8\x03\0\0\xd0\x07\0\0\x02\0\x10\0data\xd2\x07\0\0",
+    )?;
+    for _ in 0..999 {
+        bytes.extend(b"\0\0")?;
+    }
+    bytes.extend(b"\0\x40\0\xff")?;
+    let mut files = SureFiles::new(alloc)?;
+    files.add_file(alloc, &text(alloc, "w")?, bytes.as_slice())?;
+    let mut out = SureSink::new(alloc)?;
+    let words = words_of(alloc, "wave w")?;
+    let ended = print_picture(alloc, words.as_slice(), &mut files, &mut out);
+    assert!(rt; ended == Status::Ok);
+    let wanted = b"<path d='M998 127h1v1h-1z'/>\n\
+        <path d='M999 63h1v66h-1z'/>\n\
+        </g>\n\
+        <path class='t' d='M48 72V328'/><text class='m' x='48' y='346'>0.000</text>\n\
+        <path class='t' d='M247 72V328'/><text class='m' x='247' y='346'>0.200</text>\n\
+        <path class='t' d='M447 72V328'/><text class='m' x='447' y='346'>0.400</text>\n\
+        <path class='t' d='M647 72V328'/><text class='m' x='647' y='346'>0.600</text>\n\
+        <path class='t' d='M847 72V328'/><text class='m' x='847' y='346'>0.800</text>\n\
+        <path class='t' d='M1047 72V328'/><text class='m' x='1047' y='346'>1.000</text>\n\
+        </svg>\n";
+    assert!(rt; out.bytes().as_slice().ends_with(wanted));
+    Ok(())
+}
+
+#[test]
 fn a_file_that_is_no_wave_is_refused_by_its_fault(rt: HostRuntime) -> Result<(), Fail> {
     let refused = |why| Status::Wav { place: 1, why };
     expect_wave(&rt, b"", refused(WavFault::NotRiff), b"wav 1 1\n")?;
