@@ -15,7 +15,7 @@ _pipegraph_pictures() {
         *) _pipegraph_pictures_files .graph "$word" ;;
         esac
         ;;
-    3) [[ ${COMP_WORDS[1]} != timeline ]] || _pipegraph_pictures_files "" "$word" ;;
+    3) [[ ${COMP_WORDS[1]} == wave ]] || _pipegraph_pictures_files "" "$word" ;;
     esac
 }
 

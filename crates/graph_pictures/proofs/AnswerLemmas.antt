@@ -16,8 +16,8 @@ use Rattle.graph_pictures.specs.declared.status.Status.{Status}
 use Rattle.graph_pictures.specs.declared.status.Status.TheVariants as S
 use Rattle.graph_pictures.specs.Reading.{IsScript}
 use Rattle.graph_pictures.specs.Words.{request_of, IsRead}
-use Rattle.graph_pictures.specs.Answers.{ReadsTrace, IsTimeline, IsAnswer}
-use Rattle.graph_pictures.specs.Answers.IsTimeline.{told}
+use Rattle.graph_pictures.specs.Answers.{ReadsTrace, IsTracePicture, IsAnswer}
+use Rattle.graph_pictures.specs.Answers.IsTracePicture.{told}
 use Rattle.graph_pictures.specs.Answers.IsAnswer.{usage, short}
 
 -- the names of nodes
@@ -45,12 +45,12 @@ script_names script ranges order = record {
 }
 
 -- a trace that is read after the script, from files that hold the same
-pub trace_after : (held held' : Held) (script trace : List ℕ) (s : Script) (names : List (List ℕ)) (r : Result (List ℕ) Status)
-    → held' ≡ held → names ≡ s.names → IsScript (names_in held script) s → (IsSome held' → ReadsTrace names (names_in held' trace) r)
-    → IsSome held → IsTimeline (names_in held script) (names_in held trace) r
-trace_after held held' script trace s names r same named is read h =
-    told s is (subst (λ (ns : List (List ℕ)). ReadsTrace ns (names_in held trace) r) named
-    (subst (λ (k : Held). IsSome k → ReadsTrace names (names_in k trace) r) same read h))
+pub trace_after : (Draws : Script → List ℕ → Result (List ℕ) Status → Type 0) (held held' : Held) (script trace : List ℕ) (s : Script)
+    (r : Result (List ℕ) Status) → held' ≡ held → IsScript (names_in held script) s
+    → (IsSome held' → ReadsTrace (Draws s) (names_in held' trace) r) → IsSome held
+    → IsTracePicture Draws (names_in held script) (names_in held trace) r
+trace_after Draws held held' script trace s r same is read h =
+    told s is (subst (λ (k : Held). IsSome k → ReadsTrace (Draws s) (names_in k trace) r) same read h)
 
 -- words that are refused
 pub refused_words : (names : Names) (words : List (List ℕ)) (status : Status) → IsRead (request_of words) (Err status)

@@ -1,6 +1,6 @@
 -- The answer to a command line: the picture that it asks for, or why it is refused.
 -- Source: this project's own.
-use Rattle.std.specs.Prelude.{◌≡◌, ◌⊎◌, ℕ, List, Option, Some, Result, Ok, Err}
+use Rattle.std.specs.Prelude.{◌≡◌, ◌⊎◌, ℕ, List, [], Option, Some, Result, Ok, Err}
 use Rattle.pw_base.specs.declared.limit.Which.TheVariants as W
 use Rattle.pw_base.specs.Files.{Names}
 use Rattle.pw_base.specs.Causes.{Rose}
@@ -14,37 +14,41 @@ use Rattle.graph_pictures.specs.GraphText.{graph_text}
 use Rattle.graph_pictures.specs.Reading.{trace_place, trace_bytes_limit, IsUnloaded}
 use Rattle.graph_pictures.specs.Reading.{IsScript, IsNoScript}
 use Rattle.graph_pictures.specs.StatusText.{line_of}
-use Rattle.graph_pictures.specs.TraceAnswers.{DrawsTrace}
+use Rattle.graph_pictures.specs.TraceAnswers.{DrawsTrace, DrawsRun}
 use Rattle.graph_pictures.specs.WaveReading.{IsWavePicture}
 use Rattle.graph_pictures.specs.Words.{request_of}
 
 -- the graph of the script of a file
 abbrev pub IsGraph : Option (List ℕ) → Result (List ℕ) Status → Type 0
 IsGraph stands (Ok text) = (script : Script) × IsScript stands script
-    × (text ≡ graph_text script)
+    × (text ≡ graph_text script [])
 IsGraph stands (Err status) = IsNoScript stands status
 
--- what is printed of a trace, where the nodes have these names
-abbrev pub ReadsTrace : List (List ℕ) → Option (List ℕ) → Result (List ℕ) Status
-    → Type 0
-ReadsTrace names stands (Ok text) = (bytes : List ℕ) × (stands ≡ Some bytes)
-    × DrawsTrace names bytes (Ok text)
-ReadsTrace names stands (Err (S.Line number)) = (bytes : List ℕ) × (stands ≡ Some bytes)
-    × DrawsTrace names bytes (Err (S.Line number))
-ReadsTrace names stands (Err status) =
+-- what is printed of a trace, where its bytes are drawn so
+abbrev pub ReadsTrace : (List ℕ → Result (List ℕ) Status → Type 0) → Option (List ℕ)
+    → Result (List ℕ) Status → Type 0
+ReadsTrace Draws stands (Ok text) = (bytes : List ℕ) × (stands ≡ Some bytes)
+    × Draws bytes (Ok text)
+ReadsTrace Draws stands (Err (S.Line number)) = (bytes : List ℕ) × (stands ≡ Some bytes)
+    × Draws bytes (Err (S.Line number))
+ReadsTrace Draws stands (Err status) =
     IsUnloaded stands trace_place trace_bytes_limit W.TraceBytes status
 
--- the timeline of a trace, by a script: the script is read first
-pub data IsTimeline (script trace : Option (List ℕ)) (r : Result (List ℕ) Status) : Type 0 where
+-- a picture of a trace, by a script: the script is read first
+pub data IsTracePicture (Draws : Script → List ℕ → Result (List ℕ) Status → Type 0)
+    (script trace : Option (List ℕ)) (r : Result (List ℕ) Status) : Type 0 where
   refused : (status : Status) → IsNoScript script status → r ≡ Err status
-      → IsTimeline script trace r
-  told : (s : Script) → IsScript script s → ReadsTrace s.names trace r
-      → IsTimeline script trace r
+      → IsTracePicture Draws script trace r
+  told : (s : Script) → IsScript script s → ReadsTrace (Draws s) trace r
+      → IsTracePicture Draws script trace r
 
 -- the picture of a request, by the files
 abbrev pub IsPicture : Names → Request → Result (List ℕ) Status → Type 0
 IsPicture names (R.Graph script) r = IsGraph (names script) r
-IsPicture names (R.Timeline script trace) r = IsTimeline (names script) (names trace) r
+IsPicture names (R.RunGraph script trace) r =
+    IsTracePicture DrawsRun (names script) (names trace) r
+IsPicture names (R.Timeline script trace) r =
+    IsTracePicture DrawsTrace (names script) (names trace) r
 IsPicture names (R.Wave file) r = IsWavePicture (names file) r
 
 -- THE ANSWER to words; want of memory is free

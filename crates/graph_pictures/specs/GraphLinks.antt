@@ -2,7 +2,7 @@
 -- east and enter from the west.
 -- Source: graphviz.org, "DOT Language", edges with ports and compass points.
 use Rattle.std.specs.Prelude.{ℕ, ◌==◌, ◌&&◌, ◌||◌, Bool, true, false, List, [], ◌∷◌, ◌++◌, codes, nat_lt}
-use Rattle.std.specs.Prelude.{Option, Some, None, filter_map}
+use Rattle.std.specs.Prelude.{Option, Some, None, filter_map, bytes_eq, if◌then◌else◌}
 use Rattle.std.specs.List.{list_any}
 use Rattle.pw_base.specs.declared.ids.PortId.{PortId}
 use Rattle.pw_base.specs.Pools.{is_same_port}
@@ -11,7 +11,10 @@ use Rattle.graph_script.specs.declared.command.Command.TheVariants as C
 use Rattle.graph_script.specs.declared.script.Line.{Line}
 use Rattle.graph_pictures.specs.declared.fates.Cut.{Cut}
 use Rattle.graph_pictures.specs.declared.fates.Fates.{Fates}
+use Rattle.graph_pictures.specs.declared.refusals.Refusal.{Refusal}
+use Rattle.graph_pictures.specs.Escaping.{dot_escaped}
 use Rattle.graph_pictures.specs.Filling.{filled}
+use Rattle.graph_pictures.specs.Refusals.{link_numbers, told_links, refusals, refusal_at}
 
 -- the node of an `async` line
 abbrev pub async_node : Command → Option ℕ
@@ -23,11 +26,13 @@ abbrev pub cut_at : ℕ → Command → Option Cut
 cut_at number (C.Unlink from to) = Some (record { line = number; from = from; to = to })
 cut_at number other = None
 
--- what becomes of links: the nodes at which they are late, and where they are cut
-abbrev pub fates_of : List Line → Fates
-fates_of lines = record {
+-- what becomes of links, by the lines of a script and of its run: the nodes at which they are late,
+-- where they are cut, and which are refused
+abbrev pub fates_of : List Line → List (List ℕ) → Fates
+fates_of lines run = record {
   late = filter_map (λ l. async_node l.command) lines;
   cuts = filter_map (λ l. cut_at l.line l.command) lines;
+  refused = refusals (link_numbers lines) (told_links run);
 }
 
 -- a link hands on what was made one cycle earlier: an `async` line names the node at an end of it
@@ -49,8 +54,24 @@ style_text true false = codes " [style=dashed];\n"
 style_text false true = codes " [color=gray];\n"
 style_text true true = codes " [style=dashed, color=gray];\n"
 
+-- the cause of a refusal: keys of formats by their names
+abbrev pub cause_text : List ℕ → List ℕ
+cause_text cause = if bytes_eq cause (codes "65539") then codes "no common rate"
+    else (if bytes_eq cause (codes "65540") then codes "no common channels"
+    else dot_escaped cause)
+
+-- refused links are grey dots, with their cause
+abbrev pub refused_text : List ℕ → List ℕ
+refused_text cause = codes " [style=dotted, color=gray, fontcolor=gray, fontsize=10, label=\""
+    ++ cause_text cause ++ codes "\"];\n"
+
+abbrev pub ending_text : Fates → ℕ → PortId → PortId → Option Refusal → List ℕ
+ending_text fates number from to (Some refusal) = refused_text refusal.cause
+ending_text fates number from to None =
+    style_text (is_late fates from to) (is_cut fates number from to)
+
 -- THE STATEMENT of the link of a line
 abbrev pub link_text : Fates → ℕ → PortId → PortId → List ℕ
 link_text fates number from to =
     filled (codes "  n%:p%:e -> n%:p%:w") (from.node ∷ from.port ∷ to.node ∷ to.port ∷ [])
-    ++ style_text (is_late fates from to) (is_cut fates number from to)
+    ++ ending_text fates number from to (refusal_at fates.refused number)

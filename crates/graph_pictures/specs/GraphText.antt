@@ -24,6 +24,7 @@ head_text =
 abbrev pub legend_text : List ℕ
 legend_text =
     filled (codes "  label=\"dashed: one end is async\\lgrey: a later line unlinks it\\l") []
+    ++ filled (codes "dotted and grey: the run refused it, and why\\l") []
     ++ filled (codes "frame: may drive, by its priority\\ldotted border: off at the end\\l\";\n") []
 
 -- the statement of a command on the line of this number: a node; a second border and the priority
@@ -43,9 +44,9 @@ statement_text names fates number (C.Off node) =
 statement_text names fates number command =
     option_map_or (λ m. node_text names m.0 command) (made_by command) []
 
--- THE PICTURE of a script
-unfoldable pub graph_text : Script → List ℕ
-graph_text script = head_text
-    ++ flat_map (λ l. statement_text script.names (fates_of script.lines) l.line l.command)
+-- THE PICTURE of a script, and of what its run did, by the lines of that: none where it is not known
+unfoldable pub graph_text : Script → List (List ℕ) → List ℕ
+graph_text script run = head_text
+    ++ flat_map (λ l. statement_text script.names (fates_of script.lines run) l.line l.command)
     script.lines
     ++ legend_text ++ filled (codes "}\n") []

@@ -7,9 +7,9 @@ pub mod GraphLinks
 pub mod GraphNodes
 pub mod GraphText
 pub mod Reading
+pub mod Refusals
 pub mod Rows
 pub mod Sentences
-pub mod Sizes
 pub mod StatusText
 pub mod Strip
 pub mod Timeline
@@ -17,10 +17,10 @@ pub mod TimelineText
 pub mod TraceAnswers
 pub mod TraceText
 pub mod Words
-pub mod Working
+pub mod AtWork
 pub mod WaveColumns
 pub mod WaveLanes
 pub mod WaveReading
-pub mod WaveSizes
 pub mod WaveText
 pub mod WaveTicks
+pub mod working

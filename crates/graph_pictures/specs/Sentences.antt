@@ -42,7 +42,8 @@ bytes_said W.ScriptBytes = codes ": it has more than 1048576 bytes\n"
 bytes_said which = codes ": it has more than 268435456 bytes\n"
 
 abbrev pub usage_said : List ℕ
-usage_said = codes "usage: pipegraph-pictures graph SCRIPT | timeline SCRIPT TRACE | wave FILE\n"
+usage_said = codes
+    "usage: pipegraph-pictures graph SCRIPT [TRACE] | timeline SCRIPT TRACE | wave FILE\n"
 
 -- a sentence about a file
 abbrev pub of_file : List ℕ → List (List ℕ) → ℕ → List ℕ → List ℕ

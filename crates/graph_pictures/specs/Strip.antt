@@ -6,7 +6,7 @@ use Rattle.pw_base.specs.declared.event.Event.{Event}
 use Rattle.pw_base.specs.declared.event.Event.TheVariants.{Begin, Start, Finish, Tick}
 use Rattle.cycle_trace.specs.EventLines.{late_nodes}
 use Rattle.graph_pictures.specs.Filling.{filled}
-use Rattle.graph_pictures.specs.Working.{row_of}
+use Rattle.graph_pictures.specs.AtWork.{row_of}
 
 -- the middle of a row
 abbrev pub middle_of : ℕ → ℕ

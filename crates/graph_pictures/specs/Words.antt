@@ -18,10 +18,15 @@ abbrev pub alone : ℕ → List (List ℕ) → Request → Result Request Status
 alone index [] request = Ok request
 alone index (more ∷ rest) request = Err (S.Usage index)
 
--- the words behind `graph`
+-- the words behind `graph`: a script, and behind it the trace of its run or nothing
+abbrev pub graph_behind : List ℕ → List (List ℕ) → Result Request Status
+graph_behind script [] = Ok (R.Graph script)
+graph_behind script (trace ∷ rest) =
+    if is_file_word trace then alone 3 rest (R.RunGraph script trace) else Err (S.Usage 2)
+
 abbrev pub graph_of : List (List ℕ) → Result Request Status
 graph_of [] = Err (S.Usage 1)
-graph_of (script ∷ rest) = if is_file_word script then alone 2 rest (R.Graph script)
+graph_of (script ∷ rest) = if is_file_word script then graph_behind script rest
     else Err (S.Usage 1)
 
 -- the words behind `timeline`: a script, and a trace behind it

@@ -2,7 +2,7 @@
 ghost use Rattle.std.specs.Prelude.{◌≡◌, ◌≤◌, ◌++◌, length, take, OnOk};
 ghost use Rattle.std.specs.Option.{option_or};
 ghost use Rattle.graph_pictures.specs.Bands.{begun, last_begun, cycle_text, band_parts, band_text, bands_text};
-ghost use Rattle.graph_pictures.specs.Sizes.{AreSizes};
+ghost use Rattle.graph_pictures.specs.working.Sizes.{AreSizes};
 
 use crate::filling::fill;
 use crate::frame::Frame;

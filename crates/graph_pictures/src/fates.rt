@@ -1,7 +1,9 @@
-//! What becomes of links: at which nodes they are late, and where they are cut.
+//! What becomes of links: at which nodes they are late, where they are cut, and which are refused.
 ghost use Rattle.std.specs.Prelude.{◌≡◌, ◌++◌, option_to_list, IfOk, OnOk};
+ghost use Rattle.cycle_trace.specs.TraceReading.{trace_lines};
 ghost use Rattle.graph_pictures.specs.GraphLinks.{async_node, cut_at, fates_of, is_late, cuts_after, is_cut};
 
+use crate::refusals::{Refusal, link_numbers, refusals_of};
 use graph_script::{Command, Line};
 use pw_base::{Items, Memory, PortId, is_same_port};
 use std::alloc::Global;
@@ -14,11 +16,12 @@ pub struct Cut {
     pub to: PortId,
 }
 
-/// The nodes that an `async` line names, and the `unlink` lines.
+/// The nodes that an `async` line names, the `unlink` lines, and the links that a run refused.
 #[derive(Drop)]
 pub struct Fates {
     pub late: Items<u32>,
     pub cuts: Items<Cut>,
+    pub refused: Items<Refusal>,
 }
 
 // The node of an `async` line.
@@ -45,8 +48,8 @@ fn cut_at(number: u32, command: &Command) -> Option<Cut>
     }
 }
 
-// One more, if there is one.
-fn push_some<T: Drop>(list: &mut Items<T>, item: Option<T>) -> Result<(), Memory>
+/// One more, if there is one.
+pub(crate) fn push_some<T: Drop>(list: &mut Items<T>, item: Option<T>) -> Result<(), Memory>
     ensures { OnOk result (list.new ≡ list.old ++ option_to_list item) }
 {
     match item {
@@ -55,16 +58,23 @@ fn push_some<T: Drop>(list: &mut Items<T>, item: Option<T>) -> Result<(), Memory
     }
 }
 
-/// What becomes of the links of a script. Takes memory for each `async` and `unlink` line.
-pub(crate) fn fates_of(alloc: Global, lines: &[Line]) -> Result<Fates, Memory>
-    ensures { IfOk result (λ fates. fates ≡ fates_of lines.now) }
+/// What becomes of the links of a script, by its lines and the text of its run. Takes memory for each
+/// `async`, `link` and `unlink` line.
+pub(crate) fn fates_of(alloc: Global, lines: &[Line], run: &[u8]) -> Result<Fates, Memory>
+    ensures { IfOk result (λ fates. fates ≡ fates_of lines.now (trace_lines run.now)) }
 {
+    let numbers = link_numbers(alloc, lines)?;
+    let refused = refusals_of(alloc, numbers.as_slice(), run)?;
     let mut late = Items::new(alloc);
     let mut cuts = Items::new(alloc);
     let mut rest = lines;
     loop {
         match rest {
-            [] => return Ok(Fates { late, cuts }),
+            [] => return Ok(Fates {
+                late,
+                cuts,
+                refused,
+            }),
             [line, more @ ..] => {
                 push_some(&mut late, async_node(&line.command))?;
                 push_some(&mut cuts, cut_at(line.line, &line.command))?;

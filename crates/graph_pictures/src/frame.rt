@@ -1,7 +1,7 @@
 //! The sizes of a timeline.
 ghost use Rattle.std.specs.Prelude.{◌≡◌, ◌≤◌, ◌∷◌, max, min, length};
 ghost use Rattle.graph_pictures.specs.Rows.{widest};
-ghost use Rattle.graph_pictures.specs.Sizes.{AreSizes};
+ghost use Rattle.graph_pictures.specs.working.Sizes.{AreSizes};
 ghost use Rattle.graph_pictures.specs.Timeline.{frame_of};
 
 use crate::rows::name_of;

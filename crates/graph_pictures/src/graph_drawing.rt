@@ -1,11 +1,14 @@
 //! The picture of a script's graph.
 ghost use Rattle.std.specs.Prelude.{◌≡◌, ◌++◌, OnOk, IfOk, flat_map};
-ghost use Rattle.graph_pictures.specs.GraphLinks.{style_text, link_text, fates_of};
+ghost use Rattle.graph_pictures.specs.GraphLinks.{style_text, cause_text, refused_text, link_text, fates_of};
+ghost use Rattle.cycle_trace.specs.TraceReading.{trace_lines};
 ghost use Rattle.graph_pictures.specs.GraphText.{head_text, legend_text, statement_text, graph_text};
 
+use crate::escaping::put_dot;
 use crate::fates::{Fates, fates_of, is_cut, is_late};
 use crate::filling::fill;
 use crate::graph_nodes::put_node;
+use crate::refusals::refusal_at;
 use graph_script::{Command, Line, Script};
 use pw_base::{Items, Memory, PortId, Text};
 use std::alloc::Global;
@@ -20,6 +23,29 @@ fn style_text(late: bool, cut: bool) -> &'static [u8]
         (false, true) => b" [color=gray];\n".as_slice(),
         (true, true) => b" [style=dashed, color=gray];\n".as_slice(),
     }
+}
+
+// The cause of a refusal.
+fn put_cause(text: &mut Text, cause: &[u8]) -> Result<(), Memory>
+    ensures { OnOk result (text.new ≡ text.old ++ cause_text cause.now) }
+{
+    if cause == b"65539".as_slice() {
+        text.extend(b"no common rate")
+    } else if cause == b"65540".as_slice() {
+        text.extend(b"no common channels")
+    } else {
+        put_dot(text, cause)
+    }
+}
+
+// What ends the statement of a link that is refused for this cause.
+#[tactic(auto, using(crate::proofs::Grown::texts))]
+fn put_refused(text: &mut Text, cause: &[u8]) -> Result<(), Memory>
+    ensures { OnOk result (text.new ≡ text.old ++ refused_text cause.now) }
+{
+    text.extend(b" [style=dotted, color=gray, fontcolor=gray, fontsize=10, label=\"")?;
+    put_cause(text, cause)?;
+    text.extend(b"\"];\n")
 }
 
 // The statement of a link.
@@ -40,8 +66,13 @@ fn put_link(
         u64::from(to.port),
     ];
     fill(text, b"  n%:p%:e -> n%:p%:w", &ends)?;
-    let style = style_text(is_late(fates, from, to), is_cut(fates, number, from, to));
-    text.extend(style)
+    match refusal_at(fates.refused.as_slice(), number) {
+        Some(refusal) => put_refused(text, refusal.cause.as_slice()),
+        None => {
+            let style = style_text(is_late(fates, from, to), is_cut(fates, number, from, to));
+            text.extend(style)
+        }
+    }
 }
 
 // The statement of the command on a line.
@@ -129,6 +160,11 @@ fn put_legend(text: &mut Text) -> Result<(), Memory>
     )?;
     fill(
         text,
+        b"dotted and grey: the run refused it, and why\\l",
+        &[],
+    )?;
+    fill(
+        text,
         b"frame: may drive, by its priority\\ldotted border: off at the end\\l\";\n",
         &[],
     )
@@ -139,15 +175,16 @@ fn put_legend(text: &mut Text) -> Result<(), Memory>
 /// Each line is drawn: a node with its ports, its name and its kind; a link from port to port, a
 /// late one dashed, one that a later line cuts grey; a second border for a driver candidate, with
 /// its last priority; beside a node the number of its last loop; a border of dots for a node that
-/// is off at the end. Of a file's name of more than 32 bytes the middle is left out. Lines of
-/// offers, buffers and cycles draw nothing; below stands what the marks mean. Takes memory for the
-/// text.
+/// is off at the end. `run` is the text that a run of the script printed, or nothing: a link that it
+/// refused is dotted and grey, with the cause. Of a file's name of more than 32 bytes the middle is
+/// left out. Lines of offers, buffers and cycles draw nothing; below stands what the marks mean.
+/// Takes memory for the text and for each `async`, `link` and `unlink` line.
 #[tactic(auto, using(crate::proofs::Grown::texts), unfolding(crate::specs::GraphText::graph_text))]
-pub fn graph(alloc: Global, script: &Script) -> Result<Text, Memory>
-    ensures { IfOk result (λ text. text ≡ graph_text script.now) }
+pub fn graph(alloc: Global, script: &Script, run: &[u8]) -> Result<Text, Memory>
+    ensures { IfOk result (λ text. text ≡ graph_text script.now (trace_lines run.now)) }
 {
     let lines = script.lines.as_slice();
-    let fates = fates_of(alloc, lines)?;
+    let fates = fates_of(alloc, lines, run)?;
     let mut text = Items::new(alloc);
     put_head(&mut text)?;
     put_statements(&mut text, script.names.as_slice(), &fates, lines)?;

@@ -16,6 +16,7 @@ mod frame;
 mod graph_drawing;
 mod graph_nodes;
 mod reading;
+mod refusals;
 mod rows;
 mod sentences;
 mod status;

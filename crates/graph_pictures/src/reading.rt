@@ -2,12 +2,12 @@
 ghost use Rattle.std.specs.Prelude.{◌≡◌, ◌≤◌, length, IsSome, IfOk};
 ghost use Rattle.pw_base.specs.Files.{names_in};
 ghost use Rattle.pw_base.specs.Limits.{script_bytes_limit, wav_bytes_limit};
-ghost use Rattle.cycle_trace.specs.TraceReading.{AreNames};
 ghost use Rattle.graph_script.specs.Order.{HasOrder};
 ghost use Rattle.graph_script.specs.Ranges.{HasRanges};
-ghost use Rattle.graph_pictures.specs.Reading.{IsLoad, ReadsScript, ParsesTo};
-ghost use Rattle.graph_pictures.specs.TraceAnswers.{DrawsTrace};
-ghost use Rattle.graph_pictures.specs.Answers.{IsGraph, ReadsTrace, IsTimeline, IsPicture};
+ghost use Rattle.graph_pictures.specs.Reading.{IsLoad, ReadsScript, ParsesTo, trace_place, trace_bytes_limit};
+ghost use Rattle.pw_base.specs.declared.limit.Which.TheVariants as W;
+ghost use Rattle.graph_pictures.specs.TraceAnswers.{DrawsTrace, DrawsRun};
+ghost use Rattle.graph_pictures.specs.Answers.{IsGraph, ReadsTrace, IsTracePicture, IsPicture};
 ghost use Rattle.graph_pictures.specs.Causes.{IsCaused};
 ghost use Rattle.graph_pictures.specs.WaveReading.{DrawsWave, IsWavePicture};
 
@@ -108,7 +108,7 @@ fn read_graph<F: Files>(alloc: Global, files: &mut F, name: &Text) -> Result<Tex
 {
     match read_script(alloc, files, name) {
         Err(status) => Err(status),
-        Ok(script) => match graph(alloc, &script) {
+        Ok(script) => match graph(alloc, &script, &[]) {
             Ok(text) => Ok(text),
             Err(_memory) => Err(Status::Memory),
         },
@@ -116,45 +116,118 @@ fn read_graph<F: Files>(alloc: Global, files: &mut F, name: &Text) -> Result<Tex
 }
 
 // The timeline of the events of a run's text.
-fn drawn_trace(alloc: Global, names: &Items<Text>, bytes: &[u8]) -> Result<Text, Status>
-    requires names { AreNames names.now }
-    ensures { DrawsTrace names.now bytes.now result }
+fn drawn_trace(alloc: Global, script: &Script, bytes: &[u8]) -> Result<Text, Status>
+    requires ranges { HasRanges script.now }
+    requires order { HasOrder script.now }
+    ensures { DrawsTrace script.now bytes.now result }
 {
-    match read_run(alloc, names, bytes) {
+    match read_run(alloc, script.names(), bytes) {
         Err(TraceFault::Line(number)) => Err(Status::Line { number }),
         Err(TraceFault::Memory) => Err(Status::Memory),
-        Ok(events) => match timeline(alloc, names, &events) {
+        Ok(events) => match timeline(alloc, script.names(), &events) {
             Ok(text) => Ok(text),
             Err(_memory) => Err(Status::Memory),
         },
     }
 }
 
-// What is printed of the trace of a file.
-fn read_trace<F: Files>(
-    alloc: Global,
-    files: &mut F,
-    names: &Items<Text>,
-    name: &Text,
-) -> Result<Text, Status>
-    requires names { AreNames names.now }
+// The graph of a script, with what a run's text tells of its links.
+fn drawn_run(alloc: Global, script: &Script, bytes: &[u8]) -> Result<Text, Status>
+    requires ranges { HasRanges script.now }
+    requires order { HasOrder script.now }
+    ensures { DrawsRun script.now bytes.now result }
+{
+    match read_run(alloc, script.names(), bytes) {
+        Err(TraceFault::Line(number)) => Err(Status::Line { number }),
+        Err(TraceFault::Memory) => Err(Status::Memory),
+        Ok(_events) => match graph(alloc, script, bytes) {
+            Ok(text) => Ok(text),
+            Err(_memory) => Err(Status::Memory),
+        },
+    }
+}
+
+// The bytes of the trace of a file.
+fn load_trace<F: Files>(alloc: Global, files: &mut F, name: &Text) -> Result<Items<u8>, Status>
     ensures told { IsSome (F.held files.old)
-        → ReadsTrace names.now (names_in (F.held files.old) name.now) result }
+        → IsLoad (names_in (F.held files.old) name.now) trace_place trace_bytes_limit
+        W.TraceBytes result }
     ensures cause { IsCaused (F.load_faults files.old) (F.load_faults files.new) result }
     ensures held { F.held files.new ≡ F.held files.old }
     ensures stores { F.store_faults files.new ≡ F.store_faults files.old }
     ensures later { F.load_faults files.old ≤ F.load_faults files.new }
 {
-    match load(
+    load(
         alloc,
         files,
         TRACE_PLACE,
         name,
         TRACE_BYTES,
         Which::TraceBytes,
-    ) {
+    )
+}
+
+// What is printed of the trace of a file.
+fn read_trace<F: Files>(
+    alloc: Global,
+    files: &mut F,
+    script: &Script,
+    name: &Text,
+) -> Result<Text, Status>
+    requires ranges { HasRanges script.now }
+    requires order { HasOrder script.now }
+    ensures told { IsSome (F.held files.old)
+        → ReadsTrace (DrawsTrace script.now) (names_in (F.held files.old) name.now) result }
+    ensures cause { IsCaused (F.load_faults files.old) (F.load_faults files.new) result }
+    ensures held { F.held files.new ≡ F.held files.old }
+    ensures stores { F.store_faults files.new ≡ F.store_faults files.old }
+    ensures later { F.load_faults files.old ≤ F.load_faults files.new }
+{
+    match load_trace(alloc, files, name) {
         Err(status) => Err(status),
-        Ok(bytes) => drawn_trace(alloc, names, bytes.as_slice()),
+        Ok(bytes) => drawn_trace(alloc, script, bytes.as_slice()),
+    }
+}
+
+// The graph of a script with what the trace of a file tells of its links.
+fn read_links<F: Files>(
+    alloc: Global,
+    files: &mut F,
+    script: &Script,
+    name: &Text,
+) -> Result<Text, Status>
+    requires ranges { HasRanges script.now }
+    requires order { HasOrder script.now }
+    ensures told { IsSome (F.held files.old)
+        → ReadsTrace (DrawsRun script.now) (names_in (F.held files.old) name.now) result }
+    ensures cause { IsCaused (F.load_faults files.old) (F.load_faults files.new) result }
+    ensures held { F.held files.new ≡ F.held files.old }
+    ensures stores { F.store_faults files.new ≡ F.store_faults files.old }
+    ensures later { F.load_faults files.old ≤ F.load_faults files.new }
+{
+    match load_trace(alloc, files, name) {
+        Err(status) => Err(status),
+        Ok(bytes) => drawn_run(alloc, script, bytes.as_slice()),
+    }
+}
+
+// The graph of the script of a file, with what the trace of another tells of its links.
+fn read_run_graph<F: Files>(
+    alloc: Global,
+    files: &mut F,
+    script: &Text,
+    trace: &Text,
+) -> Result<Text, Status>
+    ensures told { IsSome (F.held files.old)
+        → IsTracePicture DrawsRun (names_in (F.held files.old) script.now)
+        (names_in (F.held files.old) trace.now) result }
+    ensures cause { IsCaused (F.load_faults files.old) (F.load_faults files.new) result }
+    ensures held { F.held files.new ≡ F.held files.old }
+    ensures stores { F.store_faults files.new ≡ F.store_faults files.old }
+{
+    match read_script(alloc, files, script) {
+        Err(status) => Err(status),
+        Ok(script) => read_links(alloc, files, &script, trace),
     }
 }
 
@@ -166,7 +239,7 @@ fn read_timeline<F: Files>(
     trace: &Text,
 ) -> Result<Text, Status>
     ensures told { IsSome (F.held files.old)
-        → IsTimeline (names_in (F.held files.old) script.now)
+        → IsTracePicture DrawsTrace (names_in (F.held files.old) script.now)
         (names_in (F.held files.old) trace.now) result }
     ensures cause { IsCaused (F.load_faults files.old) (F.load_faults files.new) result }
     ensures held { F.held files.new ≡ F.held files.old }
@@ -174,7 +247,7 @@ fn read_timeline<F: Files>(
 {
     match read_script(alloc, files, script) {
         Err(status) => Err(status),
-        Ok(script) => read_trace(alloc, files, script.names(), trace),
+        Ok(script) => read_trace(alloc, files, &script, trace),
     }
 }
 
@@ -231,6 +304,7 @@ pub(crate) fn picture_of<F: Files>(
 {
     match request {
         Request::Graph { script } => read_graph(alloc, files, script),
+        Request::RunGraph { script, trace } => read_run_graph(alloc, files, script, trace),
         Request::Timeline { script, trace } => read_timeline(alloc, files, script, trace),
         Request::Wave { file } => read_wave(alloc, files, file),
     }

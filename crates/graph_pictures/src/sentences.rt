@@ -128,7 +128,7 @@ fn put_sentence(
     match status {
         Status::Ok => Ok(()),
         Status::Usage { .. } => text.extend(
-            b"usage: pipegraph-pictures graph SCRIPT | timeline SCRIPT TRACE | wave FILE\n",
+            b"usage: pipegraph-pictures graph SCRIPT [TRACE] | timeline SCRIPT TRACE | wave FILE\n",
         ),
         Status::Script { line, .. } => put_of_line(
             alloc,

@@ -3,7 +3,7 @@ ghost use Rattle.std.specs.Prelude.{◌≡◌, ◌*◌, ◌≤◌, ◌++◌, ◌
 ghost use Rattle.cycle_trace.specs.EventLines.{late_nodes};
 ghost use Rattle.graph_pictures.specs.Filling.{filled};
 ghost use Rattle.std.specs.List.{position_or_len};
-ghost use Rattle.graph_pictures.specs.Working.{row_of};
+ghost use Rattle.graph_pictures.specs.AtWork.{row_of};
 ghost use Rattle.graph_pictures.specs.Strip.{middle_of, is_finish, span_of, late_text, event_text, strip_text};
 
 use crate::filling::fill;

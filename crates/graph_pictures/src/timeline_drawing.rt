@@ -1,6 +1,6 @@
 //! The timeline of events.
 ghost use Rattle.std.specs.Prelude.{◌≡◌, ◌≤◌, ◌++◌, length, OnOk, IfOk};
-ghost use Rattle.graph_pictures.specs.Sizes.{AreSizes};
+ghost use Rattle.graph_pictures.specs.working.Sizes.{AreSizes};
 ghost use Rattle.graph_pictures.specs.Timeline.{note_text, size_text, style_text, legend_text, head_text, groups_text};
 ghost use Rattle.graph_pictures.specs.TimelineText.{picture_text, shown_text, timeline_text};
 

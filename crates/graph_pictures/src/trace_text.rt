@@ -9,7 +9,7 @@ use pw_base::{Event, Items, Memory, Text, next_piece};
 use std::alloc::Global;
 
 /// The first line of a text, if it has one, and the text after that.
-fn next_line(text: &[u8]) -> Option<(&[u8], &[u8])>
+pub(crate) fn next_line(text: &[u8]) -> Option<(&[u8], &[u8])>
     ensures lines { MatchOption result (trace_lines text.now ≡ [])
         (λ cut. trace_lines text.now ≡ cut.0.now ∷ trace_lines cut.1.now) }
     ensures whole { IfSome result
@@ -29,8 +29,8 @@ fn next_line(text: &[u8]) -> Option<(&[u8], &[u8])>
     }
 }
 
-// Whether a line begins with a word.
-fn begins(line: &[u8], word: &[u8]) -> bool
+/// Whether a line begins with a word.
+pub(crate) fn begins(line: &[u8], word: &[u8]) -> bool
     ensures { result ≡ begins line.now word.now }
 {
     line.starts_with(word)

@@ -2,7 +2,7 @@
 ghost use Rattle.std.specs.Prelude.{◌≡◌, ◌<◌, ◌≤◌, ◌++◌, length, flat_map, OnOk};
 ghost use Rattle.std.specs.List.{range_with_len};
 ghost use Rattle.graph_pictures.specs.WaveLanes.{point_of, mark_text, bar_text, column_text, unit_of, ground_text, lane_parts, lane_text};
-ghost use Rattle.graph_pictures.specs.WaveSizes.{wave_frames_limit};
+ghost use Rattle.graph_pictures.specs.working.WaveSizes.{wave_frames_limit};
 
 use crate::filling::fill;
 use crate::wave_columns::{column_of, columns_of, depth_of, greatest_of, is_clipped, least_of};

@@ -2,7 +2,7 @@
 ghost use Rattle.std.specs.Prelude.{◌≡◌, ◌+◌, ◌*◌, ◌/◌, ◌<◌, ◌≤◌, ◌++◌, OnOk};
 ghost use Rattle.pw_base.specs.Limits.{rate_limit};
 ghost use Rattle.graph_pictures.specs.WaveTicks.{millis_of, steps, step_among, step_of, place_of, tick_text, step_text, axis};
-ghost use Rattle.graph_pictures.specs.WaveSizes.{wave_frames_limit};
+ghost use Rattle.graph_pictures.specs.working.WaveSizes.{wave_frames_limit};
 
 use crate::filling::fill;
 use pw_base::{Memory, Text};

@@ -1,17 +1,18 @@
 //! The words of a command line.
-ghost use Rattle.std.specs.Prelude.{◌≡◌, map, string_bytes, Ok};
-ghost use Rattle.graph_pictures.specs.Words.{is_file_word, graph_of, timeline_behind, timeline_of, wave_of, request_of, IsRead};
+ghost use Rattle.std.specs.Prelude.{◌≡◌, map, string_bytes, Ok, IfOk};
+ghost use Rattle.graph_pictures.specs.Words.{is_file_word, graph_behind, graph_of, timeline_behind, timeline_of, wave_of, request_of, IsRead};
 ghost use Rattle.graph_pictures.specs.declared.words.Request.TheVariants as R;
 
 use crate::status::Status;
-use pw_base::{Items, Text};
+use pw_base::{Items, Memory, Text};
 use std::alloc::Global;
 
-/// What words ask for: a picture of a script's graph, a timeline of a trace of it, or the peaks of
-/// a WAV file.
+/// What words ask for: a picture of a script's graph, one with what a run of it did, a timeline of a
+/// trace of it, or the peaks of a WAV file.
 #[derive(Drop)]
 pub enum Request {
     Graph { script: Text },
+    RunGraph { script: Text, trace: Text },
     Timeline { script: Text, trace: Text },
     Wave { file: Text },
 }
@@ -37,16 +38,32 @@ fn graph_request(alloc: Global, script: &String) -> Result<Request, Status>
     }
 }
 
+// The texts of two words.
+fn two_texts(alloc: Global, a: &String, b: &String) -> Result<(Text, Text), Memory>
+    ensures { IfOk result (λ r. (r.0 ≡ string_bytes a.now) × (r.1 ≡ string_bytes b.now)) }
+{
+    let a = Items::from_slice(alloc, a.as_bytes())?;
+    let b = Items::from_slice(alloc, b.as_bytes())?;
+    Ok((a, b))
+}
+
+// The request of a graph with what a run did.
+fn run_graph_request(alloc: Global, script: &String, trace: &String) -> Result<Request, Status>
+    ensures { IsRead (Ok (R.RunGraph (string_bytes script.now) (string_bytes trace.now))) result }
+{
+    match two_texts(alloc, script, trace) {
+        Ok((script, trace)) => Ok(Request::RunGraph { script, trace }),
+        Err(_memory) => Err(Status::Memory),
+    }
+}
+
 // The request of a timeline.
 fn timeline_request(alloc: Global, script: &String, trace: &String) -> Result<Request, Status>
     ensures { IsRead (Ok (R.Timeline (string_bytes script.now) (string_bytes trace.now))) result }
 {
-    match Items::from_slice(alloc, script.as_bytes()) {
+    match two_texts(alloc, script, trace) {
+        Ok((script, trace)) => Ok(Request::Timeline { script, trace }),
         Err(_memory) => Err(Status::Memory),
-        Ok(script) => match Items::from_slice(alloc, trace.as_bytes()) {
-            Ok(trace) => Ok(Request::Timeline { script, trace }),
-            Err(_memory) => Err(Status::Memory),
-        },
     }
 }
 
@@ -60,6 +77,25 @@ fn wave_request(alloc: Global, file: &String) -> Result<Request, Status>
     }
 }
 
+// The words behind the script of a graph.
+fn read_run(alloc: Global, script: &String, rest: &[String]) -> Result<Request, Status>
+    ensures { IsRead (graph_behind (string_bytes script.now) (map string_bytes rest.now))
+        result }
+{
+    match rest {
+        [] => graph_request(alloc, script),
+        [trace, more @ ..] => {
+            if !is_file_word(trace) {
+                Err(Status::Usage { word: 2 })
+            } else if more.is_empty() {
+                run_graph_request(alloc, script, trace)
+            } else {
+                Err(Status::Usage { word: 3 })
+            }
+        }
+    }
+}
+
 // The words behind `graph`.
 fn read_graph(alloc: Global, rest: &[String]) -> Result<Request, Status>
     ensures { IsRead (graph_of (map string_bytes rest.now)) result }
@@ -67,12 +103,10 @@ fn read_graph(alloc: Global, rest: &[String]) -> Result<Request, Status>
     match rest {
         [] => Err(Status::Usage { word: 1 }),
         [script, more @ ..] => {
-            if !is_file_word(script) {
-                Err(Status::Usage { word: 1 })
-            } else if more.is_empty() {
-                graph_request(alloc, script)
+            if is_file_word(script) {
+                read_run(alloc, script, more)
             } else {
-                Err(Status::Usage { word: 2 })
+                Err(Status::Usage { word: 1 })
             }
         }
     }

@@ -1,6 +1,6 @@
 //! The nodes at work in a trace, and their rows.
 ghost use Rattle.std.specs.Prelude.{◌≡◌, ◌+◌, ◌<◌, ◌≤◌, cond, [], ◌∷◌, ◌++◌, length, IfOk, OnOk};
-ghost use Rattle.graph_pictures.specs.Working.{names_node, is_working, at_work, row_of};
+ghost use Rattle.graph_pictures.specs.AtWork.{names_node, is_working, at_work, row_of};
 
 use pw_base::{Event, Items, Memory};
 use std::alloc::Global;
@@ -34,7 +34,7 @@ fn push_if(rows: &mut Items<u32>, wanted: bool, n: u32) -> Result<(), Memory>
 }
 
 /// The nodes that some event names, ascending; the built-in driver is 63. Takes memory for them.
-#[tactic(auto, using(crate::proofs::RangeLemmas::kept), unfolding(crate::specs::Working::at_work))]
+#[tactic(auto, using(crate::proofs::RangeLemmas::kept), unfolding(crate::specs::AtWork::at_work))]
 pub(crate) fn at_work(alloc: Global, events: &[Event]) -> Result<Items<u32>, Memory>
     ensures value { IfOk result (λ rows. rows ≡ at_work events.now) }
     ensures within { IfOk result (λ rows. length rows ≤ 64) }

@@ -76,9 +76,50 @@ fn a_graph_shows_each_kind_and_link(rt: HostRuntime) -> Result<(), Fail> {
         \x20 n1 [style=solid];\n\
         \x20 n5 [style=dotted];\n\
         \x20 label=\"dashed: one end is async\\lgrey: a later line unlinks it\\l\
+        dotted and grey: the run refused it, and why\\l\
         frame: may drive, by its priority\\ldotted border: off at the end\\l\";\n\
         }\n";
     expect(&rt, "graph s", script, "", Status::Ok, wanted)?;
+    Ok(())
+}
+
+#[test]
+fn a_link_that_the_run_refused_is_grey_and_says_why(rt: HostRuntime) -> Result<(), Fail> {
+    let script =
+        "quantum 4\nsquare a 48000 1 4 9\nsquare b 44100 1 4 9\nmix2 m 256 256\nsink o o.wav\n\
+        driver o 1\nlink a.out m.a\nlink b.out m.b\nlink m.out o.in\nlink m.out o.in\nlink m.out m.b\n\
+        unlink m.out o.in\nlink m.out o.in\ncycles 2\n";
+    let run = "link a.out m.a 48000 1 2\nnolink b.out m.b 65539\nlink m.out o.in 48000 1 2\n\
+        nolink m.out o.in twice\nnolink m.out m.b loop\nunlink m.out o.in\nbegin 0\nend 0\nwrote o 8\n";
+    let wanted = "digraph pipegraph {\n  rankdir=LR; ranksep=0.7; nodesep=0.4;\n\
+        \x20 fontname=\"sans-serif\"; fontsize=11;\n\
+        \x20 node [shape=record, fontname=\"sans-serif\", fontsize=12];\n\
+        \x20 edge [arrowsize=0.7];\n\
+        \x20 n0 [label=\"{a\\nsquare 48000 1 4 9|{<p0> out}}\"];\n\
+        \x20 n1 [label=\"{b\\nsquare 44100 1 4 9|{<p0> out}}\"];\n\
+        \x20 n2 [label=\"{{<p0> a|<p1> b}|m\\nmix2 256 256|{<p2> out}}\"];\n\
+        \x20 n3 [label=\"{{<p0> in}|o\\nsink o.wav}\"];\n\
+        \x20 subgraph cluster_3 { label=\"driver 1\"; n3; }\n\
+        \x20 n0:p0:e -> n2:p0:w;\n\
+        \x20 n1:p0:e -> n2:p1:w [style=dotted, color=gray, fontcolor=gray, fontsize=10, label=\"no common rate\"];\n\
+        \x20 n2:p2:e -> n3:p0:w [color=gray];\n\
+        \x20 n2:p2:e -> n3:p0:w [style=dotted, color=gray, fontcolor=gray, fontsize=10, label=\"twice\"];\n\
+        \x20 n2:p2:e -> n2:p1:w [style=dotted, color=gray, fontcolor=gray, fontsize=10, label=\"loop\"];\n\
+        \x20 n2:p2:e -> n3:p0:w;\n\
+        \x20 label=\"dashed: one end is async\\lgrey: a later line unlinks it\\l\
+        dotted and grey: the run refused it, and why\\l\
+        frame: may drive, by its priority\\ldotted border: off at the end\\l\";\n\
+        }\n";
+    expect(&rt, "graph s t", script, run, Status::Ok, wanted)?;
+    let bad = Status::Line { number: 2 };
+    expect(
+        &rt,
+        "graph s t",
+        script,
+        "wrote o 8\nend\n",
+        bad,
+        "line 2\n",
+    )?;
     Ok(())
 }
 
@@ -300,6 +341,37 @@ fn a_wave_without_frames_has_an_empty_lane(rt: HostRuntime) -> Result<(), Fail> 
 }
 
 #[test]
+fn a_column_of_two_frames_goes_from_the_greater_to_the_less(rt: HostRuntime) -> Result<(), Fail> {
+    let alloc = rt.alloc();
+    let mut bytes = Items::from_slice(
+        alloc,
+        b"RIFF\xf6\x07\0\0WAVEfmt \x10\0\0\0\x01\0\x01\0\xe8\x03\0\0\xd0\x07\0\0\x02\0\x10\0data\xd2\x07\0\0",
+    )?;
+    for _ in 0..999 {
+        bytes.extend(b"\0\0")?;
+    }
+    bytes.extend(b"\0\x40\0\xff")?;
+    let mut files = SureFiles::new(alloc)?;
+    files.add_file(alloc, &text(alloc, "w")?, bytes.as_slice())?;
+    let mut out = SureSink::new(alloc)?;
+    let words = words_of(alloc, "wave w")?;
+    let ended = print_picture(alloc, words.as_slice(), &mut files, &mut out);
+    assert!(rt; ended == Status::Ok);
+    let wanted = b"<path d='M998 127h1v1h-1z'/>\n\
+        <path d='M999 63h1v66h-1z'/>\n\
+        </g>\n\
+        <path class='t' d='M48 72V328'/><text class='m' x='48' y='346'>0.000</text>\n\
+        <path class='t' d='M247 72V328'/><text class='m' x='247' y='346'>0.200</text>\n\
+        <path class='t' d='M447 72V328'/><text class='m' x='447' y='346'>0.400</text>\n\
+        <path class='t' d='M647 72V328'/><text class='m' x='647' y='346'>0.600</text>\n\
+        <path class='t' d='M847 72V328'/><text class='m' x='847' y='346'>0.800</text>\n\
+        <path class='t' d='M1047 72V328'/><text class='m' x='1047' y='346'>1.000</text>\n\
+        </svg>\n";
+    assert!(rt; out.bytes().as_slice().ends_with(wanted));
+    Ok(())
+}
+
+#[test]
 fn a_file_that_is_no_wave_is_refused_by_its_fault(rt: HostRuntime) -> Result<(), Fail> {
     let refused = |why| Status::Wav { place: 1, why };
     expect_wave(&rt, b"", refused(WavFault::NotRiff), b"wav 1 1\n")?;
@@ -329,7 +401,7 @@ fn a_refusal_has_a_sentence_for_people(rt: HostRuntime) -> Result<(), Fail> {
         (
             "draw s",
             Status::Usage { word: 0 },
-            "usage: pipegraph-pictures graph SCRIPT | timeline SCRIPT TRACE | wave FILE\n",
+            "usage: pipegraph-pictures graph SCRIPT [TRACE] | timeline SCRIPT TRACE | wave FILE\n",
         ),
         (
             "graph s",
@@ -392,7 +464,8 @@ fn words_and_files_are_refused_by_cause(rt: HostRuntime) -> Result<(), Fail> {
         ("run s", usage(0), "usage 0\n"),
         ("graph", usage(1), "usage 1\n"),
         ("graph -s", usage(1), "usage 1\n"),
-        ("graph s t", usage(2), "usage 2\n"),
+        ("graph s -t", usage(2), "usage 2\n"),
+        ("graph s t u", usage(3), "usage 3\n"),
         ("timeline", usage(1), "usage 1\n"),
         ("timeline s", usage(2), "usage 2\n"),
         ("timeline s -t", usage(2), "usage 2\n"),
@@ -401,6 +474,11 @@ fn words_and_files_are_refused_by_cause(rt: HostRuntime) -> Result<(), Fail> {
         ("wave -s", usage(1), "usage 1\n"),
         ("wave s t", usage(2), "usage 2\n"),
         ("graph u", Status::Absent { place: 0 }, "absent 0\n"),
+        (
+            "graph s u",
+            Status::Absent { place: 4294967295 },
+            "absent 4294967295\n",
+        ),
         ("wave u", Status::Absent { place: 1 }, "absent 1\n"),
         (
             "timeline s u",

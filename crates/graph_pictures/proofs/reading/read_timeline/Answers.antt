@@ -1,5 +1,6 @@
 use Rattle.std.proofs.Common.{refl}
-use Rattle.graph_pictures.specs.Answers.IsTimeline.{refused}
+use Rattle.graph_pictures.specs.Answers.IsTracePicture.{refused}
+use Rattle.graph_pictures.specs.TraceAnswers.{DrawsTrace}
 use Rattle.graph_pictures.proofs.AnswerLemmas.{trace_after}
 use Rattle.graph_pictures.proofs.reading.read_timeline.Goals as goal
 
@@ -8,5 +9,5 @@ returns-in-Err-clause-told g c = λ h. refused c.in-Err.status (c.in-Err.ensures
 
 pub returns-in-Ok-clause-told : goal.returns-in-Ok-clause-told
 returns-in-Ok-clause-told g c = λ h.
-    trace_after _ _ c.args.script.now c.args.trace.now c.in-Ok.script _ _ c.in-Ok.ensures.held c.names.ensures (c.in-Ok.ensures.told h)
+    trace_after DrawsTrace _ _ c.args.script.now c.args.trace.now c.in-Ok.script _ c.in-Ok.ensures.held (c.in-Ok.ensures.told h)
     c.read_trace.ensures.told h

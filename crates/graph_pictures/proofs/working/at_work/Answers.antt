@@ -1,6 +1,6 @@
 use Rattle.std.proofs.Common.{◌≡◌, ℕ, ◌∙◌, ap, arith, filter}
 use Rattle.std.specs.List.{range_with_len}
-use Rattle.graph_pictures.specs.Working.{is_working, at_work}
+use Rattle.graph_pictures.specs.AtWork.{is_working, at_work}
 use Rattle.graph_pictures.proofs.working.at_work.Goals as goal
 
 pub returns-clause-value : goal.returns-clause-value

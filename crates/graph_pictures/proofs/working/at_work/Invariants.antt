@@ -1,6 +1,6 @@
 use Rattle.std.proofs.Common.{◌≡◌, ◌≤◌, length, filter}
 use Rattle.std.specs.List.{range_with_len}
-use Rattle.graph_pictures.specs.Working.{is_working}
+use Rattle.graph_pictures.specs.AtWork.{is_working}
 use Rattle.graph_pictures.proofs.working.at_work.Given as goal
 
 -- the nodes so far

@@ -1,0 +1,41 @@
+-- Which links a run refused, and why. The text of a run has a line for each `link` line of its
+-- script, in their order.
+-- Source: this project's own: the lines of `pipegraph run`, docs/FORMATS.md.
+use Rattle.std.specs.Prelude.{ℕ, ◌==◌, ◌||◌, Bool, List, codes, filter, if◌then◌else◌, slice_index_or}
+use Rattle.std.specs.Prelude.{[], Option, Some, None, filter_map, find}
+use Rattle.std.specs.List.{zip}
+use Rattle.graph_script.specs.declared.command.Command.{Command}
+use Rattle.graph_script.specs.declared.command.Command.TheVariants as C
+use Rattle.graph_script.specs.declared.script.Line.{Line}
+use Rattle.graph_script.specs.Lexical.{words_of}
+use Rattle.graph_pictures.specs.declared.refusals.Refusal.{Refusal}
+use Rattle.graph_pictures.specs.TraceText.{begins}
+
+-- the numbers of the lines of a script that link
+abbrev pub link_at : ℕ → Command → Option ℕ
+link_at number (C.Link from to) = Some number
+link_at number other = None
+
+abbrev pub link_numbers : List Line → List ℕ
+link_numbers lines = filter_map (λ l. link_at l.line l.command) lines
+
+-- the lines of a run that tell what became of a link
+abbrev pub tells_link : List ℕ → Bool
+tells_link line = begins line (codes "link ") || begins line (codes "nolink ")
+
+abbrev pub told_links : List (List ℕ) → List (List ℕ)
+told_links run = filter tells_link run
+
+-- what `nolink FROM TO CAUSE` tells of the link on the line of this number
+abbrev pub refusal_of : ℕ → List ℕ → Option Refusal
+refusal_of number told = if begins told (codes "nolink ")
+    then Some (record { line = number; cause = slice_index_or (words_of told) 3 [] })
+    else None
+
+-- what the lines of a run tell of the links on lines of these numbers
+abbrev pub refusals : List ℕ → List (List ℕ) → List Refusal
+refusals numbers told = filter_map (λ p. refusal_of p.0 p.1) (zip numbers told)
+
+-- THE REFUSAL of the link on the line of this number, if there is one
+abbrev pub refusal_at : List Refusal → ℕ → Option Refusal
+refusal_at refused number = find (λ r. r.line == number) refused

@@ -1,0 +1,3 @@
+-- How far the numbers of pictures go. Source: this project's own.
+pub mod Sizes
+pub mod WaveSizes
