@@ -1,6 +1,6 @@
 //! The picture of a script's graph.
-ghost use Rattle.std.specs.Prelude.{◌≡◌, ◌++◌, OnOk, IfOk, flat_map};
-ghost use Rattle.graph_pictures.specs.GraphLinks.{style_text, cause_text, refused_text, link_text, fates_of};
+ghost use Rattle.std.specs.Prelude.{◌≡◌, ◌++◌, OnOk, IfOk, flat_map, option_copied};
+ghost use Rattle.graph_pictures.specs.GraphLinks.{style_text, cause_text, refused_text, ending_text, link_text, fates_of};
 ghost use Rattle.cycle_trace.specs.TraceReading.{trace_lines};
 ghost use Rattle.graph_pictures.specs.GraphText.{head_text, legend_text, statement_text, graph_text};
 
@@ -8,7 +8,7 @@ use crate::escaping::put_dot;
 use crate::fates::{Fates, fates_of, is_cut, is_late};
 use crate::filling::fill;
 use crate::graph_nodes::put_node;
-use crate::refusals::refusal_at;
+use crate::refusals::{Refusal, refusal_at};
 use graph_script::{Command, Line, Script};
 use pw_base::{Items, Memory, PortId, Text};
 use std::alloc::Global;
@@ -48,6 +48,27 @@ fn put_refused(text: &mut Text, cause: &[u8]) -> Result<(), Memory>
     text.extend(b"\"];\n")
 }
 
+// What ends the statement of a link, which may be refused.
+fn put_ending(
+    text: &mut Text,
+    fates: &Fates,
+    number: u32,
+    from: PortId,
+    to: PortId,
+    refusal: Option<&Refusal>,
+) -> Result<(), Memory>
+    ensures { OnOk result (text.new ≡ text.old
+        ++ ending_text fates.now number from to (option_copied refusal)) }
+{
+    match refusal {
+        Some(refusal) => put_refused(text, refusal.cause.as_slice()),
+        None => {
+            let style = style_text(is_late(fates, from, to), is_cut(fates, number, from, to));
+            text.extend(style)
+        }
+    }
+}
+
 // The statement of a link.
 #[tactic(auto, using(crate::proofs::Grown::texts))]
 fn put_link(
@@ -66,13 +87,15 @@ fn put_link(
         u64::from(to.port),
     ];
     fill(text, b"  n%:p%:e -> n%:p%:w", &ends)?;
-    match refusal_at(fates.refused.as_slice(), number) {
-        Some(refusal) => put_refused(text, refusal.cause.as_slice()),
-        None => {
-            let style = style_text(is_late(fates, from, to), is_cut(fates, number, from, to));
-            text.extend(style)
-        }
-    }
+    put_ending(
+        text,
+        fates,
+        number,
+        from,
+        to,
+        refusal_at(fates.refused.as_slice(), number),
+    )?;
+    Ok(())
 }
 
 // The statement of the command on a line.
