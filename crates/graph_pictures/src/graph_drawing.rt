@@ -58,7 +58,7 @@ fn put_ending(
     refusal: Option<&Refusal>,
 ) -> Result<(), Memory>
     ensures { OnOk result (text.new ≡ text.old
-        ++ ending_text fates.now number from to (option_copied refusal)) }
+        ++ ending_text fates.now number from to (option_copied refusal.entry)) }
 {
     match refusal {
         Some(refusal) => put_refused(text, refusal.cause.as_slice()),
