@@ -6,7 +6,7 @@ use Rattle.pw_base.specs.declared.ids.PortId.{PortId}
 use Rattle.pw_base.specs.declared.kind.Kind.TheVariants.{Sink, Meter, Dummy}
 use Rattle.pw_base.specs.declared.plan.Epoch.{Epoch}
 use Rattle.pw_base.specs.declared.plan.Plan.{Plan}
-use Rattle.pw_base.specs.KindFunction.{Heard}
+use Rattle.pw_base.specs.KindFunction.{KindInputs}
 use Rattle.pw_base.specs.KindPorts.{input_count}
 use Rattle.pw_base.specs.PlanForms.{kind_at}
 use Rattle.pw_base.specs.Samples.{peak_of}
@@ -20,47 +20,47 @@ use Rattle.wav_files.specs.declared.wav.WavIn.{WavIn}
 use Rattle.cycle_model.specs.declared.received.Received.{Received}
 use Rattle.cycle_model.specs.Epochs.{all_cycles}
 use Rattle.cycle_model.specs.Cycle.{Outputs, stream_of, outputs}
-use Rattle.cycle_model.specs.Known.{is_released, released, kept_by}
+use Rattle.cycle_model.specs.working.Known.{is_released, released, kept_by}
 use Rattle.cycle_model.specs.Progress.{streamed, received_until, received_before}
 use Rattle.cycle_model.specs.Rendering.{is_meter, end_stream, kept_of, peak_at}
 use Rattle.cycle_model.proofs.ProgressLemmas.{released_is}
 use Rattle.node_state.specs.declared.node_state.NodeState.{NodeState}
 use Rattle.node_state.specs.StandsFor.{StandsFor, node_kind, kept_stream}
-use Rattle.node_state.specs.Streams.{stream_heard, peak_heard}
-use Rattle.node_state.proofs.KeptLemmas.{kept_is_heard}
+use Rattle.node_state.specs.Streams.{stream_kept_by, peak_kept_by}
+use Rattle.node_state.proofs.KeptLemmas.{kept_is_stream}
 use Rattle.node_progress.specs.declared.score.Score.{Score}
 use Rattle.node_progress.specs.Ends.{received_now, IsNodeAtEnd}
-use Rattle.node_progress.specs.Standing.{port_at, heard_by}
+use Rattle.node_progress.specs.Standing.{port_at, read_by}
 use Rattle.node_progress.specs.NodeStates.{first_of, IsNodeState}
 use Rattle.node_progress.proofs.RestLemmas.{have_cycles, released_past}
 
 -- AT ANY TIME
 
 pub stands_now : (score : Score) (k c n : ℕ) (s : NodeState) → IsNodeState score k c n s
-    → StandsFor s (heard_by score n s (received_now score k c n))
+    → StandsFor s (read_by score n s (received_now score k c n))
 stands_now score k c n s st =
     let out = outputs score.plan.value score.waves.value in
     let first = first_of score.plan.value k in
     let before = received_before score.plan.value out c n in
     let until = received_until score.plan.value out c n in
     ⊎_elim
-    (λ (is : c ≡ first). subst (λ (r : Received). StandsFor s (heard_by score n s r)) (sym (cond-true (c == first) before until (eq-eqb c first is)))
+    (λ (is : c ≡ first). subst (λ (r : Received). StandsFor s (read_by score n s r)) (sym (cond-true (c == first) before until (eq-eqb c first is)))
     (st.begun is))
-    (λ (later : c ≢ first). subst (λ (r : Received). StandsFor s (heard_by score n s r))
+    (λ (later : c ≢ first). subst (λ (r : Received). StandsFor s (read_by score n s r))
     (sym (cond-false (c == first) before until (ne_eqb c first later))) (st.done later))
     (cases_eq c first)
 
 -- a sink keeps the stream of its input
 pub kept_now : (score : Score) (k c n : ℕ) (s : NodeState) → IsNodeState score k c n s → kind_at score.plan.value n ≡ Sink
     → kept_stream s ≡ (received_now score k c n).a
-kept_now score k c n s st sink = let h : Heard = heard_by score n s (received_now score k c n) in
-    kept_is_heard s.state s.channels s.prepared h (stands_now score k c n s st).1 ∙ ap (λ kd. stream_heard kd h) (st.kind ∙ sink)
+kept_now score k c n s st sink = let h : KindInputs = read_by score n s (received_now score k c n) in
+    kept_is_stream s.state s.channels s.prepared h (stands_now score k c n s st).1 ∙ ap (λ kd. stream_kept_by kd h) (st.kind ∙ sink)
 
 -- what a meter answers of all that it may stand for is the peak of its input's stream
 pub greatest_now : (score : Score) (k c n : ℕ) (s : NodeState) → IsNodeState score k c n s → kind_at score.plan.value n ≡ Meter
-    → (m : ℕ) → ((h : Heard) → StandsFor s h → m ≡ peak_heard (node_kind s) h) → m ≡ peak_of (received_now score k c n).a
-greatest_now score k c n s st meter m is = let h : Heard = heard_by score n s (received_now score k c n) in
-    is h (stands_now score k c n s st) ∙ ap (λ kd. peak_heard kd h) (st.kind ∙ meter)
+    → (m : ℕ) → ((h : KindInputs) → StandsFor s h → m ≡ peak_kept_by (node_kind s) h) → m ≡ peak_of (received_now score k c n).a
+greatest_now score k c n s st meter m is = let h : KindInputs = read_by score n s (received_now score k c n) in
+    is h (stands_now score k c n s st) ∙ ap (λ kd. peak_kept_by kd h) (st.kind ∙ meter)
 
 -- AT THE END
 
@@ -101,23 +101,23 @@ module _ (score : Score) (sound : IsSoundPlan score.plan.value) (n : ℕ) where
   abbrev waves : List WavIn
   waves = score.waves.value
 
-  heard_end : nat_lt 0 (input_count (kind_at plan n)) ≡ true
+  read_end : nat_lt 0 (input_count (kind_at plan n)) ≡ true
       → (received_now score (length plan.epochs) (all_cycles plan) n).a ≡ end_stream plan waves n
-  heard_end hears = ap (λ (r : Received). r.a) (received_end score sound n)
-      ∙ cond-true (nat_lt 0 (input_count (kind_at plan n))) (streamed plan (outputs plan waves) (all_cycles plan) (port_at n 0)) [] hears
+  read_end some = ap (λ (r : Received). r.a) (received_end score sound n)
+      ∙ cond-true (nat_lt 0 (input_count (kind_at plan n))) (streamed plan (outputs plan waves) (all_cycles plan) (port_at n 0)) [] some
       ∙ sym (end_of plan (outputs plan waves) (port_at n 0) (all_cycles plan))
 
   module _ (s : NodeState) (st : IsNodeAtEnd score n s) where
     -- A SINK keeps the stream that the rendering names
     pub kept_at_end : kind_at plan n ≡ Sink → kept_stream s ≡ end_stream plan waves n
     kept_at_end sink = kept_now score (length plan.epochs) (all_cycles plan) n s st sink
-        ∙ heard_end (ap (λ kd. nat_lt 0 (input_count kd)) sink)
+        ∙ read_end (ap (λ kd. nat_lt 0 (input_count kd)) sink)
 
     -- A METER knows the peak of it
-    pub greatest_at_end : kind_at plan n ≡ Meter → (m : ℕ) → ((h : Heard) → StandsFor s h → m ≡ peak_heard (node_kind s) h)
+    pub greatest_at_end : kind_at plan n ≡ Meter → (m : ℕ) → ((h : KindInputs) → StandsFor s h → m ≡ peak_kept_by (node_kind s) h)
         → m ≡ peak_of (end_stream plan waves n)
     greatest_at_end meter m is = greatest_now score (length plan.epochs) (all_cycles plan) n s st meter m is
-        ∙ ap peak_of (heard_end (ap (λ kd. nat_lt 0 (input_count kd)) meter))
+        ∙ ap peak_of (read_end (ap (λ kd. nat_lt 0 (input_count kd)) meter))
 
     -- so the entries of the rendering are those of the states
     module _ (node : PlanNode) (at : slice_get plan.nodes n ≡ Some node) where
@@ -136,7 +136,7 @@ module _ (score : Score) (sound : IsSoundPlan score.plan.value) (n : ℕ) where
           a_sink Sink t = refl
           a_sink _ t = absurd (true≢false (sym t))
 
-      pub greatest_rendered : (m : ℕ) → ((h : Heard) → StandsFor s h → m ≡ peak_heard (node_kind s) h)
+      pub greatest_rendered : (m : ℕ) → ((h : KindInputs) → StandsFor s h → m ≡ peak_kept_by (node_kind s) h)
           → peak_at plan waves (n, node) ≡ cond (is_meter node.kind && nat_lt 0 node.rate) (Some (record { node = n; value = m })) None
       greatest_rendered m is = ⊎_elim
           (λ (t : is_meter node.kind ≡ true). ap (λ v. cond (is_meter node.kind && nat_lt 0 node.rate)

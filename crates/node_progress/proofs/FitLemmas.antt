@@ -21,7 +21,7 @@ use Rattle.pw_base.proofs.PoolLemmas.{same_port}
 use Rattle.wav_files.specs.declared.wav.WavIn.{WavIn}
 use Rattle.cycle_model.specs.Epochs.{listed, channels_of, channels_at}
 use Rattle.cycle_model.specs.Cycle.{outputs, input_of}
-use Rattle.cycle_model.specs.FullRows.{AgreesIn}
+use Rattle.cycle_model.specs.working.FullRows.{AgreesIn}
 use Rattle.cycle_model.specs.WavesFit.{IsWaveOfSource, IsFormOf}
 use Rattle.cycle_model.proofs.FullRowLemmas.{formed_inputs}
 use Rattle.cycle_model.proofs.SoundFormLemmas.{takes_in, sound_is_formed}
@@ -31,7 +31,7 @@ use Rattle.node_state.specs.Slices.{first_channels, second_channels, left_channe
 use Rattle.node_state.specs.StandsFor.{IsQuantum, node_channels}
 use Rattle.node_progress.specs.declared.score.Score.{Score}
 use Rattle.node_progress.specs.Standing.{port_at, out_channels, comes_in, wide_at}
-use Rattle.node_progress.specs.Working.{FitsOutput}
+use Rattle.node_progress.specs.NodeCycles.{FitsOutput}
 use Rattle.node_progress.specs.NodeStates.{wave_channels_of, IsNodeState, IsWorkedIn, IsOutputRow}
 use Rattle.node_progress.proofs.StateLemmas.{here, epoch_sound, renderable, part, quantum_is}
 

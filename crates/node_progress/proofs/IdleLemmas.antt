@@ -20,7 +20,7 @@ use Rattle.pw_base.specs.SoundPlan.{IsSoundEpoch, IsSoundPlan}
 use Rattle.cycle_model.specs.declared.received.Received.{Received}
 use Rattle.cycle_model.specs.Epochs.{listed, epoch_at, is_active, channels_of, all_cycles}
 use Rattle.cycle_model.specs.Cycle.{Outputs, input_of, stream_of, outputs}
-use Rattle.cycle_model.specs.Known.{is_released, released}
+use Rattle.cycle_model.specs.working.Known.{is_released, released}
 use Rattle.cycle_model.specs.Mixing.{takes_part}
 use Rattle.cycle_model.specs.Progress.{begun, received_until, received_before}
 use Rattle.cycle_model.specs.WavesFit.{WavesFit}
@@ -30,16 +30,16 @@ use Rattle.cycle_model.proofs.ProgressLemmas.{filter_more, released_is, stream_p
 use Rattle.node_state.specs.declared.node_state.NodeState.{NodeState}
 use Rattle.node_state.specs.StandsFor.{StandsFor}
 use Rattle.node_progress.specs.declared.score.Score.{Score}
-use Rattle.node_progress.specs.Standing.{port_at, heard_by, HasReceivedBefore, HasReceivedUntil, works_in, works, worked}
+use Rattle.node_progress.specs.Standing.{port_at, read_by, HasReceivedBefore, HasReceivedUntil, works_in, works, worked}
 use Rattle.node_progress.specs.NodeStates.{first_of, IsNodeState}
 use Rattle.node_progress.proofs.StateLemmas.{not_released}
 use Rattle.node_progress.proofs.RestLemmas.{nothing_in, have_cycles}
 
 -- a state stands for streams alone
-pub alike : (score : Score) (n : ℕ) (s : NodeState) (r q : Received) → r.a ≡ q.a → r.b ≡ q.b → StandsFor s (heard_by score n s r)
-    → StandsFor s (heard_by score n s q)
+pub alike : (score : Score) (n : ℕ) (s : NodeState) (r q : Received) → r.a ≡ q.a → r.b ≡ q.b → StandsFor s (read_by score n s r)
+    → StandsFor s (read_by score n s q)
 alike score n s r q ea eb = subst (λ (ab : List ℤ × List ℤ).
-    StandsFor s (heard_by score n s (record { frames = 0; a = ab.0; b = ab.1 }))) (λ i. (ea i, eb i))
+    StandsFor s (read_by score n s (record { frames = 0; a = ab.0; b = ab.1 }))) (λ i. (ea i, eb i))
 
 -- a port that no form is of has no channels
 no_channels : (forms : List PortForm) (port : PortId) → list_any (λ f. is_same_port f.port port) forms ≡ false → channels_of forms port ≡ 0
@@ -137,7 +137,7 @@ module _ (score : Score) (k : ℕ) (e : Epoch) (n : ℕ) (sound : IsSoundPlan sc
         let stays : is_released plan.epochs c n ≡ false = not_released 0 plan.epochs k e c n sound.follow at (omega (arith, is))
         (omega (arith, is, low)) in
         one c (omega (arith, is), omega (arith, is, low))
-        (subst (λ (r : Received). StandsFor s (heard_by score n s r)) (sym (released_is plan out c n sound.follow
+        (subst (λ (r : Received). StandsFor s (read_by score n s r)) (sym (released_is plan out c n sound.follow
         ∙ cond-false (is_released plan.epochs c n) (released (received_until plan out c n)) (received_until plan out c n) stays)) so_far)
 
   -- it works in none of the cycles

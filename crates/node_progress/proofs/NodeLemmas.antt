@@ -10,18 +10,18 @@ use Rattle.pw_base.specs.declared.kind.Kind.{Kind}
 use Rattle.pw_base.specs.declared.kind.Kind.TheVariants.{Source, Square, Gain, Mix2, Delay, Map, Split, Sink, Meter, Dummy}
 use Rattle.pw_base.specs.declared.plan.Epoch.{Epoch}
 use Rattle.pw_base.specs.declared.plan.Plan.{Plan}
-use Rattle.pw_base.specs.KindFunction.{Heard, kind_output}
+use Rattle.pw_base.specs.KindFunction.{KindInputs, kind_output}
 use Rattle.pw_base.specs.KindPorts.{input_count}
 use Rattle.pw_base.specs.PlanForms.{kind_at}
 use Rattle.wav_files.specs.declared.wav.WavIn.{WavIn}
 use Rattle.cycle_model.specs.declared.received.Received.{Received}
 use Rattle.cycle_model.specs.Epochs.{epoch_at, listed, is_active, channels_of, channels_at, active_cycles}
-use Rattle.cycle_model.specs.Cycle.{Outputs, wave_of, last_of, input_of, stream_of, heard, outputs}
+use Rattle.cycle_model.specs.Cycle.{Outputs, wave_of, last_of, input_of, stream_of, kind_inputs_at, outputs}
 use Rattle.cycle_model.specs.Mixing.{takes_part}
-use Rattle.cycle_model.specs.KindSamples.{heard_of}
+use Rattle.cycle_model.specs.KindSamples.{kind_inputs_of}
 use Rattle.cycle_model.specs.Progress.{received_until, received_before, begun}
 use Rattle.cycle_model.specs.Renderable.{IsRenderable}
-use Rattle.cycle_model.proofs.CycleLemmas.{active_in, heard_same}
+use Rattle.cycle_model.proofs.CycleLemmas.{active_in, inputs_same}
 use Rattle.cycle_model.proofs.ProgressLemmas.{stream_parts}
 use Rattle.cycle_model.proofs.SettledLemmas.{outputs_solve}
 use Rattle.node_state.specs.Streams.{followed, output_now}
@@ -45,7 +45,7 @@ both true old new = refl
 both false old new = refl
 
 -- a kind with an input reads no count of frames
-frames_free : (k : Kind) (h : Heard) (f o : ℕ) → (input_count k ≡ 0 → h.frames ≡ f)
+frames_free : (k : Kind) (h : KindInputs) (f o : ℕ) → (input_count k ≡ 0 → h.frames ≡ f)
     → kind_output k h o ≡ kind_output k (record h { frames = f }) o
 frames_free Source h f o same = ap (λ m. kind_output Source (record h { frames = m }) o) (same refl)
 frames_free (Square x y z w) h f o same = ap (λ m. kind_output (Square x y z w) (record h { frames = m }) o) (same refl)
@@ -90,19 +90,19 @@ module _ (score : Score) (c n : ℕ) (e : Epoch) (at : epoch_at score.plan.value
 
   -- what was received before the cycle, followed by the cycle's inputs, is what is received after it
   pub joined : (w : List ℤ) (channels frames q : ℕ) (a b : List ℤ) → a ≡ comes_in score c n 0 → b ≡ comes_in score c n 1
-      → followed q a b (record (heard_of w channels past) { frames = frames })
-      ≡ record (heard_of w channels (received_until plan out (suc c) n)) { frames = frames + q }
+      → followed q a b (record (kind_inputs_of w channels past) { frames = frames })
+      ≡ record (kind_inputs_of w channels (received_until plan out (suc c) n)) { frames = frames + q }
   joined w channels frames q a b ea eb = parts (ap (λ x. past.a ++ x) ea ∙ goes_on 0) (ap (λ x. past.b ++ x) eb ∙ goes_on 1)
     where
       parts : {x y s t : List ℤ} → x ≡ s → y ≡ t
-          → (let h : Heard = record { wave = w; frames = frames + q; channels = channels; a = x; b = y } in h)
-          ≡ (let h : Heard = record { wave = w; frames = frames + q; channels = channels; a = s; b = t } in h)
+          → (let h : KindInputs = record { wave = w; frames = frames + q; channels = channels; a = x; b = y } in h)
+          ≡ (let h : KindInputs = record { wave = w; frames = frames + q; channels = channels; a = s; b = t } in h)
       parts p r i = record { wave = w; frames = frames + q; channels = channels; a = p i; b = r i }
 
   -- the last quantum of the kind's function of it is what the output gives
   gives : IsRenderable plan waves → (o : ℕ)
       → last_of (plan.quantum * channels_of e.forms (port_at n (input_count kind + o)))
-      (kind_output kind (heard_of (wave_of waves n) (channels_of e.forms (port_at n (input_count kind + o)))
+      (kind_output kind (kind_inputs_of (wave_of waves n) (channels_of e.forms (port_at n (input_count kind + o)))
       (received_until plan out (suc c) n)) o)
       ≡ goes_out score c n o
   gives renderable o =
@@ -116,18 +116,18 @@ module _ (score : Score) (c n : ℕ) (e : Epoch) (at : epoch_at score.plan.value
       let frames : plan.quantum * active_before (suc c) ≡ plan.quantum * length (active_cycles plan 0 c n) =
       ap (λ m. plan.quantum * active_before m) cycles in
       ap (last_of (plan.quantum * ch))
-      (heard_same kind (wave_of waves n) (plan.quantum * active_before (suc c)) ch a b o
-      ∙ ap (λ m. kind_output kind (let h : Heard = record { wave = wave_of waves n; frames = m; channels = ch; a = a; b = b } in h) o)
+      (inputs_same kind (wave_of waves n) (plan.quantum * active_before (suc c)) ch a b o
+      ∙ ap (λ m. kind_output kind (let h : KindInputs = record { wave = wave_of waves n; frames = m; channels = ch; a = a; b = b } in h) o)
       frames)
       ∙ ap (λ m. last_of (plan.quantum * m) (kind_output kind
-      (let h : Heard = record {
+      (let h : KindInputs = record {
         wave = wave_of waves n;
         frames = plan.quantum * length (active_cycles plan 0 c n);
         channels = m;
         a = a;
         b = b;
       } in h) o)) (sym channels)
-      ∙ ap (λ m. last_of (plan.quantum * channels_at plan c p) (kind_output kind (heard plan waves out c p) m)) (sym which)
+      ∙ ap (λ m. last_of (plan.quantum * channels_at plan c p) (kind_output kind (kind_inputs_at plan waves out c p) m)) (sym which)
       ∙ sym (outputs_solve plan waves renderable c p active)
 
   -- one quantum more is that of one active cycle more
@@ -145,11 +145,11 @@ module _ (score : Score) (c n : ℕ) (e : Epoch) (at : epoch_at score.plan.value
       → (input_count kind ≡ 0 → f ≡ plan.quantum * active_before c) → (a b : List ℤ)
       → a ≡ comes_in score c n 0 → b ≡ comes_in score c n 1 → (o ch m : ℕ)
       → channels_of e.forms (port_at n (input_count kind + o)) ≡ ch → m ≡ plan.quantum * channels_of e.forms (port_at n (input_count kind + o))
-      → output_now k (followed q a b (record (heard_of (wave_of waves n) ch past) { frames = f })) o m ≡ goes_out score c n o
+      → output_now k (followed q a b (record (kind_inputs_of (wave_of waves n) ch past) { frames = f })) o m ≡ goes_out score c n o
   output_is renderable k ks q eq f ef a b ea eb o ch m ech em =
-      ap (λ j. output_now j (followed q a b (record (heard_of (wave_of waves n) ch past) { frames = f })) o m) ks
+      ap (λ j. output_now j (followed q a b (record (kind_inputs_of (wave_of waves n) ch past) { frames = f })) o m) ks
       ∙ ap (λ h. output_now kind h o m) (joined (wave_of waves n) ch f q a b ea eb)
-      ∙ ap (λ (x : List ℤ). last_of m x) (frames_free kind (record (heard_of (wave_of waves n) ch (received_until plan out (suc c) n))
+      ∙ ap (λ (x : List ℤ). last_of m x) (frames_free kind (record (kind_inputs_of (wave_of waves n) ch (received_until plan out (suc c) n))
       { frames = f + q }) (plan.quantum * active_before (suc c)) o (λ none. frames_on f q eq (ef none)))
-      ∙ (λ i. last_of (em i) (kind_output kind (heard_of (wave_of waves n) (sym ech i) (received_until plan out (suc c) n)) o))
+      ∙ (λ i. last_of (em i) (kind_output kind (kind_inputs_of (wave_of waves n) (sym ech i) (received_until plan out (suc c) n)) o))
       ∙ gives renderable o

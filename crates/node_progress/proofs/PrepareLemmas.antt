@@ -10,7 +10,7 @@ use Rattle.pw_base.specs.declared.kind.Kind.{Kind}
 use Rattle.pw_base.specs.declared.kind.Kind.TheVariants.{Source, Square, Gain, Mix2, Delay, Map, Split, Sink, Meter, Dummy}
 use Rattle.pw_base.specs.declared.plan.Epoch.{Epoch}
 use Rattle.pw_base.specs.declared.plan.Plan.{Plan}
-use Rattle.pw_base.specs.KindFunction.{Heard}
+use Rattle.pw_base.specs.KindFunction.{KindInputs}
 use Rattle.pw_base.specs.KindPorts.{input_count}
 use Rattle.pw_base.specs.PlanForms.{kind_at}
 use Rattle.pw_base.specs.PlanFresh.{Names}
@@ -26,17 +26,17 @@ use Rattle.cycle_model.proofs.ProgressLemmas.{begun_first}
 use Rattle.node_state.specs.declared.node_state.NodeState.{NodeState}
 use Rattle.node_state.specs.Slices.{AllowsChannels, left_channels}
 use Rattle.node_state.specs.StandsFor.{StandsFor, IsPrepared, IsRestarted, node_kind, node_wave_channels, node_channels, most_channels}
-use Rattle.node_state.specs.Streams.{HasItsWave, samples_of, channels_of, unheard, restarted}
+use Rattle.node_state.specs.Streams.{HasItsWave, samples_of, channels_of, no_inputs, restarted}
 use Rattle.node_progress.specs.declared.score.Score.{Score}
-use Rattle.node_progress.specs.Standing.{port_at, heard_by, worked, HasReceivedBefore}
+use Rattle.node_progress.specs.Standing.{port_at, read_by, worked, HasReceivedBefore}
 use Rattle.node_progress.specs.NodeStates.{first_of, wave_channels_of, IsNodeState}
-use Rattle.node_progress.specs.Preparing.{IsMostNamed, wav_of, IsPreparedNode}
+use Rattle.node_progress.specs.working.Preparing.{IsMostNamed, wav_of, IsPreparedNode}
 use Rattle.node_progress.specs.Restarts.{restart_of}
 use Rattle.node_progress.proofs.FitLemmas.{wave_found}
 use Rattle.node_progress.proofs.FrameLemmas.{own_cycles, worked_is, few_cycles}
 use Rattle.node_progress.proofs.FreshLemmas.{named_of, restart_is, named_allowed}
 use Rattle.node_progress.proofs.IdleLemmas.{alike}
-use Rattle.node_progress.proofs.RestLemmas.{restarted_heard}
+use Rattle.node_progress.proofs.RestLemmas.{restarted_read}
 
 -- THE GREATEST CHANNELS
 
@@ -194,7 +194,7 @@ module _ (score : Score) (plan : Plan) (waves : List WavIn) (n : ℕ) (plan_is :
       → IsMostNamed plan n most → (0 < length plan.epochs → quantum ≡ plan.quantum)
       → frames ≡ plan.quantum * worked plan n (all_cycles plan)
       → node_kind s ≡ kd → node_wave_channels s ≡ channels_of wav → IsPrepared most quantum frames s
-      → StandsFor s (unheard kd wav most) → IsPreparedNode score n s
+      → StandsFor s (no_inputs kd wav most) → IsPreparedNode score n s
   prepared_is kd wav most quantum frames kd_is wav_is most_is quantum_is frames_are kind wave numbers stands = record {
     kind = kind ∙ kd_is ∙ ap (λ (p : Plan). kind_at p n) (sym plan_is);
     wave = wave ∙ ap channels_of wav_is ∙ wave_channels waves n ∙ ap (λ ws. wave_channels_of ws n) (sym waves_are);
@@ -202,14 +202,14 @@ module _ (score : Score) (plan : Plan) (waves : List WavIn) (n : ℕ) (plan_is :
     frames = numbers.3;
     prepared = numbers.4 ∙ frames_are ∙ ap (λ (p : Plan). p.quantum * worked p n (all_cycles p)) (sym plan_is);
     most = subst (λ (x : Plan × ℕ). IsMostNamed x.0 n x.1) (λ i. (sym plan_is i, sym numbers.1 i)) most_is;
-    stands = subst (λ (h : Heard). StandsFor s h) heard stands;
+    stands = subst (λ (h : KindInputs). StandsFor s h) read stands;
   }
     where
       samples : samples_of wav ≡ wave_of score.waves.value n
       samples = ap samples_of wav_is ∙ wave_samples waves n ∙ ap (λ ws. wave_of ws n) (sym waves_are)
 
-      heard : unheard kd wav most ≡ heard_by score n s nothing
-      heard i = record {
+      read : no_inputs kd wav most ≡ read_by score n s nothing
+      read i = record {
         wave = samples i;
         frames = sym numbers.3 i;
         channels = left_channels (sym kind i) (sym wave i) (sym numbers.0 i);
@@ -228,16 +228,16 @@ first_zero plan sound = by plan.epochs sound.follow
     by (e ∷ es) h = h.0
 
 -- nothing is received before the first cycle
-module _ (score : Score) (n : ℕ) (s : NodeState) (stands : StandsFor s (heard_by score n s nothing)) where
+module _ (score : Score) (n : ℕ) (s : NodeState) (stands : StandsFor s (read_by score n s nothing)) where
   abbrev given : Outputs
   given = outputs score.plan.value score.waves.value
 
-  abbrev hears : ℕ → Bool
-  hears i = nat_lt i (input_count (kind_at score.plan.value n))
+  abbrev has_input : ℕ → Bool
+  has_input i = nat_lt i (input_count (kind_at score.plan.value n))
 
-  none_yet : (i : ℕ) → [] ≡ cond (hears i) (begun score.plan.value given 0 (port_at n i)) []
-  none_yet i = sym (ap (λ l. cond (hears i) l []) (begun_first score.plan.value given (port_at n i))
-      ∙ cond_both (hears i) [] [] (λ l. l ≡ []) (λ t. refl) (λ f. refl))
+  none_yet : (i : ℕ) → [] ≡ cond (has_input i) (begun score.plan.value given 0 (port_at n i)) []
+  none_yet i = sym (ap (λ l. cond (has_input i) l []) (begun_first score.plan.value given (port_at n i))
+      ∙ cond_both (has_input i) [] [] (λ l. l ≡ []) (λ t. refl) (λ f. refl))
 
   before_first : HasReceivedBefore score 0 n s
   before_first = alike score n s nothing (received_before score.plan.value given 0 n) (none_yet 0) (none_yet 1) stands
@@ -273,7 +273,7 @@ module _ (score : Score) (sound : IsSoundPlan score.plan.value) (n : ℕ) (s : N
     pub first_room : channels ≤ most_channels s
     first_room = u.most.bound 0 channels named
 
-    pub begun_anew : (t : NodeState) → ((h : Heard) → StandsFor s h → StandsFor t (restarted (node_kind s) channels h))
+    pub begun_anew : (t : NodeState) → ((h : KindInputs) → StandsFor s h → StandsFor t (restarted (node_kind s) channels h))
         → (0 < input_count (node_kind s) → node_channels t ≡ channels) → IsRestarted s t → IsNodeState score 0 0 n t
     begun_anew t stands anew same = record {
       kind = same.0 ∙ u.kind;
@@ -285,7 +285,7 @@ module _ (score : Score) (sound : IsSoundPlan score.plan.value) (n : ℕ) (s : N
       channels = λ j m low other from some. let at : j ≡ 0 = omega (arith, low) in
           anew (subst (λ kd. 0 < input_count kd) (sym u.kind) some)
           ∙ same_Some channels m (sym is ∙ restart_is plan sound 0 n m (subst (λ k. Names plan k n m) at other));
-      begun = λ first. before_first score n t (subst (λ (h : Heard). StandsFor t h) (restarted_heard score n s t nothing channels anew same)
-          (stands (heard_by score n s nothing) u.stands));
+      begun = λ first. before_first score n t (subst (λ (h : KindInputs). StandsFor t h) (restarted_read score n s t nothing channels anew same)
+          (stands (read_by score n s nothing) u.stands));
       done = λ other. absurd (other (sym (first_zero plan sound)));
     }

@@ -16,7 +16,7 @@ use Rattle.pw_base.specs.PlanForms.{kind_at}
 use Rattle.pw_base.specs.PlanFresh.{Names}
 use Rattle.pw_base.specs.SoundPlan.{FollowFrom, IsSoundPlan}
 use Rattle.cycle_model.specs.Epochs.{listed, is_fresh, all_cycles}
-use Rattle.cycle_model.specs.Known.{is_released}
+use Rattle.cycle_model.specs.working.Known.{is_released}
 use Rattle.pw_base.specs.declared.ids.PortId.{PortId}
 use Rattle.pw_base.specs.declared.kind.Kind.{Kind}
 use Rattle.pw_base.specs.declared.kind.Kind.TheVariants.{Source, Square, Gain, Mix2, Delay, Map, Split, Sink, Meter, Dummy}
@@ -27,18 +27,18 @@ use Rattle.pw_base.proofs.PoolLemmas.{same_port}
 use Rattle.cycle_model.specs.declared.received.Received.{Received}
 use Rattle.cycle_model.specs.Epochs.{is_within, epoch_at, is_active, channels_of, channels_at, links_into, stream_start}
 use Rattle.cycle_model.specs.Cycle.{Outputs, outputs, brought, input_of, stream_of, wave_of}
-use Rattle.cycle_model.specs.Known.{released}
+use Rattle.cycle_model.specs.working.Known.{released}
 use Rattle.cycle_model.specs.Progress.{received_until, received_before}
 use Rattle.cycle_model.proofs.EpochLemmas.{found}
 use Rattle.cycle_model.proofs.ProgressLemmas.{released_is, start_le}
 use Rattle.node_state.specs.declared.node_state.NodeState.{NodeState}
 use Rattle.node_state.specs.Slices.{AllowsChannels, left_channels}
 use Rattle.node_state.specs.StandsFor.{StandsFor, IsRestarted, node_kind, node_wave_channels, node_channels, most_channels, kept_stream}
-use Rattle.node_state.specs.Streams.{restarted, stream_heard}
-use Rattle.node_state.proofs.KeptLemmas.{kept_is_heard}
-use Rattle.pw_base.specs.KindFunction.{Heard}
+use Rattle.node_state.specs.Streams.{restarted, stream_kept_by}
+use Rattle.node_state.proofs.KeptLemmas.{kept_is_stream}
+use Rattle.pw_base.specs.KindFunction.{KindInputs}
 use Rattle.node_progress.specs.declared.score.Score.{Score}
-use Rattle.node_progress.specs.Standing.{port_at, out_channels, heard_by}
+use Rattle.node_progress.specs.Standing.{port_at, out_channels, read_by}
 use Rattle.node_progress.specs.NodeStates.{IsNodeState}
 use Rattle.node_progress.specs.NodeStates.{first_of}
 use Rattle.node_progress.specs.Restarts.{restart_of, IsEndOf}
@@ -168,7 +168,7 @@ channels_anew Meter w old new n h = refl
 channels_anew Dummy w old new n h = refl
 
 -- only a sink keeps a stream
-keeps_none : (kd : Kind) (h : Heard) → (kd ≡ Sink → h.a ≡ []) → stream_heard kd h ≡ []
+keeps_none : (kd : Kind) (h : KindInputs) → (kd ≡ Sink → h.a ≡ []) → stream_kept_by kd h ≡ []
 keeps_none Source h none = refl
 keeps_none (Square r c p a) h none = refl
 keeps_none (Gain g) h none = refl
@@ -180,11 +180,11 @@ keeps_none Sink h none = none refl
 keeps_none Meter h none = refl
 keeps_none Dummy h none = refl
 
--- what a state has heard, begun anew
-pub restarted_heard : (score : Score) (n : ℕ) (s t : NodeState) (r : Received) (channels : ℕ)
+-- what a state has read, begun anew
+pub restarted_read : (score : Score) (n : ℕ) (s t : NodeState) (r : Received) (channels : ℕ)
     → (0 < input_count (node_kind s) → node_channels t ≡ channels) → IsRestarted s t
-    → restarted (node_kind s) channels (heard_by score n s r) ≡ heard_by score n t (released r)
-restarted_heard score n s t r channels is same i =
+    → restarted (node_kind s) channels (read_by score n s r) ≡ read_by score n t (released r)
+restarted_read score n s t r channels is same i =
     record { wave = wave_of score.waves.value n; frames = sym same.5 i; channels = outs i; a = []; b = [] }
   where
     outs : left_channels (node_kind s) (out_channels s) channels ≡ out_channels t
@@ -252,7 +252,7 @@ module _ (score : Score) (k c n : ℕ) (w : IsEndOf score k c n) where
           (λ (last : suc k ≤ j). let is : j ≡ suc k = omega (arith, last, low) in
           absurd (not_named channels (subst (λ m. Names plan m n channels) is named)))
           (cases_lt j (suc k));
-      begun = λ is. subst (λ (r : Received). StandsFor s (heard_by score n s r))
+      begun = λ is. subst (λ (r : Received). StandsFor s (read_by score n s r))
           (sym (released_is plan out c n w.sound.follow
           ∙ cond-false (is_released plan.epochs c n) (released (received_until plan out c n)) (received_until plan out c n) stays))
           (st.done later);
@@ -304,8 +304,8 @@ module _ (score : Score) (k c n : ℕ) (w : IsEndOf score k c n) where
             ∙ cond_both (nat_lt 0 (input_count (kind_at plan n))) [] [] (λ l. l ≡ []) (λ t. refl) (λ f. refl)
 
     module _ (s : NodeState) (st : IsNodeState score k c n s) where
-      abbrev before : Heard
-      before = heard_by score n s (received_until plan out c n)
+      abbrev before : KindInputs
+      before = read_by score n s (received_until plan out c n)
 
       pub stood : StandsFor s before
       stood = st.done later
@@ -314,7 +314,7 @@ module _ (score : Score) (k c n : ℕ) (w : IsEndOf score k c n) where
       may_restart = (
         subst (λ kd. AllowsChannels kd n_channels) (sym st.kind) allowed,
         st.most (suc k) n_channels named,
-        kept_is_heard s.state s.channels s.prepared before stood.1 ∙ keeps_none (node_kind s) before (λ is. no_stream (sym st.kind ∙ is)),
+        kept_is_stream s.state s.channels s.prepared before stood.1 ∙ keeps_none (node_kind s) before (λ is. no_stream (sym st.kind ∙ is)),
       )
 
       pub anew : (t : NodeState) → StandsFor t (restarted (node_kind s) n_channels before)
@@ -332,7 +332,7 @@ module _ (score : Score) (k c n : ℕ) (w : IsEndOf score k c n) where
             channels (subst (λ kd. 0 < input_count kd) (sym st.kind) some)
             ∙ sym (same_entry m (subst (λ i. Names plan i n m) at other)))
             (cases_lt j (suc k));
-        begun = λ at. subst (λ (h : Heard). StandsFor t h) heard stands;
+        begun = λ at. subst (λ (h : KindInputs). StandsFor t h) read stands;
         done = λ other. absurd (other (sym first_next));
       }
         where
@@ -340,6 +340,6 @@ module _ (score : Score) (k c n : ℕ) (w : IsEndOf score k c n) where
           gone = released_is plan out c n w.sound.follow
               ∙ cond-true (is_released plan.epochs c n) (released (received_until plan out c n)) (received_until plan out c n) goes
 
-          heard : restarted (node_kind s) n_channels before ≡ heard_by score n t (received_before plan out c n)
-          heard = restarted_heard score n s t (received_until plan out c n) n_channels channels same
-              ∙ ap (λ r. heard_by score n t r) (sym gone)
+          read : restarted (node_kind s) n_channels before ≡ read_by score n t (received_before plan out c n)
+          read = restarted_read score n s t (received_until plan out c n) n_channels channels same
+              ∙ ap (λ r. read_by score n t r) (sym gone)

@@ -16,7 +16,7 @@ use Rattle.pw_base.specs.SoundPlan.{FollowFrom, IsSoundEpoch}
 use Rattle.cycle_model.specs.declared.received.Received.{Received}
 use Rattle.cycle_model.specs.Epochs.{is_within, epoch_at, listed, is_active, all_cycles}
 use Rattle.cycle_model.specs.Cycle.{outputs}
-use Rattle.cycle_model.specs.Known.{is_released, released}
+use Rattle.cycle_model.specs.working.Known.{is_released, released}
 use Rattle.cycle_model.specs.Mixing.{takes_part}
 use Rattle.cycle_model.specs.Renderable.{IsRenderable}
 use Rattle.cycle_model.proofs.SoundPlanLemmas.{sound_is_renderable}
@@ -28,8 +28,8 @@ use Rattle.cycle_model.proofs.ProgressLemmas.{filter_more, released_is}
 use Rattle.node_state.specs.declared.node_state.NodeState.{NodeState}
 use Rattle.node_state.specs.StandsFor.{StandsFor, HasFramesLeft, IsSameNode, frames_so_far, node_quantum}
 use Rattle.node_progress.specs.declared.score.Score.{Score}
-use Rattle.node_progress.specs.Standing.{heard_by, HasReceivedBefore, HasReceivedUntil, works_in, works, worked}
-use Rattle.node_progress.specs.Working.{HasItsFrames}
+use Rattle.node_progress.specs.Standing.{read_by, HasReceivedBefore, HasReceivedUntil, works_in, works, worked}
+use Rattle.node_progress.specs.NodeCycles.{HasItsFrames}
 use Rattle.node_progress.specs.NodeStates.{first_of, IsNodeState, IsWorkedIn}
 use Rattle.node_progress.proofs.NodeLemmas.{one_more}
 
@@ -137,7 +137,7 @@ module _ (score : Score) (k c n : ℕ) (w : IsWorkedIn score k c n) where
         let stays : is_released plan.epochs c n ≡ false = not_released 0 plan.epochs k e c n w.sound.follow w.at (omega (arith, low, later)) w.to in
         let same : received_before plan out c n ≡ received_until plan out c n = released_is plan out c n w.sound.follow
         ∙ cond-false (is_released plan.epochs c n) (released (received_until plan out c n)) (received_until plan out c n) stays in
-        subst (λ (r : Received). StandsFor s (heard_by score n s r)) (sym same) (st.done (λ is. later (is ∙ first_is))))
+        subst (λ (r : Received). StandsFor s (read_by score n s r)) (sym same) (st.done (λ is. later (is ∙ first_is))))
         (cases_eq c e.shape.first)
 
     pub some_left : HasFramesLeft s

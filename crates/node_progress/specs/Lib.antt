@@ -1,6 +1,6 @@
 pub mod Standing
-pub mod Working
+pub mod NodeCycles
 pub mod NodeStates
 pub mod Restarts
-pub mod Preparing
 pub mod Ends
+pub mod working

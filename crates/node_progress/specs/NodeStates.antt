@@ -15,7 +15,7 @@ use Rattle.node_state.specs.declared.node_state.NodeState.{NodeState}
 use Rattle.node_state.specs.StandsFor.{node_kind, node_wave_channels, node_quantum, frames_so_far, prepared_frames, node_channels, most_channels}
 use Rattle.node_progress.specs.declared.score.Score.{Score}
 use Rattle.node_progress.specs.Standing.{HasReceivedBefore, HasReceivedUntil, comes_in, works_in, worked}
-use Rattle.node_progress.specs.Working.{output_channels}
+use Rattle.node_progress.specs.NodeCycles.{output_channels}
 
 -- the first cycle of epoch k; past the last one all cycles
 abbrev pub first_of : Plan → ℕ → ℕ

@@ -11,11 +11,11 @@ use Rattle.pw_base.specs.KindPorts.{input_count}
 use Rattle.pw_base.specs.PlanForms.{kind_at}
 use Rattle.pw_base.specs.Pools.{is_same_port}
 use Rattle.cycle_model.specs.declared.received.Received.{Received}
-use Rattle.pw_base.specs.KindFunction.{Heard}
+use Rattle.pw_base.specs.KindFunction.{KindInputs}
 use Rattle.cycle_model.specs.Epochs.{epoch_at, channels_at}
 use Rattle.cycle_model.specs.Cycle.{wave_of, outputs, input_of}
 use Rattle.cycle_model.specs.Mixing.{takes_part}
-use Rattle.cycle_model.specs.KindSamples.{heard_of}
+use Rattle.cycle_model.specs.KindSamples.{kind_inputs_of}
 use Rattle.cycle_model.specs.Progress.{received_until, received_before}
 use Rattle.node_state.specs.declared.node_state.NodeState.{NodeState}
 use Rattle.node_state.specs.Slices.{left_channels}
@@ -32,18 +32,18 @@ out_channels s = left_channels (node_kind s) (node_wave_channels s) (node_channe
 
 -- what the state works with, where it has received this. It counts the frames itself: those of the
 -- cycles that it worked
-abbrev pub heard_by : Score → ℕ → NodeState → Received → Heard
-heard_by score n s r = record (heard_of (wave_of score.waves.value n)
+abbrev pub read_by : Score → ℕ → NodeState → Received → KindInputs
+read_by score n s r = record (kind_inputs_of (wave_of score.waves.value n)
     (out_channels s) r) { frames = frames_so_far s }
 
 -- the state of the node n stands for what it has received as the cycle c begins, and after `cycles`
 -- cycles
 abbrev pub HasReceivedBefore : Score → ℕ → ℕ → NodeState → Type 0
-HasReceivedBefore score c n s = StandsFor s (heard_by score n s
+HasReceivedBefore score c n s = StandsFor s (read_by score n s
     (received_before score.plan.value (outputs score.plan.value score.waves.value) c n))
 
 abbrev pub HasReceivedUntil : Score → ℕ → ℕ → NodeState → Type 0
-HasReceivedUntil score cycles n s = StandsFor s (heard_by score n s
+HasReceivedUntil score cycles n s = StandsFor s (read_by score n s
     (received_until score.plan.value (outputs score.plan.value score.waves.value) cycles n))
 
 -- what an input of the node gets in the cycle c; nothing where the kind has no such input

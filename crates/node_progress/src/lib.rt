@@ -6,12 +6,14 @@
 #![tactic(auto)]
 
 mod frames;
+mod node_cycle;
 mod preparing;
 mod restarting;
 mod score;
 mod working;
 
 pub use frames::{takes_part, worked_cycles, works_in};
+pub use node_cycle::NodeCycle;
 pub use preparing::prepare_node;
 pub use restarting::{enter_next, restart_in};
 pub use score::Score;

@@ -1,16 +1,17 @@
 //! A node's state before the run.
 ghost use Rattle.std.specs.Prelude.{◌≡◌, ◌<◌, length, IfOk, option_copied};
+ghost use Rattle.pw_base.specs.Limits.{quantum_limit};
 ghost use Rattle.pw_base.specs.SoundPlan.{IsSoundPlan};
 ghost use Rattle.pw_base.specs.SoundShape.{IsBetween};
 ghost use Rattle.cycle_model.specs.WavesFit.{WavesFit};
 ghost use Rattle.node_progress.specs.NodeStates.{IsNodeState};
-ghost use Rattle.node_progress.specs.Preparing.{IsMostNamed, wav_of, IsPreparedNode};
+ghost use Rattle.node_progress.specs.working.Preparing.{IsMostNamed, wav_of, IsPreparedNode};
 
 use crate::frames::worked_cycles;
 use crate::restarting::{fresh_in, restart_in};
 use crate::score::Score;
 use node_state::NodeState;
-use pw_base::{Items, Memory, Plan};
+use pw_base::{Items, Memory, Plan, QUANTUM_LIMIT};
 use std::alloc::Global;
 use wav_files::{Wav, WavIn};
 
@@ -34,13 +35,13 @@ fn wave_of(waves: &Items<WavIn>, node: u32) -> Option<&Wav>
     waves.iter().find(|w| w.node == node).map(|w| &w.wav)
 }
 
-// The frames in a quantum. A plan without an epoch may have any; a state has 1 to 8192.
+// The frames in a quantum. A plan without an epoch may have any; a state has 1 to `QUANTUM_LIMIT`.
 fn quantum_of(plan: &Plan) -> u32
     requires { IsSoundPlan plan.now }
-    ensures range { IsBetween 1 8192 result }
+    ensures range { IsBetween 1 quantum_limit result }
     ensures is { 0 < length plan.now.epochs → result ≡ plan.now.quantum }
 {
-    plan.quantum.clamp(1, 8192)
+    plan.quantum.clamp(1, QUANTUM_LIMIT)
 }
 
 // A state with all its memory, which has received nothing.

@@ -9,12 +9,12 @@ use Rattle.std.proofs.Math.Nat.{mod-add-mod, mod-add-div'}
 use Rattle.std.proofs.Math.Seq.{drop-length, drop-append_seam}
 use Rattle.pw_base.specs.declared.kind.Kind.{Kind}
 use Rattle.pw_base.specs.Samples.{scaled, mixed, silence, of_frames}
-use Rattle.pw_base.specs.KindFunction.{Heard, kind_output, square_at}
+use Rattle.pw_base.specs.KindFunction.{KindInputs, kind_output, square_at}
 use Rattle.s16_mixer.proofs.FrameLemmas.{of_frames-add, picked_append}
 use Rattle.node_state.specs.declared.kind_state.KindState.{KindState}
 use Rattle.node_state.specs.declared.kind_state.KindState.TheVariants.{Source, Square, Gain, Mix2, Delay, Map, Split, Sink, Meter}
 use Rattle.node_state.specs.States.{kind_of}
-use Rattle.node_state.specs.Steps.{CanStep, given_by}
+use Rattle.node_state.specs.working.Steps.{CanStep, given_by}
 use Rattle.node_state.specs.StandsFor.{Keeps}
 use Rattle.node_state.specs.Streams.{Joins, followed}
 use Rattle.node_state.proofs.SliceLemmas.{BringsFew}
@@ -61,7 +61,7 @@ as_long x frames prepared long channels is few = ⊎_elim
         take-append-le (length x) (silence (n * channels)) x (omega (arith, all, low)) ∙ take-replicate (length x) (n * channels) (pos 0) low
 
 -- what a kind's function gains by one quantum
-pub gained : (s : KindState) (channels prepared quantum : ℕ) (a b left right : List ℤ) (h : Heard) (output : ℕ) → output < 2
+pub gained : (s : KindState) (channels prepared quantum : ℕ) (a b left right : List ℤ) (h : KindInputs) (output : ℕ) → output < 2
     → h.frames + quantum ≤ prepared → BringsFew s (quantum * channels) a
     → CanStep s quantum a b left right → Keeps s channels prepared h
     → kind_output (kind_of s) (followed quantum a b h) output ≡ kind_output (kind_of s) h output ++ given_by s quantum a b output
@@ -125,7 +125,7 @@ last_gained n before new whole (inr all) w =
     take_all n new (omega (arith, all)) ∙ sym (ap₂ drop end w ∙ drop-append_seam before new)
 
 -- what is written joins what was given before
-pub joined : (n : ℕ) (kind : Kind) (before after : Heard) (output : ℕ) (new : List ℤ) → (n ≡ 0) ⊎ (n ≡ length new)
+pub joined : (n : ℕ) (kind : Kind) (before after : KindInputs) (output : ℕ) (new : List ℤ) → (n ≡ 0) ⊎ (n ≡ length new)
     → kind_output kind after output ≡ kind_output kind before output ++ new
     → Joins kind before after output (take n new)
 joined n kind before after output new (inl none) w = inl (ap (λ k. length (take k new)) none)

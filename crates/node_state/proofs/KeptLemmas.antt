@@ -5,17 +5,17 @@ use Rattle.std.proofs.lemmas.Grind.{common_steps}
 use Rattle.std.proofs.lemmas.List.{drop-append-le}
 use Rattle.std.proofs.Math.Nat.{mod-add-mod}
 use Rattle.pw_base.specs.Samples.{silence, peak_of}
-use Rattle.pw_base.specs.KindFunction.{Heard}
+use Rattle.pw_base.specs.KindFunction.{KindInputs}
 use Rattle.s16_mixer.proofs.PeakLemmas.{peak_append}
 use Rattle.node_state.specs.declared.kind_state.KindState.{KindState}
 use Rattle.node_state.specs.declared.kind_state.KindState.TheVariants.{Source, Square, Gain, Mix2, Delay, Map, Split, Sink, Meter}
 use Rattle.node_state.specs.States.{kind_of, wave_channels, stream_of, room_in, wanted_room}
-use Rattle.node_state.specs.Steps.{CanStep, IsStep}
+use Rattle.node_state.specs.working.Steps.{CanStep, IsStep}
 use Rattle.node_state.specs.declared.node_state.NodeState.{NodeState}
-use Rattle.node_state.specs.Line.{Line}
+use Rattle.node_state.specs.working.Line.{Line}
 use Rattle.node_state.specs.Slices.{HaveFrames}
 use Rattle.node_state.specs.StandsFor.{Keeps, IsQuantum}
-use Rattle.node_state.specs.Streams.{followed, stream_heard}
+use Rattle.node_state.specs.Streams.{followed, stream_kept_by}
 use Rattle.node_state.proofs.SliceLemmas.{BringsFew}
 
 -- whole frames and whole frames
@@ -34,7 +34,7 @@ line_more zeros row more =
     ∙ drop-drop (length more) (length row) ((zeros ++ row) ++ more)
     ∙ ap₂ drop (sym (length-append row more)) (append_assoc zeros row more)
 
-pub keeps_on : (s t : KindState) (channels prepared quantum : ℕ) (a b left right : List ℤ) (h : Heard) → CanStep s quantum a b left right
+pub keeps_on : (s t : KindState) (channels prepared quantum : ℕ) (a b left right : List ℤ) (h : KindInputs) → CanStep s quantum a b left right
     → BringsFew s (quantum * channels) a → IsStep quantum a s t → Keeps s channels prepared h
     → Keeps t channels prepared (followed quantum a b h)
 keeps_on (Source s) (Source t) channels prepared quantum a b left right h can few step kept =
@@ -110,15 +110,15 @@ room_on (Sink s) (Sink t) quantum most prepared a step h = let long : length t.l
 room_on (Meter s) (Meter t) quantum most prepared a step h = h
 room_on _ _ quantum most prepared a step h = absurd step
 
--- what a state keeps for its node's file is what the node has heard of it: nothing but in a sink
-pub kept_is_heard : (s : KindState) (channels prepared : ℕ) (h : Heard) → Keeps s channels prepared h
-    → stream_of s ≡ stream_heard (kind_of s) h
-kept_is_heard (Source s) channels prepared h kept = refl
-kept_is_heard (Square s) channels prepared h kept = refl
-kept_is_heard (Gain s) channels prepared h kept = refl
-kept_is_heard (Mix2 s) channels prepared h kept = refl
-kept_is_heard (Delay s) channels prepared h kept = refl
-kept_is_heard (Map s) channels prepared h kept = refl
-kept_is_heard (Split s) channels prepared h kept = refl
-kept_is_heard (Sink s) channels prepared h kept = kept
-kept_is_heard (Meter s) channels prepared h kept = refl
+-- what a state keeps for its node's file is what the node has received of it: nothing but in a sink
+pub kept_is_stream : (s : KindState) (channels prepared : ℕ) (h : KindInputs) → Keeps s channels prepared h
+    → stream_of s ≡ stream_kept_by (kind_of s) h
+kept_is_stream (Source s) channels prepared h kept = refl
+kept_is_stream (Square s) channels prepared h kept = refl
+kept_is_stream (Gain s) channels prepared h kept = refl
+kept_is_stream (Mix2 s) channels prepared h kept = refl
+kept_is_stream (Delay s) channels prepared h kept = refl
+kept_is_stream (Map s) channels prepared h kept = refl
+kept_is_stream (Split s) channels prepared h kept = refl
+kept_is_stream (Sink s) channels prepared h kept = kept
+kept_is_stream (Meter s) channels prepared h kept = refl

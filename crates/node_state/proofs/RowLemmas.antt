@@ -7,7 +7,7 @@ use Rattle.std.proofs.lemmas.List.{take_all, take-append-le, drop-append-le}
 use Rattle.std.proofs.Math.Seq.{take-append_seam, drop-append_seam, take-append-add, drop-append-add}
 use Rattle.std.proofs.lemmas.Bool.{cases_lt}
 use borrow.Rule.Slice.PartMut.{put_mid}
-use Rattle.node_state.specs.Line.{turned}
+use Rattle.node_state.specs.working.Line.{turned}
 
 -- a row whose front has been filled from a list, as far as it goes
 abbrev pub filled_from : {X : Type 0} → List X → List X → List X

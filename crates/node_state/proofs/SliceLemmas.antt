@@ -12,7 +12,7 @@ use Rattle.node_state.specs.declared.kind_state.KindState.TheVariants.{Source, S
 use Rattle.node_state.specs.Slices.{IsNoneOr, HaveFrames}
 use Rattle.node_state.specs.States.{kind_of, wave_channels, stream_of, room_in, wanted_room}
 use Rattle.node_state.specs.declared.node_state.NodeState.{NodeState}
-use Rattle.node_state.specs.Steps.{CanStep, given_by}
+use Rattle.node_state.specs.working.Steps.{CanStep, given_by}
 use Rattle.node_state.specs.StandsFor.{IsQuantum}
 
 -- as many as the one number are as many as the other
@@ -28,14 +28,14 @@ none_of row e (inr all) = inl (all ∙ e)
 times_none : (frames channels : ℕ) → frames ≡ 0 → frames * channels ≡ 0
 times_none frames channels e = let product = ap (λ n. n * channels) e in omega (arith, product)
 
--- how long so many frames are
+-- how long n frames are
 frames_long : (frames channels : ℕ) (f : ℕ → ℕ → ℤ) → length (of_frames frames channels f) ≡ frames * channels
 frames_long frames channels f = length-map-range_with_len _ 0 (frames * channels)
 
 picked_long : (channels : ℕ) (list : List ℕ) (row : List ℤ) → length (picked channels list row) ≡ length row / channels * length list
 picked_long channels list row = frames_long (length row / channels) (length list) (λ i j. sample_at channels row i (slice_index list j))
 
--- a sink has room for so many samples more
+-- a sink has room for n samples more
 abbrev pub IsRoomy : KindState → ℕ → Type 0
 IsRoomy (Sink s) n = n ≤ s.spare
 IsRoomy _ n = Unit {0}
@@ -57,7 +57,7 @@ roomy (Sink s) most prepared frames channels quantum room stream h g =
     omega (arith, wide, more, sum, room, stream)
 roomy (Meter s) most prepared frames channels quantum room stream h g = tt
 
--- the slices of so many frames fit the state
+-- the slices of n frames fit the state
 pub can_step : (s : KindState) (quantum frames channels : ℕ) (a b left right : List ℤ) → (frames ≡ quantum) ⊎ (frames ≡ 0)
     → IsRoomy s (quantum * channels)
     → HaveFrames frames (kind_of s) (wave_channels s) channels a b left right → CanStep s quantum a b left right

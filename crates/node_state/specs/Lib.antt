@@ -1,7 +1,6 @@
 pub mod Slices
-pub mod Line
 pub mod States
-pub mod Steps
 pub mod Streams
 pub mod StandsFor
 pub mod StateReadings
+pub mod working

@@ -3,7 +3,7 @@
 -- project's.
 use Rattle.std.specs.Prelude.{◌≡◌, ℕ, ◌*◌, ◌%◌, ◌≤◌, min, List, [], ◌++◌, length, take, drop, ℤ, ◌⊎◌}
 use Rattle.pw_base.specs.Samples.{silence, peak_of}
-use Rattle.pw_base.specs.KindFunction.{Heard}
+use Rattle.pw_base.specs.KindFunction.{KindInputs}
 use Rattle.node_state.specs.declared.kind_state.KindState.{KindState}
 use Rattle.node_state.specs.declared.kind_state.KindState.TheVariants.{Source, Square, Gain, Mix2, Delay, Map, Split, Sink, Meter}
 use Rattle.node_state.specs.declared.node_state.NodeState.{NodeState}
@@ -13,7 +13,7 @@ pub use Rattle.node_state.specs.StateReadings.{node_kind, node_wave_channels, ke
 -- by the channels at the first input and the frames prepared: the file's beginning and the place in
 -- it; the place in the period; the samples not yet given, in a line no longer than the frames to
 -- come; the stream; the peak. The other kinds keep nothing, of inputs in whole frames
-abbrev pub Keeps : KindState → ℕ → ℕ → Heard → Type 0
+abbrev pub Keeps : KindState → ℕ → ℕ → KindInputs → Type 0
 Keeps (Source s) channels prepared h =
     (s.channels ≡ h.channels) × (s.samples ≡ take (prepared * s.channels) h.wave)
     × (s.given ≡ min (h.frames * s.channels) (length s.samples))
@@ -30,7 +30,7 @@ Keeps (Sink s) channels prepared h = s.list ≡ h.a
 Keeps (Meter s) channels prepared h = s.peak ≡ peak_of h.a
 
 -- STANDS FOR
-abbrev pub StandsFor : NodeState → Heard → Type 0
+abbrev pub StandsFor : NodeState → KindInputs → Type 0
 StandsFor s h = (s.frames ≡ h.frames) × Keeps s.state s.channels s.prepared h
 
 -- one quantum at each port, or none at any that has no form

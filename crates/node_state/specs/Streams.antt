@@ -6,7 +6,7 @@ use Rattle.std.specs.Prelude.{◌≡◌, ℕ, ◌-◌, ◌+◌, List, [], ◌++�
 use Rattle.pw_base.specs.declared.kind.Kind.{Kind}
 use Rattle.pw_base.specs.declared.kind.Kind.TheVariants as K
 use Rattle.pw_base.specs.Samples.{peak_of}
-use Rattle.pw_base.specs.KindFunction.{Heard, kind_output}
+use Rattle.pw_base.specs.KindFunction.{KindInputs, kind_output}
 use Rattle.wav_files.specs.declared.wav.Wav.{Wav}
 use Rattle.node_state.specs.Slices.{left_channels}
 
@@ -20,8 +20,8 @@ channels_of (Some wav) = wav.channels
 channels_of None = 0
 
 -- nothing received yet
-abbrev pub unheard : Kind → Option Wav → ℕ → Heard
-unheard kind wav n = record {
+abbrev pub no_inputs : Kind → Option Wav → ℕ → KindInputs
+no_inputs kind wav n = record {
   wave = samples_of wav;
   frames = 0;
   channels = left_channels kind (channels_of wav) n;
@@ -37,30 +37,30 @@ HasItsWave _ (Some wav) = ⊥
 HasItsWave _ None = Unit {0}
 
 -- what has been received after `frames` more frames, with what they brought
-abbrev pub followed : ℕ → List ℤ → List ℤ → Heard → Heard
+abbrev pub followed : ℕ → List ℤ → List ℤ → KindInputs → KindInputs
 followed frames a b h = record h { frames = h.frames + frames; a = h.a ++ a; b = h.b ++ b }
 
 -- a stream begun anew, of n channels at the first input; the file and the frames go on
-abbrev pub restarted : Kind → ℕ → Heard → Heard
+abbrev pub restarted : Kind → ℕ → KindInputs → KindInputs
 restarted kind n h = record h { channels = left_channels kind h.channels n; a = []; b = [] }
 
 -- the last n samples of the kind's function of all that was received
-abbrev pub output_now : Kind → Heard → ℕ → ℕ → List ℤ
+abbrev pub output_now : Kind → KindInputs → ℕ → ℕ → List ℤ
 output_now kind h output n = drop (length (kind_output kind h output) - n)
     (kind_output kind h output)
 
 -- what is given behind what was given: the outputs of all quanta join to the kind's function of
 -- whole streams
-abbrev pub Joins : Kind → Heard → Heard → ℕ → List ℤ → Type 0
+abbrev pub Joins : Kind → KindInputs → KindInputs → ℕ → List ℤ → Type 0
 Joins kind before after output new = (length new ≡ 0)
     ⊎ (kind_output kind after output ≡ kind_output kind before output ++ new)
 
 -- the stream that a node keeps: a sink's whole input
-abbrev pub stream_heard : Kind → Heard → List ℤ
-stream_heard K.Sink h = h.a
-stream_heard _ h = []
+abbrev pub stream_kept_by : Kind → KindInputs → List ℤ
+stream_kept_by K.Sink h = h.a
+stream_kept_by _ h = []
 
 -- the peak that a node keeps: that of a meter's whole input
-abbrev pub peak_heard : Kind → Heard → ℕ
-peak_heard K.Meter h = peak_of h.a
-peak_heard _ h = 0
+abbrev pub peak_kept_by : Kind → KindInputs → ℕ
+peak_kept_by K.Meter h = peak_of h.a
+peak_kept_by _ h = 0

@@ -24,13 +24,13 @@ pub(crate) enum KindState {
 
 impl KindState {
     ghost use Rattle.std.specs.Prelude.{◌≡◌, ℕ, ◌<◌, ◌≤◌, take, length, [], IfOk, IsTrue, ◌↔◌, option_copied};
-    ghost use Rattle.pw_base.specs.KindFunction.{Heard};
+    ghost use Rattle.pw_base.specs.KindFunction.{KindInputs};
     ghost use Rattle.pw_base.specs.KindPorts.{input_count};
     ghost use Rattle.pw_base.specs.KindRanges.{IsInRange};
     ghost use Rattle.node_state.specs.States.{kind_of, wave_channels, stream_of, room_in, wanted_room};
-    ghost use Rattle.node_state.specs.Steps.{CanStep, given_by, IsStep};
+    ghost use Rattle.node_state.specs.working.Steps.{CanStep, given_by, IsStep};
     ghost use Rattle.node_state.specs.StandsFor.{Keeps};
-    ghost use Rattle.node_state.specs.Streams.{restarted, unheard, channels_of, HasItsWave};
+    ghost use Rattle.node_state.specs.Streams.{restarted, no_inputs, channels_of, HasItsWave};
 
     /// One quantum of the node.
     pub(crate) fn process(
@@ -78,7 +78,7 @@ impl KindState {
         ensures wave { IfOk result
             (λ s. wave_channels s ≡ channels_of (option_copied wav.entry)) }
         ensures keeps { IfOk result (λ s. Keeps s channels frames
-            (unheard kind.now (option_copied wav.entry) channels)) }
+            (no_inputs kind.now (option_copied wav.entry) channels)) }
         ensures empty { IfOk result (λ s. stream_of s ≡ []) }
         ensures room { IfOk result (λ s. wanted_room s channels frames ≤ room_in s) }
     {
@@ -112,7 +112,8 @@ impl KindState {
     pub(crate) fn restart(&mut self, channels: u32)
         requires room { wanted_room self.old channels 0 ≤ room_in self.old }
         requires empty { stream_of self.old ≡ [] }
-        ensures keeps { (before prepared : ℕ) (h : Heard) → Keeps self.old before prepared h
+        ensures keeps { (before prepared : ℕ) (h : KindInputs)
+            → Keeps self.old before prepared h
             → Keeps self.new channels prepared (restarted (kind_of self.old) channels h) }
         ensures kind { kind_of self.new ≡ kind_of self.old }
         ensures wave { wave_channels self.new ≡ wave_channels self.old }

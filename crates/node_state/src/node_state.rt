@@ -30,16 +30,16 @@ pub struct NodeState {
 
 impl NodeState {
     ghost use Rattle.std.specs.Prelude.{◌≡◌};
-    ghost use Rattle.pw_base.specs.KindFunction.{Heard};
+    ghost use Rattle.pw_base.specs.KindFunction.{KindInputs};
     ghost use Rattle.node_state.specs.StandsFor.{StandsFor, node_kind, kept_stream};
-    ghost use Rattle.node_state.specs.Streams.{stream_heard, peak_heard};
+    ghost use Rattle.node_state.specs.Streams.{stream_kept_by, peak_kept_by};
 
     /// A sink's stream so far: all that came to its input. Of every other kind nothing. Takes no
     /// memory.
     pub fn kept(&self) -> &[i16]
         ensures value { result.now ≡ kept_stream self.now }
-        ensures stream { (h : Heard) → StandsFor self.now h
-            → result.now ≡ stream_heard (node_kind self.now) h }
+        ensures stream { (h : KindInputs) → StandsFor self.now h
+            → result.now ≡ stream_kept_by (node_kind self.now) h }
     {
         self.state.stream()
     }
@@ -47,8 +47,8 @@ impl NodeState {
     /// The greatest absolute value that came to a meter's input so far, 0 to 32768. Of every other
     /// kind 0. Takes no memory.
     pub fn greatest(&self) -> u32
-        ensures { (h : Heard) → StandsFor self.now h
-            → result ≡ peak_heard (node_kind self.now) h }
+        ensures { (h : KindInputs) → StandsFor self.now h
+            → result ≡ peak_kept_by (node_kind self.now) h }
     {
         match &self.state {
             KindState::Meter(s) => s.peak,

@@ -1,13 +1,13 @@
 //! A node's state made, with all its memory, and its stream begun anew.
 ghost use Rattle.std.specs.Prelude.{◌≡◌, ◌<◌, ◌≤◌, [], IfOk, option_copied};
-ghost use Rattle.pw_base.specs.KindFunction.{Heard};
+ghost use Rattle.pw_base.specs.KindFunction.{KindInputs};
 ghost use Rattle.pw_base.specs.KindPorts.{input_count};
 ghost use Rattle.pw_base.specs.KindRanges.{IsInRange};
 ghost use Rattle.pw_base.specs.SoundShape.{IsBetween};
 ghost use Rattle.node_state.specs.Slices.{AllowsChannels};
 ghost use Rattle.node_state.specs.StandsFor.{StandsFor, IsPrepared, IsRestarted, node_kind, node_wave_channels, node_channels};
 ghost use Rattle.node_state.specs.StandsFor.{most_channels, kept_stream};
-ghost use Rattle.node_state.specs.Streams.{HasItsWave, unheard, restarted, channels_of};
+ghost use Rattle.node_state.specs.Streams.{HasItsWave, no_inputs, restarted, channels_of};
 
 use crate::kind_state::KindState;
 use crate::node_state::NodeState;
@@ -40,7 +40,7 @@ impl NodeState {
             (λ s. node_wave_channels s ≡ channels_of (option_copied wav.entry)) }
         ensures numbers { IfOk result (λ s. IsPrepared channels quantum frames s) }
         ensures stands { IfOk result
-            (λ s. StandsFor s (unheard kind.now (option_copied wav.entry) channels)) }
+            (λ s. StandsFor s (no_inputs kind.now (option_copied wav.entry) channels)) }
     {
         match KindState::new(alloc, kind, wav, channels, frames) {
             Ok(state) => Ok(NodeState {
@@ -62,7 +62,7 @@ impl NodeState {
         requires allowed { AllowsChannels (node_kind self.old) channels }
         requires room { channels ≤ most_channels self.old }
         requires empty { kept_stream self.old ≡ [] }
-        ensures stands { (h : Heard) → StandsFor self.old h
+        ensures stands { (h : KindInputs) → StandsFor self.old h
             → StandsFor self.new (restarted (node_kind self.old) channels h) }
         ensures channels { 0 < input_count (node_kind self.old)
             → node_channels self.new ≡ channels }

@@ -1,6 +1,6 @@
 //! One quantum of a node.
 ghost use Rattle.std.specs.Prelude.{◌≡◌, ◌+◌, length};
-ghost use Rattle.pw_base.specs.KindFunction.{Heard};
+ghost use Rattle.pw_base.specs.KindFunction.{KindInputs};
 ghost use Rattle.node_state.specs.StandsFor.{StandsFor, IsQuantum, HasFramesLeft, IsSameNode, node_kind, node_quantum, frames_so_far};
 ghost use Rattle.node_state.specs.Streams.{Joins, followed, output_now};
 
@@ -17,22 +17,22 @@ impl NodeState {
     pub fn process(&mut self, a: &[i16], b: &[i16], left: &mut [i16], right: &mut [i16])
         requires slices { IsQuantum self.old a.now b.now left.old right.old }
         requires frames { HasFramesLeft self.old }
-        ensures left { (h : Heard) → StandsFor self.old h
+        ensures left { (h : KindInputs) → StandsFor self.old h
             → left.new ≡ output_now (node_kind self.old)
             (followed (node_quantum self.old) a.now b.now h) 0 (length left.old) }
-        ensures right { (h : Heard) → StandsFor self.old h
+        ensures right { (h : KindInputs) → StandsFor self.old h
             → right.new ≡ output_now (node_kind self.old)
             (followed (node_quantum self.old) a.now b.now h) 1 (length right.old) }
         // So the outputs of quantum after quantum join, however the streams are cut.
-        ensures joins_left { (h : Heard) → StandsFor self.old h
+        ensures joins_left { (h : KindInputs) → StandsFor self.old h
             → Joins (node_kind self.old) h
             (followed (node_quantum self.old) a.now b.now h) 0 left.new }
-        ensures joins_right { (h : Heard) → StandsFor self.old h
+        ensures joins_right { (h : KindInputs) → StandsFor self.old h
             → Joins (node_kind self.old) h
             (followed (node_quantum self.old) a.now b.now h) 1 right.new }
 
         // It then stands for what it stood for and this quantum behind it.
-        ensures stands { (h : Heard) → StandsFor self.old h
+        ensures stands { (h : KindInputs) → StandsFor self.old h
             → StandsFor self.new (followed (node_quantum self.old) a.now b.now h) }
         ensures frames { frames_so_far self.new ≡ frames_so_far self.old + node_quantum self.old }
         ensures same { IsSameNode self.old self.new }

@@ -2,7 +2,7 @@
 ghost use Rattle.std.specs.Prelude.{◌≡◌, ◌+◌, ◌*◌, ◌<◌, ◌≤◌, ◌++◌, min, length, take, drop, IfOk};
 ghost use Rattle.pw_base.specs.Samples.{silence};
 ghost use Rattle.node_state.specs.Slices.{IsNoneOr};
-ghost use Rattle.node_state.specs.Line.{turned};
+ghost use Rattle.node_state.specs.working.Line.{turned};
 
 use crate::rows::copy_front;
 use pw_base::{Items, Memory};
@@ -23,7 +23,7 @@ pub(crate) struct DelayState {
 
 impl Model for DelayState {
     ghost use Rattle.std.specs.Prelude.{◌≤◌, length, take};
-    ghost use Rattle.node_state.specs.Line.{Line, line_code, turned};
+    ghost use Rattle.node_state.specs.working.Line.{Line, line_code, turned};
 
     ghost Value = { Line };
 

@@ -1,7 +1,7 @@
 use Rattle.std.proofs.Common.{ℕ, suc, sym, ◌∙◌, subst, inl, inr, ⊎_elim}
-use Rattle.pw_base.specs.KindFunction.{Heard}
+use Rattle.pw_base.specs.KindFunction.{KindInputs}
 use Rattle.cycle_model.specs.Cycle.{wave_of, outputs}
-use Rattle.cycle_model.specs.KindSamples.{heard_of}
+use Rattle.cycle_model.specs.KindSamples.{kind_inputs_of}
 use Rattle.cycle_model.specs.Progress.{received_until}
 use Rattle.node_state.specs.Slices.{left_channels}
 use Rattle.node_state.specs.StandsFor.{StandsFor, frames_so_far, node_quantum}
@@ -24,10 +24,10 @@ returns-clause-right c = let may = c.requires.may in let r = may.ready in ⊎_el
 pub returns-clause-received : goal.returns-clause-received
 returns-clause-received c = let may = c.requires.may in let r = may.ready in let same = c.process.ensures.same in
     let score = c.args.score.now in let plan = score.plan.value in let waves = score.waves.value in
-    let n = c.args.node in let past = received_until plan (outputs plan waves) (suc c.args.cycle) n in
-    subst (λ (k : ℕ × ℕ). StandsFor c.process.new.self (record (heard_of (wave_of waves n) k.0 past) { frames = k.1 }))
+    let n = c.args.at.now.node in let past = received_until plan (outputs plan waves) (suc c.args.at.now.cycle) n in
+    subst (λ (k : ℕ × ℕ). StandsFor c.process.new.self (record (kind_inputs_of (wave_of waves n) k.0 past) { frames = k.1 }))
     (λ i. (left_channels (sym same.0 i) (sym same.1 i) (sym same.3 i), sym c.process.ensures.frames i))
-    (subst (λ (h : Heard). StandsFor c.process.new.self h)
-    (joined score c.args.cycle n r.epoch r.here r.active (wave_of waves n) (out_channels c.args.state.now) (frames_so_far c.args.state.now)
+    (subst (λ (h : KindInputs). StandsFor c.process.new.self h)
+    (joined score c.args.at.now.cycle n r.epoch r.here r.active (wave_of waves n) (out_channels c.args.state.now) (frames_so_far c.args.state.now)
     (node_quantum c.args.state.now) _ _ may.a_is may.b_is)
     (c.process.ensures.stands _ r.before))

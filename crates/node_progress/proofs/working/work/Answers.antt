@@ -3,9 +3,9 @@ use Rattle.node_progress.proofs.FitLemmas.{came_long, slices, left_fits, right_f
 use Rattle.node_progress.proofs.working.work.Goals as goal
 
 pub process-requires : goal.process-requires
-process-requires c = let may = c.requires.may in let score = c.args.score.now in let k = c.args.epoch in let t = c.args.cycle in
-    let n = c.args.node in let s = c.args.state.now in let w = may.works in
-    let a = came_long score k t n w 0 c.args.a.now may.a_is in let b = came_long score k t n w 1 c.args.b.now may.b_is in
+process-requires c = let may = c.requires.may in let score = c.args.score.now in let k = c.args.at.now.epoch in let t = c.args.at.now.cycle in
+    let n = c.args.at.now.node in let s = c.args.state.now in let w = may.works in
+    let a = came_long score k t n w 0 c.args.at.now.a.now may.a_is in let b = came_long score k t n w 1 c.args.at.now.b.now may.b_is in
     record {
       may = record {
         ready = record {
@@ -29,5 +29,5 @@ process-requires c = let may = c.requires.may in let score = c.args.score.now in
 
 pub returns-clause-state : goal.returns-clause-state
 returns-clause-state c = let may = c.requires.may in
-    state_on c.args.score.now c.args.epoch c.args.cycle c.args.node may.works c.args.state.now may.state c.process.new.state
+    state_on c.args.score.now c.args.at.now.epoch c.args.at.now.cycle c.args.at.now.node may.works c.args.state.now may.state c.process.new.state
     c.process.ensures.same c.process.ensures.frames c.process.ensures.received

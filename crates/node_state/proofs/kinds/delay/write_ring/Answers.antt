@@ -4,7 +4,7 @@ use Rattle.std.proofs.lemmas.Grind.{common_steps}
 use Rattle.std.proofs.lemmas.List.{take_rest}
 use Rattle.std.proofs.Math.Seq.{take-append_seam, drop-append_seam}
 use borrow.Rule.Slice.PartMut.{put_mid}
-use Rattle.node_state.specs.Line.{turned}
+use Rattle.node_state.specs.working.Line.{turned}
 use Rattle.node_state.proofs.RowLemmas.{filled_from, filled_long, ring_replaced, ring_round}
 use Rattle.node_state.proofs.kinds.delay.write_ring.Goals as goal
 

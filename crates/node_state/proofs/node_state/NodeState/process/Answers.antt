@@ -1,7 +1,7 @@
 use Rattle.std.proofs.Common.{◌≡◌, ◌∙◌, ◌+◌, ◌*◌, ◌≤◌, List, ℤ, length, sym, ap, subst, arith, ℕ}
 use Rattle.pw_base.specs.KindFunction.{kind_output}
 use Rattle.node_state.specs.States.{kind_of, stream_of}
-use Rattle.node_state.specs.Steps.{given_by}
+use Rattle.node_state.specs.working.Steps.{given_by}
 use Rattle.node_state.specs.Streams.{Joins, followed}
 use Rattle.node_state.proofs.SliceLemmas.{quantum_fits, brings_few, left_whole, right_whole}
 use Rattle.node_state.proofs.GivenLemmas.{gained, last_gained, joined}

@@ -11,7 +11,7 @@ use Rattle.cycle_model.specs.Progress.{nothing}
 use Rattle.node_state.specs.declared.node_state.NodeState.{NodeState}
 use Rattle.node_state.specs.StandsFor.{StandsFor, node_kind, node_wave_channels, node_quantum, frames_so_far, prepared_frames, most_channels}
 use Rattle.node_progress.specs.declared.score.Score.{Score}
-use Rattle.node_progress.specs.Standing.{heard_by, worked}
+use Rattle.node_progress.specs.Standing.{read_by, worked}
 use Rattle.node_progress.specs.NodeStates.{wave_channels_of}
 
 -- the greatest channels with which an epoch names the node as fresh; 0 where none does
@@ -34,4 +34,4 @@ pub record IsPreparedNode (score : Score) (n : ℕ) (s : NodeState) : Type 0 whe
   pub prepared : prepared_frames s
       ≡ score.plan.value.quantum * worked score.plan.value n (all_cycles score.plan.value)
   pub most : IsMostNamed score.plan.value n (most_channels s)
-  pub stands : StandsFor s (heard_by score n s nothing)
+  pub stands : StandsFor s (read_by score n s nothing)
