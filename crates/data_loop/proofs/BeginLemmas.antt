@@ -71,9 +71,9 @@ module _ (p : BoardLayout) (fit : All (λ x. (1 ≤ x.blocks) × (x.blocks ≤ 8
     reads = λ l low _. let at : read_of v l ≡ unread (first p) =
         get_or-replicate (length p.shape.links) l (unread (first p)) (unread 0) low in
         let long = length-replicate (length p.shape.links) (unread (first p)) in
-        let hears : length v.heard ≡ length p.shape.links = length-replicate (length p.shape.links) 0 in record {
+        let words : length v.words_read ≡ length p.shape.links = length-replicate (length p.shape.links) 0 in record {
           there = omega arith;
-          hears = omega arith;
+          words = omega arith;
           loaded = ap (λ (r : ReadView). r.loaded) at;
           lowered = ap (λ (r : ReadView). r.lowered) at;
           stored = ap (λ (r : ReadView). r.stored) at;

@@ -26,12 +26,12 @@ use Rattle.node_progress.proofs.FitLemmas.{now_is}
 use Rattle.data_loop.specs.declared.inputs.Input.{Input}
 use Rattle.data_loop.specs.declared.member.Member.{Member}
 use Rattle.data_loop.specs.turns.Ends.{reads_of}
-use Rattle.data_loop.specs.turns.Hearing.{MayHearAll, AreHeard}
+use Rattle.data_loop.specs.turns.ReadingInputs.{MayReadAll, AreRead}
 use Rattle.data_loop.specs.Inputs.{AreLong, IsWide}
 use Rattle.data_loop.specs.Gathering.{inputs_of}
 use Rattle.data_loop.specs.Members.{input_width}
 use Rattle.data_loop.proofs.turns.EndsLemmas.{read_by, reads_it, reads_once}
-use Rattle.data_loop.proofs.turns.HearingLemmas.{read_moves}
+use Rattle.data_loop.proofs.turns.ReadingInputsLemmas.{read_moves}
 use Rattle.data_loop.proofs.PlayLemmas.{few_inputs, all_long, all_wide}
 use Rattle.data_loop.specs.Driving.{IsDriverRead, HasNoLinkIn, MayDrive, IsDriverPlayer, HasDriven}
 
@@ -52,8 +52,8 @@ module _ (board_shape : BoardShape) (plain : IsPooledBoard (layout_of board_shap
   begun_even : IsDriverRead p begun c
   begun_even k low is = read_moves v begun k c refl refl refl (may.even k low is)
 
-  pub may_hear : MayHearAll true p begun links
-  may_hear = (
+  pub may_read : MayReadAll true p begun links
+  may_read = (
     (λ k d low. let l : ℕ = slice_index_or links k d in
         let h = read_by p plain p.shape.driver inside l (k, low, get_or_default links k l d low) in record {
           inside = h.0;
@@ -64,31 +64,31 @@ module _ (board_shape : BoardShape) (plain : IsPooledBoard (layout_of board_shap
     reads_once p plain p.shape.driver inside,
   )
 
-  -- a node without a link has heard all
-  pub none_heard : HasNoLinkIn p → AreHeard true p begun links begun
-  none_heard none = record {
+  -- a node without a link has read all
+  pub none_read : HasNoLinkIn p → AreRead true p begun links begun
+  none_read none = record {
     same = refl;
     ends = refl;
-    hears = refl;
-    heard = λ l i. let h = read_by p plain p.shape.driver inside l i in absurd (none l h.0 h.1);
+    words = refl;
+    read = λ l i. let h = read_by p plain p.shape.driver inside l i in absurd (none l h.0 h.1);
     others = λ l o. refl;
   }
 
-  module _ (w : View) (heard : AreHeard true p begun links w) where
-    heard_even : IsDriverRead p w (c + 1)
-    heard_even k low e = subst (λ m. IsReadUpTo w k (m + 1)) may.cycle
-        (heard.heard k (reads_it p plain p.shape.driver inside k low e))
+  module _ (w : View) (read : AreRead true p begun links w) where
+    even_after : IsDriverRead p w (c + 1)
+    even_after k low e = subst (λ m. IsReadUpTo w k (m + 1)) may.cycle
+        (read.read k (reads_it p plain p.shape.driver inside k low e))
 
     same_cycle : w.lead.cycle ≡ v.lead.cycle
-    same_cycle = ap (λ (x : View). x.lead.cycle) heard.same
+    same_cycle = ap (λ (x : View). x.lead.cycle) read.same
 
     pub ready : IsReadyToFinish true p w p.driver
     ready = (
-      subst (λ (x : View). HasNode true p x p.driver) (sym heard.same) may.node,
-      ap (λ (x : View). x.lead.drive) heard.same,
+      subst (λ (x : View). HasNode true p x p.driver) (sym read.same) may.node,
+      ap (λ (x : View). x.lead.drive) read.same,
       (
         (λ l low e. absurd ((wired p plain.sound plain.pooled).from_follows l (link_at p l) (link_there p l low) e)),
-        (λ l low e. (heard_even l low e).stored ∙ ap (λ m. m + 1) (sym (same_cycle ∙ may.cycle))),
+        (λ l low e. (even_after l low e).stored ∙ ap (λ m. m + 1) (sym (same_cycle ∙ may.cycle))),
       ),
     )
 
@@ -98,18 +98,18 @@ module _ (board_shape : BoardShape) (plain : IsPooledBoard (layout_of board_shap
       after s f rs hs = record v {
         lead = record v.lead { drive = FinishStored; start = s; finish = f };
         reads = rs;
-        heard = hs;
+        words_read = hs;
         trail = untold v.trail;
       }
 
-      is_after : x ≡ after t over.0 w.reads w.heard
-      is_after = over.2 ∙ ap (λ (y : View). worked true y p.driver over.0) heard.same
+      is_after : x ≡ after t over.0 w.reads w.words_read
+      is_after = over.2 ∙ ap (λ (y : View). worked true y p.driver over.0) read.same
 
       rs : x.reads ≡ w.reads
       rs = ap (λ (y : View). y.reads) is_after
 
-      hs : x.heard ≡ w.heard
-      hs = ap (λ (y : View). y.heard) is_after
+      hs : x.words_read ≡ w.words_read
+      hs = ap (λ (y : View). y.words_read) is_after
 
       from : x.lead.start ≡ t
       from = ap (λ (y : View). y.lead.start) is_after
@@ -121,11 +121,11 @@ module _ (board_shape : BoardShape) (plain : IsPooledBoard (layout_of board_shap
       driven = record {
         cycle = ap (λ (y : View). y.lead.cycle) is_after ∙ may.cycle;
         even = λ k low e. read_moves w x k (c + 1) (ap (λ (y : List ReadView). length y) rs) (ap (λ (y : List ℕ). length y) hs)
-            (ap (λ (y : View). read_of y k) (is_after) ∙ refl) (heard_even k low e);
+            (ap (λ (y : View). read_of y k) (is_after) ∙ refl) (even_after k low e);
         others = λ l o. ap (λ (y : View). read_of y l) is_after
-            ∙ heard.others l (λ i. o (read_by p plain p.shape.driver inside l i).1);
-        ends = ap (λ (y : List ReadView). length y) rs ∙ heard.ends;
-        hears = ap (λ (y : List ℕ). length y) hs ∙ heard.hears;
+            ∙ read.others l (λ i. o (read_by p plain p.shape.driver inside l i).1);
+        ends = ap (λ (y : List ReadView). length y) rs ∙ read.ends;
+        words = ap (λ (y : List ℕ). length y) hs ∙ read.words;
         drawn = (subst (λ m. m < event_count p.shape) (sym from) drawn, subst (λ m. m < event_count p.shape) (sym to) over.1);
         is = is_after ∙ (λ i. after (sym from i) (sym to i) (sym rs i) (sym hs i));
       }

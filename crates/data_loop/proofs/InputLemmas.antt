@@ -1,4 +1,4 @@
--- What a node hears on a board of expected samples is what its inputs get by the cycle function.
+-- What a node reads on a board of expected samples is what its inputs get by the cycle function.
 use Rattle.std.proofs.Common.{◌≡◌, ◌≢◌, ℕ, ℤ, pos, suc, ◌+◌, ◌-◌, ◌*◌, ◌<◌, ◌≤◌, ◌==◌, ltb, Bool, true, false, not, List, [], ◌∷◌}
 use Rattle.std.proofs.Common.{length, map, filter, fold, get_or, refl, sym, ap, ap₂, ◌∙◌, arith, ⊎_elim, option_map, unwrap_or}
 use Rattle.std.specs.Prelude.{All, replicate, nat_lt, if◌then◌else◌}
@@ -35,7 +35,7 @@ use Rattle.data_loop.specs.declared.inputs.Input.{Input}
 use Rattle.node_progress.specs.declared.score.Score.{Score}
 use Rattle.node_progress.specs.Standing.{port_at, comes_in, wide_at}
 use Rattle.data_loop.specs.Inputs.{IsZero, row_of, first_rows, second_rows}
-use Rattle.data_loop.specs.Gathering.{input_from, IsHearing}
+use Rattle.data_loop.specs.Gathering.{input_from, ReadsInputs}
 use Rattle.data_loop.proofs.turns.EndsLemmas.{of_pool}
 
 -- the rows of a node's inputs, by the links
@@ -102,14 +102,14 @@ pool_row plan waves p e c q shape low high inside =
     ∙ get_or-map (λ (x : PoolShape). outputs plan waves c x.port) (pools_of p.shape) q no_pool [] inside
 
 module _ (b : Bool) (score : Score) (p : BoardLayout) (pooled : IsPooledBoard p) (v : View) (c n : ℕ) (inputs : List Input)
-    (wide_a wide_b : ℕ) (h : IsHearing b score p v c n inputs wide_a wide_b) where
+    (wide_a wide_b : ℕ) (h : ReadsInputs b score p v c n inputs wide_a wide_b) where
   abbrev plan : Plan
   plan = score.plan.value
 
   abbrev out : Outputs
   out = outputs plan score.waves.value
 
-  -- a link that is heard
+  -- a link that is read
   module _ (l : ℕ) (low : l < length p.shape.links) where
     abbrev link : ShapeLink
     link = link_at p l

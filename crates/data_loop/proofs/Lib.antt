@@ -3,8 +3,10 @@ pub mod turns
 pub mod SumLemmas
 pub mod OnlyLemmas
 pub mod InputLemmas
+pub mod Playable
 pub mod TurnLemmas
 pub mod PlayLemmas
+pub mod PlayerLemmas
 pub mod FrontLemmas
 pub mod StageLemmas
 pub mod TryLemmas

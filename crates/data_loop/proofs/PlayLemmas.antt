@@ -38,12 +38,12 @@ use Rattle.node_progress.specs.declared.score.Score.{Score}
 use Rattle.data_loop.specs.declared.inputs.Input.{Input}
 use Rattle.data_loop.specs.turns.Ends.{fills_of}
 use Rattle.node_progress.specs.Standing.{port_at, wide_at}
-use Rattle.node_progress.specs.Working.{output_channels}
+use Rattle.node_progress.specs.NodeCycles.{output_channels}
 use Rattle.node_progress.specs.NodeStates.{IsNodeState, IsWorkedIn, IsOutputRow}
 use Rattle.data_loop.specs.Inputs.{AreLong, IsWide}
 use Rattle.data_loop.specs.Gathering.{input_from, inputs_of, IsBoardOf}
 use Rattle.data_loop.specs.Members.{input_width, is_read, output_width}
-use Rattle.data_loop.specs.Playing.{IsPoolFor, MayPlay}
+use Rattle.data_loop.proofs.Playable.{IsPoolFor, MayPlay}
 use Rattle.data_loop.proofs.turns.EndsLemmas.{of_pool, is_of}
 use Rattle.node_progress.proofs.StateLemmas.{epoch_sound}
 use Rattle.node_progress.proofs.FitLemmas.{inputs_alike, now_is}

@@ -38,7 +38,6 @@ taken_more P Q xs i e low grows before here k d lt =
 
 pub rows_fit : (width : ℕ) (rows : Rows) (m : Member) → AreAsLong width rows → IsWithin width m → HasRowsFor rows m
 rows_fit width rows m long h = record {
-  row = subst (λ n. m.first_width ≤ n) (sym long.row) h.first;
   sum_a = subst (λ n. m.first_width ≤ n) (sym long.sum_a) h.first;
   sum_b = subst (λ n. m.second_width ≤ n) (sym long.sum_b) h.second;
   a = subst (λ n. m.first_width ≤ n) (sym long.a) h.first;

@@ -21,7 +21,6 @@ same_on a b = record {
 
 pub room_on : {q r s : Rows} → IsSameRoom q r → IsSameRoom r s → IsSameRoom q s
 room_on a b = record {
-  row = b.row ∙ a.row;
   sum_a = b.sum_a ∙ a.sum_a;
   sum_b = b.sum_b ∙ a.sum_b;
   a = b.a ∙ a.a;

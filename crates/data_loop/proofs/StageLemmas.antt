@@ -37,7 +37,6 @@ use Rattle.data_loop.proofs.turns.WritingLemmas.{equipped_moves}
 -- rows as long as before have room for the same
 pub rows_stay : (old new : Rows) (m : Member) → IsSameRoom old new → HasRowsFor old m → HasRowsFor new m
 rows_stay old new m same h = record {
-  row = subst (λ n. m.first_width ≤ n) (sym same.row) h.row;
   sum_a = subst (λ n. m.first_width ≤ n) (sym same.sum_a) h.sum_a;
   sum_b = subst (λ n. m.second_width ≤ n) (sym same.sum_b) h.sum_b;
   a = subst (λ n. m.first_width ≤ n) (sym same.a) h.a;

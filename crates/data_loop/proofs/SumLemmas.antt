@@ -34,7 +34,7 @@ fold_more s (x ∷ rows) r = fold_more (summed s x) rows r
 
 -- the view after other ends reads the same rows
 pub row_same : (b : Bool) (p : BoardLayout) (v : View) (rs : List ReadView) (hs : List ℕ) (l : ℕ)
-    → row_of b p (record v { reads = rs; heard = hs }) l ≡ row_of b p v l
+    → row_of b p (record v { reads = rs; words_read = hs }) l ≡ row_of b p v l
 row_same true p v rs hs l = refl
 row_same false p v rs hs l = refl
 

@@ -1,4 +1,4 @@
--- The turn of a node: its links by number, the rows of its pools, its cycle after its start and its hearing.
+-- The turn of a node: its links by number, the rows of its pools, its cycle after its start and its reading.
 use Rattle.std.proofs.Common.{◌≡◌, ℕ, ℤ, ◌+◌, ◌<◌, ◌≤◌, ◌==◌, List, length, filter, get_or, sym, ap, ◌∙◌}
 use Rattle.std.proofs.Common.{arith, ⊎_elim}
 use Rattle.std.specs.Prelude.{Contains, ◌⊎◌}
@@ -24,8 +24,8 @@ use Rattle.data_loop.specs.turns.Ends.{reads_of}
 use Rattle.node_progress.specs.Standing.{Gives}
 use Rattle.data_loop.specs.Inputs.{links_of}
 use Rattle.data_loop.specs.Gathering.{input_from, inputs_of}
-use Rattle.data_loop.specs.Giving.{AllPut}
-use Rattle.data_loop.specs.Playing.{IsPoolFor}
+use Rattle.data_loop.specs.working.Giving.{AllPut}
+use Rattle.data_loop.proofs.Playable.{IsPoolFor}
 use Rattle.data_loop.proofs.InputLemmas.{pool_row}
 
 pub links_are : (shape : Shape) (n : ℕ) → links_of (inputs_of shape n) ≡ reads_of shape n

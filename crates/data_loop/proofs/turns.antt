@@ -1,5 +1,5 @@
 pub mod ListLemmas
 pub mod EndsLemmas
-pub mod HearingLemmas
+pub mod ReadingInputsLemmas
 pub mod WritingLemmas
 pub mod TurningLemmas

@@ -52,7 +52,7 @@ pub record HasDriven (p : BoardLayout) (v : View) (c : ℕ) (w : View) : Type 0 
   pub even : IsDriverRead p w (c + 1)
   pub others : (l : ℕ) → reader_of p l ≢ p.driver → read_of w l ≡ read_of v l
   pub ends : length w.reads ≡ length v.reads
-  pub hears : length w.heard ≡ length v.heard
+  pub words : length w.words_read ≡ length v.words_read
   pub drawn : (w.lead.start < event_count p.shape) × (w.lead.finish < event_count p.shape)
   pub is : w ≡ record v {
     lead = record v.lead {
@@ -61,6 +61,6 @@ pub record HasDriven (p : BoardLayout) (v : View) (c : ℕ) (w : View) : Type 0 
       finish = w.lead.finish;
     };
     reads = w.reads;
-    heard = w.heard;
+    words_read = w.words_read;
     trail = untold v.trail;
   }

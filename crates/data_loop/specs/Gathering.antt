@@ -33,7 +33,7 @@ pub record IsBoardOf (score : Score) (p : BoardLayout) (v : View) (e : Epoch) : 
 
 -- the node n reads its inputs in the cycle c, on a board of the cycle's epoch; a and b are the
 -- widths of these inputs
-pub record IsHearing (is_driver : Bool) (score : Score) (p : BoardLayout) (v : View) (c n : ℕ)
+pub record ReadsInputs (is_driver : Bool) (score : Score) (p : BoardLayout) (v : View) (c n : ℕ)
     (inputs : List Input) (a b : ℕ) : Type 0 where
   pub epoch : Epoch
   pub here : epoch_at score.plan.value c ≡ Some epoch

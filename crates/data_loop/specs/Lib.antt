@@ -2,9 +2,7 @@ pub mod OwnPools
 pub mod turns
 pub mod Inputs
 pub mod Gathering
-pub mod Giving
 pub mod Members
-pub mod Playing
 pub mod Rooms
 pub mod Standings
 pub mod Stages
@@ -14,7 +12,6 @@ pub mod Fronts
 pub mod LoopTries
 pub mod Settling
 pub mod LoopWay
-pub mod PassingOn
 pub mod StageParts
 pub mod Tables
 pub mod Loops
@@ -23,3 +20,4 @@ pub mod LoopStart
 pub mod Driving
 pub mod LoopDriver
 pub mod LoopKept
+pub mod working

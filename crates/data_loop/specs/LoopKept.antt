@@ -1,12 +1,12 @@
 -- What the nodes of a loop keep, at any time and at the end of the run.
 -- Source: this project's own: sinks keep the streams that come to them, meters their peaks.
 use Rattle.std.specs.Prelude.{◌≡◌, ◌≢◌, ℕ, ℤ, ◌<◌, List, length, slice_index_or}
-use Rattle.pw_base.specs.KindFunction.{Heard}
+use Rattle.pw_base.specs.KindFunction.{KindInputs}
 use Rattle.pw_base.specs.Samples.{peak_of}
 use Rattle.cycle_model.specs.Rendering.{end_stream}
 use Rattle.node_state.specs.declared.node_state.NodeState.{NodeState}
 use Rattle.node_state.specs.StandsFor.{StandsFor, node_kind, kept_stream}
-use Rattle.node_state.specs.Streams.{peak_heard}
+use Rattle.node_state.specs.Streams.{peak_kept_by}
 use Rattle.node_progress.specs.Ends.{IsNodeAtEnd}
 use Rattle.data_loop.specs.declared.loop_state.LoopState.{LoopState}
 use Rattle.data_loop.specs.Loops.{plan_of, node_at, IsBetweenEpochs}
@@ -37,7 +37,7 @@ KeepsAtEnd s n stream = IsDone s → stream ≡ end_stream (plan_of s) s.score.w
 -- the meter's whole stream
 abbrev pub HasPeak : LoopState → ℕ → ℕ → Type 0
 HasPeak s n peak = (x : NodeState) × IsStateOf s n x
-    × ((h : Heard) → StandsFor x h → peak ≡ peak_heard (node_kind x) h)
+    × ((h : KindInputs) → StandsFor x h → peak ≡ peak_kept_by (node_kind x) h)
 
 -- the stream was moved out of the sink's state: its whole stream, where all epochs are done. The
 -- others' states are as they were, and all else of the loop is

@@ -14,7 +14,7 @@ use Rattle.cycle_model.specs.Mixing.{takes_part}
 use Rattle.data_loop.specs.declared.member.Member.{Member}
 use Rattle.data_loop.specs.turns.Ends.{fills_of}
 use Rattle.node_progress.specs.Standing.{port_at, works_in}
-use Rattle.node_progress.specs.Working.{output_channels}
+use Rattle.node_progress.specs.NodeCycles.{output_channels}
 use Rattle.data_loop.specs.Gathering.{inputs_of}
 
 -- the samples of a quantum at an input, 0 where the kind has no such input

@@ -1,12 +1,11 @@
 -- Rows of a loop, and how long they are.
 -- Source: PipeWire's documentation, "Graph Scheduling" (quantum).
-use Rattle.std.specs.Prelude.{◌≡◌, ℕ, ◌≤◌, length}
+use Rattle.std.specs.Prelude.{◌≡◌, ℕ, ℤ, ◌≤◌, List, length, take}
 use Rattle.data_loop.specs.declared.member.Member.{Member}
 use Rattle.data_loop.specs.declared.rows.Rows.{Rows}
 
 -- a quantum at each port of the member has room
 pub record HasRowsFor (rows : Rows) (m : Member) : Type 0 where
-  pub row : m.first_width ≤ length rows.row.items
   pub sum_a : m.first_width ≤ length rows.sum_a.items
   pub sum_b : m.second_width ≤ length rows.sum_b.items
   pub a : m.first_width ≤ length rows.a.items
@@ -14,9 +13,21 @@ pub record HasRowsFor (rows : Rows) (m : Member) : Type 0 where
   pub left : m.left_width ≤ length rows.left.items
   pub right : m.right_width ≤ length rows.right.items
 
+-- what a quantum at its first and at its second input, or output, fills of a row
+abbrev pub a_row : Rows → Member → List ℤ
+a_row rows m = take m.first_width rows.a.items
+
+abbrev pub b_row : Rows → Member → List ℤ
+b_row rows m = take m.second_width rows.b.items
+
+abbrev pub left_row : Rows → Member → List ℤ
+left_row rows m = take m.left_width rows.left.items
+
+abbrev pub right_row : Rows → Member → List ℤ
+right_row rows m = take m.right_width rows.right.items
+
 -- each row is as long as before
 pub record IsSameRoom (old new : Rows) : Type 0 where
-  pub row : length new.row.items ≡ length old.row.items
   pub sum_a : length new.sum_a.items ≡ length old.sum_a.items
   pub sum_b : length new.sum_b.items ≡ length old.sum_b.items
   pub a : length new.a.items ≡ length old.a.items
@@ -33,7 +44,6 @@ pub record IsWithin (width : ℕ) (m : Member) : Type 0 where
 
 -- each row is so long
 pub record AreAsLong (width : ℕ) (rows : Rows) : Type 0 where
-  pub row : length rows.row.items ≡ width
   pub sum_a : length rows.sum_a.items ≡ width
   pub sum_b : length rows.sum_b.items ≡ width
   pub a : length rows.a.items ≡ width

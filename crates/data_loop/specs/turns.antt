@@ -1,5 +1,4 @@
 -- The turn of a node on all its links and pools, as views have it. Source: this project's own.
 pub mod Ends
-pub mod Hearing
-pub mod Writing
+pub mod ReadingInputs
 pub mod Turning

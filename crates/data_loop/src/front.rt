@@ -3,7 +3,7 @@
 /// No follower has ended fewer cycles than `least`, and those before the index `from` have ended
 /// more.
 #[derive(Clone, Copy, Debug, PartialEq, Eq, Drop)]
-pub struct Front {
+pub(crate) struct Front {
     pub least: u32,
     pub from: usize,
 }

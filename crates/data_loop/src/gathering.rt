@@ -1,16 +1,20 @@
 //! The inputs of a node, as the cycle function has them.
-ghost use Rattle.std.specs.Prelude.{◌≡◌, ◌≤◌, length};
+ghost use Rattle.std.specs.Prelude.{◌≡◌, ◌≤◌, length, take};
+ghost use Rattle.pw_base.specs.Limits.{links_limit};
 ghost use Rattle.board_rule.specs.OnBoard.{IsOn, layout};
 ghost use Rattle.io_areas.specs.PooledBoard.{IsPooledBoard};
-ghost use Rattle.data_loop.specs.turns.Hearing.{MayHearAll, AreHeard};
+ghost use Rattle.data_loop.specs.turns.ReadingInputs.{MayReadAll, AreRead};
 ghost use Rattle.data_loop.specs.Inputs.{IsWide, links_of, only_link, AreLong};
+ghost use Rattle.data_loop.specs.Rooms.{HasRowsFor, IsSameRoom, a_row, b_row};
 ghost use Rattle.node_progress.specs.Standing.{comes_in};
-ghost use Rattle.data_loop.specs.Gathering.{IsHearing};
+ghost use Rattle.data_loop.specs.Gathering.{ReadsInputs};
 
-use crate::inputs::{Input, hear_all};
-use board_rule::{Board, BoardSeat};
+use crate::inputs::{Input, read_inputs};
+use crate::member::Member;
+use crate::moment::Moment;
+use crate::rows::Rows;
+use board_rule::BoardSeat;
 use io_areas::read_input;
-use node_progress::Score;
 use s16_mixer::clamp_out;
 
 // The link of a node that reads this one alone, at its first input.
@@ -23,50 +27,95 @@ fn only_link(inputs: &[Input]) -> Option<u32>
     }
 }
 
-/// The node that works reads all its links: `a` and `b` are then what its inputs get in the cycle.
-/// One link alone is read straight into `a`, with no sum and no clamp. Takes no memory, does not
-/// wait.
-pub fn gather<S: BoardSeat>(
-    score: &Score,
-    node: u32,
-    cycle: u32,
-    board: &Board,
+// The inputs of the node, in rows that may be longer than they are wide. `a` also takes what one
+// link brings.
+fn gather_in<S: BoardSeat>(
+    moment: &Moment<'_>,
     seat: &mut S,
-    inputs: &[Input],
-    row: &mut [i16],
+    member: &Member,
     sum_a: &mut [i32],
     sum_b: &mut [i32],
     a: &mut [i16],
     b: &mut [i16],
 )
-    requires pooled { IsPooledBoard (layout board.now) }
-    requires table { IsOn board.now (S.table seat.old) }
-    requires phase { let p = layout board.now in
-        MayHearAll S.is_driver p (S.knows seat.old) (links_of inputs.now) }
-    requires few { length inputs.now ≤ 256 }
-    requires long { AreLong (layout board.now) (length row.old) inputs.now }
-    requires hears { let p = layout board.now in
-        IsHearing S.is_driver score.now p (S.knows seat.old) cycle node inputs.now (length a.old)
-        (length b.old) }
-    requires first { (length sum_a.old ≡ length row.old) × (length a.old ≡ length row.old) }
-    requires second { IsWide (length row.old) (length sum_b.old) inputs.now
-        × (length b.old ≡ length sum_b.old) }
+    requires pooled { IsPooledBoard (layout moment.now.board.now) }
+    requires table { IsOn moment.now.board.now (S.table seat.old) }
+    requires phase { let p = layout moment.now.board.now in
+        MayReadAll S.is_driver p (S.knows seat.old) (links_of member.now.inputs) }
+    requires few { length member.now.inputs ≤ links_limit }
+    requires long { let p = layout moment.now.board.now in
+        AreLong p member.now.first_width member.now.inputs }
+    requires reads { let p = layout moment.now.board.now in let m = member.now in
+        ReadsInputs S.is_driver moment.now.score.now p (S.knows seat.old) moment.now.cycle m.node
+        m.inputs m.first_width m.second_width }
+    requires second { let m = member.now in IsWide m.first_width m.second_width m.inputs }
+    requires first_row { (member.now.first_width ≤ length sum_a.old)
+        × (member.now.first_width ≤ length a.old) }
+    requires second_row { (member.now.second_width ≤ length sum_b.old)
+        × (member.now.second_width ≤ length b.old) }
     ensures table { S.table seat.new ≡ S.table seat.old }
-    ensures knows { let p = layout board.now in
-        AreHeard S.is_driver p (S.knows seat.old) (links_of inputs.now) (S.knows seat.new) }
-    ensures a { a.new ≡ comes_in score.now cycle node 0 }
-    ensures b { b.new ≡ comes_in score.now cycle node 1 }
+    ensures knows { let p = layout moment.now.board.now in
+        AreRead S.is_driver p (S.knows seat.old) (links_of member.now.inputs) (S.knows seat.new) }
+    ensures a { take member.now.first_width a.new
+        ≡ comes_in moment.now.score.now moment.now.cycle member.now.node 0 }
+    ensures b { take member.now.second_width b.new
+        ≡ comes_in moment.now.score.now moment.now.cycle member.now.node 1 }
 {
-    let _ = score;
-    let _ = (node, cycle);
+    let board = moment.board;
+    let inputs = member.inputs.as_slice();
+    let a = &mut a[..member.first_width];
+    let b = &mut b[..member.second_width];
     if let Some(link) = only_link(inputs) {
         read_input(board, seat, link, a);
         b.fill(0);
         return;
     }
+    let sum_a = &mut sum_a[..member.first_width];
+    let sum_b = &mut sum_b[..member.second_width];
     sum_a.fill(0);
     sum_b.fill(0);
-    hear_all(board, seat, inputs, row, sum_a, sum_b);
+    read_inputs(board, seat, inputs, a, sum_a, sum_b);
     clamp_out(sum_a, a);
     clamp_out(sum_b, b);
+}
+
+/// The node that works reads all its links: `a` and `b` of the rows then begin with what its inputs
+/// get in the cycle. One link alone is read straight into `a`, with no sum and no clamp. Takes no
+/// memory, does not wait.
+pub(crate) fn gather<S: BoardSeat>(
+    moment: &Moment<'_>,
+    seat: &mut S,
+    member: &Member,
+    rows: &mut Rows,
+)
+    requires pooled { IsPooledBoard (layout moment.now.board.now) }
+    requires table { IsOn moment.now.board.now (S.table seat.old) }
+    requires phase { let p = layout moment.now.board.now in
+        MayReadAll S.is_driver p (S.knows seat.old) (links_of member.now.inputs) }
+    requires few { length member.now.inputs ≤ links_limit }
+    requires long { let p = layout moment.now.board.now in
+        AreLong p member.now.first_width member.now.inputs }
+    requires reads { let p = layout moment.now.board.now in let m = member.now in
+        ReadsInputs S.is_driver moment.now.score.now p (S.knows seat.old) moment.now.cycle m.node
+        m.inputs m.first_width m.second_width }
+    requires second { let m = member.now in IsWide m.first_width m.second_width m.inputs }
+    requires rows { HasRowsFor rows.old member.now }
+    ensures table { S.table seat.new ≡ S.table seat.old }
+    ensures knows { let p = layout moment.now.board.now in
+        AreRead S.is_driver p (S.knows seat.old) (links_of member.now.inputs) (S.knows seat.new) }
+    ensures a { a_row rows.new member.now
+        ≡ comes_in moment.now.score.now moment.now.cycle member.now.node 0 }
+    ensures b { b_row rows.new member.now
+        ≡ comes_in moment.now.score.now moment.now.cycle member.now.node 1 }
+    ensures rows { IsSameRoom rows.old rows.new }
+{
+    gather_in(
+        moment,
+        seat,
+        member,
+        rows.sum_a.as_mut_slice(),
+        rows.sum_b.as_mut_slice(),
+        rows.a.as_mut_slice(),
+        rows.b.as_mut_slice(),
+    );
 }

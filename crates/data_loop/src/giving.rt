@@ -2,8 +2,8 @@
 ghost use Rattle.std.specs.Prelude.{◌≡◌, ◌==◌, if◌then◌else◌};
 ghost use Rattle.board_rule.specs.OnBoard.{IsOn, layout};
 ghost use Rattle.data_loop.specs.turns.Turning.{IsEquipped};
-ghost use Rattle.data_loop.specs.turns.Writing.{MayFillAll, AreWritten};
-ghost use Rattle.data_loop.specs.Giving.{AllPut};
+ghost use Rattle.data_loop.specs.working.Writing.{MayFillAll, AreWritten};
+ghost use Rattle.data_loop.specs.working.Giving.{AllPut};
 
 use crate::own_pools::OwnPools;
 use board_rule::{Board, LoopSeat};

@@ -7,6 +7,7 @@ ghost use Rattle.data_loop.specs.LoopDriver.{HasSamplesOf, DrivesFrom, IsTied, H
 
 use crate::driving::{pass_driver, play_driver};
 use crate::loop_state::LoopState;
+use crate::moment::Moment;
 use board_rule::{Board, BoardSeat, DriverSeat};
 use pw_base::Gate;
 
@@ -40,13 +41,16 @@ impl LoopState {
             return;
         }
         let member = &stage.driver.as_slice()[0];
-        play_driver(
-            &self.score,
+        let moment = Moment {
+            score: &self.score,
             board,
+            epoch: self.epoch,
+            cycle,
+        };
+        play_driver(
+            &moment,
             seat,
             member,
-            self.epoch,
-            cycle,
             &mut self.states[member.at as usize],
             &mut self.rows,
             gate,

@@ -7,6 +7,7 @@ ghost use Rattle.data_loop.specs.LoopTries.{HasTurnedAt, HasWoken};
 
 use crate::did::Did;
 use crate::loop_state::LoopState;
+use crate::scene::Scene;
 use crate::tables::tell;
 use board_rule::Board;
 use pw_base::{Gate, Items};
@@ -24,10 +25,13 @@ impl LoopState {
         ensures woke { HasWoken result self.new }
     {
         self.found.clear();
-        let did = self.stages[self.epoch as usize].turn(
+        let scene = Scene {
+            score: &self.score,
             board,
-            &self.score,
-            self.epoch,
+            epoch: self.epoch,
+        };
+        let did = self.stages[self.epoch as usize].turn(
+            &scene,
             self.states.as_mut_slice(),
             &mut self.rows,
             &mut self.found,
@@ -50,10 +54,13 @@ impl LoopState {
         ensures woke { HasWoken result self.new }
     {
         self.found.clear();
-        let did = self.stages[self.epoch as usize].turn_at(
+        let scene = Scene {
+            score: &self.score,
             board,
-            &self.score,
-            self.epoch,
+            epoch: self.epoch,
+        };
+        let did = self.stages[self.epoch as usize].turn_at(
+            &scene,
             node,
             self.states.as_mut_slice(),
             &mut self.rows,

@@ -5,7 +5,7 @@ use pw_base::Items;
 /// A node of a loop: the links that it reads and the pools that it fills, by number, ascending, and
 /// how many samples a quantum has at each of its ports.
 #[derive(Drop)]
-pub struct Member {
+pub(crate) struct Member {
     pub node: u32,
     /// Its place among the loop's nodes.
     pub at: u32,

@@ -1,6 +1,7 @@
 //! How the members of a loop in an epoch are made.
 ghost use Rattle.std.specs.Prelude.{◌≡◌, ◌≤◌, IfOk, length};
 ghost use Rattle.std.specs.List.{list_any};
+ghost use Rattle.pw_base.specs.Limits.{nodes_limit, links_limit};
 ghost use Rattle.pw_base.specs.KindPorts.{input_count};
 ghost use Rattle.pw_base.specs.PlanForms.{kind_at};
 ghost use Rattle.pw_base.specs.Pools.{pools_of, is_same_port};
@@ -17,7 +18,7 @@ use std::alloc::Global;
 
 // The links into a node, each with its input, ascending.
 fn inputs_of(alloc: Global, shape: &Shape, node: u32) -> Result<Items<Input>, Memory>
-    requires few { length shape.now.links ≤ 256 }
+    requires few { length shape.now.links ≤ links_limit }
     ensures { IfOk result (λ inputs. inputs ≡ inputs_of shape.now node) }
 {
     let links = shape.links.as_slice();
@@ -41,7 +42,7 @@ fn fills_of(
     pools: &[PoolShape],
     node: u32,
 ) -> Result<Items<u32>, Memory>
-    requires few { length pools.now ≤ 256 }
+    requires few { length pools.now ≤ links_limit }
     requires pools { pools.now ≡ pools_of shape.now }
     ensures { IfOk result (λ fills. fills ≡ fills_of shape.now node) }
 {
@@ -121,7 +122,8 @@ fn member_of(
     node: u32,
     at: u32,
 ) -> Result<Member, Memory>
-    requires few { (length epoch.now.shape.links ≤ 256) × (length pools.now ≤ 256) }
+    requires few { (length epoch.now.shape.links ≤ links_limit)
+        × (length pools.now ≤ links_limit) }
     requires pools { pools.now ≡ pools_of epoch.now.shape }
     ensures { IfOk result (λ m. m ≡ member_of plan.now epoch.now node at) }
 {
@@ -159,9 +161,10 @@ pub(crate) fn members_by(
     nodes: &[u32],
     leads: bool,
 ) -> Result<Items<Member>, Memory>
-    requires few { (length epoch.now.shape.links ≤ 256) × (length pools.now ≤ 256) }
+    requires few { (length epoch.now.shape.links ≤ links_limit)
+        × (length pools.now ≤ links_limit) }
     requires pools { pools.now ≡ pools_of epoch.now.shape }
-    requires places { length nodes.now ≤ 63 }
+    requires places { length nodes.now ≤ nodes_limit }
     ensures { IfOk result
         (λ members. members ≡ members_by plan.now nodes.now epoch.now leads) }
 {

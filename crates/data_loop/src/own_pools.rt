@@ -1,5 +1,6 @@
 //! The pools that the nodes of a loop fill in an epoch.
 ghost use Rattle.std.specs.Prelude.{◌≡◌, ◌≤◌, if◌then◌else◌, All, IfOk, length, map};
+ghost use Rattle.pw_base.specs.Limits.{links_limit, buffers_limit};
 ghost use Rattle.io_areas.specs.FreeBlocks.{free_at_start};
 ghost use Rattle.data_loop.specs.OwnPools.{is_among, own_pools, own_places, AreFirstPools};
 
@@ -11,7 +12,7 @@ use std::alloc::Global;
 /// The pools that the nodes of a loop fill in an epoch, each with its free blocks; those of other
 /// loops take no room but for a place.
 #[derive(Drop)]
-pub struct OwnPools {
+pub(crate) struct OwnPools {
     /// Of each pool of the epoch its place in the two lists; past their end where it is none of the
     /// loop's.
     pub places: Items<u16>,
@@ -28,7 +29,7 @@ fn is_among(nodes: &[u32], node: u32) -> bool
 
 // How many of the pools are those of these nodes.
 fn count_own(nodes: &[u32], pools: &[PoolShape]) -> u16
-    requires few { length pools.now ≤ 256 }
+    requires few { length pools.now ≤ links_limit }
     ensures { result ≡ length (own_pools nodes.now pools.now) }
 {
     let mut count = 0;
@@ -47,7 +48,7 @@ fn place_for(own: bool, before: u16, count: u16) -> u16
 
 // The place of each pool: how many of the nodes' own stand before it, or how many there are.
 fn places_of(alloc: Global, nodes: &[u32], pools: &[PoolShape]) -> Result<Items<u16>, Memory>
-    requires few { length pools.now ≤ 256 }
+    requires few { length pools.now ≤ links_limit }
     ensures { IfOk result (λ places. places ≡ own_places nodes.now pools.now) }
 {
     let count = count_own(nodes, pools);
@@ -80,7 +81,7 @@ fn shapes_of(
 
 // The free blocks of each pool.
 fn free_of(alloc: Global, shape: &Shape, pools: &[PoolShape]) -> Result<Items<Pool>, Memory>
-    requires { All (λ x. (1 ≤ x.blocks) × (x.blocks ≤ 8)) pools.now }
+    requires { All (λ x. (1 ≤ x.blocks) × (x.blocks ≤ buffers_limit)) pools.now }
     ensures { IfOk result (λ free. free ≡ map (free_at_start shape.now) pools.now) }
 {
     let mut free = Items::new(alloc);
@@ -97,8 +98,8 @@ pub(crate) fn pools_among(
     nodes: &[u32],
     pools: Items<PoolShape>,
 ) -> Result<OwnPools, Memory>
-    requires few { length pools ≤ 256 }
-    requires pools { All (λ x. (1 ≤ x.blocks) × (x.blocks ≤ 8)) pools }
+    requires few { length pools ≤ links_limit }
+    requires pools { All (λ x. (1 ≤ x.blocks) × (x.blocks ≤ buffers_limit)) pools }
     ensures { IfOk result (AreFirstPools shape.now nodes.now pools) }
 {
     let places = places_of(alloc, nodes, pools.as_slice())?;

@@ -11,10 +11,10 @@ ghost use Rattle.data_loop.specs.Stages.{IsStanding, AreLeft};
 use crate::did::Did;
 use crate::front::Front;
 use crate::rows::Rows;
+use crate::scene::Scene;
 use crate::stage::Stage;
 use crate::tried::Tried;
 use board_rule::{Board, BoardSeat};
-use node_progress::Score;
 use node_state::NodeState;
 use pw_base::Gate;
 
@@ -75,43 +75,43 @@ impl Stage {
         }
     }
 
-    // One pass over the members, from an index on: those that have ended `least` cycles are tried,
-    // or the others, in their order, until one has run.
+    // One pass over the members, from the front's index on: those that have ended its least cycles
+    // are tried, or the others, in their order, until one has run.
     pub(crate) fn pass<G: Gate>(
         &mut self,
-        board: &Board,
-        score: &Score,
-        epoch: u32,
-        from: usize,
-        least: u32,
+        scene: &Scene<'_>,
+        front: Front,
         at: bool,
         states: &mut [NodeState],
         rows: &mut Rows,
         found: &mut Vec<(u32, u64)>,
         gate: &G,
     ) -> Did
-        requires stands { IsStanding score.now epoch (layout board.now) (table_of board.now)
-            self.old states.old rows.old }
-        requires past { filter (is_chosen (layout board.now) self.old.seat.knows least at)
-            (take from self.old.members) ≡ [] }
-        requires room { length found.old.items
-            + length (chosen_in (layout board.now) self.old least at) ≤ vec_capacity found.old }
-        ensures stands { IsStanding score.now epoch (layout board.now) (table_of board.now)
-            self.new states.new rows.new }
-        ensures passed { HasPassed (layout board.now) least at self.old result found.old.items
-            found.new.items self.new }
+        requires stands { IsStanding scene.now.score.now scene.now.epoch
+            (layout scene.now.board.now) (table_of scene.now.board.now) self.old states.old
+            rows.old }
+        requires past { let p = layout scene.now.board.now in
+            filter (is_chosen p self.old.seat.knows front.least at)
+            (take front.from self.old.members) ≡ [] }
+        requires room { let p = layout scene.now.board.now in length found.old.items
+            + length (chosen_in p self.old front.least at) ≤ vec_capacity found.old }
+        ensures stands { IsStanding scene.now.score.now scene.now.epoch
+            (layout scene.now.board.now) (table_of scene.now.board.now) self.new states.new
+            rows.new }
+        ensures passed { HasPassed (layout scene.now.board.now) front.least at self.old result
+            found.old.items found.new.items self.new }
         ensures same { IsSameStage self.old self.new }
         ensures front { self.new.front ≡ self.old.front }
         ensures states { AreLeft self.old.members states.old states.new }
         ensures rows { IsSameRoom rows.old rows.new }
         ensures capacity { vec_capacity found.new ≡ vec_capacity found.old }
     {
-        for index in from..self.members.len() {
+        for index in front.from..self.members.len() {
             let node = self.members.as_slice()[index].node;
-            if !is_in_pass(self.seat.ended(board, node), least, at) {
+            if !is_in_pass(self.seat.ended(scene.board, node), front.least, at) {
                 continue;
             }
-            match self.try_member(board, score, epoch, index, states, rows, gate) {
+            match self.try_member(scene, index, states, rows, gate) {
                 Tried::Ended => (),
                 Tried::NotYet { found: word } => found.push_reserved((node, word)),
                 Tried::Ran => return Did::Ran { node },

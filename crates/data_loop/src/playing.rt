@@ -1,122 +1,128 @@
-//! The turn of a member, in rows of the loop.
-ghost use Rattle.std.specs.Prelude.{◌≡◌, ◌≤◌, suc, length};
+//! The turn of a follower that is awake, in rows of the loop.
+ghost use Rattle.std.specs.Prelude.{◌≡◌, ◌≤◌, suc, length, take};
 ghost use Rattle.board_rule.specs.OnBoard.{IsOn, layout};
 ghost use Rattle.data_loop.specs.turns.Turning.{IsEquipped, MayTurn, HasTurned};
-ghost use Rattle.node_progress.specs.NodeStates.{IsNodeState};
-ghost use Rattle.data_loop.specs.Rooms.{HasRowsFor, IsSameRoom};
+ghost use Rattle.node_progress.specs.NodeStates.{IsNodeState, MayWork};
+ghost use Rattle.node_progress.specs.Standing.{Gives};
+ghost use Rattle.data_loop.specs.Rooms.{HasRowsFor, IsSameRoom, a_row, b_row, left_row, right_row};
 ghost use Rattle.data_loop.specs.Standings.{IsPlayer};
 
+use crate::gathering::gather;
+use crate::giving::give_all;
 use crate::member::Member;
+use crate::moment::Moment;
 use crate::own_pools::OwnPools;
 use crate::rows::Rows;
-use crate::turning::take_turn;
-use board_rule::{Board, LoopSeat};
-use node_progress::Score;
+use activation_words::{finish, start};
+use board_rule::LoopSeat;
+use node_progress::{NodeCycle, work};
 use node_state::NodeState;
 use pw_base::Gate;
 
-// The turn, in the first places of these rows.
-fn play_in<G: Gate>(
-    score: &Score,
-    board: &Board,
-    seat: &mut LoopSeat,
+// One cycle of the node's state, from rows of its inputs to rows of its outputs that may be longer
+// than these are wide.
+fn work_in(
+    moment: &Moment<'_>,
     member: &Member,
-    epoch: u32,
-    cycle: u32,
-    own: &mut OwnPools,
     state: &mut NodeState,
-    row: &mut [i16],
-    sum_a: &mut [i32],
-    sum_b: &mut [i32],
-    a: &mut [i16],
-    b: &mut [i16],
+    a: &[i16],
+    b: &[i16],
     left: &mut [i16],
     right: &mut [i16],
-    gate: &G,
 )
-    requires table { IsOn board.now seat.old.table }
-    requires equipped { IsEquipped (layout board.now) seat.old.knows own.old }
-    requires player { IsPlayer score.now (layout board.now) seat.old.knows epoch cycle member.now }
-    requires awake { let p = layout board.now in
-        MayTurn p seat.old.knows own.old (p.index member.now.node) }
-    requires state { IsNodeState score.now epoch cycle member.now.node state.old }
-    requires first { (member.now.first_width ≤ length row.old)
-        × (member.now.first_width ≤ length sum_a.old)
-        × (member.now.first_width ≤ length a.old) }
-    requires second { (member.now.second_width ≤ length sum_b.old)
-        × (member.now.second_width ≤ length b.old) }
+    requires may { let m = member.now in
+        MayWork moment.now.score.now moment.now.epoch moment.now.cycle m.node state.old
+        (take m.first_width a.now) (take m.second_width b.now)
+        (take m.left_width left.old) (take m.right_width right.old) }
+    requires inputs { (member.now.first_width ≤ length a.now)
+        × (member.now.second_width ≤ length b.now) }
     requires outputs { (member.now.left_width ≤ length left.old)
         × (member.now.right_width ≤ length right.old) }
-    ensures table { seat.new.table ≡ seat.old.table }
-    ensures turned { let p = layout board.now in
-        HasTurned p seat.old.knows own.old (p.index member.now.node) seat.new.knows own.new }
-    ensures state { IsNodeState score.now epoch (suc cycle) member.now.node state.new }
+    ensures left { let m = member.now in Gives moment.now.score.now moment.now.cycle m.node 0
+        (take m.left_width left.old) (take m.left_width left.new) }
+    ensures right { let m = member.now in Gives moment.now.score.now moment.now.cycle m.node 1
+        (take m.right_width right.old) (take m.right_width right.new) }
+    ensures state { IsNodeState moment.now.score.now moment.now.epoch (suc moment.now.cycle)
+        member.now.node state.new }
 {
-    let first = member.first_width;
-    let second = member.second_width;
-    take_turn(
-        score,
-        board,
-        seat,
+    let at = NodeCycle {
+        epoch: moment.epoch,
+        cycle: moment.cycle,
+        node: member.node,
+        a: &a[..member.first_width],
+        b: &b[..member.second_width],
+    };
+    let left = &mut left[..member.left_width];
+    let right = &mut right[..member.right_width];
+    work(moment.score, &at, state, left, right);
+}
+
+// The same, in the rows of the loop.
+fn work_in_rows(moment: &Moment<'_>, member: &Member, state: &mut NodeState, rows: &mut Rows)
+    requires may { let m = member.now in
+        MayWork moment.now.score.now moment.now.epoch moment.now.cycle m.node state.old
+        (a_row rows.old m) (b_row rows.old m) (left_row rows.old m) (right_row rows.old m) }
+    requires rows { HasRowsFor rows.old member.now }
+    ensures left { Gives moment.now.score.now moment.now.cycle member.now.node 0
+        (left_row rows.old member.now) (left_row rows.new member.now) }
+    ensures right { Gives moment.now.score.now moment.now.cycle member.now.node 1
+        (right_row rows.old member.now) (right_row rows.new member.now) }
+    ensures state { IsNodeState moment.now.score.now moment.now.epoch (suc moment.now.cycle)
+        member.now.node state.new }
+    ensures rows { IsSameRoom rows.old rows.new }
+{
+    work_in(
+        moment,
         member,
-        epoch,
-        cycle,
-        own,
         state,
-        &mut row[..first],
-        &mut sum_a[..first],
-        &mut sum_b[..second],
-        &mut a[..first],
-        &mut b[..second],
-        &mut left[..member.left_width],
-        &mut right[..member.right_width],
-        gate,
+        rows.a.as_slice(),
+        rows.b.as_slice(),
+        rows.left.as_mut_slice(),
+        rows.right.as_mut_slice(),
     );
 }
 
-/// The turn of a member that is awake in the cycle `cycle` of the epoch `epoch`: it takes what its
-/// links bring, and gives in its pools what its outputs give. Takes no memory, does not wait.
-pub fn play<G: Gate>(
-    score: &Score,
-    board: &Board,
+/// The turn of a member that is awake in this moment: it starts, takes what its links bring, does
+/// one quantum, gives in its pools what its outputs give, and finishes. `own` has the pools of its
+/// loop. Takes no memory, does not wait.
+pub(crate) fn play<G: Gate>(
+    moment: &Moment<'_>,
     seat: &mut LoopSeat,
     member: &Member,
-    epoch: u32,
-    cycle: u32,
     own: &mut OwnPools,
     state: &mut NodeState,
     rows: &mut Rows,
     gate: &G,
 )
-    requires table { IsOn board.now seat.old.table }
-    requires equipped { IsEquipped (layout board.now) seat.old.knows own.old }
-    requires player { IsPlayer score.now (layout board.now) seat.old.knows epoch cycle member.now }
-    requires awake { let p = layout board.now in
+    requires table { IsOn moment.now.board.now seat.old.table }
+    requires equipped { IsEquipped (layout moment.now.board.now) seat.old.knows own.old }
+    requires player { IsPlayer moment.now.score.now (layout moment.now.board.now) seat.old.knows
+        moment.now.epoch moment.now.cycle member.now }
+    requires awake { let p = layout moment.now.board.now in
         MayTurn p seat.old.knows own.old (p.index member.now.node) }
-    requires state { IsNodeState score.now epoch cycle member.now.node state.old }
+    requires state { IsNodeState moment.now.score.now moment.now.epoch moment.now.cycle
+        member.now.node state.old }
     requires rows { HasRowsFor rows.old member.now }
     ensures table { seat.new.table ≡ seat.old.table }
-    ensures turned { let p = layout board.now in
+    ensures turned { let p = layout moment.now.board.now in
         HasTurned p seat.old.knows own.old (p.index member.now.node) seat.new.knows own.new }
-    ensures state { IsNodeState score.now epoch (suc cycle) member.now.node state.new }
+    ensures state { IsNodeState moment.now.score.now moment.now.epoch (suc moment.now.cycle)
+        member.now.node state.new }
     ensures rows { IsSameRoom rows.old rows.new }
 {
-    play_in(
-        score,
+    let board = moment.board;
+    start(board, seat, member.node);
+    gate.enter(member.node, moment.cycle);
+    gather(moment, seat, member, rows);
+    work_in_rows(moment, member, state, rows);
+    give_all(
         board,
         seat,
-        member,
-        epoch,
-        cycle,
+        member.pools.as_slice(),
         own,
-        state,
-        rows.row.as_mut_slice(),
-        rows.sum_a.as_mut_slice(),
-        rows.sum_b.as_mut_slice(),
-        rows.a.as_mut_slice(),
-        rows.b.as_mut_slice(),
-        rows.left.as_mut_slice(),
-        rows.right.as_mut_slice(),
-        gate,
+        member.first_output,
+        &rows.left.as_slice()[..member.left_width],
+        &rows.right.as_slice()[..member.right_width],
     );
+    finish(board, seat, member.node);
 }

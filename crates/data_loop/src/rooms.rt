@@ -47,7 +47,6 @@ pub(crate) fn rows_of(alloc: Global, width: usize) -> Result<Rows, Memory>
     ensures { IfOk result (AreAsLong width) }
 {
     Ok(Rows {
-        row: Items::filled(alloc, width, 0)?.into_vec(),
         sum_a: Items::filled(alloc, width, 0)?.into_vec(),
         sum_b: Items::filled(alloc, width, 0)?.into_vec(),
         a: Items::filled(alloc, width, 0)?.into_vec(),

@@ -13,13 +13,14 @@ ghost use Rattle.data_loop.specs.Stages.{AreLeft};
 use crate::did::Did;
 use crate::front::Front;
 use crate::member::Member;
+use crate::moment::Moment;
 use crate::own_pools::OwnPools;
 use crate::playing::play;
 use crate::rows::Rows;
+use crate::scene::Scene;
 use crate::tried::Tried;
 use activation_words::{Claim, claim};
-use board_rule::{Board, BoardSeat, LoopSeat};
-use node_progress::Score;
+use board_rule::{BoardSeat, LoopSeat};
 use node_state::NodeState;
 use pw_base::{Gate, Items};
 
@@ -27,7 +28,7 @@ use pw_base::{Gate, Items};
 /// loop's nodes and has a form, and the pools that the loop's nodes fill. `restarts` has for each
 /// of the loop's nodes with how many channels the epoch begins it anew.
 #[derive(Drop)]
-pub struct Stage {
+pub(crate) struct Stage {
     pub seat: LoopSeat,
     pub members: Items<Member>,
     pub driver: Items<Member>,
@@ -53,22 +54,22 @@ fn index_of(members: &[Member], node: u32) -> Option<usize>
 impl Stage {
     /// One try of the member at an index, and where it is awake its turn: one cycle of the cycle
     /// function. `states` has the states of all nodes of the loop. Takes no memory, does not wait.
-    pub fn try_member<G: Gate>(
+    pub(crate) fn try_member<G: Gate>(
         &mut self,
-        board: &Board,
-        score: &Score,
-        epoch: u32,
+        scene: &Scene<'_>,
         index: usize,
         states: &mut [NodeState],
         rows: &mut Rows,
         gate: &G,
     ) -> Tried
-        requires stands { IsStanding score.now epoch (layout board.now) (table_of board.now)
-            self.old states.old rows.old }
+        requires stands { IsStanding scene.now.score.now scene.now.epoch
+            (layout scene.now.board.now) (table_of scene.now.board.now) self.old states.old
+            rows.old }
         requires inside { index < length self.old.members }
-        ensures stands { IsStanding score.now epoch (layout board.now) (table_of board.now)
-            self.new states.new rows.new }
-        ensures tried { HasTried (layout board.now) self.old
+        ensures stands { IsStanding scene.now.score.now scene.now.epoch
+            (layout scene.now.board.now) (table_of scene.now.board.now) self.new states.new
+            rows.new }
+        ensures tried { HasTried (layout scene.now.board.now) self.old
             (member_at self.old index).node result self.new }
         ensures same { IsSameStage self.old self.new }
         ensures front { self.new.front ≡ self.old.front }
@@ -76,6 +77,7 @@ impl Stage {
             → slice_index_or states.new at d ≡ slice_index_or states.old at d }
         ensures rows { IsSameRoom rows.old rows.new }
     {
+        let board = scene.board;
         let member = &self.members.as_slice()[index];
         if self.seat.ended(board, member.node) == board.shape().cycles {
             return Tried::Ended;
@@ -83,13 +85,16 @@ impl Stage {
         match claim(board, &mut self.seat, member.node) {
             Claim::NotYet { found } => Tried::NotYet { found },
             Claim::Awake { cycle } => {
-                play(
-                    score,
+                let moment = Moment {
+                    score: scene.score,
                     board,
+                    epoch: scene.epoch,
+                    cycle,
+                };
+                play(
+                    &moment,
                     &mut self.seat,
                     member,
-                    epoch,
-                    cycle,
                     &mut self.own,
                     &mut states[member.at as usize],
                     rows,
@@ -104,61 +109,69 @@ impl Stage {
     /// order, and ends with the first that has run. While one is a cycle behind, none that is ahead
     /// of it can be awake, so that a turn tries few. `found` is empty before; then it has the node
     /// and the word of each try that was too early. Takes no memory, does not wait.
-    pub fn turn<G: Gate>(
+    pub(crate) fn turn<G: Gate>(
         &mut self,
-        board: &Board,
-        score: &Score,
-        epoch: u32,
+        scene: &Scene<'_>,
         states: &mut [NodeState],
         rows: &mut Rows,
         found: &mut Vec<(u32, u64)>,
         gate: &G,
     ) -> Did
-        requires stands { IsStanding score.now epoch (layout board.now) (table_of board.now)
-            self.old states.old rows.old }
+        requires stands { IsStanding scene.now.score.now scene.now.epoch
+            (layout scene.now.board.now) (table_of scene.now.board.now) self.old states.old
+            rows.old }
         requires empty { found.old.items ≡ [] }
         requires room { length self.old.members ≤ vec_capacity found.old }
-        ensures stands { IsStanding score.now epoch (layout board.now) (table_of board.now)
-            self.new states.new rows.new }
-        ensures did { IsDid (layout board.now) self.old result found.new.items self.new }
+        ensures stands { IsStanding scene.now.score.now scene.now.epoch
+            (layout scene.now.board.now) (table_of scene.now.board.now) self.new states.new
+            rows.new }
+        ensures did { IsDid (layout scene.now.board.now) self.old result found.new.items self.new }
         ensures same { IsSameStage self.old self.new }
         ensures states { AreLeft self.old.members states.old states.new }
         ensures rows { IsSameRoom rows.old rows.new }
         ensures few { length found.new.items ≤ length self.old.members }
         ensures capacity { vec_capacity found.new ≡ vec_capacity found.old }
     {
-        self.front = self.front_now(board);
+        self.front = self.front_now(scene.board);
         let Front { least, from } = self.front;
         match self.pass(
-            board, score, epoch, from, least, true, states, rows, found, gate,
+            scene,
+            Front { least, from },
+            true,
+            states,
+            rows,
+            found,
+            gate,
         ) {
             Did::Ran { node } => Did::Ran { node },
-            Did::Idle => self.pass(
-                board, score, epoch, 0, least, false, states, rows, found, gate,
-            ),
+            Did::Idle => {
+                let all = Front { least, from: 0 };
+                self.pass(scene, all, false, states, rows, found, gate)
+            }
         }
     }
 
     /// One try of the member of a node, if there is one. `found` is empty before; then it has the
     /// node and the word of a try that was too early. Takes no memory, does not wait.
-    pub fn turn_at<G: Gate>(
+    pub(crate) fn turn_at<G: Gate>(
         &mut self,
-        board: &Board,
-        score: &Score,
-        epoch: u32,
+        scene: &Scene<'_>,
         node: u32,
         states: &mut [NodeState],
         rows: &mut Rows,
         found: &mut Vec<(u32, u64)>,
         gate: &G,
     ) -> Did
-        requires stands { IsStanding score.now epoch (layout board.now) (table_of board.now)
-            self.old states.old rows.old }
+        requires stands { IsStanding scene.now.score.now scene.now.epoch
+            (layout scene.now.board.now) (table_of scene.now.board.now) self.old states.old
+            rows.old }
         requires empty { found.old.items ≡ [] }
         requires room { length self.old.members ≤ vec_capacity found.old }
-        ensures stands { IsStanding score.now epoch (layout board.now) (table_of board.now)
-            self.new states.new rows.new }
-        ensures did { IsDidAt (layout board.now) self.old node result found.new.items self.new }
+        ensures stands { IsStanding scene.now.score.now scene.now.epoch
+            (layout scene.now.board.now) (table_of scene.now.board.now) self.new states.new
+            rows.new }
+        ensures did { IsDidAt (layout scene.now.board.now) self.old node result found.new.items
+            self.new }
         ensures same { IsSameStage self.old self.new }
         ensures states { AreLeft self.old.members states.old states.new }
         ensures rows { IsSameRoom rows.old rows.new }
@@ -169,7 +182,7 @@ impl Stage {
             Some(index) => index,
             None => return Did::Idle,
         };
-        match self.try_member(board, score, epoch, index, states, rows, gate) {
+        match self.try_member(scene, index, states, rows, gate) {
             Tried::Ended => Did::Idle,
             Tried::NotYet { found: word } => {
                 found.push_reserved((node, word));
@@ -180,7 +193,7 @@ impl Stage {
     }
 
     /// The nodes that a turn or a try has woken. Takes no memory.
-    pub fn woke(&self, did: Did) -> u64
+    pub(crate) fn woke(&self, did: Did) -> u64
         ensures { IsWoke did self.now result }
     {
         match did {

@@ -1,5 +1,6 @@
 //! What a loop has in each epoch, made before the first one begins.
 ghost use Rattle.std.specs.Prelude.{◌≡◌, ◌<◌, ◌≤◌, ◌^◌, IfOk, length, map};
+ghost use Rattle.pw_base.specs.Limits.{nodes_limit};
 ghost use Rattle.pw_base.specs.SoundPlan.{IsSoundPlan};
 ghost use Rattle.node_progress.specs.Restarts.{restart_of};
 ghost use Rattle.data_loop.specs.StageParts.{IsFirstStage, AreFirstStages};
@@ -41,7 +42,7 @@ fn stage_of(
 ) -> Result<Stage, Memory>
     requires sound { IsSoundPlan plan.now }
     requires inside { epoch < length plan.now.epochs }
-    requires few { length nodes.now ≤ 63 }
+    requires few { length nodes.now ≤ nodes_limit }
     ensures { IfOk result (IsFirstStage plan.now nodes.now epoch seat) }
 {
     let restarts = restarts_of(alloc, plan, epoch, nodes)?;
@@ -68,7 +69,7 @@ pub(crate) fn stages_of(
     seats: Items<LoopSeat>,
 ) -> Result<Items<Stage>, Memory>
     requires sound { IsSoundPlan plan.now }
-    requires few { length nodes.now ≤ 63 }
+    requires few { length nodes.now ≤ nodes_limit }
     requires count { length seats ≡ length plan.now.epochs }
     ensures { IfOk result (AreFirstStages plan.now nodes.now seats) }
 {

@@ -3,6 +3,7 @@
 //! A vector that is filled anew in each turn is no `Items`, and an `Items` that grows may ask for
 //! memory: so of each length there is one list, made before.
 ghost use Rattle.std.specs.Prelude.{◌≡◌, ◌+◌, ◌<◌, ◌≤◌, [], IfOk, length, slice_index_or, vec_capacity};
+ghost use Rattle.pw_base.specs.Limits.{nodes_limit};
 ghost use Rattle.data_loop.specs.Tables.{AreTables};
 
 use pw_base::{Items, Memory};
@@ -10,7 +11,7 @@ use std::alloc::Global;
 
 /// Lists of the lengths 0 to `most`.
 pub(crate) fn tables_of(alloc: Global, most: usize) -> Result<Items<Items<(u32, u64)>>, Memory>
-    requires few { most ≤ 63 }
+    requires few { most ≤ nodes_limit }
     ensures tables { IfOk result AreTables }
     ensures count { IfOk result (λ tables. length tables ≡ most + 1) }
 {

@@ -10,10 +10,10 @@ use Rattle.board_rule.specs.buffers.EndViews.{read_of, view_read, pool_at, pool_
 use Rattle.board_rule.specs.activation.SeatNodes.{HasNode}
 use Rattle.board_rule.specs.activation.WorkSteps.{IsRunning}
 use Rattle.board_rule.specs.buffers.ReaderSteps.{read_cycle, LoadsAsReader}
-use Rattle.io_areas.specs.Reading.{taken, IsHolding, all_heard, brought_in, brought, GivesBack, given_back}
+use Rattle.io_areas.specs.Reading.{taken, IsHolding, all_loaded, brought_in, brought, GivesBack, given_back}
 use Rattle.io_areas.specs.Ends.{IsReadUpTo}
 use Rattle.io_areas.specs.InputTurn.{MayReadInput, HasReadInput}
-use Rattle.io_areas.proofs.HearLemmas.{hears, reads_hears}
+use Rattle.io_areas.proofs.ReadingLemmas.{loads, reads_loads}
 
 module _ (p : BoardLayout) (v : View) (l : ℕ) (y : ReadView) where
   -- another end of a link leaves the node
@@ -37,16 +37,16 @@ module _ (p : BoardLayout) (v : View) (l : ℕ) (y : ReadView) where
   end_again h = get_or-set_same v.reads l y (unread 0) h
 
 -- the words that are loaded leave the cycle
-cycle_hears : (b : Bool) (p : BoardLayout) (v : View) (l : ℕ) (heard : List ℕ) → read_cycle b p (hears p v heard) l ≡ read_cycle b p v l
-cycle_hears true p v l heard = refl
-cycle_hears false p v l heard = refl
+cycle_loads : (b : Bool) (p : BoardLayout) (v : View) (l : ℕ) (words : List ℕ) → read_cycle b p (loads p v words) l ≡ read_cycle b p v l
+cycle_loads true p v l words = refl
+cycle_loads false p v l words = refl
 
 module _ (b : Bool) (p : BoardLayout) (v : View) (l : ℕ) (h : MayReadInput b p v l) where
   abbrev words : ℕ
   words = (pool_at p (pool_of p l)).words
 
   pub may_take : LoadsAsReader b p v l
-  may_take = ((h.inside, h.even.there, h.has, h.runs, h.even.hears), h.even.loaded)
+  may_take = ((h.inside, h.even.there, h.has, h.runs, h.even.words), h.even.loaded)
 
   module _ (id : ℕ) (low : id < (pool_at p (pool_of p l)).blocks) where
     abbrev y : ReadView
@@ -57,26 +57,26 @@ module _ (b : Bool) (p : BoardLayout) (v : View) (l : ℕ) (h : MayReadInput b p
     taken_now = taken b p v l id
 
     abbrev read_now : View
-    read_now = all_heard b p (taken b p v l id) l
+    read_now = all_loaded b p (taken b p v l id) l
 
     is : read_of taken_now l ≡ y
     is = end_again p v l y h.even.there
 
     same : read_cycle b p taken_now l ≡ read_cycle b p v l
-    same = cycle_hears b p (view_read v l y) l (set v.heard l 0) ∙ cycle_again p v l y b
+    same = cycle_loads b p (view_read v l y) l (set v.words_read l 0) ∙ cycle_again p v l y b
 
     same_read : read_cycle b p read_now l ≡ read_cycle b p v l
-    same_read = cycle_hears b p taken_now l (set taken_now.heard l words) ∙ same
+    same_read = cycle_loads b p taken_now l (set taken_now.words_read l words) ∙ same
 
-    long_taken : length taken_now.heard ≡ length v.heard
-    long_taken = length-set v.heard l 0
+    long_taken : length taken_now.words_read ≡ length v.words_read
+    long_taken = length-set v.words_read l 0
 
     pub holds : IsHolding b p taken_now l
-    holds = let there = h.even.there in let long = length-set v.reads l y in let hears_it = h.even.hears in
+    holds = let there = h.even.there in let long = length-set v.reads l y in let loads_it = h.even.words in
         let back = cycle_again p v l y b in
-        reads_hears p (view_read v l y) (set v.heard l 0) b l (read_of taken_now l).id long_taken (
+        reads_loads p (view_read v l y) (set v.words_read l 0) b l (read_of taken_now l).id long_taken (
           (
-            (h.inside, omega arith, has_again p v l y b (reader_of p l) h.has, runs_again p v l y b (reader_of p l) h.runs, hears_it),
+            (h.inside, omega arith, has_again p v l y b (reader_of p l) h.has, runs_again p v l y b (reader_of p l) h.runs, loads_it),
             ap (λ (z : ReadView). z.loaded) is ∙ ap (λ n. n + 1) (sym back),
             subst (λ n. n < (pool_at p (pool_of p l)).blocks) (sym (ap (λ (z : ReadView). z.id) is)) low,
             refl,
@@ -89,10 +89,10 @@ module _ (b : Bool) (p : BoardLayout) (v : View) (l : ℕ) (h : MayReadInput b p
     brought_now = ap (λ c. brought_in p v.expect l c) same
 
     pub may_give : GivesBack b p read_now l
-    may_give = let low = h.even.hears in let long = long_taken in (
-      reads_hears p taken_now (set taken_now.heard l words) b l (read_of taken_now l).id (length-set taken_now.heard l words) holds,
+    may_give = let low = h.even.words in let long = long_taken in (
+      reads_loads p taken_now (set taken_now.words_read l words) b l (read_of taken_now l).id (length-set taken_now.words_read l words) holds,
       ap (λ (z : ReadView). z.stored) is ∙ h.even.stored ∙ sym same_read,
-      get_or-set_same taken_now.heard l words 0 (omega arith),
+      get_or-set_same taken_now.words_read l words 0 (omega arith),
     )
 
     abbrev given : ReadView
@@ -104,8 +104,8 @@ module _ (b : Bool) (p : BoardLayout) (v : View) (l : ℕ) (h : MayReadInput b p
       e
           ∙ ap (λ (k : ReadView × ℕ). view_read read_now l (record k.0 { lowered = k.1 + 1; stored = k.1 + 1 }))
           (λ i. (is i, same_read i))
-          ∙ ap (λ (k : List ReadView × List ℕ). record v { reads = k.0; heard = k.1 })
-          (λ i. (set-set v.reads l y given i, set-set v.heard l 0 words i)),
+          ∙ ap (λ (k : List ReadView × List ℕ). record v { reads = k.0; words_read = k.1 })
+          (λ i. (set-set v.reads l y given i, set-set v.words_read l 0 words i)),
     )
 
   pub read_even : (w : View) → HasReadInput b p v l w → IsReadUpTo w l (read_cycle b p v l + 1)
@@ -116,10 +116,10 @@ module _ (b : Bool) (p : BoardLayout) (v : View) (l : ℕ) (h : MayReadInput b p
     id = r.0;
   }
       in let e = end_again p v l z h.even.there in let there = h.even.there in let long = length-set v.reads l z in
-      let hears_it = h.even.hears in let all = length-set v.heard l words in
+      let loads_it = h.even.words in let all = length-set v.words_read l words in
       subst (λ (u : View). IsReadUpTo u l (read_cycle b p v l + 1)) (sym r.1) record {
         there = omega arith;
-        hears = omega arith;
+        words = omega arith;
         loaded = ap (λ (x : ReadView). x.loaded) e;
         lowered = ap (λ (x : ReadView). x.lowered) e;
         stored = ap (λ (x : ReadView). x.stored) e;

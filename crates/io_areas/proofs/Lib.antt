@@ -3,7 +3,7 @@ pub mod FillLemmas
 pub mod EndLemmas
 pub mod SampleLemmas
 pub mod BroughtLemmas
-pub mod HearLemmas
+pub mod ReadingLemmas
 pub mod InputTurnLemmas
 pub mod KeptLemmas
 pub mod WriterEndsLemmas

@@ -21,7 +21,7 @@ use Rattle.io_areas.specs.PooledBoard.{IsPooledBoard}
 use Rattle.io_areas.specs.Ends.{IsWrittenUpTo}
 use Rattle.io_areas.specs.FreeBlocks.{FreeBlocks}
 use Rattle.io_areas.specs.OutputTurn.{MayWriteOutput, HasWrittenOutput}
-use Rattle.io_areas.specs.OutputSteps.{AreMade, IsLoadedNow, IsPublishedNow}
+use Rattle.io_areas.specs.working.OutputSteps.{AreMade, IsLoadedNow, IsPublishedNow}
 use Rattle.io_areas.specs.OutputAnswer.{IsReclaimed}
 use Rattle.io_areas.proofs.KeptLemmas.{IsKept, at_again}
 use Rattle.io_areas.proofs.WriterEndsLemmas.{kept, same_cycle, writer_again}

@@ -7,7 +7,7 @@ use Rattle.std.proofs.lemmas.Int.{ints}
 use Rattle.std.proofs.lemmas.List.{get_or_past}
 use Rattle.std.proofs.lemmas.Bool.{cases_lt}
 use Rattle.board_rule.specs.buffers.SampleWords.{bits_at, packed}
-use Rattle.io_areas.specs.Unpacking.{sample_in, spread}
+use Rattle.io_areas.specs.working.Unpacking.{sample_in, spread}
 
 -- a sample of 16 bits, also past the end of a list of such
 abbrev pub IsShort : ℤ → Type 0

@@ -14,7 +14,7 @@ use Rattle.board_rule.specs.buffers.BlockReadings.{delay_at}
 use Rattle.board_rule.specs.buffers.EndViews.{write_of, view_write, pool_of, writer_of, block_of}
 use Rattle.board_rule.specs.buffers.WriterSteps.{LoadsAsWriter, IsWriter, write_cycle, StoresHave}
 use Rattle.io_areas.specs.Writing.{number_given}
-use Rattle.io_areas.specs.OutputSteps.{AreMade, IsLoadedNow, IsPublishedNow}
+use Rattle.io_areas.specs.working.OutputSteps.{AreMade, IsLoadedNow, IsPublishedNow}
 use Rattle.io_areas.proofs.KeptLemmas.{IsKept, has_again, runs_again}
 
 -- an element does not stand before itself

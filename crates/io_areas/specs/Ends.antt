@@ -12,7 +12,7 @@ pub record IsWrittenUpTo (v : View) (l c : ℕ) : Type 0 where
 
 pub record IsReadUpTo (v : View) (l c : ℕ) : Type 0 where
   pub there : l < length v.reads
-  pub hears : l < length v.heard
+  pub words : l < length v.words_read
   pub loaded : (read_of v l).loaded ≡ c
   pub lowered : (read_of v l).lowered ≡ c
   pub stored : (read_of v l).stored ≡ c

@@ -22,4 +22,4 @@ HasReadInput is_driver p v l w = let c : ℕ = read_cycle is_driver p v l in
     (id : ℕ) × (w
     ≡ record (view_read v l
     (record { loaded = c + 1; lowered = c + 1; stored = c + 1; id = id }))
-    { heard = set v.heard l (pool_at p (pool_of p l)).words })
+    { words_read = set v.words_read l (pool_at p (pool_of p l)).words })

@@ -1,4 +1,3 @@
-pub mod Unpacking
 pub mod Quanta
 pub mod Reclaiming
 pub mod Writing
@@ -8,5 +7,5 @@ pub mod Ends
 pub mod InputTurn
 pub mod FreeBlocks
 pub mod OutputTurn
-pub mod OutputSteps
 pub mod OutputAnswer
+pub mod working

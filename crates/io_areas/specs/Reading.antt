@@ -10,7 +10,7 @@ use Rattle.board_rule.specs.View.{Samples}
 use Rattle.board_rule.specs.buffers.SampleWords.{samples_in}
 use Rattle.board_rule.specs.buffers.BlockReadings.{delay_at}
 use Rattle.board_rule.specs.buffers.EndViews.{read_of, view_read, pool_at, pool_of}
-use Rattle.board_rule.specs.buffers.ReaderSteps.{read_cycle, heard_of, ReadsBlock}
+use Rattle.board_rule.specs.buffers.ReaderSteps.{read_cycle, words_read_of, ReadsBlock}
 use Rattle.io_areas.specs.Quanta.{quantum_of}
 
 -- each is a sample of 16 bits: a clamp leaves it
@@ -35,15 +35,15 @@ module _ (is_driver : Bool) (p : BoardLayout) where
   abbrev pub taken : View → ℕ → ℕ → View
   taken v l id = record (view_read v l
       (record (read_of v l) { loaded = read_cycle is_driver p v l + 1; id = id }))
-      { heard = set v.heard l 0 }
+      { words_read = set v.words_read l 0 }
 
   -- READING: the block is taken in this cycle and not yet given back. It has what the link brings
   -- in this cycle, and all its words are loaded then
   abbrev pub IsHolding : View → ℕ → Type 0
   IsHolding v l = ReadsBlock is_driver p v l (read_of v l).id
 
-  abbrev pub all_heard : View → ℕ → View
-  all_heard v l = record v { heard = set v.heard l (pool_at p (pool_of p l)).words }
+  abbrev pub all_loaded : View → ℕ → View
+  all_loaded v l = record v { words_read = set v.words_read l (pool_at p (pool_of p l)).words }
 
   abbrev pub brought : View → ℕ → List ℤ
   brought v l = brought_in p v.expect l (read_cycle is_driver p v l)
@@ -52,7 +52,7 @@ module _ (is_driver : Bool) (p : BoardLayout) where
   -- link's area asks for data
   abbrev pub GivesBack : View → ℕ → Type 0
   GivesBack v l = IsHolding v l × ((read_of v l).stored ≡ read_cycle is_driver p v l)
-      × (heard_of v l ≡ (pool_at p (pool_of p l)).words)
+      × (words_read_of v l ≡ (pool_at p (pool_of p l)).words)
 
   abbrev pub given_back : View → ℕ → View
   given_back v l = view_read v l (record (read_of v l)

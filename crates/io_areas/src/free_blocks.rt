@@ -1,6 +1,7 @@
 //! The free blocks of a pool at the start of an epoch.
 ghost use Rattle.std.specs.Prelude.{◌≡◌, ◌≤◌, ◌&&◌, IfOk};
 ghost use Rattle.std.specs.List.{list_any};
+ghost use Rattle.pw_base.specs.Limits.{buffers_limit};
 ghost use Rattle.pw_base.specs.Pools.{is_same_port};
 ghost use Rattle.board_rule.specs.View.{is_delayed};
 ghost use Rattle.io_areas.specs.FreeBlocks.{free_at_start};
@@ -29,7 +30,7 @@ fn is_delayed(shape: &Shape, pool: &PoolShape) -> bool
 /// 0 of a pool with a delayed link is not among them: it is out, as if it had been announced in the
 /// cycle before. All memory that the list ever needs is taken here.
 pub fn free_at_start(alloc: Global, shape: &Shape, pool: &PoolShape) -> Result<Pool, Memory>
-    requires { (1 ≤ pool.now.blocks) × (pool.now.blocks ≤ 8) }
+    requires { (1 ≤ pool.now.blocks) × (pool.now.blocks ≤ buffers_limit) }
     ensures { IfOk result (λ free. free ≡ free_at_start shape.now pool.now) }
 {
     let mut free = Pool::new(alloc, pool.blocks)?;

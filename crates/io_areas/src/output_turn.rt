@@ -10,7 +10,7 @@ ghost use Rattle.io_areas.specs.Writing.{number_given, IsAtPool, IsUnfilled, Rec
 ghost use Rattle.io_areas.specs.PooledBoard.{IsPooledBoard};
 ghost use Rattle.io_areas.specs.FreeBlocks.{FreeBlocks};
 ghost use Rattle.io_areas.specs.OutputTurn.{MayWriteOutput, HasWrittenOutput};
-ghost use Rattle.io_areas.specs.OutputSteps.{AreMade, IsLoadedNow, IsPublishedNow};
+ghost use Rattle.io_areas.specs.working.OutputSteps.{AreMade, IsLoadedNow, IsPublishedNow};
 ghost use Rattle.io_areas.specs.OutputAnswer.{last_of, AnswersTurn};
 
 use crate::writing::{fill, load_for_write, reclaim};

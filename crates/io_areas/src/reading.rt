@@ -6,7 +6,7 @@ ghost use Rattle.pw_base.specs.Layout.{sample_place};
 ghost use Rattle.board_rule.specs.buffers.EndViews.{pool_at, pool_of};
 ghost use Rattle.board_rule.specs.buffers.ReaderSteps.{LoadsAsReader, IsZeroAtFirst, IsOfThisCycle};
 ghost use Rattle.io_areas.specs.Quanta.{quantum_of};
-ghost use Rattle.io_areas.specs.Reading.{taken, IsHolding, all_heard, brought, IsClamped, GivesBack, given_back};
+ghost use Rattle.io_areas.specs.Reading.{taken, IsHolding, all_loaded, brought, IsClamped, GivesBack, given_back};
 
 use crate::sample_words::spread;
 use board_rule::{Board, BoardSeat};
@@ -62,7 +62,7 @@ pub fn read<S: BoardSeat>(board: &Board, seat: &mut S, link: u32, to: &mut [i16]
     requires long { let p = layout board.now in length to.old ≡ quantum_of p (pool_of p link) }
     ensures table { S.table seat.new ≡ S.table seat.old }
     ensures knows { S.knows seat.new
-        ≡ all_heard S.is_driver (layout board.now) (S.knows seat.old) link }
+        ≡ all_loaded S.is_driver (layout board.now) (S.knows seat.old) link }
     ensures samples { to.new ≡ brought S.is_driver (layout board.now) (S.knows seat.old) link }
     ensures clamped { IsClamped to.new }
 {

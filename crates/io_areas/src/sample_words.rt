@@ -2,7 +2,7 @@
 ghost use Rattle.std.specs.Prelude.{◌≡◌, ◌+◌, ◌*◌, ◌<◌, ◌≤◌, ◌^◌, pos, slice_index_or, slice_set, length, [], ◌∷◌};
 ghost use Rattle.std.specs.Int.{w16, cast_unsigned, cast_signed};
 ghost use Rattle.board_rule.specs.buffers.SampleWords.{bits_at, packed};
-ghost use Rattle.io_areas.specs.Unpacking.{unpacked, spread};
+ghost use Rattle.io_areas.specs.working.Unpacking.{unpacked, spread};
 
 // A sample as a number below 2 ^ 16.
 fn bits(sample: i16) -> u64

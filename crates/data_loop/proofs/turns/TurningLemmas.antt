@@ -27,18 +27,18 @@ use Rattle.io_areas.specs.PooledBoard.{IsPooledBoard}
 use Rattle.io_areas.specs.Ends.{IsWrittenUpTo, IsReadUpTo}
 use Rattle.io_areas.specs.FreeBlocks.{FreeBlocks}
 use Rattle.data_loop.specs.turns.Ends.{reads_of, fills_of}
-use Rattle.data_loop.specs.turns.Hearing.{MayHearAll, AreHeard}
+use Rattle.data_loop.specs.turns.ReadingInputs.{MayReadAll, AreRead}
 use Rattle.data_loop.specs.declared.own_pools.OwnPools.{OwnPools}
 use Rattle.data_loop.specs.OwnPools.{queue_of}
-use Rattle.data_loop.specs.turns.Writing.{MayFillAll, AreWritten}
+use Rattle.data_loop.specs.working.Writing.{MayFillAll, AreWritten}
 use Rattle.data_loop.specs.turns.Turning.{AreEven, HasTurned}
 use Rattle.data_loop.proofs.turns.EndsLemmas.{of_pool, pool_writer, pool_link, read_by, reads_it, reads_once, filled_by, fills_it, fills_once}
-use Rattle.data_loop.proofs.turns.HearingLemmas.{read_moves}
+use Rattle.data_loop.proofs.turns.ReadingInputsLemmas.{read_moves}
 use Rattle.data_loop.proofs.turns.WritingLemmas.{write_moves, stock_moves}
 
 -- a view with the same ends and blocks
 pub even_moves : (p : BoardLayout) (v w : View) (free : OwnPools) (m c d : ℕ) → w.reads ≡ v.reads → w.writes ≡ v.writes → w.blocks ≡ v.blocks
-    → w.heard ≡ v.heard → w.reclaimed ≡ v.reclaimed → d ≡ c
+    → w.words_read ≡ v.words_read → w.reclaimed ≡ v.reclaimed → d ≡ c
     → AreEven p v free m c → AreEven p w free m d
 even_moves p v w free m c d rs ws bs hs rc e h = subst (AreEven p w free m) (sym e) record {
   reads = λ l low is. read_moves v w l c (ap (λ (x : List ReadView). length x) rs) (ap (λ (x : List ℕ). length x) hs)
@@ -53,7 +53,7 @@ even_moves p v w free m c d rs ws bs hs rc e h = subst (AreEven p w free m) (sym
 }
 
 module _ (p : BoardLayout) (v x : View) (same : x ≡ record v
-    { reads = x.reads; heard = x.heard; writes = x.writes; blocks = x.blocks; reclaimed = x.reclaimed }) where
+    { reads = x.reads; words_read = x.words_read; writes = x.writes; blocks = x.blocks; reclaimed = x.reclaimed }) where
   -- other ends and blocks leave the nodes
   node_left : (m : ℕ) → node_of x m ≡ node_of v m
   node_left m = ap (λ (y : View). node_of y m) same
@@ -88,8 +88,8 @@ module _ (p : BoardLayout) (plain : IsPooledBoard p) (n : ℕ) where
     reader_cycle : (l : ℕ) → reader_of p l ≡ m → read_cycle false p v l ≡ cycle
     reader_cycle l e = ap (λ k. (node_of v k).next) e
 
-    pub may_hear_all : MayHearAll false p v (reads_of p.shape n)
-    may_hear_all = (
+    pub may_read_all : MayReadAll false p v (reads_of p.shape n)
+    may_read_all = (
       (λ k d low. let l : ℕ = slice_index_or (reads_of p.shape n) k d in
           let h = read_by p plain n inside l (k, low, get_or_default (reads_of p.shape n) k l d low) in record {
             inside = h.0;
@@ -100,30 +100,30 @@ module _ (p : BoardLayout) (plain : IsPooledBoard p) (n : ℕ) where
       reads_once p plain n inside,
     )
 
-    -- it has heard all
-    module _ (w : View) (heard : AreHeard false p v (reads_of p.shape n) w) where
+    -- it has read all
+    module _ (w : View) (read : AreRead false p v (reads_of p.shape n) w) where
       filler_cycle : (q : ℕ) → filler_of p q ≡ m → fill_cycle p w q ≡ cycle
-      filler_cycle q e = ap (λ k. (node_of w k).next) e ∙ ap (λ (y : View). (node_of y m).next) heard.same
+      filler_cycle q e = ap (λ k. (node_of w k).next) e ∙ ap (λ (y : View). (node_of y m).next) read.same
 
-      w_same : w ≡ record v { reads = w.reads; heard = w.heard; writes = w.writes; blocks = w.blocks; reclaimed = w.reclaimed }
-      w_same = heard.same ∙ ap (λ (y : View). record v
-          { reads = w.reads; heard = w.heard; writes = y.writes; blocks = y.blocks; reclaimed = y.reclaimed }) (sym heard.same)
+      w_same : w ≡ record v { reads = w.reads; words_read = w.words_read; writes = w.writes; blocks = w.blocks; reclaimed = w.reclaimed }
+      w_same = read.same ∙ ap (λ (y : View). record v
+          { reads = w.reads; words_read = w.words_read; writes = y.writes; blocks = y.blocks; reclaimed = y.reclaimed }) (sym read.same)
 
       w_has : HasNode false p w m
       w_has = has_left p v w w_same m has
 
       w_bounds : (first p ≤ cycle_of false w m) × (cycle_of false w m ≤ last p)
-      w_bounds = let c = has.1 in let low = c.0 in let high = c.1 in let same = ap (λ (y : View). (node_of y m).next) heard.same in
+      w_bounds = let c = has.1 in let low = c.0 in let high = c.1 in let same = ap (λ (y : View). (node_of y m).next) read.same in
           (omega arith, omega arith)
 
       ws : w.writes ≡ v.writes
-      ws = ap (λ (y : View). y.writes) heard.same
+      ws = ap (λ (y : View). y.writes) read.same
 
       bs : w.blocks ≡ v.blocks
-      bs = ap (λ (y : View). y.blocks) heard.same
+      bs = ap (λ (y : View). y.blocks) read.same
 
       rc : w.reclaimed ≡ v.reclaimed
-      rc = ap (λ (y : View). y.reclaimed) heard.same
+      rc = ap (λ (y : View). y.reclaimed) read.same
 
       pub may_fill_all : ((q : ℕ) → q < length (pools_of p.shape) → block_at p q (pool_at p q).blocks ≤ length v.blocks)
           → MayFillAll p w old (fills_of p.shape n)
@@ -136,7 +136,7 @@ module _ (p : BoardLayout) (plain : IsPooledBoard p) (n : ℕ) where
                   subst (IsMember false p w) (sym h.1) (w_has.0, w_bounds, w_has.2),
                   subst (λ (y : List BlockView). block_at p q (pool_at p q).blocks ≤ length y) (sym bs) (room q h.0),
                 );
-                runs = subst (IsRunning false w) (sym h.1) (ap (λ (y : View). (node_of y m).phase) heard.same ∙ runs);
+                runs = subst (IsRunning false w) (sym h.1) (ap (λ (y : View). (node_of y m).phase) read.same ∙ runs);
                 cycle = subst (IsCycle p) (sym now) has.1;
                 even = λ l c. subst (IsWrittenUpTo w l) (sym now) (write_moves v w l cycle (ap (λ (y : List WriteView). length y) ws)
                     (ap (λ (y : List WriteView). slice_index_or y l (unwritten 0)) ws)
@@ -152,16 +152,16 @@ module _ (p : BoardLayout) (plain : IsPooledBoard p) (n : ℕ) where
 
       -- it has filled all
       module _ (x : View) (new : OwnPools) (written : AreWritten p w old (fills_of p.shape n) x new) where
-        same : x ≡ record v { reads = x.reads; heard = x.heard; writes = x.writes; blocks = x.blocks; reclaimed = x.reclaimed }
+        same : x ≡ record v { reads = x.reads; words_read = x.words_read; writes = x.writes; blocks = x.blocks; reclaimed = x.reclaimed }
         same = written.same ∙ ap (λ (y : View). record y { writes = x.writes; blocks = x.blocks; reclaimed = x.reclaimed }) w_same
-            ∙ ap (λ (y : View). record v { reads = y.reads; heard = y.heard; writes = x.writes; blocks = x.blocks; reclaimed = x.reclaimed })
+            ∙ ap (λ (y : View). record v { reads = y.reads; words_read = y.words_read; writes = x.writes; blocks = x.blocks; reclaimed = x.reclaimed })
             (sym written.same)
 
         rs : x.reads ≡ w.reads
         rs = ap (λ (y : View). y.reads) written.same
 
-        hs : x.heard ≡ w.heard
-        hs = ap (λ (y : View). y.heard) written.same
+        hs : x.words_read ≡ w.words_read
+        hs = ap (λ (y : View). y.words_read) written.same
 
         read_same : (l : ℕ) → read_of x l ≡ read_of w l
         read_same l = ap (λ (y : List ReadView). slice_index_or y l (unread 0)) rs
@@ -170,7 +170,7 @@ module _ (p : BoardLayout) (plain : IsPooledBoard p) (n : ℕ) where
         own_even = record {
           reads = λ l low e. read_moves w x l (cycle + 1) (ap (λ (y : List ReadView). length y) rs) (ap (λ (y : List ℕ). length y) hs)
               (read_same l)
-              (subst (λ c. IsReadUpTo w l (c + 1)) (reader_cycle l e) (heard.heard l (reads_it p plain n inside l low e)));
+              (subst (λ c. IsReadUpTo w l (c + 1)) (reader_cycle l e) (read.read l (reads_it p plain n inside l low e)));
           writes = λ l low e. let q = of_pool p plain l low in let f = q.2 ∙ e in
               subst (λ c. IsWrittenUpTo x l (c + 1)) (filler_cycle (pool_of p l) f)
               (written.even (pool_of p l) l (fills_it p plain n inside (pool_of p l) q.0 f) q.1);
@@ -180,8 +180,8 @@ module _ (p : BoardLayout) (plain : IsPooledBoard p) (n : ℕ) where
 
         other_even : (k c : ℕ) → k ≢ m → AreEven p v old k c → AreEven p x new k c
         other_even k c o h = record {
-          reads = λ l low e. read_moves v x l c (ap (λ (y : List ReadView). length y) rs ∙ heard.ends) (ap (λ (y : List ℕ). length y) hs ∙ heard.hears)
-              (read_same l ∙ heard.others l (λ i. o (sym e ∙ (read_by p plain n inside l i).1))) (h.reads l low e);
+          reads = λ l low e. read_moves v x l c (ap (λ (y : List ReadView). length y) rs ∙ read.ends) (ap (λ (y : List ℕ). length y) hs ∙ read.words)
+              (read_same l ∙ read.others l (λ i. o (sym e ∙ (read_by p plain n inside l i).1))) (h.reads l low e);
           writes = λ l low e. write_moves v x l c (written.ends ∙ ap (λ (y : List WriteView). length y) ws)
               (written.other_links l (λ q i of_q. let f = filled_by p plain n inside q i in
               o (sym e ∙ pool_writer p plain q l f.0 of_q ∙ f.1))
@@ -236,7 +236,7 @@ module _ (p : BoardLayout) (plain : IsPooledBoard p) (n : ℕ) where
 
             moved : (k c : ℕ) → (node_of y k).next ≡ c → AreEven p x new k c → AreEven p y new k (node_of y k).next
             moved k c e h = even_moves p x y new k c (node_of y k).next (ap (λ (u : View). u.reads) r.is) (ap (λ (u : View). u.writes) r.is)
-                (ap (λ (u : View). u.blocks) r.is) (ap (λ (u : View). u.heard) r.is) (ap (λ (u : View). u.reclaimed) r.is) e h
+                (ap (λ (u : View). u.blocks) r.is) (ap (λ (u : View). u.words_read) r.is) (ap (λ (u : View). u.reclaimed) r.is) e h
 
             other : (k : ℕ) → k ≢ m → node_of y k ≡ node_of v k
             other k o = ap (λ (u : View). node_of u k) r.is ∙ get_or-set_other x.nodes m k slept (idle 0) o ∙ node_left p v x same k

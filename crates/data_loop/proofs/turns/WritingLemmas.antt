@@ -28,7 +28,7 @@ use Rattle.io_areas.specs.FreeBlocks.{FreeBlocks}
 use Rattle.io_areas.specs.OutputTurn.{MayWriteOutput, HasWrittenOutput}
 use Rattle.data_loop.specs.declared.own_pools.OwnPools.{OwnPools}
 use Rattle.data_loop.specs.OwnPools.{place_of, queue_of, Owns, AreSamePools}
-use Rattle.data_loop.specs.turns.Writing.{MayFillAll, Puts, IsLeft, AreWritten}
+use Rattle.data_loop.specs.working.Writing.{MayFillAll, Puts, IsLeft, AreWritten}
 use Rattle.data_loop.specs.turns.Turning.{IsEquipped}
 use Rattle.data_loop.proofs.turns.ListLemmas.{taken, take_cases, early_differs, last_taken, still_taken}
 

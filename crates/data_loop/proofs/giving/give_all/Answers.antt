@@ -10,8 +10,8 @@ use Rattle.buffer_pool.specs.Queue.{Queue}
 use Rattle.io_areas.specs.FreeBlocks.{FreeBlocks}
 use Rattle.data_loop.specs.declared.own_pools.OwnPools.{OwnPools}
 use Rattle.data_loop.specs.OwnPools.{place_of, queue_of}
-use Rattle.data_loop.specs.Giving.{row_for}
-use Rattle.data_loop.specs.turns.Writing.{AreWritten}
+use Rattle.data_loop.specs.working.Giving.{row_for}
+use Rattle.data_loop.specs.working.Writing.{AreWritten}
 use Rattle.data_loop.proofs.turns.WritingLemmas.{pool_in, may_write, has_stock, still_puts, one_more, free_at, owns_it, equipped_moves}
 use Rattle.data_loop.proofs.giving.give_all.Goals as goal
 

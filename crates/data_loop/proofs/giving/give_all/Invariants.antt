@@ -1,6 +1,6 @@
 use Rattle.std.proofs.Common.{◌≡◌, take}
 use Rattle.board_rule.specs.Layout.{layout_of}
-use Rattle.data_loop.specs.turns.Writing.{AreWritten}
+use Rattle.data_loop.specs.working.Writing.{AreWritten}
 use Rattle.data_loop.proofs.giving.give_all.Given as goal
 
 abbrev pub invariant-loop-pool : goal.invariant-loop-pool

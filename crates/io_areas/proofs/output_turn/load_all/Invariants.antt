@@ -1,7 +1,7 @@
 use Rattle.std.proofs.Common.{◌≡◌, ◌-◌, ◌<◌, take, slice_index}
 use Rattle.board_rule.specs.Layout.{layout_of}
 use Rattle.io_areas.specs.Writing.{number_given}
-use Rattle.io_areas.specs.OutputSteps.{AreMade, IsLoadedNow}
+use Rattle.io_areas.specs.working.OutputSteps.{AreMade, IsLoadedNow}
 use Rattle.io_areas.proofs.output_turn.load_all.Given as goal
 
 abbrev pub invariant-loop-link : goal.invariant-loop-link

@@ -1,6 +1,6 @@
 use Rattle.std.proofs.Common.{◌≡◌, take}
 use Rattle.board_rule.specs.Layout.{layout_of}
-use Rattle.io_areas.specs.OutputSteps.{AreMade, IsPublishedNow}
+use Rattle.io_areas.specs.working.OutputSteps.{AreMade, IsPublishedNow}
 use Rattle.io_areas.proofs.output_turn.publish_all.Given as goal
 
 abbrev pub invariant-loop-link : goal.invariant-loop-link

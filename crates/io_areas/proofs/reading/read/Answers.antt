@@ -7,14 +7,14 @@ use Rattle.board_rule.specs.buffers.ReaderSteps.{ReadsBlock, LoadsSample, sample
 use Rattle.io_areas.proofs.SampleLemmas.{IsReadTo, length-spread, spread_more}
 use Rattle.io_areas.specs.Reading.{IsClamped}
 use Rattle.io_areas.proofs.BroughtLemmas.{all_short, brought_whole, brought_clamped}
-use Rattle.io_areas.proofs.HearLemmas.{heard_to, may_hear, hears_more, samples_same, expect_same, all_is}
+use Rattle.io_areas.proofs.ReadingLemmas.{loaded_to, may_load, loads_more, samples_same, expect_same, all_is}
 use Rattle.io_areas.proofs.reading.read.Goals as goal
 
 pub load_sample_at-word-requires-clause-phase : goal.load_sample_at-word-requires-clause-phase
 load_sample_at-word-requires-clause-phase g c = let b = g.S.BoardSeat.is_driver in let p = layout_of c.args.board.now.board_shape in
     let v : View = g.S.BoardSeat.knows c.args.seat.now in let l = c.args.link in let id = c.loaded-id.result in
     subst (λ (x : View). LoadsSample b p x l id c.loop-place.place) (sym c.loop-place.invariant.knows)
-    (may_hear b p v l id (subst (ReadsBlock b p v l) (sym c.loaded-id.ensures) c.requires.phase) c.loop-place.place)
+    (may_load b p v l id (subst (ReadsBlock b p v l) (sym c.loaded-id.ensures) c.requires.phase) c.loop-place.place)
 
 pub loop-place-preserved : goal.loop-place-preserved
 loop-place-preserved g c = let b = g.S.BoardSeat.is_driver in let p = layout_of c.args.board.now.board_shape in
@@ -27,7 +27,7 @@ loop-place-preserved g c = let b = g.S.BoardSeat.is_driver in let p = layout_of 
     (subst (λ (x : View). IsTable p x.expect) i.knows e.samples) in
     record {
       table = e.table ∙ i.table;
-      knows = e.knows ∙ ap (λ (x : View). sample_loaded b p x l k) i.knows ∙ hears_more b p v l id h k;
+      knows = e.knows ∙ ap (λ (x : View). sample_loaded b p x l k) i.knows ∙ loads_more b p v l id h k;
       long = ap length c.spread.ensures ∙ length-spread (samples_read b p v l) (all_short b p v l table) c.loop-place.to
           (4 * k) c.load_sample_at-word.result ∙ i.long;
       so_far = subst (IsReadTo (samples_read b p v l) (4 * (k + 1))) (sym c.spread.ensures)
@@ -42,7 +42,7 @@ returns-clause-knows g c = let b = g.S.BoardSeat.is_driver in let p = layout_of 
     let w = c.words_of-place-end.ensures in let is = w.is in let some = w.some in
     let low = c.loop-place-test.false in let high = c.loop-place.auto.place-end in
     let end : c.loop-place.place ≡ (pool_at p (pool_of p l)).words = omega arith in
-    c.loop-place.invariant.knows ∙ ap (heard_to v l) end ∙ all_is b p v l id h (pool_at p (pool_of p l)).words (omega arith)
+    c.loop-place.invariant.knows ∙ ap (loaded_to v l) end ∙ all_is b p v l id h (pool_at p (pool_of p l)).words (omega arith)
 
 pub returns-clause-samples : goal.returns-clause-samples
 returns-clause-samples g c = let b = g.S.BoardSeat.is_driver in let p = layout_of c.args.board.now.board_shape in

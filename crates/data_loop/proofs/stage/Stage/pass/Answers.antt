@@ -20,13 +20,13 @@ use Rattle.data_loop.proofs.stage.Stage.pass.Goals as goal
 use Rattle.data_loop.proofs.stage.Stage.pass.Goals.{in-Ended, in-NotYet}
 
 pub loop-index-init : goal.loop-index-init
-loop-index-init g' c = let p : BoardLayout = layout_of c.args.board.now.board_shape in let v : View = c.args.self.now.seat.knows in record {
+loop-index-init g' c = let p : BoardLayout = layout_of c.args.scene.now.board.now.board_shape in let v : View = c.args.self.now.seat.knows in record {
   end = c.len-index-end.ensures;
   stands = c.requires.stands;
   same = record { members = refl; driver = refl; restarts = refl; places = refl; shapes = refl; table = refl };
   front = refl;
   states = λ at d apart. refl;
-  rows = record { row = refl; sum_a = refl; sum_b = refl; a = refl; b = refl; left = refl; right = refl };
+  rows = record { sum_a = refl; sum_b = refl; a = refl; b = refl; left = refl; right = refl };
   capacity = refl;
   more = [];
   items = sym (append-nil c.args.found.now.items);
@@ -34,14 +34,14 @@ loop-index-init g' c = let p : BoardLayout = layout_of c.args.board.now.board_sh
 }
 
 pub ended-requires : goal.ended-requires
-ended-requires g' c = let p : BoardLayout = layout_of c.args.board.now.board_shape in let g : Stage = c.args.self.now in let v : View = g.seat.knows in
+ended-requires g' c = let p : BoardLayout = layout_of c.args.scene.now.board.now.board_shape in let g : Stage = c.args.self.now in let v : View = g.seat.knows in
     let ms : List Member = g.members in let i = c.loop-index.index in let so = c.loop-index.invariant in
     let cur : Stage = c.loop-index.self in let w : View = cur.seat.knows in
     let end = so.end in let test = c.loop-index-test.true in let low : i < length ms = omega (arith, end, test) in
     let m : Member = get_or ms i no_member in let r : Member = c.index-as_slice-index.result in
     let list = c.as_slice.ensures ∙ so.same.members in
     let named : get_or c.as_slice.result.now i r ≡ m = ap (λ (l : List Member). get_or l i r) list ∙ get_or_default ms i r no_member low in
-    let q : Member → Bool = is_chosen p v c.args.least c.args.at in
+    let q : Member → Bool = is_chosen p v c.args.front.least c.args.at in
     let done : List Member = filter q (take i ms) in
     record {
       node = subst (λ (x : Member). IsMember false p w (p.index x.node)) (sym named)
@@ -50,18 +50,18 @@ ended-requires g' c = let p : BoardLayout = layout_of c.args.board.now.board_sha
     }
 
 pub push_reserved-requires : goal.push_reserved-requires
-push_reserved-requires g' c = let p : BoardLayout = layout_of c.args.board.now.board_shape in let g : Stage = c.args.self.now in let v : View = g.seat.knows in
+push_reserved-requires g' c = let p : BoardLayout = layout_of c.args.scene.now.board.now.board_shape in let g : Stage = c.args.self.now in let v : View = g.seat.knows in
     let ms : List Member = g.members in let i = c.loop-index.index in let so = c.loop-index.invariant in
     let cur : Stage = c.loop-index.self in let w : View = cur.seat.knows in
     let end = so.end in let test = c.loop-index-test.true in let low : i < length ms = omega (arith, end, test) in
     let m : Member = get_or ms i no_member in let r : Member = c.index-as_slice-index.result in
     let list = c.as_slice.ensures ∙ so.same.members in
     let named : get_or c.as_slice.result.now i r ≡ m = ap (λ (l : List Member). get_or l i r) list ∙ get_or_default ms i r no_member low in
-    let q : Member → Bool = is_chosen p v c.args.least c.args.at in
+    let q : Member → Bool = is_chosen p v c.args.front.least c.args.at in
     let done : List Member = filter q (take i ms) in
     let ended : first p + c.ended.result ≡ next_in p v m.node = c.ended.ensures ∙ ap (λ (x : Member). next_in p w x.node) named
     ∙ still_next p v done m so.more w so.tried m.node in
-    let passes : q m ≡ true = sym (c.is_in_pass.ensures ∙ chosen_is p v m c.args.least c.ended.result c.args.at ended) ∙ c.if-not-is_in_pass.false in
+    let passes : q m ≡ true = sym (c.is_in_pass.ensures ∙ chosen_is p v m c.args.front.least c.ended.result c.args.at ended) ∙ c.if-not-is_in_pass.false in
     let items = ap (λ (l : List (ℕ × ℕ)). length l) so.items ∙ length-append c.args.found.now.items so.more in
     let few = few_tried p v w done so.more so.tried in
     let all = ap (λ (l : List Member). length l) (split_at q ms i low passes)
@@ -70,18 +70,18 @@ push_reserved-requires g' c = let p : BoardLayout = layout_of c.args.board.now.b
     omega (arith, items, few, all, room, cap)
 
 pub returns-in-Ran-clause-passed : goal.returns-in-Ran-clause-passed
-returns-in-Ran-clause-passed g' c = let p : BoardLayout = layout_of c.args.board.now.board_shape in let g : Stage = c.args.self.now in let v : View = g.seat.knows in
+returns-in-Ran-clause-passed g' c = let p : BoardLayout = layout_of c.args.scene.now.board.now.board_shape in let g : Stage = c.args.self.now in let v : View = g.seat.knows in
     let ms : List Member = g.members in let i = c.loop-index.index in let so = c.loop-index.invariant in
     let cur : Stage = c.loop-index.self in let w : View = cur.seat.knows in
     let end = so.end in let test = c.loop-index-test.true in let low : i < length ms = omega (arith, end, test) in
     let m : Member = get_or ms i no_member in let r : Member = c.index-as_slice-index.result in
     let list = c.as_slice.ensures ∙ so.same.members in
     let named : get_or c.as_slice.result.now i r ≡ m = ap (λ (l : List Member). get_or l i r) list ∙ get_or_default ms i r no_member low in
-    let q : Member → Bool = is_chosen p v c.args.least c.args.at in
+    let q : Member → Bool = is_chosen p v c.args.front.least c.args.at in
     let done : List Member = filter q (take i ms) in
     let ended : first p + c.ended.result ≡ next_in p v m.node = c.ended.ensures ∙ ap (λ (x : Member). next_in p w x.node) named
     ∙ still_next p v done m so.more w so.tried m.node in
-    let passes : q m ≡ true = sym (c.is_in_pass.ensures ∙ chosen_is p v m c.args.least c.ended.result c.args.at ended) ∙ c.if-not-is_in_pass.false in
+    let passes : q m ≡ true = sym (c.is_in_pass.ensures ∙ chosen_is p v m c.args.front.least c.ended.result c.args.at ended) ∙ c.if-not-is_in_pass.false in
     let plain = so.stands.equipped.plain in
     let rests = subst (λ (l : List Member). (j : ℕ) (d : Member) → j < length l → IsAtRest p w cur.own (p.index (get_or l j d).node)) so.same.members
     so.stands.rests in
@@ -92,39 +92,39 @@ returns-in-Ran-clause-passed g' c = let p : BoardLayout = layout_of c.args.board
     c.in-Ran.ensures.tried in (
       so.more,
       so.items,
-      subst (λ (x : Member). HasRun p g (chosen_in p g c.args.least c.args.at) x.node so.more c.try_member.new.self) (sym named)
-          (one_ran p v done m so.more w so.tried plain inside g c.try_member.new.self refl (chosen_in p g c.args.least c.args.at)
+      subst (λ (x : Member). HasRun p g (chosen_in p g c.args.front.least c.args.at) x.node so.more c.try_member.new.self) (sym named)
+          (one_ran p v done m so.more w so.tried plain inside g c.try_member.new.self refl (chosen_in p g c.args.front.least c.args.at)
           (filter q (drop (suc i) ms)) (split_at q ms i low passes) cur.own
           c.try_member.new.self.own rests ran),
     )
 
 pub returns-in-Ran-clause-states : goal.returns-in-Ran-clause-states
-returns-in-Ran-clause-states g' c = let p : BoardLayout = layout_of c.args.board.now.board_shape in let g : Stage = c.args.self.now in let v : View = g.seat.knows in
+returns-in-Ran-clause-states g' c = let p : BoardLayout = layout_of c.args.scene.now.board.now.board_shape in let g : Stage = c.args.self.now in let v : View = g.seat.knows in
     let ms : List Member = g.members in let i = c.loop-index.index in let so = c.loop-index.invariant in
     let cur : Stage = c.loop-index.self in let w : View = cur.seat.knows in
     let end = so.end in let test = c.loop-index-test.true in let low : i < length ms = omega (arith, end, test) in
     let m : Member = get_or ms i no_member in let r : Member = c.index-as_slice-index.result in
     let list = c.as_slice.ensures ∙ so.same.members in
     let named : get_or c.as_slice.result.now i r ≡ m = ap (λ (l : List Member). get_or l i r) list ∙ get_or_default ms i r no_member low in
-    let q : Member → Bool = is_chosen p v c.args.least c.args.at in
+    let q : Member → Bool = is_chosen p v c.args.front.least c.args.at in
     let done : List Member = filter q (take i ms) in
     let at : member_at cur i ≡ m = ap (λ (l : List Member). get_or l i no_member) so.same.members in
     left_on g.members c.args.states.now c.loop-index.states c.try_member.new.states m.at (i, low, refl) so.states
     (λ a d ne. c.try_member.ensures.states a d (λ is. ne (is ∙ ap (λ (y : Member). y.at) at)))
 
 pub loop-index-preserved-then-not-is_in_pass : goal.loop-index-preserved-then-not-is_in_pass
-loop-index-preserved-then-not-is_in_pass g' c = let p : BoardLayout = layout_of c.args.board.now.board_shape in let g : Stage = c.args.self.now in let v : View = g.seat.knows in
+loop-index-preserved-then-not-is_in_pass g' c = let p : BoardLayout = layout_of c.args.scene.now.board.now.board_shape in let g : Stage = c.args.self.now in let v : View = g.seat.knows in
     let ms : List Member = g.members in let i = c.loop-index.index in let so = c.loop-index.invariant in
     let cur : Stage = c.loop-index.self in let w : View = cur.seat.knows in
     let end = so.end in let test = c.loop-index-test.true in let low : i < length ms = omega (arith, end, test) in
     let m : Member = get_or ms i no_member in let r : Member = c.index-as_slice-index.result in
     let list = c.as_slice.ensures ∙ so.same.members in
     let named : get_or c.as_slice.result.now i r ≡ m = ap (λ (l : List Member). get_or l i r) list ∙ get_or_default ms i r no_member low in
-    let q : Member → Bool = is_chosen p v c.args.least c.args.at in
+    let q : Member → Bool = is_chosen p v c.args.front.least c.args.at in
     let done : List Member = filter q (take i ms) in
     let ended : first p + c.ended.result ≡ next_in p v m.node = c.ended.ensures ∙ ap (λ (x : Member). next_in p w x.node) named
     ∙ still_next p v done m so.more w so.tried m.node in
-    let off : q m ≡ false = sym (c.is_in_pass.ensures ∙ chosen_is p v m c.args.least c.ended.result c.args.at ended) ∙ c.if-not-is_in_pass.true in
+    let off : q m ≡ false = sym (c.is_in_pass.ensures ∙ chosen_is p v m c.args.front.least c.ended.result c.args.at ended) ∙ c.if-not-is_in_pass.true in
     record {
       end = end;
       stands = so.stands;
@@ -140,18 +140,18 @@ loop-index-preserved-then-not-is_in_pass g' c = let p : BoardLayout = layout_of 
     }
 
 pub loop-index-preserved : goal.loop-index-preserved
-loop-index-preserved g' c = let p : BoardLayout = layout_of c.args.board.now.board_shape in let g : Stage = c.args.self.now in let v : View = g.seat.knows in
+loop-index-preserved g' c = let p : BoardLayout = layout_of c.args.scene.now.board.now.board_shape in let g : Stage = c.args.self.now in let v : View = g.seat.knows in
     let ms : List Member = g.members in let i = c.loop-index.index in let so = c.loop-index.invariant in
     let cur : Stage = c.loop-index.self in let w : View = cur.seat.knows in
     let end = so.end in let test = c.loop-index-test.true in let low : i < length ms = omega (arith, end, test) in
     let m : Member = get_or ms i no_member in let r : Member = c.index-as_slice-index.result in
     let list = c.as_slice.ensures ∙ so.same.members in
     let named : get_or c.as_slice.result.now i r ≡ m = ap (λ (l : List Member). get_or l i r) list ∙ get_or_default ms i r no_member low in
-    let q : Member → Bool = is_chosen p v c.args.least c.args.at in
+    let q : Member → Bool = is_chosen p v c.args.front.least c.args.at in
     let done : List Member = filter q (take i ms) in
     let ended : first p + c.ended.result ≡ next_in p v m.node = c.ended.ensures ∙ ap (λ (x : Member). next_in p w x.node) named
     ∙ still_next p v done m so.more w so.tried m.node in
-    let passes : q m ≡ true = sym (c.is_in_pass.ensures ∙ chosen_is p v m c.args.least c.ended.result c.args.at ended) ∙ c.if-not-is_in_pass.false in
+    let passes : q m ≡ true = sym (c.is_in_pass.ensures ∙ chosen_is p v m c.args.front.least c.ended.result c.args.at ended) ∙ c.if-not-is_in_pass.false in
     let plain = so.stands.equipped.plain in
     let rests = subst (λ (l : List Member). (j : ℕ) (d : Member) → j < length l → IsAtRest p w cur.own (p.index (get_or l j d).node)) so.same.members
     so.stands.rests in

@@ -11,7 +11,7 @@ use Rattle.data_loop.proofs.stage.Stage.pass.Given as goal
 abbrev pub invariant-loop-index : goal.invariant-loop-index
 invariant-loop-index g l = record {
   end : l.index-end ≡ length l.fn.self.members;
-  stands : IsStanding l.score l.epoch (layout l.board) (table_of l.board) l.self l.states l.rows;
+  stands : IsStanding l.scene.score.now l.scene.epoch (layout l.scene.board.now) (table_of l.scene.board.now) l.self l.states l.rows;
   same : IsSameStage l.fn.self l.self;
   front : l.self.front ≡ l.fn.self.front;
   states : AreLeft l.fn.self.members l.fn.states l.states;
@@ -19,6 +19,6 @@ invariant-loop-index g l = record {
   capacity : vec_capacity l.found ≡ vec_capacity l.fn.found;
   more : List (ℕ × ℕ);
   items : l.found.items ≡ l.fn.found.items ++ more;
-  tried : HaveTried (layout l.board) l.fn.self.seat.knows
-      (filter (is_chosen (layout l.board) l.fn.self.seat.knows l.least l.at) (take l.index l.fn.self.members)) more l.self.seat.knows;
+  tried : HaveTried (layout l.scene.board.now) l.fn.self.seat.knows
+      (filter (is_chosen (layout l.scene.board.now) l.fn.self.seat.knows l.front.least l.at) (take l.index l.fn.self.members)) more l.self.seat.knows;
 }

@@ -17,7 +17,7 @@ use Rattle.data_loop.proofs.StageLemmas.{may_turn, player, turned_before, turned
 use Rattle.data_loop.proofs.stage.Stage.try_member.Goals as goal
 
 pub returns-then-ended-shape-clause-tried : goal.returns-then-ended-shape-clause-tried
-returns-then-ended-shape-clause-tried g' c = let board_shape = c.args.board.now.board_shape in let p = layout_of board_shape in
+returns-then-ended-shape-clause-tried g' c = let board_shape = c.args.scene.now.board.now.board_shape in let p = layout_of board_shape in
     let v : View = c.args.self.now.seat.knows in
     let m : Member = c.index-as_slice-index.result in
     let is : m ≡ member_at c.args.self.now c.args.index = c.index-as_slice-index.is ∙ ap (λ (l : List Member). get_or l c.args.index m) c.as_slice.ensures
@@ -26,7 +26,7 @@ returns-then-ended-shape-clause-tried g' c = let board_shape = c.args.board.now.
     (ap (λ (x : Member). (node_of v (p.index x.node)).next) (sym is) ∙ sym c.ended.ensures ∙ ap (λ n. first p + n) all, refl)
 
 pub play-requires-clause-player : goal.play-requires-clause-player
-play-requires-clause-player g' c = let board_shape = c.args.board.now.board_shape in let p = layout_of board_shape in
+play-requires-clause-player g' c = let board_shape = c.args.scene.now.board.now.board_shape in let p = layout_of board_shape in
     let g : Stage = c.args.self.now in let v : View = g.seat.knows in let w : View = c.claim.new.seat.knows in
     let m : Member = c.index-as_slice-index.result in
     let is : m ≡ member_at g c.args.index = c.index-as_slice-index.is ∙ ap (λ (l : List Member). get_or l c.args.index m) c.as_slice.ensures
@@ -38,12 +38,12 @@ play-requires-clause-player g' c = let board_shape = c.args.board.now.board_shap
     ∙ ap (λ (x : Member). woken false v (p.index x.node)) is in
     let cycle : c.in-Awake.cycle ≡ (node_of v (p.index (member_at g c.args.index).node)).next = c.in-Awake.ensures.claim.0
     ∙ ap (λ (x : Member). (node_of v (p.index x.node)).next) is in
-    subst (λ (x : Member). IsPlayer c.args.score.now p w c.args.epoch c.in-Awake.cycle x) (sym is)
-    (player c.args.score.now c.args.epoch p (table_of c.args.board.now) g c.args.states.now c.args.rows.now c.requires.stands c.args.index c.requires.inside
+    subst (λ (x : Member). IsPlayer c.args.scene.now.score.now p w c.args.scene.now.epoch c.in-Awake.cycle x) (sym is)
+    (player c.args.scene.now.score.now c.args.scene.now.epoch p (table_of c.args.scene.now.board.now) g c.args.states.now c.args.rows.now c.requires.stands c.args.index c.requires.inside
     (λ e. some_left (omega (arith, e, ended))) w c.in-Awake.cycle woke cycle)
 
 pub play-requires-clause-awake : goal.play-requires-clause-awake
-play-requires-clause-awake g' c = let board_shape = c.args.board.now.board_shape in let p = layout_of board_shape in
+play-requires-clause-awake g' c = let board_shape = c.args.scene.now.board.now.board_shape in let p = layout_of board_shape in
     let g : Stage = c.args.self.now in let v : View = g.seat.knows in let w : View = c.claim.new.seat.knows in
     let m : Member = c.index-as_slice-index.result in
     let is : m ≡ member_at g c.args.index = c.index-as_slice-index.is ∙ ap (λ (l : List Member). get_or l c.args.index m) c.as_slice.ensures
@@ -56,21 +56,21 @@ play-requires-clause-awake g' c = let board_shape = c.args.board.now.board_shape
     let cycle : c.in-Awake.cycle ≡ (node_of v (p.index (member_at g c.args.index).node)).next = c.in-Awake.ensures.claim.0
     ∙ ap (λ (x : Member). (node_of v (p.index x.node)).next) is in
     subst (λ (x : Member). MayTurn p w g.own (p.index x.node)) (sym is)
-    (may_turn c.args.score.now c.args.epoch p (table_of c.args.board.now) g c.args.states.now c.args.rows.now c.requires.stands c.args.index c.requires.inside
+    (may_turn c.args.scene.now.score.now c.args.scene.now.epoch p (table_of c.args.scene.now.board.now) g c.args.states.now c.args.rows.now c.requires.stands c.args.index c.requires.inside
     (λ e. some_left (omega (arith, e, ended))) w woke)
 
 pub returns-in-NotYet-clause-stands : goal.returns-in-NotYet-clause-stands
-returns-in-NotYet-clause-stands g' c = let board_shape = c.args.board.now.board_shape in let p = layout_of board_shape in
+returns-in-NotYet-clause-stands g' c = let board_shape = c.args.scene.now.board.now.board_shape in let p = layout_of board_shape in
     let g : Stage = c.args.self.now in let v : View = g.seat.knows in let w : View = c.claim.new.seat.knows in
     let m : Member = c.index-as_slice-index.result in
     let is : m ≡ member_at g c.args.index = c.index-as_slice-index.is ∙ ap (λ (l : List Member). get_or l c.args.index m) c.as_slice.ensures
     ∙ get_or_default g.members c.args.index m no_member c.requires.inside in
-    tried_stands c.args.score.now c.args.epoch p (table_of c.args.board.now) g c.args.states.now c.args.rows.now c.requires.stands c.args.index c.requires.inside
+    tried_stands c.args.scene.now.score.now c.args.scene.now.epoch p (table_of c.args.scene.now.board.now) g c.args.states.now c.args.rows.now c.requires.stands c.args.index c.requires.inside
     (record g { seat = c.claim.new.seat }) (c.claim.ensures.table ∙ c.requires.stands.table) refl refl c.in-NotYet.found refl
     (c.in-NotYet.ensures.claim.1 ∙ ap (λ (x : Member). tried p v (p.index x.node) c.in-NotYet.found) is)
 
 pub returns-in-NotYet-clause-tried : goal.returns-in-NotYet-clause-tried
-returns-in-NotYet-clause-tried g' c = let board_shape = c.args.board.now.board_shape in let p = layout_of board_shape in
+returns-in-NotYet-clause-tried g' c = let board_shape = c.args.scene.now.board.now.board_shape in let p = layout_of board_shape in
     let g : Stage = c.args.self.now in let v : View = g.seat.knows in let w : View = c.claim.new.seat.knows in
     let m : Member = c.index-as_slice-index.result in
     let is : m ≡ member_at g c.args.index = c.index-as_slice-index.is ∙ ap (λ (l : List Member). get_or l c.args.index m) c.as_slice.ensures
@@ -82,7 +82,7 @@ returns-in-NotYet-clause-tried g' c = let board_shape = c.args.board.now.board_s
     ((λ e. some_left (omega (arith, e, ended))), tried_it.0, tried_it.1)
 
 pub returns-in-Awake-clause-stands : goal.returns-in-Awake-clause-stands
-returns-in-Awake-clause-stands g' c = let board_shape = c.args.board.now.board_shape in let p = layout_of board_shape in
+returns-in-Awake-clause-stands g' c = let board_shape = c.args.scene.now.board.now.board_shape in let p = layout_of board_shape in
     let g : Stage = c.args.self.now in let v : View = g.seat.knows in let w : View = c.claim.new.seat.knows in
     let m : Member = c.index-as_slice-index.result in
     let is : m ≡ member_at g c.args.index = c.index-as_slice-index.is ∙ ap (λ (l : List Member). get_or l c.args.index m) c.as_slice.ensures
@@ -97,17 +97,17 @@ returns-in-Awake-clause-stands g' c = let board_shape = c.args.board.now.board_s
     let x : View = c.play.new.seat.knows in
     let after : HasTurned p w g.own (p.index (member_at g c.args.index).node) x c.play.new.own =
     subst (λ (y : Member). HasTurned p w g.own (p.index y.node) x c.play.new.own) is c.play.ensures.turned in
-    let whole = turned_before c.args.score.now c.args.epoch p (table_of c.args.board.now) g c.args.states.now c.args.rows.now c.requires.stands c.args.index c.requires.inside
+    let whole = turned_before c.args.scene.now.score.now c.args.scene.now.epoch p (table_of c.args.scene.now.board.now) g c.args.states.now c.args.rows.now c.requires.stands c.args.index c.requires.inside
     (λ e. some_left (omega (arith, e, ended))) w x c.play.new.own woke after in
-    turned_stands c.args.score.now c.args.epoch p (table_of c.args.board.now) g c.args.states.now c.args.rows.now c.requires.stands c.args.index c.requires.inside
+    turned_stands c.args.scene.now.score.now c.args.scene.now.epoch p (table_of c.args.scene.now.board.now) g c.args.states.now c.args.rows.now c.requires.stands c.args.index c.requires.inside
     _ (c.play.ensures.table ∙ c.claim.ensures.table ∙ c.requires.stands.table) refl refl whole
     _ c.play.new.state (ap (λ (y : Member). set c.args.states.now y.at c.play.new.state) is)
-    (subst (λ (y : ℕ × Member). IsNodeState c.args.score.now c.args.epoch (suc y.0) y.1.node c.play.new.state) (λ i. (cycle i, is i))
+    (subst (λ (y : ℕ × Member). IsNodeState c.args.scene.now.score.now c.args.scene.now.epoch (suc y.0) y.1.node c.play.new.state) (λ i. (cycle i, is i))
     c.play.ensures.state)
     c.play.new.rows c.play.ensures.rows
 
 pub returns-in-Awake-clause-tried : goal.returns-in-Awake-clause-tried
-returns-in-Awake-clause-tried g' c = let board_shape = c.args.board.now.board_shape in let p = layout_of board_shape in
+returns-in-Awake-clause-tried g' c = let board_shape = c.args.scene.now.board.now.board_shape in let p = layout_of board_shape in
     let g : Stage = c.args.self.now in let v : View = g.seat.knows in let w : View = c.claim.new.seat.knows in
     let m : Member = c.index-as_slice-index.result in
     let is : m ≡ member_at g c.args.index = c.index-as_slice-index.is ∙ ap (λ (l : List Member). get_or l c.args.index m) c.as_slice.ensures
@@ -122,7 +122,7 @@ returns-in-Awake-clause-tried g' c = let board_shape = c.args.board.now.board_sh
     let x : View = c.play.new.seat.knows in
     let after : HasTurned p w g.own (p.index (member_at g c.args.index).node) x c.play.new.own =
     subst (λ (y : Member). HasTurned p w g.own (p.index y.node) x c.play.new.own) is c.play.ensures.turned in
-    let whole = turned_before c.args.score.now c.args.epoch p (table_of c.args.board.now) g c.args.states.now c.args.rows.now c.requires.stands c.args.index c.requires.inside
+    let whole = turned_before c.args.scene.now.score.now c.args.scene.now.epoch p (table_of c.args.scene.now.board.now) g c.args.states.now c.args.rows.now c.requires.stands c.args.index c.requires.inside
     (λ e. some_left (omega (arith, e, ended))) w x c.play.new.own woke after in
     whole
 

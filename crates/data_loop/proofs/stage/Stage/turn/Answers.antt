@@ -11,17 +11,17 @@ use Rattle.data_loop.proofs.stage.Stage.turn.Goals as goal
 
 pub pass-requires-clause-past : goal.pass-requires-clause-past
 pass-requires-clause-past g' c = let f = c.front_now-self.result in
-    none_chosen (layout c.args.board.now) c.args.self.now.seat.knows (take f.from c.args.self.now.members) f.least
+    none_chosen (layout c.args.scene.now.board.now) c.args.self.now.seat.knows (take f.from c.args.self.now.members) f.least
     c.front_now-self.ensures.front.past
 
 pub pass-requires-clause-room : goal.pass-requires-clause-room
 pass-requires-clause-room g' c = let g : Stage = c.args.self.now in
-    let few = few_pass (is_chosen (layout c.args.board.now) g.seat.knows c.front_now-self.result.least true) g.members in
+    let few = few_pass (is_chosen (layout c.args.scene.now.board.now) g.seat.knows c.front_now-self.result.least true) g.members in
     let empty = ap (λ (l : List (ℕ × ℕ)). length l) c.requires.empty in let room = c.requires.room in
     omega (arith, few, empty, room)
 
 pub pass-requires-in-Idle-clause-room : goal.pass-requires-in-Idle-clause-room
-pass-requires-in-Idle-clause-room g' c = let p = layout c.args.board.now in let g : Stage = c.args.self.now in let v : View = g.seat.knows in
+pass-requires-in-Idle-clause-room g' c = let p = layout c.args.scene.now.board.now in let g : Stage = c.args.self.now in let v : View = g.seat.knows in
     let least = c.front_now-self.result.least in let exact = c.front_now-self.ensures.exact in
     let x = c.in-Idle.ensures.passed in
     let one : HaveTried p v (chosen_in p g least true) c.pass.new.found.items c.pass.new.self.seat.knows =
@@ -32,7 +32,7 @@ pass-requires-in-Idle-clause-room g' c = let p = layout c.args.board.now in let 
     omega (arith, few, cap, room)
 
 pub returns-in-Ran-clause-did : goal.returns-in-Ran-clause-did
-returns-in-Ran-clause-did g' c = let p = layout c.args.board.now in let g : Stage = c.args.self.now in let v : View = g.seat.knows in
+returns-in-Ran-clause-did g' c = let p = layout c.args.scene.now.board.now in let g : Stage = c.args.self.now in let v : View = g.seat.knows in
     let least = c.front_now-self.result.least in let exact = c.front_now-self.ensures.exact in
     let x = c.in-Ran.ensures.passed in
     subst (λ (l : List (ℕ × ℕ)). HasRun p g (turn_order p v g.members) c.in-Ran.node l c.pass.new.self)
@@ -40,12 +40,12 @@ returns-in-Ran-clause-did g' c = let p = layout c.args.board.now in let g : Stag
     (ran_first p g least exact c.front_now-self.result c.in-Ran.node x.0 c.pass.new.self x.2)
 
 pub returns-in-Ran-clause-few : goal.returns-in-Ran-clause-few
-returns-in-Ran-clause-few g' c = let p = layout c.args.board.now in let g : Stage = c.args.self.now in let v : View = g.seat.knows in
+returns-in-Ran-clause-few g' c = let p = layout c.args.scene.now.board.now in let g : Stage = c.args.self.now in let v : View = g.seat.knows in
     let least = c.front_now-self.result.least in let exact = c.front_now-self.ensures.exact in
     few_did p g (Ran c.in-Ran.node) c.pass.new.found.items c.pass.new.self (returns-in-Ran-clause-did g' c)
 
 pub returns-in-Idle-clause-did : goal.returns-in-Idle-clause-did
-returns-in-Idle-clause-did g' c = let p = layout c.args.board.now in let g : Stage = c.args.self.now in let v : View = g.seat.knows in
+returns-in-Idle-clause-did g' c = let p = layout c.args.scene.now.board.now in let g : Stage = c.args.self.now in let v : View = g.seat.knows in
     let least = c.front_now-self.result.least in let exact = c.front_now-self.ensures.exact in
     let x = c.in-Idle.ensures.passed in
     let one : HaveTried p v (chosen_in p g least true) c.pass.new.found.items c.pass.new.self.seat.knows =
@@ -55,5 +55,5 @@ returns-in-Idle-clause-did g' c = let p = layout c.args.board.now in let g : Sta
     c.pass-in-Idle.new.found.items c.pass-in-Idle.new.self c.pass-in-Idle.ensures.passed
 
 pub returns-in-Idle-clause-few : goal.returns-in-Idle-clause-few
-returns-in-Idle-clause-few g' c = few_did (layout c.args.board.now) c.args.self.now c.pass-in-Idle.result c.pass-in-Idle.new.found.items
+returns-in-Idle-clause-few g' c = few_did (layout c.args.scene.now.board.now) c.args.self.now c.pass-in-Idle.result c.pass-in-Idle.new.found.items
     c.pass-in-Idle.new.self (returns-in-Idle-clause-did g' c)

@@ -11,34 +11,34 @@ use Rattle.data_loop.proofs.stage.Stage.turn_at.Goals as goal
 
 pub returns-in-None-clause-did : goal.returns-in-None-clause-did
 returns-in-None-clause-did g' c = let s : Stage = c.args.self.now in
-    none_at (layout c.args.board.now) s.seat.knows c.args.node s.members c.args.found.now.items c.requires.empty
+    none_at (layout c.args.scene.now.board.now) s.seat.knows c.args.node s.members c.args.found.now.items c.requires.empty
     (subst (All (λ (m : Member). m.node ≢ c.args.node)) c.as_slice.ensures c.in-None.ensures.none)
 
 pub returns-in-Ended-clause-did : goal.returns-in-Ended-clause-did
-returns-in-Ended-clause-did g' c = let s : Stage = c.args.self.now in let p = layout c.args.board.now in let t = table_of c.args.board.now in
+returns-in-Ended-clause-did g' c = let s : Stage = c.args.self.now in let p = layout c.args.scene.now.board.now in let t = table_of c.args.scene.now.board.now in
     let i = c.in-Some.index in let at = c.in-Some.ensures.some in let e = c.in-Ended.ensures.tried in
     let low : i < length s.members = subst (λ (l : List Member). i < length l) c.as_slice.ensures at.0 in
     let is : (get_or s.members i no_member).node ≡ c.args.node = ap (λ (l : List Member). (get_or l i no_member).node) (sym c.as_slice.ensures) ∙ at.1 in
-    ended_at c.args.score.now c.args.epoch p t s c.args.states.now c.args.rows.now c.requires.stands i low c.args.node is
+    ended_at c.args.scene.now.score.now c.args.scene.now.epoch p t s c.args.states.now c.args.rows.now c.requires.stands i low c.args.node is
     c.args.found.now.items c.requires.empty e.0 c.try_member.new.self.seat.knows e.1
 
 pub returns-in-NotYet-clause-did : goal.returns-in-NotYet-clause-did
-returns-in-NotYet-clause-did g' c = let s : Stage = c.args.self.now in let p = layout c.args.board.now in let t = table_of c.args.board.now in
+returns-in-NotYet-clause-did g' c = let s : Stage = c.args.self.now in let p = layout c.args.scene.now.board.now in let t = table_of c.args.scene.now.board.now in
     let i = c.in-Some.index in let at = c.in-Some.ensures.some in let e = c.in-NotYet.ensures.tried in
     let low : i < length s.members = subst (λ (l : List Member). i < length l) c.as_slice.ensures at.0 in
     let is : (get_or s.members i no_member).node ≡ c.args.node = ap (λ (l : List Member). (get_or l i no_member).node) (sym c.as_slice.ensures) ∙ at.1 in
     subst (λ (l : List (ℕ × ℕ)). HaveTried p s.seat.knows (members_at c.args.node s.members) l c.try_member.new.self.seat.knows)
     (sym {A = List (ℕ × ℕ)} c.push_reserved.ensures.items)
-    (tried_at c.args.score.now c.args.epoch p t s c.args.states.now c.args.rows.now c.requires.stands i low c.args.node is
+    (tried_at c.args.scene.now.score.now c.args.scene.now.epoch p t s c.args.states.now c.args.rows.now c.requires.stands i low c.args.node is
     c.args.found.now.items c.requires.empty e.0 c.in-NotYet.word e.1 c.try_member.new.self.seat.knows e.2)
 
 pub returns-in-Ran-clause-did : goal.returns-in-Ran-clause-did
-returns-in-Ran-clause-did g' c = let s : Stage = c.args.self.now in let p = layout c.args.board.now in let t = table_of c.args.board.now in
+returns-in-Ran-clause-did g' c = let s : Stage = c.args.self.now in let p = layout c.args.scene.now.board.now in let t = table_of c.args.scene.now.board.now in
     let i = c.in-Some.index in let at = c.in-Some.ensures.some in
     let low : i < length s.members = subst (λ (l : List Member). i < length l) c.as_slice.ensures at.0 in
     let is : (get_or s.members i no_member).node ≡ c.args.node = ap (λ (l : List Member). (get_or l i no_member).node) (sym c.as_slice.ensures) ∙ at.1 in (
       refl,
       c.requires.empty,
-      ran_at c.args.score.now c.args.epoch p t s c.args.states.now c.args.rows.now c.requires.stands i low c.args.node is
+      ran_at c.args.scene.now.score.now c.args.scene.now.epoch p t s c.args.states.now c.args.rows.now c.requires.stands i low c.args.node is
           c.args.found.now.items c.requires.empty c.try_member.new.self c.in-Ran.ensures.tried,
     )

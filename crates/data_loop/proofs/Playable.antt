@@ -1,7 +1,7 @@
--- The turn of a follower, by the cycle function.
--- Source: PipeWire's documentation, "Graph Scheduling" and "SPA Buffers".
+-- When a follower may play, by the cycle function.
 use Rattle.std.specs.Prelude.{◌≡◌, ℕ, ℤ, ◌+◌, ◌<◌, ◌≤◌, ◌⊎◌, List, Contains, length}
 use Rattle.pw_base.specs.KindPorts.{input_count}
+use Rattle.pw_base.specs.Limits.{links_limit}
 use Rattle.pw_base.specs.PlanForms.{kind_at}
 use Rattle.node_state.specs.declared.node_state.NodeState.{NodeState}
 use Rattle.board_rule.specs.declared.view.View.{View}
@@ -20,7 +20,7 @@ use Rattle.data_loop.specs.Gathering.{inputs_of, IsBoardOf}
 pub record IsMemberOf (score : Score) (p : BoardLayout) (m : Member) : Type 0 where
   pub inputs : m.inputs ≡ inputs_of p.shape m.node
   pub pools : m.pools ≡ fills_of p.shape m.node
-  pub few : length m.inputs ≤ 256
+  pub few : length m.inputs ≤ links_limit
   pub first_output : m.first_output ≡ input_count (kind_at score.plan.value m.node)
 
 -- the pool is that of the output o, whose row is not empty

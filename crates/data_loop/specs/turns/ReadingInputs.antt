@@ -9,16 +9,16 @@ use Rattle.io_areas.specs.Ends.{IsReadUpTo}
 use Rattle.io_areas.specs.InputTurn.{MayReadInput}
 
 -- none of the links is touched in this cycle, and none stands there twice
-abbrev pub MayHearAll : Bool → BoardLayout → View → List ℕ → Type 0
-MayHearAll is_driver p v links = All (MayReadInput is_driver p v) links
+abbrev pub MayReadAll : Bool → BoardLayout → View → List ℕ → Type 0
+MayReadAll is_driver p v links = All (MayReadInput is_driver p v) links
     × AllPairs (λ k l. k ≢ l) links
 
 -- from the view v to the view w, each of the links is taken, read and given back; no other is
 -- touched
-pub record AreHeard (is_driver : Bool) (p : BoardLayout) (v : View) (links : List ℕ)
+pub record AreRead (is_driver : Bool) (p : BoardLayout) (v : View) (links : List ℕ)
     (w : View) : Type 0 where
-  pub same : w ≡ record v { reads = w.reads; heard = w.heard }
+  pub same : w ≡ record v { reads = w.reads; words_read = w.words_read }
   pub ends : length w.reads ≡ length v.reads
-  pub hears : length w.heard ≡ length v.heard
-  pub heard : (l : ℕ) → Contains links l → IsReadUpTo w l (read_cycle is_driver p v l + 1)
+  pub words : length w.words_read ≡ length v.words_read
+  pub read : (l : ℕ) → Contains links l → IsReadUpTo w l (read_cycle is_driver p v l + 1)
   pub others : (l : ℕ) → (Contains links l → ⊥) → read_of w l ≡ read_of v l

@@ -3,15 +3,15 @@ use Rattle.std.specs.Prelude.{All, fold}
 use Rattle.pw_base.specs.Samples.{summed}
 use Rattle.s16_mixer.specs.Ranges.{IsWithin}
 use Rattle.board_rule.specs.Layout.{layout_of}
-use Rattle.data_loop.specs.turns.Hearing.{AreHeard}
+use Rattle.data_loop.specs.turns.ReadingInputs.{AreRead}
 use Rattle.data_loop.specs.Inputs.{links_of, first_rows, second_rows}
-use Rattle.data_loop.proofs.inputs.hear_all.Given as goal
+use Rattle.data_loop.proofs.inputs.read_inputs.Given as goal
 
 abbrev pub invariant-loop-k : goal.invariant-loop-k
 invariant-loop-k g l = record {
   end : l.k-end ≡ length l.inputs;
   table : g.S.BoardSeat.table l.seat ≡ g.S.BoardSeat.table l.fn.seat;
-  heard : AreHeard g.S.BoardSeat.is_driver (layout_of l.board.board_shape) (g.S.BoardSeat.knows l.fn.seat) (take l.k (links_of l.inputs))
+  read : AreRead g.S.BoardSeat.is_driver (layout_of l.board.board_shape) (g.S.BoardSeat.knows l.fn.seat) (take l.k (links_of l.inputs))
       (g.S.BoardSeat.knows l.seat);
   row : length l.row ≡ length l.fn.row;
   long_a : length l.a ≡ length l.fn.a;

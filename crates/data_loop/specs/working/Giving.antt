@@ -4,7 +4,7 @@ use Rattle.std.specs.Prelude.{ℕ, ℤ, ◌==◌, List, All, if◌then◌else◌
 use Rattle.board_rule.specs.declared.view.View.{View}
 use Rattle.board_rule.specs.Layout.{BoardLayout}
 use Rattle.board_rule.specs.buffers.EndViews.{pool_at}
-use Rattle.data_loop.specs.turns.Writing.{Puts}
+use Rattle.data_loop.specs.working.Writing.{Puts}
 
 -- the row of the first output, or of the second; outputs are numbered from `first_output` on
 abbrev pub row_for : BoardLayout → ℕ → List ℤ → List ℤ → ℕ → List ℤ

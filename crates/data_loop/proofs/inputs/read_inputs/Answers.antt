@@ -6,12 +6,12 @@ use Rattle.s16_mixer.specs.Ranges.{IsWithin}
 use Rattle.board_rule.specs.declared.view.View.{View}
 use Rattle.board_rule.specs.Layout.{BoardLayout, layout_of}
 use Rattle.io_areas.specs.InputTurn.{MayReadInput, HasReadInput}
-use Rattle.data_loop.proofs.turns.HearingLemmas.{may_hear, one_more}
+use Rattle.data_loop.proofs.turns.ReadingInputsLemmas.{may_read, one_more}
 use Rattle.data_loop.specs.declared.inputs.Input.{Input}
 use Rattle.data_loop.specs.Inputs.{links_of, row_of, first_rows, second_rows}
 use Rattle.data_loop.proofs.SumLemmas.{room_left, within_on, fold_more, row_same, first_on, first_off, second_on, second_off}
-use Rattle.data_loop.proofs.inputs.hear_all.Goals as goal
-use Rattle.data_loop.proofs.inputs.hear_all.Goals.{then-inputs-k, else-inputs-k}
+use Rattle.data_loop.proofs.inputs.read_inputs.Goals as goal
+use Rattle.data_loop.proofs.inputs.read_inputs.Goals.{then-inputs-k, else-inputs-k}
 
 pub read_input-requires-clause-phase : goal.read_input-requires-clause-phase
 read_input-requires-clause-phase g c = let inputs = c.args.inputs.now in let k = c.loop-k.k in let low = c.loop-k-test.true in
@@ -19,7 +19,7 @@ read_input-requires-clause-phase g c = let inputs = c.args.inputs.now in let k =
     let long = length-map inputs (λ (i : Input). i.link) in
     let is = get_or-map (λ (i : Input). i.link) inputs k none 0 low in
     subst (MayReadInput g.S.BoardSeat.is_driver (layout_of c.args.board.now.board_shape) (g.S.BoardSeat.knows c.loop-k.seat)) is
-    (may_hear _ _ _ (links_of inputs) c.requires.phase k _ (omega (arith, long, low)) c.loop-k.invariant.heard)
+    (may_read _ _ _ (links_of inputs) c.requires.phase k _ (omega (arith, long, low)) c.loop-k.invariant.read)
 
 pub read_input-requires-clause-long : goal.read_input-requires-clause-long
 read_input-requires-clause-long g c = c.loop-k.invariant.row ∙ c.requires.long c.loop-k.k _ c.loop-k-test.true
@@ -42,8 +42,8 @@ loop-k-preserved g c = let inputs = c.args.inputs.now in let k = c.loop-k.k in l
     let long = length-map inputs (λ (i : Input). i.link) in
     let is : get_or (links_of inputs) k 0 ≡ x.link = get_or-map (λ (i : Input). i.link) inputs k none 0 low in
     let row : c.read_input.new.to ≡ row_of b p v x.link = c.read_input.ensures.samples
-    ∙ ap (λ (y : View). row_of b p y x.link) i.heard.same
-    ∙ row_same b p v w.reads w.heard x.link in
+    ∙ ap (λ (y : View). row_of b p y x.link) i.read.same
+    ∙ row_same b p v w.reads w.words_read x.link in
     let on : take (k + 1) inputs ≡ take k inputs ++ x ∷ [] = take_more inputs k none low in
     let sums : (length c.if-inputs-k.a ≡ length c.args.a.now) × (length c.if-inputs-k.b ≡ length c.args.b.now)
     × All (IsWithin (k + 1)) c.if-inputs-k.a × All (IsWithin (k + 1)) c.if-inputs-k.b
@@ -75,7 +75,7 @@ loop-k-preserved g c = let inputs = c.args.inputs.now in let k = c.loop-k.k in l
     record {
       end = refl;
       table = c.read_input.ensures.table ∙ i.table;
-      heard = one_more b p v (links_of inputs) c.requires.phase k w (omega (arith, long, low)) i.heard u
+      read = one_more b p v (links_of inputs) c.requires.phase k w (omega (arith, long, low)) i.read u
           (subst (λ l. HasReadInput b p w l u) (sym is) c.read_input.ensures.knows);
       row = c.read_input.auto.to ∙ i.row;
       long_a = sums.0;
