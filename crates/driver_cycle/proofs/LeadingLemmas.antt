@@ -14,13 +14,13 @@ use Rattle.board_rule.specs.activation.WorkSteps.{woken, tried}
 use Rattle.activation_words.specs.CycleCalls.{HasBegun, HasChecked, HasEnded}
 use Rattle.io_areas.specs.Ends.{IsReadUpTo}
 use Rattle.node_progress.specs.declared.score.Score.{Score}
-use Rattle.data_loop.proofs.turns.HearingLemmas.{read_moves}
+use Rattle.data_loop.proofs.turns.ReadingInputsLemmas.{read_moves}
 use Rattle.data_loop.specs.Driving.{IsDriverRead, MayDrive, HasDriven}
 use Rattle.driver_cycle.specs.Leading.{IsLeading, IsBetween, IsWaiting, HasEndedAll}
 use Rattle.driver_cycle.specs.Rounds.{HasLooked}
 
 -- a view with the same reading ends
-pub read_up_moves : (p : BoardLayout) (v w : View) (c d : ℕ) → w.reads ≡ v.reads → w.heard ≡ v.heard → d ≡ c → IsDriverRead p v c
+pub read_up_moves : (p : BoardLayout) (v w : View) (c d : ℕ) → w.reads ≡ v.reads → w.words_read ≡ v.words_read → d ≡ c → IsDriverRead p v c
     → IsDriverRead p w d
 read_up_moves p v w c d rs hs e h l low is = subst (IsReadUpTo w l) (sym e)
     (read_moves v w l c (ap (λ (x : List ReadView). length x) rs) (ap (λ (x : List ℕ). length x) hs)
@@ -28,7 +28,7 @@ read_up_moves p v w c d rs hs e h l low is = subst (IsReadUpTo w l) (sym e)
 
 -- a seat whose cycle, samples and reading ends are the same
 pub leads_on : (score : Score) (k : ℕ) (board : Board) (s t : Known) → t.table ≡ s.table → t.knows.expect ≡ s.knows.expect
-    → t.knows.reads ≡ s.knows.reads → t.knows.heard ≡ s.knows.heard → t.knows.lead.cycle ≡ s.knows.lead.cycle
+    → t.knows.reads ≡ s.knows.reads → t.knows.words_read ≡ s.knows.words_read → t.knows.lead.cycle ≡ s.knows.lead.cycle
     → IsLeading score k board s → IsLeading score k board t
 leads_on score k board s t table expect rs hs cycle h = record {
   epoch = h.epoch;
@@ -44,24 +44,24 @@ leads_on score k board s t table expect rs hs cycle h = record {
 module _ (score : Score) (k : ℕ) (board : Board) (s t : Known) (table : t.table ≡ s.table) (h : IsLeading score k board s) where
   pub begun_leads : HasBegun (layout board) s.knows t.knows → IsLeading score k board t
   begun_leads b = leads_on score k board s t table (ap (λ (x : View). x.expect) b.is) (ap (λ (x : View). x.reads) b.is)
-      (ap (λ (x : View). x.heard) b.is) (ap (λ (x : View). x.lead.cycle) b.is) h
+      (ap (λ (x : View). x.words_read) b.is) (ap (λ (x : View). x.lead.cycle) b.is) h
 
   pub checked_leads : (late : ℕ) → HasChecked (layout board) s.knows late t.knows → IsLeading score k board t
   checked_leads late b = leads_on score k board s t table (ap (λ (x : View). x.expect) b.is) (ap (λ (x : View). x.reads) b.is)
-      (ap (λ (x : View). x.heard) b.is) (ap (λ (x : View). x.lead.cycle) b.is) h
+      (ap (λ (x : View). x.words_read) b.is) (ap (λ (x : View). x.lead.cycle) b.is) h
 
   -- from a claim
   pub woken_leads : t.knows ≡ woken true s.knows (layout board).driver → IsLeading score k board t
   woken_leads e = leads_on score k board s t table (ap (λ (x : View). x.expect) e) (ap (λ (x : View). x.reads) e)
-      (ap (λ (x : View). x.heard) e) (ap (λ (x : View). x.lead.cycle) e) h
+      (ap (λ (x : View). x.words_read) e) (ap (λ (x : View). x.lead.cycle) e) h
 
   pub tried_leads : (found : ℕ) → t.knows ≡ tried (layout board) s.knows (layout board).driver found → IsLeading score k board t
   tried_leads found e = leads_on score k board s t table (ap (λ (x : View). x.expect) e) (ap (λ (x : View). x.reads) e)
-      (ap (λ (x : View). x.heard) e) (ap (λ (x : View). x.lead.cycle) e) h
+      (ap (λ (x : View). x.words_read) e) (ap (λ (x : View). x.lead.cycle) e) h
 
   pub same_leads : t.knows ≡ s.knows → IsLeading score k board t
   same_leads e = leads_on score k board s t table (ap (λ (x : View). x.expect) e) (ap (λ (x : View). x.reads) e)
-      (ap (λ (x : View). x.heard) e) (ap (λ (x : View). x.lead.cycle) e) h
+      (ap (λ (x : View). x.words_read) e) (ap (λ (x : View). x.lead.cycle) e) h
 
 module _ (p : BoardLayout) (v w : View) where
   -- between two cycles, with cycles left
@@ -92,7 +92,7 @@ module _ (p : BoardLayout) (v w : View) where
     node = subst (λ (x : View). HasNode true p x p.driver) (sym e) h.node;
     awake = ap (λ (x : View). x.lead.drive) e;
     cycle = ap (λ (x : View). x.lead.cycle) e;
-    even = read_up_moves p v w v.lead.cycle v.lead.cycle (ap (λ (x : View). x.reads) e) (ap (λ (x : View). x.heard) e) refl even;
+    even = read_up_moves p v w v.lead.cycle v.lead.cycle (ap (λ (x : View). x.reads) e) (ap (λ (x : View). x.words_read) e) refl even;
   }
 
 -- the end of a cycle after its driver's turn
@@ -105,7 +105,7 @@ module _ (p : BoardLayout) (v : View) (c : ℕ) (may : MayDrive p v c) (w : View
     ended_cycle = ap (λ (y : View). y.lead.cycle) ended.2 ∙ ap (λ m. m + 1) driven.cycle
 
     pub ended_even : IsDriverRead p x x.lead.cycle
-    ended_even = read_up_moves p w x (c + 1) x.lead.cycle (ap (λ (y : View). y.reads) ended.2) (ap (λ (y : View). y.heard) ended.2)
+    ended_even = read_up_moves p w x (c + 1) x.lead.cycle (ap (λ (y : View). y.reads) ended.2) (ap (λ (y : View). y.words_read) ended.2)
         ended_cycle driven.even
 
     pub ended_between : IsBetween p x

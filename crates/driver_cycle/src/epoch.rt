@@ -15,6 +15,7 @@ ghost use Rattle.driver_cycle.specs.Waking.{SendsBegun};
 use crate::leading::lead_once;
 use crate::rounds::begin_next;
 use crate::settling::{settle, settle_all};
+use crate::site::Site;
 use crate::turning::{turn_all, turn_one};
 use crate::waking::{rest_unless, send_woken};
 use board_rule::{Board, BoardSeat, DriverSeat};
@@ -25,124 +26,99 @@ use std::sync::Wait;
 // One round: a turn of the own loop, one of each adopted loop, and one claim of the driver's node;
 // where all this did nothing, a rest. Whether the cycle has ended.
 fn go_round<R: Wait, G: Gate, K: Ticker>(
-    rt: &R,
-    board: &Board,
+    at: &Site<'_, R, G>,
     seat: &mut DriverSeat,
     own: &mut LoopState,
     adopted: &mut [LoopState],
     checked: &mut bool,
-    ways: &Ways,
     way: &mut Way,
     ticker: &mut K,
-    gate: &G,
 ) -> bool
-    requires thread { IsThread board.now seat.old own.old adopted.old }
-    requires waits { IsWaiting (layout board.now) seat.old.knows }
+    requires thread { IsThread at.now.board.now seat.old own.old adopted.old }
+    requires waits { IsWaiting (layout at.now.board.now) seat.old.knows }
     requires checked { checked.old ≡ seat.old.knows.lead.checked }
-    requires way { IsDriverWay ways.now way.old }
-    ensures gone { HasGoneOn board.now seat.old own.old adopted.old (K.ticks ticker.old)
+    requires way { IsDriverWay at.now.ways.now way.old }
+    ensures gone { HasGoneOn at.now.board.now seat.old own.old adopted.old (K.ticks ticker.old)
         seat.new own.new adopted.new (K.ticks ticker.new) }
-    ensures round { HasGoneRound result (layout board.now) seat.old.knows checked.new
+    ensures round { HasGoneRound result (layout at.now.board.now) seat.old.knows checked.new
         seat.new.knows }
-    ensures way { IsDriverWay ways.now way.new }
+    ensures way { IsDriverWay at.now.ways.now way.new }
 {
-    let own_ran = turn_one(rt, board, own, ways, way, gate);
-    let another_ran = turn_all(rt, board, adopted, ways, way, gate);
-    let ended = lead_once(board, seat, own, checked, ticker, gate);
-    rest_unless(rt, own_ran | another_ran | ended, adopted.len(), ways, way);
+    let own_ran = turn_one(at.rt, at.board, own, at.ways, way, at.gate);
+    let another_ran = turn_all(at, adopted, way);
+    let ended = lead_once(at.board, seat, own, checked, ticker, at.gate);
+    let done = own_ran | another_ran | ended;
+    rest_unless(at.rt, done, adopted.len(), at.ways, way);
     ended
 }
 
 // The rounds of a cycle that is begun.
 fn run_cycle<R: Wait, G: Gate, K: Ticker>(
-    rt: &R,
-    board: &Board,
+    at: &Site<'_, R, G>,
     seat: &mut DriverSeat,
     own: &mut LoopState,
     adopted: &mut [LoopState],
-    ways: &Ways,
     way: &mut Way,
     ticker: &mut K,
-    gate: &G,
 )
-    requires thread { IsThread board.now seat.old own.old adopted.old }
-    requires waits { IsWaiting (layout board.now) seat.old.knows }
+    requires thread { IsThread at.now.board.now seat.old own.old adopted.old }
+    requires waits { IsWaiting (layout at.now.board.now) seat.old.knows }
     requires unchecked { seat.old.knows.lead.checked ≡ false }
-    requires way { IsDriverWay ways.now way.old }
-    ensures gone { HasGoneOn board.now seat.old own.old adopted.old (K.ticks ticker.old)
+    requires way { IsDriverWay at.now.ways.now way.old }
+    ensures gone { HasGoneOn at.now.board.now seat.old own.old adopted.old (K.ticks ticker.old)
         seat.new own.new adopted.new (K.ticks ticker.new) }
-    ensures between { IsBetween (layout board.now) seat.new.knows }
+    ensures between { IsBetween (layout at.now.board.now) seat.new.knows }
     ensures cycle { seat.new.knows.lead.cycle ≡ seat.old.knows.lead.cycle + 1 }
-    ensures way { IsDriverWay ways.now way.new }
+    ensures way { IsDriverWay at.now.ways.now way.new }
 {
     let mut checked = false;
-    for _ in rt.forever() {
-        if go_round(
-            rt,
-            board,
-            seat,
-            own,
-            adopted,
-            &mut checked,
-            ways,
-            way,
-            ticker,
-            gate,
-        ) {
+    for _ in at.rt.forever() {
+        if go_round(at, seat, own, adopted, &mut checked, way, ticker) {
             break;
         }
     }
 }
 
 // Begins the next cycle, if one is left, and sends what the beginning woke.
-fn begin_sent<R: Wait>(
-    rt: &R,
-    board: &Board,
-    seat: &mut DriverSeat,
-    ways: &Ways,
-    way: &mut Way,
-) -> bool
-    requires table { IsOn board.now seat.old.table }
-    requires between { IsBetween (layout board.now) seat.old.knows }
-    requires way { IsDriverWay ways.now way.old }
-    ensures begun { BeginsNext (layout board.now) seat.old.knows result seat.new.knows }
-    ensures sent { SendsBegun result ways.now seat.new.knows way.old way.new }
-    ensures driving { IsDriving (layout board.now) seat.new.knows result }
+fn begin_sent<R: Wait, G>(at: &Site<'_, R, G>, seat: &mut DriverSeat, way: &mut Way) -> bool
+    requires table { IsOn at.now.board.now seat.old.table }
+    requires between { IsBetween (layout at.now.board.now) seat.old.knows }
+    requires way { IsDriverWay at.now.ways.now way.old }
+    ensures begun { BeginsNext (layout at.now.board.now) seat.old.knows result seat.new.knows }
+    ensures sent { SendsBegun result at.now.ways.now seat.new.knows way.old way.new }
+    ensures driving { IsDriving (layout at.now.board.now) seat.new.knows result }
     ensures unchecked { seat.new.knows.lead.checked ≡ false }
     ensures table { seat.new.table ≡ seat.old.table }
-    ensures leads { (score : Score) (k : ℕ) → IsLeading score k board.now seat.old
-        → IsLeading score k board.now seat.new }
-    ensures way { IsDriverWay ways.now way.new }
+    ensures leads { (score : Score) (k : ℕ) → IsLeading score k at.now.board.now seat.old
+        → IsLeading score k at.now.board.now seat.new }
+    ensures way { IsDriverWay at.now.ways.now way.new }
 {
-    if !begin_next(board, seat) {
+    if !begin_next(at.board, seat) {
         return false;
     }
-    send_woken(rt, ways, way, seat.woke());
+    send_woken(at.rt, at.ways, way, seat.woke());
     true
 }
 
 // The cycles that are left of the epoch.
 fn run_cycles<R: Wait, G: Gate, K: Ticker>(
-    rt: &R,
-    board: &Board,
+    at: &Site<'_, R, G>,
     seat: &mut DriverSeat,
     own: &mut LoopState,
     adopted: &mut [LoopState],
-    ways: &Ways,
     way: &mut Way,
     ticker: &mut K,
-    gate: &G,
 )
-    requires thread { IsThread board.now seat.old own.old adopted.old }
-    requires between { IsBetween (layout board.now) seat.old.knows }
-    requires way { IsDriverWay ways.now way.old }
-    ensures gone { HasGoneOn board.now seat.old own.old adopted.old (K.ticks ticker.old)
+    requires thread { IsThread at.now.board.now seat.old own.old adopted.old }
+    requires between { IsBetween (layout at.now.board.now) seat.old.knows }
+    requires way { IsDriverWay at.now.ways.now way.old }
+    ensures gone { HasGoneOn at.now.board.now seat.old own.old adopted.old (K.ticks ticker.old)
         seat.new own.new adopted.new (K.ticks ticker.new) }
-    ensures ended { HasEndedAll (layout board.now) seat.new.knows }
-    ensures way { IsDriverWay ways.now way.new }
+    ensures ended { HasEndedAll (layout at.now.board.now) seat.new.knows }
+    ensures way { IsDriverWay at.now.ways.now way.new }
 {
-    while begin_sent(rt, board, seat, ways, way) {
-        run_cycle(rt, board, seat, own, adopted, ways, way, ticker, gate);
+    while begin_sent(at, seat, way) {
+        run_cycle(at, seat, own, adopted, way, ticker);
     }
 }
 
@@ -187,7 +163,13 @@ pub fn run_epoch<R: Wait, G: Gate, K: Ticker>(
     ensures looked { HasLooked seat.old seat.new (K.ticks ticker.old) (K.ticks ticker.new) }
     ensures way { IsDriverWay ways.now way.new }
 {
-    run_cycles(rt, board, seat, own, adopted, ways, way, ticker, gate);
+    let at = Site {
+        rt,
+        gate,
+        board,
+        ways,
+    };
+    run_cycles(&at, seat, own, adopted, way, ticker);
     settle(rt, board, own, gate);
     settle_all(rt, board, adopted, gate);
 }

@@ -11,6 +11,7 @@ mod epoch;
 mod leading;
 mod rounds;
 mod settling;
+mod site;
 mod turning;
 mod waking;
 

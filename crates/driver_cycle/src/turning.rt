@@ -6,6 +6,7 @@ ghost use Rattle.data_loop.specs.LoopsOnBoards.{IsOnBoard};
 ghost use Rattle.driver_cycle.specs.Settling.{HasHadTurns, AreEach};
 ghost use Rattle.driver_cycle.specs.Waking.{HasTakenTurn, HasTurnedIdle};
 
+use crate::site::Site;
 use crate::waking::send_woken;
 use board_rule::Board;
 use data_loop::{Did, LoopState, Way, Ways};
@@ -43,25 +44,24 @@ pub fn turn_one<R: Wait, G: Gate>(
 /// One turn of each of the loops, in order. Whether a node of any of them ran: where none did, the
 /// way is as it was. Sending may wait. Takes no memory.
 pub(crate) fn turn_all<R: Wait, G: Gate>(
-    rt: &R,
-    board: &Board,
+    at: &Site<'_, R, G>,
     states: &mut [LoopState],
-    ways: &Ways,
     way: &mut Way,
-    gate: &G,
 ) -> bool
-    requires stand { All (IsOnBoard (layout board.now) (table_of board.now)) states.old }
-    requires way { IsDriverWay ways.now way.old }
-    ensures turned { AreEach (HasHadTurns (layout board.now) (table_of board.now))
+    requires stand { All (IsOnBoard (layout at.now.board.now) (table_of at.now.board.now))
+        states.old }
+    requires way { IsDriverWay at.now.ways.now way.old }
+    ensures turned { AreEach
+        (HasHadTurns (layout at.now.board.now) (table_of at.now.board.now))
         states.old states.new }
     ensures idle { result ≡ false
-        → AreEach (HasTurnedIdle (layout board.now)) states.old states.new }
+        → AreEach (HasTurnedIdle (layout at.now.board.now)) states.old states.new }
     ensures quiet { result ≡ false → way.new ≡ way.old }
-    ensures way { IsDriverWay ways.now way.new }
+    ensures way { IsDriverWay at.now.ways.now way.new }
 {
     let mut ran = false;
     for k in 0..states.len() {
-        ran |= turn_one(rt, board, &mut states[k], ways, way, gate);
+        ran |= turn_one(at.rt, at.board, &mut states[k], at.ways, way, at.gate);
     }
     ran
 }

@@ -14,7 +14,7 @@ use Rattle.graph_run.specs.declared.shared.Shared.{Shared}
 use Rattle.graph_run.specs.LoopsOnPlan.{IsReady, HasCome}
 use Rattle.graph_run.specs.Outcomes.{HasNodeAt, AreDone}
 use Rattle.graph_run.specs.Threads.{CanRun, CanDrive, HasRun, IsDoneWith, HasNode, nodes_with, nodes_under}
-use Rattle.graph_run.specs.Lists.{AreListed, HasLoop}
+use Rattle.graph_run.specs.working.Lists.{AreListed, HasLoop}
 use Rattle.graph_run.proofs.EpochLemmas.{there}
 use Rattle.graph_run.proofs.ThreadLemmas.{done_with}
 

@@ -23,9 +23,9 @@ use Rattle.graph_run.specs.Seating.{epoch_board}
 use Rattle.graph_run.specs.Boards.{driver_of}
 use Rattle.graph_run.specs.Closing.{HasEnded}
 use Rattle.graph_run.specs.Leads.{HaveLed, checks_of}
-use Rattle.graph_run.specs.Lists.{AreEmpty, HaveRooms}
+use Rattle.graph_run.specs.working.Lists.{AreEmpty, HaveRooms}
 use Rattle.graph_run.specs.Outcomes.{AreDone}
-use Rattle.graph_run.specs.Prepared.{IsPrepared, IsCrew}
+use Rattle.graph_run.specs.working.Prepared.{IsPrepared, IsCrew}
 use Rattle.graph_run.proofs.EpochLemmas.{there}
 use Rattle.graph_run.proofs.ReadyLemmas.{driver_at}
 

@@ -151,9 +151,9 @@ module _ (plan : Plan) (waves : List WavIn) (f : ℕ → ℕ) (loops : ℕ) (sou
             let one : read_of (driver_view p (expected_samples plan waves k) (loops + 1)) l ≡ r =
             get_or-replicate (length p.shape.links) l r (unread 0) low in
             let long = length-replicate (length p.shape.links) r in
-            let none : ℕ = 0 in let hears = length-replicate (length p.shape.links) none in record {
+            let none : ℕ = 0 in let words = length-replicate (length p.shape.links) none in record {
               there = omega (arith, low, long);
-              hears = omega (arith, low, hears);
+              words = omega (arith, low, words);
               loaded = ap (λ (x : ReadView). x.loaded) one;
               lowered = ap (λ (x : ReadView). x.lowered) one;
               stored = ap (λ (x : ReadView). x.stored) one;

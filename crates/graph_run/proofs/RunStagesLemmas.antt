@@ -30,7 +30,7 @@ use Rattle.graph_run.specs.Assignment.{loop_of}
 use Rattle.graph_run.specs.Leads.{HaveLed, HaveLooked, checks_of}
 use Rattle.graph_run.specs.Outcomes.{AreDone, IsDoneOf}
 use Rattle.graph_run.specs.PlanRun.{IsRunOf}
-use Rattle.graph_run.specs.Prepared.{IsPrepared}
+use Rattle.graph_run.specs.working.Prepared.{IsPrepared}
 use Rattle.graph_run.specs.Rooms.{AreRooms}
 use Rattle.graph_run.specs.RunStages.{IsAloneRun, CanRunAlone, IsEndedRun, HasBoardsBy, HasRunAlone, run_plan_of, run_waves_of}
 use Rattle.graph_run.specs.Threads.{CanDrive, HasRun, HasNode}

@@ -15,7 +15,7 @@ use Rattle.graph_run.specs.declared.starting.Start.{Start}
 use Rattle.graph_run.specs.declared.starting.Start.TheVariants.{Running, Adopted, Done}
 use Rattle.graph_run.specs.LoopsOnPlan.{IsReady}
 use Rattle.graph_run.specs.Threads.{CanRun, CanStart, HasRun, IsStart, IsDoneWith, nodes_with, nodes_under}
-use Rattle.graph_run.specs.Lists.{HasPlaced, HaveRooms, AreListed, HasLoop, size}
+use Rattle.graph_run.specs.working.Lists.{HasPlaced, HaveRooms, AreListed, HasLoop, size}
 
 -- before the run a loop is between two epochs
 pub under_way : (boards : List Board) (s : LoopState) → IsReady boards s → IsUnderWay boards s

@@ -8,7 +8,6 @@ pub mod Leads
 pub mod PlanRun
 pub mod Outcomes
 pub mod Threads
-pub mod Lists
-pub mod Prepared
 pub mod Rooms
 pub mod RunStages
+pub mod working

@@ -12,7 +12,7 @@ use Rattle.board_rule.specs.declared.closed.Closed.{Closed}
 use Rattle.board_rule.specs.events.Closing.{expected}
 use Rattle.graph_run.specs.Seating.{epoch_board}
 
--- THE RUN of a plan by a seating of so many loops: one closed board an epoch, of the epoch's shape
+-- THE RUN of a plan by a seating of `loops` loops: one closed board an epoch, of the epoch's shape
 -- and with the seats of the seating, on which each link gave the samples of the cycle function. The
 -- history is their events one after the other, and legal. It has no more ticks than the ticker's
 -- count grew by, from m to n, and at least one where it grew

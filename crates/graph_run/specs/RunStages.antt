@@ -52,7 +52,7 @@ pub record IsEndedRun (plan : Plan) (waves : List WavIn) (e : EndedRun) : Type 0
       ≡ map (expected_samples plan waves) (range_with_len 0 (length plan.epochs))
   pub rooms : AreRooms plan e.rooms
 
--- its boards have the seats of a seating of so many loops
+-- its boards have the seats of a seating of `loops` loops
 abbrev pub HasBoardsBy : Plan → (ℕ → ℕ) → ℕ → EndedRun → Type 0
 HasBoardsBy plan f loops e = AreBoardsBy plan f loops e.boards
 

@@ -27,7 +27,7 @@ epoch_board f loops e = record {
   seats = loops + 1;
 }
 
--- A SEATING of a plan by so many loops beside the driver's own: the driver's own has the last seat,
+-- A SEATING of a plan by `loops` loops beside the driver's own: the driver's own has the last seat,
 -- and on it is each node that drives in some epoch
 pub record IsSeating (plan : Plan) (f : ℕ → ℕ) (loops : ℕ) : Type 0 where
   pub few : loops ≤ nodes_limit

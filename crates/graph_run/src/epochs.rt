@@ -1,17 +1,12 @@
 //! All epochs of a plan, by the driver's thread.
-ghost use Rattle.std.specs.Prelude.{◌≡◌, ◌+◌, All, length};
+ghost use Rattle.std.specs.Prelude.{All, length};
 ghost use Rattle.atomic_table.specs.Seated.{TableId};
 ghost use Rattle.board_rule.specs.Layout.{BoardLayout};
-ghost use Rattle.board_rule.specs.OnBoard.{layout};
 ghost use Rattle.data_loop.specs.LoopsOnBoards.{IsAtEnd};
 ghost use Rattle.data_loop.specs.LoopWay.{IsDriverWay};
-ghost use Rattle.driver_cycle.specs.Epochs.{IsThread};
-ghost use Rattle.driver_cycle.specs.Leading.{IsBetween};
-ghost use Rattle.driver_cycle.specs.Rounds.{HasLooked};
-ghost use Rattle.driver_cycle.specs.Settling as settling;
 ghost use Rattle.driver_cycle.specs.Settling.{AreEach};
-ghost use Rattle.graph_run.specs.Leads.{HasLedAll, HaveLed, HaveLooked};
-ghost use Rattle.graph_run.specs.LoopsOnPlan.{IsReady, HasDrivers, HasNoDriver, AreFirstLeads, HasCome, HasPassed, HasEntered};
+ghost use Rattle.graph_run.specs.Leads.{HaveLed, HaveLooked};
+ghost use Rattle.graph_run.specs.LoopsOnPlan.{IsReady, HasDrivers, HasNoDriver, AreFirstLeads, HasCome, HasEntered};
 
 use board_rule::{Board, DriverSeat};
 use data_loop::{LoopState, Way, Ways};
@@ -29,74 +24,58 @@ fn next_all(states: &mut [LoopState])
     }
 }
 
-// One epoch on its board, after which all loops are in the next.
-fn run_one<R: Wait, G: Gate, K: Ticker>(
-    rt: &R,
-    board: &Board,
-    seat: &mut DriverSeat,
-    own: &mut LoopState,
-    adopted: &mut [LoopState],
-    ways: &Ways,
-    way: &mut Way,
-    ticker: &mut K,
-    gate: &G,
-)
-    requires thread { IsThread board.now seat.old own.old adopted.old }
-    requires between { IsBetween (layout board.now) seat.old.knows }
-    requires led { All (settling.HasLedAll (layout board.now)) adopted.old }
-    requires way { IsDriverWay ways.now way.old }
-    ensures led { HasLedAll board.now seat.old seat.new }
-    ensures own { HasPassed own.old own.new }
-    ensures adopted { AreEach HasPassed adopted.old adopted.new }
-    ensures looked { HasLooked seat.old seat.new (K.ticks ticker.old) (K.ticks ticker.new) }
-    ensures way { IsDriverWay ways.now way.new }
-{
-    run_epoch(rt, board, seat, own, adopted, ways, way, ticker, gate);
-    own.next_epoch();
-    next_all(adopted);
+/// What the driver's thread goes by through a run: the boards in the order of the epochs, the
+/// queues of the loops, and the gate of the nodes' turns.
+#[derive(Drop)]
+pub struct Course<'a, G> {
+    pub boards: &'a Items<Board>,
+    pub ways: &'a Ways,
+    pub gate: &'a G,
 }
 
 /// All epochs of a plan in order, by the driver's thread: each on its board by `run_epoch`, after
 /// which each loop goes into the next. `own` has the drivers; `adopted` are the other loops that
 /// this thread runs, and no node of theirs drives. It may wait. Takes no memory.
-/// Condition: there is one board an epoch, in order, no epoch is begun, the loops have the seats of
-/// these boards, and `way` is the driver's of `ways`.
+/// Condition: the course has one board an epoch, in order, no epoch is begun, the loops have the
+/// seats of these boards, and `way` is the driver's of its ways.
 pub fn run_epochs<R: Wait, G: Gate, K: Ticker>(
     rt: &R,
-    boards: &Items<Board>,
+    course: &Course<'_, G>,
     drivers: &mut [DriverSeat],
     own: &mut LoopState,
     adopted: &mut [LoopState],
-    ways: &Ways,
     way: &mut Way,
     ticker: &mut K,
-    gate: &G,
 )
-    requires own { IsReady boards.now own.old }
+    requires own { IsReady course.now.boards.now own.old }
     requires has { HasDrivers own.old }
-    requires adopted { All (IsReady boards.now) adopted.old }
+    requires adopted { All (IsReady course.now.boards.now) adopted.old }
     requires none { All HasNoDriver adopted.old }
-    requires drivers { AreFirstLeads own.old.score boards.now drivers.old }
-    requires way { IsDriverWay ways.now way.old }
-    ensures own { HasCome (length boards.now) own.old own.new }
-    ensures adopted { AreEach (HasCome (length boards.now)) adopted.old adopted.new }
-    ensures drivers { HaveLed (length boards.now) boards.now drivers.old drivers.new }
+    requires drivers { AreFirstLeads own.old.score course.now.boards.now drivers.old }
+    requires way { IsDriverWay course.now.ways.now way.old }
+    ensures own { HasCome (length course.now.boards.now) own.old own.new }
+    ensures adopted { AreEach (HasCome (length course.now.boards.now))
+        adopted.old adopted.new }
+    ensures drivers { HaveLed (length course.now.boards.now) course.now.boards.now
+        drivers.old drivers.new }
     ensures looked { HaveLooked drivers.old drivers.new
         (K.ticks ticker.old) (K.ticks ticker.new) }
-    ensures way { IsDriverWay ways.now way.new }
+    ensures way { IsDriverWay course.now.ways.now way.new }
 {
-    for k in 0..boards.len() {
-        let board = &boards.as_slice()[k];
-        run_one(
+    for k in 0..course.boards.len() {
+        let board = &course.boards.as_slice()[k];
+        run_epoch(
             rt,
             board,
             &mut drivers[k],
             own,
             adopted,
-            ways,
+            course.ways,
             way,
             ticker,
-            gate,
+            course.gate,
         );
+        own.next_epoch();
+        next_all(adopted);
     }
 }

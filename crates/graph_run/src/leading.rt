@@ -4,7 +4,7 @@ ghost use Rattle.driver_cycle.specs.Settling.{AreEach};
 ghost use Rattle.graph_run.specs.Leads.{HaveLed, HaveLooked};
 ghost use Rattle.graph_run.specs.Threads.{CanRun, CanDrive, HasRun};
 
-use crate::epochs::run_epochs;
+use crate::epochs::{Course, run_epochs};
 use crate::shared::Shared;
 use board_rule::DriverSeat;
 use data_loop::{LoopState, Way};
@@ -53,16 +53,19 @@ pub(crate) fn lead<R: Wait, G: Gate, K: Ticker>(
     } = driving;
     let mut drivers = drivers.into_vec();
     let mut adopted = adopted.into_vec();
+    let course = Course {
+        boards: &shared.boards,
+        ways: &shared.ways,
+        gate,
+    };
     run_epochs(
         rt,
-        &shared.boards,
+        &course,
         drivers.as_mut_slice(),
         &mut own,
         adopted.as_mut_slice(),
-        &shared.ways,
         &mut way,
         ticker,
-        gate,
     );
     Led {
         own,

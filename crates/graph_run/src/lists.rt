@@ -1,6 +1,6 @@
 //! The lists that the loops of a run go through.
 ghost use Rattle.std.specs.Prelude.{◌<◌};
-ghost use Rattle.graph_run.specs.Lists.{HasPlaced};
+ghost use Rattle.graph_run.specs.working.Lists.{HasPlaced};
 
 use crate::starting::{LoopHandle, Start};
 use data_loop::LoopState;

@@ -11,6 +11,7 @@ ghost use Rattle.graph_run.specs.PlanRun.{IsRunOf};
 use crate::ended::{EndedRun, finish_run};
 use crate::preparing::{Prepared, prepare};
 use crate::rooms::{lists_for, rooms_for};
+use crate::roster::Roster;
 use crate::scope::{Crew, Ended, run_threads};
 use crate::starts::{AnyStarts, Starts};
 use board_rule::Closed;
@@ -20,51 +21,50 @@ use std::sync::Wait;
 use std::thread::Threads;
 use wav_files::{Outcome, WavIn};
 
-/// Runs a plan on boards, one an epoch, by the caller's thread, which drives, and by `loops`
-/// threads beside it. A loop that `adopt` names, or whose start is refused, by the system or by
-/// `starts`, is run by the driver's thread. It answers what the sinks and meters have kept, what
+/// Runs a plan on boards, one an epoch, by the caller's thread, which drives, and by the threads of
+/// the roster beside it. A loop that it names, or whose start is refused, by the system or by the
+/// roster, is run by the driver's thread. It answers what the sinks and meters have kept, what
 /// happened, and the closed boards.
 ///
 /// All memory is taken before the first cycle. It may wait.
-/// Condition: the plan with its waves is sound, there are at most 16 loops, and `adopt` has an
+/// Condition: the plan with its waves is sound, the roster has at most 16 loops, and its `adopt` an
 /// entry for each.
 pub fn run_plan_with<R: Threads + Wait + Sync, G: Gate + Sync, K: Ticker, S: Starts>(
     rt: &R,
     alloc: Global,
     plan: &Plan,
     waves: &Items<WavIn>,
-    loops: u32,
-    adopt: &[bool],
+    roster: &Roster<'_, S>,
     gate: &G,
     ticker: &mut K,
-    starts: &S,
 ) -> Result<(Outcome, Items<Closed>), Memory>
     requires sound { IsSoundPlan plan.now }
     requires fit { WavesFit plan.now waves.now }
-    requires few { loops ≤ loops_limit }
-    requires adopt { length adopt.now ≡ loops }
+    requires few { roster.now.loops ≤ loops_limit }
+    requires adopt { length roster.now.adopt.now ≡ roster.now.loops }
     ensures sinks { IfOk result (λ r. r.0.sinks ≡ rendered_sinks plan.now waves.now) }
     ensures peaks { IfOk result (λ r. r.0.peaks ≡ rendered_peaks plan.now waves.now) }
     // Each node is on the seat of its loop.
-    ensures run { IfOk result (λ r. IsRunOf plan.now waves.now (loop_of plan.now loops) loops
-        r.0.history r.1 (K.ticks ticker.old) (K.ticks ticker.new)) }
+    ensures run { IfOk result (λ r. IsRunOf plan.now waves.now
+        (loop_of plan.now roster.now.loops) roster.now.loops r.0.history r.1
+        (K.ticks ticker.old) (K.ticks ticker.new)) }
     // What the sinks keep can be written as WAV files.
     ensures waves { IfOk result (λ r. All (λ kept. IsWave kept.wav) r.0.sinks) }
     ensures later { K.ticks ticker.old ≤ K.ticks ticker.new }
 {
-    let lists = lists_for(alloc, loops as usize)?;
+    let lists = lists_for(alloc, roster.loops as usize)?;
     let rooms = rooms_for(alloc, plan)?;
     let Prepared {
         shared,
         loops: others,
         driving,
-    } = prepare(alloc, plan, waves, loops)?;
+    } = prepare(alloc, plan, waves, roster.loops)?;
     let crew = Crew {
         loops: others,
         driving,
         lists,
     };
-    let Ended { done, drivers } = run_threads(rt, gate, &shared, starts, crew, adopt, ticker);
+    let Ended { done, drivers } = run_threads(rt, gate, &shared, roster, crew, ticker);
     let ended = EndedRun {
         boards: shared.boards,
         drivers,
@@ -104,15 +104,11 @@ pub fn run_plan<R: Threads + Wait + Sync, G: Gate + Sync, K: Ticker>(
     ensures waves { IfOk result (λ r. All (λ kept. IsWave kept.wav) r.0.sinks) }
     ensures later { K.ticks ticker.old ≤ K.ticks ticker.new }
 {
-    run_plan_with(
-        rt,
-        alloc,
-        plan,
-        waves,
+    let starts = AnyStarts::new();
+    let roster = Roster {
         loops,
         adopt,
-        gate,
-        ticker,
-        &AnyStarts::new(),
-    )
+        starts: &starts,
+    };
+    run_plan_with(rt, alloc, plan, waves, &roster, gate, ticker)
 }

@@ -3,7 +3,7 @@ ghost use Rattle.std.specs.Prelude.{◌≡◌, ◌≤◌, IfOk, length, map};
 ghost use Rattle.pw_base.specs.SoundPlan.{IsSoundPlan};
 ghost use Rattle.cycle_model.specs.WavesFit.{WavesFit};
 ghost use Rattle.ready_queues.specs.Lanes.{loops_limit};
-ghost use Rattle.graph_run.specs.Prepared.{IsPrepared};
+ghost use Rattle.graph_run.specs.working.Prepared.{IsPrepared};
 
 use crate::boards::boards_of;
 use crate::leading::Driving;

@@ -3,7 +3,7 @@ ghost use Rattle.std.specs.Prelude.{◌≡◌, ◌≤◌, IfOk, IfSome};
 ghost use Rattle.pw_base.specs.Layout.{event_count};
 ghost use Rattle.pw_base.specs.PlanSums.{events_of};
 ghost use Rattle.ready_queues.specs.Lanes.{loops_limit};
-ghost use Rattle.graph_run.specs.Lists.{AreEmpty, HaveRooms};
+ghost use Rattle.graph_run.specs.working.Lists.{AreEmpty, HaveRooms};
 ghost use Rattle.graph_run.specs.Rooms.{AreRooms};
 
 use crate::lists::Lists;

@@ -2,11 +2,12 @@
 ghost use Rattle.std.specs.Prelude.{◌≡◌, length};
 ghost use Rattle.graph_run.specs.Leads.{HaveLed, HaveLooked};
 ghost use Rattle.graph_run.specs.Outcomes.{AreDone};
-ghost use Rattle.graph_run.specs.Prepared.{IsCrew};
+ghost use Rattle.graph_run.specs.working.Prepared.{IsCrew};
 
 use crate::joining::{append_all, join_all};
 use crate::leading::{Driving, Led, lead};
 use crate::lists::Lists;
+use crate::roster::Roster;
 use crate::shared::{LoopWay, Shared};
 use crate::starting::start_all;
 use crate::starts::Starts;
@@ -39,13 +40,12 @@ fn run_within<'s, E, R: Threads + Wait + Sync, G: Gate + Sync, K: Ticker, S: Sta
     gate: &'s G,
     scope: &Scope<'s, E>,
     shared: &'s Shared,
-    starts: &S,
+    roster: &Roster<'_, S>,
     crew: Crew,
-    adopt: &[bool],
     ticker: &mut K,
 ) -> Ended
     requires crew { IsCrew shared.now crew }
-    requires adopt { length adopt.now ≡ length crew.loops }
+    requires adopt { length roster.now.adopt.now ≡ length crew.loops }
     ensures done { AreDone shared.now.score.plan.value shared.now.score.waves.value result.done }
     ensures drivers { HaveLed (length shared.now.boards) shared.now.boards
         crew.driving.drivers result.drivers }
@@ -57,7 +57,7 @@ fn run_within<'s, E, R: Threads + Wait + Sync, G: Gate + Sync, K: Ticker, S: Sta
         driving,
         mut lists,
     } = crew;
-    start_all(rt, gate, scope, shared, starts, loops, adopt, &mut lists);
+    start_all(rt, gate, scope, shared, roster, loops, &mut lists);
     let Lists {
         running,
         adopted,
@@ -81,13 +81,12 @@ fn run_scoped<'t, R: Threads + Wait + Sync, G: Gate + Sync, K: Ticker, S: Starts
     rt: &R,
     gate: &G,
     shared: &Shared,
-    starts: &S,
+    roster: &Roster<'_, S>,
     crew: Crew,
-    adopt: &[bool],
     ticker: &'t mut K,
 ) -> (Ended, &'t mut K)
     requires crew { IsCrew shared.now crew }
-    requires adopt { length adopt.now ≡ length crew.loops }
+    requires adopt { length roster.now.adopt.now ≡ length crew.loops }
     ensures done { AreDone shared.now.score.plan.value shared.now.score.waves.value
         result.0.done }
     ensures drivers { HaveLed (length shared.now.boards) shared.now.boards
@@ -101,7 +100,7 @@ fn run_scoped<'t, R: Threads + Wait + Sync, G: Gate + Sync, K: Ticker, S: Starts
         rt,
         move |scope| -> (Ended, &mut K)
             requires crew { IsCrew shared.now crew }
-            requires adopt { length adopt.now ≡ length crew.loops }
+            requires adopt { length roster.now.adopt.now ≡ length crew.loops }
             ensures done { AreDone shared.entry.now.score.plan.value
                 shared.entry.now.score.waves.value result.0.done }
             ensures drivers { HaveLed (length shared.entry.now.boards) shared.entry.now.boards
@@ -110,32 +109,31 @@ fn run_scoped<'t, R: Threads + Wait + Sync, G: Gate + Sync, K: Ticker, S: Starts
                 (K.ticks ticker.entry.now) (K.ticks result.1.now) }
             ensures same { result.1.ghost_name ≡ ticker.entry.ghost_name }
         {
-            let ended = run_within(rt, gate, scope, shared, starts, crew, adopt, ticker);
+            let ended = run_within(rt, gate, scope, shared, roster, crew, ticker);
             (ended, ticker)
         },
     )
 }
 
-/// All epochs of a plan by all loops, each in a thread of its own but for those that `adopt` names
-/// and those whose start is refused, by the system or by `starts`: these are run by the caller's
-/// thread, which drives. Takes no memory but for the threads.
+/// All epochs of a plan by all loops, each in a thread of its own but for those that the roster
+/// names and those whose start is refused, by the system or by the roster: these are run by the
+/// caller's thread, which drives. Takes no memory but for the threads.
 pub(crate) fn run_threads<R: Threads + Wait + Sync, G: Gate + Sync, K: Ticker, S: Starts>(
     rt: &R,
     gate: &G,
     shared: &Shared,
-    starts: &S,
+    roster: &Roster<'_, S>,
     crew: Crew,
-    adopt: &[bool],
     ticker: &mut K,
 ) -> Ended
     requires crew { IsCrew shared.now crew }
-    requires adopt { length adopt.now ≡ length crew.loops }
+    requires adopt { length roster.now.adopt.now ≡ length crew.loops }
     ensures done { AreDone shared.now.score.plan.value shared.now.score.waves.value result.done }
     ensures drivers { HaveLed (length shared.now.boards) shared.now.boards
         crew.driving.drivers result.drivers }
     ensures looked { HaveLooked crew.driving.drivers result.drivers
         (K.ticks ticker.old) (K.ticks ticker.new) }
 {
-    let (ended, _ticker) = run_scoped(rt, gate, shared, starts, crew, adopt, ticker);
+    let (ended, _ticker) = run_scoped(rt, gate, shared, roster, crew, ticker);
     ended
 }

@@ -2,9 +2,10 @@
 ghost use Rattle.std.specs.Prelude.{◌≡◌, ◌^◌, ◌<◌, ◌≤◌, All, IfOk, IfErr, false, length};
 ghost use Rattle.ready_queues.specs.Lanes.{loops_limit};
 ghost use Rattle.graph_run.specs.Threads.{CanStart, HasRun, IsStart, Returns};
-ghost use Rattle.graph_run.specs.Lists.{AreEmpty, HaveRooms, AreListed, HasLoop, size};
+ghost use Rattle.graph_run.specs.working.Lists.{AreEmpty, HaveRooms, AreListed, HasLoop, size};
 
 use crate::lists::Lists;
+use crate::roster::Roster;
 use crate::shared::{LoopWay, Shared};
 use crate::starts::Starts;
 use data_loop::{LoopState, run_all};
@@ -139,19 +140,18 @@ fn start_unless<'s, E, R: Threads + Wait + Sync, G: Gate + Sync, S: Starts>(
     start_one(rt, gate, scope, shared, starts, given)
 }
 
-// Starts all loops, but for those that `adopt` names. Takes no memory but for the threads.
+// Starts all loops, but for those that the roster names. Takes no memory but for the threads.
 pub(crate) fn start_all<'s, E, R: Threads + Wait + Sync, G: Gate + Sync, S: Starts>(
     rt: &'s R,
     gate: &'s G,
     scope: &Scope<'s, E>,
     shared: &'s Shared,
-    starts: &S,
+    roster: &Roster<'_, S>,
     loops: Items<LoopWay>,
-    adopt: &[bool],
     lists: &mut Lists,
 )
     requires loops { All (CanStart shared.now) loops }
-    requires adopt { length adopt.now ≡ length loops }
+    requires adopt { length roster.now.adopt.now ≡ length loops }
     requires empty { AreEmpty lists.old }
     requires rooms { HaveRooms (length loops) lists.old }
     ensures listed { AreListed shared.now lists.new }
@@ -161,7 +161,8 @@ pub(crate) fn start_all<'s, E, R: Threads + Wait + Sync, G: Gate + Sync, S: Star
 {
     let mut k = 0;
     for given in loops.into_vec() {
-        lists.place(start_unless(rt, gate, scope, shared, starts, adopt[k], given));
+        let named = roster.adopt[k];
+        lists.place(start_unless(rt, gate, scope, shared, roster.starts, named, given));
         k += 1;
     }
 }

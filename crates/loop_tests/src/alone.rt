@@ -13,7 +13,8 @@ use crate::work::{Work, WorkRow, work_of};
 use board_rule::{Board, DriverSeat};
 use data_loop::{LoopState, Way, Ways};
 use graph_run::{
-    Seating, boards_of, finish_run, loop_seating, loops_of, prepare_alone, run_alone, run_epochs,
+    Course, Seating, boards_of, finish_run, loop_seating, loops_of, prepare_alone, run_alone,
+    run_epochs,
 };
 use pw_base::{Every, Items, Kind, Memory, Open, Plan};
 use std::alloc::Global;
@@ -39,17 +40,13 @@ fn run_open<R: Wait>(
     ensures own { HasCome (length boards.now) own.old own.new }
 {
     let mut ticker = Every::new(2);
-    run_epochs(
-        rt,
+    let gate = Open::new();
+    let course = Course {
         boards,
-        drivers,
-        own,
-        adopted,
         ways,
-        way,
-        &mut ticker,
-        &Open::new(),
-    );
+        gate: &gate,
+    };
+    run_epochs(rt, &course, drivers, own, adopted, way, &mut ticker);
 }
 
 // The ways of a run whose nodes all belong to the driver's thread.

@@ -3,7 +3,7 @@ ghost use Rattle.loop_tests.specs.Work.{CanRun};
 
 use crate::runs::{Kept, have_kept};
 use crate::work::{Work, WorkRow, work_of};
-use graph_run::{Starts, run_plan_with};
+use graph_run::{Roster, Starts, run_plan_with};
 use pw_base::{Every, Gate, Meet, Open};
 use std::alloc::Global;
 use std::sync::Wait;
@@ -58,21 +58,15 @@ fn run_refusing<R: Threads + Wait + Sync, G: Gate + Sync>(
     if adopt.len() > 16 {
         return None;
     }
-    let loops = adopt.len() as u32;
     let mut ticker = Every::new(2);
     let starts = Refusing { number };
-    let (plan, waves) = (&work.plan, &work.waves);
-    match run_plan_with(
-        rt,
-        alloc,
-        plan,
-        waves,
-        loops,
+    let roster = Roster {
+        loops: adopt.len() as u32,
         adopt,
-        gate,
-        &mut ticker,
-        &starts,
-    ) {
+        starts: &starts,
+    };
+    let (plan, waves) = (&work.plan, &work.waves);
+    match run_plan_with(rt, alloc, plan, waves, &roster, gate, &mut ticker) {
         Ok((outcome, _closed)) => Some(outcome),
         Err(_memory) => None,
     }

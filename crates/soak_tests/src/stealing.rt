@@ -4,7 +4,7 @@ ghost use Rattle.soak_tests.specs.Work.{CanRun};
 use crate::plain::{Played, fold_of};
 use crate::soak::has_played;
 use crate::work::{Work, work_of};
-use graph_run::AnyStarts;
+use graph_run::{AnyStarts, Roster};
 use pw_base::{Every, Open};
 use std::alloc::Global;
 use std::sync::Wait;
@@ -24,17 +24,13 @@ fn taken_playing<R: Threads + Wait + Sync>(
 {
     let mut ticker = Every::new(2);
     let (plan, waves, adopt) = (&work.plan, &work.waves, [false; 4]);
-    match run_stealing_with(
-        rt,
-        alloc,
-        plan,
-        waves,
-        4,
-        adopt.as_slice(),
-        &Open::new(),
-        &mut ticker,
-        &AnyStarts::new(),
-    ) {
+    let (gate, starts) = (Open::new(), AnyStarts::new());
+    let roster = Roster {
+        loops: 4,
+        adopt: adopt.as_slice(),
+        starts: &starts,
+    };
+    match run_stealing_with(rt, alloc, plan, waves, &roster, &gate, &mut ticker) {
         Ok((outcome, closed, taken)) => {
             if closed.len() == 3 && has_played(&outcome, wanted) {
                 Some(taken)

@@ -7,7 +7,7 @@ ghost use Rattle.soak_tests.specs.Work.{CanRun};
 use crate::work::{Work, work_of};
 use board_rule::{Board, DriverSeat};
 use data_loop::{LoopState, Way, Ways, run_all};
-use graph_run::{boards_of, loop_seating, loops_of, run_epochs, ways_of};
+use graph_run::{Course, boards_of, loop_seating, loops_of, run_epochs, ways_of};
 use pw_base::{Every, Items, Memory, Open};
 use std::alloc::Global;
 use std::process::Abort;
@@ -133,16 +133,20 @@ fn drive<R: Wait>(rt: &R, common: &Common, own: LoopState, drivers: Items<Driver
     let mut drivers = drivers;
     let mut way = way;
     let mut ticker = Every::new(2);
+    let gate = Open::new();
+    let course = Course {
+        boards: &common.boards,
+        ways: &common.ways,
+        gate: &gate,
+    };
     run_epochs(
         rt,
-        &common.boards,
+        &course,
         drivers.as_mut_slice(),
         &mut own,
         &mut [],
-        &common.ways,
         &mut way,
         &mut ticker,
-        &Open::new(),
     );
 }
 

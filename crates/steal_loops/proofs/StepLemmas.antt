@@ -9,7 +9,7 @@ use Rattle.data_loop.specs.declared.stage.Stage.{Stage}
 use Rattle.data_loop.specs.Loops.{IsBetweenEpochs}
 use Rattle.data_loop.specs.LoopsOnBoards.{IsOnBoard, IsSameBut, IsNextOf, IsFirstSeat}
 use Rattle.data_loop.specs.LoopWay.{IsAmid}
-use Rattle.steal_shelf.specs.CellSteps.{HasStepped}
+use Rattle.steal_shelf.specs.working.CellSteps.{HasStepped}
 
 module _ (boards : List Board) (s u : LoopState) (a : IsAmid boards s) (same : IsSameBut s u) where
   amid_on : IsOnBoard (layout a.board) (table_of a.board) u → IsAmid boards u

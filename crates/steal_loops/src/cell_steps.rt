@@ -5,7 +5,7 @@ ghost use Rattle.data_loop.specs.Loops.{plan_of};
 ghost use Rattle.data_loop.specs.LoopsOnBoards.{IsOnBoard};
 ghost use Rattle.data_loop.specs.LoopWay.{HasNoDriver, IsUnderWay};
 ghost use Rattle.data_loop.specs.Settling.{HasHadTurns, HasSettled};
-ghost use Rattle.steal_shelf.specs.CellSteps.{HasStepped};
+ghost use Rattle.steal_shelf.specs.working.CellSteps.{HasStepped};
 
 use board_rule::Board;
 use data_loop::{Did, LoopState};

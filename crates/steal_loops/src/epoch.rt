@@ -14,8 +14,8 @@ ghost use Rattle.steal_loops.specs.working.Takers.{IsPatrol};
 
 use crate::patrol::{Patrol, end_round};
 use crate::ready::visit_ready;
-use crate::shared::Shared;
-use board_rule::{Board, BoardSeat, DriverSeat};
+use crate::site::Site;
+use board_rule::{BoardSeat, DriverSeat};
 use data_loop::{LoopState, Way};
 use driver_cycle::{begin_next, lead_once, send_woken, settle, turn_one};
 use pw_base::{Gate, Ticker};
@@ -24,150 +24,129 @@ use std::sync::Wait;
 // One round: a turn of the own loop, visits of the cells that are ready, and one claim of the
 // driver's node. Whether the cycle has ended.
 fn go_round<R: Wait, G: Gate, K: Ticker>(
-    rt: &R,
-    gate: &G,
-    shared: &Shared,
-    board: &Board,
+    at: &Site<'_, R, G>,
     seat: &mut DriverSeat,
     own: &mut LoopState,
     patrol: &mut Patrol,
     checked: &mut bool,
     ticker: &mut K,
 ) -> bool
-    requires thread { IsThread board.now seat.old own.old [] }
-    requires waits { IsWaiting (layout board.now) seat.old.knows }
+    requires thread { IsThread at.now.board.now seat.old own.old [] }
+    requires waits { IsWaiting (layout at.now.board.now) seat.old.knows }
     requires checked { checked.old ≡ seat.old.knows.lead.checked }
-    requires cells { AreCells shared.now }
-    requires patrol { IsPatrol shared.now patrol.old }
-    ensures gone { HasGoneOn board.now seat.old own.old [] (K.ticks ticker.old)
+    requires cells { AreCells at.now.shared.now }
+    requires patrol { IsPatrol at.now.shared.now patrol.old }
+    ensures gone { HasGoneOn at.now.board.now seat.old own.old [] (K.ticks ticker.old)
         seat.new own.new [] (K.ticks ticker.new) }
-    ensures round { HasGoneRound result (layout board.now) seat.old.knows checked.new
+    ensures round { HasGoneRound result (layout at.now.board.now) seat.old.knows checked.new
         seat.new.knows }
-    ensures patrol { IsPatrol shared.now patrol.new }
+    ensures patrol { IsPatrol at.now.shared.now patrol.new }
 {
-    let own_ran = turn_one(rt, board, own, &shared.ways, &mut patrol.taker.way, gate);
-    shared.signs.set(own.woke());
-    let cell_ran = visit_ready(rt, gate, shared, &mut patrol.taker);
-    let ended = lead_once(board, seat, own, checked, ticker, gate);
-    end_round(rt, gate, shared, patrol, own_ran | cell_ran | ended);
+    let ways = &at.shared.ways;
+    let own_ran = turn_one(at.rt, at.board, own, ways, &mut patrol.taker.way, at.gate);
+    at.shared.signs.set(own.woke());
+    let cell_ran = visit_ready(at.rt, at.gate, at.shared, &mut patrol.taker);
+    let ended = lead_once(at.board, seat, own, checked, ticker, at.gate);
+    end_round(
+        at.rt,
+        at.gate,
+        at.shared,
+        patrol,
+        own_ran | cell_ran | ended,
+    );
     ended
 }
 
 // The rounds of a cycle that is begun.
 fn run_cycle<R: Wait, G: Gate, K: Ticker>(
-    rt: &R,
-    gate: &G,
-    shared: &Shared,
-    board: &Board,
+    at: &Site<'_, R, G>,
     seat: &mut DriverSeat,
     own: &mut LoopState,
     patrol: &mut Patrol,
     ticker: &mut K,
 )
-    requires thread { IsThread board.now seat.old own.old [] }
-    requires waits { IsWaiting (layout board.now) seat.old.knows }
+    requires thread { IsThread at.now.board.now seat.old own.old [] }
+    requires waits { IsWaiting (layout at.now.board.now) seat.old.knows }
     requires unchecked { seat.old.knows.lead.checked ≡ false }
-    requires cells { AreCells shared.now }
-    requires patrol { IsPatrol shared.now patrol.old }
-    ensures gone { HasGoneOn board.now seat.old own.old [] (K.ticks ticker.old)
+    requires cells { AreCells at.now.shared.now }
+    requires patrol { IsPatrol at.now.shared.now patrol.old }
+    ensures gone { HasGoneOn at.now.board.now seat.old own.old [] (K.ticks ticker.old)
         seat.new own.new [] (K.ticks ticker.new) }
-    ensures between { IsBetween (layout board.now) seat.new.knows }
+    ensures between { IsBetween (layout at.now.board.now) seat.new.knows }
     ensures cycle { seat.new.knows.lead.cycle ≡ seat.old.knows.lead.cycle + 1 }
-    ensures patrol { IsPatrol shared.now patrol.new }
+    ensures patrol { IsPatrol at.now.shared.now patrol.new }
 {
     let mut checked = false;
-    for _ in rt.forever() {
-        if go_round(
-            rt,
-            gate,
-            shared,
-            board,
-            seat,
-            own,
-            patrol,
-            &mut checked,
-            ticker,
-        ) {
+    for _ in at.rt.forever() {
+        if go_round(at, seat, own, patrol, &mut checked, ticker) {
             break;
         }
     }
 }
 
 // Begins the next cycle, if one is left, and sends what the beginning woke.
-fn begin_sent<R: Wait>(
-    rt: &R,
-    shared: &Shared,
-    board: &Board,
-    seat: &mut DriverSeat,
-    way: &mut Way,
-) -> bool
-    requires table { IsOn board.now seat.old.table }
-    requires between { IsBetween (layout board.now) seat.old.knows }
-    requires way { IsDriverWay shared.now.ways way.old }
-    ensures begun { BeginsNext (layout board.now) seat.old.knows result seat.new.knows }
-    ensures sent { SendsBegun result shared.now.ways seat.new.knows way.old way.new }
-    ensures driving { IsDriving (layout board.now) seat.new.knows result }
+fn begin_sent<R: Wait, G>(at: &Site<'_, R, G>, seat: &mut DriverSeat, way: &mut Way) -> bool
+    requires table { IsOn at.now.board.now seat.old.table }
+    requires between { IsBetween (layout at.now.board.now) seat.old.knows }
+    requires way { IsDriverWay at.now.shared.now.ways way.old }
+    ensures begun { BeginsNext (layout at.now.board.now) seat.old.knows result seat.new.knows }
+    ensures sent { SendsBegun result at.now.shared.now.ways seat.new.knows way.old way.new }
+    ensures driving { IsDriving (layout at.now.board.now) seat.new.knows result }
     ensures unchecked { seat.new.knows.lead.checked ≡ false }
     ensures table { seat.new.table ≡ seat.old.table }
-    ensures leads { (score : Score) (k : ℕ) → IsLeading score k board.now seat.old
-        → IsLeading score k board.now seat.new }
-    ensures way { IsDriverWay shared.now.ways way.new }
+    ensures leads { (score : Score) (k : ℕ) → IsLeading score k at.now.board.now seat.old
+        → IsLeading score k at.now.board.now seat.new }
+    ensures way { IsDriverWay at.now.shared.now.ways way.new }
 {
-    if !begin_next(board, seat) {
+    if !begin_next(at.board, seat) {
         return false;
     }
     let woke = seat.woke();
-    shared.signs.set(woke);
-    send_woken(rt, &shared.ways, way, woke);
+    at.shared.signs.set(woke);
+    send_woken(at.rt, &at.shared.ways, way, woke);
     true
 }
 
 // The cycles that are left of the epoch.
 fn run_cycles<R: Wait, G: Gate, K: Ticker>(
-    rt: &R,
-    gate: &G,
-    shared: &Shared,
-    board: &Board,
+    at: &Site<'_, R, G>,
     seat: &mut DriverSeat,
     own: &mut LoopState,
     patrol: &mut Patrol,
     ticker: &mut K,
 )
-    requires thread { IsThread board.now seat.old own.old [] }
-    requires between { IsBetween (layout board.now) seat.old.knows }
-    requires cells { AreCells shared.now }
-    requires patrol { IsPatrol shared.now patrol.old }
-    ensures gone { HasGoneOn board.now seat.old own.old [] (K.ticks ticker.old)
+    requires thread { IsThread at.now.board.now seat.old own.old [] }
+    requires between { IsBetween (layout at.now.board.now) seat.old.knows }
+    requires cells { AreCells at.now.shared.now }
+    requires patrol { IsPatrol at.now.shared.now patrol.old }
+    ensures gone { HasGoneOn at.now.board.now seat.old own.old [] (K.ticks ticker.old)
         seat.new own.new [] (K.ticks ticker.new) }
-    ensures ended { HasEndedAll (layout board.now) seat.new.knows }
-    ensures patrol { IsPatrol shared.now patrol.new }
+    ensures ended { HasEndedAll (layout at.now.board.now) seat.new.knows }
+    ensures patrol { IsPatrol at.now.shared.now patrol.new }
 {
-    while begin_sent(rt, shared, board, seat, &mut patrol.taker.way) {
-        run_cycle(rt, gate, shared, board, seat, own, patrol, ticker);
+    while begin_sent(at, seat, &mut patrol.taker.way) {
+        run_cycle(at, seat, own, patrol, ticker);
     }
 }
 
 /// One epoch on its board, after which the own loop is in the next. The cells go on by themselves.
 pub(crate) fn run_epoch<R: Wait, G: Gate, K: Ticker>(
-    rt: &R,
-    gate: &G,
-    shared: &Shared,
-    board: &Board,
+    at: &Site<'_, R, G>,
     seat: &mut DriverSeat,
     own: &mut LoopState,
     patrol: &mut Patrol,
     ticker: &mut K,
 )
-    requires thread { IsThread board.now seat.old own.old [] }
-    requires between { IsBetween (layout board.now) seat.old.knows }
-    requires cells { AreCells shared.now }
-    requires patrol { IsPatrol shared.now patrol.old }
-    ensures led { HasLedAll board.now seat.old seat.new }
+    requires thread { IsThread at.now.board.now seat.old own.old [] }
+    requires between { IsBetween (layout at.now.board.now) seat.old.knows }
+    requires cells { AreCells at.now.shared.now }
+    requires patrol { IsPatrol at.now.shared.now patrol.old }
+    ensures led { HasLedAll at.now.board.now seat.old seat.new }
     ensures own { HasPassed own.old own.new }
     ensures looked { HasLooked seat.old seat.new (K.ticks ticker.old) (K.ticks ticker.new) }
-    ensures patrol { IsPatrol shared.now patrol.new }
+    ensures patrol { IsPatrol at.now.shared.now patrol.new }
 {
-    run_cycles(rt, gate, shared, board, seat, own, patrol, ticker);
-    settle(rt, board, own, gate);
+    run_cycles(at, seat, own, patrol, ticker);
+    settle(at.rt, at.board, own, at.gate);
     own.next_epoch();
 }

@@ -10,6 +10,7 @@ ghost use Rattle.steal_loops.specs.working.Takers.{IsPatrol, IsDriverTaker};
 use crate::epoch::run_epoch;
 use crate::patrol::Patrol;
 use crate::shared::Shared;
+use crate::site::Site;
 use crate::taker::Taker;
 use board_rule::DriverSeat;
 use crossbeam_utils::Backoff;
@@ -58,16 +59,13 @@ fn run_epochs<R: Wait, G: Gate, K: Ticker>(
 {
     for k in 0..shared.boards.len() {
         let board = &shared.boards.as_slice()[k];
-        run_epoch(
+        let at = Site {
             rt,
             gate,
             shared,
             board,
-            &mut drivers[k],
-            own,
-            patrol,
-            ticker,
-        );
+        };
+        run_epoch(&at, &mut drivers[k], own, patrol, ticker);
     }
 }
 

@@ -19,6 +19,7 @@ mod rounds;
 mod scope;
 mod shared;
 mod signs;
+mod site;
 mod starting;
 mod stealing_run;
 mod taker;

@@ -11,7 +11,7 @@ use crate::starting::{WorkerHandle, join_all, start_all};
 use crate::taker::Taker;
 use board_rule::DriverSeat;
 use data_loop::LoopState;
-use graph_run::Starts;
+use graph_run::{Roster, Starts};
 use pw_base::{Gate, Items, Room, Ticker};
 use std::sync::Wait;
 use std::thread;
@@ -44,13 +44,12 @@ fn run_within<'s, E, R: Threads + Wait + Sync, G: Gate + Sync, K: Ticker, S: Sta
     gate: &'s G,
     scope: &Scope<'s, E>,
     shared: &'s Shared,
-    starts: &S,
+    roster: &Roster<'_, S>,
     crew: Crew,
-    adopt: &[bool],
     ticker: &mut K,
 ) -> Ended
     requires crew { IsCrew shared.now crew }
-    requires adopt { length adopt.now ≡ length crew.workers }
+    requires adopt { length roster.now.adopt.now ≡ length crew.workers }
     ensures done { AreDone shared.now.score.plan.value shared.now.score.waves.value result.done }
     ensures drivers { HaveLed (length shared.now.boards) shared.now.boards
         crew.driving.drivers result.drivers }
@@ -64,16 +63,7 @@ fn run_within<'s, E, R: Threads + Wait + Sync, G: Gate + Sync, K: Ticker, S: Sta
         mut done,
     } = crew;
     let all = workers.len();
-    start_all(
-        rt,
-        gate,
-        scope,
-        shared,
-        starts,
-        workers,
-        adopt,
-        &mut handles,
-    );
+    start_all(rt, gate, scope, shared, roster, workers, &mut handles);
     let handles = handles.into_items();
     let absent = all - handles.len();
     let Driving {
@@ -96,13 +86,12 @@ fn run_scoped<'t, R: Threads + Wait + Sync, G: Gate + Sync, K: Ticker, S: Starts
     rt: &R,
     gate: &G,
     shared: &Shared,
-    starts: &S,
+    roster: &Roster<'_, S>,
     crew: Crew,
-    adopt: &[bool],
     ticker: &'t mut K,
 ) -> (Ended, &'t mut K)
     requires crew { IsCrew shared.now crew }
-    requires adopt { length adopt.now ≡ length crew.workers }
+    requires adopt { length roster.now.adopt.now ≡ length crew.workers }
     ensures done { AreDone shared.now.score.plan.value shared.now.score.waves.value
         result.0.done }
     ensures drivers { HaveLed (length shared.now.boards) shared.now.boards
@@ -116,7 +105,7 @@ fn run_scoped<'t, R: Threads + Wait + Sync, G: Gate + Sync, K: Ticker, S: Starts
         rt,
         move |scope| -> (Ended, &mut K)
             requires crew { IsCrew shared.now crew }
-            requires adopt { length adopt.now ≡ length crew.workers }
+            requires adopt { length roster.now.adopt.now ≡ length crew.workers }
             ensures done { AreDone shared.entry.now.score.plan.value
                 shared.entry.now.score.waves.value result.0.done }
             ensures drivers { HaveLed (length shared.entry.now.boards) shared.entry.now.boards
@@ -125,32 +114,31 @@ fn run_scoped<'t, R: Threads + Wait + Sync, G: Gate + Sync, K: Ticker, S: Starts
                 (K.ticks ticker.entry.now) (K.ticks result.1.now) }
             ensures same { result.1.ghost_name ≡ ticker.entry.ghost_name }
         {
-            let ended = run_within(rt, gate, scope, shared, starts, crew, adopt, ticker);
+            let ended = run_within(rt, gate, scope, shared, roster, crew, ticker);
             (ended, ticker)
         },
     )
 }
 
 /// All epochs of a plan by the caller's thread, which drives, and by all workers, each in a thread
-/// of its own but for those that `adopt` names and those whose start is refused, by the system or
-/// by `starts`. Takes no memory but for the threads.
+/// of its own but for those that the roster names and those whose start is refused, by the system
+/// or by the roster. Takes no memory but for the threads.
 pub(crate) fn run_threads<R: Threads + Wait + Sync, G: Gate + Sync, K: Ticker, S: Starts>(
     rt: &R,
     gate: &G,
     shared: &Shared,
-    starts: &S,
+    roster: &Roster<'_, S>,
     crew: Crew,
-    adopt: &[bool],
     ticker: &mut K,
 ) -> Ended
     requires crew { IsCrew shared.now crew }
-    requires adopt { length adopt.now ≡ length crew.workers }
+    requires adopt { length roster.now.adopt.now ≡ length crew.workers }
     ensures done { AreDone shared.now.score.plan.value shared.now.score.waves.value result.done }
     ensures drivers { HaveLed (length shared.now.boards) shared.now.boards
         crew.driving.drivers result.drivers }
     ensures looked { HaveLooked crew.driving.drivers result.drivers
         (K.ticks ticker.old) (K.ticks ticker.new) }
 {
-    let (ended, _ticker) = run_scoped(rt, gate, shared, starts, crew, adopt, ticker);
+    let (ended, _ticker) = run_scoped(rt, gate, shared, roster, crew, ticker);
     ended
 }

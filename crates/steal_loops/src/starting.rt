@@ -1,12 +1,12 @@
 //! How the workers of a run are started in threads of their own, and joined.
-ghost use Rattle.std.specs.Prelude.{◌≡◌, ◌+◌, ◌<◌, ◌≤◌, All, length, true};
+ghost use Rattle.std.specs.Prelude.{◌≡◌, ◌+◌, ◌<◌, ◌≤◌, All, IsNone, length, true};
 ghost use Rattle.steal_loops.specs.working.Cells.{AreCells};
 ghost use Rattle.steal_loops.specs.working.Takers.{IsWorker};
 
 use crate::shared::Shared;
 use crate::taker::Taker;
 use crate::workers::run_worker;
-use graph_run::Starts;
+use graph_run::{Roster, Starts};
 use pw_base::{Gate, Items, Room};
 use std::sync::Wait;
 use std::thread::{JoinHandle, Scope, Threads};
@@ -45,8 +45,7 @@ fn start_one<'s, E, R: Threads + Wait + Sync, G: Gate + Sync, S: Starts>(
     }
 }
 
-// Starts a worker, unless it is named, if its start is not refused. The list has room for its
-// handle.
+// Starts a worker, unless it is named, if its start is not refused.
 fn start_unless<'s, E, R: Threads + Wait + Sync, G: Gate + Sync, S: Starts>(
     rt: &'s R,
     gate: &'s G,
@@ -55,44 +54,51 @@ fn start_unless<'s, E, R: Threads + Wait + Sync, G: Gate + Sync, S: Starts>(
     starts: &S,
     named: bool,
     taker: Taker,
-    handles: &mut Room<WorkerHandle>,
-)
+) -> Option<WorkerHandle>
     requires cells { AreCells shared.now }
     requires worker { IsWorker shared.now taker }
-    requires room { 0 < handles.old.spare }
-    ensures named { named ≡ true → handles.new ≡ handles.old }
+    ensures { named ≡ true → IsNone result }
+{
+    if named {
+        return None;
+    }
+    start_one(rt, gate, scope, shared, starts, taker)
+}
+
+// Puts the handle of a worker that was started into the list, which has room for it.
+fn place(start: Option<WorkerHandle>, handles: &mut Room<WorkerHandle>)
+    requires { 0 < handles.old.spare }
+    ensures none { IsNone start → handles.new ≡ handles.old }
     ensures few { length handles.new.list ≤ length handles.old.list + 1 }
     ensures room { handles.old.spare ≤ handles.new.spare + 1 }
 {
-    if named {
-        return;
-    }
-    if let Some(handle) = start_one(rt, gate, scope, shared, starts, taker) {
+    if let Some(handle) = start {
         handles.push_spare(handle);
     }
 }
 
-/// Starts all workers but those that `adopt` names. The list has room for all handles. Takes no
+/// Starts all workers but those that the roster names. The list has room for all handles. Takes no
 /// memory but for the threads.
 pub(crate) fn start_all<'s, E, R: Threads + Wait + Sync, G: Gate + Sync, S: Starts>(
     rt: &'s R,
     gate: &'s G,
     scope: &Scope<'s, E>,
     shared: &'s Shared,
-    starts: &S,
+    roster: &Roster<'_, S>,
     workers: Items<Taker>,
-    adopt: &[bool],
     handles: &mut Room<WorkerHandle>,
 )
     requires cells { AreCells shared.now }
     requires workers { All (IsWorker shared.now) workers }
-    requires adopt { length adopt.now ≡ length workers }
+    requires adopt { length roster.now.adopt.now ≡ length workers }
     requires room { length workers ≤ handles.old.spare }
     ensures few { length handles.new.list ≤ length handles.old.list + length workers }
 {
     let mut k = 0;
     for taker in workers.into_vec() {
-        start_unless(rt, gate, scope, shared, starts, adopt[k], taker, handles);
+        let named = roster.adopt[k];
+        let start = start_unless(rt, gate, scope, shared, roster.starts, named, taker);
+        place(start, handles);
         k += 1;
     }
 }

@@ -11,31 +11,29 @@ ghost use Rattle.graph_run.specs.PlanRun.{IsRunOf};
 use crate::preparing::{Prepared, prepare};
 use crate::scope::{Crew, Ended, run_threads};
 use board_rule::Closed;
-use graph_run::{AnyStarts, EndedRun, Starts, finish_run, rooms_for};
+use graph_run::{AnyStarts, EndedRun, Roster, Starts, finish_run, rooms_for};
 use pw_base::{Gate, Items, Memory, Plan, Ticker};
 use std::alloc::Global;
 use std::sync::Wait;
 use std::thread::Threads;
 use wav_files::{Outcome, WavIn};
 
-/// Runs a plan as `run_stealing` does, where `starts` refuses the starts of workers too. It
-/// answers the same, and how many numbers the workers took out of their queues in all, of which
-/// no clause tells anything.
+/// Runs a plan as `run_stealing` does, by the workers of the roster, which refuses starts of its
+/// own. It answers the same, and how many numbers the workers took out of their queues in all, of
+/// which no clause tells anything.
 pub fn run_stealing_with<R: Threads + Wait + Sync, G: Gate + Sync, K: Ticker, S: Starts>(
     rt: &R,
     alloc: Global,
     plan: &Plan,
     waves: &Items<WavIn>,
-    loops: u32,
-    adopt: &[bool],
+    roster: &Roster<'_, S>,
     gate: &G,
     ticker: &mut K,
-    starts: &S,
 ) -> Result<(Outcome, Items<Closed>, u64), Memory>
     requires sound { IsSoundPlan plan.now }
     requires fit { WavesFit plan.now waves.now }
-    requires few { loops ≤ loops_limit }
-    requires adopt { length adopt.now ≡ loops }
+    requires few { roster.now.loops ≤ loops_limit }
+    requires adopt { length roster.now.adopt.now ≡ roster.now.loops }
     ensures sinks { IfOk result (λ r. r.0.sinks ≡ rendered_sinks plan.now waves.now) }
     ensures peaks { IfOk result (λ r. r.0.peaks ≡ rendered_peaks plan.now waves.now) }
     // Each node that never drives is on a seat that no other has.
@@ -47,12 +45,12 @@ pub fn run_stealing_with<R: Threads + Wait + Sync, G: Gate + Sync, K: Ticker, S:
     ensures later { K.ticks ticker.old ≤ K.ticks ticker.new }
 {
     let rooms = rooms_for(alloc, plan)?;
-    let handles = Items::new(alloc).into_room(loops as usize)?;
+    let handles = Items::new(alloc).into_room(roster.loops as usize)?;
     let Prepared {
         shared,
         workers,
         driving,
-    } = prepare(alloc, plan, waves, loops)?;
+    } = prepare(alloc, plan, waves, roster.loops)?;
     let done = Items::new(alloc).into_room(shared.seating.loops() as usize + 1)?;
     let crew = Crew {
         workers,
@@ -64,7 +62,7 @@ pub fn run_stealing_with<R: Threads + Wait + Sync, G: Gate + Sync, K: Ticker, S:
         done,
         drivers,
         taken,
-    } = run_threads(rt, gate, &shared, starts, crew, adopt, ticker);
+    } = run_threads(rt, gate, &shared, roster, crew, ticker);
     let ended = EndedRun::new(shared.boards, drivers, done, rooms);
     let (outcome, closed) = finish_run(alloc, plan, waves, ended);
     Ok((outcome, closed, taken))
@@ -104,16 +102,14 @@ pub fn run_stealing<R: Threads + Wait + Sync, G: Gate + Sync, K: Ticker>(
     ensures waves { IfOk result (λ r. All (λ kept. IsWave kept.wav) r.0.sinks) }
     ensures later { K.ticks ticker.old ≤ K.ticks ticker.new }
 {
-    let (outcome, closed, _taken) = run_stealing_with(
-        rt,
-        alloc,
-        plan,
-        waves,
+    let starts = AnyStarts::new();
+    let roster = Roster {
         loops,
         adopt,
-        gate,
-        ticker,
-        &AnyStarts::new(),
+        starts: &starts,
+    };
+    let (outcome, closed, _taken) = run_stealing_with(
+        rt, alloc, plan, waves, &roster, gate, ticker,
     )?;
     Ok((outcome, closed))
 }

@@ -1,7 +1,7 @@
 //! What a thread does with one cell.
 ghost use Rattle.std.specs.Prelude.{◌≡◌, ◌<◌, IfNone, IfSome, length};
 ghost use Rattle.data_loop.specs.Loops.{plan_of};
-ghost use Rattle.steal_shelf.specs.CellSteps.{HasStepped};
+ghost use Rattle.steal_shelf.specs.working.CellSteps.{HasStepped};
 ghost use Rattle.steal_shelf.specs.Seats.{cells_of, IsAllowed};
 ghost use Rattle.steal_loops.specs.working.Cells.{AreCells};
 ghost use Rattle.steal_loops.specs.working.Takers.{IsTaker};

@@ -2,7 +2,7 @@
 ghost use Rattle.steal_tests.specs.Work.{CanRun};
 
 use crate::work::{Work, WorkRow, work_of};
-use graph_run::Starts;
+use graph_run::{Roster, Starts};
 use pw_base::{Every, Gate, Open, is_legal_history};
 use std::alloc::Global;
 use std::sync::Wait;
@@ -70,21 +70,15 @@ fn run_refusing<R: Threads + Wait + Sync>(
     if adopt.len() > 16 {
         return None;
     }
-    let loops = adopt.len() as u32;
     let mut ticker = Every::new(2);
     let starts = Refusing { number };
-    let (plan, waves, gate) = (&work.plan, &work.waves, Open::new());
-    match run_stealing_with(
-        rt,
-        alloc,
-        plan,
-        waves,
-        loops,
+    let roster = Roster {
+        loops: adopt.len() as u32,
         adopt,
-        &gate,
-        &mut ticker,
-        &starts,
-    ) {
+        starts: &starts,
+    };
+    let (plan, waves, gate) = (&work.plan, &work.waves, Open::new());
+    match run_stealing_with(rt, alloc, plan, waves, &roster, &gate, &mut ticker) {
         Ok((outcome, closed, _taken)) => Some((outcome, closed.len())),
         Err(_memory) => None,
     }

@@ -13,7 +13,7 @@ pub loop-init : goal.loop-init
 loop-init g c = record {
   can_next = tt;
   finite = tt;
-  gone = no_round c.args.board.now c.args.seat.now c.args.own.now c.args.adopted.now (g.K.Ticker.ticks c.args.ticker.now) c.requires.thread;
+  gone = no_round c.args.at.now.board.now c.args.seat.now c.args.own.now c.args.adopted.now (g.K.Ticker.ticks c.args.ticker.now) c.requires.thread;
   waits = c.requires.waits;
   cycle = refl;
   checked = sym c.requires.unchecked;
@@ -24,7 +24,7 @@ pub loop-preserved : goal.loop-preserved
 loop-preserved g c = let r = c.if-go_round.ensures.round in record {
   can_next = tt;
   finite = tt;
-  gone = more_rounds c.args.board.now c.args.seat.now c.args.own.now c.args.adopted.now (g.K.Ticker.ticks c.args.ticker.now)
+  gone = more_rounds c.args.at.now.board.now c.args.seat.now c.args.own.now c.args.adopted.now (g.K.Ticker.ticks c.args.ticker.now)
       c.loop.seat c.loop.own c.loop.adopted (g.K.Ticker.ticks c.loop.ticker) c.loop.invariant.gone
       c.go_round.new.seat c.go_round.new.own c.go_round.new.adopted (g.K.Ticker.ticks c.go_round.new.ticker) c.go_round.ensures.gone;
   waits = r.0;
@@ -37,10 +37,10 @@ pub returns-clause-gone : goal.returns-clause-gone
 returns-clause-gone g c = elim c.match-next.branch [
   | in-None w ↦ absurd (true≢false (sym w.in-None.ensures.steps))
   | in-Some+then-go_round w ↦
-      subst (λ (x : Known × LoopState × List LoopState × ℕ). HasGoneOn c.args.board.now c.args.seat.now c.args.own.now c.args.adopted.now
+      subst (λ (x : Known × LoopState × List LoopState × ℕ). HasGoneOn c.args.at.now.board.now c.args.seat.now c.args.own.now c.args.adopted.now
       (g.K.Ticker.ticks c.args.ticker.now) x.0 x.1 x.2 x.3)
       (λ i. (sym w.seat-is i, sym w.own-is i, sym w.adopted-is i, g.K.Ticker.ticks (sym w.ticker-is i)))
-      (more_rounds c.args.board.now c.args.seat.now c.args.own.now c.args.adopted.now (g.K.Ticker.ticks c.args.ticker.now)
+      (more_rounds c.args.at.now.board.now c.args.seat.now c.args.own.now c.args.adopted.now (g.K.Ticker.ticks c.args.ticker.now)
       c.loop.seat c.loop.own c.loop.adopted (g.K.Ticker.ticks c.loop.ticker) c.loop.invariant.gone
       w.go_round.new.seat w.go_round.new.own w.go_round.new.adopted (g.K.Ticker.ticks w.go_round.new.ticker) w.go_round.ensures.gone)
 ]
@@ -48,11 +48,11 @@ returns-clause-gone g c = elim c.match-next.branch [
 pub returns-clause-between : goal.returns-clause-between
 returns-clause-between g c = elim c.match-next.branch [
   | in-None w ↦ absurd (true≢false (sym w.in-None.ensures.steps))
-  | in-Some+then-go_round w ↦ subst (λ (x : Known). IsBetween (layout c.args.board.now) x.knows) (sym w.seat-is) w.if-go_round.ensures.round.0
+  | in-Some+then-go_round w ↦ subst (λ (x : Known). IsBetween (layout c.args.at.now.board.now) x.knows) (sym w.seat-is) w.if-go_round.ensures.round.0
 ]
 
 pub returns-clause-way : goal.returns-clause-way
 returns-clause-way g c = elim c.match-next.branch [
   | in-None w ↦ absurd (true≢false (sym w.in-None.ensures.steps))
-  | in-Some+then-go_round w ↦ subst (IsDriverWay c.args.ways.now) (sym w.way'-is) w.go_round.ensures.way
+  | in-Some+then-go_round w ↦ subst (IsDriverWay c.args.at.now.ways.now) (sym w.way'-is) w.go_round.ensures.way
 ]

@@ -6,13 +6,13 @@ use Rattle.driver_cycle.proofs.epoch.run_cycles.Goals as goal
 
 pub loop-seat-init : goal.loop-seat-init
 loop-seat-init g c = record {
-  gone = no_round c.args.board.now c.args.seat.now c.args.own.now c.args.adopted.now (g.K.Ticker.ticks c.args.ticker.now) c.requires.thread;
+  gone = no_round c.args.at.now.board.now c.args.seat.now c.args.own.now c.args.adopted.now (g.K.Ticker.ticks c.args.ticker.now) c.requires.thread;
   between = c.requires.between;
   way = c.requires.way;
 }
 
 pub loop-seat-preserved : goal.loop-seat-preserved
-loop-seat-preserved g c = let b = c.args.board.now in let a = c.loop-seat in let m = g.K.Ticker.ticks a.ticker in
+loop-seat-preserved g c = let b = c.args.at.now.board.now in let a = c.loop-seat in let m = g.K.Ticker.ticks a.ticker in
     let thread = a.invariant.gone.thread in let s = c.begin_sent.new.seat in record {
       gone = more_rounds b c.args.seat.now c.args.own.now c.args.adopted.now (g.K.Ticker.ticks c.args.ticker.now) a.seat a.own a.adopted m
           a.invariant.gone c.run_cycle.new.seat c.run_cycle.new.own c.run_cycle.new.adopted (g.K.Ticker.ticks c.run_cycle.new.ticker)
@@ -25,12 +25,12 @@ loop-seat-preserved g c = let b = c.args.board.now in let a = c.loop-seat in let
     }
 
 pub run_cycle-requires-clause-thread : goal.run_cycle-requires-clause-thread
-run_cycle-requires-clause-thread g c = let b = c.args.board.now in let a = c.loop-seat in let thread = a.invariant.gone.thread in
+run_cycle-requires-clause-thread g c = let b = c.args.at.now.board.now in let a = c.loop-seat in let thread = a.invariant.gone.thread in
     (begun_on b a.seat c.begin_sent.new.seat a.own a.adopted (g.K.Ticker.ticks a.ticker) thread
     (c.begin_sent.ensures.leads a.own.score a.own.epoch thread.leads) c.loop-seat-test.ensures.begun.1).thread
 
 pub returns-clause-gone : goal.returns-clause-gone
 returns-clause-gone g c = let a = c.loop-seat in let e = c.loop-seat-test.ensures in let ticks = g.K.Ticker.ticks in
     let same : c.begin_sent.new.seat ≡ a.seat = λ i. record { table = e.table i; knows = e.begun.1 i } in
-    subst (λ (x : Known). HasGoneOn c.args.board.now c.args.seat.now c.args.own.now c.args.adopted.now (ticks c.args.ticker.now) x a.own a.adopted
+    subst (λ (x : Known). HasGoneOn c.args.at.now.board.now c.args.seat.now c.args.own.now c.args.adopted.now (ticks c.args.ticker.now) x a.own a.adopted
     (ticks a.ticker)) (sym same) a.invariant.gone

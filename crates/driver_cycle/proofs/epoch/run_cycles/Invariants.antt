@@ -8,10 +8,10 @@ use Rattle.driver_cycle.proofs.epoch.run_cycles.Given as goal
 
 abbrev pub invariant-loop-seat : goal.invariant-loop-seat
 invariant-loop-seat g l = record {
-  gone : HasGoneOn l.board l.fn.seat l.fn.own l.fn.adopted (g.K.Ticker.ticks l.fn.ticker) l.seat l.own l.adopted (g.K.Ticker.ticks l.ticker);
-  between : IsBetween (layout l.board) l.seat.knows;
-  way : IsDriverWay l.ways l.way;
+  gone : HasGoneOn l.at.board.now l.fn.seat l.fn.own l.fn.adopted (g.K.Ticker.ticks l.fn.ticker) l.seat l.own l.adopted (g.K.Ticker.ticks l.ticker);
+  between : IsBetween (layout l.at.board.now) l.seat.knows;
+  way : IsDriverWay l.at.ways.now l.way;
 }
 
 abbrev pub decreases-loop-seat : goal.decreases-loop-seat
-decreases-loop-seat g l = last (layout l.board) - l.seat.knows.lead.cycle
+decreases-loop-seat g l = last (layout l.at.board.now) - l.seat.knows.lead.cycle

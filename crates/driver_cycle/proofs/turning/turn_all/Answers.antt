@@ -10,21 +10,21 @@ use Rattle.driver_cycle.proofs.ThreadLemmas.{neither}
 use Rattle.driver_cycle.proofs.turning.turn_all.Goals as goal
 
 pub turn_one-ran-requires-clause-stands : goal.turn_one-ran-requires-clause-stands
-turn_one-ran-requires-clause-stands g c = let p = layout c.args.board.now in let t = table_of c.args.board.now in
+turn_one-ran-requires-clause-stands g c = let p = layout c.args.at.now.board.now in let t = table_of c.args.at.now.board.now in
     let low = c.loop-k-test.true in let h = c.loop-k.invariant.turned in let n = h.count in let end = c.loop-k.invariant.end in
     subst (IsOnBoard p t) (sym (h.left c.loop-k.k c.index-states-k.result (omega arith)))
     (c.requires.stand c.loop-k.k c.index-states-k.result (omega (arith, low, end)))
 
 pub loop-k-preserved : goal.loop-k-preserved
-loop-k-preserved g c = let p = layout c.args.board.now in let t = table_of c.args.board.now in
+loop-k-preserved g c = let p = layout c.args.at.now.board.now in let t = table_of c.args.at.now.board.now in
     let low = c.loop-k-test.true in let h = c.loop-k.invariant.turned in let n = h.count in let k = c.loop-k.k in
     let end = c.loop-k.invariant.end in let now = c.turn_one-ran.new.state in
     let inside : k < length c.loop-k.states = omega (arith, low, n, end) in
     let here = get_or c.loop-k.states k c.index-states-k.result in
     let was : (d : LoopState) → here ≡ get_or c.args.states.now k d =
     λ d. get_or_default c.loop-k.states k c.index-states-k.result d inside ∙ h.left k d (omega arith) in
-    let idle : c.turn_one-ran.result ≡ false → HasTakenTurn false p c.args.ways.now here c.loop-k.way now c.turn_one-ran.new.way =
-    λ e. subst (λ (b : Bool). HasTakenTurn b p c.args.ways.now here c.loop-k.way now c.turn_one-ran.new.way) e
+    let idle : c.turn_one-ran.result ≡ false → HasTakenTurn false p c.args.at.now.ways.now here c.loop-k.way now c.turn_one-ran.new.way =
+    λ e. subst (λ (b : Bool). HasTakenTurn b p c.args.at.now.ways.now here c.loop-k.way now c.turn_one-ran.new.way) e
     c.turn_one-ran.ensures.took in record {
       end = end;
       turned = one_more (HasHadTurns p t) c.args.states.now k c.loop-k.states now inside h
@@ -38,5 +38,5 @@ loop-k-preserved g c = let p = layout c.args.board.now in let t = table_of c.arg
 
 pub returns-clause-idle : goal.returns-clause-idle
 returns-clause-idle g c = let past = c.loop-k-test.false in let end = c.loop-k.invariant.end in let n = c.loop-k.invariant.turned.count in
-    λ e. all_below (HasTurnedIdle (layout c.args.board.now)) c.args.states.now c.loop-k.k c.loop-k.states (omega (arith, past, end, n))
+    λ e. all_below (HasTurnedIdle (layout c.args.at.now.board.now)) c.args.states.now c.loop-k.k c.loop-k.states (omega (arith, past, end, n))
     (c.loop-k.invariant.idle e)

@@ -8,8 +8,8 @@ use Rattle.driver_cycle.proofs.turning.turn_all.Given as goal
 abbrev pub invariant-loop-k : goal.invariant-loop-k
 invariant-loop-k g l = record {
   end : l.k-end ≡ length l.fn.states;
-  turned : AreEachBelow (HasHadTurns (layout l.board) (table_of l.board)) l.k l.fn.states l.states;
-  idle : l.ran ≡ false → AreEachBelow (HasTurnedIdle (layout l.board)) l.k l.fn.states l.states;
+  turned : AreEachBelow (HasHadTurns (layout l.at.board.now) (table_of l.at.board.now)) l.k l.fn.states l.states;
+  idle : l.ran ≡ false → AreEachBelow (HasTurnedIdle (layout l.at.board.now)) l.k l.fn.states l.states;
   quiet : l.ran ≡ false → l.way ≡ l.fn.way;
-  way : IsDriverWay l.ways l.way;
+  way : IsDriverWay l.at.ways.now l.way;
 }

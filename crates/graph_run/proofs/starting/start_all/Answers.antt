@@ -4,7 +4,7 @@ use Rattle.std.proofs.lemmas.List.{append_assoc, nil_from_length}
 use Rattle.std.proofs.lemmas.List.Elements.{All-push, All-head, All-tail}
 use Rattle.graph_run.specs.declared.shared.LoopWay.{LoopWay}
 use Rattle.graph_run.specs.Threads.{CanStart}
-use Rattle.graph_run.specs.Lists.{HasLoop}
+use Rattle.graph_run.specs.working.Lists.{HasLoop}
 use Rattle.graph_run.proofs.ThreadLemmas.{placed_listed, placed_old, placed_new, placed_size, placed_rooms, room_left}
 use Rattle.graph_run.proofs.starting.start_all.Goals as goal
 
@@ -17,7 +17,7 @@ loop-given-preserved g c = let i = c.loop-given.invariant in let steps = c.in-So
     let grown = length-append ys (x ∷ []) in let n = i.at in let count = i.count in
     let more = ap (λ (l : List LoopWay). length l) (i.rest ∙ ap (λ (l : List LoopWay). ys ++ l) steps) in
     let whole = length-append ys (x ∷ c.next.new.self.rest.items) in
-    let named = get_or c.args.adopt.now c.loop-given.k false in let room = room_left (length c.args.loops) (length ys) old i.rooms i.count (omega (arith, more, whole)) in
+    let named = get_or c.args.roster.now.adopt.now c.loop-given.k false in let room = room_left (length c.args.loops) (length ys) old i.rooms i.count (omega (arith, more, whole)) in
     let size = placed_size shared named x can old new start at in record {
       at = omega (arith, n, grown);
       rest = i.rest ∙ (ap (λ (l : List LoopWay). ys ++ l) steps ∙ sym (append_assoc ys (x ∷ []) c.next.new.self.rest.items));

@@ -1,7 +1,7 @@
 use Rattle.std.proofs.Common.{◌≡◌, ◌++◌, length}
 use Rattle.std.specs.Prelude.{All}
 use Rattle.graph_run.specs.Threads.{CanStart}
-use Rattle.graph_run.specs.Lists.{HaveRooms, AreListed, HasLoop, size}
+use Rattle.graph_run.specs.working.Lists.{HaveRooms, AreListed, HasLoop, size}
 use Rattle.graph_run.proofs.starting.start_all.Given as goal
 
 abbrev pub invariant-loop-given : goal.invariant-loop-given

@@ -9,9 +9,9 @@ abbrev pub invariant-loop : goal.invariant-loop
 invariant-loop g l = record {
   can_next : (goal.iterator-loop g).can_next l.iterator';
   finite : (goal.iterator-loop g).is_finite l.iterator';
-  gone : HasGoneOn l.board l.fn.seat l.fn.own [] (g.K.Ticker.ticks l.fn.ticker) l.seat l.own [] (g.K.Ticker.ticks l.ticker);
-  waits : IsWaiting (layout l.board) l.seat.knows;
+  gone : HasGoneOn l.at.board.now l.fn.seat l.fn.own [] (g.K.Ticker.ticks l.fn.ticker) l.seat l.own [] (g.K.Ticker.ticks l.ticker);
+  waits : IsWaiting (layout l.at.board.now) l.seat.knows;
   cycle : l.seat.knows.lead.cycle ≡ l.fn.seat.knows.lead.cycle;
   checked : l.checked ≡ l.seat.knows.lead.checked;
-  patrol : IsPatrol l.shared l.patrol;
+  patrol : IsPatrol l.at.shared.now l.patrol;
 }

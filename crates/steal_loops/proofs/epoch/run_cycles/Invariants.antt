@@ -8,10 +8,10 @@ use Rattle.steal_loops.proofs.epoch.run_cycles.Given as goal
 
 abbrev pub invariant-loop-seat : goal.invariant-loop-seat
 invariant-loop-seat g l = record {
-  gone : HasGoneOn l.board l.fn.seat l.fn.own [] (g.K.Ticker.ticks l.fn.ticker) l.seat l.own [] (g.K.Ticker.ticks l.ticker);
-  between : IsBetween (layout l.board) l.seat.knows;
-  patrol : IsPatrol l.shared l.patrol;
+  gone : HasGoneOn l.at.board.now l.fn.seat l.fn.own [] (g.K.Ticker.ticks l.fn.ticker) l.seat l.own [] (g.K.Ticker.ticks l.ticker);
+  between : IsBetween (layout l.at.board.now) l.seat.knows;
+  patrol : IsPatrol l.at.shared.now l.patrol;
 }
 
 abbrev pub decreases-loop-seat : goal.decreases-loop-seat
-decreases-loop-seat g l = last (layout l.board) - l.seat.knows.lead.cycle
+decreases-loop-seat g l = last (layout l.at.board.now) - l.seat.knows.lead.cycle

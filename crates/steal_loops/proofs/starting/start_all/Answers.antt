@@ -10,7 +10,7 @@ pub loop-taker-preserved : goal.loop-taker-preserved
 loop-taker-preserved g c = let i = c.loop-taker.invariant in let steps = c.in-Some.ensures.steps.0 in let is = IsWorker c.args.shared.now in
     let ys = c.loop-taker.yielded in let x : Taker = c.in-Some.taker in let left = c.next.new.self.rest.items in
     let grown = length-append ys (x ∷ []) in let longer = ap (λ (l : List Taker). length l) steps in
-    let n = i.at in let few = i.few in let room = i.room in let more = c.start_unless.ensures.few in let less = c.start_unless.ensures.room in record {
+    let n = i.at in let few = i.few in let room = i.room in let more = c.place.ensures.few in let less = c.place.ensures.room in record {
       at = omega (arith, n, grown);
       rest = i.rest ∙ (ap (λ (l : List Taker). ys ++ l) steps ∙ sym (append_assoc ys (x ∷ []) left));
       workers = All-tail is x left (subst (All is) steps i.workers);

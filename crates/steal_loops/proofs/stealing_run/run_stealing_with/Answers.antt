@@ -12,7 +12,7 @@ use Rattle.steal_loops.proofs.stealing_run.run_stealing_with.Goals as goal
 
 pub run_threads-done-requires-clause-crew : goal.run_threads-done-requires-clause-crew
 run_threads-done-requires-clause-crew g c κs within = let p = c.in_ok-shared.field-0 in let is = c.in_ok-shared.ensures in
-    crew c.args.plan.now c.args.waves.now c.args.loops p is c.in_ok-handles.handles (c.in_ok-handles.ensures.list ∙ c.new.ensures) c.in_ok-handles.ensures.spare
+    crew c.args.plan.now c.args.waves.now c.args.roster.now.loops p is c.in_ok-handles.handles (c.in_ok-handles.ensures.list ∙ c.new.ensures) c.in_ok-handles.ensures.spare
     c.in_ok-done.done (c.in_ok-done.ensures.list ∙ c.new-2.ensures)
     (subst (λ (k : ℕ). k + 1 ≤ c.in_ok-done.done.spare) c.loops.ensures c.in_ok-done.ensures.spare)
 
@@ -22,7 +22,7 @@ finish_run-outcome-requires-clause-ended g c = let p = c.in_ok-shared.field-0 in
     let led = c.run_threads-done.ensures.drivers in
     let shapes = shapes_are plan (cell_number plan) n p.shared.boards is.shapes in subst (IsEndedRun plan waves) (sym c.new-ended.ensures) record {
       shapes = shapes;
-      done = done_of plan waves c.args.loops p is c.run_threads-done.result.done c.run_threads-done.ensures.done;
+      done = done_of plan waves c.args.roster.now.loops p is c.run_threads-done.result.done c.run_threads-done.ensures.done;
       ended = have_ended plan waves n p.shared.boards shapes p.driving.drivers drivers is.drivers led;
       expects = expects plan waves n p.shared.boards shapes p.driving.drivers drivers is.drivers led;
       rooms = c.in_ok-rooms.ensures;

@@ -9,7 +9,7 @@ use Rattle.graph_run.specs.declared.preparing.Prepared.{Prepared}
 use Rattle.graph_run.specs.declared.scope.Crew.{Crew}
 use Rattle.graph_run.specs.Assignment.{loop_of}
 use Rattle.graph_run.specs.Boards.{AreBoardsBy, driver_of}
-use Rattle.graph_run.specs.Lists.{AreEmpty, HaveRooms}
+use Rattle.graph_run.specs.working.Lists.{AreEmpty, HaveRooms}
 use Rattle.graph_run.specs.Threads.{CanStart, CanDrive, HasNode}
 
 -- PREPARED: boards, loops and drivers' seats of the plan. Each node of the plan is one of some loop

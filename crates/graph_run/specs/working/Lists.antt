@@ -28,7 +28,7 @@ pub record AreEmpty (l : Lists) : Type 0 where
 abbrev pub size : Lists → ℕ
 size l = length l.running.list + length l.adopted.list + length l.done.list
 
--- in all, those that are there too, a list has room for so many
+-- how many a list has room for in all, those that are there too
 abbrev pub room_of : {T : Type 0} → Listed T → ℕ
 room_of r = length r.list + r.spare
 
