@@ -21,8 +21,8 @@ use Rattle.graph_script.specs.Kinds.{HasPorts}
 use Rattle.graph_script.specs.Printable.{AreFrom, AreWritable}
 use Rattle.graph_script.specs.Ranges.{HasNodes}
 use Rattle.graph_script.specs.Printing.{spaced, args_of, line_text, text_from, kinds_of, text_of_script}
-use Rattle.graph_script.specs.Progress.{AreBefore}
-use Rattle.graph_script.specs.Sound.{IsSound}
+use Rattle.graph_script.specs.working.Progress.{AreBefore}
+use Rattle.graph_script.specs.working.Sound.{IsSound}
 use Rattle.graph_script.proofs.GrammarLemmas.{goes_on, ends}
 use Rattle.graph_script.proofs.SoundLemmas.{reading_after-sound, before-more, before-after, from_words, start-sound}
 use Rattle.graph_script.proofs.WordLemmas.{IsFront}

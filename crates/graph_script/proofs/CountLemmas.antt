@@ -14,7 +14,7 @@ use Rattle.graph_script.specs.declared.reading.Reading.{Reading}
 use Rattle.graph_script.specs.Limits.{epochs_limit}
 use Rattle.graph_script.specs.Earlier.{is_epoch, epochs_so_far, names_link, is_linked}
 use Rattle.graph_script.specs.Grammar.{reading_after}
-use Rattle.graph_script.specs.Progress.{marked, counted}
+use Rattle.graph_script.specs.working.Progress.{marked, counted}
 use Rattle.graph_script.specs.Ranges.{HasNodes}
 
 count_by-push : (lines : List Line) (line : Line)

@@ -8,6 +8,7 @@ pub mod LexicalLemmas
 pub mod ListLemmas
 pub mod MakingLemmas
 pub mod MoreLemmas
+pub mod NameLemmas
 pub mod NodeLemmas
 pub mod NumeralLemmas
 pub mod RangeLemmas

@@ -1,4 +1,4 @@
--- Laws of `specs/Sound.antt`: a line that has a meaning keeps what holds of the lines before it.
+-- Laws of `specs/working/Sound.antt`: a line that has a meaning keeps what holds of the lines before it.
 use Rattle.std.proofs.Common.{◌≡◌, ◌≢◌, ℕ, ◌+◌, ◌<◌, ◌≤◌, Bool, true, false, not, List, [], ◌∷◌, ◌++◌, length}
 use Rattle.std.proofs.Common.{refl, sym, ap, ◌∙◌, arith, append-nil, length-append}
 use Rattle.std.specs.Prelude.{Option, Some, None, option_map, option_to_list, Result, Ok, Err, All, AllPairs, IsTrue, IfSome, codes}
@@ -18,12 +18,12 @@ use Rattle.graph_script.specs.Arguments.{is_node_name}
 use Rattle.graph_script.specs.Checked.{checked_map}
 use Rattle.graph_script.specs.Commands.{meaning_of_words}
 use Rattle.graph_script.specs.Grammar.{meaning_of_line, reading_after, start}
-use Rattle.graph_script.specs.Progress.{AreBefore}
+use Rattle.graph_script.specs.working.Progress.{AreBefore}
 use Rattle.graph_script.specs.Ranges.{IsInRange, HasNodes}
 use Rattle.graph_script.specs.Making.{grown, all_grown}
 use Rattle.graph_script.specs.Order.{HasOrder}
 use Rattle.graph_script.specs.Kinds.{HasKinds, HasPorts}
-use Rattle.graph_script.specs.Sound.{IsSound}
+use Rattle.graph_script.specs.working.Sound.{IsSound}
 use Rattle.graph_script.proofs.NodeLemmas.{IsNew}
 use Rattle.graph_script.proofs.FitLemmas.{added, IsFit, meaning_of_words-fits}
 use Rattle.graph_script.proofs.MoreLemmas.{HasNodes-more, HasPorts-more, made-after}

@@ -9,9 +9,9 @@ use Rattle.graph_script.specs.declared.progress.Progress.{Progress}
 use Rattle.graph_script.specs.Limits.{epochs_limit}
 use Rattle.graph_script.specs.Earlier.{epochs_so_far, is_linked}
 use Rattle.graph_script.specs.Grammar.{reading_after, start}
-use Rattle.graph_script.specs.Progress.{marked, counted, AreBefore}
+use Rattle.graph_script.specs.working.Progress.{marked, counted, AreBefore}
 use Rattle.graph_script.specs.Ranges.{HasNodes}
-use Rattle.graph_script.specs.Sound.{IsSound, IsTied}
+use Rattle.graph_script.specs.working.Sound.{IsSound, IsTied}
 use Rattle.graph_script.proofs.FitLemmas.{added, IsFit}
 use Rattle.graph_script.proofs.MoreLemmas.{HasNodes-more}
 use Rattle.graph_script.proofs.SoundLemmas.{reading_after-sound, start-sound}

@@ -18,6 +18,5 @@ pub mod Order
 pub mod PortCommands
 pub mod Printable
 pub mod Printing
-pub mod Progress
 pub mod Ranges
-pub mod Sound
+pub mod working

@@ -3,7 +3,7 @@ ghost use Rattle.std.specs.Prelude.{◌≡◌, IfOk};
 ghost use Rattle.graph_script.specs.Lexical.{words_of};
 ghost use Rattle.graph_script.specs.Checked.{checked_map};
 ghost use Rattle.graph_script.specs.FileNodes as commands;
-ghost use Rattle.graph_script.specs.Sound.{IsSound};
+ghost use Rattle.graph_script.specs.working.Sound.{IsSound};
 
 use crate::arguments::two_words;
 use crate::command::Command;

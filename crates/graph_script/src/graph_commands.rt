@@ -4,7 +4,7 @@ ghost use Rattle.graph_script.specs.Lexical.{words_of};
 ghost use Rattle.graph_script.specs.Earlier.{making_epoch};
 ghost use Rattle.graph_script.specs.GraphCommands as commands;
 ghost use Rattle.graph_script.specs.Nodes.{may_drive};
-ghost use Rattle.graph_script.specs.Sound.{IsSound, IsTied};
+ghost use Rattle.graph_script.specs.working.Sound.{IsSound, IsTied};
 
 use crate::arguments::{no_words, one_word, two_words};
 use crate::command::Command;

@@ -1,8 +1,8 @@
 //! Lines, one after the other: what each says, by those before it.
 ghost use Rattle.std.specs.Prelude.{◌≡◌, ◌+◌, ◌≤◌, IfOk};
 ghost use Rattle.graph_script.specs.Grammar.{meaning_of_line, reading_with, IsRead};
-ghost use Rattle.graph_script.specs.Progress.{reading_in, AreBefore};
-ghost use Rattle.graph_script.specs.Sound.{IsTied};
+ghost use Rattle.graph_script.specs.working.Progress.{reading_in, AreBefore};
+ghost use Rattle.graph_script.specs.working.Sound.{IsTied};
 
 use crate::fault::{ScriptFault, ScriptWhy};
 use crate::lexing::{is_plain, says_nothing};

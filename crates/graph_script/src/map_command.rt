@@ -7,7 +7,7 @@ ghost use Rattle.graph_script.specs.Lexical.{words_of};
 ghost use Rattle.graph_script.specs.Checked.{checked_map};
 ghost use Rattle.graph_script.specs.Earlier.{making};
 ghost use Rattle.graph_script.specs.NodeCommands as commands;
-ghost use Rattle.graph_script.specs.Sound.{IsSound};
+ghost use Rattle.graph_script.specs.working.Sound.{IsSound};
 
 use crate::arguments::three_words;
 use crate::command::Command;

@@ -2,7 +2,7 @@
 ghost use Rattle.std.specs.Prelude.{◌≡◌, IfOk};
 ghost use Rattle.graph_script.specs.Checked.{checked_map};
 ghost use Rattle.graph_script.specs.Earlier.{making};
-ghost use Rattle.graph_script.specs.Progress.{said_of};
+ghost use Rattle.graph_script.specs.working.Progress.{said_of};
 
 use crate::command::Command;
 use crate::fault::ScriptWhy;

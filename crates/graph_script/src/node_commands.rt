@@ -4,8 +4,8 @@ ghost use Rattle.std.specs.Prelude.{◌≡◌};
 ghost use Rattle.graph_script.specs.Lexical.{words_of};
 ghost use Rattle.graph_script.specs.Checked.{checked_map};
 ghost use Rattle.graph_script.specs.NodeCommands as commands;
-ghost use Rattle.graph_script.specs.Progress.{said_of};
-ghost use Rattle.graph_script.specs.Sound.{IsSound};
+ghost use Rattle.graph_script.specs.working.Progress.{said_of};
+ghost use Rattle.graph_script.specs.working.Sound.{IsSound};
 
 use crate::arguments::{five_words, one_word, three_words, two_words};
 use crate::command::Command;

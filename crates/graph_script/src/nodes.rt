@@ -2,7 +2,7 @@
 ghost use Rattle.std.specs.Prelude.{◌≡◌, ◌<◌, length, option_map, IfOk, IfSome};
 ghost use Rattle.graph_script.specs.Arguments.{endpoint_parts};
 ghost use Rattle.graph_script.specs.Nodes as nodes;
-ghost use Rattle.graph_script.specs.Sound.{IsSound};
+ghost use Rattle.graph_script.specs.working.Sound.{IsSound};
 
 use crate::fault::ScriptWhy;
 use crate::names::{is_node_name, place_of};

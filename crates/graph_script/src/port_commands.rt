@@ -3,7 +3,7 @@ ghost use Rattle.std.specs.Prelude.{◌≡◌, IfOk};
 ghost use Rattle.graph_script.specs.Lexical.{words_of};
 ghost use Rattle.graph_script.specs.Checked.{checked_map};
 ghost use Rattle.graph_script.specs.PortCommands as commands;
-ghost use Rattle.graph_script.specs.Sound.{IsSound, IsTied};
+ghost use Rattle.graph_script.specs.working.Sound.{IsSound, IsTied};
 
 use crate::arguments::{three_words, two_words};
 use crate::command::Command;

@@ -4,9 +4,9 @@ ghost use Rattle.std.specs.Prelude.{◌≡◌, ◌<◌, ◌≤◌, IfOk, Some};
 ghost use Rattle.graph_script.specs.Earlier.{is_linked, is_epoch};
 ghost use Rattle.graph_script.specs.Grammar.{start, reading_after};
 ghost use Rattle.graph_script.specs.Limits.{epochs_limit};
-ghost use Rattle.graph_script.specs.Progress.{marked, counted};
+ghost use Rattle.graph_script.specs.working.Progress.{marked, counted};
 ghost use Rattle.graph_script.specs.Ranges.{HasNodes};
-ghost use Rattle.graph_script.specs.Sound.{IsTied};
+ghost use Rattle.graph_script.specs.working.Sound.{IsTied};
 
 use crate::command::Command;
 use crate::reading::{Reading, Said};

@@ -2,7 +2,7 @@
 ghost use Rattle.std.specs.Prelude.{◌≡◌, IfOk};
 ghost use Rattle.graph_script.specs.Lexical.{words_of};
 ghost use Rattle.graph_script.specs.Commands as commands;
-ghost use Rattle.graph_script.specs.Sound.{IsTied};
+ghost use Rattle.graph_script.specs.working.Sound.{IsTied};
 
 use crate::fault::ScriptWhy;
 use crate::file_nodes::{sink, source};

@@ -43,18 +43,21 @@ ReadsSource place node inputs bytes =
     Binds (Reads (λ outcome. outcome ≡ wave_outcome place (wav_of bytes)))
     (TakesWave node inputs (length bytes))
 
-abbrev pub LoadsSource : Names → ℕ → ℕ → List ℕ → PlanInputs → Expected PlanInputs → Type 0
+abbrev pub LoadsSource : Names → ℕ → ℕ → List ℕ → PlanInputs → Expected PlanInputs
+    → Type 0
 LoadsSource names place node file inputs =
     Binds (IsLoad names place file (wav_limit inputs.used) (wav_which inputs.used))
     (ReadsSource place node inputs)
 
 -- an `offer` line: its file is an object, by which the port's own offer is narrowed
-abbrev pub NarrowsTo : ℕ → PortId → PlanInputs → Format → Result PlanInputs Status → Type 0
+abbrev pub NarrowsTo : ℕ → PortId → PlanInputs → Format → Result PlanInputs Status
+    → Type 0
 NarrowsTo place port inputs format outcome = (did : Narrowed) × (later : List Node)
     × Narrows inputs.ports port format did later
     × (outcome ≡ narrowed_outcome place inputs did later)
 
-abbrev pub ReadsOffer : ℕ → PortId → PlanInputs → List ℕ → Expected PlanInputs → Type 0
+abbrev pub ReadsOffer : ℕ → PortId → PlanInputs → List ℕ → Expected PlanInputs
+    → Type 0
 ReadsOffer place port inputs bytes =
     Binds (Reads (HoldsFormat place bytes)) (λ format. Reads (NarrowsTo place port inputs format))
 
@@ -72,4 +75,5 @@ LoadsLine names place other inputs = Reads (λ o. o ≡ Ok (with_plain inputs (p
 -- ALL LOADS of a script
 abbrev pub LoadsAll : Names → List Line → PlanInputs → Expected PlanInputs → Type 0
 LoadsAll names [] inputs = Reads (λ outcome. outcome ≡ Ok inputs)
-LoadsAll names (l ∷ ls) inputs = Binds (LoadsLine names l.line l.command inputs) (LoadsAll names ls)
+LoadsAll names (l ∷ ls) inputs =
+    Binds (LoadsLine names l.line l.command inputs) (LoadsAll names ls)

@@ -10,7 +10,8 @@ use Rattle.pw_top.specs.declared.status.PodWhy.TheVariants as P
 use Rattle.pw_top.specs.declared.inputs.PlanInputs.{PlanInputs}
 
 -- the ports with the narrowed offer; or a refusal at the place of the object
-abbrev pub narrowed_outcome : ℕ → PlanInputs → Narrowed → List Node → Result PlanInputs Status
+abbrev pub narrowed_outcome : ℕ → PlanInputs → Narrowed → List Node
+    → Result PlanInputs Status
 narrowed_outcome place inputs N.Done later = Ok (record inputs { ports = later })
 narrowed_outcome place inputs N.NotFormat later = Err (S.Pod place P.NotFormat)
 narrowed_outcome place inputs (N.Clash key) later = Err (S.Pod place (P.Clash key))

@@ -242,7 +242,8 @@ fn with_plain(inputs: PlanInputs, made: Option<Kind>) -> Result<PlanInputs, Memo
 fn keep_line(alloc: Global, command: &Command, inputs: PlanInputs) -> Result<PlanInputs, Status>
     requires sound { AreSoundInputs inputs }
     requires line { IfSome (plain_kind command.now)
-        (λ kind. (length inputs.ports < nodes_limit) × IsInRange kind × HasFileNumbers kind 0 0) }
+        (λ kind. (length inputs.ports < nodes_limit) × IsInRange kind
+        × HasFileNumbers kind 0 0) }
     ensures done { Ends (Reads
         (λ outcome. outcome ≡ Ok (with_plain inputs (plain_kind command.now)))) result }
     ensures cause { CommandCause (AreInputsAfter inputs (plain_kind command.now)) 0 0 result }

@@ -13,11 +13,12 @@ use pw_base::Text;
 /// A law, which does nothing: where the script of a file is read, its files are loaded and its
 /// parts are planned, each part has the plan of its own lines. Of each of its nodes `groups` stores
 /// the wave that a run of this plan alone stores, for the same line and under the same name, and
-/// hears the same peak. Such a run stores and hears nothing of other nodes. The files and the
+/// keeps the same peak. Such a run stores and keeps nothing of other nodes. The files and the
 /// offers of ports are those that the whole script loads.
 pub fn parts_store_as_alone(script: &Text)
-    ensures { (names : Names) (loaded : Expected LoadedScript) (s : LoadedScript) (e : Expected Parted)
-        (p : Parted) → LoadsScript names script.now loaded → loaded.outcome ≡ Ok s
+    ensures { (names : Names) (loaded : Expected LoadedScript) (s : LoadedScript)
+        (e : Expected Parted) (p : Parted) → LoadsScript names script.now loaded
+        → loaded.outcome ≡ Ok s
         → PartsInputs s.script s.inputs e → e.outcome ≡ Ok p
         → All (StoresAlone p s.inputs.ports) p.parts.parts }
 {

@@ -1,7 +1,7 @@
 use Rattle.std.proofs.Common.{◌≡◌, ◌+◌, sym, subst}
 use Rattle.std.specs.Prelude.{Ok, Some}
 use Rattle.graph_script.specs.Grammar.{meaning_of_line}
-use Rattle.graph_script.specs.Progress.{AreBefore}
+use Rattle.graph_script.specs.working.Progress.{AreBefore}
 use Rattle.graph_script.proofs.SoundLemmas.{from_words, before-after}
 use Rattle.graph_script.proofs.TiedLemmas.{nodes_within, tied-after}
 use Rattle.graph_script.proofs.lines.read_line.Goals as goal

@@ -2,7 +2,7 @@ use Rattle.std.proofs.Common.{◌+◌, [], sym, ap, ◌∙◌, subst, arith}
 use Rattle.std.proofs.lemmas.List.Elements.{All-nil}
 use Rattle.graph_script.specs.Lexical.{lines_of}
 use Rattle.graph_script.specs.Grammar.{script_from, script_of}
-use Rattle.graph_script.specs.Progress.{AreBefore}
+use Rattle.graph_script.specs.working.Progress.{AreBefore}
 use Rattle.graph_script.proofs.GrammarLemmas.{goes_on, stops, ends, same_fault}
 use Rattle.graph_script.proofs.SoundLemmas.{sound-kinds}
 use Rattle.graph_script.proofs.parsing.parse.Goals as goal

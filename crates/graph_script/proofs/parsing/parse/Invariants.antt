@@ -1,8 +1,8 @@
 use Rattle.std.proofs.Common.{◌≤◌, length, ◌≡◌, ◌+◌}
 use Rattle.graph_script.specs.Lexical.{lines_of}
 use Rattle.graph_script.specs.Grammar.{script_from, script_of}
-use Rattle.graph_script.specs.Progress.{AreBefore}
-use Rattle.graph_script.specs.Sound.{IsTied}
+use Rattle.graph_script.specs.working.Progress.{AreBefore}
+use Rattle.graph_script.specs.working.Sound.{IsTied}
 use Rattle.graph_script.proofs.parsing.parse.Given as goal
 
 -- the lines that are left, after what was said, make the script
