@@ -17,7 +17,7 @@ use Rattle.board_rule.specs.Steps.{HasNode}
 use Rattle.board_rule.specs.events.EventSteps.{Draws, draws, CanDrawLead, lead_draws, draw_trail, Looks, late_of, StoresLate, late_stored}
 use Rattle.board_rule.specs.events.EventSteps.{StoresEvent, event_stored}
 use Rattle.activation_words.specs.CycleCalls.{followers, HasChecked}
-use Rattle.activation_words.specs.Checks.{tick_drawn, LooksAt, IsLooking}
+use Rattle.activation_words.specs.working.Checks.{tick_drawn, LooksAt, IsLooking}
 
 front : {A : Type 0} (xs : List A) (x y : A) → Contains xs y → Contains (x ∷ xs) y
 front xs x y c = (suc c.0, (let h = c.1 in omega arith), c.2)

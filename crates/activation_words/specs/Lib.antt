@@ -1,5 +1,5 @@
 pub mod Told
 pub mod Calls
 pub mod CycleCalls
-pub mod Checks
 pub mod Members
+pub mod working

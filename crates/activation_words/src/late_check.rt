@@ -11,7 +11,7 @@ ghost use Rattle.board_rule.specs.Layout.{nodes};
 ghost use Rattle.board_rule.specs.Steps.{HasNode};
 ghost use Rattle.board_rule.specs.events.EventSteps.{Looks, looked};
 ghost use Rattle.activation_words.specs.CycleCalls.{HasChecked};
-ghost use Rattle.activation_words.specs.Checks.{tick_drawn, LooksAt, IsLooking};
+ghost use Rattle.activation_words.specs.working.Checks.{tick_drawn, LooksAt, IsLooking};
 
 use board_rule::{Board, BoardSeat, DriverSeat};
 use pw_base::{ActivationStatus, status_word};

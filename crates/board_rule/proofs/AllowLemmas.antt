@@ -27,7 +27,7 @@ use Rattle.board_rule.specs.events.EventRule.{Events, so_far, marks, lead_drawn,
 use Rattle.board_rule.specs.buffers.Spans.{phase_over, phase_begun}
 use Rattle.board_rule.specs.BoardRule.{Holds}
 use Rattle.board_rule.specs.Steps.{Has}
-use Rattle.board_rule.specs.Plays.{Leaves, Learns}
+use Rattle.board_rule.specs.working.Plays.{Leaves, Learns}
 use Rattle.board_rule.proofs.start.SeatLemmas.{node_step, lead_step, look_step, seated_logs}
 use Rattle.board_rule.proofs.events.TicketLemmas.{count_node, count_lead, few_tickets}
 use Rattle.board_rule.proofs.activation.FollowerLemmas.{stage_at, not_resetting, same_node}

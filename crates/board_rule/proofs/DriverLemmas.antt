@@ -23,7 +23,7 @@ use Rattle.board_rule.specs.buffers.BufferRule.{Buffers}
 use Rattle.board_rule.specs.buffers.Spans.{spans}
 use Rattle.board_rule.specs.BoardRule.{Holds}
 use Rattle.board_rule.specs.Steps.{kicked, taken_of, CanKick, KickIndebted}
-use Rattle.board_rule.specs.Plays.{Leaves, Learns}
+use Rattle.board_rule.specs.working.Plays.{Leaves, Learns}
 use Rattle.board_rule.proofs.buffers.SpanLemmas.{IsLeadPaced, drive_paced, kicked_paced, buffers_lead, wired_in, early_word}
 use Rattle.board_rule.proofs.RunLemmas.{Sums, Elsewhere, positive, lowers, triggers}
 use Rattle.board_rule.proofs.activation.PhaseLemmas.{owed_is}

@@ -13,7 +13,7 @@ use Rattle.board_rule.specs.View.{view_lead}
 use Rattle.board_rule.specs.events.Bits.{with_bit, woke_of}
 use Rattle.board_rule.specs.Steps.{CanKick, taken_of, kicked, told_trail, target_of, lowered}
 use Rattle.board_rule.specs.events.EventSteps.{CanDrawLead, lead_draws, draw_trail, draws}
-use Rattle.board_rule.specs.events.DriverProgress.{done_of, due_of, lead_progress_of, told_so_far, lead_drawn, is_begin}
+use Rattle.board_rule.specs.working.DriverProgress.{done_of, due_of, lead_progress_of, told_so_far, lead_drawn, is_begin}
 use Rattle.board_rule.specs.Known.{IsDriverSeat}
 
 module _ (v w : View) (x : DriverView) (t : Trail) (l k : DriverProgress) (rs : List ReadView) (o o' : ℕ) (is : w ≡ view_lead v x t)

@@ -20,7 +20,7 @@ use Rattle.board_rule.specs.Steps.{StoresPending, pending_stored, StoresStatus, 
 use Rattle.board_rule.specs.events.EventSteps.{Draws, draws, CanDraw, node_draws, lead_draws, draw_trail, StoresEvent, event_stored, CanStore}
 use Rattle.board_rule.specs.events.EventSteps.{stored_phase, lead_stores, held, held_lead, ticket_of, node_tells, lead_tells, event_due, Looks}
 use Rattle.board_rule.specs.events.EventSteps.{looked, StoresLate, late_kept, late_stored}
-use Rattle.board_rule.specs.Plays.{Leaves, Learns}
+use Rattle.board_rule.specs.working.Plays.{Leaves, Learns}
 use Rattle.board_rule.proofs.activation.PhaseLemmas.{can_tell, in_debt}
 use Rattle.board_rule.proofs.activation.FollowerLemmas.{lower_allowed, trigger_allowed}
 use Rattle.board_rule.proofs.activation.WorkLemmas.{stores_start, stores_finish, finish_allowed, later_is_other}

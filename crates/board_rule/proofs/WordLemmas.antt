@@ -12,7 +12,7 @@ use Rattle.board_rule.specs.declared.rows.LinkRow.{LinkRow}
 use Rattle.board_rule.specs.declared.rows.PoolRow.{PoolRow}
 use Rattle.board_rule.specs.Layout.{word_count}
 use Rattle.board_rule.specs.buffers.EndViews.{no_pool, pool_in}
-use Rattle.board_rule.specs.Rows.{base_of, IsLinkRow, IsPoolRow, HasIndexes}
+use Rattle.board_rule.specs.working.Rows.{base_of, IsLinkRow, IsPoolRow, HasIndexes}
 
 -- a pool has at least as many words as blocks
 fewer : (xs : List PoolShape) → sum_by (λ (x : PoolShape). x.blocks) xs ≤ sum_by pool_words xs

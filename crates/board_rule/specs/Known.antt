@@ -11,8 +11,8 @@ use Rattle.board_rule.specs.declared.view.BlockView.{BlockView}
 use Rattle.board_rule.specs.declared.view.View.{View}
 use Rattle.board_rule.specs.events.Bits.{woke_of}
 use Rattle.board_rule.specs.start.Owners.{own}
-use Rattle.board_rule.specs.activation.Progress.{progress_of}
-use Rattle.board_rule.specs.events.DriverProgress.{lead_progress_of}
+use Rattle.board_rule.specs.working.Progress.{progress_of}
+use Rattle.board_rule.specs.working.DriverProgress.{lead_progress_of}
 
 pub record Known : Type 0 where
   pub table : TableId

@@ -3,12 +3,11 @@ pub mod Indexes
 pub mod Layout
 pub mod View
 pub mod BoardRule
-pub mod Rows
 pub mod Steps
-pub mod Plays
 pub mod Known
 pub mod OnBoard
 pub mod activation
 pub mod events
 pub mod buffers
 pub mod start
+pub mod working

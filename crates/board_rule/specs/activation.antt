@@ -9,4 +9,3 @@ pub mod SeatNodes
 pub mod Taken
 pub mod TellingSteps
 pub mod WorkSteps
-pub mod Progress

@@ -9,7 +9,6 @@ pub mod EventRule
 pub mod TicketSteps
 pub mod CheckSteps
 pub mod EventSteps
-pub mod DriverProgress
 pub mod Closing
 pub mod TicketOrder
 pub mod LateSets

@@ -3,5 +3,4 @@
 pub mod Seats
 pub mod Owners
 pub mod StartViews
-pub mod Slots
 pub mod FirstEnds

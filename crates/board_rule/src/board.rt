@@ -3,8 +3,8 @@ ghost use Rattle.std.specs.Prelude.{◌≡◌, ◌+◌, ◌<◌, ◌≤◌, ◌^
 ghost use Rattle.pw_base.specs.Limits.{dummy_node};
 ghost use Rattle.pw_base.specs.Layout.{pending_place, status_place, late_place, event_place, event_count, area_count};
 ghost use Rattle.board_rule.specs.Layout.{layout_of, IsSound, nodes, first, last, word_count};
-ghost use Rattle.board_rule.specs.Rows.{HasRows, HasIndexes};
-ghost use Rattle.board_rule.specs.start.Slots.{HasSlots};
+ghost use Rattle.board_rule.specs.working.Rows.{HasRows, HasIndexes};
+ghost use Rattle.board_rule.specs.working.Slots.{HasSlots};
 
 use crate::board_shape::BoardShape;
 use crate::rows::Rows;

@@ -3,7 +3,7 @@ ghost use Rattle.std.specs.Prelude.{◌≡◌, ◌<◌, ◌≤◌, ◌^◌, cond
 ghost use Rattle.pw_base.specs.Limits.{dummy_node};
 ghost use Rattle.pw_base.specs.EventWords.{event_node};
 ghost use Rattle.board_rule.specs.start.StartViews.{resting};
-ghost use Rattle.board_rule.specs.events.DriverProgress.{lead_progress_of, told_so_far, reset_so_far, due_ticket, due_event, lead_drawn, lead_stored, is_begin};
+ghost use Rattle.board_rule.specs.working.DriverProgress.{lead_progress_of, told_so_far, reset_so_far, due_ticket, due_event, lead_drawn, lead_stored, is_begin};
 
 use pw_base::Event;
 

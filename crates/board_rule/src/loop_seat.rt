@@ -2,10 +2,10 @@
 ghost use Rattle.std.specs.Prelude.{◌≡◌};
 ghost use Rattle.board_rule.specs.OnBoard.{layout};
 ghost use Rattle.board_rule.specs.activation.SeatNodes.{Has};
-ghost use Rattle.board_rule.specs.start.Slots.{HasReader};
+ghost use Rattle.board_rule.specs.working.Slots.{HasReader};
 ghost use Rattle.board_rule.specs.View.{node_of};
 ghost use Rattle.board_rule.specs.buffers.EndViews.{read_of};
-ghost use Rattle.board_rule.specs.activation.Progress.{progress_of};
+ghost use Rattle.board_rule.specs.working.Progress.{progress_of};
 
 use crate::board::Board;
 use crate::progress::{NodeProgress, draw, finish, node_event, settle, ticket_held, wake};

@@ -6,7 +6,7 @@ ghost use Rattle.pw_base.specs.Pools.{IsPooledShape};
 ghost use Rattle.board_rule.specs.Known.{Known};
 ghost use Rattle.board_rule.specs.Layout.{layout_of, HasSeats};
 ghost use Rattle.board_rule.specs.buffers.SampleWords.{IsTable};
-ghost use Rattle.board_rule.specs.start.Slots.{IsStart};
+ghost use Rattle.board_rule.specs.working.Slots.{IsStart};
 ghost use Rattle.board_rule.specs.View.{Samples, first_view, driver_view, loop_view, split_off};
 
 use crate::board::Board;
@@ -37,7 +37,7 @@ pub(crate) trait Cut {
 }
 
 impl Cut for Brand {
-    ghost use Rattle.board_rule.specs.Plays.{no_view};
+    ghost use Rattle.board_rule.specs.working.Plays.{no_view};
 
     ghost left = { no_view };
 

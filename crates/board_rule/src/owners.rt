@@ -4,7 +4,7 @@ ghost use Rattle.std.specs.List.{flat_map};
 ghost use Rattle.pw_base.specs.Pools.{IsPooledShape, pools_of};
 ghost use Rattle.board_rule.specs.Layout.{layout_of};
 ghost use Rattle.board_rule.specs.start.Owners.{seat_with};
-ghost use Rattle.board_rule.specs.start.Slots.{AreOwners};
+ghost use Rattle.board_rule.specs.working.Slots.{AreOwners};
 
 use crate::board_shape::BoardShape;
 use crate::rows::index_in;

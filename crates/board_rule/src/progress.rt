@@ -7,7 +7,7 @@ ghost use Rattle.pw_base.specs.declared.event.Event.TheVariants.{Start, Finish};
 ghost use Rattle.pw_base.specs.EventWords.{event_node};
 ghost use Rattle.board_rule.specs.events.Bits.{with_bit};
 ghost use Rattle.board_rule.specs.Layout.{nodes};
-ghost use Rattle.board_rule.specs.activation.Progress.{progress_settled};
+ghost use Rattle.board_rule.specs.working.Progress.{progress_settled};
 
 use crate::board::Board;
 use pw_base::Event;

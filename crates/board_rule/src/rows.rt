@@ -5,7 +5,7 @@ ghost use Rattle.board_rule.specs.Layout.{index_in, required_row, target_rows};
 ghost use Rattle.pw_base.specs.Layout.{area_count, areas_of, event_place, event_count, word_count};
 ghost use Rattle.pw_base.specs.Pools.{IsPooledShape, is_same_port, pools_of};
 ghost use Rattle.board_rule.specs.buffers.EndViews.{pool_in};
-ghost use Rattle.board_rule.specs.Rows.{IsLinkRow, HasLinkRows, IsPoolRow, HasPoolRows, HasRows, HasIndexes, base_of};
+ghost use Rattle.board_rule.specs.working.Rows.{IsLinkRow, HasLinkRows, IsPoolRow, HasPoolRows, HasRows, HasIndexes, base_of};
 
 use pw_base::{Memory, PoolShape, PortId, Shape, ShapeLink, is_same_port, pools_of};
 use std::alloc::{AllocError, Global};

@@ -4,8 +4,8 @@ ghost use Rattle.pw_base.specs.Pools.{pools_of};
 ghost use Rattle.board_rule.specs.OnBoard.{layout};
 ghost use Rattle.board_rule.specs.Layout.{layout_of, nodes};
 ghost use Rattle.board_rule.specs.start.Owners.{owners_of, slot_in, AreSlots};
-ghost use Rattle.board_rule.specs.Rows.{HasPoolRows, HasIndexes};
-ghost use Rattle.board_rule.specs.start.Slots.{AreOwners, HasSlots};
+ghost use Rattle.board_rule.specs.working.Rows.{HasPoolRows, HasIndexes};
+ghost use Rattle.board_rule.specs.working.Slots.{AreOwners, HasSlots};
 ghost use Rattle.board_rule.specs.buffers.Spans.{block_at};
 ghost use Rattle.board_rule.specs.buffers.EndViews.{pool_at};
 

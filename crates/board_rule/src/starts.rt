@@ -4,8 +4,8 @@ ghost use Rattle.std.specs.Prelude.{◌≡◌, ◌++◌, IfOk, OnOk, length, map
 ghost use Rattle.pw_base.specs.Pools.{IsPooledShape};
 ghost use Rattle.board_rule.specs.Layout.{layout_of};
 ghost use Rattle.board_rule.specs.start.Owners.{own};
-ghost use Rattle.board_rule.specs.activation.Progress.{progress_of};
-ghost use Rattle.board_rule.specs.start.Slots.{IsStart};
+ghost use Rattle.board_rule.specs.working.Progress.{progress_of};
+ghost use Rattle.board_rule.specs.working.Slots.{IsStart};
 ghost use Rattle.board_rule.specs.View.{blocks_at_first, first_blocks, idle, unread, first_write};
 
 use crate::board_shape::BoardShape;

@@ -145,7 +145,7 @@ pub struct View {
     pub reads: LinkedList<ReadView>,
     /// By link: how many sample words of the block that it took last the reader has loaded, in
     /// their order.
-    pub heard: LinkedList<u64>,
+    pub words_read: LinkedList<u64>,
     /// By pool and number. Those that the seat fills count.
     pub blocks: LinkedList<BlockView>,
     /// By pool: one more than the cycle of its last reclaim, where the first cycle counts as one.

@@ -7,7 +7,7 @@ ghost use Rattle.pw_base.specs.Words.{io_id_in, need_data_word};
 ghost use Rattle.pw_base.specs.Layout.{sample_place};
 ghost use Rattle.board_rule.specs.buffers.EndViews.{write_of, pool_at, block_of};
 ghost use Rattle.board_rule.specs.buffers.BufferReads.{HasPool, IsFilled, is_filled, IsFirstFilled, older};
-ghost use Rattle.board_rule.specs.start.Slots.{HasWriter};
+ghost use Rattle.board_rule.specs.working.Slots.{HasWriter};
 ghost use Rattle.board_rule.specs.buffers.WriterSteps.{LoadsAsWriter, loaded_as_writer, IsGivenBack, StoresHave, have_stored};
 ghost use Rattle.board_rule.specs.buffers.BlockSteps.{StoresSample, sample_stored, StoresReaders, readers_stored};
 ghost use Rattle.board_rule.specs.buffers.ReclaimSteps.{LoadsReaders, FindsDue, readers_loaded, IsOldestOfAny};

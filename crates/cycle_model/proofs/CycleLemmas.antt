@@ -14,7 +14,7 @@ use Rattle.pw_base.specs.declared.plan.Epoch.{Epoch}
 use Rattle.pw_base.specs.declared.plan.Plan.{Plan}
 use Rattle.pw_base.specs.declared.plan.PlanNode.{PlanNode}
 use Rattle.pw_base.specs.Samples.{clamped, silence, summed}
-use Rattle.pw_base.specs.KindFunction.{Heard, kind_output}
+use Rattle.pw_base.specs.KindFunction.{KindInputs, kind_output}
 use Rattle.pw_base.specs.KindPorts.{input_count, output_count, port_count}
 use Rattle.pw_base.specs.PlanForms.{kind_at}
 use Rattle.pw_base.specs.LinkOrder.{HasOrder, IsWithinNodes}
@@ -24,13 +24,13 @@ use Rattle.cycle_model.specs.declared.received.Received.{Received}
 use Rattle.cycle_model.specs.declared.received.Given.{Given}
 use Rattle.pw_base.specs.Pools.{is_same_port}
 use Rattle.cycle_model.specs.Epochs.{is_within, epoch_at, listed, first_at, is_active, links_into, channels_of, channels_at, active_cycles}
-use Rattle.cycle_model.specs.Cycle.{wave_of, last_of, brought, input_of, stream_of, heard, outputs}
+use Rattle.cycle_model.specs.Cycle.{wave_of, last_of, brought, input_of, stream_of, kind_inputs_at, outputs}
 use Rattle.cycle_model.specs.Mixing.{takes_part}
 use Rattle.cycle_model.specs.Renderable.{IsFitting, IsRenderableEpoch, IsRenderable}
-use Rattle.cycle_model.specs.NodeOrder.{is_among, MayFollow, IsOrder, IsWhole}
-use Rattle.cycle_model.specs.Known.{given_at, brought_by, input_by, received_more, given_by, all_given_by, is_released, released}
+use Rattle.cycle_model.specs.working.NodeOrder.{is_among, MayFollow, IsOrder, IsWhole}
+use Rattle.cycle_model.specs.working.Known.{given_at, brought_by, input_by, received_more, given_by, all_given_by, is_released, released}
 use Rattle.cycle_model.specs.Progress.{received_until, received_before, nothing, AreReceived, IsOutputOf, TellsCycle, TellsBefore}
-use Rattle.cycle_model.specs.UnderWay.{IsUnderWay, IsCycle}
+use Rattle.cycle_model.specs.working.UnderWay.{IsUnderWay, IsCycle}
 use Rattle.cycle_model.proofs.SingleEpochLemmas.{any_map, takes}
 use Rattle.cycle_model.proofs.EpochLemmas.{before}
 use Rattle.cycle_model.proofs.SettledLemmas.{map_agree, known_epoch, outputs_solve}
@@ -111,7 +111,7 @@ module _ (q : ℕ) (e : Epoch) (k : Kind) (wave : List ℤ) (node : ℕ) (r : Re
       (cases_eq a o)
 
 -- the kind function reads no stream of an input that the kind has not
-pub heard_same : (k : Kind) (wave : List ℤ) (frames channels : ℕ) (a b : List ℤ) (o : ℕ)
+pub inputs_same : (k : Kind) (wave : List ℤ) (frames channels : ℕ) (a b : List ℤ) (o : ℕ)
     → kind_output k (record {
       wave = wave;
       frames = frames;
@@ -120,16 +120,16 @@ pub heard_same : (k : Kind) (wave : List ℤ) (frames channels : ℕ) (a b : Lis
       b = cond (nat_lt 1 (input_count k)) b [];
     }) o
     ≡ kind_output k (record { wave = wave; frames = frames; channels = channels; a = a; b = b }) o
-heard_same Source wave frames channels a b o = refl
-heard_same (Square x y z w) wave frames channels a b o = refl
-heard_same (Gain x) wave frames channels a b o = refl
-heard_same (Mix2 x y) wave frames channels a b o = refl
-heard_same (Delay x) wave frames channels a b o = refl
-heard_same (Map x y) wave frames channels a b o = refl
-heard_same Split wave frames channels a b o = refl
-heard_same Sink wave frames channels a b o = refl
-heard_same Meter wave frames channels a b o = refl
-heard_same Dummy wave frames channels a b o = refl
+inputs_same Source wave frames channels a b o = refl
+inputs_same (Square x y z w) wave frames channels a b o = refl
+inputs_same (Gain x) wave frames channels a b o = refl
+inputs_same (Mix2 x y) wave frames channels a b o = refl
+inputs_same (Delay x) wave frames channels a b o = refl
+inputs_same (Map x y) wave frames channels a b o = refl
+inputs_same Split wave frames channels a b o = refl
+inputs_same Sink wave frames channels a b o = refl
+inputs_same Meter wave frames channels a b o = refl
+inputs_same Dummy wave frames channels a b o = refl
 
 -- a number that is no place of a node has no output
 no_node : (nodes : List PlanNode) (n : ℕ) → length nodes ≤ n → unwrap_or (option_map (λ n. n.kind) (slice_get nodes n)) Dummy ≡ Dummy
@@ -164,17 +164,17 @@ given_is plan waves c e renderable here node o on =
     ≡ plan.quantum * length (active_cycles plan 0 c node) =
     ap (λ n. plan.quantum * length (filter (λ k. is_active plan k node) (range_with_len 0 n))) cycles in
     ap (last_of (plan.quantum * ch))
-    (heard_same k (wave_of waves node) (plan.quantum * length (filter (λ k. is_active plan k node) (range_with_len 0 (suc c)))) ch a b o
-    ∙ ap (λ n. kind_output k (let h : Heard = record { wave = wave_of waves node; frames = n; channels = ch; a = a; b = b } in h) o) frames)
+    (inputs_same k (wave_of waves node) (plan.quantum * length (filter (λ k. is_active plan k node) (range_with_len 0 (suc c)))) ch a b o
+    ∙ ap (λ n. kind_output k (let h : KindInputs = record { wave = wave_of waves node; frames = n; channels = ch; a = a; b = b } in h) o) frames)
     ∙ ap (λ n. last_of (plan.quantum * n) (kind_output k
-    (let h : Heard = record {
+    (let h : KindInputs = record {
       wave = wave_of waves node;
       frames = plan.quantum * length (active_cycles plan 0 c node);
       channels = n;
       a = a;
       b = b;
     } in h) o)) (sym channels)
-    ∙ ap (λ m. last_of (plan.quantum * channels_at plan c port) (kind_output k (heard plan waves out c port) m)) (sym which)
+    ∙ ap (λ m. last_of (plan.quantum * channels_at plan c port) (kind_output k (kind_inputs_at plan waves out c port) m)) (sym which)
     ∙ sym (outputs_solve plan waves renderable c port active)
 
 record IsFeed (plan : Plan) (e : Epoch) (done : List ℕ) (node : ℕ) (port : PortId) (l : ShapeLink) : Type 0 where
@@ -273,11 +273,11 @@ module _ (plan : Plan) (waves : List WavIn) (c : ℕ) (e : Epoch) (first : Bool)
       let sets : later ≡ set received node r = is_later ∙ ap (set received node) here in
       record {
         counted = ap length sets ∙ simp length-set way.counted;
-        heard = λ m small among. ⊎_elim
+        worked = λ m small among. ⊎_elim
             (λ (same : m ≡ node). ap₂ (λ rs j. get_or rs j nothing) sets same
             ∙ get_or-set_same received node r nothing (omega (arith, way.counted)) ∙ ap (received_until plan out (suc c)) (sym same))
             (λ (ne : m ≢ node). ap (λ rs. get_or rs m nothing) sets ∙ get_or-set_other received node m r nothing ne
-            ∙ way.heard m small (sym (among_other done node m ne) ∙ among))
+            ∙ way.worked m small (sym (among_other done node m ne) ∙ among))
             (cases_eq m node);
         waiting = λ m small among. ⊎_elim
             (λ (same : m ≡ node). absurd (false≢true (sym among ∙ among_last done node m (sym same))))
@@ -318,7 +318,7 @@ pub none_more : (plan : Plan) (waves : List WavIn) (c : ℕ) (done : List ℕ) (
     → IsUnderWay plan waves c (done ++ node ∷ []) received now
 none_more plan waves c done received now node way high = record {
   counted = way.counted;
-  heard = λ m small among. way.heard m small (sym (among_other done node m (λ s. omega (arith, s, small, high))) ∙ among);
+  worked = λ m small among. way.worked m small (sym (among_other done node m (λ s. omega (arith, s, small, high))) ∙ among);
   waiting = λ m small among. way.waiting m small (sym (among_other done node m (λ s. omega (arith, s, small, high))) ∙ among);
   only = λ i d small. among_kept done node (get_or now i d).port.node (way.only i d small);
   told = λ port among is_out. ⊎_elim
@@ -332,7 +332,7 @@ pub none_done : (plan : Plan) (waves : List WavIn) (c : ℕ) (received : List Re
     → AreReceived (length plan.nodes) (received_before plan (outputs plan waves) c) received → IsUnderWay plan waves c [] received []
 none_done plan waves c received h = record {
   counted = h.counted;
-  heard = λ n small among. absurd (false≢true among);
+  worked = λ n small among. absurd (false≢true among);
   waiting = λ n small among. h.each n small;
   only = All-nil (λ g. is_among [] g.port.node ≡ true);
   told = λ port among is_out. absurd (false≢true among);
@@ -347,7 +347,7 @@ all_done plan waves c e order received now at whole way = (
   record {
     counted = way.counted;
     each = λ n small. ⊎_elim
-        (λ (t : is_among order n ≡ true). way.heard n small t)
+        (λ (t : is_among order n ≡ true). way.worked n small t)
         (λ (f : is_among order n ≡ false).
         let idle : is_active plan c n ≡ false = active_in plan c e n at
         ∙ ⊎_elim (λ (on : takes_part e n ≡ true). absurd (false≢true (sym f ∙ whole n on))) (λ (off : takes_part e n ≡ false). off)

@@ -19,7 +19,7 @@ use Rattle.pw_base.specs.declared.shape.ShapeLink.{ShapeLink}
 use Rattle.pw_base.specs.declared.plan.Epoch.{Epoch}
 use Rattle.pw_base.specs.declared.plan.Plan.{Plan}
 use Rattle.pw_base.specs.declared.plan.PlanNode.{PlanNode}
-use Rattle.pw_base.specs.KindFunction.{Heard, kind_output, square_at}
+use Rattle.pw_base.specs.KindFunction.{KindInputs, kind_output, square_at}
 use Rattle.pw_base.specs.KindPorts.{input_count}
 use Rattle.pw_base.specs.KindRanges.{IsInRange}
 use Rattle.pw_base.specs.PlanForms.{kind_at}
@@ -31,7 +31,7 @@ use Rattle.pw_base.proofs.PoolLemmas.{same_port, port_same}
 use Rattle.pw_base.proofs.PrecedenceLemmas.{holds_at}
 use Rattle.wav_files.specs.declared.wav.WavIn.{WavIn}
 use Rattle.cycle_model.specs.Epochs.{is_within, epoch_at, listed, links_into, channels_of, channels_at, active_cycles, stream_start, all_cycles}
-use Rattle.cycle_model.specs.Cycle.{Outputs, wave_of, brought, input_of, stream_of, heard, output_of, outputs_after, outputs}
+use Rattle.cycle_model.specs.Cycle.{Outputs, wave_of, brought, input_of, stream_of, kind_inputs_at, output_of, outputs_after, outputs}
 use Rattle.cycle_model.specs.KindSamples.{kind_sample, kind_length}
 use Rattle.cycle_model.specs.Mixing.{takes_part}
 use Rattle.cycle_model.specs.Progress.{IsOutputOf}
@@ -220,8 +220,8 @@ square_short : (period : ℕ) (amp : ℤ) (i : ℕ) → pos 0 ≤ℤ amp → amp
 square_short period amp i low high = cond_both (nat_lt (2 * (i % period)) period) amp (neg_ℤ amp) IsShort
     (λ t. (omega (arith, ints, low), omega (arith, ints, high))) (λ f. (omega (arith, ints, high), omega (arith, ints, low)))
 
--- a sample of a kind, where what it has heard is of 16 bits
-sample_short : (k : Kind) (h : Heard) (o i : ℕ) → IsInRange k → All IsShort h.wave → All IsShort h.a → IsShort (kind_sample k h o i)
+-- a sample of a kind, where what it has received is of 16 bits
+sample_short : (k : Kind) (h : KindInputs) (o i : ℕ) → IsInRange k → All IsShort h.wave → All IsShort h.a → IsShort (kind_sample k h o i)
 sample_short Source h o i range wave a = any_item IsShort h.wave i (pos 0) wave zero_short
 sample_short (Square rate channels period amp) h o i range wave a = square_short period amp (i / h.channels) range.3 range.4
 sample_short (Gain g) h o i range wave a = clamped_short (int_shr (get_or h.a i (pos 0) *ℤ g) 8)
@@ -242,7 +242,7 @@ output_short : (plan : Plan) (waves : List WavIn) → IsSoundPlan plan → AreSh
     → All IsShort (output_of plan waves out c port)
 output_short plan waves sound short out c port =
     let k = kind_at plan port.node in
-    let h = heard plan waves out c port in
+    let h = kind_inputs_at plan waves out c port in
     let o = port.port - input_count k in
     let row = kind_output k h o in
     let whole : All IsShort row = subst (All IsShort) (sym (kind_rows k h o)) (samples k (kind_in plan.nodes port.node nodes) h o
@@ -260,7 +260,7 @@ output_short plan waves sound short out c port =
     kind_in (x ∷ xs) zero all = inl (All-head (λ (y : PlanNode). IsInRange y.kind) x xs all)
     kind_in (x ∷ xs) (suc n) all = kind_in xs n (All-tail (λ (y : PlanNode). IsInRange y.kind) x xs all)
 
-    samples : (k : Kind) → IsInRange k ⊎ (k ≡ Dummy) → (h : Heard) (o : ℕ) → All IsShort h.wave → All IsShort h.a
+    samples : (k : Kind) → IsInRange k ⊎ (k ≡ Dummy) → (h : KindInputs) (o : ℕ) → All IsShort h.wave → All IsShort h.a
         → All IsShort (map (kind_sample k h o) (range_with_len 0 (kind_length k h)))
     samples k (inl range) h o wave a =
         all_mapped (kind_sample k h o) (range_with_len 0 (kind_length k h)) (λ i. sample_short k h o i range wave a)

@@ -16,19 +16,19 @@ use Rattle.pw_base.specs.declared.shape.ShapeLink.{ShapeLink}
 use Rattle.pw_base.specs.declared.plan.Epoch.{Epoch}
 use Rattle.pw_base.specs.declared.plan.Plan.{Plan}
 use Rattle.pw_base.specs.Samples.{clamped, silence, summed}
-use Rattle.pw_base.specs.KindFunction.{Heard, kind_output}
+use Rattle.pw_base.specs.KindFunction.{KindInputs, kind_output}
 use Rattle.pw_base.specs.KindPorts.{input_count, port_count}
 use Rattle.pw_base.specs.PlanForms.{kind_at}
 use Rattle.pw_base.specs.Pools.{is_same_port}
 use Rattle.pw_base.proofs.PoolLemmas.{same_port}
 use Rattle.wav_files.specs.declared.wav.WavIn.{WavIn}
 use Rattle.cycle_model.specs.Epochs.{epoch_at, listed, first_at, is_active, links_into, channels_of, channels_at, active_cycles}
-use Rattle.cycle_model.specs.Cycle.{Outputs, last_of, brought, input_of, stream_of, heard, outputs}
+use Rattle.cycle_model.specs.Cycle.{Outputs, last_of, brought, input_of, stream_of, kind_inputs_at, outputs}
 use Rattle.cycle_model.specs.KindSamples.{kind_sample, kind_length}
 use Rattle.cycle_model.specs.Mixing.{takes_part}
 use Rattle.cycle_model.specs.Progress.{IsOutputOf, begun}
 use Rattle.cycle_model.specs.Renderable.{IsFitting, IsRenderable}
-use Rattle.cycle_model.specs.FullRows.{AgreesIn, AreFormed, AreFull}
+use Rattle.cycle_model.specs.working.FullRows.{AgreesIn, AreFormed, AreFull}
 use Rattle.cycle_model.proofs.CycleLemmas.{active_in}
 use Rattle.cycle_model.proofs.DepthLemmas.{depth, depth_less, depth_small, node_small}
 use Rattle.cycle_model.proofs.EpochLemmas.{before, of_epoch}
@@ -57,7 +57,7 @@ mul_le : (q f n : ℕ) → q ≤ f → q * n ≤ f * n
 mul_le q f n l = grind (arith, l, mul-le-mul_left n l)
 
 -- what a kind makes of a quantum at each input has a quantum
-kind_full : (k : Kind) (h : Heard) (q a b i : ℕ) → AgreesIn k a b h.channels → q ≤ h.frames → q * a ≤ length h.a → q * b ≤ length h.b
+kind_full : (k : Kind) (h : KindInputs) (q a b i : ℕ) → AgreesIn k a b h.channels → q ≤ h.frames → q * a ≤ length h.a → q * b ≤ length h.b
     → input_count k ≤ i → i < port_count k → q * h.channels ≤ kind_length k h
 kind_full Source h q a b i agrees frames la lb low high = mul_le q h.frames h.channels frames
 kind_full (Square x y z w) h q a b i agrees frames la lb low high = mul_le q h.frames h.channels frames
@@ -68,8 +68,8 @@ kind_full (Delay x) h q a b i agrees frames la lb low high = let is = ap (λ n. 
 kind_full (Map channels list) h q a b i agrees frames la lb low high =
     let is = ap (λ n. q * n) agrees.0 in
     let out = ap (λ n. q * n) agrees.1 in
-    let heard : q * channels ≤ length h.a = omega (arith, is, la) in
-    let whole : q ≤ length h.a / channels = (le-div_iff_mul-le agrees.2).1 heard in
+    let long : q * channels ≤ length h.a = omega (arith, is, la) in
+    let whole : q ≤ length h.a / channels = (le-div_iff_mul-le agrees.2).1 long in
     let up = mul_le q (length h.a / channels) (length list) whole in
     omega (arith, out, up)
 kind_full Split h q a b i agrees frames la lb low high =
@@ -82,7 +82,7 @@ kind_full Dummy h q a b i agrees frames la lb low high = absurd (omega (arith, l
 last_full : (n : ℕ) (row : List ℤ) → n ≤ length row → length (last_of n row) ≡ n
 last_full n row h = let rest = length-drop (length row - n) row in omega (arith, h, rest)
 
--- an active node has heard a quantum of frames, and a stream ends with the input of the cycle
+-- an active node has received a quantum of frames, and a stream ends with the input of the cycle
 frames_full : (plan : Plan) (c node : ℕ) → is_active plan c node ≡ true → plan.quantum ≤ plan.quantum * length (active_cycles plan 0 c node)
 frames_full plan c node active =
     let p : ℕ → Bool = λ k. is_active plan k node in
@@ -184,7 +184,7 @@ module _ (plan : Plan) (waves : List WavIn) (r : IsRenderable plan waves) (forme
   all_full (suc m) c port e rank h g part is_out bound =
       let active : is_active plan c port.node ≡ true = active_in plan c e port.node h ∙ part in
       let k = kind_at plan port.node in
-      let heard_of_port = heard plan waves out c port in
+      let inputs_of_port = kind_inputs_at plan waves out c port in
       let input : (i : ℕ) → plan.quantum * channels_of e.forms (record { node = port.node; port = i })
       ≤ length (stream_of plan out c (record { node = port.node; port = i })) = λ i.
       let p : PortId = record { node = port.node; port = i } in
@@ -195,13 +195,13 @@ module _ (plan : Plan) (waves : List WavIn) (r : IsRenderable plan waves) (forme
       let agrees = subst (AgreesIn k (channels_of e.forms (record { node = port.node; port = 0 }))
       (channels_of e.forms (record { node = port.node; port = 1 }))) (sym channels) (formed c e port h part is_out) in
       let o = port.port - input_count k in
-      let whole : plan.quantum * channels_at plan c port ≤ kind_length k heard_of_port =
-      kind_full k heard_of_port plan.quantum (channels_of e.forms (record { node = port.node; port = 0 }))
+      let whole : plan.quantum * channels_at plan c port ≤ kind_length k inputs_of_port =
+      kind_full k inputs_of_port plan.quantum (channels_of e.forms (record { node = port.node; port = 0 }))
       (channels_of e.forms (record { node = port.node; port = 1 })) port.port agrees (frames_full plan c port.node active)
       (input 0) (input 1) is_out.0 is_out.1 in
-      let row = kind_output k heard_of_port o in
-      let long : length row ≡ kind_length k heard_of_port =
-      ap length (kind_rows k heard_of_port o) ∙ length-map-range_with_len (kind_sample k heard_of_port o) 0 (kind_length k heard_of_port) in
+      let row = kind_output k inputs_of_port o in
+      let long : length row ≡ kind_length k inputs_of_port =
+      ap length (kind_rows k inputs_of_port o) ∙ length-map-range_with_len (kind_sample k inputs_of_port o) 0 (kind_length k inputs_of_port) in
       ap length (outputs_solve plan waves r c port active)
       ∙ last_full (plan.quantum * channels_at plan c port) row (omega (arith, whole, long))
       ∙ ap (λ n. plan.quantum * n) channels

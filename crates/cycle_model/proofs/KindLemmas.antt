@@ -12,7 +12,7 @@ use Rattle.std.proofs.lemmas.Bool.{cases_lt, cond-true, cond-false, lt-ltb, le-l
 use Rattle.pw_base.specs.declared.kind.Kind.{Kind}
 use Rattle.pw_base.specs.declared.kind.Kind.TheVariants.{Source, Square, Gain, Mix2, Delay, Map, Split, Sink, Meter, Dummy}
 use Rattle.pw_base.specs.Samples.{scaled, mixed, sample_at, of_frames}
-use Rattle.pw_base.specs.KindFunction.{Heard, kind_output}
+use Rattle.pw_base.specs.KindFunction.{KindInputs, kind_output}
 use Rattle.cycle_model.specs.Cycle.{last_of}
 use Rattle.cycle_model.specs.KindSamples.{kind_sample, kind_length}
 use Rattle.cycle_model.proofs.RowLemmas.{padded, end_of_row}
@@ -70,7 +70,7 @@ one_row n row channel =
     ap₂ (λ f k. map f (range_with_len 0 k)) same count
 
 -- the whole stream at an output is the row of its samples
-pub kind_rows : (k : Kind) (h : Heard) (output : ℕ)
+pub kind_rows : (k : Kind) (h : KindInputs) (output : ℕ)
     → kind_output k h output ≡ map (kind_sample k h output) (range_with_len 0 (kind_length k h))
 kind_rows Source h output = padded h.wave (h.frames * h.channels)
 kind_rows (Square rate channels period amp) h output = refl
@@ -94,12 +94,12 @@ last_rows f len n from is =
     ∙ ap (λ m. drop from (map f (range_with_len 0 m))) whole
     ∙ end_of_row f from (len - from)
 
-pub last_output : (k : Kind) (h : Heard) (output n from : ℕ) → from ≡ kind_length k h - n
+pub last_output : (k : Kind) (h : KindInputs) (output n from : ℕ) → from ≡ kind_length k h - n
     → last_of n (kind_output k h output) ≡ map (λ r. kind_sample k h output (from + r)) (range_with_len 0 (kind_length k h - from))
 last_output k h output n from is = ap (last_of n) (kind_rows k h output) ∙ last_rows (kind_sample k h output) (kind_length k h) n from is
 
 -- the last samples, written over zeros
-pub wrote_last : (k : Kind) (h : Heard) (output n len from : ℕ) (row new : List ℤ) → len ≡ kind_length k h → from ≡ len - n
+pub wrote_last : (k : Kind) (h : KindInputs) (output n len from : ℕ) (row new : List ℤ) → len ≡ kind_length k h → from ≡ len - n
     → row ≡ replicate (len - from) (pos 0)
     → new ≡ map (λ r. kind_sample k h output (from + r)) (range_with_len 0 (length row))
     → take (length row) (new ++ drop (length new) row) ≡ last_of n (kind_output k h output)

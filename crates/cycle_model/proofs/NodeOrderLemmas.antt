@@ -11,7 +11,7 @@ use Rattle.pw_base.specs.declared.plan.Epoch.{Epoch}
 use Rattle.pw_base.specs.LinkOrder.{is_blocked, IsFree}
 use Rattle.pw_base.proofs.OrderLemmas.{blocks}
 use Rattle.cycle_model.specs.Mixing.{takes_part}
-use Rattle.cycle_model.specs.NodeOrder.{is_among, MayFollow, IsOrder, IsWhole}
+use Rattle.cycle_model.specs.working.NodeOrder.{is_among, MayFollow, IsOrder, IsWhole}
 
 -- one node more is among them
 pub among_last : (order : List ℕ) (n m : ℕ) → n ≡ m → is_among (order ++ n ∷ []) m ≡ true

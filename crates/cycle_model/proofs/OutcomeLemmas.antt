@@ -22,7 +22,7 @@ use Rattle.cycle_model.specs.declared.received.Received.{Received}
 use Rattle.cycle_model.specs.Epochs.{all_cycles}
 use Rattle.cycle_model.specs.Cycle.{Outputs, stream_of, outputs}
 use Rattle.cycle_model.specs.Rendering.{is_meter, end_stream, kept_of, peak_at}
-use Rattle.cycle_model.specs.Known.{kept_by, peak_by}
+use Rattle.cycle_model.specs.working.Known.{kept_by, peak_by}
 use Rattle.cycle_model.specs.Progress.{streamed, received_until, nothing, AreReceived}
 use Rattle.cycle_model.proofs.CycleLemmas.{kind_there}
 

@@ -18,7 +18,7 @@ use Rattle.cycle_model.specs.declared.received.Received.{Received}
 use Rattle.cycle_model.specs.Epochs.{is_active, is_fresh, stream_start}
 use Rattle.cycle_model.specs.Cycle.{Outputs, input_of, stream_of}
 use Rattle.cycle_model.specs.declared.received.Given.{Given}
-use Rattle.cycle_model.specs.Known.{input_by, received_more, is_released, released}
+use Rattle.cycle_model.specs.working.Known.{input_by, received_more, is_released, released}
 use Rattle.cycle_model.specs.Progress.{streamed, begun, received_with, received_until, received_before}
 
 -- one step of the search for the start of a node's streams

@@ -22,7 +22,7 @@ use Rattle.wav_files.specs.declared.wav.WavIn.{WavIn}
 use Rattle.pw_base.specs.Pools.{is_same_port}
 use Rattle.cycle_model.specs.Epochs.{is_within, is_fresh, epoch_at, listed, is_active, links_into, channels_of, channels_at, active_cycles}
 use Rattle.cycle_model.specs.Epochs.{stream_start, all_cycles}
-use Rattle.cycle_model.specs.Cycle.{Outputs, kind_at, wave_of, brought, input_of, stream_of, heard, last_of, output_of, outputs_after}
+use Rattle.cycle_model.specs.Cycle.{Outputs, kind_at, wave_of, brought, input_of, stream_of, kind_inputs_at, last_of, output_of, outputs_after}
 use Rattle.cycle_model.specs.Cycle.{outputs}
 use Rattle.cycle_model.specs.Mixing.{takes_part, IsSourceOrSink}
 use Rattle.cycle_model.specs.Renderable.{IsFitting}
@@ -105,7 +105,7 @@ source_row : (plan : Plan) (e : Epoch) → IsSingle plan e → (waves : List Wav
     → kind_at plan port.node ≡ Source → (q : ℕ) → q ≡ plan.quantum * channels_of e.forms port
     → output_of plan waves out c port ≡ map (λ r. wave_at waves (c * q + r) port.node) (range_with_len 0 q)
 source_row plan e s waves out c port h t kind q is_q =
-    let h1 = heard plan waves out c port in
+    let h1 = kind_inputs_at plan waves out c port in
     let ch : channels_at plan c port ≡ channels_of e.forms port = channels_are plan e s c port h in
     let len : length (active_cycles plan 0 c port.node) ≡ c + 1 = ap length (cycles_all plan e s c port.node h t)
     ∙ length-range_with_len 0 (c + 1) in

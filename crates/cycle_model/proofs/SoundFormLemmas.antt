@@ -22,7 +22,7 @@ use Rattle.cycle_model.specs.Epochs.{epoch_at, is_within, channels_of}
 use Rattle.cycle_model.specs.Mixing.{takes_part}
 use Rattle.cycle_model.specs.Progress.{IsOutputOf}
 use Rattle.cycle_model.specs.WavesFit.{WavesFit}
-use Rattle.cycle_model.specs.FullRows.{AgreesIn, AreFormed, AreFull}
+use Rattle.cycle_model.specs.working.FullRows.{AgreesIn, AreFormed, AreFull}
 use Rattle.cycle_model.proofs.CycleLemmas.{is_node, kind_there}
 use Rattle.cycle_model.proofs.EpochLemmas.{found}
 use Rattle.cycle_model.proofs.FullRowLemmas.{formed_rows}

@@ -37,7 +37,7 @@ late from to = record { from = from; to = to; channels = 1; buffers = 2; delayed
 abbrev fresh : ℕ → Fresh
 fresh n = record { node = n; channels = 1 }
 
--- an epoch from its first cycle on: so many cycles of so many frames, its active nodes, links, forms and fresh nodes
+-- an epoch from its first cycle on: cycles of frames, its active nodes, links, forms and fresh nodes
 abbrev epoch : ℕ → ℕ → ℕ → List ℕ → List ShapeLink → List (ℕ × ℕ × ℕ) → List ℕ → Epoch
 epoch first cycles quantum active links forms begins = record {
   shape = record {

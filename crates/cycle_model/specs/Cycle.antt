@@ -7,7 +7,7 @@ use Rattle.pw_base.specs.declared.ids.PortId.{PortId}
 use Rattle.pw_base.specs.declared.shape.ShapeLink.{ShapeLink}
 use Rattle.pw_base.specs.declared.plan.Plan.{Plan}
 use Rattle.pw_base.specs.Samples.{clamped, silence, summed}
-use Rattle.pw_base.specs.KindFunction.{Heard, kind_output}
+use Rattle.pw_base.specs.KindFunction.{KindInputs, kind_output}
 use Rattle.pw_base.specs.KindPorts.{input_count}
 pub use Rattle.pw_base.specs.PlanForms.{kind_at}
 use Rattle.wav_files.specs.declared.wav.WavIn.{WavIn}
@@ -47,8 +47,8 @@ stream_of plan out cycle port =
 
 -- all that the node of an output port has received up to a cycle: its file, its active frames, its
 -- inputs' streams
-abbrev pub heard : Plan → List WavIn → Outputs → ℕ → PortId → Heard
-heard plan waves out cycle port = record {
+abbrev pub kind_inputs_at : Plan → List WavIn → Outputs → ℕ → PortId → KindInputs
+kind_inputs_at plan waves out cycle port = record {
   wave = wave_of waves port.node;
   frames = plan.quantum * length (active_cycles plan 0 cycle port.node);
   channels = channels_at plan cycle port;
@@ -64,7 +64,7 @@ last_of n row = drop (length row - n) row
 abbrev pub output_of : Plan → List WavIn → Outputs → ℕ → PortId → List ℤ
 output_of plan waves out cycle port =
     last_of (plan.quantum * channels_at plan cycle port)
-    (kind_output (kind_at plan port.node) (heard plan waves out cycle port)
+    (kind_output (kind_at plan port.node) (kind_inputs_at plan waves out cycle port)
     (port.port - input_count (kind_at plan port.node)))
 
 -- what is known after n rounds, each of which works out every output from those known before it

@@ -5,12 +5,12 @@ use Rattle.std.specs.Prelude.{ℕ, ◌-◌, ◌*◌, ◌/◌, ◌%◌, min, List
 use Rattle.pw_base.specs.declared.kind.Kind.{Kind}
 use Rattle.pw_base.specs.declared.kind.Kind.TheVariants.{Source, Square, Gain, Mix2, Delay, Map, Split, Sink, Meter, Dummy}
 use Rattle.pw_base.specs.Samples.{scaled, mixed, sample_at}
-use Rattle.pw_base.specs.KindFunction.{Heard, square_at}
+use Rattle.pw_base.specs.KindFunction.{KindInputs, square_at}
 use Rattle.cycle_model.specs.declared.received.Received.{Received}
 
 -- what a node has to work with: its wave, and what it has received
-abbrev pub heard_of : List ℤ → ℕ → Received → Heard
-heard_of wave channels r = record {
+abbrev pub kind_inputs_of : List ℤ → ℕ → Received → KindInputs
+kind_inputs_of wave channels r = record {
   wave = wave;
   frames = r.frames;
   channels = channels;
@@ -19,7 +19,7 @@ heard_of wave channels r = record {
 }
 
 -- sample i at an output, outputs counted from 0
-abbrev pub kind_sample : Kind → Heard → ℕ → ℕ → ℤ
+abbrev pub kind_sample : Kind → KindInputs → ℕ → ℕ → ℤ
 kind_sample Source h output i = slice_index_or h.wave i (pos 0)
 kind_sample (Square rate channels period amp) h output i = square_at period amp (i / h.channels)
 kind_sample (Gain g) h output i = scaled g (slice_index_or h.a i (pos 0))
@@ -35,7 +35,7 @@ kind_sample Meter h output i = pos 0
 kind_sample Dummy h output i = pos 0
 
 -- how many samples there are
-abbrev pub kind_length : Kind → Heard → ℕ
+abbrev pub kind_length : Kind → KindInputs → ℕ
 kind_length Source h = h.frames * h.channels
 kind_length (Square rate channels period amp) h = h.frames * h.channels
 kind_length (Gain g) h = length h.a

@@ -1,14 +1,10 @@
 pub mod Cycle
 pub mod Epochs
 pub mod Expected
-pub mod FullRows
 pub mod KindSamples
-pub mod Known
-pub mod KnownSamples
 pub mod Mixing
-pub mod NodeOrder
 pub mod Progress
-pub mod UnderWay
 pub mod Renderable
 pub mod Rendering
 pub mod WavesFit
+pub mod working

@@ -12,7 +12,7 @@ use Rattle.cycle_model.specs.declared.received.Received.{Received}
 use Rattle.cycle_model.specs.declared.received.Given.{Given}
 use Rattle.cycle_model.specs.Epochs.{is_active, stream_start}
 use Rattle.cycle_model.specs.Cycle.{Outputs, input_of, stream_of}
-use Rattle.cycle_model.specs.Known.{given_at}
+use Rattle.cycle_model.specs.working.Known.{given_at}
 
 -- a port's stream after n cycles
 abbrev pub streamed : Plan → Outputs → ℕ → PortId → List ℤ

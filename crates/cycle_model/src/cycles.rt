@@ -3,8 +3,8 @@ ghost use Rattle.std.specs.Prelude.{◌≡◌, ℕ, ◌+◌, ◌<◌, suc, Some,
 ghost use Rattle.cycle_model.specs.Cycle.{outputs};
 ghost use Rattle.cycle_model.specs.Epochs.{is_within, epoch_at, all_cycles};
 ghost use Rattle.cycle_model.specs.Progress.{received_until, received_before, nothing, AreReceived, TellsCycle, TellsBefore};
-ghost use Rattle.cycle_model.specs.UnderWay.{IsUnderWay, IsCycle};
-ghost use Rattle.cycle_model.specs.NodeOrder.{IsOrder};
+ghost use Rattle.cycle_model.specs.working.UnderWay.{IsUnderWay, IsCycle};
+ghost use Rattle.cycle_model.specs.working.NodeOrder.{IsOrder};
 ghost use Rattle.cycle_model.specs.Renderable.{IsRenderable};
 
 use crate::order::order_of;

@@ -7,7 +7,7 @@ ghost use Rattle.pw_base.specs.Samples.{clamped, scaled, mixed, sample_at};
 ghost use Rattle.pw_base.specs.KindFunction.{kind_output, square_at};
 ghost use Rattle.pw_base.specs.KindRanges.{IsInRange};
 ghost use Rattle.cycle_model.specs.Cycle.{last_of};
-ghost use Rattle.cycle_model.specs.KindSamples.{heard_of, kind_sample, kind_length};
+ghost use Rattle.cycle_model.specs.KindSamples.{kind_inputs_of, kind_sample, kind_length};
 
 use crate::received::Received;
 use pw_base::{Items, Kind, Memory};
@@ -102,8 +102,9 @@ fn sample_of(
     i: usize,
 ) -> i16
     requires range { IsInRange kind.now }
-    requires within { i < kind_length kind.now (heard_of wave.now channels received.now) }
-    ensures { result ≡ kind_sample kind.now (heard_of wave.now channels received.now) output i }
+    requires within { i < kind_length kind.now (kind_inputs_of wave.now channels received.now) }
+    ensures { result
+        ≡ kind_sample kind.now (kind_inputs_of wave.now channels received.now) output i }
 {
     let a = received.a.as_slice();
     match kind {
@@ -132,7 +133,7 @@ fn sample_of(
 fn length_of(kind: &Kind, received: &Received, channels: u32) -> Option<usize>
     requires range { IsInRange kind.now }
     ensures { (wave : List ℤ) → IfSome result
-        (λ n. n ≡ kind_length kind.now (heard_of wave channels received.now)) }
+        (λ n. n ≡ kind_length kind.now (kind_inputs_of wave channels received.now)) }
 {
     let a = received.a.len();
     match kind {
@@ -159,10 +160,10 @@ fn fill(
 )
     requires range { IsInRange kind.now }
     requires within { from + length to.old
-        ≤ kind_length kind.now (heard_of wave.now channels received.now) }
+        ≤ kind_length kind.now (kind_inputs_of wave.now channels received.now) }
     requires fits { from + length to.old < 2 ^ 64 }
     ensures { to.new
-        ≡ map (λ r. kind_sample kind.now (heard_of wave.now channels received.now) output
+        ≡ map (λ r. kind_sample kind.now (kind_inputs_of wave.now channels received.now) output
         (from + r)) (range_with_len 0 (length to.old)) }
 {
     for r in 0..to.len() {
@@ -183,7 +184,7 @@ pub(crate) fn last_given(
 ) -> Result<Items<i16>, Memory>
     requires range { IsInRange kind.now }
     ensures { IfOk result (λ row. row ≡ last_of n
-        (kind_output kind.now (heard_of wave.now channels received.now) output)) }
+        (kind_output kind.now (kind_inputs_of wave.now channels received.now) output)) }
 {
     let Some(len) = length_of(kind, received, channels) else {
         return Err(Memory);

@@ -2,7 +2,7 @@
 ghost use Rattle.std.specs.Prelude.{◌≡◌, ℕ, ◌<◌, true, false, All, length, slice_index_or, IfOk};
 ghost use Rattle.pw_base.specs.LinkOrder.{HasOrder, IsWithinNodes};
 ghost use Rattle.cycle_model.specs.Mixing.{takes_part};
-ghost use Rattle.cycle_model.specs.NodeOrder.{IsOrder, IsWhole};
+ghost use Rattle.cycle_model.specs.working.NodeOrder.{IsOrder, IsWhole};
 
 use crate::epochs::takes_part;
 use pw_base::{Epoch, Items, Memory, NODES, find_free};

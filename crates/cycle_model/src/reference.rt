@@ -3,7 +3,7 @@ ghost use Rattle.std.specs.Prelude.{◌≡◌, [], ◌++◌, All, length, option
 ghost use Rattle.pw_base.specs.Samples.{peak_of};
 ghost use Rattle.pw_base.specs.SoundPlan.{IsSoundPlan};
 ghost use Rattle.wav_files.specs.WavWriting.{IsWave};
-ghost use Rattle.cycle_model.specs.Known.{kept_by, peak_by};
+ghost use Rattle.cycle_model.specs.working.Known.{kept_by, peak_by};
 ghost use Rattle.cycle_model.specs.Progress.{received_until, AreReceived};
 ghost use Rattle.cycle_model.specs.Cycle.{outputs};
 ghost use Rattle.cycle_model.specs.Epochs.{all_cycles};

@@ -5,7 +5,7 @@ ghost use Rattle.pw_base.specs.KindPorts.{input_count, output_count};
 ghost use Rattle.pw_base.specs.KindRanges.{IsInRange};
 ghost use Rattle.cycle_model.specs.Cycle.{wave_of};
 ghost use Rattle.cycle_model.specs.Epochs.{is_fresh};
-ghost use Rattle.cycle_model.specs.Known.{received_more, all_given_by, is_released, released};
+ghost use Rattle.cycle_model.specs.working.Known.{received_more, all_given_by, is_released, released};
 ghost use Rattle.cycle_model.specs.Progress.{nothing};
 
 use crate::epochs::channels_of;

@@ -17,7 +17,7 @@ use Rattle.cycle_trace.specs.NodeNames.{node_name}
 use Rattle.cycle_trace.specs.Words.{spaced, line}
 use Rattle.cycle_trace.specs.EventLines.{late_nodes}
 use Rattle.cycle_trace.specs.Printable.{IsNode}
-use Rattle.cycle_trace.specs.EventWords.{node_said, late_said, event_said}
+use Rattle.cycle_trace.specs.working.EventWords.{node_said, late_said, event_said}
 use Rattle.cycle_trace.specs.TraceReading.{is_space, IsLineOf, AreNames}
 use Rattle.cycle_trace.proofs.SplitLemmas.{IsWord, words_split}
 

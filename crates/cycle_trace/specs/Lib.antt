@@ -1,5 +1,4 @@
 pub mod EventLines
-pub mod EventWords
 pub mod LinkLines
 pub mod NodeNames
 pub mod Printable
@@ -7,3 +6,4 @@ pub mod ResultLines
 pub mod RunText
 pub mod TraceReading
 pub mod Words
+pub mod working

@@ -6,7 +6,7 @@ ghost use Rattle.std.specs.List.{AllZip, slice_split};
 ghost use Rattle.pw_base.specs.declared.event.Event.{Event};
 ghost use Rattle.cycle_trace.specs.TraceReading.{is_space, trace_lines, IsLineOf, IsNoLine, IsFaultOf, AreNames, NumbersFit};
 ghost use Rattle.cycle_trace.specs.EventLines.{event_line};
-ghost use Rattle.cycle_trace.specs.EventWords.{event_said};
+ghost use Rattle.cycle_trace.specs.working.EventWords.{event_said};
 ghost use Rattle.cycle_trace.specs.Printable.{IsNode, NamesNodes};
 ghost use Rattle.cycle_trace.specs.declared.event_reading.TraceFault.TheVariants as f;
 

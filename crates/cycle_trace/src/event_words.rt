@@ -4,7 +4,7 @@ ghost use Rattle.pw_base.specs.Limits.{nodes_limit};
 ghost use Rattle.std.specs.Option.{option_map_or};
 ghost use Rattle.std.specs.List.{slice_split};
 ghost use Rattle.cycle_trace.specs.TraceReading.{is_space, NumbersFit};
-ghost use Rattle.cycle_trace.specs.EventWords.{node_said, one_node_said, late_said, alone, event_said};
+ghost use Rattle.cycle_trace.specs.working.EventWords.{node_said, one_node_said, late_said, alone, event_said};
 
 use pw_base::{DUMMY, Event, Text, next_piece, place_of_name};
 

@@ -28,7 +28,7 @@ use Rattle.pw_base.specs.declared.parts.Part.{Part}
 use Rattle.driver_groups.specs.declared.running.Crew.{Crew}
 use Rattle.driver_groups.specs.declared.starting.Start.{Start}
 use Rattle.driver_groups.specs.GroupRun.{IsPartRun, AreRunsOf}
-use Rattle.driver_groups.specs.Groups.{IsStart, AreStarted, HasBegun, ArePrepared, IsRunOfPart, IsEndedPart, CanRunAll, IsCrewOf}
+use Rattle.driver_groups.specs.working.Groups.{IsStart, AreStarted, HasBegun, ArePrepared, IsRunOfPart, IsEndedPart, CanRunAll, IsCrewOf}
 
 -- one more pair
 pub zip_push : {A B : Type 0} (R : A → B → Type 0) (xs : List A) (ys : List B) (x : A) (y : B) → AllZip R xs ys → R x y

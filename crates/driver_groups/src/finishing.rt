@@ -3,7 +3,7 @@ ghost use Rattle.std.specs.Prelude.{◌≡◌, ◌+◌, ◌++◌, ◌≤◌, [],
 ghost use Rattle.std.specs.List.{AllZip};
 ghost use Rattle.pw_base.specs.SoundPlan.{IsSoundPlan};
 ghost use Rattle.cycle_model.specs.WavesFit.{WavesFit};
-ghost use Rattle.driver_groups.specs.Groups.{IsEndedPart, epochs_of};
+ghost use Rattle.driver_groups.specs.working.Groups.{IsEndedPart, epochs_of};
 ghost use Rattle.driver_groups.specs.GroupRun.{IsPartRun, AreRunsOf};
 
 use board_rule::Closed;

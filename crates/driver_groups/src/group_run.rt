@@ -3,7 +3,7 @@ ghost use Rattle.std.specs.Prelude.{◌≡◌, ◌∷◌, All, IfOk};
 ghost use Rattle.pw_base.specs.SoundPlan.{IsSoundPlan};
 ghost use Rattle.cycle_model.specs.WavesFit.{WavesFit};
 ghost use Rattle.driver_groups.specs.GroupRun.{AreRunsOf};
-ghost use Rattle.driver_groups.specs.Groups.{IsCrewOf};
+ghost use Rattle.driver_groups.specs.working.Groups.{IsCrewOf};
 
 use crate::finishing::finish_all;
 use crate::preparing::{count_epochs, prepare_all};

@@ -2,7 +2,7 @@
 ghost use Rattle.std.specs.Prelude.{◌≡◌, ◌≤◌, [], All, IfOk, IfSome, length};
 ghost use Rattle.pw_base.specs.SoundPlan.{IsSoundPlan};
 ghost use Rattle.cycle_model.specs.WavesFit.{WavesFit};
-ghost use Rattle.driver_groups.specs.Groups.{ArePrepared, epochs_of};
+ghost use Rattle.driver_groups.specs.working.Groups.{ArePrepared, epochs_of};
 
 use graph_run::{AloneRun, prepare_alone};
 use pw_base::{Items, Memory, Part};

@@ -58,7 +58,7 @@ const BUFFERS: &'static [Row<'static>] = &[
 ];
 
 #[test]
-fn links_are_refused_or_heard(rt: HostRuntime) {
+fn links_are_refused_or_read(rt: HostRuntime) {
     assert_eq!(rt; first_unlike(&rt, LINKS), None);
 }
 

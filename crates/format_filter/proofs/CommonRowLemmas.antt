@@ -7,7 +7,7 @@ use Rattle.format_filter.specs.declared.progression.Row.{Row}
 use Rattle.format_filter.specs.declared.progression.Numbers.{Numbers}
 use Rattle.format_filter.specs.declared.progression.Numbers.TheVariants.{Nothing}
 use Rattle.format_filter.specs.declared.progression.Solutions.{Solutions}
-use Rattle.format_filter.specs.Progression.{AreSolutions, IsIn, AreInBoth, AreFrom}
+use Rattle.format_filter.specs.working.Progression.{AreSolutions, IsIn, AreInBoth, AreFrom}
 use Rattle.format_filter.proofs.CongruenceLemmas.{whole_is}
 
 -- the numbers of a row are its beginning and a multiple of its step

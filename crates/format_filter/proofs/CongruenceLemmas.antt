@@ -5,7 +5,7 @@ use Rattle.std.proofs.Math.Nat.{add-mul-mod_self_right, mul-mod_left, mul-le-mul
 use Rattle.std.proofs.Math.Nat.{le_of_mul-le-mul_right, add_comm}
 use Rattle.std.proofs.lemmas.Nat.{div-add-mod', mul-mod_second, mod-mul-add, mod_below}
 use Rattle.format_filter.specs.declared.progression.Solutions.{Solutions}
-use Rattle.format_filter.specs.Progression.{AreSolutions}
+use Rattle.format_filter.specs.working.Progression.{AreSolutions}
 
 -- n with the rest r is r and some times t
 pub rest_is : (n t r : ℕ) → n % t ≡ r → n ≡ r + (n / t) * t

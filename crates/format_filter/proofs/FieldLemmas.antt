@@ -12,7 +12,7 @@ use Rattle.pod_codec.specs.declared.pod.Pod.TheVariants as pod
 use Rattle.format_filter.specs.declared.choice.Choice.TheVariants.{Only}
 use Rattle.format_filter.specs.declared.format.Field.{Field}
 use Rattle.format_filter.specs.CommonFormat.{AreSoundFields, field_of}
-use Rattle.format_filter.specs.Merging.{IsKeyAt, IsBehind}
+use Rattle.format_filter.specs.working.Merging.{IsKeyAt, IsBehind}
 
 -- some field
 pub any_field : Field

@@ -12,7 +12,7 @@ use Rattle.std.proofs.Math.Seq.{take-add}
 use Rattle.format_filter.specs.declared.format.Field.{Field}
 use Rattle.format_filter.specs.Soundness.{IsSound}
 use Rattle.format_filter.specs.CommonFormat.{field_of, AreClashing, Clashes, IsCommonField}
-use Rattle.format_filter.specs.Merging.{IsKeyAt, IsBehind, Joins, AreCommonFields}
+use Rattle.format_filter.specs.working.Merging.{IsKeyAt, IsBehind, Joins, AreCommonFields}
 use Rattle.format_filter.proofs.FieldLemmas.{field_first, field_off, field_next, key_least}
 
 -- two rows are merged up to a number, which all their keys are below

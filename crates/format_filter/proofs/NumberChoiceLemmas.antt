@@ -15,7 +15,7 @@ use Rattle.format_filter.specs.declared.progression.Row.{Row}
 use Rattle.format_filter.specs.Members.{number_of, IsReached, IsMember}
 use Rattle.format_filter.specs.Soundness.{FitsWide, AreOfOneType}
 use Rattle.format_filter.specs.declared.progression.Numbers.TheVariants.{More}
-use Rattle.format_filter.specs.Progression.{IsIn, AreOrdered}
+use Rattle.format_filter.specs.working.Progression.{IsIn, AreOrdered}
 use Rattle.format_filter.proofs.TypeLemmas.{int_type, long_type}
 use Rattle.format_filter.specs.Intersection.{IsCommon, IsProgression, HasForm, IsPicked, IsCommonIn}
 

@@ -5,7 +5,7 @@ use Rattle.std.proofs.lemmas.Int.{ints}
 use Rattle.std.proofs.lemmas.Nat.{le-div, div-add-mod'}
 use Rattle.std.proofs.Math.Nat.{mul-le-mul_right}
 use Rattle.format_filter.specs.declared.progression.Numbers.TheVariants.{Nothing, One, Two, More}
-use Rattle.format_filter.specs.Progression.{AreFrom}
+use Rattle.format_filter.specs.working.Progression.{AreFrom}
 
 module _ (low high : ℤ) (span first period : ℕ) (e : high ≡ low +ℤ pos span) (z : 0 < period) where
   below : (n : ℤ) (x : ℕ) → n ≡ low +ℤ pos x → n ≤ℤ high → x ≤ span
@@ -36,7 +36,7 @@ module _ (low high : ℤ) (span first period : ℕ) (e : high ≡ low +ℤ pos s
     ordered = tt;
   }
 
-  -- so many fit
+  -- this number of them fits
   pub fit : first ≤ span → (i : ℕ) → i ≤ (span - first) / period → first + i * period ≤ span
   fit l i h = omega (arith, mul-le-mul_right period h, div-add-mod' (span - first) period)
 

@@ -23,7 +23,7 @@ use Rattle.format_filter.specs.Soundness.{IsSound}
 use Rattle.format_filter.specs.CommonFormat.{field_of}
 use Rattle.format_filter.specs.ChoiceReading.{Faults}
 use Rattle.format_filter.specs.FormatReading.{key_of, ReadsChoice, ReadsField, AreReadable, AreFieldsOf, IsTwice, FaultsProps}
-use Rattle.format_filter.specs.PropReading.{field_at, AreRead}
+use Rattle.format_filter.specs.working.PropReading.{field_at, AreRead}
 
 -- the test of a map's key is that of a field's
 same_test : (key k : ℕ) → is_at (nat_cmp key) k ≡ (k == key)

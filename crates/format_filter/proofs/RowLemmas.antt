@@ -7,7 +7,7 @@ use Rattle.format_filter.specs.declared.choice.Wide.{Wide}
 use Rattle.format_filter.specs.declared.numbers.Ranged.{Ranged}
 use Rattle.format_filter.specs.Members.{IsReached}
 use Rattle.format_filter.specs.Soundness.{IsSound}
-use Rattle.format_filter.specs.Making.{IsRowOf, range_of, step_of}
+use Rattle.format_filter.specs.working.Making.{IsRowOf, range_of, step_of}
 use Rattle.format_filter.proofs.NumberLemmas.{way}
 
 -- in steps of 1 each number above the first is reached

@@ -13,7 +13,7 @@ use Rattle.format_filter.specs.declared.choice.Choice.TheVariants.{Only, Enum}
 use Rattle.format_filter.specs.Members.{first_of, IsMember, pick_of}
 use Rattle.format_filter.specs.Soundness.{AreOfOneType}
 use Rattle.format_filter.specs.Intersection.{IsBefore, AreThoseOf, IsCommon, HasForm, IsPicked, IsCommonIn}
-use Rattle.format_filter.specs.Making.{AreListed}
+use Rattle.format_filter.specs.working.Making.{AreListed}
 
 before_more : (xs ys : List Pod) (p q : Pod) → IsBefore xs p q → IsBefore (xs ++ ys) p q
 before_more xs ys p q h = (h.0, h.1 ++ ys, ap (λ v. v ++ ys) h.2 ∙ append_assoc h.0 h.1 ys, h.3, h.4)

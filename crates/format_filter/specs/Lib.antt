@@ -2,15 +2,11 @@ pub mod Members
 pub mod Soundness
 pub mod Intersection
 pub mod IntersectionForm
-pub mod Progression
-pub mod Picking
-pub mod Making
 pub mod CommonFormat
 pub mod Fixation
-pub mod Merging
 pub mod FormatFaults
 pub mod ChoiceReading
 pub mod FormatReading
 pub mod FormatAnswer
-pub mod PropReading
 pub mod FormatWriting
+pub mod working

@@ -10,7 +10,7 @@ ghost use Rattle.format_filter.specs.declared.fault.FormatFault.TheVariants as f
 ghost use Rattle.format_filter.specs.declared.format.Format.{Format};
 ghost use Rattle.format_filter.specs.FormatReading.{AreFieldsOf, FaultsProps, IsFormatOf, IsFirstFault};
 ghost use Rattle.format_filter.specs.FormatAnswer.{IsGiven, IsRefusedAs};
-ghost use Rattle.format_filter.specs.PropReading.{AreRead};
+ghost use Rattle.format_filter.specs.working.PropReading.{AreRead};
 
 use crate::choice::Choice;
 use crate::fault::FormatFault;

@@ -4,7 +4,7 @@ ghost use Rattle.format_filter.specs.declared.choice.Choice.{Choice};
 ghost use Rattle.format_filter.specs.Soundness.{IsSound};
 ghost use Rattle.format_filter.specs.Intersection.{Meets};
 ghost use Rattle.format_filter.specs.Members.{AreRanges};
-ghost use Rattle.format_filter.specs.Making.{range_of, step_of, IsRange, IsStep, IsRowOf};
+ghost use Rattle.format_filter.specs.working.Making.{range_of, step_of, IsRange, IsStep, IsRowOf};
 
 use crate::choice::{Choice, Wide};
 use crate::numbers::{Ranged, meet_ranges, meet_rows};

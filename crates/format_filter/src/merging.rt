@@ -3,7 +3,7 @@ ghost use Rattle.std.specs.Prelude.{◌≡◌, ◌⊎◌, ◌↔◌, ℕ, ◌+�
 ghost use Rattle.std.specs.List.{All};
 ghost use Rattle.format_filter.specs.Soundness.{IsSound};
 ghost use Rattle.format_filter.specs.CommonFormat.{AreSoundFields, IsMandatory};
-ghost use Rattle.format_filter.specs.Merging.{IsKeyAt, IsBehind, Joins, Merges};
+ghost use Rattle.format_filter.specs.working.Merging.{IsKeyAt, IsBehind, Joins, Merges};
 
 use crate::format::Field;
 use crate::intersection::meet;

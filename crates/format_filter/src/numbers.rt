@@ -6,8 +6,8 @@ ghost use Rattle.format_filter.specs.declared.choice.Choice.TheVariants.{Range};
 ghost use Rattle.format_filter.specs.Members.{number_of, pick_of};
 ghost use Rattle.format_filter.specs.Soundness.{FitsWide, IsSound};
 ghost use Rattle.format_filter.specs.Intersection.{IsCommon, IsProgression, HasForm, Meets};
-ghost use Rattle.format_filter.specs.Progression.{IsOneOf, AreOrdered};
-ghost use Rattle.format_filter.specs.Making.{IsRowOf};
+ghost use Rattle.format_filter.specs.working.Progression.{IsOneOf, AreOrdered};
+ghost use Rattle.format_filter.specs.working.Making.{IsRowOf};
 
 use crate::choice::{Choice, Wide};
 use crate::picking::{number, picked_number};

@@ -3,7 +3,7 @@ ghost use Rattle.std.specs.Prelude.{◌≡◌, ◌↔◌, ◌⊎◌, ℤ, pos, �
 ghost use Rattle.format_filter.specs.Members.{number_of, IsMember, pick_of};
 ghost use Rattle.format_filter.specs.Soundness.{FitsWide, HasSoundParts, IsSound};
 ghost use Rattle.format_filter.specs.Intersection.{IsCommon, IsPicked};
-ghost use Rattle.format_filter.specs.Picking.{IsPreferred};
+ghost use Rattle.format_filter.specs.working.Picking.{IsPreferred};
 
 use crate::choice::{Choice, Wide};
 use crate::members::is_member;

@@ -1,7 +1,7 @@
 //! Rows of numbers in even steps, and what two of them have in common.
 ghost use Rattle.std.specs.Prelude.{◌≡◌, ◌↔◌, ℕ, ℤ, pos, ◌+◌, ◌*◌, ◌/◌, ◌%◌, ◌<◌, ◌≤◌, ◌^◌, ◌+ℤ◌};
 ghost use Rattle.std.specs.Prelude.{◌<ℤ◌, ◌≤ℤ◌, IfSome, IsNone};
-ghost use Rattle.format_filter.specs.Progression.{AreSolutions, AreInBoth, AreFrom};
+ghost use Rattle.format_filter.specs.working.Progression.{AreSolutions, AreInBoth, AreFrom};
 
 /// The numbers `min`, `min + step`, and so on, up to `max`.
 #[derive(Clone, Copy, Drop)]

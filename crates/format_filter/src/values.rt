@@ -6,7 +6,7 @@ ghost use Rattle.pod_codec.specs.declared.pod.Pod.{Pod};
 ghost use Rattle.format_filter.specs.Members.{IsMember};
 ghost use Rattle.format_filter.specs.Soundness.{HasSoundParts, AreOfOneType, IsSound};
 ghost use Rattle.format_filter.specs.Intersection.{IsCommon, AreThoseOf, Meets};
-ghost use Rattle.format_filter.specs.Making.{AreListed};
+ghost use Rattle.format_filter.specs.working.Making.{AreListed};
 
 use crate::choice::Choice;
 use crate::members::{is_among, is_member};

@@ -17,7 +17,7 @@ use Rattle.graph_lines.specs.declared.standing.Standing.{Standing}
 use Rattle.graph_lines.specs.Activity.{nobody, standing}
 use Rattle.graph_lines.specs.Conditions.{MayStep}
 use Rattle.graph_lines.specs.Epochs.{has_node, IsEpochOf}
-use Rattle.graph_lines.specs.EpochLines.{is_heard}
+use Rattle.graph_lines.specs.EpochLines.{is_formed_sink}
 use Rattle.graph_lines.specs.Gathering.{DrainsUpTo}
 use Rattle.graph_lines.specs.Ready.{IsReady}
 use Rattle.graph_lines.specs.Rehearsal.{standing_past, gone_past, GoesPast, Rehearses}
@@ -42,7 +42,7 @@ still_ran false ran few many most le = refl
 same_past : (g : Graph) (e : Epoch) (many n : ℕ) → 2 ^ 32 ≤ e.shape.cycles + 1 → e.shape.cycles ≤ many
     → standing_past g e n ≡ standing_past g (with_cycles many e) n
 same_past g e many n most le = ap (λ (k : ℕ). record (standing g.nodes n) {
-  kept = (standing g.nodes n).kept || is_heard g e n;
+  kept = (standing g.nodes n).kept || is_formed_sink g e n;
   ran = k;
 }) (still_ran (has_node e.shape n) (standing g.nodes n).ran e.shape.cycles many most le)
 

@@ -24,8 +24,8 @@ use Rattle.graph_lines.specs.Lines.{Does}
 abbrev pub cycles_in : Epoch → ℕ → ℕ
 cycles_in e n = if has_node e.shape n then e.shape.cycles else 0
 
-abbrev pub is_heard : Graph → Epoch → ℕ → Bool
-is_heard g e n = is_sink (slice_index_or g.kinds n Dummy)
+abbrev pub is_formed_sink : Graph → Epoch → ℕ → Bool
+is_formed_sink g e n = is_sink (slice_index_or g.kinds n Dummy)
     && list_any (λ f. f.port.node == n) e.forms
 
 -- what is said of a node after an epoch: its channels were told, it ran, and a sink with a form in
@@ -35,7 +35,7 @@ pub record StandsAfter (g : Graph) (e : Epoch) (n : ℕ) (after : Standing) : Ty
   pub rest : after ≡ record (standing g.nodes n) {
     gave_up = false;
     told = after.told;
-    kept = (standing g.nodes n).kept || is_heard g e n;
+    kept = (standing g.nodes n).kept || is_formed_sink g e n;
     ran = (standing g.nodes n).ran + cycles_in e n;
   }
 

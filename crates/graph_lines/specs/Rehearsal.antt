@@ -15,7 +15,7 @@ use Rattle.graph_lines.specs.declared.standing.Standing.{Standing}
 use Rattle.graph_lines.specs.declared.wire.Wire.{Wire}
 use Rattle.graph_lines.specs.Activity.{standing}
 use Rattle.graph_lines.specs.Draining.{DrainsFor}
-use Rattle.graph_lines.specs.EpochLines.{cycles_in, is_heard}
+use Rattle.graph_lines.specs.EpochLines.{cycles_in, is_formed_sink}
 use Rattle.graph_lines.specs.Epochs.{IsEpochOf}
 use Rattle.graph_lines.specs.Lines.{Does}
 
@@ -23,7 +23,7 @@ use Rattle.graph_lines.specs.Lines.{Does}
 -- counted, up to the greatest number of 32 bits, which is above the frames of each file
 abbrev pub standing_past : Graph → Epoch → ℕ → Standing
 standing_past g e n = record (standing g.nodes n) {
-  kept = (standing g.nodes n).kept || is_heard g e n;
+  kept = (standing g.nodes n).kept || is_formed_sink g e n;
   ran = min ((standing g.nodes n).ran + cycles_in e n) (2 ^ 32 - 1);
 }
 

@@ -25,7 +25,7 @@ impl Graph {
     {
         let standing = self.standing(node);
         Standing {
-            kept: standing.kept || self.is_heard(epoch, node),
+            kept: standing.kept || self.is_formed_sink(epoch, node),
             ran: standing.ran.saturating_add(cycles_in(epoch, node)),
             ..standing
         }

@@ -6,7 +6,7 @@ ghost use Rattle.pw_base.specs.PlanSums.{is_sink};
 ghost use Rattle.graph_lines.specs.declared.graph.Stepped.TheVariants.{Done};
 ghost use Rattle.graph_lines.specs.Activity.{standing};
 ghost use Rattle.graph_lines.specs.Epochs.{has_node};
-ghost use Rattle.graph_lines.specs.EpochLines.{cycles_in, is_heard, StandsAfter, IsAfter};
+ghost use Rattle.graph_lines.specs.EpochLines.{cycles_in, is_formed_sink, StandsAfter, IsAfter};
 ghost use Rattle.graph_lines.specs.Ready.{IsReady, HasRan};
 ghost use Rattle.graph_lines.specs.Sums.{sums_with, passed};
 
@@ -59,8 +59,8 @@ fn has_form(forms: &[PortForm], node: u32) -> bool
 
 impl Graph {
     // Whether a node is a sink that has a form in an epoch.
-    pub(crate) fn is_heard(&self, epoch: &Epoch, node: u32) -> bool
-        ensures { result ≡ is_heard self.now epoch.now node }
+    pub(crate) fn is_formed_sink(&self, epoch: &Epoch, node: u32) -> bool
+        ensures { result ≡ is_formed_sink self.now epoch.now node }
     {
         is_sink_at(self.kinds.as_slice(), node) && has_form(epoch.forms.as_slice(), node)
     }
@@ -77,7 +77,7 @@ impl Graph {
         Standing {
             gave_up: false,
             told: self.channels_in(node),
-            kept: standing.kept || self.is_heard(epoch, node),
+            kept: standing.kept || self.is_formed_sink(epoch, node),
             ran: standing.ran + cycles_in(epoch, node),
             ..standing
         }

@@ -1,17 +1,12 @@
 -- Laws of `specs/Answers.antt`: a script's names are such as lines tell; what is read after a script; words that are refused.
 use Rattle.std.proofs.Common.{◌≡◌, ℕ, ◌&&◌, true, false, List, [], ◌∷◌, length, refl, sym, ap, ◌∙◌, subst, IsTrue}
 use Rattle.std.specs.Prelude.{Result, Err, IsSome, All, nat_le}
-use Rattle.std.specs.List.{list_all}
-use Rattle.std.proofs.lemmas.Bool.{true≢false, and_parts, eqb-true, false_from_ne_true}
-use Rattle.std.proofs.lemmas.List.Elements.{All-nil, All-cons, All-weaker}
-use Rattle.std.proofs.lemmas.List.Sums.{AllPass-from_list_all}
 use Rattle.pw_base.specs.Files.{Names, Held, names_in}
-use Rattle.cycle_trace.specs.TraceReading.{is_space, AreNames}
+use Rattle.cycle_trace.specs.TraceReading.{AreNames}
 use Rattle.graph_script.specs.declared.script.Script.{Script}
-use Rattle.graph_script.specs.Arguments.{is_letter, is_name_byte, is_node_name}
-use Rattle.graph_script.specs.Limits.{name_rest_limit}
 use Rattle.graph_script.specs.Order.{HasOrder}
 use Rattle.graph_script.specs.Ranges.{HasRanges}
+use Rattle.graph_script.proofs.NameLemmas.{name_whole}
 use Rattle.graph_pictures.specs.declared.status.Status.{Status}
 use Rattle.graph_pictures.specs.declared.status.Status.TheVariants as S
 use Rattle.graph_pictures.specs.Reading.{IsScript}
@@ -20,23 +15,7 @@ use Rattle.graph_pictures.specs.Answers.{ReadsTrace, IsTracePicture, IsAnswer}
 use Rattle.graph_pictures.specs.Answers.IsTracePicture.{told}
 use Rattle.graph_pictures.specs.Answers.IsAnswer.{usage, short}
 
--- the names of nodes
-letter_whole : (b : ℕ) → is_letter b ≡ true → is_space b ≡ false
-letter_whole b h = false_from_ne_true (is_space b) (λ t. let no : is_letter 32 ≡ false = refl in
-    true≢false (sym h ∙ ap is_letter (eqb-true b 32 t) ∙ no))
-
-byte_whole : (b : ℕ) → is_name_byte b ≡ true → is_space b ≡ false
-byte_whole b h = false_from_ne_true (is_space b) (λ t. let no : is_name_byte 32 ≡ false = refl in
-    true≢false (sym h ∙ ap is_name_byte (eqb-true b 32 t) ∙ no))
-
-name_whole : (name : List ℕ) → IsTrue (is_node_name name) → All (λ b. is_space b ≡ false) name
-name_whole [] h = All-nil (λ b. is_space b ≡ false)
-name_whole (first ∷ rest) h =
-    let p = and_parts (is_letter first && nat_le (length rest) name_rest_limit) (list_all is_name_byte rest) h in
-    let q = and_parts (is_letter first) (nat_le (length rest) name_rest_limit) p.0 in
-    All-cons (λ b. is_space b ≡ false) first rest (letter_whole first q.0)
-    (All-weaker (λ b. is_name_byte b ≡ true) (λ b. is_space b ≡ false) byte_whole rest (AllPass-from_list_all is_name_byte rest p.1))
-
+-- the names of a script
 pub script_names : (script : Script) → HasRanges script → HasOrder script → AreNames script.names
 script_names script ranges order = record {
   few = ranges.count;

@@ -11,8 +11,7 @@ use Rattle.graph_pictures.specs.declared.status.Status.TheVariants as S
 use Rattle.graph_pictures.specs.declared.words.Request.{Request}
 use Rattle.graph_pictures.specs.declared.words.Request.TheVariants as R
 use Rattle.graph_pictures.specs.GraphText.{graph_text}
-use Rattle.graph_pictures.specs.Reading.{trace_place, trace_bytes_limit, IsUnloaded}
-use Rattle.graph_pictures.specs.Reading.{IsScript, IsNoScript}
+use Rattle.graph_pictures.specs.Reading.{trace_place, trace_bytes_limit, IsUnloaded, IsScript, IsNoScript}
 use Rattle.graph_pictures.specs.StatusText.{line_of}
 use Rattle.graph_pictures.specs.TraceAnswers.{DrawsTrace, DrawsRun}
 use Rattle.graph_pictures.specs.WaveReading.{IsWavePicture}
@@ -45,13 +44,12 @@ pub data IsTracePicture (Draws : Script → List ℕ → Result (List ℕ) Statu
 -- the picture of a request, by the files
 abbrev pub IsPicture : Names → Request → Result (List ℕ) Status → Type 0
 IsPicture names (R.Graph script) r = IsGraph (names script) r
-IsPicture names (R.RunGraph script trace) r =
-    IsTracePicture DrawsRun (names script) (names trace) r
+IsPicture names (R.RunGraph script trace) r = IsTracePicture DrawsRun (names script) (names trace) r
 IsPicture names (R.Timeline script trace) r =
     IsTracePicture DrawsTrace (names script) (names trace) r
 IsPicture names (R.Wave file) r = IsWavePicture (names file) r
 
--- THE ANSWER to words; want of memory is free
+-- THE ANSWER to words; too little memory is free
 pub data IsAnswer (names : Names) (words : List (List ℕ)) (r : Result (List ℕ) Status)
     : Type 0 where
   picture : (request : Request) → request_of words ≡ Ok request → IsPicture names request r

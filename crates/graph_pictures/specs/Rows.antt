@@ -11,7 +11,7 @@ unfoldable pub widest : List (List ℕ) → List ℕ → ℕ
 widest names [] = 0
 widest names (node ∷ rows) = max (min (length (node_name names node)) 31) (widest names rows)
 
--- a row: its line, from the left over so many points, and its name
+-- a row: its line, from the left over a width in points, and its name
 unfoldable pub row_text : ℕ → ℕ → ℕ → List ℕ → List ℕ
 row_text left wide row name =
     filled (codes "<path class='r' d='M% %h%'/>") (left ∷ middle_of row ∷ wide ∷ [])

@@ -1,5 +1,5 @@
--- What is drawn of a run's text: the timeline of its events or the graph of what it did, or its first
--- bad line.
+-- What is drawn of a run's text: the timeline of its events or the graph of what it did, or its
+-- first bad line.
 -- Source: this project's own.
 use Rattle.std.specs.Prelude.{◌≡◌, ℕ, List, Result, Ok, Err}
 use Rattle.pw_base.specs.declared.event.Event.{Event}
@@ -14,7 +14,8 @@ use Rattle.graph_pictures.specs.TraceText.{IsTrace, IsFirstBad}
 -- the timeline of the events of a run's text, or its first bad line
 abbrev pub DrawsTrace : Script → List ℕ → Result (List ℕ) Status → Type 0
 DrawsTrace script bytes (Ok text) = (events : List Event)
-    × IsTrace script.names (trace_lines bytes) events × (text ≡ timeline_text script.names events)
+    × IsTrace script.names (trace_lines bytes) events
+    × (text ≡ timeline_text script.names events)
 DrawsTrace script bytes (Err (S.Line number)) =
     IsFirstBad script.names (trace_lines bytes) number
 DrawsTrace script bytes (Err S.Memory) = Unit {0}

@@ -68,9 +68,10 @@ fn print_answer<O: Sink>(alloc: Global, out: &mut O, answer: &Result<Text, Statu
 /// Prints the picture that the words of a command line ask for, or the line of a status.
 ///
 /// The words are those behind the program's own name: `graph SCRIPT`, `graph SCRIPT TRACE`,
-/// `timeline SCRIPT TRACE` or `wave FILE`. Loads come in this order, and nothing is stored. A script or a file is refused with
-/// the line and the status that `pipegraph` has for it, and of a trace with a line that is no event
-/// line that line's number is printed. Takes memory for the files and for the text.
+/// `timeline SCRIPT TRACE` or `wave FILE`. Loads come in this order, and nothing is stored. A
+/// script or a file is refused with the line and the status that `pipegraph` has for it, and of a
+/// trace with a line that is no event line that line's number is printed. Takes memory for the
+/// files and for the text.
 pub fn print_picture<F: Files, O: Sink>(
     alloc: Global,
     words: &[String],

@@ -58,8 +58,8 @@ pub(crate) fn push_some<T: Drop>(list: &mut Items<T>, item: Option<T>) -> Result
     }
 }
 
-/// What becomes of the links of a script, by its lines and the text of its run. Takes memory for each
-/// `async`, `link` and `unlink` line.
+/// What becomes of the links of a script, by its lines and the text of its run. Takes memory for
+/// each `async`, `link` and `unlink` line.
 pub(crate) fn fates_of(alloc: Global, lines: &[Line], run: &[u8]) -> Result<Fates, Memory>
     ensures { IfOk result (λ fates. fates ≡ fates_of lines.now (trace_lines run.now)) }
 {

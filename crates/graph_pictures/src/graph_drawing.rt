@@ -198,9 +198,9 @@ fn put_legend(text: &mut Text) -> Result<(), Memory>
 /// Each line is drawn: a node with its ports, its name and its kind; a link from port to port, a
 /// late one dashed, one that a later line cuts grey; a second border for a driver candidate, with
 /// its last priority; beside a node the number of its last loop; a border of dots for a node that
-/// is off at the end. `run` is the text that a run of the script printed, or nothing: a link that it
-/// refused is dotted and grey, with the cause. Of a file's name of more than 32 bytes the middle is
-/// left out. Lines of offers, buffers and cycles draw nothing; below stands what the marks mean.
+/// is off at the end. `run` is the text that a run of the script printed, or nothing: a link that
+/// it refused is dotted and grey, with the cause. Of a file's name of more than 32 bytes the middle
+/// is left out. Lines of offers, buffers and cycles draw nothing; below stands what the marks mean.
 /// Takes memory for the text and for each `async`, `link` and `unlink` line.
 #[tactic(auto, using(crate::proofs::Grown::texts), unfolding(crate::specs::GraphText::graph_text))]
 pub fn graph(alloc: Global, script: &Script, run: &[u8]) -> Result<Text, Memory>

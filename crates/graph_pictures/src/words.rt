@@ -7,8 +7,8 @@ use crate::status::Status;
 use pw_base::{Items, Memory, Text};
 use std::alloc::Global;
 
-/// What words ask for: a picture of a script's graph, one with what a run of it did, a timeline of a
-/// trace of it, or the peaks of a WAV file.
+/// What words ask for: a picture of a script's graph, one with what a run of it did, a timeline of
+/// a trace of it, or the peaks of a WAV file.
 #[derive(Drop)]
 pub enum Request {
     Graph { script: Text },

@@ -22,7 +22,7 @@ use Rattle.graph_lines.proofs.SumLemmas.{passes_events, passes_none, passed-capp
 use Rattle.graph_lines.proofs.UpcomingLemmas.{epoch_some}
 use Rattle.graph_plan.specs.declared.member.Member.{Member}
 use Rattle.graph_plan.specs.declared.moving.Ahead.{Ahead}
-use Rattle.graph_plan.specs.Ahead.{both_sums, IsAheadIf, IsAhead, AreAhead, AreToCome}
+use Rattle.graph_plan.specs.working.Ahead.{both_sums, IsAheadIf, IsAhead, AreAhead, AreToCome}
 use Rattle.graph_plan.specs.Moving.{Makes, MakesIf, MakesOf, own_sums, all_sums, total}
 use Rattle.graph_plan.specs.PartLines.{is_line_of}
 use Rattle.graph_plan.specs.Together.{HasSums}

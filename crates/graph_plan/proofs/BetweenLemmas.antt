@@ -54,7 +54,7 @@ use Rattle.graph_plan.specs.Moving.{MovesIf, Moves}
 use Rattle.graph_plan.specs.PartLines.{is_line_of}
 use Rattle.graph_plan.specs.Parted.{AreBegun, IsBegun, IsPartOfMember, ArePartsOf, IsPartsAnswer, IsParted, IsWithin, IsNoChange}
 use Rattle.graph_plan.specs.Parts.{is_among, IsPartOf, AreParts, IsPartition}
-use Rattle.graph_plan.specs.SoundGraph.{IsSoundGraph}
+use Rattle.graph_plan.specs.working.SoundGraph.{IsSoundGraph}
 use Rattle.graph_plan.specs.Together.{has_both, last_line, said_last, noted, GoesOn, FollowTogether}
 use Rattle.graph_plan.proofs.ListLemmas.{behind, origin, stands_for}
 use Rattle.graph_plan.proofs.PartedLemmas.{begun_nodes}

@@ -11,10 +11,10 @@ use Rattle.graph_lines.specs.declared.standing.Standing.{Standing}
 use Rattle.graph_lines.specs.declared.wire.Wire.{Wire}
 use Rattle.graph_lines.specs.Activity.{standing}
 use Rattle.graph_lines.specs.Forms.{HasKinds}
-use Rattle.graph_plan.specs.Reaching.{IsOrdered}
-use Rattle.graph_plan.specs.SoundWires.{AreSoundWires}
-use Rattle.graph_plan.specs.Remembering.{IsLastNaming, Remembers, RemembersSinks, CarriesOn}
-use Rattle.graph_plan.specs.SoundGraph.{AreMade, IsPast, IsJoining, IsSoundGraph}
+use Rattle.graph_plan.specs.working.Reaching.{IsOrdered}
+use Rattle.graph_plan.specs.working.SoundWires.{AreSoundWires}
+use Rattle.graph_plan.specs.working.Remembering.{IsLastNaming, Remembers, RemembersSinks, CarriesOn}
+use Rattle.graph_plan.specs.working.SoundGraph.{AreMade, IsPast, IsJoining, IsSoundGraph}
 
 module _ (nodes : List Node) (said : List Standing) (nodes' : List Node) (said' : List Standing)
     (on : (n : ℕ) → CarriesOn nodes said nodes' said' n) (plan : Plan) where

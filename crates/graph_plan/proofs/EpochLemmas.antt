@@ -16,10 +16,10 @@ use Rattle.graph_lines.specs.Activity.{standing}
 use Rattle.graph_lines.specs.Epochs.{IsEpochOf}
 use Rattle.graph_lines.specs.EpochLines.{IsAfter, RunsFor}
 use Rattle.graph_lines.specs.Sums.{sink_samples, block_bytes, sums_with, passed}
-use Rattle.graph_plan.specs.Remembering.{IsLike}
-use Rattle.graph_plan.specs.NextEpoch.{with_epoch}
-use Rattle.graph_plan.specs.SoundGraph.{AreMade, IsSoundPart, IsPast, IsSoundGraph}
-use Rattle.graph_plan.specs.Summing.{FollowTo, AreSummed}
+use Rattle.graph_plan.specs.working.Remembering.{IsLike}
+use Rattle.graph_plan.specs.working.NextEpoch.{with_epoch}
+use Rattle.graph_plan.specs.working.SoundGraph.{AreMade, IsSoundPart, IsPast, IsSoundGraph}
+use Rattle.graph_plan.specs.working.Summing.{FollowTo, AreSummed}
 use Rattle.graph_plan.proofs.RememberingLemmas.{remembers_more, sinks_more}
 use Rattle.graph_plan.proofs.SoundGraphLemmas.{past_nodes}
 use Rattle.graph_plan.proofs.PartLemmas.{part_ok}

@@ -28,9 +28,9 @@ use Rattle.graph_lines.specs.declared.wire.Wire.{Wire}
 use Rattle.graph_lines.specs.Activity.{standing, nobody, is_live, live_wires, IsDriver, IsActive}
 use Rattle.graph_lines.specs.Draining.{IsLeft, DrainsFor}
 use Rattle.graph_lines.specs.Epochs.{is_used, IsLinkOf, IsEpochOf}
-use Rattle.graph_lines.specs.EpochLines.{cycles_in, is_heard, StandsAfter, IsAfter, IsTaken, RunsFor}
+use Rattle.graph_lines.specs.EpochLines.{cycles_in, is_formed_sink, StandsAfter, IsAfter, IsTaken, RunsFor}
 use Rattle.graph_lines.specs.Sums.{sums_with}
-use Rattle.graph_plan.specs.SoundGraph.{IsSoundGraph}
+use Rattle.graph_plan.specs.working.SoundGraph.{IsSoundGraph}
 use Rattle.graph_plan.proofs.FormLemmas.{one_form}
 use Rattle.graph_plan.proofs.SoundGraphLemmas.{one_channels}
 use Rattle.graph_plan.proofs.SortedLemmas.{same_sorted, same_zip, same_by}
@@ -155,7 +155,7 @@ module _ (count : ℕ) (g : Graph) (sound : IsSoundGraph count g) where
       ∙ (ap (λ (c : ℕ). record (standing g.nodes m) {
         gave_up = false;
         told = c;
-        kept = (standing g.nodes m).kept || is_heard g e m;
+        kept = (standing g.nodes m).kept || is_formed_sink g e m;
         ran = (standing g.nodes m).ran + cycles_in e m;
       }) (one_channels count g sound m s.told t.told h.told k.told) ∙ sym k.rest)
 

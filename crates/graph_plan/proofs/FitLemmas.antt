@@ -28,7 +28,7 @@ use Rattle.graph_lines.specs.Lines.{Marks}
 use Rattle.graph_script.specs.Making.{grown}
 use Rattle.graph_plan.specs.Conditions.{IsWaveFor}
 use Rattle.graph_plan.specs.Following.{Follows}
-use Rattle.graph_plan.specs.SoundGraph.{IsSoundGraph}
+use Rattle.graph_plan.specs.working.SoundGraph.{IsSoundGraph}
 use Rattle.graph_plan.proofs.ListLemmas.{all_of}
 use Rattle.graph_plan.proofs.OwnLemmas.{owns, owns_port, owns_releasing, form_fits}
 use Rattle.graph_plan.proofs.PartLemmas.{stands}

@@ -22,8 +22,8 @@ use Rattle.port_model.proofs.ValueLemmas.{own_value, free_value, some_is}
 use Rattle.port_model.proofs.TakingLemmas.{shared_at}
 use Rattle.link_negotiation.proofs.GivingLemmas.{there}
 use Rattle.graph_lines.specs.Forms.{IsFormOfPort, FormIn}
-use Rattle.graph_plan.specs.SoundWires.{HasFormatOf, IsFormatted}
-use Rattle.graph_plan.specs.Remembering.{HasSomeFormat}
+use Rattle.graph_plan.specs.working.SoundWires.{HasFormatOf, IsFormatted}
+use Rattle.graph_plan.specs.working.Remembering.{HasSomeFormat}
 
 -- a value is one number
 pub one_number : (o : Option Pod) (a b : ℕ) → o ≡ Some (int_of a) → o ≡ Some (int_of b) → a ≡ b

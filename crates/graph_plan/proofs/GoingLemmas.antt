@@ -16,10 +16,10 @@ use Rattle.graph_lines.specs.declared.graph.Stepped.TheVariants as T
 use Rattle.graph_lines.specs.declared.limits.Sums.{Sums}
 use Rattle.graph_lines.specs.Sums.{passed}
 use Rattle.graph_plan.specs.declared.member.Member.{Member}
-use Rattle.graph_plan.specs.Ahead.{AreToCome}
-use Rattle.graph_plan.specs.Members.{IsStanding, IsReadyFor}
+use Rattle.graph_plan.specs.working.Ahead.{AreToCome}
+use Rattle.graph_plan.specs.working.Members.{IsStanding, IsReadyFor}
 use Rattle.graph_plan.specs.Moving.{Moves, MakesOf, own_sums, all_sums, total}
-use Rattle.graph_plan.specs.MovingTogether.{MovesBy, GoesBy, MovesPair, AreMoved, GoBy, HaveMoved, MoveOrPass}
+use Rattle.graph_plan.specs.working.MovingTogether.{MovesBy, GoesBy, MovesPair, AreMoved, GoBy, HaveMoved, MoveOrPass}
 use Rattle.graph_plan.specs.Together.{HasManyIn}
 use Rattle.graph_plan.proofs.AheadLemmas.{first_within}
 use Rattle.graph_plan.proofs.PairLemmas.{pairs_push, next_low, next_pair, none_left, zip_more}

@@ -25,7 +25,7 @@ use Rattle.graph_plan.specs.declared.member.Member.{Member}
 use Rattle.graph_plan.specs.declared.together.Together.{Together}
 use Rattle.graph_plan.specs.Conditions.{AreScriptPorts}
 use Rattle.graph_plan.specs.Parted.{begun, IsBegun, IsPartsAnswer, IsParted}
-use Rattle.graph_plan.specs.SoundGraph.{IsSoundGraph, IsJoining}
+use Rattle.graph_plan.specs.working.SoundGraph.{IsSoundGraph, IsJoining}
 use Rattle.graph_plan.specs.Together.{has_both, last_line, said_last, noted, GoesOn, FollowTogether}
 use Rattle.graph_plan.proofs.PartsOneLemmas.{IsSoundMember, IsSoundTogether, goes_sound, begun_sound}
 use Rattle.graph_plan.proofs.ScriptLemmas.{lines_are}

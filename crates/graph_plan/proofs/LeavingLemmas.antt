@@ -21,7 +21,7 @@ use Rattle.graph_lines.specs.Activity.{standing, nobody}
 use Rattle.graph_lines.specs.Lines.{Does, with_node, made, prior, looped, switched_on, switched_off, mark, Marks}
 use Rattle.graph_lines.specs.UnlinkLines.{HasKept, giving, IsTakenAway, UnlinksLine}
 use Rattle.graph_plan.specs.ScriptStreams.{gives_up}
-use Rattle.graph_plan.specs.SoundGraph.{IsSoundGraph}
+use Rattle.graph_plan.specs.working.SoundGraph.{IsSoundGraph}
 use Rattle.graph_plan.proofs.StepLemmas.{IsGoodLine}
 use Rattle.graph_plan.proofs.UnlinkLineLemmas.{bit_here, bit_stays, bit_more, giving_at}
 

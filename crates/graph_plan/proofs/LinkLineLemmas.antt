@@ -39,10 +39,10 @@ use Rattle.graph_lines.specs.declared.standing.Standing.{Standing}
 use Rattle.graph_lines.specs.declared.wire.Wire.{Wire}
 use Rattle.graph_lines.specs.Forms.{HasKinds}
 use Rattle.graph_lines.specs.LinkLines.{IsRecorded, NotesAlone, LinksLine}
-use Rattle.graph_plan.specs.Reaching.{IsOrdered}
-use Rattle.graph_plan.specs.SoundWires.{IsSoundWire, AreApart, AreSoundWires}
-use Rattle.graph_plan.specs.Remembering.{Stands, CarriesOn}
-use Rattle.graph_plan.specs.SoundGraph.{IsJoining, IsSoundGraph}
+use Rattle.graph_plan.specs.working.Reaching.{IsOrdered}
+use Rattle.graph_plan.specs.working.SoundWires.{IsSoundWire, AreApart, AreSoundWires}
+use Rattle.graph_plan.specs.working.Remembering.{Stands, CarriesOn}
+use Rattle.graph_plan.specs.working.SoundGraph.{IsJoining, IsSoundGraph}
 use Rattle.graph_plan.proofs.ListLemmas.{any_of, map_changed, stands_for}
 use Rattle.graph_plan.proofs.RankLemmas.{filtered_rank}
 use Rattle.graph_plan.proofs.SoundGraphLemmas.{port_there}

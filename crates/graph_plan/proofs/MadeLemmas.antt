@@ -19,8 +19,8 @@ use Rattle.link_negotiation.specs.declared.common_formats.Negotiated.TheVariants
 use Rattle.link_negotiation.specs.Negotiation.{Negotiates, Agrees}
 use Rattle.link_negotiation.specs.LinkOutcome.{given, formatted, MayBeGiven}
 use Rattle.link_negotiation.proofs.GivingLemmas.{there, elsewhere, gives_own, gives_other, output_agrees, input_agrees}
-use Rattle.graph_plan.specs.SoundWires.{HasFormatOf, IsFormatted}
-use Rattle.graph_plan.specs.Remembering.{Stands}
+use Rattle.graph_plan.specs.working.SoundWires.{HasFormatOf, IsFormatted}
+use Rattle.graph_plan.specs.working.Remembering.{Stands}
 use Rattle.graph_plan.proofs.PortLemmas.{with_port_keeps, port_stays, port_given}
 
 -- the numbers of a format

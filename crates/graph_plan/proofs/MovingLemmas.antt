@@ -23,10 +23,10 @@ use Rattle.graph_lines.specs.Ready.{IsReady, HasRan}
 use Rattle.graph_lines.specs.Rehearsal.{Rehearses}
 use Rattle.graph_lines.specs.Upcoming.{IsEpochFor, IsUpcoming}
 use Rattle.graph_plan.specs.declared.member.Member.{Member}
-use Rattle.graph_plan.specs.Ahead.{is_run}
-use Rattle.graph_plan.specs.Members.{IsStanding}
+use Rattle.graph_plan.specs.working.Ahead.{is_run}
+use Rattle.graph_plan.specs.working.Members.{IsStanding}
 use Rattle.graph_plan.specs.Moving.{RunsOn, MovesOn, MovesIf, Moves, Makes, MakesIf, MakesOf}
-use Rattle.graph_plan.specs.MovingTogether.{HasTaken, MovesBy, GoesBy}
+use Rattle.graph_plan.specs.working.MovingTogether.{HasTaken, MovesBy, GoesBy}
 use Rattle.graph_plan.specs.PartLines.{is_line_of}
 use Rattle.graph_plan.proofs.StepLemmas.{step_kinds}
 

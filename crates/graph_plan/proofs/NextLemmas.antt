@@ -18,12 +18,12 @@ use Rattle.graph_lines.specs.declared.graph.Graph.{Graph}
 use Rattle.graph_lines.specs.declared.standing.Standing.{Standing}
 use Rattle.graph_lines.specs.Activity.{standing, nobody}
 use Rattle.graph_lines.specs.Epochs.{IsEpochOf}
-use Rattle.graph_lines.specs.EpochLines.{is_heard, IsAfter}
+use Rattle.graph_lines.specs.EpochLines.{is_formed_sink, IsAfter}
 use Rattle.graph_lines.specs.Forms.{FormIn}
 use Rattle.graph_lines.specs.Fresh.{ChannelsIn}
-use Rattle.graph_plan.specs.Remembering.{IsLike, Stands, KeepsIt}
-use Rattle.graph_plan.specs.NextEpoch.{Changes, IsNext, KeepsSinksOn}
-use Rattle.graph_plan.specs.SoundGraph.{IsSoundGraph}
+use Rattle.graph_plan.specs.working.Remembering.{IsLike, Stands, KeepsIt}
+use Rattle.graph_plan.specs.working.NextEpoch.{Changes, IsNext, KeepsSinksOn}
+use Rattle.graph_plan.specs.working.SoundGraph.{IsSoundGraph}
 use Rattle.graph_plan.proofs.FormLemmas.{port_count_is, input_count_is}
 use Rattle.graph_plan.proofs.ListLemmas.{any_of}
 use Rattle.graph_plan.proofs.SoundGraphLemmas.{port_below, form_ranges, one_channels, past_nodes, fresh_below}
@@ -112,7 +112,7 @@ module _ (count : ℕ) (g : Graph) (sound : IsSoundGraph count g) (n : ℕ) (e :
         (first_is port.node rate channels there inputs form)
 
     keeps : (port : PortId) (rate channels : ℕ) → kind_at plan port.node ≡ Sink → (standing g.nodes port.node).there ≡ true
-        → Stands g.ports port rate channels → ((standing g.nodes port.node).kept || is_heard g e port.node) ≡ true
+        → Stands g.ports port rate channels → ((standing g.nodes port.node).kept || is_formed_sink g e port.node) ≡ true
         → KeepsIt g.ports after.nodes port rate channels
     keeps port rate channels k there f kept =
         let below = port_below count g sound port f.form.0 in
@@ -126,9 +126,9 @@ module _ (count : ℕ) (g : Graph) (sound : IsSoundGraph count g) (n : ℕ) (e :
           form = f;
         }
 
-    heard_now : (port : PortId) (rate channels : ℕ) → kind_at plan port.node ≡ Sink → HasForm e port rate channels
-        → is_heard g e port.node ≡ true
-    heard_now port rate channels k h = and_from (is_sink (get_or g.kinds port.node Dummy)) (list_any (λ (f : PortForm). f.port.node == port.node) e.forms)
+    formed_now : (port : PortId) (rate channels : ℕ) → kind_at plan port.node ≡ Sink → HasForm e port rate channels
+        → is_formed_sink g e port.node ≡ true
+    formed_now port rate channels k h = and_from (is_sink (get_or g.kinds port.node Dummy)) (list_any (λ (f : PortForm). f.port.node == port.node) e.forms)
         (ap is_sink (kind_sink port.node k))
         (any_of (λ (f : PortForm). f.port.node == port.node) e.forms (record { port = port; rate = rate; channels = channels }) h
         (eq-eqb port.node port.node refl))
@@ -136,9 +136,9 @@ module _ (count : ℕ) (g : Graph) (sound : IsSoundGraph count g) (n : ℕ) (e :
     pub sinks_ok : KeepsSinksOn plan g.ports g.nodes after.nodes e
     sinks_ok = record {
       still = λ port rate channels k was. keeps port rate channels k was.there was.form
-          (or_left (standing g.nodes port.node).kept (is_heard g e port.node) was.kept);
-      heard = λ port rate channels k h.
+          (or_left (standing g.nodes port.node).kept (is_formed_sink g e port.node) was.kept);
+      formed = λ port rate channels k h.
           let s = stands count g sound n e is port rate channels h in
           keeps port rate channels k (sound.made.there port.node (form_made count g sound n e is port rate channels h)) s
-          (or_right (standing g.nodes port.node).kept (is_heard g e port.node) (heard_now port rate channels k h));
+          (or_right (standing g.nodes port.node).kept (is_formed_sink g e port.node) (formed_now port rate channels k h));
     }

@@ -19,10 +19,10 @@ use Rattle.graph_lines.specs.declared.standing.Standing.{Standing}
 use Rattle.graph_lines.specs.declared.wire.Wire.{Wire}
 use Rattle.graph_lines.specs.Activity.{standing, nobody}
 use Rattle.graph_lines.specs.Lines.{mark, Marks}
-use Rattle.graph_plan.specs.Reaching.{IsOrdered}
-use Rattle.graph_plan.specs.SoundWires.{HasFormatOf, IsSoundWire}
-use Rattle.graph_plan.specs.Remembering.{CarriesOn}
-use Rattle.graph_plan.specs.SoundGraph.{AreMade, IsSoundGraph}
+use Rattle.graph_plan.specs.working.Reaching.{IsOrdered}
+use Rattle.graph_plan.specs.working.SoundWires.{HasFormatOf, IsSoundWire}
+use Rattle.graph_plan.specs.working.Remembering.{CarriesOn}
+use Rattle.graph_plan.specs.working.SoundGraph.{AreMade, IsSoundGraph}
 use Rattle.graph_plan.proofs.ListLemmas.{origin, kept, any_of, map_changed}
 use Rattle.graph_plan.proofs.PortLemmas.{with_port_keeps, buffered_stands}
 use Rattle.graph_plan.proofs.CarryLemmas.{rebuilt_sound}

@@ -37,9 +37,9 @@ use Rattle.graph_lines.specs.Activity.{standing, is_live, live_wires, HasWire}
 use Rattle.graph_lines.specs.Epochs.{has_node, is_used, IsLinkOf, IsEpochOf}
 use Rattle.graph_lines.specs.Forms.{IsFormOfPort, FormIn}
 use Rattle.graph_lines.specs.Sums.{sums_with, passed}
-use Rattle.graph_plan.specs.SoundWires.{IsSoundWire, AreApart}
-use Rattle.graph_plan.specs.Remembering.{IsLike, HasSomeFormat, Stands}
-use Rattle.graph_plan.specs.SoundGraph.{IsSoundPart, IsSoundGraph}
+use Rattle.graph_plan.specs.working.SoundWires.{IsSoundWire, AreApart}
+use Rattle.graph_plan.specs.working.Remembering.{IsLike, HasSomeFormat, Stands}
+use Rattle.graph_plan.specs.working.SoundGraph.{IsSoundPart, IsSoundGraph}
 use Rattle.graph_plan.proofs.ListLemmas.{origin, kept, stands_for, number_found, all_of, pairs_of, zip_length, zip_at, zip_all}
 use Rattle.graph_plan.proofs.FormLemmas.{one_form, port_count_is, input_count_is, kind_at_is, formatted_form, channels_shared}
 use Rattle.graph_plan.proofs.WholeLemmas.{whole_in, shared_in}

@@ -23,7 +23,7 @@ use Rattle.graph_plan.specs.declared.member.Member.{Member}
 use Rattle.graph_plan.specs.declared.together.Together.{Together}
 use Rattle.graph_plan.specs.Conditions.{AreScriptPorts, HaveWaves}
 use Rattle.graph_plan.specs.Joining.{JoinsKinds}
-use Rattle.graph_plan.specs.Members.{IsFirst, IsMemberOf, AreReady, IsLastMember}
+use Rattle.graph_plan.specs.working.Members.{IsFirst, IsMemberOf, AreReady, IsLastMember}
 use Rattle.graph_plan.specs.PartLines.{part_lines, part_script}
 use Rattle.graph_plan.specs.Parted.{begun, AreBegun, IsBegun, IsPartOfMember, IsPartsAnswer, IsParted}
 use Rattle.graph_plan.specs.Parts.{IsPartition}

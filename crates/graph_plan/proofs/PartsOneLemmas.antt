@@ -40,13 +40,13 @@ use Rattle.graph_plan.specs.declared.fault.PlanFault.{PlanFault}
 use Rattle.graph_plan.specs.declared.fault.PlanFault.TheVariants as F
 use Rattle.graph_plan.specs.declared.member.Member.{Member}
 use Rattle.graph_plan.specs.declared.together.Together.{Together}
-use Rattle.graph_plan.specs.Ahead.{is_run}
+use Rattle.graph_plan.specs.working.Ahead.{is_run}
 use Rattle.graph_plan.specs.Conditions.{AreScriptPorts}
 use Rattle.graph_plan.specs.Moving.{RunsOn, MovesOn, MovesIf, Moves, Makes, MakesIf, MakesOf, own_sums, all_sums, total}
 use Rattle.graph_plan.specs.PartLines.{is_line_of}
 use Rattle.graph_plan.specs.Parted.{begun, IsBegun, IsPartOfMember, ArePartsOf, IsPartsAnswer, IsParted}
 use Rattle.graph_plan.specs.Parts.{AreParts, IsPartition}
-use Rattle.graph_plan.specs.SoundGraph.{IsSoundGraph}
+use Rattle.graph_plan.specs.working.SoundGraph.{IsSoundGraph}
 use Rattle.graph_plan.specs.Together.{noted, GoesOn, HasManyIn, HasMany, HasSums, Passes, FollowTogether}
 use Rattle.graph_plan.proofs.AheadLemmas.{first_within}
 use Rattle.graph_plan.proofs.EpochOneLemmas.{epoch_one, drain_one, after_one}

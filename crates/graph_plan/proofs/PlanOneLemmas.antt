@@ -29,7 +29,7 @@ use Rattle.graph_plan.proofs.ScriptLemmas.{lines_are}
 use Rattle.graph_plan.proofs.StartLemmas.{first_sound}
 use Rattle.graph_plan.specs.PlanOf.{IsEndOf, IsNodeOf, IsPlanOf}
 use Rattle.graph_plan.specs.Planned.{IsAnswer, IsPlanned}
-use Rattle.graph_plan.specs.SoundGraph.{IsSoundGraph}
+use Rattle.graph_plan.specs.working.SoundGraph.{IsSoundGraph}
 use Rattle.graph_plan.proofs.FormLemmas.{one_form}
 use Rattle.graph_plan.proofs.SortedLemmas.{same_places}
 use Rattle.graph_plan.proofs.StepLemmas.{AreGoodLines, follows_sound}

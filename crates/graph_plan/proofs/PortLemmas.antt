@@ -18,7 +18,7 @@ use Rattle.port_model.proofs.ValueLemmas.{some_is}
 use Rattle.link_negotiation.specs.LinkOutcome.{given, MayBeGiven}
 use Rattle.link_negotiation.proofs.GivingLemmas.{IsThere, there, elsewhere, taken_given, kept_given}
 use Rattle.graph_lines.specs.Forms.{IsFormOfPort, FormIn}
-use Rattle.graph_plan.specs.Remembering.{HasSomeFormat, Stands}
+use Rattle.graph_plan.specs.working.Remembering.{HasSomeFormat, Stands}
 use Rattle.graph_plan.proofs.ListLemmas.{changed_keeps}
 use Rattle.graph_plan.proofs.FormLemmas.{IsFormattedNode}
 use Rattle.graph_plan.proofs.WholeLemmas.{formatted_node}

@@ -7,7 +7,7 @@ use Rattle.std.proofs.lemmas.Bool.{or_cases, or_left, or_right, and_parts, and_f
 use Rattle.std.proofs.lemmas.List.Elements.{Contains-push_cases, filter-append}
 use Rattle.link_negotiation.specs.declared.link.Link.{Link}
 use Rattle.link_negotiation.specs.Links.{IsWalk, IsReachable}
-use Rattle.graph_plan.specs.Reaching.{HasRank, leads}
+use Rattle.graph_plan.specs.working.Reaching.{HasRank, leads}
 
 -- each node leads to itself
 leads_self : (ls : List Link) (a : ℕ) → leads ls a a ≡ true

@@ -22,7 +22,7 @@ use Rattle.graph_lines.specs.declared.standing.Standing.{Standing}
 use Rattle.graph_lines.specs.Activity.{standing, nobody}
 use Rattle.graph_lines.specs.Epochs.{IsEpochOf}
 use Rattle.graph_lines.specs.Fresh.{ChannelsIn}
-use Rattle.graph_lines.specs.EpochLines.{cycles_in, is_heard, IsAfter, RunsFor, Steps}
+use Rattle.graph_lines.specs.EpochLines.{cycles_in, is_formed_sink, IsAfter, RunsFor, Steps}
 use Rattle.graph_lines.specs.Lines.{made, prior, looped, switched_on, switched_off, mark, Marks}
 use Rattle.graph_lines.specs.Start.{kinds_of, newcomer, IsStart}
 use Rattle.port_model.specs.declared.port_state.Node.{Node}
@@ -31,8 +31,8 @@ use Rattle.pw_base.specs.declared.ids.PortId.{PortId}
 use Rattle.link_negotiation.specs.declared.unlinking.Unlinked.{Unlinked}
 use Rattle.link_negotiation.specs.declared.unlinking.Unlinked.TheVariants as U
 use Rattle.graph_plan.specs.Following.{Follows}
-use Rattle.graph_plan.specs.ReadOff.{ran_in, was_heard, told_by, told_in, IsReadOff}
-use Rattle.graph_plan.specs.SoundGraph.{IsSoundGraph}
+use Rattle.graph_plan.specs.working.ReadOff.{ran_in, was_formed_sink, told_by, told_in, IsReadOff}
+use Rattle.graph_plan.specs.working.SoundGraph.{IsSoundGraph}
 use Rattle.graph_plan.proofs.SoundGraphLemmas.{one_channels}
 use Rattle.graph_plan.proofs.StartLemmas.{first_is}
 use Rattle.graph_plan.proofs.StepLemmas.{IsGoodLine, AreGoodLines, good_first, good_rest, step_sound, step_kinds, follows_end, no_stop}
@@ -65,14 +65,14 @@ record Leaves (g after : Graph) : Type 0 where
   many : length after.nodes ≡ length g.nodes
   each : (n : ℕ) → IsAlike (standing g.nodes n) (standing after.nodes n)
 
-heard_alike : (g after : Graph) (epochs : List Epoch) (n : ℕ) → after.kinds ≡ g.kinds → was_heard after epochs n ≡ was_heard g epochs n
-heard_alike g after epochs n e = ap (λ (ks : List Kind). was_heard (record g { kinds = ks }) epochs n) e
+formed_alike : (g after : Graph) (epochs : List Epoch) (n : ℕ) → after.kinds ≡ g.kinds → was_formed_sink after epochs n ≡ was_formed_sink g epochs n
+formed_alike g after epochs n e = ap (λ (ks : List Kind). was_formed_sink (record g { kinds = ks }) epochs n) e
 
 read_left : (g after : Graph) → Leaves g after → IsReadOff g → IsReadOff after
 read_left g after l h = record {
   ran = λ n i. (l.each n).ran ∙ (h.ran n (inside n i) ∙ ap (λ (es : List Epoch). ran_in es n) (sym l.epochs));
-  kept = λ n i. (l.each n).kept ∙ (h.kept n (inside n i) ∙ (ap (λ (es : List Epoch). was_heard g es n) (sym l.epochs)
-      ∙ sym (heard_alike g after after.epochs n l.kinds)));
+  kept = λ n i. (l.each n).kept ∙ (h.kept n (inside n i) ∙ (ap (λ (es : List Epoch). was_formed_sink g es n) (sym l.epochs)
+      ∙ sym (formed_alike g after after.epochs n l.kinds)));
   told = λ n i. (l.each n).told ∙ (h.told n (inside n i) ∙ ap (λ (es : List Epoch). told_in es n) (sym l.epochs));
 } where
   inside : (n : ℕ) → n < length after.nodes → n < length g.nodes
@@ -152,8 +152,8 @@ module _ (count : ℕ) (g after : Graph) (n : ℕ) (e : Epoch) (sound : IsSoundG
         ∙ (ap (λ (k : ℕ). k + cycles_in e m) (h.ran m (inside m i))
         ∙ (sym (sum_more m) ∙ ap (λ (es : List Epoch). ran_in es m) (sym epochs_are)));
     kept = λ m i. ap (λ (s : Standing). s.kept) (taken.nodes m (inside m i)).rest
-        ∙ (ap (λ (b : Bool). b || is_heard g e m) (h.kept m (inside m i))
-        ∙ (sym (heard_more m) ∙ (ap (λ (es : List Epoch). was_heard g es m) (sym epochs_are) ∙ sym (heard_alike g after after.epochs m kinds_are))));
+        ∙ (ap (λ (b : Bool). b || is_formed_sink g e m) (h.kept m (inside m i))
+        ∙ (sym (formed_more m) ∙ (ap (λ (es : List Epoch). was_formed_sink g es m) (sym epochs_are) ∙ sym (formed_alike g after after.epochs m kinds_are))));
     told = λ m i. told_more m (standing after.nodes m) (inside m i) refl
         ∙ (ap (λ (k : ℕ). told_by m k e) (h.told m (inside m i))
         ∙ (sym (fold-append (told_by m) 0 g.epochs (e ∷ [])) ∙ ap (λ (es : List Epoch). told_in es m) (sym epochs_are)));
@@ -168,9 +168,9 @@ module _ (count : ℕ) (g after : Graph) (n : ℕ) (e : Epoch) (sound : IsSoundG
     or_false true = refl
     or_false false = refl
 
-    heard_more : (m : ℕ) → was_heard g (g.epochs ++ e ∷ []) m ≡ (was_heard g g.epochs m || is_heard g e m)
-    heard_more m = list_any-append (λ (x : Epoch). is_heard g x m) g.epochs (e ∷ [])
-        ∙ ap (λ (b : Bool). was_heard g g.epochs m || b) (or_false (is_heard g e m))
+    formed_more : (m : ℕ) → was_formed_sink g (g.epochs ++ e ∷ []) m ≡ (was_formed_sink g g.epochs m || is_formed_sink g e m)
+    formed_more m = list_any-append (λ (x : Epoch). is_formed_sink g x m) g.epochs (e ∷ [])
+        ∙ ap (λ (b : Bool). was_formed_sink g g.epochs m || b) (or_false (is_formed_sink g e m))
 
 -- a line that runs for some cycles
 run_read : (count : ℕ) (g after : Graph) (n : ℕ) → IsSoundGraph count g → RunsFor g n T.Done after → IsReadOff g → IsReadOff after
@@ -278,7 +278,7 @@ follows_read waves kinds (l ∷ ls) count g end sound same good r (inr h) = absu
 pub start_read : (lines : List Line) (ports : List Node) (g : Graph) → IsStart lines ports g → IsReadOff g
 start_read lines ports g start = record {
   ran = λ n i. first (λ (s : Standing). s.ran) 0 (λ k. refl) refl n ∙ ap (λ (es : List Epoch). ran_in es n) (sym start.epochs);
-  kept = λ n i. first (λ (s : Standing). s.kept) false (λ k. refl) refl n ∙ ap (λ (es : List Epoch). was_heard g es n) (sym start.epochs);
+  kept = λ n i. first (λ (s : Standing). s.kept) false (λ k. refl) refl n ∙ ap (λ (es : List Epoch). was_formed_sink g es n) (sym start.epochs);
   told = λ n i. first (λ (s : Standing). s.told) 0 (λ k. refl) refl n ∙ ap (λ (es : List Epoch). told_in es n) (sym start.epochs);
 } where
   first : {X : Type 0} (f : Standing → X) (x : X) → ((m : ℕ) → f (newcomer m) ≡ x) → f nobody ≡ x → (m : ℕ) → f (standing g.nodes m) ≡ x

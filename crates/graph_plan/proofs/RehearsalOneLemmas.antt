@@ -26,13 +26,13 @@ use Rattle.graph_lines.specs.declared.graph.Stepped.TheVariants as T
 use Rattle.graph_lines.specs.declared.standing.Standing.{Standing}
 use Rattle.graph_lines.specs.declared.wire.Wire.{Wire}
 use Rattle.graph_lines.specs.Activity.{standing, nobody}
-use Rattle.graph_lines.specs.EpochLines.{is_heard}
+use Rattle.graph_lines.specs.EpochLines.{is_formed_sink}
 use Rattle.graph_lines.specs.LinkLines.{IsRecorded}
 use Rattle.graph_lines.specs.Lines.{Does}
 use Rattle.graph_lines.specs.Rehearsal.{standing_past, gone_past, GoesPast, Rehearses, HasMade}
-use Rattle.graph_plan.specs.Ahead.{is_run}
-use Rattle.graph_plan.specs.Remembering.{CarriesOn}
-use Rattle.graph_plan.specs.SoundGraph.{IsSoundGraph}
+use Rattle.graph_plan.specs.working.Ahead.{is_run}
+use Rattle.graph_plan.specs.working.Remembering.{CarriesOn}
+use Rattle.graph_plan.specs.working.SoundGraph.{IsSoundGraph}
 use Rattle.graph_plan.proofs.CarryLemmas.{rebuilt_sound}
 use Rattle.graph_plan.proofs.EpochOneLemmas.{epoch_one, drain_one}
 use Rattle.graph_plan.proofs.MovingLemmas.{does_steps, rehearses_does}
@@ -40,7 +40,7 @@ use Rattle.graph_plan.proofs.RehearsalLemmas.{rehearsal_kinds}
 use Rattle.graph_plan.proofs.StepLemmas.{IsGoodLine, AreGoodLines, good_first, good_rest, step_sound}
 use Rattle.graph_plan.proofs.StepOneLemmas.{IsOneStep, step_one}
 
--- PAST AN EPOCH a sound graph is sound: nothing is told, and a sink that was heard stays so
+-- PAST AN EPOCH a sound graph is sound: nothing is told, and a sink with frames keeps them
 module _ (g : Graph) (e : Epoch) where
   abbrev row : List Standing
   row = map (standing_past g e) (range_with_len 0 (length g.nodes))
@@ -59,7 +59,7 @@ module _ (g : Graph) (e : Epoch) where
   row_kept : (n : ℕ) → (standing g.nodes n).kept ≡ true → (standing row n).kept ≡ true
   row_kept n h = elim (cases_lt n (length g.nodes)) [
     | inl l ↦ ap (λ (s : Standing). s.kept) (get_or-map-range_with_len (standing_past g e) 0 (length g.nodes) n n nobody l (omega arith))
-        ∙ or_left (standing g.nodes n).kept (is_heard g e n) h
+        ∙ or_left (standing g.nodes n).kept (is_formed_sink g e n) h
     | inr past ↦ ap (λ (s : Standing). s.kept) (get_or_past row n nobody (omega (arith, past, row_long)) ∙ sym (get_or_past g.nodes n nobody past)) ∙ h
   ]
 

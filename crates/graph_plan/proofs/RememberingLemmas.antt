@@ -12,8 +12,8 @@ use Rattle.port_model.specs.declared.port_state.Node.{Node}
 use Rattle.port_model.specs.SoundPorts.{AreSoundNodes}
 use Rattle.graph_lines.specs.declared.standing.Standing.{Standing}
 use Rattle.graph_lines.specs.Activity.{standing}
-use Rattle.graph_plan.specs.Remembering.{IsQuietFrom, Stands, IsLastNaming, Remembers, RemembersSinks}
-use Rattle.graph_plan.specs.NextEpoch.{with_epoch, Changes, IsNext, KeepsSinksOn}
+use Rattle.graph_plan.specs.working.Remembering.{IsQuietFrom, Stands, IsLastNaming, Remembers, RemembersSinks}
+use Rattle.graph_plan.specs.working.NextEpoch.{with_epoch, Changes, IsNext, KeepsSinksOn}
 use Rattle.graph_plan.proofs.PlaceLemmas.{parted, lifted, at_last, named_by}
 use Rattle.graph_plan.proofs.FormLemmas.{one_form}
 
@@ -157,7 +157,7 @@ module _ (plan : Plan) (nodes : List Node) (said after : List Standing) (e : Epo
     sinks_more = record {
       forms = λ i f port rate channels at kind has. elim (parted plan.epochs e f i at) [
         | inl h ↦ on.still port rate channels kind (held.forms i f port rate channels h kind has)
-        | inr h ↦ on.heard port rate channels kind (subst (λ (x : Epoch). HasForm x port rate channels) (sym h.1) has)
+        | inr h ↦ on.formed port rate channels kind (subst (λ (x : Epoch). HasForm x port rate channels) (sym h.1) has)
       ];
       sinks = new_sinks;
     }

@@ -31,7 +31,7 @@ use Rattle.graph_plan.specs.Following.{Follows}
 use Rattle.graph_plan.specs.Joining.{JoinsKinds}
 use Rattle.graph_plan.specs.PlanOf.{IsPlanOf}
 use Rattle.graph_plan.specs.Planned.{IsAnswer, IsPlanned}
-use Rattle.graph_plan.specs.SoundGraph.{IsSoundGraph}
+use Rattle.graph_plan.specs.working.SoundGraph.{IsSoundGraph}
 use Rattle.graph_plan.proofs.FitLemmas.{follows_fit}
 use Rattle.graph_plan.proofs.FormLemmas.{kind_at_is}
 use Rattle.graph_plan.proofs.OwnLemmas.{owns, wave_channels}

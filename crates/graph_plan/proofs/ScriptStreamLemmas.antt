@@ -30,11 +30,11 @@ use Rattle.graph_lines.specs.Fresh.{ChannelsIn}
 use Rattle.graph_lines.specs.EpochLines.{IsAfter, RunsFor, Steps}
 use Rattle.graph_lines.specs.Lines.{Does}
 use Rattle.graph_plan.specs.Following.{Follows}
-use Rattle.graph_plan.specs.NextEpoch.{Changes, IsNext}
-use Rattle.graph_plan.specs.Remembering.{IsLike}
+use Rattle.graph_plan.specs.working.NextEpoch.{Changes, IsNext}
+use Rattle.graph_plan.specs.working.Remembering.{IsLike}
 use Rattle.graph_plan.specs.ScriptStreams.{gives_up, begins_after, LeadsTo}
-use Rattle.graph_plan.specs.SoundGraph.{IsPast, IsSoundGraph}
-use Rattle.graph_plan.specs.Summing.{FollowTo}
+use Rattle.graph_plan.specs.working.SoundGraph.{IsPast, IsSoundGraph}
+use Rattle.graph_plan.specs.working.Summing.{FollowTo}
 use Rattle.graph_plan.proofs.FormLemmas.{input_count_is}
 use Rattle.graph_plan.proofs.LeavingLemmas.{LeavesOf, line_leaves}
 use Rattle.graph_plan.proofs.ListLemmas.{any_of}

@@ -20,9 +20,9 @@ use Rattle.graph_lines.specs.declared.wire.Wire.{Wire}
 use Rattle.graph_lines.specs.Activity.{standing, nobody, HasWire}
 use Rattle.graph_lines.specs.Forms.{IsFormOfPort, FormIn}
 use Rattle.graph_lines.specs.Fresh.{ChannelsIn, IsFresh}
-use Rattle.graph_plan.specs.SoundWires.{IsSoundWire}
-use Rattle.graph_plan.specs.Remembering.{HasSomeFormat}
-use Rattle.graph_plan.specs.SoundGraph.{IsSoundGraph}
+use Rattle.graph_plan.specs.working.SoundWires.{IsSoundWire}
+use Rattle.graph_plan.specs.working.Remembering.{HasSomeFormat}
+use Rattle.graph_plan.specs.working.SoundGraph.{IsSoundGraph}
 use Rattle.graph_plan.proofs.FormLemmas.{one_form, port_count_is, kind_at_is, formatted_some}
 use Rattle.graph_plan.proofs.ActiveLemmas.{there_below}
 use Rattle.graph_plan.proofs.RangeLemmas.{few_channels}

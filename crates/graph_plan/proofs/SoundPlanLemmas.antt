@@ -30,9 +30,9 @@ use Rattle.graph_lines.specs.Forms.{FormIn}
 use Rattle.graph_lines.specs.Sums.{is_sink_form, sink_samples, block_bytes, form_samples}
 use Rattle.graph_plan.specs.Joining.{JoinsKinds}
 use Rattle.graph_plan.specs.PlanOf.{IsEndOf, IsNodeOf, IsPlanOf}
-use Rattle.graph_plan.specs.Remembering.{IsLike}
-use Rattle.graph_plan.specs.SoundGraph.{IsSoundPart, IsJoining, IsSoundGraph}
-use Rattle.graph_plan.specs.Summing.{FollowTo}
+use Rattle.graph_plan.specs.working.Remembering.{IsLike}
+use Rattle.graph_plan.specs.working.SoundGraph.{IsSoundPart, IsJoining, IsSoundGraph}
+use Rattle.graph_plan.specs.working.Summing.{FollowTo}
 use Rattle.graph_plan.proofs.FormLemmas.{one_form, port_count_is, kind_at_is}
 use Rattle.graph_plan.proofs.RangeLemmas.{within_limits}
 use Rattle.graph_plan.proofs.SoundGraphLemmas.{few_nodes, form_ranges}

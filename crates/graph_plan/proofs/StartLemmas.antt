@@ -25,10 +25,10 @@ use Rattle.graph_lines.specs.declared.wire.Wire.{Wire}
 use Rattle.graph_lines.specs.Activity.{standing, nobody}
 use Rattle.graph_lines.specs.Start.{quantum_in, quantum_of, kinds_of, newcomer, IsStart}
 use Rattle.graph_plan.specs.Conditions.{AreScriptPorts}
-use Rattle.graph_plan.specs.Reaching.{IsOrdered}
-use Rattle.graph_plan.specs.SoundWires.{IsSoundWire, AreSoundWires}
-use Rattle.graph_plan.specs.Summing.{AreSummed}
-use Rattle.graph_plan.specs.SoundGraph.{IsSoundPart, IsPast, IsJoining, IsSoundGraph}
+use Rattle.graph_plan.specs.working.Reaching.{IsOrdered}
+use Rattle.graph_plan.specs.working.SoundWires.{IsSoundWire, AreSoundWires}
+use Rattle.graph_plan.specs.working.Summing.{AreSummed}
+use Rattle.graph_plan.specs.working.SoundGraph.{IsSoundPart, IsPast, IsJoining, IsSoundGraph}
 
 -- the quantum is in range
 in_range : (command : Command) → IsInRange command → IsBetween 1 8192 (quantum_in command)

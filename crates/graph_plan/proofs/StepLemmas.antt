@@ -21,7 +21,7 @@ use Rattle.graph_lines.specs.Lines.{with_node, made, prior, looped, switched_on,
 use Rattle.graph_script.specs.Making.{grown, NamesMade}
 use Rattle.graph_plan.specs.Conditions.{AreLinesOf}
 use Rattle.graph_plan.specs.Following.{Follows}
-use Rattle.graph_plan.specs.SoundGraph.{IsSoundGraph}
+use Rattle.graph_plan.specs.working.SoundGraph.{IsSoundGraph}
 use Rattle.graph_plan.proofs.EpochLemmas.{runs_sound}
 use Rattle.graph_plan.proofs.LinkLineLemmas.{links_sound}
 use Rattle.graph_plan.proofs.NodeLineLemmas.{SaysMore, node_sound, marks_sound, buffers_sound}
@@ -66,7 +66,7 @@ tells_sound count g after n t sound low more marked same =
     node_sound count count g after n t sound (let w = sound.made.within in omega (arith, low, w)) (omega arith) low (λ m l. inl l)
     (λ past. absurd (omega (arith, past, low))) sound.made.within more marked same
 
--- what a line meets, where there are so many nodes before it
+-- what a line meets, where there are n nodes before it
 pub record IsGoodLine (count : ℕ) (kinds : List Kind) (command : Command) : Type 0 where
   pub next : IfSome (made_by command) (λ m. m.0 ≡ count)
   pub named : HasNodes (grown count command) command

@@ -45,7 +45,7 @@ use Rattle.graph_lines.specs.Lines.{Marks}
 use Rattle.graph_lines.specs.UnlinkLines.{HasKept, giving, IsTakenAway, UnlinksLine}
 use Rattle.graph_script.specs.Making.{grown}
 use Rattle.graph_plan.specs.Following.{Follows}
-use Rattle.graph_plan.specs.SoundGraph.{IsSoundGraph}
+use Rattle.graph_plan.specs.working.SoundGraph.{IsSoundGraph}
 use Rattle.graph_plan.proofs.EpochOneLemmas.{runs_one, drain_one}
 use Rattle.graph_plan.proofs.FormLemmas.{one_number, input_count_is}
 use Rattle.graph_plan.proofs.MadeLemmas.{link_made}

@@ -25,9 +25,9 @@ use Rattle.graph_plan.specs.declared.member.Member.{Member}
 use Rattle.graph_plan.specs.declared.together.Together.{Together}
 use Rattle.graph_plan.specs.Conditions.{AreLinesOf}
 use Rattle.graph_plan.specs.Following.{Follows}
-use Rattle.graph_plan.specs.Members.{IsStanding, IsReadyFor, IsMemberOf, AreReady}
+use Rattle.graph_plan.specs.working.Members.{IsStanding, IsReadyFor, IsMemberOf, AreReady}
 use Rattle.graph_plan.specs.Moving.{RunsOn, MovesOn, MovesIf, Moves, total}
-use Rattle.graph_plan.specs.MovingTogether.{MoveOrPass, StepsTogether}
+use Rattle.graph_plan.specs.working.MovingTogether.{MoveOrPass, StepsTogether}
 use Rattle.graph_plan.specs.PartLines.{is_line_of, part_lines}
 use Rattle.graph_plan.specs.Together.{noted, GoesOn, Passes, FollowTogether}
 use Rattle.graph_plan.proofs.AheadLemmas.{first_within}

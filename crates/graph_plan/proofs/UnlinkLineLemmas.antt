@@ -38,10 +38,10 @@ use Rattle.graph_lines.specs.Conditions.{AreWired}
 use Rattle.graph_lines.specs.Forms.{IsFormOfPort}
 use Rattle.graph_lines.specs.UnlinkLines.{HasKept, giving, wires_without, IsTakenAway, UnlinksLine}
 use Rattle.graph_lines.proofs.WireLemmas.{set_wired}
-use Rattle.graph_plan.specs.Reaching.{IsOrdered}
-use Rattle.graph_plan.specs.SoundWires.{HasFormatOf, IsFormatted, IsSoundWire, AreApart, AreSoundWires}
-use Rattle.graph_plan.specs.Remembering.{Stands, CarriesOn}
-use Rattle.graph_plan.specs.SoundGraph.{IsJoining, IsSoundGraph}
+use Rattle.graph_plan.specs.working.Reaching.{IsOrdered}
+use Rattle.graph_plan.specs.working.SoundWires.{HasFormatOf, IsFormatted, IsSoundWire, AreApart, AreSoundWires}
+use Rattle.graph_plan.specs.working.Remembering.{Stands, CarriesOn}
+use Rattle.graph_plan.specs.working.SoundGraph.{IsJoining, IsSoundGraph}
 use Rattle.graph_plan.proofs.ListLemmas.{origin, kept, any_of, map_changed, stands_for, all_of}
 use Rattle.graph_plan.proofs.RankLemmas.{fewer_rank}
 use Rattle.graph_plan.proofs.SoundGraphLemmas.{wire_at}

@@ -24,7 +24,7 @@ use Rattle.port_model.proofs.ValueLemmas.{own_value, free_value, some_of, some_i
 use Rattle.port_model.proofs.FormLemmas.{has_form}
 use Rattle.link_negotiation.proofs.GivingLemmas.{there}
 use Rattle.graph_lines.specs.Forms.{IsFormOfPort, FormIn}
-use Rattle.graph_plan.specs.Remembering.{HasSomeFormat}
+use Rattle.graph_plan.specs.working.Remembering.{HasSomeFormat}
 use Rattle.graph_plan.proofs.FormLemmas.{one_number, rate_shared, IsFormattedNode, value_shared}
 
 -- what fixes the channels of a port: they are shared, or the kind's, or the node has one port

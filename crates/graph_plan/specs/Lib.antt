@@ -8,14 +8,5 @@ pub mod PartLines
 pub mod Moving
 pub mod Together
 pub mod Parted
-pub mod Members
-pub mod Ahead
-pub mod MovingTogether
-pub mod ReadOff
-pub mod Reaching
-pub mod SoundWires
-pub mod Remembering
-pub mod SoundGraph
-pub mod NextEpoch
-pub mod Summing
 pub mod ScriptStreams
+pub mod working

@@ -5,7 +5,7 @@ ghost use Rattle.graph_script.specs.Kinds.{HasKinds};
 ghost use Rattle.graph_script.specs.Ranges.{HasRanges};
 ghost use Rattle.graph_lines.specs.Start.{kinds_of, MayStart, IsStart};
 ghost use Rattle.graph_plan.specs.Conditions.{AreScriptPorts, HaveWaves};
-ghost use Rattle.graph_plan.specs.Members.{AreReady, IsFirst};
+ghost use Rattle.graph_plan.specs.working.Members.{AreReady, IsFirst};
 ghost use Rattle.graph_plan.specs.Parted.{IsBegun, AreBegun};
 
 use crate::member::Member;

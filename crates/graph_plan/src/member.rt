@@ -3,10 +3,10 @@ ghost use Rattle.std.specs.Prelude.{◌≡◌, ◌+◌, ◌≤◌, ◌&&◌, not
 ghost use Rattle.pw_base.specs.PlanSums.{capped};
 ghost use Rattle.graph_lines.specs.declared.graph.Stepped.TheVariants.{Done};
 ghost use Rattle.graph_lines.specs.Sums.{capped_sums, passed};
-ghost use Rattle.graph_plan.specs.Ahead.{is_run, both_sums, IsAhead};
-ghost use Rattle.graph_plan.specs.Members.{IsStanding, IsReadyFor};
+ghost use Rattle.graph_plan.specs.working.Ahead.{is_run, both_sums, IsAhead};
+ghost use Rattle.graph_plan.specs.working.Members.{IsStanding, IsReadyFor};
 ghost use Rattle.graph_plan.specs.Moving.{MakesOf, own_sums};
-ghost use Rattle.graph_plan.specs.MovingTogether.{HasTaken, GoesBy};
+ghost use Rattle.graph_plan.specs.working.MovingTogether.{HasTaken, GoesBy};
 ghost use Rattle.graph_plan.specs.PartLines.{is_line_of};
 
 use crate::partition::is_among;

@@ -1,8 +1,8 @@
 //! A line of a script in all parts: the epochs that it makes of them, and the sums of all.
 ghost use Rattle.std.specs.Prelude.{◌≡◌, ◌≤◌, All, IfOk};
-ghost use Rattle.graph_plan.specs.Ahead.{AreAhead, AreToCome, AreJudged};
-ghost use Rattle.graph_plan.specs.Members.{IsReadyFor};
-ghost use Rattle.graph_plan.specs.MovingTogether.{GoBy, MoveOrPass};
+ghost use Rattle.graph_plan.specs.working.Ahead.{AreAhead, AreToCome, AreJudged};
+ghost use Rattle.graph_plan.specs.working.Members.{IsReadyFor};
+ghost use Rattle.graph_plan.specs.working.MovingTogether.{GoBy, MoveOrPass};
 
 use crate::member::Member;
 use graph_lines::{Stepped, Sums};

@@ -8,7 +8,7 @@ ghost use Rattle.graph_script.specs.Making.{NamesMade};
 ghost use Rattle.graph_script.specs.Ranges.{HasRanges};
 ghost use Rattle.graph_plan.specs.Conditions.{AreLinesOf, AreScriptPorts, HaveWaves};
 ghost use Rattle.graph_plan.specs.Joining.{JoinsKinds};
-ghost use Rattle.graph_plan.specs.Members.{AreReady, IsStanding, IsLastMember};
+ghost use Rattle.graph_plan.specs.working.Members.{AreReady, IsStanding, IsLastMember};
 ghost use Rattle.graph_plan.specs.PartLines.{part_lines};
 ghost use Rattle.graph_plan.specs.Parted.{IsPartOfMember, ArePartsOf, IsPartsAnswer, IsParted};
 ghost use Rattle.graph_plan.specs.Parted.{IsWithin, IsNoChange};

@@ -2,8 +2,8 @@
 ghost use Rattle.std.specs.Prelude.{◌≡◌, ◌≤◌, ◌∷◌, ◌++◌, [], All, IfOk, OnOk, option_to_list};
 ghost use Rattle.graph_lines.specs.declared.graph.Stepped.TheVariants.{Done};
 ghost use Rattle.graph_plan.specs.Conditions.{AreLinesOf};
-ghost use Rattle.graph_plan.specs.Members.{IsReadyFor, AreReady, AreFollowed};
-ghost use Rattle.graph_plan.specs.MovingTogether.{MoveOrPass, StepsTogether};
+ghost use Rattle.graph_plan.specs.working.Members.{IsReadyFor, AreReady, AreFollowed};
+ghost use Rattle.graph_plan.specs.working.MovingTogether.{MoveOrPass, StepsTogether};
 ghost use Rattle.graph_plan.specs.Together.{has_both, last_line, said_last, noted};
 
 use crate::fault::PlanFault;

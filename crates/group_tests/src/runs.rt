@@ -65,7 +65,7 @@ const ONE_PART: RunRow<'static> = RunRow {
     boards: 1,
 };
 
-/// Two squares that one sink hears, and one with a sink of its own.
+/// Two squares that one sink keeps, and one with a sink of its own.
 const TWO_AND_ONE: RunRow<'static> = RunRow {
     group: GroupRow {
         texts: &[

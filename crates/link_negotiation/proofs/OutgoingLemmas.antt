@@ -2,7 +2,7 @@
 use Rattle.std.proofs.Common.{◌≡◌, ℕ, zero, suc, get_or, replicate, refl, arith}
 use Rattle.std.proofs.lemmas.List.{length-replicate}
 use Rattle.link_negotiation.specs.Links.{LinkState}
-use Rattle.link_negotiation.specs.Searching.{IsOutgoing}
+use Rattle.link_negotiation.specs.working.Searching.{IsOutgoing}
 
 zeros : (n k : ℕ) → get_or (replicate {A = ℕ} n 0) k 0 ≡ 0
 zeros zero k = refl

@@ -7,7 +7,7 @@ use Rattle.std.proofs.lemmas.Bool.{cases_eq}
 use Rattle.std.proofs.lemmas.List.{get_or-set_same, get_or-set_other, set-get_or, get_or_past, length-replicate}
 use Rattle.std.proofs.lemmas.List.Sums.{sum_by-set}
 use Rattle.link_negotiation.specs.declared.reached.Reached.{Reached}
-use Rattle.link_negotiation.specs.Searching.{is_reached, IsQueue, IsLonger}
+use Rattle.link_negotiation.specs.working.Searching.{is_reached, IsQueue, IsLonger}
 
 -- what is reached stays, and one node comes
 pub still : (here : List Bool) (n m : ℕ) → n < length here → is_reached here m ≡ true → is_reached (set here n true) m ≡ true

@@ -9,7 +9,7 @@ use Rattle.link_negotiation.specs.declared.link.Link.{Link}
 use Rattle.link_negotiation.specs.declared.outgoing.Outgoing.{Outgoing}
 use Rattle.link_negotiation.specs.declared.reached.Reached.{Reached}
 use Rattle.link_negotiation.specs.Links.{LinkState, is_synchronous, synchronous_links, IsReachable}
-use Rattle.link_negotiation.specs.Searching.{IsBounded, leaves, IsOutgoing, is_reached, IsQueue, IsLonger, IsLed, IsExpanded, Expands}
+use Rattle.link_negotiation.specs.working.Searching.{IsBounded, leaves, IsOutgoing, is_reached, IsQueue, IsLonger, IsLed, IsExpanded, Expands}
 use Rattle.link_negotiation.proofs.WalkLemmas.{kept, origin, walk_stays, walk_on}
 use Rattle.link_negotiation.proofs.ReachedLemmas.{old_or_new, longer_same, none_reached, reached_below}
 

@@ -4,7 +4,7 @@ use Rattle.std.proofs.Common.{◌∙◌, subst, arith}
 use Rattle.std.specs.List.{Contains, filter}
 use Rattle.link_negotiation.specs.declared.link.Link.{Link}
 use Rattle.link_negotiation.specs.Links.{LinkState, synchronous_links, IsWalk, IsReachable}
-use Rattle.link_negotiation.specs.Searching.{is_reached, IsLed}
+use Rattle.link_negotiation.specs.working.Searching.{is_reached, IsLed}
 
 -- a link that stands at a place, and passes, is among those that pass
 later : (b : Bool) (y x : Link) (zs : List Link) → Contains zs x → Contains (cond b (y ∷ zs) zs) x

@@ -2,4 +2,4 @@ pub mod Links
 pub mod Negotiation
 pub mod LinkOutcome
 pub mod Unlinking
-pub mod Searching
+pub mod working

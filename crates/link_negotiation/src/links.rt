@@ -2,7 +2,7 @@
 ghost use Rattle.std.specs.Prelude.{◌≡◌, ◌<◌, [], false, length, replicate, slice_set, IfOk, true};
 ghost use Rattle.pw_base.specs.Limits.{nodes_limit};
 ghost use Rattle.link_negotiation.specs.Links.{joins, are_linked, has_link, is_synchronous};
-ghost use Rattle.link_negotiation.specs.Searching.{is_reached};
+ghost use Rattle.link_negotiation.specs.working.Searching.{is_reached};
 
 use crate::link::Link;
 use pw_base::{Memory, NODES, PortId, is_same_port};
@@ -22,7 +22,7 @@ pub struct Links {
 
 impl Model for Links {
     ghost use Rattle.link_negotiation.specs.Links.{LinkState};
-    ghost use Rattle.link_negotiation.specs.Searching.{IsBounded};
+    ghost use Rattle.link_negotiation.specs.working.Searching.{IsBounded};
 
     ghost Value = { LinkState };
 

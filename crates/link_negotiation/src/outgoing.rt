@@ -1,7 +1,7 @@
 //! The synchronous links by the node that they leave.
 ghost use Rattle.std.specs.Prelude.{◌+◌, ◌<◌, length};
 ghost use Rattle.link_negotiation.specs.Links.{LinkState};
-ghost use Rattle.link_negotiation.specs.Searching.{IsOutgoing};
+ghost use Rattle.link_negotiation.specs.working.Searching.{IsOutgoing};
 
 use crate::links::{LINKS, Links};
 use pw_base::NODES;

@@ -1,7 +1,7 @@
 //! Walks along synchronous links.
 ghost use Rattle.std.specs.Prelude.{◌≡◌, ◌<◌, ◌↔◌, length, IsTrue};
 ghost use Rattle.link_negotiation.specs.Links.{synchronous_links, IsReachable};
-ghost use Rattle.link_negotiation.specs.Searching.{IsOutgoing, IsQueue, Expands};
+ghost use Rattle.link_negotiation.specs.working.Searching.{IsOutgoing, IsQueue, Expands};
 
 use crate::links::{Links, is_in};
 use crate::outgoing::Outgoing;

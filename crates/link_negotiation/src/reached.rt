@@ -1,6 +1,6 @@
 //! The nodes that a search has reached.
 ghost use Rattle.std.specs.Prelude.{◌≡◌, ◌<◌, false, true, replicate, slice_set};
-ghost use Rattle.link_negotiation.specs.Searching.{IsQueue, IsLonger};
+ghost use Rattle.link_negotiation.specs.working.Searching.{IsQueue, IsLonger};
 
 use pw_base::NODES;
 

@@ -4,7 +4,7 @@ use crate::showing::{Part, expect_part};
 use crate::silence::Silence;
 use std::test::Fail;
 
-// The sink was heard and keeps its format; the source and the delay gave theirs up.
+// The sink had a link and keeps its format; the source and the delay gave theirs up.
 #[test]
 fn a_relinked_delay_begins_anew(rt: HostRuntime) -> Result<(), Fail> {
     let text = "quantum 2\nsource s s.wav\ndelay d 1\nsink o o.wav\ndriver o 1\n\

@@ -32,7 +32,7 @@ fn samples_of_sinks_up_to_the_limit(rt: HostRuntime) -> Result<(), Fail> {
     Ok(())
 }
 
-// Appends a line so many times.
+// Appends a line n times.
 fn append(text: &mut String, line: &str, count: u32) -> Result<(), Memory> {
     for _number in 0..count {
         text.push_str(line)?;

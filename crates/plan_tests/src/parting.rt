@@ -51,7 +51,7 @@ fn links_that_were_taken_away_join(rt: HostRuntime) -> Result<(), Fail> {
     expect_parts(&rt, text, "0 2 \n1 \n")
 }
 
-// Of links that are refused none joins. A sink that was heard keeps its format, and refuses then
+// Of links that are refused none joins. A sink that had a link keeps its format, and refuses then
 // what it would take else.
 #[test]
 fn links_that_were_refused_do_not_join(rt: HostRuntime) -> Result<(), Fail> {

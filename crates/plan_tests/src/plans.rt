@@ -178,7 +178,7 @@ fn late_links_join_nodes(rt: HostRuntime) -> Result<(), Fail> {
 }
 
 // In the whole script another driver leaves the sink idle, so that it gives its format up and takes
-// another one. In its part it was heard, and keeps its format.
+// another one. In its part it had a link, and keeps its format.
 #[test]
 fn a_part_may_differ_from_the_whole(rt: HostRuntime) -> Result<(), Fail> {
     let text = "square q 48000 1 4 1\nsquare r 44100 1 4 1\nsink o o.wav\nmeter m\ndriver o 1\n\

@@ -9,7 +9,7 @@ use wav_files::Wav;
 /// Frames a second of each wave.
 const RATE: u32 = 48_000;
 
-/// A wave of so many frames of zeros at 48000 frames a second.
+/// A wave of n frames of zeros at 48000 frames a second.
 #[derive(Clone, Copy, Drop)]
 pub enum Silence {
     Mono { frames: u32 },

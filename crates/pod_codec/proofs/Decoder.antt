@@ -101,7 +101,7 @@ body_of step bytes t b e =
     (cond (t == 16) (mapped (Pod-F.Sequence (u32_at bytes b)) (run (keyed_step (control_of bytes) step e) e (b + 8) e))
     (Ok (leaf_of bytes t b e))))
 
--- the POD at p within e, with so many levels left, and where it ends; or its first fault
+-- the POD at p within e, with n levels left, and where it ends; or its first fault
 unfoldable pub decoded : ℕ → List ℕ → ℕ → ℕ → Result (Pod × ℕ) PodFault
 decoded zero bytes p e = Err (Deep p)
 decoded (suc left) bytes p e =

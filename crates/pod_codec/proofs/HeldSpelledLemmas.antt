@@ -17,7 +17,7 @@ use Rattle.pod_codec.proofs.FormLemmas.{keyed_out, control_out}
 use Rattle.pod_codec.proofs.PlaceLemmas.{StandsAt, stands_left, stands_right}
 use Rattle.pod_codec.proofs.ScalarSpelledLemmas.{pair_stands, pair_length}
 
--- what is held, with so many levels left, spells where it stands before e
+-- what is held, with n levels left, spells where it stands before e
 abbrev pub IsSpelled : ℕ → List ℕ → ℕ → Type 0
 IsSpelled left bytes e = (pod : Pod) (a : ℕ) → Fits left (form_of pod) → NumbersFit left pod → StandsAt bytes a (framed (form_of pod))
     → a + length (framed (form_of pod)) ≤ e → SpellsAt left bytes a e pod (a + length (framed (form_of pod)))

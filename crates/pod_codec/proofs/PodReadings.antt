@@ -1,9 +1,9 @@
--- THE READING of bytes as a POD, by `specs/PodReading.antt`: there is one for all bytes, and no other.
+-- THE READING of bytes as a POD, by `specs/working/PodReading.antt`: there is one for all bytes, and no other.
 use Rattle.std.proofs.Common.{◌≡◌, ℕ, ◌≤◌, List, length, inl, inr, sym, ◌∙◌, Result, Ok, Err, arith}
 use Rattle.pod_codec.specs.declared.pod.Pod.{Pod}
 use Rattle.pod_codec.specs.declared.fault.PodFault.{PodFault}
 use Rattle.pod_codec.specs.Spelling.{SpellsAt, FrontSpells}
-use Rattle.pod_codec.specs.PodReading.{IsReading}
+use Rattle.pod_codec.specs.working.PodReading.{IsReading}
 use Rattle.pod_codec.proofs.Decoder.{decoded_front}
 use Rattle.pod_codec.proofs.SpellingLemmas.{front_decoded, first_decoded}
 use Rattle.pod_codec.specs.ReadAnswer.{HasAnswer}

@@ -10,7 +10,7 @@ pub mod Places
 pub mod Spelling
 pub mod Checks
 pub mod FirstFault
-pub mod PodReading
 pub mod SoundChoices
 pub mod ReadAnswer
 pub mod Numbers
+pub mod working

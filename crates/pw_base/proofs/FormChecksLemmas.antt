@@ -1,4 +1,4 @@
--- Laws of `specs/FormChecks.antt`: what holds of nodes and forms one by one is what the whole epoch says.
+-- Laws of `specs/working/FormChecks.antt`: what holds of nodes and forms one by one is what the whole epoch says.
 use Rattle.std.proofs.Common.{◌≡◌, ℕ, ◌<◌, length, get_or}
 use Rattle.std.specs.Prelude.{All, Contains, ◌↔◌}
 use Rattle.std.proofs.lemmas.List.{get_or_default}
@@ -12,7 +12,7 @@ use Rattle.pw_base.specs.Dependencies.{nodes_of}
 use Rattle.pw_base.specs.PlanForms.{kind_at}
 use Rattle.pw_base.specs.SoundPlan.{EndsWith}
 use Rattle.pw_base.proofs.ShapeLemmas.{contains_mapped}
-use Rattle.pw_base.specs.FormChecks.{HasSomeForm, HasAllForms, IsWhole, IsPlace, IsEnded}
+use Rattle.pw_base.specs.working.FormChecks.{HasSomeForm, HasAllForms, IsWhole, IsPlace, IsEnded}
 
 -- every follower has forms for all its ports, node by node and port by port
 pub whole_by_ports : (plan : Plan) (epoch : Epoch) → All (IsWhole plan epoch) epoch.shape.nodes

@@ -1,4 +1,4 @@
--- Laws of `specs/FreshChecks.antt`: fresh nodes and kept forms by epochs at their places.
+-- Laws of `specs/working/FreshChecks.antt`: fresh nodes and kept forms by epochs at their places.
 use Rattle.std.proofs.Common.{◌≡◌, ℕ, ◌<◌, ◌≤◌, length, get_or, refl, sym, subst, arith, inl, inr, ◌+◌}
 use Rattle.std.proofs.lemmas.Bool.{cases_lt}
 use Rattle.std.proofs.lemmas.Option.{slice_get_within}
@@ -13,8 +13,8 @@ use Rattle.pw_base.specs.declared.plan.Plan.{Plan}
 use Rattle.pw_base.specs.declared.plan.PortForm.{PortForm}
 use Rattle.pw_base.specs.PlanForms.{HasForm}
 use Rattle.pw_base.specs.PlanFresh.{IsEpoch, Names, HasSoundFresh}
-use Rattle.pw_base.specs.FreshChecks.{HasEntry, HasSomeEntry, IsNamed, IsSameForm, AgreesIn, KeepsForm, IsKeptFrom, IsLastNamed, IsKeptForm}
-use Rattle.pw_base.specs.FreshChecks.{KeepsEpoch, NamesWell}
+use Rattle.pw_base.specs.working.FreshChecks.{HasEntry, HasSomeEntry, IsNamed, IsSameForm, AgreesIn, KeepsForm, IsKeptFrom, IsLastNamed, IsKeptForm}
+use Rattle.pw_base.specs.working.FreshChecks.{KeepsEpoch, NamesWell}
 
 -- an epoch's place has one epoch
 pub epoch_is : (plan : Plan) (k : ℕ) (e f : Epoch) → IsEpoch plan k e → IsEpoch plan k f → e ≡ f

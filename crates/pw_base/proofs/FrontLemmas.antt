@@ -1,4 +1,4 @@
--- Laws of `specs/HistoryFronts.antt`: a row of events is cut after its first End, and fronts follow one another.
+-- Laws of `specs/working/HistoryFronts.antt`: a row of events is cut after its first End, and fronts follow one another.
 use Rattle.std.proofs.Common.{◌≡◌, ℕ, ◌+◌, ◌<◌, ◌≤◌, Bool, true, false, cond, not, List, [], ◌∷◌, ◌++◌, map, length, get_or}
 use Rattle.std.proofs.Common.{take, drop, refl, sym, ap, subst, ◌∙◌, arith, ltb, Some, None, append_assoc, append-nil, length-append}
 use Rattle.std.specs.Prelude.{◌==◌, IsTrue, All, ◌↔◌, MatchOption}
@@ -15,7 +15,7 @@ use Rattle.pw_base.specs.declared.event.Event.TheVariants.{Begin, Start, Finish,
 use Rattle.pw_base.specs.declared.plan.Epoch.{Epoch}
 use Rattle.pw_base.specs.declared.shape.Shape.{Shape}
 use Rattle.pw_base.specs.History.{IsOfCycle, IsLegalCycle, AreJoined, epoch_cycles, cycles_of, IsLegalHistory}
-use Rattle.pw_base.specs.HistoryFronts.{is_end, LeavesOver, IsNoFront}
+use Rattle.pw_base.specs.working.HistoryFronts.{is_end, LeavesOver, IsNoFront}
 
 -- no End stands inside a legal cycle
 no_end : (shape : Shape) (events : List Event) (cycle : ℕ) (e : Event) → IsOfCycle shape events cycle e → is_end e ≡ false

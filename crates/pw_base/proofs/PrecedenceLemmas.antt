@@ -49,7 +49,7 @@ not_true : (a : Bool) → not a ≡ true → a ≡ false
 not_true true e = cc
 not_true false e = refl
 
--- a walk along links that are not delayed, of one link and so many more
+-- a walk along links that are not delayed, of one link and n more
 abbrev pub Walks : Shape → ℕ → ℕ → ℕ → Type 0
 Walks shape zero m n = are_linked shape m n ≡ true
 Walks shape (suc more) m n = (j : ℕ) × (are_linked shape m j ≡ true) × Walks shape more j n

@@ -9,7 +9,7 @@ use Rattle.pw_base.specs.Samples.{scaled, mixed, silence, of_frames, picked}
 
 -- what a node has received: its file, the frames for which it was active, its output's channels,
 -- its inputs' streams
-pub record Heard : Type 0 where
+pub record KindInputs : Type 0 where
   pub wave : List ℤ
   pub frames : ℕ
   pub channels : ℕ
@@ -22,7 +22,7 @@ abbrev pub square_at : ℕ → ℤ → ℕ → ℤ
 square_at period amp i = if nat_lt (2 * (i % period)) period then amp else neg_ℤ amp
 
 -- the whole stream at an output, outputs counted from 0
-abbrev pub kind_output : Kind → Heard → ℕ → List ℤ
+abbrev pub kind_output : Kind → KindInputs → ℕ → List ℤ
 kind_output Source h output = take (h.frames * h.channels)
     (h.wave ++ silence (h.frames * h.channels))
 kind_output (Square rate channels period amp) h output = of_frames h.frames h.channels

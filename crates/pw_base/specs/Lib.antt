@@ -4,11 +4,8 @@ pub mod EventWords
 pub mod Every
 pub mod FailingCalls
 pub mod Files
-pub mod FormChecks
-pub mod FreshChecks
 pub mod History
 pub mod EventPlaces
-pub mod HistoryFronts
 pub mod InMemory
 pub mod KindFunction
 pub mod KindPorts
@@ -17,7 +14,6 @@ pub mod Layout
 pub mod Limits
 pub mod LinkOrder
 pub mod Listed
-pub mod Ordered
 pub mod Output
 pub mod PlanForms
 pub mod PlanFresh
@@ -30,3 +26,4 @@ pub mod SoundPlan
 pub mod SoundShape
 pub mod Words
 pub mod formers
+pub mod working

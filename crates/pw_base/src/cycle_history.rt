@@ -1,7 +1,7 @@
 //! Whether the events of one cycle are legal.
 ghost use Rattle.std.specs.Prelude.{◌≡◌, ℕ, ◌<◌, ◌≤◌, ◌-◌, IsTrue, ◌↔◌, All, count_by, length, take, IsBitSet};
 ghost use Rattle.std.specs.List.{position};
-ghost use Rattle.pw_base.specs.Ordered.{IsOrdered, StartsLast, IsRun};
+ghost use Rattle.pw_base.specs.working.Ordered.{IsOrdered, StartsLast, IsRun};
 ghost use Rattle.pw_base.specs.History.{is_start, is_finish, is_tick, start_place, finish_place, tick_place};
 ghost use Rattle.pw_base.specs.History.{IsLate, IsOfCycle, RunsOnce, KeepsOrder, IsLegalInside, IsLegalCycle};
 
@@ -156,7 +156,7 @@ fn has_few_ticks(events: &[Event]) -> bool
     count_ticks(events) <= 1
 }
 
-#[tactic(auto, unfolding(crate::specs::Ordered::IsRun))]
+#[tactic(auto, unfolding(crate::specs::working::Ordered::IsRun))]
 // Whether a node has one Start and one Finish, the Start first.
 fn runs_once(events: &[Event], cycle: u64, n: &ShapeNode) -> bool
     ensures { IsTrue result ↔ IsRun events.now cycle n.now }
@@ -166,7 +166,7 @@ fn runs_once(events: &[Event], cycle: u64, n: &ShapeNode) -> bool
         && start_place(events, cycle, n.node) < finish_place(events, cycle, n.node)
 }
 
-#[tactic(auto, unfolding(crate::specs::Ordered::IsOrdered))]
+#[tactic(auto, unfolding(crate::specs::working::Ordered::IsOrdered))]
 // Whether `n` starts after `m` has finished, where it waits for the work of `m`.
 fn comes_after(shape: &Shape, events: &[Event], cycle: u64, n: &ShapeNode, m: &ShapeNode) -> bool
     ensures { IsTrue result ↔ IsOrdered shape.now events.now cycle n.now m.now }
@@ -176,7 +176,7 @@ fn comes_after(shape: &Shape, events: &[Event], cycle: u64, n: &ShapeNode, m: &S
         || finish_place(events, cycle, m.node) < start_place(events, cycle, n.node)
 }
 
-#[tactic(auto, unfolding(crate::specs::Ordered::StartsLast))]
+#[tactic(auto, unfolding(crate::specs::working::Ordered::StartsLast))]
 // Whether a node starts after all that it waits for.
 fn starts_last(shape: &Shape, events: &[Event], cycle: u64, n: &ShapeNode) -> bool
     ensures { IsTrue result ↔ StartsLast shape.now events.now cycle n.now }
@@ -224,7 +224,7 @@ fn all_run_once(shape: &Shape, events: &[Event], cycle: u64) -> bool
         .all(|n| runs_once(events, cycle, n))
 }
 
-#[tactic(auto, unfolding(crate::specs::Ordered::IsRun))]
+#[tactic(auto, unfolding(crate::specs::working::Ordered::IsRun))]
 /// Whether events are legal between Begin and End.
 pub(crate) fn is_legal_inside(shape: &Shape, events: &[Event], cycle: u64) -> bool
     ensures { IsTrue result ↔ IsLegalInside shape.now events.now cycle }

@@ -1,7 +1,7 @@
 //! Which epochs of a plan name a node as fresh.
 ghost use Rattle.std.specs.Prelude.{◌≡◌, ◌<◌, IsTrue, ◌↔◌, length};
 ghost use Rattle.pw_base.specs.PlanFresh.{IsEpoch, Names};
-ghost use Rattle.pw_base.specs.FreshChecks.{HasEntry, HasSomeEntry, IsNamed};
+ghost use Rattle.pw_base.specs.working.FreshChecks.{HasEntry, HasSomeEntry, IsNamed};
 
 use crate::plan::{Epoch, Fresh, Plan};
 

@@ -2,7 +2,7 @@
 ghost use Rattle.std.specs.Prelude.{◌≡◌, [], ◌∷◌, IsTrue, ◌↔◌, MatchOption, map};
 ghost use Rattle.std.specs.List.{position};
 ghost use Rattle.pw_base.specs.History.{IsLegalCycle, epoch_cycles, IsLegalHistory};
-ghost use Rattle.pw_base.specs.HistoryFronts.{is_end, LeavesOver, IsNoFront};
+ghost use Rattle.pw_base.specs.working.HistoryFronts.{is_end, LeavesOver, IsNoFront};
 
 use crate::cycle_history::is_legal_inside;
 use crate::event::Event;

@@ -4,7 +4,7 @@ ghost use Rattle.pw_base.specs.KindPorts.{input_count, port_count};
 ghost use Rattle.pw_base.specs.KindRanges.{SharesChannels, IsSinkOrMeter};
 ghost use Rattle.pw_base.specs.PlanSums.{is_sink};
 ghost use Rattle.pw_base.specs.Pools.{is_before};
-ghost use Rattle.pw_base.specs.FormChecks.{HasSomeForm, HasBothForms, HasAllForms, IsWhole};
+ghost use Rattle.pw_base.specs.working.FormChecks.{HasSomeForm, HasBothForms, HasAllForms, IsWhole};
 ghost use Rattle.pw_base.specs.PlanForms.{kind_at, HasForm, IsSoundForm, AreShared, IsFormed, HasSoundForms};
 
 use crate::dependencies::has_node;

@@ -1,7 +1,7 @@
 //! Whether the epochs of a plan say of each node when it begins anew.
 ghost use Rattle.std.specs.Prelude.{◌≡◌, ℕ, ◌<◌, IsTrue, ◌↔◌, All, AllPairs, length};
 ghost use Rattle.pw_base.specs.PlanFresh.{IsSoundFresh, HasSoundFresh};
-ghost use Rattle.pw_base.specs.FreshChecks.{HasFirstInput, NamesWell};
+ghost use Rattle.pw_base.specs.working.FreshChecks.{HasFirstInput, NamesWell};
 
 use crate::kind_ranges::may_have_channels;
 use crate::plan::{Epoch, Fresh, Plan};

@@ -1,7 +1,7 @@
 //! Whether forms are kept from epoch to epoch until their node begins anew.
 ghost use Rattle.std.specs.Prelude.{◌≡◌, ℕ, ◌<◌, ◌≤◌, IsTrue, ◌↔◌, All, length};
-ghost use Rattle.pw_base.specs.FreshChecks.{IsSameForm, AgreesIn, KeepsForm, IsKeptFrom, KeepsSink, IsLastNamed, IsToldIn, IsKeptForm};
-ghost use Rattle.pw_base.specs.FreshChecks.{KeepsEpoch};
+ghost use Rattle.pw_base.specs.working.FreshChecks.{IsSameForm, AgreesIn, KeepsForm, IsKeptFrom, KeepsSink, IsLastNamed, IsToldIn, IsKeptForm};
+ghost use Rattle.pw_base.specs.working.FreshChecks.{KeepsEpoch};
 
 use crate::fresh_entries::{epoch_at, is_named, names};
 use crate::plan::{Epoch, Plan, PortForm};

@@ -1,7 +1,7 @@
 //! Whether a plan is sound.
 ghost use Rattle.std.specs.Prelude.{◌≡◌, ℕ, ◌<◌, ◌≤◌, IsTrue, ◌↔◌, All, length};
 ghost use Rattle.pw_base.specs.SoundPlan.{FollowFrom, IsSoundNode, HasSoundPlaces, EndsWith, IsSoundEpoch, IsSoundPlan};
-ghost use Rattle.pw_base.specs.FormChecks.{IsPlace, HasSoundDummy, HasSoundDriver, IsEnded};
+ghost use Rattle.pw_base.specs.working.FormChecks.{IsPlace, HasSoundDummy, HasSoundDriver, IsEnded};
 
 use crate::dependencies::has_node;
 use crate::ids::DUMMY;

@@ -6,7 +6,7 @@ use Rattle.std.proofs.Math.Nat.{mod-lt}
 use Rattle.std.proofs.lemmas.Int.{ints}
 use Rattle.std.proofs.lemmas.List.FromFn.{get_or-map-range_with_len}
 use Rattle.soak_graph.specs.declared.drawing.Chain.{Chain}
-use Rattle.soak_graph.specs.Drawing.{chain, chain_in}
+use Rattle.soak_graph.specs.working.Drawing.{chain, chain_in}
 use Rattle.soak_graph.specs.Draws.{state_after, draw, samples}
 use Rattle.soak_graph.specs.SoakChains.{chains, frames, chain_draws, gain, delay, off, chain_samples}
 use Rattle.soak_graph.proofs.DrawLemmas.{steps_join, draw_join, samples_join}

@@ -23,7 +23,7 @@ use Rattle.soak_graph.specs.SoakScript.{soak_lines}
 use Rattle.soak_graph.proofs.DrawnLemmas.{gain_range, delay_range}
 use Rattle.soak_graph.proofs.LineLemmas.{flat_more}
 
--- the nodes of so many chains
+-- the nodes of n chains
 abbrev nodes_of : ℕ → ℕ → List Node
 nodes_of number i = flat_map (λ j. chain_nodes (gain number j) (delay number j)) (range_with_len 0 i)
 

@@ -64,7 +64,7 @@ reads n reading (p ∷ ps) said =
     goes_on n reading next p.0 (lines_of ((p.0 ++ 0x0A ∷ []) ++ rest)) (lines_of rest) cut (ap (reading_with n reading) said.0.means)
     ∙ reads (n + 1) next ps said.1
 
--- so many short lines are a short text
+-- few short lines are a short text
 pub short_text : (n : ℕ) (reading : Reading) (ps : List (List ℕ × Said)) → AreSaid n reading ps
     → length (text_of_lines (map (λ (p : List ℕ × Said). p.0) ps)) ≤ (line_limit + 1) * length ps
 short_text n reading [] said = omega arith

@@ -1,6 +1,6 @@
 //! All that is drawn for a number, chain after chain.
 ghost use Rattle.std.specs.Prelude.{◌≡◌, ◌<◌, IfOk};
-ghost use Rattle.soak_graph.specs.Drawing.{chain, HasDrawn};
+ghost use Rattle.soak_graph.specs.working.Drawing.{chain, HasDrawn};
 ghost use Rattle.soak_graph.specs.Draws.{state_after, samples};
 ghost use Rattle.soak_graph.specs.SoakChains.{chains, frames, chain_draws, wave_with};
 

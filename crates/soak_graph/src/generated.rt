@@ -4,7 +4,7 @@ ghost use Rattle.graph_script.specs.Kinds.{HasKinds};
 ghost use Rattle.graph_script.specs.Order.{HasOrder};
 ghost use Rattle.graph_script.specs.Ranges.{HasRanges};
 ghost use Rattle.graph_plan.specs.Conditions.{AreScriptPorts, HaveWaves};
-ghost use Rattle.soak_graph.specs.Drawing.{HasDrawn};
+ghost use Rattle.soak_graph.specs.working.Drawing.{HasDrawn};
 ghost use Rattle.soak_graph.specs.SoakChains.{soak_waves};
 ghost use Rattle.soak_graph.specs.SoakPorts.{soak_ports};
 ghost use Rattle.soak_graph.specs.SoakScript.{soak_script};

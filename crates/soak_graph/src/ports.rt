@@ -2,7 +2,7 @@
 ghost use Rattle.std.specs.Prelude.{◌≡◌, ◌≤◌, ◌+◌, ◌++◌, length, IfOk, OnOk};
 ghost use Rattle.pw_base.specs.Limits.{nodes_limit};
 ghost use Rattle.pw_base.specs.KindRanges.{IsGain};
-ghost use Rattle.soak_graph.specs.Drawing.{HasDrawn};
+ghost use Rattle.soak_graph.specs.working.Drawing.{HasDrawn};
 ghost use Rattle.soak_graph.specs.SoakPorts.{chain_nodes, soak_ports};
 
 use crate::drawing::{CHAINS, Chain, Drawn};

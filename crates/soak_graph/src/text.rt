@@ -1,6 +1,6 @@
 //! The script of a number as text.
 ghost use Rattle.std.specs.Prelude.{◌≡◌, ◌++◌, length, IfOk, OnOk};
-ghost use Rattle.soak_graph.specs.Drawing.{chain_in, HasDrawn};
+ghost use Rattle.soak_graph.specs.working.Drawing.{chain_in, HasDrawn};
 ghost use Rattle.soak_graph.specs.SoakText.{text_of_lines, node_lines, all_link_lines, soak_text};
 
 use crate::drawing::{CHAINS, Chain, Drawn, draw_graph};

@@ -12,7 +12,7 @@ ghost use Rattle.node_progress.specs.Standing.{comes_in, goes_out, Gives, works_
 ghost use Rattle.state_tests.specs.Chain.{IsChain, IsCycleOf};
 
 use cycle_model::waves_fit;
-use node_progress::{Score, enter_next, prepare_node, restart_in, work, works_in};
+use node_progress::{NodeCycle, Score, enter_next, prepare_node, restart_in, work, works_in};
 use node_state::NodeState;
 use pw_base::{Epoch, Items, Plan, PortId, ShapeLink, is_same_port, is_sound_plan};
 use s16_mixer::{clamp_out, mix_into};
@@ -200,7 +200,14 @@ fn pass(
     if inputs_of(plan, node) > 1 || !is_row(plan, at, node, left.len()) {
         return None;
     }
-    work(score, epoch, node, epoch, state, a, &[], left, &mut []);
+    let cycle = NodeCycle {
+        epoch,
+        cycle: epoch,
+        node,
+        a,
+        b: &[],
+    };
+    work(score, &cycle, state, left, &mut []);
     Some(true)
 }
 
@@ -279,8 +286,8 @@ fn follow(
         (λ w. IsNodeState score.now (suc epoch) (suc epoch) node state.new) }
     ensures left { IfSome result (λ w. w ≡ true → Gives score.now epoch node 0 left.old left.new) }
 {
-    let mut heard = [0i16; WIDTH];
-    let a = heard.as_mut_slice();
+    let mut input = [0i16; WIDTH];
+    let a = input.as_mut_slice();
     if works_in(at, node) && !comes(score, plan, at, epoch, node, from, row, a) {
         return None;
     }

@@ -27,7 +27,7 @@ fn all_keep(outcome: &Outcome, sinks: &[(u32, &[i16])]) -> bool {
 }
 
 // Whether there is one peak, which is this one of this meter.
-fn hears(outcome: &Outcome, meter: u32, greatest: u32) -> bool {
+fn has_peak(outcome: &Outcome, meter: u32, greatest: u32) -> bool {
     match outcome.peaks.as_slice() {
         [peak] => peak.node == meter && peak.value == greatest,
         _ => false,
@@ -125,7 +125,7 @@ const EACH_SINK: [(u32, &'static [i16]); 4] = [
 
 // Whether each sink keeps its samples, and the meter has the greatest possible peak.
 fn gives_its_samples(outcome: &Outcome) -> bool {
-    all_keep(outcome, EACH_SINK.as_slice()) && hears(outcome, 10, 32768)
+    all_keep(outcome, EACH_SINK.as_slice()) && has_peak(outcome, 10, 32768)
 }
 
 // Whether the plan of all kinds does so.

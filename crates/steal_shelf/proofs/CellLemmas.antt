@@ -15,7 +15,7 @@ use Rattle.data_loop.specs.LoopKept.{IsDone}
 use Rattle.data_loop.specs.LoopWay.{HasBoards, IsAmid, IsUnderWay, IsSameLoop}
 use Rattle.data_loop.proofs.RunningLemmas.{done}
 use Rattle.steal_shelf.specs.Cells.{IsCellBetween, IsCellOnBoard, IsCell}
-use Rattle.steal_shelf.specs.CellSteps.{HasStepped}
+use Rattle.steal_shelf.specs.working.CellSteps.{HasStepped}
 use Rattle.steal_shelf.proofs.BoardLemmas.{rebound}
 
 there : {X : Type 0} (xs : List X) (k : ℕ) → k < length xs → (x : X) × (slice_get xs k ≡ Some x)

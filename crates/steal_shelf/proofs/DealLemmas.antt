@@ -10,9 +10,9 @@ use Rattle.steal_shelf.specs.declared.shelf.ShelfSeat.{ShelfSeat}
 use Rattle.steal_shelf.specs.declared.token.Token.{Token}
 use Rattle.steal_shelf.specs.declared.view.CellView.{CellView}
 use Rattle.steal_shelf.specs.ShelfRule.{root_view}
-use Rattle.steal_shelf.specs.ShelfSteps.{ShelfMe}
+use Rattle.steal_shelf.specs.working.ShelfSteps.{ShelfMe}
 use Rattle.steal_shelf.specs.Seats.{table_of, cells_of, IsSeatOf, IsNewSeat}
-use Rattle.steal_shelf.specs.Tokens.{IsDealt, AreDealt}
+use Rattle.steal_shelf.specs.working.Tokens.{IsDealt, AreDealt}
 
 -- tokens of the cells below the length of a list
 abbrev pub AreTokens : TableId → CellView → List Token → Type 0

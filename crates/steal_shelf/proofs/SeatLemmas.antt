@@ -8,7 +8,7 @@ use Rattle.steal_shelf.specs.declared.shelf.ShelfSeat.{ShelfSeat}
 use Rattle.steal_shelf.specs.declared.token.Token.{Token}
 use Rattle.data_loop.specs.declared.loop_state.LoopState.{LoopState}
 use Rattle.steal_shelf.specs.declared.view.CellView.{CellView}
-use Rattle.steal_shelf.specs.ShelfSteps.{IsCellOf, tried, taken, rested}
+use Rattle.steal_shelf.specs.working.ShelfSteps.{IsCellOf, tried, taken, rested}
 use Rattle.steal_shelf.specs.Seats.{IsAllowed, cells_of, IsTokenOf, IsSeatOf, AreOthersLeft, HasFetched, HasFoundOut, HasPutBack}
 
 module _ (shelf : Shelf) (old new : ShelfSeat) (i : ℕ) (x : Token) (h : IsSeatOf shelf old) (low : i < length (cells_of shelf))

@@ -13,7 +13,7 @@ use Rattle.data_loop.specs.declared.loop_state.LoopState.{LoopState}
 use Rattle.steal_shelf.specs.declared.view.CellView.{CellView}
 use Rattle.steal_shelf.specs.Cells.{IsCell}
 use Rattle.steal_shelf.specs.ShelfRule.{ShelfState, HasTurn, IsHome, IsOut, Holds}
-use Rattle.steal_shelf.specs.ShelfSteps.{ShelfMe, IsCellOf, tried, taken, rested, dealt, HasTried, HasReturned}
+use Rattle.steal_shelf.specs.working.ShelfSteps.{ShelfMe, IsCellOf, tried, taken, rested, dealt, HasTried, HasReturned}
 use Rattle.steal_shelf.proofs.FrameLemmas.{Beside, beside}
 
 -- a place that is read is inside

@@ -1,7 +1,7 @@
 //! How the seats of a shelf are made.
 ghost use Rattle.std.specs.Prelude.{◌≡◌, All, IfOk, length};
 ghost use Rattle.steal_shelf.specs.Seats.{table_of, cells_of};
-ghost use Rattle.steal_shelf.specs.Tokens.{AreDealt};
+ghost use Rattle.steal_shelf.specs.working.Tokens.{AreDealt};
 
 use crate::rule::CellSeat;
 use crate::shelf::{Shelf, ShelfSeat};

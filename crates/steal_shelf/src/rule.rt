@@ -34,7 +34,7 @@ pub(crate) type CellSeat = Seat<Option<LoopState>, CellView>;
 pub(crate) struct Tries;
 
 impl Play<Option<LoopState>, CellView> for Tries {
-    ghost use Rattle.steal_shelf.specs.ShelfSteps.{HasTried};
+    ghost use Rattle.steal_shelf.specs.working.ShelfSteps.{HasTried};
 
     ghost then = { λ step. HasTried step.word };
 }
@@ -43,7 +43,7 @@ impl Play<Option<LoopState>, CellView> for Tries {
 pub(crate) struct Returns;
 
 impl Play<Option<LoopState>, CellView> for Returns {
-    ghost use Rattle.steal_shelf.specs.ShelfSteps.{HasReturned};
+    ghost use Rattle.steal_shelf.specs.working.ShelfSteps.{HasReturned};
 
     ghost then = { λ _ me _. HasReturned me };
 }
@@ -65,7 +65,7 @@ pub(crate) struct Deals<N> {
 }
 
 impl<N: Numbered> Split<CellView> for Deals<N> {
-    ghost use Rattle.steal_shelf.specs.ShelfSteps.{dealt};
+    ghost use Rattle.steal_shelf.specs.working.ShelfSteps.{dealt};
 
     ghost left = { λ v. v };
 

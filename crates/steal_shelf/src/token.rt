@@ -1,8 +1,8 @@
 //! What one seat has of one cell.
 ghost use Rattle.std.specs.Prelude.{◌≡◌, ◌<◌, [], ◌∷◌, true, false, None, IfSome, IfNone, length};
 ghost use Rattle.steal_shelf.specs.Seats.{table_of, cells_of};
-ghost use Rattle.steal_shelf.specs.ShelfSteps.{IsCellOf, dealt, tried, taken, rested};
-ghost use Rattle.steal_shelf.specs.Tokens.{IsDealt};
+ghost use Rattle.steal_shelf.specs.working.ShelfSteps.{IsCellOf, dealt, tried, taken, rested};
+ghost use Rattle.steal_shelf.specs.working.Tokens.{IsDealt};
 
 use crate::rule::{CellSeat, Deals, Numbered, Returns, Tries};
 use crate::shelf::Shelf;

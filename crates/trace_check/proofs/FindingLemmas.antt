@@ -16,7 +16,7 @@ use Rattle.pw_base.specs.History.{IsLegalHistory}
 use Rattle.cycle_trace.specs.Words.{spaced}
 use Rattle.cycle_trace.specs.NodeNames.{node_name}
 use Rattle.cycle_trace.specs.EventLines.{event_line, late_nodes}
-use Rattle.cycle_trace.specs.EventWords.{event_said}
+use Rattle.cycle_trace.specs.working.EventWords.{event_said}
 use Rattle.cycle_trace.specs.Printable.{NamesNodes}
 use Rattle.cycle_trace.specs.TraceReading.{is_line_feed, without_empty_last, trace_lines, NumbersFit, IsLineOf, IsFirstFault, AreNames}
 use Rattle.cycle_trace.proofs.ReadingLemmas.{is_said}

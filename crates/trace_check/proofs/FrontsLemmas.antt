@@ -10,7 +10,7 @@ use Rattle.pw_base.specs.declared.event.Event.{Event}
 use Rattle.pw_base.specs.declared.event.Event.TheVariants.{Begin, End}
 use Rattle.pw_base.specs.declared.shape.Shape.{Shape}
 use Rattle.pw_base.specs.History.{IsLegalInside, IsLegalCycle, AreJoined}
-use Rattle.pw_base.specs.HistoryFronts.{is_end}
+use Rattle.pw_base.specs.working.HistoryFronts.{is_end}
 use Rattle.pw_base.specs.SoundShape.{IsSoundShape}
 use Rattle.trace_check.specs.declared.following.Front.TheVariants.{Whole, Part}
 use Rattle.trace_check.specs.working.NextEvent.{MayFollow, AreAllowed, HaveFinished}

@@ -8,7 +8,7 @@ use Rattle.pw_base.specs.declared.event.Event.{Event}
 use Rattle.pw_base.specs.declared.event.Event.TheVariants.{Begin, Start, Finish, Tick, End}
 use Rattle.pw_base.specs.declared.shape.Shape.{Shape}
 use Rattle.pw_base.specs.Dependencies.{nodes_of}
-use Rattle.pw_base.specs.HistoryFronts.{is_end}
+use Rattle.pw_base.specs.working.HistoryFronts.{is_end}
 use Rattle.trace_check.specs.working.NextEvent.{MayFollow, AreAllowed}
 
 module _ (shape : Shape) (cycle : ℕ) where

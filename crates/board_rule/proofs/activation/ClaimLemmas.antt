@@ -23,7 +23,7 @@ use Rattle.board_rule.specs.activation.ActivationRule.{Words, Resets, progress, 
 use Rattle.board_rule.specs.events.EventRule.{node_drawn}
 use Rattle.board_rule.specs.BoardRule.{Holds}
 use Rattle.board_rule.specs.Steps.{Has}
-use Rattle.board_rule.specs.Plays.{Leaves}
+use Rattle.board_rule.specs.working.Plays.{Leaves}
 use Rattle.board_rule.proofs.RunLemmas.{wakes}
 use Rattle.board_rule.proofs.start.SeatLemmas.{stay_step}
 use Rattle.board_rule.proofs.events.MarkLemmas.{quiet_phase}

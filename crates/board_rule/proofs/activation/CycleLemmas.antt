@@ -25,7 +25,7 @@ use Rattle.board_rule.specs.events.EventRule.{lead_drawn}
 use Rattle.board_rule.specs.buffers.Spans.{spans, drive_over, drive_begun}
 use Rattle.board_rule.specs.activation.WorkSteps.{IsGivenOn}
 use Rattle.board_rule.specs.BoardRule.{Holds}
-use Rattle.board_rule.specs.Plays.{Leaves}
+use Rattle.board_rule.specs.working.Plays.{Leaves}
 use Rattle.board_rule.proofs.buffers.SpanLemmas.{drive_paced, lead_begun, wired_in, over_at, over_lead, begun_lead, begun_lead_put, early_word}
 use Rattle.board_rule.proofs.buffers.HolderLemmas.{is_ready, holder_leads}
 use Rattle.board_rule.proofs.buffers.PaceLemmas.{paces}

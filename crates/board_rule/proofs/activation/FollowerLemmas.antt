@@ -26,7 +26,7 @@ use Rattle.board_rule.specs.buffers.BufferRule.{Buffers}
 use Rattle.board_rule.specs.buffers.Spans.{spans}
 use Rattle.board_rule.specs.BoardRule.{Holds}
 use Rattle.board_rule.specs.Steps.{Has, settled}
-use Rattle.board_rule.specs.Plays.{Leaves, Learns}
+use Rattle.board_rule.specs.working.Plays.{Leaves, Learns}
 use Rattle.board_rule.proofs.RunLemmas.{Sums, Elsewhere, positive, lowers, triggers}
 use Rattle.board_rule.proofs.activation.LeftLemmas.{to_sums, from_sums}
 use Rattle.board_rule.proofs.activation.PhaseLemmas.{settled_rest, settled_owing, settled_stage, settled_ok, settled_drawn, settled_quiet, owed_is}

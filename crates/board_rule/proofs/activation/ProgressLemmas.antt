@@ -17,7 +17,7 @@ use Rattle.board_rule.specs.View.{node_of, view_node, idle}
 use Rattle.board_rule.specs.events.Bits.{with_bit, woke_of}
 use Rattle.board_rule.specs.Steps.{settled, lowered_of, told_trail, target_of, lowered, triggered, claimed, woken, tried, finished, untold}
 use Rattle.board_rule.specs.events.EventSteps.{CanDraw, node_draws, draws, CanStore, stored_phase, event_stored}
-use Rattle.board_rule.specs.activation.Progress.{ends_of, progress_of, progress_settled}
+use Rattle.board_rule.specs.working.Progress.{ends_of, progress_of, progress_settled}
 use Rattle.board_rule.specs.start.Owners.{own}
 use Rattle.board_rule.specs.Known.{IsLoopSeat}
 use Rattle.board_rule.proofs.start.OwnerLemmas.{SitsAt, sits_set}

@@ -19,7 +19,7 @@ use Rattle.board_rule.specs.activation.ActivationRule.{Activations, DriverPhaseO
 use Rattle.board_rule.specs.events.EventRule.{lead_drawn}
 use Rattle.board_rule.specs.BoardRule.{Holds}
 use Rattle.board_rule.specs.Steps.{reset_to}
-use Rattle.board_rule.specs.Plays.{Leaves}
+use Rattle.board_rule.specs.working.Plays.{Leaves}
 use Rattle.board_rule.proofs.buffers.SpanLemmas.{drive_paced, reset_paced}
 use Rattle.board_rule.proofs.SumLemmas.{total_same, total_zero}
 use Rattle.board_rule.proofs.RunLemmas.{Sums, sum_left, sum_debts}

@@ -21,7 +21,7 @@ use Rattle.board_rule.specs.events.EventRule.{node_drawn}
 use Rattle.board_rule.specs.BoardRule.{Holds}
 use Rattle.board_rule.specs.buffers.Spans.{spans, phase_over, phase_begun}
 use Rattle.board_rule.specs.Steps.{Has, IsGivenOn}
-use Rattle.board_rule.specs.Plays.{Leaves}
+use Rattle.board_rule.specs.working.Plays.{Leaves}
 use Rattle.board_rule.proofs.RunLemmas.{Sums, keeps as stays, finishes}
 use Rattle.board_rule.proofs.events.MarkLemmas.{quiet_phase}
 use Rattle.board_rule.proofs.activation.FollowerLemmas.{rest_at, owing_at, stage_at, rest_put, owing_put, stage_put, elsewhere, words_run}

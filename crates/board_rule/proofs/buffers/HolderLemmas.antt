@@ -31,7 +31,7 @@ use Rattle.pw_base.proofs.PoolLemmas.{channels_le, same_port, port_same}
 use Rattle.pw_base.proofs.LayoutLemmas.{length-start_words, pools_have_blocks}
 use Rattle.board_rule.specs.declared.board_shape.BoardShape.{BoardShape}
 use Rattle.board_rule.specs.Layout.{BoardLayout, layout_of, HasSeats}
-use Rattle.board_rule.specs.Rows.{HasIndexes}
+use Rattle.board_rule.specs.working.Rows.{HasIndexes}
 use Rattle.board_rule.proofs.events.SoundLemmas.{sound_layout}
 use Rattle.board_rule.proofs.LayoutLemmas.{count_is, long_enough}
 use Rattle.board_rule.specs.View.{Whole, put, node_of, unwritten, unread}

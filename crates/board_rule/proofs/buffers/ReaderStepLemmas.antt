@@ -24,12 +24,12 @@ use Rattle.board_rule.specs.buffers.EndViews.{link_at, pool_at, pool_of, reader_
 use Rattle.board_rule.specs.buffers.ReaderSteps.{read_cycle, read_area, LoadsAsReader, loaded_as_reader, IsPublished, LoadsSample, sample_loaded}
 use Rattle.board_rule.specs.buffers.ReaderSteps.{LowersReaders, readers_lowered}
 use Rattle.board_rule.specs.buffers.ReaderSteps.{samples_read, StoresNeed, need_stored}
-use Rattle.board_rule.specs.Plays.{Leaves, Learns}
+use Rattle.board_rule.specs.working.Plays.{Leaves, Learns}
 use Rattle.board_rule.proofs.buffers.WiringLemmas.{LinkAt, Wired, late_is}
 use Rattle.board_rule.proofs.buffers.DelayLemmas.{area_most}
 use Rattle.board_rule.proofs.buffers.PaceLemmas.{Paced, paces}
 use Rattle.board_rule.proofs.buffers.SpanLemmas.{node_over, node_begun, over_at, begun_at, wired_in}
-use Rattle.board_rule.proofs.start.SeatLemmas.{set_there, hear_step}
+use Rattle.board_rule.proofs.start.SeatLemmas.{set_there, words_step}
 use Rattle.board_rule.proofs.buffers.HolderLemmas.{got, link_there, pool_here, now_running, with_ends, new_read, read_step}
 use Rattle.board_rule.proofs.buffers.KeepLemmas.{holds_ends}
 use Rattle.board_rule.proofs.buffers.WriterStepLemmas.{unread_word, room_in, id_of}
@@ -86,8 +86,8 @@ module _ (p : BoardLayout) (slots id : ℕ) (me : Me (Option ℕ) View) (after :
             (inl (w.io_in l (read_area b p me.0 l) k there (area_most k (read_cycle b p me.0 l))))
             (subst (Seated p (with_ends p g (new_read p g.ends l y)) (set s.words i found))
             (set-set s.views id (view_read me.0 l y) (loaded_as_reader b p me.0 l found))
-            (hear_step p (with_ends p g (new_read p g.ends l y)) (set s.words i found) (set s.words i found)
-            (set s.views id (view_read me.0 l y)) id (view_read me.0 l y) (set me.0.heard l 0)
+            (words_step p (with_ends p g (new_read p g.ends l y)) (set s.words i found) (set s.words i found)
+            (set s.views id (view_read me.0 l y)) id (view_read me.0 l y) (set me.0.words_read l 0)
             (set_there s.views id (view_read me.0 l y) me.0 at) refl
             (read_step p g s.words (set s.words i found) s.views id l k me.0 y at (length-set s.words i found) there now.2 now.3 r.seated)))
             (unread_word s.words i (λ ws. Buffers p sp (new_read p g.ends l y) g.expect ws)
@@ -166,7 +166,7 @@ module _ (p : BoardLayout) (slots id : ℕ) (me : Me (Option ℕ) View) (after :
         tt,
         unread_word s.words place (λ ws. Holds p record { words = ws; homes = s.homes; views = set s.views id (sample_loaded b p me.0 l i) }) record {
           whole = g;
-          seated = hear_step p g s.words s.words s.views id me.0 (set me.0.heard l (i + 1)) at refl r.seated;
+          seated = words_step p g s.words s.words s.views id me.0 (set me.0.words_read l (i + 1)) at refl r.seated;
           activations = r.activations;
           events = r.events;
           buffers = r.buffers;

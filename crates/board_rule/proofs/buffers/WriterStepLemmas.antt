@@ -30,7 +30,7 @@ use Rattle.board_rule.specs.buffers.WriterSteps.{write_cycle, write_area, LoadsA
 use Rattle.board_rule.specs.buffers.BlockSteps.{fill_cycle, StoresSample, sample_stored, StoresReaders}
 use Rattle.board_rule.specs.buffers.BlockSteps.{readers_stored}
 use Rattle.board_rule.specs.buffers.ReclaimSteps.{reclaimed_of, due_stamp, LoadsReaders, FindsDue, readers_loaded}
-use Rattle.board_rule.specs.Plays.{Leaves, Learns}
+use Rattle.board_rule.specs.working.Plays.{Leaves, Learns}
 use Rattle.board_rule.proofs.LayoutLemmas.{count_is}
 use Rattle.board_rule.proofs.buffers.WiringLemmas.{late_is}
 use Rattle.board_rule.proofs.buffers.DelayLemmas.{area_most}

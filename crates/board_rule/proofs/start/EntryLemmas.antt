@@ -11,12 +11,12 @@ use Rattle.board_rule.specs.declared.lead.DriverProgress.{DriverProgress}
 use Rattle.pw_base.specs.Pools.{pools_of}
 use Rattle.board_rule.specs.Layout.{BoardLayout, IsSound, last}
 use Rattle.board_rule.specs.start.Owners.{own, slot_in, owners_of}
-use Rattle.board_rule.specs.start.Slots.{HasWriter, HasReader}
+use Rattle.board_rule.specs.working.Slots.{HasWriter, HasReader}
 use Rattle.board_rule.specs.activation.SeatNodes.{Has}
 use Rattle.board_rule.specs.buffers.Spans.{block_at}
 use Rattle.board_rule.specs.View.{node_of, idle, unread, unwritten}
 use Rattle.board_rule.specs.buffers.EndViews.{write_of, read_of, pool_at, filler_of}
-use Rattle.board_rule.specs.activation.Progress.{progress_of}
+use Rattle.board_rule.specs.working.Progress.{progress_of}
 use Rattle.board_rule.specs.Known.{IsLoopSeat, IsDriverSeat}
 use Rattle.board_rule.proofs.start.OwnerLemmas.{SitsAt, sits_at, sits_inside, sits_set}
 use Rattle.board_rule.proofs.start.SlotLemmas.{node_sits, write_sits, read_sits, block_sits}
@@ -75,9 +75,9 @@ module _ (v : View) (ns : List NodeProgress) (ws : List WriteView) (rs : List Re
     read_kept = end_kept v rs s.reads_are i at t low
 
     -- the reader's end is another
-    pub read_set : (w : View) (heard : List ℕ) (y z : ReadView) → w ≡ record v { reads = set v.reads i y; heard = heard } → y ≡ z
+    pub read_set : (w : View) (words_read : List ℕ) (y z : ReadView) → w ≡ record v { reads = set v.reads i y; words_read = words_read } → y ≡ z
         → IsLoopSeat w ns ws (set rs at z) bs o
-    read_set w heard y z is same = subst (λ (u : View). IsLoopSeat u ns ws (set rs at z) bs o) (sym is) record {
+    read_set w words_read y z is same = subst (λ (u : View). IsLoopSeat u ns ws (set rs at z) bs o) (sym is) record {
       nodes_are = s.nodes_are;
       writes_are = s.writes_are;
       reads_are = end_set v rs s.reads_are i at t low y z same;
@@ -107,9 +107,9 @@ module _ (v : View) (ns : List NodeProgress) (ws : List WriteView) (rs : List Re
 -- the same of the driver's seat
 module _ (v : View) (l : DriverProgress) (rs : List ReadView) (o : ℕ) (s : IsDriverSeat v l rs o) (i at : ℕ)
     (t : SitsAt v.number v.owners.reads i at) (low : i < length v.reads) where
-  pub lead_read_set : (w : View) (heard : List ℕ) (y z : ReadView) → w ≡ record v { reads = set v.reads i y; heard = heard } → y ≡ z
+  pub lead_read_set : (w : View) (words_read : List ℕ) (y z : ReadView) → w ≡ record v { reads = set v.reads i y; words_read = words_read } → y ≡ z
       → IsDriverSeat w l (set rs at z) o
-  lead_read_set w heard y z is same = subst (λ (u : View). IsDriverSeat u l (set rs at z) o) (sym is) record {
+  lead_read_set w words_read y z is same = subst (λ (u : View). IsDriverSeat u l (set rs at z) o) (sym is) record {
     lead_is = s.lead_is;
     reads_are = end_set v rs s.reads_are i at t low y z same;
     woke_is = s.woke_is;

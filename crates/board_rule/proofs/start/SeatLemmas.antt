@@ -136,10 +136,10 @@ module _ (p : BoardLayout) where
       (λ j u _ r. r) s.unsplit s.still s.table (λ _. refl) refl refl s
 
   -- a reader has loaded sample words
-  pub hear_step : (g : Whole) (words after : List ℕ) (views : List View) (id : ℕ) (v : View) (heard : List ℕ) → get_elem? views id ≡ some v
-      → length after ≡ length words → Seated p g words views → Seated p g after (set views id (record v { heard = heard }))
-  hear_step g words after views id v heard at same s = let k = s.knows id v at in
-      seat_step g g words after views id v (record v { heard = heard }) at same
+  pub words_step : (g : Whole) (words after : List ℕ) (views : List View) (id : ℕ) (v : View) (words_read : List ℕ) → get_elem? views id ≡ some v
+      → length after ≡ length words → Seated p g words views → Seated p g after (set views id (record v { words_read = words_read }))
+  words_step g words after views id v words_read at same s = let k = s.knows id v at in
+      seat_step g g words after views id v (record v { words_read = words_read }) at same
       record {
         kept = k.kept;
         here = k.here;

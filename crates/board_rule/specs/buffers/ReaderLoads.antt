@@ -17,8 +17,8 @@ use Rattle.board_rule.specs.activation.SeatNodes.{cycle_of, HasNode}
 use Rattle.board_rule.specs.activation.WorkSteps.{IsRunning}
 
 -- how many sample words of the block that it took last a link's reader has loaded
-abbrev pub heard_of : View → ℕ → ℕ
-heard_of v l = slice_index v.heard l
+abbrev pub words_read_of : View → ℕ → ℕ
+words_read_of v l = slice_index v.words_read l
 
 module _ (is_driver : Bool) (p : BoardLayout) where
   -- the cycle that the link's reader is in
@@ -29,7 +29,7 @@ module _ (is_driver : Bool) (p : BoardLayout) where
   abbrev pub IsReader : View → ℕ → Type 0
   IsReader v l = (l < length p.shape.links) × (l < length v.reads)
       × HasNode is_driver p v (reader_of p l)
-      × IsRunning is_driver v (reader_of p l) × (l < length v.heard)
+      × IsRunning is_driver v (reader_of p l) × (l < length v.words_read)
 
   -- the area that it uses in this cycle
   abbrev pub read_area : View → ℕ → ℕ
@@ -42,7 +42,7 @@ module _ (is_driver : Bool) (p : BoardLayout) where
 
   abbrev pub loaded_as_reader : View → ℕ → ℕ → View
   loaded_as_reader v l found = record (view_read v l (record (read_of v l)
-      { loaded = read_cycle v l + 1; id = io_id_in found })) { heard = set v.heard l 0 }
+      { loaded = read_cycle v l + 1; id = io_id_in found })) { words_read = set v.words_read l 0 }
 
   -- the stamp of the block whose reading cycle over the link this cycle is
   abbrev pub stamp_read : View → ℕ → ℕ

@@ -7,7 +7,7 @@ use Rattle.board_rule.specs.declared.view.View.{View}
 use Rattle.board_rule.specs.Layout.{BoardLayout}
 use Rattle.board_rule.specs.buffers.SampleWords.{samples_of}
 use Rattle.board_rule.specs.buffers.EndViews.{read_of, view_read, pool_at, pool_of}
-pub use Rattle.board_rule.specs.buffers.ReaderLoads.{heard_of, read_cycle, IsReader, read_area, LoadsAsReader, loaded_as_reader, stamp_read}
+pub use Rattle.board_rule.specs.buffers.ReaderLoads.{words_read_of, read_cycle, IsReader, read_area, LoadsAsReader, loaded_as_reader, stamp_read}
 pub use Rattle.board_rule.specs.buffers.ReaderLoads.{IsOfThisCycle, IsZeroAtFirst, IsPublished}
 
 module _ (is_driver : Bool) (p : BoardLayout) where
@@ -23,14 +23,15 @@ module _ (is_driver : Bool) (p : BoardLayout) where
 
   -- LOADING A SAMPLE WORD: all words before it are loaded
   abbrev pub LoadsSample : View → ℕ → ℕ → ℕ → Type 0
-  LoadsSample v l id place = ReadsBlock v l id × (place ≤ heard_of v l)
+  LoadsSample v l id place = ReadsBlock v l id × (place ≤ words_read_of v l)
 
   abbrev pub sample_loaded : View → ℕ → ℕ → View
-  sample_loaded v l place = record v { heard = set v.heard l (place + 1) }
+  sample_loaded v l place = record v { words_read = set v.words_read l (place + 1) }
 
   -- LOWERING THE READERS: all words of the block are loaded
   abbrev pub LowersReaders : View → ℕ → ℕ → Type 0
-  LowersReaders v l id = ReadsBlock v l id × (heard_of v l ≡ (pool_at p (pool_of p l)).words)
+  LowersReaders v l id = ReadsBlock v l id
+      × (words_read_of v l ≡ (pool_at p (pool_of p l)).words)
 
   abbrev pub readers_lowered : View → ℕ → View
   readers_lowered v l = view_read v l (record (read_of v l)

@@ -45,7 +45,7 @@ module _ (p : BoardLayout) where
     nodes = [];
     writes = [];
     reads = replicate (length p.shape.links) (unread (first p));
-    heard = replicate (length p.shape.links) 0;
+    words_read = replicate (length p.shape.links) 0;
     blocks = [];
     reclaimed = [];
     owners = owners_of p;
@@ -66,7 +66,7 @@ module _ (p : BoardLayout) where
     nodes = replicate (nodes p) (idle (first p));
     writes = map (first_write (first p)) p.shape.links;
     reads = replicate (length p.shape.links) (unread (first p));
-    heard = replicate (length p.shape.links) 0;
+    words_read = replicate (length p.shape.links) 0;
     blocks = first_blocks p.shape;
     reclaimed = replicate (length (pools_of p.shape)) (first p + 1);
     owners = owners_of p;

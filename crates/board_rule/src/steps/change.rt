@@ -18,7 +18,7 @@ pub(crate) trait Change {
 
 impl Change for Brand {
     ghost use Rattle.std.specs.Prelude.{◌≡◌, false};
-    ghost use Rattle.board_rule.specs.Plays.{no_view};
+    ghost use Rattle.board_rule.specs.working.Plays.{no_view};
 
     ghost is_driver = { false };
 
@@ -33,7 +33,7 @@ pub(crate) struct Becomes<C> {
 }
 
 impl<C: Change> Play<Option<u64>, View> for Becomes<C> {
-    ghost use Rattle.board_rule.specs.Plays.{Leaves};
+    ghost use Rattle.board_rule.specs.working.Plays.{Leaves};
 
     ghost then = { λ _. Leaves C.after };
 }
@@ -44,7 +44,7 @@ pub(crate) struct Learned<C> {
 }
 
 impl<C: Change> Play<Option<u64>, View> for Learned<C> {
-    ghost use Rattle.board_rule.specs.Plays.{Learns};
+    ghost use Rattle.board_rule.specs.working.Plays.{Learns};
 
     ghost then = { λ _. Learns C.after C.says };
 }

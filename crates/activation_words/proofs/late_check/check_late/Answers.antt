@@ -1,7 +1,7 @@
 use Rattle.std.proofs.Common.{refl, subst}
 use Rattle.board_rule.specs.declared.view.View.{View}
 use Rattle.board_rule.specs.Layout.{layout_of, nodes}
-use Rattle.activation_words.specs.Checks.{tick_drawn, IsLooking}
+use Rattle.activation_words.specs.working.Checks.{tick_drawn, IsLooking}
 use Rattle.activation_words.proofs.CheckLemmas.{stores}
 use Rattle.activation_words.proofs.late_check.check_late.Goals as goal
 

@@ -1,6 +1,6 @@
 use Rattle.std.proofs.Common.{◌≡◌}
 use Rattle.board_rule.specs.Layout.{layout_of}
-use Rattle.activation_words.specs.Checks.{IsLooking}
+use Rattle.activation_words.specs.working.Checks.{IsLooking}
 use Rattle.activation_words.proofs.late_check.look_at_all.Given as goal
 
 abbrev pub invariant-loop-at : goal.invariant-loop-at

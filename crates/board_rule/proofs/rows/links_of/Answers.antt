@@ -6,7 +6,7 @@ use Rattle.pw_base.specs.declared.shape.ShapeLink.{ShapeLink}
 use Rattle.pw_base.specs.Layout.{areas_of, io_place}
 use Rattle.board_rule.specs.declared.rows.LinkRow.{LinkRow}
 use Rattle.board_rule.specs.buffers.EndViews.{no_link, link_in}
-use Rattle.board_rule.specs.Rows.{IsLinkRow}
+use Rattle.board_rule.specs.working.Rows.{IsLinkRow}
 use Rattle.board_rule.proofs.activation.RowLemmas.{row_grown, sum_more}
 use Rattle.board_rule.proofs.rows.links_of.Goals as goal
 

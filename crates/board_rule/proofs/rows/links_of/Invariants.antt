@@ -3,7 +3,7 @@ use Rattle.std.specs.Prelude.{slice_index_or}
 use Rattle.pw_base.specs.Layout.{node_count, io_place}
 use Rattle.board_rule.specs.declared.rows.LinkRow.{LinkRow}
 use Rattle.board_rule.specs.buffers.EndViews.{link_in}
-use Rattle.board_rule.specs.Rows.{IsLinkRow}
+use Rattle.board_rule.specs.working.Rows.{IsLinkRow}
 use Rattle.board_rule.proofs.rows.links_of.Given as goal
 
 abbrev pub invariant-loop-link : goal.invariant-loop-link

@@ -8,7 +8,7 @@ use Rattle.pw_base.specs.Layout.{event_place, event_count, pool_words, word_coun
 use Rattle.pw_base.specs.Pools.{pools_of}
 use Rattle.board_rule.specs.declared.rows.PoolRow.{PoolRow}
 use Rattle.board_rule.specs.buffers.EndViews.{no_pool, pool_in}
-use Rattle.board_rule.specs.Rows.{IsPoolRow}
+use Rattle.board_rule.specs.working.Rows.{IsPoolRow}
 use Rattle.board_rule.proofs.activation.RowLemmas.{row_grown, sum_more, sum_part}
 use Rattle.board_rule.proofs.rows.pools_rows.Goals as goal
 

@@ -4,7 +4,7 @@ use Rattle.pw_base.specs.Layout.{event_place, event_count, pool_words}
 use Rattle.pw_base.specs.Pools.{pools_of}
 use Rattle.board_rule.specs.declared.rows.PoolRow.{PoolRow}
 use Rattle.board_rule.specs.buffers.EndViews.{pool_in}
-use Rattle.board_rule.specs.Rows.{IsPoolRow}
+use Rattle.board_rule.specs.working.Rows.{IsPoolRow}
 use Rattle.board_rule.proofs.rows.pools_rows.Given as goal
 
 abbrev pub invariant-loop-pool : goal.invariant-loop-pool

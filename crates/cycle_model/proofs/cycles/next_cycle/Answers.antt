@@ -1,5 +1,5 @@
 use Rattle.std.proofs.Common.{◌≡◌, ℕ, ◌<◌, cond, length, get_or, sym, subst}
-use Rattle.cycle_model.specs.Known.{is_released, released}
+use Rattle.cycle_model.specs.working.Known.{is_released, released}
 use Rattle.cycle_model.specs.Progress.{nothing}
 use Rattle.cycle_model.proofs.CycleLemmas.{released_all, idle_cycle}
 use Rattle.cycle_model.proofs.cycles.next_cycle.Goals as goal

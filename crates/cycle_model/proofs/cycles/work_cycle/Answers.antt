@@ -6,10 +6,10 @@ use Rattle.pw_base.specs.PlanForms.{kind_at}
 use Rattle.cycle_model.specs.declared.received.Received.{Received}
 use Rattle.cycle_model.specs.declared.received.Given.{Given}
 use Rattle.cycle_model.specs.Cycle.{wave_of}
-use Rattle.cycle_model.specs.Known.{received_more, all_given_by}
-use Rattle.cycle_model.specs.NodeOrder.{IsOrder, IsWhole}
+use Rattle.cycle_model.specs.working.Known.{received_more, all_given_by}
+use Rattle.cycle_model.specs.working.NodeOrder.{IsOrder, IsWhole}
 use Rattle.cycle_model.specs.Progress.{nothing}
-use Rattle.cycle_model.specs.UnderWay.{IsUnderWay}
+use Rattle.cycle_model.specs.working.UnderWay.{IsUnderWay}
 use Rattle.cycle_model.proofs.CycleLemmas.{order_needs, none_done, next_more, skip_more, kind_there, all_worked}
 use Rattle.cycle_model.proofs.cycles.work_cycle.Goals as goal
 use Rattle.cycle_model.proofs.cycles.work_cycle.Goals.{in-Some+in_ok-work, in_default}

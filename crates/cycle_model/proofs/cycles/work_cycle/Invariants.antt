@@ -1,5 +1,5 @@
 use Rattle.std.proofs.Common.{take}
-use Rattle.cycle_model.specs.UnderWay.{IsUnderWay}
+use Rattle.cycle_model.specs.working.UnderWay.{IsUnderWay}
 use Rattle.cycle_model.proofs.cycles.work_cycle.Given as goal
 
 abbrev pub invariant-loop-i : goal.invariant-loop-i

@@ -1,5 +1,5 @@
 use Rattle.std.proofs.Common.{◌≡◌, drop}
-use Rattle.cycle_model.specs.Known.{given_at}
+use Rattle.cycle_model.specs.working.Known.{given_at}
 use Rattle.cycle_model.proofs.inputs.given_at.Given as goal
 
 abbrev pub invariant-loop-one : goal.invariant-loop-one

@@ -2,7 +2,7 @@ use Rattle.std.proofs.Common.{◌≡◌, ◌*◌, map, filter, fold, drop}
 use Rattle.pw_base.specs.Samples.{silence, summed}
 use Rattle.pw_base.specs.Pools.{is_same_port}
 use Rattle.cycle_model.specs.Epochs.{channels_of}
-use Rattle.cycle_model.specs.Known.{brought_by}
+use Rattle.cycle_model.specs.working.Known.{brought_by}
 use Rattle.cycle_model.proofs.inputs.input_of.Given as goal
 
 -- the sums, with what the links that are left bring, are all that the links bring

@@ -7,8 +7,8 @@ use Rattle.pw_base.specs.KindPorts.{input_count}
 use Rattle.cycle_model.specs.declared.received.Given.{Given}
 use Rattle.cycle_model.specs.Cycle.{last_of}
 use Rattle.cycle_model.specs.Epochs.{channels_of}
-use Rattle.cycle_model.specs.KindSamples.{heard_of}
-use Rattle.cycle_model.specs.Known.{given_by}
+use Rattle.cycle_model.specs.KindSamples.{kind_inputs_of}
+use Rattle.cycle_model.specs.working.Known.{given_by}
 use Rattle.cycle_model.proofs.working.give.Goals as goal
 
 pub loop-output-preserved : goal.loop-output-preserved
@@ -25,10 +25,10 @@ loop-output-preserved c =
     let channels : c.channels_of-channels.result ≡ channels_of c.args.at.now.epoch.now.forms wanted = c.channels_of-channels.ensures
     ∙ ap₂ (λ forms p. channels_of forms p) c.as_slice.ensures same in
     let row : c.in_ok-samples.samples ≡ last_of (q * channels_of c.args.at.now.epoch.now.forms wanted)
-    (kind_output kind (heard_of wave (channels_of c.args.at.now.epoch.now.forms wanted) received) k) =
+    (kind_output kind (kind_inputs_of wave (channels_of c.args.at.now.epoch.now.forms wanted) received) k) =
     c.in_ok-samples.ensures
-    ∙ ap (λ n. last_of n (kind_output kind (heard_of wave c.channels_of-channels.result received) k)) c.samples_in-n.ensures
-    ∙ ap (λ ch. last_of (q * ch) (kind_output kind (heard_of wave ch received) k)) channels in
+    ∙ ap (λ n. last_of n (kind_output kind (kind_inputs_of wave c.channels_of-channels.result received) k)) c.samples_in-n.ensures
+    ∙ ap (λ ch. last_of (q * ch) (kind_output kind (kind_inputs_of wave ch received) k)) channels in
     let item : Given = record { port = found; samples = c.in_ok-samples.samples } in
     let given : item ≡ g k = ap₂ (λ p s. let one : Given = record { port = p; samples = s } in one) same row in
     c.in_ok-push.ensures.ok

@@ -1,6 +1,6 @@
 use Rattle.std.proofs.Common.{◌≡◌, ◌++◌, map}
 use Rattle.std.specs.List.{range_with_len}
-use Rattle.cycle_model.specs.Known.{given_by}
+use Rattle.cycle_model.specs.working.Known.{given_by}
 use Rattle.cycle_model.proofs.working.give.Given as goal
 
 abbrev pub invariant-loop-output : goal.invariant-loop-output

@@ -1,5 +1,5 @@
 use Rattle.std.proofs.Common.{◌≡◌, ℕ, ◌<◌, ◌≤◌, cond, length, get_or}
-use Rattle.cycle_model.specs.Known.{is_released, released}
+use Rattle.cycle_model.specs.working.Known.{is_released, released}
 use Rattle.cycle_model.specs.Progress.{nothing}
 use Rattle.cycle_model.proofs.working.release.Given as goal
 

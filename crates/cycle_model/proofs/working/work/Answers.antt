@@ -2,7 +2,7 @@ use Rattle.std.proofs.Common.{◌≡◌, ◌++◌, ap₂, subst, ◌∙◌, get_
 use Rattle.std.specs.Prelude.{OnOk}
 use Rattle.std.proofs.lemmas.List.{get_or_default}
 use Rattle.cycle_model.specs.Cycle.{wave_of}
-use Rattle.cycle_model.specs.Known.{received_more, all_given_by}
+use Rattle.cycle_model.specs.working.Known.{received_more, all_given_by}
 use Rattle.cycle_model.specs.Progress.{nothing}
 use Rattle.cycle_model.proofs.working.work.Goals as goal
 

@@ -1,7 +1,7 @@
 use Rattle.std.proofs.Common.{◌≡◌, ◌∷◌, decimal, ap, ◌∙◌}
 use Rattle.std.specs.List.{slice_split}
 use Rattle.cycle_trace.specs.TraceReading.{is_space}
-use Rattle.cycle_trace.specs.EventWords.{event_said}
+use Rattle.cycle_trace.specs.working.EventWords.{event_said}
 use Rattle.cycle_trace.proofs.ReadingLemmas.{is_said}
 use Rattle.cycle_trace.proofs.event_reading.candidate.Goals as goal
 

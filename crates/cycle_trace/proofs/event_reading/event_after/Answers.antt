@@ -2,7 +2,7 @@ use Rattle.std.proofs.Common.{◌≡◌, [], decimal, Some, ap₂, ◌∙◌}
 use Rattle.std.specs.Option.{option_map_or}
 use Rattle.std.specs.List.{slice_split}
 use Rattle.cycle_trace.specs.TraceReading.{is_space}
-use Rattle.cycle_trace.specs.EventWords.{event_said}
+use Rattle.cycle_trace.specs.working.EventWords.{event_said}
 use Rattle.cycle_trace.proofs.event_reading.event_after.Goals as goal
 
 pub returns-in-Some-clause-only : goal.returns-in-Some-clause-only

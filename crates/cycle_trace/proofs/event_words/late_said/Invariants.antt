@@ -2,7 +2,7 @@ use Rattle.std.proofs.Common.{◌≡◌, ◌+◌, [], length}
 use Rattle.std.specs.Option.{option_map_or}
 use Rattle.std.specs.List.{slice_split}
 use Rattle.cycle_trace.specs.TraceReading.{is_space}
-use Rattle.cycle_trace.specs.EventWords.{late_said}
+use Rattle.cycle_trace.specs.working.EventWords.{late_said}
 use Rattle.cycle_trace.proofs.event_words.late_said.Given as goal
 
 -- the words that are left, after what was said, make the set

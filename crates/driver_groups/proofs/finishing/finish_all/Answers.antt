@@ -10,7 +10,7 @@ use Rattle.cycle_model.specs.WavesFit.{WavesFit}
 use Rattle.graph_run.specs.declared.ended.EndedRun.{EndedRun}
 use Rattle.pw_base.specs.declared.parts.Part.{Part}
 use Rattle.driver_groups.specs.GroupRun.{AreRunsOf}
-use Rattle.driver_groups.specs.Groups.{IsEndedPart, epochs_of}
+use Rattle.driver_groups.specs.working.Groups.{IsEndedPart, epochs_of}
 use Rattle.driver_groups.proofs.GroupLemmas.{zip_long, runs_more, all_taken, next_low, next_zip, none_left}
 use Rattle.driver_groups.proofs.finishing.finish_all.Goals as goal
 

@@ -5,7 +5,7 @@ use Rattle.pw_base.specs.SoundPlan.{IsSoundPlan}
 use Rattle.cycle_model.specs.WavesFit.{WavesFit}
 use Rattle.graph_run.specs.declared.alone.AloneRun.{AloneRun}
 use Rattle.pw_base.specs.declared.parts.Part.{Part}
-use Rattle.driver_groups.specs.Groups.{IsRunOfPart, ArePrepared}
+use Rattle.driver_groups.specs.working.Groups.{IsRunOfPart, ArePrepared}
 use Rattle.driver_groups.proofs.GroupLemmas.{zip_long}
 use Rattle.driver_groups.proofs.group_run.crew_of.Goals as goal
 

@@ -2,7 +2,7 @@
 use Rattle.std.proofs.Common.{◌<◌, ◌∙◌, inl, inr, sym, refl, subst, List, take, length, arith}
 use Rattle.pod_codec.specs.declared.pod.Prop.{Prop}
 use Rattle.format_filter.specs.FormatReading.{key_of}
-use Rattle.format_filter.specs.PropReading.{field_at, AreRead}
+use Rattle.format_filter.specs.working.PropReading.{field_at, AreRead}
 use Rattle.format_filter.proofs.PropLemmas.{read_more, next_prop, twice_faults, value_faults, some_from, none_from}
 use Rattle.format_filter.proofs.from_pod.read_props.Goals as goal
 

@@ -1,6 +1,6 @@
 -- A Range and a Step as rows.
 use Rattle.std.proofs.Common.{◌≡◌, rules}
-use Rattle.format_filter.specs.Making.{range_of, step_of}
+use Rattle.format_filter.specs.working.Making.{range_of, step_of}
 use Rattle.format_filter.proofs.RowLemmas.{range_row, step_row}
 use Rattle.format_filter.proofs.intersection.intersection_of.Goals as goal
 

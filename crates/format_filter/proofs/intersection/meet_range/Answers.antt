@@ -1,6 +1,6 @@
 -- A Range and a Step as rows.
 use Rattle.std.proofs.Common.{◌≡◌, rules}
-use Rattle.format_filter.specs.Making.{step_of}
+use Rattle.format_filter.specs.working.Making.{step_of}
 use Rattle.format_filter.proofs.RowLemmas.{step_row}
 use Rattle.format_filter.proofs.intersection.meet_range.Goals as goal
 

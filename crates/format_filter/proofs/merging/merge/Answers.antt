@@ -3,7 +3,7 @@ use Rattle.std.proofs.Common.{◌≡◌, ℕ, ◌+◌, ◌<◌, inl, inr, ◌++�
 use Rattle.std.proofs.lemmas.List.{take_all}
 use Rattle.std.specs.Prelude.{slice_get, slice_range}
 use Rattle.format_filter.specs.declared.format.Field.{Field}
-use Rattle.format_filter.specs.Merging.{Joins, AreCommonFields}
+use Rattle.format_filter.specs.working.Merging.{Joins, AreCommonFields}
 use Rattle.format_filter.proofs.MergeLemmas.{IsMerged, merged_more, taken, clash_first, joined_key, found_least, not_back}
 use Rattle.format_filter.proofs.merging.merge.Goals as goal
 

@@ -7,7 +7,7 @@ use Rattle.format_filter.specs.declared.progression.Numbers.{Numbers}
 use Rattle.format_filter.specs.Members.{number_of, IsReached}
 use Rattle.format_filter.specs.Soundness.{FitsWide}
 use Rattle.format_filter.specs.Intersection.{IsCommon, IsPicked, IsCommonIn, HasForm}
-use Rattle.format_filter.specs.Progression.{IsOneOf, AreOrdered}
+use Rattle.format_filter.specs.working.Progression.{IsOneOf, AreOrdered}
 use Rattle.format_filter.proofs.NumberChoiceLemmas.{row_first, two_meet, more_meet}
 use Rattle.format_filter.proofs.numbers.choice_of_numbers.Goals as goal
 

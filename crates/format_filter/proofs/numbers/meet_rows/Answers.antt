@@ -8,9 +8,9 @@ use Rattle.format_filter.specs.declared.choice.Wide.TheVariants.{Int, Long}
 use Rattle.format_filter.specs.declared.numbers.Ranged.{Ranged}
 use Rattle.format_filter.specs.Members.{number_of, IsMember}
 use Rattle.format_filter.specs.Soundness.{FitsWide}
-use Rattle.format_filter.specs.Making.{IsRowOf}
+use Rattle.format_filter.specs.working.Making.{IsRowOf}
 use Rattle.format_filter.specs.Intersection.{IsCommon}
-use Rattle.format_filter.specs.Progression.{IsIn}
+use Rattle.format_filter.specs.working.Progression.{IsIn}
 use Rattle.format_filter.proofs.NumberChoiceLemmas.{above}
 use Rattle.format_filter.proofs.OverlapLemmas.{number_injective, type_told}
 use Rattle.format_filter.proofs.numbers.meet_rows.Goals as goal

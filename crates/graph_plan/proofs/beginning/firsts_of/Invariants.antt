@@ -1,7 +1,7 @@
 -- The parts so far.
 use Rattle.std.proofs.Common.{◌≡◌, ◌++◌}
 use Rattle.std.specs.List.{AllZip}
-use Rattle.graph_plan.specs.Members.{IsFirst}
+use Rattle.graph_plan.specs.working.Members.{IsFirst}
 use Rattle.graph_plan.proofs.beginning.firsts_of.Given as goal
 
 abbrev pub invariant-loop-nodes : goal.invariant-loop-nodes

@@ -6,8 +6,8 @@ use Rattle.std.proofs.lemmas.List.{take_more}
 use Rattle.pw_base.specs.declared.plan.Epoch.{Epoch}
 use Rattle.graph_lines.specs.Sums.{capped_sums}
 use Rattle.graph_plan.specs.declared.member.Member.{Member}
-use Rattle.graph_plan.specs.Ahead.{IsAhead}
-use Rattle.graph_plan.specs.Members.{IsReadyFor}
+use Rattle.graph_plan.specs.working.Ahead.{IsAhead}
+use Rattle.graph_plan.specs.working.Members.{IsReadyFor}
 use Rattle.graph_plan.specs.Moving.{all_sums, total}
 use Rattle.graph_plan.proofs.AheadLemmas.{total_none, total_more}
 use Rattle.graph_plan.proofs.PairLemmas.{pairs_long, pairs_push}

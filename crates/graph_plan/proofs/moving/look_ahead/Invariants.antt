@@ -2,7 +2,7 @@
 use Rattle.std.proofs.Common.{◌≡◌, take}
 use Rattle.std.specs.List.{AllZip}
 use Rattle.graph_lines.specs.Sums.{capped_sums}
-use Rattle.graph_plan.specs.Ahead.{IsAhead}
+use Rattle.graph_plan.specs.working.Ahead.{IsAhead}
 use Rattle.graph_plan.specs.Moving.{all_sums, total}
 use Rattle.graph_plan.proofs.moving.look_ahead.Given as goal
 

@@ -1,6 +1,6 @@
 -- The epochs of all parts are those that the line makes, and each part takes its own.
 use Rattle.std.proofs.Common.{subst}
-use Rattle.graph_plan.specs.Ahead.{AreJudged}
+use Rattle.graph_plan.specs.working.Ahead.{AreJudged}
 use Rattle.graph_plan.proofs.GoingLemmas.{moves_or_passes}
 use Rattle.graph_plan.proofs.moving.move_all.Goals as goal
 

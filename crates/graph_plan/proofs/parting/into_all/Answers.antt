@@ -5,7 +5,7 @@ use Rattle.std.proofs.lemmas.List.{append_assoc, nil_from_length}
 use Rattle.std.proofs.lemmas.List.Elements.{All-head, All-tail}
 use Rattle.pw_base.specs.declared.parts.Part.{Part}
 use Rattle.graph_plan.specs.declared.member.Member.{Member}
-use Rattle.graph_plan.specs.Members.{IsLastMember}
+use Rattle.graph_plan.specs.working.Members.{IsLastMember}
 use Rattle.graph_plan.specs.Parted.{IsPartOfMember}
 use Rattle.graph_plan.proofs.PairLemmas.{pairs_push}
 use Rattle.graph_plan.proofs.parting.into_all.Goals as goal

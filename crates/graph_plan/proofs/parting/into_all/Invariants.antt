@@ -2,7 +2,7 @@
 use Rattle.std.proofs.Common.{◌≡◌, ◌++◌, length}
 use Rattle.std.specs.Prelude.{All}
 use Rattle.std.specs.List.{AllZip}
-use Rattle.graph_plan.specs.Members.{IsLastMember}
+use Rattle.graph_plan.specs.working.Members.{IsLastMember}
 use Rattle.graph_plan.specs.Parted.{IsPartOfMember}
 use Rattle.graph_plan.proofs.parting.into_all.Given as goal
 

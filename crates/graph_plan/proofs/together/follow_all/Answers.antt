@@ -3,7 +3,7 @@ use Rattle.std.proofs.Common.{List, [], ◌∷◌, sym, subst, ◌∙◌}
 use Rattle.pw_base.specs.declared.kind.Kind.{Kind}
 use Rattle.graph_lines.specs.declared.graph.Stepped.{Stepped}
 use Rattle.graph_plan.specs.Conditions.{AreLinesOf}
-use Rattle.graph_plan.specs.MovingTogether.{StepsTogether}
+use Rattle.graph_plan.specs.working.MovingTogether.{StepsTogether}
 use Rattle.graph_plan.proofs.TogetherLemmas.{line_here, together_more, together_stop}
 use Rattle.graph_plan.proofs.together.follow_all.Goals as goal
 

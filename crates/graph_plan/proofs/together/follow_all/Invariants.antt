@@ -2,7 +2,7 @@ use Rattle.std.proofs.Common.{◌≡◌, ℕ, drop}
 use Rattle.std.specs.Prelude.{Result}
 use Rattle.pw_base.specs.declared.limit.Which.{Which}
 use Rattle.graph_plan.specs.declared.together.Together.{Together}
-use Rattle.graph_plan.specs.Members.{AreReady}
+use Rattle.graph_plan.specs.working.Members.{AreReady}
 use Rattle.graph_plan.specs.Together.{FollowTogether}
 use Rattle.graph_plan.proofs.together.follow_all.Given as goal
 

@@ -1,5 +1,5 @@
 use Rattle.std.proofs.Common.{refl}
-use Rattle.pw_base.specs.Ordered.{IsRun}
+use Rattle.pw_base.specs.working.Ordered.{IsRun}
 use Rattle.pw_base.proofs.cycle_history.is_legal_inside.Goals as goal
 
 pub returns-then-keeps_order : goal.returns-then-keeps_order

@@ -1,6 +1,6 @@
 use Rattle.std.proofs.Common.{◌<◌}
 use Rattle.pw_base.specs.History.{start_place, finish_place}
-use Rattle.pw_base.specs.Ordered.{StartsLast, IsOrdered}
+use Rattle.pw_base.specs.working.Ordered.{StartsLast, IsOrdered}
 use Rattle.pw_base.proofs.HistoryLemmas.{order_by_numbers}
 use Rattle.pw_base.proofs.cycle_history.keeps_order.Goals as goal
 

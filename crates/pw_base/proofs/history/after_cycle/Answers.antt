@@ -1,6 +1,6 @@
 use Rattle.std.proofs.Common.{[], ◌∷◌, sym, subst, refl, MatchOption}
 use Rattle.pw_base.specs.History.{IsLegalCycle}
-use Rattle.pw_base.specs.HistoryFronts.{LeavesOver, IsNoFront}
+use Rattle.pw_base.specs.working.HistoryFronts.{LeavesOver, IsNoFront}
 use Rattle.pw_base.proofs.FrontLemmas.{front_is, front_is_not, front_wants_end, end_found, end_missing}
 use Rattle.pw_base.proofs.history.after_cycle.Goals as goal
 

@@ -1,6 +1,6 @@
 use Rattle.std.proofs.Common.{◌≡◌, ℕ, ◌+◌, sym, subst, arith, MatchOption}
 use Rattle.pw_base.specs.History.{epoch_cycles}
-use Rattle.pw_base.specs.HistoryFronts.{LeavesOver, IsNoFront}
+use Rattle.pw_base.specs.working.HistoryFronts.{LeavesOver, IsNoFront}
 use Rattle.pw_base.proofs.FrontLemmas.{epoch_more, epoch_stops}
 use Rattle.pw_base.proofs.history.after_epoch.Goals as goal
 

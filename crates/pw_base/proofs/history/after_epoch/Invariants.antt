@@ -1,5 +1,5 @@
 use Rattle.pw_base.specs.History.{epoch_cycles}
-use Rattle.pw_base.specs.HistoryFronts.{LeavesOver}
+use Rattle.pw_base.specs.working.HistoryFronts.{LeavesOver}
 use Rattle.pw_base.proofs.history.after_epoch.Given as goal
 
 abbrev pub invariant-loop-k : goal.invariant-loop-k

@@ -1,7 +1,7 @@
 use Rattle.std.proofs.Common.{◌↔◌, IsTrue, sym, subst, map}
 use Rattle.std.proofs.lemmas.List.{take_all}
 use Rattle.pw_base.specs.History.{IsLegalHistory, cycles_of}
-use Rattle.pw_base.specs.HistoryFronts.{LeavesOver}
+use Rattle.pw_base.specs.working.HistoryFronts.{LeavesOver}
 use Rattle.pw_base.proofs.FrontLemmas.{history_more, history_stops, history_decides}
 use Rattle.pw_base.proofs.history.is_legal_history.Goals as goal
 

@@ -1,6 +1,6 @@
 use Rattle.std.proofs.Common.{take, map}
 use Rattle.pw_base.specs.History.{cycles_of}
-use Rattle.pw_base.specs.HistoryFronts.{LeavesOver}
+use Rattle.pw_base.specs.working.HistoryFronts.{LeavesOver}
 use Rattle.pw_base.proofs.history.is_legal_history.Given as goal
 
 abbrev pub invariant-loop-epoch : goal.invariant-loop-epoch

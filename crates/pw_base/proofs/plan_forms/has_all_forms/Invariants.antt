@@ -1,5 +1,5 @@
 use Rattle.std.proofs.Common.{ℕ, ◌<◌}
-use Rattle.pw_base.specs.FormChecks.{HasSomeForm}
+use Rattle.pw_base.specs.working.FormChecks.{HasSomeForm}
 use Rattle.pw_base.proofs.plan_forms.has_all_forms.Given as goal
 
 abbrev pub invariant-loop-port : goal.invariant-loop-port

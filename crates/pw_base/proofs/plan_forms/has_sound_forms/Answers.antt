@@ -3,7 +3,7 @@ use Rattle.std.specs.Prelude.{All, AllPairs, IsTrue}
 use Rattle.pw_base.specs.declared.plan.PortForm.{PortForm}
 use Rattle.pw_base.specs.Pools.{is_before}
 use Rattle.pw_base.specs.PlanForms.{IsSoundForm, AreShared, IsFormed}
-use Rattle.pw_base.specs.FormChecks.{IsWhole}
+use Rattle.pw_base.specs.working.FormChecks.{IsWhole}
 use Rattle.pw_base.proofs.FormChecksLemmas.{whole_by_ports}
 use Rattle.pw_base.proofs.plan_forms.has_sound_forms.Goals as goal
 

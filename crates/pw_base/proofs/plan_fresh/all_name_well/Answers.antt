@@ -2,7 +2,7 @@ use Rattle.std.proofs.Common.{refl, subst, sym}
 use Rattle.std.specs.Prelude.{All}
 use Rattle.std.proofs.lemmas.List.{take_all}
 use Rattle.std.proofs.lemmas.List.Elements.{All-more}
-use Rattle.pw_base.specs.FreshChecks.{NamesWell}
+use Rattle.pw_base.specs.working.FreshChecks.{NamesWell}
 use Rattle.pw_base.proofs.plan_fresh.all_name_well.Goals as goal
 
 pub loop-epoch-preserved : goal.loop-epoch-preserved

@@ -1,6 +1,6 @@
 use Rattle.std.proofs.Common.{take}
 use Rattle.std.specs.Prelude.{All}
-use Rattle.pw_base.specs.FreshChecks.{NamesWell}
+use Rattle.pw_base.specs.working.FreshChecks.{NamesWell}
 use Rattle.pw_base.proofs.plan_fresh.all_name_well.Given as goal
 
 abbrev pub invariant-loop-epoch : goal.invariant-loop-epoch

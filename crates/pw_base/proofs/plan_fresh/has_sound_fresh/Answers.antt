@@ -1,6 +1,6 @@
 use Rattle.std.proofs.Common.{refl, subst, sym}
 use Rattle.std.specs.Prelude.{All}
-use Rattle.pw_base.specs.FreshChecks.{NamesWell}
+use Rattle.pw_base.specs.working.FreshChecks.{NamesWell}
 use Rattle.pw_base.proofs.FreshChecksLemmas.{fresh_is_sound, names_well_each, keeps_each}
 use Rattle.pw_base.proofs.plan_fresh.has_sound_fresh.Goals as goal
 

@@ -2,7 +2,7 @@ use Rattle.std.proofs.Common.{refl, subst}
 use Rattle.std.specs.Prelude.{All}
 use Rattle.std.proofs.lemmas.List.{take_all}
 use Rattle.std.proofs.lemmas.List.Elements.{All-more}
-use Rattle.pw_base.specs.FreshChecks.{IsKeptForm}
+use Rattle.pw_base.specs.working.FreshChecks.{IsKeptForm}
 use Rattle.pw_base.proofs.plan_kept.are_kept_forms.Goals as goal
 
 pub loop-a-preserved : goal.loop-a-preserved

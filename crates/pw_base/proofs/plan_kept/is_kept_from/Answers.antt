@@ -1,5 +1,5 @@
 use Rattle.std.proofs.Common.{refl, arith}
-use Rattle.pw_base.specs.FreshChecks.{IsNamed}
+use Rattle.pw_base.specs.working.FreshChecks.{IsNamed}
 use Rattle.pw_base.proofs.FreshChecksLemmas.{between_more, kept_to_end}
 use Rattle.pw_base.proofs.plan_kept.is_kept_from.Goals as goal
 

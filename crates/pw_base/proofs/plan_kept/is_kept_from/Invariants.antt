@@ -1,5 +1,5 @@
 use Rattle.std.proofs.Common.{ℕ, ◌<◌}
-use Rattle.pw_base.specs.FreshChecks.{IsNamed}
+use Rattle.pw_base.specs.working.FreshChecks.{IsNamed}
 use Rattle.pw_base.proofs.plan_kept.is_kept_from.Given as goal
 
 abbrev pub invariant-loop-j : goal.invariant-loop-j

@@ -1,5 +1,5 @@
 use Rattle.std.proofs.Common.{ℕ, ◌<◌}
-use Rattle.pw_base.specs.FreshChecks.{KeepsEpoch}
+use Rattle.pw_base.specs.working.FreshChecks.{KeepsEpoch}
 use Rattle.pw_base.proofs.plan_kept.keeps_all.Given as goal
 
 abbrev pub invariant-loop-i : goal.invariant-loop-i

@@ -1,5 +1,5 @@
 use Rattle.std.proofs.Common.{refl, arith}
-use Rattle.pw_base.specs.FreshChecks.{AgreesIn, IsNamed}
+use Rattle.pw_base.specs.working.FreshChecks.{AgreesIn, IsNamed}
 use Rattle.pw_base.proofs.FreshChecksLemmas.{between_more, keeps_until, keeps_to_end, keeps_at}
 use Rattle.pw_base.proofs.plan_kept.keeps_form.Goals as goal
 

@@ -1,5 +1,5 @@
 use Rattle.std.proofs.Common.{ℕ, ◌<◌}
-use Rattle.pw_base.specs.FreshChecks.{AgreesIn, IsNamed}
+use Rattle.pw_base.specs.working.FreshChecks.{AgreesIn, IsNamed}
 use Rattle.pw_base.proofs.plan_kept.keeps_form.Given as goal
 
 abbrev pub invariant-loop-j : goal.invariant-loop-j

@@ -2,7 +2,7 @@ use Rattle.std.proofs.Common.{refl, subst}
 use Rattle.std.specs.Prelude.{All}
 use Rattle.std.proofs.lemmas.List.{take_all}
 use Rattle.std.proofs.lemmas.List.Elements.{All-more}
-use Rattle.pw_base.specs.FormChecks.{IsEnded}
+use Rattle.pw_base.specs.working.FormChecks.{IsEnded}
 use Rattle.pw_base.proofs.plan_soundness.are_ended.Goals as goal
 
 pub loop-form-preserved : goal.loop-form-preserved

@@ -1,6 +1,6 @@
 use Rattle.std.proofs.Common.{take}
 use Rattle.std.specs.Prelude.{All}
-use Rattle.pw_base.specs.FormChecks.{IsEnded}
+use Rattle.pw_base.specs.working.FormChecks.{IsEnded}
 use Rattle.pw_base.proofs.plan_soundness.are_ended.Given as goal
 
 abbrev pub invariant-loop-form : goal.invariant-loop-form

@@ -2,7 +2,7 @@ use Rattle.std.proofs.Common.{refl, subst, sym}
 use Rattle.std.specs.Prelude.{All}
 use Rattle.std.proofs.lemmas.List.{take_all}
 use Rattle.std.proofs.lemmas.List.Elements.{All-more}
-use Rattle.pw_base.specs.FormChecks.{IsPlace}
+use Rattle.pw_base.specs.working.FormChecks.{IsPlace}
 use Rattle.pw_base.proofs.plan_soundness.are_places.Goals as goal
 
 pub loop-n-preserved : goal.loop-n-preserved

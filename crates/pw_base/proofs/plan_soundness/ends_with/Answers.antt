@@ -1,6 +1,6 @@
 use Rattle.std.proofs.Common.{subst, sym}
 use Rattle.std.specs.Prelude.{All}
-use Rattle.pw_base.specs.FormChecks.{IsEnded}
+use Rattle.pw_base.specs.working.FormChecks.{IsEnded}
 use Rattle.pw_base.proofs.FormChecksLemmas.{ended_by_form}
 use Rattle.pw_base.proofs.plan_soundness.ends_with.Goals as goal
 

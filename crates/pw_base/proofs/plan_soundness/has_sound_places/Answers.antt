@@ -1,6 +1,6 @@
 use Rattle.std.proofs.Common.{refl, subst, sym}
 use Rattle.std.specs.Prelude.{All}
-use Rattle.pw_base.specs.FormChecks.{IsPlace}
+use Rattle.pw_base.specs.working.FormChecks.{IsPlace}
 use Rattle.pw_base.proofs.FormChecksLemmas.{places_by_number}
 use Rattle.pw_base.proofs.plan_soundness.has_sound_places.Goals as goal
 

@@ -1,7 +1,7 @@
 -- The wave and the numbers of one chain more, whose draws begin where those of the chains so far end.
 use Rattle.std.proofs.Common.{◌≡◌, ◌+◌, ◌*◌, ◌++◌, [], ◌∷◌, sym, ap, ◌∙◌, arith}
 use Rattle.std.proofs.lemmas.List.FromFn.{map-range_with_len_more}
-use Rattle.soak_graph.specs.Drawing.{chain}
+use Rattle.soak_graph.specs.working.Drawing.{chain}
 use Rattle.soak_graph.specs.Draws.{state_after, samples}
 use Rattle.soak_graph.specs.SoakChains.{frames, chain_draws, wave_with, soak_wave}
 use Rattle.soak_graph.proofs.DrawnLemmas.{chain_there, samples_there, chain_more}

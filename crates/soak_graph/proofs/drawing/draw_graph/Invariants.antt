@@ -1,7 +1,7 @@
 -- The waves and numbers so far are those of the chains so far, and all their draws were made.
 use Rattle.std.proofs.Common.{◌≡◌, ◌*◌, map}
 use Rattle.std.specs.List.{range_with_len}
-use Rattle.soak_graph.specs.Drawing.{chain}
+use Rattle.soak_graph.specs.working.Drawing.{chain}
 use Rattle.soak_graph.specs.Draws.{state_after}
 use Rattle.soak_graph.specs.SoakChains.{chain_draws, soak_wave}
 use Rattle.soak_graph.proofs.drawing.draw_graph.Given as goal

@@ -3,7 +3,7 @@ use Rattle.std.proofs.Common.{◌≡◌, ◌++◌, length, sym, subst, ap, ◌�
 use Rattle.std.proofs.lemmas.Int.{ints}
 use Rattle.pw_base.specs.KindRanges.{IsGain}
 use Rattle.soak_graph.specs.declared.drawing.Chain.{Chain}
-use Rattle.soak_graph.specs.Drawing.{chain, chain_in}
+use Rattle.soak_graph.specs.working.Drawing.{chain, chain_in}
 use Rattle.soak_graph.specs.SoakChains.{gain, delay}
 use Rattle.soak_graph.specs.SoakPorts.{chain_nodes}
 use Rattle.soak_graph.proofs.DrawnLemmas.{chain_is, gain_range}

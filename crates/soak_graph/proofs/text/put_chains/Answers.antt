@@ -1,7 +1,7 @@
 -- The lines of one chain more.
 use Rattle.std.proofs.Common.{◌++◌, ap, ◌∙◌, rules, SFits, w32}
 use Rattle.std.proofs.lemmas.Int.{to_z-of_z}
-use Rattle.soak_graph.specs.Drawing.{chain_in}
+use Rattle.soak_graph.specs.working.Drawing.{chain_in}
 use Rattle.soak_graph.specs.SoakText.{text_of_lines, chain_lines}
 use Rattle.soak_graph.proofs.LineLemmas.{text_more}
 use Rattle.soak_graph.proofs.text.put_chains.Goals as goal

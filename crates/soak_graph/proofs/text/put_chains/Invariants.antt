@@ -2,7 +2,7 @@
 use Rattle.std.proofs.Common.{◌≡◌, ◌++◌}
 use Rattle.std.specs.Prelude.{flat_map}
 use Rattle.std.specs.List.{range_with_len}
-use Rattle.soak_graph.specs.Drawing.{chain_in}
+use Rattle.soak_graph.specs.working.Drawing.{chain_in}
 use Rattle.soak_graph.specs.SoakText.{chain_lines, text_of_lines}
 use Rattle.soak_graph.proofs.text.put_chains.Given as goal
 

@@ -1,7 +1,7 @@
 -- The parts of the text, one behind the other.
 use Rattle.std.proofs.Common.{◌≡◌, ℕ, ◌++◌, sym, ap, ◌∙◌, codes, List}
 use Rattle.soak_graph.specs.declared.drawing.Chain.{Chain}
-use Rattle.soak_graph.specs.Drawing.{chain_in}
+use Rattle.soak_graph.specs.working.Drawing.{chain_in}
 use Rattle.soak_graph.specs.SoakChains.{gain, delay, off}
 use Rattle.soak_graph.specs.SoakText.{ended, text_of_lines, node_lines, end_lines, all_link_lines, play_lines}
 use Rattle.soak_graph.proofs.LineLemmas.{text_parts}

@@ -1,6 +1,6 @@
 use Rattle.std.proofs.Common.{◌≡◌, length}
 use Rattle.std.specs.Prelude.{All}
-use Rattle.steal_shelf.specs.Tokens.{AreDealt}
+use Rattle.steal_shelf.specs.working.Tokens.{AreDealt}
 use Rattle.steal_shelf.proofs.dealing.deal_seats.Given as goal
 
 abbrev pub invariant-loop-seat : goal.invariant-loop-seat

@@ -1,7 +1,7 @@
 use Rattle.std.proofs.Common.{◌∙◌, ◌≡◌, ◌<◌, ℕ, [], ◌∷◌, Some, refl, sym, ap, subst}
 use Rattle.atomic_table.specs.Table.{Allows, rest}
 use Rattle.steal_shelf.specs.ShelfRule.{Holds}
-use Rattle.steal_shelf.specs.ShelfSteps.{ShelfMe, HasReturned}
+use Rattle.steal_shelf.specs.working.ShelfSteps.{ShelfMe, HasReturned}
 use Rattle.steal_shelf.proofs.ShelfLemmas.{returns_cell}
 use Rattle.steal_shelf.proofs.token.put_token.Goals as goal
 

@@ -2,7 +2,7 @@ use Rattle.std.proofs.Common.{ℕ, sym, subst, arith}
 use Rattle.pw_base.specs.Layout.{io_place}
 use Rattle.board_rule.specs.declared.rows.LinkRow.{LinkRow}
 use Rattle.board_rule.specs.buffers.EndViews.{link_in, pool_number}
-use Rattle.board_rule.specs.Rows.{IsLinkRow}
+use Rattle.board_rule.specs.working.Rows.{IsLinkRow}
 use Rattle.board_rule.proofs.WordLemmas.{link_word, link_fits}
 use Rattle.board_rule.proofs.board.Board.link_readers_word.Goals as goal
 

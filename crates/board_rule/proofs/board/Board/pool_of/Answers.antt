@@ -3,7 +3,7 @@ use Rattle.pw_base.specs.Layout.{io_place}
 use Rattle.pw_base.specs.Pools.{pools_of}
 use Rattle.board_rule.specs.declared.rows.LinkRow.{LinkRow}
 use Rattle.board_rule.specs.buffers.EndViews.{link_in}
-use Rattle.board_rule.specs.Rows.{IsLinkRow}
+use Rattle.board_rule.specs.working.Rows.{IsLinkRow}
 use Rattle.board_rule.proofs.board.Board.pool_of.Goals as goal
 
 pub returns-clause-there : goal.returns-clause-there

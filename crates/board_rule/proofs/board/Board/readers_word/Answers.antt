@@ -3,7 +3,7 @@ use Rattle.std.specs.Prelude.{sum_by}
 use Rattle.pw_base.specs.Pools.{pools_of}
 use Rattle.board_rule.specs.declared.rows.PoolRow.{PoolRow}
 use Rattle.board_rule.specs.buffers.EndViews.{pool_in}
-use Rattle.board_rule.specs.Rows.{base_of, IsPoolRow}
+use Rattle.board_rule.specs.working.Rows.{base_of, IsPoolRow}
 use Rattle.board_rule.proofs.WordLemmas.{row_word, row_fits}
 use Rattle.board_rule.proofs.board.Board.readers_word.Goals as goal
 

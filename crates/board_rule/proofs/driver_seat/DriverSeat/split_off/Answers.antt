@@ -5,7 +5,7 @@ use Rattle.board_rule.specs.declared.view.View.{View}
 use Rattle.board_rule.specs.Known.{Known}
 use Rattle.board_rule.specs.Layout.{layout_of, nodes, first}
 use Rattle.board_rule.specs.start.Owners.{own, owners_of, seat_with}
-use Rattle.board_rule.specs.activation.Progress.{progress_of}
+use Rattle.board_rule.specs.working.Progress.{progress_of}
 use Rattle.board_rule.specs.View.{idle}
 use Rattle.board_rule.proofs.start.OwnerLemmas.{blocks_long}
 use Rattle.board_rule.proofs.driver_seat.DriverSeat.split_off.Goals as goal

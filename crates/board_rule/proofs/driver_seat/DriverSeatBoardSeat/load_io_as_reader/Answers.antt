@@ -29,7 +29,7 @@ invariant_of-self c =
     let end : read_of v l ≡ c.read_at-end.result = ap (λ (u : View). read_of u l) is ∙ sym c.read_at-end.ensures in
     let cycle : v.lead.cycle ≡ i.lead.cycle = ap (λ x. x.cycle) c.self.invariant.lead_is in
     lead_read_set v i.lead i.reads.items i.woke c.self.invariant l c.read_slot-slot.result
-    (read_sits p v true l c.read_slot-slot.result h.0 h.2.0 c.read_slot-slot.ensures) h.1 c.load_area-found.new.token.me.0 (set v.heard l 0)
+    (read_sits p v true l c.read_slot-slot.result h.0 h.2.0 c.read_slot-slot.ensures) h.1 c.load_area-found.new.token.me.0 (set v.words_read l 0)
     (record (read_of v l) { loaded = v.lead.cycle + 1; id = io_id_in c.load_area-found.result }) _ c.load_area-found.ensures.after
     (λ j. record { loaded = cycle j + 1; lowered = (end j).lowered; stored = (end j).stored; id = sym c.io_id_of.ensures j })
 

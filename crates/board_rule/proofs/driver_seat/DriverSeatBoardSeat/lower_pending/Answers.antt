@@ -4,7 +4,7 @@ use Rattle.board_rule.specs.Known.{Known}
 use Rattle.board_rule.specs.Layout.{layout_of}
 use Rattle.board_rule.specs.events.Bits.{with_bit}
 use Rattle.board_rule.specs.Steps.{CanKick}
-use Rattle.board_rule.specs.events.DriverProgress.{told_so_far}
+use Rattle.board_rule.specs.working.DriverProgress.{told_so_far}
 use Rattle.board_rule.proofs.LeadLemmas.{lead_lowers}
 use Rattle.board_rule.proofs.driver_seat.DriverSeatBoardSeat.lower_pending.Goals as goal
 

@@ -27,6 +27,6 @@ invariant_of-self c =
     let end : read_of v l ≡ c.read_at-end.result = ap (λ (u : View). read_of u l) is ∙ sym c.read_at-end.ensures in
     let cycle : v.lead.cycle ≡ i.lead.cycle = ap (λ x. x.cycle) c.self.invariant.lead_is in
     lead_read_set v i.lead i.reads.items i.woke c.self.invariant l c.read_slot-slot.result
-    (read_sits p v true l c.read_slot-slot.result h.0 h.2.0 c.read_slot-slot.ensures) h.1 c.lower_readers-found.new.token.me.0 v.heard
+    (read_sits p v true l c.read_slot-slot.result h.0 h.2.0 c.read_slot-slot.ensures) h.1 c.lower_readers-found.new.token.me.0 v.words_read
     (record (read_of v l) { lowered = v.lead.cycle + 1 }) _ c.lower_readers-found.ensures.after
     (λ j. record { loaded = (end j).loaded; lowered = cycle j + 1; stored = (end j).stored; id = (end j).id })

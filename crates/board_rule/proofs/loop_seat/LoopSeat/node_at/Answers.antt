@@ -4,7 +4,7 @@ use Rattle.board_rule.specs.Known.{Known}
 use Rattle.board_rule.specs.Layout.{layout_of}
 use Rattle.board_rule.specs.activation.SeatNodes.{Has}
 use Rattle.board_rule.specs.View.{node_of}
-use Rattle.board_rule.specs.activation.Progress.{progress_of}
+use Rattle.board_rule.specs.working.Progress.{progress_of}
 use Rattle.board_rule.proofs.start.SlotLemmas.{node_sits}
 use Rattle.board_rule.proofs.start.EntryLemmas.{node_kept, node_in}
 use Rattle.board_rule.proofs.loop_seat.LoopSeat.node_at.Goals as goal

@@ -2,7 +2,7 @@ use Rattle.std.proofs.Common.{◌≡◌, ◌∙◌, false, ap, sym, subst, arith
 use Rattle.board_rule.specs.declared.view.View.{View}
 use Rattle.board_rule.specs.Known.{Known}
 use Rattle.board_rule.specs.Layout.{layout_of}
-use Rattle.board_rule.specs.start.Slots.{HasReader}
+use Rattle.board_rule.specs.working.Slots.{HasReader}
 use Rattle.board_rule.specs.buffers.EndViews.{read_of}
 use Rattle.board_rule.proofs.start.SlotLemmas.{read_sits}
 use Rattle.board_rule.proofs.start.EntryLemmas.{read_kept, read_in}

@@ -2,7 +2,7 @@ use Rattle.std.proofs.Common.{◌≡◌, ◌∙◌, ◌+◌, ℕ, ap, sym, subst
 use Rattle.board_rule.specs.declared.view.View.{View}
 use Rattle.board_rule.specs.Known.{Known}
 use Rattle.board_rule.specs.Layout.{layout_of}
-use Rattle.board_rule.specs.start.Slots.{HasWriter}
+use Rattle.board_rule.specs.working.Slots.{HasWriter}
 use Rattle.board_rule.specs.View.{node_of}
 use Rattle.board_rule.specs.buffers.EndViews.{write_of}
 use Rattle.board_rule.specs.buffers.WriterSteps.{write_cycle, IsWriter}

@@ -2,7 +2,7 @@ use Rattle.std.proofs.Common.{◌≡◌, ◌∙◌, ap, sym, subst, arith}
 use Rattle.board_rule.specs.declared.view.View.{View}
 use Rattle.board_rule.specs.Known.{Known}
 use Rattle.board_rule.specs.Layout.{layout_of}
-use Rattle.board_rule.specs.start.Slots.{HasWriter}
+use Rattle.board_rule.specs.working.Slots.{HasWriter}
 use Rattle.board_rule.specs.buffers.EndViews.{write_of}
 use Rattle.board_rule.proofs.start.SlotLemmas.{write_sits}
 use Rattle.board_rule.proofs.start.EntryLemmas.{write_kept, write_in}

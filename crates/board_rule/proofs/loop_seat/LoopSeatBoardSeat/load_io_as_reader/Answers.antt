@@ -4,7 +4,7 @@ use Rattle.pw_base.specs.Words.{io_id_in}
 use Rattle.board_rule.specs.declared.view.View.{View}
 use Rattle.board_rule.specs.Known.{Known}
 use Rattle.board_rule.specs.Layout.{layout_of}
-use Rattle.board_rule.specs.start.Slots.{HasReader}
+use Rattle.board_rule.specs.working.Slots.{HasReader}
 use Rattle.board_rule.specs.View.{node_of}
 use Rattle.board_rule.specs.buffers.EndViews.{read_of}
 use Rattle.board_rule.specs.buffers.ReaderSteps.{read_cycle, IsReader, IsPublished}
@@ -32,7 +32,7 @@ invariant_of-self c =
     let cycle : read_cycle false p v l ≡ c.node_at-cycle.result.next = sym (ap (λ x. x.next) c.node_at-cycle.ensures
     ∙ (λ j. (node_of (sym is j) (c.reader.ensures j)).next)) in
     read_set v i.nodes.items i.writes.items i.reads.items i.blocks.items i.woke c.self.invariant l c.read_slot-slot.result
-    (read_sits p v false l c.read_slot-slot.result has.0 has.2 c.read_slot-slot.ensures) has.1 c.load_area-found.new.token.me.0 (set v.heard l 0)
+    (read_sits p v false l c.read_slot-slot.result has.0 has.2 c.read_slot-slot.ensures) has.1 c.load_area-found.new.token.me.0 (set v.words_read l 0)
     (record (read_of v l) { loaded = read_cycle false p v l + 1; id = io_id_in c.load_area-found.result }) _ c.load_area-found.ensures.after (λ j. record { loaded = cycle j + 1; lowered = (end j).lowered; stored = (end j).stored; id = sym c.io_id_of.ensures j })
 
 pub returns-clause-word : goal.returns-clause-word

@@ -2,7 +2,7 @@ use Rattle.std.proofs.Common.{◌≡◌, ◌∙◌, ◌+◌, ℕ, false, ap, sym
 use Rattle.board_rule.specs.declared.view.View.{View}
 use Rattle.board_rule.specs.Known.{Known}
 use Rattle.board_rule.specs.Layout.{layout_of}
-use Rattle.board_rule.specs.start.Slots.{HasReader}
+use Rattle.board_rule.specs.working.Slots.{HasReader}
 use Rattle.board_rule.specs.View.{node_of}
 use Rattle.board_rule.specs.buffers.EndViews.{read_of}
 use Rattle.board_rule.specs.buffers.ReaderSteps.{read_cycle, IsReader}
@@ -30,5 +30,5 @@ invariant_of-self c =
     let cycle : read_cycle false p v l ≡ c.node_at-cycle.result.next = sym (ap (λ x. x.next) c.node_at-cycle.ensures
     ∙ (λ j. (node_of (sym is j) (c.reader.ensures j)).next)) in
     read_set v i.nodes.items i.writes.items i.reads.items i.blocks.items i.woke c.self.invariant l c.read_slot-slot.result
-    (read_sits p v false l c.read_slot-slot.result has.0 has.2 c.read_slot-slot.ensures) has.1 c.store_need.new.token.me.0 v.heard
+    (read_sits p v false l c.read_slot-slot.result has.0 has.2 c.read_slot-slot.ensures) has.1 c.store_need.new.token.me.0 v.words_read
     (record (read_of v l) { stored = read_cycle false p v l + 1 }) _ c.store_need.ensures.after (λ j. record { loaded = (end j).loaded; lowered = (end j).lowered; stored = cycle j + 1; id = (end j).id })

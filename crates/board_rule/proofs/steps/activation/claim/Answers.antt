@@ -5,7 +5,7 @@ use Rattle.pw_base.specs.Words.{awake_word, triggered_word}
 use Rattle.board_rule.specs.declared.board_shape.BoardShape.{BoardShape}
 use Rattle.board_rule.specs.Layout.{layout_of}
 use Rattle.board_rule.specs.BoardRule.{Holds}
-use Rattle.board_rule.specs.Plays.{Leaves}
+use Rattle.board_rule.specs.working.Plays.{Leaves}
 use Rattle.board_rule.proofs.StepLemmas.{claims}
 use Rattle.board_rule.proofs.steps.activation.claim.Goals as goal
 

@@ -4,7 +4,7 @@ use Rattle.pw_base.specs.Words.{finished_word}
 use Rattle.board_rule.specs.declared.board_shape.BoardShape.{BoardShape}
 use Rattle.board_rule.specs.Layout.{layout_of}
 use Rattle.board_rule.specs.BoardRule.{Holds}
-use Rattle.board_rule.specs.Plays.{Leaves}
+use Rattle.board_rule.specs.working.Plays.{Leaves}
 use Rattle.board_rule.proofs.StepLemmas.{finishes}
 use Rattle.board_rule.proofs.steps.activation.finish.Goals as goal
 

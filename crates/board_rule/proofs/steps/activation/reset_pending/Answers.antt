@@ -3,7 +3,7 @@ use Rattle.atomic_table.specs.Table.{Allows}
 use Rattle.board_rule.specs.declared.board_shape.BoardShape.{BoardShape}
 use Rattle.board_rule.specs.Layout.{layout_of}
 use Rattle.board_rule.specs.BoardRule.{Holds}
-use Rattle.board_rule.specs.Plays.{Leaves}
+use Rattle.board_rule.specs.working.Plays.{Leaves}
 use Rattle.board_rule.proofs.StepLemmas.{stores_pending}
 use Rattle.board_rule.proofs.steps.activation.reset_pending.Goals as goal
 

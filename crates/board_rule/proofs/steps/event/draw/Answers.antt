@@ -3,7 +3,7 @@ use Rattle.atomic_table.specs.Table.{Allows}
 use Rattle.board_rule.specs.declared.board_shape.BoardShape.{BoardShape}
 use Rattle.board_rule.specs.Layout.{layout_of}
 use Rattle.board_rule.specs.BoardRule.{Holds}
-use Rattle.board_rule.specs.Plays.{Learns}
+use Rattle.board_rule.specs.working.Plays.{Learns}
 use Rattle.board_rule.proofs.StepLemmas.{draws_ticket}
 use Rattle.board_rule.proofs.steps.event.draw.Goals as goal
 

@@ -6,15 +6,15 @@ use Rattle.std.specs.List.{list_any}
 use Rattle.pw_base.specs.declared.plan.Epoch.{Epoch}
 use Rattle.graph_lines.specs.declared.graph.Graph.{Graph}
 use Rattle.graph_lines.specs.Activity.{standing}
-use Rattle.graph_lines.specs.EpochLines.{cycles_in, is_heard}
+use Rattle.graph_lines.specs.EpochLines.{cycles_in, is_formed_sink}
 
 -- the cycles that a node was active in
 abbrev pub ran_in : List Epoch → ℕ → ℕ
 ran_in epochs n = sum_by (λ e. cycles_in e n) epochs
 
 -- it is a sink that had a form in some epoch
-abbrev pub was_heard : Graph → List Epoch → ℕ → Bool
-was_heard g epochs n = list_any (λ e. is_heard g e n) epochs
+abbrev pub was_formed_sink : Graph → List Epoch → ℕ → Bool
+was_formed_sink g epochs n = list_any (λ e. is_formed_sink g e n) epochs
 
 -- the channels with which an epoch names a node, else those before
 abbrev pub told_by : ℕ → ℕ → Epoch → ℕ
@@ -29,5 +29,5 @@ told_in epochs n = fold (told_by n) 0 epochs
 pub record IsReadOff (g : Graph) : Type 0 where
   pub ran : (n : ℕ) → n < length g.nodes → (standing g.nodes n).ran ≡ ran_in g.epochs n
   pub kept : (n : ℕ) → n < length g.nodes
-      → (standing g.nodes n).kept ≡ was_heard g g.epochs n
+      → (standing g.nodes n).kept ≡ was_formed_sink g g.epochs n
   pub told : (n : ℕ) → n < length g.nodes → (standing g.nodes n).told ≡ told_in g.epochs n

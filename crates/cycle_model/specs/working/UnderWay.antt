@@ -8,10 +8,10 @@ use Rattle.cycle_model.specs.declared.received.Received.{Received}
 use Rattle.cycle_model.specs.declared.received.Given.{Given}
 use Rattle.cycle_model.specs.Epochs.{epoch_at}
 use Rattle.cycle_model.specs.Cycle.{outputs}
-use Rattle.cycle_model.specs.NodeOrder.{is_among}
+use Rattle.cycle_model.specs.working.NodeOrder.{is_among}
 use Rattle.cycle_model.specs.Renderable.{IsRenderable}
 use Rattle.wav_files.specs.declared.wav.WavIn.{WavIn}
-use Rattle.cycle_model.specs.Known.{given_at}
+use Rattle.cycle_model.specs.working.Known.{given_at}
 use Rattle.cycle_model.specs.Progress.{received_until, received_before, nothing, IsOutputOf, TellsBefore}
 
 -- how far a cycle has come: these nodes are done
@@ -19,7 +19,7 @@ pub record IsUnderWay (plan : Plan) (waves : List WavIn) (c : ℕ) (done : List 
     (received : List Received)
     (now : List Given) : Type 0 where
   pub counted : length received ≡ length plan.nodes
-  pub heard : (n : ℕ) → n < length plan.nodes → is_among done n ≡ true
+  pub worked : (n : ℕ) → n < length plan.nodes → is_among done n ≡ true
       → slice_index_or received n nothing ≡ received_until plan (outputs plan waves) (suc c) n
   pub waiting : (n : ℕ) → n < length plan.nodes → is_among done n ≡ false
       → slice_index_or received n nothing ≡ received_before plan (outputs plan waves) c n

@@ -9,7 +9,7 @@ use Rattle.format_filter.specs.declared.choice.Wide.{Wide}
 use Rattle.format_filter.specs.declared.numbers.Ranged.{Ranged}
 use Rattle.format_filter.specs.Members.{number_of, IsMember, pick_of}
 use Rattle.format_filter.specs.Soundness.{FitsWide}
-use Rattle.format_filter.specs.Progression.{IsIn}
+use Rattle.format_filter.specs.working.Progression.{IsIn}
 use Rattle.format_filter.specs.Intersection.{IsCommon, IsOfThose, HasForm}
 
 -- the common members of a and b are those of some values that another choice admits, and come in

@@ -19,8 +19,8 @@ use Rattle.cycle_model.specs.declared.received.Given.{Given}
 use Rattle.cycle_model.specs.Epochs.{is_fresh, channels_of}
 use Rattle.cycle_model.specs.Cycle.{last_of}
 use Rattle.cycle_model.specs.Rendering.{is_meter}
-use Rattle.cycle_model.specs.KindSamples.{heard_of}
-pub use Rattle.cycle_model.specs.KnownSamples.{given_at, brought_by, input_by}
+use Rattle.cycle_model.specs.KindSamples.{kind_inputs_of}
+pub use Rattle.cycle_model.specs.working.KnownSamples.{given_at, brought_by, input_by}
 
 -- what a node has received after one cycle more
 abbrev pub received_more : ℕ → Bool → List Given → List Given → Epoch → Kind → ℕ
@@ -42,7 +42,7 @@ given_by quantum epoch kind wave node r output =
     record {
       port = port;
       samples = last_of (quantum * channels_of epoch.forms port)
-          (kind_output kind (heard_of wave (channels_of epoch.forms port) r) output);
+          (kind_output kind (kind_inputs_of wave (channels_of epoch.forms port) r) output);
     }
 
 -- what it gives at all of them

@@ -5,7 +5,7 @@ use Rattle.atomic_table.specs.Seated.{TableId}
 use Rattle.steal_shelf.specs.declared.shelf.ShelfSeat.{ShelfSeat}
 use Rattle.steal_shelf.specs.declared.token.Token.{Token}
 use Rattle.steal_shelf.specs.declared.view.CellView.{CellView}
-use Rattle.steal_shelf.specs.ShelfSteps.{dealt}
+use Rattle.steal_shelf.specs.working.ShelfSteps.{dealt}
 
 -- a token of the cell i, new, from the seat that had the view
 pub record IsDealt (table : TableId) (v : CellView) (i : ℕ) (x : Token) : Type 0 where

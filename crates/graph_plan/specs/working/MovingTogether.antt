@@ -13,7 +13,7 @@ use Rattle.graph_lines.specs.Lines.{Does}
 use Rattle.graph_lines.specs.Sums.{passed}
 use Rattle.graph_plan.specs.declared.member.Member.{Member}
 use Rattle.graph_plan.specs.declared.together.Together.{Together}
-use Rattle.graph_plan.specs.Members.{IsStanding}
+use Rattle.graph_plan.specs.working.Members.{IsStanding}
 use Rattle.graph_plan.specs.Moving.{Moves, own_sums, total}
 use Rattle.graph_plan.specs.PartLines.{is_line_of}
 use Rattle.graph_plan.specs.Together.{HasManyIn, HasSums, GoesOn, Passes}

@@ -12,7 +12,7 @@ use Rattle.board_rule.specs.buffers.Spans.{block_at}
 use Rattle.board_rule.specs.activation.SeatNodes.{Has}
 use Rattle.board_rule.specs.buffers.EndViews.{writer_of, reader_of}
 use Rattle.board_rule.specs.start.StartViews.{idle, unread, first_write, first_blocks}
-use Rattle.board_rule.specs.activation.Progress.{progress_of}
+use Rattle.board_rule.specs.working.Progress.{progress_of}
 
 module _ (p : BoardLayout) where
   -- the writer's end of a link is the seat's own, and the reader's end

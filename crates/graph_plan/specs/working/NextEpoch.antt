@@ -10,7 +10,7 @@ use Rattle.pw_base.specs.PlanForms.{kind_at, HasForm}
 use Rattle.port_model.specs.declared.port_state.Node.{Node}
 use Rattle.graph_lines.specs.declared.standing.Standing.{Standing}
 use Rattle.graph_lines.specs.Activity.{standing}
-use Rattle.graph_plan.specs.Remembering.{Stands, KeepsIt}
+use Rattle.graph_plan.specs.working.Remembering.{Stands, KeepsIt}
 
 abbrev pub with_epoch : Plan → Epoch → Plan
 with_epoch plan e = record plan { epochs = plan.epochs ++ e ∷ [] }
@@ -40,6 +40,6 @@ pub record KeepsSinksOn (plan : Plan) (nodes : List Node) (said after : List Sta
     : Type 0 where
   pub still : (port : PortId) (rate channels : ℕ) → kind_at plan port.node ≡ Sink
       → KeepsIt nodes said port rate channels → KeepsIt nodes after port rate channels
-  pub heard : (port : PortId) (rate channels : ℕ) → kind_at plan port.node ≡ Sink
+  pub formed : (port : PortId) (rate channels : ℕ) → kind_at plan port.node ≡ Sink
       → HasForm e port rate channels
       → KeepsIt nodes after port rate channels

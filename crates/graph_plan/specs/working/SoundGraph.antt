@@ -20,10 +20,10 @@ use Rattle.graph_lines.specs.declared.wire.Wire.{Wire}
 use Rattle.graph_lines.specs.Activity.{standing}
 use Rattle.graph_lines.specs.Conditions.{AreWired}
 use Rattle.graph_lines.specs.Forms.{HasKinds}
-use Rattle.graph_plan.specs.Reaching.{IsOrdered}
-use Rattle.graph_plan.specs.SoundWires.{AreSoundWires}
-use Rattle.graph_plan.specs.Summing.{AreSummed}
-use Rattle.graph_plan.specs.Remembering.{IsLike, Remembers, RemembersSinks}
+use Rattle.graph_plan.specs.working.Reaching.{IsOrdered}
+use Rattle.graph_plan.specs.working.SoundWires.{AreSoundWires}
+use Rattle.graph_plan.specs.working.Summing.{AreSummed}
+use Rattle.graph_plan.specs.working.Remembering.{IsLike, Remembers, RemembersSinks}
 
 -- lines have made `count` nodes: they are there, and links and priorities are theirs
 pub record AreMade (count : ℕ) (said : List Standing) (wires : List Wire) : Type 0 where

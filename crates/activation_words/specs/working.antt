@@ -1,0 +1,2 @@
+-- How a late check goes on. Source: this project's own.
+pub mod Checks

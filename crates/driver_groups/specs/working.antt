@@ -1,0 +1,2 @@
+-- Runs of parts by threads of their own. Source: this project's own.
+pub mod Groups
