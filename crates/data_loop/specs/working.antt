@@ -1,4 +1,5 @@
--- How a turn on pools goes on, and what a loop passes on. Source: this project's own.
+-- How a turn on links and on pools goes on, and what a loop passes on. Source: this project's own.
 pub mod Giving
 pub mod PassingOn
+pub mod ReadingInputs
 pub mod Writing

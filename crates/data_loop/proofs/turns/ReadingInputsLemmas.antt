@@ -16,7 +16,7 @@ use Rattle.board_rule.specs.buffers.ReaderSteps.{read_cycle}
 use Rattle.io_areas.specs.Ends.{IsReadUpTo}
 use Rattle.io_areas.specs.InputTurn.{MayReadInput, HasReadInput}
 use Rattle.io_areas.proofs.InputTurnLemmas.{read_even}
-use Rattle.data_loop.specs.turns.ReadingInputs.{MayReadAll, AreRead}
+use Rattle.data_loop.specs.working.ReadingInputs.{MayReadAll, AreRead}
 use Rattle.data_loop.proofs.turns.ListLemmas.{take_cases, early_differs, last_taken, still_taken}
 
 module _ (p : BoardLayout) (v : View) (rs : List ReadView) (hs : List ℕ) where

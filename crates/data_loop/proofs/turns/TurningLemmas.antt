@@ -27,7 +27,7 @@ use Rattle.io_areas.specs.PooledBoard.{IsPooledBoard}
 use Rattle.io_areas.specs.Ends.{IsWrittenUpTo, IsReadUpTo}
 use Rattle.io_areas.specs.FreeBlocks.{FreeBlocks}
 use Rattle.data_loop.specs.turns.Ends.{reads_of, fills_of}
-use Rattle.data_loop.specs.turns.ReadingInputs.{MayReadAll, AreRead}
+use Rattle.data_loop.specs.working.ReadingInputs.{MayReadAll, AreRead}
 use Rattle.data_loop.specs.declared.own_pools.OwnPools.{OwnPools}
 use Rattle.data_loop.specs.OwnPools.{queue_of}
 use Rattle.data_loop.specs.working.Writing.{MayFillAll, AreWritten}

@@ -5,7 +5,7 @@ use Rattle.board_rule.specs.Layout.{layout_of, index_in}
 use Rattle.board_rule.specs.activation.WorkSteps.{IsReadyToFinish}
 use Rattle.activation_words.specs.Calls.{started, HasFinished}
 use Rattle.data_loop.specs.turns.Ends.{reads_of}
-use Rattle.data_loop.specs.turns.ReadingInputs.{AreRead}
+use Rattle.data_loop.specs.working.ReadingInputs.{AreRead}
 use Rattle.data_loop.proofs.DrivingLemmas.{ready, driven, none_read}
 use Rattle.data_loop.proofs.driving.pass_driver.Goals as goal
 

@@ -11,7 +11,7 @@ use Rattle.io_areas.specs.InputTurn.{MayReadInput}
 use Rattle.io_areas.specs.Quanta.{quantum_of}
 use Rattle.data_loop.specs.declared.inputs.Input.{Input}
 use Rattle.data_loop.specs.declared.member.Member.{Member}
-use Rattle.data_loop.specs.turns.ReadingInputs.{MayReadAll, AreRead}
+use Rattle.data_loop.specs.working.ReadingInputs.{MayReadAll, AreRead}
 use Rattle.data_loop.specs.Inputs.{IsZero, IsWide, AreLong, only_link, links_of, first_rows, second_rows}
 use Rattle.data_loop.proofs.turns.ReadingInputsLemmas.{none_read, one_more}
 use Rattle.data_loop.proofs.InputLemmas.{first_comes, second_comes}

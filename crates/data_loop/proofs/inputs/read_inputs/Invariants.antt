@@ -3,7 +3,7 @@ use Rattle.std.specs.Prelude.{All, fold}
 use Rattle.pw_base.specs.Samples.{summed}
 use Rattle.s16_mixer.specs.Ranges.{IsWithin}
 use Rattle.board_rule.specs.Layout.{layout_of}
-use Rattle.data_loop.specs.turns.ReadingInputs.{AreRead}
+use Rattle.data_loop.specs.working.ReadingInputs.{AreRead}
 use Rattle.data_loop.specs.Inputs.{links_of, first_rows, second_rows}
 use Rattle.data_loop.proofs.inputs.read_inputs.Given as goal
 

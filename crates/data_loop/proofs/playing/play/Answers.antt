@@ -12,7 +12,7 @@ use Rattle.data_loop.specs.declared.inputs.Input.{Input}
 use Rattle.data_loop.specs.declared.member.Member.{Member}
 use Rattle.data_loop.specs.declared.rows.Rows.{Rows}
 use Rattle.data_loop.specs.turns.Ends.{reads_of, fills_of}
-use Rattle.data_loop.specs.turns.ReadingInputs.{MayReadAll, AreRead}
+use Rattle.data_loop.specs.working.ReadingInputs.{MayReadAll, AreRead}
 use Rattle.data_loop.specs.working.Writing.{MayFillAll, AreWritten}
 use Rattle.data_loop.specs.Inputs.{links_of, AreLong, IsWide}
 use Rattle.data_loop.specs.working.Giving.{AllPut}
