@@ -27,7 +27,7 @@ use Rattle.data_loop.specs.declared.inputs.Input.{Input}
 use Rattle.data_loop.specs.declared.member.Member.{Member}
 use Rattle.data_loop.specs.turns.Ends.{reads_of}
 use Rattle.data_loop.specs.working.ReadingInputs.{MayReadAll, AreRead}
-use Rattle.data_loop.specs.Inputs.{AreLong, IsWide}
+use Rattle.data_loop.specs.working.Inputs.{AreLong, IsWide}
 use Rattle.data_loop.specs.Gathering.{inputs_of}
 use Rattle.data_loop.specs.Members.{input_width}
 use Rattle.data_loop.proofs.turns.EndsLemmas.{read_by, reads_it, reads_once}

@@ -34,7 +34,7 @@ use Rattle.io_areas.specs.Reading.{stamp_brought, brought_in}
 use Rattle.data_loop.specs.declared.inputs.Input.{Input}
 use Rattle.node_progress.specs.declared.score.Score.{Score}
 use Rattle.node_progress.specs.Standing.{port_at, comes_in, wide_at}
-use Rattle.data_loop.specs.Inputs.{IsZero, row_of, first_rows, second_rows}
+use Rattle.data_loop.specs.working.Inputs.{IsZero, row_of, first_rows, second_rows}
 use Rattle.data_loop.specs.Gathering.{input_from, ReadsInputs}
 use Rattle.data_loop.proofs.turns.EndsLemmas.{of_pool}
 

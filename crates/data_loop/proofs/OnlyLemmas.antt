@@ -10,7 +10,7 @@ use Rattle.board_rule.specs.declared.view.View.{View}
 use Rattle.board_rule.specs.Layout.{BoardLayout}
 use Rattle.io_areas.specs.Reading.{IsClamped}
 use Rattle.data_loop.specs.declared.inputs.Input.{Input}
-use Rattle.data_loop.specs.Inputs.{IsZero, links_of, only_link, row_of, first_rows, second_rows}
+use Rattle.data_loop.specs.working.Inputs.{IsZero, links_of, only_link, row_of, first_rows, second_rows}
 
 not_true : (b : Bool) → not b ≡ true → b ≡ false
 not_true false e = refl

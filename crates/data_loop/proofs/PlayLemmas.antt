@@ -40,7 +40,7 @@ use Rattle.data_loop.specs.turns.Ends.{fills_of}
 use Rattle.node_progress.specs.Standing.{port_at, wide_at}
 use Rattle.node_progress.specs.NodeCycles.{output_channels}
 use Rattle.node_progress.specs.NodeStates.{IsNodeState, IsWorkedIn, IsOutputRow}
-use Rattle.data_loop.specs.Inputs.{AreLong, IsWide}
+use Rattle.data_loop.specs.working.Inputs.{AreLong, IsWide}
 use Rattle.data_loop.specs.Gathering.{input_from, inputs_of, IsBoardOf}
 use Rattle.data_loop.specs.Members.{input_width, is_read, output_width}
 use Rattle.data_loop.proofs.Playable.{IsPoolFor, MayPlay}

@@ -13,7 +13,7 @@ use Rattle.data_loop.specs.declared.member.Member.{Member}
 use Rattle.node_progress.specs.declared.score.Score.{Score}
 use Rattle.node_progress.specs.Standing.{port_at, wide_at}
 use Rattle.node_progress.specs.NodeStates.{IsNodeState, IsWorkedIn, IsOutputRow}
-use Rattle.data_loop.specs.Inputs.{AreLong, IsWide}
+use Rattle.data_loop.specs.working.Inputs.{AreLong, IsWide}
 use Rattle.data_loop.specs.Gathering.{inputs_of, IsBoardOf}
 
 -- a node of the loop, with its links and pools on the board

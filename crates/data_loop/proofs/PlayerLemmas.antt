@@ -16,7 +16,7 @@ use Rattle.data_loop.specs.declared.rows.Rows.{Rows}
 use Rattle.data_loop.specs.turns.Ends.{fills_of}
 use Rattle.data_loop.specs.Gathering.{inputs_of}
 use Rattle.data_loop.specs.Rooms.{HasRowsFor, a_row, b_row, left_row, right_row}
-use Rattle.data_loop.specs.Standings.{IsPlayer}
+use Rattle.data_loop.specs.working.Standings.{IsPlayer}
 use Rattle.data_loop.proofs.Playable.{IsMemberOf, MayPlay}
 use Rattle.data_loop.proofs.PlayLemmas.{may_play, few_inputs}
 

@@ -24,7 +24,7 @@ use Rattle.data_loop.specs.declared.stage.Stage.{Stage}
 use Rattle.data_loop.specs.turns.Turning.{IsEquipped, IsAtRest, MayTurn, HasTurned}
 use Rattle.node_progress.specs.NodeStates.{IsNodeState}
 use Rattle.data_loop.specs.Rooms.{HasRowsFor, IsSameRoom}
-use Rattle.data_loop.specs.Standings.{IsPlayer}
+use Rattle.data_loop.specs.working.Standings.{IsPlayer}
 use Rattle.data_loop.specs.Stages.{IsMemberIn, StandsAt, AreApart, IsStanding}
 use Rattle.data_loop.specs.Fronts.{IsFront}
 use Rattle.data_loop.specs.LoopTurn.{next_in}

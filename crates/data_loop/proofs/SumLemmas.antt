@@ -12,7 +12,7 @@ use Rattle.board_rule.specs.declared.view.View.{View}
 use Rattle.board_rule.specs.declared.view.ReadView.{ReadView}
 use Rattle.board_rule.specs.Layout.{BoardLayout}
 use Rattle.data_loop.specs.declared.inputs.Input.{Input}
-use Rattle.data_loop.specs.Inputs.{IsZero, row_of, first_rows, second_rows}
+use Rattle.data_loop.specs.working.Inputs.{IsZero, row_of, first_rows, second_rows}
 
 pub within_on : (n : ℕ) (xs : List ℤ) → All (IsWithin n) xs → All (IsWithin (n + 1)) xs
 within_on n xs a k d low = let h = a k d low in (omega (arith, ints, h.0), omega (arith, ints, h.1))

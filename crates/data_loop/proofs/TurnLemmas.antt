@@ -22,7 +22,7 @@ use Rattle.board_rule.specs.buffers.BlockSteps.{fill_cycle}
 use Rattle.node_progress.specs.declared.score.Score.{Score}
 use Rattle.data_loop.specs.turns.Ends.{reads_of}
 use Rattle.node_progress.specs.Standing.{Gives}
-use Rattle.data_loop.specs.Inputs.{links_of}
+use Rattle.data_loop.specs.working.Inputs.{links_of}
 use Rattle.data_loop.specs.Gathering.{input_from, inputs_of}
 use Rattle.data_loop.specs.working.Giving.{AllPut}
 use Rattle.data_loop.proofs.Playable.{IsPoolFor}

@@ -1,10 +1,8 @@
 pub mod OwnPools
 pub mod turns
-pub mod Inputs
 pub mod Gathering
 pub mod Members
 pub mod Rooms
-pub mod Standings
 pub mod Stages
 pub mod Tries
 pub mod LoopTurn

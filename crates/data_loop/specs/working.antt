@@ -1,5 +1,7 @@
 -- How a turn on links and on pools goes on, and what a loop passes on. Source: this project's own.
+pub mod Inputs
 pub mod Giving
 pub mod PassingOn
 pub mod ReadingInputs
+pub mod Standings
 pub mod Writing

@@ -4,7 +4,7 @@ ghost use Rattle.pw_base.specs.Limits.{links_limit};
 ghost use Rattle.board_rule.specs.OnBoard.{IsOn, layout};
 ghost use Rattle.io_areas.specs.PooledBoard.{IsPooledBoard};
 ghost use Rattle.data_loop.specs.working.ReadingInputs.{MayReadAll, AreRead};
-ghost use Rattle.data_loop.specs.Inputs.{IsWide, links_of, only_link, AreLong};
+ghost use Rattle.data_loop.specs.working.Inputs.{IsWide, links_of, only_link, AreLong};
 ghost use Rattle.data_loop.specs.Rooms.{HasRowsFor, IsSameRoom, a_row, b_row};
 ghost use Rattle.node_progress.specs.Standing.{comes_in};
 ghost use Rattle.data_loop.specs.Gathering.{ReadsInputs};

@@ -4,7 +4,7 @@ ghost use Rattle.pw_base.specs.Limits.{links_limit};
 ghost use Rattle.pw_base.specs.Samples.{summed};
 ghost use Rattle.board_rule.specs.OnBoard.{IsOn, layout};
 ghost use Rattle.data_loop.specs.working.ReadingInputs.{MayReadAll, AreRead};
-ghost use Rattle.data_loop.specs.Inputs.{IsZero, IsWide, links_of, first_rows, second_rows, AreLong};
+ghost use Rattle.data_loop.specs.working.Inputs.{IsZero, IsWide, links_of, first_rows, second_rows, AreLong};
 
 use board_rule::{Board, BoardSeat};
 use io_areas::read_input;

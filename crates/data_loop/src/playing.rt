@@ -5,7 +5,7 @@ ghost use Rattle.data_loop.specs.turns.Turning.{IsEquipped, MayTurn, HasTurned};
 ghost use Rattle.node_progress.specs.NodeStates.{IsNodeState, MayWork};
 ghost use Rattle.node_progress.specs.Standing.{Gives};
 ghost use Rattle.data_loop.specs.Rooms.{HasRowsFor, IsSameRoom, a_row, b_row, left_row, right_row};
-ghost use Rattle.data_loop.specs.Standings.{IsPlayer};
+ghost use Rattle.data_loop.specs.working.Standings.{IsPlayer};
 
 use crate::gathering::gather;
 use crate::giving::give_all;

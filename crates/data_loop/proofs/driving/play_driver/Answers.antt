@@ -7,7 +7,7 @@ use Rattle.activation_words.specs.Calls.{started, HasFinished}
 use Rattle.data_loop.specs.declared.member.Member.{Member}
 use Rattle.data_loop.specs.turns.Ends.{reads_of}
 use Rattle.data_loop.specs.working.ReadingInputs.{MayReadAll, AreRead}
-use Rattle.data_loop.specs.Inputs.{links_of}
+use Rattle.data_loop.specs.working.Inputs.{links_of}
 use Rattle.data_loop.proofs.TurnLemmas.{links_are}
 use Rattle.data_loop.proofs.PlayLemmas.{board_is}
 use Rattle.node_progress.proofs.StateLemmas.{here}

@@ -12,7 +12,7 @@ use Rattle.io_areas.specs.Quanta.{quantum_of}
 use Rattle.data_loop.specs.declared.inputs.Input.{Input}
 use Rattle.data_loop.specs.declared.member.Member.{Member}
 use Rattle.data_loop.specs.working.ReadingInputs.{MayReadAll, AreRead}
-use Rattle.data_loop.specs.Inputs.{IsZero, IsWide, AreLong, only_link, links_of, first_rows, second_rows}
+use Rattle.data_loop.specs.working.Inputs.{IsZero, IsWide, AreLong, only_link, links_of, first_rows, second_rows}
 use Rattle.data_loop.proofs.turns.ReadingInputsLemmas.{none_read, one_more}
 use Rattle.data_loop.proofs.InputLemmas.{first_comes, second_comes}
 use Rattle.data_loop.proofs.OnlyLemmas.{links_only, all_only, first_only, second_only, zeros_summed, silence_clamped}

@@ -8,7 +8,7 @@ use Rattle.board_rule.specs.Layout.{BoardLayout, layout_of}
 use Rattle.io_areas.specs.InputTurn.{MayReadInput, HasReadInput}
 use Rattle.data_loop.proofs.turns.ReadingInputsLemmas.{may_read, one_more}
 use Rattle.data_loop.specs.declared.inputs.Input.{Input}
-use Rattle.data_loop.specs.Inputs.{links_of, row_of, first_rows, second_rows}
+use Rattle.data_loop.specs.working.Inputs.{links_of, row_of, first_rows, second_rows}
 use Rattle.data_loop.proofs.SumLemmas.{room_left, within_on, fold_more, row_same, first_on, first_off, second_on, second_off}
 use Rattle.data_loop.proofs.inputs.read_inputs.Goals as goal
 use Rattle.data_loop.proofs.inputs.read_inputs.Goals.{then-inputs-k, else-inputs-k}

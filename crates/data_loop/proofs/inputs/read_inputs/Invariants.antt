@@ -4,7 +4,7 @@ use Rattle.pw_base.specs.Samples.{summed}
 use Rattle.s16_mixer.specs.Ranges.{IsWithin}
 use Rattle.board_rule.specs.Layout.{layout_of}
 use Rattle.data_loop.specs.working.ReadingInputs.{AreRead}
-use Rattle.data_loop.specs.Inputs.{links_of, first_rows, second_rows}
+use Rattle.data_loop.specs.working.Inputs.{links_of, first_rows, second_rows}
 use Rattle.data_loop.proofs.inputs.read_inputs.Given as goal
 
 abbrev pub invariant-loop-k : goal.invariant-loop-k

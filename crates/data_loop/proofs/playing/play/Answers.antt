@@ -14,7 +14,7 @@ use Rattle.data_loop.specs.declared.rows.Rows.{Rows}
 use Rattle.data_loop.specs.turns.Ends.{reads_of, fills_of}
 use Rattle.data_loop.specs.working.ReadingInputs.{MayReadAll, AreRead}
 use Rattle.data_loop.specs.working.Writing.{MayFillAll, AreWritten}
-use Rattle.data_loop.specs.Inputs.{links_of, AreLong, IsWide}
+use Rattle.data_loop.specs.working.Inputs.{links_of, AreLong, IsWide}
 use Rattle.data_loop.specs.working.Giving.{AllPut}
 use Rattle.data_loop.specs.Rooms.{left_row, right_row}
 use Rattle.data_loop.proofs.turns.EndsLemmas.{filled_by}

@@ -10,7 +10,7 @@ use Rattle.data_loop.specs.declared.member.Member.{Member}
 use Rattle.data_loop.specs.declared.stage.Stage.{Stage}
 use Rattle.data_loop.specs.turns.Turning.{MayTurn, HasTurned}
 use Rattle.node_progress.specs.NodeStates.{IsNodeState}
-use Rattle.data_loop.specs.Standings.{IsPlayer}
+use Rattle.data_loop.specs.working.Standings.{IsPlayer}
 use Rattle.data_loop.specs.Tries.{no_member, member_at, HasTried}
 use Rattle.data_loop.specs.declared.tried.Tried.TheVariants.{NotYet}
 use Rattle.data_loop.proofs.StageLemmas.{may_turn, player, turned_before, turned_stands, tried_stands}
