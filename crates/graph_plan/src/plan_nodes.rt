@@ -8,39 +8,9 @@ ghost use Rattle.graph_lines.specs.Forms.{HasKinds};
 ghost use Rattle.graph_plan.specs.PlanOf.{IsEndOf, IsNodeOf};
 
 use graph_lines::{Graph, form_in};
+use port_model::copy_kind;
 use pw_base::{Items, Kind, Memory, PlanNode, PortId, Text};
 use std::alloc::Global;
-
-// An equal kind.
-fn copy_kind(alloc: Global, kind: &Kind) -> Result<Kind, Memory>
-    ensures { IfOk result (λ copied. copied ≡ kind.now) }
-{
-    Ok(match kind {
-        Kind::Source => Kind::Source,
-        Kind::Square {
-            rate,
-            channels,
-            period,
-            amp,
-        } => Kind::Square {
-            rate: *rate,
-            channels: *channels,
-            period: *period,
-            amp: *amp,
-        },
-        Kind::Gain { g } => Kind::Gain { g: *g },
-        Kind::Mix2 { ga, gb } => Kind::Mix2 { ga: *ga, gb: *gb },
-        Kind::Delay { frames } => Kind::Delay { frames: *frames },
-        Kind::Map { channels, list } => Kind::Map {
-            channels: *channels,
-            list: list.copy(alloc)?,
-        },
-        Kind::Split => Kind::Split,
-        Kind::Sink => Kind::Sink,
-        Kind::Meter => Kind::Meter,
-        Kind::Dummy => Kind::Dummy,
-    })
-}
 
 /// An equal node of a plan.
 pub fn copy_node(alloc: Global, node: &PlanNode) -> Result<PlanNode, Memory>

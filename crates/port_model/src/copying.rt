@@ -7,7 +7,7 @@ use format_filter::Format;
 use pw_base::{Items, Kind, Memory};
 use std::alloc::Global;
 
-/// An equal kind.
+/// An equal kind. Takes memory for the list of a `map`.
 pub fn copy_kind(alloc: Global, kind: &Kind) -> Result<Kind, Memory>
     ensures { IfOk result (λ copied. copied ≡ kind.now) }
 {
