@@ -2,6 +2,7 @@
 ghost use Rattle.std.specs.Prelude.{◌≡◌, ℕ, ◌<◌, ◌≤◌, IfOk, All};
 ghost use Rattle.pw_base.specs.Files.{IsStored};
 ghost use Rattle.pw_base.specs.Causes.{HasCause};
+ghost use Rattle.wav_files.specs.WavWriting.{IsWave, wav_bytes};
 ghost use Rattle.pw_top.specs.working.Ending.{CanBeWritten, IsStorable};
 ghost use Rattle.pw_top.specs.Following.{bytes_of};
 ghost use Rattle.pw_top.specs.working.Delivery.{StoresDone, TextDone, LineEnds, CanBeDelivered, Delivered};
@@ -11,22 +12,19 @@ use crate::status_line::{is_lined, status_line};
 use crate::work::{Content, Store, Work};
 use pw_base::{FileFail, Files, Items, Memory, Sink, Text};
 use std::alloc::Global;
-use wav_files::write_wav;
+use wav_files::{Wav, write_wav};
 
 const PIECE: usize = 4096;
 
 // The bytes of a wave that is to be stored.
-fn written(alloc: Global, content: &Content) -> Result<Items<u8>, Memory>
-    requires { CanBeWritten content.now }
-    ensures { IfOk result (λ bytes. bytes ≡ bytes_of content.now) }
+fn written(alloc: Global, wav: &Wav) -> Result<Items<u8>, Memory>
+    requires { IsWave wav.now }
+    ensures { IfOk result (λ bytes. bytes ≡ wav_bytes wav.now) }
 {
     let mut bytes = Items::new(alloc);
-    match content {
-        Content::Bytes(whole) => whole.copy(alloc),
-        Content::Wave(wav) => match write_wav(alloc, wav, &mut bytes) {
-            Ok(()) => Ok(bytes),
-            Err(memory) => Err(memory),
-        },
+    match write_wav(alloc, wav, &mut bytes) {
+        Ok(()) => Ok(bytes),
+        Err(memory) => Err(memory),
     }
 }
 
@@ -46,7 +44,7 @@ fn store_one<F: Files>(
 {
     match content {
         Content::Bytes(whole) => files.store(alloc, name, whole.as_slice()),
-        Content::Wave(_) => match written(alloc, content) {
+        Content::Wave(wav) => match written(alloc, wav) {
             Ok(bytes) => files.store(alloc, name, bytes.as_slice()),
             Err(_memory) => Err(FileFail::Memory),
         },
