@@ -1,11 +1,10 @@
 -- No node is in two parts.
-use Rattle.std.proofs.Common.{◌≡◌, ℕ, zero, suc, ◌<◌, ◌≤◌, List, [], ◌∷◌, length, get_or, Some, arith}
+use Rattle.std.proofs.Common.{◌≡◌, ℕ, zero, suc, ◌<◌, List, [], ◌∷◌, length, get_or, Some, arith}
 use Rattle.std.specs.Prelude.{AllPairs, Contains, slice_get}
 use Rattle.std.proofs.lemmas.Option.{same_Some, none-some}
 use Rattle.std.proofs.lemmas.List.Kept.{AllPairs-from_increasing}
 use Rattle.graph_lines.specs.declared.wire.Wire.{Wire}
-use Rattle.graph_lines.specs.Activity.{AreJoined}
-use Rattle.graph_plan.specs.Parts.{IsPartOf, AreParts}
+use Rattle.graph_plan.specs.Parts.{AreParts}
 use Rattle.graph_plan.proofs.ListLemmas.{contains_at}
 use Rattle.graph_plan.proofs.WalkLemmas.{joined_on, joined_back}
 

@@ -1,10 +1,9 @@
 -- The lines of all parts join outputs to inputs, as those of one plan do.
-use Rattle.std.proofs.Common.{◌≡◌, inl, inr, ℕ, ◌-◌, Bool, true, false, cond, List, [], ◌∷◌, ◌++◌, length, Option, Some, None, refl, sym, subst}
-use Rattle.std.specs.Prelude.{All, Result, Ok, Err, IfOk, find, slice_get, option_to_list}
+use Rattle.std.proofs.Common.{◌≡◌, inl, inr, ℕ, ◌-◌, Bool, true, false, cond, List, [], ◌∷◌, length, Option, Some, None, refl, sym, subst}
+use Rattle.std.specs.Prelude.{All, Ok, find, slice_get, option_to_list}
 use Rattle.std.specs.Option.{option_map_or}
 use Rattle.std.proofs.lemmas.List.Elements.{All-nil, All-cons, All-head, All-tail, All-append, All-weaker}
 use Rattle.pw_base.specs.declared.kind.Kind.{Kind}
-use Rattle.pw_base.specs.declared.limit.Which.{Which}
 use Rattle.pw_base.specs.declared.parts.Parts.{Parts}
 use Rattle.pw_base.specs.declared.plan.LinkLine.{LinkLine}
 use Rattle.wav_files.specs.declared.wav.WavIn.{WavIn}
@@ -18,15 +17,13 @@ use Rattle.graph_script.specs.Ranges.{HasRanges}
 use Rattle.port_model.specs.declared.port_state.Node.{Node}
 use Rattle.port_model.proofs.NodeLemmas.{at_place}
 use Rattle.graph_lines.specs.declared.graph.Graph.{Graph}
-use Rattle.graph_lines.specs.Start.{kinds_of, IsStart}
-use Rattle.graph_plan.specs.declared.fault.PlanFault.{PlanFault}
-use Rattle.graph_plan.specs.declared.fault.PlanFault.TheVariants as F
+use Rattle.graph_lines.specs.Start.{kinds_of}
 use Rattle.graph_plan.specs.declared.member.Member.{Member}
 use Rattle.graph_plan.specs.declared.together.Together.{Together}
 use Rattle.graph_plan.specs.Conditions.{AreScriptPorts}
-use Rattle.graph_plan.specs.Parted.{begun, IsBegun, IsPartsAnswer, IsParted}
+use Rattle.graph_plan.specs.Parted.{IsParted}
 use Rattle.graph_plan.specs.working.SoundGraph.{IsSoundGraph, IsJoining}
-use Rattle.graph_plan.specs.Together.{has_both, last_line, said_last, noted, GoesOn, FollowTogether}
+use Rattle.graph_plan.specs.Together.{has_both, last_line, noted, FollowTogether}
 use Rattle.graph_plan.proofs.PartsOneLemmas.{IsSoundMember, IsSoundTogether, goes_sound, begun_sound}
 use Rattle.graph_plan.proofs.ScriptLemmas.{lines_are}
 use Rattle.graph_plan.proofs.StartLemmas.{first_sound}

@@ -1,6 +1,6 @@
 -- In the plan of a part, a sink or meter outside of it ends without a format: no line of the part names it.
-use Rattle.std.proofs.Common.{◌≡◌, ◌≢◌, ◌⊎◌, inl, inr, ℕ, zero, suc, Bool, true, false, cond, List, [], ◌∷◌, ◌||◌, length, get_or, Option, Some, None, refl, sym, ap, ◌∙◌, subst}
-use Rattle.std.specs.Prelude.{slice_get, All, IsSome, Result, Ok, Err}
+use Rattle.std.proofs.Common.{◌≡◌, ◌≢◌, inl, inr, ℕ, zero, suc, Bool, true, false, cond, List, [], ◌∷◌, ◌||◌, get_or, Option, Some, None, refl, sym, ap, ◌∙◌, subst}
+use Rattle.std.specs.Prelude.{slice_get, All, IsSome, Ok}
 use Rattle.std.specs.List.{list_all}
 use Rattle.std.specs.Option.{is_some}
 use Rattle.std.proofs.lemmas.Bool.{both_ways, and_parts}
@@ -37,7 +37,7 @@ use Rattle.graph_lines.specs.declared.graph.Stepped.TheVariants as T
 use Rattle.graph_lines.specs.EpochLines.{RunsFor, Steps}
 use Rattle.graph_lines.specs.Forms.{IsFormOfPort}
 use Rattle.graph_lines.specs.Lines.{Marks}
-use Rattle.graph_lines.specs.Start.{kinds_of, IsStart}
+use Rattle.graph_lines.specs.Start.{kinds_of}
 use Rattle.graph_plan.specs.Conditions.{AreScriptPorts}
 use Rattle.graph_plan.specs.Following.{Follows}
 use Rattle.graph_plan.specs.PartLines.{named_by, is_line_of, part_lines, part_script}

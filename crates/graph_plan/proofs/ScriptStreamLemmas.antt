@@ -1,9 +1,8 @@
 -- The streams of a plan are those of its script: a node that an epoch names for its channels alone has received nothing since it gave up last.
-use Rattle.std.proofs.Common.{◌≡◌, ◌⊎◌, inl, inr, ℕ, zero, suc, ◌+◌, ◌*◌, ◌<◌, ◌≤◌, ◌==◌, ◌&&◌, ◌||◌, nat_le, Bool, true, false, List, [], ◌∷◌, ◌++◌, length, get_or}
+use Rattle.std.proofs.Common.{◌≡◌, ◌⊎◌, inl, inr, ℕ, zero, suc, ◌+◌, ◌<◌, ◌≤◌, ◌==◌, ◌&&◌, ◌||◌, nat_le, Bool, true, false, List, [], ◌∷◌, ◌++◌, length, get_or}
 use Rattle.std.proofs.Common.{refl, sym, ap, ◌∙◌, subst, arith, sum_by}
-use Rattle.std.specs.Prelude.{Contains, slice_get, Some, Ok, fold, if◌then◌else◌}
-use Rattle.std.specs.List.{list_any}
-use Rattle.std.proofs.lemmas.Bool.{cases_eq, cases_lt, cases_Bool, both_ways, and_parts, and_from, and_right, eq-eqb, eqb-true, leb-true, le-leb, false_from_ne_true}
+use Rattle.std.specs.Prelude.{Contains, slice_get, Some, Ok, if◌then◌else◌}
+use Rattle.std.proofs.lemmas.Bool.{cases_eq, cases_lt, both_ways, and_parts, and_from, and_right, eq-eqb, eqb-true, leb-true, le-leb}
 use Rattle.std.proofs.lemmas.Option.{slice_get_within}
 use Rattle.std.proofs.lemmas.List.Folds.{Any-from_list_any}
 use Rattle.std.proofs.lemmas.List.Sums.{fold-append, sum_by-cons}
@@ -14,7 +13,6 @@ use Rattle.pw_base.specs.declared.plan.Fresh.{Fresh}
 use Rattle.pw_base.specs.declared.plan.Plan.{Plan}
 use Rattle.pw_base.specs.KindPorts.{input_count}
 use Rattle.pw_base.specs.PlanForms.{kind_at, HasForm}
-use Rattle.pw_base.specs.PlanFresh.{Names}
 use Rattle.wav_files.specs.declared.wav.WavIn.{WavIn}
 use Rattle.cycle_model.specs.Epochs.{is_fresh, stream_start}
 use Rattle.graph_script.specs.declared.command.Command.{Command}
@@ -30,7 +28,7 @@ use Rattle.graph_lines.specs.Fresh.{ChannelsIn}
 use Rattle.graph_lines.specs.EpochLines.{IsAfter, RunsFor, Steps}
 use Rattle.graph_lines.specs.Lines.{Does}
 use Rattle.graph_plan.specs.Following.{Follows}
-use Rattle.graph_plan.specs.working.NextEpoch.{Changes, IsNext}
+use Rattle.graph_plan.specs.working.NextEpoch.{IsNext}
 use Rattle.graph_plan.specs.working.Remembering.{IsLike}
 use Rattle.graph_plan.specs.ScriptStreams.{gives_up, begins_after, LeadsTo}
 use Rattle.graph_plan.specs.working.SoundGraph.{IsPast, IsSoundGraph}

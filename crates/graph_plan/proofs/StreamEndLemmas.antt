@@ -1,11 +1,11 @@
 -- The streams of a plan are those of its script, for every plan of a script.
-use Rattle.std.proofs.Common.{◌≡◌, ◌⊎◌, inl, inr, ℕ, zero, suc, ◌+◌, ◌-◌, ◌*◌, ◌<◌, ◌≤◌, ◌==◌, ◌&&◌, nat_le, nat_lt, Bool, true, false, cond, List, [], ◌∷◌, ◌++◌}
+use Rattle.std.proofs.Common.{◌≡◌, inl, inr, ℕ, zero, suc, ◌+◌, ◌-◌, ◌*◌, ◌<◌, ◌≤◌, ◌==◌, nat_le, nat_lt, Bool, true, false, cond, List, [], ◌∷◌, ◌++◌}
 use Rattle.std.proofs.Common.{length, get_or, map, find, filter, Option, Some, None, refl, sym, ap, ap₂, ◌∙◌, subst, arith, sum_by, ℤ}
 use Rattle.std.specs.Prelude.{Contains, All, slice_get, Result, Ok, Err, IfOk, option_map, unwrap_or, fold, flat_map}
 use Rattle.std.specs.List.{range_with_len}
-use Rattle.std.proofs.lemmas.Bool.{cases_eq, cases_lt, cases_Bool, both_ways, and_parts, and_from, eqb-true, leb-true, ltb-true, false_from_ne_true}
+use Rattle.std.proofs.lemmas.Bool.{cases_eq, cases_lt, and_parts, eqb-true, leb-true, ltb-true, false_from_ne_true}
 use Rattle.std.proofs.lemmas.Grind.{flat_map-append}
-use Rattle.std.proofs.lemmas.Option.{slice_get-get_or, same_Some, none-some}
+use Rattle.std.proofs.lemmas.Option.{slice_get-get_or, none-some}
 use Rattle.std.proofs.lemmas.List.Elements.{filter-append}
 use Rattle.pw_base.specs.declared.ids.PortId.{PortId}
 use Rattle.pw_base.specs.declared.kind.Kind.{Kind}
@@ -17,13 +17,13 @@ use Rattle.pw_base.specs.declared.shape.ShapeLink.{ShapeLink}
 use Rattle.pw_base.specs.Dependencies.{nodes_of}
 use Rattle.pw_base.specs.KindPorts.{input_count, port_count}
 use Rattle.pw_base.specs.KindRanges.{IsSinkOrMeter}
-use Rattle.pw_base.specs.PlanForms.{kind_at, HasForm, IsSoundForm, IsFormed, HasSoundForms}
+use Rattle.pw_base.specs.PlanForms.{kind_at, HasForm, IsSoundForm}
 use Rattle.pw_base.specs.Pools.{is_same_port}
 use Rattle.pw_base.specs.Samples.{clamped, silence, summed}
 use Rattle.pw_base.specs.SoundPlan.{IsSoundEpoch, IsSoundPlan}
 use Rattle.wav_files.specs.declared.wav.WavIn.{WavIn}
 use Rattle.cycle_model.specs.Cycle.{Outputs, brought, input_of, stream_of}
-use Rattle.cycle_model.specs.Epochs.{is_within, epoch_at, listed, links_at, forms_at, links_into, channels_of, channels_at, is_active, active_cycles, stream_start, all_cycles}
+use Rattle.cycle_model.specs.Epochs.{is_within, epoch_at, listed, links_into, channels_of, channels_at, is_active, stream_start, all_cycles}
 use Rattle.cycle_model.proofs.EpochLemmas.{found}
 use Rattle.cycle_model.proofs.KeptLemmas.{range_split}
 use Rattle.cycle_model.proofs.ProgressLemmas.{start_le}
@@ -42,9 +42,9 @@ use Rattle.graph_plan.specs.Following.{Follows}
 use Rattle.graph_plan.specs.PlanOf.{IsPlanOf}
 use Rattle.graph_plan.specs.Planned.{IsPlanned}
 use Rattle.graph_plan.specs.ScriptStreams.{stream_from, IsOfScript, HasScriptStreams}
-use Rattle.graph_plan.proofs.ListLemmas.{all_of, contains_at}
+use Rattle.graph_plan.proofs.ListLemmas.{contains_at}
 use Rattle.graph_plan.proofs.ScriptLemmas.{first, good, ends, is_sound, kind_is}
-use Rattle.graph_plan.proofs.ScriptStreamLemmas.{start_in, Pends, Settles, Knows, KnowsOf, EndsKnown, follows_leads, follows_known, epoch_total}
+use Rattle.graph_plan.proofs.ScriptStreamLemmas.{start_in, Settles, KnowsOf, EndsKnown, follows_leads, follows_known, epoch_total}
 use Rattle.graph_plan.proofs.StartLemmas.{first_is}
 use Rattle.graph_plan.proofs.StepLemmas.{EndsSound}
 

@@ -1,7 +1,7 @@
 -- What the loops of a run keep of a plan's nodes.
-use Rattle.std.proofs.Common.{◌≡◌, ◌≢◌, ℕ, ℤ, suc, ◌+◌, ◌<◌, ◌≤◌, ◌==◌, true, List, Some, length, get_or, set, slice_get, refl, sym, ap, ◌∙◌, subst, arith, ⊎_elim}
+use Rattle.std.proofs.Common.{◌≡◌, ℕ, ℤ, suc, ◌+◌, ◌<◌, ◌≤◌, true, List, Some, length, get_or, set, refl, sym, ap, ◌∙◌, subst, arith, ⊎_elim}
 use Rattle.std.proofs.Common.{length-set, get_or-set_same, get_or-set_other, nat_lt, cond, None, ◌&&◌}
-use Rattle.std.specs.Prelude.{All, Contains}
+use Rattle.std.specs.Prelude.{Contains}
 use Rattle.std.proofs.lemmas.Bool.{cases_lt, cases_eq, lt-ltb}
 use Rattle.std.proofs.lemmas.List.{get_or_default}
 use Rattle.std.proofs.lemmas.List.Elements.{All-set}
@@ -13,9 +13,9 @@ use Rattle.wav_files.specs.declared.wav.WavIn.{WavIn}
 use Rattle.cycle_model.specs.Rendering.{end_stream, kept_of}
 use Rattle.data_loop.specs.declared.loop_state.LoopState.{LoopState}
 use Rattle.data_loop.specs.Loops.{IsLoop, plan_of}
-use Rattle.data_loop.specs.LoopKept.{IsDone, IsDoneWith, HasTaken}
+use Rattle.data_loop.specs.LoopKept.{IsDoneWith, HasTaken}
 use Rattle.data_loop.proofs.KeptLemmas.{all_done}
-use Rattle.graph_run.specs.Outcomes.{HasNodeAt, HaveAll, IsDoneOf, AreDone, AreLeftFrom}
+use Rattle.graph_run.specs.Outcomes.{HasNodeAt, HaveAll, AreDone, AreLeftFrom}
 
 -- no loop up to one more has the node
 pub none_more : (loops : List LoopState) (n i : ℕ) (x : LoopState) → x ≡ get_or loops i x → i < length loops

@@ -1,6 +1,5 @@
 -- A run of a plan from its parts: boards, drivers' seats before and after it, and the closed boards.
 use Rattle.std.proofs.Common.{◌≡◌, ℕ, suc, cond, Bool, ◌+◌, ◌<◌, List, [], ◌∷◌, length, map, get_or, refl, sym, ap, ◌∙◌, subst, arith, Some, slice_get}
-use Rattle.std.specs.Prelude.{sum_by}
 use Rattle.std.specs.List.{AllZip, enumerate_from, range_with_len}
 use Rattle.std.proofs.lemmas.Bool.{ne_eqb}
 use Rattle.std.proofs.lemmas.Simd.{map-map}

@@ -1,6 +1,6 @@
 -- A run's stages: what is prepared for one thread, what has ended, and what is answered.
-use Rattle.std.proofs.Common.{◌≡◌, ℕ, ◌+◌, ◌<◌, List, [], ◌∷◌, ◌++◌, length, map, get_or, refl, sym, ap, ◌∙◌, subst, arith, ⊎_elim}
-use Rattle.std.specs.Prelude.{All, Contains, sum, sum_by, count_by}
+use Rattle.std.proofs.Common.{◌≡◌, ℕ, ◌<◌, List, [], ◌∷◌, length, map, refl, sym, ap, ◌∙◌, subst, arith, ⊎_elim}
+use Rattle.std.specs.Prelude.{Contains, sum, sum_by, count_by}
 use Rattle.std.specs.List.{flat_map}
 use Rattle.std.proofs.lemmas.List.{length-map}
 use Rattle.std.proofs.lemmas.List.Elements.{All-cons, All-nil}
@@ -33,7 +33,7 @@ use Rattle.graph_run.specs.PlanRun.{IsRunOf}
 use Rattle.graph_run.specs.working.Prepared.{IsPrepared}
 use Rattle.graph_run.specs.Rooms.{AreRooms}
 use Rattle.graph_run.specs.RunStages.{IsAloneRun, CanRunAlone, IsEndedRun, HasBoardsBy, HasRunAlone, run_plan_of, run_waves_of}
-use Rattle.graph_run.specs.Threads.{CanDrive, HasRun, HasNode}
+use Rattle.graph_run.specs.Threads.{HasRun, HasNode}
 use Rattle.graph_run.proofs.PlanRunLemmas.{shapes_are, have_ended, expects, no_checks}
 use Rattle.graph_run.proofs.ThreadLemmas.{done_with}
 

@@ -1,4 +1,4 @@
-use Rattle.std.proofs.Common.{◌∙◌, ◌∷◌, ◌++◌, [], sym, ap}
+use Rattle.std.proofs.Common.{◌∙◌, ◌∷◌, ◌++◌, [], ap}
 use Rattle.graph_run.proofs.RunStagesLemmas.{has_run_alone}
 use Rattle.graph_run.proofs.alone.run_alone.Goals as goal
 

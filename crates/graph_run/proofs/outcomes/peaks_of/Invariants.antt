@@ -1,8 +1,8 @@
-use Rattle.std.proofs.Common.{◌≡◌, ◌≤◌, ◌+◌, ℕ, List, length, take, filter_map}
+use Rattle.std.proofs.Common.{◌≡◌, ◌≤◌, ◌+◌, List, length, take, filter_map}
 use Rattle.std.specs.List.{enumerate_from}
 use Rattle.wav_files.specs.declared.wav.WavIn.{WavIn}
 use Rattle.cycle_model.specs.Rendering.{peak_at}
-use Rattle.graph_run.specs.Outcomes.{HaveAll, AreDone}
+use Rattle.graph_run.specs.Outcomes.{AreDone}
 use Rattle.graph_run.proofs.outcomes.peaks_of.Given as goal
 
 abbrev pub invariant-loop-place : goal.invariant-loop-place

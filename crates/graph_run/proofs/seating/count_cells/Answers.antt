@@ -1,4 +1,4 @@
-use Rattle.std.proofs.Common.{◌<◌, ◌+◌, ◌≡◌, ◌∙◌, length, sym, ap, arith}
+use Rattle.std.proofs.Common.{◌<◌, ◌+◌, ◌∙◌, length, sym, ap, arith}
 use Rattle.graph_run.proofs.SeatingLemmas.{one_cell_more, no_cell_more}
 use Rattle.graph_run.proofs.seating.count_cells.Goals as goal
 use Rattle.graph_run.proofs.seating.count_cells.Goals.{then-not-drives_somewhere, else-not-drives_somewhere}
