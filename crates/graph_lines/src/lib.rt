@@ -8,7 +8,6 @@
 //!
 //! The pieces of an epoch stand beside: `driver_of` and `active_nodes` by live links, `counted` for
 //! required counts and target lists, `form_in`, and `drain_cycles` for the cycles of a drain.
-//! `kind_made` is the kind of a new node.
 #![tactic(auto)]
 
 mod commands;
@@ -19,7 +18,6 @@ mod epochs;
 mod forms;
 mod fresh;
 mod graph;
-mod kinds;
 mod limits;
 mod linking;
 mod rehearsing;
@@ -35,7 +33,6 @@ mod wire;
 pub use draining::drain_cycles;
 pub use forms::form_in;
 pub use graph::{Graph, Stepped};
-pub use kinds::kind_made;
 pub use limits::{Sums, judge};
 pub use shaping::{Candidate, active_nodes, bare_nodes, counted, driver_of, live_wires};
 pub use standing::Standing;

@@ -6,10 +6,9 @@ ghost use Rattle.graph_lines.specs.Ready.{IsReady, HasRan};
 ghost use Rattle.graph_lines.specs.Start.{quantum_of, kinds_of, newcomer, MayStart, IsStart};
 
 use crate::graph::Graph;
-use crate::kinds::kind_made;
 use crate::limits::Sums;
 use crate::standing::Standing;
-use graph_script::{Command, Line};
+use graph_script::{Command, Line, kind_made};
 use link_negotiation::Links;
 use port_model::Ports;
 use pw_base::{Items, Kind, Memory};

@@ -7,6 +7,7 @@ mod command_text;
 mod fault;
 mod file_nodes;
 mod graph_commands;
+mod kinds;
 mod lexing;
 mod limits;
 mod lines;
@@ -32,6 +33,7 @@ mod word_text;
 
 pub use command::Command;
 pub use fault::{ScriptFault, ScriptWhy};
+pub use kinds::kind_made;
 pub use lexing::next_word;
 pub use numbers::number_within;
 pub use parsing::parse;

@@ -1,52 +1,18 @@
 //! A whole script as text.
-ghost use Rattle.std.specs.Prelude.{◌≡◌, ◌≤◌, ◌++◌, Ok, List, ℕ, length, option_map, IfOk, OnOk};
+ghost use Rattle.std.specs.Prelude.{◌≡◌, ◌≤◌, ◌++◌, Ok, List, ℕ, length, IfOk, OnOk};
 ghost use Rattle.graph_script.specs.Grammar.{script_of};
-ghost use Rattle.graph_script.specs.Kinds.{made_by, HasPorts};
+ghost use Rattle.graph_script.specs.Kinds.{HasPorts};
 ghost use Rattle.graph_script.specs.Printing.{line_text, text_from, text_of_script, kinds_of};
 ghost use Rattle.graph_script.specs.Printable.{IsParsed, AreFrom, AreWritable};
 ghost use Rattle.graph_script.specs.Ranges.{HasNodes};
 
 use crate::command::Command;
 use crate::command_text::put_args;
+use crate::kinds::kind_made;
 use crate::script::{Line, Script};
 use crate::text::{name_of, name_word};
 use pw_base::{Items, Kind, Memory, Text};
 use std::alloc::Global;
-
-// The kind of the node that a command makes.
-fn made_kind(alloc: Global, command: &Command) -> Result<Option<Kind>, Memory>
-    ensures { IfOk result (λ kind. kind ≡ option_map (λ m. m.1) (made_by command.now)) }
-{
-    match command {
-        Command::Source { .. } => Ok(Some(Kind::Source)),
-        Command::Square {
-            rate,
-            channels,
-            period,
-            amp,
-            ..
-        } => Ok(Some(Kind::Square {
-            rate: *rate,
-            channels: *channels,
-            period: *period,
-            amp: *amp,
-        })),
-        Command::Gain { g, .. } => Ok(Some(Kind::Gain { g: *g })),
-        Command::Mix2 { ga, gb, .. } => Ok(Some(Kind::Mix2 { ga: *ga, gb: *gb })),
-        Command::Delay { frames, .. } => Ok(Some(Kind::Delay { frames: *frames })),
-        Command::Map { channels, list, .. } => match list.copy(alloc) {
-            Err(memory) => Err(memory),
-            Ok(list) => Ok(Some(Kind::Map {
-                channels: *channels,
-                list,
-            })),
-        },
-        Command::Split { .. } => Ok(Some(Kind::Split)),
-        Command::Sink { .. } => Ok(Some(Kind::Sink)),
-        Command::Meter { .. } => Ok(Some(Kind::Meter)),
-        _ => Ok(None),
-    }
-}
 
 // The kinds of the nodes that lines make.
 fn kinds_of(alloc: Global, lines: &[Line]) -> Result<Items<Kind>, Memory>
@@ -58,7 +24,7 @@ fn kinds_of(alloc: Global, lines: &[Line]) -> Result<Items<Kind>, Memory>
         match rest {
             [] => return Ok(kinds),
             [line, more @ ..] => {
-                match made_kind(alloc, &line.command) {
+                match kind_made(alloc, &line.command) {
                     Err(memory) => return Err(memory),
                     Ok(None) => {}
                     Ok(Some(kind)) => kinds.push(kind)?,

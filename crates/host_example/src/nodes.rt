@@ -10,8 +10,7 @@ ghost use Rattle.host_example.specs.Nodes.{kind_by, with_source, with_plain, Has
 ghost use Rattle.host_example.specs.Nodes.{AreAfter, AreNodesOf};
 ghost use Rattle.host_example.specs.Voices.{mono, samples_at, AreVoices};
 
-use graph_lines::kind_made;
-use graph_script::{Command, Line, Script};
+use graph_script::{Command, Line, Script, kind_made};
 use port_model::Ports;
 use pw_base::{Items, Kind, Memory};
 use std::alloc::Global;

@@ -9,8 +9,7 @@ ghost use Rattle.plan_tests.specs.PlanInputs.{kind_by, with_source, with_plain, 
 ghost use Rattle.plan_tests.specs.PlanInputs.{AreInputsAfter, AreInputsOf};
 
 use crate::silence::{Silence, wave_of};
-use graph_lines::kind_made;
-use graph_script::{Command, Line};
+use graph_script::{Command, Line, kind_made};
 use port_model::Ports;
 use pw_base::{Items, Kind, Memory};
 use std::alloc::Global;

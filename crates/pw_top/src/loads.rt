@@ -25,8 +25,7 @@ use crate::pod_file::POD_BYTES;
 use crate::status::{PodWhy, Status};
 use crate::wave_file::wave_step;
 use format_filter::Format;
-use graph_lines::kind_made;
-use graph_script::{Command, Line};
+use graph_script::{Command, Line, kind_made};
 use port_model::Narrowed;
 use pw_base::{
     ALL_WAV_BYTES_LIMIT, Files, Items, Kind, Memory, PortId, Text, WAV_BYTES_LIMIT, Which,

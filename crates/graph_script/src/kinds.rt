@@ -2,7 +2,7 @@
 ghost use Rattle.std.specs.Prelude.{◌≡◌, option_map, IfOk};
 ghost use Rattle.graph_script.specs.Kinds.{made_by};
 
-use graph_script::Command;
+use crate::command::Command;
 use pw_base::{Kind, Memory};
 use std::alloc::Global;
 
