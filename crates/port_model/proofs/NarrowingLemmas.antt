@@ -1,4 +1,4 @@
--- A narrowed offer has a rate and channels that the kind may have.
+-- A narrowed offer has a rate and channels that the kind may have, and keeps each single value.
 use Rattle.std.proofs.Common.{◌≡◌, ℕ, zero, suc, ◌<◌, List, [], ◌∷◌, length, get_or, Option, Some, None, refl, sym, ap, ◌∙◌}
 use Rattle.std.proofs.Common.{subst, arith}
 use Rattle.std.specs.List.{Contains}
@@ -67,22 +67,27 @@ only_meets v b (Enum pick alts) h =
 only_meets v b (Range wide pick min max) h = absurd h.form.2
 only_meets v b (Step wide pick min max step) h = absurd h.form.2
 
--- so one value of an own offer stays
+-- so the value of an own offer stays
+pub value_common : (own file c : Format) (key : ℕ) (v : Pod) → value_at own.fields key ≡ Some v → IsCommonFormat own file c
+    → value_at c.fields key ≡ Some v
+value_common own file c key v h common =
+    let has = field_with own.fields key v h in
+    go has.field (only_value has.field.choice v has.only) (field_of file.fields key)
+    (field_of c.fields key) refl
+    (subst (λ (o : Option Field). IsCommonField o (field_of file.fields key) (field_of c.fields key)) has.at (common.fields key))
+  where
+    go : (f : Field) → f.choice ≡ Only v → (g k : Option Field) → field_of c.fields key ≡ k → IsCommonField (Some f) g k
+        → value_at c.fields key ≡ Some v
+    go f only (Some g) (Some k) e w = value_of_field c.fields key k v e (ap only_of (only_meets v g.choice k.choice
+        (subst (λ (x : Choice). IsIntersection x g.choice k.choice) only w.2)))
+    go f only (Some g) None e w = absurd w
+    go f only None k e w = value_of_field c.fields key f v (e ∙ w) (ap only_of only)
+
 single_common : (own file c : Format) (key : ℕ) → IsSome (value_at own.fields key) → IsCommonFormat own file c
     → IsSome (value_at c.fields key)
 single_common own file c key h common =
     let w = some_of (value_at own.fields key) h in
-    let has = field_with own.fields key w.0 w.1 in
-    some_is (value_at c.fields key) w.0 (go w.0 has.field (only_value has.field.choice w.0 has.only) (field_of file.fields key)
-    (field_of c.fields key) refl
-    (subst (λ (o : Option Field). IsCommonField o (field_of file.fields key) (field_of c.fields key)) has.at (common.fields key)))
-  where
-    go : (v : Pod) (f : Field) → f.choice ≡ Only v → (g k : Option Field) → field_of c.fields key ≡ k → IsCommonField (Some f) g k
-        → value_at c.fields key ≡ Some v
-    go v f only (Some g) (Some k) e w = value_of_field c.fields key k v e (ap only_of (only_meets v g.choice k.choice
-        (subst (λ (x : Choice). IsIntersection x g.choice k.choice) only w.2)))
-    go v f only (Some g) None e w = absurd w
-    go v f only None k e w = value_of_field c.fields key f v (e ∙ w) (ap only_of only)
+    some_is (value_at c.fields key) w.0 (value_common own file c key w.0 w.1 common)
 
 own_narrowed : (kind : Kind) (port : ℕ) (own file c : Format) → IsOwnOffer kind port own → Filters own file (Common c)
     → IsOwnOffer kind port c

@@ -1,73 +1,19 @@
 -- A narrowed offer keeps the one value that an own offer has at a key.
-use Rattle.std.proofs.Common.{◌≡◌, inl, inr, ℕ, zero, suc, ◌<◌, List, [], ◌∷◌, length, get_or, Option, Some, None, refl, sym, ap, ◌∙◌}
-use Rattle.std.proofs.Common.{subst, arith}
-use Rattle.std.specs.List.{Contains}
+use Rattle.std.proofs.Common.{◌≡◌, inl, inr, ℕ, zero, suc, List, [], ◌∷◌, Option, Some, None, refl, sym, ap, ◌∙◌}
 use Rattle.std.specs.Prelude.{slice_get, IfSome}
 use Rattle.std.proofs.lemmas.Option.{same_Some}
 use Rattle.pw_base.specs.declared.ids.PortId.{PortId}
 use Rattle.pod_codec.specs.declared.pod.Pod.{Pod}
-use Rattle.format_filter.specs.declared.choice.Choice.{Choice}
-use Rattle.format_filter.specs.declared.choice.Choice.TheVariants.{Only, Enum, Range, Step}
-use Rattle.format_filter.specs.declared.format.Field.{Field}
 use Rattle.format_filter.specs.declared.format.Format.{Format}
 use Rattle.format_filter.specs.declared.common.Filtered.TheVariants.{Common}
-use Rattle.format_filter.specs.Members.{IsMember}
-use Rattle.format_filter.specs.Intersection.{IsBefore, AreThoseOf, IsIntersection}
-use Rattle.format_filter.specs.CommonFormat.{field_of, IsCommonField, IsCommonFormat, Filters}
+use Rattle.format_filter.specs.CommonFormat.{Filters}
 use Rattle.port_model.specs.declared.port_state.PortState.{PortState}
 use Rattle.port_model.specs.declared.port_state.Node.{Node}
 use Rattle.port_model.specs.PortState.{kind_of, AtPort, changed, with_port, offering}
-use Rattle.port_model.specs.Forms.{only_of, value_at}
+use Rattle.port_model.specs.Forms.{value_at}
 use Rattle.port_model.proofs.ChangedLemmas.{changed_origin}
 use Rattle.port_model.proofs.NodeLemmas.{at_port}
-use Rattle.port_model.proofs.ValueLemmas.{only_value, field_with, value_of_field}
-
--- of one value, at most one is left
-not_before : (xs : List Pod) (p : Pod) → IsBefore xs p p → ⊥
-not_before xs p h = h.4 h.3
-
-one_left : (v : Pod) (P : Pod → Type 0) (those : List Pod) → AreThoseOf (v ∷ []) P those → length those < 2
-one_left v P [] h = omega arith
-one_left v P (a ∷ []) h = omega arith
-one_left v P (a ∷ b ∷ more) h =
-    let first = is_it a (0, omega arith, refl) in
-    let second = is_it b (1, omega arith, refl) in
-    let before = h.order 0 1 a (omega arith) (omega arith) in
-    absurd (not_before (v ∷ []) v (subst (λ (x : Pod). IsBefore (v ∷ []) x v) first
-    (subst (λ (x : Pod). IsBefore (v ∷ []) a x) second before)))
-  where
-    at_front : (x : Pod) → Contains (v ∷ []) x → x ≡ v
-    at_front x w = go w.0 w.1 w.2 where
-      go : (k : ℕ) → k < length (v ∷ []) → get_or (v ∷ []) k x ≡ x → x ≡ v
-      go zero l e = sym e
-      go (suc k) l e = absurd (omega (arith, l))
-
-    is_it : (x : Pod) → Contains (a ∷ b ∷ more) x → x ≡ v
-    is_it x w = at_front x (h.only x w).0
-
-only_meets : (v : Pod) (b c : Choice) → IsIntersection (Only v) b c → c ≡ Only v
-only_meets v b (Only w) h = ap (λ (x : Pod). Only x) (h.only w refl).0
-only_meets v b (Enum pick alts) h =
-    let few = one_left v (IsMember b) h.form.0 h.form.1 in
-    let many = h.form.2.0 in
-    absurd (omega (arith, few, many))
-only_meets v b (Range wide pick min max) h = absurd h.form.2
-only_meets v b (Step wide pick min max step) h = absurd h.form.2
-
-value_common : (own file c : Format) (key : ℕ) (v : Pod) → value_at own.fields key ≡ Some v → IsCommonFormat own file c
-    → value_at c.fields key ≡ Some v
-value_common own file c key v h common =
-    let has = field_with own.fields key v h in
-    go has.field (only_value has.field.choice v has.only) (field_of file.fields key)
-    (field_of c.fields key) refl
-    (subst (λ (o : Option Field). IsCommonField o (field_of file.fields key) (field_of c.fields key)) has.at (common.fields key))
-  where
-    go : (f : Field) → f.choice ≡ Only v → (g k : Option Field) → field_of c.fields key ≡ k → IsCommonField (Some f) g k
-        → value_at c.fields key ≡ Some v
-    go f only (Some g) (Some k) e w = value_of_field c.fields key k v e (ap only_of (only_meets v g.choice k.choice
-        (subst (λ (x : Choice). IsIntersection x g.choice k.choice) only w.2)))
-    go f only (Some g) None e w = absurd w
-    go f only None k e w = value_of_field c.fields key f v (e ∙ w) (ap only_of only)
+use Rattle.port_model.proofs.NarrowingLemmas.{value_common}
 
 if_some : {X : Type 0} (P : X → Type 0) (o : Option X) → ((x : X) → o ≡ Some x → P x) → IfSome o P
 if_some P None h = tt
