@@ -18,4 +18,6 @@ mod offers;
 #[cfg(test)]
 mod rendering;
 #[cfg(test)]
+mod reports;
+#[cfg(test)]
 mod storing;
