@@ -1,5 +1,6 @@
 //! The kernel of each kind, as often as a node of it calls it; copies, a ring and a plain loop where there is none.
 ghost use Rattle.std.specs.Prelude.{◌≡◌, ◌*◌, ◌<◌, ◌≤◌, length, All};
+ghost use Rattle.pw_base.specs.Limits.{quantum_limit};
 ghost use Rattle.s16_mixer.specs.Ranges.{IsGain};
 
 use crate::ring::delay_run;
@@ -197,7 +198,7 @@ fn rounds(
 
 /// The checksum of runs of a kind's kernel; 0 for an unknown name.
 pub fn bare_sum(alloc: Global, kind: &str, quantum: usize, runs: u32) -> Result<u32, Memory>
-    requires { quantum ≤ 8192 }
+    requires { quantum ≤ quantum_limit }
 {
     let mut a = row_of(alloc, 2 * quantum)?;
     let mut b = row_of(alloc, quantum)?;

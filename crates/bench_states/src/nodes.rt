@@ -1,6 +1,7 @@
 //! A node of each kind, run after run of quanta.
 ghost use Rattle.std.specs.Prelude.{◌≡◌, ◌+◌, ◌*◌, ◌≤◌, length, option_copied};
 ghost use Rattle.pw_base.specs.KindRanges.{IsInRange};
+ghost use Rattle.pw_base.specs.Limits.{quantum_limit};
 ghost use Rattle.pw_base.specs.SoundShape.{IsBetween};
 ghost use Rattle.node_state.specs.Slices.{AllowsChannels, HaveFrames};
 ghost use Rattle.node_state.specs.Streams.{HasItsWave, channels_of};
@@ -46,7 +47,7 @@ fn rounds(
     requires kind { IsInRange kind.now }
     requires wave { HasItsWave kind.now (option_copied wav) }
     requires allowed { AllowsChannels kind.now channels }
-    requires quantum { IsBetween 1 8192 work.now.quantum }
+    requires quantum { IsBetween 1 quantum_limit work.now.quantum }
     requires slices { HaveFrames work.now.quantum kind.now
         (channels_of (option_copied wav)) channels a.old b.now left.old right.old }
 {
@@ -65,7 +66,7 @@ fn rounds(
 
 /// Runs of a source of a file that is as long as a run.
 fn source_rounds(alloc: Global, work: &Work, left: &mut [i16]) -> Result<u32, Memory>
-    requires quantum { IsBetween 1 8192 work.now.quantum }
+    requires quantum { IsBetween 1 quantum_limit work.now.quantum }
     requires length { length left.old ≡ work.now.quantum }
 {
     let wav = Wav {
@@ -88,7 +89,7 @@ fn source_rounds(alloc: Global, work: &Work, left: &mut [i16]) -> Result<u32, Me
 
 /// Runs of a map that swaps two channels.
 fn map_rounds(alloc: Global, work: &Work, a: &mut [i16], left: &mut [i16]) -> Result<u32, Memory>
-    requires quantum { IsBetween 1 8192 work.now.quantum }
+    requires quantum { IsBetween 1 quantum_limit work.now.quantum }
     requires length_a { length a.old ≡ 2 * work.now.quantum }
     requires length_left { length left.old ≡ 2 * work.now.quantum }
 {
@@ -115,7 +116,7 @@ fn mono_rounds(
     b: &[i16],
     left: &mut [i16],
 ) -> Result<u32, Memory>
-    requires quantum { IsBetween 1 8192 work.now.quantum }
+    requires quantum { IsBetween 1 quantum_limit work.now.quantum }
     requires length_a { length a.old ≡ work.now.quantum }
     requires length_b { length b.now ≡ work.now.quantum }
     requires length_left { length left.old ≡ work.now.quantum }
@@ -173,7 +174,7 @@ fn mono_rounds(
 
 /// The checksum of runs of a node of the kind; 0 for an unknown name.
 pub fn node_sum(alloc: Global, kind: &str, work: &Work) -> Result<u32, Memory>
-    requires { IsBetween 1 8192 work.now.quantum }
+    requires { IsBetween 1 quantum_limit work.now.quantum }
 {
     let q = work.quantum as usize;
     let mut a = row_of(alloc, 2 * q)?;

@@ -1,5 +1,6 @@
 //! The free numbers of one pool, first in, first out.
 ghost use Rattle.std.specs.Prelude.{◌≡◌, ◌<◌, ◌≤◌, [], ◌∷◌, ◌++◌, length, Contains, IfOk};
+ghost use Rattle.pw_base.specs.Limits.{buffers_limit};
 ghost use Rattle.buffer_pool.specs.Queue.{numbers_below};
 
 use circular_buffer::HeapCircularBuffer;
@@ -28,7 +29,7 @@ impl Pool {
     /// A pool of 1 to 8 blocks, all of them free, ascending. All memory that it ever needs is taken
     /// here.
     pub fn new(alloc: Global, blocks: u32) -> Result<Pool, Memory>
-        requires { (1 ≤ blocks) × (blocks ≤ 8) }
+        requires { (1 ≤ blocks) × (blocks ≤ buffers_limit) }
         ensures { IfOk result (λ pool. (pool.free ≡ numbers_below blocks)
             × (pool.blocks ≡ blocks)) }
     {

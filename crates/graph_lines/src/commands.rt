@@ -1,6 +1,6 @@
 //! What a line does, but for those that make epochs.
 ghost use Rattle.std.specs.Prelude.{◌≡◌, ◌<◌, ◌≤◌, ◌==◌, ◌||◌, length, map, IfOk, slice_set};
-ghost use Rattle.pw_base.specs.Limits.{nodes_limit};
+ghost use Rattle.pw_base.specs.Limits.{nodes_limit, buffers_limit};
 ghost use Rattle.std.specs.List.{list_any};
 ghost use Rattle.pw_base.specs.SoundShape.{IsBetween};
 ghost use Rattle.port_model.specs.PortState.{IsPort, with_port, buffered};
@@ -83,7 +83,7 @@ impl Graph {
     // A `buffers` line.
     fn set_buffers(&mut self, port: PortId, n: u32) -> Stepped
         requires port { IsPort self.old.ports port }
-        requires range { IsBetween 1 8 n }
+        requires range { IsBetween 1 buffers_limit n }
         ensures graph { self.new
             ≡ record self.old { ports = with_port self.old.ports port (buffered n) } }
         ensures done { result ≡ Done }

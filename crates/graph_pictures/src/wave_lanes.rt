@@ -1,6 +1,7 @@
 //! The lanes of a wave at the end of a text. After `Memory` the text has a part of them.
 ghost use Rattle.std.specs.Prelude.{◌≡◌, ◌<◌, ◌≤◌, ◌++◌, length, flat_map, OnOk};
 ghost use Rattle.std.specs.List.{range_with_len};
+ghost use Rattle.pw_base.specs.Limits.{channels_limit};
 ghost use Rattle.graph_pictures.specs.WaveLanes.{point_of, mark_text, bar_text, column_text, unit_of, ground_text, lane_parts, lane_text};
 ghost use Rattle.graph_pictures.specs.working.WaveSizes.{wave_frames_limit};
 
@@ -62,7 +63,7 @@ pub(crate) fn unit_of(columns: usize) -> u64
 
 // The ground of a lane.
 fn put_ground(text: &mut Text, wide: u64, channel: u64) -> Result<(), Memory>
-    requires { channel ≤ 8 }
+    requires { channel ≤ channels_limit }
     ensures { OnOk result (text.new ≡ text.old ++ ground_text wide channel) }
 {
     let top = 72 + 300 * channel;
@@ -109,7 +110,7 @@ fn put_parts(
     requires frames { length lane.now ≤ wave_frames_limit }
     requires columns { columns ≤ 1000 }
     requires unit { unit ≤ 1000 }
-    requires channel { channel ≤ 8 }
+    requires channel { channel ≤ channels_limit }
     ensures { OnOk result
         (text.new ≡ text.old ++ lane_parts lane.now columns unit channel) }
 {
@@ -127,7 +128,7 @@ fn put_parts(
 /// The lane of a channel whose samples these are.
 pub(crate) fn put_lane(text: &mut Text, lane: &[i16], channel: u64) -> Result<(), Memory>
     requires frames { length lane.now ≤ wave_frames_limit }
-    requires channel { channel ≤ 8 }
+    requires channel { channel ≤ channels_limit }
     ensures { OnOk result (text.new ≡ text.old ++ lane_text lane.now channel) }
 {
     let columns = columns_of(lane.len());

@@ -23,6 +23,7 @@ use Rattle.pw_base.specs.PlanForms.{kind_at, HasForm, IsSoundForm, AreShared, Is
 use Rattle.pw_base.specs.PlanFresh.{IsSoundFresh}
 use Rattle.pw_base.specs.Pools.{AreAlike, IsPooledShape}
 use Rattle.pw_base.specs.SoundPlan.{HasSoundPlaces}
+use Rattle.pw_base.specs.Limits.{quantum_limit}
 use Rattle.pw_base.specs.SoundShape.{IsBetween, IsSoundLink, HasSoundLinks, HasSoundNodes, HasSoundCycles}
 use Rattle.port_model.specs.declared.port_state.PortState.{PortState}
 use Rattle.port_model.specs.declared.port_state.Node.{Node}
@@ -203,7 +204,7 @@ module _ (count : ℕ) (g : Graph) (sound : IsSoundGraph count g) (n : ℕ) (e :
   module _ (within : passed (sums_with g.kinds g.sums e) ≡ None) (some : 1 ≤ n) where
     cycles_ok : HasSoundCycles e.shape
     cycles_ok = record {
-      quantum = subst (IsBetween 1 8192) (sym is.quantum) sound.quantum;
+      quantum = subst (IsBetween 1 quantum_limit) (sym is.quantum) sound.quantum;
       some = (let c = is.cycles in omega (arith, c, some));
       events = (let l = (within_limits (sums_with g.kinds g.sums e) within).0 in omega (arith, l));
       numbers = (let l = (within_limits (sums_with g.kinds g.sums e) within).0 in

@@ -11,6 +11,7 @@ use Rattle.std.proofs.lemmas.List.Elements.{All-nil, All-head}
 use Rattle.pw_base.specs.declared.plan.Epoch.{Epoch}
 use Rattle.pw_base.specs.declared.plan.Plan.{Plan}
 use Rattle.pw_base.specs.PlanFresh.{IsEpoch}
+use Rattle.pw_base.specs.Limits.{quantum_limit}
 use Rattle.pw_base.specs.SoundShape.{IsBetween}
 use Rattle.graph_script.specs.declared.command.Command.{Command}
 use Rattle.graph_script.specs.declared.command.Command.TheVariants as C
@@ -31,7 +32,7 @@ use Rattle.graph_plan.specs.working.Summing.{AreSummed}
 use Rattle.graph_plan.specs.working.SoundGraph.{IsSoundPart, IsPast, IsJoining, IsSoundGraph}
 
 -- the quantum is in range
-in_range : (command : Command) → IsInRange command → IsBetween 1 8192 (quantum_in command)
+in_range : (command : Command) → IsInRange command → IsBetween 1 quantum_limit (quantum_in command)
 in_range (C.Quantum n) h = h
 in_range (C.Source n file) h = (omega arith, omega arith)
 in_range (C.Square n rate channels period amp) h = (omega arith, omega arith)
@@ -54,7 +55,7 @@ in_range (C.Offer port file) h = (omega arith, omega arith)
 in_range (C.Cycles n) h = (omega arith, omega arith)
 in_range C.Drain h = (omega arith, omega arith)
 
-pub quantum_ok : (lines : List Line) → All (λ l. IsInRange l.command) lines → IsBetween 1 8192 (quantum_of lines)
+pub quantum_ok : (lines : List Line) → All (λ l. IsInRange l.command) lines → IsBetween 1 quantum_limit (quantum_of lines)
 quantum_ok [] h = (omega arith, omega arith)
 quantum_ok (l ∷ ls) h = in_range l.command (All-head (λ (x : Line). IsInRange x.command) l ls h)
 
@@ -98,7 +99,7 @@ past_first plan nodes n none = record {
 pub first_sound : (lines : List Line) (ports : List Node) (g : Graph) → All (λ l. IsInRange l.command) lines → AreScriptPorts lines ports
     → IsStart lines ports g → IsSoundGraph 0 g
 first_sound lines ports g ranges script start = record {
-  quantum = subst (IsBetween 1 8192) (sym start.quantum) (quantum_ok lines ranges);
+  quantum = subst (IsBetween 1 quantum_limit) (sym start.quantum) (quantum_ok lines ranges);
   ports = subst (λ (ns : List Node). AreSoundNodes ns) (sym start.ports) script.sound;
   kinds = ap (map (λ (n : Node). n.kind)) start.ports ∙ (script.kinds ∙ sym start.kinds);
   nodes = ap length start.nodes ∙ (length-map-range_with_len newcomer 0 (length (kinds_of lines)) ∙ ap length (sym start.kinds));

@@ -5,6 +5,7 @@ use Rattle.std.specs.Prelude.{option_map, option_to_list}
 use Rattle.pw_base.specs.declared.kind.Kind.{Kind}
 use Rattle.pw_base.specs.declared.kind.Kind.TheVariants as K
 use Rattle.pw_base.specs.KindRanges.{IsInRange}
+use Rattle.pw_base.specs.Limits.{nodes_limit}
 use Rattle.wav_files.specs.declared.wav.Wav.{Wav}
 use Rattle.graph_script.specs.declared.command.Command.{Command}
 use Rattle.graph_script.specs.declared.script.Line.{Line}
@@ -34,7 +35,7 @@ with_plain nodes kind = record nodes {
 
 -- there is room for a node of this kind, and its numbers are in range
 abbrev pub HasRoom : Nodes → Kind → Type 0
-HasRoom nodes kind = (length nodes.ports < 63) × IsInRange kind
+HasRoom nodes kind = (length nodes.ports < nodes_limit) × IsInRange kind
 
 -- SOUND: no port has a format or a count of buffers, and the waves are those of the sources
 pub record AreSound (nodes : Nodes) : Type 0 where

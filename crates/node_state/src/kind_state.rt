@@ -27,6 +27,7 @@ impl KindState {
     ghost use Rattle.pw_base.specs.KindFunction.{KindInputs};
     ghost use Rattle.pw_base.specs.KindPorts.{input_count};
     ghost use Rattle.pw_base.specs.KindRanges.{IsInRange};
+    ghost use Rattle.pw_base.specs.Limits.{quantum_limit};
     ghost use Rattle.node_state.specs.States.{kind_of, wave_channels, stream_of, room_in, wanted_room};
     ghost use Rattle.node_state.specs.working.Steps.{CanStep, given_by, IsStep};
     ghost use Rattle.node_state.specs.StandsFor.{Keeps};
@@ -41,7 +42,7 @@ impl KindState {
         left: &mut [i16],
         right: &mut [i16],
     )
-        requires quantum { quantum ≤ 8192 }
+        requires quantum { quantum ≤ quantum_limit }
         requires slices { CanStep self.old quantum a.now b.now left.old right.old }
         ensures left { left.new ≡ take (length left.old)
             (given_by self.old quantum a.now b.now 0) }

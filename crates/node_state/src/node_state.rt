@@ -1,5 +1,6 @@
 //! What a node keeps between quanta.
 ghost use Rattle.std.specs.Prelude.{ℕ, ◌*◌, ◌≤◌, length};
+ghost use Rattle.pw_base.specs.Limits.{quantum_limit};
 ghost use Rattle.pw_base.specs.SoundShape.{IsBetween};
 ghost use Rattle.node_state.specs.States.{stream_of, room_in, wanted_room};
 
@@ -20,7 +21,7 @@ pub struct NodeState {
     pub(crate) frames: u64,
     /// Frames that it was prepared for.
     pub(crate) prepared: u64,
-    ghost quantum_range: { IsBetween 1 8192 quantum },
+    ghost quantum_range: { IsBetween 1 quantum_limit quantum },
     ghost channels_range: { channels ≤ most },
     ghost most_range: { most ≤ 8 },
     ghost frames_range: { frames ≤ prepared },

@@ -3,6 +3,7 @@ ghost use Rattle.std.specs.Prelude.{◌≡◌, ◌<◌, ◌≤◌, [], IfOk, opt
 ghost use Rattle.pw_base.specs.KindFunction.{KindInputs};
 ghost use Rattle.pw_base.specs.KindPorts.{input_count};
 ghost use Rattle.pw_base.specs.KindRanges.{IsInRange};
+ghost use Rattle.pw_base.specs.Limits.{quantum_limit};
 ghost use Rattle.pw_base.specs.SoundShape.{IsBetween};
 ghost use Rattle.node_state.specs.Slices.{AllowsChannels};
 ghost use Rattle.node_state.specs.StandsFor.{StandsFor, IsPrepared, IsRestarted, node_kind, node_wave_channels, node_channels};
@@ -34,7 +35,7 @@ impl NodeState {
         requires kind { IsInRange kind.now }
         requires wave { HasItsWave kind.now (option_copied wav) }
         requires channels { AllowsChannels kind.now channels }
-        requires quantum { IsBetween 1 8192 quantum }
+        requires quantum { IsBetween 1 quantum_limit quantum }
         ensures kind { IfOk result (λ s. node_kind s ≡ kind.now) }
         ensures wave { IfOk result
             (λ s. node_wave_channels s ≡ channels_of (option_copied wav.entry)) }

@@ -5,6 +5,7 @@ use Rattle.pw_base.specs.declared.kind.Kind.{Kind}
 use Rattle.pw_base.specs.declared.plan.Epoch.{Epoch}
 use Rattle.pw_base.specs.declared.plan.LinkLine.{LinkLine}
 use Rattle.pw_base.specs.declared.plan.Plan.{Plan}
+use Rattle.pw_base.specs.Limits.{quantum_limit}
 use Rattle.pw_base.specs.Pools.{IsPooledShape}
 use Rattle.pw_base.specs.PlanForms.{HasSoundForms}
 use Rattle.pw_base.specs.PlanFresh.{IsSoundFresh}
@@ -52,7 +53,7 @@ IsJoining kinds l = IsOutput kinds l.from × IsInput kinds l.to
 
 -- SOUND GRAPH, of `count` nodes that lines have made
 pub record IsSoundGraph (count : ℕ) (g : Graph) : Type 0 where
-  pub quantum : IsBetween 1 8192 g.quantum
+  pub quantum : IsBetween 1 quantum_limit g.quantum
   pub ports : AreSoundNodes g.ports
   pub kinds : HasKinds g.ports g.kinds
   pub nodes : length g.nodes ≡ length g.kinds

@@ -4,6 +4,7 @@ ghost use Rattle.pw_base.specs.Samples.{of_frames};
 ghost use Rattle.pw_base.specs.KindFunction.{square_at};
 ghost use Rattle.pw_base.specs.SoundShape.{IsBetween};
 ghost use Rattle.pw_base.specs.KindRanges.{IsChannels};
+ghost use Rattle.pw_base.specs.Limits.{quantum_limit};
 ghost use Rattle.node_state.specs.Slices.{IsNoneOr};
 
 /// The numbers of a square wave. The rate says when a frame is played; no sample depends on it.
@@ -96,7 +97,7 @@ impl SquareState {
     /// The next frames of the wave, where the output has a form. Those of one quantum pass in any
     /// case.
     pub(crate) fn process(&mut self, quantum: u32, left: &mut [i16])
-        requires quantum { quantum ≤ 8192 }
+        requires quantum { quantum ≤ quantum_limit }
         requires output { IsNoneOr (quantum * self.old.wave.channels) left.old }
         ensures left { left.new
             ≡ take (length left.old)
