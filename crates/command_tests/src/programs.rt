@@ -1,8 +1,9 @@
 //! What the program does with words, files, an output and an error output, all in memory.
 
-use pw_base::{MemSink, Memory};
+use pw_base::{FileFail, Files, Items, MemSink, Memory};
 use pw_program::run_program;
 use row_files::{Faults, S_WAV, SCRIPT, SURE, files_of, words_of};
+use std::alloc::Global;
 use std::sync::Wait;
 use std::thread::Threads;
 
@@ -17,6 +18,8 @@ struct Told {
     errors: &'static [u8],
     /// The put of the error output that fails, counted from 1, and how many bytes it takes.
     failing: (u64, u64),
+    /// The first load that is not made, counted from 1.
+    next_load: u64,
 }
 
 /// A script that names no node.
@@ -28,6 +31,7 @@ const REFUSED: Told = Told {
     out: b"script 2 7\n",
     errors: b"pipegraph: s.graph:2: no node is called \"vox\"\n",
     failing: (0, 0),
+    next_load: 2,
 };
 
 /// A refusal, one whose sentence cannot be written, an accepted script, one with notes, a script
@@ -45,6 +49,7 @@ const ROWS: &'static [Told] = &[
         code: 0,
         out: b"link s.out o.in 48000 1 2\nwrote o 4\n",
         errors: b"",
+        next_load: 3,
         ..REFUSED
     },
     Told {
@@ -54,6 +59,7 @@ const ROWS: &'static [Told] = &[
         out: b"link s.out o.in 48000 1 2\nnolink s.out o.in twice\nwrote o 4\nunused m\n",
         errors: b"pipegraph: s.graph:6: \"s.out\" to \"o.in\" is no link: it is there already\n\
             pipegraph: s.graph:4: \"m\" had no format at the end, so it has no peak\n",
+        next_load: 3,
         ..REFUSED
     },
     Told {
@@ -66,6 +72,7 @@ const ROWS: &'static [Told] = &[
         code: 7,
         out: b"write 4\n",
         errors: b"pipegraph: s.graph:4: o.wav: the file cannot be written\n",
+        next_load: 3,
         ..REFUSED
     },
     Told {
@@ -74,19 +81,29 @@ const ROWS: &'static [Told] = &[
     },
 ];
 
+// Whether the next load is the one that fails.
+fn fails_next<F: Files>(alloc: Global, files: &mut F) -> bool {
+    matches!(
+        files.load(alloc, &Items::new(alloc), 0),
+        Err(FileFail::Failed)
+    )
+}
+
 // Whether a row comes out as wanted.
 fn comes_out<R: Threads + Wait + Sync + AllocGlobal>(rt: &R, told: Told) -> Result<bool, Memory> {
     let alloc = rt.alloc();
     let words = words_of(alloc, told.line)?;
-    let files = files_of(alloc, told.script, &[S_WAV], told.faults)?;
+    let mut files = files_of(alloc, told.script, &[S_WAV], told.faults)?;
+    files.fail_load(alloc, told.next_load)?;
     let out = MemSink::new(alloc)?;
     let mut errors = MemSink::new(alloc)?;
     errors.fail_put(alloc, told.failing.0, told.failing.1)?;
-    let ended = run_program(rt, alloc, words.as_slice(), files, out, &mut errors);
+    let mut ended = run_program(rt, alloc, words.as_slice(), files, out, &mut errors);
     Ok(
         ended.code == told.code
             && ended.out.bytes().as_slice() == told.out
-            && errors.bytes().as_slice() == told.errors,
+            && errors.bytes().as_slice() == told.errors
+            && fails_next(alloc, &mut ended.files),
     )
 }
 

@@ -15,6 +15,12 @@ const RATE_48000: [u8; 40] = [
     0, 0, 0x80, 0xbb, 0, 0, 0, 0, 0, 0,
 ];
 
+/// One with the rate 44100 alone.
+const RATE_44100: [u8; 40] = [
+    0x20, 0, 0, 0, 0x0f, 0, 0, 0, 3, 0, 4, 0, 3, 0, 0, 0, 3, 0, 1, 0, 0, 0, 0, 0, 4, 0, 0, 0, 4, 0,
+    0, 0, 0x44, 0xac, 0, 0, 0, 0, 0, 0,
+];
+
 /// One with the rate 48000 and 2 channels.
 const STEREO_48000: [u8; 64] = [
     0x38, 0, 0, 0, 0x0f, 0, 0, 0, 3, 0, 4, 0, 3, 0, 0, 0, 3, 0, 1, 0, 0, 0, 0, 0, 4, 0, 0, 0, 4, 0,
@@ -147,6 +153,24 @@ fn an_offer_makes_a_rate_clash(rt: HostRuntime) -> Result<(), Fail> {
         0,
         RATE_48000.as_slice(),
         &[Node::Source(44100, 1)],
+        lines.as_slice(),
+    )?;
+    assert_eq!(rt; unlike, None);
+    Ok(())
+}
+
+#[test]
+fn an_output_takes_an_inputs_rate(rt: HostRuntime) -> Result<(), Fail> {
+    let lines = [
+        (Line::Link((1, 1), (0, 0)), Did::Made(44100, 2, 2)),
+        (Line::Form((1, 1)), Did::Form(44100, 2)),
+        (Line::Form((0, 0)), Did::Form(44100, 2)),
+    ];
+    let unlike = narrowed_does(
+        rt.alloc(),
+        0,
+        RATE_44100.as_slice(),
+        &[Node::Gain],
         lines.as_slice(),
     )?;
     assert_eq!(rt; unlike, None);

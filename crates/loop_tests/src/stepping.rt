@@ -9,11 +9,12 @@ ghost use Rattle.loop_tests.specs.Work.{CanRun};
 use crate::crew::Crew;
 use crate::work::Work;
 use board_rule::{Board, BoardSeat, Closed};
-use data_loop::{Did, LoopState, Tried};
+use data_loop::{Did, LoopState, Tried, settle};
 use driver_cycle::{begin_next, lead_once, look};
 use graph_run::{boards_of, loop_seating, loops_of};
 use pw_base::{Every, Gate, Never, Open};
 use std::alloc::Global;
+use std::sync::Wait;
 
 /// The board of a plan of one epoch, and the driver's thread with `loops` other loops on it, before
 /// the first cycle. None where there are more epochs.
@@ -79,6 +80,25 @@ pub fn try_at<G: Gate>(board: &Board, crew: &mut Crew, which: usize, node: u32, 
         try_node(board, &mut crew.others[which], node, gate)
     } else {
         Tried::Ended
+    }
+}
+
+// Gives a loop turns until none of its followers has cycles left; it may wait.
+fn settle_loop<R: Wait>(rt: &R, board: &Board, state: &mut LoopState)
+    requires on { IsOnBoard (layout board.now) (table_of board.now) state.old }
+    ensures on { IsOnBoard (layout board.now) (table_of board.now) state.new }
+{
+    settle(rt, board, state, &Open::new());
+}
+
+/// Gives one of the other loops of a crew turns until none of its followers has cycles left; it may wait. Nothing where
+/// there is no such loop.
+pub fn settle_at<R: Wait>(rt: &R, board: &Board, crew: &mut Crew, which: usize)
+    requires on { IsCrewOn board.now crew.old }
+    ensures on { IsCrewOn board.now crew.new }
+{
+    if which < crew.others.len() {
+        settle_loop(rt, board, &mut crew.others[which]);
     }
 }
 

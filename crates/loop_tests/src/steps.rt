@@ -8,13 +8,14 @@ ghost use Rattle.ready_queues.specs.Lanes.{loops_limit};
 ghost use Rattle.loop_tests.specs.Crew.{IsCrewOn};
 
 use crate::crew::Crew;
-use crate::stepping::{crew_of, try_at};
+use crate::stepping::{crew_of, settle_at, try_at};
 use crate::words::{Inside, areas_are, block_is, nodes_are};
 use crate::work::{WorkRow, work_of};
 use board_rule::{Board, Closed};
 use data_loop::Tried;
 use pw_base::{Event, Open};
 use std::alloc::Global;
+use std::sync::Wait;
 use std::test::Fail;
 
 /// Three loops have a source and two sinks that read it; a third sink drives.
@@ -321,5 +322,24 @@ fn ends_with_events(alloc: Global) -> bool {
 #[test]
 fn one_cycle_with_a_late_check(rt: HostRuntime) -> Result<(), Fail> {
     assert!(rt; ends_with_events(rt.alloc()));
+    Ok(())
+}
+
+// Whether all followers of the row have finished once their one loop has settled, so that a check
+// finds none.
+fn settles<R: Wait>(rt: &R, alloc: Global) -> bool {
+    match crew_by(alloc, ROW, 1) {
+        Some((board, mut crew)) => {
+            let begun = crew.begin(&board);
+            settle_at(rt, &board, &mut crew, 0);
+            begun && crew.check(&board) == Some(0)
+        }
+        None => false,
+    }
+}
+
+#[test]
+fn a_loop_settles_when_its_nodes_have_finished(rt: HostRuntime) -> Result<(), Fail> {
+    assert!(rt; settles(&rt, rt.alloc()));
     Ok(())
 }

@@ -122,6 +122,33 @@ const LATE_READER: RunRow<'static> = RunRow {
     ..ONE_BLOCK
 };
 
+/// The first of two pools has eight blocks, and is that of the first loop; the second has two, which its loop fills in
+/// turn.
+const UNLIKE_POOLS: RunRow<'static> = RunRow {
+    work: WorkRow {
+        text: "quantum 4\nsquare a 48000 1 8 100\nsquare b 48000 1 8 100\nloop b 1\nsink o o.wav\ndriver o 1\n\
+            buffers a out 8\nbuffers b out 2\nlink a.out o.in\nlink b.out o.in\ncycles 10\n",
+        channels: 0,
+        samples: &[],
+    },
+    choices: &[&[true, true], &[false, false]],
+    boards: 1,
+    kept: Kept::Waves(40, &[0], [200, 200, 200, 200, -200, -200, -200, -200]),
+};
+
+/// Two sinks of the driver's own loop: the one that does not drive runs last of those that the driver waits for.
+const OWN_FOLLOWER: RunRow<'static> = RunRow {
+    work: WorkRow {
+        text: "quantum 4\nsquare a 48000 1 8 100\nsink p p.wav\nsink o o.wav\ndriver o 2\ndriver p 1\n\
+            link a.out p.in\nlink a.out o.in\ncycles 5\ndriver p 3\ncycles 5\n",
+        channels: 0,
+        samples: &[],
+    },
+    choices: &[&[], &[true], &[false]],
+    boards: 2,
+    kept: Kept::Waves(40, &[0, 0], [100, 100, 100, 100, -100, -100, -100, -100]),
+};
+
 // The first of these that goes otherwise by some choice of loops.
 fn first_unlike_run<R: Threads + Wait + Sync>(rt: &R, alloc: Global) -> Option<usize> {
     let rows = [
@@ -131,6 +158,8 @@ fn first_unlike_run<R: Threads + Wait + Sync>(rt: &R, alloc: Global) -> Option<u
         SIXTEEN_LOOPS,
         ONE_BLOCK,
         LATE_READER,
+        UNLIKE_POOLS,
+        OWN_FOLLOWER,
     ];
     first_unlike(rt, alloc, rows.as_slice())
 }
@@ -173,11 +202,26 @@ const ONE_THREAD: RunRow<'static> = RunRow {
     kept: Kept::One(&[110, 110]),
 };
 
-// Whether the nodes of two threads meet, and those of one do not.
+/// A driver that looks for a node without a link: in the meantime its one loop has gone to rest, also before the second
+/// epoch.
+const LONG_DRIVER: RunRow<'static> = RunRow {
+    work: WorkRow {
+        text: "quantum 2\nsink o o.wav\nmeter m\nsquare a 48000 1 4 100\ndriver o 1\nlink a.out o.in\n\
+            cycles 1\ncycles 1\n",
+        channels: 0,
+        samples: &[],
+    },
+    choices: &[&[false]],
+    boards: 2,
+    kept: Kept::One(&[100, 100, -100, -100]),
+};
+
+// Whether the nodes of two threads meet, and those of one do not, nor a node without a link.
 fn all_meet<R: Threads + Wait + Sync>(rt: &R, alloc: Global) -> bool {
     meet_in(rt, alloc, &AT_ONCE) == Some(true)
         && meet_in(rt, alloc, &LATE) == Some(true)
         && meet_in(rt, alloc, &ONE_THREAD) == Some(false)
+        && meet_in(rt, alloc, &LONG_DRIVER) == Some(false)
 }
 
 #[test]

@@ -1,5 +1,6 @@
 //! What is printed of words and files.
 
+use crate::exit_of;
 use graph_pictures::{Status, explain, print_picture};
 use graph_script::ScriptWhy;
 use pw_base::{Items, Memory, SureFiles, SureSink, Text, Which};
@@ -510,4 +511,34 @@ fn words_and_files_are_refused_by_cause(rt: HostRuntime) -> Result<(), Fail> {
         "script 2 9\n",
     )?;
     Ok(())
+}
+
+#[test]
+fn each_status_has_its_number(rt: HostRuntime) {
+    let rows = [
+        (Status::Ok, 0),
+        (Status::Usage { word: 3 }, 1),
+        (Status::Line { number: 3 }, 2),
+        (
+            Status::Wav {
+                place: 1,
+                why: WavFault::NotRiff,
+            },
+            3,
+        ),
+        (Status::Absent { place: 1 }, 5),
+        (Status::ReadFault { place: 1 }, 6),
+        (Status::WriteFault, 7),
+        (
+            Status::Limit {
+                place: 1,
+                which: Which::WavBytes,
+            },
+            8,
+        ),
+        (Status::Memory, 9),
+    ];
+    for (status, number) in rows {
+        assert!(rt; exit_of(status) == number, "{number}");
+    }
 }

@@ -1,5 +1,6 @@
 //! What is stored and said of words and lists.
 
+use crate::exit_of;
 use control_sequence::Point;
 use pod_text::{DumpWhy, ListWhy, Status, make_pod, read_gains};
 use pw_base::{Files, Items, Loaded, Memory, SureFiles, SureSink, Text};
@@ -430,4 +431,29 @@ fn a_text_is_refused_at_its_first_line_at_fault(rt: HostRuntime) -> Result<(), F
         )?;
     }
     Ok(())
+}
+
+#[test]
+fn each_status_has_its_number(rt: HostRuntime) {
+    let rows = [
+        (Status::Ok, 0),
+        (Status::Usage { word: 3 }, 1),
+        (at(3, ListWhy::Words), 2),
+        (
+            Status::Text {
+                line: 3,
+                why: DumpWhy::More,
+            },
+            2,
+        ),
+        (Status::TooLong, 4),
+        (Status::Absent { place: 1 }, 5),
+        (Status::ReadFault { place: 1 }, 6),
+        (Status::WriteFault { place: 2 }, 7),
+        (Status::Limit { place: 1 }, 8),
+        (Status::Memory, 9),
+    ];
+    for (status, number) in rows {
+        assert!(rt; exit_of(status) == number, "{number}");
+    }
 }

@@ -193,3 +193,18 @@ pub(crate) fn goes_by<R: Threads + Wait + Sync, G: Gate + Sync>(
         None => false,
     }
 }
+
+/// The peak of the one meter of a work by these workers. None where there is not one, or no run.
+pub(crate) fn peak_by<R: Threads + Wait + Sync>(
+    rt: &R,
+    alloc: Global,
+    row: WorkRow<'_>,
+    adopt: &[bool],
+) -> Option<u32> {
+    let work = work_of(alloc, row)?;
+    let (outcome, _boards) = run_by(rt, alloc, &work, adopt, &Open::new())?;
+    match outcome.peaks.as_slice() {
+        [peak] => Some(peak.value),
+        _ => None,
+    }
+}

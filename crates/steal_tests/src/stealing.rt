@@ -1,6 +1,6 @@
 //! What the sinks keep by any loops that steal, and who meets.
 
-use crate::runs::{RunRow, first_unlike, goes_by, row_goes_refused};
+use crate::runs::{RunRow, first_unlike, goes_by, peak_by, row_goes_refused};
 use crate::work::WorkRow;
 use pw_base::Meet;
 use std::alloc::Global;
@@ -81,9 +81,29 @@ const NO_NODE: RunRow<'static> = RunRow {
     kept: &[],
 };
 
+/// The first cell has a sink, which reads what the second gives.
+const SINK_FIRST: RunRow<'static> = RunRow {
+    work: WorkRow {
+        text: "quantum 2\nsink p p.wav\nsquare a 48000 1 4 100\nsink o o.wav\ndriver o 1\nlink a.out p.in\n\
+            link a.out o.in\ncycles 2\n",
+        channels: 0,
+        samples: &[],
+    },
+    choices: &[&[], &[false], &[false; 3]],
+    boards: 1,
+    kept: &[&[100, 100, -100, -100], &[100, 100, -100, -100]],
+};
+
 // The first of these that goes otherwise by some choice of workers.
 fn first_unlike_run<R: Threads + Wait + Sync>(rt: &R, alloc: Global) -> Option<usize> {
-    let rows = [SPLIT, TWO_SQUARES, ON_AND_OFF, ALL_DRIVE, NO_NODE];
+    let rows = [
+        SPLIT,
+        TWO_SQUARES,
+        ON_AND_OFF,
+        ALL_DRIVE,
+        NO_NODE,
+        SINK_FIRST,
+    ];
     first_unlike(rt, alloc, rows.as_slice())
 }
 
@@ -131,5 +151,35 @@ fn two_workers_meet_on_one_loop(rt: HostRuntime) -> Result<(), Fail> {
 #[test]
 fn a_named_worker_is_not_started(rt: HostRuntime) -> Result<(), Fail> {
     assert_eq!(rt; squares_meet(&rt, rt.alloc(), &[true, true]), Some(false));
+    Ok(())
+}
+
+// Whether the sink of the first cell keeps its samples where the square looks for a node that is not
+// there: in the meantime another thread tries the cell, which is too early.
+fn waits_for_the_square<R: Threads + Wait + Sync>(rt: &R, alloc: Global) -> bool {
+    let gate = Meet::new(1, 63);
+    goes_by(rt, alloc, &SINK_FIRST, &[false], &gate) && !gate.met()
+}
+
+#[test]
+fn a_cell_that_is_tried_too_early_is_tried_again(rt: HostRuntime) -> Result<(), Fail> {
+    assert!(rt; waits_for_the_square(&rt, rt.alloc()));
+    Ok(())
+}
+
+/// A meter that is off from the second epoch on, and begins anew with the third: no step of its cell
+/// is asked for before the end.
+const LEFT_BEHIND: WorkRow<'static> = WorkRow {
+    text: "quantum 2\nmeter m\nsquare a 48000 1 4 100\nsink o o.wav\ndriver o 1\nlink a.out m.in\n\
+        link a.out o.in\ncycles 1\noff m\ncycles 1\nunlink a.out m.in\nlink a.out m.in\ncycles 1\n",
+    channels: 0,
+    samples: &[],
+};
+
+#[test]
+fn a_cell_that_is_left_behind_begins_anew(rt: HostRuntime) -> Result<(), Fail> {
+    let alloc = rt.alloc();
+    assert_eq!(rt; peak_by(&rt, alloc, LEFT_BEHIND, &[]), Some(0));
+    assert_eq!(rt; peak_by(&rt, alloc, LEFT_BEHIND, &[false, false]), Some(0));
     Ok(())
 }
