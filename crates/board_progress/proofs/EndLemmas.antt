@@ -1,0 +1,53 @@
+-- From each state the end can be reached.
+use Rattle.std.proofs.Common.{◌≡◌, ℕ, zero, suc, ◌<◌, Option, refl, ap, arith}
+use mathlib.Core.Logic.{dite}
+use native.Mathlib.Decide.{dec_le}
+use Rattle.atomic_table.specs.Table.{State}
+use Rattle.board_rule.specs.declared.board_shape.BoardShape.{BoardShape}
+use Rattle.board_rule.specs.declared.view.View.{View}
+use Rattle.board_rule.specs.declared.view.DriverView.{DriverView}
+use Rattle.board_rule.specs.Layout.{BoardLayout, layout_of, last}
+use Rattle.board_rule.specs.BoardRule.{Holds}
+use Rattle.board_progress.specs.Moves.{moved}
+use Rattle.board_progress.specs.Progress.{IsStaffed, IsUnfinished}
+use Rattle.board_progress.specs.Runs.{board_left, AreWords, Runs, HaveEnded, ReachesEnd}
+use Rattle.board_progress.proofs.RunLemmas.{bounded}
+use Rattle.board_progress.proofs.WordLemmas.{few_required, words_fit}
+use Rattle.board_progress.proofs.GoingLemmas.{goes_on, advance_seat}
+
+module _ (board_shape : BoardShape) where
+  abbrev p : BoardLayout
+  p = layout_of board_shape
+
+  abbrev Reached : State (Option ℕ) View → Type 0
+  Reached s = (n : ℕ) × (t : State (Option ℕ) View) × Runs p n s t × Holds p t × HaveEnded p t.views
+
+  reached : (k : ℕ) (s : State (Option ℕ) View) → board_left p s.views < k → Holds p s → AreWords s → IsStaffed p s.views → Reached s
+  reached zero s low h fits staff = absurd (omega arith)
+  reached (suc k) s low h fits staff = dite (dec_le (last p) h.whole.lead.cycle)
+      (λ z. (
+        0,
+        s,
+        refl,
+        h,
+        λ i v at number. let is = ((h.seated.knows i v at).is_driver number).0 in
+            let e : v.lead.cycle ≡ h.whole.lead.cycle = ap (λ (x : DriverView). x.cycle) is in let early = h.activations.early in omega arith,
+      ))
+      (λ z. let more : IsUnfinished p s.views = λ i v at number. (let is = ((h.seated.knows i v at).is_driver number).0 in
+      let e : v.lead.cycle ≡ h.whole.lead.cycle = ap (λ (x : DriverView). x.cycle) is in omega arith) in
+      let o = goes_on board_shape s h fits staff more in
+      let kept = staff.kept o.seat o.view o.there (advance_seat p s.words o.view o.move o.advances) in
+      let next = words_fit p (few_required board_shape h.seated.pooled.sound) s h fits o.seat o.view o.there kept o.move o.advances in
+      let less = o.less in
+      let r = reached k (moved s o.seat o.move) (omega arith) o.rule next o.staffed in
+      (suc r.0, r.1, (h, (o.seat, o.view, o.move, o.there, o.advances, r.2)), r.3, r.4))
+
+  pub end_reached : (s : State (Option ℕ) View) → Holds p s → AreWords s → IsStaffed p s.views → ReachesEnd p s
+  end_reached s h fits staff = let r = reached (suc (board_left p s.views)) s (omega arith) h fits staff in record {
+    steps = r.0;
+    state = r.1;
+    run = r.2;
+    few = (let b = bounded p r.0 s r.1 r.2 in omega arith);
+    rule = r.3;
+    ended = r.4;
+  }

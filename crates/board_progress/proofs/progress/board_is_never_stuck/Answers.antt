@@ -1,0 +1,5 @@
+use Rattle.board_progress.proofs.WorkLemmas.{never_stuck}
+use Rattle.board_progress.proofs.progress.board_is_never_stuck.Goals as goal
+
+pub returns : goal.returns
+returns c = λ s h staff more. never_stuck c.args._board.now.board_shape s h staff more

@@ -1,0 +1,9 @@
+pub mod Moves
+pub mod NodeAdvances
+pub mod BufferAdvances
+pub mod PhasesLeft
+pub mod StepsLeft
+pub mod BuffersLeft
+pub mod Progress
+pub mod Runs
+pub mod working

@@ -1,0 +1,2 @@
+-- What proofs of progress work with. Source: this project's own.
+pub mod Order
