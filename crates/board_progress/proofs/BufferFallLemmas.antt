@@ -55,12 +55,13 @@ module _ (p : BoardLayout) where
       ∙ ap (write_left (last p)) (get_or-set_same v.writes l y (unwritten 0) there) in
       let goal : total g (length p.shape.links) < total f (length p.shape.links) = omega arith in omega arith
 
-  read_falls : (v : View) (l : ℕ) (rs : List ReadView) (ws : List ℕ) → l < length p.shape.links → holder p (reader_of p l) ≡ v.number
+  -- the reader's end of a link changes: what the seat has left changes as much
+  pub read_moves : (v : View) (l : ℕ) (rs : List ReadView) (ws : List ℕ) (fall rise : ℕ) → l < length p.shape.links → holder p (reader_of p l) ≡ v.number
       → ((i : ℕ) → i ≢ l → get_or rs i (unread 0) ≡ read_of v i) → ((i : ℕ) → i ≢ l → get_or ws i 0 ≡ words_read_of v i)
-      → read_left (last p) (words_at p (pool_of p l)) (get_or rs l (unread 0)) (get_or ws l 0)
-      < read_left (last p) (words_at p (pool_of p l)) (read_of v l) (words_read_of v l)
-      → steps_left p (record v { reads = rs; words_read = ws }) < steps_left p v
-  read_falls v l rs ws inside mine same_reads same_words less =
+      → read_left (last p) (words_at p (pool_of p l)) (get_or rs l (unread 0)) (get_or ws l 0) + fall
+      ≤ read_left (last p) (words_at p (pool_of p l)) (read_of v l) (words_read_of v l) + rise
+      → steps_left p (record v { reads = rs; words_read = ws }) + fall ≤ steps_left p v + rise
+  read_moves v l rs ws fall rise inside mine same_reads same_words less =
       let f : ℕ → ℕ = λ i. cond (eqb (holder p (reader_of p i)) v.number) (read_left (last p) (words_at p (pool_of p i)) (read_of v i) (words_read_of v i)) 0 in
       let g : ℕ → ℕ = λ i. cond (eqb (holder p (reader_of p i)) v.number) (read_left (last p) (words_at p (pool_of p i)) (get_or rs i (unread 0)) (get_or ws i 0)) 0 in
       let own = eq-eqb (holder p (reader_of p l)) v.number mine in
@@ -70,7 +71,15 @@ module _ (p : BoardLayout) where
       ap (λ z. cond z (read_left (last p) (words_at p (pool_of p l)) (read_of v l) (words_read_of v l)) 0) own in
       let b : g l ≡ read_left (last p) (words_at p (pool_of p l)) (get_or rs l (unread 0)) (get_or ws l 0) =
       ap (λ z. cond z (read_left (last p) (words_at p (pool_of p l)) (get_or rs l (unread 0)) (get_or ws l 0)) 0) own in
-      let goal : total g (length p.shape.links) < total f (length p.shape.links) = omega arith in omega arith
+      let goal : total g (length p.shape.links) + fall ≤ total f (length p.shape.links) + rise = omega arith in omega arith
+
+  read_falls : (v : View) (l : ℕ) (rs : List ReadView) (ws : List ℕ) → l < length p.shape.links → holder p (reader_of p l) ≡ v.number
+      → ((i : ℕ) → i ≢ l → get_or rs i (unread 0) ≡ read_of v i) → ((i : ℕ) → i ≢ l → get_or ws i 0 ≡ words_read_of v i)
+      → read_left (last p) (words_at p (pool_of p l)) (get_or rs l (unread 0)) (get_or ws l 0)
+      < read_left (last p) (words_at p (pool_of p l)) (read_of v l) (words_read_of v l)
+      → steps_left p (record v { reads = rs; words_read = ws }) < steps_left p v
+  read_falls v l rs ws inside mine same_reads same_words less =
+      let m = read_moves v l rs ws 1 0 inside mine same_reads same_words (omega arith) in omega arith
 
   -- blocks of other pools stand elsewhere
   pools_apart : (q r b c : ℕ) → q < length (pools_of p.shape) → b < (pool_at p q).blocks → r ≢ q → c < (pool_at p r).blocks → block_at p r c ≢ block_at p q b

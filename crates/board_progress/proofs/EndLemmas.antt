@@ -9,11 +9,11 @@ use Rattle.board_rule.specs.declared.view.DriverView.{DriverView}
 use Rattle.board_rule.specs.Layout.{BoardLayout, layout_of, last}
 use Rattle.board_rule.specs.BoardRule.{Holds}
 use Rattle.board_progress.specs.Moves.{moved}
-use Rattle.board_progress.specs.Progress.{IsStaffed, IsUnfinished}
-use Rattle.board_progress.specs.Runs.{board_left, AreWords, Runs, HaveEnded, ReachesEnd}
+use Rattle.board_progress.specs.Progress.{IsStaffed, IsUnfinished, HaveEnded}
+use Rattle.board_progress.specs.Runs.{board_left, Runs}
+use Rattle.board_progress.specs.Ends.{AreWords, ReachesEnd}
 use Rattle.board_progress.proofs.RunLemmas.{bounded}
-use Rattle.board_progress.proofs.WordLemmas.{few_required, words_fit}
-use Rattle.board_progress.proofs.GoingLemmas.{goes_on, advance_seat}
+use Rattle.board_progress.proofs.GoingLemmas.{goes_on}
 
 module _ (board_shape : BoardShape) where
   abbrev p : BoardLayout
@@ -36,11 +36,9 @@ module _ (board_shape : BoardShape) where
       (λ z. let more : IsUnfinished p s.views = λ i v at number. (let is = ((h.seated.knows i v at).is_driver number).0 in
       let e : v.lead.cycle ≡ h.whole.lead.cycle = ap (λ (x : DriverView). x.cycle) is in omega arith) in
       let o = goes_on board_shape s h fits staff more in
-      let kept = staff.kept o.seat o.view o.there (advance_seat p s.words o.view o.move o.advances) in
-      let next = words_fit p (few_required board_shape h.seated.pooled.sound) s h fits o.seat o.view o.there kept o.move o.advances in
-      let less = o.less in
-      let r = reached k (moved s o.seat o.move) (omega arith) o.rule next o.staffed in
-      (suc r.0, r.1, (h, (o.seat, o.view, o.move, o.there, o.advances, r.2)), r.3, r.4))
+      let a = o.can in let f = o.after a.0 a.1 a.2 a.3 a.4 in let less = f.less in
+      let r = reached k (moved s a.0 a.2) (omega arith) f.rule f.words f.staffed in
+      (suc r.0, r.1, (h, (a.0, a.1, a.2, a.3, a.4, r.2)), r.3, r.4))
 
   pub end_reached : (s : State (Option ℕ) View) → Holds p s → AreWords s → IsStaffed p s.views → ReachesEnd p s
   end_reached s h fits staff = let r = reached (suc (board_left p s.views)) s (omega arith) h fits staff in record {

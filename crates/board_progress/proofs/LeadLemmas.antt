@@ -41,7 +41,7 @@ module _ (p : BoardLayout) (s : State (Option ℕ) View) (h : Holds p s) (staff 
   pub lead_node : HasNode true p o.view p.driver
   lead_node = let low = h.activations.later in let high = cycles_left p s h staff more in
       let same : o.view.lead.cycle ≡ g.lead.cycle = ap (λ (x : DriverView). x.cycle) o.same in
-      ((refl, o.number, o.kept.owners), (omega arith, omega arith), h.seated.sound.driver_in)
+      ((refl, o.number, o.owners), (omega arith, omega arith), h.seated.sound.driver_in)
 
   -- what the seat's view says of its phase
   drive_is : (d : DriverPhase) → g.lead.drive ≡ d → o.view.lead.drive ≡ d

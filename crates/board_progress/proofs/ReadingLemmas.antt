@@ -24,7 +24,7 @@ use Rattle.board_rule.proofs.buffers.AreaLemmas.{wrote_now}
 use Rattle.board_progress.specs.Moves.{Move}
 use Rattle.board_progress.specs.BufferAdvances.{BufferAdvances}
 use Rattle.board_progress.specs.BufferAdvances.BufferAdvances.{loads_as_reader, loads_sample, lowers_readers, stores_need}
-use Rattle.board_progress.specs.Progress.{IsKept, SomeAdvances}
+use Rattle.board_progress.specs.Progress.{SomeAdvances}
 use Rattle.board_progress.proofs.StaffLemmas.{within}
 
 module _ (p : BoardLayout) (s : State (Option ℕ) View) (h : Holds p s) where
@@ -34,9 +34,9 @@ module _ (p : BoardLayout) (s : State (Option ℕ) View) (h : Holds p s) where
   pub buffer_moves : (id : ℕ) (v : View) (x : Move) → get_elem? s.views id ≡ some v → BufferAdvances p s.words v x → SomeAdvances p s
   buffer_moves id v x at a = (id, v, x, at, inr a)
 
-  pub read_advances : (b : Bool) (id : ℕ) (v : View) → get_elem? s.views id ≡ some v → IsKept p v → (l : ℕ) → l < length p.shape.links
+  pub read_advances : (b : Bool) (id : ℕ) (v : View) → get_elem? s.views id ≡ some v → (l : ℕ) → l < length p.shape.links
       → HasNode b p v (reader_of p l) → IsRunning b v (reader_of p l) → (read_of v l).stored ≢ read_cycle b p v l + 1 → SomeAdvances p s
-  read_advances b id v at kept l inside hn running open_yet =
+  read_advances b id v at l inside hn running open_yet =
       let w = wired p h.seated.sound h.seated.pooled in let k : ShapeLink = link_at p l in let there = link_there p l inside in
       let now = now_running p s h id b v (reader_of p l) at hn running in let run = now.1 in let c = now.0 in
       let full = (h.seated.knows id v at).ends.of_read l k there now.2 in
@@ -48,7 +48,7 @@ module _ (p : BoardLayout) (s : State (Option ℕ) View) (h : Holds p s) where
       let lw : (g.ends.reads l).lowered ≡ (read_of v l).lowered = ap (λ (z : ReadView). z.lowered) is in
       let ld : (g.ends.reads l).loaded ≡ (read_of v l).loaded = ap (λ (z : ReadView). z.loaded) is in
       let number : (g.ends.reads l).id ≡ (read_of v l).id = ap (λ (z : ReadView). z.id) is in
-      let links = kept.links in
+      let reads = (h.seated.knows id v at).reads now.3 in let links = reads.links in
       let reader : IsReader b p v l = (inside, within v.reads l (g.ends.reads l) full, hn, running, (omega arith)) in
       let low = paced.first (reader_of p l) (w.to_in l k there) in
       let n = wrote_now p sp g.ends g.expect s.words w paced h.buffers l k there run in let n₂ = n.2 in
@@ -61,6 +61,6 @@ module _ (p : BoardLayout) (s : State (Option ℕ) View) (h : Holds p s) where
       dite (ℕ_discrete (read_of v l).lowered (read_cycle b p v l))
       (λ f. dite (ℕ_discrete (words_read_of v l) x.words)
       (λ all. buffer_moves id v _ at (lowers_readers b l (read_of v l).id _ (((reader, turn, mine, refl), f), all) refl refl))
-      (λ some. let most = kept.words l inside in
+      (λ some. let most = reads.few l inside in
       buffer_moves id v _ at (loads_sample b l (read_of v l).id _ (((reader, turn, mine, refl), f), (omega arith)) (omega arith) refl refl)))
       (λ f. buffer_moves id v _ at (stores_need b l (read_of v l).id ((reader, turn, mine, refl), (omega arith), (omega arith)) refl)))

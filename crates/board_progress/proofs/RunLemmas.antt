@@ -25,10 +25,12 @@ use Rattle.board_rule.proofs.buffers.ReclaimLemmas.{due_out}
 use Rattle.board_progress.specs.Moves.{Move, moved}
 use Rattle.board_progress.specs.BuffersLeft.{block_left, words_at, steps_left}
 use Rattle.board_progress.specs.Progress.{Advances}
-use Rattle.board_progress.specs.Runs.{board_left, Runs, IsBounded}
+use Rattle.board_progress.specs.VainSteps.{VainSteps}
+use Rattle.board_progress.specs.Runs.{board_left, Runs, IsBounded, StepRuns, HasFewAdvances}
 use Rattle.board_progress.proofs.StaffLemmas.{within}
 use Rattle.board_progress.proofs.LeadFallLemmas.{node_advance_falls}
 use Rattle.board_progress.proofs.BufferFallLemmas.{buffer_advance_falls}
+use Rattle.board_progress.proofs.VainLemmas.{vain_rises}
 
 -- one element of a list changes
 sum_set : (f : View → ℕ) (xs : List View) (i : ℕ) (v w : View) → get_elem? xs i ≡ some v → f w < f v → sum_by f (set xs i w) < sum_by f xs
@@ -36,6 +38,12 @@ sum_set f [] i v w e less = absurd (some-ne-none v (sym e))
 sum_set f (x ∷ xs) zero v w e less = let a = sum_by-cons f x xs in let b = sum_by-cons f w xs in let c = ap f (some-injective x v e) in omega arith
 sum_set f (x ∷ xs) (suc i) v w e less = let a = sum_by-cons f x xs in let b = sum_by-cons f x (set xs i w) in
     let c = sum_set f xs i v w e less in omega arith
+
+sum_set_most : (f : View → ℕ) (xs : List View) (i k : ℕ) (v w : View) → get_elem? xs i ≡ some v → f w ≤ f v + k → sum_by f (set xs i w) ≤ sum_by f xs + k
+sum_set_most f [] i k v w e most = absurd (some-ne-none v (sym e))
+sum_set_most f (x ∷ xs) zero k v w e most = let a = sum_by-cons f x xs in let b = sum_by-cons f w xs in let c = ap f (some-injective x v e) in omega arith
+sum_set_most f (x ∷ xs) (suc i) k v w e most = let a = sum_by-cons f x xs in let b = sum_by-cons f x (set xs i w) in
+    let c = sum_set_most f xs i k v w e most in omega arith
 
 module _ (p : BoardLayout) where
   -- a pool is reclaimed once in a cycle, when a block is out
@@ -70,3 +78,17 @@ module _ (p : BoardLayout) where
   bounded zero s t e = let a : board_left p s.views ≡ board_left p t.views = ap (λ (z : State (Option ℕ) View). board_left p z.views) e in omega arith
   bounded (suc n) s t r = let m = r.1 in let a = advance_falls s r.0 m.0 m.1 m.2 m.3 m.4 in
       let b = bounded n (moved s m.0 m.2) t m.5 in omega arith
+
+  -- and so has each run of any steps few advances
+  vain_most : (s : State (Option ℕ) View) (i : ℕ) (v : View) (x : Move) (back : ℕ) → get_elem? s.views i ≡ some v → VainSteps p s.words v x back
+      → board_left p (moved s i x).views ≤ board_left p s.views + back
+  vain_most s i v x back at a = sum_set_most (steps_left p) s.views i back v x.view at (vain_rises p s.words v x back a)
+
+  pub few_advances : (k n back : ℕ) (s t : State (Option ℕ) View) → StepRuns p k n back s t → HasFewAdvances p n back s t
+  few_advances zero n back s t r = let a : board_left p s.views ≡ board_left p t.views = ap (λ (z : State (Option ℕ) View). board_left p z.views) r.0 in
+      let none = r.1 in omega arith
+  few_advances (suc k) n back s t r = let m = r.1 in let after : State (Option ℕ) View = moved s m.0 m.2 in ⊎_elim
+      (λ (d : (j : ℕ) × (n ≡ j + 1) × Advances p s.words m.1 m.2 × StepRuns p k j back after t).
+      let a = advance_falls s r.0 m.0 m.1 m.2 m.3 d.2 in let b = few_advances k d.0 back after t d.3 in let c = d.1 in omega arith)
+      (λ (d : (now later : ℕ) × (back ≡ now + later) × VainSteps p s.words m.1 m.2 now × StepRuns p k n later after t).
+      let a = vain_most s m.0 m.1 m.2 d.0 m.3 d.3 in let b = few_advances k n d.1 after t d.4 in let c = d.2 in omega arith) m.4

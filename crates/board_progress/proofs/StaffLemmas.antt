@@ -1,5 +1,5 @@
 -- The seats of a board that is staffed: whose view has a node, and that a ticket which is held has a word.
-use Rattle.std.proofs.Common.{◌≡◌, ◌≢◌, ℕ, zero, suc, ◌<◌, cond, eqb, List, [], ◌∷◌, length, refl, sym, ap, ◌∙◌}
+use Rattle.std.proofs.Common.{◌≡◌, ◌≢◌, ℕ, zero, suc, ◌<◌, ◌≤◌, cond, eqb, List, [], ◌∷◌, length, refl, sym, ap, ◌∙◌}
 use Rattle.std.proofs.Common.{◌++◌, subst, arith, eq-eqb, ne_eqb, Option, get_or, Some, ⊎_elim, ◌⊎◌, inl, inr}
 use Rattle.std.specs.Prelude.{Contains, slice_get}
 use Rattle.std.proofs.lemmas.Option.{slice_get_within}
@@ -17,11 +17,12 @@ use Rattle.board_rule.specs.Layout.{BoardLayout, nodes, last}
 use Rattle.board_rule.specs.View.{Whole, node_of, idle}
 use Rattle.board_rule.specs.Steps.{Has}
 use Rattle.board_rule.specs.BoardRule.{Holds}
+use Rattle.board_rule.specs.start.Owners.{owners_of}
 use Rattle.board_rule.specs.events.EventRule.{so_far, marks}
 use Rattle.board_rule.specs.events.Marks.{phase_started, phase_finished, drive_started, drive_finished, drive_tells}
 use Rattle.board_rule.proofs.buffers.HolderLemmas.{got}
 use Rattle.board_rule.proofs.events.TicketLemmas.{few_tickets}
-use Rattle.board_progress.specs.Progress.{IsKept, IsStaffed, IsUnfinished}
+use Rattle.board_progress.specs.Progress.{IsStaffed, IsUnfinished}
 
 pub within : {A : Type 0} (l : List A) (i : ℕ) (a : A) → get_elem? l i ≡ some a → i < length l
 within [] i a e = absurd (some-ne-none a (sym e))
@@ -39,6 +40,11 @@ module _ (p : BoardLayout) (s : State (Option ℕ) View) (h : Holds p s) (staff 
   abbrev g : Whole
   g = h.whole
 
+  -- once the driver's seat has split off all seats, they are there
+  present : (k : ℕ) → k ≤ p.seats → (i : ℕ) × (v : View) × (get_elem? s.views i ≡ some v) × (v.number ≡ k)
+  present k low = let is = ((h.seated.knows staff.0 staff.1 staff.2).is_driver staff.3).1 in let all = staff.4 in
+      let r = h.seated.present (omega arith) k low (λ lt. omega arith) in (g.seat_at k, r.0, r.1, r.2)
+
   -- the seat that has a follower
   pub record SeatOf (n : ℕ) : Type 0 where
     pub id : ℕ
@@ -46,14 +52,13 @@ module _ (p : BoardLayout) (s : State (Option ℕ) View) (h : Holds p s) (staff 
     pub at : get_elem? s.views id ≡ some view
     pub has : Has p view n
     pub same : node_of view n ≡ g.nodes n
-    pub kept : IsKept p view
 
   pub seat_of : (n : ℕ) → n < nodes p → n ≢ p.driver → SeatOf n
   seat_of n inside follows = let low = h.seated.sound.seats_in n inside follows in
-      let t = staff.present (p.seat_of n) (omega arith) in let v : View = t.1 in let number = t.3 in
+      let t = present (p.seat_of n) (omega arith) in let v : View = t.1 in let number = t.3 in
       let k = h.seated.knows t.0 v t.2 in let there = k.owns n inside follows (sym number) in
       let is : node_of v n ≡ g.nodes n = got v.nodes n (g.nodes n) (idle 0) there in
-      let kept = staff.kept t.0 v t.2 (omega arith) in record {
+      record {
         id = t.0;
         view = v;
         at = t.2;
@@ -64,10 +69,9 @@ module _ (p : BoardLayout) (s : State (Option ℕ) View) (h : Holds p s) (staff 
           owned = sym number;
           there = within v.nodes n (g.nodes n) there;
           knows = there ∙ ap some (sym is);
-          owners = kept.owners;
+          owners = k.owners (omega arith);
         };
         same = is;
-        kept = kept;
       }
 
   -- the driver's seat
@@ -78,10 +82,10 @@ module _ (p : BoardLayout) (s : State (Option ℕ) View) (h : Holds p s) (staff 
     pub number : view.number ≡ p.seats
     pub same : view.lead ≡ g.lead
     pub looks : view.trail.looks ≡ g.looks
-    pub kept : IsKept p view
+    pub owners : view.owners ≡ owners_of p
 
   pub lead_seat : LeadSeat
-  lead_seat = let t = staff.present p.seats (omega arith) in let v : View = t.1 in let number = t.3 in
+  lead_seat = let t = present p.seats (omega arith) in let v : View = t.1 in let number = t.3 in
       let is = (h.seated.knows t.0 v t.2).is_driver number in record {
         id = t.0;
         view = v;
@@ -89,7 +93,7 @@ module _ (p : BoardLayout) (s : State (Option ℕ) View) (h : Holds p s) (staff 
         number = number;
         same = is.0;
         looks = is.2;
-        kept = staff.kept t.0 v t.2 (omega arith);
+        owners = (h.seated.knows t.0 v t.2).owners (omega arith);
       }
 
   -- it has cycles left, so a node in the driver's cycle has

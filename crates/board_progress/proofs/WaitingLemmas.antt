@@ -121,7 +121,7 @@ module _ (p : BoardLayout) (s : State (Option ℕ) View) (h : Holds p s) (staff 
         let same : o.view.lead.cycle ≡ c = ap (λ (x : DriverView). x.cycle) o.same in let low = h.activations.later in
         let high = cycles_left p s h staff more in
         node_moves p s h staff more o.id o.view _ o.at (claims true p.driver
-        (((refl, o.number, o.kept.owners), (omega arith, omega arith), inside), ap (λ (x : DriverView). x.drive) o.same ∙ waits)
+        (((refl, o.number, o.owners), (omega arith, omega arith), inside), ap (λ (x : DriverView). x.drive) o.same ∙ waits)
         (status ∙ ap triggered_word (sym same)) refl)
 
     -- a follower that blocks the driver is idle in its cycle, and then the least of them can be claimed

@@ -37,8 +37,8 @@ use Rattle.board_progress.specs.NodeAdvances.NodeAdvances.{looks, stores_late}
 use Rattle.board_progress.specs.BufferAdvances.{BufferAdvances}
 use Rattle.board_progress.specs.BufferAdvances.BufferAdvances.{loads_as_writer, loads_readers, stores_sample, stores_readers, stores_have}
 use Rattle.board_progress.specs.BufferAdvances.BufferAdvances.{loads_as_reader, loads_sample, lowers_readers, stores_need}
-use Rattle.board_progress.specs.Progress.{Advances, IsKept}
-use Rattle.board_progress.specs.Runs.{AreWords}
+use Rattle.board_progress.specs.Progress.{Advances}
+use Rattle.board_progress.specs.Ends.{AreWords}
 use Rattle.board_progress.proofs.FitLemmas.{IsShort, node_event_fits, lead_event_fits, packed_fits, late_fits, blocks_most, few_pass}
 
 abbrev no_node : ShapeNode
@@ -59,7 +59,7 @@ few_required board_shape s n h = let shape = board_shape.shape in
     let most = once_at_least shape.cycles (2 * length shape.nodes + 3) 4194304 s.cycles.some s.cycles.events in omega arith
 
 module _ (p : BoardLayout) (few : (n : ℕ) → n < nodes p → p.required n < 4294967296) (s : State (Option ℕ) View) (h : Holds p s) (fits : AreWords s)
-    (i : ℕ) (v : View) (at : get_elem? s.views i ≡ some v) (kept : IsKept p v) where
+    (i : ℕ) (v : View) (at : get_elem? s.views i ≡ some v) where
   -- a cycle of a node of the seat
   early : (b : Bool) (m : ℕ) → HasNode b p v m → cycle_of b v m < 4294967296
   early b m n = let a = n.1.1 in let e = h.seated.sound.early in omega arith
@@ -83,7 +83,7 @@ module _ (p : BoardLayout) (few : (n : ℕ) → n < nodes p → p.required n < 4
       (node_event_fits (node_of v m) (p.number m) (node_of v m).phase (h.seated.sound.numbers m may.0.2) (early false m may.0))
   node_fits x (looks m found may is e) = subst (λ (y : Move). y.word < 18446744073709551616) (sym e) (let a = same_fits _ found is in omega arith)
   node_fits x (stores_late late may e) = subst (λ (y : Move). y.word < 18446744073709551616) (sym e)
-      (let a = late_fits v.lead.cycle v.trail.looks kept.looks in let c = may.2 in omega arith)
+      (let a = late_fits v.lead.cycle v.trail.looks ((h.seated.knows i v at).looks may.0.0.1) in let c = may.2 in omega arith)
 
   -- a pool has few blocks and few links
   few_blocks : (q : ℕ) (x : PoolShape) → PoolAt p q x → x.blocks ≤ 8

@@ -24,7 +24,7 @@ use Rattle.board_rule.specs.buffers.EndViews.{link_at, pool_at, pool_of, writer_
 use Rattle.board_rule.proofs.buffers.WiringLemmas.{Wired, wired}
 use Rattle.board_rule.proofs.buffers.HolderLemmas.{link_is, link_there, pool_here}
 use Rattle.board_progress.specs.NodeAdvances.NodeAdvances.{finishes}
-use Rattle.board_progress.specs.Progress.{IsKept, IsStaffed, IsUnfinished, SomeAdvances}
+use Rattle.board_progress.specs.Progress.{IsStaffed, IsUnfinished, SomeAdvances}
 use Rattle.board_progress.proofs.OrderLemmas.{ordered}
 use Rattle.board_progress.proofs.StaffLemmas.{searched, seat_of, lead_seat}
 use Rattle.board_progress.proofs.FollowerLemmas.{node_moves, has_node}
@@ -47,10 +47,10 @@ module _ (p : BoardLayout) (s : State (Option ℕ) View) (h : Holds p s) (staff 
   settled : (a b x y : ℕ) → ((a ≡ b) × (x ≢ y) → ⊥) → a ≡ b → x ≡ y
   settled a b x y none e = dite (ℕ_discrete x y) (λ f. f) (λ f. absurd (none (e, f)))
 
-  module _ (id : ℕ) (v : View) (at : get_elem? s.views id ≡ some v) (kept : IsKept p v) (m : ℕ) where
+  module _ (id : ℕ) (v : View) (at : get_elem? s.views id ≡ some v) (m : ℕ) where
     working_advances : (b : Bool) → HasNode b p v m → IsRunning b v m → SomeAdvances p s
     working_advances b hn running = ⊎_elim
-        (λ t. let e = t.2.0 in read_advances p s h b id v at kept t.0 t.1 (subst (HasNode b p v) (sym e) hn) (subst (IsRunning b v) (sym e) running)
+        (λ t. let e = t.2.0 in read_advances p s h b id v at t.0 t.1 (subst (HasNode b p v) (sym e) hn) (subst (IsRunning b v) (sym e) running)
         (λ z. t.2.1 (z ∙ ap (λ n. cycle_of b v n + 1) e)))
         (λ read. by b hn running (λ l lt e. settled (reader_of p l) m (read_of v l).stored (cycle_of b v m + 1) (read l lt) e))
         (searched (λ l. (reader_of p l ≡ m) × ((read_of v l).stored ≢ cycle_of b v m + 1))
@@ -98,11 +98,11 @@ module _ (p : BoardLayout) (s : State (Option ℕ) View) (h : Holds p s) (staff 
   pub follower_works : (n : ℕ) → n < nodes p → n ≢ p.driver → (g.nodes n).phase ≡ Running → SomeAdvances p s
   follower_works n inside follows is = let o = seat_of p s h staff n inside follows in
       let now = subst (λ (y : Phase). PhaseOk (length (p.targets n)) g.lead.cycle (g.nodes n).next y) is (h.activations.followers n inside follows) in
-      working_advances o.id o.view o.at o.kept n false (has_node p s h staff more n o now) (ap (λ (y : NodeView). y.phase) o.same ∙ is)
+      working_advances o.id o.view o.at n false (has_node p s h staff more n o now) (ap (λ (y : NodeView). y.phase) o.same ∙ is)
 
   pub lead_works : g.lead.drive ≡ drives.Running → SomeAdvances p s
   lead_works is = let o = lead_seat p s h staff in
-      working_advances o.id o.view o.at o.kept p.driver true (lead_node p s h staff more) (ap (λ (x : DriverView). x.drive) o.same ∙ is)
+      working_advances o.id o.view o.at p.driver true (lead_node p s h staff more) (ap (λ (x : DriverView). x.drive) o.same ∙ is)
 
 -- no state is stuck
 pub never_stuck : (board_shape : BoardShape) (s : State (Option ℕ) View) → Holds (layout_of board_shape) s → IsStaffed (layout_of board_shape) s.views

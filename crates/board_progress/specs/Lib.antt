@@ -5,5 +5,8 @@ pub mod PhasesLeft
 pub mod StepsLeft
 pub mod BuffersLeft
 pub mod Progress
+pub mod VainSteps
 pub mod Runs
+pub mod Ends
+pub mod Starts
 pub mod working

@@ -10,6 +10,7 @@ use Rattle.pw_base.specs.declared.event.Event.{Event}
 use Rattle.pw_base.specs.declared.event.Event.TheVariants.{Start, Finish}
 use Rattle.pw_base.specs.EventWords.{event_word_of}
 use Rattle.pw_base.specs.Layout.{event_count, event_place, status_place}
+use Rattle.pw_base.specs.Limits.{dummy_node}
 use Rattle.board_rule.specs.declared.view.Phase.{Phase}
 use Rattle.board_rule.specs.declared.view.Phase.TheVariants.{Idle, Awake, StartDrawn, Done, FinishDrawn}
 use Rattle.board_rule.specs.declared.view.DriverPhase.TheVariants as drives
@@ -24,6 +25,8 @@ use Rattle.board_rule.specs.events.Marks.{phase_started, phase_finished, phase_h
 use Rattle.board_rule.specs.View.{Whole, node_of, with_node, with_lead, view_node, view_lead, view_trail}
 use Rattle.board_rule.specs.activation.ActivationRule.{Activations, progress}
 use Rattle.board_rule.specs.events.EventRule.{Events, so_far, marks, lead_drawn, node_drawn}
+use Rattle.board_rule.specs.events.Bits.{AreOfNodes}
+use Rattle.std.proofs.lemmas.List.Elements.{All-cons}
 use Rattle.board_rule.specs.buffers.Spans.{phase_over, phase_begun}
 use Rattle.board_rule.specs.BoardRule.{Holds}
 use Rattle.board_rule.specs.Steps.{Has}
@@ -200,7 +203,7 @@ module _ (p : BoardLayout) where
 
     -- the driver's seat draws a ticket
     pub draw_lead_allowed : (slots id : ℕ) (me : Me S View) (y : ℕ → DriverView) (t : Trail) (after : ℕ → View) (says : ℕ → Type 0)
-        → me.0.number ≡ p.seats
+        → me.0.number ≡ p.seats → (AreOfNodes me.0.trail.looks → AreOfNodes t.looks)
         → ((g : Whole) (ws : List ℕ) → me.0.lead ≡ g.lead → Activations p g ws → (k : ℕ)
         → Activations p (with_lead g (y k)) (set ws 0 (suc k))) → ((k : ℕ) → lead_drawn me.0.lead + 1 ≤ lead_drawn (y k))
         → ((k : ℕ) → IsLeadPaced me.0.lead (y k))
@@ -210,7 +213,7 @@ module _ (p : BoardLayout) where
         (set ws 0 (suc (get_or ws 0 0))))
         → ((found : ℕ) → after found ≡ view_lead me.0 (y found) t) → ((found : ℕ) → found < event_count p.shape → says found)
         → Allows (Holds p) slots id me 0 (λ w. (w + 1) % 2 ^ 64) (Learns after says me)
-    draw_lead_allowed slots id me y t after says number goes more paced logs is_after is_said s r _ at fits =
+    draw_lead_allowed slots id me y t after says number nodes_are goes more paced logs is_after is_said s r _ at fits =
         let g = r.whole in let sound = r.seated.sound in let wide = r.seated.wide in
         let is = lead_is p s r id me.0 at number in
         let looks = ((r.seated.knows id me.0 at).is_driver number).2 in
@@ -230,7 +233,8 @@ module _ (p : BoardLayout) where
           subst (λ k. Holds p (stepped s 0 k id me.1 (view_lead me.0 (y found) t) keeps)) (sym word) record {
             whole = record (with_lead g (y found)) { inside = l.0; looks = t.looks };
             seated = seated_logs p (record (with_lead g (y found)) { looks = t.looks }) ws _ g.past l.0 g.late
-                (lead_step p g s.words ws s.views id me.0 (y found) t t.looks at (length-set s.words 0 (suc found)) number refl r.seated);
+                (lead_step p g s.words ws s.views id me.0 (y found) t t.looks at (length-set s.words 0 (suc found)) number refl
+                (nodes_are ((r.seated.knows id me.0 at).looks number)) r.seated);
             activations = act_logs (with_lead g (y found)) ws g.past l.0 g.late t.looks active;
             events = l.1;
             buffers = buffers_lead p g s.words ws (y found) (wired_in p g s.words s.views r.seated)
@@ -262,7 +266,8 @@ module _ (p : BoardLayout) where
           record {
             whole = record (with_lead g y) { past = l.0; inside = l.1; late = l.2; looks = g.looks };
             seated = seated_logs p (with_lead g y) ws _ l.0 l.1 l.2
-                (lead_step p g s.words ws s.views id me.0 y t g.looks at (length-set s.words i x) number (seen ∙ looks) r.seated);
+                (lead_step p g s.words ws s.views id me.0 y t g.looks at (length-set s.words i x) number (seen ∙ looks)
+                (subst AreOfNodes (sym seen) ((r.seated.knows id me.0 at).looks number)) r.seated);
             activations = act_logs (with_lead g y) ws l.0 l.1 l.2 g.looks (goes g s.words sound is r.activations);
             events = l.3;
             buffers = buffers_lead p g s.words ws y (wired_in p g s.words s.views r.seated)
@@ -292,7 +297,8 @@ module _ (p : BoardLayout) where
           subst (λ (ws : List ℕ). Holds p record { words = ws; homes = s.homes; views = set s.views id (view_trail me.0 t) })
               (sym (set-get_or s.words i 0)) record {
                 whole = record g { looks = t.looks };
-                seated = look_step p g s.words s.views id me.0 t at number r.seated;
+                seated = look_step p g s.words s.views id me.0 t at number
+                    (All-cons (λ (f : Found). f.node ≤ dummy_node) (record { node = p.number n; word = found }) me.0.trail.looks (sound.numbers n inside) ((r.seated.knows id me.0 at).looks number)) r.seated;
                 activations = act_logs g s.words g.past g.inside g.late t.looks r.activations;
                 buffers = r.buffers;
                 events = subst (λ (fs : List Found). Events p

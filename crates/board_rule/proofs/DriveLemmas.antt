@@ -19,6 +19,8 @@ use Rattle.board_rule.specs.activation.ActivationRule.{Activations}
 use Rattle.board_rule.specs.events.EventRule.{Events, so_far, marks, lead_drawn}
 use Rattle.board_rule.specs.events.EventSteps.{CanDrawLead, lead_draws, draw_trail, CanStoreLead, lead_stores, held_lead, lead_tells, late_of}
 use Rattle.board_rule.specs.events.EventSteps.{late_kept}
+use Rattle.board_rule.specs.events.Bits.{AreOfNodes}
+use Rattle.std.proofs.lemmas.List.Elements.{All-nil}
 use Rattle.board_rule.proofs.activation.WorkLemmas.{IsOther, ticket_is_other}
 use Rattle.board_rule.proofs.events.DrawLemmas.{first_in, only_in, none_in}
 use Rattle.board_rule.proofs.events.LateLemmas.{told_late}
@@ -81,6 +83,24 @@ draws_more l drives.Done k e can = let s = same l drives.Done e in omega arith
 draws_more l drives.FinishDrawn k e can = absurd can
 draws_more l drives.FinishStored k e can = let s = same l drives.FinishStored e in omega arith
 draws_more l drives.EndDrawn k e can = absurd can
+
+-- a check that begins forgets what the last one looked at
+pub draws_looks : (t : Trail) (d : DriverPhase) → AreOfNodes t.looks → AreOfNodes (draw_trail t d).looks
+draws_looks t drives.Between is = is
+draws_looks t drives.BeginDrawn is = is
+draws_looks t (drives.Reset i) is = is
+draws_looks t (drives.Half i) is = is
+draws_looks t (drives.Kick i o) is = is
+draws_looks t drives.Waiting is = All-nil _
+draws_looks t drives.Checking is = is
+draws_looks t drives.LateStored is = is
+draws_looks t drives.Awake is = is
+draws_looks t drives.StartDrawn is = is
+draws_looks t drives.Running is = is
+draws_looks t drives.Done is = is
+draws_looks t drives.FinishDrawn is = is
+draws_looks t drives.FinishStored is = is
+draws_looks t drives.EndDrawn is = is
 
 pub stores_more : (l : DriverView) (d : DriverPhase) → l.drive ≡ d → CanStoreLead d → lead_drawn l ≤ lead_drawn (lead_stores l d)
 stores_more l drives.Between e can = absurd can

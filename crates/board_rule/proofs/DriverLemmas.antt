@@ -19,6 +19,7 @@ use Rattle.board_rule.specs.activation.Phases.{is_resetting, is_between}
 use Rattle.board_rule.specs.View.{Whole, with_lead, view_lead}
 use Rattle.board_rule.specs.activation.ActivationRule.{Activations, DriverPhaseOk, progress}
 use Rattle.board_rule.specs.events.EventRule.{lead_drawn}
+use Rattle.board_rule.specs.events.Bits.{AreOfNodes}
 use Rattle.board_rule.specs.buffers.BufferRule.{Buffers}
 use Rattle.board_rule.specs.buffers.Spans.{spans}
 use Rattle.board_rule.specs.BoardRule.{Holds}
@@ -195,7 +196,7 @@ module _ (p : BoardLayout) where
     holds_lead_by s r id i n v carry x t at number looks low high more quiet active buffers = record {
       whole = with_lead r.whole x;
       seated = lead_step p r.whole s.words (set s.words i n) s.views id v x t r.whole.looks at (length-set s.words i n) number
-          (looks ∙ ((r.seated.knows id v at).is_driver number).2) r.seated;
+          (looks ∙ ((r.seated.knows id v at).is_driver number).2) (subst AreOfNodes (sym looks) ((r.seated.knows id v at).looks number)) r.seated;
       activations = active;
       events = events_lead p r.whole s.words i n x more quiet low high r.events;
       buffers = buffers;

@@ -32,7 +32,7 @@ use Rattle.board_rule.proofs.DriverLemmas.{kick_allowed, kick_trigger_allowed, c
 use Rattle.board_rule.proofs.activation.ResetLemmas.{store_pending_allowed, store_not_triggered_allowed}
 use Rattle.board_rule.proofs.activation.CycleLemmas.{finish_lead_allowed, claim_lead_allowed}
 use Rattle.board_rule.proofs.buffers.SpanLemmas.{IsLogWord, draws_paced, stores_paced, drive_paced}
-use Rattle.board_rule.proofs.DriveLemmas.{draws_more, draws_goes, draws_logs, stores_goes, stores_logs, late_goes, late_logs}
+use Rattle.board_rule.proofs.DriveLemmas.{draws_more, draws_looks, draws_goes, draws_logs, stores_goes, stores_logs, late_goes, late_logs}
 
 module _ (p : BoardLayout) {S : Type 0} (slots id : ℕ) (me : Me S View) (after : ℕ → View) where
   pub lowers : (says : ℕ → Type 0) (b : Bool) (m n : ℕ) → Lowers b p me.0 m → get_or (p.targets m) (taken b me.0 m) 0 ≡ n
@@ -121,7 +121,7 @@ module _ (p : BoardLayout) {S : Type 0} (slots id : ℕ) (me : Me S View) (after
       → ((found : ℕ) → found < event_count p.shape → says found)
       → Allows (Holds p) slots id me 0 (λ w. (w + 1) % 2 ^ 64) (Learns after says me)
   draws_ticket true m says h tells said = draw_lead_allowed p slots id me (λ found. lead_draws me.0.lead found me.0.lead.drive)
-      (draw_trail me.0.trail me.0.lead.drive) after says h.0.0.1
+      (draw_trail me.0.trail me.0.lead.drive) after says h.0.0.1 (draws_looks me.0.trail me.0.lead.drive)
       (λ g ws is a k. draws_goes p g ws me.0.lead is a me.0.lead.drive k refl h.1 h.0.1.1)
       (λ k. draws_more me.0.lead me.0.lead.drive k refl h.1) (λ k. draws_paced me.0.lead me.0.lead.drive k refl h.1)
       (λ g ws is looks sound a e wide room. draws_logs p g ws me.0.lead me.0.trail.looks is looks sound a e wide room me.0.trail

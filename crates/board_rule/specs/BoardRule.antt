@@ -10,17 +10,20 @@ use Rattle.board_rule.specs.Layout.{BoardLayout, IsSound, nodes, first, word_cou
 use Rattle.pw_base.specs.Layout.{event_place, event_count}
 use Rattle.pw_base.specs.Pools.{IsPooledShape}
 use Rattle.board_rule.specs.View.{Whole, idle}
+use Rattle.board_rule.specs.start.Owners.{owners_of}
 use Rattle.board_rule.specs.activation.ActivationRule.{Activations}
 use Rattle.board_rule.specs.events.EventRule.{Events}
+use Rattle.board_rule.specs.events.Bits.{AreOfNodes}
 use Rattle.board_rule.specs.buffers.SampleWords.{IsTable}
 use Rattle.board_rule.specs.buffers.BufferRule.{Buffers}
 use Rattle.board_rule.specs.buffers.Spans.{spans}
-use Rattle.board_rule.specs.buffers.KnownEnds.{KnowsEnds, AreStill}
+use Rattle.board_rule.specs.buffers.KnownEnds.{KnowsEnds, AreRead, AreStill}
 
 module _ (p : BoardLayout) where
   -- what the view at the index j among all views says of the whole: no two views of seats have the
-  -- same number. A view with a greater number is
-  -- kept of a board that is closed, and then no seat is split off any more
+  -- same number. A view with a greater number is kept of a board that is closed, and then no seat is
+  -- split off any more. `owners`, `reads`, `looks`: whose each node, link and block is; of no block
+  -- more is read than it has; a check looks at nodes
   pub record Knows (g : Whole) (j : ℕ) (v : View) : Type 0 where
     pub kept : p.seats < v.number → p.seats < g.split
     pub here : v.number ≤ p.seats → g.seat_at v.number ≡ j
@@ -31,6 +34,9 @@ module _ (p : BoardLayout) where
     pub owns : (n : ℕ) → n < nodes p → n ≢ p.driver → p.seat_of n ≡ v.number
         → get_elem? v.nodes n ≡ some (g.nodes n)
     pub ends : KnowsEnds p g.ends v.number v.writes v.reads v.blocks v.reclaimed
+    pub owners : v.number ≤ p.seats → v.owners ≡ owners_of p
+    pub reads : v.number ≤ p.seats → AreRead p v.words_read
+    pub looks : v.number ≡ p.seats → AreOfNodes v.trail.looks
 
   -- the seats and their views; a follower whose seat is not yet split off is idle in the first
   -- cycle. `table`: the first split names the samples

@@ -170,6 +170,9 @@ module _ (p : BoardLayout) where
         is_split = r.is_split;
         owns = r.owns;
         ends = others u.number u.writes u.reads u.blocks u.reclaimed (λ e. other (sym (r.here (omega arith)) ∙ ap g.seat_at e ∙ k.here low)) r.ends;
+        owners = r.owners;
+        reads = r.reads;
+        looks = r.looks;
       }) s.unsplit still s.table (λ _. refl) refl number s
 
   pub write_step : (g : Whole) (words after : List ℕ) (views : List View) (id l : ℕ) (x : ShapeLink) (v : View) (y : WriteView)
@@ -194,6 +197,9 @@ module _ (p : BoardLayout) where
           of_block = k.ends.of_block;
           of_pool = k.ends.of_pool;
         };
+        owners = k.owners;
+        reads = k.reads;
+        looks = k.looks;
       }
       (λ number writes reads blocks reclaimed other r. record {
         of_write = λ i z h e. r.of_write i z h e ∙ ap some (sym (put_else g.ends.writes l i y (λ q. other (sym e ∙ seat_from i z h q))));
@@ -234,6 +240,9 @@ module _ (p : BoardLayout) where
           of_block = k.ends.of_block;
           of_pool = k.ends.of_pool;
         };
+        owners = k.owners;
+        reads = k.reads;
+        looks = k.looks;
       }
       (λ number writes reads blocks reclaimed other r. record {
         of_write = r.of_write;
@@ -278,6 +287,9 @@ module _ (p : BoardLayout) where
               ∙ ap some (sym (block_else r c o)));
           of_pool = k.ends.of_pool;
         };
+        owners = k.owners;
+        reads = k.reads;
+        looks = k.looks;
       }
       (λ number writes reads blocks reclaimed other r. record {
         of_write = r.of_write;
@@ -347,6 +359,9 @@ module _ (p : BoardLayout) where
               (set_there v.reclaimed q n (g.ends.reclaimed q) (k.ends.of_pool q x there mine) ∙ ap some (sym (put_here g.ends.reclaimed q n))))
               (λ t. set_else v.reclaimed q i n t ∙ k.ends.of_pool i z h e ∙ ap some (sym (put_else g.ends.reclaimed q i n t)));
         };
+        owners = k.owners;
+        reads = k.reads;
+        looks = k.looks;
       }
       (λ number writes reads blocks reclaimed other r. record {
         of_write = r.of_write;

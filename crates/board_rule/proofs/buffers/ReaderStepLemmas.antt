@@ -29,7 +29,7 @@ use Rattle.board_rule.proofs.buffers.WiringLemmas.{LinkAt, Wired, late_is}
 use Rattle.board_rule.proofs.buffers.DelayLemmas.{area_most}
 use Rattle.board_rule.proofs.buffers.PaceLemmas.{Paced, paces}
 use Rattle.board_rule.proofs.buffers.SpanLemmas.{node_over, node_begun, over_at, begun_at, wired_in}
-use Rattle.board_rule.proofs.start.SeatLemmas.{set_there, words_step}
+use Rattle.board_rule.proofs.start.SeatLemmas.{set_there, reads_set, words_step}
 use Rattle.board_rule.proofs.buffers.HolderLemmas.{got, link_there, pool_here, now_running, with_ends, new_read, read_step}
 use Rattle.board_rule.proofs.buffers.KeepLemmas.{holds_ends}
 use Rattle.board_rule.proofs.buffers.WriterStepLemmas.{unread_word, room_in, id_of}
@@ -89,6 +89,7 @@ module _ (p : BoardLayout) (slots id : ℕ) (me : Me (Option ℕ) View) (after :
             (words_step p (with_ends p g (new_read p g.ends l y)) (set s.words i found) (set s.words i found)
             (set s.views id (view_read me.0 l y)) id (view_read me.0 l y) (set me.0.words_read l 0)
             (set_there s.views id (view_read me.0 l y) me.0 at) refl
+            (λ low. reads_set p me.0.words_read l 0 ((r.seated.knows id me.0 at).reads low) (omega arith))
             (read_step p g s.words (set s.words i found) s.views id l k me.0 y at (length-set s.words i found) there now.2 now.3 r.seated)))
             (unread_word s.words i (λ ws. Buffers p sp (new_read p g.ends l y) g.expect ws)
             (subst (λ (z : ReadView). Buffers p sp (new_read p g.ends l z) g.expect s.words)
@@ -166,7 +167,8 @@ module _ (p : BoardLayout) (slots id : ℕ) (me : Me (Option ℕ) View) (after :
         tt,
         unread_word s.words place (λ ws. Holds p record { words = ws; homes = s.homes; views = set s.views id (sample_loaded b p me.0 l i) }) record {
           whole = g;
-          seated = words_step p g s.words s.words s.views id me.0 (set me.0.words_read l (i + 1)) at refl r.seated;
+          seated = words_step p g s.words s.words s.views id me.0 (set me.0.words_read l (i + 1)) at refl
+              (λ low. reads_set p me.0.words_read l (i + 1) (ks.reads low) (omega arith)) r.seated;
           activations = r.activations;
           events = r.events;
           buffers = r.buffers;

@@ -1,6 +1,6 @@
 -- One step changes one view. What the other seats know stays.
 use Rattle.std.proofs.Common.{◌≡◌, ◌≢◌, ℕ, zero, suc, ◌<◌, ◌≤◌, cond, List, [], ◌∷◌, length, set, refl, sym, ap, ◌∙◌, subst}
-use Rattle.std.proofs.Common.{⊎_elim, arith, eq-eqb, ne_eqb}
+use Rattle.std.proofs.Common.{⊎_elim, arith, eq-eqb, ne_eqb, get_or, length-set, get_or-set_same, get_or-set_other}
 use mathlib.Core.Logic.{dite}
 use mathlib.Core.Option.{some, some-injective, some-ne-none}
 use native.Mathlib.Decide.{ℕ_discrete}
@@ -16,7 +16,9 @@ use Rattle.board_rule.specs.Layout.{BoardLayout, nodes, first}
 use Rattle.board_rule.specs.View.{Whole, put, idle, with_node, view_node, with_lead, view_lead, view_trail}
 use Rattle.board_rule.specs.BoardRule.{Knows, Seated}
 use Rattle.board_rule.specs.buffers.SampleWords.{IsTable}
-use Rattle.board_rule.specs.buffers.KnownEnds.{AreStill}
+use Rattle.board_rule.specs.buffers.EndViews.{pool_at, pool_of}
+use Rattle.board_rule.specs.buffers.KnownEnds.{AreRead, AreStill}
+use Rattle.board_rule.specs.events.Bits.{AreOfNodes}
 
 pub put_here : {A : Type 0} (f : ℕ → A) (m : ℕ) (x : A) → put f m x m ≡ x
 put_here f m x = ap (λ b. cond b x (f m)) (eq-eqb m m refl)
@@ -78,6 +80,9 @@ module _ (p : BoardLayout) where
             (set_there v.nodes m x (g.nodes m) (k.owns m inside follows owns) ∙ ap some (sym (put_here g.nodes m x))))
             (λ q. set_else v.nodes m n x q ∙ k.owns n h o e ∙ ap some (sym (put_else g.nodes m n x q)));
         ends = k.ends;
+        owners = k.owners;
+        reads = k.reads;
+        looks = λ e. absurd (omega arith);
       }
       (λ j u other r. record {
         kept = r.kept;
@@ -89,15 +94,18 @@ module _ (p : BoardLayout) where
             (put_else g.nodes m n x (λ q. other (sym (r.here (let z = sym e ∙ ap p.seat_of q ∙ owns in omega arith))
             ∙ ap g.seat_at (sym e ∙ ap p.seat_of q ∙ owns) ∙ k.here (omega arith)))));
         ends = r.ends;
+        owners = r.owners;
+        reads = r.reads;
+        looks = r.looks;
       })
       (λ n h o e. put_else g.nodes m n x (λ q. let a = k.is_split loops in let b = ap p.seat_of q in omega arith) ∙ s.unsplit n h o e)
       s.still s.table (λ _. refl) refl refl s
 
   -- a step of the driver's seat, after which it has loaded the statuses `looks` in its last check
   pub lead_step : (g : Whole) (words after : List ℕ) (views : List View) (id : ℕ) (v : View) (x : DriverView) (t : Trail) (looks : List Found)
-      → get_elem? views id ≡ some v → length after ≡ length words → v.number ≡ p.seats → t.looks ≡ looks
+      → get_elem? views id ≡ some v → length after ≡ length words → v.number ≡ p.seats → t.looks ≡ looks → AreOfNodes t.looks
       → Seated p g words views → Seated p (record (with_lead g x) { looks = looks }) after (set views id (view_lead v x t))
-  lead_step g words after views id v x t looks at same is_driver seen s = let k = s.knows id v at in
+  lead_step g words after views id v x t looks at same is_driver seen nodes_are s = let k = s.knows id v at in
       seat_step g (record (with_lead g x) { looks = looks }) words after views id v (view_lead v x t) at same
       record {
         kept = k.kept;
@@ -107,6 +115,9 @@ module _ (p : BoardLayout) where
         is_split = k.is_split;
         owns = k.owns;
         ends = k.ends;
+        owners = k.owners;
+        reads = k.reads;
+        looks = λ _. nodes_are;
       }
       (λ j u other r. record {
         kept = r.kept;
@@ -116,6 +127,9 @@ module _ (p : BoardLayout) where
         is_split = r.is_split;
         owns = r.owns;
         ends = r.ends;
+        owners = r.owners;
+        reads = r.reads;
+        looks = r.looks;
       })
       s.unsplit s.still s.table (λ _. refl) refl refl s
 
@@ -132,13 +146,28 @@ module _ (p : BoardLayout) where
         is_split = k.is_split;
         owns = k.owns;
         ends = k.ends;
+        owners = k.owners;
+        reads = k.reads;
+        looks = λ e. subst AreOfNodes (sym seen) (k.looks e);
       }
       (λ j u _ r. r) s.unsplit s.still s.table (λ _. refl) refl refl s
 
+  -- as many words of a link's block are read as a block has, at most
+  pub reads_set : (words_read : List ℕ) (l n : ℕ) → AreRead p words_read → n ≤ (pool_at p (pool_of p l)).words → AreRead p (set words_read l n)
+  reads_set words_read l n few low = record {
+    links = length-set words_read l n ∙ few.links;
+    few = λ i h. let size = few.links in dite (ℕ_discrete i l)
+        (λ e. subst (λ j. get_or (set words_read l n) j 0 ≤ (pool_at p (pool_of p j)).words) (sym e)
+        (let is : get_or (set words_read l n) l 0 ≡ n = get_or-set_same words_read l n 0 (omega arith) in omega arith))
+        (λ o. let is : get_or (set words_read l n) i 0 ≡ get_or words_read i 0 = get_or-set_other words_read l i n 0 o in
+        let most = few.few i h in omega arith);
+  }
+
   -- a reader has loaded sample words
   pub words_step : (g : Whole) (words after : List ℕ) (views : List View) (id : ℕ) (v : View) (words_read : List ℕ) → get_elem? views id ≡ some v
-      → length after ≡ length words → Seated p g words views → Seated p g after (set views id (record v { words_read = words_read }))
-  words_step g words after views id v words_read at same s = let k = s.knows id v at in
+      → length after ≡ length words → (v.number ≤ p.seats → AreRead p words_read) → Seated p g words views
+      → Seated p g after (set views id (record v { words_read = words_read }))
+  words_step g words after views id v words_read at same few s = let k = s.knows id v at in
       seat_step g g words after views id v (record v { words_read = words_read }) at same
       record {
         kept = k.kept;
@@ -148,13 +177,16 @@ module _ (p : BoardLayout) where
         is_split = k.is_split;
         owns = k.owns;
         ends = k.ends;
+        owners = k.owners;
+        reads = few;
+        looks = k.looks;
       }
       (λ j u _ r. r) s.unsplit s.still s.table (λ _. refl) refl refl s
 
   -- a check has loaded a status more
   pub look_step : (g : Whole) (words : List ℕ) (views : List View) (id : ℕ) (v : View) (t : Trail) → get_elem? views id ≡ some v
-      → v.number ≡ p.seats → Seated p g words views → Seated p (record g { looks = t.looks }) words (set views id (view_trail v t))
-  look_step g words views id v t at is_driver s = let k = s.knows id v at in
+      → v.number ≡ p.seats → AreOfNodes t.looks → Seated p g words views → Seated p (record g { looks = t.looks }) words (set views id (view_trail v t))
+  look_step g words views id v t at is_driver nodes_are s = let k = s.knows id v at in
       seat_step g (record g { looks = t.looks }) words words views id v (view_trail v t) at refl
       record {
         kept = k.kept;
@@ -164,6 +196,9 @@ module _ (p : BoardLayout) where
         is_split = k.is_split;
         owns = k.owns;
         ends = k.ends;
+        owners = k.owners;
+        reads = k.reads;
+        looks = λ _. nodes_are;
       }
       (λ j u other r. record {
         kept = r.kept;
@@ -173,6 +208,9 @@ module _ (p : BoardLayout) where
         is_split = r.is_split;
         owns = r.owns;
         ends = r.ends;
+        owners = r.owners;
+        reads = r.reads;
+        looks = r.looks;
       })
       s.unsplit s.still s.table (λ _. refl) refl refl s
 
@@ -193,6 +231,9 @@ module _ (p : BoardLayout) where
       is_split = k.is_split;
       owns = k.owns;
       ends = k.ends;
+      owners = k.owners;
+      reads = k.reads;
+      looks = k.looks;
     };
     most = s.most;
     present = s.present;

@@ -10,7 +10,7 @@ use Rattle.atomic_table.specs.Table.{opening, Splits}
 use Rattle.atomic_table.proofs.Lists.{at_set, set_else}
 use Rattle.board_rule.proofs.start.SeatLemmas.{set_there}
 use Rattle.board_rule.specs.declared.view.View.{View}
-use Rattle.std.specs.Prelude.{All, slice_get, Some, sum_by, take, map}
+use Rattle.std.specs.Prelude.{All, slice_get, slice_index, Some, sum_by, take, map}
 use Rattle.std.specs.List.{flat_map}
 use Rattle.std.proofs.lemmas.Option.{slice_get_within, get_or_from_slice_get}
 use Rattle.std.proofs.lemmas.List.Concat.{flat_map-cons}
@@ -32,7 +32,7 @@ use Rattle.board_rule.specs.buffers.SampleWords.{IsTable}
 use Rattle.board_rule.specs.buffers.BufferRule.{Buffers}
 use Rattle.board_rule.specs.buffers.BlockReadings.{Ends}
 use Rattle.board_rule.specs.buffers.Spans.{spans, holder}
-use Rattle.board_rule.specs.buffers.KnownEnds.{KnowsEnds, AreStill}
+use Rattle.board_rule.specs.buffers.KnownEnds.{KnowsEnds, AreRead, AreStill}
 use Rattle.board_rule.specs.events.EventRule.{drawn_before}
 use Rattle.board_rule.specs.events.Closing.{HasEndedAll, last_view, kept_view}
 use Rattle.board_rule.specs.activation.Phases.{PhaseOk}
@@ -42,7 +42,8 @@ use Rattle.board_rule.specs.declared.view.NodeView.{NodeView}
 use Rattle.board_rule.specs.declared.view.DriverView.{DriverView}
 use Rattle.pw_base.proofs.LayoutLemmas.{pools_have_blocks}
 use Rattle.pw_base.specs.declared.shape.Shape.{Shape}
-use Rattle.std.proofs.lemmas.List.Elements.{All-head, All-tail}
+use Rattle.std.proofs.lemmas.List.Elements.{All-head, All-tail, All-nil}
+use Rattle.std.proofs.lemmas.List.{get_or-replicate, length-replicate}
 use Rattle.board_rule.specs.BoardRule.{Knows, Holds}
 use Rattle.board_rule.proofs.SumLemmas.{total_same}
 use Rattle.board_rule.proofs.buffers.WiringLemmas.{Wired, wired, made}
@@ -192,6 +193,12 @@ module _ (p : BoardLayout) where
         ∙ ap some (sym (s.pools q x at (omega arith) (omega arith)));
   }
 
+  none_read : AreRead p (replicate (length p.shape.links) 0)
+  none_read = record {
+    links = length-replicate (length p.shape.links) 0;
+    few = λ l h. let z : slice_index (replicate (length p.shape.links) 0) l ≡ 0 = get_or-replicate (length p.shape.links) l 0 0 h in omega arith;
+  }
+
   still_later : (ends : Ends) (j : ℕ) → AreStill p ends j → AreStill p ends (suc j)
   still_later ends j s = record {
     writes = λ l k at a b. s.writes l k at (omega arith) b;
@@ -316,6 +323,9 @@ module _ (p : BoardLayout) {S : Type 0} where
         is_split = λ h. absurd (omega arith);
         owns = λ n h o e'. absurd (let z = sound.seats_in n h o in omega arith);
         ends = first_knows p sound pooled;
+        owners = λ _. refl;
+        reads = λ _. none_read p;
+        looks = λ _. All-nil _;
       }
       only (suc j) v e = absurd (some-ne-none v (sym e))
 
@@ -356,6 +366,9 @@ module _ (p : BoardLayout) {S : Type 0} where
                 is_split = λ z. absurd (omega arith);
                 owns = k.owns;
                 ends = k.ends;
+                owners = k.owners;
+                reads = k.reads;
+                looks = k.looks;
               })
               (λ (t : (j ≢ id) × (get_elem? s.views j ≡ some u)). let q = r.seated.knows j u t.1 in
               let small : u.number < g.split = q.is_split (dite (ℕ_discrete u.number p.seats)
@@ -369,6 +382,9 @@ module _ (p : BoardLayout) {S : Type 0} where
                 is_split = λ _. omega arith;
                 owns = q.owns;
                 ends = q.ends;
+                owners = q.owners;
+                reads = q.reads;
+                looks = q.looks;
               })
               (at_set s.views id j (split_off e v) u old))
               (λ (t : (j ≡ length (set s.views id (split_off e v))) × (loop_view p e v.split ≡ u)). subst
@@ -380,6 +396,9 @@ module _ (p : BoardLayout) {S : Type 0} where
                 is_split = λ _. omega arith;
                 owns = λ n l o q₀. all_same (nodes p) n (idle (first p)) l ∙ ap some (sym (r.seated.unsplit n l o (omega arith)));
                 ends = loop_knows p e v.split g.ends r.seated.pooled (subst (AreStill p g.ends) (sym count) r.seated.still) room;
+                owners = λ _. refl;
+                reads = λ _. none_read p;
+                looks = λ z. absurd (omega arith);
               })
               (at_end (set s.views id (split_off e v)) (loop_view p e v.split) u j q₀);
           most = omega arith;
@@ -461,6 +480,9 @@ module _ (p : BoardLayout) {S : Type 0} where
                 is_split = λ z. absurd (omega arith);
                 owns = k.owns;
                 ends = k.ends;
+                owners = k.owners;
+                reads = k.reads;
+                looks = k.looks;
               })
               (λ (t : (j ≢ id) × (get_elem? s.views j ≡ some u)). let q = r.seated.knows j u t.1 in record {
                 kept = λ z. omega arith;
@@ -470,6 +492,9 @@ module _ (p : BoardLayout) {S : Type 0} where
                 is_split = λ z. omega arith;
                 owns = q.owns;
                 ends = q.ends;
+                owners = q.owners;
+                reads = q.reads;
+                looks = q.looks;
               })
               (at_set s.views id j (last_view p v) u old))
               (λ (t : (j ≡ length (set s.views id (last_view p v))) × (kept_view p v ≡ u)). subst (λ (x : ℕ × View). Knows p h x.0 x.1)
@@ -481,6 +506,9 @@ module _ (p : BoardLayout) {S : Type 0} where
                 is_split = λ z. absurd (omega arith);
                 owns = λ n l o q₀. absurd (let z = r.seated.sound.seats_in n l o in omega arith);
                 ends = kept_knows p r.seated.sound (wired_in p r.whole s.words s.views r.seated) g.ends;
+                owners = λ z. absurd (omega arith);
+                reads = λ z. absurd (omega arith);
+                looks = λ z. absurd (omega arith);
               })
               (at_end (set s.views id (last_view p v)) (kept_view p v) u j q₀);
           most = omega arith;

@@ -1,6 +1,6 @@
 -- What each seat knows of the ends of its links, of its blocks and of its reclaims.
 -- Source: this project's own.
-use Rattle.std.specs.Prelude.{◌≡◌, ℕ, ◌+◌, ◌<◌, ◌≤◌, List, Some, slice_get}
+use Rattle.std.specs.Prelude.{◌≡◌, ℕ, ◌+◌, ◌<◌, ◌≤◌, List, Some, length, slice_get, slice_index}
 use mathlib.Core.Option.{some}
 use lib.ListN.{get_elem?}
 use Rattle.pw_base.specs.declared.shape.ShapeLink.{ShapeLink}
@@ -13,6 +13,7 @@ use Rattle.board_rule.specs.Layout.{BoardLayout, first}
 use Rattle.board_rule.specs.View.{first_write, first_block, unread}
 use Rattle.board_rule.specs.buffers.BlockReadings.{Ends}
 use Rattle.board_rule.specs.buffers.Spans.{holder, block_at}
+use Rattle.board_rule.specs.buffers.EndViews.{pool_at, pool_of}
 
 module _ (p : BoardLayout) where
   -- a seat, by its number, knows the ends of its own nodes, and the blocks and reclaims of the
@@ -33,6 +34,12 @@ module _ (p : BoardLayout) where
     pub of_pool : (q : ℕ) (x : PoolShape) → slice_get (pools_of p.shape) q ≡ Some x
         → holder p (p.index x.port.node) ≡ number
         → get_elem? reclaimed q ≡ some (ends.reclaimed q)
+
+  -- of each link it counts the sample words that are read of a block: no more than the block has
+  pub record AreRead (words_read : List ℕ) : Type 0 where
+    pub links : length words_read ≡ length p.shape.links
+    pub few : (l : ℕ) → l < length p.shape.links
+        → slice_index words_read l ≤ (pool_at p (pool_of p l)).words
 
   -- the ends, the blocks and the reclaims of a loop's seat that is not yet split off are as at the
   -- start

@@ -1,8 +1,13 @@
 -- Sets of node numbers below 64 as the bits of a word.
 -- Source: this project's own.
-use Rattle.std.specs.Prelude.{ℕ, ◌^◌, List, [], ◌∷◌, cond, eqb}
+use Rattle.std.specs.Prelude.{ℕ, ◌^◌, ◌≤◌, List, [], ◌∷◌, cond, eqb, All}
 use Rattle.std.specs.Int.Bits.{bit_or}
+use Rattle.pw_base.specs.Limits.{dummy_node}
 use Rattle.board_rule.specs.declared.view.Found.{Found}
+
+-- what is found is of nodes: their numbers have bits in such a set
+abbrev pub AreOfNodes : List Found → Type 0
+AreOfNodes fs = All (λ f. f.node ≤ dummy_node) fs
 
 abbrev pub with_bit : ℕ → ℕ → ℕ
 with_bit set n = bit_or set (2 ^ n)
