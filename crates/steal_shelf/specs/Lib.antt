@@ -2,5 +2,6 @@ pub mod Cells
 pub mod NewShelf
 pub mod ShelfRule
 pub mod ShelfSafety
+pub mod ShelfReach
 pub mod Seats
 pub mod working

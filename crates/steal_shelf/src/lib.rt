@@ -17,5 +17,5 @@ mod shelf;
 mod token;
 mod view;
 
-pub use safety::cells_are_alone;
+pub use safety::{cells_are_alone, cells_are_in_reach};
 pub use shelf::{Shelf, ShelfSeat};
