@@ -2,6 +2,7 @@ pub mod Hands
 pub mod QueueRule
 pub mod ParkingRule
 pub mod Lanes
+pub mod Looking
 pub mod Ends
 pub mod AnsweredWith
 pub mod Sending

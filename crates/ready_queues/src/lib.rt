@@ -25,6 +25,7 @@ mod sending;
 mod way;
 mod ways;
 
+pub use call::Look;
 pub use hand::Hand;
 pub use parking::{ParkingRule, Woken};
 pub use queue::QueueRule;

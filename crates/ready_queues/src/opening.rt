@@ -104,6 +104,7 @@ fn open_loop(
             driver,
             ends: Vec::new(alloc),
             taken: 0,
+            rested: 0,
         },
     })
 }
@@ -185,6 +186,7 @@ impl Ways {
             driver,
             ends,
             taken: 0,
+            rested: 0,
         };
         Ok((ways, way, Items::from_vec(others)))
     }

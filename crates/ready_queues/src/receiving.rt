@@ -1,12 +1,14 @@
 //! How a loop takes a number out of its queue, and how a thread rests.
-ghost use Rattle.std.specs.Prelude.{◌≡◌, ◌+◌, ◌-◌, ◌^◌, ◌<◌, cond, is_some, min, IfSome, IfNone};
+ghost use Rattle.std.specs.Prelude.{◌≡◌, ◌+◌, ◌-◌, ◌^◌, ◌<◌, ◌≤◌, cond, false, is_some, min};
+ghost use Rattle.std.specs.Prelude.{IfSome, IfNone};
 ghost use Rattle.ready_queues.specs.AnsweredWith.{IsWayOf};
 ghost use Rattle.ready_queues.specs.Ends.{AreEndsOf, received_by};
 ghost use Rattle.ready_queues.specs.QueueRule.{IsNodeOf};
 ghost use Rattle.ready_queues.specs.Receiving.{HasReceived, WasEmpty, AreSameEnds, IsSameThread};
 ghost use Rattle.ready_queues.specs.Receiving.{HasRested};
+ghost use Rattle.ready_queues.specs.Looking.{IsInVain, spins_limit};
 
-use crate::call::Call;
+use crate::call::{Call, Look};
 use crate::end::End;
 use crate::parking::park;
 use crate::queue::Pops;
@@ -68,13 +70,23 @@ impl Ways {
         }
     }
 
-    /// Whether the way's own thread is called within some microseconds: a loop by who pushes into
-    /// its queue, the driver's thread by who has unparked it. A thread that has nothing to do asks
-    /// this before it rests. It looks 64 times at most: it spins between the first looks, and lets
-    /// other threads run between the others. It has no clause: contracts see nothing of calls.
-    /// Takes no memory, does not wait.
+    /// Looks for some microseconds whether the way's own thread is called: a loop by who pushes
+    /// into its queue, the driver's thread by who has unparked it. A thread that has nothing to do
+    /// looks before it rests. It spins between its looks, 256 times at most, and never yields;
+    /// where it has looked in vain eight times in a row it does not spin, but for one look in 64.
+    /// Whether it was called no clause says: contracts see nothing of calls. Takes no memory, does
+    /// not wait.
+    pub fn look(&self, way: &Way) -> Look
+        ensures most { result.spins ≤ spins_limit }
+        ensures vain { result.called ≡ false → IsInVain result.spins }
+    {
+        self.call_of(way.number).look()
+    }
+
+    /// Whether `look` finds the way's own thread called. It has no clause. Takes no memory, does
+    /// not wait.
     pub fn is_called_soon(&self, way: &Way) -> bool {
-        self.call_of(way.number).comes_soon()
+        self.look(way).called
     }
 
     /// Parks the way's own thread until it is unparked, which may have been before. Takes no
@@ -86,6 +98,7 @@ impl Ways {
         ensures rested { HasRested way.old way.new }
     {
         park(rt, &way.parker, &mut way.own);
+        way.rested = way.rested.saturating_add(1);
         self.call_of(way.number).forget();
     }
 }

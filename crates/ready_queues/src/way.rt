@@ -1,5 +1,6 @@
 //! The ways of one thread to the queues and parkers.
 ghost use Rattle.std.specs.Prelude.{◌≡◌, ◌-◌, ◌^◌, min};
+ghost use Rattle.crossbeam_utils.specs.Token.{parker_view};
 ghost use Rattle.ready_queues.specs.Ends.{received_by};
 ghost use Rattle.ready_queues.specs.Lanes.{unparks};
 
@@ -16,8 +17,10 @@ pub struct Way {
     pub(crate) driver: ParkPass,
     pub(crate) ends: Vec<End>,
     pub(crate) taken: u64,
+    pub(crate) rested: u64,
     pub ghost parks: { own.table_id ≡ unparks parker.unparker },
     pub ghost counted: { taken ≡ min (received_by ends.items) (2 ^ 64 - 1) },
+    pub ghost rests: { rested ≡ min (parker_view own).taken (2 ^ 64 - 1) },
 }
 
 impl Way {
@@ -33,5 +36,12 @@ impl Way {
         ensures { result ≡ min (received_by self.now.ends.items) (2 ^ 64 - 1) }
     {
         self.taken
+    }
+
+    /// How often its thread rested; 2^64 - 1 where that is more. Takes no memory.
+    pub fn rested(&self) -> u64
+        ensures { result ≡ min (parker_view self.now.own).taken (2 ^ 64 - 1) }
+    {
+        self.rested
     }
 }

@@ -11,6 +11,7 @@ invariant_of-way g c = let way = c.args.way.now in let t = c.send_all in
     record {
       parks = way.parks;
       counted = way.counted ∙ ap (λ k. min k (2 ^ 64 - 1)) (sym (ap received_by now ∙ t.ensures.count ∙ ap received_by c.as_mut_slice.ensures.value));
+      rests = way.rests;
     }
 
 pub returns-clause-sent : goal.returns-clause-sent
