@@ -35,6 +35,6 @@ pub use did::Did;
 pub use driving::pass_driver;
 pub use loop_state::LoopState;
 pub use ready_queues::{Way, Ways};
-pub use running::run_all;
+pub use running::{rest_unless_called, run_all};
 pub use settling::settle;
 pub use tried::Tried;

@@ -54,8 +54,10 @@ fn try_given<R: Wait, G: Gate>(
     did
 }
 
-// The thread rests, unless its loop is called soon.
-fn rest_unless_called<R: Wait>(rt: &R, ways: &Ways, way: &mut Way)
+/// How a loop waits: its thread looks for some microseconds whether the loop is called, and rests
+/// where it is not. Takes no memory.
+/// Condition: the way was answered with these ways.
+pub fn rest_unless_called<R: Wait>(rt: &R, ways: &Ways, way: &mut Way)
     requires answered { IsWayOf ways.now way.old }
     ensures answered { IsWayOf ways.now way.new }
     ensures number { way.new.number ≡ way.old.number }

@@ -1,6 +1,7 @@
 use Rattle.std.proofs.Common.{ℕ, List, length, sym, ap, ◌∙◌}
 use Rattle.board_rule.specs.OnBoard.{layout, table_of}
 use Rattle.data_loop.proofs.SettlingLemmas.{settled_idle}
+use Rattle.data_loop.proofs.RunningLemmas.{way_on}
 use Rattle.data_loop.proofs.running.try_all.Goals as goal
 
 pub returns-then-len-eq0-clause-settled : goal.returns-then-len-eq0-clause-settled
@@ -11,3 +12,7 @@ returns-then-len-eq0-clause-settled g c = λ _. settled_idle (layout c.args.boar
       led = c.turn.ensures.led;
     } c.in-Idle.ensures.did
     (sym (ap (λ (l : List (ℕ × ℕ)). length l) c.found.ensures) ∙ sym c.len.ensures ∙ c.if-len-eq0.true)
+
+pub returns-else-len-eq0-clause-way : goal.returns-else-len-eq0-clause-way
+returns-else-len-eq0-clause-way g c = way_on c.args.ways.now c.args.state.now c.turn.new.self c.args.way.now c.rest_unless_called.new.way
+    c.turn.ensures.same.nodes c.rest_unless_called.ensures.number c.rest_unless_called.ensures.answered c.requires.way
