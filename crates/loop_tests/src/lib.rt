@@ -23,6 +23,8 @@ mod steps;
 #[cfg(test)]
 mod threads;
 #[cfg(test)]
+mod waits;
+#[cfg(test)]
 mod words;
 #[cfg(test)]
 mod work;

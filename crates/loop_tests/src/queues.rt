@@ -23,7 +23,7 @@ fn owners(alloc: Global) -> Result<Items<u32>, Memory>
 }
 
 // The ways of the row: the driver's, and those of the two loops.
-fn row_ways(alloc: Global) -> Option<(Ways, Way, Way, Way)>
+pub(crate) fn row_ways(alloc: Global) -> Option<(Ways, Way, Way, Way)>
     ensures loops { IfSome result (λ t. t.0.loops ≡ 2) }
     ensures driver { IfSome result (λ t. IsDriverWay t.0 t.1) }
     ensures first { IfSome result (λ t. IsWayOf t.0 t.2 × (t.2.number ≡ 0)) }
