@@ -84,6 +84,9 @@ fn is_over<R: Wait, G: Gate>(
 /// else one whose node has a sign. It does not rest; where it found nothing it lets others run,
 /// and after some such rounds in a row it also goes through all cells, one a round. It may wait.
 /// Takes no memory.
+///
+/// On a machine with other work a worker that lets others run gives a whole time slice away. That
+/// does little harm here, where the other threads run what it would have run.
 /// Condition: the way is that of a worker.
 pub(crate) fn run_worker<R: Wait, G: Gate>(rt: &R, gate: &G, shared: &Shared, taker: Taker) -> Taker
     requires cells { AreCells shared.now }
