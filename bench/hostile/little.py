@@ -1,7 +1,7 @@
 """Little memory, few files, few threads."""
 import resource
 
-from worked import ONE, ONE_TEXT, SQUARE, wav
+from worked import ONE, ONE_TEXT, wav
 
 LONG = ("quantum 8192\nsource s little.wav\ngain g 256\nsink o little.out\ndriver o 1\n"
         "link s.out g.in\nlink g.out o.in\ncycles 500\n")
@@ -31,7 +31,7 @@ def address_space(place):
 
 
 def other_limits(place):
-    """Few open files, few threads, and a small stack."""
+    """Few open files, and a small stack."""
     place.file("limits.graph", ONE.format("limits.wav"))
     for limit, value, wanted in [
             (resource.RLIMIT_NOFILE, 4, (0, ONE_TEXT)),
@@ -41,7 +41,3 @@ def other_limits(place):
             place.expect(f"limit {limit} of {value}, {loops} loops",
                          ["run", "limits.graph", "--loops", loops], *wanted,
                          limits=[(limit, value)])
-    place.file("threads.graph", ONE.format("threads.wav"))
-    place.expect("no threads", ["run", "threads.graph", "--loops", "16"], 0, ONE_TEXT, nobody=True,
-                 limits=[(resource.RLIMIT_NPROC, 1)])
-    place.same("the file of a run without threads", SQUARE, place.read("threads.wav"))

@@ -1,7 +1,5 @@
 """Each call of the program to the C library for memory, files and threads, refused in its turn."""
-import os
-import subprocess
-
+from preload import NO_COMPILER, Preload, compiler
 from worked import EXTENSIBLE_WAV, FORMAT, GAINS, wav
 
 GRAPH = """quantum 4
@@ -26,26 +24,20 @@ COMMANDS = [
 
 
 class Refusals:
-    def __init__(self, place, words, files):
-        self.place, self.words, self.files = place, words, files
-        self.whole = self.ask(COUNTS=str(place.folder / "counts"))
+    def __init__(self, place, preload, words, files):
+        self.place, self.preload, self.words, self.files = place, preload, words, files
+        self.old()
+        self.whole, self.counts = preload.count(*words)
         self.stored = [place.read(file) for file in files]
-        lines = (place.read("counts") or b"").decode().split("\n")
-        self.counts = {line.split()[0]: int(line.split()[1]) for line in lines if line}
 
-    def ask(self, **environment):
+    def old(self):
         for file in self.files:
             self.place.file(file, "old")
-        os.environ.update(LD_PRELOAD=str(self.place.folder / "refuse.so"), **environment)
-        try:
-            return self.place.ask(*self.words)
-        finally:
-            for name in ["LD_PRELOAD", *environment]:
-                del os.environ[name]
 
     def refuse(self, call, number, how):
         """One refusal: how the program ended, and what stands of each file."""
-        answer = self.ask(REFUSE=f"{call} {number} {how}")
+        self.old()
+        answer = self.preload.refuse(call, number, how, *self.words)
         left = [self.place.read(file) for file in self.files]
         state = ["old" if now == b"old" else "whole" if now == then else "part"
                  if then.startswith(now) else "wrong"
@@ -77,16 +69,16 @@ class Refusals:
 
 def calls(place):
     """Each growth, read, write, open and start of a thread, refused in its turn."""
-    library = place.folder / "refuse.so"
-    source = os.path.join(os.path.dirname(__file__), "refuse.c")
-    subprocess.run(["gcc", "-O2", "-shared", "-fPIC", "-o", library, source], check=True)
+    if not compiler():
+        return place.pass_over(NO_COMPILER)
+    preload = Preload(place)
     for name, content in [("two.graph", GRAPH),
                           ("a.wav", wav([100, 200, 300, 400, 500, 600, 700, 800])),
                           ("gains.pod", GAINS),
                           ("b.wav", EXTENSIBLE_WAV), ("format.pod", FORMAT), ("some.trace", TRACE)]:
         place.file(name, content)
     for words, files in COMMANDS:
-        refusals = Refusals(place, words, files)
+        refusals = Refusals(place, preload, words, files)
         for call, count in refusals.counts.items():
             for number in range(1, count + 1):
                 for how in ["fail", "short"] if call in ("read", "write") else ["fail"]:

@@ -1,7 +1,7 @@
 """Each proper prefix of worked files, and PODs that are too deep or too great."""
 import struct
 
-from worked import EXTENSIBLE_WAV, FORMAT, GAINS, ODD_WAV, number, pod
+from worked import EXTENSIBLE_WAV, FORMAT, GAINS, ODD_WAV, nested, number, pod
 
 GRAPH = "quantum 1\nsource s prefix.wav\nsink o prefix.out\ndriver o 1\nlink s.out o.in\ndrain\n"
 
@@ -46,13 +46,6 @@ def pods(place):
     place.expect("a sequence", ["dump", "prefix.pod"], 0,
                  "sequence 0 1\n  control 2 1\n    object 262146 2 1\n"
                  "      prop 16777217 0\n        int 128\n")
-
-
-def nested(depth):
-    content = b""
-    for _ in range(depth):
-        content = pod(14, content)
-    return content
 
 
 def deep(place):

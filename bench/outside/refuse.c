@@ -1,7 +1,8 @@
 /* Put before the C library by LD_PRELOAD: refuses one call of the program. REFUSE names it, as in
    `malloc 17 fail`: the 17th call of malloc or realloc answers no memory; of `read`, `write`,
-   `open` and `thread` the call of this number fails, or with `short` moves one byte alone. COUNTS
-   names a file that is given how many calls of each there were. */
+   `open` and `thread` the call of this number fails; with `on` in place of `fail` each behind it
+   fails too, and with `short` it moves one byte alone. COUNTS names a file that is given how many
+   calls of each there were. */
 #define _GNU_SOURCE
 #include <dlfcn.h>
 #include <errno.h>
@@ -30,6 +31,7 @@ static int refused(int call) {
     if (!wish || strncmp(wish, names[call], length) || wish[length] != ' ') return 0;
     char *end;
     long wanted = strtol(wish + length, &end, 10);
+    if (!strcmp(end, " on")) return number >= wanted;
     if (number != wanted) return 0;
     return strcmp(end, " short") ? 1 : 2;
 }

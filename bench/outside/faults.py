@@ -1,8 +1,4 @@
 """Faults that people make, each with its sentence; and scripts that can be read only once."""
-import os
-import subprocess
-import threading
-
 from messages import told
 
 START = "quantum 4\nsquare s 48000 1 4 9\nsink o o.wav\ngain g 256\nmix2 m 256 256\nsplit t\n"
@@ -94,39 +90,17 @@ def once(place):
     wrong = b"gain a 1\non vox\n"
     said = b':2: no node is called "vox"\n'
     wanted = 2, b"script 2 7\n"
-
-    def run(name, **how):
-        done = subprocess.run([place.program, "run", name], cwd=place.folder, timeout=1,
-                              stdout=subprocess.PIPE, stderr=subprocess.PIPE, **how)
-        return (done.returncode, done.stdout), done.stderr
-
-    pipe = os.path.join(place.folder, "pipe")
-    os.mkfifo(pipe)
-
-    def feed():
-        with open(pipe, "wb") as end:
-            end.write(wrong)
-
-    feeder = threading.Thread(target=feed)
-    feeder.start()
-    place.same("a named pipe", (wanted, b"pipegraph: pipe" + said), run("pipe"))
-    feeder.join()
-    place.same("standard input", (wanted, b"pipegraph: /dev/stdin" + said),
-               run("/dev/stdin", input=wrong))
-    place.file("wrong.graph", wrong)
-    done = subprocess.run(["bash", "-c", f'"{place.program}" run <(cat wrong.graph)'],
-                          cwd=place.folder, timeout=1, stdout=subprocess.PIPE,
-                          stderr=subprocess.PIPE)
-    place.same("a process", (wanted, True),
-               ((done.returncode, done.stdout), done.stderr.endswith(said)))
+    place.feed("once.fifo", wrong)
+    place.same("a named pipe", (*wanted, b"pipegraph: once.fifo" + said),
+               told(place, ["run", "once.fifo"]))
+    place.same("standard input", (*wanted, b"pipegraph: /dev/stdin" + said),
+               told(place, ["run", "/dev/stdin"], given=wrong))
     place.file("own.graph", "quantum 4\nsquare s 48000 1 4 9\nsink a own.graph\nsink o no/o.wav\n"
                "link s.out a.in\nlink s.out o.in\ncycles 1\n")
     place.same("a script that a sink overwrites",
-               ((7, b"write 4\n"), b"pipegraph: own.graph:4: no/o.wav: the file cannot be written\n"),
-               run("own.graph"))
-    no_text = subprocess.run([place.program, b"run", b"a\xff"], cwd=place.folder, timeout=1,
-                             stdout=subprocess.PIPE, stderr=subprocess.PIPE)
+               (7, b"write 4\n", b"pipegraph: own.graph:4: no/o.wav: the file cannot be written\n"),
+               told(place, ["run", "own.graph"]))
     place.same("a word that is no text", (1, b"", b"pipegraph: word 2 is not text in UTF-8\n"),
-               (no_text.returncode, no_text.stdout, no_text.stderr))
+               told(place, [b"run", b"a\xff"]))
     place.same("control characters", b"pipegraph: a\\x1b[31mb\\x0a.graph: there is no such file\n",
                told(place, ["run", "a\x1b[31mb\n.graph"])[2])

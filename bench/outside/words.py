@@ -1,4 +1,5 @@
 """Command lines."""
+from asking import MAIN, PICTURES, PODS
 
 
 def odd_words(place):
@@ -53,7 +54,43 @@ def odd_words(place):
             (["soak", "7"], 0, "soak 7 306 78336 -7763562 32768\n"),
             (["run", "a\nb"], 5, "absent 0\n"), (["run", "no/such/folder"], 5, "absent 0\n")]:
         place.expect(f"{len(words)} words {[w[:20] for w in words[:5]]}", words, status, line)
-    for words in [[b"\xff"], [b"run", b"\xff"], [b"run", b"a", b"\xc3"],
-                  [b"run", b"a", b"--loops", b"1", b"\xed\xa0\x80"],
-                  [b"play", b"\x80"], [b"dump", b"a", b"b", b"\xc0\xaf"]]:
-        place.expect(f"no text {words}", words, 1, "")
+
+
+def helps(place):
+    """Help, and what every program says of words that it does not know."""
+    for words in [[], ["-h"], ["--help"], ["--version"]]:
+        answer = place.expect(f"pipegraph {words}", words, 1, "usage 0\n")
+        place.same(f"pipegraph {words}: help", True, answer.errors.startswith(b"pipegraph 0.1: "))
+        place.expect(f"pipegraph-pictures {words}", words, 1, "usage 0\n", of=PICTURES)
+    for words in [["-h"], ["--help"]]:
+        answer = place.ask(*words, of=PODS)
+        place.same(f"pipegraph-pods {words}", (0, True, b""),
+                   (answer.status, answer.out.startswith(b"usage: pipegraph-pods gains LIST OUT\n"),
+                    answer.errors))
+    for words in [[], ["--version"], ["play"], ["gains", "a"], ["pod", "a", "b", "c"],
+                  ["gains", "", "b"], ["pod", "-a", "b"], ["format", "o", "rate", "2..1", "channels", "1"],
+                  ["format", "o", "rate", "1", "channels", "1", "mandatory", "size"]]:
+        place.expect(f"pipegraph-pods {words}", words, 1, of=PODS)
+    for words, line in [(["play"], "usage 0\n"), (["graph"], "usage 1\n"), (["graph", "-a"], "usage 1\n"),
+                        (["graph", "a", "b", "c"], "usage 3\n"), (["timeline", "a"], "usage 2\n"),
+                        (["wave"], "usage 1\n"), (["wave", "a", "b"], "usage 2\n"),
+                        (["wave", "a" * 256], "usage 1\n")]:
+        place.expect(f"pipegraph-pictures {words}", words, 1, line, of=PICTURES)
+
+
+def no_text(place):
+    """Words that are no text in UTF-8, the program's own name among them."""
+    for words, at in [
+            ([b"\xff"], 1), ([b"run", b"\xff"], 2), ([b"run", b"a", b"\xc3"], 3),
+            ([b"run", b"a", b"--loops", b"1", b"\xed\xa0\x80"], 5), ([b"play", b"\x80"], 2),
+            ([b"dump", b"a", b"b", b"\xc0\xaf"], 4), ([b"soak", b"\xf8\x88\x80\x80\x80"], 2)]:
+        answer = place.expect(f"no text {words}", words, 1)
+        place.same(f"what is said of {words}", f"pipegraph: word {at} is not text in UTF-8\n".encode(),
+                   answer.errors)
+    for of, words in [(MAIN, ["run", "/dev/null"]), (MAIN, ["soak", "7"]), (PODS, ["--help"]),
+                      (PICTURES, ["graph", "/dev/null"])]:
+        answer = place.ask(*words, of=of, name=b"\xff\xfe")
+        place.same(f"{of} by a name that is no text", (1, b""), (answer.status, answer.out))
+        answer = place.ask(*words[:-1], b"\xff", of=of)
+        place.same(f"{of} {words[:-1]} and a word that is no text", (1, b""),
+                   (answer.status, answer.out))

@@ -1,11 +1,8 @@
 """Notes on what was accepted, by standard error alone."""
 import os
-import subprocess
-import threading
 
-from causes import choice, thing
 from messages import told
-from worked import number
+from worked import choice, number, thing
 
 START = """quantum 4
 square a 48000 1 4 9
@@ -59,9 +56,9 @@ def links(place):
         for how in ["/dev/full", os.devnull]:
             with open(how, "wb") as to:
                 place.same(f"{lines} to {how}", (0, out),
-                           told(place, ["run", "some.graph"], to)[:2])
+                           told(place, ["run", "some.graph"], errors_to=to)[:2])
         place.same(f"{lines} without one", (0, out),
-                   told(place, ["run", "some.graph"], preexec_fn=lambda: os.close(2))[:2])
+                   told(place, ["run", "some.graph"], closed=[2])[:2])
 
 
 def others(place):
@@ -97,31 +94,14 @@ def others(place):
 def once(place):
     """Notes on scripts that can be read only once."""
     script = (START + "link b.out o.in\nlink a.out o.in\ncycles 1\n").encode()
+    text = b"link b.out o.in 44100 1 2\nnolink a.out o.in 65539\nwrote o 4\n"
     said = b':9: "a.out" to "o.in" is no link: no common rate (key 65539)\n'
-
-    def run(words, **how):
-        done = subprocess.run(words, cwd=place.folder, timeout=1, stdout=subprocess.PIPE,
-                              stderr=subprocess.PIPE, **how)
-        return done.returncode, done.stdout.startswith(b"link b.out o.in 44100 1 2\nnolink"), \
-            done.stderr.endswith(said) and done.stderr.startswith(b"pipegraph: ")
-
-    pipe = os.path.join(place.folder, "script.pipe")
-    os.mkfifo(pipe)
-
-    def feed():
-        with open(pipe, "wb") as end:
-            end.write(script)
-
-    feeder = threading.Thread(target=feed)
-    feeder.start()
-    place.same("a named pipe", (0, True, True), run([place.program, "run", "script.pipe"]))
-    feeder.join()
-    place.same("standard input", (0, True, True),
-               run([place.program, "run", "/dev/stdin"], input=script))
-    place.file("notes.graph", script)
-    place.same("a process", (0, True, True),
-               run(["bash", "-c", f'"{place.program}" run <(cat notes.graph)']))
+    place.feed("script.pipe", script)
+    place.same("a named pipe", (0, text, b"pipegraph: script.pipe" + said),
+               told(place, ["run", "script.pipe"]))
+    place.same("standard input", (0, text, b"pipegraph: /dev/stdin" + said),
+               told(place, ["run", "/dev/stdin"], given=script))
     place.file("own.graph", script.replace(b"o.wav", b"own.graph"))
-    place.same("a script that a sink overwrites", (0, True, True),
-               run([place.program, "run", "own.graph"]))
+    place.same("a script that a sink overwrites", (0, text, b"pipegraph: own.graph" + said),
+               told(place, ["run", "own.graph"]))
     place.same("what is left of it", b"RIFF", place.read("own.graph")[:4])

@@ -73,7 +73,7 @@ def random_sequence(draw):
 def sequences(place):
     """Random control sequences, and the files that they change."""
     draw = random.Random(7)
-    for i in range(COUNT):
+    for i in range(place.some(COUNT)):
         content = random_sequence(draw) if i % 5 else randoms.changed(draw, GAINS)
         channels = draw.choice([1, 2, 3])
         frames = [[draw.randint(-32768, 32767) for _ in range(channels)]

@@ -279,7 +279,8 @@ def run(script, waves, pods):
     model = Model(waves, pods)
     for number, line in enumerate(script.split("\n"), 1):
         try:
-            model.line(line.split())
+            if line.split():
+                model.line(line.split())
         except readers.Refused as fault:
             return 4, f"pod {number} " + " ".join(map(str, fault.args)) + "\n", {}
     return 0, *model.end()

@@ -104,7 +104,7 @@ def traces(place):
     draw = random.Random(8)
     waves, offers = graphs.make_waves(place, draw), graphs.make_offers(place, draw)
     asked = 0
-    while asked < COUNT:
+    while asked < place.some(COUNT):
         script = graphs.random_graph(draw)
         if script.index(" s0") > script.index(" o0"):
             continue  # the late names of a tick ascend by number

@@ -1,6 +1,5 @@
 """The sentences for people."""
 import os
-import subprocess
 
 SYNOPSIS = """usage: pipegraph run SCRIPT [--loops N] [--ticks N] [--trace] [--steal]
        pipegraph dump FILE
@@ -12,11 +11,9 @@ SYNOPSIS = """usage: pipegraph run SCRIPT [--loops N] [--ticks N] [--trace] [--s
 """
 
 
-def told(place, words, errors=subprocess.PIPE, **how):
+def told(place, words, **how):
     """Status, output and what stands on standard error."""
-    done = subprocess.run([place.program, *words], cwd=place.folder, stdin=subprocess.DEVNULL,
-                          stdout=subprocess.PIPE, stderr=errors, timeout=60, **how)
-    return done.returncode, done.stdout, done.stderr
+    return place.ask(*words, **how)[:3]
 
 
 def sentences(place):
@@ -51,9 +48,9 @@ def sentences(place):
         place.same(" ".join(words), wanted, told(place, words))
         for how in ["/dev/full", os.devnull]:
             with open(how, "wb") as errors:
-                place.same(f"{words} to {how}", wanted[:2], told(place, words, errors)[:2])
+                place.same(f"{words} to {how}", wanted[:2], told(place, words, errors_to=errors)[:2])
         place.same(f"{words} without one", wanted[:2],
-                   told(place, words, preexec_fn=lambda: os.close(2))[:2])
+                   told(place, words, closed=[2])[:2])
     for words, sentence in [
             (["run"], "a word is missing"),
             (["play"], 'this word is wrong here: "play"'),
@@ -66,8 +63,5 @@ def sentences(place):
                    (status, line, text.startswith(b"pipegraph 0.1: ")))
     place.same("nothing where all was done", b"", told(place, ["run", "fine.graph"])[2])
     with open("/dev/full", "wb") as full:
-        done = subprocess.run([place.program, "run", "fine.graph", "--trace"], cwd=place.folder,
-                              stdin=subprocess.DEVNULL, stdout=full, stderr=subprocess.PIPE,
-                              timeout=60)
-    place.same("a full output", (7, b"pipegraph: standard output cannot be written\n"),
-               (done.returncode, done.stderr))
+        place.same("a full output", (7, b"", b"pipegraph: standard output cannot be written\n"),
+                   told(place, ["run", "fine.graph", "--trace"], to=full))

@@ -1,12 +1,10 @@
 """Texts of PODs: from a file to its dump and back to the value's one spelling, by the built programs."""
 import random
 import struct
-import subprocess
-from pathlib import Path
 
-import asking
 import randoms
 import readers
+from asking import PODS, TOP
 from worked import FORMAT, GAINS, number, pod
 
 COUNT = 10000
@@ -65,66 +63,54 @@ def spelled(lines):
         spelled(lines)[1] for _ in range(count))
 
 
-def maker(place):
-    """The program that makes PODs, beside the one that is asked."""
-    built = asking.TOP / "crates/pw_pods/out/pw_pods"
-    if not built.exists():
-        subprocess.run(["rt", "run", "--", "--help"], cwd=asking.TOP / "crates/pw_pods",
-                       stdout=subprocess.DEVNULL, check=False)
-    return built
+def made(place, *words, given=b""):
+    """What the program that makes PODs answers."""
+    return place.ask(*words, of=PODS, given=given)[:3]
 
 
-def made(program, place, *words, given=None):
-    done = subprocess.run([program, *words], cwd=place.folder, input=given,
-                          stdout=subprocess.PIPE, stderr=subprocess.PIPE, timeout=60)
-    return done.returncode, done.stdout, done.stderr
-
-
-def back_and_forth(program, place, content):
+def back_and_forth(place, content):
     """A file to its dump and back: the value's one spelling, which has the same dump."""
     status, text = readers.dump(content)
     if status != 0:
         return
     wanted = pod(*spelled(text.splitlines()))
     place.same(f"the spelling of {text!r}", (0, wanted, b""),
-               made(program, place, "pod", "-", "-", given=text.encode()))
+               made(place, "pod", "-", "-", given=text.encode()))
     place.same(f"the dump of {wanted.hex()}", (0, text), readers.dump(wanted))
 
 
 def texts(place):
     """PODs to text and back."""
-    program = maker(place)
     draw = random.Random(48)
     worked = [FORMAT, GAINS, number(-1), pod(1, b"")]
-    worked += [path.read_bytes() for path in sorted((asking.TOP / "demo").glob("*.pod"))]
+    worked += [path.read_bytes() for path in sorted((TOP / "demo").glob("*.pod"))]
     for content in worked:
-        back_and_forth(program, place, content)
+        back_and_forth(place, content)
         place.file("worked.pod", content)
         answer = place.ask("dump", "worked.pod")
         place.file("worked.text", answer.out)
         place.same("a worked file", (0, b"", b""),
-                   made(program, place, "pod", "worked.text", "worked.back"))
+                   made(place, "pod", "worked.text", "worked.back"))
         place.same("its spelling", content, place.read("worked.back"))
     count = 0
-    while count < COUNT:
+    while count < place.some(COUNT):
         content = randoms.random_pod(draw)
         if readers.dump(content)[0] == 0:
             count += 1
-            back_and_forth(program, place, content)
+            back_and_forth(place, content)
 
 
 def wrong_texts(place):
     """Texts that are no dumps: each is refused, and nothing is put."""
-    program = maker(place)
     draw = random.Random(49)
     count = 0
-    while count < WRONG_COUNT:
+    while count < place.some(WRONG_COUNT):
         status, text = readers.dump(randoms.random_pod(draw))
         if status != 0:
             continue
         count += 1
         changed = randoms.changed(draw, text.encode())
-        status, out, said = made(program, place, "pod", "-", "-", given=changed)
+        status, out, said = made(place, "pod", "-", "-", given=changed)
         if status == 0:
             place.same(f"accepted {changed!r}", (0, changed.decode()), readers.dump(out))
         else:

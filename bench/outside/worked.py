@@ -37,3 +37,46 @@ def number(n):
 
 
 SQUARE = wav([100, 100, -100, -100] * 256)  # what ONE stores
+
+
+def form(tag=1, channels=1, rate=48000, bits=16):
+    """The body of a chunk `fmt `."""
+    return struct.pack("<HHIIHH", tag, channels, rate, 0, 2 * channels, bits)
+
+
+def chunk(name, body, size=None):
+    return name + struct.pack("<I", len(body) if size is None else size) + body
+
+
+def riff(*chunks):
+    return b"RIFF" + bytes(4) + b"WAVE" + b"".join(chunks)
+
+
+def nested(depth):
+    """So many structs, each the only one in that around it."""
+    inner = b""
+    for _ in range(depth):
+        inner = pod(14, inner)
+    return inner
+
+
+def choice(how, *numbers):
+    """A choice of Ints."""
+    return pod(19, struct.pack("<IIII", how, 0, 4, 4) + struct.pack(f"<{len(numbers)}i", *numbers))
+
+
+def thing(*fields, kind=0x40003, about=3):
+    """An object of these properties."""
+    body = b"".join(struct.pack("<II", key, 0) + value for key, value in fields)
+    return pod(15, struct.pack("<II", kind, about) + body)
+
+
+def props(gain):
+    """The object of a control whose gain is this value."""
+    return thing((16777217, gain), kind=0x40002, about=2)
+
+
+def sequence(*controls):
+    """A control sequence of these offsets and values."""
+    return pod(16, bytes(8) + b"".join(struct.pack("<II", offset, 1) + value
+                                       for offset, value in controls))

@@ -44,7 +44,7 @@ def random_format(draw):
 def filters(place):
     """Random formats, and what two of them have in common."""
     draw = random.Random(6)
-    for i in range(COUNT):
+    for i in range(place.some(COUNT)):
         a, b = random_format(draw), random_format(draw)
         if i % 10 == 0:
             b = randoms.changed(draw, b)

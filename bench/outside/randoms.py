@@ -64,7 +64,7 @@ def waves(place):
     """Random WAV files."""
     draw = random.Random(1)
     place.file("random.graph", GRAPH)
-    for i in range(COUNT):
+    for i in range(place.some(COUNT)):
         kind = i % 3
         content = random_wave(draw) if kind else changed(draw, ODD_WAV)
         content = changed(draw, content) if kind == 1 else content
@@ -109,7 +109,7 @@ def random_pod(draw, depth=1):
 def pods(place):
     """Random PODs."""
     draw = random.Random(2)
-    for i in range(COUNT):
+    for i in range(place.some(COUNT)):
         content = random_pod(draw) if i % 3 else changed(draw, draw.choice([FORMAT, GAINS]))
         content = changed(draw, content) if i % 3 == 1 else content
         place.file("random.pod", content)
@@ -156,7 +156,7 @@ def random_line(draw, names):
 def scripts(place):
     """Random scripts."""
     draw = random.Random(3)
-    for _ in range(COUNT):
+    for _ in range(place.some(COUNT)):
         names, lines = ["a"], []
         for _ in range(draw.randint(1, 14)):
             lines.append(random_line(draw, names))
@@ -196,7 +196,7 @@ def others(place):
                 (["automate", "random", "good.pod", "never"], [3]),
                 (["automate", "good.wav", "random", "never"], [4]),
                 (["check", "empty.graph", "random"], [0])]
-    for i in range(COUNT):
+    for i in range(place.some(COUNT)):
         words, statuses = commands[i % len(commands)]
         place.file("random", draw.randbytes(draw.choice([1, 3, 8, 9, 16, 100, 5000])))
         answer = place.ask(*words)

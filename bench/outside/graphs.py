@@ -115,7 +115,7 @@ def graphs(place):
     """Random graphs: their text, their files and their traces."""
     draw = random.Random(5)
     waves, offers = make_waves(place, draw), make_offers(place, draw)
-    for _ in range(COUNT):
+    for _ in range(place.some(COUNT)):
         script = random_graph(draw)
         loops = str(draw.choice([0, 1, 2, 5, 16]))
         status, text, files = model.run(script, waves, offers)

@@ -1,0 +1,180 @@
+"""Asking the programs once, and the count of what was asked."""
+import os
+import resource
+import shutil
+import signal
+import subprocess
+import tempfile
+import threading
+import time
+from pathlib import Path
+from typing import NamedTuple
+
+TOP = Path(__file__).resolve().parents[2]
+MAIN, PODS, PICTURES = "pipegraph", "pipegraph-pods", "pipegraph-pictures"
+CRATES = {MAIN: "pw_main", PODS: "pw_pods", PICTURES: "pw_pictures"}
+NOBODY = 65534
+SECONDS = 60  # after which a case is stopped: a difference
+SHOWN = 300  # how much is shown of what differs
+
+
+class Answer(NamedTuple):
+    status: int  # below 0: the signal that ended it
+    out: bytes
+    errors: bytes
+    seconds: float
+    peak: float  # MiB
+
+
+def programs_of(folder):
+    """The program of each name: those of a folder, or those that the repository's gate built.
+
+    In a folder they have the names of their crates, or those under which they are installed.
+    """
+    found = {}
+    for name, crate in CRATES.items():
+        built = [TOP / "crates" / crate / "out" / crate]
+        tried = [Path(folder) / crate, Path(folder) / name] if folder else built
+        there = [path.resolve() for path in tried if path.is_file()]
+        if not there:
+            raise SystemExit(f"{tried[0]} is not there: `rt ci` builds the three programs")
+        found[name] = there[0]
+    return found
+
+
+def shown(value):
+    """A value of a difference, cut where it is long."""
+    text = repr(value)
+    return text if len(text) <= SHOWN else f"{text[:SHOWN]}.. ({len(text)} characters)"
+
+
+class Place:
+    """A folder with a copy of the programs, in which cases are asked, counted and compared.
+
+    `part` says that of each random kind one case in so many is asked.
+    """
+
+    def __init__(self, programs, part=1):
+        self.folder = Path(tempfile.mkdtemp(prefix="pipegraph-outside-"))
+        self.folder.chmod(0o777)  # some cases are asked by nobody
+        for name, path in programs.items():
+            shutil.copy(path, self.folder / name)
+            (self.folder / name).chmod(0o755)
+        self.part = part
+        self.group, self.counts, self.differences, self.passed_over = "", {}, [], []
+
+    def remove(self):
+        shutil.rmtree(self.folder)
+
+    def some(self, count):
+        """How many random cases are asked where the long run asks so many."""
+        return -(-count // self.part)
+
+    def file(self, name, content):
+        path = self.folder / name
+        path.write_bytes(content if isinstance(content, bytes) else content.encode())
+        return path
+
+    def read(self, name):
+        path = self.folder / name
+        return path.read_bytes() if path.is_file() else None
+
+    def forget(self, *names):
+        for name in names:
+            (self.folder / name).unlink(missing_ok=True)
+
+    def feed(self, name, content):
+        """Makes a named pipe, and gives whoever opens it this content, beside what follows."""
+        os.mkfifo(self.folder / name)
+        threading.Thread(target=(self.folder / name).write_bytes, args=[content], daemon=True).start()
+
+    def start(self, words, of, name, given, to, errors, prepare, environment):
+        """The program of a name, started; what it says on standard error goes into a file."""
+        with tempfile.TemporaryFile() as standard_input:
+            standard_input.write(given)
+            standard_input.seek(0)
+            return subprocess.Popen(
+                [name or of, *words], executable=self.folder / of, cwd=self.folder,
+                preexec_fn=prepare, stdin=standard_input, stderr=errors,
+                stdout=subprocess.PIPE if to is None else to,
+                env={**os.environ, **environment})
+
+    def ask(self, *words, of=MAIN, name=None, given=b"", to=None, errors_to=None, limits=(),
+            nobody=False, ignored=(), closed=(), seconds=SECONDS, environment=()):
+        """The answer to these words.
+
+        `name` is what the program is told to be called, `given` what it reads from standard input;
+        `to` and `errors_to` are standard output and standard error where these are not kept.
+        """
+
+        def prepare():
+            signal.alarm(seconds)
+            for number in ignored:
+                signal.signal(number, signal.SIG_IGN)
+            for fd in closed:
+                os.close(fd)
+            if nobody:
+                os.setgroups([])
+                os.setgid(NOBODY)
+                os.setuid(NOBODY)
+            for limit, value in limits:  # last: the threads of root are not counted
+                resource.setrlimit(limit, (value, value))
+
+        start = time.monotonic()
+        with tempfile.TemporaryFile() as said:
+            child = self.start(words, of, name, given, to, errors_to or said, prepare,
+                               dict(environment))
+            out = b"" if child.stdout is None else child.stdout.read()
+            _, status, used = os.wait4(child.pid, 0)
+            child.returncode = os.waitstatus_to_exitcode(status)
+            said.seek(0)
+            return Answer(child.returncode, out, said.read(), time.monotonic() - start,
+                          used.ru_maxrss / 1024)
+
+    def begin(self, group):
+        self.group = group
+        self.counts[group] = 0
+
+    def same(self, what, wanted, got):
+        """Counts a comparison, and keeps it where it fails."""
+        self.counts[self.group] += 1
+        if wanted != got:
+            self.differences.append(
+                f"{self.group}: {what}: wanted {shown(wanted)}, got {shown(got)}")
+        return wanted == got
+
+    def expect(self, what, words, status, out="", **how):
+        """One answer by its status and its text; where it is refused, standard error says why."""
+        answer = self.ask(*words, **how)
+        wanted = out if isinstance(out, bytes) else out.encode()
+        said = status == 0 or "errors_to" in how or answer.errors.endswith(b"\n")
+        self.same(what, (status, wanted, True), (answer.status, answer.out, said))
+        return answer
+
+    def pass_over(self, why):
+        """Says what cannot be tried here."""
+        self.passed_over.append(f"{self.group}: {why}")
+
+
+def run(groups, programs, part):
+    """Asks each group, prints what came of it, and answers 0 where there was no difference."""
+    place, failed = Place(programs, part), 0
+    try:
+        for group in groups:
+            place.begin(group.__doc__.splitlines()[0].rstrip("."))
+            before = len(place.differences)
+            try:
+                group(place)
+            except Exception as error:  # a group that cannot go on is a difference, and no more
+                place.same(f"the group ends, got {type(error).__name__}: {error}", True, False)
+            failed += len(place.differences) > before
+            print(f"{place.counts[place.group]:6} {place.group}", flush=True)
+            for difference in place.differences[before:]:
+                print(f"       {difference}", flush=True)
+    finally:
+        place.remove()
+    for why in place.passed_over:
+        print(f"passed over: {why}")
+    print(f"{sum(place.counts.values())} comparisons, {len(place.differences)} differences")
+    print(f"{len(groups) - failed} passed, {failed} failed")
+    return int(failed > 0)

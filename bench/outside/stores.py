@@ -1,0 +1,144 @@
+"""Files byte for byte: of sizes about 64 KiB, as loaded and as stored, and of 46 MB."""
+import struct
+
+from asking import MAIN, PODS
+from worked import chunk, form, number, pod, props, riff, sequence, thing, wav
+
+EDGES = [65535, 65536, 65537]
+HEADER = 44
+FRAMES = 11520000  # four minutes of stereo at 48000
+PERIOD = 65521  # a prime, so that no part of a file is like another at a round offset
+DRAIN = "quantum 1\nsource s {}\nsink o o.wav\ndriver o 1\nlink s.out o.in\ndrain\n"
+DRAINED = "link s.out o.in 48000 1 2\nwrote o {}\n"
+
+
+def noise(count):
+    """So many samples that repeat after PERIOD."""
+    block = [(i * 40503 + i // 7) % 65536 - 32768 for i in range(PERIOD)]
+    return (block * (count // PERIOD + 1))[:count]
+
+
+def tiled(samples, size):
+    """The bytes of a row of samples, repeated up to a size."""
+    block = struct.pack(f"<{len(samples)}h", *samples)
+    return (block * (size // len(block) + 1))[:size]
+
+
+def form_of(content):
+    """Channels, rate and samples of a stored file, each field of its header looked at."""
+    riff_, size, wave, fmt, width, tag, channels, rate, second, frame, bits, data, count = \
+        struct.unpack("<4sI4s4sIHHIIHH4sI", content[:HEADER])
+    good = (riff_, wave, fmt, width, tag, bits, data) == (b"RIFF", b"WAVE", b"fmt ", 16, 1, 16, b"data")
+    good &= (size, second, frame) == (36 + count, 2 * channels * rate, 2 * channels)
+    good &= len(content) == HEADER + count
+    return channels, rate, content[HEADER:] if good else None
+
+
+def stored(place, what, name, channels, body):
+    """Compares a stored file with the samples that it must have; says where they part."""
+    content = place.read(name)
+    place.forget(name)
+    if content is None or len(content) < HEADER:
+        return place.same(what, f"{HEADER + len(body)} bytes", content)
+    got = form_of(content)
+    if got == (channels, 48000, body):
+        return place.same(what, True, True)
+    samples = got[2] if got[2] is not None else content[HEADER:]
+    at = next((i for i, (x, y) in enumerate(zip(body, samples)) if x != y), min(len(body), len(samples)))
+    return place.same(f"{what}: differs at sample byte {at}", (channels, 48000, len(body)),
+                      (*got[:2], len(samples)))
+
+
+def sizes(place):
+    """Stores of sizes about 64 KiB, byte for byte."""
+    place.file("one.pod", sequence())
+    counts = {(edge + at) // 2 for edge in EDGES for at in (0, 1, -HEADER, 1 - HEADER)}
+    for count in sorted(counts):
+        samples = noise(count)
+        place.file("in.wav", wav(samples))
+        body = struct.pack(f"<{count}h", *samples)
+        place.file("drain.graph", DRAIN.format("in.wav"))
+        for words in [["run", "drain.graph"], ["groups", "drain.graph"]]:
+            place.expect(f"{words[0]}: {count} samples", words, 0, DRAINED.format(count))
+            stored(place, f"{words[0]}: a sink of {2 * count} bytes", "o.wav", 1, body)
+        place.expect(f"automate: {count} samples", ["automate", "in.wav", "one.pod", "o.wav"], 0,
+                     f"wrote {count}\n")
+        stored(place, f"automate: {2 * count} bytes", "o.wav", 1, body)
+    pods(place)
+
+
+def pods(place):
+    """PODs of the sizes about 64 KiB that a POD may have, by each command that stores one."""
+    place.file("none.pod", thing())
+    for size in (65520, 65528, 65536, 65544):
+        body = bytes(i % 251 for i in range(size - 8))
+        place.file("text", f'bytes "{body.hex()}"\n')
+        points = [(i, i % 1000) for i in range(size // 48)]
+        place.file("list", "".join(f"{at} {gain}\n" for at, gain in points))
+        wide = thing((7, pod(9, body[:size - 32])))
+        place.file("wide.pod", wide)
+        gains = sequence(*((at, props(number(gain))) for at, gain in points))
+        for words, of, out, wanted in [
+                (["pod", "text", "o.pod"], PODS, "", pod(9, body)),
+                (["gains", "list", "o.pod"], PODS, "", gains),
+                (["filter", "wide.pod", "none.pod", "o.pod"], MAIN, "common\n", wide)]:
+            place.expect(f"{words[0]}: {len(wanted)} bytes", words, 0, out, of=of)
+            place.same(f"{words[0]}: {len(wanted)} bytes are stored", wanted, place.read("o.pod"))
+            place.forget("o.pod")
+
+
+def loads(place):
+    """Loads of 65,535 to 65,537 bytes: scripts, WAV files whole and of so many bytes of samples."""
+    for edge in EDGES:
+        script = DRAIN.format("in.wav").encode()
+        place.file("in.wav", wav([1, -2, 3]))
+        place.file("long.graph", b"#" * (edge - len(script) - 1) + b"\n" + script)
+        place.expect(f"a script of {edge} bytes", ["run", "long.graph"], 0, DRAINED.format(3))
+        stored(place, f"the sink of a script of {edge} bytes", "o.wav", 1, struct.pack("<3h", 1, -2, 3))
+        place.file("drain.graph", script)
+        count = (edge - HEADER) // 2
+        body = struct.pack(f"<{count}h", *noise(count))
+        whole = (wav(noise(count)) + b"junk")[:edge]
+        rest = riff(chunk(b"fmt ", form()), chunk(b"data", bytes(i % 249 for i in range(edge)),
+                                                  0xFFFFFFFF))
+        for what, content, wanted in [("bytes in all", whole, body),
+                                      ("bytes of samples", rest, rest[HEADER:][:edge // 2 * 2])]:
+            place.file("in.wav", content)
+            place.expect(f"{edge} {what}", ["run", "drain.graph"], 0, DRAINED.format(len(wanted) // 2))
+            stored(place, f"the sink of {edge} {what}", "o.wav", 1, wanted)
+        line = b"12000 128\n"
+        place.file("list", b"#" * (edge - len(line) - 1) + b"\n" + line)
+        place.expect(f"a list of {edge} bytes", ["gains", "list", "o.pod"], 0, of=PODS)
+        place.same(f"the gains of a list of {edge} bytes", sequence((12000, props(number(128)))),
+                   place.read("o.pod"))
+    traces(place)
+
+
+def traces(place):
+    """Traces of more than 64 KiB, legal and not at their last event."""
+    place.file("cycles.graph", "cycles 2000\n")
+    lines = [f"{event} {c}{name}\n" for c in range(2000) for event, name in
+             [("begin", ""), ("start", " dummy"), ("finish", " dummy"), ("end", "")]]
+    place.file("long.trace", "".join(lines))
+    place.expect("a long trace", ["check", "cycles.graph", "long.trace"], 0, "legal\n")
+    place.file("long.trace", "".join(lines[:-1]))
+    place.expect("a long trace without its end", ["check", "cycles.graph", "long.trace"], 0, "illegal 8000\n")
+
+
+def great(place):
+    """A run and `automate` of 46 MB, byte for byte."""
+    samples = noise(PERIOD)
+    size = 4 * FRAMES
+    body = tiled(samples, size)
+    place.file("great.wav", wav([], 2)[:40] + struct.pack("<I", size) + body)
+    place.file("great.graph", "source s great.wav\ngain g 200\nsink o o.wav\ndriver o 1\n"
+               "link s.out g.in\nlink g.out o.in\ndrain\n")
+    text = f"link s.out g.in 48000 2 2\nlink g.out o.in 48000 2 2\nwrote o {FRAMES}\n"
+    place.expect("a run of four minutes", ["run", "great.graph"], 0, text)
+    stored(place, "a sink of 46 MB", "o.wav", 2, tiled([s * 200 >> 8 for s in samples], size))
+    place.file("gains.pod", sequence((5, props(number(-128))), (6000001, props(number(256)))))
+    place.expect("automate of four minutes", ["automate", "great.wav", "gains.pod", "o.wav"], 0,
+                 f"wrote {FRAMES}\n")
+    half = tiled([s * -128 >> 8 for s in samples], size)
+    stored(place, "automate: 46 MB", "o.wav", 2, body[:20] + half[20:24000004] + body[24000004:])
+    place.forget("great.wav")
