@@ -15,6 +15,7 @@ MAIN, PODS, PICTURES = "pipegraph", "pipegraph-pods", "pipegraph-pictures"
 CRATES = {MAIN: "pw_main", PODS: "pw_pods", PICTURES: "pw_pictures"}
 NOBODY = 65534
 SECONDS = 60  # after which a case is stopped: a difference
+HANGS = 3  # so many such cases end their group
 SHOWN = 300  # how much is shown of what differs
 
 
@@ -61,7 +62,7 @@ class Place:
             shutil.copy(path, self.folder / name)
             (self.folder / name).chmod(0o755)
         self.part = part
-        self.group, self.counts, self.differences, self.passed_over = "", {}, [], []
+        self.count, self.hangs, self.differences, self.passed_over = 0, 0, [], []
 
     def remove(self):
         shutil.rmtree(self.folder)
@@ -127,20 +128,22 @@ class Place:
             out = b"" if child.stdout is None else child.stdout.read()
             _, status, used = os.wait4(child.pid, 0)
             child.returncode = os.waitstatus_to_exitcode(status)
+            self.note_hang(child.returncode, words)
             said.seek(0)
             return Answer(child.returncode, out, said.read(), time.monotonic() - start,
                           used.ru_maxrss / 1024)
 
-    def begin(self, group):
-        self.group = group
-        self.counts[group] = 0
+    def note_hang(self, status, words):
+        """Ends the group where too many cases had to be stopped."""
+        self.hangs += status == -signal.SIGALRM
+        if self.hangs == HANGS:
+            raise RuntimeError(f"{HANGS} cases did not end, the last of them {shown(words)}")
 
     def same(self, what, wanted, got):
         """Counts a comparison, and keeps it where it fails."""
-        self.counts[self.group] += 1
+        self.count += 1
         if wanted != got:
-            self.differences.append(
-                f"{self.group}: {what}: wanted {shown(wanted)}, got {shown(got)}")
+            self.differences.append(f"{what}: wanted {shown(wanted)}, got {shown(got)}")
         return wanted == got
 
     def expect(self, what, words, status, out="", **how):
@@ -153,28 +156,4 @@ class Place:
 
     def pass_over(self, why):
         """Says what cannot be tried here."""
-        self.passed_over.append(f"{self.group}: {why}")
-
-
-def run(groups, programs, part):
-    """Asks each group, prints what came of it, and answers 0 where there was no difference."""
-    place, failed = Place(programs, part), 0
-    try:
-        for group in groups:
-            place.begin(group.__doc__.splitlines()[0].rstrip("."))
-            before = len(place.differences)
-            try:
-                group(place)
-            except Exception as error:  # a group that cannot go on is a difference, and no more
-                place.same(f"the group ends, got {type(error).__name__}: {error}", True, False)
-            failed += len(place.differences) > before
-            print(f"{place.counts[place.group]:6} {place.group}", flush=True)
-            for difference in place.differences[before:]:
-                print(f"       {difference}", flush=True)
-    finally:
-        place.remove()
-    for why in place.passed_over:
-        print(f"passed over: {why}")
-    print(f"{sum(place.counts.values())} comparisons, {len(place.differences)} differences")
-    print(f"{len(groups) - failed} passed, {failed} failed")
-    return int(failed > 0)
+        self.passed_over.append(why)

@@ -5,44 +5,66 @@ import signal
 import socket
 import threading
 
+from asking import MAIN, PICTURES, PODS
 from worked import FORMAT, GAINS, ONE, ONE_TEXT, SQUARE, wav
 
 TRACE = 4294967295
 
+# The words of each load, with FILE for the file, what the file should be, its place, and the program.
+LOADS = [
+    (["run", "FILE"], "script", 0, MAIN), (["run", "source.graph"], "wav", 2, MAIN),
+    (["run", "offer.graph"], "pod", 3, MAIN), (["groups", "FILE"], "script", 0, MAIN),
+    (["groups", "source.graph"], "wav", 2, MAIN), (["groups", "offer.graph"], "pod", 3, MAIN),
+    (["check", "FILE", "empty.graph"], "script", 0, MAIN),
+    (["check", "source.graph", "empty.graph"], "wav", 2, MAIN),
+    (["check", "offer.graph", "empty.graph"], "pod", 3, MAIN),
+    (["check", "empty.graph", "FILE"], "trace", TRACE, MAIN), (["dump", "FILE"], "pod", 1, MAIN),
+    (["filter", "FILE", "good.pod", "never"], "pod", 1, MAIN),
+    (["filter", "good.pod", "FILE", "never"], "pod", 2, MAIN),
+    (["automate", "FILE", "gains.pod", "never"], "wav", 1, MAIN),
+    (["automate", "good.wav", "FILE", "never"], "pod", 2, MAIN),
+    (["graph", "FILE"], "script", 0, PICTURES), (["graph", "empty.graph", "FILE"], "trace", TRACE, PICTURES),
+    (["timeline", "FILE", "empty.graph"], "script", 0, PICTURES),
+    (["timeline", "empty.graph", "FILE"], "trace", TRACE, PICTURES), (["wave", "FILE"], "wav", 1, PICTURES),
+    (["gains", "FILE", "never"], "list", None, PODS), (["pod", "FILE", "never"], "list", None, PODS)]
 
-def each_load(place, file, line, wav_line=None, pod_line=None, script_line=None):
-    """A file in each place of a load: the words, and the line with PLACE replaced."""
-    place.file("good.wav", wav([1, 2, 3]))
-    place.file("good.pod", FORMAT)
-    place.file("gains.pod", GAINS)
-    place.file("empty.graph", "")
+# The words of each store, with FILE for the file, the place that is told, and the program.
+STORES = [
+    (["run", "sink.graph"], 2, MAIN), (["groups", "sink.graph"], 2, MAIN),
+    (["filter", "good.pod", "good.pod", "FILE"], 3, MAIN),
+    (["automate", "good.wav", "gains.pod", "FILE"], 3, MAIN),
+    (["gains", "good.gains", "FILE"], None, PODS), (["pod", "good.text", "FILE"], None, PODS),
+    (["format", "FILE", "rate", "1", "channels", "1"], None, PODS)]
+STATUS = {"absent": 5, "read": 6, "write": 7, "limit": 8}
+
+
+def good_files(place):
+    for name, content in [("good.wav", wav([1, 2, 3])), ("good.pod", FORMAT), ("gains.pod", GAINS),
+                          ("good.gains", "0 128\n"), ("good.text", "int 7\n"), ("empty.graph", "")]:
+        place.file(name, content)
+
+
+def each_load(place, file, word, limits=None, nobody=False):
+    """A file in each place of a load, which is answered by this word, or by a limit of its kind."""
+    good_files(place)
     place.file("source.graph", f"gain g 1\nsource s {file}\n")
     place.file("offer.graph", f"sink o never\n\noffer o in {file}\n")
-    of = lambda own, at: (own or line).replace("PLACE", str(at)) + "\n"
-    status = lambda out: {"absent": 5, "read": 6, "limit": 8, "wav": 3, "pod": 4,
-                          "script": 2}.get(out.split()[0], 0)
-    for words, out in [
-            (["run", file], of(script_line, 0)), (["run", "source.graph"], of(wav_line, 2)),
-            (["run", "offer.graph"], of(pod_line, 3)), (["dump", file], of(pod_line, 1)),
-            (["filter", file, "good.pod", "never"], of(pod_line, 1)),
-            (["filter", "good.pod", file, "never"], of(pod_line, 2)),
-            (["automate", file, "gains.pod", "never"], of(wav_line, 1)),
-            (["automate", "good.wav", file, "never"], of(pod_line, 2)),
-            (["check", file, "empty.graph"], of(script_line, 0))]:
-        place.expect(f"{words}, {file}", words, status(out), out)
+    for words, kind, at, of in LOADS:
+        words = [file if part == "FILE" else part for part in words]
+        line = f"{word} {at} {limits[kind]}\n" if limits else f"{word} {at}\n"
+        place.expect(f"{words}, {file}", words, STATUS[word], "" if of == PODS else line, of=of,
+                     nobody=nobody)
     place.same(f"{file}: nothing is stored", None, place.read("never"))
-    return of
 
 
-def each_store(place, file):
-    """A file in each place of a store that fails at once."""
-    place.file("good.wav", wav([1, 2, 3]))
-    place.file("good.pod", FORMAT)
-    place.file("gains.pod", GAINS)
+def each_store(place, file, nobody=False):
+    """A file in each place of a store, which fails at once."""
+    good_files(place)
     place.file("sink.graph", ONE.format(file))
-    place.expect(f"sink {file}", ["run", "sink.graph"], 7, "write 2\n")
-    place.expect(f"filter to {file}", ["filter", "good.pod", "good.pod", file], 7, "write 3\n")
-    place.expect(f"automate to {file}", ["automate", "good.wav", "gains.pod", file], 7, "write 3\n")
+    for words, at, of in STORES:
+        words = [file if part == "FILE" else part for part in words]
+        place.expect(f"{words} to {file}", words, 7, "" if of == PODS else f"write {at}\n", of=of,
+                     nobody=nobody)
 
 
 def folders(place):
@@ -52,48 +74,45 @@ def folders(place):
     with socket.socket(socket.AF_UNIX) as end:
         end.bind(str(place.folder / "socket"))
         for file in ["folder", "folder/", ".", "plain/x", "socket"]:
-            of = each_load(place, file, "read PLACE")
-            place.expect(f"trace {file}", ["check", "empty.graph", file], 6, of(None, TRACE))
+            each_load(place, file, "read")
             each_store(place, file)
-    of = each_load(place, "no/file", "absent PLACE")
-    place.expect("trace no/file", ["check", "empty.graph", "no/file"], 5, of(None, TRACE))
+    each_load(place, "no/file", "absent")
     each_store(place, "no/file")
 
 
 def permissions(place):
     """Files that nobody may read or write."""
-    if os.getuid():
-        return
+    nobody = not os.getuid()  # to root each file is open, so it asks as somebody else
     place.file("secret", ONE.format("o.wav")).chmod(0)
     place.file("fixed.wav", "kept").chmod(0o444)
     closed = place.folder / "closed"
-    closed.mkdir(mode=0o700)
-    place.file("source.graph", "source s secret\n")
-    place.file("inside.graph", "source s closed/a.wav\n")
-    place.file("empty.graph", "")
-    asked = [(["run", "secret"], 6, "read 0\n"), (["run", "source.graph"], 6, "read 1\n"),
-             (["run", "inside.graph"], 6, "read 1\n"), (["dump", "secret"], 6, "read 1\n"),
-             (["check", "empty.graph", "secret"], 6, f"read {TRACE}\n")]
-    for words, status, line in asked:
-        place.expect(f"{words} by nobody", words, status, line, nobody=True)
-    for file in ["fixed.wav", "closed/o.wav", "/o.wav"]:
-        place.file("sink.graph", ONE.format(file))
-        place.expect(f"sink {file} by nobody", ["run", "sink.graph"], 7, "write 2\n", nobody=True)
+    closed.mkdir(exist_ok=True)
+    place.file("closed/a.wav", wav([1]))
+    closed.chmod(0o700 if nobody else 0)
+    for file in ["secret", "closed/a.wav"]:
+        each_load(place, file, "read", nobody=nobody)
+    for file in ["fixed.wav", "closed/o.wav"]:
+        each_store(place, file, nobody=nobody)
     place.same("what may not be written", b"kept", place.read("fixed.wav"))
+    closed.chmod(0o700)
+
+
+LIMITS = {"script": 1, "wav": 2, "pod": 4, "trace": 11, "list": None}
+
+
+def limited(place, file):
+    """A file without an end, in each place of a load: refused by its limit, with memory for it."""
+    each_load(place, file, "limit", LIMITS)
 
 
 def devices(place):
-    """Full, endless and empty devices, as files and as standard output."""
+    """Full, endless and empty devices as files."""
     each_store(place, "/dev/full")
-    for file in ["/dev/zero", "/dev/full"]:
-        of = each_load(place, file, "", wav_line="limit PLACE 2", pod_line="limit PLACE 4",
-                       script_line="limit PLACE 1")
-        answer = place.expect(f"trace {file}", ["check", "empty.graph", file], 8,
-                              f"limit {TRACE} 11\n")
-        place.same(f"{file}: memory in MiB stays at the limit", True, answer.peak < 300)
-    place.file("zeros.graph", "source s /dev/zero\n")
-    answer = place.expect("source /dev/zero", ["run", "zeros.graph"], 8, "limit 1 2\n")
-    place.same("a source without an end: memory in MiB stays at the limit", True, answer.peak < 300)
+    limited(place, "/dev/zero")
+    for words in [["check", "empty.graph", "/dev/full"], ["run", "source.graph"]]:
+        answer = place.ask(*words)
+        place.same(f"{words}: status, and memory in MiB within the limit", (8, True),
+                   (answer.status, answer.peak < 300))
     place.file("null.graph", "source s /dev/null\n")
     for words, status, line in [(["run", "/dev/null"], 0, ""),
                                 (["run", "null.graph"], 3, "wav 1 1\n"),
@@ -102,24 +121,49 @@ def devices(place):
         place.expect(str(words), words, status, line)
     place.file("sink.graph", ONE.format("/dev/null"))
     place.expect("sink /dev/null", ["run", "sink.graph"], 0, ONE_TEXT)
-    full_output(place)
+
+
+# Words that put something, the program, and the file that is stored before, with its content.
+PUTS = [
+    (["run", "whole.graph"], MAIN, "whole.wav", SQUARE), (["groups", "whole.graph"], MAIN, "whole.wav", SQUARE),
+    (["run", "whole.graph", "--trace"], MAIN, "whole.wav", SQUARE),
+    (["check", "empty.graph", "empty.graph"], MAIN, None, None), (["dump", "good.pod"], MAIN, None, None),
+    (["filter", "good.pod", "good.pod", "o.pod"], MAIN, "o.pod", FORMAT),
+    (["automate", "good.wav", "gains.pod", "o.wav"], MAIN, "o.wav", wav([1, 2, 1])),
+    (["soak", "7"], MAIN, None, None), (["--help"], PODS, None, None),
+    (["gains", "good.gains", "-"], PODS, None, None), (["pod", "good.text", "-"], PODS, None, None),
+    (["format", "-", "rate", "1", "channels", "1"], PODS, None, None),
+    (["graph", "whole.graph"], PICTURES, None, None),
+    (["timeline", "empty.graph", "empty.graph"], PICTURES, None, None), (["wave", "good.wav"], PICTURES, None, None)]
+
+
+def each_put(place, what, **how):
+    """Each text into an output that takes nothing: 7, and the files before it are whole."""
+    good_files(place)
+    place.file("whole.graph", ONE.format("whole.wav"))
+    for words, of, name, content in PUTS:
+        place.expect(f"{words} {what}", words, 7, of=of, **how)
+        if name:
+            place.same(f"{words} {what}: its file is whole", content, place.read(name))
+            place.forget(name)
+    # A refusal keeps its number, and so does what puts nothing.
+    for words, status in [(["run"], 1), (["run", "no"], 5), (["dump", "empty.graph"], 4),
+                          (["run", "empty.graph"], 0)]:
+        place.expect(f"{words} {what}", words, status, **how)
+    place.expect(f"a refused picture {what}", ["graph", "no"], 5, of=PICTURES, **how)
 
 
 def full_output(place):
-    """Standard output that takes nothing."""
-    place.file("full.graph", ONE.format("full.wav"))
-    place.file("two.graph",
-               ONE.format("first.wav") .replace("cycles",
-                                                "sink p /dev/full\nlink a.out p.in\ncycles"))
+    """Standard output that takes nothing, is closed, or is no place to write."""
     with open("/dev/full", "wb") as full:
-        place.expect("a run to a full output", ["run", "full.graph"], 7, to=full)
-        place.same("its file is whole", SQUARE, place.read("full.wav"))
-        place.expect("a run without text to a full output", ["run", "/dev/null"], 0, to=full)
-        for words, status in [(["run"], 1), (["run", "no"], 5), (["run", "two.graph"], 7),
-                              (["dump", "good.pod"], 7)]:
-            place.expect(f"{words} to a full output", words, status, to=full)
-        place.same("the file before the one that fails is whole", SQUARE, place.read("first.wav"))
+        each_put(place, "to a full output", to=full)
+    with open("/dev/null", "rb") as null:
+        each_put(place, "to an output that is read", to=null)
+    place.file("two.graph",
+               ONE.format("first.wav").replace("cycles",
+                                               "sink p /dev/full\nlink a.out p.in\ncycles"))
     place.expect("a second sink that is full", ["run", "two.graph"], 7, "write 5\n")
+    place.same("the file before the one that fails is whole", SQUARE, place.read("first.wav"))
     place.file("text.graph", ONE.format("text.wav"))
     place.ask("run", "text.graph", closed=[1])
     place.same("a closed output: the file is whole", SQUARE, place.read("text.wav"))
@@ -127,21 +171,18 @@ def full_output(place):
 
 def pipes(place):
     """Standard output into pipes that are broken."""
-    place.file("pipe.graph", ONE.format("pipe.wav"))
     for ignored in [(), (signal.SIGPIPE,)]:
         end, to = os.pipe()
         os.close(end)
-        place.expect(f"a run to a broken pipe, ignored {ignored}", ["run", "pipe.graph"], 7, to=to,
-                     ignored=ignored)
-        place.expect("a refusal to a broken pipe", ["run", "no"], 5, to=to, ignored=ignored)
+        each_put(place, f"to a broken pipe, ignored {ignored}", to=to, ignored=ignored)
         os.close(to)
-        place.same("its file is whole", SQUARE, place.read("pipe.wav"))
     place.file("long.graph", ONE.format("pipe.wav").replace("cycles 1", "cycles 100000"))
     end, to = os.pipe()
     reader = beside(lambda: (os.read(end, 1000), os.close(end)))
     place.expect("a pipe that breaks", ["run", "long.graph", "--trace", "--loops", "0"], 7, to=to)
     os.close(to)
-    reader.join()
+    reader.join(5)
+
 
 def beside(work, *given):
     """A thread that does a part; it holds nobody up."""
@@ -177,18 +218,18 @@ def fifos(place):
             ("pod.fifo", FORMAT, ["dump", "pod.fifo"], pod_text)]:
         writer = beside(give_slowly, place.folder / name, content)
         place.expect(f"a FIFO: {words}", words, 0, text)
-        writer.join()
+        writer.join(5)
     place.same("the file of a FIFO's samples", wav([1, 2, 3]), place.read("wave.out"))
     fifo, taken = place.folder / "out.fifo", []
     reader = beside(lambda: taken.append(fifo.read_bytes()))
     place.file("out.graph", ONE.format("out.fifo"))
     place.expect("a sink into a FIFO", ["run", "out.graph"], 0, ONE_TEXT)
-    reader.join()
+    reader.join(5)
     place.same("what a FIFO was given", [SQUARE], taken)
     reader = beside(take_some, fifo)
     place.file("out.graph", ONE.format("out.fifo").replace("cycles 1", "cycles 1000"))
     place.expect("a sink into a FIFO that breaks", ["run", "out.graph"], 7, "write 2\n")
-    reader.join()
+    reader.join(5)
 
 
 def symbolic_links(place):
@@ -197,10 +238,8 @@ def symbolic_links(place):
                          ("plain.link", "real.graph")]:
         (place.folder / name).symlink_to(target)
     place.file("real.graph", ONE.format("nowhere"))
-    for file, line, status in [("nowhere", "absent PLACE", 5), ("away", "absent PLACE", 5),
-                               ("ring", "read PLACE", 6)]:
-        of = each_load(place, file, line)
-        place.expect(f"trace {file}", ["check", "empty.graph", file], status, of(None, TRACE))
+    for file, word in [("nowhere", "absent"), ("away", "absent"), ("ring", "read")]:
+        each_load(place, file, word)
     each_store(place, "away")
     each_store(place, "ring")
     place.expect("a link to a script, and a sink over a link that leads nowhere",
@@ -220,7 +259,7 @@ def shrinking(place):
         cut = threading.Timer(delay / 1000, lambda: os.truncate(place.folder / "shrink.wav", 1000))
         cut.start()
         answer = place.ask("run", "shrink.graph")
-        cut.join()
+        cut.join(5)
         seen.add((answer.status, answer.out))
         place.same("a file that shrinks is read whole or is cut off", True,
                    (answer.status, answer.out) in [(0, b""), (3, b"wav 1 6\n")])
@@ -231,9 +270,7 @@ def huge(place):
     with open(place.folder / "sparse", "wb") as file:
         file.write(wav([])[:40] + b"\xff\xff\xff\xff")
         file.truncate(3 << 30)
-    of = each_load(place, "sparse", "", wav_line="limit PLACE 2", pod_line="limit PLACE 4",
-                   script_line="limit PLACE 1")
-    place.expect("trace sparse", ["check", "empty.graph", "sparse"], 8, of("limit PLACE 11", TRACE))
+    limited(place, "sparse")
     for words, most in [(["run", "sparse"], 16), (["dump", "sparse"], 16),
                         (["run", "source.graph"], 300),
                         (["check", "empty.graph", "sparse"], 300)]:

@@ -11,6 +11,8 @@ import signal
 import subprocess
 import time
 
+import model
+import parts
 from asking import MAIN
 from preload import NO_COMPILER, Preload, compiler
 from worked import wav
@@ -34,8 +36,6 @@ RUNS = [(["run", "four.graph", "--loops", "4"], 4, ["o.wav"]),
 
 def expected(waves):
     """What each of the runs prints and stores."""
-    import model
-    import parts
     four, five = model.run(FOUR, waves, {}), parts.answer(FIVE, waves, {})
     stored = lambda files: {name: wav(*made) for name, made in files.items()}
     return [(text.encode(), stored(files)) for _, text, files in (four, four, five)] + [(SOAK, {})]
@@ -116,7 +116,7 @@ def long_parts(count, cycles):
     return f"quantum 4096\n{parts}cycles {cycles}\n"
 
 
-CYCLES = 200000  # more than are waited for: each of these runs is ended once it was seen
+CYCLES = 100000  # some seconds or minutes: each of these runs is ended once it was seen
 SEEN = 0.3  # seconds for which the threads are looked at after all of them are there
 
 # The words of a run, and the threads of its process.
