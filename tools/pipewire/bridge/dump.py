@@ -1,0 +1,208 @@
+"""What `pw-dump` prints: the nodes, ports, links and clients of a daemon.
+
+Source: the tool's own output (PipeWire 0.3.65) and PipeWire's documentation of the properties,
+"pipewire/keys.h": node.driver, priority.driver, node.group, node.link-group, port.monitor.
+"""
+import json
+from dataclasses import dataclass, field
+
+from bridge.fault import Fault, shown
+
+KINDS = {"PipeWire:Interface:Node": "node", "PipeWire:Interface:Port": "port",
+         "PipeWire:Interface:Link": "link", "PipeWire:Interface:Client": "client",
+         "PipeWire:Interface:Metadata": "metadata"}
+LINK_ENDS = ["output-node-id", "output-port-id", "input-node-id", "input-port-id"]
+
+
+@dataclass
+class Port:
+    """One channel of a node, or its control values or notes."""
+    id: int
+    node: int
+    is_input: bool
+    properties: dict
+    params: dict
+
+    @property
+    def name(self):
+        return str(self.properties.get("port.name", self.id))
+
+    @property
+    def is_monitor(self):
+        return is_true(self.properties.get("port.monitor"))
+
+    @property
+    def is_audio(self):
+        """A DSP port says what it carries; any other one by its formats."""
+        if is_true(self.properties.get("port.control")):
+            return False
+        if "format.dsp" in self.properties:
+            return str(self.properties["format.dsp"]).endswith("audio")
+        formats = self.params.get("Format", []) + self.params.get("EnumFormat", [])
+        return any(isinstance(it, dict) and it.get("mediaType") == "audio" for it in formats)
+
+
+@dataclass
+class Node:
+    """A node with its ports, in the order of their ids."""
+    id: int
+    state: str
+    properties: dict
+    params: dict
+    ports: list = field(default_factory=list)
+
+    @property
+    def name(self):
+        return str(self.properties.get("node.name", self.id))
+
+    @property
+    def said(self):
+        """The node in a sentence."""
+        return f"{shown(self.name)} (id {self.id})"
+
+    @property
+    def serial(self):
+        """Ids are used again; serial numbers are not, so they tell who came first."""
+        serial = self.properties.get("object.serial", self.id)
+        return serial if isinstance(serial, int) else self.id
+
+    @property
+    def may_drive(self):
+        return is_true(self.properties.get("node.driver"))
+
+    @property
+    def priority(self):
+        priority = self.properties.get("priority.driver", 0)
+        return priority if isinstance(priority, int) else 0
+
+    @property
+    def is_asynchronous(self):
+        return is_true(self.properties.get("node.async"))
+
+    def audio(self, is_input, monitor=False):
+        """The audio ports of a direction."""
+        return [port for port in self.ports
+                if port.is_audio and port.is_input == is_input and port.is_monitor == monitor]
+
+
+@dataclass
+class Link:
+    """From an output port to an input port: one channel."""
+    id: int
+    output_node: int
+    output_port: int
+    input_node: int
+    input_port: int
+    state: str
+
+
+@dataclass
+class Dump:
+    """The objects of a daemon, by their ids, and the settings that its metadata has."""
+    path: str
+    nodes: dict
+    ports: dict
+    links: list
+    clients: dict
+    settings: dict
+
+    def node(self, id):
+        """The node of this id, which has to be there."""
+        if id not in self.nodes:
+            raise Fault(f"{self.path}: node {id} is not in the dump")
+        return self.nodes[id]
+
+    def process(self, node):
+        """The process that a node runs in: its client's, or 0, the daemon."""
+        client = node.properties.get("client.id")
+        if "client.id" not in node.properties or client not in self.clients:
+            return 0
+        said = self.clients[client]
+        return said.get("pipewire.sec.pid", said.get("application.process.id", f"client {client}"))
+
+
+def is_true(value):
+    """A property is a JSON value, or a text of one."""
+    return value is True or value == "true" or value == "1"
+
+
+def read_json(path):
+    """The value of a JSON file."""
+    try:
+        with open(path, encoding="utf-8") as file:
+            return json.load(file)
+    except json.JSONDecodeError as error:
+        raise Fault(f"{path}:{error.lineno}:{error.colno}: this is no JSON: {error.msg}") from None
+    except UnicodeDecodeError as error:
+        raise Fault(f"{path}: this is no text in UTF-8, at byte {error.start}") from None
+    except RecursionError:
+        raise Fault(f"{path}: values stand too deep") from None
+    except OSError as error:
+        raise Fault(f"{path}: {error.strerror}") from None
+
+
+def part(path, holder, where, key, kind):
+    """A field of an object, which has to be there and of this type."""
+    value = holder.get(key)
+    if not isinstance(value, kind) or isinstance(value, bool):
+        raise Fault(f"{path}: {where} has no {shown(key)}, as pw-dump prints it")
+    return value
+
+
+def read_dump(path):
+    """The dump of a file; every id that a port or a link names is in it."""
+    objects = read_json(path)
+    if not isinstance(objects, list):
+        raise Fault(f"{path}: this is no list of objects, as pw-dump prints it")
+    dump = Dump(path, {}, {}, [], {}, {})
+    for place, it in enumerate(objects):
+        if not isinstance(it, dict) or not isinstance(it.get("id"), int):
+            raise Fault(f"{path}: object {place} of the list has no \"id\", as pw-dump prints it")
+        add(dump, it)
+    for port in dump.ports.values():
+        if port.node not in dump.nodes:
+            raise Fault(f"{path}: port {port.id} is of node {port.node}, "
+                        "which is not in the dump")
+        dump.nodes[port.node].ports.append(port)
+    for link in dump.links:
+        check_ends(dump, link)
+    return dump
+
+
+def add(dump, it):
+    """Takes in an object; what is neither node, port, link, client nor settings says nothing."""
+    kind, id = KINDS.get(it.get("type")), it["id"]
+    where = f"{kind} {id}"
+    if kind == "metadata":
+        if (it.get("props") or {}).get("metadata.name") == "settings":
+            dump.settings = {entry["key"]: entry.get("value") for entry in it.get("metadata", [])
+                             if isinstance(entry, dict) and "key" in entry}
+        return
+    if kind is None or it.get("info", 0) is None:
+        return
+    info = part(dump.path, it, where, "info", dict)
+    properties = info.get("props") or {}
+    params = info.get("params") or {}
+    if not isinstance(properties, dict) or not isinstance(params, dict):
+        raise Fault(f"{dump.path}: {where} has no \"props\" or \"params\", as pw-dump prints them")
+    if kind == "client":
+        dump.clients[id] = properties
+    elif kind == "node":
+        dump.nodes[id] = Node(id, str(info.get("state", "")), properties, params)
+    elif kind == "port":
+        node = part(dump.path, properties, where, "node.id", int)
+        direction = part(dump.path, info, where, "direction", str)
+        dump.ports[id] = Port(id, node, direction in ("input", "in"), properties, params)
+    else:
+        ends = [part(dump.path, info, where, key, int) for key in LINK_ENDS]
+        dump.links.append(Link(id, *ends, str(info.get("state", ""))))
+
+
+def check_ends(dump, link):
+    """The nodes and ports of a link are in the dump."""
+    for what, id, known in [("node", link.output_node, dump.nodes),
+                            ("port", link.output_port, dump.ports),
+                            ("node", link.input_node, dump.nodes),
+                            ("port", link.input_port, dump.ports)]:
+        if id not in known:
+            raise Fault(f"{dump.path}: link {link.id} names {what} {id}, which is not in the dump")

@@ -1,0 +1,134 @@
+"""The cycles of a log as events of a script: which cycles are whole, and who was late in which."""
+from dataclasses import dataclass, field
+
+from bridge.engine import active_steps, engine_of
+from bridge.fault import Fault
+from bridge.joining import driver_of, driven_groups
+from bridge.ordering import Work, cycle_lines, depths
+from bridge.profiler import AWAKE, FINISHED, NOT_TRIGGERED, TRIGGERED, read_log
+
+DUMMY = "dummy"
+UNFINISHED = {NOT_TRIGGERED: "was not triggered", TRIGGERED: "was not awake",
+              AWAKE: "had not finished"}
+
+
+@dataclass
+class History:
+    """The lines of each cycle that is written, the graph that they are of, and what is told."""
+    engine: object
+    period: int
+    cycles: list = field(default_factory=list)
+    told: list = field(default_factory=list)
+
+
+def history_of(dump, path, late):
+    """The cycles of a log. A cycle in which a follower did not finish is left out, or with `late`
+    written with a tick that names it."""
+    rows = read_log(path)
+    driver = logged_driver(dump, path, rows)
+    engine = engine_of(dump, only=driver)
+    history = History(engine, rows[0].period)
+    lead = engine.step_of(driver.id)
+    lead = lead if lead.kind == "sink" else None
+    active = active_steps(engine, lead)
+    tell_inactive(history, path, rows, active, driver)
+    cycles = Cycles(history, active, lead, driver, late)
+    for row in rows:
+        cycles.add(f"{path}:{row.line}", row)
+    if not history.cycles:
+        raise Fault(f"{path}: no cycle of the log is whole")
+    return history
+
+
+def logged_driver(dump, path, rows):
+    """The driver whose followers the log has."""
+    nodes = [dump.nodes[id] for id in sorted(dump.nodes)]
+    groups = driven_groups(dump, nodes)
+    found = None
+    for row in rows:
+        for id in row.turns:
+            if id not in dump.nodes:
+                raise Fault(f"{path}:{row.line}: node {id} is not in {dump.path}: both have to be "
+                            "recorded of the same graph")
+            group = next(group for group in groups if id in group)
+            if found not in (None, group):
+                raise Fault(f"{path}:{row.line}: node {id} has another driver than the nodes "
+                            f"before it, by {dump.path}")
+            found = group
+    if found is None:
+        raise Fault(f"{path}: no line has a follower")
+    driver = driver_of(dump, found)
+    if driver is None or not any(port.is_audio for port in driver.ports):
+        raise Fault(f"{path}: none of the nodes that share a driver with node "
+                    f"{next(iter(rows[0].turns))} may drive, by {dump.path}")
+    return driver
+
+
+def tell_inactive(history, path, rows, active, driver):
+    """Followers of the log whose events are left out in every cycle."""
+    ids = {id for row in rows for id in row.turns}
+    for step in history.engine.steps:
+        if step not in active and driver not in step.nodes and ids & set(step.ids):
+            history.told.append(f"left out: the events of {step.said}: no links of the script "
+                                f"join it to {driver.said}")
+
+
+class Cycles:
+    """Makes lines of rows, one after the other."""
+
+    def __init__(self, history, active, lead, driver, late):
+        self.history, self.late, self.lead, self.driver = history, late, lead, driver
+        self.name = lead.name if lead else DUMMY
+        self.last = None
+        self.followers = [step for step in active if step is not lead]
+        self.depth = depths(history.engine, self.followers)
+
+    def add(self, place, row):
+        """Adds the cycle of a row, or tells why it is left out."""
+        repeated, self.last = row.repeats(self.last), row
+        if repeated:
+            return self.tell(f"{place}: left out: the line before it again")
+        works = [self.work(step, row) for step in self.followers]
+        unfinished = [work.step for work in works if work.finish is None]
+        if unfinished and row.counts_from_before:
+            return self.tell(f"{place}: left out: written when the next cycle began; "
+                             "the next line is of the same cycle")
+        if unfinished and not self.late:
+            return self.tell(f"{place}: left out: {self.why(unfinished, row)}")
+        number = len(self.history.cycles)
+        if unfinished:
+            self.tell(f"{place}: cycle {number}: {self.why(unfinished, row)}")
+        ended = None if row.is_cut else row.finish
+        self.history.cycles.append(cycle_lines(number, works, self.depth, self.name, ended,
+                                               self.tick(row, works, unfinished)))
+
+    def tell(self, sentence):
+        self.history.told.append(sentence)
+
+    def work(self, step, row):
+        """When a step ran: of two streams from the awake of the first to the finish of the
+        other. A source that drives has its samples when the cycle begins."""
+        if self.driver in step.nodes:
+            return Work(step, 0, 0)
+        first, last = row.turns.get(step.entry.id), row.turns.get(step.exit.id)
+        first = first or last
+        if last is None or first is None:
+            return Work(step, None, None)
+        start = first.awake if first.status >= AWAKE else None
+        finish = last.finish if last.status == first.status == FINISHED else None
+        return Work(step, start, finish)
+
+    def why(self, steps, row):
+        """Who did not finish, in words."""
+        def status(step):
+            return min(row.turns[id].status if id in row.turns else NOT_TRIGGERED
+                       for id in step.ids)
+        return ", ".join(f"{step.name} {UNFINISHED[status(step)]}" for step in steps)
+
+    def tick(self, row, works, unfinished):
+        """The late check: of those that did not finish when the driver went on, else of those that
+        finished after the period, where the driver did so too."""
+        if unfinished:
+            return (None, unfinished)
+        late = [work.step for work in works if work.finish > row.period]
+        return (row.period, late) if late and row.finish > row.period else None

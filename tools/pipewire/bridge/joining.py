@@ -1,0 +1,49 @@
+"""Which nodes share a driver, and which node it is.
+
+Source: PipeWire's documentation, "Graph Scheduling": nodes that are linked, or have a node.group or
+a node.link-group in common, have one driver: of those that may drive the one of greatest
+priority.driver, and of equal ones the one that was there first.
+"""
+
+
+class Sets:
+    """Nodes that are joined, by a representative of each set."""
+
+    def __init__(self, members):
+        self.above = {member: member for member in members}
+
+    def find(self, member):
+        while self.above[member] != member:
+            member = self.above[member]
+        return member
+
+    def join(self, one, other):
+        self.above[self.find(one)] = self.find(other)
+
+    def groups(self):
+        """The sets, each in the order of the members."""
+        found = {}
+        for member in self.above:
+            found.setdefault(self.find(member), []).append(member)
+        return list(found.values())
+
+
+def driven_groups(dump, nodes):
+    """The ids of the nodes that share a driver, group by group."""
+    sets = Sets([node.id for node in nodes])
+    for link in dump.links:
+        if link.output_node in sets.above and link.input_node in sets.above:
+            sets.join(link.output_node, link.input_node)
+    for key in ("node.group", "node.link-group"):
+        first = {}
+        for node in nodes:
+            name = node.properties.get(key)
+            if name:
+                sets.join(node.id, first.setdefault(name, node.id))
+    return sets.groups()
+
+
+def driver_of(dump, group):
+    """The node that drives a group, if one of it may."""
+    able = [dump.nodes[id] for id in group if dump.nodes[id].may_drive]
+    return min(able, key=lambda node: (-node.priority, node.serial), default=None)

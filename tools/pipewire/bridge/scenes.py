@@ -1,0 +1,109 @@
+"""The scenes that are recorded: each starts clients on a daemon of its own."""
+import os
+import signal
+import time
+
+from bridge.daemon import DUMMY, sink
+
+FILTER = """
+context.properties = { log.level = 1 }
+context.spa-libs = { audio.convert.* = audioconvert/libspa-audioconvert
+    support.* = support/libspa-support }
+context.modules = [
+    { name = libpipewire-module-protocol-native }
+    { name = libpipewire-module-client-node }
+    { name = libpipewire-module-adapter }
+    { name = libpipewire-module-filter-chain args = {
+        node.description = "Low pass"
+        filter.graph = { nodes = [ { type = builtin name = low label = bq_lowpass
+            control = { "Freq" = 1000.0 } } ] }
+        audio.channels = 2 audio.position = [ FL FR ]
+        capture.props = { node.name = low_pass media.class = Audio/Sink }
+        playback.props = { node.name = low_pass.out target.object = sinkA } } } ]
+"""
+BOTH = DUMMY + sink("sinkA") + sink("sinkB")
+
+
+def players(daemon):
+    """Three players, one sink."""
+    for name in ("first", "second", "third"):
+        daemon.play("sinkA", name)
+
+
+def loopbacks(daemon):
+    """A player through two loopbacks one behind the other, beside a player without."""
+    daemon.loopback("second", {"node.name": "second.in", "media.class": "Audio/Sink"},
+                    {"node.name": "second.out", "target.object": "sinkA"})
+    daemon.loopback("first", {"node.name": "first.in", "media.class": "Audio/Sink"},
+                    {"node.name": "first.out", "target.object": "second.in"})
+    daemon.play("first.in", "through")
+    daemon.play("sinkA", "beside")
+
+
+def filter_chain(daemon):
+    """A player through a filter chain, beside one without."""
+    path = daemon.folder / "filter.conf"
+    path.write_text(FILTER)
+    daemon.start("pipewire", "-c", str(path))
+    time.sleep(1)
+    daemon.play("low_pass", "filtered")
+    daemon.play("sinkA", "plain")
+
+
+def drivers(daemon):
+    """Two sinks with players of their own: two drivers, each with a clock of its own."""
+    daemon.play("sinkA", "first")
+    daemon.play("sinkB", "second")
+    daemon.play("sinkA", "third")
+
+
+def asynchronous(daemon):
+    """A loopback that says node.async, between a player and the sink."""
+    daemon.loopback("delayed", {"node.name": "delayed.in", "media.class": "Audio/Sink",
+                                "node.async": True},
+                    {"node.name": "delayed.out", "target.object": "sinkA", "node.async": True})
+    daemon.play("delayed.in", "player")
+
+
+def monitor(daemon):
+    """A loopback from the monitor of the sink that drives to another sink, which follows."""
+    daemon.play("sinkA", "player")
+    daemon.loopback("copy", {"node.name": "copy.in", "stream.capture.sink": True,
+                             "target.object": "sinkA"},
+                    {"node.name": "copy.out", "target.object": "sinkB"})
+
+
+def late(daemon):
+    """Three players; the second one is stopped for 60 ms again and again, on purpose."""
+    daemon.play("sinkA", "first")
+    stopped = daemon.play("sinkA", "stopped")
+    daemon.play("sinkA", "third")
+    return stopped
+
+
+def tap(daemon):
+    """A player into a sink and into a recorder, which is stopped on purpose: nothing of the sink
+    waits for the recorder."""
+    daemon.play("sinkA", "player")
+    stopped = daemon.start("pw-cat", "-r", "--target", "0", "--latency", "1024",
+                           "-P", '{"node.name": "recorder"}', "recorded.wav")
+    time.sleep(0.6)
+    for side in ("FL", "FR"):
+        daemon.ask("pw-link", f"player:output_{side}", f"recorder:input_{side}")
+    time.sleep(0.4)
+    return stopped
+
+
+def stop_now_and_then(child, seconds):
+    """Stops a process for 60 ms, twice a second."""
+    for _ in range(int(seconds * 2)):
+        time.sleep(0.44)
+        os.killpg(child.pid, signal.SIGSTOP)
+        time.sleep(0.06)
+        os.killpg(child.pid, signal.SIGCONT)
+
+
+SCENES = {"players": (BOTH, players), "loopbacks": (BOTH, loopbacks),
+          "filter": (BOTH, filter_chain), "drivers": (BOTH, drivers),
+          "async": (BOTH, asynchronous), "monitor": (BOTH, monitor), "late": (BOTH, late),
+          "tap": (BOTH, tap)}
