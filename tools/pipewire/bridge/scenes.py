@@ -82,8 +82,7 @@ def late(daemon):
 
 
 def tap(daemon):
-    """A player into a sink and into a recorder, which is stopped on purpose: nothing of the sink
-    waits for the recorder."""
+    """A player into a sink and a recorder, which is stopped for 60 ms again and again."""
     daemon.play("sinkA", "player")
     stopped = daemon.start("pw-cat", "-r", "--target", "0", "--latency", "1024",
                            "-P", '{"node.name": "recorder"}', "recorded.wav")

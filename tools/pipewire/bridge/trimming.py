@@ -41,7 +41,7 @@ def trimmed_info(info, properties, processes):
 
 def trimmed_log(text, most):
     """At most so many lines of a log, without the columns of followers that never were."""
-    rows = [line.split("\t")[:-1] for line in text.splitlines()[:most]]
+    rows = [line.removesuffix("\t").split("\t") for line in text.splitlines()[:most]]
     while rows and len(rows[0]) > 4 and all(not column.strip()
                                             for row in rows for column in row[-8:]):
         rows = [row[:-8] for row in rows]

@@ -1,0 +1,171 @@
+"""The recordings of real daemons: their scripts run, their cycles are legal, the late one is not.
+
+Each expected line was worked out by hand from the columns of a log or from `pw-link -l`.
+"""
+from tests.asking import commands, recording
+
+SCENES = ["players", "loopbacks", "filter", "drivers", "async", "monitor", "late", "tap", "busy"]
+
+# Cycles: the lines of the log without those in which a status of a follower is not 3.
+CYCLES = {"players": 100, "loopbacks": 100, "filter": 100, "drivers": 100, "async": 100,
+          "monitor": 100, "late": 84, "tap": 86, "busy": 82}
+
+# players.json: pw-link -l shows each player's two ports on sinkA's two.
+PLAYERS = """quantum 1024
+sink sinka sinka.wav
+sink sinkb sinkb.wav
+off sinkb
+square first 48000 2 100 2000
+loop first 1
+square second 48000 2 120 2000
+loop second 2
+square third 48000 2 140 2000
+loop third 3
+driver sinka 0
+driver sinkb 0
+link first.out sinka.in
+link second.out sinka.in
+link third.out sinka.in
+cycles 100
+"""
+
+# loopbacks.json: through > first > second > sinkA < beside.
+LOOPBACKS = """link second.out sinka.in
+link first.out second.in
+link through.out first.in
+link beside.out sinka.in
+"""
+
+# loopbacks.log, line 1, as awake and finish: 54 through 42 64, 60 beside 120 137,
+# first: 44 awake 183, 43 finish 216; second: 33 awake 235, 32 finish 265; driver 278.
+FIRST_CYCLE = """begin 0
+start 0 through
+finish 0 through
+start 0 beside
+finish 0 beside
+start 0 first
+finish 0 first
+start 0 second
+finish 0 second
+start 0 sinka
+finish 0 sinka
+end 0
+"""
+
+# busy.log, line 73: 40 awake 42, 32 1450 1486, 39 finish 5022, 41 33997 45985, driver 53047,
+# period 42666. Of the lines before it 9, 10, 70 and 71 are no whole cycles, so it is cycle 68.
+BUSY_CYCLE = """begin 68
+start 68 pw_loopback_28977
+start 68 pw_cat_32
+finish 68 pw_cat_32
+finish 68 pw_loopback_28977
+start 68 pw_cat_41
+tick 68 pw_cat_41
+finish 68 pw_cat_41
+start 68 sinka
+finish 68 sinka
+end 68
+"""
+
+# late.log: lines 1 to 19 are whole, with ten events each (three players, the sink, begin and end):
+# 190. Line 20 is of the cycle of line 21. There `stopped` is not awake: begin, first 23 44 and
+# third 90 105 make 195, the tick is 196, and the driver's start cannot stand: 197.
+FIRST_ILLEGAL = 197
+
+# tap.log: lines 1 to 20 are whole, with eight events each: 160. In line 22 `recorder` is not awake:
+# begin, player 20 38 make 163, the tick is 164, and the driver's start cannot stand: 165.
+FIRST_ILLEGAL_OF_TAP = 165
+
+
+def scripts_run(asking):
+    """Each recording's script is accepted, none of its links is refused, and it makes sound."""
+    for scene in SCENES:
+        dump, log = recording(scene)
+        for words in ([dump], [dump, log], [dump, log, "--late"]):
+            made = asking.tool("graph", *words)
+            name = asking.store(f"{scene}.graph", made.text)
+            asking.same(f"{scene}: status of graph", 0, made.status)
+            links = sum(line.startswith("link ") for line in commands(made.text))
+            for command in ("run", "groups"):
+                done = asking.program("pipegraph", command, name)
+                kinds = [line.split()[0] for line in done.text.splitlines()]
+                asking.same(f"{scene}: {command}", (0, links, 0, True),
+                            (done.status, kinds.count("link"), kinds.count("nolink"),
+                             "wrote" in kinds))
+            drawn = asking.program("pipegraph-pictures", "graph", name)
+            asking.same(f"{scene}: picture", (0, True), (drawn.status, "digraph" in drawn.text))
+
+
+def scripts_say(asking):
+    """What two scripts say, line by line."""
+    dump, log = recording("players")
+    asking.same("players: script", PLAYERS.splitlines(),
+                commands(asking.tool("graph", dump).text))
+    dump, log = recording("loopbacks")
+    links = [line for line in commands(asking.tool("graph", dump, log).text)
+             if line.startswith("link ")]
+    asking.same("loopbacks: links", LOOPBACKS.splitlines(), links)
+
+
+def written(asking, scene, *late):
+    """The script and the trace of a recording, stored."""
+    dump, log = recording(scene)
+    script, trace = asking.tool("graph", dump, log, *late), asking.tool("trace", dump, log, *late)
+    asking.same(f"{scene}: statuses", (0, 0), (script.status, trace.status))
+    return asking.store(f"{scene}.graph", script.text), asking.store(f"{scene}.trace", trace.text)
+
+
+def plain_cycles_are_legal(asking):
+    """Without the cycles in which a follower did not finish every recording is legal."""
+    for scene in SCENES:
+        script, trace = written(asking, scene)
+        text = (asking.folder / trace).read_text()
+        asking.same(f"{scene}: cycles", CYCLES[scene], text.count("begin "))
+        asking.same(f"{scene}: verdict", "legal\n",
+                    asking.program("pipegraph", "check", script, trace).text)
+        drawn = asking.program("pipegraph-pictures", "timeline", script, trace)
+        asking.same(f"{scene}: timeline", (0, True), (drawn.status, "<svg" in drawn.text))
+
+
+def events_say(asking):
+    """Two cycles, event by event."""
+    _, trace = written(asking, "loopbacks")
+    asking.same("loopbacks: first cycle", FIRST_CYCLE,
+                "".join((asking.folder / trace).read_text().partition("end 0\n")[:2]))
+    _, trace = written(asking, "busy")
+    lines = (asking.folder / trace).read_text().splitlines(True)
+    asking.same("busy: cycle 68", BUSY_CYCLE,
+                "".join(line for line in lines if line.split()[1] == "68"))
+
+
+def late_cycles_are_illegal(asking):
+    """With those cycles the driver's start is illegal: it waits for who was late."""
+    for scene, first in [("late", FIRST_ILLEGAL), ("tap", FIRST_ILLEGAL_OF_TAP)]:
+        script, trace = written(asking, scene, "--late")
+        asking.same(f"{scene} --late: verdict", f"illegal {first}\n",
+                    asking.program("pipegraph", "check", script, trace).text)
+
+
+def left_out_by_name(asking):
+    """What is left out is told by name."""
+    dump, log = recording("monitor")
+    told = asking.tool("graph", dump, log).errors
+    asking.same("monitor: graph tells", [
+        'graph: left out: "Dummy-Driver" (id 15): it has no audio port',
+        'graph: left out: links 48 49 from "sinkA" (id 16) to "copy.in" (id 39) and "copy.out" '
+        '(id 38): the driver ends the cycle, so its output comes after it'], told.splitlines())
+    asking.same("monitor: trace tells", [
+        'trace: left out: the events of "sinkB" (id 17): no links of the script join it to '
+        '"sinkA" (id 16)',
+        'trace: left out: the events of "copy.in" (id 39) and "copy.out" (id 38): no links of the '
+        'script join it to "sinkA" (id 16)'], asking.tool("trace", dump, log).errors.splitlines())
+    dump, log = recording("late")
+    told = asking.tool("trace", dump, log).errors.splitlines()
+    asking.same("late: trace tells", [
+        f"trace: {log}:20: left out: written when the next cycle began; the next line is of the "
+        "same cycle",
+        f"trace: {log}:21: left out: stopped was not awake"], told[:2])
+
+
+TESTS = [scripts_run, scripts_say, plain_cycles_are_legal, events_say, late_cycles_are_illegal,
+         left_out_by_name]
