@@ -76,6 +76,10 @@ FIRST_ILLEGAL = 197
 # begin, player 20 38 make 163, the tick is 164, and the driver's start cannot stand: 165.
 FIRST_ILLEGAL_OF_TAP = 165
 
+# busy.log: lines 1 to 8 are whole, with ten events each: 80. In line 10 pw_cat_32 is not awake:
+# begin, the loopback 47 87 and pw_cat_41 504 539 make 85, the tick is 86, the driver's start 87.
+FIRST_ILLEGAL_OF_BUSY = 87
+
 
 def scripts_run(asking):
     """Each recording's script is accepted, none of its links is refused, and it makes sound."""
@@ -140,7 +144,8 @@ def events_say(asking):
 
 def late_cycles_are_illegal(asking):
     """With those cycles the driver's start is illegal: it waits for who was late."""
-    for scene, first in [("late", FIRST_ILLEGAL), ("tap", FIRST_ILLEGAL_OF_TAP)]:
+    for scene, first in [("late", FIRST_ILLEGAL), ("tap", FIRST_ILLEGAL_OF_TAP),
+                         ("busy", FIRST_ILLEGAL_OF_BUSY)]:
         script, trace = written(asking, scene, "--late")
         asking.same(f"{scene} --late: verdict", f"illegal {first}\n",
                     asking.program("pipegraph", "check", script, trace).text)
