@@ -1,4 +1,4 @@
-"""A PipeWire of our own, without devices: the daemon, a session manager, and the clients of a scene."""
+"""A PipeWire of our own, without devices: a daemon, a session manager, and clients."""
 import json
 import os
 import shutil

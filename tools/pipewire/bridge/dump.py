@@ -14,7 +14,7 @@ KINDS = {"PipeWire:Interface:Node": "node", "PipeWire:Interface:Port": "port",
 LINK_ENDS = ["output-node-id", "output-port-id", "input-node-id", "input-port-id"]
 
 
-@dataclass
+@dataclass(eq=False)
 class Port:
     """One channel of a node, or its control values or notes."""
     id: int
@@ -42,7 +42,7 @@ class Port:
         return any(isinstance(it, dict) and it.get("mediaType") == "audio" for it in formats)
 
 
-@dataclass
+@dataclass(eq=False)
 class Node:
     """A node with its ports, in the order of their ids."""
     id: int
@@ -85,7 +85,7 @@ class Node:
                 if port.is_audio and port.is_input == is_input and port.is_monitor == monitor]
 
 
-@dataclass
+@dataclass(eq=False)
 class Link:
     """From an output port to an input port: one channel."""
     id: int
@@ -96,7 +96,7 @@ class Link:
     state: str
 
 
-@dataclass
+@dataclass(eq=False)
 class Dump:
     """The objects of a daemon, by their ids, and the settings that its metadata has."""
     path: str
@@ -105,12 +105,6 @@ class Dump:
     links: list
     clients: dict
     settings: dict
-
-    def node(self, id):
-        """The node of this id, which has to be there."""
-        if id not in self.nodes:
-            raise Fault(f"{self.path}: node {id} is not in the dump")
-        return self.nodes[id]
 
     def process(self, node):
         """The process that a node runs in: its client's, or 0, the daemon."""

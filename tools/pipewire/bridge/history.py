@@ -1,9 +1,9 @@
 """The cycles of a log as events of a script: which cycles are whole, and who was late in which."""
 from dataclasses import dataclass, field
 
-from bridge.engine import active_steps, engine_of
+from bridge.engine import active_steps, engine_of, leader
 from bridge.fault import Fault
-from bridge.joining import driver_of, driven_groups
+from bridge.joining import Group, driven_groups
 from bridge.ordering import Work, cycle_lines, depths
 from bridge.profiler import AWAKE, FINISHED, NOT_TRIGGERED, TRIGGERED, read_log
 
@@ -25,14 +25,13 @@ def history_of(dump, path, late):
     """The cycles of a log. A cycle in which a follower did not finish is left out, or with `late`
     written with a tick that names it."""
     rows = read_log(path)
-    driver = logged_driver(dump, path, rows)
-    engine = engine_of(dump, only=driver)
+    group = logged_group(dump, path, rows)
+    engine = engine_of(dump, only=group)
     history = History(engine, rows[0].period)
-    lead = engine.step_of(driver.id)
-    lead = lead if lead.kind == "sink" else None
+    lead = leader(engine)
     active = active_steps(engine, lead)
-    tell_inactive(history, path, rows, active, driver)
-    cycles = Cycles(history, active, lead, driver, late)
+    tell_inactive(history, rows, active, group.driver)
+    cycles = Cycles(history, active, lead, group.driver, late)
     for row in rows:
         cycles.add(f"{path}:{row.line}", row)
     if not history.cycles:
@@ -40,37 +39,37 @@ def history_of(dump, path, late):
     return history
 
 
-def logged_driver(dump, path, rows):
-    """The driver whose followers the log has."""
-    nodes = [dump.nodes[id] for id in sorted(dump.nodes)]
-    groups = driven_groups(dump, nodes)
-    found = None
+def logged_group(dump, path, rows):
+    """The nodes of the driver that was logged: the group that its followers are of, and groups
+    without a driver of their own, which the daemon lets it drive too."""
+    groups = driven_groups(dump, list(dump.nodes.values()))
+    driver, ids = None, []
     for row in rows:
         for id in row.turns:
+            if id in ids:
+                continue
             if id not in dump.nodes:
                 raise Fault(f"{path}:{row.line}: node {id} is not in {dump.path}: both have to be "
                             "recorded of the same graph")
-            group = next(group for group in groups if id in group)
-            if found not in (None, group):
-                raise Fault(f"{path}:{row.line}: node {id} has another driver than the nodes "
-                            f"before it, by {dump.path}")
-            found = group
-    if found is None:
+            group = next(group for group in groups if id in group.ids)
+            if driver and group.driver:
+                raise Fault(f"{path}:{row.line}: node {id} is driven by {group.driver.said}, and "
+                            f"nodes before it by {driver.said}, by {dump.path}")
+            driver = driver or group.driver
+            ids += group.ids
+    if not ids:
         raise Fault(f"{path}: no line has a follower")
-    driver = driver_of(dump, found)
-    if driver is None or not any(port.is_audio for port in driver.ports):
-        raise Fault(f"{path}: none of the nodes that share a driver with node "
-                    f"{next(iter(rows[0].turns))} may drive, by {dump.path}")
-    return driver
+    return Group(driver, ids)
 
 
-def tell_inactive(history, path, rows, active, driver):
+def tell_inactive(history, rows, active, driver):
     """Followers of the log whose events are left out in every cycle."""
     ids = {id for row in rows for id in row.turns}
+    whom = driver.said if driver else "another node"
     for step in history.engine.steps:
         if step not in active and driver not in step.nodes and ids & set(step.ids):
             history.told.append(f"left out: the events of {step.said}: no links of the script "
-                                f"join it to {driver.said}")
+                                f"join it to {whom}")
 
 
 class Cycles:

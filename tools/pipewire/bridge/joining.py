@@ -2,8 +2,17 @@
 
 Source: PipeWire's documentation, "Graph Scheduling": nodes that are linked, or have a node.group or
 a node.link-group in common, have one driver: of those that may drive the one of greatest
-priority.driver, and of equal ones the one that was there first.
+priority.driver, and of equal ones the one that was there first. Where none may drive, the daemon's
+own fallback does (its dummy driver, or a sink that runs).
 """
+from dataclasses import dataclass
+
+
+@dataclass(eq=False)
+class Group:
+    """The nodes of one driver: its node, if it is one of them, and their ids."""
+    driver: object
+    ids: list
 
 
 class Sets:
@@ -29,7 +38,7 @@ class Sets:
 
 
 def driven_groups(dump, nodes):
-    """The ids of the nodes that share a driver, group by group."""
+    """The nodes that share a driver, group by group."""
     sets = Sets([node.id for node in nodes])
     for link in dump.links:
         if link.output_node in sets.above and link.input_node in sets.above:
@@ -40,10 +49,10 @@ def driven_groups(dump, nodes):
             name = node.properties.get(key)
             if name:
                 sets.join(node.id, first.setdefault(name, node.id))
-    return sets.groups()
+    return [Group(driver_of(dump, ids), ids) for ids in sets.groups()]
 
 
-def driver_of(dump, group):
+def driver_of(dump, ids):
     """The node that drives a group, if one of it may."""
-    able = [dump.nodes[id] for id in group if dump.nodes[id].may_drive]
+    able = [dump.nodes[id] for id in ids if dump.nodes[id].may_drive]
     return min(able, key=lambda node: (-node.priority, node.serial), default=None)

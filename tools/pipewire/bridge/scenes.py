@@ -1,4 +1,5 @@
 """The scenes that are recorded: each starts clients on a daemon of its own."""
+import json
 import os
 import signal
 import time
@@ -73,6 +74,12 @@ def monitor(daemon):
                     {"node.name": "copy.out", "target.object": "sinkB"})
 
 
+def dummy(daemon):
+    """A player into a recorder, and no sink: the daemon's dummy driver drives."""
+    daemon.play("0", "player")
+    record(daemon, "player", "recorder")
+
+
 def late(daemon):
     """Three players; the second one is stopped for 60 ms again and again, on purpose."""
     daemon.play("sinkA", "first")
@@ -84,13 +91,18 @@ def late(daemon):
 def tap(daemon):
     """A player into a sink and a recorder, which is stopped for 60 ms again and again."""
     daemon.play("sinkA", "player")
-    stopped = daemon.start("pw-cat", "-r", "--target", "0", "--latency", "1024",
-                           "-P", '{"node.name": "recorder"}', "recorded.wav")
+    return record(daemon, "player", "recorder")
+
+
+def record(daemon, player, name):
+    """A recorder of what a player plays."""
+    child = daemon.start("pw-cat", "-r", "--target", "0", "--latency", "1024",
+                         "-P", json.dumps({"node.name": name}), "recorded.wav")
     time.sleep(0.6)
     for side in ("FL", "FR"):
-        daemon.ask("pw-link", f"player:output_{side}", f"recorder:input_{side}")
+        daemon.ask("pw-link", f"{player}:output_{side}", f"{name}:input_{side}")
     time.sleep(0.4)
-    return stopped
+    return child
 
 
 def stop_now_and_then(child, seconds):
@@ -104,5 +116,5 @@ def stop_now_and_then(child, seconds):
 
 SCENES = {"players": (BOTH, players), "loopbacks": (BOTH, loopbacks),
           "filter": (BOTH, filter_chain), "drivers": (BOTH, drivers),
-          "async": (BOTH, asynchronous), "monitor": (BOTH, monitor), "late": (BOTH, late),
-          "tap": (BOTH, tap)}
+          "async": (BOTH, asynchronous), "monitor": (BOTH, monitor), "dummy": (BOTH, dummy),
+          "late": (BOTH, late), "tap": (BOTH, tap)}

@@ -1,5 +1,5 @@
 """The script of a graph, by the grammar of docs/FORMATS.md, "Scripts"."""
-from bridge.engine import MOST_PRIORITY
+from bridge.engine import candidates
 from bridge.fault import shown
 
 CYCLES = 100
@@ -26,7 +26,8 @@ def quantum_of(dump, period=None):
 
 def script_of(dump, engine, cycles=CYCLES, period=None):
     """The lines of a script, with what each node is in PipeWire above it."""
-    lines = [f"# {len(engine.steps)} nodes and {len(engine.wires)} links of PipeWire"]
+    lines = [f"# {printable(dump.path)}: {counted(engine.steps, 'node')}, "
+             f"{counted(engine.wires, 'link')}"]
     lines += ["# " + line for line in group_lines(engine)]
     lines.append(f"quantum {quantum_of(dump, period)}")
     rate = rate_of(dump)
@@ -52,8 +53,6 @@ def group_lines(engine):
     """For each driver who follows it."""
     for group in engine.groups:
         steps = [step for step in engine.steps if step.entry.id in group.ids]
-        if not steps:
-            continue
         driver = group.driver.said if group.driver else "the built-in driver"
         names = [step.name for step in steps if group.driver not in step.nodes]
         yield f"{driver} drives {', '.join(names) if names else 'nobody'}"
@@ -68,11 +67,15 @@ def remarks(step):
         kind = node.properties.get("media.class", "no media.class")
         yield f"id {node.id} {shown(node.name)}, {printable(kind)}, {node.state}: {ports}{more}"
         if "media.filename" in node.properties:
-            yield f"plays {shown(node.properties['media.filename'])}"
+            yield f"its file is {shown(node.properties['media.filename'])}"
 
 
 def printable(text):
     return shown(text)[1:-1]
+
+
+def counted(items, name):
+    return f"{len(items)} {name}" if len(items) == 1 else f"{len(items)} {name}s"
 
 
 def making_line(step, rate, sources):
@@ -88,14 +91,6 @@ def making_line(step, rate, sources):
 
 
 def driver_lines(engine):
-    """Who may drive: where a sink drives a group, each sink of it that PipeWire lets drive."""
-    lines = []
-    for group in engine.groups:
-        lead = engine.step_of(group.driver.id) if group.driver else None
-        if lead is None or lead.kind != "sink":
-            continue
-        for step in engine.steps:
-            if step.kind == "sink" and step.entry.id in group.ids and step.entry.may_drive:
-                priority = max(0, min(step.entry.priority, MOST_PRIORITY))
-                lines.append(f"driver {step.name} {priority}")
+    """Who may drive."""
+    lines = [f"driver {step.name} {priority}" for step, priority in candidates(engine)]
     return lines + [""] if lines else []

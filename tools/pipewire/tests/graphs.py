@@ -64,8 +64,9 @@ def an_async_node_may_close_a_loop(asking):
     dump.link(one, sink)
     made = asking.tool("graph", asking.store("async.json", dump.text()))
     asking.same("async", ["quantum 1024", "sink sink sink.wav", "gain one 256", "gain two 256",
-                          "async two", "driver sink 7", "link one.out two.in", "link two.out one.in",
-                          "link one.out sink.in", "cycles 100"], commands(made.text))
+                          "async two", "driver sink 7", "link one.out two.in",
+                          "link two.out one.in", "link one.out sink.in", "cycles 100"],
+                commands(made.text))
     done = asking.program("pipegraph", "run", asking.store("async.graph", made.text))
     asking.same("async: links", (0, False), (done.status, "nolink" in done.text))
 

@@ -4,11 +4,12 @@ Each expected line was worked out by hand from the columns of a log or from `pw-
 """
 from tests.asking import commands, recording
 
-SCENES = ["players", "loopbacks", "filter", "drivers", "async", "monitor", "late", "tap", "busy"]
+SCENES = ["players", "loopbacks", "filter", "drivers", "async", "monitor", "dummy", "late",
+          "tap", "busy"]
 
 # Cycles: the lines of the log without those in which a status of a follower is not 3.
 CYCLES = {"players": 100, "loopbacks": 100, "filter": 100, "drivers": 100, "async": 100,
-          "monitor": 100, "late": 84, "tap": 86, "busy": 82}
+          "monitor": 100, "dummy": 100, "late": 84, "tap": 86, "busy": 82}
 
 # players.json: pw-link -l shows each player's two ports on sinkA's two.
 PLAYERS = """quantum 1024
