@@ -19,10 +19,6 @@ def is_span(choice):
     return isinstance(choice, dict) and "min" in choice
 
 
-def low_high(choice):
-    return choice["min"], choice["max"]
-
-
 def values(choice):
     """The values of a plain value or an enum."""
     if isinstance(choice, dict):
@@ -33,39 +29,48 @@ def values(choice):
 def has(choice, value):
     """Whether a choice admits a value."""
     if is_span(choice):
-        low, high = low_high(choice)
-        return low <= value <= high and (value - low) % choice.get("step", 1) == 0
+        return choice["min"] <= value <= choice["max"] and (
+            (value - choice["min"]) % choice.get("step", 1) == 0)
     return value in values(choice)
 
 
-def is_position(name, one, other):
+def default_of(choice):
+    return choice["default"] if isinstance(choice, dict) else choice
+
+
+def is_position(one, other, chosen):
     """Two arrays of equal length: spa_pod_compare_value calls any two arrays equal, so the daemon
     takes the output's, and `filter` compares what is in them."""
-    return name == "position" and one != other and len(one) == len(other)
+    return isinstance(one, list) and one != other and len(one) == len(other) and chosen == one
 
 
-def is_disjoint(name, one, other):
-    """Two spans without a common number: spa_pod_filter_prop takes the greater min and the lesser
-    max, and does not refuse where they cross."""
-    return is_span(one) and is_span(other) and (
-        max(one["min"], other["min"]) > min(one["max"], other["max"]))
+def is_step_with_enum(one, other, _):
+    """A step and an enum: in spa_pod_filter_prop the loop over the input's alternatives goes on
+    from the output's values, so of the alternatives it sees the first, and then the step's max."""
+    return is_span(one) and "step" in one and not is_span(other) and len(values(other)) > 1
 
 
-def is_step(name, one, other):
-    """A step: spa_pod_filter_prop drops the step of two spans, and asks of a value whether it is a
-    multiple of the step, and not whether it lies whole steps above the min."""
-    return any(is_span(it) and "step" in it for it in (one, other))
+def is_apart(one, other, chosen):
+    """Two spans: spa_pod_filter_prop takes the greater min and the lesser max, and neither refuses
+    where they cross nor keeps a step; then the daemon's value is none that both have."""
+    return is_span(one) and is_span(other) and not (has(one, chosen) and has(other, chosen))
 
 
-def is_default(name, one, other):
-    """The output's default is not common: the daemon clamps it, or takes the first alternative;
-    `filter` takes the input's default where that is common."""
-    default = one["default"] if isinstance(one, dict) else one
-    return name != "position" and not has(other, default)
+def is_default(one, other, chosen):
+    """The output's default is not common. The daemon clamps it to the common range, or takes the
+    first alternative that is common; `filter` takes the input's default where that is common."""
+    if has(other, default_of(one)):
+        return False
+    if is_span(one) and is_span(other):
+        least, most = max(one["min"], other["min"]), min(one["max"], other["max"])
+        return has(one, chosen) and has(other, chosen) and (
+            chosen == min(max(one["default"], least), most))
+    listed, rest = (other, one) if is_span(one) else (one, other)
+    return chosen == next(value for value in values(listed) if has(rest, value))
 
 
-REFUSALS = {"position": is_position, "disjoint": is_disjoint, "step": is_step}
-CHOICES = {"step": is_step, "default": is_default}
+DIFFERENCES = {"positions": is_position, "step with enum": is_step_with_enum,
+               "spans apart, or a step dropped": is_apart, "default": is_default}
 
 
 def pick_of(lines):
@@ -106,12 +111,10 @@ def asked(asking, row):
     return said, pick_of(asking.program("pipegraph", "dump", "c.pod").text.splitlines())
 
 
-def why(row, names, known):
-    """Which difference a pair is, by these keys: all of them have to be one."""
-    found = [next((kind for kind, holds in known.items() if name in row["output"] and name in
-                   row["input"] and holds(name, row["output"][name], row["input"][name])), None)
-             for name in names]
-    return None if None in found or not found else found[0]
+def why(row, name):
+    """Which difference the daemon's value of a key is, if it is one."""
+    ends = row["output"][name], row["input"][name], row["format"][name]
+    return next((kind for kind, holds in DIFFERENCES.items() if holds(*ends)), None)
 
 
 def pairs_agree(asking):
@@ -122,17 +125,17 @@ def pairs_agree(asking):
     for at, row in enumerate(rows, 1):
         said, picks = asked(asking, row)
         if "error" in row:
-            kind = "both refuse" if said.startswith("clash") else None
+            kinds = {"both refuse" if said.startswith("clash") else None}
         elif picks is None:
-            kind = why(row, [NAMES[int(said.split()[1])]], REFUSALS)
+            kinds = {f"{why(row, NAMES[int(said.split()[1])])}, refused by filter alone"}
         else:
             wanted = numbers_of(row["format"])
-            apart = [name for name in picks if picks[name] != wanted.get(name)]
-            kind = why(row, apart, CHOICES) if apart else "both agree"
-        asking.same(f"pairs.jsonl:{at}: {said.strip()}, {json.dumps(row)}", True, kind is not None)
-        verdict = "" if said == "common\n" or "error" in row else ", refused by filter alone"
-        counts[f"{kind}{verdict}"] = counts.get(f"{kind}{verdict}", 0) + 1
-    print("pairs: " + ", ".join(f"{kind} {count}" for kind, count in sorted(counts.items())))
+            kinds = {why(row, name) for name in picks if picks[name] != wanted.get(name)}
+            kinds = kinds or {"both agree"}
+        kind = " and ".join(sorted(map(str, kinds)))
+        asking.same(f"pairs.jsonl:{at}: {said.strip()}, {json.dumps(row)}", False, "None" in kind)
+        counts[kind] = counts.get(kind, 0) + 1
+    print("pairs: " + "; ".join(f"{kind} {count}" for kind, count in sorted(counts.items())))
 
 
 TESTS = [pairs_agree]
