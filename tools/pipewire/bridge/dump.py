@@ -39,7 +39,7 @@ class Port:
         if "format.dsp" in self.properties:
             return str(self.properties["format.dsp"]).endswith("audio")
         formats = self.params.get("Format", []) + self.params.get("EnumFormat", [])
-        return any(isinstance(it, dict) and it.get("mediaType") == "audio" for it in formats)
+        return any(it.get("mediaType") == "audio" for it in formats if isinstance(it, dict))
 
 
 @dataclass(eq=False)
@@ -63,8 +63,7 @@ class Node:
     @property
     def serial(self):
         """Ids are used again; serial numbers are not, so they tell who came first."""
-        serial = self.properties.get("object.serial", self.id)
-        return serial if isinstance(serial, int) else self.id
+        return whole(self.properties.get("object.serial"), self.id)
 
     @property
     def may_drive(self):
@@ -72,8 +71,7 @@ class Node:
 
     @property
     def priority(self):
-        priority = self.properties.get("priority.driver", 0)
-        return priority if isinstance(priority, int) else 0
+        return whole(self.properties.get("priority.driver"), 0)
 
     @property
     def is_asynchronous(self):
@@ -108,11 +106,19 @@ class Dump:
 
     def process(self, node):
         """The process that a node runs in: its client's, or 0, the daemon."""
-        client = node.properties.get("client.id")
-        if "client.id" not in node.properties or client not in self.clients:
+        client = whole(node.properties.get("client.id"), None)
+        if client not in self.clients:
             return 0
         said = self.clients[client]
-        return said.get("pipewire.sec.pid", said.get("application.process.id", f"client {client}"))
+        pid = said.get("pipewire.sec.pid", said.get("application.process.id"))
+        return whole(pid, f"client {client}")
+
+
+def whole(value, otherwise):
+    """A number of the settings, which some releases print as a text."""
+    if isinstance(value, str) and value.isdigit():
+        return int(value)
+    return value if isinstance(value, int) and not isinstance(value, bool) else otherwise
 
 
 def is_true(value):
@@ -165,20 +171,19 @@ def read_dump(path):
 
 def add(dump, it):
     """Takes in an object; what is neither node, port, link, client nor settings says nothing."""
-    kind, id = KINDS.get(it.get("type")), it["id"]
+    kind, id = KINDS.get(str(it.get("type"))), it["id"]
     where = f"{kind} {id}"
     if kind == "metadata":
-        if (it.get("props") or {}).get("metadata.name") == "settings":
-            dump.settings = {entry["key"]: entry.get("value") for entry in it.get("metadata", [])
-                             if isinstance(entry, dict) and "key" in entry}
+        if isinstance(it.get("props"), dict) and it["props"].get("metadata.name") == "settings":
+            dump.settings = settings(it.get("metadata"))
         return
     if kind is None or it.get("info", 0) is None:
         return
     info = part(dump.path, it, where, "info", dict)
-    properties = info.get("props") or {}
-    params = info.get("params") or {}
-    if not isinstance(properties, dict) or not isinstance(params, dict):
-        raise Fault(f"{dump.path}: {where} has no \"props\" or \"params\", as pw-dump prints them")
+    properties, params = info.get("props") or {}, info.get("params") or {}
+    if not isinstance(properties, dict) or not isinstance(params, dict) \
+            or not all(isinstance(it, list) for it in params.values()):
+        raise Fault(f"{dump.path}: {where} has other \"props\" or \"params\" than pw-dump prints")
     if kind == "client":
         dump.clients[id] = properties
     elif kind == "node":
@@ -190,6 +195,13 @@ def add(dump, it):
     else:
         ends = [part(dump.path, info, where, key, int) for key in LINK_ENDS]
         dump.links.append(Link(id, *ends, str(info.get("state", ""))))
+
+
+def settings(entries):
+    """The keys and values of the daemon's settings."""
+    entries = entries if isinstance(entries, list) else []
+    return {str(entry.get("key")): entry.get("value") for entry in entries
+            if isinstance(entry, dict)}
 
 
 def check_ends(dump, link):

@@ -48,7 +48,7 @@ def driven_groups(dump, nodes):
         for node in nodes:
             name = node.properties.get(key)
             if name:
-                sets.join(node.id, first.setdefault(name, node.id))
+                sets.join(node.id, first.setdefault(str(name), node.id))
     return [Group(driver_of(dump, ids), ids) for ids in sets.groups()]
 
 

@@ -1,4 +1,5 @@
 """The script of a graph, by the grammar of docs/FORMATS.md, "Scripts"."""
+from bridge.dump import whole
 from bridge.engine import candidates
 from bridge.fault import shown
 
@@ -9,9 +10,8 @@ FULL_SCALE = 32767
 
 def rate_of(dump):
     """The rate of the graph, as the settings have it."""
-    forced = dump.settings.get("clock.force-rate") or 0
-    rate = forced or dump.settings.get("clock.rate", 48000)
-    return rate if isinstance(rate, int) and 1 <= rate <= 384000 else 48000
+    rate = setting(dump, "clock.force-rate", 0) or setting(dump, "clock.rate", 48000)
+    return rate if 1 <= rate <= 384000 else 48000
 
 
 def quantum_of(dump, period=None):
@@ -19,9 +19,12 @@ def quantum_of(dump, period=None):
     if period:
         quantum = round(period * rate_of(dump) / 1e6)
     else:
-        forced = dump.settings.get("clock.force-quantum") or 0
-        quantum = forced or dump.settings.get("clock.quantum", 1024)
-    return quantum if isinstance(quantum, int) and 1 <= quantum <= 8192 else 1024
+        quantum = setting(dump, "clock.force-quantum", 0) or setting(dump, "clock.quantum", 1024)
+    return quantum if 1 <= quantum <= 8192 else 1024
+
+
+def setting(dump, key, otherwise):
+    return whole(dump.settings.get(key), otherwise)
 
 
 def script_of(dump, engine, cycles=CYCLES, period=None):

@@ -65,7 +65,7 @@ def make_steps(nodes):
     by_group, steps, taken = {}, [], set()
     for node in nodes:
         if node.properties.get("node.link-group"):
-            by_group.setdefault(node.properties["node.link-group"], []).append(node)
+            by_group.setdefault(str(node.properties["node.link-group"]), []).append(node)
     for members in by_group.values():
         entries = [node for node in members if node.audio(True) and not node.audio(False)]
         exits = [node for node in members if node.audio(False) and not node.audio(True)]
@@ -84,7 +84,6 @@ def name_steps(steps):
 
 
 def wanted_name(step):
-    said = {node.properties.get("node.description") for node in step.nodes}
-    if len(step.nodes) == 2 and len(said) == 1 and None not in said:
-        return str(said.pop())
-    return step.entry.name
+    said = {str(node.properties.get("node.description", "")) for node in step.nodes}
+    return said.pop() or step.entry.name if len(step.nodes) == 2 and len(said) == 1 \
+        else step.entry.name
