@@ -5,11 +5,13 @@ from bridge.engine import active_steps, engine_of, leader
 from bridge.fault import Fault
 from bridge.joining import Group, driven_groups
 from bridge.ordering import Work, cycle_lines, depths
-from bridge.profiler import AWAKE, FINISHED, NOT_TRIGGERED, TRIGGERED, read_log
+from bridge.profiler import AWAKE, FINISHED, NOT_TRIGGERED, TRIGGERED, Turn, read_log
 
 DUMMY = "dummy"
+NO_TURN = Turn(0, 0, 0, NOT_TRIGGERED)
 UNFINISHED = {NOT_TRIGGERED: "was not triggered", TRIGGERED: "was not awake",
               AWAKE: "had not finished"}
+OLDER = "was at work since before the cycle"
 
 
 @dataclass
@@ -22,8 +24,8 @@ class History:
 
 
 def history_of(dump, path, late):
-    """The cycles of a log. A cycle in which a follower did not finish is left out, or with `late`
-    written with a tick that names it."""
+    """The cycles of a log. A cycle in which a follower did not start and finish is left out, or with
+    `late` written as it was, with a tick that names who had not finished."""
     rows = read_log(path)
     group = logged_group(dump, path, rows)
     engine = engine_of(dump, only=group)
@@ -32,6 +34,8 @@ def history_of(dump, path, late):
     active = active_steps(engine, lead)
     tell_inactive(history, rows, active, group.driver)
     cycles = Cycles(history, active, lead, group.driver, late)
+    for row in rows:
+        cycles.logged.update(row.turns)
     for row in rows:
         cycles.add(f"{path}:{row.line}", row)
     if not history.cycles:
@@ -78,56 +82,52 @@ class Cycles:
     def __init__(self, history, active, lead, driver, late):
         self.history, self.late, self.lead, self.driver = history, late, lead, driver
         self.name = lead.name if lead else DUMMY
-        self.last = None
         self.followers = [step for step in active if step is not lead]
         self.depth = depths(history.engine, self.followers)
+        self.logged, self.last = set(), None
 
     def add(self, place, row):
         """Adds the cycle of a row, or tells why it is left out."""
         repeated, self.last = row.repeats(self.last), row
         if repeated:
             return self.tell(f"{place}: left out: the line before it again")
-        works = [self.work(step, row) for step in self.followers]
-        unfinished = [work.step for work in works if work.finish is None]
-        if unfinished and row.counts_from_before:
+        if row.counts_from_before:
             return self.tell(f"{place}: left out: written when the next cycle began; "
                              "the next line is of the same cycle")
-        if unfinished and not self.late:
-            return self.tell(f"{place}: left out: {self.why(unfinished, row)}")
+        works = [self.work(step, row) for step in self.followers]
+        why = ", ".join(f"{work.step.name} {work.why}" for work in works if work.why)
+        if why and not self.late:
+            return self.tell(f"{place}: left out: {why}")
         number = len(self.history.cycles)
-        if unfinished:
-            self.tell(f"{place}: cycle {number}: {self.why(unfinished, row)}")
+        if why:
+            self.tell(f"{place}: cycle {number}: {why}")
         ended = None if row.is_cut else row.finish
         self.history.cycles.append(cycle_lines(number, works, self.depth, self.name, ended,
-                                               self.tick(row, works, unfinished)))
+                                               late_check(row, works)))
 
     def tell(self, sentence):
         self.history.told.append(sentence)
 
     def work(self, step, row):
-        """When a step ran: of two streams from the awake of the first to the finish of the
-        other. A source that drives has its samples when the cycle begins."""
+        """When a step ran: of two streams from the wake of the first to the finish of the other.
+        A source that drives has its samples when the cycle begins."""
         if self.driver in step.nodes:
             return Work(step, 0, 0)
-        first, last = row.turns.get(step.entry.id), row.turns.get(step.exit.id)
-        first = first or last
-        if last is None or first is None:
-            return Work(step, None, None)
-        start = first.awake if first.status >= AWAKE else None
-        finish = last.finish if last.status == first.status == FINISHED else None
-        return Work(step, start, finish)
+        ids = [id for id in step.ids if id in self.logged] or step.ids
+        turns = [row.turns.get(id, NO_TURN) for id in ids]
+        status = min(turn.status for turn in turns)
+        start = turns[0].awake if turns[0].status >= AWAKE else None
+        if status < FINISHED:
+            return Work(step, start, None, UNFINISHED[status])
+        older = any(turn.awake == 0 for turn in turns)
+        return Work(step, start, turns[-1].finish, OLDER if older else "")
 
-    def why(self, steps, row):
-        """Who did not finish, in words."""
-        def status(step):
-            return min(row.turns[id].status if id in row.turns else NOT_TRIGGERED
-                       for id in step.ids)
-        return ", ".join(f"{step.name} {UNFINISHED[status(step)]}" for step in steps)
 
-    def tick(self, row, works, unfinished):
-        """The late check: of those that did not finish when the driver went on, else of those that
-        finished after the period, where the driver did so too."""
-        if unfinished:
-            return (None, unfinished)
-        late = [work.step for work in works if work.finish > row.period]
-        return (row.period, late) if late and row.finish > row.period else None
+def late_check(row, works):
+    """The tick of a cycle: of those that had not finished when the driver went on, else of those
+    that finished after the period, where the driver did so too."""
+    unfinished = [work.step for work in works if work.finish is None]
+    if unfinished:
+        return (None, unfinished)
+    late = [work.step for work in works if work.finish > row.period]
+    return (row.period, late) if late and row.finish > row.period else None
