@@ -11,6 +11,8 @@ mod alone;
 mod assignment;
 mod crew;
 #[cfg(test)]
+mod cycle_table;
+#[cfg(test)]
 mod queues;
 #[cfg(test)]
 mod refusals;
@@ -20,6 +22,8 @@ mod runs;
 mod stepping;
 #[cfg(test)]
 mod steps;
+#[cfg(test)]
+mod table_lines;
 #[cfg(test)]
 mod threads;
 #[cfg(test)]

@@ -138,8 +138,8 @@ impl Crew {
         late
     }
 
-    /// One claim of the driver's node: whether its turn ended the cycle.
-    pub fn lead(&mut self, board: &Board) -> bool
+    /// One claim of the driver's node, which a gate watches: whether its turn ended the cycle.
+    pub fn lead_at<G: Gate>(&mut self, board: &Board, gate: &G) -> bool
         requires on { IsCrewOn board.now self.old }
         ensures on { IsCrewOn board.now self.new }
     {
@@ -152,10 +152,18 @@ impl Crew {
             &mut self.own,
             &mut self.checked,
             &mut Never::new(),
-            &Open::new(),
+            gate,
         );
         self.waits = !ended;
         ended
+    }
+
+    /// The same with a gate that lets each node through.
+    pub fn lead(&mut self, board: &Board) -> bool
+        requires on { IsCrewOn board.now self.old }
+        ensures on { IsCrewOn board.now self.new }
+    {
+        self.lead_at(board, &Open::new())
     }
 
     /// The end of the board. None where a cycle is left.
