@@ -74,10 +74,10 @@ fn spun(alloc: Global, looks: u32) -> Option<u32> {
     Some(count)
 }
 
-// The first eight looks in vain spin, and then each 64th.
+// The first eight looks in vain spin, and then each 256th.
 #[test]
 fn who_looks_in_vain_spins_seldom(rt: HostRuntime) -> Result<(), Fail> {
-    for (looks, wanted) in [(1, 1), (8, 8), (64, 8), (65, 9), (128, 9), (129, 10)] {
+    for (looks, wanted) in [(1, 1), (8, 8), (256, 8), (257, 9), (512, 9), (513, 10)] {
         assert_eq!(rt; spun(rt.alloc(), looks), Some(wanted));
     }
     Ok(())

@@ -21,7 +21,7 @@ const LOOKS: u32 = 64;
 // Nobody can call a thread that spins where all share one processor, or other work has the rest.
 const VAIN: u64 = 8;
 
-const ONE_IN: u64 = 64;
+const ONE_IN: u64 = 256;
 
 const QUIET: u64 = 0;
 

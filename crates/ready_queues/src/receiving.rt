@@ -73,7 +73,7 @@ impl Ways {
     /// Looks for some microseconds whether the way's own thread is called: a loop by who pushes
     /// into its queue, the driver's thread by who has unparked it. A thread that has nothing to do
     /// looks before it rests. It spins between its looks, 256 times at most, and never yields;
-    /// where it has looked in vain eight times in a row it does not spin, but for one look in 64.
+    /// where it has looked in vain eight times in a row it does not spin, but for one look in 256.
     /// Whether it was called no clause says: contracts see nothing of calls. Takes no memory, does
     /// not wait.
     pub fn look(&self, way: &Way) -> Look
