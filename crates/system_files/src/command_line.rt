@@ -62,3 +62,35 @@ pub fn first_without_text<R: Env + Alloc<A = Global>>(rt: &R) -> Option<u32> {
     }
     None
 }
+
+#[cfg(test)]
+mod tests {
+    use super::*;
+    use crate::in_memory::MemWords;
+    use std::test::Fail;
+
+    // Of the words, the first being the program's own name: how many, or the number to end with;
+    // and the first that is no text.
+    fn told(alloc: Global, words: &[&[u8]]) -> (Result<usize, u8>, Option<u32>) {
+        let rt = (MemWords { words }, alloc);
+        match words_of(&rt) {
+            Ok(read) => (Ok(read.len()), first_without_text(&rt)),
+            Err(number) => (Err(number), first_without_text(&rt)),
+        }
+    }
+
+    #[test]
+    fn the_first_word_that_is_no_text_is_named(rt: HostRuntime) -> Result<(), Fail> {
+        let (name, run, bad) = (
+            b"pipegraph".as_slice(),
+            b"run".as_slice(),
+            b"\xff".as_slice(),
+        );
+        assert!(rt; told(rt.alloc(), &[name, run, run]) == (Ok(2), None));
+        assert!(rt; told(rt.alloc(), &[name, bad, run]) == (Err(1), Some(1)));
+        assert!(rt; told(rt.alloc(), &[name, run, run, bad, bad]) == (Err(1), Some(3)));
+        // The program's own name.
+        assert!(rt; told(rt.alloc(), &[bad, run]) == (Err(1), None));
+        Ok(())
+    }
+}

@@ -1,34 +1,45 @@
-//! The files of the system. They tell nothing of what they hold; a call that fails raises its
+//! Files by name over a disk. They tell nothing of what they hold; a call that fails raises its
 //! count.
-ghost use Rattle.std.specs.Prelude.{◌≡◌, ℕ, ◌+◌, ◌≤◌, ◌<◌, ◌^◌, ◌++◌, [], take, length, IfOk};
+ghost use Rattle.std.specs.Prelude.{◌≡◌, ℕ, ◌+◌, ◌≤◌, ◌<◌, ◌^◌, ◌++◌, [], take, length, IfOk, IsSome};
 ghost use Rattle.std.specs.Io.KnownBytes.{Consumes, IsAtEnd};
-ghost use Rattle.pw_base.specs.Files.{IsWithin};
+ghost use Rattle.pw_base.specs.Files.{names_in, IsLoaded, IsWithin};
+ghost use Rattle.system_files.specs.Disks.{HasStored};
 ghost use Rattle.system_files.specs.KnownFiles.{ReadsFile, WritesWhole};
 
+use crate::disk::{Disk, SystemDisk};
 use pw_base::{FileFail, Files, Items, Loaded, Memory, Text};
 use std::alloc::Global;
 use std::fs::OpenFile;
 use std::io::{ErrorKind, Read, Write};
-use std::{fs, rt, str};
+use std::str;
 
 // How many bytes a read asks for at most.
 const CHUNK: usize = 65536;
 
-/// Real files, relative to the folder that the program runs in.
+/// Files over a disk.
 #[derive(Drop)]
-pub struct DiskFiles<'a, R> {
-    rt: &'a R,
+pub struct DiskFiles<D> {
+    disk: D,
     load_faults: u64,
     store_faults: u64,
 }
 
-impl<'a, R> DiskFiles<'a, R> {
-    /// No call has failed yet.
-    pub fn new(rt: &'a R) -> DiskFiles<'a, R>
+impl<'a, R> DiskFiles<SystemDisk<'a, R>> {
+    /// The files of the system. No call has failed yet.
+    pub fn new(rt: &'a R) -> DiskFiles<SystemDisk<'a, R>>
+        ensures { (result.load_faults ≡ 0) × (result.store_faults ≡ 0) }
+    {
+        DiskFiles::over(SystemDisk::new(rt))
+    }
+}
+
+impl<D> DiskFiles<D> {
+    /// The files of a disk. No call has failed yet.
+    pub fn over(disk: D) -> DiskFiles<D>
         ensures { (result.load_faults ≡ 0) × (result.store_faults ≡ 0) }
     {
         DiskFiles {
-            rt,
+            disk,
             load_faults: 0,
             store_faults: 0,
         }
@@ -134,18 +145,21 @@ fn read_file<F: Read + OpenFile>(
 }
 
 // Opens and reads the file of this name.
-fn load_file<R: rt::Files>(
-    rt: &R,
+fn load_file<D: Disk>(
+    disk: &mut D,
     alloc: Global,
     name: &[u8],
     limit: u64,
 ) -> Result<Loaded, FileFail>
-    ensures { IsWithin limit result }
+    ensures held { D.held disk.new ≡ D.held disk.old }
+    ensures told { IsSome (D.held disk.old)
+        → IsLoaded (names_in (D.held disk.old) name.now) limit result }
+    ensures within { IsWithin limit result }
 {
     let Ok(path) = str::from_utf8(name) else {
         return Err(FileFail::Failed);
     };
-    match fs::open(rt, path) {
+    match disk.open(path) {
         Ok(mut file) => read_file(alloc, &mut file, limit),
         Err(error) => {
             if error.kind() == ErrorKind::NotFound {
@@ -173,18 +187,26 @@ pub(crate) fn write_whole<W: Write>(to: &mut W, bytes: &[u8]) -> Result<(), File
 }
 
 // Makes the file of this name anew and writes it.
-fn store_file<R: rt::Files>(rt: &R, name: &[u8], bytes: &[u8]) -> Result<(), FileFail> {
+fn store_file<D: Disk>(disk: &mut D, name: &[u8], bytes: &[u8]) -> Result<(), FileFail>
+    ensures { HasStored name.now bytes.now (D.held disk.old) (D.held disk.new) result }
+{
     let Ok(path) = str::from_utf8(name) else {
         return Err(FileFail::Failed);
     };
-    match fs::create(rt, path) {
-        Ok(mut file) => write_whole(&mut file, bytes),
+    match disk.create(path) {
+        Ok(mut file) => {
+            let written = write_whole(&mut file, bytes);
+            disk.give_back(path, file);
+            written
+        }
         Err(_error) => Err(FileFail::Failed),
     }
 }
 
-impl<'a, R: rt::Files> Files for DiskFiles<'a, R> {
+impl<D: Disk> Files for DiskFiles<D> {
     ghost use Rattle.std.specs.Prelude.{None};
+    ghost use Rattle.pw_base.specs.Causes.{HasCause};
+    ghost use Rattle.pw_base.specs.Files.{IsStored};
 
     ghost held = { λ _. None };
 
@@ -192,8 +214,17 @@ impl<'a, R: rt::Files> Files for DiskFiles<'a, R> {
 
     ghost store_faults = { λ files. files.store_faults };
 
-    fn load(&mut self, alloc: Global, name: &Text, limit: u64) -> Result<Loaded, FileFail> {
-        match load_file(self.rt, alloc, name.as_slice(), limit) {
+    fn load(&mut self, alloc: Global, name: &Text, limit: u64) -> Result<Loaded, FileFail>
+        ensures within { IsWithin limit result }
+        ensures later { self.old.load_faults ≤ self.new.load_faults }
+        ensures cause { HasCause self.old.load_faults self.new.load_faults result }
+        ensures stores { self.new.store_faults ≡ self.old.store_faults }
+        // What the disk holds stays, and decides, where the disk tells it.
+        ensures disk { D.held self.new.disk ≡ D.held self.old.disk }
+        ensures told_disk { IsSome (D.held self.old.disk)
+            → IsLoaded (names_in (D.held self.old.disk) name.now) limit result }
+    {
+        match load_file(&mut self.disk, alloc, name.as_slice(), limit) {
             Err(FileFail::Failed) => {
                 self.load_faults = self.load_faults.saturating_add(1);
                 Err(FileFail::Failed)
@@ -202,8 +233,15 @@ impl<'a, R: rt::Files> Files for DiskFiles<'a, R> {
         }
     }
 
-    fn store(&mut self, _alloc: Global, name: &Text, bytes: &[u8]) -> Result<(), FileFail> {
-        match store_file(self.rt, name.as_slice(), bytes) {
+    fn store(&mut self, _alloc: Global, name: &Text, bytes: &[u8]) -> Result<(), FileFail>
+        ensures later { self.old.store_faults ≤ self.new.store_faults }
+        ensures cause { HasCause self.old.store_faults self.new.store_faults result }
+        ensures loads { self.new.load_faults ≡ self.old.load_faults }
+        // The disk holds the bytes; after a failure the first of them, or what it held.
+        ensures disk { HasStored name.now bytes.now (D.held self.old.disk) (D.held self.new.disk)
+            result }
+    {
+        match store_file(&mut self.disk, name.as_slice(), bytes) {
             Err(FileFail::Failed) => {
                 self.store_faults = self.store_faults.saturating_add(1);
                 Err(FileFail::Failed)
@@ -216,8 +254,9 @@ impl<'a, R: rt::Files> Files for DiskFiles<'a, R> {
 #[cfg(test)]
 mod tests {
     use super::*;
-    use std::env;
+    use crate::in_memory::{Manner, MemDisk, by};
     use std::test::Fail;
+    use std::{env, fs};
 
     // What a load says, in one letter.
     fn letter(loaded: Result<Loaded, FileFail>) -> char {
@@ -269,6 +308,91 @@ mod tests {
         );
         assert_eq!(rt; files.store_faults, 2);
         fs::remove_file(&rt, path.as_str())?;
+        Ok(())
+    }
+
+    // Files over a disk whose one file has these many bytes of 7.
+    fn files_with(
+        alloc: Global,
+        count: usize,
+        manner: Manner,
+    ) -> Result<DiskFiles<MemDisk>, Memory> {
+        Ok(DiskFiles::over(MemDisk {
+            alloc,
+            held: Items::filled(alloc, count, 7)?,
+            refuses: None,
+            manner,
+        }))
+    }
+
+    #[test]
+    fn short_calls_are_gone_on_with(rt: HostRuntime) -> Result<(), Fail> {
+        let alloc = rt.alloc();
+        let name = Items::from_slice(alloc, b"any".as_slice())?;
+        for most in [1000, 65_536, 70_001] {
+            let mut files = files_with(alloc, 70_001, by(most))?;
+            let Loaded::Whole(bytes) = files.load(alloc, &name, 70_001)? else {
+                panic!(rt; "not whole")
+            };
+            assert_eq!(rt; bytes.len(), 70_001);
+            assert_eq!(rt; letter(files.load(alloc, &name, 70_000)), 'l');
+            files.disk.held = Items::new(alloc);
+            files.store(alloc, &name, bytes.as_slice())?;
+            assert!(rt; files.disk.held.as_slice() == bytes.as_slice());
+            assert_eq!(rt; (files.load_faults, files.store_faults), (0, 0));
+        }
+        Ok(())
+    }
+
+    #[test]
+    fn a_call_that_fails_is_counted(rt: HostRuntime) -> Result<(), Fail> {
+        let alloc = rt.alloc();
+        let name = Items::from_slice(alloc, b"any".as_slice())?;
+        for kind in [
+            ErrorKind::Interrupted,
+            ErrorKind::StorageFull,
+            ErrorKind::NotFound,
+        ] {
+            let manner = Manner {
+                most: 4,
+                fails_at: 3,
+                kind,
+            };
+            let mut files = files_with(alloc, 20, manner)?;
+            assert_eq!(rt; letter(files.load(alloc, &name, 20)), 'f');
+            assert_eq!(rt; files.load_faults, 1);
+            let stored = files.store(alloc, &name, b"seven and eight".as_slice());
+            assert_eq!(rt; stored, Err(FileFail::Failed));
+            assert_eq!(rt; files.store_faults, 1);
+            assert!(rt; files.disk.held.as_slice() == b"seven an".as_slice());
+        }
+        Ok(())
+    }
+
+    #[test]
+    fn only_not_found_is_absent(rt: HostRuntime) -> Result<(), Fail> {
+        let alloc = rt.alloc();
+        let name = Items::from_slice(alloc, b"any".as_slice())?;
+        let no_text = Items::from_slice(alloc, b"\xff".as_slice())?;
+        let mut files = files_with(alloc, 4, by(4))?;
+        files.disk.refuses = Some(ErrorKind::NotFound);
+        assert_eq!(rt; letter(files.load(alloc, &name, 4)), 'a');
+        assert_eq!(rt; files.load_faults, 0);
+        for kind in [
+            ErrorKind::PermissionDenied,
+            ErrorKind::NotADirectory,
+            ErrorKind::Interrupted,
+        ] {
+            files.disk.refuses = Some(kind);
+            assert_eq!(rt; letter(files.load(alloc, &name, 4)), 'f');
+            let stored = files.store(alloc, &name, b"nine!".as_slice());
+            assert_eq!(rt; stored, Err(FileFail::Failed));
+        }
+        files.disk.refuses = None;
+        assert_eq!(rt; letter(files.load(alloc, &no_text, 4)), 'f');
+        assert_eq!(rt; files.load_faults, 4);
+        assert_eq!(rt; files.store_faults, 3);
+        assert_eq!(rt; files.disk.held.len(), 4);
         Ok(())
     }
 }

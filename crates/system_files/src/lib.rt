@@ -3,9 +3,13 @@
 #![tactic(auto)]
 
 mod command_line;
+mod disk;
 mod disk_files;
+#[cfg(test)]
+mod in_memory;
 mod std_sink;
 
 pub use command_line::{first_without_text, words_of};
+pub use disk::{Disk, SystemDisk};
 pub use disk_files::DiskFiles;
 pub use std_sink::StdSink;
