@@ -14,7 +14,7 @@ TOP = Path(__file__).resolve().parents[2]
 MAIN, PODS, PICTURES = "pipegraph", "pipegraph-pods", "pipegraph-pictures"
 CRATES = {MAIN: "pw_main", PODS: "pw_pods", PICTURES: "pw_pictures"}
 NOBODY = 65534
-SECONDS = 60  # after which a case is stopped: a difference
+SECONDS = 120  # after which a case is stopped: a difference
 HANGS = 3  # so many such cases end their group
 SHOWN = 300  # how much is shown of what differs
 
@@ -47,6 +47,16 @@ def shown(value):
     """A value of a difference, cut where it is long."""
     text = repr(value)
     return text if len(text) <= SHOWN else f"{text[:SHOWN]}.. ({len(text)} characters)"
+
+
+def lower(nobody, limits):
+    """Takes what this process may do from it."""
+    if nobody:
+        os.setgroups([])
+        os.setgid(NOBODY)
+        os.setuid(NOBODY)
+    for limit, value in limits:
+        resource.setrlimit(limit, (value, value))
 
 
 class Place:
@@ -87,7 +97,8 @@ class Place:
     def feed(self, name, content):
         """Makes a named pipe, and gives whoever opens it this content, beside what follows."""
         os.mkfifo(self.folder / name)
-        threading.Thread(target=(self.folder / name).write_bytes, args=[content], daemon=True).start()
+        give = (self.folder / name).write_bytes
+        threading.Thread(target=give, args=[content], daemon=True).start()
 
     def start(self, words, of, name, given, to, errors, prepare, environment):
         """The program of a name, started; what it says on standard error goes into a file."""
@@ -101,7 +112,7 @@ class Place:
                 env={**os.environ, **environment})
 
     def ask(self, *words, of=MAIN, name=None, given=b"", to=None, errors_to=None, limits=(),
-            nobody=False, ignored=(), closed=(), seconds=SECONDS, environment=()):
+            nobody=False, ignored=(), closed=(), environment=()):
         """The answer to these words.
 
         `name` is what the program is told to be called, `given` what it reads from standard input;
@@ -109,17 +120,12 @@ class Place:
         """
 
         def prepare():
-            signal.alarm(seconds)
+            signal.alarm(SECONDS)
             for number in ignored:
                 signal.signal(number, signal.SIG_IGN)
             for fd in closed:
                 os.close(fd)
-            if nobody:
-                os.setgroups([])
-                os.setgid(NOBODY)
-                os.setuid(NOBODY)
-            for limit, value in limits:  # last: the threads of root are not counted
-                resource.setrlimit(limit, (value, value))
+            lower(nobody, limits)
 
         start = time.monotonic()
         with tempfile.TemporaryFile() as said:

@@ -38,7 +38,8 @@ PODS_AT_FAULT = [
     ("Uneven", pod(13, struct.pack("<II", 4, 4) + bytes(6)), "0",
      "values that do not fill their body, at byte 0"),
     ("Deep", nested(17), "128", "a POD more than 16 deep, at byte 128"),
-    ("Large", struct.pack("<II", 1048577, 14), "1048577", "a POD of more than 1048576 bytes: 1048577"),
+    ("Large", struct.pack("<II", 1048577, 14), "1048577",
+     "a POD of more than 1048576 bytes: 1048577"),
     ("Large", wav([1, 2, 3]), "1179011410", "a POD of more than 1048576 bytes: 1179011410; "
      "it begins with RIFF, as a WAV file does"),
     ("Nul", pod(8, b"ab"), "0", "a string without a nul at its end, at byte 0")]
@@ -49,7 +50,8 @@ FORMATS = [
     ("NotObject", number(1), "", "the POD is no object"),
     ("KeyTwice", thing((RATE, number(1)), (RATE, number(1))), f"{RATE}",
      f"a property stands twice, under key {RATE} (rate)"),
-    ("FlagsChoice", thing((1, choice(4, 1, 2))), "1", "a choice of flags, under key 1 (media type)"),
+    ("FlagsChoice", thing((1, choice(4, 1, 2))), "1",
+     "a choice of flags, under key 1 (media type)"),
     ("BadRange", thing((RATE, choice(1, 5, 9, 1))), f"{RATE}",
      f"a range that is none, under key {RATE} (rate)"),
     ("BadStep", thing((65540, choice(2, 1, 1, 8, 0))), "65540",
@@ -65,7 +67,8 @@ SEQUENCES = [
     ("NotSequence", number(1), "", "the POD is no control sequence"),
     ("OffsetFalls", sequence((4, props(number(1))), (3, props(number(1)))), "1",
      "an offset below the one before, in control 1"),
-    ("NotProps", sequence((0, number(1))), "0", "a value that is no properties object, in control 0"),
+    ("NotProps", sequence((0, number(1))), "0",
+     "a value that is no properties object, in control 0"),
     ("GainForm", sequence((0, props(number(32768)))), "0",
      "a gain that is no Int from -32767 to 32767, in control 0")]
 
@@ -79,9 +82,11 @@ SCRIPTS = [
     ("NameTaken", "gain a 1\n\ngain a 1", 3, ""), ("NameUnknown", "on a", 1, ""),
     ("PortUnknown", "gain a 1\nlink a.in a.in", 2, ""),
     ("QuantumLate", "gain a 1\nquantum 4", 2, ""),
-    ("NotDriverKind", "gain a 1\ndriver a 1", 2, ""), ("OfferLate", LINKED + "offer b in f.pod", 4, ""),
+    ("NotDriverKind", "gain a 1\ndriver a 1", 2, ""),
+    ("OfferLate", LINKED + "offer b in f.pod", 4, ""),
     ("TooMany", "".join(f"split x{i}\n" for i in range(64)), 64, " 5"),
-    ("TooMany", "meter m\n" + "drain\n" * 1025, 1026, " 6"), ("AsyncLate", LINKED + "async a", 4, "")]
+    ("TooMany", "meter m\n" + "drain\n" * 1025, 1026, " 6"),
+    ("AsyncLate", LINKED + "async a", 4, "")]
 
 # A list of gains, its fault, the line at fault and what is said of it.
 LISTS = [
@@ -108,7 +113,8 @@ def named(place):
             ("WAV files", WAVES, documented.waves()), ("PODs", PODS_AT_FAULT, documented.pods()),
             ("formats", FORMATS, documented.formats()),
             ("control sequences", SEQUENCES, documented.sequences()),
-            ("scripts", SCRIPTS, documented.scripts()), ("lists of gains", LISTS, documented.lists()),
+            ("scripts", SCRIPTS, documented.scripts()),
+            ("lists of gains", LISTS, documented.lists()),
             ("dumps read back", TEXTS, documented.texts()),
             ("limits", limits_of_files() + limits_of_scripts(), documented.limits())]:
         place.same(title, sorted(page), sorted({row[0] for row in rows}))
@@ -179,7 +185,8 @@ def pods(place):
             (bad + controls, ["automate", "good.wav"], ["o"], 2)]:
         for content, line, sentence in rows:
             place.file("bad.pod", content)
-            refused(place, [*before, "bad.pod", *behind], 4, f"pod {at} {line}", f"bad.pod: {sentence}")
+            refused(place, [*before, "bad.pod", *behind], 4, f"pod {at} {line}",
+                    f"bad.pod: {sentence}")
     for content, line, sentence in bad + objects + offers:
         place.file("bad.pod", content)
         of_scripts(place, "offer.graph", 4, f"pod 2 {line}", f"2: bad.pod: {sentence}")
@@ -253,8 +260,8 @@ def limits_of_scripts():
         ("Events", "meter m\ncycles 1000000\n", 2, "more than 4194304 events"),
         ("SinkSamples", "quantum 8192\nsquare q 48000 8 2 5\nsink o o.wav\nlink q.out o.in\n"
          "cycles 3000\n", 5, "the sinks would keep more than 134217728 samples"),
-        ("BlockBytes", "quantum 8192\n" + names + "".join(pairs[:255]) + "cycles 1\noff q0\ncycles 1\n",
-         309, "the buffers would have more than 268435456 bytes")]
+        ("BlockBytes", "quantum 8192\n" + names + "".join(pairs[:255])
+         + "cycles 1\noff q0\ncycles 1\n", 309, "the buffers would have more than 268435456 bytes")]
 
 
 def sums_of_parts():
@@ -300,15 +307,16 @@ def limits(place):
     halves = [thing((key, pod(9, bytes(600000)))) for key in (1, 2)]
     place.file("one.pod", halves[0])
     place.file("two.pod", halves[1])
-    place.expect("what two objects have in common is too long", ["filter", "one.pod", "two.pod", "o"],
-                 8, f"limit 3 {numbers.get('PodBytes')}\n")
+    place.expect("what two objects have in common is too long",
+                 ["filter", "one.pod", "two.pod", "o"], 8, f"limit 3 {numbers.get('PodBytes')}\n")
     place.forget("wide.wav", "half.wav", "long.txt")
 
 
 def of_pictures(place, numbers):
     """The limits of files that are drawn."""
     for words, at, name, said in [
-            (["graph", "long.graph"], 0, "ScriptBytes", "long.graph: it has more than 1048576 bytes"),
+            (["graph", "long.graph"], 0, "ScriptBytes",
+             "long.graph: it has more than 1048576 bytes"),
             (["timeline", "long.graph", "no.trace"], 0, "ScriptBytes",
              "long.graph: it has more than 1048576 bytes"),
             (["graph", "fine.graph", "long.txt"], TRACE, "TraceBytes",

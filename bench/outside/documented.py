@@ -72,8 +72,8 @@ def commands():
 
 def statuses():
     """The word of the line of each number that `pipegraph` ends with; 0 has none."""
-    found = re.findall(r"^- (\d): (?:`(\w+)|the text)", section("Status lines").split("1: `ScriptBytes`")[0],
-                       re.M)
+    lines = section("Status lines").split("1: `ScriptBytes`")[0]
+    found = re.findall(r"^- (\d): (?:`(\w+)|the text)", lines, re.M)
     return {int(number): word for number, word in found}
 
 

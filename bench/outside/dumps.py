@@ -1,4 +1,4 @@
-"""Texts of PODs: from a file to its dump and back to the value's one spelling, by the built programs."""
+"""Texts of PODs: from a file to its dump, and back to the value's one spelling."""
 import random
 import struct
 

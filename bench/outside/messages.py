@@ -48,7 +48,8 @@ def sentences(place):
         place.same(" ".join(words), wanted, told(place, words))
         for how in ["/dev/full", os.devnull]:
             with open(how, "wb") as errors:
-                place.same(f"{words} to {how}", wanted[:2], told(place, words, errors_to=errors)[:2])
+                place.same(f"{words} to {how}", wanted[:2],
+                           told(place, words, errors_to=errors)[:2])
         place.same(f"{words} without one", wanted[:2],
                    told(place, words, closed=[2])[:2])
     for words, sentence in [

@@ -73,8 +73,9 @@ def others(place):
             (events[:1] * 2, "illegal 2\n", f"t.txt:2: {cannot}"),
             (events[:1] + ["start"], "line 2\n", "t.txt:2: this is no event line")]:
         place.file("t.txt", "".join(line + "\n" for line in lines))
-        place.same(f"check {lines}", (0, answer.encode(), f"pipegraph: {said}\n" if said else ""),
-                   (lambda a: (a[0], a[1], a[2].decode()))(told(place, ["check", "fine.graph", "t.txt"])))
+        said = f"pipegraph: {said}\n" if said else ""
+        place.same(f"check {lines}", (0, answer.encode(), said.encode()),
+                   told(place, ["check", "fine.graph", "t.txt"]))
     a = thing((65539, number(48000)), (7, choice(3, 1, 1)))
     for b, answer, said in [
             (a, "common\n", ""),
@@ -87,7 +88,7 @@ def others(place):
         place.same(f"filter {answer}", (0, answer.encode(), said.encode()),
                    told(place, ["filter", "a.pod", "b.pod", "o.pod"]))
     place.file("long.graph", START + "link a.out o.in\nlink a.out o.in\ncycles 60000\n")
-    status, out, errors = told(place, ["run", "long.graph", "--trace"])
+    status, out, errors = told(place, ["run", "long.graph", "--trace", "--loops", "0"])
     place.same("a trace of more than 4 MiB", (0, True, b""), (status, len(out) > 4 << 20, errors))
 
 

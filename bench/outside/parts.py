@@ -90,12 +90,13 @@ def six(place):
     for i in range(SINKS):
         rate, channels = 8000 * (i + 1), i % 3 + 1
         lines += [f"source s{i} {['mono', 'stereo', 'slow'][i % 3]}.wav",
-                  f"square q{i} {rate} {channels} {i + 2} {1000 * i + 7}", f"gain g{i} {100 * i - 250}",
-                  f"delay d{i} {i}", f"sink o{i} o{i}.out", f"sink p{i} p{i}.out", f"meter m{i}"]
+                  f"square q{i} {rate} {channels} {i + 2} {1000 * i + 7}",
+                  f"gain g{i} {100 * i - 250}", f"delay d{i} {i}",
+                  f"sink o{i} o{i}.out", f"sink p{i} p{i}.out", f"meter m{i}"]
         lines += [f"driver o{i} {i}", f"link s{i}.out g{i}.in", f"link g{i}.out d{i}.in",
                   f"link d{i}.out o{i}.in", f"link g{i}.out m{i}.in", f"link q{i}.out p{i}.in"]
-    lines += ["cycles 2", "off s3", "unlink s0.out g0.in", "unlink s1.out g2.in", "cycles 4", "on s3",
-              "drain"]
+    lines += ["cycles 2", "off s3", "unlink s0.out g0.in", "unlink s1.out g2.in", "cycles 4",
+              "on s3", "drain"]
     compare(place, "\n".join(lines), waves, {})
 
 

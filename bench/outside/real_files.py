@@ -10,7 +10,7 @@ from worked import FORMAT, GAINS, ONE, ONE_TEXT, SQUARE, wav
 
 TRACE = 4294967295
 
-# The words of each load, with FILE for the file, what the file should be, its place, and the program.
+# The words of each load, with FILE for the file; what the file should be; its place; the program.
 LOADS = [
     (["run", "FILE"], "script", 0, MAIN), (["run", "source.graph"], "wav", 2, MAIN),
     (["run", "offer.graph"], "pod", 3, MAIN), (["groups", "FILE"], "script", 0, MAIN),
@@ -23,10 +23,12 @@ LOADS = [
     (["filter", "good.pod", "FILE", "never"], "pod", 2, MAIN),
     (["automate", "FILE", "gains.pod", "never"], "wav", 1, MAIN),
     (["automate", "good.wav", "FILE", "never"], "pod", 2, MAIN),
-    (["graph", "FILE"], "script", 0, PICTURES), (["graph", "empty.graph", "FILE"], "trace", TRACE, PICTURES),
+    (["graph", "FILE"], "script", 0, PICTURES),
+    (["graph", "empty.graph", "FILE"], "trace", TRACE, PICTURES),
     (["timeline", "FILE", "empty.graph"], "script", 0, PICTURES),
-    (["timeline", "empty.graph", "FILE"], "trace", TRACE, PICTURES), (["wave", "FILE"], "wav", 1, PICTURES),
-    (["gains", "FILE", "never"], "list", None, PODS), (["pod", "FILE", "never"], "list", None, PODS)]
+    (["timeline", "empty.graph", "FILE"], "trace", TRACE, PICTURES),
+    (["wave", "FILE"], "wav", 1, PICTURES), (["gains", "FILE", "never"], "list", None, PODS),
+    (["pod", "FILE", "never"], "list", None, PODS)]
 
 # The words of each store, with FILE for the file, the place that is told, and the program.
 STORES = [
@@ -125,16 +127,19 @@ def devices(place):
 
 # Words that put something, the program, and the file that is stored before, with its content.
 PUTS = [
-    (["run", "whole.graph"], MAIN, "whole.wav", SQUARE), (["groups", "whole.graph"], MAIN, "whole.wav", SQUARE),
+    (["run", "whole.graph"], MAIN, "whole.wav", SQUARE),
+    (["groups", "whole.graph"], MAIN, "whole.wav", SQUARE),
     (["run", "whole.graph", "--trace"], MAIN, "whole.wav", SQUARE),
-    (["check", "empty.graph", "empty.graph"], MAIN, None, None), (["dump", "good.pod"], MAIN, None, None),
+    (["check", "empty.graph", "empty.graph"], MAIN, None, None),
+    (["dump", "good.pod"], MAIN, None, None),
     (["filter", "good.pod", "good.pod", "o.pod"], MAIN, "o.pod", FORMAT),
     (["automate", "good.wav", "gains.pod", "o.wav"], MAIN, "o.wav", wav([1, 2, 1])),
-    (["soak", "7"], MAIN, None, None), (["--help"], PODS, None, None),
+    (["--help"], PODS, None, None),
     (["gains", "good.gains", "-"], PODS, None, None), (["pod", "good.text", "-"], PODS, None, None),
     (["format", "-", "rate", "1", "channels", "1"], PODS, None, None),
     (["graph", "whole.graph"], PICTURES, None, None),
-    (["timeline", "empty.graph", "empty.graph"], PICTURES, None, None), (["wave", "good.wav"], PICTURES, None, None)]
+    (["timeline", "empty.graph", "empty.graph"], PICTURES, None, None),
+    (["wave", "good.wav"], PICTURES, None, None)]
 
 
 def each_put(place, what, **how):
@@ -228,7 +233,8 @@ def fifos(place):
     place.same("what a FIFO was given", [SQUARE], taken)
     reader = beside(take_some, fifo)
     place.file("out.graph", ONE.format("out.fifo").replace("cycles 1", "cycles 1000"))
-    place.expect("a sink into a FIFO that breaks", ["run", "out.graph"], 7, "write 2\n")
+    place.expect("a sink into a FIFO that breaks", ["run", "out.graph", "--loops", "0"], 7,
+                 "write 2\n")
     reader.join(5)
 
 

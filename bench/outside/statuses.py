@@ -68,7 +68,8 @@ OF_PODS = [
 # The words, what they end with, and their line where there is no picture.
 OF_PICTURES = [
     (["graph", "one.graph"], 0, None), (["graph"], 1, "usage 1\n"),
-    (["graph", "bad.graph"], 2, "script 2 2\n"), (["graph", "one.graph", "bad.trace"], 2, "line 1\n"),
+    (["graph", "bad.graph"], 2, "script 2 2\n"),
+    (["graph", "one.graph", "bad.trace"], 2, "line 1\n"),
     (["graph", "no"], 5, "absent 0\n"), (["graph", "."], 6, "read 0\n"),
     (["graph", "long.graph"], 8, "limit 0 1\n"),
     (["timeline", "one.graph", "a.trace"], 0, None), (["timeline", "a"], 1, "usage 2\n"),
@@ -92,7 +93,8 @@ def each(place):
         place.expect(" ".join(words), words, status, line)
     for words, status in OF_PODS:
         place.expect(" ".join(words), words, status, of=PODS)
-    place.same("the POD that was stored last", number(7), stored_of(place, ["pod", "a.text", "o.pod"]))
+    place.ask("pod", "a.text", "o.pod", of=PODS)
+    place.same("the POD that was stored last", number(7), place.read("o.pod"))
     for words, status, line in OF_PICTURES:
         if line is None:
             drawn = place.ask(*words, of=PICTURES)
@@ -105,12 +107,6 @@ def each(place):
             for words in rows:
                 place.expect(f"{' '.join(words)} to a full output", words, 7, of=of, to=full)
     documented_numbers(place)
-
-
-def stored_of(place, words):
-    place.forget(words[-1])
-    place.ask(*words, of=PODS)
-    return place.read(words[-1])
 
 
 def documented_numbers(place):
@@ -131,7 +127,7 @@ HUNGRY = [(["run", "one.graph"], MAIN), (["groups", "one.graph"], MAIN),
           (["gains", "a.gains", "o.pod"], PODS), (["pod", "a.text", "o.pod"], PODS),
           (["format", "o.pod", "rate", "1", "channels", "2"], PODS),
           *((words, PICTURES) for words in DRAWN)]
-TRIED = 12  # of the calls for memory of each command
+TRIED = 6  # of the calls for memory of each command
 
 
 def memory(place):

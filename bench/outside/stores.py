@@ -26,11 +26,11 @@ def tiled(samples, size):
 
 def form_of(content):
     """Channels, rate and samples of a stored file, each field of its header looked at."""
-    riff_, size, wave, fmt, width, tag, channels, rate, second, frame, bits, data, count = \
+    name, size, wave, fmt, width, tag, channels, rate, second, frame, bits, data, count = \
         struct.unpack("<4sI4s4sIHHIIHH4sI", content[:HEADER])
-    good = (riff_, wave, fmt, width, tag, bits, data) == (b"RIFF", b"WAVE", b"fmt ", 16, 1, 16, b"data")
-    good &= (size, second, frame) == (36 + count, 2 * channels * rate, 2 * channels)
-    good &= len(content) == HEADER + count
+    good = (name, wave, fmt, data) == (b"RIFF", b"WAVE", b"fmt ", b"data")
+    good &= (width, tag, bits, size) == (16, 1, 16, 36 + count)
+    good &= (second, frame, len(content)) == (2 * channels * rate, 2 * channels, HEADER + count)
     return channels, rate, content[HEADER:] if good else None
 
 
@@ -44,7 +44,8 @@ def stored(place, what, name, channels, body):
     if got == (channels, 48000, body):
         return place.same(what, True, True)
     samples = got[2] if got[2] is not None else content[HEADER:]
-    at = next((i for i, (x, y) in enumerate(zip(body, samples)) if x != y), min(len(body), len(samples)))
+    shorter = min(len(body), len(samples))
+    at = next((i for i in range(shorter) if body[i] != samples[i]), shorter)
     return place.same(f"{what}: differs at sample byte {at}", (channels, 48000, len(body)),
                       (*got[:2], len(samples)))
 
@@ -58,7 +59,7 @@ def sizes(place):
         place.file("in.wav", wav(samples))
         body = struct.pack(f"<{count}h", *samples)
         place.file("drain.graph", DRAIN.format("in.wav"))
-        for words in [["run", "drain.graph"], ["groups", "drain.graph"]]:
+        for words in [["run", "drain.graph", "--loops", "0"], ["groups", "drain.graph"]]:
             place.expect(f"{words[0]}: {count} samples", words, 0, DRAINED.format(count))
             stored(place, f"{words[0]}: a sink of {2 * count} bytes", "o.wav", 1, body)
         place.expect(f"automate: {count} samples", ["automate", "in.wav", "one.pod", "o.wav"], 0,
@@ -94,7 +95,8 @@ def loads(place):
         place.file("in.wav", wav([1, -2, 3]))
         place.file("long.graph", b"#" * (edge - len(script) - 1) + b"\n" + script)
         place.expect(f"a script of {edge} bytes", ["run", "long.graph"], 0, DRAINED.format(3))
-        stored(place, f"the sink of a script of {edge} bytes", "o.wav", 1, struct.pack("<3h", 1, -2, 3))
+        three = struct.pack("<3h", 1, -2, 3)
+        stored(place, f"the sink of a script of {edge} bytes", "o.wav", 1, three)
         place.file("drain.graph", script)
         count = (edge - HEADER) // 2
         body = struct.pack(f"<{count}h", *noise(count))
@@ -104,7 +106,8 @@ def loads(place):
         for what, content, wanted in [("bytes in all", whole, body),
                                       ("bytes of samples", rest, rest[HEADER:][:edge // 2 * 2])]:
             place.file("in.wav", content)
-            place.expect(f"{edge} {what}", ["run", "drain.graph"], 0, DRAINED.format(len(wanted) // 2))
+            place.expect(f"{edge} {what}", ["run", "drain.graph", "--loops", "0"], 0,
+                         DRAINED.format(len(wanted) // 2))
             stored(place, f"the sink of {edge} {what}", "o.wav", 1, wanted)
         line = b"12000 128\n"
         place.file("list", b"#" * (edge - len(line) - 1) + b"\n" + line)
@@ -122,7 +125,8 @@ def traces(place):
     place.file("long.trace", "".join(lines))
     place.expect("a long trace", ["check", "cycles.graph", "long.trace"], 0, "legal\n")
     place.file("long.trace", "".join(lines[:-1]))
-    place.expect("a long trace without its end", ["check", "cycles.graph", "long.trace"], 0, "illegal 8000\n")
+    place.expect("a long trace without its end", ["check", "cycles.graph", "long.trace"], 0,
+                 "illegal 8000\n")
 
 
 def great(place):
@@ -134,7 +138,8 @@ def great(place):
     place.file("great.graph", "source s great.wav\ngain g 200\nsink o o.wav\ndriver o 1\n"
                "link s.out g.in\nlink g.out o.in\ndrain\n")
     text = f"link s.out g.in 48000 2 2\nlink g.out o.in 48000 2 2\nwrote o {FRAMES}\n"
-    place.expect("a run of four minutes", ["run", "great.graph"], 0, text)
+    place.expect("a run of four minutes", ["run", "great.graph", "--loops", "0"], 0,
+                 text)
     stored(place, "a sink of 46 MB", "o.wav", 2, tiled([s * 200 >> 8 for s in samples], size))
     place.file("gains.pod", sequence((5, props(number(-128))), (6000001, props(number(256)))))
     place.expect("automate of four minutes", ["automate", "great.wav", "gains.pod", "o.wav"], 0,

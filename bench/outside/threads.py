@@ -9,20 +9,20 @@ import os
 import resource
 import signal
 import subprocess
+import threading
 import time
 
 import model
 import parts
-from asking import MAIN
+from asking import MAIN, SECONDS, lower
 from preload import NO_COMPILER, Preload, compiler
 from worked import wav
-
-SECONDS = 20  # after which a run hangs: a difference
 
 # A run whose nodes name four loops, and one of five parts.
 FOUR = ("quantum 4\nsource s in.wav\ngain a 300\ndelay b 5\ngain c -200\nsink o o.wav\nmeter m\n"
         "driver o 1\nloop s 0\nloop a 1\nloop b 2\nloop c 3\nlink s.out a.in\nlink a.out b.in\n"
-        "link b.out c.in\nlink c.out o.in\nlink a.out m.in\ncycles 60\noff a\ncycles 3\non a\ndrain\n")
+        "link b.out c.in\nlink c.out o.in\nlink a.out m.in\ncycles 60\noff a\ncycles 3\non a\n"
+        "drain\n")
 FIVE = "quantum 4\n" + "".join(
     f"source s{i} in.wav\ngain a{i} {100 * i - 150}\nsink o{i} o{i}.wav\ndriver o{i} 1\n"
     f"link s{i}.out a{i}.in\nlink a{i}.out o{i}.in\n" for i in range(5)) + "cycles 80\ndrain\n"
@@ -58,28 +58,46 @@ def whole(place, what, answer, wanted, names):
     place.forget(*names)
 
 
+# The user of a run has this process as its only one; to root the system refuses none.
+NO_THREADS = {"nobody": not os.getuid(), "limits": [(resource.RLIMIT_NPROC, 1)]}
+
+
+def is_refused():
+    """Whether the system refuses a thread to a process with these limits."""
+    child = os.fork()
+    if child == 0:
+        lower(**NO_THREADS)
+        try:
+            threading.Thread(target=int).start()
+        except RuntimeError:
+            os._exit(1)
+        os._exit(0)
+    return os.waitpid(child, 0)[1] != 0
+
+
 def refused_by_the_system(place):
     """No thread is granted by the system: the same files and text, and no hang."""
-    limits = [(resource.RLIMIT_NPROC, 1)]
+    if not is_refused():
+        return place.pass_over("the system refuses no thread here")
     for (words, _, names), wanted in zip(RUNS, prepared(place)):
-        place.forget(*names)
-        answer = place.ask(*words, nobody=not os.getuid(), limits=limits, seconds=SECONDS)
+        answer = place.ask(*words, **NO_THREADS)
         whole(place, " ".join(words), answer, wanted, names)
 
 
 def refused_in_turn(place):
-    """Each thread refused in its turn, and all from each on: the same files and text, and no hang."""
+    """Each thread refused in its turn, and all from each on: the same files and text, no hang."""
     if not compiler():
         return place.pass_over(NO_COMPILER)
-    preload, wanted = Preload(place), prepared(place)
-    for (words, threads, names), answer_wanted in zip(RUNS, wanted):
+    preload = Preload(place)
+    for (words, threads, names), wanted in zip(RUNS, prepared(place)):
         for number in range(1, threads + 1):
             for how in ["fail", "on"]:
-                answer = preload.refuse("thread", number, how, *words, seconds=SECONDS)
-                whole(place, f"{' '.join(words)}: thread {number} {how}", answer, answer_wanted, names)
+                answer = preload.refuse("thread", number, how, *words)
+                what = f"{' '.join(words)}: thread {number} {how}"
+                whole(place, what, answer, wanted, names)
 
 
-# The words of a run, and how many threads it starts beside the driver's, or beside the first part's.
+# The words of a run, and how many threads it starts beside that of the driver or the first part.
 STARTED = [(["run", "four.graph"], 1), (["run", "four.graph", "--loops", "0"], 0),
            (["run", "four.graph", "--loops", "1"], 1), (["run", "four.graph", "--loops", "2"], 2),
            (["run", "four.graph", "--loops", "16"], 16), (["run", "four.graph", "--steal"], 1),
@@ -165,4 +183,5 @@ def running(place):
                               stderr=subprocess.DEVNULL) as child:
             seen = watch(child, threads)
             child.send_signal(signal.SIGKILL)
-        place.same(f"{' '.join(words)}: threads there, and threads at work", (threads, threads), seen)
+        place.same(f"{' '.join(words)}: threads there, and threads at work",
+                   (threads, threads), seen)

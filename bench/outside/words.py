@@ -42,7 +42,8 @@ def odd_words(place):
             (["run", "a"] + ["--trace"] * 100000, 1, "usage 3\n"),
             ([""] * 100000, 1, "usage 0\n"), (["dump", "a"] + ["b" * 10] * 100000, 1, "usage 2\n"),
             (["run", "a", "--steal", "--steal"], 1, "usage 3\n"),
-            (["run", "a", "--steal", "--loops", "16", "--trace", "--ticks", "9", "b"], 1, "usage 8\n"),
+            (["run", "a", "--steal", "--loops", "16", "--trace", "--ticks", "9", "b"], 1,
+             "usage 8\n"),
             (["run", "a", "--steal", "--loops", "16"], 5, "absent 0\n"),
             (["groups"], 1, "usage 1\n"), (["groups", "-a"], 1, "usage 1\n"),
             (["groups", "a", "--steal"], 1, "usage 2\n"), (["groups", "a"], 5, "absent 0\n"),
@@ -68,10 +69,12 @@ def helps(place):
                    (answer.status, answer.out.startswith(b"usage: pipegraph-pods gains LIST OUT\n"),
                     answer.errors))
     for words in [[], ["--version"], ["play"], ["gains", "a"], ["pod", "a", "b", "c"],
-                  ["gains", "", "b"], ["pod", "-a", "b"], ["format", "o", "rate", "2..1", "channels", "1"],
+                  ["gains", "", "b"], ["pod", "-a", "b"],
+                  ["format", "o", "rate", "2..1", "channels", "1"],
                   ["format", "o", "rate", "1", "channels", "1", "mandatory", "size"]]:
         place.expect(f"pipegraph-pods {words}", words, 1, of=PODS)
-    for words, line in [(["play"], "usage 0\n"), (["graph"], "usage 1\n"), (["graph", "-a"], "usage 1\n"),
+    for words, line in [(["play"], "usage 0\n"), (["graph"], "usage 1\n"),
+                        (["graph", "-a"], "usage 1\n"),
                         (["graph", "a", "b", "c"], "usage 3\n"), (["timeline", "a"], "usage 2\n"),
                         (["wave"], "usage 1\n"), (["wave", "a", "b"], "usage 2\n"),
                         (["wave", "a" * 256], "usage 1\n")]:
@@ -85,8 +88,8 @@ def no_text(place):
             ([b"run", b"a", b"--loops", b"1", b"\xed\xa0\x80"], 5), ([b"play", b"\x80"], 2),
             ([b"dump", b"a", b"b", b"\xc0\xaf"], 4), ([b"soak", b"\xf8\x88\x80\x80\x80"], 2)]:
         answer = place.expect(f"no text {words}", words, 1)
-        place.same(f"what is said of {words}", f"pipegraph: word {at} is not text in UTF-8\n".encode(),
-                   answer.errors)
+        said = f"pipegraph: word {at} is not text in UTF-8\n"
+        place.same(f"what is said of {words}", said.encode(), answer.errors)
     for of, words in [(MAIN, ["run", "/dev/null"]), (MAIN, ["soak", "7"]), (PODS, ["--help"]),
                       (PICTURES, ["graph", "/dev/null"])]:
         answer = place.ask(*words, of=of, name=b"\xff\xfe")
