@@ -14,7 +14,7 @@ TOP = Path(__file__).resolve().parents[2]
 MAIN, PODS, PICTURES = "pipegraph", "pipegraph-pods", "pipegraph-pictures"
 CRATES = {MAIN: "pw_main", PODS: "pw_pods", PICTURES: "pw_pictures"}
 NOBODY = 65534
-SECONDS = 120  # after which a case is stopped: a difference
+SECONDS = 180  # after which a case is stopped: a difference
 HANGS = 3  # so many such cases end their group
 SHOWN = 300  # how much is shown of what differs
 
