@@ -14,7 +14,7 @@ import time
 
 import model
 import parts
-from asking import MAIN, SECONDS, lower
+from asking import MAIN, lower
 from preload import NO_COMPILER, Preload, compiler
 from worked import wav
 
@@ -135,7 +135,8 @@ def long_parts(count, cycles):
 
 
 CYCLES = 100000  # some seconds or minutes: each of these runs is ended once it was seen
-SEEN = 0.3  # seconds for which the threads are looked at after all of them are there
+WAIT = 30  # seconds for all threads to be there and at work
+SEEN = 0.3  # seconds for which they are looked at from then on
 
 # The words of a run, and the threads of its process.
 RUNNING = [(["run", "long.graph"], 2), (["run", "long.graph", "--loops", "0"], 1),
@@ -156,7 +157,7 @@ def used(process):
 def watch(child, threads):
     """The most threads that a process had at once, and how many of them had worked in the end."""
     most, worked, until = 0, 0, None
-    give_up = time.monotonic() + SECONDS
+    give_up = time.monotonic() + WAIT
     while child.poll() is None and time.monotonic() < (until or give_up):
         try:
             times = used(child.pid)
