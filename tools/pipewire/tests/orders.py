@@ -77,6 +77,20 @@ def unfinished_cycles_are_left_out(asking):
                                                    "awake"] + again, errors)
 
 
+def work_of_a_cycle_before_is_told(asking):
+    """A wake of 0 was before the driver's signal: the finish is of a cycle before."""
+    rows = [[(PERIOD, 60, 0, PERIOD), ("first", 10, 20, 3), ("last", 30, 40, 3)],
+            [(PERIOD, 28, 0, PERIOD), ("first", 4, 8, 3), ("last", 0, 9, 3)]]
+    events, verdict, errors = chain(asking, rows)
+    why = "last was at work since before the cycle"
+    asking.same("before", (LEGAL, "legal\n", [f"trace: chain.log:2: left out: {why}"]),
+                (events, verdict, errors))
+    events, verdict, errors = chain(asking, rows, "--late")
+    asking.same("before --late", (["begin", "start last", "start first", "finish first"],
+                                  "illegal 10\n", [f"trace: chain.log:2: cycle 1: {why}"]),
+                (events[8:12], verdict, errors))
+
+
 def cut_times_put_the_driver_last(asking):
     """pw-profiler cuts the driver's times to 1.4 periods where they are long."""
     cut = int(PERIOD * 1.4)
@@ -88,4 +102,5 @@ def cut_times_put_the_driver_last(asking):
 
 
 TESTS = [equal_times_follow_the_links, times_decide_against_the_links, late_followers_are_ticked,
-         unfinished_cycles_are_left_out, cut_times_put_the_driver_last]
+         unfinished_cycles_are_left_out, work_of_a_cycle_before_is_told,
+         cut_times_put_the_driver_last]

@@ -5,11 +5,13 @@ Each expected line was worked out by hand from the columns of a log or from `pw-
 from tests.asking import commands, recording
 
 SCENES = ["players", "loopbacks", "filter", "drivers", "async", "monitor", "dummy", "late",
-          "tap", "busy"]
+          "tap", "leftover", "busy"]
 
-# Cycles: the lines of the log without those in which a status of a follower is not 3.
+# Cycles: the lines of the log without those in which a status of a follower is not 3, and without
+# line 17 of leftover.log, in which the recorder's wake is 0.
 CYCLES = {"players": 100, "loopbacks": 100, "filter": 100, "drivers": 100, "async": 100,
-          "monitor": 100, "dummy": 100, "late": 84, "tap": 86, "busy": 82}
+          "monitor": 100, "dummy": 100, "late": 84, "tap": 86, "leftover": 37,
+          "busy": 82}
 
 # players.json: pw-link -l shows each player's two ports on sinkA's two.
 PLAYERS = """quantum 1024
@@ -76,6 +78,11 @@ FIRST_ILLEGAL = 197
 # tap.log: lines 1 to 20 are whole, with eight events each: 160. In line 22 `recorder` is not awake:
 # begin, player 20 38 make 163, the tick is 164, and the driver's start cannot stand: 165.
 FIRST_ILLEGAL_OF_TAP = 165
+
+# leftover.log: lines 1 to 14 are whole, with eight events each: 112. In line 16 the recorder is
+# awake at 92 and does not finish: begin, player 22 48 and that start make 116, the tick is 117, the
+# driver's start 118.
+FIRST_ILLEGAL_OF_LEFTOVER = 118
 
 # busy.log: lines 1 to 8 are whole, with ten events each: 80. In line 10 pw_cat_32 is not awake:
 # begin, the loopback 47 87 and pw_cat_41 504 539 make 85, the tick is 86, the driver's start 87.
@@ -146,6 +153,7 @@ def events_say(asking):
 def late_cycles_are_illegal(asking):
     """With those cycles the driver's start is illegal: it waits for who was late."""
     for scene, first in [("late", FIRST_ILLEGAL), ("tap", FIRST_ILLEGAL_OF_TAP),
+                         ("leftover", FIRST_ILLEGAL_OF_LEFTOVER),
                          ("busy", FIRST_ILLEGAL_OF_BUSY)]:
         script, trace = written(asking, scene, "--late")
         asking.same(f"{scene} --late: verdict", f"illegal {first}\n",
@@ -171,6 +179,13 @@ def left_out_by_name(asking):
         f"trace: {log}:20: left out: written when the next cycle began; the next line is of the "
         "same cycle",
         f"trace: {log}:21: left out: stopped was not awake"], told[:2])
+    dump, log = recording("leftover")
+    told = asking.tool("trace", dump, log).errors.splitlines()
+    asking.same("leftover: trace tells", [
+        f"trace: {log}:15: left out: written when the next cycle began; the next line is of the "
+        "same cycle",
+        f"trace: {log}:16: left out: recorder had not finished",
+        f"trace: {log}:17: left out: recorder was at work since before the cycle"], told)
 
 
 TESTS = [scripts_run, scripts_say, plain_cycles_are_legal, events_say, late_cycles_are_illegal,
