@@ -40,9 +40,9 @@ SINK = """    { factory = adapter args = { factory.name = support.null-audio-sin
 """
 
 
-def missing():
-    """The programs that are needed and are not there."""
-    return [name for name in PROGRAMS if not shutil.which(name)]
+def missing(programs):
+    """Those of the programs that are not installed."""
+    return [name for name in programs if not shutil.which(name)]
 
 
 def sink(name, position="FL FR", more=""):
