@@ -5,6 +5,7 @@ import shutil
 import signal
 import struct
 import subprocess
+import sys
 import time
 import wave
 from pathlib import Path
@@ -63,6 +64,7 @@ class Daemon:
         (self.folder / "daemon.conf").write_text(CONFIGURATION % objects)
 
     def __enter__(self):
+        signal.signal(signal.SIGTERM, lambda *_: sys.exit(1))  # so that the children end then too
         tone(self.folder / "tone.wav")
         self.start("pipewire", "-c", str(self.folder / "daemon.conf"))
         self.wait(lambda: (self.folder / "runtime/pipewire-0").exists(), "the daemon's socket")
