@@ -67,8 +67,9 @@ def remarks(step):
         ports = f"{len(node.audio(True))} in, {len(node.audio(False))} out"
         monitors = len(node.audio(False, monitor=True))
         more = f", {monitors} of a monitor" if monitors else ""
-        kind = node.properties.get("media.class", "no media.class")
-        yield f"id {node.id} {shown(node.name)}, {printable(kind)}, {node.state}: {ports}{more}"
+        kind = printable(node.properties.get("media.class", "no media.class"))
+        yield (f"id {node.id} {shown(node.name)}, {kind}, {printable(node.state)}: "
+               f"{ports}{more}")
         if "media.filename" in node.properties:
             yield f"its file is {shown(node.properties['media.filename'])}"
 
