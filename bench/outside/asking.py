@@ -17,6 +17,7 @@ NOBODY = 65534
 SECONDS = 180  # after which a case is stopped: a difference
 HANGS = 3  # so many such cases end their group
 SHOWN = 300  # how much is shown of what differs
+BEFORE = 60  # and how much of that is what stands before
 
 
 class Answer(NamedTuple):
@@ -43,10 +44,13 @@ def programs_of(folder):
     return found
 
 
-def shown(value):
-    """A value of a difference, cut where it is long."""
+def shown(value, other=None):
+    """A value of a difference; where it is long, from shortly before it parts from the other."""
     text = repr(value)
-    return text if len(text) <= SHOWN else f"{text[:SHOWN]}.. ({len(text)} characters)"
+    if len(text) <= SHOWN:
+        return text
+    start = max(0, len(os.path.commonprefix([text, repr(other)])) - BEFORE)
+    return f"..{text[start:start + SHOWN]}.. ({len(text)} characters)"
 
 
 def lower(nobody, limits):
@@ -149,7 +153,8 @@ class Place:
         """Counts a comparison, and keeps it where it fails."""
         self.count += 1
         if wanted != got:
-            self.differences.append(f"{what}: wanted {shown(wanted)}, got {shown(got)}")
+            self.differences.append(
+                f"{what}: wanted {shown(wanted, got)}, got {shown(got, wanted)}")
         return wanted == got
 
     def expect(self, what, words, status, out="", **how):
