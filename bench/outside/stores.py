@@ -24,30 +24,30 @@ def tiled(samples, size):
     return (block * (size // len(block) + 1))[:size]
 
 
-def form_of(content):
-    """Channels, rate and samples of a stored file, each field of its header looked at."""
+def read(content):
+    """Channels and rate of a stored file, whether its header is sound, and its samples."""
     name, size, wave, fmt, width, tag, channels, rate, second, frame, bits, data, count = \
-        struct.unpack("<4sI4s4sIHHIIHH4sI", content[:HEADER])
-    good = (name, wave, fmt, data) == (b"RIFF", b"WAVE", b"fmt ", b"data")
-    good &= (width, tag, bits, size) == (16, 1, 16, 36 + count)
-    good &= (second, frame, len(content)) == (2 * channels * rate, 2 * channels, HEADER + count)
-    return channels, rate, content[HEADER:] if good else None
+        struct.unpack("<4sI4s4sIHHIIHH4sI", content[:HEADER].ljust(HEADER, b"?"))
+    sound = (name, wave, fmt, data) == (b"RIFF", b"WAVE", b"fmt ", b"data")
+    sound &= (width, tag, bits, size) == (16, 1, 16, 36 + count)
+    sound &= (second, frame, len(content)) == (2 * channels * rate, 2 * channels, HEADER + count)
+    return channels, rate, sound, content[HEADER:]
+
+
+def parting(one, other):
+    """The first place at which two rows of bytes differ, or None."""
+    if one == other:
+        return None
+    shorter = min(len(one), len(other))
+    return next((i for i in range(shorter) if one[i] != other[i]), shorter)
 
 
 def stored(place, what, name, channels, body):
-    """Compares a stored file with the samples that it must have; says where they part."""
-    content = place.read(name)
+    """Compares a stored file with the samples that it must have, and forgets it."""
+    *form_, samples = read(place.read(name) or b"")
     place.forget(name)
-    if content is None or len(content) < HEADER:
-        return place.same(what, f"{HEADER + len(body)} bytes", content)
-    got = form_of(content)
-    if got == (channels, 48000, body):
-        return place.same(what, True, True)
-    samples = got[2] if got[2] is not None else content[HEADER:]
-    shorter = min(len(body), len(samples))
-    at = next((i for i in range(shorter) if body[i] != samples[i]), shorter)
-    return place.same(f"{what}: differs at sample byte {at}", (channels, 48000, len(body)),
-                      (*got[:2], len(samples)))
+    place.same(f"{what}: its form, and the first byte of its samples that differs",
+               (channels, 48000, True, None), (*form_, parting(body, samples)))
 
 
 def sizes(place):
