@@ -66,7 +66,7 @@ def refusal(wire, wires):
         return "a monitor of two streams that are written as one node"
     if wire.source is wire.target:
         return "both ends are one node"
-    if not wire.is_late and reaches(wires, wire.target, wire.source):
+    if reaches(wires, wire.target, wire.source):
         return "it closes a loop, and none of the nodes is async"
     if len(wires) == MOST_LINKS:
         return f"a graph has at most {MOST_LINKS} links"
