@@ -23,8 +23,8 @@ pub data VainSteps (p : BoardLayout) (words : List ℕ) (v : View) (x : Move)
         word = found;
         view = tried p v m found;
       } → VainSteps p words v x back
-  loads_again : (b : Bool) (l id i found : ℕ) → LoadsSample b p v l id i → i < words_read_of v l
-      → found ≡ slice_index words (sample_place p.shape (pool_of p l) id i)
+  loads_again : (b : Bool) (l id i found : ℕ) → LoadsSample b p v l id i
+      → i < words_read_of v l → found ≡ slice_index words (sample_place p.shape (pool_of p l) id i)
       → back ≡ words_read_of v l - (i + 1) → x ≡ record {
         place = sample_place p.shape (pool_of p l) id i;
         word = found;
