@@ -2,7 +2,8 @@
 ghost use Rattle.std.specs.Prelude.{◌≡◌, IsSome, map, string_bytes, List, ℕ, Result};
 ghost use Rattle.pw_base.specs.Files.{names_in};
 ghost use Rattle.graph_pictures.specs.Answers.{IsAnswer, Puts, IsPrinted, PutsLine};
-ghost use Rattle.graph_pictures.specs.Causes.{IsCaused, HasCause};
+ghost use Rattle.graph_pictures.specs.Causes.{IsCausedBy, HasCause, status_of, IsUsage};
+ghost use Rattle.graph_pictures.specs.Words.{request_of};
 
 use crate::reading::picture_of;
 use crate::status::{Status, put_status};
@@ -14,7 +15,8 @@ use std::alloc::Global;
 fn answer_to<F: Files>(alloc: Global, words: &[String], files: &mut F) -> Result<Text, Status>
     ensures told { IsSome (F.held files.old)
         → IsAnswer (names_in (F.held files.old)) (map string_bytes words.now) result }
-    ensures cause { IsCaused (F.load_faults files.old) (F.load_faults files.new) result }
+    ensures cause { IsCausedBy (F.load_faults files.old) (F.load_faults files.new) result }
+    ensures usage { IsUsage (request_of (map string_bytes words.now)) (status_of result) }
     ensures held { F.held files.new ≡ F.held files.old }
     ensures stores { F.store_faults files.new ≡ F.store_faults files.old }
 {
@@ -87,6 +89,9 @@ pub fn print_picture<F: Files, O: Sink>(
     // A fault of a file or of the output comes only where it counted one.
     ensures cause { HasCause (F.load_faults files.old) (F.load_faults files.new)
         (O.faults out.old) (O.faults out.new) result }
+
+    // Usage comes exactly where the words are not in the grammar, or memory was short.
+    ensures usage { IsUsage (request_of (map string_bytes words.now)) result }
 
     // The files hold what they held.
     ensures held { F.held files.new ≡ F.held files.old }

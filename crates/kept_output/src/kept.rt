@@ -1,33 +1,35 @@
 //! A text that is kept while it is not too long.
-ghost use Rattle.kept_output.specs.KeptOutput.{IsKept, IsKeptBy};
+ghost use Rattle.std.specs.Prelude.{◌≡◌, IfOk};
+ghost use Rattle.kept_output.specs.KeptOutput.{longer, IsKeptBy};
 
-use pw_base::{FileFail, Text};
+use pw_base::{FileFail, Memory, Text};
 
 /// The most bytes that are kept: more than a run puts without the events of a trace.
 pub const KEPT_BYTES_LIMIT: usize = 4_194_304;
 
-// The text with more behind it; nothing where it gets too long or memory is short.
-fn with_more(kept: Option<Text>, bytes: &[u8]) -> Option<Text>
-    ensures { IsKept bytes.now kept result }
+// The text with more behind it; nothing where it gets too long.
+fn with_more(kept: Option<Text>, bytes: &[u8]) -> Result<Option<Text>, Memory>
+    ensures { IfOk result (λ text. text ≡ longer bytes.now kept) }
 {
     let Some(mut text) = kept else {
-        return None;
+        return Ok(None);
     };
     if bytes.len() > KEPT_BYTES_LIMIT.saturating_sub(text.len()) {
-        return None;
+        return Ok(None);
     }
-    match text.extend(bytes) {
-        Ok(()) => Some(text),
-        Err(_memory) => None,
-    }
+    text.extend(bytes)?;
+    Ok(Some(text))
 }
 
-/// What is kept after a put of these bytes; nothing where it failed.
+/// What is kept after a put of these bytes; nothing where it failed, or where memory is short.
 pub(crate) fn kept_by(kept: Option<Text>, bytes: &[u8], put: &Result<(), FileFail>) -> Option<Text>
     ensures { IsKeptBy bytes.now put.now kept result }
 {
     match put {
-        Ok(()) => with_more(kept, bytes),
+        Ok(()) => match with_more(kept, bytes) {
+            Ok(text) => text,
+            Err(_memory) => None,
+        },
         Err(_fail) => None,
     }
 }
