@@ -4,6 +4,8 @@ from functools import cache
 
 from asking import TOP
 
+ROW = r"^\| (\d+) \| `(\w+)` \| .* \|$"  # of a table: a number, a name, and what it is
+
 
 @cache
 def section(title):
@@ -24,7 +26,7 @@ def numbered(pattern, title):
 
 def waves():
     """The whys of `wav`."""
-    return numbered(r"^- (\d+): `(\w+)`\. When", "WAV files")
+    return numbered(ROW, "WAV files")
 
 
 def pods():
@@ -46,12 +48,14 @@ def sequences():
 
 def scripts():
     """The whys of `script`."""
-    return numbered(r"^- (\d+): `(\w+)`\. When", "Scripts")
+    return numbered(ROW, "Scripts")
 
 
 def limits():
     """The numbers of `limit`, but for those of 5 and 6, which a script has as its why 12."""
-    return numbered(r"^- (\d+): `(\w+)`\. At most", "Status lines")
+    found = numbered(ROW, "Status lines")
+    found.pop("memory", None)  # a status of the table before
+    return found
 
 
 def lists():
@@ -61,19 +65,19 @@ def lists():
 
 def texts():
     """The faults of a dump that is read back."""
-    rows = re.findall(r"^- (.*?): ", section("Dumps read back"), re.M)
+    rows = re.findall(r"^\| (`.*?`) \|", section("Dumps read back"), re.M)
     return set(re.findall(r"`(\w+)`", " ".join(rows)))
 
 
 def commands():
     """The commands of `pipegraph`."""
-    return set(re.findall(r"^- `(\w+) ", section("The command line"), re.M))
+    return set(re.findall(r"^\| `(\w+) ", section("The command line"), re.M))
 
 
 def statuses():
     """The word of the line of each number that `pipegraph` ends with; 0 has none."""
-    lines = section("Status lines").split("1: `ScriptBytes`")[0]
-    found = re.findall(r"^- (\d): (?:`(\w+)|the text)", lines, re.M)
+    lines = section("Status lines").split("| limit |")[0]
+    found = re.findall(r"^\| (\d) \| (?:`(\w+)|the text)", lines, re.M)
     return {int(number): word for number, word in found}
 
 
