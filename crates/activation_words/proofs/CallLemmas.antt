@@ -6,7 +6,7 @@ use Rattle.board_rule.specs.declared.view.DriverPhase.TheVariants as drives
 use Rattle.board_rule.specs.declared.view.NodeView.{NodeView}
 use Rattle.board_rule.specs.declared.view.Trail.{Trail}
 use Rattle.board_rule.specs.declared.view.View.{View}
-use Rattle.pw_base.specs.Layout.{event_count}
+use Rattle.pw_graph.specs.Layout.{event_count}
 use Rattle.board_rule.specs.declared.board_shape.BoardShape.{BoardShape}
 use Rattle.board_rule.specs.Layout.{BoardLayout, layout_of, IsSound, nodes}
 use Rattle.board_rule.specs.View.{node_of, view_node, view_lead}

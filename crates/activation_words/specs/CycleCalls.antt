@@ -4,8 +4,8 @@
 use Rattle.std.specs.Prelude.{◌≡◌, ℕ, zero, suc, ◌+◌, ◌<◌, true, false, cond, eqb, List, [], ◌∷◌, ◌++◌, map, reverse}
 use Rattle.board_rule.specs.declared.view.DriverPhase.TheVariants as drives
 use Rattle.board_rule.specs.declared.view.View.{View}
-use Rattle.pw_base.specs.declared.event.Event.TheVariants.{Tick}
-use Rattle.pw_base.specs.Layout.{event_count}
+use Rattle.pw_graph.specs.declared.event.Event.TheVariants.{Tick}
+use Rattle.pw_graph.specs.Layout.{event_count}
 use Rattle.board_rule.specs.Layout.{BoardLayout, nodes}
 use Rattle.board_rule.specs.View.{view_lead}
 use Rattle.board_rule.specs.Steps.{untold, driven, reset_of, reset_to}

@@ -1,7 +1,7 @@
 //! The beginning of a cycle.
 ghost use Rattle.board_rule.specs.OnBoard.{IsOn, layout};
 ghost use Rattle.std.specs.Prelude.{◌≡◌, true, ℕ, ◌<◌};
-ghost use Rattle.pw_base.specs.Layout.{event_count};
+ghost use Rattle.pw_graph.specs.Layout.{event_count};
 ghost use Rattle.board_rule.specs.declared.view.DriverPhase.TheVariants.{Between, Reset};
 ghost use Rattle.board_rule.specs.View.{view_lead};
 ghost use Rattle.board_rule.specs.Layout.{nodes};

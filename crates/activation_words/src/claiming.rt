@@ -6,7 +6,7 @@ ghost use Rattle.activation_words.specs.Calls.{IsClaim};
 
 use crate::answer::Claim;
 use board_rule::{Board, BoardSeat, DriverSeat, LoopSeat};
-use pw_base::{ActivationStatus, status_word};
+use pw_graph::{ActivationStatus, status_word};
 
 // One exchange of TRIGGERED of the node's next cycle for AWAKE.
 fn try_once<S: BoardSeat>(board: &Board, seat: &mut S, node: u32) -> Claim

@@ -1,10 +1,10 @@
 //! The late check: which followers have not finished the cycle when the driver's seat looks.
 ghost use Rattle.board_rule.specs.OnBoard.{IsOn, layout};
-ghost use Rattle.pw_base.specs.Limits.{dummy_node};
+ghost use Rattle.pw_graph.specs.Limits.{dummy_node};
 ghost use Rattle.std.specs.Prelude.{◌≡◌, ◌≢◌, true, false, ℕ, ◌+◌, ◌<◌, ◌≤◌, cond, eqb, slice_index};
-ghost use Rattle.pw_base.specs.Layout.{event_count};
-ghost use Rattle.pw_base.specs.Words.{finished_word};
-ghost use Rattle.pw_base.specs.Dependencies.{nodes_of};
+ghost use Rattle.pw_graph.specs.Layout.{event_count};
+ghost use Rattle.pw_graph.specs.Words.{finished_word};
+ghost use Rattle.pw_graph.specs.Dependencies.{nodes_of};
 ghost use Rattle.board_rule.specs.declared.view.DriverPhase.TheVariants.{Waiting, Checking};
 ghost use Rattle.board_rule.specs.events.Bits.{with_bit};
 ghost use Rattle.board_rule.specs.Layout.{nodes};
@@ -14,7 +14,7 @@ ghost use Rattle.activation_words.specs.CycleCalls.{HasChecked};
 ghost use Rattle.activation_words.specs.working.Checks.{tick_drawn, LooksAt, IsLooking};
 
 use board_rule::{Board, BoardSeat, DriverSeat};
-use pw_base::{ActivationStatus, status_word};
+use pw_graph::{ActivationStatus, status_word};
 
 // The late set with one node more where its word was not FINISHED of the cycle.
 fn late_with(late: u64, node: u32, found: u64, cycle: u32) -> u64

@@ -1,7 +1,7 @@
 //! A node enters and leaves its work.
 ghost use Rattle.board_rule.specs.OnBoard.{IsOn, layout};
 ghost use Rattle.std.specs.Prelude.{◌≡◌, ℕ, ◌<◌, false};
-ghost use Rattle.pw_base.specs.Layout.{event_count};
+ghost use Rattle.pw_graph.specs.Layout.{event_count};
 ghost use Rattle.board_rule.specs.Steps.{HasNode, IsReadyToFinish};
 ghost use Rattle.activation_words.specs.Calls.{IsAwake, started, worked, HasStarted, HasFinished};
 ghost use Rattle.activation_words.specs.Told.{HasWoken};

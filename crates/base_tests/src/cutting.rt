@@ -1,10 +1,8 @@
 //! Pieces of a text, a name among names, the next node of an order, and ports and sinks.
 
 use crate::rows::link;
-use pw_base::{
-    Items, Kind, Memory, NODES, PortId, ShapeLink, Text, find_free, is_same_port, is_sink,
-    next_piece, place_of_name,
-};
+use pw_graph::{Kind, NODES, PortId, ShapeLink, find_free, is_same_port, is_sink};
+use pw_lists::{Items, Memory, Text, next_piece, place_of_name};
 use std::alloc::Global;
 use std::test::Fail;
 

@@ -1,6 +1,6 @@
-//! Tests of pw_base over its public calls: worked shapes, histories, words and lists, pieces and names, and plans
-//! that are unsound by one reason each. They stand apart, since a crate that has tests is proved twice. There is
-//! nothing else here.
+//! Tests of pw_lists, pw_outside and pw_graph over their public calls: worked shapes, histories,
+//! words and lists, pieces and names, and plans that are unsound by one reason each. They stand
+//! apart, since a crate that has tests is proved twice.
 #![tactic(auto)]
 
 #[cfg(test)]

@@ -1,6 +1,6 @@
 //! Lists that grow and shrink, and lists with room.
 
-use pw_base::{Items, Memory, Room};
+use pw_lists::{Items, Memory, Room};
 use std::alloc::Global;
 use std::test::Fail;
 

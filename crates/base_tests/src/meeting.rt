@@ -1,6 +1,6 @@
 //! Two nodes that meet, each in a thread, and two in one thread, which never do.
 
-use pw_base::{Gate, Meet};
+use pw_outside::{Gate, Meet};
 use std::thread::join;
 
 // A node enters ten cycles.

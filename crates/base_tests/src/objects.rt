@@ -1,8 +1,10 @@
 //! The files and outputs in memory, what says when a run ends, and kinds.
 
-use pw_base::{
-    Every, FileFail, Files, Gate, Items, Kind, Loaded, MemFiles, MemSink, Memory, Never, Open,
-    Sink, SureFiles, SureSink, Text, Ticker, Which,
+use pw_graph::{Kind, Which};
+use pw_lists::{Items, Memory, Text};
+use pw_outside::{
+    Every, FileFail, Files, Gate, Loaded, MemFiles, MemSink, Never, Open, Sink, SureFiles,
+    SureSink, Ticker,
 };
 use std::alloc::Global;
 use std::test::Fail;

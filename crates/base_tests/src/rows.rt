@@ -1,9 +1,7 @@
 //! Shapes and plans, built from rows of numbers.
 
-use pw_base::{
-    Epoch, Fresh, Items, Kind, Memory, Plan, PlanNode, PortForm, PortId, Shape, ShapeLink,
-    ShapeNode,
-};
+use pw_graph::{Epoch, Fresh, Kind, Plan, PlanNode, PortForm, PortId, Shape, ShapeLink, ShapeNode};
+use pw_lists::{Items, Memory};
 use std::alloc::Global;
 
 /// A link: its two ports, its channels, its buffers, and whether it is a cycle late.

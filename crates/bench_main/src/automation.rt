@@ -4,7 +4,7 @@ ghost use Rattle.std.specs.Prelude.{◌≡◌, ◌%◌, length};
 use crate::rows::{checksum, row_of, stir};
 use control_sequence::{Automation, ControlFault, controls_of};
 use pod_codec::{Control, Pod, Prop};
-use pw_base::{Items, Memory};
+use pw_lists::{Items, Memory};
 use std::alloc::Global;
 
 /// How many points a sequence has.

@@ -23,7 +23,7 @@ use crate::rounds::{
 };
 use crate::traces::{check_rounds, event_rounds};
 use crate::waves::{fill_rounds, read_rounds, write_rounds};
-use pw_base::{Items, Memory};
+use pw_lists::{Items, Memory};
 use std::alloc::Global;
 use std::env;
 use std::process::ExitCode;

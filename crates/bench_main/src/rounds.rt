@@ -4,7 +4,7 @@ ghost use Rattle.s16_mixer.specs.Ranges.{IsGain};
 
 use crate::kernels::{clamp_out, gain, map_channels, mix_into, mix2, peak, split};
 use crate::rows::{checksum, clear, row_of, stir};
-use pw_base::{Items, Memory};
+use pw_lists::{Items, Memory};
 use std::alloc::Global;
 
 /// Gains from one row to the other and back, by one of the first four factors a round.

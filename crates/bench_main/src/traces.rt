@@ -1,7 +1,8 @@
 //! The events of a run checked again and again, and plain scans of them.
 
 use plan_tests::plan_text;
-use pw_base::{Event, Items, Memory};
+use pw_graph::Event;
+use pw_lists::{Items, Memory};
 use std::alloc::Global;
 use trace_check::{Verdict, check};
 

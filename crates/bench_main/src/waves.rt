@@ -3,7 +3,7 @@ ghost use Rattle.std.specs.Prelude.{◌≡◌, ◌≤◌, length, IfOk};
 ghost use Rattle.wav_files.specs.WavWriting.{IsWave};
 
 use crate::rows::row_of;
-use pw_base::{Items, Memory};
+use pw_lists::{Items, Memory};
 use std::alloc::Global;
 use wav_files::{Wav, read_wav, write_wav};
 

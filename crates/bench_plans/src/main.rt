@@ -7,7 +7,7 @@ mod script;
 
 use crate::rounds::rounds_of;
 use crate::script::script_of;
-use pw_base::{Items, Memory};
+use pw_lists::{Items, Memory};
 use std::alloc::Global;
 use std::env;
 use std::process::ExitCode;

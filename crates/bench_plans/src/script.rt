@@ -1,6 +1,6 @@
 //! A script of 63 nodes and 256 links, and lines behind it.
 
-use pw_base::Memory;
+use pw_lists::Memory;
 use std::alloc::Global;
 
 // Appends the nodes: 21 squares, 21 gains, and 21 meters, of which the first may drive.

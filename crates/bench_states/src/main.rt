@@ -10,7 +10,7 @@ mod rows;
 
 use crate::bare::bare_sum;
 use crate::nodes::{Work, node_sum};
-use pw_base::{Items, Memory};
+use pw_lists::{Items, Memory};
 use std::alloc::Global;
 use std::env;
 use std::process::ExitCode;

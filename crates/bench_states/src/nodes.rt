@@ -1,15 +1,16 @@
 //! A node of each kind, run after run of quanta.
 ghost use Rattle.std.specs.Prelude.{◌≡◌, ◌+◌, ◌*◌, ◌≤◌, length, option_copied};
-ghost use Rattle.pw_base.specs.KindRanges.{IsInRange};
-ghost use Rattle.pw_base.specs.Limits.{quantum_limit};
-ghost use Rattle.pw_base.specs.SoundShape.{IsBetween};
+ghost use Rattle.pw_graph.specs.KindRanges.{IsInRange};
+ghost use Rattle.pw_graph.specs.Limits.{quantum_limit};
+ghost use Rattle.pw_graph.specs.SoundShape.{IsBetween};
 ghost use Rattle.node_state.specs.Slices.{AllowsChannels, HaveFrames};
 ghost use Rattle.node_state.specs.Streams.{HasItsWave, channels_of};
 ghost use Rattle.node_state.specs.StandsFor.{IsQuantum};
 
 use crate::rows::{LINE, QUANTA, checksum, row_of, stir};
 use node_state::NodeState;
-use pw_base::{Items, Kind, Memory};
+use pw_graph::Kind;
+use pw_lists::{Items, Memory};
 use std::alloc::Global;
 use wav_files::Wav;
 

@@ -1,7 +1,7 @@
 //! Rows of samples to begin with, and their checksums.
 ghost use Rattle.std.specs.Prelude.{◌≡◌, length, IfOk};
 
-use pw_base::{Items, Memory};
+use pw_lists::{Items, Memory};
 use std::alloc::Global;
 
 /// How many quanta a run has.

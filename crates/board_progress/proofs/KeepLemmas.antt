@@ -5,8 +5,8 @@ use mathlib.Core.Option.{some}
 use lib.ListN.{get_elem?}
 use prog.Atomic.{either}
 use Rattle.atomic_table.specs.Table.{State, Act, keeps, stepped}
-use Rattle.pw_base.specs.Layout.{pending_place, status_place, ticket_place, event_count, late_place, io_place, readers_place, sample_place}
-use Rattle.pw_base.specs.Words.{triggered_word, awake_word}
+use Rattle.pw_graph.specs.Layout.{pending_place, status_place, ticket_place, event_count, late_place, io_place, readers_place, sample_place}
+use Rattle.pw_graph.specs.Words.{triggered_word, awake_word}
 use Rattle.board_rule.specs.declared.view.View.{View}
 use Rattle.board_rule.specs.Layout.{BoardLayout, first}
 use Rattle.board_rule.specs.BoardRule.{Holds}

@@ -5,8 +5,8 @@ use Rattle.std.specs.Prelude.{Contains}
 use mathlib.Core.Logic.{dite}
 use native.Mathlib.Decide.{ℕ_discrete}
 use Rattle.atomic_table.specs.Table.{State}
-use Rattle.pw_base.specs.declared.event.Event.TheVariants.{Begin, Tick, End}
-use Rattle.pw_base.specs.Layout.{event_count, ticket_place}
+use Rattle.pw_graph.specs.declared.event.Event.TheVariants.{Begin, Tick, End}
+use Rattle.pw_graph.specs.Layout.{event_count, ticket_place}
 use Rattle.board_rule.specs.declared.view.View.{View}
 use Rattle.board_rule.specs.declared.view.DriverView.{DriverView}
 use Rattle.board_rule.specs.declared.view.DriverPhase.{DriverPhase}

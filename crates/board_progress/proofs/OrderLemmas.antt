@@ -7,12 +7,12 @@ use native.Mathlib.Decide.{ℕ_discrete}
 use Rattle.std.proofs.lemmas.List.{get_or-map}
 use Rattle.std.proofs.lemmas.List.Elements.{All-append, All-filter, All-map, All-head, All-tail, All-contains, All-contains_itself, filter_passes}
 use Rattle.std.proofs.lemmas.List.Folds.{Any-from_list_any}
-use Rattle.pw_base.specs.declared.shape.Shape.{Shape}
-use Rattle.pw_base.specs.declared.shape.ShapeNode.{ShapeNode}
-use Rattle.pw_base.specs.declared.shape.ShapeLink.{ShapeLink}
-use Rattle.pw_base.specs.Dependencies.{nodes_of, joins, are_linked, waits, targets_of}
-use Rattle.pw_base.specs.LinkOrder.{HasOrder}
-use Rattle.pw_base.specs.SoundShape.{IsSoundShape}
+use Rattle.pw_graph.specs.declared.shape.Shape.{Shape}
+use Rattle.pw_graph.specs.declared.shape.ShapeNode.{ShapeNode}
+use Rattle.pw_graph.specs.declared.shape.ShapeLink.{ShapeLink}
+use Rattle.pw_graph.specs.Dependencies.{nodes_of, joins, are_linked, waits, targets_of}
+use Rattle.pw_graph.specs.LinkOrder.{HasOrder}
+use Rattle.pw_graph.specs.SoundShape.{IsSoundShape}
 use Rattle.board_rule.specs.declared.board_shape.BoardShape.{BoardShape}
 use Rattle.board_rule.specs.Sums.{times}
 use Rattle.board_rule.specs.Layout.{BoardLayout, layout_of, index_in, IsSound, nodes}

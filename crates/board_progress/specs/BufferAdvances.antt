@@ -2,8 +2,8 @@
 -- to the end. Links, pools and blocks are given by number; `b` is true for the driver's seat.
 -- Source: PipeWire's documentation, "SPA Buffers"; the kinds are this project's.
 use Rattle.std.specs.Prelude.{◌≡◌, ℕ, ◌-◌, ◌<◌, Bool, List, length, slice_index}
-use Rattle.pw_base.specs.Layout.{io_place, readers_place, sample_place}
-use Rattle.pw_base.specs.Words.{have_data_word, need_data_word}
+use Rattle.pw_graph.specs.Layout.{io_place, readers_place, sample_place}
+use Rattle.pw_graph.specs.Words.{have_data_word, need_data_word}
 use Rattle.board_rule.specs.declared.view.View.{View}
 use Rattle.board_rule.specs.Layout.{BoardLayout}
 use Rattle.board_rule.specs.buffers.EndViews.{pool_at, pool_of}

@@ -2,9 +2,9 @@
 -- the end. Nodes are indexes; `b` is true for the driver's seat.
 -- Source: PipeWire's documentation, "Graph Scheduling"; the kinds are this project's.
 use Rattle.std.specs.Prelude.{◌≡◌, ℕ, ◌+◌, ◌-◌, Bool, List, slice_index}
-use Rattle.pw_base.specs.EventWords.{event_word_of}
-use Rattle.pw_base.specs.Layout.{ticket_place, pending_place, status_place, late_place, event_place}
-use Rattle.pw_base.specs.Words.{not_triggered_word, triggered_word, awake_word, finished_word}
+use Rattle.pw_graph.specs.EventWords.{event_word_of}
+use Rattle.pw_graph.specs.Layout.{ticket_place, pending_place, status_place, late_place, event_place}
+use Rattle.pw_graph.specs.Words.{not_triggered_word, triggered_word, awake_word, finished_word}
 use Rattle.board_rule.specs.declared.view.View.{View}
 use Rattle.board_rule.specs.Layout.{BoardLayout, first}
 use Rattle.board_rule.specs.Steps.{reset_of, StoresPending, pending_stored, StoresStatus, status_stored}

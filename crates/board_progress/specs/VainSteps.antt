@@ -3,8 +3,8 @@
 -- Source: PipeWire's documentation, "Graph Scheduling" and "SPA Buffers"; the kinds are this
 -- project's.
 use Rattle.std.specs.Prelude.{◌≡◌, ◌≢◌, ℕ, ◌+◌, ◌-◌, ◌<◌, Bool, List, slice_index}
-use Rattle.pw_base.specs.Layout.{status_place, sample_place}
-use Rattle.pw_base.specs.Words.{triggered_word}
+use Rattle.pw_graph.specs.Layout.{status_place, sample_place}
+use Rattle.pw_graph.specs.Words.{triggered_word}
 use Rattle.board_rule.specs.declared.view.View.{View}
 use Rattle.board_rule.specs.Layout.{BoardLayout}
 use Rattle.board_rule.specs.Steps.{cycle_of, Claims, tried}

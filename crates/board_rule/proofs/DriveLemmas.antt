@@ -8,10 +8,10 @@ use Rattle.board_rule.specs.Layout.{BoardLayout, IsSound, first, last}
 use Rattle.board_rule.specs.activation.Phases.{drive_drawn, drive_stage, is_between, is_resetting}
 use Rattle.board_rule.specs.View.{Whole, with_lead}
 use Rattle.std.specs.Prelude.{slice_get, Contains}
-use Rattle.pw_base.specs.declared.event.Event.{Event}
-use Rattle.pw_base.specs.declared.event.Event.TheVariants.{Begin, Start, Finish, Tick, End}
-use Rattle.pw_base.specs.EventWords.{event_word_of}
-use Rattle.pw_base.specs.Layout.{event_count, event_place, late_place}
+use Rattle.pw_graph.specs.declared.event.Event.{Event}
+use Rattle.pw_graph.specs.declared.event.Event.TheVariants.{Begin, Start, Finish, Tick, End}
+use Rattle.pw_graph.specs.EventWords.{event_word_of}
+use Rattle.pw_graph.specs.Layout.{event_count, event_place, late_place}
 use Rattle.board_rule.specs.declared.view.Found.{Found}
 use Rattle.board_rule.specs.declared.view.Trail.{Trail}
 use Rattle.board_rule.specs.events.Marks.{phase_started, phase_finished, drive_started, drive_finished, drive_tells}

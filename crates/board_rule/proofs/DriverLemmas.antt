@@ -11,8 +11,8 @@ use Rattle.board_rule.specs.declared.view.DriverPhase.TheVariants as drives
 use Rattle.board_rule.specs.declared.view.DriverView.{DriverView}
 use Rattle.board_rule.specs.declared.view.Trail.{Trail}
 use Rattle.board_rule.specs.declared.view.View.{View}
-use Rattle.pw_base.specs.Layout.{pending_place, status_place}
-use Rattle.pw_base.specs.Words.{triggered_word}
+use Rattle.pw_graph.specs.Layout.{pending_place, status_place}
+use Rattle.pw_graph.specs.Words.{triggered_word}
 use Rattle.board_rule.specs.Layout.{BoardLayout, nodes, last}
 use Rattle.board_rule.specs.activation.Phases.{owed_of, phase_rest, phase_owing, phase_stage, drive_rest, drive_owing, drive_stage, drive_drawn}
 use Rattle.board_rule.specs.activation.Phases.{is_resetting, is_between}

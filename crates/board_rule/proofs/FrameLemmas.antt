@@ -2,10 +2,10 @@
 use Rattle.std.proofs.Common.{◌≡◌, ℕ, suc, ◌+◌, ◌<◌, ◌≤◌, true, false, true≢false, cond, eqb, List, [], ◌∷◌, ◌++◌, length}
 use Rattle.std.proofs.Common.{set, get_or, refl, sym, ap, ◌∙◌, subst, arith, get_or-set_same, append-nil}
 use Rattle.std.specs.Prelude.{filter}
-use Rattle.pw_base.specs.History.{is_tick}
-use Rattle.pw_base.specs.declared.event.Event.{Event}
-use Rattle.pw_base.specs.declared.event.Event.TheVariants.{Start, Finish, Tick}
-use Rattle.pw_base.specs.Layout.{event_count}
+use Rattle.pw_graph.specs.History.{is_tick}
+use Rattle.pw_graph.specs.declared.event.Event.{Event}
+use Rattle.pw_graph.specs.declared.event.Event.TheVariants.{Start, Finish, Tick}
+use Rattle.pw_graph.specs.Layout.{event_count}
 use Rattle.board_rule.specs.declared.view.DriverPhase.TheVariants as drives
 use Rattle.board_rule.specs.declared.view.NodeView.{NodeView}
 use Rattle.board_rule.specs.declared.view.DriverView.{DriverView}

@@ -6,12 +6,12 @@ use Rattle.std.specs.List.{flat_map, list_any}
 use Rattle.std.proofs.lemmas.List.{get_or-replicate, get_or-append-add, length-replicate}
 use Rattle.std.proofs.lemmas.List.Sums.{sum_by-cons}
 use Rattle.std.proofs.Math.ListN.{get_or-append}
-use Rattle.pw_base.specs.declared.shape.Shape.{Shape}
-use Rattle.pw_base.specs.declared.shape.ShapeLink.{ShapeLink}
-use Rattle.pw_base.specs.Words.{not_triggered_word}
-use Rattle.pw_base.specs.Pools.{pools_of}
-use Rattle.pw_base.specs.Layout.{node_count, areas_of, area_count, event_count, event_place, late_place, pending_place, status_place}
-use Rattle.pw_base.specs.Layout.{io_start, pool_start, start_words}
+use Rattle.pw_graph.specs.declared.shape.Shape.{Shape}
+use Rattle.pw_graph.specs.declared.shape.ShapeLink.{ShapeLink}
+use Rattle.pw_graph.specs.Words.{not_triggered_word}
+use Rattle.pw_graph.specs.Pools.{pools_of}
+use Rattle.pw_graph.specs.Layout.{node_count, areas_of, area_count, event_count, event_place, late_place, pending_place, status_place}
+use Rattle.pw_graph.specs.Layout.{io_start, pool_start, start_words}
 use Rattle.board_rule.specs.Layout.{word_count}
 
 repeated : (k a : ℕ) → length (replicate k a) ≡ k

@@ -5,9 +5,9 @@ use Rattle.std.proofs.Common.{get_or-set_other, get_or-set_same}
 use mathlib.Core.Logic.{dite}
 use native.Mathlib.Decide.{ℕ_discrete, dec_le}
 use Rattle.board_rule.specs.Sums.{total, times}
-use Rattle.pw_base.specs.declared.shape.Shape.{Shape}
-use Rattle.pw_base.specs.Layout.{node_count, pending_place, status_place}
-use Rattle.pw_base.specs.Words.{status_word_of, awake_word, finished_word, triggered_word}
+use Rattle.pw_graph.specs.declared.shape.Shape.{Shape}
+use Rattle.pw_graph.specs.Layout.{node_count, pending_place, status_place}
+use Rattle.pw_graph.specs.Words.{status_word_of, awake_word, finished_word, triggered_word}
 use Rattle.board_rule.specs.activation.ActivationRule.{Progress, NodeOk}
 use Rattle.board_rule.proofs.SumLemmas.{total_same, total_change, total_at, times_here, times_else}
 

@@ -7,10 +7,10 @@ use Rattle.board_rule.specs.declared.view.DriverPhase.TheVariants as drives
 use Rattle.board_rule.specs.declared.view.Phase.{Phase}
 use Rattle.board_rule.specs.declared.view.Phase.TheVariants.{Idle, Awake, StartDrawn, Running, Done, FinishDrawn, Telling}
 use Rattle.board_rule.specs.declared.view.View.{View}
-use Rattle.pw_base.specs.declared.event.Event.TheVariants.{Start, Finish}
-use Rattle.pw_base.specs.EventWords.{event_word_of}
-use Rattle.pw_base.specs.Layout.{pending_place, status_place, late_place, event_place, event_count}
-use Rattle.pw_base.specs.Words.{awake_word, finished_word, not_triggered_word, triggered_word}
+use Rattle.pw_graph.specs.declared.event.Event.TheVariants.{Start, Finish}
+use Rattle.pw_graph.specs.EventWords.{event_word_of}
+use Rattle.pw_graph.specs.Layout.{pending_place, status_place, late_place, event_place, event_count}
+use Rattle.pw_graph.specs.Words.{awake_word, finished_word, not_triggered_word, triggered_word}
 use Rattle.board_rule.specs.Layout.{BoardLayout, first}
 use Rattle.board_rule.specs.View.{node_of, view_node, view_lead}
 use Rattle.board_rule.specs.BoardRule.{Holds}

@@ -7,8 +7,8 @@ use lib.ListN.{get_elem?}
 use Rattle.atomic_table.specs.Table.{State}
 use Rattle.board_rule.specs.declared.view.View.{View}
 use Rattle.board_rule.specs.Layout.{BoardLayout, IsSound, nodes, first, word_count}
-use Rattle.pw_base.specs.Layout.{event_place, event_count}
-use Rattle.pw_base.specs.Pools.{IsPooledShape}
+use Rattle.pw_graph.specs.Layout.{event_place, event_count}
+use Rattle.pw_graph.specs.Pools.{IsPooledShape}
 use Rattle.board_rule.specs.View.{Whole, idle}
 use Rattle.board_rule.specs.start.Owners.{owners_of}
 use Rattle.board_rule.specs.activation.ActivationRule.{Activations}

@@ -3,9 +3,9 @@
 -- project's.
 use Rattle.std.specs.Prelude.{ℕ, ◌==◌, List, map, length}
 use Rattle.std.specs.List.{position_or_len}
-use Rattle.pw_base.specs.declared.shape.Shape.{Shape}
-use Rattle.pw_base.specs.Dependencies.{nodes_of}
-use Rattle.pw_base.specs.Layout.{start_words}
+use Rattle.pw_graph.specs.declared.shape.Shape.{Shape}
+use Rattle.pw_graph.specs.Dependencies.{nodes_of}
+use Rattle.pw_graph.specs.Layout.{start_words}
 
 -- the index of a node; the number of nodes, where it is none
 abbrev pub index_in : Shape → ℕ → ℕ

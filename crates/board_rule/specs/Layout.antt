@@ -3,10 +3,10 @@
 -- project's.
 use Rattle.std.specs.Prelude.{◌≡◌, ◌≢◌, ℕ, ◌+◌, ◌^◌, ◌<◌, ◌≤◌, List, [], drop, length, false, All, Contains, slice_index}
 use Rattle.std.specs.Prelude.{slice_index_or}
-use Rattle.pw_base.specs.declared.shape.Shape.{Shape}
-use Rattle.pw_base.specs.Dependencies.{nodes_of, Precedes}
-use Rattle.pw_base.specs.Limits.{events_limit, dummy_node}
-use Rattle.pw_base.specs.Layout.{node_count, event_count}
+use Rattle.pw_graph.specs.declared.shape.Shape.{Shape}
+use Rattle.pw_graph.specs.Dependencies.{nodes_of, Precedes}
+use Rattle.pw_graph.specs.Limits.{events_limit, dummy_node}
+use Rattle.pw_graph.specs.Layout.{node_count, event_count}
 use Rattle.board_rule.specs.declared.board_shape.BoardShape.{BoardShape}
 use Rattle.board_rule.specs.Sums.{total, times}
 pub use Rattle.board_rule.specs.Indexes.{index_in, target_rows, required_row}

@@ -5,7 +5,7 @@ use Rattle.board_rule.specs.declared.view.NodeView.{NodeView}
 use Rattle.board_rule.specs.declared.view.DriverView.{DriverView}
 use Rattle.board_rule.specs.declared.view.Trail.{Trail}
 use Rattle.board_rule.specs.declared.view.Found.{Found}
-use Rattle.pw_base.specs.declared.event.Event.{Event}
+use Rattle.pw_graph.specs.declared.event.Event.{Event}
 use Rattle.board_rule.specs.declared.view.View.{View}
 use Rattle.board_rule.specs.buffers.BlockReadings.{Ends}
 pub use Rattle.board_rule.specs.start.StartViews.{Samples, idle, resting, unwritten, unread, no_trail, first_view, driver_view}

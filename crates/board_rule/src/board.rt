@@ -1,7 +1,7 @@
 //! A board: the words of one epoch that all threads share.
 ghost use Rattle.std.specs.Prelude.{◌≡◌, ◌+◌, ◌<◌, ◌≤◌, ◌^◌, [], length, slice_index};
-ghost use Rattle.pw_base.specs.Limits.{dummy_node};
-ghost use Rattle.pw_base.specs.Layout.{pending_place, status_place, late_place, event_place, event_count, area_count};
+ghost use Rattle.pw_graph.specs.Limits.{dummy_node};
+ghost use Rattle.pw_graph.specs.Layout.{pending_place, status_place, late_place, event_place, event_count, area_count};
 ghost use Rattle.board_rule.specs.Layout.{layout_of, IsSound, nodes, first, last, word_count};
 ghost use Rattle.board_rule.specs.working.Rows.{HasRows, HasIndexes};
 ghost use Rattle.board_rule.specs.working.Slots.{HasSlots};
@@ -10,7 +10,8 @@ use crate::board_shape::BoardShape;
 use crate::rows::Rows;
 use crate::rule::BoardTable;
 use crate::slots::Slots;
-use pw_base::{Event, Room, Shape};
+use pw_graph::{Event, Shape};
+use pw_lists::Room;
 
 /// The words of one epoch, in one table of atomic words with no lock round it. Threads share it by
 /// reference, and each steps on it with a seat of its own.

@@ -1,5 +1,6 @@
 //! What a board is made for.
-use pw_base::{Items, Shape};
+use pw_graph::Shape;
+use pw_lists::Items;
 
 /// A shape, and the number of the loop's seat that has each node, by index in the shape. The
 /// driver's entry is not looked at. Loops' seats have the numbers below `seats`.

@@ -3,7 +3,8 @@ ghost use Rattle.std.specs.Prelude.{◌≡◌};
 
 use crate::board_shape::BoardShape;
 use crate::rule::BoardToken;
-use pw_base::{Event, Items};
+use pw_graph::Event;
+use pw_lists::Items;
 
 /// A closed board: what it was made for, the samples that its seats agreed on, and the events of
 /// its whole epoch in the order of their tickets. Only `Board::close` makes one.

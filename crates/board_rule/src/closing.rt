@@ -2,10 +2,10 @@
 ghost use Rattle.board_rule.specs.OnBoard.{IsOn, layout};
 ghost use Rattle.std.specs.Prelude.{◌≡◌, ℕ, ◌+◌, ◌<◌, ◌≤◌, [], ◌∷◌, ◌++◌, List, length, true, false, slice_index};
 ghost use Rattle.std.specs.Prelude.{slice_index_or, count_by, filter};
-ghost use Rattle.pw_base.specs.declared.event.Event.{Event};
-ghost use Rattle.pw_base.specs.EventWords.{event_word_of};
-ghost use Rattle.pw_base.specs.History.{is_tick, IsLegalHistory};
-ghost use Rattle.pw_base.specs.Layout.{late_place, event_place, event_count};
+ghost use Rattle.pw_graph.specs.declared.event.Event.{Event};
+ghost use Rattle.pw_graph.specs.EventWords.{event_word_of};
+ghost use Rattle.pw_graph.specs.History.{is_tick, IsLegalHistory};
+ghost use Rattle.pw_graph.specs.Layout.{late_place, event_place, event_count};
 ghost use Rattle.board_rule.specs.Layout.{layout_of};
 ghost use Rattle.board_rule.specs.events.TicketOrder.{AreInTicketOrder};
 ghost use Rattle.board_rule.specs.events.Closing.{HasEndedAll, last_view, kept_view, expected, IsInRange, LateOf, AreRecorded};
@@ -15,7 +15,8 @@ use crate::closed::Closed;
 use crate::driver_seat::DriverSeat;
 use crate::opening::{Cut, Parts};
 use crate::rule::BoardToken;
-use pw_base::{Event, Items, Room, event_of};
+use pw_graph::{Event, event_of};
+use pw_lists::{Items, Room};
 use std::alloc::Global;
 use std::marker::Brand;
 

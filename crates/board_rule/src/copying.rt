@@ -1,7 +1,8 @@
 //! A copy of a shape, in memory of its own.
 ghost use Rattle.std.specs.Prelude.{◌≡◌, IfOk};
 
-use pw_base::{Items, Memory, Shape, ShapeLink, ShapeNode};
+use pw_graph::{Shape, ShapeLink, ShapeNode};
+use pw_lists::{Items, Memory};
 use std::alloc::Global;
 
 // An equal node.

@@ -17,7 +17,7 @@ use crate::seat::BoardSeat;
 use crate::steps::statuses::triggered;
 use crate::steps::{activation, event, reading};
 use crate::view::ReadView;
-use pw_base::io_id_of;
+use pw_graph::io_id_of;
 use std::marker::{Brand, Model};
 
 /// The right of the driver's thread to step on a board: it begins, checks and ends each cycle and

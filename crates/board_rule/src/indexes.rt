@@ -2,8 +2,8 @@
 //! number, nodes by index.
 ghost use Rattle.board_rule.specs.OnBoard.{layout};
 ghost use Rattle.std.specs.Prelude.{◌≡◌, ◌<◌, length};
-ghost use Rattle.pw_base.specs.Layout.{io_place, readers_place, sample_place};
-ghost use Rattle.pw_base.specs.Pools.{pools_of};
+ghost use Rattle.pw_graph.specs.Layout.{io_place, readers_place, sample_place};
+ghost use Rattle.pw_graph.specs.Pools.{pools_of};
 ghost use Rattle.board_rule.specs.Layout.{nodes};
 ghost use Rattle.board_rule.specs.buffers.Spans.{block_at};
 ghost use Rattle.board_rule.specs.buffers.Areas.{area_of};

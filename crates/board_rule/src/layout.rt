@@ -1,15 +1,15 @@
 //! The words that a board begins with.
 ghost use Rattle.std.specs.Prelude.{◌≡◌, ◌+◌, ◌-◌, ◌&&◌, ◌∷◌, ◌++◌, [], count_by, OnOk, IfOk, replicate};
 ghost use Rattle.std.specs.List.{flat_map};
-ghost use Rattle.pw_base.specs.Pools.{IsPooledShape, is_same_port, pools_of};
-ghost use Rattle.pw_base.specs.Words.{not_triggered_word};
-ghost use Rattle.pw_base.specs.Layout.{start_words, io_start, pool_words, pool_start};
+ghost use Rattle.pw_graph.specs.Pools.{IsPooledShape, is_same_port, pools_of};
+ghost use Rattle.pw_graph.specs.Words.{not_triggered_word};
+ghost use Rattle.pw_graph.specs.Layout.{start_words, io_start, pool_words, pool_start};
 
 use crate::steps::statuses::not_triggered;
-use pw_base::{
-    AreaStatus, Items, Memory, NO_BLOCK, PoolShape, PortId, Shape, ShapeLink, io_word,
-    is_same_port, pools_of,
+use pw_graph::{
+    AreaStatus, NO_BLOCK, PoolShape, PortId, Shape, ShapeLink, io_word, is_same_port, pools_of,
 };
+use pw_lists::{Items, Memory};
 use std::alloc::Global;
 
 // Two words behind the others.

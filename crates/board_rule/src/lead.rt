@@ -1,11 +1,11 @@
 //! What the driver's seat keeps to step by. Its phase stands in contracts alone.
 ghost use Rattle.std.specs.Prelude.{◌≡◌, ◌<◌, ◌≤◌, ◌^◌, cond};
-ghost use Rattle.pw_base.specs.Limits.{dummy_node};
-ghost use Rattle.pw_base.specs.EventWords.{event_node};
+ghost use Rattle.pw_graph.specs.Limits.{dummy_node};
+ghost use Rattle.pw_graph.specs.EventWords.{event_node};
 ghost use Rattle.board_rule.specs.start.StartViews.{resting};
 ghost use Rattle.board_rule.specs.working.DriverProgress.{lead_progress_of, told_so_far, reset_so_far, due_ticket, due_event, lead_drawn, lead_stored, is_begin};
 
-use pw_base::Event;
+use pw_graph::Event;
 
 /// The event whose ticket the driver's seat draws next, or holds.
 #[derive(Clone, Copy, Drop)]

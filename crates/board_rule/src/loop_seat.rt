@@ -14,7 +14,7 @@ use crate::seat::BoardSeat;
 use crate::steps::statuses::triggered;
 use crate::steps::{activation, event, reading};
 use crate::view::{BlockView, ReadView, WriteView};
-use pw_base::io_id_of;
+use pw_graph::io_id_of;
 use std::marker::{Brand, Model};
 
 /// The right of one loop to step on a board, for the followers that are its own. It keeps these,

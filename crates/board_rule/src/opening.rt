@@ -1,8 +1,8 @@
 //! How a board begins: its words at the start, and its seats split off the first one.
 ghost use Rattle.board_rule.specs.OnBoard.{IsOn, layout};
 ghost use Rattle.std.specs.Prelude.{◌≡◌, ℕ, ◌<◌, length, slice_get, Some, IfOk};
-ghost use Rattle.pw_base.specs.Layout.{event_count};
-ghost use Rattle.pw_base.specs.Pools.{IsPooledShape};
+ghost use Rattle.pw_graph.specs.Layout.{event_count};
+ghost use Rattle.pw_graph.specs.Pools.{IsPooledShape};
 ghost use Rattle.board_rule.specs.Known.{Known};
 ghost use Rattle.board_rule.specs.Layout.{layout_of, HasSeats};
 ghost use Rattle.board_rule.specs.buffers.SampleWords.{IsTable};
@@ -23,7 +23,8 @@ use crate::slots::slots_in;
 use crate::starts::{Starts, own, starts_of};
 use crate::view::View;
 use atomic_table::{Split, Table};
-use pw_base::{Items, Memory, Shape};
+use pw_graph::Shape;
+use pw_lists::{Items, Memory};
 use std::alloc::Global;
 use std::marker::{Brand, PhantomData};
 

@@ -1,14 +1,15 @@
 //! Whose each node, link and block is, as rows of seats' numbers.
 ghost use Rattle.std.specs.Prelude.{◌≡◌, ◌++◌, IfOk, OnOk, map, replicate};
 ghost use Rattle.std.specs.List.{flat_map};
-ghost use Rattle.pw_base.specs.Pools.{IsPooledShape, pools_of};
+ghost use Rattle.pw_graph.specs.Pools.{IsPooledShape, pools_of};
 ghost use Rattle.board_rule.specs.Layout.{layout_of};
 ghost use Rattle.board_rule.specs.start.Owners.{seat_with};
 ghost use Rattle.board_rule.specs.working.Slots.{AreOwners};
 
 use crate::board_shape::BoardShape;
 use crate::rows::index_in;
-use pw_base::{Items, Memory, ShapeLink, pools_of};
+use pw_graph::{ShapeLink, pools_of};
+use pw_lists::{Items, Memory};
 use std::alloc::Global;
 
 /// The seat of each node by index, of each link's writer and reader by number, and of each block as

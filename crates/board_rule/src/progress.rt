@@ -1,16 +1,16 @@
 //! What the seat of a loop keeps of a follower to step by. The phases themselves stand in contracts
 //! alone.
 ghost use Rattle.board_rule.specs.OnBoard.{layout};
-ghost use Rattle.pw_base.specs.Limits.{dummy_node};
+ghost use Rattle.pw_graph.specs.Limits.{dummy_node};
 ghost use Rattle.std.specs.Prelude.{◌≡◌, ◌<◌, ◌≤◌, ◌^◌, true, cond, eqb};
-ghost use Rattle.pw_base.specs.declared.event.Event.TheVariants.{Start, Finish};
-ghost use Rattle.pw_base.specs.EventWords.{event_node};
+ghost use Rattle.pw_graph.specs.declared.event.Event.TheVariants.{Start, Finish};
+ghost use Rattle.pw_graph.specs.EventWords.{event_node};
 ghost use Rattle.board_rule.specs.events.Bits.{with_bit};
 ghost use Rattle.board_rule.specs.Layout.{nodes};
 ghost use Rattle.board_rule.specs.working.Progress.{progress_settled};
 
 use crate::board::Board;
-use pw_base::Event;
+use pw_graph::Event;
 
 /// A follower in its cycle `next`: how many targets it has lowered, whether FINISHED is stored, and
 /// the tickets that it drew last.

@@ -2,12 +2,13 @@
 ghost use Rattle.std.specs.Prelude.{◌≡◌, ℕ, ◌+◌, ◌^◌, ◌<◌, ◌≤◌, ◌==◌, map, length, slice_index, IfOk};
 ghost use Rattle.std.specs.List.{position, position_or_len};
 ghost use Rattle.board_rule.specs.Layout.{index_in, required_row, target_rows};
-ghost use Rattle.pw_base.specs.Layout.{area_count, areas_of, event_place, event_count, word_count};
-ghost use Rattle.pw_base.specs.Pools.{IsPooledShape, is_same_port, pools_of};
+ghost use Rattle.pw_graph.specs.Layout.{area_count, areas_of, event_place, event_count, word_count};
+ghost use Rattle.pw_graph.specs.Pools.{IsPooledShape, is_same_port, pools_of};
 ghost use Rattle.board_rule.specs.buffers.EndViews.{pool_in};
 ghost use Rattle.board_rule.specs.working.Rows.{IsLinkRow, HasLinkRows, IsPoolRow, HasPoolRows, HasRows, HasIndexes, base_of};
 
-use pw_base::{Memory, PoolShape, PortId, Shape, ShapeLink, is_same_port, pools_of};
+use pw_graph::{PoolShape, PortId, Shape, ShapeLink, is_same_port, pools_of};
+use pw_lists::Memory;
 use std::alloc::{AllocError, Global};
 
 /// A link: the indexes of its writer and of its reader, the number of the pool that it reads, where

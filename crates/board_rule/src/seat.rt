@@ -2,7 +2,7 @@
 ghost use Rattle.board_rule.specs.OnBoard.{IsOn, layout};
 ghost use Rattle.std.specs.Prelude.{◌≡◌, ℕ, Bool, ◌+◌, ◌<◌};
 ghost use Rattle.atomic_table.specs.Seated.{TableId};
-ghost use Rattle.pw_base.specs.Layout.{event_count, sample_place};
+ghost use Rattle.pw_graph.specs.Layout.{event_count, sample_place};
 ghost use Rattle.board_rule.specs.declared.view.View.{View};
 ghost use Rattle.board_rule.specs.Layout.{first};
 ghost use Rattle.board_rule.specs.events.Bits.{woke_of};

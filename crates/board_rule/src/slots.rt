@@ -1,6 +1,6 @@
 //! Where a seat has an entry among those that are its own.
 ghost use Rattle.std.specs.Prelude.{◌≡◌, ℕ, ◌+◌, ◌<◌, eqb, IfOk, count_by, length, slice_index};
-ghost use Rattle.pw_base.specs.Pools.{pools_of};
+ghost use Rattle.pw_graph.specs.Pools.{pools_of};
 ghost use Rattle.board_rule.specs.OnBoard.{layout};
 ghost use Rattle.board_rule.specs.Layout.{layout_of, nodes};
 ghost use Rattle.board_rule.specs.start.Owners.{owners_of, slot_in, AreSlots};

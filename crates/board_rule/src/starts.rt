@@ -1,7 +1,7 @@
 //! What the nodes, the links and the blocks of a board are at the start, of which each seat takes
 //! its own.
 ghost use Rattle.std.specs.Prelude.{◌≡◌, ◌++◌, IfOk, OnOk, length, map, replicate};
-ghost use Rattle.pw_base.specs.Pools.{IsPooledShape};
+ghost use Rattle.pw_graph.specs.Pools.{IsPooledShape};
 ghost use Rattle.board_rule.specs.Layout.{layout_of};
 ghost use Rattle.board_rule.specs.start.Owners.{own};
 ghost use Rattle.board_rule.specs.working.Progress.{progress_of};
@@ -13,7 +13,8 @@ use crate::layout::delayed_readers;
 use crate::owners::{OwnerRows, owner_rows};
 use crate::progress::NodeProgress;
 use crate::view::{BlockView, ReadView, WriteView};
-use pw_base::{Items, Memory, NO_BLOCK, PoolShape, Shape, ShapeLink, pools_of};
+use pw_graph::{NO_BLOCK, PoolShape, Shape, ShapeLink, pools_of};
+use pw_lists::{Items, Memory};
 use std::alloc::{AllocError, Global};
 
 /// All nodes, ends of links and blocks of a board at the start, and whose they are.

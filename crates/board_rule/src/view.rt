@@ -1,6 +1,6 @@
 //! What a seat knows of its board. The views themselves stand in contracts alone: no value of
 //! `View` is made.
-use pw_base::Event;
+use pw_graph::Event;
 use std::collections::LinkedList;
 
 /// Where a follower stands in its cycle.

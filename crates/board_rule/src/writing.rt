@@ -3,8 +3,8 @@
 //! blocks are given by number.
 ghost use Rattle.board_rule.specs.OnBoard.{IsOn, layout};
 ghost use Rattle.std.specs.Prelude.{◌≡◌, ℕ, ◌<◌};
-ghost use Rattle.pw_base.specs.Words.{io_id_in, need_data_word};
-ghost use Rattle.pw_base.specs.Layout.{sample_place};
+ghost use Rattle.pw_graph.specs.Words.{io_id_in, need_data_word};
+ghost use Rattle.pw_graph.specs.Layout.{sample_place};
 ghost use Rattle.board_rule.specs.buffers.EndViews.{write_of, pool_at, block_of};
 ghost use Rattle.board_rule.specs.buffers.BufferReads.{HasPool, IsFilled, is_filled, IsFirstFilled, older};
 ghost use Rattle.board_rule.specs.working.Slots.{HasWriter};

@@ -2,7 +2,7 @@
 ghost use Rattle.std.specs.Prelude.{◌≡◌, ◌<◌, IfOk, IfSome};
 ghost use Rattle.ready_queues.specs.AnsweredWith.{IsWayOf};
 
-use pw_base::{Items, Memory};
+use pw_lists::{Items, Memory};
 use ready_queues::{Way, Ways};
 use std::alloc::Global;
 use std::sync::Wait;

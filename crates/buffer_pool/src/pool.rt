@@ -1,10 +1,10 @@
 //! The free numbers of one pool, first in, first out.
 ghost use Rattle.std.specs.Prelude.{◌≡◌, ◌<◌, ◌≤◌, [], ◌∷◌, ◌++◌, length, Contains, IfOk};
-ghost use Rattle.pw_base.specs.Limits.{buffers_limit};
+ghost use Rattle.pw_graph.specs.Limits.{buffers_limit};
 ghost use Rattle.buffer_pool.specs.Queue.{numbers_below};
 
 use circular_buffer::HeapCircularBuffer;
-use pw_base::Memory;
+use pw_lists::Memory;
 use std::alloc::Global;
 use std::marker::Model;
 

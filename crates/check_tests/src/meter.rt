@@ -1,10 +1,8 @@
 //! A source with links to a meter and a sink, driven by the meter: plans of some cycles of it.
 ghost use Rattle.std.specs.Prelude.{[], ◌∷◌, ◌≡◌, codes, IfOk};
 
-use pw_base::{
-    Epoch, Fresh, Items, Kind, Memory, Plan, PlanNode, PortForm, PortId, Shape, ShapeLink,
-    ShapeNode, Text,
-};
+use pw_graph::{Epoch, Fresh, Kind, Plan, PlanNode, PortForm, PortId, Shape, ShapeLink, ShapeNode};
+use pw_lists::{Items, Memory, Text};
 use std::alloc::Global;
 
 /// The names of the nodes: the source 0, the meter 1 and the sink 2.

@@ -1,6 +1,8 @@
 //! Files that are longer than they may be.
 
-use pw_base::{FileFail, Files, Items, Loaded, Memory, Text, Which};
+use pw_graph::Which;
+use pw_lists::{Items, Memory, Text};
+use pw_outside::{FileFail, Files, Loaded};
 use pw_top::Status;
 use row_files::{SCRIPT, SURE, ends_so};
 use std::alloc::Global;

@@ -2,7 +2,8 @@
 
 use fault_messages::message;
 use graph_script::ScriptWhy;
-use pw_base::{Items, Memory, Which};
+use pw_graph::Which;
+use pw_lists::{Items, Memory};
 use pw_top::{PodWhy, Status};
 use row_files::words_of;
 use std::alloc::Global;

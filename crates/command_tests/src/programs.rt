@@ -1,6 +1,7 @@
 //! What the program does with words, files, an output and an error output, all in memory.
 
-use pw_base::{FileFail, Files, Items, MemSink, Memory};
+use pw_lists::{Items, Memory};
+use pw_outside::{FileFail, Files, MemSink};
 use pw_program::run_program;
 use row_files::{Faults, S_WAV, SCRIPT, SURE, files_of, words_of};
 use std::alloc::Global;

@@ -1,7 +1,8 @@
 //! `soak NUMBER`: the line of a number, and the words that are none.
 
 use crate::usages::{Usage, usage_unlike};
-use pw_base::{Items, MemFiles, MemSink, Memory, Never, Open};
+use pw_lists::{Items, Memory};
+use pw_outside::{MemFiles, MemSink, Never, Open};
 use pw_top::{Status, run_words};
 use row_files::{Faults, RUN, Row, files_of, is_so};
 use std::alloc::Global;

@@ -1,7 +1,8 @@
 //! `check SCRIPT TRACE`: what is found of a trace, and what refuses it.
 
 use crate::usages::{Usage, usage_unlike};
-use pw_base::{Items, MemFiles, MemSink, Memory};
+use pw_lists::{Items, Memory};
+use pw_outside::{MemFiles, MemSink};
 use pw_top::Status;
 use row_files::{
     Faults, FileRow, Held, RUN, Row, S_WAV, SURE, add, ends_so, files_of, first_unlike, is_so_with,

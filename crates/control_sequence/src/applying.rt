@@ -1,6 +1,6 @@
 //! The frames of a stream, from one point to the next.
 ghost use Rattle.std.specs.Prelude.{◌≡◌, ◌+◌, ◌/◌, ◌%◌, ◌<◌, ◌≤◌, ◌^◌, length};
-ghost use Rattle.pw_base.specs.KindRanges.{IsChannels};
+ghost use Rattle.pw_graph.specs.KindRanges.{IsChannels};
 ghost use Rattle.control_sequence.specs.Automation.{ArePoints, AreBehind, IsBefore, automated};
 
 use crate::points::Point;

@@ -1,6 +1,6 @@
 //! A stream that goes along points.
 ghost use Rattle.std.specs.Prelude.{◌≡◌, ◌+◌, ◌/◌, ◌%◌, ◌<◌, ◌≤◌, ◌^◌, length};
-ghost use Rattle.pw_base.specs.KindRanges.{IsChannels};
+ghost use Rattle.pw_graph.specs.KindRanges.{IsChannels};
 ghost use Rattle.control_sequence.specs.Automation.{ArePoints, automated};
 
 use crate::applying::{Reached, apply_from};
@@ -21,7 +21,7 @@ pub struct Automation {
 }
 
 impl Model for Automation {
-    ghost use Rattle.pw_base.specs.KindRanges.{IsChannels};
+    ghost use Rattle.pw_graph.specs.KindRanges.{IsChannels};
     ghost use Rattle.control_sequence.specs.Automation.{Stream, coded_stream, ArePoints, AreBehind};
 
     ghost Value = { Stream };

@@ -3,7 +3,7 @@ ghost use Rattle.std.specs.Prelude.{◌≡◌};
 ghost use Rattle.control_sequence.specs.ControlFaults.{control_fault_number};
 ghost use Rattle.control_sequence.specs.declared.fault.ControlFault.TheVariants as f;
 
-use pw_base::Memory;
+use pw_lists::Memory;
 
 /// Why a POD gives no points: the first control at fault, by its place in the sequence, counted
 /// from 0.

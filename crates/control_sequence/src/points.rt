@@ -1,6 +1,6 @@
 //! Gains at frames.
 
-use pw_base::Items;
+use pw_lists::Items;
 
 /// From a frame on, a gain.
 #[derive(Clone, Copy, Debug, PartialEq, Eq, Drop)]

@@ -6,23 +6,23 @@ use Rattle.std.specs.List.{range_with_len, list_any}
 use Rattle.std.proofs.lemmas.List.{get_or_append_left, get_or-append_right, get_or-set_same, get_or-set_other, take_more, take_all}
 use Rattle.std.proofs.lemmas.List.Elements.{All-head, All-tail, All-cons, All-nil, All-append, All-filter, filter_passes}
 use Rattle.std.proofs.lemmas.Bool.{cases_Bool, cases_eq, cases_lt, false≢true, and_parts, leb-true, eqb-true, eq-eqb, ne_eqb}
-use Rattle.pw_base.specs.declared.ids.PortId.{PortId}
-use Rattle.pw_base.specs.declared.kind.Kind.{Kind}
-use Rattle.pw_base.specs.declared.kind.Kind.TheVariants.{Source, Square, Gain, Mix2, Delay, Map, Split, Sink, Meter, Dummy}
-use Rattle.pw_base.specs.declared.shape.ShapeLink.{ShapeLink}
-use Rattle.pw_base.specs.declared.plan.Epoch.{Epoch}
-use Rattle.pw_base.specs.declared.plan.Plan.{Plan}
-use Rattle.pw_base.specs.declared.plan.PlanNode.{PlanNode}
-use Rattle.pw_base.specs.Samples.{clamped, silence, summed}
-use Rattle.pw_base.specs.KindFunction.{KindInputs, kind_output}
-use Rattle.pw_base.specs.KindPorts.{input_count, output_count, port_count}
-use Rattle.pw_base.specs.PlanForms.{kind_at}
-use Rattle.pw_base.specs.LinkOrder.{HasOrder, IsWithinNodes}
-use Rattle.pw_base.specs.SoundPlan.{FollowFrom}
+use Rattle.pw_graph.specs.declared.ids.PortId.{PortId}
+use Rattle.pw_graph.specs.declared.kind.Kind.{Kind}
+use Rattle.pw_graph.specs.declared.kind.Kind.TheVariants.{Source, Square, Gain, Mix2, Delay, Map, Split, Sink, Meter, Dummy}
+use Rattle.pw_graph.specs.declared.shape.ShapeLink.{ShapeLink}
+use Rattle.pw_graph.specs.declared.plan.Epoch.{Epoch}
+use Rattle.pw_graph.specs.declared.plan.Plan.{Plan}
+use Rattle.pw_graph.specs.declared.plan.PlanNode.{PlanNode}
+use Rattle.pw_graph.specs.Samples.{clamped, silence, summed}
+use Rattle.pw_graph.specs.KindFunction.{KindInputs, kind_output}
+use Rattle.pw_graph.specs.KindPorts.{input_count, output_count, port_count}
+use Rattle.pw_graph.specs.PlanForms.{kind_at}
+use Rattle.pw_graph.specs.LinkOrder.{HasOrder, IsWithinNodes}
+use Rattle.pw_graph.specs.SoundPlan.{FollowFrom}
 use Rattle.wav_files.specs.declared.wav.WavIn.{WavIn}
 use Rattle.cycle_model.specs.declared.received.Received.{Received}
 use Rattle.cycle_model.specs.declared.received.Given.{Given}
-use Rattle.pw_base.specs.Pools.{is_same_port}
+use Rattle.pw_graph.specs.Pools.{is_same_port}
 use Rattle.cycle_model.specs.Epochs.{is_within, epoch_at, listed, first_at, is_active, links_into, channels_of, channels_at, active_cycles}
 use Rattle.cycle_model.specs.Cycle.{wave_of, last_of, brought, input_of, stream_of, kind_inputs_at, outputs}
 use Rattle.cycle_model.specs.Mixing.{takes_part}

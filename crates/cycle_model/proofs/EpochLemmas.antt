@@ -6,7 +6,7 @@ use Rattle.std.proofs.lemmas.List.Elements.{All-head, All-tail}
 use Rattle.std.proofs.lemmas.List.Sums.{sum_by-cons}
 use Rattle.std.proofs.lemmas.Bool.{cases_Bool, false≢true, and_parts, and_from, and_right, cond-true, cond-false, le-leb, lt-ltb, leb-true}
 use Rattle.std.proofs.lemmas.Bool.{ltb-true, le-ltb}
-use Rattle.pw_base.specs.declared.plan.Epoch.{Epoch}
+use Rattle.pw_graph.specs.declared.plan.Epoch.{Epoch}
 use Rattle.cycle_model.specs.Epochs.{is_within, listed}
 use Rattle.cycle_model.specs.Mixing.{takes_part}
 use Rattle.cycle_model.specs.Renderable.{FollowFrom}

@@ -11,24 +11,24 @@ use Rattle.std.proofs.lemmas.List.{get_or_default}
 use Rattle.std.proofs.lemmas.List.FromFn.{get_or-map-range_with_len}
 use Rattle.std.proofs.lemmas.List.Elements.{All-head, All-tail, All-cons, All-nil, All-append, All-filter, All-drop, filter_passes}
 use Rattle.std.proofs.lemmas.Bool.{cases_Bool, and_from, and_right, cond-true, cond-false, cond_both, le-leb, lt-ltb, le-ltb}
-use Rattle.pw_base.specs.declared.ids.PortId.{PortId}
-use Rattle.pw_base.specs.declared.kind.Kind.{Kind}
-use Rattle.pw_base.specs.declared.kind.Kind.TheVariants.{Source, Square, Gain, Mix2, Delay, Map, Split, Sink, Meter, Dummy}
-use Rattle.pw_base.specs.declared.pools.PoolShape.{PoolShape}
-use Rattle.pw_base.specs.declared.shape.ShapeLink.{ShapeLink}
-use Rattle.pw_base.specs.declared.plan.Epoch.{Epoch}
-use Rattle.pw_base.specs.declared.plan.Plan.{Plan}
-use Rattle.pw_base.specs.declared.plan.PlanNode.{PlanNode}
-use Rattle.pw_base.specs.KindFunction.{KindInputs, kind_output, square_at}
-use Rattle.pw_base.specs.KindPorts.{input_count}
-use Rattle.pw_base.specs.KindRanges.{IsInRange}
-use Rattle.pw_base.specs.PlanForms.{kind_at}
-use Rattle.pw_base.specs.Pools.{is_same_port, is_before, with_port, sources_of, links_from, pool_of, pools_of}
-use Rattle.pw_base.specs.Pools as pools
-use Rattle.pw_base.specs.Samples.{clamped, summed, silence}
-use Rattle.pw_base.specs.SoundPlan.{FollowFrom, IsSoundEpoch, IsSoundPlan}
-use Rattle.pw_base.proofs.PoolLemmas.{same_port, port_same}
-use Rattle.pw_base.proofs.PrecedenceLemmas.{holds_at}
+use Rattle.pw_graph.specs.declared.ids.PortId.{PortId}
+use Rattle.pw_graph.specs.declared.kind.Kind.{Kind}
+use Rattle.pw_graph.specs.declared.kind.Kind.TheVariants.{Source, Square, Gain, Mix2, Delay, Map, Split, Sink, Meter, Dummy}
+use Rattle.pw_graph.specs.declared.pools.PoolShape.{PoolShape}
+use Rattle.pw_graph.specs.declared.shape.ShapeLink.{ShapeLink}
+use Rattle.pw_graph.specs.declared.plan.Epoch.{Epoch}
+use Rattle.pw_graph.specs.declared.plan.Plan.{Plan}
+use Rattle.pw_graph.specs.declared.plan.PlanNode.{PlanNode}
+use Rattle.pw_graph.specs.KindFunction.{KindInputs, kind_output, square_at}
+use Rattle.pw_graph.specs.KindPorts.{input_count}
+use Rattle.pw_graph.specs.KindRanges.{IsInRange}
+use Rattle.pw_graph.specs.PlanForms.{kind_at}
+use Rattle.pw_graph.specs.Pools.{is_same_port, is_before, with_port, sources_of, links_from, pool_of, pools_of}
+use Rattle.pw_graph.specs.Pools as pools
+use Rattle.pw_graph.specs.Samples.{clamped, summed, silence}
+use Rattle.pw_graph.specs.SoundPlan.{FollowFrom, IsSoundEpoch, IsSoundPlan}
+use Rattle.pw_graph.proofs.PoolLemmas.{same_port, port_same}
+use Rattle.pw_graph.proofs.PrecedenceLemmas.{holds_at}
 use Rattle.wav_files.specs.declared.wav.WavIn.{WavIn}
 use Rattle.cycle_model.specs.Epochs.{is_within, epoch_at, listed, links_into, channels_of, channels_at, active_cycles, stream_start, all_cycles}
 use Rattle.cycle_model.specs.Cycle.{Outputs, wave_of, brought, input_of, stream_of, kind_inputs_at, output_of, outputs_after, outputs}

@@ -10,19 +10,19 @@ use Rattle.std.proofs.lemmas.List.Concat.{length-flat_map}
 use Rattle.std.proofs.lemmas.List.Sums.{sum_by-cons, sum_by-append, sum_by-le-sum_by}
 use Rattle.std.proofs.lemmas.List.Elements.{All-cons, All-nil}
 use Rattle.std.proofs.lemmas.Bool.{cases_Bool, false≢true, and_parts, and_from, and_right, cond-true, cond-false, le-leb, lt-ltb, le-ltb, ltb-true}
-use Rattle.pw_base.specs.declared.ids.PortId.{PortId}
-use Rattle.pw_base.specs.declared.kind.Kind.{Kind}
-use Rattle.pw_base.specs.declared.kind.Kind.TheVariants.{Sink, Dummy}
-use Rattle.pw_base.specs.declared.plan.Epoch.{Epoch}
-use Rattle.pw_base.specs.declared.plan.Plan.{Plan}
-use Rattle.pw_base.specs.declared.plan.PlanNode.{PlanNode}
-use Rattle.pw_base.specs.declared.plan.PortForm.{PortForm}
-use Rattle.pw_base.specs.KindRanges.{IsRate, IsChannels, IsSinkOrMeter}
-use Rattle.pw_base.specs.PlanForms.{kind_at}
-use Rattle.pw_base.specs.PlanSums.{is_sink, form_samples, epoch_samples, sink_samples_of}
-use Rattle.pw_base.specs.Pools.{is_same_port}
-use Rattle.pw_base.specs.SoundPlan.{FollowFrom, IsSoundNode, IsSoundPlan}
-use Rattle.pw_base.proofs.PoolLemmas.{same_port}
+use Rattle.pw_graph.specs.declared.ids.PortId.{PortId}
+use Rattle.pw_graph.specs.declared.kind.Kind.{Kind}
+use Rattle.pw_graph.specs.declared.kind.Kind.TheVariants.{Sink, Dummy}
+use Rattle.pw_graph.specs.declared.plan.Epoch.{Epoch}
+use Rattle.pw_graph.specs.declared.plan.Plan.{Plan}
+use Rattle.pw_graph.specs.declared.plan.PlanNode.{PlanNode}
+use Rattle.pw_graph.specs.declared.plan.PortForm.{PortForm}
+use Rattle.pw_graph.specs.KindRanges.{IsRate, IsChannels, IsSinkOrMeter}
+use Rattle.pw_graph.specs.PlanForms.{kind_at}
+use Rattle.pw_graph.specs.PlanSums.{is_sink, form_samples, epoch_samples, sink_samples_of}
+use Rattle.pw_graph.specs.Pools.{is_same_port}
+use Rattle.pw_graph.specs.SoundPlan.{FollowFrom, IsSoundNode, IsSoundPlan}
+use Rattle.pw_graph.proofs.PoolLemmas.{same_port}
 use Rattle.wav_files.specs.declared.wav.WavIn.{WavIn}
 use Rattle.wav_files.specs.declared.outcome.Kept.{Kept}
 use Rattle.wav_files.specs.WavWriting.{IsWave}

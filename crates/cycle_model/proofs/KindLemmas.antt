@@ -9,10 +9,10 @@ use Rattle.std.proofs.lemmas.List.{get_or-append_right, get_or-replicate}
 use Rattle.std.proofs.lemmas.List.FromFn.{fill_by_all, length-map-range_with_len}
 use Rattle.std.proofs.lemmas.Slice.Zip.{length-zip, get_or-zip}
 use Rattle.std.proofs.lemmas.Bool.{cases_lt, cond-true, cond-false, lt-ltb, le-ltb}
-use Rattle.pw_base.specs.declared.kind.Kind.{Kind}
-use Rattle.pw_base.specs.declared.kind.Kind.TheVariants.{Source, Square, Gain, Mix2, Delay, Map, Split, Sink, Meter, Dummy}
-use Rattle.pw_base.specs.Samples.{scaled, mixed, sample_at, of_frames}
-use Rattle.pw_base.specs.KindFunction.{KindInputs, kind_output}
+use Rattle.pw_graph.specs.declared.kind.Kind.{Kind}
+use Rattle.pw_graph.specs.declared.kind.Kind.TheVariants.{Source, Square, Gain, Mix2, Delay, Map, Split, Sink, Meter, Dummy}
+use Rattle.pw_graph.specs.Samples.{scaled, mixed, sample_at, of_frames}
+use Rattle.pw_graph.specs.KindFunction.{KindInputs, kind_output}
 use Rattle.cycle_model.specs.Cycle.{last_of}
 use Rattle.cycle_model.specs.KindSamples.{kind_sample, kind_length}
 use Rattle.cycle_model.proofs.RowLemmas.{padded, end_of_row}

@@ -6,17 +6,17 @@ use native.Mathlib.Decide.{ℕ_discrete}
 use Rattle.std.specs.Prelude.{AllPairs, Contains, IsTrue}
 use Rattle.std.proofs.lemmas.Bool.{false_from_ne_true, le-ltb}
 use Rattle.std.proofs.lemmas.Bool.Decides.{Decides-eqb}
-use Rattle.pw_base.specs.declared.ids.PortId.{PortId}
-use Rattle.pw_base.specs.declared.plan.Epoch.{Epoch}
-use Rattle.pw_base.specs.declared.plan.Plan.{Plan}
-use Rattle.pw_base.specs.declared.plan.PortForm.{PortForm}
-use Rattle.pw_base.specs.declared.shape.ShapeLink.{ShapeLink}
-use Rattle.pw_base.specs.Pools.{is_same_port, is_before}
-use Rattle.pw_base.specs.PlanForms.{IsFormed}
-use Rattle.pw_base.specs.SoundShape.{IsSoundLink}
-use Rattle.pw_base.specs.SoundPlan.{IsSoundEpoch, IsSoundPlan}
-use Rattle.pw_base.proofs.PoolLemmas.{same_port, port_same}
-use Rattle.pw_base.proofs.ShapeLemmas.{contains_mapped}
+use Rattle.pw_graph.specs.declared.ids.PortId.{PortId}
+use Rattle.pw_graph.specs.declared.plan.Epoch.{Epoch}
+use Rattle.pw_graph.specs.declared.plan.Plan.{Plan}
+use Rattle.pw_graph.specs.declared.plan.PortForm.{PortForm}
+use Rattle.pw_graph.specs.declared.shape.ShapeLink.{ShapeLink}
+use Rattle.pw_graph.specs.Pools.{is_same_port, is_before}
+use Rattle.pw_graph.specs.PlanForms.{IsFormed}
+use Rattle.pw_graph.specs.SoundShape.{IsSoundLink}
+use Rattle.pw_graph.specs.SoundPlan.{IsSoundEpoch, IsSoundPlan}
+use Rattle.pw_graph.proofs.PoolLemmas.{same_port, port_same}
+use Rattle.pw_graph.proofs.ShapeLemmas.{contains_mapped}
 use Rattle.wav_files.specs.declared.wav.WavIn.{WavIn}
 use Rattle.cycle_model.specs.Epochs.{channels_of}
 use Rattle.cycle_model.specs.WavesFit.{WavesFit}

@@ -1,14 +1,14 @@
 -- The definitions at work: small plans, each of whose last node is a sink, and what it keeps, by computation alone.
 use Rattle.std.proofs.Common.{◌≡◌, ℕ, true, false, List, [], ◌∷◌, map, ℤ, pos, negsuc, refl}
-use Rattle.pw_base.specs.declared.ids.PortId.{PortId}
-use Rattle.pw_base.specs.declared.kind.Kind.{Kind}
-use Rattle.pw_base.specs.declared.kind.Kind.TheVariants.{Source, Gain, Mix2, Delay, Split, Sink}
-use Rattle.pw_base.specs.declared.shape.ShapeLink.{ShapeLink}
-use Rattle.pw_base.specs.declared.plan.Epoch.{Epoch}
-use Rattle.pw_base.specs.declared.plan.PortForm.{PortForm}
-use Rattle.pw_base.specs.declared.plan.Fresh.{Fresh}
-use Rattle.pw_base.specs.declared.plan.PlanNode.{PlanNode}
-use Rattle.pw_base.specs.declared.plan.Plan.{Plan}
+use Rattle.pw_graph.specs.declared.ids.PortId.{PortId}
+use Rattle.pw_graph.specs.declared.kind.Kind.{Kind}
+use Rattle.pw_graph.specs.declared.kind.Kind.TheVariants.{Source, Gain, Mix2, Delay, Split, Sink}
+use Rattle.pw_graph.specs.declared.shape.ShapeLink.{ShapeLink}
+use Rattle.pw_graph.specs.declared.plan.Epoch.{Epoch}
+use Rattle.pw_graph.specs.declared.plan.PortForm.{PortForm}
+use Rattle.pw_graph.specs.declared.plan.Fresh.{Fresh}
+use Rattle.pw_graph.specs.declared.plan.PlanNode.{PlanNode}
+use Rattle.pw_graph.specs.declared.plan.Plan.{Plan}
 use Rattle.wav_files.specs.declared.wav.WavIn.{WavIn}
 use Rattle.cycle_model.specs.Cycle.{outputs_after}
 use Rattle.cycle_model.specs.Rendering.{rendered_sinks}

@@ -3,13 +3,13 @@
 -- kinds are this project's.
 use Rattle.std.specs.Prelude.{ℕ, zero, suc, ◌+◌, ◌-◌, ◌*◌, ◌==◌, List, [], option_map, unwrap_or, map, fold, find, flat_map, length, drop}
 use Rattle.std.specs.Prelude.{ℤ, if◌then◌else◌}
-use Rattle.pw_base.specs.declared.ids.PortId.{PortId}
-use Rattle.pw_base.specs.declared.shape.ShapeLink.{ShapeLink}
-use Rattle.pw_base.specs.declared.plan.Plan.{Plan}
-use Rattle.pw_base.specs.Samples.{clamped, silence, summed}
-use Rattle.pw_base.specs.KindFunction.{KindInputs, kind_output}
-use Rattle.pw_base.specs.KindPorts.{input_count}
-pub use Rattle.pw_base.specs.PlanForms.{kind_at}
+use Rattle.pw_graph.specs.declared.ids.PortId.{PortId}
+use Rattle.pw_graph.specs.declared.shape.ShapeLink.{ShapeLink}
+use Rattle.pw_graph.specs.declared.plan.Plan.{Plan}
+use Rattle.pw_graph.specs.Samples.{clamped, silence, summed}
+use Rattle.pw_graph.specs.KindFunction.{KindInputs, kind_output}
+use Rattle.pw_graph.specs.KindPorts.{input_count}
+pub use Rattle.pw_graph.specs.PlanForms.{kind_at}
 use Rattle.wav_files.specs.declared.wav.WavIn.{WavIn}
 use Rattle.cycle_model.specs.Epochs.{links_into, channels_at, first_at, active_cycles, stream_start, all_cycles}
 

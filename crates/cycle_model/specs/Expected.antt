@@ -2,9 +2,9 @@
 -- Source: SPA_AUDIO_FORMAT_S16_LE; one pool an output port that has a link is this project's.
 use Rattle.std.specs.Prelude.{ℕ, List, All, map, slice_get, ℤ, pos, neg_ℤ, ◌≤ℤ◌}
 use Rattle.std.specs.List.{range_with_len}
-use Rattle.pw_base.specs.declared.plan.Epoch.{Epoch}
-use Rattle.pw_base.specs.declared.plan.Plan.{Plan}
-use Rattle.pw_base.specs.Pools.{pools_of}
+use Rattle.pw_graph.specs.declared.plan.Epoch.{Epoch}
+use Rattle.pw_graph.specs.declared.plan.Plan.{Plan}
+use Rattle.pw_graph.specs.Pools.{pools_of}
 use Rattle.wav_files.specs.declared.wav.WavIn.{WavIn}
 use Rattle.cycle_model.specs.Epochs.{listed}
 use Rattle.cycle_model.specs.Cycle.{outputs}

@@ -1,11 +1,11 @@
 -- The kind function by index: one sample of the whole stream at an output, and how long that stream
 -- is.
--- Source: this project's table of nodes; pw_base's kind function says the same by whole streams.
+-- Source: this project's table of nodes; pw_graph's kind function says the same by whole streams.
 use Rattle.std.specs.Prelude.{ℕ, ◌-◌, ◌*◌, ◌/◌, ◌%◌, min, List, length, ℤ, pos, nat_lt, slice_index, slice_index_or, if◌then◌else◌}
-use Rattle.pw_base.specs.declared.kind.Kind.{Kind}
-use Rattle.pw_base.specs.declared.kind.Kind.TheVariants.{Source, Square, Gain, Mix2, Delay, Map, Split, Sink, Meter, Dummy}
-use Rattle.pw_base.specs.Samples.{scaled, mixed, sample_at}
-use Rattle.pw_base.specs.KindFunction.{KindInputs, square_at}
+use Rattle.pw_graph.specs.declared.kind.Kind.{Kind}
+use Rattle.pw_graph.specs.declared.kind.Kind.TheVariants.{Source, Square, Gain, Mix2, Delay, Map, Split, Sink, Meter, Dummy}
+use Rattle.pw_graph.specs.Samples.{scaled, mixed, sample_at}
+use Rattle.pw_graph.specs.KindFunction.{KindInputs, square_at}
 use Rattle.cycle_model.specs.declared.received.Received.{Received}
 
 -- what a node has to work with: its wave, and what it has received

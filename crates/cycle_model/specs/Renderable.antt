@@ -1,16 +1,16 @@
 -- A plan that can be rendered: what the recursion of the cycle function needs. Source: this
 -- project's own.
 use Rattle.std.specs.Prelude.{◌≡◌, ◌<◌, ◌≤◌, ◌⊎◌, List, All, Contains, map, length}
-use Rattle.pw_base.specs.Limits.{nodes_limit, dummy_node}
-use Rattle.pw_base.specs.declared.shape.ShapeLink.{ShapeLink}
-use Rattle.pw_base.specs.declared.shape.ShapeNode.{ShapeNode}
-use Rattle.pw_base.specs.declared.plan.Epoch.{Epoch}
-use Rattle.pw_base.specs.declared.plan.Plan.{Plan}
-use Rattle.pw_base.specs.KindPorts.{input_count, port_count}
-use Rattle.pw_base.specs.KindRanges.{IsInRange}
-pub use Rattle.pw_base.specs.LinkOrder.{HasOrder}
-pub use Rattle.pw_base.specs.SoundPlan.{FollowFrom}
-use Rattle.pw_base.specs.PlanForms.{kind_at}
+use Rattle.pw_graph.specs.Limits.{nodes_limit, dummy_node}
+use Rattle.pw_graph.specs.declared.shape.ShapeLink.{ShapeLink}
+use Rattle.pw_graph.specs.declared.shape.ShapeNode.{ShapeNode}
+use Rattle.pw_graph.specs.declared.plan.Epoch.{Epoch}
+use Rattle.pw_graph.specs.declared.plan.Plan.{Plan}
+use Rattle.pw_graph.specs.KindPorts.{input_count, port_count}
+use Rattle.pw_graph.specs.KindRanges.{IsInRange}
+pub use Rattle.pw_graph.specs.LinkOrder.{HasOrder}
+pub use Rattle.pw_graph.specs.SoundPlan.{FollowFrom}
+use Rattle.pw_graph.specs.PlanForms.{kind_at}
 use Rattle.wav_files.specs.declared.wav.WavIn.{WavIn}
 use Rattle.cycle_model.specs.Epochs.{channels_of}
 use Rattle.cycle_model.specs.WavesFit.{WavesFit}

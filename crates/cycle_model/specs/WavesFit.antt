@@ -1,10 +1,10 @@
 -- The waves that a plan is rendered from: one for each of its sources and no other, each in the
 -- form of its source's port.
 use Rattle.std.specs.Prelude.{◌≡◌, ℕ, ◌==◌, List, All, count_by}
-use Rattle.pw_base.specs.declared.kind.Kind.TheVariants.{Source}
-use Rattle.pw_base.specs.declared.plan.PortForm.{PortForm}
-use Rattle.pw_base.specs.declared.plan.Plan.{Plan}
-use Rattle.pw_base.specs.PlanForms.{kind_at}
+use Rattle.pw_graph.specs.declared.kind.Kind.TheVariants.{Source}
+use Rattle.pw_graph.specs.declared.plan.PortForm.{PortForm}
+use Rattle.pw_graph.specs.declared.plan.Plan.{Plan}
+use Rattle.pw_graph.specs.PlanForms.{kind_at}
 use Rattle.wav_files.specs.declared.wav.WavIn.{WavIn}
 
 -- a form of the wave's node has the wave's rate and channels

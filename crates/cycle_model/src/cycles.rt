@@ -10,7 +10,8 @@ ghost use Rattle.cycle_model.specs.Renderable.{IsRenderable};
 use crate::order::order_of;
 use crate::received::{Given, Received, Setting};
 use crate::working::{release, work};
-use pw_base::{Epoch, Items, Memory, Plan};
+use pw_graph::{Epoch, Plan};
+use pw_lists::{Items, Memory};
 use std::alloc::Global;
 use wav_files::WavIn;
 

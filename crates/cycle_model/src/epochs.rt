@@ -3,7 +3,7 @@ ghost use Rattle.std.specs.Prelude.{◌≡◌};
 ghost use Rattle.cycle_model.specs.Epochs.{channels_of};
 ghost use Rattle.cycle_model.specs.Mixing.{takes_part};
 
-use pw_base::{Epoch, PortForm, PortId, is_same_port};
+use pw_graph::{Epoch, PortForm, PortId, is_same_port};
 
 /// Whether a node is one of the epoch's active nodes.
 pub fn takes_part(epoch: &Epoch, node: u32) -> bool

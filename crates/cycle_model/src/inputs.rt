@@ -1,11 +1,12 @@
 //! The input of a port in a cycle: what its links bring, added and then clamped once.
 ghost use Rattle.std.specs.Prelude.{◌≡◌, ℕ, ◌*◌, ◌<◌, ◌^◌, List, [], length, map, pos, min, IfOk, OnOk};
-ghost use Rattle.pw_base.specs.Samples.{clamped, silence, summed};
+ghost use Rattle.pw_graph.specs.Samples.{clamped, silence, summed};
 ghost use Rattle.cycle_model.specs.working.Known.{given_at, brought_by, input_by};
 
 use crate::epochs::channels_of;
 use crate::received::{Given, Setting};
-use pw_base::{Items, Memory, PortId, ShapeLink, is_same_port};
+use pw_graph::{PortId, ShapeLink, is_same_port};
+use pw_lists::{Items, Memory};
 use std::alloc::Global;
 
 /// What a port gave, nothing if it is not told.

@@ -3,14 +3,15 @@ ghost use Rattle.std.specs.Prelude.{◌≡◌, ℕ, ◌+◌, ◌-◌, ◌<◌, �
 ghost use Rattle.std.specs.Prelude.{unsigned_abs, nat_lt, if◌then◌else◌, slice_index_or, IfSome, IfOk};
 ghost use Rattle.std.specs.Int.{int_shr};
 ghost use Rattle.std.specs.List.{range_with_len};
-ghost use Rattle.pw_base.specs.Samples.{clamped, scaled, mixed, sample_at};
-ghost use Rattle.pw_base.specs.KindFunction.{kind_output, square_at};
-ghost use Rattle.pw_base.specs.KindRanges.{IsInRange};
+ghost use Rattle.pw_graph.specs.Samples.{clamped, scaled, mixed, sample_at};
+ghost use Rattle.pw_graph.specs.KindFunction.{kind_output, square_at};
+ghost use Rattle.pw_graph.specs.KindRanges.{IsInRange};
 ghost use Rattle.cycle_model.specs.Cycle.{last_of};
 ghost use Rattle.cycle_model.specs.KindSamples.{kind_inputs_of, kind_sample, kind_length};
 
 use crate::received::Received;
-use pw_base::{Items, Kind, Memory};
+use pw_graph::Kind;
+use pw_lists::{Items, Memory};
 use std::alloc::Global;
 
 /// A sample of a row: 0 past its end.

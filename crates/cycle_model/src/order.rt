@@ -1,11 +1,12 @@
 //! An order in which the nodes of an epoch can be worked out, one after the other.
 ghost use Rattle.std.specs.Prelude.{◌≡◌, ℕ, ◌<◌, true, false, All, length, slice_index_or, IfOk};
-ghost use Rattle.pw_base.specs.LinkOrder.{HasOrder, IsWithinNodes};
+ghost use Rattle.pw_graph.specs.LinkOrder.{HasOrder, IsWithinNodes};
 ghost use Rattle.cycle_model.specs.Mixing.{takes_part};
 ghost use Rattle.cycle_model.specs.working.NodeOrder.{IsOrder, IsWhole};
 
 use crate::epochs::takes_part;
-use pw_base::{Epoch, Items, Memory, NODES, find_free};
+use pw_graph::{Epoch, NODES, find_free};
+use pw_lists::{Items, Memory};
 use std::alloc::Global;
 
 /// Marks each active node.

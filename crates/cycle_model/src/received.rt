@@ -1,5 +1,6 @@
 //! What the reference program knows of ports and nodes.
-use pw_base::{Epoch, Items, PortId};
+use pw_graph::{Epoch, PortId};
+use pw_lists::Items;
 
 /// What an output port gave in one cycle.
 #[derive(Debug, Drop)]

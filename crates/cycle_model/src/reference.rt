@@ -1,7 +1,7 @@
 //! The reference program: a plan and its waves rendered in one thread, by index into whole streams.
 ghost use Rattle.std.specs.Prelude.{◌≡◌, [], ◌++◌, All, length, option_to_list, OnOk, IfOk};
-ghost use Rattle.pw_base.specs.Samples.{peak_of};
-ghost use Rattle.pw_base.specs.SoundPlan.{IsSoundPlan};
+ghost use Rattle.pw_graph.specs.Samples.{peak_of};
+ghost use Rattle.pw_graph.specs.SoundPlan.{IsSoundPlan};
 ghost use Rattle.wav_files.specs.WavWriting.{IsWave};
 ghost use Rattle.cycle_model.specs.working.Known.{kept_by, peak_by};
 ghost use Rattle.cycle_model.specs.Progress.{received_until, AreReceived};
@@ -12,7 +12,8 @@ ghost use Rattle.cycle_model.specs.Rendering.{is_meter, rendered_sinks, rendered
 
 use crate::cycles::all_received;
 use crate::received::Received;
-use pw_base::{Items, Kind, Memory, Plan, PlanNode, is_sink};
+use pw_graph::{Kind, Plan, PlanNode, is_sink};
+use pw_lists::{Items, Memory};
 use std::alloc::Global;
 use wav_files::{Kept, Outcome, Peak, Wav, WavIn};
 

@@ -1,11 +1,12 @@
 //! Whether waves fit a plan.
 ghost use Rattle.std.specs.Prelude.{◌≡◌, ℕ, ◌≤◌, ◌==◌, ◌↔◌, IsTrue, All, length, count_by};
-ghost use Rattle.pw_base.specs.Limits.{nodes_limit};
-ghost use Rattle.pw_base.specs.declared.kind.Kind.TheVariants.{Source};
-ghost use Rattle.pw_base.specs.PlanForms.{kind_at};
+ghost use Rattle.pw_graph.specs.Limits.{nodes_limit};
+ghost use Rattle.pw_graph.specs.declared.kind.Kind.TheVariants.{Source};
+ghost use Rattle.pw_graph.specs.PlanForms.{kind_at};
 ghost use Rattle.cycle_model.specs.WavesFit.{IsFormOf, IsWaveOfSource, WavesFit};
 
-use pw_base::{Epoch, Items, Kind, Plan, PortForm};
+use pw_graph::{Epoch, Kind, Plan, PortForm};
+use pw_lists::Items;
 use wav_files::WavIn;
 
 /// Whether a node is a source of the plan.

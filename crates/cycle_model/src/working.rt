@@ -1,8 +1,8 @@
 //! One cycle of one node: it receives its inputs, and then gives its outputs.
 ghost use Rattle.std.specs.Prelude.{◌≡◌, ℕ, ◌<◌, ◌≤◌, ◌++◌, length, slice_index_or, slice_set, OnOk, IfOk, if◌then◌else◌};
-ghost use Rattle.pw_base.specs.Limits.{nodes_limit};
-ghost use Rattle.pw_base.specs.KindPorts.{input_count, output_count};
-ghost use Rattle.pw_base.specs.KindRanges.{IsInRange};
+ghost use Rattle.pw_graph.specs.Limits.{nodes_limit};
+ghost use Rattle.pw_graph.specs.KindPorts.{input_count, output_count};
+ghost use Rattle.pw_graph.specs.KindRanges.{IsInRange};
 ghost use Rattle.cycle_model.specs.Cycle.{wave_of};
 ghost use Rattle.cycle_model.specs.Epochs.{is_fresh};
 ghost use Rattle.cycle_model.specs.working.Known.{received_more, all_given_by, is_released, released};
@@ -12,7 +12,8 @@ use crate::epochs::channels_of;
 use crate::inputs::{input_of, samples_in};
 use crate::kinds::last_given;
 use crate::received::{Given, Received, Setting};
-use pw_base::{Epoch, Items, Kind, Memory, PortId};
+use pw_graph::{Epoch, Kind, PortId};
+use pw_lists::{Items, Memory};
 use std::alloc::Global;
 use wav_files::WavIn;
 

@@ -5,9 +5,9 @@ use Rattle.std.specs.List.{AllZip, slice_split}
 use Rattle.std.proofs.lemmas.List.{take-append-le, take_all, get_or-append_right}
 use Rattle.std.proofs.lemmas.Slice.Zip.{all_zipped_more, AllZip-long}
 use Rattle.std.proofs.lemmas.Bool.{cond-true, cond-false, eq-eqb, ne_eqb}
-use Rattle.pw_base.specs.declared.event.Event.{Event}
+use Rattle.pw_graph.specs.declared.event.Event.{Event}
 use Rattle.cycle_trace.specs.TraceReading.{is_line_feed, without_empty_last, trace_lines, IsLineOf, IsNoLine, IsFirstFault}
-use Rattle.pw_base.proofs.PieceLemmas.{first_piece}
+use Rattle.pw_lists.proofs.PieceLemmas.{first_piece}
 
 -- the lines in front of a rest, and the events that they are the lines of
 pub record AreRead (names : List (List ℕ)) (bytes rest : List ℕ) (events : List Event) : Type 0 where

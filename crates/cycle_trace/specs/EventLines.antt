@@ -1,8 +1,8 @@
 -- The line of an event in a text. Source: the form is this project's own.
 use Rattle.std.specs.Prelude.{ℕ, ◌/◌, ◌%◌, ◌^◌, ◌==◌, List, [], ◌∷◌, map, filter, codes, decimal}
 use Rattle.std.specs.List.{range_with_len}
-use Rattle.pw_base.specs.declared.event.Event.{Event}
-use Rattle.pw_base.specs.declared.event.Event.TheVariants.{Begin, Start, Finish, Tick, End}
+use Rattle.pw_graph.specs.declared.event.Event.{Event}
+use Rattle.pw_graph.specs.declared.event.Event.TheVariants.{Begin, Start, Finish, Tick, End}
 use Rattle.cycle_trace.specs.NodeNames.{node_name}
 use Rattle.cycle_trace.specs.Words.{line}
 

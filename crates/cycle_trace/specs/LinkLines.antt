@@ -1,9 +1,9 @@
 -- The line of a `link` or `unlink` in a text. Source: the form is this project's own.
 use Rattle.std.specs.Prelude.{ℕ, List, [], ◌∷◌, codes, decimal}
-use Rattle.pw_base.specs.declared.plan.PlanNode.{PlanNode}
-use Rattle.pw_base.specs.declared.plan.LinkLine.{LinkLine}
-use Rattle.pw_base.specs.declared.plan.LineOutcome.{LineOutcome}
-use Rattle.pw_base.specs.declared.plan.LineOutcome.TheVariants.{Linked, NoFormat, NoBuffers, Looped, Twice, Gone, NotThere}
+use Rattle.pw_graph.specs.declared.plan.PlanNode.{PlanNode}
+use Rattle.pw_graph.specs.declared.plan.LinkLine.{LinkLine}
+use Rattle.pw_graph.specs.declared.plan.LineOutcome.{LineOutcome}
+use Rattle.pw_graph.specs.declared.plan.LineOutcome.TheVariants.{Linked, NoFormat, NoBuffers, Looped, Twice, Gone, NotThere}
 use Rattle.cycle_trace.specs.NodeNames.{endpoint}
 use Rattle.cycle_trace.specs.Words.{line}
 

@@ -1,11 +1,11 @@
 -- Names of nodes and ports in a text. Source: the form is this project's own.
 use Rattle.std.specs.Prelude.{ℕ, ◌==◌, if◌then◌else◌, List, [], ◌++◌, map, codes, slice_index_or}
-use Rattle.pw_base.specs.declared.ids.TheConstants.{DUMMY}
-use Rattle.pw_base.specs.declared.ids.PortId.{PortId}
-use Rattle.pw_base.specs.declared.kind.Kind.{Kind}
-use Rattle.pw_base.specs.declared.kind.Kind.TheVariants.{Dummy}
-use Rattle.pw_base.specs.declared.plan.PlanNode.{PlanNode}
-use Rattle.pw_base.specs.KindPorts.{port_name}
+use Rattle.pw_graph.specs.declared.ids.TheConstants.{DUMMY}
+use Rattle.pw_graph.specs.declared.ids.PortId.{PortId}
+use Rattle.pw_graph.specs.declared.kind.Kind.{Kind}
+use Rattle.pw_graph.specs.declared.kind.Kind.TheVariants.{Dummy}
+use Rattle.pw_graph.specs.declared.plan.PlanNode.{PlanNode}
+use Rattle.pw_graph.specs.KindPorts.{port_name}
 
 -- the name of the node at a place
 abbrev pub name_at : List PlanNode → ℕ → List ℕ

@@ -1,9 +1,9 @@
 -- The line of a sink or a meter in a text. Source: the form is this project's own.
 use Rattle.std.specs.Prelude.{ℕ, ◌/◌, ◌==◌, if◌then◌else◌, List, [], ◌∷◌, length, codes, decimal, find}
 use Rattle.std.specs.Option.{option_map_or}
-use Rattle.pw_base.specs.declared.kind.Kind.{Kind}
-use Rattle.pw_base.specs.declared.kind.Kind.TheVariants.{Sink, Meter}
-use Rattle.pw_base.specs.declared.plan.PlanNode.{PlanNode}
+use Rattle.pw_graph.specs.declared.kind.Kind.{Kind}
+use Rattle.pw_graph.specs.declared.kind.Kind.TheVariants.{Sink, Meter}
+use Rattle.pw_graph.specs.declared.plan.PlanNode.{PlanNode}
 use Rattle.wav_files.specs.declared.outcome.Outcome.{Outcome}
 use Rattle.cycle_trace.specs.Words.{line}
 

@@ -1,8 +1,8 @@
 -- The whole text of a run. Source: the form is this project's own.
 use Rattle.std.specs.Prelude.{ℕ, List, [], ◌++◌, map, flat_map, Option, unwrap_or}
 use Rattle.std.specs.List.{enumerate_from}
-use Rattle.pw_base.specs.declared.plan.Plan.{Plan}
-use Rattle.pw_base.specs.declared.event.Event.{Event}
+use Rattle.pw_graph.specs.declared.plan.Plan.{Plan}
+use Rattle.pw_graph.specs.declared.event.Event.{Event}
 use Rattle.wav_files.specs.declared.outcome.Outcome.{Outcome}
 use Rattle.cycle_trace.specs.LinkLines.{link_line}
 use Rattle.cycle_trace.specs.EventLines.{event_line}

@@ -1,11 +1,11 @@
 -- Reading a trace: which events its lines are the lines of, and its first line that is none.
 -- Source: the form is this project's own.
 use Rattle.std.specs.Prelude.{Bool, false, ◌≡◌, ◌≢◌, ℕ, ◌-◌, ◌^◌, ◌<◌, ◌≤◌, ◌==◌, if◌then◌else◌, List, [], ◌∷◌}
-use Rattle.pw_base.specs.Limits.{nodes_limit}
+use Rattle.pw_graph.specs.Limits.{nodes_limit}
 use Rattle.std.specs.Prelude.{◌++◌, length, take, All, AllPairs, codes, slice_index_or}
 use Rattle.std.specs.List.{slice_split, AllZip}
-use Rattle.pw_base.specs.declared.event.Event.{Event}
-use Rattle.pw_base.specs.declared.event.Event.TheVariants.{Begin, Start, Finish, Tick, End}
+use Rattle.pw_graph.specs.declared.event.Event.{Event}
+use Rattle.pw_graph.specs.declared.event.Event.TheVariants.{Begin, Start, Finish, Tick, End}
 use Rattle.cycle_trace.specs.declared.event_reading.TraceFault.{TraceFault}
 use Rattle.cycle_trace.specs.declared.event_reading.TraceFault.TheVariants.{Line, Memory}
 use Rattle.cycle_trace.specs.Printable.{NamesNodes}

@@ -6,7 +6,8 @@ ghost use Rattle.cycle_trace.specs.NodeNames.{node_name};
 ghost use Rattle.cycle_trace.specs.Words.{spaced};
 
 use crate::words::{append_number, append_word, end_line};
-use pw_base::{DUMMY, Event, Memory, Text};
+use pw_graph::{DUMMY, Event};
+use pw_lists::{Memory, Text};
 
 /// The name of a node.
 fn name_of(names: &[Text], node: u32) -> &[u8]

@@ -1,9 +1,9 @@
 //! The events that the lines of a trace tell.
 ghost use Rattle.std.specs.Prelude.{◌≡◌, ℕ, ◌<◌, ◌≤◌, ◌/◌, ◌%◌, ◌^◌, ◌↔◌, List, [], ◌∷◌, ◌++◌, length, decimal};
-ghost use Rattle.pw_base.specs.Limits.{nodes_limit};
+ghost use Rattle.pw_graph.specs.Limits.{nodes_limit};
 ghost use Rattle.std.specs.Prelude.{Some, IsTrue, IfOk, IfErr, IfSome, MatchOption};
 ghost use Rattle.std.specs.List.{AllZip, slice_split};
-ghost use Rattle.pw_base.specs.declared.event.Event.{Event};
+ghost use Rattle.pw_graph.specs.declared.event.Event.{Event};
 ghost use Rattle.cycle_trace.specs.TraceReading.{is_space, trace_lines, IsLineOf, IsNoLine, IsFaultOf, AreNames, NumbersFit};
 ghost use Rattle.cycle_trace.specs.EventLines.{event_line};
 ghost use Rattle.cycle_trace.specs.working.EventWords.{event_said};
@@ -12,7 +12,8 @@ ghost use Rattle.cycle_trace.specs.declared.event_reading.TraceFault.TheVariants
 
 use crate::event_lines::append_event_line;
 use crate::event_words::{event_said, number_said};
-use pw_base::{DUMMY, Event, Items, Memory, Text, next_piece};
+use pw_graph::{DUMMY, Event};
+use pw_lists::{Items, Memory, Text, next_piece};
 use std::alloc::Global;
 
 /// Why the events of a trace cannot be read.

@@ -1,12 +1,13 @@
 //! The event that the words of a line name.
 ghost use Rattle.std.specs.Prelude.{◌≡◌, ℕ, ◌<◌, ◌≤◌, ◌^◌, [], length, decimal, IfSome, Some};
-ghost use Rattle.pw_base.specs.Limits.{nodes_limit};
+ghost use Rattle.pw_graph.specs.Limits.{nodes_limit};
 ghost use Rattle.std.specs.Option.{option_map_or};
 ghost use Rattle.std.specs.List.{slice_split};
 ghost use Rattle.cycle_trace.specs.TraceReading.{is_space, NumbersFit};
 ghost use Rattle.cycle_trace.specs.working.EventWords.{node_said, one_node_said, late_said, alone, event_said};
 
-use pw_base::{DUMMY, Event, Text, next_piece, place_of_name};
+use pw_graph::{DUMMY, Event};
+use pw_lists::{Text, next_piece, place_of_name};
 
 /// The number that a word is in plain decimal. What it says of other words is not told.
 pub(crate) fn number_said(word: &[u8]) -> Option<u32>

@@ -6,7 +6,8 @@ ghost use Rattle.cycle_trace.specs.NodeNames.{endpoint};
 ghost use Rattle.cycle_trace.specs.Words.{spaced};
 
 use crate::words::{append_number, append_word, end_line};
-use pw_base::{LineOutcome, LinkLine, Memory, PlanNode, PortId, Text};
+use pw_graph::{LineOutcome, LinkLine, PlanNode, PortId};
+use pw_lists::{Memory, Text};
 
 /// Appends a space and a port, as `NODE.PORT`.
 fn append_endpoint(nodes: &[PlanNode], at: PortId, text: &mut Text) -> Result<(), Memory>

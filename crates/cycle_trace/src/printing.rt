@@ -7,7 +7,8 @@ ghost use Rattle.cycle_trace.specs.RunText.{run_text_of};
 use crate::event_lines::append_event_lines;
 use crate::link_lines::append_link_lines;
 use crate::result_lines::append_result_lines;
-use pw_base::{Event, Items, Memory, Plan, PlanNode, Text};
+use pw_graph::{Event, Plan, PlanNode};
+use pw_lists::{Items, Memory, Text};
 use std::alloc::Global;
 use wav_files::Outcome;
 

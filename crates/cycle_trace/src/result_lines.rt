@@ -5,7 +5,8 @@ ghost use Rattle.cycle_trace.specs.ResultLines.{sink_frames, meter_peak, result_
 ghost use Rattle.cycle_trace.specs.Words.{line};
 
 use crate::words::{append_number, append_word, end_line};
-use pw_base::{Kind, Memory, PlanNode, Text};
+use pw_graph::{Kind, PlanNode};
+use pw_lists::{Memory, Text};
 use wav_files::{Kept, Outcome, Peak, Wav};
 
 /// What the node at a place has kept.

@@ -1,7 +1,7 @@
 //! Words and numbers at the end of a text.
 ghost use Rattle.std.specs.Prelude.{◌≡◌, [], ◌∷◌, ◌++◌, decimal, OnOk};
 
-use pw_base::{Memory, Text, append_decimal};
+use pw_lists::{Memory, Text, append_decimal};
 
 /// Appends a space and a word.
 pub(crate) fn append_word(text: &mut Text, word: &[u8]) -> Result<(), Memory>

@@ -5,12 +5,12 @@ use Rattle.std.specs.Prelude.{All, Contains}
 use Rattle.std.proofs.lemmas.Bool.{and_parts, and_from, eq-eqb, or_left}
 use Rattle.std.proofs.lemmas.List.{get_or-replicate, get_or-map, get_or_default, length-replicate, length-map}
 use Rattle.atomic_table.specs.Seated.{TableId}
-use Rattle.pw_base.specs.declared.plan.Epoch.{Epoch}
-use Rattle.pw_base.specs.declared.plan.Plan.{Plan}
-use Rattle.pw_base.specs.declared.shape.Shape.{Shape}
-use Rattle.pw_base.specs.Dependencies.{nodes_of}
-use Rattle.pw_base.specs.PlanFresh.{IsEpoch}
-use Rattle.pw_base.specs.Pools.{pools_of}
+use Rattle.pw_graph.specs.declared.plan.Epoch.{Epoch}
+use Rattle.pw_graph.specs.declared.plan.Plan.{Plan}
+use Rattle.pw_graph.specs.declared.shape.Shape.{Shape}
+use Rattle.pw_graph.specs.Dependencies.{nodes_of}
+use Rattle.pw_graph.specs.PlanFresh.{IsEpoch}
+use Rattle.pw_graph.specs.Pools.{pools_of}
 use Rattle.cycle_model.specs.Epochs.{all_cycles}
 use Rattle.cycle_model.specs.Expected.{expected_samples}
 use Rattle.cycle_model.specs.Mixing.{takes_part}

@@ -3,8 +3,8 @@ use Rattle.std.proofs.Common.{◌≡◌, ℕ, ℤ, ◌<◌, List, length, get_or
 use Rattle.std.proofs.Common.{get_or-set_other}
 use Rattle.std.specs.Vec.{with_item}
 use Rattle.std.proofs.lemmas.List.{get_or_default}
-use Rattle.pw_base.specs.declared.kind.Kind.TheVariants.{Sink}
-use Rattle.pw_base.specs.PlanForms.{kind_at}
+use Rattle.pw_graph.specs.declared.kind.Kind.TheVariants.{Sink}
+use Rattle.pw_graph.specs.PlanForms.{kind_at}
 use Rattle.cycle_model.specs.Epochs.{all_cycles}
 use Rattle.node_state.specs.declared.node_state.NodeState.{NodeState}
 use Rattle.node_state.specs.StandsFor.{kept_stream}

@@ -8,9 +8,9 @@ use Rattle.std.proofs.lemmas.Bool.{cases_eq, cases_lt}
 use Rattle.std.proofs.lemmas.List.{with_items_is, get_or_default}
 use Rattle.std.proofs.lemmas.Option.{same_Some, slice_get-get_or, slice_get_past, slice_get_within}
 use Rattle.atomic_table.specs.Seated.{TableId}
-use Rattle.pw_base.specs.declared.plan.Epoch.{Epoch}
-use Rattle.pw_base.specs.declared.plan.Plan.{Plan}
-use Rattle.pw_base.specs.PlanFresh.{IsEpoch}
+use Rattle.pw_graph.specs.declared.plan.Epoch.{Epoch}
+use Rattle.pw_graph.specs.declared.plan.Plan.{Plan}
+use Rattle.pw_graph.specs.PlanFresh.{IsEpoch}
 use Rattle.board_rule.specs.Layout.{BoardLayout}
 use Rattle.node_state.specs.declared.node_state.NodeState.{NodeState}
 use Rattle.node_progress.specs.NodeStates.{IsNodeState}

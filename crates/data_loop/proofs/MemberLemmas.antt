@@ -5,8 +5,8 @@ use Rattle.std.specs.List.{enumerate_from}
 use Rattle.std.proofs.lemmas.List.{length-map, get_or-map}
 use Rattle.std.proofs.lemmas.List.FromFn.{length-enumerate_from, get_or-enumerate_from}
 use Rattle.std.proofs.lemmas.List.Kept.{AllPairs-filter}
-use Rattle.pw_base.specs.declared.plan.Epoch.{Epoch}
-use Rattle.pw_base.specs.declared.plan.Plan.{Plan}
+use Rattle.pw_graph.specs.declared.plan.Epoch.{Epoch}
+use Rattle.pw_graph.specs.declared.plan.Plan.{Plan}
 use Rattle.data_loop.specs.declared.member.Member.{Member}
 use Rattle.data_loop.specs.Members.{member_of, has_role, members_by}
 use Rattle.data_loop.specs.Stages.{AreApart}

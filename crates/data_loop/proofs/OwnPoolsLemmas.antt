@@ -7,8 +7,8 @@ use Rattle.std.proofs.lemmas.Bool.{cases_Bool, cases_order}
 use Rattle.std.proofs.lemmas.List.{get_or-map, length-map}
 use Rattle.std.proofs.lemmas.List.Filters.{length-filter_more}
 use Rattle.std.proofs.lemmas.List.FromFn.{length-enumerate_from, get_or-enumerate_from}
-use Rattle.pw_base.specs.declared.pools.PoolShape.{PoolShape}
-use Rattle.pw_base.specs.declared.shape.Shape.{Shape}
+use Rattle.pw_graph.specs.declared.pools.PoolShape.{PoolShape}
+use Rattle.pw_graph.specs.declared.shape.Shape.{Shape}
 use Rattle.board_rule.specs.buffers.EndViews.{no_pool}
 use Rattle.buffer_pool.specs.Queue.{Queue}
 use Rattle.io_areas.specs.FreeBlocks.{free_at_start}

@@ -5,16 +5,16 @@ use Rattle.std.specs.Prelude.{All, fold}
 use Rattle.std.proofs.lemmas.List.{length-map}
 use Rattle.std.proofs.lemmas.List.Elements.{All-head, All-tail, All-map, All-filter}
 use Rattle.std.proofs.lemmas.List.Sums.{sum_by-cons}
-use Rattle.pw_base.specs.declared.ids.PortId.{PortId}
-use Rattle.pw_base.specs.declared.pools.PoolShape.{PoolShape}
-use Rattle.pw_base.specs.declared.plan.Epoch.{Epoch}
-use Rattle.pw_base.specs.declared.plan.Plan.{Plan}
-use Rattle.pw_base.specs.declared.shape.Shape.{Shape}
-use Rattle.pw_base.specs.declared.shape.ShapeLink.{ShapeLink}
-use Rattle.pw_base.specs.PlanSums.{epoch_events}
-use Rattle.pw_base.specs.Pools.{pools_of, sources_of, pool_of, blocks_of, asked, links_from, is_same_port, IsPooledShape}
-use Rattle.pw_base.specs.SoundPlan.{IsSoundPlan}
-use Rattle.pw_base.proofs.LayoutLemmas.{pools_have_blocks}
+use Rattle.pw_graph.specs.declared.ids.PortId.{PortId}
+use Rattle.pw_graph.specs.declared.pools.PoolShape.{PoolShape}
+use Rattle.pw_graph.specs.declared.plan.Epoch.{Epoch}
+use Rattle.pw_graph.specs.declared.plan.Plan.{Plan}
+use Rattle.pw_graph.specs.declared.shape.Shape.{Shape}
+use Rattle.pw_graph.specs.declared.shape.ShapeLink.{ShapeLink}
+use Rattle.pw_graph.specs.PlanSums.{epoch_events}
+use Rattle.pw_graph.specs.Pools.{pools_of, sources_of, pool_of, blocks_of, asked, links_from, is_same_port, IsPooledShape}
+use Rattle.pw_graph.specs.SoundPlan.{IsSoundPlan}
+use Rattle.pw_graph.proofs.LayoutLemmas.{pools_have_blocks}
 use Rattle.board_rule.proofs.buffers.PortLemmas.{few_ports}
 
 most_asked : {X : Type 0} (f : X → ℕ) (m a : ℕ) (xs : List X) → a ≤ m → All (λ x. f x ≤ m) xs → fold (λ top x. max top (f x)) a xs ≤ m

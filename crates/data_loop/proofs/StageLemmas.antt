@@ -5,7 +5,7 @@ use Rattle.std.specs.Prelude.{All}
 use Rattle.std.proofs.lemmas.Bool.{cases_eq, cases_lt}
 use Rattle.std.proofs.lemmas.List.{get_or_default}
 use Rattle.atomic_table.specs.Seated.{TableId}
-use Rattle.pw_base.specs.declared.shape.Shape.{Shape}
+use Rattle.pw_graph.specs.declared.shape.Shape.{Shape}
 use Rattle.board_rule.specs.declared.view.Phase.TheVariants.{Awake}
 use Rattle.board_rule.specs.declared.view.NodeView.{NodeView}
 use Rattle.board_rule.specs.declared.view.View.{View}

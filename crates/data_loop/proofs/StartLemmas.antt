@@ -4,13 +4,13 @@ use Rattle.std.proofs.Common.{Some, slice_get, option_map, unwrap_or, sum_by}
 use Rattle.std.specs.Prelude.{All, AllPairs, Vec}
 use Rattle.std.specs.Vec.{vec_capacity}
 use Rattle.std.proofs.lemmas.Option.{get_or_from_slice_get, slice_get_within}
-use Rattle.pw_base.specs.declared.plan.Epoch.{Epoch}
-use Rattle.pw_base.specs.PlanFresh.{IsEpoch}
-use Rattle.pw_base.specs.SoundPlan.{IsSoundPlan, FollowFrom}
+use Rattle.pw_graph.specs.declared.plan.Epoch.{Epoch}
+use Rattle.pw_graph.specs.PlanFresh.{IsEpoch}
+use Rattle.pw_graph.specs.SoundPlan.{IsSoundPlan, FollowFrom}
 use Rattle.cycle_model.specs.WavesFit.{WavesFit}
 use Rattle.std.proofs.lemmas.Bool.{cases_lt}
 use Rattle.std.proofs.lemmas.List.{get_or_append_left, get_or_push, get_or-map, length-map, same_lists, nil_from_length}
-use Rattle.pw_base.specs.declared.plan.Plan.{Plan}
+use Rattle.pw_graph.specs.declared.plan.Plan.{Plan}
 use Rattle.board_rule.specs.Known.{Known}
 use Rattle.node_state.specs.declared.node_state.NodeState.{NodeState}
 use Rattle.node_progress.specs.declared.score.Score.{Score}

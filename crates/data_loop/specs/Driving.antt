@@ -3,7 +3,7 @@
 -- Source: PipeWire's documentation, "Graph Scheduling" and "SPA Buffers"; the calls are this
 -- project's own.
 use Rattle.std.specs.Prelude.{◌≡◌, ◌≢◌, ℕ, ◌+◌, ◌<◌, true, length}
-use Rattle.pw_base.specs.Layout.{event_count}
+use Rattle.pw_graph.specs.Layout.{event_count}
 use Rattle.cycle_model.specs.Expected.{epoch_rows}
 use Rattle.board_rule.specs.declared.view.DriverPhase.TheVariants.{FinishStored}
 use Rattle.board_rule.specs.declared.view.View.{View}

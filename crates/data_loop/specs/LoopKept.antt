@@ -1,8 +1,8 @@
 -- What the nodes of a loop keep, at any time and at the end of the run.
 -- Source: this project's own: sinks keep the streams that come to them, meters their peaks.
 use Rattle.std.specs.Prelude.{◌≡◌, ◌≢◌, ℕ, ℤ, ◌<◌, List, length, slice_index_or}
-use Rattle.pw_base.specs.KindFunction.{KindInputs}
-use Rattle.pw_base.specs.Samples.{peak_of}
+use Rattle.pw_graph.specs.KindFunction.{KindInputs}
+use Rattle.pw_graph.specs.Samples.{peak_of}
 use Rattle.cycle_model.specs.Rendering.{end_stream}
 use Rattle.node_state.specs.declared.node_state.NodeState.{NodeState}
 use Rattle.node_state.specs.StandsFor.{StandsFor, node_kind, kept_stream}

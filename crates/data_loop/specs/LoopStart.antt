@@ -1,7 +1,7 @@
 -- A loop before the first epoch.
 -- Source: PipeWire's documentation, "Data loops"; which loop has a node is this project's own.
 use Rattle.std.specs.Prelude.{◌≡◌, ℕ, ◌<◌, List, length, map, slice_index, slice_index_or}
-use Rattle.pw_base.specs.declared.plan.Plan.{Plan}
+use Rattle.pw_graph.specs.declared.plan.Plan.{Plan}
 use Rattle.wav_files.specs.declared.wav.WavIn.{WavIn}
 use Rattle.board_rule.specs.Known.{Known}
 use Rattle.node_state.specs.declared.node_state.NodeState.{NodeState}

@@ -2,7 +2,7 @@
 -- run.
 -- Source: PipeWire's documentation, "Graph Scheduling"; the order is this project's own.
 use Rattle.std.specs.Prelude.{◌≡◌, ◌≢◌, ℕ, ◌+◌, min, Bool, not, eqb, List, ◌∷◌, ◌++◌, All, Contains, fold, map, filter}
-use Rattle.pw_base.specs.Words.{triggered_word}
+use Rattle.pw_graph.specs.Words.{triggered_word}
 use Rattle.board_rule.specs.declared.view.Found.{Found}
 use Rattle.board_rule.specs.declared.view.View.{View}
 use Rattle.board_rule.specs.Layout.{BoardLayout, last}

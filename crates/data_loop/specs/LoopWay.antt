@@ -2,8 +2,8 @@
 -- Source: PipeWire's documentation, "Data loops"; that a loop has a board an epoch is this
 -- project's own.
 use Rattle.std.specs.Prelude.{◌≡◌, ◌⊎◌, ℕ, ◌<◌, ◌≤◌, suc, List, Some, Contains, length, slice_get}
-use Rattle.pw_base.specs.declared.plan.Epoch.{Epoch}
-use Rattle.pw_base.specs.PlanFresh.{IsEpoch}
+use Rattle.pw_graph.specs.declared.plan.Epoch.{Epoch}
+use Rattle.pw_graph.specs.PlanFresh.{IsEpoch}
 use Rattle.board_rule.specs.declared.board.Board.{Board}
 use Rattle.board_rule.specs.OnBoard.{layout, table_of}
 use Rattle.ready_queues.specs.declared.way.Way.{Way}

@@ -2,10 +2,10 @@
 -- Source: PipeWire's documentation, "Graph Scheduling" and "Data loops"; which loop has a node is
 -- this project's own.
 use Rattle.std.specs.Prelude.{◌≡◌, ℕ, ◌+◌, ◌<◌, ◌≤◌, [], All, AllPairs, Some, length, slice_get, slice_index, slice_index_or, vec_capacity}
-use Rattle.pw_base.specs.declared.plan.Epoch.{Epoch}
-use Rattle.pw_base.specs.declared.plan.Plan.{Plan}
-use Rattle.pw_base.specs.PlanFresh.{IsEpoch}
-use Rattle.pw_base.specs.SoundPlan.{IsSoundPlan}
+use Rattle.pw_graph.specs.declared.plan.Epoch.{Epoch}
+use Rattle.pw_graph.specs.declared.plan.Plan.{Plan}
+use Rattle.pw_graph.specs.PlanFresh.{IsEpoch}
+use Rattle.pw_graph.specs.SoundPlan.{IsSoundPlan}
 use Rattle.cycle_model.specs.WavesFit.{WavesFit}
 use Rattle.node_state.specs.declared.node_state.NodeState.{NodeState}
 use Rattle.node_progress.specs.NodeStates.{IsNodeState, first_of}

@@ -3,10 +3,10 @@
 -- Source: PipeWire's documentation, "Graph Scheduling"; which loop has a node is this project's
 -- own.
 use Rattle.std.specs.Prelude.{◌≡◌, ℕ, ◌<◌, List, [], All, Option, None, option_map, length, map, slice_get, slice_index_or, unwrap_or}
-use Rattle.pw_base.specs.declared.plan.Epoch.{Epoch}
-use Rattle.pw_base.specs.declared.plan.Plan.{Plan}
-use Rattle.pw_base.specs.Pools.{pools_of}
-use Rattle.pw_base.specs.PlanFresh.{IsEpoch}
+use Rattle.pw_graph.specs.declared.plan.Epoch.{Epoch}
+use Rattle.pw_graph.specs.declared.plan.Plan.{Plan}
+use Rattle.pw_graph.specs.Pools.{pools_of}
+use Rattle.pw_graph.specs.PlanFresh.{IsEpoch}
 use Rattle.io_areas.specs.FreeBlocks.{free_at_start}
 use Rattle.board_rule.specs.Known.{Known}
 use Rattle.node_progress.specs.Restarts.{restart_of}

@@ -4,9 +4,9 @@
 -- own.
 use Rattle.std.specs.Prelude.{◌≡◌, ◌≢◌, ℕ, ◌<◌, List, All, AllPairs, length, true, slice_index_or}
 use Rattle.atomic_table.specs.Seated.{TableId}
-use Rattle.pw_base.specs.declared.plan.Epoch.{Epoch}
-use Rattle.pw_base.specs.PlanFresh.{IsEpoch}
-use Rattle.pw_base.specs.SoundPlan.{IsSoundPlan}
+use Rattle.pw_graph.specs.declared.plan.Epoch.{Epoch}
+use Rattle.pw_graph.specs.PlanFresh.{IsEpoch}
+use Rattle.pw_graph.specs.SoundPlan.{IsSoundPlan}
 use Rattle.cycle_model.specs.Expected.{epoch_rows}
 use Rattle.cycle_model.specs.WavesFit.{WavesFit}
 use Rattle.node_state.specs.declared.node_state.NodeState.{NodeState}

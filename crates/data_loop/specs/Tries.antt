@@ -1,7 +1,7 @@
 -- A try of a member of a loop: what it does.
 -- Source: PipeWire's documentation, "Graph Scheduling"; the calls are this project's own.
 use Rattle.std.specs.Prelude.{◌≡◌, ◌≢◌, ℕ, [], slice_index_or}
-use Rattle.pw_base.specs.Words.{triggered_word}
+use Rattle.pw_graph.specs.Words.{triggered_word}
 use Rattle.board_rule.specs.Layout.{BoardLayout, last}
 use Rattle.board_rule.specs.View.{node_of}
 use Rattle.board_rule.specs.Steps.{tried}

@@ -14,7 +14,7 @@ use activation_words::{finish, start};
 use board_rule::{Board, DriverSeat};
 use node_progress::{NodeCycle, work};
 use node_state::NodeState;
-use pw_base::Gate;
+use pw_outside::Gate;
 
 /// The turn of the driver's node that is awake in this moment, and works in it: Start, the gate,
 /// all links into it read, one quantum processed, Finish. It has no outputs. Takes no memory, does

@@ -8,7 +8,7 @@ ghost use Rattle.data_loop.specs.working.Giving.{AllPut};
 use crate::own_pools::OwnPools;
 use board_rule::{Board, LoopSeat};
 use io_areas::write_output;
-use pw_base::PoolShape;
+use pw_graph::PoolShape;
 
 // The row of a pool.
 fn row_for<'a>(shape: &PoolShape, first_output: u32, left: &'a [i16], right: &'a [i16]) -> &'a [i16]

@@ -9,7 +9,7 @@ use crate::driving::{pass_driver, play_driver};
 use crate::loop_state::LoopState;
 use crate::moment::Moment;
 use board_rule::{Board, BoardSeat, DriverSeat};
-use pw_base::Gate;
+use pw_outside::Gate;
 
 impl LoopState {
     /// The turn of the driver's node, which was claimed, from its Start to its Finish, on the board

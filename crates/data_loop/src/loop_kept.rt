@@ -1,12 +1,12 @@
 //! What the nodes of a loop have kept.
 ghost use Rattle.std.specs.Prelude.{◌≡◌, ◌<◌, ◌↔◌, ℕ, Contains, IfNone, IfSome, IsTrue, length, slice_index};
-ghost use Rattle.pw_base.specs.declared.kind.Kind.TheVariants.{Sink, Meter};
-ghost use Rattle.pw_base.specs.PlanForms.{kind_at};
+ghost use Rattle.pw_graph.specs.declared.kind.Kind.TheVariants.{Sink, Meter};
+ghost use Rattle.pw_graph.specs.PlanForms.{kind_at};
 ghost use Rattle.data_loop.specs.Loops.{IsLoop, plan_of};
 ghost use Rattle.data_loop.specs.LoopKept.{Keeps, KeepsAtEnd, HasTaken, HasPeak, HasPeakAtEnd};
 
 use crate::loop_state::LoopState;
-use pw_base::Items;
+use pw_lists::Items;
 use std::alloc::Global;
 
 // The index of a number in a list, if it is there.

@@ -1,6 +1,6 @@
 //! One loop of a run.
 ghost use Rattle.std.specs.Prelude.{◌≡◌, ◌<◌, AllPairs, All, IfOk, length};
-ghost use Rattle.pw_base.specs.SoundPlan.{IsSoundPlan};
+ghost use Rattle.pw_graph.specs.SoundPlan.{IsSoundPlan};
 ghost use Rattle.cycle_model.specs.WavesFit.{WavesFit};
 ghost use Rattle.data_loop.specs.Loops.{IsBetweenEpochs};
 ghost use Rattle.data_loop.specs.LoopStart.{AreFirstStates, IsLoopOf};
@@ -13,7 +13,8 @@ use crate::tables::{room_for, tables_of};
 use board_rule::LoopSeat;
 use node_progress::{Score, prepare_node};
 use node_state::NodeState;
-use pw_base::{Items, Memory, Plan};
+use pw_graph::Plan;
+use pw_lists::{Items, Memory};
 use std::alloc::Global;
 use wav_files::WavIn;
 

@@ -10,7 +10,8 @@ use crate::loop_state::LoopState;
 use crate::scene::Scene;
 use crate::tables::tell;
 use board_rule::Board;
-use pw_base::{Gate, Items};
+use pw_lists::Items;
+use pw_outside::Gate;
 
 impl LoopState {
     /// One turn on the board of the loop's epoch: the followers that have cycles left are tried,

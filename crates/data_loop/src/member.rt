@@ -1,6 +1,6 @@
 //! A node of a loop in an epoch.
 use crate::inputs::Input;
-use pw_base::Items;
+use pw_lists::Items;
 
 /// A node of a loop: the links that it reads and the pools that it fills, by number, ascending, and
 /// how many samples a quantum has at each of its ports.

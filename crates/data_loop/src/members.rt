@@ -1,10 +1,10 @@
 //! How the members of a loop in an epoch are made.
 ghost use Rattle.std.specs.Prelude.{◌≡◌, ◌≤◌, IfOk, length};
 ghost use Rattle.std.specs.List.{list_any};
-ghost use Rattle.pw_base.specs.Limits.{nodes_limit, links_limit};
-ghost use Rattle.pw_base.specs.KindPorts.{input_count};
-ghost use Rattle.pw_base.specs.PlanForms.{kind_at};
-ghost use Rattle.pw_base.specs.Pools.{pools_of, is_same_port};
+ghost use Rattle.pw_graph.specs.Limits.{nodes_limit, links_limit};
+ghost use Rattle.pw_graph.specs.KindPorts.{input_count};
+ghost use Rattle.pw_graph.specs.PlanForms.{kind_at};
+ghost use Rattle.pw_graph.specs.Pools.{pools_of, is_same_port};
 ghost use Rattle.cycle_model.specs.Epochs.{channels_of};
 ghost use Rattle.data_loop.specs.turns.Ends.{fills_of};
 ghost use Rattle.data_loop.specs.Gathering.{inputs_of};
@@ -13,7 +13,8 @@ ghost use Rattle.data_loop.specs.Members.{input_width, is_read, output_width, me
 use crate::inputs::Input;
 use crate::member::Member;
 use node_progress::{takes_part, works_in};
-use pw_base::{Epoch, Items, Memory, Plan, PoolShape, PortForm, PortId, Shape, is_same_port};
+use pw_graph::{Epoch, Plan, PoolShape, PortForm, PortId, Shape, is_same_port};
+use pw_lists::{Items, Memory};
 use std::alloc::Global;
 
 // The links into a node, each with its input, ascending.

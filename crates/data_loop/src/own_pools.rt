@@ -1,12 +1,13 @@
 //! The pools that the nodes of a loop fill in an epoch.
 ghost use Rattle.std.specs.Prelude.{◌≡◌, ◌≤◌, if◌then◌else◌, All, IfOk, length, map};
-ghost use Rattle.pw_base.specs.Limits.{links_limit, buffers_limit};
+ghost use Rattle.pw_graph.specs.Limits.{links_limit, buffers_limit};
 ghost use Rattle.io_areas.specs.FreeBlocks.{free_at_start};
 ghost use Rattle.data_loop.specs.OwnPools.{is_among, own_pools, own_places, AreFirstPools};
 
 use buffer_pool::Pool;
 use io_areas::free_at_start;
-use pw_base::{Items, Memory, PoolShape, Shape};
+use pw_graph::{PoolShape, Shape};
+use pw_lists::{Items, Memory};
 use std::alloc::Global;
 
 /// The pools that the nodes of a loop fill in an epoch, each with its free blocks; those of other

@@ -16,7 +16,7 @@ use crate::stage::Stage;
 use crate::tried::Tried;
 use board_rule::{Board, BoardSeat};
 use node_state::NodeState;
-use pw_base::Gate;
+use pw_outside::Gate;
 
 // Whether a pass tries a member that has ended `ended` cycles: with `at` where these are `least`,
 // without where they are not.

@@ -17,7 +17,7 @@ use activation_words::{finish, start};
 use board_rule::LoopSeat;
 use node_progress::{NodeCycle, work};
 use node_state::NodeState;
-use pw_base::Gate;
+use pw_outside::Gate;
 
 // One cycle of the node's state, from rows of its inputs to rows of its outputs that may be longer
 // than these are wide.

@@ -6,7 +6,7 @@ ghost use Rattle.data_loop.specs.StageParts.{IsStageWithin};
 use crate::member::Member;
 use crate::rows::Rows;
 use crate::stage::Stage;
-use pw_base::{Items, Memory};
+use pw_lists::{Items, Memory};
 use std::alloc::Global;
 
 // The greatest width of a port of a member.

@@ -13,7 +13,8 @@ ghost use Rattle.data_loop.specs.Settling.{HasHadTurns, HasSettled};
 use crate::did::Did;
 use crate::loop_state::LoopState;
 use board_rule::Board;
-use pw_base::{Gate, Items};
+use pw_lists::Items;
+use pw_outside::Gate;
 use ready_queues::{Way, Ways};
 use std::sync::Wait;
 

@@ -7,7 +7,7 @@ ghost use Rattle.data_loop.specs.Settling.{HasHadTurns, HasSettled};
 use crate::did::Did;
 use crate::loop_state::LoopState;
 use board_rule::Board;
-use pw_base::Gate;
+use pw_outside::Gate;
 use std::sync::Wait;
 
 // One turn: whether it found that no follower has cycles left.

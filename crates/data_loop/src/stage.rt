@@ -22,7 +22,8 @@ use crate::tried::Tried;
 use activation_words::{Claim, claim};
 use board_rule::{BoardSeat, LoopSeat};
 use node_state::NodeState;
-use pw_base::{Gate, Items};
+use pw_lists::Items;
+use pw_outside::Gate;
 
 /// A seat on the board of an epoch, the loop's followers there, the driver where that is one of the
 /// loop's nodes and has a form, and the pools that the loop's nodes fill. `restarts` has for each

@@ -1,7 +1,7 @@
 //! What a loop has in each epoch, made before the first one begins.
 ghost use Rattle.std.specs.Prelude.{◌≡◌, ◌<◌, ◌≤◌, ◌^◌, IfOk, length, map};
-ghost use Rattle.pw_base.specs.Limits.{nodes_limit};
-ghost use Rattle.pw_base.specs.SoundPlan.{IsSoundPlan};
+ghost use Rattle.pw_graph.specs.Limits.{nodes_limit};
+ghost use Rattle.pw_graph.specs.SoundPlan.{IsSoundPlan};
 ghost use Rattle.node_progress.specs.Restarts.{restart_of};
 ghost use Rattle.data_loop.specs.StageParts.{IsFirstStage, AreFirstStages};
 
@@ -11,7 +11,8 @@ use crate::own_pools::pools_among;
 use crate::stage::Stage;
 use board_rule::LoopSeat;
 use node_progress::restart_in;
-use pw_base::{Items, Memory, Plan, pools_of};
+use pw_graph::{Plan, pools_of};
+use pw_lists::{Items, Memory};
 use std::alloc::Global;
 
 // With how many channels the epoch begins each of the nodes anew, none where it does not.

@@ -3,7 +3,7 @@
 -- Source: PipeWire's documentation, "Graph Scheduling"; that a check is made when a ticker says so,
 -- and at most once a cycle, is this project's own.
 use Rattle.std.specs.Prelude.{◌≡◌, ◌≢◌, ℕ, Bool, true, false, Option}
-use Rattle.pw_base.specs.Words.{triggered_word}
+use Rattle.pw_graph.specs.Words.{triggered_word}
 use Rattle.board_rule.specs.declared.view.View.{View}
 use Rattle.board_rule.specs.Layout.{BoardLayout}
 use Rattle.board_rule.specs.activation.WorkSteps.{woken, tried}

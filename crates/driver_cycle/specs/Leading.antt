@@ -2,8 +2,8 @@
 -- for the driver's node, and when it has ended all cycles.
 -- Source: PipeWire's documentation, "Graph Scheduling"; the calls are this project's own.
 use Rattle.std.specs.Prelude.{◌≡◌, ℕ}
-use Rattle.pw_base.specs.declared.plan.Epoch.{Epoch}
-use Rattle.pw_base.specs.PlanFresh.{IsEpoch}
+use Rattle.pw_graph.specs.declared.plan.Epoch.{Epoch}
+use Rattle.pw_graph.specs.PlanFresh.{IsEpoch}
 use Rattle.cycle_model.specs.Expected.{epoch_rows}
 use Rattle.board_rule.specs.declared.board.Board.{Board}
 use Rattle.board_rule.specs.OnBoard.{IsOn, layout}

@@ -20,7 +20,7 @@ use crate::turning::{turn_all, turn_one};
 use crate::waking::{rest_unless, send_woken};
 use board_rule::{Board, BoardSeat, DriverSeat};
 use data_loop::{LoopState, Way, Ways};
-use pw_base::{Gate, Ticker};
+use pw_outside::{Gate, Ticker};
 use std::sync::Wait;
 
 // One round: a turn of the own loop, one of each adopted loop, and one claim of the driver's node;

@@ -13,7 +13,7 @@ use crate::rounds::look;
 use activation_words::{Claim, claim_driver, end};
 use board_rule::{Board, DriverSeat};
 use data_loop::LoopState;
-use pw_base::{Gate, Ticker};
+use pw_outside::{Gate, Ticker};
 
 // The turn of the driver's node, which is awake, and the end of the cycle.
 fn conclude<G: Gate>(board: &Board, seat: &mut DriverSeat, own: &mut LoopState, gate: &G)

@@ -7,7 +7,7 @@ ghost use Rattle.driver_cycle.specs.Rounds.{BeginsNext, IsLook, HasLooked};
 
 use activation_words::{begin, check_late};
 use board_rule::{Board, BoardSeat, DriverSeat};
-use pw_base::Ticker;
+use pw_outside::Ticker;
 
 /// Begins the next cycle of the epoch; the seat then waits for the driver's node. False exactly
 /// where all cycles have ended, and then nothing is done. Takes no memory, does not wait.

@@ -7,7 +7,7 @@ ghost use Rattle.driver_cycle.specs.Settling.{HasSettled, AreEach};
 use board_rule::Board;
 use data_loop::LoopState;
 pub use data_loop::settle;
-use pw_base::Gate;
+use pw_outside::Gate;
 use std::sync::Wait;
 
 /// Settles each of the loops, one after the other. It may wait. Takes no memory.

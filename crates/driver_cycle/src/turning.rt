@@ -10,7 +10,7 @@ use crate::site::Site;
 use crate::waking::send_woken;
 use board_rule::Board;
 use data_loop::{Did, LoopState, Way, Ways};
-use pw_base::Gate;
+use pw_outside::Gate;
 use std::sync::Wait;
 
 /// One turn of a loop of the driver's thread, by `turn`; where a node ran, what it woke is sent to

@@ -5,11 +5,11 @@ use Rattle.std.specs.List.{AllZip}
 use Rattle.std.proofs.lemmas.List.{append_assoc, length-map, drop_more}
 use Rattle.std.proofs.lemmas.List.Elements.{All-head, All-tail}
 use Rattle.std.proofs.lemmas.Simd.{map-map}
-use Rattle.pw_base.specs.declared.event.Event.{Event}
-use Rattle.pw_base.specs.declared.shape.Shape.{Shape}
-use Rattle.pw_base.specs.declared.plan.Epoch.{Epoch}
-use Rattle.pw_base.specs.declared.plan.Plan.{Plan}
-use Rattle.pw_base.specs.History.{is_tick}
+use Rattle.pw_graph.specs.declared.event.Event.{Event}
+use Rattle.pw_graph.specs.declared.shape.Shape.{Shape}
+use Rattle.pw_graph.specs.declared.plan.Epoch.{Epoch}
+use Rattle.pw_graph.specs.declared.plan.Plan.{Plan}
+use Rattle.pw_graph.specs.History.{is_tick}
 use Rattle.wav_files.specs.declared.wav.WavIn.{WavIn}
 use Rattle.wav_files.specs.declared.outcome.Kept.{Kept}
 use Rattle.wav_files.specs.declared.outcome.Outcome.{Outcome}
@@ -24,7 +24,7 @@ use Rattle.graph_run.specs.Seating.{epoch_board}
 use Rattle.graph_run.specs.PlanRun.{IsRunOf}
 use Rattle.graph_run.specs.RunStages.{CanRunAlone, HasRunAlone}
 use Rattle.graph_run.proofs.RunStagesLemmas.{can_run, ended_of, boards_by}
-use Rattle.pw_base.specs.declared.parts.Part.{Part}
+use Rattle.pw_graph.specs.declared.parts.Part.{Part}
 use Rattle.driver_groups.specs.declared.running.Crew.{Crew}
 use Rattle.driver_groups.specs.declared.starting.Start.{Start}
 use Rattle.driver_groups.specs.GroupRun.{IsPartRun, AreRunsOf}

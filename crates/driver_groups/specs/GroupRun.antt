@@ -3,9 +3,9 @@
 -- project's own.
 use Rattle.std.specs.Prelude.{◌≡◌, ℕ, List, [], ◌∷◌, ◌++◌, length, map, count_by, All}
 use Rattle.std.specs.List.{flat_map, range_with_len}
-use Rattle.pw_base.specs.declared.event.Event.{Event}
-use Rattle.pw_base.specs.declared.plan.Plan.{Plan}
-use Rattle.pw_base.specs.History.{is_tick, IsLegalHistory}
+use Rattle.pw_graph.specs.declared.event.Event.{Event}
+use Rattle.pw_graph.specs.declared.plan.Plan.{Plan}
+use Rattle.pw_graph.specs.History.{is_tick, IsLegalHistory}
 use Rattle.wav_files.specs.declared.wav.WavIn.{WavIn}
 use Rattle.wav_files.specs.declared.outcome.Outcome.{Outcome}
 use Rattle.wav_files.specs.WavWriting.{IsWave}
@@ -13,7 +13,7 @@ use Rattle.cycle_model.specs.Expected.{expected_samples}
 use Rattle.cycle_model.specs.Rendering.{rendered_sinks, rendered_peaks}
 use Rattle.board_rule.specs.declared.closed.Closed.{Closed}
 use Rattle.board_rule.specs.events.Closing.{expected}
-use Rattle.pw_base.specs.declared.parts.Part.{Part}
+use Rattle.pw_graph.specs.declared.parts.Part.{Part}
 
 -- THE RUN of a part's plan: one closed board an epoch, of the epoch's shape, on which each link
 -- gave the samples of the cycle function. The history is their events one after the other, legal,

@@ -1,14 +1,15 @@
 //! What the runs of parts answer.
 ghost use Rattle.std.specs.Prelude.{◌≡◌, ◌+◌, ◌++◌, ◌≤◌, [], List, All, length};
 ghost use Rattle.std.specs.List.{AllZip};
-ghost use Rattle.pw_base.specs.SoundPlan.{IsSoundPlan};
+ghost use Rattle.pw_graph.specs.SoundPlan.{IsSoundPlan};
 ghost use Rattle.cycle_model.specs.WavesFit.{WavesFit};
 ghost use Rattle.driver_groups.specs.working.Groups.{IsEndedPart, epochs_of};
 ghost use Rattle.driver_groups.specs.GroupRun.{IsPartRun, AreRunsOf};
 
 use board_rule::Closed;
 use graph_run::{EndedRun, finish_run};
-use pw_base::{Items, Part, Plan, Room};
+use pw_graph::{Part, Plan};
+use pw_lists::{Items, Room};
 use std::alloc::Global;
 use wav_files::{Outcome, WavIn};
 

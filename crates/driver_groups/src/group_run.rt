@@ -1,6 +1,6 @@
 //! Runs of several plans at once.
 ghost use Rattle.std.specs.Prelude.{◌≡◌, ◌∷◌, All, IfOk};
-ghost use Rattle.pw_base.specs.SoundPlan.{IsSoundPlan};
+ghost use Rattle.pw_graph.specs.SoundPlan.{IsSoundPlan};
 ghost use Rattle.cycle_model.specs.WavesFit.{WavesFit};
 ghost use Rattle.driver_groups.specs.GroupRun.{AreRunsOf};
 ghost use Rattle.driver_groups.specs.working.Groups.{IsCrewOf};
@@ -10,7 +10,9 @@ use crate::preparing::{count_epochs, prepare_all};
 use crate::running::{Crew, Places, run_threads};
 use board_rule::Closed;
 use graph_run::{AnyStarts, Starts, prepare_alone};
-use pw_base::{Gate, Items, Memory, Part};
+use pw_graph::Part;
+use pw_lists::{Items, Memory};
+use pw_outside::Gate;
 use std::alloc::Global;
 use std::sync::Wait;
 use std::thread::Threads;

@@ -1,11 +1,12 @@
 //! All that the runs of parts take, before the first cycle.
 ghost use Rattle.std.specs.Prelude.{◌≡◌, ◌≤◌, [], All, IfOk, IfSome, length};
-ghost use Rattle.pw_base.specs.SoundPlan.{IsSoundPlan};
+ghost use Rattle.pw_graph.specs.SoundPlan.{IsSoundPlan};
 ghost use Rattle.cycle_model.specs.WavesFit.{WavesFit};
 ghost use Rattle.driver_groups.specs.working.Groups.{ArePrepared, epochs_of};
 
 use graph_run::{AloneRun, prepare_alone};
-use pw_base::{Items, Memory, Part};
+use pw_graph::Part;
+use pw_lists::{Items, Memory};
 use std::alloc::Global;
 use wav_files::WavIn;
 

@@ -4,7 +4,7 @@ ghost use Rattle.dump_reading.specs.working.Bytes.{digit_said, byte_said, hex_sa
 ghost use Rattle.dump_reading.specs.working.Bytes.{float_said, double_said, unquoted, quoted_hex_said};
 
 use crate::cutting::cut;
-use pw_base::{Items, Memory, Text};
+use pw_lists::{Items, Memory, Text};
 use std::alloc::Global;
 
 /// A lower-case digit of base 16.

@@ -8,7 +8,7 @@ use crate::fault::{DumpWhy, Stop};
 use crate::heads::{Head, head_said};
 use crate::lines::{MOST_LEVELS, line_said, stop_at, wrong_words};
 use pod_codec::{Pod, type_number};
-use pw_base::Items;
+use pw_lists::Items;
 use std::alloc::Global;
 
 /// Whether an array or a choice may hold `count` values of this type.

@@ -3,7 +3,7 @@ ghost use Rattle.std.specs.Prelude.{◌≡◌};
 ghost use Rattle.dump_reading.specs.declared.fault.Stop.TheVariants as s;
 ghost use Rattle.dump_reading.specs.declared.fault.DumpFault.TheVariants as f;
 
-use pw_base::Memory;
+use pw_lists::Memory;
 
 /// What is wrong with a line, in the order in which it is looked for.
 #[derive(Clone, Copy, Debug, PartialEq, Eq, Drop)]

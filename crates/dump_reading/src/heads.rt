@@ -8,7 +8,7 @@ use crate::names::{Name, kind_said, name_said};
 use crate::numbers::{int_said, long_said, number_said, pair_said, triple_said};
 use crate::strings::quoted_said;
 use pod_codec::{ChoiceKind, Pod};
-use pw_base::Memory;
+use pw_lists::Memory;
 use std::alloc::Global;
 
 /// A value that holds no others, or what a container is, and how many lines of its own it has.

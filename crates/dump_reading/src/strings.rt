@@ -5,7 +5,7 @@ ghost use Rattle.dump_reading.specs.working.Strings.{step, pushed, string_said, 
 ghost use Rattle.dump_reading.specs.working.Escapes.{IsEscape};
 
 use crate::bytes::{digit_said, unquoted};
-use pw_base::{Items, Memory, Text};
+use pw_lists::{Items, Memory, Text};
 use std::alloc::Global;
 
 /// Where a string stands: outside of an escape, behind its backslash, behind its `x`, or behind its

@@ -11,7 +11,7 @@ use crate::fault::{DumpWhy, Stop};
 use crate::heads::{Head, head_said};
 use crate::lines::{MOST_LEVELS, keyed_said, line_said, stop_at, wrong_words};
 use pod_codec::{ChoiceKind, Control, Pod, Prop};
-use pw_base::Items;
+use pw_lists::Items;
 use std::alloc::Global;
 
 /// The value at a level, with `left` levels of values left, and the lines behind it.

@@ -1,6 +1,7 @@
 //! Runs that take long before they are compiled: `rt try --seconds 600 --test` ends them.
 
-use pw_base::{Items, MemFiles, Memory};
+use pw_lists::{Items, Memory};
+use pw_outside::MemFiles;
 use pw_top::Status;
 use row_files::{Held, RUN, Row, SURE, ends_so, files_of, is_so};
 use std::alloc::Global;

@@ -1,6 +1,6 @@
 //! What a run leaves beside its files and its text: the events of its report, and nodes that met.
 
-use pw_base::{Gate, Meet, MemSink, Never, Open};
+use pw_outside::{Gate, Meet, MemSink, Never, Open};
 use pw_top::{Status, run_words};
 use row_files::{SURE, files_of, words_of};
 use std::sync::Wait;

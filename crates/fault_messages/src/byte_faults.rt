@@ -4,7 +4,7 @@ ghost use Rattle.graph_script.specs.Lexical.{is_allowed};
 ghost use Rattle.fault_messages.specs.ByteFaults.{byte_place, byte_value, byte_said};
 
 use crate::putting::put_two_numbers;
-use pw_base::{Memory, Text};
+use pw_lists::{Memory, Text};
 
 fn is_allowed(b: u8) -> bool
     ensures { result ≡ is_allowed b }

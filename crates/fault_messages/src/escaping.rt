@@ -2,7 +2,7 @@
 ghost use Rattle.std.specs.Prelude.{◌≡◌, ◌<◌, ◌++◌, OnOk};
 ghost use Rattle.fault_messages.specs.Escaping.{is_control, hex_digit, shown, escaped};
 
-use pw_base::{Memory, Text};
+use pw_lists::{Memory, Text};
 
 // Whether ASCII does not print the byte.
 fn is_control(b: u8) -> bool

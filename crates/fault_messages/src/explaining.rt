@@ -7,7 +7,7 @@ use crate::lines::line_at;
 use crate::notes::put_notes;
 use crate::places::is_line;
 use crate::sentences::message;
-use pw_base::{Memory, Text};
+use pw_lists::{Memory, Text};
 use pw_top::Status;
 use std::alloc::Global;
 

@@ -3,7 +3,7 @@ ghost use Rattle.std.specs.Prelude.{◌≡◌, ◌++◌, option_copied, OnOk};
 ghost use Rattle.fault_messages.specs.KeyNames.{key_name, key_part, key_word_name, clash_said};
 
 use graph_script::number_within;
-use pw_base::{Memory, Text};
+use pw_lists::{Memory, Text};
 
 // The name of a key, if it has one here.
 #[tactic(auto, unfolding(crate::specs::KeyNames::key_name))]

@@ -4,7 +4,7 @@ ghost use Rattle.graph_script.specs.Lexical.{words_of};
 ghost use Rattle.fault_messages.specs.Places.{line_at};
 
 use graph_script::next_word;
-use pw_base::next_piece;
+use pw_lists::next_piece;
 
 /// The word of a line, counted from 0; nothing where it has fewer.
 pub fn word_of(line: &[u8], index: u32) -> &[u8]

@@ -8,7 +8,7 @@ use crate::lines::word_of;
 use crate::name_rules::{end_name, is_pair};
 use crate::putting::{put_note_head, put_two_quoted};
 use crate::told_lines::{behind_line, first_line};
-use pw_base::{Memory, Text, next_piece};
+use pw_lists::{Memory, Text, next_piece};
 
 // Of a loop.
 fn loop_said(line: &[u8]) -> &'static [u8]

@@ -11,7 +11,7 @@ use crate::places::word_at;
 use crate::putting::{put_shown, put_shown_pair};
 use crate::sink_notes::put_sink_notes;
 use crate::told_lines::first_line;
-use pw_base::{Memory, Text};
+use pw_lists::{Memory, Text};
 
 // Of a run.
 fn put_run_notes(

@@ -5,7 +5,7 @@ ghost use Rattle.graph_script.specs.Lexical.{words_of};
 
 use crate::escaping::put_escaped;
 use crate::lines::word_of;
-use pw_base::{Memory, Text, append_decimal};
+use pw_lists::{Memory, Text, append_decimal};
 
 /// The place of a trace.
 const TRACE_PLACE: u32 = u32::MAX;

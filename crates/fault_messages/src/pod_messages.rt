@@ -3,7 +3,7 @@ ghost use Rattle.std.specs.Prelude.{◌≡◌, ◌++◌, OnOk};
 ghost use Rattle.fault_messages.specs.PodMessages.{pod_words, carried, number_text, size_part, pod_behind, pod_said};
 
 use crate::key_names::put_key;
-use pw_base::{Memory, Text, append_decimal};
+use pw_lists::{Memory, Text, append_decimal};
 use pw_top::PodWhy;
 
 /// The letters that a WAV file begins with, as a number of four bytes.

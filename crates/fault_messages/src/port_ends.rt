@@ -5,7 +5,7 @@ ghost use Rattle.fault_messages.specs.PortEnds.{port_said};
 
 use crate::name_rules::end_port;
 use crate::putting::{put_behind, put_two_quoted};
-use pw_base::{Memory, Text};
+use pw_lists::{Memory, Text};
 
 fn is_output_name(port: &[u8]) -> bool
     ensures { result ≡ is_output_name port.now }

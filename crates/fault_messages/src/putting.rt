@@ -6,7 +6,7 @@ ghost use Rattle.fault_messages.specs.ToldLines.{note_head};
 
 use crate::escaping::put_escaped;
 use crate::places::word_at;
-use pw_base::{Memory, Text, append_decimal};
+use pw_lists::{Memory, Text, append_decimal};
 
 /// A word in quotes.
 #[tactic(auto, unfolding(crate::specs::Places::quoted))]

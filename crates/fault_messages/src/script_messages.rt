@@ -22,7 +22,7 @@ use crate::port_ends::put_ports;
 use crate::putting::{put_behind, put_quoted_pair, put_quoted_rule, put_two_quoted};
 use crate::unknown_names::put_unknown_name;
 use graph_script::ScriptWhy;
-use pw_base::{Memory, Text};
+use pw_lists::{Memory, Text};
 
 // Why, where the line is not at hand.
 fn script_text(why: ScriptWhy) -> &'static [u8]

@@ -10,7 +10,7 @@ use crate::places::{put_file, put_place, word_at};
 use crate::pod_messages::put_pod;
 use crate::putting::{put_before, put_number};
 use crate::script_messages::put_script;
-use pw_base::{Items, Memory, Text};
+use pw_lists::{Items, Memory, Text};
 use pw_top::Status;
 use std::alloc::Global;
 

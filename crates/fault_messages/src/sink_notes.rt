@@ -9,7 +9,7 @@ ghost use Rattle.fault_messages.specs.SinkNotes.{sink_note, meter_note, sink_par
 use crate::lines::word_of;
 use crate::putting::{put_behind, put_note_head, put_two_quoted};
 use crate::told_lines::is_unused;
-use pw_base::{Memory, Text, next_piece};
+use pw_lists::{Memory, Text, next_piece};
 
 fn is_sink(line: &[u8]) -> bool
     ensures { result ≡ is_sink (words_of line.now) }

@@ -3,7 +3,7 @@ ghost use Rattle.std.specs.Prelude.{◌≡◌, ◌≤◌, length};
 ghost use Rattle.fault_messages.specs.ToldLines.{line_len, first_line, behind_line, tells_unused, is_unused};
 
 use crate::lines::word_of;
-use pw_base::next_piece;
+use pw_lists::next_piece;
 
 // How many bytes stand before the first line feed.
 fn line_len(text: &[u8]) -> usize

@@ -8,7 +8,7 @@ use crate::command_forms::node_form;
 use crate::lines::word_of;
 use crate::name_rules::{end_name, is_pair};
 use crate::putting::{put_before, put_behind};
-use pw_base::{Memory, Text, next_piece};
+use pw_lists::{Memory, Text, next_piece};
 
 // Whether the line makes a node of this name.
 fn makes(name: &[u8], line: &[u8]) -> bool

@@ -1,6 +1,6 @@
 //! Scripts, written back as text.
 use graph_script::{parse, text_of};
-use pw_base::Text;
+use pw_lists::Text;
 use std::alloc::Global;
 use std::process::Abort;
 

@@ -1,6 +1,7 @@
 //! Scripts, and the first line at fault.
 use graph_script::{Command, Line, Script, ScriptFault, ScriptWhy, parse};
-use pw_base::{Items, Memory, PortId, Text, append_decimal};
+use pw_graph::PortId;
+use pw_lists::{Items, Memory, Text, append_decimal};
 use std::alloc::Global;
 use std::test::Fail;
 

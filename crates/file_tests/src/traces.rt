@@ -3,7 +3,8 @@ ghost use Rattle.std.specs.Prelude.{◌≡◌, [], ◌∷◌, map, codes, IfOk};
 ghost use Rattle.cycle_trace.specs.TraceReading.{AreNames};
 
 use cycle_trace::{TraceFault, read_events, run_text};
-use pw_base::{Event, Items, Kind, LineOutcome, LinkLine, Memory, Plan, PlanNode, PortId, Text};
+use pw_graph::{Event, Kind, LineOutcome, LinkLine, Plan, PlanNode, PortId};
+use pw_lists::{Items, Memory, Text};
 use std::alloc::Global;
 use std::test::Fail;
 use wav_files::{Kept, Outcome, Peak, Wav};

@@ -1,5 +1,5 @@
 //! WAV files byte by byte, and the fault of each that is none.
-use pw_base::{Items, Memory};
+use pw_lists::{Items, Memory};
 use std::alloc::Global;
 use std::test::Fail;
 use wav_files::{Wav, read_wav, write_wav};

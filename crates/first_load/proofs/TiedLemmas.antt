@@ -3,11 +3,11 @@ use Rattle.std.proofs.Common.{◌≡◌, ℕ, List, Bool, true, false, sym, subs
 use Rattle.std.proofs.Math.Logic.{∥∥₁_elim, ∥∥₁_map}
 use Rattle.std.proofs.Props.{props}
 use Rattle.std.specs.Prelude.{Some, IsSome, Result, Ok, Err, nat_le, length, if◌then◌else◌}
-use Rattle.pw_base.specs.declared.files.Loaded.{Loaded}
-use Rattle.pw_base.specs.declared.files.Loaded.TheVariants.{Whole, Absent, TooLong}
-use Rattle.pw_base.specs.declared.files.FileFail.{FileFail}
-use Rattle.pw_base.specs.Files.{Held, names_in, IsLoaded}
-use Rattle.pw_base.specs.Limits.{script_bytes_limit}
+use Rattle.pw_outside.specs.declared.files.Loaded.{Loaded}
+use Rattle.pw_outside.specs.declared.files.Loaded.TheVariants.{Whole, Absent, TooLong}
+use Rattle.pw_outside.specs.declared.files.FileFail.{FileFail}
+use Rattle.pw_outside.specs.Files.{Held, names_in, IsLoaded}
+use Rattle.pw_graph.specs.Limits.{script_bytes_limit}
 use Rattle.first_load.specs.declared.first.First.{First}
 use Rattle.first_load.specs.declared.first.First.TheVariants.{Awaited, Kept, Gone}
 use Rattle.first_load.specs.FirstLoad.{first_of, IsTied, IsKept}

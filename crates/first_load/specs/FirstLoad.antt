@@ -1,11 +1,11 @@
 -- What a first load gave, and what is kept of it. Source: this project's own.
 use Rattle.std.specs.Prelude.{◌≡◌, ◌⊎◌, ℕ, List, length, nat_le, if◌then◌else◌, bytes_eq}
 use Rattle.std.specs.Prelude.{Option, Some, None, IsSome, Result, Ok}
-use Rattle.pw_base.specs.declared.files.Loaded.{Loaded}
-use Rattle.pw_base.specs.declared.files.Loaded.TheVariants.{Whole}
-use Rattle.pw_base.specs.declared.files.FileFail.{FileFail}
-use Rattle.pw_base.specs.Files.{Held, names_in}
-use Rattle.pw_base.specs.Limits.{script_bytes_limit}
+use Rattle.pw_outside.specs.declared.files.Loaded.{Loaded}
+use Rattle.pw_outside.specs.declared.files.Loaded.TheVariants.{Whole}
+use Rattle.pw_outside.specs.declared.files.FileFail.{FileFail}
+use Rattle.pw_outside.specs.Files.{Held, names_in}
+use Rattle.pw_graph.specs.Limits.{script_bytes_limit}
 use Rattle.first_load.specs.declared.first.First.{First}
 use Rattle.first_load.specs.declared.first.First.TheVariants.{Awaited, Kept, Gone}
 

@@ -1,11 +1,12 @@
 //! Files over other files, which keep what their first load gave.
 ghost use Rattle.std.specs.Prelude.{◌≡◌, ◌≤◌, None, IsSome, option_copied};
-ghost use Rattle.pw_base.specs.Causes.{HasCause};
-ghost use Rattle.pw_base.specs.Files.{Held, names_in, IsLoaded, IsWithin, IsStored};
+ghost use Rattle.pw_outside.specs.Causes.{HasCause};
+ghost use Rattle.pw_outside.specs.Files.{Held, names_in, IsLoaded, IsWithin, IsStored};
 ghost use Rattle.first_load.specs.FirstLoad.{IsTied, IsKept, stored_first, kept_under, IsReadOf};
 
 use crate::first::{First, first_of};
-use pw_base::{FileFail, Files, Loaded, Text};
+use pw_lists::Text;
+use pw_outside::{FileFail, Files, Loaded};
 use std::alloc::Global;
 use std::marker::{Brand, PhantomData};
 

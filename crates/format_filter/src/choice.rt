@@ -1,7 +1,7 @@
 //! Choices: values that may vary.
 
 use pod_codec::Pod;
-use pw_base::Items;
+use pw_lists::Items;
 
 /// What a property admits: its members, of which the pick is the one that it prefers.
 ///

@@ -5,7 +5,7 @@ ghost use Rattle.format_filter.specs.CommonFormat.{IsSoundFormat, Filters};
 
 use crate::format::Format;
 use crate::merging::{Merged, merge};
-use pw_base::Memory;
+use pw_lists::Memory;
 use std::alloc::Global;
 
 /// What two formats have in common.

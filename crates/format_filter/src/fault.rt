@@ -3,7 +3,7 @@ ghost use Rattle.std.specs.Prelude.{◌≡◌};
 ghost use Rattle.format_filter.specs.FormatFaults.{format_fault_number};
 ghost use Rattle.format_filter.specs.declared.fault.FormatFault.TheVariants as f;
 
-use pw_base::Memory;
+use pw_lists::Memory;
 
 /// The first fault of a POD that is no format, or that memory ran out.
 #[derive(Clone, Copy, Debug, PartialEq, Eq, Drop)]

@@ -6,7 +6,7 @@ ghost use Rattle.format_filter.specs.Fixation.{fixed, fixated};
 use crate::choice::Choice;
 use crate::format::{Field, Format};
 use crate::picking::copy_pick;
-use pw_base::{Items, Memory};
+use pw_lists::{Items, Memory};
 use std::alloc::Global;
 
 /// The param id of a format that is taken.

@@ -1,7 +1,7 @@
 //! Formats: choices under keys.
 
 use crate::choice::Choice;
-use pw_base::Items;
+use pw_lists::Items;
 
 /// What a key admits, and the flags of its property.
 ///

@@ -17,7 +17,7 @@ use crate::fault::FormatFault;
 use crate::format::{Field, Format};
 use crate::from_value::choice_of;
 use pod_codec::{Pod, Prop};
-use pw_base::{Items, Memory};
+use pw_lists::{Items, Memory};
 use std::alloc::Global;
 use std::collections::BTreeMap;
 

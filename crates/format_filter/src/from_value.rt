@@ -15,7 +15,7 @@ use crate::choice::{Choice, Wide};
 use crate::fault::FormatFault;
 use crate::members::{is_among, is_reached, number_in};
 use pod_codec::{ChoiceKind, Pod, copy_pods};
-use pw_base::{Items, Memory};
+use pw_lists::{Items, Memory};
 use std::alloc::Global;
 
 /// The type of a number.

@@ -10,7 +10,7 @@ use crate::choice::{Choice, Wide};
 use crate::numbers::{Ranged, meet_ranges, meet_rows};
 use crate::progression::Row;
 use crate::values::{meet_value, meet_values};
-use pw_base::Memory;
+use pw_lists::Memory;
 use std::alloc::Global;
 
 /// A Range as a row of numbers in steps of 1.

@@ -7,7 +7,7 @@ ghost use Rattle.format_filter.specs.working.Merging.{IsKeyAt, IsBehind, Joins, 
 
 use crate::format::Field;
 use crate::intersection::meet;
-use pw_base::{Items, Memory};
+use pw_lists::{Items, Memory};
 use std::alloc::Global;
 
 /// The flag of a property that the other side must have too.

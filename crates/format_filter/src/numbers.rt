@@ -12,7 +12,7 @@ ghost use Rattle.format_filter.specs.working.Making.{IsRowOf};
 use crate::choice::{Choice, Wide};
 use crate::picking::{number, picked_number};
 use crate::progression::{Numbers, Row, common_numbers};
-use pw_base::{Items, Memory};
+use pw_lists::{Items, Memory};
 use std::alloc::Global;
 
 /// A choice of numbers of a type.

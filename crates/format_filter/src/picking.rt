@@ -8,7 +8,7 @@ ghost use Rattle.format_filter.specs.working.Picking.{IsPreferred};
 use crate::choice::{Choice, Wide};
 use crate::members::is_member;
 use pod_codec::Pod;
-use pw_base::Memory;
+use pw_lists::Memory;
 use std::alloc::Global;
 
 /// A number as a value of its type.

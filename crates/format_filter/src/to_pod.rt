@@ -15,7 +15,7 @@ use crate::choice::{Choice, Wide};
 use crate::format::{Field, Format};
 use crate::picking::number;
 use pod_codec::{ChoiceKind, Pod, Prop, type_number};
-use pw_base::{Items, Memory};
+use pw_lists::{Items, Memory};
 use std::alloc::Global;
 
 /// The number of a type of numbers.

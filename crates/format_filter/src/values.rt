@@ -12,7 +12,7 @@ use crate::choice::Choice;
 use crate::members::{is_among, is_member};
 use crate::picking::picked;
 use pod_codec::Pod;
-use pw_base::{Items, Memory};
+use pw_lists::{Items, Memory};
 use std::alloc::Global;
 
 /// Those of the values that a choice admits, in their order, none twice.

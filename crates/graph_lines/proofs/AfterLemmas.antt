@@ -3,11 +3,11 @@ use Rattle.std.proofs.Common.{◌≡◌, ◌⊎◌, inl, inr, ℕ, zero, suc, �
 use Rattle.std.specs.Prelude.{if◌then◌else◌, Result, Ok, Err, IfOk}
 use Rattle.std.proofs.lemmas.Bool.{cases_lt}
 use Rattle.std.proofs.lemmas.List.{get_or_past, get_or_append_left, get_or_push}
-use Rattle.pw_base.specs.declared.limit.Which.{Which}
-use Rattle.pw_base.specs.declared.limit.Which.TheVariants as W
-use Rattle.pw_base.specs.declared.plan.Epoch.{Epoch}
-use Rattle.pw_base.specs.PlanSums.{epoch_events}
-use Rattle.pw_base.specs.declared.memory.Memory.{Memory}
+use Rattle.pw_graph.specs.declared.limit.Which.{Which}
+use Rattle.pw_graph.specs.declared.limit.Which.TheVariants as W
+use Rattle.pw_graph.specs.declared.plan.Epoch.{Epoch}
+use Rattle.pw_graph.specs.PlanSums.{epoch_events}
+use Rattle.pw_lists.specs.declared.memory.Memory.{Memory}
 use Rattle.wav_files.specs.declared.wav.WavIn.{WavIn}
 use Rattle.graph_script.specs.declared.command.Command.TheVariants as C
 use Rattle.graph_lines.specs.Gathering.{DrainsUpTo, IsActivityOf}

@@ -11,12 +11,12 @@ use Rattle.std.proofs.lemmas.List.Elements.{filter-append, filter_passes, All-co
 use Rattle.std.proofs.lemmas.List.Folds.{list_any_more}
 use Rattle.std.proofs.lemmas.List.FromFn.{length-range_with_len, get_or-range_with_len}
 use Rattle.std.proofs.lemmas.List.Kept.{IsStrictlyIncreasing-filter}
-use Rattle.pw_base.specs.declared.shape.Shape.{Shape}
-use Rattle.pw_base.specs.declared.shape.ShapeLink.{ShapeLink}
-use Rattle.pw_base.specs.declared.shape.ShapeNode.{ShapeNode}
-use Rattle.pw_base.specs.Dependencies.{nodes_of, joins, waits}
-use Rattle.pw_base.specs.LinkOrder.{IsWithinNodes}
-use Rattle.pw_base.specs.SoundShape.{IsCounted}
+use Rattle.pw_graph.specs.declared.shape.Shape.{Shape}
+use Rattle.pw_graph.specs.declared.shape.ShapeLink.{ShapeLink}
+use Rattle.pw_graph.specs.declared.shape.ShapeNode.{ShapeNode}
+use Rattle.pw_graph.specs.Dependencies.{nodes_of, joins, waits}
+use Rattle.pw_graph.specs.LinkOrder.{IsWithinNodes}
+use Rattle.pw_graph.specs.SoundShape.{IsCounted}
 use Rattle.graph_lines.specs.Searching.{is_in, numbers_in}
 
 -- one number more

@@ -5,10 +5,10 @@ use Rattle.std.specs.Prelude.{Contains, IsTrue, Result, Ok, Err, OnOk}
 use Rattle.std.proofs.lemmas.Bool.{cases_eq, lt-ltb, le-ltb}
 use Rattle.std.proofs.lemmas.List.Elements.{Contains-get_or, Contains-push, Contains-push_cases, Contains-append_left}
 use Rattle.std.proofs.lemmas.List.Quantifiers.{all_pairs_push}
-use Rattle.pw_base.specs.declared.ids.PortId.{PortId}
-use Rattle.pw_base.specs.declared.plan.PortForm.{PortForm}
-use Rattle.pw_base.specs.Pools.{is_before}
-use Rattle.pw_base.proofs.PoolLemmas.{port_is}
+use Rattle.pw_graph.specs.declared.ids.PortId.{PortId}
+use Rattle.pw_graph.specs.declared.plan.PortForm.{PortForm}
+use Rattle.pw_graph.specs.Pools.{is_before}
+use Rattle.pw_graph.proofs.PoolLemmas.{port_is}
 use Rattle.port_model.specs.declared.port_state.Node.{Node}
 use Rattle.port_model.specs.PortState.{port_count_of}
 use Rattle.port_model.specs.SoundPorts.{AreSoundNodes}

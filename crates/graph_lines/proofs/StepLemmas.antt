@@ -6,9 +6,9 @@ use Rattle.std.proofs.lemmas.Bool.{cases_lt}
 use Rattle.std.proofs.lemmas.List.{length-map, length-replicate, get_or_past, get_or-map}
 use Rattle.std.proofs.lemmas.List.Elements.{All-nil, All-weaker}
 use Rattle.std.proofs.lemmas.List.FromFn.{length-range_with_len}
-use Rattle.pw_base.specs.declared.ids.PortId.{PortId}
-use Rattle.pw_base.specs.declared.memory.Memory.{Memory}
-use Rattle.pw_base.specs.SoundShape.{IsBetween}
+use Rattle.pw_graph.specs.declared.ids.PortId.{PortId}
+use Rattle.pw_lists.specs.declared.memory.Memory.{Memory}
+use Rattle.pw_graph.specs.SoundShape.{IsBetween}
 use Rattle.wav_files.specs.declared.wav.WavIn.{WavIn}
 use Rattle.graph_script.specs.declared.command.Command.{Command}
 use Rattle.graph_script.specs.declared.command.Command.TheVariants as C

@@ -1,8 +1,8 @@
 -- The epoch that a line would make.
 use Rattle.std.proofs.Common.{◌≡◌, ℕ, zero, suc, ◌<◌, refl, arith}
 use Rattle.std.specs.Prelude.{Option, Some, None, List, Result, Ok, Err, IfOk}
-use Rattle.pw_base.specs.declared.memory.Memory.{Memory}
-use Rattle.pw_base.specs.declared.plan.Epoch.{Epoch}
+use Rattle.pw_lists.specs.declared.memory.Memory.{Memory}
+use Rattle.pw_graph.specs.declared.plan.Epoch.{Epoch}
 use Rattle.wav_files.specs.declared.wav.WavIn.{WavIn}
 use Rattle.graph_script.specs.declared.command.Command.TheVariants as C
 use Rattle.graph_lines.specs.declared.graph.Graph.{Graph}

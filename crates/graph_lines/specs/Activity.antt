@@ -2,10 +2,10 @@
 -- Source: PipeWire's documentation, "Graph Scheduling" (driver, followers); priorities and the
 -- built-in driver 63 are this project's.
 use Rattle.std.specs.Prelude.{◌≡◌, ◌⊎◌, ℕ, ◌<◌, ◌≤◌, ◌&&◌, Bool, true, false, List, [], ◌∷◌, Option, Some, None}
-use Rattle.pw_base.specs.Limits.{dummy_node}
+use Rattle.pw_graph.specs.Limits.{dummy_node}
 use Rattle.std.specs.Prelude.{Contains, filter, slice_index_or, if◌then◌else◌}
-use Rattle.pw_base.specs.declared.kind.Kind.{Kind}
-use Rattle.pw_base.specs.declared.kind.Kind.TheVariants.{Sink, Meter, Dummy}
+use Rattle.pw_graph.specs.declared.kind.Kind.{Kind}
+use Rattle.pw_graph.specs.declared.kind.Kind.TheVariants.{Sink, Meter, Dummy}
 use Rattle.graph_lines.specs.declared.wire.Wire.{Wire}
 use Rattle.graph_lines.specs.declared.standing.Standing.{Standing}
 

@@ -2,7 +2,7 @@
 -- graph are those of its wires.
 -- Source: this project's script grammar.
 use Rattle.std.specs.Prelude.{◌≡◌, ◌<◌, length, map}
-use Rattle.pw_base.specs.SoundShape.{IsBetween}
+use Rattle.pw_graph.specs.SoundShape.{IsBetween}
 use Rattle.graph_script.specs.declared.command.Command.{Command}
 use Rattle.graph_script.specs.declared.command.Command.TheVariants as C
 use Rattle.graph_script.specs.Ranges.{HasNodes}

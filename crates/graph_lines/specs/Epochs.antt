@@ -4,14 +4,14 @@
 use Rattle.std.specs.Prelude.{◌≡◌, ◌↔◌, ℕ, ◌==◌, ◌||◌, ◌&&◌, Bool, List, filter, All, AllPairs, Contains, IsTrue}
 use Rattle.std.specs.List.{list_any, AllZip}
 use Rattle.std.specs.List.Sorted.{IsStrictlyIncreasing}
-use Rattle.pw_base.specs.declared.ids.PortId.{PortId}
-use Rattle.pw_base.specs.declared.plan.Epoch.{Epoch}
-use Rattle.pw_base.specs.declared.shape.Shape.{Shape}
-use Rattle.pw_base.specs.declared.shape.ShapeLink.{ShapeLink}
-use Rattle.pw_base.specs.Dependencies.{nodes_of}
-use Rattle.pw_base.specs.Pools.{is_before}
-use Rattle.pw_base.specs.SoundShape.{IsCounted}
-use Rattle.pw_base.specs.PlanForms.{HasForm}
+use Rattle.pw_graph.specs.declared.ids.PortId.{PortId}
+use Rattle.pw_graph.specs.declared.plan.Epoch.{Epoch}
+use Rattle.pw_graph.specs.declared.shape.Shape.{Shape}
+use Rattle.pw_graph.specs.declared.shape.ShapeLink.{ShapeLink}
+use Rattle.pw_graph.specs.Dependencies.{nodes_of}
+use Rattle.pw_graph.specs.Pools.{is_before}
+use Rattle.pw_graph.specs.SoundShape.{IsCounted}
+use Rattle.pw_graph.specs.PlanForms.{HasForm}
 use Rattle.graph_lines.specs.declared.graph.Graph.{Graph}
 use Rattle.graph_lines.specs.declared.standing.Standing.{Standing}
 use Rattle.graph_lines.specs.declared.wire.Wire.{Wire}

@@ -2,7 +2,7 @@
 -- Source: this project's: a node whose last link went gives up its formats, and its stream starts
 -- anew.
 use Rattle.std.specs.Prelude.{◌≡◌, ◌↔◌, ◌⊎◌, ℕ, ◌<◌, true, AllPairs, Contains}
-use Rattle.pw_base.specs.declared.plan.Epoch.{Epoch}
+use Rattle.pw_graph.specs.declared.plan.Epoch.{Epoch}
 use Rattle.port_model.specs.PortState.{IsInput}
 use Rattle.graph_lines.specs.declared.graph.Graph.{Graph}
 use Rattle.graph_lines.specs.Activity.{standing}

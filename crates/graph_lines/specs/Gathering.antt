@@ -3,11 +3,11 @@
 -- Source: this project's own.
 use Rattle.std.specs.Prelude.{◌≡◌, ◌↔◌, ◌⊎◌, ℕ, ◌<◌, ◌&&◌, min, Bool, true, List, AllPairs, Contains, IsTrue, length, filter}
 use Rattle.std.specs.List.{AllZip}
-use Rattle.pw_base.specs.declared.ids.PortId.{PortId}
-use Rattle.pw_base.specs.declared.plan.Fresh.{Fresh}
-use Rattle.pw_base.specs.declared.plan.PortForm.{PortForm}
-use Rattle.pw_base.specs.declared.shape.Shape.{Shape}
-use Rattle.pw_base.specs.Pools.{is_before}
+use Rattle.pw_graph.specs.declared.ids.PortId.{PortId}
+use Rattle.pw_graph.specs.declared.plan.Fresh.{Fresh}
+use Rattle.pw_graph.specs.declared.plan.PortForm.{PortForm}
+use Rattle.pw_graph.specs.declared.shape.Shape.{Shape}
+use Rattle.pw_graph.specs.Pools.{is_before}
 use Rattle.wav_files.specs.declared.wav.WavIn.{WavIn}
 use Rattle.port_model.specs.declared.port_state.Node.{Node}
 use Rattle.graph_lines.specs.declared.epochs.ActiveNodes.{ActiveNodes}

@@ -1,10 +1,10 @@
 -- What a `link` line does to a graph.
 -- Source: PipeWire's documentation, "Objects Design", Link; the limit of links is this project's.
 use Rattle.std.specs.Prelude.{◌≡◌, ℕ, [], ◌∷◌, ◌++◌}
-use Rattle.pw_base.specs.declared.ids.PortId.{PortId}
-use Rattle.pw_base.specs.declared.limit.Which.TheVariants as W
-use Rattle.pw_base.specs.declared.plan.LineOutcome.{LineOutcome}
-use Rattle.pw_base.specs.declared.plan.LineOutcome.TheVariants as O
+use Rattle.pw_graph.specs.declared.ids.PortId.{PortId}
+use Rattle.pw_graph.specs.declared.limit.Which.TheVariants as W
+use Rattle.pw_graph.specs.declared.plan.LineOutcome.{LineOutcome}
+use Rattle.pw_graph.specs.declared.plan.LineOutcome.TheVariants as O
 use Rattle.port_model.specs.PortState.{AtPort}
 use Rattle.port_model.specs.Forms.{HasForm}
 use Rattle.link_negotiation.specs.declared.negotiation.Linked.{Linked}

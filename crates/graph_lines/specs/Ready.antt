@@ -1,10 +1,10 @@
 -- What every graph between two lines meets, so that the next line can be done.
 -- Source: this project's own.
 use Rattle.std.specs.Prelude.{◌≡◌, ℕ, ◌*◌, ◌≤◌, List, map, length, All, IsSome}
-use Rattle.pw_base.specs.declared.ids.PortId.{PortId}
-use Rattle.pw_base.specs.declared.kind.Kind.{Kind}
-use Rattle.pw_base.specs.Limits.{quantum_limit, buffers_limit, events_limit}
-use Rattle.pw_base.specs.SoundShape.{IsBetween}
+use Rattle.pw_graph.specs.declared.ids.PortId.{PortId}
+use Rattle.pw_graph.specs.declared.kind.Kind.{Kind}
+use Rattle.pw_graph.specs.Limits.{quantum_limit, buffers_limit, events_limit}
+use Rattle.pw_graph.specs.SoundShape.{IsBetween}
 use Rattle.port_model.specs.declared.port_state.Node.{Node}
 use Rattle.port_model.specs.PortState.{IsInput, IsOutput, AtPort}
 use Rattle.port_model.specs.SoundPorts.{AreSoundNodes}

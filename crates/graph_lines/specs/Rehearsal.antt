@@ -3,7 +3,7 @@
 -- Source: this project's.
 use Rattle.std.specs.Prelude.{◌≡◌, ℕ, zero, suc, ◌+◌, ◌-◌, ◌^◌, ◌||◌, min, List, [], ◌∷◌, ◌++◌, length, map, drop}
 use Rattle.std.specs.List.{range_with_len}
-use Rattle.pw_base.specs.declared.plan.Epoch.{Epoch}
+use Rattle.pw_graph.specs.declared.plan.Epoch.{Epoch}
 use Rattle.wav_files.specs.declared.wav.WavIn.{WavIn}
 use Rattle.graph_script.specs.declared.command.Command.{Command}
 use Rattle.graph_script.specs.declared.command.Command.TheVariants as C

@@ -3,8 +3,8 @@
 -- formats is this project's.
 use Rattle.std.specs.Prelude.{◌≡◌, ◌↔◌, ℕ, ◌<◌, ◌||◌, ◌==◌, true, not, List, filter, slice_set}
 use Rattle.std.specs.Int.{bit_at}
-use Rattle.pw_base.specs.declared.ids.PortId.{PortId}
-use Rattle.pw_base.specs.declared.plan.LineOutcome.TheVariants as O
+use Rattle.pw_graph.specs.declared.ids.PortId.{PortId}
+use Rattle.pw_graph.specs.declared.plan.LineOutcome.TheVariants as O
 use Rattle.link_negotiation.specs.declared.unlinking.Unlinked.{Unlinked}
 use Rattle.link_negotiation.specs.declared.unlinking.Unlinked.TheVariants as U
 use Rattle.link_negotiation.specs.Links.{joins, link_of}

@@ -1,8 +1,8 @@
 //! What a line does, but for those that make epochs.
 ghost use Rattle.std.specs.Prelude.{◌≡◌, ◌<◌, ◌≤◌, ◌==◌, ◌||◌, length, map, IfOk, slice_set};
-ghost use Rattle.pw_base.specs.Limits.{nodes_limit, buffers_limit};
+ghost use Rattle.pw_graph.specs.Limits.{nodes_limit, buffers_limit};
 ghost use Rattle.std.specs.List.{list_any};
-ghost use Rattle.pw_base.specs.SoundShape.{IsBetween};
+ghost use Rattle.pw_graph.specs.SoundShape.{IsBetween};
 ghost use Rattle.port_model.specs.PortState.{IsPort, with_port, buffered};
 ghost use Rattle.link_negotiation.specs.Links.{link_of, has_link};
 ghost use Rattle.graph_lines.specs.declared.graph.Stepped.TheVariants.{Done};
@@ -14,7 +14,8 @@ use crate::graph::{Graph, Stepped};
 use crate::standing::Standing;
 use crate::wire::Wire;
 use graph_script::Command;
-use pw_base::{Items, Memory, PortId};
+use pw_graph::PortId;
+use pw_lists::{Items, Memory};
 
 // Writes what is said of a node.
 fn put(nodes: &mut Items<Standing>, node: u32, standing: Standing)

@@ -5,7 +5,7 @@ ghost use Rattle.graph_lines.specs.Draining.{frames_of, rest_cycles, drain_cycle
 
 use crate::shaping::is_in;
 use crate::standing::Standing;
-use pw_base::Items;
+use pw_lists::Items;
 use wav_files::WavIn;
 
 // The frames of a wave.

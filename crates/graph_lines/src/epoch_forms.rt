@@ -8,7 +8,8 @@ ghost use Rattle.graph_lines.specs.Ready.{HasReadyNodes};
 use crate::forms::{form_in, port_count};
 use crate::graph::Graph;
 use crate::shaping::is_in;
-use pw_base::{Items, Memory, PortForm, PortId};
+use pw_graph::{PortForm, PortId};
+use pw_lists::{Items, Memory};
 
 impl Graph {
     // The form of a port of a node that is in, behind those of the ports before it.

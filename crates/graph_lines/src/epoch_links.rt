@@ -11,7 +11,8 @@ use crate::linking::form_at;
 use crate::shaping::{is_in, is_live};
 use crate::standing::Standing;
 use crate::wire::Wire;
-use pw_base::{Items, Memory, ShapeLink};
+use pw_graph::ShapeLink;
+use pw_lists::{Items, Memory};
 
 // Whether a node is marked.
 fn is_marked(nodes: &[Standing], node: u32) -> bool

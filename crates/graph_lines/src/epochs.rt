@@ -1,6 +1,6 @@
 //! The epoch of a line.
 ghost use Rattle.std.specs.Prelude.{◌≡◌, IfOk};
-ghost use Rattle.pw_base.specs.Dependencies.{nodes_of};
+ghost use Rattle.pw_graph.specs.Dependencies.{nodes_of};
 ghost use Rattle.graph_lines.specs.Epochs.{IsEpochOf};
 ghost use Rattle.graph_lines.specs.Gathering.{IsActivityOf, IsShapeOf};
 ghost use Rattle.graph_lines.specs.Searching.{numbers_in};
@@ -8,7 +8,8 @@ ghost use Rattle.graph_lines.specs.Ready.{IsReady};
 
 use crate::graph::Graph;
 use crate::shaping::{active_nodes, bare_nodes, counted, driver_of, live_wires};
-use pw_base::{Epoch, Items, Memory, NODES, Shape};
+use pw_graph::{Epoch, NODES, Shape};
+use pw_lists::{Items, Memory};
 
 /// The nodes that are active in an epoch.
 #[derive(Drop)]

@@ -1,13 +1,13 @@
 //! The forms that ports have in an epoch.
 ghost use Rattle.std.specs.Prelude.{◌≡◌, ◌<◌, ℕ, MatchOption, slice_index_or};
-ghost use Rattle.pw_base.specs.declared.kind.Kind.TheVariants.{Dummy};
-ghost use Rattle.pw_base.specs.KindPorts.{input_count, port_count};
+ghost use Rattle.pw_graph.specs.declared.kind.Kind.TheVariants.{Dummy};
+ghost use Rattle.pw_graph.specs.KindPorts.{input_count, port_count};
 ghost use Rattle.port_model.specs.PortState.{IsPort, AtPort};
 ghost use Rattle.graph_lines.specs.Activity.{may_drive};
 ghost use Rattle.graph_lines.specs.Forms.{HasKinds, FormIn, IsFormIn};
 
 use port_model::Ports;
-use pw_base::{Kind, PortId};
+use pw_graph::{Kind, PortId};
 
 // Whether a node is a sink or a meter.
 fn is_end(kinds: &[Kind], node: u32) -> bool

@@ -8,7 +8,8 @@ ghost use Rattle.graph_lines.specs.Ready.{HasReadyNodes};
 
 use crate::forms::{form_in, input_count};
 use crate::graph::Graph;
-use pw_base::{Fresh, Items, Memory, PortId};
+use pw_graph::{Fresh, PortId};
+use pw_lists::{Items, Memory};
 
 impl Graph {
     // Whether a line has made a node, and it has an input.

@@ -1,12 +1,12 @@
 //! The sums that have a limit, epoch by epoch.
 ghost use Rattle.std.specs.Prelude.{◌≡◌, ◌+◌, ◌*◌, filter, sum_by, slice_index_or};
-ghost use Rattle.pw_base.specs.declared.kind.Kind.TheVariants.{Dummy};
-ghost use Rattle.pw_base.specs.Pools.{asked};
-ghost use Rattle.pw_base.specs.PlanSums.{capped, epoch_events};
+ghost use Rattle.pw_graph.specs.declared.kind.Kind.TheVariants.{Dummy};
+ghost use Rattle.pw_graph.specs.Pools.{asked};
+ghost use Rattle.pw_graph.specs.PlanSums.{capped, epoch_events};
 ghost use Rattle.graph_lines.specs.Sums.{form_samples, is_sink_form, sink_samples, link_bytes, block_bytes};
 ghost use Rattle.graph_lines.specs.Sums.{sums_with, capped_sums, passed, IsJudged};
 
-use pw_base::{
+use pw_graph::{
     BLOCK_BYTES_LIMIT, EVENTS_LIMIT, Epoch, Kind, PortForm, SINK_SAMPLES_LIMIT, ShapeLink, Which,
     is_sink,
 };

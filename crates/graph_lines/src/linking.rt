@@ -10,7 +10,8 @@ use crate::graph::{Graph, Stepped, note};
 use crate::wire::Wire;
 use link_negotiation::Linked;
 use port_model::Ports;
-use pw_base::{LineOutcome, Memory, PortId, Which};
+use pw_graph::{LineOutcome, PortId, Which};
+use pw_lists::Memory;
 
 // The form of a port that has its format.
 pub(crate) fn form_at(ports: &Ports, port: PortId) -> (u32, u32)

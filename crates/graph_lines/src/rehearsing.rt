@@ -11,7 +11,8 @@ use crate::graph::{Graph, Stepped};
 use crate::standing::Standing;
 use crate::taking::cycles_in;
 use graph_script::Command;
-use pw_base::{Epoch, Items, Memory};
+use pw_graph::Epoch;
+use pw_lists::{Items, Memory};
 use wav_files::WavIn;
 
 /// The greatest number of cycles that a rehearsal counts.

@@ -1,6 +1,6 @@
 //! The graph before the first line.
 ghost use Rattle.std.specs.Prelude.{◌≡◌, ◌≤◌, map, length, IfOk};
-ghost use Rattle.pw_base.specs.Limits.{nodes_limit};
+ghost use Rattle.pw_graph.specs.Limits.{nodes_limit};
 ghost use Rattle.std.specs.List.{range_with_len};
 ghost use Rattle.graph_lines.specs.Ready.{IsReady, HasRan};
 ghost use Rattle.graph_lines.specs.Start.{quantum_of, kinds_of, newcomer, MayStart, IsStart};
@@ -11,7 +11,8 @@ use crate::standing::Standing;
 use graph_script::{Command, Line, kind_made};
 use link_negotiation::Links;
 use port_model::Ports;
-use pw_base::{Items, Kind, Memory};
+use pw_graph::Kind;
+use pw_lists::{Items, Memory};
 use std::alloc::Global;
 
 /// Frames in a cycle where no line says it.

@@ -11,7 +11,8 @@ use crate::draining::drain_cycles;
 use crate::graph::{Graph, Stepped};
 use crate::limits::judge;
 use graph_script::Command;
-use pw_base::{EVENTS_LIMIT, Items, Memory};
+use pw_graph::EVENTS_LIMIT;
+use pw_lists::{Items, Memory};
 use wav_files::WavIn;
 
 /// A number of cycles that passes the limit of events: a cycle has three.

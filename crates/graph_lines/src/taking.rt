@@ -1,8 +1,8 @@
 //! What stands after an epoch.
 ghost use Rattle.std.specs.Prelude.{◌≡◌, ◌+◌, ◌^◌, ◌<◌, ℕ, ◌==◌, length, IfOk, None, slice_index_or};
 ghost use Rattle.std.specs.List.{list_any};
-ghost use Rattle.pw_base.specs.declared.kind.Kind.TheVariants.{Dummy};
-ghost use Rattle.pw_base.specs.PlanSums.{is_sink};
+ghost use Rattle.pw_graph.specs.declared.kind.Kind.TheVariants.{Dummy};
+ghost use Rattle.pw_graph.specs.PlanSums.{is_sink};
 ghost use Rattle.graph_lines.specs.declared.graph.Stepped.TheVariants.{Done};
 ghost use Rattle.graph_lines.specs.Activity.{standing};
 ghost use Rattle.graph_lines.specs.Epochs.{has_node};
@@ -13,7 +13,8 @@ ghost use Rattle.graph_lines.specs.Sums.{sums_with, passed};
 use crate::graph::{Graph, Stepped};
 use crate::limits::Sums;
 use crate::standing::Standing;
-use pw_base::{Epoch, Items, Kind, Memory, PortForm, Shape, ShapeNode, is_sink};
+use pw_graph::{Epoch, Kind, PortForm, Shape, ShapeNode, is_sink};
+use pw_lists::{Items, Memory};
 
 // Whether one of these is the node.
 fn any_node(nodes: &[ShapeNode], node: u32) -> bool

@@ -1,6 +1,6 @@
 //! `unlink` lines.
 ghost use Rattle.std.specs.Prelude.{◌≡◌, ◌≢◌, ℕ, ◌<◌, ◌≤◌, length, IfOk};
-ghost use Rattle.pw_base.specs.Limits.{nodes_limit};
+ghost use Rattle.pw_graph.specs.Limits.{nodes_limit};
 ghost use Rattle.std.specs.Int.{bit_at};
 ghost use Rattle.port_model.specs.PortState.{IsInput, IsOutput};
 ghost use Rattle.graph_lines.specs.Activity.{standing};
@@ -11,7 +11,8 @@ use crate::graph::{Graph, Stepped, note};
 use crate::standing::Standing;
 use crate::wire::Wire;
 use link_negotiation::Unlinked;
-use pw_base::{Items, LineOutcome, Memory, PortId, is_same_port};
+use pw_graph::{LineOutcome, PortId, is_same_port};
+use pw_lists::{Items, Memory};
 use std::alloc::Global;
 
 // The set with one number more.

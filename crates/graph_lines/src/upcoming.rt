@@ -7,7 +7,8 @@ ghost use Rattle.graph_lines.specs.Upcoming.{IsEpochFor, IsUpcoming};
 use crate::graph::Graph;
 use crate::stepping::TOO_MANY;
 use graph_script::Command;
-use pw_base::{Epoch, Items, Memory};
+use pw_graph::Epoch;
+use pw_lists::{Items, Memory};
 use wav_files::WavIn;
 
 impl Graph {

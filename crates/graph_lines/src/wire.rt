@@ -1,6 +1,6 @@
 //! A link that is there.
 
-use pw_base::PortId;
+use pw_graph::PortId;
 
 /// A link that is there, and how many buffers it has.
 #[derive(Clone, Copy, Debug, Drop)]

@@ -1,7 +1,7 @@
 -- The cause of a status that was printed.
 use Rattle.std.proofs.Common.{◌≡◌, ◌⊎◌, ℕ, List, inl, inr, refl, sym, ap, ◌∙◌, subst}
 use Rattle.std.specs.Prelude.{Result, Ok, Err}
-use Rattle.pw_base.specs.Output.{Given}
+use Rattle.pw_outside.specs.Output.{Given}
 use Rattle.graph_pictures.specs.declared.status.Status.{Status}
 use Rattle.graph_pictures.specs.declared.status.Status.TheVariants as S
 use Rattle.graph_pictures.specs.Causes.{IsCaused, IsCausedBy, HasCause, status_of, IsUsage}

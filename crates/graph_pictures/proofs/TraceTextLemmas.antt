@@ -8,8 +8,8 @@ use Rattle.std.proofs.lemmas.List.Elements.{filter-append}
 use Rattle.std.proofs.lemmas.List.Splits.{slice_split_at}
 use Rattle.std.proofs.lemmas.List.Sums.{fails_before_first}
 use Rattle.std.proofs.lemmas.Slice.Zip.{all_zipped_more}
-use Rattle.pw_base.specs.declared.event.Event.{Event}
-use Rattle.pw_base.proofs.PieceLemmas.{first_piece, pieces_after}
+use Rattle.pw_graph.specs.declared.event.Event.{Event}
+use Rattle.pw_lists.proofs.PieceLemmas.{first_piece, pieces_after}
 use Rattle.cycle_trace.specs.TraceReading.{is_line_feed, without_empty_last, trace_lines, IsLineOf, IsNoLine, IsFirstFault}
 use Rattle.graph_pictures.specs.TraceText.{is_passed, event_lines_in, IsTrace, IsBad, IsFirstBad, Adds}
 use Rattle.graph_pictures.specs.TraceText.Adds.{passed, event}

@@ -1,10 +1,10 @@
 -- The answer to a command line: the picture that it asks for, or why it is refused.
 -- Source: this project's own.
 use Rattle.std.specs.Prelude.{◌≡◌, ◌⊎◌, ℕ, List, [], Option, Some, Result, Ok, Err}
-use Rattle.pw_base.specs.declared.limit.Which.TheVariants as W
-use Rattle.pw_base.specs.Files.{Names}
-use Rattle.pw_base.specs.Causes.{Rose}
-use Rattle.pw_base.specs.Output.{Given, Gave, GavePart}
+use Rattle.pw_graph.specs.declared.limit.Which.TheVariants as W
+use Rattle.pw_outside.specs.Files.{Names}
+use Rattle.pw_outside.specs.Causes.{Rose}
+use Rattle.pw_outside.specs.Output.{Given, Gave, GavePart}
 use Rattle.graph_script.specs.declared.script.Script.{Script}
 use Rattle.graph_pictures.specs.declared.status.Status.{Status}
 use Rattle.graph_pictures.specs.declared.status.Status.TheVariants as S

@@ -3,8 +3,8 @@
 -- Source: this project's own.
 use Rattle.std.specs.Prelude.{ℕ, ◌/◌, ◌%◌, ◌^◌, ◌==◌, Bool, false, List, filter}
 use Rattle.std.specs.List.{list_any, position_or_len, range_with_len}
-use Rattle.pw_base.specs.declared.event.Event.{Event}
-use Rattle.pw_base.specs.declared.event.Event.TheVariants.{Start, Finish, Tick}
+use Rattle.pw_graph.specs.declared.event.Event.{Event}
+use Rattle.pw_graph.specs.declared.event.Event.TheVariants.{Start, Finish, Tick}
 
 -- whether an event names a node: it is its start or its finish, or a late check that finds it late
 abbrev pub names_node : ℕ → Event → Bool

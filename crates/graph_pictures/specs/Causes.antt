@@ -1,7 +1,7 @@
 -- Causes, whether the files are told or not: of a fault, which counts of faults outside rose; of
 -- Usage, the words. This project's own.
 use Rattle.std.specs.Prelude.{◌≡◌, ◌⊎◌, ℕ, Result, Ok, Err}
-use Rattle.pw_base.specs.Causes.{Rose}
+use Rattle.pw_outside.specs.Causes.{Rose}
 use Rattle.graph_pictures.specs.declared.status.Status.{Status}
 use Rattle.graph_pictures.specs.declared.status.Status.TheVariants as S
 use Rattle.graph_pictures.specs.declared.words.Request.{Request}

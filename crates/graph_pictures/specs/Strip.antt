@@ -2,8 +2,8 @@
 -- Source: w3.org, "SVG 1.1", paths and texts. What is drawn is this project's own.
 use Rattle.std.specs.Prelude.{ℕ, ◌+◌, ◌-◌, ◌*◌, ◌==◌, ◌&&◌, Bool, false, List, [], ◌∷◌, ◌++◌, flat_map, codes}
 use Rattle.std.specs.List.{position_or_len}
-use Rattle.pw_base.specs.declared.event.Event.{Event}
-use Rattle.pw_base.specs.declared.event.Event.TheVariants.{Begin, Start, Finish, Tick}
+use Rattle.pw_graph.specs.declared.event.Event.{Event}
+use Rattle.pw_graph.specs.declared.event.Event.TheVariants.{Begin, Start, Finish, Tick}
 use Rattle.cycle_trace.specs.EventLines.{late_nodes}
 use Rattle.graph_pictures.specs.Filling.{filled}
 use Rattle.graph_pictures.specs.AtWork.{row_of}

@@ -2,7 +2,7 @@
 -- events the first 1,000 are drawn.
 -- Source: w3.org, "SVG 1.1". What is drawn is this project's own.
 use Rattle.std.specs.Prelude.{ℕ, ◌+◌, ◌*◌, ◌/◌, ◌==◌, if◌then◌else◌, List, [], ◌∷◌, ◌++◌, length, min, max, codes}
-use Rattle.pw_base.specs.declared.event.Event.{Event}
+use Rattle.pw_graph.specs.declared.event.Event.{Event}
 use Rattle.graph_pictures.specs.declared.frame.Frame.{Frame}
 use Rattle.graph_pictures.specs.Filling.{filled}
 use Rattle.graph_pictures.specs.Rows.{widest, rows_text}

@@ -1,7 +1,7 @@
 -- The whole text of a timeline. What is drawn is this project's own.
 -- Source: w3.org, "SVG 1.1".
 use Rattle.std.specs.Prelude.{ℕ, List, [], ◌++◌, length, take, codes}
-use Rattle.pw_base.specs.declared.event.Event.{Event}
+use Rattle.pw_graph.specs.declared.event.Event.{Event}
 use Rattle.graph_pictures.specs.declared.frame.Frame.{Frame}
 use Rattle.graph_pictures.specs.Filling.{filled}
 use Rattle.graph_pictures.specs.AtWork.{at_work}

@@ -2,7 +2,7 @@
 -- first bad line.
 -- Source: this project's own.
 use Rattle.std.specs.Prelude.{◌≡◌, ℕ, List, Result, Ok, Err}
-use Rattle.pw_base.specs.declared.event.Event.{Event}
+use Rattle.pw_graph.specs.declared.event.Event.{Event}
 use Rattle.cycle_trace.specs.TraceReading.{trace_lines}
 use Rattle.graph_script.specs.declared.script.Script.{Script}
 use Rattle.graph_pictures.specs.declared.status.Status.{Status}

@@ -3,7 +3,7 @@
 -- Source: this project's own.
 use Rattle.std.specs.Prelude.{◌≡◌, ℕ, ◌-◌, ◌≤◌, Bool, true, false, not, List, [], ◌∷◌, ◌++◌, length, take, filter, codes, nat_eq, slice_index_or}
 use Rattle.std.specs.List.{AllZip, starts_with, list_any}
-use Rattle.pw_base.specs.declared.event.Event.{Event}
+use Rattle.pw_graph.specs.declared.event.Event.{Event}
 use Rattle.cycle_trace.specs.TraceReading.{IsLineOf, IsNoLine}
 use Rattle.cycle_trace.specs.declared.event_reading.TraceFault.{TraceFault}
 use Rattle.cycle_trace.specs.declared.event_reading.TraceFault.TheVariants.{Line, Memory}

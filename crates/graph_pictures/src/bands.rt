@@ -6,7 +6,8 @@ ghost use Rattle.graph_pictures.specs.working.Sizes.{AreSizes};
 
 use crate::filling::fill;
 use crate::frame::Frame;
-use pw_base::{Event, Memory, Text};
+use pw_graph::Event;
+use pw_lists::{Memory, Text};
 
 /// The first of events, `most` at most.
 #[tactic(auto, using(crate::proofs::Grown::firsts))]

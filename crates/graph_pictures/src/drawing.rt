@@ -1,6 +1,6 @@
 //! The whole program: the picture that words ask for, printed.
 ghost use Rattle.std.specs.Prelude.{◌≡◌, IsSome, map, string_bytes, List, ℕ, Result};
-ghost use Rattle.pw_base.specs.Files.{names_in};
+ghost use Rattle.pw_outside.specs.Files.{names_in};
 ghost use Rattle.graph_pictures.specs.Answers.{IsAnswer, Puts, IsPrinted, PutsLine};
 ghost use Rattle.graph_pictures.specs.Causes.{IsCausedBy, HasCause, status_of, IsUsage};
 ghost use Rattle.graph_pictures.specs.Words.{request_of};
@@ -8,7 +8,8 @@ ghost use Rattle.graph_pictures.specs.Words.{request_of};
 use crate::reading::picture_of;
 use crate::status::{Status, put_status};
 use crate::words::read_words;
-use pw_base::{FileFail, Files, Items, Sink, Text};
+use pw_lists::{Items, Text};
+use pw_outside::{FileFail, Files, Sink};
 use std::alloc::Global;
 
 // The picture that words ask for, or why they are refused.

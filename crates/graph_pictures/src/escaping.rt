@@ -2,7 +2,7 @@
 ghost use Rattle.std.specs.Prelude.{◌≡◌, ◌++◌, OnOk};
 ghost use Rattle.graph_pictures.specs.Escaping.{is_marked, dot_byte, dot_escaped, xml_byte, xml_escaped};
 
-use pw_base::{Memory, Text};
+use pw_lists::{Memory, Text};
 
 // Whether a label of fields marks the byte.
 fn is_marked(byte: u8) -> bool

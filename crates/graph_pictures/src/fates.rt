@@ -5,7 +5,8 @@ ghost use Rattle.graph_pictures.specs.GraphLinks.{async_node, cut_at, fates_of, 
 
 use crate::refusals::{Refusal, link_numbers, refusals_of};
 use graph_script::{Command, Line};
-use pw_base::{Items, Memory, PortId, is_same_port};
+use pw_graph::{PortId, is_same_port};
+use pw_lists::{Items, Memory};
 use std::alloc::Global;
 
 /// An `unlink` line, by its number and its ports.

@@ -3,7 +3,7 @@ ghost use Rattle.std.specs.Prelude.{◌≡◌, ◌++◌, drop, OnOk, IfOk, ℤ};
 ghost use Rattle.std.specs.Fmt.{signed_decimal};
 ghost use Rattle.graph_pictures.specs.Filling.{first_text, filled, numbers_text};
 
-use pw_base::{Memory, Text, append_decimal};
+use pw_lists::{Memory, Text, append_decimal};
 
 // The first number, if there is one.
 fn put_first(text: &mut Text, numbers: &[u64]) -> Result<(), Memory>

@@ -5,7 +5,7 @@ ghost use Rattle.graph_pictures.specs.working.Sizes.{AreSizes};
 ghost use Rattle.graph_pictures.specs.Timeline.{frame_of};
 
 use crate::rows::name_of;
-use pw_base::Text;
+use pw_lists::Text;
 
 /// Where the strip begins, how wide a band of it and the whole picture are, and how high the rows
 /// are, in points; how many bands there are; how many events are drawn, and of how many there are.

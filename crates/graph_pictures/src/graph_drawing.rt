@@ -10,7 +10,8 @@ use crate::filling::fill;
 use crate::graph_nodes::put_node;
 use crate::refusals::{Refusal, refusal_at};
 use graph_script::{Command, Line, Script};
-use pw_base::{Items, Memory, PortId, Text};
+use pw_graph::PortId;
+use pw_lists::{Items, Memory, Text};
 use std::alloc::Global;
 
 // What ends the statement of a link.

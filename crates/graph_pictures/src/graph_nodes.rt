@@ -8,7 +8,7 @@ ghost use Rattle.graph_pictures.specs.GraphNodes.{file_text, kind_text, inputs_t
 use crate::escaping::put_dot;
 use crate::filling::{fill, put_numbers};
 use graph_script::Command;
-use pw_base::{Memory, Text, append_decimal};
+use pw_lists::{Memory, Text, append_decimal};
 
 /// The name of a node, or nothing where there is none.
 pub(crate) fn name_of(names: &[Text], node: u32) -> &[u8]

@@ -7,7 +7,7 @@ ghost use Rattle.graph_pictures.specs.Refusals.{link_at, link_numbers, tells_lin
 use crate::fates::push_some;
 use crate::trace_text::{begins, next_line};
 use graph_script::{Command, Line, next_word};
-use pw_base::{Items, Memory, Text};
+use pw_lists::{Items, Memory, Text};
 use std::alloc::Global;
 
 /// A `link` line, by its number, whose link a run refused, and the cause.

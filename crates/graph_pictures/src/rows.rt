@@ -5,7 +5,8 @@ ghost use Rattle.graph_pictures.specs.Rows.{row_text, rows_text};
 
 use crate::escaping::put_xml;
 use crate::filling::fill;
-use pw_base::{DUMMY, Memory, Text};
+use pw_graph::DUMMY;
+use pw_lists::{Memory, Text};
 
 /// The name of the node of a row: nothing where it has none.
 pub(crate) fn name_of(names: &[Text], node: u32) -> &[u8]

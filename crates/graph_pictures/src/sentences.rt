@@ -5,7 +5,8 @@ ghost use Rattle.graph_pictures.specs.Sentences.{shown_byte, file_word, wav_said
 
 use crate::filling::fill;
 use crate::status::Status;
-use pw_base::{Items, Memory, Text, Which};
+use pw_graph::Which;
+use pw_lists::{Items, Memory, Text};
 use std::alloc::Global;
 use wav_files::WavFault;
 

@@ -8,7 +8,8 @@ ghost use Rattle.graph_pictures.specs.Strip.{middle_of, is_finish, span_of, late
 
 use crate::filling::fill;
 use crate::working::row_of;
-use pw_base::{Event, Memory, Text};
+use pw_graph::Event;
+use pw_lists::{Memory, Text};
 
 // The middle of a node's row.
 fn middle_of(rows: &[u32], node: u32) -> u64

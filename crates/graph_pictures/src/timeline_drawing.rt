@@ -10,7 +10,8 @@ use crate::frame::{Frame, frame_of};
 use crate::rows::put_rows;
 use crate::strip::put_strip;
 use crate::working::at_work;
-use pw_base::{Event, Items, Memory, Text};
+use pw_graph::Event;
+use pw_lists::{Items, Memory, Text};
 use std::alloc::Global;
 
 /// The events that are drawn, at most.

@@ -1,11 +1,12 @@
 //! The events of a run's text.
 ghost use Rattle.std.specs.Prelude.{◌≡◌, ◌<◌, List, [], ◌∷◌, ◌++◌, length, IfOk, IfErr, IfSome, MatchOption};
-ghost use Rattle.pw_base.specs.declared.event.Event.{Event};
+ghost use Rattle.pw_graph.specs.declared.event.Event.{Event};
 ghost use Rattle.cycle_trace.specs.TraceReading.{trace_lines, IsLineOf, IsNoLine, AreNames};
 ghost use Rattle.graph_pictures.specs.TraceText.{begins, is_passed, IsTrace, IsBadness, Takes};
 
 use cycle_trace::{TraceFault, read_events};
-use pw_base::{Event, Items, Memory, Text, next_piece};
+use pw_graph::Event;
+use pw_lists::{Items, Memory, Text, next_piece};
 use std::alloc::Global;
 
 /// The first line of a text, if it has one, and the text after that.

@@ -8,7 +8,7 @@ use crate::filling::fill;
 use crate::wave_columns::{columns_of, frames_of, lane_of};
 use crate::wave_lanes::{put_lane, unit_of};
 use crate::wave_ticks::{millis_of, put_ticks};
-use pw_base::{Items, Memory, Text};
+use pw_lists::{Items, Memory, Text};
 use std::alloc::Global;
 use wav_files::Wav;
 

@@ -1,13 +1,13 @@
 //! The lanes of a wave at the end of a text. After `Memory` the text has a part of them.
 ghost use Rattle.std.specs.Prelude.{◌≡◌, ◌<◌, ◌≤◌, ◌++◌, length, flat_map, OnOk};
 ghost use Rattle.std.specs.List.{range_with_len};
-ghost use Rattle.pw_base.specs.Limits.{channels_limit};
+ghost use Rattle.pw_graph.specs.Limits.{channels_limit};
 ghost use Rattle.graph_pictures.specs.WaveLanes.{point_of, mark_text, bar_text, column_text, unit_of, ground_text, lane_parts, lane_text};
 ghost use Rattle.graph_pictures.specs.working.WaveSizes.{wave_frames_limit};
 
 use crate::filling::fill;
 use crate::wave_columns::{column_of, columns_of, depth_of, greatest_of, is_clipped, least_of};
-use pw_base::{Memory, Text};
+use pw_lists::{Memory, Text};
 
 // How far below the top of its lane a sample stands.
 fn point_of(sample: i16) -> u64

@@ -4,7 +4,7 @@ ghost use Rattle.graph_pictures.specs.Words.{is_file_word, graph_behind, graph_o
 ghost use Rattle.graph_pictures.specs.declared.words.Request.TheVariants as R;
 
 use crate::status::Status;
-use pw_base::{Items, Memory, Text};
+use pw_lists::{Items, Memory, Text};
 use std::alloc::Global;
 
 /// What words ask for: a picture of a script's graph, one with what a run of it did, a timeline of

@@ -2,7 +2,8 @@
 ghost use Rattle.std.specs.Prelude.{◌≡◌, ◌+◌, ◌<◌, ◌≤◌, cond, [], ◌∷◌, ◌++◌, length, IfOk, OnOk};
 ghost use Rattle.graph_pictures.specs.AtWork.{names_node, is_working, at_work, row_of};
 
-use pw_base::{Event, Items, Memory};
+use pw_graph::Event;
+use pw_lists::{Items, Memory};
 use std::alloc::Global;
 
 // Whether an event names a node.

@@ -1,8 +1,8 @@
 -- A line that makes no epoch keeps a sound graph sound, where its nodes carry on.
 use Rattle.std.proofs.Common.{◌≡◌, ℕ, ◌<◌, List, length, map, sym, ◌∙◌, subst}
 use Rattle.std.specs.List.{All}
-use Rattle.pw_base.specs.declared.plan.LinkLine.{LinkLine}
-use Rattle.pw_base.specs.declared.plan.Plan.{Plan}
+use Rattle.pw_graph.specs.declared.plan.LinkLine.{LinkLine}
+use Rattle.pw_graph.specs.declared.plan.Plan.{Plan}
 use Rattle.port_model.specs.declared.port_state.Node.{Node}
 use Rattle.port_model.specs.SoundPorts.{AreSoundNodes}
 use Rattle.link_negotiation.specs.Links.{LinkState, link_of, is_marked}

@@ -1,9 +1,9 @@
 -- How a node ends: a sink or meter has an input, and other kinds end without a form.
 use Rattle.std.proofs.Common.{◌≡◌, inl, inr, ℕ, ◌<◌, List, get_or, Some, None, true, false, refl, sym, subst, arith}
-use Rattle.pw_base.specs.declared.kind.Kind.{Kind}
-use Rattle.pw_base.specs.declared.kind.Kind.TheVariants.{Source, Square, Gain, Mix2, Delay, Map, Split, Sink, Meter, Dummy}
-use Rattle.pw_base.specs.KindPorts.{port_count}
-use Rattle.pw_base.specs.KindRanges.{IsSinkOrMeter}
+use Rattle.pw_graph.specs.declared.kind.Kind.{Kind}
+use Rattle.pw_graph.specs.declared.kind.Kind.TheVariants.{Source, Square, Gain, Mix2, Delay, Map, Split, Sink, Meter, Dummy}
+use Rattle.pw_graph.specs.KindPorts.{port_count}
+use Rattle.pw_graph.specs.KindRanges.{IsSinkOrMeter}
 use Rattle.port_model.specs.declared.port_state.Node.{Node}
 use Rattle.port_model.specs.PortState.{IsPort}
 use Rattle.graph_lines.specs.declared.graph.Graph.{Graph}

@@ -5,10 +5,10 @@ use Rattle.std.specs.Prelude.{slice_get, IfSome, option_map, if◌then◌else◌
 use Rattle.std.specs.Option.{option_or, option_map_or}
 use Rattle.std.proofs.lemmas.Option.{same_Some, none-some, slice_get_within}
 use Rattle.pod_codec.specs.declared.pod.Pod.{Pod}
-use Rattle.pw_base.specs.declared.ids.PortId.{PortId}
-use Rattle.pw_base.specs.declared.kind.Kind.{Kind}
-use Rattle.pw_base.specs.declared.kind.Kind.TheVariants.{Source, Dummy}
-use Rattle.pw_base.specs.KindPorts.{port_count}
+use Rattle.pw_graph.specs.declared.ids.PortId.{PortId}
+use Rattle.pw_graph.specs.declared.kind.Kind.{Kind}
+use Rattle.pw_graph.specs.declared.kind.Kind.TheVariants.{Source, Dummy}
+use Rattle.pw_graph.specs.KindPorts.{port_count}
 use Rattle.format_filter.specs.declared.format.Format.{Format}
 use Rattle.wav_files.specs.declared.wav.WavIn.{WavIn}
 use Rattle.port_model.specs.declared.port_state.PortState.{PortState}

@@ -6,25 +6,25 @@ use Rattle.std.specs.List.{AllPairs}
 use Rattle.std.proofs.lemmas.Bool.{and_parts, and_from, or_parts, not_from_false}
 use Rattle.std.proofs.lemmas.List.Kept.{AllPairs-filter}
 use Rattle.std.proofs.lemmas.List.Sums.{length-filter, count_by-le-length}
-use Rattle.pw_base.specs.declared.ids.PortId.{PortId}
-use Rattle.pw_base.specs.declared.kind.Kind.{Kind}
-use Rattle.pw_base.specs.declared.kind.Kind.TheVariants.{Dummy}
-use Rattle.pw_base.specs.declared.plan.Epoch.{Epoch}
-use Rattle.pw_base.specs.declared.plan.Fresh.{Fresh}
-use Rattle.pw_base.specs.declared.plan.Plan.{Plan}
-use Rattle.pw_base.specs.declared.plan.PortForm.{PortForm}
-use Rattle.pw_base.specs.declared.shape.ShapeLink.{ShapeLink}
-use Rattle.pw_base.specs.declared.shape.ShapeNode.{ShapeNode}
-use Rattle.pw_base.specs.Dependencies.{nodes_of}
-use Rattle.pw_base.specs.KindPorts.{input_count, port_count}
-use Rattle.pw_base.specs.KindRanges.{IsSinkOrMeter, MayHaveRate, MayHaveChannels, SharesChannels}
-use Rattle.pw_base.specs.LinkOrder.{HasOrder}
-use Rattle.pw_base.specs.PlanForms.{kind_at, HasForm, IsSoundForm, AreShared, IsFormed, HasSoundForms}
-use Rattle.pw_base.specs.PlanFresh.{IsSoundFresh}
-use Rattle.pw_base.specs.Pools.{AreAlike, IsPooledShape}
-use Rattle.pw_base.specs.SoundPlan.{HasSoundPlaces}
-use Rattle.pw_base.specs.Limits.{quantum_limit}
-use Rattle.pw_base.specs.SoundShape.{IsBetween, IsSoundLink, HasSoundLinks, HasSoundNodes, HasSoundCycles}
+use Rattle.pw_graph.specs.declared.ids.PortId.{PortId}
+use Rattle.pw_graph.specs.declared.kind.Kind.{Kind}
+use Rattle.pw_graph.specs.declared.kind.Kind.TheVariants.{Dummy}
+use Rattle.pw_graph.specs.declared.plan.Epoch.{Epoch}
+use Rattle.pw_graph.specs.declared.plan.Fresh.{Fresh}
+use Rattle.pw_graph.specs.declared.plan.Plan.{Plan}
+use Rattle.pw_graph.specs.declared.plan.PortForm.{PortForm}
+use Rattle.pw_graph.specs.declared.shape.ShapeLink.{ShapeLink}
+use Rattle.pw_graph.specs.declared.shape.ShapeNode.{ShapeNode}
+use Rattle.pw_graph.specs.Dependencies.{nodes_of}
+use Rattle.pw_graph.specs.KindPorts.{input_count, port_count}
+use Rattle.pw_graph.specs.KindRanges.{IsSinkOrMeter, MayHaveRate, MayHaveChannels, SharesChannels}
+use Rattle.pw_graph.specs.LinkOrder.{HasOrder}
+use Rattle.pw_graph.specs.PlanForms.{kind_at, HasForm, IsSoundForm, AreShared, IsFormed, HasSoundForms}
+use Rattle.pw_graph.specs.PlanFresh.{IsSoundFresh}
+use Rattle.pw_graph.specs.Pools.{AreAlike, IsPooledShape}
+use Rattle.pw_graph.specs.SoundPlan.{HasSoundPlaces}
+use Rattle.pw_graph.specs.Limits.{quantum_limit}
+use Rattle.pw_graph.specs.SoundShape.{IsBetween, IsSoundLink, HasSoundLinks, HasSoundNodes, HasSoundCycles}
 use Rattle.port_model.specs.declared.port_state.PortState.{PortState}
 use Rattle.port_model.specs.declared.port_state.Node.{Node}
 use Rattle.port_model.specs.PortState.{IsPort}

@@ -4,7 +4,7 @@ use Rattle.std.specs.Prelude.{Option, filter, filter_map, ◌||◌}
 use Rattle.std.specs.Option.{is_some, option_map_or}
 use Rattle.std.specs.List.{range_with_len, list_all, cons_option}
 use Rattle.std.proofs.lemmas.List.Elements.{All-filter}
-use Rattle.pw_base.specs.declared.kind.Kind.{Kind}
+use Rattle.pw_graph.specs.declared.kind.Kind.{Kind}
 use Rattle.graph_script.specs.declared.command.Command.{Command}
 use Rattle.graph_script.specs.declared.command.Command.TheVariants as C
 use Rattle.graph_script.specs.declared.script.Line.{Line}

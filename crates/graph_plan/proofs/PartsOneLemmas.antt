@@ -7,14 +7,14 @@ use Rattle.std.specs.Option.{option_map_or}
 use Rattle.std.proofs.lemmas.List.Elements.{All-nil, All-cons, All-head, All-tail}
 use Rattle.std.proofs.lemmas.List.Sums.{sum_by-cons}
 use Rattle.std.proofs.lemmas.Option.{none-some}
-use Rattle.pw_base.specs.declared.kind.Kind.{Kind}
-use Rattle.pw_base.specs.declared.limit.Which.{Which}
-use Rattle.pw_base.specs.declared.limit.Which.TheVariants as W
-use Rattle.pw_base.specs.declared.parts.Part.{Part}
-use Rattle.pw_base.specs.declared.parts.Parts.{Parts}
-use Rattle.pw_base.specs.declared.plan.Epoch.{Epoch}
-use Rattle.pw_base.specs.declared.plan.LinkLine.{LinkLine}
-use Rattle.pw_base.specs.declared.plan.Plan.{Plan}
+use Rattle.pw_graph.specs.declared.kind.Kind.{Kind}
+use Rattle.pw_graph.specs.declared.limit.Which.{Which}
+use Rattle.pw_graph.specs.declared.limit.Which.TheVariants as W
+use Rattle.pw_graph.specs.declared.parts.Part.{Part}
+use Rattle.pw_graph.specs.declared.parts.Parts.{Parts}
+use Rattle.pw_graph.specs.declared.plan.Epoch.{Epoch}
+use Rattle.pw_graph.specs.declared.plan.LinkLine.{LinkLine}
+use Rattle.pw_graph.specs.declared.plan.Plan.{Plan}
 use Rattle.wav_files.specs.declared.wav.WavIn.{WavIn}
 use Rattle.graph_script.specs.declared.command.Command.{Command}
 use Rattle.graph_script.specs.declared.command.Command.TheVariants as C

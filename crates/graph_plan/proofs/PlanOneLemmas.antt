@@ -1,12 +1,12 @@
 -- One plan is read off a graph, so two answers to a script from one graph are the same.
 use Rattle.std.proofs.Common.{◌≡◌, inl, inr, ℕ, List, refl, sym, ap, ◌∙◌, subst, arith}
 use Rattle.std.specs.Prelude.{Result, Ok, Err}
-use Rattle.pw_base.specs.declared.kind.Kind.{Kind}
-use Rattle.pw_base.specs.declared.limit.Which.{Which}
-use Rattle.pw_base.specs.declared.plan.Epoch.{Epoch}
-use Rattle.pw_base.specs.declared.plan.LinkLine.{LinkLine}
-use Rattle.pw_base.specs.declared.plan.Plan.{Plan}
-use Rattle.pw_base.specs.declared.plan.PlanNode.{PlanNode}
+use Rattle.pw_graph.specs.declared.kind.Kind.{Kind}
+use Rattle.pw_graph.specs.declared.limit.Which.{Which}
+use Rattle.pw_graph.specs.declared.plan.Epoch.{Epoch}
+use Rattle.pw_graph.specs.declared.plan.LinkLine.{LinkLine}
+use Rattle.pw_graph.specs.declared.plan.Plan.{Plan}
+use Rattle.pw_graph.specs.declared.plan.PlanNode.{PlanNode}
 use Rattle.wav_files.specs.declared.wav.WavIn.{WavIn}
 use Rattle.graph_script.specs.declared.script.Line.{Line}
 use Rattle.std.specs.Global.{Global}

@@ -8,9 +8,9 @@ use Rattle.std.proofs.lemmas.Bool.{cases_eq, eq-eqb, eqb-true, both_ways}
 use Rattle.std.proofs.lemmas.List.{get_or-set_same, get_or-set_other}
 use Rattle.std.proofs.lemmas.List.Folds.{list_any-append}
 use Rattle.std.proofs.lemmas.List.Sums.{sum_by-append, fold-append}
-use Rattle.pw_base.specs.declared.plan.Epoch.{Epoch}
-use Rattle.pw_base.specs.declared.plan.Fresh.{Fresh}
-use Rattle.pw_base.specs.declared.kind.Kind.{Kind}
+use Rattle.pw_graph.specs.declared.plan.Epoch.{Epoch}
+use Rattle.pw_graph.specs.declared.plan.Fresh.{Fresh}
+use Rattle.pw_graph.specs.declared.kind.Kind.{Kind}
 use Rattle.wav_files.specs.declared.wav.WavIn.{WavIn}
 use Rattle.graph_script.specs.declared.command.Command.{Command}
 use Rattle.graph_script.specs.declared.command.Command.TheVariants as C
@@ -27,7 +27,7 @@ use Rattle.graph_lines.specs.Lines.{made, prior, looped, switched_on, switched_o
 use Rattle.graph_lines.specs.Start.{kinds_of, newcomer, IsStart}
 use Rattle.port_model.specs.declared.port_state.Node.{Node}
 use Rattle.graph_lines.specs.UnlinkLines.{giving, IsTakenAway, UnlinksLine}
-use Rattle.pw_base.specs.declared.ids.PortId.{PortId}
+use Rattle.pw_graph.specs.declared.ids.PortId.{PortId}
 use Rattle.link_negotiation.specs.declared.unlinking.Unlinked.{Unlinked}
 use Rattle.link_negotiation.specs.declared.unlinking.Unlinked.TheVariants as U
 use Rattle.graph_plan.specs.Following.{Follows}

@@ -4,11 +4,11 @@ use Rattle.std.specs.Prelude.{Contains}
 use Rattle.std.proofs.lemmas.List.{length-map, get_or_past}
 use Rattle.std.proofs.lemmas.Bool.{cases_lt, both_ways}
 use Rattle.std.proofs.lemmas.List.Elements.{All-contains}
-use Rattle.pw_base.specs.declared.ids.PortId.{PortId}
-use Rattle.pw_base.specs.declared.kind.Kind.{Kind}
-use Rattle.pw_base.specs.declared.kind.Kind.TheVariants.{Dummy}
-use Rattle.pw_base.specs.KindPorts.{input_count, port_count}
-use Rattle.pw_base.specs.KindRanges.{IsChannels, MayHaveRate, MayHaveChannels}
+use Rattle.pw_graph.specs.declared.ids.PortId.{PortId}
+use Rattle.pw_graph.specs.declared.kind.Kind.{Kind}
+use Rattle.pw_graph.specs.declared.kind.Kind.TheVariants.{Dummy}
+use Rattle.pw_graph.specs.KindPorts.{input_count, port_count}
+use Rattle.pw_graph.specs.KindRanges.{IsChannels, MayHaveRate, MayHaveChannels}
 use Rattle.port_model.specs.declared.port_state.Node.{Node}
 use Rattle.port_model.specs.PortState.{IsPort}
 use Rattle.port_model.specs.SoundPorts.{IsSoundNode}

@@ -7,21 +7,21 @@ use Rattle.std.proofs.lemmas.Option.{none-some, slice_get-get_or, slice_get_with
 use Rattle.std.proofs.lemmas.List.{get_or_past, length-map}
 use Rattle.std.proofs.lemmas.List.Elements.{All-head, All-tail, All-weaker, filter_agree}
 use Rattle.std.proofs.lemmas.List.Sums.{sum_by-cons}
-use Rattle.pw_base.specs.declared.ids.PortId.{PortId}
-use Rattle.pw_base.specs.declared.kind.Kind.{Kind}
-use Rattle.pw_base.specs.declared.kind.Kind.TheVariants.{Source, Square, Gain, Mix2, Delay, Map, Split, Sink, Meter, Dummy}
-use Rattle.pw_base.specs.declared.plan.Epoch.{Epoch}
-use Rattle.pw_base.specs.declared.plan.Plan.{Plan}
-use Rattle.pw_base.specs.declared.plan.PlanNode.{PlanNode}
-use Rattle.pw_base.specs.declared.plan.PortForm.{PortForm}
-use Rattle.pw_base.specs.declared.shape.ShapeLink.{ShapeLink}
-use Rattle.pw_base.specs.KindPorts.{input_count, port_count}
-use Rattle.pw_base.specs.KindRanges.{IsInRange, IsRate, IsChannels, IsSinkOrMeter, MayHaveRate}
-use Rattle.pw_base.specs.PlanForms.{kind_at}
-use Rattle.pw_base.specs.PlanFresh.{HasSoundFresh}
-use Rattle.pw_base.specs.PlanSums.{is_sink, epoch_events, epoch_samples, epoch_bytes}
-use Rattle.pw_base.specs.Pools.{asked}
-use Rattle.pw_base.specs.SoundPlan.{FollowFrom, IsSoundNode, EndsWith, IsSoundEpoch, IsSoundPlan}
+use Rattle.pw_graph.specs.declared.ids.PortId.{PortId}
+use Rattle.pw_graph.specs.declared.kind.Kind.{Kind}
+use Rattle.pw_graph.specs.declared.kind.Kind.TheVariants.{Source, Square, Gain, Mix2, Delay, Map, Split, Sink, Meter, Dummy}
+use Rattle.pw_graph.specs.declared.plan.Epoch.{Epoch}
+use Rattle.pw_graph.specs.declared.plan.Plan.{Plan}
+use Rattle.pw_graph.specs.declared.plan.PlanNode.{PlanNode}
+use Rattle.pw_graph.specs.declared.plan.PortForm.{PortForm}
+use Rattle.pw_graph.specs.declared.shape.ShapeLink.{ShapeLink}
+use Rattle.pw_graph.specs.KindPorts.{input_count, port_count}
+use Rattle.pw_graph.specs.KindRanges.{IsInRange, IsRate, IsChannels, IsSinkOrMeter, MayHaveRate}
+use Rattle.pw_graph.specs.PlanForms.{kind_at}
+use Rattle.pw_graph.specs.PlanFresh.{HasSoundFresh}
+use Rattle.pw_graph.specs.PlanSums.{is_sink, epoch_events, epoch_samples, epoch_bytes}
+use Rattle.pw_graph.specs.Pools.{asked}
+use Rattle.pw_graph.specs.SoundPlan.{FollowFrom, IsSoundNode, EndsWith, IsSoundEpoch, IsSoundPlan}
 use Rattle.port_model.specs.declared.port_state.Node.{Node}
 use Rattle.port_model.specs.SoundPorts.{IsSoundNode as IsSoundPorts}
 use Rattle.port_model.proofs.NodeLemmas.{at_place}

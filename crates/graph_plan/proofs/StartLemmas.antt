@@ -8,11 +8,11 @@ use Rattle.std.proofs.lemmas.Option.{none-some}
 use Rattle.std.proofs.lemmas.List.{get_or_past, get_or-replicate, length-replicate}
 use Rattle.std.proofs.lemmas.List.FromFn.{length-map-range_with_len, get_or-map-range_with_len}
 use Rattle.std.proofs.lemmas.List.Elements.{All-nil, All-head}
-use Rattle.pw_base.specs.declared.plan.Epoch.{Epoch}
-use Rattle.pw_base.specs.declared.plan.Plan.{Plan}
-use Rattle.pw_base.specs.PlanFresh.{IsEpoch}
-use Rattle.pw_base.specs.Limits.{quantum_limit}
-use Rattle.pw_base.specs.SoundShape.{IsBetween}
+use Rattle.pw_graph.specs.declared.plan.Epoch.{Epoch}
+use Rattle.pw_graph.specs.declared.plan.Plan.{Plan}
+use Rattle.pw_graph.specs.PlanFresh.{IsEpoch}
+use Rattle.pw_graph.specs.Limits.{quantum_limit}
+use Rattle.pw_graph.specs.SoundShape.{IsBetween}
 use Rattle.graph_script.specs.declared.command.Command.{Command}
 use Rattle.graph_script.specs.declared.command.Command.TheVariants as C
 use Rattle.graph_script.specs.declared.script.Line.{Line}

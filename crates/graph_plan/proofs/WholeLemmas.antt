@@ -4,11 +4,11 @@ use Rattle.std.specs.Prelude.{slice_get, IsSome, option_and_then, if◌then◌el
 use Rattle.std.specs.Option.{option_or}
 use Rattle.std.proofs.lemmas.Option.{same_Some, none-some, slice_get_within}
 use Rattle.pod_codec.specs.declared.pod.Pod.{Pod}
-use Rattle.pw_base.specs.declared.ids.PortId.{PortId}
-use Rattle.pw_base.specs.declared.kind.Kind.{Kind}
-use Rattle.pw_base.specs.declared.kind.Kind.TheVariants.{Source, Square, Gain, Mix2, Delay, Map, Split, Sink, Meter, Dummy}
-use Rattle.pw_base.specs.KindPorts.{port_count}
-use Rattle.pw_base.specs.KindRanges.{IsSinkOrMeter, MayHaveChannels}
+use Rattle.pw_graph.specs.declared.ids.PortId.{PortId}
+use Rattle.pw_graph.specs.declared.kind.Kind.{Kind}
+use Rattle.pw_graph.specs.declared.kind.Kind.TheVariants.{Source, Square, Gain, Mix2, Delay, Map, Split, Sink, Meter, Dummy}
+use Rattle.pw_graph.specs.KindPorts.{port_count}
+use Rattle.pw_graph.specs.KindRanges.{IsSinkOrMeter, MayHaveChannels}
 use Rattle.format_filter.specs.declared.choice.Choice.{Choice}
 use Rattle.format_filter.specs.declared.format.Field.{Field}
 use Rattle.format_filter.specs.declared.format.Format.{Format}

@@ -1,8 +1,8 @@
 -- What a script, its ports and its waves meet before a plan is made of them.
 -- Source: this project's script grammar.
 use Rattle.std.specs.Prelude.{◌≡◌, ℕ, ◌==◌, List, length, All, Some, None, count_by}
-use Rattle.pw_base.specs.declared.kind.Kind.{Kind}
-use Rattle.pw_base.specs.declared.kind.Kind.TheVariants.{Source}
+use Rattle.pw_graph.specs.declared.kind.Kind.{Kind}
+use Rattle.pw_graph.specs.declared.kind.Kind.TheVariants.{Source}
 use Rattle.wav_files.specs.declared.wav.WavIn.{WavIn}
 use Rattle.graph_script.specs.declared.script.Line.{Line}
 use Rattle.graph_script.specs.Kinds.{HasPorts}

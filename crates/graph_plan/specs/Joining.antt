@@ -1,10 +1,10 @@
 -- The `link` and `unlink` lines of a plan name ports of its nodes.
 -- Source: this project's script grammar.
 use Rattle.std.specs.Prelude.{◌<◌, ◌≤◌}
-use Rattle.pw_base.specs.declared.plan.LinkLine.{LinkLine}
-use Rattle.pw_base.specs.declared.plan.Plan.{Plan}
-use Rattle.pw_base.specs.KindPorts.{input_count, port_count}
-use Rattle.pw_base.specs.PlanForms.{kind_at}
+use Rattle.pw_graph.specs.declared.plan.LinkLine.{LinkLine}
+use Rattle.pw_graph.specs.declared.plan.Plan.{Plan}
+use Rattle.pw_graph.specs.KindPorts.{input_count, port_count}
+use Rattle.pw_graph.specs.PlanForms.{kind_at}
 
 -- a line joins an output to an input
 pub record JoinsKinds (plan : Plan) (l : LinkLine) : Type 0 where

@@ -2,11 +2,11 @@
 -- Source: this project's.
 use Rattle.std.specs.Prelude.{◌≡◌, ℕ, List, [], map, length, Result, Ok, Err, Contains}
 use Rattle.std.specs.List.{AllZip}
-use Rattle.pw_base.specs.declared.parts.Part.{Part}
-use Rattle.pw_base.specs.declared.parts.Parts.{Parts}
-use Rattle.pw_base.specs.declared.plan.LineOutcome.{LineOutcome}
-use Rattle.pw_base.specs.declared.plan.LineOutcome.TheVariants as O
-use Rattle.pw_base.specs.declared.plan.LinkLine.{LinkLine}
+use Rattle.pw_graph.specs.declared.parts.Part.{Part}
+use Rattle.pw_graph.specs.declared.parts.Parts.{Parts}
+use Rattle.pw_graph.specs.declared.plan.LineOutcome.{LineOutcome}
+use Rattle.pw_graph.specs.declared.plan.LineOutcome.TheVariants as O
+use Rattle.pw_graph.specs.declared.plan.LinkLine.{LinkLine}
 use Rattle.wav_files.specs.declared.wav.WavIn.{WavIn}
 use Rattle.graph_script.specs.declared.script.Line.{Line}
 use Rattle.port_model.specs.declared.port_state.Node.{Node}

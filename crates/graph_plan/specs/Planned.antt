@@ -1,7 +1,7 @@
 -- What a whole script means: its plan, or the first line that passes a limit.
 -- Source: this project's.
 use Rattle.std.specs.Prelude.{ℕ, List, Result, Ok, Err}
-use Rattle.pw_base.specs.declared.plan.Plan.{Plan}
+use Rattle.pw_graph.specs.declared.plan.Plan.{Plan}
 use Rattle.wav_files.specs.declared.wav.WavIn.{WavIn}
 use Rattle.graph_script.specs.declared.script.Line.{Line}
 use Rattle.port_model.specs.declared.port_state.Node.{Node}

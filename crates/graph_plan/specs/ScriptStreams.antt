@@ -4,10 +4,10 @@
 -- anew.
 use Rattle.std.specs.Prelude.{◌≡◌, ℕ, ◌==◌, ◌<◌, ◌&&◌, ◌||◌, Bool, false, not, nat_le, if◌then◌else◌, List, [], ◌∷◌, length, ℤ}
 use Rattle.std.specs.List.{flat_map}
-use Rattle.pw_base.specs.declared.ids.PortId.{PortId}
-use Rattle.pw_base.specs.declared.plan.Plan.{Plan}
-use Rattle.pw_base.specs.KindPorts.{input_count}
-use Rattle.pw_base.specs.PlanForms.{kind_at}
+use Rattle.pw_graph.specs.declared.ids.PortId.{PortId}
+use Rattle.pw_graph.specs.declared.plan.Plan.{Plan}
+use Rattle.pw_graph.specs.KindPorts.{input_count}
+use Rattle.pw_graph.specs.PlanForms.{kind_at}
 use Rattle.wav_files.specs.declared.wav.WavIn.{WavIn}
 use Rattle.cycle_model.specs.Cycle.{Outputs, input_of, stream_of}
 use Rattle.cycle_model.specs.Epochs.{active_cycles, all_cycles}

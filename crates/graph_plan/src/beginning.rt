@@ -14,7 +14,7 @@ use crate::together::Together;
 use graph_lines::Graph;
 use graph_script::{Line, Script};
 use port_model::Ports;
-use pw_base::{Items, Memory};
+use pw_lists::{Items, Memory};
 use std::alloc::Global;
 use wav_files::WavIn;
 

@@ -1,6 +1,6 @@
 //! Why there is no plan.
 
-use pw_base::Which;
+use pw_graph::Which;
 
 /// Why there is no plan.
 #[derive(Clone, Copy, Debug, PartialEq, Eq, Drop)]

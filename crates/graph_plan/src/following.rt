@@ -7,7 +7,7 @@ ghost use Rattle.graph_plan.specs.Planned.{IsFollowed};
 use crate::fault::PlanFault;
 use graph_lines::{Graph, Stepped};
 use graph_script::Line;
-use pw_base::{Items, Memory};
+use pw_lists::{Items, Memory};
 use wav_files::WavIn;
 
 /// The graph after all lines, or the first line that passes a limit.

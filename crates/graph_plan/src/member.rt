@@ -1,6 +1,6 @@
 //! A part of a script, followed line by line.
 ghost use Rattle.std.specs.Prelude.{◌≡◌, ◌+◌, ◌≤◌, ◌&&◌, not, All, IfOk, Some, None};
-ghost use Rattle.pw_base.specs.PlanSums.{capped};
+ghost use Rattle.pw_graph.specs.PlanSums.{capped};
 ghost use Rattle.graph_lines.specs.declared.graph.Stepped.TheVariants.{Done};
 ghost use Rattle.graph_lines.specs.Sums.{capped_sums, passed};
 ghost use Rattle.graph_plan.specs.working.Ahead.{is_run, both_sums, IsAhead};
@@ -12,7 +12,8 @@ ghost use Rattle.graph_plan.specs.PartLines.{is_line_of};
 use crate::partition::is_among;
 use graph_lines::{Graph, Stepped, Sums};
 use graph_script::{Command, Line};
-use pw_base::{Epoch, Items, Memory};
+use pw_graph::Epoch;
+use pw_lists::{Items, Memory};
 use wav_files::WavIn;
 
 /// A part: its nodes, ascending, and the graph that its lines so far have made.

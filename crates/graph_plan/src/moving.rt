@@ -7,7 +7,8 @@ ghost use Rattle.graph_plan.specs.working.MovingTogether.{GoBy, MoveOrPass};
 use crate::member::Member;
 use graph_lines::{Stepped, Sums};
 use graph_script::Line;
-use pw_base::{Epoch, Items, Memory, Which};
+use pw_graph::{Epoch, Which};
+use pw_lists::{Items, Memory};
 use std::alloc::Global;
 use wav_files::WavIn;
 

@@ -1,7 +1,7 @@
 //! The parts of a script, each with a plan of its own.
 ghost use Rattle.std.specs.Prelude.{◌≡◌, ◌⊎◌, ◌≤◌, length, map, IfOk, Ok, All};
 ghost use Rattle.std.specs.List.{AllZip};
-ghost use Rattle.pw_base.specs.SoundPlan.{IsSoundPlan};
+ghost use Rattle.pw_graph.specs.SoundPlan.{IsSoundPlan};
 ghost use Rattle.cycle_model.specs.WavesFit.{WavesFit};
 ghost use Rattle.graph_script.specs.Kinds.{HasKinds};
 ghost use Rattle.graph_script.specs.Making.{NamesMade};
@@ -22,7 +22,8 @@ use crate::planning::into_plan;
 use crate::together::{Together, follow_all};
 use graph_script::Script;
 use port_model::Ports;
-use pw_base::{Items, Memory, Part, Parts, Text};
+use pw_graph::{Part, Parts};
+use pw_lists::{Items, Memory, Text};
 use std::alloc::Global;
 use wav_files::WavIn;
 

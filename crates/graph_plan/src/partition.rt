@@ -1,6 +1,6 @@
 //! The parts of a script: the nodes that links join.
 ghost use Rattle.std.specs.Prelude.{◌≡◌, ◌↔◌, ◌++◌, ℕ, ◌<◌, ◌≤◌, true, false, List, length, drop, IfOk, OnOk, All, Contains};
-ghost use Rattle.pw_base.specs.Limits.{nodes_limit};
+ghost use Rattle.pw_graph.specs.Limits.{nodes_limit};
 ghost use Rattle.graph_script.specs.Kinds.{HasKinds};
 ghost use Rattle.graph_script.specs.Ranges.{HasRanges};
 ghost use Rattle.graph_lines.specs.Activity.{AreJoined};
@@ -13,7 +13,8 @@ ghost use Rattle.graph_plan.specs.Parts.{is_among, AreParts, IsPartition};
 use graph_lines::{Graph, Wire, active_nodes};
 use graph_script::{Line, Script};
 use port_model::Ports;
-use pw_base::{Items, Memory, NODES};
+use pw_graph::NODES;
+use pw_lists::{Items, Memory};
 use std::alloc::Global;
 use wav_files::WavIn;
 

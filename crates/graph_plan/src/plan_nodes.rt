@@ -1,15 +1,15 @@
 //! The nodes of a plan.
 ghost use Rattle.std.specs.Prelude.{◌≡◌, ℕ, ◌<◌, ◌≤◌, length, slice_get, slice_index_or, Some, IfOk};
-ghost use Rattle.pw_base.specs.Limits.{nodes_limit};
-ghost use Rattle.pw_base.specs.declared.kind.Kind.TheVariants.{Dummy};
-ghost use Rattle.pw_base.specs.declared.plan.PlanNode.{PlanNode};
+ghost use Rattle.pw_graph.specs.Limits.{nodes_limit};
+ghost use Rattle.pw_graph.specs.declared.kind.Kind.TheVariants.{Dummy};
+ghost use Rattle.pw_graph.specs.declared.plan.PlanNode.{PlanNode};
 ghost use Rattle.graph_lines.specs.Activity.{may_drive};
 ghost use Rattle.graph_lines.specs.Forms.{HasKinds};
 ghost use Rattle.graph_plan.specs.PlanOf.{IsEndOf, IsNodeOf};
 
 use graph_lines::{Graph, form_in};
-use port_model::copy_kind;
-use pw_base::{Items, Kind, Memory, PlanNode, PortId, Text};
+use pw_graph::{Kind, PlanNode, PortId};
+use pw_lists::{Items, Memory, Text};
 use std::alloc::Global;
 
 /// An equal node of a plan.
@@ -17,7 +17,7 @@ pub fn copy_node(alloc: Global, node: &PlanNode) -> Result<PlanNode, Memory>
     ensures { IfOk result (λ copied. copied ≡ node.now) }
 {
     let name = node.name.copy(alloc)?;
-    let kind = copy_kind(alloc, &node.kind)?;
+    let kind = node.kind.copy(alloc)?;
     Ok(PlanNode {
         name,
         kind,
@@ -67,7 +67,7 @@ fn node_of(graph: &Graph, names: &[Text], node: usize) -> Result<PlanNode, Memor
 {
     let (rate, channels) = end_of(graph, node as u32);
     let name = names[node].copy(graph.alloc)?;
-    let kind = copy_kind(graph.alloc, &graph.kinds.as_slice()[node])?;
+    let kind = graph.kinds.as_slice()[node].copy(graph.alloc)?;
     let k = graph.nodes.as_slice()[node].k;
     Ok(PlanNode {
         name,

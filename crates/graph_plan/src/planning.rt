@@ -1,6 +1,6 @@
 //! The plan of a script.
 ghost use Rattle.std.specs.Prelude.{◌≡◌, ◌≤◌, length, IfOk, All};
-ghost use Rattle.pw_base.specs.SoundPlan.{IsSoundPlan};
+ghost use Rattle.pw_graph.specs.SoundPlan.{IsSoundPlan};
 ghost use Rattle.cycle_model.specs.WavesFit.{WavesFit};
 ghost use Rattle.graph_script.specs.Ranges.{HasRanges};
 ghost use Rattle.graph_script.specs.Kinds.{HasKinds};
@@ -18,7 +18,8 @@ use crate::plan_nodes::nodes_of;
 use graph_lines::Graph;
 use graph_script::Script;
 use port_model::Ports;
-use pw_base::{Items, Memory, Plan, Text};
+use pw_graph::Plan;
+use pw_lists::{Items, Memory, Text};
 use std::alloc::Global;
 use wav_files::WavIn;
 

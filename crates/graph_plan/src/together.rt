@@ -12,7 +12,8 @@ use crate::moving::move_all;
 use crate::partition::is_among;
 use graph_lines::{Graph, Stepped};
 use graph_script::{Command, Line};
-use pw_base::{Items, LinkLine, Memory};
+use pw_graph::LinkLine;
+use pw_lists::{Items, Memory};
 use wav_files::WavIn;
 
 /// The graph of the whole script, which makes no epoch, and the parts, after some lines; and what

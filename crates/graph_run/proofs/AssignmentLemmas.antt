@@ -7,9 +7,9 @@ use Rattle.std.proofs.lemmas.Nat.{mod_below}
 use Rattle.std.proofs.lemmas.List.{length-map, get_or-map, map-id}
 use Rattle.std.proofs.lemmas.List.Elements.{filter-append}
 use Rattle.std.proofs.lemmas.List.FromFn.{map-range_with_len_more}
-use Rattle.pw_base.specs.declared.shape.ShapeNode.{ShapeNode}
-use Rattle.pw_base.specs.declared.plan.Epoch.{Epoch}
-use Rattle.pw_base.specs.declared.plan.Plan.{Plan}
+use Rattle.pw_graph.specs.declared.shape.ShapeNode.{ShapeNode}
+use Rattle.pw_graph.specs.declared.plan.Epoch.{Epoch}
+use Rattle.pw_graph.specs.declared.plan.Plan.{Plan}
 use Rattle.board_rule.specs.Layout.{HasSeats}
 use Rattle.graph_run.specs.Assignment.{drives_somewhere, loop_number, loop_of}
 use Rattle.graph_run.specs.Seating.{epoch_board}

@@ -7,11 +7,11 @@ use Rattle.std.proofs.lemmas.List.{get_or_default}
 use Rattle.std.proofs.lemmas.List.Sums.{sum_by-set}
 use Rattle.std.proofs.lemmas.Option.{slice_get_within, same_Some}
 use Rattle.atomic_table.specs.Seated.{TableId}
-use Rattle.pw_base.specs.declared.plan.Epoch.{Epoch}
-use Rattle.pw_base.specs.declared.plan.Plan.{Plan}
-use Rattle.pw_base.specs.declared.shape.Shape.{Shape}
-use Rattle.pw_base.specs.Limits.{dummy_node}
-use Rattle.pw_base.specs.PlanFresh.{IsEpoch}
+use Rattle.pw_graph.specs.declared.plan.Epoch.{Epoch}
+use Rattle.pw_graph.specs.declared.plan.Plan.{Plan}
+use Rattle.pw_graph.specs.declared.shape.Shape.{Shape}
+use Rattle.pw_graph.specs.Limits.{dummy_node}
+use Rattle.pw_graph.specs.PlanFresh.{IsEpoch}
 use Rattle.board_rule.specs.declared.board.Board.{Board}
 use Rattle.board_rule.specs.Known.{Known}
 use Rattle.board_rule.specs.Layout.{BoardLayout}

@@ -9,15 +9,15 @@ use Rattle.std.proofs.lemmas.List.Elements.{filter_passes}
 use Rattle.std.proofs.lemmas.List.Folds.{list_any_at}
 use Rattle.std.proofs.lemmas.List.FromFn.{length-range_with_len, get_or-range_with_len, length-enumerate_from, get_or-enumerate_from}
 use Rattle.std.proofs.lemmas.Option.{slice_get_within, get_or_from_slice_get}
-use Rattle.pw_base.specs.Listed.{Listed}
-use Rattle.pw_base.specs.declared.shape.ShapeNode.{ShapeNode}
-use Rattle.pw_base.specs.declared.plan.Epoch.{Epoch}
-use Rattle.pw_base.specs.declared.plan.Plan.{Plan}
-use Rattle.pw_base.specs.Limits.{dummy_node}
-use Rattle.pw_base.specs.PlanFresh.{IsEpoch}
-use Rattle.pw_base.specs.Pools.{IsPooledShape}
-use Rattle.pw_base.specs.SoundPlan.{IsSoundPlan, IsSoundEpoch}
-use Rattle.pw_base.specs.SoundShape.{IsSoundShape}
+use Rattle.pw_lists.specs.Listed.{Listed}
+use Rattle.pw_graph.specs.declared.shape.ShapeNode.{ShapeNode}
+use Rattle.pw_graph.specs.declared.plan.Epoch.{Epoch}
+use Rattle.pw_graph.specs.declared.plan.Plan.{Plan}
+use Rattle.pw_graph.specs.Limits.{dummy_node}
+use Rattle.pw_graph.specs.PlanFresh.{IsEpoch}
+use Rattle.pw_graph.specs.Pools.{IsPooledShape}
+use Rattle.pw_graph.specs.SoundPlan.{IsSoundPlan, IsSoundEpoch}
+use Rattle.pw_graph.specs.SoundShape.{IsSoundShape}
 use Rattle.wav_files.specs.declared.wav.WavIn.{WavIn}
 use Rattle.cycle_model.specs.Expected.{expected_samples, epoch_rows}
 use Rattle.board_rule.specs.declared.board.Board.{Board}

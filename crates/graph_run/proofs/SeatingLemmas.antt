@@ -8,13 +8,13 @@ use Rattle.std.proofs.lemmas.List.Elements.{All-head, All-tail}
 use Rattle.std.proofs.lemmas.List.FromFn.{length-range_with_len, get_or-range_with_len}
 use Rattle.std.proofs.lemmas.List.Sums.{count_by-le-length, count_by_more_yes, count_by_more_no}
 use Rattle.std.proofs.lemmas.Option.{slice_get-get_or}
-use Rattle.pw_base.specs.declared.shape.ShapeNode.{ShapeNode}
-use Rattle.pw_base.specs.declared.plan.Epoch.{Epoch}
-use Rattle.pw_base.specs.declared.plan.Plan.{Plan}
-use Rattle.pw_base.specs.Dependencies.{nodes_of}
-use Rattle.pw_base.specs.Limits.{dummy_node, nodes_limit}
-use Rattle.pw_base.specs.PlanFresh.{IsEpoch}
-use Rattle.pw_base.specs.SoundPlan.{IsSoundPlan, IsSoundEpoch}
+use Rattle.pw_graph.specs.declared.shape.ShapeNode.{ShapeNode}
+use Rattle.pw_graph.specs.declared.plan.Epoch.{Epoch}
+use Rattle.pw_graph.specs.declared.plan.Plan.{Plan}
+use Rattle.pw_graph.specs.Dependencies.{nodes_of}
+use Rattle.pw_graph.specs.Limits.{dummy_node, nodes_limit}
+use Rattle.pw_graph.specs.PlanFresh.{IsEpoch}
+use Rattle.pw_graph.specs.SoundPlan.{IsSoundPlan, IsSoundEpoch}
 use Rattle.wav_files.specs.declared.wav.WavIn.{WavIn}
 use Rattle.board_rule.specs.Known.{Known}
 use Rattle.data_loop.specs.declared.loop_state.LoopState.{LoopState}

@@ -4,7 +4,7 @@
 -- project's own.
 use Rattle.std.specs.Prelude.{ℕ, ◌%◌, ◌==◌, ◌||◌, not, Bool, List, map, count_by, length, slice_get, option_map, unwrap_or, take, if◌then◌else◌}
 use Rattle.std.specs.List.{list_any, range_with_len}
-use Rattle.pw_base.specs.declared.plan.Plan.{Plan}
+use Rattle.pw_graph.specs.declared.plan.Plan.{Plan}
 
 -- a node drives in some epoch
 abbrev pub drives_somewhere : Plan → ℕ → Bool

@@ -3,8 +3,8 @@
 -- Source: PipeWire's documentation, "Graph Scheduling"; boards are this project's own.
 use Rattle.std.specs.Prelude.{◌≡◌, ℕ, ◌+◌, ◌-◌, List, [], ◌∷◌, ◌++◌, map, Some, option_map, slice_get}
 use Rattle.std.specs.List.{enumerate_from, range_with_len}
-use Rattle.pw_base.specs.Listed.{Listed}
-use Rattle.pw_base.specs.declared.plan.Plan.{Plan}
+use Rattle.pw_lists.specs.Listed.{Listed}
+use Rattle.pw_graph.specs.declared.plan.Plan.{Plan}
 use Rattle.wav_files.specs.declared.wav.WavIn.{WavIn}
 use Rattle.cycle_model.specs.Expected.{expected_samples}
 use Rattle.board_rule.specs.declared.board.Board.{Board}

@@ -2,9 +2,9 @@
 -- Source: this project's own.
 use Rattle.std.specs.Prelude.{◌≡◌, ℕ, List, map, sum_by}
 use Rattle.std.specs.List.{flat_map}
-use Rattle.pw_base.specs.declared.event.Event.{Event}
-use Rattle.pw_base.specs.History.{IsLegalHistory}
-use Rattle.pw_base.specs.Layout.{event_count}
+use Rattle.pw_graph.specs.declared.event.Event.{Event}
+use Rattle.pw_graph.specs.History.{IsLegalHistory}
+use Rattle.pw_graph.specs.Layout.{event_count}
 use Rattle.board_rule.specs.declared.board.Board.{Board}
 use Rattle.board_rule.specs.declared.closed.Closed.{Closed}
 use Rattle.board_rule.specs.Known.{Known}

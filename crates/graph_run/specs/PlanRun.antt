@@ -3,9 +3,9 @@
 -- ticker says so, are this project's own.
 use Rattle.std.specs.Prelude.{◌≡◌, ℕ, ◌-◌, ◌<◌, ◌≤◌, List, length, map, count_by}
 use Rattle.std.specs.List.{flat_map, range_with_len}
-use Rattle.pw_base.specs.declared.event.Event.{Event}
-use Rattle.pw_base.specs.declared.plan.Plan.{Plan}
-use Rattle.pw_base.specs.History.{is_tick, IsLegalHistory}
+use Rattle.pw_graph.specs.declared.event.Event.{Event}
+use Rattle.pw_graph.specs.declared.plan.Plan.{Plan}
+use Rattle.pw_graph.specs.History.{is_tick, IsLegalHistory}
 use Rattle.wav_files.specs.declared.wav.WavIn.{WavIn}
 use Rattle.cycle_model.specs.Expected.{expected_samples}
 use Rattle.board_rule.specs.declared.closed.Closed.{Closed}

@@ -1,8 +1,8 @@
 -- The room for what a run of a plan answers.
 -- Source: this project's own.
 use Rattle.std.specs.Prelude.{◌≡◌, ◌≤◌, [], length}
-use Rattle.pw_base.specs.declared.plan.Plan.{Plan}
-use Rattle.pw_base.specs.PlanSums.{events_of}
+use Rattle.pw_graph.specs.declared.plan.Plan.{Plan}
+use Rattle.pw_graph.specs.PlanSums.{events_of}
 use Rattle.graph_run.specs.declared.rooms.Rooms.{Rooms}
 
 -- the lists are empty

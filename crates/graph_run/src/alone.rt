@@ -1,6 +1,6 @@
 //! A run of a plan by one thread.
 ghost use Rattle.std.specs.Prelude.{◌≡◌, IfOk};
-ghost use Rattle.pw_base.specs.SoundPlan.{IsSoundPlan};
+ghost use Rattle.pw_graph.specs.SoundPlan.{IsSoundPlan};
 ghost use Rattle.cycle_model.specs.WavesFit.{WavesFit};
 ghost use Rattle.graph_run.specs.RunStages.{IsAloneRun, CanRunAlone, HasRunAlone};
 
@@ -10,7 +10,9 @@ use crate::preparing::{Prepared, prepare};
 use crate::rooms::{Rooms, rooms_for};
 use crate::shared::Shared;
 use data_loop::LoopState;
-use pw_base::{Gate, Items, Memory, Never, Plan, Room};
+use pw_graph::Plan;
+use pw_lists::{Items, Memory, Room};
+use pw_outside::{Gate, Never};
 use std::alloc::Global;
 use std::sync::Wait;
 use wav_files::WavIn;

@@ -1,9 +1,10 @@
 //! Which loop each node belongs to.
 ghost use Rattle.std.specs.Prelude.{◌≡◌, ◌≤◌, IfOk, length};
-ghost use Rattle.pw_base.specs.Limits.{nodes_limit};
+ghost use Rattle.pw_graph.specs.Limits.{nodes_limit};
 ghost use Rattle.graph_run.specs.Assignment.{drives_somewhere, loop_of, owner_row};
 
-use pw_base::{Items, Memory, Plan};
+use pw_graph::Plan;
+use pw_lists::{Items, Memory};
 use std::alloc::Global;
 
 // Whether a node drives in some epoch.

@@ -1,6 +1,6 @@
 //! The boards of all epochs.
 ghost use Rattle.std.specs.Prelude.{◌≡◌, ◌+◌, ◌<◌, ◌≤◌, [], All, IfOk, length, map, zip};
-ghost use Rattle.pw_base.specs.SoundPlan.{IsSoundPlan};
+ghost use Rattle.pw_graph.specs.SoundPlan.{IsSoundPlan};
 ghost use Rattle.cycle_model.specs.WavesFit.{WavesFit};
 ghost use Rattle.cycle_model.specs.Expected.{IsShort, AreShort, expected_samples};
 ghost use Rattle.std.specs.List.{enumerate_from, range_with_len};
@@ -11,7 +11,8 @@ ghost use Rattle.graph_run.specs.LoopsOnPlan.{AreFirstLeads};
 
 use crate::seating::{Seating, seat_row};
 use board_rule::{Board, DriverSeat, Expect, LoopSeat};
-use pw_base::{Items, Memory, Plan, Room};
+use pw_graph::Plan;
+use pw_lists::{Items, Memory, Room};
 use std::alloc::Global;
 use std::marker::Brand;
 use wav_files::WavIn;

@@ -1,12 +1,13 @@
 //! The end of all boards of a run.
 ghost use Rattle.std.specs.Prelude.{◌≡◌, ◌≤◌, ◌+◌, ◌++◌, [], length, map, sum_by, count_by};
 ghost use Rattle.std.specs.List.{AllZip};
-ghost use Rattle.pw_base.specs.History.{is_tick};
+ghost use Rattle.pw_graph.specs.History.{is_tick};
 ghost use Rattle.board_rule.specs.events.Closing.{expected};
 ghost use Rattle.graph_run.specs.Closing.{HasEnded, events_on, AreClosedOf, events_in, IsLegalOn};
 
 use board_rule::{Board, Closed, DriverSeat};
-use pw_base::{Event, Items, Room};
+use pw_graph::Event;
+use pw_lists::{Items, Room};
 
 /// What is left of a run's boards: the closed boards in order, and all their events one after the
 /// other.

@@ -1,9 +1,9 @@
 //! A run after its last cycle, and what it answers.
 ghost use Rattle.std.specs.Prelude.{◌≡◌, ◌≤◌, ℕ, All, length, map, count_by};
 ghost use Rattle.std.specs.List.{AllZip};
-ghost use Rattle.pw_base.specs.History.{is_tick};
-ghost use Rattle.pw_base.specs.Limits.{dummy_node};
-ghost use Rattle.pw_base.specs.SoundPlan.{IsSoundPlan};
+ghost use Rattle.pw_graph.specs.History.{is_tick};
+ghost use Rattle.pw_graph.specs.Limits.{dummy_node};
+ghost use Rattle.pw_graph.specs.SoundPlan.{IsSoundPlan};
 ghost use Rattle.wav_files.specs.WavWriting.{IsWave};
 ghost use Rattle.cycle_model.specs.Rendering.{rendered_sinks, rendered_peaks};
 ghost use Rattle.cycle_model.specs.WavesFit.{WavesFit};
@@ -20,7 +20,8 @@ use crate::outcomes::{KeptOf, take_kept};
 use crate::rooms::Rooms;
 use board_rule::{Board, Closed, DriverSeat};
 use data_loop::LoopState;
-use pw_base::{Items, Plan};
+use pw_graph::Plan;
+use pw_lists::Items;
 use std::alloc::Global;
 use wav_files::{Outcome, WavIn};
 

@@ -11,7 +11,8 @@ ghost use Rattle.graph_run.specs.LoopsOnPlan.{IsReady, HasDrivers, HasNoDriver, 
 use board_rule::{Board, DriverSeat};
 use data_loop::{LoopState, Way, Ways};
 use driver_cycle::run_epoch;
-use pw_base::{Gate, Items, Ticker};
+use pw_lists::Items;
+use pw_outside::{Gate, Ticker};
 use std::sync::Wait;
 
 // All loops go into the next epoch.

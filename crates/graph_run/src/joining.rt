@@ -5,7 +5,8 @@ ghost use Rattle.graph_run.specs.Threads.{CanStart, HasRun, IsDoneWith, nodes_wi
 use crate::shared::Shared;
 use crate::starting::{LoopHandle, run_loop};
 use data_loop::LoopState;
-use pw_base::{Gate, Items, Room};
+use pw_lists::{Items, Room};
+use pw_outside::Gate;
 use std::sync::Wait;
 use std::thread::Threads;
 

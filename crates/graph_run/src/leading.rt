@@ -8,7 +8,8 @@ use crate::epochs::{Course, run_epochs};
 use crate::shared::Shared;
 use board_rule::DriverSeat;
 use data_loop::{LoopState, Way};
-use pw_base::{Gate, Items, Ticker};
+use pw_lists::Items;
+use pw_outside::{Gate, Ticker};
 use std::sync::Wait;
 
 /// The driver's own loop, its seats of all boards in the order of the epochs, and its way to the

@@ -4,7 +4,7 @@ ghost use Rattle.graph_run.specs.working.Lists.{HasPlaced};
 
 use crate::starting::{LoopHandle, Start};
 use data_loop::LoopState;
-use pw_base::Room;
+use pw_lists::Room;
 
 /// The handles of the loops that run in threads of their own, the loops that the driver's thread
 /// adopted, and those that have done all epochs.

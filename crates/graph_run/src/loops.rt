@@ -1,6 +1,6 @@
 //! The loops of a run.
 ghost use Rattle.std.specs.Prelude.{◌≡◌, ◌≤◌, ◌+◌, All, IfOk, length, map};
-ghost use Rattle.pw_base.specs.SoundPlan.{IsSoundPlan};
+ghost use Rattle.pw_graph.specs.SoundPlan.{IsSoundPlan};
 ghost use Rattle.cycle_model.specs.WavesFit.{WavesFit};
 ghost use Rattle.data_loop.specs.LoopStart.{IsLoopOf};
 ghost use Rattle.data_loop.specs.Loops.{IsBetweenEpochs};
@@ -10,7 +10,8 @@ ghost use Rattle.graph_run.specs.Seating.{IsSeatingOf, holder_of, nodes_of_loop}
 use crate::seating::{Seating, nodes_of_loop};
 use board_rule::LoopSeat;
 use data_loop::LoopState;
-use pw_base::{Items, Memory, Plan, Room};
+use pw_graph::Plan;
+use pw_lists::{Items, Memory, Room};
 use std::alloc::Global;
 use wav_files::WavIn;
 

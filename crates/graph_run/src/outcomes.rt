@@ -1,12 +1,13 @@
 //! What the sinks and meters of a plan have kept.
 ghost use Rattle.std.specs.Prelude.{◌≡◌, ◌<◌, ◌≤◌, ◌+◌, ◌++◌, ℕ, suc, [], List, Some, length, option_to_list, slice_get};
-ghost use Rattle.pw_base.specs.Limits.{dummy_node};
+ghost use Rattle.pw_graph.specs.Limits.{dummy_node};
 ghost use Rattle.wav_files.specs.declared.wav.WavIn.{WavIn};
 ghost use Rattle.cycle_model.specs.Rendering.{kept_of, peak_at, rendered_sinks, rendered_peaks};
 ghost use Rattle.graph_run.specs.Outcomes.{HasNodeAt, HaveAll, AreDone, AreLeftFrom};
 
 use data_loop::LoopState;
-use pw_base::{Items, Kind, Plan, PlanNode, Room, is_sink};
+use pw_graph::{Kind, Plan, PlanNode, is_sink};
+use pw_lists::{Items, Room};
 use std::alloc::Global;
 use wav_files::{Kept, Peak, Wav};
 

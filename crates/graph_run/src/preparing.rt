@@ -1,6 +1,6 @@
 //! What a run of a plan needs before its first cycle.
 ghost use Rattle.std.specs.Prelude.{◌≡◌, ◌≤◌, IfOk, length, map};
-ghost use Rattle.pw_base.specs.SoundPlan.{IsSoundPlan};
+ghost use Rattle.pw_graph.specs.SoundPlan.{IsSoundPlan};
 ghost use Rattle.cycle_model.specs.WavesFit.{WavesFit};
 ghost use Rattle.ready_queues.specs.Lanes.{loops_limit};
 ghost use Rattle.graph_run.specs.working.Prepared.{IsPrepared};
@@ -13,7 +13,8 @@ use crate::shared::{LoopWay, Shared};
 use crate::ways::ways_of;
 use data_loop::{LoopState, Way};
 use node_progress::Score;
-use pw_base::{Items, Memory, Plan};
+use pw_graph::Plan;
+use pw_lists::{Items, Memory};
 use std::alloc::Global;
 use std::sync::atomic::AtomicU64;
 use wav_files::WavIn;

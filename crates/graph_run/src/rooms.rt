@@ -1,14 +1,15 @@
 //! The room that a run needs, taken before its first cycle.
 ghost use Rattle.std.specs.Prelude.{◌≡◌, ◌≤◌, IfOk, IfSome};
-ghost use Rattle.pw_base.specs.Layout.{event_count};
-ghost use Rattle.pw_base.specs.PlanSums.{events_of};
+ghost use Rattle.pw_graph.specs.Layout.{event_count};
+ghost use Rattle.pw_graph.specs.PlanSums.{events_of};
 ghost use Rattle.ready_queues.specs.Lanes.{loops_limit};
 ghost use Rattle.graph_run.specs.working.Lists.{AreEmpty, HaveRooms};
 ghost use Rattle.graph_run.specs.Rooms.{AreRooms};
 
 use crate::lists::Lists;
 use board_rule::Closed;
-use pw_base::{Event, Items, Memory, Plan, Room, Shape};
+use pw_graph::{Event, Plan, Shape};
+use pw_lists::{Items, Memory, Room};
 use std::alloc::Global;
 use wav_files::{Kept, Peak};
 

@@ -1,12 +1,13 @@
 //! Who is on which seat of the boards.
 ghost use Rattle.std.specs.Prelude.{◌≡◌, ◌≤◌, IfOk, length, map};
 ghost use Rattle.std.specs.List.{range_with_len};
-ghost use Rattle.pw_base.specs.Limits.{nodes_limit};
+ghost use Rattle.pw_graph.specs.Limits.{nodes_limit};
 ghost use Rattle.graph_run.specs.Assignment.{loop_of, cell_number, cell_count};
 ghost use Rattle.graph_run.specs.Seating.{IsSeatingOf, holder_of, nodes_of_loop, seat_row, seated_by};
 
 use crate::assignment::{drives_somewhere, owner_row};
-use pw_base::{Items, Memory, Plan, Shape};
+use pw_graph::{Plan, Shape};
+use pw_lists::{Items, Memory};
 use std::alloc::Global;
 
 /// The seat of each node of a plan. Seats are numbered from 0, one a loop; the last, of the number

@@ -2,7 +2,7 @@
 use board_rule::Board;
 use data_loop::{LoopState, Way, Ways};
 use node_progress::Score;
-use pw_base::Items;
+use pw_lists::Items;
 use std::sync::atomic::AtomicU64;
 
 /// The boards of a run in the order of the epochs, and what its threads have of the queues. Bit k

@@ -1,6 +1,6 @@
 //! The queues of a plan's loops, and the way of each thread to them.
 ghost use Rattle.std.specs.Prelude.{◌≡◌, ◌≤◌, ℕ, IfOk, Some, length, slice_get};
-ghost use Rattle.pw_base.specs.Limits.{nodes_limit};
+ghost use Rattle.pw_graph.specs.Limits.{nodes_limit};
 ghost use Rattle.ready_queues.specs.declared.way.Way.{Way};
 ghost use Rattle.ready_queues.specs.Lanes.{loops_limit};
 ghost use Rattle.ready_queues.specs.Opening.{IsNewWay};
@@ -8,7 +8,8 @@ ghost use Rattle.graph_run.specs.Assignment.{owner_row};
 
 use crate::assignment::owner_row;
 use data_loop::{Way, Ways};
-use pw_base::{Items, Memory, Plan};
+use pw_graph::Plan;
+use pw_lists::{Items, Memory};
 use std::alloc::Global;
 
 /// The queues of a plan's loops, the way of the driver's thread, and those of the loops in their

@@ -3,7 +3,7 @@ use Rattle.std.proofs.Common.{◌≡◌, ℕ, ◌<◌, Bool, true, false, List, 
 use Rattle.std.specs.Prelude.{filter, nat_lt, None}
 use Rattle.std.specs.List.{slice_split, position_or_len, prefix_len}
 use Rattle.std.proofs.lemmas.Bool.{lt-ltb}
-use Rattle.pw_base.proofs.PieceLemmas.{one-more, pieces_after, first_piece}
+use Rattle.pw_lists.proofs.PieceLemmas.{one-more, pieces_after, first_piece}
 use Rattle.graph_script.specs.Arguments.{two_of}
 use Rattle.graph_script.specs.Lexical.{is_blank, words_of}
 

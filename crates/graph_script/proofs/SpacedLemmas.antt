@@ -2,7 +2,7 @@
 use Rattle.std.proofs.Common.{◌≡◌, ℕ, List, [], ◌∷◌, ◌++◌, length, map, refl, sym, ap, ◌∙◌, append_assoc, append-nil, decimal, arith}
 use Rattle.std.specs.Prelude.{Option, Some, None, option_map, option_to_list}
 use Rattle.std.specs.List.{cons_option}
-use Rattle.pw_base.specs.declared.kind.Kind.{Kind}
+use Rattle.pw_graph.specs.declared.kind.Kind.{Kind}
 use Rattle.graph_script.specs.declared.script.Line.{Line}
 use Rattle.graph_script.specs.Kinds.{made_by, made_of}
 use Rattle.graph_script.specs.Printing.{spaced, list_word, kinds_of}

@@ -7,9 +7,9 @@ use Rattle.std.proofs.lemmas.List.{get_or_append_left, get_or-append-add}
 use Rattle.std.proofs.lemmas.List.Quantifiers.{position-Some}
 use Rattle.std.proofs.lemmas.List.Splits.{join_with_byte-slice_split}
 use Rattle.std.proofs.lemmas.Slice.Eq.{bytes_eq-Decides}
-use Rattle.pw_base.specs.declared.ids.PortId.{PortId}
-use Rattle.pw_base.specs.declared.kind.Kind.{Kind}
-use Rattle.pw_base.specs.KindPorts.{input_names, output_names, input_count, port_name}
+use Rattle.pw_graph.specs.declared.ids.PortId.{PortId}
+use Rattle.pw_graph.specs.declared.kind.Kind.{Kind}
+use Rattle.pw_graph.specs.KindPorts.{input_names, output_names, input_count, port_name}
 use Rattle.graph_script.specs.declared.fault.ScriptWhy.{ScriptWhy}
 use Rattle.graph_script.specs.declared.fault.ScriptWhy.TheVariants as W
 use Rattle.graph_script.specs.declared.reading.Reading.{Reading}

@@ -1,7 +1,7 @@
 -- The commands that make a node with a file, each by its arguments. Source: the form is this
 -- project's own.
 use Rattle.std.specs.Prelude.{ℕ, List, Ok}
-use Rattle.pw_base.specs.declared.kind.Kind.TheVariants as K
+use Rattle.pw_graph.specs.declared.kind.Kind.TheVariants as K
 use Rattle.graph_script.specs.declared.command.Command.TheVariants as C
 use Rattle.graph_script.specs.declared.reading.Said.{Said}
 use Rattle.graph_script.specs.declared.reading.Reading.{Reading}

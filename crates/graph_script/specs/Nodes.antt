@@ -2,10 +2,10 @@
 -- project's own.
 use Rattle.std.specs.Prelude.{ℕ, ◌+◌, ◌||◌, Bool, true, false, not, List, ◌++◌, length, Option, option_map, is_some, ok_or, Ok, Err}
 use Rattle.std.specs.Prelude.{position, slice_index_or, bytes_eq, codes, if◌then◌else◌}
-use Rattle.pw_base.specs.declared.ids.PortId.{PortId}
-use Rattle.pw_base.specs.declared.kind.Kind.{Kind}
-use Rattle.pw_base.specs.declared.kind.Kind.TheVariants as K
-use Rattle.pw_base.specs.KindPorts.{input_names, output_names, input_count}
+use Rattle.pw_graph.specs.declared.ids.PortId.{PortId}
+use Rattle.pw_graph.specs.declared.kind.Kind.{Kind}
+use Rattle.pw_graph.specs.declared.kind.Kind.TheVariants as K
+use Rattle.pw_graph.specs.KindPorts.{input_names, output_names, input_count}
 use Rattle.graph_script.specs.declared.fault.ScriptWhy.TheVariants as W
 use Rattle.graph_script.specs.declared.reading.Reading.{Reading}
 use Rattle.graph_script.specs.Arguments.{is_node_name, endpoint_parts}

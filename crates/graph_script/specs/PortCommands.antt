@@ -1,8 +1,8 @@
 -- The commands for ports and links, each by its arguments and what earlier lines forbid. Source:
 -- the range of the number is this project's own.
 use Rattle.std.specs.Prelude.{ℕ, List, Ok, Err, if◌then◌else◌}
-use Rattle.pw_base.specs.declared.ids.PortId.{PortId}
-use Rattle.pw_base.specs.Limits.{buffers_limit}
+use Rattle.pw_graph.specs.declared.ids.PortId.{PortId}
+use Rattle.pw_graph.specs.Limits.{buffers_limit}
 use Rattle.graph_script.specs.declared.fault.ScriptWhy.TheVariants as W
 use Rattle.graph_script.specs.declared.command.Command.TheVariants as C
 use Rattle.graph_script.specs.declared.reading.Said.{Said}

@@ -1,10 +1,10 @@
 -- Ranges: what holds of the numbers, the names and the nodes of every script that is read. Source:
 -- this project's own.
 use Rattle.std.specs.Prelude.{ℕ, ◌<◌, ◌≤◌, length, All, IsTrue}
-use Rattle.pw_base.specs.SoundShape.{IsBetween}
-use Rattle.pw_base.specs.Limits.{dummy_node, quantum_limit, buffers_limit}
-use Rattle.pw_base.specs.declared.kind.Kind.TheVariants as K
-use Rattle.pw_base.specs.KindRanges as kinds
+use Rattle.pw_graph.specs.SoundShape.{IsBetween}
+use Rattle.pw_graph.specs.Limits.{dummy_node, quantum_limit, buffers_limit}
+use Rattle.pw_graph.specs.declared.kind.Kind.TheVariants as K
+use Rattle.pw_graph.specs.KindRanges as kinds
 use Rattle.graph_script.specs.declared.command.Command.{Command}
 use Rattle.graph_script.specs.declared.command.Command.TheVariants as C
 use Rattle.graph_script.specs.declared.script.Script.{Script}

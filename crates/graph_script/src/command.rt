@@ -1,6 +1,7 @@
 //! The commands of a script, with numbers in the place of names.
 
-use pw_base::{Items, PortId, Text};
+use pw_graph::PortId;
+use pw_lists::{Items, Text};
 
 /// A command. A node is its number, which for a command that makes one is the new node's; a port is
 /// numbered within its node, inputs first. The ranges of the numbers are those that the grammar

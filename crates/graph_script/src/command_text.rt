@@ -13,7 +13,8 @@ use crate::node_text::{
     put_map, put_mix2, put_node_gain, put_node_number, put_node_word, put_square,
 };
 use crate::word_text::{put_endpoint, put_node, put_number, put_port, put_word};
-use pw_base::{Kind, Memory, PortId, Text};
+use pw_graph::{Kind, PortId};
+use pw_lists::{Memory, Text};
 
 // The output and the input of a link.
 fn put_ends(

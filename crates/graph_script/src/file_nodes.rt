@@ -12,7 +12,8 @@ use crate::names::file_word;
 use crate::new_nodes::{making, said_of};
 use crate::nodes::new_node;
 use crate::reading::{Reading, Said};
-use pw_base::{Items, Kind, Memory};
+use pw_graph::Kind;
+use pw_lists::{Items, Memory};
 use std::alloc::Global;
 
 // A new node with a file: its number, its name and the file.

@@ -3,7 +3,8 @@ ghost use Rattle.std.specs.Prelude.{◌≡◌, option_map, IfOk};
 ghost use Rattle.graph_script.specs.Kinds.{made_by};
 
 use crate::command::Command;
-use pw_base::{Kind, Memory};
+use pw_graph::Kind;
+use pw_lists::Memory;
 use std::alloc::Global;
 
 /// The kind of the node that a command makes, or `None` where it makes none. Takes memory for the

@@ -1,5 +1,5 @@
 //! The greatest numbers that the commands of a script may have.
-use pw_base::NODES;
+use pw_graph::NODES;
 
 /// The nodes of a script: their numbers are those below `DUMMY`.
 pub(crate) const NODES_LIMIT: usize = NODES - 1;

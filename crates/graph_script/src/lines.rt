@@ -9,7 +9,7 @@ use crate::lexing::{is_plain, says_nothing};
 use crate::progress::{Progress, advanced};
 use crate::reading::Said;
 use crate::saying::said_by;
-use pw_base::Memory;
+use pw_lists::Memory;
 use std::alloc::Global;
 
 // What a line says, if anything, or why it has no meaning.

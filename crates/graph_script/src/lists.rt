@@ -1,12 +1,13 @@
 //! Lists of channels.
 ghost use Rattle.std.specs.Prelude.{◌≡◌, ◌≤◌, IfOk};
-ghost use Rattle.pw_base.specs.Limits.{channels_limit};
+ghost use Rattle.pw_graph.specs.Limits.{channels_limit};
 ghost use Rattle.graph_script.specs.Arguments.{channel_list};
 ghost use Rattle.graph_script.specs.Checked.{list_arg};
 
 use crate::fault::ScriptWhy;
 use crate::numbers::number_within;
-use pw_base::{CHANNELS_LIMIT, Items, Memory, next_piece};
+use pw_graph::CHANNELS_LIMIT;
+use pw_lists::{Items, Memory, next_piece};
 use std::alloc::Global;
 
 // The numbers of a list, each below `channels`, parted by single commas: at most as many as a port

@@ -1,7 +1,7 @@
 //! The command that makes a map, with its list of channels.
 ghost use Rattle.std.specs.Prelude.{◌≡◌, ◌≤◌, IfOk};
-ghost use Rattle.pw_base.specs.Limits.{channels_limit};
-ghost use Rattle.pw_base.specs.declared.kind.Kind.TheVariants as K;
+ghost use Rattle.pw_graph.specs.Limits.{channels_limit};
+ghost use Rattle.pw_graph.specs.declared.kind.Kind.TheVariants as K;
 ghost use Rattle.graph_script.specs.declared.command.Command.TheVariants as C;
 ghost use Rattle.graph_script.specs.Lexical.{words_of};
 ghost use Rattle.graph_script.specs.Checked.{checked_map};
@@ -17,7 +17,8 @@ use crate::new_nodes::{making, said_of};
 use crate::nodes::new_node;
 use crate::numbers::number_in;
 use crate::reading::{Reading, Said};
-use pw_base::{CHANNELS_LIMIT, Items, Kind, Memory};
+use pw_graph::{CHANNELS_LIMIT, Kind};
+use pw_lists::{Items, Memory};
 use std::alloc::Global;
 
 // A new map before its list: its number, its name, the channels and the word of the list.

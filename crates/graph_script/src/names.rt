@@ -1,6 +1,6 @@
 //! Names of nodes, and file words.
 ghost use Rattle.std.specs.Prelude.{◌≡◌, ◌≤◌, length, position, bytes_eq};
-ghost use Rattle.pw_base.specs.Limits.{nodes_limit};
+ghost use Rattle.pw_graph.specs.Limits.{nodes_limit};
 ghost use Rattle.std.specs.List.{list_all};
 ghost use Rattle.graph_script.specs.Arguments.{is_letter, is_name_byte, is_node_name};
 ghost use Rattle.graph_script.specs.Checked.{checked_map, file_arg};
@@ -8,7 +8,7 @@ ghost use Rattle.graph_script.specs.Checked.{checked_map, file_arg};
 use crate::fault::ScriptWhy;
 use crate::limits::{FILE_BYTES_LIMIT, NAME_REST_LIMIT};
 use crate::numbers::is_digit;
-use pw_base::{Text, place_of_name};
+use pw_lists::{Text, place_of_name};
 
 fn is_letter(b: u8) -> bool
     ensures { result ≡ is_letter b }

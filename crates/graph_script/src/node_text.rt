@@ -7,7 +7,7 @@ ghost use Rattle.std.specs.Fmt.{signed_decimal};
 ghost use Rattle.graph_script.specs.Printing.{node_word, list_word, spaced};
 
 use crate::word_text::{put_integer, put_list, put_node, put_number, put_word};
-use pw_base::{Memory, Text};
+use pw_lists::{Memory, Text};
 
 /// A node and a word.
 pub(crate) fn put_node_word(

@@ -8,7 +8,8 @@ use crate::fault::ScriptWhy;
 use crate::names::{is_node_name, place_of};
 use crate::ports::{input_called, output_called, port_called};
 use crate::reading::Reading;
-use pw_base::{Kind, PortId, next_piece};
+use pw_graph::{Kind, PortId};
+use pw_lists::next_piece;
 
 /// The number of a new node of this name, where it may have the name.
 pub(crate) fn new_node(reading: &Reading, name: &[u8]) -> Result<u32, ScriptWhy>

@@ -1,6 +1,6 @@
 //! A whole script, line by line.
 ghost use Rattle.std.specs.Prelude.{◌≤◌, length, IfOk};
-ghost use Rattle.pw_base.specs.Limits.{script_bytes_limit};
+ghost use Rattle.pw_graph.specs.Limits.{script_bytes_limit};
 ghost use Rattle.graph_script.specs.Grammar.{script_of, IsRead};
 ghost use Rattle.graph_script.specs.Kinds.{HasKinds};
 ghost use Rattle.graph_script.specs.Order.{HasOrder};
@@ -10,7 +10,7 @@ use crate::fault::ScriptFault;
 use crate::lines::read_line;
 use crate::progress::start;
 use crate::script::Script;
-use pw_base::next_piece;
+use pw_lists::next_piece;
 use std::alloc::Global;
 
 /// The script that the bytes are, or the first line at fault with its why, at most 1048576 bytes.

@@ -1,9 +1,9 @@
 //! Ports of a kind, by name.
 ghost use Rattle.std.specs.Prelude.{◌≡◌, ℕ, ◌<◌, ◌≤◌, true, false, bytes_eq};
-ghost use Rattle.pw_base.specs.KindPorts.{port_name, port_count};
+ghost use Rattle.pw_graph.specs.KindPorts.{port_name, port_count};
 ghost use Rattle.graph_script.specs.Nodes.{input_called, output_called, port_called};
 
-use pw_base::Kind;
+use pw_graph::Kind;
 
 // The first port of this name, from one number up to another, which stands for none.
 fn port_from(kind: &Kind, name: &[u8], first: u32, end: u32) -> u32

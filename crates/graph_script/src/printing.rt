@@ -11,7 +11,8 @@ use crate::command_text::put_args;
 use crate::kinds::kind_made;
 use crate::script::{Line, Script};
 use crate::text::{name_of, name_word};
-use pw_base::{Items, Kind, Memory, Text};
+use pw_graph::Kind;
+use pw_lists::{Items, Memory, Text};
 use std::alloc::Global;
 
 // The kinds of the nodes that lines make.

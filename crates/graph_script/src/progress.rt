@@ -11,7 +11,8 @@ ghost use Rattle.graph_script.specs.working.Sound.{IsTied};
 use crate::command::Command;
 use crate::reading::{Reading, Said};
 use crate::script::{Line, Script};
-use pw_base::{Items, Memory, NODES};
+use pw_graph::NODES;
+use pw_lists::{Items, Memory};
 use std::alloc::Global;
 
 /// What the lines so far have said; which nodes a link line names; how many lines made an epoch.

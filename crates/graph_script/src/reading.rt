@@ -2,7 +2,8 @@
 
 use crate::command::Command;
 use crate::script::Script;
-use pw_base::{Items, Kind, Text};
+use pw_graph::Kind;
+use pw_lists::{Items, Text};
 
 /// A node that a line makes.
 #[derive(Drop)]

@@ -15,7 +15,7 @@ use crate::node_commands::{delay, gain, meter, mix2, split, square};
 use crate::port_commands::{buffers, link, offer, unlink};
 use crate::progress::Progress;
 use crate::reading::Said;
-use pw_base::Memory;
+use pw_lists::Memory;
 use std::alloc::Global;
 
 // What a command says with these arguments.

@@ -2,7 +2,7 @@
 ghost use Rattle.std.specs.Prelude.{◌≡◌};
 
 use crate::command::Command;
-use pw_base::{Items, Text};
+use pw_lists::{Items, Text};
 
 /// A line of a script that says a command. Lines are numbered from 1; those that say nothing count
 /// too.

@@ -1,7 +1,7 @@
 //! A script as text: the words of each command.
 ghost use Rattle.std.specs.Prelude.{◌≡◌, ◌+◌, ◌<◌, ◌≤◌, ◌++◌, ◌∷◌, [], decimal, length, OnOk, IfOk, IsNone};
 ghost use Rattle.std.specs.Fmt.{signed_decimal};
-ghost use Rattle.pw_base.specs.KindPorts.{port_count};
+ghost use Rattle.pw_graph.specs.KindPorts.{port_count};
 ghost use Rattle.graph_script.specs.CommandWords.{name_word, name_of, command_word};
 ghost use Rattle.graph_script.specs.Kinds.{kind_in, HasPorts};
 ghost use Rattle.graph_script.specs.Printing.{node_word, port_word, endpoint_word, list_word, args_of, spaced, line_text};
@@ -9,7 +9,8 @@ ghost use Rattle.graph_script.specs.Ranges.{HasNodes};
 
 use crate::command::Command;
 use crate::name::Name;
-use pw_base::{Kind, Memory, PortId, Text, append_decimal};
+use pw_graph::{Kind, PortId};
+use pw_lists::{Memory, Text, append_decimal};
 
 /// The word that names a command.
 pub(crate) fn name_word(name: Name) -> &'static [u8]

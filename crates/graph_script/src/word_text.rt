@@ -4,11 +4,12 @@
 
 ghost use Rattle.std.specs.Prelude.{◌≡◌, ◌<◌, ◌≤◌, ◌++◌, ◌∷◌, [], decimal, length, OnOk};
 ghost use Rattle.std.specs.Fmt.{signed_decimal};
-ghost use Rattle.pw_base.specs.KindPorts.{port_count};
+ghost use Rattle.pw_graph.specs.KindPorts.{port_count};
 ghost use Rattle.graph_script.specs.Kinds.{kind_in};
 ghost use Rattle.graph_script.specs.Printing.{node_word, port_word, endpoint_word, list_word, spaced};
 
-use pw_base::{Kind, Memory, PortId, Text, append_decimal};
+use pw_graph::{Kind, PortId};
+use pw_lists::{Memory, Text, append_decimal};
 
 /// A word.
 pub(crate) fn put_word(text: &mut Text, word: &[u8]) -> Result<(), Memory>

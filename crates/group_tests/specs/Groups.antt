@@ -1,8 +1,8 @@
 -- Parts whose plans can be run with their waves.
 -- Source: this project's own.
 use Rattle.std.specs.Prelude.{List, All}
-use Rattle.pw_base.specs.declared.parts.Part.{Part}
-use Rattle.pw_base.specs.SoundPlan.{IsSoundPlan}
+use Rattle.pw_graph.specs.declared.parts.Part.{Part}
+use Rattle.pw_graph.specs.SoundPlan.{IsSoundPlan}
 use Rattle.wav_files.specs.declared.wav.WavIn.{WavIn}
 use Rattle.cycle_model.specs.WavesFit.{WavesFit}
 

@@ -1,12 +1,13 @@
 //! Parts with their plans, made of the texts of their scripts.
 ghost use Rattle.std.specs.Prelude.{All, IfSome};
-ghost use Rattle.pw_base.specs.SoundPlan.{IsSoundPlan};
+ghost use Rattle.pw_graph.specs.SoundPlan.{IsSoundPlan};
 ghost use Rattle.cycle_model.specs.WavesFit.{WavesFit};
 ghost use Rattle.group_tests.specs.Groups.{CanRunAll};
 
 use cycle_model::waves_fit;
 use plan_tests::{Silence, plan_text};
-use pw_base::{Items, Memory, Part, Plan};
+use pw_graph::{Part, Plan};
+use pw_lists::{Items, Memory};
 use std::alloc::Global;
 use wav_files::{Wav, WavIn};
 

@@ -8,10 +8,10 @@ use Rattle.std.proofs.lemmas.List.FromFn.{map-range_with_len_more}
 use Rattle.std.proofs.lemmas.List.{length-map, length-append, append_assoc}
 use Rattle.std.proofs.lemmas.List.Elements.{All-nil, All-push}
 use Rattle.std.proofs.lemmas.Option.{none-some}
-use Rattle.pw_base.specs.declared.kind.Kind.{Kind}
-use Rattle.pw_base.specs.declared.kind.Kind.TheVariants as K
-use Rattle.pw_base.specs.KindRanges as kinds
-use Rattle.pw_base.specs.KindRanges.{IsRate, IsChannels}
+use Rattle.pw_graph.specs.declared.kind.Kind.{Kind}
+use Rattle.pw_graph.specs.declared.kind.Kind.TheVariants as K
+use Rattle.pw_graph.specs.KindRanges as kinds
+use Rattle.pw_graph.specs.KindRanges.{IsRate, IsChannels}
 use Rattle.wav_files.specs.declared.wav.Wav.{Wav}
 use Rattle.graph_script.specs.declared.command.Command.{Command}
 use Rattle.graph_script.specs.declared.command.Command.TheVariants as C

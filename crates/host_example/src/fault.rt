@@ -2,7 +2,7 @@
 
 use graph_plan::PlanFault;
 use graph_script::ScriptFault;
-use pw_base::Memory;
+use pw_lists::Memory;
 
 /// Why a script is not played.
 #[derive(Clone, Copy, Debug, PartialEq, Eq, Drop)]

@@ -1,7 +1,7 @@
 //! The ports of a script's nodes, and a wave for each of its sources: what a plan asks for beside
 //! the script. A host whose waves have other rates or channels changes this file alone.
 ghost use Rattle.std.specs.Prelude.{◌≡◌, ◌↔◌, ◌<◌, ◌≤◌, [], ◌∷◌, ◌++◌, length, map, Some, IfOk, IfSome, IsTrue, All};
-ghost use Rattle.pw_base.specs.declared.kind.Kind.TheVariants as K;
+ghost use Rattle.pw_graph.specs.declared.kind.Kind.TheVariants as K;
 ghost use Rattle.graph_script.specs.Kinds.{HasKinds};
 ghost use Rattle.graph_script.specs.Ranges.{HasRanges, IsInRange};
 ghost use Rattle.graph_lines.specs.Start.{kinds_of};
@@ -12,7 +12,8 @@ ghost use Rattle.host_example.specs.Voices.{mono, samples_at, AreVoices};
 
 use graph_script::{Command, Line, Script, kind_made};
 use port_model::Ports;
-use pw_base::{Items, Kind, Memory};
+use pw_graph::Kind;
+use pw_lists::{Items, Memory};
 use std::alloc::Global;
 use wav_files::{Wav, WavIn};
 

@@ -1,7 +1,7 @@
 -- The turn of a node on a pool that it fills.
 -- Source: PipeWire's documentation, "SPA Buffers"; one pool an output port is this project's own.
 use Rattle.std.specs.Prelude.{◌≡◌, ◌≢◌, ℕ, ◌+◌, ◌<◌, Contains, length, false}
-use Rattle.pw_base.specs.Pools.{pools_of}
+use Rattle.pw_graph.specs.Pools.{pools_of}
 use Rattle.board_rule.specs.declared.view.View.{View}
 use Rattle.board_rule.specs.Layout.{BoardLayout}
 use Rattle.board_rule.specs.buffers.EndViews.{pool_at, filler_of, write_of, block_of}

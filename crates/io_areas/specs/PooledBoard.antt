@@ -2,7 +2,7 @@
 -- pool.
 -- Source: PipeWire's documentation, "Graph Scheduling"; one pool an output port is this project's
 -- own.
-use Rattle.pw_base.specs.Pools.{IsPooledShape}
+use Rattle.pw_graph.specs.Pools.{IsPooledShape}
 use Rattle.board_rule.specs.Layout.{BoardLayout, IsSound}
 
 pub record IsPooledBoard (p : BoardLayout) : Type 0 where

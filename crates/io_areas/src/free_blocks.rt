@@ -1,13 +1,14 @@
 //! The free blocks of a pool at the start of an epoch.
 ghost use Rattle.std.specs.Prelude.{◌≡◌, ◌≤◌, ◌&&◌, IfOk};
 ghost use Rattle.std.specs.List.{list_any};
-ghost use Rattle.pw_base.specs.Limits.{buffers_limit};
-ghost use Rattle.pw_base.specs.Pools.{is_same_port};
+ghost use Rattle.pw_graph.specs.Limits.{buffers_limit};
+ghost use Rattle.pw_graph.specs.Pools.{is_same_port};
 ghost use Rattle.board_rule.specs.View.{is_delayed};
 ghost use Rattle.io_areas.specs.FreeBlocks.{free_at_start};
 
 use buffer_pool::Pool;
-use pw_base::{Memory, PoolShape, PortId, Shape, ShapeLink, is_same_port};
+use pw_graph::{PoolShape, PortId, Shape, ShapeLink, is_same_port};
+use pw_lists::Memory;
 use std::alloc::Global;
 
 // Whether one of the links goes from the port and is delayed.

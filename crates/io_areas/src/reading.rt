@@ -1,8 +1,8 @@
 //! The calls of a node that reads.
 ghost use Rattle.board_rule.specs.OnBoard.{IsOn, layout};
 ghost use Rattle.std.specs.Prelude.{◌≡◌, ℕ, ◌+◌, ◌/◌, ◌<◌, length};
-ghost use Rattle.pw_base.specs.Pools.{pools_of};
-ghost use Rattle.pw_base.specs.Layout.{sample_place};
+ghost use Rattle.pw_graph.specs.Pools.{pools_of};
+ghost use Rattle.pw_graph.specs.Layout.{sample_place};
 ghost use Rattle.board_rule.specs.buffers.EndViews.{pool_at, pool_of};
 ghost use Rattle.board_rule.specs.buffers.ReaderSteps.{LoadsAsReader, IsZeroAtFirst, IsOfThisCycle};
 ghost use Rattle.io_areas.specs.Quanta.{quantum_of};
@@ -10,7 +10,7 @@ ghost use Rattle.io_areas.specs.Reading.{taken, IsHolding, all_loaded, brought, 
 
 use crate::sample_words::spread;
 use board_rule::{Board, BoardSeat};
-use pw_base::io_id_of;
+use pw_graph::io_id_of;
 
 /// The link's reader takes its turn in this cycle, which it has not yet done: one load of the io
 /// area. Answers the number of the block whose reading cycle this is; over a delayed link that is 0

@@ -9,7 +9,7 @@ ghost use Rattle.io_areas.specs.Writing.{HasPublished};
 
 use crate::sample_words::pack;
 use board_rule::{Board, BoardSeat, LoopSeat};
-use pw_base::io_id_of;
+use pw_graph::io_id_of;
 
 // The node that a link comes from.
 fn writer(board: &Board, link: u32) -> u32

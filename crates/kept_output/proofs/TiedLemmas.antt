@@ -4,8 +4,8 @@ use Rattle.std.proofs.lemmas.List.{append_assoc}
 use Rattle.std.proofs.Math.Logic.{∥∥₁_elim, ∥∥₁_map}
 use Rattle.std.proofs.Props.{props}
 use Rattle.std.specs.Prelude.{Option, Some, None, Result, Ok, Err, nat_le, option_map, if◌then◌else◌}
-use Rattle.pw_base.specs.declared.files.FileFail.{FileFail}
-use Rattle.pw_base.specs.Output.{Given, Gave, IsPut}
+use Rattle.pw_outside.specs.declared.files.FileFail.{FileFail}
+use Rattle.pw_outside.specs.Output.{Given, Gave, IsPut}
 use Rattle.kept_output.specs.KeptOutput.{kept_bytes_limit, longer, IsKeptBy, IsTied}
 
 -- two texts given one after the other

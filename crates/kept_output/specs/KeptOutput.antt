@@ -1,8 +1,8 @@
 -- What is kept of what an output was given. Source: this project's own.
 use Rattle.std.specs.Prelude.{◌≡◌, ◌⊎◌, ℕ, ◌-◌, List, ◌++◌, length, nat_le, if◌then◌else◌}
 use Rattle.std.specs.Prelude.{Option, Some, None, Result, Ok, Err}
-use Rattle.pw_base.specs.declared.files.FileFail.{FileFail}
-use Rattle.pw_base.specs.Output.{Given, Gave}
+use Rattle.pw_outside.specs.declared.files.FileFail.{FileFail}
+use Rattle.pw_outside.specs.Output.{Given, Gave}
 
 -- the most bytes that are kept
 abbrev pub kept_bytes_limit : ℕ

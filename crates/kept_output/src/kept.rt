@@ -2,7 +2,8 @@
 ghost use Rattle.std.specs.Prelude.{◌≡◌, IfOk};
 ghost use Rattle.kept_output.specs.KeptOutput.{longer, IsKeptBy};
 
-use pw_base::{FileFail, Memory, Text};
+use pw_lists::{Memory, Text};
+use pw_outside::FileFail;
 
 /// The most bytes that are kept: more than a run puts without the events of a trace.
 pub const KEPT_BYTES_LIMIT: usize = 4_194_304;

@@ -1,11 +1,12 @@
 //! An output over another output, which keeps what it was given.
 ghost use Rattle.std.specs.Prelude.{◌≡◌, ◌≤◌, [], Some, None};
-ghost use Rattle.pw_base.specs.Causes.{HasCause};
-ghost use Rattle.pw_base.specs.Output.{Given, IsPut};
+ghost use Rattle.pw_outside.specs.Causes.{HasCause};
+ghost use Rattle.pw_outside.specs.Output.{Given, IsPut};
 ghost use Rattle.kept_output.specs.KeptOutput.{IsTied, IsKeptBy};
 
 use crate::kept::kept_by;
-use pw_base::{FileFail, Items, Sink, Text};
+use pw_lists::{Items, Text};
+use pw_outside::{FileFail, Sink};
 use std::alloc::Global;
 use std::marker::{Brand, PhantomData};
 

@@ -3,10 +3,10 @@ use Rattle.std.proofs.Common.{◌≡◌, inl, inr, ℕ, zero, suc, ◌<◌, leng
 use Rattle.std.proofs.Common.{refl, sym, ap, ◌∙◌, subst, ◌==◌}
 use Rattle.std.specs.Prelude.{slice_get, IfSome, IsSome, IsTrue, ◌↔◌, Result, Ok, Err, IfOk, option_and_then, unwrap_or, if◌then◌else◌}
 use Rattle.std.specs.Option.{option_map_or, option_or}
-use Rattle.pw_base.specs.declared.memory.Memory.{Memory}
+use Rattle.pw_lists.specs.declared.memory.Memory.{Memory}
 use Rattle.std.proofs.lemmas.Option.{same_Some, none-some}
 use Rattle.pod_codec.specs.declared.pod.Pod.{Pod}
-use Rattle.pw_base.specs.declared.kind.Kind.{Kind}
+use Rattle.pw_graph.specs.declared.kind.Kind.{Kind}
 use Rattle.format_filter.specs.declared.choice.Choice.{Choice}
 use Rattle.format_filter.specs.declared.choice.Choice.TheVariants.{Only}
 use Rattle.format_filter.specs.declared.format.Field.{Field}
@@ -29,7 +29,7 @@ use Rattle.port_model.specs.SoundPorts.{AreSoundNodes, IsSoundNode}
 use Rattle.port_model.specs.declared.sharing.Offered.{Offered}
 use Rattle.port_model.proofs.NodeLemmas.{has_place, at_place, at_port, port_at}
 use Rattle.port_model.proofs.ChangedLemmas.{changed_elsewhere, changed_same}
-use Rattle.pw_base.specs.declared.ids.PortId.{PortId}
+use Rattle.pw_graph.specs.declared.ids.PortId.{PortId}
 use Rattle.link_negotiation.specs.declared.common_formats.Negotiated.TheVariants as negotiated
 use Rattle.link_negotiation.specs.Negotiation.{MeetsIn, SharesBuffers, OffersAt, Settles, SettlesFrom, Negotiates, Agrees}
 use Rattle.link_negotiation.specs.LinkOutcome.{MayBeGiven, given}

@@ -4,8 +4,8 @@ use Rattle.std.proofs.Common.{◌∙◌, subst, arith}
 use Rattle.std.proofs.lemmas.Bool.{cases_lt}
 use Rattle.std.specs.Prelude.{slice_get}
 use Rattle.std.specs.Option.{option_map_or}
-use Rattle.pw_base.specs.KindPorts.{input_count, port_count}
-use Rattle.pw_base.specs.declared.ids.PortId.{PortId}
+use Rattle.pw_graph.specs.KindPorts.{input_count, port_count}
+use Rattle.pw_graph.specs.declared.ids.PortId.{PortId}
 use Rattle.format_filter.specs.declared.choice.Choice.{Choice}
 use Rattle.format_filter.specs.declared.format.Format.{Format}
 use Rattle.format_filter.specs.declared.common.Filtered.TheVariants.{Common, Clash}

@@ -10,10 +10,10 @@ use Rattle.std.proofs.lemmas.Option.{slice_get_past}
 use Rattle.std.proofs.lemmas.Bool.{and_parts}
 use Rattle.std.proofs.lemmas.List.Folds.{Any-from_list_any}
 use Rattle.std.proofs.lemmas.List.Sums.{length-filter, count_by-le-length}
-use Rattle.pw_base.specs.KindPorts.{port_count, input_count}
-use Rattle.pw_base.specs.declared.ids.PortId.{PortId}
-use Rattle.pw_base.specs.Pools.{is_same_port}
-use Rattle.pw_base.proofs.PoolLemmas.{same_port}
+use Rattle.pw_graph.specs.KindPorts.{port_count, input_count}
+use Rattle.pw_graph.specs.declared.ids.PortId.{PortId}
+use Rattle.pw_graph.specs.Pools.{is_same_port}
+use Rattle.pw_graph.proofs.PoolLemmas.{same_port}
 use Rattle.port_model.specs.declared.port_state.Node.{Node}
 use Rattle.port_model.specs.PortState.{IsPort, IsInput, with_released, released}
 use Rattle.port_model.proofs.ChangedLemmas.{length-changed}

@@ -4,8 +4,8 @@
 -- asynchronous nodes.
 use Rattle.std.specs.Prelude.{◌≡◌, ℕ, ◌==◌, ◌&&◌, ◌||◌, Bool, true, false, not, List, [], ◌∷◌, slice_index_or}
 use Rattle.std.specs.List.{Contains, filter, list_any}
-use Rattle.pw_base.specs.declared.ids.PortId.{PortId}
-use Rattle.pw_base.specs.Pools.{is_same_port}
+use Rattle.pw_graph.specs.declared.ids.PortId.{PortId}
+use Rattle.pw_graph.specs.Pools.{is_same_port}
 use Rattle.link_negotiation.specs.declared.link.Link.{Link}
 
 pub record LinkState : Type 0 where

@@ -3,7 +3,7 @@
 -- Source: PipeWire's documentation, "Objects Design", Link; spa/pod/filter.h, spa/pod/iter.h;
 -- spa/param/buffers.h.
 use Rattle.std.specs.Prelude.{◌≡◌, ℕ, List, Option, Some, None}
-use Rattle.pw_base.specs.declared.ids.PortId.{PortId}
+use Rattle.pw_graph.specs.declared.ids.PortId.{PortId}
 use Rattle.pod_codec.specs.declared.pod.Pod.{Pod}
 use Rattle.format_filter.specs.declared.choice.Choice.{Choice}
 use Rattle.format_filter.specs.declared.common.Filtered.TheVariants.{Common, Clash}

@@ -1,7 +1,7 @@
 //! The format and the number of buffers that two ports settle on.
 ghost use Rattle.std.specs.Prelude.{◌≡◌, ℕ, ◌<◌, ◌≤◌, ◌^◌, IfOk, IfSome};
 ghost use Rattle.pod_codec.specs.declared.pod.Pod.{Pod};
-ghost use Rattle.pw_base.specs.SoundShape.{IsBetween};
+ghost use Rattle.pw_graph.specs.SoundShape.{IsBetween};
 ghost use Rattle.format_filter.specs.Members.{IsMember, pick_of};
 ghost use Rattle.format_filter.specs.Soundness.{IsSound};
 ghost use Rattle.format_filter.specs.CommonFormat.{IsSoundFormat};
@@ -14,7 +14,8 @@ ghost use Rattle.link_negotiation.specs.Negotiation.{Settles, Negotiates, MeetsI
 use format_filter::{Choice, Filtered, Format, filter, fixate, meet};
 use pod_codec::Pod;
 use port_model::{Offered, Ports};
-use pw_base::{Memory, PortId};
+use pw_graph::PortId;
+use pw_lists::Memory;
 use std::alloc::Global;
 
 /// What two ports settle on.

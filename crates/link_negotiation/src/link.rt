@@ -1,6 +1,6 @@
 //! A link between two ports.
 
-use pw_base::PortId;
+use pw_graph::PortId;
 
 /// A link from an output port to an input port.
 #[derive(Clone, Copy, Debug, PartialEq, Eq, Drop)]

@@ -1,11 +1,12 @@
 //! The links that are there.
 ghost use Rattle.std.specs.Prelude.{◌≡◌, ◌<◌, [], false, length, replicate, slice_set, IfOk, true};
-ghost use Rattle.pw_base.specs.Limits.{nodes_limit};
+ghost use Rattle.pw_graph.specs.Limits.{nodes_limit};
 ghost use Rattle.link_negotiation.specs.Links.{joins, are_linked, has_link, is_synchronous};
 ghost use Rattle.link_negotiation.specs.working.Searching.{is_reached};
 
 use crate::link::Link;
-use pw_base::{Memory, NODES, PortId, is_same_port};
+use pw_graph::{NODES, PortId, is_same_port};
+use pw_lists::Memory;
 use std::alloc::Global;
 use std::marker::Model;
 

@@ -1,7 +1,7 @@
 //! How a link is negotiated and made.
 ghost use Rattle.std.specs.Prelude.{◌≡◌, ◌⊎◌, ◌↔◌, ◌<◌, ◌++◌, ◌∷◌, [], length, IsTrue, IfOk, IfSome, OnOk, OnErr};
-ghost use Rattle.pw_base.specs.Limits.{links_limit};
-ghost use Rattle.pw_base.specs.SoundShape.{IsBetween};
+ghost use Rattle.pw_graph.specs.Limits.{links_limit};
+ghost use Rattle.pw_graph.specs.SoundShape.{IsBetween};
 ghost use Rattle.port_model.specs.PortState.{IsPort, IsInput, IsOutput, AtPort, with_port};
 ghost use Rattle.port_model.specs.SoundPorts.{AreSoundNodes};
 ghost use Rattle.link_negotiation.specs.declared.negotiation.Linked.{Linked};
@@ -17,7 +17,8 @@ use crate::links::{LINKS, Links, are_linked};
 use crate::reachability::is_reachable;
 use format_filter::Format;
 use port_model::Ports;
-use pw_base::{Memory, PortId};
+use pw_graph::PortId;
+use pw_lists::Memory;
 use std::alloc::Global;
 
 /// What became of a link.

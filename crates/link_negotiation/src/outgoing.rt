@@ -4,7 +4,7 @@ ghost use Rattle.link_negotiation.specs.Links.{LinkState};
 ghost use Rattle.link_negotiation.specs.working.Searching.{IsOutgoing};
 
 use crate::links::{LINKS, Links};
-use pw_base::NODES;
+use pw_graph::NODES;
 
 /// The synchronous links that leave each node, from the last one back. A link is told by how many
 /// links stand up to it; 0 is none.

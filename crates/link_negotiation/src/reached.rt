@@ -2,7 +2,7 @@
 ghost use Rattle.std.specs.Prelude.{◌≡◌, ◌<◌, false, true, replicate, slice_set};
 ghost use Rattle.link_negotiation.specs.working.Searching.{IsQueue, IsLonger};
 
-use pw_base::NODES;
+use pw_graph::NODES;
 
 /// The nodes that a search has reached, in the order in which it reached them.
 #[derive(Drop)]

@@ -6,7 +6,7 @@ ghost use Rattle.link_negotiation.specs.Unlinking.{without, releasing, giving_up
 use crate::link::Link;
 use crate::links::{Links, are_linked, has_link, joins};
 use port_model::Ports;
-use pw_base::PortId;
+use pw_graph::PortId;
 
 /// What became of a link that is to go.
 #[derive(Clone, Copy, Debug, PartialEq, Eq, Drop)]

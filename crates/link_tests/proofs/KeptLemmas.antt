@@ -2,7 +2,7 @@
 use Rattle.std.proofs.Common.{◌≡◌, ℕ, zero, suc, List, [], ◌∷◌, ◌++◌, length, get_or, map, Bool, true, false, refl, sym, ap, ◌∙◌, subst}
 use Rattle.std.proofs.Common.{arith}
 use Rattle.std.specs.Prelude.{slice_get, if◌then◌else◌, Result, Ok, Err, IfOk, OnErr}
-use Rattle.pw_base.specs.declared.memory.Memory.{Memory}
+use Rattle.pw_lists.specs.declared.memory.Memory.{Memory}
 use Rattle.format_filter.specs.declared.format.Format.{Format}
 use Rattle.format_filter.specs.declared.common.Filtered.TheVariants.{Common}
 use Rattle.format_filter.specs.CommonFormat.{Filters}
@@ -10,8 +10,8 @@ use Rattle.port_model.specs.declared.narrowing.Narrowed.{Narrowed}
 use Rattle.port_model.specs.declared.narrowing.Narrowed.TheVariants.{Done, NotFormat, Clash}
 use Rattle.port_model.specs.Narrowing.{Narrows}
 use Rattle.std.specs.Option.{option_map_or}
-use Rattle.pw_base.specs.KindPorts.{port_count, input_count}
-use Rattle.pw_base.specs.declared.ids.PortId.{PortId}
+use Rattle.pw_graph.specs.KindPorts.{port_count, input_count}
+use Rattle.pw_graph.specs.declared.ids.PortId.{PortId}
 use Rattle.port_model.specs.declared.port_state.PortState.{PortState}
 use Rattle.port_model.specs.declared.port_state.Node.{Node}
 use Rattle.port_model.proofs.ChangedLemmas.{length-changed}

@@ -3,7 +3,7 @@ ghost use Rattle.link_tests.specs.Counted.{AreCounted};
 
 use link_negotiation::Links;
 use port_model::Ports;
-use pw_base::Items;
+use pw_lists::Items;
 use std::alloc::Global;
 
 /// Ports and links, and of each node how many inputs it has and how many ports.

@@ -7,7 +7,8 @@ use format_filter::{Choice, Format};
 use link_negotiation::{Linked, Unlinked};
 use pod_codec::Pod;
 use port_model::Offered;
-use pw_base::{Memory, PortId};
+use pw_graph::PortId;
+use pw_lists::Memory;
 
 /// A line; a port is told by its node and its number.
 #[derive(Clone, Copy, Drop)]

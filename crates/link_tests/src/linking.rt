@@ -5,7 +5,8 @@ use crate::graph::Graph;
 use crate::lines::{Did, Line, first_unlike};
 use crate::nodes::{Node, empty, narrowed, read};
 use format_filter::FormatFault;
-use pw_base::{Kind, Memory, PortId};
+use pw_graph::{Kind, PortId};
+use pw_lists::Memory;
 use std::alloc::Global;
 use std::test::Fail;
 

@@ -1,7 +1,7 @@
 //! The nodes of a graph.
 ghost use Rattle.std.specs.Prelude.{◌≡◌, ◌<◌, [], ◌∷◌, IfOk};
-ghost use Rattle.pw_base.specs.KindPorts.{port_count};
-ghost use Rattle.pw_base.specs.KindRanges.{IsInRange, IsRate, IsChannels};
+ghost use Rattle.pw_graph.specs.KindPorts.{port_count};
+ghost use Rattle.pw_graph.specs.KindRanges.{IsInRange, IsRate, IsChannels};
 ghost use Rattle.format_filter.specs.CommonFormat.{IsSoundFormat};
 ghost use Rattle.port_model.specs.Offers.{HasFileNumbers};
 
@@ -10,7 +10,8 @@ use format_filter::{Format, FormatFault, format_of};
 use link_negotiation::Links;
 use pod_codec::read_pod;
 use port_model::Ports;
-use pw_base::{Items, Kind, Memory, PortId};
+use pw_graph::{Kind, PortId};
+use pw_lists::{Items, Memory};
 use std::alloc::Global;
 
 /// A node to come; a source has its rate and its channels.

@@ -1,8 +1,8 @@
 //! What ports of new nodes offer.
 ghost use Rattle.std.specs.Prelude.{◌≡◌, ◌<◌, [], ◌∷◌, IfOk};
 ghost use Rattle.format_filter.specs.CommonFormat.{IsSoundFormat};
-ghost use Rattle.pw_base.specs.KindPorts.{port_count};
-ghost use Rattle.pw_base.specs.KindRanges.{IsInRange};
+ghost use Rattle.pw_graph.specs.KindPorts.{port_count};
+ghost use Rattle.pw_graph.specs.KindRanges.{IsInRange};
 ghost use Rattle.port_model.specs.Offers.{HasFileNumbers, new_node};
 ghost use Rattle.port_model.specs.PortState.{IsPort};
 
@@ -10,7 +10,8 @@ use crate::nodes::read;
 use format_filter::{Choice, Format, FormatFault, Wide};
 use pod_codec::Pod;
 use port_model::{Narrowed, Offered, Ports};
-use pw_base::{Items, Kind, Memory, PortId};
+use pw_graph::{Kind, PortId};
+use pw_lists::{Items, Memory};
 use std::alloc::Global;
 use std::test::Fail;
 

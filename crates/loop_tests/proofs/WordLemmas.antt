@@ -1,11 +1,11 @@
 -- Where the first block of a board stands.
 use Rattle.std.proofs.Common.{◌≡◌, ℕ, ◌+◌, ◌<◌, ◌≤◌, arith}
 use Rattle.std.proofs.Common.{Some, slice_get}
-use Rattle.pw_base.specs.declared.pools.PoolShape.{PoolShape}
-use Rattle.pw_base.specs.declared.shape.Shape.{Shape}
-use Rattle.pw_base.specs.Layout.{event_count, event_place}
-use Rattle.pw_base.specs.Pools.{pools_of, IsPooledShape}
-use Rattle.pw_base.proofs.LayoutLemmas.{length-start_words}
+use Rattle.pw_graph.specs.declared.pools.PoolShape.{PoolShape}
+use Rattle.pw_graph.specs.declared.shape.Shape.{Shape}
+use Rattle.pw_graph.specs.Layout.{event_count, event_place}
+use Rattle.pw_graph.specs.Pools.{pools_of, IsPooledShape}
+use Rattle.pw_graph.proofs.LayoutLemmas.{length-start_words}
 use Rattle.board_rule.specs.Indexes.{word_count}
 use Rattle.board_rule.proofs.IndexLemmas.{readers_in}
 use Rattle.board_rule.proofs.LayoutLemmas.{count_is}

@@ -16,7 +16,9 @@ use graph_run::{
     Course, Seating, boards_of, finish_run, loop_seating, loops_of, prepare_alone, run_alone,
     run_epochs,
 };
-use pw_base::{Every, Items, Kind, Memory, Open, Plan};
+use pw_graph::{Kind, Plan};
+use pw_lists::{Items, Memory};
+use pw_outside::{Every, Open};
 use std::alloc::Global;
 use std::sync::Wait;
 use std::test::Fail;

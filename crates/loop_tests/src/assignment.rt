@@ -6,7 +6,7 @@ ghost use Rattle.loop_tests.specs.Work.{CanRun};
 use crate::threads::TWO_SQUARES;
 use crate::work::{Work, work_of};
 use graph_run::{boards_of, cell_seating, loop_of, loop_seating, nodes_of_loop};
-use pw_base::{NODES, Plan};
+use pw_graph::{NODES, Plan};
 use std::alloc::Global;
 use std::test::Fail;
 

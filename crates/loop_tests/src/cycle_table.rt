@@ -13,7 +13,7 @@ use crate::table_lines::line_is;
 use crate::work::{WorkRow, work_of};
 use board_rule::Board;
 use data_loop::Tried;
-use pw_base::{Gate, Open};
+use pw_outside::{Gate, Open};
 use std::alloc::Global;
 use std::sync::atomic::{AtomicU64, Ordering};
 use std::test::Fail;

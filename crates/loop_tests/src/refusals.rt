@@ -4,7 +4,7 @@ ghost use Rattle.loop_tests.specs.Work.{CanRun};
 use crate::runs::{Kept, have_kept};
 use crate::work::{Work, WorkRow, work_of};
 use graph_run::{Roster, Starts, run_plan_with};
-use pw_base::{Every, Gate, Meet, Open};
+use pw_outside::{Every, Gate, Meet, Open};
 use std::alloc::Global;
 use std::sync::Wait;
 use std::test::Fail;

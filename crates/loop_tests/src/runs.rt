@@ -3,7 +3,8 @@ ghost use Rattle.loop_tests.specs.Work.{CanRun};
 
 use crate::work::{Work, WorkRow, work_of};
 use graph_run::run_plan;
-use pw_base::{Every, Gate, Meet, Open, is_legal_history};
+use pw_graph::is_legal_history;
+use pw_outside::{Every, Gate, Meet, Open};
 use std::alloc::Global;
 use std::sync::Wait;
 use std::thread::Threads;

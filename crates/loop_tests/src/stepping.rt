@@ -12,7 +12,7 @@ use board_rule::{Board, BoardSeat, Closed};
 use data_loop::{Did, LoopState, Tried, settle};
 use driver_cycle::{begin_next, lead_once, look};
 use graph_run::{boards_of, loop_seating, loops_of};
-use pw_base::{Every, Gate, Never, Open};
+use pw_outside::{Every, Gate, Never, Open};
 use std::alloc::Global;
 use std::sync::Wait;
 

@@ -3,9 +3,8 @@
 ghost use Rattle.std.specs.Prelude.{◌≡◌, ◌<◌, length};
 
 use board_rule::Board;
-use pw_base::{
-    Items, Memory, NO_BLOCK, Text, append_decimal, io_id_of, io_status_of, is_pooled_shape,
-};
+use pw_graph::{NO_BLOCK, io_id_of, io_status_of, is_pooled_shape};
+use pw_lists::{Items, Memory, Text, append_decimal};
 use std::alloc::Global;
 
 // A word of a node or of an area.

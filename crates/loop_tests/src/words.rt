@@ -1,10 +1,11 @@
 //! Words of a board of four nodes, as tests compare them.
 ghost use Rattle.std.specs.Prelude.{◌≡◌, ◌+◌, ◌<◌, ◌≤◌, length};
-ghost use Rattle.pw_base.specs.Layout.{area_count, event_count, event_place};
+ghost use Rattle.pw_graph.specs.Layout.{area_count, event_count, event_place};
 ghost use Rattle.board_rule.specs.Layout.{word_count};
 
 use board_rule::Board;
-use pw_base::{Gate, ShapeLink, is_pooled_shape, pools_of};
+use pw_graph::{ShapeLink, is_pooled_shape, pools_of};
+use pw_outside::Gate;
 use std::alloc::Global;
 use std::sync::atomic::{AtomicU64, Ordering};
 

@@ -4,7 +4,8 @@ ghost use Rattle.loop_tests.specs.Work.{CanRun};
 
 use cycle_model::waves_fit;
 use plan_tests::{Silence, plan_text};
-use pw_base::{Items, Memory, Plan};
+use pw_graph::Plan;
+use pw_lists::{Items, Memory};
 use std::alloc::Global;
 use wav_files::{Wav, WavIn};
 

@@ -7,17 +7,17 @@ use Rattle.std.specs.List.{list_any}
 use Rattle.std.proofs.lemmas.Bool.{cases_Bool, cases_eq, cond-true, cond-false, eqb-true, eq-eqb, and_parts, true≢false}
 use Rattle.std.proofs.lemmas.List.Elements.{All-head, All-tail, All-contains}
 use Rattle.std.proofs.lemmas.Option.{slice_get_within, get_or_from_slice_get}
-use Rattle.pw_base.specs.declared.ids.PortId.{PortId}
-use Rattle.pw_base.specs.declared.kind.Kind.{Kind}
-use Rattle.pw_base.specs.declared.kind.Kind.TheVariants.{Source, Square, Gain, Mix2, Delay, Map, Split, Sink, Meter, Dummy}
-use Rattle.pw_base.specs.declared.plan.Epoch.{Epoch}
-use Rattle.pw_base.specs.declared.plan.Plan.{Plan}
-use Rattle.pw_base.specs.declared.plan.PortForm.{PortForm}
-use Rattle.pw_base.specs.KindPorts.{input_count, output_count, port_count}
-use Rattle.pw_base.specs.KindRanges.{MayHaveChannels, IsSinkOrMeter}
-use Rattle.pw_base.specs.PlanForms.{kind_at, HasForm, IsSoundForm}
-use Rattle.pw_base.specs.Pools.{is_same_port}
-use Rattle.pw_base.proofs.PoolLemmas.{same_port}
+use Rattle.pw_graph.specs.declared.ids.PortId.{PortId}
+use Rattle.pw_graph.specs.declared.kind.Kind.{Kind}
+use Rattle.pw_graph.specs.declared.kind.Kind.TheVariants.{Source, Square, Gain, Mix2, Delay, Map, Split, Sink, Meter, Dummy}
+use Rattle.pw_graph.specs.declared.plan.Epoch.{Epoch}
+use Rattle.pw_graph.specs.declared.plan.Plan.{Plan}
+use Rattle.pw_graph.specs.declared.plan.PortForm.{PortForm}
+use Rattle.pw_graph.specs.KindPorts.{input_count, output_count, port_count}
+use Rattle.pw_graph.specs.KindRanges.{MayHaveChannels, IsSinkOrMeter}
+use Rattle.pw_graph.specs.PlanForms.{kind_at, HasForm, IsSoundForm}
+use Rattle.pw_graph.specs.Pools.{is_same_port}
+use Rattle.pw_graph.proofs.PoolLemmas.{same_port}
 use Rattle.wav_files.specs.declared.wav.WavIn.{WavIn}
 use Rattle.cycle_model.specs.Epochs.{listed, channels_of, channels_at}
 use Rattle.cycle_model.specs.Cycle.{outputs, input_of}

@@ -6,10 +6,10 @@ use Rattle.std.specs.List.{range_with_len}
 use Rattle.std.proofs.lemmas.Bool.{cond-true, cond-false, and_from, and_right, le-leb, lt-ltb, le-ltb}
 use Rattle.std.proofs.lemmas.List.Elements.{filter-append}
 use Rattle.std.proofs.lemmas.List.Sums.{sum_by-cons, sum_by_more, sum_by-take-le}
-use Rattle.pw_base.specs.declared.plan.Epoch.{Epoch}
-use Rattle.pw_base.specs.declared.plan.Plan.{Plan}
-use Rattle.pw_base.specs.PlanSums.{epoch_events}
-use Rattle.pw_base.specs.SoundPlan.{FollowFrom, IsSoundPlan}
+use Rattle.pw_graph.specs.declared.plan.Epoch.{Epoch}
+use Rattle.pw_graph.specs.declared.plan.Plan.{Plan}
+use Rattle.pw_graph.specs.PlanSums.{epoch_events}
+use Rattle.pw_graph.specs.SoundPlan.{FollowFrom, IsSoundPlan}
 use Rattle.cycle_model.specs.Epochs.{is_within, all_cycles}
 use Rattle.node_progress.specs.Standing.{works_in, worked}
 

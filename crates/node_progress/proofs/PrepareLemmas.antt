@@ -6,16 +6,16 @@ use Rattle.std.proofs.lemmas.Bool.{cond_both, cases_lt, true≢false, cases_Bool
 use Rattle.std.proofs.lemmas.List.Elements.{All-head, All-tail}
 use Rattle.std.proofs.lemmas.Option.{same_Some, none-some, slice_get_within}
 use Rattle.std.proofs.Math.Nat.{le-max_left, le-max_right, mul-le-mul}
-use Rattle.pw_base.specs.declared.kind.Kind.{Kind}
-use Rattle.pw_base.specs.declared.kind.Kind.TheVariants.{Source, Square, Gain, Mix2, Delay, Map, Split, Sink, Meter, Dummy}
-use Rattle.pw_base.specs.declared.plan.Epoch.{Epoch}
-use Rattle.pw_base.specs.declared.plan.Plan.{Plan}
-use Rattle.pw_base.specs.KindFunction.{KindInputs}
-use Rattle.pw_base.specs.KindPorts.{input_count}
-use Rattle.pw_base.specs.PlanForms.{kind_at}
-use Rattle.pw_base.specs.PlanFresh.{Names}
-use Rattle.pw_base.specs.SoundPlan.{FollowFrom, IsSoundEpoch, IsSoundPlan}
-use Rattle.pw_base.specs.SoundShape.{IsBetween}
+use Rattle.pw_graph.specs.declared.kind.Kind.{Kind}
+use Rattle.pw_graph.specs.declared.kind.Kind.TheVariants.{Source, Square, Gain, Mix2, Delay, Map, Split, Sink, Meter, Dummy}
+use Rattle.pw_graph.specs.declared.plan.Epoch.{Epoch}
+use Rattle.pw_graph.specs.declared.plan.Plan.{Plan}
+use Rattle.pw_graph.specs.KindFunction.{KindInputs}
+use Rattle.pw_graph.specs.KindPorts.{input_count}
+use Rattle.pw_graph.specs.PlanForms.{kind_at}
+use Rattle.pw_graph.specs.PlanFresh.{Names}
+use Rattle.pw_graph.specs.SoundPlan.{FollowFrom, IsSoundEpoch, IsSoundPlan}
+use Rattle.pw_graph.specs.SoundShape.{IsBetween}
 use Rattle.wav_files.specs.declared.wav.Wav.{Wav}
 use Rattle.wav_files.specs.declared.wav.WavIn.{WavIn}
 use Rattle.cycle_model.specs.Epochs.{all_cycles}

@@ -8,22 +8,22 @@ use Rattle.std.proofs.lemmas.Bool.{cases_Bool, cases_lt, cond-true, cond-false, 
 use Rattle.std.proofs.lemmas.List.Elements.{All-head, All-tail}
 use Rattle.std.proofs.lemmas.List.Sums.{sum_by-cons}
 use Rattle.std.proofs.lemmas.Option.{same_Some, none-some, slice_get_within, get_or_from_slice_get}
-use Rattle.pw_base.specs.declared.plan.Epoch.{Epoch}
-use Rattle.pw_base.specs.declared.plan.Fresh.{Fresh}
-use Rattle.pw_base.specs.declared.plan.Plan.{Plan}
-use Rattle.pw_base.specs.KindPorts.{input_count}
-use Rattle.pw_base.specs.PlanForms.{kind_at}
-use Rattle.pw_base.specs.PlanFresh.{Names}
-use Rattle.pw_base.specs.SoundPlan.{FollowFrom, IsSoundPlan}
+use Rattle.pw_graph.specs.declared.plan.Epoch.{Epoch}
+use Rattle.pw_graph.specs.declared.plan.Fresh.{Fresh}
+use Rattle.pw_graph.specs.declared.plan.Plan.{Plan}
+use Rattle.pw_graph.specs.KindPorts.{input_count}
+use Rattle.pw_graph.specs.PlanForms.{kind_at}
+use Rattle.pw_graph.specs.PlanFresh.{Names}
+use Rattle.pw_graph.specs.SoundPlan.{FollowFrom, IsSoundPlan}
 use Rattle.cycle_model.specs.Epochs.{listed, is_fresh, all_cycles}
 use Rattle.cycle_model.specs.working.Known.{is_released}
-use Rattle.pw_base.specs.declared.ids.PortId.{PortId}
-use Rattle.pw_base.specs.declared.kind.Kind.{Kind}
-use Rattle.pw_base.specs.declared.kind.Kind.TheVariants.{Source, Square, Gain, Mix2, Delay, Map, Split, Sink, Meter, Dummy}
-use Rattle.pw_base.specs.declared.plan.PortForm.{PortForm}
-use Rattle.pw_base.specs.Pools.{is_same_port}
-use Rattle.pw_base.specs.Samples.{clamped, silence, summed}
-use Rattle.pw_base.proofs.PoolLemmas.{same_port}
+use Rattle.pw_graph.specs.declared.ids.PortId.{PortId}
+use Rattle.pw_graph.specs.declared.kind.Kind.{Kind}
+use Rattle.pw_graph.specs.declared.kind.Kind.TheVariants.{Source, Square, Gain, Mix2, Delay, Map, Split, Sink, Meter, Dummy}
+use Rattle.pw_graph.specs.declared.plan.PortForm.{PortForm}
+use Rattle.pw_graph.specs.Pools.{is_same_port}
+use Rattle.pw_graph.specs.Samples.{clamped, silence, summed}
+use Rattle.pw_graph.proofs.PoolLemmas.{same_port}
 use Rattle.cycle_model.specs.declared.received.Received.{Received}
 use Rattle.cycle_model.specs.Epochs.{is_within, epoch_at, is_active, channels_of, channels_at, links_into, stream_start}
 use Rattle.cycle_model.specs.Cycle.{Outputs, outputs, brought, input_of, stream_of, wave_of}
@@ -36,7 +36,7 @@ use Rattle.node_state.specs.Slices.{AllowsChannels, left_channels}
 use Rattle.node_state.specs.StandsFor.{StandsFor, IsRestarted, node_kind, node_wave_channels, node_channels, most_channels, kept_stream}
 use Rattle.node_state.specs.Streams.{restarted, stream_kept_by}
 use Rattle.node_state.proofs.KeptLemmas.{kept_is_stream}
-use Rattle.pw_base.specs.KindFunction.{KindInputs}
+use Rattle.pw_graph.specs.KindFunction.{KindInputs}
 use Rattle.node_progress.specs.declared.score.Score.{Score}
 use Rattle.node_progress.specs.Standing.{port_at, out_channels, read_by}
 use Rattle.node_progress.specs.NodeStates.{IsNodeState}

@@ -4,14 +4,14 @@
 use Rattle.std.specs.Prelude.{◌≡◌, ℕ, ◌+◌, ◌*◌, ◌==◌, ◌&&◌, ◌||◌, Bool, false, not, ◌⊎◌, List, [], ℤ, length, filter}
 use Rattle.std.specs.Prelude.{nat_lt, option_map, unwrap_or, if◌then◌else◌}
 use Rattle.std.specs.List.{list_any, range_with_len}
-use Rattle.pw_base.specs.declared.ids.PortId.{PortId}
-use Rattle.pw_base.specs.declared.plan.Plan.{Plan}
-use Rattle.pw_base.specs.declared.plan.Epoch.{Epoch}
-use Rattle.pw_base.specs.KindPorts.{input_count}
-use Rattle.pw_base.specs.PlanForms.{kind_at}
-use Rattle.pw_base.specs.Pools.{is_same_port}
+use Rattle.pw_graph.specs.declared.ids.PortId.{PortId}
+use Rattle.pw_graph.specs.declared.plan.Plan.{Plan}
+use Rattle.pw_graph.specs.declared.plan.Epoch.{Epoch}
+use Rattle.pw_graph.specs.KindPorts.{input_count}
+use Rattle.pw_graph.specs.PlanForms.{kind_at}
+use Rattle.pw_graph.specs.Pools.{is_same_port}
 use Rattle.cycle_model.specs.declared.received.Received.{Received}
-use Rattle.pw_base.specs.KindFunction.{KindInputs}
+use Rattle.pw_graph.specs.KindFunction.{KindInputs}
 use Rattle.cycle_model.specs.Epochs.{epoch_at, channels_at}
 use Rattle.cycle_model.specs.Cycle.{wave_of, outputs, input_of}
 use Rattle.cycle_model.specs.Mixing.{takes_part}

@@ -1,13 +1,13 @@
 //! How many cycles of a run a node works.
 ghost use Rattle.std.specs.Prelude.{◌≡◌};
 ghost use Rattle.std.specs.List.{list_any};
-ghost use Rattle.pw_base.specs.Pools.{is_same_port};
-ghost use Rattle.pw_base.specs.SoundPlan.{IsSoundPlan};
+ghost use Rattle.pw_graph.specs.Pools.{is_same_port};
+ghost use Rattle.pw_graph.specs.SoundPlan.{IsSoundPlan};
 ghost use Rattle.cycle_model.specs.Epochs.{all_cycles};
 ghost use Rattle.cycle_model.specs.Mixing.{takes_part};
 ghost use Rattle.node_progress.specs.Standing.{port_at, works_in, worked};
 
-use pw_base::{Epoch, Plan, PortId, is_same_port};
+use pw_graph::{Epoch, Plan, PortId, is_same_port};
 
 /// Whether a node is one of the epoch's active nodes. Takes no memory.
 pub fn takes_part(epoch: &Epoch, node: u32) -> bool

@@ -1,8 +1,8 @@
 //! A node's state before the run.
 ghost use Rattle.std.specs.Prelude.{◌≡◌, ◌<◌, length, IfOk, option_copied};
-ghost use Rattle.pw_base.specs.Limits.{quantum_limit};
-ghost use Rattle.pw_base.specs.SoundPlan.{IsSoundPlan};
-ghost use Rattle.pw_base.specs.SoundShape.{IsBetween};
+ghost use Rattle.pw_graph.specs.Limits.{quantum_limit};
+ghost use Rattle.pw_graph.specs.SoundPlan.{IsSoundPlan};
+ghost use Rattle.pw_graph.specs.SoundShape.{IsBetween};
 ghost use Rattle.cycle_model.specs.WavesFit.{WavesFit};
 ghost use Rattle.node_progress.specs.NodeStates.{IsNodeState};
 ghost use Rattle.node_progress.specs.working.Preparing.{IsMostNamed, wav_of, IsPreparedNode};
@@ -11,7 +11,8 @@ use crate::frames::worked_cycles;
 use crate::restarting::{fresh_in, restart_in};
 use crate::score::Score;
 use node_state::NodeState;
-use pw_base::{Items, Memory, Plan, QUANTUM_LIMIT};
+use pw_graph::{Plan, QUANTUM_LIMIT};
+use pw_lists::{Items, Memory};
 use std::alloc::Global;
 use wav_files::{Wav, WavIn};
 

@@ -5,7 +5,7 @@ ghost use Rattle.node_progress.specs.Restarts.{restart_of, next_first, IsEndOf};
 
 use crate::score::Score;
 use node_state::NodeState;
-use pw_base::{Epoch, Plan};
+use pw_graph::{Epoch, Plan};
 
 // The channels with which the epoch names the node as fresh.
 pub(crate) fn fresh_in(epoch: &Epoch, node: u32) -> Option<u32>

@@ -1,7 +1,8 @@
 //! What a run is of.
 ghost use Rattle.std.specs.Prelude.{◌≡◌};
 
-use pw_base::{Items, Plan};
+use pw_graph::Plan;
+use pw_lists::Items;
 use std::snapshot::Snapshot;
 use wav_files::WavIn;
 

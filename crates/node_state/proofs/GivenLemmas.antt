@@ -7,9 +7,9 @@ use Rattle.std.proofs.lemmas.Bool.{cases_lt}
 use Rattle.std.proofs.lemmas.List.{map-append, take-append-le, drop-append-le, length-replicate, take-replicate}
 use Rattle.std.proofs.Math.Nat.{mod-add-mod, mod-add-div'}
 use Rattle.std.proofs.Math.Seq.{drop-length, drop-append_seam}
-use Rattle.pw_base.specs.declared.kind.Kind.{Kind}
-use Rattle.pw_base.specs.Samples.{scaled, mixed, silence, of_frames}
-use Rattle.pw_base.specs.KindFunction.{KindInputs, kind_output, square_at}
+use Rattle.pw_graph.specs.declared.kind.Kind.{Kind}
+use Rattle.pw_graph.specs.Samples.{scaled, mixed, silence, of_frames}
+use Rattle.pw_graph.specs.KindFunction.{KindInputs, kind_output, square_at}
 use Rattle.s16_mixer.proofs.FrameLemmas.{of_frames-add, picked_append}
 use Rattle.node_state.specs.declared.kind_state.KindState.{KindState}
 use Rattle.node_state.specs.declared.kind_state.KindState.TheVariants.{Source, Square, Gain, Mix2, Delay, Map, Split, Sink, Meter}

@@ -2,10 +2,10 @@
 -- channel first.
 -- Source: this project's table of nodes and ports; a port without a form has an empty slice.
 use Rattle.std.specs.Prelude.{◌≡◌, ℕ, ◌<◌, ◌*◌, List, ℤ, length, ◌⊎◌}
-use Rattle.pw_base.specs.declared.kind.Kind.{Kind}
-use Rattle.pw_base.specs.declared.kind.Kind.TheVariants.{Source, Square, Gain, Mix2, Delay, Map, Split, Sink, Meter, Dummy}
-use Rattle.pw_base.specs.KindPorts.{input_count}
-use Rattle.pw_base.specs.KindRanges.{MayHaveChannels}
+use Rattle.pw_graph.specs.declared.kind.Kind.{Kind}
+use Rattle.pw_graph.specs.declared.kind.Kind.TheVariants.{Source, Square, Gain, Mix2, Delay, Map, Split, Sink, Meter, Dummy}
+use Rattle.pw_graph.specs.KindPorts.{input_count}
+use Rattle.pw_graph.specs.KindRanges.{MayHaveChannels}
 
 -- the channels at the first input, where the node has n there
 abbrev pub first_channels : Kind → ℕ → ℕ

@@ -1,8 +1,8 @@
 -- States: the kind of a state, and the room in it.
 -- Source: this project's node states.
 use Rattle.std.specs.Prelude.{ℕ, ◌+◌, ◌*◌, List, [], ℤ, length}
-use Rattle.pw_base.specs.declared.kind.Kind.{Kind}
-use Rattle.pw_base.specs.declared.kind.Kind.TheVariants as K
+use Rattle.pw_graph.specs.declared.kind.Kind.{Kind}
+use Rattle.pw_graph.specs.declared.kind.Kind.TheVariants as K
 use Rattle.node_state.specs.declared.kind_state.KindState.{KindState}
 use Rattle.node_state.specs.declared.kind_state.KindState.TheVariants.{Source, Square, Gain, Mix2, Delay, Map, Split, Sink, Meter}
 

@@ -3,10 +3,10 @@
 -- Source: the graph's nodes of PipeWire's documentation, "Graph Scheduling"; the kinds are this
 -- project's.
 use Rattle.std.specs.Prelude.{◌≡◌, ℕ, ◌-◌, ◌+◌, List, [], ◌++◌, length, drop, ℤ, ◌⊎◌, Option, Some, None}
-use Rattle.pw_base.specs.declared.kind.Kind.{Kind}
-use Rattle.pw_base.specs.declared.kind.Kind.TheVariants as K
-use Rattle.pw_base.specs.Samples.{peak_of}
-use Rattle.pw_base.specs.KindFunction.{KindInputs, kind_output}
+use Rattle.pw_graph.specs.declared.kind.Kind.{Kind}
+use Rattle.pw_graph.specs.declared.kind.Kind.TheVariants as K
+use Rattle.pw_graph.specs.Samples.{peak_of}
+use Rattle.pw_graph.specs.KindFunction.{KindInputs, kind_output}
 use Rattle.wav_files.specs.declared.wav.Wav.{Wav}
 use Rattle.node_state.specs.Slices.{left_channels}
 

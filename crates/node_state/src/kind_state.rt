@@ -4,7 +4,8 @@ use crate::kinds::{
     DelayState, GainState, MapState, MeterState, Mix2State, SinkState, SourceState, SplitState,
     SquareState,
 };
-use pw_base::{Kind, Memory};
+use pw_graph::Kind;
+use pw_lists::Memory;
 use std::alloc::Global;
 use wav_files::Wav;
 
@@ -24,10 +25,10 @@ pub(crate) enum KindState {
 
 impl KindState {
     ghost use Rattle.std.specs.Prelude.{◌≡◌, ℕ, ◌<◌, ◌≤◌, take, length, [], IfOk, IsTrue, ◌↔◌, option_copied};
-    ghost use Rattle.pw_base.specs.KindFunction.{KindInputs};
-    ghost use Rattle.pw_base.specs.KindPorts.{input_count};
-    ghost use Rattle.pw_base.specs.KindRanges.{IsInRange};
-    ghost use Rattle.pw_base.specs.Limits.{quantum_limit};
+    ghost use Rattle.pw_graph.specs.KindFunction.{KindInputs};
+    ghost use Rattle.pw_graph.specs.KindPorts.{input_count};
+    ghost use Rattle.pw_graph.specs.KindRanges.{IsInRange};
+    ghost use Rattle.pw_graph.specs.Limits.{quantum_limit};
     ghost use Rattle.node_state.specs.States.{kind_of, wave_channels, stream_of, room_in, wanted_room};
     ghost use Rattle.node_state.specs.working.Steps.{CanStep, given_by, IsStep};
     ghost use Rattle.node_state.specs.StandsFor.{Keeps};

@@ -1,7 +1,7 @@
 //! What a node keeps between quanta.
 ghost use Rattle.std.specs.Prelude.{ℕ, ◌*◌, ◌≤◌, length};
-ghost use Rattle.pw_base.specs.Limits.{quantum_limit};
-ghost use Rattle.pw_base.specs.SoundShape.{IsBetween};
+ghost use Rattle.pw_graph.specs.Limits.{quantum_limit};
+ghost use Rattle.pw_graph.specs.SoundShape.{IsBetween};
 ghost use Rattle.node_state.specs.States.{stream_of, room_in, wanted_room};
 
 use crate::kind_state::KindState;
@@ -31,7 +31,7 @@ pub struct NodeState {
 
 impl NodeState {
     ghost use Rattle.std.specs.Prelude.{◌≡◌};
-    ghost use Rattle.pw_base.specs.KindFunction.{KindInputs};
+    ghost use Rattle.pw_graph.specs.KindFunction.{KindInputs};
     ghost use Rattle.node_state.specs.StandsFor.{StandsFor, node_kind, kept_stream};
     ghost use Rattle.node_state.specs.Streams.{stream_kept_by, peak_kept_by};
 

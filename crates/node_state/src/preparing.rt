@@ -1,10 +1,10 @@
 //! A node's state made, with all its memory, and its stream begun anew.
 ghost use Rattle.std.specs.Prelude.{◌≡◌, ◌<◌, ◌≤◌, [], IfOk, option_copied};
-ghost use Rattle.pw_base.specs.KindFunction.{KindInputs};
-ghost use Rattle.pw_base.specs.KindPorts.{input_count};
-ghost use Rattle.pw_base.specs.KindRanges.{IsInRange};
-ghost use Rattle.pw_base.specs.Limits.{quantum_limit};
-ghost use Rattle.pw_base.specs.SoundShape.{IsBetween};
+ghost use Rattle.pw_graph.specs.KindFunction.{KindInputs};
+ghost use Rattle.pw_graph.specs.KindPorts.{input_count};
+ghost use Rattle.pw_graph.specs.KindRanges.{IsInRange};
+ghost use Rattle.pw_graph.specs.Limits.{quantum_limit};
+ghost use Rattle.pw_graph.specs.SoundShape.{IsBetween};
 ghost use Rattle.node_state.specs.Slices.{AllowsChannels};
 ghost use Rattle.node_state.specs.StandsFor.{StandsFor, IsPrepared, IsRestarted, node_kind, node_wave_channels, node_channels};
 ghost use Rattle.node_state.specs.StandsFor.{most_channels, kept_stream};
@@ -12,7 +12,8 @@ ghost use Rattle.node_state.specs.Streams.{HasItsWave, no_inputs, restarted, cha
 
 use crate::kind_state::KindState;
 use crate::node_state::NodeState;
-use pw_base::{Kind, Memory};
+use pw_graph::Kind;
+use pw_lists::Memory;
 use std::alloc::Global;
 use wav_files::Wav;
 

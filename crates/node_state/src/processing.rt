@@ -1,6 +1,6 @@
 //! One quantum of a node.
 ghost use Rattle.std.specs.Prelude.{◌≡◌, ◌+◌, length};
-ghost use Rattle.pw_base.specs.KindFunction.{KindInputs};
+ghost use Rattle.pw_graph.specs.KindFunction.{KindInputs};
 ghost use Rattle.node_state.specs.StandsFor.{StandsFor, IsQuantum, HasFramesLeft, IsSameNode, node_kind, node_quantum, frames_so_far};
 ghost use Rattle.node_state.specs.Streams.{Joins, followed, output_now};
 

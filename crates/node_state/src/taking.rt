@@ -4,7 +4,7 @@ ghost use Rattle.node_state.specs.StandsFor.{node_kind, kept_stream};
 
 use crate::kind_state::KindState;
 use crate::node_state::NodeState;
-use pw_base::Items;
+use pw_lists::Items;
 use std::alloc::Global;
 
 impl NodeState {

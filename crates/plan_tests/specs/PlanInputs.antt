@@ -2,9 +2,9 @@
 -- its sources. Source: this project's own.
 use Rattle.std.specs.Prelude.{◌≡◌, ◌+◌, ◌<◌, List, [], ◌∷◌, ◌++◌, map, Option, None, All, length}
 use Rattle.std.specs.Prelude.{option_map, option_to_list}
-use Rattle.pw_base.specs.declared.kind.Kind.{Kind}
-use Rattle.pw_base.specs.declared.kind.Kind.TheVariants as K
-use Rattle.pw_base.specs.KindRanges.{IsInRange}
+use Rattle.pw_graph.specs.declared.kind.Kind.{Kind}
+use Rattle.pw_graph.specs.declared.kind.Kind.TheVariants as K
+use Rattle.pw_graph.specs.KindRanges.{IsInRange}
 use Rattle.wav_files.specs.declared.wav.Wav.{Wav}
 use Rattle.graph_script.specs.declared.command.Command.{Command}
 use Rattle.graph_script.specs.declared.script.Line.{Line}

@@ -1,7 +1,7 @@
 //! The ports of a script's nodes, and a wave for each of its sources.
 ghost use Rattle.std.specs.Prelude.{◌≡◌, ◌↔◌, ◌<◌, ◌≤◌, length, Some, IfOk, IfSome, IsTrue, All};
-ghost use Rattle.pw_base.specs.declared.kind.Kind.TheVariants as K;
-ghost use Rattle.pw_base.specs.KindRanges.{IsRate, IsChannels};
+ghost use Rattle.pw_graph.specs.declared.kind.Kind.TheVariants as K;
+ghost use Rattle.pw_graph.specs.KindRanges.{IsRate, IsChannels};
 ghost use Rattle.graph_script.specs.Ranges.{IsInRange};
 ghost use Rattle.graph_lines.specs.Start.{kinds_of};
 ghost use Rattle.port_model.specs.Offers.{HasFileNumbers};
@@ -11,7 +11,8 @@ ghost use Rattle.plan_tests.specs.PlanInputs.{AreInputsAfter, AreInputsOf};
 use crate::silence::{Silence, wave_of};
 use graph_script::{Command, Line, kind_made};
 use port_model::Ports;
-use pw_base::{Items, Kind, Memory};
+use pw_graph::Kind;
+use pw_lists::{Items, Memory};
 use std::alloc::Global;
 use wav_files::{Wav, WavIn};
 

@@ -2,7 +2,8 @@
 
 use crate::showing::{Part, expect_limit, expect_part};
 use crate::texts::plan_text;
-use pw_base::{Memory, Which};
+use pw_graph::Which;
+use pw_lists::Memory;
 use std::test::Fail;
 
 // Each cycle of the built-in driver alone has five events, of which there may be 4,194,304.

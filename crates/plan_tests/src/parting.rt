@@ -2,7 +2,7 @@
 
 use crate::silence::Silence;
 use crate::texts::parts_text;
-use pw_base::{Items, Memory};
+use pw_lists::{Items, Memory};
 use std::alloc::Global;
 use std::process::Abort;
 use std::test::Fail;

@@ -3,7 +3,8 @@
 use crate::silence::Silence;
 use crate::texts::{TextFault, plans_text};
 use graph_plan::PlanFault;
-use pw_base::{LineOutcome, LinkLine, Memory, Part, Parts, Shape, Which};
+use pw_graph::{LineOutcome, LinkLine, Part, Parts, Shape, Which};
+use pw_lists::Memory;
 use std::alloc::Global;
 use std::process::Abort;
 use std::test::Fail;

@@ -1,8 +1,8 @@
 //! Waves of zeros.
 ghost use Rattle.std.specs.Prelude.{IfOk};
-ghost use Rattle.pw_base.specs.KindRanges.{IsRate, IsChannels};
+ghost use Rattle.pw_graph.specs.KindRanges.{IsRate, IsChannels};
 
-use pw_base::{Items, Memory};
+use pw_lists::{Items, Memory};
 use std::alloc::Global;
 use wav_files::Wav;
 

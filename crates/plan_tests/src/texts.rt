@@ -1,6 +1,6 @@
 //! The plan of a script's text, its parts, and their plans.
 ghost use Rattle.std.specs.Prelude.{All, IfOk};
-ghost use Rattle.pw_base.specs.SoundPlan.{IsSoundPlan};
+ghost use Rattle.pw_graph.specs.SoundPlan.{IsSoundPlan};
 ghost use Rattle.graph_script.specs.Kinds.{HasKinds};
 ghost use Rattle.graph_script.specs.Order.{HasOrder};
 ghost use Rattle.graph_script.specs.Ranges.{HasRanges};
@@ -9,7 +9,8 @@ use crate::inputs::{PlanInputs, inputs_of};
 use crate::silence::Silence;
 use graph_plan::{PlanFault, part_nodes, parts, plan};
 use graph_script::{Script, parse};
-use pw_base::{Items, Memory, Parts, Plan, SCRIPT_BYTES_LIMIT};
+use pw_graph::{Parts, Plan, SCRIPT_BYTES_LIMIT};
+use pw_lists::{Items, Memory};
 use std::alloc::Global;
 
 /// Why a text has no plan.

@@ -9,7 +9,7 @@ use crate::cursor::{long_at, number_at};
 use crate::fault::PodFault;
 use crate::pod::Pod;
 use crate::pod_type::size_of_child;
-use pw_base::{Items, Memory};
+use pw_lists::{Items, Memory};
 use std::alloc::Global;
 
 /// The value of a type with a size of its own, whose body begins there.

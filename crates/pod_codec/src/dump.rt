@@ -6,7 +6,7 @@ ghost use Rattle.pod_codec.specs.DumpText.{lines_of, prop_lines_of, control_line
 
 use crate::pod::{ChoiceKind, Control, Pod, Prop};
 use crate::text::{put_hex, put_number, put_numbers, put_quoted, put_quoted_hex, put_signed};
-use pw_base::{Items, Memory, Text};
+use pw_lists::{Items, Memory, Text};
 use std::alloc::Global;
 
 /// The word of a kind of choice.

@@ -4,7 +4,7 @@ ghost use Rattle.pod_codec.specs.PodFaults.{pod_fault_number, write_fault_number
 ghost use Rattle.pod_codec.specs.declared.fault.PodFault.TheVariants as p;
 ghost use Rattle.pod_codec.specs.declared.fault.WriteFault.TheVariants as w;
 
-use pw_base::Memory;
+use pw_lists::Memory;
 
 /// The first fault of bytes that spell no POD within the limits, or that memory ran out. Offsets
 /// count from the first byte that is given; they are below 2^32 since a POD has at most 1,048,584

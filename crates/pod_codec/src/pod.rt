@@ -1,6 +1,6 @@
 //! The values that a POD may be.
 
-use pw_base::{Items, Text};
+use pw_lists::{Items, Text};
 
 /// A value of SPA's type system. A POD is a value with its type and size in front of it.
 ///

@@ -1,6 +1,6 @@
 //! The value that bytes spell, or their first fault.
 ghost use Rattle.std.specs.Prelude.{◌≡◌, ℕ, List, ◌+◌, ◌++◌, ◌-◌, ◌≤◌, ◌<◌, ◌⊎◌, [], length, slice_index, slice_range};
-ghost use Rattle.pw_base.specs.Limits.{depth_limit};
+ghost use Rattle.pw_graph.specs.Limits.{depth_limit};
 ghost use Rattle.std.specs.Prelude.{IfOk, IfSome, IsNone};
 ghost use Rattle.pod_codec.specs.declared.pod.Pod.TheViews.{out-Pod, out-Prop, out-Control};
 ghost use Rattle.pod_codec.specs.declared.pod.Pod.{Pod};
@@ -23,7 +23,7 @@ use crate::cursor::number_at;
 use crate::fault::PodFault;
 use crate::pod::{ChoiceKind, Control, Pod, Prop};
 use crate::pod_type::size_of_child;
-use pw_base::{Items, Text};
+use pw_lists::{Items, Text};
 use std::alloc::Global;
 
 /// The size and type of the POD that begins at `at`: its header and its body are there.

@@ -11,7 +11,7 @@ ghost use Rattle.pod_codec.specs.Writable.{Tells};
 use crate::fault::WriteFault;
 use crate::pod::Pod;
 use crate::pod_type::type_number;
-use pw_base::{Items, Memory, Text};
+use pw_lists::{Items, Memory, Text};
 
 /// Appends four bytes, the lowest first.
 #[tactic(auto, unfolding(crate::specs::Framing::u32_bytes))]

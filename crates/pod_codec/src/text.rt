@@ -4,7 +4,7 @@ ghost use Rattle.std.specs.List.{flat_map};
 ghost use Rattle.std.specs.Fmt.{signed_decimal};
 ghost use Rattle.pod_codec.specs.DumpWords.{hex_digits, hex, escaped, numbered, two_numbered, quoted};
 
-use pw_base::{Memory, Text, append_decimal};
+use pw_lists::{Memory, Text, append_decimal};
 
 const HEX: [u8; 16] = *b"0123456789abcdef";
 

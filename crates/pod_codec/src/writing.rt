@@ -1,6 +1,6 @@
 //! The bytes of a value: SPA POD, "Types".
 ghost use Rattle.std.specs.Prelude.{◌≡◌, ◌+◌, ◌≤◌, ◌++◌, length, map, OnOk, OnErr, IsTrue};
-ghost use Rattle.pw_base.specs.Limits.{depth_limit};
+ghost use Rattle.pw_graph.specs.Limits.{depth_limit};
 ghost use Rattle.std.specs.List.{flat_map, AllByRecursion};
 ghost use Rattle.pod_codec.specs.Framing.{are_children, framed, keyed_bytes};
 ghost use Rattle.pod_codec.specs.PodValue.{form_of, keyed_of, control_keyed, struct_form, object_form, sequence_form, choice_form, canonical};
@@ -13,7 +13,7 @@ use crate::fault::WriteFault;
 use crate::pod::{Control, Pod, Prop};
 use crate::pod_type::{number_of_kind, type_number};
 use crate::scalars::{put_pair, put_text, put_u32, put_u64};
-use pw_base::Items;
+use pw_lists::Items;
 use std::alloc::Global;
 
 /// Appends the canonical spelling of a value with `left` levels left.

@@ -1,7 +1,7 @@
 //! What is read, written and dumped of values of each type, and each fault at its place.
 
 use pod_codec::{ChoiceKind, Pod, PodFault, WriteFault, dump_text, read_pod, write_pod};
-use pw_base::{Items, Memory};
+use pw_lists::{Items, Memory};
 use std::alloc::Global;
 use std::process::Abort;
 use std::test::Fail;

@@ -10,7 +10,7 @@ use format_filter::{
     Choice, Filtered, Format, FormatFault, Wide, filter, fixate, format_of, meet, pod_of,
 };
 use pod_codec::{ChoiceKind, Pod, Prop, read_pod, write_pod};
-use pw_base::{Items, Memory};
+use pw_lists::{Items, Memory};
 use std::alloc::Global;
 use std::test::Fail;
 

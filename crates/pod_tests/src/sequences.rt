@@ -2,7 +2,7 @@
 
 use control_sequence::{ControlFault, Point, controls_of};
 use pod_codec::{Control, Pod, Prop};
-use pw_base::{Items, Memory};
+use pw_lists::{Items, Memory};
 use std::alloc::Global;
 use std::test::Fail;
 

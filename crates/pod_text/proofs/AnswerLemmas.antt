@@ -1,8 +1,8 @@
 -- What a call does.
 use Rattle.std.proofs.Common.{◌≡◌, inr, ℕ, List, [], Ok, Err, subst}
 use Rattle.std.specs.Prelude.{Result}
-use Rattle.pw_base.specs.Files.{Held, names_in}
-use Rattle.pw_base.specs.Output.{Given}
+use Rattle.pw_outside.specs.Files.{Held, names_in}
+use Rattle.pw_outside.specs.Output.{Given}
 use Rattle.format_filter.specs.declared.format.Format.{Format}
 use Rattle.pod_text.specs.declared.source.Source.{Source}
 use Rattle.pod_text.specs.declared.source.Source.TheVariants as Src

@@ -1,7 +1,7 @@
 -- What a call does, by the words and by what the files hold. Source: this project's own.
 use Rattle.std.specs.Prelude.{◌≡◌, ◌⊎◌, ℕ, ◌-◌, List, [], Option, Some, Result, Ok, Err, slice_index_or}
-use Rattle.pw_base.specs.Files.{Held, names_in}
-use Rattle.pw_base.specs.Output.{Given}
+use Rattle.pw_outside.specs.Files.{Held, names_in}
+use Rattle.pw_outside.specs.Output.{Given}
 use Rattle.graph_script.specs.Lexical.{lines_of}
 use Rattle.format_filter.specs.declared.format.Format.{Format}
 use Rattle.pod_text.specs.declared.source.Source.{Source}

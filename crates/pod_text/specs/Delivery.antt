@@ -1,8 +1,8 @@
 -- Where the bytes go: a file of this name, or standard output. Source: this project's own.
 use Rattle.std.specs.Prelude.{◌≡◌, ℕ, List, take, option_map, IsTrue, not}
-use Rattle.pw_base.specs.Causes.{Rose}
-use Rattle.pw_base.specs.Files.{Held, stored}
-use Rattle.pw_base.specs.Output.{Given, Gave, GavePart}
+use Rattle.pw_outside.specs.Causes.{Rose}
+use Rattle.pw_outside.specs.Files.{Held, stored}
+use Rattle.pw_outside.specs.Output.{Given, Gave, GavePart}
 use Rattle.pod_text.specs.declared.status.Status.{Status}
 use Rattle.pod_text.specs.declared.status.Status.TheVariants as S
 use Rattle.pod_text.specs.Words.{is_dash}

@@ -1,7 +1,7 @@
 -- What a load of a list or a text gives, by what stands under its name. Where a load failed or
 -- memory was short, nothing is said of the files. Source: this project's own.
 use Rattle.std.specs.Prelude.{◌≡◌, ℕ, ◌<◌, List, length, codes, if◌then◌else◌, Option, Some, None, Result, Ok, Err}
-use Rattle.pw_base.specs.Causes.{Rose}
+use Rattle.pw_outside.specs.Causes.{Rose}
 use Rattle.pod_text.specs.declared.status.Status.{Status}
 use Rattle.pod_text.specs.declared.status.Status.TheVariants as S
 use Rattle.pod_text.specs.Words.{is_dash}

@@ -8,7 +8,7 @@ ghost use Rattle.pod_text.specs.ChoiceWords as said;
 use format_filter::{Choice, Wide};
 use graph_script::number_within;
 use pod_codec::Pod;
-use pw_base::{Items, Memory, next_piece};
+use pw_lists::{Items, Memory, next_piece};
 use std::alloc::Global;
 
 // A number of an Int, without a sign.

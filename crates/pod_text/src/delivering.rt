@@ -4,7 +4,8 @@ ghost use Rattle.pod_text.specs.Delivery.{IsStoring, IsPutting, IsDelivered};
 
 use crate::status::Status;
 use crate::words::is_dash;
-use pw_base::{FileFail, Files, Sink, Text};
+use pw_lists::Text;
+use pw_outside::{FileFail, Files, Sink};
 use std::alloc::Global;
 
 // Stores bytes under a name; a failure is that of the word at this place.

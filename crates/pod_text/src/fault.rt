@@ -2,7 +2,7 @@
 ghost use Rattle.pod_text.specs.declared.fault.ListFault.TheVariants as f;
 ghost use Rattle.std.specs.Prelude.{◌≡◌};
 
-use pw_base::Memory;
+use pw_lists::Memory;
 
 /// What is wrong with a line of a list of gains, in the order in which it is looked for.
 #[derive(Clone, Copy, Debug, PartialEq, Eq, Drop)]

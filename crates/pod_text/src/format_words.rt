@@ -12,7 +12,7 @@ use crate::offers::offer_of;
 use crate::status::Status;
 use crate::words::{Request, is_file_word};
 use format_filter::Choice;
-use pw_base::Items;
+use pw_lists::Items;
 use std::alloc::Global;
 
 /// The flag of a property that the other side must have. Source: `spa/pod/pod.h`.

@@ -9,7 +9,7 @@ ghost use Rattle.pod_text.specs.declared.fault.ListFault.TheVariants.{Memory};
 use crate::fault::ListFault;
 use crate::gain_lines::meaning_of;
 use control_sequence::{Point, Points};
-use pw_base::{Items, next_piece};
+use pw_lists::{Items, next_piece};
 use std::alloc::Global;
 
 // Appends the point that a line says, if it says one; the answer is the frame of the last point.

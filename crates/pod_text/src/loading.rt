@@ -1,11 +1,12 @@
 //! The file that is read.
 ghost use Rattle.std.specs.Prelude.{◌≡◌, IsSome, codes, IfOk};
-ghost use Rattle.pw_base.specs.Files.{names_in};
+ghost use Rattle.pw_outside.specs.Files.{names_in};
 ghost use Rattle.pod_text.specs.Loading.{input_name, source_bytes_limit, IsLoad, IsCaused};
 
 use crate::status::Status;
 use crate::words::is_dash;
-use pw_base::{FileFail, Files, Items, Loaded, Memory, Text};
+use pw_lists::{Items, Memory, Text};
+use pw_outside::{FileFail, Files, Loaded};
 use std::alloc::Global;
 
 /// The bytes of what is read, at most.

@@ -14,7 +14,7 @@ use control_sequence::Points;
 use dump_reading::{DumpFault, read_dump};
 use format_filter::{Format, pod_of};
 use pod_codec::{Pod, WriteFault, write_pod};
-use pw_base::Items;
+use pw_lists::Items;
 use std::alloc::Global;
 
 // The one spelling of a value.

@@ -5,7 +5,7 @@ ghost use Rattle.format_filter.specs.Soundness.{IsSound};
 ghost use Rattle.pod_text.specs.Offers.{offer_of};
 
 use format_filter::{Choice, Field, Format};
-use pw_base::{Items, Memory};
+use pw_lists::{Items, Memory};
 use std::alloc::Global;
 
 /// The object type Format, and the id of formats that may be had. Source: `spa/utils/type.h`,

@@ -7,7 +7,7 @@ use crate::fault::ListWhy;
 use crate::showing::{put_line, put_shown};
 use crate::status::Status;
 use dump_reading::DumpWhy;
-use pw_base::{Items, Memory, Text, append_decimal};
+use pw_lists::{Items, Memory, Text, append_decimal};
 use std::alloc::Global;
 
 /// The commands in words.

@@ -8,7 +8,7 @@ ghost use Rattle.pod_text.specs.GainSequence.{HasGain, IsGainObject, IsControlOf
 
 use control_sequence::{Point, Points};
 use pod_codec::{Control, Pod, Prop};
-use pw_base::{Items, Memory};
+use pw_lists::{Items, Memory};
 use std::alloc::Global;
 
 /// The object type Props, and its id. Source: `spa/utils/type.h`, `spa/param/param.h`.

@@ -5,7 +5,7 @@ ghost use Rattle.graph_script.specs.Lexical.{lines_of};
 ghost use Rattle.pod_codec.specs.DumpWords.{hex_digits};
 ghost use Rattle.pod_text.specs.Showing.{shown_byte, shown, shown_line};
 
-use pw_base::{Memory, Text, next_piece};
+use pw_lists::{Memory, Text, next_piece};
 
 const HEX: [u8; 16] = *b"0123456789abcdef";
 

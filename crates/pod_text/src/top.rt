@@ -1,6 +1,6 @@
 //! The whole program: what words ask for, done, and a sentence where it is refused.
 ghost use Rattle.std.specs.Prelude.{◌≡◌, IsSome, List, ℕ, map, string_bytes, Err, IfOk};
-ghost use Rattle.pw_base.specs.Files.{names_in};
+ghost use Rattle.pw_outside.specs.Files.{names_in};
 ghost use Rattle.format_filter.specs.CommonFormat.{IsSoundFormat};
 ghost use Rattle.pod_text.specs.Loading.{input_name};
 ghost use Rattle.pod_text.specs.DumpMaking.{IsMadePod};
@@ -15,7 +15,8 @@ use crate::source::Source;
 use crate::status::Status;
 use crate::words::{Request, read_words};
 use format_filter::Format;
-use pw_base::{Files, Items, Memory, Sink, Text};
+use pw_lists::{Items, Memory, Text};
+use pw_outside::{Files, Sink};
 use std::alloc::Global;
 
 /// How a call ended, and the line of what was read that its status names.

@@ -8,7 +8,7 @@ use crate::format_words::read_format_words;
 use crate::source::Source;
 use crate::status::Status;
 use format_filter::Format;
-use pw_base::{Items, Text};
+use pw_lists::{Items, Text};
 use std::alloc::Global;
 
 /// What words ask for. A file is a word of its own; `-` is standard input or output.

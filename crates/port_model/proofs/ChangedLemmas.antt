@@ -8,7 +8,7 @@ use Rattle.std.proofs.lemmas.List.{take-append-le}
 use Rattle.std.proofs.Math.Seq.{take-length}
 use Rattle.std.proofs.lemmas.List.Elements.{All-cons, All-head, All-tail}
 use Rattle.std.proofs.lemmas.Option.{same_Some, none-some}
-use Rattle.pw_base.specs.Refilled.{refilled}
+use Rattle.pw_lists.specs.Refilled.{refilled}
 use Rattle.port_model.specs.PortState.{changed}
 
 pub length-changed : {X : Type 0} (xs : List X) (i : ℕ) (f : X → X) → length (changed xs i f) ≡ length xs

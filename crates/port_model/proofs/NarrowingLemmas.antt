@@ -4,8 +4,8 @@ use Rattle.std.proofs.Common.{subst, arith}
 use Rattle.std.specs.List.{Contains}
 use Rattle.std.specs.Prelude.{slice_get, IfSome, IsSome}
 use Rattle.std.proofs.lemmas.Option.{same_Some}
-use Rattle.pw_base.specs.declared.ids.PortId.{PortId}
-use Rattle.pw_base.specs.declared.kind.Kind.{Kind}
+use Rattle.pw_graph.specs.declared.ids.PortId.{PortId}
+use Rattle.pw_graph.specs.declared.kind.Kind.{Kind}
 use Rattle.pod_codec.specs.declared.pod.Pod.{Pod}
 use Rattle.format_filter.specs.declared.choice.Choice.{Choice}
 use Rattle.format_filter.specs.declared.choice.Choice.TheVariants.{Only, Enum, Range, Step}

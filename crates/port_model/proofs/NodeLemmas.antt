@@ -5,10 +5,10 @@ use Rattle.std.specs.List.{All}
 use Rattle.std.specs.Option.{option_map_or}
 use Rattle.std.specs.Prelude.{slice_get, IfSome}
 use Rattle.std.proofs.lemmas.Option.{same_Some, slice_get-get_or, slice_get_past, slice_get_within, get_or_from_slice_get}
-use Rattle.pw_base.specs.declared.ids.PortId.{PortId}
+use Rattle.pw_graph.specs.declared.ids.PortId.{PortId}
 use Rattle.std.proofs.Math.ListN.{set}
-use Rattle.pw_base.specs.KindPorts.{port_count}
-use Rattle.pw_base.specs.Refilled.{refilled}
+use Rattle.pw_graph.specs.KindPorts.{port_count}
+use Rattle.pw_lists.specs.Refilled.{refilled}
 use Rattle.port_model.specs.declared.port_state.PortState.{PortState}
 use Rattle.port_model.specs.declared.port_state.Node.{Node}
 use Rattle.port_model.specs.PortState.{IsPort, HasPlace, AtPort, port_count_of, changed, with_port}

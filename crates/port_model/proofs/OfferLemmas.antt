@@ -13,11 +13,11 @@ use Rattle.pod_codec.specs.declared.pod.Pod.{Pod}
 use Rattle.pod_codec.specs.declared.pod.Pod.TheVariants as pod
 use Rattle.pod_codec.specs.declared.pod.Pod.TheFolds.{the_lemmas}
 use Rattle.pod_codec.specs.SoundChoices.{IsOfType}
-use Rattle.pw_base.specs.declared.kind.Kind.{Kind}
-use Rattle.pw_base.specs.declared.kind.Kind.TheVariants.{Source, Square, Gain, Mix2, Delay, Map, Split, Sink, Meter, Dummy}
-use Rattle.pw_base.specs.KindPorts.{port_count}
-use Rattle.pw_base.specs.KindRanges.{IsInRange, MayHaveRate, MayHaveChannels}
-use Rattle.pw_base.specs.SoundShape.{IsBetween}
+use Rattle.pw_graph.specs.declared.kind.Kind.{Kind}
+use Rattle.pw_graph.specs.declared.kind.Kind.TheVariants.{Source, Square, Gain, Mix2, Delay, Map, Split, Sink, Meter, Dummy}
+use Rattle.pw_graph.specs.KindPorts.{port_count}
+use Rattle.pw_graph.specs.KindRanges.{IsInRange, MayHaveRate, MayHaveChannels}
+use Rattle.pw_graph.specs.SoundShape.{IsBetween}
 use Rattle.format_filter.specs.declared.choice.Choice.{Choice}
 use Rattle.format_filter.specs.declared.choice.Choice.TheVariants.{Only, Range}
 use Rattle.format_filter.specs.declared.choice.Wide.TheVariants as wide

@@ -5,9 +5,9 @@ use Rattle.std.specs.Option.{option_map}
 use Rattle.std.proofs.Math.ListN.{set}
 use Rattle.std.proofs.lemmas.Option.{same_Some, none-some, slice_get-map}
 use Rattle.std.proofs.lemmas.List.{length-map}
-use Rattle.pw_base.specs.Refilled.{refilled}
-use Rattle.pw_base.specs.SoundShape.{IsBetween}
-use Rattle.pw_base.specs.declared.ids.PortId.{PortId}
+use Rattle.pw_lists.specs.Refilled.{refilled}
+use Rattle.pw_graph.specs.SoundShape.{IsBetween}
+use Rattle.pw_graph.specs.declared.ids.PortId.{PortId}
 use Rattle.port_model.specs.declared.port_state.PortState.{PortState}
 use Rattle.port_model.specs.declared.port_state.Node.{Node}
 use Rattle.port_model.specs.PortState.{with_port, with_released, released, buffered}

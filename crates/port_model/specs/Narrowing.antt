@@ -2,7 +2,7 @@
 -- Source: SPA POD, "Object"; spa/pod/filter.h, spa_pod_filter.
 use Rattle.std.specs.Prelude.{◌≡◌, ◌≢◌, List, None}
 use Rattle.std.specs.List.{All}
-use Rattle.pw_base.specs.declared.ids.PortId.{PortId}
+use Rattle.pw_graph.specs.declared.ids.PortId.{PortId}
 use Rattle.format_filter.specs.declared.format.Format.{Format}
 use Rattle.format_filter.specs.declared.common.Filtered.TheVariants.{Common, Types}
 use Rattle.format_filter.specs.declared.common.Filtered.TheVariants as filtered

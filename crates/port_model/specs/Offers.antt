@@ -4,9 +4,9 @@
 -- are this project's.
 use Rattle.std.specs.Prelude.{ℕ, ◌==◌, ◌||◌, Bool, map, None}
 use Rattle.std.specs.List.{range_with_len}
-use Rattle.pw_base.specs.declared.kind.Kind.{Kind}
-use Rattle.pw_base.specs.declared.kind.Kind.TheVariants.{Square, Gain, Mix2, Delay, Map, Split}
-use Rattle.pw_base.specs.KindPorts.{port_count}
+use Rattle.pw_graph.specs.declared.kind.Kind.{Kind}
+use Rattle.pw_graph.specs.declared.kind.Kind.TheVariants.{Square, Gain, Mix2, Delay, Map, Split}
+use Rattle.pw_graph.specs.KindPorts.{port_count}
 use Rattle.port_model.specs.declared.port_state.PortState.{PortState}
 use Rattle.port_model.specs.declared.port_state.Node.{Node}
 pub use Rattle.port_model.specs.Keys.{format_object, enum_format_id, media_type_key, media_subtype_key, audio_type, raw_subtype, audio_format_key, s16_le_format, rate_key, channels_key}

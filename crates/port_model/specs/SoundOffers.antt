@@ -2,8 +2,8 @@
 -- Source: this project's own.
 use Rattle.std.specs.Prelude.{◌≡◌, ℕ, List, Some, IsSome}
 use Rattle.pod_codec.specs.declared.pod.Pod.{Pod}
-use Rattle.pw_base.specs.declared.kind.Kind.{Kind}
-use Rattle.pw_base.specs.KindRanges.{MayHaveRate, MayHaveChannels}
+use Rattle.pw_graph.specs.declared.kind.Kind.{Kind}
+use Rattle.pw_graph.specs.KindRanges.{MayHaveRate, MayHaveChannels}
 use Rattle.format_filter.specs.declared.format.Field.{Field}
 use Rattle.format_filter.specs.declared.format.Format.{Format}
 use Rattle.format_filter.specs.Members.{IsMember}

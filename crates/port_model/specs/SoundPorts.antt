@@ -1,13 +1,13 @@
 -- Sound ports: what holds of the ports that a script has made, whatever it said.
 -- Source: this project's own.
 use Rattle.std.specs.Prelude.{◌≡◌, ℕ, ◌≤◌, List, Some, None, true, length, slice_get, IfSome}
-use Rattle.pw_base.specs.Limits.{nodes_limit}
+use Rattle.pw_graph.specs.Limits.{nodes_limit}
 use Rattle.std.specs.List.{All}
 use Rattle.pod_codec.specs.declared.pod.Pod.{Pod}
-use Rattle.pw_base.specs.declared.kind.Kind.{Kind}
-use Rattle.pw_base.specs.KindPorts.{port_count}
-use Rattle.pw_base.specs.KindRanges.{IsInRange}
-use Rattle.pw_base.specs.SoundShape.{IsBetween}
+use Rattle.pw_graph.specs.declared.kind.Kind.{Kind}
+use Rattle.pw_graph.specs.KindPorts.{port_count}
+use Rattle.pw_graph.specs.KindRanges.{IsInRange}
+use Rattle.pw_graph.specs.SoundShape.{IsBetween}
 use Rattle.format_filter.specs.declared.format.Format.{Format}
 use Rattle.port_model.specs.declared.port_state.PortState.{PortState}
 use Rattle.port_model.specs.declared.port_state.Node.{Node}

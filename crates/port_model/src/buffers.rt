@@ -1,6 +1,6 @@
 //! The number of buffers that a port takes.
 ghost use Rattle.std.specs.Prelude.{◌≡◌, pos, ◌≤◌};
-ghost use Rattle.pw_base.specs.SoundShape.{IsBetween};
+ghost use Rattle.pw_graph.specs.SoundShape.{IsBetween};
 ghost use Rattle.format_filter.specs.declared.choice.Choice.TheVariants as choice;
 ghost use Rattle.format_filter.specs.declared.choice.Wide.TheVariants as wide;
 ghost use Rattle.pod_codec.specs.declared.pod.Pod.{Pod};
@@ -14,7 +14,8 @@ use crate::places::{node_at, state_at};
 use crate::port_state::Node;
 use crate::ports::Ports;
 use format_filter::{Choice, Wide};
-use pw_base::{Items, PortId};
+use pw_graph::PortId;
+use pw_lists::Items;
 
 /// Gives a port a number of buffers.
 fn put_buffers(nodes: &mut Items<Node>, port: PortId, n: u32)

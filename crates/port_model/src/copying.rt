@@ -4,39 +4,8 @@ ghost use Rattle.std.specs.Prelude.{◌≡◌, IfOk};
 use crate::port_state::{Node, PortState};
 use crate::ports::Ports;
 use format_filter::Format;
-use pw_base::{Items, Kind, Memory};
+use pw_lists::{Items, Memory};
 use std::alloc::Global;
-
-/// An equal kind. Takes memory for the list of a `map`.
-pub fn copy_kind(alloc: Global, kind: &Kind) -> Result<Kind, Memory>
-    ensures { IfOk result (λ copied. copied ≡ kind.now) }
-{
-    Ok(match kind {
-        Kind::Source => Kind::Source,
-        Kind::Square {
-            rate,
-            channels,
-            period,
-            amp,
-        } => Kind::Square {
-            rate: *rate,
-            channels: *channels,
-            period: *period,
-            amp: *amp,
-        },
-        Kind::Gain { g } => Kind::Gain { g: *g },
-        Kind::Mix2 { ga, gb } => Kind::Mix2 { ga: *ga, gb: *gb },
-        Kind::Delay { frames } => Kind::Delay { frames: *frames },
-        Kind::Map { channels, list } => Kind::Map {
-            channels: *channels,
-            list: list.copy(alloc)?,
-        },
-        Kind::Split => Kind::Split,
-        Kind::Sink => Kind::Sink,
-        Kind::Meter => Kind::Meter,
-        Kind::Dummy => Kind::Dummy,
-    })
-}
 
 /// An equal format, if there is one.
 fn copy_format(alloc: Global, format: &Option<Format>) -> Result<Option<Format>, Memory>
@@ -75,7 +44,7 @@ fn copy_node(alloc: Global, node: &Node) -> Result<Node, Memory>
     ensures { IfOk result (λ copied. copied ≡ node.now) }
 {
     Ok(Node {
-        kind: copy_kind(alloc, &node.kind)?,
+        kind: node.kind.copy(alloc)?,
         ports: copy_ports(alloc, node.ports.as_slice())?,
     })
 }

@@ -1,7 +1,7 @@
 //! The form of a port: its rate and its channels.
 ghost use Rattle.std.specs.Prelude.{◌≡◌, ℕ, MatchOption, IfSome, IsSome, Some};
 ghost use Rattle.std.specs.Option.{option_copied};
-ghost use Rattle.pw_base.specs.KindRanges.{MayHaveRate, MayHaveChannels};
+ghost use Rattle.pw_graph.specs.KindRanges.{MayHaveRate, MayHaveChannels};
 ghost use Rattle.port_model.specs.PortState.{IsPort, AtPort};
 ghost use Rattle.port_model.specs.Offers.{int_of};
 ghost use Rattle.port_model.specs.Forms.{value_of, IsForm};
@@ -14,7 +14,7 @@ use crate::ports::Ports;
 use crate::sharing::shared_value;
 use crate::values::{number_in, value_at};
 use pod_codec::Pod;
-use pw_base::PortId;
+use pw_graph::PortId;
 
 /// The value of a port at a key.
 fn value_of<'a>(node: &'a Node, state: &'a PortState, key: u32) -> Option<&'a Pod>

@@ -1,15 +1,15 @@
 //! What each kind of node offers at its ports, before a file narrows it.
 ghost use Rattle.std.specs.Prelude.{◌≡◌, ◌^◌, ◌<◌, ◌≤◌, IfOk};
-ghost use Rattle.pw_base.specs.KindRanges.{IsInRange};
-ghost use Rattle.pw_base.specs.Limits.{rate_limit};
+ghost use Rattle.pw_graph.specs.KindRanges.{IsInRange};
+ghost use Rattle.pw_graph.specs.Limits.{rate_limit};
 ghost use Rattle.format_filter.specs.declared.choice.Choice.TheVariants as choice;
 ghost use Rattle.port_model.specs.Offers.{int_of, plain_field, rate_choice, channels_choice, kind_offer, new_node};
 
-use crate::copying::copy_kind;
 use crate::port_state::{Node, PortState};
 use format_filter::{Choice, Field, Format, Wide};
 use pod_codec::Pod;
-use pw_base::{Items, Kind, Memory};
+use pw_graph::Kind;
+use pw_lists::{Items, Memory};
 use std::alloc::Global;
 
 /// The object type of formats; `spa/utils/type.h`, `SPA_TYPE_OBJECT_Format`.
@@ -157,7 +157,7 @@ pub fn new_node(alloc: Global, kind: &Kind, rate: u32, channels: u32) -> Result<
     ensures { IfOk result (λ node. node ≡ new_node kind.now rate channels) }
 {
     Ok(Node {
-        kind: copy_kind(alloc, kind)?,
+        kind: kind.copy(alloc)?,
         ports: new_ports(alloc, kind, rate, channels)?,
     })
 }

@@ -18,7 +18,6 @@ mod release;
 mod sharing;
 mod values;
 
-pub use copying::copy_kind;
 pub use narrowing::Narrowed;
 pub use port_state::{Node, PortState};
 pub use ports::Ports;

@@ -8,7 +8,8 @@ use crate::places::{node_at, state_at};
 use crate::port_state::Node;
 use crate::ports::Ports;
 use format_filter::{Filtered, Format, filter};
-use pw_base::{Items, Memory, PortId};
+use pw_graph::PortId;
+use pw_lists::{Items, Memory};
 
 /// What a file does to a port's offer.
 #[derive(Clone, Copy, Debug, PartialEq, Eq, Drop)]

@@ -4,7 +4,7 @@ ghost use Rattle.port_model.specs.PortState.{IsPort};
 ghost use Rattle.port_model.specs.SoundPorts.{AreSoundNodes, IsSoundNode, IsSoundPort};
 
 use crate::port_state::{Node, PortState};
-use pw_base::PortId;
+use pw_graph::PortId;
 
 /// The node of a port.
 pub fn node_at(nodes: &[Node], port: PortId) -> &Node

@@ -1,7 +1,8 @@
 //! What is kept of a node and of each of its ports.
 
 use format_filter::Format;
-use pw_base::{Items, Kind};
+use pw_graph::Kind;
+use pw_lists::Items;
 
 /// A node's kind and its ports, inputs first.
 #[derive(Drop)]

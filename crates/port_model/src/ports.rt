@@ -1,7 +1,7 @@
 //! The ports of all nodes.
 ghost use Rattle.std.specs.Prelude.{◌≡◌, ◌<◌, ◌≤◌, ◌↔◌, [], ◌∷◌, ◌++◌, length, IfOk, OnOk, OnErr, IsTrue, IsSome};
-ghost use Rattle.pw_base.specs.Limits.{nodes_limit};
-ghost use Rattle.pw_base.specs.KindRanges.{IsInRange, IsRate, IsChannels};
+ghost use Rattle.pw_graph.specs.Limits.{nodes_limit};
+ghost use Rattle.pw_graph.specs.KindRanges.{IsInRange, IsRate, IsChannels};
 ghost use Rattle.port_model.specs.PortState.{IsPort, AtPort, HasPlace, with_port, taking};
 ghost use Rattle.port_model.specs.Offers.{new_node, HasFileNumbers};
 ghost use Rattle.port_model.specs.SoundPorts.{MayTake, AreSoundNodes};
@@ -10,7 +10,8 @@ use crate::kind_offers::new_node;
 use crate::places::{node_at, state_at};
 use crate::port_state::Node;
 use format_filter::Format;
-use pw_base::{Items, Kind, Memory, PortId};
+use pw_graph::{Kind, PortId};
+use pw_lists::{Items, Memory};
 use std::alloc::Global;
 use std::marker::Model;
 

@@ -4,7 +4,7 @@ ghost use Rattle.port_model.specs.PortState.{released, with_released};
 
 use crate::port_state::{Node, PortState};
 use crate::ports::Ports;
-use pw_base::Items;
+use pw_lists::Items;
 
 /// Takes the formats of some ports away.
 fn release(ports: &mut [PortState])

@@ -17,7 +17,8 @@ use crate::ports::Ports;
 use crate::values::value_at;
 use format_filter::{Choice, Field, Format, meet};
 use pod_codec::Pod;
-use pw_base::{Items, Kind, Memory, PortId};
+use pw_graph::{Kind, PortId};
+use pw_lists::{Items, Memory};
 use std::alloc::Global;
 
 /// What a port offers.

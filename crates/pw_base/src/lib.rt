@@ -1,87 +1,19 @@
-//! The types, definitions and traits that every crate of the engine stands on.
-//!
-//! `Items` and `Room` are lists that contracts see as lists. `Plan`, `Shape` and `Event` say what a
-//! script asks for, what one epoch is, and what happened; `is_sound_shape`, `is_pooled_shape` and
-//! `is_legal_history` check them against their definitions. `Files`, `Sink`, `Ticker` and `Gate`
-//! are the outside; the objects of `in_memory` stand in for it in tests. The definitions of one
-//! sample and of the kinds of node, in `specs/`, are the words that kernels, node states and the
-//! cycle function share.
+//! The base of the engine under one name: all that pw_lists, pw_outside and pw_graph make public,
+//! for a host that wants one crate to name.
 #![tactic(auto)]
 
-mod cycle_history;
-mod decimal;
-mod dependencies;
-mod event;
-mod every;
-mod files;
-mod free_node;
-mod fresh_entries;
-mod gate;
-mod history;
-mod ids;
-mod in_memory;
-mod items;
-mod kind;
-mod kind_ranges;
-mod limit;
-mod link_order;
-mod meet;
-mod memory;
-mod names;
-mod output;
-mod parts;
-mod pieces;
-mod plan;
-mod plan_forms;
-mod plan_fresh;
-mod plan_kept;
-mod plan_soundness;
-mod plan_sums;
-mod pooling;
-mod pools;
-mod room;
-mod shape;
-mod soundness;
-mod status;
-mod ticker;
-mod words;
-
-pub use decimal::append_decimal;
-pub use event::Event;
-pub use every::Every;
-pub use files::{FileFail, Files, Loaded};
-pub use free_node::find_free;
-pub use gate::{Gate, Open};
-pub use history::is_legal_history;
-pub use ids::{DUMMY, LinkId, NODES, NodeId, PortId, is_same_port};
-pub use in_memory::mem_files::MemFiles;
-pub use in_memory::mem_sink::MemSink;
-pub use in_memory::sure_files::SureFiles;
-pub use in_memory::sure_sink::SureSink;
-pub use items::{Items, Text};
-pub use kind::Kind;
-pub use kind_ranges::is_sink;
-pub use limit::{
-    ALL_WAV_BYTES_LIMIT, AMP_LIMIT, BLOCK_BYTES_LIMIT, BUFFERS_LIMIT, CHANNELS_LIMIT, DELAY_LIMIT,
-    EVENTS_LIMIT, GAIN_LIMIT, LINKS_LIMIT, PERIOD_LIMIT, POD_BYTES_LIMIT, QUANTUM_LIMIT,
-    RATE_LIMIT, SCRIPT_BYTES_LIMIT, SINK_SAMPLES_LIMIT, WAV_BYTES_LIMIT, Which,
+pub use pw_graph::{
+    ALL_WAV_BYTES_LIMIT, AMP_LIMIT, ActivationStatus, AreaStatus, BLOCK_BYTES_LIMIT, BUFFERS_LIMIT,
+    CHANNELS_LIMIT, DELAY_LIMIT, DUMMY, EVENTS_LIMIT, Epoch, Event, Fresh, GAIN_LIMIT, Kind,
+    LINKS_LIMIT, LineOutcome, LinkId, LinkLine, NO_BLOCK, NODES, NodeId, PERIOD_LIMIT,
+    POD_BYTES_LIMIT, Part, Parts, Plan, PlanNode, PoolShape, PortForm, PortId, QUANTUM_LIMIT,
+    RATE_LIMIT, SCRIPT_BYTES_LIMIT, SINK_SAMPLES_LIMIT, Shape, ShapeLink, ShapeNode,
+    WAV_BYTES_LIMIT, Which, cycle_of, event_of, event_word, find_free, io_id_of, io_status_of,
+    io_word, is_legal_history, is_pooled_shape, is_same_port, is_sink, is_sound_plan,
+    is_sound_shape, pools_of, status_of, status_word,
 };
-pub use meet::Meet;
-pub use memory::Memory;
-pub use names::place_of_name;
-pub use output::Sink;
-pub use parts::{Part, Parts};
-pub use pieces::next_piece;
-pub use plan::{Epoch, Fresh, LineOutcome, LinkLine, Plan, PlanNode, PortForm};
-pub use plan_soundness::is_sound_plan;
-pub use pooling::{is_pooled_shape, pools_of};
-pub use pools::PoolShape;
-pub use room::Room;
-pub use shape::{Shape, ShapeLink, ShapeNode};
-pub use soundness::is_sound_shape;
-pub use status::{ActivationStatus, AreaStatus};
-pub use ticker::{Never, Ticker};
-pub use words::{
-    NO_BLOCK, cycle_of, event_of, event_word, io_id_of, io_status_of, io_word, status_of,
-    status_word,
+pub use pw_lists::{Items, Memory, Room, Text, append_decimal, next_piece, place_of_name};
+pub use pw_outside::{
+    Every, FileFail, Files, Gate, Loaded, Meet, MemFiles, MemSink, Never, Open, Sink, SureFiles,
+    SureSink, Ticker,
 };

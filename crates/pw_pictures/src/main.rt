@@ -8,7 +8,7 @@ ghost use Rattle.graph_pictures.specs.StatusText.{status_number};
 mod tests;
 
 use graph_pictures::{Status, explain, print_picture};
-use pw_base::Sink;
+use pw_outside::Sink;
 use std::alloc::Global;
 use std::process::ExitCode;
 use system_files::{DiskFiles, StdSink, words_of};

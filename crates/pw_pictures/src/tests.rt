@@ -3,7 +3,9 @@
 use crate::exit_of;
 use graph_pictures::{Status, explain, print_picture};
 use graph_script::ScriptWhy;
-use pw_base::{Items, Memory, SureFiles, SureSink, Text, Which};
+use pw_graph::Which;
+use pw_lists::{Items, Memory, Text};
+use pw_outside::{SureFiles, SureSink};
 use std::alloc::Global;
 use std::process::Abort;
 use std::test::Fail;

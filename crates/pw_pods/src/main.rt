@@ -8,7 +8,7 @@ ghost use Rattle.pod_text.specs.Statuses.{status_number};
 mod tests;
 
 use pod_text::{Status, make_pod};
-use pw_base::Sink;
+use pw_outside::Sink;
 use std::alloc::Global;
 use std::process::ExitCode;
 use system_files::{DiskFiles, StdSink, words_of};

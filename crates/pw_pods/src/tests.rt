@@ -3,7 +3,8 @@
 use crate::exit_of;
 use control_sequence::Point;
 use pod_text::{DumpWhy, ListWhy, Status, make_pod, read_gains};
-use pw_base::{Files, Items, Loaded, Memory, SureFiles, SureSink, Text};
+use pw_lists::{Items, Memory, Text};
+use pw_outside::{Files, Loaded, SureFiles, SureSink};
 use std::alloc::Global;
 use std::process::Abort;
 use std::test::Fail;

@@ -1,8 +1,8 @@
 -- What the program does with the words of its command line: the answer of its run, and a sentence
 -- or notes on the error output. Source: this project's own.
 use Rattle.std.specs.Prelude.{◌≡◌, ◌⊎◌, ℕ, List, Option}
-use Rattle.pw_base.specs.Files.{Held}
-use Rattle.pw_base.specs.Output.{Given}
+use Rattle.pw_outside.specs.Files.{Held}
+use Rattle.pw_outside.specs.Output.{Given}
 use Rattle.pw_top.specs.declared.status.Status.{Status}
 use Rattle.pw_top.specs.Following.{GaveLine}
 use Rattle.pw_top.specs.Headline.{IsTold}

@@ -1,6 +1,6 @@
 //! How a command line ended.
 
-use pw_base::Text;
+use pw_lists::Text;
 use pw_top::Status;
 
 /// A run that was made: its status, the files and the output after it, and the script that it

@@ -11,7 +11,7 @@ ghost use Rattle.pw_program.specs.Program.{IsToldOf, IsSaid, HasSaid};
 use crate::ended::{Ended, Ran};
 use crate::running::run_kept;
 use crate::telling::tell;
-use pw_base::{Files, Sink};
+use pw_outside::{Files, Sink};
 use std::alloc::Global;
 use std::sync::Wait;
 use std::thread::Threads;

@@ -5,7 +5,8 @@ ghost use Rattle.fault_messages.specs.Message.{words_message};
 ghost use Rattle.pw_program.specs.Program.{IsSaid};
 
 use fault_messages::{explain, words_message};
-use pw_base::{Sink, Text};
+use pw_lists::Text;
+use pw_outside::Sink;
 use pw_top::Status;
 use std::alloc::Global;
 

@@ -1,7 +1,7 @@
 -- ONE ANSWER, WHATEVER THE ORDER: two answers of a command line by two histories differ in event lines alone.
 use Rattle.std.proofs.Common.{◌≡◌, ℕ, Bool, true, false, List, [], ◌++◌, refl, sym, ap, ◌∙◌, ⊎_elim, inl, inr}
 use Rattle.std.specs.Prelude.{Result, Ok, Err}
-use Rattle.pw_base.specs.Files.{Names}
+use Rattle.pw_outside.specs.Files.{Names}
 use Rattle.pw_top.specs.declared.commands.run.Running.{Running}
 use Rattle.pw_top.specs.declared.commands.groups.Grouping.{Grouping}
 use Rattle.pw_top.specs.declared.parted.Parted.{Parted}

@@ -8,12 +8,12 @@ use Rattle.std.proofs.lemmas.Bool.{and_parts, cases_eq, eq-eqb, ne_eqb, eqb-true
 use Rattle.std.proofs.lemmas.List.Elements.{All-nil, All-head, All-tail}
 use Rattle.std.proofs.lemmas.List.Folds.{find-append}
 use Rattle.std.proofs.lemmas.Option.{same_Some, none-some, slice_get-get_or}
-use Rattle.pw_base.specs.declared.parts.Part.{Part}
-use Rattle.pw_base.specs.declared.parts.Parts.{Parts}
-use Rattle.pw_base.specs.declared.plan.Plan.{Plan}
-use Rattle.pw_base.specs.declared.plan.PlanNode.{PlanNode}
-use Rattle.pw_base.specs.Files.{Names}
-use Rattle.pw_base.specs.PlanSums.{is_sink}
+use Rattle.pw_graph.specs.declared.parts.Part.{Part}
+use Rattle.pw_graph.specs.declared.parts.Parts.{Parts}
+use Rattle.pw_graph.specs.declared.plan.Plan.{Plan}
+use Rattle.pw_graph.specs.declared.plan.PlanNode.{PlanNode}
+use Rattle.pw_outside.specs.Files.{Names}
+use Rattle.pw_graph.specs.PlanSums.{is_sink}
 use Rattle.wav_files.specs.declared.outcome.Kept.{Kept}
 use Rattle.wav_files.specs.declared.outcome.Outcome.{Outcome}
 use Rattle.wav_files.specs.declared.outcome.Peak.{Peak}
@@ -36,7 +36,7 @@ use Rattle.graph_plan.proofs.PartLineLemmas.{makes_none_of}
 use Rattle.graph_plan.proofs.PartitionLemmas.{among_has}
 use Rattle.cycle_model.specs.Rendering.{rendered_sinks, rendered_peaks, kept_of, end_stream, is_meter}
 use Rattle.cycle_model.specs.Rendering.{peak_at as peak_of_node}
-use Rattle.pw_base.specs.Samples.{peak_of}
+use Rattle.pw_graph.specs.Samples.{peak_of}
 use Rattle.pw_top.specs.declared.parted.Parted.{Parted}
 use Rattle.pw_top.specs.declared.loaded_script.LoadedScript.{LoadedScript}
 use Rattle.pw_top.specs.declared.work.Content.TheVariants.{Wave}

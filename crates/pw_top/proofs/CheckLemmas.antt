@@ -1,8 +1,8 @@
 -- Laws of `specs/Check.antt`: a script's names are such as lines tell, and one answer of `check` is allowed.
 use Rattle.std.proofs.Common.{◌≡◌, ℕ, ◌&&◌, true, false, List, [], ◌∷◌, map, length, refl, sym, ap, ◌∙◌, IsTrue}
 use Rattle.std.specs.Prelude.{Ok, All, nat_le}
-use Rattle.pw_base.specs.declared.shape.Shape.{Shape}
-use Rattle.pw_base.specs.Files.{Names}
+use Rattle.pw_graph.specs.declared.shape.Shape.{Shape}
+use Rattle.pw_outside.specs.Files.{Names}
 use Rattle.cycle_trace.specs.TraceReading.{AreNames}
 use Rattle.graph_script.specs.declared.script.Script.{Script}
 use Rattle.graph_script.specs.Order.{HasOrder}

@@ -6,7 +6,7 @@ use Rattle.pw_top.specs.declared.status.Status.TheVariants as S
 use Rattle.pw_top.specs.declared.work.Work.{Work}
 use Rattle.pw_top.specs.declared.usage.CommandLine.{CommandLine}
 use Rattle.pw_top.specs.declared.usage.CommandLine.TheVariants as C
-use Rattle.pw_base.specs.Files.{Names}
+use Rattle.pw_outside.specs.Files.{Names}
 use Rattle.pw_top.specs.working.Ending.{Ends}
 use Rattle.pw_top.specs.working.Ending.IsEndOf.{is_end}
 use Rattle.pw_top.specs.Usage.{Words, command_of, IsRead}

@@ -5,9 +5,9 @@ use Rattle.pw_top.specs.declared.status.Status.{Status}
 use Rattle.pw_top.specs.declared.status.Status.TheVariants as S
 use Rattle.pw_top.specs.declared.work.Store.{Store}
 use Rattle.pw_top.specs.declared.work.Work.{Work}
-use Rattle.pw_base.specs.Files.{Held}
-use Rattle.pw_base.specs.Output.{Given, Gave, GavePart}
-use Rattle.pw_base.specs.Causes.{Rose}
+use Rattle.pw_outside.specs.Files.{Held}
+use Rattle.pw_outside.specs.Output.{Given, Gave, GavePart}
+use Rattle.pw_outside.specs.Causes.{Rose}
 use Rattle.pw_top.specs.Answer.{Answer}
 use Rattle.pw_top.specs.working.Ending.{IsEndOf, IsEnd, IsRefusal, PrepareCause, IsDeliverable}
 use Rattle.pw_top.specs.working.Ending.IsEndOf.{is_end}

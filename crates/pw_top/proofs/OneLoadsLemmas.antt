@@ -2,8 +2,8 @@
 -- asks for.
 use Rattle.std.proofs.Common.{◌≡◌, ◌≤◌, List, [], ◌∷◌, length, refl, sym, subst}
 use Rattle.std.specs.Prelude.{Ok, option_map}
-use Rattle.pw_base.specs.declared.kind.Kind.{Kind}
-use Rattle.pw_base.specs.Files.{Names}
+use Rattle.pw_graph.specs.declared.kind.Kind.{Kind}
+use Rattle.pw_outside.specs.Files.{Names}
 use Rattle.graph_script.specs.declared.script.Line.{Line}
 use Rattle.graph_script.specs.Kinds.{made_by}
 use Rattle.pw_top.specs.declared.inputs.PlanInputs.{PlanInputs}

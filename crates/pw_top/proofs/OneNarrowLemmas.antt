@@ -2,8 +2,8 @@
 use Rattle.std.proofs.Common.{◌≡◌, ℕ, List, get_or, Some, refl, sym, ap, ◌∙◌}
 use Rattle.std.specs.Prelude.{slice_get}
 use Rattle.std.proofs.lemmas.Option.{slice_get-get_or}
-use Rattle.pw_base.specs.declared.ids.PortId.{PortId}
-use Rattle.pw_base.specs.declared.kind.Kind.TheVariants as K
+use Rattle.pw_graph.specs.declared.ids.PortId.{PortId}
+use Rattle.pw_graph.specs.declared.kind.Kind.TheVariants as K
 use Rattle.format_filter.specs.declared.format.Format.{Format}
 use Rattle.format_filter.specs.declared.common.Filtered.TheVariants as filtered
 use Rattle.format_filter.specs.CommonFormat.{Filters}

@@ -4,8 +4,8 @@ use Rattle.std.proofs.Common.{append-nil, length-take, arith}
 use Rattle.std.specs.Prelude.{Some, None, option_map, slice_range}
 use Rattle.std.proofs.Math.Seq.{take-add}
 use Rattle.std.proofs.lemmas.List.{take-take, take_all}
-use Rattle.pw_base.specs.Causes.{Rose}
-use Rattle.pw_base.specs.Output.{Given, Gave, GavePart}
+use Rattle.pw_outside.specs.Causes.{Rose}
+use Rattle.pw_outside.specs.Output.{Given, Gave, GavePart}
 
 pub pieces : (t : List ℕ) (i j : ℕ) → i ≤ j → take i t ++ slice_range t i j ≡ take j t
 pieces t i j l =

@@ -5,15 +5,15 @@ use Rattle.std.specs.Prelude.{slice_get, find, filter_map, option_map, unwrap_or
 use Rattle.std.specs.List.{All, cons_option, enumerate_from}
 use Rattle.std.proofs.lemmas.Option.{same_Some, none-some, slice_get_within}
 use Rattle.std.proofs.lemmas.List.Elements.{All-nil, All-cons, All-head, All-tail, All-map, All-weaker}
-use Rattle.pw_base.specs.declared.kind.Kind.{Kind}
-use Rattle.pw_base.specs.declared.kind.Kind.TheVariants as K
-use Rattle.pw_base.specs.declared.plan.LinkLine.{LinkLine}
-use Rattle.pw_base.specs.declared.plan.PlanNode.{PlanNode}
-use Rattle.pw_base.specs.declared.plan.Plan.{Plan}
-use Rattle.pw_base.specs.KindPorts.{port_count}
-use Rattle.pw_base.specs.PlanForms.{kind_at}
-use Rattle.pw_base.specs.PlanSums.{is_sink}
-use Rattle.pw_base.specs.SoundPlan.{IsSoundPlan}
+use Rattle.pw_graph.specs.declared.kind.Kind.{Kind}
+use Rattle.pw_graph.specs.declared.kind.Kind.TheVariants as K
+use Rattle.pw_graph.specs.declared.plan.LinkLine.{LinkLine}
+use Rattle.pw_graph.specs.declared.plan.PlanNode.{PlanNode}
+use Rattle.pw_graph.specs.declared.plan.Plan.{Plan}
+use Rattle.pw_graph.specs.KindPorts.{port_count}
+use Rattle.pw_graph.specs.PlanForms.{kind_at}
+use Rattle.pw_graph.specs.PlanSums.{is_sink}
+use Rattle.pw_graph.specs.SoundPlan.{IsSoundPlan}
 use Rattle.wav_files.specs.declared.wav.WavIn.{WavIn}
 use Rattle.wav_files.specs.declared.outcome.Kept.{Kept}
 use Rattle.graph_script.specs.declared.script.Line.{Line}

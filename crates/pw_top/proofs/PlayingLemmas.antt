@@ -1,8 +1,8 @@
 -- Laws of `specs/Playing.antt`: what happened, by how a part ends, and by the status.
 use Rattle.std.proofs.Common.{◌≡◌, ℕ, Bool, true, false, sym, subst, refl, inl, inr, ap}
 use Rattle.std.specs.Prelude.{◌⊎◌, Result, Ok, Err, MatchBool}
-use Rattle.pw_base.specs.Files.{Held}
-use Rattle.pw_base.specs.Output.{Given}
+use Rattle.pw_outside.specs.Files.{Held}
+use Rattle.pw_outside.specs.Output.{Given}
 use Rattle.pw_top.specs.declared.status.Status.{Status}
 use Rattle.pw_top.specs.declared.status.Status.TheVariants as S
 use Rattle.pw_top.specs.declared.work.Work.{Work}

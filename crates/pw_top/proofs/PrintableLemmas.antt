@@ -3,14 +3,14 @@ use Rattle.std.proofs.Common.{ℕ, List, [], ◌∷◌, ◌++◌, map, sym, subs
 use Rattle.std.specs.Prelude.{All, Contains, Bool, true, false}
 use Rattle.std.specs.List.{flat_map, range_with_len, AllZip}
 use Rattle.std.proofs.lemmas.List.Elements.{All-nil, All-cons, All-head, All-tail, All-map, All-weaker, All-append}
-use Rattle.pw_base.specs.declared.event.Event.{Event}
-use Rattle.pw_base.specs.declared.event.Event.TheVariants.{Begin, Start, Finish, Tick, End}
-use Rattle.pw_base.specs.declared.plan.Epoch.{Epoch}
-use Rattle.pw_base.specs.declared.plan.Plan.{Plan}
-use Rattle.pw_base.specs.declared.shape.Shape.{Shape}
-use Rattle.pw_base.specs.Dependencies.{nodes_of}
-use Rattle.pw_base.specs.History.{IsOfCycle, IsLegalCycle, IsLegalHistory, epoch_cycles, cycles_of}
-use Rattle.pw_base.specs.SoundPlan.{IsSoundPlan, IsSoundEpoch}
+use Rattle.pw_graph.specs.declared.event.Event.{Event}
+use Rattle.pw_graph.specs.declared.event.Event.TheVariants.{Begin, Start, Finish, Tick, End}
+use Rattle.pw_graph.specs.declared.plan.Epoch.{Epoch}
+use Rattle.pw_graph.specs.declared.plan.Plan.{Plan}
+use Rattle.pw_graph.specs.declared.shape.Shape.{Shape}
+use Rattle.pw_graph.specs.Dependencies.{nodes_of}
+use Rattle.pw_graph.specs.History.{IsOfCycle, IsLegalCycle, IsLegalHistory, epoch_cycles, cycles_of}
+use Rattle.pw_graph.specs.SoundPlan.{IsSoundPlan, IsSoundEpoch}
 use Rattle.cycle_trace.specs.Printable.{IsPrintable, IsNode, NamesNodes}
 use Rattle.trace_check.proofs.NodeSetsLemmas.{of_bit}
 use Rattle.graph_plan.specs.Joining.{JoinsKinds}

@@ -7,8 +7,8 @@ use Rattle.pw_top.specs.declared.status.Status.{Status}
 use Rattle.pw_top.specs.declared.status.Status.TheVariants as S
 use Rattle.pw_top.specs.declared.work.Store.{Store}
 use Rattle.pw_top.specs.declared.work.Work.{Work}
-use Rattle.pw_base.specs.Files.{Held}
-use Rattle.pw_base.specs.Output.{Given}
+use Rattle.pw_outside.specs.Files.{Held}
+use Rattle.pw_outside.specs.Output.{Given}
 use Rattle.pw_top.specs.working.Ending.{IsStorable, IsDeliverable}
 use Rattle.pw_top.specs.Following.{CutAt, AllStored}
 use Rattle.pw_top.specs.working.Delivery.{StoresDone, Delivered, WorkDelivered, CanBeDelivered, TextDone}

@@ -1,9 +1,9 @@
 -- Laws of `specs/Surely.antt`: where no count rises, what a status says is all of the answer.
 use Rattle.std.proofs.Common.{◌≡◌, ℕ, zero, suc, ◌≤◌, subst, refl, sym, ap, inl, inr, List, ◌∙◌, arith, ◌++◌}
 use Rattle.std.specs.Prelude.{◌⊎◌, ◌≢◌, [], take, Some, Option, unwrap_or, Result, Ok, Err}
-use Rattle.pw_base.specs.Files.{Names}
-use Rattle.pw_base.specs.Output.{Given, Gave, GavePart}
-use Rattle.pw_base.specs.Causes.{Rose}
+use Rattle.pw_outside.specs.Files.{Names}
+use Rattle.pw_outside.specs.Output.{Given, Gave, GavePart}
+use Rattle.pw_outside.specs.Causes.{Rose}
 use Rattle.pw_top.specs.declared.status.Status.{Status}
 use Rattle.pw_top.specs.declared.status.Status.TheVariants as S
 use Rattle.pw_top.specs.declared.work.Work.{Work}

@@ -2,9 +2,9 @@
 -- one after the other; the wave by the sequence's gains is stored. Source: this project's;
 -- PipeWire's documentation, "SPA POD".
 use Rattle.std.specs.Prelude.{◌≡◌, ℕ, ◌/◌, List, [], ◌∷◌, ◌++◌, length, codes, Result, Ok, Err}
-use Rattle.pw_base.specs.Files.{Names}
-use Rattle.pw_base.specs.Limits.{wav_bytes_limit}
-use Rattle.pw_base.specs.declared.limit.Which.TheVariants as W
+use Rattle.pw_outside.specs.Files.{Names}
+use Rattle.pw_graph.specs.Limits.{wav_bytes_limit}
+use Rattle.pw_graph.specs.declared.limit.Which.TheVariants as W
 use Rattle.pod_codec.specs.declared.pod.Pod.{Pod}
 use Rattle.pod_codec.specs.declared.pod.Pod.TheViews.{out-Pod}
 use Rattle.control_sequence.specs.declared.points.Point.{Point}

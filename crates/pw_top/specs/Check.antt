@@ -1,10 +1,10 @@
 -- The expected answer of `check SCRIPT TRACE`: what `run` loads and plans, then the trace.
 -- Source: this project's.
 use Rattle.std.specs.Prelude.{◌≡◌, ℕ, List, [], ◌∷◌, map, codes, decimal, Result, Ok}
-use Rattle.pw_base.specs.Files.{Names}
-use Rattle.pw_base.specs.declared.limit.Which.TheVariants as W
-use Rattle.pw_base.specs.declared.plan.Plan.{Plan}
-use Rattle.pw_base.specs.declared.shape.Shape.{Shape}
+use Rattle.pw_outside.specs.Files.{Names}
+use Rattle.pw_graph.specs.declared.limit.Which.TheVariants as W
+use Rattle.pw_graph.specs.declared.plan.Plan.{Plan}
+use Rattle.pw_graph.specs.declared.shape.Shape.{Shape}
 use Rattle.cycle_trace.specs.Words.{line}
 use Rattle.trace_check.specs.declared.checking.Verdict.TheVariants.{Legal, Illegal}
 use Rattle.trace_check.specs.declared.trace.Finding.{Finding}

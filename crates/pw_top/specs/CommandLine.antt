@@ -1,7 +1,7 @@
 -- The expected answer of a command line: that of its command, or the refusal of its words.
 -- Source: this project's own; docs/FORMATS.md.
 use Rattle.std.specs.Prelude.{◌≡◌, Result, Ok, Err}
-use Rattle.pw_base.specs.Files.{Names}
+use Rattle.pw_outside.specs.Files.{Names}
 use Rattle.pw_top.specs.declared.status.Status.{Status}
 use Rattle.pw_top.specs.declared.usage.CommandLine.{CommandLine}
 use Rattle.pw_top.specs.declared.usage.CommandLine.TheVariants as C

@@ -1,7 +1,7 @@
 -- Who runs a plan beside the driver's thread, and on which seats its nodes are.
 -- Source: PipeWire's documentation, "Graph Scheduling" (data loops); seats are this project's own.
 use Rattle.std.specs.Prelude.{ℕ, if◌then◌else◌}
-use Rattle.pw_base.specs.declared.plan.Plan.{Plan}
+use Rattle.pw_graph.specs.declared.plan.Plan.{Plan}
 use Rattle.graph_run.specs.Assignment.{loop_of, cell_number, cell_count}
 use Rattle.pw_top.specs.declared.playing.Crew.{Crew}
 

@@ -2,7 +2,7 @@
 -- words.
 -- Source: this project's own.
 use Rattle.std.specs.Prelude.{◌≡◌, ◌≢◌, ◌⊎◌, ℕ, Result, Err}
-use Rattle.pw_base.specs.Causes.{Rose}
+use Rattle.pw_outside.specs.Causes.{Rose}
 use Rattle.pw_top.specs.declared.status.Status.{Status}
 use Rattle.pw_top.specs.declared.status.Status.TheVariants as S
 use Rattle.pw_top.specs.declared.usage.CommandLine.{CommandLine}

@@ -2,8 +2,8 @@
 -- the other; what they have in common is stored as an object in its one spelling.
 -- Source: PipeWire's documentation, "SPA POD"; spa/pod/filter.h.
 use Rattle.std.specs.Prelude.{◌≡◌, ℕ, List, [], ◌∷◌, ◌++◌, codes, Result, Ok, Err}
-use Rattle.pw_base.specs.Files.{Names}
-use Rattle.pw_base.specs.declared.limit.Which.TheVariants as W
+use Rattle.pw_outside.specs.Files.{Names}
+use Rattle.pw_graph.specs.declared.limit.Which.TheVariants as W
 use Rattle.pod_codec.specs.declared.pod.Pod.{Pod}
 use Rattle.pod_codec.specs.PodValue.{canonical}
 use Rattle.pod_codec.specs.Writable.{IsWritable}

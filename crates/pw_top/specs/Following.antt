@@ -1,8 +1,8 @@
 -- How far an answer was followed, and what the outside holds then. Source: this project's own.
 use Rattle.std.specs.Prelude.{◌≡◌, ◌≢◌, ◌⊎◌, ℕ, List, [], take, fold, slice_get, Some, option_map, Result, Ok, Err, Contains}
-use Rattle.pw_base.specs.Files.{Names, Held, stored}
-use Rattle.pw_base.specs.Output.{Given, Gave, GavePart}
-use Rattle.pw_base.specs.Causes.{Rose}
+use Rattle.pw_outside.specs.Files.{Names, Held, stored}
+use Rattle.pw_outside.specs.Output.{Given, Gave, GavePart}
+use Rattle.pw_outside.specs.Causes.{Rose}
 use Rattle.wav_files.specs.WavWriting.{wav_bytes}
 use Rattle.pw_top.specs.declared.status.Status.{Status}
 use Rattle.pw_top.specs.declared.status.Status.TheVariants as S

@@ -2,10 +2,10 @@
 -- Source: PipeWire's documentation, "Graph Scheduling" (several drivers); scripts are this
 -- project's.
 use Rattle.std.specs.Prelude.{◌≡◌, ℕ, ◌<◌, ◌≤◌, List, length, map, All, Result, Ok, Err}
-use Rattle.pw_base.specs.Files.{Names}
-use Rattle.pw_base.specs.Limits.{nodes_limit}
-use Rattle.pw_base.specs.SoundPlan.{IsSoundPlan}
-use Rattle.pw_base.specs.declared.parts.Parts.{Parts}
+use Rattle.pw_outside.specs.Files.{Names}
+use Rattle.pw_graph.specs.Limits.{nodes_limit}
+use Rattle.pw_graph.specs.SoundPlan.{IsSoundPlan}
+use Rattle.pw_graph.specs.declared.parts.Parts.{Parts}
 use Rattle.wav_files.specs.declared.outcome.Outcome.{Outcome}
 use Rattle.wav_files.specs.declared.wav.WavIn.{WavIn}
 use Rattle.graph_script.specs.declared.script.Script.{Script}

@@ -2,7 +2,7 @@
 -- Source: PipeWire's documentation, "Graph Scheduling" (several drivers); boards are this
 -- project's.
 use Rattle.std.specs.Prelude.{◌≡◌, List, length, map, flat_map, None, Result, Ok}
-use Rattle.pw_base.specs.Files.{Names}
+use Rattle.pw_outside.specs.Files.{Names}
 use Rattle.wav_files.specs.declared.outcome.Outcome.{Outcome}
 use Rattle.cycle_trace.specs.RunText.{run_text_of}
 use Rattle.driver_groups.specs.GroupRun.{AreRunsOf}

@@ -1,11 +1,11 @@
 -- The loads of a script's lines, each by the limit that earlier ones leave.
 -- Source: this project's own grammar, docs/FORMATS.md.
 use Rattle.std.specs.Prelude.{◌≡◌, ℕ, ◌-◌, List, [], ◌∷◌, length, Result, Ok, nat_lt, if◌then◌else◌}
-use Rattle.pw_base.specs.declared.ids.PortId.{PortId}
-use Rattle.pw_base.specs.declared.limit.Which.{Which}
-use Rattle.pw_base.specs.declared.limit.Which.TheVariants as W
-use Rattle.pw_base.specs.Files.{Names}
-use Rattle.pw_base.specs.Limits.{wav_bytes_limit, all_wav_bytes_limit}
+use Rattle.pw_graph.specs.declared.ids.PortId.{PortId}
+use Rattle.pw_graph.specs.declared.limit.Which.{Which}
+use Rattle.pw_graph.specs.declared.limit.Which.TheVariants as W
+use Rattle.pw_outside.specs.Files.{Names}
+use Rattle.pw_graph.specs.Limits.{wav_bytes_limit, all_wav_bytes_limit}
 use Rattle.format_filter.specs.declared.format.Format.{Format}
 use Rattle.wav_files.specs.declared.wav.Wav.{Wav}
 use Rattle.wav_files.specs.WavReading.{wav_of}

@@ -1,9 +1,9 @@
 -- Two answers of one command line, by whatever happened in two calls: the same but for event lines.
 -- Source: this project's own.
 use Rattle.std.specs.Prelude.{◌≡◌, ◌⊎◌, Bool, true, false, List, Some, Result, Ok, Err}
-use Rattle.pw_base.specs.declared.event.Event.{Event}
-use Rattle.pw_base.specs.declared.plan.Plan.{Plan}
-use Rattle.pw_base.specs.Files.{Names}
+use Rattle.pw_graph.specs.declared.event.Event.{Event}
+use Rattle.pw_graph.specs.declared.plan.Plan.{Plan}
+use Rattle.pw_outside.specs.Files.{Names}
 use Rattle.wav_files.specs.declared.outcome.Outcome.{Outcome}
 use Rattle.cycle_trace.specs.RunText.{run_text_of}
 use Rattle.pw_top.specs.declared.status.Status.{Status}

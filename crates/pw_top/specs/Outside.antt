@@ -2,10 +2,10 @@
 -- given, and how many loads, stores and puts have failed.
 -- Source: this project's own.
 use Rattle.std.specs.Prelude.{ℕ}
-use Rattle.pw_base.specs.Files.{Held}
-use Rattle.pw_base.specs.Output.{Given}
-use Rattle.pw_base.specs.declared.files.Files as files
-use Rattle.pw_base.specs.declared.output.Sink as sink
+use Rattle.pw_outside.specs.Files.{Held}
+use Rattle.pw_outside.specs.Output.{Given}
+use Rattle.pw_outside.specs.declared.files.Files as files
+use Rattle.pw_outside.specs.declared.output.Sink as sink
 
 pub record Outside : Type 0 where
   pub held : Held

@@ -4,7 +4,7 @@ use Rattle.std.specs.Prelude.{◌≡◌, ℕ, List, Option, None, Ok, Contains, 
 use Rattle.wav_files.specs.declared.outcome.Kept.{Kept}
 use Rattle.graph_script.specs.declared.script.Line.{Line}
 use Rattle.port_model.specs.declared.port_state.Node.{Node}
-use Rattle.pw_base.specs.declared.parts.Part.{Part}
+use Rattle.pw_graph.specs.declared.parts.Part.{Part}
 use Rattle.graph_plan.specs.PartLines.{part_lines}
 use Rattle.graph_plan.specs.Planned.{IsPlanned}
 use Rattle.cycle_model.specs.Rendering.{rendered_sinks, rendered_peaks}

@@ -2,10 +2,10 @@
 -- ports offer, and the waves of their sources.
 -- Source: this project's own grammar, docs/FORMATS.md.
 use Rattle.std.specs.Prelude.{◌≡◌, ℕ, ◌+◌, ◌<◌, ◌≤◌, List, [], ◌∷◌, ◌++◌, map, Option, Some, None, All, length, IfSome, option_map, option_to_list}
-use Rattle.pw_base.specs.declared.kind.Kind.{Kind}
-use Rattle.pw_base.specs.declared.kind.Kind.TheVariants as K
-use Rattle.pw_base.specs.KindRanges.{IsInRange}
-use Rattle.pw_base.specs.Limits.{all_wav_bytes_limit, nodes_limit}
+use Rattle.pw_graph.specs.declared.kind.Kind.{Kind}
+use Rattle.pw_graph.specs.declared.kind.Kind.TheVariants as K
+use Rattle.pw_graph.specs.KindRanges.{IsInRange}
+use Rattle.pw_graph.specs.Limits.{all_wav_bytes_limit, nodes_limit}
 use Rattle.wav_files.specs.declared.wav.Wav.{Wav}
 use Rattle.graph_script.specs.declared.command.Command.{Command}
 use Rattle.graph_script.specs.declared.command.Command.TheVariants as C

@@ -1,9 +1,9 @@
 -- What a script is planned to, and what its run stores and tells.
 -- Source: PipeWire's documentation, "Graph Scheduling"; scripts are this project's.
 use Rattle.std.specs.Prelude.{◌≡◌, Bool, true, false, List, [], map, All, Option, Some, None, Result, Ok, Err}
-use Rattle.pw_base.specs.declared.event.Event.{Event}
-use Rattle.pw_base.specs.declared.plan.Plan.{Plan}
-use Rattle.pw_base.specs.SoundPlan.{IsSoundPlan}
+use Rattle.pw_graph.specs.declared.event.Event.{Event}
+use Rattle.pw_graph.specs.declared.plan.Plan.{Plan}
+use Rattle.pw_graph.specs.SoundPlan.{IsSoundPlan}
 use Rattle.wav_files.specs.declared.wav.WavIn.{WavIn}
 use Rattle.wav_files.specs.declared.outcome.Outcome.{Outcome}
 use Rattle.graph_script.specs.declared.script.Script.{Script}

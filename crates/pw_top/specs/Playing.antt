@@ -2,9 +2,9 @@
 -- tell of it.
 -- Source: PipeWire's documentation, "Graph Scheduling"; boards are this project's own.
 use Rattle.std.specs.Prelude.{◌≡◌, ◌⊎◌, ℕ, List, [], Result, Ok, Err, IsSome}
-use Rattle.pw_base.specs.declared.event.Event.{Event}
-use Rattle.pw_base.specs.declared.plan.Plan.{Plan}
-use Rattle.pw_base.specs.Files.{Names, Held, names_in}
+use Rattle.pw_graph.specs.declared.event.Event.{Event}
+use Rattle.pw_graph.specs.declared.plan.Plan.{Plan}
+use Rattle.pw_outside.specs.Files.{Names, Held, names_in}
 use Rattle.wav_files.specs.declared.wav.WavIn.{WavIn}
 use Rattle.board_rule.specs.declared.closed.Closed.{Closed}
 use Rattle.graph_run.specs.PlanRun.{IsRunOf}

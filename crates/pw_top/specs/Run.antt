@@ -1,7 +1,7 @@
 -- The expected answer of `run SCRIPT` with its options: the plan of the script, and the work of a
 -- run of that.
 -- Source: this project's.
-use Rattle.pw_base.specs.Files.{Names}
+use Rattle.pw_outside.specs.Files.{Names}
 use Rattle.pw_top.specs.declared.commands.run.Running.{Running}
 use Rattle.pw_top.specs.Answer.{Answer}
 use Rattle.pw_top.specs.Allowed.{Binds}

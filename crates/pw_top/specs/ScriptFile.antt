@@ -1,9 +1,9 @@
 -- The file of a script: the script, and what its lines load, in order; then its plan.
 -- Source: this project's.
 use Rattle.std.specs.Prelude.{◌≡◌, ℕ, List, Ok}
-use Rattle.pw_base.specs.Files.{Names}
-use Rattle.pw_base.specs.Limits.{script_bytes_limit}
-use Rattle.pw_base.specs.declared.limit.Which.TheVariants as W
+use Rattle.pw_outside.specs.Files.{Names}
+use Rattle.pw_graph.specs.Limits.{script_bytes_limit}
+use Rattle.pw_graph.specs.declared.limit.Which.TheVariants as W
 use Rattle.graph_script.specs.declared.script.Script.{Script}
 use Rattle.graph_script.specs.Grammar.{script_of}
 use Rattle.graph_script.specs.Kinds.{HasKinds}

@@ -2,9 +2,9 @@
 -- command.
 -- Source: this project's script grammar.
 use Rattle.std.specs.Prelude.{ℕ, ◌<◌, ◌==◌, All, Bool, false, List, [], find, Option, Some, None}
-use Rattle.pw_base.specs.declared.kind.Kind.{Kind}
-use Rattle.pw_base.specs.declared.kind.Kind.TheVariants as K
-use Rattle.pw_base.specs.declared.plan.Plan.{Plan}
+use Rattle.pw_graph.specs.declared.kind.Kind.{Kind}
+use Rattle.pw_graph.specs.declared.kind.Kind.TheVariants as K
+use Rattle.pw_graph.specs.declared.plan.Plan.{Plan}
 use Rattle.wav_files.specs.declared.wav.WavIn.{WavIn}
 use Rattle.wav_files.specs.declared.outcome.Kept.{Kept}
 use Rattle.graph_script.specs.declared.command.Command.{Command}

@@ -1,7 +1,7 @@
 -- A call over objects that never fail: its answer is followed to its end, but for lack of memory.
 -- Source: this project's own.
 use Rattle.std.specs.Prelude.{◌≡◌, ◌⊎◌, ℕ, List, ◌++◌, take, Result, Ok, Err}
-use Rattle.pw_base.specs.Files.{Names}
+use Rattle.pw_outside.specs.Files.{Names}
 use Rattle.pw_top.specs.declared.status.Status.{Status}
 use Rattle.pw_top.specs.declared.status.Status.TheVariants as S
 use Rattle.pw_top.specs.declared.work.Work.{Work}

@@ -1,7 +1,7 @@
 //! The stores and the text of an accepted command, and the line of any other status.
 ghost use Rattle.std.specs.Prelude.{◌≡◌, ℕ, ◌<◌, ◌≤◌, IfOk, All};
-ghost use Rattle.pw_base.specs.Files.{IsStored};
-ghost use Rattle.pw_base.specs.Causes.{HasCause};
+ghost use Rattle.pw_outside.specs.Files.{IsStored};
+ghost use Rattle.pw_outside.specs.Causes.{HasCause};
 ghost use Rattle.wav_files.specs.WavWriting.{IsWave, wav_bytes};
 ghost use Rattle.pw_top.specs.working.Ending.{CanBeWritten, IsStorable};
 ghost use Rattle.pw_top.specs.Following.{bytes_of};
@@ -10,7 +10,8 @@ ghost use Rattle.pw_top.specs.working.Delivery.{StoresDone, TextDone, LineEnds, 
 use crate::status::Status;
 use crate::status_line::{is_lined, status_line};
 use crate::work::{Content, Store, Work};
-use pw_base::{FileFail, Files, Items, Memory, Sink, Text};
+use pw_lists::{Items, Memory, Text};
+use pw_outside::{FileFail, Files, Sink};
 use std::alloc::Global;
 use wav_files::{Wav, write_wav};
 

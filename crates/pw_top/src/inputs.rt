@@ -1,7 +1,7 @@
 //! What the lines of a script have loaded so far.
 
 use port_model::Ports;
-use pw_base::Items;
+use pw_lists::Items;
 use wav_files::WavIn;
 
 /// The nodes that lines have made, with what their ports offer, and the waves of their sources,

@@ -5,7 +5,8 @@ ghost use Rattle.graph_plan.specs.Parts.{is_among};
 ghost use Rattle.pw_top.specs.Joined.{node_in, joined_plan, all_of, kept_at, peak_at, in_order};
 
 use graph_plan::copy_node;
-use pw_base::{Items, Memory, Part, Parts, Plan, PlanNode};
+use pw_graph::{Part, Parts, Plan, PlanNode};
+use pw_lists::{Items, Memory};
 use std::alloc::Global;
 use wav_files::{Kept, Outcome, Peak};
 

@@ -2,7 +2,7 @@
 #![tactic(auto, using(crate::proofs::AllowedLemmas::parts))]
 
 ghost use Rattle.std.specs.Prelude.{◌≡◌, ◌≤◌, length, IfOk};
-ghost use Rattle.pw_base.specs.Limits.{script_bytes_limit};
+ghost use Rattle.pw_graph.specs.Limits.{script_bytes_limit};
 ghost use Rattle.graph_script.specs.Grammar.{script_of};
 ghost use Rattle.graph_script.specs.Kinds.{HasKinds};
 ghost use Rattle.graph_script.specs.Order.{HasOrder};
@@ -18,7 +18,9 @@ use crate::loading::load_step;
 use crate::script_loads::load_all;
 use crate::status::Status;
 use graph_script::{Script, ScriptFault, parse};
-use pw_base::{Files, Items, SCRIPT_BYTES_LIMIT, Text, Which};
+use pw_graph::{SCRIPT_BYTES_LIMIT, Which};
+use pw_lists::{Items, Text};
+use pw_outside::Files;
 use std::alloc::Global;
 
 /// A script, and what its lines have loaded.

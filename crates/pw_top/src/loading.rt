@@ -5,7 +5,9 @@ ghost use Rattle.pw_top.specs.working.Ending.{CommandCause};
 ghost use Rattle.pw_top.specs.working.Preparing.{LoadsOnly, Tells};
 
 use crate::status::Status;
-use pw_base::{FileFail, Files, Items, Loaded, Text, Which};
+use pw_graph::Which;
+use pw_lists::{Items, Text};
+use pw_outside::{FileFail, Files, Loaded};
 use std::alloc::Global;
 
 /// Loads the file of this name, of at most `limit` bytes, or says why the command ends here.

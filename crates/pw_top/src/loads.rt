@@ -2,9 +2,9 @@
 #![tactic(auto, using(crate::proofs::AllowedLemmas::parts))]
 
 ghost use Rattle.std.specs.Prelude.{◌≡◌, ◌≤◌, ◌<◌, ◌-◌, length, Ok, IfOk, IfSome, Some, None, option_map};
-ghost use Rattle.pw_base.specs.declared.kind.Kind.TheVariants as K;
-ghost use Rattle.pw_base.specs.KindRanges.{IsInRange};
-ghost use Rattle.pw_base.specs.Limits.{all_wav_bytes_limit, nodes_limit};
+ghost use Rattle.pw_graph.specs.declared.kind.Kind.TheVariants as K;
+ghost use Rattle.pw_graph.specs.KindRanges.{IsInRange};
+ghost use Rattle.pw_graph.specs.Limits.{all_wav_bytes_limit, nodes_limit};
 ghost use Rattle.format_filter.specs.CommonFormat.{IsSoundFormat};
 ghost use Rattle.wav_files.specs.WavWriting.{IsWave};
 ghost use Rattle.graph_script.specs.Kinds.{made_by};
@@ -27,9 +27,9 @@ use crate::wave_file::wave_step;
 use format_filter::Format;
 use graph_script::{Command, Line, kind_made};
 use port_model::Narrowed;
-use pw_base::{
-    ALL_WAV_BYTES_LIMIT, Files, Items, Kind, Memory, PortId, Text, WAV_BYTES_LIMIT, Which,
-};
+use pw_graph::{ALL_WAV_BYTES_LIMIT, Kind, PortId, WAV_BYTES_LIMIT, Which};
+use pw_lists::{Items, Memory, Text};
+use pw_outside::Files;
 use std::alloc::Global;
 use wav_files::{Wav, WavIn};
 

@@ -15,7 +15,9 @@ use crate::loaded_script::{LoadedScript, load_script};
 use crate::status::Status;
 use graph_plan::{PlanFault, parts};
 use graph_script::Script;
-use pw_base::{Files, Items, Parts, Text};
+use pw_graph::Parts;
+use pw_lists::{Items, Text};
+use pw_outside::Files;
 use std::alloc::Global;
 use wav_files::WavIn;
 

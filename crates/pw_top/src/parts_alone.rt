@@ -1,6 +1,6 @@
 //! That each part of a script stores what it does by its own lines alone.
 ghost use Rattle.std.specs.Prelude.{◌≡◌, All, Ok};
-ghost use Rattle.pw_base.specs.Files.{Names};
+ghost use Rattle.pw_outside.specs.Files.{Names};
 ghost use Rattle.pw_top.specs.declared.parted.Parted.{Parted};
 ghost use Rattle.pw_top.specs.declared.loaded_script.LoadedScript.{LoadedScript};
 ghost use Rattle.pw_top.specs.Answer.{Expected};
@@ -8,7 +8,7 @@ ghost use Rattle.pw_top.specs.Groups.{PartsInputs};
 ghost use Rattle.pw_top.specs.PartsAlone.{StoresAlone};
 ghost use Rattle.pw_top.specs.ScriptFile.{LoadsScript};
 
-use pw_base::Text;
+use pw_lists::Text;
 
 /// A law, which does nothing: where the script of a file is read, its files are loaded and its
 /// parts are planned, each part has the plan of its own lines. Of each of its nodes `groups` stores

@@ -1,7 +1,7 @@
 //! What the run of a plan stores and tells.
 
 ghost use Rattle.std.specs.Prelude.{◌≡◌, map, option_copied, IfOk, All};
-ghost use Rattle.pw_base.specs.History.{IsLegalHistory};
+ghost use Rattle.pw_graph.specs.History.{IsLegalHistory};
 ghost use Rattle.graph_script.specs.Kinds.{made_by};
 ghost use Rattle.pw_top.specs.PlannedWork.{plan_work, if_traced, rendered, IsPlayable};
 ghost use Rattle.pw_top.specs.SinkStores.{makes_sink, sink_line_of, sink_file, sink_store};
@@ -10,7 +10,8 @@ use crate::planned::Planned;
 use crate::work::{Content, Store, Work};
 use cycle_trace::run_text;
 use graph_script::{Command, Line};
-use pw_base::{Event, Items, Memory, Text};
+use pw_graph::Event;
+use pw_lists::{Items, Memory, Text};
 use std::alloc::Global;
 use wav_files::{Kept, Outcome};
 

@@ -19,7 +19,9 @@ use crate::status::Status;
 use graph_plan::{PlanFault, plan};
 use graph_script::Script;
 use port_model::Ports;
-use pw_base::{Files, Items, Plan, Text};
+use pw_graph::Plan;
+use pw_lists::{Items, Text};
+use pw_outside::Files;
 use std::alloc::Global;
 use wav_files::WavIn;
 

@@ -1,7 +1,8 @@
 //! What happened in a call.
 
 use board_rule::Closed;
-use pw_base::{Event, Items};
+use pw_graph::Event;
+use pw_lists::Items;
 
 /// The events of a run, and the boards that it closed, one an epoch. Both are empty where no run
 /// was made.

@@ -4,12 +4,12 @@ ghost use Rattle.pw_top.specs.working.Preparing.{LoadsOnly, Tells};
 
 use crate::status::Status;
 use crate::work::Work;
-use pw_base::Files;
+use pw_outside::Files;
 use std::alloc::Global;
 
 /// A command that runs nothing. It stores and puts nothing either.
 pub trait Prepare {
-    ghost use Rattle.pw_base.specs.Files.{Names};
+    ghost use Rattle.pw_outside.specs.Files.{Names};
     ghost use Rattle.pw_top.specs.Answer.{Answer};
 
     // The answers that are allowed, by what the files hold.

@@ -2,7 +2,7 @@
 #![tactic(auto, using(crate::proofs::AllowedLemmas::parts))]
 
 ghost use Rattle.std.specs.Prelude.{◌≡◌, ◌≤◌, length};
-ghost use Rattle.pw_base.specs.Limits.{nodes_limit};
+ghost use Rattle.pw_graph.specs.Limits.{nodes_limit};
 ghost use Rattle.graph_script.specs.Making.{NamesMade};
 ghost use Rattle.graph_lines.specs.Start.{kinds_of};
 ghost use Rattle.graph_plan.specs.Conditions.{AreLinesOf};
@@ -16,7 +16,8 @@ use crate::loads::load_line;
 use crate::status::Status;
 use graph_script::Line;
 use port_model::Ports;
-use pw_base::{Files, Items};
+use pw_lists::Items;
+use pw_outside::Files;
 use std::alloc::Global;
 
 // What lines load, from the first on.

@@ -1,11 +1,11 @@
 //! The top call over objects in memory that never fail.
 ghost use Rattle.std.specs.Prelude.{◌≤◌, map, string_bytes};
-ghost use Rattle.pw_base.specs.InMemory.{sure_names, sure_given};
+ghost use Rattle.pw_outside.specs.InMemory.{sure_names, sure_given};
 ghost use Rattle.pw_top.specs.Headline.{reported};
 ghost use Rattle.pw_top.specs.Surely.{IsToldSurely};
 
 use crate::top::{Report, run_words};
-use pw_base::{Gate, SureFiles, SureSink, Ticker};
+use pw_outside::{Gate, SureFiles, SureSink, Ticker};
 use std::alloc::Global;
 use std::sync::Wait;
 use std::thread::Threads;

@@ -16,7 +16,7 @@ use crate::options::{Options, read_options};
 use crate::playing::Crew;
 use crate::status::Status;
 use graph_script::number_within;
-use pw_base::{Items, Text};
+use pw_lists::{Items, Text};
 use std::alloc::Global;
 
 /// What a command line asks for.

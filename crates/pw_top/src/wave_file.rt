@@ -2,7 +2,7 @@
 #![tactic(auto, using(crate::proofs::AllowedLemmas::parts))]
 
 ghost use Rattle.std.specs.Prelude.{◌≡◌, ◌≤◌, length, IfOk};
-ghost use Rattle.pw_base.specs.Limits.{wav_bytes_limit};
+ghost use Rattle.pw_graph.specs.Limits.{wav_bytes_limit};
 ghost use Rattle.wav_files.specs.WavReading.{wav_of};
 ghost use Rattle.wav_files.specs.WavWriting.{IsWave};
 ghost use Rattle.pw_top.specs.Allowed.{Reads};
@@ -10,7 +10,7 @@ ghost use Rattle.pw_top.specs.working.Ending.{Ends, CommandCause};
 ghost use Rattle.pw_top.specs.Refusals.{wave_outcome};
 
 use crate::status::Status;
-use pw_base::Items;
+use pw_lists::Items;
 use std::alloc::Global;
 use wav_files::{Wav, WavFault, read_wav};
 

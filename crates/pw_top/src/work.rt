@@ -1,6 +1,6 @@
 //! What is left to do once everything is loaded: the stores and the text of an accepted command.
 
-use pw_base::{Items, Text};
+use pw_lists::{Items, Text};
 use wav_files::Wav;
 
 /// The bytes of a file, or a wave that becomes one as it is stored.

@@ -10,7 +10,7 @@ use crate::lane::Lane;
 use crate::queue::Dealing;
 use crate::way::Way;
 use crate::ways::Ways;
-use pw_base::{Items, Memory};
+use pw_lists::{Items, Memory};
 use std::alloc::Global;
 
 impl End {

@@ -8,7 +8,7 @@ use crate::node_bits::{first_below, without};
 use crate::parking::wake;
 use crate::way::Way;
 use crate::ways::Ways;
-use pw_base::NODES;
+use pw_graph::NODES;
 use std::sync::Wait;
 use std::sync::atomic::Ordering;
 

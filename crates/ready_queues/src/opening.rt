@@ -5,7 +5,7 @@ ghost use Rattle.crossbeam_utils.specs.Token.{parker_view};
 ghost use Rattle.ready_queues.specs.declared.way.Way.{Way};
 ghost use Rattle.ready_queues.specs.Hands.{hand};
 ghost use Rattle.ready_queues.specs.Lanes.{loops_limit, parker_of, unparks};
-ghost use Rattle.pw_base.specs.Limits.{dummy_node};
+ghost use Rattle.pw_graph.specs.Limits.{dummy_node};
 ghost use Rattle.ready_queues.specs.Opening.{IsFreshEnd, AreFreshEnds, IsBareWay, AreBare, IsNewWay};
 ghost use Rattle.ready_queues.specs.ParkingRule.{woken};
 
@@ -16,7 +16,8 @@ use crate::parking::{ParkPass, Parker, Unparker};
 use crate::queue::{Named, Naming, Queue, QueuePass};
 use crate::way::Way;
 use crate::ways::Ways;
-use pw_base::{Items, Memory, NODES};
+use pw_graph::NODES;
+use pw_lists::{Items, Memory};
 use std::alloc::Global;
 use std::marker::Brand;
 use std::sync::atomic::AtomicU64;

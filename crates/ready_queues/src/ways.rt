@@ -1,13 +1,13 @@
 //! What all threads have of the queues and parkers.
 ghost use Rattle.std.specs.Prelude.{◌≡◌, ◌≤◌, length, All};
 ghost use Rattle.crossbeam_queue.specs.Passes.{ruled_capacity};
-ghost use Rattle.pw_base.specs.Limits.{dummy_node};
+ghost use Rattle.pw_graph.specs.Limits.{dummy_node};
 ghost use Rattle.ready_queues.specs.Lanes.{loops_limit};
 
 use crate::call::Call;
 use crate::lane::Lane;
 use crate::parking::Unparker;
-use pw_base::Items;
+use pw_lists::Items;
 
 /// For each loop a queue of 64 numbers and the unparker of that loop, and the unparker of the
 /// driver's thread with its call.

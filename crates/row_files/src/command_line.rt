@@ -1,6 +1,7 @@
 //! A line of words, and a run of the program on it.
 
-use pw_base::{Every, Files, Items, MemSink, Memory, Never, Open, Ticker};
+use pw_lists::{Items, Memory};
+use pw_outside::{Every, Files, MemSink, Never, Open, Ticker};
 use pw_top::{Status, run_words, ticks_of};
 use std::alloc::Global;
 use std::sync::Wait;

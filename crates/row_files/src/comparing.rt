@@ -1,7 +1,8 @@
 //! What stands under a name, compared with what is wanted.
 
 use crate::held::{Held, bytes_of};
-use pw_base::{Items, MemFiles};
+use pw_lists::Items;
+use pw_outside::MemFiles;
 use std::alloc::Global;
 
 /// A name, and what is wanted under it: none where there is to be no file.

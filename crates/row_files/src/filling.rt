@@ -1,7 +1,8 @@
 //! Files in memory of rows, some of whose calls fail.
 
 use crate::held::{FileRow, bytes_of};
-use pw_base::{Items, MemFiles, MemSink, Memory};
+use pw_lists::{Items, Memory};
+use pw_outside::{MemFiles, MemSink};
 use std::alloc::Global;
 
 /// The calls that fail. They are counted from 1, so that 0 is none; a store and a put fail after so

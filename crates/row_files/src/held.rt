@@ -1,7 +1,7 @@
 //! What files hold, as rows say it.
 
 use crate::waves::{append_wave, append_words};
-use pw_base::{Items, Memory};
+use pw_lists::{Items, Memory};
 use std::alloc::Global;
 
 /// What a file holds.

@@ -4,7 +4,7 @@ use crate::command_line::run_line;
 use crate::comparing::{Stored, all_stored};
 use crate::filling::{Faults, SURE, add, files_of, sink_of};
 use crate::held::FileRow;
-use pw_base::{Files, MemFiles};
+use pw_outside::{Files, MemFiles};
 use pw_top::Status;
 use std::sync::Wait;
 use std::thread::Threads;

@@ -1,7 +1,7 @@
 //! A script, its source and what its sink keeps, and the files of a test.
 
 use crate::held::{FileRow, Held};
-use pw_base::{Items, Memory};
+use pw_lists::{Items, Memory};
 use std::alloc::Global;
 
 /// One source to one sink: the source is on line 2, the sink on line 3.

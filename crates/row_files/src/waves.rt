@@ -1,6 +1,6 @@
 //! WAV files of some samples, at 48000 frames a second.
 
-use pw_base::{Items, Memory};
+use pw_lists::{Items, Memory};
 
 /// Frames a second.
 const RATE: u32 = 48_000;

@@ -2,7 +2,7 @@
 -- kept. Source: the form is this project's own.
 use Rattle.std.specs.Prelude.{ℕ, ◌/◌, List, [], ◌∷◌, ◌++◌, length, fold, codes, decimal, ℤ, pos, ◌+ℤ◌}
 use Rattle.std.specs.Fmt.{signed_decimal}
-use Rattle.pw_base.specs.declared.plan.Plan.{Plan}
+use Rattle.pw_graph.specs.declared.plan.Plan.{Plan}
 use Rattle.wav_files.specs.declared.wav.Wav.{Wav}
 use Rattle.wav_files.specs.declared.outcome.Kept.{Kept}
 use Rattle.wav_files.specs.declared.outcome.Peak.{Peak}

@@ -2,7 +2,7 @@
 -- wave at 48000. This project's own graph.
 use Rattle.std.specs.Prelude.{ℕ, List, [], ◌∷◌, ◌++◌, flat_map, ℤ}
 use Rattle.std.specs.List.{range_with_len}
-use Rattle.pw_base.specs.declared.kind.Kind.TheVariants as K
+use Rattle.pw_graph.specs.declared.kind.Kind.TheVariants as K
 use Rattle.port_model.specs.declared.port_state.Node.{Node}
 use Rattle.port_model.specs.Offers.{new_node}
 use Rattle.soak_graph.specs.SoakChains.{chains, gain, delay}

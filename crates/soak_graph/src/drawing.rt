@@ -5,7 +5,7 @@ ghost use Rattle.soak_graph.specs.Draws.{state_after, samples};
 ghost use Rattle.soak_graph.specs.SoakChains.{chains, frames, chain_draws, wave_with};
 
 use crate::draws::Draws;
-use pw_base::{Items, Memory};
+use pw_lists::{Items, Memory};
 use std::alloc::Global;
 use wav_files::{Wav, WavIn};
 

@@ -2,7 +2,7 @@
 ghost use Rattle.std.specs.Prelude.{◌≡◌, ◌<◌, ℤ, pos, ◌-ℤ◌, IfOk};
 ghost use Rattle.soak_graph.specs.Draws.{stepped, state_after, draw, samples};
 
-use pw_base::{Items, Memory};
+use pw_lists::{Items, Memory};
 use std::alloc::Global;
 
 const MULTIPLIER: u64 = 6364136223846793005;

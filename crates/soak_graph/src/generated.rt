@@ -14,7 +14,7 @@ use crate::ports::ports_with;
 use crate::text::text_with;
 use graph_script::{Script, ScriptFault, parse};
 use port_model::Ports;
-use pw_base::{Items, Memory};
+use pw_lists::{Items, Memory};
 use std::alloc::Global;
 use wav_files::WavIn;
 

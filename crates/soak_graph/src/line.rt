@@ -1,14 +1,15 @@
 //! The line of a number.
 ghost use Rattle.std.specs.Prelude.{◌≡◌, ◌≤◌, ◌++◌, length, codes, decimal, All, IfOk, OnOk};
 ghost use Rattle.std.specs.Fmt.{signed_decimal};
-ghost use Rattle.pw_base.specs.Limits.{sink_samples_limit};
-ghost use Rattle.pw_base.specs.SoundPlan.{IsSoundPlan};
+ghost use Rattle.pw_graph.specs.Limits.{sink_samples_limit};
+ghost use Rattle.pw_graph.specs.SoundPlan.{IsSoundPlan};
 ghost use Rattle.wav_files.specs.WavWriting.{IsWave};
 ghost use Rattle.cycle_model.specs.Epochs.{all_cycles};
 ghost use Rattle.soak_graph.specs.SoakLine.{sink_wave, frames_in, sum_of, meter_peak, soak_line};
 
 use crate::putting::put_integer;
-use pw_base::{Items, Memory, Plan, Text, append_decimal};
+use pw_graph::Plan;
+use pw_lists::{Items, Memory, Text, append_decimal};
 use std::alloc::Global;
 use wav_files::{Kept, Outcome, Peak, Wav};
 

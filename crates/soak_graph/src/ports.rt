@@ -1,13 +1,14 @@
 //! The ports of the nodes of the graph.
 ghost use Rattle.std.specs.Prelude.{◌≡◌, ◌≤◌, ◌+◌, ◌++◌, length, IfOk, OnOk};
-ghost use Rattle.pw_base.specs.Limits.{nodes_limit};
-ghost use Rattle.pw_base.specs.KindRanges.{IsGain};
+ghost use Rattle.pw_graph.specs.Limits.{nodes_limit};
+ghost use Rattle.pw_graph.specs.KindRanges.{IsGain};
 ghost use Rattle.soak_graph.specs.working.Drawing.{HasDrawn};
 ghost use Rattle.soak_graph.specs.SoakPorts.{chain_nodes, soak_ports};
 
 use crate::drawing::{CHAINS, Chain, Drawn};
 use port_model::Ports;
-use pw_base::{Kind, Memory};
+use pw_graph::Kind;
+use pw_lists::Memory;
 use std::alloc::Global;
 
 // The nodes of a chain.

@@ -6,7 +6,7 @@ ghost use Rattle.soak_graph.specs.SoakChains.{chains};
 ghost use Rattle.soak_graph.specs.SoakText.{digit, ended, source_line, gain_line, delay_line};
 ghost use Rattle.soak_graph.specs.SoakText.{gain_link, delay_link, text_of_lines, chain_lines, end_lines, link_lines, play_lines};
 
-use pw_base::{Memory, Text, append_decimal};
+use pw_lists::{Memory, Text, append_decimal};
 
 // The number of a chain, between two pieces of a line.
 fn put_chain_number(text: &mut Text, before: &[u8], i: u32, after: &[u8]) -> Result<(), Memory>

@@ -5,7 +5,7 @@ ghost use Rattle.soak_graph.specs.SoakText.{text_of_lines, node_lines, all_link_
 
 use crate::drawing::{CHAINS, Chain, Drawn, draw_graph};
 use crate::putting::{put_chain, put_ends, put_links, put_play};
-use pw_base::{Items, Memory, Text};
+use pw_lists::{Items, Memory, Text};
 use std::alloc::Global;
 
 // The lines of the nodes of all chains.

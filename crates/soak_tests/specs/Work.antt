@@ -1,8 +1,8 @@
 -- A plan that can be run with its waves.
 -- Source: this project's own.
 use Rattle.std.specs.Prelude.{List}
-use Rattle.pw_base.specs.declared.plan.Plan.{Plan}
-use Rattle.pw_base.specs.SoundPlan.{IsSoundPlan}
+use Rattle.pw_graph.specs.declared.plan.Plan.{Plan}
+use Rattle.pw_graph.specs.SoundPlan.{IsSoundPlan}
 use Rattle.wav_files.specs.declared.wav.WavIn.{WavIn}
 use Rattle.cycle_model.specs.WavesFit.{WavesFit}
 

@@ -3,7 +3,7 @@
 
 use crate::work::work_of;
 use graph_script::{Command, Script};
-use pw_base::Plan;
+use pw_graph::Plan;
 use soak_graph::soak_text;
 use std::alloc::Global;
 use std::test::Fail;

@@ -2,7 +2,7 @@
 //! call of the engine is in it.
 ghost use Rattle.std.specs.Prelude.{◌<◌};
 
-use pw_base::{Items, Memory};
+use pw_lists::{Items, Memory};
 use std::alloc::Global;
 
 const MULTIPLIER: u64 = 6364136223846793005;

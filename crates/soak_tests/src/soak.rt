@@ -4,7 +4,7 @@ ghost use Rattle.soak_tests.specs.Work.{CanRun};
 use crate::plain::{Played, fold_of};
 use crate::work::{Work, work_of};
 use graph_run::run_plan;
-use pw_base::{Every, Open};
+use pw_outside::{Every, Open};
 use std::alloc::Global;
 use std::sync::Wait;
 use std::test::Fail;

@@ -5,7 +5,7 @@ use crate::plain::{Played, fold_of};
 use crate::soak::has_played;
 use crate::work::{Work, work_of};
 use graph_run::{AnyStarts, Roster};
-use pw_base::{Every, Open};
+use pw_outside::{Every, Open};
 use std::alloc::Global;
 use std::sync::Wait;
 use std::test::Fail;

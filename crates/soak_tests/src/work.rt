@@ -4,7 +4,8 @@ ghost use Rattle.soak_tests.specs.Work.{CanRun};
 
 use graph_plan::plan;
 use graph_script::Script;
-use pw_base::{Items, Memory, Plan};
+use pw_graph::Plan;
+use pw_lists::{Items, Memory};
 use soak_graph::{Generated, generate};
 use std::alloc::Global;
 use wav_files::WavIn;

@@ -4,15 +4,15 @@ use Rattle.std.proofs.Common.{fold, Some, None, count_by, â„¤, refl, sym, ap, â—
 use Rattle.std.proofs.lemmas.Bool.{cases_Bool, cond-true, cond-false, lt-ltb}
 use Rattle.std.proofs.lemmas.List.Sums.{length-filter}
 use Rattle.std.proofs.lemmas.Option.{same_Some, none-some}
-use Rattle.pw_base.specs.declared.plan.Epoch.{Epoch}
-use Rattle.pw_base.specs.declared.plan.Plan.{Plan}
-use Rattle.pw_base.specs.declared.shape.ShapeLink.{ShapeLink}
-use Rattle.pw_base.specs.KindPorts.{input_count}
-use Rattle.pw_base.specs.PlanForms.{kind_at}
-use Rattle.pw_base.specs.PlanFresh.{IsEpoch}
-use Rattle.pw_base.specs.Pools.{is_same_port}
-use Rattle.pw_base.specs.Samples.{clamped, silence, summed}
-use Rattle.pw_base.specs.SoundPlan.{IsSoundPlan}
+use Rattle.pw_graph.specs.declared.plan.Epoch.{Epoch}
+use Rattle.pw_graph.specs.declared.plan.Plan.{Plan}
+use Rattle.pw_graph.specs.declared.shape.ShapeLink.{ShapeLink}
+use Rattle.pw_graph.specs.KindPorts.{input_count}
+use Rattle.pw_graph.specs.PlanForms.{kind_at}
+use Rattle.pw_graph.specs.PlanFresh.{IsEpoch}
+use Rattle.pw_graph.specs.Pools.{is_same_port}
+use Rattle.pw_graph.specs.Samples.{clamped, silence, summed}
+use Rattle.pw_graph.specs.SoundPlan.{IsSoundPlan}
 use Rattle.cycle_model.specs.Epochs.{epoch_at, listed, channels_of}
 use Rattle.cycle_model.specs.Cycle.{Outputs, outputs, brought, input_of}
 use Rattle.cycle_model.proofs.ExpectedLemmas.{cycle_in}

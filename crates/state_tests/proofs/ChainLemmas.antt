@@ -1,7 +1,7 @@
 -- The end of an epoch of one cycle is the begin of the next one.
 use Rattle.std.proofs.Common.{◌≡◌, ℕ, suc, ◌<◌, length, arith}
-use Rattle.pw_base.specs.declared.plan.Epoch.{Epoch}
-use Rattle.pw_base.specs.declared.plan.Plan.{Plan}
+use Rattle.pw_graph.specs.declared.plan.Epoch.{Epoch}
+use Rattle.pw_graph.specs.declared.plan.Plan.{Plan}
 use Rattle.node_progress.specs.declared.score.Score.{Score}
 use Rattle.node_progress.specs.Restarts.{next_first, IsEndOf}
 use Rattle.node_progress.proofs.RestLemmas.{first_next}

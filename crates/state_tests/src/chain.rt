@@ -1,11 +1,11 @@
 //! Three nodes in a row, a source, a node between and a sink that drives, through a plan whose epochs have a cycle
 //! each: each node works by the contracts of node_progress alone.
 ghost use Rattle.std.specs.Prelude.{◌≡◌, ◌<◌, ◌*◌, List, ℤ, suc, true, length, map, find, count_by, false, option_copied, IfSome, IsTrue};
-ghost use Rattle.pw_base.specs.KindPorts.{input_count, output_count};
-ghost use Rattle.pw_base.specs.PlanForms.{kind_at};
-ghost use Rattle.pw_base.specs.PlanFresh.{IsEpoch};
-ghost use Rattle.pw_base.specs.Pools.{is_same_port};
-ghost use Rattle.pw_base.specs.Samples.{clamped, silence, summed};
+ghost use Rattle.pw_graph.specs.KindPorts.{input_count, output_count};
+ghost use Rattle.pw_graph.specs.PlanForms.{kind_at};
+ghost use Rattle.pw_graph.specs.PlanFresh.{IsEpoch};
+ghost use Rattle.pw_graph.specs.Pools.{is_same_port};
+ghost use Rattle.pw_graph.specs.Samples.{clamped, silence, summed};
 ghost use Rattle.cycle_model.specs.Epochs.{channels_of};
 ghost use Rattle.node_progress.specs.NodeStates.{IsNodeState, IsOutputRow};
 ghost use Rattle.node_progress.specs.Standing.{comes_in, goes_out, Gives, works_in};
@@ -14,7 +14,8 @@ ghost use Rattle.state_tests.specs.Chain.{IsChain, IsCycleOf};
 use cycle_model::waves_fit;
 use node_progress::{NodeCycle, Score, enter_next, prepare_node, restart_in, work, works_in};
 use node_state::NodeState;
-use pw_base::{Epoch, Items, Plan, PortId, ShapeLink, is_same_port, is_sound_plan};
+use pw_graph::{Epoch, Plan, PortId, ShapeLink, is_same_port, is_sound_plan};
+use pw_lists::Items;
 use s16_mixer::{clamp_out, mix_into};
 use std::alloc::Global;
 use wav_files::WavIn;

@@ -4,7 +4,7 @@ ghost use Rattle.node_state.specs.StandsFor.{IsSameNode, HasFramesLeft};
 ghost use Rattle.state_tests.specs.Following.{HaveWidths};
 
 use node_state::NodeState;
-use pw_base::{Items, Memory};
+use pw_lists::{Items, Memory};
 use std::alloc::Global;
 
 /// The samples of a quantum at each port.

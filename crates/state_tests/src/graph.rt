@@ -1,10 +1,11 @@
 //! A plan with a node of each kind, whose inputs and outputs all go into sinks, and what the reference program renders of it.
 
 ghost use Rattle.std.specs.Prelude.{◌≡◌, pos, [], ◌∷◌, IfOk};
-ghost use Rattle.pw_base.specs.declared.kind.Kind.TheVariants as K;
+ghost use Rattle.pw_graph.specs.declared.kind.Kind.TheVariants as K;
 
 use crate::rows::{EpochRow, PlanRow, Sort, outcome_of};
-use pw_base::{DUMMY, Items, Kind, Memory};
+use pw_graph::{DUMMY, Kind};
+use pw_lists::{Items, Memory};
 use std::alloc::Global;
 use wav_files::{Outcome, Wav};
 

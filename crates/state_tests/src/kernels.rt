@@ -1,8 +1,8 @@
 //! Rows of samples through each kernel, and each kernel beside its plain twin.
 ghost use Rattle.std.specs.Prelude.{◌≤◌};
-ghost use Rattle.pw_base.specs.KindRanges.{IsGain};
+ghost use Rattle.pw_graph.specs.KindRanges.{IsGain};
 
-use pw_base::{Items, Memory};
+use pw_lists::{Items, Memory};
 use s16_mixer::{clamp_out, gain, map_channels, mix_into, mix2, peak, plain, split};
 use std::alloc::Global;
 use std::test::Fail;

@@ -1,5 +1,5 @@
 //! A node of each kind, in quanta of 1, 3, 8 and 64 frames.
-ghost use Rattle.pw_base.specs.SoundShape.{IsBetween};
+ghost use Rattle.pw_graph.specs.SoundShape.{IsBetween};
 
 use crate::following::Streams;
 use crate::graph::{
@@ -7,7 +7,8 @@ use crate::graph::{
     rendered, square, stream, wave,
 };
 use crate::widths::{followed, gives, one_way};
-use pw_base::{Kind, Memory};
+use pw_graph::Kind;
+use pw_lists::Memory;
 use std::alloc::Global;
 use std::test::Fail;
 use wav_files::Outcome;

@@ -1,7 +1,7 @@
 //! Small sound plans: what their sinks keep, and the peaks of their meters.
 
 use crate::rows::{EpochRow, PlanRow, Sort, outcome_of};
-use pw_base::Memory;
+use pw_lists::Memory;
 use std::alloc::Global;
 use std::test::Fail;
 use wav_files::Outcome;

@@ -2,7 +2,8 @@
 use crate::following::Streams;
 use crate::widths::{gives, one_way};
 use node_state::NodeState;
-use pw_base::{Items, Kind};
+use pw_graph::Kind;
+use pw_lists::Items;
 use std::test::Fail;
 use wav_files::Wav;
 

@@ -4,7 +4,7 @@
 use crate::chain::keeps;
 use crate::rows::{EpochRow, PlanRow, Sort, plan_of, waves_of};
 use node_progress::{restart_in, worked_cycles};
-use pw_base::{Plan, is_sound_plan};
+use pw_graph::{Plan, is_sound_plan};
 use std::alloc::Global;
 use std::test::Fail;
 

@@ -1,13 +1,14 @@
 //! How many samples each port of a node has in a quantum, by its kind, and new nodes that follow whole streams.
 ghost use Rattle.std.specs.Prelude.{◌≡◌, ◌≤◌, ◌*◌, None, option_copied};
-ghost use Rattle.pw_base.specs.KindRanges.{IsInRange};
-ghost use Rattle.pw_base.specs.SoundShape.{IsBetween};
+ghost use Rattle.pw_graph.specs.KindRanges.{IsInRange};
+ghost use Rattle.pw_graph.specs.SoundShape.{IsBetween};
 ghost use Rattle.node_state.specs.Slices.{first_channels, second_channels, left_channels, right_channels, AllowsChannels};
 ghost use Rattle.node_state.specs.Streams.{HasItsWave, channels_of};
 
 use crate::following::{Streams, Widths, follows};
 use node_state::NodeState;
-use pw_base::{Kind, Memory};
+use pw_graph::Kind;
+use pw_lists::Memory;
 use std::alloc::Global;
 use wav_files::Wav;
 

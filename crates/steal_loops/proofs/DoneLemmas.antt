@@ -6,8 +6,8 @@ use Rattle.std.proofs.lemmas.List.{get_or_append_left, get_or_push}
 use Rattle.std.proofs.lemmas.List.Elements.{All-push}
 use Rattle.std.proofs.lemmas.Option.{get_or_from_slice_get}
 use Rattle.std.specs.declared.thread.JoinHandle.{JoinHandle}
-use Rattle.pw_base.specs.Listed.{Listed}
-use Rattle.pw_base.specs.declared.plan.Plan.{Plan}
+use Rattle.pw_lists.specs.Listed.{Listed}
+use Rattle.pw_graph.specs.declared.plan.Plan.{Plan}
 use Rattle.wav_files.specs.declared.wav.WavIn.{WavIn}
 use Rattle.node_progress.specs.declared.score.Score.{Score}
 use Rattle.data_loop.specs.declared.loop_state.LoopState.{LoopState}

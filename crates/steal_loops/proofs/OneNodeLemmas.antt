@@ -2,7 +2,7 @@
 use Rattle.std.proofs.Common.{◌≡◌, ℕ, zero, suc, ◌+◌, ◌<◌, ◌≤◌, Bool, true, false, List, [], ◌∷◌, length, refl, sym, ◌∙◌, subst, arith, ⊎_elim}
 use Rattle.std.specs.Prelude.{AllPairs, Contains}
 use Rattle.std.proofs.lemmas.Bool.{cases_lt}
-use Rattle.pw_base.specs.declared.plan.Plan.{Plan}
+use Rattle.pw_graph.specs.declared.plan.Plan.{Plan}
 use Rattle.graph_run.specs.Assignment.{drives_somewhere, cells_before, cell_count, cell_number}
 use Rattle.graph_run.specs.Seating.{nodes_of_loop}
 use Rattle.graph_run.proofs.LoopLemmas.{nodes_ascend}

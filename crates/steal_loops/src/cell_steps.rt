@@ -9,7 +9,8 @@ ghost use Rattle.steal_shelf.specs.working.CellSteps.{HasStepped};
 
 use board_rule::Board;
 use data_loop::{Did, LoopState};
-use pw_base::{Gate, Items};
+use pw_lists::Items;
+use pw_outside::Gate;
 
 /// What one step of a cell did.
 #[derive(Clone, Copy, Drop)]

@@ -6,7 +6,8 @@ ghost use Rattle.steal_loops.specs.working.Cells.{AreCells, IsFinished, AreColle
 use crate::shared::Shared;
 use crate::visiting::advance_unless_ended;
 use data_loop::LoopState;
-use pw_base::{Gate, Room};
+use pw_lists::Room;
+use pw_outside::Gate;
 use std::sync::Wait;
 use steal_shelf::ShelfSeat;
 

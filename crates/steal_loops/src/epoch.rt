@@ -18,7 +18,7 @@ use crate::site::Site;
 use board_rule::{BoardSeat, DriverSeat};
 use data_loop::{LoopState, Way};
 use driver_cycle::{begin_next, lead_once, send_woken, settle, turn_one};
-use pw_base::{Gate, Ticker};
+use pw_outside::{Gate, Ticker};
 use std::sync::Wait;
 
 // One round: a turn of the own loop, visits of the cells that are ready, and one claim of the

@@ -15,7 +15,8 @@ use crate::taker::Taker;
 use board_rule::DriverSeat;
 use crossbeam_utils::Backoff;
 use data_loop::LoopState;
-use pw_base::{Gate, Items, Ticker};
+use pw_lists::Items;
+use pw_outside::{Gate, Ticker};
 use std::sync::Wait;
 
 /// What the driver's thread has: its own loop, its seats of all boards in the order of the epochs,

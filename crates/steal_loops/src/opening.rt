@@ -1,13 +1,14 @@
 //! The boards and the cells of a plan.
 ghost use Rattle.std.specs.Prelude.{IfOk};
-ghost use Rattle.pw_base.specs.SoundPlan.{IsSoundPlan};
+ghost use Rattle.pw_graph.specs.SoundPlan.{IsSoundPlan};
 ghost use Rattle.cycle_model.specs.WavesFit.{WavesFit};
 ghost use Rattle.steal_loops.specs.working.Crews.{IsOpened};
 
 use board_rule::{Board, DriverSeat};
 use data_loop::LoopState;
 use graph_run::{Seating, boards_of, cell_seating, loops_of};
-use pw_base::{Items, Memory, Plan};
+use pw_graph::Plan;
+use pw_lists::{Items, Memory};
 use std::alloc::Global;
 use wav_files::WavIn;
 

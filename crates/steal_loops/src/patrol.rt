@@ -8,7 +8,7 @@ use crate::shared::Shared;
 use crate::taker::Taker;
 use crossbeam_utils::Backoff;
 use driver_cycle::rest_unless;
-use pw_base::Gate;
+use pw_outside::Gate;
 use std::sync::Wait;
 
 /// What the driver's thread goes through the cells with: what it takes them with, how many workers

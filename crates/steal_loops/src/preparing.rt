@@ -1,6 +1,6 @@
 //! What a run of a plan needs before its first cycle.
 ghost use Rattle.std.specs.Prelude.{◌≡◌, ◌≤◌, All, IfOk, length};
-ghost use Rattle.pw_base.specs.SoundPlan.{IsSoundPlan};
+ghost use Rattle.pw_graph.specs.SoundPlan.{IsSoundPlan};
 ghost use Rattle.cycle_model.specs.WavesFit.{WavesFit};
 ghost use Rattle.ready_queues.specs.Lanes.{loops_limit};
 ghost use Rattle.steal_shelf.specs.Seats.{IsSeatOf};
@@ -16,7 +16,8 @@ use crate::taker::Taker;
 use data_loop::Way;
 use graph_run::ways_of;
 use node_progress::Score;
-use pw_base::{Items, Memory, Plan};
+use pw_graph::Plan;
+use pw_lists::{Items, Memory};
 use std::alloc::Global;
 use steal_shelf::{Shelf, ShelfSeat};
 use wav_files::WavIn;

@@ -6,7 +6,7 @@ ghost use Rattle.steal_loops.specs.working.Takers.{IsTaker};
 use crate::shared::Shared;
 use crate::taker::Taker;
 use crate::visiting::{has_done, leaves_ready, visit};
-use pw_base::Gate;
+use pw_outside::Gate;
 use std::sync::Wait;
 
 /// Visits the cell of a node whose sign this thread took, or that it kept. The sign is set again

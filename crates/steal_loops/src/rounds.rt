@@ -6,7 +6,7 @@ ghost use Rattle.steal_loops.specs.working.Takers.{IsTaker};
 use crate::shared::Shared;
 use crate::taker::{Taker, cell_at};
 use crate::visiting::{has_done, visit};
-use pw_base::Gate;
+use pw_outside::Gate;
 use std::sync::Wait;
 
 /// Visits the cell behind the last, unless there is none or it was found at its end. Whether the

@@ -4,7 +4,7 @@ use board_rule::Board;
 use data_loop::Ways;
 use graph_run::Seating;
 use node_progress::Score;
-use pw_base::Items;
+use pw_lists::Items;
 use steal_shelf::Shelf;
 
 /// The boards of a run in the order of the epochs, the queues of its workers, the signs of woken

@@ -7,7 +7,8 @@ use crate::shared::Shared;
 use crate::taker::Taker;
 use crate::workers::run_worker;
 use graph_run::{Roster, Starts};
-use pw_base::{Gate, Items, Room};
+use pw_lists::{Items, Room};
+use pw_outside::Gate;
 use std::sync::Wait;
 use std::thread::{JoinHandle, Scope, Threads};
 

@@ -1,6 +1,6 @@
 //! A whole run of a plan by loops that steal.
 ghost use Rattle.std.specs.Prelude.{◌≡◌, ◌≤◌, All, IfOk, length};
-ghost use Rattle.pw_base.specs.SoundPlan.{IsSoundPlan};
+ghost use Rattle.pw_graph.specs.SoundPlan.{IsSoundPlan};
 ghost use Rattle.wav_files.specs.WavWriting.{IsWave};
 ghost use Rattle.cycle_model.specs.Rendering.{rendered_sinks, rendered_peaks};
 ghost use Rattle.cycle_model.specs.WavesFit.{WavesFit};
@@ -12,7 +12,9 @@ use crate::preparing::{Prepared, prepare};
 use crate::scope::{Crew, Ended, run_threads};
 use board_rule::Closed;
 use graph_run::{AnyStarts, EndedRun, Roster, Starts, finish_run, rooms_for};
-use pw_base::{Gate, Items, Memory, Plan, Ticker};
+use pw_graph::Plan;
+use pw_lists::{Items, Memory};
+use pw_outside::{Gate, Ticker};
 use std::alloc::Global;
 use std::sync::Wait;
 use std::thread::Threads;

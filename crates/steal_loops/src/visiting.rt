@@ -11,7 +11,7 @@ use crate::cell_steps::{Step, step_cell};
 use crate::shared::Shared;
 use crate::taker::Taker;
 use data_loop::LoopState;
-use pw_base::Gate;
+use pw_outside::Gate;
 use std::sync::Wait;
 
 /// What became of a visit of a cell.

@@ -8,7 +8,7 @@ use crate::rounds::visit_next;
 use crate::shared::Shared;
 use crate::taker::{Taker, are_all};
 use crossbeam_utils::Backoff;
-use pw_base::Gate;
+use pw_outside::Gate;
 use std::sync::Wait;
 
 // Looks at the oldest number in the worker's queue. Whether there was one, and the node has no

@@ -6,7 +6,7 @@ ghost use Rattle.steal_shelf.specs.working.Tokens.{AreDealt};
 use crate::rule::CellSeat;
 use crate::shelf::{Shelf, ShelfSeat};
 use crate::token::deal_token;
-use pw_base::{Items, Memory};
+use pw_lists::{Items, Memory};
 use std::alloc::Global;
 
 // A seat, which is a token of each cell.

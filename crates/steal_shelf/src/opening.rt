@@ -10,7 +10,7 @@ use crate::rule::{CellSeat, Origin};
 use crate::shelf::{Shelf, ShelfSeat};
 use atomic_table::Table;
 use data_loop::LoopState;
-use pw_base::{Items, Memory};
+use pw_lists::{Items, Memory};
 use std::alloc::Global;
 use std::snapshot::Snapshot;
 

@@ -2,7 +2,7 @@
 use crate::view::CellView;
 use atomic_table::{Play, Seat, Split, Table, TableRule};
 use data_loop::LoopState;
-use pw_base::Items;
+use pw_lists::Items;
 use std::alloc::Global;
 use std::marker::{Brand, PhantomData};
 use std::snapshot::Snapshot;

@@ -3,7 +3,8 @@ ghost use Rattle.steal_tests.specs.Work.{CanRun};
 
 use crate::work::{Work, WorkRow, work_of};
 use graph_run::{Roster, Starts};
-use pw_base::{Every, Gate, Open, is_legal_history};
+use pw_graph::is_legal_history;
+use pw_outside::{Every, Gate, Open};
 use std::alloc::Global;
 use std::sync::Wait;
 use std::thread::Threads;

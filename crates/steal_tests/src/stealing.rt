@@ -2,7 +2,7 @@
 
 use crate::runs::{RunRow, first_unlike, goes_by, peak_by, row_goes_refused};
 use crate::work::WorkRow;
-use pw_base::Meet;
+use pw_outside::Meet;
 use std::alloc::Global;
 use std::sync::Wait;
 use std::test::Fail;

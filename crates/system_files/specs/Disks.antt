@@ -5,8 +5,8 @@ use Rattle.std.specs.Prelude.{◌≡◌, ◌⊎◌, ℕ, List, [], take, Option,
 use Rattle.std.specs.declared.io.Error.{Error}
 use Rattle.std.specs.declared.io.ErrorKind.TheVariants.{NotFound}
 use Rattle.std.specs.IoError.{error_kind}
-use Rattle.pw_base.specs.Files.{Names, Held, stored}
-use Rattle.pw_base.specs.declared.files.FileFail.{FileFail}
+use Rattle.pw_outside.specs.Files.{Names, Held, stored}
+use Rattle.pw_outside.specs.declared.files.FileFail.{FileFail}
 
 -- a file that is opened has all bytes left that stand under its name; one that is not found is not
 -- there

@@ -3,9 +3,9 @@
 -- Source: POSIX, read() and write(): each may take fewer bytes than it is asked for.
 use Rattle.std.specs.Prelude.{◌≡◌, ℕ, ◌<◌, List, length, take, Option, Some, None, Result, Ok, Err}
 use Rattle.std.specs.Io.KnownBytes.{Appends}
-use Rattle.pw_base.specs.declared.files.Loaded.{Loaded}
-use Rattle.pw_base.specs.declared.files.Loaded.TheVariants.{Whole, Absent, TooLong}
-use Rattle.pw_base.specs.declared.files.FileFail.{FileFail}
+use Rattle.pw_outside.specs.declared.files.Loaded.{Loaded}
+use Rattle.pw_outside.specs.declared.files.Loaded.TheVariants.{Whole, Absent, TooLong}
+use Rattle.pw_outside.specs.declared.files.FileFail.{FileFail}
 
 -- all bytes of the file, in order; or too long, exactly where they are more than the limit
 abbrev pub IsWholeOrLong : List ℕ → ℕ → Result Loaded FileFail → Type 0

@@ -1,6 +1,6 @@
 //! The words of the command line.
 
-use pw_base::Items;
+use pw_lists::Items;
 use std::alloc::Global;
 use std::env::FillError;
 use std::io::ErrorKind;

@@ -1,6 +1,6 @@
 //! A disk: what opens files and makes them anew.
 ghost use Rattle.std.specs.Prelude.{◌≡◌, IsSome};
-ghost use Rattle.pw_base.specs.Files.{Held, names_in};
+ghost use Rattle.pw_outside.specs.Files.{Held, names_in};
 ghost use Rattle.system_files.specs.Disks.{IsOpened, IsMade, IsGivenBack};
 
 use std::fs::OpenFile;
@@ -14,7 +14,7 @@ pub trait Disk {
 
     type Target: Write + Drop;
 
-    ghost use Rattle.pw_base.specs.Files.{Held};
+    ghost use Rattle.pw_outside.specs.Files.{Held};
 
     ghost held: { Self → Held };
 

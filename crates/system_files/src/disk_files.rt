@@ -2,12 +2,13 @@
 //! count.
 ghost use Rattle.std.specs.Prelude.{◌≡◌, ℕ, ◌+◌, ◌≤◌, ◌<◌, ◌^◌, ◌++◌, [], take, length, IfOk, IsSome};
 ghost use Rattle.std.specs.Io.KnownBytes.{Consumes, IsAtEnd};
-ghost use Rattle.pw_base.specs.Files.{names_in, IsLoaded, IsWithin};
+ghost use Rattle.pw_outside.specs.Files.{names_in, IsLoaded, IsWithin};
 ghost use Rattle.system_files.specs.Disks.{HasStored};
 ghost use Rattle.system_files.specs.KnownFiles.{ReadsFile, WritesWhole};
 
 use crate::disk::{Disk, SystemDisk};
-use pw_base::{FileFail, Files, Items, Loaded, Memory, Text};
+use pw_lists::{Items, Memory, Text};
+use pw_outside::{FileFail, Files, Loaded};
 use std::alloc::Global;
 use std::fs::OpenFile;
 use std::io::{ErrorKind, Read, Write};
@@ -205,8 +206,8 @@ fn store_file<D: Disk>(disk: &mut D, name: &[u8], bytes: &[u8]) -> Result<(), Fi
 
 impl<D: Disk> Files for DiskFiles<D> {
     ghost use Rattle.std.specs.Prelude.{None};
-    ghost use Rattle.pw_base.specs.Causes.{HasCause};
-    ghost use Rattle.pw_base.specs.Files.{IsStored};
+    ghost use Rattle.pw_outside.specs.Causes.{HasCause};
+    ghost use Rattle.pw_outside.specs.Files.{IsStored};
 
     ghost held = { λ _. None };
 

@@ -3,7 +3,7 @@
 ghost use Rattle.std.specs.Prelude.{◌≤◌, IfOk};
 
 use crate::disk::Disk;
-use pw_base::Items;
+use pw_lists::Items;
 use std::alloc::Global;
 use std::env::FillError;
 use std::fs::{Metadata, OpenFile};

@@ -4,7 +4,7 @@ ghost use Rattle.std.specs.Prelude.{◌≡◌, ℕ, ◌≤◌};
 ghost use Rattle.system_files.specs.KnownFiles.{WritesWhole};
 
 use crate::disk_files::write_whole;
-use pw_base::{FileFail, Sink};
+use pw_outside::{FileFail, Sink};
 use std::alloc::Global;
 use std::io;
 use std::io::{Printer, Write};
@@ -36,7 +36,7 @@ impl<W> StdSink<W> {
 
 impl<W: Write> Sink for StdSink<W> {
     ghost use Rattle.std.specs.Prelude.{None};
-    ghost use Rattle.pw_base.specs.Causes.{HasCause};
+    ghost use Rattle.pw_outside.specs.Causes.{HasCause};
 
     ghost given = { λ _. None };
 
@@ -63,7 +63,7 @@ impl<W: Write> Sink for StdSink<W> {
 mod tests {
     use super::*;
     use crate::in_memory::{Manner, MemFile, by};
-    use pw_base::Items;
+    use pw_lists::Items;
     use std::io::ErrorKind;
     use std::test::Fail;
 

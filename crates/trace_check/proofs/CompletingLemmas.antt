@@ -5,13 +5,13 @@ use Rattle.std.specs.Prelude.{All, Contains, sum_by}
 use Rattle.std.proofs.lemmas.Bool.{cases_lt}
 use Rattle.std.proofs.lemmas.List.Elements.{All-head, All-tail, All-contains_itself, Contains-append_left, Contains-push, Contains-push_cases}
 use Rattle.std.proofs.lemmas.List.Sums.{get_or-le-sum_by}
-use Rattle.pw_base.specs.declared.event.Event.{Event}
-use Rattle.pw_base.specs.declared.event.Event.TheVariants.{Start, Finish}
-use Rattle.pw_base.specs.declared.shape.Shape.{Shape}
-use Rattle.pw_base.specs.Dependencies.{nodes_of, Precedes}
-use Rattle.pw_base.specs.History.{is_start, is_finish, IsLegalInside}
-use Rattle.pw_base.specs.SoundShape.{IsSoundShape}
-use Rattle.pw_base.proofs.PrecedenceLemmas.{sound_order}
+use Rattle.pw_graph.specs.declared.event.Event.{Event}
+use Rattle.pw_graph.specs.declared.event.Event.TheVariants.{Start, Finish}
+use Rattle.pw_graph.specs.declared.shape.Shape.{Shape}
+use Rattle.pw_graph.specs.Dependencies.{nodes_of, Precedes}
+use Rattle.pw_graph.specs.History.{is_start, is_finish, IsLegalInside}
+use Rattle.pw_graph.specs.SoundShape.{IsSoundShape}
+use Rattle.pw_graph.proofs.PrecedenceLemmas.{sound_order}
 use Rattle.trace_check.specs.working.NextEvent.{MayFollow, AreAllowed}
 use Rattle.trace_check.proofs.PlaceLemmas.{is_there}
 use Rattle.trace_check.proofs.NextEventLemmas.{allowed_more}

@@ -7,11 +7,11 @@ use Rattle.std.proofs.lemmas.List.{take-append-drop, length-take-le, length-drop
 use Rattle.std.proofs.lemmas.List.Elements.{All-map, All-drop, All-append, All-nil, All-head, All-tail}
 use Rattle.std.proofs.lemmas.List.FromFn.{map-range_with_len_more, take-map-range_with_len}
 use Rattle.std.proofs.lemmas.Grind.{flat_map-append}
-use Rattle.pw_base.specs.declared.event.Event.{Event}
-use Rattle.pw_base.specs.declared.plan.Epoch.{Epoch}
-use Rattle.pw_base.specs.declared.shape.Shape.{Shape}
-use Rattle.pw_base.specs.History.{AreJoined, epoch_cycles, cycles_of}
-use Rattle.pw_base.specs.SoundShape.{IsSoundShape}
+use Rattle.pw_graph.specs.declared.event.Event.{Event}
+use Rattle.pw_graph.specs.declared.plan.Epoch.{Epoch}
+use Rattle.pw_graph.specs.declared.shape.Shape.{Shape}
+use Rattle.pw_graph.specs.History.{AreJoined, epoch_cycles, cycles_of}
+use Rattle.pw_graph.specs.SoundShape.{IsSoundShape}
 use Rattle.trace_check.specs.declared.following.Front.TheVariants.{Part}
 use Rattle.trace_check.specs.working.Fronts.{AreSound, StopAfter, IsFrontOf}
 use Rattle.trace_check.proofs.FrontsLemmas.{take_behind, joined_more, stop_behind, stop_at_end}

@@ -6,12 +6,12 @@ use Rattle.std.specs.List.{flat_map, AllZip}
 use Rattle.std.proofs.lemmas.Bool.{true≢false, cases_lt}
 use Rattle.std.proofs.lemmas.List.{take-append-drop, take_more, take_all}
 use Rattle.std.proofs.lemmas.List.Elements.{All-head, All-tail}
-use Rattle.pw_base.specs.declared.event.Event.{Event}
-use Rattle.pw_base.specs.declared.event.Event.TheVariants.{Begin, End}
-use Rattle.pw_base.specs.declared.shape.Shape.{Shape}
-use Rattle.pw_base.specs.History.{IsLegalInside, IsLegalCycle, AreJoined}
-use Rattle.pw_base.specs.working.HistoryFronts.{is_end}
-use Rattle.pw_base.specs.SoundShape.{IsSoundShape}
+use Rattle.pw_graph.specs.declared.event.Event.{Event}
+use Rattle.pw_graph.specs.declared.event.Event.TheVariants.{Begin, End}
+use Rattle.pw_graph.specs.declared.shape.Shape.{Shape}
+use Rattle.pw_graph.specs.History.{IsLegalInside, IsLegalCycle, AreJoined}
+use Rattle.pw_graph.specs.working.HistoryFronts.{is_end}
+use Rattle.pw_graph.specs.SoundShape.{IsSoundShape}
 use Rattle.trace_check.specs.declared.following.Front.TheVariants.{Whole, Part}
 use Rattle.trace_check.specs.working.NextEvent.{MayFollow, AreAllowed, HaveFinished}
 use Rattle.trace_check.specs.working.Fronts.{AreSound, GoOn, StopAfter, IsFrontInside}

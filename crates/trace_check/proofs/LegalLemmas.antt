@@ -8,12 +8,12 @@ use Rattle.std.proofs.lemmas.Bool.{true≢false, and_parts, and_from}
 use Rattle.std.proofs.lemmas.Bool.Decides.{Decides-eqb}
 use Rattle.std.proofs.lemmas.List.Elements.{All-map, All-contains}
 use Rattle.std.proofs.lemmas.List.Sums.{passes_at_first}
-use Rattle.pw_base.specs.declared.event.Event.{Event}
-use Rattle.pw_base.specs.declared.event.Event.TheVariants.{Begin, Start, Finish, Tick, End}
-use Rattle.pw_base.specs.declared.shape.Shape.{Shape}
-use Rattle.pw_base.specs.Dependencies.{nodes_of, Precedes}
-use Rattle.pw_base.specs.History.{is_start, is_finish, is_tick, start_place, finish_place, tick_place, IsOfCycle, RunsOnce, IsLegalInside}
-use Rattle.pw_base.proofs.ShapeLemmas.{contains_mapped}
+use Rattle.pw_graph.specs.declared.event.Event.{Event}
+use Rattle.pw_graph.specs.declared.event.Event.TheVariants.{Begin, Start, Finish, Tick, End}
+use Rattle.pw_graph.specs.declared.shape.Shape.{Shape}
+use Rattle.pw_graph.specs.Dependencies.{nodes_of, Precedes}
+use Rattle.pw_graph.specs.History.{is_start, is_finish, is_tick, start_place, finish_place, tick_place, IsOfCycle, RunsOnce, IsLegalInside}
+use Rattle.pw_graph.proofs.ShapeLemmas.{contains_mapped}
 use Rattle.trace_check.specs.working.NextEvent.{MayFollow, AreAllowed, HaveFinished}
 use Rattle.trace_check.proofs.PlaceLemmas.{in_front, front_within, first_from, first_below, first_in, first_within, some_pass, place_is, count_one}
 use Rattle.trace_check.proofs.NextEventLemmas.{started_active}

@@ -4,11 +4,11 @@ use Rattle.std.proofs.Common.{refl, sym, subst, arith, length-append}
 use Rattle.std.specs.Prelude.{All, Contains}
 use Rattle.std.proofs.lemmas.Bool.{cases_lt}
 use Rattle.std.proofs.lemmas.List.{take-append-le, take_at, get_or_append_left, get_or_at}
-use Rattle.pw_base.specs.declared.event.Event.{Event}
-use Rattle.pw_base.specs.declared.event.Event.TheVariants.{Begin, Start, Finish, Tick, End}
-use Rattle.pw_base.specs.declared.shape.Shape.{Shape}
-use Rattle.pw_base.specs.Dependencies.{nodes_of}
-use Rattle.pw_base.specs.working.HistoryFronts.{is_end}
+use Rattle.pw_graph.specs.declared.event.Event.{Event}
+use Rattle.pw_graph.specs.declared.event.Event.TheVariants.{Begin, Start, Finish, Tick, End}
+use Rattle.pw_graph.specs.declared.shape.Shape.{Shape}
+use Rattle.pw_graph.specs.Dependencies.{nodes_of}
+use Rattle.pw_graph.specs.working.HistoryFronts.{is_end}
 use Rattle.trace_check.specs.working.NextEvent.{MayFollow, AreAllowed}
 
 module _ (shape : Shape) (cycle : ℕ) where

@@ -8,11 +8,11 @@ use Rattle.std.proofs.lemmas.Bool.Decides.{Decides-eqb}
 use Rattle.std.proofs.lemmas.List.{map_more}
 use Rattle.std.proofs.lemmas.List.Elements.{Contains-append_left, Contains-push, Contains-push_cases}
 use Rattle.std.proofs.lemmas.List.Folds.{list_any_more, Any-from_list_any}
-use Rattle.pw_base.specs.declared.shape.Shape.{Shape}
-use Rattle.pw_base.specs.declared.shape.ShapeNode.{ShapeNode}
-use Rattle.pw_base.specs.declared.shape.ShapeLink.{ShapeLink}
-use Rattle.pw_base.specs.Dependencies.{nodes_of, joins, are_linked, Precedes}
-use Rattle.pw_base.specs.SoundShape.{IsSoundShape, IsSoundLink}
+use Rattle.pw_graph.specs.declared.shape.Shape.{Shape}
+use Rattle.pw_graph.specs.declared.shape.ShapeNode.{ShapeNode}
+use Rattle.pw_graph.specs.declared.shape.ShapeLink.{ShapeLink}
+use Rattle.pw_graph.specs.Dependencies.{nodes_of, joins, are_linked, Precedes}
+use Rattle.pw_graph.specs.SoundShape.{IsSoundShape, IsSoundLink}
 use Rattle.trace_check.specs.working.NodeSets.{Gains, Loses}
 use Rattle.trace_check.specs.working.Admitting.{IsSetOf}
 use Rattle.trace_check.proofs.NodeSetsLemmas.{none_set}

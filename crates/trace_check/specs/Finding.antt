@@ -3,8 +3,8 @@
 -- Source: this project's; event lines are those of `cycle_trace`.
 use Rattle.std.specs.Prelude.{◌≡◌, ℕ, false, List, All, flat_map}
 use Rattle.std.specs.List.{AllZip}
-use Rattle.pw_base.specs.declared.event.Event.{Event}
-use Rattle.pw_base.specs.declared.shape.Shape.{Shape}
+use Rattle.pw_graph.specs.declared.event.Event.{Event}
+use Rattle.pw_graph.specs.declared.shape.Shape.{Shape}
 use Rattle.cycle_trace.specs.EventLines.{event_line}
 use Rattle.cycle_trace.specs.Printable.{NamesNodes}
 use Rattle.cycle_trace.specs.TraceReading.{is_line_feed, trace_lines, NumbersFit, IsLineOf, IsFirstFault}

@@ -1,11 +1,11 @@
 -- The place of the first event after which no legal history can follow, among the events of a
 -- trace.
--- Source: this project's; legal histories are those of `pw_base`, after PipeWire's documentation,
+-- Source: this project's; legal histories are those of `pw_graph`, after PipeWire's documentation,
 -- "Graph Scheduling".
 use Rattle.std.specs.Prelude.{◌≡◌, ℕ, ◌+◌, ◌<◌, ◌≤◌, ◌⊎◌, List, ◌++◌, length, take}
-use Rattle.pw_base.specs.declared.event.Event.{Event}
-use Rattle.pw_base.specs.declared.shape.Shape.{Shape}
-use Rattle.pw_base.specs.History.{IsLegalHistory}
+use Rattle.pw_graph.specs.declared.event.Event.{Event}
+use Rattle.pw_graph.specs.declared.shape.Shape.{Shape}
+use Rattle.pw_graph.specs.History.{IsLegalHistory}
 use Rattle.trace_check.specs.declared.checking.Verdict.{Verdict}
 use Rattle.trace_check.specs.declared.checking.Verdict.TheVariants.{Legal, Illegal}
 

@@ -1,15 +1,16 @@
 //! The verdict on the events of a trace.
 ghost use Rattle.std.specs.Prelude.{◌≡◌, ◌<◌, ◌≤◌, ◌+◌, ◌^◌, List, map, length, IfOk};
-ghost use Rattle.pw_base.specs.declared.event.Event.{Event};
-ghost use Rattle.pw_base.specs.declared.shape.Shape.{Shape};
-ghost use Rattle.pw_base.specs.History.{cycles_of};
-ghost use Rattle.pw_base.specs.SoundPlan.{IsSoundPlan};
+ghost use Rattle.pw_graph.specs.declared.event.Event.{Event};
+ghost use Rattle.pw_graph.specs.declared.shape.Shape.{Shape};
+ghost use Rattle.pw_graph.specs.History.{cycles_of};
+ghost use Rattle.pw_graph.specs.SoundPlan.{IsSoundPlan};
 ghost use Rattle.trace_check.specs.declared.checking.Verdict.{Verdict};
 ghost use Rattle.trace_check.specs.FirstIllegal.{IsVerdictOn};
 ghost use Rattle.trace_check.specs.working.Fronts.{front_length, IsFrontOf};
 
 use crate::following::{Front, follow_epochs};
-use pw_base::{Event, Items, Memory, Plan};
+use pw_graph::{Event, Plan};
+use pw_lists::{Items, Memory};
 use std::alloc::Global;
 
 /// What events are to a plan.

@@ -1,8 +1,8 @@
 //! How far events go on as those of cycles.
 ghost use Rattle.std.specs.Prelude.{◌≡◌, ◌+◌, ◌<◌, ◌≤◌, ◌^◌, [], ◌∷◌, length, map, All, IsTrue, ◌↔◌, IfOk};
-ghost use Rattle.pw_base.specs.declared.event.Event.TheVariants as E;
-ghost use Rattle.pw_base.specs.SoundShape.{IsSoundShape};
-ghost use Rattle.pw_base.specs.History.{epoch_cycles, cycles_of};
+ghost use Rattle.pw_graph.specs.declared.event.Event.TheVariants as E;
+ghost use Rattle.pw_graph.specs.SoundShape.{IsSoundShape};
+ghost use Rattle.pw_graph.specs.History.{epoch_cycles, cycles_of};
 ghost use Rattle.trace_check.specs.working.Admitting.{IsOrderOf};
 ghost use Rattle.trace_check.specs.working.Fronts.{front_length, IsFrontOf, IsFrontInside};
 
@@ -10,7 +10,8 @@ use crate::next_event::may_follow;
 use crate::node_sets::is_within;
 use crate::order::{Order, order_of};
 use crate::so_far::{after_event, nothing_yet};
-use pw_base::{Epoch, Event, Memory, Shape};
+use pw_graph::{Epoch, Event, Shape};
+use pw_lists::Memory;
 use std::alloc::Global;
 
 /// A prefix of a row of events.

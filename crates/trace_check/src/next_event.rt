@@ -6,7 +6,7 @@ ghost use Rattle.trace_check.specs.working.Admitting.{Admits};
 use crate::node_sets::{are_apart, has, is_within};
 use crate::order::Order;
 use crate::so_far::SoFar;
-use pw_base::Event;
+use pw_graph::Event;
 
 // Whether a node may start: it is there, has not started, and all that precede it have finished.
 fn may_start(order: &Order, so_far: SoFar, node: u32) -> bool

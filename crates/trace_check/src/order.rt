@@ -1,15 +1,16 @@
 //! The order of a shape's nodes, as sets of their numbers.
 ghost use Rattle.std.specs.Prelude.{◌≡◌, ℕ, ◌<◌, ◌≤◌, IsTrue, All, Contains, map, IfOk};
 ghost use Rattle.std.specs.List.{list_any};
-ghost use Rattle.pw_base.specs.Limits.{dummy_node};
-ghost use Rattle.pw_base.specs.Dependencies.{joins, Precedes};
-ghost use Rattle.pw_base.specs.LinkOrder.{IsWithinNodes};
-ghost use Rattle.pw_base.specs.SoundShape.{IsSoundShape};
-ghost use Rattle.pw_base.specs.Dependencies.{nodes_of};
+ghost use Rattle.pw_graph.specs.Limits.{dummy_node};
+ghost use Rattle.pw_graph.specs.Dependencies.{joins, Precedes};
+ghost use Rattle.pw_graph.specs.LinkOrder.{IsWithinNodes};
+ghost use Rattle.pw_graph.specs.SoundShape.{IsSoundShape};
+ghost use Rattle.pw_graph.specs.Dependencies.{nodes_of};
 ghost use Rattle.trace_check.specs.working.Admitting.{IsSetOf, IsOrderOf};
 
 use crate::node_sets::{with, without};
-use pw_base::{Items, Memory, Shape, ShapeLink, ShapeNode};
+use pw_graph::{Shape, ShapeLink, ShapeNode};
+use pw_lists::{Items, Memory};
 use std::alloc::Global;
 
 /// Which nodes a shape has, and for each of the 64 numbers which nodes precede it.

@@ -3,7 +3,7 @@ ghost use Rattle.std.specs.Prelude.{[]};
 ghost use Rattle.trace_check.specs.working.Admitting.{HasSmallNode, Becomes, StandsFor};
 
 use crate::node_sets::with;
-use pw_base::Event;
+use pw_graph::Event;
 
 /// Which nodes have started and finished, and whether there was a Tick.
 #[derive(Clone, Copy, Debug, Drop)]

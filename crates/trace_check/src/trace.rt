@@ -1,8 +1,8 @@
 //! What is found of the text of a trace.
 ghost use Rattle.std.specs.Prelude.{◌≡◌, ◌+◌, ◌<◌, ◌^◌, List, map, length, IfOk};
-ghost use Rattle.pw_base.specs.declared.event.Event.{Event};
-ghost use Rattle.pw_base.specs.SoundPlan.{IsSoundPlan};
-ghost use Rattle.pw_base.specs.History.{IsLegalHistory};
+ghost use Rattle.pw_graph.specs.declared.event.Event.{Event};
+ghost use Rattle.pw_graph.specs.SoundPlan.{IsSoundPlan};
+ghost use Rattle.pw_graph.specs.History.{IsLegalHistory};
 ghost use Rattle.cycle_trace.specs.TraceReading.{AreNames};
 ghost use Rattle.trace_check.specs.declared.checking.Verdict.TheVariants.{Legal};
 ghost use Rattle.trace_check.specs.declared.trace.Finding.{Finding};
@@ -11,7 +11,8 @@ ghost use Rattle.trace_check.specs.Finding.{IsFindingOn, IsPrinted};
 
 use crate::checking::{Verdict, check};
 use cycle_trace::{TraceFault, read_events};
-use pw_base::{Items, Memory, Plan, Text};
+use pw_graph::Plan;
+use pw_lists::{Items, Memory, Text};
 use std::alloc::Global;
 
 /// What is found of a trace.

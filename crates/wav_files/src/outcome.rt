@@ -1,7 +1,8 @@
 //! What a run answers: what happened, the waves of its sinks and the peaks of its meters.
 
 use crate::wav::Wav;
-use pw_base::{Event, Items};
+use pw_graph::Event;
+use pw_lists::Items;
 
 /// What a sink has kept.
 #[derive(Debug, Drop)]

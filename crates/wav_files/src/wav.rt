@@ -1,6 +1,6 @@
 //! A wave: the samples of a WAV file.
 
-use pw_base::Items;
+use pw_lists::Items;
 
 /// A wave of `rate` frames a second, each of `channels` samples, one for each channel in turn.
 /// The number of samples is a multiple of `channels`.

@@ -6,7 +6,7 @@ ghost use Rattle.wav_files.specs.WavWriting.{IsWave, sample_bytes, wav_bytes};
 use crate::header::{HEADER, header_of};
 use crate::wav::Wav;
 use byteorder::{ByteOrder, LittleEndian};
-use pw_base::{Items, Memory};
+use pw_lists::{Items, Memory};
 use std::alloc::Global;
 
 /// Writes samples over twice as many bytes.

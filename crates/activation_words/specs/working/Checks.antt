@@ -3,7 +3,7 @@
 use Rattle.std.specs.Prelude.{◌≡◌, ◌≢◌, ℕ, ◌+◌, true, cond, eqb, [], map}
 use Rattle.board_rule.specs.declared.view.DriverPhase.TheVariants.{Checking}
 use Rattle.board_rule.specs.declared.view.View.{View}
-use Rattle.pw_base.specs.Words.{finished_word}
+use Rattle.pw_graph.specs.Words.{finished_word}
 use Rattle.board_rule.specs.Layout.{BoardLayout}
 use Rattle.board_rule.specs.View.{view_lead, view_trail}
 use Rattle.board_rule.specs.events.Bits.{with_bit}

@@ -9,7 +9,7 @@ use Rattle.board_rule.specs.declared.view.BlockView.{BlockView}
 use Rattle.board_rule.specs.declared.view.BlockView.TheVariants.{Free, Filling, Out}
 use Rattle.board_rule.specs.Layout.{BoardLayout}
 use Rattle.board_rule.proofs.buffers.PortLemmas.{Differ}
-use Rattle.pw_base.specs.declared.pools.PoolShape.{PoolShape}
+use Rattle.pw_graph.specs.declared.pools.PoolShape.{PoolShape}
 use Rattle.board_rule.specs.buffers.BlockReadings.{delay_at, waiting, readers_of}
 use mathlib.Core.Logic.{dite}
 use native.Mathlib.Decide.{dec_le}

@@ -14,8 +14,8 @@ use Rattle.board_rule.specs.declared.view.DriverPhase.TheVariants as drives
 use Rattle.board_rule.specs.declared.view.NodeView.{NodeView}
 use Rattle.board_rule.specs.declared.view.Trail.{Trail}
 use Rattle.board_rule.specs.declared.view.View.{View}
-use Rattle.pw_base.specs.Layout.{status_place}
-use Rattle.pw_base.specs.Words.{awake_word, finished_word, not_triggered_word, triggered_word}
+use Rattle.pw_graph.specs.Layout.{status_place}
+use Rattle.pw_graph.specs.Words.{awake_word, finished_word, not_triggered_word, triggered_word}
 use Rattle.board_rule.specs.Layout.{BoardLayout, nodes, first}
 use Rattle.board_rule.specs.activation.Phases.{phase_rest, phase_owing, phase_drawn, is_resetting}
 use Rattle.board_rule.specs.View.{Whole, node_of, with_node, view_node, view_trail}

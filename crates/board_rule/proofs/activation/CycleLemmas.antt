@@ -13,8 +13,8 @@ use Rattle.board_rule.specs.declared.view.DriverPhase.TheVariants as drives
 use Rattle.board_rule.specs.declared.view.DriverView.{DriverView}
 use Rattle.board_rule.specs.declared.view.Trail.{Trail}
 use Rattle.board_rule.specs.declared.view.View.{View}
-use Rattle.pw_base.specs.Layout.{pending_place, status_place}
-use Rattle.pw_base.specs.Words.{status_word_of, awake_word, finished_word, not_triggered_word, triggered_word}
+use Rattle.pw_graph.specs.Layout.{pending_place, status_place}
+use Rattle.pw_graph.specs.Words.{status_word_of, awake_word, finished_word, not_triggered_word, triggered_word}
 use Rattle.board_rule.specs.Layout.{BoardLayout, IsSound, nodes, first, last}
 use Rattle.board_rule.specs.Sums.{times}
 use Rattle.board_rule.specs.activation.Phases.{owed_of, phase_rest, phase_owing, phase_stage, PhaseOk, drive_rest, drive_owing, drive_stage}

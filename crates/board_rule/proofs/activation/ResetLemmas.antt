@@ -9,8 +9,8 @@ use Rattle.board_rule.specs.declared.view.DriverPhase.TheVariants as drives
 use Rattle.board_rule.specs.declared.view.DriverView.{DriverView}
 use Rattle.board_rule.specs.declared.view.Trail.{Trail}
 use Rattle.board_rule.specs.declared.view.View.{View}
-use Rattle.pw_base.specs.Layout.{pending_place, status_place}
-use Rattle.pw_base.specs.Words.{not_triggered_word}
+use Rattle.pw_graph.specs.Layout.{pending_place, status_place}
+use Rattle.pw_graph.specs.Words.{not_triggered_word}
 use Rattle.board_rule.specs.Layout.{BoardLayout, IsSound, nodes}
 use Rattle.board_rule.specs.Sums.{total, times}
 use Rattle.board_rule.specs.activation.Phases.{phase_rest, phase_owing, phase_stage, drive_drawn, is_resetting, is_between}

@@ -8,9 +8,9 @@ use Rattle.std.proofs.lemmas.List.{get_or-append-add}
 use Rattle.std.proofs.lemmas.List.Sums.{sum_by-cons}
 use Rattle.std.proofs.Math.ListN.{get_or-append}
 use Rattle.std.specs.List.{position, position_or_len}
-use Rattle.pw_base.proofs.HistoryLemmas.{place_or_end as or_end}
-use Rattle.pw_base.specs.declared.shape.Shape.{Shape}
-use Rattle.pw_base.specs.declared.shape.ShapeNode.{ShapeNode}
+use Rattle.pw_graph.proofs.HistoryLemmas.{place_or_end as or_end}
+use Rattle.pw_graph.specs.declared.shape.Shape.{Shape}
+use Rattle.pw_graph.specs.declared.shape.ShapeNode.{ShapeNode}
 use Rattle.board_rule.specs.Layout.{index_in}
 
 position-map : (n : ℕ) (xs : List ShapeNode) → position_or_len (λ x. x.node == n) xs ≡ position_or_len (λ k. k == n) (map (λ x. x.node) xs)

@@ -11,8 +11,8 @@ use Rattle.board_rule.specs.declared.view.Phase.TheVariants.{Idle, Awake, StartD
 use Rattle.board_rule.specs.declared.view.NodeView.{NodeView}
 use Rattle.board_rule.specs.declared.view.Trail.{Trail}
 use Rattle.board_rule.specs.declared.view.View.{View}
-use Rattle.pw_base.specs.Layout.{pending_place, status_place}
-use Rattle.pw_base.specs.Words.{finished_word}
+use Rattle.pw_graph.specs.Layout.{pending_place, status_place}
+use Rattle.pw_graph.specs.Words.{finished_word}
 use Rattle.board_rule.specs.Layout.{BoardLayout, nodes}
 use Rattle.board_rule.specs.activation.Phases.{phase_rest, phase_owing, phase_stage, PhaseOk, phase_drawn}
 use Rattle.board_rule.specs.View.{Whole, node_of, with_node, view_node}

@@ -1,6 +1,6 @@
 -- A link is late by one cycle or by none: which of its areas has a stamp, and how long a block of its pool is busy.
 use Rattle.std.proofs.Common.{◌≡◌, ◌≢◌, ℕ, ◌+◌, ◌%◌, ◌≤◌, Bool, true, false, cond, refl, ap, ◌∙◌, arith}
-use Rattle.pw_base.specs.declared.shape.ShapeLink.{ShapeLink}
+use Rattle.pw_graph.specs.declared.shape.ShapeLink.{ShapeLink}
 use Rattle.board_rule.specs.declared.view.WriteView.{WriteView}
 use Rattle.board_rule.specs.declared.view.ReadView.{ReadView}
 use Rattle.board_rule.specs.buffers.Areas.{delay_by, area_of, Span, LinkOk}

@@ -11,10 +11,10 @@ use native.Mathlib.Decide.{ℕ_discrete, dec_le}
 use lib.ListN.{get_elem?}
 use Rattle.atomic_table.specs.Table.{State}
 use Rattle.atomic_table.proofs.Lists.{set_else}
-use Rattle.pw_base.specs.declared.shape.ShapeLink.{ShapeLink}
-use Rattle.pw_base.specs.declared.pools.PoolShape.{PoolShape}
-use Rattle.pw_base.specs.declared.ids.PortId.{PortId}
-use Rattle.pw_base.specs.Pools.{is_same_port, pools_of}
+use Rattle.pw_graph.specs.declared.shape.ShapeLink.{ShapeLink}
+use Rattle.pw_graph.specs.declared.pools.PoolShape.{PoolShape}
+use Rattle.pw_graph.specs.declared.ids.PortId.{PortId}
+use Rattle.pw_graph.specs.Pools.{is_same_port, pools_of}
 use Rattle.board_rule.specs.declared.view.DriverPhase.TheVariants as drives
 use Rattle.board_rule.specs.declared.view.NodeView.{NodeView}
 use Rattle.board_rule.specs.declared.view.DriverView.{DriverView}
@@ -24,11 +24,11 @@ use Rattle.board_rule.specs.declared.view.BlockView.{BlockView}
 use Rattle.board_rule.specs.declared.view.View.{View}
 use Rattle.std.proofs.lemmas.Nat.{mul-le}
 use Rattle.std.proofs.lemmas.List.{length-map}
-use Rattle.pw_base.specs.Pools.{IsPooledShape, channels_of, sources_of, words_of}
-use Rattle.pw_base.specs.Pools as pools
+use Rattle.pw_graph.specs.Pools.{IsPooledShape, channels_of, sources_of, words_of}
+use Rattle.pw_graph.specs.Pools as pools
 use Rattle.board_rule.proofs.buffers.PoolWordLemmas.{pools_have_words}
-use Rattle.pw_base.proofs.PoolLemmas.{channels_le, same_port, port_same}
-use Rattle.pw_base.proofs.LayoutLemmas.{length-start_words, pools_have_blocks}
+use Rattle.pw_graph.proofs.PoolLemmas.{channels_le, same_port, port_same}
+use Rattle.pw_graph.proofs.LayoutLemmas.{length-start_words, pools_have_blocks}
 use Rattle.board_rule.specs.declared.board_shape.BoardShape.{BoardShape}
 use Rattle.board_rule.specs.Layout.{BoardLayout, layout_of, HasSeats}
 use Rattle.board_rule.specs.working.Rows.{HasIndexes}

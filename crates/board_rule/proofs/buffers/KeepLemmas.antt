@@ -4,9 +4,9 @@ use Rattle.std.proofs.Common.{subst, arith, get_or-set_other}
 use Rattle.std.proofs.lemmas.Option.{slice_get_within}
 use Rattle.std.proofs.lemmas.List.Elements.{All-contains}
 use Rattle.atomic_table.specs.Table.{State, keeps, stepped}
-use Rattle.pw_base.specs.declared.event.Event.TheVariants.{Tick}
-use Rattle.pw_base.specs.EventWords.{event_cycle, event_node, event_word_of}
-use Rattle.pw_base.specs.Layout.{pending_place, status_place, late_place, event_place, event_count}
+use Rattle.pw_graph.specs.declared.event.Event.TheVariants.{Tick}
+use Rattle.pw_graph.specs.EventWords.{event_cycle, event_node, event_word_of}
+use Rattle.pw_graph.specs.Layout.{pending_place, status_place, late_place, event_place, event_count}
 use Rattle.board_rule.specs.declared.view.DriverPhase.{DriverPhase}
 use Rattle.board_rule.specs.declared.view.DriverPhase.TheVariants as drives
 use Rattle.board_rule.specs.declared.view.View.{View}

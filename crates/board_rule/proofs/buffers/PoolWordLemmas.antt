@@ -4,12 +4,12 @@ use Rattle.std.proofs.Common.{◌∙◌, subst, arith}
 use Rattle.std.specs.Prelude.{fold, Contains}
 use Rattle.std.proofs.Math.Nat.{le-mul_of_pos_right}
 use Rattle.std.proofs.lemmas.Option.{get_or_from_slice_get, slice_get_within}
-use Rattle.pw_base.specs.declared.ids.PortId.{PortId}
-use Rattle.pw_base.specs.declared.shape.ShapeLink.{ShapeLink}
-use Rattle.pw_base.specs.declared.pools.PoolShape.{PoolShape}
-use Rattle.pw_base.specs.Pools.{is_same_port, links_from, channels_of, IsPooledShape}
-use Rattle.pw_base.proofs.PoolLemmas.{port_same}
-use Rattle.pw_base.proofs.PrecedenceLemmas.{holds_at}
+use Rattle.pw_graph.specs.declared.ids.PortId.{PortId}
+use Rattle.pw_graph.specs.declared.shape.ShapeLink.{ShapeLink}
+use Rattle.pw_graph.specs.declared.pools.PoolShape.{PoolShape}
+use Rattle.pw_graph.specs.Pools.{is_same_port, links_from, channels_of, IsPooledShape}
+use Rattle.pw_graph.proofs.PoolLemmas.{port_same}
+use Rattle.pw_graph.proofs.PrecedenceLemmas.{holds_at}
 use Rattle.board_rule.specs.Layout.{BoardLayout, IsSound}
 use Rattle.board_rule.proofs.buffers.WiringLemmas.{PoolAt, wired, pool_source}
 

@@ -8,12 +8,12 @@ use mathlib.Core.Logic.{dite}
 use native.Mathlib.Decide.{ℕ_discrete, dec_le}
 use Rattle.std.proofs.lemmas.List.Elements.{All-head, All-tail, All-cons, All-filter, All-append, All-contains, Contains-append_left}
 use Rattle.std.proofs.lemmas.List.Elements.{Contains-append_right, filter_passes}
-use Rattle.pw_base.specs.declared.ids.PortId.{PortId}
-use Rattle.pw_base.specs.declared.shape.ShapeLink.{ShapeLink}
-use Rattle.pw_base.specs.Pools.{is_same_port, is_before, with_port, link_ids_from}
+use Rattle.pw_graph.specs.declared.ids.PortId.{PortId}
+use Rattle.pw_graph.specs.declared.shape.ShapeLink.{ShapeLink}
+use Rattle.pw_graph.specs.Pools.{is_same_port, is_before, with_port, link_ids_from}
 use Rattle.std.proofs.lemmas.Bool.{and_parts, and_from, or_cases, or_left, or_right}
-use Rattle.pw_base.proofs.PoolLemmas.{port_is, same_port, port_same}
-use Rattle.pw_base.proofs.PrecedenceLemmas.{holds_at}
+use Rattle.pw_graph.proofs.PoolLemmas.{port_is, same_port, port_same}
+use Rattle.pw_graph.proofs.PrecedenceLemmas.{holds_at}
 
 -- no two elements of a list are the same
 abbrev pub Differ : {X : Type 0} → List X → Type 0

@@ -4,10 +4,10 @@ use Rattle.std.proofs.Common.{subst, arith, length-set, set-set}
 use mathlib.Core.Logic.{dite}
 use native.Mathlib.Decide.{ℕ_discrete, dec_le}
 use Rattle.atomic_table.specs.Table.{Me, keeps, stepped, Allows}
-use Rattle.pw_base.specs.declared.shape.ShapeLink.{ShapeLink}
-use Rattle.pw_base.specs.declared.pools.PoolShape.{PoolShape}
-use Rattle.pw_base.specs.Layout.{io_place, event_place, event_count, readers_place, sample_place}
-use Rattle.pw_base.specs.Words.{io_id_in, have_data_word, need_data_word}
+use Rattle.pw_graph.specs.declared.shape.ShapeLink.{ShapeLink}
+use Rattle.pw_graph.specs.declared.pools.PoolShape.{PoolShape}
+use Rattle.pw_graph.specs.Layout.{io_place, event_place, event_count, readers_place, sample_place}
+use Rattle.pw_graph.specs.Words.{io_id_in, have_data_word, need_data_word}
 use Rattle.board_rule.specs.declared.view.ReadView.{ReadView}
 use Rattle.board_rule.specs.declared.view.View.{View}
 use Rattle.board_rule.specs.Layout.{BoardLayout, nodes, first}

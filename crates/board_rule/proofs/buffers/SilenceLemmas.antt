@@ -6,8 +6,8 @@ use native.Mathlib.Decide.{dec_le}
 use Rattle.std.proofs.lemmas.Option.{slice_get_within, get_or_from_slice_get}
 use Rattle.std.proofs.lemmas.List.{get_or-map, get_or-replicate, get_or_past, length-map, length-replicate}
 use Rattle.std.proofs.lemmas.List.Elements.{All-replicate}
-use Rattle.pw_base.specs.declared.pools.PoolShape.{PoolShape}
-use Rattle.pw_base.specs.Pools.{pools_of}
+use Rattle.pw_graph.specs.declared.pools.PoolShape.{PoolShape}
+use Rattle.pw_graph.specs.Pools.{pools_of}
 use Rattle.board_rule.specs.Layout.{BoardLayout, first}
 use Rattle.board_rule.specs.buffers.SampleWords.{IsTable, silence}
 

@@ -1,8 +1,8 @@
 -- Steps that touch no end of a link, no block and no word of the buffer rule keep it, also where a node begins to run.
 use Rattle.std.proofs.Common.{◌≡◌, ℕ, ◌*◌, ◌<◌, ◌≤◌, ◌⊎◌, inl, inr, List, get_or, sym, ap, ◌∙◌, subst, arith}
-use Rattle.pw_base.specs.declared.shape.ShapeLink.{ShapeLink}
-use Rattle.pw_base.specs.declared.pools.PoolShape.{PoolShape}
-use Rattle.pw_base.specs.Layout.{event_count, io_place, late_place, event_place, readers_place, sample_place}
+use Rattle.pw_graph.specs.declared.shape.ShapeLink.{ShapeLink}
+use Rattle.pw_graph.specs.declared.pools.PoolShape.{PoolShape}
+use Rattle.pw_graph.specs.Layout.{event_count, io_place, late_place, event_place, readers_place, sample_place}
 use Rattle.board_rule.specs.Layout.{BoardLayout, nodes, first}
 use Rattle.board_rule.specs.start.StartViews.{Samples}
 use Rattle.board_rule.specs.buffers.SampleWords.{packed, samples_of}

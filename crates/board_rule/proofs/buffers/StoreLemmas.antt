@@ -5,12 +5,12 @@ use Rattle.std.proofs.Common.{List, [], ◌∷◌, ◌++◌, map, length, Some, 
 use Rattle.std.proofs.Common.{length-append}
 use Rattle.std.specs.Prelude.{slice_get, All, Contains, IsBitSet}
 use Rattle.std.proofs.lemmas.Option.{slice_get_within}
-use Rattle.pw_base.specs.declared.event.Event.{Event}
-use Rattle.pw_base.specs.declared.event.Event.TheVariants.{Begin, Tick, End}
-use Rattle.pw_base.specs.EventWords.{event_word_of}
-use Rattle.pw_base.specs.History.{IsLate}
-use Rattle.pw_base.specs.Layout.{event_count}
-use Rattle.pw_base.specs.Words.{finished_word}
+use Rattle.pw_graph.specs.declared.event.Event.{Event}
+use Rattle.pw_graph.specs.declared.event.Event.TheVariants.{Begin, Tick, End}
+use Rattle.pw_graph.specs.EventWords.{event_word_of}
+use Rattle.pw_graph.specs.History.{IsLate}
+use Rattle.pw_graph.specs.Layout.{event_count}
+use Rattle.pw_graph.specs.Words.{finished_word}
 use Rattle.board_rule.specs.Layout.{BoardLayout, IsSound, nodes, first, last}
 use Rattle.board_rule.specs.View.{put}
 use Rattle.board_rule.specs.events.EventSteps.{late_of}

@@ -5,20 +5,20 @@ use Rattle.std.specs.Prelude.{Contains, Any, Some, None, slice_get, option_map, 
 use Rattle.std.proofs.lemmas.Option.{get_or_from_slice_get, slice_get-get_or, slice_get-map, slice_get_within}
 use Rattle.std.proofs.lemmas.List.Elements.{All-contains, All-contains_itself, All-filter, filter_passes}
 use Rattle.std.proofs.lemmas.List.Folds.{Any-from_list_any, list_any_at}
-use Rattle.pw_base.specs.declared.ids.PortId.{PortId}
-use Rattle.pw_base.specs.declared.shape.Shape.{Shape}
-use Rattle.pw_base.specs.declared.shape.ShapeLink.{ShapeLink}
-use Rattle.pw_base.specs.declared.pools.PoolShape.{PoolShape}
-use Rattle.pw_base.specs.Dependencies.{joins, are_linked, waits}
-use Rattle.pw_base.specs.SoundShape.{IsSoundLink}
-use Rattle.pw_base.specs.Pools.{is_same_port, links_from, sources_of, link_ids_from, pool_of, pools_of, IsPooledShape}
-use Rattle.pw_base.specs.Layout.{event_count, io_place, late_place, event_place, readers_place, word_count}
+use Rattle.pw_graph.specs.declared.ids.PortId.{PortId}
+use Rattle.pw_graph.specs.declared.shape.Shape.{Shape}
+use Rattle.pw_graph.specs.declared.shape.ShapeLink.{ShapeLink}
+use Rattle.pw_graph.specs.declared.pools.PoolShape.{PoolShape}
+use Rattle.pw_graph.specs.Dependencies.{joins, are_linked, waits}
+use Rattle.pw_graph.specs.SoundShape.{IsSoundLink}
+use Rattle.pw_graph.specs.Pools.{is_same_port, links_from, sources_of, link_ids_from, pool_of, pools_of, IsPooledShape}
+use Rattle.pw_graph.specs.Layout.{event_count, io_place, late_place, event_place, readers_place, word_count}
 use Rattle.board_rule.specs.Sums.{times}
 use Rattle.board_rule.specs.Layout.{BoardLayout, IsSound, nodes}
 use Rattle.board_rule.specs.buffers.Areas.{delay_by}
 use Rattle.board_rule.specs.buffers.BlockReadings.{delay_at, busy_cycles}
-use Rattle.pw_base.proofs.PoolLemmas.{port_same, same_port}
-use Rattle.pw_base.proofs.PrecedenceLemmas.{holds_at}
+use Rattle.pw_graph.proofs.PoolLemmas.{port_same, same_port}
+use Rattle.pw_graph.proofs.PrecedenceLemmas.{holds_at}
 use Rattle.std.specs.List.{list_any}
 use Rattle.board_rule.proofs.buffers.PortLemmas.{Differ, differ_at, differ_ports, has_port, all_ports, id_from, has_id, differ_ids}
 use Rattle.board_rule.proofs.IndexLemmas as indexes

@@ -6,11 +6,11 @@ use mathlib.Core.Logic.{dite}
 use native.Mathlib.Decide.{dec_le}
 use lib.Seq.{set-get_or}
 use Rattle.atomic_table.specs.Table.{Me, keeps, Allows}
-use Rattle.pw_base.specs.declared.shape.ShapeLink.{ShapeLink}
-use Rattle.pw_base.specs.declared.pools.PoolShape.{PoolShape}
-use Rattle.pw_base.specs.Layout.{io_place, readers_place, sample_place, word_count}
-use Rattle.pw_base.specs.Words.{io_word_of, io_id_in, have_data_word, need_data_word}
-use Rattle.pw_base.proofs.LayoutLemmas.{length-start_words}
+use Rattle.pw_graph.specs.declared.shape.ShapeLink.{ShapeLink}
+use Rattle.pw_graph.specs.declared.pools.PoolShape.{PoolShape}
+use Rattle.pw_graph.specs.Layout.{io_place, readers_place, sample_place, word_count}
+use Rattle.pw_graph.specs.Words.{io_word_of, io_id_in, have_data_word, need_data_word}
+use Rattle.pw_graph.proofs.LayoutLemmas.{length-start_words}
 use Rattle.board_rule.specs.declared.view.WriteView.{WriteView}
 use Rattle.board_rule.specs.declared.view.BlockView.{BlockView}
 use Rattle.board_rule.specs.declared.view.BlockView.TheVariants.{Free, Filling, Out}
@@ -20,7 +20,7 @@ use Rattle.board_rule.specs.View.{Whole, Samples, unwritten}
 use Rattle.board_rule.specs.buffers.SampleWords.{packed, samples_in, samples_of}
 use Rattle.board_rule.specs.buffers.Areas.{delay_by, area_of, stored_id}
 use Rattle.board_rule.specs.buffers.BufferRule.{Buffers}
-use Rattle.pw_base.specs.declared.ids.PortId.{PortId}
+use Rattle.pw_graph.specs.declared.ids.PortId.{PortId}
 use Rattle.board_rule.specs.buffers.BlockReadings.{delay_at, busy_cycles, is_busy, stamp}
 use Rattle.board_rule.specs.buffers.Spans.{spans, holder, block_at}
 use Rattle.board_rule.specs.BoardRule.{Seated, Holds}

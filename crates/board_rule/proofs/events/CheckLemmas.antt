@@ -6,12 +6,12 @@ use mathlib.Core.Logic.{dite}
 use native.Mathlib.Decide.{ℕ_discrete}
 use Rattle.std.specs.Prelude.{slice_get, Contains, count_by}
 use Rattle.std.proofs.lemmas.List.Sums.{sum_by-append, sum_by-cons}
-use Rattle.pw_base.specs.declared.event.Event.{Event}
-use Rattle.pw_base.specs.declared.event.Event.TheVariants.{Begin, Tick, End}
-use Rattle.pw_base.specs.EventWords.{event_word_of}
-use Rattle.pw_base.specs.History.{is_tick, is_finish, IsLate}
-use Rattle.pw_base.specs.Layout.{event_place, late_place, status_place}
-use Rattle.pw_base.specs.Words.{status_word_of, finished_word}
+use Rattle.pw_graph.specs.declared.event.Event.{Event}
+use Rattle.pw_graph.specs.declared.event.Event.TheVariants.{Begin, Tick, End}
+use Rattle.pw_graph.specs.EventWords.{event_word_of}
+use Rattle.pw_graph.specs.History.{is_tick, is_finish, IsLate}
+use Rattle.pw_graph.specs.Layout.{event_place, late_place, status_place}
+use Rattle.pw_graph.specs.Words.{status_word_of, finished_word}
 use Rattle.board_rule.specs.declared.view.Phase.{Phase}
 use Rattle.board_rule.specs.declared.view.Phase.TheVariants.{Idle, Awake, StartDrawn, Running, Done, FinishDrawn, Telling}
 use Rattle.board_rule.specs.declared.view.DriverPhase.{DriverPhase}

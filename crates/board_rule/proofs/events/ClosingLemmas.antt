@@ -7,11 +7,11 @@ use native.Mathlib.Decide.{ℕ_discrete}
 use lib.ListN.{get_elem?}
 use Rattle.std.specs.Prelude.{Contains, count_by, filter, slice_get}
 use Rattle.std.proofs.lemmas.List.{get_or_default}
-use Rattle.pw_base.specs.declared.event.Event.{Event}
-use Rattle.pw_base.specs.declared.event.Event.TheVariants.{Begin, Start, Finish, Tick, End}
-use Rattle.pw_base.specs.EventWords.{event_node, event_cycle, event_word_of, event_in}
-use Rattle.pw_base.specs.History.{is_tick, AreJoined, epoch_cycles, IsLegalHistory}
-use Rattle.pw_base.specs.Layout.{event_count, event_place, late_place}
+use Rattle.pw_graph.specs.declared.event.Event.{Event}
+use Rattle.pw_graph.specs.declared.event.Event.TheVariants.{Begin, Start, Finish, Tick, End}
+use Rattle.pw_graph.specs.EventWords.{event_node, event_cycle, event_word_of, event_in}
+use Rattle.pw_graph.specs.History.{is_tick, AreJoined, epoch_cycles, IsLegalHistory}
+use Rattle.pw_graph.specs.Layout.{event_count, event_place, late_place}
 use Rattle.board_rule.specs.declared.view.DriverPhase.{DriverPhase}
 use Rattle.board_rule.specs.declared.view.DriverPhase.TheVariants as drives
 use Rattle.atomic_table.specs.Table.{State, Final, Seen}

@@ -7,11 +7,11 @@ use native.Mathlib.Decide.{ℕ_discrete}
 use Rattle.std.specs.Prelude.{slice_get, All, Contains, IsBitSet}
 use Rattle.std.proofs.lemmas.List.{length-map}
 use Rattle.std.proofs.lemmas.List.Elements.{All-map, All-head, All-tail, All-contains}
-use Rattle.pw_base.specs.declared.event.Event.{Event}
-use Rattle.pw_base.specs.declared.event.Event.TheVariants.{Begin, Start, Finish, Tick, End}
-use Rattle.pw_base.specs.EventWords.{event_cycle, event_node, event_word_of}
-use Rattle.pw_base.specs.History.{is_start, is_finish, is_tick, IsLate}
-use Rattle.pw_base.specs.Words.{finished_word}
+use Rattle.pw_graph.specs.declared.event.Event.{Event}
+use Rattle.pw_graph.specs.declared.event.Event.TheVariants.{Begin, Start, Finish, Tick, End}
+use Rattle.pw_graph.specs.EventWords.{event_cycle, event_node, event_word_of}
+use Rattle.pw_graph.specs.History.{is_start, is_finish, is_tick, IsLate}
+use Rattle.pw_graph.specs.Words.{finished_word}
 use Rattle.board_rule.specs.declared.view.Found.{Found}
 use Rattle.board_rule.specs.Layout.{BoardLayout, nodes, first}
 use Rattle.board_rule.specs.View.{put}

@@ -9,14 +9,14 @@ use Rattle.std.proofs.lemmas.List.Sums.{sum_by-cons}
 use Rattle.std.proofs.lemmas.Slice.Zip.{all_zipped_more}
 use Rattle.std.proofs.lemmas.List.FromFn.{map-range_with_len_more}
 use Rattle.std.proofs.lemmas.Grind.{flat_map-append}
-use Rattle.pw_base.specs.declared.event.Event.{Event}
-use Rattle.pw_base.specs.declared.event.Event.TheVariants.{Begin, Start, Finish, Tick, End}
-use Rattle.pw_base.specs.declared.shape.Shape.{Shape}
-use Rattle.pw_base.specs.declared.shape.ShapeNode.{ShapeNode}
-use Rattle.pw_base.specs.Dependencies.{Precedes}
-use Rattle.pw_base.specs.EventWords.{event_cycle, event_node}
-use Rattle.pw_base.specs.History.{is_tick, tick_place, start_place, finish_place, IsOfCycle, RunsOnce, IsLegalInside, IsLegalCycle}
-use Rattle.pw_base.specs.History.{AreJoined, epoch_cycles}
+use Rattle.pw_graph.specs.declared.event.Event.{Event}
+use Rattle.pw_graph.specs.declared.event.Event.TheVariants.{Begin, Start, Finish, Tick, End}
+use Rattle.pw_graph.specs.declared.shape.Shape.{Shape}
+use Rattle.pw_graph.specs.declared.shape.ShapeNode.{ShapeNode}
+use Rattle.pw_graph.specs.Dependencies.{Precedes}
+use Rattle.pw_graph.specs.EventWords.{event_cycle, event_node}
+use Rattle.pw_graph.specs.History.{is_tick, tick_place, start_place, finish_place, IsOfCycle, RunsOnce, IsLegalInside, IsLegalCycle}
+use Rattle.pw_graph.specs.History.{AreJoined, epoch_cycles}
 use Rattle.board_rule.specs.Layout.{BoardLayout, IsSound, nodes, first, last}
 use Rattle.board_rule.specs.events.Logged.{IsSoFar, Earlier, Inside}
 use Rattle.board_rule.specs.events.Records.{Records, Counts}

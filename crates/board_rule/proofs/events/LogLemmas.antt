@@ -6,13 +6,13 @@ use native.Mathlib.Decide.{ℕ_discrete}
 use Rattle.std.specs.Prelude.{count_by, slice_get, All, Contains}
 use Rattle.std.specs.List.{position_or_len}
 use Rattle.std.proofs.lemmas.List.Elements.{All-append}
-use Rattle.pw_base.specs.declared.event.Event.{Event}
-use Rattle.pw_base.specs.declared.event.Event.TheVariants.{Start, Finish}
-use Rattle.pw_base.specs.Dependencies.{Precedes}
-use Rattle.pw_base.specs.EventWords.{event_word_of}
-use Rattle.pw_base.specs.History.{is_start, is_finish, is_tick, IsLate}
-use Rattle.pw_base.specs.Layout.{event_count}
-use Rattle.pw_base.specs.Words.{finished_word}
+use Rattle.pw_graph.specs.declared.event.Event.{Event}
+use Rattle.pw_graph.specs.declared.event.Event.TheVariants.{Start, Finish}
+use Rattle.pw_graph.specs.Dependencies.{Precedes}
+use Rattle.pw_graph.specs.EventWords.{event_word_of}
+use Rattle.pw_graph.specs.History.{is_start, is_finish, is_tick, IsLate}
+use Rattle.pw_graph.specs.Layout.{event_count}
+use Rattle.pw_graph.specs.Words.{finished_word}
 use Rattle.board_rule.specs.Layout.{BoardLayout, nodes}
 use Rattle.board_rule.specs.View.{put}
 use Rattle.board_rule.specs.events.Logged.{IsSoFar, IsHeld, Tickets, Inside}

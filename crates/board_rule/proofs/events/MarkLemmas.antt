@@ -4,10 +4,10 @@ use Rattle.std.proofs.Common.{◌∙◌, subst, arith, eq-eqb, ne_eqb, get_or-se
 use mathlib.Core.Logic.{dite}
 use native.Mathlib.Decide.{ℕ_discrete}
 use Rattle.std.proofs.lemmas.List.Elements.{All-contains}
-use Rattle.pw_base.specs.declared.event.Event.{Event}
-use Rattle.pw_base.specs.declared.event.Event.TheVariants.{Tick}
-use Rattle.pw_base.specs.EventWords.{event_cycle, event_node, event_word_of}
-use Rattle.pw_base.specs.Layout.{event_place, late_place}
+use Rattle.pw_graph.specs.declared.event.Event.{Event}
+use Rattle.pw_graph.specs.declared.event.Event.TheVariants.{Tick}
+use Rattle.pw_graph.specs.EventWords.{event_cycle, event_node, event_word_of}
+use Rattle.pw_graph.specs.Layout.{event_place, late_place}
 use Rattle.board_rule.specs.declared.view.Phase.{Phase}
 use Rattle.board_rule.specs.declared.view.DriverPhase.{DriverPhase}
 use Rattle.board_rule.specs.declared.view.DriverPhase.TheVariants as drives

@@ -10,11 +10,11 @@ use Rattle.std.proofs.lemmas.Bool.{or_left, or_right}
 use Rattle.std.proofs.lemmas.List.{get_or-map, get_or_default, map-append, length-map}
 use Rattle.std.proofs.lemmas.List.Sums.{position_or_len_is, passes_at_first}
 use Rattle.std.proofs.lemmas.List.Elements.{All-append, All-filter, All-map}
-use Rattle.pw_base.specs.declared.shape.Shape.{Shape}
-use Rattle.pw_base.specs.declared.shape.ShapeNode.{ShapeNode}
-use Rattle.pw_base.specs.Dependencies.{nodes_of, are_linked, waits, required_of, targets_of}
-use Rattle.pw_base.specs.Layout.{node_count}
-use Rattle.pw_base.specs.SoundShape.{IsSoundShape, IsCounted}
+use Rattle.pw_graph.specs.declared.shape.Shape.{Shape}
+use Rattle.pw_graph.specs.declared.shape.ShapeNode.{ShapeNode}
+use Rattle.pw_graph.specs.Dependencies.{nodes_of, are_linked, waits, required_of, targets_of}
+use Rattle.pw_graph.specs.Layout.{node_count}
+use Rattle.pw_graph.specs.SoundShape.{IsSoundShape, IsCounted}
 use Rattle.board_rule.specs.declared.board_shape.BoardShape.{BoardShape}
 use Rattle.board_rule.specs.Sums.{total, times}
 use Rattle.board_rule.specs.Layout.{layout_of, index_in, target_rows, required_row, HasSeats, IsSound}

@@ -9,14 +9,14 @@ use Rattle.board_rule.specs.declared.view.DriverPhase.{DriverPhase}
 use Rattle.board_rule.specs.declared.view.DriverPhase.TheVariants as drives
 use Rattle.board_rule.specs.declared.view.Phase.{Phase}
 use Rattle.board_rule.specs.declared.view.Phase.TheVariants.{Idle, Awake, StartDrawn, Running, Done, FinishDrawn, Telling}
-use Rattle.pw_base.specs.Layout.{event_count}
+use Rattle.pw_graph.specs.Layout.{event_count}
 use Rattle.board_rule.specs.Layout.{BoardLayout, IsSound, nodes, first, last}
 use Rattle.board_rule.specs.Sums.{total}
 use Rattle.board_rule.specs.activation.Phases.{is_between, is_resetting, phase_drawn, drive_drawn, PhaseOk}
 use Rattle.board_rule.specs.View.{Whole, with_node, with_lead}
 use Rattle.board_rule.specs.activation.ActivationRule.{Activations}
 use Rattle.std.specs.Prelude.{count_by}
-use Rattle.pw_base.specs.History.{is_tick}
+use Rattle.pw_graph.specs.History.{is_tick}
 use Rattle.board_rule.specs.events.EventRule.{Events, node_drawn, lead_drawn, drawn, drawn_before, Marks, Records, marks, records}
 use Rattle.board_rule.proofs.events.DrawLemmas.{Logs}
 use Rattle.board_rule.proofs.events.TickLemmas.{ticks_stay}

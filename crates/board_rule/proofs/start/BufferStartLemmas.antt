@@ -7,12 +7,12 @@ use mathlib.Core.Logic.{dite}
 use native.Mathlib.Decide.{ℕ_discrete}
 use Rattle.std.proofs.lemmas.Option.{get_or_from_slice_get}
 use Rattle.std.proofs.lemmas.Bool.{and_parts}
-use Rattle.pw_base.specs.declared.shape.ShapeLink.{ShapeLink}
-use Rattle.pw_base.specs.declared.pools.PoolShape.{PoolShape}
-use Rattle.pw_base.specs.Pools.{pools_of}
-use Rattle.pw_base.specs.Words.{no_block, have_data_word, need_data_word}
-use Rattle.pw_base.specs.Layout.{io_start, io_place}
-use Rattle.pw_base.specs.Layout.{readers_place, sample_place}
+use Rattle.pw_graph.specs.declared.shape.ShapeLink.{ShapeLink}
+use Rattle.pw_graph.specs.declared.pools.PoolShape.{PoolShape}
+use Rattle.pw_graph.specs.Pools.{pools_of}
+use Rattle.pw_graph.specs.Words.{no_block, have_data_word, need_data_word}
+use Rattle.pw_graph.specs.Layout.{io_start, io_place}
+use Rattle.pw_graph.specs.Layout.{readers_place, sample_place}
 use Rattle.board_rule.specs.declared.view.BlockView.{BlockView}
 use Rattle.board_rule.specs.declared.view.BlockView.TheVariants.{Free, Filling, Out}
 use Rattle.board_rule.specs.Layout.{BoardLayout, nodes, first}

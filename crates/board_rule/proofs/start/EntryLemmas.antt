@@ -8,7 +8,7 @@ use Rattle.board_rule.specs.declared.view.ReadView.{ReadView}
 use Rattle.board_rule.specs.declared.view.View.{View}
 use Rattle.board_rule.specs.declared.progress.NodeProgress.{NodeProgress}
 use Rattle.board_rule.specs.declared.lead.DriverProgress.{DriverProgress}
-use Rattle.pw_base.specs.Pools.{pools_of}
+use Rattle.pw_graph.specs.Pools.{pools_of}
 use Rattle.board_rule.specs.Layout.{BoardLayout, IsSound, last}
 use Rattle.board_rule.specs.start.Owners.{own, slot_in, owners_of}
 use Rattle.board_rule.specs.working.Slots.{HasWriter, HasReader}

@@ -7,8 +7,8 @@ use Rattle.std.proofs.lemmas.List.{length-append, length-replicate, get_or-repli
 use Rattle.std.proofs.lemmas.List.Sums.{sum_by-cons, count_by_more_yes}
 use Rattle.std.proofs.lemmas.List.Concat.{get_or-flat_map}
 use Rattle.board_rule.proofs.activation.RowLemmas.{sum_part}
-use Rattle.pw_base.specs.declared.shape.Shape.{Shape}
-use Rattle.pw_base.specs.declared.pools.PoolShape.{PoolShape}
+use Rattle.pw_graph.specs.declared.shape.Shape.{Shape}
+use Rattle.pw_graph.specs.declared.pools.PoolShape.{PoolShape}
 use Rattle.board_rule.specs.declared.view.BlockView.TheVariants.{Free, Out}
 use Rattle.board_rule.specs.buffers.ByNumber.{no_pool}
 use Rattle.board_rule.specs.start.StartViews.{is_delayed, blocks_at_first}

@@ -11,7 +11,7 @@ use Rattle.board_rule.specs.declared.view.Trail.{Trail}
 use Rattle.board_rule.specs.declared.view.NodeView.{NodeView}
 use Rattle.board_rule.specs.declared.view.DriverView.{DriverView}
 use Rattle.board_rule.specs.declared.view.Found.{Found}
-use Rattle.pw_base.specs.declared.event.Event.{Event}
+use Rattle.pw_graph.specs.declared.event.Event.{Event}
 use Rattle.board_rule.specs.Layout.{BoardLayout, nodes, first}
 use Rattle.board_rule.specs.View.{Whole, put, idle, with_node, view_node, with_lead, view_lead, view_trail}
 use Rattle.board_rule.specs.BoardRule.{Knows, Seated}

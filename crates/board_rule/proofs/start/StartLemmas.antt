@@ -15,17 +15,17 @@ use Rattle.std.specs.List.{flat_map}
 use Rattle.std.proofs.lemmas.Option.{slice_get_within, get_or_from_slice_get}
 use Rattle.std.proofs.lemmas.List.Concat.{flat_map-cons}
 use Rattle.std.proofs.lemmas.List.Sums.{sum_by-cons}
-use Rattle.pw_base.specs.declared.event.Event.{Event}
-use Rattle.pw_base.specs.declared.event.Event.TheVariants.{Tick}
-use Rattle.pw_base.specs.History.{AreJoined, epoch_cycles}
+use Rattle.pw_graph.specs.declared.event.Event.{Event}
+use Rattle.pw_graph.specs.declared.event.Event.TheVariants.{Tick}
+use Rattle.pw_graph.specs.History.{AreJoined, epoch_cycles}
 use Rattle.board_rule.proofs.events.LateLemmas.{late_bits}
 use Rattle.board_rule.proofs.events.DrawLemmas.{none_in}
-use Rattle.pw_base.specs.Layout.{pending_place, status_place, late_place, event_place, event_count, start_words}
-use Rattle.pw_base.specs.Pools.{IsPooledShape, pools_of}
-use Rattle.pw_base.specs.declared.pools.PoolShape.{PoolShape}
+use Rattle.pw_graph.specs.Layout.{pending_place, status_place, late_place, event_place, event_count, start_words}
+use Rattle.pw_graph.specs.Pools.{IsPooledShape, pools_of}
+use Rattle.pw_graph.specs.declared.pools.PoolShape.{PoolShape}
 use Rattle.board_rule.specs.declared.view.BlockView.{BlockView}
 use Rattle.board_rule.specs.declared.view.BlockView.TheVariants.{Free, Out}
-use Rattle.pw_base.specs.Words.{finished_word, not_triggered_word}
+use Rattle.pw_graph.specs.Words.{finished_word, not_triggered_word}
 use Rattle.board_rule.specs.Layout.{BoardLayout, IsSound, nodes, first, word_count}
 use Rattle.board_rule.specs.View.{Whole, Samples, idle, resting, unread, first_write, first_block, blocks_at_first, is_delayed, first_view, loop_view, split_off}
 use Rattle.board_rule.specs.buffers.SampleWords.{IsTable}
@@ -40,8 +40,8 @@ use Rattle.board_rule.specs.declared.view.Phase.{Phase}
 use Rattle.board_rule.specs.declared.view.Phase.TheVariants.{Idle, Awake, StartDrawn, Running, Done, FinishDrawn, Telling}
 use Rattle.board_rule.specs.declared.view.NodeView.{NodeView}
 use Rattle.board_rule.specs.declared.view.DriverView.{DriverView}
-use Rattle.pw_base.proofs.LayoutLemmas.{pools_have_blocks}
-use Rattle.pw_base.specs.declared.shape.Shape.{Shape}
+use Rattle.pw_graph.proofs.LayoutLemmas.{pools_have_blocks}
+use Rattle.pw_graph.specs.declared.shape.Shape.{Shape}
 use Rattle.std.proofs.lemmas.List.Elements.{All-head, All-tail, All-nil}
 use Rattle.std.proofs.lemmas.List.{get_or-replicate, length-replicate}
 use Rattle.board_rule.specs.BoardRule.{Knows, Holds}

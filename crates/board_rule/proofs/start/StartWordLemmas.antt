@@ -12,14 +12,14 @@ use Rattle.std.proofs.lemmas.List.Folds.{length-flat_map-take}
 use Rattle.std.proofs.lemmas.List.Sums.{sum_by-cons}
 use Rattle.std.proofs.Math.ListN.{get_or-append}
 use Rattle.std.proofs.Math.Nat.{mul-le-mul_right}
-use Rattle.pw_base.specs.declared.shape.Shape.{Shape}
-use Rattle.pw_base.specs.declared.shape.ShapeLink.{ShapeLink}
-use Rattle.pw_base.specs.declared.pools.PoolShape.{PoolShape}
-use Rattle.pw_base.specs.Pools.{is_same_port, links_from, pools_of, IsPooledShape}
-use Rattle.pw_base.specs.Words.{not_triggered_word}
-use Rattle.pw_base.specs.Layout.{node_count, area_count, event_count, io_start, pool_words, pool_start, start_words, io_place}
-use Rattle.pw_base.specs.Layout.{event_place, readers_place, sample_place, block_words}
-use Rattle.pw_base.proofs.LayoutLemmas.{pools_have_blocks}
+use Rattle.pw_graph.specs.declared.shape.Shape.{Shape}
+use Rattle.pw_graph.specs.declared.shape.ShapeLink.{ShapeLink}
+use Rattle.pw_graph.specs.declared.pools.PoolShape.{PoolShape}
+use Rattle.pw_graph.specs.Pools.{is_same_port, links_from, pools_of, IsPooledShape}
+use Rattle.pw_graph.specs.Words.{not_triggered_word}
+use Rattle.pw_graph.specs.Layout.{node_count, area_count, event_count, io_start, pool_words, pool_start, start_words, io_place}
+use Rattle.pw_graph.specs.Layout.{event_place, readers_place, sample_place, block_words}
+use Rattle.pw_graph.proofs.LayoutLemmas.{pools_have_blocks}
 use Rattle.board_rule.specs.declared.view.BlockView.{BlockView}
 use Rattle.board_rule.specs.declared.view.BlockView.TheVariants.{Free, Out}
 use Rattle.board_rule.specs.Layout.{BoardLayout, first}

@@ -7,8 +7,8 @@ use Rattle.board_rule.specs.declared.view.Phase.TheVariants.{Idle}
 use Rattle.board_rule.specs.declared.view.DriverPhase.{DriverPhase}
 use Rattle.board_rule.specs.declared.view.DriverPhase.TheVariants.{Between, BeginDrawn, Reset, Half, Kick}
 use Rattle.board_rule.specs.declared.view.NodeView.{NodeView}
-use Rattle.pw_base.specs.Words.{finished_word, not_triggered_word}
-use Rattle.pw_base.specs.Layout.{pending_place, status_place}
+use Rattle.pw_graph.specs.Words.{finished_word, not_triggered_word}
+use Rattle.pw_graph.specs.Layout.{pending_place, status_place}
 use Rattle.board_rule.specs.Layout.{BoardLayout, nodes, first, last}
 use Rattle.board_rule.specs.activation.Phases.{PhaseOk, IsLowered, is_resetting, is_between}
 use Rattle.board_rule.specs.View.{Whole}

@@ -3,7 +3,7 @@
 -- Source: PipeWire's documentation, "Graph Scheduling"; spa/graph/graph.h, spa_graph_state; the
 -- statuses' numbers are this project's.
 use Rattle.std.specs.Prelude.{◌≡◌, ℕ, ◌<◌, List}
-use Rattle.pw_base.specs.Words.{status_word_of}
+use Rattle.pw_graph.specs.Words.{status_word_of}
 
 -- all that the rule reads of the phases: of each index m the targets that m has yet to lower in the
 -- driver's cycle, the one

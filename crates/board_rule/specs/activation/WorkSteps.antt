@@ -6,7 +6,7 @@ use Rattle.board_rule.specs.declared.view.Phase.TheVariants.{Idle, Awake, Runnin
 use Rattle.board_rule.specs.declared.view.DriverPhase.TheVariants as drives
 use Rattle.board_rule.specs.declared.view.Trail.{Trail}
 use Rattle.board_rule.specs.declared.view.View.{View}
-use Rattle.pw_base.specs.Words.{triggered_word}
+use Rattle.pw_graph.specs.Words.{triggered_word}
 use Rattle.board_rule.specs.Layout.{BoardLayout}
 use Rattle.board_rule.specs.View.{node_of, view_trail}
 use Rattle.board_rule.specs.buffers.EndViews.{write_of, read_of, writer_of, reader_of}

@@ -3,7 +3,7 @@
 use Rattle.std.specs.Prelude.{◌≡◌, ℕ, ◌<◌, Bool, List, slice_index}
 use mathlib.Core.Option.{some}
 use lib.ListN.{get_elem?}
-use Rattle.pw_base.specs.Layout.{readers_place}
+use Rattle.pw_graph.specs.Layout.{readers_place}
 use Rattle.board_rule.specs.declared.view.BlockView.TheVariants.{Out}
 use Rattle.board_rule.specs.declared.view.View.{View}
 use Rattle.board_rule.specs.Layout.{BoardLayout}

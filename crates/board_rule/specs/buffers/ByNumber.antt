@@ -2,10 +2,10 @@
 -- Source: this project's own.
 use Rattle.std.specs.Prelude.{ℕ, false, [], slice_index_or}
 use Rattle.std.specs.List.{position_or_len}
-use Rattle.pw_base.specs.declared.shape.Shape.{Shape}
-use Rattle.pw_base.specs.declared.shape.ShapeLink.{ShapeLink}
-use Rattle.pw_base.specs.declared.pools.PoolShape.{PoolShape}
-use Rattle.pw_base.specs.Pools.{is_same_port, pools_of}
+use Rattle.pw_graph.specs.declared.shape.Shape.{Shape}
+use Rattle.pw_graph.specs.declared.shape.ShapeLink.{ShapeLink}
+use Rattle.pw_graph.specs.declared.pools.PoolShape.{PoolShape}
+use Rattle.pw_graph.specs.Pools.{is_same_port, pools_of}
 
 -- what is read of a number that no link or pool has
 abbrev pub no_link : ShapeLink

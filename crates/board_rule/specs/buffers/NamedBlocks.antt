@@ -2,7 +2,7 @@
 -- Source: PipeWire's documentation, "SPA Buffers"; one pool that all links of a port read is this
 -- project's own.
 use Rattle.std.specs.Prelude.{◌≡◌, ℕ, ◌+◌, ◌<◌, ◌≤◌, Contains}
-use Rattle.pw_base.specs.declared.pools.PoolShape.{PoolShape}
+use Rattle.pw_graph.specs.declared.pools.PoolShape.{PoolShape}
 use Rattle.board_rule.specs.declared.view.WriteView.{WriteView}
 use Rattle.board_rule.specs.declared.view.BlockView.{BlockView}
 use Rattle.board_rule.specs.declared.view.BlockView.TheVariants.{Out}

@@ -2,7 +2,7 @@
 -- its blocks.
 -- Source: this project's own; the phases are those of src/view.rt.
 use Rattle.std.specs.Prelude.{ℕ, ◌+◌, cond, eqb, sum_by, take}
-use Rattle.pw_base.specs.Pools.{pools_of}
+use Rattle.pw_graph.specs.Pools.{pools_of}
 use Rattle.board_rule.specs.declared.view.Phase.{Phase}
 use Rattle.board_rule.specs.declared.view.Phase.TheVariants.{Running, Done, FinishDrawn, Telling}
 use Rattle.board_rule.specs.declared.view.DriverPhase.{DriverPhase}

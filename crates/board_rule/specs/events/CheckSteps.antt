@@ -5,9 +5,9 @@ use Rattle.std.specs.Prelude.{◌≡◌, ◌≢◌, ℕ, ◌<◌, true, cond, eq
 use Rattle.board_rule.specs.declared.view.DriverPhase.TheVariants as drives
 use Rattle.board_rule.specs.declared.view.DriverView.{DriverView}
 use Rattle.board_rule.specs.declared.view.Found.{Found}
-use Rattle.pw_base.specs.declared.event.Event.TheVariants.{Tick}
+use Rattle.pw_graph.specs.declared.event.Event.TheVariants.{Tick}
 use Rattle.board_rule.specs.declared.view.View.{View}
-use Rattle.pw_base.specs.Words.{finished_word}
+use Rattle.pw_graph.specs.Words.{finished_word}
 use Rattle.board_rule.specs.Layout.{BoardLayout, nodes}
 use Rattle.board_rule.specs.View.{view_lead, view_trail}
 use Rattle.board_rule.specs.Steps.{HasNode}

@@ -4,8 +4,8 @@
 use Rattle.std.specs.Prelude.{◌≡◌, ℕ, ◌+◌, ◌*◌, ◌≤◌, true, false, cond, eqb, List, [], ◌++◌, length, slice_index, count_by}
 use Rattle.board_rule.specs.declared.view.NodeView.{NodeView}
 use Rattle.board_rule.specs.declared.view.DriverView.{DriverView}
-use Rattle.pw_base.specs.History.{is_tick}
-use Rattle.pw_base.specs.Layout.{ticket_place, event_place, late_place}
+use Rattle.pw_graph.specs.History.{is_tick}
+use Rattle.pw_graph.specs.Layout.{ticket_place, event_place, late_place}
 use Rattle.board_rule.specs.Layout.{BoardLayout, nodes, first}
 use Rattle.board_rule.specs.activation.Phases.{is_between, phase_drawn, drive_drawn}
 use Rattle.board_rule.specs.Sums.{total}

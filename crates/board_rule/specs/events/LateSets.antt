@@ -1,9 +1,9 @@
 -- The late sets that the driver's seat keeps of its checks, as the log has them.
 -- Source: this project's own; near to PipeWire's xrun reports, without time.
 use Rattle.std.specs.Prelude.{ℕ, ◌&&◌, Bool, true, false, not, cond, List, [], ◌∷◌, ◌++◌, filter}
-use Rattle.pw_base.specs.declared.event.Event.{Event}
-use Rattle.pw_base.specs.declared.event.Event.TheVariants.{Tick}
-use Rattle.pw_base.specs.History.{is_tick}
+use Rattle.pw_graph.specs.declared.event.Event.{Event}
+use Rattle.pw_graph.specs.declared.event.Event.TheVariants.{Tick}
+use Rattle.pw_graph.specs.History.{is_tick}
 use Rattle.board_rule.specs.declared.view.DriverPhase.{DriverPhase}
 use Rattle.board_rule.specs.declared.view.DriverPhase.TheVariants as drives
 use Rattle.board_rule.specs.declared.view.DriverView.{DriverView}

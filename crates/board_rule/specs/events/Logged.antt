@@ -3,15 +3,15 @@
 -- Source: PipeWire's documentation, "Graph Scheduling": a node runs once a cycle, after what it
 -- depends on; tickets and events are this project's.
 use Rattle.std.specs.Prelude.{◌≡◌, ℕ, ◌-◌, ◌<◌, ◌≤◌, ◌⊎◌, true, cond, List, length, slice_get, Some}
-use Rattle.pw_base.specs.Limits.{dummy_node}
+use Rattle.pw_graph.specs.Limits.{dummy_node}
 use Rattle.std.specs.Prelude.{count_by, All, Contains, IsBitSet}
-use Rattle.pw_base.specs.declared.event.Event.{Event}
-use Rattle.pw_base.specs.declared.event.Event.TheVariants.{Start, Finish, Tick}
-use Rattle.pw_base.specs.Dependencies.{nodes_of, Precedes}
-use Rattle.pw_base.specs.EventWords.{event_cycle, event_node, event_word_of}
-use Rattle.pw_base.specs.History.{is_start, is_finish, is_tick, start_place, finish_place, tick_place, IsLate, epoch_cycles, AreJoined}
-use Rattle.pw_base.specs.Layout.{event_count}
-use Rattle.pw_base.specs.Words.{finished_word}
+use Rattle.pw_graph.specs.declared.event.Event.{Event}
+use Rattle.pw_graph.specs.declared.event.Event.TheVariants.{Start, Finish, Tick}
+use Rattle.pw_graph.specs.Dependencies.{nodes_of, Precedes}
+use Rattle.pw_graph.specs.EventWords.{event_cycle, event_node, event_word_of}
+use Rattle.pw_graph.specs.History.{is_start, is_finish, is_tick, start_place, finish_place, tick_place, IsLate, epoch_cycles, AreJoined}
+use Rattle.pw_graph.specs.Layout.{event_count}
+use Rattle.pw_graph.specs.Words.{finished_word}
 use Rattle.board_rule.specs.Layout.{BoardLayout, nodes, first, last}
 use Rattle.board_rule.specs.events.Records.{Records, Counts, Marks}
 

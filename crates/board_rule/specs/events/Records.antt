@@ -2,8 +2,8 @@
 -- they have drawn.
 -- Source: this project's own; the phases are those of src/view.rt.
 use Rattle.std.specs.Prelude.{ℕ, Bool, cond, List, [], ◌∷◌, ◌++◌}
-use Rattle.pw_base.specs.declared.event.Event.{Event}
-use Rattle.pw_base.specs.declared.event.Event.TheVariants.{Begin, End}
+use Rattle.pw_graph.specs.declared.event.Event.{Event}
+use Rattle.pw_graph.specs.declared.event.Event.TheVariants.{Begin, End}
 use Rattle.board_rule.specs.declared.view.Found.{Found}
 
 -- what the rule reads of the words: the ticket word, the event word of each ticket, the late set of

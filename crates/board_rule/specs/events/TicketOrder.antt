@@ -4,9 +4,9 @@ use Rattle.std.specs.Prelude.{◌≡◌, ℕ, List, Option, Some, length, slice_
 use mathlib.Core.Option.{some}
 use lib.ListN.{get_elem?}
 use Rattle.atomic_table.specs.Table.{State}
-use Rattle.pw_base.specs.declared.event.Event.{Event}
-use Rattle.pw_base.specs.EventWords.{event_word_of}
-use Rattle.pw_base.specs.Layout.{ticket_place, event_place}
+use Rattle.pw_graph.specs.declared.event.Event.{Event}
+use Rattle.pw_graph.specs.EventWords.{event_word_of}
+use Rattle.pw_graph.specs.Layout.{ticket_place, event_place}
 use Rattle.board_rule.specs.declared.view.View.{View}
 use Rattle.board_rule.specs.Layout.{BoardLayout}
 use Rattle.board_rule.specs.BoardRule.{Holds}

@@ -2,11 +2,11 @@
 -- Source: spa/node/io.h, spa_io_async_buffers; a block that begins published is this project's own.
 use Rattle.std.specs.Prelude.{ℕ, ◌-◌, ◌&&◌, Bool, cond, eqb, List, ◌∷◌, replicate}
 use Rattle.std.specs.List.{flat_map, list_any}
-use Rattle.pw_base.specs.declared.shape.Shape.{Shape}
-use Rattle.pw_base.specs.declared.shape.ShapeLink.{ShapeLink}
-use Rattle.pw_base.specs.declared.pools.PoolShape.{PoolShape}
-use Rattle.pw_base.specs.Pools.{links_from, pools_of}
-use Rattle.pw_base.specs.Words.{no_block}
+use Rattle.pw_graph.specs.declared.shape.Shape.{Shape}
+use Rattle.pw_graph.specs.declared.shape.ShapeLink.{ShapeLink}
+use Rattle.pw_graph.specs.declared.pools.PoolShape.{PoolShape}
+use Rattle.pw_graph.specs.Pools.{links_from, pools_of}
+use Rattle.pw_graph.specs.Words.{no_block}
 use Rattle.board_rule.specs.declared.view.WriteView.{WriteView}
 use Rattle.board_rule.specs.declared.view.ReadView.{ReadView}
 use Rattle.board_rule.specs.declared.view.BlockView.{BlockView}

@@ -3,7 +3,7 @@
 -- Source: this project's own.
 use Rattle.std.specs.Prelude.{◌≡◌, ℕ, ◌<◌, cond, eqb, List, map, take, zip, filter, length, replicate, count_by, slice_index}
 use Rattle.std.specs.List.{flat_map}
-use Rattle.pw_base.specs.Pools.{pools_of}
+use Rattle.pw_graph.specs.Pools.{pools_of}
 use Rattle.board_rule.specs.declared.view.Owners.{Owners}
 use Rattle.board_rule.specs.Layout.{BoardLayout}
 

@@ -1,7 +1,7 @@
 -- Which seats a board may have.
 -- Source: this project's own.
 use Rattle.std.specs.Prelude.{◌≡◌, ◌≢◌, ℕ, ◌<◌, ◌≤◌, length, slice_index}
-use Rattle.pw_base.specs.Layout.{node_count}
+use Rattle.pw_graph.specs.Layout.{node_count}
 use Rattle.board_rule.specs.declared.board_shape.BoardShape.{BoardShape}
 use Rattle.board_rule.specs.Indexes.{index_in}
 

@@ -7,7 +7,7 @@ use Rattle.board_rule.specs.declared.view.NodeView.{NodeView}
 use Rattle.board_rule.specs.declared.view.DriverView.{DriverView}
 use Rattle.board_rule.specs.declared.view.Trail.{Trail}
 use Rattle.board_rule.specs.declared.view.View.{View}
-use Rattle.pw_base.specs.Pools.{pools_of}
+use Rattle.pw_graph.specs.Pools.{pools_of}
 use Rattle.board_rule.specs.Layout.{BoardLayout, nodes, first}
 use Rattle.board_rule.specs.start.Owners.{owners_of}
 pub use Rattle.board_rule.specs.start.FirstEnds.{unwritten, first_write, unread, is_delayed, first_block, blocks_at_first, first_blocks}

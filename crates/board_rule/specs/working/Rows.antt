@@ -2,11 +2,11 @@
 -- Source: this project's own.
 use Rattle.std.specs.Prelude.{◌≡◌, ℕ, ◌+◌, ◌^◌, ◌<◌, ◌≤◌, List, map, take, sum_by, length, slice_index, slice_index_or}
 use Rattle.std.specs.List.{position_or_len}
-use Rattle.pw_base.specs.declared.shape.Shape.{Shape}
-use Rattle.pw_base.specs.declared.shape.ShapeLink.{ShapeLink}
-use Rattle.pw_base.specs.declared.pools.PoolShape.{PoolShape}
-use Rattle.pw_base.specs.Layout.{area_count, io_place, event_place, event_count, pool_words, readers_place}
-use Rattle.pw_base.specs.Pools.{is_same_port, pools_of}
+use Rattle.pw_graph.specs.declared.shape.Shape.{Shape}
+use Rattle.pw_graph.specs.declared.shape.ShapeLink.{ShapeLink}
+use Rattle.pw_graph.specs.declared.pools.PoolShape.{PoolShape}
+use Rattle.pw_graph.specs.Layout.{area_count, io_place, event_place, event_count, pool_words, readers_place}
+use Rattle.pw_graph.specs.Pools.{is_same_port, pools_of}
 use Rattle.board_rule.specs.declared.rows.Rows.{Rows}
 use Rattle.board_rule.specs.declared.rows.LinkRow.{LinkRow}
 use Rattle.board_rule.specs.declared.rows.PoolRow.{PoolRow}

@@ -1,7 +1,7 @@
 -- The slots of a board, and what the loops' seats begin with.
 -- Source: this project's own.
 use Rattle.std.specs.Prelude.{◌≡◌, ℕ, ◌<◌, length, map, replicate, slice_index}
-use Rattle.pw_base.specs.Pools.{pools_of}
+use Rattle.pw_graph.specs.Pools.{pools_of}
 use Rattle.board_rule.specs.declared.slots.Slots.{Slots}
 use Rattle.board_rule.specs.declared.owners.OwnerRows.{OwnerRows}
 use Rattle.board_rule.specs.declared.starts.Starts.{Starts}

@@ -2,7 +2,7 @@
 //! know.
 ghost use Rattle.board_rule.specs.OnBoard.{IsOn, layout};
 ghost use Rattle.std.specs.Prelude.{◌≡◌, ℕ, ◌-◌, ◌<◌, ◌^◌, slice_index};
-ghost use Rattle.pw_base.specs.Words.{finished_word, not_triggered_word, triggered_word};
+ghost use Rattle.pw_graph.specs.Words.{finished_word, not_triggered_word, triggered_word};
 ghost use Rattle.board_rule.specs.Layout.{nodes};
 ghost use Rattle.board_rule.specs.Steps.{taken, cycle_of, reset_of, Lowers, lowered, Triggers, triggered, Claims, claimed, IsReadyToFinish};
 ghost use Rattle.board_rule.specs.Steps.{finished, StoresPending, pending_stored, StoresStatus, status_stored};

@@ -1,10 +1,10 @@
 //! The atomic steps on tickets, events and late sets. Nodes are indexes; `C` is what the step gives
 //! its seat to know.
 ghost use Rattle.board_rule.specs.OnBoard.{IsOn, layout};
-ghost use Rattle.pw_base.specs.Limits.{dummy_node};
+ghost use Rattle.pw_graph.specs.Limits.{dummy_node};
 ghost use Rattle.std.specs.Prelude.{◌≡◌, ℕ, ◌+◌, ◌<◌, ◌≤◌};
-ghost use Rattle.pw_base.specs.Layout.{event_count};
-ghost use Rattle.pw_base.specs.EventWords.{event_node, event_word_of};
+ghost use Rattle.pw_graph.specs.Layout.{event_count};
+ghost use Rattle.pw_graph.specs.EventWords.{event_node, event_word_of};
 ghost use Rattle.board_rule.specs.Layout.{nodes, first};
 ghost use Rattle.board_rule.specs.events.EventSteps.{Draws, draws, ticket_of, event_due, StoresEvent, event_stored, Looks, looked, StoresLate};
 ghost use Rattle.board_rule.specs.events.EventSteps.{late_stored};
@@ -12,7 +12,7 @@ ghost use Rattle.board_rule.specs.events.EventSteps.{late_stored};
 use crate::board::Board;
 use crate::rule::BoardToken;
 use crate::steps::change::{Becomes, Change, Learned};
-use pw_base::{Event, event_word};
+use pw_graph::{Event, event_word};
 
 /// Draws a ticket: one `fetch_add` of the ticket word.
 pub(crate) fn draw<C: Change>(board: &Board, token: &mut BoardToken, at: usize) -> u64

@@ -2,9 +2,9 @@
 //! `C` is what the step gives its seat to know.
 ghost use Rattle.board_rule.specs.OnBoard.{IsOn, layout};
 ghost use Rattle.std.specs.Prelude.{◌≡◌, ℕ, ◌<◌, length};
-ghost use Rattle.pw_base.specs.Pools.{pools_of};
-ghost use Rattle.pw_base.specs.Words.{need_data_word};
-ghost use Rattle.pw_base.specs.Layout.{sample_place};
+ghost use Rattle.pw_graph.specs.Pools.{pools_of};
+ghost use Rattle.pw_graph.specs.Words.{need_data_word};
+ghost use Rattle.pw_graph.specs.Layout.{sample_place};
 ghost use Rattle.board_rule.specs.buffers.SampleWords.{IsTable, packed};
 ghost use Rattle.board_rule.specs.buffers.EndViews.{pool_at, pool_of};
 ghost use Rattle.board_rule.specs.buffers.ReaderSteps.{read_cycle, LoadsAsReader, loaded_as_reader, IsPublished, LoadsSample, sample_loaded, LowersReaders};
@@ -14,7 +14,7 @@ ghost use Rattle.board_rule.specs.buffers.ReaderSteps.{StoresNeed, need_stored};
 use crate::board::Board;
 use crate::rule::BoardToken;
 use crate::steps::change::{Becomes, Change, Learned};
-use pw_base::{AreaStatus, io_word};
+use pw_graph::{AreaStatus, io_word};
 
 /// Loads the area of a link as its reader.
 #[inline]

@@ -1,8 +1,8 @@
 //! The status words of a cycle.
 ghost use Rattle.std.specs.Prelude.{◌≡◌};
-ghost use Rattle.pw_base.specs.Words.{awake_word, finished_word, not_triggered_word, triggered_word};
+ghost use Rattle.pw_graph.specs.Words.{awake_word, finished_word, not_triggered_word, triggered_word};
 
-use pw_base::{ActivationStatus, status_word};
+use pw_graph::{ActivationStatus, status_word};
 
 pub(crate) fn not_triggered(cycle: u32) -> u64
     ensures { result ≡ not_triggered_word cycle }

@@ -2,9 +2,9 @@
 //! `C` is what the step gives its seat to know.
 ghost use Rattle.board_rule.specs.OnBoard.{IsOn, layout};
 ghost use Rattle.std.specs.Prelude.{◌≡◌, ℕ, ◌+◌, ◌<◌, length};
-ghost use Rattle.pw_base.specs.Pools.{pools_of};
-ghost use Rattle.pw_base.specs.Words.{io_id_in, have_data_word, need_data_word};
-ghost use Rattle.pw_base.specs.Layout.{sample_place};
+ghost use Rattle.pw_graph.specs.Pools.{pools_of};
+ghost use Rattle.pw_graph.specs.Words.{io_id_in, have_data_word, need_data_word};
+ghost use Rattle.pw_graph.specs.Layout.{sample_place};
 ghost use Rattle.board_rule.specs.buffers.EndViews.{pool_at};
 ghost use Rattle.board_rule.specs.buffers.WriterSteps.{write_cycle, LoadsAsWriter, loaded_as_writer, IsGivenBack, StoresHave, have_stored};
 ghost use Rattle.board_rule.specs.buffers.BlockSteps.{StoresSample, sample_stored, StoresReaders, readers_stored};
@@ -13,7 +13,7 @@ ghost use Rattle.board_rule.specs.buffers.ReclaimSteps.{LoadsReaders, FindsDue, 
 use crate::board::Board;
 use crate::rule::BoardToken;
 use crate::steps::change::{Becomes, Change, Learned};
-use pw_base::{AreaStatus, io_word};
+use pw_graph::{AreaStatus, io_word};
 
 /// Loads the area of a link as its writer.
 #[inline]

@@ -4,14 +4,14 @@
 use Rattle.std.specs.Prelude.{ℕ, ◌+◌, ◌*◌, ◌==◌, ◌&&◌, nat_lt, Bool, List, [], ◌++◌, Option, Some, None, map}
 use Rattle.std.specs.Prelude.{ℤ, if◌then◌else◌}
 use Rattle.std.specs.List.{list_any, range_with_len}
-use Rattle.pw_base.specs.declared.ids.PortId.{PortId}
-use Rattle.pw_base.specs.declared.kind.Kind.{Kind}
-use Rattle.pw_base.specs.declared.plan.Epoch.{Epoch}
-use Rattle.pw_base.specs.declared.plan.PlanNode.{PlanNode}
-use Rattle.pw_base.specs.Samples.{peak_of}
-use Rattle.pw_base.specs.KindFunction.{kind_output}
-use Rattle.pw_base.specs.KindPorts.{input_count, output_count}
-use Rattle.pw_base.specs.PlanSums.{is_sink}
+use Rattle.pw_graph.specs.declared.ids.PortId.{PortId}
+use Rattle.pw_graph.specs.declared.kind.Kind.{Kind}
+use Rattle.pw_graph.specs.declared.plan.Epoch.{Epoch}
+use Rattle.pw_graph.specs.declared.plan.PlanNode.{PlanNode}
+use Rattle.pw_graph.specs.Samples.{peak_of}
+use Rattle.pw_graph.specs.KindFunction.{kind_output}
+use Rattle.pw_graph.specs.KindPorts.{input_count, output_count}
+use Rattle.pw_graph.specs.PlanSums.{is_sink}
 use Rattle.wav_files.specs.declared.outcome.Kept.{Kept}
 use Rattle.wav_files.specs.declared.outcome.Peak.{Peak}
 use Rattle.cycle_model.specs.declared.received.Received.{Received}

@@ -2,7 +2,7 @@
 -- Source: PipeWire's documentation, "Graph Scheduling": a node runs after those it depends on.
 use Rattle.std.specs.Prelude.{◌≡◌, ℕ, ◌<◌, ◌==◌, Bool, true, false, List, All, take, length, slice_index}
 use Rattle.std.specs.List.{list_any}
-use Rattle.pw_base.specs.declared.plan.Epoch.{Epoch}
+use Rattle.pw_graph.specs.declared.plan.Epoch.{Epoch}
 use Rattle.cycle_model.specs.Mixing.{takes_part}
 
 -- a node is among others

@@ -6,10 +6,10 @@ use Rattle.std.specs.Prelude.{AllPairs, Contains, filter}
 use Rattle.std.specs.List.{enumerate_from}
 use Rattle.std.proofs.lemmas.List.Elements.{All-contains}
 use Rattle.std.proofs.lemmas.Option.{slice_get_within}
-use Rattle.pw_base.specs.declared.ids.PortId.{PortId}
-use Rattle.pw_base.specs.declared.shape.ShapeLink.{ShapeLink}
-use Rattle.pw_base.specs.declared.pools.PoolShape.{PoolShape}
-use Rattle.pw_base.specs.Pools.{pools_of}
+use Rattle.pw_graph.specs.declared.ids.PortId.{PortId}
+use Rattle.pw_graph.specs.declared.shape.ShapeLink.{ShapeLink}
+use Rattle.pw_graph.specs.declared.pools.PoolShape.{PoolShape}
+use Rattle.pw_graph.specs.Pools.{pools_of}
 use Rattle.board_rule.specs.Layout.{BoardLayout, nodes}
 use Rattle.board_rule.specs.buffers.EndViews.{no_link, no_pool, link_at, pool_at, writer_of, reader_of, filler_of, pool_of}
 use Rattle.board_rule.proofs.buffers.PortLemmas.{Differ, differ_at, indexes_pass, has_index, differ_indexes}

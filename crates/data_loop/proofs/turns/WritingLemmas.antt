@@ -7,8 +7,8 @@ use Rattle.std.proofs.lemmas.Option.{slice_get-get_or}
 use Rattle.std.specs.Vec.{with_item}
 use Rattle.std.proofs.lemmas.Bool.{cases_lt}
 use Rattle.std.proofs.lemmas.List.{get_or_default, get_or_past}
-use Rattle.pw_base.specs.declared.pools.PoolShape.{PoolShape}
-use Rattle.pw_base.specs.Pools.{pools_of}
+use Rattle.pw_graph.specs.declared.pools.PoolShape.{PoolShape}
+use Rattle.pw_graph.specs.Pools.{pools_of}
 use Rattle.board_rule.specs.declared.view.WriteView.{WriteView}
 use Rattle.board_rule.specs.declared.view.BlockView.{BlockView}
 use Rattle.board_rule.specs.declared.view.View.{View}

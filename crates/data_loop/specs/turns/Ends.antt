@@ -3,8 +3,8 @@
 -- port).
 use Rattle.std.specs.Prelude.{ℕ, ◌==◌, List, filter, map}
 use Rattle.std.specs.List.{enumerate_from}
-use Rattle.pw_base.specs.declared.shape.Shape.{Shape}
-use Rattle.pw_base.specs.Pools.{pools_of}
+use Rattle.pw_graph.specs.declared.shape.Shape.{Shape}
+use Rattle.pw_graph.specs.Pools.{pools_of}
 
 -- the links into a node
 abbrev pub reads_of : Shape → ℕ → List ℕ

@@ -1,7 +1,7 @@
 -- The turn of a node on the pools that it fills.
 -- Source: PipeWire's documentation, "SPA Buffers"; one pool an output port is this project's own.
 use Rattle.std.specs.Prelude.{◌≡◌, ◌≢◌, ℕ, ℤ, ◌+◌, ◌<◌, List, All, AllPairs, Contains, length}
-use Rattle.pw_base.specs.Pools.{pools_of}
+use Rattle.pw_graph.specs.Pools.{pools_of}
 use Rattle.board_rule.specs.declared.view.View.{View}
 use Rattle.board_rule.specs.Layout.{BoardLayout}
 use Rattle.board_rule.specs.buffers.SampleWords.{samples_in}

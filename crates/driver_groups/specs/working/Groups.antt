@@ -2,14 +2,14 @@
 -- Source: this project's own.
 use Rattle.std.specs.Prelude.{◌≡◌, ℕ, ◌<◌, ◌≤◌, List, [], ◌∷◌, ◌++◌, length, sum_by, Result, All, IfOk, IfErr}
 use Rattle.std.specs.List.{AllZip}
-use Rattle.pw_base.specs.declared.plan.Plan.{Plan}
+use Rattle.pw_graph.specs.declared.plan.Plan.{Plan}
 use Rattle.wav_files.specs.declared.wav.WavIn.{WavIn}
 use Rattle.graph_run.specs.declared.alone.AloneRun.{AloneRun}
 use Rattle.graph_run.specs.declared.ended.EndedRun.{EndedRun}
 use Rattle.graph_run.specs.Assignment.{loop_of}
 use Rattle.graph_run.specs.RunStages.{IsAloneRun, CanRunAlone, HasRunAlone, IsEndedRun, HasBoardsBy}
 use Rattle.graph_run.specs.Leads.{checks_of}
-use Rattle.pw_base.specs.declared.parts.Part.{Part}
+use Rattle.pw_graph.specs.declared.parts.Part.{Part}
 use Rattle.driver_groups.specs.declared.running.Crew.{Crew}
 use Rattle.driver_groups.specs.declared.running.Places.{Places}
 use Rattle.driver_groups.specs.declared.starting.Start.{Start}

@@ -3,12 +3,13 @@
 ghost use Rattle.std.specs.Prelude.{◌≡◌, ℕ, ◌<◌, ◌≤◌, ◌==◌, ◌&&◌, true, false, not, All, map, replicate, length, IfOk};
 ghost use Rattle.std.specs.Prelude.{slice_set, if◌then◌else◌};
 ghost use Rattle.std.specs.List.{list_any};
-ghost use Rattle.pw_base.specs.Dependencies.{nodes_of, joins, are_linked, waits, required_of, targets_of};
-ghost use Rattle.pw_base.specs.LinkOrder.{IsWithinNodes};
-ghost use Rattle.pw_base.specs.SoundShape.{IsCounted};
+ghost use Rattle.pw_graph.specs.Dependencies.{nodes_of, joins, are_linked, waits, required_of, targets_of};
+ghost use Rattle.pw_graph.specs.LinkOrder.{IsWithinNodes};
+ghost use Rattle.pw_graph.specs.SoundShape.{IsCounted};
 ghost use Rattle.graph_lines.specs.Searching.{is_in, numbers_in};
 
-use pw_base::{Items, Memory, NODES, Shape, ShapeLink, ShapeNode};
+use pw_graph::{NODES, Shape, ShapeLink, ShapeNode};
+use pw_lists::{Items, Memory};
 use std::alloc::Global;
 
 // Whether a node is in.

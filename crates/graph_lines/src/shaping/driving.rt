@@ -1,12 +1,12 @@
 //! The node that drives.
 ghost use Rattle.std.specs.Prelude.{◌≡◌, ◌+◌, ◌<◌, ◌≤◌, length, slice_index_or};
-ghost use Rattle.pw_base.specs.Limits.{nodes_limit};
-ghost use Rattle.pw_base.specs.declared.kind.Kind.TheVariants.{Dummy};
+ghost use Rattle.pw_graph.specs.Limits.{nodes_limit};
+ghost use Rattle.pw_graph.specs.declared.kind.Kind.TheVariants.{Dummy};
 ghost use Rattle.graph_lines.specs.Activity.{may_drive, candidacy, IsDriver};
 ghost use Rattle.graph_lines.specs.Searching.{IsBest};
 
 use crate::standing::Standing;
-use pw_base::{DUMMY, Kind};
+use pw_graph::{DUMMY, Kind};
 
 /// A node that may drive, and its priority.
 #[derive(Clone, Copy, Drop)]

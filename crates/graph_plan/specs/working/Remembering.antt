@@ -1,13 +1,13 @@
 -- What a graph remembers of the epochs so far: forms that stand, what was told last, and sinks.
 -- Source: this project's own.
 use Rattle.std.specs.Prelude.{◌≡◌, ℕ, ◌<◌, true, false, List, length, IsSome, slice_index_or}
-use Rattle.pw_base.specs.declared.ids.PortId.{PortId}
-use Rattle.pw_base.specs.declared.kind.Kind.{Kind}
-use Rattle.pw_base.specs.declared.kind.Kind.TheVariants.{Dummy, Sink}
-use Rattle.pw_base.specs.declared.plan.Epoch.{Epoch}
-use Rattle.pw_base.specs.declared.plan.Plan.{Plan}
-use Rattle.pw_base.specs.PlanForms.{kind_at, HasForm}
-use Rattle.pw_base.specs.PlanFresh.{IsEpoch, Names, KeepsForms, KeepsSinks, IsTold}
+use Rattle.pw_graph.specs.declared.ids.PortId.{PortId}
+use Rattle.pw_graph.specs.declared.kind.Kind.{Kind}
+use Rattle.pw_graph.specs.declared.kind.Kind.TheVariants.{Dummy, Sink}
+use Rattle.pw_graph.specs.declared.plan.Epoch.{Epoch}
+use Rattle.pw_graph.specs.declared.plan.Plan.{Plan}
+use Rattle.pw_graph.specs.PlanForms.{kind_at, HasForm}
+use Rattle.pw_graph.specs.PlanFresh.{IsEpoch, Names, KeepsForms, KeepsSinks, IsTold}
 use Rattle.port_model.specs.declared.port_state.Node.{Node}
 use Rattle.port_model.specs.PortState.{IsPort, AtPort}
 use Rattle.graph_lines.specs.declared.standing.Standing.{Standing}

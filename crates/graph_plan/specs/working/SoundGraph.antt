@@ -1,16 +1,16 @@
 -- Why every plan is sound: what the graph meets before and after each line of a script.
 -- Source: this project's own.
 use Rattle.std.specs.Prelude.{◌≡◌, ℕ, ◌<◌, ◌≤◌, true, List, length, Some, All, AllPairs}
-use Rattle.pw_base.specs.declared.kind.Kind.{Kind}
-use Rattle.pw_base.specs.declared.plan.Epoch.{Epoch}
-use Rattle.pw_base.specs.declared.plan.LinkLine.{LinkLine}
-use Rattle.pw_base.specs.declared.plan.Plan.{Plan}
-use Rattle.pw_base.specs.Limits.{quantum_limit}
-use Rattle.pw_base.specs.Pools.{IsPooledShape}
-use Rattle.pw_base.specs.PlanForms.{HasSoundForms}
-use Rattle.pw_base.specs.PlanFresh.{IsSoundFresh}
-use Rattle.pw_base.specs.SoundPlan.{HasSoundPlaces}
-use Rattle.pw_base.specs.SoundShape.{IsBetween}
+use Rattle.pw_graph.specs.declared.kind.Kind.{Kind}
+use Rattle.pw_graph.specs.declared.plan.Epoch.{Epoch}
+use Rattle.pw_graph.specs.declared.plan.LinkLine.{LinkLine}
+use Rattle.pw_graph.specs.declared.plan.Plan.{Plan}
+use Rattle.pw_graph.specs.Limits.{quantum_limit}
+use Rattle.pw_graph.specs.Pools.{IsPooledShape}
+use Rattle.pw_graph.specs.PlanForms.{HasSoundForms}
+use Rattle.pw_graph.specs.PlanFresh.{IsSoundFresh}
+use Rattle.pw_graph.specs.SoundPlan.{HasSoundPlaces}
+use Rattle.pw_graph.specs.SoundShape.{IsBetween}
 use Rattle.graph_script.specs.Kinds.{IsInput, IsOutput}
 use Rattle.port_model.specs.declared.port_state.Node.{Node}
 use Rattle.port_model.specs.SoundPorts.{AreSoundNodes}

@@ -1,10 +1,10 @@
 -- What the links of every graph of a script meet.
 -- Source: this project's own.
 use Rattle.std.specs.Prelude.{◌≡◌, ◌≢◌, ℕ, ◌≤◌, List, length, Some, All, AllPairs}
-use Rattle.pw_base.specs.Limits.{links_limit}
-use Rattle.pw_base.specs.declared.kind.Kind.{Kind}
-use Rattle.pw_base.specs.declared.ids.PortId.{PortId}
-use Rattle.pw_base.specs.SoundShape.{IsBetween}
+use Rattle.pw_graph.specs.Limits.{links_limit}
+use Rattle.pw_graph.specs.declared.kind.Kind.{Kind}
+use Rattle.pw_graph.specs.declared.ids.PortId.{PortId}
+use Rattle.pw_graph.specs.SoundShape.{IsBetween}
 use Rattle.format_filter.specs.declared.format.Format.{Format}
 use Rattle.graph_script.specs.Kinds.{IsInput, IsOutput}
 use Rattle.port_model.specs.declared.port_state.PortState.{PortState}

@@ -1,9 +1,9 @@
 -- The epochs so far add up to the sums of the graph.
 -- Source: this project's own.
 use Rattle.std.specs.Prelude.{◌≡◌, ℕ, ◌+◌, ◌*◌, ◌≤◌, List, [], ◌∷◌, None, All, sum_by}
-use Rattle.pw_base.specs.declared.kind.Kind.{Kind}
-use Rattle.pw_base.specs.declared.plan.Epoch.{Epoch}
-use Rattle.pw_base.specs.PlanSums.{epoch_events}
+use Rattle.pw_graph.specs.declared.kind.Kind.{Kind}
+use Rattle.pw_graph.specs.declared.plan.Epoch.{Epoch}
+use Rattle.pw_graph.specs.PlanSums.{epoch_events}
 use Rattle.graph_lines.specs.declared.limits.Sums.{Sums}
 use Rattle.graph_lines.specs.Sums.{sink_samples, block_bytes, passed}
 

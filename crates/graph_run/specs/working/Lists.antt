@@ -2,7 +2,7 @@
 -- thread adopted, and those that have done all epochs.
 -- Source: this project's own.
 use Rattle.std.specs.Prelude.{◌≡◌, ◌⊎◌, ℕ, ◌+◌, ◌-◌, ◌≤◌, List, [], ◌∷◌, ◌++◌, All, Contains, length}
-use Rattle.pw_base.specs.Listed.{Listed}
+use Rattle.pw_lists.specs.Listed.{Listed}
 use Rattle.graph_run.specs.declared.lists.Lists.{Lists}
 use Rattle.graph_run.specs.declared.shared.Shared.{Shared}
 use Rattle.graph_run.specs.declared.starting.Start.{Start}

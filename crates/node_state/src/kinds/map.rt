@@ -1,9 +1,9 @@
 //! A channel map keeps nothing between quanta.
 ghost use Rattle.std.specs.Prelude.{◌≡◌, ◌<◌, ◌*◌, ◌/◌, ◌%◌, length, take, All, IfOk};
-ghost use Rattle.pw_base.specs.Samples.{picked};
+ghost use Rattle.pw_graph.specs.Samples.{picked};
 ghost use Rattle.node_state.specs.Slices.{IsNoneOr};
 
-use pw_base::{Items, Memory};
+use pw_lists::{Items, Memory};
 use std::alloc::Global;
 
 /// The channels of the input, and which of them each channel of the output is.

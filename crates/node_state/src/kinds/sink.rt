@@ -1,7 +1,7 @@
 //! A sink keeps its whole stream, in room that was made once.
 ghost use Rattle.std.specs.Prelude.{◌≡◌, ◌+◌, ◌*◌, ◌≤◌, ◌++◌, length, [], IfOk};
 
-use pw_base::{Items, Memory};
+use pw_lists::{Items, Memory};
 use std::alloc::Global;
 use std::marker::Model;
 use std::mem;
@@ -15,7 +15,7 @@ pub(crate) struct SinkState {
 impl Model for SinkState {
     ghost use Rattle.std.specs.Prelude.{ℤ, ◌-◌, vec_len, vec_capacity};
     ghost use Rattle.std.specs.Coded.{coded_ℤ};
-    ghost use Rattle.pw_base.specs.Listed.{Listed, listed_code};
+    ghost use Rattle.pw_lists.specs.Listed.{Listed, listed_code};
 
     ghost Value = { Listed ℤ };
 

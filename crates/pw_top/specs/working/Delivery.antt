@@ -1,9 +1,9 @@
 -- Delivery: the stores of an accepted command, then its text, then the line of a status that has
 -- one. Source: this project's own.
 use Rattle.std.specs.Prelude.{◌≡◌, ◌⊎◌, ℕ, ◌<◌, List, take, Result, Ok, Err, MatchBool}
-use Rattle.pw_base.specs.Files.{Held}
-use Rattle.pw_base.specs.Output.{Given, Gave, GavePart}
-use Rattle.pw_base.specs.Causes.{Rose}
+use Rattle.pw_outside.specs.Files.{Held}
+use Rattle.pw_outside.specs.Output.{Given, Gave, GavePart}
+use Rattle.pw_outside.specs.Causes.{Rose}
 use Rattle.pw_top.specs.declared.status.Status.{Status}
 use Rattle.pw_top.specs.declared.status.Status.TheVariants as S
 use Rattle.pw_top.specs.declared.work.Store.{Store}

@@ -1,7 +1,7 @@
 -- How a part of a command ends: as an answer that is allowed, at a load of it that failed, or for
 -- lack of memory; and with which cause. Source: this project's own.
 use Rattle.std.specs.Prelude.{◌≡◌, ℕ, Bool, true, false, ◌<◌, Result, Ok, Err, All, Contains}
-use Rattle.pw_base.specs.Causes.{Rose}
+use Rattle.pw_outside.specs.Causes.{Rose}
 use Rattle.wav_files.specs.WavWriting.{IsWave}
 use Rattle.pw_top.specs.declared.status.Status.{Status}
 use Rattle.pw_top.specs.declared.status.Status.TheVariants as S

@@ -1,7 +1,7 @@
 -- What a part of a command does with the files before any store: it loads, and tells how it ends.
 -- Source: this project's own.
 use Rattle.std.specs.Prelude.{◌≡◌, ℕ, ◌≤◌, Result, IsSome}
-use Rattle.pw_base.specs.Files.{Names, Held, names_in}
+use Rattle.pw_outside.specs.Files.{Names, Held, names_in}
 use Rattle.pw_top.specs.declared.status.Status.{Status}
 use Rattle.pw_top.specs.Answer.{Expected}
 use Rattle.pw_top.specs.working.Ending.{Ends}

@@ -3,7 +3,7 @@
 #![tactic(auto, using(crate::proofs::AllowedLemmas::parts))]
 
 ghost use Rattle.std.specs.Prelude.{◌≡◌, ◌≤◌, length, IfOk};
-ghost use Rattle.pw_base.specs.SoundPlan.{IsSoundPlan};
+ghost use Rattle.pw_graph.specs.SoundPlan.{IsSoundPlan};
 ghost use Rattle.cycle_trace.specs.TraceReading.{AreNames};
 ghost use Rattle.pw_top.specs.Check.{trace_bytes_limit, finding_text, check_work, ChecksTrace, ChecksPlan};
 ghost use Rattle.pw_top.specs.working.Ending.{Ends, CommandCause, IsDeliverable};
@@ -15,7 +15,9 @@ use crate::planned::{Planned, plan_file};
 use crate::preparing::Prepare;
 use crate::status::Status;
 use crate::work::Work;
-use pw_base::{Files, Items, Memory, Plan, Text, Which, append_decimal};
+use pw_graph::{Plan, Which};
+use pw_lists::{Items, Memory, Text, append_decimal};
+use pw_outside::Files;
 use std::alloc::Global;
 use trace_check::{Finding, Verdict, check_trace};
 

@@ -10,7 +10,9 @@ use crate::preparing::Prepare;
 use crate::status::Status;
 use crate::work::Work;
 use pod_codec::{Pod, dump_text};
-use pw_base::{Files, Items, Text, Which};
+use pw_graph::Which;
+use pw_lists::{Items, Text};
+use pw_outside::Files;
 use std::alloc::Global;
 
 /// Dumps the POD of this file.

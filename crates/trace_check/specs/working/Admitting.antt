@@ -2,10 +2,10 @@
 -- may come next.
 -- Source: this project's.
 use Rattle.std.specs.Prelude.{◌≡◌, ℕ, ◌<◌, ◌↔◌, true, false, List, length, slice_index, Contains, IsTrue, IsBitSet}
-use Rattle.pw_base.specs.declared.event.Event.{Event}
-use Rattle.pw_base.specs.declared.event.Event.TheVariants.{Start, Finish, Tick}
-use Rattle.pw_base.specs.declared.shape.Shape.{Shape}
-use Rattle.pw_base.specs.Dependencies.{nodes_of, Precedes}
+use Rattle.pw_graph.specs.declared.event.Event.{Event}
+use Rattle.pw_graph.specs.declared.event.Event.TheVariants.{Start, Finish, Tick}
+use Rattle.pw_graph.specs.declared.shape.Shape.{Shape}
+use Rattle.pw_graph.specs.Dependencies.{nodes_of, Precedes}
 use Rattle.trace_check.specs.declared.order.Order.{Order}
 use Rattle.trace_check.specs.declared.so_far.SoFar.{SoFar}
 use Rattle.trace_check.specs.working.NodeSets.{IsWithin, AreApart, Gains}

@@ -1,11 +1,11 @@
 -- How far events go on as those of cycles, one cycle after the other.
 -- Source: this project's.
 use Rattle.std.specs.Prelude.{◌≡◌, ℕ, ◌+◌, ◌<◌, ◌≤◌, List, ◌++◌, length, take, All, slice_index_or}
-use Rattle.pw_base.specs.declared.event.Event.{Event}
-use Rattle.pw_base.specs.declared.event.Event.TheVariants.{End}
-use Rattle.pw_base.specs.declared.shape.Shape.{Shape}
-use Rattle.pw_base.specs.SoundShape.{IsSoundShape}
-use Rattle.pw_base.specs.History.{AreJoined}
+use Rattle.pw_graph.specs.declared.event.Event.{Event}
+use Rattle.pw_graph.specs.declared.event.Event.TheVariants.{End}
+use Rattle.pw_graph.specs.declared.shape.Shape.{Shape}
+use Rattle.pw_graph.specs.SoundShape.{IsSoundShape}
+use Rattle.pw_graph.specs.History.{AreJoined}
 use Rattle.trace_check.specs.declared.following.Front.{Front}
 use Rattle.trace_check.specs.declared.following.Front.TheVariants.{Whole, Part}
 use Rattle.trace_check.specs.working.NextEvent.{MayFollow, AreAllowed, HaveFinished}

@@ -2,10 +2,10 @@
 -- Source: PipeWire's documentation, "Graph Scheduling". That these rules give the prefixes of legal
 -- cycles is proved.
 use Rattle.std.specs.Prelude.{◌≡◌, ℕ, ◌<◌, List, length, take, Contains, IsBitSet, slice_index_or}
-use Rattle.pw_base.specs.declared.event.Event.{Event}
-use Rattle.pw_base.specs.declared.event.Event.TheVariants.{Start, Finish, Tick}
-use Rattle.pw_base.specs.declared.shape.Shape.{Shape}
-use Rattle.pw_base.specs.Dependencies.{nodes_of, Precedes}
+use Rattle.pw_graph.specs.declared.event.Event.{Event}
+use Rattle.pw_graph.specs.declared.event.Event.TheVariants.{Start, Finish, Tick}
+use Rattle.pw_graph.specs.declared.shape.Shape.{Shape}
+use Rattle.pw_graph.specs.Dependencies.{nodes_of, Precedes}
 
 -- a follower that has not finished
 abbrev pub IsUnfinished : Shape → ℕ → List Event → ℕ → Type 0

@@ -1,5 +1,5 @@
 use Rattle.std.proofs.Common.{◌∙◌, ap}
-use Rattle.pw_base.specs.EventWords.{event_in}
+use Rattle.pw_graph.specs.EventWords.{event_in}
 use Rattle.board_rule.proofs.events.ClosingLemmas.{event_read, tick_read}
 use Rattle.board_rule.proofs.closing.event_at.Goals as goal
 

@@ -1,5 +1,5 @@
 use Rattle.std.proofs.Common.{◌≡◌, ◌+◌, ◌≤◌, List, take, get_or}
-use Rattle.pw_base.specs.declared.event.Event.{Event}
+use Rattle.pw_graph.specs.declared.event.Event.{Event}
 use Rattle.board_rule.specs.events.Closing.{AreRecorded}
 use Rattle.board_rule.proofs.closing.history.Given as goal
 

@@ -1,6 +1,6 @@
 use Rattle.std.proofs.Common.{◌≡◌, ◌≤◌, ◌&&◌, take}
 use Rattle.std.specs.Prelude.{count_by}
-use Rattle.pw_base.specs.Pools.{is_same_port}
+use Rattle.pw_graph.specs.Pools.{is_same_port}
 use Rattle.board_rule.proofs.layout.delayed_readers.Given as goal
 
 abbrev pub invariant-loop-link : goal.invariant-loop-link

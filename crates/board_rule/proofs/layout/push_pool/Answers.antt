@@ -1,8 +1,8 @@
 use Rattle.std.proofs.Common.{OnOk, ◌≡◌, ◌-◌, ◌∷◌, ◌++◌, ◌∙◌, ap, sym, subst, replicate, List, ℕ}
 use Rattle.std.specs.Prelude.{count_by, ◌&&◌}
-use Rattle.pw_base.specs.declared.shape.ShapeLink.{ShapeLink}
-use Rattle.pw_base.specs.Pools.{is_same_port}
-use Rattle.pw_base.specs.Layout.{pool_words}
+use Rattle.pw_graph.specs.declared.shape.ShapeLink.{ShapeLink}
+use Rattle.pw_graph.specs.Pools.{is_same_port}
+use Rattle.pw_graph.specs.Layout.{pool_words}
 use Rattle.board_rule.proofs.LayoutLemmas.{counted_both}
 use Rattle.board_rule.proofs.layout.push_pool.Goals as goal
 

@@ -1,7 +1,7 @@
 use Rattle.std.proofs.Common.{◌≡◌, ◌++◌, take}
 use Rattle.std.specs.List.{flat_map}
-use Rattle.pw_base.specs.Layout.{pool_start}
-use Rattle.pw_base.specs.Pools.{pools_of}
+use Rattle.pw_graph.specs.Layout.{pool_start}
+use Rattle.pw_graph.specs.Pools.{pools_of}
 use Rattle.board_rule.proofs.layout.push_pools.Given as goal
 
 abbrev pub invariant-loop-pool : goal.invariant-loop-pool

@@ -1,6 +1,6 @@
 use Rattle.std.proofs.Common.{◌≡◌, take, replicate}
 use Rattle.std.specs.List.{flat_map}
-use Rattle.pw_base.specs.Pools.{pools_of}
+use Rattle.pw_graph.specs.Pools.{pools_of}
 use Rattle.board_rule.specs.Layout.{layout_of}
 use Rattle.board_rule.specs.start.Owners.{seat_with}
 use Rattle.board_rule.proofs.owners.of_blocks.Given as goal

@@ -1,6 +1,6 @@
 use Rattle.std.proofs.Common.{ℕ, ◌∙◌, ◌++◌, ◌∷◌, [], ap, sym, get_or}
 use Rattle.std.proofs.lemmas.List.{map_more}
-use Rattle.pw_base.specs.declared.shape.ShapeLink.{ShapeLink}
+use Rattle.pw_graph.specs.declared.shape.ShapeLink.{ShapeLink}
 use Rattle.board_rule.specs.Layout.{layout_of}
 use Rattle.board_rule.specs.start.Owners.{seat_with}
 use Rattle.board_rule.specs.buffers.EndViews.{no_link}

@@ -1,5 +1,5 @@
 use Rattle.std.proofs.Common.{◌≡◌, ◌≤◌, ◌*◌, take}
-use Rattle.pw_base.specs.Layout.{area_count}
+use Rattle.pw_graph.specs.Layout.{area_count}
 use Rattle.board_rule.proofs.rows.areas_of.Given as goal
 
 abbrev pub invariant-loop-link : goal.invariant-loop-link

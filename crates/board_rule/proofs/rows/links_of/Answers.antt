@@ -1,9 +1,9 @@
 use Rattle.std.proofs.Common.{arith, ◌≡◌, ◌∙◌, ℕ, ◌+◌, ◌<◌, ◌∷◌, [], List, length, sym, ap, subst, length-append}
 use Rattle.std.specs.Prelude.{slice_index_or}
 use Rattle.std.specs.List.{position_or_len}
-use Rattle.pw_base.specs.Pools.{is_same_port, pools_of}
-use Rattle.pw_base.specs.declared.shape.ShapeLink.{ShapeLink}
-use Rattle.pw_base.specs.Layout.{areas_of, io_place}
+use Rattle.pw_graph.specs.Pools.{is_same_port, pools_of}
+use Rattle.pw_graph.specs.declared.shape.ShapeLink.{ShapeLink}
+use Rattle.pw_graph.specs.Layout.{areas_of, io_place}
 use Rattle.board_rule.specs.declared.rows.LinkRow.{LinkRow}
 use Rattle.board_rule.specs.buffers.EndViews.{no_link, link_in}
 use Rattle.board_rule.specs.working.Rows.{IsLinkRow}

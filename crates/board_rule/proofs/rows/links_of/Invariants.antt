@@ -1,6 +1,6 @@
 use Rattle.std.proofs.Common.{◌≡◌, ◌<◌, ◌≤◌, ◌+◌, ◌*◌, ℕ, length}
 use Rattle.std.specs.Prelude.{slice_index_or}
-use Rattle.pw_base.specs.Layout.{node_count, io_place}
+use Rattle.pw_graph.specs.Layout.{node_count, io_place}
 use Rattle.board_rule.specs.declared.rows.LinkRow.{LinkRow}
 use Rattle.board_rule.specs.buffers.EndViews.{link_in}
 use Rattle.board_rule.specs.working.Rows.{IsLinkRow}

@@ -1,8 +1,8 @@
 use Rattle.std.proofs.Common.{◌∙◌, ap, length}
 use Rattle.std.specs.Prelude.{unwrap_or}
-use Rattle.pw_base.specs.declared.pools.PoolShape.{PoolShape}
-use Rattle.pw_base.specs.Pools.{is_same_port}
-use Rattle.pw_base.proofs.HistoryLemmas.{place_or_end}
+use Rattle.pw_graph.specs.declared.pools.PoolShape.{PoolShape}
+use Rattle.pw_graph.specs.Pools.{is_same_port}
+use Rattle.pw_graph.proofs.HistoryLemmas.{place_or_end}
 use Rattle.board_rule.proofs.rows.pool_of.Goals as goal
 
 pub returns : goal.returns

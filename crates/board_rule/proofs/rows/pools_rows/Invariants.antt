@@ -1,7 +1,7 @@
 use Rattle.std.proofs.Common.{◌≡◌, ◌<◌, ◌≤◌, ◌+◌, ℕ, length, take}
 use Rattle.std.specs.Prelude.{slice_index_or, sum_by}
-use Rattle.pw_base.specs.Layout.{event_place, event_count, pool_words}
-use Rattle.pw_base.specs.Pools.{pools_of}
+use Rattle.pw_graph.specs.Layout.{event_place, event_count, pool_words}
+use Rattle.pw_graph.specs.Pools.{pools_of}
 use Rattle.board_rule.specs.declared.rows.PoolRow.{PoolRow}
 use Rattle.board_rule.specs.buffers.EndViews.{pool_in}
 use Rattle.board_rule.specs.working.Rows.{IsPoolRow}

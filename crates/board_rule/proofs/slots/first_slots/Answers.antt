@@ -1,7 +1,7 @@
 use Rattle.std.proofs.Common.{◌≡◌, ◌<◌, ℕ, List, take, length, ap, arith}
 use Rattle.std.specs.Prelude.{sum_by, slice_index_or}
-use Rattle.pw_base.specs.Pools.{pools_of}
-use Rattle.pw_base.specs.declared.pools.PoolShape.{PoolShape}
+use Rattle.pw_graph.specs.Pools.{pools_of}
+use Rattle.pw_graph.specs.declared.pools.PoolShape.{PoolShape}
 use Rattle.board_rule.specs.declared.rows.PoolRow.{PoolRow}
 use Rattle.board_rule.specs.Layout.{layout_of}
 use Rattle.board_rule.specs.start.Owners.{owners_of, seat_with}

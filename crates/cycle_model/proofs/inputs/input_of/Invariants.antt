@@ -1,6 +1,6 @@
 use Rattle.std.proofs.Common.{◌≡◌, ◌*◌, map, filter, fold, drop}
-use Rattle.pw_base.specs.Samples.{silence, summed}
-use Rattle.pw_base.specs.Pools.{is_same_port}
+use Rattle.pw_graph.specs.Samples.{silence, summed}
+use Rattle.pw_graph.specs.Pools.{is_same_port}
 use Rattle.cycle_model.specs.Epochs.{channels_of}
 use Rattle.cycle_model.specs.working.Known.{brought_by}
 use Rattle.cycle_model.proofs.inputs.input_of.Given as goal

@@ -1,6 +1,6 @@
 use Rattle.std.proofs.Common.{subst}
-use Rattle.pw_base.specs.LinkOrder.{IsStuck}
-use Rattle.pw_base.proofs.OrderLemmas.{none_left}
+use Rattle.pw_graph.specs.LinkOrder.{IsStuck}
+use Rattle.pw_graph.proofs.OrderLemmas.{none_left}
 use Rattle.cycle_model.proofs.NodeOrderLemmas.{whole_end}
 use Rattle.cycle_model.proofs.order.order_of.Goals as goal
 

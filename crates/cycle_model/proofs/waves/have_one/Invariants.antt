@@ -1,6 +1,6 @@
 use Rattle.std.proofs.Common.{◌≡◌, ℕ, ◌<◌, ◌==◌, count_by}
-use Rattle.pw_base.specs.declared.kind.Kind.TheVariants.{Source}
-use Rattle.pw_base.specs.PlanForms.{kind_at}
+use Rattle.pw_graph.specs.declared.kind.Kind.TheVariants.{Source}
+use Rattle.pw_graph.specs.PlanForms.{kind_at}
 use Rattle.cycle_model.proofs.waves.have_one.Given as goal
 
 abbrev pub invariant-loop-n : goal.invariant-loop-n

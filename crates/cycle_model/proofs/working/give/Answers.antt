@@ -1,9 +1,9 @@
 use Rattle.std.proofs.Common.{◌≡◌, ◌+◌, ◌*◌, [], ◌∷◌, ◌++◌, map, ap, ap₂, sym, ◌∙◌, append_assoc, arith}
 use Rattle.std.specs.List.{range_with_len}
 use Rattle.std.proofs.lemmas.List.FromFn.{map-range_with_len_more}
-use Rattle.pw_base.specs.declared.ids.PortId.{PortId}
-use Rattle.pw_base.specs.KindFunction.{kind_output}
-use Rattle.pw_base.specs.KindPorts.{input_count}
+use Rattle.pw_graph.specs.declared.ids.PortId.{PortId}
+use Rattle.pw_graph.specs.KindFunction.{kind_output}
+use Rattle.pw_graph.specs.KindPorts.{input_count}
 use Rattle.cycle_model.specs.declared.received.Given.{Given}
 use Rattle.cycle_model.specs.Cycle.{last_of}
 use Rattle.cycle_model.specs.Epochs.{channels_of}

@@ -1,6 +1,6 @@
 use Rattle.std.proofs.Common.{refl}
 use Rattle.cycle_trace.specs.TraceReading.{is_space}
-use Rattle.pw_base.proofs.PieceLemmas.{first_piece}
+use Rattle.pw_lists.proofs.PieceLemmas.{first_piece}
 use Rattle.cycle_trace.proofs.event_words.one_node_said.Goals as goal
 
 pub returns-in_default-Some : goal.returns-in_default-Some

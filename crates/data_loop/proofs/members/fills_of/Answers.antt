@@ -1,7 +1,7 @@
 use Rattle.std.proofs.Common.{◌==◌, [], ◌∷◌, ◌++◌, sym, ◌∙◌, ap}
 use Rattle.std.proofs.lemmas.Bool.{eq-eqb, ne_eqb}
-use Rattle.pw_base.specs.declared.pools.PoolShape.{PoolShape}
-use Rattle.pw_base.proofs.PoolLemmas.{places_yes, places_no}
+use Rattle.pw_graph.specs.declared.pools.PoolShape.{PoolShape}
+use Rattle.pw_graph.proofs.PoolLemmas.{places_yes, places_no}
 use Rattle.data_loop.proofs.members.fills_of.Goals as goal
 use Rattle.data_loop.proofs.members.fills_of.Goals.{then-pools-q+in_ok-push, else-pools-q}
 

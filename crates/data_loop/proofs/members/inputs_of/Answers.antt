@@ -1,6 +1,6 @@
 use Rattle.std.proofs.Common.{◌==◌, [], ◌∷◌, ◌++◌, ℕ, sym, ◌∙◌, ap, get_or}
 use Rattle.std.proofs.lemmas.Bool.{eq-eqb, ne_eqb}
-use Rattle.pw_base.specs.declared.shape.ShapeLink.{ShapeLink}
+use Rattle.pw_graph.specs.declared.shape.ShapeLink.{ShapeLink}
 use Rattle.data_loop.specs.Gathering.{input_from}
 use Rattle.data_loop.proofs.PairLemmas.{picked_yes, picked_no}
 use Rattle.data_loop.proofs.members.inputs_of.Goals as goal

@@ -1,5 +1,5 @@
 use Rattle.std.proofs.Common.{◌≡◌, ◌∙◌, ◌+◌, cond, get_or, ap, arith}
-use Rattle.pw_base.specs.declared.pools.PoolShape.{PoolShape}
+use Rattle.pw_graph.specs.declared.pools.PoolShape.{PoolShape}
 use Rattle.data_loop.specs.OwnPools.{is_own}
 use Rattle.data_loop.proofs.OwnPoolsLemmas.{few_own, own_more, one_byte}
 use Rattle.data_loop.proofs.own_pools.count_own.Goals as goal

@@ -1,9 +1,9 @@
 use Rattle.std.proofs.Common.{◌≡◌, ◌≤◌, ◌∙◌, List, length, map, get_or, sym, ap, refl, subst, arith}
 use Rattle.std.specs.Prelude.{All}
 use Rattle.std.proofs.lemmas.Option.{get_or_from_slice_get}
-use Rattle.pw_base.specs.declared.plan.Epoch.{Epoch}
-use Rattle.pw_base.specs.declared.pools.PoolShape.{PoolShape}
-use Rattle.pw_base.specs.Pools.{pools_of, IsPooledShape}
+use Rattle.pw_graph.specs.declared.plan.Epoch.{Epoch}
+use Rattle.pw_graph.specs.declared.pools.PoolShape.{PoolShape}
+use Rattle.pw_graph.specs.Pools.{pools_of, IsPooledShape}
 use Rattle.io_areas.specs.FreeBlocks.{free_at_start}
 use Rattle.data_loop.specs.OwnPools.{own_pools, own_places}
 use Rattle.data_loop.specs.Members.{members_of, drivers_of}

@@ -3,12 +3,12 @@ use Rattle.std.specs.Prelude.{All, sum_by}
 use Rattle.std.specs.List.{AllZip}
 use Rattle.std.proofs.lemmas.List.{take_more, drop_more, nil_from_length}
 use Rattle.std.proofs.lemmas.List.Sums.{sum_by-cons}
-use Rattle.pw_base.specs.SoundPlan.{IsSoundPlan}
+use Rattle.pw_graph.specs.SoundPlan.{IsSoundPlan}
 use Rattle.wav_files.specs.declared.outcome.Outcome.{Outcome}
 use Rattle.board_rule.specs.declared.closed.Closed.{Closed}
 use Rattle.cycle_model.specs.WavesFit.{WavesFit}
 use Rattle.graph_run.specs.declared.ended.EndedRun.{EndedRun}
-use Rattle.pw_base.specs.declared.parts.Part.{Part}
+use Rattle.pw_graph.specs.declared.parts.Part.{Part}
 use Rattle.driver_groups.specs.GroupRun.{AreRunsOf}
 use Rattle.driver_groups.specs.working.Groups.{IsEndedPart, epochs_of}
 use Rattle.driver_groups.proofs.GroupLemmas.{zip_long, runs_more, all_taken, next_low, next_zip, none_left}

@@ -1,10 +1,10 @@
 use Rattle.std.proofs.Common.{◌≡◌, ◌∙◌, List, ◌∷◌, length, sym, ap, subst, arith}
 use Rattle.std.specs.Prelude.{All}
 use Rattle.std.proofs.lemmas.List.Elements.{All-head, All-tail}
-use Rattle.pw_base.specs.SoundPlan.{IsSoundPlan}
+use Rattle.pw_graph.specs.SoundPlan.{IsSoundPlan}
 use Rattle.cycle_model.specs.WavesFit.{WavesFit}
 use Rattle.graph_run.specs.declared.alone.AloneRun.{AloneRun}
-use Rattle.pw_base.specs.declared.parts.Part.{Part}
+use Rattle.pw_graph.specs.declared.parts.Part.{Part}
 use Rattle.driver_groups.specs.working.Groups.{IsRunOfPart, ArePrepared}
 use Rattle.driver_groups.proofs.GroupLemmas.{zip_long}
 use Rattle.driver_groups.proofs.group_run.crew_of.Goals as goal

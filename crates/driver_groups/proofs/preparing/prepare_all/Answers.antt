@@ -2,7 +2,7 @@ use Rattle.std.proofs.Common.{◌∙◌, List, ◌++◌, ◌∷◌, [], take, ge
 use Rattle.cycle_model.specs.WavesFit.{WavesFit}
 use Rattle.graph_run.specs.declared.alone.AloneRun.{AloneRun}
 use Rattle.std.proofs.lemmas.List.{take_more}
-use Rattle.pw_base.specs.declared.parts.Part.{Part}
+use Rattle.pw_graph.specs.declared.parts.Part.{Part}
 use Rattle.driver_groups.specs.working.Groups.{ArePrepared, IsRunOfPart}
 use Rattle.driver_groups.proofs.GroupLemmas.{zip_push}
 use Rattle.driver_groups.proofs.preparing.prepare_all.Goals as goal

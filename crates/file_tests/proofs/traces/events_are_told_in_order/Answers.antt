@@ -4,8 +4,8 @@ use Rattle.std.proofs.lemmas.Bool.{cases_lt}
 use Rattle.std.proofs.lemmas.Nat.{div_below}
 use Rattle.std.proofs.lemmas.List.{length-map}
 use Rattle.std.proofs.lemmas.List.Elements.{All-nil, All-same, All-from_recursion}
-use Rattle.pw_base.specs.declared.plan.PlanNode.{PlanNode}
-use Rattle.pw_base.specs.declared.event.Event.TheVariants.{Begin, Start, Finish, Tick, End}
+use Rattle.pw_graph.specs.declared.plan.PlanNode.{PlanNode}
+use Rattle.pw_graph.specs.declared.event.Event.TheVariants.{Begin, Start, Finish, Tick, End}
 use Rattle.cycle_trace.specs.Printable.{JoinsPorts, NamesNodes}
 use Rattle.file_tests.proofs.traces.events_are_told_in_order.Goals as goal
 

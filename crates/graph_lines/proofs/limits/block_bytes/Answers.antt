@@ -1,8 +1,8 @@
 use Rattle.std.proofs.Common.{ap, sym, ◌∙◌}
 use Rattle.std.specs.Prelude.{sum_by}
 use Rattle.std.proofs.lemmas.List.{take_all}
-use Rattle.pw_base.specs.PlanSums.{capped}
-use Rattle.pw_base.proofs.PlanSumsLemmas.{capped-zero, capped_sum_more}
+use Rattle.pw_graph.specs.PlanSums.{capped}
+use Rattle.pw_graph.proofs.PlanSumsLemmas.{capped-zero, capped_sum_more}
 use Rattle.graph_lines.specs.Sums.{link_bytes}
 use Rattle.graph_lines.proofs.limits.block_bytes.Goals as goal
 

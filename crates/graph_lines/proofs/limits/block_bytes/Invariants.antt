@@ -1,7 +1,7 @@
 -- The bytes of the links so far.
 use Rattle.std.proofs.Common.{◌≡◌, take}
 use Rattle.std.specs.Prelude.{sum_by}
-use Rattle.pw_base.specs.PlanSums.{capped}
+use Rattle.pw_graph.specs.PlanSums.{capped}
 use Rattle.graph_lines.specs.Sums.{link_bytes}
 use Rattle.graph_lines.proofs.limits.block_bytes.Given as goal
 

@@ -1,6 +1,6 @@
 use Rattle.std.proofs.Common.{◌≡◌, ◌+◌, ◌*◌, length, ap, ◌∙◌}
-use Rattle.pw_base.specs.PlanSums.{capped}
-use Rattle.pw_base.proofs.PlanSumsLemmas.{capped-mul, capped-add_left}
+use Rattle.pw_graph.specs.PlanSums.{capped}
+use Rattle.pw_graph.proofs.PlanSumsLemmas.{capped-mul, capped-add_left}
 use Rattle.graph_lines.proofs.limits.epoch_events.Goals as goal
 
 pub returns : goal.returns

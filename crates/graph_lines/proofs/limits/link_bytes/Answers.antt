@@ -1,7 +1,7 @@
 use Rattle.std.proofs.Common.{◌≡◌, ◌*◌, ap, ◌∙◌}
-use Rattle.pw_base.specs.Pools.{asked}
-use Rattle.pw_base.specs.PlanSums.{capped}
-use Rattle.pw_base.proofs.PlanSumsLemmas.{capped-mul}
+use Rattle.pw_graph.specs.Pools.{asked}
+use Rattle.pw_graph.specs.PlanSums.{capped}
+use Rattle.pw_graph.proofs.PlanSumsLemmas.{capped-mul}
 use Rattle.graph_lines.proofs.limits.link_bytes.Goals as goal
 
 pub returns : goal.returns

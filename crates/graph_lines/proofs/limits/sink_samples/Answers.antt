@@ -1,8 +1,8 @@
 use Rattle.std.proofs.Common.{ap, sym, ◌∙◌}
 use Rattle.std.specs.Prelude.{sum_by, filter}
 use Rattle.std.proofs.lemmas.List.{take_all}
-use Rattle.pw_base.specs.PlanSums.{capped}
-use Rattle.pw_base.proofs.PlanSumsLemmas.{capped-zero, capped_filter_yes, capped_filter_no}
+use Rattle.pw_graph.specs.PlanSums.{capped}
+use Rattle.pw_graph.proofs.PlanSumsLemmas.{capped-zero, capped_filter_yes, capped_filter_no}
 use Rattle.graph_lines.specs.Sums.{form_samples, is_sink_form}
 use Rattle.graph_lines.proofs.limits.sink_samples.Goals as goal
 use Rattle.graph_lines.proofs.limits.sink_samples.Goals.{then-is_sink_form, else-is_sink_form}

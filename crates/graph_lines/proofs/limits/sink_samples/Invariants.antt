@@ -1,7 +1,7 @@
 -- The samples of the forms so far.
 use Rattle.std.proofs.Common.{◌≡◌, take}
 use Rattle.std.specs.Prelude.{sum_by, filter}
-use Rattle.pw_base.specs.PlanSums.{capped}
+use Rattle.pw_graph.specs.PlanSums.{capped}
 use Rattle.graph_lines.specs.Sums.{form_samples, is_sink_form}
 use Rattle.graph_lines.proofs.limits.sink_samples.Given as goal
 

@@ -1,5 +1,5 @@
 use Rattle.std.proofs.Common.{◌∷◌, ◌++◌, [], List, sym, ap, ◌∙◌}
-use Rattle.pw_base.specs.declared.kind.Kind.{Kind}
+use Rattle.pw_graph.specs.declared.kind.Kind.{Kind}
 use Rattle.graph_lines.proofs.StartLemmas.{kinds_some, kinds_none}
 use Rattle.graph_lines.proofs.starting.kinds_of.Goals as goal
 use Rattle.graph_lines.proofs.starting.kinds_of.Goals.{in-Some+in_ok-push-in-Some, in-None}

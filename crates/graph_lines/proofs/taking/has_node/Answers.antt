@@ -1,6 +1,6 @@
 use Rattle.std.proofs.Common.{ap, ◌∙◌, ◌==◌}
 use Rattle.std.specs.List.{list_any}
-use Rattle.pw_base.specs.declared.shape.ShapeNode.{ShapeNode}
+use Rattle.pw_graph.specs.declared.shape.ShapeNode.{ShapeNode}
 use Rattle.graph_lines.proofs.CountingLemmas.{any_number}
 use Rattle.graph_lines.proofs.taking.has_node.Goals as goal
 

@@ -1,5 +1,5 @@
 use Rattle.std.proofs.Common.{subst, sym}
-use Rattle.pw_base.specs.Files.{names_in}
+use Rattle.pw_outside.specs.Files.{names_in}
 use Rattle.graph_pictures.specs.Answers.{IsPicture}
 use Rattle.graph_pictures.proofs.reading.picture_of.Goals as goal
 

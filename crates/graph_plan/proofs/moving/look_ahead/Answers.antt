@@ -3,7 +3,7 @@ use Rattle.std.proofs.Common.{◌≡◌, ◌∙◌, ◌+◌, List, [], ◌∷◌
 use Rattle.std.specs.Prelude.{Option}
 use Rattle.std.specs.List.{AllZip}
 use Rattle.std.proofs.lemmas.List.{take_more}
-use Rattle.pw_base.specs.declared.plan.Epoch.{Epoch}
+use Rattle.pw_graph.specs.declared.plan.Epoch.{Epoch}
 use Rattle.graph_lines.specs.Sums.{capped_sums}
 use Rattle.graph_plan.specs.declared.member.Member.{Member}
 use Rattle.graph_plan.specs.working.Ahead.{IsAhead}

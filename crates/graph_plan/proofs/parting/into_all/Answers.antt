@@ -3,7 +3,7 @@ use Rattle.std.specs.Prelude.{All}
 use Rattle.std.specs.List.{AllZip}
 use Rattle.std.proofs.lemmas.List.{append_assoc, nil_from_length}
 use Rattle.std.proofs.lemmas.List.Elements.{All-head, All-tail}
-use Rattle.pw_base.specs.declared.parts.Part.{Part}
+use Rattle.pw_graph.specs.declared.parts.Part.{Part}
 use Rattle.graph_plan.specs.declared.member.Member.{Member}
 use Rattle.graph_plan.specs.working.Members.{IsLastMember}
 use Rattle.graph_plan.specs.Parted.{IsPartOfMember}

@@ -1,6 +1,6 @@
 -- The lines are those of the script, for its kinds and names.
 use Rattle.std.proofs.Common.{◌∙◌, List, length, sym, ap, subst}
-use Rattle.pw_base.specs.declared.kind.Kind.{Kind}
+use Rattle.pw_graph.specs.declared.kind.Kind.{Kind}
 use Rattle.graph_plan.specs.Conditions.{AreLinesOf}
 use Rattle.graph_plan.proofs.ScriptLemmas.{lines_are, named_are, channels_are}
 use Rattle.graph_plan.proofs.parting.whole_parts.Goals as goal

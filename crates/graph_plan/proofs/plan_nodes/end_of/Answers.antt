@@ -1,6 +1,6 @@
 -- A sink or meter has an input.
 use Rattle.std.proofs.Common.{◌≡◌, true, get_or}
-use Rattle.pw_base.specs.declared.kind.Kind.TheVariants.{Dummy}
+use Rattle.pw_graph.specs.declared.kind.Kind.TheVariants.{Dummy}
 use Rattle.graph_lines.specs.Activity.{may_drive}
 use Rattle.graph_plan.proofs.EndLemmas.{end_port}
 use Rattle.graph_plan.proofs.plan_nodes.end_of.Goals as goal

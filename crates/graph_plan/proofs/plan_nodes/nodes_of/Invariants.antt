@@ -1,6 +1,6 @@
 use Rattle.std.proofs.Common.{◌≡◌, ℕ, length}
 use Rattle.std.specs.Prelude.{slice_get, Some}
-use Rattle.pw_base.specs.declared.plan.PlanNode.{PlanNode}
+use Rattle.pw_graph.specs.declared.plan.PlanNode.{PlanNode}
 use Rattle.graph_plan.specs.PlanOf.{IsNodeOf}
 use Rattle.graph_plan.proofs.plan_nodes.nodes_of.Given as goal
 

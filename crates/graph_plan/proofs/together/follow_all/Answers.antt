@@ -1,6 +1,6 @@
 -- A line may be done, and one line more is followed.
 use Rattle.std.proofs.Common.{List, [], ◌∷◌, sym, subst, ◌∙◌}
-use Rattle.pw_base.specs.declared.kind.Kind.{Kind}
+use Rattle.pw_graph.specs.declared.kind.Kind.{Kind}
 use Rattle.graph_lines.specs.declared.graph.Stepped.{Stepped}
 use Rattle.graph_plan.specs.Conditions.{AreLinesOf}
 use Rattle.graph_plan.specs.working.MovingTogether.{StepsTogether}

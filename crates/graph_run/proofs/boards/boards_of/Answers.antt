@@ -1,7 +1,7 @@
 use Rattle.std.proofs.Common.{◌≡◌, ◌≤◌, ◌∙◌, ◌+◌, List, [], ◌∷◌, ◌++◌, length, map, sym, ap, subst, arith, length-append}
 use Rattle.std.specs.Prelude.{All}
 use Rattle.std.specs.List.{enumerate_from}
-use Rattle.pw_base.specs.Listed.{Listed}
+use Rattle.pw_lists.specs.Listed.{Listed}
 use Rattle.board_rule.specs.declared.board.Board.{Board}
 use Rattle.board_rule.specs.Known.{Known}
 use Rattle.std.proofs.lemmas.List.{take_all}

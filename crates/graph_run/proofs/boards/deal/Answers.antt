@@ -1,7 +1,7 @@
 use Rattle.std.proofs.Common.{◌≡◌, ◌<◌, ◌+◌, ◌-◌, ◌∙◌, List, [], ◌∷◌, ◌++◌, ℕ, length, map, get_or, set, take, drop, sym, ap, subst, arith, length-append}
 use Rattle.std.specs.Prelude.{zip}
 use Rattle.std.proofs.lemmas.List.{append_assoc}
-use Rattle.pw_base.specs.Listed.{Listed}
+use Rattle.pw_lists.specs.Listed.{Listed}
 use Rattle.board_rule.specs.Known.{Known}
 use Rattle.graph_run.specs.Boards.{dealt}
 use Rattle.graph_run.proofs.DealLemmas.{partly, next_is, length_partly, one_more}

@@ -1,6 +1,6 @@
 use Rattle.std.proofs.Common.{◌≤◌, length}
 use Rattle.std.specs.Prelude.{sum_by}
-use Rattle.pw_base.specs.Layout.{event_count}
+use Rattle.pw_graph.specs.Layout.{event_count}
 use Rattle.graph_run.proofs.ClosingLemmas.{Between}
 use Rattle.graph_run.proofs.closing.close_all.Given as goal
 

@@ -1,6 +1,6 @@
 use Rattle.std.proofs.Common.{◌≡◌, take}
 use Rattle.std.specs.Prelude.{sum_by}
-use Rattle.pw_base.specs.PlanSums.{epoch_events}
+use Rattle.pw_graph.specs.PlanSums.{epoch_events}
 use Rattle.graph_run.proofs.rooms.all_events.Given as goal
 
 abbrev pub invariant-loop-epoch : goal.invariant-loop-epoch

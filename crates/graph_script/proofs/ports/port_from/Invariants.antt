@@ -1,5 +1,5 @@
 use Rattle.std.proofs.Common.{◌≡◌, ℕ, ◌<◌, ◌≤◌, false, bytes_eq}
-use Rattle.pw_base.specs.KindPorts.{port_name}
+use Rattle.pw_graph.specs.KindPorts.{port_name}
 use Rattle.graph_script.proofs.ports.port_from.Given as goal
 
 abbrev pub invariant-loop-port : goal.invariant-loop-port

@@ -1,4 +1,4 @@
-use Rattle.pw_base.specs.declared.parts.Part.{Part}
+use Rattle.pw_graph.specs.declared.parts.Part.{Part}
 use Rattle.group_tests.proofs.GroupLemmas.{sound_more, fit_more}
 use Rattle.group_tests.proofs.group.parts_of.Goals as goal
 

@@ -1,8 +1,8 @@
 -- The node of a source keeps the nodes sound.
 use Rattle.std.proofs.Common.{subst, sym, arith}
 use Rattle.std.specs.Prelude.{Some}
-use Rattle.pw_base.specs.declared.kind.Kind.TheVariants as K
-use Rattle.pw_base.specs.KindRanges.{IsRate, IsChannels}
+use Rattle.pw_graph.specs.declared.kind.Kind.TheVariants as K
+use Rattle.pw_graph.specs.KindRanges.{IsRate, IsChannels}
 use Rattle.host_example.specs.Nodes.{AreAfter}
 use Rattle.host_example.specs.Voices.{mono}
 use Rattle.host_example.proofs.NodesLemmas.{source_sound}

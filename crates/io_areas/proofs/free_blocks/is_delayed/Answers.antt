@@ -1,8 +1,8 @@
 use Rattle.std.proofs.Common.{◌&&◌, ◌∙◌, List, sym, ap}
 use Rattle.std.specs.List.{list_any}
-use Rattle.pw_base.specs.declared.ids.PortId.{PortId}
-use Rattle.pw_base.specs.declared.shape.ShapeLink.{ShapeLink}
-use Rattle.pw_base.specs.Pools.{is_same_port}
+use Rattle.pw_graph.specs.declared.ids.PortId.{PortId}
+use Rattle.pw_graph.specs.declared.shape.ShapeLink.{ShapeLink}
+use Rattle.pw_graph.specs.Pools.{is_same_port}
 use Rattle.io_areas.proofs.StartLemmas.{any_filter}
 use Rattle.io_areas.proofs.free_blocks.is_delayed.Goals as goal
 

@@ -1,5 +1,5 @@
 use Rattle.std.proofs.Common.{ℕ, ◌+◌, ◌/◌, ◌<◌, length, ap, ◌∙◌, subst}
-use Rattle.pw_base.specs.Pools.{pools_of}
+use Rattle.pw_graph.specs.Pools.{pools_of}
 use Rattle.board_rule.specs.Layout.{layout_of}
 use Rattle.board_rule.specs.buffers.EndViews.{pool_at}
 use Rattle.io_areas.specs.Quanta.{quantum_of}

@@ -1,6 +1,6 @@
 -- An offer changes no kinds.
 use Rattle.std.proofs.Common.{◌≡◌, ◌<◌, List, [], ◌∷◌, ◌++◌, sym, ap, ◌∙◌, subst, arith}
-use Rattle.pw_base.specs.declared.ids.PortId.{PortId}
+use Rattle.pw_graph.specs.declared.ids.PortId.{PortId}
 use Rattle.port_model.specs.declared.port_state.Node.{Node}
 use Rattle.port_model.specs.Offers.{new_node}
 use Rattle.port_model.specs.PortState.{port_count_of}

@@ -1,7 +1,7 @@
 use Rattle.std.proofs.Common.{◌≡◌, ◌∙◌, ◌≤◌, ◌<◌, List, length, get_or, sum_by, sym, ap, subst, arith}
 use Rattle.std.proofs.lemmas.Bool.{cond-true}
 use Rattle.std.proofs.lemmas.List.{take_all}
-use Rattle.pw_base.specs.declared.plan.Epoch.{Epoch}
+use Rattle.pw_graph.specs.declared.plan.Epoch.{Epoch}
 use Rattle.node_progress.specs.Standing.{works_in}
 use Rattle.node_progress.proofs.FrameLemmas.{own_cycles, worked_is, sum_within}
 use Rattle.node_progress.proofs.frames.worked_cycles.Goals as goal

@@ -1,6 +1,6 @@
 use Rattle.std.proofs.Common.{◌∙◌, sym, ap, subst}
-use Rattle.pw_base.specs.declared.plan.Plan.{Plan}
-use Rattle.pw_base.specs.SoundPlan.{IsSoundPlan}
+use Rattle.pw_graph.specs.declared.plan.Plan.{Plan}
+use Rattle.pw_graph.specs.SoundPlan.{IsSoundPlan}
 use Rattle.node_progress.specs.Restarts.{restart_of}
 use Rattle.node_progress.proofs.PrepareLemmas.{begun_none, begun_anew, first_allowed, first_room}
 use Rattle.node_progress.proofs.preparing.begin_run.Goals as goal

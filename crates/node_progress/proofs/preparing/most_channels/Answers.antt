@@ -1,7 +1,7 @@
 use Rattle.std.proofs.Common.{◌≡◌, ◌∙◌, ◌+◌, ◌==◌, ◌<◌, ◌≤◌, List, Some, length, max, get_or, slice_get, find, option_map, unwrap_or, rules, sym, ap, subst}
 use Rattle.std.proofs.lemmas.Option.{slice_get-get_or}
-use Rattle.pw_base.specs.declared.plan.Epoch.{Epoch}
-use Rattle.pw_base.specs.declared.plan.Fresh.{Fresh}
+use Rattle.pw_graph.specs.declared.plan.Epoch.{Epoch}
+use Rattle.pw_graph.specs.declared.plan.Fresh.{Fresh}
 use Rattle.cycle_model.specs.Epochs.{listed}
 use Rattle.node_progress.specs.Restarts.{restart_of}
 use Rattle.node_progress.proofs.PrepareLemmas.{IsMostBefore, none_before, most_more, most_of_all}

@@ -1,5 +1,5 @@
 use Rattle.std.proofs.Common.{ℕ, suc, sym, ◌∙◌, subst, inl, inr, ⊎_elim}
-use Rattle.pw_base.specs.KindFunction.{KindInputs}
+use Rattle.pw_graph.specs.KindFunction.{KindInputs}
 use Rattle.cycle_model.specs.Cycle.{wave_of, outputs}
 use Rattle.cycle_model.specs.KindSamples.{kind_inputs_of}
 use Rattle.cycle_model.specs.Progress.{received_until}

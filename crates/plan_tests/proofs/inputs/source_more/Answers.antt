@@ -1,7 +1,7 @@
 -- The node of a source keeps the inputs sound.
 use Rattle.std.proofs.Common.{subst, sym}
 use Rattle.std.specs.Prelude.{Some}
-use Rattle.pw_base.specs.declared.kind.Kind.TheVariants as K
+use Rattle.pw_graph.specs.declared.kind.Kind.TheVariants as K
 use Rattle.plan_tests.specs.PlanInputs.{AreInputsAfter}
 use Rattle.plan_tests.proofs.PlanInputLemmas.{source_sound}
 use Rattle.plan_tests.proofs.inputs.source_more.Goals as goal

@@ -1,7 +1,7 @@
 use Rattle.std.proofs.Common.{◌≤◌, refl, arith, subst}
 use Rattle.std.specs.Prelude.{Err, slice_range}
-use Rattle.pw_base.specs.Output.{IsPut}
-use Rattle.pw_base.specs.Causes.{HasCause}
+use Rattle.pw_outside.specs.Output.{IsPut}
+use Rattle.pw_outside.specs.Causes.{HasCause}
 use Rattle.pw_top.proofs.PieceLemmas.{gave_more, gave_part, rose_later}
 use Rattle.pw_top.proofs.delivering.put_text.Goals as goal
 

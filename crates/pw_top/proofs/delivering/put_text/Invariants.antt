@@ -1,5 +1,5 @@
 use Rattle.std.proofs.Common.{◌≤◌, ◌-◌, take, length}
-use Rattle.pw_base.specs.Output.{Gave}
+use Rattle.pw_outside.specs.Output.{Gave}
 use Rattle.pw_top.proofs.delivering.put_text.Given as goal
 
 abbrev pub invariant-loop-done : goal.invariant-loop-done

@@ -1,7 +1,7 @@
 -- One node more, or none.
 use Rattle.std.proofs.Common.{◌≡◌, ◌∙◌, ◌++◌, ◌∷◌, [], List, sym, ap}
 use Rattle.std.specs.Prelude.{Some, None, option_copied}
-use Rattle.pw_base.specs.declared.plan.PlanNode.{PlanNode}
+use Rattle.pw_graph.specs.declared.plan.PlanNode.{PlanNode}
 use Rattle.pw_top.specs.Joined.{node_in}
 use Rattle.pw_top.proofs.JoinedLemmas.{one_given, none_given}
 use Rattle.pw_top.proofs.joined.nodes_in.Goals as goal

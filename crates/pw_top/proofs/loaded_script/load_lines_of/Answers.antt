@@ -1,7 +1,7 @@
 -- The lines may be loaded, and the script is kept with what they load.
 use Rattle.std.proofs.Common.{◌≤◌, List, [], length, refl, sym, subst, arith}
 use Rattle.std.specs.Prelude.{Ok, Err}
-use Rattle.pw_base.specs.Files.{names_in}
+use Rattle.pw_outside.specs.Files.{names_in}
 use Rattle.graph_script.specs.declared.script.Line.{Line}
 use Rattle.graph_script.specs.Making.{NamesMade}
 use Rattle.graph_lines.specs.Start.{kinds_of}

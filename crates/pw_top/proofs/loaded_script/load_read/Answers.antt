@@ -1,5 +1,5 @@
 use Rattle.std.proofs.Common.{◌≡◌}
-use Rattle.pw_base.specs.Files.{names_in}
+use Rattle.pw_outside.specs.Files.{names_in}
 use Rattle.graph_script.specs.Grammar.{script_of}
 use Rattle.pw_top.specs.Allowed.{Reads}
 use Rattle.pw_top.specs.Refusals.{script_outcome}

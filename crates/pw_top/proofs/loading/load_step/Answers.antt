@@ -1,7 +1,7 @@
 use Rattle.std.proofs.Common.{◌≡◌, [], ◌∷◌, subst}
 use Rattle.std.specs.Prelude.{Ok}
-use Rattle.pw_base.specs.declared.files.Loaded.{Loaded}
-use Rattle.pw_base.specs.Files.{names_in, IsLoaded, IsWithin}
+use Rattle.pw_outside.specs.declared.files.Loaded.{Loaded}
+use Rattle.pw_outside.specs.Files.{names_in, IsLoaded, IsWithin}
 use Rattle.pw_top.specs.Answer.{load_outcome}
 use Rattle.pw_top.proofs.AllowedLemmas.{load_whole, load_absent, load_long, load_failed, part_memory}
 use Rattle.pw_top.proofs.loading.load_step.Goals as goal

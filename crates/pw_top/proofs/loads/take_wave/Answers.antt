@@ -1,7 +1,7 @@
 -- The node of a source keeps the inputs sound.
 use Rattle.std.proofs.Common.{subst, sym, arith}
 use Rattle.std.specs.Prelude.{Some}
-use Rattle.pw_base.specs.declared.kind.Kind.TheVariants as K
+use Rattle.pw_graph.specs.declared.kind.Kind.TheVariants as K
 use Rattle.pw_top.specs.PlanInputs.{AreInputsAfter}
 use Rattle.pw_top.proofs.PlanInputLemmas.{wave_sound}
 use Rattle.pw_top.proofs.loads.take_wave.Goals as goal

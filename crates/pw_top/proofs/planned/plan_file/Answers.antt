@@ -1,7 +1,7 @@
 -- What was loaded is planned.
 use Rattle.std.proofs.Common.{◌≡◌, subst, sym}
 use Rattle.std.specs.Prelude.{Result, Ok, Err, IfOk}
-use Rattle.pw_base.specs.Files.{names_in}
+use Rattle.pw_outside.specs.Files.{names_in}
 use Rattle.cycle_trace.specs.TraceReading.{AreNames}
 use Rattle.graph_script.specs.declared.script.Script.{Script}
 use Rattle.pw_top.specs.declared.planned.Planned.{Planned}

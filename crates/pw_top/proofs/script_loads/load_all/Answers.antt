@@ -1,5 +1,5 @@
 -- Out of memory before the first line.
-use Rattle.pw_base.specs.Files.{names_in}
+use Rattle.pw_outside.specs.Files.{names_in}
 use Rattle.pw_top.specs.PlanInputs.{nothing_loaded}
 use Rattle.pw_top.proofs.LoadsLemmas.{all_memory}
 use Rattle.pw_top.proofs.script_loads.load_all.Goals as goal

@@ -1,8 +1,8 @@
 -- Each line may be loaded, and one more of them is.
 use Rattle.std.proofs.Common.{ℕ, ◌+◌, List, drop, sym, subst, refl, ◌∙◌, arith}
 use Rattle.std.specs.Prelude.{Ok, Err, option_map}
-use Rattle.pw_base.specs.declared.kind.Kind.{Kind}
-use Rattle.pw_base.specs.Files.{Names, names_in}
+use Rattle.pw_graph.specs.declared.kind.Kind.{Kind}
+use Rattle.pw_outside.specs.Files.{Names, names_in}
 use Rattle.graph_script.specs.declared.script.Line.{Line}
 use Rattle.graph_script.specs.Kinds.{made_by}
 use Rattle.graph_lines.specs.Start.{kinds_of}

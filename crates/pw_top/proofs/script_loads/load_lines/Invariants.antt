@@ -1,6 +1,6 @@
 use Rattle.std.proofs.Common.{IsSome, drop}
 use Rattle.std.specs.Prelude.{Result}
-use Rattle.pw_base.specs.Files.{names_in}
+use Rattle.pw_outside.specs.Files.{names_in}
 use Rattle.graph_lines.specs.Start.{kinds_of}
 use Rattle.pw_top.specs.declared.status.Status.{Status}
 use Rattle.pw_top.specs.declared.inputs.PlanInputs.{PlanInputs}

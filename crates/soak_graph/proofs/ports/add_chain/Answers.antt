@@ -1,7 +1,7 @@
 -- Three nodes more.
 use Rattle.std.proofs.Common.{◌≡◌, ◌++◌, [], ◌∷◌, ap, ◌∙◌, append_assoc, rules, SFits, w32}
 use Rattle.std.proofs.lemmas.Int.{to_z-of_z}
-use Rattle.pw_base.specs.declared.kind.Kind.TheVariants as K
+use Rattle.pw_graph.specs.declared.kind.Kind.TheVariants as K
 use Rattle.port_model.specs.Offers.{new_node}
 use Rattle.soak_graph.proofs.ports.add_chain.Goals as goal
 

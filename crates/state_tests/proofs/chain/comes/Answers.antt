@@ -1,9 +1,9 @@
 use Rattle.std.proofs.Common.{◌≡◌, ◌∙◌, ◌*◌, ◌≤◌, ℤ, Bor, List, Option, IfSome, arith, sym, ap, subst, length, find, count_by, option_copied}
-use Rattle.pw_base.specs.declared.plan.Plan.{Plan}
-use Rattle.pw_base.specs.declared.shape.ShapeLink.{ShapeLink}
-use Rattle.pw_base.specs.KindPorts.{input_count}
-use Rattle.pw_base.specs.PlanForms.{kind_at}
-use Rattle.pw_base.specs.Pools.{is_same_port}
+use Rattle.pw_graph.specs.declared.plan.Plan.{Plan}
+use Rattle.pw_graph.specs.declared.shape.ShapeLink.{ShapeLink}
+use Rattle.pw_graph.specs.KindPorts.{input_count}
+use Rattle.pw_graph.specs.PlanForms.{kind_at}
+use Rattle.pw_graph.specs.Pools.{is_same_port}
 use Rattle.cycle_model.specs.Epochs.{channels_of}
 use Rattle.node_progress.specs.Standing.{port_at, goes_out}
 use Rattle.state_tests.proofs.CarriedLemmas.{comes_silent, comes_alone}

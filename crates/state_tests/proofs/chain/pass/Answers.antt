@@ -1,8 +1,8 @@
 use Rattle.std.proofs.Common.{◌≡◌, ◌∙◌, ◌+◌, suc, false, arith, sym, ap, subst, inl, refl, [], nat_lt}
 use Rattle.std.proofs.lemmas.Bool.{cond-false, le-ltb}
-use Rattle.pw_base.specs.declared.plan.Plan.{Plan}
-use Rattle.pw_base.specs.KindPorts.{input_count}
-use Rattle.pw_base.specs.PlanForms.{kind_at}
+use Rattle.pw_graph.specs.declared.plan.Plan.{Plan}
+use Rattle.pw_graph.specs.KindPorts.{input_count}
+use Rattle.pw_graph.specs.PlanForms.{kind_at}
 use Rattle.node_progress.specs.NodeStates.{IsNodeState, IsOutputRow}
 use Rattle.node_progress.proofs.IdleLemmas.{idle_through}
 use Rattle.state_tests.proofs.chain.pass.Goals as goal

@@ -1,7 +1,7 @@
 use Rattle.std.proofs.Common.{◌≡◌, ◌∙◌, ℕ, List, [], ◌∷◌, ◌++◌, map, ap, subst}
 use Rattle.std.specs.Prelude.{Option, option_to_list}
 use Rattle.std.specs.List.{enumerate_from}
-use Rattle.pw_base.specs.Listed.{Listed}
+use Rattle.pw_lists.specs.Listed.{Listed}
 use Rattle.board_rule.specs.Known.{Known}
 use Rattle.data_loop.specs.declared.loop_state.LoopState.{LoopState}
 use Rattle.graph_run.specs.Assignment.{cell_number, cell_count}

@@ -1,7 +1,7 @@
 use Rattle.std.proofs.Common.{List, length, map, sym, subst, ap}
-use Rattle.pw_base.specs.declared.event.Event.{Event}
-use Rattle.pw_base.specs.declared.plan.Epoch.{Epoch}
-use Rattle.pw_base.specs.History.{cycles_of}
+use Rattle.pw_graph.specs.declared.event.Event.{Event}
+use Rattle.pw_graph.specs.declared.plan.Epoch.{Epoch}
+use Rattle.pw_graph.specs.History.{cycles_of}
 use Rattle.trace_check.specs.working.Fronts.{IsFrontOf}
 use Rattle.trace_check.specs.FirstIllegal.{IsVerdictOn}
 use Rattle.trace_check.proofs.FindingLemmas.{verdict_one}

@@ -1,8 +1,8 @@
 use Rattle.std.proofs.Common.{◌+◌, ◌≤◌, [], subst, arith, append-nil, refl}
 use Rattle.std.proofs.lemmas.List.{take_all}
 use Rattle.std.proofs.lemmas.List.Elements.{All-nil}
-use Rattle.pw_base.specs.SoundShape.{IsSoundShape}
-use Rattle.pw_base.specs.History.{AreJoined, cycles_of}
+use Rattle.pw_graph.specs.SoundShape.{IsSoundShape}
+use Rattle.pw_graph.specs.History.{AreJoined, cycles_of}
 use Rattle.trace_check.specs.working.Fronts.{StopAfter, IsFrontOf, front_length}
 use Rattle.trace_check.proofs.EpochLemmas.{history_ends}
 use Rattle.trace_check.proofs.FirstIllegalLemmas.{first_illegal}

@@ -1,7 +1,7 @@
 use Rattle.std.proofs.lemmas.List.{nil_from_length}
 use Rattle.std.proofs.Common.{◌≡◌, [], ◌∷◌, ◌+◌, ap, ◌∙◌, subst, sym, take, refl}
-use Rattle.pw_base.specs.declared.event.Event.TheVariants.{Begin}
-use Rattle.pw_base.specs.History.{AreJoined}
+use Rattle.pw_graph.specs.declared.event.Event.TheVariants.{Begin}
+use Rattle.pw_graph.specs.History.{AreJoined}
 use Rattle.trace_check.specs.working.Fronts.{StopAfter}
 use Rattle.trace_check.proofs.FrontsLemmas.{stop_at_nothing, stop_at_begin, stop_inside, whole_inside}
 use Rattle.trace_check.proofs.following.follow_cycle.Goals as goal

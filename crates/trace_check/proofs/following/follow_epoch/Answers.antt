@@ -1,6 +1,6 @@
 use Rattle.std.proofs.Common.{◌+◌, [], ◌∷◌, List, take, subst, arith, refl}
-use Rattle.pw_base.specs.declared.event.Event.{Event}
-use Rattle.pw_base.specs.History.{AreJoined}
+use Rattle.pw_graph.specs.declared.event.Event.{Event}
+use Rattle.pw_graph.specs.History.{AreJoined}
 use Rattle.trace_check.specs.declared.following.Front.TheVariants.{Part}
 use Rattle.trace_check.specs.working.Fronts.{IsFrontOf}
 use Rattle.trace_check.proofs.EpochLemmas.{epoch_more, epoch_stops}

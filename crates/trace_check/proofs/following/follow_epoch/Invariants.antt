@@ -1,5 +1,5 @@
 use Rattle.std.proofs.Common.{◌≤◌, length, take}
-use Rattle.pw_base.specs.History.{epoch_cycles, AreJoined}
+use Rattle.pw_graph.specs.History.{epoch_cycles, AreJoined}
 use Rattle.trace_check.proofs.following.follow_epoch.Given as goal
 
 abbrev pub invariant-loop-k : goal.invariant-loop-k

@@ -1,8 +1,8 @@
 use Rattle.std.proofs.Common.{◌≤◌, List, length, take, map, subst, sym, arith}
 use Rattle.std.proofs.lemmas.List.{take_all}
-use Rattle.pw_base.specs.declared.event.Event.{Event}
-use Rattle.pw_base.specs.History.{AreJoined, epoch_cycles, cycles_of}
-use Rattle.pw_base.specs.SoundShape.{IsSoundShape}
+use Rattle.pw_graph.specs.declared.event.Event.{Event}
+use Rattle.pw_graph.specs.History.{AreJoined, epoch_cycles, cycles_of}
+use Rattle.pw_graph.specs.SoundShape.{IsSoundShape}
 use Rattle.trace_check.specs.declared.following.Front.{Front}
 use Rattle.trace_check.specs.working.Fronts.{IsFrontOf, front_length}
 use Rattle.trace_check.proofs.EpochLemmas.{history_more, history_stops}

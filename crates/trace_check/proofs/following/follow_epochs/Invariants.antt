@@ -1,5 +1,5 @@
 use Rattle.std.proofs.Common.{◌≤◌, length, take, map}
-use Rattle.pw_base.specs.History.{cycles_of, AreJoined}
+use Rattle.pw_graph.specs.History.{cycles_of, AreJoined}
 use Rattle.trace_check.proofs.following.follow_epochs.Given as goal
 
 abbrev pub invariant-loop-epoch : goal.invariant-loop-epoch

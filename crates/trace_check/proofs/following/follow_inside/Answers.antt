@@ -1,7 +1,7 @@
 use Rattle.std.proofs.Common.{◌≡◌, ◌+◌, [], ◌∷◌, ◌++◌, get_or, take, sym, subst, arith, refl, ◌∙◌}
 use Rattle.std.proofs.lemmas.List.{get_or_default, take_more}
-use Rattle.pw_base.specs.declared.event.Event.{Event}
-use Rattle.pw_base.specs.declared.event.Event.TheVariants.{Begin}
+use Rattle.pw_graph.specs.declared.event.Event.{Event}
+use Rattle.pw_graph.specs.declared.event.Event.TheVariants.{Begin}
 use Rattle.trace_check.specs.working.NextEvent.{MayFollow, AreAllowed}
 use Rattle.trace_check.specs.working.Admitting.{StandsFor}
 use Rattle.trace_check.proofs.NextEventLemmas.{allowed_more}

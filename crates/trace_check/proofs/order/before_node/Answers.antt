@@ -1,8 +1,8 @@
 use Rattle.std.proofs.Common.{subst, sym, All, IsTrue}
 use Rattle.std.specs.List.{list_any}
-use Rattle.pw_base.specs.Dependencies.{joins, Precedes}
-use Rattle.pw_base.specs.LinkOrder.{IsWithinNodes}
-use Rattle.pw_base.proofs.ShapeLemmas.{links_within}
+use Rattle.pw_graph.specs.Dependencies.{joins, Precedes}
+use Rattle.pw_graph.specs.LinkOrder.{IsWithinNodes}
+use Rattle.pw_graph.proofs.ShapeLemmas.{links_within}
 use Rattle.trace_check.specs.working.NodeSets.{Loses}
 use Rattle.trace_check.specs.working.Admitting.{IsSetOf}
 use Rattle.trace_check.proofs.OrderLemmas.{before_driver, before_follower}

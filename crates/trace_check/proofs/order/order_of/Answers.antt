@@ -1,7 +1,7 @@
 use Rattle.std.proofs.Common.{◌≡◌, [], ◌∷◌, ◌++◌, length, get_or, ap, sym, subst, ◌∙◌, arith, length-append}
 use Rattle.std.proofs.lemmas.Bool.{cases_lt}
 use Rattle.std.proofs.lemmas.List.{get_or_append_left, get_or_push}
-use Rattle.pw_base.specs.Dependencies.{Precedes}
+use Rattle.pw_graph.specs.Dependencies.{Precedes}
 use Rattle.std.proofs.Common.{inl, inr}
 use Rattle.trace_check.specs.working.Admitting.{IsSetOf}
 use Rattle.trace_check.proofs.order.order_of.Goals as goal

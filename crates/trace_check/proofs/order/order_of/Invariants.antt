@@ -1,5 +1,5 @@
 use Rattle.std.proofs.Common.{◌≡◌, ℕ, ◌<◌, length, get_or}
-use Rattle.pw_base.specs.Dependencies.{Precedes}
+use Rattle.pw_graph.specs.Dependencies.{Precedes}
 use Rattle.trace_check.specs.working.Admitting.{IsSetOf}
 use Rattle.trace_check.proofs.order.order_of.Given as goal
 

@@ -1,7 +1,7 @@
 use Rattle.std.proofs.Common.{IsTrue, take, get_or, false, ◌+◌, sym, subst}
 use Rattle.std.specs.List.{list_any}
-use Rattle.pw_base.specs.declared.shape.ShapeLink.{ShapeLink}
-use Rattle.pw_base.specs.Dependencies.{joins}
+use Rattle.pw_graph.specs.declared.shape.ShapeLink.{ShapeLink}
+use Rattle.pw_graph.specs.Dependencies.{joins}
 use Rattle.trace_check.specs.working.Admitting.{IsSetOf}
 use Rattle.trace_check.proofs.OrderLemmas.{link_more, link_other, delayed_joins_none, other_joins_none}
 use Rattle.trace_check.proofs.order.sources_of.Goals as goal

@@ -1,6 +1,6 @@
 use Rattle.std.proofs.Common.{take, IsTrue}
 use Rattle.std.specs.List.{list_any}
-use Rattle.pw_base.specs.Dependencies.{joins}
+use Rattle.pw_graph.specs.Dependencies.{joins}
 use Rattle.trace_check.specs.working.Admitting.{IsSetOf}
 use Rattle.trace_check.proofs.order.sources_of.Given as goal
 

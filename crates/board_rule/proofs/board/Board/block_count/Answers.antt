@@ -1,6 +1,6 @@
 use Rattle.std.proofs.Common.{ℕ, take, sym, subst, arith}
 use Rattle.std.specs.Prelude.{sum_by}
-use Rattle.pw_base.specs.Pools.{pools_of}
+use Rattle.pw_graph.specs.Pools.{pools_of}
 use Rattle.board_rule.specs.declared.rows.PoolRow.{PoolRow}
 use Rattle.board_rule.specs.buffers.EndViews.{pool_in}
 use Rattle.board_rule.specs.working.Rows.{base_of, IsPoolRow}

@@ -1,7 +1,7 @@
 use Rattle.std.proofs.Common.{◌≡◌, ◌∙◌, ◌+◌, ◌^◌, ◌<◌, ℕ, arith, length}
 use Rattle.std.specs.Prelude.{slice_index_or}
 use Rattle.std.proofs.lemmas.List.{get_or_read}
-use Rattle.pw_base.specs.Pools.{pools_of}
+use Rattle.pw_graph.specs.Pools.{pools_of}
 use Rattle.board_rule.specs.Layout.{layout_of}
 use Rattle.board_rule.specs.start.Owners.{owners_of, slot_in}
 use Rattle.board_rule.specs.buffers.Spans.{block_at}

@@ -1,8 +1,8 @@
 use Rattle.std.specs.Prelude.{count_by, filter}
-use Rattle.pw_base.specs.History.{is_tick, IsLegalHistory}
-use Rattle.pw_base.specs.Layout.{event_count}
+use Rattle.pw_graph.specs.History.{is_tick, IsLegalHistory}
+use Rattle.pw_graph.specs.Layout.{event_count}
 use Rattle.std.proofs.Common.{arith, ◌≡◌, ◌≤◌, ◌∙◌, ℕ, List, [], ◌∷◌, length, sym, ap, subst}
-use Rattle.pw_base.specs.declared.event.Event.{Event}
+use Rattle.pw_graph.specs.declared.event.Event.{Event}
 use Rattle.board_rule.specs.declared.view.View.{View}
 use Rattle.board_rule.specs.Known.{Known}
 use Rattle.board_rule.specs.Layout.{layout_of}

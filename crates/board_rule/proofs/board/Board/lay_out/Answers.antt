@@ -7,8 +7,8 @@ use Rattle.board_rule.proofs.events.SoundLemmas.{sound_layout}
 use Rattle.board_rule.proofs.LayoutLemmas.{count_is, long_enough, pending_start, status_start, late_start, event_start}
 use Rattle.board_rule.proofs.start.StartLemmas.{opens}
 use Rattle.board_rule.proofs.buffers.HolderLemmas.{placed}
-use Rattle.pw_base.proofs.LayoutLemmas.{length-start_words}
-use Rattle.pw_base.specs.Layout.{start_words, event_place, event_count}
+use Rattle.pw_graph.proofs.LayoutLemmas.{length-start_words}
+use Rattle.pw_graph.specs.Layout.{start_words, event_place, event_count}
 use Rattle.board_rule.proofs.board.Board.lay_out.Goals as goal
 
 pub of_words-requires : goal.of_words-requires

@@ -1,5 +1,5 @@
 use Rattle.std.proofs.Common.{ℕ, sym, subst, arith}
-use Rattle.pw_base.specs.Layout.{io_place}
+use Rattle.pw_graph.specs.Layout.{io_place}
 use Rattle.board_rule.specs.declared.rows.LinkRow.{LinkRow}
 use Rattle.board_rule.specs.buffers.EndViews.{link_in, pool_number}
 use Rattle.board_rule.specs.working.Rows.{IsLinkRow}

@@ -1,6 +1,6 @@
 use Rattle.std.proofs.Common.{◌≤◌, sym, subst, get_or}
 use Rattle.std.proofs.lemmas.List.{get_or-map}
-use Rattle.pw_base.specs.declared.shape.ShapeNode.{ShapeNode}
+use Rattle.pw_graph.specs.declared.shape.ShapeNode.{ShapeNode}
 use Rattle.board_rule.proofs.board.Board.number.Goals as goal
 
 pub returns-clause-most : goal.returns-clause-most

@@ -1,5 +1,5 @@
 use Rattle.std.proofs.Common.{true, ◌<◌}
-use Rattle.pw_base.specs.Layout.{event_count}
+use Rattle.pw_graph.specs.Layout.{event_count}
 use Rattle.board_rule.specs.events.EventSteps.{draws}
 use Rattle.board_rule.proofs.driver_seat.DriverSeatBoardSeat.draw_ticket.Given as goal
 

@@ -1,5 +1,5 @@
 use Rattle.std.proofs.Common.{false, ◌≡◌}
-use Rattle.pw_base.specs.Words.{io_id_in, need_data_word}
+use Rattle.pw_graph.specs.Words.{io_id_in, need_data_word}
 use Rattle.board_rule.specs.Layout.{layout_of}
 use Rattle.board_rule.specs.buffers.WriterSteps.{loaded_as_writer, IsGivenBack}
 use Rattle.board_rule.proofs.loop_seat.LoopSeat.load_io_as_writer.Given as goal

@@ -1,5 +1,5 @@
 use Rattle.std.proofs.Common.{false, ◌<◌}
-use Rattle.pw_base.specs.Layout.{event_count}
+use Rattle.pw_graph.specs.Layout.{event_count}
 use Rattle.board_rule.specs.events.EventSteps.{draws}
 use Rattle.board_rule.proofs.loop_seat.LoopSeatBoardSeat.draw_ticket.Given as goal
 

@@ -1,6 +1,6 @@
 use Rattle.std.proofs.Common.{◌≡◌, ◌∙◌, ◌+◌, ℕ, false, ap, sym, subst, arith}
 use Rattle.std.specs.Prelude.{slice_set as set}
-use Rattle.pw_base.specs.Words.{io_id_in}
+use Rattle.pw_graph.specs.Words.{io_id_in}
 use Rattle.board_rule.specs.declared.view.View.{View}
 use Rattle.board_rule.specs.Known.{Known}
 use Rattle.board_rule.specs.Layout.{layout_of}

@@ -1,7 +1,7 @@
 use Rattle.std.proofs.Common.{◌∙◌, ℕ, eqb, sym, subst}
 use prog.Atomic.{either}
 use Rattle.atomic_table.specs.Table.{Allows}
-use Rattle.pw_base.specs.Words.{awake_word, triggered_word}
+use Rattle.pw_graph.specs.Words.{awake_word, triggered_word}
 use Rattle.board_rule.specs.declared.board_shape.BoardShape.{BoardShape}
 use Rattle.board_rule.specs.Layout.{layout_of}
 use Rattle.board_rule.specs.BoardRule.{Holds}

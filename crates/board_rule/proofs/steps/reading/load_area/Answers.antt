@@ -1,5 +1,5 @@
 use Rattle.std.proofs.Common.{ℕ, sym, ap, ◌∙◌, subst}
-use Rattle.pw_base.specs.Layout.{io_place}
+use Rattle.pw_graph.specs.Layout.{io_place}
 use Rattle.board_rule.specs.buffers.Areas.{area_of}
 use Rattle.board_rule.specs.buffers.EndViews.{link_at}
 use Rattle.atomic_table.specs.Table.{Allows}

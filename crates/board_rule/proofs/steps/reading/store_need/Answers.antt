@@ -1,6 +1,6 @@
 use Rattle.std.proofs.Common.{ℕ, sym, ap, ◌∙◌, subst}
-use Rattle.pw_base.specs.Words.{io_word_of}
-use Rattle.pw_base.specs.Layout.{io_place}
+use Rattle.pw_graph.specs.Words.{io_word_of}
+use Rattle.pw_graph.specs.Layout.{io_place}
 use Rattle.board_rule.specs.buffers.Areas.{area_of}
 use Rattle.board_rule.specs.buffers.EndViews.{link_at}
 use Rattle.atomic_table.specs.Table.{Allows}

@@ -3,7 +3,7 @@ use Rattle.std.specs.Prelude.{Contains}
 use Rattle.std.proofs.lemmas.Option.{get_or_from_slice_get}
 use Rattle.std.proofs.lemmas.List.{nil_from_length}
 use Rattle.std.proofs.lemmas.List.Elements.{All-contains}
-use Rattle.pw_base.specs.declared.shape.Shape.{Shape}
+use Rattle.pw_graph.specs.declared.shape.Shape.{Shape}
 use Rattle.board_rule.specs.OnBoard.{layout, table_of}
 use Rattle.board_rule.specs.Layout.{first}
 use Rattle.node_state.specs.declared.node_state.NodeState.{NodeState}

@@ -6,7 +6,7 @@ use Rattle.board_rule.specs.declared.view.View.{View}
 use Rattle.board_rule.specs.Layout.{BoardLayout, layout_of, first, nodes}
 use Rattle.board_rule.specs.activation.SeatNodes.{IsMember}
 use Rattle.board_rule.specs.Steps.{tried}
-use Rattle.pw_base.specs.Words.{triggered_word}
+use Rattle.pw_graph.specs.Words.{triggered_word}
 use Rattle.data_loop.specs.declared.member.Member.{Member}
 use Rattle.data_loop.specs.declared.stage.Stage.{Stage}
 use Rattle.data_loop.specs.turns.Turning.{IsAtRest, HasTurned}

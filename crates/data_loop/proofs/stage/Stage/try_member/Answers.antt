@@ -1,6 +1,6 @@
 use Rattle.std.proofs.Common.{◌≡◌, ◌≢◌, false, ◌+◌, ◌∙◌, ℕ, suc, List, get_or, set, refl, ap, subst, sym, arith, rules}
 use Rattle.std.proofs.lemmas.List.{get_or_default}
-use Rattle.pw_base.specs.declared.shape.Shape.{Shape}
+use Rattle.pw_graph.specs.declared.shape.Shape.{Shape}
 use Rattle.board_rule.specs.declared.view.View.{View}
 use Rattle.board_rule.specs.OnBoard.{table_of}
 use Rattle.board_rule.specs.Layout.{layout_of, first}

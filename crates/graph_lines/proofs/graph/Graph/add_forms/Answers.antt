@@ -1,8 +1,8 @@
 use Rattle.std.proofs.Common.{◌≡◌, List, ap, sym, ◌∙◌, arith}
 use Rattle.std.specs.Prelude.{slice_index_or}
-use Rattle.pw_base.specs.declared.kind.Kind.{Kind}
-use Rattle.pw_base.specs.declared.kind.Kind.TheVariants.{Dummy}
-use Rattle.pw_base.specs.KindPorts.{port_count}
+use Rattle.pw_graph.specs.declared.kind.Kind.{Kind}
+use Rattle.pw_graph.specs.declared.kind.Kind.TheVariants.{Dummy}
+use Rattle.pw_graph.specs.KindPorts.{port_count}
 use Rattle.port_model.specs.PortState.{port_count_of}
 use Rattle.graph_lines.proofs.GatheringLemmas.{node_done}
 use Rattle.graph_lines.proofs.PortLemmas.{ports_by_kind}

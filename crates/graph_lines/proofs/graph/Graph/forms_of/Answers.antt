@@ -1,5 +1,5 @@
 use Rattle.std.proofs.Common.{◌+◌, List, refl, sym, ◌∙◌, subst, arith}
-use Rattle.pw_base.specs.declared.plan.PortForm.{PortForm}
+use Rattle.pw_graph.specs.declared.plan.PortForm.{PortForm}
 use Rattle.graph_lines.specs.Gathering.{HasFormsBefore}
 use Rattle.graph_lines.proofs.GatheringLemmas.{node_skipped, forms_end}
 use Rattle.graph_lines.proofs.PortLemmas.{as_many}

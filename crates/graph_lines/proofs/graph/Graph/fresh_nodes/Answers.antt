@@ -1,5 +1,5 @@
 use Rattle.std.proofs.Common.{◌+◌, List, sym, ◌∙◌, subst}
-use Rattle.pw_base.specs.declared.plan.Fresh.{Fresh}
+use Rattle.pw_graph.specs.declared.plan.Fresh.{Fresh}
 use Rattle.graph_lines.specs.Gathering.{HasFreshBelow}
 use Rattle.graph_lines.proofs.FreshLemmas.{fresh_more, fresh_none, not_both}
 use Rattle.graph_lines.proofs.graph.Graph.fresh_nodes.Goals as goal

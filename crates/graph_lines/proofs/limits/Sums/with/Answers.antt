@@ -1,4 +1,4 @@
-use Rattle.pw_base.specs.PlanSums.{epoch_events}
+use Rattle.pw_graph.specs.PlanSums.{epoch_events}
 use Rattle.graph_lines.specs.Sums.{sums_with, capped_sums, sink_samples, block_bytes}
 use Rattle.graph_lines.proofs.SumLemmas.{counted_sum, same_sums}
 use Rattle.graph_lines.proofs.limits.Sums.with.Goals as goal

@@ -1,6 +1,6 @@
 use Rattle.std.proofs.Common.{ap, sym, ◌∙◌, arith, ◌≡◌, ℕ, map, List, [], ◌∷◌, ◌++◌}
 use Rattle.std.proofs.lemmas.List.{map-append}
-use Rattle.pw_base.specs.declared.shape.ShapeNode.{ShapeNode}
+use Rattle.pw_graph.specs.declared.shape.ShapeNode.{ShapeNode}
 use Rattle.graph_lines.specs.Searching.{numbers_in}
 use Rattle.graph_lines.proofs.CountingLemmas.{numbers_yes, numbers_no}
 use Rattle.graph_lines.proofs.shaping.counting.bare_nodes.Goals as goal

@@ -1,7 +1,7 @@
 -- The nodes so far are counted.
 use Rattle.std.proofs.Common.{◌≡◌, map, take}
 use Rattle.std.specs.Prelude.{All}
-use Rattle.pw_base.specs.SoundShape.{IsCounted}
+use Rattle.pw_graph.specs.SoundShape.{IsCounted}
 use Rattle.graph_lines.proofs.shaping.counting.counted_nodes.Given as goal
 
 abbrev pub invariant-loop-n : goal.invariant-loop-n

@@ -2,9 +2,9 @@ use Rattle.std.proofs.Common.{ap, sym, ◌∙◌, length, subst, ◌≤◌}
 use Rattle.std.specs.List.{count_by}
 use Rattle.std.specs.Prelude.{List}
 use Rattle.std.proofs.lemmas.List.{take_all}
-use Rattle.pw_base.specs.declared.shape.ShapeNode.{ShapeNode}
-use Rattle.pw_base.specs.Dependencies.{waits}
-use Rattle.pw_base.proofs.ShapeLemmas.{length_filter_mapped}
+use Rattle.pw_graph.specs.declared.shape.ShapeNode.{ShapeNode}
+use Rattle.pw_graph.specs.Dependencies.{waits}
+use Rattle.pw_graph.proofs.ShapeLemmas.{length_filter_mapped}
 use Rattle.graph_lines.proofs.shaping.counting.required_of.Goals as goal
 
 pub returns : goal.returns

@@ -1,7 +1,7 @@
 -- Of the nodes so far those that the node waits for.
 use Rattle.std.proofs.Common.{◌≡◌, take}
 use Rattle.std.specs.List.{count_by}
-use Rattle.pw_base.specs.Dependencies.{waits}
+use Rattle.pw_graph.specs.Dependencies.{waits}
 use Rattle.graph_lines.proofs.shaping.counting.required_of.Given as goal
 
 abbrev pub invariant-loop-m : goal.invariant-loop-m

@@ -1,7 +1,7 @@
 -- The links so far say who is in.
 use Rattle.std.proofs.Common.{◌≡◌, ℕ, length, take}
 use Rattle.std.specs.List.{list_any}
-use Rattle.pw_base.specs.Dependencies.{joins}
+use Rattle.pw_graph.specs.Dependencies.{joins}
 use Rattle.graph_lines.specs.Searching.{is_in}
 use Rattle.graph_lines.proofs.shaping.counting.sources_of.Given as goal
 

@@ -1,7 +1,7 @@
 -- Of the nodes so far the followers that wait for the node.
 use Rattle.std.proofs.Common.{◌≡◌, ◌==◌, ◌&&◌, not, map, take}
 use Rattle.std.specs.Prelude.{filter}
-use Rattle.pw_base.specs.Dependencies.{waits}
+use Rattle.pw_graph.specs.Dependencies.{waits}
 use Rattle.graph_lines.proofs.shaping.counting.targets_of.Given as goal
 
 abbrev pub invariant-loop-n : goal.invariant-loop-n

@@ -1,6 +1,6 @@
 use Rattle.std.proofs.Common.{◌∙◌, List, Option, sym, ap}
-use Rattle.pw_base.specs.declared.kind.Kind.{Kind}
-use Rattle.pw_base.specs.declared.plan.Epoch.{Epoch}
+use Rattle.pw_graph.specs.declared.kind.Kind.{Kind}
+use Rattle.pw_graph.specs.declared.plan.Epoch.{Epoch}
 use Rattle.graph_lines.specs.Sums.{sums_with, capped_sums}
 use Rattle.graph_plan.specs.working.Ahead.{both_sums}
 use Rattle.graph_plan.specs.Moving.{own_sums}

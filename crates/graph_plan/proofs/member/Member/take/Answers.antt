@@ -1,6 +1,6 @@
 -- The sums of a part that passes no limit are exact.
 use Rattle.std.proofs.Common.{◌∙◌, List, ap}
-use Rattle.pw_base.specs.declared.kind.Kind.{Kind}
+use Rattle.pw_graph.specs.declared.kind.Kind.{Kind}
 use Rattle.graph_lines.specs.Sums.{sums_with, capped_sums, passed}
 use Rattle.graph_lines.proofs.SumLemmas.{capped_same}
 use Rattle.graph_plan.proofs.member.Member.take.Goals as goal

@@ -1,5 +1,5 @@
 use Rattle.std.proofs.Common.{◌≡◌, ◌∙◌, ◌+◌, ◌*◌, ◌≤◌, List, ℤ, length, sym, ap, subst, arith, ℕ}
-use Rattle.pw_base.specs.KindFunction.{kind_output}
+use Rattle.pw_graph.specs.KindFunction.{kind_output}
 use Rattle.node_state.specs.States.{kind_of, stream_of}
 use Rattle.node_state.specs.working.Steps.{given_by}
 use Rattle.node_state.specs.Streams.{Joins, followed}

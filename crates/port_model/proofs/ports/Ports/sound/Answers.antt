@@ -1,7 +1,7 @@
 -- A form is one that the kind may have.
 use Rattle.std.proofs.Common.{◌≡◌, List, Some, ap, sym, ◌∙◌}
 use Rattle.std.specs.Prelude.{slice_get}
-use Rattle.pw_base.specs.KindRanges.{MayHaveRate, MayHaveChannels}
+use Rattle.pw_graph.specs.KindRanges.{MayHaveRate, MayHaveChannels}
 use Rattle.port_model.specs.declared.port_state.Node.{Node}
 use Rattle.port_model.specs.declared.port_state.PortState.{PortState}
 use Rattle.port_model.proofs.NodeLemmas.{port_at}

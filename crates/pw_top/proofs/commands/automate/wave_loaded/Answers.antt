@@ -1,6 +1,6 @@
 -- The wave, and then what comes next.
 use Rattle.std.proofs.Common.{◌≡◌}
-use Rattle.pw_base.specs.Files.{names_in}
+use Rattle.pw_outside.specs.Files.{names_in}
 use Rattle.wav_files.specs.WavReading.{wav_of}
 use Rattle.pw_top.specs.Allowed.{Reads}
 use Rattle.pw_top.specs.Refusals.{wave_outcome}

@@ -1,6 +1,6 @@
 -- What the runs have left, in order.
 use Rattle.std.proofs.Common.{◌≡◌, ◌∙◌, [], List, ap, map}
-use Rattle.pw_base.specs.declared.parts.Part.{Part}
+use Rattle.pw_graph.specs.declared.parts.Part.{Part}
 use Rattle.wav_files.specs.declared.outcome.Kept.{Kept}
 use Rattle.wav_files.specs.declared.outcome.Outcome.{Outcome}
 use Rattle.wav_files.specs.declared.outcome.Peak.{Peak}

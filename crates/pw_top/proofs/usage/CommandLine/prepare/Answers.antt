@@ -1,7 +1,7 @@
 -- Commands other than `run` and `soak` run nothing.
 use Rattle.std.proofs.Common.{ℕ}
 use Rattle.std.specs.Prelude.{Result, Ok, Err}
-use Rattle.pw_base.specs.Files.{names_in}
+use Rattle.pw_outside.specs.Files.{names_in}
 use Rattle.pw_top.specs.declared.status.Status.{Status}
 use Rattle.pw_top.specs.declared.work.Work.{Work}
 use Rattle.pw_top.specs.working.Ending.{CommandCause, IsDeliverable}

@@ -1,6 +1,6 @@
 use Rattle.std.proofs.Common.{◌-◌, ◌≡◌, ◌≤◌, ◌<◌, ◌+◌, ◌*◌, ◌%◌, drop, ◌++◌}
-use Rattle.pw_base.specs.Samples.{of_frames}
-use Rattle.pw_base.specs.KindFunction.{square_at}
+use Rattle.pw_graph.specs.Samples.{of_frames}
+use Rattle.pw_graph.specs.KindFunction.{square_at}
 use Rattle.node_state.proofs.kinds.square.SquareWave.write.Given as goal
 
 abbrev pub invariant-loop-done : goal.invariant-loop-done

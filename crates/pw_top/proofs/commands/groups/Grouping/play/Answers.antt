@@ -1,5 +1,5 @@
 -- What is planned is run; a refusal has run nothing.
-use Rattle.pw_base.specs.Files.{names_in}
+use Rattle.pw_outside.specs.Files.{names_in}
 use Rattle.pw_top.specs.Groups.{PartsFile}
 use Rattle.pw_top.proofs.PlayingLemmas.{plays_goes, plays_stops}
 use Rattle.pw_top.proofs.commands.groups.Grouping.play.Goals as goal

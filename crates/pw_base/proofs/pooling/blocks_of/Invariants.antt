@@ -1,8 +1,0 @@
-use Rattle.std.proofs.Common.{◌≡◌, max, take}
-use Rattle.std.specs.Prelude.{fold, filter}
-use Rattle.pw_base.specs.Pools.{is_same_port, asked}
-use Rattle.pw_base.proofs.pooling.blocks_of.Given as goal
-
-abbrev pub invariant-loop-link : goal.invariant-loop-link
-invariant-loop-link l = l.top ≡ fold (λ top k. max top (asked k)) 0
-    (filter (λ k. is_same_port k.from l.port) (take l.link-index l.fn.shape.links))
