@@ -2,7 +2,8 @@
 
 use crate::rows::{EpochRow, ShapeRow, epochs_of};
 use crate::shapes::{DRIVER_ALONE, NODE_ALONE, TWO_LINKS};
-use pw_graph::{DUMMY, Event, is_legal_history};
+use graph_checks::is_legal_history;
+use pw_graph::{DUMMY, Event};
 use pw_lists::{Items, Memory};
 use std::alloc::Global;
 use std::test::Fail;

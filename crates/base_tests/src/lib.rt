@@ -1,6 +1,6 @@
-//! Tests of pw_lists, pw_outside and pw_graph over their public calls: worked shapes, histories,
-//! words and lists, pieces and names, and plans that are unsound by one reason each. They stand
-//! apart, since a crate that has tests is proved twice.
+//! Tests of pw_lists, pw_outside, pw_graph and graph_checks over their public calls: worked shapes,
+//! histories, words and lists, pieces and names, and plans that are unsound by one reason each. They
+//! are apart, since a crate that has tests is proved twice.
 #![tactic(auto)]
 
 #[cfg(test)]

@@ -3,7 +3,8 @@
 use crate::rows::{
     EpochRow, FormRow, NodeRow, ShapeRow, Sort, epoch_of, epochs_of, nodes_of, plan_of,
 };
-use pw_graph::{DUMMY, Epoch, is_sound_plan};
+use graph_checks::is_sound_plan;
+use pw_graph::{DUMMY, Epoch};
 use pw_lists::{Items, Memory};
 use std::alloc::Global;
 use std::test::Fail;

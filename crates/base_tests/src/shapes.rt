@@ -1,7 +1,8 @@
 //! Worked shapes: sound ones, unsound ones by one reason each, and pools.
 
 use crate::rows::{ShapeRow, link, shape_of};
-use pw_graph::{DUMMY, PoolShape, Shape, is_pooled_shape, is_sound_shape, pools_of};
+use graph_checks::{is_pooled_shape, is_sound_shape};
+use pw_graph::{DUMMY, PoolShape, Shape, pools_of};
 use pw_lists::Memory;
 use std::alloc::Global;
 use std::test::Fail;

@@ -6,7 +6,8 @@ ghost use Rattle.activation_words.specs.Members.{IsResting, AllRest, IsBetween, 
 
 use activation_words::{Claim, begin, check_late, claim};
 use board_rule::{Board, BoardSeat, DriverSeat, LoopSeat, index_in};
-use pw_graph::{PortId, Shape, ShapeLink, ShapeNode, is_pooled_shape};
+use graph_checks::is_pooled_shape;
+use pw_graph::{PortId, Shape, ShapeLink, ShapeNode};
 use pw_lists::{Items, Memory};
 use std::alloc::Global;
 use std::marker::Brand;

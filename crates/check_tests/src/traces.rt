@@ -1,7 +1,8 @@
 //! Traces of a plan: legal ones, and such as stop at an event or a line.
 
 use crate::meter::{names, plan};
-use pw_graph::{Event, is_sound_plan};
+use graph_checks::is_sound_plan;
+use pw_graph::Event;
 use pw_lists::{Items, Memory};
 use std::alloc::Global;
 use std::process::Abort;

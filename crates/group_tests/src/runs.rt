@@ -3,7 +3,8 @@ ghost use Rattle.group_tests.specs.Groups.{CanRunAll};
 
 use crate::group::{Group, GroupRow, group_of};
 use driver_groups::run_parts;
-use pw_graph::{Part, is_legal_history};
+use graph_checks::is_legal_history;
+use pw_graph::Part;
 use pw_outside::{Gate, Meet, Open};
 use std::alloc::Global;
 use std::sync::Wait;

@@ -2,8 +2,8 @@
 ghost use Rattle.loop_tests.specs.Work.{CanRun};
 
 use crate::work::{Work, WorkRow, work_of};
+use graph_checks::is_legal_history;
 use graph_run::run_plan;
-use pw_graph::is_legal_history;
 use pw_outside::{Every, Gate, Meet, Open};
 use std::alloc::Global;
 use std::sync::Wait;

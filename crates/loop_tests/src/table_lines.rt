@@ -3,7 +3,8 @@
 ghost use Rattle.std.specs.Prelude.{◌≡◌, ◌<◌, length};
 
 use board_rule::Board;
-use pw_graph::{NO_BLOCK, io_id_of, io_status_of, is_pooled_shape};
+use graph_checks::is_pooled_shape;
+use pw_graph::{NO_BLOCK, io_id_of, io_status_of};
 use pw_lists::{Items, Memory, Text, append_decimal};
 use std::alloc::Global;
 

@@ -4,7 +4,8 @@ ghost use Rattle.pw_graph.specs.Layout.{area_count, event_count, event_place};
 ghost use Rattle.board_rule.specs.Layout.{word_count};
 
 use board_rule::Board;
-use pw_graph::{ShapeLink, is_pooled_shape, pools_of};
+use graph_checks::is_pooled_shape;
+use pw_graph::{ShapeLink, pools_of};
 use pw_outside::Gate;
 use std::alloc::Global;
 use std::sync::atomic::{AtomicU64, Ordering};

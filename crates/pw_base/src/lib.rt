@@ -1,16 +1,16 @@
-//! The base of the engine under one name: all that pw_lists, pw_outside and pw_graph make public,
-//! for a host that wants one crate to name.
+//! The base of the engine under one name: all that pw_lists, pw_outside, pw_graph and graph_checks
+//! make public, for a host that wants one crate to name.
 #![tactic(auto)]
 
+pub use graph_checks::{is_legal_history, is_pooled_shape, is_sound_plan, is_sound_shape};
 pub use pw_graph::{
     ALL_WAV_BYTES_LIMIT, AMP_LIMIT, ActivationStatus, AreaStatus, BLOCK_BYTES_LIMIT, BUFFERS_LIMIT,
     CHANNELS_LIMIT, DELAY_LIMIT, DUMMY, EVENTS_LIMIT, Epoch, Event, Fresh, GAIN_LIMIT, Kind,
     LINKS_LIMIT, LineOutcome, LinkId, LinkLine, NO_BLOCK, NODES, NodeId, PERIOD_LIMIT,
     POD_BYTES_LIMIT, Part, Parts, Plan, PlanNode, PoolShape, PortForm, PortId, QUANTUM_LIMIT,
     RATE_LIMIT, SCRIPT_BYTES_LIMIT, SINK_SAMPLES_LIMIT, Shape, ShapeLink, ShapeNode,
-    WAV_BYTES_LIMIT, Which, cycle_of, event_of, event_word, find_free, io_id_of, io_status_of,
-    io_word, is_legal_history, is_pooled_shape, is_same_port, is_sink, is_sound_plan,
-    is_sound_shape, pools_of, status_of, status_word,
+    WAV_BYTES_LIMIT, Which, asked, cycle_of, event_of, event_word, find_free, io_id_of,
+    io_status_of, io_word, is_before, is_same_port, is_sink, pools_of, status_of, status_word,
 };
 pub use pw_lists::{Items, Memory, Room, Text, append_decimal, next_piece, place_of_name};
 pub use pw_outside::{

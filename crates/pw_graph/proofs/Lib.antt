@@ -1,6 +1,3 @@
-pub mod FormChecksLemmas
-pub mod FreshChecksLemmas
-pub mod FrontLemmas
 pub mod HistoryLemmas
 pub mod LayoutLemmas
 pub mod OrderLemmas

@@ -1,5 +1,2 @@
--- What the checkers of plans and histories go by. Source: this project's own.
-pub mod FormChecks
-pub mod FreshChecks
+-- What histories are cut by. Source: this project's own.
 pub mod HistoryFronts
-pub mod Ordered

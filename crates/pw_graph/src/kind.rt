@@ -1,5 +1,6 @@
 //! What a node does, and which ports it has.
 ghost use Rattle.std.specs.Prelude.{◌≡◌, ℕ, ◌+◌, ◌<◌, IfOk};
+ghost use Rattle.pw_graph.specs.PlanSums.{is_sink};
 
 use pw_lists::{Items, Memory};
 use std::alloc::Global;
@@ -124,4 +125,11 @@ impl Kind {
             Kind::Dummy => Kind::Dummy,
         })
     }
+}
+
+/// Whether it is a sink. Takes no memory.
+pub fn is_sink(kind: &Kind) -> bool
+    ensures { result ≡ is_sink kind.now }
+{
+    matches!(kind, Kind::Sink)
 }

@@ -1,19 +1,18 @@
 //! How the pools of a shape are found.
-ghost use Rattle.std.specs.Prelude.{◌≡◌, ℕ, ◌≤◌, max, [], filter, fold, map, IsTrue, ◌↔◌, All, AllPairs, IfOk, length};
+ghost use Rattle.std.specs.Prelude.{◌≡◌, ℕ, ◌≤◌, max, [], filter, fold, map, IfOk, length};
 ghost use Rattle.pw_graph.specs.Pools.{is_same_port, is_before, with_port, sources_of, links_from, link_ids_from, asked, blocks_of, channels_of};
 ghost use Rattle.pw_graph.specs.Limits.{links_limit};
 ghost use Rattle.pw_graph.specs.Pools.{words_of};
-ghost use Rattle.pw_graph.specs.Pools.{pool_of, pools_of, AreAlike, IsPooledShape};
+ghost use Rattle.pw_graph.specs.Pools.{pool_of, pools_of, IsPooledShape};
 
 use crate::ids::{PortId, is_same_port};
 use crate::pools::PoolShape;
 use crate::shape::{Shape, ShapeLink};
-use crate::soundness::is_sound_shape;
 use pw_lists::{Items, Memory};
 use std::alloc::Global;
 
-/// Whether a port stands before another: by node, then by port.
-pub(crate) fn is_before(p: PortId, q: PortId) -> bool
+/// Whether a port is before another: by node, then by port. Takes no memory.
+pub fn is_before(p: PortId, q: PortId) -> bool
     ensures { result ≡ is_before p q }
 {
     p.node < q.node || p.node == q.node && p.port < q.port
@@ -63,8 +62,9 @@ fn link_ids_from(alloc: Global, links: &[ShapeLink], port: PortId) -> Result<Ite
     Ok(ids)
 }
 
-/// The blocks that a link asks for.
-pub(crate) fn asked(link: &ShapeLink) -> u32
+/// The blocks that a link asks for: its buffers, and at least 2 where it is delayed. Takes no
+/// memory.
+pub fn asked(link: &ShapeLink) -> u32
     ensures { result ≡ asked link.now }
 {
     if link.delayed {
@@ -135,38 +135,4 @@ pub fn pools_of(alloc: Global, shape: &Shape) -> Result<Items<PoolShape>, Memory
         pools.push(pool_of(alloc, shape, *port)?)?;
     }
     Ok(pools)
-}
-
-// Whether two links that come from one port have the same channels.
-fn are_alike(k: &ShapeLink, l: &ShapeLink) -> bool
-    ensures { IsTrue result ↔ AreAlike k.now l.now }
-{
-    k.from != l.from || k.channels == l.channels
-}
-
-// Whether a link has the channels of each of these that comes from its port.
-fn is_like(earlier: &[ShapeLink], link: &ShapeLink) -> bool
-    ensures { IsTrue result ↔ All (λ k. AreAlike k link.now) earlier.now }
-{
-    earlier.iter().all(|k| are_alike(k, link))
-}
-
-// Whether all links from one port have the same channels.
-fn all_alike(links: &[ShapeLink]) -> bool
-    ensures { IsTrue result ↔ AllPairs AreAlike links.now }
-{
-    for i in 0..links.len() {
-        if !is_like(&links[..i], &links[i]) {
-            return false;
-        }
-    }
-    true
-}
-
-/// Whether a shape is pooled: sound, and all links from one output port have the same channels.
-/// Takes no memory.
-pub fn is_pooled_shape(shape: &Shape) -> bool
-    ensures { IsTrue result ↔ IsPooledShape shape.now }
-{
-    is_sound_shape(shape) && all_alike(shape.links.as_slice())
 }

@@ -12,9 +12,10 @@ ghost use Rattle.node_progress.specs.Standing.{comes_in, goes_out, Gives, works_
 ghost use Rattle.state_tests.specs.Chain.{IsChain, IsCycleOf};
 
 use cycle_model::waves_fit;
+use graph_checks::is_sound_plan;
 use node_progress::{NodeCycle, Score, enter_next, prepare_node, restart_in, work, works_in};
 use node_state::NodeState;
-use pw_graph::{Epoch, Plan, PortId, ShapeLink, is_same_port, is_sound_plan};
+use pw_graph::{Epoch, Plan, PortId, ShapeLink, is_same_port};
 use pw_lists::Items;
 use s16_mixer::{clamp_out, mix_into};
 use std::alloc::Global;

@@ -1,10 +1,8 @@
 //! Plans from rows of numbers, and what the reference program renders of them.
 
 use cycle_model::{render, waves_fit};
-use pw_graph::{
-    Epoch, Fresh, Kind, Plan, PlanNode, PortForm, PortId, Shape, ShapeLink, ShapeNode,
-    is_sound_plan,
-};
+use graph_checks::is_sound_plan;
+use pw_graph::{Epoch, Fresh, Kind, Plan, PlanNode, PortForm, PortId, Shape, ShapeLink, ShapeNode};
 use pw_lists::{Items, Memory};
 use std::alloc::Global;
 use wav_files::{Outcome, Wav, WavIn};

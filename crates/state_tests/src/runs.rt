@@ -3,8 +3,9 @@
 
 use crate::chain::keeps;
 use crate::rows::{EpochRow, PlanRow, Sort, plan_of, waves_of};
+use graph_checks::is_sound_plan;
 use node_progress::{restart_in, worked_cycles};
-use pw_graph::{Plan, is_sound_plan};
+use pw_graph::Plan;
 use std::alloc::Global;
 use std::test::Fail;
 

@@ -1,0 +1,3 @@
+pub mod FormChecksLemmas
+pub mod FreshChecksLemmas
+pub mod FrontLemmas

@@ -1,7 +1,0 @@
-use Rattle.std.proofs.Common.{take}
-use Rattle.std.specs.Prelude.{All}
-use Rattle.pw_graph.specs.working.FormChecks.{IsWhole}
-use Rattle.pw_graph.proofs.plan_forms.are_whole.Given as goal
-
-abbrev pub invariant-loop-n : goal.invariant-loop-n
-invariant-loop-n l = All (IsWhole l.plan l.epoch) (take l.n-index l.nodes)

@@ -1,6 +1,0 @@
-use Rattle.std.proofs.Common.{ℕ, ◌<◌}
-use Rattle.pw_graph.specs.working.FormChecks.{HasSomeForm}
-use Rattle.pw_graph.proofs.plan_forms.has_all_forms.Given as goal
-
-abbrev pub invariant-loop-port : goal.invariant-loop-port
-invariant-loop-port l = (k : ℕ) → k < l.port → HasSomeForm l.epoch (record { node = l.node; port = k })

@@ -1,6 +1,0 @@
-use Rattle.std.proofs.Common.{ℕ, ◌<◌}
-use Rattle.pw_graph.specs.working.FreshChecks.{IsNamed}
-use Rattle.pw_graph.proofs.plan_kept.is_kept_from.Given as goal
-
-abbrev pub invariant-loop-j : goal.invariant-loop-j
-invariant-loop-j l = (k : ℕ) → l.fn.i < k → k < l.j → ¬ IsNamed l.plan k l.node

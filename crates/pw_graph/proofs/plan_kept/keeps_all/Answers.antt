@@ -1,5 +1,0 @@
-use Rattle.std.proofs.Common.{refl, below_more}
-use Rattle.pw_graph.proofs.plan_kept.keeps_all.Goals as goal
-
-pub loop-i-preserved : goal.loop-i-preserved
-loop-i-preserved c = below_more _ _ c.loop-i.invariant (c.if-not-keeps_epoch.ensures.0 refl)

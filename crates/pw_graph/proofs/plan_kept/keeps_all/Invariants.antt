@@ -1,6 +1,0 @@
-use Rattle.std.proofs.Common.{ℕ, ◌<◌}
-use Rattle.pw_graph.specs.working.FreshChecks.{KeepsEpoch}
-use Rattle.pw_graph.proofs.plan_kept.keeps_all.Given as goal
-
-abbrev pub invariant-loop-i : goal.invariant-loop-i
-invariant-loop-i l = (k : ℕ) → k < l.i → KeepsEpoch l.plan k

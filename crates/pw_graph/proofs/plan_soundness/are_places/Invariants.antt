@@ -1,7 +1,0 @@
-use Rattle.std.proofs.Common.{take}
-use Rattle.std.specs.Prelude.{All}
-use Rattle.pw_graph.specs.working.FormChecks.{IsPlace}
-use Rattle.pw_graph.proofs.plan_soundness.are_places.Given as goal
-
-abbrev pub invariant-loop-n : goal.invariant-loop-n
-invariant-loop-n l = All (IsPlace l.plan) (take l.n-index l.nodes)

@@ -1,7 +1,0 @@
-use Rattle.std.proofs.Common.{◌≡◌, take}
-use Rattle.std.specs.Prelude.{sum_by}
-use Rattle.pw_graph.specs.PlanSums.{epoch_samples, capped}
-use Rattle.pw_graph.proofs.plan_sums.total_samples.Given as goal
-
-abbrev pub invariant-loop-epoch : goal.invariant-loop-epoch
-invariant-loop-epoch l = l.total ≡ capped (sum_by (epoch_samples l.plan) (take l.epoch-index l.epochs))
