@@ -10,8 +10,8 @@ use Rattle.graph_lines.specs.declared.graph.Graph.{Graph}
 use Rattle.graph_lines.specs.Activity.{may_drive}
 use Rattle.graph_lines.specs.Forms.{HasKinds, IsFormIn}
 use Rattle.graph_plan.specs.PlanOf.{IsEndOf}
-use Rattle.graph_plan.proofs.ActiveLemmas.{end_drives}
-use Rattle.graph_plan.proofs.FormLemmas.{port_count_is}
+use Rattle.graph_plan.proofs.sound.ActiveLemmas.{end_drives}
+use Rattle.graph_plan.proofs.sound.FormLemmas.{port_count_is}
 
 has_port : (kind : Kind) → may_drive kind ≡ true → 0 < port_count kind
 has_port Sink e = omega arith

@@ -20,7 +20,7 @@ use Rattle.graph_lines.specs.EpochLines.{Steps}
 use Rattle.graph_lines.specs.Ready.{IsReady}
 use Rattle.graph_plan.specs.Conditions.{AreLinesOf}
 use Rattle.graph_plan.specs.Following.{Follows}
-use Rattle.graph_plan.proofs.FormLemmas.{port_count_is, input_count_is}
+use Rattle.graph_plan.proofs.sound.FormLemmas.{port_count_is, input_count_is}
 
 module _ (waves : List WavIn) (g : Graph) (lines : List Line) (i : ℕ) (line : Line) (lt : i < length lines) (is : line ≡ get_or lines i line) where
   -- the lines that are left, with the next in front

@@ -18,7 +18,7 @@ use Rattle.port_model.specs.Forms.{value_at}
 use Rattle.port_model.specs.Offers.{int_of, new_port, new_node, HasFileNumbers}
 use Rattle.port_model.specs.PortState.{kind_of, AtPort}
 use Rattle.graph_plan.specs.Conditions.{IsWaveFor, HaveWaves}
-use Rattle.graph_plan.proofs.PlaceLemmas.{left, at_end, parted}
+use Rattle.graph_plan.proofs.lists.PlaceLemmas.{left, at_end, parted}
 
 -- counts of a list with one thing more, and of none
 count_push : {X : Type 0} (p : X → Bool) (xs : List X) (x : X) → count_by p (xs ++ x ∷ []) ≡ count_by p xs + cond (p x) 1 0

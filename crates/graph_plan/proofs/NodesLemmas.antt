@@ -5,7 +5,7 @@ use Rattle.std.proofs.lemmas.List.{length_push}
 use Rattle.pw_graph.specs.declared.plan.PlanNode.{PlanNode}
 use Rattle.graph_lines.specs.declared.graph.Graph.{Graph}
 use Rattle.graph_plan.specs.PlanOf.{IsNodeOf}
-use Rattle.graph_plan.proofs.PlaceLemmas.{parted}
+use Rattle.graph_plan.proofs.lists.PlaceLemmas.{parted}
 
 pub nodes_more : (names : List (List ℕ)) (g : Graph) (nodes more : List PlanNode) (node : PlanNode) (i : ℕ) → length nodes ≡ i
     → ((n : ℕ) (x : PlanNode) → slice_get nodes n ≡ Some x → IsNodeOf names g n x) → IsNodeOf names g i node → more ≡ nodes ++ node ∷ []

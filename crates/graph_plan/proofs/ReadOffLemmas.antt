@@ -33,9 +33,9 @@ use Rattle.link_negotiation.specs.declared.unlinking.Unlinked.TheVariants as U
 use Rattle.graph_plan.specs.Following.{Follows}
 use Rattle.graph_plan.specs.working.ReadOff.{ran_in, was_formed_sink, told_by, told_in, IsReadOff}
 use Rattle.graph_plan.specs.working.SoundGraph.{IsSoundGraph}
-use Rattle.graph_plan.proofs.SoundGraphLemmas.{one_channels}
-use Rattle.graph_plan.proofs.StartLemmas.{first_is}
-use Rattle.graph_plan.proofs.StepLemmas.{IsGoodLine, AreGoodLines, good_first, good_rest, step_sound, step_kinds, follows_end, no_stop}
+use Rattle.graph_plan.proofs.sound.SoundGraphLemmas.{one_channels}
+use Rattle.graph_plan.proofs.sound.StartLemmas.{first_is}
+use Rattle.graph_plan.proofs.sound.StepLemmas.{IsGoodLine, AreGoodLines, good_first, good_rest, step_sound, step_kinds, follows_end, no_stop}
 
 -- what a line that makes no epoch leaves of what is said of a node
 record IsAlike (s t : Standing) : Type 0 where

@@ -33,11 +33,11 @@ use Rattle.graph_plan.specs.PlanOf.{IsPlanOf}
 use Rattle.graph_plan.specs.Planned.{IsAnswer, IsPlanned}
 use Rattle.graph_plan.specs.working.SoundGraph.{IsSoundGraph}
 use Rattle.graph_plan.proofs.FitLemmas.{follows_fit}
-use Rattle.graph_plan.proofs.FormLemmas.{kind_at_is}
+use Rattle.graph_plan.proofs.sound.FormLemmas.{kind_at_is}
 use Rattle.graph_plan.proofs.OwnLemmas.{owns, wave_channels}
 use Rattle.graph_plan.proofs.SoundPlanLemmas.{like, plan_sound, plan_joins}
-use Rattle.graph_plan.proofs.StartLemmas.{quantum_ok, first_sound}
-use Rattle.graph_plan.proofs.StepLemmas.{AreGoodLines, EndsSound, follows_sound}
+use Rattle.graph_plan.proofs.sound.StartLemmas.{quantum_ok, first_sound}
+use Rattle.graph_plan.proofs.sound.StepLemmas.{AreGoodLines, EndsSound, follows_sound}
 
 -- a list without its numbers
 numbered : (k : ℕ) (kinds : List Kind) → map (λ (m : ℕ × Kind). m.1) (enumerate_from k kinds) ≡ kinds

@@ -33,9 +33,9 @@ use Rattle.graph_plan.specs.PlanOf.{IsEndOf, IsNodeOf, IsPlanOf}
 use Rattle.graph_plan.specs.working.Remembering.{IsLike}
 use Rattle.graph_plan.specs.working.SoundGraph.{IsSoundPart, IsJoining, IsSoundGraph}
 use Rattle.graph_plan.specs.working.Summing.{FollowTo}
-use Rattle.graph_plan.proofs.FormLemmas.{one_form, port_count_is, kind_at_is}
-use Rattle.graph_plan.proofs.RangeLemmas.{within_limits}
-use Rattle.graph_plan.proofs.SoundGraphLemmas.{few_nodes, form_ranges}
+use Rattle.graph_plan.proofs.sound.FormLemmas.{one_form, port_count_is, kind_at_is}
+use Rattle.graph_plan.proofs.sound.RangeLemmas.{within_limits}
+use Rattle.graph_plan.proofs.sound.SoundGraphLemmas.{few_nodes, form_ranges}
 
 follow_from : (first next : ℕ) (es : List Epoch) → FollowTo first es next → FollowFrom first es
 follow_from first next [] h = tt

@@ -28,8 +28,8 @@ use Rattle.graph_plan.specs.Joining.{JoinsKinds}
 use Rattle.graph_plan.specs.Planned.{IsPlanned}
 use Rattle.graph_plan.proofs.ScriptLemmas.{kinds_are, lines_are}
 use Rattle.graph_plan.proofs.SoundPlanLemmas.{like}
-use Rattle.graph_plan.proofs.StartLemmas.{first_sound}
-use Rattle.graph_plan.proofs.StepLemmas.{EndsSound, follows_sound}
+use Rattle.graph_plan.proofs.sound.StartLemmas.{first_sound}
+use Rattle.graph_plan.proofs.sound.StepLemmas.{EndsSound, follows_sound}
 use Rattle.cycle_model.specs.Rendering.{rendered_sinks, kept_of, end_stream}
 use Rattle.cycle_model.specs.WavesFit.{WavesFit}
 use Rattle.cycle_model.proofs.KeptLemmas.{kept_is_wave}

@@ -3,7 +3,7 @@ use Rattle.std.proofs.Common.{subst, ◌∙◌}
 use Rattle.graph_lines.specs.declared.graph.Stepped.{Stepped}
 use Rattle.graph_lines.specs.EpochLines.{Steps}
 use Rattle.graph_plan.proofs.FollowingLemmas.{may_step, follow_stop, follow_more}
-use Rattle.graph_plan.proofs.StepLemmas.{step_kinds}
+use Rattle.graph_plan.proofs.sound.StepLemmas.{step_kinds}
 use Rattle.graph_plan.proofs.following.follow.Goals as goal
 
 pub step-requires-clause-line : goal.step-requires-clause-line

@@ -1,0 +1,15 @@
+-- Lemmas on parts: the partition, the lines of a part, all parts line by line, what is between and outside.
+pub mod RehearsalLemmas
+pub mod WalkLemmas
+pub mod PartitionLemmas
+pub mod PartLineLemmas
+pub mod MovingLemmas
+pub mod AheadLemmas
+pub mod GoingLemmas
+pub mod TogetherLemmas
+pub mod PartedLemmas
+pub mod BetweenLemmas
+pub mod NotedLemmas
+pub mod JoinedLinesLemmas
+pub mod OutsideLemmas
+pub mod ApartLemmas
