@@ -1,11 +1,11 @@
 pub mod SoundPlanLemmas
-pub mod OwnLemmas
+pub mod OwnOfferLemmas
 pub mod FollowingLemmas
-pub mod EndLemmas
-pub mod FitLemmas
-pub mod ScriptLemmas
-pub mod NodesLemmas
-pub mod MoreNodesLemmas
+pub mod EndOfLemmas
+pub mod WavesFitLemmas
+pub mod PlannedLemmas
+pub mod NodesOfLemmas
+pub mod ConditionsLemmas
 pub mod ReadOffLemmas
 pub mod lists
 pub mod sound

@@ -1,5 +1,5 @@
 -- Lemmas on lists of any things: elements, places, pairs, and lists in one order.
-pub mod ListLemmas
+pub mod ElementLemmas
 pub mod PlaceLemmas
-pub mod SortedLemmas
-pub mod PairLemmas
+pub mod SameListLemmas
+pub mod AllZipLemmas

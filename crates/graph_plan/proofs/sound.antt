@@ -1,18 +1,18 @@
 -- Lemmas on sound graphs: what each line does to ports, links and epochs, and that the graph stays sound.
 pub mod RankLemmas
 pub mod FormLemmas
-pub mod WholeLemmas
+pub mod FormattedNodeLemmas
 pub mod RangeLemmas
 pub mod RememberingLemmas
 pub mod ActiveLemmas
 pub mod SoundGraphLemmas
-pub mod PartLemmas
-pub mod NextLemmas
-pub mod EpochLemmas
-pub mod CarryLemmas
-pub mod StayingLemmas
-pub mod PortLemmas
-pub mod MadeLemmas
+pub mod SoundPartLemmas
+pub mod NextEpochLemmas
+pub mod EpochLineLemmas
+pub mod CarriesOnLemmas
+pub mod ValueStaysLemmas
+pub mod StandsLemmas
+pub mod MadeLinkLemmas
 pub mod LinkLineLemmas
 pub mod NodeLineLemmas
 pub mod UnlinkLineLemmas

@@ -1,4 +1,4 @@
 -- Lemmas on streams: where a node's stream begins, by the lines and by the epochs.
-pub mod LeavingLemmas
-pub mod ScriptStreamLemmas
-pub mod StreamEndLemmas
+pub mod GivesUpLemmas
+pub mod ScriptStreamsLemmas
+pub mod PlannedStreamsLemmas

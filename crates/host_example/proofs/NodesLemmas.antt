@@ -25,7 +25,7 @@ use Rattle.port_model.specs.SoundPorts.{IsSoundNode}
 use Rattle.port_model.proofs.OfferLemmas.{nodes_added}
 use Rattle.graph_lines.specs.Start.{kinds_of}
 use Rattle.graph_plan.specs.Conditions.{IsWaveFor}
-use Rattle.graph_plan.proofs.MoreNodesLemmas.{waves_plain, waves_source, unused_new, kinds_more, not_source, source_of, wave_for}
+use Rattle.graph_plan.proofs.ConditionsLemmas.{waves_plain, waves_source, unused_new, kinds_more, not_source, source_of, wave_for}
 use Rattle.host_example.specs.declared.nodes.Nodes.{Nodes}
 use Rattle.wav_files.specs.declared.wav.WavIn.{WavIn}
 use Rattle.host_example.specs.Voices.{mono, samples_at, AreVoices}

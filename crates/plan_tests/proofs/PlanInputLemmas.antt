@@ -23,7 +23,7 @@ use Rattle.port_model.specs.SoundPorts.{IsSoundNode}
 use Rattle.port_model.proofs.OfferLemmas.{nodes_added}
 use Rattle.graph_lines.specs.Start.{kinds_of}
 use Rattle.graph_plan.specs.Conditions.{IsWaveFor}
-use Rattle.graph_plan.proofs.MoreNodesLemmas.{waves_plain, waves_source, unused_new, kinds_more, not_source, source_of, wave_for}
+use Rattle.graph_plan.proofs.ConditionsLemmas.{waves_plain, waves_source, unused_new, kinds_more, not_source, source_of, wave_for}
 use Rattle.plan_tests.specs.declared.inputs.PlanInputs.{PlanInputs}
 use Rattle.plan_tests.specs.PlanInputs.{kind_by, with_source, with_plain, HasRoom, AreSoundInputs, AreInputsAfter, AreInputsOf}
 

@@ -32,10 +32,10 @@ use Rattle.graph_plan.specs.PartLines.{is_line_of, part_lines, part_script}
 use Rattle.graph_plan.specs.Parts.{is_among, IsPartition}
 use Rattle.graph_plan.specs.Planned.{IsPlanned}
 use Rattle.graph_plan.specs.working.SoundGraph.{IsJoining}
-use Rattle.graph_plan.proofs.parts.JoinedLinesLemmas.{parted_lines}
-use Rattle.graph_plan.proofs.parts.PartLineLemmas.{kinds_same, names_kept, ranges_kept, kinds_kept, ports_kept}
+use Rattle.graph_plan.proofs.parts.JoiningLemmas.{parted_lines}
+use Rattle.graph_plan.proofs.parts.PartLinesLemmas.{kinds_same, names_kept, ranges_kept, kinds_kept, ports_kept}
 use Rattle.graph_plan.proofs.parts.PartitionLemmas.{has_among}
-use Rattle.graph_plan.proofs.ScriptLemmas.{named_are}
+use Rattle.graph_plan.proofs.PlannedLemmas.{named_are}
 use Rattle.cycle_model.specs.Rendering.{rendered_sinks}
 use Rattle.cycle_model.specs.WavesFit.{WavesFit}
 use Rattle.cycle_model.proofs.KeptLemmas.{kept_is_wave}

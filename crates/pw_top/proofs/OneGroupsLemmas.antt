@@ -9,7 +9,7 @@ use Rattle.graph_script.specs.declared.script.Script.{Script}
 use Rattle.port_model.specs.declared.port_state.Node.{Node}
 use Rattle.graph_plan.specs.declared.fault.PlanFault.TheVariants as F
 use Rattle.graph_plan.specs.Conditions.{AreScriptPorts}
-use Rattle.graph_plan.proofs.one.PartsOneLemmas.{parted_one}
+use Rattle.graph_plan.proofs.one.OnePartsLemmas.{parted_one}
 use Rattle.pw_top.specs.declared.commands.groups.Grouping.{Grouping}
 use Rattle.pw_top.specs.declared.parted.Parted.{Parted}
 use Rattle.pw_top.specs.declared.status.Status.TheVariants as S

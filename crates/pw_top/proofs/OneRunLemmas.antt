@@ -22,8 +22,8 @@ use Rattle.port_model.specs.declared.port_state.Node.{Node}
 use Rattle.graph_lines.specs.Start.{kinds_of}
 use Rattle.graph_plan.specs.declared.fault.PlanFault.TheVariants as F
 use Rattle.graph_plan.specs.Conditions.{AreScriptPorts}
-use Rattle.graph_plan.proofs.one.PlanOneLemmas.{planned_one}
-use Rattle.graph_plan.proofs.ScriptLemmas.{lines_are, named_are}
+use Rattle.graph_plan.proofs.one.OnePlanLemmas.{planned_one}
+use Rattle.graph_plan.proofs.PlannedLemmas.{lines_are, named_are}
 use Rattle.pw_top.specs.declared.commands.run.Running.{Running}
 use Rattle.pw_top.specs.declared.planned.Planned.{Planned}
 use Rattle.pw_top.specs.declared.playing.Crew.{Crew}

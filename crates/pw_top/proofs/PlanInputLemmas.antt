@@ -27,8 +27,8 @@ use Rattle.port_model.proofs.NodeLemmas.{at_place, at_port, has_place}
 use Rattle.port_model.proofs.NarrowingLemmas.{nodes_narrowed}
 use Rattle.port_model.proofs.OfferLemmas.{nodes_added}
 use Rattle.graph_plan.specs.Conditions.{IsWaveFor}
-use Rattle.graph_plan.proofs.lists.ListLemmas.{map_changed}
-use Rattle.graph_plan.proofs.MoreNodesLemmas.{waves_plain, waves_source, unused_new, kinds_more, not_source, source_of, wave_for}
+use Rattle.graph_plan.proofs.lists.ElementLemmas.{map_changed}
+use Rattle.graph_plan.proofs.ConditionsLemmas.{waves_plain, waves_source, unused_new, kinds_more, not_source, source_of, wave_for}
 use Rattle.pw_top.specs.declared.inputs.PlanInputs.{PlanInputs}
 use Rattle.pw_top.specs.PlanInputs.{with_wave, with_plain, AreSoundInputs, AreInputsAfter}
 use Rattle.pw_top.proofs.NarrowLemmas.{value_narrowed, kind_narrowed}

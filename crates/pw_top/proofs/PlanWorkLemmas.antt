@@ -26,7 +26,7 @@ use Rattle.graph_lines.specs.Start.{kinds_of}
 use Rattle.graph_plan.specs.Conditions.{AreScriptPorts}
 use Rattle.graph_plan.specs.Joining.{JoinsKinds}
 use Rattle.graph_plan.specs.Planned.{IsPlanned}
-use Rattle.graph_plan.proofs.ScriptLemmas.{kinds_are, lines_are}
+use Rattle.graph_plan.proofs.PlannedLemmas.{kinds_are, lines_are}
 use Rattle.graph_plan.proofs.SoundPlanLemmas.{like}
 use Rattle.graph_plan.proofs.sound.StartLemmas.{first_sound}
 use Rattle.graph_plan.proofs.sound.StepLemmas.{EndsSound, follows_sound}

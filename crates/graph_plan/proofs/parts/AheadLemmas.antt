@@ -26,7 +26,7 @@ use Rattle.graph_plan.specs.working.Ahead.{both_sums, IsAheadIf, IsAhead, AreAhe
 use Rattle.graph_plan.specs.Moving.{Makes, MakesIf, MakesOf, own_sums, all_sums, total}
 use Rattle.graph_plan.specs.PartLines.{is_line_of}
 use Rattle.graph_plan.specs.Together.{HasSums}
-use Rattle.graph_plan.proofs.lists.PairLemmas.{zip_more}
+use Rattle.graph_plan.proofs.lists.AllZipLemmas.{zip_more}
 use Rattle.graph_plan.proofs.sound.RangeLemmas.{within_limits}
 
 -- sums of which both have too many events

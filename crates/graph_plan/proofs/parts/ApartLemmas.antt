@@ -5,7 +5,7 @@ use Rattle.std.proofs.lemmas.Option.{same_Some, none-some}
 use Rattle.std.proofs.lemmas.List.Kept.{AllPairs-from_increasing}
 use Rattle.graph_lines.specs.declared.wire.Wire.{Wire}
 use Rattle.graph_plan.specs.Parts.{AreParts}
-use Rattle.graph_plan.proofs.lists.ListLemmas.{contains_at}
+use Rattle.graph_plan.proofs.lists.ElementLemmas.{contains_at}
 use Rattle.graph_plan.proofs.parts.WalkLemmas.{joined_on, joined_back}
 
 -- no node of a part is below its least

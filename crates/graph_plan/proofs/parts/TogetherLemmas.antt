@@ -33,7 +33,7 @@ use Rattle.graph_plan.specs.Together.{noted, GoesOn, Passes, FollowTogether}
 use Rattle.graph_plan.proofs.parts.AheadLemmas.{first_within}
 use Rattle.graph_plan.proofs.FollowingLemmas.{may, next_line}
 use Rattle.graph_plan.proofs.parts.MovingLemmas.{moves_kinds}
-use Rattle.graph_plan.proofs.lists.PairLemmas.{pairs_over}
+use Rattle.graph_plan.proofs.lists.AllZipLemmas.{pairs_over}
 use Rattle.graph_plan.proofs.parts.RehearsalLemmas.{rehearsal_kinds}
 
 -- WHAT A LINE NEEDS

@@ -12,7 +12,7 @@ use Rattle.pw_graph.specs.KindRanges.{IsSinkOrMeter}
 use Rattle.graph_lines.specs.declared.standing.Standing.{Standing}
 use Rattle.graph_lines.specs.declared.wire.Wire.{Wire}
 use Rattle.graph_lines.specs.Activity.{standing, is_live, live_wires, IsWalk, HasWire, may_drive, IsDriver, IsActive}
-use Rattle.graph_plan.proofs.lists.ListLemmas.{origin}
+use Rattle.graph_plan.proofs.lists.ElementLemmas.{origin}
 
 -- an active node is the driver, or has a live link
 walk_starts : (live : List Wire) (n d : ℕ) (walk : List Wire) → IsWalk live n walk d → (n ≡ d) ⊎ HasWire live n

@@ -43,11 +43,11 @@ use Rattle.graph_plan.specs.working.Reaching.{IsOrdered}
 use Rattle.graph_plan.specs.working.SoundWires.{IsSoundWire, AreApart, AreSoundWires}
 use Rattle.graph_plan.specs.working.Remembering.{Stands, CarriesOn}
 use Rattle.graph_plan.specs.working.SoundGraph.{IsJoining, IsSoundGraph}
-use Rattle.graph_plan.proofs.lists.ListLemmas.{any_of, map_changed, stands_for}
+use Rattle.graph_plan.proofs.lists.ElementLemmas.{any_of, map_changed, stands_for}
 use Rattle.graph_plan.proofs.sound.RankLemmas.{filtered_rank}
 use Rattle.graph_plan.proofs.sound.SoundGraphLemmas.{port_there}
-use Rattle.graph_plan.proofs.sound.MadeLemmas.{IsMade, link_made}
-use Rattle.graph_plan.proofs.sound.CarryLemmas.{rebuilt_sound}
+use Rattle.graph_plan.proofs.sound.MadeLinkLemmas.{IsMade, link_made}
+use Rattle.graph_plan.proofs.sound.CarriesOnLemmas.{rebuilt_sound}
 
 -- nodes that stay as they are carry on
 pub carries : (nodes nodes' : List Node) (said : List Standing)

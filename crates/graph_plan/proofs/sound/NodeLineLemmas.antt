@@ -23,9 +23,9 @@ use Rattle.graph_plan.specs.working.Reaching.{IsOrdered}
 use Rattle.graph_plan.specs.working.SoundWires.{HasFormatOf, IsSoundWire}
 use Rattle.graph_plan.specs.working.Remembering.{CarriesOn}
 use Rattle.graph_plan.specs.working.SoundGraph.{AreMade, IsSoundGraph}
-use Rattle.graph_plan.proofs.lists.ListLemmas.{origin, kept, any_of, map_changed}
-use Rattle.graph_plan.proofs.sound.PortLemmas.{with_port_keeps, buffered_stands}
-use Rattle.graph_plan.proofs.sound.CarryLemmas.{rebuilt_sound}
+use Rattle.graph_plan.proofs.lists.ElementLemmas.{origin, kept, any_of, map_changed}
+use Rattle.graph_plan.proofs.sound.StandsLemmas.{with_port_keeps, buffered_stands}
+use Rattle.graph_plan.proofs.sound.CarriesOnLemmas.{rebuilt_sound}
 use Rattle.graph_plan.proofs.sound.LinkLineLemmas.{carries}
 
 -- what a line says of a node: nothing of its epochs, and nothing less

@@ -22,7 +22,7 @@ use Rattle.graph_script.specs.Making.{grown, NamesMade}
 use Rattle.graph_plan.specs.Conditions.{AreLinesOf}
 use Rattle.graph_plan.specs.Following.{Follows}
 use Rattle.graph_plan.specs.working.SoundGraph.{IsSoundGraph}
-use Rattle.graph_plan.proofs.sound.EpochLemmas.{runs_sound}
+use Rattle.graph_plan.proofs.sound.EpochLineLemmas.{runs_sound}
 use Rattle.graph_plan.proofs.sound.LinkLineLemmas.{links_sound}
 use Rattle.graph_plan.proofs.sound.NodeLineLemmas.{SaysMore, node_sound, marks_sound, buffers_sound}
 use Rattle.graph_plan.proofs.sound.UnlinkLineLemmas.{unlinks_sound}

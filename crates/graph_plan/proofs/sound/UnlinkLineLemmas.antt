@@ -42,11 +42,11 @@ use Rattle.graph_plan.specs.working.Reaching.{IsOrdered}
 use Rattle.graph_plan.specs.working.SoundWires.{HasFormatOf, IsFormatted, IsSoundWire, AreApart, AreSoundWires}
 use Rattle.graph_plan.specs.working.Remembering.{Stands, CarriesOn}
 use Rattle.graph_plan.specs.working.SoundGraph.{IsJoining, IsSoundGraph}
-use Rattle.graph_plan.proofs.lists.ListLemmas.{origin, kept, any_of, map_changed, stands_for, all_of}
+use Rattle.graph_plan.proofs.lists.ElementLemmas.{origin, kept, any_of, map_changed, stands_for, all_of}
 use Rattle.graph_plan.proofs.sound.RankLemmas.{fewer_rank}
 use Rattle.graph_plan.proofs.sound.SoundGraphLemmas.{wire_at}
 use Rattle.graph_plan.proofs.sound.LinkLineLemmas.{noted_sound}
-use Rattle.graph_plan.proofs.sound.CarryLemmas.{rebuilt_sound}
+use Rattle.graph_plan.proofs.sound.CarriesOnLemmas.{rebuilt_sound}
 
 -- A RELEASE, if there is one: other nodes stay as they are
 module _ (made : List Link) (keep n : ℕ) (nodes : List Node) where

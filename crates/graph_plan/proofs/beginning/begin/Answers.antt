@@ -2,7 +2,7 @@
 use Rattle.std.proofs.Common.{List, sym, subst}
 use Rattle.graph_script.specs.declared.script.Line.{Line}
 use Rattle.graph_lines.specs.Start.{MayStart}
-use Rattle.graph_plan.proofs.ScriptLemmas.{may_start}
+use Rattle.graph_plan.proofs.PlannedLemmas.{may_start}
 use Rattle.graph_plan.proofs.beginning.begin.Goals as goal
 
 pub begin_with-requires : goal.begin_with-requires

@@ -3,7 +3,7 @@ use Rattle.std.specs.List.{AllZip}
 use Rattle.std.proofs.lemmas.List.{append_assoc, nil_from_length}
 use Rattle.graph_plan.specs.declared.member.Member.{Member}
 use Rattle.graph_plan.specs.working.Members.{IsFirst}
-use Rattle.graph_plan.proofs.lists.PairLemmas.{pairs_push}
+use Rattle.graph_plan.proofs.lists.AllZipLemmas.{pairs_push}
 use Rattle.graph_plan.proofs.beginning.firsts_of.Goals as goal
 
 pub loop-nodes-init : goal.loop-nodes-init

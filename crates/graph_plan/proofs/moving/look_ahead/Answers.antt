@@ -10,7 +10,7 @@ use Rattle.graph_plan.specs.working.Ahead.{IsAhead}
 use Rattle.graph_plan.specs.working.Members.{IsReadyFor}
 use Rattle.graph_plan.specs.Moving.{all_sums, total}
 use Rattle.graph_plan.proofs.parts.AheadLemmas.{total_none, total_more}
-use Rattle.graph_plan.proofs.lists.PairLemmas.{pairs_long, pairs_push}
+use Rattle.graph_plan.proofs.lists.AllZipLemmas.{pairs_long, pairs_push}
 use Rattle.graph_plan.proofs.moving.look_ahead.Goals as goal
 
 pub next_epoch-requires-clause-ready : goal.next_epoch-requires-clause-ready

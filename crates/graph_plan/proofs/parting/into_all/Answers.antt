@@ -7,7 +7,7 @@ use Rattle.pw_graph.specs.declared.parts.Part.{Part}
 use Rattle.graph_plan.specs.declared.member.Member.{Member}
 use Rattle.graph_plan.specs.working.Members.{IsLastMember}
 use Rattle.graph_plan.specs.Parted.{IsPartOfMember}
-use Rattle.graph_plan.proofs.lists.PairLemmas.{pairs_push}
+use Rattle.graph_plan.proofs.lists.AllZipLemmas.{pairs_push}
 use Rattle.graph_plan.proofs.parting.into_all.Goals as goal
 
 pub loop-member-init : goal.loop-member-init

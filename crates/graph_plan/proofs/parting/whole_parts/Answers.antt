@@ -2,7 +2,7 @@
 use Rattle.std.proofs.Common.{◌∙◌, List, length, sym, ap, subst}
 use Rattle.pw_graph.specs.declared.kind.Kind.{Kind}
 use Rattle.graph_plan.specs.Conditions.{AreLinesOf}
-use Rattle.graph_plan.proofs.ScriptLemmas.{lines_are, named_are, channels_are}
+use Rattle.graph_plan.proofs.PlannedLemmas.{lines_are, named_are, channels_are}
 use Rattle.graph_plan.proofs.parting.whole_parts.Goals as goal
 
 pub parts_from-requires-clause-lines : goal.parts_from-requires-clause-lines

@@ -3,7 +3,7 @@ use Rattle.std.proofs.Common.{List, sym, subst}
 use Rattle.graph_script.specs.declared.script.Line.{Line}
 use Rattle.graph_lines.specs.Start.{MayStart, IsStart}
 use Rattle.graph_plan.specs.Conditions.{AreLinesOf}
-use Rattle.graph_plan.proofs.ScriptLemmas.{may_start, started_lines, channels_are}
+use Rattle.graph_plan.proofs.PlannedLemmas.{may_start, started_lines, channels_are}
 use Rattle.graph_plan.proofs.partition.part_nodes.Goals as goal
 
 pub start-requires : goal.start-requires

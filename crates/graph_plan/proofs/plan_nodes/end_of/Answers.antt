@@ -2,7 +2,7 @@
 use Rattle.std.proofs.Common.{◌≡◌, true, get_or}
 use Rattle.pw_graph.specs.declared.kind.Kind.TheVariants.{Dummy}
 use Rattle.graph_lines.specs.Activity.{may_drive}
-use Rattle.graph_plan.proofs.EndLemmas.{end_port}
+use Rattle.graph_plan.proofs.EndOfLemmas.{end_port}
 use Rattle.graph_plan.proofs.plan_nodes.end_of.Goals as goal
 
 pub form_in-requires-clause-port : goal.form_in-requires-clause-port

@@ -1,5 +1,5 @@
 -- A node more.
-use Rattle.graph_plan.proofs.NodesLemmas.{nodes_more}
+use Rattle.graph_plan.proofs.NodesOfLemmas.{nodes_more}
 use Rattle.graph_plan.proofs.plan_nodes.nodes_of.Goals as goal
 
 pub loop-node-preserved : goal.loop-node-preserved

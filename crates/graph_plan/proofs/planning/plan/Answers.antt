@@ -1,6 +1,6 @@
 -- What is planned is sound, its waves fit, its lines join outputs to inputs, and its streams are the script's.
-use Rattle.graph_plan.proofs.ScriptLemmas.{planned_sound, planned_fit, planned_joined}
-use Rattle.graph_plan.proofs.streams.StreamEndLemmas.{planned_streams}
+use Rattle.graph_plan.proofs.PlannedLemmas.{planned_sound, planned_fit, planned_joined}
+use Rattle.graph_plan.proofs.streams.PlannedStreamsLemmas.{planned_streams}
 use Rattle.graph_plan.proofs.planning.plan.Goals as goal
 
 pub returns-clause-sound : goal.returns-clause-sound

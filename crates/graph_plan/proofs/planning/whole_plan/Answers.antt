@@ -2,7 +2,7 @@
 use Rattle.std.proofs.Common.{List, sym, subst}
 use Rattle.graph_script.specs.declared.script.Line.{Line}
 use Rattle.graph_lines.specs.Start.{MayStart, IsStart}
-use Rattle.graph_plan.proofs.ScriptLemmas.{may_start, started_lines, started_names, channels_are, planned_from}
+use Rattle.graph_plan.proofs.PlannedLemmas.{may_start, started_lines, started_names, channels_are, planned_from}
 use Rattle.graph_plan.proofs.planning.whole_plan.Goals as goal
 
 pub start-requires : goal.start-requires

@@ -2,7 +2,7 @@
 use Rattle.std.proofs.Common.{◌≤◌, List, length, sym, subst, arith}
 use Rattle.graph_script.specs.declared.script.Line.{Line}
 use Rattle.graph_lines.specs.Start.{kinds_of}
-use Rattle.graph_plan.proofs.ScriptLemmas.{named_are}
+use Rattle.graph_plan.proofs.PlannedLemmas.{named_are}
 use Rattle.host_example.proofs.nodes.nodes_of.Goals as goal
 
 pub nodes_by-requires-clause-few : goal.nodes_by-requires-clause-few

@@ -2,7 +2,7 @@
 use Rattle.std.proofs.Common.{◌≤◌, List, length, sym, subst, arith}
 use Rattle.graph_script.specs.declared.script.Line.{Line}
 use Rattle.graph_lines.specs.Start.{kinds_of}
-use Rattle.graph_plan.proofs.ScriptLemmas.{named_are}
+use Rattle.graph_plan.proofs.PlannedLemmas.{named_are}
 use Rattle.plan_tests.proofs.texts.parts_script.Goals as goal
 
 pub inputs_of-requires-clause-few : goal.inputs_of-requires-clause-few

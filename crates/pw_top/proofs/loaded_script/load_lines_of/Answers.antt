@@ -6,7 +6,7 @@ use Rattle.graph_script.specs.declared.script.Line.{Line}
 use Rattle.graph_script.specs.Making.{NamesMade}
 use Rattle.graph_lines.specs.Start.{kinds_of}
 use Rattle.graph_plan.specs.Conditions.{AreLinesOf}
-use Rattle.graph_plan.proofs.ScriptLemmas.{lines_are, named_are}
+use Rattle.graph_plan.proofs.PlannedLemmas.{lines_are, named_are}
 use Rattle.pw_top.specs.working.Ending.{Ends}
 use Rattle.pw_top.specs.Loads.{LoadsAll}
 use Rattle.pw_top.specs.ScriptFile.{KeepsInputs}

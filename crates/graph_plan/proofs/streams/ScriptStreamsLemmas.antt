@@ -34,10 +34,10 @@ use Rattle.graph_plan.specs.ScriptStreams.{gives_up, begins_after, LeadsTo}
 use Rattle.graph_plan.specs.working.SoundGraph.{IsPast, IsSoundGraph}
 use Rattle.graph_plan.specs.working.Summing.{FollowTo}
 use Rattle.graph_plan.proofs.sound.FormLemmas.{input_count_is}
-use Rattle.graph_plan.proofs.streams.LeavingLemmas.{LeavesOf, line_leaves}
-use Rattle.graph_plan.proofs.lists.ListLemmas.{any_of}
-use Rattle.graph_plan.proofs.sound.NextLemmas.{next_ok}
-use Rattle.graph_plan.proofs.sound.PartLemmas.{form_made}
+use Rattle.graph_plan.proofs.streams.GivesUpLemmas.{LeavesOf, line_leaves}
+use Rattle.graph_plan.proofs.lists.ElementLemmas.{any_of}
+use Rattle.graph_plan.proofs.sound.NextEpochLemmas.{next_ok}
+use Rattle.graph_plan.proofs.sound.SoundPartLemmas.{form_made}
 use Rattle.graph_plan.proofs.lists.PlaceLemmas.{parted, at_end, left}
 use Rattle.graph_plan.proofs.sound.SoundGraphLemmas.{few_nodes, one_channels}
 use Rattle.graph_plan.proofs.sound.StepLemmas.{IsGoodLine, AreGoodLines, good_first, good_rest, step_sound, step_kinds, follows_end, no_stop}

@@ -19,10 +19,10 @@ use Rattle.link_negotiation.specs.LinkOutcome.{given, MayBeGiven}
 use Rattle.link_negotiation.proofs.GivingLemmas.{IsThere, there, elsewhere, taken_given, kept_given}
 use Rattle.graph_lines.specs.Forms.{IsFormOfPort, FormIn}
 use Rattle.graph_plan.specs.working.Remembering.{HasSomeFormat, Stands}
-use Rattle.graph_plan.proofs.lists.ListLemmas.{changed_keeps}
+use Rattle.graph_plan.proofs.lists.ElementLemmas.{changed_keeps}
 use Rattle.graph_plan.proofs.sound.FormLemmas.{IsFormattedNode}
-use Rattle.graph_plan.proofs.sound.WholeLemmas.{formatted_node}
-use Rattle.graph_plan.proofs.sound.StayingLemmas.{value_stays, value_buffered}
+use Rattle.graph_plan.proofs.sound.FormattedNodeLemmas.{formatted_node}
+use Rattle.graph_plan.proofs.sound.ValueStaysLemmas.{value_stays, value_buffered}
 
 -- what holds of the state of a port, and stays through a change
 pub with_port_keeps : (P : PortState → Type 0) (nodes : List Node) (q port : PortId) (f : PortState → PortState) → ((s : PortState) → P s → P (f s))

@@ -29,9 +29,9 @@ use Rattle.graph_script.specs.Making.{grown}
 use Rattle.graph_plan.specs.Conditions.{IsWaveFor}
 use Rattle.graph_plan.specs.Following.{Follows}
 use Rattle.graph_plan.specs.working.SoundGraph.{IsSoundGraph}
-use Rattle.graph_plan.proofs.lists.ListLemmas.{all_of}
-use Rattle.graph_plan.proofs.OwnLemmas.{owns, owns_port, owns_releasing, form_fits}
-use Rattle.graph_plan.proofs.sound.PartLemmas.{stands}
+use Rattle.graph_plan.proofs.lists.ElementLemmas.{all_of}
+use Rattle.graph_plan.proofs.OwnOfferLemmas.{owns, owns_port, owns_releasing, form_fits}
+use Rattle.graph_plan.proofs.sound.SoundPartLemmas.{stands}
 use Rattle.graph_plan.proofs.sound.StepLemmas.{AreGoodLines, IsGoodLine, good_first, good_rest, step_sound, step_kinds, follows_end, no_stop}
 
 -- the own offers are those of the start, and so far the forms of the wave's node are the wave's

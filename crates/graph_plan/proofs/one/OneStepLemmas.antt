@@ -46,10 +46,10 @@ use Rattle.graph_lines.specs.UnlinkLines.{HasKept, giving, IsTakenAway, UnlinksL
 use Rattle.graph_script.specs.Making.{grown}
 use Rattle.graph_plan.specs.Following.{Follows}
 use Rattle.graph_plan.specs.working.SoundGraph.{IsSoundGraph}
-use Rattle.graph_plan.proofs.one.EpochOneLemmas.{runs_one, drain_one}
+use Rattle.graph_plan.proofs.one.OneEpochLemmas.{runs_one, drain_one}
 use Rattle.graph_plan.proofs.sound.FormLemmas.{one_number, input_count_is}
-use Rattle.graph_plan.proofs.sound.MadeLemmas.{link_made}
-use Rattle.graph_plan.proofs.sound.PortLemmas.{port_stays}
+use Rattle.graph_plan.proofs.sound.MadeLinkLemmas.{link_made}
+use Rattle.graph_plan.proofs.sound.StandsLemmas.{port_stays}
 use Rattle.graph_plan.proofs.sound.SoundGraphLemmas.{few_nodes, count_within, port_there}
 use Rattle.graph_plan.proofs.sound.StepLemmas.{IsGoodLine, AreGoodLines, good_first, good_rest, step_sound, step_kinds}
 

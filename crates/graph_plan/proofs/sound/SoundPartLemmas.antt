@@ -41,9 +41,9 @@ use Rattle.graph_lines.specs.Sums.{sums_with, passed}
 use Rattle.graph_plan.specs.working.SoundWires.{IsSoundWire, AreApart}
 use Rattle.graph_plan.specs.working.Remembering.{IsLike, HasSomeFormat, Stands}
 use Rattle.graph_plan.specs.working.SoundGraph.{IsSoundPart, IsSoundGraph}
-use Rattle.graph_plan.proofs.lists.ListLemmas.{origin, kept, stands_for, number_found, all_of, pairs_of, zip_length, zip_at, zip_all}
+use Rattle.graph_plan.proofs.lists.ElementLemmas.{origin, kept, stands_for, number_found, all_of, pairs_of, zip_length, zip_at, zip_all}
 use Rattle.graph_plan.proofs.sound.FormLemmas.{one_form, port_count_is, input_count_is, kind_at_is, formatted_form, channels_shared}
-use Rattle.graph_plan.proofs.sound.WholeLemmas.{whole_in, shared_in}
+use Rattle.graph_plan.proofs.sound.FormattedNodeLemmas.{whole_in, shared_in}
 use Rattle.graph_plan.proofs.sound.ActiveLemmas.{active_cases, driver_active, live_is, IsCandidate, driver_cases, end_drives, no_output}
 use Rattle.graph_plan.proofs.sound.RangeLemmas.{within_limits}
 use Rattle.graph_plan.proofs.sound.SoundGraphLemmas.{few_nodes, count_within, wire_at, from_there, to_there, wire_format, wire_made, port_there, port_below, form_ranges, fresh_below}

@@ -25,15 +25,15 @@ use Rattle.graph_plan.specs.declared.fault.PlanFault.TheVariants as F
 use Rattle.graph_script.specs.Making.{NamesMade}
 use Rattle.graph_plan.specs.Conditions.{AreScriptPorts}
 use Rattle.graph_plan.specs.Following.{Follows}
-use Rattle.graph_plan.proofs.ScriptLemmas.{lines_are}
+use Rattle.graph_plan.proofs.PlannedLemmas.{lines_are}
 use Rattle.graph_plan.proofs.sound.StartLemmas.{first_sound}
 use Rattle.graph_plan.specs.PlanOf.{IsEndOf, IsNodeOf, IsPlanOf}
 use Rattle.graph_plan.specs.Planned.{IsAnswer, IsPlanned}
 use Rattle.graph_plan.specs.working.SoundGraph.{IsSoundGraph}
 use Rattle.graph_plan.proofs.sound.FormLemmas.{one_form}
-use Rattle.graph_plan.proofs.lists.SortedLemmas.{same_places}
+use Rattle.graph_plan.proofs.lists.SameListLemmas.{same_places}
 use Rattle.graph_plan.proofs.sound.StepLemmas.{AreGoodLines, follows_sound}
-use Rattle.graph_plan.proofs.one.StepOneLemmas.{follows_one}
+use Rattle.graph_plan.proofs.one.OneStepLemmas.{follows_one}
 
 module _ (count : ℕ) (g : Graph) (sound : IsSoundGraph count g) (names : List (List ℕ)) where
   ends_one : (n : ℕ) (kind : Kind) (r c r' c' : ℕ) → IsEndOf g n kind r c → IsEndOf g n kind r' c' → (r ≡ r') × (c ≡ c')

@@ -16,7 +16,7 @@ use Rattle.port_model.proofs.ChangedLemmas.{changed_elsewhere, changed_origin}
 use Rattle.port_model.proofs.TakingLemmas.{shared_at}
 use Rattle.port_model.proofs.ValueLemmas.{field_with, only_member, own_value, free_value}
 use Rattle.graph_plan.proofs.sound.FormLemmas.{IsFormattedNode}
-use Rattle.graph_plan.proofs.sound.WholeLemmas.{not_shared}
+use Rattle.graph_plan.proofs.sound.FormattedNodeLemmas.{not_shared}
 
 -- the node with a format at one more port
 abbrev pub taken : Node → ℕ → Format → Node

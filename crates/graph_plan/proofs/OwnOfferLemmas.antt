@@ -28,9 +28,9 @@ use Rattle.link_negotiation.proofs.GivingLemmas.{IsThere, there}
 use Rattle.graph_lines.specs.Forms.{HasKinds, IsFormOfPort, FormIn}
 use Rattle.graph_plan.specs.Conditions.{IsWaveFor}
 use Rattle.graph_plan.proofs.sound.FormLemmas.{one_number, port_count_is, kind_at_is}
-use Rattle.graph_plan.proofs.lists.ListLemmas.{map_changed}
+use Rattle.graph_plan.proofs.lists.ElementLemmas.{map_changed}
 use Rattle.graph_plan.proofs.sound.RangeLemmas.{few_channels}
-use Rattle.graph_plan.proofs.sound.StayingLemmas.{within_value}
+use Rattle.graph_plan.proofs.sound.ValueStaysLemmas.{within_value}
 
 -- the own offers of all ports
 abbrev pub owns : List Node → List (List Format)

@@ -25,9 +25,9 @@ use Rattle.graph_plan.specs.working.Remembering.{IsLike, Stands, KeepsIt}
 use Rattle.graph_plan.specs.working.NextEpoch.{Changes, IsNext, KeepsSinksOn}
 use Rattle.graph_plan.specs.working.SoundGraph.{IsSoundGraph}
 use Rattle.graph_plan.proofs.sound.FormLemmas.{port_count_is, input_count_is}
-use Rattle.graph_plan.proofs.lists.ListLemmas.{any_of}
+use Rattle.graph_plan.proofs.lists.ElementLemmas.{any_of}
 use Rattle.graph_plan.proofs.sound.SoundGraphLemmas.{port_below, form_ranges, one_channels, past_nodes, fresh_below}
-use Rattle.graph_plan.proofs.sound.PartLemmas.{stands, form_made}
+use Rattle.graph_plan.proofs.sound.SoundPartLemmas.{stands, form_made}
 
 module _ (count : ℕ) (g : Graph) (sound : IsSoundGraph count g) (n : ℕ) (e : Epoch) (is : IsEpochOf g n e) (after : Graph) (taken : IsAfter g e after) where
   pub told_is : (m : ℕ) → m < length g.nodes → ChannelsIn g m (standing after.nodes m).told

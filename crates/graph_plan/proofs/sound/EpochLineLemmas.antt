@@ -22,8 +22,8 @@ use Rattle.graph_plan.specs.working.SoundGraph.{AreMade, IsSoundPart, IsPast, Is
 use Rattle.graph_plan.specs.working.Summing.{FollowTo, AreSummed}
 use Rattle.graph_plan.proofs.sound.RememberingLemmas.{remembers_more, sinks_more}
 use Rattle.graph_plan.proofs.sound.SoundGraphLemmas.{past_nodes}
-use Rattle.graph_plan.proofs.sound.PartLemmas.{part_ok}
-use Rattle.graph_plan.proofs.sound.NextLemmas.{next_ok, sinks_ok, past_after}
+use Rattle.graph_plan.proofs.sound.SoundPartLemmas.{part_ok}
+use Rattle.graph_plan.proofs.sound.NextEpochLemmas.{next_ok, sinks_ok, past_after}
 
 -- epochs that follow one another, and one more
 follow_push : (first next : ℕ) (es : List Epoch) (e : Epoch) → FollowTo first es next → e.shape.first ≡ next

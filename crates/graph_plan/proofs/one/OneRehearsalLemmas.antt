@@ -33,12 +33,12 @@ use Rattle.graph_lines.specs.Rehearsal.{standing_past, gone_past, GoesPast, Rehe
 use Rattle.graph_plan.specs.working.Ahead.{is_run}
 use Rattle.graph_plan.specs.working.Remembering.{CarriesOn}
 use Rattle.graph_plan.specs.working.SoundGraph.{IsSoundGraph}
-use Rattle.graph_plan.proofs.sound.CarryLemmas.{rebuilt_sound}
-use Rattle.graph_plan.proofs.one.EpochOneLemmas.{epoch_one, drain_one}
+use Rattle.graph_plan.proofs.sound.CarriesOnLemmas.{rebuilt_sound}
+use Rattle.graph_plan.proofs.one.OneEpochLemmas.{epoch_one, drain_one}
 use Rattle.graph_plan.proofs.parts.MovingLemmas.{does_steps, rehearses_does}
 use Rattle.graph_plan.proofs.parts.RehearsalLemmas.{rehearsal_kinds}
 use Rattle.graph_plan.proofs.sound.StepLemmas.{IsGoodLine, AreGoodLines, good_first, good_rest, step_sound}
-use Rattle.graph_plan.proofs.one.StepOneLemmas.{IsOneStep, step_one}
+use Rattle.graph_plan.proofs.one.OneStepLemmas.{IsOneStep, step_one}
 
 -- PAST AN EPOCH a sound graph is sound: nothing is told, and a sink with frames keeps them
 module _ (g : Graph) (e : Epoch) where

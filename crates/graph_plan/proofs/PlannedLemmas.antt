@@ -32,9 +32,9 @@ use Rattle.graph_plan.specs.Joining.{JoinsKinds}
 use Rattle.graph_plan.specs.PlanOf.{IsPlanOf}
 use Rattle.graph_plan.specs.Planned.{IsAnswer, IsPlanned}
 use Rattle.graph_plan.specs.working.SoundGraph.{IsSoundGraph}
-use Rattle.graph_plan.proofs.FitLemmas.{follows_fit}
+use Rattle.graph_plan.proofs.WavesFitLemmas.{follows_fit}
 use Rattle.graph_plan.proofs.sound.FormLemmas.{kind_at_is}
-use Rattle.graph_plan.proofs.OwnLemmas.{owns, wave_channels}
+use Rattle.graph_plan.proofs.OwnOfferLemmas.{owns, wave_channels}
 use Rattle.graph_plan.proofs.SoundPlanLemmas.{like, plan_sound, plan_joins}
 use Rattle.graph_plan.proofs.sound.StartLemmas.{quantum_ok, first_sound}
 use Rattle.graph_plan.proofs.sound.StepLemmas.{AreGoodLines, EndsSound, follows_sound}

@@ -24,8 +24,8 @@ use Rattle.graph_plan.specs.Conditions.{AreScriptPorts}
 use Rattle.graph_plan.specs.Parted.{IsParted}
 use Rattle.graph_plan.specs.working.SoundGraph.{IsSoundGraph, IsJoining}
 use Rattle.graph_plan.specs.Together.{has_both, last_line, noted, FollowTogether}
-use Rattle.graph_plan.proofs.one.PartsOneLemmas.{IsSoundMember, IsSoundTogether, goes_sound, begun_sound}
-use Rattle.graph_plan.proofs.ScriptLemmas.{lines_are}
+use Rattle.graph_plan.proofs.one.OnePartsLemmas.{IsSoundMember, IsSoundTogether, goes_sound, begun_sound}
+use Rattle.graph_plan.proofs.PlannedLemmas.{lines_are}
 use Rattle.graph_plan.proofs.sound.StartLemmas.{first_sound}
 use Rattle.graph_plan.proofs.sound.StepLemmas.{AreGoodLines, good_first, good_rest}
 

@@ -42,9 +42,9 @@ use Rattle.graph_plan.specs.Following.{Follows}
 use Rattle.graph_plan.specs.PlanOf.{IsPlanOf}
 use Rattle.graph_plan.specs.Planned.{IsPlanned}
 use Rattle.graph_plan.specs.ScriptStreams.{stream_from, IsOfScript, HasScriptStreams}
-use Rattle.graph_plan.proofs.lists.ListLemmas.{contains_at}
-use Rattle.graph_plan.proofs.ScriptLemmas.{first, good, ends, is_sound, kind_is}
-use Rattle.graph_plan.proofs.streams.ScriptStreamLemmas.{start_in, Settles, KnowsOf, EndsKnown, follows_leads, follows_known, epoch_total}
+use Rattle.graph_plan.proofs.lists.ElementLemmas.{contains_at}
+use Rattle.graph_plan.proofs.PlannedLemmas.{first, good, ends, is_sound, kind_is}
+use Rattle.graph_plan.proofs.streams.ScriptStreamsLemmas.{start_in, Settles, KnowsOf, EndsKnown, follows_leads, follows_known, epoch_total}
 use Rattle.graph_plan.proofs.sound.StartLemmas.{first_is}
 use Rattle.graph_plan.proofs.sound.StepLemmas.{EndsSound}
 

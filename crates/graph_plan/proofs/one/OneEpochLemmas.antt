@@ -33,7 +33,7 @@ use Rattle.graph_lines.specs.Sums.{sums_with}
 use Rattle.graph_plan.specs.working.SoundGraph.{IsSoundGraph}
 use Rattle.graph_plan.proofs.sound.FormLemmas.{one_form}
 use Rattle.graph_plan.proofs.sound.SoundGraphLemmas.{one_channels}
-use Rattle.graph_plan.proofs.lists.SortedLemmas.{same_sorted, same_zip, same_by}
+use Rattle.graph_plan.proofs.lists.SameListLemmas.{same_sorted, same_zip, same_by}
 
 -- THE DRIVER
 driver_one : (kinds : List Kind) (said : List Standing) (d f : ℕ) → IsDriver kinds said d → IsDriver kinds said f → d ≡ f

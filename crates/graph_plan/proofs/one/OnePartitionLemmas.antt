@@ -7,8 +7,8 @@ use Rattle.std.proofs.lemmas.List.Kept.{AllPairs-from_increasing}
 use Rattle.graph_lines.specs.declared.wire.Wire.{Wire}
 use Rattle.graph_lines.specs.Activity.{AreJoined}
 use Rattle.graph_plan.specs.Parts.{IsPartOf, IsBeforePart, AreParts}
-use Rattle.graph_plan.proofs.lists.ListLemmas.{contains_at}
-use Rattle.graph_plan.proofs.lists.SortedLemmas.{same_sorted}
+use Rattle.graph_plan.proofs.lists.ElementLemmas.{contains_at}
+use Rattle.graph_plan.proofs.lists.SameListLemmas.{same_sorted}
 use Rattle.graph_plan.proofs.parts.WalkLemmas.{joined_back}
 
 -- the first of ascending numbers is the least

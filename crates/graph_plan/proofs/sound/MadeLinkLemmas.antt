@@ -21,7 +21,7 @@ use Rattle.link_negotiation.specs.LinkOutcome.{given, formatted, MayBeGiven}
 use Rattle.link_negotiation.proofs.GivingLemmas.{there, elsewhere, gives_own, gives_other, output_agrees, input_agrees}
 use Rattle.graph_plan.specs.working.SoundWires.{HasFormatOf, IsFormatted}
 use Rattle.graph_plan.specs.working.Remembering.{Stands}
-use Rattle.graph_plan.proofs.sound.PortLemmas.{with_port_keeps, port_stays, port_given}
+use Rattle.graph_plan.proofs.sound.StandsLemmas.{with_port_keeps, port_stays, port_given}
 
 -- the numbers of a format
 pub record HasNumbers (rate channels : ℕ) (format : Format) : Type 0 where
