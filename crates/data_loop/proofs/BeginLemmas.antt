@@ -24,7 +24,7 @@ use Rattle.board_rule.specs.Layout.{BoardLayout, nodes, first}
 use Rattle.board_rule.specs.View.{Samples, idle, node_of, unwritten, unread, first_write, loop_view}
 use Rattle.board_rule.specs.buffers.Spans.{block_at}
 use Rattle.board_rule.specs.buffers.EndViews.{no_link, pool_at, filler_of, read_of, write_of}
-use Rattle.buffer_pool.specs.Queue.{Queue}
+use Rattle.io_areas.specs.Queue.{Queue}
 use Rattle.activation_words.proofs.MemberLemmas.{new_rests}
 use Rattle.io_areas.specs.FreeBlocks.{FreeBlocks, free_at_start}
 use Rattle.io_areas.proofs.StartLemmas.{room_there, begins_free}

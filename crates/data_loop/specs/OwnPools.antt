@@ -5,7 +5,7 @@ use Rattle.std.specs.Prelude.{◌≡◌, ℕ, ◌<◌, ◌==◌, Bool, if◌then
 use Rattle.std.specs.List.{list_any, enumerate_from}
 use Rattle.pw_graph.specs.declared.pools.PoolShape.{PoolShape}
 use Rattle.pw_graph.specs.declared.shape.Shape.{Shape}
-use Rattle.buffer_pool.specs.Queue.{Queue}
+use Rattle.io_areas.specs.Queue.{Queue}
 use Rattle.io_areas.specs.FreeBlocks.{free_at_start}
 use Rattle.data_loop.specs.declared.own_pools.OwnPools.{OwnPools}
 

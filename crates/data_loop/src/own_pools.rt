@@ -4,8 +4,7 @@ ghost use Rattle.pw_graph.specs.Limits.{links_limit, buffers_limit};
 ghost use Rattle.io_areas.specs.FreeBlocks.{free_at_start};
 ghost use Rattle.data_loop.specs.OwnPools.{is_among, own_pools, own_places, AreFirstPools};
 
-use buffer_pool::Pool;
-use io_areas::free_at_start;
+use io_areas::{Pool, free_at_start};
 use pw_graph::{PoolShape, Shape};
 use pw_lists::{Items, Memory};
 use std::alloc::Global;

@@ -11,7 +11,7 @@ use Rattle.board_rule.specs.contracts.loop_seat.LoopSeat as seat_row
 use Rattle.board_rule.specs.contracts.board.Board as board_row
 use Rattle.board_rule.specs.contracts.closed.Closed as closed_row
 use Rattle.board_rule.specs.contracts.driver_seat.DriverSeat as driver_row
-use Rattle.buffer_pool.specs.contracts.pool.Pool as pool_row
+use Rattle.io_areas.specs.contracts.pool.Pool as pool_row
 use Rattle.node_state.specs.contracts.node_state.NodeState as node_row
 use Rattle.ready_queues.specs.contracts.end.End as end_row
 use Rattle.ready_queues.specs.contracts.way.Way as way_row

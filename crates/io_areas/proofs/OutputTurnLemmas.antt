@@ -15,7 +15,7 @@ use Rattle.board_rule.specs.activation.SeatNodes.{cycle_of, HasNode}
 use Rattle.board_rule.specs.activation.WorkSteps.{IsRunning}
 use Rattle.board_rule.specs.buffers.WriterSteps.{LoadsAsWriter, IsWriter, write_cycle, StoresHave}
 use Rattle.board_rule.specs.buffers.BlockSteps.{IsWriting, fill_cycle}
-use Rattle.buffer_pool.specs.Queue.{Queue}
+use Rattle.io_areas.specs.Queue.{Queue}
 use Rattle.io_areas.specs.Writing.{number_given, IsAtPool, IsUnfilled, Reclaims, HasReclaimed}
 use Rattle.io_areas.specs.PooledBoard.{IsPooledBoard}
 use Rattle.io_areas.specs.Ends.{IsWrittenUpTo}

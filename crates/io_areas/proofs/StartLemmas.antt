@@ -24,7 +24,7 @@ use Rattle.board_rule.specs.buffers.BlockReadings.{busy_cycles}
 use Rattle.board_rule.specs.buffers.Spans.{block_at}
 use Rattle.board_rule.specs.buffers.ReclaimSteps.{reclaimed_of, IsUnreclaimed}
 use Rattle.board_rule.specs.buffers.EndViews.{no_pool, pool_at, block_of}
-use Rattle.buffer_pool.specs.Queue.{numbers_below}
+use Rattle.io_areas.specs.Queue.{numbers_below}
 use Rattle.io_areas.specs.FreeBlocks.{FreeBlocks, free_at_start, recent_count}
 
 -- a test of what a filter leaves

@@ -11,7 +11,7 @@ use Rattle.board_rule.specs.buffers.BlockReadings.{busy_cycles}
 use Rattle.board_rule.specs.buffers.EndViews.{pool_at, block_of}
 use Rattle.board_rule.specs.buffers.ReclaimSteps.{IsUnreclaimed}
 use Rattle.board_rule.specs.View.{is_delayed}
-use Rattle.buffer_pool.specs.Queue.{Queue, numbers_below}
+use Rattle.io_areas.specs.Queue.{Queue, numbers_below}
 
 -- the free blocks at the start of an epoch: all, ascending, but block 0 of a pool with a delayed
 -- link, which is out

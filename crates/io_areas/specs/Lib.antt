@@ -1,3 +1,4 @@
+pub mod Queue
 pub mod Quanta
 pub mod Reclaiming
 pub mod Writing

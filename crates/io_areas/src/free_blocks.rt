@@ -6,7 +6,7 @@ ghost use Rattle.pw_graph.specs.Pools.{is_same_port};
 ghost use Rattle.board_rule.specs.View.{is_delayed};
 ghost use Rattle.io_areas.specs.FreeBlocks.{free_at_start};
 
-use buffer_pool::Pool;
+use crate::pool::Pool;
 use pw_graph::{PoolShape, PortId, Shape, ShapeLink, is_same_port};
 use pw_lists::Memory;
 use std::alloc::Global;

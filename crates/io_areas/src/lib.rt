@@ -1,5 +1,7 @@
-//! The calls of a cycle on io areas and blocks, over the steps of a board, and the turns of a node
-//! that they make up.
+//! The free blocks of a pool, the calls of a cycle on io areas and blocks, over the steps of a
+//! board, and the turns of a node that they make up.
+//!
+//! A `Pool` has the numbers of its free blocks: what was free longest is used next.
 //!
 //! A node that works, its Start stored, writes so: `load_for_write` for each link of a pool, then
 //! `reclaim`, whose block is free again, then `fill` of a free block, `announce`, and `publish` for
@@ -12,6 +14,7 @@
 mod free_blocks;
 mod input_turn;
 mod output_turn;
+mod pool;
 mod reading;
 mod sample_words;
 mod writing;
@@ -19,5 +22,6 @@ mod writing;
 pub use free_blocks::free_at_start;
 pub use input_turn::read_input;
 pub use output_turn::{OutputWritten, write_output};
+pub use pool::Pool;
 pub use reading::{give_back, read, take};
 pub use writing::{announce, fill, load_for_write, publish, reclaim};

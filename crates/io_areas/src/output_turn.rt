@@ -13,9 +13,9 @@ ghost use Rattle.io_areas.specs.OutputTurn.{MayWriteOutput, HasWrittenOutput};
 ghost use Rattle.io_areas.specs.working.OutputSteps.{AreMade, IsLoadedNow, IsPublishedNow};
 ghost use Rattle.io_areas.specs.OutputAnswer.{last_of, AnswersTurn};
 
+use crate::pool::Pool;
 use crate::writing::{fill, load_for_write, reclaim};
 use board_rule::{Board, LoopSeat};
-use buffer_pool::Pool;
 
 /// What a turn found and used.
 #[derive(Clone, Copy, Debug, PartialEq, Eq, Drop)]

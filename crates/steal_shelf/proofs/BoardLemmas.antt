@@ -5,7 +5,7 @@ use Rattle.std.specs.Prelude.{Contains}
 use Rattle.std.proofs.lemmas.List.{get_or_default}
 use Rattle.atomic_table.specs.Seated.{TableId}
 use Rattle.pw_graph.specs.declared.shape.Shape.{Shape}
-use Rattle.buffer_pool.specs.Queue.{Queue}
+use Rattle.io_areas.specs.Queue.{Queue}
 use Rattle.board_rule.specs.declared.board_shape.BoardShape.{BoardShape}
 use Rattle.board_rule.specs.declared.view.View.{View}
 use Rattle.board_rule.specs.Known.{Known}

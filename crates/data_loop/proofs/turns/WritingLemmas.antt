@@ -21,7 +21,7 @@ use Rattle.board_rule.specs.activation.SeatNodes.{IsCycle, IsMember}
 use Rattle.board_rule.specs.buffers.BlockSteps.{fill_cycle}
 use Rattle.board_rule.specs.buffers.ReclaimSteps.{reclaimed_of}
 use Rattle.board_rule.proofs.buffers.WiringLemmas.{wired, busy_cycles_some}
-use Rattle.buffer_pool.specs.Queue.{Queue}
+use Rattle.io_areas.specs.Queue.{Queue}
 use Rattle.io_areas.specs.PooledBoard.{IsPooledBoard}
 use Rattle.io_areas.specs.Ends.{IsWrittenUpTo}
 use Rattle.io_areas.specs.FreeBlocks.{FreeBlocks}

@@ -1,6 +1,6 @@
 //! A pool of two blocks, as one link uses it.
 
-use crate::Pool;
+use io_areas::Pool;
 use std::test::Fail;
 
 #[test]

@@ -1,7 +1,7 @@
 //! The free numbers of one pool, first in, first out.
 ghost use Rattle.std.specs.Prelude.{◌≡◌, ◌<◌, ◌≤◌, [], ◌∷◌, ◌++◌, length, Contains, IfOk};
 ghost use Rattle.pw_graph.specs.Limits.{buffers_limit};
-ghost use Rattle.buffer_pool.specs.Queue.{numbers_below};
+ghost use Rattle.io_areas.specs.Queue.{numbers_below};
 
 use circular_buffer::HeapCircularBuffer;
 use pw_lists::Memory;
@@ -18,7 +18,7 @@ pub struct Pool {
 }
 
 impl Model for Pool {
-    ghost use Rattle.buffer_pool.specs.Queue.{Queue};
+    ghost use Rattle.io_areas.specs.Queue.{Queue};
 
     ghost Value = { Queue };
 
