@@ -10,6 +10,7 @@ use Rattle.ready_queues.specs.declared.way.Way.{Way}
 use Rattle.ready_queues.specs.declared.ways.Ways.{Ways}
 use Rattle.ready_queues.specs.AnsweredWith.{IsWayOf}
 use Rattle.ready_queues.specs.QueueRule.{IsNodeOf}
+use Rattle.ready_queues.specs.Receiving.{HasRested}
 use Rattle.data_loop.specs.declared.loop_state.LoopState.{LoopState}
 use Rattle.data_loop.specs.declared.stage.Stage.{Stage}
 use Rattle.data_loop.specs.Loops.{plan_of, HasStage, IsBetweenEpochs}
@@ -50,6 +51,10 @@ pub record IsWayFor (ways : Ways) (s : LoopState) (way : Way) : Type 0 where
   pub answered : IsWayOf ways way
   pub one : way.number < ways.loops
   pub nodes : (n : ℕ) → IsNodeOf ways.owner way.number n → Contains s.nodes n
+
+-- a thread rested once, or not at all
+abbrev pub RestsAtMost : Way → Way → Type 0
+RestsAtMost a b = (b ≡ a) ⊎ HasRested a b
 
 -- the way of the driver's thread
 abbrev pub IsDriverWay : Ways → Way → Type 0

@@ -6,8 +6,8 @@ ghost use Rattle.data_loop.specs.LoopKept.{IsDone};
 ghost use Rattle.data_loop.specs.LoopsOnBoards.{IsOnBoard};
 ghost use Rattle.ready_queues.specs.AnsweredWith.{IsWayOf};
 ghost use Rattle.data_loop.specs.LoopTries.{HasTurnedAt, HasWoken};
-ghost use Rattle.data_loop.specs.LoopWay.{HasNoDriver, IsUnderWay, IsSameLoop, IsWayFor};
-ghost use Rattle.data_loop.specs.working.PassingOn.{PassesOn, RestsAtMost, HasTriedAll};
+ghost use Rattle.data_loop.specs.LoopWay.{HasNoDriver, IsUnderWay, IsSameLoop, IsWayFor, RestsAtMost};
+ghost use Rattle.data_loop.specs.working.PassingOn.{PassesOn, HasTriedAll};
 ghost use Rattle.data_loop.specs.Settling.{HasHadTurns, HasSettled};
 
 use crate::did::Did;

@@ -7,12 +7,12 @@ use Rattle.board_rule.specs.Layout.{BoardLayout}
 use Rattle.ready_queues.specs.declared.way.Way.{Way}
 use Rattle.ready_queues.specs.declared.ways.Ways.{Ways}
 use Rattle.ready_queues.specs.Forwarding.{HasForwarded}
-use Rattle.ready_queues.specs.Receiving.{HasRested}
 use Rattle.data_loop.specs.declared.did.Did.{Did}
 use Rattle.data_loop.specs.declared.did.Did.TheVariants.{Ran, Idle}
 use Rattle.data_loop.specs.declared.loop_state.LoopState.{LoopState}
 use Rattle.data_loop.specs.LoopsOnBoards.{HasTurnedOnce}
 use Rattle.data_loop.specs.LoopTries.{HasWoken}
+use Rattle.data_loop.specs.LoopWay.{RestsAtMost}
 
 -- each node of the set came to its loop, whose thread was unparked, unless it is the way's own
 abbrev pub Forwards : Ways → ℕ → Way → Way → Type 0
@@ -22,10 +22,6 @@ Forwards ways woke a b = (full : ℕ) × HasForwarded ways.owner ways.loops woke
 abbrev pub PassesOn : Ways → Did → LoopState → Way → Way → Type 0
 PassesOn ways (Ran node) t a b = Forwards ways t.woke a b
 PassesOn ways Idle t a b = b ≡ a
-
--- a thread rested once, or not at all
-abbrev pub RestsAtMost : Way → Way → Type 0
-RestsAtMost a b = (b ≡ a) ⊎ HasRested a b
 
 -- ONE TURN in which a node ran, from s to t, and what became of the way, from a to b
 abbrev pub HasRunOne : BoardLayout → Ways → LoopState → Way → LoopState → Way → Type 0
